@@ -1,0 +1,4 @@
+pub mod RowFinds
+pub mod Verdicts
+pub mod Doings
+pub mod Runnings

@@ -1,0 +1,4 @@
+mod KnownBytes
+mod Runs
+mod Serving
+mod AnswerLemmas

@@ -1,0 +1,197 @@
+-- A connection goes on: by more bytes, or by an exchange.
+use Rattle.std.proofs.Common.{◌≡◌, ◌≢◌, ℕ, ◌+◌, ◌<◌, inl, inr, List, [], ◌∷◌, ◌++◌, length, refl, ap, ◌∙◌, arith, append-nil, length-append, Option}
+use Rattle.std.proofs.lemmas.List.Elements.{All-push}
+use Rattle.std.proofs.lemmas.Grind.{flat_map-append}
+use Rattle.std.specs.Io.KnownBytes.{Appends, Consumes, IsAtEnd}
+use Rattle.http_messages.specs.Input.{HasMessage, IsCut}
+use Rattle.http_messages.specs.declared.messages.Fault.{Fault}
+use Rattle.http_messages.specs.declared.messages.Fault.TheVariants.{BadHead, TooLong}
+use Rattle.http_messages.specs.declared.messages.Reading.TheVariants.{Refused as NoMessage}
+use Rattle.http_messages.specs.Shown.{IsReading}
+use Rattle.chain_engine.specs.Holding.{Holding}
+use Rattle.counter_http.specs.Events.{AnswersMessage}
+use Rattle.counter_http.specs.Exchanges.{Exchange, text_of, texts, GoesOn, HasRun}
+use Rattle.counter_http.specs.Served.{IsAfter, IsServing, IsServed, IsWriteFault, IsRefused, fault_text}
+use Rattle.counter_http.specs.declared.connection.After.TheVariants.{Asks, Fails}
+use Rattle.counter_http.specs.declared.connection.End.TheVariants.{Closed, Cut, Asked, Refused, StoreFailed}
+use Rattle.counter_http.proofs.KnownBytes.{Appends-nil, Appends-trans, Consumes-nil, Consumes-trans, IsFrontWritten}
+use Rattle.counter_http.proofs.Runs.{ran_none, ran_more, ran_one}
+
+pub texts-snoc : (es : List Exchange) (e : Exchange) → texts (es ++ e ∷ []) ≡ texts es ++ text_of e.answer
+texts-snoc es e =
+    flat_map-append (λ (x : Exchange). text_of x.answer) es (e ∷ []) ∙ ap (λ l. texts es ++ l) (append-nil (text_of e.answer))
+
+pub refused_is : (input : List ℕ) (fault : Fault) → IsReading input (NoMessage fault) → IsRefused fault input
+refused_is input BadHead x = x
+refused_is input TooLong x = x
+
+pub nil_from_length : (xs : List ℕ) → length xs ≡ 0 → xs ≡ []
+nil_from_length [] e = refl
+nil_from_length (x ∷ xs) e = absurd (omega arith)
+
+-- a read
+pub serving_more : (n : ℕ) (old new : Holding) (inbox longer more : List ℕ) (input mid left output written : Option (List ℕ))
+    → IsServing n old new inbox input mid output written
+    → Consumes mid left more → longer ≡ inbox ++ more
+    → IsServing n old new longer input left output written
+serving_more n old new inbox longer more input mid left output written x consumes e = record {
+  read = x.read ++ more;
+  exchanges = x.exchanges;
+  consumed = Consumes-trans input mid left x.read more x.consumed consumes;
+  ran = rw e (ran_more old new x.read more x.exchanges inbox x.ran);
+  writes = x.writes;
+  count = x.count;
+  goes = x.goes;
+}
+
+-- an exchange, behind which the connection goes on
+pub serving_one : (n : ℕ) (old mid new : Holding) (inbox rest : List ℕ) (input left output written later : Option (List ℕ)) (e : Exchange)
+    → IsServing n old mid inbox input left output written
+    → HasMessage inbox e.message rest → AnswersMessage e.message e.answer mid new
+    → Appends written later (text_of e.answer) → GoesOn e
+    → IsServing (n + 1) old new rest input left output later
+serving_one n old mid new inbox rest input left output written later e x has step appends goes = record {
+  read = x.read;
+  exchanges = x.exchanges ++ e ∷ [];
+  consumed = x.consumed;
+  ran = ran_one old mid new x.read x.exchanges e inbox rest x.ran x.goes has step;
+  writes = rw (texts-snoc x.exchanges e) (Appends-trans output written later (texts x.exchanges) (text_of e.answer) x.writes appends);
+  count = let l = length-append x.exchanges (e ∷ []) in let c = x.count in omega arith;
+  goes = All-push GoesOn x.exchanges e x.goes goes;
+}
+
+-- an exchange, which is the last
+pub served_asked : (n max : ℕ) (old mid new : Holding) (inbox rest : List ℕ) (input left output written later : Option (List ℕ)) (e : Exchange)
+    → IsServing n old mid inbox input left output written
+    → HasMessage inbox e.message rest → AnswersMessage e.message e.answer mid new
+    → n < max → Appends written later (text_of e.answer) → IsAfter Asks e
+    → IsServed (record { replies = n + 1; end = Asked }) max old new input left output later
+served_asked n max old mid new inbox rest input left output written later e x has step lt appends asks = record {
+  read = x.read;
+  exchanges = x.exchanges ++ e ∷ [];
+  rest = rest;
+  last = [];
+  consumed = x.consumed;
+  ran = ran_one old mid new x.read x.exchanges e inbox rest x.ran x.goes has step;
+  writes = rw (append-nil (texts (x.exchanges ++ e ∷ [])), texts-snoc x.exchanges e) (Appends-trans output written later (texts x.exchanges) (text_of e.answer) x.writes appends);
+  count = let l = length-append x.exchanges (e ∷ []) in let c = x.count in omega arith;
+  ends = ((x.exchanges, e, refl, x.goes, asks), (let l = length-append x.exchanges (e ∷ []) in let c = x.count in omega arith), refl);
+}
+
+pub served_failed : (n max : ℕ) (old mid new : Holding) (inbox rest : List ℕ) (input left output written later : Option (List ℕ)) (e : Exchange)
+    → IsServing n old mid inbox input left output written
+    → HasMessage inbox e.message rest → AnswersMessage e.message e.answer mid new
+    → n < max → Appends written later (text_of e.answer) → IsAfter Fails e
+    → IsServed (record { replies = n + 1; end = StoreFailed }) max old new input left output later
+served_failed n max old mid new inbox rest input left output written later e x has step lt appends fails = record {
+  read = x.read;
+  exchanges = x.exchanges ++ e ∷ [];
+  rest = rest;
+  last = [];
+  consumed = x.consumed;
+  ran = ran_one old mid new x.read x.exchanges e inbox rest x.ran x.goes has step;
+  writes = rw (append-nil (texts (x.exchanges ++ e ∷ [])), texts-snoc x.exchanges e) (Appends-trans output written later (texts x.exchanges) (text_of e.answer) x.writes appends);
+  count = let l = length-append x.exchanges (e ∷ []) in let c = x.count in omega arith;
+  ends = ((x.exchanges, e, refl, x.goes, fails), (let l = length-append x.exchanges (e ∷ []) in let c = x.count in omega arith), refl);
+}
+
+-- the end of what there is to read
+pub served_closed : (n max : ℕ) (old new : Holding) (inbox : List ℕ) (input left output written : Option (List ℕ))
+    → IsServing n old new inbox input left output written → n < max → IsAtEnd left → inbox ≡ []
+    → IsServed (record { replies = n; end = Closed }) max old new input left output written
+served_closed n max old new inbox input left output written x lt at_end none = record {
+  read = x.read;
+  exchanges = x.exchanges;
+  rest = inbox;
+  last = [];
+  consumed = x.consumed;
+  ran = x.ran;
+  writes = rw (append-nil (texts x.exchanges)) x.writes;
+  count = let c = x.count in omega arith;
+  ends = (x.goes, (let c = x.count in omega arith), at_end, none, refl);
+}
+
+pub served_cut : (n max : ℕ) (old new : Holding) (inbox : List ℕ) (input left output written : Option (List ℕ))
+    → IsServing n old new inbox input left output written → n < max → IsAtEnd left → inbox ≢ [] → IsCut inbox
+    → IsServed (record { replies = n; end = Cut }) max old new input left output written
+served_cut n max old new inbox input left output written x lt at_end some cut = record {
+  read = x.read;
+  exchanges = x.exchanges;
+  rest = inbox;
+  last = [];
+  consumed = x.consumed;
+  ran = x.ran;
+  writes = rw (append-nil (texts x.exchanges)) x.writes;
+  count = let c = x.count in omega arith;
+  ends = (x.goes, (let c = x.count in omega arith), at_end, some, cut, refl);
+}
+
+pub served_refused : (n max : ℕ) (old new : Holding) (inbox : List ℕ) (input left output written later : Option (List ℕ)) (fault : Fault)
+    → IsServing n old new inbox input left output written → n < max → IsRefused fault inbox
+    → Appends written later (fault_text fault)
+    → IsServed (record { replies = n + 1; end = Refused }) max old new input left output later
+served_refused n max old new inbox input left output written later fault x lt refused appends = record {
+  read = x.read;
+  exchanges = x.exchanges;
+  rest = inbox;
+  last = fault_text fault;
+  consumed = x.consumed;
+  ran = x.ran;
+  writes = Appends-trans output written later (texts x.exchanges) (fault_text fault) x.writes appends;
+  count = let c = x.count in omega arith;
+  ends = (x.goes, (let c = x.count in omega arith), fault, refused, refl);
+}
+
+-- a write that failed
+pub fault_reply : (n : ℕ) (old mid new : Holding) (inbox rest : List ℕ) (input left output written later : Option (List ℕ)) (e : Exchange)
+    → IsServing n old mid inbox input left output written
+    → HasMessage inbox e.message rest → AnswersMessage e.message e.answer mid new
+    → IsFrontWritten written later (text_of e.answer)
+    → IsWriteFault n old new input left output later
+fault_reply n old mid new inbox rest input left output written later e x has step (part, more, is, unfinished, appends) = record {
+  unfinished = unfinished;
+  read = x.read;
+  exchanges = x.exchanges;
+  failed = e ∷ [];
+  rest = rest;
+  part = part;
+  more = more;
+  consumed = x.consumed;
+  ran = ran_one old mid new x.read x.exchanges e inbox rest x.ran x.goes has step;
+  writes = Appends-trans output written later (texts x.exchanges) part x.writes appends;
+  cut = inl (e, refl, is);
+  count = x.count;
+  goes = x.goes;
+}
+
+pub fault_refusal : (n : ℕ) (old new : Holding) (inbox : List ℕ) (input left output written later : Option (List ℕ)) (fault : Fault)
+    → IsServing n old new inbox input left output written → IsRefused fault inbox
+    → IsFrontWritten written later (fault_text fault)
+    → IsWriteFault n old new input left output later
+fault_refusal n old new inbox input left output written later fault x refused (part, more, is, unfinished, appends) = record {
+  unfinished = unfinished;
+  read = x.read;
+  exchanges = x.exchanges;
+  failed = [];
+  rest = inbox;
+  part = part;
+  more = more;
+  consumed = x.consumed;
+  ran = rw (append-nil x.exchanges) x.ran;
+  writes = Appends-trans output written later (texts x.exchanges) part x.writes appends;
+  cut = inr (refl, (fault, refused, is));
+  count = x.count;
+  goes = x.goes;
+}
+
+-- nothing is read or written yet
+pub serving_none : (old : Holding) (inbox : List ℕ) (input output : Option (List ℕ)) → inbox ≡ [] → IsServing 0 old old inbox input input output output
+serving_none old inbox input output none = record {
+  read = [];
+  exchanges = [];
+  consumed = Consumes-nil input;
+  ran = rw none (ran_none old);
+  writes = Appends-nil output;
+  count = refl;
+  goes = λ k d lt. absurd (omega arith);
+}

@@ -1,0 +1,26 @@
+-- A message as an event of the chain, and what the chain may do at it.
+use Rattle.std.specs.Prelude.{◌≡◌, ℕ, List, Option, Some, None, option_and_then, if◌then◌else◌}
+use Rattle.http_messages.specs.Message.{Message}
+use Rattle.shop_values.specs.Texts.{is_token}
+use Rattle.shop_model.specs.Machine.{Request}
+use Rattle.shop_model.specs.Answers.{Answer}
+use Rattle.shop_model.specs.Books.{Event, Caller, caller_of}
+use Rattle.counter_routes.specs.Readings.{reading_of}
+use Rattle.chain_engine.specs.Holding.{Holding}
+use Rattle.chain_engine.specs.Chains.{Answers}
+
+-- a text that is no token is nobody's, as none is
+abbrev pub known_token : Option (List ℕ) → Option (List ℕ)
+known_token token = option_and_then (λ digits. if is_token digits then Some digits else None) token
+
+-- who asks shows in the token, and what is asked depends on who asks
+abbrev pub event_of : Message → Event
+event_of message = record { token = known_token message.token; request = reading_of message }
+
+-- who sent the message, by the catalogue as it is now
+abbrev pub sender_of : Message → Holding → Caller
+sender_of message holding = caller_of (known_token message.token) holding.books.catalogue
+
+-- the chain makes the books' step at the message and answers so, or lacks memory
+abbrev pub AnswersMessage : Message → Answer → Holding → Holding → Type 0
+AnswersMessage message answer old new = Answers (sender_of message old) (reading_of message (sender_of message old)) answer old new

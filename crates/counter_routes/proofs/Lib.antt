@@ -1,0 +1,3 @@
+pub mod RouteLemmas
+pub mod BodyLemmas
+pub mod MomentLemmas

@@ -1,0 +1,12 @@
+use Rattle.std.proofs.Common.{refl}
+use Rattle.matchit.proofs.OnLiterals.{matchit_on_literals}
+use Rattle.counter_routes.specs.Routes.{is_table, get_entries}
+use Rattle.counter_routes.proofs.paths.get_routes.Goals as goal
+
+pub build-requires : goal.build-requires
+unfolding matchit_on_literals is_table get_entries
+build-requires c = refl
+
+pub returns : goal.returns
+unfolding get_entries
+returns c = c.build.ensures

@@ -1,0 +1,4 @@
+pub mod Moments
+pub mod Routes
+pub mod Bodies
+pub mod Readings

@@ -1,0 +1,60 @@
+-- What a message asks, of each caller.
+use Rattle.std.specs.Prelude.{◌≡◌, ℕ, Bool, true, false, List, slice_get, Option, Some, None, option_map, option_and_then, unwrap_or}
+use Rattle.http_messages.specs.Message.{Message}
+use Rattle.http_messages.specs.Items.{parts}
+use Rattle.shop_values.specs.Numbers.{row_number_of}
+use Rattle.shop_model.specs.Values.{Command, OneCustomer}
+use Rattle.shop_model.specs.Refusals as named
+use Rattle.shop_model.specs.Machine.{Request, Unread, Do, Look}
+use Rattle.shop_model.specs.Books.{Caller, Counter, HeadOffice, Nobody}
+use Rattle.shop_types.specs.Seen.{seen_request, seen_refusal}
+use Rattle.shop_types.specs.Replies.{has_fixed_body}
+use Rattle.counter_routes.specs.declared.paths.Route.{Route}
+use Rattle.counter_routes.specs.declared.paths.Route.TheVariants.{NewCustomer, Customer}
+use Rattle.counter_routes.specs.declared.asked.Reading.{Reading}
+use Rattle.counter_routes.specs.declared.asked.Reading.TheVariants.{Asked, Refused}
+use Rattle.counter_routes.specs.Routes.{route_of}
+use Rattle.counter_routes.specs.Bodies.{body_of, new_customer}
+
+-- the request, or the refusal `bad_body` where there is none
+abbrev pub or_bad_body : Option Request → Request
+or_bad_body request = unwrap_or request (Unread named.BadBody)
+
+-- the command that a body writes
+abbrev pub command_in : List ℕ → Option Command
+command_in body = option_and_then new_customer (body_of body)
+
+-- the number of a row that the path's part behind its second slash is
+abbrev pub number_in : List ℕ → Option ℕ
+number_in target = option_and_then row_number_of (slice_get (parts target) 2)
+
+-- what a message to that route asks
+abbrev pub request_at : Message → Option Route → Request
+request_at message None = Unread named.NoRoute
+request_at message (Some NewCustomer) = or_bad_body (option_map Do (command_in message.body))
+request_at message (Some Customer) = or_bad_body (option_map (λ n. Look (OneCustomer n)) (number_in message.target))
+
+-- What a message asks of that caller: nobody asks anything, and head office has no routes yet. The body of a GET is not looked at.
+abbrev pub reading_of : Message → Caller → Request
+reading_of message (Counter b) = request_at message (route_of message.posts message.target)
+reading_of message HeadOffice = Unread named.NoRoute
+reading_of message Nobody = Unread named.NoCounter
+
+-- a command, which has a body
+abbrev pub is_command : Option Route → Bool
+is_command None = false
+is_command (Some NewCustomer) = true
+is_command (Some Customer) = false
+
+-- reading the message takes memory: it is a counter's command
+abbrev pub takes_memory : Message → Caller → Bool
+takes_memory message (Counter b) = is_command (route_of message.posts message.target)
+takes_memory message HeadOffice = false
+takes_memory message Nobody = false
+
+-- a reading is that request, or a refusal of a text that is none
+abbrev pub Reads : Reading → Request → Type 0
+Reads (Asked asked) request = seen_request asked ≡ request
+Reads (Refused refusal) request =
+    (decision : named.Refusal) × (seen_refusal refusal ≡ named.Decision decision) × (request ≡ Unread decision)
+    × (has_fixed_body refusal ≡ true)

@@ -1,0 +1,73 @@
+//! What a message asks.
+
+ghost use Rattle.std.specs.Prelude.{◌≡◌, true, IfOk, OnErr};
+ghost use Rattle.http_messages.specs.Shown.{message_of};
+ghost use Rattle.shop_types.specs.Seen.{seen_caller};
+ghost use Rattle.counter_routes.specs.Routes.{route_of};
+ghost use Rattle.counter_routes.specs.Readings.{Reads, number_in, request_at, reading_of, is_command, takes_memory};
+
+use crate::bodies::{Fault, new_customer_command};
+use crate::paths::{Route, Routes};
+use http_messages::part;
+use shop_types::{Ask, Caller, CustomerNo, NoMemory, Refusal, Request};
+use std::alloc::Global;
+
+/// What a message asks: a request to the shop, or why it is none.
+#[derive(Drop)]
+pub enum Reading {
+    Asked(Request),
+    Refused(Refusal),
+}
+
+/// The number of a row that the path's part behind its second slash is.
+fn number_of(target: &[u8]) -> Option<CustomerNo>
+    ensures { result ≡ number_in target.now }
+{
+    CustomerNo::read(part(target, 2)?)
+}
+
+impl Routes {
+    fn read_counter(
+        &self,
+        alloc: Global,
+        message: &http_messages::Request<'_>,
+    ) -> Result<Reading, NoMemory>
+        ensures reading { let m = message_of message.now in
+            IfOk result (λ reading. Reads reading (request_at m (route_of m.posts m.target))) }
+        ensures memory { OnErr result (is_command (route_of message.now.posts message.now.target.now) ≡ true) }
+    {
+        let Some(route) = self.find(message.posts, message.target) else {
+            return Ok(Reading::Refused(Refusal::NoRoute));
+        };
+        match route {
+            Route::NewCustomer => match new_customer_command(alloc, message.body) {
+                Ok(command) => Ok(Reading::Asked(Request::Do(command))),
+                Err(Fault::BadBody) => Ok(Reading::Refused(Refusal::BadBody)),
+                Err(Fault::NoMemory) => Err(NoMemory),
+            },
+            Route::Customer => Ok(match number_of(message.target) {
+                Some(number) => Reading::Asked(Request::Look(Ask::Customer(number))),
+                None => Reading::Refused(Refusal::BadBody),
+            }),
+        }
+    }
+
+    /// What a message asks of that caller. It is refused with `no_counter` where nobody asks, with `no_route` where there is
+    /// no such request for that caller, and with `bad_body` where the path's part or the body is not of its form.
+    /// Only a command's body takes memory.
+    pub fn read(
+        &self,
+        alloc: Global,
+        message: &http_messages::Request<'_>,
+        caller: Caller,
+    ) -> Result<Reading, NoMemory>
+        ensures reading { IfOk result (λ reading. Reads reading (reading_of (message_of message.now) (seen_caller caller))) }
+        ensures memory { OnErr result (takes_memory (message_of message.now) (seen_caller caller) ≡ true) }
+    {
+        match caller {
+            Caller::Branch(_) => self.read_counter(alloc, message),
+            Caller::Office => Ok(Reading::Refused(Refusal::NoRoute)),
+            Caller::Nobody => Ok(Reading::Refused(Refusal::NoCounter)),
+        }
+    }
+}

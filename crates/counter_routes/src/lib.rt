@@ -1,0 +1,12 @@
+//! What a counter's message asks: a request to the shop, or the refusal of a message that is none.
+#![tactic(auto)]
+
+mod asked;
+mod bodies;
+mod paths;
+
+pub use asked::Reading;
+pub use paths::Routes;
+
+#[cfg(test)]
+mod tests;

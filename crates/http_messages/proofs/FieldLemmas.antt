@@ -1,0 +1,50 @@
+-- The values of the fields of a name, one field more.
+use Rattle.std.proofs.Common.{◌≡◌, ℕ, ◌+◌, ◌<◌, ◌*◌, ◌^◌, ◌≤◌, List, [], ◌∷◌, ◌++◌, take, map, length, get_or, refl, ap, arith, true, false, cond, Bool, sym, lit<, add-one, ◌||◌}
+use Rattle.std.proofs.lemmas.List.{take_more, map-append}
+use Rattle.std.proofs.Math.Nat.{pow-le-pow_right}
+use Rattle.std.specs.Char.{digit_value}
+use Rattle.std.proofs.lemmas.Str.{digit_value_digit}
+use Rattle.std.proofs.lemmas.Str.Parse.{digit_from_value}
+use Rattle.std.specs.List.{list_any}
+use Rattle.http_messages.specs.Message.{Pair, values_of, same_name}
+
+pub values_of-snoc : (name : List ℕ) (ps : List Pair) (p : Pair)
+    → values_of name (ps ++ p ∷ []) ≡ values_of name ps ++ values_of name (p ∷ [])
+values_of-snoc name [] p = refl
+values_of-snoc name (q ∷ ps) p =
+    elim (same_name q.0 name) as (λ b. cond b (q.1 ∷ values_of name (ps ++ p ∷ [])) (values_of name (ps ++ p ∷ []))
+    ≡ cond b (q.1 ∷ values_of name ps) (values_of name ps) ++ values_of name (p ∷ [])) [
+      | true ↦ ap (λ vs. q.1 ∷ vs) (values_of-snoc name ps p)
+      | false ↦ values_of-snoc name ps p
+    ]
+
+pub values_of-more : {A : Type 0} (f : A → Pair) (name : List ℕ) (xs : List A) (i : ℕ) (d : A) → i < length xs
+    → values_of name (map f (take (i + 1) xs)) ≡ values_of name (map f (take i xs)) ++ values_of name (f (get_or xs i d) ∷ [])
+values_of-more f name xs i d h =
+    rw (take_more xs i d h, map-append f (take i xs) (get_or xs i d ∷ [])) (values_of-snoc name (map f (take i xs)) (f (get_or xs i d)))
+
+pub values_of-one : (name : List ℕ) (p : Pair) (b : Bool) → b ≡ same_name p.0 name
+    → values_of name (p ∷ []) ≡ cond b (p.1 ∷ []) []
+values_of-one name p b e = ap (λ t. cond t (p.1 ∷ []) []) (sym e)
+
+-- a digit more keeps the number in 64 bits
+pub nineteen : (n i d : ℕ) → n < 10 ^ i → i < 19 → d < 10 → n * 10 + d < 10 ^ (i + 1)
+nineteen n i d p q r = rw add-one (omega arith)
+
+pub fits_19 : (n i : ℕ) → n < 10 ^ i → i ≤ 19 → n < 18446744073709551616
+fits_19 n i p q =
+    let up : 10 ^ i ≤ 10 ^ 19 = pow-le-pow_right (lit< tt) q in
+    omega arith
+
+pub digit_is : (c : ℕ) → digit_value c < 10 → digit_value c + 48 ≡ c
+digit_is c h = digit_value_digit c (digit_from_value c h)
+
+pub list_any-push : {X : Type 0} (p : X → Bool) (xs : List X) (x : X) → list_any p (xs ++ x ∷ []) ≡ (list_any p xs || p x)
+list_any-push p [] x = or_false (p x) where
+  or_false : (b : Bool) → (b || false) ≡ b
+  or_false true = refl
+  or_false false = refl
+list_any-push p (y ∷ xs) x = elim (p y) as (λ b. (b || list_any p (xs ++ x ∷ [])) ≡ ((b || list_any p xs) || p x)) [
+  | true ↦ refl
+  | false ↦ list_any-push p xs x
+]

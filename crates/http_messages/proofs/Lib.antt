@@ -1,0 +1,5 @@
+pub mod FieldLemmas
+pub mod HeadLemmas
+pub mod StreamLemmas
+pub mod HeadText
+pub mod PhraseLemmas

@@ -1,0 +1,9 @@
+//! Bodies of replies: JSON texts (RFC 8259) with no white space, the members of each object in the byte order of their names.
+#![tactic(auto)]
+
+mod customer;
+
+pub use customer::{customer_text, new_customer_text};
+
+#[cfg(test)]
+mod tests;

@@ -1,0 +1,37 @@
+-- The program's one word so far, and the status that it ends with.
+use Rattle.std.specs.Prelude.{◌≡◌, ℕ, Bool, true, false, List, [], ◌∷◌, Option, codes}
+use Rattle.std.specs.Str.{bytes_eq}
+use Rattle.std.specs.Io.KnownBytes.{Keeps}
+use Rattle.shop_values.specs.LimitValues.{most_limits}
+use Rattle.shop_model.specs.Opening.{opening_books}
+use Rattle.chain_engine.specs.Holding.{Holding}
+use Rattle.counter_http.specs.Served.{IsServed, IsFault}
+use Rattle.counter_http.specs.declared.connection.End.{End}
+use Rattle.counter_http.specs.declared.connection.End.TheVariants.{Closed, Cut, Asked, Limit, Refused, StoreFailed}
+use Rattle.counter_http.specs.declared.connection.Served.{Served}
+use Rattle.counter_http.specs.declared.connection.ServeFault.{ServeFault}
+
+-- the words are `replay` alone
+abbrev pub asks_replay : List (List ℕ) → Bool
+asks_replay [] = false
+asks_replay (word ∷ []) = bytes_eq word (codes "replay")
+asks_replay (word ∷ other ∷ words) = false
+
+-- 0 where all that came was answered, 1 where the input broke off or was no message, 3 where the store failed
+abbrev pub status_of : End → ℕ
+status_of Closed = 0
+status_of Asked = 0
+status_of Limit = 0
+status_of Cut = 1
+status_of Refused = 1
+status_of StoreFailed = 3
+
+-- the chain that is shown, before anything is asked
+abbrev pub opening_holding : Holding
+opening_holding = record { limits = most_limits; books = opening_books }
+
+-- an input was replayed: 1,000 requests at most were answered by a chain with the opening rows, or reading, writing or memory failed
+pub data Replays (status : ℕ) (input left output written : Option (List ℕ)) : Type 0 where
+  replayed : (served : Served) (after : Holding) → IsServed served 1000 opening_holding after input left output written → status ≡ status_of served.end → Replays status input left output written
+  broke_off : (fault : ServeFault) (after : Holding) → IsFault fault opening_holding after input left output written → status ≡ 3 → Replays status input left output written
+  no_chain : Keeps input left → Keeps output written → status ≡ 3 → Replays status input left output written

@@ -1,0 +1,338 @@
+-- Each command of head office keeps what holds of the catalogue.
+use Rattle.std.proofs.Common.{◌≡◌, inl, inr, ℕ, ◌+◌, ◌≤◌, List, [], ◌∷◌, ◌++◌, filter, length, true, false, not, None, Some, refl, ◌∙◌, arith, length-append}
+use Rattle.std.specs.Prelude.{◌==◌, nat_le}
+use Rattle.std.specs.Option.{option_to_list}
+use Rattle.std.specs.List.{list_any, list_all}
+use Rattle.std.specs.Str.{bytes_eq}
+use Rattle.std.proofs.lemmas.Bool.{cases_Bool}
+use Rattle.shop_model.specs.Rows.{at, lacks, is_empty, set_at}
+use Rattle.shop_model.specs.Values.{City, Film, Cast, Branch, Staff, Customer, Copy, Rental, Payment, Arrival, OfficeAct, AddCountry, AddCity, AddLanguage, AddCategory, AddActor, AddFilm, PriceFilm, WithdrawFilm, AddCast, AddBranch, AddStaff, StaffLeaves, SetManager, OfficeCommand, Rules}
+use Rattle.shop_model.specs.Refusals.{Refusal, Full}
+use Rattle.shop_model.specs.Shop.{OfficeKept, Catalogue, Shop, same_office}
+use Rattle.shop_model.specs.Verdict.{Verdict, Again, Refused, Accepted, first, office_refusals, office_resent, office_verdict}
+use Rattle.shop_model.specs.Machine.{office_acted, office_done, office_text}
+use Rattle.shop_model.specs.Links.{has_row, are_different, is_staff_of, IsLinkedShop, NamesRowsOf, HasSharedSizes, IsGoodCatalogue}
+use Rattle.shop_model.proofs.Isolation.{NoneHold, none_hold}
+use Rattle.shop_model.proofs.GoodShops.{all_more, all_weaker, all_set, length_set, key_room}
+use Rattle.shop_model.proofs.CustodyLemmas.{or_parts}
+use Rattle.shop_model.proofs.LinkLemmas.{not_false, has_more, has_set, any_at_more, any_at_set, all_at_more, all_at_set, different_more, different_set, none_left}
+
+-- what is there in the one is there in the other
+pub record Grows (old new : Catalogue) : Type 0 where
+  pub countries : (n : ℕ) → has_row old.countries n ≡ true → has_row new.countries n ≡ true
+  pub cities : (n : ℕ) → has_row old.cities n ≡ true → has_row new.cities n ≡ true
+  pub languages : (n : ℕ) → has_row old.languages n ≡ true → has_row new.languages n ≡ true
+  pub categories : (n : ℕ) → has_row old.categories n ≡ true → has_row new.categories n ≡ true
+  pub actors : (n : ℕ) → has_row old.actors n ≡ true → has_row new.actors n ≡ true
+  pub films : (n : ℕ) → has_row old.films n ≡ true → has_row new.films n ≡ true
+  pub branches : (n : ℕ) → has_row old.branches n ≡ true → has_row new.branches n ≡ true
+  pub staff : (b s : ℕ) → is_staff_of b old.staff s ≡ true → is_staff_of b new.staff s ≡ true
+
+office_grows : (act : OfficeAct) (it : Catalogue) → Grows it (office_acted act it)
+office_grows (AddCountry name) it = record { countries = λ n h. has_more n it.countries (name ∷ []) h; cities = λ n h. h; languages = λ n h. h; categories = λ n h. h; actors = λ n h. h; films = λ n h. h; branches = λ n h. h; staff = λ c n h. h }
+office_grows (AddCity city) it = record { countries = λ n h. h; cities = λ n h. has_more n it.cities (city ∷ []) h; languages = λ n h. h; categories = λ n h. h; actors = λ n h. h; films = λ n h. h; branches = λ n h. h; staff = λ c n h. h }
+office_grows (AddLanguage name) it = record { countries = λ n h. h; cities = λ n h. h; languages = λ n h. has_more n it.languages (name ∷ []) h; categories = λ n h. h; actors = λ n h. h; films = λ n h. h; branches = λ n h. h; staff = λ c n h. h }
+office_grows (AddCategory name) it = record { countries = λ n h. h; cities = λ n h. h; languages = λ n h. h; categories = λ n h. has_more n it.categories (name ∷ []) h; actors = λ n h. h; films = λ n h. h; branches = λ n h. h; staff = λ c n h. h }
+office_grows (AddActor actor) it = record { countries = λ n h. h; cities = λ n h. h; languages = λ n h. h; categories = λ n h. h; actors = λ n h. has_more n it.actors (actor ∷ []) h; films = λ n h. h; branches = λ n h. h; staff = λ c n h. h }
+office_grows (AddFilm film) it = record { countries = λ n h. h; cities = λ n h. h; languages = λ n h. h; categories = λ n h. h; actors = λ n h. h; films = λ n h. has_more n it.films ((record film { withdrawn = false }) ∷ []) h; branches = λ n h. h; staff = λ c n h. h }
+office_grows (PriceFilm f rate) it = record { countries = λ n h. h; cities = λ n h. h; languages = λ n h. h; categories = λ n h. h; actors = λ n h. h; films = λ n h. has_set n f (λ (x : Film). record x { rate = rate }) it.films ∙ h; branches = λ n h. h; staff = λ c n h. h }
+office_grows (WithdrawFilm f) it = record { countries = λ n h. h; cities = λ n h. h; languages = λ n h. h; categories = λ n h. h; actors = λ n h. h; films = λ n h. has_set n f (λ (x : Film). record x { withdrawn = true }) it.films ∙ h; branches = λ n h. h; staff = λ c n h. h }
+office_grows (AddCast cast) it = record { countries = λ n h. h; cities = λ n h. h; languages = λ n h. h; categories = λ n h. h; actors = λ n h. h; films = λ n h. h; branches = λ n h. h; staff = λ c n h. h }
+office_grows (AddBranch branch) it = record { countries = λ n h. h; cities = λ n h. h; languages = λ n h. h; categories = λ n h. h; actors = λ n h. h; films = λ n h. h; branches = λ n h. has_more n it.branches ((record branch { manager = None }) ∷ []) h; staff = λ c n h. h }
+office_grows (AddStaff staff) it = record { countries = λ n h. h; cities = λ n h. h; languages = λ n h. h; categories = λ n h. h; actors = λ n h. h; films = λ n h. h; branches = λ n h. h; staff = λ c n h. any_at_more (λ (x : Staff). x.branch == c) n it.staff ((record staff { gone = false }) ∷ []) h }
+office_grows (StaffLeaves s) it = record { countries = λ n h. h; cities = λ n h. h; languages = λ n h. h; categories = λ n h. h; actors = λ n h. h; films = λ n h. h; branches = λ n h. h; staff = λ c n h. any_at_set (λ (x : Staff). x.branch == c) n s (λ (x : Staff). record x { gone = true }) it.staff (λ x. refl) ∙ h }
+office_grows (SetManager b s) it = record { countries = λ n h. h; cities = λ n h. h; languages = λ n h. h; categories = λ n h. h; actors = λ n h. h; films = λ n h. h; branches = λ n h. has_set n b (λ (x : Branch). record x { manager = Some s }) it.branches ∙ h; staff = λ c n h. h }
+
+-- ---- names
+
+names_grow : (old new rows : Catalogue) → Grows old new → NamesRowsOf old rows → NamesRowsOf new rows
+names_grow old new rows g h = record {
+  city_countries = all_weaker (λ (x : City). has_row old.countries x.country) _ rows.cities (λ (x : City) is. g.countries x.country is) h.city_countries;
+  film_languages = all_weaker (λ (x : Film). has_row old.languages x.language) _ rows.films (λ (x : Film) is. g.languages x.language is) h.film_languages;
+  film_categories = all_weaker (λ (x : Film). has_row old.categories x.category) _ rows.films (λ (x : Film) is. g.categories x.category is) h.film_categories;
+  cast_films = all_weaker (λ (x : Cast). has_row old.films x.film) _ rows.casts (λ (x : Cast) is. g.films x.film is) h.cast_films;
+  cast_actors = all_weaker (λ (x : Cast). has_row old.actors x.actor) _ rows.casts (λ (x : Cast) is. g.actors x.actor is) h.cast_actors;
+  branch_cities = all_weaker (λ (x : Branch). has_row old.cities x.city) _ rows.branches (λ (x : Branch) is. g.cities x.city is) h.branch_cities;
+  managers = λ b. all_weaker (λ (x : Branch). list_all (is_staff_of b old.staff) (option_to_list x.manager)) (λ (x : Branch). list_all (is_staff_of b new.staff) (option_to_list x.manager)) (at b rows.branches)
+      (λ (x : Branch) is. all_weaker (is_staff_of b old.staff) (is_staff_of b new.staff) (option_to_list x.manager) (g.staff b) is) (h.managers b);
+  staff_branches = all_weaker (λ (x : Staff). has_row old.branches x.branch) _ rows.staff (λ (x : Staff) is. g.branches x.branch is) h.staff_branches;
+  staff_cities = all_weaker (λ (x : Staff). has_row old.cities x.person.city) _ rows.staff (λ (x : Staff) is. g.cities x.person.city is) h.staff_cities;
+}
+
+is_there : {A : Type 0} (rows : List A) (n : ℕ) → lacks rows n ≡ false → has_row rows n ≡ true
+is_there rows n e = rw e
+
+-- who isn't missing, and isn't of another branch, is of that one
+is_of_branch : (b : ℕ) (rows : List Staff) → is_empty rows ≡ false → list_any (λ (x : Staff). not (x.branch == b)) rows ≡ false → list_any (λ (x : Staff). x.branch == b) rows ≡ true
+is_of_branch b [] e f = absurd (apart e) where
+  apart : true ≡ false → ⊥
+  apart e = cc
+is_of_branch b (row ∷ rows) e f = rw (not_false (row.branch == b) (or_parts (not (row.branch == b)) _ f).0)
+
+names_acted : (act : OfficeAct) (it : Catalogue) → NamesRowsOf it it → NoneHold (office_refusals it act) → NamesRowsOf (office_acted act it) (office_acted act it)
+names_acted (AddCountry name) it old none = let h = names_grow it (office_acted (AddCountry name) it) it (office_grows (AddCountry name) it) old in record {
+  city_countries = h.city_countries;
+  film_languages = h.film_languages;
+  film_categories = h.film_categories;
+  cast_films = h.cast_films;
+  cast_actors = h.cast_actors;
+  branch_cities = h.branch_cities;
+  managers = h.managers;
+  staff_branches = h.staff_branches;
+  staff_cities = h.staff_cities;
+}
+names_acted (AddCity city) it old none = let h = names_grow it (office_acted (AddCity city) it) it (office_grows (AddCity city) it) old in record {
+  city_countries = all_more (λ (x : City). has_row it.countries x.country) it.cities city h.city_countries (is_there it.countries city.country none.0);
+  film_languages = h.film_languages;
+  film_categories = h.film_categories;
+  cast_films = h.cast_films;
+  cast_actors = h.cast_actors;
+  branch_cities = h.branch_cities;
+  managers = h.managers;
+  staff_branches = h.staff_branches;
+  staff_cities = h.staff_cities;
+}
+names_acted (AddLanguage name) it old none = let h = names_grow it (office_acted (AddLanguage name) it) it (office_grows (AddLanguage name) it) old in record {
+  city_countries = h.city_countries;
+  film_languages = h.film_languages;
+  film_categories = h.film_categories;
+  cast_films = h.cast_films;
+  cast_actors = h.cast_actors;
+  branch_cities = h.branch_cities;
+  managers = h.managers;
+  staff_branches = h.staff_branches;
+  staff_cities = h.staff_cities;
+}
+names_acted (AddCategory name) it old none = let h = names_grow it (office_acted (AddCategory name) it) it (office_grows (AddCategory name) it) old in record {
+  city_countries = h.city_countries;
+  film_languages = h.film_languages;
+  film_categories = h.film_categories;
+  cast_films = h.cast_films;
+  cast_actors = h.cast_actors;
+  branch_cities = h.branch_cities;
+  managers = h.managers;
+  staff_branches = h.staff_branches;
+  staff_cities = h.staff_cities;
+}
+names_acted (AddActor actor) it old none = let h = names_grow it (office_acted (AddActor actor) it) it (office_grows (AddActor actor) it) old in record {
+  city_countries = h.city_countries;
+  film_languages = h.film_languages;
+  film_categories = h.film_categories;
+  cast_films = h.cast_films;
+  cast_actors = h.cast_actors;
+  branch_cities = h.branch_cities;
+  managers = h.managers;
+  staff_branches = h.staff_branches;
+  staff_cities = h.staff_cities;
+}
+names_acted (AddFilm film) it old none = let h = names_grow it (office_acted (AddFilm film) it) it (office_grows (AddFilm film) it) old in record {
+  city_countries = h.city_countries;
+  film_languages = all_more (λ (x : Film). has_row it.languages x.language) it.films (record film { withdrawn = false }) h.film_languages (is_there it.languages film.language (or_parts (lacks it.languages film.language) (lacks it.categories film.category) none.0).0);
+  film_categories = all_more (λ (x : Film). has_row it.categories x.category) it.films (record film { withdrawn = false }) h.film_categories (is_there it.categories film.category (or_parts (lacks it.languages film.language) (lacks it.categories film.category) none.0).1);
+  cast_films = h.cast_films;
+  cast_actors = h.cast_actors;
+  branch_cities = h.branch_cities;
+  managers = h.managers;
+  staff_branches = h.staff_branches;
+  staff_cities = h.staff_cities;
+}
+names_acted (PriceFilm f rate) it old none = let h = names_grow it (office_acted (PriceFilm f rate) it) it (office_grows (PriceFilm f rate) it) old in record {
+  city_countries = h.city_countries;
+  film_languages = all_set (λ (x : Film). has_row it.languages x.language) f (λ (x : Film). record x { rate = rate }) it.films h.film_languages (λ x is. is);
+  film_categories = all_set (λ (x : Film). has_row it.categories x.category) f (λ (x : Film). record x { rate = rate }) it.films h.film_categories (λ x is. is);
+  cast_films = h.cast_films;
+  cast_actors = h.cast_actors;
+  branch_cities = h.branch_cities;
+  managers = h.managers;
+  staff_branches = h.staff_branches;
+  staff_cities = h.staff_cities;
+}
+names_acted (WithdrawFilm f) it old none = let h = names_grow it (office_acted (WithdrawFilm f) it) it (office_grows (WithdrawFilm f) it) old in record {
+  city_countries = h.city_countries;
+  film_languages = all_set (λ (x : Film). has_row it.languages x.language) f (λ (x : Film). record x { withdrawn = true }) it.films h.film_languages (λ x is. is);
+  film_categories = all_set (λ (x : Film). has_row it.categories x.category) f (λ (x : Film). record x { withdrawn = true }) it.films h.film_categories (λ x is. is);
+  cast_films = h.cast_films;
+  cast_actors = h.cast_actors;
+  branch_cities = h.branch_cities;
+  managers = h.managers;
+  staff_branches = h.staff_branches;
+  staff_cities = h.staff_cities;
+}
+names_acted (AddCast cast) it old none = let h = names_grow it (office_acted (AddCast cast) it) it (office_grows (AddCast cast) it) old in record {
+  city_countries = h.city_countries;
+  film_languages = h.film_languages;
+  film_categories = h.film_categories;
+  cast_films = all_more (λ (x : Cast). has_row it.films x.film) it.casts cast h.cast_films (is_there it.films cast.film none.0);
+  cast_actors = all_more (λ (x : Cast). has_row it.actors x.actor) it.casts cast h.cast_actors (is_there it.actors cast.actor none.1.0);
+  branch_cities = h.branch_cities;
+  managers = h.managers;
+  staff_branches = h.staff_branches;
+  staff_cities = h.staff_cities;
+}
+names_acted (AddBranch branch) it old none = let h = names_grow it (office_acted (AddBranch branch) it) it (office_grows (AddBranch branch) it) old in record {
+  city_countries = h.city_countries;
+  film_languages = h.film_languages;
+  film_categories = h.film_categories;
+  cast_films = h.cast_films;
+  cast_actors = h.cast_actors;
+  branch_cities = all_more (λ (x : Branch). has_row it.cities x.city) it.branches (record branch { manager = None }) h.branch_cities (is_there it.cities branch.city none.1.0);
+  managers = λ c. all_at_more (λ (x : Branch). list_all (is_staff_of c it.staff) (option_to_list x.manager)) c it.branches (record branch { manager = None }) (h.managers c) refl;
+  staff_branches = h.staff_branches;
+  staff_cities = h.staff_cities;
+}
+names_acted (AddStaff staff) it old none = let h = names_grow it (office_acted (AddStaff staff) it) it (office_grows (AddStaff staff) it) old in record {
+  city_countries = h.city_countries;
+  film_languages = h.film_languages;
+  film_categories = h.film_categories;
+  cast_films = h.cast_films;
+  cast_actors = h.cast_actors;
+  branch_cities = h.branch_cities;
+  managers = h.managers;
+  staff_branches = all_more (λ (x : Staff). has_row it.branches x.branch) it.staff (record staff { gone = false }) h.staff_branches (is_there it.branches staff.branch none.0);
+  staff_cities = all_more (λ (x : Staff). has_row it.cities x.person.city) it.staff (record staff { gone = false }) h.staff_cities (is_there it.cities staff.person.city none.1.0);
+}
+names_acted (StaffLeaves s) it old none = let h = names_grow it (office_acted (StaffLeaves s) it) it (office_grows (StaffLeaves s) it) old in record {
+  city_countries = h.city_countries;
+  film_languages = h.film_languages;
+  film_categories = h.film_categories;
+  cast_films = h.cast_films;
+  cast_actors = h.cast_actors;
+  branch_cities = h.branch_cities;
+  managers = h.managers;
+  staff_branches = all_set (λ (x : Staff). has_row it.branches x.branch) s (λ (x : Staff). record x { gone = true }) it.staff h.staff_branches (λ x is. is);
+  staff_cities = all_set (λ (x : Staff). has_row it.cities x.person.city) s (λ (x : Staff). record x { gone = true }) it.staff h.staff_cities (λ x is. is);
+}
+names_acted (SetManager b s) it old none = let h = names_grow it (office_acted (SetManager b s) it) it (office_grows (SetManager b s) it) old in record {
+  city_countries = h.city_countries;
+  film_languages = h.film_languages;
+  film_categories = h.film_categories;
+  cast_films = h.cast_films;
+  cast_actors = h.cast_actors;
+  branch_cities = all_set (λ (x : Branch). has_row it.cities x.city) b (λ (x : Branch). record x { manager = Some s }) it.branches h.branch_cities (λ x is. is);
+  managers = λ c. all_at_set (λ (x : Branch). list_all (is_staff_of c it.staff) (option_to_list x.manager)) c b (λ (x : Branch). record x { manager = Some s }) it.branches (h.managers c)
+      (λ same x is. let of : is_staff_of b it.staff s ≡ true = is_of_branch b (at s it.staff) (or_parts (lacks it.staff s) _ none.0).0 (or_parts (lacks it.branches b) _ none.1.0).1 in rw (same, of));
+  staff_branches = h.staff_branches;
+  staff_cities = h.staff_cities;
+}
+
+-- ---- sizes, with one key more
+
+stays_fit : (n k m : ℕ) → m ≡ k + 1 → n ≤ k + 3 → n ≤ m + 3
+stays_fit n k m e le = omega (arith, e, le)
+
+grown_fits : {A : Type 0} (xs : List A) (x : A) (k m : ℕ) → m ≡ k + 1 → length xs ≤ k + 3 → length (xs ++ x ∷ []) ≤ m + 3
+grown_fits xs x k m e le = let l = length-append xs (x ∷ []) in omega (arith, e, l, le)
+
+set_fits : {A : Type 0} (n : ℕ) (f : A → A) (xs : List A) (k m : ℕ) → m ≡ k + 1 → length xs ≤ k + 3 → length (set_at n f xs) ≤ m + 3
+set_fits n f xs k m e le = let l = length_set n f xs in omega (arith, e, l, le)
+
+sizes_acted : (act : OfficeAct) (it : Catalogue) (k : OfficeKept) → HasSharedSizes it → HasSharedSizes (record (office_acted act it) { kept = it.kept ++ k ∷ [] })
+sizes_acted (AddCountry name) it k h = let l = length-append it.kept (k ∷ []) in record { casts = stays_fit _ _ _ l h.casts; countries = grown_fits it.countries name _ _ l h.countries; cities = stays_fit _ _ _ l h.cities; languages = stays_fit _ _ _ l h.languages; categories = stays_fit _ _ _ l h.categories; actors = stays_fit _ _ _ l h.actors; films = stays_fit _ _ _ l h.films; branches = stays_fit _ _ _ l h.branches; staff = stays_fit _ _ _ l h.staff }
+sizes_acted (AddCity city) it k h = let l = length-append it.kept (k ∷ []) in record { casts = stays_fit _ _ _ l h.casts; countries = stays_fit _ _ _ l h.countries; cities = grown_fits it.cities city _ _ l h.cities; languages = stays_fit _ _ _ l h.languages; categories = stays_fit _ _ _ l h.categories; actors = stays_fit _ _ _ l h.actors; films = stays_fit _ _ _ l h.films; branches = stays_fit _ _ _ l h.branches; staff = stays_fit _ _ _ l h.staff }
+sizes_acted (AddLanguage name) it k h = let l = length-append it.kept (k ∷ []) in record { casts = stays_fit _ _ _ l h.casts; countries = stays_fit _ _ _ l h.countries; cities = stays_fit _ _ _ l h.cities; languages = grown_fits it.languages name _ _ l h.languages; categories = stays_fit _ _ _ l h.categories; actors = stays_fit _ _ _ l h.actors; films = stays_fit _ _ _ l h.films; branches = stays_fit _ _ _ l h.branches; staff = stays_fit _ _ _ l h.staff }
+sizes_acted (AddCategory name) it k h = let l = length-append it.kept (k ∷ []) in record { casts = stays_fit _ _ _ l h.casts; countries = stays_fit _ _ _ l h.countries; cities = stays_fit _ _ _ l h.cities; languages = stays_fit _ _ _ l h.languages; categories = grown_fits it.categories name _ _ l h.categories; actors = stays_fit _ _ _ l h.actors; films = stays_fit _ _ _ l h.films; branches = stays_fit _ _ _ l h.branches; staff = stays_fit _ _ _ l h.staff }
+sizes_acted (AddActor actor) it k h = let l = length-append it.kept (k ∷ []) in record { casts = stays_fit _ _ _ l h.casts; countries = stays_fit _ _ _ l h.countries; cities = stays_fit _ _ _ l h.cities; languages = stays_fit _ _ _ l h.languages; categories = stays_fit _ _ _ l h.categories; actors = grown_fits it.actors actor _ _ l h.actors; films = stays_fit _ _ _ l h.films; branches = stays_fit _ _ _ l h.branches; staff = stays_fit _ _ _ l h.staff }
+sizes_acted (AddFilm film) it k h = let l = length-append it.kept (k ∷ []) in record { casts = stays_fit _ _ _ l h.casts; countries = stays_fit _ _ _ l h.countries; cities = stays_fit _ _ _ l h.cities; languages = stays_fit _ _ _ l h.languages; categories = stays_fit _ _ _ l h.categories; actors = stays_fit _ _ _ l h.actors; films = grown_fits it.films (record film { withdrawn = false }) _ _ l h.films; branches = stays_fit _ _ _ l h.branches; staff = stays_fit _ _ _ l h.staff }
+sizes_acted (PriceFilm f rate) it k h = let l = length-append it.kept (k ∷ []) in record { casts = stays_fit _ _ _ l h.casts; countries = stays_fit _ _ _ l h.countries; cities = stays_fit _ _ _ l h.cities; languages = stays_fit _ _ _ l h.languages; categories = stays_fit _ _ _ l h.categories; actors = stays_fit _ _ _ l h.actors; films = set_fits f (λ (x : Film). record x { rate = rate }) it.films _ _ l h.films; branches = stays_fit _ _ _ l h.branches; staff = stays_fit _ _ _ l h.staff }
+sizes_acted (WithdrawFilm f) it k h = let l = length-append it.kept (k ∷ []) in record { casts = stays_fit _ _ _ l h.casts; countries = stays_fit _ _ _ l h.countries; cities = stays_fit _ _ _ l h.cities; languages = stays_fit _ _ _ l h.languages; categories = stays_fit _ _ _ l h.categories; actors = stays_fit _ _ _ l h.actors; films = set_fits f (λ (x : Film). record x { withdrawn = true }) it.films _ _ l h.films; branches = stays_fit _ _ _ l h.branches; staff = stays_fit _ _ _ l h.staff }
+sizes_acted (AddCast cast) it k h = let l = length-append it.kept (k ∷ []) in record { casts = grown_fits it.casts cast _ _ l h.casts; countries = stays_fit _ _ _ l h.countries; cities = stays_fit _ _ _ l h.cities; languages = stays_fit _ _ _ l h.languages; categories = stays_fit _ _ _ l h.categories; actors = stays_fit _ _ _ l h.actors; films = stays_fit _ _ _ l h.films; branches = stays_fit _ _ _ l h.branches; staff = stays_fit _ _ _ l h.staff }
+sizes_acted (AddBranch branch) it k h = let l = length-append it.kept (k ∷ []) in record { casts = stays_fit _ _ _ l h.casts; countries = stays_fit _ _ _ l h.countries; cities = stays_fit _ _ _ l h.cities; languages = stays_fit _ _ _ l h.languages; categories = stays_fit _ _ _ l h.categories; actors = stays_fit _ _ _ l h.actors; films = stays_fit _ _ _ l h.films; branches = grown_fits it.branches (record branch { manager = None }) _ _ l h.branches; staff = stays_fit _ _ _ l h.staff }
+sizes_acted (AddStaff staff) it k h = let l = length-append it.kept (k ∷ []) in record { casts = stays_fit _ _ _ l h.casts; countries = stays_fit _ _ _ l h.countries; cities = stays_fit _ _ _ l h.cities; languages = stays_fit _ _ _ l h.languages; categories = stays_fit _ _ _ l h.categories; actors = stays_fit _ _ _ l h.actors; films = stays_fit _ _ _ l h.films; branches = stays_fit _ _ _ l h.branches; staff = grown_fits it.staff (record staff { gone = false }) _ _ l h.staff }
+sizes_acted (StaffLeaves s) it k h = let l = length-append it.kept (k ∷ []) in record { casts = stays_fit _ _ _ l h.casts; countries = stays_fit _ _ _ l h.countries; cities = stays_fit _ _ _ l h.cities; languages = stays_fit _ _ _ l h.languages; categories = stays_fit _ _ _ l h.categories; actors = stays_fit _ _ _ l h.actors; films = stays_fit _ _ _ l h.films; branches = stays_fit _ _ _ l h.branches; staff = set_fits s (λ (x : Staff). record x { gone = true }) it.staff _ _ l h.staff }
+sizes_acted (SetManager b s) it k h = let l = length-append it.kept (k ∷ []) in record { casts = stays_fit _ _ _ l h.casts; countries = stays_fit _ _ _ l h.countries; cities = stays_fit _ _ _ l h.cities; languages = stays_fit _ _ _ l h.languages; categories = stays_fit _ _ _ l h.categories; actors = stays_fit _ _ _ l h.actors; films = stays_fit _ _ _ l h.films; branches = set_fits b (λ (x : Branch). record x { manager = Some s }) it.branches _ _ l h.branches; staff = stays_fit _ _ _ l h.staff }
+
+-- ---- tokens
+
+record HasTokens (it : Catalogue) : Type 0 where
+  tokens : are_different (λ (earlier later : Branch). bytes_eq earlier.token later.token) it.branches ≡ true
+  office_token : list_all (λ (x : Branch). not (bytes_eq x.token it.office_token)) it.branches ≡ true
+
+tokens_acted : (act : OfficeAct) (it : Catalogue) → HasTokens it → NoneHold (office_refusals it act) → HasTokens (office_acted act it)
+tokens_acted (AddCountry name) it h none = record { tokens = h.tokens; office_token = h.office_token }
+tokens_acted (AddCity city) it h none = record { tokens = h.tokens; office_token = h.office_token }
+tokens_acted (AddLanguage name) it h none = record { tokens = h.tokens; office_token = h.office_token }
+tokens_acted (AddCategory name) it h none = record { tokens = h.tokens; office_token = h.office_token }
+tokens_acted (AddActor actor) it h none = record { tokens = h.tokens; office_token = h.office_token }
+tokens_acted (AddFilm film) it h none = record { tokens = h.tokens; office_token = h.office_token }
+tokens_acted (PriceFilm f rate) it h none = record { tokens = h.tokens; office_token = h.office_token }
+tokens_acted (WithdrawFilm f) it h none = record { tokens = h.tokens; office_token = h.office_token }
+tokens_acted (AddCast cast) it h none = record { tokens = h.tokens; office_token = h.office_token }
+tokens_acted (AddBranch branch) it h none =
+    let new = or_parts (bytes_eq branch.token it.office_token) (list_any (λ (x : Branch). bytes_eq x.token branch.token) it.branches) none.0 in
+    record {
+      tokens = different_more (λ (earlier later : Branch). bytes_eq earlier.token later.token) it.branches (record branch { manager = None }) h.tokens new.1;
+      office_token = all_more (λ (x : Branch). not (bytes_eq x.token it.office_token)) it.branches (record branch { manager = None }) h.office_token (rw new.0);
+    }
+tokens_acted (AddStaff staff) it h none = record { tokens = h.tokens; office_token = h.office_token }
+tokens_acted (StaffLeaves s) it h none = record { tokens = h.tokens; office_token = h.office_token }
+tokens_acted (SetManager b s) it h none = record {
+  tokens = different_set (λ (earlier later : Branch). bytes_eq earlier.token later.token) b (λ (x : Branch). record x { manager = Some s }) it.branches (λ x y. refl) (λ x y. refl) ∙ h.tokens;
+  office_token = all_set (λ (x : Branch). not (bytes_eq x.token it.office_token)) b (λ (x : Branch). record x { manager = Some s }) it.branches h.office_token (λ x is. is);
+}
+
+-- ---- one command
+
+pub none_kept : (command : OfficeCommand) (ks : List OfficeKept) (v : Verdict) → office_resent command ks v ≡ Accepted → (ks ≡ []) × (v ≡ Accepted)
+none_kept command [] v e = (refl, e)
+none_kept command (k ∷ ks) v e = elim (cases_Bool (same_office k.command command)) [
+  | inl is ↦ let no : Again k.reply ≡ Accepted = rw is at e in absurd (again no)
+  | inr isnt ↦ let no : Refused _ ≡ Accepted = rw isnt at e in absurd (refused _ no)
+] where
+  again : Again k.reply ≡ Accepted → ⊥
+  again e = cc
+
+  refused : (r : Refusal) → Refused r ≡ Accepted → ⊥
+  refused r e = cc
+
+office_kept : (act : OfficeAct) (it : Catalogue) → (office_acted act it).office_token ≡ it.office_token
+office_kept (AddCountry name) it = refl
+office_kept (AddCity city) it = refl
+office_kept (AddLanguage name) it = refl
+office_kept (AddCategory name) it = refl
+office_kept (AddActor actor) it = refl
+office_kept (AddFilm film) it = refl
+office_kept (PriceFilm f rate) it = refl
+office_kept (WithdrawFilm f) it = refl
+office_kept (AddCast cast) it = refl
+office_kept (AddBranch branch) it = refl
+office_kept (AddStaff staff) it = refl
+office_kept (StaffLeaves s) it = refl
+office_kept (SetManager b s) it = refl
+
+pub done_grows : (command : OfficeCommand) (it : Catalogue) → Grows it (office_done command it)
+done_grows command it = let g = office_grows command.act it in record { countries = g.countries; cities = g.cities; languages = g.languages; categories = g.categories; actors = g.actors; films = g.films; branches = g.branches; staff = g.staff }
+
+pub good_done : (rules sizes : Rules) (command : OfficeCommand) (it : Catalogue) → rules.commands ≤ sizes.commands → IsGoodCatalogue sizes it → office_verdict rules it command ≡ Accepted → IsGoodCatalogue sizes (office_done command it)
+good_done rules sizes command it most good e =
+    let k : OfficeKept = record { command = command; reply = office_text command it } in
+    let tests = (Full, nat_le rules.commands (length it.kept)) ∷ office_refusals it command.act in
+    let new = none_kept command (filter (λ (k : OfficeKept). bytes_eq k.command.key command.key) it.kept) (first tests) e in
+    let none = none_hold tests new.1 in
+    let names = names_acted command.act it good.names none.1 in
+    let tokens = tokens_acted command.act it (record { tokens = good.tokens; office_token = good.office_token }) none.1 in
+    record {
+      names = record { city_countries = names.city_countries; film_languages = names.film_languages; film_categories = names.film_categories; cast_films = names.cast_films; cast_actors = names.cast_actors; branch_cities = names.branch_cities; managers = names.managers; staff_branches = names.staff_branches; staff_cities = names.staff_cities };
+      sizes = sizes_acted command.act it k good.sizes;
+      keys_fit = let l = length-append it.kept (k ∷ []) in let fit = key_room rules.commands (length it.kept) none.0 l in omega (arith, fit, most);
+      keys = different_more (λ (earlier later : OfficeKept). bytes_eq earlier.command.key later.command.key) it.kept k good.keys (none_left (λ (k : OfficeKept). bytes_eq k.command.key command.key) it.kept new.0);
+      tokens = tokens.tokens;
+      office_token = tokens.office_token;
+    }
+
+-- ---- a shop, when the catalogue has grown
+
+pub linked_grows : (b : ℕ) (old new : Catalogue) (shop : Shop) → Grows old new → IsLinkedShop b old shop → IsLinkedShop b new shop
+linked_grows b old new shop g h = record {
+  customer_cities = all_weaker (λ (x : Customer). has_row old.cities x.person.city) _ shop.customers (λ (x : Customer) is. g.cities x.person.city is) h.customer_cities;
+  copy_films = all_weaker (λ (x : Copy). has_row old.films x.film) _ shop.copies (λ (x : Copy) is. g.films x.film is) h.copy_films;
+  rental_copies = h.rental_copies;
+  rental_customers = h.rental_customers;
+  rental_staff = all_weaker (λ (x : Rental). is_staff_of b old.staff x.staff) _ shop.rentals (λ (x : Rental) is. g.staff b x.staff is) h.rental_staff;
+  payment_customers = h.payment_customers;
+  payment_staff = all_weaker (λ (x : Payment). is_staff_of b old.staff x.staff) _ shop.payments (λ (x : Payment) is. g.staff b x.staff is) h.payment_staff;
+  payment_rentals = h.payment_rentals;
+  arrival_films = all_weaker (λ (x : Arrival). list_all (has_row old.films) x.films) _ shop.arrivals (λ (x : Arrival) is. all_weaker (has_row old.films) (has_row new.films) x.films g.films is) h.arrival_films;
+  parcels = h.parcels;
+  lots = h.lots;
+  keys = h.keys;
+}

@@ -1,0 +1,165 @@
+-- A run grows by one event at a time.
+use Rattle.std.proofs.Common.{◌≡◌, inl, inr, List, [], ◌∷◌, ◌++◌, length, map, filter, Bool, true, false, not, refl, sym, ap, ap₂, ◌∙◌, arith, append-nil, length-append}
+use Rattle.std.specs.Prelude.{◌==◌}
+use Rattle.std.specs.List.{list_all}
+use Rattle.std.proofs.lemmas.Bool.{cases_Bool}
+use Rattle.shop_model.specs.Values.{OfficeAsk, Rules}
+use Rattle.shop_model.specs.Refusals.{NoCounter, NoRoute, BadBody, KeyUsed, Full, MomentBack, NoStaff, NoCustomer, CustomerInactive, NoCopy, CopyNotHere, CopyOut, FilmWithdrawn, SameMoment, NoRental, RentalReturned, WrongCustomer, NoFilm, LotIn, BadCsv, NoBranch, OwnBranch, NoArrival, ArrivalReceived, BadLines, BadThreshold, TokenTaken, NoSharedRow, Already, Usage, Memory}
+use Rattle.shop_model.specs.Json.{escape_byte}
+use Rattle.shop_model.specs.Machine.{Request, Reply, Sorry, Done, Shows}
+use Rattle.shop_model.specs.Answers.{Answer, answer_of, problem_answer}
+use Rattle.shop_model.specs.Books.{Books, Event, Caller, NoRoom, counted_one, caller_in, reply_for, reply_in, after, run, last_books}
+use Rattle.shop_model.specs.Histories.{is_decided, is_store_failure, is_answer, outcome_of, counted_in, IsRun, IsStep}
+use Rattle.shop_model.proofs.CustodyLemmas.{and_parts}
+
+-- a decision's status is never the store's
+pub decided_is : (reply : Reply) → is_decided (answer_of reply) ≡ true
+decided_is (Sorry NoCounter) = refl
+decided_is (Sorry NoRoute) = refl
+decided_is (Sorry BadBody) = refl
+decided_is (Sorry KeyUsed) = refl
+decided_is (Sorry Full) = refl
+decided_is (Sorry MomentBack) = refl
+decided_is (Sorry NoStaff) = refl
+decided_is (Sorry NoCustomer) = refl
+decided_is (Sorry CustomerInactive) = refl
+decided_is (Sorry NoCopy) = refl
+decided_is (Sorry CopyNotHere) = refl
+decided_is (Sorry CopyOut) = refl
+decided_is (Sorry FilmWithdrawn) = refl
+decided_is (Sorry SameMoment) = refl
+decided_is (Sorry NoRental) = refl
+decided_is (Sorry RentalReturned) = refl
+decided_is (Sorry WrongCustomer) = refl
+decided_is (Sorry NoFilm) = refl
+decided_is (Sorry LotIn) = refl
+decided_is (Sorry (BadCsv line)) = refl
+decided_is (Sorry NoBranch) = refl
+decided_is (Sorry OwnBranch) = refl
+decided_is (Sorry NoArrival) = refl
+decided_is (Sorry ArrivalReceived) = refl
+decided_is (Sorry BadLines) = refl
+decided_is (Sorry BadThreshold) = refl
+decided_is (Sorry TokenTaken) = refl
+decided_is (Sorry NoSharedRow) = refl
+decided_is (Sorry Already) = refl
+decided_is (Sorry Usage) = refl
+decided_is (Done text) = refl
+decided_is (Shows shown) = refl
+
+-- want of memory is no failure of the store
+pub memory_is : outcome_of (problem_answer Memory) ≡ NoRoom
+unfolding escape_byte
+memory_is = refl
+
+memory_decided : is_decided (problem_answer Memory) ≡ false
+memory_decided = refl
+
+memory_answer : is_answer (problem_answer Memory) ≡ true
+unfolding escape_byte
+memory_answer = refl
+
+memory_failure : is_store_failure (problem_answer Memory) ≡ false
+unfolding escape_byte
+memory_failure = refl
+
+decided_failure : (answer : Answer) → is_decided answer ≡ true → is_store_failure answer ≡ false
+decided_failure answer is = elim (cases_Bool (answer.status == 503)) [
+  | inl bad ↦ let no : false ≡ true = rw bad at is in absurd (apart no)
+  | inr good ↦ rw good
+] where
+  apart : false ≡ true → ⊥
+  apart e = cc
+
+-- a step never answers that the store failed
+pub step_sound : (rules : Rules) (look : OfficeAsk → Books → Reply) (caller : Caller) (request : Request) (answer : Answer) (old new : Books)
+    → IsStep rules look caller request answer old new → is_store_failure answer ≡ false
+step_sound rules look caller request answer old new (inl d) = rw d.reply (decided_failure (answer_of (reply_for rules look caller request old)) (decided_is (reply_for rules look caller request old)))
+step_sound rules look caller request answer old new (inr l) = rw l.reply memory_failure
+
+-- ---- one more
+
+all_append : {A : Type 0} (p : A → Bool) (xs ys : List A) → list_all p xs ≡ true → list_all p ys ≡ true → list_all p (xs ++ ys) ≡ true
+all_append p [] ys all more = more
+all_append p (x ∷ xs) ys all more = let h = and_parts (p x) (list_all p xs) all in rw h.0 (all_append p xs ys h.1 more)
+
+filter_append : {A : Type 0} (p : A → Bool) (xs ys : List A) → filter p (xs ++ ys) ≡ filter p xs ++ filter p ys
+filter_append p [] ys = refl
+filter_append p (x ∷ xs) ys = elim (cases_Bool (p x)) [ inl is ↦ rw is (ap (λ r. x ∷ r) (filter_append p xs ys)) | inr isnt ↦ rw isnt (filter_append p xs ys) ]
+
+map_append : {A B : Type 0} (f : A → B) (xs ys : List A) → map f (xs ++ ys) ≡ map f xs ++ map f ys
+map_append f [] ys = refl
+map_append f (x ∷ xs) ys = ap (λ r. f x ∷ r) (map_append f xs ys)
+
+pub run_append : (rules : Rules) (look : OfficeAsk → Books → Reply) (events more : List Event) (books : Books)
+    → run rules look (events ++ more) books ≡ run rules look events books ++ run rules look more (last_books rules events books)
+run_append rules look [] more books = refl
+run_append rules look (event ∷ events) more books = ap (λ r. (caller_in event books, reply_in rules look event books) ∷ r) (run_append rules look events more (after rules event books))
+
+pub last_append : (rules : Rules) (events more : List Event) (books : Books) → last_books rules (events ++ more) books ≡ last_books rules more (last_books rules events books)
+last_append rules [] more books = refl
+last_append rules (event ∷ events) more books = last_append rules events more (after rules event books)
+
+abbrev one_counted : (event : Event) (answer : Answer) → List Event
+one_counted event answer = counted_one event (outcome_of answer) []
+
+one_more : (event : Event) (answer : Answer) (xs ys : List Event) → not (is_store_failure answer) ≡ true → counted_one event (outcome_of answer) (xs ++ ys) ≡ counted_one event (outcome_of answer) xs ++ ys
+one_more event answer xs ys fine = elim (cases_Bool (is_decided answer)) [
+  | inl is ↦ rw is refl
+  | inr isnt ↦ rw (isnt, not_true (is_store_failure answer) fine) refl
+] where
+  not_true : (b : Bool) → not b ≡ true → b ≡ false
+  not_true true e = sym e
+  not_true false e = refl
+
+counted_more : (events : List Event) (answers : List Answer) (event : Event) (answer : Answer) → length answers ≡ length events
+    → list_all (λ (a : Answer). not (is_store_failure a)) answers ≡ true
+    → counted_in (events ++ event ∷ []) (answers ++ answer ∷ []) ≡ counted_in events answers ++ one_counted event answer
+counted_more [] [] event answer same fine = refl
+counted_more [] (a ∷ answers) event answer same fine = absurd (omega arith)
+counted_more (e ∷ events) [] event answer same fine = absurd (omega arith)
+counted_more (e ∷ events) (a ∷ answers) event answer same fine =
+    let h = and_parts (not (is_store_failure a)) (list_all (λ (a : Answer). not (is_store_failure a)) answers) fine in
+    let same' : length answers ≡ length events = omega arith in
+    ap (λ (l : List Event). counted_one e (outcome_of a) l) (counted_more events answers event answer same' h.1)
+    ∙ one_more e a (counted_in events answers) (one_counted event answer) h.0
+
+-- the run goes on by one event, which was answered by a step
+pub run_more : (rules : Rules) (look : OfficeAsk → Books → Reply) (events : List Event) (answers : List Answer) (event : Event) (answer : Answer) (old mid new : Books)
+    → IsRun rules look events answers old mid → list_all (λ (a : Answer). not (is_store_failure a)) answers ≡ true
+    → IsStep rules look (caller_in event mid) (event.request (caller_in event mid)) answer mid new
+    → IsRun rules look (events ++ event ∷ []) (answers ++ answer ∷ []) old new
+run_more rules look events answers event answer old mid new r fine (inl d) =
+    let reply = reply_in rules look event mid in
+    let decided : is_decided answer ≡ true = rw d.reply (decided_is reply) in
+    let one : one_counted event answer ≡ event ∷ [] = rw decided refl in
+    let counts : counted_in (events ++ event ∷ []) (answers ++ answer ∷ []) ≡ counted_in events answers ++ event ∷ [] =
+    counted_more events answers event answer r.each fine ∙ ap (λ (l : List Event). counted_in events answers ++ l) one in
+    let history = counted_in events answers in
+    record {
+      each = let a = length-append answers (answer ∷ []) in let b = length-append events (event ∷ []) in let e = r.each in omega arith;
+      answers_are = all_append is_answer answers (answer ∷ []) r.answers_are (rw decided refl);
+      decisions = filter_append is_decided answers (answer ∷ []) ∙ ap₂ (λ (xs ys : List Answer). xs ++ ys) r.decisions (rw decided (ap (λ (a : Answer). a ∷ []) d.reply))
+          ∙ ap (λ (b : Books). map (λ (it : Caller × Reply). answer_of it.1) (run rules look history old) ++ answer_of (reply_in rules look event b) ∷ []) r.books
+          ∙ sym (map_append (λ (it : Caller × Reply). answer_of it.1) (run rules look history old) (run rules look (event ∷ []) (last_books rules history old)))
+          ∙ ap (map (λ (it : Caller × Reply). answer_of it.1)) (sym (run_append rules look history (event ∷ []) old))
+          ∙ ap (λ (es : List Event). map (λ (it : Caller × Reply). answer_of it.1) (run rules look es old)) (sym counts);
+      books = d.books ∙ ap (λ (b : Books). after rules event b) r.books ∙ sym (last_append rules history (event ∷ []) old) ∙ ap (λ (es : List Event). last_books rules es old) (sym counts);
+    }
+run_more rules look events answers event answer old mid new r fine (inr l) =
+    let lacks : is_decided answer ≡ false = rw l.reply memory_decided in
+    let sound : is_store_failure answer ≡ false = rw l.reply memory_failure in
+    let one : one_counted event answer ≡ [] = rw (lacks, sound) refl in
+    let counts : counted_in (events ++ event ∷ []) (answers ++ answer ∷ []) ≡ counted_in events answers =
+    counted_more events answers event answer r.each fine ∙ ap (λ (l : List Event). counted_in events answers ++ l) one ∙ append-nil (counted_in events answers) in
+    record {
+      each = let a = length-append answers (answer ∷ []) in let b = length-append events (event ∷ []) in let e = r.each in omega arith;
+      answers_are = all_append is_answer answers (answer ∷ []) r.answers_are (rw l.reply (rw memory_answer refl));
+      decisions = filter_append is_decided answers (answer ∷ []) ∙ rw lacks (append-nil (filter is_decided answers)) ∙ r.decisions
+          ∙ ap (λ (es : List Event). map (λ (it : Caller × Reply). answer_of it.1) (run rules look es old)) (sym counts);
+      books = l.books ∙ r.books ∙ ap (λ (es : List Event). last_books rules es old) (sym counts);
+    }
+
+-- nothing is asked
+pub run_none : (rules : Rules) (look : OfficeAsk → Books → Reply) (books : Books) → IsRun rules look [] [] books books
+run_none rules look books = record { each = refl; answers_are = refl; decisions = refl; books = refl }

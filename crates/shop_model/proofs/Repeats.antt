@@ -1,0 +1,46 @@
+-- A history without its repeats.
+use Rattle.std.proofs.Common.{◌≡◌, inl, inr, [], ◌∷◌, true, false, refl, ap}
+use Rattle.std.proofs.lemmas.Bool.{cases_Bool}
+use Rattle.shop_model.specs.Values.{Rules}
+use Rattle.shop_model.specs.Verdict.{Verdict, Again, Refused, Accepted, verdict, office_verdict}
+use Rattle.shop_model.specs.Machine.{Request, Unread, Do, Look, Office, OfficeLook, if_accepted, office_done}
+use Rattle.shop_model.specs.Books.{Books, Caller, Counter, HeadOffice, Nobody, shop_of, book_done, after_for, after, caller_in, reply_in}
+use Rattle.shop_model.specs.Repeats.{is_again, repeats}
+use Rattle.shop_model.specs.Laws.{RepeatsChangeNothing}
+
+again_leaves : {A : Type 0} (v : Verdict) (x y : A) → is_again v ≡ true → if_accepted v x y ≡ y
+again_leaves (Again text) x y e = refl
+again_leaves (Refused refusal) x y e = refl
+again_leaves Accepted x y e = absurd (apart e) where
+  apart : false ≡ true → ⊥
+  apart e = cc
+
+apart : false ≡ true → ⊥
+apart e = cc
+
+repeat_leaves : (rules : Rules) (caller : Caller) (request : Request) (books : Books) → repeats rules caller request books ≡ true → after_for rules caller request books ≡ books
+repeat_leaves rules (Counter b) (Do command) books e = again_leaves (verdict rules b books.catalogue (shop_of b books) command) (book_done rules b command books) books e
+repeat_leaves rules (Counter b) (Unread refusal) books e = absurd (apart e)
+repeat_leaves rules (Counter b) (Look ask) books e = absurd (apart e)
+repeat_leaves rules (Counter b) (Office command) books e = absurd (apart e)
+repeat_leaves rules (Counter b) (OfficeLook ask) books e = absurd (apart e)
+repeat_leaves rules HeadOffice (Office command) books e = rw (again_leaves (office_verdict rules books.catalogue command) (office_done command books.catalogue) books.catalogue e)
+repeat_leaves rules HeadOffice (Unread refusal) books e = absurd (apart e)
+repeat_leaves rules HeadOffice (Do command) books e = absurd (apart e)
+repeat_leaves rules HeadOffice (Look ask) books e = absurd (apart e)
+repeat_leaves rules HeadOffice (OfficeLook ask) books e = absurd (apart e)
+repeat_leaves rules Nobody request books e = absurd (apart e)
+
+pub without_repeats : RepeatsChangeNothing
+without_repeats rules look [] books = record { replies = refl; leaves = refl }
+without_repeats rules look (event ∷ events) books =
+    let caller = caller_in event books in
+    elim (cases_Bool (repeats rules caller (event.request caller) books)) [
+      | inl is ↦
+          let same : after rules event books ≡ books = repeat_leaves rules caller (event.request caller) books is in
+          let more = without_repeats rules look events books in
+          record { replies = rw (is, same) more.replies; leaves = rw (is, same) more.leaves }
+      | inr isnt ↦
+          let more = without_repeats rules look events (after rules event books) in
+          record { replies = rw isnt (ap (λ rest. (caller, reply_in rules look event books) ∷ rest) more.replies); leaves = rw isnt more.leaves }
+    ]

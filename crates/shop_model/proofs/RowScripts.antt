@@ -1,0 +1,121 @@
+-- The words in which the worked rows are written: who asks what, and what is answered.
+use Rattle.std.specs.Prelude.{ℕ, if◌then◌else◌, List, [], ◌∷◌, map, codes, Some}
+use Rattle.std.specs.Str.{bytes_eq}
+use Rattle.shop_model.specs.Calendar.{Moment}
+use Rattle.shop_model.specs.Values.{Text, Person, Act, OfficeAct, Ask, OfficeAsk, Stock, Copies, BadLine, Rules}
+use Rattle.shop_model.specs.Machine.{Request, Do, Look, Office, OfficeLook, Reply}
+use Rattle.shop_model.specs.Answers.{Answer, answer_of}
+use Rattle.shop_model.specs.Opening.{token_of, opening_books}
+use Rattle.shop_model.specs.Books.{Books, Event, Caller, run, last_books}
+use Rattle.shop_model.specs.Office.{office_look}
+
+-- ---- moments
+
+abbrev pub moment : ℕ → ℕ → ℕ → ℕ → ℕ → ℕ → Moment
+moment year month day hour minute second = record { year = year; month = month; day = day; hour = hour; minute = minute; second = second }
+
+-- the first of March 2026, at ten
+abbrev pub ten : Moment
+ten = moment 2026 3 1 10 0 0
+
+-- midnight, at which a day of March 2026 begins
+abbrev pub march : ℕ → Moment
+march day = moment 2026 3 day 0 0 0
+
+-- ---- stock files: what each text of a row says, as far as the row needs it
+
+abbrev pub stock_in : List (Text × Stock) → Text → Stock
+stock_in [] file = BadLine 1
+stock_in (it ∷ files) file = if bytes_eq it.0 file then it.1 else stock_in files file
+
+-- three copies of the first film and one of the second
+abbrev pub four_copies : Text
+four_copies = codes "film_id,copies\n1,3\n2,1"
+
+abbrev pub three_copies : Text
+three_copies = codes "film_id,copies\n1,3"
+
+abbrev pub two_copies : Text
+two_copies = codes "film_id,copies\n1,2"
+
+abbrev pub one_copy : Text
+one_copy = codes "film_id,copies\n1,1"
+
+abbrev pub one_comedy : Text
+one_comedy = codes "film_id,copies\n2,1"
+
+abbrev pub two_and_unknown : Text
+two_and_unknown = codes "film_id,copies\n1,2\n9,1"
+
+-- a record of no copies, which a stock file may not have
+abbrev pub none_on_third_line : Text
+none_on_third_line = codes "film_id,copies\n1,2\n2,0"
+
+abbrev pub header_alone : Text
+header_alone = codes "film_id,copies"
+
+abbrev pub stock : Text → Stock
+stock = stock_in (
+    (four_copies, Copies (1 ∷ 1 ∷ 1 ∷ 2 ∷ []))
+    ∷ (three_copies, Copies (1 ∷ 1 ∷ 1 ∷ []))
+    ∷ (two_copies, Copies (1 ∷ 1 ∷ []))
+    ∷ (one_copy, Copies (1 ∷ []))
+    ∷ (one_comedy, Copies (2 ∷ []))
+    ∷ (two_and_unknown, Copies (1 ∷ 1 ∷ 9 ∷ []))
+    ∷ (none_on_third_line, BadLine 3)
+    ∷ (header_alone, BadLine 2)
+    ∷ [])
+
+abbrev pub limited : ℕ → ℕ → Rules
+limited commands copies = record { commands = commands; copies = copies; stock_of = stock }
+
+abbrev pub rules : Rules
+rules = limited 1000000 1000000
+
+-- ---- requests
+
+abbrev pub sends : ℕ → Request → Event
+sends digit request = record { token = Some (token_of digit); request = λ _. request }
+
+-- a command of a branch, by a member of its staff
+abbrev pub does_by : ℕ → ℕ → Text → Moment → Act → Event
+does_by b staff key at act = sends b (Do (record { key = key; staff = staff; moment = at; act = act }))
+
+-- in the opening rows the staff of a branch have its number
+abbrev pub does : ℕ → Text → Moment → Act → Event
+does b key at act = does_by b b key at act
+
+abbrev pub asks : ℕ → Ask → Event
+asks b ask = sends b (Look ask)
+
+abbrev pub orders : Text → OfficeAct → Event
+orders key act = sends 0 (Office (record { key = key; act = act }))
+
+abbrev pub wants : OfficeAsk → Event
+wants ask = sends 0 (OfficeLook ask)
+
+abbrev pub named : Text → Person
+named first = record { first = first; last = codes "SMITH"; address = codes "1 Main"; postal = []; phone = codes "555"; city = 1 }
+
+abbrev pub mary : Person
+mary = named (codes "MARY")
+
+-- ---- answers
+
+abbrev pub ok : Text → Answer
+ok body = record { status = 200; body = body }
+
+-- the refusal of a command or look
+abbrev pub no : Text → Answer
+no body = record { status = 409; body = body }
+
+abbrev pub answers_from : Rules → Books → List Event → List Answer
+answers_from rules books events = map (λ (it : Caller × Reply). answer_of it.1) (run rules office_look events books)
+
+-- what a list of requests is answered on the opening rows
+abbrev pub answers : Rules → List Event → List Answer
+answers rules events = answers_from rules opening_books events
+
+-- the same after other requests
+abbrev pub answers_after : Rules → List Event → List Event → List Answer
+answers_after rules earlier events = answers_from rules (last_books rules earlier opening_books) events

@@ -1,0 +1,217 @@
+-- What an accepted command of one branch does to the shop of each.
+use Rattle.std.proofs.Common.{◌≡◌, inl, inr, ℕ, ◌+◌, ◌-◌, List, [], ◌∷◌, ◌++◌, filter, map, Bool, true, false, not, refl, sym, ap, ◌∙◌, arith}
+use Rattle.std.specs.Prelude.{if◌then◌else◌, ◌==◌, ◌&&◌, flat_map, Option, Some, None}
+use Rattle.std.proofs.lemmas.Bool.{cases_Bool}
+use Rattle.std.proofs.lemmas.List.{map-append}
+use Rattle.shop_model.specs.Rows.{arrived, at, Row, Owned, owned_by, is_of, is_row, of, IsCounted, numbered_from, mem}
+use Rattle.shop_model.specs.Calendar.{Moment}
+use Rattle.shop_model.specs.Values.{Text, Customer, Copy, Rental, Payment, Arrival, Parcel, Sent, Scrapped, Act, AddCustomer, SetActive, Rent, TakeBack, Pay, Import, Dispatch, Receive, Scrap, Command, Rules}
+use Rattle.shop_model.specs.Shop.{Kept, Shop}
+use Rattle.shop_model.specs.Verdict.{arrival}
+use Rattle.shop_model.specs.Machine.{acted, done, reply_text, here, with_state, films_in, films_at, incoming}
+use Rattle.shop_model.specs.Books.{Books, BookCopy, Line, Consignment, shop_of, unmarked, as_arrival, as_parcel, head, book_acted, book_done, is_consignment, imported, unpacked, put_state, rows_at, under_way, checked, checked_line, come, set_last, new_consignment}
+use Rattle.shop_model.specs.Sound.{HasNumbers}
+use Rattle.shop_model.proofs.RowLemmas.{same_if, differ_if, same_test, differ_test, more_yes, more_no, at_numbered, set_numbered_among, set_same, set_other, map_map, map_at, put_own, put_other, put_all_own, put_all_other, set_own, set_row_other, set_rows_own, set_rows_other, map_set_at, map_set_all, row_at, filter_map, filter_filter, filter_away}
+
+-- ---- lines
+
+pub kept_numbers : {A B : Type 0} (g : A → B) (missing : List ℕ) (k : ℕ) (xs : List A)
+    → map (λ it. it.1) (filter (λ it. not (mem it.0 missing)) (numbered_from k (map g xs))) ≡ map g (map (λ it. it.1) (filter (λ it. not (mem it.0 missing)) (numbered_from k xs)))
+kept_numbers g missing k [] = refl
+kept_numbers g missing k (x ∷ xs) = elim (cases_Bool (mem k missing)) [
+  | inl gone ↦ rw gone (kept_numbers g missing (k + 1) xs)
+  | inr stays ↦ rw stays (ap (λ r. g x ∷ r) (kept_numbers g missing (k + 1) xs))
+]
+
+pub arrived_map : {A B : Type 0} (g : A → B) (missing : List ℕ) (xs : List A) → arrived missing (map g xs) ≡ map g (arrived missing xs)
+arrived_map g missing xs = kept_numbers g missing 1 xs
+
+checked_films : (missing : List ℕ) (k : ℕ) (lines : List Line) → map (λ line. line.film) (map (checked_line missing) (numbered_from k lines)) ≡ map (λ line. line.film) lines
+checked_films missing k [] = refl
+checked_films missing k (line ∷ lines) = ap (λ r. line.film ∷ r) (checked_films missing (k + 1) lines)
+
+received : Arrival → Arrival
+received it = record it { received = true }
+
+arrival_is : (s : ℕ) (fs gs : List ℕ) (r : Bool) → fs ≡ gs → ◌≡◌ {A = Arrival} (record { source = s; films = fs; received = r }) (record { source = s; films = gs; received = r })
+arrival_is s fs gs r e = rw e
+
+parcel_is : (a : ℕ) (fs gs : List ℕ) → fs ≡ gs → ◌≡◌ {A = Parcel} (record { addressee = a; films = fs }) (record { addressee = a; films = gs })
+parcel_is a fs gs e = rw e
+
+checked_arrival : (missing : List ℕ) (it : Consignment) → ◌≡◌ {A = Arrival} (as_arrival (checked missing it)) (record (as_arrival it) { received = true })
+checked_arrival missing it = arrival_is it.source _ _ true (checked_films missing 1 it.lines)
+
+checked_parcel : (missing : List ℕ) (it : Consignment) → as_parcel (checked missing it) ≡ as_parcel it
+checked_parcel missing it = parcel_is it.addressee _ _ (checked_films missing 1 it.lines)
+
+-- ---- what is sent
+
+films_sent : (b : ℕ) (xs : List ℕ) (rows : List (Row BookCopy)) → IsCounted 1 (map (λ row. row.number) (filter (is_of b) rows))
+    → map (λ line. line.film) (map (λ row. under_way row.it) (rows_at b xs rows)) ≡ films_at xs (map unmarked (of b rows))
+films_sent b [] rows counted = refl
+films_sent b (x ∷ xs) rows counted =
+    let film = λ (copy : Copy). copy.film in
+    let one : map (λ line. line.film) (map (λ row. under_way row.it) (filter (is_row b x) rows)) ≡ map film (at x (map unmarked (of b rows))) =
+    map_map (λ line. line.film) (λ (row : Row BookCopy). under_way row.it) (filter (is_row b x) rows)
+    ∙ (row_at (λ (copy : BookCopy). copy.film) b x rows counted
+    ∙ sym (map_at film x (map unmarked (of b rows)) ∙ rw (map_map film unmarked (of b rows)))) in
+    rw (map-append (λ (row : Row BookCopy). under_way row.it) (filter (is_row b x) rows) (rows_at b xs rows))
+    (rw (map-append (λ (line : Line). line.film) (map (λ row. under_way row.it) (filter (is_row b x) rows)) (map (λ row. under_way row.it) (rows_at b xs rows)))
+    (rw (one, films_sent b xs rows counted)))
+
+-- ---- what comes in
+
+pub arrival_of : (s b n : ℕ) (cs : List Consignment) → IsCounted 1 (map (λ it. it.number) (filter (λ (it : Consignment). it.source == s && it.addressee == b) cs))
+    → at n (filter (λ arrival. arrival.source == s) (map as_arrival (filter (λ it. it.addressee == b) cs))) ≡ map as_arrival (filter (is_consignment s b n) cs)
+arrival_of s b n cs counted =
+    let found = at_numbered (λ (it : Consignment). it.source == s && it.addressee == b) (is_consignment s b n) (λ it. it.number) as_arrival n 1 cs (λ x. refl) counted in
+    let back : n + 1 - 1 ≡ n = omega arith in
+    rw (filter_map (λ (it : Arrival). it.source == s) as_arrival (filter (λ it. it.addressee == b) cs), filter_filter (λ (it : Consignment). it.source == s) (λ it. it.addressee == b) cs)
+    (sym (found ∙ rw back))
+
+incoming_films : (missing : List ℕ) (cs : List Consignment) → incoming missing (map as_arrival cs) ≡ map (λ line. line.film) (flat_map (λ (it : Consignment). arrived missing it.lines) cs)
+incoming_films missing [] = refl
+incoming_films missing (c ∷ cs) =
+    rw (map-append (λ (line : Line). line.film) (arrived missing c.lines) (flat_map (λ (it : Consignment). arrived missing it.lines) cs), arrived_map (λ (line : Line). line.film) missing c.lines, incoming_films missing cs)
+
+-- ---- moments
+
+pub last_own : (b : ℕ) (moment : Moment) (lasts : List (Owned Moment)) → head (owned_by b (set_last b moment lasts)) ≡ Some moment
+last_own b moment lasts = rw (same_test b)
+
+not_same : (b c m : ℕ) → (c == b) ≡ false → (m == b) ≡ true → not (m == c) ≡ true
+not_same b c m differ is = rw (differ_test m c (λ e. differ_if c b differ (sym e ∙ same_if m b is)))
+
+pub last_other : (b c : ℕ) (moment : Moment) (lasts : List (Owned Moment)) → (c == b) ≡ false → owned_by b (set_last c moment lasts) ≡ owned_by b lasts
+last_other b c moment lasts differ =
+    rw (differ, filter_away (λ (row : Owned Moment). row.owner == b) (λ row. not (row.owner == c)) lasts (λ x is. not_same b c x.owner differ is))
+
+-- ---- shops
+
+shop_parts : (a a2 : List Customer) (b b2 : List Copy) (c c2 : List Rental) (d d2 : List Payment) (e e2 : List Text) (f f2 : List Arrival) (g g2 : List Parcel) (h h2 : List Kept) (i i2 : Option Moment)
+    → a ≡ a2 → b ≡ b2 → c ≡ c2 → d ≡ d2 → e ≡ e2 → f ≡ f2 → g ≡ g2 → h ≡ h2 → i ≡ i2
+    → ◌≡◌ {A = Shop} (record { customers = a; copies = b; rentals = c; payments = d; lots = e; arrivals = f; sent = g; kept = h; last = i })
+    (record { customers = a2; copies = b2; rentals = c2; payments = d2; lots = e2; arrivals = f2; sent = g2; kept = h2; last = i2 })
+shop_parts a a2 b b2 c c2 d d2 e e2 f f2 g g2 h h2 i i2 ea eb ec ed ee ef eg eh ei = rw (ea, eb, ec, ed, ee, ef, eg, eh, ei)
+
+pub shop_is : (s t : Shop) → s.customers ≡ t.customers → s.copies ≡ t.copies → s.rentals ≡ t.rentals → s.payments ≡ t.payments → s.lots ≡ t.lots → s.arrivals ≡ t.arrivals → s.sent ≡ t.sent → s.kept ≡ t.kept → s.last ≡ t.last → s ≡ t
+shop_is s t ea eb ec ed ee ef eg eh ei = shop_parts _ _ _ _ _ _ _ _ _ _ _ _ _ _ _ _ _ _ ea eb ec ed ee ef eg eh ei
+
+-- with all but the kept rows and the last moment
+pub acted_own : (rules : Rules) (b : ℕ) (command : Command) (act : Act) (books : Books) → HasNumbers books
+    → ((xs : List ℕ) → act ≡ Dispatch b xs → ⊥)
+    → shop_of b (book_acted rules b command act books) ≡ acted rules command act (shop_of b books)
+acted_own rules b command (AddCustomer person) books has away = shop_is _ _ (put_own b (λ _. record { person = person; active = true; created = command.moment }) books.customers) refl refl refl refl refl refl refl refl
+acted_own rules b command (SetActive c active) books has away = shop_is _ _ (set_own b c _ books.customers (has.customers b)) refl refl refl refl refl refl refl refl
+acted_own rules b command (Rent c x) books has away = shop_is _ _ refl refl (put_own b (λ _. record { rented = command.moment; copy = x; customer = c; returned = None; staff = command.staff }) books.rentals) refl refl refl refl refl refl
+acted_own rules b command (TakeBack r) books has away = shop_is _ _ refl refl (set_own b r _ books.rentals (has.rentals b)) refl refl refl refl refl refl
+acted_own rules b command (Pay c rental amount) books has away = shop_is _ _ refl refl refl (put_own b (λ _. record { customer = c; staff = command.staff; rental = rental; amount = amount; paid = command.moment }) books.payments) refl refl refl refl refl
+acted_own rules b command (Import lot file) books has away =
+    shop_is _ _ refl (put_all_own unmarked (imported b) here b (films_in (rules.stock_of file)) books.copies (λ c n. refl)) refl refl
+    (more_yes (λ (row : Owned Text). row.it) (λ row. row.owner == b) books.lots (record { owner = b; it = lot }) (same_test b)) refl refl refl refl
+acted_own rules b command (Dispatch to xs) books has away = elim (cases_Bool (to == b)) [
+  | inl is ↦ absurd (away xs (rw (same_if to b is)))
+  | inr isnt ↦
+      shop_is _ _ refl (rw (set_rows_own b xs (put_state Sent) books.copies (has.copies b)) (map_set_all unmarked (put_state Sent) (with_state Sent) xs (of b books.copies) (λ x. refl))) refl refl refl
+      (more_no as_arrival (λ (it : Consignment). it.addressee == b) books.consignments (new_consignment b to xs books) isnt)
+      (more_yes as_parcel (λ (it : Consignment). it.source == b) books.consignments (new_consignment b to xs books) (same_test b)
+      ∙ ap (λ fs. map as_parcel (filter (λ it. it.source == b) books.consignments) ++ record { addressee = to; films = fs } ∷ []) (films_sent b xs books.copies (has.copies b)))
+      refl refl
+]
+acted_own rules b command (Receive source number missing) books has away =
+    let counted = has.consignments source b in
+    let back : number + 1 - 1 ≡ number = omega arith in
+    let films : map (λ line. line.film) (come source b number missing books.consignments) ≡ incoming missing (arrival source number (shop_of b books)) =
+    sym (rw (arrival_of source b number books.consignments counted) (incoming_films missing (filter (is_consignment source b number) books.consignments))) in
+    shop_is _ _ refl
+    (put_all_own unmarked unpacked (λ line. here line.film) b (come source b number missing books.consignments) books.copies (λ c n. refl)
+    ∙ ap (λ cs. map unmarked (of b books.copies) ++ cs) (sym (map_map here (λ (line : Line). line.film) (come source b number missing books.consignments)) ∙ ap (map here) films))
+    refl refl refl
+    (set_numbered_among (λ (it : Consignment). it.addressee == b) (λ it. it.source == source) (is_consignment source b number) (λ it. it.source == source) (λ it. it.number) (checked missing) as_arrival (λ it. record it { received = true }) number 1 books.consignments
+    (λ x. refl) (λ x. refl) (λ x. refl) (checked_arrival missing) counted ∙ rw back)
+    (set_same (λ (it : Consignment). it.source == b) (is_consignment source b number) (checked missing) as_parcel books.consignments (λ x. refl) (checked_parcel missing))
+    refl refl
+acted_own rules b command (Scrap x) books has away =
+    shop_is _ _ refl (rw (set_own b x (put_state Scrapped) books.copies (has.copies b)) (map_set_at unmarked (put_state Scrapped) (with_state Scrapped) x (of b books.copies) (λ x. refl))) refl refl refl refl refl refl refl
+
+kept_own : (rules : Rules) (b : ℕ) (command : Command) (books : Books) → (t : Shop) → shop_of b (book_acted rules b command command.act books) ≡ t
+    → shop_of b (book_done rules b command books) ≡ record t { kept = (shop_of b books).kept ++ record { command = command; reply = reply_text rules command (shop_of b books) } ∷ []; last = Some command.moment }
+kept_own rules b command books t e =
+    shop_is _ _ (ap (λ (s : Shop). s.customers) e) (ap (λ (s : Shop). s.copies) e) (ap (λ (s : Shop). s.rentals) e) (ap (λ (s : Shop). s.payments) e) (ap (λ (s : Shop). s.lots) e) (ap (λ (s : Shop). s.arrivals) e) (ap (λ (s : Shop). s.sent) e)
+    (more_yes (λ (row : Owned Kept). row.it) (λ row. row.owner == b) books.kept (record { owner = b; it = record { command = command; reply = reply_text rules command (shop_of b books) } }) (same_test b))
+    (last_own b command.moment books.lasts)
+
+pub done_own : (rules : Rules) (b : ℕ) (command : Command) (books : Books) → HasNumbers books → ((xs : List ℕ) → command.act ≡ Dispatch b xs → ⊥)
+    → shop_of b (book_done rules b command books) ≡ done rules command (shop_of b books)
+done_own rules b command books has away = kept_own rules b command books (acted rules command command.act (shop_of b books)) (acted_own rules b command command.act books has away)
+
+-- ---- another branch's shop
+
+abbrev pub with_arrivals : ℕ → ℕ → Act → Books → Shop
+with_arrivals b c (Dispatch to xs) books = if to == b then record (shop_of b books) { arrivals = (shop_of b books).arrivals ++ record { source = c; films = films_at xs (shop_of c books).copies; received = false } ∷ [] } else shop_of b books
+with_arrivals b c act books = shop_of b books
+
+pub acted_other : (rules : Rules) (b c : ℕ) (command : Command) (act : Act) (books : Books) → HasNumbers books → (c == b) ≡ false
+    → shop_of b (book_acted rules c command act books) ≡ with_arrivals b c act books
+acted_other rules b c command (AddCustomer person) books has differ = shop_is _ _ (put_other b c (λ _. record { person = person; active = true; created = command.moment }) books.customers differ) refl refl refl refl refl refl refl refl
+acted_other rules b c command (SetActive n active) books has differ = shop_is _ _ (set_row_other b c n (λ it. record it { active = active }) books.customers differ) refl refl refl refl refl refl refl refl
+acted_other rules b c command (Rent n x) books has differ = shop_is _ _ refl refl (put_other b c (λ _. record { rented = command.moment; copy = x; customer = n; returned = None; staff = command.staff }) books.rentals differ) refl refl refl refl refl refl
+acted_other rules b c command (TakeBack r) books has differ = shop_is _ _ refl refl (set_row_other b c r (λ it. record it { returned = Some command.moment }) books.rentals differ) refl refl refl refl refl refl
+acted_other rules b c command (Pay n rental amount) books has differ = shop_is _ _ refl refl refl (put_other b c (λ _. record { customer = n; staff = command.staff; rental = rental; amount = amount; paid = command.moment }) books.payments differ) refl refl refl refl refl
+acted_other rules b c command (Import lot file) books has differ =
+    shop_is _ _ refl (ap (map unmarked) (put_all_other b c (map (imported c) (films_in (rules.stock_of file))) books.copies differ)) refl refl
+    (more_no (λ (row : Owned Text). row.it) (λ row. row.owner == b) books.lots (record { owner = c; it = lot }) differ) refl refl refl refl
+acted_other rules b c command (Dispatch to xs) books has differ =
+    let copies = ap (map unmarked) (set_rows_other b c xs (put_state Sent) books.copies differ) in
+    let sent = more_no as_parcel (λ (it : Consignment). it.source == b) books.consignments (new_consignment c to xs books) differ in
+    elim (cases_Bool (to == b)) [
+      | inl is ↦ rw is (shop_is _ _ refl copies refl refl refl
+          (more_yes as_arrival (λ (it : Consignment). it.addressee == b) books.consignments (new_consignment c to xs books) is
+          ∙ ap (λ fs. map as_arrival (filter (λ it. it.addressee == b) books.consignments) ++ record { source = c; films = fs; received = false } ∷ []) (films_sent c xs books.copies (has.copies c)))
+          sent refl refl)
+      | inr isnt ↦ rw isnt (shop_is _ _ refl copies refl refl refl
+          (more_no as_arrival (λ (it : Consignment). it.addressee == b) books.consignments (new_consignment c to xs books) isnt)
+          sent refl refl)
+    ]
+acted_other rules b c command (Receive source number missing) books has differ =
+    shop_is _ _ refl (ap (map unmarked) (put_all_other b c (map unpacked (come source c number missing books.consignments)) books.copies differ)) refl refl refl
+    (set_other (λ (it : Consignment). it.addressee == b) (is_consignment source c number) (checked missing) as_arrival books.consignments (λ x. refl) (λ x is. no_arrival x is))
+    (set_same (λ (it : Consignment). it.source == b) (is_consignment source c number) (checked missing) as_parcel books.consignments (λ x. refl) (checked_parcel missing))
+    refl refl where
+      no_arrival : (x : Consignment) → (x.addressee == b) ≡ true → is_consignment source c number x ≡ false
+      no_arrival x is = elim (cases_Bool (x.source == source)) [
+        | inl from ↦ rw (from, differ_test x.addressee c (λ e. differ_if c b differ (sym e ∙ same_if x.addressee b is)))
+        | inr other ↦ rw other
+      ]
+acted_other rules b c command (Scrap x) books has differ = shop_is _ _ refl (ap (map unmarked) (set_row_other b c x (put_state Scrapped) books.copies differ)) refl refl refl refl refl refl refl
+
+pub done_other : (rules : Rules) (b c : ℕ) (command : Command) (books : Books) → HasNumbers books → (c == b) ≡ false
+    → shop_of b (book_done rules c command books) ≡ with_arrivals b c command.act books
+done_other rules b c command books has differ =
+    let e = acted_other rules b c command command.act books has differ in
+    let kept = more_no (λ (row : Owned Kept). row.it) (λ row. row.owner == b) books.kept (record { owner = c; it = record { command = command; reply = reply_text rules command (shop_of c books) } }) differ in
+    let last = ap head (last_other b c command.moment books.lasts differ) in
+    shop_is _ (shop_of b (book_acted rules c command command.act books)) refl refl refl refl refl refl refl
+    (kept ∙ sym (acted_kept rules c b command command.act books)) (last ∙ sym (acted_last rules c b command command.act books)) ∙ e where
+      acted_kept : (rules : Rules) (c b : ℕ) (command : Command) (act : Act) (books : Books) → (shop_of b (book_acted rules c command act books)).kept ≡ (shop_of b books).kept
+      acted_kept rules c b command (AddCustomer person) books = refl
+      acted_kept rules c b command (SetActive n active) books = refl
+      acted_kept rules c b command (Rent n x) books = refl
+      acted_kept rules c b command (TakeBack r) books = refl
+      acted_kept rules c b command (Pay n rental amount) books = refl
+      acted_kept rules c b command (Import lot file) books = refl
+      acted_kept rules c b command (Dispatch to xs) books = refl
+      acted_kept rules c b command (Receive source number missing) books = refl
+      acted_kept rules c b command (Scrap x) books = refl
+
+      acted_last : (rules : Rules) (c b : ℕ) (command : Command) (act : Act) (books : Books) → (shop_of b (book_acted rules c command act books)).last ≡ (shop_of b books).last
+      acted_last rules c b command (AddCustomer person) books = refl
+      acted_last rules c b command (SetActive n active) books = refl
+      acted_last rules c b command (Rent n x) books = refl
+      acted_last rules c b command (TakeBack r) books = refl
+      acted_last rules c b command (Pay n rental amount) books = refl
+      acted_last rules c b command (Import lot file) books = refl
+      acted_last rules c b command (Dispatch to xs) books = refl
+      acted_last rules c b command (Receive source number missing) books = refl
+      acted_last rules c b command (Scrap x) books = refl

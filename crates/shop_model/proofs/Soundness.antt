@@ -1,0 +1,465 @@
+-- Each step keeps the books sound.
+use Rattle.std.proofs.Common.{◌≡◌, inl, inr, ℕ, ◌+◌, ◌-◌, ◌≤◌, List, [], ◌∷◌, ◌++◌, suc, length, filter, map, Bool, true, false, not, None, Some, refl, sym, subst, ap, ◌∙◌, arith, append-nil}
+use Rattle.std.specs.Prelude.{◌==◌, ◌&&◌, ◌||◌, nat_lt, flat_map, is_none}
+use Rattle.std.specs.List.{list_any, list_all}
+use Rattle.std.proofs.lemmas.Bool.{cases_Bool}
+use Rattle.shop_model.specs.Rows.{Row, at, lacks, set_at, set_all, is_empty, is_row, next, mem, has_double}
+use Rattle.shop_model.specs.Calendar.{Moment}
+use Rattle.shop_model.specs.Values.{Branch, OfficeCommand, Copy, CopyState, Here, Sent, Scrapped, Rental, Arrival, Act, AddCustomer, SetActive, Rent, TakeBack, Pay, Import, Dispatch, Receive, Scrap, Command, Rules}
+use Rattle.shop_model.specs.Shop.{Kept, Shop, Catalogue}
+use Rattle.shop_model.specs.Stock.{is_here, in_stock, keeps_out}
+use Rattle.shop_model.specs.Verdict.{Accepted, first, refusals, verdict, office_verdict, act_refusals, is_away, arrival}
+use Rattle.shop_model.specs.Machine.{Request, Unread, Do, Look, Office, OfficeLook, acted, done, reply_text, catalogue_after, office_done, here, with_state, films_in, incoming}
+use Rattle.shop_model.specs.Books.{Books, BookCopy, Mark, Line, UnderWay, Missing, Consignment, Event, Caller, Counter, HeadOffice, Nobody, shop_of, unmarked, as_arrival, book_acted, book_done, is_consignment, imported, unpacked, put_state, rows_at, under_way, checked, come, new_consignment, branch_after, after_for, after, caller_in, last_books}
+use Rattle.shop_model.specs.Sound.{one, copy_is, line_is, HasNumbers, HasOwners, HasCustody, HasOneHolder, IsSound, all_lines, lines_in, is_settled}
+use Rattle.shop_model.specs.Laws.{StaySound, StaySoundWithin, CopiesAreInOnePlace, OpeningIsSound, EmptyIsSound, OpeningBooksAreSound}
+use Rattle.shop_model.specs.Opening.{empty_catalogue, opening_catalogue}
+use Rattle.shop_model.specs.Links.{is_staff_of, IsLinkedShop, IsGoodCatalogue}
+use Rattle.std.specs.Option.{option_to_list}
+use Rattle.std.specs.Str.{bytes_eq}
+use Rattle.std.proofs.lemmas.Bool.Decides.{nat_tests}
+use Rattle.shop_model.proofs.RowLemmas.{same_if, differ_if, row_at, one_more}
+use Rattle.shop_model.proofs.ShopLemmas.{arrival_of, done_own, done_other, with_arrivals}
+use Rattle.shop_model.proofs.NumberLemmas.{acted_numbers}
+use Rattle.shop_model.proofs.Isolation.{is_accepted, accepted_is, not_accepted, NoneHold, accepted_holds, act_holds, not_self, catalogue_stays}
+use Rattle.shop_model.proofs.GoodShops.{good_acted}
+use Rattle.shop_model.proofs.LinkLemmas.{at_set_other, none_left}
+use Rattle.shop_model.proofs.LinkedShops.{linked_acted, linked_kept, linked_other}
+use Rattle.shop_model.proofs.GoodCatalogues.{Grows, done_grows, good_done, linked_grows}
+use Rattle.shop_model.proofs.Owners.{staff_works, branch_there, owners_done, owners_grow, places_kept}
+use Rattle.shop_model.proofs.Resent.{none_kept}
+use Rattle.shop_model.proofs.Origins.{origins_kept}
+use Rattle.shop_model.specs.GoodShop.{IsGoodShop}
+use Rattle.shop_model.proofs.CustodyLemmas.{total-append, AreHere, AllHere, or_parts, scrapped_total, sent_total, sent_unscrapped, state_made, states_made, lines_sent, lines_unlost, import_total, put_unscrapped, unpacked_total, unpacked_made, UnderWayOld, is_mark, under_way_old, made_old, made_once, AreOpen, come_old, received_total, settled_checked, settled_new, settled_sent}
+
+apart : true ≡ false → ⊥
+apart e = cc
+
+-- ---- from the verdict
+
+any_none : (p : ℕ → Bool) (xs : List ℕ) (x : ℕ) → list_any p xs ≡ false → mem x xs ≡ true → p x ≡ false
+any_none p [] x none within = absurd (apart (sym within))
+any_none p (y ∷ ys) x none within =
+    let h = or_parts (p y) (list_any p ys) none in
+    elim (cases_Bool (y == x)) [
+      | inl is ↦ rw (sym (same_if y x is)) h.0
+      | inr isnt ↦ any_none p ys x h.1 (rw isnt at within)
+    ]
+
+here_same : (copy : BookCopy) → is_here (unmarked copy) ≡ copy_is copy.state Here
+here_same copy = by_state copy.film copy.state where
+  by_state : (film : ℕ) (s : CopyState) → is_here (record { film = film; state = s }) ≡ copy_is s Here
+  by_state film Here = refl
+  by_state film Sent = refl
+  by_state film Scrapped = refl
+
+away_same : (rows : List (Row BookCopy)) → list_any (λ copy. not (is_here copy)) (map (λ (row : Row BookCopy). unmarked row.it) rows) ≡ list_any (λ (row : Row BookCopy). not (copy_is row.it.state Here)) rows
+away_same [] = refl
+away_same (row ∷ rows) = rw (here_same row.it, away_same rows)
+
+-- what is here in the shop is here in the books
+are_here : (b x : ℕ) (books : Books) → HasNumbers books → is_away (shop_of b books).copies x ≡ false → AreHere b x books.copies
+are_here b x books has isnt = sym (away_same (filter (is_row b x) books.copies)) ∙ (rw (row_at unmarked b x books.copies (has.copies b)) isnt)
+
+open_same : (cs : List Consignment) → list_any (λ (it : Arrival). it.received) (map as_arrival cs) ≡ list_any (λ (it : Consignment). it.received) cs
+open_same [] = refl
+open_same (c ∷ cs) = ap (λ r. c.received || r) (open_same cs)
+
+-- ---- custody
+
+custody_kept : (rules sizes : Rules) (b : ℕ) (catalogue : Catalogue) (command : Command) (act : Act) (books : Books) → IsSound sizes books
+    → NoneHold (act_refusals rules b catalogue (shop_of b books) command.moment act) → HasCustody (book_acted rules b command act books)
+custody_kept rules sizes b catalogue command (AddCustomer person) books sound none = sound.custody
+custody_kept rules sizes b catalogue command (SetActive c active) books sound none = sound.custody
+custody_kept rules sizes b catalogue command (Rent c x) books sound none = sound.custody
+custody_kept rules sizes b catalogue command (TakeBack r) books sound none = sound.custody
+custody_kept rules sizes b catalogue command (Pay c rental amount) books sound none = sound.custody
+custody_kept rules sizes b catalogue command (Import lot file) books sound none = λ test.
+    let films = films_in (rules.stock_of file) in
+    let before = sound.custody test in
+    let i = import_total test b films books.copies in
+    let s = put_unscrapped test b (imported b) films books.copies (λ c n. refl) in
+    omega (arith, before, i, s)
+custody_kept rules sizes b catalogue command (Dispatch to xs) books sound none = λ test.
+    let before = sound.custody test in
+    let away : list_any (is_away (shop_of b books).copies) xs ≡ false = none.1.0 in
+    let single : has_double xs ≡ false = (or_parts (is_empty xs || nat_lt 100 (length xs)) (has_double xs) none.1.1.1.1.1.0).1 in
+    let are : AllHere b xs books.copies = λ x within. are_here b x books sound.numbers (any_none (is_away (shop_of b books).copies) xs x away within) in
+    let h = sent_total test b xs books.copies single are in
+    let s = sent_unscrapped test b xs books.copies single are in
+    let m = states_made test b xs Sent books.copies in
+    let lines = λ (it : Consignment). it.lines in
+    let new = new_consignment b to xs books in
+    let u1 = lines_more UnderWay test books.consignments new in
+    let m1 = lines_more Missing test books.consignments new in
+    let u2 = lines_sent test (rows_at b xs books.copies) in
+    let m2 = lines_unlost test (rows_at b xs books.copies) in
+    omega (arith, before, h, s, m, u1, m1, u2, m2) where
+      lines_more : (state : Rattle.shop_model.specs.Books.LineState) (test : Mark → Bool) (cs : List Consignment) (c : Consignment)
+          → lines_in state test (flat_map (λ (it : Consignment). it.lines) (cs ++ c ∷ [])) ≡ lines_in state test (flat_map (λ (it : Consignment). it.lines) cs) + lines_in state test c.lines
+      lines_more state test [] c = rw append-nil (omega arith)
+      lines_more state test (d ∷ cs) c =
+          let w = λ (line : Line). one (line_is line.state state && test line.mark) in
+          let a = total-append w d.lines (flat_map (λ (it : Consignment). it.lines) (cs ++ c ∷ [])) in
+          let e = total-append w d.lines (flat_map (λ (it : Consignment). it.lines) cs) in
+          let more = lines_more state test cs c in
+          omega (arith, a, e, more)
+custody_kept rules sizes b catalogue command (Receive source number missing) books sound none = λ test.
+    let before = sound.custody test in
+    let q = is_consignment source b number in
+    let opens : AreOpen q books.consignments = sym (open_same (filter q books.consignments)) ∙ rw (sym (arrival_of source b number books.consignments (sound.numbers.consignments source b))) none.1.0 in
+    let old : UnderWayOld b (next b books.copies) (all_lines books) = under_way_old b (next b books.copies) (all_lines books) (λ mark some. let c = sound.custody (is_mark mark) in made_old b mark books.copies (sound.numbers.copies b) (omega (arith, some, c))) in
+    let lines = come source b number missing books.consignments in
+    let m = unpacked_made test b lines books.copies (come_old b (next b books.copies) missing q books.consignments sound.settled opens old) in
+    let h = unpacked_total test b lines books.copies in
+    let s = put_unscrapped test b unpacked lines books.copies (λ c n. refl) in
+    let r = received_total test missing q books.consignments sound.settled opens in
+    omega (arith, before, m, h, s, r)
+custody_kept rules sizes b catalogue command (Scrap x) books sound none = λ test.
+    let before = sound.custody test in
+    let h = scrapped_total test b x books.copies (are_here b x books sound.numbers none.1.0) in
+    let m = state_made test b x Scrapped books.copies in
+    omega (arith, before, h, m)
+
+settled_kept : (rules : Rules) (b : ℕ) (command : Command) (act : Act) (books : Books) → list_all is_settled books.consignments ≡ true → list_all is_settled (book_acted rules b command act books).consignments ≡ true
+settled_kept rules b command (AddCustomer person) books settled = settled
+settled_kept rules b command (SetActive c active) books settled = settled
+settled_kept rules b command (Rent c x) books settled = settled
+settled_kept rules b command (TakeBack r) books settled = settled
+settled_kept rules b command (Pay c rental amount) books settled = settled
+settled_kept rules b command (Import lot file) books settled = settled
+settled_kept rules b command (Dispatch to xs) books settled = settled_sent books.consignments (new_consignment b to xs books) settled (settled_new (rows_at b xs books.copies))
+settled_kept rules b command (Receive source number missing) books settled = settled_checked missing (is_consignment source b number) books.consignments settled
+settled_kept rules b command (Scrap x) books settled = settled
+
+-- ---- one holder
+
+at_set_all_other : {A : Type 0} (ns : List ℕ) (y : ℕ) (f : A → A) (xs : List A) → mem y ns ≡ false → at y (set_all ns f xs) ≡ at y xs
+at_set_all_other [] y f xs out = refl
+at_set_all_other (n ∷ ns) y f xs out =
+    let h = or_parts (n == y) (mem y ns) out in
+    at_set_all_other ns y f (set_at n f xs) h.1 ∙ at_set_other n y f xs (differ_if n y h.0)
+
+at_more : {A : Type 0} (p : A → Bool) (x : ℕ) (xs ys : List A) → list_any p (at x xs) ≡ true → list_any p (at x (xs ++ ys)) ≡ true
+at_more p x [] ys some = absurd (apart (sym some))
+at_more p x (it ∷ xs) ys some = elim (cases_Bool (x == 1)) [
+  | inl is ↦ let h : list_any p (it ∷ []) ≡ true = rw is at some in rw is h
+  | inr isnt ↦ rw isnt (at_more p (x - 1) xs ys (rw isnt at some))
+]
+
+none_none : {A : Type 0} (p : A → Bool) (xs : List A) → list_any p xs ≡ false → filter p xs ≡ []
+none_none p [] none = refl
+none_none p (x ∷ xs) none = let h = or_parts (p x) (list_any p xs) none in rw h.0 (none_none p xs h.1)
+
+some_more : {A : Type 0} (p : A → Bool) (xs : List A) (x : A) → list_any p (xs ++ x ∷ []) ≡ (list_any p xs || p x)
+some_more p [] x = elim (cases_Bool (p x)) [ inl is ↦ rw is | inr isnt ↦ rw isnt ]
+some_more p (y ∷ ys) x = elim (cases_Bool (p y)) [ inl is ↦ rw is | inr isnt ↦ rw isnt (some_more p ys x) ]
+
+not_false : (a : Bool) → not a ≡ false → a ≡ true
+not_false true e = refl
+not_false false e = sym e
+
+not_true : (a : Bool) → not a ≡ true → a ≡ false
+not_true true e = sym e
+not_true false e = refl
+
+-- rentals with no more open ones than before
+fewer_open : (x r : ℕ) (moment : Moment) (rentals : List Rental)
+    → (length (filter (keeps_out x) (set_at r (λ it. record it { returned = Some moment }) rentals)) ≤ length (filter (keeps_out x) rentals))
+    × (list_any (keeps_out x) (set_at r (λ it. record it { returned = Some moment }) rentals) ≡ true → list_any (keeps_out x) rentals ≡ true)
+fewer_open x r moment [] = (omega arith, λ e. e)
+fewer_open x r moment (it ∷ rentals) = elim (cases_Bool (r == 1)) [
+  | inl hit ↦ elim (cases_Bool (it.copy == x)) [
+    | inl same ↦ elim (cases_Bool (is_none it.returned)) [
+      | inl out ↦ rw (hit, same, out) (omega arith, λ e. refl)
+      | inr back ↦ rw (hit, same, back) (omega arith, λ e. e)
+    ]
+    | inr other ↦ rw (hit, other) (omega arith, λ e. e)
+  ]
+  | inr miss ↦
+      let more = fewer_open x (r - 1) moment rentals in
+      elim (cases_Bool (keeps_out x it)) [
+        | inl out ↦ rw (miss, out) (more_fewer _ _ more.0, λ e. refl)
+        | inr back ↦ rw (miss, back) more
+      ]
+] where
+  more_fewer : (a c : ℕ) → a ≤ c → suc a ≤ suc c
+  more_fewer a c le = omega (arith, le)
+
+-- ---- what a shop's command keeps
+
+holder_same : (s t : Shop) → s.rentals ≡ t.rentals → s.copies ≡ t.copies → HasOneHolder s → HasOneHolder t
+holder_same s t e f h = record {
+  one = λ x. rw (← e) (h.one x);
+  here = λ x out. rw (← f) (h.here x (rw (← e) at out));
+}
+
+out_now : (x : ℕ) (rentals : List Rental) → in_stock x rentals ≡ false → list_any (keeps_out x) rentals ≡ true
+out_now x rentals e = not_false (list_any (keeps_out x) rentals) e
+
+holder_kept : (rules : Rules) (b : ℕ) (catalogue : Catalogue) (command : Command) (act : Act) (shop : Shop) → HasOneHolder shop
+    → NoneHold (act_refusals rules b catalogue shop command.moment act) → HasOneHolder (acted rules command act shop)
+holder_kept rules b catalogue command (AddCustomer person) shop h none = record { one = h.one; here = h.here }
+holder_kept rules b catalogue command (SetActive c active) shop h none = record { one = h.one; here = h.here }
+holder_kept rules b catalogue command (Rent c x) shop h none = record {
+  one = λ y. elim (cases_Bool (x == y)) [
+    | inl is ↦
+        let e : filter (keeps_out y) shop.rentals ≡ [] = rw (sym (same_if x y is)) (none_none (keeps_out x) shop.rentals closed) in
+        rw (one_more (keeps_out y) shop.rentals new, is, e) (omega arith)
+    | inr isnt ↦ rw (one_more (keeps_out y) shop.rentals new, isnt) (h.one y)
+  ];
+  here = λ y out. elim (cases_Bool (x == y)) [
+    | inl is ↦ rw (sym (same_if x y is)) (present shop.copies x none.1.1.0 none.1.1.1.0)
+    | inr isnt ↦ h.here y (still y isnt out)
+  ];
+} where
+  new : Rental
+  new = record { rented = command.moment; copy = x; customer = c; returned = None; staff = command.staff }
+
+  closed : list_any (keeps_out x) shop.rentals ≡ false
+  closed = not_true (list_any (keeps_out x) shop.rentals) (not_false _ none.1.1.1.1.0)
+
+  still : (y : ℕ) → (x == y) ≡ false → in_stock y (shop.rentals ++ record { rented = command.moment; copy = x; customer = c; returned = None; staff = command.staff } ∷ []) ≡ false → in_stock y shop.rentals ≡ false
+  still y isnt out =
+      let plain : (list_any (keeps_out y) shop.rentals || (x == y && true)) ≡ list_any (keeps_out y) shop.rentals = rw isnt (or_false (list_any (keeps_out y) shop.rentals)) in
+      let e : list_any (keeps_out y) (shop.rentals ++ record { rented = command.moment; copy = x; customer = c; returned = None; staff = command.staff } ∷ []) ≡ list_any (keeps_out y) shop.rentals = some_more (keeps_out y) shop.rentals (record { rented = command.moment; copy = x; customer = c; returned = None; staff = command.staff }) ∙ plain in
+      sym (ap not e) ∙ out where
+        or_false : (a : Bool) → (a || false) ≡ a
+        or_false true = refl
+        or_false false = refl
+
+  present : (copies : List Copy) (x : ℕ) → lacks copies x ≡ false → is_away copies x ≡ false → list_any is_here (at x copies) ≡ true
+  present copies x has isnt = by_row (at x copies) has isnt where
+    by_row : (xs : List Copy) → is_empty xs ≡ false → list_any (λ copy. not (is_here copy)) xs ≡ false → list_any is_here xs ≡ true
+    by_row [] e f = absurd (apart e)
+    by_row (copy ∷ xs) e f = rw (not_false (is_here copy) (or_parts (not (is_here copy)) _ f).0)
+holder_kept rules b catalogue command (TakeBack r) shop h none = record {
+  one = λ x. let fewer = (fewer_open x r command.moment shop.rentals).0 in let before = h.one x in omega (arith, fewer, before);
+  here = λ x out. let some = (fewer_open x r command.moment shop.rentals).1 (out_now x (set_at r (λ it. record it { returned = Some command.moment }) shop.rentals) out) in h.here x (rw some);
+}
+holder_kept rules b catalogue command (Pay c rental amount) shop h none = record { one = h.one; here = h.here }
+holder_kept rules b catalogue command (Import lot file) shop h none = record { one = h.one; here = λ x out. at_more is_here x shop.copies (map here (films_in (rules.stock_of file))) (h.here x out) }
+holder_kept rules b catalogue command (Dispatch to xs) shop h none = record {
+  one = h.one;
+  here = λ x out. elim (cases_Bool (mem x xs)) [
+    | inl sent ↦ let stays : not (in_stock x shop.rentals) ≡ false = any_none (λ x. not (in_stock x shop.rentals)) xs x none.1.1.0 sent in absurd (apart (sym (not_false _ stays) ∙ out))
+    | inr unsent ↦ rw (at_set_all_other xs x (with_state Sent) shop.copies unsent) (h.here x out)
+  ];
+}
+holder_kept rules b catalogue command (Receive source number missing) shop h none = record { one = h.one; here = λ x out. at_more is_here x shop.copies (map here (incoming missing (arrival source number shop))) (h.here x out) }
+holder_kept rules b catalogue command (Scrap x) shop h none = record {
+  one = h.one;
+  here = λ y out. elim (cases_Bool (x == y)) [
+    | inl is ↦ let e : y ≡ x = sym (same_if x y is) in let stays : in_stock y shop.rentals ≡ true = rw e (not_false (in_stock x shop.rentals) none.1.1.0) in absurd (apart (sym stays ∙ out))
+    | inr isnt ↦ rw (at_set_other x y (with_state Scrapped) shop.copies (differ_if x y isnt)) (h.here y out)
+  ];
+}
+
+holder_other : (b c : ℕ) (act : Act) (books : Books) → HasOneHolder (shop_of b books) → HasOneHolder (with_arrivals b c act books)
+holder_other b c (Dispatch to xs) books h = elim (cases_Bool (to == b)) [
+  | inl is ↦ rw is (holder_same (shop_of b books) _ refl refl h)
+  | inr isnt ↦ rw isnt h
+]
+holder_other b c (AddCustomer person) books h = h
+holder_other b c (SetActive n active) books h = h
+holder_other b c (Rent n x) books h = h
+holder_other b c (TakeBack r) books h = h
+holder_other b c (Pay n rental amount) books h = h
+holder_other b c (Import lot file) books h = h
+holder_other b c (Receive source number missing) books h = h
+holder_other b c (Scrap x) books h = h
+
+good_same : (rules : Rules) (shop : Shop) (arrivals : List Arrival) → IsGoodShop rules shop → IsGoodShop rules (record shop { arrivals = arrivals })
+good_same rules shop arrivals h = record { apart = h.apart; created = h.created; rented = h.rented; paid = h.paid; rentals_rise = h.rentals_rise; payments_rise = h.payments_rise; keys = h.keys; copies = h.copies; customers_fit = h.customers_fit; rentals_fit = h.rentals_fit; payments_fit = h.payments_fit; lots_fit = h.lots_fit; sent_fit = h.sent_fit }
+
+good_other : (rules : Rules) (b c : ℕ) (act : Act) (books : Books) → IsGoodShop rules (shop_of b books) → IsGoodShop rules (with_arrivals b c act books)
+good_other rules b c (Dispatch to xs) books h = elim (cases_Bool (to == b)) [
+  | inl is ↦ rw is (good_same rules (shop_of b books) _ h)
+  | inr isnt ↦ rw isnt h
+]
+good_other rules b c (AddCustomer person) books h = h
+good_other rules b c (SetActive n active) books h = h
+good_other rules b c (Rent n x) books h = h
+good_other rules b c (TakeBack r) books h = h
+good_other rules b c (Pay n rental amount) books h = h
+good_other rules b c (Import lot file) books h = h
+good_other rules b c (Receive source number missing) books h = h
+good_other rules b c (Scrap x) books h = h
+
+-- ---- a step and a run
+
+kept_same : (rules : Rules) (command : Command) (act : Act) (shop : Shop) → shop.kept ≡ (acted rules command act shop).kept
+kept_same rules command (AddCustomer person) shop = refl
+kept_same rules command (SetActive n active) shop = refl
+kept_same rules command (Rent n x) shop = refl
+kept_same rules command (TakeBack r) shop = refl
+kept_same rules command (Pay n rental amount) shop = refl
+kept_same rules command (Import lot file) shop = refl
+kept_same rules command (Dispatch to xs) shop = refl
+kept_same rules command (Receive source number missing) shop = refl
+kept_same rules command (Scrap x) shop = refl
+
+links_own : (rules : Rules) (b : ℕ) (catalogue : Catalogue) (command : Command) (shop : Shop) → IsLinkedShop b catalogue shop → verdict rules b catalogue shop command ≡ Accepted → is_staff_of b catalogue.staff command.staff ≡ true
+    → IsLinkedShop b catalogue (done rules command shop)
+links_own rules b catalogue command shop linked e works =
+    let none = act_holds rules b catalogue shop command e in
+    let k : Kept = record { command = command; reply = reply_text rules command shop } in
+    let fresh = none_kept command (filter (λ (k : Kept). bytes_eq k.command.key command.key) shop.kept) (first (refusals rules b catalogue shop command)) e in
+    linked_kept b catalogue k (Some command.moment) (acted rules command command.act shop) (linked_acted rules b catalogue command command.act shop linked works none) shop.kept (kept_same rules command command.act shop)
+    (none_left (λ (it : Kept). bytes_eq it.command.key command.key) shop.kept fresh)
+
+done_sound : (rules sizes : Rules) (b : ℕ) (command : Command) (books : Books) → rules.commands ≤ sizes.commands → rules.copies ≤ sizes.copies → IsSound sizes books
+    → verdict rules b books.catalogue (shop_of b books) command ≡ Accepted → IsSound sizes (book_done rules b command books)
+done_sound rules sizes b command books most fit sound e =
+    let all = accepted_holds rules b books.catalogue (shop_of b books) command e in
+    let none = act_holds rules b books.catalogue (shop_of b books) command e in
+    let away = not_self rules b books.catalogue (shop_of b books) command.moment command.act none in
+    let numbers = acted_numbers rules b command command.act books sound.numbers in
+    let same = catalogue_stays rules b command command.act books in
+    let works = staff_works b books.catalogue.staff command.staff (not_false _ all.1.1.0) in
+    let there = branch_there b books.catalogue.branches books.catalogue.staff command.staff sound.catalogue.names.staff_branches works in
+    record {
+      catalogue = rw same sound.catalogue;
+      owners = subst (λ (it : Catalogue). HasOwners it.branches (book_done rules b command books)) (sym same) (owners_done rules b books.catalogue command books sound.owners there none);
+      numbers = record { customers = numbers.customers; copies = numbers.copies; rentals = numbers.rentals; payments = numbers.payments; consignments = numbers.consignments };
+      places = places_kept rules b command command.act books sound.places;
+      custody = custody_kept rules sizes b books.catalogue command command.act books sound none;
+      origins = let o = origins_kept rules b command command.act books sound.origins in record { rows = o.rows; lines = o.lines };
+      settled = settled_kept rules b command command.act books sound.settled;
+      held = λ c. elim (cases_Bool (b == c)) [
+        | inl is ↦
+            let P : ℕ → Type 0 = λ n. HasOneHolder (shop_of n (book_done rules b command books)) in
+            let h = holder_kept rules b books.catalogue command command.act (shop_of b books) (sound.held b) none in
+            let own : HasOneHolder (shop_of b (book_done rules b command books)) =
+            rw (done_own rules b command books sound.numbers away) (record { one = h.one; here = h.here }) in
+            subst P (same_if b c is) own
+        | inr isnt ↦ rw (done_other rules c b command books sound.numbers isnt) (holder_other c b command.act books (sound.held c))
+      ];
+      shops = λ c. elim (cases_Bool (b == c)) [
+        | inl is ↦
+            let P : ℕ → Type 0 = λ n. IsGoodShop sizes (shop_of n (book_done rules b command books)) in
+            let own : IsGoodShop sizes (shop_of b (book_done rules b command books)) =
+            rw (done_own rules b command books sound.numbers away) (good_acted rules sizes b books.catalogue command _ command.act (shop_of b books) most fit (sound.shops b) all.0 all.1.0 none) in
+            subst P (same_if b c is) own
+        | inr isnt ↦ rw (done_other rules c b command books sound.numbers isnt) (good_other sizes c b command.act books (sound.shops c))
+      ];
+      links = λ c. elim (cases_Bool (b == c)) [
+        | inl is ↦
+            let P : ℕ → Type 0 = λ n. IsLinkedShop n (book_done rules b command books).catalogue (shop_of n (book_done rules b command books)) in
+            let own : IsLinkedShop b (book_done rules b command books).catalogue (shop_of b (book_done rules b command books)) =
+            rw (same, done_own rules b command books sound.numbers away) (links_own rules b books.catalogue command (shop_of b books) (sound.links b) e works) in
+            subst P (same_if b c is) own
+        | inr isnt ↦ rw (same, done_other rules c b command books sound.numbers isnt) (linked_other c b command.act books (sound.links c) (sound.links b))
+      ];
+    }
+
+branch_sound : (rules sizes : Rules) (b : ℕ) (request : Request) (books : Books) → rules.commands ≤ sizes.commands → rules.copies ≤ sizes.copies → IsSound sizes books → IsSound sizes (branch_after rules b request books)
+branch_sound rules sizes b (Do command) books most fit sound =
+    let v = verdict rules b books.catalogue (shop_of b books) command in
+    elim (cases_Bool (is_accepted v)) [
+      | inl is ↦ let e : v ≡ Accepted = accepted_is v is in rw e (done_sound rules sizes b command books most fit sound e)
+      | inr isnt ↦ rw (not_accepted v (book_done rules b command books) books isnt) sound
+    ]
+branch_sound rules sizes b (Unread refusal) books most fit sound = sound
+branch_sound rules sizes b (Look ask) books most fit sound = sound
+branch_sound rules sizes b (Office command) books most fit sound = sound
+branch_sound rules sizes b (OfficeLook ask) books most fit sound = sound
+
+-- another catalogue, which is sound and has grown
+grown_sound : (sizes : Rules) (catalogue : Catalogue) (books : Books) → IsSound sizes books → IsGoodCatalogue sizes catalogue → Grows books.catalogue catalogue → IsSound sizes (record books { catalogue = catalogue })
+grown_sound sizes catalogue books sound good grows = record {
+  catalogue = good;
+  owners = let h = owners_grow books.catalogue.branches catalogue.branches books grows.branches sound.owners in
+      record { customers = h.customers; copies = h.copies; rentals = h.rentals; payments = h.payments; lots = h.lots; kept = h.kept; lasts = h.lasts; sources = h.sources; addressees = h.addressees };
+  numbers = let n = sound.numbers in record { customers = n.customers; copies = n.copies; rentals = n.rentals; payments = n.payments; consignments = n.consignments };
+  places = sound.places;
+  custody = sound.custody;
+  origins = record { rows = sound.origins.rows; lines = sound.origins.lines };
+  settled = sound.settled;
+  held = λ b. holder_same (shop_of b books) _ refl refl (sound.held b);
+  shops = sound.shops;
+  links = λ b. linked_grows b books.catalogue catalogue (shop_of b books) grows (sound.links b);
+}
+
+office_sound : (rules sizes : Rules) (command : OfficeCommand) (books : Books) → rules.commands ≤ sizes.commands → IsSound sizes books → IsSound sizes (record books { catalogue = catalogue_after rules command books.catalogue })
+office_sound rules sizes command books most sound =
+    let v = office_verdict rules books.catalogue command in
+    elim (cases_Bool (is_accepted v)) [
+      | inl is ↦
+          let e : v ≡ Accepted = accepted_is v is in
+          rw e (grown_sound sizes (office_done command books.catalogue) books sound (good_done rules sizes command books.catalogue most sound.catalogue e) (done_grows command books.catalogue))
+      | inr isnt ↦ rw (not_accepted v (office_done command books.catalogue) books.catalogue isnt) sound
+    ]
+
+pub after_sound : (rules sizes : Rules) (caller : Caller) (request : Request) (books : Books) → rules.commands ≤ sizes.commands → rules.copies ≤ sizes.copies → IsSound sizes books → IsSound sizes (after_for rules caller request books)
+after_sound rules sizes (Counter b) request books most fit sound = branch_sound rules sizes b request books most fit sound
+after_sound rules sizes HeadOffice (Office command) books most fit sound = office_sound rules sizes command books most sound
+after_sound rules sizes HeadOffice (Unread refusal) books most fit sound = sound
+after_sound rules sizes HeadOffice (Do command) books most fit sound = sound
+after_sound rules sizes HeadOffice (Look ask) books most fit sound = sound
+after_sound rules sizes HeadOffice (OfficeLook ask) books most fit sound = sound
+after_sound rules sizes Nobody request books most fit sound = sound
+
+pub stays_sound_within : StaySoundWithin
+stays_sound_within rules sizes [] books most fit sound = sound
+stays_sound_within rules sizes (event ∷ events) books most fit sound =
+    let caller = caller_in event books in
+    stays_sound_within rules sizes events (after rules event books) most fit (after_sound rules sizes caller (event.request caller) books most fit sound)
+
+pub stays_sound : StaySound
+stays_sound rules events books sound = stays_sound_within rules rules events books (omega arith) (omega arith) sound
+
+pub in_one_place : CopiesAreInOnePlace
+in_one_place rules events books sound =
+    let s = stays_sound rules events books sound in
+    record {
+      once = λ mark. made_once mark 1 (last_books rules events books).copies (s.numbers.copies mark.branch);
+      place = λ mark. s.custody (is_mark mark);
+      sums = s.custody (λ _. true);
+      out = λ b. (s.held b).one;
+    }
+
+pub opening_sound : OpeningIsSound
+opening_sound rules catalogue good = record {
+  catalogue = good;
+  owners = record { customers = refl; copies = refl; rentals = refl; payments = refl; lots = refl; kept = refl; lasts = refl; sources = refl; addressees = refl };
+  places = tt;
+  numbers = record { customers = λ b. tt; copies = λ b. tt; rentals = λ b. tt; payments = λ b. tt; consignments = λ s a. tt };
+  custody = λ test. refl;
+  origins = record { rows = refl; lines = refl };
+  settled = refl;
+  held = λ b. record { one = λ x. omega arith; here = λ x out. absurd (apart out) };
+  shops = λ b. record { apart = refl; created = refl; rented = refl; paid = refl; rentals_rise = refl; payments_rise = refl; keys = omega arith; copies = omega arith; customers_fit = omega arith; rentals_fit = omega arith; payments_fit = omega arith; lots_fit = omega arith; sent_fit = omega arith };
+  links = λ b. record { customer_cities = refl; copy_films = refl; rental_copies = refl; rental_customers = refl; rental_staff = refl; payment_customers = refl; payment_staff = refl; payment_rentals = refl; arrival_films = refl; parcels = refl; lots = refl; keys = refl };
+}
+
+pub empty_sound : EmptyIsSound
+empty_sound rules token = opening_sound rules (empty_catalogue token) (record {
+  names = record { city_countries = refl; film_languages = refl; film_categories = refl; cast_films = refl; cast_actors = refl; branch_cities = refl; managers = λ b. refl; staff_branches = refl; staff_cities = refl };
+  sizes = record { casts = omega arith; countries = omega arith; cities = omega arith; languages = omega arith; categories = omega arith; actors = omega arith; films = omega arith; branches = omega arith; staff = omega arith };
+  keys_fit = omega arith;
+  keys = refl;
+  tokens = refl;
+  office_token = refl;
+})
+
+pub opening_books_sound : OpeningBooksAreSound
+opening_books_sound rules = opening_sound rules opening_catalogue (record {
+  names = record { city_countries = refl; film_languages = refl; film_categories = refl; cast_films = refl; cast_actors = refl; branch_cities = refl; managers = λ b. managed b; staff_branches = refl; staff_cities = refl };
+  sizes = record { casts = omega arith; countries = omega arith; cities = omega arith; languages = omega arith; categories = omega arith; actors = omega arith; films = omega arith; branches = omega arith; staff = omega arith };
+  keys_fit = omega arith;
+  keys = refl;
+  tokens = refl;
+  office_token = refl;
+}) where
+  managed : (b : ℕ) → list_all (λ (it : Branch). list_all (is_staff_of b opening_catalogue.staff) (option_to_list it.manager)) (at b opening_catalogue.branches) ≡ true
+  managed b = elim (cases_Bool (b == 1)) [
+    | inl is ↦ rw (same_if b 1 is)
+    | inr first ↦ elim (cases_Bool (b - 1 == 1)) [
+      | inl is ↦ let two : b ≡ 2 = grind (arith, nat_tests, is) in rw two
+      | inr second ↦ elim (cases_Bool (b - 1 - 1 == 1)) [
+        | inl is ↦ let three : b ≡ 3 = grind (arith, nat_tests, is) in rw three
+        | inr third ↦ rw (first, second, third)
+      ]
+    ]
+  ]

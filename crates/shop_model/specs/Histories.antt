@@ -1,0 +1,53 @@
+-- What a chain really answered, against the run: a want of memory, room or store may stand in an answer's place.
+use Rattle.std.specs.Prelude.{◌≡◌, ◌⊎◌, ◌==◌, ◌&&◌, ◌||◌, Bool, true, not, if◌then◌else◌, List, [], ◌∷◌, length, map, filter}
+use Rattle.std.specs.List.{list_all}
+use Rattle.std.specs.Str.{bytes_eq}
+use Rattle.shop_model.specs.Values.{OfficeAsk, Rules}
+use Rattle.shop_model.specs.Refusals.{Memory, Size, StoreFailed}
+use Rattle.shop_model.specs.Machine.{Request, Reply}
+use Rattle.shop_model.specs.Answers.{Answer, answer_of, problem_text, problem_answer}
+use Rattle.shop_model.specs.Books.{Books, Event, Caller, Outcome, Decided, NoRoom, Failed, counted, reply_for, after_for, run, last_books}
+
+abbrev pub is_decided : Answer → Bool
+is_decided answer = not (answer.status == 503)
+
+abbrev pub is_store_failure : Answer → Bool
+is_store_failure answer = answer.status == 503 && bytes_eq answer.body (problem_text StoreFailed)
+
+-- a decision, or one of the three refusals of the store
+abbrev pub is_answer : Answer → Bool
+is_answer answer = is_decided answer || bytes_eq answer.body (problem_text Memory) || bytes_eq answer.body (problem_text Size) || bytes_eq answer.body (problem_text StoreFailed)
+
+abbrev pub outcome_of : Answer → Outcome
+outcome_of answer = if is_decided answer then Decided else (if is_store_failure answer then Failed else NoRoom)
+
+-- each event with how it was answered
+abbrev pub with_outcomes : List Event → List Answer → List (Event × Outcome)
+with_outcomes [] answers = []
+with_outcomes (event ∷ events) [] = []
+with_outcomes (event ∷ events) (answer ∷ answers) = (event, outcome_of answer) ∷ with_outcomes events answers
+
+-- the counted history of these events and answers
+abbrev pub counted_in : List Event → List Answer → List Event
+counted_in events answers = counted (with_outcomes events answers)
+
+-- one answer an event; the decisions among them are the replies of the run over the counted history, in order, and the books are those it leaves
+pub record IsRun (rules : Rules) (look : OfficeAsk → Books → Reply) (events : List Event) (answers : List Answer) (old new : Books) : Type 0 where
+  pub each : length answers ≡ length events
+  pub answers_are : list_all is_answer answers ≡ true
+  pub decisions : filter is_decided answers ≡ map (λ (it : Caller × Reply). answer_of it.1) (run rules look (counted_in events answers) old)
+  pub books : new ≡ last_books rules (counted_in events answers) old
+
+-- a decision: the step's reply is sent, and its books are left
+pub record Decides (rules : Rules) (look : OfficeAsk → Books → Reply) (caller : Caller) (request : Request) (answer : Answer) (old new : Books) : Type 0 where
+  pub reply : answer ≡ answer_of (reply_for rules look caller request old)
+  pub books : new ≡ after_for rules caller request old
+
+-- want of memory: the books are as they were
+pub record LacksRoom (answer : Answer) (old new : Books) : Type 0 where
+  pub reply : answer ≡ problem_answer Memory
+  pub books : new ≡ old
+
+-- what a chain may do at a request of that caller
+abbrev pub IsStep : Rules → (OfficeAsk → Books → Reply) → Caller → Request → Answer → Books → Books → Type 0
+IsStep rules look caller request answer old new = Decides rules look caller request answer old new ⊎ LacksRoom answer old new

@@ -1,0 +1,85 @@
+-- The laws of a chain.
+use Rattle.std.specs.Prelude.{◌≡◌, ℕ, ◌+◌, ◌≤◌, List, length, filter, true, Option}
+use Rattle.shop_model.specs.Values.{Text, OfficeAsk, OfficeCommand, Rules, Command}
+use Rattle.shop_model.specs.Verdict.{verdict, office_verdict, Again, Accepted}
+use Rattle.shop_model.specs.Machine.{reply_text, office_text, office_done, Reply, replies, state_after}
+use Rattle.shop_model.specs.Books.{book_done, Books, Mark, Event, shop_of, run, last_books, replies_to, view, state_of, caller_of, known_caller}
+use Rattle.shop_model.specs.Sound.{HasNumbers, IsSound, opening, made, here, transit, gone}
+use Rattle.shop_model.specs.Office.{is_mark}
+use Rattle.shop_model.specs.Shop.{Catalogue}
+use Rattle.shop_model.specs.Repeats.{are_new, marked_ones}
+use Rattle.shop_model.specs.Stock.{keeps_out}
+use Rattle.shop_model.specs.Links.{IsGoodCatalogue}
+use Rattle.shop_model.specs.Opening.{empty_catalogue, opening_books}
+
+-- each branch is told what its own machine says on its view, and is left in that machine's state
+pub record IsAlone (rules : Rules) (look : OfficeAsk → Books → Reply) (events : List Event) (books : Books) (b : ℕ) : Type 0 where
+  pub replies : replies_to b (run rules look events books) ≡ replies rules b (view rules b events books) (state_of b books)
+  pub state : state_of b (last_books rules events books) ≡ state_after rules b (view rules b events books) (state_of b books)
+
+abbrev pub BranchesAreAlone : Type 0
+BranchesAreAlone = (rules : Rules) (look : OfficeAsk → Books → Reply) (events : List Event) (books : Books) (b : ℕ) → HasNumbers books → IsAlone rules look events books b
+
+-- two histories of which a branch sees the same, from books that agree on the catalogue and on its shop, send it the same
+abbrev pub BranchesAreIsolated : Type 0
+BranchesAreIsolated =
+    (rules : Rules) (look look' : OfficeAsk → Books → Reply) (events events' : List Event) (books books' : Books) (b : ℕ) → HasNumbers books → HasNumbers books'
+    → state_of b books ≡ state_of b books' → view rules b events books ≡ view rules b events' books'
+    → replies_to b (run rules look events books) ≡ replies_to b (run rules look' events' books')
+
+-- books that are sound stay sound, whatever is asked
+abbrev pub StaySound : Type 0
+StaySound = (rules : Rules) (events : List Event) (books : Books) → IsSound rules books → IsSound rules (last_books rules events books)
+
+-- the same by greater sizes than those to which the chain holds its callers: files that were made under greater limits stay sound under smaller ones
+abbrev pub StaySoundWithin : Type 0
+StaySoundWithin =
+    (rules sizes : Rules) (events : List Event) (books : Books) → rules.commands ≤ sizes.commands → rules.copies ≤ sizes.copies
+    → IsSound sizes books → IsSound sizes (last_books rules events books)
+
+-- after any history: a mark is made at most once, and is then in exactly one place; the numbers of all copies agree; and a copy is out at most once
+pub record InOnePlace (books : Books) : Type 0 where
+  pub once : (mark : Mark) → made (is_mark mark) books ≤ 1
+  pub place : (mark : Mark) → made (is_mark mark) books ≡ here (is_mark mark) books + transit (is_mark mark) books + gone (is_mark mark) books
+  pub sums : made (λ _. true) books ≡ here (λ _. true) books + transit (λ _. true) books + gone (λ _. true) books
+  pub out : (b x : ℕ) → length (filter (keeps_out x) (shop_of b books).rentals) ≤ 1
+
+abbrev pub CopiesAreInOnePlace : Type 0
+CopiesAreInOnePlace = (rules : Rules) (events : List Event) (books : Books) → IsSound rules books → InOnePlace (last_books rules events books)
+
+-- the books of a chain in which no branch has asked anything are sound, where its shared rows are
+abbrev pub OpeningIsSound : Type 0
+OpeningIsSound = (rules : Rules) (catalogue : Catalogue) → IsGoodCatalogue rules catalogue → IsSound rules (opening catalogue)
+
+-- and so is the catalogue with which head office begins: a token, and no shared row
+abbrev pub EmptyIsSound : Type 0
+EmptyIsSound = (rules : Rules) (token : Text) → IsSound rules (opening (empty_catalogue token))
+
+-- the books of the chain that is shown and tested are sound
+abbrev pub OpeningBooksAreSound : Type 0
+OpeningBooksAreSound = (rules : Rules) → IsSound rules opening_books
+
+-- whoever is found by a token is a caller whom the catalogue knows
+abbrev pub CallersAreKnown : Type 0
+CallersAreKnown = (token : Option Text) (catalogue : Catalogue) → known_caller catalogue (caller_of token catalogue) ≡ caller_of token catalogue
+
+-- an accepted command that comes again, whatever has happened since, is Again, with its first reply; so it changes nothing
+abbrev pub ResentIsAgain : Type 0
+ResentIsAgain =
+    (rules : Rules) (b : ℕ) (command : Command) (books : Books) (events : List Event) → verdict rules b books.catalogue (shop_of b books) command ≡ Accepted
+    → verdict rules b (last_books rules events (book_done rules b command books)).catalogue (shop_of b (last_books rules events (book_done rules b command books))) command
+    ≡ Again (reply_text rules command (shop_of b books))
+
+-- and so is an accepted command of head office
+abbrev pub OfficeResentIsAgain : Type 0
+OfficeResentIsAgain =
+    (rules : Rules) (command : OfficeCommand) (books : Books) (events : List Event) → office_verdict rules books.catalogue command ≡ Accepted
+    → office_verdict rules (last_books rules events (record books { catalogue = office_done command books.catalogue })).catalogue command ≡ Again (office_text command books.catalogue)
+
+-- the history without its repeats leaves the same books, and every other event is answered in it as it was
+pub record IsWithoutRepeats (rules : Rules) (look : OfficeAsk → Books → Reply) (events : List Event) (books : Books) : Type 0 where
+  pub replies : run rules look (marked_ones (are_new rules events books) events) books ≡ marked_ones (are_new rules events books) (run rules look events books)
+  pub leaves : last_books rules (marked_ones (are_new rules events books) events) books ≡ last_books rules events books
+
+abbrev pub RepeatsChangeNothing : Type 0
+RepeatsChangeNothing = (rules : Rules) (look : OfficeAsk → Books → Reply) (events : List Event) (books : Books) → IsWithoutRepeats rules look events books

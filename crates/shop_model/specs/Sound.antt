@@ -1,0 +1,128 @@
+-- What holds of the books of a chain.
+use Rattle.std.specs.Prelude.{◌≡◌, ℕ, map, ◌+◌, ◌≤◌, ◌==◌, ◌&&◌, Bool, true, false, not, if◌then◌else◌, List, [], flat_map, length, filter}
+use Rattle.std.specs.List.{list_any, list_all}
+use Rattle.shop_model.specs.Rows.{Row, Owned, at, is_of, IsCounted, AreNumbered, total}
+use Rattle.shop_model.specs.Calendar.{Moment}
+use Rattle.shop_model.specs.Values.{Text, Branch, Customer, Rental, Payment, CopyState, Here, Sent, Scrapped, Rules}
+use Rattle.shop_model.specs.Shop.{Kept, Shop, Catalogue}
+use Rattle.shop_model.specs.Stock.{is_here, in_stock, keeps_out}
+use Rattle.shop_model.specs.GoodShop.{IsGoodShop}
+use Rattle.shop_model.specs.Links.{has_row, IsLinkedShop, IsGoodCatalogue}
+use Rattle.shop_model.specs.Books.{Books, BookCopy, Mark, Line, LineState, UnderWay, Arrived, Missing, Consignment, shop_of}
+
+-- ---- numbers
+
+-- each branch's rows of a kind are numbered from 1 in the order in which they were added, and so are the consignments of a sender and addressee
+pub record HasNumbers (books : Books) : Type 0 where
+  pub customers : (b : ℕ) → AreNumbered (is_of b) (λ row. row.number) books.customers
+  pub copies : (b : ℕ) → AreNumbered (is_of b) (λ row. row.number) books.copies
+  pub rentals : (b : ℕ) → AreNumbered (is_of b) (λ row. row.number) books.rentals
+  pub payments : (b : ℕ) → AreNumbered (is_of b) (λ row. row.number) books.payments
+  pub consignments : (source addressee : ℕ) → AreNumbered (λ (it : Consignment). it.source == source && it.addressee == addressee) (λ it. it.number) books.consignments
+
+-- ---- where copies are
+
+abbrev pub one : Bool → ℕ
+one true = 1
+one false = 0
+
+abbrev pub copy_is : CopyState → CopyState → Bool
+copy_is Here Here = true
+copy_is Sent Sent = true
+copy_is Scrapped Scrapped = true
+copy_is a b = false
+
+abbrev pub line_is : LineState → LineState → Bool
+line_is UnderWay UnderWay = true
+line_is Arrived Arrived = true
+line_is Missing Missing = true
+line_is a b = false
+
+-- the row of an import, where the copy's mark was made
+abbrev pub is_origin : Row BookCopy → Bool
+is_origin row = row.it.mark.branch == row.branch && row.it.mark.copy == row.number
+
+abbrev pub all_lines : Books → List Line
+all_lines books = flat_map (λ (it : Consignment). it.lines) books.consignments
+
+-- how many rows of each kind have a mark that passes the test
+abbrev pub rows_made : (Mark → Bool) → List (Row BookCopy) → ℕ
+rows_made test copies = total (λ row. one (is_origin row && test row.it.mark)) copies
+
+abbrev pub rows_in : CopyState → (Mark → Bool) → List (Row BookCopy) → ℕ
+rows_in state test copies = total (λ row. one (copy_is row.it.state state && test row.it.mark)) copies
+
+abbrev pub lines_in : LineState → (Mark → Bool) → List Line → ℕ
+lines_in state test lines = total (λ line. one (line_is line.state state && test line.mark)) lines
+
+abbrev pub made : (Mark → Bool) → Books → ℕ
+made test books = rows_made test books.copies
+
+abbrev pub here : (Mark → Bool) → Books → ℕ
+here test books = rows_in Here test books.copies
+
+abbrev pub transit : (Mark → Bool) → Books → ℕ
+transit test books = lines_in UnderWay test (all_lines books)
+
+abbrev pub gone : (Mark → Bool) → Books → ℕ
+gone test books = rows_in Scrapped test books.copies + lines_in Missing test (all_lines books)
+
+-- of all marks, of one mark and of any others alike: what was made is here, under way or gone, and nothing is twice
+abbrev pub HasCustody : Books → Type 0
+HasCustody books = (test : Mark → Bool) → made test books ≡ here test books + transit test books + gone test books
+
+-- the mark was made, by the import of a copy of that film
+abbrev pub is_made_as : List (Row BookCopy) → ℕ → Mark → Bool
+is_made_as copies film mark = list_any (λ (row : Row BookCopy). is_origin row && row.it.film == film && row.it.mark.branch == mark.branch && row.it.mark.copy == mark.copy) copies
+
+pub record HasOrigins (books : Books) : Type 0 where
+  pub rows : list_all (λ (row : Row BookCopy). is_made_as books.copies row.it.film row.it.mark) books.copies ≡ true
+  pub lines : list_all (λ (line : Line). is_made_as books.copies line.film line.mark) (all_lines books) ≡ true
+
+-- a consignment is received and no line is under way, or it isn't and all are
+abbrev pub is_settled : Consignment → Bool
+is_settled it = list_all (λ line. if it.received then not (line_is line.state UnderWay) else line_is line.state UnderWay) it.lines
+
+-- ---- rentals
+
+-- a copy has at most one open rental, and none unless it is here
+pub record HasOneHolder (shop : Shop) : Type 0 where
+  pub one : (x : ℕ) → length (filter (keeps_out x) shop.rentals) ≤ 1
+  pub here : (x : ℕ) → in_stock x shop.rentals ≡ false → list_any is_here (at x shop.copies) ≡ true
+
+-- ---- branch columns
+
+-- the branch that a row has in its column is there, as are the sender and the addressee of a consignment
+pub record HasOwners (branches : List Branch) (books : Books) : Type 0 where
+  pub customers : list_all (λ (row : Row Customer). has_row branches row.branch) books.customers ≡ true
+  pub copies : list_all (λ (row : Row BookCopy). has_row branches row.branch) books.copies ≡ true
+  pub rentals : list_all (λ (row : Row Rental). has_row branches row.branch) books.rentals ≡ true
+  pub payments : list_all (λ (row : Row Payment). has_row branches row.branch) books.payments ≡ true
+  pub lots : list_all (λ (row : Owned Text). has_row branches row.owner) books.lots ≡ true
+  pub kept : list_all (λ (row : Owned Kept). has_row branches row.owner) books.kept ≡ true
+  pub lasts : list_all (λ (row : Owned Moment). has_row branches row.owner) books.lasts ≡ true
+  pub sources : list_all (λ (it : Consignment). has_row branches it.source) books.consignments ≡ true
+  pub addressees : list_all (λ (it : Consignment). has_row branches it.addressee) books.consignments ≡ true
+
+-- ---- all of it
+
+-- of the rules the sizes alone are read: the most kept keys of a caller, and the most copies of a branch
+pub record IsSound (rules : Rules) (books : Books) : Type 0 where
+  pub catalogue : IsGoodCatalogue rules books.catalogue
+  pub owners : HasOwners books.catalogue.branches books
+  pub numbers : HasNumbers books
+  pub places : IsCounted 1 (map (λ (it : Consignment). it.place) books.consignments)  -- the order of dispatch over the whole chain
+  pub custody : HasCustody books
+  pub origins : HasOrigins books
+  pub settled : list_all is_settled books.consignments ≡ true
+  pub held : (b : ℕ) → HasOneHolder (shop_of b books)
+  pub shops : (b : ℕ) → IsGoodShop rules (shop_of b books)
+  pub links : (b : ℕ) → IsLinkedShop b books.catalogue (shop_of b books)
+
+-- the greatest limits that a chain may have: by these an audit goes, whatever limits the chain was opened with
+abbrev pub widest : Rules → Rules
+widest rules = record rules { commands = 1000000; copies = 1000000 }
+
+-- the books of a chain in which no branch has asked anything
+abbrev pub opening : Catalogue → Books
+opening catalogue = record { catalogue = catalogue; customers = []; copies = []; rentals = []; payments = []; lots = []; consignments = []; kept = []; lasts = [] }

@@ -1,0 +1,88 @@
+//! Laws, each on a function with nothing to do.
+
+ghost use Rattle.shop_model.specs.Laws.{
+  BranchesAreAlone,
+  BranchesAreIsolated,
+  CallersAreKnown,
+  CopiesAreInOnePlace,
+  OfficeResentIsAgain,
+  OpeningBooksAreSound,
+  OpeningIsSound,
+  RepeatsChangeNothing,
+  ResentIsAgain,
+  EmptyIsSound,
+  StaySound,
+  StaySoundWithin,
+};
+
+/// Each branch is told what its own machine says on its view, whatever others ask.
+#[tactic(auto, using(crate::proofs::Isolation::alone))]
+pub fn branches_are_alone()
+    ensures { BranchesAreAlone }
+{}
+
+/// Two histories of which a branch sees the same, from books in which it has the same, send it the same.
+#[tactic(auto, using(crate::proofs::Isolation::isolated))]
+pub fn branches_are_isolated()
+    ensures { BranchesAreIsolated }
+{}
+
+/// Books that are sound stay sound, whatever is asked.
+#[tactic(auto, using(crate::proofs::Soundness::stays_sound))]
+pub fn books_stay_sound()
+    ensures { StaySound }
+{}
+
+/// Books that are sound by greater sizes than the chain's limits stay so.
+#[tactic(auto, using(crate::proofs::Soundness::stays_sound_within))]
+pub fn books_stay_sound_within()
+    ensures { StaySoundWithin }
+{}
+
+/// After any history each copy is in exactly one place, and out at most once.
+#[tactic(auto, using(crate::proofs::Soundness::in_one_place))]
+pub fn copies_are_in_one_place()
+    ensures { CopiesAreInOnePlace }
+{}
+
+/// The books of a chain in which no branch has asked anything are sound, where its shared rows are.
+#[tactic(auto, using(crate::proofs::Soundness::opening_sound))]
+pub fn opening_is_sound()
+    ensures { OpeningIsSound }
+{}
+
+/// The books of a new chain, with head office's token and no shared row, are sound.
+#[tactic(auto, using(crate::proofs::Soundness::empty_sound))]
+pub fn empty_is_sound()
+    ensures { EmptyIsSound }
+{}
+
+/// A command that was accepted and comes again gets its first reply.
+#[tactic(auto, using(crate::proofs::Resent::resent_again))]
+pub fn resent_is_again()
+    ensures { ResentIsAgain }
+{}
+
+/// The books of the chain that is shown and tested are sound.
+#[tactic(auto, using(crate::proofs::Soundness::opening_books_sound))]
+pub fn opening_books_are_sound()
+    ensures { OpeningBooksAreSound }
+{}
+
+/// Whoever is found by a token is a caller whom the catalogue knows.
+#[tactic(auto, using(crate::proofs::Callers::known_same))]
+pub fn known_callers()
+    ensures { CallersAreKnown }
+{}
+
+/// A command of head office that was accepted and comes again gets its first reply.
+#[tactic(auto, using(crate::proofs::OfficeResent::office_resent_again))]
+pub fn office_resent_is_again()
+    ensures { OfficeResentIsAgain }
+{}
+
+/// Taking out of a history the commands that come again leaves its books and all other replies.
+#[tactic(auto, using(crate::proofs::Repeats::without_repeats))]
+pub fn repeats_change_nothing()
+    ensures { RepeatsChangeNothing }
+{}

@@ -1,0 +1,13 @@
+//! The worked rows of the shop, as tests that cross the crates: bytes in, bytes out.
+#![tactic(auto)]
+
+#[cfg(test)]
+mod connections;
+#[cfg(test)]
+mod customers;
+#[cfg(test)]
+mod moments;
+#[cfg(test)]
+mod program;
+#[cfg(test)]
+mod talk;

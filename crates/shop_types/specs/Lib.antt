@@ -1,0 +1,3 @@
+pub mod Seen
+pub mod Replies
+pub mod Lines

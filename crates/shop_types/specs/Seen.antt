@@ -1,0 +1,100 @@
+-- What the program's values mean in the definitions of the shop.
+use Rattle.shop_model.specs.Values as model
+use Rattle.shop_model.specs.Machine as machine
+use Rattle.shop_model.specs.Books as books
+use Rattle.shop_model.specs.Refusals as named
+use Rattle.shop_types.specs.declared.person.Person.{Person}
+use Rattle.shop_types.specs.declared.person.Customer.{Customer}
+use Rattle.shop_types.specs.declared.command.Act.{Act}
+use Rattle.shop_types.specs.declared.command.Act.TheVariants as act
+use Rattle.shop_types.specs.declared.command.Command.{Command}
+use Rattle.shop_types.specs.declared.request.Ask.{Ask}
+use Rattle.shop_types.specs.declared.request.Ask.TheVariants as ask
+use Rattle.shop_types.specs.declared.request.Request.{Request}
+use Rattle.shop_types.specs.declared.request.Request.TheVariants as request
+use Rattle.shop_types.specs.declared.request.Caller.{Caller}
+use Rattle.shop_types.specs.declared.request.Caller.TheVariants as caller
+use Rattle.shop_types.specs.declared.refusal.Refusal.{Refusal}
+use Rattle.shop_types.specs.declared.refusal.Refusal.TheVariants as refusal
+
+abbrev pub seen_person : Person → model.Person
+seen_person person = record {
+  first = person.first;
+  last = person.last;
+  address = person.address;
+  postal = person.postal;
+  phone = person.phone;
+  city = person.city;
+}
+
+abbrev pub seen_customer : Customer → model.Customer
+seen_customer customer = record {
+  person = seen_person customer.person;
+  active = customer.active;
+  created = customer.created;
+}
+
+-- ---- requests
+
+abbrev pub seen_act : Act → model.Act
+seen_act (act.Customer person) = model.AddCustomer (seen_person person)
+
+abbrev pub seen_command : Command → model.Command
+seen_command command = record {
+  key = command.key;
+  staff = command.staff;
+  moment = command.at;
+  act = seen_act command.act;
+}
+
+abbrev pub seen_ask : Ask → model.Ask
+seen_ask (ask.Customer number) = model.OneCustomer number
+
+abbrev pub seen_request : Request → machine.Request
+seen_request (request.Do command) = machine.Do (seen_command command)
+seen_request (request.Look ask) = machine.Look (seen_ask ask)
+
+abbrev pub seen_caller : Caller → books.Caller
+seen_caller (caller.Branch number) = books.Counter number
+seen_caller caller.Office = books.HeadOffice
+seen_caller caller.Nobody = books.Nobody
+
+-- ---- refusals
+
+-- the first two are found where no message is read, the last three where one can't be answered; all others are decisions
+abbrev pub seen_refusal : Refusal → named.Problem
+seen_refusal refusal.BadHead = named.BadHead
+seen_refusal refusal.TooLong = named.TooLong
+seen_refusal refusal.NoCounter = named.Decision named.NoCounter
+seen_refusal refusal.NoRoute = named.Decision named.NoRoute
+seen_refusal refusal.BadBody = named.Decision named.BadBody
+seen_refusal refusal.KeyUsed = named.Decision named.KeyUsed
+seen_refusal refusal.Full = named.Decision named.Full
+seen_refusal refusal.MomentBack = named.Decision named.MomentBack
+seen_refusal refusal.NoStaff = named.Decision named.NoStaff
+seen_refusal refusal.NoCustomer = named.Decision named.NoCustomer
+seen_refusal refusal.CustomerInactive = named.Decision named.CustomerInactive
+seen_refusal refusal.NoCopy = named.Decision named.NoCopy
+seen_refusal refusal.CopyNotHere = named.Decision named.CopyNotHere
+seen_refusal refusal.CopyOut = named.Decision named.CopyOut
+seen_refusal refusal.FilmWithdrawn = named.Decision named.FilmWithdrawn
+seen_refusal refusal.SameMoment = named.Decision named.SameMoment
+seen_refusal refusal.NoRental = named.Decision named.NoRental
+seen_refusal refusal.RentalReturned = named.Decision named.RentalReturned
+seen_refusal refusal.WrongCustomer = named.Decision named.WrongCustomer
+seen_refusal refusal.NoFilm = named.Decision named.NoFilm
+seen_refusal refusal.LotIn = named.Decision named.LotIn
+seen_refusal (refusal.BadCsv fault) = named.Decision (named.BadCsv fault.line)
+seen_refusal refusal.NoBranch = named.Decision named.NoBranch
+seen_refusal refusal.OwnBranch = named.Decision named.OwnBranch
+seen_refusal refusal.NoArrival = named.Decision named.NoArrival
+seen_refusal refusal.ArrivalReceived = named.Decision named.ArrivalReceived
+seen_refusal refusal.BadLines = named.Decision named.BadLines
+seen_refusal refusal.BadThreshold = named.Decision named.BadThreshold
+seen_refusal refusal.TokenTaken = named.Decision named.TokenTaken
+seen_refusal refusal.NoSharedRow = named.Decision named.NoSharedRow
+seen_refusal refusal.Already = named.Decision named.Already
+seen_refusal refusal.Usage = named.Decision named.Usage
+seen_refusal refusal.Memory = named.Memory
+seen_refusal refusal.Size = named.Size
+seen_refusal refusal.StoreFailed = named.StoreFailed

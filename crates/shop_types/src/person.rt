@@ -1,0 +1,24 @@
+use shop_values::{CityNo, L45, Moment, T45, T128};
+
+/// Who a customer or a member of staff is.
+#[derive(Clone, Debug, Drop, PartialEq, Eq)]
+pub struct Person {
+    pub first: T45,
+    pub last: T45,
+    pub address: T128,
+    /// The postal code, which may be empty.
+    pub postal: L45,
+    /// The telephone number, which may be empty.
+    pub phone: L45,
+    pub city: CityNo,
+}
+
+/// A customer of a branch. Its number is that of its row.
+#[derive(Clone, Debug, Drop, PartialEq, Eq)]
+pub struct Customer {
+    pub person: Person,
+    /// Whether the customer may rent.
+    pub active: bool,
+    /// The moment of the command that added the customer.
+    pub created: Moment,
+}

@@ -1,0 +1,39 @@
+use crate::Command;
+use shop_values::{BranchNo, CustomerNo, Key};
+
+/// What a counter's reading shows.
+#[derive(Clone, Copy, Debug, PartialEq, Eq)]
+pub enum Ask {
+    /// One customer of the branch.
+    Customer(CustomerNo),
+}
+
+/// What head office's request does. There is none yet, and so no value.
+#[derive(Drop)]
+pub enum OfficeAct {}
+
+/// A request of head office.
+#[derive(Drop)]
+pub struct OfficeCommand {
+    /// There exactly where the act changes something.
+    pub key: Option<Key>,
+    pub act: OfficeAct,
+}
+
+/// What a caller asks.
+#[derive(Clone, Debug, Drop, PartialEq, Eq)]
+pub enum Request {
+    Do(Command),
+    Look(Ask),
+}
+
+/// Who asks, by the token that came with the request.
+#[derive(Clone, Copy, Debug, PartialEq, Eq)]
+pub enum Caller {
+    /// A counter of the branch.
+    Branch(BranchNo),
+    /// Head office.
+    Office,
+    /// A caller whose token nobody has, or who sent none.
+    Nobody,
+}

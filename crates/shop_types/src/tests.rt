@@ -1,0 +1,110 @@
+ghost use Rattle.std.specs.Prelude.{◌≡◌, ℕ, List, Option, Some, None, IfOk};
+ghost use Rattle.shop_model.specs.Answers.{problem_answer};
+ghost use Rattle.shop_types.specs.Seen.{seen_command, seen_refusal};
+ghost use Rattle.shop_types.specs.Replies.{seen_reply};
+ghost use Rattle.shop_types.specs.Lines.{LineValue};
+ghost use Rattle.shop_types.specs.declared.line.LineAct.TheVariants.{Migrate};
+
+use super::*;
+use std::alloc::{AllocError, Global};
+use std::test::Fail;
+
+/// That a caller knows what a copy of a command is.
+fn copy_of(command: &Command) -> Result<Command, AllocError>
+    ensures { IfOk result (λ copy. seen_command copy ≡ seen_command command.now) }
+{
+    command.clone()
+}
+
+/// That a caller can make the reply to any refusal.
+fn reply_to(alloc: Global, refusal: Refusal) -> Result<Reply, NoMemory>
+    ensures { IfOk result (λ reply. seen_reply reply ≡ problem_answer (seen_refusal refusal)) }
+{
+    match refusal {
+        Refusal::BadCsv(fault) => Reply::bad_csv(alloc, fault),
+        other => Ok(Reply::refused(other)),
+    }
+}
+
+fn person(rt: &HostRuntime, first: &str) -> Result<Person, Fail> {
+    let alloc = rt.alloc();
+    Ok(Person {
+        first: Text::read(String::from_str(alloc, first)?).ok_or("first")?,
+        last: Text::read(String::from_str(alloc, "Hillyer")?).ok_or("last")?,
+        address: Text::read(String::from_str(alloc, "23 Workhaven Lane")?).ok_or("address")?,
+        postal: Text::read(String::new(alloc)).ok_or("postal")?,
+        phone: Text::read(String::from_str(alloc, "14033335568")?).ok_or("phone")?,
+        city: RowNumber::new(300).ok_or("city")?,
+    })
+}
+
+fn command(rt: &HostRuntime, first: &str) -> Result<Command, Fail> {
+    Ok(Command {
+        key: Key::read(String::from_str(rt.alloc(), "k-1")?).ok_or("key")?,
+        staff: RowNumber::new(1).ok_or("staff")?,
+        at: Moment::read("2026-03-01T10:00:00").ok_or("moment")?,
+        act: Act::Customer(person(rt, first)?),
+    })
+}
+
+#[test]
+fn equal_commands_are_the_same(rt: HostRuntime) -> Result<(), Fail> {
+    let mike = command(&rt, "Mike")?;
+    assert!(rt; mike.is_same(&mike) && mike.is_same(&copy_of(&mike)?));
+    assert!(rt; !mike.is_same(&command(&rt, "Jon")?));
+    Ok(())
+}
+
+#[test]
+fn refusals_have_names_and_numbers(rt: HostRuntime) {
+    let fault = Refusal::BadCsv(BadCsv { line: 3 });
+    assert!(rt; fault.name() == "bad_csv" && fault.number() == 22 && fault.status() == 409);
+    assert!(rt; Refusal::NoBranch.number() == 23 && Refusal::NoCounter.status() == 403);
+    assert!(rt; Refusal::NoRoute.status() == 404 && Refusal::Usage.status() == 400);
+    assert!(rt; Refusal::StoreFailed.number() == 42 && Refusal::Memory.status() == 503);
+    assert!(rt; Refusal::KeyUsed.name() == "key_used" && Refusal::KeyUsed.status() == 409);
+}
+
+#[test]
+fn replies_have_bodies(rt: HostRuntime) -> Result<(), Fail> {
+    let done = Reply::accepted(String::from_str(rt.alloc(), "{\"customer\":1}")?);
+    assert!(rt; done.status == 200 && done.body_bytes() == b"{\"customer\":1}".as_slice());
+    let refused = reply_to(rt.alloc(), Refusal::MomentBack)
+        .ok()
+        .ok_or("memory")?;
+    assert!(rt; refused.status == 409);
+    assert!(rt; refused.body_bytes() == b"{\"refused\":\"moment_back\"}".as_slice());
+    let fault = BadCsv { line: 12 };
+    let refused = reply_to(rt.alloc(), Refusal::BadCsv(fault))
+        .ok()
+        .ok_or("memory")?;
+    assert!(rt; refused.status == 409);
+    assert!(rt; refused.body_bytes() == b"{\"line\":12,\"refused\":\"bad_csv\"}".as_slice());
+    Ok(())
+}
+
+/// Takes any words to ask for a migration.
+struct Migrates;
+
+impl OfficeWords for Migrates {
+    ghost meaning = { λ _ _. Some (record { db = None; act = Migrate }) };
+
+    fn read(&self, _words: &[String]) -> Result<Line, Usage> {
+        Ok(Line {
+            db: None,
+            act: LineAct::Migrate,
+        })
+    }
+}
+
+fn asks_to_migrate<W: OfficeWords>(reader: &W, words: &[String]) -> bool {
+    match reader.read(words) {
+        Ok(line) => matches!(&line.act, LineAct::Migrate),
+        Err(_) => false,
+    }
+}
+
+#[test]
+fn words_are_read_by_any_reader(rt: HostRuntime) {
+    assert!(rt; asks_to_migrate(&Migrates, &[]));
+}

@@ -1,0 +1,17 @@
+-- What the proofs on written numbers cite.
+use Rattle.std.proofs.Common.{◌≡◌, ◌<◌, ◌≤◌, ◌^◌, ◌+◌, ◌*◌, ℕ, arith, lit<, add-one}
+use Rattle.std.proofs.Math.Nat.{pow-le-pow_right}
+use Rattle.std.specs.Char.{digit_value}
+use Rattle.std.proofs.lemmas.Str.{digit_value_digit}
+use Rattle.std.proofs.lemmas.Str.Parse.{digit_from_value}
+
+pub next_digit : (n i d : ℕ) → n < 10 ^ i → i < 10 → d < 10 → n * 10 + d < 10 ^ (i + 1)
+next_digit n i d p q r = rw add-one (omega arith)
+
+pub fits_ten : (n i : ℕ) → n < 10 ^ i → i ≤ 10 → n < 18446744073709551616
+fits_ten n i p q =
+    let up : 10 ^ i ≤ 10 ^ 10 = pow-le-pow_right (lit< tt) q in
+    omega arith
+
+pub digit_is : (c : ℕ) → digit_value c < 10 → digit_value c + 48 ≡ c
+digit_is c h = digit_value_digit c (digit_from_value c h)

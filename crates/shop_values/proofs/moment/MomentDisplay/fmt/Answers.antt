@@ -1,0 +1,9 @@
+use Rattle.std.proofs.Common.{◌∙◌, sym, subst, rules}
+use Rattle.std.specs.Prelude.{IsUtf8}
+use Rattle.shop_values.proofs.MomentLemmas.{moment_text-utf8}
+use Rattle.shop_values.proofs.moment.MomentDisplay.fmt.Goals as goal
+
+pub unwrap-requires : goal.unwrap-requires
+unwrap-requires g c =
+    let utf8 : IsUtf8 c.as_slice.result.now = subst IsUtf8 (sym (c.as_slice.ensures ∙ c.text-text.ensures)) (moment_text-utf8 c.args.self.now) in
+    search rules

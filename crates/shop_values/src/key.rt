@@ -1,0 +1,80 @@
+ghost use Rattle.std.specs.Prelude.{◌≡◌, ℕ, List, true, Some, None, if◌then◌else◌};
+ghost use Rattle.std.specs.String.{string_bytes};
+ghost use Rattle.std.specs.Str.{bytes_eq};
+ghost use Rattle.std.specs.List.{list_all};
+ghost use Rattle.std.specs.Cmp.Rules.{comparing};
+ghost use Rattle.std.proofs.Common.{rules};
+ghost use Rattle.shop_values.specs.Texts.{is_key, is_key_byte};
+
+use std::marker::Model;
+
+/// The key of a command, by which a command that is sent again is known: 1 to 40 ASCII letters, digits or hyphens.
+#[derive(Clone, Debug, Drop)]
+pub struct Key {
+    text: String,
+}
+
+impl Model for Key {
+    ghost use Rattle.std.specs.Prelude.{◌≡◌, ℕ, List, true};
+    ghost use Rattle.std.specs.String.{string_bytes};
+    ghost use Rattle.shop_values.specs.Texts.{is_key};
+
+    ghost Value = { List ℕ };
+
+    ghost view = { λ a. string_bytes a.text };
+
+    ghost invariant = { λ a. is_key (string_bytes a.text) ≡ true };
+}
+
+fn is_byte_of_key(b: u8) -> bool
+    ensures { result ≡ is_key_byte b }
+{
+    b.is_ascii_alphanumeric() || b == b'-'
+}
+
+fn all_of_key(bytes: &[u8]) -> bool
+    ensures { result ≡ list_all is_key_byte bytes.now }
+{
+    bytes.iter().all(|b| is_byte_of_key(*b))
+}
+
+fn fits(text: &str) -> bool
+    ensures { result ≡ is_key text.now }
+{
+    let bytes = text.as_bytes();
+    1 <= bytes.len() && bytes.len() <= 40 && all_of_key(bytes)
+}
+
+impl Key {
+    /// The key, where the text is one. It takes the `String`, and so no memory.
+    pub fn read(text: String) -> Option<Key>
+        ensures { result ≡ (if is_key (string_bytes text) then Some (string_bytes text) else None) }
+    {
+        if fits(text.as_str()) {
+            Some(Key { text })
+        } else {
+            None
+        }
+    }
+
+    pub fn as_str(&self) -> &str
+        ensures value { result.now ≡ self.now }
+        ensures kind { is_key self.now ≡ true }
+    {
+        self.text.as_str()
+    }
+}
+
+impl PartialEq for Key {
+    ghost eq = { bytes_eq };
+
+    ghost laws = { Prim.search (comparing, rules) };
+
+    fn eq(&self, other: &Key) -> bool {
+        self.text == other.text
+    }
+}
+
+impl Eq for Key {
+    ghost laws = { Prim.search (comparing, rules) };
+}

@@ -1,0 +1,24 @@
+//! The values of the shop, as plain data: moments, texts, keys, tokens, numbers of rows and limits.
+#![tactic(auto)]
+
+mod key;
+mod limits;
+mod moment;
+mod no_memory;
+mod row_number;
+mod text;
+mod token;
+
+pub use key::Key;
+pub use limits::Limits;
+pub use moment::{Moment, moment_texts_are_one_to_one};
+pub use no_memory::NoMemory;
+pub use row_number::{
+    ActorNo, BranchNo, CategoryNo, CityNo, CopyNo, CountryNo, CustomerNo, FilmNo, LanguageNo,
+    PaymentNo, RentalNo, RowNumber, StaffNo,
+};
+pub use text::{L45, L500, T45, T128, Text};
+pub use token::Token;
+
+#[cfg(test)]
+mod tests;
