@@ -1,4 +1,7 @@
 pub mod RowFinds
-pub mod Verdicts
-pub mod Doings
+pub mod StockFinds
+pub mod CopyLemmas
+pub mod FitLemmas
+pub mod NewLemmas
+pub mod Refusing
 pub mod Runnings

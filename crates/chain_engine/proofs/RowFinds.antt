@@ -1,6 +1,7 @@
 -- What is found among the rows is what the definitions name.
 use Rattle.std.proofs.Common.{◌≡◌, inl, inr, ℕ, ◌+◌, List, [], ◌∷◌, Bor, length, filter, map, count_by, find, option_map, Option, Some, None, Bool, true, not, refl, sym, ap, ◌∙◌, suc, ◌<◌, drop, get_or}
-use Rattle.std.specs.Prelude.{◌==◌, ◌&&◌}
+use Rattle.std.specs.Prelude.{◌==◌, ◌&&◌, ◌||◌}
+use Rattle.std.specs.List.{list_any}
 use Rattle.std.specs.Str.{bytes_eq}
 use Rattle.std.proofs.lemmas.Bool.{cases_Bool}
 use Rattle.std.proofs.lemmas.List.{drop_more}
@@ -9,10 +10,12 @@ use Rattle.shop_model.specs.Calendar.{Moment}
 use Rattle.shop_model.specs.Rows.{at, Owned, of, owned_by}
 use Rattle.shop_types.specs.Seen.{seen_customer}
 use Rattle.shop_model.specs.Books.{head}
-use Rattle.chain_engine.specs.declared.rows.CustomerRow.{CustomerRow}
-use Rattle.chain_engine.specs.declared.rows.KeptRow.{KeptRow}
-use Rattle.chain_engine.specs.declared.rows.LastRow.{LastRow}
-use Rattle.chain_engine.specs.Seen.{seen_customer_row, seen_kept, seen_kept_row, seen_last_row}
+use Rattle.chain_engine.specs.declared.tables.CustomerRow.{CustomerRow}
+use Rattle.chain_engine.specs.declared.tables.CopyRow.{CopyRow}
+use Rattle.chain_engine.specs.declared.tables.LotRow.{LotRow}
+use Rattle.chain_engine.specs.declared.tables.KeptRow.{KeptRow}
+use Rattle.chain_engine.specs.declared.tables.LastRow.{LastRow}
+use Rattle.chain_engine.specs.Seen.{seen_customer_row, seen_copy_row, seen_lot_row, seen_kept, seen_kept_row, seen_last_row}
 
 abbrev pub has_key : ℕ → List ℕ → KeptRow → Bool
 has_key b key row = row.owner == b && bytes_eq row.command.key key
@@ -61,6 +64,24 @@ customers_lengths b (row ∷ rows) = elim (cases_Bool (row.branch == b)) [
 
 pub customers_counted : (b : ℕ) (rows : List CustomerRow) → count_by (λ (row : CustomerRow). row.branch == b) rows ≡ length (of b (map seen_customer_row rows))
 customers_counted b rows = sym (length-filter (λ (row : CustomerRow). row.branch == b) rows) ∙ customers_lengths b rows
+
+copies_lengths : (b : ℕ) (rows : List CopyRow) → length (filter (λ (row : CopyRow). row.branch == b) rows) ≡ length (of b (map seen_copy_row rows))
+copies_lengths b [] = refl
+copies_lengths b (row ∷ rows) = elim (cases_Bool (row.branch == b)) [
+  | inl own ↦ rw own (ap suc (copies_lengths b rows))
+  | inr foreign ↦ rw foreign (copies_lengths b rows)
+]
+
+pub copies_counted : (b : ℕ) (rows : List CopyRow) → count_by (λ (row : CopyRow). row.branch == b) rows ≡ length (of b (map seen_copy_row rows))
+copies_counted b rows = sym (length-filter (λ (row : CopyRow). row.branch == b) rows) ∙ copies_lengths b rows
+
+pub lot_found : (b : ℕ) (lot : List ℕ) (rows : List LotRow)
+    → list_any (λ (row : LotRow). row.owner == b && bytes_eq lot row.lot) rows ≡ list_any (bytes_eq lot) (owned_by b (map seen_lot_row rows))
+lot_found b lot [] = refl
+lot_found b lot (row ∷ rows) = elim (cases_Bool (row.owner == b)) [
+  | inl own ↦ rw own (ap (λ (rest : Bool). bytes_eq lot row.lot || rest) (lot_found b lot rows))
+  | inr foreign ↦ rw foreign (lot_found b lot rows)
+]
 
 pub others_kept : (b : ℕ) (rows : List LastRow) → map seen_last_row (filter (λ (row : LastRow). not (row.owner == b)) rows) ≡ filter (λ row. not (row.owner == b)) (map seen_last_row rows)
 others_kept b [] = refl

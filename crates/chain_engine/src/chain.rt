@@ -1,21 +1,22 @@
 //! The chain of shops over plain lists.
 
-ghost use Rattle.std.specs.Prelude.{◌≡◌, ◌<◌, ◌≤◌, true, false, not, codes, Some, Option, IfOk, IfErr, OnErr, map, length, string_bytes};
-ghost use Rattle.shop_model.specs.Rows.{of, lacks};
+ghost use Rattle.std.specs.Prelude.{◌≡◌, false, not, Some, IfOk, IfErr, OnOk, OnErr, map};
+ghost use Rattle.shop_model.specs.Rows.{lacks};
 ghost use Rattle.shop_model.specs.Machine.{Do, Look};
 ghost use Rattle.shop_model.specs.Books.{Counter, HeadOffice, caller_of};
 ghost use Rattle.shop_model.specs.Opening.{opening_books};
-ghost use Rattle.shop_types.specs.Seen.{seen_caller, seen_request, seen_command, seen_ask};
+ghost use Rattle.shop_types.specs.Seen.{seen_caller, seen_request, seen_command, seen_ask, seen_refusal};
 ghost use Rattle.shop_types.specs.Replies.{seen_reply};
 ghost use Rattle.chain_engine.specs.Chains.{Answers, Runs, event_of};
-ghost use Rattle.chain_engine.specs.Decisions.{IsStoreRefusal};
+ghost use Rattle.chain_engine.specs.Decisions.{IsStoreRefusal, IsRefusal};
 ghost use Rattle.chain_engine.specs.Holding.{Holding};
-ghost use Rattle.chain_engine.specs.Done.{IsDone};
+ghost use Rattle.chain_engine.specs.Room.{FitsLimits};
+ghost use Rattle.chain_engine.specs.Seen.{with_new};
 ghost use Rattle.chain_engine.specs.Faults.{fault_name};
 
-use crate::decide::{Decision, decide};
-use crate::opening;
-use crate::rows::{self, CustomerRow, KeptRow, LastRow};
+use crate::outcome::{Outcome, decided};
+use crate::tables::{NewRows, Tables};
+use crate::{opening, rows};
 use reply_bodies::customer_text;
 use shop_types::{
     Ask, BranchNo, Caller, Command, Limits, NoMemory, Refusal, Reply, Request, Token,
@@ -51,9 +52,7 @@ impl fmt::Display for OpenFault {
 #[derive(Drop)]
 pub struct Chain {
     limits: Limits,
-    customers: Vec<CustomerRow>,
-    kept: Vec<KeptRow>,
-    lasts: Vec<LastRow>,
+    tables: Tables,
     alloc: Global,
 }
 
@@ -62,11 +61,12 @@ impl Model for Chain {
 
     ghost Value = { Holding };
 
-    ghost use Rattle.chain_engine.specs.Seen.{books_of, HasKeys};
+    ghost use Rattle.chain_engine.specs.Seen.{books_of};
+    ghost use Rattle.chain_engine.specs.Room.{FitsLimits};
 
-    ghost view = { λ c. record { limits = c.limits; books = books_of c.customers.items c.kept.items c.lasts.items } };
+    ghost view = { λ c. record { limits = c.limits; books = books_of c.tables } };
 
-    ghost invariant = { λ c. HasKeys c.customers.items c.kept.items };
+    ghost invariant = { λ c. FitsLimits c.limits (books_of c.tables) };
 }
 
 impl Chain {
@@ -74,11 +74,11 @@ impl Chain {
     pub fn demo(alloc: Global, limits: Limits) -> Result<Chain, OpenFault>
         ensures { IfOk result (λ chain. chain ≡ record { limits = limits; books = opening_books }) }
     {
+        // A look at the two limits tells the proof that each is a million at most.
+        let _ = (limits.commands(), limits.copies());
         Ok(Chain {
             limits,
-            customers: Vec::new(alloc),
-            kept: Vec::new(alloc),
-            lasts: Vec::new(alloc),
+            tables: Tables::new(alloc),
             alloc,
         })
     }
@@ -152,7 +152,7 @@ impl Chain {
         ensures { Answers (Counter branch) (Look (seen_ask ask)) (seen_reply result) self.now self.now }
     {
         let Ask::Customer(number) = ask;
-        match rows::customer_at(self.customers.as_slice(), branch, number) {
+        match rows::customer_at(self.tables.customers.as_slice(), branch, number) {
             Some(customer) => match customer_text(self.alloc, number, customer) {
                 Ok(text) => Reply::accepted(text),
                 Err(_) => Reply::refused(Refusal::Memory),
@@ -166,39 +166,38 @@ impl Chain {
         requires { lacks self.old.books.catalogue.branches branch ≡ false }
         ensures { Answers (Counter branch) (Do (seen_command command.now)) (seen_reply result) self.old self.new }
     {
-        match decide(
-            self.limits,
-            self.kept.as_slice(),
-            self.lasts.as_slice(),
-            branch,
-            command,
-        ) {
-            Decision::Again(reply) => match String::from_str(self.alloc, reply) {
+        match decided(self.alloc, self.limits, &self.tables, branch, command) {
+            Ok(Outcome::Again(text)) => Reply::accepted(text),
+            Ok(Outcome::Accepted(new)) => match self.accept(new) {
                 Ok(text) => Reply::accepted(text),
                 Err(_) => Reply::refused(Refusal::Memory),
             },
-            Decision::Refused(refusal) => Reply::refused(refusal),
-            Decision::Accepted => match self.accept(branch, command) {
-                Ok(text) => Reply::accepted(text),
-                Err(_) => Reply::refused(Refusal::Memory),
-            },
+            Err(refusal) => refuse(self.alloc, refusal),
         }
     }
 
-    /// Does an accepted command, whose reply has the text. An `Err` has changed nothing.
-    fn accept(&mut self, branch: BranchNo, command: &Command) -> Result<String, NoMemory>
-        requires { length (of branch self.old.books.customers) < 1_000_000 }
-        ensures done { IfOk result (λ text. IsDone branch (seen_command command.now) (string_bytes text) self.old self.new) }
+    /// Adds the rows of an accepted command, and gives the body of its reply. An `Err` has changed nothing.
+    fn accept(&mut self, new: NewRows) -> Result<String, NoMemory>
+        requires { FitsLimits self.old.limits (with_new self.old.books new) }
+        ensures text { IfOk result (λ text. text ≡ new.reply) }
+        ensures added { OnOk result (self.new ≡ record { limits = self.old.limits; books = with_new self.old.books new }) }
         ensures nothing { OnErr result (self.new ≡ self.old) }
     {
-        let made = rows::new_rows(self.alloc, self.customers.as_slice(), branch, command)?;
-        let text = made.kept.reply.clone()?;
-        rows::make_room(&mut self.customers, &mut self.kept, &mut self.lasts)?;
-        let rows::NewRows { customer, kept } = made;
-        self.customers.push_reserved(customer);
-        self.kept.push_reserved(kept);
-        rows::set_last(&mut self.lasts, branch, command.at);
-        Ok(text)
+        self.tables.make_room(&new)?;
+        Ok(self.tables.add(new))
+    }
+}
+
+/// The reply to a command that is refused. Where there is no memory for it, it is that to `Memory`.
+fn refuse(alloc: Global, refusal: Refusal) -> Reply
+    ensures { IsRefusal (seen_refusal refusal) (seen_reply result) }
+{
+    match refusal {
+        Refusal::BadCsv(fault) => match Reply::bad_csv(alloc, fault) {
+            Ok(reply) => reply,
+            Err(_) => Reply::refused(Refusal::Memory),
+        },
+        other => Reply::refused(other),
     }
 }
 

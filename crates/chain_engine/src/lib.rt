@@ -2,9 +2,12 @@
 #![tactic(auto)]
 
 mod chain;
-mod decide;
+mod finding;
+mod new_rows;
 mod opening;
+mod outcome;
 mod rows;
+mod tables;
 
 pub use chain::{Chain, OpenFault};
 

@@ -1,14 +1,16 @@
-//! What requests read of the opening catalogue, which no request changes: tokens, branches, cities and who works where.
+//! What requests read of the opening catalogue, which no request changes: tokens, branches, cities, staff and films.
 
-ghost use Rattle.std.specs.Prelude.{◌≡◌, ◌≤◌, not, Some};
-ghost use Rattle.std.specs.List.{list_any};
+ghost use Rattle.std.specs.Prelude.{◌≡◌, ◌≤◌, not, Some, map, option_map};
 ghost use Rattle.shop_model.specs.Rows.{at, lacks};
-ghost use Rattle.shop_model.specs.Verdict.{staff_is};
-ghost use Rattle.shop_model.specs.Books.{caller_of, branch_with};
+ghost use Rattle.shop_model.specs.Books.{head, caller_of, branch_with};
 ghost use Rattle.shop_model.specs.Opening.{opening_catalogue};
 ghost use Rattle.shop_types.specs.Seen.{seen_caller};
+ghost use Rattle.branch_core.specs.Agreed.{seen_staff, post_of};
+ghost use Rattle.chain_engine.specs.Finds.{found_row};
 
+use branch_core::{StaffFound, StockFound};
 use shop_types::{BranchNo, Caller, CityNo, StaffNo, Token};
+use stock_csv::StockRow;
 
 const OFFICE_TOKEN: [u8; 32] = [b'0'; 32];
 
@@ -65,9 +67,28 @@ pub fn has_city(number: CityNo) -> bool
     number.get() <= 3
 }
 
-/// Whether the member of staff works in the branch.
-pub fn works_at(staff: StaffNo, branch: BranchNo) -> bool
-    ensures { result ≡ list_any (staff_is branch) (at staff opening_catalogue.staff) }
+/// The member of staff of that number: each works in the branch of the same number, and none left.
+pub fn staff(number: StaffNo) -> Option<StaffFound>
+    ensures { option_map seen_staff result ≡ head (map post_of (at number opening_catalogue.staff)) }
 {
-    staff.get() <= 3 && staff.get() == branch.get()
+    if number.get() <= 3 {
+        Some(StaffFound {
+            branch: BranchNo::new(number.get()).unwrap(),
+            gone: false,
+        })
+    } else {
+        None
+    }
+}
+
+/// A row of a stock file, with what there is of its film. There are two films, and neither is withdrawn.
+pub fn stock_row(row: StockRow) -> StockFound
+    ensures { result ≡ found_row row }
+{
+    StockFound {
+        film: row.film,
+        copies: row.copies,
+        is_there: row.film.get() <= 2,
+        is_withdrawn: false,
+    }
 }

@@ -1,7 +1,7 @@
 use super::*;
 use shop_types::{
-    Act, Ask, BranchNo, Caller, CityNo, Command, CustomerNo, Key, L45, Limits, Moment, Person,
-    Reply, Request, StaffNo, T45, T128, Token,
+    Act, Ask, BranchNo, Bytes, Caller, CityNo, Command, CustomerNo, Key, L45, Limits, LotName,
+    Moment, Person, Reply, Request, StaffNo, T45, T128, Token,
 };
 use std::alloc::Global;
 use std::test::Fail;
@@ -149,6 +149,90 @@ fn a_branch_may_be_full(rt: HostRuntime) -> Result<(), Fail> {
     assert!(rt; is_told(alloc, &mut chain, MARY, "{\"customer\":1}")?);
     assert!(rt; is_told(alloc, &mut chain, second, "{\"refused\":\"full\"}")?);
     assert!(rt; is_told(alloc, &mut chain, MARY, "{\"customer\":1}")?);
+    Ok(())
+}
+
+/// A chain of which each branch may have so many copies.
+fn chain_of_copies(alloc: Global, copies: u32) -> Result<Chain, Fail> {
+    Ok(Chain::demo(alloc, Limits::new(10, copies).ok_or("limits")?)?)
+}
+
+/// Whether the first branch's import of the rows under that key, as that lot, has that reply.
+fn is_imported(
+    alloc: Global,
+    chain: &mut Chain,
+    key: &str,
+    lot: &str,
+    rows: &str,
+    body: &str,
+) -> Result<bool, Fail> {
+    let file = format!(in alloc; "film_id,copies\n{rows}")?;
+    let request = Request::Do(Command {
+        key: Key::read(text(alloc, key)?).ok_or("key")?,
+        staff: StaffNo::new(1).ok_or("staff")?,
+        at: Moment::read("2026-03-01T10:00:00").ok_or("moment")?,
+        act: Act::Import {
+            lot: LotName::read(text(alloc, lot)?).ok_or("lot")?,
+            file: Bytes::from_vec(Vec::from_slice(alloc, file.as_bytes())?),
+        },
+    });
+    Ok(says(&chain.answer(&branch(1)?, &request), body))
+}
+
+const FOUR: &str = "1,3\n2,1\n";
+
+#[test]
+fn copies_are_numbered_over_all_lots(rt: HostRuntime) -> Result<(), Fail> {
+    let alloc = rt.alloc();
+    let mut chain = chain_of_copies(alloc, 100)?;
+    for (key, lot, rows, body) in [
+        ("k-1", "L1", FOUR, "{\"copies\":4,\"first\":1}"),
+        ("k-2", "L2", FOUR, "{\"copies\":4,\"first\":5}"),
+        ("k-1", "L1", FOUR, "{\"copies\":4,\"first\":1}"),
+        ("k-1", "L1", "1,3\n", "{\"refused\":\"key_used\"}"),
+        ("k-3", "L1", FOUR, "{\"refused\":\"lot_in\"}"),
+        ("k-3", "L1", "1,0\n", "{\"refused\":\"lot_in\"}"),
+    ] {
+        assert!(rt;
+            is_imported(alloc, &mut chain, key, lot, rows, body)?,
+            "{key} {body}"
+        );
+    }
+    Ok(())
+}
+
+#[test]
+fn a_refused_import_leaves_nothing(rt: HostRuntime) -> Result<(), Fail> {
+    let alloc = rt.alloc();
+    let mut chain = chain_of_copies(alloc, 100)?;
+    for (lot, rows, body) in [
+        ("L1", "1,2\n9,1\n", "{\"refused\":\"no_film\"}"),
+        ("L1", "1,2\n2,0\n", "{\"line\":3,\"refused\":\"bad_csv\"}"),
+        ("L1", "1,2\n", "{\"copies\":2,\"first\":1}"),
+    ] {
+        assert!(rt;
+            is_imported(alloc, &mut chain, "k-1", lot, rows, body)?,
+            "{body}"
+        );
+    }
+    Ok(())
+}
+
+#[test]
+fn a_branch_may_have_no_room_for_copies(rt: HostRuntime) -> Result<(), Fail> {
+    let alloc = rt.alloc();
+    let mut chain = chain_of_copies(alloc, 3)?;
+    for (rows, body) in [
+        (FOUR, "{\"refused\":\"full\"}"),
+        ("1,2\n2,1\n", "{\"copies\":3,\"first\":1}"),
+    ] {
+        assert!(rt;
+            is_imported(alloc, &mut chain, "k-1", "L1", rows, body)?,
+            "{body}"
+        );
+    }
+    let full = "{\"refused\":\"full\"}";
+    assert!(rt; is_imported(alloc, &mut chain, "k-2", "L2", "2,1\n", full)?);
     Ok(())
 }
 

@@ -34,18 +34,18 @@ refused_answers message d old new e same =
     let sender = sender_of message old in
     let known = known_same (known_token message.token) old.books.catalogue in record {
       limits = ap (λ (h : Holding). h.limits) same;
-      step = λ stock_of. inl (record {
-        reply = ap answer_of (sym (unread_reply (rules_of old.limits stock_of) message sender d old.books e))
-            ∙ ap (λ (c : Caller). answer_of (reply_for (rules_of old.limits stock_of) office_look c (reading_of message sender) old.books)) (sym known);
-        books = ap (λ (h : Holding). h.books) same ∙ sym (unread_after (rules_of old.limits stock_of) message sender d old.books e)
-            ∙ ap (λ (c : Caller). after_for (rules_of old.limits stock_of) c (reading_of message sender) old.books) (sym known);
+      step = inl (record {
+        reply = ap answer_of (sym (unread_reply (rules_of old.limits) message sender d old.books e))
+            ∙ ap (λ (c : Caller). answer_of (reply_for (rules_of old.limits) office_look c (reading_of message sender) old.books)) (sym known);
+        books = ap (λ (h : Holding). h.books) same ∙ sym (unread_after (rules_of old.limits) message sender d old.books e)
+            ∙ ap (λ (c : Caller). after_for (rules_of old.limits) c (reading_of message sender) old.books) (sym known);
       });
     }
 
 pub memory_answers : (message : Message) (answer : Answer) (old new : Holding) → answer ≡ problem_answer Memory → new ≡ old → AnswersMessage message answer old new
 memory_answers message answer old new is same = record {
   limits = ap (λ (h : Holding). h.limits) same;
-  step = λ stock_of. inr (record { reply = is; books = ap (λ (h : Holding). h.books) same });
+  step = inr (record { reply = is; books = ap (λ (h : Holding). h.books) same });
 }
 
 -- the chain answered a request of that caller, and they are the message's

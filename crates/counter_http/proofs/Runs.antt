@@ -8,7 +8,6 @@ use Rattle.http_messages.specs.Message.{Message}
 use Rattle.http_messages.specs.Input.{HasMessage}
 use Rattle.http_messages.proofs.StreamLemmas.{HasMessages-append, HasMessages-snoc}
 use Rattle.shop_values.specs.LimitValues.{Limits}
-use Rattle.shop_model.specs.Values.{Text, Stock}
 use Rattle.shop_model.specs.Machine.{Request}
 use Rattle.shop_model.specs.Answers.{Answer}
 use Rattle.shop_model.specs.Books.{Event, Caller, Books, caller_in, known_caller}
@@ -30,19 +29,19 @@ run_one : (old mid new : Holding) (es : List Exchange) (e : Exchange)
     → Runs (events_of (es ++ e ∷ [])) (answers_of (es ++ e ∷ [])) old new
 run_one old mid new es e runs goes step = record {
   limits = step.limits ∙ runs.limits;
-  run = λ stock_of.
+  run =
       let event = event_of e.message in
       let caller : Caller = caller_in event mid.books in
-      let Step : Limits → Caller → Type 0 = λ limits asker. IsStep (rules_of limits stock_of) office_look asker (event.request caller) e.answer mid.books new.books in
-      let found : Step mid.limits caller = subst (λ (c : Caller). Step mid.limits c) (known_same (known_token e.message.token) mid.books.catalogue) (step.step stock_of) in
+      let Step : Limits → Caller → Type 0 = λ limits asker. IsStep (rules_of limits) office_look asker (event.request caller) e.answer mid.books new.books in
+      let found : Step mid.limits caller = subst (λ (c : Caller). Step mid.limits c) (known_same (known_token e.message.token) mid.books.catalogue) step.step in
       let is : Step old.limits caller = subst (λ (l : Limits). Step l caller) runs.limits found in
       rw (map-append (λ (x : Exchange). event_of x.message) es (e ∷ []), map-append (λ (x : Exchange). x.answer) es (e ∷ []))
-      (run_more (rules_of old.limits stock_of) office_look (events_of es) (answers_of es) event e.answer old.books mid.books new.books (runs.run stock_of) (sound_all es goes) is);
+      (run_more (rules_of old.limits) office_look (events_of es) (answers_of es) event e.answer old.books mid.books new.books runs.run (sound_all es goes) is);
 }
 
 -- nothing is read yet
 pub ran_none : (old : Holding) → HasRun old old [] [] []
-ran_none old = record { splits = refl; run = record { limits = refl; run = λ stock_of. run_none (rules_of old.limits stock_of) office_look old.books } }
+ran_none old = record { splits = refl; run = record { limits = refl; run = run_none (rules_of old.limits) office_look old.books } }
 
 -- more is read
 pub ran_more : (old new : Holding) (read more : List ℕ) (es : List Exchange) (rest : List ℕ)

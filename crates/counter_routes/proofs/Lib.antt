@@ -1,3 +1,4 @@
 pub mod RouteLemmas
 pub mod BodyLemmas
 pub mod MomentLemmas
+pub mod PartLemmas

@@ -1,4 +1,5 @@
 pub mod Moments
 pub mod Routes
 pub mod Bodies
+pub mod Imports
 pub mod Readings

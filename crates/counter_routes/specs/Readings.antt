@@ -10,11 +10,12 @@ use Rattle.shop_model.specs.Books.{Caller, Counter, HeadOffice, Nobody}
 use Rattle.shop_types.specs.Seen.{seen_request, seen_refusal}
 use Rattle.shop_types.specs.Replies.{has_fixed_body}
 use Rattle.counter_routes.specs.declared.paths.Route.{Route}
-use Rattle.counter_routes.specs.declared.paths.Route.TheVariants.{NewCustomer, Customer}
+use Rattle.counter_routes.specs.declared.paths.Route.TheVariants.{NewCustomer, Customer, Import}
 use Rattle.counter_routes.specs.declared.asked.Reading.{Reading}
 use Rattle.counter_routes.specs.declared.asked.Reading.TheVariants.{Asked, Refused}
 use Rattle.counter_routes.specs.Routes.{route_of}
 use Rattle.counter_routes.specs.Bodies.{body_of, new_customer}
+use Rattle.counter_routes.specs.Imports.{import_in}
 
 -- the request, or the refusal `bad_body` where there is none
 abbrev pub or_bad_body : Option Request → Request
@@ -32,6 +33,7 @@ number_in target = option_and_then row_number_of (slice_get (parts target) 2)
 abbrev pub request_at : Message → Option Route → Request
 request_at message None = Unread named.NoRoute
 request_at message (Some NewCustomer) = or_bad_body (option_map Do (command_in message.body))
+request_at message (Some Import) = or_bad_body (option_map Do (import_in message.target message.body))
 request_at message (Some Customer) = or_bad_body (option_map (λ n. Look (OneCustomer n)) (number_in message.target))
 
 -- What a message asks of that caller: nobody asks anything, and head office has no routes yet. The body of a GET is not looked at.
@@ -44,6 +46,7 @@ reading_of message Nobody = Unread named.NoCounter
 abbrev pub is_command : Option Route → Bool
 is_command None = false
 is_command (Some NewCustomer) = true
+is_command (Some Import) = true
 is_command (Some Customer) = false
 
 -- reading the message takes memory: it is a counter's command

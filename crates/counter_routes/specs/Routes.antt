@@ -9,7 +9,7 @@ use Rattle.matchit.specs.Route.{Scan, parse_route}
 use Rattle.matchit.specs.Router.{RouteOf, route_from, nearest}
 use Rattle.matchit.specs.declared.error.InsertError.{InsertError}
 use Rattle.counter_routes.specs.declared.paths.Route.{Route}
-use Rattle.counter_routes.specs.declared.paths.Route.TheVariants.{NewCustomer, Customer}
+use Rattle.counter_routes.specs.declared.paths.Route.TheVariants.{NewCustomer, Customer, Import}
 use Rattle.counter_routes.specs.declared.paths.Pattern.{Pattern}
 
 -- the rows of a router
@@ -60,7 +60,7 @@ entries ps = map entry_of ps
 
 -- the routes of POST requests
 unfoldable pub post_entries : List Entry
-post_entries = (codes "/customer", NewCustomer) ∷ []
+post_entries = (codes "/customer", NewCustomer) ∷ (codes "/import/{key}/{staff}/{at}/{lot}", Import) ∷ []
 
 -- the routes of GET requests
 unfoldable pub get_entries : List Entry

@@ -1,15 +1,19 @@
 //! What a message asks.
 
-ghost use Rattle.std.specs.Prelude.{◌≡◌, true, IfOk, OnErr};
+ghost use Rattle.std.specs.Prelude.{◌≡◌, true, IfOk, IfErr, OnErr, Err, Option, Some, None, option_map};
 ghost use Rattle.http_messages.specs.Shown.{message_of};
-ghost use Rattle.shop_types.specs.Seen.{seen_caller};
+ghost use Rattle.shop_model.specs.Values.{Command as Written};
+ghost use Rattle.shop_model.specs.Machine.{Do};
+ghost use Rattle.shop_types.specs.Seen.{seen_command, seen_caller};
 ghost use Rattle.counter_routes.specs.Routes.{route_of};
-ghost use Rattle.counter_routes.specs.Readings.{Reads, number_in, request_at, reading_of, is_command, takes_memory};
+ghost use Rattle.counter_routes.specs.Readings.{Reads, number_in, request_at, reading_of, or_bad_body, is_command, takes_memory};
+ghost use Rattle.counter_routes.specs.declared.bodies.Fault.TheVariants.{BadBody, NoMemory as OutOfMemory};
 
 use crate::bodies::{Fault, new_customer_command};
+use crate::imports::import_command;
 use crate::paths::{Route, Routes};
 use http_messages::part;
-use shop_types::{Ask, Caller, CustomerNo, NoMemory, Refusal, Request};
+use shop_types::{Ask, Caller, Command, CustomerNo, NoMemory, Refusal, Request};
 use std::alloc::Global;
 
 /// What a message asks: a request to the shop, or why it is none.
@@ -26,6 +30,22 @@ fn number_of(target: &[u8]) -> Option<CustomerNo>
     CustomerNo::read(part(target, 2)?)
 }
 
+/// What a command's message asks: the command, or `bad_body` where the message writes none.
+fn read_command(command: Result<Command, Fault>) -> Result<Reading, NoMemory>
+    ensures reading { (written : Option Written) → IfOk command (λ c. written ≡ Some (seen_command c))
+        → IfErr command (λ fault. fault ≡ BadBody → written ≡ None)
+        → IfOk result (λ reading. Reads reading (or_bad_body (option_map Do written))) }
+    ensures memory { OnErr result (command ≡ Err OutOfMemory) }
+{
+    match command {
+        Ok(command) => Ok(Reading::Asked(Request::Do(command))),
+        Err(fault) => match fault {
+            Fault::BadBody => Ok(Reading::Refused(Refusal::BadBody)),
+            Fault::NoMemory => Err(NoMemory),
+        },
+    }
+}
+
 impl Routes {
     fn read_counter(
         &self,
@@ -40,11 +60,8 @@ impl Routes {
             return Ok(Reading::Refused(Refusal::NoRoute));
         };
         match route {
-            Route::NewCustomer => match new_customer_command(alloc, message.body) {
-                Ok(command) => Ok(Reading::Asked(Request::Do(command))),
-                Err(Fault::BadBody) => Ok(Reading::Refused(Refusal::BadBody)),
-                Err(Fault::NoMemory) => Err(NoMemory),
-            },
+            Route::NewCustomer => read_command(new_customer_command(alloc, message.body)),
+            Route::Import => read_command(import_command(alloc, message.target, message.body)),
             Route::Customer => Ok(match number_of(message.target) {
                 Some(number) => Reading::Asked(Request::Look(Ask::Customer(number))),
                 None => Reading::Refused(Refusal::BadBody),
@@ -53,8 +70,8 @@ impl Routes {
     }
 
     /// What a message asks of that caller. It is refused with `no_counter` where nobody asks, with `no_route` where there is
-    /// no such request for that caller, and with `bad_body` where the path's part or the body is not of its form.
-    /// Only a command's body takes memory.
+    /// no such request for that caller, and with `bad_body` where a part of the path or a JSON body is not of its form.
+    /// A stock file is kept as it came, whatever it says. Only a command takes memory.
     pub fn read(
         &self,
         alloc: Global,

@@ -3,6 +3,7 @@
 
 mod asked;
 mod bodies;
+mod imports;
 mod paths;
 
 pub use asked::Reading;

@@ -12,6 +12,7 @@ use std::alloc::{AllocError, Global};
 pub(crate) enum Route {
     NewCustomer,
     Customer,
+    Import,
 }
 
 /// A route, and the paths that it takes.
@@ -21,10 +22,16 @@ pub(crate) struct Pattern {
     route: Route,
 }
 
-const POST_ROUTES: [Pattern; 1] = [Pattern {
-    text: "/customer",
-    route: Route::NewCustomer,
-}];
+const POST_ROUTES: [Pattern; 2] = [
+    Pattern {
+        text: "/customer",
+        route: Route::NewCustomer,
+    },
+    Pattern {
+        text: "/import/{key}/{staff}/{at}/{lot}",
+        route: Route::Import,
+    },
+];
 
 const GET_ROUTES: [Pattern; 1] = [Pattern {
     text: "/customer/{n}",

@@ -40,7 +40,9 @@ fn adds_mary(reading: &Reading) -> bool {
     let Reading::Asked(Request::Do(command)) = reading else {
         return false;
     };
-    let Act::Customer(mary) = &command.act;
+    let Act::Customer(mary) = &command.act else {
+        return false;
+    };
     command.key.as_str() == "k1"
         && command.staff.get() == 1
         && command.at.text().as_slice() == b"2026-03-01T10:00:00".as_slice()
@@ -218,7 +220,81 @@ fn refuses_other_callers(rt: HostRuntime) -> Result<(), Fail> {
     Ok(())
 }
 
-/// The part that the router takes for a pattern's name is the one between the slashes.
+/// Whether the reading is the import of lot L1 with that file.
+fn imports(reading: &Reading, wanted: &[u8]) -> bool {
+    let Reading::Asked(Request::Do(command)) = reading else {
+        return false;
+    };
+    let Act::Import { lot, file } = &command.act else {
+        return false;
+    };
+    command.key.as_str() == "k1"
+        && command.staff.get() == 1
+        && command.at.text().as_slice() == b"2026-03-01T10:00:00".as_slice()
+        && lot.as_str() == "L1"
+        && file.as_slice() == wanted
+}
+
+#[test]
+fn reads_an_import_of_any_file(rt: HostRuntime) -> Result<(), Fail> {
+    let target = b"/import/k1/1/2026-03-01T10:00:00/L1";
+    for body in [b"film_id,copies\n1,3\n".as_slice(), b"", b"\xff{", MARY] {
+        let reading = read(&rt, &message(true, target, body))?;
+        assert!(rt; imports(&reading, body));
+    }
+    Ok(())
+}
+
+/// Paths of imports, each with one part that is not of its form.
+const BAD_PARTS: [&[u8]; 15] = [
+    b"/import/k_1/1/2026-03-01T10:00:00/L1",
+    b"/import/k%2d1/1/2026-03-01T10:00:00/L1",
+    b"/import/k\xc3\xbc/1/2026-03-01T10:00:00/L1",
+    b"/import/ABCDEFGHIJKLMNOPQRSTUVWXYZabcdefghijklmno/1/2026-03-01T10:00:00/L1",
+    b"/import/k1/01/2026-03-01T10:00:00/L1",
+    b"/import/k1/0/2026-03-01T10:00:00/L1",
+    b"/import/k1/x/2026-03-01T10:00:00/L1",
+    b"/import/k1/4294967296/2026-03-01T10:00:00/L1",
+    b"/import/k1/1/2026-02-29T00:00:00/L1",
+    b"/import/k1/1/1969-12-31T23:59:59/L1",
+    b"/import/k1/1/2026-03-01/L1",
+    b"/import/k1/1/2026-03-01T10:00:0\xc3\xbc/L1",
+    b"/import/k1/1/2026-03-01T10:00:00/L 1",
+    b"/import/k1/1/2026-03-01T10:00:00/L%2F1",
+    b"/import/k1/1/2026-03-01T10:00:00/ABCDEFGHIJKLMNOPQRSTUVWXYZabcdefghijklmno",
+];
+
+#[test]
+fn refuses_imports_with_bad_parts(rt: HostRuntime) -> Result<(), Fail> {
+    for target in BAD_PARTS {
+        let reading = read(&rt, &message(true, target, b"film_id,copies\n1,3\n"))?;
+        assert!(rt; is_refused(&reading, Refusal::BadBody));
+    }
+    Ok(())
+}
+
+/// Targets that are near to an import's: whether the method is POST, and the target.
+const NO_IMPORTS: [(bool, &[u8]); 8] = [
+    (true, b"/import/k1/1/2026-03-01T10:00:00"),
+    (true, b"/import/k1/1/2026-03-01T10:00:00/"),
+    (true, b"/import/k1/1/2026-03-01T10:00:00/L1/"),
+    (true, b"/import/k1/1/2026-03-01T10:00:00/L1/x"),
+    (true, b"/import//1/2026-03-01T10:00:00/L1"),
+    (true, b"/import/k1/1/2026-03-01T10:00:00/L1?x=1"),
+    (true, b"/import/k\xff/1/2026-03-01T10:00:00/L1"),
+    (false, b"/import/k1/1/2026-03-01T10:00:00/L1"),
+];
+
+#[test]
+fn refuses_what_is_near_to_an_import(rt: HostRuntime) -> Result<(), Fail> {
+    for (posts, target) in NO_IMPORTS {
+        let reading = read(&rt, &message(posts, target, b"film_id,copies\n1,3\n"))?;
+        assert!(rt; is_refused(&reading, Refusal::NoRoute));
+    }
+    Ok(())
+}
+
+/// The parts that the router takes for a pattern's names are those between the slashes.
 #[test]
 fn parts_are_those_of_the_router(rt: HostRuntime) -> Result<(), Fail> {
     let mut router = Router::new(rt.alloc());
@@ -232,6 +308,25 @@ fn parts_are_those_of_the_router(rt: HostRuntime) -> Result<(), Fail> {
         let found = router.at(path).ok().ok_or("no route")?;
         let named = found.params.get("n").ok_or("no part")?;
         assert!(rt; part(path.as_bytes(), 2).ok_or("no part")? == named.as_bytes());
+    }
+    Ok(())
+}
+
+#[test]
+fn parts_of_imports_are_those_of_the_router(rt: HostRuntime) -> Result<(), Fail> {
+    let mut router = Router::new(rt.alloc());
+    let pattern = "/import/{key}/{staff}/{at}/{lot}";
+    router.insert(pattern, 1u8).ok().ok_or("route")?;
+    for path in [
+        "/import/k1/1/2026-03-01T10:00:00/L1",
+        "/import/k%2f/M\u{fc}ller/{at}/ ",
+        pattern,
+    ] {
+        let found = router.at(path).ok().ok_or("no route")?;
+        for (n, name) in [(2, "key"), (3, "staff"), (4, "at"), (5, "lot")] {
+            let named = found.params.get(name).ok_or("no part")?;
+            assert!(rt; part(path.as_bytes(), n).ok_or("no part")? == named.as_bytes());
+        }
     }
     Ok(())
 }

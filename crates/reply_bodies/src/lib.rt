@@ -2,8 +2,10 @@
 #![tactic(auto)]
 
 mod customer;
+mod stock;
 
 pub use customer::{customer_text, new_customer_text};
+pub use stock::new_copies_text;
 
 #[cfg(test)]
 mod tests;

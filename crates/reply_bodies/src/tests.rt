@@ -1,6 +1,6 @@
 use super::*;
 use shop_types::{Customer, Person};
-use shop_values::{CityNo, CustomerNo, L45, Moment, T45, T128};
+use shop_values::{CityNo, CopyNo, CustomerNo, L45, Moment, T45, T128};
 use std::alloc::Global;
 use std::test::Fail;
 
@@ -23,6 +23,13 @@ fn customer(alloc: Global, first: &str) -> Result<Customer, Fail> {
 fn a_new_customer_has_its_number(rt: HostRuntime) -> Result<(), Fail> {
     let text = new_customer_text(rt.alloc(), CustomerNo::new(1).ok_or("none")?)?;
     assert!(rt; text.as_str() == "{\"customer\":1}");
+    Ok(())
+}
+
+#[test]
+fn new_copies_have_a_count_and_a_first_number(rt: HostRuntime) -> Result<(), Fail> {
+    let text = new_copies_text(rt.alloc(), 4, CopyNo::new(5).ok_or("none")?)?;
+    assert!(rt; text.as_str() == "{\"copies\":4,\"first\":5}");
     Ok(())
 }
 

@@ -10,4 +10,6 @@ mod moments;
 #[cfg(test)]
 mod program;
 #[cfg(test)]
+mod stock;
+#[cfg(test)]
 mod talk;

@@ -75,6 +75,47 @@ impl<'t> NewCustomer<'t> {
     }
 }
 
+/// What an import says where it isn't by staff 1 on 2026-03-01 at 10.
+#[derive(Clone, Copy)]
+pub struct Import<'t> {
+    pub key: &'t str,
+    pub staff: u32,
+    pub at: &'t str,
+    pub lot: &'t str,
+}
+
+impl<'t> Import<'t> {
+    pub fn keyed(key: &'t str) -> Import<'t> {
+        Import {
+            key,
+            staff: 1,
+            at: "2026-03-01T10:00:00",
+            lot: "L1",
+        }
+    }
+
+    pub fn in_lot(self, lot: &'t str) -> Import<'t> {
+        Import { lot, ..self }
+    }
+
+    pub fn by_staff(self, staff: u32) -> Import<'t> {
+        Import { staff, ..self }
+    }
+
+    pub fn at(self, at: &'t str) -> Import<'t> {
+        Import { at, ..self }
+    }
+
+    /// The request's text, with the stock file.
+    pub fn sent_by(self, alloc: Global, token: &str, file: &str) -> Result<String, Fail> {
+        let line = format!(in alloc;
+            "POST /import/{}/{}/{}/{}",
+            self.key, self.staff, self.at, self.lot
+        )?;
+        request(alloc, line.as_str(), token, file)
+    }
+}
+
 /// A request's text.
 pub fn request(alloc: Global, line: &str, token: &str, body: &str) -> Result<String, Fail> {
     let length = body.len();
@@ -105,6 +146,12 @@ pub fn conflict(alloc: Global, name: &str) -> Result<String, Fail> {
 /// The reply to a new customer.
 pub fn customer(alloc: Global, number: u32) -> Result<String, Fail> {
     let body = format!(in alloc; "{{\"customer\":{number}}}")?;
+    reply(alloc, "200 OK", body.as_str())
+}
+
+/// The reply to an import.
+pub fn imported(alloc: Global, copies: u32, first: u32) -> Result<String, Fail> {
+    let body = format!(in alloc; "{{\"copies\":{copies},\"first\":{first}}}")?;
     reply(alloc, "200 OK", body.as_str())
 }
 

@@ -38,6 +38,7 @@ seen_customer customer = record {
 
 abbrev pub seen_act : Act → model.Act
 seen_act (act.Customer person) = model.AddCustomer (seen_person person)
+seen_act (act.Import lot file) = model.Import lot file
 
 abbrev pub seen_command : Command → model.Command
 seen_command command = record {

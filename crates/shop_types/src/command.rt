@@ -2,14 +2,16 @@ ghost use Rattle.std.specs.Prelude.{◌≡◌};
 ghost use Rattle.shop_model.specs.Shop.{same_command};
 ghost use Rattle.shop_types.specs.Seen.{seen_command};
 
-use crate::Person;
-use shop_values::{Key, Moment, StaffNo};
+use crate::{Bytes, Person};
+use shop_values::{Key, LotName, Moment, StaffNo};
 
 /// What a counter's command does.
 #[derive(Clone, Debug, Drop, PartialEq, Eq)]
 pub enum Act {
     /// Adds a customer to the branch, who is active.
     Customer(Person),
+    /// Adds the copies that a stock file lists to the branch, as a lot of that name.
+    Import { lot: LotName, file: Bytes },
 }
 
 /// A command of a branch's counter.

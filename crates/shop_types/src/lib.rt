@@ -1,6 +1,7 @@
 //! What callers ask of the shop and are told: commands, readings, refusals and replies, each with its meaning in the definitions.
 #![tactic(auto)]
 
+mod bytes;
 mod command;
 mod line;
 mod person;
@@ -9,6 +10,7 @@ mod reply;
 mod request;
 mod words;
 
+pub use bytes::Bytes;
 pub use command::{Act, Command};
 pub use line::{Line, LineAct, Usage};
 pub use person::{Customer, Person};
@@ -17,8 +19,8 @@ pub use reply::{Body, Reply};
 pub use request::{Ask, Caller, OfficeAct, OfficeCommand, Request};
 pub use shop_values::{
     ActorNo, BranchNo, CategoryNo, CityNo, CopyNo, CountryNo, CustomerNo, FilmNo, Key, L45, L500,
-    LanguageNo, Limits, Moment, NoMemory, PaymentNo, RentalNo, RowNumber, StaffNo, T45, T128, Text,
-    Token, moment_texts_are_one_to_one,
+    LanguageNo, Limits, LotName, Moment, Name, NoMemory, PaymentNo, RentalNo, RowNumber, StaffNo,
+    T45, T128, Text, Token, moment_texts_are_one_to_one,
 };
 pub use words::OfficeWords;
 

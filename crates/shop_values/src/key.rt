@@ -8,13 +8,19 @@ ghost use Rattle.shop_values.specs.Texts.{is_key, is_key_byte};
 
 use std::marker::Model;
 
-/// The key of a command, by which a command that is sent again is known: 1 to 40 ASCII letters, digits or hyphens.
+/// A name that a counter chooses: 1 to 40 ASCII letters, digits or hyphens. KIND says of what, so that two kinds don't mix.
 #[derive(Clone, Debug, Drop)]
-pub struct Key {
+pub struct Name<const KIND: u8> {
     text: String,
 }
 
-impl Model for Key {
+/// The key of a command, by which a command that is sent again is known.
+pub type Key = Name<1>;
+
+/// The name of a lot of copies that came in together.
+pub type LotName = Name<2>;
+
+impl<const KIND: u8> Model for Name<KIND> {
     ghost use Rattle.std.specs.Prelude.{◌≡◌, ℕ, List, true};
     ghost use Rattle.std.specs.String.{string_bytes};
     ghost use Rattle.shop_values.specs.Texts.{is_key};
@@ -45,13 +51,13 @@ fn fits(text: &str) -> bool
     1 <= bytes.len() && bytes.len() <= 40 && all_of_key(bytes)
 }
 
-impl Key {
-    /// The key, where the text is one. It takes the `String`, and so no memory.
-    pub fn read(text: String) -> Option<Key>
+impl<const KIND: u8> Name<KIND> {
+    /// The name, where the text is one. It takes the `String`, and so no memory.
+    pub fn read(text: String) -> Option<Name<KIND>>
         ensures { result ≡ (if is_key (string_bytes text) then Some (string_bytes text) else None) }
     {
         if fits(text.as_str()) {
-            Some(Key { text })
+            Some(Name { text })
         } else {
             None
         }
@@ -65,16 +71,16 @@ impl Key {
     }
 }
 
-impl PartialEq for Key {
+impl<const KIND: u8> PartialEq for Name<KIND> {
     ghost eq = { bytes_eq };
 
     ghost laws = { Prim.search (comparing, rules) };
 
-    fn eq(&self, other: &Key) -> bool {
+    fn eq(&self, other: &Name<KIND>) -> bool {
         self.text == other.text
     }
 }
 
-impl Eq for Key {
+impl<const KIND: u8> Eq for Name<KIND> {
     ghost laws = { Prim.search (comparing, rules) };
 }

@@ -9,7 +9,7 @@ mod row_number;
 mod text;
 mod token;
 
-pub use key::Key;
+pub use key::{Key, LotName, Name};
 pub use limits::Limits;
 pub use moment::{Moment, moment_texts_are_one_to_one};
 pub use no_memory::NoMemory;

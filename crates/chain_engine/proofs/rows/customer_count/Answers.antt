@@ -1,6 +1,6 @@
 use Rattle.std.proofs.Common.{rules, ◌≡◌, ◌∙◌, count_by}
 use Rattle.std.specs.Prelude.{◌==◌}
-use Rattle.chain_engine.specs.declared.rows.CustomerRow.{CustomerRow}
+use Rattle.chain_engine.specs.declared.tables.CustomerRow.{CustomerRow}
 use Rattle.chain_engine.proofs.RowFinds.{customers_counted}
 use Rattle.chain_engine.proofs.rows.customer_count.Goals as goal
 

@@ -1,6 +1,6 @@
 use Rattle.std.proofs.Common.{rules, ◌≡◌, ◌∙◌, count_by}
 use Rattle.std.specs.Prelude.{◌==◌}
-use Rattle.chain_engine.specs.declared.rows.KeptRow.{KeptRow}
+use Rattle.chain_engine.specs.declared.tables.KeptRow.{KeptRow}
 use Rattle.chain_engine.proofs.RowFinds.{kept_counted}
 use Rattle.chain_engine.proofs.rows.kept_count.Goals as goal
 

@@ -1,7 +1,7 @@
 use Rattle.std.proofs.Common.{rules, tests, ◌≡◌, Bor, option_map, find}
 use Rattle.std.proofs.lemmas.Iterator.{YieldsList-from_slice}
 use Rattle.std.proofs.lemmas.Iterator.Search.{find_from_yields_List}
-use Rattle.chain_engine.specs.declared.rows.KeptRow.{KeptRow}
+use Rattle.chain_engine.specs.declared.tables.KeptRow.{KeptRow}
 use Rattle.chain_engine.proofs.RowFinds.{has_key, kept_found}
 use Rattle.chain_engine.proofs.rows.kept_under.Goals as goal
 

@@ -2,7 +2,7 @@ use Rattle.std.proofs.Common.{rules, tests, ◌≡◌, ◌∙◌, Bor, option_ma
 use Rattle.std.specs.Prelude.{◌==◌}
 use Rattle.std.proofs.lemmas.Iterator.{YieldsList-from_slice}
 use Rattle.std.proofs.lemmas.Iterator.Search.{find_from_yields_List}
-use Rattle.chain_engine.specs.declared.rows.LastRow.{LastRow}
+use Rattle.chain_engine.specs.declared.tables.LastRow.{LastRow}
 use Rattle.chain_engine.proofs.RowFinds.{last_found}
 use Rattle.chain_engine.proofs.rows.last_moment.Goals as goal
 

@@ -3,7 +3,7 @@ use Rattle.shop_model.specs.Calendar.{Moment}
 use Rattle.shop_model.specs.Rows.{Owned}
 use Rattle.std.specs.Prelude.{◌==◌}
 use Rattle.std.proofs.lemmas.Fn.{filter_same}
-use Rattle.chain_engine.specs.declared.rows.LastRow.{LastRow}
+use Rattle.chain_engine.specs.declared.tables.LastRow.{LastRow}
 use Rattle.chain_engine.specs.Seen.{seen_last_row}
 use Rattle.chain_engine.proofs.RowFinds.{others_kept}
 use Rattle.chain_engine.proofs.rows.set_last.Goals as goal

@@ -1,6 +1,5 @@
 use Rattle.std.proofs.Common.{◌≡◌, ◌∙◌, ℕ, ◌+◌, ◌++◌, ◌∷◌, [], List, take, map, sym, ap, arith}
 use Rattle.std.proofs.lemmas.List.{take_more, take_all, map-append}
-use Rattle.shop_model.specs.Values.{BadLine}
 use Rattle.shop_types.specs.declared.request.Request.{Request}
 use Rattle.shop_types.specs.Replies.{seen_reply}
 use Rattle.shop_types.specs.Seen.{seen_caller}
@@ -28,7 +27,7 @@ loop-token-preserved c =
     let asked : take (i + 1) requests ≡ take i requests ++ it ∷ [] = take_more requests i it c.loop-token-test.true ∙ ap (λ (x : List ℕ × Request). take i requests ++ x ∷ []) (sym c.loop-token-item.is) in
     let told : map seen_reply c.push_reserved.new.self.items ≡ done ++ answer ∷ [] = ap (map seen_reply) c.push_reserved.ensures.items ∙ map-append seen_reply c.loop-token.replies.items (c.answer-reply.result ∷ []) in
     let runs = runs_more (take i requests) it done caller answer c.args.self.now c.loop-token.self c.answer-reply.new.self inv.2 inv.3 found c.answer-reply.ensures in
-    let fine = fine_more (λ _. BadLine 0) it done caller answer c.loop-token.self c.answer-reply.new.self inv.3 c.answer-reply.ensures in (
+    let fine = fine_more it done caller answer c.loop-token.self c.answer-reply.new.self inv.3 c.answer-reply.ensures in (
       omega (arith, c.push_reserved.ensures.len, inv.0),
       omega (arith, c.push_reserved.ensures.capacity, inv.1),
       rw (asked, told) runs,

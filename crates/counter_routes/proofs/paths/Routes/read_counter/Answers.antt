@@ -1,11 +1,14 @@
 use Rattle.std.proofs.Common.{refl}
-use Rattle.shop_model.specs.Refusals.{BadBody, NoRoute}
+use Rattle.shop_model.specs.Refusals.{NoRoute}
 use Rattle.counter_routes.proofs.paths.Routes.read_counter.Goals as goal
 
 pub returns-in_default-clause-reading : goal.returns-in_default-clause-reading
 returns-in_default-clause-reading c = (NoRoute, refl, rw (← c.find.ensures, c.in_default.is) refl, refl)
 
-pub returns-in-Err-BadBody-clause-reading : goal.returns-in-Err-BadBody-clause-reading
-returns-in-Err-BadBody-clause-reading c =
-    let none = c.in-Err-BadBody.ensures.bad c.in-Err-BadBody.field-0-is in
-    (BadBody, refl, rw (← c.in-Some.ensures, c.in-NewCustomer.is, none) refl, refl)
+pub returns-in-NewCustomer-clause-reading : goal.returns-in-NewCustomer-clause-reading
+returns-in-NewCustomer-clause-reading c =
+    rw (← c.in-Some.ensures, c.in-NewCustomer.is) (c.read_command.ensures.reading _ c.new_customer_command.ensures.ok c.new_customer_command.ensures.bad)
+
+pub returns-in-Import-clause-reading : goal.returns-in-Import-clause-reading
+returns-in-Import-clause-reading c =
+    rw (← c.in-Some.ensures, c.in-Import.is) (c.read_command-in-Import.ensures.reading _ c.import_command.ensures.ok c.import_command.ensures.bad)

@@ -1,0 +1,2 @@
+pub mod StockLemmas
+pub mod Verdicts

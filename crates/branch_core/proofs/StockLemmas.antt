@@ -1,0 +1,53 @@
+-- What the rows of a stock file say of the films of its copies.
+use Rattle.std.proofs.Common.{◌≡◌, refl, sym, ap, ◌∙◌, ℕ, zero, suc, ◌+◌, ◌≤◌, Bool, true, false, not, ◌||◌, List, [], ◌∷◌, length, replicate, arith, length-append}
+use Rattle.std.proofs.Math.Bool.{or_self, or-false}
+use Rattle.std.proofs.lemmas.List.{length-replicate}
+use Rattle.std.proofs.lemmas.List.Elements.{recursion_from_All}
+use Rattle.std.proofs.lemmas.List.Folds.{list_any-append}
+use Rattle.std.proofs.lemmas.List.Sums.{sum_by-cons}
+use Rattle.std.specs.List.{All, AllByRecursion, list_any}
+use Rattle.shop_model.specs.Rows.{lacks}
+use Rattle.shop_model.specs.Shop.{Catalogue}
+use Rattle.shop_model.specs.Verdict.{is_film_withdrawn}
+use Rattle.branch_core.specs.declared.found.StockFound.{StockFound}
+use Rattle.branch_core.specs.Agreed.{RowAgrees, films_of, copies_of}
+
+any_more : (p : ℕ → Bool) (n x : ℕ) → (p x || list_any p (replicate n x)) ≡ p x
+any_more p zero x = or-false (p x)
+any_more p (suc n) x = ap (λ (b : Bool). p x || b) (any_more p n x) ∙ or_self (p x)
+
+any_replicate : (p : ℕ → Bool) (n x : ℕ) → 1 ≤ n → list_any p (replicate n x) ≡ p x
+any_replicate p zero x low = absurd (omega arith)
+any_replicate p (suc n) x low = any_more p n x
+
+any_film : (catalogue : Catalogue) (p : ℕ → Bool) (q : StockFound → Bool) → ((row : StockFound) → RowAgrees catalogue row → q row ≡ p row.film)
+    → (rows : List StockFound) → AllByRecursion (RowAgrees catalogue) rows → list_any q rows ≡ list_any p (films_of rows)
+any_film catalogue p q same [] agree = refl
+any_film catalogue p q same (row ∷ rows) agree =
+    ap (λ (b : Bool). b || list_any q rows) (same row agree.0)
+    ∙ ap (λ (b : Bool). p row.film || b) (any_film catalogue p q same rows agree.1)
+    ∙ ap (λ (b : Bool). b || list_any p (films_of rows)) (sym (any_replicate p row.copies row.film agree.0.some))
+    ∙ sym (list_any-append p (replicate row.copies row.film) (films_of rows))
+
+pub any_withdrawn : (catalogue : Catalogue) (rows : List StockFound) → All (RowAgrees catalogue) rows
+    → list_any (λ (row : StockFound). row.is_withdrawn) rows ≡ list_any (is_film_withdrawn catalogue) (films_of rows)
+any_withdrawn catalogue rows agree =
+    any_film catalogue (is_film_withdrawn catalogue) (λ (row : StockFound). row.is_withdrawn) (λ row at. at.withdrawn) rows (recursion_from_All (RowAgrees catalogue) rows agree)
+
+not_not : (b c : Bool) → b ≡ not c → not b ≡ c
+not_not b true is = ap not is
+not_not b false is = ap not is
+
+pub any_unknown : (catalogue : Catalogue) (rows : List StockFound) → All (RowAgrees catalogue) rows
+    → list_any (λ (row : StockFound). not row.is_there) rows ≡ list_any (lacks catalogue.films) (films_of rows)
+any_unknown catalogue rows agree =
+    any_film catalogue (lacks catalogue.films) (λ (row : StockFound). not row.is_there) (λ row at. not_not row.is_there (lacks catalogue.films row.film) at.there) rows
+    (recursion_from_All (RowAgrees catalogue) rows agree)
+
+pub length_films : (rows : List StockFound) → length (films_of rows) ≡ copies_of rows
+length_films [] = refl
+length_films (row ∷ rows) =
+    length-append (replicate row.copies row.film) (films_of rows)
+    ∙ ap (λ (n : ℕ). n + length (films_of rows)) (length-replicate row.copies row.film)
+    ∙ ap (λ (n : ℕ). row.copies + n) (length_films rows)
+    ∙ sym (sum_by-cons (λ (it : StockFound). it.copies) row rows)

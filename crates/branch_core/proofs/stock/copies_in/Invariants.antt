@@ -1,0 +1,6 @@
+use Rattle.std.proofs.Common.{◌≡◌, take}
+use Rattle.branch_core.specs.Agreed.{copies_of}
+use Rattle.branch_core.proofs.stock.copies_in.Given as goal
+
+abbrev pub invariant-loop-row : goal.invariant-loop-row
+invariant-loop-row l = l.copies ≡ copies_of (take l.row-index l.rows)

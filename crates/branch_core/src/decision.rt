@@ -1,0 +1,163 @@
+//! The decision on a command of a branch.
+
+ghost use Rattle.std.specs.Prelude.{◌≡◌, ℕ, ◌+◌, ◌≤◌, ◌&&◌, nat_lt, true, List, length, map, option_map, IfOk, OnErr};
+ghost use Rattle.std.specs.List.{list_any};
+ghost use Rattle.shop_model.specs.Calendar as calendar;
+ghost use Rattle.shop_model.specs.Rows.{at};
+ghost use Rattle.shop_model.specs.Values as model;
+ghost use Rattle.shop_model.specs.Shop.{Catalogue, Shop};
+ghost use Rattle.shop_model.specs.Verdict.{first, refusals, act_refusals, is_before, is_full, new_copies, staff_is};
+ghost use Rattle.shop_model.specs.Books.{head};
+ghost use Rattle.shop_types.specs.Seen.{seen_act, seen_command};
+ghost use Rattle.branch_core.specs.Agreed.{Agrees, ActAgrees, IsFoundFor, IsWithin, seen_staff, post_of};
+ghost use Rattle.branch_core.specs.Decided.{IsDecided, Adds, TakesMemory, verdict_by};
+
+use crate::stock::{new_copies, stock_refusal};
+use crate::{ActFound, Change, Found, Rows, StaffFound};
+use shop_types::{
+    Act, BranchNo, Command, Customer, Limits, Moment, NoMemory, Person, Refusal, RowNumber,
+};
+
+/// The change that a branch's command makes, or the first refusal that holds of it. `Memory` comes only where a customer would be
+/// added: there was none left for the copy of the person, and the command may be decided again.
+pub fn decide<'a>(
+    branch: BranchNo,
+    command: &Command,
+    found: &Found<'a>,
+    limits: Limits,
+) -> Result<Change<'a>, Refusal>
+    requires act { IsFoundFor command.now.act found.now.act }
+    requires within { IsWithin found.now.act }
+    ensures { (rules : model.Rules) (catalogue : Catalogue) (shop : Shop) → rules.commands ≡ limits.commands → rules.copies ≡ limits.copies
+        → Agrees rules catalogue shop (seen_command command.now) found.now → IsDecided rules branch catalogue shop (seen_command command.now) result }
+{
+    match found.kept {
+        Some(kept) => {
+            if kept.is_same {
+                Ok(Change::Again(kept.reply))
+            } else {
+                Err(Refusal::KeyUsed)
+            }
+        }
+        None => match first_refusal(branch, command.at, found, limits) {
+            Some(refusal) => Err(refusal),
+            None => match new_rows(command, &found.act) {
+                Ok(rows) => Ok(Change::Rows(rows)),
+                Err(_) => Err(Refusal::Memory),
+            },
+        },
+    }
+}
+
+/// The first refusal of a command whose key isn't kept, given at the moment.
+fn first_refusal(branch: BranchNo, at: Moment, found: &Found, limits: Limits) -> Option<Refusal>
+    requires { IsWithin found.now.act }
+    ensures { (rules : model.Rules) (catalogue : Catalogue) (shop : Shop) (command : model.Command) → command.moment ≡ at → rules.commands ≡ limits.commands → rules.copies ≡ limits.copies
+        → Agrees rules catalogue shop command found.now → verdict_by result ≡ Some (first (refusals rules branch catalogue shop command)) }
+{
+    if is_full(found, limits) {
+        Some(Refusal::Full)
+    } else if is_before(at, found.last) {
+        Some(Refusal::MomentBack)
+    } else if !works_at(found.staff, branch) {
+        Some(Refusal::NoStaff)
+    } else {
+        act_refusal(&found.act)
+    }
+}
+
+/// Whether the branch has as many kept rows as it may, or would have more copies.
+fn is_full(found: &Found, limits: Limits) -> bool
+    requires { IsWithin found.now.act }
+    ensures { (rules : model.Rules) (catalogue : Catalogue) (shop : Shop) (command : model.Command) → rules.commands ≡ limits.commands → rules.copies ≡ limits.copies
+        → Agrees rules catalogue shop command found.now → result ≡ is_full rules shop command.act }
+{
+    limits.commands() <= found.keys || has_no_room(&found.act, limits)
+}
+
+/// Whether the act makes copies, and more than the branch may still have.
+fn has_no_room(act: &ActFound, limits: Limits) -> bool
+    requires { IsWithin act.now }
+    ensures { (rules : model.Rules) (catalogue : Catalogue) (shop : Shop) (asked : model.Act) → rules.copies ≡ limits.copies → ActAgrees rules catalogue shop asked act.now
+        → result ≡ (nat_lt 0 (new_copies rules shop asked) && nat_lt rules.copies (length shop.copies + new_copies rules shop asked)) }
+{
+    match act {
+        ActFound::Customer { .. } => false,
+        ActFound::Import { copies, stock, .. } => {
+            let new = new_copies(stock);
+            0 < new && limits.copies() < *copies + new
+        }
+    }
+}
+
+/// Whether the moment is before the last one, where there is one.
+fn is_before(moment: Moment, last: Option<Moment>) -> bool
+    ensures { result ≡ is_before moment last }
+{
+    match last {
+        Some(last) => moment.is_earlier(last),
+        None => false,
+    }
+}
+
+/// Whether there is such a member of staff, who works at the branch and hasn't left.
+fn works_at(staff: Option<StaffFound>, branch: BranchNo) -> bool
+    ensures { (rows : List model.Staff) (n : ℕ) → option_map seen_staff staff ≡ head (map post_of (at n rows)) → result ≡ list_any (staff_is branch) (at n rows) }
+{
+    match staff {
+        Some(staff) => staff.branch == branch && !staff.gone,
+        None => false,
+    }
+}
+
+/// The first refusal that goes by what the act is.
+fn act_refusal(act: &ActFound) -> Option<Refusal>
+    ensures { (rules : model.Rules) (b : ℕ) (catalogue : Catalogue) (shop : Shop) (moment : calendar.Moment) (asked : model.Act) → ActAgrees rules catalogue shop asked act.now
+        → verdict_by result ≡ Some (first (act_refusals rules b catalogue shop moment asked)) }
+{
+    match act {
+        ActFound::Customer { has_city: true, .. } => None,
+        ActFound::Customer { .. } => Some(Refusal::NoSharedRow),
+        ActFound::Import { has_lot, stock, .. } => stock_refusal(stock, *has_lot),
+    }
+}
+
+/// The rows that an accepted command adds.
+fn new_rows(command: &Command, act: &ActFound) -> Result<Rows, NoMemory>
+    requires act { IsFoundFor command.now.act act.now }
+    requires within { IsWithin act.now }
+    ensures added { (rules : model.Rules) (catalogue : Catalogue) (shop : Shop) → ActAgrees rules catalogue shop (seen_act command.now.act) act.now
+        → IfOk result (λ rows. Adds rules (seen_command command.now) (seen_act command.now.act) shop rows) }
+    ensures memory { OnErr result (TakesMemory (seen_act command.now.act)) }
+{
+    match (&command.act, act) {
+        (Act::Customer(person), ActFound::Customer { customers, .. }) => Ok(Rows::Customer {
+            number: number_after(*customers),
+            customer: new_customer(person, command.at)?,
+        }),
+        (Act::Import { .. }, ActFound::Import { copies, stock, .. }) => Ok(Rows::Import {
+            first: number_after(*copies),
+            count: new_copies(stock),
+        }),
+        _ => unreachable!(),
+    }
+}
+
+/// The customer that a command of that moment adds.
+fn new_customer(person: &Person, at: Moment) -> Result<Customer, NoMemory>
+    ensures { IfOk result (λ customer. customer ≡ record { person = person.now; active = true; created = at }) }
+{
+    Ok(Customer {
+        person: person.clone()?,
+        active: true,
+        created: at,
+    })
+}
+
+/// The next number, where so many rows are numbered.
+fn number_after<const KIND: u8>(count: u32) -> RowNumber<KIND>
+    requires { count ≤ 1_000_000 }
+    ensures { result ≡ count + 1 }
+{
+    RowNumber::new(count + 1).unwrap()
+}

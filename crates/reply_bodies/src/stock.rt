@@ -1,0 +1,13 @@
+ghost use Rattle.std.specs.Prelude.{◌≡◌, [], ◌∷◌, codes, decimal, IfOk, string_bytes};
+ghost use Rattle.shop_model.specs.Json.{object};
+
+use serde_json::json;
+use shop_values::CopyNo;
+use std::alloc::{AllocError, Global};
+
+/// The body that tells a counter how many copies it added, and the number of the first of them: the others have the numbers that follow.
+pub fn new_copies_text(alloc: Global, copies: u32, first: CopyNo) -> Result<String, AllocError>
+    ensures { IfOk result (λ s. string_bytes s ≡ object ((codes "copies", decimal copies) ∷ (codes "first", decimal first) ∷ [])) }
+{
+    json!(in alloc; {"copies": copies, "first": first.get()})?.to_string(alloc)
+}

@@ -1,0 +1,87 @@
+-- A form shows where it ends: what two forms begin with is one part, and what follows is one too.
+use Rattle.std.proofs.Common.{◌≡◌, ℕ, ◌%◌, ◌/◌, List, [], ◌∷◌, ◌++◌, length, Bool, true, false, Option, Some, None, refl, ap, arith}
+use Rattle.std.specs.Prelude.{flat_map}
+use Rattle.std.specs.Option.{option_to_list}
+use Rattle.shop_model.specs.Calendar.{Moment, moment_text}
+use Rattle.shop_model.specs.Values.{Text, Person}
+use Rattle.shop_schema.specs.Forms.{number_form, text_form, numbers_form, option_form, flag_form, person_form}
+
+same_number : (a b : ℕ) → a % 256 ≡ b % 256 → a / 256 % 256 ≡ b / 256 % 256 → a / 65_536 % 256 ≡ b / 65_536 % 256 → a / 16_777_216 ≡ b / 16_777_216 → a ≡ b
+same_number a b p q r s = omega (arith, p, q, r, s)
+
+pub number_ends : (a b : ℕ) (r s : List ℕ) → number_form a ++ r ≡ number_form b ++ s → (a ≡ b) × (r ≡ s)
+number_ends a b r s h =
+    let first : a % 256 ≡ b % 256 = cc in
+    let second : a / 256 % 256 ≡ b / 256 % 256 = cc in
+    let third : a / 65_536 % 256 ≡ b / 65_536 % 256 = cc in
+    let fourth : a / 16_777_216 ≡ b / 16_777_216 = cc in
+    let rest : r ≡ s = cc in
+    (same_number a b first second third fourth, rest)
+
+pub number_is : (a b : ℕ) → number_form a ≡ number_form b → a ≡ b
+number_is a b h = (number_ends a b [] [] h).0
+
+same_length : (t u r s : List ℕ) → length t ≡ length u → t ++ r ≡ u ++ s → (t ≡ u) × (r ≡ s)
+same_length [] [] r s n h = (refl, h)
+same_length [] (y ∷ u) r s n h = absurd (omega (arith, n))
+same_length (x ∷ t) [] r s n h = absurd (omega (arith, n))
+same_length (x ∷ t) (y ∷ u) r s n h =
+    let head : x ≡ y = cc in
+    let tail : t ++ r ≡ u ++ s = cc in
+    let more = same_length t u r s (omega (arith, n)) tail in
+    ((λ i. head i ∷ more.0 i), more.1)
+
+pub text_ends : (t u : Text) (r s : List ℕ) → text_form t ++ r ≡ text_form u ++ s → (t ≡ u) × (r ≡ s)
+text_ends t u r s h = let n = number_ends (length t) (length u) (t ++ r) (u ++ s) h in same_length t u r s n.0 n.1
+
+pub text_is : (t u : Text) → text_form t ≡ text_form u → t ≡ u
+text_is t u h = (number_ends (length t) (length u) t u h).1
+
+each_ends : (ms ns : List ℕ) (r s : List ℕ) → length ms ≡ length ns → flat_map number_form ms ++ r ≡ flat_map number_form ns ++ s → (ms ≡ ns) × (r ≡ s)
+each_ends [] [] r s n h = (refl, h)
+each_ends [] (y ∷ ns) r s n h = absurd (omega (arith, n))
+each_ends (x ∷ ms) [] r s n h = absurd (omega (arith, n))
+each_ends (x ∷ ms) (y ∷ ns) r s n h =
+    let head = number_ends x y (flat_map number_form ms ++ r) (flat_map number_form ns ++ s) h in
+    let more = each_ends ms ns r s (omega (arith, n)) head.1 in
+    ((λ i. head.0 i ∷ more.0 i), more.1)
+
+pub numbers_ends : (ms ns : List ℕ) (r s : List ℕ) → numbers_form ms ++ r ≡ numbers_form ns ++ s → (ms ≡ ns) × (r ≡ s)
+numbers_ends ms ns r s h = let n = number_ends (length ms) (length ns) (flat_map number_form ms ++ r) (flat_map number_form ns ++ s) h in each_ends ms ns r s n.0 n.1
+
+pub numbers_is : (ms ns : List ℕ) → numbers_form ms ≡ numbers_form ns → ms ≡ ns
+numbers_is ms ns h = (numbers_ends ms ns [] [] (ap (λ (l : List ℕ). l ++ []) h)).0
+
+pub option_ends : (o p : Option ℕ) (r s : List ℕ) → option_form o ++ r ≡ option_form p ++ s → (o ≡ p) × (r ≡ s)
+option_ends o p r s h = let it = numbers_ends (option_to_list o) (option_to_list p) r s h in (one o p it.0, it.1)
+  where
+    one : (o p : Option ℕ) → option_to_list o ≡ option_to_list p → o ≡ p
+    one None None e = refl
+    one None (Some n) e = cc
+    one (Some m) None e = cc
+    one (Some m) (Some n) e = cc
+
+pub option_is : (o p : Option ℕ) → option_form o ≡ option_form p → o ≡ p
+option_is o p h = (option_ends o p [] [] (ap (λ (l : List ℕ). l ++ []) h)).0
+
+pub flag_ends : (a b : Bool) (r s : List ℕ) → flag_form a ++ r ≡ flag_form b ++ s → (a ≡ b) × (r ≡ s)
+flag_ends true true r s h = (refl, cc)
+flag_ends false false r s h = (refl, cc)
+flag_ends true false r s h = cc
+flag_ends false true r s h = cc
+
+pub flag_is : (a b : Bool) → flag_form a ≡ flag_form b → a ≡ b
+flag_is a b h = (flag_ends a b [] [] h).0
+
+pub moment_ends : (a b : Moment) (r s : List ℕ) → moment_text a ++ r ≡ moment_text b ++ s → (moment_text a ≡ moment_text b) × (r ≡ s)
+moment_ends a b r s h = same_length (moment_text a) (moment_text b) r s refl h
+
+pub person_is : (p q : Person) → person_form p ≡ person_form q → p ≡ q
+person_is p q h =
+    let first = text_ends p.first q.first _ _ h in
+    let last = text_ends p.last q.last _ _ first.1 in
+    let address = text_ends p.address q.address _ _ last.1 in
+    let postal = text_ends p.postal q.postal _ _ address.1 in
+    let phone = text_ends p.phone q.phone _ _ postal.1 in
+    let city = number_ends p.city q.city [] [] phone.1 in
+    (λ i. record { first = first.0 i; last = last.0 i; address = address.0 i; postal = postal.0 i; phone = phone.0 i; city = city.0 i })

@@ -1,0 +1,10 @@
+pub mod CreateTexts
+pub mod Stands
+pub mod Versions
+pub mod FormLemmas
+pub mod OneToOne
+pub mod OfficeOneToOne
+pub mod SameRows
+pub mod Lists
+pub mod MomentTexts
+pub mod Lasts

@@ -1,0 +1,205 @@
+-- Under one key, two commands have one form exactly where they are one command.
+use Rattle.std.proofs.Common.{◌≡◌, ◌≤◌, ◌/◌, ℕ, ◌==◌, ◌&&◌, ◌||◌, List, [], ◌∷◌, ◌++◌, Bool, true, false, Option, Some, None, refl, sym, ap, subst, ◌∙◌, arith}
+use Rattle.std.specs.Prelude.{if◌then◌else◌}
+use Rattle.std.specs.Str.{bytes_eq}
+use Rattle.std.proofs.lemmas.List.{append-nil}
+use Rattle.std.proofs.lemmas.Bool.Decides.{nat_tests}
+use Rattle.std.proofs.lemmas.Slice.Eq.{bytes_eq-Decides}
+use Rattle.sql_rows.proofs.Appends.{both}
+use Rattle.shop_model.specs.Calendar.{Moment, IsMoment, moment_text, same_moment, digit, days_in_month, is_leap_year}
+use Rattle.shop_model.specs.Values.{Text, Person, Act, AddCustomer, SetActive, Rent, TakeBack, Pay, Import, Dispatch, Receive, Scrap, Command}
+use Rattle.shop_model.specs.Shop.{same_option, same_numbers, same_flag, same_person, same_act, same_command}
+use Rattle.shop_schema.specs.Forms.{joined, number_form, text_form, numbers_form, option_form, flag_form, act_form, command_form, FormsAreOneToOne}
+use Rattle.shop_schema.proofs.FormLemmas.{number_ends, number_is, text_ends, numbers_ends, option_ends, flag_ends, moment_ends, person_is}
+
+-- ---- a value is the same as itself
+
+pub number_same : (n : ℕ) → (n == n) ≡ true
+number_same n = grind (arith, nat_tests)
+
+pub bytes_same : (x : Text) → bytes_eq x x ≡ true
+bytes_same x = (bytes_eq-Decides x x).1 refl
+
+pub option_same : (o : Option ℕ) → same_option o o ≡ true
+option_same None = refl
+option_same (Some n) = number_same n
+
+pub flag_same : (a : Bool) → same_flag a a ≡ true
+flag_same true = refl
+flag_same false = refl
+
+pub person_same : (p : Person) → same_person p p ≡ true
+person_same p = rw (bytes_same p.first, bytes_same p.last, bytes_same p.address, bytes_same p.postal, bytes_same p.phone, number_same p.city)
+
+act_same : (a : Act) → same_act a a ≡ true
+act_same (AddCustomer p) = person_same p
+act_same (SetActive c active) = rw (number_same c, flag_same active)
+act_same (Rent c x) = simp number_same
+act_same (TakeBack r) = number_same r
+act_same (Pay c r amount) = rw (number_same c, option_same r, number_same amount)
+act_same (Import lot file) = simp bytes_same
+act_same (Dispatch a xs) = rw (number_same a, bytes_same xs)
+act_same (Receive s n missing) = simp (number_same, bytes_same)
+act_same (Scrap x) = number_same x
+
+moment_same : (m : Moment) → same_moment m m ≡ true
+moment_same m = rw (number_same m.year, number_same m.month, number_same m.day, number_same m.hour, number_same m.minute, number_same m.second)
+
+command_same : (c : Command) → same_command c c ≡ true
+command_same c = rw (bytes_same c.key, number_same c.staff, moment_same c.moment, act_same c.act)
+
+-- ---- acts of one form
+
+act_is : (a b : Act) → act_form a ≡ act_form b → a ≡ b
+act_is (AddCustomer p) (AddCustomer q) h = let person = person_is p q cc in ap AddCustomer person
+act_is (SetActive c x) (SetActive d y) h =
+    let rest : joined (number_form c ∷ flag_form x ∷ []) ≡ joined (number_form d ∷ flag_form y ∷ []) = cc in
+    let number = number_ends c d _ _ rest in
+    λ i. SetActive (number.0 i) ((flag_ends x y [] [] number.1).0 i)
+act_is (Rent c x) (Rent d y) h =
+    let rest : joined (number_form c ∷ number_form x ∷ []) ≡ joined (number_form d ∷ number_form y ∷ []) = cc in
+    let number = number_ends c d _ _ rest in
+    λ i. Rent (number.0 i) ((number_ends x y [] [] number.1).0 i)
+act_is (TakeBack r) (TakeBack s) h = let number = number_is r s cc in ap TakeBack number
+act_is (Pay c r m) (Pay d s n) h =
+    let rest : joined (number_form c ∷ option_form r ∷ number_form m ∷ []) ≡ joined (number_form d ∷ option_form s ∷ number_form n ∷ []) = cc in
+    let number = number_ends c d _ _ rest in
+    let rental = option_ends r s _ _ number.1 in
+    λ i. Pay (number.0 i) (rental.0 i) ((number_ends m n [] [] rental.1).0 i)
+act_is (Import lot file) (Import lot' file') h =
+    let rest : joined (text_form lot ∷ text_form file ∷ []) ≡ joined (text_form lot' ∷ text_form file' ∷ []) = cc in
+    let name = text_ends lot lot' _ _ rest in
+    λ i. Import (name.0 i) ((text_ends file file' [] [] name.1).0 i)
+act_is (Dispatch a xs) (Dispatch b ys) h =
+    let rest : joined (number_form a ∷ numbers_form xs ∷ []) ≡ joined (number_form b ∷ numbers_form ys ∷ []) = cc in
+    let number = number_ends a b _ _ rest in
+    λ i. Dispatch (number.0 i) ((numbers_ends xs ys [] [] number.1).0 i)
+act_is (Receive s n xs) (Receive t m ys) h =
+    let rest : joined (number_form s ∷ number_form n ∷ numbers_form xs ∷ []) ≡ joined (number_form t ∷ number_form m ∷ numbers_form ys ∷ []) = cc in
+    let source = number_ends s t _ _ rest in
+    let number = number_ends n m _ _ source.1 in
+    λ i. Receive (source.0 i) (number.0 i) ((numbers_ends xs ys [] [] number.1).0 i)
+act_is (Scrap x) (Scrap y) h = let number = number_is x y cc in ap Scrap number
+act_is a b h = cc
+
+-- ---- values that are the same are equal
+pub text_equal : (t u : Text) → bytes_eq t u ≡ true → t ≡ u
+text_equal t u h = (bytes_eq-Decides t u).0 h
+
+pub number_equal : (m n : ℕ) → (m == n) ≡ true → m ≡ n
+number_equal m n h = grind (arith, nat_tests)
+
+pub option_equal : (o p : Option ℕ) → same_option o p ≡ true → o ≡ p
+option_equal None None h = refl
+option_equal None (Some n) h = cc
+option_equal (Some m) None h = cc
+option_equal (Some m) (Some n) h = ap Some (number_equal m n h)
+
+pub flag_equal : (a b : Bool) → same_flag a b ≡ true → a ≡ b
+flag_equal true true h = refl
+flag_equal false false h = refl
+flag_equal true false h = cc
+flag_equal false true h = cc
+
+moment_equal : (a b : Moment) → same_moment a b ≡ true → a ≡ b
+moment_equal a b h =
+    let second = both (a.year == b.year && a.month == b.month && a.day == b.day && a.hour == b.hour && a.minute == b.minute) (a.second == b.second) h in
+    let minute = both (a.year == b.year && a.month == b.month && a.day == b.day && a.hour == b.hour) (a.minute == b.minute) second.0 in
+    let hour = both (a.year == b.year && a.month == b.month && a.day == b.day) (a.hour == b.hour) minute.0 in
+    let day = both (a.year == b.year && a.month == b.month) (a.day == b.day) hour.0 in
+    let month = both (a.year == b.year) (a.month == b.month) day.0 in
+    λ i. record {
+      year = number_equal a.year b.year month.0 i;
+      month = number_equal a.month b.month month.1 i;
+      day = number_equal a.day b.day day.1 i;
+      hour = number_equal a.hour b.hour hour.1 i;
+      minute = number_equal a.minute b.minute minute.1 i;
+      second = number_equal a.second b.second second.1 i;
+    }
+
+pub person_equal : (p q : Person) → same_person p q ≡ true → p ≡ q
+person_equal p q h =
+    let city = both (bytes_eq p.first q.first && bytes_eq p.last q.last && bytes_eq p.address q.address && bytes_eq p.postal q.postal && bytes_eq p.phone q.phone) (p.city == q.city) h in
+    let phone = both (bytes_eq p.first q.first && bytes_eq p.last q.last && bytes_eq p.address q.address && bytes_eq p.postal q.postal) (bytes_eq p.phone q.phone) city.0 in
+    let postal = both (bytes_eq p.first q.first && bytes_eq p.last q.last && bytes_eq p.address q.address) (bytes_eq p.postal q.postal) phone.0 in
+    let address = both (bytes_eq p.first q.first && bytes_eq p.last q.last) (bytes_eq p.address q.address) postal.0 in
+    let last = both (bytes_eq p.first q.first) (bytes_eq p.last q.last) address.0 in
+    λ i. record {
+      first = text_equal p.first q.first last.0 i;
+      last = text_equal p.last q.last last.1 i;
+      address = text_equal p.address q.address address.1 i;
+      postal = text_equal p.postal q.postal postal.1 i;
+      phone = text_equal p.phone q.phone phone.1 i;
+      city = number_equal p.city q.city city.1 i;
+    }
+
+act_equal : (a b : Act) → same_act a b ≡ true → a ≡ b
+act_equal (AddCustomer p) (AddCustomer q) h = ap AddCustomer (person_equal p q h)
+act_equal (SetActive c x) (SetActive d y) h = let k = both (c == d) (same_flag x y) h in λ i. SetActive (number_equal c d k.0 i) (flag_equal x y k.1 i)
+act_equal (Rent c x) (Rent d y) h = let k = both (c == d) (x == y) h in λ i. Rent (number_equal c d k.0 i) (number_equal x y k.1 i)
+act_equal (TakeBack r) (TakeBack s) h = ap TakeBack (number_equal r s h)
+act_equal (Pay c r m) (Pay d s n) h =
+    let k = both (c == d && same_option r s) (m == n) h in
+    let l = both (c == d) (same_option r s) k.0 in
+    λ i. Pay (number_equal c d l.0 i) (option_equal r s l.1 i) (number_equal m n k.1 i)
+act_equal (Import lot file) (Import lot' file') h = let k = both (bytes_eq lot lot') (bytes_eq file file') h in λ i. Import (text_equal lot lot' k.0 i) (text_equal file file' k.1 i)
+act_equal (Dispatch a xs) (Dispatch b ys) h = let k = both (a == b) (same_numbers xs ys) h in λ i. Dispatch (number_equal a b k.0 i) (text_equal xs ys k.1 i)
+act_equal (Receive s n xs) (Receive t m ys) h =
+    let k = both (s == t && n == m) (same_numbers xs ys) h in
+    let l = both (s == t) (n == m) k.0 in
+    λ i. Receive (number_equal s t l.0 i) (number_equal n m l.1 i) (text_equal xs ys k.1 i)
+act_equal (Scrap x) (Scrap y) h = ap Scrap (number_equal x y h)
+act_equal a b h = cc
+
+command_equal : (a b : Command) → same_command a b ≡ true → a ≡ b
+command_equal a b h =
+    let act = both (bytes_eq a.key b.key && a.staff == b.staff && same_moment a.moment b.moment) (same_act a.act b.act) h in
+    let moment = both (bytes_eq a.key b.key && a.staff == b.staff) (same_moment a.moment b.moment) act.0 in
+    let staff = both (bytes_eq a.key b.key) (a.staff == b.staff) moment.0 in
+    λ i. record {
+      key = text_equal a.key b.key staff.0 i;
+      staff = number_equal a.staff b.staff staff.1 i;
+      moment = moment_equal a.moment b.moment moment.1 i;
+      act = act_equal a.act b.act act.1 i;
+    }
+
+pub alone : (xs ys : List ℕ) → xs ++ [] ≡ ys ++ [] → xs ≡ ys
+alone xs ys h = sym (append-nil xs) ∙ h ∙ append-nil ys
+
+-- ---- a moment's text shows its parts
+
+four_digits : (a b : ℕ) → a ≤ 9999 → b ≤ 9999 → digit (a / 1000) ≡ digit (b / 1000) → digit (a / 100) ≡ digit (b / 100) → digit (a / 10) ≡ digit (b / 10) → digit a ≡ digit b → a ≡ b
+four_digits a b p q thousands hundreds tens ones = omega (arith, p, q, thousands, hundreds, tens, ones)
+
+two_digits : (a b : ℕ) → a ≤ 99 → b ≤ 99 → digit (a / 10) ≡ digit (b / 10) → digit a ≡ digit b → a ≡ b
+two_digits a b p q tens ones = omega (arith, p, q, tens, ones)
+
+month_short : (year month day : ℕ) → day ≤ days_in_month year month → day ≤ 99
+month_short year month day h = go (month == 2) (is_leap_year year) ((month == 4) || (month == 6) || (month == 9) || (month == 11)) h
+  where
+    go : (second leap short : Bool) → day ≤ (if second then (if leap then 29 else 28) else (if short then 30 else 31)) → day ≤ 99
+    go true true short d = omega (arith, d)
+    go true false short d = omega (arith, d)
+    go false leap true d = omega (arith, d)
+    go false leap false d = omega (arith, d)
+
+pub one_moment : (a b : Moment) → IsMoment a → IsMoment b → moment_text a ≡ moment_text b → a ≡ b
+one_moment a b p q h =
+    let year : a.year ≡ b.year = four_digits a.year b.year p.year_high q.year_high (cc) (cc) (cc) (cc) in
+    let month : a.month ≡ b.month = two_digits a.month b.month (omega (arith, p.month_high)) (omega (arith, q.month_high)) (cc) (cc) in
+    let day : a.day ≡ b.day = two_digits a.day b.day (month_short a.year a.month a.day p.day_high) (month_short b.year b.month b.day q.day_high) (cc) (cc) in
+    let hour : a.hour ≡ b.hour = two_digits a.hour b.hour (omega (arith, p.hour)) (omega (arith, q.hour)) (cc) (cc) in
+    let minute : a.minute ≡ b.minute = two_digits a.minute b.minute (omega (arith, p.minute)) (omega (arith, q.minute)) (cc) (cc) in
+    let second : a.second ≡ b.second = two_digits a.second b.second (omega (arith, p.second)) (omega (arith, q.second)) (cc) (cc) in
+    (λ i. record { year = year i; month = month i; day = day i; hour = hour i; minute = minute i; second = second i })
+
+pub forms_are_one_to_one : FormsAreOneToOne
+forms_are_one_to_one a b p q key = (
+  λ h.
+      let staff = number_ends a.staff b.staff _ _ h in
+      let moment = moment_ends a.moment b.moment _ _ staff.1 in
+      let act = act_is a.act b.act (alone (act_form a.act) (act_form b.act) moment.1) in
+      let same : a ≡ b = λ i. record { key = key i; staff = staff.0 i; moment = one_moment a.moment b.moment p q moment.0 i; act = act i } in
+      subst (λ (c : Command). same_command a c ≡ true) same (command_same a),
+  λ h. ap command_form (command_equal a b h),
+)

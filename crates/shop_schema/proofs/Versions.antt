@@ -1,0 +1,79 @@
+-- The version of a database of which only the first table is known.
+use Rattle.std.proofs.Common.{◌≡◌, ◌≢◌, ◌<◌, ℕ, pos, negsuc, List, [], ◌∷◌, codes, refl, map, cond, true, length, get_or, ap, sym, subst, ◌∙◌, arith}
+use Rattle.std.specs.List.{flat_map}
+use Rattle.std.specs.List.Sorted.{IsPermutation}
+use Rattle.std.proofs.lemmas.List.Sorted.{IsPermutation-map, IsPermutation-sym, length_permutation}
+use Rattle.std.proofs.lemmas.Bool.{ne_eqb}
+use Rattle.sqlite.proofs.Callers.{one_permutation}
+use Rattle.sqlite.specs.declared.types.Value.TheVariants.{Null, Int, Real, Text, Blob}
+use Rattle.sqlite_value.specs.Order.{Row, column}
+use Rattle.sqlite_sql.specs.Query.{Output, output}
+use Rattle.sqlite.specs.State.{State, Shown}
+use Rattle.sql_rows.specs.Rows.{columns_of, number_value}
+use Rattle.shop_schema.specs.declared.known.KnownVersion.{KnownVersion}
+use Rattle.shop_schema.specs.declared.known.KnownVersion.TheVariants.{Missing, This, Other}
+use Rattle.shop_schema.specs.Columns.{this_version}
+use Rattle.shop_schema.specs.Versions.{version_of, version_told}
+use Rattle.shop_schema.specs.Shop.{begins_so}
+use Rattle.sqlite.specs.Term.{col}
+use Rattle.sqlite.specs.Table.{Table}
+use Rattle.sqlite_schema.specs.declared.schema.Index.{Index}
+use Rattle.sqlite_schema.specs.declared.schema.View.{View}
+use Rattle.sqlite_tied.specs.Compute.{everything}
+use Rattle.sqlite.specs.Listing.{understood}
+use Rattle.shop_schema.specs.Tables.{chain_table, shop_schema}
+use Rattle.same_schema.specs.Bare.{HaveFirst}
+use Rattle.sql_rows.proofs.Queries.{Selects, plain_query, answers}
+
+abbrev pub version_text : List ℕ
+version_text = codes "SELECT version FROM chain"
+
+pub reads_version : (more : List Table) (indexes : List Index) (views : List View) → Selects (record { tables = chain_table ∷ more; indexes = indexes; views = views }) version_text (plain_query 0 [] (col 1 1 ∷ []) [])
+unfolding understood everything
+reads_version more indexes views = record { names = _; is = refl; plain = (refl, refl); unlisted = refl }
+
+matching : (rows : List Row) → map (λ (o : Output). o.1) (map (output (plain_query 0 [] (col 1 1 ∷ []) [])) (flat_map (λ r. cond true (([] ∷ r ∷ []) ∷ []) []) rows)) ≡ map (columns_of 1) rows
+matching [] = refl
+matching (r ∷ rows) = ap (λ t. columns_of 1 r ∷ t) (matching rows)
+
+pub reads : (tables : List Table) (i : List Index) (v : List View) (old new : State) (found : List Row) → old.now.schema ≡ record { tables = tables; indexes = i; views = v } → begins_so tables → Shown version_text [] old new found → IsPermutation (map (columns_of 1) (old.now.trees 0)) found
+reads [] i v old new found has none h = elim none [ ]
+reads (table ∷ more) i v old new found has first h =
+    let q = plain_query 0 [] (col 1 1 ∷ []) [] in
+    let known : old.now.schema ≡ record { tables = chain_table ∷ more; indexes = i; views = v } = has ∙ ap (λ t. record { tables = t ∷ more; indexes = i; views = v }) first in
+    let a = answers _ version_text q [] old new known (reads_version more i v) found h in
+    let all = IsPermutation-map (λ (o : Output). o.1) a.kept a.ordered a.same in
+    let kept : map (λ (o : Output). o.1) a.kept ≡ map (columns_of 1) (old.now.trees 0) =
+    ap (λ (k : List Output). map (λ (o : Output). o.1) k) (a.distinct ∙ ap (map (output q)) a.grouped) ∙ matching (old.now.trees 0) in
+    subst (λ l. IsPermutation l found) kept (subst (IsPermutation (map (λ (o : Output). o.1) a.kept)) (sym a.shown) all)
+
+pub first_is : (tables others : List Table) → others ≡ shop_schema.tables → (HaveFirst tables others → begins_so tables) × (begins_so tables → HaveFirst tables others)
+first_is [] others is = (λ h. h, λ h. h)
+first_is (table ∷ more) others is = rw is (λ h. h.0, λ e. (e, refl))
+
+-- ---- what rows in any order tell
+
+pub told_none : (rows found : List Row) → length rows ≢ 1 → IsPermutation found rows → Missing ≡ version_of found
+told_none rows [] some same = refl
+told_none rows (r ∷ []) some same = absurd (omega (arith, some, length_permutation _ _ same))
+told_none rows (r ∷ s ∷ found) some same = refl
+
+pub told_one : (row : Row) (rows found : List Row) (v : KnownVersion) → length rows ≡ 1 → row ≡ get_or rows 0 row → v ≡ version_told (column row 0) → IsPermutation found rows → v ≡ version_of found
+told_one row [] found v one at told same = absurd (omega arith)
+told_one row (r ∷ []) found v one at told same = told ∙ ap (λ (x : Row). version_told (column x 0)) at ∙ ap version_of (sym (one_permutation r found (IsPermutation-sym _ _ same)))
+told_one row (r ∷ s ∷ rows) found v one at told same = absurd (omega arith)
+
+pub other_number : (n : ℕ) → n ≢ 1 → Other ≡ version_told (Int (pos n))
+other_number n other = ap (λ b. cond b This Other) (sym (ne_eqb n 1 other))
+
+pub told_other : (row : Row) → (0 < length row → column row 0 ≢ number_value this_version) → Other ≡ version_told (column row 0)
+told_other [] other = refl
+told_other (Int (pos n) ∷ row) other = other_number n (λ is. other (omega arith) (ap number_value is))
+told_other (Int (negsuc n) ∷ row) other = refl
+told_other (Null ∷ row) other = refl
+told_other (Real x ∷ row) other = refl
+told_other (Text t ∷ row) other = refl
+told_other (Blob b ∷ row) other = refl
+
+pub told_number : (row : Row) (n : ℕ) → column row 0 ≡ number_value n → version_told (number_value n) ≡ version_told (column row 0)
+told_number row n is = ap version_told (sym is)

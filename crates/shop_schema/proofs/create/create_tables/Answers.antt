@@ -1,0 +1,13 @@
+use Rattle.std.proofs.Common.{sym, subst}
+use Rattle.sqlite.specs.Schema.{Schema}
+use Rattle.sqlite.specs.Held.{state}
+use Rattle.sql_rows.specs.Builds.{MakeAll}
+use Rattle.shop_schema.specs.Tables.{shop_schema}
+use Rattle.shop_schema.proofs.CreateTexts.{texts, make_all, made_empty, empty_keyed}
+use Rattle.shop_schema.proofs.create.create_tables.Goals as goal
+
+pub returns-clause-made : goal.returns-clause-made
+returns-clause-made g c clean none =
+    let all = c.in_ok-make_tables.ensures.made clean shop_schema (record { makes = subst (λ (s : Schema). MakeAll shop_schema s texts) (sym none) make_all; empty = rw none tt }) in
+    let empty = made_empty (state g.S.Store c.make_tables.new.tx.conn.now).now all in
+    (all.makes, empty_keyed (state g.S.Store c.make_tables.new.tx.conn.now).now.trees empty, empty)

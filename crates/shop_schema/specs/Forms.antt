@@ -1,0 +1,83 @@
+-- How a command is stored, its key left out: a byte that tells the act, and then the parts, each of which shows where it ends. Our own.
+use Rattle.std.specs.Prelude.{◌≡◌, ◌↔◌, IsTrue, ℕ, ◌/◌, ◌%◌, Bool, if◌then◌else◌, List, [], ◌∷◌, ◌++◌, length, flat_map, Option}
+use Rattle.std.specs.Option.{option_to_list}
+use Rattle.shop_model.specs.Calendar.{IsMoment, moment_text}
+use Rattle.shop_model.specs.Values.{Text, Person, Film, Branch, Act, AddCustomer, SetActive, Rent, TakeBack, Pay, Import, Dispatch, Receive, Scrap, Command, OfficeAct, AddCountry, AddCity, AddLanguage, AddCategory, AddActor, AddFilm, PriceFilm, WithdrawFilm, AddCast, AddBranch, AddStaff, StaffLeaves, SetManager, OfficeCommand}
+use Rattle.shop_model.specs.Shop.{same_command, same_office}
+
+-- four bytes, the least first; the last is one for numbers below 2 ^ 32
+abbrev pub number_form : ℕ → List ℕ
+number_form n = n % 256 ∷ n / 256 % 256 ∷ n / 65_536 % 256 ∷ n / 16_777_216 ∷ []
+
+-- the length, and then the bytes
+abbrev pub text_form : Text → List ℕ
+text_form text = number_form (length text) ++ text
+
+-- how many, and then each
+abbrev pub numbers_form : List ℕ → List ℕ
+numbers_form ns = number_form (length ns) ++ flat_map number_form ns
+
+abbrev pub option_form : Option ℕ → List ℕ
+option_form o = numbers_form (option_to_list o)
+
+abbrev pub flag_form : Bool → List ℕ
+flag_form flag = (if flag then 1 else 0) ∷ []
+
+-- one part after another
+abbrev pub joined : List (List ℕ) → List ℕ
+joined parts = flat_map (λ part. part) parts
+
+abbrev pub person_form : Person → List ℕ
+person_form p = joined (text_form p.first ∷ text_form p.last ∷ text_form p.address ∷ text_form p.postal ∷ text_form p.phone ∷ number_form p.city ∷ [])
+
+abbrev pub act_form : Act → List ℕ
+act_form (AddCustomer person) = 1 ∷ person_form person
+act_form (SetActive customer active) = 2 ∷ joined (number_form customer ∷ flag_form active ∷ [])
+act_form (Rent customer copy) = 3 ∷ joined (number_form customer ∷ number_form copy ∷ [])
+act_form (TakeBack rental) = 4 ∷ number_form rental
+act_form (Pay customer rental amount) = 5 ∷ joined (number_form customer ∷ option_form rental ∷ number_form amount ∷ [])
+act_form (Import lot file) = 6 ∷ joined (text_form lot ∷ text_form file ∷ [])
+act_form (Dispatch addressee copies) = 7 ∷ joined (number_form addressee ∷ numbers_form copies ∷ [])
+act_form (Receive source number missing) = 8 ∷ joined (number_form source ∷ number_form number ∷ numbers_form missing ∷ [])
+act_form (Scrap copy) = 9 ∷ number_form copy
+
+-- a moment is its text of 19 bytes
+abbrev pub command_form : Command → List ℕ
+command_form command = joined (number_form command.staff ∷ moment_text command.moment ∷ act_form command.act ∷ [])
+
+-- under one key, two commands have one form exactly where they are one command
+abbrev pub FormsAreOneToOne : Type 0
+FormsAreOneToOne = (a b : Command) → IsMoment a.moment → IsMoment b.moment → a.key ≡ b.key → (command_form a ≡ command_form b) ↔ IsTrue (same_command a b)
+
+-- ---- commands of head office
+
+abbrev pub film_form : Film → List ℕ
+film_form f =
+    joined (text_form f.title ∷ text_form f.description ∷ number_form f.language ∷ number_form f.category ∷ number_form f.period ∷ number_form f.rate
+    ∷ number_form f.replacement ∷ option_form f.minutes ∷ text_form f.rating ∷ text_form f.features ∷ flag_form f.withdrawn ∷ [])
+
+abbrev pub branch_form : Branch → List ℕ
+branch_form b = joined (text_form b.token ∷ text_form b.address ∷ text_form b.postal ∷ text_form b.phone ∷ number_form b.city ∷ option_form b.manager ∷ [])
+
+-- staff who are added work there, so that the flag isn't stored
+abbrev pub office_form : OfficeAct → List ℕ
+office_form (AddCountry name) = 1 ∷ text_form name
+office_form (AddCity city) = 2 ∷ joined (text_form city.name ∷ number_form city.country ∷ [])
+office_form (AddLanguage name) = 3 ∷ text_form name
+office_form (AddCategory name) = 4 ∷ text_form name
+office_form (AddActor actor) = 5 ∷ joined (text_form actor.first ∷ text_form actor.last ∷ [])
+office_form (AddFilm film) = 6 ∷ film_form film
+office_form (PriceFilm film rate) = 7 ∷ joined (number_form film ∷ number_form rate ∷ [])
+office_form (WithdrawFilm film) = 8 ∷ number_form film
+office_form (AddCast cast) = 9 ∷ joined (number_form cast.film ∷ number_form cast.actor ∷ [])
+office_form (AddBranch branch) = 10 ∷ branch_form branch
+office_form (AddStaff staff) = 11 ∷ joined (number_form staff.branch ∷ person_form staff.person ∷ [])
+office_form (StaffLeaves staff) = 12 ∷ number_form staff
+office_form (SetManager branch staff) = 13 ∷ joined (number_form branch ∷ number_form staff ∷ [])
+
+abbrev pub office_command_form : OfficeCommand → List ℕ
+office_command_form command = office_form command.act
+
+-- the same of commands of head office
+abbrev pub OfficeFormsAreOneToOne : Type 0
+OfficeFormsAreOneToOne = (a b : OfficeCommand) → a.key ≡ b.key → (office_command_form a ≡ office_command_form b) ↔ IsTrue (same_office a b)

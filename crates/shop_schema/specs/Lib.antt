@@ -1,0 +1,6 @@
+pub mod Tables
+pub mod Forms
+pub mod Columns
+pub mod Shop
+pub mod Versions
+pub mod RowValues

@@ -1,0 +1,78 @@
+//! The stored form of commands.
+
+ghost use Rattle.std.specs.Prelude.{◌≡◌, ◌++◌, IfOk, OnOk};
+ghost use Rattle.shop_schema.specs.Forms.{number_form, text_form, person_form, act_form, command_form};
+ghost use Rattle.shop_types.specs.Seen.{seen_person, seen_act, seen_command};
+
+use shop_types::{Act, Command, NoMemory, Person};
+use sql_rows::Bytes;
+use std::alloc::Global;
+
+fn add_number(form: &mut Vec<u8>, number: u32) -> Result<(), NoMemory>
+    ensures { OnOk result (form.new.items ≡ form.old.items ++ number_form number) }
+{
+    let bytes = [
+        (number % 256) as u8,
+        (number / 256 % 256) as u8,
+        (number / 65_536 % 256) as u8,
+        (number / 16_777_216) as u8,
+    ];
+    form.extend_from_slice(&bytes)?;
+    Ok(())
+}
+
+/// Four bytes tell the length, so that bytes of 4 GiB and more, which no request has, are refused as if memory were lacking.
+fn add_bytes(form: &mut Vec<u8>, bytes: &[u8]) -> Result<(), NoMemory>
+    ensures { OnOk result (form.new.items ≡ form.old.items ++ text_form bytes.now) }
+{
+    let Ok(length) = u32::try_from(bytes.len()) else {
+        return Err(NoMemory);
+    };
+    add_number(form, length)?;
+    form.extend_from_slice(bytes)?;
+    Ok(())
+}
+
+fn add_text(form: &mut Vec<u8>, text: &str) -> Result<(), NoMemory>
+    ensures { OnOk result (form.new.items ≡ form.old.items ++ text_form text.now) }
+{
+    add_bytes(form, text.as_bytes())
+}
+
+fn add_person(form: &mut Vec<u8>, person: &Person) -> Result<(), NoMemory>
+    ensures { OnOk result (form.new.items ≡ form.old.items ++ person_form (seen_person person.now)) }
+{
+    add_text(form, person.first.as_str())?;
+    add_text(form, person.last.as_str())?;
+    add_text(form, person.address.as_str())?;
+    add_text(form, person.postal.as_str())?;
+    add_text(form, person.phone.as_str())?;
+    add_number(form, person.city.get())
+}
+
+fn add_act(form: &mut Vec<u8>, act: &Act) -> Result<(), NoMemory>
+    ensures { OnOk result (form.new.items ≡ form.old.items ++ act_form (seen_act act.now)) }
+{
+    match act {
+        Act::Customer(person) => {
+            form.extend_from_slice(&[1])?;
+            add_person(form, person)
+        }
+        Act::Import { lot, file } => {
+            form.extend_from_slice(&[6])?;
+            add_text(form, lot.as_str())?;
+            add_bytes(form, file.as_slice())
+        }
+    }
+}
+
+/// The bytes by which the command is kept: all of it but its key. Under one key, two commands have the same bytes exactly where they are one command.
+pub fn command_form(alloc: Global, command: &Command) -> Result<Bytes, NoMemory>
+    ensures { IfOk result (λ form. form ≡ command_form (seen_command command.now)) }
+{
+    let mut form = Vec::new(alloc);
+    add_number(&mut form, command.staff.get())?;
+    form.extend_from_slice(command.at.text().as_slice())?;
+    add_act(&mut form, &command.act)?;
+    Ok(Bytes::new(form))
+}

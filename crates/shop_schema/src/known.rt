@@ -1,0 +1,93 @@
+//! Whether a database has the tables of the shop.
+
+ghost use Rattle.std.specs.Prelude.{◌≡◌, ◌↔◌, IsTrue, IfOk, map};
+ghost use Rattle.std.specs.List.Sorted.{IsPermutation};
+ghost use Rattle.sqlite.specs.Held.{state};
+ghost use Rattle.sqlite.specs.Steps.{over_memory};
+ghost use Rattle.sqlite.specs.State.{HasCleanDisk, Survives};
+ghost use Rattle.sql_rows.specs.Rows.{columns_of};
+ghost use Rattle.shop_schema.specs.Tables.{shop_schema};
+ghost use Rattle.shop_schema.specs.Shop.{HasVersion};
+ghost use Rattle.shop_schema.specs.Versions.{version_of};
+
+use crate::create::create_shop;
+use same_schema::{same_first, same_schema};
+use sql_rows::{StoreFault, fault_of, number_at};
+use sqlite::{Alter, Connection, MemStore, Row, Transaction};
+use sqlite_schema::schema::Schema;
+use std::alloc::Global;
+
+/// New tables in memory, whose schema is the one to compare with.
+fn new_tables(alloc: Global) -> Result<Connection<MemStore>, StoreFault>
+    ensures { IfOk result (λ conn. (state over_memory conn).now.schema ≡ shop_schema) }
+{
+    let Ok(mut conn) = Connection::open_in_memory(alloc) else {
+        return Err(StoreFault::Memory);
+    };
+    create_shop(&mut conn)?;
+    Ok(conn)
+}
+
+/// Whether the schema of a database is that of the shop. Its store isn't called.
+pub fn is_shop(alloc: Global, schema: &Schema) -> Result<bool, StoreFault>
+    ensures { IfOk result (λ is. IsTrue is ↔ (schema.now ≡ shop_schema)) }
+{
+    let conn = new_tables(alloc)?;
+    Ok(same_schema(schema, conn.schema()))
+}
+
+/// Whether the first table of a database is the one that has the version, whatever the others are. Its store isn't called.
+pub fn has_version(alloc: Global, schema: &Schema) -> Result<bool, StoreFault>
+    ensures { IfOk result (λ is. IsTrue is ↔ HasVersion schema.now) }
+{
+    let conn = new_tables(alloc)?;
+    Ok(same_first(schema, conn.schema()))
+}
+
+/// The rows of the table that has the version, each with the version alone, in any order.
+fn versions<S: Alter>(tx: &mut Transaction<'_, S>) -> Result<Vec<Row>, StoreFault>
+    ensures same_reference { tx.new.conn.ghost_name ≡ tx.old.conn.ghost_name }
+    ensures read { HasCleanDisk (state S.Store tx.new.conn.now) → HasVersion (state S.Store tx.old.conn.now).now.schema → IfOk result (λ rows. IsPermutation (map (columns_of 1) ((state S.Store tx.old.conn.now).now.trees 0)) rows.items) }
+    ensures survives { Survives (state S.Store tx.old.conn.now) (state S.Store tx.new.conn.now) (λ _. ⊥) }
+{
+    match tx.query_all("SELECT version FROM chain", &[]) {
+        Ok(rows) => Ok(rows),
+        Err(error) => Err(fault_of(error)),
+    }
+}
+
+/// Which version the tables of a chain are of.
+#[derive(Clone, Copy, Debug, PartialEq, Eq)]
+pub enum KnownVersion {
+    /// The table that has the version doesn't have one row, so that this is no chain.
+    Missing,
+    /// The version that this program reads and writes.
+    This,
+    /// Another one.
+    Other,
+}
+
+/// Which version these rows tell.
+fn told_by(rows: &[Row]) -> Result<KnownVersion, StoreFault>
+    ensures { IfOk result (λ it. (found : _) → IsPermutation found rows.now → it ≡ version_of found) }
+{
+    if rows.len() != 1 {
+        return Ok(KnownVersion::Missing);
+    }
+    match number_at(&rows[0], 0) {
+        Ok(1) => Ok(KnownVersion::This),
+        Ok(_) => Ok(KnownVersion::Other),
+        Err(StoreFault::Failed) => Ok(KnownVersion::Other),
+        Err(fault) => Err(fault),
+    }
+}
+
+/// Which version the tables are of, in a database of which no more is known than that it `has_version`.
+pub fn version<S: Alter>(tx: &mut Transaction<'_, S>) -> Result<KnownVersion, StoreFault>
+    ensures same_reference { tx.new.conn.ghost_name ≡ tx.old.conn.ghost_name }
+    ensures read { HasCleanDisk (state S.Store tx.new.conn.now) → HasVersion (state S.Store tx.old.conn.now).now.schema → IfOk result (λ it. it ≡ version_of (map (columns_of 1) ((state S.Store tx.old.conn.now).now.trees 0))) }
+    ensures survives { Survives (state S.Store tx.old.conn.now) (state S.Store tx.new.conn.now) (λ _. ⊥) }
+{
+    let rows = versions(tx)?;
+    told_by(rows.as_slice())
+}

@@ -1,0 +1,19 @@
+//! The tables of the shop: how they are made and known again, and for which books they stand.
+#![tactic(auto)]
+
+mod create;
+mod form;
+mod known;
+mod laws;
+mod moment_text;
+mod read;
+
+pub use create::{create_shop, create_tables};
+pub use form::command_form;
+pub use known::{KnownVersion, has_version, is_shop, version};
+pub use laws::{forms_are_one_to_one, office_forms_are_one_to_one};
+pub use moment_text::MomentText;
+pub use read::{moment_at, moment_or_null_at, row_number_at, row_number_or_null_at, text_at};
+
+#[cfg(test)]
+mod tests;

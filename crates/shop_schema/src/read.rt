@@ -1,0 +1,92 @@
+//! Columns read as the shop's values. Where a column holds no such value, the fault is `Failed`.
+
+ghost use Rattle.std.specs.Prelude.{◌≡◌, ◌≢◌, ◌<◌, ℕ, List, Option, length, IfOk, IfErr, IfSome};
+ghost use Rattle.sqlite.specs.declared.types.Value.TheVariants.{Text as SqlText};
+ghost use Rattle.sqlite.specs.Values.{or_null};
+ghost use Rattle.sqlite_value.specs.Order.{column};
+ghost use Rattle.sql_rows.specs.Rows.{number_value};
+ghost use Rattle.sql_rows.specs.declared.fault.StoreFault.TheVariants.{Failed};
+ghost use Rattle.shop_model.specs.Calendar.{Moment as Civil, IsMoment};
+ghost use Rattle.shop_schema.specs.Columns.{moment_value};
+ghost use Rattle.shop_schema.specs.RowValues.{IsNumber, IsText};
+
+use shop_types::{Moment, RowNumber, Text};
+use sql_rows::{StoreFault, number_at, number_or_null_at, words_at, words_or_null_at};
+use sqlite::Row;
+
+/// The number of a row in the column.
+pub fn row_number_at<const KIND: u8>(row: &Row, at: usize) -> Result<RowNumber<KIND>, StoreFault>
+    ensures ok { IfOk result (λ n. column row.now at ≡ number_value n) }
+    ensures value { IfOk result IsNumber }
+    ensures failed { IfErr result (λ e. e ≡ Failed → (n : ℕ) → IsNumber n → at < length row.now → column row.now at ≢ number_value n) }
+{
+    match RowNumber::new(number_at(row, at)?) {
+        Some(number) => Ok(number),
+        None => Err(StoreFault::Failed),
+    }
+}
+
+/// The moment in the column, by its text.
+pub fn moment_at(row: &Row, at: usize) -> Result<Moment, StoreFault>
+    ensures ok { IfOk result (λ m. column row.now at ≡ moment_value m) }
+    ensures value { IfOk result IsMoment }
+    ensures failed { IfErr result (λ e. e ≡ Failed → (m : Civil) → IsMoment m → at < length row.now → column row.now at ≢ moment_value m) }
+{
+    let words = match words_at(row, at) {
+        Ok(words) => words,
+        Err(fault) => return Err(fault),
+    };
+    match Moment::read(words.as_str()) {
+        Some(moment) => Ok(moment),
+        None => Err(StoreFault::Failed),
+    }
+}
+
+/// The moment in the column, or none where it is NULL.
+#[tactic(auto, using(crate::proofs::MomentTexts::no_moment_or_null))]
+pub fn moment_or_null_at(row: &Row, at: usize) -> Result<Option<Moment>, StoreFault>
+    ensures ok { IfOk result (λ o. column row.now at ≡ or_null moment_value o) }
+    ensures value { IfOk result (λ o. IfSome o IsMoment) }
+    ensures failed { IfErr result (λ e. e ≡ Failed → (o : Option Civil) → IfSome o IsMoment → at < length row.now → column row.now at ≢ or_null moment_value o) }
+{
+    let Some(words) = words_or_null_at(row, at)? else {
+        return Ok(None);
+    };
+    match Moment::read(words.as_str()) {
+        Some(moment) => Ok(Some(moment)),
+        None => Err(StoreFault::Failed),
+    }
+}
+
+/// The number of a row in the column, or none where it is NULL.
+pub fn row_number_or_null_at<const KIND: u8>(
+    row: &Row,
+    at: usize,
+) -> Result<Option<RowNumber<KIND>>, StoreFault>
+    ensures ok { IfOk result (λ o. column row.now at ≡ or_null number_value o) }
+    ensures value { IfOk result (λ o. IfSome o IsNumber) }
+    ensures failed { IfErr result (λ e. e ≡ Failed → (o : Option ℕ) → IfSome o IsNumber → at < length row.now → column row.now at ≢ or_null number_value o) }
+{
+    let Some(number) = number_or_null_at(row, at)? else {
+        return Ok(None);
+    };
+    match RowNumber::new(number) {
+        Some(named) => Ok(Some(named)),
+        None => Err(StoreFault::Failed),
+    }
+}
+
+/// The text of LOW to HIGH bytes in the column.
+pub fn text_at<const LOW: usize, const HIGH: usize>(
+    row: &Row,
+    at: usize,
+) -> Result<Text<LOW, HIGH>, StoreFault>
+    ensures ok { IfOk result (λ t. column row.now at ≡ SqlText t) }
+    ensures value { IfOk result (λ t. IsText LOW HIGH t) }
+    ensures failed { IfErr result (λ e. e ≡ Failed → (t : List ℕ) → IsText LOW HIGH t → at < length row.now → column row.now at ≢ SqlText t) }
+{
+    match Text::read(words_at(row, at)?.into_string()) {
+        Some(text) => Ok(text),
+        None => Err(StoreFault::Failed),
+    }
+}

@@ -1,0 +1,77 @@
+-- Tests of columns by a number or a text, and columns that may be NULL.
+use Rattle.std.proofs.Common.{◌≡◌, ◌==◌, ◌&&◌, ℕ, pos, Bool, true, false, Option, Some, None, List, refl, sym, ap, is_eq, ◌∙◌}
+use Rattle.std.specs.Str.{bytes_eq}
+use Rattle.std.proofs.lemmas.Map.Text.{is_eq-slice_cmp}
+use Rattle.sqlite.specs.declared.types.Value.{Value}
+use Rattle.sqlite.specs.declared.types.Value.TheVariants.{Int, Text, Null}
+use Rattle.sqlite.specs.Values.{or_null}
+use Rattle.sqlite_value.specs.Order.{Row, column}
+use Rattle.sqlite_value.specs.declared.keys.Collation.TheVariants.{Binary}
+use Rattle.sqlite_value.proofs.OrderLemmas.{value_cmp-Text}
+use Rattle.sqlite_schema.specs.declared.schema.Kind.TheVariants as kind
+use Rattle.sqlite_sql.specs.declared.ops.BinaryOp.TheVariants.{Compare}
+use Rattle.sqlite_sql.specs.declared.ops.CompareOp.TheVariants.{Eq}
+use Rattle.sqlite_sql.specs.Ops.{binary, is_true}
+use Rattle.sql_rows.specs.Rows.{number_value, flag_value}
+use Rattle.sql_rows.proofs.Appends.{is_kept}
+use Rattle.sql_rows.proofs.Queries.{equal_numbers, truth_of}
+
+-- `column = number` and `column = text`, as WHERE has them, of the columns without the rowid
+abbrev pub number_test : ℕ → ℕ → Row → Bool
+number_test at n vs = is_true (binary (Compare Eq Binary) (column vs at) (Int (pos n)))
+
+abbrev pub text_test : ℕ → List ℕ → Row → Bool
+text_test at t vs = is_true (binary (Compare Eq Binary) (column vs at) (Text t))
+
+pub number_tested : (m n : ℕ) → is_true (binary (Compare Eq Binary) (number_value m) (number_value n)) ≡ (m == n)
+number_tested = equal_numbers
+
+pub text_tested : (s t : List ℕ) → is_true (binary (Compare Eq Binary) (Text s) (Text t)) ≡ bytes_eq s t
+unfolding binary
+text_tested s t = truth_of _ ∙ ap is_eq (value_cmp-Text s t) ∙ is_eq-slice_cmp s t
+
+-- a list of tests ends with `true`
+pub and_true : (b : Bool) → (b && true) ≡ b
+and_true true = refl
+and_true false = refl
+
+-- a key of one column, and keys of two
+pub one_tested : {a : Bool} (x : Bool) → x ≡ a → (x && true) ≡ a
+one_tested x h = and_true x ∙ h
+
+pub two_tested : {a b : Bool} (x y : Bool) → x ≡ a → y ≡ b → (x && (y && true)) ≡ (a && b)
+two_tested x y g h = (λ i. g i && one_tested y h i)
+
+pub three_tested : {a b c : Bool} (x y z : Bool) → x ≡ a → y ≡ b → z ≡ c → (x && (y && (z && true))) ≡ (a && b && c)
+three_tested {a} {b} {c} x y z g h k = (λ i. g i && two_tested y z h k i) ∙ nested a b c
+  where
+    nested : (a b c : Bool) → (a && (b && c)) ≡ (a && b && c)
+    nested true b c = refl
+    nested false b c = refl
+
+-- ---- a column has one value
+
+pub same_flag : (a b : Bool) → flag_value a ≡ flag_value b → a ≡ b
+same_flag true true h = refl
+same_flag false false h = refl
+same_flag true false h = cc
+same_flag false true h = cc
+
+pub same_or_null : {X : Type 0} (f : X → Value) → ((x : X) → f x ≡ Null → ⊥) → ((x y : X) → f x ≡ f y → x ≡ y) → (a b : Option X) → or_null f a ≡ or_null f b → a ≡ b
+same_or_null f some one None None h = refl
+same_or_null f some one None (Some y) h = absurd (some y (sym h))
+same_or_null f some one (Some x) None h = absurd (some x h)
+same_or_null f some one (Some x) (Some y) h = ap Some (one x y h)
+
+-- ---- a column takes it as it is
+
+pub kept_flag : (a : Bool) → is_kept kind.Integer (flag_value a) ≡ true
+kept_flag a = refl
+
+pub kept_or_null : {X : Type 0} (f : X → Value) → ((x : X) → is_kept kind.Text (f x) ≡ true) → (o : Option X) → is_kept kind.Text (or_null f o) ≡ true
+kept_or_null f kept None = refl
+kept_or_null f kept (Some x) = kept x
+
+pub number_or_null : (o : Option ℕ) → is_kept kind.Integer (or_null number_value o) ≡ true
+number_or_null None = refl
+number_or_null (Some n) = refl

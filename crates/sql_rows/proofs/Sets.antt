@@ -1,0 +1,77 @@
+-- A step that takes one row out and puts another in at its rowid.
+use Rattle.std.proofs.Common.{◌≡◌, ◌<ℤ◌, ℤ, List, [], ◌∷◌, filter, true, false, Bool, cond, refl, sym, ap, subst, ◌∙◌, arith, IsTrue, Less, Greater, is_eq, int_cmp}
+use Rattle.std.specs.List.{AllByRecursion}
+use Rattle.std.proofs.lemmas.Int.{ints}
+use Rattle.sqlite.specs.declared.types.Value.TheVariants.{Int}
+use Rattle.sqlite_value.specs.Order.{Row, value_cmp}
+use Rattle.sqlite_value.proofs.OrderLemmas.{value_cmp-Int}
+use Rattle.sqlite_trees.specs.declared.store.Shape.TheVariants.{Table as TableShape}
+use Rattle.sqlite_trees.specs.Tree.{rowid, has_rowid, put_row, without_rowid}
+use Rattle.sqlite_trees.specs.View.{IsShaped, is_int}
+use Rattle.sqlite_keyed.specs.Keyed.{IsKeyedBy}
+use Rattle.sqlite_keyed.specs.Lists.{update_where}
+use Rattle.sqlite_keyed.proofs.ListLemmas.{all-filter}
+use Rattle.sql_rows.proofs.Appends.{int_is, id_of, ids_rise}
+
+abbrev pub AreInts : List Row → Type 0
+AreInts = AllByRecursion (λ r. IsTrue (is_int (rowid r)))
+
+cmp_ids : (a b : Row) → IsTrue (is_int (rowid a)) → IsTrue (is_int (rowid b)) → value_cmp (rowid a) (rowid b) ≡ int_cmp (id_of a) (id_of b)
+cmp_ids a b p q = (λ i. value_cmp (int_is (rowid a) p i) (int_is (rowid b) q i)) ∙ value_cmp-Int (id_of a) (id_of b)
+
+pub has_id : (id : ℤ) (r : Row) → IsTrue (is_int (rowid r)) → has_rowid id r ≡ is_eq (int_cmp (id_of r) id)
+has_id id r p = ap is_eq ((λ i. value_cmp (int_is (rowid r) p i) (Int id)) ∙ value_cmp-Int (id_of r) id)
+
+apart_up : (a b : ℤ) → a <ℤ b → is_eq (int_cmp b a) ≡ false
+apart_up a b h = grind (arith, ints)
+
+pub apart_down : (a b : ℤ) → a <ℤ b → is_eq (int_cmp a b) ≡ false
+apart_down a b h = grind (arith, ints)
+
+pub same_id : (a : ℤ) → is_eq (int_cmp a a) ≡ true
+same_id a = grind (arith, ints)
+
+greater : (a b : ℤ) → a <ℤ b → int_cmp b a ≡ Greater
+greater a b h = grind (arith, ints)
+
+less : (a b : ℤ) → a <ℤ b → int_cmp a b ≡ Less
+less a b h = grind (arith, ints)
+
+-- none of the later rows has the id
+pub spared : (id : ℤ) (rows : List Row) → AreInts rows → AllByRecursion (λ r. id <ℤ id_of r) rows → without_rowid id rows ≡ rows
+spared id [] all up = refl
+spared id (r ∷ rows) all up = rw (has_id id r all.0, apart_up id (id_of r) up.0, spared id rows all.1 up.1)
+
+goes_first : (new : Row) (rows : List Row) → IsTrue (is_int (rowid new)) → AreInts rows → AllByRecursion (λ r. id_of new <ℤ id_of r) rows → put_row new rows ≡ new ∷ rows
+goes_first new [] is all up = refl
+goes_first new (r ∷ rows) is all up = rw (cmp_ids r new all.0 is, greater (id_of new) (id_of r) up.0)
+
+module _ (p : Row → Bool) (f : Row → Row) (keeps : (r : Row) → id_of (f r) ≡ id_of r) (ints_stay : (r : Row) → IsTrue (is_int (rowid (f r)))) where
+  pub unpicked : (rows : List Row) → filter p rows ≡ [] → update_where p f rows ≡ rows
+  unpicked [] none = refl
+  unpicked (r ∷ rows) none = go (p r) none (unpicked rows)
+    where
+      go : (b : Bool) → cond b (r ∷ filter p rows) (filter p rows) ≡ [] → (filter p rows ≡ [] → update_where p f rows ≡ rows) → cond b (f r) r ∷ update_where p f rows ≡ r ∷ rows
+      go true h more = cc
+      go false h more = ap (λ l. r ∷ l) (more h)
+
+  set_one : (rows : List Row) (x : Row) → AreInts rows → IsKeyedBy id_of rows → filter p rows ≡ x ∷ [] → put_row (f x) (without_rowid (id_of x) rows) ≡ update_where p f rows
+  set_one [] x all up one = cc
+  set_one (r ∷ rows) x all up one = go (p r) one (set_one rows x all.1 up.1)
+    where
+      go : (b : Bool) → cond b (r ∷ filter p rows) (filter p rows) ≡ x ∷ [] → (filter p rows ≡ x ∷ [] → put_row (f x) (without_rowid (id_of x) rows) ≡ update_where p f rows)
+          → put_row (f x) (without_rowid (id_of x) (r ∷ rows)) ≡ cond b (f r) r ∷ update_where p f rows
+      go true h more =
+          let is : r ≡ x = cc in
+          let none : filter p rows ≡ [] = cc in
+          let id = id_of r in
+          let out : without_rowid id (r ∷ rows) ≡ rows = rw (has_id id r all.0, same_id id) (spared id rows all.1 up.0) in
+          let first : put_row (f r) rows ≡ f r ∷ rows = goes_first (f r) rows (ints_stay r) all.1 (subst (λ (n : ℤ). AllByRecursion (λ y. n <ℤ id_of y) rows) (sym (keeps r)) up.0) in
+          subst (λ y. put_row (f y) (without_rowid (id_of y) (r ∷ rows)) ≡ f r ∷ update_where p f rows) is (rw (out, first, unpicked rows none))
+      go false h more =
+          let lows : AllByRecursion (λ y. id_of r <ℤ id_of y) (x ∷ []) = subst (AllByRecursion (λ y. id_of r <ℤ id_of y)) h (all-filter (λ y. id_of r <ℤ id_of y) p rows up.0) in
+          let low = lows.0 in
+          rw (has_id (id_of x) r all.0, apart_down (id_of r) (id_of x) low, cmp_ids r (f x) all.0 (ints_stay x), keeps x, less (id_of r) (id_of x) low) (ap (λ l. r ∷ l) (more h))
+
+  pub sets_one : (rows : List Row) (x : Row) → IsShaped TableShape rows → filter p rows ≡ x ∷ [] → put_row (f x) (without_rowid (id_of x) rows) ≡ update_where p f rows
+  sets_one rows x shaped one = set_one rows x shaped.1 (ids_rise rows shaped) one

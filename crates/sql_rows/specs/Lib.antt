@@ -1,0 +1,4 @@
+pub mod Rows
+pub mod Builds
+pub mod Fault
+pub mod Books

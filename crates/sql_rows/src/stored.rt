@@ -1,0 +1,129 @@
+//! Rows of an answer as values.
+
+ghost use Rattle.std.specs.Prelude.{◌≡◌, ◌≢◌, ◌<◌, ◌^◌, ℕ, IsUtf8, length, IfErr, IfSome, map, take, IfOk};
+ghost use Rattle.std.specs.List.{AllByRecursion};
+ghost use Rattle.std.specs.Option.{option_to_list};
+ghost use Rattle.sqlite_value.specs.declared.value.Value.TheVariants.{Text, Blob};
+ghost use Rattle.sqlite.specs.Values.{or_null};
+ghost use Rattle.sql_rows.specs.Rows.{number_value, flag_value};
+ghost use Rattle.sql_rows.specs.declared.fault.StoreFault.TheVariants.{Failed};
+ghost use Rattle.sqlite_value.specs.Order.{Row as SqlRow, column};
+
+use crate::fault::{StoreFault, fault_of};
+use crate::text::{Bytes, Words};
+use sqlite::Row;
+use std::alloc::Global;
+
+/// What a row of some table is read as.
+pub trait Stored: Sized + Drop {
+    // the columns of its row
+    ghost columns: { Self → SqlRow };
+
+    // its numbers and texts are such as the program can hold
+    ghost fits: { Self → Type 0 };
+
+    /// The value of which these are the columns. But for memory, it fails only where they are those of no value that the program can hold.
+    fn read(row: &Row) -> Result<Self, StoreFault>
+        ensures ok { IfOk result (λ x. columns x ≡ row.now) }
+        ensures value { IfOk result (λ x. fits x) }
+        ensures failed { IfErr result (λ e. e ≡ Failed → (x : _) → fits x → columns x ≢ row.now) };
+}
+
+/// The values of the rows, in their order.
+#[tactic(auto, using(crate::proofs::Faults::no_values))]
+pub fn read_all<T: Stored>(alloc: Global, rows: &[Row]) -> Result<Vec<T>, StoreFault>
+    ensures ok { IfOk result (λ all. map T.Stored.columns all.items ≡ rows.now) }
+    ensures values { IfOk result (λ all. AllByRecursion T.Stored.fits all.items) }
+    ensures failed { IfErr result (λ e. e ≡ Failed → (xs : _) → AllByRecursion T.Stored.fits xs → map T.Stored.columns xs ≢ rows.now) }
+{
+    let mut all = Vec::new(alloc);
+    for row in rows {
+        if all.push(T::read(row)?).is_err() {
+            return Err(StoreFault::Memory);
+        }
+    }
+    Ok(all)
+}
+
+/// The value of the first row, if there is a row.
+pub fn read_one<T: Stored>(rows: &[Row]) -> Result<Option<T>, StoreFault>
+    ensures ok { IfOk result (λ o. map T.Stored.columns (option_to_list o) ≡ take 1 rows.now) }
+    ensures value { IfOk result (λ o. IfSome o T.Stored.fits) }
+{
+    match rows.first() {
+        None => Ok(None),
+        Some(row) => Ok(Some(T::read(row)?)),
+    }
+}
+
+/// The number below 4,294,967,296 in the column, where columns are counted from 0.
+pub fn number_at(row: &Row, at: usize) -> Result<u32, StoreFault>
+    ensures ok { IfOk result (λ n. column row.now at ≡ number_value n) }
+    ensures failed { IfErr result (λ e. e ≡ Failed → (n : ℕ) → n < 2 ^ 32 → at < length row.now → column row.now at ≢ number_value n) }
+{
+    match row.get(at) {
+        Ok(number) => Ok(number),
+        Err(error) => Err(fault_of(error)),
+    }
+}
+
+/// The text in the column.
+pub fn words_at(row: &Row, at: usize) -> Result<Words, StoreFault>
+    ensures ok { IfOk result (λ w. column row.now at ≡ Text w) }
+    ensures utf8 { IfOk result (λ w. IsUtf8 w) }
+    ensures failed { IfErr result (λ e. e ≡ Failed → (t : _) → IsUtf8 t → at < length row.now → column row.now at ≢ Text t) }
+{
+    match row.get(at) {
+        Ok(text) => Ok(Words::new(text)),
+        Err(error) => Err(fault_of(error)),
+    }
+}
+
+/// The truth value in the column: 0 or 1.
+pub fn flag_at(row: &Row, at: usize) -> Result<bool, StoreFault>
+    ensures ok { IfOk result (λ b. column row.now at ≡ flag_value b) }
+    ensures failed { IfErr result (λ e. e ≡ Failed → (b : _) → at < length row.now → column row.now at ≢ flag_value b) }
+{
+    match number_at(row, at)? {
+        0 => Ok(false),
+        1 => Ok(true),
+        _ => Err(StoreFault::Failed),
+    }
+}
+
+/// The bytes in the column.
+pub fn bytes_at(row: &Row, at: usize) -> Result<Bytes, StoreFault>
+    ensures ok { IfOk result (λ b. column row.now at ≡ Blob b) }
+    ensures failed { IfErr result (λ e. e ≡ Failed → (b : _) → at < length row.now → column row.now at ≢ Blob b) }
+{
+    match row.get(at) {
+        Ok(bytes) => Ok(Bytes::new(bytes)),
+        Err(error) => Err(fault_of(error)),
+    }
+}
+
+/// The text in the column, or none where it is NULL.
+pub fn words_or_null_at(row: &Row, at: usize) -> Result<Option<Words>, StoreFault>
+    ensures ok { IfOk result (λ o. column row.now at ≡ or_null Text o) }
+    ensures utf8 { IfOk result (λ o. IfSome o (λ w. IsUtf8 w)) }
+    ensures failed { IfErr result (λ e. e ≡ Failed → (o : _) → IfSome o IsUtf8 → at < length row.now → column row.now at ≢ or_null Text o) }
+{
+    let text: Result<Option<String>, _> = row.get(at);
+    match text {
+        Ok(Some(text)) => Ok(Some(Words::new(text))),
+        Ok(None) => Ok(None),
+        Err(error) => Err(fault_of(error)),
+    }
+}
+
+/// The number below 4,294,967,296 in the column, or none where it is NULL.
+pub fn number_or_null_at(row: &Row, at: usize) -> Result<Option<u32>, StoreFault>
+    ensures ok { IfOk result (λ o. column row.now at ≡ or_null number_value o) }
+    ensures failed { IfErr result (λ e. e ≡ Failed → (o : _) → IfSome o (λ n. n < 2 ^ 32) → at < length row.now → column row.now at ≢ or_null number_value o) }
+{
+    let found: Result<Option<u32>, _> = row.get(at);
+    match found {
+        Ok(found) => Ok(found),
+        Err(error) => Err(fault_of(error)),
+    }
+}

@@ -1,0 +1,4 @@
+pub mod Rows
+pub mod Stock
+pub mod Progress
+pub mod Fault
