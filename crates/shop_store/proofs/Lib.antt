@@ -1,0 +1,2 @@
+pub mod CustomerTexts
+pub mod RowReads

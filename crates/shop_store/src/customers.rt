@@ -1,0 +1,164 @@
+ghost use Rattle.std.specs.Prelude.{⊤, ◌≡◌, [], ◌∷◌, ◌++◌, OnOk, IfOk, IfErr, map, find, option_map};
+ghost use Rattle.sql_rows.specs.Rows.{PicksOne};
+ghost use Rattle.sqlite.specs.Held.{state};
+ghost use Rattle.sqlite.specs.State.{HasCleanDisk, Survives, IsUnchanged, KeepsCommit};
+ghost use Rattle.sqlite.specs.Values.{bound};
+ghost use Rattle.sql_rows.specs.Books.{Stopped};
+ghost use Rattle.shop_model.specs.Calendar.{moment_text};
+ghost use Rattle.shop_model.specs.Rows.{of, is_row, set_row};
+ghost use Rattle.shop_model.specs.Sound.{HasNumbers};
+ghost use Rattle.shop_types.specs.Seen.{seen_customer};
+ghost use Rattle.shop_schema.specs.Columns.{customer_columns};
+ghost use Rattle.shop_schema.specs.RowValues.{IsRow, IsCustomer, AreValues};
+ghost use Rattle.shop_schema.specs.Shop.{IsShop, Changes, StandsFor};
+ghost use Rattle.shop_store.specs.Seen.{seen_row};
+
+use shop_schema::{MomentText, moment_at, row_number_at, text_at};
+use shop_types::{BranchNo, Customer, CustomerNo, Person};
+use sql_rows::{StoreFault, Stored, fault_of, flag_at, read_all, read_one};
+use sqlite::types::{ToSql, ValueRef};
+use sqlite::{Alter, Row, Transaction};
+use std::alloc::Global;
+
+/// A customer of a branch, with its number there.
+#[derive(Debug, Drop)]
+pub struct CustomerRow {
+    pub branch: BranchNo,
+    pub number: CustomerNo,
+    pub customer: Customer,
+}
+
+impl Stored for CustomerRow {
+    ghost columns = { λ row. customer_columns (seen_row row) };
+
+    ghost fits = { λ row. IsRow IsCustomer (seen_row row) };
+
+    fn read(row: &Row) -> Result<CustomerRow, StoreFault> {
+        if row.column_count() != 10 {
+            return Err(StoreFault::Failed);
+        }
+        Ok(CustomerRow {
+            branch: row_number_at(row, 0)?,
+            number: row_number_at(row, 1)?,
+            customer: Customer {
+                person: Person {
+                    first: text_at(row, 2)?,
+                    last: text_at(row, 3)?,
+                    address: text_at(row, 4)?,
+                    postal: text_at(row, 5)?,
+                    phone: text_at(row, 6)?,
+                    city: row_number_at(row, 7)?,
+                },
+                active: flag_at(row, 8)?,
+                created: moment_at(row, 9)?,
+            },
+        })
+    }
+}
+
+impl CustomerRow {
+    /// The columns in order, as parameters, without the moment.
+    fn values<'a>(&'a self, created: &'a MomentText) -> [ValueRef<'a>; 10]
+        requires { created.now ≡ moment_text self.now.customer.created }
+        ensures { bound result ≡ customer_columns (seen_row self.now) }
+    {
+        [
+            self.branch.get().to_sql(),
+            self.number.get().to_sql(),
+            self.customer.person.first.as_str().to_sql(),
+            self.customer.person.last.as_str().to_sql(),
+            self.customer.person.address.as_str().to_sql(),
+            self.customer.person.postal.as_str().to_sql(),
+            self.customer.person.phone.as_str().to_sql(),
+            self.customer.person.city.get().to_sql(),
+            self.customer.active.to_sql(),
+            created.as_str().to_sql(),
+        ]
+    }
+}
+
+/// The customers of the branch, in order of number. After `Memory` or `Size` the transaction is rolled back; after `Failed` the store is no more to be used.
+pub fn customers_of<S: Alter>(
+    tx: &mut Transaction<'_, S>,
+    alloc: Global,
+    branch: BranchNo,
+) -> Result<Vec<CustomerRow>, StoreFault>
+    ensures same_reference { tx.new.conn.ghost_name ≡ tx.old.conn.ghost_name }
+    ensures rows { HasCleanDisk (state S.Store tx.new.conn.now) → IsShop (state S.Store tx.old.conn.now) → IfOk result (λ rows. (books : _) → StandsFor (state S.Store tx.old.conn.now).now.trees books → AreValues books → HasNumbers books → map (λ row. (seen_row row).it) rows.items ≡ of branch books.customers) }
+    ensures same { HasCleanDisk (state S.Store tx.new.conn.now) → IsShop (state S.Store tx.old.conn.now) → OnOk result (IsUnchanged (state S.Store tx.old.conn.now) (state S.Store tx.new.conn.now)) }
+    ensures kept { HasCleanDisk (state S.Store tx.new.conn.now) → IsShop (state S.Store tx.old.conn.now) → KeepsCommit (state S.Store tx.old.conn.now) (state S.Store tx.new.conn.now) }
+    ensures survives { Survives (state S.Store tx.old.conn.now) (state S.Store tx.new.conn.now) (λ _. ⊥) }
+{
+    match tx.query_all(
+        "SELECT branch, number, first, last, address, postal, phone, city, active, created FROM customer WHERE branch = ?1 ORDER BY number",
+        &[branch.get().to_sql()],
+    ) {
+        Ok(rows) => read_all(alloc, rows.as_slice()),
+        Err(error) => Err(fault_of(error)),
+    }
+}
+
+/// Adds the customer. After a fault the transaction is rolled back, and the tables are as before it.
+pub fn put_customer<S: Alter>(
+    tx: &mut Transaction<'_, S>,
+    row: &CustomerRow,
+) -> Result<(), StoreFault>
+    ensures same_reference { tx.new.conn.ghost_name ≡ tx.old.conn.ghost_name }
+    ensures put { HasCleanDisk (state S.Store tx.new.conn.now) → IsShop (state S.Store tx.old.conn.now) → OnOk result (Changes (state S.Store tx.old.conn.now) (state S.Store tx.new.conn.now) (λ _. ⊤) (λ books. record books { customers = books.customers ++ seen_row row.now ∷ [] })) }
+    ensures err { HasCleanDisk (state S.Store tx.new.conn.now) → IfErr result (Stopped (state S.Store tx.old.conn.now) (state S.Store tx.new.conn.now)) }
+    ensures survives { Survives (state S.Store tx.old.conn.now) (state S.Store tx.new.conn.now) (λ _. ⊥) }
+{
+    let created = MomentText::of(row.customer.created);
+    match tx.execute(
+        "INSERT INTO customer (branch, number, first, last, address, postal, phone, city, active, created) VALUES (?1, ?2, ?3, ?4, ?5, ?6, ?7, ?8, ?9, ?10)",
+        &row.values(&created),
+    ) {
+        Ok(_) => Ok(()),
+        Err(error) => Err(fault_of(error)),
+    }
+}
+
+/// Sets whether the customer may rent. A customer who is not there is not made.
+pub fn set_active<S: Alter>(
+    tx: &mut Transaction<'_, S>,
+    branch: BranchNo,
+    number: CustomerNo,
+    active: bool,
+) -> Result<(), StoreFault>
+    ensures same_reference { tx.new.conn.ghost_name ≡ tx.old.conn.ghost_name }
+    ensures set { HasCleanDisk (state S.Store tx.new.conn.now) → IsShop (state S.Store tx.old.conn.now) → OnOk result (Changes (state S.Store tx.old.conn.now) (state S.Store tx.new.conn.now) (λ books. PicksOne (is_row branch number) books.customers) (λ books. record books { customers = set_row branch number (λ it. record it { active = active }) books.customers })) }
+    ensures err { HasCleanDisk (state S.Store tx.new.conn.now) → IfErr result (Stopped (state S.Store tx.old.conn.now) (state S.Store tx.new.conn.now)) }
+    ensures survives { Survives (state S.Store tx.old.conn.now) (state S.Store tx.new.conn.now) (λ _. ⊥) }
+{
+    match tx.execute(
+        "UPDATE customer SET active = ?3 WHERE branch = ?1 AND number = ?2",
+        &[
+            branch.get().to_sql(),
+            number.get().to_sql(),
+            active.to_sql(),
+        ],
+    ) {
+        Ok(_) => Ok(()),
+        Err(error) => Err(fault_of(error)),
+    }
+}
+
+/// The customer of the number, if the branch has it.
+pub fn customer_at<S: Alter>(
+    tx: &mut Transaction<'_, S>,
+    branch: BranchNo,
+    number: CustomerNo,
+) -> Result<Option<CustomerRow>, StoreFault>
+    ensures same_reference { tx.new.conn.ghost_name ≡ tx.old.conn.ghost_name }
+    ensures row { HasCleanDisk (state S.Store tx.new.conn.now) → IsShop (state S.Store tx.old.conn.now) → IfOk result (λ o. (books : _) → StandsFor (state S.Store tx.old.conn.now).now.trees books → AreValues books → PicksOne (is_row branch number) books.customers → find (is_row branch number) books.customers ≡ option_map seen_row o) }
+    ensures kept { HasCleanDisk (state S.Store tx.new.conn.now) → IsShop (state S.Store tx.old.conn.now) → KeepsCommit (state S.Store tx.old.conn.now) (state S.Store tx.new.conn.now) }
+    ensures survives { Survives (state S.Store tx.old.conn.now) (state S.Store tx.new.conn.now) (λ _. ⊥) }
+{
+    match tx.query_all(
+        "SELECT branch, number, first, last, address, postal, phone, city, active, created FROM customer WHERE branch = ?1 AND number = ?2",
+        &[branch.get().to_sql(), number.get().to_sql()],
+    ) {
+        Ok(rows) => read_one(rows.as_slice()),
+        Err(error) => Err(fault_of(error)),
+    }
+}
