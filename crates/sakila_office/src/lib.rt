@@ -6,3 +6,6 @@ mod words;
 
 pub use program::run;
 pub use words::NoWords;
+
+#[cfg(test)]
+mod tests;
