@@ -1,6 +1,6 @@
-ghost use Rattle.std.specs.Prelude.{◌≡◌, ℕ, pos, ◌+◌, ◌<◌, ◌≤◌, ◌≤ℤ◌, ◌↔◌, IsTrue, IfSome, IfNone, Some, length, slice_index};
+ghost use Rattle.std.specs.Prelude.{◌≡◌, ℕ, List, pos, ◌+◌, ◌<◌, ◌≤◌, ◌≤ℤ◌, ◌↔◌, IsTrue, IfSome, IfNone, Some, length, slice_index};
 ghost use Rattle.shop_model.specs.Calendar.{Moment as Value, IsMoment, moment_text, day_of, seconds_of, is_earlier, digit};
-ghost use Rattle.shop_values.specs.Moments.{IsDigits};
+ghost use Rattle.shop_values.specs.Moments.{IsDigits, IsTextOf};
 
 use jiff::civil::Date;
 use std::fmt;
@@ -87,7 +87,7 @@ impl Moment {
 
     /// The moment that the 19 bytes `YYYY-MM-DDTHH:MM:SS` write: a date of the calendar from 1970 to 9999 and a time of day.
     pub fn read(text: &str) -> Option<Moment>
-        ensures some { IfSome result (λ m. IsMoment m × (moment_text m ≡ text.now)) }
+        ensures some { IfSome result (λ m. IsTextOf text.now m) }
         ensures none { IfNone result ((m : Value) → IsMoment m → ¬ (moment_text m ≡ text.now)) }
     {
         let bytes = text.as_bytes();
@@ -116,7 +116,8 @@ impl Moment {
 
     /// The 19 bytes `YYYY-MM-DDTHH:MM:SS`, which `read` reads back.
     pub fn text(self) -> [u8; 19]
-        ensures { result ≡ moment_text self }
+        ensures value { result ≡ moment_text self }
+        ensures kind { IsMoment self }
     {
         let (month, day) = (self.month as u16, self.day as u16);
         let (hour, minute, second) = (self.hour as u16, self.minute as u16, self.second as u16);
@@ -170,7 +171,7 @@ impl Moment {
 
 /// No two moments have one text, so that `read` gives back the moment whose text it reads.
 pub fn moment_texts_are_one_to_one()
-    ensures { (a b : Value) → IsMoment a → IsMoment b → moment_text a ≡ moment_text b → a ≡ b }
+    ensures { (a b : Value) (text : List ℕ) → IsTextOf text a → IsTextOf text b → a ≡ b }
 {}
 
 impl fmt::Display for Moment {

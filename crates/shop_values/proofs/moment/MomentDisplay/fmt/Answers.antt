@@ -5,5 +5,5 @@ use Rattle.shop_values.proofs.moment.MomentDisplay.fmt.Goals as goal
 
 pub unwrap-requires : goal.unwrap-requires
 unwrap-requires g c =
-    let utf8 : IsUtf8 c.as_slice.result.now = subst IsUtf8 (sym (c.as_slice.ensures ∙ c.text-text.ensures)) (moment_text-utf8 c.args.self.now) in
+    let utf8 : IsUtf8 c.as_slice.result.now = subst IsUtf8 (sym (c.as_slice.ensures ∙ c.text-text.ensures.value)) (moment_text-utf8 c.args.self.now) in
     search rules
