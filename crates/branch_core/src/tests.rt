@@ -4,8 +4,8 @@ ghost use Rattle.branch_core.specs.Agreed.{IsFoundFor, IsWithin, copies_of};
 
 use super::*;
 use shop_types::{
-    Act, BadCsv, BranchNo, Bytes, CityNo, Command, FilmNo, Key, L45, Limits, LotName, Moment,
-    Person, Refusal, StaffNo, T45, T128,
+    Act, BadCsv, BranchNo, CityNo, Command, FilmNo, Key, L45, Limits, LotName, Moment, Person,
+    Refusal, StaffNo, StockFile, T45, T128,
 };
 use std::alloc::Global;
 use std::test::Fail;
@@ -130,7 +130,7 @@ fn import(alloc: Global) -> Result<Command, Fail>
     ensures { IfOk result (λ made. (copies : ℕ) (has_lot : Bool) (stock : Result (Vec StockFound Global) BadCsv) → IsFoundFor made.act (ActFound.Import copies has_lot stock)) }
 {
     let lot = LotName::read(text(alloc, "L1")?).ok_or("lot")?;
-    let file = Bytes::from_vec(Vec::new(alloc));
+    let file = StockFile::new(Vec::new(alloc)).ok_or("file")?;
     command(alloc, Act::Import { lot, file })
 }
 

@@ -18,7 +18,7 @@ ghost use Rattle.chain_engine.specs.Finds.{found_row};
 use crate::tables::{KeptRow, Tables};
 use crate::{opening, rows};
 use branch_core::{ActFound, Found, KeptFound, StockFound};
-use shop_types::{Act, BadCsv, BranchNo, Bytes, Command, NoMemory};
+use shop_types::{Act, BadCsv, BranchNo, Command, NoMemory, StockFile};
 use std::alloc::Global;
 use stock_csv::{StockFault, StockRow, read_stock};
 
@@ -86,7 +86,7 @@ fn find_act(
 }
 
 /// The rows of the stock file with what there is of their films, or the file's fault.
-fn find_stock(alloc: Global, file: &Bytes) -> Result<Result<Vec<StockFound>, BadCsv>, NoMemory>
+fn find_stock(alloc: Global, file: &StockFile) -> Result<Result<Vec<StockFound>, BadCsv>, NoMemory>
     ensures value { IfOk result (λ stock. seen_stock stock ≡ stock_of file.now) }
     ensures rows { IfOk result (λ stock. IfOk stock (λ rows. All (RowAgrees opening_catalogue) rows.items)) }
     ensures few { IfOk result (λ stock. IfOk stock (λ rows. copies_of rows.items ≤ 1_000)) }

@@ -1,7 +1,7 @@
 use super::*;
 use shop_types::{
-    Act, Ask, BranchNo, Bytes, Caller, CityNo, Command, CustomerNo, Key, L45, Limits, LotName,
-    Moment, Person, Reply, Request, StaffNo, T45, T128, Token,
+    Act, Ask, BranchNo, Caller, CityNo, Command, CustomerNo, Key, L45, Limits, LotName, Moment,
+    Person, Reply, Request, StaffNo, StockFile, T45, T128, Token,
 };
 use std::alloc::Global;
 use std::test::Fail;
@@ -173,7 +173,7 @@ fn is_imported(
         at: Moment::read("2026-03-01T10:00:00").ok_or("moment")?,
         act: Act::Import {
             lot: LotName::read(text(alloc, lot)?).ok_or("lot")?,
-            file: Bytes::from_vec(Vec::from_slice(alloc, file.as_bytes())?),
+            file: StockFile::new(Vec::from_slice(alloc, file.as_bytes())?).ok_or("file")?,
         },
     });
     Ok(says(&chain.answer(&branch(1)?, &request), body))

@@ -31,7 +31,7 @@ EndsWith after exchanges =
 -- the bytes sent for a text that is no message
 abbrev pub fault_text : Fault → List ℕ
 fault_text BadHead = text_of (problem_answer named.BadHead)
-fault_text TooLong = text_of (problem_answer named.TooLong)
+fault_text TooLong = text_of (problem_answer (named.Decision named.TooLong))
 
 -- the rest of what was read is at fault
 abbrev pub IsRefused : Fault → List ℕ → Type 0

@@ -1,5 +1,5 @@
 -- What a message asks, of each caller.
-use Rattle.std.specs.Prelude.{◌≡◌, ℕ, Bool, true, false, List, slice_get, Option, Some, None, option_map, option_and_then, unwrap_or}
+use Rattle.std.specs.Prelude.{◌≡◌, ℕ, Bool, true, false, List, slice_get, Option, Some, None, option_map, option_and_then, unwrap_or, if◌then◌else◌}
 use Rattle.http_messages.specs.Message.{Message}
 use Rattle.http_messages.specs.Items.{parts}
 use Rattle.shop_values.specs.Numbers.{row_number_of}
@@ -9,6 +9,7 @@ use Rattle.shop_model.specs.Machine.{Request, Unread, Do, Look}
 use Rattle.shop_model.specs.Books.{Caller, Counter, HeadOffice, Nobody}
 use Rattle.shop_types.specs.Seen.{seen_request, seen_refusal}
 use Rattle.shop_types.specs.Replies.{has_fixed_body}
+use Rattle.shop_types.specs.StockFiles.{is_stock_file}
 use Rattle.counter_routes.specs.declared.paths.Route.{Route}
 use Rattle.counter_routes.specs.declared.paths.Route.TheVariants.{NewCustomer, Customer, Import}
 use Rattle.counter_routes.specs.declared.asked.Reading.{Reading}
@@ -36,9 +37,14 @@ request_at message (Some NewCustomer) = or_bad_body (option_map Do (command_in m
 request_at message (Some Import) = or_bad_body (option_map Do (import_in message.target message.body))
 request_at message (Some Customer) = or_bad_body (option_map (λ n. Look (OneCustomer n)) (number_in message.target))
 
--- What a message asks of that caller: nobody asks anything, and head office has no routes yet. The body of a GET is not looked at.
+-- What a counter's message asks, where its body is no longer than a stock file may be. Of the body of a GET nothing else is looked at.
+abbrev pub counter_request : Message → Request
+counter_request message =
+    if is_stock_file message.body then request_at message (route_of message.posts message.target) else Unread named.TooLong
+
+-- what a message asks of that caller: nobody asks anything, and head office has no routes yet
 abbrev pub reading_of : Message → Caller → Request
-reading_of message (Counter b) = request_at message (route_of message.posts message.target)
+reading_of message (Counter b) = counter_request message
 reading_of message HeadOffice = Unread named.NoRoute
 reading_of message Nobody = Unread named.NoCounter
 

@@ -1,6 +1,6 @@
 //! What a message asks.
 
-ghost use Rattle.std.specs.Prelude.{◌≡◌, true, IfOk, IfErr, OnErr, Err, Option, Some, None, option_map};
+ghost use Rattle.std.specs.Prelude.{◌≡◌, ◌≤◌, true, IfOk, IfErr, OnErr, Err, Option, Some, None, option_map, length};
 ghost use Rattle.http_messages.specs.Shown.{message_of};
 ghost use Rattle.shop_model.specs.Values.{Command as Written};
 ghost use Rattle.shop_model.specs.Machine.{Do};
@@ -52,6 +52,7 @@ impl Routes {
         alloc: Global,
         message: &http_messages::Request<'_>,
     ) -> Result<Reading, NoMemory>
+        requires { length message.now.body.now ≤ 65_536 }
         ensures reading { let m = message_of message.now in
             IfOk result (λ reading. Reads reading (request_at m (route_of m.posts m.target))) }
         ensures memory { OnErr result (is_command (route_of message.now.posts message.now.target.now) ≡ true) }
@@ -69,8 +70,8 @@ impl Routes {
         }
     }
 
-    /// What a message asks of that caller. It is refused with `no_counter` where nobody asks, with `no_route` where there is
-    /// no such request for that caller, and with `bad_body` where a part of the path or a JSON body is not of its form.
+    /// What a message asks of that caller. It is refused with `no_counter` where nobody asks, with `too_long` where a counter's body has more
+    /// than 65,536 bytes, with `no_route` where there is no such request for that caller, and with `bad_body` where a part of the path or a JSON body is not of its form.
     /// A stock file is kept as it came, whatever it says. Only a command takes memory.
     pub fn read(
         &self,
@@ -82,6 +83,10 @@ impl Routes {
         ensures memory { OnErr result (takes_memory (message_of message.now) (seen_caller caller) ≡ true) }
     {
         match caller {
+            // No message that `read_request` reads has a body of this length.
+            Caller::Branch(_) if message.body.len() > 65_536 => {
+                Ok(Reading::Refused(Refusal::TooLong))
+            }
             Caller::Branch(_) => self.read_counter(alloc, message),
             Caller::Office => Ok(Reading::Refused(Refusal::NoRoute)),
             Caller::Nobody => Ok(Reading::Refused(Refusal::NoCounter)),

@@ -1,13 +1,13 @@
 //! Imports: commands whose parts stand in the path, with a stock file as the body.
 
-ghost use Rattle.std.specs.Prelude.{◌≡◌, IfOk, IfErr, Some, None};
+ghost use Rattle.std.specs.Prelude.{◌≡◌, ◌≤◌, IfOk, IfErr, Some, None, length};
 ghost use Rattle.shop_types.specs.Seen.{seen_command};
 ghost use Rattle.counter_routes.specs.Imports.{name_in, staff_in, moment_in, import_in};
 ghost use Rattle.counter_routes.specs.declared.bodies.Fault.TheVariants.{BadBody};
 
 use crate::bodies::Fault;
 use http_messages::part;
-use shop_types::{Act, Bytes, Command, Moment, Name, StaffNo};
+use shop_types::{Act, Command, Moment, Name, StaffNo, StockFile};
 use std::alloc::Global;
 
 fn name<const KIND: u8>(alloc: Global, target: &[u8], n: usize) -> Result<Name<KIND>, Fault>
@@ -40,6 +40,7 @@ fn moment(target: &[u8]) -> Option<Moment>
 /// The import that a path writes, of the file that the body is.
 #[tactic(auto, unfolding(crate::specs::Imports::import_in))]
 pub(crate) fn import_command(alloc: Global, target: &[u8], body: &[u8]) -> Result<Command, Fault>
+    requires { length body.now ≤ 65_536 }
     ensures ok { IfOk result (λ command. import_in target.now body.now ≡ Some (seen_command command)) }
     ensures bad { IfErr result (λ fault. fault ≡ BadBody → import_in target.now body.now ≡ None) }
 {
@@ -49,7 +50,7 @@ pub(crate) fn import_command(alloc: Global, target: &[u8], body: &[u8]) -> Resul
         at: moment(target).ok_or(Fault::BadBody)?,
         act: Act::Import {
             lot: name(alloc, target, 5)?,
-            file: Bytes::from_vec(Vec::from_slice(alloc, body)?),
+            file: StockFile::new(Vec::from_slice(alloc, body)?).unwrap(),
         },
     })
 }

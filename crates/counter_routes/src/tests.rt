@@ -245,6 +245,21 @@ fn reads_an_import_of_any_file(rt: HostRuntime) -> Result<(), Fail> {
     Ok(())
 }
 
+#[test]
+fn bodies_are_bounded(rt: HostRuntime) -> Result<(), Fail> {
+    let mut body = Vec::new(rt.alloc());
+    for _ in 0..65_536 {
+        body.push(b'1')?;
+    }
+    let target = b"/import/k1/1/2026-03-01T10:00:00/L1";
+    let reading = read(&rt, &message(true, target, body.as_slice()))?;
+    assert!(rt; imports(&reading, body.as_slice()));
+    body.push(b'1')?;
+    let reading = read(&rt, &message(true, target, body.as_slice()))?;
+    assert!(rt; is_refused(&reading, Refusal::TooLong));
+    Ok(())
+}
+
 /// Paths of imports, each with one part that is not of its form.
 const BAD_PARTS: [&[u8]; 15] = [
     b"/import/k_1/1/2026-03-01T10:00:00/L1",

@@ -4,7 +4,7 @@ use Rattle.std.specs.Prelude.{◌==◌}
 use Rattle.std.specs.List.{list_all}
 use Rattle.std.proofs.lemmas.Bool.{cases_Bool}
 use Rattle.shop_model.specs.Values.{OfficeAsk, Rules}
-use Rattle.shop_model.specs.Refusals.{NoCounter, NoRoute, BadBody, KeyUsed, Full, MomentBack, NoStaff, NoCustomer, CustomerInactive, NoCopy, CopyNotHere, CopyOut, FilmWithdrawn, SameMoment, NoRental, RentalReturned, WrongCustomer, NoFilm, LotIn, BadCsv, NoBranch, OwnBranch, NoArrival, ArrivalReceived, BadLines, BadThreshold, TokenTaken, NoSharedRow, Already, Usage, Memory}
+use Rattle.shop_model.specs.Refusals.{TooLong, NoCounter, NoRoute, BadBody, KeyUsed, Full, MomentBack, NoStaff, NoCustomer, CustomerInactive, NoCopy, CopyNotHere, CopyOut, FilmWithdrawn, SameMoment, NoRental, RentalReturned, WrongCustomer, NoFilm, LotIn, BadCsv, NoBranch, OwnBranch, NoArrival, ArrivalReceived, BadLines, BadThreshold, TokenTaken, NoSharedRow, Already, Usage, Memory}
 use Rattle.shop_model.specs.Json.{escape_byte}
 use Rattle.shop_model.specs.Machine.{Request, Reply, Sorry, Done, Shows}
 use Rattle.shop_model.specs.Answers.{Answer, answer_of, problem_answer}
@@ -14,6 +14,7 @@ use Rattle.shop_model.proofs.CustodyLemmas.{and_parts}
 
 -- a decision's status is never the store's
 pub decided_is : (reply : Reply) → is_decided (answer_of reply) ≡ true
+decided_is (Sorry TooLong) = refl
 decided_is (Sorry NoCounter) = refl
 decided_is (Sorry NoRoute) = refl
 decided_is (Sorry BadBody) = refl

@@ -4,17 +4,18 @@ use Rattle.shop_model.specs.Values.{Text}
 
 -- what a decision may refuse a request for
 pub data Refusal : Type 0 where
-  NoCounter NoRoute BadBody KeyUsed Full MomentBack NoStaff NoCustomer CustomerInactive NoCopy CopyNotHere CopyOut FilmWithdrawn SameMoment NoRental RentalReturned WrongCustomer NoFilm LotIn : Refusal
+  TooLong NoCounter NoRoute BadBody KeyUsed Full MomentBack NoStaff NoCustomer CustomerInactive NoCopy CopyNotHere CopyOut FilmWithdrawn SameMoment NoRental RentalReturned WrongCustomer NoFilm LotIn : Refusal
   BadCsv : ℕ → Refusal  -- line
   NoBranch OwnBranch NoArrival ArrivalReceived BadLines BadThreshold TokenTaken NoSharedRow Already Usage : Refusal
 
 -- why there is no other answer: a decision, a text that is no message, or a store that can't do its part
 pub data Problem : Type 0 where
-  BadHead TooLong : Problem
+  BadHead : Problem
   Decision : Refusal → Problem
   Memory Size StoreFailed : Problem
 
 abbrev pub refusal_number : Refusal → ℕ
+refusal_number TooLong = 2
 refusal_number NoCounter = 3
 refusal_number NoRoute = 4
 refusal_number BadBody = 5
@@ -48,13 +49,13 @@ refusal_number Usage = 32
 
 abbrev pub problem_number : Problem → ℕ
 problem_number BadHead = 1
-problem_number TooLong = 2
 problem_number (Decision refusal) = refusal_number refusal
 problem_number Memory = 40
 problem_number Size = 41
 problem_number StoreFailed = 42
 
 abbrev pub refusal_name : Refusal → Text
+refusal_name TooLong = codes "too_long"
 refusal_name NoCounter = codes "no_counter"
 refusal_name NoRoute = codes "no_route"
 refusal_name BadBody = codes "bad_body"
@@ -88,7 +89,6 @@ refusal_name Usage = codes "usage"
 
 abbrev pub problem_name : Problem → Text
 problem_name BadHead = codes "bad_head"
-problem_name TooLong = codes "too_long"
 problem_name (Decision refusal) = refusal_name refusal
 problem_name Memory = codes "memory"
 problem_name Size = codes "size"

@@ -1,3 +1,4 @@
 pub mod Seen
 pub mod Replies
 pub mod Lines
+pub mod StockFiles

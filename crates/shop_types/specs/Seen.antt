@@ -62,10 +62,10 @@ seen_caller caller.Nobody = books.Nobody
 
 -- ---- refusals
 
--- the first two are found where no message is read, the last three where one can't be answered; all others are decisions
+-- the first is found where no message is read, the last three where one can't be answered; all others are decisions
 abbrev pub seen_refusal : Refusal → named.Problem
 seen_refusal refusal.BadHead = named.BadHead
-seen_refusal refusal.TooLong = named.TooLong
+seen_refusal refusal.TooLong = named.Decision named.TooLong
 seen_refusal refusal.NoCounter = named.Decision named.NoCounter
 seen_refusal refusal.NoRoute = named.Decision named.NoRoute
 seen_refusal refusal.BadBody = named.Decision named.BadBody

@@ -2,7 +2,7 @@ ghost use Rattle.std.specs.Prelude.{◌≡◌};
 ghost use Rattle.shop_model.specs.Shop.{same_command};
 ghost use Rattle.shop_types.specs.Seen.{seen_command};
 
-use crate::{Bytes, Person};
+use crate::{Person, StockFile};
 use shop_values::{Key, LotName, Moment, StaffNo};
 
 /// What a counter's command does.
@@ -11,7 +11,7 @@ pub enum Act {
     /// Adds a customer to the branch, who is active.
     Customer(Person),
     /// Adds the copies that a stock file lists to the branch, as a lot of that name.
-    Import { lot: LotName, file: Bytes },
+    Import { lot: LotName, file: StockFile },
 }
 
 /// A command of a branch's counter.

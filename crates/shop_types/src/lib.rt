@@ -1,16 +1,15 @@
 //! What callers ask of the shop and are told: commands, readings, refusals and replies, each with its meaning in the definitions.
 #![tactic(auto)]
 
-mod bytes;
 mod command;
 mod line;
 mod person;
 mod refusal;
 mod reply;
 mod request;
+mod stock_file;
 mod words;
 
-pub use bytes::Bytes;
 pub use command::{Act, Command};
 pub use line::{Line, LineAct, Usage};
 pub use person::{Customer, Person};
@@ -22,6 +21,7 @@ pub use shop_values::{
     LanguageNo, Limits, LotName, Moment, Name, NoMemory, PaymentNo, RentalNo, RowNumber, StaffNo,
     T45, T128, Text, Token, moment_texts_are_one_to_one,
 };
+pub use stock_file::StockFile;
 pub use words::OfficeWords;
 
 #[cfg(test)]

@@ -55,6 +55,25 @@ fn equal_commands_are_the_same(rt: HostRuntime) -> Result<(), Fail> {
     Ok(())
 }
 
+fn stock_file(alloc: Global, length: usize) -> Result<Option<StockFile>, AllocError> {
+    let mut bytes = Vec::new(alloc);
+    for _ in 0..length {
+        bytes.push(b'1')?;
+    }
+    Ok(StockFile::new(bytes))
+}
+
+#[test]
+fn stock_files_are_bounded(rt: HostRuntime) -> Result<(), Fail> {
+    let alloc = rt.alloc();
+    let longest = stock_file(alloc, 65_536)?.ok_or("longest")?;
+    assert!(rt; longest.as_slice().len() == 65_536 && longest.clone()? == longest);
+    assert!(rt; stock_file(alloc, 65_537)?.is_none());
+    let empty = stock_file(alloc, 0)?.ok_or("empty")?;
+    assert!(rt; empty.as_slice().is_empty() && empty != longest);
+    Ok(())
+}
+
 #[test]
 fn refusals_have_names_and_numbers(rt: HostRuntime) {
     let fault = Refusal::BadCsv(BadCsv { line: 3 });

@@ -14,7 +14,7 @@ pub returns-in_ok-find_films-in-Ok-clause-value : goal.returns-in_ok-find_films-
 returns-in_ok-find_films-in-Ok-clause-value c =
     let rows = c.in-Ok.rows.items in
     let found : c.in_ok-find_films-in-Ok.field-0.items ≡ map found_row rows = c.in_ok-find_films-in-Ok.ensures ∙ ap (map found_row) c.as_slice-in-Ok.ensures.value in
-    ap Copies (ap films_of found ∙ same_films rows) ∙ sym (ap stock_from (ap stock_rows_of (sym c.as_slice.ensures) ∙ c.in-Ok.ensures.rows))
+    ap Copies (ap films_of found ∙ same_films rows) ∙ sym (ap stock_from (ap stock_rows_of (sym c.as_slice.ensures.value) ∙ c.in-Ok.ensures.rows))
 
 pub returns-in_ok-find_films-in-Ok-clause-rows : goal.returns-in_ok-find_films-in-Ok-clause-rows
 returns-in_ok-find_films-in-Ok-clause-rows c =

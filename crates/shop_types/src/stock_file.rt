@@ -1,0 +1,58 @@
+ghost use Rattle.std.specs.Prelude.{◌≡◌, ◌≤◌, ℕ, List, Some, None, length, if◌then◌else◌};
+ghost use Rattle.std.specs.Str.{bytes_eq};
+ghost use Rattle.std.specs.Cmp.Rules.{comparing};
+ghost use Rattle.std.proofs.Common.{rules};
+ghost use Rattle.shop_types.specs.StockFiles.{is_stock_file};
+
+use std::marker::Model;
+
+/// A stock file, as it came and whatever it says: at most 65,536 bytes, which is what the body of a request can have.
+#[derive(Clone, Debug, Drop)]
+pub struct StockFile {
+    bytes: Vec<u8>,
+}
+
+impl Model for StockFile {
+    ghost use Rattle.std.specs.Prelude.{◌≡◌, ℕ, List, true};
+    ghost use Rattle.shop_types.specs.StockFiles.{is_stock_file};
+
+    ghost Value = { List ℕ };
+
+    ghost view = { λ a. a.bytes.items };
+
+    ghost invariant = { λ a. is_stock_file a.bytes.items ≡ true };
+}
+
+impl StockFile {
+    /// The file, where it has no more than 65,536 bytes. It takes the `Vec`, and so no memory.
+    pub fn new(bytes: Vec<u8>) -> Option<StockFile>
+        ensures { result ≡ (if is_stock_file bytes.items then Some bytes.items else None) }
+    {
+        if bytes.len() <= 65_536 {
+            Some(StockFile { bytes })
+        } else {
+            None
+        }
+    }
+
+    pub fn as_slice(&self) -> &[u8]
+        ensures value { result.now ≡ self.now }
+        ensures bound { length result.now ≤ 65_536 }
+    {
+        self.bytes.as_slice()
+    }
+}
+
+impl PartialEq for StockFile {
+    ghost eq = { bytes_eq };
+
+    ghost laws = { Prim.search (comparing, rules) };
+
+    fn eq(&self, other: &StockFile) -> bool {
+        self.bytes == other.bytes
+    }
+}
+
+impl Eq for StockFile {
+    ghost laws = { Prim.search (comparing, rules) };
+}
