@@ -1,6 +1,6 @@
 //! The stored form of commands.
 
-ghost use Rattle.std.specs.Prelude.{◌≡◌, ◌++◌, IfOk, OnOk};
+ghost use Rattle.std.specs.Prelude.{◌≡◌, ◌<◌, ◌^◌, ◌++◌, length, IfOk, OnOk};
 ghost use Rattle.shop_schema.specs.Forms.{number_form, text_form, person_form, act_form, command_form};
 ghost use Rattle.shop_types.specs.Seen.{seen_person, seen_act, seen_command};
 
@@ -21,19 +21,18 @@ fn add_number(form: &mut Vec<u8>, number: u32) -> Result<(), NoMemory>
     Ok(())
 }
 
-/// Four bytes tell the length, so that bytes of 4 GiB and more, which no request has, are refused as if memory were lacking.
+/// Four bytes tell the length.
 fn add_bytes(form: &mut Vec<u8>, bytes: &[u8]) -> Result<(), NoMemory>
+    requires { length bytes.now < 2 ^ 32 }
     ensures { OnOk result (form.new.items ≡ form.old.items ++ text_form bytes.now) }
 {
-    let Ok(length) = u32::try_from(bytes.len()) else {
-        return Err(NoMemory);
-    };
-    add_number(form, length)?;
+    add_number(form, bytes.len() as u32)?;
     form.extend_from_slice(bytes)?;
     Ok(())
 }
 
 fn add_text(form: &mut Vec<u8>, text: &str) -> Result<(), NoMemory>
+    requires { length text.now < 2 ^ 32 }
     ensures { OnOk result (form.new.items ≡ form.old.items ++ text_form text.now) }
 {
     add_bytes(form, text.as_bytes())
