@@ -1,3 +1,4 @@
 pub mod RowLemmas
 pub mod CopiesLemmas
 pub mod LimitLemmas
+pub mod ReadingLemmas

@@ -1,6 +1,9 @@
 -- What a stock file says to a shop: copies, in the order in which they are numbered.
-use Rattle.std.specs.Prelude.{ℕ, ◌≤◌, ◌<◌, ◌^◌, List, length, Ok, Err, All, flat_map, replicate}
+use Rattle.std.specs.Prelude.{◌≡◌, ℕ, ◌≤◌, ◌<◌, ◌^◌, true, List, length, Ok, Err, All, flat_map, replicate}
+use Rattle.std.specs.List.{AllByRecursion}
 use Rattle.shop_model.specs.Values.{Stock, Copies, BadLine}
+use Rattle.shop_model.specs.Machine.{films_in}
+use Rattle.shop_values.specs.Numbers.{is_row_number}
 use Rattle.stock_csv.specs.declared.StockRow.{StockRow}
 use Rattle.stock_csv.specs.Rows.{StockRows, stock_rows_of}
 
@@ -27,3 +30,7 @@ pub record IsStock (rows : List StockRow) : Type 0 where
   pub few : length rows ≤ 500
   pub copies : length (films_of rows) ≤ 1000
   pub each : All IsStockRow rows
+
+-- the film of each copy is a row's number, and there are 1,000 copies at most
+abbrev pub IsStockReading : Stock → Type 0
+IsStockReading stock = AllByRecursion (λ film. is_row_number film ≡ true) (films_in stock) × (length (films_in stock) ≤ 1000)
