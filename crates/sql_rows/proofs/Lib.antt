@@ -19,3 +19,5 @@ pub mod Unique
 pub mod ColumnTests
 pub mod Steps
 pub mod OfKind
+pub mod Projects
+pub mod Stays

@@ -2,3 +2,4 @@ pub mod Rows
 pub mod Builds
 pub mod Fault
 pub mod Books
+pub mod Calls

@@ -1,11 +1,13 @@
 //! Rows of SQL tables as values, for any schema: what tables stand for, how a table is made, and how rows are read.
 #![tactic(auto)]
 
+mod call;
 mod fault;
 mod make;
 mod stored;
 mod text;
 
+pub use call::{execute, query};
 pub use fault::{StoreFault, fault_of};
 pub use make::make_tables;
 pub use stored::{

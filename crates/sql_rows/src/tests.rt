@@ -114,6 +114,35 @@ fn values_are_read(rt: HostRuntime) -> Result<(), Fail> {
     Ok(())
 }
 
+/// How many films have the note, after the number's note was set inside a transaction.
+fn noted<S: Alter>(conn: &mut Connection<S>, number: u32) -> Result<usize, StoreFault> {
+    if !conn.is_autocommit() {
+        return Err(StoreFault::Failed);
+    }
+    let mut tx = conn.transaction();
+    execute(
+        &mut tx,
+        "UPDATE film SET note = 'new' WHERE number = ?1",
+        &[number.to_sql()],
+    )?;
+    let rows = query(
+        &mut tx,
+        "SELECT number FROM film WHERE note = ?1",
+        &["new".to_sql()],
+    )?;
+    Ok(rows.len())
+}
+
+#[test]
+fn statements_run_inside(rt: HostRuntime) -> Result<(), Fail> {
+    let mut conn = Connection::open_in_memory(rt.alloc())?;
+    assert!(rt; made(&mut conn)?);
+    put(&mut conn, 2, &None)?;
+    assert!(rt; noted(&mut conn, 3) == Ok(0));
+    assert!(rt; noted(&mut conn, 2) == Ok(1));
+    Ok(())
+}
+
 #[test]
 fn errors_are_told(rt: HostRuntime) {
     assert!(rt; fault_of(Error::SqliteFailure(ErrorCode::OutOfMemory)) == StoreFault::Memory);

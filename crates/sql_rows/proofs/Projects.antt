@@ -1,0 +1,64 @@
+-- What a SELECT of some columns shows, and what a call says of the books.
+use Rattle.std.proofs.Common.{◌≡◌, ◌≤◌, ℕ, List, [], ◌∷◌, map, filter, length, Bool, cond, sym, ap, subst, ◌∙◌, IsPermutation}
+use Rattle.std.specs.List.{list_all}
+use Rattle.std.proofs.lemmas.List.Sorted.{IsPermutation-sym, length_permutation}
+use Rattle.sqlite_value.specs.Order.{Row}
+use Rattle.sqlite_trees.specs.Tree.{Trees}
+use Rattle.sqlite_sql.specs.Term.{Term, holds}
+use Rattle.sqlite_sql.specs.Query.{Query, Output, output}
+use Rattle.sqlite_sql.specs.Program.{overlay}
+use Rattle.sqlite.specs.Schema.{Schema}
+use Rattle.sqlite.specs.Effect.{Database}
+use Rattle.sqlite.specs.Listing.{understood}
+use Rattle.sqlite.specs.State.{State, Shown}
+use Rattle.sqlite.proofs.Callers.{IsPlain}
+use Rattle.sql_rows.specs.Rows.{HasRows, AreKeyed, columns_of, PicksOne}
+use Rattle.sql_rows.specs.Books.{IsOf, Changes}
+use Rattle.sql_rows.specs.Calls.{Holds, Writes}
+use Rattle.sql_rows.proofs.Bags.{short_bag, length-map}
+use Rattle.sql_rows.proofs.Inside.{shown_same}
+use Rattle.sql_rows.proofs.Queries.{Selects, plain_query, answers, reads_bag}
+
+-- `seen` is the filter and `show` the columns that are shown, both written over the columns; `tests_are` says that of a value's columns the filter is `p`
+module _ {X : Type 0} (schema : Schema) (sql : List ℕ) (tree width : ℕ) (tests shown : List Term) (means : Selects schema sql (plain_query tree tests shown []))
+    (params : Row) (old new : State) (rows : List Row) (has : IsOf schema old) (h : Shown sql params old new rows)
+    (columns : X → Row) (xs : List X) (s : HasRows width (old.now.trees tree) (map columns xs)) (low : overlay old.now.trees [] tree ≡ old.now.trees tree)
+    (seen : Row → Bool) (show : Row → Row) (p : X → Bool) (tests_are : (x : X) → seen (columns x) ≡ p x) where
+  abbrev q : Query
+  q = plain_query tree tests shown []
+
+  abbrev pub gives_row : Row → List Output
+  gives_row r = cond (list_all (holds (params ∷ r ∷ [])) tests) (output q (params ∷ r ∷ []) ∷ []) []
+
+  module _ (only : (r : Row) → gives_row r ≡ cond (seen (columns_of width r)) (([], show (columns_of width r)) ∷ []) []) where
+    -- in any order
+    pub projects_bag : IsPermutation (map (λ x. show (columns x)) (filter p xs)) rows
+    projects_bag =
+        reads_bag tree tests shown [] params old.now.trees columns xs (columns_of width) s low (λ vs. cond (seen vs) (([], show vs) ∷ []) []) only p (λ x. ([], show (columns x)))
+        (λ x. ap (λ b. cond b (([], show (columns x)) ∷ []) []) (tests_are x)) rows (answers schema sql q params old new has means rows h)
+
+    -- a row by its key
+    pub projects_one : PicksOne p xs → rows ≡ map (λ x. show (columns x)) (filter p xs)
+    projects_one few = short_bag rows _ (IsPermutation-sym _ _ projects_bag) (subst (λ (n : ℕ). n ≤ 1) (sym (length-map {A = X} (λ x. show (columns x)) _)) few)
+
+    -- as many rows as values
+    pub projects_count : length rows ≡ length (filter p xs)
+    projects_count = length_permutation _ _ projects_bag ∙ length-map {A = X} (λ x. show (columns x)) (filter p xs)
+
+module _ {B : Type 0} (schema : Schema) (Stands : Trees → B → Type 0) where
+  -- a query leaves the tables as they were
+  pub still_holds : (sql : List ℕ) (params : Row) (old new : State) → IsPlain (understood schema sql) → (rows : List Row) → Shown sql params old new rows
+      → (books : B) → Holds schema Stands old books → Holds schema Stands new books
+  still_holds sql params old new plain rows h books holds =
+      let same : new.now ≡ old.now = (shown_same schema sql params old new holds.schema_is plain rows h).0.now_is in
+      record {
+        schema_is = ap (λ (d : Database). d.schema) same ∙ holds.schema_is;
+        keyed = subst (λ (d : Database). AreKeyed schema d.trees) (sym same) holds.keyed;
+        stands = subst (λ (d : Database). Stands d.trees books) (sym same) holds.stands;
+      }
+
+  -- a change, where the tables are those of the schema
+  pub writes_by : (old new : State) (Given : B → Type 0) (change : B → B) → (IsOf schema old → Changes schema Stands old new Given change) → Writes schema Stands old new Given change
+  writes_by old new Given change changes books holds given =
+      let done = changes holds.schema_is in
+      record { schema_is = done.schema_is; keyed = done.keyed holds.keyed; stands = done.books holds.keyed books holds.stands given }
