@@ -8,3 +8,7 @@ pub mod SameRows
 pub mod Lists
 pub mod MomentTexts
 pub mod Lasts
+pub mod Values
+pub mod FirstValues
+pub mod Numbered
+pub mod Different

@@ -7,12 +7,14 @@ use Rattle.sqlite.specs.Table.{Table}
 use Rattle.sqlite.specs.State.{State}
 use Rattle.sql_rows.specs.Rows.{HasRows, AreKeyed}
 use Rattle.sql_rows.specs.Books as rows
+use Rattle.sql_rows.specs.Calls as calls
 use Rattle.shop_model.specs.Rows.{numbered}
 use Rattle.shop_model.specs.Values as model
 use Rattle.shop_model.specs.Shop.{Catalogue}
 use Rattle.shop_model.specs.Books.{Books}
 use Rattle.shop_model.specs.Sound.{opening}
 use Rattle.shop_schema.specs.Tables.{shop_schema, chain_table}
+use Rattle.shop_schema.specs.Held.{IsHeld}
 use Rattle.shop_schema.specs.Columns.{chain_columns, named_columns, city_columns, actor_columns, film_columns, cast_columns, branch_columns, staff_columns, customer_columns, copy_columns, rental_columns, payment_columns, lot_columns, consignment_columns, line_rows, kept_rows}
 
 -- One field a table: its rows are those of the books, in any order. The table `chain` has one row.
@@ -53,6 +55,18 @@ Commits = rows.Commits shop_schema StandsFor
 
 abbrev pub CommitsTo : State → (Books → Type 0) → (Books → Books) → Trees → Type 0
 CommitsTo = rows.CommitsTo shop_schema StandsFor
+
+-- the state has the tables of the shop, with rowids that rise, and they stand for the books
+abbrev pub Holds : State → Books → Type 0
+Holds = calls.Holds shop_schema StandsFor
+
+-- what a call inside a transaction says of the books, which stay
+abbrev pub Reads : State → State → (Books → Type 0) → Type 0
+Reads = calls.Reads shop_schema StandsFor IsHeld
+
+-- the books that a call inside a transaction makes of those of which this is given
+abbrev pub Writes : State → State → (Books → Type 0) → (Books → Books) → Type 0
+Writes = calls.Writes shop_schema StandsFor
 
 -- ---- new tables
 

@@ -96,6 +96,7 @@ fn commands_have_forms(rt: HostRuntime) -> Result<(), Fail> {
     assert!(rt; again.as_slice() == form.as_slice());
     let other = command_form(alloc, &command(&rt, "k-1", 8)?)?;
     assert!(rt; other.as_slice() != form.as_slice());
+    command_values(&command(&rt, "k-1", 7)?);
     forms_are_one_to_one();
     office_forms_are_one_to_one();
     Ok(())

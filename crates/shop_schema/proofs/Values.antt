@@ -1,0 +1,202 @@
+-- The rows of the books stay such as the program can hold.
+use Rattle.std.proofs.Common.{◌≡◌, ◌≤◌, ◌<◌, ◌+◌, ◌^◌, ◌==◌, ℕ, suc, get_or, List, [], ◌∷◌, ◌++◌, map, filter, not, length, Bool, true, false, cond, refl, ap, subst, ◌∙◌, arith, codes, decimal, IsUtf8, IsAscii, length-append}
+use Rattle.std.specs.Prelude.{nat_lt}
+use Rattle.std.specs.List.{AllByRecursion, list_all}
+use Rattle.std.proofs.lemmas.Bool.{and_parts, ltb-true}
+use Rattle.std.proofs.lemmas.Bool.Decides.{nat_tests}
+use Rattle.std.proofs.lemmas.Fmt.{IsAscii-decimal}
+use Rattle.std.proofs.lemmas.Str.{IsUtf8-from_ascii, IsAscii-append}
+use Rattle.std.proofs.lemmas.Str.Ascii.{IsAscii-nil, IsAscii-cons}
+use Rattle.shop_model.specs.Calendar.{IsMoment}
+use Rattle.shop_model.specs.Json.{escape_byte, object}
+use Rattle.shop_model.specs.Rows.{Row, of, next, put, put_all}
+use Rattle.shop_model.specs.Values.{Text, Act, AddCustomer, SetActive, Rent, TakeBack, Pay, Import, Dispatch, Receive, Scrap, Command, Rules}
+use Rattle.shop_model.specs.Machine.{films_in, told, reply_text, if_accepted, Do}
+use Rattle.shop_model.specs.Shop.{Shop}
+use Rattle.shop_model.specs.Books.{Books, BookCopy, book_acted, Counter, book_done, imported, unmarked, shop_of}
+use Rattle.shop_model.specs.Sound.{IsSound}
+use Rattle.shop_model.specs.Verdict.{Verdict, Accepted, verdict}
+use Rattle.shop_model.proofs.Soundness.{after_sound}
+use Rattle.shop_model.proofs.RowLemmas.{put_own, length_map}
+use Rattle.shop_schema.specs.Held.{IsHeld}
+use Rattle.shop_schema.specs.RowValues.{IsNumber, IsRow, IsCustomer, IsCopy, IsLot, IsKept, IsLast, AreBytes, IsAct, IsCommand, AreValues}
+use Rattle.shop_schema.specs.Steps.{FilmsFit, FitsTables, IsBuilt}
+use Rattle.shop_types.specs.Seen.{seen_act}
+use Rattle.shop_types.specs.declared.command.Act as types
+use Rattle.shop_types.specs.declared.command.Act.TheVariants as act
+
+-- sound books of such rows, by sizes of a million, are held
+pub held_by_sound : (sizes : Rules) (books : Books) → sizes.commands ≡ 1_000_000 → sizes.copies ≡ 1_000_000 → IsSound sizes books → AreValues books → IsHeld books
+held_by_sound sizes books commands copies sound values = record {
+  values = values;
+  numbers = sound.numbers;
+  keys = λ b. (sound.links b).keys;
+  tokens = sound.catalogue.tokens;
+  most_kept = λ b. let few = (sound.shops b).keys in omega arith;
+  most_customers = λ b. let few = (sound.shops b).keys in let fit = (sound.shops b).customers_fit in omega arith;
+  most_copies = λ b. let few = (sound.shops b).copies in omega arith;
+}
+
+-- ---- lists of which all items are such
+
+pub all_push : {A : Type 0} (P : A → Type 0) (xs : List A) (x : A) → AllByRecursion P xs → P x → AllByRecursion P (xs ++ x ∷ [])
+all_push P [] x all such = (such, tt)
+all_push P (y ∷ xs) x all such = (all.0, all_push P xs x all.1 such)
+
+all_kept : {A : Type 0} (P : A → Type 0) (test : A → Bool) (xs : List A) → AllByRecursion P xs → AllByRecursion P (filter test xs)
+all_kept P test [] all = tt
+all_kept P test (x ∷ xs) all = go (test x) (all_kept P test xs all.1)
+  where
+    go : (b : Bool) → AllByRecursion P (filter test xs) → AllByRecursion P (cond b (x ∷ filter test xs) (filter test xs))
+    go true rest = (all.0, rest)
+    go false rest = rest
+
+-- ---- numbers of new rows
+
+pub number_fits : (n : ℕ) → 1 ≤ n → n < 2 ^ 32 → IsNumber n
+number_fits n low high = grind (arith, nat_tests)
+
+next_fits : {A : Type 0} (b : ℕ) (rows : List (Row A)) → length (of b rows) ≤ 1_001_000 → IsNumber (next b rows)
+next_fits b rows few = number_fits (next b rows) (omega arith) (omega arith)
+
+put_values : {A : Type 0} (P : A → Type 0) (b : ℕ) (make : ℕ → A) (rows : List (Row A)) → IsNumber b → length (of b rows) ≤ 1_001_000 → P (make (next b rows))
+    → AllByRecursion (IsRow P) rows → AllByRecursion (IsRow P) (put b make rows)
+put_values P b make rows branch few such all = all_push (IsRow P) rows _ all (branch, next_fits b rows few, such)
+
+import_values : (b : ℕ) (films : List ℕ) (rows : List (Row BookCopy)) → IsNumber b → AllByRecursion IsNumber films → length (of b rows) + length films ≤ 1_001_000
+    → AllByRecursion (IsRow IsCopy) rows → AllByRecursion (IsRow IsCopy) (put_all b (map (imported b) films) rows)
+import_values b [] rows branch numbers few all = all
+import_values b (film ∷ films) rows branch numbers few all =
+    let own : length (of b (put b (imported b film) rows)) ≡ length (of b rows) + 1 =
+    ap length (put_own b (imported b film) rows) ∙ length-append (of b rows) (imported b film (next b rows) ∷ []) in
+    let row = next_fits b rows (omega arith) in
+    import_values b films (put b (imported b film) rows) branch numbers.1 (omega arith)
+    (put_values IsCopy b (imported b film) rows branch (omega arith) (numbers.0, (branch, row)) all)
+
+-- ---- kept replies
+
+pub ascii_bytes : (bytes : List ℕ) → list_all (λ b. nat_lt b 128) bytes ≡ true → IsAscii bytes
+ascii_bytes [] low = IsAscii-nil
+ascii_bytes (b ∷ bytes) low =
+    let each = and_parts (nat_lt b 128) (list_all (λ b. nat_lt b 128) bytes) low in
+    IsAscii-cons b bytes (ltb-true b 128 each.0) (ascii_bytes bytes each.1)
+
+customer_reply : (n : ℕ) → n < 2 ^ 64 → IsUtf8 (object ((codes "customer", decimal n) ∷ []))
+unfolding escape_byte
+customer_reply n fits = IsUtf8-from_ascii _
+    (IsAscii-append (codes "{\"customer\":") (decimal n ++ codes "}") (ascii_bytes (codes "{\"customer\":") refl)
+    (IsAscii-append (decimal n) (codes "}") (IsAscii-decimal n fits) (ascii_bytes (codes "}") refl)))
+
+import_reply : (copies first : ℕ) → copies < 2 ^ 64 → first < 2 ^ 64 → IsUtf8 (object ((codes "copies", decimal copies) ∷ (codes "first", decimal first) ∷ []))
+unfolding escape_byte
+import_reply copies first c f = IsUtf8-from_ascii _
+    (IsAscii-append (codes "{\"copies\":") (decimal copies ++ (codes ",\"first\":" ++ (decimal first ++ codes "}"))) (ascii_bytes (codes "{\"copies\":") refl)
+    (IsAscii-append (decimal copies) (codes ",\"first\":" ++ (decimal first ++ codes "}")) (IsAscii-decimal copies c)
+    (IsAscii-append (codes ",\"first\":") (decimal first ++ codes "}") (ascii_bytes (codes ",\"first\":") refl)
+    (IsAscii-append (decimal first) (codes "}") (IsAscii-decimal first f) (ascii_bytes (codes "}") refl)))))
+
+reply_utf8 : (rules : Rules) (act : Act) (shop : Shop) → length shop.customers ≤ 1_000_000 → length shop.copies ≤ 1_000_000 → FitsTables rules act → IsBuilt act
+    → IsUtf8 (object (told rules act shop))
+reply_utf8 rules (AddCustomer person) shop customers copies fits built = customer_reply (length shop.customers + 1) (omega arith)
+reply_utf8 rules (Import lot file) shop customers copies fits built = import_reply (length (films_in (rules.stock_of file))) (length shop.copies + 1) (omega (arith, fits.1)) (omega arith)
+reply_utf8 rules (SetActive c active) shop customers copies fits built = absurd built
+reply_utf8 rules (Rent c x) shop customers copies fits built = absurd built
+reply_utf8 rules (TakeBack r) shop customers copies fits built = absurd built
+reply_utf8 rules (Pay c rental amount) shop customers copies fits built = absurd built
+reply_utf8 rules (Dispatch to xs) shop customers copies fits built = absurd built
+reply_utf8 rules (Receive source number missing) shop customers copies fits built = absurd built
+reply_utf8 rules (Scrap x) shop customers copies fits built = absurd built
+
+-- ---- what a step is given
+
+-- rules by which every stock file fits are rules by which every act does
+pub acts_fit : (rules : Rules) → ((file : Text) → FilmsFit (rules.stock_of file)) → (act : Act) → FitsTables rules act
+acts_fit rules files (AddCustomer person) = tt
+acts_fit rules files (SetActive c active) = tt
+acts_fit rules files (Rent c x) = tt
+acts_fit rules files (TakeBack r) = tt
+acts_fit rules files (Pay c rental amount) = tt
+acts_fit rules files (Import lot file) = files file
+acts_fit rules files (Dispatch to xs) = tt
+acts_fit rules files (Receive source number missing) = tt
+acts_fit rules files (Scrap x) = tt
+
+-- the program's acts are those that it takes
+pub acts_built : (it : types.Act) → IsBuilt (seen_act it)
+acts_built (act.Customer person) = tt
+acts_built (act.Import lot file) = tt
+
+-- ---- a step
+
+acted_values : (rules : Rules) (b : ℕ) (command : Command) (act : Act) (books : Books) → IsNumber b → IsMoment command.moment → IsAct act → IsHeld books → FitsTables rules act → IsBuilt act
+    → AreValues (book_acted rules b command act books)
+acted_values rules b command (AddCustomer person) books branch moment is held fits built =
+    let v = held.values in
+    let few = held.most_customers b in
+    record {
+      catalogue = v.catalogue;
+      customers = put_values IsCustomer b (λ _. record { person = person; active = true; created = command.moment }) books.customers branch (omega arith) (is, moment) v.customers;
+      copies = v.copies;
+      rentals = v.rentals;
+      payments = v.payments;
+      lots = v.lots;
+      consignments = v.consignments;
+      kept = v.kept;
+      lasts = v.lasts;
+    }
+acted_values rules b command (Import lot file) books branch moment is held fits built =
+    let v = held.values in
+    let few : length (of b books.copies) ≤ 1_000_000 = subst (λ n. n ≤ 1_000_000) (length_map unmarked (of b books.copies)) (held.most_copies b) in
+    record {
+      catalogue = v.catalogue;
+      customers = v.customers;
+      copies = import_values b (films_in (rules.stock_of file)) books.copies branch fits.0 (omega (arith, fits.1)) v.copies;
+      rentals = v.rentals;
+      payments = v.payments;
+      lots = all_push IsLot books.lots (record { owner = b; it = lot }) v.lots (branch, is.0);
+      consignments = v.consignments;
+      kept = v.kept;
+      lasts = v.lasts;
+    }
+acted_values rules b command (SetActive c active) books branch moment is held fits built = absurd built
+acted_values rules b command (Rent c x) books branch moment is held fits built = absurd built
+acted_values rules b command (TakeBack r) books branch moment is held fits built = absurd built
+acted_values rules b command (Pay c rental amount) books branch moment is held fits built = absurd built
+acted_values rules b command (Dispatch to xs) books branch moment is held fits built = absurd built
+acted_values rules b command (Receive source number missing) books branch moment is held fits built = absurd built
+acted_values rules b command (Scrap x) books branch moment is held fits built = absurd built
+
+-- what an accepted command makes of books that are held
+pub values_done : (rules : Rules) (b : ℕ) (command : Command) (books : Books) → IsNumber b → IsCommand command → IsHeld books → FitsTables rules command.act → IsBuilt command.act
+    → AreValues (book_done rules b command books)
+values_done rules b command books branch is held fits built =
+    let v = acted_values rules b command command.act books branch is.moment is.act held fits built in
+    let reply = reply_utf8 rules command.act (shop_of b books) (held.most_customers b) (held.most_copies b) fits built in
+    record {
+      catalogue = v.catalogue;
+      customers = v.customers;
+      copies = v.copies;
+      rentals = v.rentals;
+      payments = v.payments;
+      lots = v.lots;
+      consignments = v.consignments;
+      kept = all_push IsKept books.kept (record { owner = b; it = record { command = command; reply = reply_text rules command (shop_of b books) } }) held.values.kept (branch, is, reply);
+      lasts = (is.moment, all_kept IsLast (λ row. not (row.owner == b)) books.lasts held.values.lasts);
+    }
+
+-- and of sound books it makes books that are held
+pub next_held : (rules sizes : Rules) (b : ℕ) (command : Command) (books : Books) → rules.commands ≤ sizes.commands → rules.copies ≤ sizes.copies → sizes.commands ≡ 1_000_000 → sizes.copies ≡ 1_000_000
+    → IsSound sizes books → AreValues books → IsNumber b → IsCommand command → FitsTables rules command.act → IsBuilt command.act
+    → verdict rules b books.catalogue (shop_of b books) command ≡ Accepted → IsHeld (book_done rules b command books)
+next_held rules sizes b command books most fit commands copies sound values branch is fits built accepted =
+    let after : IsSound sizes (if_accepted (verdict rules b books.catalogue (shop_of b books) command) (book_done rules b command books) books) =
+    after_sound rules sizes (Counter b) (Do command) books most fit sound in
+    let next = subst (λ (v : Verdict). IsSound sizes (if_accepted v (book_done rules b command books) books)) accepted after in
+    let held = held_by_sound sizes books commands copies sound values in
+    held_by_sound sizes (book_done rules b command books) commands copies next (values_done rules b command books branch is held fits built)
+
+-- ---- the bytes of a stock file
+
+pub bytes_fit : (bytes : List ℕ) → ((k : ℕ) → get_or bytes k 0 < 256) → AreBytes bytes
+bytes_fit [] low = tt
+bytes_fit (b ∷ bytes) low = (low 0, bytes_fit bytes (λ k. low (suc k)))
