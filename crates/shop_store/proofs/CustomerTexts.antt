@@ -1,6 +1,6 @@
-use Rattle.std.proofs.Common.{◌≡◌, ◌==◌, ◌&&◌, ℕ, pos, List, [], ◌∷◌, ◌++◌, codes, map, filter, Bool, true, false, Ok, refl, sym, ap, subst, ◌∙◌}
+use Rattle.std.proofs.Common.{◌≡◌, ◌&&◌, ℕ, List, [], ◌∷◌, ◌++◌, codes, map, filter, length, Bool, true, Ok, refl, sym, subst}
 use Rattle.std.specs.Prelude.{⊤}
-use Rattle.sqlite.specs.declared.types.Value.TheVariants.{Null, Int}
+use Rattle.sqlite.specs.declared.types.Value.TheVariants.{Null}
 use Rattle.sqlite_value.specs.Order as sql
 use Rattle.sqlite_value.specs.Order.{column}
 use Rattle.sqlite_value.specs.Keys.{ascending}
@@ -15,11 +15,11 @@ use Rattle.sqlite.specs.Listing.{understood}
 use Rattle.sqlite.specs.State.{State, ExecutesInside, Shown}
 use Rattle.sqlite_keyed.specs.Lists.{update_where, sort_by}
 use Rattle.sql_rows.specs.Builds.{Means}
-use Rattle.sql_rows.specs.Rows.{HasRows, columns_of, by, Differ, PicksOne, number_value, flag_value}
+use Rattle.sql_rows.specs.Rows.{HasRows, by, Differ, PicksOne, number_value, flag_value}
 use Rattle.sql_rows.proofs.Appends.{map_push}
-use Rattle.sql_rows.proofs.Puts.{IsPlainTable}
 use Rattle.sql_rows.proofs.Queries.{Selects, plain_query}
 use Rattle.sql_rows.proofs.ColumnTests.{number_test, number_tested, one_tested, two_tested}
+use Rattle.sql_rows.proofs.Projects.{projects_count}
 use Rattle.sql_rows.proofs.Steps.{puts_row, selects_one, selects_sorted, sets_row}
 use Rattle.shop_model.specs.Rows.{Row, is_of, is_row}
 use Rattle.shop_model.specs.Values.{Customer}
@@ -85,6 +85,19 @@ pub shows_customers : (old new : State) (b : ℕ) (rows : List sql.Row) (books :
 shows_customers old new b rows books has h s apart =
     selects_sorted shop_schema select_customers 23 10 of_one shown_10 1 selects_means (number_value b ∷ []) old new rows has h customer_columns books.customers s.customers refl
     (λ vs. number_test 0 b vs && true) (is_of b) (λ c. one_tested _ (number_tested c.branch b)) (λ r. refl) (λ c. c.number) (λ c. refl) apart
+
+abbrev pub count_customers : List ℕ
+count_customers = codes "SELECT number FROM customer WHERE branch = ?1"
+
+pub counts_means : Selects shop_schema count_customers (plain_query 23 of_one (col 1 2 ∷ []) [])
+unfolding understood everything
+counts_means = record { names = _; is = refl; plain = (refl, refl); unlisted = refl }
+
+pub counts_customers : (old new : State) (b : ℕ) (rows : List sql.Row) (books : Books) → IsShop old → Shown count_customers (number_value b ∷ []) old new rows → StandsFor old.now.trees books
+    → length rows ≡ length (filter (is_of b) books.customers)
+counts_customers old new b rows books has h s =
+    projects_count shop_schema count_customers 23 10 of_one (col 1 2 ∷ []) counts_means (number_value b ∷ []) old new rows has h customer_columns books.customers s.customers refl
+    (λ vs. number_test 0 b vs && true) (λ vs. column vs 1 ∷ []) (is_of b) (λ c. one_tested _ (number_tested c.branch b)) (λ r. refl)
 
 -- ---- an update
 

@@ -1,2 +1,6 @@
 pub mod CustomerTexts
-pub mod RowReads
+pub mod CustomerReads
+pub mod CopyTexts
+pub mod CopyReads
+pub mod BranchTexts
+pub mod KeptTexts

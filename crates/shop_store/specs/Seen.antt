@@ -1,8 +1,39 @@
--- What a row means: a customer of a branch, with the number.
+-- What a row means.
+use Rattle.std.specs.Prelude.{ℕ, List}
 use Rattle.shop_model.specs.Rows.{Row}
+use Rattle.shop_model.specs.Values as model
 use Rattle.shop_model.specs.Values.{Customer}
+use Rattle.shop_model.specs.Shop.{Kept}
+use Rattle.shop_model.specs.Books as books
+use Rattle.shop_model.specs.Books.{BookCopy}
 use Rattle.shop_types.specs.Seen.{seen_customer}
+use Rattle.shop_schema.specs.Forms.{command_form}
 use Rattle.shop_store.specs.declared.customers.CustomerRow.{CustomerRow}
+use Rattle.shop_store.specs.declared.copies.CopyState.{CopyState}
+use Rattle.shop_store.specs.declared.copies.CopyState.TheVariants as state
+use Rattle.shop_store.specs.declared.copies.Mark.{Mark}
+use Rattle.shop_store.specs.declared.copies.CopyRow.{CopyRow}
+use Rattle.shop_store.specs.declared.kept.KeptRow.{KeptRow}
 
+-- a customer of a branch, with the number
 abbrev pub seen_row : CustomerRow → Row Customer
 seen_row row = record { branch = row.branch; number = row.number; it = seen_customer row.customer }
+
+abbrev pub seen_state : CopyState → model.CopyState
+seen_state state.Here = model.Here
+seen_state state.Sent = model.Sent
+seen_state state.Scrapped = model.Scrapped
+
+abbrev pub seen_mark : Mark → books.Mark
+seen_mark mark = record { branch = mark.branch; copy = mark.copy }
+
+-- a copy of a branch, with the number
+abbrev pub seen_copy_row : CopyRow → Row BookCopy
+seen_copy_row row = record { branch = row.branch; number = row.number; it = record { film = row.film; state = seen_state row.state; mark = seen_mark row.mark } }
+
+-- the stored form of a kept command, and its reply
+abbrev pub seen_kept : KeptRow → List ℕ × List ℕ
+seen_kept row = (row.form, row.reply)
+
+abbrev pub stored_kept : Kept → List ℕ × List ℕ
+stored_kept kept = (command_form kept.command, kept.reply)

@@ -1,21 +1,20 @@
-ghost use Rattle.std.specs.Prelude.{⊤, ◌≡◌, [], ◌∷◌, ◌++◌, OnOk, IfOk, IfErr, map, find, option_map};
-ghost use Rattle.sql_rows.specs.Rows.{PicksOne};
+ghost use Rattle.std.specs.Prelude.{⊤, ◌≡◌, [], ◌∷◌, ◌++◌, OnOk, IfOk, map, length, option_map, option_to_list};
 ghost use Rattle.sqlite.specs.Held.{state};
-ghost use Rattle.sqlite.specs.State.{HasCleanDisk, Survives, IsUnchanged, KeepsCommit};
+ghost use Rattle.sqlite.specs.State.{HasCleanDisk};
 ghost use Rattle.sqlite.specs.Values.{bound};
-ghost use Rattle.sql_rows.specs.Books.{Stopped};
+ghost use Rattle.sql_rows.specs.Calls.{StaysInside};
 ghost use Rattle.shop_model.specs.Calendar.{moment_text};
-ghost use Rattle.shop_model.specs.Rows.{of, is_row, set_row};
-ghost use Rattle.shop_model.specs.Sound.{HasNumbers};
+ghost use Rattle.shop_model.specs.Rows.{at, of, set_row};
 ghost use Rattle.shop_types.specs.Seen.{seen_customer};
 ghost use Rattle.shop_schema.specs.Columns.{customer_columns};
-ghost use Rattle.shop_schema.specs.RowValues.{IsRow, IsCustomer, AreValues};
-ghost use Rattle.shop_schema.specs.Shop.{IsShop, Changes, StandsFor};
+ghost use Rattle.shop_schema.specs.RowValues.{IsRow, IsCustomer};
+ghost use Rattle.shop_schema.specs.Held.{IsHeld};
+ghost use Rattle.shop_schema.specs.Shop.{Reads, Writes};
 ghost use Rattle.shop_store.specs.Seen.{seen_row};
 
 use shop_schema::{MomentText, moment_at, row_number_at, text_at};
 use shop_types::{BranchNo, Customer, CustomerNo, Person};
-use sql_rows::{StoreFault, Stored, fault_of, flag_at, read_all, read_one};
+use sql_rows::{StoreFault, Stored, execute, flag_at, query, read_all, read_one};
 use sqlite::types::{ToSql, ValueRef};
 use sqlite::{Alter, Row, Transaction};
 use std::alloc::Global;
@@ -77,70 +76,39 @@ impl CustomerRow {
     }
 }
 
-/// The customers of the branch, in order of number. After `Memory` or `Size` the transaction is rolled back; after `Failed` the store is no more to be used.
+/// The customers of the branch, in order of number. After a fault the transaction may be rolled back.
 pub fn customers_of<S: Alter>(
     tx: &mut Transaction<'_, S>,
     alloc: Global,
     branch: BranchNo,
 ) -> Result<Vec<CustomerRow>, StoreFault>
     ensures same_reference { tx.new.conn.ghost_name ≡ tx.old.conn.ghost_name }
-    ensures rows { HasCleanDisk (state S.Store tx.new.conn.now) → IsShop (state S.Store tx.old.conn.now) → IfOk result (λ rows. (books : _) → StandsFor (state S.Store tx.old.conn.now).now.trees books → AreValues books → HasNumbers books → map (λ row. (seen_row row).it) rows.items ≡ of branch books.customers) }
-    ensures same { HasCleanDisk (state S.Store tx.new.conn.now) → IsShop (state S.Store tx.old.conn.now) → OnOk result (IsUnchanged (state S.Store tx.old.conn.now) (state S.Store tx.new.conn.now)) }
-    ensures kept { HasCleanDisk (state S.Store tx.new.conn.now) → IsShop (state S.Store tx.old.conn.now) → KeepsCommit (state S.Store tx.old.conn.now) (state S.Store tx.new.conn.now) }
-    ensures survives { Survives (state S.Store tx.old.conn.now) (state S.Store tx.new.conn.now) (λ _. ⊥) }
+    ensures inside { StaysInside (state S.Store tx.old.conn.now) (state S.Store tx.new.conn.now) result }
+    ensures rows { HasCleanDisk (state S.Store tx.new.conn.now) → IfOk result (λ rows. Reads (state S.Store tx.old.conn.now) (state S.Store tx.new.conn.now) (λ books. map (λ row. (seen_row row).it) rows.items ≡ of branch books.customers)) }
 {
-    match tx.query_all(
+    let rows = query(
+        tx,
         "SELECT branch, number, first, last, address, postal, phone, city, active, created FROM customer WHERE branch = ?1 ORDER BY number",
         &[branch.get().to_sql()],
-    ) {
-        Ok(rows) => read_all(alloc, rows.as_slice()),
-        Err(error) => Err(fault_of(error)),
-    }
+    )?;
+    read_all(alloc, rows.as_slice())
 }
 
-/// Adds the customer. After a fault the transaction is rolled back, and the tables are as before it.
-pub fn put_customer<S: Alter>(
-    tx: &mut Transaction<'_, S>,
-    row: &CustomerRow,
-) -> Result<(), StoreFault>
-    ensures same_reference { tx.new.conn.ghost_name ≡ tx.old.conn.ghost_name }
-    ensures put { HasCleanDisk (state S.Store tx.new.conn.now) → IsShop (state S.Store tx.old.conn.now) → OnOk result (Changes (state S.Store tx.old.conn.now) (state S.Store tx.new.conn.now) (λ _. ⊤) (λ books. record books { customers = books.customers ++ seen_row row.now ∷ [] })) }
-    ensures err { HasCleanDisk (state S.Store tx.new.conn.now) → IfErr result (Stopped (state S.Store tx.old.conn.now) (state S.Store tx.new.conn.now)) }
-    ensures survives { Survives (state S.Store tx.old.conn.now) (state S.Store tx.new.conn.now) (λ _. ⊥) }
-{
-    let created = MomentText::of(row.customer.created);
-    match tx.execute(
-        "INSERT INTO customer (branch, number, first, last, address, postal, phone, city, active, created) VALUES (?1, ?2, ?3, ?4, ?5, ?6, ?7, ?8, ?9, ?10)",
-        &row.values(&created),
-    ) {
-        Ok(_) => Ok(()),
-        Err(error) => Err(fault_of(error)),
-    }
-}
-
-/// Sets whether the customer may rent. A customer who is not there is not made.
-pub fn set_active<S: Alter>(
+/// How many customers the branch has. All of them are gone through.
+pub fn customer_count<S: Alter>(
     tx: &mut Transaction<'_, S>,
     branch: BranchNo,
-    number: CustomerNo,
-    active: bool,
-) -> Result<(), StoreFault>
+) -> Result<usize, StoreFault>
     ensures same_reference { tx.new.conn.ghost_name ≡ tx.old.conn.ghost_name }
-    ensures set { HasCleanDisk (state S.Store tx.new.conn.now) → IsShop (state S.Store tx.old.conn.now) → OnOk result (Changes (state S.Store tx.old.conn.now) (state S.Store tx.new.conn.now) (λ books. PicksOne (is_row branch number) books.customers) (λ books. record books { customers = set_row branch number (λ it. record it { active = active }) books.customers })) }
-    ensures err { HasCleanDisk (state S.Store tx.new.conn.now) → IfErr result (Stopped (state S.Store tx.old.conn.now) (state S.Store tx.new.conn.now)) }
-    ensures survives { Survives (state S.Store tx.old.conn.now) (state S.Store tx.new.conn.now) (λ _. ⊥) }
+    ensures inside { StaysInside (state S.Store tx.old.conn.now) (state S.Store tx.new.conn.now) result }
+    ensures count { HasCleanDisk (state S.Store tx.new.conn.now) → IfOk result (λ count. Reads (state S.Store tx.old.conn.now) (state S.Store tx.new.conn.now) (λ books. count ≡ length (of branch books.customers))) }
 {
-    match tx.execute(
-        "UPDATE customer SET active = ?3 WHERE branch = ?1 AND number = ?2",
-        &[
-            branch.get().to_sql(),
-            number.get().to_sql(),
-            active.to_sql(),
-        ],
-    ) {
-        Ok(_) => Ok(()),
-        Err(error) => Err(fault_of(error)),
-    }
+    let rows = query(
+        tx,
+        "SELECT number FROM customer WHERE branch = ?1",
+        &[branch.get().to_sql()],
+    )?;
+    Ok(rows.len())
 }
 
 /// The customer of the number, if the branch has it.
@@ -150,15 +118,52 @@ pub fn customer_at<S: Alter>(
     number: CustomerNo,
 ) -> Result<Option<CustomerRow>, StoreFault>
     ensures same_reference { tx.new.conn.ghost_name ≡ tx.old.conn.ghost_name }
-    ensures row { HasCleanDisk (state S.Store tx.new.conn.now) → IsShop (state S.Store tx.old.conn.now) → IfOk result (λ o. (books : _) → StandsFor (state S.Store tx.old.conn.now).now.trees books → AreValues books → PicksOne (is_row branch number) books.customers → find (is_row branch number) books.customers ≡ option_map seen_row o) }
-    ensures kept { HasCleanDisk (state S.Store tx.new.conn.now) → IsShop (state S.Store tx.old.conn.now) → KeepsCommit (state S.Store tx.old.conn.now) (state S.Store tx.new.conn.now) }
-    ensures survives { Survives (state S.Store tx.old.conn.now) (state S.Store tx.new.conn.now) (λ _. ⊥) }
+    ensures inside { StaysInside (state S.Store tx.old.conn.now) (state S.Store tx.new.conn.now) result }
+    ensures row { HasCleanDisk (state S.Store tx.new.conn.now) → IfOk result (λ row. Reads (state S.Store tx.old.conn.now) (state S.Store tx.new.conn.now) (λ books. option_to_list (option_map (λ it. seen_customer it.customer) row) ≡ at number (of branch books.customers))) }
 {
-    match tx.query_all(
+    let rows = query(
+        tx,
         "SELECT branch, number, first, last, address, postal, phone, city, active, created FROM customer WHERE branch = ?1 AND number = ?2",
         &[branch.get().to_sql(), number.get().to_sql()],
-    ) {
-        Ok(rows) => read_one(rows.as_slice()),
-        Err(error) => Err(fault_of(error)),
-    }
+    )?;
+    read_one(rows.as_slice())
+}
+
+/// Adds the customer. After a fault the transaction may be rolled back.
+pub fn put_customer<S: Alter>(
+    tx: &mut Transaction<'_, S>,
+    row: &CustomerRow,
+) -> Result<(), StoreFault>
+    ensures same_reference { tx.new.conn.ghost_name ≡ tx.old.conn.ghost_name }
+    ensures inside { StaysInside (state S.Store tx.old.conn.now) (state S.Store tx.new.conn.now) result }
+    ensures put { HasCleanDisk (state S.Store tx.new.conn.now) → OnOk result (Writes (state S.Store tx.old.conn.now) (state S.Store tx.new.conn.now) (λ _. ⊤) (λ books. record books { customers = books.customers ++ seen_row row.now ∷ [] })) }
+{
+    let created = MomentText::of(row.customer.created);
+    execute(
+        tx,
+        "INSERT INTO customer (branch, number, first, last, address, postal, phone, city, active, created) VALUES (?1, ?2, ?3, ?4, ?5, ?6, ?7, ?8, ?9, ?10)",
+        &row.values(&created),
+    )
+}
+
+/// Sets whether the customer may rent. A customer who is not there is not made. After a fault the transaction may be rolled back.
+pub fn set_active<S: Alter>(
+    tx: &mut Transaction<'_, S>,
+    branch: BranchNo,
+    number: CustomerNo,
+    active: bool,
+) -> Result<(), StoreFault>
+    ensures same_reference { tx.new.conn.ghost_name ≡ tx.old.conn.ghost_name }
+    ensures inside { StaysInside (state S.Store tx.old.conn.now) (state S.Store tx.new.conn.now) result }
+    ensures set { HasCleanDisk (state S.Store tx.new.conn.now) → OnOk result (Writes (state S.Store tx.old.conn.now) (state S.Store tx.new.conn.now) IsHeld (λ books. record books { customers = set_row branch number (λ it. record it { active = active }) books.customers })) }
+{
+    execute(
+        tx,
+        "UPDATE customer SET active = ?3 WHERE branch = ?1 AND number = ?2",
+        &[
+            branch.get().to_sql(),
+            number.get().to_sql(),
+            active.to_sql(),
+        ],
+    )
 }

@@ -1,10 +1,20 @@
-//! Rows of the shop's tables, one function a statement: so far those of customers. Each works inside a transaction of the caller's,
-//! and tells what it found or changed of the books that the tables stand for.
+//! Rows of the shop's tables, one function a statement: customers, copies, lots, kept commands and last moments. Each works inside a transaction of
+//! the caller's, and tells what it found or made of the books that the tables stand for.
 #![tactic(auto)]
 
+mod branches;
+mod copies;
 mod customers;
+mod kept;
 
-pub use customers::{CustomerRow, customer_at, customers_of, put_customer, set_active};
+pub use branches::{last_at, set_last};
+pub use copies::{CopyRow, CopyState, Mark, copy_count, has_lot, put_copy, put_lot};
+pub use customers::{
+    CustomerRow, customer_at, customer_count, customers_of, put_customer, set_active,
+};
+pub use kept::{KeptRow, kept_at, kept_count, put_kept};
 
+#[cfg(test)]
+mod kept_tests;
 #[cfg(test)]
 mod tests;

@@ -1,25 +1,66 @@
 use super::*;
 use shop_schema::create_shop;
-use shop_types::{BranchNo, Customer, CustomerNo, Moment, Person, RowNumber, Text};
+use shop_types::{BranchNo, Customer, CustomerNo, LotName, Moment, Person, RowNumber, Text};
 use sql_rows::StoreFault;
 use sqlite::{Alter, Connection};
 use std::alloc::Global;
 use std::test::Fail;
 
-fn created<S: Alter>(conn: &mut Connection<S>) -> Result<(), StoreFault> {
-    if !conn.is_autocommit() {
-        return Err(StoreFault::Failed);
-    }
-    create_shop(conn)
-}
+const OPENING: &str =
+    "INSERT INTO country (number, name) VALUES (1, 'Canada'); INSERT INTO city (number, name, country) VALUES (1, 'Lethbridge', 1); INSERT INTO language (number, name) VALUES (1, 'English'); INSERT INTO category (number, name) VALUES (1, 'Action'); INSERT INTO film (number, title, description, language, category, period, rate, replacement, length, rating, features, withdrawn) VALUES (3, 'ALIEN', '', 1, 1, 3, 299, 1999, NULL, 'R', '', 0); INSERT INTO branch (number, token, address, postal, phone, city, manager, last_moment) VALUES (1, '11111111111111111111111111111111', '10 High', '', '', 1, NULL, NULL), (2, '22222222222222222222222222222222', '20 High', '', '', 1, NULL, NULL)";
 
-fn ran<S: Alter>(conn: &mut Connection<S>, text: &str) -> bool {
+fn opened<S: Alter>(conn: &mut Connection<S>) -> bool {
     if !conn.is_autocommit() {
         return false;
     }
-    let mut tx = conn.transaction();
-    let done = tx.execute(text, &[]).is_ok();
-    tx.commit().is_ok() && done
+    create_shop(conn).is_ok() && conn.execute_batch(OPENING).is_ok()
+}
+
+fn text<const LOW: usize, const HIGH: usize>(
+    alloc: Global,
+    text: &str,
+) -> Result<Text<LOW, HIGH>, Fail> {
+    Ok(Text::read(String::from_str(alloc, text)?).ok_or("text")?)
+}
+
+fn number<const KIND: u8>(number: u32) -> Result<RowNumber<KIND>, Fail> {
+    Ok(RowNumber::new(number).ok_or("number")?)
+}
+
+fn lot(alloc: Global, name: &str) -> Result<LotName, Fail> {
+    Ok(LotName::read(String::from_str(alloc, name)?).ok_or("lot")?)
+}
+
+fn customer(alloc: Global, branch: BranchNo, place: u32, first: &str) -> Result<CustomerRow, Fail> {
+    Ok(CustomerRow {
+        branch,
+        number: number(place)?,
+        customer: Customer {
+            person: Person {
+                first: text(alloc, first)?,
+                last: text(alloc, "SMITH")?,
+                address: text(alloc, "1 Main")?,
+                postal: text(alloc, "")?,
+                phone: text(alloc, "555")?,
+                city: number(1)?,
+            },
+            active: true,
+            created: Moment::read("2026-03-01T10:00:00").ok_or("moment")?,
+        },
+    })
+}
+
+fn copy(branch: BranchNo, place: u32, state: CopyState) -> Result<CopyRow, Fail> {
+    Ok(CopyRow {
+        branch,
+        number: number(place)?,
+        film: number(3)?,
+        state,
+        mark: Mark {
+            branch: number(1)?,
+            copy: number(9)?,
+        },
+    })
 }
 
 fn put<S: Alter>(conn: &mut Connection<S>, row: &CustomerRow) -> bool {
@@ -69,71 +110,141 @@ fn listed<S: Alter>(
     customers_of(&mut tx, alloc, branch)
 }
 
-fn text<const LOW: usize, const HIGH: usize>(
-    alloc: Global,
-    text: &str,
-) -> Result<Text<LOW, HIGH>, Fail> {
-    Ok(Text::read(String::from_str(alloc, text)?).ok_or("text")?)
+fn customers<S: Alter>(conn: &mut Connection<S>, branch: BranchNo) -> Result<usize, StoreFault> {
+    if !conn.is_autocommit() {
+        return Err(StoreFault::Failed);
+    }
+    let mut tx = conn.transaction();
+    customer_count(&mut tx, branch)
 }
 
-fn customer(
-    alloc: Global,
+fn stocked<S: Alter>(conn: &mut Connection<S>, row: CopyRow) -> bool {
+    if !conn.is_autocommit() {
+        return false;
+    }
+    let mut tx = conn.transaction();
+    let done = put_copy(&mut tx, row).is_ok();
+    tx.commit().is_ok() && done
+}
+
+fn copies<S: Alter>(conn: &mut Connection<S>, branch: BranchNo) -> Result<usize, StoreFault> {
+    if !conn.is_autocommit() {
+        return Err(StoreFault::Failed);
+    }
+    let mut tx = conn.transaction();
+    copy_count(&mut tx, branch)
+}
+
+fn imported<S: Alter>(conn: &mut Connection<S>, branch: BranchNo, lot: &LotName) -> bool {
+    if !conn.is_autocommit() {
+        return false;
+    }
+    let mut tx = conn.transaction();
+    let done = put_lot(&mut tx, branch, lot).is_ok();
+    tx.commit().is_ok() && done
+}
+
+fn is_in<S: Alter>(
+    conn: &mut Connection<S>,
     branch: BranchNo,
-    number: u32,
-    first: &str,
-) -> Result<CustomerRow, Fail> {
-    Ok(CustomerRow {
-        branch,
-        number: RowNumber::new(number).ok_or("number")?,
-        customer: Customer {
-            person: Person {
-                first: text(alloc, first)?,
-                last: text(alloc, "SMITH")?,
-                address: text(alloc, "1 Main")?,
-                postal: text(alloc, "")?,
-                phone: text(alloc, "555")?,
-                city: RowNumber::new(1).ok_or("city")?,
-            },
-            active: true,
-            created: Moment::read("2026-03-01T10:00:00").ok_or("moment")?,
-        },
-    })
+    lot: &LotName,
+) -> Result<bool, StoreFault> {
+    if !conn.is_autocommit() {
+        return Err(StoreFault::Failed);
+    }
+    let mut tx = conn.transaction();
+    has_lot(&mut tx, branch, lot)
+}
+
+fn shows<S: Alter>(conn: &mut Connection<S>, text: &str) -> bool {
+    matches!(conn.query_all(text, &[]), Ok(rows) if rows.len() == 1)
 }
 
 #[test]
 fn customers_are_kept(rt: HostRuntime) -> Result<(), Fail> {
     let alloc = rt.alloc();
     let mut conn = Connection::open_in_memory(alloc)?;
-    assert!(rt; created(&mut conn) == Ok(()));
-    assert!(rt;
-        ran(
-            &mut conn,
-            "INSERT INTO country (number, name) VALUES (1, 'Canada')"
-        )
-    );
-    assert!(rt;
-        ran(
-            &mut conn,
-            "INSERT INTO city (number, name, country) VALUES (1, 'Lethbridge', 1)"
-        )
-    );
-    assert!(rt;
-        ran(
-            &mut conn,
-            "INSERT INTO branch (number, token, address, postal, phone, city, manager, last_moment) VALUES (1, '11111111111111111111111111111111', '10 High', '', '', 1, NULL, NULL)"
-        )
-    );
-    let branch = BranchNo::new(1).ok_or("branch")?;
-    let second = CustomerNo::new(2).ok_or("number")?;
+    assert!(rt; opened(&mut conn));
+    let branch = number(1)?;
+    let other = number(2)?;
     assert!(rt; put(&mut conn, &customer(alloc, branch, 2, "BOB")?));
     assert!(rt; put(&mut conn, &customer(alloc, branch, 1, "MARY")?));
+    assert!(rt; put(&mut conn, &customer(alloc, other, 1, "EVE")?));
     assert!(rt; !put(&mut conn, &customer(alloc, branch, 1, "MARIA")?));
+    assert!(rt; !put(&mut conn, &customer(alloc, number(3)?, 1, "ANN")?));
+    assert!(rt; customers(&mut conn, branch) == Ok(2));
+    assert!(rt; customers(&mut conn, other) == Ok(1));
+    assert!(rt; customers(&mut conn, number(3)?) == Ok(0));
     let all = listed(&mut conn, alloc, branch)?;
     assert_eq!(rt; all.len(), 2);
     assert!(rt; all[0].customer == customer(alloc, branch, 1, "MARY")?.customer);
+    assert!(rt; listed(&mut conn, alloc, number(3)?)?.is_empty());
+    Ok(())
+}
+
+#[test]
+fn customers_are_set(rt: HostRuntime) -> Result<(), Fail> {
+    let alloc = rt.alloc();
+    let mut conn = Connection::open_in_memory(alloc)?;
+    assert!(rt; opened(&mut conn));
+    let branch = number(1)?;
+    let first = number(1)?;
+    let second = number(2)?;
+    assert!(rt; put(&mut conn, &customer(alloc, branch, 1, "MARY")?));
+    assert!(rt; put(&mut conn, &customer(alloc, branch, 2, "BOB")?));
     assert!(rt; activate(&mut conn, branch, second, false));
+    assert!(rt; activate(&mut conn, branch, number(3)?, false));
     let bob = found(&mut conn, branch, second)?.ok_or("bob")?;
     assert!(rt; !bob.customer.active);
-    assert!(rt; found(&mut conn, branch, CustomerNo::new(3).ok_or("number")?)?.is_none());
+    let mary = found(&mut conn, branch, first)?.ok_or("mary")?;
+    assert!(rt; mary.customer == customer(alloc, branch, 1, "MARY")?.customer);
+    assert!(rt; found(&mut conn, branch, number(3)?)?.is_none());
+    assert!(rt; found(&mut conn, number(2)?, first)?.is_none());
+    Ok(())
+}
+
+#[test]
+fn copies_are_put(rt: HostRuntime) -> Result<(), Fail> {
+    let mut conn = Connection::open_in_memory(rt.alloc())?;
+    assert!(rt; opened(&mut conn));
+    let branch = number(1)?;
+    let other = number(2)?;
+    assert!(rt; stocked(&mut conn, copy(branch, 1, CopyState::Here)?));
+    assert!(rt; stocked(&mut conn, copy(branch, 2, CopyState::Sent)?));
+    assert!(rt; stocked(&mut conn, copy(other, 1, CopyState::Scrapped)?));
+    assert!(rt; !stocked(&mut conn, copy(branch, 2, CopyState::Here)?));
+    assert!(rt; !stocked(&mut conn, copy(number(3)?, 1, CopyState::Here)?));
+    assert!(rt; copies(&mut conn, branch) == Ok(2));
+    assert!(rt; copies(&mut conn, other) == Ok(1));
+    assert!(rt; copies(&mut conn, number(3)?) == Ok(0));
+    assert!(rt;
+        shows(
+            &mut conn,
+            "SELECT number FROM copy WHERE branch = 1 AND number = 2 AND film = 3 AND state = 1 AND origin_branch = 1 AND origin_copy = 9"
+        )
+    );
+    assert!(rt;
+        shows(
+            &mut conn,
+            "SELECT number FROM copy WHERE branch = 2 AND state = 2"
+        )
+    );
+    Ok(())
+}
+
+#[test]
+fn lots_are_put(rt: HostRuntime) -> Result<(), Fail> {
+    let alloc = rt.alloc();
+    let mut conn = Connection::open_in_memory(alloc)?;
+    assert!(rt; opened(&mut conn));
+    let branch = number(1)?;
+    let spring = lot(alloc, "spring")?;
+    assert!(rt; is_in(&mut conn, branch, &spring) == Ok(false));
+    assert!(rt; imported(&mut conn, branch, &spring));
+    assert!(rt; !imported(&mut conn, branch, &spring));
+    assert!(rt; !imported(&mut conn, number(3)?, &spring));
+    assert!(rt; is_in(&mut conn, branch, &spring) == Ok(true));
+    assert!(rt; is_in(&mut conn, branch, &lot(alloc, "Spring")?) == Ok(false));
+    assert!(rt; is_in(&mut conn, number(2)?, &spring) == Ok(false));
     Ok(())
 }

@@ -1,15 +1,8 @@
-use Rattle.sql_rows.proofs.Inside.{ran_inside, stopped_inside}
-use Rattle.shop_store.proofs.CustomerTexts.{sets_active}
+use Rattle.sql_rows.proofs.Inside.{on_ok_then}
+use Rattle.shop_store.proofs.CustomerReads.{write_active}
 use Rattle.shop_store.proofs.customers.set_active.Goals as goal
 
-pub returns-in-Ok-clause-set : goal.returns-in-Ok-clause-set
-returns-in-Ok-clause-set g c clean shop =
-    let ran = ran_inside g.S.Store c.args.tx.now.conn.now c.execute.new.self.conn.now _ _ c.execute.result c.execute.ensures.ended (c.execute.ensures.runs clean) c.in-Ok.field-0 c.in-Ok.is in
-    sets_active _ _ c.args.branch c.args.number c.args.active c.in-Ok.field-0 shop (rw (c.to_sql.ensures, c.get.ensures.value, c.to_sql-2.ensures, c.get-2.ensures.value, c.to_sql-3.ensures) at ran)
-
-pub returns-in-Err-clause-err : goal.returns-in-Err-clause-err
-returns-in-Err-clause-err g c clean = record {
-  error = c.in-Err.error;
-  kind = c.fault_of.ensures;
-  kept = stopped_inside g.S.Store c.args.tx.now.conn.now c.execute.new.self.conn.now _ _ c.execute.result c.execute.ensures.ended (c.execute.ensures.runs clean) c.in-Err.error c.in-Err.is;
-}
+pub returns-clause-set : goal.returns-clause-set
+returns-clause-set g c clean =
+    on_ok_then c.execute.result
+    (λ ran. write_active _ _ c.args.branch c.args.number c.args.active ran.0 (rw (c.to_sql.ensures, c.get.ensures.value, c.to_sql-2.ensures, c.get-2.ensures.value, c.to_sql-3.ensures) at ran.1)) (c.execute.ensures.ran clean)

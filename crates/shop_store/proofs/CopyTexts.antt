@@ -1,0 +1,106 @@
+-- The texts of copies and lots.
+use Rattle.std.proofs.Common.{◌≡◌, ◌==◌, ◌&&◌, ℕ, List, [], ◌∷◌, ◌++◌, codes, filter, length, Bool, true, Ok, refl, sym, subst}
+use Rattle.std.specs.Prelude.{⊤}
+use Rattle.std.specs.Str.{bytes_eq}
+use Rattle.sqlite.specs.declared.types.Value.TheVariants.{Null, Text}
+use Rattle.sqlite_value.specs.Order as sql
+use Rattle.sqlite_value.specs.Order.{column}
+use Rattle.sqlite_sql.specs.Term.{Term, lit, col}
+use Rattle.sqlite.specs.Source.TheVariants.{Values}
+use Rattle.sqlite.specs.Command.TheVariants.{Insert}
+use Rattle.sqlite_tied.specs.Compute.{everything}
+use Rattle.sqlite.specs.Listing.{understood}
+use Rattle.sqlite.specs.State.{State, ExecutesInside, Shown}
+use Rattle.sql_rows.specs.Builds.{Means}
+use Rattle.sql_rows.specs.Rows.{HasRows, number_value}
+use Rattle.sql_rows.proofs.Appends.{map_push, are_kept}
+use Rattle.sql_rows.proofs.Queries.{Selects, plain_query}
+use Rattle.sql_rows.proofs.ColumnTests.{number_test, number_tested, text_test, text_tested, one_tested, two_tested}
+use Rattle.sql_rows.proofs.Projects.{projects_count}
+use Rattle.sql_rows.proofs.Steps.{puts_row}
+use Rattle.shop_model.specs.Rows.{Row, Owned, is_of}
+use Rattle.shop_model.specs.Values as model
+use Rattle.shop_model.specs.Values.{CopyState, Here, Sent, Scrapped}
+use Rattle.shop_model.specs.Books.{Books, BookCopy}
+use Rattle.shop_schema.specs.Tables.{shop_schema, copy_table, lot_table}
+use Rattle.shop_schema.specs.Columns.{copy_columns, lot_columns}
+use Rattle.shop_schema.specs.Shop.{StandsFor, IsShop, Changes}
+use Rattle.shop_schema.proofs.Stands.{with_copies, with_lots}
+use Rattle.shop_store.proofs.CustomerTexts.{of_one, of_two}
+
+-- ---- copies
+
+abbrev pub insert_copy : List ℕ
+insert_copy = codes "INSERT INTO copy (branch, number, film, state, origin_branch, origin_copy) VALUES (?1, ?2, ?3, ?4, ?5, ?6)"
+
+abbrev pub values_6 : List Term
+values_6 = lit Null ∷ col 0 0 ∷ col 0 1 ∷ col 0 2 ∷ col 0 3 ∷ col 0 4 ∷ col 0 5 ∷ []
+
+pub insert_copy_means : Means shop_schema insert_copy (Insert 11 (Values values_6 7))
+unfolding understood everything
+insert_copy_means = record { is = refl; plain = (refl, refl) }
+
+-- each column takes its value as it is
+kept_copy : (c : Row BookCopy) → are_kept copy_table.columns (copy_columns c) ≡ true
+kept_copy c = go c.it.state
+  where
+    go : (s : CopyState) → are_kept copy_table.columns (copy_columns (record c { it = record c.it { state = s } })) ≡ true
+    go Here = refl
+    go Sent = refl
+    go Scrapped = refl
+
+pub puts_copy : (old new : State) (c : Row BookCopy) (count : ℕ) → IsShop old → ExecutesInside 0 insert_copy (copy_columns c) old new (Ok count)
+    → Changes old new (λ _. ⊤) (λ books. record books { copies = books.copies ++ c ∷ [] })
+puts_copy old new c count has h =
+    puts_row shop_schema StandsFor insert_copy 11 copy_table values_6 6 insert_copy_means (record { place = refl; uncounted = refl; unstamped = refl })
+    (copy_columns c) old new count has h refl refl (kept_copy c) (λ id. refl) (λ books. record books { copies = books.copies ++ c ∷ [] })
+    (λ books same s more. with_copies _ _ books _ same s (subst (HasRows 6 (new.now.trees 25)) (sym (map_push copy_columns books.copies c)) (more _ s.copies)))
+
+abbrev pub count_copies : List ℕ
+count_copies = codes "SELECT number FROM copy WHERE branch = ?1"
+
+pub count_copies_means : Selects shop_schema count_copies (plain_query 25 of_one (col 1 2 ∷ []) [])
+unfolding understood everything
+count_copies_means = record { names = _; is = refl; plain = (refl, refl); unlisted = refl }
+
+pub counts_copies : (old new : State) (b : ℕ) (rows : List sql.Row) (books : Books) → IsShop old → Shown count_copies (number_value b ∷ []) old new rows → StandsFor old.now.trees books
+    → length rows ≡ length (filter (is_of b) books.copies)
+counts_copies old new b rows books has h s =
+    projects_count shop_schema count_copies 25 6 of_one (col 1 2 ∷ []) count_copies_means (number_value b ∷ []) old new rows has h copy_columns books.copies s.copies refl
+    (λ vs. number_test 0 b vs && true) (λ vs. column vs 1 ∷ []) (is_of b) (λ c. one_tested _ (number_tested c.branch b)) (λ r. refl)
+
+-- ---- lots
+
+abbrev pub insert_lot : List ℕ
+insert_lot = codes "INSERT INTO lot (branch, name) VALUES (?1, ?2)"
+
+abbrev pub values_2 : List Term
+values_2 = lit Null ∷ col 0 0 ∷ col 0 1 ∷ []
+
+pub insert_lot_means : Means shop_schema insert_lot (Insert 14 (Values values_2 3))
+unfolding understood everything
+insert_lot_means = record { is = refl; plain = (refl, refl) }
+
+pub puts_lot : (old new : State) (lot : Owned model.Text) (count : ℕ) → IsShop old → ExecutesInside 0 insert_lot (lot_columns lot) old new (Ok count)
+    → Changes old new (λ _. ⊤) (λ books. record books { lots = books.lots ++ lot ∷ [] })
+puts_lot old new lot count has h =
+    puts_row shop_schema StandsFor insert_lot 14 lot_table values_2 2 insert_lot_means (record { place = refl; uncounted = refl; unstamped = refl })
+    (lot_columns lot) old new count has h refl refl refl (λ id. refl) (λ books. record books { lots = books.lots ++ lot ∷ [] })
+    (λ books same s more. with_lots _ _ books _ same s (subst (HasRows 2 (new.now.trees 32)) (sym (map_push lot_columns books.lots lot)) (more _ s.lots)))
+
+abbrev pub select_lot : List ℕ
+select_lot = codes "SELECT name FROM lot WHERE branch = ?1 AND name = ?2"
+
+pub select_lot_means : Selects shop_schema select_lot (plain_query 32 of_two (col 1 2 ∷ []) [])
+unfolding understood everything
+select_lot_means = record { names = _; is = refl; plain = (refl, refl); unlisted = refl }
+
+abbrev pub is_lot : ℕ → model.Text → Owned model.Text → Bool
+is_lot b name row = row.owner == b && bytes_eq row.it name
+
+pub shows_lot : (old new : State) (b : ℕ) (name : model.Text) (rows : List sql.Row) (books : Books) → IsShop old → Shown select_lot (number_value b ∷ Text name ∷ []) old new rows → StandsFor old.now.trees books
+    → length rows ≡ length (filter (is_lot b name) books.lots)
+shows_lot old new b name rows books has h s =
+    projects_count shop_schema select_lot 32 2 of_two (col 1 2 ∷ []) select_lot_means (number_value b ∷ Text name ∷ []) old new rows has h lot_columns books.lots s.lots refl
+    (λ vs. number_test 0 b vs && (text_test 1 name vs && true)) (λ vs. column vs 1 ∷ []) (is_lot b name)
+    (λ row. two_tested _ _ (number_tested row.owner b) (text_tested row.it name)) (λ r. refl)

@@ -1,0 +1,52 @@
+ghost use Rattle.std.specs.Prelude.{◌≡◌, ⊤, IfOk, OnOk, if◌then◌else◌, Some, None};
+ghost use Rattle.sqlite.specs.Held.{state};
+ghost use Rattle.sqlite.specs.State.{HasCleanDisk};
+ghost use Rattle.sql_rows.specs.Calls.{StaysInside};
+ghost use Rattle.shop_model.specs.Rows.{lacks, owned_by};
+ghost use Rattle.shop_model.specs.Books.{head, set_last};
+ghost use Rattle.shop_schema.specs.Shop.{Reads, Writes};
+
+use shop_schema::{MomentText, moment_or_null_at};
+use shop_types::{BranchNo, Moment};
+use sql_rows::{StoreFault, execute, query};
+use sqlite::types::ToSql;
+use sqlite::{Alter, Transaction};
+
+/// The moment of the branch's last accepted command, where there is one; nothing at all where there is no such branch.
+pub fn last_at<S: Alter>(
+    tx: &mut Transaction<'_, S>,
+    branch: BranchNo,
+) -> Result<Option<Option<Moment>>, StoreFault>
+    ensures same_reference { tx.new.conn.ghost_name ≡ tx.old.conn.ghost_name }
+    ensures inside { StaysInside (state S.Store tx.old.conn.now) (state S.Store tx.new.conn.now) result }
+    ensures found { HasCleanDisk (state S.Store tx.new.conn.now) → IfOk result (λ last. Reads (state S.Store tx.old.conn.now) (state S.Store tx.new.conn.now)
+        (λ books. last ≡ (if lacks books.catalogue.branches branch then None else Some (head (owned_by branch books.lasts))))) }
+{
+    let rows = query(
+        tx,
+        "SELECT last_moment FROM branch WHERE number = ?1",
+        &[branch.get().to_sql()],
+    )?;
+    match rows.first() {
+        None => Ok(None),
+        Some(row) => Ok(Some(moment_or_null_at(row, 0)?)),
+    }
+}
+
+/// Makes the moment the last one of the branch. After a fault the transaction may be rolled back.
+pub fn set_last<S: Alter>(
+    tx: &mut Transaction<'_, S>,
+    branch: BranchNo,
+    moment: Moment,
+) -> Result<(), StoreFault>
+    ensures same_reference { tx.new.conn.ghost_name ≡ tx.old.conn.ghost_name }
+    ensures inside { StaysInside (state S.Store tx.old.conn.now) (state S.Store tx.new.conn.now) result }
+    ensures set { HasCleanDisk (state S.Store tx.new.conn.now) → OnOk result (Writes (state S.Store tx.old.conn.now) (state S.Store tx.new.conn.now) (λ _. ⊤) (λ books. record books { lasts = set_last branch moment books.lasts })) }
+{
+    let last = MomentText::of(moment);
+    execute(
+        tx,
+        "UPDATE branch SET last_moment = ?2 WHERE number = ?1",
+        &[branch.get().to_sql(), last.as_str().to_sql()],
+    )
+}
