@@ -1,0 +1,20 @@
+-- What is found of shared rows, as the model has it.
+use Rattle.std.specs.Prelude.{ℕ, Bool, Option, Some, None}
+use Rattle.shop_model.specs.Values.{Film, Staff}
+use Rattle.shop_model.specs.Books.{Caller, Counter, Nobody}
+use Rattle.catalogue_store.specs.declared.reads.StaffPost.{StaffPost}
+
+-- the branch as a caller, or nobody
+abbrev pub branch_caller : Option ℕ → Caller
+branch_caller None = Nobody
+branch_caller (Some branch) = Counter branch
+
+-- the branch, and whether the member of staff left
+abbrev pub seen_post : StaffPost → ℕ × Bool
+seen_post post = (post.branch, post.gone)
+
+abbrev pub post_of : Staff → ℕ × Bool
+post_of staff = (staff.branch, staff.gone)
+
+abbrev pub withdrawn_of : Film → Bool
+withdrawn_of film = film.withdrawn

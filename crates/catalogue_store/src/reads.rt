@@ -1,0 +1,121 @@
+ghost use Rattle.std.specs.Prelude.{◌≡◌, not, IfOk, map, option_map};
+ghost use Rattle.std.specs.Str.{bytes_eq};
+ghost use Rattle.sqlite.specs.Held.{state};
+ghost use Rattle.sqlite.specs.State.{HasCleanDisk};
+ghost use Rattle.sql_rows.specs.Calls.{StaysInside};
+ghost use Rattle.shop_model.specs.Rows.{at, lacks};
+ghost use Rattle.shop_model.specs.Books.{head, branch_with};
+ghost use Rattle.shop_schema.specs.Shop.{Reads};
+ghost use Rattle.catalogue_store.specs.Seen.{branch_caller, seen_post, post_of, withdrawn_of};
+
+use shop_schema::row_number_at;
+use shop_types::{BranchNo, CityNo, FilmNo, StaffNo, Token};
+use sql_rows::{StoreFault, flag_at, query};
+use sqlite::types::ToSql;
+use sqlite::{Alter, Transaction};
+
+/// Where a member of staff works, or worked before leaving.
+#[derive(Clone, Copy, Debug, PartialEq, Eq)]
+pub struct StaffPost {
+    pub branch: BranchNo,
+    /// Whether the member of staff left.
+    pub gone: bool,
+}
+
+/// The token as a text.
+fn token_text(token: &Token) -> &str
+    ensures { result.now ≡ token.now }
+{
+    std::str::from_utf8(token.as_bytes().as_slice()).unwrap()
+}
+
+/// The branch whose token it is.
+pub fn branch_with<S: Alter>(
+    tx: &mut Transaction<'_, S>,
+    token: &Token,
+) -> Result<Option<BranchNo>, StoreFault>
+    ensures same_reference { tx.new.conn.ghost_name ≡ tx.old.conn.ghost_name }
+    ensures inside { StaysInside (state S.Store tx.old.conn.now) (state S.Store tx.new.conn.now) result }
+    ensures found { HasCleanDisk (state S.Store tx.new.conn.now) → IfOk result (λ branch. Reads (state S.Store tx.old.conn.now) (state S.Store tx.new.conn.now) (λ books. branch_caller branch ≡ branch_with token.now 1 books.catalogue.branches)) }
+{
+    let rows = query(
+        tx,
+        "SELECT number FROM branch WHERE token = ?1",
+        &[token_text(token).to_sql()],
+    )?;
+    match rows.first() {
+        None => Ok(None),
+        Some(row) => Ok(Some(row_number_at(row, 0)?)),
+    }
+}
+
+/// Whether it is head office's token.
+pub fn is_office<S: Alter>(tx: &mut Transaction<'_, S>, token: &Token) -> Result<bool, StoreFault>
+    ensures same_reference { tx.new.conn.ghost_name ≡ tx.old.conn.ghost_name }
+    ensures inside { StaysInside (state S.Store tx.old.conn.now) (state S.Store tx.new.conn.now) result }
+    ensures found { HasCleanDisk (state S.Store tx.new.conn.now) → IfOk result (λ is. Reads (state S.Store tx.old.conn.now) (state S.Store tx.new.conn.now) (λ books. is ≡ bytes_eq token.now books.catalogue.office_token)) }
+{
+    let rows = query(
+        tx,
+        "SELECT version FROM chain WHERE office_token = ?1",
+        &[token_text(token).to_sql()],
+    )?;
+    Ok(!rows.is_empty())
+}
+
+/// Where the member of staff of the number works.
+pub fn staff_at<S: Alter>(
+    tx: &mut Transaction<'_, S>,
+    staff: StaffNo,
+) -> Result<Option<StaffPost>, StoreFault>
+    ensures same_reference { tx.new.conn.ghost_name ≡ tx.old.conn.ghost_name }
+    ensures inside { StaysInside (state S.Store tx.old.conn.now) (state S.Store tx.new.conn.now) result }
+    ensures found { HasCleanDisk (state S.Store tx.new.conn.now) → IfOk result (λ post. Reads (state S.Store tx.old.conn.now) (state S.Store tx.new.conn.now) (λ books. option_map seen_post post ≡ head (map post_of (at staff books.catalogue.staff)))) }
+{
+    let rows = query(
+        tx,
+        "SELECT branch, gone FROM staff WHERE number = ?1",
+        &[staff.get().to_sql()],
+    )?;
+    match rows.first() {
+        None => Ok(None),
+        Some(row) => Ok(Some(StaffPost {
+            branch: row_number_at(row, 0)?,
+            gone: flag_at(row, 1)?,
+        })),
+    }
+}
+
+/// Whether there is a city of the number.
+pub fn has_city<S: Alter>(tx: &mut Transaction<'_, S>, city: CityNo) -> Result<bool, StoreFault>
+    ensures same_reference { tx.new.conn.ghost_name ≡ tx.old.conn.ghost_name }
+    ensures inside { StaysInside (state S.Store tx.old.conn.now) (state S.Store tx.new.conn.now) result }
+    ensures found { HasCleanDisk (state S.Store tx.new.conn.now) → IfOk result (λ has. Reads (state S.Store tx.old.conn.now) (state S.Store tx.new.conn.now) (λ books. has ≡ not (lacks books.catalogue.cities city))) }
+{
+    let rows = query(
+        tx,
+        "SELECT number FROM city WHERE number = ?1",
+        &[city.get().to_sql()],
+    )?;
+    Ok(!rows.is_empty())
+}
+
+/// Whether the film of the number is withdrawn, where there is such a film.
+pub fn film_at<S: Alter>(
+    tx: &mut Transaction<'_, S>,
+    film: FilmNo,
+) -> Result<Option<bool>, StoreFault>
+    ensures same_reference { tx.new.conn.ghost_name ≡ tx.old.conn.ghost_name }
+    ensures inside { StaysInside (state S.Store tx.old.conn.now) (state S.Store tx.new.conn.now) result }
+    ensures found { HasCleanDisk (state S.Store tx.new.conn.now) → IfOk result (λ withdrawn. Reads (state S.Store tx.old.conn.now) (state S.Store tx.new.conn.now) (λ books. withdrawn ≡ head (map withdrawn_of (at film books.catalogue.films)))) }
+{
+    let rows = query(
+        tx,
+        "SELECT withdrawn FROM film WHERE number = ?1",
+        &[film.get().to_sql()],
+    )?;
+    match rows.first() {
+        None => Ok(None),
+        Some(row) => Ok(Some(flag_at(row, 0)?)),
+    }
+}
