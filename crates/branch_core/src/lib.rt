@@ -9,6 +9,3 @@ mod stock;
 pub use change::{Change, Rows};
 pub use decision::decide;
 pub use found::{ActFound, Found, KeptFound, StaffFound, StockFound};
-
-#[cfg(test)]
-mod tests;

@@ -12,8 +12,3 @@ pub use puts::{
     put_city, put_country, put_film, put_language, put_staff,
 };
 pub use reads::{StaffPost, branch_with, film_at, has_city, is_office, staff_at};
-
-#[cfg(test)]
-mod opening_tests;
-#[cfg(test)]
-mod tests;

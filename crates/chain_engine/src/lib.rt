@@ -10,6 +10,3 @@ mod rows;
 mod tables;
 
 pub use chain::{Chain, OpenFault};
-
-#[cfg(test)]
-mod tests;

@@ -8,6 +8,3 @@ mod paths;
 
 pub use asked::Reading;
 pub use paths::Routes;
-
-#[cfg(test)]
-mod tests;

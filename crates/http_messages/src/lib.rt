@@ -9,8 +9,6 @@ mod fields;
 mod lists;
 mod messages;
 mod replies;
-#[cfg(test)]
-mod tests;
 
 pub use lists::part;
 pub use messages::{

@@ -6,6 +6,3 @@ mod stock;
 
 pub use customer::{customer_text, new_customer_text};
 pub use stock::new_copies_text;
-
-#[cfg(test)]
-mod tests;

@@ -6,6 +6,3 @@ mod words;
 
 pub use program::run;
 pub use words::NoWords;
-
-#[cfg(test)]
-mod tests;

@@ -7,6 +7,3 @@ mod parts;
 mod tables;
 
 pub use tables::{same_first, same_schema};
-
-#[cfg(test)]
-mod tests;

@@ -1,170 +1,197 @@
 //! Connections: messages however they are cut, heads that are none, and ends.
 use crate::talk::{
-    BRANCH_1, FIRST_CUSTOMER, FIRST_REPLY, NOBODY, Pieces, answer, conflict, demo, look, reply,
-    tell,
+    BAD, BRANCH_1, CONFLICT, FIRST_CUSTOMER, FIRST_REPLY, FORBIDDEN, NOBODY, Pieces, answer, asks,
+    demo, reply, tell,
 };
+use chain_engine::Chain;
 use counter_http::{End, Fault, Reading, ServeFault, read_request, serve};
 use sakila_office::NoWords;
+use std::alloc::Global;
 use std::test::Fail;
+
+/// Whether the first customer's request has its reply where so many bytes at most come at a time.
+fn is_answered_by(alloc: Global, most: usize) -> Result<bool, Fail> {
+    let mut chain = demo(alloc)?;
+    let mut reader = Pieces {
+        bytes: FIRST_CUSTOMER.as_bytes(),
+        most,
+    };
+    let told = tell(alloc, &mut chain, &mut reader, 1000)?;
+    Ok(told.bytes.as_slice() == FIRST_REPLY.as_bytes()
+        && told.replies == 1
+        && told.end == End::Closed)
+}
 
 #[test]
 fn byte_by_byte(rt: HostRuntime) -> Result<(), Fail> {
-    let alloc = rt.alloc();
     for most in [1usize, 2, 3, 7, 64, 1000] {
-        let mut chain = demo(alloc)?;
-        let mut reader = Pieces {
-            bytes: FIRST_CUSTOMER.as_bytes(),
-            most,
-        };
-        let told = tell(alloc, &mut chain, &mut reader, 1000)?;
-        assert_eq!(rt; told.bytes.as_slice(), FIRST_REPLY.as_bytes(), "by {most}");
-        assert_eq!(rt; told.replies, 1);
-        assert_eq!(rt; told.end, End::Closed);
+        assert!(rt; is_answered_by(rt.alloc(), most)?, "by {most}");
     }
     Ok(())
+}
+
+/// Whether an input that ends after so many bytes has no reply, and nothing is done.
+fn is_nothing(alloc: Global, kept: usize) -> Result<bool, Fail> {
+    let mut chain = demo(alloc)?;
+    let whole = FIRST_CUSTOMER.as_bytes();
+    let mut input = &whole[..kept.min(whole.len())];
+    let told = tell(alloc, &mut chain, &mut input, 1000)?;
+    let none = "{\"refused\":\"no_customer\"}";
+    let look = [("GET /customer/1", BRANCH_1, "", CONFLICT, none)];
+    Ok(told.bytes.is_empty()
+        && told.replies == 0
+        && told.end == End::Cut
+        && asks(alloc, &mut chain, &look)? == 1)
 }
 
 /// An input that ends inside a request gets no reply, and nothing is done.
 #[test]
 fn cut_anywhere(rt: HostRuntime) -> Result<(), Fail> {
-    let alloc = rt.alloc();
-    let whole = FIRST_CUSTOMER.as_bytes();
     for kept in [1usize, 20, 100, 116, 117, 200, 240] {
-        assert!(rt; kept < whole.len());
-        let mut chain = demo(alloc)?;
-        let mut input = &whole[..kept];
-        let told = tell(alloc, &mut chain, &mut input, 1000)?;
-        assert_eq!(rt; told.bytes.len(), 0);
-        assert_eq!(rt; told.replies, 0);
-        assert_eq!(rt; told.end, End::Cut);
-        let shown = answer(
-            alloc,
-            &mut chain,
-            look(alloc, "/customer/1", BRANCH_1)?.as_str(),
-        )?;
-        assert_eq!(rt;
-            shown.as_slice(),
-            conflict(alloc, "no_customer")?.as_bytes()
-        );
+        assert!(rt; is_nothing(rt.alloc(), kept)?, "after {kept}");
     }
     Ok(())
 }
 
-#[test]
-fn cut_and_bad_heads(rt: HostRuntime) -> Result<(), Fail> {
-    let alloc = rt.alloc();
-    let mut chain = demo(alloc)?;
-    let short = &FIRST_CUSTOMER.as_bytes()[..240];
-    let told = tell(alloc, &mut chain, &mut &*short, 1000)?;
-    assert_eq!(rt; told.bytes.len(), 0);
-    assert_eq!(rt; told.end, End::Cut);
+/// Whether the input is told that refusal, and no more is read.
+fn is_refused(
+    alloc: Global,
+    chain: &mut Chain,
+    mut input: &[u8],
+    told: &str,
+) -> Result<bool, Fail> {
+    let wanted = reply(alloc, BAD, told)?;
+    let told = tell(alloc, chain, &mut input, 1000)?;
+    Ok(told.bytes.as_slice() == wanted.as_bytes() && told.replies == 1 && told.end == End::Refused)
+}
+
+const BAD_HEAD: &str = "{\"refused\":\"bad_head\"}";
+
+const TOO_LONG: &str = "{\"refused\":\"too_long\"}";
+
+const HEADS: [(&str, &str); 7] = [
+    ("BREW / HTTP/1.1\r\n\r\n", BAD_HEAD),
+    (
+        "POST /customer HTTP/1.1\r\ntransfer-encoding: chunked\r\n\r\n",
+        BAD_HEAD,
+    ),
+    (
+        "POST /customer HTTP/1.1\r\ncontent-length: 1\r\ncontent-length: 1\r\n\r\nx",
+        BAD_HEAD,
+    ),
+    (
+        "POST /customer HTTP/1.1\r\ncontent-length: +1\r\n\r\nx",
+        BAD_HEAD,
+    ),
+    (
+        "POST /customer HTTP/1.1\r\ncontent-length: 00000000000000000001\r\n\r\nx",
+        BAD_HEAD,
+    ),
+    ("GET /\x01 HTTP/1.1\r\n\r\n", BAD_HEAD),
+    (
+        "POST /customer HTTP/1.1\r\ncontent-length: 65537\r\n\r\n",
+        TOO_LONG,
+    ),
+];
+
+/// A head of 8,193 bytes.
+fn long_head(alloc: Global) -> Result<Vec<u8>, Fail> {
     let mut long = Vec::new(alloc);
     long.extend_from_slice(b"GET / HTTP/1.1\r\nx: ")?;
     for _ in 0..8170 {
         long.push(b'a')?;
     }
     long.extend_from_slice(b"\r\n\r\n")?;
-    assert_eq!(rt; long.len(), 8193);
-    let told = tell(alloc, &mut chain, &mut long.as_slice(), 1000)?;
-    assert_eq!(rt;
-        told.bytes.as_slice(),
-        reply(alloc, "400 Bad Request", "{\"refused\":\"too_long\"}")?.as_bytes()
-    );
-    assert_eq!(rt; told.end, End::Refused);
-    let heads = [
-        "BREW / HTTP/1.1\r\n\r\n",
-        "POST /customer HTTP/1.1\r\ntransfer-encoding: chunked\r\n\r\n",
-        "POST /customer HTTP/1.1\r\ncontent-length: 1\r\ncontent-length: 1\r\n\r\nx",
-        "POST /customer HTTP/1.1\r\ncontent-length: +1\r\n\r\nx",
-        "POST /customer HTTP/1.1\r\ncontent-length: 00000000000000000001\r\n\r\nx",
-        "GET /\x01 HTTP/1.1\r\n\r\n",
-    ];
-    for head in heads {
-        let told = tell(alloc, &mut chain, &mut head.as_bytes(), 1000)?;
-        assert_eq!(rt;
-            told.bytes.as_slice(),
-            reply(alloc, "400 Bad Request", "{\"refused\":\"bad_head\"}")?.as_bytes(),
-            "at {head:?}"
-        );
-        assert_eq!(rt; told.replies, 1);
-        assert_eq!(rt; told.end, End::Refused);
+    Ok(long)
+}
+
+#[test]
+fn cut_and_bad_heads(rt: HostRuntime) -> Result<(), Fail> {
+    let alloc = rt.alloc();
+    let mut chain = demo(alloc)?;
+    assert!(rt; is_nothing(alloc, 240)?);
+    let long = long_head(alloc)?;
+    assert!(rt; long.len() == 8193);
+    assert!(rt; is_refused(alloc, &mut chain, long.as_slice(), TOO_LONG)?);
+    for (head, told) in HEADS {
+        assert!(rt; is_refused(alloc, &mut chain, head.as_bytes(), told)?, "at {head:?}");
     }
-    let big = "POST /customer HTTP/1.1\r\ncontent-length: 65537\r\n\r\n";
-    let told = tell(alloc, &mut chain, &mut big.as_bytes(), 1000)?;
-    assert_eq!(rt;
-        told.bytes.as_slice(),
-        reply(alloc, "400 Bad Request", "{\"refused\":\"too_long\"}")?.as_bytes()
-    );
     Ok(())
 }
+
+const NO_COUNTER: &str = "{\"refused\":\"no_counter\"}";
+
+/// Requests of senders who are no counter, by line and token.
+const UNKNOWN: [(&str, &str); 9] = [
+    ("GET /arrivals", NOBODY),
+    ("GET /arrivals", "1"),
+    ("GET /arrivals", ""),
+    ("GET /x", NOBODY),
+    ("GET /x", "1"),
+    ("GET /x", ""),
+    ("GET /customer/1", NOBODY),
+    ("GET /customer/1", "1"),
+    ("GET /customer/1", ""),
+];
 
 #[test]
 fn unknown_callers(rt: HostRuntime) -> Result<(), Fail> {
     let alloc = rt.alloc();
     let mut chain = demo(alloc)?;
-    let forbidden = reply(alloc, "403 Forbidden", "{\"refused\":\"no_counter\"}")?;
-    for path in ["/arrivals", "/x", "/customer/1"] {
-        for token in [NOBODY, "1", ""] {
-            let told = answer(alloc, &mut chain, look(alloc, path, token)?.as_str())?;
-            assert_eq!(rt;
-                told.as_slice(),
-                forbidden.as_bytes(),
-                "at {path} of {token}"
-            );
-        }
+    for (line, token) in UNKNOWN {
+        let step = [(line, token, "", FORBIDDEN, NO_COUNTER)];
+        assert!(rt; asks(alloc, &mut chain, &step)? == 1, "at {line} of {token}");
     }
-    let none = "GET /customer/1 HTTP/1.1\r\n\r\n";
-    assert_eq!(rt;
-        answer(alloc, &mut chain, none)?.as_slice(),
-        forbidden.as_bytes()
-    );
-    let two =
-        "GET /customer/1 HTTP/1.1\r\ncounter-token: 11111111111111111111111111111111\r\nCounter-Token: 11111111111111111111111111111111\r\n\r\n";
-    assert_eq!(rt;
-        answer(alloc, &mut chain, two)?.as_slice(),
-        forbidden.as_bytes()
-    );
+    let forbidden = reply(alloc, FORBIDDEN, NO_COUNTER)?;
+    for input in [
+        "GET /customer/1 HTTP/1.1\r\n\r\n",
+        "GET /customer/1 HTTP/1.1\r\ncounter-token: 11111111111111111111111111111111\r\nCounter-Token: 11111111111111111111111111111111\r\n\r\n",
+    ] {
+        let told = answer(alloc, &mut chain, input)?;
+        assert!(rt; told.as_slice() == forbidden.as_bytes(), "at {input:?}");
+    }
     Ok(())
 }
+
+/// An input and how many replies are allowed, and how many are sent and what ends them.
+const ENDS: [(&str, u32, u32, End); 8] = [
+    ("", 2, 0, End::Closed),
+    ("GET /x HTTP/1.1\r\n", 2, 0, End::Cut),
+    (
+        "GET /x HTTP/1.0\r\n\r\nGET /x HTTP/1.0\r\n\r\n",
+        2,
+        1,
+        End::Asked,
+    ),
+    (
+        "GET /x HTTP/1.1\r\nConnection: keep-alive, Close\r\n\r\n",
+        2,
+        1,
+        End::Asked,
+    ),
+    (
+        "GET /x HTTP/1.1\r\n\r\nGET /x HTTP/1.1\r\n\r\nGET /x HTTP/1.1\r\n\r\n",
+        2,
+        2,
+        End::Limit,
+    ),
+    (
+        "GET /x HTTP/1.1\r\n\r\nGET /x HTTP/1.1\r\n\r\n",
+        3,
+        2,
+        End::Closed,
+    ),
+    ("GET /x HTTP/1.1\r\n\r\n\r\n", 3, 1, End::Cut),
+    ("GET /x HTTP/1.1\r\n\r\n", 0, 0, End::Limit),
+];
 
 #[test]
 fn ends(rt: HostRuntime) -> Result<(), Fail> {
     let alloc = rt.alloc();
-    let rows = [
-        ("", 2, 0, End::Closed),
-        ("GET /x HTTP/1.1\r\n", 2, 0, End::Cut),
-        (
-            "GET /x HTTP/1.0\r\n\r\nGET /x HTTP/1.0\r\n\r\n",
-            2,
-            1,
-            End::Asked,
-        ),
-        (
-            "GET /x HTTP/1.1\r\nConnection: keep-alive, Close\r\n\r\n",
-            2,
-            1,
-            End::Asked,
-        ),
-        (
-            "GET /x HTTP/1.1\r\n\r\nGET /x HTTP/1.1\r\n\r\nGET /x HTTP/1.1\r\n\r\n",
-            2,
-            2,
-            End::Limit,
-        ),
-        (
-            "GET /x HTTP/1.1\r\n\r\nGET /x HTTP/1.1\r\n\r\n",
-            3,
-            2,
-            End::Closed,
-        ),
-        ("GET /x HTTP/1.1\r\n\r\n\r\n", 3, 1, End::Cut),
-        ("GET /x HTTP/1.1\r\n\r\n", 0, 0, End::Limit),
-    ];
-    for (input, most, replies, end) in rows {
+    for (input, most, replies, end) in ENDS {
         let mut chain = demo(alloc)?;
         let told = tell(alloc, &mut chain, &mut input.as_bytes(), most)?;
-        assert_eq!(rt; told.replies, replies, "at {input:?}");
-        assert_eq!(rt; told.end, end, "at {input:?}");
+        assert!(rt; told.replies == replies && told.end == end, "at {input:?}");
     }
     Ok(())
 }
@@ -184,13 +211,10 @@ fn no_room_for_reply(rt: HostRuntime) -> Result<(), Fail> {
         &words,
         1000,
     );
-    assert_eq!(rt; served, Err(ServeFault::Write { replies: 0 }));
-    assert!(rt; FIRST_REPLY.len() > 20);
-    assert_eq!(rt; room.as_slice(), &FIRST_REPLY.as_bytes()[..20]);
-    assert_eq!(rt;
-        answer(alloc, &mut chain, FIRST_CUSTOMER)?.as_slice(),
-        FIRST_REPLY.as_bytes()
-    );
+    assert!(rt; served == Err(ServeFault::Write { replies: 0 }));
+    assert!(rt; FIRST_REPLY.as_bytes().starts_with(room.as_slice()));
+    let told = answer(alloc, &mut chain, FIRST_CUSTOMER)?;
+    assert!(rt; told.as_slice() == FIRST_REPLY.as_bytes());
     Ok(())
 }
 

@@ -1,7 +1,7 @@
 //! New customers and looks at them.
 use crate::talk::{
-    BRANCH_1, BRANCH_2, FIRST_CUSTOMER, FIRST_REPLY, MARY, NewCustomer, OFFICE, answer, conflict,
-    customer, demo, limited, look, reply, request,
+    BAD, BAD_BODY, BRANCH_1, BRANCH_2, CONFLICT, FIRST, FIRST_CUSTOMER, FIRST_REPLY, MARY, MISSING,
+    NewCustomer, OFFICE, OK, adds, answer, asks, demo, limited,
 };
 use counter_http::reply_bytes;
 use shop_types::{
@@ -10,234 +10,229 @@ use shop_types::{
 use std::alloc::Global;
 use std::test::Fail;
 
+const CUSTOMER_1: &str = "{\"customer\":1}";
+
+const NO_CUSTOMER: &str = "{\"refused\":\"no_customer\"}";
+
 #[test]
 fn first_customer(rt: HostRuntime) -> Result<(), Fail> {
     let alloc = rt.alloc();
     let mut chain = demo(alloc)?;
-    assert_eq!(rt; FIRST_REPLY.len(), 85);
-    assert_eq!(rt;
-        answer(alloc, &mut chain, FIRST_CUSTOMER)?.as_slice(),
-        FIRST_REPLY.as_bytes()
-    );
-    assert_eq!(rt; MARY.len(), 144);
-    let shown = answer(
-        alloc,
-        &mut chain,
-        look(alloc, "/customer/1", BRANCH_1)?.as_str(),
-    )?;
-    assert_eq!(rt; shown.as_slice(), reply(alloc, "200 OK", MARY)?.as_bytes());
+    assert!(rt; FIRST_REPLY.len() == 85 && MARY.len() == 144);
+    let told = answer(alloc, &mut chain, FIRST_CUSTOMER)?;
+    assert!(rt; told.as_slice() == FIRST_REPLY.as_bytes());
+    let look = [("GET /customer/1", BRANCH_1, "", OK, MARY)];
+    assert_eq!(rt; asks(alloc, &mut chain, &look)?, 1);
     Ok(())
 }
+
+const REPEATS: [(NewCustomer<'static>, &str, &str, &str); 3] = [
+    (FIRST, BRANCH_1, OK, CUSTOMER_1),
+    (FIRST, BRANCH_1, OK, CUSTOMER_1),
+    (
+        NewCustomer {
+            first: "MARIA",
+            ..FIRST
+        },
+        BRANCH_1,
+        CONFLICT,
+        "{\"refused\":\"key_used\"}",
+    ),
+];
 
 #[test]
 fn repeat_and_used_key(rt: HostRuntime) -> Result<(), Fail> {
     let alloc = rt.alloc();
     let mut chain = demo(alloc)?;
-    let first = answer(alloc, &mut chain, FIRST_CUSTOMER)?;
-    assert_eq!(rt; first.as_slice(), FIRST_REPLY.as_bytes());
-    let again = answer(alloc, &mut chain, FIRST_CUSTOMER)?;
-    assert_eq!(rt; again.as_slice(), FIRST_REPLY.as_bytes());
-    let maria = NewCustomer::keyed("k1")
-        .named("MARIA")
-        .sent_by(alloc, BRANCH_1)?;
-    let used = answer(alloc, &mut chain, maria.as_str())?;
-    assert_eq!(rt;
-        used.as_slice(),
-        b"HTTP/1.1 409 Conflict\r\ncontent-type: application/json\r\ncontent-length: 22\r\n\r\n{\"refused\":\"key_used\"}".as_slice()
-    );
-    let second = answer(
-        alloc,
-        &mut chain,
-        look(alloc, "/customer/2", BRANCH_1)?.as_str(),
-    )?;
-    assert_eq!(rt;
-        second.as_slice(),
-        conflict(alloc, "no_customer")?.as_bytes()
-    );
+    assert_eq!(rt; adds(alloc, &mut chain, &REPEATS)?, 3);
+    let look = [("GET /customer/2", BRANCH_1, "", CONFLICT, NO_CUSTOMER)];
+    assert_eq!(rt; asks(alloc, &mut chain, &look)?, 1);
     Ok(())
 }
+
+const ELSEWHERE: [(NewCustomer<'static>, &str, &str, &str); 2] = [
+    (FIRST, BRANCH_1, OK, CUSTOMER_1),
+    (
+        NewCustomer { staff: 2, ..FIRST },
+        BRANCH_2,
+        OK,
+        CUSTOMER_1,
+    ),
+];
 
 #[test]
 fn same_key_elsewhere(rt: HostRuntime) -> Result<(), Fail> {
     let alloc = rt.alloc();
     let mut chain = demo(alloc)?;
-    let here = answer(alloc, &mut chain, FIRST_CUSTOMER)?;
-    assert_eq!(rt; here.as_slice(), FIRST_REPLY.as_bytes());
-    let there = NewCustomer::keyed("k1")
-        .by_staff(2)
-        .sent_by(alloc, BRANCH_2)?;
-    let told = answer(alloc, &mut chain, there.as_str())?;
-    assert_eq!(rt; told.as_slice(), customer(alloc, 1)?.as_bytes());
+    assert_eq!(rt; adds(alloc, &mut chain, &ELSEWHERE)?, 2);
     Ok(())
 }
+
+const LATER: [(NewCustomer<'static>, &str, &str, &str); 4] = [
+    (FIRST, BRANCH_1, OK, CUSTOMER_1),
+    (
+        NewCustomer {
+            key: "k2",
+            at: "2026-03-02T10:00:00",
+            ..FIRST
+        },
+        BRANCH_1,
+        OK,
+        "{\"customer\":2}",
+    ),
+    (FIRST, BRANCH_1, OK, CUSTOMER_1),
+    (
+        NewCustomer { key: "k3", ..FIRST },
+        BRANCH_1,
+        CONFLICT,
+        "{\"refused\":\"moment_back\"}",
+    ),
+];
 
 /// A repeat is answered as before, although the branch's moment has gone on.
 #[test]
 fn repeat_after_later_command(rt: HostRuntime) -> Result<(), Fail> {
     let alloc = rt.alloc();
     let mut chain = demo(alloc)?;
-    let first = answer(alloc, &mut chain, FIRST_CUSTOMER)?;
-    assert_eq!(rt; first.as_slice(), FIRST_REPLY.as_bytes());
-    let later = NewCustomer::keyed("k2")
-        .at("2026-03-02T10:00:00")
-        .sent_by(alloc, BRANCH_1)?;
-    let told = answer(alloc, &mut chain, later.as_str())?;
-    assert_eq!(rt; told.as_slice(), customer(alloc, 2)?.as_bytes());
-    let again = answer(alloc, &mut chain, FIRST_CUSTOMER)?;
-    assert_eq!(rt; again.as_slice(), FIRST_REPLY.as_bytes());
-    let back = NewCustomer::keyed("k3").sent_by(alloc, BRANCH_1)?;
-    let refused = answer(alloc, &mut chain, back.as_str())?;
-    assert_eq!(rt;
-        refused.as_slice(),
-        conflict(alloc, "moment_back")?.as_bytes()
-    );
+    assert_eq!(rt; adds(alloc, &mut chain, &LATER)?, 4);
     Ok(())
 }
+
+const FULL: &str = "{\"refused\":\"full\"}";
+
+const KEPT: [(NewCustomer<'static>, &str, &str, &str); 5] = [
+    (FIRST, BRANCH_1, OK, CUSTOMER_1),
+    (
+        NewCustomer { key: "k2", ..FIRST },
+        BRANCH_1,
+        CONFLICT,
+        FULL,
+    ),
+    (
+        NewCustomer { key: "k3", ..FIRST },
+        BRANCH_1,
+        CONFLICT,
+        FULL,
+    ),
+    (FIRST, BRANCH_1, OK, CUSTOMER_1),
+    (
+        NewCustomer {
+            key: "k2",
+            staff: 2,
+            ..FIRST
+        },
+        BRANCH_2,
+        OK,
+        CUSTOMER_1,
+    ),
+];
 
 /// A caller with as many kept keys as are allowed gets no new one, and a repeat is answered.
 #[test]
 fn limits_of_kept_keys(rt: HostRuntime) -> Result<(), Fail> {
     let alloc = rt.alloc();
     let mut chain = limited(alloc, Limits::new(1, 1_000_000).ok_or("limits")?)?;
-    let first = answer(alloc, &mut chain, FIRST_CUSTOMER)?;
-    assert_eq!(rt; first.as_slice(), FIRST_REPLY.as_bytes());
-    for key in ["k2", "k3"] {
-        let more = NewCustomer::keyed(key).sent_by(alloc, BRANCH_1)?;
-        let told = answer(alloc, &mut chain, more.as_str())?;
-        assert_eq!(rt; told.as_slice(), conflict(alloc, "full")?.as_bytes());
-    }
-    let again = answer(alloc, &mut chain, FIRST_CUSTOMER)?;
-    assert_eq!(rt; again.as_slice(), FIRST_REPLY.as_bytes());
-    let there = NewCustomer::keyed("k2")
-        .by_staff(2)
-        .sent_by(alloc, BRANCH_2)?;
-    let told = answer(alloc, &mut chain, there.as_str())?;
-    assert_eq!(rt; told.as_slice(), customer(alloc, 1)?.as_bytes());
+    assert_eq!(rt; adds(alloc, &mut chain, &KEPT)?, 5);
     Ok(())
 }
+
+const NO_STAFF: &str = "{\"refused\":\"no_staff\"}";
+
+/// The longest first name, of 45 bytes, and one of a byte more.
+const LONGEST: &str = "ABCDEFGHIJKLMNOPQRSTUVWXYZABCDEFGHIJKLMNOPQRS";
+
+const LONGER: &str = "ABCDEFGHIJKLMNOPQRSTUVWXYZABCDEFGHIJKLMNOPQRST";
+
+const ORDER: [(NewCustomer<'static>, &str, &str, &str); 6] = [
+    (
+        NewCustomer { staff: 2, ..FIRST },
+        BRANCH_1,
+        CONFLICT,
+        NO_STAFF,
+    ),
+    (
+        NewCustomer { staff: 9, ..FIRST },
+        BRANCH_1,
+        CONFLICT,
+        NO_STAFF,
+    ),
+    (
+        NewCustomer { city: 9, ..FIRST },
+        BRANCH_1,
+        CONFLICT,
+        "{\"refused\":\"no_shared_row\"}",
+    ),
+    (
+        NewCustomer {
+            staff: 2,
+            city: 9,
+            ..FIRST
+        },
+        BRANCH_1,
+        CONFLICT,
+        NO_STAFF,
+    ),
+    (
+        NewCustomer {
+            first: LONGEST,
+            ..FIRST
+        },
+        BRANCH_1,
+        OK,
+        CUSTOMER_1,
+    ),
+    (
+        NewCustomer {
+            first: LONGER,
+            ..FIRST
+        },
+        BRANCH_1,
+        BAD,
+        BAD_BODY,
+    ),
+];
 
 #[test]
 fn staff_before_city(rt: HostRuntime) -> Result<(), Fail> {
     let alloc = rt.alloc();
     let mut chain = demo(alloc)?;
-    let rows = [
-        (NewCustomer::keyed("a").by_staff(2), "no_staff"),
-        (NewCustomer::keyed("b").by_staff(9), "no_staff"),
-        (NewCustomer::keyed("c").in_city(9), "no_shared_row"),
-        (NewCustomer::keyed("d").by_staff(2).in_city(9), "no_staff"),
-    ];
-    for (new, refusal) in rows {
-        let told = answer(alloc, &mut chain, new.sent_by(alloc, BRANCH_1)?.as_str())?;
-        assert_eq!(rt; told.as_slice(), conflict(alloc, refusal)?.as_bytes());
-    }
-    let longest = "ABCDEFGHIJKLMNOPQRSTUVWXYZABCDEFGHIJKLMNOPQRS";
-    assert_eq!(rt; longest.len(), 45);
-    let fits = NewCustomer::keyed("e")
-        .named(longest)
-        .sent_by(alloc, BRANCH_1)?;
-    let told = answer(alloc, &mut chain, fits.as_str())?;
-    assert_eq!(rt; told.as_slice(), customer(alloc, 1)?.as_bytes());
-    let longer = "ABCDEFGHIJKLMNOPQRSTUVWXYZABCDEFGHIJKLMNOPQRST";
-    let over = NewCustomer::keyed("f")
-        .named(longer)
-        .sent_by(alloc, BRANCH_1)?;
-    let told = answer(alloc, &mut chain, over.as_str())?;
-    assert_eq!(rt;
-        told.as_slice(),
-        reply(alloc, "400 Bad Request", "{\"refused\":\"bad_body\"}")?.as_bytes()
-    );
+    assert!(rt; LONGEST.len() == 45);
+    assert_eq!(rt; adds(alloc, &mut chain, &ORDER)?, 6);
     Ok(())
 }
+
+const NO_ROUTE: &str = "{\"refused\":\"no_route\"}";
+
+const FORMS: [(&str, &str, &str, &str, &str); 13] = [
+    ("POST /customer", BRANCH_1, "{}", BAD, BAD_BODY),
+    ("POST /customer", BRANCH_1, "", BAD, BAD_BODY),
+    ("GET /customer/0", BRANCH_1, "", BAD, BAD_BODY),
+    ("GET /customer/01", BRANCH_1, "", BAD, BAD_BODY),
+    ("GET /customer/x", BRANCH_1, "", BAD, BAD_BODY),
+    ("GET /customer", BRANCH_1, "", MISSING, NO_ROUTE),
+    ("POST /customer/1", BRANCH_1, "", MISSING, NO_ROUTE),
+    ("GET /customer/1/", BRANCH_1, "", MISSING, NO_ROUTE),
+    ("GET /customer/1?x", BRANCH_1, "", MISSING, NO_ROUTE),
+    ("POST /rent", BRANCH_1, "{}", MISSING, NO_ROUTE),
+    ("POST /office", OFFICE, "[]", MISSING, NO_ROUTE),
+    ("POST /customer", OFFICE, "{}", MISSING, NO_ROUTE),
+    (
+        "GET /customer/4294967295",
+        BRANCH_1,
+        "",
+        CONFLICT,
+        NO_CUSTOMER,
+    ),
+];
 
 /// What isn't a request of the caller's has its own refusal, and changes nothing.
 #[test]
 fn refused_by_form_and_route(rt: HostRuntime) -> Result<(), Fail> {
     let alloc = rt.alloc();
     let mut chain = demo(alloc)?;
-    let rows = [
-        (
-            "POST /customer",
-            BRANCH_1,
-            "{}",
-            "400 Bad Request",
-            "bad_body",
-        ),
-        (
-            "POST /customer",
-            BRANCH_1,
-            "",
-            "400 Bad Request",
-            "bad_body",
-        ),
-        (
-            "GET /customer/0",
-            BRANCH_1,
-            "",
-            "400 Bad Request",
-            "bad_body",
-        ),
-        (
-            "GET /customer/01",
-            BRANCH_1,
-            "",
-            "400 Bad Request",
-            "bad_body",
-        ),
-        (
-            "GET /customer/x",
-            BRANCH_1,
-            "",
-            "400 Bad Request",
-            "bad_body",
-        ),
-        ("GET /customer", BRANCH_1, "", "404 Not Found", "no_route"),
-        (
-            "POST /customer/1",
-            BRANCH_1,
-            "",
-            "404 Not Found",
-            "no_route",
-        ),
-        (
-            "GET /customer/1/",
-            BRANCH_1,
-            "",
-            "404 Not Found",
-            "no_route",
-        ),
-        (
-            "GET /customer/1?x",
-            BRANCH_1,
-            "",
-            "404 Not Found",
-            "no_route",
-        ),
-        ("POST /rent", BRANCH_1, "{}", "404 Not Found", "no_route"),
-        ("POST /office", OFFICE, "[]", "404 Not Found", "no_route"),
-        ("POST /customer", OFFICE, "{}", "404 Not Found", "no_route"),
-        (
-            "GET /customer/4294967295",
-            BRANCH_1,
-            "",
-            "409 Conflict",
-            "no_customer",
-        ),
-    ];
-    for (line, token, body, status, name) in rows {
-        let told = answer(
-            alloc,
-            &mut chain,
-            request(alloc, line, token, body)?.as_str(),
-        )?;
-        let refused = format!(in alloc; "{{\"refused\":\"{name}\"}}")?;
-        assert_eq!(rt;
-            told.as_slice(),
-            reply(alloc, status, refused.as_str())?.as_bytes(),
-            "at {line}"
-        );
-    }
-    let first = answer(alloc, &mut chain, FIRST_CUSTOMER)?;
-    assert_eq!(rt; first.as_slice(), FIRST_REPLY.as_bytes());
+    assert_eq!(rt; asks(alloc, &mut chain, &FORMS)?, 13);
+    let told = answer(alloc, &mut chain, FIRST_CUSTOMER)?;
+    assert!(rt; told.as_slice() == FIRST_REPLY.as_bytes());
     Ok(())
 }
 
@@ -280,7 +275,7 @@ fn first_customer_replayed(rt: HostRuntime) -> Result<(), Fail> {
     assert_eq!(rt; replies.len(), 1);
     for told in &replies {
         let bytes = reply_bytes(alloc, told)?;
-        assert_eq!(rt; bytes.as_slice(), FIRST_REPLY.as_bytes());
+        assert!(rt; bytes.as_slice() == FIRST_REPLY.as_bytes());
     }
     Ok(())
 }

@@ -28,7 +28,20 @@ pub const FIRST_REPLY: &str =
 pub const MARY: &str =
     "{\"active\":true,\"address\":\"1 Main\",\"city\":1,\"created\":\"2026-03-01T10:00:00\",\"customer\":1,\"first\":\"MARY\",\"last\":\"SMITH\",\"phone\":\"555\",\"postal\":\"\"}";
 
-/// What a new customer's command says where it isn't MARY SMITH of city 1, by staff 1 on 2026-03-01 at 10.
+/// The statuses of replies, with their phrases.
+pub const OK: &str = "200 OK";
+
+pub const BAD: &str = "400 Bad Request";
+
+pub const FORBIDDEN: &str = "403 Forbidden";
+
+pub const MISSING: &str = "404 Not Found";
+
+pub const CONFLICT: &str = "409 Conflict";
+
+pub const BAD_BODY: &str = "{\"refused\":\"bad_body\"}";
+
+/// What a new customer's command says.
 #[derive(Clone, Copy)]
 pub struct NewCustomer<'t> {
     pub key: &'t str,
@@ -38,33 +51,16 @@ pub struct NewCustomer<'t> {
     pub city: u32,
 }
 
-impl<'t> NewCustomer<'t> {
-    pub fn keyed(key: &'t str) -> NewCustomer<'t> {
-        NewCustomer {
-            key,
-            staff: 1,
-            at: "2026-03-01T10:00:00",
-            first: "MARY",
-            city: 1,
-        }
-    }
+/// The first customer's.
+pub const FIRST: NewCustomer<'static> = NewCustomer {
+    key: "k1",
+    staff: 1,
+    at: "2026-03-01T10:00:00",
+    first: "MARY",
+    city: 1,
+};
 
-    pub fn by_staff(self, staff: u32) -> NewCustomer<'t> {
-        NewCustomer { staff, ..self }
-    }
-
-    pub fn at(self, at: &'t str) -> NewCustomer<'t> {
-        NewCustomer { at, ..self }
-    }
-
-    pub fn named(self, first: &'t str) -> NewCustomer<'t> {
-        NewCustomer { first, ..self }
-    }
-
-    pub fn in_city(self, city: u32) -> NewCustomer<'t> {
-        NewCustomer { city, ..self }
-    }
-
+impl NewCustomer<'_> {
     /// The request's text.
     pub fn sent_by(self, alloc: Global, token: &str) -> Result<String, Fail> {
         let body = format!(in alloc;
@@ -75,7 +71,7 @@ impl<'t> NewCustomer<'t> {
     }
 }
 
-/// What an import says where it isn't by staff 1 on 2026-03-01 at 10.
+/// What an import says beside its file.
 #[derive(Clone, Copy)]
 pub struct Import<'t> {
     pub key: &'t str,
@@ -84,28 +80,15 @@ pub struct Import<'t> {
     pub lot: &'t str,
 }
 
-impl<'t> Import<'t> {
-    pub fn keyed(key: &'t str) -> Import<'t> {
-        Import {
-            key,
-            staff: 1,
-            at: "2026-03-01T10:00:00",
-            lot: "L1",
-        }
-    }
+/// The first import's.
+pub const LOT: Import<'static> = Import {
+    key: "i1",
+    staff: 1,
+    at: "2026-03-01T10:00:00",
+    lot: "L1",
+};
 
-    pub fn in_lot(self, lot: &'t str) -> Import<'t> {
-        Import { lot, ..self }
-    }
-
-    pub fn by_staff(self, staff: u32) -> Import<'t> {
-        Import { staff, ..self }
-    }
-
-    pub fn at(self, at: &'t str) -> Import<'t> {
-        Import { at, ..self }
-    }
-
+impl Import<'_> {
     /// The request's text, with the stock file.
     pub fn sent_by(self, alloc: Global, token: &str, file: &str) -> Result<String, Fail> {
         let line = format!(in alloc;
@@ -135,24 +118,6 @@ pub fn reply(alloc: Global, status: &str, body: &str) -> Result<String, Fail> {
     Ok(format!(in alloc;
         "HTTP/1.1 {status}\r\ncontent-type: application/json\r\ncontent-length: {length}\r\n\r\n{body}"
     )?)
-}
-
-/// The reply to what the books forbid.
-pub fn conflict(alloc: Global, name: &str) -> Result<String, Fail> {
-    let body = format!(in alloc; "{{\"refused\":\"{name}\"}}")?;
-    reply(alloc, "409 Conflict", body.as_str())
-}
-
-/// The reply to a new customer.
-pub fn customer(alloc: Global, number: u32) -> Result<String, Fail> {
-    let body = format!(in alloc; "{{\"customer\":{number}}}")?;
-    reply(alloc, "200 OK", body.as_str())
-}
-
-/// The reply to an import.
-pub fn imported(alloc: Global, copies: u32, first: u32) -> Result<String, Fail> {
-    let body = format!(in alloc; "{{\"copies\":{copies},\"first\":{first}}}")?;
-    reply(alloc, "200 OK", body.as_str())
 }
 
 /// A chain with the opening rows.
@@ -193,6 +158,70 @@ pub fn tell<R: Read>(
 /// What the chain sends to a whole input.
 pub fn answer(alloc: Global, chain: &mut Chain, input: &str) -> Result<Vec<u8>, Fail> {
     Ok(tell(alloc, chain, &mut input.as_bytes(), 1000)?.bytes)
+}
+
+/// Whether the chain sends that reply to the input.
+fn is_told(
+    alloc: Global,
+    chain: &mut Chain,
+    input: &str,
+    status: &str,
+    body: &str,
+) -> Result<bool, Fail> {
+    let told = answer(alloc, chain, input)?;
+    let wanted = reply(alloc, status, body)?;
+    Ok(told.as_slice() == wanted.as_bytes())
+}
+
+/// How many requests, given by line, token and body, are answered with the status and the body beside them: all, or those before the first that isn't.
+pub fn asks(
+    alloc: Global,
+    chain: &mut Chain,
+    steps: &[(&str, &str, &str, &str, &str)],
+) -> Result<usize, Fail> {
+    let mut done = 0;
+    for (line, token, sent, status, body) in steps {
+        let input = request(alloc, line, token, sent)?;
+        if !is_told(alloc, chain, input.as_str(), status, body)? {
+            return Ok(done);
+        }
+        done += 1;
+    }
+    Ok(done)
+}
+
+/// The same of new customers that a counter with the token sends.
+pub fn adds(
+    alloc: Global,
+    chain: &mut Chain,
+    steps: &[(NewCustomer<'_>, &str, &str, &str)],
+) -> Result<usize, Fail> {
+    let mut done = 0;
+    for (new, token, status, body) in steps {
+        let input = new.sent_by(alloc, token)?;
+        if !is_told(alloc, chain, input.as_str(), status, body)? {
+            return Ok(done);
+        }
+        done += 1;
+    }
+    Ok(done)
+}
+
+/// The same of imports with their files.
+pub fn imports(
+    alloc: Global,
+    chain: &mut Chain,
+    steps: &[(Import<'_>, &str, &str, &str, &str)],
+) -> Result<usize, Fail> {
+    let mut done = 0;
+    for (import, token, file, status, body) in steps {
+        let input = import.sent_by(alloc, token, file)?;
+        if !is_told(alloc, chain, input.as_str(), status, body)? {
+            return Ok(done);
+        }
+        done += 1;
+    }
+    Ok(done)
 }
 
 /// Gives its bytes a few at a time.

@@ -16,6 +16,3 @@ pub use laws::{forms_are_one_to_one, office_forms_are_one_to_one};
 pub use moment_text::MomentText;
 pub use ranges::command_values;
 pub use read::{moment_at, moment_or_null_at, row_number_at, row_number_or_null_at, text_at};
-
-#[cfg(test)]
-mod tests;

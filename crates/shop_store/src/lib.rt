@@ -13,8 +13,3 @@ pub use customers::{
     CustomerRow, customer_at, customer_count, customers_of, put_customer, set_active,
 };
 pub use kept::{KeptRow, kept_at, kept_count, put_kept};
-
-#[cfg(test)]
-mod kept_tests;
-#[cfg(test)]
-mod tests;

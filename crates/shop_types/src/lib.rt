@@ -23,6 +23,3 @@ pub use shop_values::{
 };
 pub use stock_file::StockFile;
 pub use words::OfficeWords;
-
-#[cfg(test)]
-mod tests;

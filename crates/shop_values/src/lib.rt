@@ -19,6 +19,3 @@ pub use row_number::{
 };
 pub use text::{L45, L500, T45, T128, Text};
 pub use token::Token;
-
-#[cfg(test)]
-mod tests;

@@ -15,6 +15,3 @@ pub use stored::{
     words_or_null_at,
 };
 pub use text::{Bytes, Words, value_or_null};
-
-#[cfg(test)]
-mod tests;

@@ -174,6 +174,3 @@ pub fn read_stock(alloc: Global, text: &[u8]) -> Result<Vec<StockRow>, StockFaul
     }
     read_rows(alloc, &mut reader, &mut fields)
 }
-
-#[cfg(test)]
-mod tests;

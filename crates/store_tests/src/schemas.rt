@@ -1,4 +1,4 @@
-use super::*;
+use same_schema::*;
 use sqlite::{Connection, Error, MemStore};
 use std::alloc::Global;
 use std::test::Fail;

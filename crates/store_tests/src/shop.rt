@@ -1,4 +1,4 @@
-use super::*;
+use shop_schema::*;
 use shop_types::{Act, CityNo, Command, Key, Moment, Person, RowNumber, StaffNo, T45, Text};
 use sql_rows::StoreFault;
 use sqlite::{Alter, Connection, Error, Row};

@@ -1,4 +1,4 @@
-use super::*;
+use shop_values::*;
 use std::alloc::{AllocError, Global};
 use std::test::Fail;
 

@@ -1,4 +1,4 @@
-use super::*;
+use counter_routes::*;
 use http_messages::{Request as Message, part};
 use matchit::Router;
 use shop_types::{Act, Ask, BranchNo, Caller, Refusal, Request};

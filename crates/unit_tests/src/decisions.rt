@@ -2,7 +2,7 @@ ghost use Rattle.std.specs.Prelude.{◌≡◌, ◌≤◌, ℕ, Bool, Result, IfO
 ghost use Rattle.std.specs.declared.vec.Vec.{Vec};
 ghost use Rattle.branch_core.specs.Agreed.{IsFoundFor, IsWithin, copies_of};
 
-use super::*;
+use branch_core::*;
 use shop_types::{
     Act, BadCsv, BranchNo, CityNo, Command, FilmNo, Key, L45, Limits, LotName, Moment, Person,
     Refusal, StaffNo, StockFile, T45, T128,

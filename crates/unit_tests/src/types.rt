@@ -5,7 +5,7 @@ ghost use Rattle.shop_types.specs.Replies.{seen_reply};
 ghost use Rattle.shop_types.specs.Lines.{LineValue};
 ghost use Rattle.shop_types.specs.declared.line.LineAct.TheVariants.{Migrate};
 
-use super::*;
+use shop_types::*;
 use std::alloc::{AllocError, Global};
 use std::test::Fail;
 

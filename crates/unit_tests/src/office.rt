@@ -1,4 +1,4 @@
-use super::*;
+use sakila_office::*;
 use shop_types::{OfficeWords, Usage};
 use std::test::Fail;
 

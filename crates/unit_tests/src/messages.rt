@@ -1,6 +1,6 @@
 //! One call of each public function on its happy path, and each fault.
 
-use super::*;
+use http_messages::*;
 use std::test::Fail;
 
 const SALE: &[u8] =

@@ -1,4 +1,4 @@
-use super::*;
+use catalogue_store::*;
 use shop_schema::create_tables;
 use shop_types::{RowNumber, Token};
 use sql_rows::StoreFault;

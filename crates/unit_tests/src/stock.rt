@@ -1,5 +1,5 @@
-use super::*;
-use std::alloc::AllocError;
+use stock_csv::*;
+use std::alloc::{AllocError, Global};
 use std::test::Fail;
 
 fn line_of(fault: StockFault) -> u32 {

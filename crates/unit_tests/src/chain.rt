@@ -1,4 +1,4 @@
-use super::*;
+use chain_engine::*;
 use shop_types::{
     Act, Ask, BranchNo, Caller, CityNo, Command, CustomerNo, Key, L45, Limits, LotName, Moment,
     Person, Reply, Request, StaffNo, StockFile, T45, T128, Token,
