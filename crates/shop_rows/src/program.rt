@@ -6,14 +6,14 @@ use std::test::Fail;
 
 /// What came of the program: its status, and what it wrote to its two streams.
 #[derive(Drop)]
-struct Ran {
+struct Outcome {
     status: u8,
     out: Vec<u8>,
     err: Vec<u8>,
 }
 
 /// Runs the program with the words of the line.
-fn ran(alloc: Global, line: &str, mut input: &[u8]) -> Result<Ran, Fail> {
+fn ran(alloc: Global, line: &str, mut input: &[u8]) -> Result<Outcome, Fail> {
     let mut words = Vec::new(alloc);
     for word in line.split(' ') {
         if !word.is_empty() {
@@ -23,7 +23,7 @@ fn ran(alloc: Global, line: &str, mut input: &[u8]) -> Result<Ran, Fail> {
     let mut out = Vec::new(alloc);
     let mut err = Vec::new(alloc);
     let status = run(alloc, words.as_slice(), &mut input, &mut out, &mut err);
-    Ok(Ran { status, out, err })
+    Ok(Outcome { status, out, err })
 }
 
 #[test]
