@@ -22,7 +22,7 @@ fn first_customer(rt: HostRuntime) -> Result<(), Fail> {
     let told = answer(alloc, &mut chain, FIRST_CUSTOMER)?;
     assert!(rt; told.as_slice() == FIRST_REPLY.as_bytes());
     let look = [("GET /customer/1", BRANCH_1, "", OK, MARY)];
-    assert_eq!(rt; asks(alloc, &mut chain, &look)?, 1);
+    asks(alloc, &mut chain, &look)?;
     Ok(())
 }
 
@@ -44,27 +44,22 @@ const REPEATS: [(NewCustomer<'static>, &str, &str, &str); 3] = [
 fn repeat_and_used_key(rt: HostRuntime) -> Result<(), Fail> {
     let alloc = rt.alloc();
     let mut chain = demo(alloc)?;
-    assert_eq!(rt; adds(alloc, &mut chain, &REPEATS)?, 3);
+    adds(alloc, &mut chain, &REPEATS)?;
     let look = [("GET /customer/2", BRANCH_1, "", CONFLICT, NO_CUSTOMER)];
-    assert_eq!(rt; asks(alloc, &mut chain, &look)?, 1);
+    asks(alloc, &mut chain, &look)?;
     Ok(())
 }
 
 const ELSEWHERE: [(NewCustomer<'static>, &str, &str, &str); 2] = [
     (FIRST, BRANCH_1, OK, CUSTOMER_1),
-    (
-        NewCustomer { staff: 2, ..FIRST },
-        BRANCH_2,
-        OK,
-        CUSTOMER_1,
-    ),
+    (NewCustomer { staff: 2, ..FIRST }, BRANCH_2, OK, CUSTOMER_1),
 ];
 
 #[test]
 fn same_key_elsewhere(rt: HostRuntime) -> Result<(), Fail> {
     let alloc = rt.alloc();
     let mut chain = demo(alloc)?;
-    assert_eq!(rt; adds(alloc, &mut chain, &ELSEWHERE)?, 2);
+    adds(alloc, &mut chain, &ELSEWHERE)?;
     Ok(())
 }
 
@@ -94,7 +89,7 @@ const LATER: [(NewCustomer<'static>, &str, &str, &str); 4] = [
 fn repeat_after_later_command(rt: HostRuntime) -> Result<(), Fail> {
     let alloc = rt.alloc();
     let mut chain = demo(alloc)?;
-    assert_eq!(rt; adds(alloc, &mut chain, &LATER)?, 4);
+    adds(alloc, &mut chain, &LATER)?;
     Ok(())
 }
 
@@ -102,18 +97,8 @@ const FULL: &str = "{\"refused\":\"full\"}";
 
 const KEPT: [(NewCustomer<'static>, &str, &str, &str); 5] = [
     (FIRST, BRANCH_1, OK, CUSTOMER_1),
-    (
-        NewCustomer { key: "k2", ..FIRST },
-        BRANCH_1,
-        CONFLICT,
-        FULL,
-    ),
-    (
-        NewCustomer { key: "k3", ..FIRST },
-        BRANCH_1,
-        CONFLICT,
-        FULL,
-    ),
+    (NewCustomer { key: "k2", ..FIRST }, BRANCH_1, CONFLICT, FULL),
+    (NewCustomer { key: "k3", ..FIRST }, BRANCH_1, CONFLICT, FULL),
     (FIRST, BRANCH_1, OK, CUSTOMER_1),
     (
         NewCustomer {
@@ -132,7 +117,7 @@ const KEPT: [(NewCustomer<'static>, &str, &str, &str); 5] = [
 fn limits_of_kept_keys(rt: HostRuntime) -> Result<(), Fail> {
     let alloc = rt.alloc();
     let mut chain = limited(alloc, Limits::new(1, 1_000_000).ok_or("limits")?)?;
-    assert_eq!(rt; adds(alloc, &mut chain, &KEPT)?, 5);
+    adds(alloc, &mut chain, &KEPT)?;
     Ok(())
 }
 
@@ -197,7 +182,7 @@ fn staff_before_city(rt: HostRuntime) -> Result<(), Fail> {
     let alloc = rt.alloc();
     let mut chain = demo(alloc)?;
     assert!(rt; LONGEST.len() == 45);
-    assert_eq!(rt; adds(alloc, &mut chain, &ORDER)?, 6);
+    adds(alloc, &mut chain, &ORDER)?;
     Ok(())
 }
 
@@ -230,7 +215,7 @@ const FORMS: [(&str, &str, &str, &str, &str); 13] = [
 fn refused_by_form_and_route(rt: HostRuntime) -> Result<(), Fail> {
     let alloc = rt.alloc();
     let mut chain = demo(alloc)?;
-    assert_eq!(rt; asks(alloc, &mut chain, &FORMS)?, 13);
+    asks(alloc, &mut chain, &FORMS)?;
     let told = answer(alloc, &mut chain, FIRST_CUSTOMER)?;
     assert!(rt; told.as_slice() == FIRST_REPLY.as_bytes());
     Ok(())

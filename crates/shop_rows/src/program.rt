@@ -42,7 +42,10 @@ fn other_words(rt: HostRuntime) -> Result<(), Fail> {
     for line in ["", "help", "replay replay", "--db x replay", "Replay"] {
         let told = ran(rt.alloc(), line, FIRST_CUSTOMER.as_bytes())?;
         assert!(rt; told.status == 2 && told.out.is_empty(), "at {line}");
-        assert!(rt; told.err.as_slice() == b"usage: sakila replay\n".as_slice(), "at {line}");
+        assert!(rt;
+            told.err.as_slice() == b"usage: sakila replay\n".as_slice(),
+            "at {line}"
+        );
     }
     Ok(())
 }

@@ -173,55 +173,49 @@ fn is_told(
     Ok(told.as_slice() == wanted.as_bytes())
 }
 
-/// How many requests, given by line, token and body, are answered with the status and the body beside them: all, or those before the first that isn't.
+/// Sends requests, given by line, token and body, and tells the wanted body of the first that isn't answered with the status and the body beside it.
 pub fn asks(
     alloc: Global,
     chain: &mut Chain,
-    steps: &[(&str, &str, &str, &str, &str)],
-) -> Result<usize, Fail> {
-    let mut done = 0;
+    steps: &[(&str, &str, &str, &str, &'static str)],
+) -> Result<(), Fail> {
     for (line, token, sent, status, body) in steps {
         let input = request(alloc, line, token, sent)?;
         if !is_told(alloc, chain, input.as_str(), status, body)? {
-            return Ok(done);
+            return Err(*body)?;
         }
-        done += 1;
     }
-    Ok(done)
+    Ok(())
 }
 
 /// The same of new customers that a counter with the token sends.
 pub fn adds(
     alloc: Global,
     chain: &mut Chain,
-    steps: &[(NewCustomer<'_>, &str, &str, &str)],
-) -> Result<usize, Fail> {
-    let mut done = 0;
+    steps: &[(NewCustomer<'_>, &str, &str, &'static str)],
+) -> Result<(), Fail> {
     for (new, token, status, body) in steps {
         let input = new.sent_by(alloc, token)?;
         if !is_told(alloc, chain, input.as_str(), status, body)? {
-            return Ok(done);
+            return Err(*body)?;
         }
-        done += 1;
     }
-    Ok(done)
+    Ok(())
 }
 
 /// The same of imports with their files.
 pub fn imports(
     alloc: Global,
     chain: &mut Chain,
-    steps: &[(Import<'_>, &str, &str, &str, &str)],
-) -> Result<usize, Fail> {
-    let mut done = 0;
+    steps: &[(Import<'_>, &str, &str, &str, &'static str)],
+) -> Result<(), Fail> {
     for (import, token, file, status, body) in steps {
         let input = import.sent_by(alloc, token, file)?;
         if !is_told(alloc, chain, input.as_str(), status, body)? {
-            return Ok(done);
+            return Err(*body)?;
         }
-        done += 1;
     }
-    Ok(done)
+    Ok(())
 }
 
 /// Gives its bytes a few at a time.

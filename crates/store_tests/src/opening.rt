@@ -230,21 +230,3 @@ fn shared_rows_are_put(rt: HostRuntime) -> Result<(), Fail> {
     }
     Ok(())
 }
-
-#[test]
-fn rows_that_no_table_takes_are_refused(rt: HostRuntime) -> Result<(), Fail> {
-    let mut conn = Connection::open_in_memory(rt.alloc())?;
-    if !conn.is_autocommit() {
-        return Err("autocommit")?;
-    }
-    let mut tx = conn.transaction();
-    assert!(rt; !known(&mut tx, b"00000000000000000000000000000000")?);
-    assert!(rt; with_tables(&mut tx) == Ok(()));
-    assert!(rt; opened(&mut tx) == Ok(()));
-    assert!(rt; !with_country(&mut tx, 2, "Chile")?);
-    assert!(rt; !with_country(&mut tx, 3, "Canada")?);
-    assert!(rt; !with_city(&mut tx, 4, 3)?);
-    assert!(rt; !with_cast(&mut tx)?);
-    assert_eq!(rt; count(&mut tx, "SELECT COUNT(*) FROM country")?, 2);
-    Ok(())
-}
