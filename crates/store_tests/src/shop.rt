@@ -79,6 +79,7 @@ fn commands_have_forms(rt: HostRuntime) -> Result<(), Fail> {
     let other = command_form(alloc, &command(&rt, "k-1", 8)?)?;
     assert!(rt; other.as_slice() != form.as_slice());
     command_values(&command(&rt, "k-1", 7)?);
+    command_values(&command(&rt, "k-1", 7)?);
     forms_are_one_to_one();
     office_forms_are_one_to_one();
     Ok(())
