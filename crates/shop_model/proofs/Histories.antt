@@ -1,15 +1,15 @@
 -- A run grows by one event at a time.
 use Rattle.std.proofs.Common.{◌≡◌, inl, inr, List, [], ◌∷◌, ◌++◌, length, map, filter, Bool, true, false, not, refl, sym, ap, ap₂, ◌∙◌, arith, append-nil, length-append}
-use Rattle.std.specs.Prelude.{◌==◌}
+use Rattle.std.specs.Prelude.{◌==◌, ◌&&◌, ◌⊎◌, ◌||◌, if◌then◌else◌}
 use Rattle.std.specs.List.{list_all}
 use Rattle.std.proofs.lemmas.Bool.{cases_Bool}
 use Rattle.shop_model.specs.Values.{OfficeAsk, Rules}
-use Rattle.shop_model.specs.Refusals.{TooLong, NoCounter, NoRoute, BadBody, KeyUsed, Full, MomentBack, NoStaff, NoCustomer, CustomerInactive, NoCopy, CopyNotHere, CopyOut, FilmWithdrawn, SameMoment, NoRental, RentalReturned, WrongCustomer, NoFilm, LotIn, BadCsv, NoBranch, OwnBranch, NoArrival, ArrivalReceived, BadLines, BadThreshold, TokenTaken, NoSharedRow, Already, Usage, Memory}
+use Rattle.shop_model.specs.Refusals.{TooLong, NoCounter, NoRoute, BadBody, KeyUsed, Full, MomentBack, NoStaff, NoCustomer, CustomerInactive, NoCopy, CopyNotHere, CopyOut, FilmWithdrawn, SameMoment, NoRental, RentalReturned, WrongCustomer, NoFilm, LotIn, BadCsv, NoBranch, OwnBranch, NoArrival, ArrivalReceived, BadLines, BadThreshold, TokenTaken, NoSharedRow, Already, Usage, Memory, Size, StoreFailed}
 use Rattle.shop_model.specs.Json.{escape_byte}
-use Rattle.shop_model.specs.Machine.{Request, Reply, Sorry, Done, Shows}
+use Rattle.shop_model.specs.Machine.{Reply, Sorry, Done, Shows}
 use Rattle.shop_model.specs.Answers.{Answer, answer_of, problem_answer}
-use Rattle.shop_model.specs.Books.{Books, Event, Caller, NoRoom, counted_one, caller_in, reply_for, reply_in, after, run, last_books}
-use Rattle.shop_model.specs.Histories.{is_decided, is_store_failure, is_answer, outcome_of, counted_in, IsRun, IsStep}
+use Rattle.shop_model.specs.Books.{Books, Event, Caller, NoRoom, counted_one, caller_in, reply_in, after, run, last_books}
+use Rattle.shop_model.specs.Histories.{is_decided, is_store_failure, is_answer, outcome_of, counted_in, fails_for_good, has_failed, IsRun, IsStep}
 use Rattle.shop_model.proofs.CustodyLemmas.{and_parts}
 
 -- a decision's status is never the store's
@@ -48,13 +48,10 @@ decided_is (Sorry Usage) = refl
 decided_is (Done text) = refl
 decided_is (Shows shown) = refl
 
--- want of memory is no failure of the store
+-- want of memory or room is no failure of the store, and neither is a decision
 pub memory_is : outcome_of (problem_answer Memory) ≡ NoRoom
 unfolding escape_byte
 memory_is = refl
-
-memory_decided : is_decided (problem_answer Memory) ≡ false
-memory_decided = refl
 
 memory_answer : is_answer (problem_answer Memory) ≡ true
 unfolding escape_byte
@@ -64,6 +61,37 @@ memory_failure : is_store_failure (problem_answer Memory) ≡ false
 unfolding escape_byte
 memory_failure = refl
 
+size_answer : is_answer (problem_answer Size) ≡ true
+unfolding escape_byte
+size_answer = refl
+
+size_failure : is_store_failure (problem_answer Size) ≡ false
+unfolding escape_byte
+size_failure = refl
+
+failed_answer : is_answer (problem_answer StoreFailed) ≡ true
+unfolding escape_byte
+failed_answer = refl
+
+failed_failure : is_store_failure (problem_answer StoreFailed) ≡ true
+unfolding escape_byte
+failed_failure = refl
+
+abbrev IsRoom : Answer → Type 0
+IsRoom answer = (answer ≡ problem_answer Memory) ⊎ (answer ≡ problem_answer Size)
+
+room_answer : (answer : Answer) → IsRoom answer → is_answer answer ≡ true
+room_answer answer (inl is) = rw is memory_answer
+room_answer answer (inr is) = rw is size_answer
+
+room_failure : (answer : Answer) → IsRoom answer → is_store_failure answer ≡ false
+room_failure answer (inl is) = rw is memory_failure
+room_failure answer (inr is) = rw is size_failure
+
+room_decided : (answer : Answer) → IsRoom answer → is_decided answer ≡ false
+room_decided answer (inl is) = rw is refl
+room_decided answer (inr is) = rw is refl
+
 decided_failure : (answer : Answer) → is_decided answer ≡ true → is_store_failure answer ≡ false
 decided_failure answer is = elim (cases_Bool (answer.status == 503)) [
   | inl bad ↦ let no : false ≡ true = rw bad at is in absurd (apart no)
@@ -71,12 +99,6 @@ decided_failure answer is = elim (cases_Bool (answer.status == 503)) [
 ] where
   apart : false ≡ true → ⊥
   apart e = cc
-
--- a step never answers that the store failed
-pub step_sound : (rules : Rules) (look : OfficeAsk → Books → Reply) (caller : Caller) (request : Request) (answer : Answer) (old new : Books)
-    → IsStep rules look caller request answer old new → is_store_failure answer ≡ false
-step_sound rules look caller request answer old new (inl d) = rw d.reply (decided_failure (answer_of (reply_for rules look caller request old)) (decided_is (reply_for rules look caller request old)))
-step_sound rules look caller request answer old new (inr l) = rw l.reply memory_failure
 
 -- ---- one more
 
@@ -125,21 +147,96 @@ counted_more (e ∷ events) (a ∷ answers) event answer same fine =
     ap (λ (l : List Event). counted_one e (outcome_of a) l) (counted_more events answers event answer same' h.1)
     ∙ one_more e a (counted_in events answers) (one_counted event answer) h.0
 
+-- an event that doesn't count leaves the counted history
+counted_same : (events : List Event) (answers : List Answer) (event : Event) (answer : Answer) → length answers ≡ length events
+    → one_counted event answer ≡ [] → counted_in (events ++ event ∷ []) (answers ++ answer ∷ []) ≡ counted_in events answers
+counted_same [] [] event answer same none = none
+counted_same [] (a ∷ answers) event answer same none = absurd (omega arith)
+counted_same (e ∷ events) [] event answer same none = absurd (omega arith)
+counted_same (e ∷ events) (a ∷ answers) event answer same none =
+    let same' : length answers ≡ length events = omega arith in
+    ap (λ (l : List Event). counted_one e (outcome_of a) l) (counted_same events answers event answer same' none)
+
+-- ---- a store that failed
+
+none_failed : (answers : List Answer) → has_failed answers ≡ false → list_all (λ (a : Answer). not (is_store_failure a)) answers ≡ true
+none_failed [] h = refl
+none_failed (a ∷ answers) h = go (is_store_failure a) h (none_failed answers)
+  where
+    go : (b : Bool) → (b || has_failed answers) ≡ false → (has_failed answers ≡ false → list_all (λ (a : Answer). not (is_store_failure a)) answers ≡ true)
+        → (not b && list_all (λ (a : Answer). not (is_store_failure a)) answers) ≡ true
+    go true h more = let no : true ≡ false = h in cc
+    go false h more = more h
+
+pub failed_more : (answers : List Answer) (answer : Answer) → has_failed (answers ++ answer ∷ []) ≡ (has_failed answers || is_store_failure answer)
+failed_more [] answer = or_false (is_store_failure answer)
+  where
+    or_false : (b : Bool) → (b || false) ≡ b
+    or_false true = refl
+    or_false false = refl
+failed_more (a ∷ answers) answer = go (is_store_failure a) (failed_more answers answer)
+  where
+    go : (b : Bool) → has_failed (answers ++ answer ∷ []) ≡ (has_failed answers || is_store_failure answer) → (b || has_failed (answers ++ answer ∷ [])) ≡ ((b || has_failed answers) || is_store_failure answer)
+    go true more = refl
+    go false more = more
+
+all_more : (answers : List Answer) (answer : Answer) → list_all is_store_failure answers ≡ true → is_store_failure answer ≡ true → list_all is_store_failure (answers ++ answer ∷ []) ≡ true
+all_more answers answer all one = all_append is_store_failure answers (answer ∷ []) all (rw one refl)
+
+stays_more : (answers : List Answer) (answer : Answer) → fails_for_good answers ≡ true → (has_failed answers ≡ true → is_store_failure answer ≡ true) → fails_for_good (answers ++ answer ∷ []) ≡ true
+stays_more [] answer good later = go (is_store_failure answer)
+  where
+    go : (b : Bool) → (if b then true else true) ≡ true
+    go true = refl
+    go false = refl
+stays_more (a ∷ answers) answer good later = go (is_store_failure a) good later (stays_more answers answer)
+  where
+    go : (b : Bool) → (if b then list_all is_store_failure answers else fails_for_good answers) ≡ true → ((b || has_failed answers) ≡ true → is_store_failure answer ≡ true)
+        → (fails_for_good answers ≡ true → (has_failed answers ≡ true → is_store_failure answer ≡ true) → fails_for_good (answers ++ answer ∷ []) ≡ true)
+        → (if b then list_all is_store_failure (answers ++ answer ∷ []) else fails_for_good (answers ++ answer ∷ [])) ≡ true
+    go true good later more = all_more answers answer good (later refl)
+    go false good later more = more good later
+
+never_failed : (answers : List Answer) (answer : Answer) → (has_failed answers ≡ true → is_store_failure answer ≡ true) → is_store_failure answer ≡ false → has_failed answers ≡ false
+never_failed answers answer later isnt = elim (cases_Bool (has_failed answers)) [
+  | inl did ↦ let it = later did in let no : true ≡ false = sym it ∙ isnt in absurd (apart no)
+  | inr not ↦ not
+] where
+  apart : true ≡ false → ⊥
+  apart e = cc
+
+-- the run goes on by one event that isn't decided and leaves the books
+run_idle : (rules : Rules) (look : OfficeAsk → Books → Reply) (events : List Event) (answers : List Answer) (event : Event) (answer : Answer) (old mid new : Books)
+    → IsRun rules look events answers old mid → (has_failed answers ≡ true → is_store_failure answer ≡ true) → new ≡ mid → is_decided answer ≡ false → is_answer answer ≡ true
+    → one_counted event answer ≡ [] → IsRun rules look (events ++ event ∷ []) (answers ++ answer ∷ []) old new
+run_idle rules look events answers event answer old mid new r later same lacks is none =
+    let counts : counted_in (events ++ event ∷ []) (answers ++ answer ∷ []) ≡ counted_in events answers = counted_same events answers event answer r.each none in
+    record {
+      each = let a = length-append answers (answer ∷ []) in let b = length-append events (event ∷ []) in let e = r.each in omega arith;
+      answers_are = all_append is_answer answers (answer ∷ []) r.answers_are (rw is refl);
+      stays = stays_more answers answer r.stays later;
+      decisions = filter_append is_decided answers (answer ∷ []) ∙ rw lacks (append-nil (filter is_decided answers)) ∙ r.decisions
+          ∙ ap (λ (es : List Event). map (λ (it : Caller × Reply). answer_of it.1) (run rules look es old)) (sym counts);
+      books = same ∙ r.books ∙ ap (λ (es : List Event). last_books rules es old) (sym counts);
+    }
+
 -- the run goes on by one event, which was answered by a step
 pub run_more : (rules : Rules) (look : OfficeAsk → Books → Reply) (events : List Event) (answers : List Answer) (event : Event) (answer : Answer) (old mid new : Books)
-    → IsRun rules look events answers old mid → list_all (λ (a : Answer). not (is_store_failure a)) answers ≡ true
+    → IsRun rules look events answers old mid → (has_failed answers ≡ true → is_store_failure answer ≡ true)
     → IsStep rules look (caller_in event mid) (event.request (caller_in event mid)) answer mid new
     → IsRun rules look (events ++ event ∷ []) (answers ++ answer ∷ []) old new
-run_more rules look events answers event answer old mid new r fine (inl d) =
+run_more rules look events answers event answer old mid new r later (inl d) =
     let reply = reply_in rules look event mid in
     let decided : is_decided answer ≡ true = rw d.reply (decided_is reply) in
     let one : one_counted event answer ≡ event ∷ [] = rw decided refl in
+    let fine = none_failed answers (never_failed answers answer later (decided_failure answer decided)) in
     let counts : counted_in (events ++ event ∷ []) (answers ++ answer ∷ []) ≡ counted_in events answers ++ event ∷ [] =
     counted_more events answers event answer r.each fine ∙ ap (λ (l : List Event). counted_in events answers ++ l) one in
     let history = counted_in events answers in
     record {
       each = let a = length-append answers (answer ∷ []) in let b = length-append events (event ∷ []) in let e = r.each in omega arith;
       answers_are = all_append is_answer answers (answer ∷ []) r.answers_are (rw decided refl);
+      stays = stays_more answers answer r.stays later;
       decisions = filter_append is_decided answers (answer ∷ []) ∙ ap₂ (λ (xs ys : List Answer). xs ++ ys) r.decisions (rw decided (ap (λ (a : Answer). a ∷ []) d.reply))
           ∙ ap (λ (b : Books). map (λ (it : Caller × Reply). answer_of it.1) (run rules look history old) ++ answer_of (reply_in rules look event b) ∷ []) r.books
           ∙ sym (map_append (λ (it : Caller × Reply). answer_of it.1) (run rules look history old) (run rules look (event ∷ []) (last_books rules history old)))
@@ -147,20 +244,18 @@ run_more rules look events answers event answer old mid new r fine (inl d) =
           ∙ ap (λ (es : List Event). map (λ (it : Caller × Reply). answer_of it.1) (run rules look es old)) (sym counts);
       books = d.books ∙ ap (λ (b : Books). after rules event b) r.books ∙ sym (last_append rules history (event ∷ []) old) ∙ ap (λ (es : List Event). last_books rules es old) (sym counts);
     }
-run_more rules look events answers event answer old mid new r fine (inr l) =
-    let lacks : is_decided answer ≡ false = rw l.reply memory_decided in
-    let sound : is_store_failure answer ≡ false = rw l.reply memory_failure in
+run_more rules look events answers event answer old mid new r later (inr (inl l)) =
+    let lacks = room_decided answer l.reply in
+    let sound = room_failure answer l.reply in
     let one : one_counted event answer ≡ [] = rw (lacks, sound) refl in
-    let counts : counted_in (events ++ event ∷ []) (answers ++ answer ∷ []) ≡ counted_in events answers =
-    counted_more events answers event answer r.each fine ∙ ap (λ (l : List Event). counted_in events answers ++ l) one ∙ append-nil (counted_in events answers) in
-    record {
-      each = let a = length-append answers (answer ∷ []) in let b = length-append events (event ∷ []) in let e = r.each in omega arith;
-      answers_are = all_append is_answer answers (answer ∷ []) r.answers_are (rw l.reply (rw memory_answer refl));
-      decisions = filter_append is_decided answers (answer ∷ []) ∙ rw lacks (append-nil (filter is_decided answers)) ∙ r.decisions
-          ∙ ap (λ (es : List Event). map (λ (it : Caller × Reply). answer_of it.1) (run rules look es old)) (sym counts);
-      books = l.books ∙ r.books ∙ ap (λ (es : List Event). last_books rules es old) (sym counts);
-    }
+    run_idle rules look events answers event answer old mid new r later l.books lacks (room_answer answer l.reply) one
+run_more rules look events answers event answer old mid new r later (inr (inr f)) =
+    let lacks : is_decided answer ≡ false = rw f.reply refl in
+    let failed : is_store_failure answer ≡ true = rw f.reply failed_failure in
+    let is : is_answer answer ≡ true = rw f.reply failed_answer in
+    let one : one_counted event answer ≡ [] = rw (lacks, failed) refl in
+    run_idle rules look events answers event answer old mid new r later f.books lacks is one
 
 -- nothing is asked
 pub run_none : (rules : Rules) (look : OfficeAsk → Books → Reply) (books : Books) → IsRun rules look [] [] books books
-run_none rules look books = record { each = refl; answers_are = refl; decisions = refl; books = refl }
+run_none rules look books = record { each = refl; answers_are = refl; stays = refl; decisions = refl; books = refl }

@@ -14,6 +14,7 @@ pub mod Resent
 pub mod OfficeResent
 pub mod Histories
 pub mod Repeats
+pub mod Resends
 pub mod Callers
 pub mod RowScripts
 pub mod RowsOfFirstCustomers

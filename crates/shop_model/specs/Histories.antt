@@ -1,6 +1,6 @@
 -- What a chain really answered, against the run: a want of memory, room or store may stand in an answer's place.
 use Rattle.std.specs.Prelude.{◌≡◌, ◌⊎◌, ◌==◌, ◌&&◌, ◌||◌, Bool, true, not, if◌then◌else◌, List, [], ◌∷◌, length, map, filter}
-use Rattle.std.specs.List.{list_all}
+use Rattle.std.specs.List.{list_all, list_any}
 use Rattle.std.specs.Str.{bytes_eq}
 use Rattle.shop_model.specs.Values.{OfficeAsk, Rules}
 use Rattle.shop_model.specs.Refusals.{Memory, Size, StoreFailed}
@@ -31,10 +31,19 @@ with_outcomes (event ∷ events) (answer ∷ answers) = (event, outcome_of answe
 abbrev pub counted_in : List Event → List Answer → List Event
 counted_in events answers = counted (with_outcomes events answers)
 
+-- once the store has failed, it goes on to fail
+abbrev pub fails_for_good : List Answer → Bool
+fails_for_good [] = true
+fails_for_good (answer ∷ answers) = if is_store_failure answer then list_all is_store_failure answers else fails_for_good answers
+
+abbrev pub has_failed : List Answer → Bool
+has_failed answers = list_any is_store_failure answers
+
 -- one answer an event; the decisions among them are the replies of the run over the counted history, in order, and the books are those it leaves
 pub record IsRun (rules : Rules) (look : OfficeAsk → Books → Reply) (events : List Event) (answers : List Answer) (old new : Books) : Type 0 where
   pub each : length answers ≡ length events
   pub answers_are : list_all is_answer answers ≡ true
+  pub stays : fails_for_good answers ≡ true
   pub decisions : filter is_decided answers ≡ map (λ (it : Caller × Reply). answer_of it.1) (run rules look (counted_in events answers) old)
   pub books : new ≡ last_books rules (counted_in events answers) old
 
@@ -43,11 +52,16 @@ pub record Decides (rules : Rules) (look : OfficeAsk → Books → Reply) (calle
   pub reply : answer ≡ answer_of (reply_for rules look caller request old)
   pub books : new ≡ after_for rules caller request old
 
--- want of memory: the books are as they were
+-- want of memory or of room in the store: the books are as they were
 pub record LacksRoom (answer : Answer) (old new : Books) : Type 0 where
-  pub reply : answer ≡ problem_answer Memory
+  pub reply : (answer ≡ problem_answer Memory) ⊎ (answer ≡ problem_answer Size)
+  pub books : new ≡ old
+
+-- the store failed: nothing more is told of the books
+pub record Fails (answer : Answer) (old new : Books) : Type 0 where
+  pub reply : answer ≡ problem_answer StoreFailed
   pub books : new ≡ old
 
 -- what a chain may do at a request of that caller
 abbrev pub IsStep : Rules → (OfficeAsk → Books → Reply) → Caller → Request → Answer → Books → Books → Type 0
-IsStep rules look caller request answer old new = Decides rules look caller request answer old new ⊎ LacksRoom answer old new
+IsStep rules look caller request answer old new = Decides rules look caller request answer old new ⊎ (LacksRoom answer old new ⊎ Fails answer old new)

@@ -17,4 +17,5 @@ pub mod Answers
 pub mod Opening
 pub mod Histories
 pub mod Repeats
+pub mod Resends
 pub mod Laws

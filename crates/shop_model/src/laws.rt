@@ -1,5 +1,6 @@
 //! Laws, each on a function with nothing to do.
 
+ghost use Rattle.shop_model.specs.Resends.{RunsResend};
 ghost use Rattle.shop_model.specs.Laws.{
   BranchesAreAlone,
   BranchesAreIsolated,
@@ -85,4 +86,10 @@ pub fn office_resent_is_again()
 #[tactic(auto, using(crate::proofs::Repeats::without_repeats))]
 pub fn repeats_change_nothing()
     ensures { RepeatsChangeNothing }
+{}
+
+/// In what a chain answers, a command that comes again gets its first reply's bytes and changes nothing.
+#[tactic(auto, using(crate::proofs::Resends::runs_resend))]
+pub fn runs_resend()
+    ensures { RunsResend }
 {}
