@@ -1,5 +1,5 @@
 -- The version of a database of which only the first table is known.
-use Rattle.std.proofs.Common.{◌≡◌, ◌≢◌, ◌<◌, ℕ, pos, negsuc, List, [], ◌∷◌, codes, refl, map, cond, true, length, get_or, ap, sym, subst, ◌∙◌, arith}
+use Rattle.std.proofs.Common.{◌≡◌, ◌≢◌, ◌<◌, ℕ, pos, negsuc, List, [], ◌∷◌, codes, refl, map, cond, true, length, get_or, ap, sym, subst, ◌∙◌, arith, Ok, Err, Result, IfOk}
 use Rattle.std.specs.List.{flat_map}
 use Rattle.std.specs.List.Sorted.{IsPermutation}
 use Rattle.std.proofs.lemmas.List.Sorted.{IsPermutation-map, IsPermutation-sym, length_permutation}
@@ -46,6 +46,11 @@ reads (table ∷ more) i v old new found has first h =
     let kept : map (λ (o : Output). o.1) a.kept ≡ map (columns_of 1) (old.now.trees 0) =
     ap (λ (k : List Output). map (λ (o : Output). o.1) k) (a.distinct ∙ ap (map (output q)) a.grouped) ∙ matching (old.now.trees 0) in
     subst (λ l. IsPermutation l found) kept (subst (IsPermutation (map (λ (o : Output). o.1) a.kept)) (sym a.shown) all)
+
+pub read_if : {R E : Type 0} (items : R → List Row) (r : Result R E) (old new : State) → IfOk r (λ rows. Shown version_text [] old new (items rows)) → begins_so old.now.schema.tables
+    → IfOk r (λ rows. IsPermutation (map (columns_of 1) (old.now.trees 0)) (items rows))
+read_if items (Ok rows) old new shown has = reads old.now.schema.tables old.now.schema.indexes old.now.schema.views old new (items rows) refl has shown
+read_if items (Err e) old new shown has = tt
 
 pub first_is : (tables others : List Table) → others ≡ shop_schema.tables → (HaveFirst tables others → begins_so tables) × (begins_so tables → HaveFirst tables others)
 first_is [] others is = (λ h. h, λ h. h)

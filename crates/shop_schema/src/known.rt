@@ -4,7 +4,8 @@ ghost use Rattle.std.specs.Prelude.{◌≡◌, ◌↔◌, IsTrue, IfOk, map};
 ghost use Rattle.std.specs.List.Sorted.{IsPermutation};
 ghost use Rattle.sqlite.specs.Held.{state};
 ghost use Rattle.sqlite.specs.Steps.{over_memory};
-ghost use Rattle.sqlite.specs.State.{HasCleanDisk, Survives};
+ghost use Rattle.sqlite.specs.State.{HasCleanDisk};
+ghost use Rattle.sql_rows.specs.Calls.{StaysInside};
 ghost use Rattle.sql_rows.specs.Rows.{columns_of};
 ghost use Rattle.shop_schema.specs.Tables.{shop_schema};
 ghost use Rattle.shop_schema.specs.Shop.{HasVersion};
@@ -12,7 +13,7 @@ ghost use Rattle.shop_schema.specs.Versions.{version_of};
 
 use crate::create::create_shop;
 use same_schema::{same_first, same_schema};
-use sql_rows::{StoreFault, fault_of, number_at};
+use sql_rows::{StoreFault, number_at, query};
 use sqlite::{Alter, Connection, MemStore, Row, Transaction};
 use sqlite_schema::schema::Schema;
 use std::alloc::Global;
@@ -48,12 +49,9 @@ pub fn has_version(alloc: Global, schema: &Schema) -> Result<bool, StoreFault>
 fn versions<S: Alter>(tx: &mut Transaction<'_, S>) -> Result<Vec<Row>, StoreFault>
     ensures same_reference { tx.new.conn.ghost_name ≡ tx.old.conn.ghost_name }
     ensures read { HasCleanDisk (state S.Store tx.new.conn.now) → HasVersion (state S.Store tx.old.conn.now).now.schema → IfOk result (λ rows. IsPermutation (map (columns_of 1) ((state S.Store tx.old.conn.now).now.trees 0)) rows.items) }
-    ensures survives { Survives (state S.Store tx.old.conn.now) (state S.Store tx.new.conn.now) (λ _. ⊥) }
+    ensures inside { StaysInside (state S.Store tx.old.conn.now) (state S.Store tx.new.conn.now) result }
 {
-    match tx.query_all("SELECT version FROM chain", &[]) {
-        Ok(rows) => Ok(rows),
-        Err(error) => Err(fault_of(error)),
-    }
+    query(tx, "SELECT version FROM chain", &[])
 }
 
 /// Which version the tables of a chain are of.
@@ -86,7 +84,7 @@ fn told_by(rows: &[Row]) -> Result<KnownVersion, StoreFault>
 pub fn version<S: Alter>(tx: &mut Transaction<'_, S>) -> Result<KnownVersion, StoreFault>
     ensures same_reference { tx.new.conn.ghost_name ≡ tx.old.conn.ghost_name }
     ensures read { HasCleanDisk (state S.Store tx.new.conn.now) → HasVersion (state S.Store tx.old.conn.now).now.schema → IfOk result (λ it. it ≡ version_of (map (columns_of 1) ((state S.Store tx.old.conn.now).now.trees 0))) }
-    ensures survives { Survives (state S.Store tx.old.conn.now) (state S.Store tx.new.conn.now) (λ _. ⊥) }
+    ensures inside { StaysInside (state S.Store tx.old.conn.now) (state S.Store tx.new.conn.now) result }
 {
     let rows = versions(tx)?;
     told_by(rows.as_slice())

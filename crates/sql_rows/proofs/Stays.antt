@@ -3,7 +3,7 @@ use Rattle.std.proofs.Common.{arith, ◌≡◌, true, false, Ok, Err, Result, �
 use Rattle.sqlite.specs.State.{State, HasCleanDisk, Shows, Survives}
 use Rattle.sqlite.proofs.StateLemmas.{survives_then}
 use Rattle.sql_rows.specs.Calls.{StaysInside, StaysWithin}
-use Rattle.std.specs.Prelude.{IsOk}
+use Rattle.std.specs.Prelude.{IsOk, IsErr}
 use Rattle.sql_rows.proofs.Inside.{keeps_then, on_ok, on_ok_then, survives_nothing}
 
 apart : false ≡ true → ⊥
@@ -68,3 +68,8 @@ pub inside_as : {X E Y F : Type 0} (a b : State) (r : Result X E) (s : Result Y 
 inside_as a b (Ok x) s h ok = record { survives = h.survives; kept = h.kept; lives = λ clean inside. on_ok s (h.lives clean inside) }
 inside_as a b (Err e) (Ok y) h ok = absurd (apart (ok refl))
 inside_as a b (Err e) (Err f) h ok = record { survives = h.survives; kept = h.kept; lives = λ clean inside. tt }
+
+-- the same calls, and then an error
+pub within_err : {X E Y F : Type 0} (a b : State) (r : Result X E) (s : Result Y F) → StaysWithin a b r → IsErr s → StaysWithin a b s
+within_err a b r (Ok y) h err = absurd (apart err)
+within_err a b r (Err f) h err = record { survives = h.survives; kept = h.kept; mode = λ clean inside. tt; lives = λ clean inside live. tt }
