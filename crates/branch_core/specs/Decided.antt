@@ -1,5 +1,5 @@
 -- What a decision says of the verdict, and which rows an accepted command adds.
-use Rattle.std.specs.Prelude.{◌≡◌, ⊤, ℕ, ◌+◌, true, [], ◌∷◌, ◌++◌, length, Option, option_map, Some, None, Result, Ok, Err}
+use Rattle.std.specs.Prelude.{◌≡◌, ⊤, ℕ, ◌+◌, ◌≤◌, true, [], ◌∷◌, ◌++◌, length, Option, option_map, Some, None, Result, Ok, Err}
 use Rattle.shop_model.specs.Values.{Text, Person, Act, AddCustomer, Import, Command, Rules}
 use Rattle.shop_model.specs.Refusals as named
 use Rattle.shop_model.specs.Shop.{Catalogue, Shop}
@@ -49,6 +49,15 @@ verdict_by (Some refusal) = option_map Refused (decided (seen_refusal refusal))
 abbrev pub TakesMemory : Act → Type 0
 TakesMemory (AddCustomer person) = ⊤
 TakesMemory act = ⊥
+
+-- a branch has a million copies at most, so that no number of a new one wraps
+abbrev pub AreWithin : Rows → Type 0
+AreWithin (rows.Customer number customer) = ⊤
+AreWithin (rows.Import first count) = first ≤ 1_000_001
+
+abbrev pub IsChangeWithin : Change → Type 0
+IsChangeWithin (change.Again reply) = ⊤
+IsChangeWithin (change.Rows it) = AreWithin it
 
 -- a refusal is the verdict's, or there is no memory left for the rows of an accepted command; a decision knows of no other problem
 abbrev pub IsRefused : Verdict → Act → named.Problem → Type 0

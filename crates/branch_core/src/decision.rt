@@ -10,7 +10,7 @@ ghost use Rattle.shop_model.specs.Verdict.{first, refusals, act_refusals, is_bef
 ghost use Rattle.shop_model.specs.Books.{head};
 ghost use Rattle.shop_types.specs.Seen.{seen_act, seen_command};
 ghost use Rattle.branch_core.specs.Agreed.{Agrees, ActAgrees, IsFoundFor, IsWithin, seen_staff, post_of};
-ghost use Rattle.branch_core.specs.Decided.{IsDecided, Adds, TakesMemory, verdict_by};
+ghost use Rattle.branch_core.specs.Decided.{IsDecided, Adds, TakesMemory, AreWithin, IsChangeWithin, verdict_by};
 
 use crate::stock::{new_copies, stock_refusal};
 use crate::{ActFound, Change, Found, Rows, StaffFound};
@@ -28,8 +28,9 @@ pub fn decide<'a>(
 ) -> Result<Change<'a>, Refusal>
     requires act { IsFoundFor command.now.act found.now.act }
     requires within { IsWithin found.now.act }
-    ensures { (rules : model.Rules) (catalogue : Catalogue) (shop : Shop) → rules.commands ≡ limits.commands → rules.copies ≡ limits.copies
+    ensures decided { (rules : model.Rules) (catalogue : Catalogue) (shop : Shop) → rules.commands ≡ limits.commands → rules.copies ≡ limits.copies
         → Agrees rules catalogue shop (seen_command command.now) found.now → IsDecided rules branch catalogue shop (seen_command command.now) result }
+    ensures within { IfOk result IsChangeWithin }
 {
     match found.kept {
         Some(kept) => {
@@ -129,6 +130,7 @@ fn new_rows(command: &Command, act: &ActFound) -> Result<Rows, NoMemory>
     ensures added { (rules : model.Rules) (catalogue : Catalogue) (shop : Shop) → ActAgrees rules catalogue shop (seen_act command.now.act) act.now
         → IfOk result (λ rows. Adds rules (seen_command command.now) (seen_act command.now.act) shop rows) }
     ensures memory { OnErr result (TakesMemory (seen_act command.now.act)) }
+    ensures bound { IfOk result AreWithin }
 {
     match (&command.act, act) {
         (Act::Customer(person), ActFound::Customer { customers, .. }) => Ok(Rows::Customer {
