@@ -1,0 +1,73 @@
+-- What is found under a key, by the stored form of the command and by the command itself.
+use Rattle.std.proofs.Common.{◌≡◌, ◌∙◌, refl, sym, ap, ℕ, Bool, true, false, true≢false, List, [], ◌∷◌, map, filter, cond, Option, Some, None, IsTrue, option_map, Bor}
+use Rattle.std.specs.Prelude.{◌==◌}
+use Rattle.std.specs.Option.{option_copied}
+use Rattle.std.specs.List.{AllByRecursion}
+use Rattle.std.specs.Str.{bytes_eq}
+use Rattle.std.proofs.lemmas.Slice.Eq.{bytes_eq-Decides}
+use Rattle.shop_model.specs.Calendar.{IsMoment}
+use Rattle.shop_model.specs.Rows.{Owned, owned_by}
+use Rattle.shop_model.specs.Values.{Text, Command}
+use Rattle.shop_model.specs.Shop.{Kept, same_command}
+use Rattle.shop_model.specs.Books.{head}
+use Rattle.shop_schema.specs.Forms.{command_form}
+use Rattle.shop_schema.specs.RowValues.{IsKept}
+use Rattle.shop_schema.proofs.OneToOne.{forms_are_one_to_one}
+use Rattle.shop_store.specs.declared.kept.KeptRow.{KeptRow}
+use Rattle.shop_store.specs.Seen.{seen_kept, stored_kept}
+use Rattle.branch_core.specs.Agreed.{kept_for}
+use Rattle.branch_work.specs.Finds.{by_form}
+
+IsReal : Kept → Type 0
+IsReal kept = IsMoment kept.command.moment
+
+owned_real : (b : ℕ) (rows : List (Owned Kept)) → AllByRecursion IsKept rows → AllByRecursion IsReal (owned_by b rows)
+unfolding IsReal
+owned_real b [] all = tt
+owned_real b (row ∷ rows) all = go (row.owner == b) (owned_real b rows all.1)
+  where
+    go : (t : Bool) → AllByRecursion (λ (k : Kept). IsMoment k.command.moment) (map (λ (r : Owned Kept). r.it) (filter (λ r. r.owner == b) rows))
+        → AllByRecursion (λ (k : Kept). IsMoment k.command.moment) (map (λ (r : Owned Kept). r.it) (cond t (row ∷ filter (λ r. r.owner == b) rows) (filter (λ r. r.owner == b) rows)))
+    go true more = (all.0.1.moment, more)
+    go false more = more
+
+same_truth : (s t : Bool) → (s ≡ true → t ≡ true) → (t ≡ true → s ≡ true) → s ≡ t
+same_truth true true f h = refl
+same_truth true false f h = sym (f refl)
+same_truth false true f h = h refl
+same_truth false false f h = refl
+
+-- under one key, the stored forms are the same exactly where the commands are
+one_told : (command : Command) (form : List ℕ) (kept : Kept) → form ≡ command_form command → IsMoment command.moment → IsReal kept → bytes_eq kept.command.key command.key ≡ true
+    → by_form form (stored_kept kept) ≡ kept_for command kept
+unfolding IsReal
+one_told command form kept is real moment key =
+    let one = forms_are_one_to_one kept.command command moment real ((bytes_eq-Decides kept.command.key command.key).0 key) in
+    let bytes = bytes_eq-Decides (command_form kept.command) (command_form command) in
+    let same : bytes_eq (command_form kept.command) (command_form command) ≡ same_command kept.command command =
+    same_truth _ _ (λ h. one.0 (bytes.0 h)) (λ h. bytes.1 (one.1 h)) in
+    (λ i. (bytes_eq (command_form kept.command) (is i), kept.reply)) ∙ (λ i. (same i, kept.reply))
+
+first_told : (command : Command) (form : List ℕ) (kepts : List Kept) → form ≡ command_form command → IsMoment command.moment → AllByRecursion IsReal kepts
+    → option_map (by_form form) (head (map stored_kept (filter (λ (k : Kept). bytes_eq k.command.key command.key) kepts)))
+    ≡ head (map (kept_for command) (filter (λ (k : Kept). bytes_eq k.command.key command.key) kepts))
+first_told command form [] is real all = refl
+first_told command form (kept ∷ kepts) is real all = go (bytes_eq kept.command.key command.key) refl (first_told command form kepts is real all.1)
+  where
+    under : List Kept
+    under = filter (λ (k : Kept). bytes_eq k.command.key command.key) kepts
+
+    go : (t : Bool) → bytes_eq kept.command.key command.key ≡ t → option_map (by_form form) (head (map stored_kept under)) ≡ head (map (kept_for command) under)
+        → option_map (by_form form) (head (map stored_kept (cond t (kept ∷ under) under))) ≡ head (map (kept_for command) (cond t (kept ∷ under) under))
+    go true key more = ap Some (one_told command form kept is real all.0 key)
+    go false key more = more
+
+pub kept_told : (b : ℕ) (command : Command) (form : List ℕ) (found : Option (List ℕ × List ℕ)) (rows : List (Owned Kept)) → form ≡ command_form command → IsMoment command.moment → AllByRecursion IsKept rows
+    → found ≡ head (map stored_kept (filter (λ (k : Kept). bytes_eq k.command.key command.key) (owned_by b rows)))
+    → option_map (by_form form) found ≡ head (map (kept_for command) (filter (λ (k : Kept). bytes_eq k.command.key command.key) (owned_by b rows)))
+kept_told b command form found rows is real all told = ap (λ (o : Option (List ℕ × List ℕ)). option_map (by_form form) o) told ∙ first_told command form (owned_by b rows) is real (owned_real b rows all)
+
+-- the row that is looked at and the row itself
+pub copied_told : (form : List ℕ) (o : Option (Bor KeptRow)) → option_map (λ (row : Bor KeptRow). by_form form (seen_kept row.now)) o ≡ option_map (by_form form) (option_map seen_kept (option_copied o))
+copied_told form None = refl
+copied_told form (Some row) = refl

@@ -1,0 +1,24 @@
+use Rattle.std.proofs.Common.{sym, subst, IfOk}
+use Rattle.sqlite.specs.Held.{state}
+use Rattle.std.proofs.lemmas.Result.{IfOk-weaker}
+use Rattle.shop_values.specs.LimitValues.{Limits}
+use Rattle.shop_model.specs.Books.{Books, shop_of}
+use Rattle.shop_types.specs.declared.command.Act.{Act}
+use Rattle.shop_types.specs.Seen.{seen_act}
+use Rattle.branch_core.specs.Agreed.{ActAgrees}
+use Rattle.branch_core.specs.declared.found.ActFound.{ActFound}
+use Rattle.branch_work.specs.Rules.{rules_of}
+use Rattle.branch_work.proofs.Readings.{reads_as}
+use Rattle.branch_work.proofs.finding.find_act.Goals as goal
+
+pub returns-in-Customer-clause-found : goal.returns-in-Customer-clause-found
+returns-in-Customer-clause-found g c = λ clean.
+    let P : Act → ActFound → Books → Type 0 = λ it found books. (limits : Limits) → ActAgrees (rules_of limits) books.catalogue (shop_of c.args.branch books) (seen_act it) found in
+    IfOk-weaker c.find_customer.result _ _ (λ found reads. reads_as (state g.S.Store c.args.tx.now.conn.now) (state g.S.Store c.find_customer.new.tx.conn.now) _ _
+    (λ books held is. subst (λ (it : Act). P it found books) (sym c.in-Customer.is) is) reads) (c.find_customer.ensures.found clean)
+
+pub returns-in-Import-clause-found : goal.returns-in-Import-clause-found
+returns-in-Import-clause-found g c = λ clean.
+    let P : Act → ActFound → Books → Type 0 = λ it found books. (limits : Limits) → ActAgrees (rules_of limits) books.catalogue (shop_of c.args.branch books) (seen_act it) found in
+    IfOk-weaker c.find_import.result _ _ (λ found reads. reads_as (state g.S.Store c.args.tx.now.conn.now) (state g.S.Store c.find_import.new.tx.conn.now) _ _
+    (λ books held is. subst (λ (it : Act). P it found books) (sym c.in-Import.is) is) reads) (c.find_import.ensures.found clean)

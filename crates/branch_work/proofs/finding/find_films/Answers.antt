@@ -1,0 +1,33 @@
+use Rattle.std.proofs.Common.{◌≡◌, ◌∙◌, ◌++◌, ◌∷◌, [], Ok, refl, ap, arith, map, List}
+use Rattle.std.proofs.lemmas.List.{take_all}
+use Rattle.sqlite.specs.Held.{state}
+use Rattle.sqlite.specs.State.{HasCleanDisk}
+use Rattle.sql_rows.proofs.Stays.{within_of, within_as, within_then}
+use Rattle.stock_csv.specs.declared.StockRow.{StockRow}
+use Rattle.branch_core.specs.declared.found.StockFound.{StockFound}
+use Rattle.branch_work.specs.Finds.{as_listed, found_row, told_row}
+use Rattle.branch_work.proofs.Readings.{reads_then, reads_as, row_found, row_listed}
+use Rattle.branch_work.proofs.finding.find_films.Goals as goal
+
+pub loop-row-preserved : goal.loop-row-preserved
+loop-row-preserved g c =
+    let s0 = state g.S.Store c.args.tx.now.conn.now in
+    let s1 = state g.S.Store c.loop-row.tx.conn.now in
+    let s2 = state g.S.Store c.film_at.new.tx.conn.now in
+    let rows = c.args.rows.now in
+    let inv = c.loop-row.invariant in
+    let told = c.in_ok-withdrawn.ensures in
+    let pushed : c.push.new.self.items ≡ c.loop-row.found.items ++ told_row c.row-item.result c.in_ok-withdrawn.withdrawn ∷ [] = c.in-Ok.ensures.items ∙ ap (λ (r : StockFound). c.loop-row.found.items ++ r ∷ []) c.told_row.ensures in (
+      told.same_reference ∙ inv.0,
+      within_then s0 s1 s2 _ (Ok tt) refl inv.1 (within_as s1 s2 _ (Ok tt) (within_of s1 s2 (Ok c.in_ok-withdrawn.withdrawn) told.inside) (λ ok. refl)),
+      (λ clean.
+          let before : HasCleanDisk s1 = omega (arith, clean, told.inside.survives.clean) in
+          reads_as s0 s2 _ _ (λ books held is. pushed ∙ row_found books.catalogue rows c.loop-row.row-index c.row-item.result c.loop-row.found.items c.in_ok-withdrawn.withdrawn c.loop-row-test.true c.row-item.is is.1 is.0)
+          (reads_then s0 s1 s2 _ _ (inv.2 before) (told.found clean))),
+      ap (map as_listed) pushed ∙ row_listed rows c.loop-row.row-index c.row-item.result c.loop-row.found.items c.in_ok-withdrawn.withdrawn c.loop-row-test.true c.row-item.is inv.3,
+    )
+
+pub returns-clause-found : goal.returns-clause-found
+returns-clause-found g c = λ clean.
+    reads_as (state g.S.Store c.args.tx.now.conn.now) (state g.S.Store c.loop-row.tx.conn.now) _ _
+    (λ books held is. is ∙ ap (λ (rs : List StockRow). map (found_row books.catalogue) rs) (take_all c.loop-row.row-index c.args.rows.now c.loop-row-test.false)) (c.loop-row.invariant.2 clean)

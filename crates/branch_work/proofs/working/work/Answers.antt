@@ -1,0 +1,39 @@
+use Rattle.std.proofs.Common.{◌≡◌, ◌∙◌, refl, sym, ap, subst, false, arith}
+use Rattle.sqlite.specs.Held.{state}
+use Rattle.sqlite.specs.State.{HasCleanDisk}
+use Rattle.std.proofs.lemmas.Result.{IfOk-weaker}
+use Rattle.shop_types.specs.declared.request.Request.{Request}
+use Rattle.shop_model.specs.Values as model
+use Rattle.shop_types.specs.Seen.{seen_request}
+use Rattle.shop_model.specs.Machine.{Look}
+use Rattle.shop_types.specs.Replies.{seen_reply}
+use Rattle.branch_work.specs.Works.{IsDone}
+use Rattle.branch_work.proofs.Doing.{nobody_done, is_there, isnt_there}
+use Rattle.branch_work.proofs.working.work.Goals as goal
+
+pub returns-in_default-clause-works : goal.returns-in_default-clause-works
+returns-in_default-clause-works g c = λ clean books holds held.
+    let found = c.in_ok-last.ensures.found clean books holds held in
+    nobody_done c.args.limits c.args.branch books _ _ _ (isnt_there _ _ (sym c.in_default.is ∙ found.1)) c.refused.ensures found.0
+
+pub returns-in-Do-clause-works : goal.returns-in-Do-clause-works
+returns-in-Do-clause-works g c = λ clean.
+    let s1 = state g.S.Store c.last_at.new.tx.conn.now in
+    let s2 = state g.S.Store c.act.new.tx.conn.now in
+    let before : HasCleanDisk s1 = omega (arith, clean, c.act.ensures.inside.survives.clean) in
+    IfOk-weaker c.act.result _ _ (λ done works. λ books holds held.
+    let found = c.in_ok-last.ensures.found before books holds held in
+    let there = is_there _ _ _ (sym c.in-Some.is ∙ found.1) in
+    let P : Request → Type 0 = λ it. IsDone c.args.limits c.args.branch (seen_request it) (seen_reply done.0) done.1 s2 books in
+    subst P (sym c.in-Do.is) (works books found.0 held there.0 there.1)) (c.act.ensures.works clean)
+
+pub returns-in_ok-look-in-Look-clause-works : goal.returns-in_ok-look-in-Look-clause-works
+returns-in_ok-look-in-Look-clause-works g c = λ clean books holds held.
+    let s1 = state g.S.Store c.last_at.new.tx.conn.now in
+    let s2 = state g.S.Store c.look.new.tx.conn.now in
+    let before : HasCleanDisk s1 = omega (arith, clean, c.look.ensures.inside.survives.clean) in
+    let found = c.in_ok-last.ensures.found before books holds held in
+    let there = is_there _ _ _ (sym c.in-Some.is ∙ found.1) in
+    let P : Request → Type 0 = λ it. IsDone c.args.limits c.args.branch (seen_request it) (seen_reply c.in_ok-look-in-Look.field-0) false s2 books in
+    let Q : model.Ask → Type 0 = λ ask. IsDone c.args.limits c.args.branch (Look ask) (seen_reply c.in_ok-look-in-Look.field-0) false s2 books in
+    subst P (sym c.in-Look.is) (subst Q (sym c.customer_of.ensures) (c.in_ok-look-in-Look.ensures.works clean c.args.limits books found.0 held there.0 tt))

@@ -1,0 +1,4 @@
+pub mod Rules
+pub mod Finds
+pub mod NewRows
+pub mod Works

@@ -1,0 +1,8 @@
+-- The rules of a chain with these limits.
+use Rattle.shop_values.specs.LimitValues.{Limits}
+use Rattle.shop_model.specs.Values.{Rules}
+use Rattle.stock_csv.specs.Stock.{stock_of}
+
+-- the limits, and what stock files say
+abbrev pub rules_of : Limits → Rules
+rules_of limits = record { commands = limits.commands; copies = limits.copies; stock_of = stock_of }

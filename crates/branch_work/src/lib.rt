@@ -1,0 +1,9 @@
+//! What a branch's request does inside one transaction: it finds the rows that the request names, decides, and writes what that changes.
+#![tactic(auto)]
+
+mod finding;
+mod new_rows;
+mod working;
+mod writing;
+
+pub use working::work;

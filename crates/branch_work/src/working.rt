@@ -1,0 +1,170 @@
+//! A branch's request inside one transaction.
+
+ghost use Rattle.std.specs.Prelude.{◌≡◌, false, Some, None, IfOk};
+ghost use Rattle.sqlite.specs.Held.{state};
+ghost use Rattle.sqlite.specs.State.{HasCleanDisk};
+ghost use Rattle.sql_rows.specs.Calls.{StaysInside, StaysWithin};
+ghost use Rattle.shop_model.specs.Calendar.{IsMoment};
+ghost use Rattle.shop_model.specs.Rows.{lacks, owned_by};
+ghost use Rattle.shop_model.specs.Values as model;
+ghost use Rattle.shop_model.specs.Values.{OneCustomer};
+ghost use Rattle.shop_model.specs.Refusals as named;
+ghost use Rattle.shop_model.specs.Verdict.{Verdict, Refused, Accepted, verdict};
+ghost use Rattle.shop_model.specs.Machine.{Do, Look, Sorry};
+ghost use Rattle.shop_model.specs.Answers.{answer_of};
+ghost use Rattle.shop_model.specs.Books.{head, shop_of};
+ghost use Rattle.shop_types.specs.Seen.{seen_act, seen_ask, seen_command, seen_refusal, seen_request};
+ghost use Rattle.shop_types.specs.Replies.{seen_reply};
+ghost use Rattle.shop_schema.specs.Forms.{command_form};
+ghost use Rattle.branch_core.specs.Agreed.{ActAgrees, IsWithin};
+ghost use Rattle.branch_core.specs.Decided.{Adds, AreWithin, IsRefused};
+ghost use Rattle.branch_work.specs.Rules.{rules_of};
+ghost use Rattle.branch_work.specs.Works.{IsDone, Works, WorksFor, IsAdded};
+
+use crate::finding::{find, kept_found};
+use crate::new_rows::new_rows;
+use crate::writing::write;
+use branch_core::{ActFound, Change, Rows, decide};
+use reply_bodies::customer_text;
+use shop_schema::{command_form, command_values};
+use shop_store::{customer_at, kept_at, last_at};
+use shop_types::{Ask, BranchNo, Command, CustomerNo, Limits, Moment, Refusal, Reply, Request};
+use sql_rows::{Bytes, StoreFault};
+use sqlite::{Alter, Transaction};
+use std::alloc::Global;
+
+/// Answers a branch's request, and tells whether there is anything to commit.
+pub fn work<S: Alter>(
+    alloc: Global,
+    tx: &mut Transaction<'_, S>,
+    limits: Limits,
+    branch: BranchNo,
+    request: &Request,
+) -> Result<(Reply, bool), StoreFault>
+    ensures same_reference { tx.new.conn.ghost_name ≡ tx.old.conn.ghost_name }
+    ensures inside { StaysInside (state S.Store tx.old.conn.now) (state S.Store tx.new.conn.now) result }
+    ensures works { HasCleanDisk (state S.Store tx.new.conn.now) → IfOk result (λ done. Works limits branch (seen_request request.now) (seen_reply done.0) done.1 (state S.Store tx.old.conn.now) (state S.Store tx.new.conn.now)) }
+{
+    let Some(last) = last_at(tx, branch)? else {
+        return Ok((Reply::refused(Refusal::NoCounter), false));
+    };
+    match request {
+        Request::Do(command) => act(alloc, tx, limits, branch, last, command),
+        Request::Look(ask) => Ok((look(alloc, tx, branch, customer_of(*ask))?, false)),
+    }
+}
+
+/// The customer whom a reading asks for.
+fn customer_of(ask: Ask) -> CustomerNo
+    ensures { seen_ask ask ≡ OneCustomer result }
+{
+    let Ask::Customer(number) = ask;
+    number
+}
+
+/// Tells of a customer of a branch that is there.
+fn look<S: Alter>(
+    alloc: Global,
+    tx: &mut Transaction<'_, S>,
+    branch: BranchNo,
+    number: CustomerNo,
+) -> Result<Reply, StoreFault>
+    ensures same_reference { tx.new.conn.ghost_name ≡ tx.old.conn.ghost_name }
+    ensures inside { StaysWithin (state S.Store tx.old.conn.now) (state S.Store tx.new.conn.now) result }
+    ensures works { HasCleanDisk (state S.Store tx.new.conn.now) → IfOk result (λ reply. (limits : _) → WorksFor limits branch None (Look (OneCustomer number)) (seen_reply reply) false (state S.Store tx.old.conn.now) (state S.Store tx.new.conn.now)) }
+{
+    match customer_at(tx, branch, number)? {
+        Some(row) => match customer_text(alloc, number, &row.customer) {
+            Ok(text) => Ok(Reply::accepted(text)),
+            Err(_) => Err(StoreFault::Memory),
+        },
+        None => Ok(Reply::refused(Refusal::NoCustomer)),
+    }
+}
+
+/// Answers a command of a branch that is there, whose last moment is known.
+fn act<S: Alter>(
+    alloc: Global,
+    tx: &mut Transaction<'_, S>,
+    limits: Limits,
+    branch: BranchNo,
+    last: Option<Moment>,
+    command: &Command,
+) -> Result<(Reply, bool), StoreFault>
+    ensures same_reference { tx.new.conn.ghost_name ≡ tx.old.conn.ghost_name }
+    ensures inside { StaysWithin (state S.Store tx.old.conn.now) (state S.Store tx.new.conn.now) result }
+    ensures works { HasCleanDisk (state S.Store tx.new.conn.now) → IfOk result (λ done. WorksFor limits branch (Some last) (Do (seen_command command.now)) (seen_reply done.0) done.1 (state S.Store tx.old.conn.now) (state S.Store tx.new.conn.now)) }
+{
+    let form = form_of(alloc, command)?;
+    let kept = kept_at(tx, branch, &command.key)?;
+    let found = find(
+        alloc,
+        tx,
+        branch,
+        command,
+        last,
+        kept_found(kept.as_ref(), &form),
+    )?;
+    match decide(branch, command, &found, limits) {
+        Ok(Change::Again(reply)) => match String::from_str(alloc, reply) {
+            Ok(text) => Ok((Reply::accepted(text), false)),
+            Err(_) => Err(StoreFault::Memory),
+        },
+        Ok(Change::Rows(rows)) => {
+            let reply = add(alloc, tx, branch, command, &form, rows, &found.act)?;
+            Ok((reply, true))
+        }
+        Err(refusal) => Ok((refuse(alloc, refusal)?, false)),
+    }
+}
+
+/// The stored form of a command, whose moment is a real one.
+fn form_of(alloc: Global, command: &Command) -> Result<Bytes, StoreFault>
+    ensures form { IfOk result (λ form. form ≡ command_form (seen_command command.now)) }
+    ensures moment { IsMoment command.now.at }
+{
+    command_values(command);
+    match command_form(alloc, command) {
+        Ok(form) => Ok(form),
+        Err(_) => Err(StoreFault::Memory),
+    }
+}
+
+/// Writes the rows of an accepted command, and gives its reply.
+fn add<S: Alter>(
+    alloc: Global,
+    tx: &mut Transaction<'_, S>,
+    branch: BranchNo,
+    command: &Command,
+    form: &Bytes,
+    rows: Rows,
+    act: &ActFound,
+) -> Result<Reply, StoreFault>
+    requires form { form.now ≡ command_form (seen_command command.now) }
+    requires first { AreWithin rows }
+    requires within { IsWithin act.now }
+    ensures same_reference { tx.new.conn.ghost_name ≡ tx.old.conn.ghost_name }
+    ensures inside { StaysWithin (state S.Store tx.old.conn.now) (state S.Store tx.new.conn.now) result }
+    ensures added { HasCleanDisk (state S.Store tx.new.conn.now) → IfOk result (λ reply. (limits : _) → IsAdded limits branch (seen_command command.now) (seen_act command.now.act) act.now rows (seen_reply reply) (state S.Store tx.old.conn.now) (state S.Store tx.new.conn.now)) }
+{
+    let Ok((new, reply)) = new_rows(alloc, branch, command, rows, act) else {
+        return Err(StoreFault::Memory);
+    };
+    write(tx, branch, command, form, &new, reply.as_str())?;
+    Ok(Reply::accepted(reply))
+}
+
+/// The reply to a command that is refused.
+fn refuse(alloc: Global, refusal: Refusal) -> Result<Reply, StoreFault>
+    ensures { IfOk result (λ reply. (verdict : Verdict) (act : model.Act) → IsRefused verdict act (seen_refusal refusal)
+        → (d : named.Refusal) × (verdict ≡ Refused d) × (seen_reply reply ≡ answer_of (Sorry d))) }
+{
+    match refusal {
+        Refusal::Memory => Err(StoreFault::Memory),
+        Refusal::BadCsv(fault) => match Reply::bad_csv(alloc, fault) {
+            Ok(reply) => Ok(reply),
+            Err(_) => Err(StoreFault::Memory),
+        },
+        other => Ok(Reply::refused(other)),
+    }
+}
