@@ -1,7 +1,7 @@
-pub mod RowFinds
-pub mod StockFinds
-pub mod CopyLemmas
-pub mod FitLemmas
-pub mod NewLemmas
-pub mod Refusing
-pub mod Runnings
+pub mod Failures
+pub mod Standing
+pub mod Taking
+pub mod Running
+pub mod Resting
+pub mod Requests
+pub mod Opening

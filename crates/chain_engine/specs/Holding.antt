@@ -1,7 +1,29 @@
--- What a chain holds, as callers see it: its limits and the books of all branches.
-use Rattle.shop_model.specs.Books.{Books}
+-- What a chain holds, as its callers see it.
+use Rattle.std.specs.Prelude.{ℕ, Bool, refl}
+use Rattle.std.specs.Coded.{Coded, code_by, coded×, coded_ℕ, coded_bool}
+use Rattle.sqlite.specs.Held.{Held, held_code}
 use Rattle.shop_values.specs.LimitValues.{Limits}
+use Rattle.shop_model.specs.Books.{Books}
 
+-- the limits, whether the store has failed, and the connection to it
+pub record Chained (S : Type 0) : Type 0 where
+  pub limits : Limits
+  pub is_failed : Bool
+  pub conn : Held S
+
+-- its values are told apart by their parts
+abbrev pub chained_code : {S : Type 0} → Coded S → Coded (Chained S)
+chained_code {S} store =
+    code_by ((ℕ × ℕ) × (Bool × Held S)) (coded× (coded× coded_ℕ coded_ℕ) (coded× coded_bool (held_code store)))
+    (λ c. ((c.limits.commands, c.limits.copies), (c.is_failed, c.conn)))
+    (λ p. record { limits = record { commands = p.0.0; copies = p.0.1 }; is_failed = p.1.0; conn = p.1.1 })
+    (λ _. refl)
+
+-- the same with the books of all branches in the store's place
 pub record Holding : Type 0 where
   pub limits : Limits
+  pub is_failed : Bool
   pub books : Books
+
+abbrev pub holding : {S : Type 0} → Chained S → Books → Holding
+holding chain books = record { limits = chain.limits; is_failed = chain.is_failed; books = books }

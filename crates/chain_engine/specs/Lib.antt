@@ -1,8 +1,6 @@
 pub mod Holding
 pub mod Chains
-pub mod Seen
-pub mod Room
-pub mod Finds
-pub mod NewRows
+pub mod Steps
 pub mod Decisions
 pub mod Faults
+pub mod Files

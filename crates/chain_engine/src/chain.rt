@@ -1,26 +1,25 @@
-//! The chain of shops over plain lists.
+//! The chain of shops over a store.
 
-ghost use Rattle.std.specs.Prelude.{◌≡◌, false, not, Some, IfOk, IfErr, OnOk, OnErr, map};
-ghost use Rattle.shop_model.specs.Rows.{lacks};
-ghost use Rattle.shop_model.specs.Machine.{Do, Look};
-ghost use Rattle.shop_model.specs.Books.{Counter, HeadOffice, caller_of};
+ghost use Rattle.std.specs.Prelude.{◌≡◌, ◌≢◌, ◌≤◌, ◌||◌, false, Some, IfOk, IfErr, OnErr, map};
+ghost use Rattle.sqlite.specs.Steps.{over_memory};
 ghost use Rattle.shop_model.specs.Opening.{opening_books};
-ghost use Rattle.shop_types.specs.Seen.{seen_caller, seen_request, seen_command, seen_ask, seen_refusal};
+ghost use Rattle.shop_schema.specs.Shop.{first_books};
+ghost use Rattle.shop_types.specs.Seen.{seen_caller, seen_request};
 ghost use Rattle.shop_types.specs.Replies.{seen_reply};
-ghost use Rattle.chain_engine.specs.Chains.{Answers, Runs, event_of};
-ghost use Rattle.chain_engine.specs.Decisions.{IsStoreRefusal, IsRefusal};
+ghost use Rattle.chain_engine.specs.Chains.{IsAt, Takes, Answers, AnswersEvent, Runs, event_of};
+ghost use Rattle.chain_engine.specs.Steps.{IsAsked};
+ghost use Rattle.chain_engine.specs.Decisions.{FindsCaller, IsOfStore, refusal_for, is_final};
+ghost use Rattle.shop_model.specs.Books.{Counter, HeadOffice};
 ghost use Rattle.chain_engine.specs.Holding.{Holding};
-ghost use Rattle.chain_engine.specs.Room.{FitsLimits};
-ghost use Rattle.chain_engine.specs.Seen.{with_new};
 ghost use Rattle.chain_engine.specs.Faults.{fault_name};
 
-use crate::outcome::{Outcome, decided};
-use crate::tables::{NewRows, Tables};
-use crate::{opening, rows};
-use reply_bodies::customer_text;
-use shop_types::{
-    Ask, BranchNo, Caller, Command, Limits, NoMemory, Refusal, Reply, Request, Token,
-};
+use crate::callers::find_caller;
+use crate::creation::{create, create_opening};
+use crate::step::step;
+use shop_schema::command_values;
+use shop_types::{BranchNo, Caller, Limits, NoMemory, Refusal, Reply, Request, Token};
+use sql_rows::StoreFault;
+use sqlite::{Alter, Connection, MemStore};
 use std::alloc::Global;
 use std::fmt;
 use std::marker::Model;
@@ -34,6 +33,10 @@ pub enum OpenFault {
     Size,
     /// The store failed.
     Store,
+    /// The files hold no chain of shops.
+    NotAChain,
+    /// The files hold a chain of another version.
+    OtherVersion,
 }
 
 impl fmt::Display for OpenFault {
@@ -44,166 +47,202 @@ impl fmt::Display for OpenFault {
             OpenFault::Memory => "memory",
             OpenFault::Size => "size",
             OpenFault::Store => "store_failed",
+            OpenFault::NotAChain => "not_a_chain",
+            OpenFault::OtherVersion => "other_version",
         })
     }
 }
 
-/// A chain of shops: its limits, and the books of all branches.
+/// Why there is no chain, by what the store answered.
+pub(crate) fn named(fault: StoreFault) -> OpenFault
+    ensures chain { result ≢ OpenFault.NotAChain }
+    ensures version { result ≢ OpenFault.OtherVersion }
+{
+    match fault {
+        StoreFault::Memory => OpenFault::Memory,
+        StoreFault::Size => OpenFault::Size,
+        StoreFault::Failed => OpenFault::Store,
+    }
+}
+
+/// A chain of shops: its limits, and the books of all branches in the tables of a store.
 #[derive(Drop)]
-pub struct Chain {
-    limits: Limits,
-    tables: Tables,
-    alloc: Global,
+pub struct Chain<S: Alter> {
+    pub(crate) limits: Limits,
+    pub(crate) is_failed: bool,
+    pub(crate) conn: Connection<S>,
+    pub(crate) alloc: Global,
 }
 
-impl Model for Chain {
-    ghost use Rattle.chain_engine.specs.Holding.{Holding};
+impl<S: Alter> Model for Chain<S> {
+    ghost use Rattle.std.specs.Prelude.{◌≡◌, false};
+    ghost use Rattle.chain_engine.specs.Holding.{Chained, chained_code};
 
-    ghost Value = { Holding };
+    ghost Value = { Chained S };
 
-    ghost use Rattle.chain_engine.specs.Seen.{books_of};
-    ghost use Rattle.chain_engine.specs.Room.{FitsLimits};
+    ghost coded = { chained_code S.code };
 
-    ghost view = { λ c. record { limits = c.limits; books = books_of c.tables } };
+    ghost view = { λ c. record { limits = c.limits; is_failed = c.is_failed; conn = c.conn } };
 
-    ghost invariant = { λ c. FitsLimits c.limits (books_of c.tables) };
+    ghost invariant = { λ c. c.conn.in_transaction ≡ false };
 }
 
-impl Chain {
-    /// A chain in memory, with the opening rows, in which no branch has asked anything. Only for want of memory is there none.
-    pub fn demo(alloc: Global, limits: Limits) -> Result<Chain, OpenFault>
-        ensures { IfOk result (λ chain. chain ≡ record { limits = limits; books = opening_books }) }
+impl Chain<MemStore> {
+    /// A chain in memory with head office's token and no shared row. Only for want of memory or room is there none.
+    pub fn memory(
+        alloc: Global,
+        office: &Token,
+        limits: Limits,
+    ) -> Result<Chain<MemStore>, OpenFault>
+        ensures { IfOk result (λ chain. (chain.limits ≡ limits) × (chain.is_failed ≡ false) × IsAt over_memory chain (first_books office.now)) }
     {
-        // A look at the two limits tells the proof that each is a million at most.
-        let _ = (limits.commands(), limits.copies());
-        Ok(Chain {
-            limits,
-            tables: Tables::new(alloc),
-            alloc,
-        })
+        let Ok(mut conn) = Connection::open_in_memory(alloc) else {
+            return Err(OpenFault::Memory);
+        };
+        // A look at the token tells the proof that it is one.
+        let _digits = office.as_bytes();
+        match create(&mut conn, office) {
+            Ok(()) => Ok(Chain {
+                limits,
+                is_failed: false,
+                conn,
+                alloc,
+            }),
+            Err(fault) => Err(named(fault)),
+        }
     }
 
-    /// The caller whose token it is, or the refusal that the store gives instead: `Memory`, `Size` or `StoreFailed`. Over lists there is none.
+    /// A chain in memory, with the opening rows, in which no branch has asked anything. Only for want of memory or room is there none.
+    pub fn demo(alloc: Global, limits: Limits) -> Result<Chain<MemStore>, OpenFault>
+        ensures { IfOk result (λ chain. (chain.limits ≡ limits) × (chain.is_failed ≡ false) × IsAt over_memory chain opening_books) }
+    {
+        let Ok(mut conn) = Connection::open_in_memory(alloc) else {
+            return Err(OpenFault::Memory);
+        };
+        match create_opening(&mut conn) {
+            Ok(()) => Ok(Chain {
+                limits,
+                is_failed: false,
+                conn,
+                alloc,
+            }),
+            Err(fault) => Err(named(fault)),
+        }
+    }
+}
+
+impl<S: Alter> Chain<S> {
+    /// Whether the store has failed: then every request is answered `StoreFailed`.
+    pub fn is_failed(&self) -> bool
+        ensures { result ≡ self.now.is_failed }
+    {
+        self.is_failed
+    }
+
+    /// The caller whose token it is, or the refusal that the store gives instead: `Memory`, `Size` or `StoreFailed`.
     pub fn caller(&mut self, token: &Token) -> Result<Caller, Refusal>
-        ensures found { IfOk result (λ caller. seen_caller caller ≡ caller_of (Some token.now) self.old.books.catalogue) }
-        ensures store { IfErr result (λ refusal. IsStoreRefusal refusal) }
-        ensures same { self.new ≡ self.old }
+        ensures taken { Takes S.Store self.old self.new (FindsCaller token.now result) }
+        ensures refused { IfErr result IsOfStore }
     {
-        Ok(self.caller_with(token))
+        if self.is_failed {
+            return Err(Refusal::StoreFailed);
+        }
+        match find_caller(&mut self.conn, token) {
+            Ok(caller) => Ok(caller),
+            Err(fault) => Err(self.refusal(fault)),
+        }
     }
 
-    /// Answers one request of a caller. What is answered with a refusal has changed nothing; where it is `Memory`, the request may be sent again as it was.
+    /// Answers one request of a caller. What is answered with a refusal has changed nothing; where it is `Memory` or `Size`, the request may be sent again as it was.
+    /// Once the answer is `StoreFailed`, it is that for good: the chain is to be closed and opened again.
     pub fn answer(&mut self, caller: &Caller, request: &Request) -> Reply
-        ensures { Answers (seen_caller caller.now) (seen_request request.now) (seen_reply result) self.old self.new }
+        ensures { Takes S.Store self.old self.new (Answers (seen_caller caller.now) (seen_request request.now) (seen_reply result)) }
     {
+        if self.is_failed {
+            return Reply::refused(Refusal::StoreFailed);
+        }
         match caller {
-            Caller::Branch(branch) if self.has_branch(*branch) => {
-                self.answer_branch(*branch, request)
-            }
-            Caller::Branch(_) | Caller::Nobody => Reply::refused(Refusal::NoCounter),
+            Caller::Branch(branch) => self.answer_branch(*branch, request),
+            Caller::Nobody => Reply::refused(Refusal::NoCounter),
             Caller::Office => refuse_office(request),
         }
     }
 
     /// Answers requests one after another, each as if it had come alone. An `Err` has answered none and changed nothing.
     pub fn replay(&mut self, requests: &[(Token, Request)]) -> Result<Vec<Reply>, NoMemory>
-        ensures ran { IfOk result (λ replies. Runs (map event_of requests.now) (map seen_reply replies.items) self.old self.new) }
+        ensures ran { IfOk result (λ replies. Takes S.Store self.old self.new (Runs (map event_of requests.now) (map seen_reply replies.items))) }
         ensures nothing { OnErr result (self.new ≡ self.old) }
     {
         let mut replies = Vec::with_capacity(self.alloc, requests.len())?;
         for (token, request) in requests {
-            let caller = self.caller_with(token);
-            let reply = self.answer(&caller, request);
+            let reply = self.answer_with(token, request);
             replies.push_reserved(reply);
         }
         Ok(replies)
     }
 
-    fn caller_with(&self, token: &Token) -> Caller
-        ensures { seen_caller result ≡ caller_of (Some token.now) self.now.books.catalogue }
+    /// Answers a request that comes with a token.
+    fn answer_with(&mut self, token: &Token, request: &Request) -> Reply
+        ensures { Takes S.Store self.old self.new (AnswersEvent (event_of (token.now, request.now)) (seen_reply result)) }
     {
-        // A look at a field tells the proof that the catalogue is the opening one.
-        let _ = &self.limits;
-        opening::caller_with(token)
+        match self.caller(token) {
+            Ok(caller) => self.answer(&caller, request),
+            Err(refusal) => Reply::refused(refusal),
+        }
     }
 
-    fn has_branch(&self, number: BranchNo) -> bool
-        ensures { result ≡ not (lacks self.now.books.catalogue.branches number) }
-    {
-        // A look at a field tells the proof that the catalogue is the opening one.
-        let _ = &self.limits;
-        opening::is_branch(number)
-    }
-
-    /// Answers a request of a branch that is there.
+    /// Answers a request of a branch, where the store hasn't failed.
     fn answer_branch(&mut self, branch: BranchNo, request: &Request) -> Reply
-        requires { lacks self.old.books.catalogue.branches branch ≡ false }
-        ensures { Answers (Counter branch) (seen_request request.now) (seen_reply result) self.old self.new }
+        requires { self.old.is_failed ≡ false }
+        ensures { Takes S.Store self.old self.new (Answers (Counter branch) (seen_request request.now) (seen_reply result)) }
     {
-        match request {
-            Request::Do(command) => self.act(branch, command),
-            Request::Look(ask) => self.look(branch, *ask),
+        request_values(request);
+        limits_fit(self.limits);
+        let _number = branch.get();
+        match step(self.alloc, &mut self.conn, self.limits, branch, request) {
+            Ok(reply) => reply,
+            Err(fault) => Reply::refused(self.refusal(fault)),
         }
     }
 
-    /// Answers a reading of a branch that is there.
-    fn look(&self, branch: BranchNo, ask: Ask) -> Reply
-        requires { lacks self.now.books.catalogue.branches branch ≡ false }
-        ensures { Answers (Counter branch) (Look (seen_ask ask)) (seen_reply result) self.now self.now }
+    /// How a fault of the store is told; once it has failed, the chain is failed for good.
+    fn refusal(&mut self, fault: StoreFault) -> Refusal
+        ensures told { result ≡ refusal_for fault }
+        ensures failed { self.new ≡ record self.old { is_failed = self.old.is_failed || is_final fault } }
     {
-        let Ask::Customer(number) = ask;
-        match rows::customer_at(self.tables.customers.as_slice(), branch, number) {
-            Some(customer) => match customer_text(self.alloc, number, customer) {
-                Ok(text) => Reply::accepted(text),
-                Err(_) => Reply::refused(Refusal::Memory),
-            },
-            None => Reply::refused(Refusal::NoCustomer),
+        match fault {
+            StoreFault::Memory => Refusal::Memory,
+            StoreFault::Size => Refusal::Size,
+            StoreFault::Failed => {
+                self.is_failed = true;
+                Refusal::StoreFailed
+            }
         }
-    }
-
-    /// Answers a command of a branch that is there.
-    fn act(&mut self, branch: BranchNo, command: &Command) -> Reply
-        requires { lacks self.old.books.catalogue.branches branch ≡ false }
-        ensures { Answers (Counter branch) (Do (seen_command command.now)) (seen_reply result) self.old self.new }
-    {
-        match decided(self.alloc, self.limits, &self.tables, branch, command) {
-            Ok(Outcome::Again(text)) => Reply::accepted(text),
-            Ok(Outcome::Accepted(new)) => match self.accept(new) {
-                Ok(text) => Reply::accepted(text),
-                Err(_) => Reply::refused(Refusal::Memory),
-            },
-            Err(refusal) => refuse(self.alloc, refusal),
-        }
-    }
-
-    /// Adds the rows of an accepted command, and gives the body of its reply. An `Err` has changed nothing.
-    fn accept(&mut self, new: NewRows) -> Result<String, NoMemory>
-        requires { FitsLimits self.old.limits (with_new self.old.books new) }
-        ensures text { IfOk result (λ text. text ≡ new.reply) }
-        ensures added { OnOk result (self.new ≡ record { limits = self.old.limits; books = with_new self.old.books new }) }
-        ensures nothing { OnErr result (self.new ≡ self.old) }
-    {
-        self.tables.make_room(&new)?;
-        Ok(self.tables.add(new))
     }
 }
 
-/// The reply to a command that is refused. Where there is no memory for it, it is that to `Memory`.
-fn refuse(alloc: Global, refusal: Refusal) -> Reply
-    ensures { IsRefusal (seen_refusal refusal) (seen_reply result) }
+/// The values of a request are such as the tables can hold: a law, so that nothing is done.
+fn request_values(request: &Request)
+    ensures { IsAsked (seen_request request.now) }
 {
-    match refusal {
-        Refusal::BadCsv(fault) => match Reply::bad_csv(alloc, fault) {
-            Ok(reply) => reply,
-            Err(_) => Reply::refused(Refusal::Memory),
-        },
-        other => Reply::refused(other),
+    match request {
+        Request::Do(command) => command_values(command),
+        Request::Look(_) => {}
     }
+}
+
+/// The limits are a million at most: a law too.
+fn limits_fit(limits: Limits)
+    ensures commands { limits.commands ≤ 1_000_000 }
+    ensures copies { limits.copies ≤ 1_000_000 }
+{
+    let _commands = limits.commands();
+    let _copies = limits.copies();
 }
 
 /// Refuses what head office may not ask as a counter does.
 fn refuse_office(request: &Request) -> Reply
-    ensures { (old : Holding) → Answers HeadOffice (seen_request request.now) (seen_reply result) old old }
+    ensures { (old : Holding) → old.is_failed ≡ false → Answers HeadOffice (seen_request request.now) (seen_reply result) old old }
 {
     match request {
         Request::Do(_) | Request::Look(_) => Reply::refused(Refusal::NoRoute),

@@ -1,12 +1,10 @@
-//! The chain of shops: its books, and what they answer, one request after another.
+//! The chain of shops over a store: its books, and what they answer, one request after another, each in one transaction.
 #![tactic(auto)]
 
+mod callers;
 mod chain;
-mod finding;
-mod new_rows;
-mod opening;
-mod outcome;
-mod rows;
-mod tables;
+mod creation;
+mod files;
+mod step;
 
 pub use chain::{Chain, OpenFault};

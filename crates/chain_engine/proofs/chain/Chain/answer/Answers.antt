@@ -1,4 +1,9 @@
+use Rattle.std.proofs.Common.{◌≡◌, ◌∙◌, sym, ap, false}
+use Rattle.chain_engine.specs.Holding.{Chained, holding}
+use Rattle.chain_engine.proofs.Taking.{takes_still}
 use Rattle.chain_engine.proofs.chain.Chain.answer.Goals as goal
 
 pub returns-in-Office : goal.returns-in-Office
-returns-in-Office c = rw c.in-Office.is (c.refuse_office.ensures c.args.self.now)
+returns-in-Office g c =
+    let fine : c.args.self.now.is_failed ≡ false = ap (λ (x : Chained _). x.is_failed) (sym c.self.view_is) ∙ c.if-self.false in
+    rw c.in-Office.is (takes_still (λ books. c.refuse_office.ensures (holding c.args.self.now books) fine))

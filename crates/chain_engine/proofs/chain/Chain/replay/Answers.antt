@@ -2,40 +2,39 @@ use Rattle.std.proofs.Common.{◌≡◌, ◌∙◌, ℕ, ◌+◌, ◌++◌, ◌�
 use Rattle.std.proofs.lemmas.List.{take_more, take_all, map-append}
 use Rattle.shop_types.specs.declared.request.Request.{Request}
 use Rattle.shop_types.specs.Replies.{seen_reply}
-use Rattle.shop_types.specs.Seen.{seen_caller}
-use Rattle.chain_engine.proofs.Runnings.{runs_none, runs_more, fine_more}
+use Rattle.chain_engine.specs.Chains.{event_of}
+use Rattle.chain_engine.proofs.Running.{runs_none, runs_more}
+use Rattle.chain_engine.proofs.Taking.{takes_same, takes_then}
 use Rattle.chain_engine.proofs.chain.Chain.replay.Goals as goal
 
 pub push_reserved-requires : goal.push_reserved-requires
-push_reserved-requires c = omega (arith, c.loop-token.invariant.0, c.loop-token.invariant.1)
+push_reserved-requires g c = omega (arith, c.loop-token.invariant.0, c.loop-token.invariant.1)
 
 pub loop-token-init : goal.loop-token-init
-loop-token-init c =
+loop-token-init g c =
     let none = c.in_ok-replies.ensures.items in
-    (c.in_ok-replies.ensures.len, c.in_ok-replies.ensures.capacity, rw none (runs_none c.args.self.now), rw none)
+    (c.in_ok-replies.ensures.len, c.in_ok-replies.ensures.capacity, rw none (takes_same runs_none))
 
 pub loop-token-preserved : goal.loop-token-preserved
-loop-token-preserved c =
+loop-token-preserved g c =
     let inv = c.loop-token.invariant in
     let i = c.loop-token.token-index in
     let it = c.loop-token-item.result in
     let requests = c.args.requests.now in
+    let events = map event_of (take i requests) in
     let done = map seen_reply c.loop-token.replies.items in
-    let answer = seen_reply c.answer-reply.result in
-    let caller = seen_caller c.caller_with-caller.result in
-    let found = c.caller_with-caller.ensures in
-    let asked : take (i + 1) requests ≡ take i requests ++ it ∷ [] = take_more requests i it c.loop-token-test.true ∙ ap (λ (x : List ℕ × Request). take i requests ++ x ∷ []) (sym c.loop-token-item.is) in
-    let told : map seen_reply c.push_reserved.new.self.items ≡ done ++ answer ∷ [] = ap (map seen_reply) c.push_reserved.ensures.items ∙ map-append seen_reply c.loop-token.replies.items (c.answer-reply.result ∷ []) in
-    let runs = runs_more (take i requests) it done caller answer c.args.self.now c.loop-token.self c.answer-reply.new.self inv.2 inv.3 found c.answer-reply.ensures in
-    let fine = fine_more it done caller answer c.loop-token.self c.answer-reply.new.self inv.3 c.answer-reply.ensures in (
+    let answer = seen_reply c.answer_with-reply.result in
+    let asked : map event_of (take (i + 1) requests) ≡ events ++ event_of it ∷ [] =
+    ap (map event_of) (take_more requests i it c.loop-token-test.true ∙ ap (λ (x : List ℕ × Request). take i requests ++ x ∷ []) (sym c.loop-token-item.is)) ∙ map-append event_of (take i requests) (it ∷ []) in
+    let told : map seen_reply c.push_reserved.new.self.items ≡ done ++ answer ∷ [] =
+    ap (map seen_reply) c.push_reserved.ensures.items ∙ map-append seen_reply c.loop-token.replies.items (c.answer_with-reply.result ∷ []) in (
       omega (arith, c.push_reserved.ensures.len, inv.0),
       omega (arith, c.push_reserved.ensures.capacity, inv.1),
-      rw (asked, told) runs,
-      rw told fine,
+      takes_then inv.2 c.answer_with-reply.ensures (λ old mid new x y. rw (asked, told) (runs_more old mid new events done (event_of it) answer x y)),
     )
 
 pub returns-clause-ran : goal.returns-clause-ran
-returns-clause-ran c =
+returns-clause-ran g c =
     let requests = c.args.requests.now in
     let all : take c.loop-token.token-index requests ≡ requests = take_all c.loop-token.token-index requests c.loop-token-test.false in
     rw all at c.loop-token.invariant.2

@@ -1,0 +1,120 @@
+-- What an open of files finds, and what files hold after the store is closed.
+use Rattle.std.proofs.Common.{◌≡◌, ◌∙◌, inl, inr, refl, sym, ap, subst, IsTrue, arith, map, List, [], ◌∷◌, pos, negsuc}
+use Rattle.std.specs.Prelude.{◌==◌}
+use Rattle.std.proofs.lemmas.Bool.{cases_Bool}
+use Rattle.std.proofs.lemmas.List.Sorted.{length_permutation}
+use Rattle.std.proofs.Math.Logic.{∥∥₁_elim, ∥∥₁_map}
+use Rattle.sqlite_disk.specs.declared.Disk.{Ghosts}
+use Rattle.sqlite_disk.specs.declared.Files.{Files}
+use Rattle.sqlite_value.specs.Order.{Row, column}
+use Rattle.sqlite.specs.declared.types.Value.{Value}
+use Rattle.sqlite.specs.declared.types.Value.TheVariants.{Null, Int, Real, Text, Blob}
+use Rattle.sqlite_wal.specs.Files.{outcomes}
+use Rattle.sqlite_wal.specs.Reads.{AreClean}
+use Rattle.sqlite_wal.proofs.LogLemmas.{SeenMayStay}
+use Rattle.sqlite_trees.specs.Tree.{Trees}
+use Rattle.sqlite_trees.specs.View.{IsClean}
+use Rattle.sqlite_trees.specs.Props.{Trees-set}
+use Rattle.sqlite_trees.proofs.Doubt.{no_doubt}
+use Rattle.sqlite_pool.proofs.StateLemmas.{clean_is, may_leave_is}
+use Rattle.sqlite_store.specs.declared.store.FileStore.{FileStore}
+use Rattle.sqlite_store.specs.FileStore.{view, recovers, files as store_files}
+use Rattle.sqlite_store.specs.Laws.{settled_at}
+use Rattle.sqlite_catalog.specs.Listing.{IsSound as IsDatabaseOf}
+use Rattle.sqlite.specs.Effect.{Database}
+use Rattle.sqlite.specs.State.{State, HasCleanDisk, Survives}
+use Rattle.sqlite.specs.Held.{Held, AreDatabases}
+use Rattle.sqlite.specs.Files.{HoldsDatabase, Finds, IsOpened, file_state, image_of}
+use Rattle.sqlite.proofs.Theorems.{opens_again}
+use Rattle.sql_rows.specs.Rows.{columns_of, HasRows}
+use Rattle.sql_rows.proofs.Opened.{opened_keyed}
+use Rattle.sql_rows.proofs.Unique.{one_schema}
+use Rattle.shop_model.specs.Books.{Books}
+use Rattle.shop_schema.specs.Tables.{shop_schema}
+use Rattle.shop_schema.specs.Shop.{StandsFor}
+use Rattle.shop_schema.specs.Columns.{this_version}
+use Rattle.shop_schema.specs.Versions.{version_of, version_told}
+use Rattle.shop_schema.specs.declared.known.KnownVersion.TheVariants.{This, Missing, Other}
+use Rattle.chain_engine.specs.Chains.{Rests}
+use Rattle.chain_engine.specs.Files.{HoldsBooks, HoldsOne, HoldsNoChain, HasOtherVersion, Knows}
+
+pub clean_store : {D : Type 0} {g : Ghosts D} (it : FileStore D g) (files : Files D) → (files.log, files.db) ≡ store_files it → AreClean g files.log files.db → IsClean (view it)
+clean_store {D} {g} it files is honest = no_doubt _ (clean_is it.pool ∙ subst (λ (p : D × D). AreClean g p.0 p.1) is honest)
+
+-- each outcome of a crash of the files of a store that is closed is a database that the store allowed
+pub holds_one : {D : Type 0} {g : Ghosts D} (it : FileStore D g) (files : Files D) (P : Trees → Type 0) → (files.log, files.db) ≡ store_files it → AreClean g files.log files.db
+    → IsTrue (view it).is_numbered → AreDatabases (recovers it) → ((db : Trees) → recovers it db → P db) → HoldsOne g files P
+holds_one {D} {g} it files P is honest numbered sound within image may =
+    let clean = subst (λ (p : D × D). AreClean g p.0 p.1) is honest in
+    ∥∥₁_map (opens_again it numbered sound image (may_leave_is it.pool image clean (subst (λ (p : D × D). outcomes g p.0 p.1 image) is may)))
+    (λ found. let r : (db : Trees) × P db × HoldsDatabase image db = (found.0, within found.0 found.1, found.2) in r)
+
+pub kept_one : {D : Type 0} (g : Ghosts D) (files : Files D) (P Q : Trees → Type 0) → HoldsOne g files P → ((db : Trees) → P db → Q db) → HoldsOne g files Q
+kept_one g files P Q holds weaker image may =
+    ∥∥₁_map (holds image may) (λ found. let r : (db : Trees) × Q db × HoldsDatabase image db = (found.0, weaker found.0 found.1, found.2) in r)
+
+-- while a connection is open, a crash leaves the last commit alone
+pub only_committed : {D : Type 0} {g : Ghosts D} (c : Held (FileStore D g)) → SeenMayStay g → IsTrue (file_state c).is_open → (db : Trees) → (file_state c).may_leave db → db ≡ (file_state c).committed.trees
+only_committed c stays live db may = settled_at c.store stays db live may
+
+-- ---- the version
+
+told_some : (v : Value) → version_told v ≡ Missing → ⊥
+told_some (Int (pos n)) e = elim (cases_Bool (n == this_version)) [
+  | inl is ↦ let no : This ≡ Missing = rw is at e in cc
+  | inr isnt ↦ let no : Other ≡ Missing = rw isnt at e in cc
+]
+told_some (Int (negsuc n)) e = let no : Other ≡ Missing = e in cc
+told_some Null e = let no : Other ≡ Missing = e in cc
+told_some (Real x) e = let no : Other ≡ Missing = e in cc
+told_some (Text t) e = let no : Other ≡ Missing = e in cc
+told_some (Blob b) e = let no : Other ≡ Missing = e in cc
+
+-- a chain's table has one row
+one_version : (rows : List Row) (row : Row) → HasRows 2 rows (row ∷ []) → version_of (map (columns_of 1) rows) ≡ Missing → ⊥
+one_version [] row has e = omega (arith, length_permutation _ _ has)
+one_version (r ∷ []) row has e = told_some (column (columns_of 1 r) 0) e
+one_version (r ∷ s ∷ rows) row has e = omega (arith, length_permutation _ _ has)
+
+module _ {D : Type 0} {g : Ghosts D} (c : Held (FileStore D g)) (files : Files D) (opened : IsOpened c) (found : Finds files c) where
+  abbrev opened_state : State
+  opened_state = file_state c
+
+  same_trees : opened_state.now.trees ≡ opened_state.committed.trees
+  same_trees = ap (λ (d : Database). d.trees) opened.0.clean
+
+  -- the database of the files is what the connection shows
+  shows_found : (db : Trees) → HoldsDatabase (image_of g files) db → opened_state.now.trees ≡ db
+  shows_found db held = same_trees ∙ found.holds db held
+
+  pub found_rests : SeenMayStay g → opened_state.now.schema ≡ shop_schema → (books : Books) → HoldsBooks (image_of g files) books → Rests opened_state books
+  found_rests stays schema books held =
+      let is : opened_state.committed.trees ≡ held.db = ∥∥₁_elim held.holds (Trees-set _ _) (found.holds held.db) in
+      let stands : StandsFor opened_state.committed.trees books = subst (λ t. StandsFor t books) (sym is) held.stands in
+      record {
+        now = λ live. record { schema_is = schema; keyed = opened_keyed shop_schema files c opened found schema; stands = subst (λ (d : Database). StandsFor d.trees books) (sym opened.0.clean) stands };
+        committed = λ live. sym opened.0.clean;
+        left = λ db may. subst (λ t. StandsFor t books) (sym (only_committed c stays opened.0.is_open db may)) stands;
+      }
+
+  is_database : (db : Trees) → HoldsDatabase (image_of g files) db → IsDatabaseOf opened_state.now.schema db
+  is_database db held = subst (IsDatabaseOf opened_state.now.schema) (shows_found db held) (opened.1 opened.0.is_open).0
+
+  pub holds_no_chain : Knows Missing opened_state → HoldsNoChain (image_of g files)
+  holds_no_chain (inl other) db held sound books stands =
+      other (one_schema opened_state.now.schema shop_schema db (is_database db held) sound refl)
+  holds_no_chain (inr none) db held sound books stands =
+      one_version (db 0) _ stands.chain (subst (λ (t : Trees). version_of (map (columns_of 1) (t 0)) ≡ Missing) (shows_found db held) none)
+
+  pub has_other_version : Knows Other opened_state → HasOtherVersion (image_of g files)
+  has_other_version it db held =
+      (opened_state.now.schema, is_database db held, it.0, subst (λ (t : Trees). version_of (map (columns_of 1) (t 0)) ≡ Other) (shows_found db held) it.1)
+
+  -- calls that commit nothing leave it so
+  pub left_as_found : SeenMayStay g → (new : Held (FileStore D g)) (now : Files D) → Survives (file_state c) (file_state new) (λ _. ⊥) → HasCleanDisk (file_state new)
+      → HoldsOne g now (file_state new).may_leave → (db : Trees) → HoldsDatabase (image_of g files) db → HoldsOne g now (λ left. left ≡ db)
+  left_as_found stays new now survives clean holds db held =
+      kept_one g now _ _ holds (λ left may. elim (survives.crash clean left may) [
+        | inl before ↦ only_committed c stays opened.0.is_open left before ∙ found.holds db held
+        | inr none ↦ absurd none
+      ])

@@ -1,0 +1,53 @@
+-- The books that two files hold.
+use Rattle.std.specs.Prelude.{◌≡◌, ◌⊎◌, map}
+use Rattle.sqlite_disk.specs.declared.Disk.{Ghosts}
+use Rattle.sqlite_disk.specs.declared.Files.{Files}
+use Rattle.sqlite_wal.specs.Files.{outcomes}
+use Rattle.sqlite_wal.specs.Recovery.{Image}
+use Rattle.sqlite_trees.specs.Tree.{Trees}
+use Rattle.sqlite_catalog.specs.Listing.{IsSound as IsDatabaseOf}
+use Rattle.sqlite.specs.Schema.{Schema}
+use Rattle.sqlite.specs.State.{State}
+use Rattle.sqlite.specs.Files.{HoldsDatabase, IsCleanLeft, LeavesFiles}
+use Rattle.sqlite.specs.Closing.{files_left}
+use Rattle.sqlite.specs.declared.file.Leftover.{Leftover}
+use Rattle.sql_rows.specs.Rows.{columns_of}
+use Rattle.shop_model.specs.Books.{Books}
+use Rattle.shop_model.specs.Sound.{IsSound}
+use Rattle.shop_schema.specs.RowValues.{AreValues}
+use Rattle.shop_schema.specs.Shop.{StandsFor, HasVersion}
+use Rattle.shop_schema.specs.Tables.{shop_schema}
+use Rattle.shop_schema.specs.Versions.{version_of}
+use Rattle.shop_schema.specs.declared.known.KnownVersion.{KnownVersion}
+use Rattle.shop_schema.specs.declared.known.KnownVersion.TheVariants.{This, Missing, Other}
+use Rattle.chain_engine.specs.Chains.{widest_rules}
+
+-- what is known of the tables: they are a chain's of this version, they are no chain's, or they are a chain's of another version
+abbrev pub Knows : KnownVersion → State → Type 0
+Knows This s = s.now.schema ≡ shop_schema
+Knows Missing s = (¬ (s.now.schema ≡ shop_schema)) ⊎ (version_of (map (columns_of 1) (s.now.trees 0)) ≡ Missing)
+Knows Other s = HasVersion s.now.schema × (version_of (map (columns_of 1) (s.now.trees 0)) ≡ Other)
+
+-- an image of the two files, as it is read or as a crash left it, holds a database whose tables stand for these books
+pub record HoldsBooks (image : Image) (books : Books) : Type 0 where
+  pub db : Trees
+  pub holds : ∥ HoldsDatabase image db ∥₁
+  pub stands : StandsFor db books
+  pub sound : IsSound widest_rules books
+  pub values : AreValues books
+
+-- whatever a crash leaves of the files, or a read finds in them, is a database of which this holds
+abbrev pub HoldsOne : {D : Type 0} → Ghosts D → Files D → (Trees → Type 0) → Type 0
+HoldsOne g files P = (image : Image) → outcomes g files.log files.db image → ∥ ((db : Trees) × P db × HoldsDatabase image db) ∥₁
+
+-- no database in the files has the tables of a chain, these and no other, standing for books
+abbrev pub HoldsNoChain : Image → Type 0
+HoldsNoChain image = (db : Trees) → HoldsDatabase image db → IsDatabaseOf shop_schema db → (books : Books) → ¬ StandsFor db books
+
+-- the database in the files begins with the table that has the version, and its one row has another
+abbrev pub HasOtherVersion : Image → Type 0
+HasOtherVersion image = (db : Trees) → HoldsDatabase image db → (schema : Schema) × IsDatabaseOf schema db × HasVersion schema × (version_of (map (columns_of 1) (db 0)) ≡ Other)
+
+-- the files that an open of these left as it failed
+abbrev pub OpenFailed : {D : Type 0} → Ghosts D → Files D → Files D → Type 0
+OpenFailed {D} g files now = (left : Leftover D g) × (files_left left ≡ (now.log, now.db)) × (IsCleanLeft left → LeavesFiles files left)

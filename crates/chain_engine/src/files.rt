@@ -1,0 +1,116 @@
+//! A chain in two files: how it is opened, and how it is closed.
+
+ghost use Rattle.std.specs.Prelude.{◌≡◌, ◌⊎◌, false, IfOk, IfErr, map};
+ghost use Rattle.sqlite.specs.Held.{state};
+ghost use Rattle.sqlite.specs.State.{HasCleanDisk, Survives};
+ghost use Rattle.sqlite.specs.Files.{over_files, file_state, image_of, HoldsDatabase};
+ghost use Rattle.sqlite_wal.specs.Files.{outcomes};
+ghost use Rattle.sqlite_wal.specs.Reads.{AreClean};
+ghost use Rattle.sqlite_trees.specs.Tree.{Trees};
+ghost use Rattle.sql_rows.specs.Rows.{columns_of};
+ghost use Rattle.shop_model.specs.Books.{Books};
+ghost use Rattle.shop_schema.specs.Shop.{HasVersion};
+ghost use Rattle.shop_schema.specs.Versions.{version_of};
+ghost use Rattle.chain_engine.specs.Chains.{IsAt, Rests};
+ghost use Rattle.chain_engine.specs.Files.{Knows, HoldsBooks, HoldsOne, HoldsNoChain, HasOtherVersion, OpenFailed};
+
+use crate::chain::{Chain, OpenFault, named};
+use shop_schema::{KnownVersion, has_version, is_shop, version};
+use shop_types::Limits;
+use sql_rows::{StoreFault, fault_of};
+use sqlite::{Alter, Connection, FileStore, Files, Options};
+use sqlite_disk::Disk;
+use std::alloc::Global;
+
+/// The version that the first table tells, in a transaction that changes nothing.
+fn version_in<S: Alter>(conn: &mut Connection<S>) -> Result<KnownVersion, StoreFault>
+    requires { conn.old.in_transaction ≡ false }
+    ensures ended { conn.new.in_transaction ≡ false }
+    ensures read { HasCleanDisk (state S.Store conn.new) → HasVersion (state S.Store conn.old).now.schema → IfOk result (λ it. it ≡ version_of (map (columns_of 1) ((state S.Store conn.old).now.trees 0))) }
+    ensures same { HasCleanDisk (state S.Store conn.new) → (books : Books) → Rests (state S.Store conn.old) books → Rests (state S.Store conn.new) books }
+    ensures crash { Survives (state S.Store conn.old) (state S.Store conn.new) (λ _. ⊥) }
+{
+    let mut tx = conn.transaction();
+    let found = version(&mut tx);
+    tx.rollback();
+    found
+}
+
+/// Whether the tables are a chain's, and of which version.
+fn known<S: Alter>(alloc: Global, conn: &mut Connection<S>) -> Result<KnownVersion, StoreFault>
+    requires { conn.old.in_transaction ≡ false }
+    ensures ended { conn.new.in_transaction ≡ false }
+    ensures told { HasCleanDisk (state S.Store conn.new) → IfOk result (λ it. Knows it (state S.Store conn.old)) }
+    ensures same { HasCleanDisk (state S.Store conn.new) → (books : Books) → Rests (state S.Store conn.old) books → Rests (state S.Store conn.new) books }
+    ensures crash { Survives (state S.Store conn.old) (state S.Store conn.new) (λ _. ⊥) }
+{
+    if !has_version(alloc, conn.schema())? {
+        return Ok(KnownVersion::Missing);
+    }
+    let is_this = is_shop(alloc, conn.schema())?;
+    let found = version_in(conn)?;
+    if found == KnownVersion::This && !is_this {
+        return Ok(KnownVersion::Missing);
+    }
+    Ok(found)
+}
+
+/// Gives the files back. Nothing more is written, so the last commits may stand in the log alone.
+fn give_back<D: Disk + Drop>(conn: Connection<FileStore<D>>) -> Files<D>
+    ensures left { AreClean D.Disk result.log result.db → HoldsOne D.Disk result (file_state conn).may_leave }
+    ensures clean { AreClean D.Disk result.log result.db → HasCleanDisk (file_state conn) }
+    ensures seen { outcomes D.Disk result.log result.db (image_of D.Disk result) }
+{
+    conn.into_store().close()
+}
+
+impl<D: Disk + Drop> Chain<FileStore<D>> {
+    /// Opens the chain that the files hold; the limits are those of this opening. A fault gives the files back: `NotAChain` where they hold none, `OtherVersion` where
+    /// its version isn't the program's, and `Memory`, `Size` or `Store` where the store can't do its part.
+    pub fn open_files(
+        alloc: Global,
+        files: Files<D>,
+        limits: Limits,
+    ) -> Result<Chain<FileStore<D>>, (OpenFault, Files<D>)>
+        ensures live { IfOk result (λ chain. (chain.limits ≡ limits) × (chain.is_failed ≡ false)) }
+        ensures honest { IfOk result (λ chain. HasCleanDisk (file_state chain.conn) → AreClean D.Disk files.log files.db) }
+        ensures found { IfOk result (λ chain. HasCleanDisk (file_state chain.conn) → (books : Books) → HoldsBooks (image_of D.Disk files) books → IsAt over_files chain books) }
+        ensures no_chain { IfErr result (λ e. AreClean D.Disk e.1.log e.1.db → e.0 ≡ OpenFault.NotAChain → HoldsNoChain (image_of D.Disk files)) }
+        ensures other { IfErr result (λ e. AreClean D.Disk e.1.log e.1.db → e.0 ≡ OpenFault.OtherVersion → HasOtherVersion (image_of D.Disk files)) }
+        ensures kept { IfErr result (λ e. AreClean D.Disk e.1.log e.1.db → OpenFailed D.Disk files e.1 ⊎ ((db : Trees) → HoldsDatabase (image_of D.Disk files) db → HoldsOne D.Disk e.1 (λ left. left ≡ db))) }
+    {
+        if !files.may_be_used() {
+            return Err((OpenFault::Store, files));
+        }
+        let mut conn = match Connection::open_files(alloc, files, Options::new(1)) {
+            Ok(conn) => conn,
+            Err((error, left)) => return Err((named(fault_of(error)), left.into_files())),
+        };
+        match known(alloc, &mut conn) {
+            Ok(KnownVersion::This) => Ok(Chain {
+                limits,
+                is_failed: false,
+                conn,
+                alloc,
+            }),
+            Ok(KnownVersion::Missing) => Err((OpenFault::NotAChain, give_back(conn))),
+            Ok(KnownVersion::Other) => Err((OpenFault::OtherVersion, give_back(conn))),
+            Err(fault) => Err((named(fault), give_back(conn))),
+        }
+    }
+
+    /// Gives the files back, which hold what a crash of the chain may leave.
+    pub fn close(self) -> Files<D>
+        ensures left { AreClean D.Disk result.log result.db → HoldsOne D.Disk result (file_state self.conn).may_leave }
+        ensures clean { AreClean D.Disk result.log result.db → HasCleanDisk (file_state self.conn) }
+        ensures seen { outcomes D.Disk result.log result.db (image_of D.Disk result) }
+    {
+        let Chain {
+            limits: _,
+            is_failed: _,
+            conn,
+            alloc: _,
+        } = self;
+        give_back(conn)
+    }
+}
