@@ -1,18 +1,24 @@
 -- What may be answered to a message.
-use Rattle.std.proofs.Common.{◌≡◌, inl, inr, refl, sym, subst, ap, ◌∙◌, List, ℕ}
+use Rattle.std.proofs.Common.{◌≡◌, inl, refl, sym, subst, ap, ◌∙◌, List, ℕ, true, false, None, Some, Option}
 use Rattle.http_messages.specs.Message.{Message}
-use Rattle.shop_model.specs.Values.{OfficeAsk, Rules}
-use Rattle.shop_model.specs.Refusals.{Refusal, NoCounter, Decision, Memory}
-use Rattle.shop_model.specs.Machine.{Request, Unread, Reply, Sorry}
+use Rattle.shop_model.specs.Values.{Rules}
+use Rattle.shop_model.specs.Refusals.{Refusal, NoCounter, Decision, Memory, StoreFailed}
+use Rattle.shop_model.specs.Machine.{Request, Unread, Sorry}
 use Rattle.shop_model.specs.Answers.{Answer, answer_of, problem_answer}
-use Rattle.shop_model.specs.Books.{Books, Caller, Counter, HeadOffice, Nobody, known_caller, reply_for, after_for}
+use Rattle.shop_model.specs.Books.{Books, Caller, Counter, HeadOffice, Nobody, caller_of, reply_for, after_for}
 use Rattle.shop_model.specs.Office.{office_look}
-use Rattle.shop_model.specs.Histories.{Decides, LacksRoom, IsStep}
+use Rattle.shop_model.specs.Histories.{is_store_failure}
 use Rattle.shop_model.proofs.Callers.{known_same}
+use Rattle.shop_types.specs.declared.refusal.Refusal.{Refusal as Told}
+use Rattle.shop_types.specs.Seen.{seen_refusal}
 use Rattle.counter_routes.specs.Readings.{reading_of}
 use Rattle.chain_engine.specs.Holding.{Holding}
-use Rattle.chain_engine.specs.Chains.{Answers, rules_of}
-use Rattle.counter_http.specs.Events.{known_token, sender_of, AnswersMessage}
+use Rattle.branch_work.specs.Rules.{rules_of}
+use Rattle.chain_engine.specs.Chains.{Answers}
+use Rattle.chain_engine.specs.Decisions.{IsStoreRefusal}
+use Rattle.chain_engine.proofs.Failures.{decided_fine}
+use Rattle.chain_engine.proofs.Requests.{no_failure, lacks_memory, store_refuses, fails, stays_failed}
+use Rattle.counter_http.specs.Events.{known_token, sender_of, AnswersMessage, AnswersNobody}
 
 -- a text that is no request is told so, whoever sent it
 unread_reply : (rules : Rules) (message : Message) (caller : Caller) (d : Refusal) (books : Books) → reading_of message caller ≡ Unread d
@@ -28,12 +34,14 @@ unread_after rules message (Counter b) d books e = ap (λ (r : Request). after_f
 unread_after rules message HeadOffice d books e = ap (λ (r : Request). after_for rules HeadOffice r books) e
 unread_after rules message Nobody d books e = refl
 
-pub refused_answers : (message : Message) (d : Refusal) (old new : Holding) → reading_of message (sender_of message old) ≡ Unread d → new ≡ old
+pub refused_answers : (message : Message) (d : Refusal) (old new : Holding) → reading_of message (sender_of message old) ≡ Unread d → new ≡ old → old.is_failed ≡ false
     → AnswersMessage message (problem_answer (Decision d)) old new
-refused_answers message d old new e same =
+refused_answers message d old new e same fine =
     let sender = sender_of message old in
     let known = known_same (known_token message.token) old.books.catalogue in record {
       limits = ap (λ (h : Holding). h.limits) same;
+      failed = ap (λ (h : Holding). h.is_failed) same ∙ fine ∙ sym (decided_fine (Sorry d));
+      stays = no_failure old.is_failed (is_store_failure (problem_answer (Decision d))) fine;
       step = inl (record {
         reply = ap answer_of (sym (unread_reply (rules_of old.limits) message sender d old.books e))
             ∙ ap (λ (c : Caller). answer_of (reply_for (rules_of old.limits) office_look c (reading_of message sender) old.books)) (sym known);
@@ -42,11 +50,38 @@ refused_answers message d old new e same =
       });
     }
 
-pub memory_answers : (message : Message) (answer : Answer) (old new : Holding) → answer ≡ problem_answer Memory → new ≡ old → AnswersMessage message answer old new
-memory_answers message answer old new is same = record {
-  limits = ap (λ (h : Holding). h.limits) same;
-  step = inr (record { reply = is; books = ap (λ (h : Holding). h.books) same });
+-- the store can't do its part
+pub memory_answers : (message : Message) (answer : Answer) (old new : Holding) → answer ≡ problem_answer Memory → new ≡ old → old.is_failed ≡ false → AnswersMessage message answer old new
+memory_answers message answer old new is same fine = rw is (lacks_memory (sender_of message old) (reading_of message (sender_of message old)) old new same fine)
+
+pub store_answers : (message : Message) (refusal : Told) (answer : Answer) (old new : Holding) → IsStoreRefusal refusal old new → answer ≡ problem_answer (seen_refusal refusal)
+    → AnswersMessage message answer old new
+store_answers message refusal answer old new refused is = rw is (store_refuses (sender_of message old) (reading_of message (sender_of message old)) refusal old new refused)
+
+-- nobody sent the message
+pub nobody_answers : (message : Message) (answer : Answer) (old new : Holding) → known_token message.token ≡ None → AnswersNobody answer old new
+    → AnswersMessage message answer old new
+nobody_answers message answer old new none answers =
+    let P : Caller → Type 0 = λ c. Answers c (reading_of message c) answer old new in
+    let who : Nobody ≡ sender_of message old = ap (λ (token : Option (List ℕ)). caller_of token old.books.catalogue) (sym none) in
+    subst P who (answers (reading_of message Nobody))
+
+-- whatever nobody asks
+pub nobody_refused : (held : Holding) → held.is_failed ≡ false → AnswersNobody (problem_answer (Decision NoCounter)) held held
+nobody_refused held fine request = record {
+  limits = refl;
+  failed = fine ∙ sym (decided_fine (Sorry NoCounter));
+  stays = no_failure held.is_failed _ fine;
+  step = inl (record { reply = refl; books = refl });
 }
+
+pub nobody_failed : (held : Holding) → held.is_failed ≡ true → AnswersNobody (problem_answer StoreFailed) held held
+nobody_failed held failed request = fails Nobody request held held (stays_failed held failed)
+
+-- who has the token sent the message
+pub sent_by : (message : Message) (token : List ℕ) (caller : Caller) (held : Holding) → known_token message.token ≡ Some token
+    → caller ≡ caller_of (Some token) held.books.catalogue → caller ≡ sender_of message held
+sent_by message token caller held known found = found ∙ ap (λ (it : Option (List ℕ)). caller_of it held.books.catalogue) (sym known)
 
 -- the chain answered a request of that caller, and they are the message's
 pub asked_answers : (message : Message) (caller : Caller) (request : Request) (answer : Answer) (old mid new : Holding) → mid ≡ old

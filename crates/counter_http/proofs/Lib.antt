@@ -1,4 +1,4 @@
 mod KnownBytes
 mod Runs
-mod Serving
+pub mod Serving
 mod AnswerLemmas

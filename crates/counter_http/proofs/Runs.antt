@@ -1,61 +1,55 @@
 -- The run of a connection grows by one exchange at a time.
-use Rattle.std.proofs.Common.{◌≡◌, List, [], ◌∷◌, ◌++◌, map, Bool, true, false, refl, sym, subst, ap, ◌∙◌, ℕ}
-use Rattle.std.specs.Prelude.{not, All}
-use Rattle.std.specs.List.{list_all}
+use Rattle.std.proofs.Common.{List, [], ◌∷◌, ◌++◌, refl, ℕ}
 use Rattle.std.proofs.lemmas.List.{map-append}
-use Rattle.std.proofs.lemmas.List.Elements.{All-head, All-tail}
-use Rattle.http_messages.specs.Message.{Message}
 use Rattle.http_messages.specs.Input.{HasMessage}
 use Rattle.http_messages.proofs.StreamLemmas.{HasMessages-append, HasMessages-snoc}
-use Rattle.shop_values.specs.LimitValues.{Limits}
-use Rattle.shop_model.specs.Machine.{Request}
-use Rattle.shop_model.specs.Answers.{Answer}
-use Rattle.shop_model.specs.Books.{Event, Caller, Books, caller_in, known_caller}
-use Rattle.shop_model.specs.Office.{office_look}
-use Rattle.shop_model.specs.Histories.{IsStep, IsRun, is_store_failure}
-use Rattle.shop_model.proofs.Histories.{run_more, run_none}
-use Rattle.shop_model.proofs.Callers.{known_same}
-use Rattle.chain_engine.specs.Holding.{Holding}
-use Rattle.chain_engine.specs.Chains.{Runs, rules_of}
-use Rattle.counter_http.specs.Events.{event_of, known_token, AnswersMessage}
-use Rattle.counter_http.specs.Exchanges.{Exchange, events_of, answers_of, messages_of, GoesOn, HasRun}
-
-sound_all : (es : List Exchange) → All GoesOn es → list_all (λ (a : Answer). not (is_store_failure a)) (answers_of es) ≡ true
-sound_all [] goes = refl
-sound_all (e ∷ es) goes = let first = All-head GoesOn e es goes in rw first.sound (sound_all es (All-tail GoesOn e es goes))
+use Rattle.sqlite_trees.specs.declared.store.Store.{Ghosts}
+use Rattle.chain_engine.specs.Holding.{Chained, Holding}
+use Rattle.chain_engine.specs.Chains.{Takes, Runs}
+use Rattle.chain_engine.proofs.Taking.{takes_same, takes_then}
+use Rattle.chain_engine.proofs.Running.{runs_none, runs_more}
+use Rattle.counter_http.specs.Events.{event_of, AnswersMessage}
+use Rattle.counter_http.specs.Exchanges.{Exchange, events_of, answers_of, messages_of, HasRun, RunsOver}
 
 run_one : (old mid new : Holding) (es : List Exchange) (e : Exchange)
-    → Runs (events_of es) (answers_of es) old mid → All GoesOn es → AnswersMessage e.message e.answer mid new
+    → Runs (events_of es) (answers_of es) old mid → AnswersMessage e.message e.answer mid new
     → Runs (events_of (es ++ e ∷ [])) (answers_of (es ++ e ∷ [])) old new
-run_one old mid new es e runs goes step = record {
-  limits = step.limits ∙ runs.limits;
-  run =
-      let event = event_of e.message in
-      let caller : Caller = caller_in event mid.books in
-      let Step : Limits → Caller → Type 0 = λ limits asker. IsStep (rules_of limits) office_look asker (event.request caller) e.answer mid.books new.books in
-      let found : Step mid.limits caller = subst (λ (c : Caller). Step mid.limits c) (known_same (known_token e.message.token) mid.books.catalogue) step.step in
-      let is : Step old.limits caller = subst (λ (l : Limits). Step l caller) runs.limits found in
-      rw (map-append (λ (x : Exchange). event_of x.message) es (e ∷ []), map-append (λ (x : Exchange). x.answer) es (e ∷ []))
-      (run_more (rules_of old.limits) office_look (events_of es) (answers_of es) event e.answer old.books mid.books new.books runs.run (sound_all es goes) is);
-}
+run_one old mid new es e runs step =
+    rw (map-append (λ (x : Exchange). event_of x.message) es (e ∷ []), map-append (λ (x : Exchange). x.answer) es (e ∷ []))
+    (runs_more old mid new (events_of es) (answers_of es) (event_of e.message) e.answer runs step)
+
+-- nothing is answered yet
+pub run_starts : {S : Type 0} {g : Ghosts S} {chain : Chained S} → RunsOver g chain chain []
+run_starts {S} {g} {chain} = takes_same (λ held. runs_none held)
+
+pub run_grows : {S : Type 0} {g : Ghosts S} {old mid new : Chained S} (e : Exchange) → Takes g mid new (AnswersMessage e.message e.answer)
+    → (es : List Exchange) → RunsOver g old mid es → RunsOver g old new (es ++ e ∷ [])
+run_grows e step es ran = takes_then ran step (λ old mid new x y. run_one old mid new es e x y)
 
 -- nothing is read yet
-pub ran_none : (old : Holding) → HasRun old old [] [] []
-ran_none old = record { splits = refl; run = record { limits = refl; run = run_none (rules_of old.limits) office_look old.books } }
+pub ran_none : (Ran : List Exchange → Type 0) → Ran [] → HasRun Ran [] [] []
+ran_none Ran start = record {
+  splits = refl;
+  ran = start;
+}
 
 -- more is read
-pub ran_more : (old new : Holding) (read more : List ℕ) (es : List Exchange) (rest : List ℕ)
-    → HasRun old new read es rest → HasRun old new (read ++ more) es (rest ++ more)
-ran_more old new read more es rest x = record {
+pub ran_more : (Ran : List Exchange → Type 0) (read more : List ℕ) (es : List Exchange) (rest : List ℕ)
+    → HasRun Ran read es rest → HasRun Ran (read ++ more) es (rest ++ more)
+ran_more Ran read more es rest x = record {
   splits = HasMessages-append read more (messages_of es) rest x.splits;
-  run = x.run;
+  ran = x.ran;
 }
 
 -- one more message is answered
-pub ran_one : (old mid new : Holding) (read : List ℕ) (es : List Exchange) (e : Exchange) (inbox rest : List ℕ)
-    → HasRun old mid read es inbox → All GoesOn es → HasMessage inbox e.message rest → AnswersMessage e.message e.answer mid new
-    → HasRun old new read (es ++ e ∷ []) rest
-ran_one old mid new read es e inbox rest x goes has step = record {
+pub ran_one : (Ran Ran' : List Exchange → Type 0) (read : List ℕ) (es : List Exchange) (e : Exchange) (inbox rest : List ℕ)
+    → HasRun Ran read es inbox → HasMessage inbox e.message rest → ((es : List Exchange) → Ran es → Ran' (es ++ e ∷ []))
+    → HasRun Ran' read (es ++ e ∷ []) rest
+ran_one Ran Ran' read es e inbox rest x has grows = record {
   splits = rw (map-append (λ (x : Exchange). x.message) es (e ∷ [])) (HasMessages-snoc read inbox rest (messages_of es) e.message x.splits has);
-  run = run_one old mid new es e x.run goes step;
+  ran = grows es x.ran;
 }
+
+-- the same told otherwise of the run
+pub ran_as : (Ran Ran' : List Exchange → Type 0) (read : List ℕ) (es : List Exchange) (rest : List ℕ) → HasRun Ran read es rest → ((es : List Exchange) → Ran es → Ran' es) → HasRun Ran' read es rest
+ran_as Ran Ran' read es rest x tell = record { splits = x.splits; ran = tell es x.ran }

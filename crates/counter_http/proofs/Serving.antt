@@ -2,20 +2,21 @@
 use Rattle.std.proofs.Common.{◌≡◌, ◌≢◌, ℕ, ◌+◌, ◌<◌, inl, inr, List, [], ◌∷◌, ◌++◌, length, refl, ap, ◌∙◌, arith, append-nil, length-append, Option}
 use Rattle.std.proofs.lemmas.List.Elements.{All-push}
 use Rattle.std.proofs.lemmas.Grind.{flat_map-append}
-use Rattle.std.specs.Io.KnownBytes.{Appends, Consumes, IsAtEnd}
+use Rattle.std.specs.Io.KnownBytes.{Appends, Consumes, Keeps, IsAtEnd}
 use Rattle.http_messages.specs.Input.{HasMessage, IsCut}
 use Rattle.http_messages.specs.declared.messages.Fault.{Fault}
 use Rattle.http_messages.specs.declared.messages.Fault.TheVariants.{BadHead, TooLong}
 use Rattle.http_messages.specs.declared.messages.Reading.TheVariants.{Refused as NoMessage}
 use Rattle.http_messages.specs.Shown.{IsReading}
-use Rattle.chain_engine.specs.Holding.{Holding}
-use Rattle.counter_http.specs.Events.{AnswersMessage}
-use Rattle.counter_http.specs.Exchanges.{Exchange, text_of, texts, GoesOn, HasRun}
-use Rattle.counter_http.specs.Served.{IsAfter, IsServing, IsServed, IsWriteFault, IsRefused, fault_text}
+use Rattle.counter_http.specs.Exchanges.{Exchange, text_of, texts, GoesOn}
+use Rattle.counter_http.specs.Served.{IsAfter, IsServing, IsServed, IsReadFault, IsWriteFault, IsFault, IsRefused, fault_text}
+use Rattle.counter_http.specs.declared.connection.Served.{Served}
+use Rattle.counter_http.specs.declared.connection.ServeFault.{ServeFault}
+use Rattle.counter_http.specs.declared.connection.ServeFault.TheVariants as kind
 use Rattle.counter_http.specs.declared.connection.After.TheVariants.{Asks, Fails}
-use Rattle.counter_http.specs.declared.connection.End.TheVariants.{Closed, Cut, Asked, Refused, StoreFailed}
-use Rattle.counter_http.proofs.KnownBytes.{Appends-nil, Appends-trans, Consumes-nil, Consumes-trans, IsFrontWritten}
-use Rattle.counter_http.proofs.Runs.{ran_none, ran_more, ran_one}
+use Rattle.counter_http.specs.declared.connection.End.TheVariants.{Closed, Cut, Asked, Limit, Refused, StoreFailed}
+use Rattle.counter_http.proofs.KnownBytes.{Appends-nil, Appends-trans, Consumes-nil, Consumes-trans, Consumes-kept, IsFrontWritten}
+use Rattle.counter_http.proofs.Runs.{ran_none, ran_more, ran_one, ran_as}
 
 pub texts-snoc : (es : List Exchange) (e : Exchange) → texts (es ++ e ∷ []) ≡ texts es ++ text_of e.answer
 texts-snoc es e =
@@ -30,76 +31,76 @@ nil_from_length [] e = refl
 nil_from_length (x ∷ xs) e = absurd (omega arith)
 
 -- a read
-pub serving_more : (n : ℕ) (old new : Holding) (inbox longer more : List ℕ) (input mid left output written : Option (List ℕ))
-    → IsServing n old new inbox input mid output written
+pub serving_more : (n : ℕ) (Ran : List Exchange → Type 0) (inbox longer more : List ℕ) (input mid left output written : Option (List ℕ))
+    → IsServing n Ran inbox input mid output written
     → Consumes mid left more → longer ≡ inbox ++ more
-    → IsServing n old new longer input left output written
-serving_more n old new inbox longer more input mid left output written x consumes e = record {
+    → IsServing n Ran longer input left output written
+serving_more n Ran inbox longer more input mid left output written x consumes e = record {
   read = x.read ++ more;
   exchanges = x.exchanges;
   consumed = Consumes-trans input mid left x.read more x.consumed consumes;
-  ran = rw e (ran_more old new x.read more x.exchanges inbox x.ran);
+  ran = rw e (ran_more Ran x.read more x.exchanges inbox x.ran);
   writes = x.writes;
   count = x.count;
   goes = x.goes;
 }
 
 -- an exchange, behind which the connection goes on
-pub serving_one : (n : ℕ) (old mid new : Holding) (inbox rest : List ℕ) (input left output written later : Option (List ℕ)) (e : Exchange)
-    → IsServing n old mid inbox input left output written
-    → HasMessage inbox e.message rest → AnswersMessage e.message e.answer mid new
+pub serving_one : (n : ℕ) (Ran Ran' : List Exchange → Type 0) (inbox rest : List ℕ) (input left output written later : Option (List ℕ)) (e : Exchange)
+    → IsServing n Ran inbox input left output written
+    → HasMessage inbox e.message rest → ((es : List Exchange) → Ran es → Ran' (es ++ e ∷ []))
     → Appends written later (text_of e.answer) → GoesOn e
-    → IsServing (n + 1) old new rest input left output later
-serving_one n old mid new inbox rest input left output written later e x has step appends goes = record {
+    → IsServing (n + 1) Ran' rest input left output later
+serving_one n Ran Ran' inbox rest input left output written later e x has grows appends goes = record {
   read = x.read;
   exchanges = x.exchanges ++ e ∷ [];
   consumed = x.consumed;
-  ran = ran_one old mid new x.read x.exchanges e inbox rest x.ran x.goes has step;
+  ran = ran_one Ran Ran' x.read x.exchanges e inbox rest x.ran has grows;
   writes = rw (texts-snoc x.exchanges e) (Appends-trans output written later (texts x.exchanges) (text_of e.answer) x.writes appends);
   count = let l = length-append x.exchanges (e ∷ []) in let c = x.count in omega arith;
   goes = All-push GoesOn x.exchanges e x.goes goes;
 }
 
 -- an exchange, which is the last
-pub served_asked : (n max : ℕ) (old mid new : Holding) (inbox rest : List ℕ) (input left output written later : Option (List ℕ)) (e : Exchange)
-    → IsServing n old mid inbox input left output written
-    → HasMessage inbox e.message rest → AnswersMessage e.message e.answer mid new
+pub served_asked : (n max : ℕ) (Ran Ran' : List Exchange → Type 0) (inbox rest : List ℕ) (input left output written later : Option (List ℕ)) (e : Exchange)
+    → IsServing n Ran inbox input left output written
+    → HasMessage inbox e.message rest → ((es : List Exchange) → Ran es → Ran' (es ++ e ∷ []))
     → n < max → Appends written later (text_of e.answer) → IsAfter Asks e
-    → IsServed (record { replies = n + 1; end = Asked }) max old new input left output later
-served_asked n max old mid new inbox rest input left output written later e x has step lt appends asks = record {
+    → IsServed (record { replies = n + 1; end = Asked }) max Ran' input left output later
+served_asked n max Ran Ran' inbox rest input left output written later e x has grows lt appends asks = record {
   read = x.read;
   exchanges = x.exchanges ++ e ∷ [];
   rest = rest;
   last = [];
   consumed = x.consumed;
-  ran = ran_one old mid new x.read x.exchanges e inbox rest x.ran x.goes has step;
+  ran = ran_one Ran Ran' x.read x.exchanges e inbox rest x.ran has grows;
   writes = rw (append-nil (texts (x.exchanges ++ e ∷ [])), texts-snoc x.exchanges e) (Appends-trans output written later (texts x.exchanges) (text_of e.answer) x.writes appends);
   count = let l = length-append x.exchanges (e ∷ []) in let c = x.count in omega arith;
   ends = ((x.exchanges, e, refl, x.goes, asks), (let l = length-append x.exchanges (e ∷ []) in let c = x.count in omega arith), refl);
 }
 
-pub served_failed : (n max : ℕ) (old mid new : Holding) (inbox rest : List ℕ) (input left output written later : Option (List ℕ)) (e : Exchange)
-    → IsServing n old mid inbox input left output written
-    → HasMessage inbox e.message rest → AnswersMessage e.message e.answer mid new
+pub served_failed : (n max : ℕ) (Ran Ran' : List Exchange → Type 0) (inbox rest : List ℕ) (input left output written later : Option (List ℕ)) (e : Exchange)
+    → IsServing n Ran inbox input left output written
+    → HasMessage inbox e.message rest → ((es : List Exchange) → Ran es → Ran' (es ++ e ∷ []))
     → n < max → Appends written later (text_of e.answer) → IsAfter Fails e
-    → IsServed (record { replies = n + 1; end = StoreFailed }) max old new input left output later
-served_failed n max old mid new inbox rest input left output written later e x has step lt appends fails = record {
+    → IsServed (record { replies = n + 1; end = StoreFailed }) max Ran' input left output later
+served_failed n max Ran Ran' inbox rest input left output written later e x has grows lt appends fails = record {
   read = x.read;
   exchanges = x.exchanges ++ e ∷ [];
   rest = rest;
   last = [];
   consumed = x.consumed;
-  ran = ran_one old mid new x.read x.exchanges e inbox rest x.ran x.goes has step;
+  ran = ran_one Ran Ran' x.read x.exchanges e inbox rest x.ran has grows;
   writes = rw (append-nil (texts (x.exchanges ++ e ∷ [])), texts-snoc x.exchanges e) (Appends-trans output written later (texts x.exchanges) (text_of e.answer) x.writes appends);
   count = let l = length-append x.exchanges (e ∷ []) in let c = x.count in omega arith;
   ends = ((x.exchanges, e, refl, x.goes, fails), (let l = length-append x.exchanges (e ∷ []) in let c = x.count in omega arith), refl);
 }
 
 -- the end of what there is to read
-pub served_closed : (n max : ℕ) (old new : Holding) (inbox : List ℕ) (input left output written : Option (List ℕ))
-    → IsServing n old new inbox input left output written → n < max → IsAtEnd left → inbox ≡ []
-    → IsServed (record { replies = n; end = Closed }) max old new input left output written
-served_closed n max old new inbox input left output written x lt at_end none = record {
+pub served_closed : (n max : ℕ) (Ran : List Exchange → Type 0) (inbox : List ℕ) (input left output written : Option (List ℕ))
+    → IsServing n Ran inbox input left output written → n < max → IsAtEnd left → inbox ≡ []
+    → IsServed (record { replies = n; end = Closed }) max Ran input left output written
+served_closed n max Ran inbox input left output written x lt at_end none = record {
   read = x.read;
   exchanges = x.exchanges;
   rest = inbox;
@@ -111,10 +112,25 @@ served_closed n max old new inbox input left output written x lt at_end none = r
   ends = (x.goes, (let c = x.count in omega arith), at_end, none, refl);
 }
 
-pub served_cut : (n max : ℕ) (old new : Holding) (inbox : List ℕ) (input left output written : Option (List ℕ))
-    → IsServing n old new inbox input left output written → n < max → IsAtEnd left → inbox ≢ [] → IsCut inbox
-    → IsServed (record { replies = n; end = Cut }) max old new input left output written
-served_cut n max old new inbox input left output written x lt at_end some cut = record {
+pub served_limit : (n max : ℕ) (Ran : List Exchange → Type 0) (inbox : List ℕ) (input left output written : Option (List ℕ))
+    → IsServing n Ran inbox input left output written → n ≡ max
+    → IsServed (record { replies = n; end = Limit }) max Ran input left output written
+served_limit n max Ran inbox input left output written x most = record {
+  read = x.read;
+  exchanges = x.exchanges;
+  rest = inbox;
+  last = [];
+  consumed = x.consumed;
+  ran = x.ran;
+  writes = rw (append-nil (texts x.exchanges)) x.writes;
+  count = let c = x.count in omega arith;
+  ends = (x.goes, (let c = x.count in omega arith), refl);
+}
+
+pub served_cut : (n max : ℕ) (Ran : List Exchange → Type 0) (inbox : List ℕ) (input left output written : Option (List ℕ))
+    → IsServing n Ran inbox input left output written → n < max → IsAtEnd left → inbox ≢ [] → IsCut inbox
+    → IsServed (record { replies = n; end = Cut }) max Ran input left output written
+served_cut n max Ran inbox input left output written x lt at_end some cut = record {
   read = x.read;
   exchanges = x.exchanges;
   rest = inbox;
@@ -126,11 +142,11 @@ served_cut n max old new inbox input left output written x lt at_end some cut = 
   ends = (x.goes, (let c = x.count in omega arith), at_end, some, cut, refl);
 }
 
-pub served_refused : (n max : ℕ) (old new : Holding) (inbox : List ℕ) (input left output written later : Option (List ℕ)) (fault : Fault)
-    → IsServing n old new inbox input left output written → n < max → IsRefused fault inbox
+pub served_refused : (n max : ℕ) (Ran : List Exchange → Type 0) (inbox : List ℕ) (input left output written later : Option (List ℕ)) (fault : Fault)
+    → IsServing n Ran inbox input left output written → n < max → IsRefused fault inbox
     → Appends written later (fault_text fault)
-    → IsServed (record { replies = n + 1; end = Refused }) max old new input left output later
-served_refused n max old new inbox input left output written later fault x lt refused appends = record {
+    → IsServed (record { replies = n + 1; end = Refused }) max Ran input left output later
+served_refused n max Ran inbox input left output written later fault x lt refused appends = record {
   read = x.read;
   exchanges = x.exchanges;
   rest = inbox;
@@ -142,13 +158,28 @@ served_refused n max old new inbox input left output written later fault x lt re
   ends = (x.goes, (let c = x.count in omega arith), fault, refused, refl);
 }
 
+-- a read that failed
+pub fault_read : (n : ℕ) (Ran : List Exchange → Type 0) (inbox : List ℕ) (input left after output written : Option (List ℕ))
+    → IsServing n Ran inbox input left output written → Keeps left after
+    → IsReadFault n Ran input after output written
+fault_read n Ran inbox input left after output written x keeps = record {
+  read = x.read;
+  exchanges = x.exchanges;
+  rest = inbox;
+  consumed = Consumes-kept input left after x.read x.consumed keeps;
+  ran = x.ran;
+  writes = x.writes;
+  count = x.count;
+  goes = x.goes;
+}
+
 -- a write that failed
-pub fault_reply : (n : ℕ) (old mid new : Holding) (inbox rest : List ℕ) (input left output written later : Option (List ℕ)) (e : Exchange)
-    → IsServing n old mid inbox input left output written
-    → HasMessage inbox e.message rest → AnswersMessage e.message e.answer mid new
+pub fault_reply : (n : ℕ) (Ran Ran' : List Exchange → Type 0) (inbox rest : List ℕ) (input left output written later : Option (List ℕ)) (e : Exchange)
+    → IsServing n Ran inbox input left output written
+    → HasMessage inbox e.message rest → ((es : List Exchange) → Ran es → Ran' (es ++ e ∷ []))
     → IsFrontWritten written later (text_of e.answer)
-    → IsWriteFault n old new input left output later
-fault_reply n old mid new inbox rest input left output written later e x has step (part, more, is, unfinished, appends) = record {
+    → IsWriteFault n Ran' input left output later
+fault_reply n Ran Ran' inbox rest input left output written later e x has grows (part, more, is, unfinished, appends) = record {
   unfinished = unfinished;
   read = x.read;
   exchanges = x.exchanges;
@@ -157,18 +188,18 @@ fault_reply n old mid new inbox rest input left output written later e x has ste
   part = part;
   more = more;
   consumed = x.consumed;
-  ran = ran_one old mid new x.read x.exchanges e inbox rest x.ran x.goes has step;
+  ran = ran_one Ran Ran' x.read x.exchanges e inbox rest x.ran has grows;
   writes = Appends-trans output written later (texts x.exchanges) part x.writes appends;
   cut = inl (e, refl, is);
   count = x.count;
   goes = x.goes;
 }
 
-pub fault_refusal : (n : ℕ) (old new : Holding) (inbox : List ℕ) (input left output written later : Option (List ℕ)) (fault : Fault)
-    → IsServing n old new inbox input left output written → IsRefused fault inbox
+pub fault_refusal : (n : ℕ) (Ran : List Exchange → Type 0) (inbox : List ℕ) (input left output written later : Option (List ℕ)) (fault : Fault)
+    → IsServing n Ran inbox input left output written → IsRefused fault inbox
     → IsFrontWritten written later (fault_text fault)
-    → IsWriteFault n old new input left output later
-fault_refusal n old new inbox input left output written later fault x refused (part, more, is, unfinished, appends) = record {
+    → IsWriteFault n Ran input left output later
+fault_refusal n Ran inbox input left output written later fault x refused (part, more, is, unfinished, appends) = record {
   unfinished = unfinished;
   read = x.read;
   exchanges = x.exchanges;
@@ -185,13 +216,58 @@ fault_refusal n old new inbox input left output written later fault x refused (p
 }
 
 -- nothing is read or written yet
-pub serving_none : (old : Holding) (inbox : List ℕ) (input output : Option (List ℕ)) → inbox ≡ [] → IsServing 0 old old inbox input input output output
-serving_none old inbox input output none = record {
+pub serving_none : (Ran : List Exchange → Type 0) (inbox : List ℕ) (input output : Option (List ℕ)) → Ran [] → inbox ≡ [] → IsServing 0 Ran inbox input input output output
+serving_none Ran inbox input output start none = record {
   read = [];
   exchanges = [];
   consumed = Consumes-nil input;
-  ran = rw none (ran_none old);
+  ran = rw none (ran_none Ran start);
   writes = Appends-nil output;
   count = refl;
   goes = λ k d lt. absurd (omega arith);
+}
+
+-- ---- the same told otherwise of the run
+
+pub served_as : (served : Served) (most : ℕ) (Ran Ran' : List Exchange → Type 0) (input left output written : Option (List ℕ)) → IsServed served most Ran input left output written
+    → ((es : List Exchange) → Ran es → Ran' es) → IsServed served most Ran' input left output written
+served_as served most Ran Ran' input left output written x tell = record {
+  read = x.read;
+  exchanges = x.exchanges;
+  rest = x.rest;
+  last = x.last;
+  consumed = x.consumed;
+  ran = ran_as Ran Ran' x.read x.exchanges x.rest x.ran tell;
+  writes = x.writes;
+  count = x.count;
+  ends = x.ends;
+}
+
+pub fault_as : (fault : ServeFault) (Ran Ran' : List Exchange → Type 0) (input left output written : Option (List ℕ)) → IsFault fault Ran input left output written
+    → ((es : List Exchange) → Ran es → Ran' es) → IsFault fault Ran' input left output written
+fault_as kind.Memory Ran Ran' input left output written x tell = (tell [] x.0, x.1, x.2)
+fault_as (kind.Read replies) Ran Ran' input left output written x tell = record {
+  read = x.read;
+  exchanges = x.exchanges;
+  rest = x.rest;
+  consumed = x.consumed;
+  ran = ran_as Ran Ran' x.read x.exchanges x.rest x.ran tell;
+  writes = x.writes;
+  count = x.count;
+  goes = x.goes;
+}
+fault_as (kind.Write replies) Ran Ran' input left output written x tell = record {
+  read = x.read;
+  exchanges = x.exchanges;
+  failed = x.failed;
+  rest = x.rest;
+  part = x.part;
+  more = x.more;
+  consumed = x.consumed;
+  ran = ran_as Ran Ran' x.read (x.exchanges ++ x.failed) x.rest x.ran tell;
+  writes = x.writes;
+  unfinished = x.unfinished;
+  cut = x.cut;
+  count = x.count;
+  goes = x.goes;
 }

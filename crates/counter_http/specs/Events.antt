@@ -1,13 +1,13 @@
 -- A message as an event of the chain, and what the chain may do at it.
-use Rattle.std.specs.Prelude.{◌≡◌, ℕ, List, Option, Some, None, option_and_then, if◌then◌else◌}
+use Rattle.std.specs.Prelude.{ℕ, List, Option, Some, None, option_and_then, if◌then◌else◌}
 use Rattle.http_messages.specs.Message.{Message}
 use Rattle.shop_values.specs.Texts.{is_token}
 use Rattle.shop_model.specs.Machine.{Request}
 use Rattle.shop_model.specs.Answers.{Answer}
-use Rattle.shop_model.specs.Books.{Event, Caller, caller_of}
+use Rattle.shop_model.specs.Books.{Event, Caller, Nobody, caller_of}
 use Rattle.counter_routes.specs.Readings.{reading_of}
 use Rattle.chain_engine.specs.Holding.{Holding}
-use Rattle.chain_engine.specs.Chains.{Answers}
+use Rattle.chain_engine.specs.Chains.{Answers, AnswersEvent}
 
 -- a text that is no token is nobody's, as none is
 abbrev pub known_token : Option (List ℕ) → Option (List ℕ)
@@ -21,6 +21,11 @@ event_of message = record { token = known_token message.token; request = reading
 abbrev pub sender_of : Message → Holding → Caller
 sender_of message holding = caller_of (known_token message.token) holding.books.catalogue
 
--- the chain makes the books' step at the message and answers so, or lacks memory
+-- The chain makes the books' step at the message and answers so, or lacks memory or room, or the store fails. Where the store had failed before, the answer is
+-- its failure.
 abbrev pub AnswersMessage : Message → Answer → Holding → Holding → Type 0
-AnswersMessage message answer old new = Answers (sender_of message old) (reading_of message (sender_of message old)) answer old new
+AnswersMessage message answer old new = AnswersEvent (event_of message) answer old new
+
+-- the answer to nobody, whatever nobody asks
+abbrev pub AnswersNobody : Answer → Holding → Holding → Type 0
+AnswersNobody answer old new = (request : Request) → Answers Nobody request answer old new

@@ -1,15 +1,15 @@
 -- The messages of a connection and the answers to them.
-use Rattle.std.specs.Prelude.{◌≡◌, ℕ, false, List, [], ◌∷◌, map, codes}
+use Rattle.std.specs.Prelude.{◌≡◌, ℕ, false, List, map}
 use Rattle.std.specs.List.{flat_map}
 use Rattle.http_messages.specs.Message.{Message}
 use Rattle.http_messages.specs.Input.{HasMessages}
 use Rattle.http_messages.specs.Text.{reply_text}
-use Rattle.shop_model.specs.Refusals.{Problem}
-use Rattle.shop_model.specs.Answers.{Answer, problem_answer}
+use Rattle.shop_model.specs.Answers.{Answer}
 use Rattle.shop_model.specs.Books.{Event}
 use Rattle.shop_model.specs.Histories.{is_store_failure}
-use Rattle.chain_engine.specs.Holding.{Holding}
-use Rattle.chain_engine.specs.Chains.{Runs}
+use Rattle.sqlite_trees.specs.declared.store.Store.{Ghosts}
+use Rattle.chain_engine.specs.Holding.{Chained}
+use Rattle.chain_engine.specs.Chains.{Takes, Runs}
 use Rattle.counter_http.specs.Events.{event_of}
 
 -- a message and the answer to it
@@ -39,7 +39,12 @@ pub record GoesOn (exchange : Exchange) : Type 0 where
   pub stays : exchange.message.closes ≡ false
   pub sound : is_store_failure exchange.answer ≡ false
 
--- what was read begins with the messages of the exchanges, and then a rest that isn't answered; the answers are those of the run over the messages
-pub record HasRun (old new : Holding) (read : List ℕ) (exchanges : List Exchange) (rest : List ℕ) : Type 0 where
+-- the chain answers the messages, one after another
+abbrev pub RunsOver : {S : Type 0} → Ghosts S → Chained S → Chained S → List Exchange → Type 0
+RunsOver g old new exchanges = Takes g old new (Runs (events_of exchanges) (answers_of exchanges))
+
+-- What was read begins with the messages of the exchanges, and then a rest that isn't answered; and `Ran` is so of the exchanges. What is said of the bytes
+-- doesn't wait for a disk that gives back what was written.
+pub record HasRun (Ran : List Exchange → Type 0) (read : List ℕ) (exchanges : List Exchange) (rest : List ℕ) : Type 0 where
   pub splits : HasMessages read (messages_of exchanges) rest
-  pub run : Runs (events_of exchanges) (answers_of exchanges) old new
+  pub ran : Ran exchanges

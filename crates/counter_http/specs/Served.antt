@@ -7,7 +7,6 @@ use Rattle.http_messages.specs.declared.messages.Fault.TheVariants.{BadHead, Too
 use Rattle.shop_model.specs.Refusals as named
 use Rattle.shop_model.specs.Answers.{problem_answer}
 use Rattle.shop_model.specs.Histories.{is_store_failure}
-use Rattle.chain_engine.specs.Holding.{Holding}
 use Rattle.counter_http.specs.Exchanges.{Exchange, text_of, texts, GoesOn, HasRun}
 use Rattle.counter_http.specs.declared.connection.End.{End}
 use Rattle.counter_http.specs.declared.connection.End.TheVariants.{Closed, Cut, Asked, Limit, Refused, StoreFailed}
@@ -57,33 +56,33 @@ fault_replies Limit = 0
 fault_replies Asked = 0
 fault_replies StoreFailed = 0
 
--- What was read is some messages and a rest. The chain ran over the messages, and the bytes of its answers were written, in order,
+-- What was read is some messages and a rest. The chain ran over the messages, of which `Ran` tells, and the bytes of its answers were written, in order,
 -- and behind them those for a text that is no message, where there was one.
-pub record IsServed (served : Served) (most : ℕ) (old new : Holding) (input left output written : Option (List ℕ)) : Type 0 where
+pub record IsServed (served : Served) (most : ℕ) (Ran : List Exchange → Type 0) (input left output written : Option (List ℕ)) : Type 0 where
   pub read : List ℕ
   pub exchanges : List Exchange
   pub rest : List ℕ
   pub last : List ℕ
   pub consumed : Consumes input left read
-  pub ran : HasRun old new read exchanges rest
+  pub ran : HasRun Ran read exchanges rest
   pub writes : Appends output written (texts exchanges ++ last)
   pub count : served.replies ≡ length exchanges + fault_replies served.end
   pub ends : IsEnd served.end most exchanges left rest last
 
 -- a read failed behind these exchanges
-pub record IsReadFault (replies : ℕ) (old new : Holding) (input left output written : Option (List ℕ)) : Type 0 where
+pub record IsReadFault (replies : ℕ) (Ran : List Exchange → Type 0) (input left output written : Option (List ℕ)) : Type 0 where
   pub read : List ℕ
   pub exchanges : List Exchange
   pub rest : List ℕ
   pub consumed : Consumes input left read
-  pub ran : HasRun old new read exchanges rest
+  pub ran : HasRun Ran read exchanges rest
   pub writes : Appends output written (texts exchanges)
   pub count : replies ≡ length exchanges
   pub goes : All GoesOn exchanges
 
 -- A write failed: of the answer to one more message, at which the chain has acted, or of the reply to a text that is no message.
 -- What was written is a front of the replies, and `replies` counts the whole ones.
-pub record IsWriteFault (replies : ℕ) (old new : Holding) (input left output written : Option (List ℕ)) : Type 0 where
+pub record IsWriteFault (replies : ℕ) (Ran : List Exchange → Type 0) (input left output written : Option (List ℕ)) : Type 0 where
   pub read : List ℕ
   pub exchanges : List Exchange
   pub failed : List Exchange
@@ -91,7 +90,7 @@ pub record IsWriteFault (replies : ℕ) (old new : Holding) (input left output w
   pub part : List ℕ
   pub more : List ℕ
   pub consumed : Consumes input left read
-  pub ran : HasRun old new read (exchanges ++ failed) rest
+  pub ran : HasRun Ran read (exchanges ++ failed) rest
   pub writes : Appends output written (texts exchanges ++ part)
   pub unfinished : 0 < length more
   pub cut : ((exchange : Exchange) × (failed ≡ exchange ∷ []) × (text_of exchange.answer ≡ part ++ more))
@@ -99,17 +98,17 @@ pub record IsWriteFault (replies : ℕ) (old new : Holding) (input left output w
   pub count : replies ≡ length exchanges
   pub goes : All GoesOn exchanges
 
-abbrev pub IsFault : ServeFault → Holding → Holding → Option (List ℕ) → Option (List ℕ) → Option (List ℕ) → Option (List ℕ) → Type 0
-IsFault Memory old new input left output written = (new ≡ old) × Keeps input left × Keeps output written
-IsFault (Read replies) old new input left output written = IsReadFault replies old new input left output written
-IsFault (Write replies) old new input left output written = IsWriteFault replies old new input left output written
+abbrev pub IsFault : ServeFault → (List Exchange → Type 0) → Option (List ℕ) → Option (List ℕ) → Option (List ℕ) → Option (List ℕ) → Type 0
+IsFault Memory Ran input left output written = Ran [] × Keeps input left × Keeps output written
+IsFault (Read replies) Ran input left output written = IsReadFault replies Ran input left output written
+IsFault (Write replies) Ran input left output written = IsWriteFault replies Ran input left output written
 
 -- where a connection stands between two requests
-pub record IsServing (replies : ℕ) (old new : Holding) (inbox : List ℕ) (input left output written : Option (List ℕ)) : Type 0 where
+pub record IsServing (replies : ℕ) (Ran : List Exchange → Type 0) (inbox : List ℕ) (input left output written : Option (List ℕ)) : Type 0 where
   pub read : List ℕ
   pub exchanges : List Exchange
   pub consumed : Consumes input left read
-  pub ran : HasRun old new read exchanges inbox
+  pub ran : HasRun Ran read exchanges inbox
   pub writes : Appends output written (texts exchanges)
   pub count : replies ≡ length exchanges
   pub goes : All GoesOn exchanges

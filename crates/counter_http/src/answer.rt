@@ -1,37 +1,53 @@
 //! One message and its answer.
-ghost use Rattle.std.specs.Prelude.{◌≡◌, IfOk, IfErr};
+ghost use Rattle.std.specs.Prelude.{◌≡◌};
 ghost use Rattle.http_messages.specs.Shown.{message_of};
-ghost use Rattle.shop_types.specs.Seen.{seen_caller};
 ghost use Rattle.shop_types.specs.Replies.{seen_reply};
-ghost use Rattle.chain_engine.specs.Decisions.{IsStoreRefusal};
-ghost use Rattle.counter_http.specs.Events.{sender_of, AnswersMessage};
+ghost use Rattle.shop_model.specs.Books.{Books};
+ghost use Rattle.chain_engine.specs.Holding.{holding};
+ghost use Rattle.chain_engine.specs.Chains.{Takes};
+ghost use Rattle.counter_http.specs.Events.{known_token, AnswersNobody, AnswersMessage};
 
 use chain_engine::Chain;
 use counter_routes::{Reading, Routes};
 use http_messages::Request;
-use shop_types::{Caller, Refusal, Reply, Token};
+use shop_types::{Refusal, Reply, Token};
+use sqlite::Alter;
 use std::alloc::Global;
 
-/// Who sent the message.
-fn sender(chain: &mut Chain, message: &Request<'_>) -> Result<Caller, Refusal>
-    ensures found { IfOk result (λ caller. seen_caller caller ≡ sender_of (message_of message.now) chain.old) }
-    ensures store { IfErr result (λ refusal. IsStoreRefusal refusal) }
-    ensures same { chain.new ≡ chain.old }
+/// The token that came with the message, where it is one.
+fn token_of(message: &Request<'_>) -> Option<Token>
+    ensures { result ≡ known_token (message_of message.now).token }
 {
-    let Some(digits) = message.token else {
-        return Ok(Caller::Nobody);
-    };
-    match Token::read(digits) {
-        Some(token) => chain.caller(&token),
-        None => Ok(Caller::Nobody),
+    match message.token {
+        Some(digits) => Token::read(digits),
+        None => None,
     }
 }
 
-/// The chain's reply to a message. Who sent it is looked for before what it asks, and want of memory is answered as such.
-pub fn answer(alloc: Global, chain: &mut Chain, routes: &Routes, message: &Request<'_>) -> Reply
-    ensures { AnswersMessage (message_of message.now) (seen_reply result) chain.old chain.new }
+/// The chain's reply to somebody who sent no token, whatever is asked.
+fn answer_nobody<S: Alter>(chain: &Chain<S>) -> Reply
+    ensures { (books : Books) → AnswersNobody (seen_reply result) (holding chain.now books) (holding chain.now books) }
 {
-    let caller = match sender(chain, message) {
+    if chain.is_failed() {
+        Reply::refused(Refusal::StoreFailed)
+    } else {
+        Reply::refused(Refusal::NoCounter)
+    }
+}
+
+/// The chain's reply to a message. Who sent it is looked for before what it asks, and what the store lacks is answered as such.
+pub fn answer<S: Alter>(
+    alloc: Global,
+    chain: &mut Chain<S>,
+    routes: &Routes,
+    message: &Request<'_>,
+) -> Reply
+    ensures { Takes S.Store chain.old chain.new (AnswersMessage (message_of message.now) (seen_reply result)) }
+{
+    let Some(token) = token_of(message) else {
+        return answer_nobody(chain);
+    };
+    let caller = match chain.caller(&token) {
         Ok(caller) => caller,
         Err(refusal) => return Reply::refused(refusal),
     };

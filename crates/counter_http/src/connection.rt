@@ -5,8 +5,9 @@ ghost use Rattle.http_messages.specs.Shown.{message_of};
 ghost use Rattle.shop_model.specs.Answers.{Answer};
 ghost use Rattle.shop_model.specs.Histories.{is_store_failure};
 ghost use Rattle.shop_types.specs.Replies.{seen_reply};
+ghost use Rattle.chain_engine.specs.Chains.{Takes};
 ghost use Rattle.counter_http.specs.Events.{AnswersMessage};
-ghost use Rattle.counter_http.specs.Exchanges.{text_of};
+ghost use Rattle.counter_http.specs.Exchanges.{text_of, RunsOver};
 ghost use Rattle.counter_http.specs.Served.{IsAfter, IsServed, IsFault, fault_text};
 
 use crate::answer::answer;
@@ -16,6 +17,7 @@ use chain_engine::Chain;
 use counter_routes::Routes;
 use http_messages::{Fault, Reading, Request, read_request, reply_head};
 use shop_types::{OfficeWords, Refusal, Reply};
+use sqlite::Alter;
 use std::alloc::Global;
 use std::io::{self, Read, Write};
 
@@ -92,17 +94,17 @@ fn fault_reply(fault: Fault) -> Reply
 }
 
 /// Answers one request.
-fn respond<W: Write>(
+fn respond<W: Write, S: Alter>(
     alloc: Global,
     writer: &mut W,
-    chain: &mut Chain,
+    chain: &mut Chain<S>,
     routes: &Routes,
     request: &Request<'_>,
 ) -> io::Result<After>
-    ensures ok { IfOk result (λ after. (a : Answer) × AnswersMessage (message_of request.now) a chain.old chain.new
+    ensures ok { IfOk result (λ after. (a : Answer) × Takes S.Store chain.old chain.new (AnswersMessage (message_of request.now) a)
         × Appends (W.contents writer.old) (W.contents writer.new) (text_of a)
         × IsAfter after (record { message = message_of request.now; answer = a })) }
-    ensures err { OnErr result ((a : Answer) × AnswersMessage (message_of request.now) a chain.old chain.new
+    ensures err { OnErr result ((a : Answer) × Takes S.Store chain.old chain.new (AnswersMessage (message_of request.now) a)
         × ((front : List ℕ) × (rest : List ℕ) × (text_of a ≡ front ++ rest) × (0 < length rest)
         × Appends (W.contents writer.old) (W.contents writer.new) front)) }
 {
@@ -121,17 +123,17 @@ fn respond<W: Write>(
 /// Reads requests and writes the replies to them, until the input or the connection ends, or `max_requests` are answered; with 0 nothing is read.
 /// However the reader cuts its bytes, the replies are those to the messages of what it gives, in order.
 /// The memory for the connection is taken before the first byte is read. `words` reads head office's words: no route asks it yet.
-pub fn serve<R: Read, W: Write, O: OfficeWords>(
+pub fn serve<R: Read, W: Write, O: OfficeWords, S: Alter>(
     alloc: Global,
     reader: &mut R,
     writer: &mut W,
-    chain: &mut Chain,
+    chain: &mut Chain<S>,
     _words: &O,
     max_requests: u32,
 ) -> Result<Served, ServeFault>
-    ensures served { IfOk result (λ served. IsServed served max_requests chain.old chain.new
+    ensures served { IfOk result (λ served. IsServed served max_requests (RunsOver S.Store chain.old chain.new)
         (R.remaining reader.old) (R.remaining reader.new) (W.contents writer.old) (W.contents writer.new)) }
-    ensures fault { IfErr result (λ fault. IsFault fault chain.old chain.new
+    ensures fault { IfErr result (λ fault. IsFault fault (RunsOver S.Store chain.old chain.new)
         (R.remaining reader.old) (R.remaining reader.new) (W.contents writer.old) (W.contents writer.new)) }
     ensures none_allowed { max_requests ≡ 0 → IfOk result (λ served. (served.end ≡ End.Limit)
         × Keeps (R.remaining reader.old) (R.remaining reader.new) × Keeps (W.contents writer.old) (W.contents writer.new)) }

@@ -1,10 +1,12 @@
 -- The program's one word so far, and the status that it ends with.
-use Rattle.std.specs.Prelude.{◌≡◌, ℕ, Bool, true, false, List, [], ◌∷◌, Option, codes}
+use Rattle.std.specs.Prelude.{◌≡◌, ℕ, Bool, false, List, [], ◌∷◌, Option, codes}
 use Rattle.std.specs.Str.{bytes_eq}
 use Rattle.std.specs.Io.KnownBytes.{Keeps}
 use Rattle.shop_values.specs.LimitValues.{most_limits}
 use Rattle.shop_model.specs.Opening.{opening_books}
 use Rattle.chain_engine.specs.Holding.{Holding}
+use Rattle.chain_engine.specs.Chains.{Runs}
+use Rattle.counter_http.specs.Exchanges.{Exchange, events_of, answers_of}
 use Rattle.counter_http.specs.Served.{IsServed, IsFault}
 use Rattle.counter_http.specs.declared.connection.End.{End}
 use Rattle.counter_http.specs.declared.connection.End.TheVariants.{Closed, Cut, Asked, Limit, Refused, StoreFailed}
@@ -28,10 +30,14 @@ status_of StoreFailed = 3
 
 -- the chain that is shown, before anything is asked
 abbrev pub opening_holding : Holding
-opening_holding = record { limits = most_limits; books = opening_books }
+opening_holding = record { limits = most_limits; is_failed = false; books = opening_books }
 
--- an input was replayed: 1,000 requests at most were answered by a chain with the opening rows, or reading, writing or memory failed
+-- the chain that is shown answers the messages, one after another
+abbrev pub RunsFromOpening : List Exchange → Type 0
+RunsFromOpening exchanges = (after : Holding) × Runs (events_of exchanges) (answers_of exchanges) opening_holding after
+
+-- an input was replayed: 1,000 requests at most were answered by a chain with the opening rows, or reading or writing failed, or there was no memory or room
 pub data Replays (status : ℕ) (input left output written : Option (List ℕ)) : Type 0 where
-  replayed : (served : Served) (after : Holding) → IsServed served 1000 opening_holding after input left output written → status ≡ status_of served.end → Replays status input left output written
-  broke_off : (fault : ServeFault) (after : Holding) → IsFault fault opening_holding after input left output written → status ≡ 3 → Replays status input left output written
+  replayed : (served : Served) → IsServed served 1000 RunsFromOpening input left output written → status ≡ status_of served.end → Replays status input left output written
+  broke_off : (fault : ServeFault) → IsFault fault RunsFromOpening input left output written → status ≡ 3 → Replays status input left output written
   no_chain : Keeps input left → Keeps output written → status ≡ 3 → Replays status input left output written

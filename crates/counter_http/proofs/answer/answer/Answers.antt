@@ -7,16 +7,33 @@ use Rattle.shop_model.specs.Answers.{Answer, problem_answer}
 use Rattle.shop_types.specs.Seen.{seen_caller}
 use Rattle.shop_types.specs.Replies.{seen_reply}
 use Rattle.counter_routes.specs.Readings.{reading_of}
+use Rattle.chain_engine.specs.Holding.{holding}
 use Rattle.counter_http.specs.Events.{sender_of, AnswersMessage}
-use Rattle.counter_http.proofs.AnswerLemmas.{refused_answers}
+use Rattle.counter_http.proofs.AnswerLemmas.{asked_answers, memory_answers, nobody_answers, refused_answers, sent_by, store_answers}
+use Rattle.chain_engine.proofs.Taking.{takes_as, takes_still, takes_then}
 use Rattle.counter_http.proofs.answer.answer.Goals as goal
 
+pub returns-in_default : goal.returns-in_default
+returns-in_default g c = takes_still (λ books. nobody_answers (message_of c.args.message.now) _ (holding c.args.chain.now books) (holding c.args.chain.now books) (sym c.token_of.ensures ∙ c.in_default.is) (c.answer_nobody.ensures books))
+
+pub returns-in-Err : goal.returns-in-Err
+returns-in-Err g c = takes_as c.in-Err.ensures.taken (λ old new x. store_answers (message_of c.args.message.now) c.in-Err.refusal _ old new x c.refused.ensures)
+
+pub returns-in-Ok-Asked : goal.returns-in-Ok-Asked
+returns-in-Ok-Asked g c =
+    let message : Message = message_of c.args.message.now in
+    takes_then c.in-Ok.ensures.taken c.answer.ensures (λ old mid new x y.
+    asked_answers message (seen_caller c.in-Ok.caller) _ _ old mid new x.1 (sent_by message _ _ old (sym c.in-Some.ensures) x.0) (rw c.in-Ok-Asked.field-0-is at c.in-Ok-Asked.ensures.reading) y)
+
 pub returns-in-Ok-Refused : goal.returns-in-Ok-Refused
-returns-in-Ok-Refused c =
+returns-in-Ok-Refused g c =
     let message : Message = message_of c.args.message.now in
     let reads = rw c.in-Ok-Refused.field-0-is at c.in-Ok-Refused.ensures.reading in
-    let who : seen_caller c.in-Ok.caller ≡ sender_of message c.args.chain.now = c.in-Ok.ensures.found in
-    let what : reading_of message (sender_of message c.args.chain.now) ≡ Unread reads.0 = ap (reading_of message) (sym who) ∙ reads.2 in
     let is : seen_reply c.refused-in-Ok-Refused.result ≡ problem_answer (Decision reads.0) = c.refused-in-Ok-Refused.ensures ∙ ap problem_answer reads.1 in
-    subst (λ (a : Answer). AnswersMessage message a c.args.chain.now c.sender.new.chain) (sym is)
-    (refused_answers message reads.0 c.args.chain.now c.sender.new.chain what c.sender.ensures.same)
+    takes_as c.in-Ok.ensures.taken (λ old new x.
+    let who : seen_caller c.in-Ok.caller ≡ sender_of message old = sent_by message _ _ old (sym c.in-Some.ensures) x.0 in
+    let what : reading_of message (sender_of message old) ≡ Unread reads.0 = ap (reading_of message) (sym who) ∙ reads.2 in
+    subst (λ (a : Answer). AnswersMessage message a old new) (sym is) (refused_answers message reads.0 old new what x.1 x.2))
+
+pub returns-in-Err-read : goal.returns-in-Err-read
+returns-in-Err-read g c = takes_as c.in-Ok.ensures.taken (λ old new x. memory_answers (message_of c.args.message.now) _ old new c.refused-in-Err-read.ensures x.1 x.2)

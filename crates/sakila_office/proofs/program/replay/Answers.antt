@@ -1,19 +1,30 @@
-use Rattle.std.proofs.Common.{◌≡◌, ◌∙◌, ap, refl, subst}
-use Rattle.shop_values.specs.LimitValues.{Limits}
+use Rattle.std.proofs.Common.{◌≡◌, ◌∙◌, ap₂, subst, refl, Bool, false, List}
+use Rattle.sqlite_trees.specs.declared.store.Store.{Ghosts}
+use Rattle.sqlite_trees.proofs.Doubt.{no_doubt}
+use Rattle.sqlite.specs.Held.{state}
+use Rattle.sqlite.specs.State.{HasCleanDisk}
+use Rattle.shop_values.specs.LimitValues.{Limits, most_limits}
 use Rattle.shop_model.specs.Opening.{opening_books}
-use Rattle.chain_engine.specs.Holding.{Holding}
-use Rattle.counter_http.specs.Served.{IsServed, IsFault}
-use Rattle.sakila_office.specs.Replays.{Replays, replayed, broke_off, opening_holding}
+use Rattle.chain_engine.specs.Holding.{Chained, Holding, holding}
+use Rattle.chain_engine.specs.Chains.{IsAt, Runs}
+use Rattle.counter_http.specs.Exchanges.{Exchange, events_of, answers_of, RunsOver}
+use Rattle.counter_http.proofs.Serving.{served_as, fault_as}
+use Rattle.sakila_office.specs.Replays.{replayed, broke_off, opening_holding, RunsFromOpening}
 use Rattle.sakila_office.proofs.program.replay.Goals as goal
+
+from_opening : {S : Type 0} (g : Ghosts S) (chain new : Chained S) → chain.limits ≡ most_limits → chain.is_failed ≡ false → IsAt g chain opening_books → HasCleanDisk (state g new.conn)
+    → (es : List Exchange) → RunsOver g chain new es → RunsFromOpening es
+from_opening g chain new limits fine at clean es taken =
+    let opened : holding chain opening_books ≡ opening_holding = ap₂ (λ (l : Limits) (f : Bool). let h : Holding = record { limits = l; is_failed = f; books = opening_books } in h) limits fine in
+    let went = taken.goes clean opening_books at in
+    (holding new went.0, subst (λ (h : Holding). Runs (events_of es) (answers_of es) h (holding new went.0)) opened went.1)
 
 pub returns-in-Ok-serve : goal.returns-in-Ok-serve
 returns-in-Ok-serve g c =
-    let opened : c.in-Ok.chain ≡ opening_holding = c.in-Ok.ensures ∙ ap (λ (l : Limits). let h : Holding = record { limits = l; books = opening_books } in h) c.default.ensures in
-    let served = subst (λ (h : Holding). IsServed c.in-Ok-serve.served 1000 h c.serve.new.chain (g.R.Read.remaining c.args.reader.now) (g.R.Read.remaining c.serve.new.reader) (g.W.Write.contents c.args.out.now) (g.W.Write.contents c.serve.new.writer)) opened c.in-Ok-serve.ensures.served in
-    replayed c.in-Ok-serve.served c.serve.new.chain served c.status.ensures
+    let tell = from_opening _ c.in-Ok.chain c.serve.new.chain (c.in-Ok.ensures.0 ∙ c.default.ensures) c.in-Ok.ensures.1 c.in-Ok.ensures.2 (no_doubt _ refl) in
+    replayed c.in-Ok-serve.served (served_as c.in-Ok-serve.served 1000 _ RunsFromOpening _ _ _ _ c.in-Ok-serve.ensures.served tell) c.status.ensures
 
 pub returns : goal.returns
 returns g c =
-    let opened : c.in-Ok.chain ≡ opening_holding = c.in-Ok.ensures ∙ ap (λ (l : Limits). let h : Holding = record { limits = l; books = opening_books } in h) c.default.ensures in
-    let fault = subst (λ (h : Holding). IsFault c.in-Err-serve.field-0 h c.serve.new.chain (g.R.Read.remaining c.args.reader.now) (g.R.Read.remaining c.serve.new.reader) (g.W.Write.contents c.args.out.now) (g.W.Write.contents c.serve.new.writer)) opened c.in-Err-serve.ensures.fault in
-    broke_off c.in-Err-serve.field-0 c.serve.new.chain fault refl
+    let tell = from_opening _ c.in-Ok.chain c.serve.new.chain (c.in-Ok.ensures.0 ∙ c.default.ensures) c.in-Ok.ensures.1 c.in-Ok.ensures.2 (no_doubt _ refl) in
+    broke_off c.in-Err-serve.field-0 (fault_as c.in-Err-serve.field-0 _ RunsFromOpening _ _ _ _ c.in-Err-serve.ensures.fault tell) refl
