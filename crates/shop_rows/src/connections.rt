@@ -6,6 +6,7 @@ use crate::talk::{
 use chain_engine::Chain;
 use counter_http::{End, Fault, Reading, ServeFault, read_request, serve};
 use sakila_office::NoWords;
+use sqlite::MemStore;
 use std::alloc::Global;
 use std::test::Fail;
 
@@ -56,7 +57,7 @@ fn cut_anywhere(rt: HostRuntime) -> Result<(), Fail> {
 /// Whether the input is told that refusal, and no more is read.
 fn is_refused(
     alloc: Global,
-    chain: &mut Chain,
+    chain: &mut Chain<MemStore>,
     mut input: &[u8],
     told: &str,
 ) -> Result<bool, Fail> {

@@ -26,7 +26,7 @@ fn first_customer(rt: HostRuntime) -> Result<(), Fail> {
     Ok(())
 }
 
-const REPEATS: [(NewCustomer<'static>, &str, &str, &str); 3] = [
+pub const REPEATS: [(NewCustomer<'static>, &str, &str, &str); 3] = [
     (FIRST, BRANCH_1, OK, CUSTOMER_1),
     (FIRST, BRANCH_1, OK, CUSTOMER_1),
     (

@@ -6,6 +6,8 @@ mod connections;
 #[cfg(test)]
 mod customers;
 #[cfg(test)]
+mod files;
+#[cfg(test)]
 mod moments;
 #[cfg(test)]
 mod program;

@@ -3,6 +3,7 @@ use chain_engine::Chain;
 use counter_http::{End, serve};
 use sakila_office::NoWords;
 use shop_types::Limits;
+use sqlite::{Alter, MemStore};
 use std::alloc::Global;
 use std::io::{self, Read};
 use std::test::Fail;
@@ -121,12 +122,12 @@ pub fn reply(alloc: Global, status: &str, body: &str) -> Result<String, Fail> {
 }
 
 /// A chain with the opening rows.
-pub fn demo(alloc: Global) -> Result<Chain, Fail> {
+pub fn demo(alloc: Global) -> Result<Chain<MemStore>, Fail> {
     limited(alloc, Limits::default())
 }
 
 /// The same, with limits of its own.
-pub fn limited(alloc: Global, limits: Limits) -> Result<Chain, Fail> {
+pub fn limited(alloc: Global, limits: Limits) -> Result<Chain<MemStore>, Fail> {
     Ok(Chain::demo(alloc, limits)?)
 }
 
@@ -139,9 +140,9 @@ pub struct Told {
 }
 
 /// What the chain sends over a connection that gives this input.
-pub fn tell<R: Read>(
+pub fn tell<R: Read, S: Alter>(
     alloc: Global,
-    chain: &mut Chain,
+    chain: &mut Chain<S>,
     reader: &mut R,
     most: u32,
 ) -> Result<Told, Fail> {
@@ -156,14 +157,14 @@ pub fn tell<R: Read>(
 }
 
 /// What the chain sends to a whole input.
-pub fn answer(alloc: Global, chain: &mut Chain, input: &str) -> Result<Vec<u8>, Fail> {
+pub fn answer<S: Alter>(alloc: Global, chain: &mut Chain<S>, input: &str) -> Result<Vec<u8>, Fail> {
     Ok(tell(alloc, chain, &mut input.as_bytes(), 1000)?.bytes)
 }
 
 /// Whether the chain sends that reply to the input.
-fn is_told(
+fn is_told<S: Alter>(
     alloc: Global,
-    chain: &mut Chain,
+    chain: &mut Chain<S>,
     input: &str,
     status: &str,
     body: &str,
@@ -174,9 +175,9 @@ fn is_told(
 }
 
 /// Sends requests, given by line, token and body, and tells the wanted body of the first that isn't answered with the status and the body beside it.
-pub fn asks(
+pub fn asks<S: Alter>(
     alloc: Global,
-    chain: &mut Chain,
+    chain: &mut Chain<S>,
     steps: &[(&str, &str, &str, &str, &'static str)],
 ) -> Result<(), Fail> {
     for (line, token, sent, status, body) in steps {
@@ -189,9 +190,9 @@ pub fn asks(
 }
 
 /// The same of new customers that a counter with the token sends.
-pub fn adds(
+pub fn adds<S: Alter>(
     alloc: Global,
-    chain: &mut Chain,
+    chain: &mut Chain<S>,
     steps: &[(NewCustomer<'_>, &str, &str, &'static str)],
 ) -> Result<(), Fail> {
     for (new, token, status, body) in steps {
@@ -204,9 +205,9 @@ pub fn adds(
 }
 
 /// The same of imports with their files.
-pub fn imports(
+pub fn imports<S: Alter>(
     alloc: Global,
-    chain: &mut Chain,
+    chain: &mut Chain<S>,
     steps: &[(Import<'_>, &str, &str, &str, &'static str)],
 ) -> Result<(), Fail> {
     for (import, token, file, status, body) in steps {
