@@ -51,8 +51,9 @@ same_numbers a b = bytes_eq a b
 
 abbrev pub same_flag : Bool → Bool → Bool
 same_flag true true = true
+same_flag true false = false
+same_flag false true = false
 same_flag false false = true
-same_flag a b = false
 
 abbrev pub same_person : Person → Person → Bool
 same_person a b = bytes_eq a.first b.first && bytes_eq a.last b.last && bytes_eq a.address b.address && bytes_eq a.postal b.postal && bytes_eq a.phone b.phone && a.city == b.city

@@ -5,6 +5,7 @@ use Rattle.shop_model.specs.Books as books
 use Rattle.shop_model.specs.Refusals as named
 use Rattle.shop_types.specs.declared.person.Person.{Person}
 use Rattle.shop_types.specs.declared.person.Customer.{Customer}
+use Rattle.shop_types.specs.declared.rental.Rental.{Rental}
 use Rattle.shop_types.specs.declared.command.Act.{Act}
 use Rattle.shop_types.specs.declared.command.Act.TheVariants as act
 use Rattle.shop_types.specs.declared.command.Command.{Command}
@@ -34,11 +35,24 @@ seen_customer customer = record {
   created = customer.created;
 }
 
+abbrev pub seen_rental : Rental → model.Rental
+seen_rental rental = record {
+  rented = rental.rented;
+  copy = rental.copy;
+  customer = rental.customer;
+  returned = rental.returned;
+  staff = rental.staff;
+}
+
 -- ---- requests
 
 abbrev pub seen_act : Act → model.Act
 seen_act (act.Customer person) = model.AddCustomer (seen_person person)
+seen_act (act.Active customer active) = model.SetActive customer active
+seen_act (act.Rent customer copy) = model.Rent customer copy
+seen_act (act.TakeBack rental) = model.TakeBack rental
 seen_act (act.Import lot file) = model.Import lot file
+seen_act (act.Scrap copy) = model.Scrap copy
 
 abbrev pub seen_command : Command → model.Command
 seen_command command = record {
@@ -50,6 +64,10 @@ seen_command command = record {
 
 abbrev pub seen_ask : Ask → model.Ask
 seen_ask (ask.Customer number) = model.OneCustomer number
+seen_ask (ask.InStock copy) = model.InStock copy
+seen_ask (ask.HeldBy copy) = model.HeldBy copy
+seen_ask (ask.FilmInStock film) = model.FilmInStock film
+seen_ask (ask.FilmNotInStock film) = model.FilmNotInStock film
 
 abbrev pub seen_request : Request → machine.Request
 seen_request (request.Do command) = machine.Do (seen_command command)

@@ -5,6 +5,7 @@ mod command;
 mod line;
 mod person;
 mod refusal;
+mod rental;
 mod reply;
 mod request;
 mod stock_file;
@@ -14,6 +15,7 @@ pub use command::{Act, Command};
 pub use line::{Line, LineAct, Usage};
 pub use person::{Customer, Person};
 pub use refusal::{BadCsv, Refusal};
+pub use rental::Rental;
 pub use reply::{Body, Reply};
 pub use request::{Ask, Caller, OfficeAct, OfficeCommand, Request};
 pub use shop_values::{

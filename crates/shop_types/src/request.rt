@@ -1,11 +1,19 @@
 use crate::Command;
-use shop_values::{BranchNo, CustomerNo, Key};
+use shop_values::{BranchNo, CopyNo, CustomerNo, FilmNo, Key};
 
 /// What a counter's reading shows.
 #[derive(Clone, Copy, Debug, PartialEq, Eq)]
 pub enum Ask {
     /// One customer of the branch.
     Customer(CustomerNo),
+    /// Whether no rental of the copy is open. It looks at rentals alone, whatever the copy's state is.
+    InStock(CopyNo),
+    /// Which customer has the copy, by its open rental.
+    HeldBy(CopyNo),
+    /// The copies of the film that are here and in stock.
+    FilmInStock(FilmNo),
+    /// The copies of the film that are here and not in stock.
+    FilmNotInStock(FilmNo),
 }
 
 /// What head office's request does. There is none yet, and so no value.

@@ -1,0 +1,13 @@
+use shop_values::{CopyNo, CustomerNo, Moment, StaffNo};
+
+/// A rental of a branch. Its number is that of its row. A copy has one open rental at most.
+#[derive(Clone, Copy, Debug, PartialEq, Eq)]
+pub struct Rental {
+    pub rented: Moment,
+    pub copy: CopyNo,
+    pub customer: CustomerNo,
+    /// When the copy came back. A rental without it is open.
+    pub returned: Option<Moment>,
+    /// Who gave the command by which it was rented.
+    pub staff: StaffNo,
+}
