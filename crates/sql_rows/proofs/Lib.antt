@@ -21,3 +21,4 @@ pub mod Steps
 pub mod OfKind
 pub mod Projects
 pub mod Stays
+pub mod Last
