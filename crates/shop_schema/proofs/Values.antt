@@ -1,6 +1,6 @@
 -- The rows of the books stay such as the program can hold.
 use Rattle.std.proofs.Common.{◌≡◌, ◌≤◌, ◌<◌, ◌+◌, ◌^◌, ◌==◌, ℕ, suc, get_or, List, [], ◌∷◌, ◌++◌, map, filter, not, length, Bool, true, false, cond, refl, ap, subst, ◌∙◌, arith, codes, decimal, IsUtf8, IsAscii, length-append}
-use Rattle.std.specs.Prelude.{nat_lt}
+use Rattle.std.specs.Prelude.{nat_lt, if◌then◌else◌, None, Some}
 use Rattle.std.specs.List.{AllByRecursion, list_all}
 use Rattle.std.proofs.lemmas.Bool.{and_parts, ltb-true}
 use Rattle.std.proofs.lemmas.Bool.Decides.{nat_tests}
@@ -8,18 +8,18 @@ use Rattle.std.proofs.lemmas.Fmt.{IsAscii-decimal}
 use Rattle.std.proofs.lemmas.Str.{IsUtf8-from_ascii, IsAscii-append}
 use Rattle.std.proofs.lemmas.Str.Ascii.{IsAscii-nil, IsAscii-cons}
 use Rattle.shop_model.specs.Calendar.{IsMoment}
-use Rattle.shop_model.specs.Json.{escape_byte, object}
-use Rattle.shop_model.specs.Rows.{Row, of, next, put, put_all}
-use Rattle.shop_model.specs.Values.{Text, Act, AddCustomer, SetActive, Rent, TakeBack, Pay, Import, Dispatch, Receive, Scrap, Command, Rules}
+use Rattle.shop_model.specs.Json.{escape_byte, flag_text, object}
+use Rattle.shop_model.specs.Rows.{Row, of, is_row, next, put, put_all, set_row}
+use Rattle.shop_model.specs.Values.{Text, Customer, Rental, Scrapped, Act, AddCustomer, SetActive, Rent, TakeBack, Pay, Import, Dispatch, Receive, Scrap, Command, Rules}
 use Rattle.shop_model.specs.Machine.{films_in, told, reply_text, if_accepted, Do}
 use Rattle.shop_model.specs.Shop.{Shop}
-use Rattle.shop_model.specs.Books.{Books, BookCopy, book_acted, Counter, book_done, imported, unmarked, shop_of}
+use Rattle.shop_model.specs.Books.{Books, BookCopy, put_state, book_acted, Counter, book_done, imported, unmarked, shop_of}
 use Rattle.shop_model.specs.Sound.{IsSound}
 use Rattle.shop_model.specs.Verdict.{Verdict, Accepted, verdict}
 use Rattle.shop_model.proofs.Soundness.{after_sound}
 use Rattle.shop_model.proofs.RowLemmas.{put_own, length_map}
 use Rattle.shop_schema.specs.Held.{IsHeld}
-use Rattle.shop_schema.specs.RowValues.{IsNumber, IsRow, IsCustomer, IsCopy, IsLot, IsKept, IsLast, AreBytes, IsAct, IsCommand, AreValues}
+use Rattle.shop_schema.specs.RowValues.{IsNumber, IsRow, IsCustomer, IsCopy, IsRental, IsLot, IsKept, IsLast, AreBytes, IsAct, IsCommand, AreValues}
 use Rattle.shop_schema.specs.Steps.{FilmsFit, FitsTables, IsBuilt}
 use Rattle.shop_types.specs.Seen.{seen_act}
 use Rattle.shop_types.specs.declared.command.Act as types
@@ -34,6 +34,7 @@ held_by_sound sizes books commands copies sound values = record {
   tokens = sound.catalogue.tokens;
   most_kept = λ b. let few = (sound.shops b).keys in omega arith;
   most_customers = λ b. let few = (sound.shops b).keys in let fit = (sound.shops b).customers_fit in omega arith;
+  most_rentals = λ b. let few = (sound.shops b).keys in let fit = (sound.shops b).rentals_fit in omega arith;
   most_copies = λ b. let few = (sound.shops b).copies in omega arith;
 }
 
@@ -62,6 +63,16 @@ next_fits b rows few = number_fits (next b rows) (omega arith) (omega arith)
 put_values : {A : Type 0} (P : A → Type 0) (b : ℕ) (make : ℕ → A) (rows : List (Row A)) → IsNumber b → length (of b rows) ≤ 1_001_000 → P (make (next b rows))
     → AllByRecursion (IsRow P) rows → AllByRecursion (IsRow P) (put b make rows)
 put_values P b make rows branch few such all = all_push (IsRow P) rows _ all (branch, next_fits b rows few, such)
+
+-- rows of which some are set
+set_values : {A : Type 0} (P : A → Type 0) (b n : ℕ) (f : A → A) (rows : List (Row A)) → ((it : A) → P it → P (f it)) → AllByRecursion (IsRow P) rows → AllByRecursion (IsRow P) (set_row b n f rows)
+set_values P b n f [] stays all = tt
+set_values P b n f (row ∷ rows) stays all = go (is_row b n row) (set_values P b n f rows stays all.1)
+  where
+    go : (hit : Bool) → AllByRecursion (IsRow P) (set_row b n f rows)
+        → AllByRecursion (IsRow P) ((if hit then record row { it = f row.it } else row) ∷ set_row b n f rows)
+    go true rest = ((all.0.0, all.0.1, stays row.it all.0.2), rest)
+    go false rest = (all.0, rest)
 
 import_values : (b : ℕ) (films : List ℕ) (rows : List (Row BookCopy)) → IsNumber b → AllByRecursion IsNumber films → length (of b rows) + length films ≤ 1_001_000
     → AllByRecursion (IsRow IsCopy) rows → AllByRecursion (IsRow IsCopy) (put_all b (map (imported b) films) rows)
@@ -95,17 +106,42 @@ import_reply copies first c f = IsUtf8-from_ascii _
     (IsAscii-append (codes ",\"first\":") (decimal first ++ codes "}") (ascii_bytes (codes ",\"first\":") refl)
     (IsAscii-append (decimal first) (codes "}") (IsAscii-decimal first f) (ascii_bytes (codes "}") refl)))))
 
-reply_utf8 : (rules : Rules) (act : Act) (shop : Shop) → length shop.customers ≤ 1_000_000 → length shop.copies ≤ 1_000_000 → FitsTables rules act → IsBuilt act
+-- a number in an object of one member, whose name is plain
+number_reply : (name : List ℕ) → list_all (λ b. nat_lt b 128) name ≡ true → (n : ℕ) → n < 2 ^ 64 → IsUtf8 (name ++ (decimal n ++ codes "}"))
+number_reply name plain n fits = IsUtf8-from_ascii _ (IsAscii-append name (decimal n ++ codes "}") (ascii_bytes name plain) (IsAscii-append (decimal n) (codes "}") (IsAscii-decimal n fits) (ascii_bytes (codes "}") refl)))
+
+rental_reply : (n : ℕ) → n < 2 ^ 64 → IsUtf8 (object ((codes "rental", decimal n) ∷ []))
+unfolding escape_byte
+rental_reply n fits = number_reply (codes "{\"rental\":") refl n fits
+
+returned_reply : (n : ℕ) → n < 2 ^ 64 → IsUtf8 (object ((codes "returned", decimal n) ∷ []))
+unfolding escape_byte
+returned_reply n fits = number_reply (codes "{\"returned\":") refl n fits
+
+scrapped_reply : (n : ℕ) → n < 2 ^ 64 → IsUtf8 (object ((codes "scrapped", decimal n) ∷ []))
+unfolding escape_byte
+scrapped_reply n fits = number_reply (codes "{\"scrapped\":") refl n fits
+
+active_reply : (active : Bool) (n : ℕ) → n < 2 ^ 64 → IsUtf8 (object ((codes "active", flag_text active) ∷ (codes "customer", decimal n) ∷ []))
+unfolding escape_byte
+active_reply true n fits = number_reply (codes "{\"active\":true,\"customer\":") refl n fits
+active_reply false n fits = number_reply (codes "{\"active\":false,\"customer\":") refl n fits
+
+-- the number of a row is small
+small : (n : ℕ) → IsNumber n → n < 2 ^ 64
+small n is = grind (arith, nat_tests)
+
+reply_utf8 : (rules : Rules) (act : Act) (shop : Shop) → length shop.customers ≤ 1_000_000 → length shop.rentals ≤ 1_000_000 → length shop.copies ≤ 1_000_000 → IsAct act → FitsTables rules act → IsBuilt act
     → IsUtf8 (object (told rules act shop))
-reply_utf8 rules (AddCustomer person) shop customers copies fits built = customer_reply (length shop.customers + 1) (omega arith)
-reply_utf8 rules (Import lot file) shop customers copies fits built = import_reply (length (films_in (rules.stock_of file))) (length shop.copies + 1) (omega (arith, fits.1)) (omega arith)
-reply_utf8 rules (SetActive c active) shop customers copies fits built = absurd built
-reply_utf8 rules (Rent c x) shop customers copies fits built = absurd built
-reply_utf8 rules (TakeBack r) shop customers copies fits built = absurd built
-reply_utf8 rules (Pay c rental amount) shop customers copies fits built = absurd built
-reply_utf8 rules (Dispatch to xs) shop customers copies fits built = absurd built
-reply_utf8 rules (Receive source number missing) shop customers copies fits built = absurd built
-reply_utf8 rules (Scrap x) shop customers copies fits built = absurd built
+reply_utf8 rules (AddCustomer person) shop customers rentals copies is fits built = customer_reply (length shop.customers + 1) (omega arith)
+reply_utf8 rules (Import lot file) shop customers rentals copies is fits built = import_reply (length (films_in (rules.stock_of file))) (length shop.copies + 1) (omega (arith, fits.1)) (omega arith)
+reply_utf8 rules (SetActive c active) shop customers rentals copies is fits built = active_reply active c (small c is)
+reply_utf8 rules (Rent c x) shop customers rentals copies is fits built = rental_reply (length shop.rentals + 1) (omega arith)
+reply_utf8 rules (TakeBack r) shop customers rentals copies is fits built = returned_reply r (small r is)
+reply_utf8 rules (Pay c rental amount) shop customers rentals copies is fits built = absurd built
+reply_utf8 rules (Dispatch to xs) shop customers rentals copies is fits built = absurd built
+reply_utf8 rules (Receive source number missing) shop customers rentals copies is fits built = absurd built
+reply_utf8 rules (Scrap x) shop customers rentals copies is fits built = scrapped_reply x (small x is)
 
 -- ---- what a step is given
 
@@ -124,13 +160,17 @@ acts_fit rules files (Scrap x) = tt
 -- the program's acts are those that it takes
 pub acts_built : (it : types.Act) → IsBuilt (seen_act it)
 acts_built (act.Customer person) = tt
+acts_built (act.Active customer active) = tt
+acts_built (act.Rent customer copy) = tt
+acts_built (act.TakeBack rental) = tt
 acts_built (act.Import lot file) = tt
+acts_built (act.Scrap copy) = tt
 
 -- ---- a step
 
-acted_values : (rules : Rules) (b : ℕ) (command : Command) (act : Act) (books : Books) → IsNumber b → IsMoment command.moment → IsAct act → IsHeld books → FitsTables rules act → IsBuilt act
+acted_values : (rules : Rules) (b : ℕ) (command : Command) (act : Act) (books : Books) → IsNumber b → IsNumber command.staff → IsMoment command.moment → IsAct act → IsHeld books → FitsTables rules act → IsBuilt act
     → AreValues (book_acted rules b command act books)
-acted_values rules b command (AddCustomer person) books branch moment is held fits built =
+acted_values rules b command (AddCustomer person) books branch staff moment is held fits built =
     let v = held.values in
     let few = held.most_customers b in
     record {
@@ -144,7 +184,7 @@ acted_values rules b command (AddCustomer person) books branch moment is held fi
       kept = v.kept;
       lasts = v.lasts;
     }
-acted_values rules b command (Import lot file) books branch moment is held fits built =
+acted_values rules b command (Import lot file) books branch staff moment is held fits built =
     let v = held.values in
     let few : length (of b books.copies) ≤ 1_000_000 = subst (λ n. n ≤ 1_000_000) (length_map unmarked (of b books.copies)) (held.most_copies b) in
     record {
@@ -158,20 +198,70 @@ acted_values rules b command (Import lot file) books branch moment is held fits 
       kept = v.kept;
       lasts = v.lasts;
     }
-acted_values rules b command (SetActive c active) books branch moment is held fits built = absurd built
-acted_values rules b command (Rent c x) books branch moment is held fits built = absurd built
-acted_values rules b command (TakeBack r) books branch moment is held fits built = absurd built
-acted_values rules b command (Pay c rental amount) books branch moment is held fits built = absurd built
-acted_values rules b command (Dispatch to xs) books branch moment is held fits built = absurd built
-acted_values rules b command (Receive source number missing) books branch moment is held fits built = absurd built
-acted_values rules b command (Scrap x) books branch moment is held fits built = absurd built
+acted_values rules b command (SetActive c active) books branch staff moment is held fits built =
+    let v = held.values in
+    record {
+      catalogue = v.catalogue;
+      customers = set_values IsCustomer b c (λ (it : Customer). record it { active = active }) books.customers (λ it such. such) v.customers;
+      copies = v.copies;
+      rentals = v.rentals;
+      payments = v.payments;
+      lots = v.lots;
+      consignments = v.consignments;
+      kept = v.kept;
+      lasts = v.lasts;
+    }
+acted_values rules b command (Rent c x) books branch staff moment is held fits built =
+    let v = held.values in
+    let few = held.most_rentals b in
+    record {
+      catalogue = v.catalogue;
+      customers = v.customers;
+      copies = v.copies;
+      rentals = put_values IsRental b (λ _. record { rented = command.moment; copy = x; customer = c; returned = None; staff = command.staff }) books.rentals branch (omega arith)
+          (record { rented = moment; copy = is.1; customer = is.0; returned = tt; staff = staff }) v.rentals;
+      payments = v.payments;
+      lots = v.lots;
+      consignments = v.consignments;
+      kept = v.kept;
+      lasts = v.lasts;
+    }
+acted_values rules b command (TakeBack r) books branch staff moment is held fits built =
+    let v = held.values in
+    record {
+      catalogue = v.catalogue;
+      customers = v.customers;
+      copies = v.copies;
+      rentals = set_values IsRental b r (λ (it : Rental). record it { returned = Some command.moment }) books.rentals (λ it such. record { rented = such.rented; copy = such.copy; customer = such.customer; returned = moment; staff = such.staff }) v.rentals;
+      payments = v.payments;
+      lots = v.lots;
+      consignments = v.consignments;
+      kept = v.kept;
+      lasts = v.lasts;
+    }
+acted_values rules b command (Pay c rental amount) books branch staff moment is held fits built = absurd built
+acted_values rules b command (Dispatch to xs) books branch staff moment is held fits built = absurd built
+acted_values rules b command (Receive source number missing) books branch staff moment is held fits built = absurd built
+acted_values rules b command (Scrap x) books branch staff moment is held fits built =
+    let v = held.values in
+    record {
+      catalogue = v.catalogue;
+      customers = v.customers;
+      copies = set_values IsCopy b x (put_state Scrapped) books.copies (λ it such. such) v.copies;
+      rentals = v.rentals;
+      payments = v.payments;
+      lots = v.lots;
+      consignments = v.consignments;
+      kept = v.kept;
+      lasts = v.lasts;
+    }
 
 -- what an accepted command makes of books that are held
 pub values_done : (rules : Rules) (b : ℕ) (command : Command) (books : Books) → IsNumber b → IsCommand command → IsHeld books → FitsTables rules command.act → IsBuilt command.act
     → AreValues (book_done rules b command books)
 values_done rules b command books branch is held fits built =
-    let v = acted_values rules b command command.act books branch is.moment is.act held fits built in
-    let reply = reply_utf8 rules command.act (shop_of b books) (held.most_customers b) (held.most_copies b) fits built in
+    let v = acted_values rules b command command.act books branch is.staff is.moment is.act held fits built in
+    let reply = reply_utf8 rules command.act (shop_of b books) (held.most_customers b) (held.most_rentals b) (held.most_copies b) is.act fits built in
     record {
       catalogue = v.catalogue;
       customers = v.customers;

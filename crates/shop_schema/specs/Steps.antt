@@ -24,11 +24,11 @@ FitsTables rules (Scrap copy) = ⊤
 -- the acts that the program takes so far
 abbrev pub IsBuilt : Act → Type 0
 IsBuilt (AddCustomer person) = ⊤
-IsBuilt (SetActive customer active) = ⊥
-IsBuilt (Rent customer copy) = ⊥
-IsBuilt (TakeBack rental) = ⊥
+IsBuilt (SetActive customer active) = ⊤
+IsBuilt (Rent customer copy) = ⊤
+IsBuilt (TakeBack rental) = ⊤
 IsBuilt (Pay customer rental amount) = ⊥
 IsBuilt (Import lot file) = ⊤
 IsBuilt (Dispatch addressee copies) = ⊥
 IsBuilt (Receive source number missing) = ⊥
-IsBuilt (Scrap copy) = ⊥
+IsBuilt (Scrap copy) = ⊤

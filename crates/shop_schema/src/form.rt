@@ -57,10 +57,29 @@ fn add_act(form: &mut Vec<u8>, act: &Act) -> Result<(), NoMemory>
             form.extend_from_slice(&[1])?;
             add_person(form, person)
         }
+        Act::Active { customer, active } => {
+            form.extend_from_slice(&[2])?;
+            add_number(form, customer.get())?;
+            form.extend_from_slice(&[u8::from(*active)])?;
+            Ok(())
+        }
+        Act::Rent { customer, copy } => {
+            form.extend_from_slice(&[3])?;
+            add_number(form, customer.get())?;
+            add_number(form, copy.get())
+        }
+        Act::TakeBack(rental) => {
+            form.extend_from_slice(&[4])?;
+            add_number(form, rental.get())
+        }
         Act::Import { lot, file } => {
             form.extend_from_slice(&[6])?;
             add_text(form, lot.as_str())?;
             add_bytes(form, file.as_slice())
+        }
+        Act::Scrap(copy) => {
+            form.extend_from_slice(&[9])?;
+            add_number(form, copy.get())
         }
     }
 }

@@ -26,9 +26,22 @@ fn act_values(act: &Act)
 {
     match act {
         Act::Customer(person) => person_values(person),
+        Act::Active { customer, .. } => {
+            let _customer = customer.get();
+        }
+        Act::Rent { customer, copy } => {
+            let _customer = customer.get();
+            let _copy = copy.get();
+        }
+        Act::TakeBack(rental) => {
+            let _rental = rental.get();
+        }
         Act::Import { lot, file } => {
             let _lot = lot.as_str();
             bytes_values(file.as_slice());
+        }
+        Act::Scrap(copy) => {
+            let _copy = copy.get();
         }
     }
 }

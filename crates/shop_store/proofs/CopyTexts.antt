@@ -1,29 +1,34 @@
 -- The texts of copies and lots.
-use Rattle.std.proofs.Common.{◌≡◌, ◌==◌, ◌&&◌, ℕ, List, [], ◌∷◌, ◌++◌, codes, filter, length, Bool, true, Ok, refl, sym, subst}
+use Rattle.std.proofs.Common.{◌≡◌, ◌==◌, ◌&&◌, ℕ, List, [], ◌∷◌, ◌++◌, codes, map, filter, length, Bool, true, Ok, refl, sym, subst}
 use Rattle.std.specs.Prelude.{⊤}
 use Rattle.std.specs.Str.{bytes_eq}
 use Rattle.sqlite.specs.declared.types.Value.TheVariants.{Null, Text}
 use Rattle.sqlite_value.specs.Order as sql
 use Rattle.sqlite_value.specs.Order.{column}
-use Rattle.sqlite_sql.specs.Term.{Term, lit, col}
+use Rattle.sqlite_sql.specs.Term.{Term, lit, col, op2}
+use Rattle.sqlite_sql.specs.declared.ops.BinaryOp.TheVariants.{Compare}
+use Rattle.sqlite_sql.specs.declared.ops.CompareOp.TheVariants.{Eq}
+use Rattle.sqlite_value.specs.Keys.{ascending}
+use Rattle.sqlite_value.specs.declared.keys.Collation.TheVariants.{Binary}
 use Rattle.sqlite.specs.Source.TheVariants.{Values}
-use Rattle.sqlite.specs.Command.TheVariants.{Insert}
+use Rattle.sqlite.specs.Command.TheVariants.{Insert, Update}
 use Rattle.sqlite_tied.specs.Compute.{everything}
 use Rattle.sqlite.specs.Listing.{understood}
 use Rattle.sqlite.specs.State.{State, ExecutesInside, Shown}
+use Rattle.sqlite_keyed.specs.Lists.{update_where, sort_by}
 use Rattle.sql_rows.specs.Builds.{Means}
-use Rattle.sql_rows.specs.Rows.{HasRows, number_value}
+use Rattle.sql_rows.specs.Rows.{HasRows, by, Differ, PicksOne, number_value}
 use Rattle.sql_rows.proofs.Appends.{map_push, are_kept}
 use Rattle.sql_rows.proofs.Queries.{Selects, plain_query}
 use Rattle.sql_rows.proofs.ColumnTests.{number_test, number_tested, text_test, text_tested, one_tested, two_tested}
 use Rattle.sql_rows.proofs.Projects.{projects_count}
-use Rattle.sql_rows.proofs.Steps.{puts_row}
-use Rattle.shop_model.specs.Rows.{Row, Owned, is_of}
+use Rattle.sql_rows.proofs.Steps.{puts_row, selects_one, selects_sorted, sets_row}
+use Rattle.shop_model.specs.Rows.{Row, Owned, is_of, is_row}
 use Rattle.shop_model.specs.Values as model
 use Rattle.shop_model.specs.Values.{CopyState, Here, Sent, Scrapped}
 use Rattle.shop_model.specs.Books.{Books, BookCopy}
 use Rattle.shop_schema.specs.Tables.{shop_schema, copy_table, lot_table}
-use Rattle.shop_schema.specs.Columns.{copy_columns, lot_columns}
+use Rattle.shop_schema.specs.Columns.{copy_columns, lot_columns, state_value}
 use Rattle.shop_schema.specs.Shop.{StandsFor, IsShop, Changes}
 use Rattle.shop_schema.proofs.Stands.{with_copies, with_lots}
 use Rattle.shop_store.proofs.CustomerTexts.{of_one, of_two}
@@ -68,6 +73,70 @@ pub counts_copies : (old new : State) (b : ℕ) (rows : List sql.Row) (books : B
 counts_copies old new b rows books has h s =
     projects_count shop_schema count_copies 25 6 of_one (col 1 2 ∷ []) count_copies_means (number_value b ∷ []) old new rows has h copy_columns books.copies s.copies refl
     (λ vs. number_test 0 b vs && true) (λ vs. column vs 1 ∷ []) (is_of b) (λ c. one_tested _ (number_tested c.branch b)) (λ r. refl)
+
+abbrev pub shown_6 : List Term
+shown_6 = col 1 1 ∷ col 1 2 ∷ col 1 3 ∷ col 1 4 ∷ col 1 5 ∷ col 1 6 ∷ []
+
+abbrev pub select_copy : List ℕ
+select_copy = codes "SELECT branch, number, film, state, origin_branch, origin_copy FROM copy WHERE branch = ?1 AND number = ?2"
+
+pub select_copy_means : Selects shop_schema select_copy (plain_query 25 of_two shown_6 [])
+unfolding understood everything
+select_copy_means = record { names = _; is = refl; plain = (refl, refl); unlisted = refl }
+
+pub copy_key_test : (b n : ℕ) (c : Row BookCopy) → (number_test 0 b (copy_columns c) && (number_test 1 n (copy_columns c) && true)) ≡ is_row b n c
+copy_key_test b n c = two_tested _ _ (number_tested c.branch b) (number_tested c.number n)
+
+pub shows_copy : (old new : State) (b n : ℕ) (rows : List sql.Row) (books : Books) → IsShop old → Shown select_copy (number_value b ∷ number_value n ∷ []) old new rows → StandsFor old.now.trees books
+    → PicksOne (is_row b n) books.copies → rows ≡ map copy_columns (filter (is_row b n) books.copies)
+shows_copy old new b n rows books has h s few =
+    selects_one shop_schema select_copy 25 6 of_two shown_6 [] select_copy_means (number_value b ∷ number_value n ∷ []) old new rows has h copy_columns books.copies s.copies refl
+    (λ vs. number_test 0 b vs && (number_test 1 n vs && true)) (is_row b n) (copy_key_test b n) (λ r. refl) few
+
+abbrev pub of_film : List Term
+of_film = op2 (Compare Eq Binary) (col 1 1) (col 0 0) ∷ op2 (Compare Eq Binary) (col 1 3) (col 0 1) ∷ []
+
+abbrev pub is_of_film : ℕ → ℕ → Row BookCopy → Bool
+is_of_film b film row = is_of b row && row.it.film == film
+
+abbrev pub select_of_film : List ℕ
+select_of_film = codes "SELECT branch, number, film, state, origin_branch, origin_copy FROM copy WHERE branch = ?1 AND film = ?2 ORDER BY number"
+
+pub of_film_means : Selects shop_schema select_of_film (plain_query 25 of_film shown_6 ((col 1 2, ascending Binary) ∷ []))
+unfolding understood everything
+of_film_means = record { names = _; is = refl; plain = (refl, refl); unlisted = refl }
+
+film_test : (b film : ℕ) (c : Row BookCopy) → (number_test 0 b (copy_columns c) && (number_test 2 film (copy_columns c) && true)) ≡ is_of_film b film c
+film_test b film c = two_tested _ _ (number_tested c.branch b) (number_tested c.it.film film)
+
+pub shows_of_film : (old new : State) (b film : ℕ) (rows : List sql.Row) (books : Books) → IsShop old → Shown select_of_film (number_value b ∷ number_value film ∷ []) old new rows → StandsFor old.now.trees books
+    → Differ (λ (row : Row BookCopy). row.number) (filter (is_of_film b film) books.copies) → rows ≡ map copy_columns (sort_by (by (λ row. row.number)) (filter (is_of_film b film) books.copies))
+shows_of_film old new b film rows books has h s apart =
+    selects_sorted shop_schema select_of_film 25 6 of_film shown_6 1 of_film_means (number_value b ∷ number_value film ∷ []) old new rows has h copy_columns books.copies s.copies refl
+    (λ vs. number_test 0 b vs && (number_test 2 film vs && true)) (is_of_film b film) (film_test b film) (λ r. refl) (λ c. c.number) (λ c. refl) apart
+
+abbrev pub update_state : List ℕ
+update_state = codes "UPDATE copy SET state = ?3 WHERE branch = ?1 AND number = ?2"
+
+abbrev pub state_terms : List Term
+state_terms = col 1 0 ∷ col 1 0 ∷ col 1 1 ∷ col 1 2 ∷ col 1 3 ∷ col 0 2 ∷ col 1 5 ∷ col 1 6 ∷ []
+
+pub update_state_means : Means shop_schema update_state (Update 11 (record { lets = []; body = plain_query 25 of_two state_terms [] }))
+unfolding understood everything
+update_state_means = record { is = refl; plain = (refl, refl) }
+
+abbrev pub with_state : CopyState → Row BookCopy → Row BookCopy
+with_state new row = record row { it = record row.it { state = new } }
+
+pub sets_state : (old new : State) (b n : ℕ) (to : CopyState) (count : ℕ) → IsShop old → ExecutesInside 0 update_state (number_value b ∷ number_value n ∷ state_value to ∷ []) old new (Ok count)
+    → Changes old new (λ books. PicksOne (is_row b n) books.copies) (λ books. record books { copies = update_where (is_row b n) (with_state to) books.copies })
+sets_state old new b n to count has h =
+    sets_row shop_schema StandsFor update_state 11 copy_table 6 of_two state_terms (number_value b ∷ number_value n ∷ state_value to ∷ []) copy_columns
+    (λ vs. number_test 0 b vs && (number_test 1 n vs && true)) (is_row b n)
+    (λ vs. column vs 0 ∷ column vs 1 ∷ column vs 2 ∷ state_value to ∷ column vs 4 ∷ column vs 5 ∷ []) (with_state to)
+    (copy_key_test b n) (λ c. refl) (λ c. kept_copy (with_state to c)) old new has update_state_means refl refl count h refl (λ r. refl) (λ r. refl) (λ r. refl) (λ r. refl) (λ v vs. refl)
+    (λ books. PicksOne (is_row b n) books.copies) (λ books. record books { copies = update_where (is_row b n) (with_state to) books.copies })
+    (λ books same s few sets. with_copies _ _ books _ same s (sets books.copies s.copies few))
 
 -- ---- lots
 

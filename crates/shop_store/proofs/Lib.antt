@@ -1,6 +1,9 @@
+pub mod Rising
 pub mod CustomerTexts
 pub mod CustomerReads
 pub mod CopyTexts
 pub mod CopyReads
 pub mod BranchTexts
 pub mod KeptTexts
+pub mod RentalTexts
+pub mod RentalReads

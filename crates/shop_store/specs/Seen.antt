@@ -1,12 +1,12 @@
 -- What a row means.
-use Rattle.std.specs.Prelude.{ℕ, List}
+use Rattle.std.specs.Prelude.{ℕ, List, None}
 use Rattle.shop_model.specs.Rows.{Row}
 use Rattle.shop_model.specs.Values as model
-use Rattle.shop_model.specs.Values.{Customer}
+use Rattle.shop_model.specs.Values.{Customer, Rental}
 use Rattle.shop_model.specs.Shop.{Kept}
 use Rattle.shop_model.specs.Books as books
 use Rattle.shop_model.specs.Books.{BookCopy}
-use Rattle.shop_types.specs.Seen.{seen_customer}
+use Rattle.shop_types.specs.Seen.{seen_customer, seen_rental}
 use Rattle.shop_schema.specs.Forms.{command_form}
 use Rattle.shop_store.specs.declared.customers.CustomerRow.{CustomerRow}
 use Rattle.shop_store.specs.declared.copies.CopyState.{CopyState}
@@ -14,6 +14,7 @@ use Rattle.shop_store.specs.declared.copies.CopyState.TheVariants as state
 use Rattle.shop_store.specs.declared.copies.Mark.{Mark}
 use Rattle.shop_store.specs.declared.copies.CopyRow.{CopyRow}
 use Rattle.shop_store.specs.declared.kept.KeptRow.{KeptRow}
+use Rattle.shop_store.specs.declared.rentals.RentalRow.{RentalRow}
 
 -- a customer of a branch, with the number
 abbrev pub seen_row : CustomerRow → Row Customer
@@ -37,3 +38,11 @@ seen_kept row = (row.form, row.reply)
 
 abbrev pub stored_kept : Kept → List ℕ × List ℕ
 stored_kept kept = (command_form kept.command, kept.reply)
+
+-- a rental of a branch, with the number
+abbrev pub seen_rental_row : RentalRow → Row Rental
+seen_rental_row row = record { branch = row.branch; number = row.number; it = seen_rental row.rental }
+
+-- the same as an open one
+abbrev pub opened_row : RentalRow → Row Rental
+opened_row row = record { branch = row.branch; number = row.number; it = record (seen_rental row.rental) { returned = None } }

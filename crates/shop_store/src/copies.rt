@@ -1,4 +1,5 @@
-ghost use Rattle.std.specs.Prelude.{◌≡◌, ⊤, [], ◌∷◌, ◌++◌, IfOk, OnOk, length};
+ghost use Rattle.std.specs.Prelude.{◌≡◌, ◌≢◌, ◌<◌, ◌==◌, ◌&&◌, ⊤, [], ◌∷◌, ◌++◌, IfOk, IfErr, OnOk, filter, length, map, option_map, option_to_list};
+ghost use Rattle.sqlite_value.specs.Order.{column};
 ghost use Rattle.std.specs.List.{list_any};
 ghost use Rattle.std.specs.Str.{bytes_eq};
 ghost use Rattle.sqlite.specs.Held.{state};
@@ -6,15 +7,21 @@ ghost use Rattle.sqlite.specs.State.{HasCleanDisk};
 ghost use Rattle.sqlite.specs.Values.{bound};
 ghost use Rattle.sql_rows.specs.Rows.{number_value};
 ghost use Rattle.sql_rows.specs.Calls.{StaysInside};
-ghost use Rattle.shop_model.specs.Rows.{of, owned_by};
+ghost use Rattle.shop_model.specs.Rows.{at, is_of, of, owned_by, set_row};
+ghost use Rattle.shop_model.specs.Values as model;
+ghost use Rattle.shop_model.specs.Books.{put_state};
+ghost use Rattle.shop_schema.specs.Held.{IsHeld};
+ghost use Rattle.shop_schema.specs.RowValues.{IsRow, IsCopy};
 ghost use Rattle.shop_schema.specs.Shop.{Reads, Writes};
 ghost use Rattle.shop_schema.specs.Columns.{state_value, copy_columns};
 ghost use Rattle.shop_store.specs.Seen.{seen_state, seen_copy_row};
 
+use shop_schema::row_number_at;
 use shop_types::{BranchNo, CopyNo, FilmNo, LotName};
-use sql_rows::{StoreFault, execute, query};
+use sql_rows::{StoreFault, Stored, execute, number_at, query, read_all, read_one};
 use sqlite::types::{ToSql, ValueRef};
-use sqlite::{Alter, Transaction};
+use sqlite::{Alter, Row, Transaction};
+use std::alloc::Global;
 
 /// Where a copy is.
 #[derive(Clone, Copy, Debug, PartialEq, Eq)]
@@ -32,7 +39,7 @@ pub struct Mark {
 }
 
 /// A copy of a branch, by the number that it has there.
-#[derive(Clone, Copy, Debug, PartialEq, Eq)]
+#[derive(Clone, Copy, Debug, Drop, PartialEq, Eq)]
 pub struct CopyRow {
     pub branch: BranchNo,
     pub number: CopyNo,
@@ -51,6 +58,41 @@ impl CopyState {
             CopyState::Sent => 1,
             CopyState::Scrapped => 2,
         }
+    }
+}
+
+/// The state for which the number in the column stands.
+fn state_at(row: &Row, at: usize) -> Result<CopyState, StoreFault>
+    ensures ok { IfOk result (λ s. column row.now at ≡ state_value (seen_state s)) }
+    ensures failed { IfErr result (λ e. e ≡ StoreFault.Failed → (s : model.CopyState) → at < length row.now → column row.now at ≢ state_value s) }
+{
+    match number_at(row, at)? {
+        0 => Ok(CopyState::Here),
+        1 => Ok(CopyState::Sent),
+        2 => Ok(CopyState::Scrapped),
+        _ => Err(StoreFault::Failed),
+    }
+}
+
+impl Stored for CopyRow {
+    ghost columns = { λ row. copy_columns (seen_copy_row row) };
+
+    ghost fits = { λ row. IsRow IsCopy (seen_copy_row row) };
+
+    fn read(row: &Row) -> Result<CopyRow, StoreFault> {
+        if row.column_count() != 6 {
+            return Err(StoreFault::Failed);
+        }
+        Ok(CopyRow {
+            branch: row_number_at(row, 0)?,
+            number: row_number_at(row, 1)?,
+            film: row_number_at(row, 2)?,
+            state: state_at(row, 3)?,
+            mark: Mark {
+                branch: row_number_at(row, 4)?,
+                copy: row_number_at(row, 5)?,
+            },
+        })
     }
 }
 
@@ -85,6 +127,67 @@ pub fn copy_count<S: Alter>(
         &[branch.get().to_sql()],
     )?;
     Ok(rows.len())
+}
+
+/// The copy of the number, in whatever state, if the branch has it.
+pub fn copy_at<S: Alter>(
+    tx: &mut Transaction<'_, S>,
+    branch: BranchNo,
+    number: CopyNo,
+) -> Result<Option<CopyRow>, StoreFault>
+    ensures same_reference { tx.new.conn.ghost_name ≡ tx.old.conn.ghost_name }
+    ensures inside { StaysInside (state S.Store tx.old.conn.now) (state S.Store tx.new.conn.now) result }
+    ensures row { HasCleanDisk (state S.Store tx.new.conn.now) → IfOk result (λ row. Reads (state S.Store tx.old.conn.now) (state S.Store tx.new.conn.now)
+        (λ books. option_to_list (option_map (λ it. (seen_copy_row it).it) row) ≡ at number (of branch books.copies))) }
+{
+    let rows = query(
+        tx,
+        "SELECT branch, number, film, state, origin_branch, origin_copy FROM copy WHERE branch = ?1 AND number = ?2",
+        &[branch.get().to_sql(), number.get().to_sql()],
+    )?;
+    read_one(rows.as_slice())
+}
+
+/// The copies of the film that the branch has, in whatever state, in order of number. After a fault the transaction may be rolled back.
+pub fn copies_of_film<S: Alter>(
+    tx: &mut Transaction<'_, S>,
+    alloc: Global,
+    branch: BranchNo,
+    film: FilmNo,
+) -> Result<Vec<CopyRow>, StoreFault>
+    ensures same_reference { tx.new.conn.ghost_name ≡ tx.old.conn.ghost_name }
+    ensures inside { StaysInside (state S.Store tx.old.conn.now) (state S.Store tx.new.conn.now) result }
+    ensures rows { HasCleanDisk (state S.Store tx.new.conn.now) → IfOk result (λ rows. Reads (state S.Store tx.old.conn.now) (state S.Store tx.new.conn.now)
+        (λ books. map (λ row. seen_copy_row row) rows.items ≡ filter (λ row. is_of branch row && row.it.film == film) books.copies)) }
+{
+    let rows = query(
+        tx,
+        "SELECT branch, number, film, state, origin_branch, origin_copy FROM copy WHERE branch = ?1 AND film = ?2 ORDER BY number",
+        &[branch.get().to_sql(), film.get().to_sql()],
+    )?;
+    read_all(alloc, rows.as_slice())
+}
+
+/// Sets where the copy is. A copy that isn't there is not made. After a fault the transaction may be rolled back.
+pub fn set_state<S: Alter>(
+    tx: &mut Transaction<'_, S>,
+    branch: BranchNo,
+    number: CopyNo,
+    new: CopyState,
+) -> Result<(), StoreFault>
+    ensures same_reference { tx.new.conn.ghost_name ≡ tx.old.conn.ghost_name }
+    ensures inside { StaysInside (state S.Store tx.old.conn.now) (state S.Store tx.new.conn.now) result }
+    ensures set { HasCleanDisk (state S.Store tx.new.conn.now) → OnOk result (Writes (state S.Store tx.old.conn.now) (state S.Store tx.new.conn.now) IsHeld (λ books. record books { copies = set_row branch number (put_state (seen_state new)) books.copies })) }
+{
+    execute(
+        tx,
+        "UPDATE copy SET state = ?3 WHERE branch = ?1 AND number = ?2",
+        &[
+            branch.get().to_sql(),
+            number.get().to_sql(),
+            new.code().to_sql(),
+        ],
+    )
 }
 
 /// Adds the copy. After a fault the transaction may be rolled back.

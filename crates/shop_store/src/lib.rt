@@ -6,10 +6,15 @@ mod branches;
 mod copies;
 mod customers;
 mod kept;
+mod rentals;
 
 pub use branches::{last_at, set_last};
-pub use copies::{CopyRow, CopyState, Mark, copy_count, has_lot, put_copy, put_lot};
+pub use copies::{
+    CopyRow, CopyState, Mark, copies_of_film, copy_at, copy_count, has_lot, put_copy, put_lot,
+    set_state,
+};
 pub use customers::{
     CustomerRow, customer_at, customer_count, customers_of, put_customer, set_active,
 };
 pub use kept::{KeptRow, kept_at, kept_count, put_kept};
+pub use rentals::{RentalRow, last_rental, put_rental, rental_at, rentals_of_copy, set_returned};

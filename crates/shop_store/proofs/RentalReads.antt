@@ -1,0 +1,156 @@
+-- What the texts of rentals say of the books.
+use Rattle.std.proofs.Common.{◌≡◌, ◌==◌, ◌≤◌, ◌+◌, ℕ, List, [], ◌∷◌, ◌++◌, map, filter, length, Ok, Err, Result, refl, sym, ap, subst, ◌∙◌, arith}
+use Rattle.std.specs.Prelude.{⊤, Vec, IfOk, IfSome, Option, Some, None, take, slice_get, option_map}
+use Rattle.std.specs.Option.{option_to_list}
+use Rattle.std.specs.List.{AllByRecursion}
+use Rattle.std.specs.declared.alloc.Global.{Global}
+use Rattle.std.proofs.lemmas.List.{map-id}
+use Rattle.sqlite_value.specs.Order as sql
+use Rattle.sqlite_value.specs.Order.{column}
+use Rattle.sqlite.specs.State.{State, Shown, ExecutesInside}
+use Rattle.sqlite_keyed.specs.Lists.{sort_by}
+use Rattle.sqlite_keyed.proofs.ListLemmas.{map-map, all-filter}
+use Rattle.sql_rows.specs.Rows.{by, Differ, number_value, PicksOne}
+use Rattle.sql_rows.specs.declared.fault.StoreFault.{StoreFault}
+use Rattle.sql_rows.proofs.Bags.{length-map}
+use Rattle.sql_rows.proofs.Last.{ending}
+use Rattle.sql_rows.proofs.OfKind.{unmapped_kind, all_in_order}
+use Rattle.sql_rows.proofs.Projects.{still_holds, writes_by}
+use Rattle.shop_model.specs.Calendar.{Moment}
+use Rattle.shop_model.specs.Rows.{Row, is_of, is_row, of, at, set_row, IsCounted, AreNumbered}
+use Rattle.shop_model.specs.Values.{Rental}
+use Rattle.shop_model.specs.Books.{Books}
+use Rattle.shop_model.proofs.RowLemmas.{row_at}
+use Rattle.shop_types.specs.Seen.{seen_rental}
+use Rattle.shop_schema.specs.Columns.{rental_columns, moment_value}
+use Rattle.shop_schema.specs.RowValues.{IsRow, IsRental}
+use Rattle.shop_schema.specs.Tables.{shop_schema}
+use Rattle.shop_schema.specs.Held.{IsHeld}
+use Rattle.shop_schema.specs.Shop.{StandsFor, Holds, Reads, Writes}
+use Rattle.shop_schema.proofs.SameRows.{same_rental}
+use Rattle.shop_schema.proofs.Lists.{picks_row}
+use Rattle.shop_store.specs.Seen.{seen_rental_row}
+use Rattle.shop_store.specs.declared.rentals.RentalRow.{RentalRow}
+use Rattle.shop_store.proofs.Rising.{Rise, rise_ascending, counted_rise, filter_rise, rise_differ, rise_sorted, filter_twice, map_filter}
+use Rattle.shop_store.proofs.RentalTexts.{insert_rental, puts_rental, select_rental, select_means, shows_rental, is_of_copy, select_of_copy, of_copy_means, shows_of_copy, select_last, last_means, shows_last, update_returned, sets_returned}
+
+all_seen : (P : Row Rental → Type 0) (xs : List RentalRow) → AllByRecursion (λ x. P (seen_rental_row x)) xs → AllByRecursion P (map seen_rental_row xs)
+all_seen P [] h = tt
+all_seen P (x ∷ xs) h = (h.0, all_seen P xs h.1)
+
+seen_some : (P : Row Rental → Type 0) (o : Option RentalRow) → IfSome o (λ x. P (seen_rental_row x)) → AllByRecursion P (map seen_rental_row (option_to_list o))
+seen_some P None h = tt
+seen_some P (Some x) h = (h, tt)
+
+take_few : {X : Type 0} (xs : List X) → length xs ≤ 1 → take 1 xs ≡ xs
+take_few [] few = refl
+take_few (x ∷ []) few = refl
+take_few (x ∷ y ∷ xs) few = absurd (omega (arith, few))
+
+option_list : {X Y : Type 0} (f : X → Y) (o : Option X) → option_to_list (option_map f o) ≡ map f (option_to_list o)
+option_list f None = refl
+option_list f (Some x) = refl
+
+-- ---- a copy's rentals, in order of number
+
+module _ (b x : ℕ) (rows : List (Row Rental)) (counted : AreNumbered (is_of b) (λ row. row.number) rows) where
+  split : filter (is_of_copy b x) rows ≡ filter (λ (row : Row Rental). row.it.copy == x) (filter (is_of b) rows)
+  split = filter_twice (is_of b) (λ (row : Row Rental). row.it.copy == x) rows
+
+  of_copy_rise : Rise (filter (is_of_copy b x) rows)
+  of_copy_rise = subst Rise (sym split) (filter_rise (λ (row : Row Rental). row.it.copy == x) (filter (is_of b) rows) (counted_rise 1 (filter (is_of b) rows) counted))
+
+  of_copy_differ : Differ (λ (row : Row Rental). row.number) (filter (is_of_copy b x) rows)
+  of_copy_differ = rise_differ (filter (is_of_copy b x) rows) of_copy_rise
+
+  -- in order of number they are the branch's of the copy
+  of_copy_order : map (λ (row : Row Rental). row.it) (sort_by (by (λ (row : Row Rental). row.number)) (filter (is_of_copy b x) rows)) ≡ filter (λ (it : Rental). it.copy == x) (of b rows)
+  of_copy_order =
+      ap (map (λ (row : Row Rental). row.it)) (rise_sorted (filter (is_of_copy b x) rows) of_copy_rise ∙ split)
+      ∙ map_filter (λ (row : Row Rental). row.it) (λ (it : Rental). it.copy == x) (filter (is_of b) rows)
+
+pub read_of_copy : (old new : State) (b x : ℕ) (rows seen : List sql.Row) (r : Result (Vec RentalRow Global) StoreFault) → Shown select_of_copy (number_value b ∷ number_value x ∷ []) old new rows → seen ≡ rows
+    → IfOk r (λ all. map (λ y. rental_columns (seen_rental_row y)) all.items ≡ seen) → IfOk r (λ all. AllByRecursion (λ y. IsRow IsRental (seen_rental_row y)) all.items)
+    → IfOk r (λ all. Reads old new (λ books. map (λ y. seen_rental y.rental) all.items ≡ filter (λ (it : Rental). it.copy == x) (of b books.rentals)))
+read_of_copy old new b x rows seen (Err e) h same read kinds = tt
+read_of_copy old new b x rows seen (Ok all) h same read kinds = λ books holds held.
+    let number : Row Rental → ℕ = λ row. row.number in
+    let counted = held.numbers.rentals b in
+    let found = shows_of_copy old new b x rows books holds.schema_is h holds.stands (of_copy_differ b x books.rentals counted) in
+    let one : map seen_rental_row all.items ≡ sort_by (by number) (filter (is_of_copy b x) books.rentals) =
+    unmapped_kind rental_columns (IsRow IsRental) same_rental _ _ (all_seen (IsRow IsRental) all.items kinds) (all_in_order (IsRow IsRental) number (is_of_copy b x) books.rentals held.values.rentals)
+    (map-map rental_columns seen_rental_row all.items ∙ read ∙ same ∙ found) in (
+      still_holds shop_schema StandsFor select_of_copy _ old new of_copy_means.plain rows h books holds,
+      sym (map-map (λ (row : Row Rental). row.it) seen_rental_row all.items) ∙ ap (map (λ (row : Row Rental). row.it)) one ∙ of_copy_order b x books.rentals counted,
+    )
+
+pub read_rental : (old new : State) (b n : ℕ) (rows seen : List sql.Row) (r : Result (Option RentalRow) StoreFault) → Shown select_rental (number_value b ∷ number_value n ∷ []) old new rows → seen ≡ rows
+    → IfOk r (λ o. map (λ x. rental_columns (seen_rental_row x)) (option_to_list o) ≡ take 1 seen) → IfOk r (λ o. IfSome o (λ x. IsRow IsRental (seen_rental_row x)))
+    → IfOk r (λ o. Reads old new (λ books. option_to_list (option_map (λ x. seen_rental x.rental) o) ≡ at n (of b books.rentals)))
+read_rental old new b n rows seen (Err e) h same read kind = tt
+read_rental old new b n rows seen (Ok o) h same read kind = λ books holds held.
+    let counted = held.numbers.rentals b in
+    let few : PicksOne (is_row b n) books.rentals = picks_row b books.rentals counted n in
+    let found = shows_rental old new b n rows books holds.schema_is h holds.stands few in
+    let short : length rows ≤ 1 = subst (λ (k : ℕ). k ≤ 1) (sym (ap length found ∙ length-map rental_columns (filter (is_row b n) books.rentals))) few in
+    let one : map seen_rental_row (option_to_list o) ≡ filter (is_row b n) books.rentals =
+    unmapped_kind rental_columns (IsRow IsRental) same_rental _ _ (seen_some (IsRow IsRental) o kind) (all-filter (IsRow IsRental) (is_row b n) books.rentals held.values.rentals)
+    (map-map rental_columns seen_rental_row (option_to_list o) ∙ read ∙ ap (take 1) same ∙ take_few rows short ∙ found) in (
+      still_holds shop_schema StandsFor select_rental _ old new select_means.plain rows h books holds,
+      option_list (λ (x : RentalRow). seen_rental x.rental) o ∙ sym (map-map (λ (row : Row Rental). row.it) seen_rental_row (option_to_list o)) ∙ ap (map (λ (row : Row Rental). row.it)) one
+          ∙ row_at (λ (it : Rental). it) b n books.rentals counted ∙ ap (at n) (map-id (of b books.rentals)),
+    )
+
+-- ---- the last number
+
+abbrev last_of : List (Row Rental) → List sql.Row
+last_of ys = map (λ c. number_value c.number ∷ []) (ending ys)
+
+none_last : (ys : List (Row Rental)) → slice_get (last_of ys) 0 ≡ None → length ys ≡ 0
+none_last [] e = refl
+none_last (y ∷ []) e = cc
+none_last (y ∷ z ∷ ys) e = let more : length (z ∷ ys) ≡ 0 = none_last (z ∷ ys) e in absurd (omega (arith, more))
+
+same_number : (m n : ℕ) → number_value m ≡ number_value n → m ≡ n
+same_number m n e = cc
+
+-- where numbers are counted from k, the last tells how many there are
+some_last : (k : ℕ) (ys : List (Row Rental)) (row : sql.Row) (n : ℕ) → IsCounted k (map (λ (c : Row Rental). c.number) ys) → slice_get (last_of ys) 0 ≡ Some row → column row 0 ≡ number_value n → n + 1 ≡ k + length ys
+some_last k [] row n counted e is = cc
+some_last k (y ∷ []) row n counted e is =
+    let shown : number_value y.number ∷ [] ≡ row = cc in
+    let same : n ≡ y.number = same_number n y.number (sym is ∙ ap (λ r. column r 0) (sym shown)) in
+    omega (arith, same, counted.0)
+some_last k (y ∷ z ∷ ys) row n counted e is = let more : n + 1 ≡ k + 1 + length (z ∷ ys) = some_last (k + 1) (z ∷ ys) row n counted.1 e is in omega (arith, more)
+
+-- what the first row tells
+pub read_last : (old new : State) (b : ℕ) (rows : List sql.Row) → Shown select_last (number_value b ∷ []) old new rows
+    → (slice_get rows 0 ≡ None → Reads old new (λ books. 0 ≡ length (of b books.rentals)))
+    × ((row : sql.Row) (n : ℕ) → slice_get rows 0 ≡ Some row → column row 0 ≡ number_value n → Reads old new (λ books. n ≡ length (of b books.rentals)))
+read_last old new b rows h = (
+  λ none books holds held. (still books holds, sym (as_many books ∙ none_last (own books) (first books holds held ∙ none))),
+  λ row n some is books holds held. (still books holds, told books n (some_last 1 (own books) row n (held.numbers.rentals b) (first books holds held ∙ some) is)),
+)
+  where
+    own : Books → List (Row Rental)
+    own books = filter (is_of b) books.rentals
+
+    still : (books : Books) → Holds old books → Holds new books
+    still = still_holds shop_schema StandsFor select_last (number_value b ∷ []) old new last_means.plain rows h
+
+    as_many : (books : Books) → length (of b books.rentals) ≡ length (own books)
+    as_many books = length-map (λ (row : Row Rental). row.it) (own books)
+
+    told : (books : Books) (n : ℕ) → n + 1 ≡ 1 + length (own books) → n ≡ length (of b books.rentals)
+    told books n past = let many = as_many books in omega (arith, past, many)
+
+    first : (books : Books) → Holds old books → IsHeld books → slice_get (last_of (own books)) 0 ≡ slice_get rows 0
+    first books holds held = ap (λ rs. slice_get rs 0) (sym (shows_last old new b rows books holds.schema_is h holds.stands (rise_ascending (own books) (counted_rise 1 (own books) (held.numbers.rentals b)))))
+
+pub write_rental : (old new : State) (c : Row Rental) (count : ℕ) → ExecutesInside 0 insert_rental (rental_columns c) old new (Ok count) → Writes old new (λ _. ⊤) (λ books. record books { rentals = books.rentals ++ c ∷ [] })
+write_rental old new c count h = writes_by shop_schema StandsFor old new _ _ (λ shop. puts_rental old new c count shop h)
+
+pub write_returned : (old new : State) (b n : ℕ) (moment : Moment) (count : ℕ) → ExecutesInside 0 update_returned (number_value b ∷ number_value n ∷ moment_value moment ∷ []) old new (Ok count)
+    → Writes old new IsHeld (λ books. record books { rentals = set_row b n (λ it. record it { returned = Some moment }) books.rentals })
+write_returned old new b n moment count h = λ books holds held.
+    writes_by shop_schema StandsFor old new (λ them. PicksOne (is_row b n) them.rentals) _ (λ shop. sets_returned old new b n moment count shop h) books holds (picks_row b books.rentals (held.numbers.rentals b) n)

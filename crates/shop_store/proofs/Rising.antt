@@ -1,0 +1,72 @@
+-- Some of a branch's rows, in order of number.
+use Rattle.std.proofs.Common.{◌≡◌, ◌≢◌, ◌&&◌, ◌<◌, ◌+◌, ℕ, List, [], ◌∷◌, map, filter, Bool, true, false, cond, inl, inr, refl, ap, ◌∙◌, arith}
+use Rattle.std.specs.Prelude.{⊤}
+use Rattle.std.specs.Ordering.{is_gt}
+use Rattle.std.specs.List.{AllByRecursion}
+use Rattle.std.proofs.lemmas.Bool.{cases_Bool}
+use Rattle.std.proofs.lemmas.Bool.Decides.{nat_tests}
+use Rattle.sqlite_trees.specs.Tree.{IsAscending}
+use Rattle.sqlite_keyed.specs.Lists.{sort_by, insert_sorted}
+use Rattle.sqlite_keyed.proofs.ListLemmas.{all-filter}
+use Rattle.sql_rows.specs.Rows.{by, Differ}
+use Rattle.shop_model.specs.Rows.{Row, IsCounted}
+
+abbrev pub Rise : {A : Type 0} → List (Row A) → Type 0
+Rise [] = ⊤
+Rise (x ∷ xs) = AllByRecursion (λ y. x.number < y.number) xs × Rise xs
+
+pub rise_ascending : {A : Type 0} (xs : List (Row A)) → Rise xs → IsAscending (λ (x y : Row A). x.number < y.number) xs
+rise_ascending [] r = tt
+rise_ascending (x ∷ xs) r = (r.0, rise_ascending xs r.1)
+
+pub counted_above : {A : Type 0} (k : ℕ) (xs : List (Row A)) (n : ℕ) → n < k → IsCounted k (map (λ row. row.number) xs) → AllByRecursion (λ y. n < y.number) xs
+counted_above k [] n low c = tt
+counted_above k (x ∷ xs) n low c = (omega (arith, c.0), counted_above (k + 1) xs n (omega arith) c.1)
+
+pub counted_rise : {A : Type 0} (k : ℕ) (xs : List (Row A)) → IsCounted k (map (λ row. row.number) xs) → Rise xs
+counted_rise k [] c = tt
+counted_rise k (x ∷ xs) c = (counted_above (k + 1) xs x.number (omega (arith, c.0)) c.1, counted_rise (k + 1) xs c.1)
+
+pub filter_rise : {A : Type 0} (q : Row A → Bool) (xs : List (Row A)) → Rise xs → Rise (filter q xs)
+filter_rise {A} q [] r = tt
+filter_rise {A} q (x ∷ xs) r = elim (cases_Bool (q x)) [
+  | inl is ↦ rw is (all-filter (λ (y : Row A). x.number < y.number) q xs r.0, filter_rise q xs r.1)
+  | inr isnt ↦ rw isnt (filter_rise q xs r.1)
+]
+
+pub all_differ : {A : Type 0} (n : ℕ) (xs : List (Row A)) → AllByRecursion (λ y. n < y.number) xs → AllByRecursion (λ y. n ≢ y.number) xs
+all_differ n [] all = tt
+all_differ n (x ∷ xs) all = (λ e. omega (arith, all.0, e), all_differ n xs all.1)
+
+pub rise_differ : {A : Type 0} (xs : List (Row A)) → Rise xs → Differ (λ (row : Row A). row.number) xs
+rise_differ [] r = tt
+rise_differ (x ∷ xs) r = (all_differ x.number xs r.0, rise_differ xs r.1)
+
+pub not_greater : {A : Type 0} (x y : Row A) → x.number < y.number → is_gt (by (λ (row : Row A). row.number) x y) ≡ false
+not_greater x y h = grind (arith, nat_tests)
+
+pub first_stays : {A : Type 0} (x : Row A) (xs : List (Row A)) → AllByRecursion (λ y. x.number < y.number) xs → insert_sorted (by (λ (row : Row A). row.number)) x xs ≡ x ∷ xs
+first_stays {A} x [] up = refl
+first_stays {A} x (y ∷ xs) up = ap (λ b. cond b (y ∷ insert_sorted (by (λ (row : Row A). row.number)) x xs) (x ∷ y ∷ xs)) (not_greater x y up.0)
+
+pub rise_sorted : {A : Type 0} (xs : List (Row A)) → Rise xs → sort_by (by (λ (row : Row A). row.number)) xs ≡ xs
+rise_sorted {A} [] r = refl
+rise_sorted {A} (x ∷ xs) r = ap (insert_sorted (by (λ (row : Row A). row.number)) x) (rise_sorted xs r.1) ∙ first_stays x xs r.0
+
+pub filter_twice : {X : Type 0} (p q : X → Bool) (xs : List X) → filter (λ x. p x && q x) xs ≡ filter q (filter p xs)
+filter_twice p q [] = refl
+filter_twice p q (x ∷ xs) = go (p x) (filter_twice p q xs)
+  where
+    go : (b : Bool) → filter (λ y. p y && q y) xs ≡ filter q (filter p xs)
+        → cond (b && q x) (x ∷ filter (λ y. p y && q y) xs) (filter (λ y. p y && q y) xs) ≡ filter q (cond b (x ∷ filter p xs) (filter p xs))
+    go true more = ap (λ l. cond (q x) (x ∷ l) l) more
+    go false more = more
+
+pub map_filter : {X Y : Type 0} (f : X → Y) (q : Y → Bool) (xs : List X) → map f (filter (λ x. q (f x)) xs) ≡ filter q (map f xs)
+map_filter f q [] = refl
+map_filter f q (x ∷ xs) = go (q (f x)) (map_filter f q xs)
+  where
+    go : (b : Bool) → map f (filter (λ y. q (f y)) xs) ≡ filter q (map f xs)
+        → map f (cond b (x ∷ filter (λ y. q (f y)) xs) (filter (λ y. q (f y)) xs)) ≡ cond b (f x ∷ filter q (map f xs)) (filter q (map f xs))
+    go true more = ap (λ l. f x ∷ l) more
+    go false more = more

@@ -1,0 +1,165 @@
+ghost use Rattle.std.specs.Prelude.{⊤, ◌≡◌, ◌==◌, [], ◌∷◌, ◌++◌, Some, OnOk, IfOk, filter, map, length, option_map, option_to_list};
+ghost use Rattle.sqlite.specs.Held.{state};
+ghost use Rattle.sqlite.specs.State.{HasCleanDisk};
+ghost use Rattle.sqlite.specs.Values.{bound};
+ghost use Rattle.sql_rows.specs.Calls.{StaysInside};
+ghost use Rattle.shop_model.specs.Calendar.{moment_text};
+ghost use Rattle.shop_model.specs.Rows.{at, of, set_row};
+ghost use Rattle.shop_types.specs.Seen.{seen_rental};
+ghost use Rattle.shop_schema.specs.Columns.{rental_columns};
+ghost use Rattle.shop_schema.specs.RowValues.{IsRow, IsRental};
+ghost use Rattle.shop_schema.specs.Held.{IsHeld};
+ghost use Rattle.shop_schema.specs.Shop.{Reads, Writes};
+ghost use Rattle.shop_store.specs.Seen.{seen_rental_row, opened_row};
+
+use shop_schema::{MomentText, moment_at, moment_or_null_at, row_number_at};
+use shop_types::{BranchNo, CopyNo, Moment, Rental, RentalNo};
+use sql_rows::{StoreFault, Stored, execute, query, read_all, read_one};
+use sqlite::types::{ToSql, ValueRef};
+use sqlite::{Alter, Row, Transaction};
+use std::alloc::Global;
+
+/// A rental of a branch, with its number there.
+#[derive(Clone, Copy, Debug, PartialEq, Eq, Drop)]
+pub struct RentalRow {
+    pub branch: BranchNo,
+    pub number: RentalNo,
+    pub rental: Rental,
+}
+
+impl Stored for RentalRow {
+    ghost columns = { λ row. rental_columns (seen_rental_row row) };
+
+    ghost fits = { λ row. IsRow IsRental (seen_rental_row row) };
+
+    fn read(row: &Row) -> Result<RentalRow, StoreFault> {
+        if row.column_count() != 7 {
+            return Err(StoreFault::Failed);
+        }
+        Ok(RentalRow {
+            branch: row_number_at(row, 0)?,
+            number: row_number_at(row, 1)?,
+            rental: Rental {
+                rented: moment_at(row, 2)?,
+                copy: row_number_at(row, 3)?,
+                customer: row_number_at(row, 4)?,
+                returned: moment_or_null_at(row, 5)?,
+                staff: row_number_at(row, 6)?,
+            },
+        })
+    }
+}
+
+/// The columns of the rental in order, as parameters, with no moment of return.
+fn values<'a>(row: &RentalRow, rented: &'a MomentText) -> [ValueRef<'a>; 7]
+    requires { rented.now ≡ moment_text row.now.rental.rented }
+    ensures { bound result ≡ rental_columns (opened_row row.now) }
+{
+    [
+        row.branch.get().to_sql(),
+        row.number.get().to_sql(),
+        rented.as_str().to_sql(),
+        row.rental.copy.get().to_sql(),
+        row.rental.customer.get().to_sql(),
+        ValueRef::Null,
+        row.rental.staff.get().to_sql(),
+    ]
+}
+
+/// The rental of the number, if the branch has it.
+pub fn rental_at<S: Alter>(
+    tx: &mut Transaction<'_, S>,
+    branch: BranchNo,
+    number: RentalNo,
+) -> Result<Option<RentalRow>, StoreFault>
+    ensures same_reference { tx.new.conn.ghost_name ≡ tx.old.conn.ghost_name }
+    ensures inside { StaysInside (state S.Store tx.old.conn.now) (state S.Store tx.new.conn.now) result }
+    ensures row { HasCleanDisk (state S.Store tx.new.conn.now) → IfOk result (λ row. Reads (state S.Store tx.old.conn.now) (state S.Store tx.new.conn.now) (λ books. option_to_list (option_map (λ it. seen_rental it.rental) row) ≡ at number (of branch books.rentals))) }
+{
+    let rows = query(
+        tx,
+        "SELECT branch, number, moment, copy, customer, returned, staff FROM rental WHERE branch = ?1 AND number = ?2",
+        &[branch.get().to_sql(), number.get().to_sql()],
+    )?;
+    read_one(rows.as_slice())
+}
+
+/// All rentals of the branch's copy, in order of number. After a fault the transaction may be rolled back.
+pub fn rentals_of_copy<S: Alter>(
+    tx: &mut Transaction<'_, S>,
+    alloc: Global,
+    branch: BranchNo,
+    copy: CopyNo,
+) -> Result<Vec<RentalRow>, StoreFault>
+    ensures same_reference { tx.new.conn.ghost_name ≡ tx.old.conn.ghost_name }
+    ensures inside { StaysInside (state S.Store tx.old.conn.now) (state S.Store tx.new.conn.now) result }
+    ensures rows { HasCleanDisk (state S.Store tx.new.conn.now) → IfOk result (λ rows. Reads (state S.Store tx.old.conn.now) (state S.Store tx.new.conn.now)
+        (λ books. map (λ row. seen_rental row.rental) rows.items ≡ filter (λ it. it.copy == copy) (of branch books.rentals))) }
+{
+    let rows = query(
+        tx,
+        "SELECT branch, number, moment, copy, customer, returned, staff FROM rental WHERE branch = ?1 AND copy = ?2 ORDER BY number",
+        &[branch.get().to_sql(), copy.get().to_sql()],
+    )?;
+    read_all(alloc, rows.as_slice())
+}
+
+/// The number of the branch's last rental, which is how many it has: 0 where it has none. One row is read, however many there are.
+pub fn last_rental<S: Alter>(
+    tx: &mut Transaction<'_, S>,
+    branch: BranchNo,
+) -> Result<u32, StoreFault>
+    ensures same_reference { tx.new.conn.ghost_name ≡ tx.old.conn.ghost_name }
+    ensures inside { StaysInside (state S.Store tx.old.conn.now) (state S.Store tx.new.conn.now) result }
+    ensures count { HasCleanDisk (state S.Store tx.new.conn.now) → IfOk result (λ count. Reads (state S.Store tx.old.conn.now) (state S.Store tx.new.conn.now) (λ books. count ≡ length (of branch books.rentals))) }
+{
+    let rows = query(
+        tx,
+        "SELECT number FROM rental WHERE branch = ?1 ORDER BY number DESC LIMIT 1",
+        &[branch.get().to_sql()],
+    )?;
+    match rows.first() {
+        None => Ok(0),
+        Some(row) => {
+            let last: RentalNo = row_number_at(row, 0)?;
+            Ok(last.get())
+        }
+    }
+}
+
+/// Adds the rental as an open one: a moment of return isn't looked at. After a fault the transaction may be rolled back.
+pub fn put_rental<S: Alter>(tx: &mut Transaction<'_, S>, row: &RentalRow) -> Result<(), StoreFault>
+    ensures same_reference { tx.new.conn.ghost_name ≡ tx.old.conn.ghost_name }
+    ensures inside { StaysInside (state S.Store tx.old.conn.now) (state S.Store tx.new.conn.now) result }
+    ensures put { HasCleanDisk (state S.Store tx.new.conn.now) → OnOk result (Writes (state S.Store tx.old.conn.now) (state S.Store tx.new.conn.now) (λ _. ⊤) (λ books. record books { rentals = books.rentals ++ opened_row row.now ∷ [] })) }
+{
+    let rented = MomentText::of(row.rental.rented);
+    execute(
+        tx,
+        "INSERT INTO rental (branch, number, moment, copy, customer, returned, staff) VALUES (?1, ?2, ?3, ?4, ?5, ?6, ?7)",
+        &values(row, &rented),
+    )
+}
+
+/// Sets when the rental's copy came back. A rental that isn't there is not made. After a fault the transaction may be rolled back.
+pub fn set_returned<S: Alter>(
+    tx: &mut Transaction<'_, S>,
+    branch: BranchNo,
+    number: RentalNo,
+    moment: Moment,
+) -> Result<(), StoreFault>
+    ensures same_reference { tx.new.conn.ghost_name ≡ tx.old.conn.ghost_name }
+    ensures inside { StaysInside (state S.Store tx.old.conn.now) (state S.Store tx.new.conn.now) result }
+    ensures set { HasCleanDisk (state S.Store tx.new.conn.now) → OnOk result (Writes (state S.Store tx.old.conn.now) (state S.Store tx.new.conn.now) IsHeld (λ books. record books { rentals = set_row branch number (λ it. record it { returned = Some moment }) books.rentals })) }
+{
+    let returned = MomentText::of(moment);
+    execute(
+        tx,
+        "UPDATE rental SET returned = ?3 WHERE branch = ?1 AND number = ?2",
+        &[
+            branch.get().to_sql(),
+            number.get().to_sql(),
+            returned.as_str().to_sql(),
+        ],
+    )
+}
