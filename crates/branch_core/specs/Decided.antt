@@ -1,13 +1,14 @@
 -- What a decision says of the verdict, and which rows an accepted command adds.
 use Rattle.std.specs.Prelude.{◌≡◌, ⊤, ℕ, ◌+◌, ◌≤◌, true, [], ◌∷◌, ◌++◌, length, Option, option_map, Some, None, Result, Ok, Err}
-use Rattle.shop_model.specs.Values.{Text, Person, Act, AddCustomer, Import, Command, Rules}
+use Rattle.shop_model.specs.Values.{Text, Person, Act, AddCustomer, SetActive, Rent, TakeBack, Import, Scrap, Command, Rules}
 use Rattle.shop_model.specs.Refusals as named
 use Rattle.shop_model.specs.Shop.{Catalogue, Shop}
 use Rattle.shop_model.specs.Verdict.{Verdict, Again, Refused, Accepted, verdict}
 use Rattle.shop_model.specs.Machine.{films_in, acted}
 use Rattle.shop_types.specs.declared.person.Customer.{Customer}
+use Rattle.shop_types.specs.declared.rental.Rental.{Rental}
 use Rattle.shop_types.specs.declared.refusal.Refusal.{Refusal}
-use Rattle.shop_types.specs.Seen.{seen_customer, seen_refusal}
+use Rattle.shop_types.specs.Seen.{seen_customer, seen_rental, seen_refusal}
 use Rattle.branch_core.specs.declared.change.Rows.{Rows}
 use Rattle.branch_core.specs.declared.change.Rows.TheVariants as rows
 use Rattle.branch_core.specs.declared.change.Change.{Change}
@@ -27,9 +28,19 @@ pub record AreNewCopies (rules : Rules) (command : Command) (lot file : Text) (s
   pub all : count ≡ length (films_in (rules.stock_of file))
   pub added : length (acted rules command (Import lot file) shop).copies ≡ length shop.copies + count
 
--- they are the rows that the act adds to the shop
+-- an open rental of the copy by the customer, at the command's moment and with the branch's next number: the row that the act puts last
+pub record IsNewRental (rules : Rules) (command : Command) (c x : ℕ) (shop : Shop) (number : ℕ) (rental : Rental) : Type 0 where
+  pub next : number ≡ length shop.rentals + 1
+  pub row : seen_rental rental ≡ record { rented = command.moment; copy = x; customer = c; returned = None; staff = command.staff }
+  pub added : (acted rules command (Rent c x) shop).rentals ≡ shop.rentals ++ seen_rental rental ∷ []
+
+-- they are the rows that the act adds to the shop or sets
 abbrev pub Adds : Rules → Command → Act → Shop → Rows → Type 0
 Adds rules command (AddCustomer person) shop (rows.Customer number customer) = IsNewCustomer rules command person shop number customer
+Adds rules command (SetActive c active) shop (rows.Active customer flag) = (customer ≡ c) × (flag ≡ active)
+Adds rules command (Rent c x) shop (rows.Rent number rental) = IsNewRental rules command c x shop number rental
+Adds rules command (TakeBack r) shop (rows.TakeBack rental returned) = (rental ≡ r) × (returned ≡ command.moment)
+Adds rules command (Scrap x) shop (rows.Scrap copy) = copy ≡ x
 Adds rules command (Import lot file) shop (rows.Import first count) = AreNewCopies rules command lot file shop first count
 Adds rules command act shop it = ⊥
 
@@ -53,7 +64,11 @@ TakesMemory act = ⊥
 -- a branch has a million copies at most, so that no number of a new one wraps
 abbrev pub AreWithin : Rows → Type 0
 AreWithin (rows.Customer number customer) = ⊤
+AreWithin (rows.Active customer active) = ⊤
+AreWithin (rows.Rent number rental) = ⊤
+AreWithin (rows.TakeBack rental returned) = ⊤
 AreWithin (rows.Import first count) = first ≤ 1_000_001
+AreWithin (rows.Scrap copy) = ⊤
 
 abbrev pub IsChangeWithin : Change → Type 0
 IsChangeWithin (change.Again reply) = ⊤

@@ -1,8 +1,8 @@
 //! What an accepted command changes.
 
-use shop_types::{CopyNo, Customer, CustomerNo};
+use shop_types::{CopyNo, Customer, CustomerNo, Moment, Rental, RentalNo};
 
-/// The rows that a command adds, beside the command itself.
+/// The rows that a command adds or sets, beside the command itself.
 #[derive(Debug, Drop)]
 pub enum Rows {
     /// An active customer, with the branch's next number.
@@ -10,12 +10,29 @@ pub enum Rows {
         number: CustomerNo,
         customer: Customer,
     },
+    /// Whether the customer may rent.
+    Active {
+        customer: CustomerNo,
+        active: bool,
+    },
+    /// A rental that is open, with the branch's next number.
+    Rent {
+        number: RentalNo,
+        rental: Rental,
+    },
+    /// The rental's copy came back then.
+    TakeBack {
+        rental: RentalNo,
+        returned: Moment,
+    },
     /// So many copies that are in the shop, with the branch's next numbers, from the first on. Their films are those of the stock
     /// file, in the order of its rows, each as often as its row says.
     Import {
         first: CopyNo,
         count: u32,
     },
+    /// The copy is scrapped.
+    Scrap(CopyNo),
 }
 
 /// What is decided of a command that isn't refused.
@@ -23,6 +40,6 @@ pub enum Rows {
 pub enum Change<'a> {
     /// It was sent before, and had the reply with this body: nothing changes.
     Again(&'a str),
-    /// It adds these rows, and is kept.
+    /// It adds or sets these rows, and is kept.
     Rows(Rows),
 }

@@ -1,9 +1,9 @@
 //! The decision on a command of a branch.
 
-ghost use Rattle.std.specs.Prelude.{◌≡◌, ℕ, ◌+◌, ◌≤◌, ◌&&◌, nat_lt, true, List, length, map, option_map, IfOk, OnErr};
+ghost use Rattle.std.specs.Prelude.{◌≡◌, ℕ, ◌+◌, ◌≤◌, ◌&&◌, nat_lt, not, true, List, length, map, option_map, IfOk, OnErr};
 ghost use Rattle.std.specs.List.{list_any};
 ghost use Rattle.shop_model.specs.Calendar as calendar;
-ghost use Rattle.shop_model.specs.Rows.{at};
+ghost use Rattle.shop_model.specs.Rows.{at, lacks};
 ghost use Rattle.shop_model.specs.Values as model;
 ghost use Rattle.shop_model.specs.Shop.{Catalogue, Shop};
 ghost use Rattle.shop_model.specs.Verdict.{first, refusals, act_refusals, is_before, is_full, new_copies, staff_is};
@@ -12,10 +12,11 @@ ghost use Rattle.shop_types.specs.Seen.{seen_act, seen_command};
 ghost use Rattle.branch_core.specs.Agreed.{Agrees, ActAgrees, IsFoundFor, IsWithin, seen_staff, post_of};
 ghost use Rattle.branch_core.specs.Decided.{IsDecided, Adds, TakesMemory, AreWithin, IsChangeWithin, verdict_by};
 
+use crate::acts::{active_refusal, rent_refusal, return_refusal, scrap_refusal};
 use crate::stock::{new_copies, stock_refusal};
 use crate::{ActFound, Change, Found, Rows, StaffFound};
 use shop_types::{
-    Act, BranchNo, Command, Customer, Limits, Moment, NoMemory, Person, Refusal, RowNumber,
+    Act, BranchNo, Command, Customer, Limits, Moment, NoMemory, Person, Refusal, Rental, RowNumber,
 };
 
 /// The change that a branch's command makes, or the first refusal that holds of it. `Memory` comes only where a customer would be
@@ -40,7 +41,7 @@ pub fn decide<'a>(
                 Err(Refusal::KeyUsed)
             }
         }
-        None => match first_refusal(branch, command.at, found, limits) {
+        None => match first_refusal(branch, command.at, &command.act, found, limits) {
             Some(refusal) => Err(refusal),
             None => match new_rows(command, &found.act) {
                 Ok(rows) => Ok(Change::Rows(rows)),
@@ -51,9 +52,16 @@ pub fn decide<'a>(
 }
 
 /// The first refusal of a command whose key isn't kept, given at the moment.
-fn first_refusal(branch: BranchNo, at: Moment, found: &Found, limits: Limits) -> Option<Refusal>
-    requires { IsWithin found.now.act }
-    ensures { (rules : model.Rules) (catalogue : Catalogue) (shop : Shop) (command : model.Command) → command.moment ≡ at → rules.commands ≡ limits.commands → rules.copies ≡ limits.copies
+fn first_refusal(
+    branch: BranchNo,
+    at: Moment,
+    asked: &Act,
+    found: &Found,
+    limits: Limits,
+) -> Option<Refusal>
+    requires act { IsFoundFor asked.now found.now.act }
+    requires within { IsWithin found.now.act }
+    ensures { (rules : model.Rules) (catalogue : Catalogue) (shop : Shop) (command : model.Command) → command.moment ≡ at → command.act ≡ seen_act asked.now → rules.commands ≡ limits.commands → rules.copies ≡ limits.copies
         → Agrees rules catalogue shop command found.now → verdict_by result ≡ Some (first (refusals rules branch catalogue shop command)) }
 {
     if is_full(found, limits) {
@@ -63,7 +71,7 @@ fn first_refusal(branch: BranchNo, at: Moment, found: &Found, limits: Limits) ->
     } else if !works_at(found.staff, branch) {
         Some(Refusal::NoStaff)
     } else {
-        act_refusal(&found.act)
+        act_refusal(at, asked, &found.act)
     }
 }
 
@@ -83,7 +91,11 @@ fn has_no_room(act: &ActFound, limits: Limits) -> bool
         → result ≡ (nat_lt 0 (new_copies rules shop asked) && nat_lt rules.copies (length shop.copies + new_copies rules shop asked)) }
 {
     match act {
-        ActFound::Customer { .. } => false,
+        ActFound::Customer { .. }
+        | ActFound::Active { .. }
+        | ActFound::Rent { .. }
+        | ActFound::TakeBack { .. }
+        | ActFound::Scrap { .. } => false,
         ActFound::Import { copies, stock, .. } => {
             let new = new_copies(stock);
             0 < new && limits.copies() < *copies + new
@@ -111,19 +123,50 @@ fn works_at(staff: Option<StaffFound>, branch: BranchNo) -> bool
     }
 }
 
-/// The first refusal that goes by what the act is.
-fn act_refusal(act: &ActFound) -> Option<Refusal>
-    ensures { (rules : model.Rules) (b : ℕ) (catalogue : Catalogue) (shop : Shop) (moment : calendar.Moment) (asked : model.Act) → ActAgrees rules catalogue shop asked act.now
-        → verdict_by result ≡ Some (first (act_refusals rules b catalogue shop moment asked)) }
+/// The first refusal that goes by what the act is, at the moment.
+fn act_refusal(at: Moment, asked: &Act, act: &ActFound) -> Option<Refusal>
+    requires { IsFoundFor asked.now act.now }
+    ensures { (rules : model.Rules) (b : ℕ) (catalogue : Catalogue) (shop : Shop) → ActAgrees rules catalogue shop (seen_act asked.now) act.now
+        → verdict_by result ≡ Some (first (act_refusals rules b catalogue shop at (seen_act asked.now))) }
 {
-    match act {
-        ActFound::Customer { has_city: true, .. } => None,
-        ActFound::Customer { .. } => Some(Refusal::NoSharedRow),
-        ActFound::Import { has_lot, stock, .. } => stock_refusal(stock, *has_lot),
+    match (asked, act) {
+        (Act::Customer(_), ActFound::Customer { has_city, .. }) => city_refusal(*has_city),
+        (Act::Active { active, .. }, ActFound::Active { is_active }) => {
+            active_refusal(*is_active, *active)
+        }
+        (
+            Act::Rent { customer, copy },
+            ActFound::Rent {
+                is_active,
+                copy: found,
+                of_copy,
+                ..
+            },
+        ) => rent_refusal(at, *customer, *copy, *is_active, *found, of_copy.as_slice()),
+        (Act::TakeBack(_), ActFound::TakeBack { is_returned }) => return_refusal(*is_returned),
+        (Act::Import { .. }, ActFound::Import { has_lot, stock, .. }) => {
+            stock_refusal(stock, *has_lot)
+        }
+        (Act::Scrap(copy), ActFound::Scrap { is_here, of_copy }) => {
+            scrap_refusal(*copy, *is_here, of_copy.as_slice())
+        }
+        _ => unreachable!(),
     }
 }
 
-/// The rows that an accepted command adds.
+/// Of a customer in a city that may not be there.
+fn city_refusal(has_city: bool) -> Option<Refusal>
+    ensures { (rules : model.Rules) (b : ℕ) (catalogue : Catalogue) (shop : Shop) (moment : calendar.Moment) (person : model.Person) → has_city ≡ not (lacks catalogue.cities person.city)
+        → verdict_by result ≡ Some (first (act_refusals rules b catalogue shop moment (model.AddCustomer person))) }
+{
+    if has_city {
+        None
+    } else {
+        Some(Refusal::NoSharedRow)
+    }
+}
+
+/// The rows that an accepted command adds or sets.
 fn new_rows(command: &Command, act: &ActFound) -> Result<Rows, NoMemory>
     requires act { IsFoundFor command.now.act act.now }
     requires within { IsWithin act.now }
@@ -137,6 +180,25 @@ fn new_rows(command: &Command, act: &ActFound) -> Result<Rows, NoMemory>
             number: number_after(*customers),
             customer: new_customer(person, command.at)?,
         }),
+        (Act::Active { customer, active }, ActFound::Active { .. }) => Ok(Rows::Active {
+            customer: *customer,
+            active: *active,
+        }),
+        (Act::Rent { customer, copy }, ActFound::Rent { rentals, .. }) => Ok(Rows::Rent {
+            number: number_after(*rentals),
+            rental: Rental {
+                rented: command.at,
+                copy: *copy,
+                customer: *customer,
+                returned: None,
+                staff: command.staff,
+            },
+        }),
+        (Act::TakeBack(rental), ActFound::TakeBack { .. }) => Ok(Rows::TakeBack {
+            rental: *rental,
+            returned: command.at,
+        }),
+        (Act::Scrap(copy), ActFound::Scrap { .. }) => Ok(Rows::Scrap(*copy)),
         (Act::Import { .. }, ActFound::Import { copies, stock, .. }) => Ok(Rows::Import {
             first: number_after(*copies),
             count: new_copies(stock),

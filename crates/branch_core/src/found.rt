@@ -1,6 +1,6 @@
 //! What was found of the rows that a command names.
 
-use shop_types::{BadCsv, BranchNo, FilmNo, Moment};
+use shop_types::{BadCsv, BranchNo, FilmNo, Moment, Rental};
 
 /// The kept row of the command's key, as compared with the command.
 #[derive(Clone, Copy, Debug)]
@@ -31,6 +31,15 @@ pub struct StockFound {
     pub is_withdrawn: bool,
 }
 
+/// A copy that a command names.
+#[derive(Clone, Copy, Debug, PartialEq, Eq)]
+pub struct CopyFound {
+    /// Whether it is in the shop, neither sent nor scrapped.
+    pub is_here: bool,
+    /// Whether its film is withdrawn.
+    pub is_withdrawn: bool,
+}
+
 /// What is read for one kind of act alone.
 #[derive(Debug, Drop)]
 pub enum ActFound {
@@ -40,6 +49,24 @@ pub enum ActFound {
         /// How many customers the branch has.
         customers: u32,
     },
+    Active {
+        /// Whether the customer may rent, where there is such a customer.
+        is_active: Option<bool>,
+    },
+    Rent {
+        /// Whether the customer may rent, where there is such a customer.
+        is_active: Option<bool>,
+        /// The copy, where there is one of the number.
+        copy: Option<CopyFound>,
+        /// All rentals of the copy.
+        of_copy: Vec<Rental>,
+        /// How many rentals the branch has.
+        rentals: u32,
+    },
+    TakeBack {
+        /// Whether the copy came back already, where there is such a rental.
+        is_returned: Option<bool>,
+    },
     Import {
         /// How many copies the branch has, in whatever state.
         copies: u32,
@@ -47,6 +74,12 @@ pub enum ActFound {
         has_lot: bool,
         /// The rows of the stock file in their order, or its fault.
         stock: Result<Vec<StockFound>, BadCsv>,
+    },
+    Scrap {
+        /// Whether the copy is in the shop, where there is one of the number.
+        is_here: Option<bool>,
+        /// All rentals of the copy.
+        of_copy: Vec<Rental>,
     },
 }
 

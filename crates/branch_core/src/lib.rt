@@ -1,11 +1,16 @@
 //! What a branch decides of a command, by what was found of the rows that the command names: the change, or the first refusal.
 #![tactic(auto)]
 
+mod acts;
 mod change;
 mod decision;
+mod film_copies;
 mod found;
+mod rentals;
 mod stock;
 
 pub use change::{Change, Rows};
 pub use decision::decide;
-pub use found::{ActFound, Found, KeptFound, StaffFound, StockFound};
+pub use film_copies::{FilmCopy, film_in_stock, film_not_in_stock};
+pub use found::{ActFound, CopyFound, Found, KeptFound, StaffFound, StockFound};
+pub use rentals::{has_same, held_by, in_stock};

@@ -1,0 +1,145 @@
+-- Refusals of commands on a customer, a copy or a rental, by what was found of it.
+use Rattle.std.proofs.Common.{◌≡◌, ◌⊎◌, refl, sym, ap, ◌∙◌, inl, inr, ℕ, ◌-◌, Bool, true, false, not, List, [], ◌∷◌, map, filter, Option, Some, None}
+use Rattle.std.specs.Prelude.{◌==◌, ◌&&◌, ◌||◌, is_some}
+use Rattle.std.specs.List.{list_any}
+use Rattle.std.proofs.lemmas.Bool.{cases_Bool}
+use Rattle.shop_model.specs.Calendar.{Moment, same_moment}
+use Rattle.shop_model.specs.Rows.{at}
+use Rattle.shop_model.specs.Values.{Copy, Customer, Rental, SetActive, Rent, TakeBack, Scrap, Rules}
+use Rattle.shop_model.specs.Shop.{Catalogue, Shop, same_flag}
+use Rattle.shop_model.specs.Stock.{is_here, keeps_out, in_stock}
+use Rattle.shop_model.specs.Refusals.{NoCustomer, NoCopy, CopyNotHere, CopyOut, FilmWithdrawn, SameMoment, Already}
+use Rattle.shop_model.specs.Verdict.{Verdict, Refused, Accepted, first, act_refusals, is_film_withdrawn}
+use Rattle.shop_model.specs.Books.{head}
+use Rattle.branch_core.specs.Agreed.{active_at, copy_at}
+
+-- there is one row of a number at most
+at_one : {A : Type 0} (n : ℕ) (rows : List A) → (at n rows ≡ []) ⊎ ((x : A) × (at n rows ≡ x ∷ []))
+at_one n [] = inl refl
+at_one n (x ∷ rows) = elim (cases_Bool (n == 1)) [
+  | inl here ↦ inr (x, rw here refl)
+  | inr further ↦ elim (at_one (n - 1) rows) [ inl none ↦ inl (rw further none) | inr one ↦ inr (one.0, rw further one.1) ]
+]
+
+-- what is found of it tells whether it is there, and what it is
+pub found_none : {A B : Type 0} (f : A → B) (n : ℕ) (rows : List A) → None ≡ head (map f (at n rows)) → at n rows ≡ []
+found_none f n rows is = elim (at_one n rows) [
+  | inl none ↦ none
+  | inr one ↦ let no : None ≡ Some (f one.0) = rw one.1 at is in absurd (apart no)
+]
+  where
+    apart : {C : Type 0} {x : C} → ◌≡◌ {A = Option C} None (Some x) → ⊥
+    apart e = cc
+
+pub found_some : {A B : Type 0} (f : A → B) (n : ℕ) (rows : List A) (b : B) → Some b ≡ head (map f (at n rows)) → (x : A) × (at n rows ≡ x ∷ []) × (f x ≡ b)
+found_some f n rows b is = elim (at_one n rows) [
+  | inl none ↦ let no : Some b ≡ None = rw none at is in absurd (apart no)
+  | inr one ↦ let same : Some b ≡ Some (f one.0) = rw one.1 at is in (one.0, one.1, sym (inside same))
+]
+  where
+    apart : {C : Type 0} {x : C} → ◌≡◌ {A = Option C} (Some x) None → ⊥
+    apart e = cc
+
+    inside : {C : Type 0} {x y : C} → ◌≡◌ {A = Option C} (Some x) (Some y) → x ≡ y
+    inside e = cc
+
+-- ---- whether a customer may rent
+
+module _ (rules : Rules) (b : ℕ) (catalogue : Catalogue) (shop : Shop) (moment : Moment) (c : ℕ) (active : Bool) where
+  pub active_none : None ≡ active_at c shop → Some (Refused NoCustomer) ≡ Some (first (act_refusals rules b catalogue shop moment (SetActive c active)))
+  active_none is = rw (found_none (λ (it : Customer). it.active) c shop.customers is) refl
+
+  pub active_already : (was : Bool) → Some was ≡ active_at c shop → same_flag was active ≡ true → Some (Refused Already) ≡ Some (first (act_refusals rules b catalogue shop moment (SetActive c active)))
+  active_already was is same = let one = found_some (λ (it : Customer). it.active) c shop.customers was is in rw (one.1, one.2, same) refl
+
+  pub active_set : (was : Bool) → Some was ≡ active_at c shop → same_flag was active ≡ false → Some Accepted ≡ Some (first (act_refusals rules b catalogue shop moment (SetActive c active)))
+  active_set was is same = let one = found_some (λ (it : Customer). it.active) c shop.customers was is in rw (one.1, one.2, same) refl
+
+-- ---- a copy's rentals
+
+any_filtered : {A : Type 0} (p q : A → Bool) (xs : List A) → ((x : A) → q x ≡ false → p x ≡ false) → list_any p (filter q xs) ≡ list_any p xs
+any_filtered p q [] apart = refl
+any_filtered p q (x ∷ xs) apart = elim (cases_Bool (q x)) [
+  | inl is ↦ rw is (ap (λ (b : Bool). p x || b) (any_filtered p q xs apart))
+  | inr isnt ↦ rw (isnt, apart x isnt) (any_filtered p q xs apart)
+]
+
+pub stock_of_copy : (x : ℕ) (of_copy rentals : List Rental) → of_copy ≡ filter (λ (it : Rental). it.copy == x) rentals → in_stock x of_copy ≡ in_stock x rentals
+stock_of_copy x of_copy rentals is = ap (in_stock x) is ∙ ap not (any_filtered (keeps_out x) (λ (it : Rental). it.copy == x) rentals (λ it isnt. rw isnt refl))
+
+and_false : (a b : Bool) → ((a && false) && b) ≡ false
+and_false true b = refl
+and_false false b = refl
+
+pub same_of_copy : (moment : Moment) (x c : ℕ) (of_copy rentals : List Rental) → of_copy ≡ filter (λ (it : Rental). it.copy == x) rentals
+    → list_any (λ (it : Rental). same_moment it.rented moment && it.copy == x && it.customer == c) of_copy ≡ list_any (λ (it : Rental). same_moment it.rented moment && it.copy == x && it.customer == c) rentals
+same_of_copy moment x c of_copy rentals is =
+    ap (list_any (λ (it : Rental). same_moment it.rented moment && it.copy == x && it.customer == c)) is
+    ∙ any_filtered (λ (it : Rental). same_moment it.rented moment && it.copy == x && it.customer == c) (λ (it : Rental). it.copy == x) rentals
+    (λ it isnt. rw isnt (and_false (same_moment it.rented moment) (it.customer == c)))
+
+-- ---- taking back
+
+pub return_open : (rules : Rules) (b : ℕ) (catalogue : Catalogue) (shop : Shop) (moment : Moment) (r : ℕ) → Some false ≡ head (map (λ (it : Rental). is_some it.returned) (at r shop.rentals))
+    → Some Accepted ≡ Some (first (act_refusals rules b catalogue shop moment (TakeBack r)))
+return_open rules b catalogue shop moment r is = let one = found_some (λ (it : Rental). is_some it.returned) r shop.rentals false is in rw (one.1, one.2) refl
+
+-- ---- scrapping
+
+module _ (rules : Rules) (b : ℕ) (catalogue : Catalogue) (shop : Shop) (moment : Moment) (x : ℕ) (is : Some true ≡ head (map is_here (at x shop.copies))) where
+  pub scrap_in : in_stock x shop.rentals ≡ true → Some Accepted ≡ Some (first (act_refusals rules b catalogue shop moment (Scrap x)))
+  scrap_in stock = let one = found_some is_here x shop.copies true is in rw (one.1, one.2, stock) refl
+
+  pub scrap_out : in_stock x shop.rentals ≡ false → Some (Refused CopyOut) ≡ Some (first (act_refusals rules b catalogue shop moment (Scrap x)))
+  scrap_out stock = let one = found_some is_here x shop.copies true is in rw (one.1, one.2, stock) refl
+
+-- ---- renting
+
+module _ (rules : Rules) (b : ℕ) (catalogue : Catalogue) (shop : Shop) (moment : Moment) (c x : ℕ) (active : Some true ≡ active_at c shop) where
+  abbrev Rents : Verdict → Type 0
+  Rents v = Some v ≡ Some (first (act_refusals rules b catalogue shop moment (Rent c x)))
+
+  pub rent_no_copy : None ≡ copy_at catalogue shop x → Rents (Refused NoCopy)
+  rent_no_copy is =
+      let who = found_some (λ (it : Customer). it.active) c shop.customers true active in
+      rw (who.1, who.2, found_none (λ (it : Copy). (is_here it, is_film_withdrawn catalogue it.film)) x shop.copies is) refl
+
+  module _ (here withdrawn : Bool) (is : Some (here, withdrawn) ≡ copy_at catalogue shop x) where
+    pub rent_away : here ≡ false → Rents (Refused CopyNotHere)
+    rent_away away =
+        let who = found_some (λ (it : Customer). it.active) c shop.customers true active in
+        let what = found_some (λ (it : Copy). (is_here it, is_film_withdrawn catalogue it.film)) x shop.copies (here, withdrawn) is in
+        let at_shop : is_here what.0 ≡ false = ap (λ (p : Bool × Bool). p.0) what.2 ∙ away in
+        rw (who.1, who.2, what.1, at_shop) refl
+
+    pub rent_out : here ≡ true → in_stock x shop.rentals ≡ false → Rents (Refused CopyOut)
+    rent_out there stock =
+        let who = found_some (λ (it : Customer). it.active) c shop.customers true active in
+        let what = found_some (λ (it : Copy). (is_here it, is_film_withdrawn catalogue it.film)) x shop.copies (here, withdrawn) is in
+        let at_shop : is_here what.0 ≡ true = ap (λ (p : Bool × Bool). p.0) what.2 ∙ there in
+        rw (who.1, who.2, what.1, at_shop, stock) refl
+
+    pub rent_withdrawn : here ≡ true → in_stock x shop.rentals ≡ true → withdrawn ≡ true → Rents (Refused FilmWithdrawn)
+    rent_withdrawn there stock gone =
+        let who = found_some (λ (it : Customer). it.active) c shop.customers true active in
+        let what = found_some (λ (it : Copy). (is_here it, is_film_withdrawn catalogue it.film)) x shop.copies (here, withdrawn) is in
+        let at_shop : is_here what.0 ≡ true = ap (λ (p : Bool × Bool). p.0) what.2 ∙ there in
+        let film : is_film_withdrawn catalogue what.0.film ≡ true = ap (λ (p : Bool × Bool). p.1) what.2 ∙ gone in
+        rw (who.1, who.2, what.1, at_shop, stock, film) refl
+
+    module _ (there : here ≡ true) (stock : in_stock x shop.rentals ≡ true) (shown : withdrawn ≡ false) where
+      pub rent_same : list_any (λ (it : Rental). same_moment it.rented moment && it.copy == x && it.customer == c) shop.rentals ≡ true → Rents (Refused SameMoment)
+      rent_same same =
+          let who = found_some (λ (it : Customer). it.active) c shop.customers true active in
+          let what = found_some (λ (it : Copy). (is_here it, is_film_withdrawn catalogue it.film)) x shop.copies (here, withdrawn) is in
+          let at_shop : is_here what.0 ≡ true = ap (λ (p : Bool × Bool). p.0) what.2 ∙ there in
+          let film : is_film_withdrawn catalogue what.0.film ≡ false = ap (λ (p : Bool × Bool). p.1) what.2 ∙ shown in
+          rw (who.1, who.2, what.1, at_shop, stock, film, same) refl
+
+      pub rent_made : list_any (λ (it : Rental). same_moment it.rented moment && it.copy == x && it.customer == c) shop.rentals ≡ false → Rents Accepted
+      rent_made none =
+          let who = found_some (λ (it : Customer). it.active) c shop.customers true active in
+          let what = found_some (λ (it : Copy). (is_here it, is_film_withdrawn catalogue it.film)) x shop.copies (here, withdrawn) is in
+          let at_shop : is_here what.0 ≡ true = ap (λ (p : Bool × Bool). p.0) what.2 ∙ there in
+          let film : is_film_withdrawn catalogue what.0.film ≡ false = ap (λ (p : Bool × Bool). p.1) what.2 ∙ shown in
+          rw (who.1, who.2, what.1, at_shop, stock, film, none) refl

@@ -1,0 +1,9 @@
+use Rattle.std.proofs.Common.{◌≡◌, false, take}
+use Rattle.std.specs.List.{list_any}
+use Rattle.shop_model.specs.Stock.{keeps_out}
+use Rattle.shop_types.specs.Seen.{seen_rental}
+use Rattle.branch_core.proofs.rentals.held_by.Given as goal
+
+-- none of the rentals so far keeps the copy out
+abbrev pub invariant-loop-rental : goal.invariant-loop-rental
+invariant-loop-rental l = list_any (λ it. keeps_out l.copy (seen_rental it)) (take l.rental-index l.rentals) ≡ false

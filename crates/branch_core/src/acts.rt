@@ -1,0 +1,112 @@
+//! The first refusal of a command on a customer, a copy or a rental, by what was found of it.
+
+ghost use Rattle.std.specs.Prelude.{◌≡◌, ◌==◌, ℕ, true, Some, filter, is_some, map, option_map};
+ghost use Rattle.shop_model.specs.Calendar as calendar;
+ghost use Rattle.shop_model.specs.Rows.{at};
+ghost use Rattle.shop_model.specs.Values as model;
+ghost use Rattle.shop_model.specs.Shop.{Catalogue, Shop};
+ghost use Rattle.shop_model.specs.Stock.{is_here};
+ghost use Rattle.shop_model.specs.Verdict.{first, act_refusals};
+ghost use Rattle.shop_model.specs.Books.{head};
+ghost use Rattle.shop_types.specs.Seen.{seen_rental};
+ghost use Rattle.branch_core.specs.Agreed.{active_at, copy_at, seen_copy};
+ghost use Rattle.branch_core.specs.Decided.{verdict_by};
+
+use crate::CopyFound;
+use crate::rentals::{has_same, in_stock};
+use shop_types::{CopyNo, CustomerNo, Moment, Refusal, Rental};
+
+/// Of setting whether a customer may rent.
+pub fn active_refusal(is_active: Option<bool>, active: bool) -> Option<Refusal>
+    ensures { (rules : model.Rules) (b : ℕ) (catalogue : Catalogue) (shop : Shop) (moment : calendar.Moment) (c : ℕ) → is_active ≡ active_at c shop
+        → verdict_by result ≡ Some (first (act_refusals rules b catalogue shop moment (model.SetActive c active))) }
+{
+    match is_active {
+        None => Some(Refusal::NoCustomer),
+        Some(was) => {
+            if was == active {
+                Some(Refusal::Already)
+            } else {
+                None
+            }
+        }
+    }
+}
+
+/// Of a rental of the copy to the customer at the moment.
+pub fn rent_refusal(
+    at: Moment,
+    customer: CustomerNo,
+    copy: CopyNo,
+    is_active: Option<bool>,
+    found: Option<CopyFound>,
+    of_copy: &[Rental],
+) -> Option<Refusal>
+    ensures { (rules : model.Rules) (b : ℕ) (catalogue : Catalogue) (shop : Shop) → is_active ≡ active_at customer shop → option_map seen_copy found ≡ copy_at catalogue shop copy
+        → map seen_rental of_copy.now ≡ filter (λ it. it.copy == copy) shop.rentals → verdict_by result ≡ Some (first (act_refusals rules b catalogue shop at (model.Rent customer copy))) }
+{
+    match is_active {
+        None => Some(Refusal::NoCustomer),
+        Some(false) => Some(Refusal::CustomerInactive),
+        Some(true) => copy_refusal(at, customer, copy, found, of_copy),
+    }
+}
+
+/// The same of a customer who may rent.
+fn copy_refusal(
+    at: Moment,
+    customer: CustomerNo,
+    copy: CopyNo,
+    found: Option<CopyFound>,
+    of_copy: &[Rental],
+) -> Option<Refusal>
+    ensures { (rules : model.Rules) (b : ℕ) (catalogue : Catalogue) (shop : Shop) → Some true ≡ active_at customer shop → option_map seen_copy found ≡ copy_at catalogue shop copy
+        → map seen_rental of_copy.now ≡ filter (λ it. it.copy == copy) shop.rentals → verdict_by result ≡ Some (first (act_refusals rules b catalogue shop at (model.Rent customer copy))) }
+{
+    let Some(found) = found else {
+        return Some(Refusal::NoCopy);
+    };
+    if !found.is_here {
+        return Some(Refusal::CopyNotHere);
+    }
+    if !in_stock(of_copy, copy) {
+        return Some(Refusal::CopyOut);
+    }
+    if found.is_withdrawn {
+        return Some(Refusal::FilmWithdrawn);
+    }
+    if has_same(of_copy, at, copy, customer) {
+        return Some(Refusal::SameMoment);
+    }
+    None
+}
+
+/// Of taking a rental's copy back.
+pub fn return_refusal(is_returned: Option<bool>) -> Option<Refusal>
+    ensures { (rules : model.Rules) (b : ℕ) (catalogue : Catalogue) (shop : Shop) (moment : calendar.Moment) (r : ℕ) → is_returned ≡ head (map (λ it. is_some it.returned) (at r shop.rentals))
+        → verdict_by result ≡ Some (first (act_refusals rules b catalogue shop moment (model.TakeBack r))) }
+{
+    match is_returned {
+        None => Some(Refusal::NoRental),
+        Some(true) => Some(Refusal::RentalReturned),
+        Some(false) => None,
+    }
+}
+
+/// Of scrapping the copy.
+pub fn scrap_refusal(copy: CopyNo, found: Option<bool>, of_copy: &[Rental]) -> Option<Refusal>
+    ensures { (rules : model.Rules) (b : ℕ) (catalogue : Catalogue) (shop : Shop) (moment : calendar.Moment) → found ≡ head (map is_here (at copy shop.copies))
+        → map seen_rental of_copy.now ≡ filter (λ it. it.copy == copy) shop.rentals → verdict_by result ≡ Some (first (act_refusals rules b catalogue shop moment (model.Scrap copy))) }
+{
+    match found {
+        None => Some(Refusal::NoCopy),
+        Some(false) => Some(Refusal::CopyNotHere),
+        Some(true) => {
+            if in_stock(of_copy, copy) {
+                None
+            } else {
+                Some(Refusal::CopyOut)
+            }
+        }
+    }
+}

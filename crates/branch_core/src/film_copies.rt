@@ -1,0 +1,56 @@
+//! What the copies of a film and their rentals say.
+
+ghost use Rattle.std.specs.Prelude.{◌≡◌, ℕ, filter, map, IfOk};
+ghost use Rattle.shop_model.specs.Shop.{Shop};
+ghost use Rattle.shop_model.specs.Stock.{film_in_stock, film_not_in_stock};
+ghost use Rattle.branch_core.specs.Agreed.{AreOfFilm, is_listed, seen_film_copy};
+
+use crate::rentals::in_stock;
+use shop_types::{CopyNo, NoMemory, Rental};
+use std::alloc::Global;
+
+/// A copy of a film, with its rentals.
+#[derive(Debug, Drop)]
+pub struct FilmCopy {
+    pub number: CopyNo,
+    /// Whether it is in the shop, neither sent nor scrapped.
+    pub is_here: bool,
+    /// All rentals of the copy.
+    pub rentals: Vec<Rental>,
+}
+
+/// Whether the copy is here, and in stock or not.
+fn is_listed(copy: &FilmCopy, is_in: bool) -> bool
+    ensures { result ≡ is_listed is_in (seen_film_copy copy.now) }
+{
+    copy.is_here && in_stock(copy.rentals.as_slice(), copy.number) == is_in
+}
+
+/// The copies that are here, and in stock or not, by number.
+fn listed(alloc: Global, copies: &[FilmCopy], is_in: bool) -> Result<Vec<CopyNo>, NoMemory>
+    ensures { IfOk result (λ numbers. numbers.items ≡ map (λ it. it.0) (filter (is_listed is_in) (map seen_film_copy copies.now))) }
+{
+    let mut numbers = Vec::new(alloc);
+    for copy in copies {
+        if is_listed(copy, is_in) {
+            let Ok(()) = numbers.push(copy.number) else {
+                return Err(NoMemory);
+            };
+        }
+    }
+    Ok(numbers)
+}
+
+/// The copies that are here and in stock, by number: the manual's `film_in_stock`; that they have to be here is our own rule.
+pub fn film_in_stock(alloc: Global, copies: &[FilmCopy]) -> Result<Vec<CopyNo>, NoMemory>
+    ensures { IfOk result (λ numbers. (film : ℕ) (shop : Shop) → AreOfFilm film shop copies.now → numbers.items ≡ film_in_stock film shop) }
+{
+    listed(alloc, copies, true)
+}
+
+/// The copies that are here and not in stock, by number: the manual's `film_not_in_stock`, and the same rule.
+pub fn film_not_in_stock(alloc: Global, copies: &[FilmCopy]) -> Result<Vec<CopyNo>, NoMemory>
+    ensures { IfOk result (λ numbers. (film : ℕ) (shop : Shop) → AreOfFilm film shop copies.now → numbers.items ≡ film_not_in_stock film shop) }
+{
+    listed(alloc, copies, false)
+}

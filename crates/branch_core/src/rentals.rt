@@ -1,0 +1,60 @@
+//! What a copy's rentals say.
+
+ghost use Rattle.std.specs.Prelude.{◌≡◌, ◌==◌, ◌&&◌, map};
+ghost use Rattle.std.specs.List.{list_any};
+ghost use Rattle.shop_model.specs.Calendar.{same_moment};
+ghost use Rattle.shop_model.specs.Stock.{keeps_out, in_stock, held_by};
+ghost use Rattle.shop_model.specs.Books.{head};
+ghost use Rattle.shop_types.specs.Seen.{seen_rental};
+
+use shop_types::{CopyNo, CustomerNo, Moment, Rental};
+
+/// Whether the rental is one of the copy, and open.
+fn keeps_out(rental: &Rental, copy: CopyNo) -> bool
+    ensures { result ≡ keeps_out copy (seen_rental rental.now) }
+{
+    rental.copy == copy && rental.returned.is_none()
+}
+
+/// Whether a rental of the copy is open.
+fn has_open(rentals: &[Rental], copy: CopyNo) -> bool
+    ensures { result ≡ list_any (λ it. keeps_out copy (seen_rental it)) rentals.now }
+{
+    rentals
+        .iter()
+        .any(|rental| rental.copy == copy && rental.returned.is_none())
+}
+
+/// Whether no rental of the copy is open: the manual's `inventory_in_stock`.
+pub fn in_stock(rentals: &[Rental], copy: CopyNo) -> bool
+    ensures { result ≡ in_stock copy (map seen_rental rentals.now) }
+{
+    !has_open(rentals, copy)
+}
+
+/// The customer of the copy's first open rental: the manual's `inventory_held_by_customer`.
+pub fn held_by(rentals: &[Rental], copy: CopyNo) -> Option<CustomerNo>
+    ensures { result ≡ head (held_by copy (map seen_rental rentals.now)) }
+{
+    for rental in rentals {
+        if keeps_out(rental, copy) {
+            return Some(rental.customer);
+        }
+    }
+    None
+}
+
+/// Whether one of the rentals was made at the moment, of the copy and by the customer.
+pub fn has_same(rentals: &[Rental], at: Moment, copy: CopyNo, customer: CustomerNo) -> bool
+    ensures { result ≡ list_any (λ it. same_moment it.rented at && it.copy == copy && it.customer == customer) (map seen_rental rentals.now) }
+{
+    has_equal(rentals, at, copy, customer)
+}
+
+fn has_equal(rentals: &[Rental], at: Moment, copy: CopyNo, customer: CustomerNo) -> bool
+    ensures { result ≡ list_any (λ it. same_moment it.rented at && it.copy == copy && it.customer == customer) rentals.now }
+{
+    rentals.iter().any(|rental| rental.rented == at
+        && rental.copy == copy
+        && rental.customer == customer)
+}
