@@ -2,7 +2,11 @@
 #![tactic(auto)]
 
 mod customer;
+mod rental;
 mod stock;
 
 pub use customer::{customer_text, new_customer_text};
+pub use rental::{
+    active_text, copies_text, holder_text, in_stock_text, rental_text, returned_text, scrapped_text,
+};
 pub use stock::new_copies_text;

@@ -1,0 +1,91 @@
+ghost use Rattle.std.specs.Prelude.{◌≡◌, [], ◌∷◌, codes, decimal, length, IfOk, string_bytes};
+ghost use Rattle.serde_json.specs.View.{view};
+ghost use Rattle.shop_model.specs.Json.{flag_text, numbers_text, object};
+ghost use Rattle.reply_bodies.specs.Bodies.{active_value, copies_value, holder_value, numbers_value};
+ghost use Rattle.std.specs.Option.{option_to_list};
+ghost use Rattle.shop_model.specs.Answers.{holder_text};
+
+use serde_json::{Value, json};
+use shop_values::{CopyNo, CustomerNo, RentalNo};
+use std::alloc::{AllocError, Global};
+
+fn active_value(alloc: Global, customer: CustomerNo, active: bool) -> Result<Value, AllocError>
+    ensures { IfOk result (λ v. view v ≡ active_value customer active) }
+{
+    json!(in alloc; {"active": active, "customer": customer.get()})
+}
+
+/// The body that tells a counter whether the customer may rent from now on.
+pub fn active_text(alloc: Global, customer: CustomerNo, active: bool) -> Result<String, AllocError>
+    ensures { IfOk result (λ s. string_bytes s ≡ object ((codes "active", flag_text active) ∷ (codes "customer", decimal customer) ∷ [])) }
+{
+    active_value(alloc, customer, active)?.to_string(alloc)
+}
+
+/// The body that tells a counter the number of the rental it made.
+pub fn rental_text(alloc: Global, rental: RentalNo) -> Result<String, AllocError>
+    ensures { IfOk result (λ s. string_bytes s ≡ object ((codes "rental", decimal rental) ∷ [])) }
+{
+    json!(in alloc; {"rental": rental.get()})?.to_string(alloc)
+}
+
+/// The body that tells a counter which rental's copy came back.
+pub fn returned_text(alloc: Global, rental: RentalNo) -> Result<String, AllocError>
+    ensures { IfOk result (λ s. string_bytes s ≡ object ((codes "returned", decimal rental) ∷ [])) }
+{
+    json!(in alloc; {"returned": rental.get()})?.to_string(alloc)
+}
+
+/// The body that tells a counter which copy is scrapped.
+pub fn scrapped_text(alloc: Global, copy: CopyNo) -> Result<String, AllocError>
+    ensures { IfOk result (λ s. string_bytes s ≡ object ((codes "scrapped", decimal copy) ∷ [])) }
+{
+    json!(in alloc; {"scrapped": copy.get()})?.to_string(alloc)
+}
+
+/// The body that shows whether a copy is in stock.
+pub fn in_stock_text(alloc: Global, is_in: bool) -> Result<String, AllocError>
+    ensures { IfOk result (λ s. string_bytes s ≡ object ((codes "in_stock", flag_text is_in) ∷ [])) }
+{
+    json!(in alloc; {"in_stock": is_in})?.to_string(alloc)
+}
+
+fn holder_value(alloc: Global, customer: Option<CustomerNo>) -> Result<Value, AllocError>
+    ensures { IfOk result (λ v. view v ≡ holder_value customer) }
+{
+    match customer {
+        Some(customer) => json!(in alloc; {"customer": customer.get()}),
+        None => json!(in alloc; {"customer": null}),
+    }
+}
+
+/// The body that shows which customer has a copy: `null` where none does.
+pub fn holder_text(alloc: Global, customer: Option<CustomerNo>) -> Result<String, AllocError>
+    ensures { IfOk result (λ s. string_bytes s ≡ object ((codes "customer", holder_text (option_to_list customer)) ∷ [])) }
+{
+    holder_value(alloc, customer)?.to_string(alloc)
+}
+
+fn numbers_value(alloc: Global, copies: &[CopyNo]) -> Result<Value, AllocError>
+    ensures { IfOk result (λ v. view v ≡ numbers_value copies.now) }
+{
+    let mut values = Vec::with_capacity(alloc, copies.len())?;
+    for copy in copies {
+        values.push_reserved(Value::from(copy.get()));
+    }
+    Ok(Value::Array(values))
+}
+
+fn copies_value(alloc: Global, copies: &[CopyNo]) -> Result<Value, AllocError>
+    ensures { IfOk result (λ v. view v ≡ copies_value copies.now) }
+{
+    let numbers = numbers_value(alloc, copies)?;
+    json!(in alloc; {"copies": numbers, "count": copies.len()})
+}
+
+/// The body that lists copies by their numbers, with their count.
+pub fn copies_text(alloc: Global, copies: &[CopyNo]) -> Result<String, AllocError>
+    ensures { IfOk result (λ s. string_bytes s ≡ object ((codes "copies", numbers_text copies.now) ∷ (codes "count", decimal (length copies.now)) ∷ [])) }
+{
+    copies_value(alloc, copies)?.to_string(alloc)
+}
