@@ -1,11 +1,8 @@
 -- With its new rows and itself kept, a command's books are those after it.
-use Rattle.std.proofs.Common.{◌≡◌, ◌∙◌, refl, sym, ap, ℕ, List, [], ◌∷◌, ◌++◌}
+use Rattle.std.proofs.Common.{◌≡◌, ◌∙◌, refl, ap, ℕ, [], ◌∷◌, ◌++◌}
 use Rattle.shop_values.specs.LimitValues.{Limits}
-use Rattle.shop_model.specs.Calendar.{Moment}
-use Rattle.shop_model.specs.Rows.{Owned}
 use Rattle.shop_model.specs.Values as model
 use Rattle.shop_model.specs.Values.{Rules, Command, Act, AddCustomer, SetActive, Rent, TakeBack, Pay, Import, Dispatch, Receive, Scrap}
-use Rattle.shop_model.specs.Shop.{Kept}
 use Rattle.shop_model.specs.Books.{Books, book_acted, book_done, set_last}
 use Rattle.branch_work.specs.declared.new_rows.NewRows.{NewRows}
 use Rattle.branch_work.specs.Rules.{rules_of}

@@ -1,5 +1,5 @@
 -- What is found under a key, by the stored form of the command and by the command itself.
-use Rattle.std.proofs.Common.{◌≡◌, ◌∙◌, refl, sym, ap, ℕ, Bool, true, false, true≢false, List, [], ◌∷◌, map, filter, cond, Option, Some, None, IsTrue, option_map, Bor}
+use Rattle.std.proofs.Common.{◌≡◌, ◌∙◌, refl, sym, ap, ℕ, Bool, true, false, List, [], ◌∷◌, map, filter, cond, Option, Some, None, option_map, Bor}
 use Rattle.std.specs.Prelude.{◌==◌}
 use Rattle.std.specs.Option.{option_copied}
 use Rattle.std.specs.List.{AllByRecursion}
@@ -7,7 +7,7 @@ use Rattle.std.specs.Str.{bytes_eq}
 use Rattle.std.proofs.lemmas.Slice.Eq.{bytes_eq-Decides}
 use Rattle.shop_model.specs.Calendar.{IsMoment}
 use Rattle.shop_model.specs.Rows.{Owned, owned_by}
-use Rattle.shop_model.specs.Values.{Text, Command}
+use Rattle.shop_model.specs.Values.{Command}
 use Rattle.shop_model.specs.Shop.{Kept, same_command}
 use Rattle.shop_model.specs.Books.{head}
 use Rattle.shop_schema.specs.Forms.{command_form}

@@ -5,3 +5,6 @@ pub mod Readings
 pub mod Doing
 pub mod Kepts
 pub mod Adding
+pub mod Lookings
+pub mod FilmLemmas
+pub mod Shows

@@ -1,5 +1,5 @@
 -- One read after another, and what is found of stock.
-use Rattle.std.proofs.Common.{◌≡◌, ◌∙◌, refl, sym, ap, ℕ, ◌+◌, ◌<◌, ◌≤◌, List, [], ◌∷◌, ◌++◌, length, map, take, get_or, replicate, not, Bool, true, false, Option, Some, None, arith}
+use Rattle.std.proofs.Common.{◌≡◌, ◌∙◌, refl, sym, ap, ℕ, ◌+◌, ◌<◌, ◌≤◌, List, [], ◌∷◌, ◌++◌, length, map, take, get_or, replicate, not, Bool, true, false, Option, arith}
 use Rattle.std.specs.Prelude.{◌-◌, ◌==◌, ◌||◌, is_some, if◌then◌else◌}
 use Rattle.std.specs.List.{All, list_any}
 use Rattle.std.proofs.lemmas.List.{map_more, map_push, take_more}
@@ -35,7 +35,7 @@ same_there [] = refl
 same_there (f ∷ films) = refl
 
 -- a film's number picks one row at most
-at_most_one : (n : ℕ) (films : List Film) → list_any (λ (f : Film). f.withdrawn) (at n films) ≡ is_yes (head (map withdrawn_of (at n films)))
+pub at_most_one : (n : ℕ) (films : List Film) → list_any (λ (f : Film). f.withdrawn) (at n films) ≡ is_yes (head (map withdrawn_of (at n films)))
 at_most_one n [] = refl
 at_most_one n (f ∷ films) = go (n == 1) (at_most_one (n - 1) films)
   where

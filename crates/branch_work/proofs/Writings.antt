@@ -5,6 +5,7 @@ use Rattle.std.proofs.lemmas.List.{map_more, take_all}
 use Rattle.sqlite.specs.State.{State}
 use Rattle.shop_model.specs.Rows.{Row}
 use Rattle.shop_model.specs.Books.{Books, BookCopy}
+use Rattle.shop_schema.specs.Held.{IsHeld}
 use Rattle.shop_schema.specs.Shop.{Holds, Writes}
 use Rattle.shop_store.specs.declared.copies.CopyRow.{CopyRow}
 use Rattle.shop_store.specs.Seen.{seen_copy_row}
@@ -18,6 +19,16 @@ writes_none s = λ books holds given. holds
 -- the same books, told otherwise
 pub writes_as : (a b : State) (f h : Books → Books) → ((books : Books) → f books ≡ h books) → Writes a b (λ _. ⊤) f → Writes a b (λ _. ⊤) h
 writes_as a b f h same one = λ books holds given. subst (Holds b) (same books) (one books holds tt)
+
+-- the same of books that are held
+pub writes_held : (a b : State) (f h : Books → Books) → ((books : Books) → f books ≡ h books) → Writes a b (λ _. ⊤) f → Writes a b IsHeld h
+writes_held a b f h same one = λ books holds held. subst (Holds b) (same books) (one books holds tt)
+
+pub writes_same : (a b : State) (f h : Books → Books) → ((books : Books) → f books ≡ h books) → Writes a b IsHeld f → Writes a b IsHeld h
+writes_same a b f h same one = λ books holds held. subst (Holds b) (same books) (one books holds held)
+
+pub writes_more : (a b c : State) (f h : Books → Books) → Writes a b IsHeld f → Writes b c (λ _. ⊤) h → Writes a c IsHeld (λ books. h (f books))
+writes_more a b c f h one two = λ books holds held. two (f books) (one books holds held) tt
 
 -- the books with copies more
 abbrev pub with_copies : List (Row BookCopy) → Books → Books

@@ -1,13 +1,14 @@
 -- What is found of the rows that a command names.
-use Rattle.std.specs.Prelude.{◌≡◌, ℕ, ◌≤◌, Bool, true, false, not, is_some, List, map, filter, Option, Some, None, option_map}
+use Rattle.std.specs.Prelude.{◌≡◌, ℕ, ◌==◌, Bool, true, false, not, is_some, List, map, filter, Option, Some, None, option_map}
 use Rattle.std.specs.Str.{bytes_eq}
 use Rattle.shop_model.specs.Rows.{lacks, owned_by}
-use Rattle.shop_model.specs.Values.{Text, Command}
+use Rattle.shop_model.specs.Values.{Text, Command, Rental, Ask, FilmInStock, FilmNotInStock}
 use Rattle.shop_model.specs.Verdict.{is_film_withdrawn}
-use Rattle.shop_model.specs.Shop.{Catalogue}
-use Rattle.shop_model.specs.Books.{Books, head}
-use Rattle.shop_store.specs.declared.kept.KeptRow.{KeptRow}
-use Rattle.shop_store.specs.Seen.{seen_kept, stored_kept}
+use Rattle.shop_model.specs.Shop.{Catalogue, Shop}
+use Rattle.shop_model.specs.Stock.{is_here, film_in_stock, film_not_in_stock}
+use Rattle.shop_model.specs.Books.{Books, head, unmarked}
+use Rattle.shop_store.specs.declared.copies.CopyRow.{CopyRow}
+use Rattle.shop_store.specs.Seen.{seen_copy_row}
 use Rattle.stock_csv.specs.declared.StockRow.{StockRow}
 use Rattle.branch_core.specs.declared.found.StockFound.{StockFound}
 use Rattle.branch_core.specs.declared.found.KeptFound.{KeptFound}
@@ -41,3 +42,18 @@ by_form form kept = (bytes_eq kept.0 form, kept.1)
 -- what was found of the key is what the branch has under it
 abbrev pub IsKeptFor : ℕ → Command → Option KeptFound → Books → Type 0
 IsKeptFor b command kept books = option_map told kept ≡ head (map (kept_for command) (filter (λ it. bytes_eq it.command.key command.key) (owned_by b books.kept)))
+
+-- ---- the copies of a film
+
+-- a copy's number, whether it is here, and its rentals among those of the branch
+abbrev pub copy_shown : List Rental → CopyRow → ℕ × Bool × List Rental
+copy_shown rentals row = (row.number, is_here (unmarked (seen_copy_row row).it), filter (λ (it : Rental). it.copy == row.number) rentals)
+
+-- the copies that are asked for: those in stock, or those that aren't
+abbrev pub stock_asked : Bool → ℕ → Ask
+stock_asked true film = FilmInStock film
+stock_asked false film = FilmNotInStock film
+
+abbrev pub stock_listed : Bool → ℕ → Shop → List ℕ
+stock_listed true film shop = film_in_stock film shop
+stock_listed false film shop = film_not_in_stock film shop

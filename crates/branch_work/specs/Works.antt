@@ -41,5 +41,5 @@ WorksFor limits b last request answer is_changed old new =
 -- with the rows of an accepted command the tables come to stand for the books after it, and the reply is its own
 abbrev pub IsAdded : Limits → ℕ → Command → Act → ActFound → Rows → Answer → State → State → Type 0
 IsAdded limits b command act found rows answer old new =
-    (books : Books) → Holds old books → ActAgrees (rules_of limits) books.catalogue (shop_of b books) act found → Adds (rules_of limits) command act (shop_of b books) rows
+    (books : Books) → Holds old books → IsHeld books → ActAgrees (rules_of limits) books.catalogue (shop_of b books) act found → Adds (rules_of limits) command act (shop_of b books) rows
     → Holds new (book_done (rules_of limits) b command books) × (answer ≡ answer_of (Done (reply_text (rules_of limits) command (shop_of b books))))

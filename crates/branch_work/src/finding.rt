@@ -16,10 +16,13 @@ ghost use Rattle.branch_core.specs.Agreed.{Agrees, ActAgrees, RowAgrees, IsFound
 ghost use Rattle.branch_work.specs.Rules.{rules_of};
 ghost use Rattle.branch_work.specs.Finds.{as_listed, found_row, told_row, by_form, IsKeptFor};
 
+use crate::looking::{find_active, find_copy, find_here, find_of_copy, find_returned};
 use branch_core::{ActFound, Found, KeptFound, StaffFound, StockFound};
 use catalogue_store::{film_at, has_city, staff_at};
-use shop_store::{KeptRow, copy_count, customer_count, has_lot, kept_count};
-use shop_types::{Act, BadCsv, BranchNo, Command, LotName, Moment, Person, StaffNo, StockFile};
+use shop_store::{KeptRow, copy_count, customer_count, has_lot, kept_count, last_rental};
+use shop_types::{
+    Act, BadCsv, BranchNo, Command, CopyNo, CustomerNo, LotName, Moment, Person, StaffNo, StockFile,
+};
 use sql_rows::{Bytes, StoreFault};
 use sqlite::{Alter, Transaction};
 use std::alloc::Global;
@@ -110,8 +113,62 @@ fn find_act<S: Alter>(
 {
     match act {
         Act::Customer(person) => find_customer(tx, branch, person),
+        Act::Active { customer, .. } => Ok(ActFound::Active {
+            is_active: find_active(tx, branch, *customer)?,
+        }),
+        Act::Rent { customer, copy } => find_rent(alloc, tx, branch, *customer, *copy),
+        Act::TakeBack(rental) => Ok(ActFound::TakeBack {
+            is_returned: find_returned(tx, branch, *rental)?,
+        }),
+        Act::Scrap(copy) => find_scrap(alloc, tx, branch, *copy),
         Act::Import { lot, file } => find_import(alloc, tx, branch, lot, file),
     }
+}
+
+/// What is read for a rental.
+fn find_rent<S: Alter>(
+    alloc: Global,
+    tx: &mut Transaction<'_, S>,
+    branch: BranchNo,
+    customer: CustomerNo,
+    copy: CopyNo,
+) -> Result<ActFound, StoreFault>
+    ensures same_reference { tx.new.conn.ghost_name ≡ tx.old.conn.ghost_name }
+    ensures inside { StaysWithin (state S.Store tx.old.conn.now) (state S.Store tx.new.conn.now) result }
+    ensures found { HasCleanDisk (state S.Store tx.new.conn.now) → IfOk result (λ found. Reads (state S.Store tx.old.conn.now) (state S.Store tx.new.conn.now) (λ books. (limits : values.Limits)
+        → ActAgrees (rules_of limits) books.catalogue (shop_of branch books) (seen_act (Act.Rent customer copy)) found)) }
+    ensures act { IfOk result (λ found. IsFoundFor (Act.Rent customer copy) found) }
+    ensures within { IfOk result (λ found. IsWithin found) }
+{
+    let is_active = find_active(tx, branch, customer)?;
+    let found = find_copy(tx, branch, copy)?;
+    let of_copy = find_of_copy(alloc, tx, branch, copy)?;
+    let rentals = fitting(last_rental(tx, branch)? as usize)?;
+    Ok(ActFound::Rent {
+        is_active,
+        copy: found,
+        of_copy,
+        rentals,
+    })
+}
+
+/// What is read for a copy that is to be scrapped.
+fn find_scrap<S: Alter>(
+    alloc: Global,
+    tx: &mut Transaction<'_, S>,
+    branch: BranchNo,
+    copy: CopyNo,
+) -> Result<ActFound, StoreFault>
+    ensures same_reference { tx.new.conn.ghost_name ≡ tx.old.conn.ghost_name }
+    ensures inside { StaysWithin (state S.Store tx.old.conn.now) (state S.Store tx.new.conn.now) result }
+    ensures found { HasCleanDisk (state S.Store tx.new.conn.now) → IfOk result (λ found. Reads (state S.Store tx.old.conn.now) (state S.Store tx.new.conn.now) (λ books. (limits : values.Limits)
+        → ActAgrees (rules_of limits) books.catalogue (shop_of branch books) (seen_act (Act.Scrap copy)) found)) }
+    ensures act { IfOk result (λ found. IsFoundFor (Act.Scrap copy) found) }
+    ensures within { IfOk result (λ found. IsWithin found) }
+{
+    let is_here = find_here(tx, branch, copy)?;
+    let of_copy = find_of_copy(alloc, tx, branch, copy)?;
+    Ok(ActFound::Scrap { is_here, of_copy })
 }
 
 /// What is read for a new customer.

@@ -2,6 +2,7 @@
 #![tactic(auto)]
 
 mod finding;
+mod looking;
 mod new_rows;
 mod working;
 mod writing;

@@ -12,15 +12,29 @@ ghost use Rattle.branch_work.specs.Rules.{rules_of};
 ghost use Rattle.branch_work.specs.NewRows.{AreNew, films_found, lot_in, copies_from};
 
 use branch_core::{ActFound, Rows, StockFound};
-use reply_bodies::{new_copies_text, new_customer_text};
-use shop_store::{CopyRow, CopyState, CustomerRow, Mark};
-use shop_types::{Act, BranchNo, Command, CopyNo, FilmNo, LotName, NoMemory};
+use reply_bodies::{
+    active_text, new_copies_text, new_customer_text, rental_text, returned_text, scrapped_text,
+};
+use shop_store::{CopyRow, CopyState, CustomerRow, Mark, RentalRow};
+use shop_types::{
+    Act, BranchNo, Command, CopyNo, CustomerNo, FilmNo, LotName, Moment, NoMemory, RentalNo,
+};
 use std::alloc::Global;
 
 /// The rows that an accepted command adds, beside the command itself.
 #[derive(Debug, Drop)]
 pub enum NewRows<'a> {
     Customer(CustomerRow),
+    Active {
+        customer: CustomerNo,
+        active: bool,
+    },
+    Rent(RentalRow),
+    TakeBack {
+        rental: RentalNo,
+        returned: Moment,
+    },
+    Scrap(CopyNo),
     Import {
         copies: Vec<CopyRow>,
         lot: Option<&'a LotName>,
@@ -50,6 +64,27 @@ pub fn new_rows<'a>(
             };
             Ok((NewRows::Customer(row), reply))
         }
+        Rows::Active { customer, active } => {
+            let reply = active_text(alloc, customer, active)?;
+            Ok((NewRows::Active { customer, active }, reply))
+        }
+        Rows::Rent { number, rental } => {
+            let reply = rental_text(alloc, number)?;
+            let row = RentalRow {
+                branch,
+                number,
+                rental,
+            };
+            Ok((NewRows::Rent(row), reply))
+        }
+        Rows::TakeBack { rental, returned } => {
+            let reply = returned_text(alloc, rental)?;
+            Ok((NewRows::TakeBack { rental, returned }, reply))
+        }
+        Rows::Scrap(copy) => {
+            let reply = scrapped_text(alloc, copy)?;
+            Ok((NewRows::Scrap(copy), reply))
+        }
         Rows::Import { first, count } => {
             let reply = new_copies_text(alloc, count, first)?;
             let copies = new_copies(alloc, branch, first, listed(act))?;
@@ -65,7 +100,11 @@ fn lot_of(act: &Act) -> Option<&LotName>
 {
     match act {
         Act::Import { lot, .. } => Some(lot),
-        Act::Customer(_) => None,
+        Act::Customer(_)
+        | Act::Active { .. }
+        | Act::Rent { .. }
+        | Act::TakeBack(_)
+        | Act::Scrap(_) => None,
     }
 }
 

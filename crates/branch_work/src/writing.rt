@@ -6,12 +6,16 @@ ghost use Rattle.sqlite.specs.State.{HasCleanDisk};
 ghost use Rattle.sql_rows.specs.Calls.{StaysWithin};
 ghost use Rattle.shop_types.specs.Seen.{seen_command};
 ghost use Rattle.shop_schema.specs.Forms.{command_form};
+ghost use Rattle.shop_schema.specs.Held.{IsHeld};
 ghost use Rattle.shop_schema.specs.Shop.{Writes};
 ghost use Rattle.shop_store.specs.Seen.{seen_copy_row};
 ghost use Rattle.branch_work.specs.NewRows.{lot_rows, with_rows, with_kept};
 
 use crate::new_rows::NewRows;
-use shop_store::{CopyRow, put_copy, put_customer, put_kept, put_lot, set_last};
+use shop_store::{
+    CopyRow, CopyState, put_copy, put_customer, put_kept, put_lot, put_rental, set_active,
+    set_last, set_returned, set_state,
+};
 use shop_types::{BranchNo, Command, LotName};
 use sql_rows::{Bytes, StoreFault};
 use sqlite::{Alter, Transaction};
@@ -28,7 +32,7 @@ pub fn write<S: Alter>(
     requires { form.now ≡ command_form (seen_command command.now) }
     ensures same_reference { tx.new.conn.ghost_name ≡ tx.old.conn.ghost_name }
     ensures inside { StaysWithin (state S.Store tx.old.conn.now) (state S.Store tx.new.conn.now) result }
-    ensures put { HasCleanDisk (state S.Store tx.new.conn.now) → OnOk result (Writes (state S.Store tx.old.conn.now) (state S.Store tx.new.conn.now) (λ _. ⊤)
+    ensures put { HasCleanDisk (state S.Store tx.new.conn.now) → OnOk result (Writes (state S.Store tx.old.conn.now) (state S.Store tx.new.conn.now) IsHeld
         (λ books. with_kept branch (seen_command command.now) reply.now (with_rows branch new.now books))) }
 {
     put_rows(tx, branch, new)?;
@@ -44,10 +48,14 @@ fn put_rows<S: Alter>(
 ) -> Result<(), StoreFault>
     ensures same_reference { tx.new.conn.ghost_name ≡ tx.old.conn.ghost_name }
     ensures inside { StaysWithin (state S.Store tx.old.conn.now) (state S.Store tx.new.conn.now) result }
-    ensures put { HasCleanDisk (state S.Store tx.new.conn.now) → OnOk result (Writes (state S.Store tx.old.conn.now) (state S.Store tx.new.conn.now) (λ _. ⊤) (with_rows branch new.now)) }
+    ensures put { HasCleanDisk (state S.Store tx.new.conn.now) → OnOk result (Writes (state S.Store tx.old.conn.now) (state S.Store tx.new.conn.now) IsHeld (with_rows branch new.now)) }
 {
     match new {
         NewRows::Customer(row) => put_customer(tx, row),
+        NewRows::Active { customer, active } => set_active(tx, branch, *customer, *active),
+        NewRows::Rent(row) => put_rental(tx, row),
+        NewRows::TakeBack { rental, returned } => set_returned(tx, branch, *rental, *returned),
+        NewRows::Scrap(copy) => set_state(tx, branch, *copy, CopyState::Scrapped),
         NewRows::Import { copies, lot } => put_stock(tx, branch, copies.as_slice(), *lot),
     }
 }

@@ -1,4 +1,4 @@
-use Rattle.std.proofs.Common.{◌≡◌, ◌∙◌, sym, ap, ℕ, Bool, Option, option_map}
+use Rattle.std.proofs.Common.{◌∙◌, sym, ap, Option, option_map}
 use Rattle.sqlite.specs.Held.{state}
 use Rattle.catalogue_store.specs.declared.reads.StaffPost.{StaffPost}
 use Rattle.catalogue_store.specs.Seen.{seen_post}

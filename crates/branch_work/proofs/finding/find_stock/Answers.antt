@@ -1,4 +1,4 @@
-use Rattle.std.proofs.Common.{◌≡◌, ◌∙◌, sym, subst, ap, List, map}
+use Rattle.std.proofs.Common.{◌∙◌, sym, subst, ap, List, map}
 use Rattle.std.specs.List.{All}
 use Rattle.sqlite.specs.Held.{state}
 use Rattle.shop_model.specs.Values.{Copies}

@@ -1,13 +1,11 @@
-use Rattle.std.proofs.Common.{◌≡◌, ◌∙◌, refl, sym, ap, subst, arith, List, ℕ, Result, Ok, Err, Option, Some, None, option_map}
+use Rattle.std.proofs.Common.{◌∙◌, refl, ap, subst, arith, Result, Ok, Err, Option, option_map}
 use Rattle.sqlite.specs.Held.{state}
 use Rattle.sqlite.specs.State.{HasCleanDisk}
-use Rattle.shop_model.specs.Books.{Books, shop_of}
-use Rattle.shop_model.specs.Verdict.{verdict, Again}
-use Rattle.shop_model.specs.Machine.{Done}
+use Rattle.shop_model.specs.Books.{shop_of}
+use Rattle.shop_model.specs.Verdict.{verdict}
 use Rattle.shop_model.specs.Answers.{accepted_answer}
 use Rattle.shop_types.specs.declared.refusal.Refusal.{Refusal}
-use Rattle.shop_types.specs.Seen.{seen_act, seen_command, seen_refusal}
-use Rattle.branch_core.specs.Agreed.{Agrees}
+use Rattle.shop_types.specs.Seen.{seen_act, seen_command}
 use Rattle.branch_core.specs.Decided.{IsDecided}
 use Rattle.branch_core.specs.declared.change.Change.{Change}
 use Rattle.branch_core.specs.declared.change.Change.TheVariants as change
@@ -59,7 +57,7 @@ returns-in-Ok-Rows-clause-works g c = λ clean books holds held there last.
     let P : Result Change Refusal → Type 0 = λ it. IsDecided rules b books.catalogue shop command it in
     let decision = c.in-Ok-Rows.is ∙ ap known c.in-Ok-Rows.field-0-is in
     let is : P (Ok (change.Rows c.in-Ok-Rows.rows)) = subst P decision (c.decide.ensures.decided rules books.catalogue shop refl refl agrees) in
-    let added = c.in_ok-reply-in-Ok-Rows.ensures.added clean c.args.limits books found.0 agrees.act is.1 in
+    let added = c.in_ok-reply-in-Ok-Rows.ensures.added clean c.args.limits books found.0 held agrees.act is.1 in
     accepted_done c.args.limits b books command there _ _ is.0 added.1 added.0
 
 pub returns-clause-works : goal.returns-clause-works

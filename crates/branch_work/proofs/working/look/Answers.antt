@@ -1,23 +1,34 @@
-use Rattle.std.proofs.Common.{◌≡◌, ◌∙◌, refl, sym, ap, List, ℕ, Option, option_map}
-use Rattle.std.specs.Option.{option_to_list}
-use Rattle.shop_model.specs.Values.{Customer}
-use Rattle.shop_model.specs.Refusals.{NoCustomer}
-use Rattle.shop_model.specs.Machine.{given, CustomerIs}
-use Rattle.shop_model.specs.Answers.{answer_of, accepted_answer}
-use Rattle.shop_types.specs.Seen.{seen_customer}
-use Rattle.shop_store.specs.declared.customers.CustomerRow.{CustomerRow}
-use Rattle.branch_work.proofs.Doing.{kept_done}
+use Rattle.std.proofs.Common.{sym, subst, false, None, IfOk}
+use Rattle.sqlite.specs.Held.{state}
+use Rattle.shop_values.specs.LimitValues.{Limits}
+use Rattle.shop_model.specs.Machine.{Look}
+use Rattle.shop_types.specs.declared.request.Ask.{Ask}
+use Rattle.shop_types.specs.Seen.{seen_ask}
+use Rattle.shop_types.specs.Replies.{seen_reply}
+use Rattle.branch_work.specs.Works.{WorksFor}
 use Rattle.branch_work.proofs.working.look.Goals as goal
 
-pub returns-in-Ok-clause-works : goal.returns-in-Ok-clause-works
-returns-in-Ok-clause-works g c = λ clean limits books holds held there last.
-    let found = c.in_ok-row.ensures.row clean books holds held in
-    let shown = ap (λ (o : Option CustomerRow). option_to_list (option_map (λ row. seen_customer row.customer) o)) (sym c.in-Some.is) ∙ found.1 in
-    kept_done limits c.args.branch books _ _ _ _ there refl
-    (c.accepted.ensures ∙ ap accepted_answer c.in-Ok.ensures ∙ ap (λ (rows : List Customer). answer_of (given NoCustomer (CustomerIs c.args.number) rows)) shown) found.0
+pub returns-in-Customer-clause-works : goal.returns-in-Customer-clause-works
+returns-in-Customer-clause-works g c = λ clean.
+    let P : Ask → Type 0 = λ it. IfOk c.look_customer.result (λ reply. (limits : Limits) → WorksFor limits c.args.branch None (Look (seen_ask it)) (seen_reply reply) false (state g.S.Store c.args.tx.now.conn.now) (state g.S.Store c.look_customer.new.tx.conn.now)) in
+    subst P (sym c.in-Customer.is) (c.look_customer.ensures.works clean)
 
-pub returns-clause-works : goal.returns-clause-works
-returns-clause-works g c = λ clean limits books holds held there last.
-    let found = c.in_ok-row.ensures.row clean books holds held in
-    let shown = ap (λ (o : Option CustomerRow). option_to_list (option_map (λ row. seen_customer row.customer) o)) (sym c.in-None.is) ∙ found.1 in
-    kept_done limits c.args.branch books _ _ _ _ there refl (c.refused.ensures ∙ ap (λ (rows : List Customer). answer_of (given NoCustomer (CustomerIs c.args.number) rows)) shown) found.0
+pub returns-in-InStock-clause-works : goal.returns-in-InStock-clause-works
+returns-in-InStock-clause-works g c = λ clean.
+    let P : Ask → Type 0 = λ it. IfOk c.look_in_stock.result (λ reply. (limits : Limits) → WorksFor limits c.args.branch None (Look (seen_ask it)) (seen_reply reply) false (state g.S.Store c.args.tx.now.conn.now) (state g.S.Store c.look_in_stock.new.tx.conn.now)) in
+    subst P (sym c.in-InStock.is) (c.look_in_stock.ensures.works clean)
+
+pub returns-in-HeldBy-clause-works : goal.returns-in-HeldBy-clause-works
+returns-in-HeldBy-clause-works g c = λ clean.
+    let P : Ask → Type 0 = λ it. IfOk c.look_holder.result (λ reply. (limits : Limits) → WorksFor limits c.args.branch None (Look (seen_ask it)) (seen_reply reply) false (state g.S.Store c.args.tx.now.conn.now) (state g.S.Store c.look_holder.new.tx.conn.now)) in
+    subst P (sym c.in-HeldBy.is) (c.look_holder.ensures.works clean)
+
+pub returns-in-FilmInStock-clause-works : goal.returns-in-FilmInStock-clause-works
+returns-in-FilmInStock-clause-works g c = λ clean.
+    let P : Ask → Type 0 = λ it. IfOk c.look_film.result (λ reply. (limits : Limits) → WorksFor limits c.args.branch None (Look (seen_ask it)) (seen_reply reply) false (state g.S.Store c.args.tx.now.conn.now) (state g.S.Store c.look_film.new.tx.conn.now)) in
+    subst P (sym c.in-FilmInStock.is) (c.look_film.ensures.works clean)
+
+pub returns-in-FilmNotInStock-clause-works : goal.returns-in-FilmNotInStock-clause-works
+returns-in-FilmNotInStock-clause-works g c = λ clean.
+    let P : Ask → Type 0 = λ it. IfOk c.look_film-in-FilmNotInStock.result (λ reply. (limits : Limits) → WorksFor limits c.args.branch None (Look (seen_ask it)) (seen_reply reply) false (state g.S.Store c.args.tx.now.conn.now) (state g.S.Store c.look_film-in-FilmNotInStock.new.tx.conn.now)) in
+    subst P (sym c.in-FilmNotInStock.is) (c.look_film-in-FilmNotInStock.ensures.works clean)

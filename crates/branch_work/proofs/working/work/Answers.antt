@@ -1,11 +1,9 @@
-use Rattle.std.proofs.Common.{◌≡◌, ◌∙◌, refl, sym, ap, subst, false, arith}
+use Rattle.std.proofs.Common.{◌∙◌, sym, subst, false, arith}
 use Rattle.sqlite.specs.Held.{state}
 use Rattle.sqlite.specs.State.{HasCleanDisk}
 use Rattle.std.proofs.lemmas.Result.{IfOk-weaker}
 use Rattle.shop_types.specs.declared.request.Request.{Request}
-use Rattle.shop_model.specs.Values as model
 use Rattle.shop_types.specs.Seen.{seen_request}
-use Rattle.shop_model.specs.Machine.{Look}
 use Rattle.shop_types.specs.Replies.{seen_reply}
 use Rattle.branch_work.specs.Works.{IsDone}
 use Rattle.branch_work.proofs.Doing.{nobody_done, is_there, isnt_there}
@@ -35,5 +33,4 @@ returns-in_ok-look-in-Look-clause-works g c = λ clean books holds held.
     let found = c.in_ok-last.ensures.found before books holds held in
     let there = is_there _ _ _ (sym c.in-Some.is ∙ found.1) in
     let P : Request → Type 0 = λ it. IsDone c.args.limits c.args.branch (seen_request it) (seen_reply c.in_ok-look-in-Look.field-0) false s2 books in
-    let Q : model.Ask → Type 0 = λ ask. IsDone c.args.limits c.args.branch (Look ask) (seen_reply c.in_ok-look-in-Look.field-0) false s2 books in
-    subst P (sym c.in-Look.is) (subst Q (sym c.customer_of.ensures) (c.in_ok-look-in-Look.ensures.works clean c.args.limits books found.0 held there.0 tt))
+    subst P (sym c.in-Look.is) (c.in_ok-look-in-Look.ensures.works clean c.args.limits books found.0 held there.0 tt)

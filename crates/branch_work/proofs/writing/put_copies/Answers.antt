@@ -1,9 +1,7 @@
-use Rattle.std.proofs.Common.{◌≡◌, ◌∙◌, Ok, refl, arith, map, take}
+use Rattle.std.proofs.Common.{◌∙◌, Ok, refl, arith}
 use Rattle.sqlite.specs.Held.{state}
 use Rattle.sqlite.specs.State.{HasCleanDisk}
-use Rattle.sql_rows.specs.declared.fault.StoreFault.{StoreFault}
 use Rattle.sql_rows.proofs.Stays.{within_of, within_then}
-use Rattle.shop_store.specs.Seen.{seen_copy_row}
 use Rattle.branch_work.proofs.Writings.{writes_then, writes_as, one_copy, all_copies}
 use Rattle.branch_work.proofs.writing.put_copies.Goals as goal
 

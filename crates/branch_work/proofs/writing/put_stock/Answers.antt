@@ -1,12 +1,10 @@
-use Rattle.std.proofs.Common.{ℕ, List, ◌≡◌, ◌∙◌, ◌++◌, sym, ap, arith, map, Option, Some, None, option_map, append-nil, Bor, OnOk}
-use Rattle.std.specs.Prelude.{⊤}
+use Rattle.std.proofs.Common.{ℕ, List, ◌≡◌, ◌∙◌, ◌++◌, sym, ap, arith, map, Option, Some, None, option_map, append-nil}
 use Rattle.sqlite.specs.Held.{state}
 use Rattle.sqlite.specs.State.{HasCleanDisk}
 use Rattle.sql_rows.proofs.Inside.{on_ok_then}
 use Rattle.shop_model.specs.Rows.{Owned}
 use Rattle.shop_model.specs.Values.{Text}
 use Rattle.shop_model.specs.Books.{Books}
-use Rattle.shop_schema.specs.Shop.{Writes}
 use Rattle.shop_store.specs.declared.copies.CopyRow.{CopyRow}
 use Rattle.shop_store.specs.Seen.{seen_copy_row}
 use Rattle.branch_work.specs.NewRows.{lot_rows}

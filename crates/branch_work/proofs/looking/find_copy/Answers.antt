@@ -1,0 +1,29 @@
+use Rattle.std.proofs.Common.{◌∙◌, sym, ap, arith, Bool, Option, Some, option_map}
+use Rattle.sqlite.specs.Held.{state}
+use Rattle.sqlite.specs.State.{HasCleanDisk}
+use Rattle.shop_model.specs.Values.{Copy}
+use Rattle.shop_model.specs.Stock.{is_here}
+use Rattle.shop_model.specs.Verdict.{is_film_withdrawn}
+use Rattle.shop_model.specs.Books.{unmarked}
+use Rattle.shop_store.specs.Seen.{seen_copy_row}
+use Rattle.shop_store.specs.declared.copies.CopyRow.{CopyRow}
+use Rattle.branch_work.proofs.Readings.{reads_as, reads_then}
+use Rattle.branch_work.proofs.Lookings.{copy_in_shop, copy_told}
+use Rattle.branch_work.proofs.looking.find_copy.Goals as goal
+
+pub returns-in_default-clause-found : goal.returns-in_default-clause-found
+returns-in_default-clause-found g c = λ clean.
+    reads_as (state g.S.Store c.args.tx.now.conn.now) (state g.S.Store c.copy_at.new.tx.conn.now) _ _
+    (λ books held is. sym (ap (option_map (λ (x : CopyRow). let p : Bool × Bool = (is_here (unmarked (seen_copy_row x).it), is_film_withdrawn books.catalogue x.film) in p)) c.in_default.is)
+    ∙ copy_in_shop (λ (it : Copy). let p : Bool × Bool = (is_here it, is_film_withdrawn books.catalogue it.film) in p) c.args.copy c.in_ok-row.field-0 _ is) (c.in_ok-row.ensures.row clean)
+
+pub returns-clause-found : goal.returns-clause-found
+returns-clause-found g c = λ clean.
+    let s0 = state g.S.Store c.args.tx.now.conn.now in
+    let s1 = state g.S.Store c.copy_at.new.tx.conn.now in
+    let s2 = state g.S.Store c.film_at.new.tx.conn.now in
+    let before : HasCleanDisk s1 = omega (arith, clean, c.in_ok-withdrawn.ensures.inside.survives.clean) in
+    reads_as s0 s2 _ _
+    (λ books held is. (λ i. let p : Option (Bool × Bool) = Some (c.is_here.ensures c.in-Some.row.film i, c.is_yes.ensures i) in p)
+    ∙ copy_told books.catalogue c.args.copy c.in_ok-row.field-0 c.in-Some.row _ c.in_ok-withdrawn.withdrawn c.in-Some.is is.0 is.1)
+    (reads_then s0 s1 s2 _ _ (c.in_ok-row.ensures.row before) (c.in_ok-withdrawn.ensures.found clean))
