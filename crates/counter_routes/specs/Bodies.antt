@@ -2,12 +2,12 @@
 use Rattle.std.specs.Prelude.{ℕ, ◌==◌, suc, Bool, false, List, Option, Some, None, option_map, option_and_then, unwrap_or, codes, if◌then◌else◌}
 use Rattle.std.specs.Str.{is_utf8}
 use Rattle.serde_json.specs.Data.{Data, Members, no_members, member}
-use Rattle.serde_json.specs.Find.{get, as_str, as_number, as_u64, as_object}
+use Rattle.serde_json.specs.Find.{get, as_bool, as_str, as_number, as_u64, as_object}
 use Rattle.serde_json.specs.Read.{read}
 use Rattle.shop_values.specs.Texts.{is_text, is_key}
 use Rattle.shop_values.specs.Numbers.{is_row_number}
 use Rattle.shop_model.specs.Calendar.{Moment}
-use Rattle.shop_model.specs.Values.{Text, Person, AddCustomer, Command}
+use Rattle.shop_model.specs.Values.{Text, Person, Act, AddCustomer, SetActive, Rent, TakeBack, Scrap, Command}
 use Rattle.counter_routes.specs.Moments.{moment_of}
 
 infixl 10 ◌>>=◌
@@ -38,6 +38,10 @@ moment_at d = option_and_then moment_of (string_at (codes "at") d)
 abbrev pub number_at : List ℕ → Data → Option ℕ
 number_at name d = option_and_then (passing is_row_number) (option_and_then as_u64 (option_and_then as_number (get name d)))
 
+-- true or false, as the member of that name is
+abbrev pub bool_at : List ℕ → Data → Option Bool
+bool_at name d = option_and_then as_bool (get name d)
+
 abbrev pub count : Members → ℕ
 count no_members = 0
 count (member name d ms) = suc (count ms)
@@ -57,14 +61,45 @@ person_at d = do
   city ← number_at (codes "city") d
   Some (record { first = first; last = last; address = address; postal = postal; phone = phone; city = city })
 
--- the command that adds a customer: nine members and no others
-unfoldable pub new_customer : Data → Option Command
-new_customer d = if has_members 9 d then (do
+-- the command to do this, with the key, the staff and the moment that three of the members are
+abbrev pub command_at : Act → Data → Option Command
+command_at act d = do
   key ← key_at d
   staff ← number_at (codes "staff") d
   moment ← moment_at d
+  Some (record { key = key; staff = staff; moment = moment; act = act })
+
+-- the command that adds a customer: nine members and no others
+unfoldable pub new_customer : Data → Option Command
+new_customer d = if has_members 9 d then (do
   person ← person_at d
-  Some (record { key = key; staff = staff; moment = moment; act = AddCustomer person })) else None
+  command_at (AddCustomer person) d) else None
+
+-- the command that sets whether a customer may rent: five members and no others
+unfoldable pub new_active : Data → Option Command
+new_active d = if has_members 5 d then (do
+  customer ← number_at (codes "customer") d
+  active ← bool_at (codes "active") d
+  command_at (SetActive customer active) d) else None
+
+-- the command that rents a copy to a customer: five members and no others
+unfoldable pub new_rental : Data → Option Command
+new_rental d = if has_members 5 d then (do
+  customer ← number_at (codes "customer") d
+  copy ← number_at (codes "copy") d
+  command_at (Rent customer copy) d) else None
+
+-- the command that takes the copy of a rental back: four members and no others
+unfoldable pub new_return : Data → Option Command
+new_return d = if has_members 4 d then (do
+  rental ← number_at (codes "rental") d
+  command_at (TakeBack rental) d) else None
+
+-- the command that takes a copy out of the shop: four members and no others
+unfoldable pub new_scrap : Data → Option Command
+new_scrap d = if has_members 4 d then (do
+  copy ← number_at (codes "copy") d
+  command_at (Scrap copy) d) else None
 
 -- the value that a body's bytes write (RFC 8259), where they are UTF-8 and nest at most 127 deep
 abbrev pub body_of : List ℕ → Option Data

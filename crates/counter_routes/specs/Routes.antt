@@ -9,7 +9,7 @@ use Rattle.matchit.specs.Route.{Scan, parse_route}
 use Rattle.matchit.specs.Router.{RouteOf, route_from, nearest}
 use Rattle.matchit.specs.declared.error.InsertError.{InsertError}
 use Rattle.counter_routes.specs.declared.paths.Route.{Route}
-use Rattle.counter_routes.specs.declared.paths.Route.TheVariants.{NewCustomer, Customer, Import}
+use Rattle.counter_routes.specs.declared.paths.Route.TheVariants.{NewCustomer, Active, Rent, Return, Import, Scrap, Customer, InStock, HeldBy, FilmInStock, FilmNotInStock}
 use Rattle.counter_routes.specs.declared.paths.Pattern.{Pattern}
 
 -- the rows of a router
@@ -60,11 +60,24 @@ entries ps = map entry_of ps
 
 -- the routes of POST requests
 unfoldable pub post_entries : List Entry
-post_entries = (codes "/customer", NewCustomer) ∷ (codes "/import/{key}/{staff}/{at}/{lot}", Import) ∷ []
+post_entries =
+    (codes "/customer", NewCustomer)
+    ∷ (codes "/import/{key}/{staff}/{at}/{lot}", Import)
+    ∷ (codes "/customer-active", Active)
+    ∷ (codes "/rent", Rent)
+    ∷ (codes "/return", Return)
+    ∷ (codes "/scrap", Scrap)
+    ∷ []
 
 -- the routes of GET requests
 unfoldable pub get_entries : List Entry
-get_entries = (codes "/customer/{n}", Customer) ∷ []
+get_entries =
+    (codes "/customer/{n}", Customer)
+    ∷ (codes "/in-stock/{copy}", InStock)
+    ∷ (codes "/held-by/{copy}", HeldBy)
+    ∷ (codes "/film-in-stock/{film}", FilmInStock)
+    ∷ (codes "/film-not-in-stock/{film}", FilmNotInStock)
+    ∷ []
 
 -- the routes of one method
 abbrev pub entries_of : Bool → List Entry

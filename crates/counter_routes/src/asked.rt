@@ -2,18 +2,19 @@
 
 ghost use Rattle.std.specs.Prelude.{◌≡◌, ◌≤◌, true, IfOk, IfErr, OnErr, Err, Option, Some, None, option_map, length};
 ghost use Rattle.http_messages.specs.Shown.{message_of};
-ghost use Rattle.shop_model.specs.Values.{Command as Written};
-ghost use Rattle.shop_model.specs.Machine.{Do};
-ghost use Rattle.shop_types.specs.Seen.{seen_command, seen_caller};
+ghost use Rattle.shop_model.specs.Values.{Command as Written, Ask as Asking};
+ghost use Rattle.shop_types.specs.Seen.{seen_command, seen_ask, seen_caller};
 ghost use Rattle.counter_routes.specs.Routes.{route_of};
-ghost use Rattle.counter_routes.specs.Readings.{Reads, number_in, request_at, reading_of, or_bad_body, is_command, takes_memory};
+ghost use Rattle.counter_routes.specs.Readings.{Reads, number_in, command_or_bad, look_or_bad, request_at, reading_of, is_command, takes_memory};
 ghost use Rattle.counter_routes.specs.declared.bodies.Fault.TheVariants.{BadBody, NoMemory as OutOfMemory};
 
-use crate::bodies::{Fault, new_customer_command};
+use crate::bodies::{
+    Fault, active_command, new_customer_command, rental_command, return_command, scrap_command,
+};
 use crate::imports::import_command;
 use crate::paths::{Route, Routes};
 use http_messages::part;
-use shop_types::{Ask, Caller, Command, CustomerNo, NoMemory, Refusal, Request};
+use shop_types::{Ask, Caller, Command, NoMemory, Refusal, Request, RowNumber};
 use std::alloc::Global;
 
 /// What a message asks: a request to the shop, or why it is none.
@@ -24,17 +25,17 @@ pub enum Reading {
 }
 
 /// The number of a row that the path's part behind its second slash is.
-fn number_of(target: &[u8]) -> Option<CustomerNo>
+fn number_of<const KIND: u8>(target: &[u8]) -> Option<RowNumber<KIND>>
     ensures { result ≡ number_in target.now }
 {
-    CustomerNo::read(part(target, 2)?)
+    RowNumber::read(part(target, 2)?)
 }
 
 /// What a command's message asks: the command, or `bad_body` where the message writes none.
 fn read_command(command: Result<Command, Fault>) -> Result<Reading, NoMemory>
     ensures reading { (written : Option Written) → IfOk command (λ c. written ≡ Some (seen_command c))
         → IfErr command (λ fault. fault ≡ BadBody → written ≡ None)
-        → IfOk result (λ reading. Reads reading (or_bad_body (option_map Do written))) }
+        → IfOk result (λ reading. Reads reading (command_or_bad written)) }
     ensures memory { OnErr result (command ≡ Err OutOfMemory) }
 {
     match command {
@@ -43,6 +44,16 @@ fn read_command(command: Result<Command, Fault>) -> Result<Reading, NoMemory>
             Fault::BadBody => Ok(Reading::Refused(Refusal::BadBody)),
             Fault::NoMemory => Err(NoMemory),
         },
+    }
+}
+
+/// What a look's message asks: the look, or `bad_body` where the path has no row's number.
+fn read_look(ask: Option<Ask>) -> Reading
+    ensures { (asking : Option Asking) → option_map seen_ask ask ≡ asking → Reads result (look_or_bad asking) }
+{
+    match ask {
+        Some(ask) => Reading::Asked(Request::Look(ask)),
+        None => Reading::Refused(Refusal::BadBody),
     }
 }
 
@@ -60,13 +71,19 @@ impl Routes {
         let Some(route) = self.find(message.posts, message.target) else {
             return Ok(Reading::Refused(Refusal::NoRoute));
         };
+        let http_messages::Request { target, body, .. } = *message;
         match route {
-            Route::NewCustomer => read_command(new_customer_command(alloc, message.body)),
-            Route::Import => read_command(import_command(alloc, message.target, message.body)),
-            Route::Customer => Ok(match number_of(message.target) {
-                Some(number) => Reading::Asked(Request::Look(Ask::Customer(number))),
-                None => Reading::Refused(Refusal::BadBody),
-            }),
+            Route::NewCustomer => read_command(new_customer_command(alloc, body)),
+            Route::Active => read_command(active_command(alloc, body)),
+            Route::Rent => read_command(rental_command(alloc, body)),
+            Route::Return => read_command(return_command(alloc, body)),
+            Route::Import => read_command(import_command(alloc, target, body)),
+            Route::Scrap => read_command(scrap_command(alloc, body)),
+            Route::Customer => Ok(read_look(number_of(target).map(Ask::Customer))),
+            Route::InStock => Ok(read_look(number_of(target).map(Ask::InStock))),
+            Route::HeldBy => Ok(read_look(number_of(target).map(Ask::HeldBy))),
+            Route::FilmInStock => Ok(read_look(number_of(target).map(Ask::FilmInStock))),
+            Route::FilmNotInStock => Ok(read_look(number_of(target).map(Ask::FilmNotInStock))),
         }
     }
 

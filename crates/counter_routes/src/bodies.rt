@@ -2,9 +2,9 @@
 
 ghost use Rattle.std.specs.Prelude.{◌≡◌, IfOk, IfErr, Some, None, option_map};
 ghost use Rattle.serde_json.specs.View.{view};
-ghost use Rattle.shop_types.specs.Seen.{seen_person, seen_command};
-ghost use Rattle.counter_routes.specs.Bodies.{string_at, text_at, key_at, moment_at, number_at, has_members as is_object_of, person_at, new_customer, body_of};
-ghost use Rattle.counter_routes.specs.Readings.{command_in};
+ghost use Rattle.shop_types.specs.Seen.{seen_person, seen_act, seen_command};
+ghost use Rattle.counter_routes.specs.Bodies.{string_at, text_at, key_at, moment_at, number_at, bool_at, has_members as is_object_of, person_at, command_at, new_customer, new_active, new_rental, new_return, new_scrap, body_of};
+ghost use Rattle.counter_routes.specs.Readings.{written_in};
 ghost use Rattle.counter_routes.specs.declared.bodies.Fault.TheVariants.{BadBody, NoMemory as OutOfMemory};
 
 use serde_json::Value;
@@ -64,6 +64,12 @@ fn number<const KIND: u8>(value: &Value, name: &str) -> Option<RowNumber<KIND>>
     }
 }
 
+fn flag(value: &Value, name: &str) -> Option<bool>
+    ensures { result ≡ bool_at name.now (view value.now) }
+{
+    value.get(name)?.as_bool()
+}
+
 fn text<const LOW: usize, const HIGH: usize>(
     alloc: Global,
     value: &Value,
@@ -90,20 +96,82 @@ fn person(alloc: Global, value: &Value) -> Result<Person, Fault>
     })
 }
 
+/// The command to do that, with the key, the staff and the moment that three of the members are.
+fn command(alloc: Global, value: &Value, act: Act) -> Result<Command, Fault>
+    ensures ok { IfOk result (λ command. command_at (seen_act act) (view value.now) ≡ Some (seen_command command)) }
+    ensures bad { IfErr result (λ fault. fault ≡ BadBody → command_at (seen_act act) (view value.now) ≡ None) }
+{
+    Ok(Command {
+        key: key(alloc, value)?,
+        staff: number(value, "staff").ok_or(Fault::BadBody)?,
+        at: moment(value).ok_or(Fault::BadBody)?,
+        act,
+    })
+}
+
 #[tactic(auto, unfolding(crate::specs::Bodies::new_customer))]
-fn customer_command(alloc: Global, value: &Value) -> Result<Command, Fault>
+fn customer(alloc: Global, value: &Value) -> Result<Command, Fault>
     ensures ok { IfOk result (λ command. new_customer (view value.now) ≡ Some (seen_command command)) }
     ensures bad { IfErr result (λ fault. fault ≡ BadBody → new_customer (view value.now) ≡ None) }
 {
     if !has_members(value, 9) {
         return Err(Fault::BadBody);
     }
-    Ok(Command {
-        key: key(alloc, value)?,
-        staff: number(value, "staff").ok_or(Fault::BadBody)?,
-        at: moment(value).ok_or(Fault::BadBody)?,
-        act: Act::Customer(person(alloc, value)?),
-    })
+    command(alloc, value, Act::Customer(person(alloc, value)?))
+}
+
+#[tactic(auto, unfolding(crate::specs::Bodies::new_active))]
+fn customer_active(alloc: Global, value: &Value) -> Result<Command, Fault>
+    ensures ok { IfOk result (λ command. new_active (view value.now) ≡ Some (seen_command command)) }
+    ensures bad { IfErr result (λ fault. fault ≡ BadBody → new_active (view value.now) ≡ None) }
+{
+    if !has_members(value, 5) {
+        return Err(Fault::BadBody);
+    }
+    let act = Act::Active {
+        customer: number(value, "customer").ok_or(Fault::BadBody)?,
+        active: flag(value, "active").ok_or(Fault::BadBody)?,
+    };
+    command(alloc, value, act)
+}
+
+#[tactic(auto, unfolding(crate::specs::Bodies::new_rental))]
+fn rental(alloc: Global, value: &Value) -> Result<Command, Fault>
+    ensures ok { IfOk result (λ command. new_rental (view value.now) ≡ Some (seen_command command)) }
+    ensures bad { IfErr result (λ fault. fault ≡ BadBody → new_rental (view value.now) ≡ None) }
+{
+    if !has_members(value, 5) {
+        return Err(Fault::BadBody);
+    }
+    let act = Act::Rent {
+        customer: number(value, "customer").ok_or(Fault::BadBody)?,
+        copy: number(value, "copy").ok_or(Fault::BadBody)?,
+    };
+    command(alloc, value, act)
+}
+
+#[tactic(auto, unfolding(crate::specs::Bodies::new_return))]
+fn returned(alloc: Global, value: &Value) -> Result<Command, Fault>
+    ensures ok { IfOk result (λ command. new_return (view value.now) ≡ Some (seen_command command)) }
+    ensures bad { IfErr result (λ fault. fault ≡ BadBody → new_return (view value.now) ≡ None) }
+{
+    if !has_members(value, 4) {
+        return Err(Fault::BadBody);
+    }
+    let rental = number(value, "rental").ok_or(Fault::BadBody)?;
+    command(alloc, value, Act::TakeBack(rental))
+}
+
+#[tactic(auto, unfolding(crate::specs::Bodies::new_scrap))]
+fn scrapped(alloc: Global, value: &Value) -> Result<Command, Fault>
+    ensures ok { IfOk result (λ command. new_scrap (view value.now) ≡ Some (seen_command command)) }
+    ensures bad { IfErr result (λ fault. fault ≡ BadBody → new_scrap (view value.now) ≡ None) }
+{
+    if !has_members(value, 4) {
+        return Err(Fault::BadBody);
+    }
+    let copy = number(value, "copy").ok_or(Fault::BadBody)?;
+    command(alloc, value, Act::Scrap(copy))
 }
 
 fn value_of(alloc: Global, body: &[u8]) -> Result<Value, Fault>
@@ -119,8 +187,40 @@ fn value_of(alloc: Global, body: &[u8]) -> Result<Value, Fault>
 
 /// The command to add a customer that a body writes.
 pub(crate) fn new_customer_command(alloc: Global, body: &[u8]) -> Result<Command, Fault>
-    ensures ok { IfOk result (λ command. command_in body.now ≡ Some (seen_command command)) }
-    ensures bad { IfErr result (λ fault. fault ≡ BadBody → command_in body.now ≡ None) }
+    ensures ok { IfOk result (λ command. written_in new_customer body.now ≡ Some (seen_command command)) }
+    ensures bad { IfErr result (λ fault. fault ≡ BadBody → written_in new_customer body.now ≡ None) }
 {
-    customer_command(alloc, &value_of(alloc, body)?)
+    customer(alloc, &value_of(alloc, body)?)
+}
+
+/// The command to set whether a customer may rent that a body writes.
+pub(crate) fn active_command(alloc: Global, body: &[u8]) -> Result<Command, Fault>
+    ensures ok { IfOk result (λ command. written_in new_active body.now ≡ Some (seen_command command)) }
+    ensures bad { IfErr result (λ fault. fault ≡ BadBody → written_in new_active body.now ≡ None) }
+{
+    customer_active(alloc, &value_of(alloc, body)?)
+}
+
+/// The command to rent a copy that a body writes.
+pub(crate) fn rental_command(alloc: Global, body: &[u8]) -> Result<Command, Fault>
+    ensures ok { IfOk result (λ command. written_in new_rental body.now ≡ Some (seen_command command)) }
+    ensures bad { IfErr result (λ fault. fault ≡ BadBody → written_in new_rental body.now ≡ None) }
+{
+    rental(alloc, &value_of(alloc, body)?)
+}
+
+/// The command to take a rental's copy back that a body writes.
+pub(crate) fn return_command(alloc: Global, body: &[u8]) -> Result<Command, Fault>
+    ensures ok { IfOk result (λ command. written_in new_return body.now ≡ Some (seen_command command)) }
+    ensures bad { IfErr result (λ fault. fault ≡ BadBody → written_in new_return body.now ≡ None) }
+{
+    returned(alloc, &value_of(alloc, body)?)
+}
+
+/// The command to scrap a copy that a body writes.
+pub(crate) fn scrap_command(alloc: Global, body: &[u8]) -> Result<Command, Fault>
+    ensures ok { IfOk result (λ command. written_in new_scrap body.now ≡ Some (seen_command command)) }
+    ensures bad { IfErr result (λ fault. fault ≡ BadBody → written_in new_scrap body.now ≡ None) }
+{
+    scrapped(alloc, &value_of(alloc, body)?)
 }

@@ -11,8 +11,16 @@ use std::alloc::{AllocError, Global};
 #[derive(Clone, Copy, Debug, PartialEq, Eq)]
 pub(crate) enum Route {
     NewCustomer,
-    Customer,
+    Active,
+    Rent,
+    Return,
     Import,
+    Scrap,
+    Customer,
+    InStock,
+    HeldBy,
+    FilmInStock,
+    FilmNotInStock,
 }
 
 /// A route, and the paths that it takes.
@@ -22,7 +30,7 @@ pub(crate) struct Pattern {
     route: Route,
 }
 
-const POST_ROUTES: [Pattern; 2] = [
+const POST_ROUTES: [Pattern; 6] = [
     Pattern {
         text: "/customer",
         route: Route::NewCustomer,
@@ -31,12 +39,46 @@ const POST_ROUTES: [Pattern; 2] = [
         text: "/import/{key}/{staff}/{at}/{lot}",
         route: Route::Import,
     },
+    Pattern {
+        text: "/customer-active",
+        route: Route::Active,
+    },
+    Pattern {
+        text: "/rent",
+        route: Route::Rent,
+    },
+    Pattern {
+        text: "/return",
+        route: Route::Return,
+    },
+    Pattern {
+        text: "/scrap",
+        route: Route::Scrap,
+    },
 ];
 
-const GET_ROUTES: [Pattern; 1] = [Pattern {
-    text: "/customer/{n}",
-    route: Route::Customer,
-}];
+const GET_ROUTES: [Pattern; 5] = [
+    Pattern {
+        text: "/customer/{n}",
+        route: Route::Customer,
+    },
+    Pattern {
+        text: "/in-stock/{copy}",
+        route: Route::InStock,
+    },
+    Pattern {
+        text: "/held-by/{copy}",
+        route: Route::HeldBy,
+    },
+    Pattern {
+        text: "/film-in-stock/{film}",
+        route: Route::FilmInStock,
+    },
+    Pattern {
+        text: "/film-not-in-stock/{film}",
+        route: Route::FilmNotInStock,
+    },
+];
 
 fn build(alloc: Global, patterns: &[Pattern]) -> Result<Router<Route>, AllocError>
     requires { is_table (entries patterns.now) ≡ true }

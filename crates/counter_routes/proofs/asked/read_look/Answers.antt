@@ -1,0 +1,6 @@
+use Rattle.std.proofs.Common.{refl}
+use Rattle.shop_model.specs.Refusals.{BadBody}
+use Rattle.counter_routes.proofs.asked.read_look.Goals as goal
+
+pub returns-in-None : goal.returns-in-None
+returns-in-None c = λ asking same. (BadBody, refl, rw (← same, c.in-None.is) refl, refl)
