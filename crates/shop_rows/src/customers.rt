@@ -198,7 +198,7 @@ const FORMS: [(&str, &str, &str, &str, &str); 13] = [
     ("POST /customer/1", BRANCH_1, "", MISSING, NO_ROUTE),
     ("GET /customer/1/", BRANCH_1, "", MISSING, NO_ROUTE),
     ("GET /customer/1?x", BRANCH_1, "", MISSING, NO_ROUTE),
-    ("POST /rent", BRANCH_1, "{}", MISSING, NO_ROUTE),
+    ("GET /arrivals", BRANCH_1, "", MISSING, NO_ROUTE),
     ("POST /office", OFFICE, "[]", MISSING, NO_ROUTE),
     ("POST /customer", OFFICE, "{}", MISSING, NO_ROUTE),
     (

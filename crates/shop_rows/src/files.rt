@@ -3,11 +3,14 @@ ghost use Rattle.std.specs.Prelude.{IsTrue};
 ghost use Rattle.sqlite_disk.specs.Memory.{memory_is_usable};
 
 use crate::customers::REPEATS;
-use crate::talk::{FIRST_CUSTOMER, FIRST_REPLY, adds, answer};
+use crate::talk::{
+    CONFLICT, COUNTER_1, FIRST_CUSTOMER, FIRST_REPLY, OK, Step, adds, answer, plays,
+};
 use catalogue_store::put_opening;
 use chain_engine::{Chain, OpenFault};
 use shop_schema::create_tables;
-use shop_types::Limits;
+use shop_store::{customers_of, set_active};
+use shop_types::{BranchNo, CustomerNo, Limits};
 use sqlite::{Alter, Connection, FileStore, Files, Options};
 use sqlite_disk::Memory;
 use std::alloc::Global;
@@ -24,6 +27,10 @@ fn new_files(alloc: Global) -> Files<Memory>
     }
 }
 
+/// The first customer as a row of its own.
+const ADDS_MARY: &str =
+    "INSERT INTO customer (branch, number, first, last, address, postal, phone, city, active, created) VALUES (1, 1, 'MARY', 'SMITH', '1 Main', '', '555', 1, 1, '2026-03-01T10:00:00')";
+
 /// Makes the tables with the opening rows, and what else is asked.
 fn make<S: Alter>(conn: &mut Connection<S>, also: &str) -> Result<(), &'static str> {
     if !conn.is_autocommit() {
@@ -39,6 +46,23 @@ fn make<S: Alter>(conn: &mut Connection<S>, also: &str) -> Result<(), &'static s
     match tx.commit() {
         Ok(()) => Ok(()),
         Err(_) => Err("the commit"),
+    }
+}
+
+/// How many customers the first branch has, where its first one may no longer rent.
+fn inactive<S: Alter>(alloc: Global, conn: &mut Connection<S>) -> Result<usize, &'static str> {
+    if !conn.is_autocommit() {
+        return Err("a transaction is open");
+    }
+    let branch = BranchNo::new(1).ok_or("the branch")?;
+    let customer = CustomerNo::new(1).ok_or("the customer")?;
+    let mut tx = conn.transaction();
+    if set_active(&mut tx, branch, customer, false).is_err() {
+        return Err("the customer isn't set");
+    }
+    match customers_of(&mut tx, alloc, branch) {
+        Ok(rows) => Ok(rows.len()),
+        Err(_) => Err("the customers aren't there"),
     }
 }
 
@@ -77,6 +101,66 @@ fn close_and_open(rt: HostRuntime) -> Result<(), Fail> {
     assert!(rt; told.as_slice() == FIRST_REPLY.as_bytes());
     let mut again = opened(alloc, chain.close())?;
     adds(alloc, &mut again, &REPEATS)?;
+    Ok(())
+}
+
+const BEFORE_CLOSE: [(Step<'static>, &str, &str); 6] = [
+    (
+        Step::Import("i1", "L1", "film_id,copies\n1,3\n"),
+        OK,
+        "{\"copies\":3,\"first\":1}",
+    ),
+    (Step::Customer("k1"), OK, "{\"customer\":1}"),
+    (Step::Rent("a", 1, 1), OK, "{\"rental\":1}"),
+    (Step::Rent("b", 1, 2), OK, "{\"rental\":2}"),
+    (Step::Return("c", 2), OK, "{\"returned\":2}"),
+    (Step::Scrap("d", 3), OK, "{\"scrapped\":3}"),
+];
+
+const AFTER_OPEN: [(Step<'static>, &str, &str); 7] = [
+    (Step::Look("/held-by/1"), OK, "{\"customer\":1}"),
+    (
+        Step::Look("/film-in-stock/1"),
+        OK,
+        "{\"copies\":[2],\"count\":1}",
+    ),
+    (Step::Rent("a", 1, 1), OK, "{\"rental\":1}"),
+    (
+        Step::Rent("e", 1, 1),
+        CONFLICT,
+        "{\"refused\":\"copy_out\"}",
+    ),
+    (
+        Step::Return("f", 2),
+        CONFLICT,
+        "{\"refused\":\"rental_returned\"}",
+    ),
+    (Step::Return("g", 1), OK, "{\"returned\":1}"),
+    (
+        Step::Rent("h", 1, 3),
+        CONFLICT,
+        "{\"refused\":\"copy_not_here\"}",
+    ),
+];
+
+#[test]
+fn rentals_after_opening(rt: HostRuntime) -> Result<(), Fail> {
+    let alloc = rt.alloc();
+    let mut chain = opened(alloc, opening_files(alloc, "")?)?;
+    plays(alloc, &mut chain, COUNTER_1, &BEFORE_CLOSE)?;
+    let mut again = opened(alloc, chain.close())?;
+    plays(alloc, &mut again, COUNTER_1, &AFTER_OPEN)?;
+    Ok(())
+}
+
+#[test]
+fn customers_in_tables(rt: HostRuntime) -> Result<(), Fail> {
+    let alloc = rt.alloc();
+    let Ok(mut conn) = Connection::open_in_memory(alloc) else {
+        return Err("a new database")?;
+    };
+    make(&mut conn, ADDS_MARY)?;
+    assert_eq!(rt; inactive(alloc, &mut conn)?, 1);
     Ok(())
 }
 

@@ -12,6 +12,8 @@ mod moments;
 #[cfg(test)]
 mod program;
 #[cfg(test)]
+mod rentals;
+#[cfg(test)]
 mod stock;
 #[cfg(test)]
 mod talk;

@@ -100,6 +100,98 @@ impl Import<'_> {
     }
 }
 
+/// A branch's counter: who gives its commands, and when.
+#[derive(Clone, Copy)]
+pub struct Counter<'t> {
+    pub token: &'t str,
+    pub staff: u32,
+    pub at: &'t str,
+}
+
+/// Those of the first two branches.
+pub const COUNTER_1: Counter<'static> = Counter {
+    token: BRANCH_1,
+    staff: 1,
+    at: "2026-03-01T10:00:00",
+};
+
+pub const COUNTER_2: Counter<'static> = Counter {
+    token: BRANCH_2,
+    staff: 2,
+    ..COUNTER_1
+};
+
+/// What a counter sends: a look at a path, or a command with its key.
+#[derive(Clone, Copy)]
+pub enum Step<'t> {
+    Look(&'t str),
+    /// The first customer again, under that key.
+    Customer(&'t str),
+    /// The lot, and its stock file.
+    Import(&'t str, &'t str, &'t str),
+    /// The customer, and whether the customer may rent.
+    Active(&'t str, u32, bool),
+    /// The customer, and the copy.
+    Rent(&'t str, u32, u32),
+    /// The rental.
+    Return(&'t str, u32),
+    /// The copy.
+    Scrap(&'t str, u32),
+}
+
+impl<'t> Counter<'t> {
+    /// The text of the request that the counter sends.
+    pub fn sends(self, alloc: Global, step: Step<'t>) -> Result<String, Fail> {
+        match step {
+            Step::Look(path) => look(alloc, path, self.token),
+            Step::Customer(key) => {
+                let new = NewCustomer {
+                    key,
+                    staff: self.staff,
+                    at: self.at,
+                    ..FIRST
+                };
+                new.sent_by(alloc, self.token)
+            }
+            Step::Import(key, lot, file) => {
+                let import = Import {
+                    key,
+                    staff: self.staff,
+                    at: self.at,
+                    lot,
+                };
+                import.sent_by(alloc, self.token, file)
+            }
+            Step::Active(key, customer, active) => {
+                let act = format!(in alloc; "\"customer\":{customer},\"active\":{active}")?;
+                self.commands(alloc, "/customer-active", key, act.as_str())
+            }
+            Step::Rent(key, customer, copy) => {
+                let act = format!(in alloc; "\"customer\":{customer},\"copy\":{copy}")?;
+                self.commands(alloc, "/rent", key, act.as_str())
+            }
+            Step::Return(key, rental) => {
+                let act = format!(in alloc; "\"rental\":{rental}")?;
+                self.commands(alloc, "/return", key, act.as_str())
+            }
+            Step::Scrap(key, copy) => {
+                let act = format!(in alloc; "\"copy\":{copy}")?;
+                self.commands(alloc, "/scrap", key, act.as_str())
+            }
+        }
+    }
+
+    /// The text of a command to the path, by the members of its body that say what it does.
+    pub fn commands(self, alloc: Global, path: &str, key: &str, act: &str) -> Result<String, Fail> {
+        let line = format!(in alloc; "POST {path}")?;
+        let body = format!(in alloc;
+            "{{\"key\":\"{key}\",\"staff\":{},\"at\":\"{}\",{act}}}",
+            self.staff, self.at
+        )?;
+        request(alloc, line.as_str(), self.token, body.as_str())
+    }
+}
+
 /// A request's text.
 pub fn request(alloc: Global, line: &str, token: &str, body: &str) -> Result<String, Fail> {
     let length = body.len();
@@ -212,6 +304,22 @@ pub fn imports<S: Alter>(
 ) -> Result<(), Fail> {
     for (import, token, file, status, body) in steps {
         let input = import.sent_by(alloc, token, file)?;
+        if !is_told(alloc, chain, input.as_str(), status, body)? {
+            return Err(*body)?;
+        }
+    }
+    Ok(())
+}
+
+/// The same of what a counter sends.
+pub fn plays<S: Alter>(
+    alloc: Global,
+    chain: &mut Chain<S>,
+    counter: Counter<'_>,
+    steps: &[(Step<'_>, &str, &'static str)],
+) -> Result<(), Fail> {
+    for (step, status, body) in steps {
+        let input = counter.sends(alloc, *step)?;
         if !is_told(alloc, chain, input.as_str(), status, body)? {
             return Err(*body)?;
         }

@@ -6,6 +6,8 @@ mod chain;
 #[cfg(test)]
 mod office;
 #[cfg(test)]
+mod rentals;
+#[cfg(test)]
 mod routes;
 #[cfg(test)]
 mod types;

@@ -55,6 +55,64 @@ fn equal_commands_are_the_same(rt: HostRuntime) -> Result<(), Fail> {
     Ok(())
 }
 
+/// The first member of staff's command to do this.
+fn doing(rt: &HostRuntime, act: Act) -> Result<Command, Fail> {
+    Ok(Command {
+        act,
+        ..command(rt, "Mike")?
+    })
+}
+
+fn rent(customer: u32, copy: u32) -> Result<Act, Fail> {
+    Ok(Act::Rent {
+        customer: RowNumber::new(customer).ok_or("customer")?,
+        copy: RowNumber::new(copy).ok_or("copy")?,
+    })
+}
+
+fn active(customer: u32, active: bool) -> Result<Act, Fail> {
+    Ok(Act::Active {
+        customer: RowNumber::new(customer).ok_or("customer")?,
+        active,
+    })
+}
+
+fn take_back(rental: u32) -> Result<Act, Fail> {
+    Ok(Act::TakeBack(RowNumber::new(rental).ok_or("rental")?))
+}
+
+fn scrap(copy: u32) -> Result<Act, Fail> {
+    Ok(Act::Scrap(RowNumber::new(copy).ok_or("copy")?))
+}
+
+/// Commands that differ in what they do alone.
+fn commands_on_rentals(rt: &HostRuntime) -> Result<[Command; 10], Fail> {
+    Ok([
+        doing(rt, rent(1, 1)?)?,
+        doing(rt, rent(1, 2)?)?,
+        doing(rt, rent(2, 1)?)?,
+        doing(rt, active(1, true)?)?,
+        doing(rt, active(1, false)?)?,
+        doing(rt, active(2, true)?)?,
+        doing(rt, take_back(1)?)?,
+        doing(rt, take_back(2)?)?,
+        doing(rt, scrap(1)?)?,
+        doing(rt, scrap(2)?)?,
+    ])
+}
+
+#[test]
+fn commands_on_rentals_are_the_same_where_each_number_is(rt: HostRuntime) -> Result<(), Fail> {
+    let commands = commands_on_rentals(&rt)?;
+    let copies = commands_on_rentals(&rt)?;
+    for (n, command) in commands.iter().enumerate() {
+        for (m, copy) in copies.iter().enumerate() {
+            assert!(rt; command.is_same(copy) == (n == m), "at {n} and {m}");
+        }
+    }
+    Ok(())
+}
+
 fn stock_file(alloc: Global, length: usize) -> Result<Option<StockFile>, AllocError> {
     let mut bytes = Vec::new(alloc);
     for _ in 0..length {
