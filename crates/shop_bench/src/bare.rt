@@ -1,12 +1,15 @@
 //! The statements of the same requests on the bare store, each request's in one transaction.
-use crate::Times;
-use crate::requests::{branch, key, lot, moment, person, staff};
+use crate::requests::{branch, key, lot, moment, number, person, staff};
+use crate::{Kind, Times};
 use catalogue_store::{film_at, has_city, staff_at};
 use shop_store::{
-    CopyRow, CopyState, CustomerRow, Mark, copy_count, customer_at, customer_count, has_lot,
-    kept_at, kept_count, last_at, put_copy, put_customer, put_kept, put_lot, set_last,
+    CopyRow, CopyState, CustomerRow, Mark, RentalRow, copy_at, copy_count, customer_at,
+    customer_count, has_lot, kept_at, kept_count, last_at, last_rental, put_copy, put_customer,
+    put_kept, put_lot, put_rental, rental_at, rentals_of_copy, set_last, set_returned,
 };
-use shop_types::{BranchNo, CopyNo, Customer, CustomerNo, FilmNo, Key, LotName, Moment, StaffNo};
+use shop_types::{
+    BranchNo, CopyNo, Customer, FilmNo, Key, LotName, Moment, Rental, RentalNo, StaffNo,
+};
 use sql_rows::{Bytes, StoreFault};
 use sqlite::{Alter, Connection, Transaction};
 use std::alloc::Global;
@@ -31,26 +34,28 @@ struct Asked {
     at: Moment,
     copy: CopyNo,
     film: FilmNo,
+    rental: RentalNo,
     key: Key,
     lot: LotName,
     form: Bytes,
     row: CustomerRow,
 }
 
-fn ask(alloc: Global, letter: char, n: u32) -> Result<Asked, &'static str> {
+fn ask(alloc: Global, kind: Kind, n: u32) -> Result<Asked, &'static str> {
     let at = moment()?;
     Ok(Asked {
         branch: branch()?,
         staff: staff()?,
         at,
-        copy: CopyNo::new(n.saturating_add(1)).ok_or("the copy")?,
+        copy: number(n)?,
         film: FilmNo::new(1).ok_or("the film")?,
-        key: key(alloc, letter, n)?,
+        rental: number(n)?,
+        key: key(alloc, kind, n)?,
         lot: lot(alloc, n)?,
         form: form(alloc)?,
         row: CustomerRow {
             branch: branch()?,
-            number: CustomerNo::new(n.saturating_add(1)).ok_or("the customer")?,
+            number: number(n)?,
             customer: Customer {
                 person: person(alloc)?,
                 active: true,
@@ -112,12 +117,39 @@ fn import<S: Alter>(tx: &mut Transaction<'_, S>, it: &Asked) -> Result<(), Store
     write_command(tx, it)
 }
 
-/// The kinds of requests.
-#[derive(Clone, Copy)]
-enum Kind {
-    Customer,
-    Look,
-    Import,
+/// The statements of a rental.
+fn rent<S: Alter>(
+    tx: &mut Transaction<'_, S>,
+    alloc: Global,
+    it: &Asked,
+) -> Result<(), StoreFault> {
+    read_command(tx, it)?;
+    customer_at(tx, it.branch, it.row.number)?;
+    copy_at(tx, it.branch, it.copy)?;
+    film_at(tx, it.film)?;
+    rentals_of_copy(tx, alloc, it.branch, it.copy)?;
+    last_rental(tx, it.branch)?;
+    let row = RentalRow {
+        branch: it.branch,
+        number: it.rental,
+        rental: Rental {
+            rented: it.at,
+            copy: it.copy,
+            customer: it.row.number,
+            returned: None,
+            staff: it.staff,
+        },
+    };
+    put_rental(tx, &row)?;
+    write_command(tx, it)
+}
+
+/// The statements of a return.
+fn take_back<S: Alter>(tx: &mut Transaction<'_, S>, it: &Asked) -> Result<(), StoreFault> {
+    read_command(tx, it)?;
+    rental_at(tx, it.branch, it.rental)?;
+    set_returned(tx, it.branch, it.rental, it.at)?;
+    write_command(tx, it)
 }
 
 /// What one request's statements take, added to the time before.
@@ -139,6 +171,8 @@ fn timed<S: Alter>(
         Kind::Customer => customer(&mut tx, it),
         Kind::Look => look(&mut tx, it),
         Kind::Import => import(&mut tx, it),
+        Kind::Rent => rent(&mut tx, rt.alloc(), it),
+        Kind::Return => take_back(&mut tx, it),
     };
     if done.is_err() {
         tx.rollback();
@@ -153,29 +187,32 @@ fn timed<S: Alter>(
     Ok(before.saturating_add(time))
 }
 
-/// What the statements of so many new customers take, of a look at each, and of as many imports.
+/// What the statements of so many requests of the kind take.
+fn time<S: Alter>(
+    rt: &HostRuntime,
+    conn: &mut Connection<S>,
+    count: u32,
+    kind: Kind,
+) -> Result<Duration, &'static str> {
+    let mut time = Duration::ZERO;
+    for n in 0..count {
+        let it = ask(rt.alloc(), kind, n)?;
+        time = timed(rt, conn, time, kind, &it)?;
+    }
+    Ok(time)
+}
+
+/// What the statements of so many new customers take, of a look at each, of as many imports, of a rental by each customer, and of each return.
 pub fn times<S: Alter>(
     rt: &HostRuntime,
     conn: &mut Connection<S>,
     count: u32,
 ) -> Result<Times, &'static str> {
-    let alloc = rt.alloc();
-    let mut times = Times {
-        customers: Duration::ZERO,
-        looks: Duration::ZERO,
-        imports: Duration::ZERO,
-    };
-    for n in 0..count {
-        let it = ask(alloc, 'c', n)?;
-        times.customers = timed(rt, conn, times.customers, Kind::Customer, &it)?;
-    }
-    for n in 0..count {
-        let it = ask(alloc, 'l', n)?;
-        times.looks = timed(rt, conn, times.looks, Kind::Look, &it)?;
-    }
-    for n in 0..count {
-        let it = ask(alloc, 'i', n)?;
-        times.imports = timed(rt, conn, times.imports, Kind::Import, &it)?;
-    }
-    Ok(times)
+    Ok(Times {
+        customers: time(rt, conn, count, Kind::Customer)?,
+        looks: time(rt, conn, count, Kind::Look)?,
+        imports: time(rt, conn, count, Kind::Import)?,
+        rents: time(rt, conn, count, Kind::Rent)?,
+        returns: time(rt, conn, count, Kind::Return)?,
+    })
 }

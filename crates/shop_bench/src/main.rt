@@ -15,12 +15,24 @@ use std::io::{self, Write};
 use std::process::ExitCode;
 use std::time::Duration;
 
+/// The kinds of requests that are measured.
+#[derive(Clone, Copy)]
+enum Kind {
+    Customer,
+    Look,
+    Import,
+    Rent,
+    Return,
+}
+
 /// What the calls of one kind took together.
 #[derive(Clone, Copy)]
 struct Times {
     customers: Duration,
     looks: Duration,
     imports: Duration,
+    rents: Duration,
+    returns: Duration,
 }
 
 /// What the program measures: how many customers, and in which file; a file that nobody named is removed.
@@ -63,6 +75,8 @@ fn tell(rt: &HostRuntime, place: &str, count: u32, chain: Times, bare: Times) {
         ("customer", chain.customers, bare.customers),
         ("look", chain.looks, bare.looks),
         ("import", chain.imports, bare.imports),
+        ("rent", chain.rents, bare.rents),
+        ("return", chain.returns, bare.returns),
     ] {
         let _ = writeln!(
             err,

@@ -1,7 +1,8 @@
 //! The requests that are measured.
+use crate::Kind;
 use shop_types::{
-    Act, Ask, BranchNo, CityNo, Command, CustomerNo, Key, LotName, Moment, Person, Request,
-    StaffNo, StockFile, Text,
+    Act, Ask, BranchNo, CityNo, Command, Key, LotName, Moment, Person, Request, RowNumber, StaffNo,
+    StockFile, Text,
 };
 use std::alloc::Global;
 
@@ -28,8 +29,15 @@ fn named(alloc: Global, letter: char, n: u32) -> Result<String, &'static str> {
     }
 }
 
-/// The key of a command.
-pub fn key(alloc: Global, letter: char, n: u32) -> Result<Key, &'static str> {
+/// The key of a command of the kind. A look has none, and one that isn't used.
+pub fn key(alloc: Global, kind: Kind, n: u32) -> Result<Key, &'static str> {
+    let letter = match kind {
+        Kind::Customer => 'c',
+        Kind::Look => 'l',
+        Kind::Import => 'i',
+        Kind::Rent => 'r',
+        Kind::Return => 'b',
+    };
     Key::read(named(alloc, letter, n)?).ok_or("the key")
 }
 
@@ -60,34 +68,38 @@ pub fn person(alloc: Global) -> Result<Person, &'static str> {
     })
 }
 
-/// A new customer's command.
-pub fn customer(alloc: Global, n: u32) -> Result<Request, &'static str> {
-    Ok(Request::Do(Command {
-        key: key(alloc, 'c', n)?,
-        staff: staff()?,
-        at: moment()?,
-        act: Act::Customer(person(alloc)?),
-    }))
-}
-
-/// A look at a customer.
-pub fn look(n: u32) -> Result<Request, &'static str> {
-    let number = CustomerNo::new(n).ok_or("the customer")?;
-    Ok(Request::Look(Ask::Customer(number)))
-}
-
 /// An import of one copy.
-pub fn import(alloc: Global, n: u32) -> Result<Request, &'static str> {
+fn import(alloc: Global, n: u32) -> Result<Act, &'static str> {
     let Ok(bytes) = Vec::from_slice(alloc, b"film_id,copies\n1,1\n") else {
         return Err("no memory");
     };
+    Ok(Act::Import {
+        lot: lot(alloc, n)?,
+        file: StockFile::new(bytes).ok_or("the file")?,
+    })
+}
+
+/// The number of the row that each request names, where so many requests went before.
+pub fn number<const KIND: u8>(n: u32) -> Result<RowNumber<KIND>, &'static str> {
+    RowNumber::new(n.saturating_add(1)).ok_or("the number")
+}
+
+/// The request of the kind, where so many of its kind went before.
+pub fn request(alloc: Global, kind: Kind, n: u32) -> Result<Request, &'static str> {
+    let act = match kind {
+        Kind::Customer => Act::Customer(person(alloc)?),
+        Kind::Look => return Ok(Request::Look(Ask::Customer(number(n)?))),
+        Kind::Import => import(alloc, n)?,
+        Kind::Rent => Act::Rent {
+            customer: number(n)?,
+            copy: number(n)?,
+        },
+        Kind::Return => Act::TakeBack(number(n)?),
+    };
     Ok(Request::Do(Command {
-        key: key(alloc, 'i', n)?,
+        key: key(alloc, kind, n)?,
         staff: staff()?,
         at: moment()?,
-        act: Act::Import {
-            lot: lot(alloc, n)?,
-            file: StockFile::new(bytes).ok_or("the file")?,
-        },
+        act,
     }))
 }

@@ -1,6 +1,6 @@
 //! Requests through a chain.
-use crate::Times;
-use crate::requests::{branch, customer, import, look};
+use crate::requests::{branch, request};
+use crate::{Kind, Times};
 use chain_engine::Chain;
 use shop_types::{Caller, Request};
 use sqlite::Alter;
@@ -27,26 +27,31 @@ fn timed<S: Alter>(
     Ok(before.saturating_add(time))
 }
 
-/// What so many new customers take, then a look at each, and then as many imports.
+/// What so many requests of the kind take.
+fn time<S: Alter>(
+    rt: &HostRuntime,
+    chain: &mut Chain<S>,
+    count: u32,
+    kind: Kind,
+) -> Result<Duration, &'static str> {
+    let mut time = Duration::ZERO;
+    for n in 0..count {
+        time = timed(rt, chain, time, &request(rt.alloc(), kind, n)?)?;
+    }
+    Ok(time)
+}
+
+/// What so many new customers take, then a look at each, as many imports, a rental by each customer, and then each return.
 pub fn times<S: Alter>(
     rt: &HostRuntime,
     chain: &mut Chain<S>,
     count: u32,
 ) -> Result<Times, &'static str> {
-    let alloc = rt.alloc();
-    let mut times = Times {
-        customers: Duration::ZERO,
-        looks: Duration::ZERO,
-        imports: Duration::ZERO,
-    };
-    for n in 0..count {
-        times.customers = timed(rt, chain, times.customers, &customer(alloc, n)?)?;
-    }
-    for n in 0..count {
-        times.looks = timed(rt, chain, times.looks, &look(n.saturating_add(1))?)?;
-    }
-    for n in 0..count {
-        times.imports = timed(rt, chain, times.imports, &import(alloc, n)?)?;
-    }
-    Ok(times)
+    Ok(Times {
+        customers: time(rt, chain, count, Kind::Customer)?,
+        looks: time(rt, chain, count, Kind::Look)?,
+        imports: time(rt, chain, count, Kind::Import)?,
+        rents: time(rt, chain, count, Kind::Rent)?,
+        returns: time(rt, chain, count, Kind::Return)?,
+    })
 }
