@@ -1,9 +1,10 @@
-//! The values of the shop, as plain data: moments, texts, keys, tokens, numbers of rows and limits.
+//! The values of the shop, as plain data: moments, texts, keys, tokens, numbers of rows, limits and money.
 #![tactic(auto)]
 
 mod key;
 mod limits;
 mod moment;
+mod money;
 mod no_memory;
 mod row_number;
 mod text;
@@ -12,6 +13,7 @@ mod token;
 pub use key::{Key, LotName, Name};
 pub use limits::Limits;
 pub use moment::{Moment, moment_texts_are_one_to_one};
+pub use money::{Amount, Cents, Rate};
 pub use no_memory::NoMemory;
 pub use row_number::{
     ActorNo, BranchNo, CategoryNo, CityNo, CopyNo, CountryNo, CustomerNo, FilmNo, LanguageNo,

@@ -144,6 +144,24 @@ impl Moment {
         ]
     }
 
+    /// From 1970 to 9999.
+    pub fn year(self) -> u16
+        ensures value { result ≡ self.year }
+        ensures low { 1970 ≤ result }
+        ensures high { result ≤ 9999 }
+    {
+        self.year
+    }
+
+    /// From 1, January, to 12.
+    pub fn month(self) -> u8
+        ensures value { result ≡ self.month }
+        ensures low { 1 ≤ result }
+        ensures high { result ≤ 12 }
+    {
+        self.month
+    }
+
     /// The number of its day: 0 for 1970-01-01, 2,932,896 for 9999-12-31.
     pub fn day(self) -> i32
         ensures value { result ≡ pos (day_of self) }
