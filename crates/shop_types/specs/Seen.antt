@@ -6,6 +6,7 @@ use Rattle.shop_model.specs.Refusals as named
 use Rattle.shop_types.specs.declared.person.Person.{Person}
 use Rattle.shop_types.specs.declared.person.Customer.{Customer}
 use Rattle.shop_types.specs.declared.rental.Rental.{Rental}
+use Rattle.shop_types.specs.declared.payment.Payment.{Payment}
 use Rattle.shop_types.specs.declared.command.Act.{Act}
 use Rattle.shop_types.specs.declared.command.Act.TheVariants as act
 use Rattle.shop_types.specs.declared.command.Command.{Command}
@@ -44,6 +45,15 @@ seen_rental rental = record {
   staff = rental.staff;
 }
 
+abbrev pub seen_payment : Payment → model.Payment
+seen_payment payment = record {
+  customer = payment.customer;
+  staff = payment.staff;
+  rental = payment.rental;
+  amount = payment.amount;
+  paid = payment.paid;
+}
+
 -- ---- requests
 
 abbrev pub seen_act : Act → model.Act
@@ -51,6 +61,7 @@ seen_act (act.Customer person) = model.AddCustomer (seen_person person)
 seen_act (act.Active customer active) = model.SetActive customer active
 seen_act (act.Rent customer copy) = model.Rent customer copy
 seen_act (act.TakeBack rental) = model.TakeBack rental
+seen_act (act.Pay customer rental amount) = model.Pay customer rental amount
 seen_act (act.Import lot file) = model.Import lot file
 seen_act (act.Scrap copy) = model.Scrap copy
 
@@ -68,6 +79,9 @@ seen_ask (ask.InStock copy) = model.InStock copy
 seen_ask (ask.HeldBy copy) = model.HeldBy copy
 seen_ask (ask.FilmInStock film) = model.FilmInStock film
 seen_ask (ask.FilmNotInStock film) = model.FilmNotInStock film
+seen_ask (ask.Balance customer at) = model.Balance customer at
+seen_ask (ask.Overdue at) = model.Overdue at
+seen_ask (ask.Rewards at purchases cents) = model.Rewards at purchases cents
 
 abbrev pub seen_request : Request → machine.Request
 seen_request (request.Do command) = machine.Do (seen_command command)

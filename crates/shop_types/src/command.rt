@@ -3,7 +3,7 @@ ghost use Rattle.shop_model.specs.Shop.{same_act, same_command};
 ghost use Rattle.shop_types.specs.Seen.{seen_act, seen_command};
 
 use crate::{Person, StockFile};
-use shop_values::{CopyNo, CustomerNo, Key, LotName, Moment, RentalNo, StaffNo};
+use shop_values::{Amount, CopyNo, CustomerNo, Key, LotName, Moment, RentalNo, StaffNo};
 
 /// What a counter's command does.
 #[derive(Clone, Debug, Drop, PartialEq, Eq)]
@@ -11,13 +11,28 @@ pub enum Act {
     /// Adds a customer to the branch, who is active.
     Customer(Person),
     /// Sets whether a customer may rent.
-    Active { customer: CustomerNo, active: bool },
+    Active {
+        customer: CustomerNo,
+        active: bool,
+    },
     /// Rents a copy to a customer.
-    Rent { customer: CustomerNo, copy: CopyNo },
+    Rent {
+        customer: CustomerNo,
+        copy: CopyNo,
+    },
     /// Takes the copy of a rental back.
     TakeBack(RentalNo),
+    /// Takes a customer's payment, of a rental or of none.
+    Pay {
+        customer: CustomerNo,
+        rental: Option<RentalNo>,
+        amount: Amount,
+    },
     /// Adds the copies that a stock file lists to the branch, as a lot of that name.
-    Import { lot: LotName, file: StockFile },
+    Import {
+        lot: LotName,
+        file: StockFile,
+    },
     /// Takes a copy out of the shop for good.
     Scrap(CopyNo),
 }
@@ -56,6 +71,18 @@ impl Act {
                 },
             ) => customer == again && copy == other,
             (Act::TakeBack(rental), Act::TakeBack(again)) => rental == again,
+            (
+                Act::Pay {
+                    customer,
+                    rental,
+                    amount,
+                },
+                Act::Pay {
+                    customer: again,
+                    rental: other,
+                    amount: cents,
+                },
+            ) => customer == again && rental == other && amount == cents,
             (
                 Act::Import { lot, file },
                 Act::Import {

@@ -3,6 +3,7 @@
 
 mod command;
 mod line;
+mod payment;
 mod person;
 mod refusal;
 mod rental;
@@ -13,15 +14,16 @@ mod words;
 
 pub use command::{Act, Command};
 pub use line::{Line, LineAct, Usage};
+pub use payment::Payment;
 pub use person::{Customer, Person};
 pub use refusal::{BadCsv, Refusal};
 pub use rental::Rental;
 pub use reply::{Body, Reply};
 pub use request::{Ask, Caller, OfficeAct, OfficeCommand, Request};
 pub use shop_values::{
-    ActorNo, BranchNo, CategoryNo, CityNo, CopyNo, CountryNo, CustomerNo, FilmNo, Key, L45, L500,
-    LanguageNo, Limits, LotName, Moment, Name, NoMemory, PaymentNo, RentalNo, RowNumber, StaffNo,
-    T45, T128, Text, Token, moment_texts_are_one_to_one,
+    ActorNo, Amount, BranchNo, CategoryNo, Cents, CityNo, CopyNo, CountryNo, CustomerNo, FilmNo,
+    Key, L45, L500, LanguageNo, Limits, LotName, Moment, Name, NoMemory, PaymentNo, Rate, RentalNo,
+    RowNumber, StaffNo, T45, T128, Text, Token, moment_texts_are_one_to_one,
 };
 pub use stock_file::StockFile;
 pub use words::OfficeWords;

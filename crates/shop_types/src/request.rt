@@ -1,5 +1,5 @@
 use crate::Command;
-use shop_values::{BranchNo, CopyNo, CustomerNo, FilmNo, Key};
+use shop_values::{BranchNo, CopyNo, CustomerNo, FilmNo, Key, Moment};
 
 /// What a counter's reading shows.
 #[derive(Clone, Copy, Debug, PartialEq, Eq)]
@@ -14,6 +14,19 @@ pub enum Ask {
     FilmInStock(FilmNo),
     /// The copies of the film that are here and not in stock.
     FilmNotInStock(FilmNo),
+    /// What the customer owes at the moment, in cents.
+    Balance {
+        customer: CustomerNo,
+        at: Moment,
+    },
+    /// The rentals that are overdue at the moment.
+    Overdue(Moment),
+    /// The customers who paid more often than `purchases`, and more than `cents`, in the month before the moment's.
+    Rewards {
+        at: Moment,
+        purchases: u32,
+        cents: u32,
+    },
 }
 
 /// What head office's request does. There is none yet, and so no value.
