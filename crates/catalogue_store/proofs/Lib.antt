@@ -1,5 +1,6 @@
 pub mod Tokens
 pub mod SharedReads
+pub mod FilmReads
 pub mod TokenReads
 pub mod RowPut
 pub mod Sequence

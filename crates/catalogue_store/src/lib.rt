@@ -11,4 +11,7 @@ pub use puts::{
     NewActor, NewBranch, NewCity, NewFilm, NewStaff, put_actor, put_branch, put_cast, put_category,
     put_city, put_country, put_film, put_language, put_staff,
 };
-pub use reads::{StaffPost, branch_with, film_at, has_city, is_office, staff_at};
+pub use reads::{
+    FilmTerms, StaffPost, branch_with, film_at, film_terms, film_title, has_city, is_office,
+    staff_at,
+};

@@ -1,18 +1,21 @@
-ghost use Rattle.std.specs.Prelude.{◌≡◌, not, IfOk, map, option_map};
+ghost use Rattle.std.specs.Prelude.{◌≡◌, ◌≢◌, ◌≤◌, ◌<◌, ℕ, not, IfOk, IfErr, length, map, option_map};
 ghost use Rattle.std.specs.Str.{bytes_eq};
 ghost use Rattle.sqlite.specs.Held.{state};
 ghost use Rattle.sqlite.specs.State.{HasCleanDisk};
+ghost use Rattle.sqlite_value.specs.Order.{column};
 ghost use Rattle.sql_rows.specs.Calls.{StaysInside};
+ghost use Rattle.sql_rows.specs.Rows.{number_value};
+ghost use Rattle.sql_rows.specs.declared.fault.StoreFault.TheVariants.{Failed};
 ghost use Rattle.shop_model.specs.Rows.{at, lacks};
 ghost use Rattle.shop_model.specs.Books.{head, branch_with};
 ghost use Rattle.shop_schema.specs.Shop.{Reads};
-ghost use Rattle.catalogue_store.specs.Seen.{branch_caller, seen_post, post_of, withdrawn_of};
+ghost use Rattle.catalogue_store.specs.Seen.{branch_caller, seen_post, post_of, withdrawn_of, seen_terms, terms_of, title_of};
 
-use shop_schema::row_number_at;
-use shop_types::{BranchNo, CityNo, FilmNo, StaffNo, Token};
-use sql_rows::{StoreFault, flag_at, query};
+use shop_schema::{row_number_at, text_at};
+use shop_types::{BranchNo, CityNo, FilmNo, Rate, StaffNo, T128, Token};
+use sql_rows::{StoreFault, flag_at, number_at, query};
 use sqlite::types::ToSql;
-use sqlite::{Alter, Transaction};
+use sqlite::{Alter, Row, Transaction};
 
 /// Where a member of staff works, or worked before leaving.
 #[derive(Clone, Copy, Debug, PartialEq, Eq)]
@@ -20,6 +23,14 @@ pub struct StaffPost {
     pub branch: BranchNo,
     /// Whether the member of staff left.
     pub gone: bool,
+}
+
+/// By what a rental of a film is charged.
+#[derive(Clone, Copy, Debug, PartialEq, Eq)]
+pub struct FilmTerms {
+    pub rate: Rate,
+    /// For how many days it is rented.
+    pub period: u8,
 }
 
 /// The token as a text.
@@ -117,5 +128,73 @@ pub fn film_at<S: Alter>(
     match rows.first() {
         None => Ok(None),
         Some(row) => Ok(Some(flag_at(row, 0)?)),
+    }
+}
+
+/// The rate in the column, in cents.
+fn rate_at(row: &Row, at: usize) -> Result<Rate, StoreFault>
+    ensures ok { IfOk result (λ n. column row.now at ≡ number_value n) }
+    ensures failed { IfErr result (λ e. e ≡ Failed → (n : ℕ) → n ≤ 9_999 → at < length row.now → column row.now at ≢ number_value n) }
+{
+    let Ok(cents) = u16::try_from(number_at(row, at)?) else {
+        return Err(StoreFault::Failed);
+    };
+    match Rate::new(cents) {
+        Some(rate) => Ok(rate),
+        None => Err(StoreFault::Failed),
+    }
+}
+
+/// The period in the column, in days.
+fn period_at(row: &Row, at: usize) -> Result<u8, StoreFault>
+    ensures ok { IfOk result (λ n. column row.now at ≡ number_value n) }
+    ensures failed { IfErr result (λ e. e ≡ Failed → (n : ℕ) → n ≤ 255 → at < length row.now → column row.now at ≢ number_value n) }
+{
+    match u8::try_from(number_at(row, at)?) {
+        Ok(days) => Ok(days),
+        Err(_) => Err(StoreFault::Failed),
+    }
+}
+
+/// By what a rental of the film of the number is charged, where there is such a film.
+pub fn film_terms<S: Alter>(
+    tx: &mut Transaction<'_, S>,
+    film: FilmNo,
+) -> Result<Option<FilmTerms>, StoreFault>
+    ensures same_reference { tx.new.conn.ghost_name ≡ tx.old.conn.ghost_name }
+    ensures inside { StaysInside (state S.Store tx.old.conn.now) (state S.Store tx.new.conn.now) result }
+    ensures found { HasCleanDisk (state S.Store tx.new.conn.now) → IfOk result (λ terms. Reads (state S.Store tx.old.conn.now) (state S.Store tx.new.conn.now) (λ books. option_map seen_terms terms ≡ head (map terms_of (at film books.catalogue.films)))) }
+{
+    let rows = query(
+        tx,
+        "SELECT rate, period FROM film WHERE number = ?1",
+        &[film.get().to_sql()],
+    )?;
+    match rows.first() {
+        None => Ok(None),
+        Some(row) => Ok(Some(FilmTerms {
+            rate: rate_at(row, 0)?,
+            period: period_at(row, 1)?,
+        })),
+    }
+}
+
+/// The title of the film of the number, where there is such a film.
+pub fn film_title<S: Alter>(
+    tx: &mut Transaction<'_, S>,
+    film: FilmNo,
+) -> Result<Option<T128>, StoreFault>
+    ensures same_reference { tx.new.conn.ghost_name ≡ tx.old.conn.ghost_name }
+    ensures inside { StaysInside (state S.Store tx.old.conn.now) (state S.Store tx.new.conn.now) result }
+    ensures found { HasCleanDisk (state S.Store tx.new.conn.now) → IfOk result (λ title. Reads (state S.Store tx.old.conn.now) (state S.Store tx.new.conn.now) (λ books. title ≡ head (map title_of (at film books.catalogue.films)))) }
+{
+    let rows = query(
+        tx,
+        "SELECT title FROM film WHERE number = ?1",
+        &[film.get().to_sql()],
+    )?;
+    match rows.first() {
+        None => Ok(None),
+        Some(row) => Ok(Some(text_at(row, 0)?)),
     }
 }

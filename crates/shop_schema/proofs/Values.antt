@@ -19,7 +19,7 @@ use Rattle.shop_model.specs.Verdict.{Verdict, Accepted, verdict}
 use Rattle.shop_model.proofs.Soundness.{after_sound}
 use Rattle.shop_model.proofs.RowLemmas.{put_own, length_map}
 use Rattle.shop_schema.specs.Held.{IsHeld}
-use Rattle.shop_schema.specs.RowValues.{IsNumber, IsRow, IsCustomer, IsCopy, IsRental, IsLot, IsKept, IsLast, AreBytes, IsAct, IsCommand, AreValues}
+use Rattle.shop_schema.specs.RowValues.{IsNumber, IsRow, IsCustomer, IsCopy, IsRental, IsPayment, IsLot, IsKept, IsLast, AreBytes, IsAct, IsCommand, AreValues}
 use Rattle.shop_schema.specs.Steps.{FilmsFit, FitsTables, IsBuilt}
 use Rattle.shop_types.specs.Seen.{seen_act}
 use Rattle.shop_types.specs.declared.command.Act as types
@@ -35,6 +35,7 @@ held_by_sound sizes books commands copies sound values = record {
   most_kept = λ b. let few = (sound.shops b).keys in omega arith;
   most_customers = λ b. let few = (sound.shops b).keys in let fit = (sound.shops b).customers_fit in omega arith;
   most_rentals = λ b. let few = (sound.shops b).keys in let fit = (sound.shops b).rentals_fit in omega arith;
+  most_payments = λ b. let few = (sound.shops b).keys in let fit = (sound.shops b).payments_fit in omega arith;
   most_copies = λ b. let few = (sound.shops b).copies in omega arith;
 }
 
@@ -114,6 +115,10 @@ rental_reply : (n : ℕ) → n < 2 ^ 64 → IsUtf8 (object ((codes "rental", dec
 unfolding escape_byte
 rental_reply n fits = number_reply (codes "{\"rental\":") refl n fits
 
+payment_reply : (n : ℕ) → n < 2 ^ 64 → IsUtf8 (object ((codes "payment", decimal n) ∷ []))
+unfolding escape_byte
+payment_reply n fits = number_reply (codes "{\"payment\":") refl n fits
+
 returned_reply : (n : ℕ) → n < 2 ^ 64 → IsUtf8 (object ((codes "returned", decimal n) ∷ []))
 unfolding escape_byte
 returned_reply n fits = number_reply (codes "{\"returned\":") refl n fits
@@ -131,17 +136,17 @@ active_reply false n fits = number_reply (codes "{\"active\":false,\"customer\":
 small : (n : ℕ) → IsNumber n → n < 2 ^ 64
 small n is = grind (arith, nat_tests)
 
-reply_utf8 : (rules : Rules) (act : Act) (shop : Shop) → length shop.customers ≤ 1_000_000 → length shop.rentals ≤ 1_000_000 → length shop.copies ≤ 1_000_000 → IsAct act → FitsTables rules act → IsBuilt act
+reply_utf8 : (rules : Rules) (act : Act) (shop : Shop) → length shop.customers ≤ 1_000_000 → length shop.rentals ≤ 1_000_000 → length shop.payments ≤ 1_000_000 → length shop.copies ≤ 1_000_000 → IsAct act → FitsTables rules act → IsBuilt act
     → IsUtf8 (object (told rules act shop))
-reply_utf8 rules (AddCustomer person) shop customers rentals copies is fits built = customer_reply (length shop.customers + 1) (omega arith)
-reply_utf8 rules (Import lot file) shop customers rentals copies is fits built = import_reply (length (films_in (rules.stock_of file))) (length shop.copies + 1) (omega (arith, fits.1)) (omega arith)
-reply_utf8 rules (SetActive c active) shop customers rentals copies is fits built = active_reply active c (small c is)
-reply_utf8 rules (Rent c x) shop customers rentals copies is fits built = rental_reply (length shop.rentals + 1) (omega arith)
-reply_utf8 rules (TakeBack r) shop customers rentals copies is fits built = returned_reply r (small r is)
-reply_utf8 rules (Pay c rental amount) shop customers rentals copies is fits built = absurd built
-reply_utf8 rules (Dispatch to xs) shop customers rentals copies is fits built = absurd built
-reply_utf8 rules (Receive source number missing) shop customers rentals copies is fits built = absurd built
-reply_utf8 rules (Scrap x) shop customers rentals copies is fits built = scrapped_reply x (small x is)
+reply_utf8 rules (AddCustomer person) shop customers rentals payments copies is fits built = customer_reply (length shop.customers + 1) (omega arith)
+reply_utf8 rules (Import lot file) shop customers rentals payments copies is fits built = import_reply (length (films_in (rules.stock_of file))) (length shop.copies + 1) (omega (arith, fits.1)) (omega arith)
+reply_utf8 rules (SetActive c active) shop customers rentals payments copies is fits built = active_reply active c (small c is)
+reply_utf8 rules (Rent c x) shop customers rentals payments copies is fits built = rental_reply (length shop.rentals + 1) (omega arith)
+reply_utf8 rules (TakeBack r) shop customers rentals payments copies is fits built = returned_reply r (small r is)
+reply_utf8 rules (Pay c rental amount) shop customers rentals payments copies is fits built = payment_reply (length shop.payments + 1) (omega arith)
+reply_utf8 rules (Dispatch to xs) shop customers rentals payments copies is fits built = absurd built
+reply_utf8 rules (Receive source number missing) shop customers rentals payments copies is fits built = absurd built
+reply_utf8 rules (Scrap x) shop customers rentals payments copies is fits built = scrapped_reply x (small x is)
 
 -- ---- what a step is given
 
@@ -163,6 +168,7 @@ acts_built (act.Customer person) = tt
 acts_built (act.Active customer active) = tt
 acts_built (act.Rent customer copy) = tt
 acts_built (act.TakeBack rental) = tt
+acts_built (act.Pay customer rental amount) = tt
 acts_built (act.Import lot file) = tt
 acts_built (act.Scrap copy) = tt
 
@@ -239,7 +245,21 @@ acted_values rules b command (TakeBack r) books branch staff moment is held fits
       kept = v.kept;
       lasts = v.lasts;
     }
-acted_values rules b command (Pay c rental amount) books branch staff moment is held fits built = absurd built
+acted_values rules b command (Pay c rental amount) books branch staff moment is held fits built =
+    let v = held.values in
+    let few = held.most_payments b in
+    record {
+      catalogue = v.catalogue;
+      customers = v.customers;
+      copies = v.copies;
+      rentals = v.rentals;
+      payments = put_values IsPayment b (λ _. record { customer = c; staff = command.staff; rental = rental; amount = amount; paid = command.moment }) books.payments branch (omega arith)
+          (record { customer = is.0; staff = staff; rental = is.1; amount = is.2; paid = moment }) v.payments;
+      lots = v.lots;
+      consignments = v.consignments;
+      kept = v.kept;
+      lasts = v.lasts;
+    }
 acted_values rules b command (Dispatch to xs) books branch staff moment is held fits built = absurd built
 acted_values rules b command (Receive source number missing) books branch staff moment is held fits built = absurd built
 acted_values rules b command (Scrap x) books branch staff moment is held fits built =
@@ -261,7 +281,7 @@ pub values_done : (rules : Rules) (b : ℕ) (command : Command) (books : Books) 
     → AreValues (book_done rules b command books)
 values_done rules b command books branch is held fits built =
     let v = acted_values rules b command command.act books branch is.staff is.moment is.act held fits built in
-    let reply = reply_utf8 rules command.act (shop_of b books) (held.most_customers b) (held.most_rentals b) (held.most_copies b) is.act fits built in
+    let reply = reply_utf8 rules command.act (shop_of b books) (held.most_customers b) (held.most_rentals b) (held.most_payments b) (held.most_copies b) is.act fits built in
     record {
       catalogue = v.catalogue;
       customers = v.customers;

@@ -17,4 +17,5 @@ pub record IsHeld (books : Books) : Type 0 where
   pub most_kept : (b : ℕ) → length (shop_of b books).kept ≤ 1_000_000
   pub most_customers : (b : ℕ) → length (shop_of b books).customers ≤ 1_000_000
   pub most_rentals : (b : ℕ) → length (shop_of b books).rentals ≤ 1_000_000
+  pub most_payments : (b : ℕ) → length (shop_of b books).payments ≤ 1_000_000
   pub most_copies : (b : ℕ) → length (shop_of b books).copies ≤ 1_000_000

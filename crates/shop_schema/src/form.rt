@@ -1,10 +1,10 @@
 //! The stored form of commands.
 
 ghost use Rattle.std.specs.Prelude.{◌≡◌, ◌<◌, ◌^◌, ◌++◌, length, IfOk, OnOk};
-ghost use Rattle.shop_schema.specs.Forms.{number_form, text_form, person_form, act_form, command_form};
+ghost use Rattle.shop_schema.specs.Forms.{number_form, text_form, option_form, person_form, act_form, command_form};
 ghost use Rattle.shop_types.specs.Seen.{seen_person, seen_act, seen_command};
 
-use shop_types::{Act, Command, NoMemory, Person};
+use shop_types::{Act, Command, NoMemory, Person, RentalNo};
 use sql_rows::Bytes;
 use std::alloc::Global;
 
@@ -49,6 +49,19 @@ fn add_person(form: &mut Vec<u8>, person: &Person) -> Result<(), NoMemory>
     add_number(form, person.city.get())
 }
 
+/// How many there are, none or one, and then the number.
+fn add_rental(form: &mut Vec<u8>, rental: Option<RentalNo>) -> Result<(), NoMemory>
+    ensures { OnOk result (form.new.items ≡ form.old.items ++ option_form rental) }
+{
+    match rental {
+        Some(number) => {
+            add_number(form, 1)?;
+            add_number(form, number.get())
+        }
+        None => add_number(form, 0),
+    }
+}
+
 fn add_act(form: &mut Vec<u8>, act: &Act) -> Result<(), NoMemory>
     ensures { OnOk result (form.new.items ≡ form.old.items ++ act_form (seen_act act.now)) }
 {
@@ -71,6 +84,16 @@ fn add_act(form: &mut Vec<u8>, act: &Act) -> Result<(), NoMemory>
         Act::TakeBack(rental) => {
             form.extend_from_slice(&[4])?;
             add_number(form, rental.get())
+        }
+        Act::Pay {
+            customer,
+            rental,
+            amount,
+        } => {
+            form.extend_from_slice(&[5])?;
+            add_number(form, customer.get())?;
+            add_rental(form, *rental)?;
+            add_number(form, amount.get())
         }
         Act::Import { lot, file } => {
             form.extend_from_slice(&[6])?;

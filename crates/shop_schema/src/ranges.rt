@@ -36,6 +36,17 @@ fn act_values(act: &Act)
         Act::TakeBack(rental) => {
             let _rental = rental.get();
         }
+        Act::Pay {
+            customer,
+            rental,
+            amount,
+        } => {
+            let _customer = customer.get();
+            if let Some(number) = rental {
+                let _rental = number.get();
+            }
+            let _amount = amount.get();
+        }
         Act::Import { lot, file } => {
             let _lot = lot.as_str();
             bytes_values(file.as_slice());

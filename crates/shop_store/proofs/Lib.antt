@@ -1,4 +1,5 @@
 pub mod Rising
+pub mod LastNumbers
 pub mod CustomerTexts
 pub mod CustomerReads
 pub mod CopyTexts
@@ -7,3 +8,5 @@ pub mod BranchTexts
 pub mod KeptTexts
 pub mod RentalTexts
 pub mod RentalReads
+pub mod PaymentTexts
+pub mod PaymentReads

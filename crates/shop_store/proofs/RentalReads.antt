@@ -1,6 +1,6 @@
 -- What the texts of rentals say of the books.
-use Rattle.std.proofs.Common.{◌≡◌, ◌==◌, ◌≤◌, ◌+◌, ℕ, List, [], ◌∷◌, ◌++◌, map, filter, length, Ok, Err, Result, refl, sym, ap, subst, ◌∙◌, arith}
-use Rattle.std.specs.Prelude.{⊤, Vec, IfOk, IfSome, Option, Some, None, take, slice_get, option_map}
+use Rattle.std.proofs.Common.{◌≡◌, ◌==◌, ◌≤◌, ◌+◌, ℕ, Bool, List, [], ◌∷◌, ◌++◌, map, filter, length, Ok, Err, Result, refl, sym, ap, subst, ◌∙◌, arith}
+use Rattle.std.specs.Prelude.{⊤, Vec, IfOk, IfSome, Option, Some, None, is_none, take, slice_get, option_map}
 use Rattle.std.specs.Option.{option_to_list}
 use Rattle.std.specs.List.{AllByRecursion}
 use Rattle.std.specs.declared.alloc.Global.{Global}
@@ -13,11 +13,10 @@ use Rattle.sqlite_keyed.proofs.ListLemmas.{map-map, all-filter}
 use Rattle.sql_rows.specs.Rows.{by, Differ, number_value, PicksOne}
 use Rattle.sql_rows.specs.declared.fault.StoreFault.{StoreFault}
 use Rattle.sql_rows.proofs.Bags.{length-map}
-use Rattle.sql_rows.proofs.Last.{ending}
 use Rattle.sql_rows.proofs.OfKind.{unmapped_kind, all_in_order}
 use Rattle.sql_rows.proofs.Projects.{still_holds, writes_by}
 use Rattle.shop_model.specs.Calendar.{Moment}
-use Rattle.shop_model.specs.Rows.{Row, is_of, is_row, of, at, set_row, IsCounted, AreNumbered}
+use Rattle.shop_model.specs.Rows.{Row, is_of, is_row, of, at, set_row}
 use Rattle.shop_model.specs.Values.{Rental}
 use Rattle.shop_model.specs.Books.{Books}
 use Rattle.shop_model.proofs.RowLemmas.{row_at}
@@ -31,8 +30,9 @@ use Rattle.shop_schema.proofs.SameRows.{same_rental}
 use Rattle.shop_schema.proofs.Lists.{picks_row}
 use Rattle.shop_store.specs.Seen.{seen_rental_row}
 use Rattle.shop_store.specs.declared.rentals.RentalRow.{RentalRow}
-use Rattle.shop_store.proofs.Rising.{Rise, rise_ascending, counted_rise, filter_rise, rise_differ, rise_sorted, filter_twice, map_filter}
-use Rattle.shop_store.proofs.RentalTexts.{insert_rental, puts_rental, select_rental, select_means, shows_rental, is_of_copy, select_of_copy, of_copy_means, shows_of_copy, select_last, last_means, shows_last, update_returned, sets_returned}
+use Rattle.shop_store.proofs.Rising.{rise_ascending, counted_rise, of_which, which_differ, which_order}
+use Rattle.shop_store.proofs.LastNumbers.{last_of, none_last, some_last}
+use Rattle.shop_store.proofs.RentalTexts.{insert_rental, puts_rental, select_rental, select_means, shows_rental, select_of_copy, of_copy_means, shows_of_copy, select_of_customer, of_customer_means, shows_of_customer, select_open, open_means, shows_open, select_last, last_means, shows_last, update_returned, sets_returned}
 
 all_seen : (P : Row Rental → Type 0) (xs : List RentalRow) → AllByRecursion (λ x. P (seen_rental_row x)) xs → AllByRecursion P (map seen_rental_row xs)
 all_seen P [] h = tt
@@ -51,38 +51,44 @@ option_list : {X Y : Type 0} (f : X → Y) (o : Option X) → option_to_list (op
 option_list f None = refl
 option_list f (Some x) = refl
 
--- ---- a copy's rentals, in order of number
+-- ---- a branch's rentals that pass a test, in order of number
 
-module _ (b x : ℕ) (rows : List (Row Rental)) (counted : AreNumbered (is_of b) (λ row. row.number) rows) where
-  split : filter (is_of_copy b x) rows ≡ filter (λ (row : Row Rental). row.it.copy == x) (filter (is_of b) rows)
-  split = filter_twice (is_of b) (λ (row : Row Rental). row.it.copy == x) rows
-
-  of_copy_rise : Rise (filter (is_of_copy b x) rows)
-  of_copy_rise = subst Rise (sym split) (filter_rise (λ (row : Row Rental). row.it.copy == x) (filter (is_of b) rows) (counted_rise 1 (filter (is_of b) rows) counted))
-
-  of_copy_differ : Differ (λ (row : Row Rental). row.number) (filter (is_of_copy b x) rows)
-  of_copy_differ = rise_differ (filter (is_of_copy b x) rows) of_copy_rise
-
-  -- in order of number they are the branch's of the copy
-  of_copy_order : map (λ (row : Row Rental). row.it) (sort_by (by (λ (row : Row Rental). row.number)) (filter (is_of_copy b x) rows)) ≡ filter (λ (it : Rental). it.copy == x) (of b rows)
-  of_copy_order =
-      ap (map (λ (row : Row Rental). row.it)) (rise_sorted (filter (is_of_copy b x) rows) of_copy_rise ∙ split)
-      ∙ map_filter (λ (row : Row Rental). row.it) (λ (it : Rental). it.copy == x) (filter (is_of b) rows)
+read_which : (test : Rental → Bool) (old new : State) (b : ℕ) (rows seen : List sql.Row) (r : Result (Vec RentalRow Global) StoreFault) → ((books : Books) → Holds old books → Holds new books)
+    → ((books : Books) → Holds old books → Differ (λ (row : Row Rental). row.number) (filter (of_which test b) books.rentals) → rows ≡ map rental_columns (sort_by (by (λ row. row.number)) (filter (of_which test b) books.rentals)))
+    → seen ≡ rows → IfOk r (λ all. map (λ y. rental_columns (seen_rental_row y)) all.items ≡ seen) → IfOk r (λ all. AllByRecursion (λ y. IsRow IsRental (seen_rental_row y)) all.items)
+    → IfOk r (λ all. Reads old new (λ books. map (λ y. seen_rental y.rental) all.items ≡ filter test (of b books.rentals)))
+read_which test old new b rows seen (Err e) still shows same read kinds = tt
+read_which test old new b rows seen (Ok all) still shows same read kinds = λ books holds held.
+    let number : Row Rental → ℕ = λ row. row.number in
+    let counted = held.numbers.rentals b in
+    let found = shows books holds (which_differ test b books.rentals counted) in
+    let one : map seen_rental_row all.items ≡ sort_by (by number) (filter (of_which test b) books.rentals) =
+    unmapped_kind rental_columns (IsRow IsRental) same_rental _ _ (all_seen (IsRow IsRental) all.items kinds) (all_in_order (IsRow IsRental) number (of_which test b) books.rentals held.values.rentals)
+    (map-map rental_columns seen_rental_row all.items ∙ read ∙ same ∙ found) in (
+      still books holds,
+      sym (map-map (λ (row : Row Rental). row.it) seen_rental_row all.items) ∙ ap (map (λ (row : Row Rental). row.it)) one ∙ which_order test b books.rentals counted,
+    )
 
 pub read_of_copy : (old new : State) (b x : ℕ) (rows seen : List sql.Row) (r : Result (Vec RentalRow Global) StoreFault) → Shown select_of_copy (number_value b ∷ number_value x ∷ []) old new rows → seen ≡ rows
     → IfOk r (λ all. map (λ y. rental_columns (seen_rental_row y)) all.items ≡ seen) → IfOk r (λ all. AllByRecursion (λ y. IsRow IsRental (seen_rental_row y)) all.items)
     → IfOk r (λ all. Reads old new (λ books. map (λ y. seen_rental y.rental) all.items ≡ filter (λ (it : Rental). it.copy == x) (of b books.rentals)))
-read_of_copy old new b x rows seen (Err e) h same read kinds = tt
-read_of_copy old new b x rows seen (Ok all) h same read kinds = λ books holds held.
-    let number : Row Rental → ℕ = λ row. row.number in
-    let counted = held.numbers.rentals b in
-    let found = shows_of_copy old new b x rows books holds.schema_is h holds.stands (of_copy_differ b x books.rentals counted) in
-    let one : map seen_rental_row all.items ≡ sort_by (by number) (filter (is_of_copy b x) books.rentals) =
-    unmapped_kind rental_columns (IsRow IsRental) same_rental _ _ (all_seen (IsRow IsRental) all.items kinds) (all_in_order (IsRow IsRental) number (is_of_copy b x) books.rentals held.values.rentals)
-    (map-map rental_columns seen_rental_row all.items ∙ read ∙ same ∙ found) in (
-      still_holds shop_schema StandsFor select_of_copy _ old new of_copy_means.plain rows h books holds,
-      sym (map-map (λ (row : Row Rental). row.it) seen_rental_row all.items) ∙ ap (map (λ (row : Row Rental). row.it)) one ∙ of_copy_order b x books.rentals counted,
-    )
+read_of_copy old new b x rows seen r h =
+    read_which (λ it. it.copy == x) old new b rows seen r (still_holds shop_schema StandsFor select_of_copy _ old new of_copy_means.plain rows h)
+    (λ books holds. shows_of_copy old new b x rows books holds.schema_is h holds.stands)
+
+pub read_of_customer : (old new : State) (b c : ℕ) (rows seen : List sql.Row) (r : Result (Vec RentalRow Global) StoreFault) → Shown select_of_customer (number_value b ∷ number_value c ∷ []) old new rows → seen ≡ rows
+    → IfOk r (λ all. map (λ y. rental_columns (seen_rental_row y)) all.items ≡ seen) → IfOk r (λ all. AllByRecursion (λ y. IsRow IsRental (seen_rental_row y)) all.items)
+    → IfOk r (λ all. Reads old new (λ books. map (λ y. seen_rental y.rental) all.items ≡ filter (λ (it : Rental). it.customer == c) (of b books.rentals)))
+read_of_customer old new b c rows seen r h =
+    read_which (λ it. it.customer == c) old new b rows seen r (still_holds shop_schema StandsFor select_of_customer _ old new of_customer_means.plain rows h)
+    (λ books holds. shows_of_customer old new b c rows books holds.schema_is h holds.stands)
+
+pub read_open : (old new : State) (b : ℕ) (rows seen : List sql.Row) (r : Result (Vec RentalRow Global) StoreFault) → Shown select_open (number_value b ∷ []) old new rows → seen ≡ rows
+    → IfOk r (λ all. map (λ y. rental_columns (seen_rental_row y)) all.items ≡ seen) → IfOk r (λ all. AllByRecursion (λ y. IsRow IsRental (seen_rental_row y)) all.items)
+    → IfOk r (λ all. Reads old new (λ books. map (λ y. seen_rental y.rental) all.items ≡ filter (λ (it : Rental). is_none it.returned) (of b books.rentals)))
+read_open old new b rows seen r h =
+    read_which (λ it. is_none it.returned) old new b rows seen r (still_holds shop_schema StandsFor select_open _ old new open_means.plain rows h)
+    (λ books holds. shows_open old new b rows books holds.schema_is h holds.stands)
 
 pub read_rental : (old new : State) (b n : ℕ) (rows seen : List sql.Row) (r : Result (Option RentalRow) StoreFault) → Shown select_rental (number_value b ∷ number_value n ∷ []) old new rows → seen ≡ rows
     → IfOk r (λ o. map (λ x. rental_columns (seen_rental_row x)) (option_to_list o) ≡ take 1 seen) → IfOk r (λ o. IfSome o (λ x. IsRow IsRental (seen_rental_row x)))
@@ -102,26 +108,6 @@ read_rental old new b n rows seen (Ok o) h same read kind = λ books holds held.
     )
 
 -- ---- the last number
-
-abbrev last_of : List (Row Rental) → List sql.Row
-last_of ys = map (λ c. number_value c.number ∷ []) (ending ys)
-
-none_last : (ys : List (Row Rental)) → slice_get (last_of ys) 0 ≡ None → length ys ≡ 0
-none_last [] e = refl
-none_last (y ∷ []) e = cc
-none_last (y ∷ z ∷ ys) e = let more : length (z ∷ ys) ≡ 0 = none_last (z ∷ ys) e in absurd (omega (arith, more))
-
-same_number : (m n : ℕ) → number_value m ≡ number_value n → m ≡ n
-same_number m n e = cc
-
--- where numbers are counted from k, the last tells how many there are
-some_last : (k : ℕ) (ys : List (Row Rental)) (row : sql.Row) (n : ℕ) → IsCounted k (map (λ (c : Row Rental). c.number) ys) → slice_get (last_of ys) 0 ≡ Some row → column row 0 ≡ number_value n → n + 1 ≡ k + length ys
-some_last k [] row n counted e is = cc
-some_last k (y ∷ []) row n counted e is =
-    let shown : number_value y.number ∷ [] ≡ row = cc in
-    let same : n ≡ y.number = same_number n y.number (sym is ∙ ap (λ r. column r 0) (sym shown)) in
-    omega (arith, same, counted.0)
-some_last k (y ∷ z ∷ ys) row n counted e is = let more : n + 1 ≡ k + 1 + length (z ∷ ys) = some_last (k + 1) (z ∷ ys) row n counted.1 e is in omega (arith, more)
 
 -- what the first row tells
 pub read_last : (old new : State) (b : ℕ) (rows : List sql.Row) → Shown select_last (number_value b ∷ []) old new rows

@@ -1,13 +1,16 @@
 -- The texts of rentals.
-use Rattle.std.proofs.Common.{◌≡◌, ◌==◌, ◌&&◌, ◌<◌, ℕ, List, [], ◌∷◌, ◌++◌, codes, map, filter, Bool, true, Ok, None, Some, Option, refl, sym, subst}
-use Rattle.std.specs.Prelude.{⊤}
+use Rattle.std.proofs.Common.{◌≡◌, ◌==◌, ◌&&◌, ◌<◌, ℕ, List, [], ◌∷◌, ◌++◌, codes, map, filter, Bool, true, Ok, None, Some, Option, is_eq, refl, sym, ap, subst, ◌∙◌, arith}
+use Rattle.std.specs.Prelude.{⊤, is_none}
 use Rattle.sqlite.specs.declared.types.Value.TheVariants.{Null}
+use Rattle.sqlite.specs.Values.{or_null}
 use Rattle.sqlite_value.specs.Order as sql
 use Rattle.sqlite_value.specs.Order.{column}
 use Rattle.sqlite_value.specs.Keys.{ascending}
 use Rattle.sqlite_value.specs.declared.keys.Collation.TheVariants.{Binary}
+use Rattle.sqlite_value.proofs.OrderLemmas.{value_cmp-Null, value_cmp-apart}
 use Rattle.sqlite_sql.specs.Term.{Term, lit, col, op2}
-use Rattle.sqlite_sql.specs.declared.ops.BinaryOp.TheVariants.{Compare}
+use Rattle.sqlite_sql.specs.Ops.{binary, is_true}
+use Rattle.sqlite_sql.specs.declared.ops.BinaryOp.TheVariants.{Compare, Is}
 use Rattle.sqlite_sql.specs.declared.ops.CompareOp.TheVariants.{Eq}
 use Rattle.sqlite.specs.Source.TheVariants.{Values}
 use Rattle.sqlite.specs.Command.TheVariants.{Insert, Update}
@@ -19,7 +22,7 @@ use Rattle.sqlite_keyed.specs.Lists.{update_where, sort_by}
 use Rattle.sql_rows.specs.Builds.{Means}
 use Rattle.sql_rows.specs.Rows.{HasRows, by, Differ, PicksOne, number_value}
 use Rattle.sql_rows.proofs.Appends.{map_push, are_kept}
-use Rattle.sql_rows.proofs.Queries.{Selects, plain_query}
+use Rattle.sql_rows.proofs.Queries.{Selects, plain_query, truth_of}
 use Rattle.sql_rows.proofs.ColumnTests.{number_test, number_tested, one_tested, two_tested}
 use Rattle.sql_rows.proofs.Last.{ending, first_query, descending, projects_last}
 use Rattle.sql_rows.proofs.Steps.{puts_row, selects_one, selects_sorted, sets_row}
@@ -32,6 +35,7 @@ use Rattle.shop_schema.specs.Columns.{rental_columns, moment_value}
 use Rattle.shop_schema.specs.Shop.{StandsFor, IsShop, Changes}
 use Rattle.shop_schema.proofs.Stands.{with_rentals}
 use Rattle.shop_store.proofs.CustomerTexts.{of_one, of_two}
+use Rattle.shop_store.proofs.Rising.{of_which}
 
 abbrev pub insert_rental : List ℕ
 insert_rental = codes "INSERT INTO rental (branch, number, moment, copy, customer, returned, staff) VALUES (?1, ?2, ?3, ?4, ?5, ?6, ?7)"
@@ -83,7 +87,7 @@ abbrev pub of_copy : List Term
 of_copy = op2 (Compare Eq Binary) (col 1 1) (col 0 0) ∷ op2 (Compare Eq Binary) (col 1 4) (col 0 1) ∷ []
 
 abbrev pub is_of_copy : ℕ → ℕ → Row Rental → Bool
-is_of_copy b x row = is_of b row && row.it.copy == x
+is_of_copy b x = of_which (λ (it : Rental). it.copy == x) b
 
 abbrev pub select_of_copy : List ℕ
 select_of_copy = codes "SELECT branch, number, moment, copy, customer, returned, staff FROM rental WHERE branch = ?1 AND copy = ?2 ORDER BY number"
@@ -100,6 +104,61 @@ pub shows_of_copy : (old new : State) (b x : ℕ) (rows : List sql.Row) (books :
 shows_of_copy old new b x rows books has h s apart =
     selects_sorted shop_schema select_of_copy 27 7 of_copy shown_7 1 of_copy_means (number_value b ∷ number_value x ∷ []) old new rows has h rental_columns books.rentals s.rentals refl
     (λ vs. number_test 0 b vs && (number_test 3 x vs && true)) (is_of_copy b x) (copy_test b x) (λ r. refl) (λ c. c.number) (λ c. refl) apart
+
+abbrev pub of_customer : List Term
+of_customer = op2 (Compare Eq Binary) (col 1 1) (col 0 0) ∷ op2 (Compare Eq Binary) (col 1 5) (col 0 1) ∷ []
+
+abbrev pub is_of_customer : ℕ → ℕ → Row Rental → Bool
+is_of_customer b n = of_which (λ (it : Rental). it.customer == n) b
+
+abbrev pub select_of_customer : List ℕ
+select_of_customer = codes "SELECT branch, number, moment, copy, customer, returned, staff FROM rental WHERE branch = ?1 AND customer = ?2 ORDER BY number"
+
+pub of_customer_means : Selects shop_schema select_of_customer (plain_query 27 of_customer shown_7 ((col 1 2, ascending Binary) ∷ []))
+unfolding understood everything
+of_customer_means = record { names = _; is = refl; plain = (refl, refl); unlisted = refl }
+
+customer_test : (b n : ℕ) (c : Row Rental) → (number_test 0 b (rental_columns c) && (number_test 4 n (rental_columns c) && true)) ≡ is_of_customer b n c
+customer_test b n c = two_tested _ _ (number_tested c.branch b) (number_tested c.it.customer n)
+
+pub shows_of_customer : (old new : State) (b n : ℕ) (rows : List sql.Row) (books : Books) → IsShop old → Shown select_of_customer (number_value b ∷ number_value n ∷ []) old new rows → StandsFor old.now.trees books
+    → Differ (λ (row : Row Rental). row.number) (filter (is_of_customer b n) books.rentals) → rows ≡ map rental_columns (sort_by (by (λ row. row.number)) (filter (is_of_customer b n) books.rentals))
+shows_of_customer old new b n rows books has h s apart =
+    selects_sorted shop_schema select_of_customer 27 7 of_customer shown_7 1 of_customer_means (number_value b ∷ number_value n ∷ []) old new rows has h rental_columns books.rentals s.rentals refl
+    (λ vs. number_test 0 b vs && (number_test 4 n vs && true)) (is_of_customer b n) (customer_test b n) (λ r. refl) (λ c. c.number) (λ c. refl) apart
+
+-- ---- open rentals
+
+abbrev pub of_open : List Term
+of_open = op2 (Compare Eq Binary) (col 1 1) (col 0 0) ∷ op2 (Is Binary) (col 1 6) (lit Null) ∷ []
+
+abbrev pub is_open_of : ℕ → Row Rental → Bool
+is_open_of b = of_which (λ (it : Rental). is_none it.returned) b
+
+abbrev pub select_open : List ℕ
+select_open = codes "SELECT branch, number, moment, copy, customer, returned, staff FROM rental WHERE branch = ?1 AND returned IS NULL ORDER BY number"
+
+pub open_means : Selects shop_schema select_open (plain_query 27 of_open shown_7 ((col 1 2, ascending Binary) ∷ []))
+unfolding understood everything
+open_means = record { names = _; is = refl; plain = (refl, refl); unlisted = refl }
+
+-- `column IS NULL`, as WHERE has it
+abbrev null_test : ℕ → sql.Row → Bool
+null_test at vs = is_true (binary (Is Binary) (column vs at) Null)
+
+null_tested : (o : Option Moment) → is_true (binary (Is Binary) (or_null moment_value o) Null) ≡ is_none o
+unfolding binary
+null_tested None = truth_of _ ∙ ap is_eq (value_cmp-Null Null)
+null_tested (Some moment) = truth_of _ ∙ ap is_eq (value_cmp-apart (moment_value moment) Null (λ e. omega (arith, e)))
+
+open_test : (b : ℕ) (c : Row Rental) → (number_test 0 b (rental_columns c) && (null_test 5 (rental_columns c) && true)) ≡ is_open_of b c
+open_test b c = two_tested _ _ (number_tested c.branch b) (null_tested c.it.returned)
+
+pub shows_open : (old new : State) (b : ℕ) (rows : List sql.Row) (books : Books) → IsShop old → Shown select_open (number_value b ∷ []) old new rows → StandsFor old.now.trees books
+    → Differ (λ (row : Row Rental). row.number) (filter (is_open_of b) books.rentals) → rows ≡ map rental_columns (sort_by (by (λ row. row.number)) (filter (is_open_of b) books.rentals))
+shows_open old new b rows books has h s apart =
+    selects_sorted shop_schema select_open 27 7 of_open shown_7 1 open_means (number_value b ∷ []) old new rows has h rental_columns books.rentals s.rentals refl
+    (λ vs. number_test 0 b vs && (null_test 5 vs && true)) (is_open_of b) (open_test b) (λ r. refl) (λ c. c.number) (λ c. refl) apart
 
 abbrev pub select_last : List ℕ
 select_last = codes "SELECT number FROM rental WHERE branch = ?1 ORDER BY number DESC LIMIT 1"

@@ -1,5 +1,5 @@
 -- Some of a branch's rows, in order of number.
-use Rattle.std.proofs.Common.{◌≡◌, ◌≢◌, ◌&&◌, ◌<◌, ◌+◌, ℕ, List, [], ◌∷◌, map, filter, Bool, true, false, cond, inl, inr, refl, ap, ◌∙◌, arith}
+use Rattle.std.proofs.Common.{◌≡◌, ◌≢◌, ◌&&◌, ◌<◌, ◌+◌, ℕ, List, [], ◌∷◌, map, filter, Bool, true, false, cond, inl, inr, refl, sym, ap, subst, ◌∙◌, arith}
 use Rattle.std.specs.Prelude.{⊤}
 use Rattle.std.specs.Ordering.{is_gt}
 use Rattle.std.specs.List.{AllByRecursion}
@@ -9,7 +9,7 @@ use Rattle.sqlite_trees.specs.Tree.{IsAscending}
 use Rattle.sqlite_keyed.specs.Lists.{sort_by, insert_sorted}
 use Rattle.sqlite_keyed.proofs.ListLemmas.{all-filter}
 use Rattle.sql_rows.specs.Rows.{by, Differ}
-use Rattle.shop_model.specs.Rows.{Row, IsCounted}
+use Rattle.shop_model.specs.Rows.{Row, is_of, of, IsCounted, AreNumbered}
 
 abbrev pub Rise : {A : Type 0} → List (Row A) → Type 0
 Rise [] = ⊤
@@ -70,3 +70,24 @@ map_filter f q (x ∷ xs) = go (q (f x)) (map_filter f q xs)
         → map f (cond b (x ∷ filter (λ y. q (f y)) xs) (filter (λ y. q (f y)) xs)) ≡ cond b (f x ∷ filter q (map f xs)) (filter q (map f xs))
     go true more = ap (λ l. f x ∷ l) more
     go false more = more
+
+-- ---- a branch's rows that pass a test
+
+abbrev pub of_which : {A : Type 0} → (A → Bool) → ℕ → Row A → Bool
+of_which test b row = is_of b row && test row.it
+
+module _ {A : Type 0} (test : A → Bool) (b : ℕ) (rows : List (Row A)) (counted : AreNumbered (is_of b) (λ row. row.number) rows) where
+  split : filter (of_which test b) rows ≡ filter (λ (row : Row A). test row.it) (filter (is_of b) rows)
+  split = filter_twice (is_of b) (λ (row : Row A). test row.it) rows
+
+  which_rise : Rise (filter (of_which test b) rows)
+  which_rise = subst Rise (sym split) (filter_rise (λ (row : Row A). test row.it) (filter (is_of b) rows) (counted_rise 1 (filter (is_of b) rows) counted))
+
+  pub which_differ : Differ (λ (row : Row A). row.number) (filter (of_which test b) rows)
+  which_differ = rise_differ (filter (of_which test b) rows) which_rise
+
+  -- in order of number they are those of the branch that pass
+  pub which_order : map (λ (row : Row A). row.it) (sort_by (by (λ (row : Row A). row.number)) (filter (of_which test b) rows)) ≡ filter test (of b rows)
+  which_order =
+      ap (map (λ (row : Row A). row.it)) (rise_sorted (filter (of_which test b) rows) which_rise ∙ split)
+      ∙ map_filter (λ (row : Row A). row.it) test (filter (is_of b) rows)
