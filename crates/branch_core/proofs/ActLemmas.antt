@@ -1,17 +1,17 @@
--- Refusals of commands on a customer, a copy or a rental, by what was found of it.
+-- Refusals of commands on a customer, a copy, a rental or a payment, by what was found of it.
 use Rattle.std.proofs.Common.{◌≡◌, ◌⊎◌, refl, sym, ap, ◌∙◌, inl, inr, ℕ, ◌-◌, Bool, true, false, not, List, [], ◌∷◌, map, filter, Option, Some, None}
 use Rattle.std.specs.Prelude.{◌==◌, ◌&&◌, ◌||◌, is_some}
 use Rattle.std.specs.List.{list_any}
 use Rattle.std.proofs.lemmas.Bool.{cases_Bool}
 use Rattle.shop_model.specs.Calendar.{Moment, same_moment}
-use Rattle.shop_model.specs.Rows.{at}
-use Rattle.shop_model.specs.Values.{Copy, Customer, Rental, SetActive, Rent, TakeBack, Scrap, Rules}
+use Rattle.shop_model.specs.Rows.{at, lacks}
+use Rattle.shop_model.specs.Values.{Copy, Customer, Rental, SetActive, Rent, TakeBack, Pay, Scrap, Rules}
 use Rattle.shop_model.specs.Shop.{Catalogue, Shop, same_flag}
 use Rattle.shop_model.specs.Stock.{is_here, keeps_out, in_stock}
 use Rattle.shop_model.specs.Refusals.{NoCustomer, NoCopy, CopyNotHere, CopyOut, FilmWithdrawn, SameMoment, Already}
 use Rattle.shop_model.specs.Verdict.{Verdict, Refused, Accepted, first, act_refusals, is_film_withdrawn}
 use Rattle.shop_model.specs.Books.{head}
-use Rattle.branch_core.specs.Agreed.{active_at, copy_at}
+use Rattle.branch_core.specs.Agreed.{active_at, copy_at, renter_at}
 
 -- there is one row of a number at most
 at_one : {A : Type 0} (n : ℕ) (rows : List A) → (at n rows ≡ []) ⊎ ((x : A) × (at n rows ≡ x ∷ []))
@@ -83,6 +83,20 @@ same_of_copy moment x c of_copy rentals is =
 pub return_open : (rules : Rules) (b : ℕ) (catalogue : Catalogue) (shop : Shop) (moment : Moment) (r : ℕ) → Some false ≡ head (map (λ (it : Rental). is_some it.returned) (at r shop.rentals))
     → Some Accepted ≡ Some (first (act_refusals rules b catalogue shop moment (TakeBack r)))
 return_open rules b catalogue shop moment r is = let one = found_some (λ (it : Rental). is_some it.returned) r shop.rentals false is in rw (one.1, one.2) refl
+
+-- ---- paying
+
+is_there : (lack : Bool) → true ≡ not lack → lack ≡ false
+is_there true is = is
+is_there false is = refl
+
+-- a payment of a rental by the customer who made it
+pub pay_own : (rules : Rules) (b : ℕ) (catalogue : Catalogue) (shop : Shop) (moment : Moment) (c r amount renter : ℕ) (has : Bool) → has ≡ not (lacks shop.customers c) → has ≡ true
+    → Some renter ≡ renter_at shop r → (renter == c) ≡ true → Some Accepted ≡ Some (first (act_refusals rules b catalogue shop moment (Pay c (Some r) amount)))
+pay_own rules b catalogue shop moment c r amount renter has is so found own =
+    let one = found_some (λ (it : Rental). it.customer) r shop.rentals renter found in
+    let same : (one.0.customer == c) ≡ true = ap (λ (n : ℕ). n == c) one.2 ∙ own in
+    rw (is_there (lacks shop.customers c) (sym so ∙ is), one.1, same) refl
 
 -- ---- scrapping
 

@@ -1,12 +1,12 @@
 -- When what was found is what a catalogue and a shop have of the rows that a command names.
-use Rattle.std.specs.Prelude.{◌≡◌, ⊤, ℕ, ◌==◌, ◌&&◌, ◌≤◌, Bool, Option, is_some, not, List, map, filter, length, replicate, flat_map, sum_by, option_map, Result, Ok, Err, IfOk}
+use Rattle.std.specs.Prelude.{◌≡◌, ⊤, ℕ, ◌==◌, ◌&&◌, ◌≤◌, Bool, Option, is_some, not, List, map, filter, length, replicate, flat_map, sum_by, option_map, IfSome, Result, Ok, Err, IfOk}
 use Rattle.std.specs.List.{All, list_any}
 use Rattle.std.specs.Str.{bytes_eq}
 use Rattle.std.specs.declared.alloc.Global.{Global}
 use Rattle.std.specs.declared.vec.Vec.{Vec}
 use Rattle.shop_model.specs.Rows.{at, lacks, numbered}
 use Rattle.shop_model.specs.Values as model
-use Rattle.shop_model.specs.Values.{Text, Person, Staff, Customer, Copy, Act, AddCustomer, SetActive, Rent, TakeBack, Import, Scrap, Command, Stock, Copies, BadLine, Rules}
+use Rattle.shop_model.specs.Values.{Text, Person, Staff, Customer, Copy, Act, AddCustomer, SetActive, Rent, TakeBack, Pay, Import, Scrap, Command, Stock, Copies, BadLine, Rules}
 use Rattle.shop_model.specs.Stock.{is_here, in_stock}
 use Rattle.shop_model.specs.Shop.{Kept, Catalogue, Shop, same_command, same_flag}
 use Rattle.shop_model.specs.Verdict.{is_film_withdrawn}
@@ -97,12 +97,23 @@ pub record ScrapAgrees (shop : Shop) (x : ℕ) (found : Option Bool) (of_copy : 
   pub copy_is : found ≡ head (map is_here (at x shop.copies))
   pub of_copy_are : AreOfCopy shop x of_copy
 
+-- whose rental it is
+abbrev pub renter_at : Shop → ℕ → Option ℕ
+renter_at shop r = head (map (λ (it : model.Rental). it.customer) (at r shop.rentals))
+
+-- where no rental is named, any renter will do
+pub record PayAgrees (shop : Shop) (c : ℕ) (rental : Option ℕ) (has_customer : Bool) (renter : Option ℕ) (payments : ℕ) : Type 0 where
+  pub customer : has_customer ≡ not (lacks shop.customers c)
+  pub renter_is : IfSome rental (λ r. renter ≡ renter_at shop r)
+  pub count : payments ≡ length shop.payments
+
 -- what is found for another act agrees with nothing
 abbrev pub ActAgrees : Rules → Catalogue → Shop → Act → ActFound → Type 0
 ActAgrees rules catalogue shop (AddCustomer person) (found.Customer has_city customers) = CustomerAgrees catalogue shop person has_city customers
 ActAgrees rules catalogue shop (SetActive c active) (found.Active is_active) = is_active ≡ active_at c shop
 ActAgrees rules catalogue shop (Rent c x) (found.Rent is_active copy of_copy rentals) = RentAgrees catalogue shop c x is_active copy of_copy rentals
 ActAgrees rules catalogue shop (TakeBack r) (found.TakeBack is_returned) = is_returned ≡ head (map (λ (it : model.Rental). is_some it.returned) (at r shop.rentals))
+ActAgrees rules catalogue shop (Pay c rental amount) (found.Pay has_customer renter payments) = PayAgrees shop c rental has_customer renter payments
 ActAgrees rules catalogue shop (Scrap x) (found.Scrap is_here of_copy) = ScrapAgrees shop x is_here of_copy
 ActAgrees rules catalogue shop (Import lot file) (found.Import copies has_lot stock) = ImportAgrees rules catalogue shop lot file copies has_lot stock
 ActAgrees rules catalogue shop act it = ⊥
@@ -139,6 +150,7 @@ IsFoundFor (asked.Customer person) (found.Customer has_city customers) = ⊤
 IsFoundFor (asked.Active customer active) (found.Active is_active) = ⊤
 IsFoundFor (asked.Rent customer copy) (found.Rent is_active it of_copy rentals) = ⊤
 IsFoundFor (asked.TakeBack rental) (found.TakeBack is_returned) = ⊤
+IsFoundFor (asked.Pay customer rental amount) (found.Pay has_customer renter payments) = ⊤
 IsFoundFor (asked.Import lot file) (found.Import copies has_lot stock) = ⊤
 IsFoundFor (asked.Scrap copy) (found.Scrap is_here of_copy) = ⊤
 IsFoundFor act it = ⊥
@@ -149,5 +161,6 @@ IsWithin (found.Customer has_city customers) = customers ≤ 1_000_000
 IsWithin (found.Active is_active) = ⊤
 IsWithin (found.Rent is_active copy of_copy rentals) = rentals ≤ 1_000_000
 IsWithin (found.TakeBack is_returned) = ⊤
+IsWithin (found.Pay has_customer renter payments) = payments ≤ 1_000_000
 IsWithin (found.Scrap is_here of_copy) = ⊤
 IsWithin (found.Import copies has_lot stock) = (copies ≤ 1_000_000) × IfOk stock (λ rows. copies_of rows.items ≤ 1_000)

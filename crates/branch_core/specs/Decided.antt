@@ -1,14 +1,15 @@
 -- What a decision says of the verdict, and which rows an accepted command adds.
 use Rattle.std.specs.Prelude.{◌≡◌, ⊤, ℕ, ◌+◌, ◌≤◌, true, [], ◌∷◌, ◌++◌, length, Option, option_map, Some, None, Result, Ok, Err}
-use Rattle.shop_model.specs.Values.{Text, Person, Act, AddCustomer, SetActive, Rent, TakeBack, Import, Scrap, Command, Rules}
+use Rattle.shop_model.specs.Values.{Text, Person, Act, AddCustomer, SetActive, Rent, TakeBack, Pay, Import, Scrap, Command, Rules}
 use Rattle.shop_model.specs.Refusals as named
 use Rattle.shop_model.specs.Shop.{Catalogue, Shop}
 use Rattle.shop_model.specs.Verdict.{Verdict, Again, Refused, Accepted, verdict}
 use Rattle.shop_model.specs.Machine.{films_in, acted}
 use Rattle.shop_types.specs.declared.person.Customer.{Customer}
 use Rattle.shop_types.specs.declared.rental.Rental.{Rental}
+use Rattle.shop_types.specs.declared.payment.Payment.{Payment}
 use Rattle.shop_types.specs.declared.refusal.Refusal.{Refusal}
-use Rattle.shop_types.specs.Seen.{seen_customer, seen_rental, seen_refusal}
+use Rattle.shop_types.specs.Seen.{seen_customer, seen_rental, seen_payment, seen_refusal}
 use Rattle.branch_core.specs.declared.change.Rows.{Rows}
 use Rattle.branch_core.specs.declared.change.Rows.TheVariants as rows
 use Rattle.branch_core.specs.declared.change.Change.{Change}
@@ -34,12 +35,19 @@ pub record IsNewRental (rules : Rules) (command : Command) (c x : ℕ) (shop : S
   pub row : seen_rental rental ≡ record { rented = command.moment; copy = x; customer = c; returned = None; staff = command.staff }
   pub added : (acted rules command (Rent c x) shop).rentals ≡ shop.rentals ++ seen_rental rental ∷ []
 
+-- a payment of the customer, taken at the command's moment and with the branch's next number: the row that the act puts last
+pub record IsNewPayment (rules : Rules) (command : Command) (c : ℕ) (rental : Option ℕ) (amount : ℕ) (shop : Shop) (number : ℕ) (payment : Payment) : Type 0 where
+  pub next : number ≡ length shop.payments + 1
+  pub row : seen_payment payment ≡ record { customer = c; staff = command.staff; rental = rental; amount = amount; paid = command.moment }
+  pub added : (acted rules command (Pay c rental amount) shop).payments ≡ shop.payments ++ seen_payment payment ∷ []
+
 -- they are the rows that the act adds to the shop or sets
 abbrev pub Adds : Rules → Command → Act → Shop → Rows → Type 0
 Adds rules command (AddCustomer person) shop (rows.Customer number customer) = IsNewCustomer rules command person shop number customer
 Adds rules command (SetActive c active) shop (rows.Active customer flag) = (customer ≡ c) × (flag ≡ active)
 Adds rules command (Rent c x) shop (rows.Rent number rental) = IsNewRental rules command c x shop number rental
 Adds rules command (TakeBack r) shop (rows.TakeBack rental returned) = (rental ≡ r) × (returned ≡ command.moment)
+Adds rules command (Pay c rental amount) shop (rows.Pay number payment) = IsNewPayment rules command c rental amount shop number payment
 Adds rules command (Scrap x) shop (rows.Scrap copy) = copy ≡ x
 Adds rules command (Import lot file) shop (rows.Import first count) = AreNewCopies rules command lot file shop first count
 Adds rules command act shop it = ⊥
@@ -67,6 +75,7 @@ AreWithin (rows.Customer number customer) = ⊤
 AreWithin (rows.Active customer active) = ⊤
 AreWithin (rows.Rent number rental) = ⊤
 AreWithin (rows.TakeBack rental returned) = ⊤
+AreWithin (rows.Pay number payment) = ⊤
 AreWithin (rows.Import first count) = first ≤ 1_000_001
 AreWithin (rows.Scrap copy) = ⊤
 

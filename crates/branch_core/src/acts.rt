@@ -1,20 +1,20 @@
-//! The first refusal of a command on a customer, a copy or a rental, by what was found of it.
+//! The first refusal of a command on a customer, a copy, a rental or a payment, by what was found of it.
 
-ghost use Rattle.std.specs.Prelude.{◌≡◌, ◌==◌, ℕ, true, Some, filter, is_some, map, option_map};
+ghost use Rattle.std.specs.Prelude.{◌≡◌, ◌==◌, ℕ, true, not, Some, IfSome, filter, is_some, map, option_map};
 ghost use Rattle.shop_model.specs.Calendar as calendar;
-ghost use Rattle.shop_model.specs.Rows.{at};
+ghost use Rattle.shop_model.specs.Rows.{at, lacks};
 ghost use Rattle.shop_model.specs.Values as model;
 ghost use Rattle.shop_model.specs.Shop.{Catalogue, Shop};
 ghost use Rattle.shop_model.specs.Stock.{is_here};
 ghost use Rattle.shop_model.specs.Verdict.{first, act_refusals};
 ghost use Rattle.shop_model.specs.Books.{head};
 ghost use Rattle.shop_types.specs.Seen.{seen_rental};
-ghost use Rattle.branch_core.specs.Agreed.{active_at, copy_at, seen_copy};
+ghost use Rattle.branch_core.specs.Agreed.{active_at, copy_at, renter_at, seen_copy};
 ghost use Rattle.branch_core.specs.Decided.{verdict_by};
 
 use crate::CopyFound;
 use crate::rentals::{has_same, in_stock};
-use shop_types::{CopyNo, CustomerNo, Moment, Refusal, Rental};
+use shop_types::{CopyNo, CustomerNo, Moment, Refusal, Rental, RentalNo};
 
 /// Of setting whether a customer may rent.
 pub fn active_refusal(is_active: Option<bool>, active: bool) -> Option<Refusal>
@@ -90,6 +90,34 @@ pub fn return_refusal(is_returned: Option<bool>) -> Option<Refusal>
         None => Some(Refusal::NoRental),
         Some(true) => Some(Refusal::RentalReturned),
         Some(false) => None,
+    }
+}
+
+/// Of the customer's payment, of the rental where one is named.
+pub fn payment_refusal(
+    customer: CustomerNo,
+    rental: Option<RentalNo>,
+    has_customer: bool,
+    renter: Option<CustomerNo>,
+) -> Option<Refusal>
+    ensures { (rules : model.Rules) (b : ℕ) (catalogue : Catalogue) (shop : Shop) (moment : calendar.Moment) (amount : ℕ) → has_customer ≡ not (lacks shop.customers customer)
+        → IfSome rental (λ r. renter ≡ renter_at shop r) → verdict_by result ≡ Some (first (act_refusals rules b catalogue shop moment (model.Pay customer rental amount))) }
+{
+    if !has_customer {
+        return Some(Refusal::NoCustomer);
+    }
+    match rental {
+        None => None,
+        Some(_) => match renter {
+            None => Some(Refusal::NoRental),
+            Some(renter) => {
+                if renter == customer {
+                    None
+                } else {
+                    Some(Refusal::WrongCustomer)
+                }
+            }
+        },
     }
 }
 

@@ -1,6 +1,6 @@
 //! What an accepted command changes.
 
-use shop_types::{CopyNo, Customer, CustomerNo, Moment, Rental, RentalNo};
+use shop_types::{CopyNo, Customer, CustomerNo, Moment, Payment, PaymentNo, Rental, RentalNo};
 
 /// The rows that a command adds or sets, beside the command itself.
 #[derive(Debug, Drop)]
@@ -24,6 +24,11 @@ pub enum Rows {
     TakeBack {
         rental: RentalNo,
         returned: Moment,
+    },
+    /// A payment, with the branch's next number.
+    Pay {
+        number: PaymentNo,
+        payment: Payment,
     },
     /// So many copies that are in the shop, with the branch's next numbers, from the first on. Their films are those of the stock
     /// file, in the order of its rows, each as often as its row says.

@@ -1,6 +1,6 @@
 //! The decision on a command of a branch.
 
-ghost use Rattle.std.specs.Prelude.{◌≡◌, ℕ, ◌+◌, ◌≤◌, ◌&&◌, nat_lt, not, true, List, length, map, option_map, IfOk, OnErr};
+ghost use Rattle.std.specs.Prelude.{◌≡◌, ℕ, ◌+◌, ◌≤◌, ◌&&◌, nat_lt, not, true, None, List, length, map, option_map, IfOk, OnErr};
 ghost use Rattle.std.specs.List.{list_any};
 ghost use Rattle.shop_model.specs.Calendar as calendar;
 ghost use Rattle.shop_model.specs.Rows.{at, lacks};
@@ -12,11 +12,12 @@ ghost use Rattle.shop_types.specs.Seen.{seen_act, seen_command};
 ghost use Rattle.branch_core.specs.Agreed.{Agrees, ActAgrees, IsFoundFor, IsWithin, seen_staff, post_of};
 ghost use Rattle.branch_core.specs.Decided.{IsDecided, Adds, TakesMemory, AreWithin, IsChangeWithin, verdict_by};
 
-use crate::acts::{active_refusal, rent_refusal, return_refusal, scrap_refusal};
+use crate::acts::{active_refusal, payment_refusal, rent_refusal, return_refusal, scrap_refusal};
 use crate::stock::{new_copies, stock_refusal};
 use crate::{ActFound, Change, Found, Rows, StaffFound};
 use shop_types::{
-    Act, BranchNo, Command, Customer, Limits, Moment, NoMemory, Person, Refusal, Rental, RowNumber,
+    Act, Amount, BranchNo, Command, CopyNo, Customer, CustomerNo, Limits, Moment, NoMemory,
+    Payment, Person, Refusal, Rental, RentalNo, RowNumber,
 };
 
 /// The change that a branch's command makes, or the first refusal that holds of it. `Memory` comes only where a customer would be
@@ -95,6 +96,7 @@ fn has_no_room(act: &ActFound, limits: Limits) -> bool
         | ActFound::Active { .. }
         | ActFound::Rent { .. }
         | ActFound::TakeBack { .. }
+        | ActFound::Pay { .. }
         | ActFound::Scrap { .. } => false,
         ActFound::Import { copies, stock, .. } => {
             let new = new_copies(stock);
@@ -144,6 +146,18 @@ fn act_refusal(at: Moment, asked: &Act, act: &ActFound) -> Option<Refusal>
             },
         ) => rent_refusal(at, *customer, *copy, *is_active, *found, of_copy.as_slice()),
         (Act::TakeBack(_), ActFound::TakeBack { is_returned }) => return_refusal(*is_returned),
+        (
+            Act::Pay {
+                customer,
+                rental,
+                ..
+            },
+            ActFound::Pay {
+                has_customer,
+                renter,
+                ..
+            },
+        ) => payment_refusal(*customer, *rental, *has_customer, *renter),
         (Act::Import { .. }, ActFound::Import { has_lot, stock, .. }) => {
             stock_refusal(stock, *has_lot)
         }
@@ -186,17 +200,22 @@ fn new_rows(command: &Command, act: &ActFound) -> Result<Rows, NoMemory>
         }),
         (Act::Rent { customer, copy }, ActFound::Rent { rentals, .. }) => Ok(Rows::Rent {
             number: number_after(*rentals),
-            rental: Rental {
-                rented: command.at,
-                copy: *copy,
-                customer: *customer,
-                returned: None,
-                staff: command.staff,
-            },
+            rental: new_rental(command, *customer, *copy),
         }),
         (Act::TakeBack(rental), ActFound::TakeBack { .. }) => Ok(Rows::TakeBack {
             rental: *rental,
             returned: command.at,
+        }),
+        (
+            Act::Pay {
+                customer,
+                rental,
+                amount,
+            },
+            ActFound::Pay { payments, .. },
+        ) => Ok(Rows::Pay {
+            number: number_after(*payments),
+            payment: new_payment(command, *customer, *rental, *amount),
         }),
         (Act::Scrap(copy), ActFound::Scrap { .. }) => Ok(Rows::Scrap(*copy)),
         (Act::Import { .. }, ActFound::Import { copies, stock, .. }) => Ok(Rows::Import {
@@ -216,6 +235,37 @@ fn new_customer(person: &Person, at: Moment) -> Result<Customer, NoMemory>
         active: true,
         created: at,
     })
+}
+
+/// The open rental that the command makes.
+fn new_rental(command: &Command, customer: CustomerNo, copy: CopyNo) -> Rental
+    ensures { result ≡ record { rented = command.now.at; copy = copy; customer = customer; returned = None; staff = command.now.staff } }
+{
+    Rental {
+        rented: command.at,
+        copy,
+        customer,
+        returned: None,
+        staff: command.staff,
+    }
+}
+
+/// The payment that the command makes.
+fn new_payment(
+    command: &Command,
+    customer: CustomerNo,
+    rental: Option<RentalNo>,
+    amount: Amount,
+) -> Payment
+    ensures { result ≡ record { customer = customer; staff = command.now.staff; rental = rental; amount = amount; paid = command.now.at } }
+{
+    Payment {
+        customer,
+        staff: command.staff,
+        rental,
+        amount,
+        paid: command.at,
+    }
 }
 
 /// The next number, where so many rows are numbered.

@@ -1,6 +1,6 @@
 //! What was found of the rows that a command names.
 
-use shop_types::{BadCsv, BranchNo, FilmNo, Moment, Rental};
+use shop_types::{BadCsv, BranchNo, CustomerNo, FilmNo, Moment, Rental};
 
 /// The kept row of the command's key, as compared with the command.
 #[derive(Clone, Copy, Debug)]
@@ -66,6 +66,14 @@ pub enum ActFound {
     TakeBack {
         /// Whether the copy came back already, where there is such a rental.
         is_returned: Option<bool>,
+    },
+    Pay {
+        /// Whether the branch has a customer of the number.
+        has_customer: bool,
+        /// The customer of the rental that is named, where one is named and there is one of the number.
+        renter: Option<CustomerNo>,
+        /// How many payments the branch has.
+        payments: u32,
     },
     Import {
         /// How many copies the branch has, in whatever state.

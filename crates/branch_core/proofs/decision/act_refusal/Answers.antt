@@ -30,3 +30,9 @@ returns-in-Scrap-Scrap c = λ rules b catalogue shop agree.
     let here = c.in-Scrap-Scrap in
     let found = rw (here.is-0, here.is-1) at agree in
     rw here.is-0 (c.scrap_refusal.ensures rules b catalogue shop c.args.at found.copy_is (rw c.as_slice-in-Scrap-Scrap.ensures.value found.of_copy_are))
+
+pub returns-in-Pay-Pay : goal.returns-in-Pay-Pay
+returns-in-Pay-Pay c = λ rules b catalogue shop agree.
+    let here = c.in-Pay-Pay in
+    let found = rw (here.is-0, here.is-1) at agree in
+    rw here.is-0 (c.payment_refusal.ensures rules b catalogue shop c.args.at here.amount-0 found.customer found.renter_is)
