@@ -1,14 +1,15 @@
 -- What serde_json writes is JSON text as the definitions of the shop have it.
-use Rattle.std.proofs.Common.{◌≡◌, ◌∙◌, refl, ap, true, false, Bool, List, [], ◌∷◌, ◌++◌, map, codes}
+use Rattle.std.proofs.Common.{◌≡◌, ◌∙◌, refl, ap, ℕ, true, false, Bool, List, [], ◌∷◌, ◌++◌, map, codes, decimal}
 use Rattle.std.specs.Prelude.{Result, IfOk, String, string_bytes}
 use Rattle.std.specs.declared.alloc.Global.{Global}
 use Rattle.std.proofs.lemmas.Result.{IfOk-weaker}
 use Rattle.json.specs.Print as print
-use Rattle.serde_json.specs.Data.{Data, null, boolean, number, string, array, object, Items, no_items, item, Members, no_members, member}
+use Rattle.serde_json.specs.Data.{Data, null, boolean, number, unsigned, string, array, object, Items, no_items, item, Members, no_members, member}
 use Rattle.serde_json.specs.View.{items_of}
 use Rattle.serde_json.specs.Written as written
 use Rattle.shop_model.specs.Values.{Text}
 use Rattle.shop_model.specs.Json as json
+use Rattle.reply_bodies.specs.Bodies.{numbers_value}
 
 -- a value's text by the definitions of the shop
 abbrev mutual
@@ -58,6 +59,15 @@ mutual
 pub list_texts : (ds : List Data) → item_texts (items_of ds) ≡ map json_text ds
 list_texts [] = refl
 list_texts (d ∷ ds) = ap (λ (ts : List Text). json_text d ∷ ts) (list_texts ds)
+
+-- a list of numbers
+pub numbers_no_float : (ns : List ℕ) → written.has_float (numbers_value ns) ≡ false
+numbers_no_float [] = refl
+numbers_no_float (n ∷ ns) = numbers_no_float ns
+
+pub numbers_texts : (ns : List ℕ) → item_texts (items_of (map (λ n. number (unsigned n)) ns)) ≡ map decimal ns
+numbers_texts [] = refl
+numbers_texts (n ∷ ns) = ap (λ (ts : List Text). decimal n ∷ ts) (numbers_texts ns)
 
 -- what is written for a value that is d, where d has no float
 pub text_of_value : {E : Type 0} (r : Result (String Global) E) (value d : Data) → value ≡ d → written.has_float d ≡ false

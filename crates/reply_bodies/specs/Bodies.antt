@@ -1,6 +1,7 @@
 -- The JSON values whose texts are bodies.
-use Rattle.std.specs.Prelude.{ℕ, Bool, List, Option, None, Some, codes, length, map}
+use Rattle.std.specs.Prelude.{ℕ, ℤ, Bool, List, Option, None, Some, codes, length, map}
 use Rattle.serde_json.specs.Data.{Data, null, boolean, number, unsigned, string, array, object, member, no_members}
+use Rattle.serde_json.specs.Find.{of_integer}
 use Rattle.serde_json.specs.View.{items_of}
 use Rattle.shop_model.specs.Calendar.{moment_text}
 use Rattle.shop_model.specs.Values.{Customer}
@@ -34,3 +35,11 @@ numbers_value ns = array (items_of (map (λ n. number (unsigned n)) ns))
 -- copies by their numbers, with their count
 abbrev pub copies_value : List ℕ → Data
 copies_value ns = object (member (codes "copies") (numbers_value ns) (member (codes "count") (number (unsigned (length ns))) no_members))
+
+-- what a customer owes, in cents
+abbrev pub balance_value : ℤ → Data
+balance_value cents = object (member (codes "balance") (number (of_integer cents)) no_members)
+
+-- customers by their numbers, with their count
+abbrev pub rewards_value : List ℕ → Data
+rewards_value ns = object (member (codes "count") (number (unsigned (length ns))) (member (codes "customers") (numbers_value ns) no_members))

@@ -1,10 +1,11 @@
 ghost use Rattle.std.specs.Prelude.{◌≡◌, [], ◌∷◌, codes, decimal, length, IfOk, string_bytes};
 ghost use Rattle.serde_json.specs.View.{view};
 ghost use Rattle.shop_model.specs.Json.{flag_text, numbers_text, object};
-ghost use Rattle.reply_bodies.specs.Bodies.{active_value, copies_value, holder_value, numbers_value};
+ghost use Rattle.reply_bodies.specs.Bodies.{active_value, copies_value, holder_value};
 ghost use Rattle.std.specs.Option.{option_to_list};
 ghost use Rattle.shop_model.specs.Answers.{holder_text};
 
+use crate::numbers::numbers_value;
 use serde_json::{Value, json};
 use shop_values::{CopyNo, CustomerNo, RentalNo};
 use std::alloc::{AllocError, Global};
@@ -64,16 +65,6 @@ pub fn holder_text(alloc: Global, customer: Option<CustomerNo>) -> Result<String
     ensures { IfOk result (λ s. string_bytes s ≡ object ((codes "customer", holder_text (option_to_list customer)) ∷ [])) }
 {
     holder_value(alloc, customer)?.to_string(alloc)
-}
-
-fn numbers_value(alloc: Global, copies: &[CopyNo]) -> Result<Value, AllocError>
-    ensures { IfOk result (λ v. view v ≡ numbers_value copies.now) }
-{
-    let mut values = Vec::with_capacity(alloc, copies.len())?;
-    for copy in copies {
-        values.push_reserved(Value::from(copy.get()));
-    }
-    Ok(Value::Array(values))
 }
 
 fn copies_value(alloc: Global, copies: &[CopyNo]) -> Result<Value, AllocError>

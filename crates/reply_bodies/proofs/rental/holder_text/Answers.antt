@@ -1,8 +1,7 @@
-use Rattle.std.proofs.Common.{◌≡◌, ◌∙◌, refl, List, ℕ, [], ◌∷◌, Some, None, Option, codes}
+use Rattle.std.proofs.Common.{◌≡◌, ◌∙◌, refl, ℕ, [], ◌∷◌, Some, None, Option, codes}
 use Rattle.std.proofs.Common.{false}
 use Rattle.std.proofs.lemmas.Result.{IfOk-weaker}
 use Rattle.std.specs.Option.{option_to_list}
-use Rattle.std.specs.Prelude.{Result, IfOk, String, string_bytes}
 use Rattle.shop_model.specs.Json.{object}
 use Rattle.shop_model.specs.Answers.{holder_text}
 use Rattle.serde_json.specs.Written as written

@@ -1,0 +1,44 @@
+ghost use Rattle.std.specs.Prelude.{◌≡◌, [], ◌∷◌, codes, decimal, length, IfOk, string_bytes};
+ghost use Rattle.std.specs.Fmt.{signed_decimal};
+ghost use Rattle.serde_json.specs.View.{view};
+ghost use Rattle.shop_model.specs.Json.{numbers_text, object};
+ghost use Rattle.reply_bodies.specs.Bodies.{balance_value, rewards_value};
+
+use crate::numbers::numbers_value;
+use serde_json::{Value, json};
+use shop_values::{Cents, CustomerNo, PaymentNo};
+use std::alloc::{AllocError, Global};
+
+/// The body that tells a counter the number of the payment it took.
+pub fn payment_text(alloc: Global, payment: PaymentNo) -> Result<String, AllocError>
+    ensures { IfOk result (λ s. string_bytes s ≡ object ((codes "payment", decimal payment) ∷ [])) }
+{
+    json!(in alloc; {"payment": payment.get()})?.to_string(alloc)
+}
+
+fn balance_value(alloc: Global, balance: Cents) -> Result<Value, AllocError>
+    ensures { IfOk result (λ v. view v ≡ balance_value balance) }
+{
+    json!(in alloc; {"balance": balance.get()})
+}
+
+/// The body that shows what a customer owes, in cents: below zero, with a sign, what the branch owes.
+pub fn balance_text(alloc: Global, balance: Cents) -> Result<String, AllocError>
+    ensures { IfOk result (λ s. string_bytes s ≡ object ((codes "balance", signed_decimal balance) ∷ [])) }
+{
+    balance_value(alloc, balance)?.to_string(alloc)
+}
+
+fn rewards_value(alloc: Global, customers: &[CustomerNo]) -> Result<Value, AllocError>
+    ensures { IfOk result (λ v. view v ≡ rewards_value customers.now) }
+{
+    let numbers = numbers_value(alloc, customers)?;
+    json!(in alloc; {"count": customers.len(), "customers": numbers})
+}
+
+/// The body that lists the customers who are rewarded by their numbers, with their count.
+pub fn rewards_text(alloc: Global, customers: &[CustomerNo]) -> Result<String, AllocError>
+    ensures { IfOk result (λ s. string_bytes s ≡ object ((codes "count", decimal (length customers.now)) ∷ (codes "customers", numbers_text customers.now) ∷ [])) }
+{
+    rewards_value(alloc, customers)?.to_string(alloc)
+}

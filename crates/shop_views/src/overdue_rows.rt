@@ -1,0 +1,65 @@
+ghost use Rattle.std.specs.Prelude.{◌≡◌, ◌++◌, codes, false, map, IfOk, string_bytes};
+ghost use Rattle.serde_json.specs.View.{view};
+ghost use Rattle.serde_json.specs.Written.{compact_text, has_float};
+ghost use Rattle.shop_model.specs.Json.{array};
+ghost use Rattle.shop_model.specs.Answers.{overdue_text};
+ghost use Rattle.shop_views.specs.Overdue.{overdue_data, overdue_value, seen_overdue};
+
+use serde_json::{Value, json};
+use shop_values::{L45, T45, T128};
+use std::alloc::{AllocError, Global};
+
+/// A rental that is overdue: its customer's names and telephone number, and its film's title.
+#[derive(Clone, Debug, Drop, PartialEq, Eq)]
+pub struct OverdueRow {
+    pub first: T45,
+    pub last: T45,
+    /// The telephone number, which may be empty.
+    pub phone: L45,
+    pub title: T128,
+}
+
+/// The last name, a comma and the first name.
+fn customer_name(alloc: Global, first: &str, last: &str) -> Result<String, AllocError>
+    ensures { IfOk result (λ s. string_bytes s ≡ last.now ++ codes ", " ++ first.now) }
+{
+    format!(in alloc; "{last}, {first}")
+}
+
+/// One rental, as an object.
+fn overdue_row(alloc: Global, row: &OverdueRow) -> Result<Value, AllocError>
+    ensures { IfOk result (λ v. view v ≡ overdue_data (seen_overdue row.now)) }
+{
+    let customer = customer_name(alloc, row.first.as_str(), row.last.as_str())?;
+    json!(in alloc; {
+        "customer": customer.as_str(),
+        "phone": row.phone.as_str(),
+        "title": row.title.as_str()
+    })
+}
+
+/// The rentals in their order, as a list of objects.
+pub fn overdue(alloc: Global, rows: &[OverdueRow]) -> Result<Value, AllocError>
+    ensures value { IfOk result (λ v. view v ≡ overdue_value (map seen_overdue rows.now)) }
+    ensures text { IfOk result (λ v. compact_text (view v) ≡ array (map overdue_text (map seen_overdue rows.now))) }
+    ensures no_float { IfOk result (λ v. has_float (view v) ≡ false) }
+{
+    overdue_list(alloc, rows)
+}
+
+fn overdue_list(alloc: Global, rows: &[OverdueRow]) -> Result<Value, AllocError>
+    ensures { IfOk result (λ v. view v ≡ overdue_value (map seen_overdue rows.now)) }
+{
+    let mut items = Vec::with_capacity(alloc, rows.len())?;
+    for row in rows {
+        items.push_reserved(overdue_row(alloc, row)?);
+    }
+    Ok(Value::Array(items))
+}
+
+/// The text of that list: the body that shows a counter the rentals that are overdue.
+pub fn overdue_text(alloc: Global, rows: &[OverdueRow]) -> Result<String, AllocError>
+    ensures { IfOk result (λ s. string_bytes s ≡ array (map overdue_text (map seen_overdue rows.now))) }
+{
+    overdue(alloc, rows)?.to_string(alloc)
+}
