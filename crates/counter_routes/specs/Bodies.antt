@@ -1,13 +1,13 @@
 -- What the body of a command must be: a JSON object with the command's members and no others, in any order.
-use Rattle.std.specs.Prelude.{ℕ, ◌==◌, suc, Bool, false, List, Option, Some, None, option_map, option_and_then, unwrap_or, codes, if◌then◌else◌}
+use Rattle.std.specs.Prelude.{ℕ, ◌==◌, nat_le, suc, Bool, false, List, Option, Some, None, is_some, option_map, option_and_then, unwrap_or, codes, if◌then◌else◌}
 use Rattle.std.specs.Str.{is_utf8}
 use Rattle.serde_json.specs.Data.{Data, Members, no_members, member}
-use Rattle.serde_json.specs.Find.{get, as_bool, as_str, as_number, as_u64, as_object}
+use Rattle.serde_json.specs.Find.{get, as_null, as_bool, as_str, as_number, as_u64, as_object}
 use Rattle.serde_json.specs.Read.{read}
 use Rattle.shop_values.specs.Texts.{is_text, is_key}
 use Rattle.shop_values.specs.Numbers.{is_row_number}
 use Rattle.shop_model.specs.Calendar.{Moment}
-use Rattle.shop_model.specs.Values.{Text, Person, Act, AddCustomer, SetActive, Rent, TakeBack, Scrap, Command}
+use Rattle.shop_model.specs.Values.{Text, Person, Act, AddCustomer, SetActive, Rent, TakeBack, Pay, Scrap, Command}
 use Rattle.counter_routes.specs.Moments.{moment_of}
 
 infixl 10 ◌>>=◌
@@ -41,6 +41,16 @@ number_at name d = option_and_then (passing is_row_number) (option_and_then as_u
 -- true or false, as the member of that name is
 abbrev pub bool_at : List ℕ → Data → Option Bool
 bool_at name d = option_and_then as_bool (get name d)
+
+-- the rental that a payment is of: the number of a row, or null for a payment of none. A member that is not there is not null.
+abbrev pub rental_at : Data → Option (Option ℕ)
+rental_at d =
+    if is_some (option_and_then as_null (get (codes "rental") d)) then Some None
+    else option_map Some (number_at (codes "rental") d)
+
+-- the amount of a payment in cents: a whole number from 0 to 99,999, written without a sign
+abbrev pub amount_at : Data → Option ℕ
+amount_at d = option_and_then (passing (λ cents. nat_le cents 99_999)) (option_and_then as_u64 (option_and_then as_number (get (codes "amount") d)))
 
 abbrev pub count : Members → ℕ
 count no_members = 0
@@ -94,6 +104,14 @@ unfoldable pub new_return : Data → Option Command
 new_return d = if has_members 4 d then (do
   rental ← number_at (codes "rental") d
   command_at (TakeBack rental) d) else None
+
+-- the command that takes a payment of a customer: six members and no others
+unfoldable pub new_payment : Data → Option Command
+new_payment d = if has_members 6 d then (do
+  customer ← number_at (codes "customer") d
+  rental ← rental_at d
+  amount ← amount_at d
+  command_at (Pay customer rental amount) d) else None
 
 -- the command that takes a copy out of the shop: four members and no others
 unfoldable pub new_scrap : Data → Option Command

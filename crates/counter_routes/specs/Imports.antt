@@ -16,15 +16,15 @@ name_in target n = option_and_then (passing is_key) (slice_get (parts target) n)
 abbrev pub staff_in : List ℕ → Option ℕ
 staff_in target = option_and_then row_number_of (slice_get (parts target) 3)
 
--- the moment when it is given, behind the fourth slash
-abbrev pub moment_in : List ℕ → Option Moment
-moment_in target = option_and_then moment_of (slice_get (parts target) 4)
+-- the moment whose text the path's part behind its first `n` slashes is
+abbrev pub moment_in : List ℕ → ℕ → Option Moment
+moment_in target n = option_and_then moment_of (slice_get (parts target) n)
 
 -- The import of a path and a body, where each part is of its form. Any body is a file: what it lists is not looked at.
 unfoldable pub import_in : List ℕ → List ℕ → Option Command
 import_in target body = do
   key ← name_in target 2
   staff ← staff_in target
-  moment ← moment_in target
+  moment ← moment_in target 4
   lot ← name_in target 5
   Some (record { key = key; staff = staff; moment = moment; act = Import lot body })

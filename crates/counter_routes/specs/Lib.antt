@@ -2,4 +2,5 @@ pub mod Moments
 pub mod Routes
 pub mod Bodies
 pub mod Imports
+pub mod Looks
 pub mod Readings

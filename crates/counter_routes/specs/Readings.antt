@@ -1,9 +1,7 @@
 -- What a message asks, of each caller.
-use Rattle.std.specs.Prelude.{◌≡◌, ℕ, Bool, true, false, List, slice_get, Option, Some, None, option_map, option_and_then, unwrap_or, if◌then◌else◌}
+use Rattle.std.specs.Prelude.{◌≡◌, ℕ, Bool, true, false, List, Option, Some, None, option_map, option_and_then, unwrap_or, if◌then◌else◌}
 use Rattle.http_messages.specs.Message.{Message}
-use Rattle.http_messages.specs.Items.{parts}
 use Rattle.serde_json.specs.Data.{Data}
-use Rattle.shop_values.specs.Numbers.{row_number_of}
 use Rattle.shop_model.specs.Values.{Command, Ask, OneCustomer, InStock, HeldBy, FilmInStock, FilmNotInStock}
 use Rattle.shop_model.specs.Refusals as named
 use Rattle.shop_model.specs.Machine.{Request, Unread, Do, Look}
@@ -16,8 +14,9 @@ use Rattle.counter_routes.specs.declared.paths.Route.TheVariants as route
 use Rattle.counter_routes.specs.declared.asked.Reading.{Reading}
 use Rattle.counter_routes.specs.declared.asked.Reading.TheVariants.{Asked, Refused}
 use Rattle.counter_routes.specs.Routes.{route_of}
-use Rattle.counter_routes.specs.Bodies.{body_of, new_customer, new_active, new_rental, new_return, new_scrap}
+use Rattle.counter_routes.specs.Bodies.{body_of, new_customer, new_active, new_rental, new_return, new_payment, new_scrap}
 use Rattle.counter_routes.specs.Imports.{import_in}
+use Rattle.counter_routes.specs.Looks.{ask_in, balance_in, overdue_in, rewards_in}
 
 -- the request, or the refusal `bad_body` where there is none
 abbrev pub or_bad_body : Option Request → Request
@@ -27,17 +26,9 @@ or_bad_body request = unwrap_or request (Unread named.BadBody)
 abbrev pub written_in : (Data → Option Command) → List ℕ → Option Command
 written_in form body = option_and_then form (body_of body)
 
--- the number of a row that the path's part behind its second slash is
-abbrev pub number_in : List ℕ → Option ℕ
-number_in target = option_and_then row_number_of (slice_get (parts target) 2)
-
 -- a command, or `bad_body` where none is written
 abbrev pub command_or_bad : Option Command → Request
 command_or_bad command = or_bad_body (option_map Do command)
-
--- what a path asks of the row whose number it has
-abbrev pub ask_in : (ℕ → Ask) → List ℕ → Option Ask
-ask_in ask target = option_map ask (number_in target)
 
 -- a look, or `bad_body` where nothing is asked
 abbrev pub look_or_bad : Option Ask → Request
@@ -50,6 +41,7 @@ request_at message (Some route.NewCustomer) = command_or_bad (written_in new_cus
 request_at message (Some route.Active) = command_or_bad (written_in new_active message.body)
 request_at message (Some route.Rent) = command_or_bad (written_in new_rental message.body)
 request_at message (Some route.Return) = command_or_bad (written_in new_return message.body)
+request_at message (Some route.Pay) = command_or_bad (written_in new_payment message.body)
 request_at message (Some route.Import) = command_or_bad (import_in message.target message.body)
 request_at message (Some route.Scrap) = command_or_bad (written_in new_scrap message.body)
 request_at message (Some route.Customer) = look_or_bad (ask_in OneCustomer message.target)
@@ -57,6 +49,9 @@ request_at message (Some route.InStock) = look_or_bad (ask_in InStock message.ta
 request_at message (Some route.HeldBy) = look_or_bad (ask_in HeldBy message.target)
 request_at message (Some route.FilmInStock) = look_or_bad (ask_in FilmInStock message.target)
 request_at message (Some route.FilmNotInStock) = look_or_bad (ask_in FilmNotInStock message.target)
+request_at message (Some route.Balance) = look_or_bad (balance_in message.target)
+request_at message (Some route.Overdue) = look_or_bad (overdue_in message.target)
+request_at message (Some route.Rewards) = look_or_bad (rewards_in message.target)
 
 -- What a counter's message asks, where its body is no longer than a stock file may be. Of the body of a GET nothing else is looked at.
 abbrev pub counter_request : Message → Request
@@ -76,6 +71,7 @@ is_command (Some route.NewCustomer) = true
 is_command (Some route.Active) = true
 is_command (Some route.Rent) = true
 is_command (Some route.Return) = true
+is_command (Some route.Pay) = true
 is_command (Some route.Import) = true
 is_command (Some route.Scrap) = true
 is_command (Some route.Customer) = false
@@ -83,6 +79,9 @@ is_command (Some route.InStock) = false
 is_command (Some route.HeldBy) = false
 is_command (Some route.FilmInStock) = false
 is_command (Some route.FilmNotInStock) = false
+is_command (Some route.Balance) = false
+is_command (Some route.Overdue) = false
+is_command (Some route.Rewards) = false
 
 -- reading the message takes memory: it is a counter's command
 abbrev pub takes_memory : Message → Caller → Bool

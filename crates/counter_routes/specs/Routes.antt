@@ -9,7 +9,7 @@ use Rattle.matchit.specs.Route.{Scan, parse_route}
 use Rattle.matchit.specs.Router.{RouteOf, route_from, nearest}
 use Rattle.matchit.specs.declared.error.InsertError.{InsertError}
 use Rattle.counter_routes.specs.declared.paths.Route.{Route}
-use Rattle.counter_routes.specs.declared.paths.Route.TheVariants.{NewCustomer, Active, Rent, Return, Import, Scrap, Customer, InStock, HeldBy, FilmInStock, FilmNotInStock}
+use Rattle.counter_routes.specs.declared.paths.Route.TheVariants.{NewCustomer, Active, Rent, Return, Pay, Import, Scrap, Customer, InStock, HeldBy, FilmInStock, FilmNotInStock, Balance, Overdue, Rewards}
 use Rattle.counter_routes.specs.declared.paths.Pattern.{Pattern}
 
 -- the rows of a router
@@ -66,6 +66,7 @@ post_entries =
     ∷ (codes "/customer-active", Active)
     ∷ (codes "/rent", Rent)
     ∷ (codes "/return", Return)
+    ∷ (codes "/pay", Pay)
     ∷ (codes "/scrap", Scrap)
     ∷ []
 
@@ -77,6 +78,9 @@ get_entries =
     ∷ (codes "/held-by/{copy}", HeldBy)
     ∷ (codes "/film-in-stock/{film}", FilmInStock)
     ∷ (codes "/film-not-in-stock/{film}", FilmNotInStock)
+    ∷ (codes "/balance/{customer}/{at}", Balance)
+    ∷ (codes "/overdue/{at}", Overdue)
+    ∷ (codes "/rewards/{at}/{purchases}/{cents}", Rewards)
     ∷ []
 
 -- the routes of one method

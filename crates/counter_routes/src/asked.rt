@@ -5,16 +5,17 @@ ghost use Rattle.http_messages.specs.Shown.{message_of};
 ghost use Rattle.shop_model.specs.Values.{Command as Written, Ask as Asking};
 ghost use Rattle.shop_types.specs.Seen.{seen_command, seen_ask, seen_caller};
 ghost use Rattle.counter_routes.specs.Routes.{route_of};
-ghost use Rattle.counter_routes.specs.Readings.{Reads, number_in, command_or_bad, look_or_bad, request_at, reading_of, is_command, takes_memory};
+ghost use Rattle.counter_routes.specs.Readings.{Reads, command_or_bad, look_or_bad, request_at, reading_of, is_command, takes_memory};
 ghost use Rattle.counter_routes.specs.declared.bodies.Fault.TheVariants.{BadBody, NoMemory as OutOfMemory};
 
 use crate::bodies::{
-    Fault, active_command, new_customer_command, rental_command, return_command, scrap_command,
+    Fault, active_command, new_customer_command, payment_command, rental_command, return_command,
+    scrap_command,
 };
 use crate::imports::import_command;
+use crate::looks::{balance_ask, number_of, overdue_ask, rewards_ask};
 use crate::paths::{Route, Routes};
-use http_messages::part;
-use shop_types::{Ask, Caller, Command, NoMemory, Refusal, Request, RowNumber};
+use shop_types::{Ask, Caller, Command, NoMemory, Refusal, Request};
 use std::alloc::Global;
 
 /// What a message asks: a request to the shop, or why it is none.
@@ -22,13 +23,6 @@ use std::alloc::Global;
 pub enum Reading {
     Asked(Request),
     Refused(Refusal),
-}
-
-/// The number of a row that the path's part behind its second slash is.
-fn number_of<const KIND: u8>(target: &[u8]) -> Option<RowNumber<KIND>>
-    ensures { result ≡ number_in target.now }
-{
-    RowNumber::read(part(target, 2)?)
 }
 
 /// What a command's message asks: the command, or `bad_body` where the message writes none.
@@ -47,7 +41,7 @@ fn read_command(command: Result<Command, Fault>) -> Result<Reading, NoMemory>
     }
 }
 
-/// What a look's message asks: the look, or `bad_body` where the path has no row's number.
+/// What a look's message asks: the look, or `bad_body` where a part of the path is not of its form.
 fn read_look(ask: Option<Ask>) -> Reading
     ensures { (asking : Option Asking) → option_map seen_ask ask ≡ asking → Reads result (look_or_bad asking) }
 {
@@ -77,6 +71,7 @@ impl Routes {
             Route::Active => read_command(active_command(alloc, body)),
             Route::Rent => read_command(rental_command(alloc, body)),
             Route::Return => read_command(return_command(alloc, body)),
+            Route::Pay => read_command(payment_command(alloc, body)),
             Route::Import => read_command(import_command(alloc, target, body)),
             Route::Scrap => read_command(scrap_command(alloc, body)),
             Route::Customer => Ok(read_look(number_of(target).map(Ask::Customer))),
@@ -84,6 +79,9 @@ impl Routes {
             Route::HeldBy => Ok(read_look(number_of(target).map(Ask::HeldBy))),
             Route::FilmInStock => Ok(read_look(number_of(target).map(Ask::FilmInStock))),
             Route::FilmNotInStock => Ok(read_look(number_of(target).map(Ask::FilmNotInStock))),
+            Route::Balance => Ok(read_look(balance_ask(target))),
+            Route::Overdue => Ok(read_look(overdue_ask(target))),
+            Route::Rewards => Ok(read_look(rewards_ask(target))),
         }
     }
 

@@ -3,12 +3,12 @@
 ghost use Rattle.std.specs.Prelude.{◌≡◌, IfOk, IfErr, Some, None, option_map};
 ghost use Rattle.serde_json.specs.View.{view};
 ghost use Rattle.shop_types.specs.Seen.{seen_person, seen_act, seen_command};
-ghost use Rattle.counter_routes.specs.Bodies.{string_at, text_at, key_at, moment_at, number_at, bool_at, has_members as is_object_of, person_at, command_at, new_customer, new_active, new_rental, new_return, new_scrap, body_of};
+ghost use Rattle.counter_routes.specs.Bodies.{string_at, text_at, key_at, moment_at, number_at, bool_at, rental_at, amount_at, has_members as is_object_of, person_at, command_at, new_customer, new_active, new_rental, new_return, new_payment, new_scrap, body_of};
 ghost use Rattle.counter_routes.specs.Readings.{written_in};
 ghost use Rattle.counter_routes.specs.declared.bodies.Fault.TheVariants.{BadBody, NoMemory as OutOfMemory};
 
 use serde_json::Value;
-use shop_types::{Act, Command, Key, Moment, Person, RowNumber, Text};
+use shop_types::{Act, Amount, Command, Key, Moment, Person, RentalNo, RowNumber, Text};
 use std::alloc::{AllocError, Global};
 
 /// Why a body gives no command.
@@ -68,6 +68,25 @@ fn flag(value: &Value, name: &str) -> Option<bool>
     ensures { result ≡ bool_at name.now (view value.now) }
 {
     value.get(name)?.as_bool()
+}
+
+/// The rental that a payment is of, or that it is of none, as a null says.
+fn rental_or_none(value: &Value) -> Option<Option<RentalNo>>
+    ensures { result ≡ rental_at (view value.now) }
+{
+    if value.get("rental")?.is_null() {
+        return Some(None);
+    }
+    Some(Some(number(value, "rental")?))
+}
+
+fn amount(value: &Value) -> Option<Amount>
+    ensures { result ≡ amount_at (view value.now) }
+{
+    match value.get("amount")?.as_u64()? {
+        cents @ 0..=99_999 => Amount::new(cents as u32),
+        _ => None,
+    }
 }
 
 fn text<const LOW: usize, const HIGH: usize>(
@@ -162,6 +181,22 @@ fn returned(alloc: Global, value: &Value) -> Result<Command, Fault>
     command(alloc, value, Act::TakeBack(rental))
 }
 
+#[tactic(auto, unfolding(crate::specs::Bodies::new_payment))]
+fn payment(alloc: Global, value: &Value) -> Result<Command, Fault>
+    ensures ok { IfOk result (λ command. new_payment (view value.now) ≡ Some (seen_command command)) }
+    ensures bad { IfErr result (λ fault. fault ≡ BadBody → new_payment (view value.now) ≡ None) }
+{
+    if !has_members(value, 6) {
+        return Err(Fault::BadBody);
+    }
+    let act = Act::Pay {
+        customer: number(value, "customer").ok_or(Fault::BadBody)?,
+        rental: rental_or_none(value).ok_or(Fault::BadBody)?,
+        amount: amount(value).ok_or(Fault::BadBody)?,
+    };
+    command(alloc, value, act)
+}
+
 #[tactic(auto, unfolding(crate::specs::Bodies::new_scrap))]
 fn scrapped(alloc: Global, value: &Value) -> Result<Command, Fault>
     ensures ok { IfOk result (λ command. new_scrap (view value.now) ≡ Some (seen_command command)) }
@@ -215,6 +250,14 @@ pub(crate) fn return_command(alloc: Global, body: &[u8]) -> Result<Command, Faul
     ensures bad { IfErr result (λ fault. fault ≡ BadBody → written_in new_return body.now ≡ None) }
 {
     returned(alloc, &value_of(alloc, body)?)
+}
+
+/// The command to take a payment that a body writes.
+pub(crate) fn payment_command(alloc: Global, body: &[u8]) -> Result<Command, Fault>
+    ensures ok { IfOk result (λ command. written_in new_payment body.now ≡ Some (seen_command command)) }
+    ensures bad { IfErr result (λ fault. fault ≡ BadBody → written_in new_payment body.now ≡ None) }
+{
+    payment(alloc, &value_of(alloc, body)?)
 }
 
 /// The command to scrap a copy that a body writes.

@@ -27,10 +27,11 @@ fn staff(target: &[u8]) -> Option<StaffNo>
     StaffNo::read(part(target, 3)?)
 }
 
-fn moment(target: &[u8]) -> Option<Moment>
-    ensures { result ≡ moment_in target.now }
+/// The moment whose text the path's part behind its first `n` slashes is.
+pub(crate) fn moment(target: &[u8], n: usize) -> Option<Moment>
+    ensures { result ≡ moment_in target.now n }
 {
-    let bytes = part(target, 4)?;
+    let bytes = part(target, n)?;
     let Ok(text) = std::str::from_utf8(bytes) else {
         return None;
     };
@@ -47,7 +48,7 @@ pub(crate) fn import_command(alloc: Global, target: &[u8], body: &[u8]) -> Resul
     Ok(Command {
         key: name(alloc, target, 2)?,
         staff: staff(target).ok_or(Fault::BadBody)?,
-        at: moment(target).ok_or(Fault::BadBody)?,
+        at: moment(target, 4).ok_or(Fault::BadBody)?,
         act: Act::Import {
             lot: name(alloc, target, 5)?,
             file: StockFile::new(Vec::from_slice(alloc, body)?).unwrap(),

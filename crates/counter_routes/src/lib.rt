@@ -4,6 +4,7 @@
 mod asked;
 mod bodies;
 mod imports;
+mod looks;
 mod paths;
 
 pub use asked::Reading;

@@ -14,6 +14,7 @@ pub(crate) enum Route {
     Active,
     Rent,
     Return,
+    Pay,
     Import,
     Scrap,
     Customer,
@@ -21,6 +22,9 @@ pub(crate) enum Route {
     HeldBy,
     FilmInStock,
     FilmNotInStock,
+    Balance,
+    Overdue,
+    Rewards,
 }
 
 /// A route, and the paths that it takes.
@@ -30,7 +34,7 @@ pub(crate) struct Pattern {
     route: Route,
 }
 
-const POST_ROUTES: [Pattern; 6] = [
+const POST_ROUTES: [Pattern; 7] = [
     Pattern {
         text: "/customer",
         route: Route::NewCustomer,
@@ -52,12 +56,16 @@ const POST_ROUTES: [Pattern; 6] = [
         route: Route::Return,
     },
     Pattern {
+        text: "/pay",
+        route: Route::Pay,
+    },
+    Pattern {
         text: "/scrap",
         route: Route::Scrap,
     },
 ];
 
-const GET_ROUTES: [Pattern; 5] = [
+const GET_ROUTES: [Pattern; 8] = [
     Pattern {
         text: "/customer/{n}",
         route: Route::Customer,
@@ -77,6 +85,18 @@ const GET_ROUTES: [Pattern; 5] = [
     Pattern {
         text: "/film-not-in-stock/{film}",
         route: Route::FilmNotInStock,
+    },
+    Pattern {
+        text: "/balance/{customer}/{at}",
+        route: Route::Balance,
+    },
+    Pattern {
+        text: "/overdue/{at}",
+        route: Route::Overdue,
+    },
+    Pattern {
+        text: "/rewards/{at}/{purchases}/{cents}",
+        route: Route::Rewards,
     },
 ];
 

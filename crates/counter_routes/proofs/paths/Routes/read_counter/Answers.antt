@@ -3,7 +3,7 @@ use Rattle.std.specs.Prelude.{option_map}
 use Rattle.shop_model.specs.Refusals.{NoRoute}
 use Rattle.shop_model.specs.Values.{OneCustomer, InStock, HeldBy, FilmInStock, FilmNotInStock}
 use Rattle.shop_types.specs.Seen.{seen_ask}
-use Rattle.counter_routes.specs.Readings.{ask_in}
+use Rattle.counter_routes.specs.Looks.{ask_in}
 use Rattle.counter_routes.proofs.paths.Routes.read_counter.Goals as goal
 
 pub returns-in_default-clause-reading : goal.returns-in_default-clause-reading
@@ -28,6 +28,10 @@ returns-in-Rent-clause-reading c =
 pub returns-in-Return-clause-reading : goal.returns-in-Return-clause-reading
 returns-in-Return-clause-reading c =
     rw (← c.in-Some.ensures, c.in-Return.is) (c.read_command-in-Return.ensures.reading _ c.return_command.ensures.ok c.return_command.ensures.bad)
+
+pub returns-in-Pay-clause-reading : goal.returns-in-Pay-clause-reading
+returns-in-Pay-clause-reading c =
+    rw (← c.in-Some.ensures, c.in-Pay.is) (c.read_command-in-Pay.ensures.reading _ c.payment_command.ensures.ok c.payment_command.ensures.bad)
 
 pub returns-in-Scrap-clause-reading : goal.returns-in-Scrap-clause-reading
 returns-in-Scrap-clause-reading c =
@@ -57,3 +61,15 @@ pub returns-in-FilmNotInStock-clause-reading : goal.returns-in-FilmNotInStock-cl
 returns-in-FilmNotInStock-clause-reading c =
     let same : option_map seen_ask c.map-in-FilmNotInStock.result ≡ ask_in FilmNotInStock c.args.message.now.target.now = search rules in
     rw (← c.in-Some.ensures, c.in-FilmNotInStock.is) (c.read_look-in-FilmNotInStock.ensures _ same)
+
+pub returns-in-Balance-clause-reading : goal.returns-in-Balance-clause-reading
+returns-in-Balance-clause-reading c =
+    rw (← c.in-Some.ensures, c.in-Balance.is) (c.read_look-in-Balance.ensures _ c.balance_ask.ensures)
+
+pub returns-in-Overdue-clause-reading : goal.returns-in-Overdue-clause-reading
+returns-in-Overdue-clause-reading c =
+    rw (← c.in-Some.ensures, c.in-Overdue.is) (c.read_look-in-Overdue.ensures _ c.overdue_ask.ensures)
+
+pub returns-in-Rewards-clause-reading : goal.returns-in-Rewards-clause-reading
+returns-in-Rewards-clause-reading c =
+    rw (← c.in-Some.ensures, c.in-Rewards.is) (c.read_look-in-Rewards.ensures _ c.rewards_ask.ensures)

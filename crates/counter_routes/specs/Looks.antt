@@ -1,0 +1,43 @@
+-- What a look is: its path's parts say all of it.
+use Rattle.std.specs.Prelude.{ℕ, List, slice_get, Option, Some, option_map, option_and_then, codes, if◌then◌else◌}
+use Rattle.std.specs.Str.{bytes_eq}
+use Rattle.http_messages.specs.Items.{parts}
+use Rattle.shop_values.specs.Numbers.{row_number_of}
+use Rattle.shop_model.specs.Values.{Ask, Balance, Overdue, Rewards}
+use Rattle.counter_routes.specs.Bodies.{◌>>=◌}
+use Rattle.counter_routes.specs.Imports.{moment_in}
+
+-- the number of a row that the path's part behind its second slash is
+abbrev pub number_in : List ℕ → Option ℕ
+number_in target = option_and_then row_number_of (slice_get (parts target) 2)
+
+-- what a path asks of the row whose number it has
+abbrev pub ask_in : (ℕ → Ask) → List ℕ → Option Ask
+ask_in ask target = option_map ask (number_in target)
+
+-- The number from 0 to 4,294,967,295 that the bytes write in decimal: `0`, or digits with no leading zero. Each number has one text.
+abbrev pub threshold_of : List ℕ → Option ℕ
+threshold_of bytes = if bytes_eq bytes (codes "0") then Some 0 else row_number_of bytes
+
+-- the threshold that the path's part behind its first `n` slashes is
+abbrev pub threshold_in : List ℕ → ℕ → Option ℕ
+threshold_in target n = option_and_then threshold_of (slice_get (parts target) n)
+
+-- what a customer owes at a moment: the customer's number stands behind the second slash, the moment behind the third
+unfoldable pub balance_in : List ℕ → Option Ask
+balance_in target = do
+  customer ← number_in target
+  moment ← moment_in target 3
+  Some (Balance customer moment)
+
+-- what is overdue at the moment behind the second slash
+unfoldable pub overdue_in : List ℕ → Option Ask
+overdue_in target = option_map Overdue (moment_in target 2)
+
+-- who is rewarded: the moment stands behind the second slash, the purchases behind the third, the cents behind the fourth
+unfoldable pub rewards_in : List ℕ → Option Ask
+rewards_in target = do
+  moment ← moment_in target 2
+  purchases ← threshold_in target 3
+  cents ← threshold_in target 4
+  Some (Rewards moment purchases cents)

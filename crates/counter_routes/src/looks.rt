@@ -1,0 +1,68 @@
+//! Looks, whose parts stand in the path.
+
+ghost use Rattle.std.specs.Prelude.{◌≡◌, option_map};
+ghost use Rattle.shop_types.specs.Seen.{seen_ask};
+ghost use Rattle.counter_routes.specs.Looks.{number_in, threshold_of, threshold_in, balance_in, overdue_in, rewards_in};
+
+use crate::imports::moment;
+use http_messages::part;
+use shop_types::{Ask, RowNumber};
+
+/// A number from 1 that is of no table's row.
+type NumberAlone = RowNumber<0>;
+
+/// The number of a row that the path's part behind its second slash is.
+pub(crate) fn number_of<const KIND: u8>(target: &[u8]) -> Option<RowNumber<KIND>>
+    ensures { result ≡ number_in target.now }
+{
+    RowNumber::read(part(target, 2)?)
+}
+
+/// The number that the bytes write, which may be 0.
+fn threshold_written(digits: &[u8]) -> Option<u32>
+    ensures { result ≡ threshold_of digits.now }
+{
+    if digits == b"0".as_slice() {
+        return Some(0);
+    }
+    let number = NumberAlone::read(digits)?;
+    Some(number.get())
+}
+
+/// The threshold that the path's part behind its first `n` slashes is.
+fn threshold(target: &[u8], n: usize) -> Option<u32>
+    ensures { result ≡ threshold_in target.now n }
+{
+    threshold_written(part(target, n)?)
+}
+
+/// The look at a customer's balance that a path writes.
+#[tactic(auto, unfolding(crate::specs::Looks::balance_in))]
+pub(crate) fn balance_ask(target: &[u8]) -> Option<Ask>
+    ensures { option_map seen_ask result ≡ balance_in target.now }
+{
+    Some(Ask::Balance {
+        customer: number_of(target)?,
+        at: moment(target, 3)?,
+    })
+}
+
+/// The look at the overdue rentals that a path writes.
+#[tactic(auto, unfolding(crate::specs::Looks::overdue_in))]
+pub(crate) fn overdue_ask(target: &[u8]) -> Option<Ask>
+    ensures { option_map seen_ask result ≡ overdue_in target.now }
+{
+    Some(Ask::Overdue(moment(target, 2)?))
+}
+
+/// The look at the rewards that a path writes.
+#[tactic(auto, unfolding(crate::specs::Looks::rewards_in))]
+pub(crate) fn rewards_ask(target: &[u8]) -> Option<Ask>
+    ensures { option_map seen_ask result ≡ rewards_in target.now }
+{
+    Some(Ask::Rewards {
+        at: moment(target, 2)?,
+        purchases: threshold(target, 3)?,
+        cents: threshold(target, 4)?,
+    })
+}
