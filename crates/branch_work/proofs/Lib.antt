@@ -8,3 +8,5 @@ pub mod Adding
 pub mod Lookings
 pub mod FilmLemmas
 pub mod Shows
+pub mod TermLemmas
+pub mod RewardLemmas

@@ -1,8 +1,8 @@
 -- What is found of the rows that a command names.
-use Rattle.std.specs.Prelude.{◌≡◌, ℕ, ◌==◌, Bool, true, false, not, is_some, List, map, filter, Option, Some, None, option_map}
+use Rattle.std.specs.Prelude.{◌≡◌, ℕ, zero, suc, ℤ, [], ◌∷◌, ◌++◌, ◌==◌, Bool, true, false, not, is_some, List, map, filter, Option, Some, None, option_map}
 use Rattle.std.specs.Str.{bytes_eq}
 use Rattle.shop_model.specs.Rows.{lacks, owned_by}
-use Rattle.shop_model.specs.Values.{Text, Command, Rental, Ask, FilmInStock, FilmNotInStock}
+use Rattle.shop_model.specs.Values.{Text, Command, Rental, Payment, Ask, FilmInStock, FilmNotInStock}
 use Rattle.shop_model.specs.Verdict.{is_film_withdrawn}
 use Rattle.shop_model.specs.Shop.{Catalogue, Shop}
 use Rattle.shop_model.specs.Stock.{is_here, film_in_stock, film_not_in_stock}
@@ -12,6 +12,8 @@ use Rattle.shop_store.specs.Seen.{seen_copy_row}
 use Rattle.stock_csv.specs.declared.StockRow.{StockRow}
 use Rattle.branch_core.specs.declared.found.StockFound.{StockFound}
 use Rattle.branch_core.specs.declared.found.KeptFound.{KeptFound}
+use Rattle.balance_rule.specs.Balance.{paid_of}
+use Rattle.balance_rule.specs.Rewards.{is_on, passes}
 use Rattle.branch_core.specs.Agreed.{seen_kept as told, kept_for}
 
 -- the row, with whether the catalogue has its film, and whether that is withdrawn
@@ -57,3 +59,22 @@ stock_asked false film = FilmNotInStock film
 abbrev pub stock_listed : Bool → ℕ → Shop → List ℕ
 stock_listed true film shop = film_in_stock film shop
 stock_listed false film shop = film_not_in_stock film shop
+
+-- ---- rewards
+
+-- the numbers from 1 to n
+abbrev pub numbers_to : ℕ → List ℕ
+numbers_to zero = []
+numbers_to (suc n) = numbers_to n ++ suc n ∷ []
+
+-- the payment is of a day of the month
+abbrev pub is_paid_in : ℤ × ℤ → Payment → Bool
+is_paid_in month payment = is_on month (paid_of payment)
+
+-- the customer's payments pass both thresholds in the month
+abbrev pub passes_for : ℤ × ℤ → ℕ → ℕ → List Payment → ℕ → Bool
+passes_for month purchases cents payments c = passes month purchases cents (map paid_of (filter (λ (it : Payment). it.customer == c) payments))
+
+-- of so many customers, those for whom that is so
+abbrev pub rewarded_numbers : ℤ × ℤ → ℕ → ℕ → ℕ → List Payment → List ℕ
+rewarded_numbers month purchases cents n payments = filter (passes_for month purchases cents payments) (numbers_to n)

@@ -5,7 +5,7 @@ use Rattle.shop_model.specs.Rows.{Row, Owned, set_row}
 use Rattle.shop_model.specs.Values.{Text, Command, Scrapped}
 use Rattle.shop_model.specs.Machine.{films_in, reply_text}
 use Rattle.shop_model.specs.Books.{BookCopy, Books, put_state, shop_of, imported, book_acted, set_last}
-use Rattle.shop_store.specs.Seen.{seen_row, seen_copy_row, opened_row}
+use Rattle.shop_store.specs.Seen.{seen_row, seen_copy_row, seen_payment_row, opened_row}
 use Rattle.shop_types.specs.declared.command.Act.{Act}
 use Rattle.shop_types.specs.declared.command.Act.TheVariants as act
 use Rattle.branch_core.specs.Agreed.{seen_stock}
@@ -26,6 +26,7 @@ films_found (found.Customer has_city customers) = []
 films_found (found.Active is_active) = []
 films_found (found.Rent is_active copy of_copy rentals) = []
 films_found (found.TakeBack is_returned) = []
+films_found (found.Pay has_customer renter payments) = []
 films_found (found.Scrap is_here of_copy) = []
 films_found (found.Import copies has_lot stock) = films_in (seen_stock stock)
 
@@ -35,6 +36,7 @@ lot_in (act.Customer person) = None
 lot_in (act.Active customer active) = None
 lot_in (act.Rent customer copy) = None
 lot_in (act.TakeBack rental) = None
+lot_in (act.Pay customer rental amount) = None
 lot_in (act.Import lot file) = Some lot
 lot_in (act.Scrap copy) = None
 
@@ -48,6 +50,7 @@ with_rows b (new.Customer row) books = record books { customers = books.customer
 with_rows b (new.Active customer active) books = record books { customers = set_row b customer (λ it. record it { active = active }) books.customers }
 with_rows b (new.Rent row) books = record books { rentals = books.rentals ++ opened_row row ∷ [] }
 with_rows b (new.TakeBack rental returned) books = record books { rentals = set_row b rental (λ it. record it { returned = Some returned }) books.rentals }
+with_rows b (new.Pay row) books = record books { payments = books.payments ++ seen_payment_row row ∷ [] }
 with_rows b (new.Scrap copy) books = record books { copies = set_row b copy (put_state Scrapped) books.copies }
 with_rows b (new.Import copies lot) books = record books { copies = books.copies ++ map seen_copy_row copies.items; lots = books.lots ++ lot_rows b (option_map (λ it. it.now) lot) }
 

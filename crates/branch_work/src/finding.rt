@@ -1,11 +1,12 @@
 //! What the tables have of the rows that a command names.
 
-ghost use Rattle.std.specs.Prelude.{◌≡◌, ◌≤◌, map, option_map, IfOk};
+ghost use Rattle.std.specs.Prelude.{◌≡◌, ◌≤◌, ℕ, map, option_map, IfOk};
 ghost use Rattle.std.specs.List.{All};
 ghost use Rattle.sqlite.specs.Held.{state};
 ghost use Rattle.sqlite.specs.State.{HasCleanDisk};
 ghost use Rattle.sql_rows.specs.Calls.{StaysWithin};
 ghost use Rattle.shop_model.specs.Rows.{at, owned_by};
+ghost use Rattle.shop_model.specs.Values.{Pay};
 ghost use Rattle.shop_model.specs.Books.{head, shop_of};
 ghost use Rattle.shop_values.specs.LimitValues as values;
 ghost use Rattle.shop_types.specs.Seen.{seen_act, seen_command};
@@ -16,12 +17,15 @@ ghost use Rattle.branch_core.specs.Agreed.{Agrees, ActAgrees, RowAgrees, IsFound
 ghost use Rattle.branch_work.specs.Rules.{rules_of};
 ghost use Rattle.branch_work.specs.Finds.{as_listed, found_row, told_row, by_form, IsKeptFor};
 
-use crate::looking::{find_active, find_copy, find_here, find_of_copy, find_returned};
+use crate::looking::{find_active, find_copy, find_here, find_of_copy, find_renter, find_returned};
 use branch_core::{ActFound, Found, KeptFound, StaffFound, StockFound};
 use catalogue_store::{film_at, has_city, staff_at};
-use shop_store::{KeptRow, copy_count, customer_count, has_lot, kept_count, last_rental};
+use shop_store::{
+    KeptRow, copy_count, customer_count, has_lot, kept_count, last_payment, last_rental,
+};
 use shop_types::{
-    Act, BadCsv, BranchNo, Command, CopyNo, CustomerNo, LotName, Moment, Person, StaffNo, StockFile,
+    Act, BadCsv, BranchNo, Command, CopyNo, CustomerNo, LotName, Moment, Person, RentalNo, StaffNo,
+    StockFile,
 };
 use sql_rows::{Bytes, StoreFault};
 use sqlite::{Alter, Transaction};
@@ -120,6 +124,11 @@ fn find_act<S: Alter>(
         Act::TakeBack(rental) => Ok(ActFound::TakeBack {
             is_returned: find_returned(tx, branch, *rental)?,
         }),
+        Act::Pay {
+            customer,
+            rental,
+            ..
+        } => find_pay(tx, branch, *customer, *rental),
         Act::Scrap(copy) => find_scrap(alloc, tx, branch, *copy),
         Act::Import { lot, file } => find_import(alloc, tx, branch, lot, file),
     }
@@ -149,6 +158,30 @@ fn find_rent<S: Alter>(
         copy: found,
         of_copy,
         rentals,
+    })
+}
+
+/// What is read for a payment.
+fn find_pay<S: Alter>(
+    tx: &mut Transaction<'_, S>,
+    branch: BranchNo,
+    customer: CustomerNo,
+    rental: Option<RentalNo>,
+) -> Result<ActFound, StoreFault>
+    ensures same_reference { tx.new.conn.ghost_name ≡ tx.old.conn.ghost_name }
+    ensures inside { StaysWithin (state S.Store tx.old.conn.now) (state S.Store tx.new.conn.now) result }
+    ensures found { HasCleanDisk (state S.Store tx.new.conn.now) → IfOk result (λ found. Reads (state S.Store tx.old.conn.now) (state S.Store tx.new.conn.now) (λ books. (limits : values.Limits) (amount : ℕ)
+        → ActAgrees (rules_of limits) books.catalogue (shop_of branch books) (Pay customer rental amount) found)) }
+    ensures act { (amount : _) → IfOk result (λ found. IsFoundFor (Act.Pay customer rental amount) found) }
+    ensures within { IfOk result (λ found. IsWithin found) }
+{
+    let has_customer = find_active(tx, branch, customer)?.is_some();
+    let renter = find_renter(tx, branch, rental)?;
+    let payments = fitting(last_payment(tx, branch)? as usize)?;
+    Ok(ActFound::Pay {
+        has_customer,
+        renter,
+        payments,
     })
 }
 

@@ -1,6 +1,6 @@
 //! What is found of customers, copies and rentals.
 
-ghost use Rattle.std.specs.Prelude.{◌≡◌, ℕ, is_some, map, option_map, IfOk};
+ghost use Rattle.std.specs.Prelude.{◌≡◌, ℕ, is_some, map, option_map, IfOk, IfSome};
 ghost use Rattle.sqlite.specs.Held.{state};
 ghost use Rattle.sqlite.specs.State.{HasCleanDisk};
 ghost use Rattle.sql_rows.specs.Calls.{StaysWithin};
@@ -124,6 +124,26 @@ pub fn find_returned<S: Alter>(
 {
     match rental_at(tx, branch, rental)? {
         Some(row) => Ok(Some(row.rental.returned.is_some())),
+        None => Ok(None),
+    }
+}
+
+/// The customer of the rental, where one is named and the branch has it.
+pub fn find_renter<S: Alter>(
+    tx: &mut Transaction<'_, S>,
+    branch: BranchNo,
+    rental: Option<RentalNo>,
+) -> Result<Option<CustomerNo>, StoreFault>
+    ensures same_reference { tx.new.conn.ghost_name ≡ tx.old.conn.ghost_name }
+    ensures inside { StaysWithin (state S.Store tx.old.conn.now) (state S.Store tx.new.conn.now) result }
+    ensures found { HasCleanDisk (state S.Store tx.new.conn.now) → IfOk result (λ renter. Reads (state S.Store tx.old.conn.now) (state S.Store tx.new.conn.now)
+        (λ books. IfSome rental (λ r. renter ≡ head (map (λ it. it.customer) (at r (shop_of branch books).rentals))))) }
+{
+    let Some(number) = rental else {
+        return Ok(None);
+    };
+    match rental_at(tx, branch, number)? {
+        Some(row) => Ok(Some(row.rental.customer)),
         None => Ok(None),
     }
 }

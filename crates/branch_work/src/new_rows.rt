@@ -13,9 +13,10 @@ ghost use Rattle.branch_work.specs.NewRows.{AreNew, films_found, lot_in, copies_
 
 use branch_core::{ActFound, Rows, StockFound};
 use reply_bodies::{
-    active_text, new_copies_text, new_customer_text, rental_text, returned_text, scrapped_text,
+    active_text, new_copies_text, new_customer_text, payment_text, rental_text, returned_text,
+    scrapped_text,
 };
-use shop_store::{CopyRow, CopyState, CustomerRow, Mark, RentalRow};
+use shop_store::{CopyRow, CopyState, CustomerRow, Mark, PaymentRow, RentalRow};
 use shop_types::{
     Act, BranchNo, Command, CopyNo, CustomerNo, FilmNo, LotName, Moment, NoMemory, RentalNo,
 };
@@ -34,6 +35,7 @@ pub enum NewRows<'a> {
         rental: RentalNo,
         returned: Moment,
     },
+    Pay(PaymentRow),
     Scrap(CopyNo),
     Import {
         copies: Vec<CopyRow>,
@@ -69,29 +71,48 @@ pub fn new_rows<'a>(
             Ok((NewRows::Active { customer, active }, reply))
         }
         Rows::Rent { number, rental } => {
-            let reply = rental_text(alloc, number)?;
             let row = RentalRow {
                 branch,
                 number,
                 rental,
             };
-            Ok((NewRows::Rent(row), reply))
+            Ok((NewRows::Rent(row), rental_text(alloc, number)?))
         }
         Rows::TakeBack { rental, returned } => {
             let reply = returned_text(alloc, rental)?;
             Ok((NewRows::TakeBack { rental, returned }, reply))
         }
-        Rows::Scrap(copy) => {
-            let reply = scrapped_text(alloc, copy)?;
-            Ok((NewRows::Scrap(copy), reply))
+        Rows::Pay { number, payment } => {
+            let row = PaymentRow {
+                branch,
+                number,
+                payment,
+            };
+            Ok((NewRows::Pay(row), payment_text(alloc, number)?))
         }
-        Rows::Import { first, count } => {
-            let reply = new_copies_text(alloc, count, first)?;
-            let copies = new_copies(alloc, branch, first, listed(act))?;
-            let lot = lot_of(&command.act);
-            Ok((NewRows::Import { copies, lot }, reply))
-        }
+        Rows::Scrap(copy) => Ok((NewRows::Scrap(copy), scrapped_text(alloc, copy)?)),
+        Rows::Import { first, count } => import_rows(alloc, branch, command, first, count, act),
     }
+}
+
+/// The same of an import, whose copies have so many numbers, from the first on.
+fn import_rows<'a>(
+    alloc: Global,
+    branch: BranchNo,
+    command: &'a Command,
+    first: CopyNo,
+    count: u32,
+    act: &ActFound,
+) -> Result<(NewRows<'a>, String), NoMemory>
+    requires first { first ≤ 1_000_001 }
+    requires within { IsWithin act.now }
+    ensures { IfOk result (λ new. (limits : values.Limits) (books : books.Books) → ActAgrees (rules_of limits) books.catalogue (shop_of branch books) (seen_act command.now.act) act.now
+        → Adds (rules_of limits) (seen_command command.now) (seen_act command.now.act) (shop_of branch books) (Rows.Import first count) → AreNew limits branch (seen_command command.now) books new.0 (string_bytes new.1)) }
+{
+    let reply = new_copies_text(alloc, count, first)?;
+    let copies = new_copies(alloc, branch, first, listed(act))?;
+    let lot = lot_of(&command.act);
+    Ok((NewRows::Import { copies, lot }, reply))
 }
 
 /// The lot that the act brings, where it is an import.
@@ -104,6 +125,7 @@ fn lot_of(act: &Act) -> Option<&LotName>
         | Act::Active { .. }
         | Act::Rent { .. }
         | Act::TakeBack(_)
+        | Act::Pay { .. }
         | Act::Scrap(_) => None,
     }
 }

@@ -26,6 +26,7 @@ ghost use Rattle.branch_work.specs.Works.{IsDone, Works, WorksFor, IsAdded};
 use crate::finding::{find, kept_found};
 use crate::looking::{find_here, find_of_copy, find_of_film};
 use crate::new_rows::new_rows;
+use crate::reports::{look_balance, look_overdue, look_rewards};
 use crate::writing::write;
 use branch_core::{
     ActFound, Change, FilmCopy, Rows, decide, film_in_stock, film_not_in_stock, held_by, in_stock,
@@ -80,6 +81,13 @@ fn look<S: Alter>(
         Ask::HeldBy(copy) => look_holder(alloc, tx, branch, copy),
         Ask::FilmInStock(film) => look_film(alloc, tx, branch, film, true),
         Ask::FilmNotInStock(film) => look_film(alloc, tx, branch, film, false),
+        Ask::Balance { customer, at } => look_balance(alloc, tx, branch, customer, at),
+        Ask::Overdue(at) => look_overdue(alloc, tx, branch, at),
+        Ask::Rewards {
+            at,
+            purchases,
+            cents,
+        } => look_rewards(alloc, tx, branch, at, purchases, cents),
     }
 }
 

@@ -13,8 +13,8 @@ ghost use Rattle.branch_work.specs.NewRows.{lot_rows, with_rows, with_kept};
 
 use crate::new_rows::NewRows;
 use shop_store::{
-    CopyRow, CopyState, put_copy, put_customer, put_kept, put_lot, put_rental, set_active,
-    set_last, set_returned, set_state,
+    CopyRow, CopyState, put_copy, put_customer, put_kept, put_lot, put_payment, put_rental,
+    set_active, set_last, set_returned, set_state,
 };
 use shop_types::{BranchNo, Command, LotName};
 use sql_rows::{Bytes, StoreFault};
@@ -55,6 +55,7 @@ fn put_rows<S: Alter>(
         NewRows::Active { customer, active } => set_active(tx, branch, *customer, *active),
         NewRows::Rent(row) => put_rental(tx, row),
         NewRows::TakeBack { rental, returned } => set_returned(tx, branch, *rental, *returned),
+        NewRows::Pay(row) => put_payment(tx, row),
         NewRows::Scrap(copy) => set_state(tx, branch, *copy, CopyState::Scrapped),
         NewRows::Import { copies, lot } => put_stock(tx, branch, copies.as_slice(), *lot),
     }

@@ -47,3 +47,9 @@ returns-in-Scrap-clause-found g c = λ clean.
     let P : Act → ActFound → Books → Type 0 = λ it found books. (limits : Limits) → ActAgrees (rules_of limits) books.catalogue (shop_of c.args.branch books) (seen_act it) found in
     IfOk-weaker c.find_scrap.result _ _ (λ found reads. reads_as (state g.S.Store c.args.tx.now.conn.now) (state g.S.Store c.find_scrap.new.tx.conn.now) _ _
     (λ books held is. subst (λ (it : Act). P it found books) (sym c.in-Scrap.is) is) reads) (c.find_scrap.ensures.found clean)
+
+pub returns-in-Pay-clause-found : goal.returns-in-Pay-clause-found
+returns-in-Pay-clause-found g c = λ clean.
+    let P : Act → ActFound → Books → Type 0 = λ it found books. (limits : Limits) → ActAgrees (rules_of limits) books.catalogue (shop_of c.args.branch books) (seen_act it) found in
+    IfOk-weaker c.find_pay.result _ _ (λ found reads. reads_as (state g.S.Store c.args.tx.now.conn.now) (state g.S.Store c.find_pay.new.tx.conn.now) _ _
+    (λ books held is. subst (λ (it : Act). P it found books) (sym c.in-Pay.is) (λ limits. is limits c.in-Pay.amount)) reads) (c.find_pay.ensures.found clean)

@@ -32,3 +32,18 @@ pub returns-in-FilmNotInStock-clause-works : goal.returns-in-FilmNotInStock-clau
 returns-in-FilmNotInStock-clause-works g c = λ clean.
     let P : Ask → Type 0 = λ it. IfOk c.look_film-in-FilmNotInStock.result (λ reply. (limits : Limits) → WorksFor limits c.args.branch None (Look (seen_ask it)) (seen_reply reply) false (state g.S.Store c.args.tx.now.conn.now) (state g.S.Store c.look_film-in-FilmNotInStock.new.tx.conn.now)) in
     subst P (sym c.in-FilmNotInStock.is) (c.look_film-in-FilmNotInStock.ensures.works clean)
+
+pub returns-in-Balance-clause-works : goal.returns-in-Balance-clause-works
+returns-in-Balance-clause-works g c = λ clean.
+    let P : Ask → Type 0 = λ it. IfOk c.look_balance.result (λ reply. (limits : Limits) → WorksFor limits c.args.branch None (Look (seen_ask it)) (seen_reply reply) false (state g.S.Store c.args.tx.now.conn.now) (state g.S.Store c.look_balance.new.tx.conn.now)) in
+    subst P (sym c.in-Balance.is) (c.look_balance.ensures.works clean)
+
+pub returns-in-Overdue-clause-works : goal.returns-in-Overdue-clause-works
+returns-in-Overdue-clause-works g c = λ clean.
+    let P : Ask → Type 0 = λ it. IfOk c.look_overdue.result (λ reply. (limits : Limits) → WorksFor limits c.args.branch None (Look (seen_ask it)) (seen_reply reply) false (state g.S.Store c.args.tx.now.conn.now) (state g.S.Store c.look_overdue.new.tx.conn.now)) in
+    subst P (sym c.in-Overdue.is) (c.look_overdue.ensures.works clean)
+
+pub returns-in-Rewards-clause-works : goal.returns-in-Rewards-clause-works
+returns-in-Rewards-clause-works g c = λ clean.
+    let P : Ask → Type 0 = λ it. IfOk c.look_rewards.result (λ reply. (limits : Limits) → WorksFor limits c.args.branch None (Look (seen_ask it)) (seen_reply reply) false (state g.S.Store c.args.tx.now.conn.now) (state g.S.Store c.look_rewards.new.tx.conn.now)) in
+    subst P (sym c.in-Rewards.is) (c.look_rewards.ensures.works clean)

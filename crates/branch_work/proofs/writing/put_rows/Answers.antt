@@ -34,3 +34,7 @@ returns-in-TakeBack-clause-put g c = λ clean.
 pub returns-in-Scrap-clause-put : goal.returns-in-Scrap-clause-put
 returns-in-Scrap-clause-put g c = λ clean.
     on_ok_then c.set_state.result (λ put. writes_same (state g.S.Store c.args.tx.now.conn.now) (state g.S.Store c.set_state.new.tx.conn.now) _ _ (λ books. ap (λ (n : NewRows). with_rows c.args.branch n books) (sym c.in-Scrap.is)) put) (c.set_state.ensures.set clean)
+
+pub returns-in-Pay-clause-put : goal.returns-in-Pay-clause-put
+returns-in-Pay-clause-put g c = λ clean.
+    on_ok_then c.put_payment.result (λ put. writes_held (state g.S.Store c.args.tx.now.conn.now) (state g.S.Store c.put_payment.new.tx.conn.now) _ _ (λ books. ap (λ (n : NewRows). with_rows c.args.branch n books) (sym c.in-Pay.is)) put) (c.put_payment.ensures.put clean)
