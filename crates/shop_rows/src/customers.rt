@@ -1,9 +1,9 @@
 //! New customers and looks at them.
-use crate::talk::{
-    BAD, BAD_BODY, BRANCH_1, BRANCH_2, CONFLICT, FIRST, FIRST_CUSTOMER, FIRST_REPLY, MARY, MISSING,
-    NewCustomer, OFFICE, OK, adds, answer, asks, demo, limited,
-};
 use counter_http::reply_bytes;
+use counter_talk::{
+    BAD, BAD_BODY, BRANCH_1, BRANCH_2, CONFLICT, FIRST, FIRST_CUSTOMER, FIRST_REPLY, MARY, MISSING,
+    NewCustomer, OFFICE, OK, REPEATS, adds, answer, asks, demo, limited,
+};
 use shop_types::{
     Act, CityNo, Command, Key, L45, Limits, Moment, Person, Request, StaffNo, T45, T128, Token,
 };
@@ -25,20 +25,6 @@ fn first_customer(rt: HostRuntime) -> Result<(), Fail> {
     asks(alloc, &mut chain, &look)?;
     Ok(())
 }
-
-pub const REPEATS: [(NewCustomer<'static>, &str, &str, &str); 3] = [
-    (FIRST, BRANCH_1, OK, CUSTOMER_1),
-    (FIRST, BRANCH_1, OK, CUSTOMER_1),
-    (
-        NewCustomer {
-            first: "MARIA",
-            ..FIRST
-        },
-        BRANCH_1,
-        CONFLICT,
-        "{\"refused\":\"key_used\"}",
-    ),
-];
 
 #[test]
 fn repeat_and_used_key(rt: HostRuntime) -> Result<(), Fail> {

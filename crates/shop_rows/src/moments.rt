@@ -1,5 +1,5 @@
 //! Moments in commands: real dates from 1970 to 9999, which never go back.
-use crate::talk::{BAD, BAD_BODY, BRANCH_1, CONFLICT, FIRST, NewCustomer, OK, adds, demo};
+use counter_talk::{BAD, BAD_BODY, BRANCH_1, CONFLICT, FIRST, NewCustomer, OK, adds, demo};
 use std::test::Fail;
 
 /// Texts that are no moments.

@@ -1,5 +1,5 @@
 //! The program, over words and streams in memory.
-use crate::talk::{FIRST_CUSTOMER, FIRST_REPLY};
+use counter_talk::{FIRST_CUSTOMER, FIRST_REPLY};
 use sakila_office::run;
 use std::alloc::Global;
 use std::test::Fail;

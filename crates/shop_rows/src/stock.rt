@@ -1,14 +1,10 @@
 //! Copies that come in by stock files.
-use crate::talk::{
-    BAD, BAD_BODY, BRANCH_1, BRANCH_2, CONFLICT, Import, LOT, OK, demo, imports, limited,
+use counter_talk::{
+    BAD, BAD_BODY, BRANCH_1, BRANCH_2, CONFLICT, FIRST_LOT, FOUR, Import, LOT, OK, demo, imports,
+    limited,
 };
 use shop_types::Limits;
 use std::test::Fail;
-
-/// The stock file of the first lot: three copies of film 1 and one of film 2.
-const FIRST_LOT: &str = "film_id,copies\n1,3\n2,1\n";
-
-const FOUR: &str = "{\"copies\":4,\"first\":1}";
 
 const LOTS: [(Import<'static>, &str, &str, &str, &str); 5] = [
     (LOT, BRANCH_1, FIRST_LOT, OK, FOUR),

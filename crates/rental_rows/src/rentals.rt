@@ -1,11 +1,8 @@
 //! Rentals, returns, scrapped copies and customers who may not rent, and looks at copies.
-use crate::talk::{
-    BAD, BAD_BODY, BRANCH_1, CONFLICT, COUNTER_1, COUNTER_2, Counter, FIRST_CUSTOMER, FIRST_REPLY,
-    MISSING, OFFICE, OK, Step, answer, asks, demo, plays, reply,
+use counter_talk::{
+    BAD, BAD_BODY, BRANCH_1, CONFLICT, COUNTER_1, COUNTER_2, Counter, MISSING, OFFICE, OK, Step,
+    answer, asks, plays, reply, stocked,
 };
-use chain_engine::Chain;
-use sqlite::MemStore;
-use std::alloc::Global;
 use std::test::Fail;
 
 /// The counter of the first branch on the next day.
@@ -13,11 +10,6 @@ const NEXT_DAY: Counter<'static> = Counter {
     at: "2026-03-02T10:00:00",
     ..COUNTER_1
 };
-
-/// The stock file of the first lot: copies 1 to 3 of film 1, and copy 4 of film 2.
-const FIRST_LOT: &str = "film_id,copies\n1,3\n2,1\n";
-
-const FOUR: &str = "{\"copies\":4,\"first\":1}";
 
 const RENTAL_1: &str = "{\"rental\":1}";
 
@@ -44,18 +36,6 @@ const NOT_HERE: &str = "{\"refused\":\"copy_not_here\"}";
 const OUT: &str = "{\"refused\":\"copy_out\"}";
 
 const INACTIVE: &str = "{\"refused\":\"customer_inactive\"}";
-
-/// A chain whose first branch has the first lot's copies, and the first customer.
-fn stocked(alloc: Global) -> Result<Chain<MemStore>, Fail> {
-    let mut chain = demo(alloc)?;
-    let lot = [(Step::Import("i1", "L1", FIRST_LOT), OK, FOUR)];
-    plays(alloc, &mut chain, COUNTER_1, &lot)?;
-    let told = answer(alloc, &mut chain, FIRST_CUSTOMER)?;
-    if told.as_slice() != FIRST_REPLY.as_bytes() {
-        return Err("the first customer")?;
-    }
-    Ok(chain)
-}
 
 const SAME_MOMENT: [(Step<'static>, &str, &str); 8] = [
     (Step::Customer("c2"), OK, "{\"customer\":2}"),

@@ -2,12 +2,11 @@
 ghost use Rattle.std.specs.Prelude.{IsTrue};
 ghost use Rattle.sqlite_disk.specs.Memory.{memory_is_usable};
 
-use crate::customers::REPEATS;
-use crate::talk::{
-    CONFLICT, COUNTER_1, FIRST_CUSTOMER, FIRST_REPLY, OK, Step, adds, answer, plays,
-};
 use catalogue_store::put_opening;
 use chain_engine::{Chain, OpenFault};
+use counter_talk::{
+    CONFLICT, COUNTER_1, FIRST_CUSTOMER, FIRST_REPLY, OK, REPEATS, Step, adds, answer, plays,
+};
 use shop_schema::create_tables;
 use shop_store::{customers_of, set_active};
 use shop_types::{BranchNo, CustomerNo, Limits};
@@ -104,7 +103,7 @@ fn close_and_open(rt: HostRuntime) -> Result<(), Fail> {
     Ok(())
 }
 
-const BEFORE_CLOSE: [(Step<'static>, &str, &str); 6] = [
+const BEFORE_CLOSE: [(Step<'static>, &str, &str); 7] = [
     (
         Step::Import("i1", "L1", "film_id,copies\n1,3\n"),
         OK,
@@ -115,9 +114,11 @@ const BEFORE_CLOSE: [(Step<'static>, &str, &str); 6] = [
     (Step::Rent("b", 1, 2), OK, "{\"rental\":2}"),
     (Step::Return("c", 2), OK, "{\"returned\":2}"),
     (Step::Scrap("d", 3), OK, "{\"scrapped\":3}"),
+    (Step::Pay("p", 1, Some(2), 300), OK, "{\"payment\":1}"),
 ];
 
-const AFTER_OPEN: [(Step<'static>, &str, &str); 7] = [
+/// Two rentals of 499 cents, less 300.
+const AFTER_OPEN: [(Step<'static>, &str, &str); 11] = [
     (Step::Look("/held-by/1"), OK, "{\"customer\":1}"),
     (
         Step::Look("/film-in-stock/1"),
@@ -141,10 +142,14 @@ const AFTER_OPEN: [(Step<'static>, &str, &str); 7] = [
         CONFLICT,
         "{\"refused\":\"copy_not_here\"}",
     ),
+    (Step::Balance(1), OK, "{\"balance\":698}"),
+    (Step::Pay("p", 1, Some(2), 300), OK, "{\"payment\":1}"),
+    (Step::Pay("q", 1, None, 698), OK, "{\"payment\":2}"),
+    (Step::Balance(1), OK, "{\"balance\":0}"),
 ];
 
 #[test]
-fn rentals_after_opening(rt: HostRuntime) -> Result<(), Fail> {
+fn rentals_and_payments_after_opening(rt: HostRuntime) -> Result<(), Fail> {
     let alloc = rt.alloc();
     let mut chain = opened(alloc, opening_files(alloc, "")?)?;
     plays(alloc, &mut chain, COUNTER_1, &BEFORE_CLOSE)?;

@@ -1,10 +1,10 @@
 //! Connections: messages however they are cut, heads that are none, and ends.
-use crate::talk::{
+use chain_engine::Chain;
+use counter_http::{End, Fault, Reading, ServeFault, read_request, serve};
+use counter_talk::{
     BAD, BRANCH_1, CONFLICT, FIRST_CUSTOMER, FIRST_REPLY, FORBIDDEN, NOBODY, Pieces, answer, asks,
     demo, reply, tell,
 };
-use chain_engine::Chain;
-use counter_http::{End, Fault, Reading, ServeFault, read_request, serve};
 use sakila_office::NoWords;
 use sqlite::MemStore;
 use std::alloc::Global;
