@@ -1,15 +1,15 @@
 //! The statements of the same requests on the bare store, each request's in one transaction.
-use crate::requests::{branch, key, lot, moment, number, person, staff};
-use crate::{Kind, Times};
-use catalogue_store::{film_at, has_city, staff_at};
+use crate::requests::{amount, branch, key, lot, moment, number, person, staff};
+use crate::rows::{copy_row, customer_row, film, rental_row};
+use crate::{Kind, Owed, Times};
+use catalogue_store::{film_at, film_terms, has_city, staff_at};
 use shop_store::{
-    CopyRow, CopyState, CustomerRow, Mark, RentalRow, copy_at, copy_count, customer_at,
-    customer_count, has_lot, kept_at, kept_count, last_at, last_rental, put_copy, put_customer,
-    put_kept, put_lot, put_rental, rental_at, rentals_of_copy, set_last, set_returned,
+    CopyRow, CustomerRow, PaymentRow, RentalRow, copy_at, copy_count, customer_at, customer_count,
+    has_lot, kept_at, kept_count, last_at, last_payment, last_rental, payments_of_customer,
+    put_copy, put_customer, put_kept, put_lot, put_payment, put_rental, rental_at, rentals_of_copy,
+    rentals_of_customer, set_last, set_returned,
 };
-use shop_types::{
-    BranchNo, CopyNo, Customer, FilmNo, Key, LotName, Moment, Rental, RentalNo, StaffNo,
-};
+use shop_types::{BranchNo, FilmNo, Key, LotName, Moment, Payment, StaffNo};
 use sql_rows::{Bytes, StoreFault};
 use sqlite::{Alter, Connection, Transaction};
 use std::alloc::Global;
@@ -32,35 +32,43 @@ struct Asked {
     branch: BranchNo,
     staff: StaffNo,
     at: Moment,
-    copy: CopyNo,
     film: FilmNo,
-    rental: RentalNo,
     key: Key,
     lot: LotName,
     form: Bytes,
-    row: CustomerRow,
+    customer: CustomerRow,
+    copy: CopyRow,
+    rental: RentalRow,
+    payment: PaymentRow,
 }
 
 fn ask(alloc: Global, kind: Kind, n: u32) -> Result<Asked, &'static str> {
-    let at = moment()?;
     Ok(Asked {
         branch: branch()?,
         staff: staff()?,
-        at,
-        copy: number(n)?,
-        film: FilmNo::new(1).ok_or("the film")?,
-        rental: number(n)?,
+        at: moment()?,
+        film: film()?,
         key: key(alloc, kind, n)?,
         lot: lot(alloc, n)?,
         form: form(alloc)?,
-        row: CustomerRow {
-            branch: branch()?,
-            number: number(n)?,
-            customer: Customer {
-                person: person(alloc)?,
-                active: true,
-                created: at,
-            },
+        customer: customer_row(alloc, n)?,
+        copy: copy_row(n)?,
+        rental: rental_row(n, number(n)?)?,
+        payment: payment_row(n)?,
+    })
+}
+
+/// A payment of the first customer, of the first rental.
+fn payment_row(n: u32) -> Result<PaymentRow, &'static str> {
+    Ok(PaymentRow {
+        branch: branch()?,
+        number: number(n)?,
+        payment: Payment {
+            customer: number(0)?,
+            staff: staff()?,
+            rental: Some(number(0)?),
+            amount: amount()?,
+            paid: moment()?,
         },
     })
 }
@@ -83,16 +91,16 @@ fn write_command<S: Alter>(tx: &mut Transaction<'_, S>, it: &Asked) -> Result<()
 /// The statements of a new customer's command.
 fn customer<S: Alter>(tx: &mut Transaction<'_, S>, it: &Asked) -> Result<(), StoreFault> {
     read_command(tx, it)?;
-    has_city(tx, it.row.customer.person.city)?;
+    has_city(tx, it.customer.customer.person.city)?;
     customer_count(tx, it.branch)?;
-    put_customer(tx, &it.row)?;
+    put_customer(tx, &it.customer)?;
     write_command(tx, it)
 }
 
 /// The statements of a look at a customer.
 fn look<S: Alter>(tx: &mut Transaction<'_, S>, it: &Asked) -> Result<(), StoreFault> {
     last_at(tx, it.branch)?;
-    customer_at(tx, it.branch, it.row.number)?;
+    customer_at(tx, it.branch, it.customer.number)?;
     Ok(())
 }
 
@@ -102,17 +110,7 @@ fn import<S: Alter>(tx: &mut Transaction<'_, S>, it: &Asked) -> Result<(), Store
     film_at(tx, it.film)?;
     has_lot(tx, it.branch, &it.lot)?;
     copy_count(tx, it.branch)?;
-    let row = CopyRow {
-        branch: it.branch,
-        number: it.copy,
-        film: it.film,
-        state: CopyState::Here,
-        mark: Mark {
-            branch: it.branch,
-            copy: it.copy,
-        },
-    };
-    put_copy(tx, row)?;
+    put_copy(tx, it.copy)?;
     put_lot(tx, it.branch, &it.lot)?;
     write_command(tx, it)
 }
@@ -124,32 +122,51 @@ fn rent<S: Alter>(
     it: &Asked,
 ) -> Result<(), StoreFault> {
     read_command(tx, it)?;
-    customer_at(tx, it.branch, it.row.number)?;
-    copy_at(tx, it.branch, it.copy)?;
+    customer_at(tx, it.branch, it.customer.number)?;
+    copy_at(tx, it.branch, it.copy.number)?;
     film_at(tx, it.film)?;
-    rentals_of_copy(tx, alloc, it.branch, it.copy)?;
+    rentals_of_copy(tx, alloc, it.branch, it.copy.number)?;
     last_rental(tx, it.branch)?;
-    let row = RentalRow {
-        branch: it.branch,
-        number: it.rental,
-        rental: Rental {
-            rented: it.at,
-            copy: it.copy,
-            customer: it.row.number,
-            returned: None,
-            staff: it.staff,
-        },
-    };
-    put_rental(tx, &row)?;
+    put_rental(tx, &it.rental)?;
     write_command(tx, it)
 }
 
 /// The statements of a return.
 fn take_back<S: Alter>(tx: &mut Transaction<'_, S>, it: &Asked) -> Result<(), StoreFault> {
     read_command(tx, it)?;
-    rental_at(tx, it.branch, it.rental)?;
-    set_returned(tx, it.branch, it.rental, it.at)?;
+    rental_at(tx, it.branch, it.rental.number)?;
+    set_returned(tx, it.branch, it.rental.number, it.at)?;
     write_command(tx, it)
+}
+
+/// The statements of a payment.
+fn pay<S: Alter>(tx: &mut Transaction<'_, S>, it: &Asked) -> Result<(), StoreFault> {
+    read_command(tx, it)?;
+    customer_at(tx, it.branch, it.payment.payment.customer)?;
+    if let Some(rental) = it.payment.payment.rental {
+        rental_at(tx, it.branch, rental)?;
+    }
+    last_payment(tx, it.branch)?;
+    put_payment(tx, &it.payment)?;
+    write_command(tx, it)
+}
+
+/// The statements of a look at a balance.
+fn balance<S: Alter>(
+    tx: &mut Transaction<'_, S>,
+    alloc: Global,
+    it: &Asked,
+) -> Result<(), StoreFault> {
+    let customer = it.payment.payment.customer;
+    last_at(tx, it.branch)?;
+    customer_at(tx, it.branch, customer)?;
+    let rentals = rentals_of_customer(tx, alloc, it.branch, customer)?;
+    for row in &rentals {
+        copy_at(tx, it.branch, row.rental.copy)?;
+        film_terms(tx, it.film)?;
+    }
+    payments_of_customer(tx, alloc, it.branch, customer)?;
+    Ok(())
 }
 
 /// What one request's statements take, added to the time before.
@@ -173,6 +190,8 @@ fn timed<S: Alter>(
         Kind::Import => import(&mut tx, it),
         Kind::Rent => rent(&mut tx, rt.alloc(), it),
         Kind::Return => take_back(&mut tx, it),
+        Kind::Pay => pay(&mut tx, it),
+        Kind::Balance => balance(&mut tx, rt.alloc(), it),
     };
     if done.is_err() {
         tx.rollback();
@@ -187,16 +206,17 @@ fn timed<S: Alter>(
     Ok(before.saturating_add(time))
 }
 
-/// What the statements of so many requests of the kind take.
+/// What the statements of so many requests of the kind take, the first of which has the number.
 fn time<S: Alter>(
     rt: &HostRuntime,
     conn: &mut Connection<S>,
+    first: u32,
     count: u32,
     kind: Kind,
 ) -> Result<Duration, &'static str> {
     let mut time = Duration::ZERO;
     for n in 0..count {
-        let it = ask(rt.alloc(), kind, n)?;
+        let it = ask(rt.alloc(), kind, first.saturating_add(n))?;
         time = timed(rt, conn, time, kind, &it)?;
     }
     Ok(time)
@@ -209,10 +229,24 @@ pub fn times<S: Alter>(
     count: u32,
 ) -> Result<Times, &'static str> {
     Ok(Times {
-        customers: time(rt, conn, count, Kind::Customer)?,
-        looks: time(rt, conn, count, Kind::Look)?,
-        imports: time(rt, conn, count, Kind::Import)?,
-        rents: time(rt, conn, count, Kind::Rent)?,
-        returns: time(rt, conn, count, Kind::Return)?,
+        customers: time(rt, conn, 0, count, Kind::Customer)?,
+        looks: time(rt, conn, 0, count, Kind::Look)?,
+        imports: time(rt, conn, 0, count, Kind::Import)?,
+        rents: time(rt, conn, 0, count, Kind::Rent)?,
+        returns: time(rt, conn, 0, count, Kind::Return)?,
+    })
+}
+
+/// What the statements of so many payments of the first customer take, and of as many looks at what the customer owes, where so many payments
+/// were made before.
+pub fn owed<S: Alter>(
+    rt: &HostRuntime,
+    conn: &mut Connection<S>,
+    before: u32,
+    count: u32,
+) -> Result<Owed, &'static str> {
+    Ok(Owed {
+        pays: time(rt, conn, before, count, Kind::Pay)?,
+        balances: time(rt, conn, before, count, Kind::Balance)?,
     })
 }

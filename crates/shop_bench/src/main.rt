@@ -3,7 +3,9 @@
 
 mod bare;
 mod made;
+mod owing;
 mod requests;
+mod rows;
 mod through;
 
 use crate::made::{new_file, new_tables, removed};
@@ -23,6 +25,8 @@ enum Kind {
     Import,
     Rent,
     Return,
+    Pay,
+    Balance,
 }
 
 /// What the calls of one kind took together.
@@ -35,22 +39,47 @@ struct Times {
     returns: Duration,
 }
 
-/// What the program measures: how many customers, and in which file; a file that nobody named is removed.
+/// What the payments of one customer took together, and the looks at what the customer owes.
+#[derive(Clone, Copy)]
+struct Owed {
+    pays: Duration,
+    balances: Duration,
+}
+
+/// What the program measures: how many customers, and in which file; a file that nobody named is removed. Then as many payments and balances of a
+/// customer who has as many rentals as each of the words says.
 #[derive(Clone, Copy)]
 struct Wish<'w> {
     count: u32,
     path: &'w str,
     is_named: bool,
+    rentals: &'w [String],
 }
 
-/// `[CUSTOMERS [FILE]]`: 3 customers and a file of the folder's, where the words don't say.
+/// How many rentals, where there are none that are said.
+const FEW_RENTALS: [u32; 2] = [1, 2];
+
+/// How many rentals a word says, from 1 to 100,000.
+fn rentals_of(word: &String) -> Option<u32> {
+    let count: u32 = word.as_str().parse().ok()?;
+    if count == 0 || count > 100_000 {
+        return None;
+    }
+    Some(count)
+}
+
+/// `[CUSTOMERS [FILE [RENTALS..]]]`: 3 customers and a file of the folder's, where the words don't say.
 fn read_words(words: &[String]) -> Option<Wish<'_>> {
     let count = match words.first() {
         Some(word) => word.as_str().parse().ok()?,
         None => 3,
     };
     let named = words.get(1);
-    if words.len() > 2 || count > 1_000_000 {
+    let rentals = words.get(2..).unwrap_or(&[]);
+    for word in rentals {
+        rentals_of(word)?;
+    }
+    if count > 1_000_000 {
         return None;
     }
     Some(Wish {
@@ -60,6 +89,7 @@ fn read_words(words: &[String]) -> Option<Wish<'_>> {
             None => "shop_bench.db",
         },
         is_named: named.is_some(),
+        rentals,
     })
 }
 
@@ -68,9 +98,18 @@ fn each(time: Duration, count: u32) -> u128 {
     time.as_micros() / u128::from(count.max(1))
 }
 
+/// Prints what each of so many calls took through the chain and on the bare store.
+fn tell(rt: &HostRuntime, place: &str, kind: &str, count: u32, chain: Duration, bare: Duration) {
+    let _ = writeln!(
+        rt.stderr(),
+        "{place}, {kind}: {} us through the chain, {} us on the bare store",
+        each(chain, count),
+        each(bare, count)
+    );
+}
+
 /// Prints the times through the chain and those of the bare store.
-fn tell(rt: &HostRuntime, place: &str, count: u32, chain: Times, bare: Times) {
-    let mut err = rt.stderr();
+fn tell_all(rt: &HostRuntime, place: &str, count: u32, chain: Times, bare: Times) {
     for (kind, chain, bare) in [
         ("customer", chain.customers, bare.customers),
         ("look", chain.looks, bare.looks),
@@ -78,12 +117,7 @@ fn tell(rt: &HostRuntime, place: &str, count: u32, chain: Times, bare: Times) {
         ("rent", chain.rents, bare.rents),
         ("return", chain.returns, bare.returns),
     ] {
-        let _ = writeln!(
-            err,
-            "{place}, {kind}: {} us through the chain, {} us on the bare store",
-            each(chain, count),
-            each(bare, count)
-        );
+        tell(rt, place, kind, count, chain, bare);
     }
 }
 
@@ -97,7 +131,7 @@ fn in_memory(rt: &HostRuntime, count: u32, limits: Limits) -> Result<(), &'stati
         return Err("no store in memory");
     };
     new_tables(&mut conn)?;
-    tell(
+    tell_all(
         rt,
         "memory",
         count,
@@ -125,7 +159,7 @@ fn in_files(rt: &HostRuntime, wish: &Wish<'_>, limits: Limits) -> Result<(), &'s
     let Ok(mut conn) = Connection::open_files(rt.alloc(), files, Options::new(1)) else {
         return Err("no store in the file");
     };
-    tell(
+    tell_all(
         rt,
         "file",
         wish.count,
@@ -146,7 +180,16 @@ fn measure(rt: &HostRuntime, wish: &Wish<'_>) -> Result<(), &'static str> {
         return Err("no limits");
     };
     in_memory(rt, wish.count, limits)?;
-    in_files(rt, wish, limits)
+    in_files(rt, wish, limits)?;
+    if wish.rentals.is_empty() {
+        for rentals in FEW_RENTALS {
+            owing::measure(rt, wish, limits, rentals)?;
+        }
+    }
+    for word in wish.rentals {
+        owing::measure(rt, wish, limits, rentals_of(word).ok_or("the rentals")?)?;
+    }
+    Ok(())
 }
 
 fn main(rt: HostRuntime) -> io::Result<ExitCode> {
@@ -155,7 +198,10 @@ fn main(rt: HostRuntime) -> io::Result<ExitCode> {
         words.push(word)?;
     }
     let Some(wish) = read_words(&words) else {
-        let _ = writeln!(rt.stderr(), "usage: shop_bench [CUSTOMERS [FILE]]");
+        let _ = writeln!(
+            rt.stderr(),
+            "usage: shop_bench [CUSTOMERS [FILE [RENTALS..]]]"
+        );
         return Ok(ExitCode::from(2));
     };
     match measure(&rt, &wish) {
