@@ -4,6 +4,8 @@
 #[cfg(test)]
 mod chain;
 #[cfg(test)]
+mod money;
+#[cfg(test)]
 mod office;
 #[cfg(test)]
 mod rentals;
