@@ -2,11 +2,13 @@
 #![tactic(auto)]
 
 mod chains;
+mod rows;
 mod steps;
 mod talks;
 mod texts;
 
 pub use crate::chains::{demo, limited, stocked};
+pub use crate::rows::{Part, Start, row};
 pub use crate::steps::{
     COUNTER_1, COUNTER_2, Counter, FIRST, Import, LOT, NewCustomer, REPEATS, Step,
 };

@@ -1,5 +1,5 @@
 //! What customers owe. Film 1 costs 499 cents for 3 days and film 2 costs 299 for 5, and each day more is 100.
-use counter_talk::{CONFLICT, COUNTER_1, COUNTER_2, OK, Step, plays_at, stocked};
+use counter_talk::{CONFLICT, COUNTER_1, COUNTER_2, OK, Part, Start, Step, row};
 use std::test::Fail;
 
 const RENTAL_1: &str = "{\"rental\":1}";
@@ -43,10 +43,11 @@ const TWO_LATE: [(&str, Step<'static>, &str, &str); 4] = [
 
 #[test]
 fn two_late_days(rt: HostRuntime) -> Result<(), Fail> {
-    let alloc = rt.alloc();
-    let mut chain = stocked(alloc)?;
-    plays_at(alloc, &mut chain, COUNTER_1, &TWO_LATE)?;
-    Ok(())
+    row(
+        rt.alloc(),
+        Start::Stocked,
+        &[Part::PlaysAt(COUNTER_1, &TWO_LATE)],
+    )
 }
 
 /// The late days count whenever the balance is asked for; a second before the rental there is neither it nor the payment.
@@ -58,11 +59,14 @@ const EARLIER: [(&str, Step<'static>, &str, &str); 3] = [
 
 #[test]
 fn balance_before_payment(rt: HostRuntime) -> Result<(), Fail> {
-    let alloc = rt.alloc();
-    let mut chain = stocked(alloc)?;
-    plays_at(alloc, &mut chain, COUNTER_1, &TWO_LATE)?;
-    plays_at(alloc, &mut chain, COUNTER_1, &EARLIER)?;
-    Ok(())
+    row(
+        rt.alloc(),
+        Start::Stocked,
+        &[
+            Part::PlaysAt(COUNTER_1, &TWO_LATE),
+            Part::PlaysAt(COUNTER_1, &EARLIER),
+        ],
+    )
 }
 
 /// Days go by dates: from a second before midnight to the midnight that begins 5 March are 4, so one is late: 499 + 100.
@@ -79,10 +83,11 @@ const ONE_LATE: [(&str, Step<'static>, &str, &str); 3] = [
 
 #[test]
 fn one_late_day(rt: HostRuntime) -> Result<(), Fail> {
-    let alloc = rt.alloc();
-    let mut chain = stocked(alloc)?;
-    plays_at(alloc, &mut chain, COUNTER_1, &ONE_LATE)?;
-    Ok(())
+    row(
+        rt.alloc(),
+        Start::Stocked,
+        &[Part::PlaysAt(COUNTER_1, &ONE_LATE)],
+    )
 }
 
 /// A payment of no rental counts from its second on.
@@ -104,10 +109,11 @@ const PAID_AHEAD: [(&str, Step<'static>, &str, &str); 3] = [
 
 #[test]
 fn balance_below_zero(rt: HostRuntime) -> Result<(), Fail> {
-    let alloc = rt.alloc();
-    let mut chain = stocked(alloc)?;
-    plays_at(alloc, &mut chain, COUNTER_1, &PAID_AHEAD)?;
-    Ok(())
+    row(
+        rt.alloc(),
+        Start::Stocked,
+        &[Part::PlaysAt(COUNTER_1, &PAID_AHEAD)],
+    )
 }
 
 /// Over the ends of months and of years:
@@ -165,11 +171,14 @@ const SUMS: [(&str, Step<'static>, &str, &str); 8] = [
 
 #[test]
 fn late_days_over_ends(rt: HostRuntime) -> Result<(), Fail> {
-    let alloc = rt.alloc();
-    let mut chain = stocked(alloc)?;
-    plays_at(alloc, &mut chain, COUNTER_1, &OVER_ENDS)?;
-    plays_at(alloc, &mut chain, COUNTER_1, &SUMS)?;
-    Ok(())
+    row(
+        rt.alloc(),
+        Start::Stocked,
+        &[
+            Part::PlaysAt(COUNTER_1, &OVER_ENDS),
+            Part::PlaysAt(COUNTER_1, &SUMS),
+        ],
+    )
 }
 
 /// Each customer owes for the own rentals: the first 499 + 299 for two that are open, less 300 and 500 from 2 March on, that is 2 cents
@@ -242,9 +251,12 @@ const ELSEWHERE: [(&str, Step<'static>, &str, &str); 3] = [
 
 #[test]
 fn balances_are_apart(rt: HostRuntime) -> Result<(), Fail> {
-    let alloc = rt.alloc();
-    let mut chain = stocked(alloc)?;
-    plays_at(alloc, &mut chain, COUNTER_1, &APART)?;
-    plays_at(alloc, &mut chain, COUNTER_2, &ELSEWHERE)?;
-    Ok(())
+    row(
+        rt.alloc(),
+        Start::Stocked,
+        &[
+            Part::PlaysAt(COUNTER_1, &APART),
+            Part::PlaysAt(COUNTER_2, &ELSEWHERE),
+        ],
+    )
 }

@@ -1,11 +1,11 @@
 //! New customers and looks at them.
 use counter_http::reply_bytes;
 use counter_talk::{
-    BAD, BAD_BODY, BRANCH_1, BRANCH_2, CONFLICT, FIRST, FIRST_CUSTOMER, FIRST_REPLY, MARY, MISSING,
-    NewCustomer, OFFICE, OK, REPEATS, adds, answer, asks, demo, limited,
+    BAD, BAD_BODY, BRANCH_1, BRANCH_2, CONFLICT, FIRST, FIRST_REPLY, MARY, MISSING, NewCustomer,
+    OFFICE, OK, Part, REPEATS, Start, demo, row,
 };
 use shop_types::{
-    Act, CityNo, Command, Key, L45, Limits, Moment, Person, Request, StaffNo, T45, T128, Token,
+    Act, CityNo, Command, Key, L45, Moment, Person, Request, StaffNo, T45, T128, Token,
 };
 use std::alloc::Global;
 use std::test::Fail;
@@ -16,24 +16,19 @@ const NO_CUSTOMER: &str = "{\"refused\":\"no_customer\"}";
 
 #[test]
 fn first_customer(rt: HostRuntime) -> Result<(), Fail> {
-    let alloc = rt.alloc();
-    let mut chain = demo(alloc)?;
     assert!(rt; FIRST_REPLY.len() == 85 && MARY.len() == 144);
-    let told = answer(alloc, &mut chain, FIRST_CUSTOMER)?;
-    assert!(rt; told.as_slice() == FIRST_REPLY.as_bytes());
     let look = [("GET /customer/1", BRANCH_1, "", OK, MARY)];
-    asks(alloc, &mut chain, &look)?;
-    Ok(())
+    row(rt.alloc(), Start::Demo, &[Part::First, Part::Asks(&look)])
 }
 
 #[test]
 fn repeat_and_used_key(rt: HostRuntime) -> Result<(), Fail> {
-    let alloc = rt.alloc();
-    let mut chain = demo(alloc)?;
-    adds(alloc, &mut chain, &REPEATS)?;
     let look = [("GET /customer/2", BRANCH_1, "", CONFLICT, NO_CUSTOMER)];
-    asks(alloc, &mut chain, &look)?;
-    Ok(())
+    row(
+        rt.alloc(),
+        Start::Demo,
+        &[Part::Adds(&REPEATS), Part::Asks(&look)],
+    )
 }
 
 const ELSEWHERE: [(NewCustomer<'static>, &str, &str, &str); 2] = [
@@ -43,10 +38,7 @@ const ELSEWHERE: [(NewCustomer<'static>, &str, &str, &str); 2] = [
 
 #[test]
 fn same_key_elsewhere(rt: HostRuntime) -> Result<(), Fail> {
-    let alloc = rt.alloc();
-    let mut chain = demo(alloc)?;
-    adds(alloc, &mut chain, &ELSEWHERE)?;
-    Ok(())
+    row(rt.alloc(), Start::Demo, &[Part::Adds(&ELSEWHERE)])
 }
 
 const LATER: [(NewCustomer<'static>, &str, &str, &str); 4] = [
@@ -73,10 +65,7 @@ const LATER: [(NewCustomer<'static>, &str, &str, &str); 4] = [
 /// A repeat is answered as before, although the branch's moment has gone on.
 #[test]
 fn repeat_after_later_command(rt: HostRuntime) -> Result<(), Fail> {
-    let alloc = rt.alloc();
-    let mut chain = demo(alloc)?;
-    adds(alloc, &mut chain, &LATER)?;
-    Ok(())
+    row(rt.alloc(), Start::Demo, &[Part::Adds(&LATER)])
 }
 
 const FULL: &str = "{\"refused\":\"full\"}";
@@ -101,10 +90,11 @@ const KEPT: [(NewCustomer<'static>, &str, &str, &str); 5] = [
 /// A caller with as many kept keys as are allowed gets no new one, and a repeat is answered.
 #[test]
 fn limits_of_kept_keys(rt: HostRuntime) -> Result<(), Fail> {
-    let alloc = rt.alloc();
-    let mut chain = limited(alloc, Limits::new(1, 1_000_000).ok_or("limits")?)?;
-    adds(alloc, &mut chain, &KEPT)?;
-    Ok(())
+    row(
+        rt.alloc(),
+        Start::Limited(1, 1_000_000),
+        &[Part::Adds(&KEPT)],
+    )
 }
 
 const NO_STAFF: &str = "{\"refused\":\"no_staff\"}";
@@ -165,11 +155,8 @@ const ORDER: [(NewCustomer<'static>, &str, &str, &str); 6] = [
 
 #[test]
 fn staff_before_city(rt: HostRuntime) -> Result<(), Fail> {
-    let alloc = rt.alloc();
-    let mut chain = demo(alloc)?;
     assert!(rt; LONGEST.len() == 45);
-    adds(alloc, &mut chain, &ORDER)?;
-    Ok(())
+    row(rt.alloc(), Start::Demo, &[Part::Adds(&ORDER)])
 }
 
 const NO_ROUTE: &str = "{\"refused\":\"no_route\"}";
@@ -199,12 +186,7 @@ const FORMS: [(&str, &str, &str, &str, &str); 13] = [
 /// What isn't a request of the caller's has its own refusal, and changes nothing.
 #[test]
 fn refused_by_form_and_route(rt: HostRuntime) -> Result<(), Fail> {
-    let alloc = rt.alloc();
-    let mut chain = demo(alloc)?;
-    asks(alloc, &mut chain, &FORMS)?;
-    let told = answer(alloc, &mut chain, FIRST_CUSTOMER)?;
-    assert!(rt; told.as_slice() == FIRST_REPLY.as_bytes());
-    Ok(())
+    row(rt.alloc(), Start::Demo, &[Part::Asks(&FORMS), Part::First])
 }
 
 fn text<const LOW: usize, const HIGH: usize>(

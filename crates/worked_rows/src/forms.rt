@@ -1,7 +1,7 @@
 //! Routes, parts of paths and bodies on money that aren't of their form.
 use counter_talk::{
-    BAD, BAD_BODY, BRANCH_1, CONFLICT, COUNTER_1, FORBIDDEN, MISSING, NOBODY, OFFICE, OK, Step,
-    answer, asks, plays, reply, stocked,
+    BAD, BAD_BODY, BRANCH_1, CONFLICT, COUNTER_1, FORBIDDEN, MISSING, NOBODY, OFFICE, OK, Part,
+    Start, Step, row,
 };
 use std::test::Fail;
 
@@ -21,41 +21,45 @@ const UNCHANGED: [(Step<'static>, &str, &str); 3] = [
 ];
 
 /// Members of a payment's body that aren't of its form, beside the key, the staff and the moment.
-const BAD_PAYMENTS: [&str; 20] = [
-    "\"customer\":1,\"rental\":null,\"amount\":100000",
-    "\"customer\":1,\"rental\":null,\"amount\":18446744073709551617",
-    "\"customer\":1,\"rental\":null,\"amount\":-1",
-    "\"customer\":1,\"rental\":null,\"amount\":-0",
-    "\"customer\":1,\"rental\":null,\"amount\":1.0",
-    "\"customer\":1,\"rental\":null,\"amount\":1e0",
-    "\"customer\":1,\"rental\":null,\"amount\":\"1\"",
-    "\"customer\":1,\"rental\":null,\"amount\":null",
-    "\"customer\":1,\"rental\":null",
-    "\"customer\":1,\"amount\":1",
-    "\"customer\":1,\"rental\":0,\"amount\":1",
-    "\"customer\":1,\"rental\":\"1\",\"amount\":1",
-    "\"customer\":1,\"rental\":false,\"amount\":1",
-    "\"customer\":1,\"rental\":[],\"amount\":1",
-    "\"customer\":1,\"rental\":4294967296,\"amount\":1",
-    "\"customer\":0,\"rental\":null,\"amount\":1",
-    "\"customer\":null,\"rental\":null,\"amount\":1",
-    "\"rental\":null,\"amount\":1",
-    "\"customer\":1,\"rental\":null,\"amount\":1,\"more\":1",
-    "\"customer\":1,\"rental\":null,\"cents\":1",
+const BAD_PAYMENTS: [(&str, &str); 20] = [
+    ("/pay", "\"customer\":1,\"rental\":null,\"amount\":100000"),
+    (
+        "/pay",
+        "\"customer\":1,\"rental\":null,\"amount\":18446744073709551617",
+    ),
+    ("/pay", "\"customer\":1,\"rental\":null,\"amount\":-1"),
+    ("/pay", "\"customer\":1,\"rental\":null,\"amount\":-0"),
+    ("/pay", "\"customer\":1,\"rental\":null,\"amount\":1.0"),
+    ("/pay", "\"customer\":1,\"rental\":null,\"amount\":1e0"),
+    ("/pay", "\"customer\":1,\"rental\":null,\"amount\":\"1\""),
+    ("/pay", "\"customer\":1,\"rental\":null,\"amount\":null"),
+    ("/pay", "\"customer\":1,\"rental\":null"),
+    ("/pay", "\"customer\":1,\"amount\":1"),
+    ("/pay", "\"customer\":1,\"rental\":0,\"amount\":1"),
+    ("/pay", "\"customer\":1,\"rental\":\"1\",\"amount\":1"),
+    ("/pay", "\"customer\":1,\"rental\":false,\"amount\":1"),
+    ("/pay", "\"customer\":1,\"rental\":[],\"amount\":1"),
+    ("/pay", "\"customer\":1,\"rental\":4294967296,\"amount\":1"),
+    ("/pay", "\"customer\":0,\"rental\":null,\"amount\":1"),
+    ("/pay", "\"customer\":null,\"rental\":null,\"amount\":1"),
+    ("/pay", "\"rental\":null,\"amount\":1"),
+    (
+        "/pay",
+        "\"customer\":1,\"rental\":null,\"amount\":1,\"more\":1",
+    ),
+    ("/pay", "\"customer\":1,\"rental\":null,\"cents\":1"),
 ];
 
 #[test]
 fn bad_payments(rt: HostRuntime) -> Result<(), Fail> {
-    let alloc = rt.alloc();
-    let mut chain = stocked(alloc)?;
-    for act in BAD_PAYMENTS {
-        let input = COUNTER_1.commands(alloc, "/pay", "a", act)?;
-        let told = answer(alloc, &mut chain, input.as_str())?;
-        let wanted = reply(alloc, BAD, BAD_BODY)?;
-        assert!(rt; told.as_slice() == wanted.as_bytes(), "at {act}");
-    }
-    plays(alloc, &mut chain, COUNTER_1, &UNCHANGED)?;
-    Ok(())
+    row(
+        rt.alloc(),
+        Start::Stocked,
+        &[
+            Part::BadBodies(COUNTER_1, &BAD_PAYMENTS),
+            Part::Plays(COUNTER_1, &UNCHANGED),
+        ],
+    )
 }
 
 /// Who sends comes before the route, and the route before the form.
@@ -209,10 +213,13 @@ const FORMS: [(&str, &str, &str, &str, &str); 23] = [
 
 #[test]
 fn routes_and_forms(rt: HostRuntime) -> Result<(), Fail> {
-    let alloc = rt.alloc();
-    let mut chain = stocked(alloc)?;
-    asks(alloc, &mut chain, &ROUTES)?;
-    asks(alloc, &mut chain, &FORMS)?;
-    plays(alloc, &mut chain, COUNTER_1, &UNCHANGED)?;
-    Ok(())
+    row(
+        rt.alloc(),
+        Start::Stocked,
+        &[
+            Part::Asks(&ROUTES),
+            Part::Asks(&FORMS),
+            Part::Plays(COUNTER_1, &UNCHANGED),
+        ],
+    )
 }

@@ -1,6 +1,6 @@
 //! Rentals that are overdue: open ones, from the day behind their last day on.
 use counter_talk::{
-    BRANCH_1, COUNTER_1, COUNTER_2, FIRST, NewCustomer, OK, Step, adds, plays_at, stocked,
+    BRANCH_1, COUNTER_1, COUNTER_2, FIRST, NewCustomer, OK, Part, Start, Step, row,
 };
 use std::test::Fail;
 
@@ -44,11 +44,14 @@ const ELSEWHERE: [(&str, Step<'static>, &str, &str); 1] = [(
 
 #[test]
 fn open_rental_overdue(rt: HostRuntime) -> Result<(), Fail> {
-    let alloc = rt.alloc();
-    let mut chain = stocked(alloc)?;
-    plays_at(alloc, &mut chain, COUNTER_1, &OPEN)?;
-    plays_at(alloc, &mut chain, COUNTER_2, &ELSEWHERE)?;
-    Ok(())
+    row(
+        rt.alloc(),
+        Start::Stocked,
+        &[
+            Part::PlaysAt(COUNTER_1, &OPEN),
+            Part::PlaysAt(COUNTER_2, &ELSEWHERE),
+        ],
+    )
 }
 
 /// A second customer, of another first name.
@@ -148,10 +151,13 @@ const DECEMBER: [(&str, Step<'static>, &str, &str); 5] = [
 
 #[test]
 fn overdue_over_ends(rt: HostRuntime) -> Result<(), Fail> {
-    let alloc = rt.alloc();
-    let mut chain = stocked(alloc)?;
-    adds(alloc, &mut chain, &SECOND)?;
-    plays_at(alloc, &mut chain, COUNTER_1, &FEBRUARY)?;
-    plays_at(alloc, &mut chain, COUNTER_1, &DECEMBER)?;
-    Ok(())
+    row(
+        rt.alloc(),
+        Start::Stocked,
+        &[
+            Part::Adds(&SECOND),
+            Part::PlaysAt(COUNTER_1, &FEBRUARY),
+            Part::PlaysAt(COUNTER_1, &DECEMBER),
+        ],
+    )
 }

@@ -1,21 +1,21 @@
 //! Moments in commands: real dates from 1970 to 9999, which never go back.
-use counter_talk::{BAD, BAD_BODY, BRANCH_1, CONFLICT, FIRST, NewCustomer, OK, adds, demo};
+use counter_talk::{BAD, BAD_BODY, CONFLICT, OK, Part, Start, row};
 use std::test::Fail;
 
 /// Texts that are no moments.
-const UNREAD: [&str; 12] = [
-    "2026-02-29T00:00:00",
-    "1969-12-31T23:59:59",
-    "10000-01-01T00:00:00",
-    "2026-13-01T00:00:00",
-    "2026-04-31T00:00:00",
-    "2026-04-00T00:00:00",
-    "2026-04-01T24:00:00",
-    "2026-04-01T00:60:00",
-    "2026-04-01T00:00:60",
-    "2026-04-01 00:00:00",
-    "2026-04-01T00:00:00Z",
-    "2100-02-29T00:00:00",
+const UNREAD: [(&str, &str, &str, &str); 12] = [
+    ("k1", "2026-02-29T00:00:00", BAD, BAD_BODY),
+    ("k1", "1969-12-31T23:59:59", BAD, BAD_BODY),
+    ("k1", "10000-01-01T00:00:00", BAD, BAD_BODY),
+    ("k1", "2026-13-01T00:00:00", BAD, BAD_BODY),
+    ("k1", "2026-04-31T00:00:00", BAD, BAD_BODY),
+    ("k1", "2026-04-00T00:00:00", BAD, BAD_BODY),
+    ("k1", "2026-04-01T24:00:00", BAD, BAD_BODY),
+    ("k1", "2026-04-01T00:60:00", BAD, BAD_BODY),
+    ("k1", "2026-04-01T00:00:60", BAD, BAD_BODY),
+    ("k1", "2026-04-01 00:00:00", BAD, BAD_BODY),
+    ("k1", "2026-04-01T00:00:00Z", BAD, BAD_BODY),
+    ("k1", "2100-02-29T00:00:00", BAD, BAD_BODY),
 ];
 
 const BACK: &str = "{\"refused\":\"moment_back\"}";
@@ -33,15 +33,9 @@ const READ: [(&str, &str, &str, &str); 7] = [
 
 #[test]
 fn moments(rt: HostRuntime) -> Result<(), Fail> {
-    let alloc = rt.alloc();
-    let mut chain = demo(alloc)?;
-    for at in UNREAD {
-        let step = [(NewCustomer { at, ..FIRST }, BRANCH_1, BAD, BAD_BODY)];
-        adds(alloc, &mut chain, &step)?;
-    }
-    for (key, at, status, body) in READ {
-        let step = [(NewCustomer { key, at, ..FIRST }, BRANCH_1, status, body)];
-        adds(alloc, &mut chain, &step)?;
-    }
-    Ok(())
+    row(
+        rt.alloc(),
+        Start::Demo,
+        &[Part::AddsAt(&UNREAD), Part::AddsAt(&READ)],
+    )
 }

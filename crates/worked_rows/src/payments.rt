@@ -1,9 +1,7 @@
 //! Payments: which are taken, each refusal in its order, and payments that are sent again.
 use counter_talk::{
-    BAD, BAD_BODY, BRANCH_1, CONFLICT, COUNTER_1, COUNTER_2, Counter, OK, Step, asks, limited,
-    plays_at, stocked,
+    BAD, BAD_BODY, BRANCH_1, CONFLICT, COUNTER_1, COUNTER_2, Counter, OK, Part, Start, Step, row,
 };
-use shop_types::Limits;
 use std::test::Fail;
 
 const CUSTOMER_2: &str = "{\"customer\":2}";
@@ -104,10 +102,11 @@ const AMOUNTS: [(&str, Step<'static>, &str, &str); 11] = [
 
 #[test]
 fn amounts_and_moments(rt: HostRuntime) -> Result<(), Fail> {
-    let alloc = rt.alloc();
-    let mut chain = stocked(alloc)?;
-    plays_at(alloc, &mut chain, COUNTER_1, &AMOUNTS)?;
-    Ok(())
+    row(
+        rt.alloc(),
+        Start::Stocked,
+        &[Part::PlaysAt(COUNTER_1, &AMOUNTS)],
+    )
 }
 
 const OF_ANOTHER: [(&str, Step<'static>, &str, &str); 8] = [
@@ -138,10 +137,11 @@ const OF_ANOTHER: [(&str, Step<'static>, &str, &str); 8] = [
 
 #[test]
 fn rental_of_another(rt: HostRuntime) -> Result<(), Fail> {
-    let alloc = rt.alloc();
-    let mut chain = stocked(alloc)?;
-    plays_at(alloc, &mut chain, COUNTER_1, &OF_ANOTHER)?;
-    Ok(())
+    row(
+        rt.alloc(),
+        Start::Stocked,
+        &[Part::PlaysAt(COUNTER_1, &OF_ANOTHER)],
+    )
 }
 
 const BEFORE_REFUSALS: [(&str, Step<'static>, &str, &str); 2] = [
@@ -228,15 +228,24 @@ const BY_STAFF: [(&str, Step<'static>, &str, &str); 9] = [
 /// Staff of another branch, and staff whom no branch has, are no staff here.
 #[test]
 fn refused_in_order(rt: HostRuntime) -> Result<(), Fail> {
-    let alloc = rt.alloc();
-    let mut chain = stocked(alloc)?;
-    plays_at(alloc, &mut chain, COUNTER_1, &BEFORE_REFUSALS)?;
-    for staff in [2u32, 9] {
-        let other = Counter { staff, ..COUNTER_1 };
-        plays_at(alloc, &mut chain, other, &BY_NOBODY)?;
-    }
-    plays_at(alloc, &mut chain, COUNTER_1, &BY_STAFF)?;
-    Ok(())
+    let second = Counter {
+        staff: 2,
+        ..COUNTER_1
+    };
+    let ninth = Counter {
+        staff: 9,
+        ..COUNTER_1
+    };
+    row(
+        rt.alloc(),
+        Start::Stocked,
+        &[
+            Part::PlaysAt(COUNTER_1, &BEFORE_REFUSALS),
+            Part::PlaysAt(second, &BY_NOBODY),
+            Part::PlaysAt(ninth, &BY_NOBODY),
+            Part::PlaysAt(COUNTER_1, &BY_STAFF),
+        ],
+    )
 }
 
 /// With two keys kept, a third is refused before its moment, its customer and its rental; the two are known.
@@ -287,10 +296,11 @@ const TWO_KEYS: [(&str, Step<'static>, &str, &str); 7] = [
 
 #[test]
 fn payments_at_limit_of_keys(rt: HostRuntime) -> Result<(), Fail> {
-    let alloc = rt.alloc();
-    let mut chain = limited(alloc, Limits::new(2, 1_000_000).ok_or("limits")?)?;
-    plays_at(alloc, &mut chain, COUNTER_1, &TWO_KEYS)?;
-    Ok(())
+    row(
+        rt.alloc(),
+        Start::Limited(2, 1_000_000),
+        &[Part::PlaysAt(COUNTER_1, &TWO_KEYS)],
+    )
 }
 
 /// 300 and 199 cents make up for the rental's 499, however often they are sent, also after the branch's moment has gone on.
@@ -370,11 +380,11 @@ const REORDERED: [(&str, &str, &str, &str, &str); 1] = [(
 
 #[test]
 fn repeated_payment(rt: HostRuntime) -> Result<(), Fail> {
-    let alloc = rt.alloc();
-    let mut chain = stocked(alloc)?;
-    plays_at(alloc, &mut chain, COUNTER_1, &REPEATS)?;
-    asks(alloc, &mut chain, &REORDERED)?;
-    Ok(())
+    row(
+        rt.alloc(),
+        Start::Stocked,
+        &[Part::PlaysAt(COUNTER_1, &REPEATS), Part::Asks(&REORDERED)],
+    )
 }
 
 /// Who may not rent can pay, also for a rental that is returned.
@@ -444,10 +454,13 @@ const STILL: [(&str, Step<'static>, &str, &str); 1] = [(
 
 #[test]
 fn payments_of_two_branches(rt: HostRuntime) -> Result<(), Fail> {
-    let alloc = rt.alloc();
-    let mut chain = stocked(alloc)?;
-    plays_at(alloc, &mut chain, COUNTER_1, &INACTIVE)?;
-    plays_at(alloc, &mut chain, COUNTER_2, &ELSEWHERE)?;
-    plays_at(alloc, &mut chain, COUNTER_1, &STILL)?;
-    Ok(())
+    row(
+        rt.alloc(),
+        Start::Stocked,
+        &[
+            Part::PlaysAt(COUNTER_1, &INACTIVE),
+            Part::PlaysAt(COUNTER_2, &ELSEWHERE),
+            Part::PlaysAt(COUNTER_1, &STILL),
+        ],
+    )
 }

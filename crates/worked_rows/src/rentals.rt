@@ -1,7 +1,7 @@
 //! Rentals, returns, scrapped copies and customers who may not rent, and looks at copies.
 use counter_talk::{
-    BAD, BAD_BODY, BRANCH_1, CONFLICT, COUNTER_1, COUNTER_2, Counter, MISSING, OFFICE, OK, Step,
-    answer, asks, plays, reply, stocked,
+    BAD, BAD_BODY, BRANCH_1, CONFLICT, COUNTER_1, COUNTER_2, Counter, MISSING, OFFICE, OK, Part,
+    Start, Step, row,
 };
 use std::test::Fail;
 
@@ -59,10 +59,11 @@ const SAME_MOMENT: [(Step<'static>, &str, &str); 8] = [
 /// A copy goes out twice at one moment, but not twice to the same customer.
 #[test]
 fn rent_return_rent(rt: HostRuntime) -> Result<(), Fail> {
-    let alloc = rt.alloc();
-    let mut chain = stocked(alloc)?;
-    plays(alloc, &mut chain, COUNTER_1, &SAME_MOMENT)?;
-    Ok(())
+    row(
+        rt.alloc(),
+        Start::Stocked,
+        &[Part::Plays(COUNTER_1, &SAME_MOMENT)],
+    )
 }
 
 const ONE_OUT_ONE_SCRAPPED: [(Step<'static>, &str, &str); 2] = [
@@ -91,11 +92,14 @@ const AFTER_SCRAP: [(Step<'static>, &str, &str); 8] = [
 
 #[test]
 fn scrapped_and_out(rt: HostRuntime) -> Result<(), Fail> {
-    let alloc = rt.alloc();
-    let mut chain = stocked(alloc)?;
-    plays(alloc, &mut chain, COUNTER_1, &ONE_OUT_ONE_SCRAPPED)?;
-    plays(alloc, &mut chain, COUNTER_1, &AFTER_SCRAP)?;
-    Ok(())
+    row(
+        rt.alloc(),
+        Start::Stocked,
+        &[
+            Part::Plays(COUNTER_1, &ONE_OUT_ONE_SCRAPPED),
+            Part::Plays(COUNTER_1, &AFTER_SCRAP),
+        ],
+    )
 }
 
 const SET_INACTIVE: &str = "{\"active\":false,\"customer\":1}";
@@ -125,12 +129,15 @@ const MAY_NOT_RENT: [(Step<'static>, &str, &str); 7] = [
 /// Who may not rent can give back.
 #[test]
 fn inactive_customer(rt: HostRuntime) -> Result<(), Fail> {
-    let alloc = rt.alloc();
-    let mut chain = stocked(alloc)?;
-    plays(alloc, &mut chain, COUNTER_1, &ONE_OUT_ONE_SCRAPPED)?;
-    plays(alloc, &mut chain, COUNTER_1, &AFTER_SCRAP)?;
-    plays(alloc, &mut chain, COUNTER_1, &MAY_NOT_RENT)?;
-    Ok(())
+    row(
+        rt.alloc(),
+        Start::Stocked,
+        &[
+            Part::Plays(COUNTER_1, &ONE_OUT_ONE_SCRAPPED),
+            Part::Plays(COUNTER_1, &AFTER_SCRAP),
+            Part::Plays(COUNTER_1, &MAY_NOT_RENT),
+        ],
+    )
 }
 
 const ACTIVE_AGAIN: [(Step<'static>, &str, &str); 6] = [
@@ -157,10 +164,11 @@ const ACTIVE_AGAIN: [(Step<'static>, &str, &str); 6] = [
 /// A customer who is set active again may rent again, also under the key that was refused.
 #[test]
 fn active_again(rt: HostRuntime) -> Result<(), Fail> {
-    let alloc = rt.alloc();
-    let mut chain = stocked(alloc)?;
-    plays(alloc, &mut chain, COUNTER_1, &ACTIVE_AGAIN)?;
-    Ok(())
+    row(
+        rt.alloc(),
+        Start::Stocked,
+        &[Part::Plays(COUNTER_1, &ACTIVE_AGAIN)],
+    )
 }
 
 const LOOKS: [(Step<'static>, &str, &str); 10] = [
@@ -189,11 +197,14 @@ const NOTHING_HERE: [(Step<'static>, &str, &str); 4] = [
 
 #[test]
 fn looks_at_copies(rt: HostRuntime) -> Result<(), Fail> {
-    let alloc = rt.alloc();
-    let mut chain = stocked(alloc)?;
-    plays(alloc, &mut chain, COUNTER_1, &LOOKS)?;
-    plays(alloc, &mut chain, COUNTER_2, &NOTHING_HERE)?;
-    Ok(())
+    row(
+        rt.alloc(),
+        Start::Stocked,
+        &[
+            Part::Plays(COUNTER_1, &LOOKS),
+            Part::Plays(COUNTER_2, &NOTHING_HERE),
+        ],
+    )
 }
 
 const UNKNOWN: [(Step<'static>, &str, &str); 8] = [
@@ -221,15 +232,18 @@ const OTHER_STAFF: [(Step<'static>, &str, &str); 4] = [
 /// A member of another branch's staff is no staff here, whatever else the command names.
 #[test]
 fn rows_that_are_not_there(rt: HostRuntime) -> Result<(), Fail> {
-    let alloc = rt.alloc();
-    let mut chain = stocked(alloc)?;
     let other = Counter {
         staff: 2,
         ..COUNTER_1
     };
-    plays(alloc, &mut chain, other, &OTHER_STAFF)?;
-    plays(alloc, &mut chain, COUNTER_1, &UNKNOWN)?;
-    Ok(())
+    row(
+        rt.alloc(),
+        Start::Stocked,
+        &[
+            Part::Plays(other, &OTHER_STAFF),
+            Part::Plays(COUNTER_1, &UNKNOWN),
+        ],
+    )
 }
 
 const HERE: [(Step<'static>, &str, &str); 3] = [
@@ -269,12 +283,15 @@ const STILL_OUT: [(Step<'static>, &str, &str); 3] = [
 /// A branch has copies, customers, rentals and keys of its own.
 #[test]
 fn rentals_of_two_branches(rt: HostRuntime) -> Result<(), Fail> {
-    let alloc = rt.alloc();
-    let mut chain = stocked(alloc)?;
-    plays(alloc, &mut chain, COUNTER_1, &HERE)?;
-    plays(alloc, &mut chain, COUNTER_2, &ELSEWHERE)?;
-    plays(alloc, &mut chain, COUNTER_1, &STILL_OUT)?;
-    Ok(())
+    row(
+        rt.alloc(),
+        Start::Stocked,
+        &[
+            Part::Plays(COUNTER_1, &HERE),
+            Part::Plays(COUNTER_2, &ELSEWHERE),
+            Part::Plays(COUNTER_1, &STILL_OUT),
+        ],
+    )
 }
 
 const BACK_AGAIN: [(Step<'static>, &str, &str); 7] = [
@@ -328,13 +345,16 @@ const BACK_IN_TIME: [(Step<'static>, &str, &str); 5] = [
 /// A repeat has the first reply and changes nothing, although the copy came back and the branch's moment has gone on.
 #[test]
 fn repeated_rental(rt: HostRuntime) -> Result<(), Fail> {
-    let alloc = rt.alloc();
-    let mut chain = stocked(alloc)?;
-    plays(alloc, &mut chain, COUNTER_1, &BACK_AGAIN)?;
-    asks(alloc, &mut chain, &REORDERED)?;
-    plays(alloc, &mut chain, NEXT_DAY, &LATER)?;
-    plays(alloc, &mut chain, COUNTER_1, &BACK_IN_TIME)?;
-    Ok(())
+    row(
+        rt.alloc(),
+        Start::Stocked,
+        &[
+            Part::Plays(COUNTER_1, &BACK_AGAIN),
+            Part::Asks(&REORDERED),
+            Part::Plays(NEXT_DAY, &LATER),
+            Part::Plays(COUNTER_1, &BACK_IN_TIME),
+        ],
+    )
 }
 
 /// Members of bodies that aren't of the path's form, beside the key, the staff and the moment.
@@ -387,16 +407,14 @@ const FORMS: [(&str, &str, &str, &str, &str); 15] = [
 /// What isn't of its form is refused for that, before the rows that it would name, and changes nothing.
 #[test]
 fn bad_rentals(rt: HostRuntime) -> Result<(), Fail> {
-    let alloc = rt.alloc();
-    let mut chain = stocked(alloc)?;
-    asks(alloc, &mut chain, &FORMS)?;
-    for (path, act) in BAD_ACTS {
-        let input = COUNTER_1.commands(alloc, path, "a", act)?;
-        let told = answer(alloc, &mut chain, input.as_str())?;
-        let wanted = reply(alloc, BAD, BAD_BODY)?;
-        assert!(rt; told.as_slice() == wanted.as_bytes(), "at {path} {act}");
-    }
     let free = [(Step::Rent("a", 1, 1), OK, RENTAL_1)];
-    plays(alloc, &mut chain, COUNTER_1, &free)?;
-    Ok(())
+    row(
+        rt.alloc(),
+        Start::Stocked,
+        &[
+            Part::Asks(&FORMS),
+            Part::BadBodies(COUNTER_1, &BAD_ACTS),
+            Part::Plays(COUNTER_1, &free),
+        ],
+    )
 }

@@ -1,5 +1,5 @@
 //! Who is rewarded: those whose payments in the month before pass both thresholds.
-use counter_talk::{CONFLICT, COUNTER_1, COUNTER_2, OK, Step, demo, plays_at, stocked};
+use counter_talk::{CONFLICT, COUNTER_1, COUNTER_2, OK, Part, Start, Step, row};
 use std::test::Fail;
 
 const NOBODY_IS: &str = "{\"count\":0,\"customers\":[]}";
@@ -52,10 +52,11 @@ const LEAP_MONTH: [(&str, Step<'static>, &str, &str); 11] = [
 
 #[test]
 fn rewards_in_leap_month(rt: HostRuntime) -> Result<(), Fail> {
-    let alloc = rt.alloc();
-    let mut chain = stocked(alloc)?;
-    plays_at(alloc, &mut chain, COUNTER_1, &LEAP_MONTH)?;
-    Ok(())
+    row(
+        rt.alloc(),
+        Start::Stocked,
+        &[Part::PlaysAt(COUNTER_1, &LEAP_MONTH)],
+    )
 }
 
 /// January 1970 has no month before it, and is the one before February; thresholds are looked at first.
@@ -99,10 +100,11 @@ const FIRST_MONTH: [(&str, Step<'static>, &str, &str); 10] = [
 
 #[test]
 fn no_month_before(rt: HostRuntime) -> Result<(), Fail> {
-    let alloc = rt.alloc();
-    let mut chain = demo(alloc)?;
-    plays_at(alloc, &mut chain, COUNTER_1, &FIRST_MONTH)?;
-    Ok(())
+    row(
+        rt.alloc(),
+        Start::Demo,
+        &[Part::PlaysAt(COUNTER_1, &FIRST_MONTH)],
+    )
 }
 
 /// Around December 2027. The first customer pays once in November, twice in December, of 600 + 0 cents, and once in January; the second
@@ -179,10 +181,13 @@ const ELSEWHERE: [(&str, Step<'static>, &str, &str); 1] = [(
 
 #[test]
 fn rewards_over_ends(rt: HostRuntime) -> Result<(), Fail> {
-    let alloc = rt.alloc();
-    let mut chain = stocked(alloc)?;
-    plays_at(alloc, &mut chain, COUNTER_1, &PAID)?;
-    plays_at(alloc, &mut chain, COUNTER_1, &REWARDED)?;
-    plays_at(alloc, &mut chain, COUNTER_2, &ELSEWHERE)?;
-    Ok(())
+    row(
+        rt.alloc(),
+        Start::Stocked,
+        &[
+            Part::PlaysAt(COUNTER_1, &PAID),
+            Part::PlaysAt(COUNTER_1, &REWARDED),
+            Part::PlaysAt(COUNTER_2, &ELSEWHERE),
+        ],
+    )
 }

@@ -1,9 +1,7 @@
 //! Copies that come in by stock files.
 use counter_talk::{
-    BAD, BAD_BODY, BRANCH_1, BRANCH_2, CONFLICT, FIRST_LOT, FOUR, Import, LOT, OK, demo, imports,
-    limited,
+    BAD, BAD_BODY, BRANCH_1, BRANCH_2, CONFLICT, FIRST_LOT, FOUR, Import, LOT, OK, Part, Start, row,
 };
-use shop_types::Limits;
 use std::test::Fail;
 
 const LOTS: [(Import<'static>, &str, &str, &str, &str); 5] = [
@@ -32,10 +30,7 @@ const LOTS: [(Import<'static>, &str, &str, &str, &str); 5] = [
 
 #[test]
 fn first_lot(rt: HostRuntime) -> Result<(), Fail> {
-    let alloc = rt.alloc();
-    let mut chain = demo(alloc)?;
-    imports(alloc, &mut chain, &LOTS)?;
-    Ok(())
+    row(rt.alloc(), Start::Demo, &[Part::Imports(&LOTS)])
 }
 
 const LINE_1: &str = "{\"line\":1,\"refused\":\"bad_csv\"}";
@@ -47,16 +42,22 @@ const LINE_3: &str = "{\"line\":3,\"refused\":\"bad_csv\"}";
 const LOT_IN: &str = "{\"refused\":\"lot_in\"}";
 
 /// Files that don't read, and what is told of them.
-const UNREAD: [(&str, &str); 9] = [
-    ("film_id,copies\n1,2\n2,0\n", LINE_3),
-    ("film_id,copies\n", LINE_2),
-    ("", LINE_1),
-    ("film_id\n1,2\n", LINE_1),
-    ("film_id,copies\n1,2,3\n", LINE_2),
-    ("film_id,copies\n01,2\n", LINE_2),
-    ("film_id,copies\n1,02\n", LINE_2),
-    ("film_id,copies\n\"1,2\n", LINE_2),
-    ("film_id,copies\n1,100\n", LINE_2),
+const UNREAD: [(Import<'static>, &str, &str, &str, &str); 9] = [
+    (
+        LOT,
+        BRANCH_1,
+        "film_id,copies\n1,2\n2,0\n",
+        CONFLICT,
+        LINE_3,
+    ),
+    (LOT, BRANCH_1, "film_id,copies\n", CONFLICT, LINE_2),
+    (LOT, BRANCH_1, "", CONFLICT, LINE_1),
+    (LOT, BRANCH_1, "film_id\n1,2\n", CONFLICT, LINE_1),
+    (LOT, BRANCH_1, "film_id,copies\n1,2,3\n", CONFLICT, LINE_2),
+    (LOT, BRANCH_1, "film_id,copies\n01,2\n", CONFLICT, LINE_2),
+    (LOT, BRANCH_1, "film_id,copies\n1,02\n", CONFLICT, LINE_2),
+    (LOT, BRANCH_1, "film_id,copies\n\"1,2\n", CONFLICT, LINE_2),
+    (LOT, BRANCH_1, "film_id,copies\n1,100\n", CONFLICT, LINE_2),
 ];
 
 const AFTER_UNREAD: [(Import<'static>, &str, &str, &str, &str); 2] = [
@@ -73,14 +74,11 @@ const AFTER_UNREAD: [(Import<'static>, &str, &str, &str, &str); 2] = [
 /// A file that doesn't read is refused with its line, and a following good import begins at copy 1.
 #[test]
 fn bad_stock_file(rt: HostRuntime) -> Result<(), Fail> {
-    let alloc = rt.alloc();
-    let mut chain = demo(alloc)?;
-    for (file, told) in UNREAD {
-        let step = [(LOT, BRANCH_1, file, CONFLICT, told)];
-        imports(alloc, &mut chain, &step)?;
-    }
-    imports(alloc, &mut chain, &AFTER_UNREAD)?;
-    Ok(())
+    row(
+        rt.alloc(),
+        Start::Demo,
+        &[Part::Imports(&UNREAD), Part::Imports(&AFTER_UNREAD)],
+    )
 }
 
 const LOT_FIRST: [(Import<'static>, &str, &str, &str, &str); 2] = [
@@ -96,10 +94,7 @@ const LOT_FIRST: [(Import<'static>, &str, &str, &str, &str); 2] = [
 
 #[test]
 fn lot_before_csv(rt: HostRuntime) -> Result<(), Fail> {
-    let alloc = rt.alloc();
-    let mut chain = demo(alloc)?;
-    imports(alloc, &mut chain, &LOT_FIRST)?;
-    Ok(())
+    row(rt.alloc(), Start::Demo, &[Part::Imports(&LOT_FIRST)])
 }
 
 const UNKNOWN: [(Import<'static>, &str, &str, &str, &str); 2] = [
@@ -122,10 +117,7 @@ const UNKNOWN: [(Import<'static>, &str, &str, &str, &str); 2] = [
 /// A refused import keeps none of its rows, and its lot is still free.
 #[test]
 fn unknown_film_then_lot(rt: HostRuntime) -> Result<(), Fail> {
-    let alloc = rt.alloc();
-    let mut chain = demo(alloc)?;
-    imports(alloc, &mut chain, &UNKNOWN)?;
-    Ok(())
+    row(rt.alloc(), Start::Demo, &[Part::Imports(&UNKNOWN)])
 }
 
 const MARKED: [(Import<'static>, &str, &str, &str, &str); 2] = [
@@ -151,24 +143,18 @@ const MARKED: [(Import<'static>, &str, &str, &str, &str); 2] = [
 
 #[test]
 fn byte_order_mark(rt: HostRuntime) -> Result<(), Fail> {
-    let alloc = rt.alloc();
-    let mut chain = demo(alloc)?;
-    imports(alloc, &mut chain, &MARKED)?;
-    Ok(())
+    row(rt.alloc(), Start::Demo, &[Part::Imports(&MARKED)])
 }
 
 #[test]
 fn over_thousand_copies(rt: HostRuntime) -> Result<(), Fail> {
-    let alloc = rt.alloc();
-    let mut chain = demo(alloc)?;
-    let mut file = String::from_str(alloc, "film_id,copies\n")?;
+    let mut file = String::from_str(rt.alloc(), "film_id,copies\n")?;
     for _ in 0..11 {
         file.push_str("1,99\n")?;
     }
     let told = "{\"line\":12,\"refused\":\"bad_csv\"}";
     let step = [(LOT, BRANCH_1, file.as_str(), CONFLICT, told)];
-    imports(alloc, &mut chain, &step)?;
-    Ok(())
+    row(rt.alloc(), Start::Demo, &[Part::Imports(&step)])
 }
 
 const FULL: &str = "{\"refused\":\"full\"}";
@@ -199,30 +185,49 @@ const THREE: [(Import<'static>, &str, &str, &str, &str); 4] = [
 /// A branch has no more copies than its limit, and a file that is too large is refused for that before its films.
 #[test]
 fn limits_of_copies(rt: HostRuntime) -> Result<(), Fail> {
-    let alloc = rt.alloc();
-    let mut chain = limited(alloc, Limits::new(1_000_000, 3).ok_or("limits")?)?;
-    imports(alloc, &mut chain, &THREE)?;
-    Ok(())
+    row(
+        rt.alloc(),
+        Start::Limited(1_000_000, 3),
+        &[Part::Imports(&THREE)],
+    )
 }
 
-const BAD_PARTS: [Import<'static>; 4] = [
-    Import { key: "a_b", ..LOT },
-    Import { lot: "L%31", ..LOT },
-    Import { staff: 0, ..LOT },
-    Import {
-        at: "2026-02-29T00:00:00",
-        ..LOT
-    },
+const BAD_PARTS: [(Import<'static>, &str, &str, &str, &str); 4] = [
+    (
+        Import { key: "a_b", ..LOT },
+        BRANCH_1,
+        FIRST_LOT,
+        BAD,
+        BAD_BODY,
+    ),
+    (
+        Import { lot: "L%31", ..LOT },
+        BRANCH_1,
+        FIRST_LOT,
+        BAD,
+        BAD_BODY,
+    ),
+    (
+        Import { staff: 0, ..LOT },
+        BRANCH_1,
+        FIRST_LOT,
+        BAD,
+        BAD_BODY,
+    ),
+    (
+        Import {
+            at: "2026-02-29T00:00:00",
+            ..LOT
+        },
+        BRANCH_1,
+        FIRST_LOT,
+        BAD,
+        BAD_BODY,
+    ),
 ];
 
 /// Parts of the path that aren't of their form.
 #[test]
 fn bad_parts(rt: HostRuntime) -> Result<(), Fail> {
-    let alloc = rt.alloc();
-    let mut chain = demo(alloc)?;
-    for import in BAD_PARTS {
-        let step = [(import, BRANCH_1, FIRST_LOT, BAD, BAD_BODY)];
-        imports(alloc, &mut chain, &step)?;
-    }
-    Ok(())
+    row(rt.alloc(), Start::Demo, &[Part::Imports(&BAD_PARTS)])
 }
