@@ -2,16 +2,16 @@
 #![tactic(auto)]
 
 mod chains;
-mod rows;
 mod steps;
+mod tables;
 mod talks;
 mod texts;
 
 pub use crate::chains::{demo, limited, stocked};
-pub use crate::rows::{Part, Start, row};
 pub use crate::steps::{
     COUNTER_1, COUNTER_2, Counter, FIRST, Import, LOT, NewCustomer, REPEATS, Step,
 };
+pub use crate::tables::{Part, Row, Start, rows};
 pub use crate::talks::{Pieces, Told, adds, answer, asks, imports, plays, plays_at, tell};
 pub use crate::texts::{
     BAD, BAD_BODY, BRANCH_1, BRANCH_2, CONFLICT, FIRST_CUSTOMER, FIRST_LOT, FIRST_REPLY, FORBIDDEN,

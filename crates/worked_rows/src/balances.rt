@@ -1,5 +1,5 @@
 //! What customers owe. Film 1 costs 499 cents for 3 days and film 2 costs 299 for 5, and each day more is 100.
-use counter_talk::{CONFLICT, COUNTER_1, COUNTER_2, OK, Part, Start, Step, row};
+use counter_talk::{CONFLICT, COUNTER_1, COUNTER_2, OK, Part, Row, Start, Step, rows};
 use std::test::Fail;
 
 const RENTAL_1: &str = "{\"rental\":1}";
@@ -41,33 +41,12 @@ const TWO_LATE: [(&str, Step<'static>, &str, &str); 4] = [
     ("2026-03-10T00:00:00", Step::Balance(1), OK, OWES_200),
 ];
 
-#[test]
-fn two_late_days(rt: HostRuntime) -> Result<(), Fail> {
-    row(
-        rt.alloc(),
-        Start::Stocked,
-        &[Part::PlaysAt(COUNTER_1, &TWO_LATE)],
-    )
-}
-
 /// The late days count whenever the balance is asked for; a second before the rental there is neither it nor the payment.
 const EARLIER: [(&str, Step<'static>, &str, &str); 3] = [
     ("2026-03-03T00:00:00", Step::Balance(1), OK, OWES_200),
     ("2026-03-01T10:00:00", Step::Balance(1), OK, OWES_200),
     ("2026-03-01T09:59:59", Step::Balance(1), OK, OWES_NOTHING),
 ];
-
-#[test]
-fn balance_before_payment(rt: HostRuntime) -> Result<(), Fail> {
-    row(
-        rt.alloc(),
-        Start::Stocked,
-        &[
-            Part::PlaysAt(COUNTER_1, &TWO_LATE),
-            Part::PlaysAt(COUNTER_1, &EARLIER),
-        ],
-    )
-}
 
 /// Days go by dates: from a second before midnight to the midnight that begins 5 March are 4, so one is late: 499 + 100.
 const ONE_LATE: [(&str, Step<'static>, &str, &str); 3] = [
@@ -80,15 +59,6 @@ const ONE_LATE: [(&str, Step<'static>, &str, &str); 3] = [
         "{\"balance\":599}",
     ),
 ];
-
-#[test]
-fn one_late_day(rt: HostRuntime) -> Result<(), Fail> {
-    row(
-        rt.alloc(),
-        Start::Stocked,
-        &[Part::PlaysAt(COUNTER_1, &ONE_LATE)],
-    )
-}
 
 /// A payment of no rental counts from its second on.
 const PAID_AHEAD: [(&str, Step<'static>, &str, &str); 3] = [
@@ -106,15 +76,6 @@ const PAID_AHEAD: [(&str, Step<'static>, &str, &str); 3] = [
     ),
     ("2026-03-01T23:59:59", Step::Balance(1), OK, OWES_NOTHING),
 ];
-
-#[test]
-fn balance_below_zero(rt: HostRuntime) -> Result<(), Fail> {
-    row(
-        rt.alloc(),
-        Start::Stocked,
-        &[Part::PlaysAt(COUNTER_1, &PAID_AHEAD)],
-    )
-}
 
 /// Over the ends of months and of years:
 /// - from 27 February to 2 March 2027 are 3 days (28 February, 1 and 2 March), the whole period: 499;
@@ -168,18 +129,6 @@ const SUMS: [(&str, Step<'static>, &str, &str); 8] = [
         "{\"balance\":2096}",
     ),
 ];
-
-#[test]
-fn late_days_over_ends(rt: HostRuntime) -> Result<(), Fail> {
-    row(
-        rt.alloc(),
-        Start::Stocked,
-        &[
-            Part::PlaysAt(COUNTER_1, &OVER_ENDS),
-            Part::PlaysAt(COUNTER_1, &SUMS),
-        ],
-    )
-}
 
 /// Each customer owes for the own rentals: the first 499 + 299 for two that are open, less 300 and 500 from 2 March on, that is 2 cents
 /// below zero; the second 499.
@@ -249,14 +198,49 @@ const ELSEWHERE: [(&str, Step<'static>, &str, &str); 3] = [
     ("2026-03-02T10:00:00", Step::Balance(1), OK, OWES_NOTHING),
 ];
 
-#[test]
-fn balances_are_apart(rt: HostRuntime) -> Result<(), Fail> {
-    row(
-        rt.alloc(),
-        Start::Stocked,
-        &[
+const ROWS: [Row<'static>; 6] = [
+    Row {
+        name: "two_late_days",
+        start: Start::Stocked,
+        parts: &[Part::PlaysAt(COUNTER_1, &TWO_LATE)],
+    },
+    Row {
+        name: "balance_before_payment",
+        start: Start::Stocked,
+        parts: &[
+            Part::PlaysAt(COUNTER_1, &TWO_LATE),
+            Part::PlaysAt(COUNTER_1, &EARLIER),
+        ],
+    },
+    Row {
+        name: "one_late_day",
+        start: Start::Stocked,
+        parts: &[Part::PlaysAt(COUNTER_1, &ONE_LATE)],
+    },
+    Row {
+        name: "balance_below_zero",
+        start: Start::Stocked,
+        parts: &[Part::PlaysAt(COUNTER_1, &PAID_AHEAD)],
+    },
+    Row {
+        name: "late_days_over_ends",
+        start: Start::Stocked,
+        parts: &[
+            Part::PlaysAt(COUNTER_1, &OVER_ENDS),
+            Part::PlaysAt(COUNTER_1, &SUMS),
+        ],
+    },
+    Row {
+        name: "balances_are_apart",
+        start: Start::Stocked,
+        parts: &[
             Part::PlaysAt(COUNTER_1, &APART),
             Part::PlaysAt(COUNTER_2, &ELSEWHERE),
         ],
-    )
+    },
+];
+
+#[test]
+fn balances(rt: HostRuntime) -> Result<(), Fail> {
+    rows(&rt, rt.alloc(), &ROWS)
 }

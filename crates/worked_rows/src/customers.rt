@@ -2,7 +2,7 @@
 use counter_http::reply_bytes;
 use counter_talk::{
     BAD, BAD_BODY, BRANCH_1, BRANCH_2, CONFLICT, FIRST, FIRST_REPLY, MARY, MISSING, NewCustomer,
-    OFFICE, OK, Part, REPEATS, Start, demo, row,
+    OFFICE, OK, Part, REPEATS, Row, Start, demo, rows,
 };
 use shop_types::{
     Act, CityNo, Command, Key, L45, Moment, Person, Request, StaffNo, T45, T128, Token,
@@ -14,32 +14,26 @@ const CUSTOMER_1: &str = "{\"customer\":1}";
 
 const NO_CUSTOMER: &str = "{\"refused\":\"no_customer\"}";
 
-#[test]
-fn first_customer(rt: HostRuntime) -> Result<(), Fail> {
-    assert!(rt; FIRST_REPLY.len() == 85 && MARY.len() == 144);
-    let look = [("GET /customer/1", BRANCH_1, "", OK, MARY)];
-    row(rt.alloc(), Start::Demo, &[Part::First, Part::Asks(&look)])
-}
+const MARY_LOOKED_AT: [(&str, &str, &str, &str, &str); 1] = [(
+    "GET /customer/1",
+    BRANCH_1,
+    "",
+    OK,
+    MARY,
+)];
 
-#[test]
-fn repeat_and_used_key(rt: HostRuntime) -> Result<(), Fail> {
-    let look = [("GET /customer/2", BRANCH_1, "", CONFLICT, NO_CUSTOMER)];
-    row(
-        rt.alloc(),
-        Start::Demo,
-        &[Part::Adds(&REPEATS), Part::Asks(&look)],
-    )
-}
+const NO_SECOND: [(&str, &str, &str, &str, &str); 1] = [(
+    "GET /customer/2",
+    BRANCH_1,
+    "",
+    CONFLICT,
+    NO_CUSTOMER,
+)];
 
 const ELSEWHERE: [(NewCustomer<'static>, &str, &str, &str); 2] = [
     (FIRST, BRANCH_1, OK, CUSTOMER_1),
     (NewCustomer { staff: 2, ..FIRST }, BRANCH_2, OK, CUSTOMER_1),
 ];
-
-#[test]
-fn same_key_elsewhere(rt: HostRuntime) -> Result<(), Fail> {
-    row(rt.alloc(), Start::Demo, &[Part::Adds(&ELSEWHERE)])
-}
 
 const LATER: [(NewCustomer<'static>, &str, &str, &str); 4] = [
     (FIRST, BRANCH_1, OK, CUSTOMER_1),
@@ -62,12 +56,6 @@ const LATER: [(NewCustomer<'static>, &str, &str, &str); 4] = [
     ),
 ];
 
-/// A repeat is answered as before, although the branch's moment has gone on.
-#[test]
-fn repeat_after_later_command(rt: HostRuntime) -> Result<(), Fail> {
-    row(rt.alloc(), Start::Demo, &[Part::Adds(&LATER)])
-}
-
 const FULL: &str = "{\"refused\":\"full\"}";
 
 const KEPT: [(NewCustomer<'static>, &str, &str, &str); 5] = [
@@ -86,16 +74,6 @@ const KEPT: [(NewCustomer<'static>, &str, &str, &str); 5] = [
         CUSTOMER_1,
     ),
 ];
-
-/// A caller with as many kept keys as are allowed gets no new one, and a repeat is answered.
-#[test]
-fn limits_of_kept_keys(rt: HostRuntime) -> Result<(), Fail> {
-    row(
-        rt.alloc(),
-        Start::Limited(1, 1_000_000),
-        &[Part::Adds(&KEPT)],
-    )
-}
 
 const NO_STAFF: &str = "{\"refused\":\"no_staff\"}";
 
@@ -153,12 +131,6 @@ const ORDER: [(NewCustomer<'static>, &str, &str, &str); 6] = [
     ),
 ];
 
-#[test]
-fn staff_before_city(rt: HostRuntime) -> Result<(), Fail> {
-    assert!(rt; LONGEST.len() == 45);
-    row(rt.alloc(), Start::Demo, &[Part::Adds(&ORDER)])
-}
-
 const NO_ROUTE: &str = "{\"refused\":\"no_route\"}";
 
 const FORMS: [(&str, &str, &str, &str, &str); 13] = [
@@ -182,12 +154,6 @@ const FORMS: [(&str, &str, &str, &str, &str); 13] = [
         NO_CUSTOMER,
     ),
 ];
-
-/// What isn't a request of the caller's has its own refusal, and changes nothing.
-#[test]
-fn refused_by_form_and_route(rt: HostRuntime) -> Result<(), Fail> {
-    row(rt.alloc(), Start::Demo, &[Part::Asks(&FORMS), Part::First])
-}
 
 fn text<const LOW: usize, const HIGH: usize>(
     alloc: Global,
@@ -231,4 +197,51 @@ fn first_customer_replayed(rt: HostRuntime) -> Result<(), Fail> {
         assert!(rt; bytes.as_slice() == FIRST_REPLY.as_bytes());
     }
     Ok(())
+}
+
+const ROWS: [Row<'static>; 7] = [
+    Row {
+        name: "first_customer",
+        start: Start::Demo,
+        parts: &[Part::First, Part::Asks(&MARY_LOOKED_AT)],
+    },
+    Row {
+        name: "repeat_and_used_key",
+        start: Start::Demo,
+        parts: &[Part::Adds(&REPEATS), Part::Asks(&NO_SECOND)],
+    },
+    Row {
+        name: "same_key_elsewhere",
+        start: Start::Demo,
+        parts: &[Part::Adds(&ELSEWHERE)],
+    },
+    // A repeat is answered as before, although the branch's moment has gone on.
+    Row {
+        name: "repeat_after_later_command",
+        start: Start::Demo,
+        parts: &[Part::Adds(&LATER)],
+    },
+    // A caller with as many kept keys as are allowed gets no new one, and a repeat is answered.
+    Row {
+        name: "limits_of_kept_keys",
+        start: Start::Limited(1, 1_000_000),
+        parts: &[Part::Adds(&KEPT)],
+    },
+    Row {
+        name: "staff_before_city",
+        start: Start::Demo,
+        parts: &[Part::Adds(&ORDER)],
+    },
+    // What isn't a request of the caller's has its own refusal, and changes nothing.
+    Row {
+        name: "refused_by_form_and_route",
+        start: Start::Demo,
+        parts: &[Part::Asks(&FORMS), Part::First],
+    },
+];
+
+#[test]
+fn customers(rt: HostRuntime) -> Result<(), Fail> {
+    assert!(rt; FIRST_REPLY.len() == 85 && MARY.len() == 144 && LONGEST.len() == 45);
+    rows(&rt, rt.alloc(), &ROWS)
 }

@@ -1,7 +1,7 @@
 //! Routes, parts of paths and bodies on money that aren't of their form.
 use counter_talk::{
     BAD, BAD_BODY, BRANCH_1, CONFLICT, COUNTER_1, FORBIDDEN, MISSING, NOBODY, OFFICE, OK, Part,
-    Start, Step, row,
+    Row, Start, Step, rows,
 };
 use std::test::Fail;
 
@@ -49,18 +49,6 @@ const BAD_PAYMENTS: [(&str, &str); 20] = [
     ),
     ("/pay", "\"customer\":1,\"rental\":null,\"cents\":1"),
 ];
-
-#[test]
-fn bad_payments(rt: HostRuntime) -> Result<(), Fail> {
-    row(
-        rt.alloc(),
-        Start::Stocked,
-        &[
-            Part::BadBodies(COUNTER_1, &BAD_PAYMENTS),
-            Part::Plays(COUNTER_1, &UNCHANGED),
-        ],
-    )
-}
 
 /// Who sends comes before the route, and the route before the form.
 const ROUTES: [(&str, &str, &str, &str, &str); 16] = [
@@ -211,15 +199,27 @@ const FORMS: [(&str, &str, &str, &str, &str); 23] = [
     ),
 ];
 
-#[test]
-fn routes_and_forms(rt: HostRuntime) -> Result<(), Fail> {
-    row(
-        rt.alloc(),
-        Start::Stocked,
-        &[
+const ROWS: [Row<'static>; 2] = [
+    Row {
+        name: "bad_payments",
+        start: Start::Stocked,
+        parts: &[
+            Part::BadBodies(COUNTER_1, &BAD_PAYMENTS),
+            Part::Plays(COUNTER_1, &UNCHANGED),
+        ],
+    },
+    Row {
+        name: "routes_and_forms",
+        start: Start::Stocked,
+        parts: &[
             Part::Asks(&ROUTES),
             Part::Asks(&FORMS),
             Part::Plays(COUNTER_1, &UNCHANGED),
         ],
-    )
+    },
+];
+
+#[test]
+fn forms(rt: HostRuntime) -> Result<(), Fail> {
+    rows(&rt, rt.alloc(), &ROWS)
 }

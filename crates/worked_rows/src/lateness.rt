@@ -1,6 +1,6 @@
 //! Rentals that are overdue: open ones, from the day behind their last day on.
 use counter_talk::{
-    BRANCH_1, COUNTER_1, COUNTER_2, FIRST, NewCustomer, OK, Part, Start, Step, row,
+    BRANCH_1, COUNTER_1, COUNTER_2, FIRST, NewCustomer, OK, Part, Row, Start, Step, rows,
 };
 use std::test::Fail;
 
@@ -41,18 +41,6 @@ const ELSEWHERE: [(&str, Step<'static>, &str, &str); 1] = [(
     OK,
     NONE_LATE,
 )];
-
-#[test]
-fn open_rental_overdue(rt: HostRuntime) -> Result<(), Fail> {
-    row(
-        rt.alloc(),
-        Start::Stocked,
-        &[
-            Part::PlaysAt(COUNTER_1, &OPEN),
-            Part::PlaysAt(COUNTER_2, &ELSEWHERE),
-        ],
-    )
-}
 
 /// A second customer, of another first name.
 const SECOND: [(NewCustomer<'static>, &str, &str, &str); 1] = [(
@@ -149,15 +137,27 @@ const DECEMBER: [(&str, Step<'static>, &str, &str); 5] = [
     ),
 ];
 
-#[test]
-fn overdue_over_ends(rt: HostRuntime) -> Result<(), Fail> {
-    row(
-        rt.alloc(),
-        Start::Stocked,
-        &[
+const ROWS: [Row<'static>; 2] = [
+    Row {
+        name: "open_rental_overdue",
+        start: Start::Stocked,
+        parts: &[
+            Part::PlaysAt(COUNTER_1, &OPEN),
+            Part::PlaysAt(COUNTER_2, &ELSEWHERE),
+        ],
+    },
+    Row {
+        name: "overdue_over_ends",
+        start: Start::Stocked,
+        parts: &[
             Part::Adds(&SECOND),
             Part::PlaysAt(COUNTER_1, &FEBRUARY),
             Part::PlaysAt(COUNTER_1, &DECEMBER),
         ],
-    )
+    },
+];
+
+#[test]
+fn lateness(rt: HostRuntime) -> Result<(), Fail> {
+    rows(&rt, rt.alloc(), &ROWS)
 }

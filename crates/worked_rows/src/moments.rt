@@ -1,5 +1,5 @@
 //! Moments in commands: real dates from 1970 to 9999, which never go back.
-use counter_talk::{BAD, BAD_BODY, CONFLICT, OK, Part, Start, row};
+use counter_talk::{BAD, BAD_BODY, CONFLICT, OK, Part, Row, Start, rows};
 use std::test::Fail;
 
 /// Texts that are no moments.
@@ -31,11 +31,13 @@ const READ: [(&str, &str, &str, &str); 7] = [
     ("f", "9999-12-31T23:59:58", CONFLICT, BACK),
 ];
 
+const ROWS: [Row<'static>; 1] = [Row {
+    name: "moments",
+    start: Start::Demo,
+    parts: &[Part::AddsAt(&UNREAD), Part::AddsAt(&READ)],
+}];
+
 #[test]
 fn moments(rt: HostRuntime) -> Result<(), Fail> {
-    row(
-        rt.alloc(),
-        Start::Demo,
-        &[Part::AddsAt(&UNREAD), Part::AddsAt(&READ)],
-    )
+    rows(&rt, rt.alloc(), &ROWS)
 }

@@ -1,6 +1,7 @@
 //! Payments: which are taken, each refusal in its order, and payments that are sent again.
 use counter_talk::{
-    BAD, BAD_BODY, BRANCH_1, CONFLICT, COUNTER_1, COUNTER_2, Counter, OK, Part, Start, Step, row,
+    BAD, BAD_BODY, BRANCH_1, CONFLICT, COUNTER_1, COUNTER_2, Counter, OK, Part, Row, Start, Step,
+    rows,
 };
 use std::test::Fail;
 
@@ -100,15 +101,6 @@ const AMOUNTS: [(&str, Step<'static>, &str, &str); 11] = [
     ),
 ];
 
-#[test]
-fn amounts_and_moments(rt: HostRuntime) -> Result<(), Fail> {
-    row(
-        rt.alloc(),
-        Start::Stocked,
-        &[Part::PlaysAt(COUNTER_1, &AMOUNTS)],
-    )
-}
-
 const OF_ANOTHER: [(&str, Step<'static>, &str, &str); 8] = [
     ("2026-03-01T10:00:00", Step::Customer("c2"), OK, CUSTOMER_2),
     ("2026-03-01T10:00:00", Step::Rent("a", 1, 1), OK, RENTAL_1),
@@ -134,15 +126,6 @@ const OF_ANOTHER: [(&str, Step<'static>, &str, &str); 8] = [
     ),
     ("2026-03-01T10:00:00", Step::Balance(1), OK, OWES_NOTHING),
 ];
-
-#[test]
-fn rental_of_another(rt: HostRuntime) -> Result<(), Fail> {
-    row(
-        rt.alloc(),
-        Start::Stocked,
-        &[Part::PlaysAt(COUNTER_1, &OF_ANOTHER)],
-    )
-}
 
 const BEFORE_REFUSALS: [(&str, Step<'static>, &str, &str); 2] = [
     ("2026-03-01T10:00:00", Step::Customer("c2"), OK, CUSTOMER_2),
@@ -225,28 +208,15 @@ const BY_STAFF: [(&str, Step<'static>, &str, &str); 9] = [
     ),
 ];
 
-/// Staff of another branch, and staff whom no branch has, are no staff here.
-#[test]
-fn refused_in_order(rt: HostRuntime) -> Result<(), Fail> {
-    let second = Counter {
-        staff: 2,
-        ..COUNTER_1
-    };
-    let ninth = Counter {
-        staff: 9,
-        ..COUNTER_1
-    };
-    row(
-        rt.alloc(),
-        Start::Stocked,
-        &[
-            Part::PlaysAt(COUNTER_1, &BEFORE_REFUSALS),
-            Part::PlaysAt(second, &BY_NOBODY),
-            Part::PlaysAt(ninth, &BY_NOBODY),
-            Part::PlaysAt(COUNTER_1, &BY_STAFF),
-        ],
-    )
-}
+const SECOND: Counter<'static> = Counter {
+    staff: 2,
+    ..COUNTER_1
+};
+
+const NINTH: Counter<'static> = Counter {
+    staff: 9,
+    ..COUNTER_1
+};
 
 /// With two keys kept, a third is refused before its moment, its customer and its rental; the two are known.
 const TWO_KEYS: [(&str, Step<'static>, &str, &str); 7] = [
@@ -293,15 +263,6 @@ const TWO_KEYS: [(&str, Step<'static>, &str, &str); 7] = [
         "{\"balance\":-5}",
     ),
 ];
-
-#[test]
-fn payments_at_limit_of_keys(rt: HostRuntime) -> Result<(), Fail> {
-    row(
-        rt.alloc(),
-        Start::Limited(2, 1_000_000),
-        &[Part::PlaysAt(COUNTER_1, &TWO_KEYS)],
-    )
-}
 
 /// 300 and 199 cents make up for the rental's 499, however often they are sent, also after the branch's moment has gone on.
 const REPEATS: [(&str, Step<'static>, &str, &str); 12] = [
@@ -378,15 +339,6 @@ const REORDERED: [(&str, &str, &str, &str, &str); 1] = [(
     PAYMENT_1,
 )];
 
-#[test]
-fn repeated_payment(rt: HostRuntime) -> Result<(), Fail> {
-    row(
-        rt.alloc(),
-        Start::Stocked,
-        &[Part::PlaysAt(COUNTER_1, &REPEATS), Part::Asks(&REORDERED)],
-    )
-}
-
 /// Who may not rent can pay, also for a rental that is returned.
 const INACTIVE: [(&str, Step<'static>, &str, &str); 6] = [
     ("2026-03-01T10:00:00", Step::Rent("a", 1, 1), OK, RENTAL_1),
@@ -452,15 +404,50 @@ const STILL: [(&str, Step<'static>, &str, &str); 1] = [(
     OWES_NOTHING,
 )];
 
-#[test]
-fn payments_of_two_branches(rt: HostRuntime) -> Result<(), Fail> {
-    row(
-        rt.alloc(),
-        Start::Stocked,
-        &[
+const ROWS: [Row<'static>; 6] = [
+    Row {
+        name: "amounts_and_moments",
+        start: Start::Stocked,
+        parts: &[Part::PlaysAt(COUNTER_1, &AMOUNTS)],
+    },
+    Row {
+        name: "rental_of_another",
+        start: Start::Stocked,
+        parts: &[Part::PlaysAt(COUNTER_1, &OF_ANOTHER)],
+    },
+    // Staff of another branch, and staff whom no branch has, are no staff here.
+    Row {
+        name: "refused_in_order",
+        start: Start::Stocked,
+        parts: &[
+            Part::PlaysAt(COUNTER_1, &BEFORE_REFUSALS),
+            Part::PlaysAt(SECOND, &BY_NOBODY),
+            Part::PlaysAt(NINTH, &BY_NOBODY),
+            Part::PlaysAt(COUNTER_1, &BY_STAFF),
+        ],
+    },
+    Row {
+        name: "payments_at_limit_of_keys",
+        start: Start::Limited(2, 1_000_000),
+        parts: &[Part::PlaysAt(COUNTER_1, &TWO_KEYS)],
+    },
+    Row {
+        name: "repeated_payment",
+        start: Start::Stocked,
+        parts: &[Part::PlaysAt(COUNTER_1, &REPEATS), Part::Asks(&REORDERED)],
+    },
+    Row {
+        name: "payments_of_two_branches",
+        start: Start::Stocked,
+        parts: &[
             Part::PlaysAt(COUNTER_1, &INACTIVE),
             Part::PlaysAt(COUNTER_2, &ELSEWHERE),
             Part::PlaysAt(COUNTER_1, &STILL),
         ],
-    )
+    },
+];
+
+#[test]
+fn payments(rt: HostRuntime) -> Result<(), Fail> {
+    rows(&rt, rt.alloc(), &ROWS)
 }

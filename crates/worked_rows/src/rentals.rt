@@ -1,7 +1,7 @@
 //! Rentals, returns, scrapped copies and customers who may not rent, and looks at copies.
 use counter_talk::{
     BAD, BAD_BODY, BRANCH_1, CONFLICT, COUNTER_1, COUNTER_2, Counter, MISSING, OFFICE, OK, Part,
-    Start, Step, row,
+    Row, Start, Step, rows,
 };
 use std::test::Fail;
 
@@ -56,16 +56,6 @@ const SAME_MOMENT: [(Step<'static>, &str, &str); 8] = [
     (Step::Look("/in-stock/5"), CONFLICT, NO_COPY),
 ];
 
-/// A copy goes out twice at one moment, but not twice to the same customer.
-#[test]
-fn rent_return_rent(rt: HostRuntime) -> Result<(), Fail> {
-    row(
-        rt.alloc(),
-        Start::Stocked,
-        &[Part::Plays(COUNTER_1, &SAME_MOMENT)],
-    )
-}
-
 const ONE_OUT_ONE_SCRAPPED: [(Step<'static>, &str, &str); 2] = [
     (Step::Rent("a", 1, 1), OK, RENTAL_1),
     (Step::Scrap("b", 3), OK, "{\"scrapped\":3}"),
@@ -89,18 +79,6 @@ const AFTER_SCRAP: [(Step<'static>, &str, &str); 8] = [
     (Step::Rent("f", 1, 5), CONFLICT, NO_COPY),
     (Step::Look("/film-in-stock/9"), CONFLICT, NO_FILM),
 ];
-
-#[test]
-fn scrapped_and_out(rt: HostRuntime) -> Result<(), Fail> {
-    row(
-        rt.alloc(),
-        Start::Stocked,
-        &[
-            Part::Plays(COUNTER_1, &ONE_OUT_ONE_SCRAPPED),
-            Part::Plays(COUNTER_1, &AFTER_SCRAP),
-        ],
-    )
-}
 
 const SET_INACTIVE: &str = "{\"active\":false,\"customer\":1}";
 
@@ -126,20 +104,6 @@ const MAY_NOT_RENT: [(Step<'static>, &str, &str); 7] = [
     ),
 ];
 
-/// Who may not rent can give back.
-#[test]
-fn inactive_customer(rt: HostRuntime) -> Result<(), Fail> {
-    row(
-        rt.alloc(),
-        Start::Stocked,
-        &[
-            Part::Plays(COUNTER_1, &ONE_OUT_ONE_SCRAPPED),
-            Part::Plays(COUNTER_1, &AFTER_SCRAP),
-            Part::Plays(COUNTER_1, &MAY_NOT_RENT),
-        ],
-    )
-}
-
 const ACTIVE_AGAIN: [(Step<'static>, &str, &str); 6] = [
     (Step::Active("a", 1, false), OK, SET_INACTIVE),
     (
@@ -160,16 +124,6 @@ const ACTIVE_AGAIN: [(Step<'static>, &str, &str); 6] = [
     ),
     (Step::Rent("b", 1, 1), OK, RENTAL_1),
 ];
-
-/// A customer who is set active again may rent again, also under the key that was refused.
-#[test]
-fn active_again(rt: HostRuntime) -> Result<(), Fail> {
-    row(
-        rt.alloc(),
-        Start::Stocked,
-        &[Part::Plays(COUNTER_1, &ACTIVE_AGAIN)],
-    )
-}
 
 const LOOKS: [(Step<'static>, &str, &str); 10] = [
     (Step::Look("/held-by/1"), OK, NOBODY_HAS),
@@ -195,18 +149,6 @@ const NOTHING_HERE: [(Step<'static>, &str, &str); 4] = [
     (Step::Look("/film-not-in-stock/1"), OK, NO_COPIES),
 ];
 
-#[test]
-fn looks_at_copies(rt: HostRuntime) -> Result<(), Fail> {
-    row(
-        rt.alloc(),
-        Start::Stocked,
-        &[
-            Part::Plays(COUNTER_1, &LOOKS),
-            Part::Plays(COUNTER_2, &NOTHING_HERE),
-        ],
-    )
-}
-
 const UNKNOWN: [(Step<'static>, &str, &str); 8] = [
     (Step::Rent("a", 9, 1), CONFLICT, NO_CUSTOMER),
     (Step::Rent("a", 9, 5), CONFLICT, NO_CUSTOMER),
@@ -229,22 +171,10 @@ const OTHER_STAFF: [(Step<'static>, &str, &str); 4] = [
     (Step::Active("a", 9, true), CONFLICT, NO_STAFF),
 ];
 
-/// A member of another branch's staff is no staff here, whatever else the command names.
-#[test]
-fn rows_that_are_not_there(rt: HostRuntime) -> Result<(), Fail> {
-    let other = Counter {
-        staff: 2,
-        ..COUNTER_1
-    };
-    row(
-        rt.alloc(),
-        Start::Stocked,
-        &[
-            Part::Plays(other, &OTHER_STAFF),
-            Part::Plays(COUNTER_1, &UNKNOWN),
-        ],
-    )
-}
+const OTHER: Counter<'static> = Counter {
+    staff: 2,
+    ..COUNTER_1
+};
 
 const HERE: [(Step<'static>, &str, &str); 3] = [
     (Step::Rent("r", 1, 2), OK, RENTAL_1),
@@ -279,20 +209,6 @@ const STILL_OUT: [(Step<'static>, &str, &str); 3] = [
     ),
     (Step::Return("t", 2), OK, "{\"returned\":2}"),
 ];
-
-/// A branch has copies, customers, rentals and keys of its own.
-#[test]
-fn rentals_of_two_branches(rt: HostRuntime) -> Result<(), Fail> {
-    row(
-        rt.alloc(),
-        Start::Stocked,
-        &[
-            Part::Plays(COUNTER_1, &HERE),
-            Part::Plays(COUNTER_2, &ELSEWHERE),
-            Part::Plays(COUNTER_1, &STILL_OUT),
-        ],
-    )
-}
 
 const BACK_AGAIN: [(Step<'static>, &str, &str); 7] = [
     (Step::Rent("a", 1, 1), OK, RENTAL_1),
@@ -342,21 +258,6 @@ const BACK_IN_TIME: [(Step<'static>, &str, &str); 5] = [
     ),
 ];
 
-/// A repeat has the first reply and changes nothing, although the copy came back and the branch's moment has gone on.
-#[test]
-fn repeated_rental(rt: HostRuntime) -> Result<(), Fail> {
-    row(
-        rt.alloc(),
-        Start::Stocked,
-        &[
-            Part::Plays(COUNTER_1, &BACK_AGAIN),
-            Part::Asks(&REORDERED),
-            Part::Plays(NEXT_DAY, &LATER),
-            Part::Plays(COUNTER_1, &BACK_IN_TIME),
-        ],
-    )
-}
-
 /// Members of bodies that aren't of the path's form, beside the key, the staff and the moment.
 const BAD_ACTS: [(&str, &str); 17] = [
     ("/rent", "\"customer\":1,\"copy\":0"),
@@ -404,17 +305,90 @@ const FORMS: [(&str, &str, &str, &str, &str); 15] = [
     ("GET /film-in-stock/1/1", BRANCH_1, "", MISSING, NO_ROUTE),
 ];
 
-/// What isn't of its form is refused for that, before the rows that it would name, and changes nothing.
-#[test]
-fn bad_rentals(rt: HostRuntime) -> Result<(), Fail> {
-    let free = [(Step::Rent("a", 1, 1), OK, RENTAL_1)];
-    row(
-        rt.alloc(),
-        Start::Stocked,
-        &[
+const FREE: [(Step<'static>, &str, &str); 1] = [(Step::Rent("a", 1, 1), OK, RENTAL_1)];
+
+const ROWS: [Row<'static>; 9] = [
+    // A copy goes out twice at one moment, but not twice to the same customer.
+    Row {
+        name: "rent_return_rent",
+        start: Start::Stocked,
+        parts: &[Part::Plays(COUNTER_1, &SAME_MOMENT)],
+    },
+    Row {
+        name: "scrapped_and_out",
+        start: Start::Stocked,
+        parts: &[
+            Part::Plays(COUNTER_1, &ONE_OUT_ONE_SCRAPPED),
+            Part::Plays(COUNTER_1, &AFTER_SCRAP),
+        ],
+    },
+    // Who may not rent can give back.
+    Row {
+        name: "inactive_customer",
+        start: Start::Stocked,
+        parts: &[
+            Part::Plays(COUNTER_1, &ONE_OUT_ONE_SCRAPPED),
+            Part::Plays(COUNTER_1, &AFTER_SCRAP),
+            Part::Plays(COUNTER_1, &MAY_NOT_RENT),
+        ],
+    },
+    // A customer who is set active again may rent again, also under the key that was refused.
+    Row {
+        name: "active_again",
+        start: Start::Stocked,
+        parts: &[Part::Plays(COUNTER_1, &ACTIVE_AGAIN)],
+    },
+    Row {
+        name: "looks_at_copies",
+        start: Start::Stocked,
+        parts: &[
+            Part::Plays(COUNTER_1, &LOOKS),
+            Part::Plays(COUNTER_2, &NOTHING_HERE),
+        ],
+    },
+    // A member of another branch's staff is no staff here, whatever else the command names.
+    Row {
+        name: "rows_that_are_not_there",
+        start: Start::Stocked,
+        parts: &[
+            Part::Plays(OTHER, &OTHER_STAFF),
+            Part::Plays(COUNTER_1, &UNKNOWN),
+        ],
+    },
+    // A branch has copies, customers, rentals and keys of its own.
+    Row {
+        name: "rentals_of_two_branches",
+        start: Start::Stocked,
+        parts: &[
+            Part::Plays(COUNTER_1, &HERE),
+            Part::Plays(COUNTER_2, &ELSEWHERE),
+            Part::Plays(COUNTER_1, &STILL_OUT),
+        ],
+    },
+    // A repeat has the first reply and changes nothing, although the copy came back and the branch's moment has gone on.
+    Row {
+        name: "repeated_rental",
+        start: Start::Stocked,
+        parts: &[
+            Part::Plays(COUNTER_1, &BACK_AGAIN),
+            Part::Asks(&REORDERED),
+            Part::Plays(NEXT_DAY, &LATER),
+            Part::Plays(COUNTER_1, &BACK_IN_TIME),
+        ],
+    },
+    // What isn't of its form is refused for that, before the rows that it would name, and changes nothing.
+    Row {
+        name: "bad_rentals",
+        start: Start::Stocked,
+        parts: &[
             Part::Asks(&FORMS),
             Part::BadBodies(COUNTER_1, &BAD_ACTS),
-            Part::Plays(COUNTER_1, &free),
+            Part::Plays(COUNTER_1, &FREE),
         ],
-    )
+    },
+];
+
+#[test]
+fn rentals(rt: HostRuntime) -> Result<(), Fail> {
+    rows(&rt, rt.alloc(), &ROWS)
 }

@@ -1,5 +1,5 @@
 //! Who is rewarded: those whose payments in the month before pass both thresholds.
-use counter_talk::{CONFLICT, COUNTER_1, COUNTER_2, OK, Part, Start, Step, row};
+use counter_talk::{CONFLICT, COUNTER_1, COUNTER_2, OK, Part, Row, Start, Step, rows};
 use std::test::Fail;
 
 const NOBODY_IS: &str = "{\"count\":0,\"customers\":[]}";
@@ -50,15 +50,6 @@ const LEAP_MONTH: [(&str, Step<'static>, &str, &str); 11] = [
     ("2028-04-01T00:00:00", Step::Rewards(1, 499), OK, NOBODY_IS),
 ];
 
-#[test]
-fn rewards_in_leap_month(rt: HostRuntime) -> Result<(), Fail> {
-    row(
-        rt.alloc(),
-        Start::Stocked,
-        &[Part::PlaysAt(COUNTER_1, &LEAP_MONTH)],
-    )
-}
-
 /// January 1970 has no month before it, and is the one before February; thresholds are looked at first.
 const FIRST_MONTH: [(&str, Step<'static>, &str, &str); 10] = [
     ("1970-01-31T00:00:00", Step::Rewards(1, 1), OK, NOBODY_IS),
@@ -97,15 +88,6 @@ const FIRST_MONTH: [(&str, Step<'static>, &str, &str); 10] = [
     ("1970-02-01T00:00:00", Step::Rewards(1, 1), OK, FIRST_IS),
     ("1970-02-01T00:00:00", Step::Rewards(1, 2), OK, NOBODY_IS),
 ];
-
-#[test]
-fn no_month_before(rt: HostRuntime) -> Result<(), Fail> {
-    row(
-        rt.alloc(),
-        Start::Demo,
-        &[Part::PlaysAt(COUNTER_1, &FIRST_MONTH)],
-    )
-}
 
 /// Around December 2027. The first customer pays once in November, twice in December, of 600 + 0 cents, and once in January; the second
 /// twice in December, of 400 + 101 cents.
@@ -179,15 +161,29 @@ const ELSEWHERE: [(&str, Step<'static>, &str, &str); 1] = [(
     NOBODY_IS,
 )];
 
-#[test]
-fn rewards_over_ends(rt: HostRuntime) -> Result<(), Fail> {
-    row(
-        rt.alloc(),
-        Start::Stocked,
-        &[
+const ROWS: [Row<'static>; 3] = [
+    Row {
+        name: "rewards_in_leap_month",
+        start: Start::Stocked,
+        parts: &[Part::PlaysAt(COUNTER_1, &LEAP_MONTH)],
+    },
+    Row {
+        name: "no_month_before",
+        start: Start::Demo,
+        parts: &[Part::PlaysAt(COUNTER_1, &FIRST_MONTH)],
+    },
+    Row {
+        name: "rewards_over_ends",
+        start: Start::Stocked,
+        parts: &[
             Part::PlaysAt(COUNTER_1, &PAID),
             Part::PlaysAt(COUNTER_1, &REWARDED),
             Part::PlaysAt(COUNTER_2, &ELSEWHERE),
         ],
-    )
+    },
+];
+
+#[test]
+fn rewards(rt: HostRuntime) -> Result<(), Fail> {
+    rows(&rt, rt.alloc(), &ROWS)
 }

@@ -1,6 +1,7 @@
 //! Copies that come in by stock files.
 use counter_talk::{
-    BAD, BAD_BODY, BRANCH_1, BRANCH_2, CONFLICT, FIRST_LOT, FOUR, Import, LOT, OK, Part, Start, row,
+    BAD, BAD_BODY, BRANCH_1, BRANCH_2, CONFLICT, FIRST_LOT, FOUR, Import, LOT, OK, Part, Row,
+    Start, rows,
 };
 use std::test::Fail;
 
@@ -27,11 +28,6 @@ const LOTS: [(Import<'static>, &str, &str, &str, &str); 5] = [
         "{\"refused\":\"key_used\"}",
     ),
 ];
-
-#[test]
-fn first_lot(rt: HostRuntime) -> Result<(), Fail> {
-    row(rt.alloc(), Start::Demo, &[Part::Imports(&LOTS)])
-}
 
 const LINE_1: &str = "{\"line\":1,\"refused\":\"bad_csv\"}";
 
@@ -71,16 +67,6 @@ const AFTER_UNREAD: [(Import<'static>, &str, &str, &str, &str); 2] = [
     ),
 ];
 
-/// A file that doesn't read is refused with its line, and a following good import begins at copy 1.
-#[test]
-fn bad_stock_file(rt: HostRuntime) -> Result<(), Fail> {
-    row(
-        rt.alloc(),
-        Start::Demo,
-        &[Part::Imports(&UNREAD), Part::Imports(&AFTER_UNREAD)],
-    )
-}
-
 const LOT_FIRST: [(Import<'static>, &str, &str, &str, &str); 2] = [
     (LOT, BRANCH_1, FIRST_LOT, OK, FOUR),
     (
@@ -91,11 +77,6 @@ const LOT_FIRST: [(Import<'static>, &str, &str, &str, &str); 2] = [
         LOT_IN,
     ),
 ];
-
-#[test]
-fn lot_before_csv(rt: HostRuntime) -> Result<(), Fail> {
-    row(rt.alloc(), Start::Demo, &[Part::Imports(&LOT_FIRST)])
-}
 
 const UNKNOWN: [(Import<'static>, &str, &str, &str, &str); 2] = [
     (
@@ -113,12 +94,6 @@ const UNKNOWN: [(Import<'static>, &str, &str, &str, &str); 2] = [
         "{\"copies\":2,\"first\":1}",
     ),
 ];
-
-/// A refused import keeps none of its rows, and its lot is still free.
-#[test]
-fn unknown_film_then_lot(rt: HostRuntime) -> Result<(), Fail> {
-    row(rt.alloc(), Start::Demo, &[Part::Imports(&UNKNOWN)])
-}
 
 const MARKED: [(Import<'static>, &str, &str, &str, &str); 2] = [
     (
@@ -141,21 +116,26 @@ const MARKED: [(Import<'static>, &str, &str, &str, &str); 2] = [
     ),
 ];
 
-#[test]
-fn byte_order_mark(rt: HostRuntime) -> Result<(), Fail> {
-    row(rt.alloc(), Start::Demo, &[Part::Imports(&MARKED)])
-}
-
-#[test]
-fn over_thousand_copies(rt: HostRuntime) -> Result<(), Fail> {
-    let mut file = String::from_str(rt.alloc(), "film_id,copies\n")?;
-    for _ in 0..11 {
-        file.push_str("1,99\n")?;
-    }
-    let told = "{\"line\":12,\"refused\":\"bad_csv\"}";
-    let step = [(LOT, BRANCH_1, file.as_str(), CONFLICT, told)];
-    row(rt.alloc(), Start::Demo, &[Part::Imports(&step)])
-}
+/// Eleven times 99 are 1,089 copies, and the eleventh row stands on line 12.
+const ELEVEN: [(Import<'static>, &str, &str, &str, &str); 1] = [(
+    LOT,
+    BRANCH_1,
+    "film_id,copies
+1,99
+1,99
+1,99
+1,99
+1,99
+1,99
+1,99
+1,99
+1,99
+1,99
+1,99
+",
+    CONFLICT,
+    "{\"line\":12,\"refused\":\"bad_csv\"}",
+)];
 
 const FULL: &str = "{\"refused\":\"full\"}";
 
@@ -181,16 +161,6 @@ const THREE: [(Import<'static>, &str, &str, &str, &str); 4] = [
         FULL,
     ),
 ];
-
-/// A branch has no more copies than its limit, and a file that is too large is refused for that before its films.
-#[test]
-fn limits_of_copies(rt: HostRuntime) -> Result<(), Fail> {
-    row(
-        rt.alloc(),
-        Start::Limited(1_000_000, 3),
-        &[Part::Imports(&THREE)],
-    )
-}
 
 const BAD_PARTS: [(Import<'static>, &str, &str, &str, &str); 4] = [
     (
@@ -226,8 +196,54 @@ const BAD_PARTS: [(Import<'static>, &str, &str, &str, &str); 4] = [
     ),
 ];
 
-/// Parts of the path that aren't of their form.
+const ROWS: [Row<'static>; 8] = [
+    Row {
+        name: "first_lot",
+        start: Start::Demo,
+        parts: &[Part::Imports(&LOTS)],
+    },
+    // A file that doesn't read is refused with its line, and a following good import begins at copy 1.
+    Row {
+        name: "bad_stock_file",
+        start: Start::Demo,
+        parts: &[Part::Imports(&UNREAD), Part::Imports(&AFTER_UNREAD)],
+    },
+    Row {
+        name: "lot_before_csv",
+        start: Start::Demo,
+        parts: &[Part::Imports(&LOT_FIRST)],
+    },
+    // A refused import keeps none of its rows, and its lot is still free.
+    Row {
+        name: "unknown_film_then_lot",
+        start: Start::Demo,
+        parts: &[Part::Imports(&UNKNOWN)],
+    },
+    Row {
+        name: "byte_order_mark",
+        start: Start::Demo,
+        parts: &[Part::Imports(&MARKED)],
+    },
+    Row {
+        name: "over_thousand_copies",
+        start: Start::Demo,
+        parts: &[Part::Imports(&ELEVEN)],
+    },
+    // A branch has no more copies than its limit, and a file that is too large is refused for that before its films.
+    Row {
+        name: "limits_of_copies",
+        start: Start::Limited(1_000_000, 3),
+        parts: &[Part::Imports(&THREE)],
+    },
+    // Parts of the path that aren't of their form.
+    Row {
+        name: "bad_parts",
+        start: Start::Demo,
+        parts: &[Part::Imports(&BAD_PARTS)],
+    },
+];
+
 #[test]
-fn bad_parts(rt: HostRuntime) -> Result<(), Fail> {
-    row(rt.alloc(), Start::Demo, &[Part::Imports(&BAD_PARTS)])
+fn stock(rt: HostRuntime) -> Result<(), Fail> {
+    rows(&rt, rt.alloc(), &ROWS)
 }

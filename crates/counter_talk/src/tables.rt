@@ -1,4 +1,4 @@
-//! Rows of tests: a chain, and what is sent to it.
+//! Tables of tests: of each row a chain, and what is sent to it.
 use crate::chains::{demo, limited, stocked};
 use crate::steps::{Counter, FIRST, Import, NewCustomer, Step};
 use crate::talks::{adds, answer, asks, imports, plays, plays_at};
@@ -7,6 +7,7 @@ use chain_engine::Chain;
 use shop_types::Limits;
 use sqlite::MemStore;
 use std::alloc::Global;
+use std::io::Eprint;
 use std::test::Fail;
 
 /// The chain that a row begins with.
@@ -102,10 +103,31 @@ fn sends(alloc: Global, chain: &mut Chain<MemStore>, part: Part<'_>) -> Result<(
 }
 
 /// Sends the parts to a new chain, and tells the wanted body of the first request that isn't answered as it is to be.
-pub fn row(alloc: Global, start: Start, parts: &[Part<'_>]) -> Result<(), Fail> {
+fn sent(alloc: Global, start: Start, parts: &[Part<'_>]) -> Result<(), Fail> {
     let mut chain = begun(alloc, start)?;
     for part in parts {
         sends(alloc, &mut chain, *part)?;
+    }
+    Ok(())
+}
+
+/// A row of a table of tests.
+#[derive(Clone, Copy)]
+pub struct Row<'t> {
+    pub name: &'static str,
+    pub start: Start,
+    /// What is sent, each part behind the one before it.
+    pub parts: &'t [Part<'t>],
+}
+
+/// Sends what each row says to a chain of its own. At the first request that isn't answered as it is to be, the row's name goes to standard error, and the wanted
+/// body is told.
+pub fn rows<R: Eprint>(rt: &R, alloc: Global, table: &[Row<'_>]) -> Result<(), Fail> {
+    for row in table {
+        if let Err(fail) = sent(alloc, row.start, row.parts) {
+            let _ = rt.eprintln(row.name);
+            return Err(fail);
+        }
     }
     Ok(())
 }
