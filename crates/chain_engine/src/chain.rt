@@ -88,13 +88,14 @@ impl<S: Alter> Model for Chain<S> {
 }
 
 impl Chain<MemStore> {
-    /// A chain in memory with head office's token and no shared row. Only for want of memory or room is there none.
+    /// A chain in memory with head office's token and no shared row. Where there is none, memory or room is wanting, or the store has failed.
     pub fn memory(
         alloc: Global,
         office: &Token,
         limits: Limits,
     ) -> Result<Chain<MemStore>, OpenFault>
-        ensures { IfOk result (λ chain. (chain.limits ≡ limits) × (chain.is_failed ≡ false) × IsAt over_memory chain (first_books office.now)) }
+        ensures made { IfOk result (λ chain. (chain.limits ≡ limits) × (chain.is_failed ≡ false) × IsAt over_memory chain (first_books office.now)) }
+        ensures fault { IfErr result (λ e. (e ≢ OpenFault.NotAChain) × (e ≢ OpenFault.OtherVersion)) }
     {
         let Ok(mut conn) = Connection::open_in_memory(alloc) else {
             return Err(OpenFault::Memory);
@@ -112,9 +113,10 @@ impl Chain<MemStore> {
         }
     }
 
-    /// A chain in memory, with the opening rows, in which no branch has asked anything. Only for want of memory or room is there none.
+    /// A chain in memory, with the opening rows, in which no branch has asked anything. Where there is none, memory or room is wanting, or the store has failed.
     pub fn demo(alloc: Global, limits: Limits) -> Result<Chain<MemStore>, OpenFault>
-        ensures { IfOk result (λ chain. (chain.limits ≡ limits) × (chain.is_failed ≡ false) × IsAt over_memory chain opening_books) }
+        ensures made { IfOk result (λ chain. (chain.limits ≡ limits) × (chain.is_failed ≡ false) × IsAt over_memory chain opening_books) }
+        ensures fault { IfErr result (λ e. (e ≢ OpenFault.NotAChain) × (e ≢ OpenFault.OtherVersion)) }
     {
         let Ok(mut conn) = Connection::open_in_memory(alloc) else {
             return Err(OpenFault::Memory);

@@ -21,10 +21,10 @@ from_opening g chain new limits fine at clean es taken =
 
 pub returns-in-Ok-serve : goal.returns-in-Ok-serve
 returns-in-Ok-serve g c =
-    let tell = from_opening _ c.in-Ok.chain c.serve.new.chain (c.in-Ok.ensures.0 ∙ c.default.ensures) c.in-Ok.ensures.1 c.in-Ok.ensures.2 (no_doubt _ refl) in
+    let tell = from_opening _ c.in-Ok.chain c.serve.new.chain (c.in-Ok.ensures.made.0 ∙ c.default.ensures) c.in-Ok.ensures.made.1 c.in-Ok.ensures.made.2 (no_doubt _ refl) in
     replayed c.in-Ok-serve.served (served_as c.in-Ok-serve.served 1000 _ RunsFromOpening _ _ _ _ c.in-Ok-serve.ensures.served tell) c.status.ensures
 
 pub returns : goal.returns
 returns g c =
-    let tell = from_opening _ c.in-Ok.chain c.serve.new.chain (c.in-Ok.ensures.0 ∙ c.default.ensures) c.in-Ok.ensures.1 c.in-Ok.ensures.2 (no_doubt _ refl) in
+    let tell = from_opening _ c.in-Ok.chain c.serve.new.chain (c.in-Ok.ensures.made.0 ∙ c.default.ensures) c.in-Ok.ensures.made.1 c.in-Ok.ensures.made.2 (no_doubt _ refl) in
     broke_off c.in-Err-serve.field-0 (fault_as c.in-Err-serve.field-0 _ RunsFromOpening _ _ _ _ c.in-Err-serve.ensures.fault tell) refl

@@ -8,7 +8,7 @@ use Rattle.chain_engine.proofs.chain.Chain+MemStore.demo.Goals as goal
 apart : false ≡ true → ⊥
 apart e = cc
 
-pub returns-in-Ok-create_opening : goal.returns-in-Ok-create_opening
-returns-in-Ok-create_opening c =
+pub returns-in-Ok-create_opening-clause-made : goal.returns-in-Ok-create_opening-clause-made
+returns-in-Ok-create_opening-clause-made c =
     let rests = c.in-Ok-create_opening.ensures.made (no_doubt _ refl) c.in-Ok.ensures.empty.2 in
     (refl, refl, record { sound = opening_books_sound widest_rules; values = opening_values; rests = λ _. rests; left = λ failed. absurd (apart failed) })
