@@ -2,11 +2,9 @@
 #![tactic(auto)]
 
 #[cfg(test)]
-mod chain;
+mod messages;
 #[cfg(test)]
 mod money;
-#[cfg(test)]
-mod office;
 #[cfg(test)]
 mod rentals;
 #[cfg(test)]

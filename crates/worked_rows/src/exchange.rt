@@ -1,0 +1,102 @@
+//! A connection to the chain, and the replies that are wanted of it.
+ghost use Rattle.std.specs.Prelude.{◌≡◌, OnOk};
+
+use crate::fault::{Fault, shown};
+use crate::shops::Told;
+use crate::texts::put_reply;
+use std::alloc::Global;
+
+/// A connection whose replies are being compared.
+#[derive(Drop)]
+pub struct Exchange {
+    told: Told,
+    wanted: Vec<u8>,
+    replies: u32,
+    end: Option<&'static str>,
+    /// How many bytes the writer had room for.
+    room: usize,
+}
+
+fn end_word(word: &str) -> Option<&'static str> {
+    [
+        "closed",
+        "cut",
+        "asked",
+        "limit",
+        "refused",
+        "store_failed",
+        "write",
+    ]
+    .iter()
+    .copied()
+    .find(|it| *it == word)
+}
+
+/// The place of the first byte that differs, from 1 on.
+fn difference(told: &[u8], wanted: &[u8]) -> usize {
+    let same = told
+        .iter()
+        .zip(wanted)
+        .take_while(|(a, b)| **a == **b)
+        .count();
+    same.saturating_add(1)
+}
+
+impl Exchange {
+    pub fn new(alloc: Global, told: Told, room: usize) -> Exchange {
+        Exchange {
+            told,
+            wanted: Vec::new(alloc),
+            replies: 0,
+            end: None,
+            room,
+        }
+    }
+
+    /// One reply more is wanted.
+    pub fn wants(&mut self, alloc: Global, status: &str, body: &[u8]) -> Result<(), Fault> {
+        if self.end.is_some() {
+            return Err(Fault::Line("a reply comes behind the end"));
+        }
+        put_reply(alloc, &mut self.wanted, status, body)?;
+        self.wanted.truncate(self.room);
+        self.replies = self.replies.saturating_add(1);
+        Ok(())
+    }
+
+    /// `end WORD REPLIES`.
+    pub fn ends(&mut self, line: &str) -> Result<(), Fault> {
+        let Some((word, count)) = line.split_once(' ') else {
+            return Err(Fault::Line("an end and a count are wanted"));
+        };
+        let (Some(end), Ok(count)) = (end_word(word), count.parse::<u32>()) else {
+            return Err(Fault::Line("this is no end"));
+        };
+        // (where the writer has no more room, the last reply isn't whole)
+        if self.end.is_some() || (self.replies != count && end != "write") {
+            return Err(Fault::Line("the end has another count of replies"));
+        }
+        self.replies = count;
+        self.end = Some(end);
+        Ok(())
+    }
+
+    /// Whether what was told is what is wanted: the bytes of the replies, their count and the end.
+    pub fn settle(&self, alloc: Global) -> Result<(), Fault>
+        ensures bytes { OnOk result (self.now.told.bytes.items ≡ self.now.wanted.items) }
+        ensures replies { OnOk result (self.now.told.replies ≡ self.now.replies) }
+    {
+        if self.replies == 0 && self.end.is_none() {
+            return Err(Fault::Line("a request has no reply"));
+        }
+        if self.told.bytes.as_slice() != self.wanted.as_slice() {
+            let at = difference(self.told.bytes.as_slice(), self.wanted.as_slice());
+            return Err(Fault::Replies(at, shown(alloc, self.told.bytes.as_slice())?));
+        }
+        let wanted = self.end.unwrap_or("closed");
+        if self.told.end != wanted || self.told.replies != self.replies {
+            return Err(Fault::End(self.told.end, self.told.replies));
+        }
+        Ok(())
+    }
+}

@@ -1,0 +1,243 @@
+//! One row as it is played, line by line.
+use crate::exchange::Exchange;
+use crate::fault::Fault;
+use crate::names::Names;
+use crate::program::Run;
+use crate::quoted::unquoted;
+use crate::shops::{How, Shop, WHOLE, new_shop};
+use crate::texts::request;
+use std::alloc::Global;
+
+/// What was asked last, and what is wanted of it.
+#[derive(Drop)]
+enum Asked {
+    Connection(Exchange),
+    Program(Run),
+}
+
+#[derive(Drop)]
+pub struct Row {
+    alloc: Global,
+    shop: Option<Shop>,
+    asked: Option<Asked>,
+    how: How,
+    is_how_said: bool,
+    input: Option<Vec<u8>>,
+    count: u32,
+}
+
+impl Row {
+    pub fn new(alloc: Global) -> Row {
+        Row {
+            alloc,
+            shop: None,
+            asked: None,
+            how: WHOLE,
+            is_how_said: false,
+            input: None,
+            count: 0,
+        }
+    }
+
+    /// Compares what was asked last.
+    pub fn settle(&mut self) -> Result<(), Fault> {
+        match self.asked.take() {
+            Some(Asked::Connection(exchange)) => exchange.settle(self.alloc),
+            Some(Asked::Program(run)) => run.settle(self.alloc),
+            None => Ok(()),
+        }
+    }
+
+    /// How many exchanges were compared, at the row's end.
+    pub fn ended(&mut self) -> Result<u32, Fault> {
+        self.settle()?;
+        if self.count == 0 {
+            return Err(Fault::Line("the row is empty"));
+        }
+        if self.is_how_said {
+            return Err(Fault::Line("no request comes so"));
+        }
+        if self.input.is_some() {
+            return Err(Fault::Line("no program reads this"));
+        }
+        Ok(self.count)
+    }
+
+    fn counts(&mut self) {
+        self.count = self.count.saturating_add(1);
+    }
+
+    fn asks(&mut self, input: &[u8]) -> Result<(), Fault> {
+        self.settle()?;
+        let Some(shop) = &mut self.shop else {
+            return Err(Fault::Line("there is no chain yet"));
+        };
+        let told = shop.tells(self.alloc, input, self.how)?;
+        let exchange = Exchange::new(self.alloc, told, self.how.room);
+        self.asked = Some(Asked::Connection(exchange));
+        self.how = WHOLE;
+        self.is_how_said = false;
+        self.counts();
+        Ok(())
+    }
+
+    /// A body, in quotes or with names.
+    fn bytes_of(&self, names: &Names, text: &str) -> Result<Vec<u8>, Fault> {
+        if text.starts_with('"') {
+            return unquoted(self.alloc, text);
+        }
+        names.filled(text)
+    }
+
+    fn sends(&mut self, names: &Names, who: &str, line: &str) -> Result<(), Fault> {
+        let Some((method, rest)) = line.split_once(' ') else {
+            return Err(Fault::Line("a method and a path are wanted"));
+        };
+        let (path, body) = match rest.split_once(' ') {
+            Some((path, body)) => (path, Some(self.bytes_of(names, body)?)),
+            None => (rest, None),
+        };
+        let path = names.filled(path)?;
+        let body = match &body {
+            Some(body) => Some(body.as_slice()),
+            None => None,
+        };
+        let input = request(self.alloc, who, method, path.as_slice(), body)?;
+        self.asks(input.as_slice())
+    }
+
+    fn is_told(&mut self, names: &Names, status: &str, body: &str) -> Result<(), Fault> {
+        let body = self.bytes_of(names, body)?;
+        let alloc = self.alloc;
+        let Some(Asked::Connection(exchange)) = &mut self.asked else {
+            return Err(Fault::Line("a reply has no request"));
+        };
+        exchange.wants(alloc, status, body.as_slice())
+    }
+
+    fn ends(&mut self, line: &str) -> Result<(), Fault> {
+        let Some(Asked::Connection(exchange)) = &mut self.asked else {
+            return Err(Fault::Line("an end has no request"));
+        };
+        exchange.ends(line)
+    }
+
+    /// How the bytes of the next connection come.
+    fn comes(&mut self, word: &str, count: &str) -> Result<(), Fault> {
+        self.settle()?;
+        let Ok(count) = count.parse::<u32>() else {
+            return Err(Fault::Line("a count is wanted"));
+        };
+        match word {
+            "pieces" if count > 0 => self.how.pieces = count as usize,
+            "cut" => self.how.cut = count as usize,
+            "most" => self.how.most = count,
+            "room" => self.how.room = count as usize,
+            _ => return Err(Fault::Line("a piece has no bytes")),
+        }
+        self.is_how_said = true;
+        Ok(())
+    }
+
+    fn begins(&mut self, words: &str) -> Result<(), Fault> {
+        self.settle()?;
+        self.shop = Some(new_shop(self.alloc, words)?);
+        Ok(())
+    }
+
+    fn take_shop(&mut self) -> Result<Shop, Fault> {
+        self.settle()?;
+        match self.shop.take() {
+            Some(shop) => Ok(shop),
+            None => Err(Fault::Line("there is no chain yet")),
+        }
+    }
+
+    /// An opening that has to be refused is an exchange: its fault is compared.
+    fn reopens(&mut self, fault: &str) -> Result<(), Fault> {
+        let shop = self.take_shop()?;
+        self.shop = Some(shop.reopened(self.alloc, fault)?);
+        if !fault.is_empty() {
+            self.counts();
+        }
+        Ok(())
+    }
+
+    fn changes(&mut self, text: &str) -> Result<(), Fault> {
+        let shop = self.take_shop()?;
+        self.shop = Some(shop.changed(self.alloc, text)?);
+        Ok(())
+    }
+
+    /// Several lines of standard input stand one behind the other.
+    fn reads(&mut self, names: &Names, line: &str) -> Result<(), Fault> {
+        self.settle()?;
+        let mut input = match self.input.take() {
+            Some(input) => input,
+            None => Vec::new(self.alloc),
+        };
+        input.extend_from_slice(self.bytes_of(names, line)?.as_slice())?;
+        self.input = Some(input);
+        Ok(())
+    }
+
+    fn runs(&mut self, line: &str) -> Result<(), Fault> {
+        self.settle()?;
+        let input = match self.input.take() {
+            Some(input) => input,
+            None => Vec::new(self.alloc),
+        };
+        let run = Run::new(self.alloc, line, input.as_slice())?;
+        self.asked = Some(Asked::Program(run));
+        self.counts();
+        Ok(())
+    }
+
+    fn has_run(&mut self, names: &Names, word: &str, line: &str) -> Result<(), Fault> {
+        let bytes = self.bytes_of(names, line)?;
+        let Some(Asked::Program(run)) = &mut self.asked else {
+            return Err(Fault::Line("no program was run"));
+        };
+        match word {
+            "out" => run.wants_out(bytes.as_slice()),
+            "err" => run.wants_err(bytes.as_slice()),
+            _ => run.wants_status(line),
+        }
+    }
+
+    /// Compares what was asked last, where a line with this first word says no more of it.
+    pub fn settle_before(&mut self, word: &str) -> Result<(), Fault> {
+        match word.as_bytes() {
+            b"let" | b"end" | b"status" | b"out" | b"err" | [b'1'..=b'9', _, _] => Ok(()),
+            _ => self.settle(),
+        }
+    }
+
+    /// Plays a line, by its first word and what stands behind it.
+    pub fn plays(&mut self, names: &mut Names, word: &str, rest: &str) -> Result<(), Fault> {
+        match word {
+            "let" => names.set(rest),
+            "chain" => self.begins(rest),
+            "reopen" => self.reopens(rest),
+            "sql" => self.changes(rest),
+            "raw" => {
+                let input = unquoted(self.alloc, rest)?;
+                self.asks(input.as_slice())
+            }
+            "pieces" | "cut" | "most" | "room" => self.comes(word, rest),
+            "end" => self.ends(rest),
+            "stdin" => self.reads(names, rest),
+            "words" => self.runs(rest),
+            "status" | "out" | "err" => self.has_run(names, word, rest),
+            _ => self.plays_exchange(names, word, rest),
+        }
+    }
+
+    fn plays_exchange(&mut self, names: &Names, word: &str, rest: &str) -> Result<(), Fault> {
+        match word.as_bytes() {
+            [_] => self.sends(names, word, rest),
+            [b'1'..=b'9', b'0'..=b'9', b'0'..=b'9'] => self.is_told(names, word, rest),
+            _ => Err(Fault::Line("this line isn't read")),
+        }
+    }
+}
