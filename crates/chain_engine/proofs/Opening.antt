@@ -31,12 +31,13 @@ use Rattle.sql_rows.proofs.Opened.{opened_keyed}
 use Rattle.sql_rows.proofs.Unique.{one_schema}
 use Rattle.shop_model.specs.Books.{Books}
 use Rattle.shop_schema.specs.Tables.{shop_schema}
-use Rattle.shop_schema.specs.Shop.{StandsFor}
+use Rattle.shop_schema.specs.Shop.{HasVersion, StandsFor}
 use Rattle.shop_schema.specs.Columns.{this_version}
+use Rattle.sqlite.specs.Schema.{Schema}
 use Rattle.shop_schema.specs.Versions.{version_of, version_told}
 use Rattle.shop_schema.specs.declared.known.KnownVersion.TheVariants.{This, Missing, Other}
 use Rattle.chain_engine.specs.Chains.{Rests}
-use Rattle.chain_engine.specs.Files.{HoldsBooks, HoldsOne, HoldsNoChain, HasOtherVersion, Knows}
+use Rattle.chain_engine.specs.Files.{HoldsBooks, HoldsOne, HoldsNoChain, HasThisVersion, HasNoVersion, HasOtherVersion, Knows}
 
 pub clean_store : {D : Type 0} {g : Ghosts D} (it : FileStore D g) (files : Files D) → (files.log, files.db) ≡ store_files it → AreClean g files.log files.db → IsClean (view it)
 clean_store {D} {g} it files is honest = no_doubt _ (clean_is it.pool ∙ subst (λ (p : D × D). AreClean g p.0 p.1) is honest)
@@ -101,10 +102,27 @@ module _ {D : Type 0} {g : Ghosts D} (c : Held (FileStore D g)) (files : Files D
   is_database db held = subst (IsDatabaseOf opened_state.now.schema) (shows_found db held) (opened.1 opened.0.is_open).0
 
   pub holds_no_chain : Knows Missing opened_state → HoldsNoChain (image_of g files)
-  holds_no_chain (inl other) db held sound books stands =
-      other (one_schema opened_state.now.schema shop_schema db (is_database db held) sound refl)
-  holds_no_chain (inr none) db held sound books stands =
+  holds_no_chain (inl none) db held sound books stands =
+      let same = one_schema opened_state.now.schema shop_schema db (is_database db held) sound refl in
+      let begins : HasVersion shop_schema = refl in
+      none (subst HasVersion (sym same) begins)
+  holds_no_chain (inr (inl none)) db held sound books stands =
       one_version (db 0) _ stands.chain (subst (λ (t : Trees). version_of (map (columns_of 1) (t 0)) ≡ Missing) (shows_found db held) none)
+  holds_no_chain (inr (inr (told, other))) db held sound books stands =
+      other (one_schema opened_state.now.schema shop_schema db (is_database db held) sound refl)
+
+  pub has_this_version : Knows This opened_state → HasThisVersion (image_of g files)
+  has_this_version it db held = (
+    subst (λ (schema : Schema). IsDatabaseOf schema db) it.0 (is_database db held),
+    subst (λ (t : Trees). version_of (map (columns_of 1) (t 0)) ≡ This) (shows_found db held) it.1,
+  )
+
+  pub has_no_version : Knows Missing opened_state → HasNoVersion (image_of g files)
+  has_no_version (inl none) db held = (opened_state.now.schema, is_database db held, inl none)
+  has_no_version (inr (inl none)) db held =
+      (opened_state.now.schema, is_database db held, inr (inl (subst (λ (t : Trees). version_of (map (columns_of 1) (t 0)) ≡ Missing) (shows_found db held) none)))
+  has_no_version (inr (inr (told, other))) db held =
+      (opened_state.now.schema, is_database db held, inr (inr (subst (λ (t : Trees). version_of (map (columns_of 1) (t 0)) ≡ This) (shows_found db held) told, other)))
 
   pub has_other_version : Knows Other opened_state → HasOtherVersion (image_of g files)
   has_other_version it db held =

@@ -22,10 +22,11 @@ use Rattle.shop_schema.specs.declared.known.KnownVersion.{KnownVersion}
 use Rattle.shop_schema.specs.declared.known.KnownVersion.TheVariants.{This, Missing, Other}
 use Rattle.chain_engine.specs.Chains.{widest_rules}
 
--- what is known of the tables: they are a chain's of this version, they are no chain's, or they are a chain's of another version
+-- What is known of the tables. They are a chain's of this version; or they aren't a chain's: the first isn't the one that has the version, or hasn't its one row, or tells
+-- this version of other tables; or that table tells another version, whatever the others are.
 abbrev pub Knows : KnownVersion → State → Type 0
-Knows This s = s.now.schema ≡ shop_schema
-Knows Missing s = (¬ (s.now.schema ≡ shop_schema)) ⊎ (version_of (map (columns_of 1) (s.now.trees 0)) ≡ Missing)
+Knows This s = (s.now.schema ≡ shop_schema) × (version_of (map (columns_of 1) (s.now.trees 0)) ≡ This)
+Knows Missing s = (¬ HasVersion s.now.schema) ⊎ ((version_of (map (columns_of 1) (s.now.trees 0)) ≡ Missing) ⊎ ((version_of (map (columns_of 1) (s.now.trees 0)) ≡ This) × (¬ (s.now.schema ≡ shop_schema))))
 Knows Other s = HasVersion s.now.schema × (version_of (map (columns_of 1) (s.now.trees 0)) ≡ Other)
 
 -- an image of the two files, as it is read or as a crash left it, holds a database whose tables stand for these books
@@ -43,6 +44,15 @@ HoldsOne g files P = (image : Image) → outcomes g files.log files.db image →
 -- no database in the files has the tables of a chain, these and no other, standing for books
 abbrev pub HoldsNoChain : Image → Type 0
 HoldsNoChain image = (db : Trees) → HoldsDatabase image db → IsDatabaseOf shop_schema db → (books : Books) → ¬ StandsFor db books
+
+-- the database in the files has the tables of a chain, and the one row of the first tells this version
+abbrev pub HasThisVersion : Image → Type 0
+HasThisVersion image = (db : Trees) → HoldsDatabase image db → IsDatabaseOf shop_schema db × (version_of (map (columns_of 1) (db 0)) ≡ This)
+
+-- the database in the files doesn't begin with the table that has the version, or that hasn't its one row, or tells this version of other tables
+abbrev pub HasNoVersion : Image → Type 0
+HasNoVersion image = (db : Trees) → HoldsDatabase image db → (schema : Schema) × IsDatabaseOf schema db
+    × ((¬ HasVersion schema) ⊎ ((version_of (map (columns_of 1) (db 0)) ≡ Missing) ⊎ ((version_of (map (columns_of 1) (db 0)) ≡ This) × (¬ (schema ≡ shop_schema)))))
 
 -- the database in the files begins with the table that has the version, and its one row has another
 abbrev pub HasOtherVersion : Image → Type 0

@@ -19,11 +19,12 @@ chained_code {S} store =
     (λ p. record { limits = record { commands = p.0.0; copies = p.0.1 }; is_failed = p.1.0; conn = p.1.1 })
     (λ _. refl)
 
--- the same with the books of all branches in the store's place
+-- The same with the books of all branches in the store's place. Once the store has failed, a crash leaves the books, or those besides; until then they are the books.
 pub record Holding : Type 0 where
   pub limits : Limits
   pub is_failed : Bool
   pub books : Books
+  pub besides : Books
 
-abbrev pub holding : {S : Type 0} → Chained S → Books → Holding
-holding chain books = record { limits = chain.limits; is_failed = chain.is_failed; books = books }
+abbrev pub holding : {S : Type 0} → Chained S → Books → Books → Holding
+holding chain books besides = record { limits = chain.limits; is_failed = chain.is_failed; books = books; besides = besides }

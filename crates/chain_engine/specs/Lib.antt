@@ -1,4 +1,5 @@
 pub mod Holding
+pub mod Branches
 pub mod Chains
 pub mod Steps
 pub mod Decisions

@@ -1,6 +1,6 @@
 //! The chain of shops over a store.
 
-ghost use Rattle.std.specs.Prelude.{◌≡◌, ◌≢◌, ◌≤◌, ◌||◌, false, Some, IfOk, IfErr, OnErr, map};
+ghost use Rattle.std.specs.Prelude.{◌≡◌, ◌≢◌, ◌≤◌, ◌||◌, true, false, Some, Err, IfOk, IfErr, OnErr, map};
 ghost use Rattle.sqlite.specs.Steps.{over_memory};
 ghost use Rattle.shop_model.specs.Opening.{opening_books};
 ghost use Rattle.shop_schema.specs.Shop.{first_books};
@@ -10,6 +10,8 @@ ghost use Rattle.chain_engine.specs.Chains.{IsAt, Takes, Answers, AnswersEvent, 
 ghost use Rattle.chain_engine.specs.Steps.{IsAsked};
 ghost use Rattle.chain_engine.specs.Decisions.{FindsCaller, IsOfStore, refusal_for, is_final};
 ghost use Rattle.shop_model.specs.Books.{Counter, HeadOffice};
+ghost use Rattle.shop_model.specs.Answers.{problem_answer};
+ghost use Rattle.shop_model.specs.Refusals.{StoreFailed};
 ghost use Rattle.chain_engine.specs.Holding.{Holding};
 ghost use Rattle.chain_engine.specs.Faults.{fault_name};
 
@@ -94,7 +96,7 @@ impl Chain<MemStore> {
         office: &Token,
         limits: Limits,
     ) -> Result<Chain<MemStore>, OpenFault>
-        ensures made { IfOk result (λ chain. (chain.limits ≡ limits) × (chain.is_failed ≡ false) × IsAt over_memory chain (first_books office.now)) }
+        ensures made { IfOk result (λ chain. (chain.limits ≡ limits) × (chain.is_failed ≡ false) × IsAt over_memory chain (first_books office.now) (first_books office.now)) }
         ensures fault { IfErr result (λ e. (e ≢ OpenFault.NotAChain) × (e ≢ OpenFault.OtherVersion)) }
     {
         let Ok(mut conn) = Connection::open_in_memory(alloc) else {
@@ -115,7 +117,7 @@ impl Chain<MemStore> {
 
     /// A chain in memory, with the opening rows, in which no branch has asked anything. Where there is none, memory or room is wanting, or the store has failed.
     pub fn demo(alloc: Global, limits: Limits) -> Result<Chain<MemStore>, OpenFault>
-        ensures made { IfOk result (λ chain. (chain.limits ≡ limits) × (chain.is_failed ≡ false) × IsAt over_memory chain opening_books) }
+        ensures made { IfOk result (λ chain. (chain.limits ≡ limits) × (chain.is_failed ≡ false) × IsAt over_memory chain opening_books opening_books) }
         ensures fault { IfErr result (λ e. (e ≢ OpenFault.NotAChain) × (e ≢ OpenFault.OtherVersion)) }
     {
         let Ok(mut conn) = Connection::open_in_memory(alloc) else {
@@ -145,6 +147,7 @@ impl<S: Alter> Chain<S> {
     pub fn caller(&mut self, token: &Token) -> Result<Caller, Refusal>
         ensures taken { Takes S.Store self.old self.new (FindsCaller token.now result) }
         ensures refused { IfErr result IsOfStore }
+        ensures failed { self.old.is_failed ≡ true → (self.new ≡ self.old) × (result ≡ Err Refusal.StoreFailed) }
     {
         if self.is_failed {
             return Err(Refusal::StoreFailed);
@@ -158,7 +161,8 @@ impl<S: Alter> Chain<S> {
     /// Answers one request of a caller. What is answered with a refusal has changed nothing; where it is `Memory` or `Size`, the request may be sent again as it was.
     /// Once the answer is `StoreFailed`, it is that for good: the chain is to be closed and opened again.
     pub fn answer(&mut self, caller: &Caller, request: &Request) -> Reply
-        ensures { Takes S.Store self.old self.new (Answers (seen_caller caller.now) (seen_request request.now) (seen_reply result)) }
+        ensures taken { Takes S.Store self.old self.new (Answers (seen_caller caller.now) (seen_request request.now) (seen_reply result)) }
+        ensures failed { self.old.is_failed ≡ true → (self.new ≡ self.old) × (seen_reply result ≡ problem_answer StoreFailed) }
     {
         if self.is_failed {
             return Reply::refused(Refusal::StoreFailed);
@@ -173,6 +177,7 @@ impl<S: Alter> Chain<S> {
     /// Answers requests one after another, each as if it had come alone. An `Err` has answered none and changed nothing.
     pub fn replay(&mut self, requests: &[(Token, Request)]) -> Result<Vec<Reply>, NoMemory>
         ensures ran { IfOk result (λ replies. Takes S.Store self.old self.new (Runs (map event_of requests.now) (map seen_reply replies.items))) }
+        ensures failed { self.old.is_failed ≡ true → (self.new ≡ self.old) × IfOk result (λ replies. map seen_reply replies.items ≡ map (λ _. problem_answer StoreFailed) requests.now) }
         ensures nothing { OnErr result (self.new ≡ self.old) }
     {
         let mut replies = Vec::with_capacity(self.alloc, requests.len())?;
@@ -185,7 +190,8 @@ impl<S: Alter> Chain<S> {
 
     /// Answers a request that comes with a token.
     fn answer_with(&mut self, token: &Token, request: &Request) -> Reply
-        ensures { Takes S.Store self.old self.new (AnswersEvent (event_of (token.now, request.now)) (seen_reply result)) }
+        ensures taken { Takes S.Store self.old self.new (AnswersEvent (event_of (token.now, request.now)) (seen_reply result)) }
+        ensures failed { self.old.is_failed ≡ true → (self.new ≡ self.old) × (seen_reply result ≡ problem_answer StoreFailed) }
     {
         match self.caller(token) {
             Ok(caller) => self.answer(&caller, request),

@@ -12,7 +12,7 @@ ghost use Rattle.shop_model.specs.Books.{Books};
 ghost use Rattle.shop_schema.specs.Shop.{HasVersion};
 ghost use Rattle.shop_schema.specs.Versions.{version_of};
 ghost use Rattle.chain_engine.specs.Chains.{IsAt, Rests};
-ghost use Rattle.chain_engine.specs.Files.{Knows, HoldsBooks, HoldsOne, HoldsNoChain, HasOtherVersion, OpenFailed};
+ghost use Rattle.chain_engine.specs.Files.{Knows, HoldsBooks, HoldsOne, HoldsNoChain, HasThisVersion, HasNoVersion, HasOtherVersion, OpenFailed};
 
 use crate::chain::{Chain, OpenFault, named};
 use shop_schema::{KnownVersion, has_version, is_shop, version};
@@ -74,8 +74,10 @@ impl<D: Disk + Drop> Chain<FileStore<D>> {
     ) -> Result<Chain<FileStore<D>>, (OpenFault, Files<D>)>
         ensures live { IfOk result (λ chain. (chain.limits ≡ limits) × (chain.is_failed ≡ false)) }
         ensures honest { IfOk result (λ chain. HasCleanDisk (file_state chain.conn) → AreClean D.Disk files.log files.db) }
-        ensures found { IfOk result (λ chain. HasCleanDisk (file_state chain.conn) → (books : Books) → HoldsBooks (image_of D.Disk files) books → IsAt over_files chain books) }
+        ensures found { IfOk result (λ chain. HasCleanDisk (file_state chain.conn) → (books : Books) → HoldsBooks (image_of D.Disk files) books → IsAt over_files chain books books) }
+        ensures this { IfOk result (λ chain. HasCleanDisk (file_state chain.conn) → HasThisVersion (image_of D.Disk files)) }
         ensures no_chain { IfErr result (λ e. AreClean D.Disk e.1.log e.1.db → e.0 ≡ OpenFault.NotAChain → HoldsNoChain (image_of D.Disk files)) }
+        ensures no_version { IfErr result (λ e. AreClean D.Disk e.1.log e.1.db → e.0 ≡ OpenFault.NotAChain → HasNoVersion (image_of D.Disk files)) }
         ensures other { IfErr result (λ e. AreClean D.Disk e.1.log e.1.db → e.0 ≡ OpenFault.OtherVersion → HasOtherVersion (image_of D.Disk files)) }
         ensures kept { IfErr result (λ e. AreClean D.Disk e.1.log e.1.db → OpenFailed D.Disk files e.1 ⊎ ((db : Trees) → HoldsDatabase (image_of D.Disk files) db → HoldsOne D.Disk e.1 (λ left. left ≡ db))) }
     {

@@ -15,9 +15,9 @@ use Rattle.counter_routes.specs.Readings.{reading_of}
 use Rattle.chain_engine.specs.Holding.{Holding}
 use Rattle.branch_work.specs.Rules.{rules_of}
 use Rattle.chain_engine.specs.Chains.{Answers}
-use Rattle.chain_engine.specs.Decisions.{IsStoreRefusal}
+use Rattle.chain_engine.specs.Decisions.{IsStoreRefusalAt}
 use Rattle.chain_engine.proofs.Failures.{decided_fine}
-use Rattle.chain_engine.proofs.Requests.{no_failure, lacks_memory, store_refuses, fails, stays_failed}
+use Rattle.chain_engine.proofs.Requests.{no_failure, never, lacks_memory, store_refuses, fails, failed_same}
 use Rattle.counter_http.specs.Events.{known_token, sender_of, AnswersMessage, AnswersNobody}
 
 -- a text that is no request is told so, whoever sent it
@@ -42,6 +42,7 @@ refused_answers message d old new e same fine =
       limits = ap (λ (h : Holding). h.limits) same;
       failed = ap (λ (h : Holding). h.is_failed) same ∙ fine ∙ sym (decided_fine (Sorry d));
       stays = no_failure old.is_failed (is_store_failure (problem_answer (Decision d))) fine;
+      at_failure = never _ (decided_fine (Sorry d));
       step = inl (record {
         reply = ap answer_of (sym (unread_reply (rules_of old.limits) message sender d old.books e))
             ∙ ap (λ (c : Caller). answer_of (reply_for (rules_of old.limits) office_look c (reading_of message sender) old.books)) (sym known);
@@ -54,7 +55,7 @@ refused_answers message d old new e same fine =
 pub memory_answers : (message : Message) (answer : Answer) (old new : Holding) → answer ≡ problem_answer Memory → new ≡ old → old.is_failed ≡ false → AnswersMessage message answer old new
 memory_answers message answer old new is same fine = rw is (lacks_memory (sender_of message old) (reading_of message (sender_of message old)) old new same fine)
 
-pub store_answers : (message : Message) (refusal : Told) (answer : Answer) (old new : Holding) → IsStoreRefusal refusal old new → answer ≡ problem_answer (seen_refusal refusal)
+pub store_answers : (message : Message) (refusal : Told) (answer : Answer) (old new : Holding) → IsStoreRefusalAt (sender_of message old) (reading_of message (sender_of message old)) refusal old new → answer ≡ problem_answer (seen_refusal refusal)
     → AnswersMessage message answer old new
 store_answers message refusal answer old new refused is = rw is (store_refuses (sender_of message old) (reading_of message (sender_of message old)) refusal old new refused)
 
@@ -72,11 +73,12 @@ nobody_refused held fine request = record {
   limits = refl;
   failed = fine ∙ sym (decided_fine (Sorry NoCounter));
   stays = no_failure held.is_failed _ fine;
+  at_failure = never _ (decided_fine (Sorry NoCounter));
   step = inl (record { reply = refl; books = refl });
 }
 
 pub nobody_failed : (held : Holding) → held.is_failed ≡ true → AnswersNobody (problem_answer StoreFailed) held held
-nobody_failed held failed request = fails Nobody request held held (stays_failed held failed)
+nobody_failed held failed request = fails Nobody request held held (failed_same Nobody request held failed)
 
 -- who has the token sent the message
 pub sent_by : (message : Message) (token : List ℕ) (caller : Caller) (held : Holding) → known_token message.token ≡ Some token

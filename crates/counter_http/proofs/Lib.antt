@@ -2,3 +2,4 @@ mod KnownBytes
 mod Runs
 pub mod Serving
 mod AnswerLemmas
+mod Sent

@@ -1,5 +1,5 @@
 -- The run of a connection grows by one exchange at a time.
-use Rattle.std.proofs.Common.{List, [], ◌∷◌, ◌++◌, refl, ℕ}
+use Rattle.std.proofs.Common.{◌≡◌, List, [], ◌∷◌, ◌++◌, refl, ℕ}
 use Rattle.std.proofs.lemmas.List.{map-append}
 use Rattle.http_messages.specs.Input.{HasMessage}
 use Rattle.http_messages.proofs.StreamLemmas.{HasMessages-append, HasMessages-snoc}
@@ -20,11 +20,18 @@ run_one old mid new es e runs step =
 
 -- nothing is answered yet
 pub run_starts : {S : Type 0} {g : Ghosts S} {chain : Chained S} → RunsOver g chain chain []
-run_starts {S} {g} {chain} = takes_same (λ held. runs_none held)
+run_starts {S} {g} {chain} = record { takes = takes_same (λ held. runs_none held); same = λ none. refl }
 
 pub run_grows : {S : Type 0} {g : Ghosts S} {old mid new : Chained S} (e : Exchange) → Takes g mid new (AnswersMessage e.message e.answer)
     → (es : List Exchange) → RunsOver g old mid es → RunsOver g old new (es ++ e ∷ [])
-run_grows e step es ran = takes_then ran step (λ old mid new x y. run_one old mid new es e x y)
+run_grows e step es ran = record {
+  takes = takes_then ran.takes step (λ old mid new x y. run_one old mid new es e x y);
+  same = λ none. absurd (some es none);
+}
+  where
+    some : (es : List Exchange) → es ++ e ∷ [] ≡ [] → ⊥
+    some [] none = cc
+    some (x ∷ es) none = cc
 
 -- nothing is read yet
 pub ran_none : (Ran : List Exchange → Type 0) → Ran [] → HasRun Ran [] [] []

@@ -159,10 +159,12 @@ served_refused n max Ran inbox input left output written later fault x lt refuse
 }
 
 -- a read that failed
-pub fault_read : (n : ℕ) (Ran : List Exchange → Type 0) (inbox : List ℕ) (input left after output written : Option (List ℕ))
-    → IsServing n Ran inbox input left output written → Keeps left after
-    → IsReadFault n Ran input after output written
-fault_read n Ran inbox input left after output written x keeps = record {
+pub fault_read : (n most : ℕ) (Ran : List Exchange → Type 0) (inbox : List ℕ) (input left after output written : Option (List ℕ))
+    → IsServing n Ran inbox input left output written → Keeps left after → n < most → IsCut inbox
+    → IsReadFault n most Ran input after output written
+fault_read n most Ran inbox input left after output written x keeps few waits = record {
+  few = few;
+  waits = waits;
   read = x.read;
   exchanges = x.exchanges;
   rest = inbox;
@@ -174,12 +176,13 @@ fault_read n Ran inbox input left after output written x keeps = record {
 }
 
 -- a write that failed
-pub fault_reply : (n : ℕ) (Ran Ran' : List Exchange → Type 0) (inbox rest : List ℕ) (input left output written later : Option (List ℕ)) (e : Exchange)
+pub fault_reply : (n most : ℕ) (Ran Ran' : List Exchange → Type 0) (inbox rest : List ℕ) (input left output written later : Option (List ℕ)) (e : Exchange)
     → IsServing n Ran inbox input left output written
     → HasMessage inbox e.message rest → ((es : List Exchange) → Ran es → Ran' (es ++ e ∷ []))
-    → IsFrontWritten written later (text_of e.answer)
-    → IsWriteFault n Ran' input left output later
-fault_reply n Ran Ran' inbox rest input left output written later e x has grows (part, more, is, unfinished, appends) = record {
+    → IsFrontWritten written later (text_of e.answer) → n < most
+    → IsWriteFault n most Ran' input left output later
+fault_reply n most Ran Ran' inbox rest input left output written later e x has grows (part, more, is, unfinished, appends) few = record {
+  few = few;
   unfinished = unfinished;
   read = x.read;
   exchanges = x.exchanges;
@@ -195,11 +198,12 @@ fault_reply n Ran Ran' inbox rest input left output written later e x has grows 
   goes = x.goes;
 }
 
-pub fault_refusal : (n : ℕ) (Ran : List Exchange → Type 0) (inbox : List ℕ) (input left output written later : Option (List ℕ)) (fault : Fault)
+pub fault_refusal : (n most : ℕ) (Ran : List Exchange → Type 0) (inbox : List ℕ) (input left output written later : Option (List ℕ)) (fault : Fault)
     → IsServing n Ran inbox input left output written → IsRefused fault inbox
-    → IsFrontWritten written later (fault_text fault)
-    → IsWriteFault n Ran input left output later
-fault_refusal n Ran inbox input left output written later fault x refused (part, more, is, unfinished, appends) = record {
+    → IsFrontWritten written later (fault_text fault) → n < most
+    → IsWriteFault n most Ran input left output later
+fault_refusal n most Ran inbox input left output written later fault x refused (part, more, is, unfinished, appends) few = record {
+  few = few;
   unfinished = unfinished;
   read = x.read;
   exchanges = x.exchanges;
@@ -243,10 +247,12 @@ served_as served most Ran Ran' input left output written x tell = record {
   ends = x.ends;
 }
 
-pub fault_as : (fault : ServeFault) (Ran Ran' : List Exchange → Type 0) (input left output written : Option (List ℕ)) → IsFault fault Ran input left output written
-    → ((es : List Exchange) → Ran es → Ran' es) → IsFault fault Ran' input left output written
-fault_as kind.Memory Ran Ran' input left output written x tell = (tell [] x.0, x.1, x.2)
-fault_as (kind.Read replies) Ran Ran' input left output written x tell = record {
+pub fault_as : (fault : ServeFault) (most : ℕ) (Ran Ran' : List Exchange → Type 0) (input left output written : Option (List ℕ)) → IsFault fault most Ran input left output written
+    → ((es : List Exchange) → Ran es → Ran' es) → IsFault fault most Ran' input left output written
+fault_as kind.Memory most Ran Ran' input left output written x tell = (tell [] x.0, x.1, x.2)
+fault_as (kind.Read replies) most Ran Ran' input left output written x tell = record {
+  few = x.few;
+  waits = x.waits;
   read = x.read;
   exchanges = x.exchanges;
   rest = x.rest;
@@ -256,7 +262,8 @@ fault_as (kind.Read replies) Ran Ran' input left output written x tell = record 
   count = x.count;
   goes = x.goes;
 }
-fault_as (kind.Write replies) Ran Ran' input left output written x tell = record {
+fault_as (kind.Write replies) most Ran Ran' input left output written x tell = record {
+  few = x.few;
   read = x.read;
   exchanges = x.exchanges;
   failed = x.failed;

@@ -1,5 +1,5 @@
 -- The messages of a connection and the answers to them.
-use Rattle.std.specs.Prelude.{◌≡◌, ℕ, false, List, map}
+use Rattle.std.specs.Prelude.{◌≡◌, ℕ, false, List, [], map}
 use Rattle.std.specs.List.{flat_map}
 use Rattle.http_messages.specs.Message.{Message}
 use Rattle.http_messages.specs.Input.{HasMessages}
@@ -39,9 +39,10 @@ pub record GoesOn (exchange : Exchange) : Type 0 where
   pub stays : exchange.message.closes ≡ false
   pub sound : is_store_failure exchange.answer ≡ false
 
--- the chain answers the messages, one after another
-abbrev pub RunsOver : {S : Type 0} → Ghosts S → Chained S → Chained S → List Exchange → Type 0
-RunsOver g old new exchanges = Takes g old new (Runs (events_of exchanges) (answers_of exchanges))
+-- the chain answers the messages, one after another; where none came, it is as it was, whatever its store is
+pub record RunsOver {S : Type 0} (g : Ghosts S) (old new : Chained S) (exchanges : List Exchange) : Type 0 where
+  pub takes : Takes g old new (Runs (events_of exchanges) (answers_of exchanges))
+  pub same : exchanges ≡ [] → new ≡ old
 
 -- What was read begins with the messages of the exchanges, and then a rest that isn't answered; and `Ran` is so of the exchanges. What is said of the bytes
 -- doesn't wait for a disk that gives back what was written.

@@ -1,3 +1,4 @@
 pub mod Events
 pub mod Exchanges
+pub mod Branches
 pub mod Served

@@ -69,8 +69,8 @@ pub record IsServed (served : Served) (most : ℕ) (Ran : List Exchange → Type
   pub count : served.replies ≡ length exchanges + fault_replies served.end
   pub ends : IsEnd served.end most exchanges left rest last
 
--- a read failed behind these exchanges
-pub record IsReadFault (replies : ℕ) (Ran : List Exchange → Type 0) (input left output written : Option (List ℕ)) : Type 0 where
+-- a read failed behind these exchanges, fewer than were allowed; the rest is the start of a message, and no whole one is left unanswered
+pub record IsReadFault (replies most : ℕ) (Ran : List Exchange → Type 0) (input left output written : Option (List ℕ)) : Type 0 where
   pub read : List ℕ
   pub exchanges : List Exchange
   pub rest : List ℕ
@@ -78,11 +78,13 @@ pub record IsReadFault (replies : ℕ) (Ran : List Exchange → Type 0) (input l
   pub ran : HasRun Ran read exchanges rest
   pub writes : Appends output written (texts exchanges)
   pub count : replies ≡ length exchanges
+  pub few : replies < most
+  pub waits : IsCut rest
   pub goes : All GoesOn exchanges
 
 -- A write failed: of the answer to one more message, at which the chain has acted, or of the reply to a text that is no message.
 -- What was written is a front of the replies, and `replies` counts the whole ones.
-pub record IsWriteFault (replies : ℕ) (Ran : List Exchange → Type 0) (input left output written : Option (List ℕ)) : Type 0 where
+pub record IsWriteFault (replies most : ℕ) (Ran : List Exchange → Type 0) (input left output written : Option (List ℕ)) : Type 0 where
   pub read : List ℕ
   pub exchanges : List Exchange
   pub failed : List Exchange
@@ -96,12 +98,14 @@ pub record IsWriteFault (replies : ℕ) (Ran : List Exchange → Type 0) (input 
   pub cut : ((exchange : Exchange) × (failed ≡ exchange ∷ []) × (text_of exchange.answer ≡ part ++ more))
       ⊎ ((failed ≡ []) × ((fault : Fault) × IsRefused fault rest × (fault_text fault ≡ part ++ more)))
   pub count : replies ≡ length exchanges
+  pub few : replies < most
   pub goes : All GoesOn exchanges
 
-abbrev pub IsFault : ServeFault → (List Exchange → Type 0) → Option (List ℕ) → Option (List ℕ) → Option (List ℕ) → Option (List ℕ) → Type 0
-IsFault Memory Ran input left output written = Ran [] × Keeps input left × Keeps output written
-IsFault (Read replies) Ran input left output written = IsReadFault replies Ran input left output written
-IsFault (Write replies) Ran input left output written = IsWriteFault replies Ran input left output written
+-- no fault comes behind as many requests as are allowed
+abbrev pub IsFault : ServeFault → ℕ → (List Exchange → Type 0) → Option (List ℕ) → Option (List ℕ) → Option (List ℕ) → Option (List ℕ) → Type 0
+IsFault Memory most Ran input left output written = Ran [] × Keeps input left × Keeps output written
+IsFault (Read replies) most Ran input left output written = IsReadFault replies most Ran input left output written
+IsFault (Write replies) most Ran input left output written = IsWriteFault replies most Ran input left output written
 
 -- where a connection stands between two requests
 pub record IsServing (replies : ℕ) (Ran : List Exchange → Type 0) (inbox : List ℕ) (input left output written : Option (List ℕ)) : Type 0 where

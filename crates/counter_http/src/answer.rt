@@ -26,7 +26,7 @@ fn token_of(message: &Request<'_>) -> Option<Token>
 
 /// The chain's reply to somebody who sent no token, whatever is asked.
 fn answer_nobody<S: Alter>(chain: &Chain<S>) -> Reply
-    ensures { (books : Books) → AnswersNobody (seen_reply result) (holding chain.now books) (holding chain.now books) }
+    ensures { (books besides : Books) → AnswersNobody (seen_reply result) (holding chain.now books besides) (holding chain.now books besides) }
 {
     if chain.is_failed() {
         Reply::refused(Refusal::StoreFailed)

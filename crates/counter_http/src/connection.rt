@@ -1,5 +1,5 @@
 //! A connection, from its first byte to its end.
-ghost use Rattle.std.specs.Prelude.{◌≡◌, ◌<◌, length, ◌++◌, ℕ, List, IfOk, IfErr, OnOk, OnErr};
+ghost use Rattle.std.specs.Prelude.{◌≡◌, ◌<◌, length, ◌++◌, ℕ, List, Ok, IfOk, IfErr, OnOk, OnErr};
 ghost use Rattle.std.specs.Io.KnownBytes.{Appends, Keeps};
 ghost use Rattle.http_messages.specs.Shown.{message_of};
 ghost use Rattle.shop_model.specs.Answers.{Answer};
@@ -133,11 +133,17 @@ pub fn serve<R: Read, W: Write, O: OfficeWords, S: Alter>(
 ) -> Result<Served, ServeFault>
     ensures served { IfOk result (λ served. IsServed served max_requests (RunsOver S.Store chain.old chain.new)
         (R.remaining reader.old) (R.remaining reader.new) (W.contents writer.old) (W.contents writer.new)) }
-    ensures fault { IfErr result (λ fault. IsFault fault (RunsOver S.Store chain.old chain.new)
+    ensures fault { IfErr result (λ fault. IsFault fault max_requests (RunsOver S.Store chain.old chain.new)
         (R.remaining reader.old) (R.remaining reader.new) (W.contents writer.old) (W.contents writer.new)) }
-    ensures none_allowed { max_requests ≡ 0 → IfOk result (λ served. (served.end ≡ End.Limit)
-        × Keeps (R.remaining reader.old) (R.remaining reader.new) × Keeps (W.contents writer.old) (W.contents writer.new)) }
+    ensures none_allowed { max_requests ≡ 0 → (result ≡ Ok (record { replies = 0; end = End.Limit })) × (chain.new ≡ chain.old)
+        × Keeps (R.remaining reader.old) (R.remaining reader.new) × Keeps (W.contents writer.old) (W.contents writer.new) }
 {
+    if max_requests == 0 {
+        return Ok(Served {
+            replies: 0,
+            end: End::Limit,
+        });
+    }
     let Ok(mut inbox) = Inbox::new(alloc) else {
         return Err(ServeFault::Memory);
     };

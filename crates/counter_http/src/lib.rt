@@ -4,9 +4,11 @@
 mod answer;
 mod connection;
 mod inbox;
+mod laws;
 mod outbox;
 mod reply;
 
 pub use connection::{End, ServeFault, Served, serve};
 pub use http_messages::{Fault, Reading, Request as Message, read_request};
+pub use laws::branches_are_sent_the_same;
 pub use reply::reply_bytes;

@@ -30,7 +30,7 @@ status_of StoreFailed = 3
 
 -- the chain that is shown, before anything is asked
 abbrev pub opening_holding : Holding
-opening_holding = record { limits = most_limits; is_failed = false; books = opening_books }
+opening_holding = record { limits = most_limits; is_failed = false; books = opening_books; besides = opening_books }
 
 -- the chain that is shown answers the messages, one after another
 abbrev pub RunsFromOpening : List Exchange → Type 0
@@ -39,5 +39,5 @@ RunsFromOpening exchanges = (after : Holding) × Runs (events_of exchanges) (ans
 -- an input was replayed: 1,000 requests at most were answered by a chain with the opening rows, or reading or writing failed, or there was no memory or room
 pub data Replays (status : ℕ) (input left output written : Option (List ℕ)) : Type 0 where
   replayed : (served : Served) → IsServed served 1000 RunsFromOpening input left output written → status ≡ status_of served.end → Replays status input left output written
-  broke_off : (fault : ServeFault) → IsFault fault RunsFromOpening input left output written → status ≡ 3 → Replays status input left output written
+  broke_off : (fault : ServeFault) → IsFault fault 1000 RunsFromOpening input left output written → status ≡ 3 → Replays status input left output written
   no_chain : Keeps input left → Keeps output written → status ≡ 3 → Replays status input left output written

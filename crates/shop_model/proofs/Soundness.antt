@@ -416,7 +416,9 @@ in_one_place rules events books sound =
       once = λ mark. made_once mark 1 (last_books rules events books).copies (s.numbers.copies mark.branch);
       place = λ mark. s.custody (is_mark mark);
       sums = s.custody (λ _. true);
+      origins = s.origins;
       out = λ b. (s.held b).one;
+      inside = s.held;
     }
 
 pub opening_sound : OpeningIsSound

@@ -57,7 +57,7 @@ pub record LacksRoom (answer : Answer) (old new : Books) : Type 0 where
   pub reply : (answer ≡ problem_answer Memory) ⊎ (answer ≡ problem_answer Size)
   pub books : new ≡ old
 
--- the store failed: nothing more is told of the books
+-- the store failed: the books that are told of stay as they were, and what a crash leaves of them is said of the chain
 pub record Fails (answer : Answer) (old new : Books) : Type 0 where
   pub reply : answer ≡ problem_answer StoreFailed
   pub books : new ≡ old

@@ -4,7 +4,7 @@ use Rattle.shop_model.specs.Values.{Text, OfficeAsk, OfficeCommand, Rules, Comma
 use Rattle.shop_model.specs.Verdict.{verdict, office_verdict, Again, Accepted}
 use Rattle.shop_model.specs.Machine.{reply_text, office_text, office_done, Reply, replies, state_after}
 use Rattle.shop_model.specs.Books.{book_done, Books, Mark, Event, shop_of, run, last_books, replies_to, view, state_of, caller_of, known_caller}
-use Rattle.shop_model.specs.Sound.{HasNumbers, IsSound, opening, made, here, transit, gone}
+use Rattle.shop_model.specs.Sound.{HasNumbers, HasOrigins, HasOneHolder, IsSound, opening, made, here, transit, gone}
 use Rattle.shop_model.specs.Office.{is_mark}
 use Rattle.shop_model.specs.Shop.{Catalogue}
 use Rattle.shop_model.specs.Repeats.{are_new, marked_ones}
@@ -37,12 +37,15 @@ StaySoundWithin =
     (rules sizes : Rules) (events : List Event) (books : Books) → rules.commands ≤ sizes.commands → rules.copies ≤ sizes.copies
     → IsSound sizes books → IsSound sizes (last_books rules events books)
 
--- after any history: a mark is made at most once, and is then in exactly one place; the numbers of all copies agree; and a copy is out at most once
+-- After any history: a mark is made at most once, and is then in exactly one place; the mark of each row and each line is made, for that film; the numbers of all
+-- copies agree; and a copy is out at most once, and not unless it is in the shop.
 pub record InOnePlace (books : Books) : Type 0 where
   pub once : (mark : Mark) → made (is_mark mark) books ≤ 1
   pub place : (mark : Mark) → made (is_mark mark) books ≡ here (is_mark mark) books + transit (is_mark mark) books + gone (is_mark mark) books
   pub sums : made (λ _. true) books ≡ here (λ _. true) books + transit (λ _. true) books + gone (λ _. true) books
+  pub origins : HasOrigins books
   pub out : (b x : ℕ) → length (filter (keeps_out x) (shop_of b books).rentals) ≤ 1
+  pub inside : (b : ℕ) → HasOneHolder (shop_of b books)
 
 abbrev pub CopiesAreInOnePlace : Type 0
 CopiesAreInOnePlace = (rules : Rules) (events : List Event) (books : Books) → IsSound rules books → InOnePlace (last_books rules events books)

@@ -11,18 +11,21 @@ use Rattle.chain_engine.specs.Holding.{holding}
 use Rattle.counter_http.specs.Events.{sender_of, AnswersMessage}
 use Rattle.counter_http.proofs.AnswerLemmas.{asked_answers, memory_answers, nobody_answers, refused_answers, sent_by, store_answers}
 use Rattle.chain_engine.proofs.Taking.{takes_as, takes_still, takes_then}
+use Rattle.chain_engine.proofs.Requests.{refused_takes}
 use Rattle.counter_http.proofs.answer.answer.Goals as goal
 
 pub returns-in_default : goal.returns-in_default
-returns-in_default g c = takes_still (λ books. nobody_answers (message_of c.args.message.now) _ (holding c.args.chain.now books) (holding c.args.chain.now books) (sym c.token_of.ensures ∙ c.in_default.is) (c.answer_nobody.ensures books))
+returns-in_default g c = takes_still (λ books besides.
+    let held = holding c.args.chain.now books besides in nobody_answers (message_of c.args.message.now) _ held held (sym c.token_of.ensures ∙ c.in_default.is) (c.answer_nobody.ensures books besides))
 
 pub returns-in-Err : goal.returns-in-Err
-returns-in-Err g c = takes_as c.in-Err.ensures.taken (λ old new x. store_answers (message_of c.args.message.now) c.in-Err.refusal _ old new x c.refused.ensures)
+returns-in-Err g c = refused_takes c.in-Err.refusal (sender_of (message_of c.args.message.now))
+    (λ old. reading_of (message_of c.args.message.now) (sender_of (message_of c.args.message.now) old)) c.in-Err.ensures.taken (λ old new x. store_answers (message_of c.args.message.now) c.in-Err.refusal _ old new x c.refused.ensures)
 
 pub returns-in-Ok-Asked : goal.returns-in-Ok-Asked
 returns-in-Ok-Asked g c =
     let message : Message = message_of c.args.message.now in
-    takes_then c.in-Ok.ensures.taken c.answer.ensures (λ old mid new x y.
+    takes_then c.in-Ok.ensures.taken c.answer.ensures.taken (λ old mid new x y.
     asked_answers message (seen_caller c.in-Ok.caller) _ _ old mid new x.1 (sent_by message _ _ old (sym c.in-Some.ensures) x.0) (rw c.in-Ok-Asked.field-0-is at c.in-Ok-Asked.ensures.reading) y)
 
 pub returns-in-Ok-Refused : goal.returns-in-Ok-Refused

@@ -1,4 +1,4 @@
-use Rattle.std.proofs.Common.{rules, ◌≡◌, ◌≢◌, ◌∙◌, ap, length, drop, arith, append-nil, sym, true, false, List, [], ◌++◌, ℕ}
+use Rattle.std.proofs.Common.{rules, ◌≡◌, ◌≢◌, ◌∙◌, ap, length, drop, arith, append-nil, sym, true, false, refl, List, [], ◌++◌, ℕ}
 use Rattle.std.specs.Prelude.{◌==◌}
 use Rattle.http_messages.specs.Input.{IsCut}
 use Rattle.http_messages.specs.Input.{HasMessage}
@@ -17,7 +17,6 @@ requests-preserved-in-Goes g c =
     record {
       serving = rw c.consume.ensures (serving_one c.requests.replies _ _ c.requests.inbox (drop c.in-Whole.len c.requests.inbox) _ _ _ _ _ e c.requests.invariant.serving has
           (run_grows e ok.1) ok.2 (rw c.in-Goes.is at ok.3));
-      idle = λ none. absurd (omega arith);
       within = omega arith;
       fits = search rules;
     }
@@ -27,7 +26,6 @@ requests-preserved g c =
     let ok = c.in-Ok-fill.ensures.ok in
     record {
       serving = serving_more _ _ c.requests.inbox c.fill.new.self ok.0 _ _ _ _ _ c.requests.invariant.serving ok.1 ok.2;
-      idle = λ none. absurd (omega arith);
       within = omega arith;
       fits = search rules;
     }
@@ -51,7 +49,7 @@ returns-in_default-respond-clause-fault g c =
     let err = c.in_default-respond.ensures.err in
     let has : HasMessage c.requests.inbox (message_of c.in-Whole.request) (drop c.in-Whole.len c.requests.inbox) = rw c.bytes.ensures.value at c.in-Whole.ensures.1 in
     let e : Exchange = record { message = message_of c.in-Whole.request; answer = err.0 } in
-    fault_reply c.requests.replies _ _ c.requests.inbox (drop c.in-Whole.len c.requests.inbox) _ _ _ _ _ e c.requests.invariant.serving has (run_grows e err.1) err.2
+    fault_reply c.requests.replies _ _ _ c.requests.inbox (drop c.in-Whole.len c.requests.inbox) _ _ _ _ _ e c.requests.invariant.serving has (run_grows e err.1) err.2 c.requests-test.true
 
 pub returns-then-is_empty-clause-served : goal.returns-then-is_empty-clause-served
 returns-then-is_empty-clause-served g c =
@@ -64,7 +62,7 @@ pub returns-in_default-write_reply-clause-fault : goal.returns-in_default-write_
 returns-in_default-write_reply-clause-fault g c =
     let refused = rw c.bytes.ensures.value at (refused_is c.bytes.result.now c.in-Refused.fault c.in-Refused.ensures) in
     let err = c.in_default-write_reply.ensures.err in
-    fault_refusal _ _ _ _ _ _ _ _ c.in-Refused.fault c.requests.invariant.serving refused (rw c.fault_reply-reply.ensures at err)
+    fault_refusal _ _ _ _ _ _ _ _ _ c.in-Refused.fault c.requests.invariant.serving refused (rw c.fault_reply-reply.ensures at err) c.requests-test.true
 
 pub returns-in-Refused-clause-served : goal.returns-in-Refused-clause-served
 returns-in-Refused-clause-served g c =
@@ -75,7 +73,6 @@ returns-in-Refused-clause-served g c =
 pub requests-init : goal.requests-init
 requests-init g c = record {
   serving = serving_none _ c.in-Ok.inbox _ _ run_starts c.in-Ok.ensures;
-  idle = λ _. (Keeps-same _, Keeps-same _);
   within = omega arith;
   fits = search rules;
 }
@@ -92,8 +89,15 @@ returns-in-Ok-eq0-clause-served g c =
 
 pub returns-in-Err-clause-fault : goal.returns-in-Err-clause-fault
 returns-in-Err-clause-fault g c =
-    fault_read _ _ c.requests.inbox _ _ _ _ _ c.requests.invariant.serving c.in-Err.ensures.err.1
+    let waits : IsCut c.requests.inbox = rw c.bytes.ensures.value at c.in-More.ensures.1 in
+    fault_read _ _ _ c.requests.inbox _ _ _ _ _ c.requests.invariant.serving c.in-Err.ensures.err.1 c.requests-test.true waits
 
 pub returns-clause-served : goal.returns-clause-served
 returns-clause-served g c =
     served_limit _ _ _ c.requests.inbox _ _ _ _ c.requests.invariant.serving (omega arith)
+
+pub returns-then-max_requests-eq0-clause-served : goal.returns-then-max_requests-eq0-clause-served
+returns-then-max_requests-eq0-clause-served g c = served_limit 0 _ _ [] _ _ _ _ (serving_none _ [] _ _ run_starts refl) (sym c.if-max_requests-eq0.true)
+
+pub returns-then-max_requests-eq0-clause-none_allowed : goal.returns-then-max_requests-eq0-clause-none_allowed
+returns-then-max_requests-eq0-clause-none_allowed g c none = (refl, refl, Keeps-same _, Keeps-same _)

@@ -1,5 +1,4 @@
-use Rattle.std.specs.Io.KnownBytes.{Keeps}
-use Rattle.std.proofs.Common.{◌≡◌, ◌≤◌, ◌-◌, ◌*◌, length}
+use Rattle.std.proofs.Common.{◌≤◌, ◌-◌, ◌*◌, length}
 use Rattle.counter_http.specs.Exchanges.{RunsOver}
 use Rattle.counter_http.specs.Served.{IsServing}
 use Rattle.counter_http.proofs.connection.serve.Given as goal
@@ -9,7 +8,6 @@ invariant-requests g l = record {
   serving : IsServing l.replies (RunsOver g.S.Store l.fn.chain l.chain) l.inbox
       (g.R.Read.remaining l.fn.reader) (g.R.Read.remaining l.reader)
       (g.W.Write.contents l.fn.writer) (g.W.Write.contents l.writer);
-  idle : l.max_requests ≡ 0 → Keeps (g.R.Read.remaining l.fn.reader) (g.R.Read.remaining l.reader) × Keeps (g.W.Write.contents l.fn.writer) (g.W.Write.contents l.writer);
   within : l.replies ≤ l.max_requests;
   fits : length l.inbox ≤ 73728;
 }

@@ -12,12 +12,12 @@ use Rattle.counter_http.proofs.Serving.{served_as, fault_as}
 use Rattle.sakila_office.specs.Replays.{replayed, broke_off, opening_holding, RunsFromOpening}
 use Rattle.sakila_office.proofs.program.replay.Goals as goal
 
-from_opening : {S : Type 0} (g : Ghosts S) (chain new : Chained S) → chain.limits ≡ most_limits → chain.is_failed ≡ false → IsAt g chain opening_books → HasCleanDisk (state g new.conn)
+from_opening : {S : Type 0} (g : Ghosts S) (chain new : Chained S) → chain.limits ≡ most_limits → chain.is_failed ≡ false → IsAt g chain opening_books opening_books → HasCleanDisk (state g new.conn)
     → (es : List Exchange) → RunsOver g chain new es → RunsFromOpening es
 from_opening g chain new limits fine at clean es taken =
-    let opened : holding chain opening_books ≡ opening_holding = ap₂ (λ (l : Limits) (f : Bool). let h : Holding = record { limits = l; is_failed = f; books = opening_books } in h) limits fine in
-    let went = taken.goes clean opening_books at in
-    (holding new went.0, subst (λ (h : Holding). Runs (events_of es) (answers_of es) h (holding new went.0)) opened went.1)
+    let opened : holding chain opening_books opening_books ≡ opening_holding = ap₂ (λ (l : Limits) (f : Bool). let h : Holding = record { limits = l; is_failed = f; books = opening_books; besides = opening_books } in h) limits fine in
+    let went = taken.takes.goes clean opening_books opening_books at in
+    (holding new went.0 went.1, subst (λ (h : Holding). Runs (events_of es) (answers_of es) h (holding new went.0 went.1)) opened went.2)
 
 pub returns-in-Ok-serve : goal.returns-in-Ok-serve
 returns-in-Ok-serve g c =
@@ -27,4 +27,4 @@ returns-in-Ok-serve g c =
 pub returns : goal.returns
 returns g c =
     let tell = from_opening _ c.in-Ok.chain c.serve.new.chain (c.in-Ok.ensures.made.0 ∙ c.default.ensures) c.in-Ok.ensures.made.1 c.in-Ok.ensures.made.2 (no_doubt _ refl) in
-    broke_off c.in-Err-serve.field-0 (fault_as c.in-Err-serve.field-0 _ RunsFromOpening _ _ _ _ c.in-Err-serve.ensures.fault tell) refl
+    broke_off c.in-Err-serve.field-0 (fault_as c.in-Err-serve.field-0 1000 _ RunsFromOpening _ _ _ _ c.in-Err-serve.ensures.fault tell) refl

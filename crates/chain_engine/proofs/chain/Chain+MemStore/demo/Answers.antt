@@ -11,4 +11,4 @@ apart e = cc
 pub returns-in-Ok-create_opening-clause-made : goal.returns-in-Ok-create_opening-clause-made
 returns-in-Ok-create_opening-clause-made c =
     let rests = c.in-Ok-create_opening.ensures.made (no_doubt _ refl) c.in-Ok.ensures.empty.2 in
-    (refl, refl, record { sound = opening_books_sound widest_rules; values = opening_values; rests = λ _. rests; left = λ failed. absurd (apart failed) })
+    (refl, refl, record { sound = opening_books_sound widest_rules; values = opening_values; rests = λ _. rests; alone = λ _. refl; left = λ failed. absurd (apart failed) })

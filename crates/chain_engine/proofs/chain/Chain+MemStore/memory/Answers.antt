@@ -11,4 +11,4 @@ apart e = cc
 pub returns-in-Ok-create-clause-made : goal.returns-in-Ok-create-clause-made
 returns-in-Ok-create-clause-made c =
     let rests = c.in-Ok-create.ensures.made (no_doubt _ refl) c.in-Ok.ensures.empty.2 in
-    (refl, refl, record { sound = empty_sound widest_rules c.args.office.now; values = first_values c.args.office.now c.as_bytes-digits.ensures.kind; rests = λ _. rests; left = λ failed. absurd (apart failed) })
+    (refl, refl, record { sound = empty_sound widest_rules c.args.office.now; values = first_values c.args.office.now c.as_bytes-digits.ensures.kind; rests = λ _. rests; alone = λ _. refl; left = λ failed. absurd (apart failed) })

@@ -2,7 +2,7 @@ use Rattle.std.proofs.Common.{◌≡◌, inl, inr, refl, sym, true, false, arith
 use Rattle.sqlite.specs.Files.{file_state}
 use Rattle.sqlite.specs.State.{HasCleanDisk}
 use Rattle.sqlite.specs.declared.file.Leftover.TheVariants as left
-use Rattle.chain_engine.proofs.Opening.{found_rests, holds_no_chain, has_other_version, left_as_found}
+use Rattle.chain_engine.proofs.Opening.{found_rests, holds_no_chain, has_this_version, has_no_version, has_other_version, left_as_found}
 use Rattle.chain_engine.proofs.files.Chain+FileStore+D.open_files.Goals as goal
 
 pub returns-then-not-may_be_used-clause-kept : goal.returns-then-not-may_be_used-clause-kept
@@ -19,17 +19,29 @@ returns-in-Ok-This-clause-honest g c clean =
 pub returns-in-Ok-This-clause-found : goal.returns-in-Ok-This-clause-found
 returns-in-Ok-This-clause-found g c clean books held =
     let first : HasCleanDisk (file_state c.in-Ok.conn) = omega (arith, clean, c.known.ensures.crash.clean) in
-    let schema = rw c.in-Ok-This.field-0-is at (c.in-Ok-This.ensures.told clean) in
-    let rests = found_rests c.in-Ok.conn c.args.files (c.in-Ok.ensures.opened first) (c.in-Ok.ensures.found first) g.met.D.Disk.seen_may_stay schema books held in
+    let told = rw c.in-Ok-This.field-0-is at (c.in-Ok-This.ensures.told clean) in
+    let rests = found_rests c.in-Ok.conn c.args.files (c.in-Ok.ensures.opened first) (c.in-Ok.ensures.found first) g.met.D.Disk.seen_may_stay told.0 books held in
     record {
       sound = held.sound;
       values = held.values;
       rests = λ _. c.known.ensures.same clean books rests;
+      alone = λ _. refl;
       left = λ failed. absurd (apart failed);
     }
   where
     apart : false ≡ true → ⊥
     apart e = cc
+
+pub returns-in-Ok-This-clause-this : goal.returns-in-Ok-This-clause-this
+returns-in-Ok-This-clause-this g c clean =
+    let first : HasCleanDisk (file_state c.in-Ok.conn) = omega (arith, clean, c.known.ensures.crash.clean) in
+    has_this_version c.in-Ok.conn c.args.files (c.in-Ok.ensures.opened first) (c.in-Ok.ensures.found first) (rw c.in-Ok-This.field-0-is at (c.in-Ok-This.ensures.told clean))
+
+pub returns-in-Ok-Missing-clause-no_version : goal.returns-in-Ok-Missing-clause-no_version
+returns-in-Ok-Missing-clause-no_version g c honest is =
+    let clean = c.give_back.ensures.clean honest in
+    let first : HasCleanDisk (file_state c.in-Ok.conn) = omega (arith, clean, c.known.ensures.crash.clean) in
+    has_no_version c.in-Ok.conn c.args.files (c.in-Ok.ensures.opened first) (c.in-Ok.ensures.found first) (rw c.in-Ok-Missing.field-0-is at (c.in-Ok-Missing.ensures.told clean))
 
 pub returns-in-Ok-Missing-clause-no_chain : goal.returns-in-Ok-Missing-clause-no_chain
 returns-in-Ok-Missing-clause-no_chain g c honest is =

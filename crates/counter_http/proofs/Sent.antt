@@ -1,0 +1,20 @@
+-- A branch is sent what its own machine says, so the same wherever it sees the same.
+use Rattle.std.proofs.Common.{◌≡◌, ◌∙◌, ap, sym, map, ℕ, List}
+use Rattle.std.specs.List.{flat_map}
+use Rattle.shop_values.specs.LimitValues.{Limits}
+use Rattle.shop_model.specs.Machine.{State, Input, replies}
+use Rattle.shop_model.specs.Answers.{Answer, answer_of}
+use Rattle.shop_model.specs.Books.{state_of}
+use Rattle.branch_work.specs.Rules.{rules_of}
+use Rattle.counter_http.specs.Exchanges.{text_of}
+use Rattle.counter_http.specs.Branches.{BranchesAreSentTheSame, seen_of}
+
+pub sent_the_same : BranchesAreSentTheSame
+sent_the_same b exchanges others old new other another ran ran' agree seen =
+    let here = ran.branches agree.numbers b in
+    let there = ran'.branches agree.numbers_too b in
+    let told : Limits → List Input → State → List Answer = λ limits view state. map answer_of (replies (rules_of limits) b view state) in
+    let middle = ap (λ (l : Limits). told l (seen_of (rules_of old.limits) b exchanges old.books) (state_of b old.books)) agree.limits
+    ∙ ap (λ (v : List Input). told other.limits v (state_of b old.books)) seen
+    ∙ ap (λ (s : State). told other.limits (seen_of (rules_of other.limits) b others other.books) s) agree.shop in
+    ap (λ (answers : List Answer). flat_map text_of answers) (here.told ∙ middle ∙ sym there.told)
