@@ -1,17 +1,18 @@
 -- Refusals of commands on a customer, a copy, a rental or a payment, by what was found of it.
-use Rattle.std.proofs.Common.{◌≡◌, ◌⊎◌, refl, sym, ap, ◌∙◌, inl, inr, ℕ, ◌-◌, Bool, true, false, not, List, [], ◌∷◌, map, filter, Option, Some, None}
-use Rattle.std.specs.Prelude.{◌==◌, ◌&&◌, ◌||◌, is_some}
+use Rattle.std.proofs.Common.{◌≡◌, ◌⊎◌, refl, sym, ap, ◌∙◌, inl, inr, ℕ, ◌+◌, ◌-◌, Bool, true, false, not, List, [], ◌∷◌, map, filter, Option, Some, None}
+use Rattle.std.specs.Prelude.{◌==◌, ◌&&◌, is_some}
+use Rattle.std.specs.Option.{option_to_list}
 use Rattle.std.specs.List.{list_any}
 use Rattle.std.proofs.lemmas.Bool.{cases_Bool}
 use Rattle.shop_model.specs.Calendar.{Moment, same_moment}
-use Rattle.shop_model.specs.Rows.{at, lacks}
+use Rattle.shop_model.specs.Rows.{at, lacks, is_empty, numbered_from}
 use Rattle.shop_model.specs.Values.{Copy, Customer, Rental, SetActive, Rent, TakeBack, Pay, Scrap, Rules}
 use Rattle.shop_model.specs.Shop.{Catalogue, Shop, same_flag}
 use Rattle.shop_model.specs.Stock.{is_here, keeps_out, in_stock}
 use Rattle.shop_model.specs.Refusals.{NoCustomer, NoCopy, CopyNotHere, CopyOut, FilmWithdrawn, SameMoment, Already}
 use Rattle.shop_model.specs.Verdict.{Verdict, Refused, Accepted, first, act_refusals, is_film_withdrawn}
 use Rattle.shop_model.specs.Books.{head}
-use Rattle.branch_core.specs.Agreed.{active_at, copy_at, renter_at}
+use Rattle.branch_core.specs.Agreed.{active_at, copy_at, renter_at, open_of}
 
 -- there is one row of a number at most
 at_one : {A : Type 0} (n : ℕ) (rows : List A) → (at n rows ≡ []) ⊎ ((x : A) × (at n rows ≡ x ∷ []))
@@ -55,28 +56,22 @@ module _ (rules : Rules) (b : ℕ) (catalogue : Catalogue) (shop : Shop) (moment
   pub active_set : (was : Bool) → Some was ≡ active_at c shop → same_flag was active ≡ false → Some Accepted ≡ Some (first (act_refusals rules b catalogue shop moment (SetActive c active)))
   active_set was is same = let one = found_some (λ (it : Customer). it.active) c shop.customers was is in rw (one.1, one.2, same) refl
 
--- ---- a copy's rentals
+-- ---- a copy's open rental
 
-any_filtered : {A : Type 0} (p q : A → Bool) (xs : List A) → ((x : A) → q x ≡ false → p x ≡ false) → list_any p (filter q xs) ≡ list_any p xs
-any_filtered p q [] apart = refl
-any_filtered p q (x ∷ xs) apart = elim (cases_Bool (q x)) [
-  | inl is ↦ rw is (ap (λ (b : Bool). p x || b) (any_filtered p q xs apart))
-  | inr isnt ↦ rw (isnt, apart x isnt) (any_filtered p q xs apart)
+open_some : (k x : ℕ) (rentals : List Rental) → list_any (keeps_out x) rentals ≡ not (is_empty (map (λ (it : ℕ × Rental). it.0) (filter (λ (it : ℕ × Rental). keeps_out x it.1) (numbered_from k rentals))))
+open_some k x [] = refl
+open_some k x (rental ∷ rentals) = elim (cases_Bool (keeps_out x rental)) [
+  | inl is ↦ rw is refl
+  | inr isnt ↦ rw isnt (open_some (k + 1) x rentals)
 ]
 
-pub stock_of_copy : (x : ℕ) (of_copy rentals : List Rental) → of_copy ≡ filter (λ (it : Rental). it.copy == x) rentals → in_stock x of_copy ≡ in_stock x rentals
-stock_of_copy x of_copy rentals is = ap (in_stock x) is ∙ ap not (any_filtered (keeps_out x) (λ (it : Rental). it.copy == x) rentals (λ it isnt. rw isnt refl))
+some_listed : (out : Option ℕ) → not (is_empty (option_to_list out)) ≡ is_some out
+some_listed None = refl
+some_listed (Some n) = refl
 
-and_false : (a b : Bool) → ((a && false) && b) ≡ false
-and_false true b = refl
-and_false false b = refl
-
-pub same_of_copy : (moment : Moment) (x c : ℕ) (of_copy rentals : List Rental) → of_copy ≡ filter (λ (it : Rental). it.copy == x) rentals
-    → list_any (λ (it : Rental). same_moment it.rented moment && it.copy == x && it.customer == c) of_copy ≡ list_any (λ (it : Rental). same_moment it.rented moment && it.copy == x && it.customer == c) rentals
-same_of_copy moment x c of_copy rentals is =
-    ap (list_any (λ (it : Rental). same_moment it.rented moment && it.copy == x && it.customer == c)) is
-    ∙ any_filtered (λ (it : Rental). same_moment it.rented moment && it.copy == x && it.customer == c) (λ (it : Rental). it.copy == x) rentals
-    (λ it isnt. rw isnt (and_false (same_moment it.rented moment) (it.customer == c)))
+-- a copy that is out by no rental is in stock
+pub out_stock : (x : ℕ) (rentals : List Rental) (out : Option ℕ) → option_to_list out ≡ open_of x rentals → in_stock x rentals ≡ not (is_some out)
+out_stock x rentals out is = ap not (open_some 1 x rentals ∙ ap (λ (ns : List ℕ). not (is_empty ns)) (sym is) ∙ some_listed out)
 
 -- ---- taking back
 

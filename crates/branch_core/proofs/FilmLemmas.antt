@@ -5,16 +5,15 @@ use Rattle.std.proofs.lemmas.Bool.{cases_Bool}
 use Rattle.std.proofs.lemmas.List.{map-append}
 use Rattle.std.proofs.lemmas.List.Elements.{filter-append}
 use Rattle.shop_model.specs.Rows.{numbered}
-use Rattle.shop_model.specs.Values.{Copy, Rental}
+use Rattle.shop_model.specs.Values.{Copy}
 use Rattle.shop_model.specs.Shop.{Shop, same_flag}
 use Rattle.shop_model.specs.Stock.{is_here, in_stock, film_in_stock, film_not_in_stock}
 use Rattle.branch_core.specs.declared.film_copies.FilmCopy.{FilmCopy}
 use Rattle.branch_core.specs.Agreed.{seen_film_copy, AreOfFilm, is_listed}
-use Rattle.branch_core.proofs.ActLemmas.{stock_of_copy}
 
 -- the numbers of those that are listed
-abbrev pub numbers_in : Bool → List (ℕ × Bool × List Rental) → List ℕ
-numbers_in is_in seen = map (λ (it : ℕ × Bool × List Rental). it.0) (filter (is_listed is_in) seen)
+abbrev pub numbers_in : Bool → List (ℕ × Bool × Bool) → List ℕ
+numbers_in is_in seen = map (λ (it : ℕ × Bool × Bool). it.0) (filter (is_listed is_in) seen)
 
 abbrev pub numbers_of : Bool → List FilmCopy → List ℕ
 numbers_of is_in copies = numbers_in is_in (map seen_film_copy copies)
@@ -24,8 +23,8 @@ numbers_of is_in copies = numbers_in is_in (map seen_film_copy copies)
 more : (is_in : Bool) (copies : List FilmCopy) (copy : FilmCopy) → numbers_of is_in (copies ++ copy ∷ []) ≡ numbers_of is_in copies ++ numbers_of is_in (copy ∷ [])
 more is_in copies copy =
     ap (numbers_in is_in) (map-append seen_film_copy copies (copy ∷ []))
-    ∙ ap (map (λ (it : ℕ × Bool × List Rental). it.0)) (filter-append (is_listed is_in) (map seen_film_copy copies) (seen_film_copy copy ∷ []))
-    ∙ map-append (λ (it : ℕ × Bool × List Rental). it.0) (filter (is_listed is_in) (map seen_film_copy copies)) (filter (is_listed is_in) (seen_film_copy copy ∷ []))
+    ∙ ap (map (λ (it : ℕ × Bool × Bool). it.0)) (filter-append (is_listed is_in) (map seen_film_copy copies) (seen_film_copy copy ∷ []))
+    ∙ map-append (λ (it : ℕ × Bool × Bool). it.0) (filter (is_listed is_in) (map seen_film_copy copies)) (filter (is_listed is_in) (seen_film_copy copy ∷ []))
 
 pub more_listed : (is_in : Bool) (copies : List FilmCopy) (copy : FilmCopy) → is_listed is_in (seen_film_copy copy) ≡ true → numbers_of is_in (copies ++ copy ∷ []) ≡ numbers_of is_in copies ++ copy.number ∷ []
 more_listed is_in copies copy is =
@@ -45,16 +44,15 @@ more_unlisted is_in copies copy isnt =
 
 module _ (film : ℕ) (shop : Shop) where
   -- a copy of the shop with its number, as it is seen
-  abbrev told : ℕ × Copy → ℕ × Bool × List Rental
-  told it = (it.0, is_here it.1, filter (λ (r : Rental). r.copy == it.0) shop.rentals)
+  abbrev told : ℕ × Copy → ℕ × Bool × Bool
+  told it = (it.0, is_here it.1, in_stock it.0 shop.rentals)
 
   told_listed : (is_in : Bool) (kept : Bool → Bool) → ((b : Bool) → same_flag b is_in ≡ kept b) → (its : List (ℕ × Copy))
       → numbers_in is_in (map told (filter (λ (it : ℕ × Copy). it.1.film == film) its))
       ≡ map (λ (it : ℕ × Copy). it.0) (filter (λ (it : ℕ × Copy). it.1.film == film && is_here it.1 && kept (in_stock it.0 shop.rentals)) its)
   told_listed is_in kept same [] = refl
   told_listed is_in kept same (it ∷ its) =
-      let stock : same_flag (in_stock it.0 (filter (λ (r : Rental). r.copy == it.0) shop.rentals)) is_in ≡ kept (in_stock it.0 shop.rentals) =
-      ap (λ (b : Bool). same_flag b is_in) (stock_of_copy it.0 _ shop.rentals refl) ∙ same (in_stock it.0 shop.rentals) in
+      let stock : same_flag (in_stock it.0 shop.rentals) is_in ≡ kept (in_stock it.0 shop.rentals) = same (in_stock it.0 shop.rentals) in
       elim (cases_Bool (it.1.film == film)) [
         | inl of_film ↦ elim (cases_Bool (is_here it.1)) [
           | inl here ↦ elim (cases_Bool (kept (in_stock it.0 shop.rentals))) [

@@ -1,6 +1,6 @@
 //! The first refusal of a command on a customer, a copy, a rental or a payment, by what was found of it.
 
-ghost use Rattle.std.specs.Prelude.{◌≡◌, ◌==◌, ℕ, true, not, Some, IfSome, filter, is_some, map, option_map};
+ghost use Rattle.std.specs.Prelude.{◌≡◌, ℕ, true, not, Some, IfSome, is_some, map, option_map};
 ghost use Rattle.shop_model.specs.Calendar as calendar;
 ghost use Rattle.shop_model.specs.Rows.{at, lacks};
 ghost use Rattle.shop_model.specs.Values as model;
@@ -8,13 +8,11 @@ ghost use Rattle.shop_model.specs.Shop.{Catalogue, Shop};
 ghost use Rattle.shop_model.specs.Stock.{is_here};
 ghost use Rattle.shop_model.specs.Verdict.{first, act_refusals};
 ghost use Rattle.shop_model.specs.Books.{head};
-ghost use Rattle.shop_types.specs.Seen.{seen_rental};
-ghost use Rattle.branch_core.specs.Agreed.{active_at, copy_at, renter_at, seen_copy};
+ghost use Rattle.branch_core.specs.Agreed.{active_at, copy_at, renter_at, seen_copy, has_same_rental, IsOut};
 ghost use Rattle.branch_core.specs.Decided.{verdict_by};
 
 use crate::CopyFound;
-use crate::rentals::{has_same, in_stock};
-use shop_types::{CopyNo, CustomerNo, Moment, Refusal, Rental, RentalNo};
+use shop_types::{CustomerNo, Refusal, RentalNo};
 
 /// Of setting whether a customer may rent.
 pub fn active_refusal(is_active: Option<bool>, active: bool) -> Option<Refusal>
@@ -33,35 +31,27 @@ pub fn active_refusal(is_active: Option<bool>, active: bool) -> Option<Refusal>
     }
 }
 
-/// Of a rental of the copy to the customer at the moment.
+/// Of a rental of a copy to a customer.
 pub fn rent_refusal(
-    at: Moment,
-    customer: CustomerNo,
-    copy: CopyNo,
     is_active: Option<bool>,
     found: Option<CopyFound>,
-    of_copy: &[Rental],
+    out: Option<RentalNo>,
+    has_same: bool,
 ) -> Option<Refusal>
-    ensures { (rules : model.Rules) (b : ℕ) (catalogue : Catalogue) (shop : Shop) → is_active ≡ active_at customer shop → option_map seen_copy found ≡ copy_at catalogue shop copy
-        → map seen_rental of_copy.now ≡ filter (λ it. it.copy == copy) shop.rentals → verdict_by result ≡ Some (first (act_refusals rules b catalogue shop at (model.Rent customer copy))) }
+    ensures { (rules : model.Rules) (b : ℕ) (catalogue : Catalogue) (shop : Shop) (moment : calendar.Moment) (customer copy : ℕ) → is_active ≡ active_at customer shop → option_map seen_copy found ≡ copy_at catalogue shop copy
+        → IsOut shop copy out → has_same ≡ has_same_rental moment (model.Rent customer copy) shop → verdict_by result ≡ Some (first (act_refusals rules b catalogue shop moment (model.Rent customer copy))) }
 {
     match is_active {
         None => Some(Refusal::NoCustomer),
         Some(false) => Some(Refusal::CustomerInactive),
-        Some(true) => copy_refusal(at, customer, copy, found, of_copy),
+        Some(true) => copy_refusal(found, out, has_same),
     }
 }
 
 /// The same of a customer who may rent.
-fn copy_refusal(
-    at: Moment,
-    customer: CustomerNo,
-    copy: CopyNo,
-    found: Option<CopyFound>,
-    of_copy: &[Rental],
-) -> Option<Refusal>
-    ensures { (rules : model.Rules) (b : ℕ) (catalogue : Catalogue) (shop : Shop) → Some true ≡ active_at customer shop → option_map seen_copy found ≡ copy_at catalogue shop copy
-        → map seen_rental of_copy.now ≡ filter (λ it. it.copy == copy) shop.rentals → verdict_by result ≡ Some (first (act_refusals rules b catalogue shop at (model.Rent customer copy))) }
+fn copy_refusal(found: Option<CopyFound>, out: Option<RentalNo>, has_same: bool) -> Option<Refusal>
+    ensures { (rules : model.Rules) (b : ℕ) (catalogue : Catalogue) (shop : Shop) (moment : calendar.Moment) (customer copy : ℕ) → Some true ≡ active_at customer shop → option_map seen_copy found ≡ copy_at catalogue shop copy
+        → IsOut shop copy out → has_same ≡ has_same_rental moment (model.Rent customer copy) shop → verdict_by result ≡ Some (first (act_refusals rules b catalogue shop moment (model.Rent customer copy))) }
 {
     let Some(found) = found else {
         return Some(Refusal::NoCopy);
@@ -69,13 +59,13 @@ fn copy_refusal(
     if !found.is_here {
         return Some(Refusal::CopyNotHere);
     }
-    if !in_stock(of_copy, copy) {
+    if out.is_some() {
         return Some(Refusal::CopyOut);
     }
     if found.is_withdrawn {
         return Some(Refusal::FilmWithdrawn);
     }
-    if has_same(of_copy, at, copy, customer) {
+    if has_same {
         return Some(Refusal::SameMoment);
     }
     None
@@ -121,19 +111,19 @@ pub fn payment_refusal(
     }
 }
 
-/// Of scrapping the copy.
-pub fn scrap_refusal(copy: CopyNo, found: Option<bool>, of_copy: &[Rental]) -> Option<Refusal>
-    ensures { (rules : model.Rules) (b : ℕ) (catalogue : Catalogue) (shop : Shop) (moment : calendar.Moment) → found ≡ head (map is_here (at copy shop.copies))
-        → map seen_rental of_copy.now ≡ filter (λ it. it.copy == copy) shop.rentals → verdict_by result ≡ Some (first (act_refusals rules b catalogue shop moment (model.Scrap copy))) }
+/// Of scrapping a copy.
+pub fn scrap_refusal(found: Option<bool>, out: Option<RentalNo>) -> Option<Refusal>
+    ensures { (rules : model.Rules) (b : ℕ) (catalogue : Catalogue) (shop : Shop) (moment : calendar.Moment) (copy : ℕ) → found ≡ head (map is_here (at copy shop.copies))
+        → IsOut shop copy out → verdict_by result ≡ Some (first (act_refusals rules b catalogue shop moment (model.Scrap copy))) }
 {
     match found {
         None => Some(Refusal::NoCopy),
         Some(false) => Some(Refusal::CopyNotHere),
         Some(true) => {
-            if in_stock(of_copy, copy) {
-                None
-            } else {
+            if out.is_some() {
                 Some(Refusal::CopyOut)
+            } else {
+                None
             }
         }
     }

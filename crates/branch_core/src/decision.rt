@@ -9,7 +9,7 @@ ghost use Rattle.shop_model.specs.Shop.{Catalogue, Shop};
 ghost use Rattle.shop_model.specs.Verdict.{first, refusals, act_refusals, is_before, is_full, new_copies, staff_is};
 ghost use Rattle.shop_model.specs.Books.{head};
 ghost use Rattle.shop_types.specs.Seen.{seen_act, seen_command};
-ghost use Rattle.branch_core.specs.Agreed.{Agrees, ActAgrees, IsFoundFor, IsWithin, seen_staff, post_of};
+ghost use Rattle.branch_core.specs.Agreed.{Agrees, ActAgrees, IsFoundFor, IsWithin, has_same_rental, seen_staff, post_of};
 ghost use Rattle.branch_core.specs.Decided.{IsDecided, Adds, TakesMemory, AreWithin, IsChangeWithin, verdict_by};
 
 use crate::acts::{active_refusal, payment_refusal, rent_refusal, return_refusal, scrap_refusal};
@@ -72,7 +72,7 @@ fn first_refusal(
     } else if !works_at(found.staff, branch) {
         Some(Refusal::NoStaff)
     } else {
-        act_refusal(at, asked, &found.act)
+        act_refusal(asked, &found.act, found.has_same)
     }
 }
 
@@ -125,11 +125,11 @@ fn works_at(staff: Option<StaffFound>, branch: BranchNo) -> bool
     }
 }
 
-/// The first refusal that goes by what the act is, at the moment.
-fn act_refusal(at: Moment, asked: &Act, act: &ActFound) -> Option<Refusal>
+/// The first refusal that goes by what the act is. Of a rental it is told whether there is one of the same moment, copy and customer.
+fn act_refusal(asked: &Act, act: &ActFound, has_same: bool) -> Option<Refusal>
     requires { IsFoundFor asked.now act.now }
-    ensures { (rules : model.Rules) (b : ℕ) (catalogue : Catalogue) (shop : Shop) → ActAgrees rules catalogue shop (seen_act asked.now) act.now
-        → verdict_by result ≡ Some (first (act_refusals rules b catalogue shop at (seen_act asked.now))) }
+    ensures { (rules : model.Rules) (b : ℕ) (catalogue : Catalogue) (shop : Shop) (moment : calendar.Moment) → ActAgrees rules catalogue shop (seen_act asked.now) act.now
+        → has_same ≡ has_same_rental moment (seen_act asked.now) shop → verdict_by result ≡ Some (first (act_refusals rules b catalogue shop moment (seen_act asked.now))) }
 {
     match (asked, act) {
         (Act::Customer(_), ActFound::Customer { has_city, .. }) => city_refusal(*has_city),
@@ -137,14 +137,14 @@ fn act_refusal(at: Moment, asked: &Act, act: &ActFound) -> Option<Refusal>
             active_refusal(*is_active, *active)
         }
         (
-            Act::Rent { customer, copy },
+            Act::Rent { .. },
             ActFound::Rent {
                 is_active,
-                copy: found,
-                of_copy,
+                copy,
+                out,
                 ..
             },
-        ) => rent_refusal(at, *customer, *copy, *is_active, *found, of_copy.as_slice()),
+        ) => rent_refusal(*is_active, *copy, *out, has_same),
         (Act::TakeBack(_), ActFound::TakeBack { is_returned }) => return_refusal(*is_returned),
         (
             Act::Pay {
@@ -161,9 +161,7 @@ fn act_refusal(at: Moment, asked: &Act, act: &ActFound) -> Option<Refusal>
         (Act::Import { .. }, ActFound::Import { has_lot, stock, .. }) => {
             stock_refusal(stock, *has_lot)
         }
-        (Act::Scrap(copy), ActFound::Scrap { is_here, of_copy }) => {
-            scrap_refusal(*copy, *is_here, of_copy.as_slice())
-        }
+        (Act::Scrap(_), ActFound::Scrap { is_here, out }) => scrap_refusal(*is_here, *out),
         _ => unreachable!(),
     }
 }

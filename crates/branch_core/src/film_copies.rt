@@ -1,29 +1,28 @@
-//! What the copies of a film and their rentals say.
+//! Which copies of a film are in stock, and which are not.
 
 ghost use Rattle.std.specs.Prelude.{◌≡◌, ℕ, filter, map, IfOk};
 ghost use Rattle.shop_model.specs.Shop.{Shop};
 ghost use Rattle.shop_model.specs.Stock.{film_in_stock, film_not_in_stock};
 ghost use Rattle.branch_core.specs.Agreed.{AreOfFilm, is_listed, seen_film_copy};
 
-use crate::rentals::in_stock;
-use shop_types::{CopyNo, NoMemory, Rental};
+use shop_types::{CopyNo, NoMemory};
 use std::alloc::Global;
 
-/// A copy of a film, with its rentals.
+/// A copy of a film.
 #[derive(Debug, Drop)]
 pub struct FilmCopy {
     pub number: CopyNo,
     /// Whether it is in the shop, neither sent nor scrapped.
     pub is_here: bool,
-    /// All rentals of the copy.
-    pub rentals: Vec<Rental>,
+    /// Whether no rental of it is open.
+    pub is_in_stock: bool,
 }
 
 /// Whether the copy is here, and in stock or not.
 fn is_listed(copy: &FilmCopy, is_in: bool) -> bool
     ensures { result ≡ is_listed is_in (seen_film_copy copy.now) }
 {
-    copy.is_here && in_stock(copy.rentals.as_slice(), copy.number) == is_in
+    copy.is_here && copy.is_in_stock == is_in
 }
 
 /// The copies that are here, and in stock or not, by number.

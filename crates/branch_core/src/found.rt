@@ -1,6 +1,6 @@
 //! What was found of the rows that a command names.
 
-use shop_types::{BadCsv, BranchNo, CustomerNo, FilmNo, Moment, Rental};
+use shop_types::{BadCsv, BranchNo, CustomerNo, FilmNo, Moment, RentalNo};
 
 /// The kept row of the command's key, as compared with the command.
 #[derive(Clone, Copy, Debug)]
@@ -58,8 +58,8 @@ pub enum ActFound {
         is_active: Option<bool>,
         /// The copy, where there is one of the number.
         copy: Option<CopyFound>,
-        /// All rentals of the copy.
-        of_copy: Vec<Rental>,
+        /// The copy's open rental, where it is out.
+        out: Option<RentalNo>,
         /// How many rentals the branch has.
         rentals: u32,
     },
@@ -86,8 +86,8 @@ pub enum ActFound {
     Scrap {
         /// Whether the copy is in the shop, where there is one of the number.
         is_here: Option<bool>,
-        /// All rentals of the copy.
-        of_copy: Vec<Rental>,
+        /// The copy's open rental, where it is out.
+        out: Option<RentalNo>,
     },
 }
 
@@ -102,6 +102,8 @@ pub struct Found<'a> {
     pub last: Option<Moment>,
     /// The member of staff of the command's number, where there is one.
     pub staff: Option<StaffFound>,
+    /// Whether the branch has a rental of the command's moment, copy and customer. A command that is no rental has none.
+    pub has_same: bool,
     /// What is found for the command's act.
     pub act: ActFound,
 }

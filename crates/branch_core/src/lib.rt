@@ -13,4 +13,4 @@ pub use change::{Change, Rows};
 pub use decision::decide;
 pub use film_copies::{FilmCopy, film_in_stock, film_not_in_stock};
 pub use found::{ActFound, CopyFound, Found, KeptFound, StaffFound, StockFound};
-pub use rentals::{has_same, held_by, in_stock};
+pub use rentals::{held_by, in_stock};

@@ -1,13 +1,12 @@
 //! What a copy's rentals say.
 
-ghost use Rattle.std.specs.Prelude.{◌≡◌, ◌==◌, ◌&&◌, map};
+ghost use Rattle.std.specs.Prelude.{◌≡◌, map};
 ghost use Rattle.std.specs.List.{list_any};
-ghost use Rattle.shop_model.specs.Calendar.{same_moment};
 ghost use Rattle.shop_model.specs.Stock.{keeps_out, in_stock, held_by};
 ghost use Rattle.shop_model.specs.Books.{head};
 ghost use Rattle.shop_types.specs.Seen.{seen_rental};
 
-use shop_types::{CopyNo, CustomerNo, Moment, Rental};
+use shop_types::{CopyNo, CustomerNo, Rental};
 
 /// Whether the rental is one of the copy, and open.
 fn keeps_out(rental: &Rental, copy: CopyNo) -> bool
@@ -42,19 +41,4 @@ pub fn held_by(rentals: &[Rental], copy: CopyNo) -> Option<CustomerNo>
         }
     }
     None
-}
-
-/// Whether one of the rentals was made at the moment, of the copy and by the customer.
-pub fn has_same(rentals: &[Rental], at: Moment, copy: CopyNo, customer: CustomerNo) -> bool
-    ensures { result ≡ list_any (λ it. same_moment it.rented at && it.copy == copy && it.customer == customer) (map seen_rental rentals.now) }
-{
-    has_equal(rentals, at, copy, customer)
-}
-
-fn has_equal(rentals: &[Rental], at: Moment, copy: CopyNo, customer: CustomerNo) -> bool
-    ensures { result ≡ list_any (λ it. same_moment it.rented at && it.copy == copy && it.customer == customer) rentals.now }
-{
-    rentals.iter().any(|rental| rental.rented == at
-        && rental.copy == copy
-        && rental.customer == customer)
 }

@@ -3,7 +3,7 @@ use Rattle.std.proofs.Common.{◌≡◌, ◌∙◌, refl, sym, ap, ℕ, ◌+◌,
 use Rattle.std.specs.Prelude.{◌==◌, ◌&&◌}
 use Rattle.shop_model.specs.Rows.{Row, is_of, of, numbered, numbered_from, IsCounted, AreNumbered}
 use Rattle.shop_model.specs.Values.{Copy, Rental}
-use Rattle.shop_model.specs.Stock.{is_here}
+use Rattle.shop_model.specs.Stock.{is_here, in_stock}
 use Rattle.shop_model.specs.Books.{BookCopy, Books, shop_of, unmarked}
 use Rattle.shop_model.proofs.RowLemmas.{map_map}
 use Rattle.shop_store.specs.declared.copies.CopyRow.{CopyRow}
@@ -17,9 +17,9 @@ use Rattle.branch_work.specs.Finds.{copy_shown}
 abbrev pair_of : Row BookCopy → ℕ × Copy
 pair_of row = (row.number, unmarked row.it)
 
--- its number, whether it is here, and its rentals
-abbrev told : List Rental → ℕ × Copy → ℕ × Bool × List Rental
-told rentals it = (it.0, is_here it.1, filter (λ (r : Rental). r.copy == it.0) rentals)
+-- its number, whether it is here, and whether it is in stock
+abbrev told : List Rental → ℕ × Copy → ℕ × Bool × Bool
+told rentals it = (it.0, is_here it.1, in_stock it.0 rentals)
 
 counted_pairs : (k : ℕ) (rows : List (Row BookCopy)) → IsCounted k (map (λ (row : Row BookCopy). row.number) rows) → map pair_of rows ≡ numbered_from k (map (λ (row : Row BookCopy). unmarked row.it) rows)
 counted_pairs k [] counted = refl

@@ -60,9 +60,9 @@ import_new limits b key staff moment (act.Pay customer rental amount) found firs
 import_new limits b key staff moment (act.Scrap copy) found first count copies named reply books new one says agrees adds = absurd adds
 import_new limits b key staff moment (act.Import lot file) (found.Customer has_city customers) first count copies named reply books new one says agrees adds = absurd agrees
 import_new limits b key staff moment (act.Import lot file) (found.Active is_active) first count copies named reply books new one says agrees adds = absurd agrees
-import_new limits b key staff moment (act.Import lot file) (found.Rent is_active copy of_copy rentals) first count copies named reply books new one says agrees adds = absurd agrees
+import_new limits b key staff moment (act.Import lot file) (found.Rent is_active copy out rentals) first count copies named reply books new one says agrees adds = absurd agrees
 import_new limits b key staff moment (act.Import lot file) (found.TakeBack is_returned) first count copies named reply books new one says agrees adds = absurd agrees
 import_new limits b key staff moment (act.Import lot file) (found.Pay has_customer renter payments) first count copies named reply books new one says agrees adds = absurd agrees
-import_new limits b key staff moment (act.Import lot file) (found.Scrap is_here of_copy) first count copies named reply books new one says agrees adds = absurd agrees
+import_new limits b key staff moment (act.Import lot file) (found.Scrap is_here out) first count copies named reply books new one says agrees adds = absurd agrees
 import_new limits b key staff moment (act.Import lot file) (found.Import before has_lot stock) first count copies named reply books new one says agrees adds =
     import_done limits b key staff moment lot file (films_in (seen_stock stock)) first count copies named reply books new one says (ap films_in agrees.reading) adds.next adds.all

@@ -1,14 +1,17 @@
 -- What a look shows of a row that is there, and of one that isn't.
-use Rattle.std.proofs.Common.{◌≡◌, ◌∙◌, refl, ap, ℕ, Bool, true, false, List, [], ◌∷◌, map, filter, Some, None}
-use Rattle.std.specs.Prelude.{◌==◌, ◌&&◌, is_none}
+use Rattle.std.proofs.Common.{◌≡◌, ◌∙◌, refl, sym, ap, inl, inr, arith, ℕ, ◌+◌, ◌-◌, ◌≤◌, Bool, true, false, not, List, [], ◌∷◌, map, filter, Option, Some, None}
+use Rattle.std.specs.Prelude.{◌==◌, is_some}
 use Rattle.std.specs.Option.{option_to_list}
+use Rattle.std.proofs.lemmas.Bool.{cases_Bool}
+use Rattle.std.proofs.lemmas.Bool.Decides.{nat_tests}
+use Rattle.shop_model.specs.Rows.{at, numbered_from}
 use Rattle.shop_model.specs.Values.{Rental}
 use Rattle.shop_model.specs.Refusals.{Refusal}
-use Rattle.shop_model.specs.Stock.{keeps_out, held_by}
+use Rattle.shop_model.specs.Stock.{keeps_out, in_stock, held_by}
 use Rattle.shop_model.specs.Machine.{Shown, Sorry, Shows, given}
 use Rattle.shop_model.specs.Answers.{holder_text}
 use Rattle.shop_model.specs.Books.{head}
-use Rattle.shop_model.proofs.RowLemmas.{filter_away}
+use Rattle.branch_core.proofs.ActLemmas.{out_stock}
 
 pub given_none : {A B : Type 0} (refusal : Refusal) (show : A → Shown) (f : A → B) (rows : List A) → None ≡ head (map f rows) → given refusal show rows ≡ Sorry refusal
 given_none refusal show f [] is = refl
@@ -20,15 +23,49 @@ given_some refusal shown f (x ∷ rows) y is = refl
 
 -- ---- who has a copy
 
-both_left : (a b : Bool) → (a && b) ≡ true → a ≡ true
-both_left true b e = refl
-both_left false b e = e
+-- the numbers of the copy's open rentals, where the first rental has that number
+abbrev open_from : ℕ → ℕ → List Rental → List ℕ
+open_from k x rentals = map (λ (it : ℕ × Rental). it.0) (filter (λ (it : ℕ × Rental). keeps_out x it.1) (numbered_from k rentals))
 
--- among the copy's own rentals it is the same customer
-pub held_of_copy : (x : ℕ) (of_copy rentals : List Rental) → of_copy ≡ filter (λ (it : Rental). it.copy == x) rentals → held_by x of_copy ≡ held_by x rentals
-held_of_copy x of_copy rentals is =
-    ap (held_by x) is
-    ∙ ap (map (λ (it : Rental). it.customer)) (filter_away (keeps_out x) (λ (it : Rental). it.copy == x) rentals (λ it keeps. both_left (it.copy == x) (is_none it.returned) keeps))
+pub none_held : (k x : ℕ) (rentals : List Rental) → [] ≡ open_from k x rentals → held_by x rentals ≡ []
+none_held k x [] none = refl
+none_held k x (rental ∷ rentals) none = elim (cases_Bool (keeps_out x rental)) [
+  | inl is ↦ let no : [] ≡ k ∷ open_from (k + 1) x rentals = rw is at none in absurd (empty no)
+  | inr isnt ↦ let more : [] ≡ open_from (k + 1) x rentals = rw isnt at none in rw isnt (none_held (k + 1) x rentals more)
+]
+  where
+    empty : {n : ℕ} {ns : List ℕ} → ◌≡◌ {A = List ℕ} [] (n ∷ ns) → ⊥
+    empty e = cc
+
+-- the customer of the copy's only open rental
+held_from : (k n x : ℕ) (rentals : List Rental) → n ∷ [] ≡ open_from k x rentals → (k ≤ n) × (held_by x rentals ≡ map (λ (it : Rental). it.customer) (at (n + 1 - k) rentals))
+held_from k n x [] one = cc
+held_from k n x (rental ∷ rentals) one = elim (cases_Bool (keeps_out x rental)) [
+  | inl is ↦
+      let ones : n ∷ [] ≡ k ∷ open_from (k + 1) x rentals = rw is at one in
+      let number : n ≡ k = cc in
+      let none : [] ≡ open_from (k + 1) x rentals = cc in
+      let first : (n + 1 - k == 1) ≡ true = grind (arith, number, nat_tests) in
+      (omega (arith, number), rw (is, first) (ap (λ (ns : List ℕ). rental.customer ∷ ns) (none_held (k + 1) x rentals none)))
+  | inr isnt ↦
+      let more : n ∷ [] ≡ open_from (k + 1) x rentals = rw isnt at one in
+      let rest = held_from (k + 1) n x rentals more in
+      let above : k + 1 ≤ n = rest.0 in
+      let later : (n + 1 - k == 1) ≡ false = grind (arith, above, nat_tests) in
+      let place : n + 1 - (k + 1) ≡ n + 1 - k - 1 = omega (arith, above) in
+      (omega (arith, above), rw (isnt, later) (rest.1 ∙ ap (λ (m : ℕ). map (λ (it : Rental). it.customer) (at m rentals)) place))
+]
+
+pub held_at : (n x : ℕ) (rentals : List Rental) → n ∷ [] ≡ open_from 1 x rentals → held_by x rentals ≡ map (λ (it : Rental). it.customer) (at n rentals)
+held_at n x rentals one = let place : n + 1 - 1 ≡ n = omega arith in (held_from 1 n x rentals one).1 ∙ ap (λ (m : ℕ). map (λ (it : Rental). it.customer) (at m rentals)) place
+
+-- a copy that is out by no rental is in stock
+pub stock_of_out : (x : ℕ) (rentals : List Rental) (out : Option ℕ) (is_in : Bool) → is_some out ≡ not is_in → option_to_list out ≡ open_from 1 x rentals → is_in ≡ in_stock x rentals
+stock_of_out x rentals out is_in none is = twice is_in ∙ ap not (sym none) ∙ sym (out_stock x rentals out is)
+  where
+    twice : (b : Bool) → b ≡ not (not b)
+    twice true = refl
+    twice false = refl
 
 pub first_holder : (holders : List ℕ) → holder_text (option_to_list (head holders)) ≡ holder_text holders
 first_holder [] = refl

@@ -5,7 +5,7 @@ use Rattle.shop_model.specs.Rows.{lacks, owned_by}
 use Rattle.shop_model.specs.Values.{Text, Command, Rental, Payment, Ask, FilmInStock, FilmNotInStock}
 use Rattle.shop_model.specs.Verdict.{is_film_withdrawn}
 use Rattle.shop_model.specs.Shop.{Catalogue, Shop}
-use Rattle.shop_model.specs.Stock.{is_here, film_in_stock, film_not_in_stock}
+use Rattle.shop_model.specs.Stock.{is_here, in_stock, film_in_stock, film_not_in_stock}
 use Rattle.shop_model.specs.Books.{Books, head, unmarked}
 use Rattle.shop_store.specs.declared.copies.CopyRow.{CopyRow}
 use Rattle.shop_store.specs.Seen.{seen_copy_row}
@@ -47,9 +47,9 @@ IsKeptFor b command kept books = option_map told kept ≡ head (map (kept_for co
 
 -- ---- the copies of a film
 
--- a copy's number, whether it is here, and its rentals among those of the branch
-abbrev pub copy_shown : List Rental → CopyRow → ℕ × Bool × List Rental
-copy_shown rentals row = (row.number, is_here (unmarked (seen_copy_row row).it), filter (λ (it : Rental). it.copy == row.number) rentals)
+-- a copy's number, whether it is here, and whether it is in stock by the rentals of the branch
+abbrev pub copy_shown : List Rental → CopyRow → ℕ × Bool × Bool
+copy_shown rentals row = (row.number, is_here (unmarked (seen_copy_row row).it), in_stock row.number rentals)
 
 -- the copies that are asked for: those in stock, or those that aren't
 abbrev pub stock_asked : Bool → ℕ → Ask

@@ -24,10 +24,10 @@ copies_from b first (film ∷ films) = record { branch = b; number = first; it =
 abbrev pub films_found : ActFound → List ℕ
 films_found (found.Customer has_city customers) = []
 films_found (found.Active is_active) = []
-films_found (found.Rent is_active copy of_copy rentals) = []
+films_found (found.Rent is_active copy out rentals) = []
 films_found (found.TakeBack is_returned) = []
 films_found (found.Pay has_customer renter payments) = []
-films_found (found.Scrap is_here of_copy) = []
+films_found (found.Scrap is_here out) = []
 films_found (found.Import copies has_lot stock) = films_in (seen_stock stock)
 
 -- the lot that an act brings

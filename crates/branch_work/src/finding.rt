@@ -13,16 +13,14 @@ ghost use Rattle.shop_types.specs.Seen.{seen_act, seen_command};
 ghost use Rattle.shop_schema.specs.Shop.{Reads};
 ghost use Rattle.shop_store.specs.Seen.{seen_kept};
 ghost use Rattle.stock_csv.specs.Stock.{stock_of};
-ghost use Rattle.branch_core.specs.Agreed.{Agrees, ActAgrees, RowAgrees, IsFoundFor, IsWithin, seen_kept as told, seen_staff, post_of, seen_stock, copies_of};
+ghost use Rattle.branch_core.specs.Agreed.{Agrees, ActAgrees, RowAgrees, IsFoundFor, IsWithin, has_same_rental, seen_kept as told, seen_staff, post_of, seen_stock, copies_of};
 ghost use Rattle.branch_work.specs.Rules.{rules_of};
 ghost use Rattle.branch_work.specs.Finds.{as_listed, found_row, told_row, by_form, IsKeptFor};
 
-use crate::looking::{find_active, find_copy, find_here, find_of_copy, find_renter, find_returned};
+use crate::looking::{find_active, find_copy, find_here, find_renter, find_returned};
 use branch_core::{ActFound, Found, KeptFound, StaffFound, StockFound};
 use catalogue_store::{film_at, has_city, staff_at};
-use shop_store::{
-    KeptRow, copy_count, customer_count, has_lot, kept_count, last_payment, last_rental,
-};
+use shop_store::{CountKind, KeptRow, count_of, has_lot, has_rental, out_at};
 use shop_types::{
     Act, BadCsv, BranchNo, Command, CopyNo, CustomerNo, LotName, Moment, Person, RentalNo, StaffNo,
     StockFile,
@@ -61,20 +59,22 @@ pub fn find<'a, S: Alter>(
     ensures act { IfOk result (λ found. IsFoundFor command.now.act found.act) }
     ensures within { IfOk result (λ found. IsWithin found.act) }
 {
-    let keys = fitting(kept_count(tx, branch)?)?;
+    let keys = fitting(count_of(tx, branch, CountKind::Kept)? as usize)?;
     let staff = find_staff(tx, command.staff)?;
+    let has_same = find_same(tx, branch, command.at, &command.act)?;
     let act = find_act(alloc, tx, branch, &command.act)?;
     Ok(Found {
         kept,
         keys,
         last,
         staff,
+        has_same,
         act,
     })
 }
 
 /// The number of rows, where it is a million at most: no sound table has more of a branch.
-fn fitting(count: usize) -> Result<u32, StoreFault>
+pub fn fitting(count: usize) -> Result<u32, StoreFault>
     ensures { IfOk result (λ n. (n ≡ count) × (n ≤ 1_000_000)) }
 {
     if count <= 1_000_000 {
@@ -101,6 +101,28 @@ fn find_staff<S: Alter>(
     }
 }
 
+/// Whether the branch has a rental of the moment, and of the copy and by the customer of the act. Of an act that is no rental nothing is read.
+fn find_same<S: Alter>(
+    tx: &mut Transaction<'_, S>,
+    branch: BranchNo,
+    at: Moment,
+    act: &Act,
+) -> Result<bool, StoreFault>
+    ensures same_reference { tx.new.conn.ghost_name ≡ tx.old.conn.ghost_name }
+    ensures inside { StaysWithin (state S.Store tx.old.conn.now) (state S.Store tx.new.conn.now) result }
+    ensures found { HasCleanDisk (state S.Store tx.new.conn.now) → IfOk result (λ has. Reads (state S.Store tx.old.conn.now) (state S.Store tx.new.conn.now) (λ books. has ≡ has_same_rental at (seen_act act.now) (shop_of branch books))) }
+{
+    match act {
+        Act::Rent { customer, copy } => Ok(has_rental(tx, branch, at, *copy, *customer)?),
+        Act::Customer(_) => Ok(false),
+        Act::Active { .. } => Ok(false),
+        Act::TakeBack(_) => Ok(false),
+        Act::Pay { .. } => Ok(false),
+        Act::Scrap(_) => Ok(false),
+        Act::Import { .. } => Ok(false),
+    }
+}
+
 /// What is read for the act alone.
 fn find_act<S: Alter>(
     alloc: Global,
@@ -120,7 +142,7 @@ fn find_act<S: Alter>(
         Act::Active { customer, .. } => Ok(ActFound::Active {
             is_active: find_active(tx, branch, *customer)?,
         }),
-        Act::Rent { customer, copy } => find_rent(alloc, tx, branch, *customer, *copy),
+        Act::Rent { customer, copy } => find_rent(tx, branch, *customer, *copy),
         Act::TakeBack(rental) => Ok(ActFound::TakeBack {
             is_returned: find_returned(tx, branch, *rental)?,
         }),
@@ -129,14 +151,13 @@ fn find_act<S: Alter>(
             rental,
             ..
         } => find_pay(tx, branch, *customer, *rental),
-        Act::Scrap(copy) => find_scrap(alloc, tx, branch, *copy),
+        Act::Scrap(copy) => find_scrap(tx, branch, *copy),
         Act::Import { lot, file } => find_import(alloc, tx, branch, lot, file),
     }
 }
 
 /// What is read for a rental.
 fn find_rent<S: Alter>(
-    alloc: Global,
     tx: &mut Transaction<'_, S>,
     branch: BranchNo,
     customer: CustomerNo,
@@ -151,12 +172,12 @@ fn find_rent<S: Alter>(
 {
     let is_active = find_active(tx, branch, customer)?;
     let found = find_copy(tx, branch, copy)?;
-    let of_copy = find_of_copy(alloc, tx, branch, copy)?;
-    let rentals = fitting(last_rental(tx, branch)? as usize)?;
+    let out = out_at(tx, branch, copy)?;
+    let rentals = fitting(count_of(tx, branch, CountKind::Rentals)? as usize)?;
     Ok(ActFound::Rent {
         is_active,
         copy: found,
-        of_copy,
+        out,
         rentals,
     })
 }
@@ -177,7 +198,7 @@ fn find_pay<S: Alter>(
 {
     let has_customer = find_active(tx, branch, customer)?.is_some();
     let renter = find_renter(tx, branch, rental)?;
-    let payments = fitting(last_payment(tx, branch)? as usize)?;
+    let payments = fitting(count_of(tx, branch, CountKind::Payments)? as usize)?;
     Ok(ActFound::Pay {
         has_customer,
         renter,
@@ -187,7 +208,6 @@ fn find_pay<S: Alter>(
 
 /// What is read for a copy that is to be scrapped.
 fn find_scrap<S: Alter>(
-    alloc: Global,
     tx: &mut Transaction<'_, S>,
     branch: BranchNo,
     copy: CopyNo,
@@ -200,8 +220,8 @@ fn find_scrap<S: Alter>(
     ensures within { IfOk result (λ found. IsWithin found) }
 {
     let is_here = find_here(tx, branch, copy)?;
-    let of_copy = find_of_copy(alloc, tx, branch, copy)?;
-    Ok(ActFound::Scrap { is_here, of_copy })
+    let out = out_at(tx, branch, copy)?;
+    Ok(ActFound::Scrap { is_here, out })
 }
 
 /// What is read for a new customer.
@@ -218,7 +238,7 @@ fn find_customer<S: Alter>(
     ensures within { IfOk result (λ found. IsWithin found) }
 {
     let has_city = has_city(tx, person.city)?;
-    let customers = fitting(customer_count(tx, branch)?)?;
+    let customers = fitting(count_of(tx, branch, CountKind::Customers)? as usize)?;
     Ok(ActFound::Customer {
         has_city,
         customers,
@@ -240,7 +260,7 @@ fn find_import<S: Alter>(
     ensures act { IfOk result (λ found. IsFoundFor (Act.Import lot.now file.now) found) }
     ensures within { IfOk result (λ found. IsWithin found) }
 {
-    let copies = fitting(copy_count(tx, branch)?)?;
+    let copies = fitting(count_of(tx, branch, CountKind::Copies)? as usize)?;
     let has_lot = has_lot(tx, branch, lot)?;
     let stock = find_stock(alloc, tx, file)?;
     Ok(ActFound::Import {

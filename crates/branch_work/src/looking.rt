@@ -5,19 +5,17 @@ ghost use Rattle.sqlite.specs.Held.{state};
 ghost use Rattle.sqlite.specs.State.{HasCleanDisk};
 ghost use Rattle.sql_rows.specs.Calls.{StaysWithin};
 ghost use Rattle.shop_model.specs.Rows.{at};
-ghost use Rattle.shop_model.specs.Stock.{is_here};
+ghost use Rattle.shop_model.specs.Stock.{is_here, held_by};
 ghost use Rattle.shop_model.specs.Books.{head, shop_of};
 ghost use Rattle.shop_schema.specs.Shop.{Reads};
 ghost use Rattle.shop_store.specs.Seen.{seen_state};
 ghost use Rattle.branch_work.specs.Finds.{is_yes, copy_shown};
-ghost use Rattle.branch_core.specs.Agreed.{active_at, copy_at, seen_copy, seen_film_copy, AreOfCopy, AreOfFilm};
+ghost use Rattle.branch_core.specs.Agreed.{active_at, copy_at, seen_copy, seen_film_copy, AreOfFilm};
 
 use branch_core::{CopyFound, FilmCopy};
 use catalogue_store::film_at;
-use shop_store::{
-    CopyRow, CopyState, copies_of_film, copy_at, customer_at, rental_at, rentals_of_copy,
-};
-use shop_types::{BranchNo, CopyNo, CustomerNo, FilmNo, Rental, RentalNo};
+use shop_store::{CopyRow, CopyState, copies_of_film, copy_at, customer_at, out_at, rental_at};
+use shop_types::{BranchNo, CopyNo, CustomerNo, FilmNo, RentalNo};
 use sql_rows::StoreFault;
 use sqlite::{Alter, Transaction};
 use std::alloc::Global;
@@ -91,27 +89,6 @@ pub fn find_copy<S: Alter>(
     }))
 }
 
-/// All rentals of the branch's copy, in order of number.
-pub fn find_of_copy<S: Alter>(
-    alloc: Global,
-    tx: &mut Transaction<'_, S>,
-    branch: BranchNo,
-    copy: CopyNo,
-) -> Result<Vec<Rental>, StoreFault>
-    ensures same_reference { tx.new.conn.ghost_name ≡ tx.old.conn.ghost_name }
-    ensures inside { StaysWithin (state S.Store tx.old.conn.now) (state S.Store tx.new.conn.now) result }
-    ensures found { HasCleanDisk (state S.Store tx.new.conn.now) → IfOk result (λ found. Reads (state S.Store tx.old.conn.now) (state S.Store tx.new.conn.now) (λ books. AreOfCopy (shop_of branch books) copy found)) }
-{
-    let rows = rentals_of_copy(tx, alloc, branch, copy)?;
-    let mut rentals = Vec::new(alloc);
-    for row in &rows {
-        let Ok(()) = rentals.push(row.rental) else {
-            return Err(StoreFault::Memory);
-        };
-    }
-    Ok(rentals)
-}
-
 /// Whether the rental's copy came back, where the branch has a rental of the number.
 pub fn find_returned<S: Alter>(
     tx: &mut Transaction<'_, S>,
@@ -148,7 +125,23 @@ pub fn find_renter<S: Alter>(
     }
 }
 
-/// The branch's copies of the film, in order of number, each with all of its rentals.
+/// The customer who has the copy, where it is out.
+pub fn find_holder<S: Alter>(
+    tx: &mut Transaction<'_, S>,
+    branch: BranchNo,
+    copy: CopyNo,
+) -> Result<Option<CustomerNo>, StoreFault>
+    ensures same_reference { tx.new.conn.ghost_name ≡ tx.old.conn.ghost_name }
+    ensures inside { StaysWithin (state S.Store tx.old.conn.now) (state S.Store tx.new.conn.now) result }
+    ensures found { HasCleanDisk (state S.Store tx.new.conn.now) → IfOk result (λ holder. Reads (state S.Store tx.old.conn.now) (state S.Store tx.new.conn.now) (λ books. holder ≡ head (held_by copy (shop_of branch books).rentals))) }
+{
+    match out_at(tx, branch, copy)? {
+        Some(rental) => find_renter(tx, branch, Some(rental)),
+        None => Ok(None),
+    }
+}
+
+/// The branch's copies of the film, in order of number.
 pub fn find_of_film<S: Alter>(
     alloc: Global,
     tx: &mut Transaction<'_, S>,
@@ -160,11 +153,11 @@ pub fn find_of_film<S: Alter>(
     ensures found { HasCleanDisk (state S.Store tx.new.conn.now) → IfOk result (λ copies. Reads (state S.Store tx.old.conn.now) (state S.Store tx.new.conn.now) (λ books. AreOfFilm film (shop_of branch books) copies.items)) }
 {
     let rows = copies_of_film(tx, alloc, branch, film)?;
-    with_rentals(alloc, tx, branch, rows.as_slice())
+    with_stock(alloc, tx, branch, rows.as_slice())
 }
 
-/// The copies of those rows, each with all of its rentals.
-fn with_rentals<S: Alter>(
+/// The copies of those rows, each with whether it is in stock.
+fn with_stock<S: Alter>(
     alloc: Global,
     tx: &mut Transaction<'_, S>,
     branch: BranchNo,
@@ -177,7 +170,7 @@ fn with_rentals<S: Alter>(
 {
     let mut copies = Vec::new(alloc);
     for row in rows {
-        let copy = with_its_rentals(alloc, tx, branch, *row)?;
+        let copy = with_its_stock(tx, branch, *row)?;
         let Ok(()) = copies.push(copy) else {
             return Err(StoreFault::Memory);
         };
@@ -185,9 +178,8 @@ fn with_rentals<S: Alter>(
     Ok(copies)
 }
 
-/// The copy of that row, with all of its rentals.
-fn with_its_rentals<S: Alter>(
-    alloc: Global,
+/// The copy of that row, with whether it is in stock.
+fn with_its_stock<S: Alter>(
     tx: &mut Transaction<'_, S>,
     branch: BranchNo,
     row: CopyRow,
@@ -197,10 +189,10 @@ fn with_its_rentals<S: Alter>(
     ensures found { HasCleanDisk (state S.Store tx.new.conn.now) → IfOk result (λ copy. Reads (state S.Store tx.old.conn.now) (state S.Store tx.new.conn.now)
         (λ books. seen_film_copy copy ≡ copy_shown (shop_of branch books).rentals row)) }
 {
-    let rentals = find_of_copy(alloc, tx, branch, row.number)?;
+    let out = out_at(tx, branch, row.number)?;
     Ok(FilmCopy {
         number: row.number,
         is_here: is_here(row.state),
-        rentals,
+        is_in_stock: out.is_none(),
     })
 }

@@ -14,7 +14,7 @@ ghost use Rattle.branch_work.specs.Finds.{is_paid_in, passes_for, rewarded_numbe
 
 use crate::balances::paid_by;
 use balance_rule::{Paid, rewarded};
-use shop_store::{PaymentRow, customer_count, payments_of};
+use shop_store::{CountKind, PaymentRow, count_of, payments_of};
 use shop_types::{BranchNo, CustomerNo, Payment};
 use sql_rows::StoreFault;
 use sqlite::{Alter, Transaction};
@@ -37,7 +37,7 @@ pub fn find_rewarded<S: Alter>(
     let Some(month) = month else {
         return Ok(Vec::new(alloc));
     };
-    let customers = customer_count(tx, branch)?;
+    let customers = count_of(tx, branch, CountKind::Customers)?;
     let rows = payments_of(tx, alloc, branch)?;
     if 1_000_000 < customers || 1_000_000 < rows.len() {
         return Err(StoreFault::Failed);
@@ -45,7 +45,7 @@ pub fn find_rewarded<S: Alter>(
     let payments = payments_in(alloc, rows.as_slice(), month)?;
     rewarded_among(
         alloc,
-        customers as u32,
+        customers,
         payments.as_slice(),
         month,
         purchases,

@@ -24,17 +24,16 @@ ghost use Rattle.branch_work.specs.Finds.{stock_asked, stock_listed};
 ghost use Rattle.branch_work.specs.Works.{IsDone, Works, WorksFor, IsAdded};
 
 use crate::finding::{find, kept_found};
-use crate::looking::{find_here, find_of_copy, find_of_film};
+use crate::looking::{find_here, find_holder, find_of_film};
 use crate::new_rows::new_rows;
 use crate::reports::{look_balance, look_overdue, look_rewards};
+use crate::tallying::{copy_back, tally};
 use crate::writing::write;
-use branch_core::{
-    ActFound, Change, FilmCopy, Rows, decide, film_in_stock, film_not_in_stock, held_by, in_stock,
-};
+use branch_core::{ActFound, Change, FilmCopy, Rows, decide, film_in_stock, film_not_in_stock};
 use catalogue_store::film_at;
 use reply_bodies::{copies_text, customer_text, holder_text, in_stock_text};
 use shop_schema::{command_form, command_values};
-use shop_store::{customer_at, kept_at, last_at};
+use shop_store::{customer_at, kept_at, last_at, out_at};
 use shop_types::{
     Ask, BranchNo, Command, CopyNo, CustomerNo, FilmNo, Limits, Moment, NoMemory, Refusal, Reply,
     Request,
@@ -125,8 +124,8 @@ fn look_in_stock<S: Alter>(
     let Some(_) = find_here(tx, branch, copy)? else {
         return Ok(Reply::refused(Refusal::NoCopy));
     };
-    let rentals = find_of_copy(alloc, tx, branch, copy)?;
-    match in_stock_text(alloc, in_stock(rentals.as_slice(), copy)) {
+    let out = out_at(tx, branch, copy)?;
+    match in_stock_text(alloc, out.is_none()) {
         Ok(text) => Ok(Reply::accepted(text)),
         Err(_) => Err(StoreFault::Memory),
     }
@@ -146,8 +145,8 @@ fn look_holder<S: Alter>(
     let Some(_) = find_here(tx, branch, copy)? else {
         return Ok(Reply::refused(Refusal::NoCopy));
     };
-    let rentals = find_of_copy(alloc, tx, branch, copy)?;
-    match holder_text(alloc, held_by(rentals.as_slice(), copy)) {
+    let holder = find_holder(tx, branch, copy)?;
+    match holder_text(alloc, holder) {
         Ok(text) => Ok(Reply::accepted(text)),
         Err(_) => Err(StoreFault::Memory),
     }
@@ -255,7 +254,9 @@ fn add<S: Alter>(
     let Ok((new, reply)) = new_rows(alloc, branch, command, rows, act) else {
         return Err(StoreFault::Memory);
     };
+    let back = copy_back(tx, branch, &new)?;
     write(tx, branch, command, form, &new, reply.as_str())?;
+    tally(tx, branch, &new, back)?;
     Ok(Reply::accepted(reply))
 }
 

@@ -22,7 +22,8 @@ use Rattle.shop_model.specs.Values.{City, Actor, Film, Cast, Branch, Staff}
 use Rattle.shop_model.specs.Books.{Books, head}
 use Rattle.shop_schema.specs.Tables.{shop_schema, chain_table, country_table, language_table, category_table, city_table, actor_table, film_table, film_actor_table, branch_table, staff_table}
 use Rattle.shop_schema.specs.Columns.{chain_columns, named_columns, city_columns, actor_columns, film_columns, cast_columns, branch_columns, staff_columns, moment_value}
-use Rattle.shop_schema.specs.Shop.{StandsFor, IsShop, IsKeyed, HaveNoRows, Holds, Writes, first_books}
+use Rattle.shop_schema.specs.Shop.{StandsWith, IsShop, IsKeyed, HaveNoRows, HoldsWith, Writes, first_books}
+use Rattle.shop_schema.specs.Counts.{no_counts}
 use Rattle.shop_schema.proofs.Stands.{stands_first, with_countries, with_languages, with_categories, with_cities, with_actors, with_films, with_casts, with_branches, with_staff}
 use Rattle.catalogue_store.specs.New.{branch_params}
 use Rattle.catalogue_store.proofs.RowPut.{HasPut, has_put, writes_put, has_pushed}
@@ -42,7 +43,7 @@ token_means = record { is = refl; plain = (refl, refl) }
 none_yet : (old : List sql.Row) → old ≡ [] → HasRows 2 old []
 none_yet old empty = rw empty (IsPermutation-refl [])
 
-pub holds_first : (old new : State) (token : model.Text) (count : ℕ) → ExecutesInside 0 insert_token (Text token ∷ []) old new (Ok count) → IsShop old → IsKeyed old → HaveNoRows old.now.trees → Holds new (first_books token)
+pub holds_first : (old new : State) (token : model.Text) (count : ℕ) → ExecutesInside 0 insert_token (Text token ∷ []) old new (Ok count) → IsShop old → IsKeyed old → HaveNoRows old.now.trees → HoldsWith no_counts new (first_books token)
 holds_first old new token count h shop keyed empty =
     let done : HasPut shop_schema chain_table 2 (chain_columns token) old new =
     has_put shop_schema insert_token 0 chain_table token_terms 2 token_means (record { place = refl; uncounted = refl; unstamped = refl }) (Text token ∷ []) (chain_columns token) old new count h refl refl refl (λ id. refl) shop in
@@ -62,8 +63,8 @@ country_means = record { is = refl; plain = (refl, refl) }
 
 pub puts_country : (old new : State) (n : ℕ) (x : model.Text) (count : ℕ) → ExecutesInside 0 insert_country (named_columns (n, x)) old new (Ok count)
     → Writes old new (λ books. n ≡ length books.catalogue.countries + 1) (λ books. record books { catalogue = record books.catalogue { countries = books.catalogue.countries ++ x ∷ [] } })
-puts_country old new n x count h =
-    writes_put shop_schema StandsFor country_table 2 (named_columns (n, x)) old new
+puts_country old new n x count h counts =
+    writes_put shop_schema (StandsWith counts) country_table 2 (named_columns (n, x)) old new
     (has_put shop_schema insert_country 1 country_table values_2 2 country_means (record { place = refl; uncounted = refl; unstamped = refl }) (named_columns (n, x)) (named_columns (n, x)) old new count h refl refl refl (λ id. refl))
     (λ books. n ≡ length books.catalogue.countries + 1) (λ books. record books { catalogue = record books.catalogue { countries = books.catalogue.countries ++ x ∷ [] } })
     (λ books same s next more. with_countries _ _ books _ same s (has_pushed 2 named_columns books.catalogue.countries x n _ next (more _ s.countries)))
@@ -77,8 +78,8 @@ language_means = record { is = refl; plain = (refl, refl) }
 
 pub puts_language : (old new : State) (n : ℕ) (x : model.Text) (count : ℕ) → ExecutesInside 0 insert_language (named_columns (n, x)) old new (Ok count)
     → Writes old new (λ books. n ≡ length books.catalogue.languages + 1) (λ books. record books { catalogue = record books.catalogue { languages = books.catalogue.languages ++ x ∷ [] } })
-puts_language old new n x count h =
-    writes_put shop_schema StandsFor language_table 2 (named_columns (n, x)) old new
+puts_language old new n x count h counts =
+    writes_put shop_schema (StandsWith counts) language_table 2 (named_columns (n, x)) old new
     (has_put shop_schema insert_language 2 language_table values_2 2 language_means (record { place = refl; uncounted = refl; unstamped = refl }) (named_columns (n, x)) (named_columns (n, x)) old new count h refl refl refl (λ id. refl))
     (λ books. n ≡ length books.catalogue.languages + 1) (λ books. record books { catalogue = record books.catalogue { languages = books.catalogue.languages ++ x ∷ [] } })
     (λ books same s next more. with_languages _ _ books _ same s (has_pushed 2 named_columns books.catalogue.languages x n _ next (more _ s.languages)))
@@ -92,8 +93,8 @@ category_means = record { is = refl; plain = (refl, refl) }
 
 pub puts_category : (old new : State) (n : ℕ) (x : model.Text) (count : ℕ) → ExecutesInside 0 insert_category (named_columns (n, x)) old new (Ok count)
     → Writes old new (λ books. n ≡ length books.catalogue.categories + 1) (λ books. record books { catalogue = record books.catalogue { categories = books.catalogue.categories ++ x ∷ [] } })
-puts_category old new n x count h =
-    writes_put shop_schema StandsFor category_table 2 (named_columns (n, x)) old new
+puts_category old new n x count h counts =
+    writes_put shop_schema (StandsWith counts) category_table 2 (named_columns (n, x)) old new
     (has_put shop_schema insert_category 3 category_table values_2 2 category_means (record { place = refl; uncounted = refl; unstamped = refl }) (named_columns (n, x)) (named_columns (n, x)) old new count h refl refl refl (λ id. refl))
     (λ books. n ≡ length books.catalogue.categories + 1) (λ books. record books { catalogue = record books.catalogue { categories = books.catalogue.categories ++ x ∷ [] } })
     (λ books same s next more. with_categories _ _ books _ same s (has_pushed 2 named_columns books.catalogue.categories x n _ next (more _ s.categories)))
@@ -116,8 +117,8 @@ city_means = record { is = refl; plain = (refl, refl) }
 
 pub puts_city : (old new : State) (n : ℕ) (x : City) (count : ℕ) → ExecutesInside 0 insert_city (city_columns (n, x)) old new (Ok count)
     → Writes old new (λ books. n ≡ length books.catalogue.cities + 1) (λ books. record books { catalogue = record books.catalogue { cities = books.catalogue.cities ++ x ∷ [] } })
-puts_city old new n x count h =
-    writes_put shop_schema StandsFor city_table 3 (city_columns (n, x)) old new
+puts_city old new n x count h counts =
+    writes_put shop_schema (StandsWith counts) city_table 3 (city_columns (n, x)) old new
     (has_put shop_schema insert_city 4 city_table values_3 3 city_means (record { place = refl; uncounted = refl; unstamped = refl }) (city_columns (n, x)) (city_columns (n, x)) old new count h refl refl refl (λ id. refl))
     (λ books. n ≡ length books.catalogue.cities + 1) (λ books. record books { catalogue = record books.catalogue { cities = books.catalogue.cities ++ x ∷ [] } })
     (λ books same s next more. with_cities _ _ books _ same s (has_pushed 3 city_columns books.catalogue.cities x n _ next (more _ s.cities)))
@@ -131,8 +132,8 @@ actor_means = record { is = refl; plain = (refl, refl) }
 
 pub puts_actor : (old new : State) (n : ℕ) (x : Actor) (count : ℕ) → ExecutesInside 0 insert_actor (actor_columns (n, x)) old new (Ok count)
     → Writes old new (λ books. n ≡ length books.catalogue.actors + 1) (λ books. record books { catalogue = record books.catalogue { actors = books.catalogue.actors ++ x ∷ [] } })
-puts_actor old new n x count h =
-    writes_put shop_schema StandsFor actor_table 3 (actor_columns (n, x)) old new
+puts_actor old new n x count h counts =
+    writes_put shop_schema (StandsWith counts) actor_table 3 (actor_columns (n, x)) old new
     (has_put shop_schema insert_actor 5 actor_table values_3 3 actor_means (record { place = refl; uncounted = refl; unstamped = refl }) (actor_columns (n, x)) (actor_columns (n, x)) old new count h refl refl refl (λ id. refl))
     (λ books. n ≡ length books.catalogue.actors + 1) (λ books. record books { catalogue = record books.catalogue { actors = books.catalogue.actors ++ x ∷ [] } })
     (λ books same s next more. with_actors _ _ books _ same s (has_pushed 3 actor_columns books.catalogue.actors x n _ next (more _ s.actors)))
@@ -152,8 +153,8 @@ film_kept n x = kept_or_null x.minutes
 
 pub puts_film : (old new : State) (n : ℕ) (x : Film) (count : ℕ) → ExecutesInside 0 insert_film (film_columns (n, x)) old new (Ok count)
     → Writes old new (λ books. n ≡ length books.catalogue.films + 1) (λ books. record books { catalogue = record books.catalogue { films = books.catalogue.films ++ x ∷ [] } })
-puts_film old new n x count h =
-    writes_put shop_schema StandsFor film_table 12 (film_columns (n, x)) old new
+puts_film old new n x count h counts =
+    writes_put shop_schema (StandsWith counts) film_table 12 (film_columns (n, x)) old new
     (has_put shop_schema insert_film 6 film_table values_12 12 film_means (record { place = refl; uncounted = refl; unstamped = refl }) (film_columns (n, x)) (film_columns (n, x)) old new count h refl refl (film_kept n x) (λ id. refl))
     (λ books. n ≡ length books.catalogue.films + 1) (λ books. record books { catalogue = record books.catalogue { films = books.catalogue.films ++ x ∷ [] } })
     (λ books same s next more. with_films _ _ books _ same s (has_pushed 12 film_columns books.catalogue.films x n _ next (more _ s.films)))
@@ -167,8 +168,8 @@ cast_means = record { is = refl; plain = (refl, refl) }
 
 pub puts_cast : (old new : State) (x : Cast) (count : ℕ) → ExecutesInside 0 insert_cast (cast_columns x) old new (Ok count)
     → Writes old new (λ _. ⊤) (λ books. record books { catalogue = record books.catalogue { casts = books.catalogue.casts ++ x ∷ [] } })
-puts_cast old new x count h =
-    writes_put shop_schema StandsFor film_actor_table 2 (cast_columns x) old new
+puts_cast old new x count h counts =
+    writes_put shop_schema (StandsWith counts) film_actor_table 2 (cast_columns x) old new
     (has_put shop_schema insert_cast 7 film_actor_table values_2 2 cast_means (record { place = refl; uncounted = refl; unstamped = refl }) (cast_columns x) (cast_columns x) old new count h refl refl refl (λ id. refl))
     (λ _. ⊤) (λ books. record books { catalogue = record books.catalogue { casts = books.catalogue.casts ++ x ∷ [] } })
     (λ books same s given more. with_casts _ _ books _ same s (subst (HasRows 2 (new.now.trees 16)) (sym (map_push cast_columns books.catalogue.casts x)) (more _ s.casts)))
@@ -193,8 +194,8 @@ new_branch books n x none = ap (λ (ms : List Moment). branch_params n x ++ or_n
 
 pub puts_branch : (old new : State) (n : ℕ) (x : Branch) (count : ℕ) → ExecutesInside 0 insert_branch (branch_params n x) old new (Ok count)
     → Writes old new (λ books. (n ≡ length books.catalogue.branches + 1) × (owned_by n books.lasts ≡ [])) (λ books. record books { catalogue = record books.catalogue { branches = books.catalogue.branches ++ x ∷ [] } })
-puts_branch old new n x count h =
-    writes_put shop_schema StandsFor branch_table 8 (branch_columns [] (n, x)) old new
+puts_branch old new n x count h counts =
+    writes_put shop_schema (StandsWith counts) branch_table 8 (branch_columns [] (n, x)) old new
     (has_put shop_schema insert_branch 8 branch_table branch_terms 8 branch_means (record { place = refl; uncounted = refl; unstamped = refl }) (branch_params n x) (branch_columns [] (n, x)) old new count h refl refl (branch_kept n x) (λ id. refl))
     (λ books. (n ≡ length books.catalogue.branches + 1) × (owned_by n books.lasts ≡ [])) (λ books. record books { catalogue = record books.catalogue { branches = books.catalogue.branches ++ x ∷ [] } })
     (λ books same s given more. with_branches _ _ books _ books.lasts same s (has_pushed 8 (branch_columns books.lasts) books.catalogue.branches x n _ given.0
@@ -212,8 +213,8 @@ staff_means = record { is = refl; plain = (refl, refl) }
 
 pub puts_staff : (old new : State) (n : ℕ) (x : Staff) (count : ℕ) → ExecutesInside 0 insert_staff (staff_columns (n, x)) old new (Ok count)
     → Writes old new (λ books. n ≡ length books.catalogue.staff + 1) (λ books. record books { catalogue = record books.catalogue { staff = books.catalogue.staff ++ x ∷ [] } })
-puts_staff old new n x count h =
-    writes_put shop_schema StandsFor staff_table 9 (staff_columns (n, x)) old new
+puts_staff old new n x count h counts =
+    writes_put shop_schema (StandsWith counts) staff_table 9 (staff_columns (n, x)) old new
     (has_put shop_schema insert_staff 9 staff_table values_9 9 staff_means (record { place = refl; uncounted = refl; unstamped = refl }) (staff_columns (n, x)) (staff_columns (n, x)) old new count h refl refl refl (λ id. refl))
     (λ books. n ≡ length books.catalogue.staff + 1) (λ books. record books { catalogue = record books.catalogue { staff = books.catalogue.staff ++ x ∷ [] } })
     (λ books same s next more. with_staff _ _ books _ same s (has_pushed 9 staff_columns books.catalogue.staff x n _ next (more _ s.staff)))

@@ -1,7 +1,7 @@
 //! Statements on the tables of a branch that no request makes alone.
 use catalogue_store::put_opening;
 use shop_schema::create_tables;
-use shop_store::{customers_of, set_active};
+use shop_store::{CountKind, count_of, customers_of, set_active, take_number};
 use shop_types::{BranchNo, CustomerNo};
 use sqlite::{Alter, Connection};
 use std::alloc::Global;
@@ -40,5 +40,31 @@ fn customers_in_tables(rt: HostRuntime) -> Result<(), Fail> {
         return Err("a new database")?;
     };
     assert_eq!(rt; inactive(alloc, &mut conn)?, 1);
+    Ok(())
+}
+
+/// The next number of a kind of the first branch, twice, and then its count.
+fn taken<S: Alter>(conn: &mut Connection<S>) -> Result<(u32, u32, u32), &'static str> {
+    if !conn.is_autocommit() {
+        return Err("a transaction is open");
+    }
+    let branch = BranchNo::new(1).ok_or("the branch")?;
+    let mut tx = conn.transaction();
+    if create_tables(&mut tx).is_err() || put_opening(&mut tx).is_err() {
+        return Err("the opening rows");
+    }
+    let kind = CountKind::Rentals;
+    let first = take_number(&mut tx, branch, kind).ok().ok_or("the first")?;
+    let second = take_number(&mut tx, branch, kind).ok().ok_or("the second")?;
+    let count = count_of(&mut tx, branch, kind).ok().ok_or("the count")?;
+    Ok((first, second, count))
+}
+
+#[test]
+fn numbers_are_taken(rt: HostRuntime) -> Result<(), Fail> {
+    let Ok(mut conn) = Connection::open_in_memory(rt.alloc()) else {
+        return Err("a new database")?;
+    };
+    assert_eq!(rt; taken(&mut conn)?, (1, 2, 2));
     Ok(())
 }

@@ -42,7 +42,7 @@ act_same (Dispatch a xs) = rw (number_same a, bytes_same xs)
 act_same (Receive s n missing) = simp (number_same, bytes_same)
 act_same (Scrap x) = number_same x
 
-moment_same : (m : Moment) → same_moment m m ≡ true
+pub moment_same : (m : Moment) → same_moment m m ≡ true
 moment_same m = rw (number_same m.year, number_same m.month, number_same m.day, number_same m.hour, number_same m.minute, number_same m.second)
 
 command_same : (c : Command) → same_command c c ≡ true
@@ -101,7 +101,7 @@ flag_equal false false h = refl
 flag_equal true false h = cc
 flag_equal false true h = cc
 
-moment_equal : (a b : Moment) → same_moment a b ≡ true → a ≡ b
+pub moment_equal : (a b : Moment) → same_moment a b ≡ true → a ≡ b
 moment_equal a b h =
     let second = both (a.year == b.year && a.month == b.month && a.day == b.day && a.hour == b.hour && a.minute == b.minute) (a.second == b.second) h in
     let minute = both (a.year == b.year && a.month == b.month && a.day == b.day && a.hour == b.hour) (a.minute == b.minute) second.0 in

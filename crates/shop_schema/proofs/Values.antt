@@ -37,6 +37,8 @@ held_by_sound sizes books commands copies sound values = record {
   most_rentals = λ b. let few = (sound.shops b).keys in let fit = (sound.shops b).rentals_fit in omega arith;
   most_payments = λ b. let few = (sound.shops b).keys in let fit = (sound.shops b).payments_fit in omega arith;
   most_copies = λ b. let few = (sound.shops b).copies in omega arith;
+  most_office_kept = let few = sound.catalogue.keys_fit in omega arith;
+  out_once = λ b. (sound.held b).one;
 }
 
 -- ---- lists of which all items are such

@@ -1,5 +1,5 @@
--- The tables of version 1 as data, in the order in which they are made. A table's rows are in a tree of their own, and so are the entries of each
--- key. Columns are counted from 1, since the hidden rowid comes first.
+-- The tables of version 1 as data, in the order in which they are made, and then the indexes. A table's rows are in a tree of their own, and so are the
+-- entries of each key and of each index. Columns are counted from 1, since the hidden rowid comes first.
 use Rattle.std.specs.Prelude.{Bool, true, false, [], ◌∷◌, ◌++◌, None, codes, List, ℕ}
 use Rattle.sqlite.specs.declared.types.Value.TheVariants.{Null}
 use Rattle.sqlite_value.specs.declared.keys.Collation.TheVariants.{Binary}
@@ -25,6 +25,10 @@ reference_of columns parent parent_columns = record { columns = columns; parent 
 abbrev pub automatic_of : List ℕ → List ℕ → ℕ → ℕ → List ℕ → Index
 automatic_of name digits tree table columns =
     record { name = codes "sqlite_autoindex_" ++ (name ++ (codes "_" ++ digits)); tree = tree; table = table; columns = columns; order = plain; is_unique = true }
+
+-- an index that no key asks for
+abbrev pub index_of : List ℕ → ℕ → ℕ → List ℕ → Index
+index_of name tree table columns = record { name = name; tree = tree; table = table; columns = columns; order = plain; is_unique = false }
 
 abbrev pub chain_table : Table
 chain_table = record {
@@ -408,6 +412,44 @@ kept_table = record {
   is_counted = false;
 }
 
+abbrev pub counter_table : Table
+counter_table = record {
+  name = codes "counter";
+  tree = 41;
+  columns = column_of (codes "caller") Integer true
+      ∷ column_of (codes "kind") Integer true
+      ∷ column_of (codes "last") Integer true
+      ∷ [];
+  key = None;
+  primary = 1 ∷ 2 ∷ [];
+  uniques = (1 ∷ 2 ∷ []) ∷ [];
+  orders = plain ∷ [];
+  checks = [];
+  references = [];
+  computed = [];
+  stamps = record { places = []; terms = []; formats = [] };
+  is_counted = false;
+}
+
+abbrev pub out_copy_table : Table
+out_copy_table = record {
+  name = codes "out_copy";
+  tree = 43;
+  columns = column_of (codes "branch") Integer true
+      ∷ column_of (codes "copy") Integer true
+      ∷ column_of (codes "rental") Integer true
+      ∷ [];
+  key = None;
+  primary = 1 ∷ 2 ∷ [];
+  uniques = (1 ∷ 2 ∷ []) ∷ [];
+  orders = plain ∷ [];
+  checks = [];
+  references = reference_of (1 ∷ 2 ∷ []) (codes "copy") (codes "branch" ∷ codes "number" ∷ []) ∷ reference_of (1 ∷ 3 ∷ []) (codes "rental") (codes "branch" ∷ codes "number" ∷ []) ∷ [];
+  computed = [];
+  stamps = record { places = []; terms = []; formats = [] };
+  is_counted = false;
+}
+
 abbrev pub shop_schema : Schema
 shop_schema = record {
   tables = chain_table
@@ -428,6 +470,8 @@ shop_schema = record {
       ∷ consignment_table
       ∷ consignment_line_table
       ∷ kept_table
+      ∷ counter_table
+      ∷ out_copy_table
       ∷ [];
   indexes = automatic_of (codes "country") (codes "1") 2 1 (1 ∷ [])
       ∷ automatic_of (codes "country") (codes "2") 3 1 (2 ∷ [])
@@ -452,6 +496,11 @@ shop_schema = record {
       ∷ automatic_of (codes "consignment") (codes "2") 36 34 (4 ∷ [])
       ∷ automatic_of (codes "consignment_line") (codes "1") 38 37 (1 ∷ 2 ∷ 3 ∷ 4 ∷ [])
       ∷ automatic_of (codes "kept") (codes "1") 40 39 (1 ∷ 2 ∷ [])
+      ∷ automatic_of (codes "counter") (codes "1") 42 41 (1 ∷ 2 ∷ [])
+      ∷ automatic_of (codes "out_copy") (codes "1") 44 43 (1 ∷ 2 ∷ [])
+      ∷ index_of (codes "copy_film") 45 25 (1 ∷ 3 ∷ 2 ∷ [])
+      ∷ index_of (codes "rental_customer") 46 27 (1 ∷ 5 ∷ 2 ∷ [])
+      ∷ index_of (codes "payment_customer") 47 30 (1 ∷ 3 ∷ 2 ∷ [])
       ∷ [];
   views = [];
 }

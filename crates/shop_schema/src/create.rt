@@ -9,8 +9,8 @@ ghost use Rattle.shop_schema.specs.Shop.{IsShop, IsKeyed, HaveNoRows, IsNewShop,
 use sql_rows::{StoreFault, fault_of, make_tables};
 use sqlite::{Alter, Connection, Transaction};
 
-/// Each makes a table.
-const TEXTS: [&str; 18] = [
+/// Each makes a table, and then each an index.
+const TEXTS: [&str; 23] = [
     "CREATE TABLE chain (version INTEGER NOT NULL, office_token TEXT NOT NULL) STRICT",
     "CREATE TABLE country (number INT NOT NULL, name TEXT NOT NULL, PRIMARY KEY (number), UNIQUE (name)) STRICT",
     "CREATE TABLE language (number INT NOT NULL, name TEXT NOT NULL, PRIMARY KEY (number), UNIQUE (name)) STRICT",
@@ -29,6 +29,11 @@ const TEXTS: [&str; 18] = [
     "CREATE TABLE consignment (source INTEGER NOT NULL, addressee INTEGER NOT NULL, number INTEGER NOT NULL, place INTEGER NOT NULL, received INTEGER NOT NULL, PRIMARY KEY (source, addressee, number), UNIQUE (place), FOREIGN KEY (source) REFERENCES branch (number), FOREIGN KEY (addressee) REFERENCES branch (number)) STRICT",
     "CREATE TABLE consignment_line (source INTEGER NOT NULL, addressee INTEGER NOT NULL, number INTEGER NOT NULL, line INTEGER NOT NULL, film INTEGER NOT NULL, origin_branch INTEGER NOT NULL, origin_copy INTEGER NOT NULL, state INTEGER NOT NULL, PRIMARY KEY (source, addressee, number, line), FOREIGN KEY (source, addressee, number) REFERENCES consignment (source, addressee, number), FOREIGN KEY (film) REFERENCES film (number)) STRICT",
     "CREATE TABLE kept (caller INTEGER NOT NULL, \"key\" TEXT NOT NULL, command BLOB NOT NULL, reply TEXT NOT NULL, PRIMARY KEY (caller, \"key\")) STRICT",
+    "CREATE TABLE counter (caller INTEGER NOT NULL, kind INTEGER NOT NULL, last INTEGER NOT NULL, PRIMARY KEY (caller, kind)) STRICT",
+    "CREATE TABLE out_copy (branch INTEGER NOT NULL, copy INTEGER NOT NULL, rental INTEGER NOT NULL, PRIMARY KEY (branch, copy), FOREIGN KEY (branch, copy) REFERENCES copy (branch, number), FOREIGN KEY (branch, rental) REFERENCES rental (branch, number)) STRICT",
+    "CREATE INDEX copy_film ON copy (branch, film, number)",
+    "CREATE INDEX rental_customer ON rental (branch, customer, number)",
+    "CREATE INDEX payment_customer ON payment (branch, customer, number)",
 ];
 
 /// Makes the tables of version 1, with no rows, in a database that has none. Nothing is committed.

@@ -24,25 +24,19 @@ use Rattle.shop_model.proofs.RowLemmas.{row_at}
 use Rattle.shop_schema.specs.Columns.{copy_columns, lot_columns, state_value}
 use Rattle.shop_schema.specs.Tables.{shop_schema}
 use Rattle.shop_schema.specs.Held.{IsHeld}
-use Rattle.shop_schema.specs.Shop.{StandsFor, Reads, Writes}
+use Rattle.shop_schema.specs.Shop.{StandsFor, StandsWith, Reads, Writes}
 use Rattle.shop_schema.proofs.SameRows.{same_copy}
 use Rattle.shop_schema.proofs.Lists.{picks_row}
 use Rattle.shop_store.specs.Seen.{seen_copy_row}
 use Rattle.shop_store.specs.declared.copies.CopyRow.{CopyRow}
 use Rattle.shop_store.proofs.Rising.{Rise, counted_rise, filter_rise, rise_differ, rise_sorted, filter_twice}
-use Rattle.shop_store.proofs.CopyTexts.{insert_copy, puts_copy, select_copy, select_copy_means, shows_copy, is_of_film, select_of_film, of_film_means, shows_of_film, update_state, sets_state, count_copies, count_copies_means, counts_copies, insert_lot, puts_lot, select_lot, select_lot_means, is_lot, shows_lot}
-
-pub read_count : (old new : State) (b count : ℕ) (rows : List sql.Row) → Shown count_copies (number_value b ∷ []) old new rows → count ≡ length rows → Reads old new (λ books. count ≡ length (of b books.copies))
-read_count old new b count rows h is = λ books holds held. (
-  still_holds shop_schema StandsFor count_copies _ old new count_copies_means.plain rows h books holds,
-  is ∙ counts_copies old new b rows books holds.schema_is h holds.stands ∙ sym (length-map (λ (row : Row BookCopy). row.it) (filter (is_of b) books.copies)),
-)
+use Rattle.shop_store.proofs.CopyTexts.{insert_copy, puts_copy, select_copy, select_copy_means, shows_copy, is_of_film, select_of_film, of_film_means, shows_of_film, update_state, sets_state, insert_lot, puts_lot, select_lot, select_lot_means, is_lot, shows_lot}
 
 pub write_copy : (old new : State) (c : Row BookCopy) (count : ℕ) → ExecutesInside 0 insert_copy (copy_columns c) old new (Ok count) → Writes old new (λ _. ⊤) (λ books. record books { copies = books.copies ++ c ∷ [] })
-write_copy old new c count h = writes_by shop_schema StandsFor old new _ _ (λ shop. puts_copy old new c count shop h)
+write_copy old new c count h counts = writes_by shop_schema (StandsWith counts) old new _ _ (λ shop. puts_copy counts old new c count shop h)
 
 pub write_lot : (old new : State) (lot : Owned model.Text) (count : ℕ) → ExecutesInside 0 insert_lot (lot_columns lot) old new (Ok count) → Writes old new (λ _. ⊤) (λ books. record books { lots = books.lots ++ lot ∷ [] })
-write_lot old new lot count h = writes_by shop_schema StandsFor old new _ _ (λ shop. puts_lot old new lot count shop h)
+write_lot old new lot count h counts = writes_by shop_schema (StandsWith counts) old new _ _ (λ shop. puts_lot counts old new lot count shop h)
 
 -- ---- a lot of the name
 
@@ -119,5 +113,5 @@ read_of_film old new b film rows seen (Ok all) h same read = λ books holds held
 
 pub write_state : (old new : State) (b n : ℕ) (to : model.CopyState) (count : ℕ) → ExecutesInside 0 update_state (number_value b ∷ number_value n ∷ state_value to ∷ []) old new (Ok count)
     → Writes old new IsHeld (λ books. record books { copies = set_row b n (put_state to) books.copies })
-write_state old new b n to count h = λ books holds held.
-    writes_by shop_schema StandsFor old new (λ them. PicksOne (is_row b n) them.copies) _ (λ shop. sets_state old new b n to count shop h) books holds (picks_row b books.copies (held.numbers.copies b) n)
+write_state old new b n to count h = λ counts books holds held.
+    writes_by shop_schema (StandsWith counts) old new (λ them. PicksOne (is_row b n) them.copies) _ (λ shop. sets_state counts old new b n to count shop h) books holds (picks_row b books.copies (held.numbers.copies b) n)

@@ -20,7 +20,7 @@ use Rattle.sql_rows.specs.Builds.{Means}
 use Rattle.sql_rows.specs.Rows.{HasRows, by, Differ, PicksOne, number_value}
 use Rattle.sql_rows.proofs.Appends.{map_push, are_kept}
 use Rattle.sql_rows.proofs.Queries.{Selects, plain_query}
-use Rattle.sql_rows.proofs.ColumnTests.{number_test, number_tested, text_test, text_tested, one_tested, two_tested}
+use Rattle.sql_rows.proofs.ColumnTests.{number_test, number_tested, text_test, text_tested, two_tested}
 use Rattle.sql_rows.proofs.Projects.{projects_count}
 use Rattle.sql_rows.proofs.Steps.{puts_row, selects_one, selects_sorted, sets_row}
 use Rattle.shop_model.specs.Rows.{Row, Owned, is_of, is_row}
@@ -29,9 +29,10 @@ use Rattle.shop_model.specs.Values.{CopyState, Here, Sent, Scrapped}
 use Rattle.shop_model.specs.Books.{Books, BookCopy}
 use Rattle.shop_schema.specs.Tables.{shop_schema, copy_table, lot_table}
 use Rattle.shop_schema.specs.Columns.{copy_columns, lot_columns, state_value}
-use Rattle.shop_schema.specs.Shop.{StandsFor, IsShop, Changes}
+use Rattle.shop_schema.specs.Shop.{StandsFor, StandsWith, IsShop, Changes}
+use Rattle.shop_schema.specs.Counts.{Counts}
 use Rattle.shop_schema.proofs.Stands.{with_copies, with_lots}
-use Rattle.shop_store.proofs.CustomerTexts.{of_one, of_two}
+use Rattle.shop_store.proofs.CustomerTexts.{of_two}
 
 -- ---- copies
 
@@ -54,25 +55,12 @@ kept_copy c = go c.it.state
     go Sent = refl
     go Scrapped = refl
 
-pub puts_copy : (old new : State) (c : Row BookCopy) (count : ℕ) → IsShop old → ExecutesInside 0 insert_copy (copy_columns c) old new (Ok count)
-    → Changes old new (λ _. ⊤) (λ books. record books { copies = books.copies ++ c ∷ [] })
-puts_copy old new c count has h =
-    puts_row shop_schema StandsFor insert_copy 11 copy_table values_6 6 insert_copy_means (record { place = refl; uncounted = refl; unstamped = refl })
+pub puts_copy : (counts : Counts) (old new : State) (c : Row BookCopy) (count : ℕ) → IsShop old → ExecutesInside 0 insert_copy (copy_columns c) old new (Ok count)
+    → Changes counts old new (λ _. ⊤) (λ books. record books { copies = books.copies ++ c ∷ [] })
+puts_copy counts old new c count has h =
+    puts_row shop_schema (StandsWith counts) insert_copy 11 copy_table values_6 6 insert_copy_means (record { place = refl; uncounted = refl; unstamped = refl })
     (copy_columns c) old new count has h refl refl (kept_copy c) (λ id. refl) (λ books. record books { copies = books.copies ++ c ∷ [] })
     (λ books same s more. with_copies _ _ books _ same s (subst (HasRows 6 (new.now.trees 25)) (sym (map_push copy_columns books.copies c)) (more _ s.copies)))
-
-abbrev pub count_copies : List ℕ
-count_copies = codes "SELECT number FROM copy WHERE branch = ?1"
-
-pub count_copies_means : Selects shop_schema count_copies (plain_query 25 of_one (col 1 2 ∷ []) [])
-unfolding understood everything
-count_copies_means = record { names = _; is = refl; plain = (refl, refl); unlisted = refl }
-
-pub counts_copies : (old new : State) (b : ℕ) (rows : List sql.Row) (books : Books) → IsShop old → Shown count_copies (number_value b ∷ []) old new rows → StandsFor old.now.trees books
-    → length rows ≡ length (filter (is_of b) books.copies)
-counts_copies old new b rows books has h s =
-    projects_count shop_schema count_copies 25 6 of_one (col 1 2 ∷ []) count_copies_means (number_value b ∷ []) old new rows has h copy_columns books.copies s.copies refl
-    (λ vs. number_test 0 b vs && true) (λ vs. column vs 1 ∷ []) (is_of b) (λ c. one_tested _ (number_tested c.branch b)) (λ r. refl)
 
 abbrev pub shown_6 : List Term
 shown_6 = col 1 1 ∷ col 1 2 ∷ col 1 3 ∷ col 1 4 ∷ col 1 5 ∷ col 1 6 ∷ []
@@ -128,10 +116,10 @@ update_state_means = record { is = refl; plain = (refl, refl) }
 abbrev pub with_state : CopyState → Row BookCopy → Row BookCopy
 with_state new row = record row { it = record row.it { state = new } }
 
-pub sets_state : (old new : State) (b n : ℕ) (to : CopyState) (count : ℕ) → IsShop old → ExecutesInside 0 update_state (number_value b ∷ number_value n ∷ state_value to ∷ []) old new (Ok count)
-    → Changes old new (λ books. PicksOne (is_row b n) books.copies) (λ books. record books { copies = update_where (is_row b n) (with_state to) books.copies })
-sets_state old new b n to count has h =
-    sets_row shop_schema StandsFor update_state 11 copy_table 6 of_two state_terms (number_value b ∷ number_value n ∷ state_value to ∷ []) copy_columns
+pub sets_state : (counts : Counts) (old new : State) (b n : ℕ) (to : CopyState) (count : ℕ) → IsShop old → ExecutesInside 0 update_state (number_value b ∷ number_value n ∷ state_value to ∷ []) old new (Ok count)
+    → Changes counts old new (λ books. PicksOne (is_row b n) books.copies) (λ books. record books { copies = update_where (is_row b n) (with_state to) books.copies })
+sets_state counts old new b n to count has h =
+    sets_row shop_schema (StandsWith counts) update_state 11 copy_table 6 of_two state_terms (number_value b ∷ number_value n ∷ state_value to ∷ []) copy_columns
     (λ vs. number_test 0 b vs && (number_test 1 n vs && true)) (is_row b n)
     (λ vs. column vs 0 ∷ column vs 1 ∷ column vs 2 ∷ state_value to ∷ column vs 4 ∷ column vs 5 ∷ []) (with_state to)
     (copy_key_test b n) (λ c. refl) (λ c. kept_copy (with_state to c)) old new has update_state_means refl refl count h refl (λ r. refl) (λ r. refl) (λ r. refl) (λ r. refl) (λ v vs. refl)
@@ -150,10 +138,10 @@ pub insert_lot_means : Means shop_schema insert_lot (Insert 14 (Values values_2 
 unfolding understood everything
 insert_lot_means = record { is = refl; plain = (refl, refl) }
 
-pub puts_lot : (old new : State) (lot : Owned model.Text) (count : ℕ) → IsShop old → ExecutesInside 0 insert_lot (lot_columns lot) old new (Ok count)
-    → Changes old new (λ _. ⊤) (λ books. record books { lots = books.lots ++ lot ∷ [] })
-puts_lot old new lot count has h =
-    puts_row shop_schema StandsFor insert_lot 14 lot_table values_2 2 insert_lot_means (record { place = refl; uncounted = refl; unstamped = refl })
+pub puts_lot : (counts : Counts) (old new : State) (lot : Owned model.Text) (count : ℕ) → IsShop old → ExecutesInside 0 insert_lot (lot_columns lot) old new (Ok count)
+    → Changes counts old new (λ _. ⊤) (λ books. record books { lots = books.lots ++ lot ∷ [] })
+puts_lot counts old new lot count has h =
+    puts_row shop_schema (StandsWith counts) insert_lot 14 lot_table values_2 2 insert_lot_means (record { place = refl; uncounted = refl; unstamped = refl })
     (lot_columns lot) old new count has h refl refl refl (λ id. refl) (λ books. record books { lots = books.lots ++ lot ∷ [] })
     (λ books same s more. with_lots _ _ books _ same s (subst (HasRows 2 (new.now.trees 32)) (sym (map_push lot_columns books.lots lot)) (more _ s.lots)))
 

@@ -22,12 +22,12 @@ use Rattle.shop_schema.specs.Columns.{customer_columns}
 use Rattle.shop_schema.specs.RowValues.{IsRow, IsCustomer}
 use Rattle.shop_schema.specs.Tables.{shop_schema}
 use Rattle.shop_schema.specs.Held.{IsHeld}
-use Rattle.shop_schema.specs.Shop.{StandsFor, Reads, Writes}
+use Rattle.shop_schema.specs.Shop.{StandsFor, StandsWith, Reads, Writes}
 use Rattle.shop_schema.proofs.SameRows.{same_customer}
 use Rattle.shop_schema.proofs.Lists.{numbers_differ, picks_row, in_order}
 use Rattle.shop_store.specs.Seen.{seen_row}
 use Rattle.shop_store.specs.declared.customers.CustomerRow.{CustomerRow}
-use Rattle.shop_store.proofs.CustomerTexts.{insert_customer, puts_customer, select_customers, selects_means, shows_customers, select_customer, select_means, shows_customer, count_customers, counts_means, counts_customers, update_active, sets_active}
+use Rattle.shop_store.proofs.CustomerTexts.{insert_customer, puts_customer, select_customers, selects_means, shows_customers, select_customer, select_means, shows_customer, update_active, sets_active}
 
 all_seen : (P : Row Customer → Type 0) (xs : List CustomerRow) → AllByRecursion (λ x. P (seen_row x)) xs → AllByRecursion P (map seen_row xs)
 all_seen P [] h = tt
@@ -79,16 +79,10 @@ read_customer old new b n rows seen (Ok o) h same read kind = λ books holds hel
           ∙ row_at (λ (it : Customer). it) b n books.customers counted ∙ ap (at n) (map-id (of b books.customers)),
     )
 
-pub read_count : (old new : State) (b count : ℕ) (rows : List sql.Row) → Shown count_customers (number_value b ∷ []) old new rows → count ≡ length rows → Reads old new (λ books. count ≡ length (of b books.customers))
-read_count old new b count rows h is = λ books holds held. (
-  still_holds shop_schema StandsFor count_customers _ old new counts_means.plain rows h books holds,
-  is ∙ counts_customers old new b rows books holds.schema_is h holds.stands ∙ sym (length-map (λ (row : Row Customer). row.it) (filter (is_of b) books.customers)),
-)
-
 pub write_customer : (old new : State) (c : Row Customer) (count : ℕ) → ExecutesInside 0 insert_customer (customer_columns c) old new (Ok count) → Writes old new (λ _. ⊤) (λ books. record books { customers = books.customers ++ c ∷ [] })
-write_customer old new c count h = writes_by shop_schema StandsFor old new _ _ (λ shop. puts_customer old new c count shop h)
+write_customer old new c count h counts = writes_by shop_schema (StandsWith counts) old new _ _ (λ shop. puts_customer counts old new c count shop h)
 
 pub write_active : (old new : State) (b n : ℕ) (active : Bool) (count : ℕ) → ExecutesInside 0 update_active (number_value b ∷ number_value n ∷ flag_value active ∷ []) old new (Ok count)
     → Writes old new IsHeld (λ books. record books { customers = set_row b n (λ it. record it { active = active }) books.customers })
-write_active old new b n active count h = λ books holds held.
-    writes_by shop_schema StandsFor old new (λ them. PicksOne (is_row b n) them.customers) _ (λ shop. sets_active old new b n active count shop h) books holds (picks_row b books.customers (held.numbers.customers b) n)
+write_active old new b n active count h = λ counts books holds held.
+    writes_by shop_schema (StandsWith counts) old new (λ them. PicksOne (is_row b n) them.customers) _ (λ shop. sets_active counts old new b n active count shop h) books holds (picks_row b books.customers (held.numbers.customers b) n)

@@ -1,4 +1,4 @@
-use Rattle.std.proofs.Common.{◌≡◌, ◌&&◌, ℕ, List, [], ◌∷◌, ◌++◌, codes, map, filter, length, Bool, true, Ok, refl, sym, subst}
+use Rattle.std.proofs.Common.{◌≡◌, ◌&&◌, ℕ, List, [], ◌∷◌, ◌++◌, codes, map, filter, Bool, true, Ok, refl, sym, subst}
 use Rattle.std.specs.Prelude.{⊤}
 use Rattle.sqlite.specs.declared.types.Value.TheVariants.{Null}
 use Rattle.sqlite_value.specs.Order as sql
@@ -19,14 +19,14 @@ use Rattle.sql_rows.specs.Rows.{HasRows, by, Differ, PicksOne, number_value, fla
 use Rattle.sql_rows.proofs.Appends.{map_push}
 use Rattle.sql_rows.proofs.Queries.{Selects, plain_query}
 use Rattle.sql_rows.proofs.ColumnTests.{number_test, number_tested, one_tested, two_tested}
-use Rattle.sql_rows.proofs.Projects.{projects_count}
 use Rattle.sql_rows.proofs.Steps.{puts_row, selects_one, selects_sorted, sets_row}
 use Rattle.shop_model.specs.Rows.{Row, is_of, is_row}
 use Rattle.shop_model.specs.Values.{Customer}
 use Rattle.shop_model.specs.Books.{Books}
 use Rattle.shop_schema.specs.Tables.{shop_schema, customer_table}
 use Rattle.shop_schema.specs.Columns.{customer_columns}
-use Rattle.shop_schema.specs.Shop.{StandsFor, IsShop, Changes}
+use Rattle.shop_schema.specs.Shop.{StandsFor, StandsWith, IsShop, Changes}
+use Rattle.shop_schema.specs.Counts.{Counts}
 use Rattle.shop_schema.proofs.Stands.{with_customers}
 
 abbrev pub insert_customer : List ℕ
@@ -39,10 +39,10 @@ pub insert_means : Means shop_schema insert_customer (Insert 10 (Values values_1
 unfolding understood everything
 insert_means = record { is = refl; plain = (refl, refl) }
 
-pub puts_customer : (old new : State) (c : Row Customer) (count : ℕ) → IsShop old → ExecutesInside 0 insert_customer (customer_columns c) old new (Ok count)
-    → Changes old new (λ _. ⊤) (λ books. record books { customers = books.customers ++ c ∷ [] })
-puts_customer old new c count has h =
-    puts_row shop_schema StandsFor insert_customer 10 customer_table values_10 10 insert_means (record { place = refl; uncounted = refl; unstamped = refl })
+pub puts_customer : (counts : Counts) (old new : State) (c : Row Customer) (count : ℕ) → IsShop old → ExecutesInside 0 insert_customer (customer_columns c) old new (Ok count)
+    → Changes counts old new (λ _. ⊤) (λ books. record books { customers = books.customers ++ c ∷ [] })
+puts_customer counts old new c count has h =
+    puts_row shop_schema (StandsWith counts) insert_customer 10 customer_table values_10 10 insert_means (record { place = refl; uncounted = refl; unstamped = refl })
     (customer_columns c) old new count has h refl refl refl (λ id. refl) (λ books. record books { customers = books.customers ++ c ∷ [] })
     (λ books same s more. with_customers _ _ books _ same s (subst (HasRows 10 (new.now.trees 23)) (sym (map_push customer_columns books.customers c)) (more _ s.customers)))
 
@@ -86,19 +86,6 @@ shows_customers old new b rows books has h s apart =
     selects_sorted shop_schema select_customers 23 10 of_one shown_10 1 selects_means (number_value b ∷ []) old new rows has h customer_columns books.customers s.customers refl
     (λ vs. number_test 0 b vs && true) (is_of b) (λ c. one_tested _ (number_tested c.branch b)) (λ r. refl) (λ c. c.number) (λ c. refl) apart
 
-abbrev pub count_customers : List ℕ
-count_customers = codes "SELECT number FROM customer WHERE branch = ?1"
-
-pub counts_means : Selects shop_schema count_customers (plain_query 23 of_one (col 1 2 ∷ []) [])
-unfolding understood everything
-counts_means = record { names = _; is = refl; plain = (refl, refl); unlisted = refl }
-
-pub counts_customers : (old new : State) (b : ℕ) (rows : List sql.Row) (books : Books) → IsShop old → Shown count_customers (number_value b ∷ []) old new rows → StandsFor old.now.trees books
-    → length rows ≡ length (filter (is_of b) books.customers)
-counts_customers old new b rows books has h s =
-    projects_count shop_schema count_customers 23 10 of_one (col 1 2 ∷ []) counts_means (number_value b ∷ []) old new rows has h customer_columns books.customers s.customers refl
-    (λ vs. number_test 0 b vs && true) (λ vs. column vs 1 ∷ []) (is_of b) (λ c. one_tested _ (number_tested c.branch b)) (λ r. refl)
-
 -- ---- an update
 
 abbrev pub update_active : List ℕ
@@ -114,10 +101,10 @@ update_means = record { is = refl; plain = (refl, refl) }
 abbrev pub with_active : Bool → Row Customer → Row Customer
 with_active active row = record row { it = record row.it { active = active } }
 
-pub sets_active : (old new : State) (b n : ℕ) (active : Bool) (count : ℕ) → IsShop old → ExecutesInside 0 update_active (number_value b ∷ number_value n ∷ flag_value active ∷ []) old new (Ok count)
-    → Changes old new (λ books. PicksOne (is_row b n) books.customers) (λ books. record books { customers = update_where (is_row b n) (with_active active) books.customers })
-sets_active old new b n active count has h =
-    sets_row shop_schema StandsFor update_active 10 customer_table 10 of_two active_terms (number_value b ∷ number_value n ∷ flag_value active ∷ []) customer_columns
+pub sets_active : (counts : Counts) (old new : State) (b n : ℕ) (active : Bool) (count : ℕ) → IsShop old → ExecutesInside 0 update_active (number_value b ∷ number_value n ∷ flag_value active ∷ []) old new (Ok count)
+    → Changes counts old new (λ books. PicksOne (is_row b n) books.customers) (λ books. record books { customers = update_where (is_row b n) (with_active active) books.customers })
+sets_active counts old new b n active count has h =
+    sets_row shop_schema (StandsWith counts) update_active 10 customer_table 10 of_two active_terms (number_value b ∷ number_value n ∷ flag_value active ∷ []) customer_columns
     (λ vs. number_test 0 b vs && (number_test 1 n vs && true)) (is_row b n)
     (λ vs. column vs 0 ∷ column vs 1 ∷ column vs 2 ∷ column vs 3 ∷ column vs 4 ∷ column vs 5 ∷ column vs 6 ∷ column vs 7 ∷ flag_value active ∷ column vs 9 ∷ []) (with_active active)
     (key_test b n) (λ c. refl) (λ c. refl) old new has update_means refl refl count h refl (λ r. refl) (λ r. refl) (λ r. refl) (λ r. refl) (λ v vs. refl)

@@ -22,8 +22,8 @@ use Rattle.sql_rows.specs.Rows.{HasRows, PicksOne, columns_of, number_value}
 use Rattle.sql_rows.proofs.Appends.{map_push}
 use Rattle.sql_rows.proofs.Bags.{length-map}
 use Rattle.sql_rows.proofs.Queries.{Selects, plain_query}
-use Rattle.sql_rows.proofs.ColumnTests.{and_true, number_test, number_tested, text_test, text_tested, two_tested}
-use Rattle.sql_rows.proofs.Projects.{projects_one, projects_count, still_holds, writes_by}
+use Rattle.sql_rows.proofs.ColumnTests.{number_test, number_tested, text_test, text_tested, two_tested}
+use Rattle.sql_rows.proofs.Projects.{projects_one, still_holds, writes_by}
 use Rattle.sql_rows.proofs.Steps.{puts_row}
 use Rattle.shop_model.specs.Rows.{Owned, owned_by}
 use Rattle.shop_model.specs.Values.{Command}
@@ -33,7 +33,7 @@ use Rattle.shop_schema.specs.Tables.{shop_schema, kept_table}
 use Rattle.shop_schema.specs.Columns.{kept_columns, office_kept_columns, kept_rows}
 use Rattle.shop_schema.specs.Forms.{command_form}
 use Rattle.shop_schema.specs.Held.{IsHeld}
-use Rattle.shop_schema.specs.Shop.{StandsFor, Holds, Reads, Writes}
+use Rattle.shop_schema.specs.Shop.{StandsFor, StandsWith, Holds, Reads, Writes}
 use Rattle.shop_schema.proofs.Stands.{with_kept}
 use Rattle.shop_store.specs.Seen.{stored_kept}
 use Rattle.shop_schema.proofs.Different.{different_once}
@@ -67,10 +67,10 @@ module _ (old new : State) (b : ℕ) (command : Command) (key form reply : List 
       (IsPermutation-trans _ _ _ has (put_between (map kept_columns kept) (map office_kept_columns office) (kept_columns kept_row)))
 
   pub puts_kept : (count : ℕ) → command.key ≡ key → command_form command ≡ form → ExecutesInside 0 insert_kept (number_value b ∷ Text key ∷ Blob form ∷ Text reply ∷ []) old new (Ok count) → Writes old new (λ _. ⊤) with_row
-  puts_kept count is_key is_form h =
+  puts_kept count is_key is_form h counts =
       let ran : ExecutesInside 0 insert_kept (kept_columns kept_row) old new (Ok count) = subst (λ (row : sql.Row). ExecutesInside 0 insert_kept row old new (Ok count)) (λ i. number_value b ∷ Text (sym is_key i) ∷ Blob (sym is_form i) ∷ Text reply ∷ []) h in
-      writes_by shop_schema StandsFor old new (λ _. ⊤) with_row (λ has.
-      puts_row shop_schema StandsFor insert_kept 17 kept_table values_4 4 insert_kept_means (record { place = refl; uncounted = refl; unstamped = refl })
+      writes_by shop_schema (StandsWith counts) old new (λ _. ⊤) with_row (λ has.
+      puts_row shop_schema (StandsWith counts) insert_kept 17 kept_table values_4 4 insert_kept_means (record { place = refl; uncounted = refl; unstamped = refl })
       (kept_columns kept_row) old new count has ran refl refl refl (λ id. refl) with_row
       (λ books same s more. with_kept _ _ books (books.kept ++ kept_row ∷ []) books.catalogue.kept same s (row_put _ books.kept books.catalogue.kept (more _ s.kept))))
 
@@ -132,31 +132,6 @@ owned_picked b p (row ∷ kept) = go (row.owner == b) (owned_picked b p kept)
     go false more = more
 
 -- ---- how many
-
-abbrev pub select_callers : List ℕ
-select_callers = codes "SELECT caller FROM kept WHERE caller = ?1"
-
-abbrev of_caller : List Term
-of_caller = op2 (Compare Eq Binary) (col 1 1) (col 0 0) ∷ []
-
-pub select_callers_means : Selects shop_schema select_callers (plain_query 39 of_caller (col 1 1 ∷ []) [])
-unfolding understood everything
-select_callers_means = record { names = _; is = refl; plain = (refl, refl); unlisted = refl }
-
-pub counts_kept : (old new : State) (b : ℕ) (rows : List sql.Row) → Shown select_callers (number_value b ∷ []) old new rows → 1 ≤ b → Reads old new (λ books. length rows ≡ length (owned_by b books.kept))
-counts_kept old new b rows h low books holds held = (
-  still_holds shop_schema StandsFor select_callers (number_value b ∷ []) old new select_callers_means.plain rows h books holds,
-  projects_count shop_schema select_callers 39 4 of_caller (col 1 1 ∷ []) select_callers_means (number_value b ∷ []) old new rows holds.schema_is h
-      (λ vs. vs) all (subst (HasRows 4 (old.now.trees 39)) (sym (as_it_is all)) holds.stands.kept) refl (λ vs. number_test 0 b vs && true) (λ vs. column vs 0 ∷ []) (λ vs. number_test 0 b vs && true)
-      (λ vs. refl) (λ r. refl)
-      ∙ ap length (kept_picked b low (λ _. true) (λ _. true) (λ row. ap (λ t. t && true) (number_tested row.owner b)) books.kept books.catalogue.kept)
-      ∙ length-map kept_columns (filter (λ row. row.owner == b && true) books.kept)
-      ∙ ap length (filter_same (λ (row : Owned Kept). row.owner == b && true) (is_of_branch b) (λ row. and_true (row.owner == b)) books.kept)
-      ∙ sym (length-map (λ (row : Owned Kept). row.it) (filter (is_of_branch b) books.kept)),
-)
-  where
-    all : List sql.Row
-    all = kept_rows books.kept books.catalogue.kept
 
 -- ---- one, by its key
 

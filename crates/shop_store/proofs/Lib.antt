@@ -1,5 +1,4 @@
 pub mod Rising
-pub mod LastNumbers
 pub mod CustomerTexts
 pub mod CustomerReads
 pub mod CopyTexts
@@ -8,5 +7,11 @@ pub mod BranchTexts
 pub mod KeptTexts
 pub mod RentalTexts
 pub mod RentalReads
+pub mod SameRentals
 pub mod PaymentTexts
 pub mod PaymentReads
+pub mod CountTexts
+pub mod CountsOf
+pub mod Outs
+pub mod CountLemmas
+pub mod Agreeing

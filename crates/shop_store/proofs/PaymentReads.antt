@@ -1,6 +1,6 @@
 -- What the texts of payments say of the books.
-use Rattle.std.proofs.Common.{◌≡◌, ◌==◌, ◌+◌, ℕ, List, [], ◌∷◌, ◌++◌, map, filter, length, Ok, Err, Result, sym, ap, ◌∙◌, arith}
-use Rattle.std.specs.Prelude.{⊤, Vec, IfOk, Some, None, slice_get}
+use Rattle.std.proofs.Common.{◌≡◌, ◌==◌, ℕ, List, [], ◌∷◌, ◌++◌, map, filter, Ok, Err, Result, sym, ap, ◌∙◌}
+use Rattle.std.specs.Prelude.{⊤, Vec, IfOk}
 use Rattle.std.specs.List.{AllByRecursion}
 use Rattle.std.specs.declared.alloc.Global.{Global}
 use Rattle.sqlite_value.specs.Order as sql
@@ -10,25 +10,21 @@ use Rattle.sqlite_keyed.specs.Lists.{sort_by}
 use Rattle.sqlite_keyed.proofs.ListLemmas.{map-map}
 use Rattle.sql_rows.specs.Rows.{by, number_value}
 use Rattle.sql_rows.specs.declared.fault.StoreFault.{StoreFault}
-use Rattle.sql_rows.proofs.Bags.{length-map}
 use Rattle.sql_rows.proofs.OfKind.{unmapped_kind, all_in_order}
 use Rattle.sql_rows.proofs.Projects.{still_holds, writes_by}
 use Rattle.shop_model.specs.Rows.{Row, is_of, of}
 use Rattle.shop_model.specs.Values.{Payment}
-use Rattle.shop_model.specs.Books.{Books}
 use Rattle.shop_types.specs.Seen.{seen_payment}
 use Rattle.shop_schema.specs.Columns.{payment_columns}
 use Rattle.shop_schema.specs.RowValues.{IsRow, IsPayment}
 use Rattle.shop_schema.specs.Tables.{shop_schema}
-use Rattle.shop_schema.specs.Held.{IsHeld}
-use Rattle.shop_schema.specs.Shop.{StandsFor, Holds, Reads, Writes}
+use Rattle.shop_schema.specs.Shop.{StandsFor, StandsWith, Reads, Writes}
 use Rattle.shop_schema.proofs.SameRows.{same_payment}
 use Rattle.shop_schema.proofs.Lists.{numbers_differ, in_order}
 use Rattle.shop_store.specs.Seen.{seen_payment_row}
 use Rattle.shop_store.specs.declared.payments.PaymentRow.{PaymentRow}
-use Rattle.shop_store.proofs.Rising.{rise_ascending, counted_rise, which_differ, which_order}
-use Rattle.shop_store.proofs.LastNumbers.{last_of, none_last, some_last}
-use Rattle.shop_store.proofs.PaymentTexts.{insert_payment, puts_payment, select_of_customer, of_customer_means, shows_of_customer, is_of_customer, select_last, last_means, shows_last, select_payments, payments_mean, shows_payments}
+use Rattle.shop_store.proofs.Rising.{which_differ, which_order}
+use Rattle.shop_store.proofs.PaymentTexts.{insert_payment, puts_payment, select_of_customer, of_customer_means, shows_of_customer, is_of_customer, select_payments, payments_mean, shows_payments}
 
 all_seen : (P : Row Payment → Type 0) (xs : List PaymentRow) → AllByRecursion (λ x. P (seen_payment_row x)) xs → AllByRecursion P (map seen_payment_row xs)
 all_seen P [] h = tt
@@ -68,29 +64,5 @@ read_payments old new b rows seen (Ok all) h same read kinds = λ books holds he
 
 -- ---- the last number
 
--- what the first row tells
-pub read_last : (old new : State) (b : ℕ) (rows : List sql.Row) → Shown select_last (number_value b ∷ []) old new rows
-    → (slice_get rows 0 ≡ None → Reads old new (λ books. 0 ≡ length (of b books.payments)))
-    × ((row : sql.Row) (n : ℕ) → slice_get rows 0 ≡ Some row → column row 0 ≡ number_value n → Reads old new (λ books. n ≡ length (of b books.payments)))
-read_last old new b rows h = (
-  λ none books holds held. (still books holds, sym (as_many books ∙ none_last (own books) (first books holds held ∙ none))),
-  λ row n some is books holds held. (still books holds, told books n (some_last 1 (own books) row n (held.numbers.payments b) (first books holds held ∙ some) is)),
-)
-  where
-    own : Books → List (Row Payment)
-    own books = filter (is_of b) books.payments
-
-    still : (books : Books) → Holds old books → Holds new books
-    still = still_holds shop_schema StandsFor select_last (number_value b ∷ []) old new last_means.plain rows h
-
-    as_many : (books : Books) → length (of b books.payments) ≡ length (own books)
-    as_many books = length-map (λ (row : Row Payment). row.it) (own books)
-
-    told : (books : Books) (n : ℕ) → n + 1 ≡ 1 + length (own books) → n ≡ length (of b books.payments)
-    told books n past = let many = as_many books in omega (arith, past, many)
-
-    first : (books : Books) → Holds old books → IsHeld books → slice_get (last_of (own books)) 0 ≡ slice_get rows 0
-    first books holds held = ap (λ rs. slice_get rs 0) (sym (shows_last old new b rows books holds.schema_is h holds.stands (rise_ascending (own books) (counted_rise 1 (own books) (held.numbers.payments b)))))
-
 pub write_payment : (old new : State) (c : Row Payment) (count : ℕ) → ExecutesInside 0 insert_payment (payment_columns c) old new (Ok count) → Writes old new (λ _. ⊤) (λ books. record books { payments = books.payments ++ c ∷ [] })
-write_payment old new c count h = writes_by shop_schema StandsFor old new _ _ (λ shop. puts_payment old new c count shop h)
+write_payment old new c count h counts = writes_by shop_schema (StandsWith counts) old new _ _ (λ shop. puts_payment counts old new c count shop h)

@@ -1,5 +1,5 @@
 -- The texts of payments.
-use Rattle.std.proofs.Common.{◌≡◌, ◌==◌, ◌&&◌, ◌<◌, ℕ, List, [], ◌∷◌, ◌++◌, codes, map, filter, Bool, true, Ok, None, Some, Option, refl, sym, subst}
+use Rattle.std.proofs.Common.{◌≡◌, ◌==◌, ◌&&◌, ℕ, List, [], ◌∷◌, ◌++◌, codes, map, filter, Bool, true, Ok, None, Some, Option, refl, sym, subst}
 use Rattle.std.specs.Prelude.{⊤}
 use Rattle.sqlite_value.specs.Order as sql
 use Rattle.sqlite_value.specs.Order.{column}
@@ -13,21 +13,20 @@ use Rattle.sqlite.specs.Command.TheVariants.{Insert}
 use Rattle.sqlite_tied.specs.Compute.{everything}
 use Rattle.sqlite.specs.Listing.{understood}
 use Rattle.sqlite.specs.State.{State, ExecutesInside, Shown}
-use Rattle.sqlite_trees.specs.Tree.{IsAscending}
 use Rattle.sqlite_keyed.specs.Lists.{sort_by}
 use Rattle.sql_rows.specs.Builds.{Means}
 use Rattle.sql_rows.specs.Rows.{HasRows, by, Differ, number_value}
 use Rattle.sql_rows.proofs.Appends.{map_push, are_kept}
 use Rattle.sql_rows.proofs.Queries.{Selects, plain_query}
 use Rattle.sql_rows.proofs.ColumnTests.{number_test, number_tested, one_tested, two_tested}
-use Rattle.sql_rows.proofs.Last.{ending, first_query, descending, projects_last}
 use Rattle.sql_rows.proofs.Steps.{puts_row, selects_sorted}
 use Rattle.shop_model.specs.Rows.{Row, is_of}
 use Rattle.shop_model.specs.Values.{Payment}
 use Rattle.shop_model.specs.Books.{Books}
 use Rattle.shop_schema.specs.Tables.{shop_schema, payment_table}
 use Rattle.shop_schema.specs.Columns.{payment_columns}
-use Rattle.shop_schema.specs.Shop.{StandsFor, IsShop, Changes}
+use Rattle.shop_schema.specs.Shop.{StandsFor, StandsWith, IsShop, Changes}
+use Rattle.shop_schema.specs.Counts.{Counts}
 use Rattle.shop_schema.proofs.Stands.{with_payments}
 use Rattle.shop_store.proofs.CustomerTexts.{of_one}
 use Rattle.shop_store.proofs.RentalTexts.{values_7, shown_7}
@@ -48,10 +47,10 @@ kept_payment c = go c.it.rental
     go None = refl
     go (Some number) = refl
 
-pub puts_payment : (old new : State) (c : Row Payment) (count : ℕ) → IsShop old → ExecutesInside 0 insert_payment (payment_columns c) old new (Ok count)
-    → Changes old new (λ _. ⊤) (λ books. record books { payments = books.payments ++ c ∷ [] })
-puts_payment old new c count has h =
-    puts_row shop_schema StandsFor insert_payment 13 payment_table values_7 7 insert_means (record { place = refl; uncounted = refl; unstamped = refl })
+pub puts_payment : (counts : Counts) (old new : State) (c : Row Payment) (count : ℕ) → IsShop old → ExecutesInside 0 insert_payment (payment_columns c) old new (Ok count)
+    → Changes counts old new (λ _. ⊤) (λ books. record books { payments = books.payments ++ c ∷ [] })
+puts_payment counts old new c count has h =
+    puts_row shop_schema (StandsWith counts) insert_payment 13 payment_table values_7 7 insert_means (record { place = refl; uncounted = refl; unstamped = refl })
     (payment_columns c) old new count has h refl refl (kept_payment c) (λ id. refl) (λ books. record books { payments = books.payments ++ c ∷ [] })
     (λ books same s more. with_payments _ _ books _ same s (subst (HasRows 7 (new.now.trees 30)) (sym (map_push payment_columns books.payments c)) (more _ s.payments)))
 
@@ -91,16 +90,3 @@ pub shows_payments : (old new : State) (b : ℕ) (rows : List sql.Row) (books : 
 shows_payments old new b rows books has h s apart =
     selects_sorted shop_schema select_payments 30 7 of_one shown_7 1 payments_mean (number_value b ∷ []) old new rows has h payment_columns books.payments s.payments refl
     (λ vs. number_test 0 b vs && true) (is_of b) (λ c. one_tested _ (number_tested c.branch b)) (λ r. refl) (λ c. c.number) (λ c. refl) apart
-
-abbrev pub select_last : List ℕ
-select_last = codes "SELECT number FROM payment WHERE branch = ?1 ORDER BY number DESC LIMIT 1"
-
-pub last_means : Selects shop_schema select_last (first_query 30 of_one (col 1 2 ∷ []) ((col 1 2, descending) ∷ []))
-unfolding understood everything
-last_means = record { names = _; is = refl; plain = (refl, refl); unlisted = refl }
-
-pub shows_last : (old new : State) (b : ℕ) (rows : List sql.Row) (books : Books) → IsShop old → Shown select_last (number_value b ∷ []) old new rows → StandsFor old.now.trees books
-    → IsAscending (λ (x y : Row Payment). x.number < y.number) (filter (is_of b) books.payments) → rows ≡ map (λ c. number_value c.number ∷ []) (ending (filter (is_of b) books.payments))
-shows_last old new b rows books has h s up =
-    projects_last shop_schema select_last 30 7 of_one (col 1 2 ∷ []) 1 last_means (number_value b ∷ []) old new rows has h payment_columns books.payments s.payments refl
-    (λ vs. number_test 0 b vs && true) (λ vs. column vs 1 ∷ []) (is_of b) (λ c. one_tested _ (number_tested c.branch b)) (λ r. refl) (λ c. c.number) (λ c. refl) up

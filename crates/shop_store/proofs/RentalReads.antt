@@ -1,6 +1,6 @@
 -- What the texts of rentals say of the books.
-use Rattle.std.proofs.Common.{◌≡◌, ◌==◌, ◌≤◌, ◌+◌, ℕ, Bool, List, [], ◌∷◌, ◌++◌, map, filter, length, Ok, Err, Result, refl, sym, ap, subst, ◌∙◌, arith}
-use Rattle.std.specs.Prelude.{⊤, Vec, IfOk, IfSome, Option, Some, None, is_none, take, slice_get, option_map}
+use Rattle.std.proofs.Common.{◌≡◌, ◌==◌, ◌≤◌, ℕ, Bool, List, [], ◌∷◌, ◌++◌, map, filter, length, Ok, Err, Result, refl, sym, ap, subst, ◌∙◌, arith}
+use Rattle.std.specs.Prelude.{⊤, Vec, IfOk, IfSome, Option, Some, None, is_none, take, option_map}
 use Rattle.std.specs.Option.{option_to_list}
 use Rattle.std.specs.List.{AllByRecursion}
 use Rattle.std.specs.declared.alloc.Global.{Global}
@@ -16,7 +16,7 @@ use Rattle.sql_rows.proofs.Bags.{length-map}
 use Rattle.sql_rows.proofs.OfKind.{unmapped_kind, all_in_order}
 use Rattle.sql_rows.proofs.Projects.{still_holds, writes_by}
 use Rattle.shop_model.specs.Calendar.{Moment}
-use Rattle.shop_model.specs.Rows.{Row, is_of, is_row, of, at, set_row}
+use Rattle.shop_model.specs.Rows.{Row, is_row, of, at, set_row}
 use Rattle.shop_model.specs.Values.{Rental}
 use Rattle.shop_model.specs.Books.{Books}
 use Rattle.shop_model.proofs.RowLemmas.{row_at}
@@ -25,14 +25,13 @@ use Rattle.shop_schema.specs.Columns.{rental_columns, moment_value}
 use Rattle.shop_schema.specs.RowValues.{IsRow, IsRental}
 use Rattle.shop_schema.specs.Tables.{shop_schema}
 use Rattle.shop_schema.specs.Held.{IsHeld}
-use Rattle.shop_schema.specs.Shop.{StandsFor, Holds, Reads, Writes}
+use Rattle.shop_schema.specs.Shop.{StandsFor, StandsWith, Holds, Reads, Writes}
 use Rattle.shop_schema.proofs.SameRows.{same_rental}
 use Rattle.shop_schema.proofs.Lists.{picks_row}
 use Rattle.shop_store.specs.Seen.{seen_rental_row}
 use Rattle.shop_store.specs.declared.rentals.RentalRow.{RentalRow}
-use Rattle.shop_store.proofs.Rising.{rise_ascending, counted_rise, of_which, which_differ, which_order}
-use Rattle.shop_store.proofs.LastNumbers.{last_of, none_last, some_last}
-use Rattle.shop_store.proofs.RentalTexts.{insert_rental, puts_rental, select_rental, select_means, shows_rental, select_of_copy, of_copy_means, shows_of_copy, select_of_customer, of_customer_means, shows_of_customer, select_open, open_means, shows_open, select_last, last_means, shows_last, update_returned, sets_returned}
+use Rattle.shop_store.proofs.Rising.{of_which, which_differ, which_order}
+use Rattle.shop_store.proofs.RentalTexts.{insert_rental, puts_rental, select_rental, select_means, shows_rental, select_of_customer, of_customer_means, shows_of_customer, select_open, open_means, shows_open, update_returned, sets_returned}
 
 all_seen : (P : Row Rental → Type 0) (xs : List RentalRow) → AllByRecursion (λ x. P (seen_rental_row x)) xs → AllByRecursion P (map seen_rental_row xs)
 all_seen P [] h = tt
@@ -69,13 +68,6 @@ read_which test old new b rows seen (Ok all) still shows same read kinds = λ bo
       sym (map-map (λ (row : Row Rental). row.it) seen_rental_row all.items) ∙ ap (map (λ (row : Row Rental). row.it)) one ∙ which_order test b books.rentals counted,
     )
 
-pub read_of_copy : (old new : State) (b x : ℕ) (rows seen : List sql.Row) (r : Result (Vec RentalRow Global) StoreFault) → Shown select_of_copy (number_value b ∷ number_value x ∷ []) old new rows → seen ≡ rows
-    → IfOk r (λ all. map (λ y. rental_columns (seen_rental_row y)) all.items ≡ seen) → IfOk r (λ all. AllByRecursion (λ y. IsRow IsRental (seen_rental_row y)) all.items)
-    → IfOk r (λ all. Reads old new (λ books. map (λ y. seen_rental y.rental) all.items ≡ filter (λ (it : Rental). it.copy == x) (of b books.rentals)))
-read_of_copy old new b x rows seen r h =
-    read_which (λ it. it.copy == x) old new b rows seen r (still_holds shop_schema StandsFor select_of_copy _ old new of_copy_means.plain rows h)
-    (λ books holds. shows_of_copy old new b x rows books holds.schema_is h holds.stands)
-
 pub read_of_customer : (old new : State) (b c : ℕ) (rows seen : List sql.Row) (r : Result (Vec RentalRow Global) StoreFault) → Shown select_of_customer (number_value b ∷ number_value c ∷ []) old new rows → seen ≡ rows
     → IfOk r (λ all. map (λ y. rental_columns (seen_rental_row y)) all.items ≡ seen) → IfOk r (λ all. AllByRecursion (λ y. IsRow IsRental (seen_rental_row y)) all.items)
     → IfOk r (λ all. Reads old new (λ books. map (λ y. seen_rental y.rental) all.items ≡ filter (λ (it : Rental). it.customer == c) (of b books.rentals)))
@@ -109,34 +101,10 @@ read_rental old new b n rows seen (Ok o) h same read kind = λ books holds held.
 
 -- ---- the last number
 
--- what the first row tells
-pub read_last : (old new : State) (b : ℕ) (rows : List sql.Row) → Shown select_last (number_value b ∷ []) old new rows
-    → (slice_get rows 0 ≡ None → Reads old new (λ books. 0 ≡ length (of b books.rentals)))
-    × ((row : sql.Row) (n : ℕ) → slice_get rows 0 ≡ Some row → column row 0 ≡ number_value n → Reads old new (λ books. n ≡ length (of b books.rentals)))
-read_last old new b rows h = (
-  λ none books holds held. (still books holds, sym (as_many books ∙ none_last (own books) (first books holds held ∙ none))),
-  λ row n some is books holds held. (still books holds, told books n (some_last 1 (own books) row n (held.numbers.rentals b) (first books holds held ∙ some) is)),
-)
-  where
-    own : Books → List (Row Rental)
-    own books = filter (is_of b) books.rentals
-
-    still : (books : Books) → Holds old books → Holds new books
-    still = still_holds shop_schema StandsFor select_last (number_value b ∷ []) old new last_means.plain rows h
-
-    as_many : (books : Books) → length (of b books.rentals) ≡ length (own books)
-    as_many books = length-map (λ (row : Row Rental). row.it) (own books)
-
-    told : (books : Books) (n : ℕ) → n + 1 ≡ 1 + length (own books) → n ≡ length (of b books.rentals)
-    told books n past = let many = as_many books in omega (arith, past, many)
-
-    first : (books : Books) → Holds old books → IsHeld books → slice_get (last_of (own books)) 0 ≡ slice_get rows 0
-    first books holds held = ap (λ rs. slice_get rs 0) (sym (shows_last old new b rows books holds.schema_is h holds.stands (rise_ascending (own books) (counted_rise 1 (own books) (held.numbers.rentals b)))))
-
 pub write_rental : (old new : State) (c : Row Rental) (count : ℕ) → ExecutesInside 0 insert_rental (rental_columns c) old new (Ok count) → Writes old new (λ _. ⊤) (λ books. record books { rentals = books.rentals ++ c ∷ [] })
-write_rental old new c count h = writes_by shop_schema StandsFor old new _ _ (λ shop. puts_rental old new c count shop h)
+write_rental old new c count h counts = writes_by shop_schema (StandsWith counts) old new _ _ (λ shop. puts_rental counts old new c count shop h)
 
 pub write_returned : (old new : State) (b n : ℕ) (moment : Moment) (count : ℕ) → ExecutesInside 0 update_returned (number_value b ∷ number_value n ∷ moment_value moment ∷ []) old new (Ok count)
     → Writes old new IsHeld (λ books. record books { rentals = set_row b n (λ it. record it { returned = Some moment }) books.rentals })
-write_returned old new b n moment count h = λ books holds held.
-    writes_by shop_schema StandsFor old new (λ them. PicksOne (is_row b n) them.rentals) _ (λ shop. sets_returned old new b n moment count shop h) books holds (picks_row b books.rentals (held.numbers.rentals b) n)
+write_returned old new b n moment count h = λ counts books holds held.
+    writes_by shop_schema (StandsWith counts) old new (λ them. PicksOne (is_row b n) them.rentals) _ (λ shop. sets_returned counts old new b n moment count shop h) books holds (picks_row b books.rentals (held.numbers.rentals b) n)

@@ -1,7 +1,8 @@
 -- The texts of rentals.
-use Rattle.std.proofs.Common.{◌≡◌, ◌==◌, ◌&&◌, ◌<◌, ℕ, List, [], ◌∷◌, ◌++◌, codes, map, filter, Bool, true, Ok, None, Some, Option, is_eq, refl, sym, ap, subst, ◌∙◌, arith}
-use Rattle.std.specs.Prelude.{⊤, is_none}
-use Rattle.sqlite.specs.declared.types.Value.TheVariants.{Null}
+use Rattle.std.proofs.Common.{◌≡◌, ◌==◌, ◌&&◌, ℕ, List, [], ◌∷◌, ◌++◌, codes, map, filter, Bool, true, Ok, None, Some, Option, is_eq, refl, sym, ap, subst, ◌∙◌, arith}
+use Rattle.std.specs.Prelude.{⊤, is_none, length}
+use Rattle.std.specs.Str.{bytes_eq}
+use Rattle.sqlite.specs.declared.types.Value.TheVariants.{Null, Text}
 use Rattle.sqlite.specs.Values.{or_null}
 use Rattle.sqlite_value.specs.Order as sql
 use Rattle.sqlite_value.specs.Order.{column}
@@ -17,24 +18,24 @@ use Rattle.sqlite.specs.Command.TheVariants.{Insert, Update}
 use Rattle.sqlite_tied.specs.Compute.{everything}
 use Rattle.sqlite.specs.Listing.{understood}
 use Rattle.sqlite.specs.State.{State, ExecutesInside, Shown}
-use Rattle.sqlite_trees.specs.Tree.{IsAscending}
 use Rattle.sqlite_keyed.specs.Lists.{update_where, sort_by}
 use Rattle.sql_rows.specs.Builds.{Means}
 use Rattle.sql_rows.specs.Rows.{HasRows, by, Differ, PicksOne, number_value}
 use Rattle.sql_rows.proofs.Appends.{map_push, are_kept}
 use Rattle.sql_rows.proofs.Queries.{Selects, plain_query, truth_of}
-use Rattle.sql_rows.proofs.ColumnTests.{number_test, number_tested, one_tested, two_tested}
-use Rattle.sql_rows.proofs.Last.{ending, first_query, descending, projects_last}
+use Rattle.sql_rows.proofs.ColumnTests.{number_test, number_tested, text_test, text_tested, two_tested}
+use Rattle.sql_rows.proofs.Projects.{projects_count}
 use Rattle.sql_rows.proofs.Steps.{puts_row, selects_one, selects_sorted, sets_row}
-use Rattle.shop_model.specs.Calendar.{Moment}
-use Rattle.shop_model.specs.Rows.{Row, is_of, is_row}
+use Rattle.shop_model.specs.Calendar.{Moment, moment_text}
+use Rattle.shop_model.specs.Rows.{Row, is_row}
 use Rattle.shop_model.specs.Values.{Rental}
 use Rattle.shop_model.specs.Books.{Books}
 use Rattle.shop_schema.specs.Tables.{shop_schema, rental_table}
 use Rattle.shop_schema.specs.Columns.{rental_columns, moment_value}
-use Rattle.shop_schema.specs.Shop.{StandsFor, IsShop, Changes}
+use Rattle.shop_schema.specs.Shop.{StandsFor, StandsWith, IsShop, Changes}
+use Rattle.shop_schema.specs.Counts.{Counts}
 use Rattle.shop_schema.proofs.Stands.{with_rentals}
-use Rattle.shop_store.proofs.CustomerTexts.{of_one, of_two}
+use Rattle.shop_store.proofs.CustomerTexts.{of_two}
 use Rattle.shop_store.proofs.Rising.{of_which}
 
 abbrev pub insert_rental : List ℕ
@@ -55,10 +56,10 @@ kept_rental c = go c.it.returned
     go None = refl
     go (Some moment) = refl
 
-pub puts_rental : (old new : State) (c : Row Rental) (count : ℕ) → IsShop old → ExecutesInside 0 insert_rental (rental_columns c) old new (Ok count)
-    → Changes old new (λ _. ⊤) (λ books. record books { rentals = books.rentals ++ c ∷ [] })
-puts_rental old new c count has h =
-    puts_row shop_schema StandsFor insert_rental 12 rental_table values_7 7 insert_means (record { place = refl; uncounted = refl; unstamped = refl })
+pub puts_rental : (counts : Counts) (old new : State) (c : Row Rental) (count : ℕ) → IsShop old → ExecutesInside 0 insert_rental (rental_columns c) old new (Ok count)
+    → Changes counts old new (λ _. ⊤) (λ books. record books { rentals = books.rentals ++ c ∷ [] })
+puts_rental counts old new c count has h =
+    puts_row shop_schema (StandsWith counts) insert_rental 12 rental_table values_7 7 insert_means (record { place = refl; uncounted = refl; unstamped = refl })
     (rental_columns c) old new count has h refl refl (kept_rental c) (λ id. refl) (λ books. record books { rentals = books.rentals ++ c ∷ [] })
     (λ books same s more. with_rentals _ _ books _ same s (subst (HasRows 7 (new.now.trees 27)) (sym (map_push rental_columns books.rentals c)) (more _ s.rentals)))
 
@@ -83,27 +84,30 @@ shows_rental old new b n rows books has h s few =
     selects_one shop_schema select_rental 27 7 of_two shown_7 [] select_means (number_value b ∷ number_value n ∷ []) old new rows has h rental_columns books.rentals s.rentals refl
     (λ vs. number_test 0 b vs && (number_test 1 n vs && true)) (is_row b n) (key_test b n) (λ r. refl) few
 
-abbrev pub of_copy : List Term
-of_copy = op2 (Compare Eq Binary) (col 1 1) (col 0 0) ∷ op2 (Compare Eq Binary) (col 1 4) (col 0 1) ∷ []
+-- a rental by all that no two share
+abbrev pub select_same : List ℕ
+select_same = codes "SELECT number FROM rental WHERE branch = ?1 AND moment = ?2 AND copy = ?3 AND customer = ?4"
 
-abbrev pub is_of_copy : ℕ → ℕ → Row Rental → Bool
-is_of_copy b x = of_which (λ (it : Rental). it.copy == x) b
+abbrev pub of_same : List Term
+of_same = op2 (Compare Eq Binary) (col 1 1) (col 0 0) ∷ op2 (Compare Eq Binary) (col 1 3) (col 0 1) ∷ op2 (Compare Eq Binary) (col 1 4) (col 0 2) ∷ op2 (Compare Eq Binary) (col 1 5) (col 0 3) ∷ []
 
-abbrev pub select_of_copy : List ℕ
-select_of_copy = codes "SELECT branch, number, moment, copy, customer, returned, staff FROM rental WHERE branch = ?1 AND copy = ?2 ORDER BY number"
-
-pub of_copy_means : Selects shop_schema select_of_copy (plain_query 27 of_copy shown_7 ((col 1 2, ascending Binary) ∷ []))
+pub same_means : Selects shop_schema select_same (plain_query 27 of_same (col 1 2 ∷ []) [])
 unfolding understood everything
-of_copy_means = record { names = _; is = refl; plain = (refl, refl); unlisted = refl }
+same_means = record { names = _; is = refl; plain = (refl, refl); unlisted = refl }
 
-copy_test : (b x : ℕ) (c : Row Rental) → (number_test 0 b (rental_columns c) && (number_test 3 x (rental_columns c) && true)) ≡ is_of_copy b x c
-copy_test b x c = two_tested _ _ (number_tested c.branch b) (number_tested c.it.copy x)
+abbrev pub is_same : ℕ → List ℕ → ℕ → ℕ → Row Rental → Bool
+is_same b t x c row = row.branch == b && (bytes_eq (moment_text row.it.rented) t && (row.it.copy == x && row.it.customer == c))
 
-pub shows_of_copy : (old new : State) (b x : ℕ) (rows : List sql.Row) (books : Books) → IsShop old → Shown select_of_copy (number_value b ∷ number_value x ∷ []) old new rows → StandsFor old.now.trees books
-    → Differ (λ (row : Row Rental). row.number) (filter (is_of_copy b x) books.rentals) → rows ≡ map rental_columns (sort_by (by (λ row. row.number)) (filter (is_of_copy b x) books.rentals))
-shows_of_copy old new b x rows books has h s apart =
-    selects_sorted shop_schema select_of_copy 27 7 of_copy shown_7 1 of_copy_means (number_value b ∷ number_value x ∷ []) old new rows has h rental_columns books.rentals s.rentals refl
-    (λ vs. number_test 0 b vs && (number_test 3 x vs && true)) (is_of_copy b x) (copy_test b x) (λ r. refl) (λ c. c.number) (λ c. refl) apart
+same_tested : (b : ℕ) (t : List ℕ) (x c : ℕ) (row : Row Rental)
+    → (number_test 0 b (rental_columns row) && (text_test 2 t (rental_columns row) && (number_test 3 x (rental_columns row) && (number_test 4 c (rental_columns row) && true)))) ≡ is_same b t x c row
+same_tested b t x c row =
+    λ i. number_tested row.branch b i && (text_tested (moment_text row.it.rented) t i && two_tested _ _ (number_tested row.it.copy x) (number_tested row.it.customer c) i)
+
+pub shows_same : (old new : State) (b : ℕ) (t : List ℕ) (x c : ℕ) (rows : List sql.Row) (books : Books) → IsShop old
+    → Shown select_same (number_value b ∷ Text t ∷ number_value x ∷ number_value c ∷ []) old new rows → StandsFor old.now.trees books → length rows ≡ length (filter (is_same b t x c) books.rentals)
+shows_same old new b t x c rows books has h s =
+    projects_count shop_schema select_same 27 7 of_same (col 1 2 ∷ []) same_means (number_value b ∷ Text t ∷ number_value x ∷ number_value c ∷ []) old new rows has h rental_columns books.rentals s.rentals refl
+    (λ vs. number_test 0 b vs && (text_test 2 t vs && (number_test 3 x vs && (number_test 4 c vs && true)))) (λ vs. column vs 1 ∷ []) (is_same b t x c) (same_tested b t x c) (λ r. refl)
 
 abbrev pub of_customer : List Term
 of_customer = op2 (Compare Eq Binary) (col 1 1) (col 0 0) ∷ op2 (Compare Eq Binary) (col 1 5) (col 0 1) ∷ []
@@ -160,19 +164,6 @@ shows_open old new b rows books has h s apart =
     selects_sorted shop_schema select_open 27 7 of_open shown_7 1 open_means (number_value b ∷ []) old new rows has h rental_columns books.rentals s.rentals refl
     (λ vs. number_test 0 b vs && (null_test 5 vs && true)) (is_open_of b) (open_test b) (λ r. refl) (λ c. c.number) (λ c. refl) apart
 
-abbrev pub select_last : List ℕ
-select_last = codes "SELECT number FROM rental WHERE branch = ?1 ORDER BY number DESC LIMIT 1"
-
-pub last_means : Selects shop_schema select_last (first_query 27 of_one (col 1 2 ∷ []) ((col 1 2, descending) ∷ []))
-unfolding understood everything
-last_means = record { names = _; is = refl; plain = (refl, refl); unlisted = refl }
-
-pub shows_last : (old new : State) (b : ℕ) (rows : List sql.Row) (books : Books) → IsShop old → Shown select_last (number_value b ∷ []) old new rows → StandsFor old.now.trees books
-    → IsAscending (λ (x y : Row Rental). x.number < y.number) (filter (is_of b) books.rentals) → rows ≡ map (λ c. number_value c.number ∷ []) (ending (filter (is_of b) books.rentals))
-shows_last old new b rows books has h s up =
-    projects_last shop_schema select_last 27 7 of_one (col 1 2 ∷ []) 1 last_means (number_value b ∷ []) old new rows has h rental_columns books.rentals s.rentals refl
-    (λ vs. number_test 0 b vs && true) (λ vs. column vs 1 ∷ []) (is_of b) (λ c. one_tested _ (number_tested c.branch b)) (λ r. refl) (λ c. c.number) (λ c. refl) up
-
 -- ---- an update
 
 abbrev pub update_returned : List ℕ
@@ -188,10 +179,10 @@ update_means = record { is = refl; plain = (refl, refl) }
 abbrev pub with_returned : Moment → Row Rental → Row Rental
 with_returned moment row = record row { it = record row.it { returned = Some moment } }
 
-pub sets_returned : (old new : State) (b n : ℕ) (moment : Moment) (count : ℕ) → IsShop old → ExecutesInside 0 update_returned (number_value b ∷ number_value n ∷ moment_value moment ∷ []) old new (Ok count)
-    → Changes old new (λ books. PicksOne (is_row b n) books.rentals) (λ books. record books { rentals = update_where (is_row b n) (with_returned moment) books.rentals })
-sets_returned old new b n moment count has h =
-    sets_row shop_schema StandsFor update_returned 12 rental_table 7 of_two returned_terms (number_value b ∷ number_value n ∷ moment_value moment ∷ []) rental_columns
+pub sets_returned : (counts : Counts) (old new : State) (b n : ℕ) (moment : Moment) (count : ℕ) → IsShop old → ExecutesInside 0 update_returned (number_value b ∷ number_value n ∷ moment_value moment ∷ []) old new (Ok count)
+    → Changes counts old new (λ books. PicksOne (is_row b n) books.rentals) (λ books. record books { rentals = update_where (is_row b n) (with_returned moment) books.rentals })
+sets_returned counts old new b n moment count has h =
+    sets_row shop_schema (StandsWith counts) update_returned 12 rental_table 7 of_two returned_terms (number_value b ∷ number_value n ∷ moment_value moment ∷ []) rental_columns
     (λ vs. number_test 0 b vs && (number_test 1 n vs && true)) (is_row b n)
     (λ vs. column vs 0 ∷ column vs 1 ∷ column vs 2 ∷ column vs 3 ∷ column vs 4 ∷ moment_value moment ∷ column vs 6 ∷ []) (with_returned moment)
     (key_test b n) (λ c. refl) (λ c. refl) old new has update_means refl refl count h refl (λ r. refl) (λ r. refl) (λ r. refl) (λ r. refl) (λ v vs. refl)

@@ -112,23 +112,6 @@ impl CopyRow {
     }
 }
 
-/// How many copies the branch has, in whatever state. All its copies are gone through.
-pub fn copy_count<S: Alter>(
-    tx: &mut Transaction<'_, S>,
-    branch: BranchNo,
-) -> Result<usize, StoreFault>
-    ensures same_reference { tx.new.conn.ghost_name ≡ tx.old.conn.ghost_name }
-    ensures inside { StaysInside (state S.Store tx.old.conn.now) (state S.Store tx.new.conn.now) result }
-    ensures count { HasCleanDisk (state S.Store tx.new.conn.now) → IfOk result (λ count. Reads (state S.Store tx.old.conn.now) (state S.Store tx.new.conn.now) (λ books. count ≡ length (of branch books.copies))) }
-{
-    let rows = query(
-        tx,
-        "SELECT number FROM copy WHERE branch = ?1",
-        &[branch.get().to_sql()],
-    )?;
-    Ok(rows.len())
-}
-
 /// The copy of the number, in whatever state, if the branch has it.
 pub fn copy_at<S: Alter>(
     tx: &mut Transaction<'_, S>,

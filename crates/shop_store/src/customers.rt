@@ -1,4 +1,4 @@
-ghost use Rattle.std.specs.Prelude.{⊤, ◌≡◌, [], ◌∷◌, ◌++◌, OnOk, IfOk, map, length, option_map, option_to_list};
+ghost use Rattle.std.specs.Prelude.{⊤, ◌≡◌, [], ◌∷◌, ◌++◌, OnOk, IfOk, map, option_map, option_to_list};
 ghost use Rattle.sqlite.specs.Held.{state};
 ghost use Rattle.sqlite.specs.State.{HasCleanDisk};
 ghost use Rattle.sqlite.specs.Values.{bound};
@@ -92,23 +92,6 @@ pub fn customers_of<S: Alter>(
         &[branch.get().to_sql()],
     )?;
     read_all(alloc, rows.as_slice())
-}
-
-/// How many customers the branch has. All of them are gone through.
-pub fn customer_count<S: Alter>(
-    tx: &mut Transaction<'_, S>,
-    branch: BranchNo,
-) -> Result<usize, StoreFault>
-    ensures same_reference { tx.new.conn.ghost_name ≡ tx.old.conn.ghost_name }
-    ensures inside { StaysInside (state S.Store tx.old.conn.now) (state S.Store tx.new.conn.now) result }
-    ensures count { HasCleanDisk (state S.Store tx.new.conn.now) → IfOk result (λ count. Reads (state S.Store tx.old.conn.now) (state S.Store tx.new.conn.now) (λ books. count ≡ length (of branch books.customers))) }
-{
-    let rows = query(
-        tx,
-        "SELECT number FROM customer WHERE branch = ?1",
-        &[branch.get().to_sql()],
-    )?;
-    Ok(rows.len())
 }
 
 /// The customer of the number, if the branch has it.

@@ -1,4 +1,4 @@
-ghost use Rattle.std.specs.Prelude.{◌≡◌, ⊤, [], ◌∷◌, ◌++◌, IfOk, OnOk, length, map, filter, option_map};
+ghost use Rattle.std.specs.Prelude.{◌≡◌, ⊤, [], ◌∷◌, ◌++◌, IfOk, OnOk, map, filter, option_map};
 ghost use Rattle.std.specs.Str.{bytes_eq};
 ghost use Rattle.sqlite.specs.Held.{state};
 ghost use Rattle.sqlite.specs.State.{HasCleanDisk};
@@ -45,23 +45,6 @@ pub fn kept_at<S: Alter>(
             reply: words_at(row, 1)?,
         })),
     }
-}
-
-/// How many commands the branch has kept. All of them are gone through.
-pub fn kept_count<S: Alter>(
-    tx: &mut Transaction<'_, S>,
-    branch: BranchNo,
-) -> Result<usize, StoreFault>
-    ensures same_reference { tx.new.conn.ghost_name ≡ tx.old.conn.ghost_name }
-    ensures inside { StaysInside (state S.Store tx.old.conn.now) (state S.Store tx.new.conn.now) result }
-    ensures count { HasCleanDisk (state S.Store tx.new.conn.now) → IfOk result (λ count. Reads (state S.Store tx.old.conn.now) (state S.Store tx.new.conn.now) (λ books. count ≡ length (owned_by branch books.kept))) }
-{
-    let rows = query(
-        tx,
-        "SELECT caller FROM kept WHERE caller = ?1",
-        &[branch.get().to_sql()],
-    )?;
-    Ok(rows.len())
 }
 
 /// Keeps a command of the branch, by its key and its stored form, with the body of its reply. After a fault the transaction may be rolled back.

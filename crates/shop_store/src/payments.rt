@@ -129,29 +129,6 @@ pub fn payments_of<S: Alter>(
     read_all(alloc, rows.as_slice())
 }
 
-/// The number of the branch's last payment, which is how many it has: 0 where it has none. One row is read, however many there are.
-pub fn last_payment<S: Alter>(
-    tx: &mut Transaction<'_, S>,
-    branch: BranchNo,
-) -> Result<u32, StoreFault>
-    ensures same_reference { tx.new.conn.ghost_name ≡ tx.old.conn.ghost_name }
-    ensures inside { StaysInside (state S.Store tx.old.conn.now) (state S.Store tx.new.conn.now) result }
-    ensures count { HasCleanDisk (state S.Store tx.new.conn.now) → IfOk result (λ count. Reads (state S.Store tx.old.conn.now) (state S.Store tx.new.conn.now) (λ books. count ≡ length (of branch books.payments))) }
-{
-    let rows = query(
-        tx,
-        "SELECT number FROM payment WHERE branch = ?1 ORDER BY number DESC LIMIT 1",
-        &[branch.get().to_sql()],
-    )?;
-    match rows.first() {
-        None => Ok(0),
-        Some(row) => {
-            let last: PaymentNo = row_number_at(row, 0)?;
-            Ok(last.get())
-        }
-    }
-}
-
 /// Adds the payment. After a fault the transaction may be rolled back.
 pub fn put_payment<S: Alter>(
     tx: &mut Transaction<'_, S>,

@@ -1,9 +1,10 @@
-ghost use Rattle.std.specs.Prelude.{⊤, ◌≡◌, ◌==◌, [], ◌∷◌, ◌++◌, Some, OnOk, IfOk, is_none, filter, map, length, option_map, option_to_list};
+ghost use Rattle.std.specs.Prelude.{⊤, ◌≡◌, ◌==◌, ◌&&◌, [], ◌∷◌, ◌++◌, Some, OnOk, IfOk, is_none, filter, map, option_map, option_to_list};
 ghost use Rattle.sqlite.specs.Held.{state};
 ghost use Rattle.sqlite.specs.State.{HasCleanDisk};
 ghost use Rattle.sqlite.specs.Values.{bound};
 ghost use Rattle.sql_rows.specs.Calls.{StaysInside};
-ghost use Rattle.shop_model.specs.Calendar.{moment_text};
+ghost use Rattle.std.specs.List.{list_any};
+ghost use Rattle.shop_model.specs.Calendar.{moment_text, same_moment};
 ghost use Rattle.shop_model.specs.Rows.{at, of, set_row};
 ghost use Rattle.shop_types.specs.Seen.{seen_rental};
 ghost use Rattle.shop_schema.specs.Columns.{rental_columns};
@@ -84,24 +85,32 @@ pub fn rental_at<S: Alter>(
     read_one(rows.as_slice())
 }
 
-/// All rentals of the branch's copy, in order of number. After a fault the transaction may be rolled back.
-pub fn rentals_of_copy<S: Alter>(
+/// Whether the branch has a rental of the moment, copy and customer. No two rentals share these, and one row is read.
+pub fn has_rental<S: Alter>(
     tx: &mut Transaction<'_, S>,
-    alloc: Global,
     branch: BranchNo,
+    rented: Moment,
     copy: CopyNo,
-) -> Result<Vec<RentalRow>, StoreFault>
+    customer: CustomerNo,
+) -> Result<bool, StoreFault>
     ensures same_reference { tx.new.conn.ghost_name ≡ tx.old.conn.ghost_name }
     ensures inside { StaysInside (state S.Store tx.old.conn.now) (state S.Store tx.new.conn.now) result }
-    ensures rows { HasCleanDisk (state S.Store tx.new.conn.now) → IfOk result (λ rows. Reads (state S.Store tx.old.conn.now) (state S.Store tx.new.conn.now)
-        (λ books. map (λ row. seen_rental row.rental) rows.items ≡ filter (λ it. it.copy == copy) (of branch books.rentals))) }
+    ensures found { HasCleanDisk (state S.Store tx.new.conn.now) → IfOk result (λ has. Reads (state S.Store tx.old.conn.now) (state S.Store tx.new.conn.now)
+        (λ books. has ≡ list_any (λ it. same_moment it.rented rented && it.copy == copy && it.customer == customer) (of branch books.rentals))) }
 {
+    let _real = rented.text();
+    let text = MomentText::of(rented);
     let rows = query(
         tx,
-        "SELECT branch, number, moment, copy, customer, returned, staff FROM rental WHERE branch = ?1 AND copy = ?2 ORDER BY number",
-        &[branch.get().to_sql(), copy.get().to_sql()],
+        "SELECT number FROM rental WHERE branch = ?1 AND moment = ?2 AND copy = ?3 AND customer = ?4",
+        &[
+            branch.get().to_sql(),
+            text.as_str().to_sql(),
+            copy.get().to_sql(),
+            customer.get().to_sql(),
+        ],
     )?;
-    read_all(alloc, rows.as_slice())
+    Ok(!rows.is_empty())
 }
 
 /// All rentals of the branch's customer, in order of number. After a fault the transaction may be rolled back.
@@ -141,29 +150,6 @@ pub fn open_rentals<S: Alter>(
         &[branch.get().to_sql()],
     )?;
     read_all(alloc, rows.as_slice())
-}
-
-/// The number of the branch's last rental, which is how many it has: 0 where it has none. One row is read, however many there are.
-pub fn last_rental<S: Alter>(
-    tx: &mut Transaction<'_, S>,
-    branch: BranchNo,
-) -> Result<u32, StoreFault>
-    ensures same_reference { tx.new.conn.ghost_name ≡ tx.old.conn.ghost_name }
-    ensures inside { StaysInside (state S.Store tx.old.conn.now) (state S.Store tx.new.conn.now) result }
-    ensures count { HasCleanDisk (state S.Store tx.new.conn.now) → IfOk result (λ count. Reads (state S.Store tx.old.conn.now) (state S.Store tx.new.conn.now) (λ books. count ≡ length (of branch books.rentals))) }
-{
-    let rows = query(
-        tx,
-        "SELECT number FROM rental WHERE branch = ?1 ORDER BY number DESC LIMIT 1",
-        &[branch.get().to_sql()],
-    )?;
-    match rows.first() {
-        None => Ok(0),
-        Some(row) => {
-            let last: RentalNo = row_number_at(row, 0)?;
-            Ok(last.get())
-        }
-    }
 }
 
 /// Adds the rental as an open one: a moment of return isn't looked at. After a fault the transaction may be rolled back.

@@ -21,4 +21,5 @@ pub mod Steps
 pub mod OfKind
 pub mod Projects
 pub mod Stays
-pub mod Last
+pub mod Tells
+pub mod Drops

@@ -1,5 +1,5 @@
 //! What rentals say of copies, over rentals by hand.
-use branch_core::{FilmCopy, film_in_stock, film_not_in_stock, has_same, held_by, in_stock};
+use branch_core::{FilmCopy, film_in_stock, film_not_in_stock, held_by, in_stock};
 use shop_types::{CopyNo, CustomerNo, Moment, Rental, StaffNo};
 use std::alloc::Global;
 use std::test::Fail;
@@ -49,17 +49,6 @@ fn copies_are_out_by_open_rentals(rt: HostRuntime) -> Result<(), Fail> {
     Ok(())
 }
 
-#[test]
-fn same_rentals_have_one_moment(rt: HostRuntime) -> Result<(), Fail> {
-    let rentals = [returned(1, 1)?, open(2, 2)?];
-    let at = moment(FIRST_DAY)?;
-    assert!(rt; has_same(&rentals, at, copy(1)?, customer(1)?));
-    assert!(rt; !has_same(&rentals, at, copy(1)?, customer(2)?));
-    assert!(rt; !has_same(&rentals, at, copy(2)?, customer(1)?));
-    assert!(rt; !has_same(&rentals, moment(SECOND_DAY)?, copy(1)?, customer(1)?));
-    Ok(())
-}
-
 /// Copies of a film with one rental each: one is out, two came back, and a third that came back isn't here any more.
 fn film_copies(alloc: Global) -> Result<Vec<FilmCopy>, Fail> {
     let mut copies = Vec::new(alloc);
@@ -72,7 +61,7 @@ fn film_copies(alloc: Global) -> Result<Vec<FilmCopy>, Fail> {
         copies.push(FilmCopy {
             number: rental.copy,
             is_here,
-            rentals: Vec::from_slice(alloc, &[rental])?,
+            is_in_stock: in_stock(&[rental], rental.copy),
         })?;
     }
     Ok(copies)

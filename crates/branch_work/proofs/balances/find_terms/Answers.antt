@@ -1,4 +1,4 @@
-use Rattle.std.proofs.Common.{◌≡◌, ◌∙◌, ap, arith, List, map, flat_map}
+use Rattle.std.proofs.Common.{◌∙◌, ap, arith, List, map, flat_map}
 use Rattle.sqlite.specs.Held.{state}
 use Rattle.sqlite.specs.State.{HasCleanDisk}
 use Rattle.std.proofs.lemmas.Result.{IfOk-weaker}

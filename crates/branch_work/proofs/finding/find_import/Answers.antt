@@ -10,10 +10,10 @@ use Rattle.branch_work.proofs.finding.find_import.Goals as goal
 pub returns-clause-found : goal.returns-clause-found
 returns-clause-found g c = λ clean.
     let s0 = state g.S.Store c.args.tx.now.conn.now in
-    let s1 = state g.S.Store c.copy_count.new.tx.conn.now in
+    let s1 = state g.S.Store c.count_of.new.tx.conn.now in
     let s2 = state g.S.Store c.has_lot.new.tx.conn.now in
     let s3 = state g.S.Store c.find_stock.new.tx.conn.now in
     let clean2 : HasCleanDisk s2 = omega (arith, clean, c.find_stock.ensures.inside.survives.clean) in
     let clean1 : HasCleanDisk s1 = omega (arith, clean2, c.has_lot.ensures.inside.survives.clean) in
     reads_as s0 s3 _ _ (λ books held is. λ limits. record { count = c.in_ok-copies.ensures.0 ∙ is.0.0 ∙ sym (length_map unmarked (of c.args.branch books.copies)); lot_in = is.0.1; reading = c.in_ok-stock.ensures.value; rows = is.1 })
-    (reads_then s0 s2 s3 _ _ (reads_then s0 s1 s2 _ _ (c.in_ok-copy_count.ensures.count clean1) (c.in_ok-has_lot.ensures.found clean2)) (c.in_ok-stock.ensures.found clean))
+    (reads_then s0 s2 s3 _ _ (reads_then s0 s1 s2 _ _ (c.in_ok-count_of.ensures.count clean1) (c.in_ok-has_lot.ensures.found clean2)) (c.in_ok-stock.ensures.found clean))

@@ -9,10 +9,10 @@ returns-clause-found g c = λ clean.
     let s0 = state g.S.Store c.args.tx.now.conn.now in
     let s1 = state g.S.Store c.find_active.new.tx.conn.now in
     let s2 = state g.S.Store c.find_copy.new.tx.conn.now in
-    let s3 = state g.S.Store c.find_of_copy.new.tx.conn.now in
-    let s4 = state g.S.Store c.last_rental.new.tx.conn.now in
-    let third : HasCleanDisk s3 = omega (arith, clean, c.last_rental.ensures.inside.survives.clean) in
-    let second : HasCleanDisk s2 = omega (arith, third, c.find_of_copy.ensures.inside.survives.clean) in
+    let s3 = state g.S.Store c.out_at.new.tx.conn.now in
+    let s4 = state g.S.Store c.count_of.new.tx.conn.now in
+    let third : HasCleanDisk s3 = omega (arith, clean, c.count_of.ensures.inside.survives.clean) in
+    let second : HasCleanDisk s2 = omega (arith, third, c.out_at.ensures.inside.survives.clean) in
     let first : HasCleanDisk s1 = omega (arith, second, c.find_copy.ensures.inside.survives.clean) in
-    reads_as s0 s4 _ _ (λ books held is. λ limits. record { customer = is.0.0.0; copy_is = is.0.0.1; of_copy_are = is.0.1; count = c.in_ok-rentals.ensures.0 ∙ is.1 })
-    (reads_then s0 s3 s4 _ _ (reads_then s0 s2 s3 _ _ (reads_then s0 s1 s2 _ _ (c.in_ok-is_active.ensures.found first) (c.in_ok-found.ensures.found second)) (c.in_ok-of_copy.ensures.found third)) (c.in_ok-last_rental.ensures.count clean))
+    reads_as s0 s4 _ _ (λ books held is. λ limits. record { customer = is.0.0.0; copy_is = is.0.0.1; out_is = is.0.1; count = c.in_ok-rentals.ensures.0 ∙ is.1 })
+    (reads_then s0 s3 s4 _ _ (reads_then s0 s2 s3 _ _ (reads_then s0 s1 s2 _ _ (c.in_ok-is_active.ensures.found first) (c.in_ok-found.ensures.found second)) (c.in_ok-out.ensures.found third)) (c.in_ok-count_of.ensures.count clean))

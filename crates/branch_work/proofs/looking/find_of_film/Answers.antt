@@ -13,9 +13,9 @@ returns-clause-found g c = λ clean.
     let b = c.args.branch in
     let s0 = state g.S.Store c.args.tx.now.conn.now in
     let s1 = state g.S.Store c.copies_of_film.new.tx.conn.now in
-    let s2 = state g.S.Store c.with_rentals.new.tx.conn.now in
-    let before : HasCleanDisk s1 = omega (arith, clean, c.with_rentals.ensures.inside.survives.clean) in
-    IfOk-weaker c.with_rentals.result _ _ (λ copies reads. reads_as s0 s2 _ _
+    let s2 = state g.S.Store c.with_stock.new.tx.conn.now in
+    let before : HasCleanDisk s1 = omega (arith, clean, c.with_stock.ensures.inside.survives.clean) in
+    IfOk-weaker c.with_stock.result _ _ (λ copies reads. reads_as s0 s2 _ _
     (λ books held is. of_film b c.args.film books copies.items c.in_ok-rows.rows.items (held.numbers.copies b) is.0
     (is.1 ∙ ap (map (copy_shown (shop_of b books).rentals)) c.as_slice.ensures.value))
-    (reads_then s0 s1 s2 _ _ (c.in_ok-rows.ensures.rows before) reads)) (c.with_rentals.ensures.found clean)
+    (reads_then s0 s1 s2 _ _ (c.in_ok-rows.ensures.rows before) reads)) (c.with_stock.ensures.found clean)

@@ -1,18 +1,16 @@
-use Rattle.std.proofs.Common.{◌≡◌, ◌∙◌, refl, sym, ap, arith, ℕ, List, [], ◌∷◌, map, codes, Option}
+use Rattle.std.proofs.Common.{◌∙◌, refl, sym, ap, arith, ℕ, [], ◌∷◌, codes, Option}
 use Rattle.std.specs.Option.{option_to_list}
 use Rattle.sqlite.specs.Held.{state}
 use Rattle.sqlite.specs.State.{HasCleanDisk}
-use Rattle.shop_types.specs.declared.rental.Rental.{Rental}
 use Rattle.shop_model.specs.Values.{Text}
 use Rattle.shop_model.specs.Refusals.{NoCopy}
 use Rattle.shop_model.specs.Stock.{is_here, held_by}
 use Rattle.shop_model.specs.Json.{object}
 use Rattle.shop_model.specs.Machine.{HolderIs}
 use Rattle.shop_model.specs.Answers.{answer_of, accepted_answer, holder_text}
-use Rattle.shop_model.specs.Books.{head, shop_of}
-use Rattle.shop_types.specs.Seen.{seen_rental}
+use Rattle.shop_model.specs.Books.{shop_of}
 use Rattle.branch_work.proofs.Doing.{kept_done}
-use Rattle.branch_work.proofs.Shows.{given_none, given_some, held_of_copy, first_holder}
+use Rattle.branch_work.proofs.Shows.{given_none, given_some, first_holder}
 use Rattle.branch_work.proofs.working.look_holder.Goals as goal
 
 abbrev holder : Text → Text
@@ -23,17 +21,13 @@ returns-in-Ok-clause-works g c = λ clean limits books holds held there last.
     let copy = c.args.copy in
     let shop = shop_of c.args.branch books in
     let s1 = state g.S.Store c.find_here.new.tx.conn.now in
-    let before : HasCleanDisk s1 = omega (arith, clean, c.in_ok-rentals.ensures.inside.survives.clean) in
+    let before : HasCleanDisk s1 = omega (arith, clean, c.in_ok-holder.ensures.inside.survives.clean) in
     let found = c.in_ok-find_here.ensures.found before books holds held in
-    let of_copy = c.in_ok-rentals.ensures.found clean books found.0 held in
-    let rentals = c.in_ok-rentals.rentals.items in
-    let holders : held_by copy (map seen_rental rentals) ≡ held_by copy shop.rentals = held_of_copy copy (map seen_rental rentals) shop.rentals of_copy.1 in
-    let customer : c.held_by.result ≡ head (held_by copy shop.rentals) =
-    c.held_by.ensures ∙ ap (λ (rs : List Rental). head (held_by copy (map seen_rental rs))) c.as_slice.ensures.value ∙ ap head holders in
+    let has = c.in_ok-holder.ensures.found clean books found.0 held in
     kept_done limits c.args.branch books _ _ _ _ there refl
-    (c.accepted.ensures ∙ ap accepted_answer c.in-Ok.ensures ∙ ap (λ (o : Option ℕ). accepted_answer (holder (holder_text (option_to_list o)))) customer
+    (c.accepted.ensures ∙ ap accepted_answer c.in-Ok.ensures ∙ ap (λ (o : Option ℕ). accepted_answer (holder (holder_text (option_to_list o)))) has.1
     ∙ ap (λ (text : Text). accepted_answer (holder text)) (first_holder (held_by copy shop.rentals))
-    ∙ ap answer_of (sym (given_some NoCopy (HolderIs (held_by copy shop.rentals)) is_here _ _ (sym c.in-Some.is ∙ found.1)))) of_copy.0
+    ∙ ap answer_of (sym (given_some NoCopy (HolderIs (held_by copy shop.rentals)) is_here _ _ (sym c.in-Some.is ∙ found.1)))) has.0
 
 pub returns-in_default-clause-works : goal.returns-in_default-clause-works
 returns-in_default-clause-works g c = λ clean limits books holds held there last.

@@ -1,5 +1,9 @@
-use Rattle.std.proofs.Common.{refl}
-use Rattle.sql_rows.proofs.Inside.{survives_nothing}
+use Rattle.std.proofs.Common.{◌+◌, ◌∙◌, refl, subst, arith, map, drop}
+use Rattle.sqlite.specs.Held.{state}
+use Rattle.sql_rows.specs.Builds.{Builds}
+use Rattle.sql_rows.proofs.Creates.{next_of}
+use Rattle.sql_rows.proofs.Inside.{survives_nothing, keeps_then}
+use Rattle.sql_rows.proofs.Stays.{survives_more}
 use Rattle.sql_rows.proofs.make.make_tables.Goals as goal
 
 pub loop-text-init : goal.loop-text-init
@@ -8,4 +12,14 @@ loop-text-init g c = record {
   survives = survives_nothing _;
   kept = λ clean. record { was_open = λ now. now; committed = λ _. refl };
   built = λ clean whole b. b;
+}
+
+pub loop-text-preserved : goal.loop-text-preserved
+loop-text-preserved g c = record {
+  same = c.make_table.ensures.same_reference ∙ c.loop-text.invariant.same;
+  survives = survives_more _ _ _ c.loop-text.invariant.survives c.make_table.ensures.survives;
+  kept = λ clean. keeps_then _ _ _ (c.loop-text.invariant.kept (omega (arith, clean, c.make_table.ensures.survives.clean))) (c.in_ok-make_table.ensures.kept clean);
+  built = λ clean whole b. c.in_ok-make_table.ensures.made clean whole (map (λ t. t.now) (drop (c.loop-text.text-index + 1) c.args.texts.now))
+      (subst (Builds whole (state g.S.Store c.loop-text.tx.conn.now).now) (next_of c.args.texts.now c.loop-text.text-index _ (omega (arith, c.loop-text-test.true)))
+      (c.loop-text.invariant.built (omega (arith, clean, c.make_table.ensures.survives.clean)) whole b));
 }

@@ -1,0 +1,181 @@
+-- The texts on counts and on copies that are out, as SQL has them.
+use Rattle.std.proofs.Common.{◌≡◌, ◌+◌, ◌<◌, ◌^◌, ◌&&◌, ℕ, pos, List, [], ◌∷◌, codes, map, filter, true, cond, Some, None, Ok, refl, sym, ap, subst, arith, nat_lt, IsPermutation}
+use Rattle.std.specs.Prelude.{⊤}
+use Rattle.std.proofs.lemmas.Bool.Decides.{nat_tests}
+use Rattle.sqlite.specs.declared.types.Value.{Value}
+use Rattle.sqlite.specs.declared.types.Value.TheVariants.{Null, Int}
+use Rattle.sqlite_value.specs.Order as sql
+use Rattle.sqlite_value.specs.Order.{column}
+use Rattle.sqlite_trees.specs.Tree.{Trees}
+use Rattle.sqlite_sql.specs.Term.{Term, lit, col, op2}
+use Rattle.sqlite_sql.specs.Ops.{binary, int_or, real_arith, from_int}
+use Rattle.sqlite_value.specs.declared.keys.Collation.TheVariants.{Binary}
+use Rattle.sqlite_sql.specs.declared.ops.BinaryOp.TheVariants.{Arith, Compare}
+use Rattle.sqlite_sql.specs.declared.ops.CompareOp.TheVariants.{Eq}
+use Rattle.sqlite_sql.specs.declared.ops.ArithOp.TheVariants.{Add}
+use Rattle.sqlite.specs.Source.TheVariants.{Values}
+use Rattle.sqlite.specs.Command.TheVariants.{Insert, Update, Delete}
+use Rattle.sqlite_tied.specs.Compute.{everything}
+use Rattle.sqlite.specs.Listing.{understood}
+use Rattle.sqlite.specs.State.{State, Shown, ExecutesInside}
+use Rattle.sql_rows.specs.Builds.{Means}
+use Rattle.sql_rows.specs.Rows.{HasRows, PicksOne, number_value}
+use Rattle.sql_rows.specs.Books.{Changes}
+use Rattle.sql_rows.proofs.Appends.{map_push, are_kept}
+use Rattle.sql_rows.proofs.Queries.{Selects, plain_query}
+use Rattle.sql_rows.proofs.ColumnTests.{number_test, number_tested, two_tested, three_tested}
+use Rattle.sql_rows.proofs.Projects.{projects_bag, projects_one}
+use Rattle.sql_rows.proofs.Showing.{MeansShowing}
+use Rattle.sql_rows.proofs.Steps.{puts_row}
+use Rattle.sql_rows.proofs.Drops.{drops_row}
+use Rattle.shop_model.specs.Books.{Books}
+use Rattle.shop_schema.specs.Tables.{shop_schema, counter_table, out_copy_table}
+use Rattle.shop_schema.specs.Columns.{counter_columns, out_columns}
+use Rattle.shop_schema.specs.Counts.{Count, Out, Counts, is_count, is_out, is_out_by, raised, put_out, drop_out}
+use Rattle.shop_schema.specs.Shop.{StandsWith, IsShop}
+use Rattle.shop_schema.proofs.Stands.{with_outs}
+use Rattle.shop_store.proofs.CustomerTexts.{of_two}
+
+-- ---- counts
+
+abbrev pub select_count : List ℕ
+select_count = codes "SELECT last FROM counter WHERE caller = ?1 AND kind = ?2"
+
+pub select_count_means : Selects shop_schema select_count (plain_query 41 of_two (col 1 3 ∷ []) [])
+unfolding understood everything
+select_count_means = record { names = _; is = refl; plain = (refl, refl); unlisted = refl }
+
+pub count_test : (b k : ℕ) (c : Count) → (number_test 0 b (counter_columns c) && (number_test 1 k (counter_columns c) && true)) ≡ is_count b k c
+count_test b k c = two_tested _ _ (number_tested c.caller b) (number_tested c.kind k)
+
+pub shows_counts : (counts : Counts) (old new : State) (b k : ℕ) (rows : List sql.Row) (books : Books) → IsShop old → Shown select_count (number_value b ∷ number_value k ∷ []) old new rows
+    → StandsWith counts old.now.trees books → IsPermutation (map (λ (c : Count). number_value c.last ∷ []) (filter (is_count b k) counts.counters)) rows
+shows_counts counts old new b k rows books has h s =
+    projects_bag shop_schema select_count 41 3 of_two (col 1 3 ∷ []) select_count_means (number_value b ∷ number_value k ∷ []) old new rows has h counter_columns counts.counters s.counters refl
+    (λ vs. number_test 0 b vs && (number_test 1 k vs && true)) (λ vs. column vs 2 ∷ []) (is_count b k) (count_test b k) (λ r. refl)
+
+-- one more, as SQL adds it: a number where 64 bits hold it
+abbrev pub plus_one : Value → Value
+plus_one v = binary (Arith Add) v (Int (pos 1))
+
+pub plus_one_is : (n : ℕ) → n < 2 ^ 32 → plus_one (number_value n) ≡ number_value (n + 1)
+unfolding binary
+plus_one_is n small =
+    let fits : nat_lt (n + 1) (2 ^ 63) ≡ true = grind (arith, nat_tests) in
+    ap (λ b. int_or (cond b (Some (pos (n + 1))) None) (real_arith Add (from_int (pos n)) (from_int (pos 1)))) fits
+
+abbrev pub take_text : List ℕ
+take_text = codes "UPDATE counter SET last = last + 1 WHERE caller = ?1 AND kind = ?2 RETURNING last"
+
+abbrev pub take_terms : List Term
+take_terms = col 1 0 ∷ col 1 0 ∷ col 1 1 ∷ col 1 2 ∷ op2 (Arith Add) (col 1 3) (lit (Int (pos 1))) ∷ []
+
+-- behind the two parameters, a NULL and the rowid stand the columns
+abbrev pub told_terms : List Term
+told_terms = col 0 6 ∷ []
+
+pub take_means : MeansShowing shop_schema take_text (Update 18 (record { lets = []; body = plain_query 41 of_two take_terms [] })) told_terms
+unfolding understood everything
+take_means = record { names = _; is = refl; shows = refl; untimed = refl }
+
+abbrev pub count_set : sql.Row → sql.Row
+count_set vs = column vs 0 ∷ column vs 1 ∷ plus_one (column vs 2) ∷ []
+
+pub count_set_is : (c : Count) → c.last < 2 ^ 32 → count_set (counter_columns c) ≡ counter_columns (raised 1 c)
+count_set_is c small = ap (λ v. number_value c.caller ∷ number_value c.kind ∷ v ∷ []) (plus_one_is c.last small)
+
+pub count_kept : (c : Count) → c.last < 2 ^ 32 → are_kept counter_table.columns (count_set (counter_columns c)) ≡ true
+count_kept c small = ap (are_kept counter_table.columns) (count_set_is c small)
+
+-- so many more, by a parameter
+abbrev pub plus : ℕ → Value → Value
+plus m v = binary (Arith Add) v (number_value m)
+
+pub plus_is : (n m : ℕ) → n < 2 ^ 32 → m < 2 ^ 32 → plus m (number_value n) ≡ number_value (n + m)
+unfolding binary
+plus_is n m small few =
+    let fits : nat_lt (n + m) (2 ^ 63) ≡ true = grind (arith, nat_tests) in
+    ap (λ b. int_or (cond b (Some (pos (n + m))) None) (real_arith Add (from_int (pos n)) (from_int (pos m)))) fits
+
+abbrev pub raise_text : List ℕ
+raise_text = codes "UPDATE counter SET last = last + ?3 WHERE caller = ?1 AND kind = ?2 RETURNING last"
+
+abbrev pub raise_terms : List Term
+raise_terms = col 1 0 ∷ col 1 0 ∷ col 1 1 ∷ col 1 2 ∷ op2 (Arith Add) (col 1 3) (col 0 2) ∷ []
+
+-- behind three parameters
+abbrev pub raise_told : List Term
+raise_told = col 0 7 ∷ []
+
+pub raise_means : MeansShowing shop_schema raise_text (Update 18 (record { lets = []; body = plain_query 41 of_two raise_terms [] })) raise_told
+unfolding understood everything
+raise_means = record { names = _; is = refl; shows = refl; untimed = refl }
+
+abbrev pub count_more : ℕ → sql.Row → sql.Row
+count_more m vs = column vs 0 ∷ column vs 1 ∷ plus m (column vs 2) ∷ []
+
+pub count_more_is : (m : ℕ) → m < 2 ^ 32 → (c : Count) → c.last < 2 ^ 32 → count_more m (counter_columns c) ≡ counter_columns (raised m c)
+count_more_is m few c small = ap (λ v. number_value c.caller ∷ number_value c.kind ∷ v ∷ []) (plus_is c.last m small few)
+
+pub more_kept : (m : ℕ) → m < 2 ^ 32 → (c : Count) → c.last < 2 ^ 32 → are_kept counter_table.columns (count_more m (counter_columns c)) ≡ true
+more_kept m few c small = ap (are_kept counter_table.columns) (count_more_is m few c small)
+
+-- ---- the two tables beside any books
+
+abbrev pub Beside : Books → Trees → Counts → Type 0
+Beside books trees counts = StandsWith counts trees books
+
+abbrev pub values_3 : List Term
+values_3 = lit Null ∷ col 0 0 ∷ col 0 1 ∷ col 0 2 ∷ []
+
+-- ---- copies that are out
+
+abbrev pub select_out : List ℕ
+select_out = codes "SELECT rental FROM out_copy WHERE branch = ?1 AND copy = ?2"
+
+pub select_out_means : Selects shop_schema select_out (plain_query 43 of_two (col 1 3 ∷ []) [])
+unfolding understood everything
+select_out_means = record { names = _; is = refl; plain = (refl, refl); unlisted = refl }
+
+pub out_test : (b x : ℕ) (o : Out) → (number_test 0 b (out_columns o) && (number_test 1 x (out_columns o) && true)) ≡ is_out b x o
+out_test b x o = two_tested _ _ (number_tested o.branch b) (number_tested o.copy x)
+
+pub shows_out : (counts : Counts) (old new : State) (b x : ℕ) (rows : List sql.Row) (books : Books) → IsShop old → Shown select_out (number_value b ∷ number_value x ∷ []) old new rows
+    → StandsWith counts old.now.trees books → PicksOne (is_out b x) counts.outs → rows ≡ map (λ (o : Out). number_value o.rental ∷ []) (filter (is_out b x) counts.outs)
+shows_out counts old new b x rows books has h s few =
+    projects_one shop_schema select_out 43 3 of_two (col 1 3 ∷ []) select_out_means (number_value b ∷ number_value x ∷ []) old new rows has h out_columns counts.outs s.outs refl
+    (λ vs. number_test 0 b vs && (number_test 1 x vs && true)) (λ vs. column vs 2 ∷ []) (is_out b x) (out_test b x) (λ r. refl) few
+
+abbrev pub insert_out : List ℕ
+insert_out = codes "INSERT INTO out_copy (branch, copy, rental) VALUES (?1, ?2, ?3)"
+
+pub insert_out_means : Means shop_schema insert_out (Insert 19 (Values values_3 4))
+unfolding understood everything
+insert_out_means = record { is = refl; plain = (refl, refl) }
+
+pub puts_out : (books : Books) (old new : State) (o : Out) (count : ℕ) → IsShop old → ExecutesInside 0 insert_out (out_columns o) old new (Ok count)
+    → Changes shop_schema (Beside books) old new (λ _. ⊤) (put_out o)
+puts_out books old new o count has h =
+    puts_row shop_schema (Beside books) insert_out 19 out_copy_table values_3 3 insert_out_means (record { place = refl; uncounted = refl; unstamped = refl })
+    (out_columns o) old new count has h refl refl refl (λ id. refl) (put_out o)
+    (λ counts same s more. with_outs _ _ books counts _ same s (subst (HasRows 3 (new.now.trees 43)) (sym (map_push out_columns counts.outs o)) (more _ s.outs)))
+
+abbrev pub delete_out : List ℕ
+delete_out = codes "DELETE FROM out_copy WHERE branch = ?1 AND copy = ?2 AND rental = ?3"
+
+abbrev pub of_three : List Term
+of_three = op2 (Compare Eq Binary) (col 1 1) (col 0 0) ∷ op2 (Compare Eq Binary) (col 1 2) (col 0 1) ∷ op2 (Compare Eq Binary) (col 1 3) (col 0 2) ∷ []
+
+pub out_by_test : (b x n : ℕ) (o : Out) → (number_test 0 b (out_columns o) && (number_test 1 x (out_columns o) && (number_test 2 n (out_columns o) && true))) ≡ is_out_by b x n o
+out_by_test b x n o = three_tested _ _ _ (number_tested o.branch b) (number_tested o.copy x) (number_tested o.rental n)
+
+pub delete_out_means : Means shop_schema delete_out (Delete 19 (record { lets = []; body = plain_query 43 of_three (col 1 0 ∷ []) [] }))
+unfolding understood everything
+delete_out_means = record { is = refl; plain = (refl, refl) }
+
+pub drops_out : (books : Books) (old new : State) (b x n : ℕ) (count : ℕ) → IsShop old → ExecutesInside 0 delete_out (number_value b ∷ number_value x ∷ number_value n ∷ []) old new (Ok count)
+    → Changes shop_schema (Beside books) old new (λ counts. PicksOne (is_out_by b x n) counts.outs) (drop_out b x n)
+drops_out books old new b x n count has h =
+    drops_row shop_schema (Beside books) delete_out 19 out_copy_table 3 of_three (col 1 0 ∷ []) (number_value b ∷ number_value x ∷ number_value n ∷ []) out_columns
+    (λ vs. number_test 0 b vs && (number_test 1 x vs && (number_test 2 n vs && true))) (is_out_by b x n) (out_by_test b x n) old new has delete_out_means refl refl count h refl (λ r. refl) (λ r. refl)
+    (λ counts. PicksOne (is_out_by b x n) counts.outs) (drop_out b x n) (λ counts same s few drops. with_outs _ _ books counts _ same s (drops counts.outs s.outs few))

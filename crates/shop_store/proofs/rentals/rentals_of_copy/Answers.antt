@@ -1,7 +1,0 @@
-use Rattle.shop_store.proofs.RentalReads.{read_of_copy}
-use Rattle.shop_store.proofs.rentals.rentals_of_copy.Goals as goal
-
-pub returns-clause-rows : goal.returns-clause-rows
-returns-clause-rows g c clean =
-    let shown = rw (c.to_sql.ensures, c.get.ensures.value, c.to_sql-2.ensures, c.get-2.ensures.value) at (c.in_ok-rows.ensures.shown clean) in
-    read_of_copy _ _ c.args.branch c.args.copy _ _ c.read_all.result shown c.as_slice.ensures.value c.read_all.ensures.ok c.read_all.ensures.values
