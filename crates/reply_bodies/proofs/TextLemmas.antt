@@ -7,9 +7,9 @@ use Rattle.json.specs.Print as print
 use Rattle.serde_json.specs.Data.{Data, null, boolean, number, unsigned, string, array, object, Items, no_items, item, Members, no_members, member}
 use Rattle.serde_json.specs.View.{items_of}
 use Rattle.serde_json.specs.Written as written
-use Rattle.shop_model.specs.Values.{Text}
+use Rattle.shop_model.specs.Values.{Text, OfficeAct, AddCountry, AddCity, AddLanguage, AddCategory, AddActor, AddFilm, PriceFilm, WithdrawFilm, AddCast, AddBranch, AddStaff, StaffLeaves, SetManager}
 use Rattle.shop_model.specs.Json as json
-use Rattle.reply_bodies.specs.Bodies.{numbers_value}
+use Rattle.reply_bodies.specs.Bodies.{numbers_value, office_value, office_members}
 
 -- a value's text by the definitions of the shop
 abbrev mutual
@@ -75,3 +75,19 @@ pub text_of_value : {E : Type 0} (r : Result (String Global) E) (value d : Data)
     → IfOk r (λ s. string_bytes s ≡ json_text d)
 text_of_value r value d e none_float h =
     IfOk-weaker r _ _ (λ s text. text (ap written.has_float e ∙ none_float) ∙ (ap written.compact_text e ∙ same_text d)) h
+
+-- what a command of head office is told has numbers alone
+pub office_body : (act : OfficeAct) (next : ℕ) → (written.has_float (office_value act next) ≡ false) × (json_text (office_value act next) ≡ json.object (office_members act next))
+office_body (AddCountry name) next = (refl, refl)
+office_body (AddCity city) next = (refl, refl)
+office_body (AddLanguage name) next = (refl, refl)
+office_body (AddCategory name) next = (refl, refl)
+office_body (AddActor actor) next = (refl, refl)
+office_body (AddFilm film) next = (refl, refl)
+office_body (PriceFilm film rate) next = (refl, refl)
+office_body (WithdrawFilm film) next = (refl, refl)
+office_body (AddCast cast) next = (refl, refl)
+office_body (AddBranch branch) next = (refl, refl)
+office_body (AddStaff staff) next = (refl, refl)
+office_body (StaffLeaves staff) next = (refl, refl)
+office_body (SetManager branch staff) next = (refl, refl)

@@ -3,11 +3,13 @@
 
 mod customer;
 mod numbers;
+mod office;
 mod payment;
 mod rental;
 mod stock;
 
 pub use customer::{customer_text, new_customer_text};
+pub use office::office_text;
 pub use payment::{balance_text, payment_text, rewards_text};
 pub use rental::{
     active_text, copies_text, holder_text, in_stock_text, rental_text, returned_text, scrapped_text,

@@ -1,4 +1,5 @@
 pub mod RowLemmas
+pub mod FoundLemmas
 pub mod ShopLemmas
 pub mod NumberLemmas
 pub mod Isolation

@@ -12,3 +12,4 @@ pub mod Values
 pub mod FirstValues
 pub mod Numbered
 pub mod Different
+pub mod FormSteps

@@ -8,7 +8,7 @@ use shop_types::{Act, Command, NoMemory, Person, RentalNo};
 use sql_rows::Bytes;
 use std::alloc::Global;
 
-fn add_number(form: &mut Vec<u8>, number: u32) -> Result<(), NoMemory>
+pub fn add_number(form: &mut Vec<u8>, number: u32) -> Result<(), NoMemory>
     ensures { OnOk result (form.new.items ≡ form.old.items ++ number_form number) }
 {
     let bytes = [
@@ -22,7 +22,7 @@ fn add_number(form: &mut Vec<u8>, number: u32) -> Result<(), NoMemory>
 }
 
 /// Four bytes tell the length.
-fn add_bytes(form: &mut Vec<u8>, bytes: &[u8]) -> Result<(), NoMemory>
+pub fn add_bytes(form: &mut Vec<u8>, bytes: &[u8]) -> Result<(), NoMemory>
     requires { length bytes.now < 2 ^ 32 }
     ensures { OnOk result (form.new.items ≡ form.old.items ++ text_form bytes.now) }
 {
@@ -31,14 +31,14 @@ fn add_bytes(form: &mut Vec<u8>, bytes: &[u8]) -> Result<(), NoMemory>
     Ok(())
 }
 
-fn add_text(form: &mut Vec<u8>, text: &str) -> Result<(), NoMemory>
+pub fn add_text(form: &mut Vec<u8>, text: &str) -> Result<(), NoMemory>
     requires { length text.now < 2 ^ 32 }
     ensures { OnOk result (form.new.items ≡ form.old.items ++ text_form text.now) }
 {
     add_bytes(form, text.as_bytes())
 }
 
-fn add_person(form: &mut Vec<u8>, person: &Person) -> Result<(), NoMemory>
+pub fn add_person(form: &mut Vec<u8>, person: &Person) -> Result<(), NoMemory>
     ensures { OnOk result (form.new.items ≡ form.old.items ++ person_form (seen_person person.now)) }
 {
     add_text(form, person.first.as_str())?;

@@ -1,4 +1,6 @@
+pub mod Films
 pub mod Seen
 pub mod Replies
 pub mod Lines
 pub mod StockFiles
+pub mod Verdicts

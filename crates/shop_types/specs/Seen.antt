@@ -1,4 +1,5 @@
 -- What the program's values mean in the definitions of the shop.
+use Rattle.std.specs.Prelude.{false, None}
 use Rattle.shop_model.specs.Values as model
 use Rattle.shop_model.specs.Machine as machine
 use Rattle.shop_model.specs.Books as books
@@ -10,6 +11,14 @@ use Rattle.shop_types.specs.declared.payment.Payment.{Payment}
 use Rattle.shop_types.specs.declared.command.Act.{Act}
 use Rattle.shop_types.specs.declared.command.Act.TheVariants as act
 use Rattle.shop_types.specs.declared.command.Command.{Command}
+use Rattle.shop_types.specs.declared.catalogue.City.{City}
+use Rattle.shop_types.specs.declared.catalogue.Actor.{Actor}
+use Rattle.shop_types.specs.declared.catalogue.Branch.{Branch}
+use Rattle.shop_types.specs.declared.catalogue.Staff.{Staff}
+use Rattle.shop_types.specs.declared.film.Film.{Film}
+use Rattle.shop_types.specs.declared.office.OfficeAct.{OfficeAct}
+use Rattle.shop_types.specs.declared.office.OfficeAct.TheVariants as office
+use Rattle.shop_types.specs.declared.office.OfficeCommand.{OfficeCommand}
 use Rattle.shop_types.specs.declared.request.Ask.{Ask}
 use Rattle.shop_types.specs.declared.request.Ask.TheVariants as ask
 use Rattle.shop_types.specs.declared.request.Request.{Request}
@@ -18,6 +27,7 @@ use Rattle.shop_types.specs.declared.request.Caller.{Caller}
 use Rattle.shop_types.specs.declared.request.Caller.TheVariants as caller
 use Rattle.shop_types.specs.declared.refusal.Refusal.{Refusal}
 use Rattle.shop_types.specs.declared.refusal.Refusal.TheVariants as refusal
+use Rattle.shop_types.specs.Films.{rating_text, features_text}
 
 abbrev pub seen_person : Person → model.Person
 seen_person person = record {
@@ -91,6 +101,63 @@ abbrev pub seen_caller : Caller → books.Caller
 seen_caller (caller.Branch number) = books.Counter number
 seen_caller caller.Office = books.HeadOffice
 seen_caller caller.Nobody = books.Nobody
+
+-- ---- head office
+
+abbrev pub seen_city : City → model.City
+seen_city city = record { name = city.name; country = city.country }
+
+abbrev pub seen_actor : Actor → model.Actor
+seen_actor actor = record { first = actor.first; last = actor.last }
+
+-- a new film isn't withdrawn
+abbrev pub seen_film : Film → model.Film
+seen_film film = record {
+  title = film.title;
+  description = film.description;
+  language = film.language;
+  category = film.category;
+  period = film.period;
+  rate = film.rate;
+  replacement = film.replacement;
+  minutes = film.minutes;
+  rating = rating_text film.rating;
+  features = features_text film.features;
+  withdrawn = false;
+}
+
+-- a new branch has no manager
+abbrev pub seen_branch : Branch → model.Branch
+seen_branch branch = record {
+  token = branch.token;
+  address = branch.address;
+  postal = branch.postal;
+  phone = branch.phone;
+  city = branch.city;
+  manager = None;
+}
+
+-- who is new hasn't left
+abbrev pub seen_staff : Staff → model.Staff
+seen_staff staff = record { branch = staff.branch; person = seen_person staff.person; gone = false }
+
+abbrev pub seen_office_act : OfficeAct → model.OfficeAct
+seen_office_act (office.Country name) = model.AddCountry name
+seen_office_act (office.City city) = model.AddCity (seen_city city)
+seen_office_act (office.Language name) = model.AddLanguage name
+seen_office_act (office.Category name) = model.AddCategory name
+seen_office_act (office.Actor actor) = model.AddActor (seen_actor actor)
+seen_office_act (office.Film film) = model.AddFilm (seen_film film)
+seen_office_act (office.Price film rate) = model.PriceFilm film rate
+seen_office_act (office.Withdraw film) = model.WithdrawFilm film
+seen_office_act (office.Cast film actor) = model.AddCast (record { film = film; actor = actor })
+seen_office_act (office.Branch branch) = model.AddBranch (seen_branch branch)
+seen_office_act (office.Staff staff) = model.AddStaff (seen_staff staff)
+seen_office_act (office.Leave staff) = model.StaffLeaves staff
+seen_office_act (office.Manager branch staff) = model.SetManager branch staff
+
+abbrev pub seen_office : OfficeCommand → model.OfficeCommand
+seen_office command = record { key = command.key; act = seen_office_act command.act }
 
 -- ---- refusals
 

@@ -1,8 +1,12 @@
 //! What callers ask of the shop and are told: commands, readings, refusals and replies, each with its meaning in the definitions.
 #![tactic(auto)]
 
+mod catalogue;
 mod command;
+mod film;
+mod found;
 mod line;
+mod office;
 mod payment;
 mod person;
 mod refusal;
@@ -12,14 +16,18 @@ mod request;
 mod stock_file;
 mod words;
 
+pub use catalogue::{Actor, Branch, City, Staff};
 pub use command::{Act, Command};
+pub use film::{Features, Film, Minutes, Period, Rating};
+pub use found::{KeptFound, StaffFound};
 pub use line::{Line, LineAct, Usage};
+pub use office::{OfficeAct, OfficeCommand};
 pub use payment::Payment;
 pub use person::{Customer, Person};
 pub use refusal::{BadCsv, Refusal};
 pub use rental::Rental;
 pub use reply::{Body, Reply};
-pub use request::{Ask, Caller, OfficeAct, OfficeCommand, Request};
+pub use request::{Ask, Caller, Request};
 pub use shop_values::{
     ActorNo, Amount, BranchNo, CategoryNo, Cents, CityNo, CopyNo, CountryNo, CustomerNo, FilmNo,
     Key, L45, L500, LanguageNo, Limits, LotName, Moment, Name, NoMemory, PaymentNo, Rate, RentalNo,

@@ -4,7 +4,7 @@ use shop_values::Token;
 /// What a line of words asks the program of head office for.
 #[derive(Drop)]
 pub enum LineAct {
-    /// A request of head office to the chain.
+    /// A command of head office to the chain.
     Office(OfficeCommand),
     /// To make a new chain, whose head office has the token.
     Init(Token),

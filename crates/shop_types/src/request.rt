@@ -1,5 +1,5 @@
 use crate::Command;
-use shop_values::{BranchNo, CopyNo, CustomerNo, FilmNo, Key, Moment};
+use shop_values::{BranchNo, CopyNo, CustomerNo, FilmNo, Moment};
 
 /// What a counter's reading shows.
 #[derive(Clone, Copy, Debug, PartialEq, Eq)]
@@ -27,18 +27,6 @@ pub enum Ask {
         purchases: u32,
         cents: u32,
     },
-}
-
-/// What head office's request does. There is none yet, and so no value.
-#[derive(Drop)]
-pub enum OfficeAct {}
-
-/// A request of head office.
-#[derive(Drop)]
-pub struct OfficeCommand {
-    /// There exactly where the act changes something.
-    pub key: Option<Key>,
-    pub act: OfficeAct,
 }
 
 /// What a caller asks.

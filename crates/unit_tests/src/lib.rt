@@ -6,6 +6,8 @@ mod messages;
 #[cfg(test)]
 mod money;
 #[cfg(test)]
+mod office;
+#[cfg(test)]
 mod rentals;
 #[cfg(test)]
 mod routes;

@@ -1,0 +1,88 @@
+//! The decision on a command of head office.
+
+ghost use Rattle.std.specs.Prelude.{◌≡◌, Some};
+ghost use Rattle.shop_model.specs.Values as model;
+ghost use Rattle.shop_model.specs.Shop.{Catalogue};
+ghost use Rattle.shop_model.specs.Verdict.{first, office_refusals};
+ghost use Rattle.shop_types.specs.Seen.{seen_office, seen_office_act};
+ghost use Rattle.shop_types.specs.Verdicts.{verdict_by};
+ghost use Rattle.catalogue_core.specs.Shares.{Shares, ActShares};
+ghost use Rattle.catalogue_core.specs.Decided.{IsDecided, fresh_refusals};
+
+use crate::Shared;
+use crate::acts::{
+    branch_refusal, cast_refusal, leave_refusal, manager_refusal, name_refusal, price_refusal,
+    row_refusal, staff_refusal, withdraw_refusal,
+};
+use shop_types::{Limits, OfficeAct, OfficeCommand, Refusal};
+
+/// What is decided of a command that isn't refused.
+#[derive(Clone, Copy, Debug)]
+pub enum OfficeChange<'a> {
+    /// It was sent before, and had the reply with this body: nothing changes.
+    Again(&'a str),
+    /// It is kept, and adds or sets the rows that its act names, as they stand in it.
+    Accepted,
+}
+
+/// Whether head office's command is accepted, or the first refusal that holds of it. It takes no memory.
+pub fn decide_office<'a>(
+    command: &OfficeCommand,
+    shared: &Shared<'a>,
+    limits: Limits,
+) -> Result<OfficeChange<'a>, Refusal>
+    ensures { (rules : model.Rules) (catalogue : Catalogue) → rules.commands ≡ limits.commands → Shares catalogue (seen_office command.now) shared.now → IsDecided rules catalogue (seen_office command.now) result }
+{
+    match shared.kept {
+        Some(kept) => {
+            if kept.is_same {
+                Ok(OfficeChange::Again(kept.reply))
+            } else {
+                Err(Refusal::KeyUsed)
+            }
+        }
+        None => match first_refusal(&command.act, shared, limits) {
+            Some(refusal) => Err(refusal),
+            None => Ok(OfficeChange::Accepted),
+        },
+    }
+}
+
+/// The first refusal of a command whose key isn't kept.
+fn first_refusal(act: &OfficeAct, shared: &Shared, limits: Limits) -> Option<Refusal>
+    ensures { (rules : model.Rules) (catalogue : Catalogue) (command : model.OfficeCommand) → command.act ≡ seen_office_act act.now → rules.commands ≡ limits.commands → Shares catalogue command shared.now
+        → verdict_by result ≡ Some (first (fresh_refusals rules catalogue command)) }
+{
+    if limits.commands() <= shared.keys {
+        Some(Refusal::Full)
+    } else {
+        act_refusal(act, shared)
+    }
+}
+
+/// The first refusal that goes by what the command does.
+fn act_refusal(act: &OfficeAct, shared: &Shared) -> Option<Refusal>
+    ensures { (catalogue : Catalogue) → ActShares catalogue (seen_office_act act.now) shared.now → verdict_by result ≡ Some (first (office_refusals catalogue (seen_office_act act.now))) }
+{
+    match act {
+        OfficeAct::Country(_) | OfficeAct::Language(_) | OfficeAct::Category(_) => {
+            name_refusal(shared.is_named)
+        }
+        OfficeAct::City(_) => row_refusal(shared.has_country),
+        OfficeAct::Actor(_) => None,
+        OfficeAct::Film(_) => row_refusal(shared.has_language && shared.has_category),
+        OfficeAct::Price { .. } => price_refusal(shared.film),
+        OfficeAct::Withdraw(_) => withdraw_refusal(shared.film),
+        OfficeAct::Cast { .. } => cast_refusal(shared.film, shared.has_actor, shared.has_cast),
+        OfficeAct::Branch(branch) => branch_refusal(
+            branch.token == shared.office_token,
+            shared.has_token,
+            shared.has_city,
+        ),
+        OfficeAct::Staff(_) => staff_refusal(shared.branch, shared.has_city),
+        OfficeAct::Leave(_) => leave_refusal(shared.staff),
+        OfficeAct::Manager { branch, staff } => {
+            manager_refusal(*branch, *staff, shared.branch, shared.staff)
+        }
+    }
+}

@@ -1,0 +1,148 @@
+//! The stored form of head office's commands.
+
+ghost use Rattle.std.specs.Prelude.{◌≡◌, false, [], ◌∷◌, ◌++◌, IfOk, OnOk};
+ghost use Rattle.shop_schema.specs.Forms.{number_form, text_form, option_form, flag_form, joined, film_form, branch_form, office_form, office_command_form};
+ghost use Rattle.shop_types.specs.Films.{rating_text, features_text};
+ghost use Rattle.shop_types.specs.Seen.{seen_film, seen_branch, seen_office_act, seen_office};
+
+use crate::form::{add_bytes, add_number, add_person, add_text};
+use shop_types::{Branch, Film, Minutes, NoMemory, OfficeAct, OfficeCommand, T45};
+use sql_rows::Bytes;
+use std::alloc::Global;
+
+/// How many there are, none or one, and then the minutes.
+fn add_minutes(form: &mut Vec<u8>, minutes: Option<Minutes>) -> Result<(), NoMemory>
+    ensures { OnOk result (form.new.items ≡ form.old.items ++ option_form minutes) }
+{
+    match minutes {
+        Some(minutes) => {
+            add_number(form, 1)?;
+            add_number(form, minutes.get() as u32)
+        }
+        None => add_number(form, 0),
+    }
+}
+
+/// What the film is called, and its language and category.
+fn add_heading(form: &mut Vec<u8>, film: &Film) -> Result<(), NoMemory>
+    ensures { OnOk result (form.new.items ≡ form.old.items ++
+        joined (text_form film.now.title ∷ text_form film.now.description ∷ number_form film.now.language ∷ number_form film.now.category ∷ [])) }
+{
+    add_text(form, film.title.as_str())?;
+    add_text(form, film.description.as_str())?;
+    add_number(form, film.language.get())?;
+    add_number(form, film.category.get())
+}
+
+/// On what terms the film is rented.
+fn add_terms(form: &mut Vec<u8>, film: &Film) -> Result<(), NoMemory>
+    ensures { OnOk result (form.new.items ≡ form.old.items ++
+        joined (number_form film.now.period ∷ number_form film.now.rate ∷ number_form film.now.replacement ∷ [])) }
+{
+    add_number(form, film.period.get() as u32)?;
+    add_number(form, film.rate.get() as u32)?;
+    add_number(form, film.replacement.get())
+}
+
+/// How long the film is, for whom it is meant and what comes with it. A new film isn't withdrawn.
+fn add_details(form: &mut Vec<u8>, film: &Film) -> Result<(), NoMemory>
+    ensures { OnOk result (form.new.items ≡ form.old.items ++
+        joined (option_form film.now.minutes ∷ text_form (rating_text film.now.rating)
+        ∷ text_form (features_text film.now.features) ∷ flag_form false ∷ [])) }
+{
+    add_minutes(form, film.minutes)?;
+    add_text(form, film.rating.text())?;
+    add_text(form, film.features.text())?;
+    form.extend_from_slice(&[0])?;
+    Ok(())
+}
+
+fn add_film(form: &mut Vec<u8>, film: &Film) -> Result<(), NoMemory>
+    ensures { OnOk result (form.new.items ≡ form.old.items ++ film_form (seen_film film.now)) }
+{
+    add_heading(form, film)?;
+    add_terms(form, film)?;
+    add_details(form, film)?;
+    Ok(())
+}
+
+/// A new branch has no manager.
+fn add_branch(form: &mut Vec<u8>, branch: &Branch) -> Result<(), NoMemory>
+    ensures { OnOk result (form.new.items ≡ form.old.items ++ branch_form (seen_branch branch.now)) }
+{
+    add_bytes(form, branch.token.as_bytes())?;
+    add_text(form, branch.address.as_str())?;
+    add_text(form, branch.postal.as_str())?;
+    add_text(form, branch.phone.as_str())?;
+    add_number(form, branch.city.get())?;
+    add_number(form, 0)
+}
+
+fn add_office_act(form: &mut Vec<u8>, act: &OfficeAct) -> Result<(), NoMemory>
+    ensures { OnOk result (form.new.items ≡ form.old.items ++ office_form (seen_office_act act.now)) }
+{
+    match act {
+        OfficeAct::Country(name) => add_named(form, 1, name),
+        OfficeAct::City(city) => {
+            add_named(form, 2, &city.name)?;
+            add_number(form, city.country.get())
+        }
+        OfficeAct::Language(name) => add_named(form, 3, name),
+        OfficeAct::Category(name) => add_named(form, 4, name),
+        OfficeAct::Actor(actor) => {
+            add_named(form, 5, &actor.first)?;
+            add_text(form, actor.last.as_str())
+        }
+        OfficeAct::Film(film) => {
+            form.extend_from_slice(&[6])?;
+            add_film(form, film)
+        }
+        OfficeAct::Price { film, rate } => add_pair(form, 7, film.get(), rate.get() as u32),
+        OfficeAct::Withdraw(film) => add_one(form, 8, film.get()),
+        OfficeAct::Cast { film, actor } => add_pair(form, 9, film.get(), actor.get()),
+        OfficeAct::Branch(branch) => {
+            form.extend_from_slice(&[10])?;
+            add_branch(form, branch)
+        }
+        OfficeAct::Staff(staff) => {
+            add_one(form, 11, staff.branch.get())?;
+            add_person(form, &staff.person)
+        }
+        OfficeAct::Leave(staff) => add_one(form, 12, staff.get()),
+        OfficeAct::Manager { branch, staff } => add_pair(form, 13, branch.get(), staff.get()),
+    }
+}
+
+/// The byte that tells the act, and a name.
+fn add_named(form: &mut Vec<u8>, act: u8, name: &T45) -> Result<(), NoMemory>
+    ensures { OnOk result (form.new.items ≡ form.old.items ++ act ∷ text_form name.now) }
+{
+    form.extend_from_slice(&[act])?;
+    add_text(form, name.as_str())
+}
+
+/// The byte that tells the act, and a number.
+fn add_one(form: &mut Vec<u8>, act: u8, number: u32) -> Result<(), NoMemory>
+    ensures { OnOk result (form.new.items ≡ form.old.items ++ act ∷ number_form number) }
+{
+    form.extend_from_slice(&[act])?;
+    add_number(form, number)
+}
+
+/// The byte that tells the act, and two numbers.
+fn add_pair(form: &mut Vec<u8>, act: u8, one: u32, other: u32) -> Result<(), NoMemory>
+    ensures { OnOk result (form.new.items ≡ form.old.items ++ act ∷ joined (number_form one ∷ number_form other ∷ [])) }
+{
+    add_one(form, act, one)?;
+    add_number(form, other)
+}
+
+/// The bytes by which a command of head office is kept: all of it but its key. Under one key, two commands have the same bytes exactly where they are one
+/// command.
+pub fn office_form(alloc: Global, command: &OfficeCommand) -> Result<Bytes, NoMemory>
+    ensures { IfOk result (λ form. form ≡ office_command_form (seen_office command.now)) }
+{
+    let mut form = Vec::new(alloc);
+    add_office_act(&mut form, &command.act)?;
+    Ok(Bytes::new(form))
+}

@@ -1,0 +1,155 @@
+ghost use Rattle.std.specs.Prelude.{◌≡◌, ◌≤◌, Some, None, nat_lt, if◌then◌else◌};
+ghost use Rattle.shop_types.specs.Films.{rating_text, features_text};
+
+use shop_values::{Amount, CategoryNo, L500, LanguageNo, Rate, T128};
+use std::marker::Model;
+
+/// How many days a film may be kept, from 1 to 255.
+#[derive(Clone, Copy, Debug, PartialEq, Eq)]
+pub struct Period(u8);
+
+impl Model for Period {
+    ghost use Rattle.std.specs.Prelude.{ℕ, ◌≤◌};
+
+    ghost Value = { ℕ };
+
+    ghost view = { λ a. a.0 };
+
+    ghost invariant = { λ a. 1 ≤ a.0 };
+
+    ghost inverse = { λ days. record { 0 = days } };
+}
+
+impl Period {
+    /// The period, where it is not 0.
+    pub fn new(days: u8) -> Option<Period>
+        ensures { result ≡ (if nat_lt 0 days then Some days else None) }
+    {
+        if 0 < days { Some(Period(days)) } else { None }
+    }
+
+    pub fn get(self) -> u8
+        ensures value { result ≡ self }
+        ensures bound { 1 ≤ result }
+    {
+        self.0
+    }
+}
+
+/// How long a film is, from 1 to 65,535 minutes.
+#[derive(Clone, Copy, Debug, PartialEq, Eq)]
+pub struct Minutes(u16);
+
+impl Model for Minutes {
+    ghost use Rattle.std.specs.Prelude.{ℕ, ◌≤◌};
+
+    ghost Value = { ℕ };
+
+    ghost view = { λ a. a.0 };
+
+    ghost invariant = { λ a. 1 ≤ a.0 };
+
+    ghost inverse = { λ minutes. record { 0 = minutes } };
+}
+
+impl Minutes {
+    /// The length, where it is not 0.
+    pub fn new(minutes: u16) -> Option<Minutes>
+        ensures { result ≡ (if nat_lt 0 minutes then Some minutes else None) }
+    {
+        if 0 < minutes {
+            Some(Minutes(minutes))
+        } else {
+            None
+        }
+    }
+
+    pub fn get(self) -> u16
+        ensures value { result ≡ self }
+        ensures bound { 1 ≤ result }
+    {
+        self.0
+    }
+}
+
+/// For whom a film is meant: the ratings of the Sakila sample database.
+#[derive(Clone, Copy, Debug, PartialEq, Eq)]
+pub enum Rating {
+    G,
+    Pg,
+    Pg13,
+    R,
+    Nc17,
+}
+
+impl Rating {
+    /// As the sample database spells it.
+    pub fn text(self) -> &'static str
+        ensures { result.now ≡ rating_text self }
+    {
+        match self {
+            Rating::G => "G",
+            Rating::Pg => "PG",
+            Rating::Pg13 => "PG-13",
+            Rating::R => "R",
+            Rating::Nc17 => "NC-17",
+        }
+    }
+}
+
+/// What comes with a film: the special features of the Sakila sample database.
+#[derive(Clone, Copy, Debug, PartialEq, Eq)]
+pub struct Features {
+    pub trailers: bool,
+    pub commentaries: bool,
+    pub deleted_scenes: bool,
+    pub behind_the_scenes: bool,
+}
+
+impl Features {
+    /// Their names in the sample database's order, with commas between; nothing where there are none.
+    pub fn text(self) -> &'static str
+        ensures { result.now ≡ features_text self }
+    {
+        match (
+            self.trailers,
+            self.commentaries,
+            self.deleted_scenes,
+            self.behind_the_scenes,
+        ) {
+            (false, false, false, false) => "",
+            (true, false, false, false) => "Trailers",
+            (false, true, false, false) => "Commentaries",
+            (true, true, false, false) => "Trailers,Commentaries",
+            (false, false, true, false) => "Deleted Scenes",
+            (true, false, true, false) => "Trailers,Deleted Scenes",
+            (false, true, true, false) => "Commentaries,Deleted Scenes",
+            (true, true, true, false) => "Trailers,Commentaries,Deleted Scenes",
+            (false, false, false, true) => "Behind the Scenes",
+            (true, false, false, true) => "Trailers,Behind the Scenes",
+            (false, true, false, true) => "Commentaries,Behind the Scenes",
+            (true, true, false, true) => "Trailers,Commentaries,Behind the Scenes",
+            (false, false, true, true) => "Deleted Scenes,Behind the Scenes",
+            (true, false, true, true) => "Trailers,Deleted Scenes,Behind the Scenes",
+            (false, true, true, true) => "Commentaries,Deleted Scenes,Behind the Scenes",
+            (true, true, true, true) => "Trailers,Commentaries,Deleted Scenes,Behind the Scenes",
+        }
+    }
+}
+
+/// A film that head office adds. It isn't withdrawn.
+#[derive(Clone, Debug, Drop, PartialEq, Eq)]
+pub struct Film {
+    pub title: T128,
+    pub description: L500,
+    pub language: LanguageNo,
+    pub category: CategoryNo,
+    pub period: Period,
+    /// What a rental of it costs.
+    pub rate: Rate,
+    /// What a lost copy costs, from 0 to 99,999 cents.
+    pub replacement: Amount,
+    pub minutes: Option<Minutes>,
+    pub rating: Rating,
+    pub features: Features,
+}

@@ -1,0 +1,18 @@
+use shop_values::BranchNo;
+
+/// The kept row of a command's key, as compared with the command.
+#[derive(Clone, Copy, Debug)]
+pub struct KeptFound<'a> {
+    /// Whether the kept command is equal to the command.
+    pub is_same: bool,
+    /// The body of the reply that the kept command had.
+    pub reply: &'a str,
+}
+
+/// A member of staff whom a command names.
+#[derive(Clone, Copy, Debug)]
+pub struct StaffFound {
+    pub branch: BranchNo,
+    /// Whether the member of staff left.
+    pub gone: bool,
+}

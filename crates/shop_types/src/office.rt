@@ -1,0 +1,33 @@
+use crate::{Actor, Branch, City, Film, Staff};
+use shop_values::{ActorNo, BranchNo, FilmNo, Key, Rate, StaffNo, T45};
+
+/// What a command of head office does to the catalogue.
+#[derive(Clone, Debug, Drop, PartialEq, Eq)]
+pub enum OfficeAct {
+    Country(T45),
+    City(City),
+    Language(T45),
+    Category(T45),
+    Actor(Actor),
+    Film(Film),
+    /// Sets what a rental of the film costs.
+    Price { film: FilmNo, rate: Rate },
+    /// Takes a film out of the catalogue: it can't be rented or imported from then on.
+    Withdraw(FilmNo),
+    /// Puts an actor into the cast of a film.
+    Cast { film: FilmNo, actor: ActorNo },
+    Branch(Branch),
+    Staff(Staff),
+    /// A member of staff leaves for good. A manager who leaves stays named.
+    Leave(StaffNo),
+    /// Makes a member of staff of the branch its manager.
+    Manager { branch: BranchNo, staff: StaffNo },
+}
+
+/// A command of head office.
+#[derive(Clone, Debug, Drop, PartialEq, Eq)]
+pub struct OfficeCommand {
+    /// By which the command is known where it is sent again.
+    pub key: Key,
+    pub act: OfficeAct,
+}
