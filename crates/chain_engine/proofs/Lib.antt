@@ -5,4 +5,5 @@ pub mod Branches
 pub mod Running
 pub mod Resting
 pub mod Requests
+pub mod Deciding
 pub mod Opening

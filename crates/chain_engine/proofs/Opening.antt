@@ -1,5 +1,5 @@
 -- What an open of files finds, and what files hold after the store is closed.
-use Rattle.std.proofs.Common.{◌≡◌, ◌∙◌, inl, inr, refl, sym, ap, subst, IsTrue, arith, map, List, [], ◌∷◌, pos, negsuc}
+use Rattle.std.proofs.Common.{◌≡◌, ◌∙◌, inl, inr, refl, sym, ap, subst, true, false, IsTrue, arith, map, List, [], ◌∷◌, pos, negsuc}
 use Rattle.std.specs.Prelude.{◌==◌}
 use Rattle.std.proofs.lemmas.Bool.{cases_Bool}
 use Rattle.std.proofs.lemmas.List.Sorted.{length_permutation}
@@ -24,20 +24,24 @@ use Rattle.sqlite_catalog.specs.Listing.{IsSound as IsDatabaseOf}
 use Rattle.sqlite.specs.Effect.{Database}
 use Rattle.sqlite.specs.State.{State, HasCleanDisk, Survives}
 use Rattle.sqlite.specs.Held.{Held, AreDatabases}
-use Rattle.sqlite.specs.Files.{HoldsDatabase, Finds, IsOpened, file_state, image_of}
+use Rattle.sqlite.specs.Files.{HoldsDatabase, Finds, IsOpened, over_files, file_state, image_of}
 use Rattle.sqlite.proofs.Theorems.{opens_again}
 use Rattle.sql_rows.specs.Rows.{columns_of, HasRows}
 use Rattle.sql_rows.proofs.Opened.{opened_keyed}
 use Rattle.sql_rows.proofs.Unique.{one_schema}
 use Rattle.shop_model.specs.Books.{Books}
+use Rattle.shop_model.specs.Sound.{IsSound}
+use Rattle.shop_schema.specs.RowValues.{AreValues}
 use Rattle.shop_schema.specs.Tables.{shop_schema}
 use Rattle.shop_schema.specs.Shop.{HasVersion, StandsFor}
 use Rattle.shop_schema.specs.Columns.{this_version}
 use Rattle.sqlite.specs.Schema.{Schema}
 use Rattle.shop_schema.specs.Versions.{version_of, version_told}
 use Rattle.shop_schema.specs.declared.known.KnownVersion.TheVariants.{This, Missing, Other}
-use Rattle.chain_engine.specs.Chains.{Rests}
-use Rattle.chain_engine.specs.Files.{HoldsBooks, HoldsOne, HoldsNoChain, HasThisVersion, HasNoVersion, HasOtherVersion, Knows}
+use Rattle.chain_engine.specs.Chains.{Rests, IsAt, widest_rules}
+use Rattle.chain_engine.specs.Holding.{Chained}
+use Rattle.chain_engine.proofs.Deciding.{stands_in_any}
+use Rattle.chain_engine.specs.Files.{HoldsBooks, HoldsOne, KeepsBooks, HoldsNoChain, HasThisVersion, HasNoVersion, HasOtherVersion, Knows}
 
 pub clean_store : {D : Type 0} {g : Ghosts D} (it : FileStore D g) (files : Files D) → (files.log, files.db) ≡ store_files it → AreClean g files.log files.db → IsClean (view it)
 clean_store {D} {g} it files is honest = no_doubt _ (clean_is it.pool ∙ subst (λ (p : D × D). AreClean g p.0 p.1) is honest)
@@ -53,6 +57,29 @@ holds_one {D} {g} it files P is honest numbered sound within image may =
 pub kept_one : {D : Type 0} (g : Ghosts D) (files : Files D) (P Q : Trees → Type 0) → HoldsOne g files P → ((db : Trees) → P db → Q db) → HoldsOne g files Q
 kept_one g files P Q holds weaker image may =
     ∥∥₁_map (holds image may) (λ found. let r : (db : Trees) × Q db × HoldsDatabase image db = (found.0, weaker found.0 found.1, found.2) in r)
+
+-- the files of a chain that is closed keep its books
+pub keeps_books : {D : Type 0} {g : Ghosts D} (chain : Chained (FileStore D g)) (files : Files D) → (AreClean g files.log files.db → HoldsOne g files (file_state chain.conn).may_leave)
+    → chain.is_failed ≡ false → (books besides : Books) → IsAt over_files chain books besides → KeepsBooks g files books
+keeps_books {D} {g} chain files left live books besides at = record {
+  sound = at.sound;
+  values = at.values;
+  left = λ honest. kept_one g files _ _ (left honest) (at.rests live).left;
+}
+
+-- a chain that rests on books, and whose store hasn't failed, is at them
+pub opened_at : {D : Type 0} {g : Ghosts D} (chain : Chained (FileStore D g)) (books : Books) → chain.is_failed ≡ false → IsSound widest_rules books → AreValues books
+    → Rests (file_state chain.conn) books → IsAt over_files chain books books
+opened_at chain books live sound values rests = record {
+  sound = sound;
+  values = values;
+  rests = λ _. rests;
+  alone = λ _. refl;
+  left = λ failed. absurd (apart (sym live ∙ failed));
+}
+  where
+    apart : false ≡ true → ⊥
+    apart e = cc
 
 -- while a connection is open, a crash leaves the last commit alone
 pub only_committed : {D : Type 0} {g : Ghosts D} (c : Held (FileStore D g)) → SeenMayStay g → IsTrue (file_state c).is_open → (db : Trees) → (file_state c).may_leave db → db ≡ (file_state c).committed.trees
@@ -88,15 +115,24 @@ module _ {D : Type 0} {g : Ghosts D} (c : Held (FileStore D g)) (files : Files D
   shows_found : (db : Trees) → HoldsDatabase (image_of g files) db → opened_state.now.trees ≡ db
   shows_found db held = same_trees ∙ found.holds db held
 
-  pub found_rests : SeenMayStay g → opened_state.now.schema ≡ shop_schema → (books : Books) → HoldsBooks (image_of g files) books → Rests opened_state books
-  found_rests stays schema books held =
-      let is : opened_state.committed.trees ≡ held.db = ∥∥₁_elim held.holds (Trees-set _ _) (found.holds held.db) in
-      let stands : StandsFor opened_state.committed.trees books = subst (λ t. StandsFor t books) (sym is) held.stands in
+  rests_on : SeenMayStay g → opened_state.now.schema ≡ shop_schema → (books : Books) → StandsFor opened_state.committed.trees books → Rests opened_state books
+  rests_on stays schema books stands =
       record {
         now = λ live. record { schema_is = schema; keyed = opened_keyed shop_schema files c opened found schema; stands = subst (λ (d : Database). StandsFor d.trees books) (sym opened.0.clean) stands };
         committed = λ live. sym opened.0.clean;
         left = λ db may. subst (λ t. StandsFor t books) (sym (only_committed c stays opened.0.is_open db may)) stands;
       }
+
+  pub found_rests : SeenMayStay g → opened_state.now.schema ≡ shop_schema → (books : Books) → HoldsBooks (image_of g files) books → Rests opened_state books
+  found_rests stays schema books held =
+      let is : opened_state.committed.trees ≡ held.db = ∥∥₁_elim held.holds (Trees-set _ _) (found.holds held.db) in
+      rests_on stays schema books (subst (λ t. StandsFor t books) (sym is) held.stands)
+
+  -- the books that were closed
+  pub kept_rests : SeenMayStay g → opened_state.now.schema ≡ shop_schema → (books : Books) → KeepsBooks g files books → Rests opened_state books
+  kept_rests stays schema books keeps =
+      rests_on stays schema books (stands_in_any _ _ books
+      (∥∥₁_map (keeps.left found.honest (image_of g files) (stays _, stays _)) (λ it. subst (λ t. StandsFor t books) (sym (found.holds it.0 it.2)) it.1)))
 
   is_database : (db : Trees) → HoldsDatabase (image_of g files) db → IsDatabaseOf opened_state.now.schema db
   is_database db held = subst (IsDatabaseOf opened_state.now.schema) (shows_found db held) (opened.1 opened.0.is_open).0

@@ -3,6 +3,7 @@ use Rattle.std.specs.Prelude.{◌≡◌, ◌⊎◌, map}
 use Rattle.sqlite_disk.specs.declared.Disk.{Ghosts}
 use Rattle.sqlite_disk.specs.declared.Files.{Files}
 use Rattle.sqlite_wal.specs.Files.{outcomes}
+use Rattle.sqlite_wal.specs.Reads.{AreClean}
 use Rattle.sqlite_wal.specs.Recovery.{Image}
 use Rattle.sqlite_trees.specs.Tree.{Trees}
 use Rattle.sqlite_catalog.specs.Listing.{IsSound as IsDatabaseOf}
@@ -40,6 +41,13 @@ pub record HoldsBooks (image : Image) (books : Books) : Type 0 where
 -- whatever a crash leaves of the files, or a read finds in them, is a database of which this holds
 abbrev pub HoldsOne : {D : Type 0} → Ghosts D → Files D → (Trees → Type 0) → Type 0
 HoldsOne g files P = (image : Image) → outcomes g files.log files.db image → ∥ ((db : Trees) × P db × HoldsDatabase image db) ∥₁
+
+-- The files keep the books of a chain that is closed: what a close promises, and what an open asks. The books are sound, and where no wrong answer of the disk was
+-- taken as true, whatever is found in the files, or a crash leaves of them, is a database whose tables stand for the books.
+pub record KeepsBooks {D : Type 0} (g : Ghosts D) (files : Files D) (books : Books) : Type 0 where
+  pub sound : IsSound widest_rules books
+  pub values : AreValues books
+  pub left : AreClean g files.log files.db → HoldsOne g files (λ db. StandsFor db books)
 
 -- no database in the files has the tables of a chain, these and no other, standing for books
 abbrev pub HoldsNoChain : Image → Type 0

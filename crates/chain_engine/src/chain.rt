@@ -13,7 +13,7 @@ ghost use Rattle.shop_model.specs.Books.{Counter, HeadOffice};
 ghost use Rattle.shop_model.specs.Answers.{problem_answer};
 ghost use Rattle.shop_model.specs.Refusals.{StoreFailed};
 ghost use Rattle.chain_engine.specs.Holding.{Holding};
-ghost use Rattle.chain_engine.specs.Faults.{fault_name};
+ghost use Rattle.chain_engine.specs.Faults.{fault_name, open_fault_for};
 
 use crate::callers::find_caller;
 use crate::creation::{create, create_opening};
@@ -57,6 +57,7 @@ impl fmt::Display for OpenFault {
 
 /// Why there is no chain, by what the store answered.
 pub(crate) fn named(fault: StoreFault) -> OpenFault
+    ensures told { result ≡ open_fault_for fault }
     ensures chain { result ≢ OpenFault.NotAChain }
     ensures version { result ≢ OpenFault.OtherVersion }
 {

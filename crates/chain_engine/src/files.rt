@@ -12,7 +12,7 @@ ghost use Rattle.shop_model.specs.Books.{Books};
 ghost use Rattle.shop_schema.specs.Shop.{HasVersion};
 ghost use Rattle.shop_schema.specs.Versions.{version_of};
 ghost use Rattle.chain_engine.specs.Chains.{IsAt, Rests};
-ghost use Rattle.chain_engine.specs.Files.{Knows, HoldsBooks, HoldsOne, HoldsNoChain, HasThisVersion, HasNoVersion, HasOtherVersion, OpenFailed};
+ghost use Rattle.chain_engine.specs.Files.{Knows, HoldsBooks, HoldsOne, KeepsBooks, HoldsNoChain, HasThisVersion, HasNoVersion, HasOtherVersion, OpenFailed};
 
 use crate::chain::{Chain, OpenFault, named};
 use shop_schema::{KnownVersion, has_version, is_shop, version};
@@ -75,6 +75,7 @@ impl<D: Disk + Drop> Chain<FileStore<D>> {
         ensures live { IfOk result (λ chain. (chain.limits ≡ limits) × (chain.is_failed ≡ false)) }
         ensures honest { IfOk result (λ chain. HasCleanDisk (file_state chain.conn) → AreClean D.Disk files.log files.db) }
         ensures found { IfOk result (λ chain. HasCleanDisk (file_state chain.conn) → (books : Books) → HoldsBooks (image_of D.Disk files) books → IsAt over_files chain books books) }
+        ensures again { IfOk result (λ chain. HasCleanDisk (file_state chain.conn) → (books : Books) → KeepsBooks D.Disk files books → IsAt over_files chain books books) }
         ensures this { IfOk result (λ chain. HasCleanDisk (file_state chain.conn) → HasThisVersion (image_of D.Disk files)) }
         ensures no_chain { IfErr result (λ e. AreClean D.Disk e.1.log e.1.db → e.0 ≡ OpenFault.NotAChain → HoldsNoChain (image_of D.Disk files)) }
         ensures no_version { IfErr result (λ e. AreClean D.Disk e.1.log e.1.db → e.0 ≡ OpenFault.NotAChain → HasNoVersion (image_of D.Disk files)) }
@@ -101,8 +102,9 @@ impl<D: Disk + Drop> Chain<FileStore<D>> {
         }
     }
 
-    /// Gives the files back, which hold what a crash of the chain may leave.
+    /// Gives the files back, which hold what a crash of the chain may leave. Unless the store has failed, they keep the chain's books.
     pub fn close(self) -> Files<D>
+        ensures keeps { self.is_failed ≡ false → (books besides : Books) → IsAt over_files self books besides → KeepsBooks D.Disk result books }
         ensures left { AreClean D.Disk result.log result.db → HoldsOne D.Disk result (file_state self.conn).may_leave }
         ensures clean { AreClean D.Disk result.log result.db → HasCleanDisk (file_state self.conn) }
         ensures seen { outcomes D.Disk result.log result.db (image_of D.Disk result) }
@@ -114,5 +116,18 @@ impl<D: Disk + Drop> Chain<FileStore<D>> {
             alloc: _,
         } = self;
         give_back(conn)
+    }
+
+    /// Closes the chain and opens its files again, with the limits that it had: the new chain has the same books. A fault gives the files back, as `open_files` does.
+    pub fn reopen(self) -> Result<Chain<FileStore<D>>, (OpenFault, Files<D>)>
+        ensures live { IfOk result (λ chain. (chain.limits ≡ self.limits) × (chain.is_failed ≡ false)) }
+        ensures honest { IfOk result (λ chain. HasCleanDisk (file_state chain.conn) → HasCleanDisk (file_state self.conn)) }
+        ensures same { IfOk result (λ chain. HasCleanDisk (file_state chain.conn) → self.is_failed ≡ false → (books besides : Books) → IsAt over_files self books besides → IsAt over_files chain books books) }
+        ensures kept { IfErr result (λ e. (closed : _) × (self.is_failed ≡ false → (books besides : Books) → IsAt over_files self books besides → KeepsBooks D.Disk closed books)
+            × (AreClean D.Disk e.1.log e.1.db → OpenFailed D.Disk closed e.1 ⊎ ((db : Trees) → HoldsDatabase (image_of D.Disk closed) db → HoldsOne D.Disk e.1 (λ left. left ≡ db)))) }
+    {
+        let alloc = self.alloc;
+        let limits = self.limits;
+        Chain::open_files(alloc, self.close(), limits)
     }
 }

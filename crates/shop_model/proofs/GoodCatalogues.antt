@@ -1,17 +1,17 @@
 -- Each command of head office keeps what holds of the catalogue.
 use Rattle.std.proofs.Common.{◌≡◌, inl, inr, ℕ, ◌+◌, ◌≤◌, List, [], ◌∷◌, ◌++◌, filter, length, true, false, not, None, Some, refl, ◌∙◌, arith, length-append}
-use Rattle.std.specs.Prelude.{◌==◌, nat_le}
+use Rattle.std.specs.Prelude.{◌==◌, ◌&&◌, nat_le}
 use Rattle.std.specs.Option.{option_to_list}
 use Rattle.std.specs.List.{list_any, list_all}
 use Rattle.std.specs.Str.{bytes_eq}
 use Rattle.std.proofs.lemmas.Bool.{cases_Bool}
 use Rattle.shop_model.specs.Rows.{at, lacks, is_empty, set_at}
-use Rattle.shop_model.specs.Values.{City, Film, Cast, Branch, Staff, Customer, Copy, Rental, Payment, Arrival, OfficeAct, AddCountry, AddCity, AddLanguage, AddCategory, AddActor, AddFilm, PriceFilm, WithdrawFilm, AddCast, AddBranch, AddStaff, StaffLeaves, SetManager, OfficeCommand, Rules}
+use Rattle.shop_model.specs.Values.{Text, City, Film, Cast, Branch, Staff, Customer, Copy, Rental, Payment, Arrival, OfficeAct, AddCountry, AddCity, AddLanguage, AddCategory, AddActor, AddFilm, PriceFilm, WithdrawFilm, AddCast, AddBranch, AddStaff, StaffLeaves, SetManager, OfficeCommand, Rules}
 use Rattle.shop_model.specs.Refusals.{Refusal, Full}
 use Rattle.shop_model.specs.Shop.{OfficeKept, Catalogue, Shop, same_office}
 use Rattle.shop_model.specs.Verdict.{Verdict, Again, Refused, Accepted, first, office_refusals, office_resent, office_verdict}
 use Rattle.shop_model.specs.Machine.{office_acted, office_done, office_text}
-use Rattle.shop_model.specs.Links.{has_row, are_different, is_staff_of, IsLinkedShop, NamesRowsOf, HasSharedSizes, IsGoodCatalogue}
+use Rattle.shop_model.specs.Links.{has_row, are_different, is_staff_of, IsLinkedShop, NamesRowsOf, HasSharedSizes, HasNoDoubles, IsGoodCatalogue}
 use Rattle.shop_model.proofs.Isolation.{NoneHold, none_hold}
 use Rattle.shop_model.proofs.GoodShops.{all_more, all_weaker, all_set, length_set, key_room}
 use Rattle.shop_model.proofs.CustodyLemmas.{or_parts}
@@ -241,6 +241,23 @@ sizes_acted (AddStaff staff) it k h = let l = length-append it.kept (k ∷ []) i
 sizes_acted (StaffLeaves s) it k h = let l = length-append it.kept (k ∷ []) in record { casts = stays_fit _ _ _ l h.casts; countries = stays_fit _ _ _ l h.countries; cities = stays_fit _ _ _ l h.cities; languages = stays_fit _ _ _ l h.languages; categories = stays_fit _ _ _ l h.categories; actors = stays_fit _ _ _ l h.actors; films = stays_fit _ _ _ l h.films; branches = stays_fit _ _ _ l h.branches; staff = set_fits s (λ (x : Staff). record x { gone = true }) it.staff _ _ l h.staff }
 sizes_acted (SetManager b s) it k h = let l = length-append it.kept (k ∷ []) in record { casts = stays_fit _ _ _ l h.casts; countries = stays_fit _ _ _ l h.countries; cities = stays_fit _ _ _ l h.cities; languages = stays_fit _ _ _ l h.languages; categories = stays_fit _ _ _ l h.categories; actors = stays_fit _ _ _ l h.actors; films = stays_fit _ _ _ l h.films; branches = set_fits b (λ (x : Branch). record x { manager = Some s }) it.branches _ _ l h.branches; staff = stays_fit _ _ _ l h.staff }
 
+-- ---- doubles
+
+single_acted : (act : OfficeAct) (it : Catalogue) → HasNoDoubles it → NoneHold (office_refusals it act) → HasNoDoubles (office_acted act it)
+single_acted (AddCountry name) it h none = record { casts = h.casts; countries = different_more (λ (earlier later : Text). bytes_eq later earlier) it.countries name h.countries none.0; languages = h.languages; categories = h.categories }
+single_acted (AddCity city) it h none = record { casts = h.casts; countries = h.countries; languages = h.languages; categories = h.categories }
+single_acted (AddLanguage name) it h none = record { casts = h.casts; countries = h.countries; languages = different_more (λ (earlier later : Text). bytes_eq later earlier) it.languages name h.languages none.0; categories = h.categories }
+single_acted (AddCategory name) it h none = record { casts = h.casts; countries = h.countries; languages = h.languages; categories = different_more (λ (earlier later : Text). bytes_eq later earlier) it.categories name h.categories none.0 }
+single_acted (AddActor actor) it h none = record { casts = h.casts; countries = h.countries; languages = h.languages; categories = h.categories }
+single_acted (AddFilm film) it h none = record { casts = h.casts; countries = h.countries; languages = h.languages; categories = h.categories }
+single_acted (PriceFilm f rate) it h none = record { casts = h.casts; countries = h.countries; languages = h.languages; categories = h.categories }
+single_acted (WithdrawFilm f) it h none = record { casts = h.casts; countries = h.countries; languages = h.languages; categories = h.categories }
+single_acted (AddCast cast) it h none = record { casts = different_more (λ (earlier later : Cast). earlier.film == later.film && earlier.actor == later.actor) it.casts cast h.casts none.1.1.0; countries = h.countries; languages = h.languages; categories = h.categories }
+single_acted (AddBranch branch) it h none = record { casts = h.casts; countries = h.countries; languages = h.languages; categories = h.categories }
+single_acted (AddStaff staff) it h none = record { casts = h.casts; countries = h.countries; languages = h.languages; categories = h.categories }
+single_acted (StaffLeaves s) it h none = record { casts = h.casts; countries = h.countries; languages = h.languages; categories = h.categories }
+single_acted (SetManager b s) it h none = record { casts = h.casts; countries = h.countries; languages = h.languages; categories = h.categories }
+
 -- ---- tokens
 
 record HasTokens (it : Catalogue) : Type 0 where
@@ -313,6 +330,7 @@ good_done rules sizes command it most good e =
     record {
       names = record { city_countries = names.city_countries; film_languages = names.film_languages; film_categories = names.film_categories; cast_films = names.cast_films; cast_actors = names.cast_actors; branch_cities = names.branch_cities; managers = names.managers; staff_branches = names.staff_branches; staff_cities = names.staff_cities };
       sizes = sizes_acted command.act it k good.sizes;
+      single = let d = single_acted command.act it good.single none.1 in record { casts = d.casts; countries = d.countries; languages = d.languages; categories = d.categories };
       keys_fit = let l = length-append it.kept (k ∷ []) in let fit = key_room rules.commands (length it.kept) none.0 l in omega (arith, fit, most);
       keys = different_more (λ (earlier later : OfficeKept). bytes_eq earlier.command.key later.command.key) it.kept k good.keys (none_left (λ (k : OfficeKept). bytes_eq k.command.key command.key) it.kept new.0);
       tokens = tokens.tokens;

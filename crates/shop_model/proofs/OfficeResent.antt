@@ -37,7 +37,7 @@ act_same (AddStaff s) = rw (same_test s.branch, person_same s.person)
 act_same (StaffLeaves s) = same_test s
 act_same (SetManager b s) = simp same_test
 
-command_same : (c : OfficeCommand) → same_office c c ≡ true
+pub command_same : (c : OfficeCommand) → same_office c c ≡ true
 command_same c = rw (bytes_same c.key, act_same c.act)
 
 -- ---- what is kept under a key

@@ -1,23 +1,27 @@
 -- In a run a command that comes again gets its first reply, and changes nothing.
-use Rattle.std.proofs.Common.{◌≡◌, inl, inr, ℕ, zero, suc, ◌+◌, ◌-◌, ◌<◌, length, List, [], ◌∷◌, ◌++◌, filter, map, Bool, true, false, Some, None, Option, refl, sym, subst, ap, ◌∙◌, arith, append-nil}
-use Rattle.std.specs.Prelude.{◌==◌, ◌&&◌, slice_get, ⊤}
-use Rattle.std.specs.List.{list_all}
+use Rattle.std.proofs.Common.{◌≡◌, inl, inr, ℕ, zero, suc, ◌+◌, ◌-◌, ◌<◌, length, List, [], ◌∷◌, ◌++◌, filter, map, Bool, true, false, not, Some, None, Option, refl, sym, subst, ap, ◌∙◌, arith, append-nil}
+use Rattle.std.specs.Prelude.{◌==◌, ◌&&◌, nat_le, slice_get, ⊤}
+use Rattle.std.specs.List.{list_any, list_all}
 use Rattle.std.specs.Str.{bytes_eq}
 use Rattle.std.proofs.lemmas.Bool.{cases_Bool}
 use Rattle.shop_model.specs.Rows.{Owned, set_at, owned_by}
 use Rattle.shop_model.specs.Values.{Text, Branch, Act, AddCustomer, SetActive, Rent, TakeBack, Pay, Import, Dispatch, Receive, Scrap, Command, OfficeAct, AddCountry, AddCity, AddLanguage, AddCategory, AddActor, AddFilm, PriceFilm, WithdrawFilm, AddCast, AddBranch, AddStaff, StaffLeaves, SetManager, OfficeCommand, OfficeAsk, Rules}
 use Rattle.shop_model.specs.Refusals.{Refusal, TooLong, NoCounter, NoRoute, BadBody, KeyUsed, Full, MomentBack, NoStaff, NoCustomer, CustomerInactive, NoCopy, CopyNotHere, CopyOut, FilmWithdrawn, SameMoment, NoRental, RentalReturned, WrongCustomer, NoFilm, LotIn, BadCsv, NoBranch, OwnBranch, NoArrival, ArrivalReceived, BadLines, BadThreshold, TokenTaken, NoSharedRow, Already, Usage}
-use Rattle.shop_model.specs.Shop.{Kept, Catalogue, same_command}
-use Rattle.shop_model.specs.Verdict.{Verdict, Again, Refused, Accepted, resent, verdict, first, refusals}
-use Rattle.shop_model.specs.Machine.{Request, Unread, Do, Look, Office, OfficeLook, Reply, Sorry, Done, reply_text, reply_by, if_accepted, office_acted, office_done, catalogue_after}
+use Rattle.shop_model.specs.Shop.{Kept, OfficeKept, Catalogue, same_command, same_office}
+use Rattle.shop_model.specs.Verdict.{Verdict, Again, Refused, Accepted, resent, verdict, first, refusals, office_refusals, office_resent, office_verdict}
+use Rattle.shop_model.specs.Machine.{Request, Unread, Do, Look, Office, OfficeLook, Reply, Sorry, Done, reply_text, office_text, reply_by, if_accepted, office_acted, office_done, catalogue_after}
 use Rattle.shop_model.specs.Answers.{Answer, answer_of}
-use Rattle.shop_model.specs.Books.{Books, Event, Caller, Counter, HeadOffice, Nobody, shop_of, book_acted, book_done, branch_with, caller_of, after_for, after, caller_in, reply_in, run}
+use Rattle.shop_model.specs.Books.{Books, Event, Caller, Counter, HeadOffice, Nobody, shop_of, book_acted, book_done, branch_with, caller_of, reply_for, after_for, after, caller_in, reply_in, run}
 use Rattle.shop_model.specs.Histories.{is_decided, is_store_failure, fails_for_good, counted_in}
 use Rattle.shop_model.specs.Repeats.{are_new, marked_ones}
-use Rattle.shop_model.specs.Resends.{RunsResend}
-use Rattle.shop_model.specs.Verdict.{office_verdict}
+use Rattle.shop_model.specs.Resends.{books_next, books_at, FindsCounted, Asks, is_command, Keeps, IsRepeat, GetsKeptReply, is_nobody, KeepsCallers, RunsResend, KeptRowsAreKept}
 use Rattle.shop_model.proofs.RowLemmas.{more_yes, more_no}
-use Rattle.shop_model.proofs.Resent.{resent_again}
+use Rattle.shop_model.proofs.Resent.{bytes_same, command_same as branch_same, resent_again}
+use Rattle.shop_model.proofs.CustodyLemmas.{and_parts, or_parts}
+use Rattle.shop_model.proofs.LinkLemmas.{not_true}
+use Rattle.shop_model.specs.Links.{are_different}
+use Rattle.std.proofs.lemmas.Slice.Eq.{bytes_eq-Decides}
+use Rattle.shop_model.proofs.OfficeResent.{command_same as office_same, office_resent_again}
 use Rattle.shop_model.proofs.Repeats as repeats
 
 apart : false ≡ true → ⊥
@@ -25,11 +29,14 @@ apart e = cc
 
 -- ---- a token stays whose it is
 
-found_before : (token : Text) (n b : ℕ) (branches more : List Branch) → branch_with token n branches ≡ Counter b → branch_with token n (branches ++ more) ≡ Counter b
-found_before token n b [] more e = let no : Nobody ≡ Counter b = e in cc
-found_before token n b (branch ∷ branches) more e = elim (cases_Bool (bytes_eq branch.token token)) [
+nobody_known : (c : Caller) → Nobody ≡ c → is_nobody c ≡ false → ⊥
+nobody_known c e known = let no : true ≡ false = ap is_nobody e ∙ known in cc
+
+found_before : (token : Text) (n : ℕ) (c : Caller) (branches more : List Branch) → is_nobody c ≡ false → branch_with token n branches ≡ c → branch_with token n (branches ++ more) ≡ c
+found_before token n c [] more known e = absurd (nobody_known c e known)
+found_before token n c (branch ∷ branches) more known e = elim (cases_Bool (bytes_eq branch.token token)) [
   | inl is ↦ rw is (rw is at e)
-  | inr isnt ↦ rw isnt (found_before token (n + 1) b branches more (rw isnt at e))
+  | inr isnt ↦ rw isnt (found_before token (n + 1) c branches more known (rw isnt at e))
 ]
 
 found_same : (token : Text) (n k : ℕ) (f : Branch → Branch) (branches : List Branch) → ((branch : Branch) → (f branch).token ≡ branch.token)
@@ -43,21 +50,21 @@ found_same token n k f (branch ∷ branches) same = elim (cases_Bool (k == 1)) [
   ])
 ]
 
-office_found : (act : OfficeAct) (catalogue : Catalogue) (token : Text) (b : ℕ) → branch_with token 1 catalogue.branches ≡ Counter b
-    → branch_with token 1 (office_acted act catalogue).branches ≡ Counter b
-office_found (AddBranch branch) catalogue token b e = found_before token 1 b catalogue.branches (record branch { manager = None } ∷ []) e
-office_found (SetManager k s) catalogue token b e = found_same token 1 k (λ (r : Branch). record r { manager = Some s }) catalogue.branches (λ _. refl) ∙ e
-office_found (AddCountry name) catalogue token b e = e
-office_found (AddCity city) catalogue token b e = e
-office_found (AddLanguage name) catalogue token b e = e
-office_found (AddCategory name) catalogue token b e = e
-office_found (AddActor actor) catalogue token b e = e
-office_found (AddFilm film) catalogue token b e = e
-office_found (PriceFilm film rate) catalogue token b e = e
-office_found (WithdrawFilm film) catalogue token b e = e
-office_found (AddCast cast) catalogue token b e = e
-office_found (AddStaff staff) catalogue token b e = e
-office_found (StaffLeaves s) catalogue token b e = e
+office_found : (act : OfficeAct) (catalogue : Catalogue) (token : Text) (c : Caller) → is_nobody c ≡ false → branch_with token 1 catalogue.branches ≡ c
+    → branch_with token 1 (office_acted act catalogue).branches ≡ c
+office_found (AddBranch branch) catalogue token c known e = found_before token 1 c catalogue.branches (record branch { manager = None } ∷ []) known e
+office_found (SetManager k s) catalogue token c known e = found_same token 1 k (λ (r : Branch). record r { manager = Some s }) catalogue.branches (λ _. refl) ∙ e
+office_found (AddCountry name) catalogue token c known e = e
+office_found (AddCity city) catalogue token c known e = e
+office_found (AddLanguage name) catalogue token c known e = e
+office_found (AddCategory name) catalogue token c known e = e
+office_found (AddActor actor) catalogue token c known e = e
+office_found (AddFilm film) catalogue token c known e = e
+office_found (PriceFilm film rate) catalogue token c known e = e
+office_found (WithdrawFilm film) catalogue token c known e = e
+office_found (AddCast cast) catalogue token c known e = e
+office_found (AddStaff staff) catalogue token c known e = e
+office_found (StaffLeaves s) catalogue token c known e = e
 
 office_token : (act : OfficeAct) (catalogue : Catalogue) → (office_acted act catalogue).office_token ≡ catalogue.office_token
 office_token (AddBranch branch) catalogue = refl
@@ -74,27 +81,31 @@ office_token (AddCast cast) catalogue = refl
 office_token (AddStaff staff) catalogue = refl
 office_token (StaffLeaves s) catalogue = refl
 
-acted_caller : (act : OfficeAct) (catalogue : Catalogue) (token : Option Text) (b : ℕ) → caller_of token catalogue ≡ Counter b → caller_of token (office_acted act catalogue) ≡ Counter b
-acted_caller act catalogue None b e = let no : Nobody ≡ Counter b = e in cc
-acted_caller act catalogue (Some token) b e = elim (cases_Bool (bytes_eq token catalogue.office_token)) [
-  | inl is ↦ let no : HeadOffice ≡ Counter b = rw is at e in cc
+acted_caller : (act : OfficeAct) (catalogue : Catalogue) (token : Option Text) (c : Caller) → is_nobody c ≡ false → caller_of token catalogue ≡ c → caller_of token (office_acted act catalogue) ≡ c
+acted_caller act catalogue None c known e = absurd (nobody_known c e known)
+acted_caller act catalogue (Some token) c known e = elim (cases_Bool (bytes_eq token catalogue.office_token)) [
+  | inl is ↦
+      let head : HeadOffice ≡ c = rw is at e in
+      let same : bytes_eq token (office_acted act catalogue).office_token ≡ true = rw (office_token act catalogue) is in
+      rw same head
   | inr isnt ↦
-      let found : branch_with token 1 catalogue.branches ≡ Counter b = rw isnt at e in
+      let found : branch_with token 1 catalogue.branches ≡ c = rw isnt at e in
       let other : bytes_eq token (office_acted act catalogue).office_token ≡ false = rw (office_token act catalogue) isnt in
-      rw other (office_found act catalogue token b found)
+      rw other (office_found act catalogue token c known found)
 ]
 
-office_caller : (rules : Rules) (command : OfficeCommand) (catalogue : Catalogue) (token : Option Text) (b : ℕ) → caller_of token catalogue ≡ Counter b → caller_of token (catalogue_after rules command catalogue) ≡ Counter b
-office_caller rules command catalogue token b e = by_verdict (office_verdict rules catalogue command)
+office_caller : (rules : Rules) (command : OfficeCommand) (catalogue : Catalogue) (token : Option Text) (c : Caller) → is_nobody c ≡ false → caller_of token catalogue ≡ c
+    → caller_of token (catalogue_after rules command catalogue) ≡ c
+office_caller rules command catalogue token c known e = by_verdict (office_verdict rules catalogue command)
   where
-    done : (token : Option Text) → caller_of token (office_acted command.act catalogue) ≡ Counter b → caller_of token (office_done command catalogue) ≡ Counter b
+    done : (token : Option Text) → caller_of token (office_acted command.act catalogue) ≡ c → caller_of token (office_done command catalogue) ≡ c
     done None e = e
     done (Some token) e = e
 
-    by_verdict : (v : Verdict) → caller_of token (if_accepted v (office_done command catalogue) catalogue) ≡ Counter b
+    by_verdict : (v : Verdict) → caller_of token (if_accepted v (office_done command catalogue) catalogue) ≡ c
     by_verdict (Again text) = e
     by_verdict (Refused refusal) = e
-    by_verdict Accepted = done token (acted_caller command.act catalogue token b e)
+    by_verdict Accepted = done token (acted_caller command.act catalogue token c known e)
 
 acted_catalogue : (rules : Rules) (c : ℕ) (command : Command) (act : Act) (books : Books) → (book_acted rules c command act books).catalogue ≡ books.catalogue
 acted_catalogue rules c command (AddCustomer person) books = refl
@@ -153,6 +164,42 @@ begins command (k ∷ ks) more v w text fresh e = elim (cases_Bool (same_command
   | inr isnt ↦ let no : Refused KeyUsed ≡ Again text = rw isnt at e in cc
 ]
 
+office_begins : (command : OfficeCommand) (ks more : List OfficeKept) (v w : Verdict) (text : Text) → (v ≡ Again text → ⊥) → office_resent command ks v ≡ Again text → office_resent command (ks ++ more) w ≡ Again text
+office_begins command [] more v w text fresh e = absurd (fresh e)
+office_begins command (k ∷ ks) more v w text fresh e = elim (cases_Bool (same_office k.command command)) [
+  | inl is ↦ rw is (rw is at e)
+  | inr isnt ↦ let no : Refused KeyUsed ≡ Again text = rw isnt at e in cc
+]
+
+abbrev OfficeGrows : Books → Books → Type 0
+OfficeGrows old new = (more : List OfficeKept) × (new.catalogue.kept ≡ old.catalogue.kept ++ more)
+
+office_grows_not : (books : Books) → OfficeGrows books books
+office_grows_not books = ([], sym (append-nil books.catalogue.kept))
+
+office_grows : (rules : Rules) (caller : Caller) (request : Request) (books : Books) → OfficeGrows books (after_for rules caller request books)
+office_grows rules (Counter b) (Do command) books = by_verdict (verdict rules b books.catalogue (shop_of b books) command)
+  where
+    by_verdict : (v : Verdict) → OfficeGrows books (if_accepted v (book_done rules b command books) books)
+    by_verdict (Again text) = office_grows_not books
+    by_verdict (Refused refusal) = office_grows_not books
+    by_verdict Accepted = ([], ap (λ (it : Catalogue). it.kept) (acted_catalogue rules b command command.act books) ∙ sym (append-nil books.catalogue.kept))
+office_grows rules (Counter b) (Unread refusal) books = office_grows_not books
+office_grows rules (Counter b) (Look ask) books = office_grows_not books
+office_grows rules (Counter b) (Office command) books = office_grows_not books
+office_grows rules (Counter b) (OfficeLook ask) books = office_grows_not books
+office_grows rules HeadOffice (Office command) books = by_verdict (office_verdict rules books.catalogue command)
+  where
+    by_verdict : (v : Verdict) → OfficeGrows books (record books { catalogue = if_accepted v (office_done command books.catalogue) books.catalogue })
+    by_verdict (Again text) = ([], sym (append-nil books.catalogue.kept))
+    by_verdict (Refused refusal) = ([], sym (append-nil books.catalogue.kept))
+    by_verdict Accepted = (record { command = command; reply = office_text command books.catalogue } ∷ [], refl)
+office_grows rules HeadOffice (Do command) books = office_grows_not books
+office_grows rules HeadOffice (Unread refusal) books = office_grows_not books
+office_grows rules HeadOffice (Look ask) books = office_grows_not books
+office_grows rules HeadOffice (OfficeLook ask) books = office_grows_not books
+office_grows rules Nobody request books = office_grows_not books
+
 filter_append : {A : Type 0} (p : A → Bool) (xs ys : List A) → filter p (xs ++ ys) ≡ filter p xs ++ filter p ys
 filter_append p [] ys = refl
 filter_append p (x ∷ xs) ys = elim (cases_Bool (p x)) [ inl is ↦ rw is (ap (λ r. x ∷ r) (filter_append p xs ys)) | inr isnt ↦ rw isnt (filter_append p xs ys) ]
@@ -167,38 +214,138 @@ stays_again rules b command text old new grows e =
     ap (λ ks. resent command ks w) is
     ∙ begins command (filter mine (shop_of b old).kept) (filter mine grows.0) v w text (never_again (refusals rules b old.catalogue (shop_of b old) command) text) e
 
--- ---- the branch asks again
-
--- it is found by its token, and the command is one that it has given before
-record AsksAgain (rules : Rules) (token : Option Text) (b : ℕ) (command : Command) (text : Text) (books : Books) : Type 0 where
-  who : caller_of token books.catalogue ≡ Counter b
-  again : verdict rules b books.catalogue (shop_of b books) command ≡ Again text
+-- ---- whose a token is, behind an event
 
 done_caller : (rules : Rules) (c : ℕ) (command : Command) (books : Books) (token : Option Text) (v : Verdict) → caller_of token (if_accepted v (book_done rules c command books) books).catalogue ≡ caller_of token books.catalogue
 done_caller rules c command books token (Again text) = refl
 done_caller rules c command books token (Refused refusal) = refl
 done_caller rules c command books token Accepted = ap (caller_of token) (acted_catalogue rules c command command.act books)
 
-caller_after : (rules : Rules) (caller : Caller) (request : Request) (token : Option Text) (b : ℕ) (books : Books) → caller_of token books.catalogue ≡ Counter b
-    → caller_of token (after_for rules caller request books).catalogue ≡ Counter b
-caller_after rules (Counter c) (Do command) token b books e = done_caller rules c command books token (verdict rules c books.catalogue (shop_of c books) command) ∙ e
-caller_after rules (Counter c) (Unread refusal) token b books e = e
-caller_after rules (Counter c) (Look ask) token b books e = e
-caller_after rules (Counter c) (Office command) token b books e = e
-caller_after rules (Counter c) (OfficeLook ask) token b books e = e
-caller_after rules HeadOffice (Office command) token b books e = office_caller rules command books.catalogue token b e
-caller_after rules HeadOffice (Do command) token b books e = e
-caller_after rules HeadOffice (Unread refusal) token b books e = e
-caller_after rules HeadOffice (Look ask) token b books e = e
-caller_after rules HeadOffice (OfficeLook ask) token b books e = e
-caller_after rules Nobody request token b books e = e
+caller_after : (rules : Rules) (caller : Caller) (request : Request) (token : Option Text) (c : Caller) (books : Books) → is_nobody c ≡ false → caller_of token books.catalogue ≡ c
+    → caller_of token (after_for rules caller request books).catalogue ≡ c
+caller_after rules (Counter b) (Do command) token c books known e = done_caller rules b command books token (verdict rules b books.catalogue (shop_of b books) command) ∙ e
+caller_after rules (Counter b) (Unread refusal) token c books known e = e
+caller_after rules (Counter b) (Look ask) token c books known e = e
+caller_after rules (Counter b) (Office command) token c books known e = e
+caller_after rules (Counter b) (OfficeLook ask) token c books known e = e
+caller_after rules HeadOffice (Office command) token c books known e = office_caller rules command books.catalogue token c known e
+caller_after rules HeadOffice (Do command) token c books known e = e
+caller_after rules HeadOffice (Unread refusal) token c books known e = e
+caller_after rules HeadOffice (Look ask) token c books known e = e
+caller_after rules HeadOffice (OfficeLook ask) token c books known e = e
+caller_after rules Nobody request token c books known e = e
 
-asks_after : (rules : Rules) (caller : Caller) (request : Request) (token : Option Text) (b : ℕ) (command : Command) (text : Text) (books : Books)
-    → AsksAgain rules token b command text books → AsksAgain rules token b command text (after_for rules caller request books)
-asks_after rules caller request token b command text books it = record {
-  who = caller_after rules caller request token b books it.who;
-  again = stays_again rules b command text books (after_for rules caller request books) (grows_by rules b caller request books) it.again;
-}
+caller_next : (rules : Rules) (e : Event) (a : Answer) (event : Event) (c : Caller) (books : Books) → is_nobody c ≡ false → caller_in event books ≡ c → caller_in event (books_next rules e a books) ≡ c
+caller_next rules e a event c books known is = elim (cases_Bool (is_decided a)) [
+  | inl fine ↦ rw fine (caller_after rules (caller_in e books) (e.request (caller_in e books)) event.token c books known is)
+  | inr lacks ↦ rw lacks is
+]
+
+caller_later : (rules : Rules) (events : List Event) (answers : List Answer) (event : Event) (c : Caller) (books : Books) (n : ℕ) → is_nobody c ≡ false → caller_in event books ≡ c
+    → caller_in event (books_at rules events answers books n) ≡ c
+caller_later rules [] answers event c books zero known is = is
+caller_later rules [] answers event c books (suc n) known is = is
+caller_later rules (e ∷ events) [] event c books zero known is = is
+caller_later rules (e ∷ events) [] event c books (suc n) known is = is
+caller_later rules (e ∷ events) (a ∷ answers) event c books zero known is = is
+caller_later rules (e ∷ events) (a ∷ answers) event c books (suc n) known is =
+    caller_later rules events answers event c (books_next rules e a books) n known (caller_next rules e a event c books known is)
+
+callers_stay : (rules : Rules) (events : List Event) (answers : List Answer) (books : Books) → KeepsCallers rules events answers books
+callers_stay rules [] answers books zero zero event less known = refl
+callers_stay rules [] answers books zero (suc j) event less known = refl
+callers_stay rules [] answers books (suc i) zero event less known = refl
+callers_stay rules [] answers books (suc i) (suc j) event less known = refl
+callers_stay rules (e ∷ events) [] books zero zero event less known = refl
+callers_stay rules (e ∷ events) [] books zero (suc j) event less known = refl
+callers_stay rules (e ∷ events) [] books (suc i) zero event less known = refl
+callers_stay rules (e ∷ events) [] books (suc i) (suc j) event less known = refl
+callers_stay rules (e ∷ events) (a ∷ answers) books zero j event less known = caller_later rules (e ∷ events) (a ∷ answers) event (caller_in event books) books j known refl
+callers_stay rules (e ∷ events) (a ∷ answers) books (suc i) zero event less known = absurd (omega (arith, less))
+callers_stay rules (e ∷ events) (a ∷ answers) books (suc i) (suc j) event less known = callers_stay rules events answers (books_next rules e a books) i j event (omega (arith, less)) known
+
+-- ---- what an event finds
+
+decided_fine : (answer : Answer) → is_decided answer ≡ true → is_store_failure answer ≡ false
+decided_fine answer is = elim (cases_Bool (answer.status == 503)) [
+  | inl bad ↦ let no : false ≡ true = rw bad at is in absurd (apart no)
+  | inr good ↦ rw good
+]
+
+failure_undecided : (answer : Answer) → is_store_failure answer ≡ true → is_decided answer ≡ false
+failure_undecided answer is = elim (cases_Bool (answer.status == 503)) [
+  | inl bad ↦ rw bad refl
+  | inr good ↦ let no : false ≡ true = rw good at is in absurd (apart no)
+]
+
+-- behind a failure nothing is left
+all_failed : (rules : Rules) (events : List Event) (answers : List Answer) (books : Books) (n : ℕ) → list_all is_store_failure answers ≡ true → books_at rules events answers books n ≡ books
+all_failed rules [] answers books zero all = refl
+all_failed rules [] answers books (suc n) all = refl
+all_failed rules (e ∷ events) [] books zero all = refl
+all_failed rules (e ∷ events) [] books (suc n) all = refl
+all_failed rules (e ∷ events) (a ∷ answers) books zero all = refl
+all_failed rules (e ∷ events) (a ∷ answers) books (suc n) all =
+    let h = and_parts (is_store_failure a) (list_all is_store_failure answers) all in
+    rw (failure_undecided a h.0) (all_failed rules events answers books n h.1)
+
+finds_counted : (rules : Rules) (events : List Event) (answers : List Answer) (books : Books) → fails_for_good answers ≡ true → FindsCounted rules events answers books
+finds_counted rules [] answers books good zero = refl
+finds_counted rules [] answers books good (suc n) = refl
+finds_counted rules (e ∷ events) [] books good zero = refl
+finds_counted rules (e ∷ events) [] books good (suc n) = refl
+finds_counted rules (e ∷ events) (a ∷ answers) books good zero = refl
+finds_counted rules (e ∷ events) (a ∷ answers) books good (suc n) = elim (cases_Bool (is_decided a)) [
+  | inl fine ↦ let later : fails_for_good answers ≡ true = rw (decided_fine a fine) at good in rw fine (finds_counted rules events answers (after rules e books) later n)
+  | inr lacks ↦ elim (cases_Bool (is_store_failure a)) [
+    | inl failed ↦ let all : list_all is_store_failure answers ≡ true = rw failed at good in rw (lacks, failed) (all_failed rules events answers books n all)
+    | inr sound ↦ let later : fails_for_good answers ≡ true = rw sound at good in rw (lacks, sound) (finds_counted rules events answers books later n)
+  ]
+]
+
+-- ---- commands, each of its caller
+
+by_command : (P : Caller → Request → Type 0) → ((b : ℕ) (command : Command) → P (Counter b) (Do command)) → ((command : OfficeCommand) → P HeadOffice (Office command))
+    → (caller : Caller) (request : Request) → is_command caller request ≡ true → P caller request
+by_command P mine theirs (Counter b) (Do command) is = mine b command
+by_command P mine theirs HeadOffice (Office command) is = theirs command
+by_command P mine theirs caller request is = absurd (apart is)
+
+abbrev verdict_of : Rules → Caller → Request → Books → Verdict
+verdict_of rules (Counter b) (Do command) books = verdict rules b books.catalogue (shop_of b books) command
+verdict_of rules HeadOffice (Office command) books = office_verdict rules books.catalogue command
+verdict_of rules caller request books = Refused NoRoute
+
+office_stays : (rules : Rules) (command : OfficeCommand) (text : Text) (caller : Caller) (request : Request) (books : Books) → office_verdict rules books.catalogue command ≡ Again text
+    → office_verdict rules (after_for rules caller request books).catalogue command ≡ Again text
+office_stays rules command text caller request books e =
+    let new = (after_for rules caller request books).catalogue in
+    let mine : OfficeKept → Bool = λ k. bytes_eq k.command.key command.key in
+    let grows = office_grows rules caller request books in
+    let is : filter mine new.kept ≡ filter mine books.catalogue.kept ++ filter mine grows.0 = ap (filter mine) grows.1 ∙ filter_append mine books.catalogue.kept grows.0 in
+    let tests = (Full, nat_le rules.commands (length books.catalogue.kept)) ∷ office_refusals books.catalogue command.act in
+    let w = first ((Full, nat_le rules.commands (length new.kept)) ∷ office_refusals new command.act) in
+    ap (λ ks. office_resent command ks w) is ∙ office_begins command (filter mine books.catalogue.kept) (filter mine grows.0) (first tests) w text (never_again tests text) e
+
+-- a command that its caller gave before is one whatever comes next
+stays : (rules : Rules) (text : Text) (who : Caller) (what : Request) (books : Books) (caller : Caller) (request : Request) → is_command caller request ≡ true
+    → verdict_of rules caller request books ≡ Again text → verdict_of rules caller request (after_for rules who what books) ≡ Again text
+stays rules text who what books = by_command (λ caller request. verdict_of rules caller request books ≡ Again text → verdict_of rules caller request (after_for rules who what books) ≡ Again text)
+    (λ b command e. stays_again rules b command text books (after_for rules who what books) (grows_by rules b who what books) e)
+    (λ command e. office_stays rules command text who what books e)
+
+-- it gets its kept reply, and leaves the books
+again_told : (rules : Rules) (look : OfficeAsk → Books → Reply) (text : Text) (books : Books) (caller : Caller) (request : Request) → is_command caller request ≡ true
+    → verdict_of rules caller request books ≡ Again text → (reply_for rules look caller request books ≡ Done text) × (after_for rules caller request books ≡ books)
+again_told rules look text books = by_command (λ caller request. verdict_of rules caller request books ≡ Again text → (reply_for rules look caller request books ≡ Done text) × (after_for rules caller request books ≡ books))
+    (λ b command e. (ap (λ v. reply_by v (reply_text rules command (shop_of b books))) e, ap (λ v. if_accepted v (book_done rules b command books) books) e))
+    (λ command e. (ap (λ v. reply_by v (office_text command books.catalogue)) e, ap (λ v. record books { catalogue = if_accepted v (office_done command books.catalogue) books.catalogue }) e))
+
+-- a kept command is one that was given before
+kept_again : (rules : Rules) (text : Text) (books : Books) (caller : Caller) (request : Request) → is_command caller request ≡ true → Keeps caller request text books → verdict_of rules caller request books ≡ Again text
+kept_again rules text books = by_command (λ caller request. Keeps caller request text books → verdict_of rules caller request books ≡ Again text)
+    (λ b command keeps. ap (λ ks. resent command ks (first (refusals rules b books.catalogue (shop_of b books) command))) keeps ∙ rw (branch_same command))
+    (λ command keeps. ap (λ ks. office_resent command ks (first ((Full, nat_le rules.commands (length books.catalogue.kept)) ∷ office_refusals books.catalogue command.act))) keeps ∙ rw (office_same command))
 
 -- ---- a run, step by step
 
@@ -210,12 +357,6 @@ Steps rules look (event ∷ events) (answer ∷ answers) books =
     (is_decided answer ≡ true → (answer ≡ answer_of (reply_in rules look event books)) × Steps rules look events answers (after rules event books))
     × (is_decided answer ≡ false → is_store_failure answer ≡ false → Steps rules look events answers books)
     × (is_store_failure answer ≡ true → list_all is_store_failure answers ≡ true)
-
-decided_fine : (answer : Answer) → is_decided answer ≡ true → is_store_failure answer ≡ false
-decided_fine answer is = elim (cases_Bool (answer.status == 503)) [
-  | inl bad ↦ let no : false ≡ true = rw bad at is in absurd (apart no)
-  | inr good ↦ rw good
-]
 
 abbrev answers_in : Rules → (OfficeAsk → Books → Reply) → List Event → Books → List Answer
 answers_in rules look events books = map (λ (it : Caller × Reply). answer_of it.1) (run rules look events books)
@@ -301,78 +442,125 @@ all_at p (a ∷ answers) (suc i) x all e = all_at p answers i x (and_right (p a)
 same_some : {A : Type 0} (a x : A) → ◌≡◌ {A = Option A} (Some a) (Some x) → a ≡ x
 same_some a x e = cc
 
--- what its caller is answered by the step
-reply_at : (rules : Rules) (look : OfficeAsk → Books → Reply) (event : Event) (b : ℕ) (command : Command) (books : Books) → caller_in event books ≡ Counter b → event.request (Counter b) ≡ Do command
-    → reply_in rules look event books ≡ reply_by (verdict rules b books.catalogue (shop_of b books) command) (reply_text rules command (shop_of b books))
-reply_at rules look event b command books who what = rw (who, what) refl
+same_none : {A : Type 0} (x : A) → ◌≡◌ {A = Option A} None (Some x) → ⊥
+same_none x e = cc
 
-module _ (rules : Rules) (look : OfficeAsk → Books → Reply) (event : Event) (b : ℕ) (command : Command) (what : event.request (Counter b) ≡ Do command) where
-  abbrev Again' : Text → Books → Type 0
-  Again' text books = AsksAgain rules event.token b command text books
+-- where the store can do its part, the rest goes on behind the event
+steps_next : (rules : Rules) (look : OfficeAsk → Books → Reply) (e : Event) (events : List Event) (a : Answer) (answers : List Answer) (books : Books) → Steps rules look (e ∷ events) (a ∷ answers) books
+    → is_store_failure a ≡ false → Steps rules look events answers (books_next rules e a books)
+steps_next rules look e events a answers books steps sound = elim (cases_Bool (is_decided a)) [
+  | inl fine ↦ rw fine (steps.0 fine).1
+  | inr lacks ↦ rw lacks (steps.1 lacks sound)
+]
+
+-- it can where a later event is decided
+sound_before : (rules : Rules) (look : OfficeAsk → Books → Reply) (e : Event) (events : List Event) (a : Answer) (answers : List Answer) (books : Books) → Steps rules look (e ∷ events) (a ∷ answers) books
+    → (j : ℕ) (x : Answer) → slice_get answers j ≡ Some x → is_decided x ≡ true → is_store_failure a ≡ false
+sound_before rules look e events a answers books steps j x there decided = elim (cases_Bool (is_store_failure a)) [
+  | inr sound ↦ sound
+  | inl failed ↦
+      let bad = all_at is_store_failure answers j x (steps.2 failed) there in
+      let no : false ≡ true = sym (decided_fine x decided) ∙ bad in
+      absurd (apart no)
+]
+
+-- the command got its reply, and is given again from then on
+got_branch : (rules : Rules) (b : ℕ) (command : Command) (x : Answer) (books : Books) (v : Verdict) → v ≡ verdict rules b books.catalogue (shop_of b books) command
+    → x ≡ answer_of (reply_by v (reply_text rules command (shop_of b books))) → x.status ≡ 200
+    → (text : Text) × (x ≡ answer_of (Done text)) × (verdict_of rules (Counter b) (Do command) (if_accepted v (book_done rules b command books) books) ≡ Again text)
+got_branch rules b command x books (Refused refusal) is reply good = absurd (sorry_status refusal (ap (λ (a : Answer). a.status) (sym reply) ∙ good))
+got_branch rules b command x books (Again text) is reply good = (text, reply, sym is)
+got_branch rules b command x books Accepted is reply good = (reply_text rules command (shop_of b books), reply, resent_again rules b command books [] (sym is))
+
+got_office : (rules : Rules) (command : OfficeCommand) (x : Answer) (books : Books) (v : Verdict) → v ≡ office_verdict rules books.catalogue command
+    → x ≡ answer_of (reply_by v (office_text command books.catalogue)) → x.status ≡ 200
+    → (text : Text) × (x ≡ answer_of (Done text)) × (office_verdict rules (if_accepted v (office_done command books.catalogue) books.catalogue) command ≡ Again text)
+got_office rules command x books (Refused refusal) is reply good = absurd (sorry_status refusal (ap (λ (a : Answer). a.status) (sym reply) ∙ good))
+got_office rules command x books (Again text) is reply good = (text, reply, sym is)
+got_office rules command x books Accepted is reply good = (office_text command books.catalogue, reply, office_resent_again rules command books [] (sym is))
+
+got : (rules : Rules) (look : OfficeAsk → Books → Reply) (x : Answer) (books : Books) (caller : Caller) (request : Request) → is_command caller request ≡ true
+    → x ≡ answer_of (reply_for rules look caller request books) → x.status ≡ 200
+    → (text : Text) × (x ≡ answer_of (Done text)) × (verdict_of rules caller request (after_for rules caller request books) ≡ Again text)
+got rules look x books = by_command (λ caller request. x ≡ answer_of (reply_for rules look caller request books) → x.status ≡ 200
+    → (text : Text) × (x ≡ answer_of (Done text)) × (verdict_of rules caller request (after_for rules caller request books) ≡ Again text))
+    (λ b command reply good. got_branch rules b command x books (verdict rules b books.catalogue (shop_of b books) command) refl reply good)
+    (λ command reply good. got_office rules command x books (office_verdict rules books.catalogue command) refl reply good)
+
+module _ (rules : Rules) (look : OfficeAsk → Books → Reply) (caller : Caller) (request : Request) (is : is_command caller request ≡ true) where
+  -- what its caller is answered by the step, and what it leaves
+  asked : (event : Event) (books : Books) → caller_in event books ≡ caller → event.request caller ≡ request
+      → (reply_in rules look event books ≡ reply_for rules look caller request books) × (after rules event books ≡ after_for rules caller request books)
+  asked event books who what = (rw (who, what) refl, rw (who, what) refl)
+
+  again_next : (text : Text) (e : Event) (a : Answer) (books : Books) → verdict_of rules caller request books ≡ Again text → verdict_of rules caller request (books_next rules e a books) ≡ Again text
+  again_next text e a books again = elim (cases_Bool (is_decided a)) [
+    | inl fine ↦ rw fine (stays rules text (caller_in e books) (e.request (caller_in e books)) books caller request is again)
+    | inr lacks ↦ rw lacks again
+  ]
 
   -- behind its first reply
-  each_again : (text : Text) (events : List Event) (answers : List Answer) (books : Books) → Steps rules look events answers books → Again' text books → (j : ℕ) (x : Answer)
-      → slice_get events j ≡ Some event → slice_get answers j ≡ Some x → is_decided x ≡ true → x ≡ answer_of (Done text)
-  each_again text [] answers books steps it j x here there decided = let no : ◌≡◌ {A = Option Event} None (Some event) = here in cc
-  each_again text (e ∷ events) [] books steps it j x here there decided = let no : ◌≡◌ {A = Option Answer} None (Some x) = there in cc
-  each_again text (e ∷ events) (a ∷ answers) books steps it zero x here there decided =
-      let same : e ≡ event = same_some e event here in
-      let is : a ≡ x = same_some a x there in
-      let fine : is_decided a ≡ true = rw is decided in
-      let reply : a ≡ answer_of (reply_in rules look event books) = (steps.0 fine).0 ∙ ap (λ (e : Event). answer_of (reply_in rules look e books)) same in
-      sym is ∙ reply ∙ ap answer_of (reply_at rules look event b command books it.who what ∙ ap (λ v. reply_by v (reply_text rules command (shop_of b books))) it.again)
-  each_again text (e ∷ events) (a ∷ answers) books steps it (suc j) x here there decided = elim (cases_Bool (is_decided a)) [
-    | inl fine ↦ each_again text events answers (after rules e books) (steps.0 fine).1 (asks_after rules (caller_in e books) (e.request (caller_in e books)) event.token b command text books it) j x here there decided
-    | inr lacks ↦ elim (cases_Bool (is_store_failure a)) [
-      | inl failed ↦
-          let bad = all_at is_store_failure answers j x (steps.2 failed) there in
-          let no : false ≡ true = sym (decided_fine x decided) ∙ bad in
-          absurd (apart no)
-      | inr sound ↦ each_again text events answers books (steps.1 lacks sound) it j x here there decided
-    ]
-  ]
+  each_again : (text : Text) (events : List Event) (answers : List Answer) (books : Books) → Steps rules look events answers books → verdict_of rules caller request books ≡ Again text → (j : ℕ) (x : Answer)
+      → Asks rules events answers books j caller request → slice_get answers j ≡ Some x → is_decided x ≡ true → IsRepeat rules events answers books j x (answer_of (Done text))
+  each_again text [] answers books steps again j x asks there decided = absurd (same_none asks.event asks.stands)
+  each_again text (e ∷ events) [] books steps again j x asks there decided = absurd (same_none x there)
+  each_again text (e ∷ events) (a ∷ answers) books steps again zero x asks there decided =
+      let same : e ≡ asks.event = same_some e asks.event asks.stands in
+      let told : a ≡ x = same_some a x there in
+      let fine : is_decided a ≡ true = rw told decided in
+      let who : caller_in e books ≡ caller = ap (λ (event : Event). caller_in event books) same ∙ asks.who in
+      let what : e.request caller ≡ request = ap (λ (event : Event). event.request caller) same ∙ asks.what in
+      let does = asked e books who what in
+      let kept = again_told rules look text books caller request is again in
+      let left : books_next rules e a books ≡ books = rw fine (does.1 ∙ kept.1) in
+      record { reply = sym told ∙ (steps.0 fine).0 ∙ ap answer_of (does.0 ∙ kept.0); nothing = left }
+  each_again text (e ∷ events) (a ∷ answers) books steps again (suc j) x asks there decided =
+      let sound = sound_before rules look e events a answers books steps j x there decided in
+      let next = books_next rules e a books in
+      let rest : Asks rules events answers next j caller request = record { event = asks.event; stands = asks.stands; who = asks.who; what = asks.what } in
+      let it = each_again text events answers next (steps_next rules look e events a answers books steps sound) (again_next text e a books again) j x rest there decided in
+      record { reply = it.reply; nothing = it.nothing }
 
-  -- the command got its reply
-  abbrev Got : Answer → Books → Books → Type 0
-  Got x old new = (text : Text) × (x ≡ answer_of (Done text)) × Again' text new
+  -- and at it
+  first_stays : (events : List Event) (answers : List Answer) (books : Books) → Steps rules look events answers books → (i j : ℕ) (x y : Answer) → i < j
+      → Asks rules events answers books i caller request → Asks rules events answers books j caller request
+      → slice_get answers i ≡ Some x → slice_get answers j ≡ Some y → x.status ≡ 200 → is_decided y ≡ true → IsRepeat rules events answers books j y x
+  first_stays [] answers books steps i j x y less before later ai aj good decided = absurd (same_none before.event before.stands)
+  first_stays (e ∷ events) [] books steps i j x y less before later ai aj good decided = absurd (same_none x ai)
+  first_stays (e ∷ events) (a ∷ answers) books steps i zero x y less before later ai aj good decided = absurd (omega (arith, less))
+  first_stays (e ∷ events) (a ∷ answers) books steps zero (suc j) x y less before later ai aj good decided =
+      let same : e ≡ before.event = same_some e before.event before.stands in
+      let told : a ≡ x = same_some a x ai in
+      let fine : is_decided a ≡ true = rw told (good_decided x good) in
+      let who : caller_in e books ≡ caller = ap (λ (event : Event). caller_in event books) same ∙ before.who in
+      let what : e.request caller ≡ request = ap (λ (event : Event). event.request caller) same ∙ before.what in
+      let does = asked e books who what in
+      let reply : x ≡ answer_of (reply_for rules look caller request books) = sym told ∙ (steps.0 fine).0 ∙ ap answer_of does.0 in
+      let done = got rules look x books caller request is reply good in
+      let next : Books = books_next rules e a books in
+      let left : next ≡ after_for rules caller request books = rw fine does.1 in
+      let again : verdict_of rules caller request next ≡ Again done.0 = subst (λ (b : Books). verdict_of rules caller request b ≡ Again done.0) (sym left) done.2 in
+      let rest : Asks rules events answers next j caller request = record { event = later.event; stands = later.stands; who = later.who; what = later.what } in
+      let it = each_again done.0 events answers next (steps_next rules look e events a answers books steps (decided_fine a fine)) again j y rest aj decided in
+      record { reply = it.reply ∙ sym done.1; nothing = it.nothing }
+  first_stays (e ∷ events) (a ∷ answers) books steps (suc i) (suc j) x y less before later ai aj good decided =
+      let sound = sound_before rules look e events a answers books steps j y aj decided in
+      let next = books_next rules e a books in
+      let first : Asks rules events answers next i caller request = record { event = before.event; stands = before.stands; who = before.who; what = before.what } in
+      let rest : Asks rules events answers next j caller request = record { event = later.event; stands = later.stands; who = later.who; what = later.what } in
+      let it = first_stays events answers next (steps_next rules look e events a answers books steps sound) i j x y (omega (arith, less)) first rest ai aj good decided in
+      record { reply = it.reply; nothing = it.nothing }
 
-  got_by : (x : Answer) (books : Books) (v : Verdict) → caller_in event books ≡ Counter b → v ≡ verdict rules b books.catalogue (shop_of b books) command → x ≡ answer_of (reply_by v (reply_text rules command (shop_of b books))) → x.status ≡ 200
-      → Got x books (if_accepted v (book_done rules b command books) books)
-  got_by x books (Refused refusal) who is reply good = absurd (sorry_status refusal (ap (λ (a : Answer). a.status) (sym reply) ∙ good))
-  got_by x books (Again text) who is reply good = (text, reply, record { who = who; again = sym is })
-  got_by x books Accepted who is reply good = (reply_text rules command (shop_of b books), reply, record { who = done_caller rules b command books event.token Accepted ∙ who; again = resent_again rules b command books [] (sym is) })
-
-  got : (x : Answer) (books : Books) → caller_in event books ≡ Counter b → x ≡ answer_of (reply_in rules look event books) → x.status ≡ 200 → Got x books (after rules event books)
-  got x books who reply good =
-      let v = verdict rules b books.catalogue (shop_of b books) command in
-      let told = reply ∙ ap answer_of (reply_at rules look event b command books who what) in
-      let step : after rules event books ≡ if_accepted v (book_done rules b command books) books = rw (who, what) refl in
-      subst (λ (new : Books). Got x books new) (sym step) (got_by x books v who refl told good)
-
-  first_stays : (events : List Event) (answers : List Answer) (books : Books) → Steps rules look events answers books → caller_in event books ≡ Counter b → (i j : ℕ) (x y : Answer) → i < j
-      → slice_get events i ≡ Some event → slice_get events j ≡ Some event → slice_get answers i ≡ Some x → slice_get answers j ≡ Some y → x.status ≡ 200 → is_decided y ≡ true → y ≡ x
-  first_stays [] answers books steps who i j x y less ei ej ai aj good decided = let no : ◌≡◌ {A = Option Event} None (Some event) = ei in cc
-  first_stays (e ∷ events) [] books steps who i j x y less ei ej ai aj good decided = let no : ◌≡◌ {A = Option Answer} None (Some x) = ai in cc
-  first_stays (e ∷ events) (a ∷ answers) books steps who i zero x y less ei ej ai aj good decided = absurd (omega (arith, less))
-  first_stays (e ∷ events) (a ∷ answers) books steps who zero (suc j) x y less ei ej ai aj good decided =
-      let same : e ≡ event = same_some e event ei in
-      let is : a ≡ x = same_some a x ai in
-      let fine : is_decided a ≡ true = rw is (good_decided x good) in
-      let step = steps.0 fine in
-      let reply : x ≡ answer_of (reply_in rules look event books) = sym is ∙ step.0 ∙ ap (λ (e : Event). answer_of (reply_in rules look e books)) same in
-      let done = got x books who reply good in
-      let next : Again' done.0 (after rules e books) = subst (λ (e : Event). Again' done.0 (after rules e books)) (sym same) done.2 in
-      each_again done.0 events answers (after rules e books) step.1 next j y ej aj decided ∙ sym done.1
-  first_stays (e ∷ events) (a ∷ answers) books steps who (suc i) (suc j) x y less ei ej ai aj good decided = elim (cases_Bool (is_decided a)) [
-    | inl fine ↦ first_stays events answers (after rules e books) (steps.0 fine).1 (caller_after rules (caller_in e books) (e.request (caller_in e books)) event.token b books who) i j x y (omega (arith, less)) ei ej ai aj good decided
-    | inr lacks ↦ elim (cases_Bool (is_store_failure a)) [
-      | inl failed ↦
-          let bad = all_at is_store_failure answers j y (steps.2 failed) aj in
-          let no : false ≡ true = sym (decided_fine y decided) ∙ bad in
-          absurd (apart no)
-      | inr sound ↦ first_stays events answers books (steps.1 lacks sound) who i j x y (omega (arith, less)) ei ej ai aj good decided
-    ]
-  ]
+-- a kept command that comes again; what isn't a command isn't kept
+before_stays : (rules : Rules) (look : OfficeAsk → Books → Reply) (events : List Event) (answers : List Answer) (books : Books) → Steps rules look events answers books → GetsKeptReply rules events answers books
+before_stays rules look events answers books steps j caller request text again keeps asks there decided =
+    let is = is_kept caller request keeps in
+    each_again rules look caller request is text events answers books steps (kept_again rules text books caller request is keeps) j again asks there decided
+  where
+    is_kept : (caller : Caller) (request : Request) → Keeps caller request text books → is_command caller request ≡ true
+    is_kept (Counter b) (Do command) keeps = refl
+    is_kept HeadOffice (Office command) keeps = refl
+    is_kept caller request keeps = absurd keeps
 
 -- ---- without the commands that come again
 
@@ -388,8 +576,47 @@ runs_resend rules look events answers old new ran =
     let news = are_new rules history old in
     let law = repeats.without_repeats rules look history old in
     record {
-      first = λ i j b event command x y less ei ej who what ai aj good decided. first_stays rules look event b command what events answers old steps who i j x y less ei ej ai aj good decided;
+      finds = finds_counted rules events answers old ran.stays;
+      first = λ i j caller request x y less is before later ai aj good decided. first_stays rules look caller request is events answers old steps i j x y less before later ai aj good decided;
+      before = before_stays rules look events answers old steps;
+      callers = callers_stay rules events answers old;
       others = ap (map (λ (it : Caller × Reply). answer_of it.1)) law.replies ∙ marked_map (λ (it : Caller × Reply). answer_of it.1) news (run rules look history old)
           ∙ ap (marked_ones news) (sym ran.decisions);
       books = ran.books ∙ sym law.leaves;
     }
+
+-- ---- kept rows
+
+turned : (a b : Text) → bytes_eq a b ≡ false → bytes_eq b a ≡ false
+turned a b isnt = elim (cases_Bool (bytes_eq b a)) [
+  | inr other ↦ other
+  | inl is ↦ let same : bytes_eq a b ≡ true = (bytes_eq-Decides a b).1 (sym ((bytes_eq-Decides b a).0 is)) in absurd (apart (sym isnt ∙ same))
+]
+
+none_under : {A : Type 0} (key : A → Text) (x : A) (xs : List A) → list_any (λ y. bytes_eq (key x) (key y)) xs ≡ false → filter (λ y. bytes_eq (key y) (key x)) xs ≡ []
+none_under key x [] none = refl
+none_under key x (y ∷ ys) none = let h = or_parts (bytes_eq (key x) (key y)) (list_any (λ y. bytes_eq (key x) (key y)) ys) none in rw (turned (key x) (key y) h.0) (none_under key x ys h.1)
+
+other_key : {A : Type 0} (key : A → Text) (y x : A) (xs : List A) (n : ℕ) → list_any (λ z. bytes_eq (key y) (key z)) xs ≡ false → slice_get xs n ≡ Some x → bytes_eq (key y) (key x) ≡ false
+other_key key y x [] n none there = absurd (same_none x there)
+other_key key y x (z ∷ xs) zero none there = let h = or_parts (bytes_eq (key y) (key z)) (list_any (λ z. bytes_eq (key y) (key z)) xs) none in subst (λ it. bytes_eq (key y) (key it) ≡ false) (same_some z x there) h.0
+other_key key y x (z ∷ xs) (suc n) none there = let h = or_parts (bytes_eq (key y) (key z)) (list_any (λ z. bytes_eq (key y) (key z)) xs) none in other_key key y x xs n h.1 there
+
+-- where no key is twice, a row is the one under its key
+one_under : {A : Type 0} (key : A → Text) (xs : List A) (x : A) (n : ℕ) → are_different (λ (earlier later : A). bytes_eq (key earlier) (key later)) xs ≡ true → slice_get xs n ≡ Some x
+    → filter (λ y. bytes_eq (key y) (key x)) xs ≡ x ∷ []
+one_under key [] x n apart there = absurd (same_none x there)
+one_under {A = A} key (y ∷ ys) x zero apart there =
+    let h = and_parts (not (list_any (λ z. bytes_eq (key y) (key z)) ys)) (are_different (λ (earlier later : A). bytes_eq (key earlier) (key later)) ys) apart in
+    let same : y ≡ x = same_some y x there in
+    let first : filter (λ z. bytes_eq (key z) (key y)) (y ∷ ys) ≡ y ∷ [] = rw (bytes_same (key y), none_under key y ys (not_true _ h.0)) refl in
+    subst (λ (it : A). filter (λ z. bytes_eq (key z) (key it)) (y ∷ ys) ≡ it ∷ []) same first
+one_under {A = A} key (y ∷ ys) x (suc n) apart there =
+    let h = and_parts (not (list_any (λ z. bytes_eq (key y) (key z)) ys)) (are_different (λ (earlier later : A). bytes_eq (key earlier) (key later)) ys) apart in
+    rw (other_key key y x ys n (not_true _ h.0) there) (one_under key ys x n h.1 there)
+
+pub kept_rows_kept : KeptRowsAreKept
+kept_rows_kept rules books sound = record {
+  branches = λ b place it there. one_under (λ (k : Kept). k.command.key) (shop_of b books).kept it place (sound.links b).keys there;
+  office = λ place it there. one_under (λ (k : OfficeKept). k.command.key) books.catalogue.kept it place sound.catalogue.keys there;
+}

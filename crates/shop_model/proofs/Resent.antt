@@ -44,7 +44,7 @@ act_same (Scrap x) = same_test x
 moment_same : (m : Moment) → same_moment m m ≡ true
 moment_same m = rw (same_test m.year, same_test m.month, same_test m.day, same_test m.hour, same_test m.minute, same_test m.second)
 
-command_same : (c : Command) → same_command c c ≡ true
+pub command_same : (c : Command) → same_command c c ≡ true
 command_same c = rw (bytes_same c.key, same_test c.staff, moment_same c.moment, act_same c.act)
 
 -- ---- what is kept under a key

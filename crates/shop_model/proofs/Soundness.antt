@@ -3,34 +3,34 @@ use Rattle.std.proofs.Common.{◌≡◌, inl, inr, ℕ, ◌+◌, ◌-◌, ◌≤
 use Rattle.std.specs.Prelude.{◌==◌, ◌&&◌, ◌||◌, nat_lt, flat_map, is_none}
 use Rattle.std.specs.List.{list_any, list_all}
 use Rattle.std.proofs.lemmas.Bool.{cases_Bool}
-use Rattle.shop_model.specs.Rows.{Row, at, lacks, set_at, set_all, is_empty, is_row, next, mem, has_double}
+use Rattle.shop_model.specs.Rows.{Row, Owned, at, lacks, set_at, set_all, is_empty, is_row, next, mem, has_double}
 use Rattle.shop_model.specs.Calendar.{Moment}
 use Rattle.shop_model.specs.Values.{Branch, OfficeCommand, Copy, CopyState, Here, Sent, Scrapped, Rental, Arrival, Act, AddCustomer, SetActive, Rent, TakeBack, Pay, Import, Dispatch, Receive, Scrap, Command, Rules}
 use Rattle.shop_model.specs.Shop.{Kept, Shop, Catalogue}
 use Rattle.shop_model.specs.Stock.{is_here, in_stock, keeps_out}
 use Rattle.shop_model.specs.Verdict.{Accepted, first, refusals, verdict, office_verdict, act_refusals, is_away, arrival}
 use Rattle.shop_model.specs.Machine.{Request, Unread, Do, Look, Office, OfficeLook, acted, done, reply_text, catalogue_after, office_done, here, with_state, films_in, incoming}
-use Rattle.shop_model.specs.Books.{Books, BookCopy, Mark, Line, UnderWay, Missing, Consignment, Event, Caller, Counter, HeadOffice, Nobody, shop_of, unmarked, as_arrival, book_acted, book_done, is_consignment, imported, unpacked, put_state, rows_at, under_way, checked, come, new_consignment, branch_after, after_for, after, caller_in, last_books}
-use Rattle.shop_model.specs.Sound.{one, copy_is, line_is, HasNumbers, HasOwners, HasCustody, HasOneHolder, IsSound, all_lines, lines_in, is_settled}
-use Rattle.shop_model.specs.Laws.{StaySound, StaySoundWithin, CopiesAreInOnePlace, OpeningIsSound, EmptyIsSound, OpeningBooksAreSound}
+use Rattle.shop_model.specs.Books.{Books, BookCopy, Mark, Line, UnderWay, Missing, Consignment, Event, Caller, Counter, HeadOffice, Nobody, shop_of, unmarked, as_arrival, book_acted, book_done, is_consignment, imported, unpacked, put_state, rows_at, under_way, checked, come, new_consignment, set_last, branch_after, after_for, after, caller_in, last_books}
+use Rattle.shop_model.specs.Sound.{one, copy_is, line_is, is_origin, rows_made, is_mark, places, is_made_as, marked_films, HasNumbers, HasOwners, HasCustody, HasOneHolder, IsSound, all_lines, lines_in, is_settled}
+use Rattle.shop_model.specs.Laws.{StaySound, StaySoundWithin, CopiesAreInOnePlace, SoundBooksAreInCustody, OpeningIsSound, EmptyIsSound, OpeningBooksAreSound}
 use Rattle.shop_model.specs.Opening.{empty_catalogue, opening_catalogue}
-use Rattle.shop_model.specs.Links.{is_staff_of, IsLinkedShop, IsGoodCatalogue}
+use Rattle.shop_model.specs.Links.{are_different, is_staff_of, IsLinkedShop, IsGoodCatalogue}
 use Rattle.std.specs.Option.{option_to_list}
 use Rattle.std.specs.Str.{bytes_eq}
 use Rattle.std.proofs.lemmas.Bool.Decides.{nat_tests}
-use Rattle.shop_model.proofs.RowLemmas.{same_if, differ_if, row_at, one_more}
+use Rattle.shop_model.proofs.RowLemmas.{same_if, same_test, differ_if, differ_test, row_at, one_more}
 use Rattle.shop_model.proofs.ShopLemmas.{arrival_of, done_own, done_other, with_arrivals}
 use Rattle.shop_model.proofs.NumberLemmas.{acted_numbers}
 use Rattle.shop_model.proofs.Isolation.{is_accepted, accepted_is, not_accepted, NoneHold, accepted_holds, act_holds, not_self, catalogue_stays}
-use Rattle.shop_model.proofs.GoodShops.{good_acted}
-use Rattle.shop_model.proofs.LinkLemmas.{at_set_other, none_left}
+use Rattle.shop_model.proofs.GoodShops.{all_weaker, good_acted}
+use Rattle.shop_model.proofs.LinkLemmas.{at_set_other, none_left, all_mapped}
 use Rattle.shop_model.proofs.LinkedShops.{linked_acted, linked_kept, linked_other}
 use Rattle.shop_model.proofs.GoodCatalogues.{Grows, done_grows, good_done, linked_grows}
 use Rattle.shop_model.proofs.Owners.{staff_works, branch_there, owners_done, owners_grow, places_kept}
 use Rattle.shop_model.proofs.Resent.{none_kept}
-use Rattle.shop_model.proofs.Origins.{origins_kept}
+use Rattle.shop_model.proofs.Origins.{all_append, origins_kept}
 use Rattle.shop_model.specs.GoodShop.{IsGoodShop}
-use Rattle.shop_model.proofs.CustodyLemmas.{total-append, AreHere, AllHere, or_parts, scrapped_total, sent_total, sent_unscrapped, state_made, states_made, lines_sent, lines_unlost, import_total, put_unscrapped, unpacked_total, unpacked_made, UnderWayOld, is_mark, under_way_old, made_old, made_once, AreOpen, come_old, received_total, settled_checked, settled_new, settled_sent}
+use Rattle.shop_model.proofs.CustodyLemmas.{total-append, AreHere, AllHere, and_parts, or_parts, scrapped_total, sent_total, sent_unscrapped, state_made, states_made, lines_sent, lines_unlost, import_total, put_unscrapped, unpacked_total, unpacked_made, UnderWayOld, under_way_old, made_old, made_once, AreOpen, come_old, received_total, settled_checked, settled_new, settled_sent}
 
 apart : true ≡ false → ⊥
 apart e = cc
@@ -286,6 +286,116 @@ good_other rules b c (Import lot file) books h = h
 good_other rules b c (Receive source number missing) books h = h
 good_other rules b c (Scrap x) books h = h
 
+-- ---- last moments
+
+abbrev of_one_branch : Owned Moment → Owned Moment → Bool
+of_one_branch earlier later = earlier.owner == later.owner
+
+none_of : (b : ℕ) (rows : List (Owned Moment)) → list_any (λ (row : Owned Moment). b == row.owner) (filter (λ row. not (row.owner == b)) rows) ≡ false
+none_of b [] = refl
+none_of b (row ∷ rows) = elim (cases_Bool (row.owner == b)) [
+  | inl is ↦ rw is (none_of b rows)
+  | inr isnt ↦ rw (isnt, differ_test b row.owner (λ e. differ_if row.owner b isnt (sym e))) (none_of b rows)
+]
+
+any_filtered : {A : Type 0} (p q : A → Bool) (xs : List A) → list_any p xs ≡ false → list_any p (filter q xs) ≡ false
+any_filtered p q [] none = refl
+any_filtered p q (x ∷ xs) none = let h = or_parts (p x) (list_any p xs) none in elim (cases_Bool (q x)) [
+  | inl is ↦ rw (is, h.0) (any_filtered p q xs h.1)
+  | inr isnt ↦ rw isnt (any_filtered p q xs h.1)
+]
+
+different_filtered : {A : Type 0} (same : A → A → Bool) (q : A → Bool) (xs : List A) → are_different same xs ≡ true → are_different same (filter q xs) ≡ true
+different_filtered same q [] all = refl
+different_filtered same q (x ∷ xs) all =
+    let h = and_parts (not (list_any (same x) xs)) (are_different same xs) all in
+    elim (cases_Bool (q x)) [
+      | inl is ↦ rw (is, any_filtered (same x) q xs (not_true (list_any (same x) xs) h.0)) (different_filtered same q xs h.1)
+      | inr isnt ↦ rw isnt (different_filtered same q xs h.1)
+    ]
+
+one_last : (b : ℕ) (moment : Moment) (lasts : List (Owned Moment)) → are_different of_one_branch lasts ≡ true → are_different of_one_branch (set_last b moment lasts) ≡ true
+one_last b moment lasts one = rw (none_of b lasts) (different_filtered of_one_branch (λ row. not (row.owner == b)) lasts one)
+
+-- ---- custody by itself
+
+-- a row that an import made, of that film and that mark
+abbrev made_by : Row BookCopy → ℕ → Mark → Bool
+made_by row film mark = is_origin row && row.it.film == film && row.it.mark.branch == mark.branch && row.it.mark.copy == mark.copy
+
+made_parts : (row : Row BookCopy) (film : ℕ) (mark : Mark) → made_by row film mark ≡ true → (row.it.film ≡ film) × ((is_origin row && is_mark mark row.it.mark) ≡ true)
+made_parts row film mark is =
+    let last = and_parts (is_origin row && row.it.film == film && row.it.mark.branch == mark.branch) (row.it.mark.copy == mark.copy) is in
+    let third = and_parts (is_origin row && row.it.film == film) (row.it.mark.branch == mark.branch) last.0 in
+    let first = and_parts (is_origin row) (row.it.film == film) third.0 in
+    (same_if row.it.film film first.1, rw (first.0, third.1, last.1) refl)
+
+made_some : (film : ℕ) (mark : Mark) (rows : List (Row BookCopy)) → is_made_as rows film mark ≡ true → 1 ≤ rows_made (is_mark mark) rows
+made_some film mark [] is = absurd (apart (sym is))
+made_some film mark (row ∷ rows) is = elim (cases_Bool (made_by row film mark)) [
+  | inl here ↦ rw (made_parts row film mark here).1 (omega arith)
+  | inr there ↦ let more = made_some film mark rows (rw there at is) in omega (arith, more)
+]
+
+-- a mark that is made once goes with one film
+one_film : (mark : Mark) (f g : ℕ) (rows : List (Row BookCopy)) → rows_made (is_mark mark) rows ≤ 1 → is_made_as rows f mark ≡ true → is_made_as rows g mark ≡ true → g ≡ f
+one_film mark f g [] once is was = absurd (apart (sym is))
+one_film mark f g (row ∷ rows) once is was = elim (cases_Bool (made_by row f mark)) [
+  | inl here ↦ elim (cases_Bool (made_by row g mark)) [
+    | inl too ↦ sym (made_parts row g mark too).0 ∙ (made_parts row f mark here).0
+    | inr other ↦ let some = made_some g mark rows (rw other at was) in let one : 1 + rows_made (is_mark mark) rows ≤ 1 = rw (made_parts row f mark here).1 at once in absurd (clash _ some one)
+  ]
+  | inr there ↦ elim (cases_Bool (made_by row g mark)) [
+    | inl here ↦ let some = made_some f mark rows (rw there at is) in let one : 1 + rows_made (is_mark mark) rows ≤ 1 = rw (made_parts row g mark here).1 at once in absurd (clash _ some one)
+    | inr other ↦ one_film mark f g rows (omega (arith, once)) (rw there at is) (rw other at was)
+  ]
+] where
+  clash : (n : ℕ) → 1 ≤ n → 1 + n ≤ 1 → ⊥
+  clash n some one = omega (arith, some, one)
+
+same_mark : (mark it : Mark) → is_mark mark it ≡ true → it ≡ mark
+same_mark mark it is =
+    let h = and_parts (it.branch == mark.branch) (it.copy == mark.copy) is in
+    λ i. record { branch = same_if it.branch mark.branch h.0 i; copy = same_if it.copy mark.copy h.1 i }
+
+pub in_custody : SoundBooksAreInCustody
+in_custody rules books sound = record {
+  is_made = all_weaker made_as _ marks (λ it is. positive _ (made_some it.0 it.1 books.copies is)) all;
+  place = all_weaker made_as _ marks (λ it is. one_place it.1 (made_some it.0 it.1 books.copies is)) all;
+  film = all_weaker made_as _ marks (λ it is. all_weaker made_as _ marks (λ other was. same_film it other is was) all) all;
+} where
+  made_as : ℕ × Mark → Bool
+  made_as it = is_made_as books.copies it.0 it.1
+
+  marks : List (ℕ × Mark)
+  marks = marked_films books
+
+  all : list_all made_as marks ≡ true
+  all = all_append made_as (map (λ (row : Row BookCopy). (row.it.film, row.it.mark)) books.copies) (map (λ (line : Line). (line.film, line.mark)) (all_lines books))
+      (all_mapped made_as (λ (row : Row BookCopy). is_made_as books.copies row.it.film row.it.mark) (λ (row : Row BookCopy). (row.it.film, row.it.mark)) books.copies (λ row is. is) sound.origins.rows)
+      (all_mapped made_as (λ (line : Line). is_made_as books.copies line.film line.mark) (λ (line : Line). (line.film, line.mark)) (all_lines books) (λ line is. is) sound.origins.lines)
+
+  positive : (n : ℕ) → 1 ≤ n → nat_lt 0 n ≡ true
+  positive n some = grind (arith, nat_tests)
+
+  once : (mark : Mark) → rows_made (is_mark mark) books.copies ≤ 1
+  once mark = made_once mark 1 books.copies (sound.numbers.copies mark.branch)
+
+  one_is : (n : ℕ) → n ≡ 1 → (n == 1) ≡ true
+  one_is n e = rw e
+
+  one_place : (mark : Mark) → 1 ≤ rows_made (is_mark mark) books.copies → (places (is_mark mark) books == 1) ≡ true
+  one_place mark some = let c = sound.custody (is_mark mark) in let most = once mark in one_is _ (omega (arith, c, some, most))
+
+  same_film : (it other : ℕ × Mark) → is_made_as books.copies it.0 it.1 ≡ true → is_made_as books.copies other.0 other.1 ≡ true → (not (is_mark it.1 other.1) || other.0 == it.0) ≡ true
+  same_film it other is was = elim (cases_Bool (is_mark it.1 other.1)) [
+    | inr apart ↦ rw apart refl
+    | inl same ↦
+        let mine : is_made_as books.copies other.0 it.1 ≡ true = subst (λ (mark : Mark). is_made_as books.copies other.0 mark ≡ true) (same_mark it.1 other.1 same) was in
+        let film : other.0 ≡ it.0 = one_film it.1 it.0 other.0 books.copies (once it.1) is mine in
+        rw (same, film, same_test it.0) refl
+  ]
+
 -- ---- a step and a run
 
 kept_same : (rules : Rules) (command : Command) (act : Act) (shop : Shop) → shop.kept ≡ (acted rules command act shop).kept
@@ -326,6 +436,7 @@ done_sound rules sizes b command books most fit sound e =
       custody = custody_kept rules sizes b books.catalogue command command.act books sound none;
       origins = let o = origins_kept rules b command command.act books sound.origins in record { rows = o.rows; lines = o.lines };
       settled = settled_kept rules b command command.act books sound.settled;
+      lasts = one_last b command.moment books.lasts sound.lasts;
       held = λ c. elim (cases_Bool (b == c)) [
         | inl is ↦
             let P : ℕ → Type 0 = λ n. HasOneHolder (shop_of n (book_done rules b command books)) in
@@ -376,6 +487,7 @@ grown_sound sizes catalogue books sound good grows = record {
   custody = sound.custody;
   origins = record { rows = sound.origins.rows; lines = sound.origins.lines };
   settled = sound.settled;
+  lasts = sound.lasts;
   held = λ b. holder_same (shop_of b books) _ refl refl (sound.held b);
   shops = sound.shops;
   links = λ b. linked_grows b books.catalogue catalogue (shop_of b books) grows (sound.links b);
@@ -430,6 +542,7 @@ opening_sound rules catalogue good = record {
   custody = λ test. refl;
   origins = record { rows = refl; lines = refl };
   settled = refl;
+  lasts = refl;
   held = λ b. record { one = λ x. omega arith; here = λ x out. absurd (apart out) };
   shops = λ b. record { apart = refl; created = refl; rented = refl; paid = refl; rentals_rise = refl; payments_rise = refl; keys = omega arith; copies = omega arith; customers_fit = omega arith; rentals_fit = omega arith; payments_fit = omega arith; lots_fit = omega arith; sent_fit = omega arith };
   links = λ b. record { customer_cities = refl; copy_films = refl; rental_copies = refl; rental_customers = refl; rental_staff = refl; payment_customers = refl; payment_staff = refl; payment_rentals = refl; arrival_films = refl; parcels = refl; lots = refl; keys = refl };
@@ -439,6 +552,7 @@ pub empty_sound : EmptyIsSound
 empty_sound rules token = opening_sound rules (empty_catalogue token) (record {
   names = record { city_countries = refl; film_languages = refl; film_categories = refl; cast_films = refl; cast_actors = refl; branch_cities = refl; managers = λ b. refl; staff_branches = refl; staff_cities = refl };
   sizes = record { casts = omega arith; countries = omega arith; cities = omega arith; languages = omega arith; categories = omega arith; actors = omega arith; films = omega arith; branches = omega arith; staff = omega arith };
+  single = record { casts = refl; countries = refl; languages = refl; categories = refl };
   keys_fit = omega arith;
   keys = refl;
   tokens = refl;
@@ -449,6 +563,7 @@ pub opening_books_sound : OpeningBooksAreSound
 opening_books_sound rules = opening_sound rules opening_catalogue (record {
   names = record { city_countries = refl; film_languages = refl; film_categories = refl; cast_films = refl; cast_actors = refl; branch_cities = refl; managers = λ b. managed b; staff_branches = refl; staff_cities = refl };
   sizes = record { casts = omega arith; countries = omega arith; cities = omega arith; languages = omega arith; categories = omega arith; actors = omega arith; films = omega arith; branches = omega arith; staff = omega arith };
+  single = record { casts = refl; countries = refl; languages = refl; categories = refl };
   keys_fit = omega arith;
   keys = refl;
   tokens = refl;

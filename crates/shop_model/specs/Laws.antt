@@ -1,11 +1,10 @@
 -- The laws of a chain.
-use Rattle.std.specs.Prelude.{◌≡◌, ℕ, ◌+◌, ◌≤◌, List, length, filter, true, Option}
+use Rattle.std.specs.Prelude.{◌≡◌, ℕ, ◌≤◌, List, length, filter, true, Option}
 use Rattle.shop_model.specs.Values.{Text, OfficeAsk, OfficeCommand, Rules, Command}
 use Rattle.shop_model.specs.Verdict.{verdict, office_verdict, Again, Accepted}
 use Rattle.shop_model.specs.Machine.{reply_text, office_text, office_done, Reply, replies, state_after}
 use Rattle.shop_model.specs.Books.{book_done, Books, Mark, Event, shop_of, run, last_books, replies_to, view, state_of, caller_of, known_caller}
-use Rattle.shop_model.specs.Sound.{HasNumbers, HasOrigins, HasOneHolder, IsSound, opening, made, here, transit, gone}
-use Rattle.shop_model.specs.Office.{is_mark}
+use Rattle.shop_model.specs.Sound.{is_mark, HasNumbers, HasOrigins, HasOneHolder, IsInCustody, IsSound, opening, made, places}
 use Rattle.shop_model.specs.Shop.{Catalogue}
 use Rattle.shop_model.specs.Repeats.{are_new, marked_ones}
 use Rattle.shop_model.specs.Stock.{keeps_out}
@@ -41,14 +40,18 @@ StaySoundWithin =
 -- copies agree; and a copy is out at most once, and not unless it is in the shop.
 pub record InOnePlace (books : Books) : Type 0 where
   pub once : (mark : Mark) → made (is_mark mark) books ≤ 1
-  pub place : (mark : Mark) → made (is_mark mark) books ≡ here (is_mark mark) books + transit (is_mark mark) books + gone (is_mark mark) books
-  pub sums : made (λ _. true) books ≡ here (λ _. true) books + transit (λ _. true) books + gone (λ _. true) books
+  pub place : (mark : Mark) → made (is_mark mark) books ≡ places (is_mark mark) books
+  pub sums : made (λ _. true) books ≡ places (λ _. true) books
   pub origins : HasOrigins books
   pub out : (b x : ℕ) → length (filter (keeps_out x) (shop_of b books).rentals) ≤ 1
   pub inside : (b : ℕ) → HasOneHolder (shop_of b books)
 
 abbrev pub CopiesAreInOnePlace : Type 0
 CopiesAreInOnePlace = (rules : Rules) (events : List Event) (books : Books) → IsSound rules books → InOnePlace (last_books rules events books)
+
+-- custody by itself: it follows from soundness, and doesn't speak of soundness
+abbrev pub SoundBooksAreInCustody : Type 0
+SoundBooksAreInCustody = (rules : Rules) (books : Books) → IsSound rules books → IsInCustody books
 
 -- the books of a chain in which no branch has asked anything are sound, where its shared rows are
 abbrev pub OpeningIsSound : Type 0

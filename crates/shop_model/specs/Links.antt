@@ -70,9 +70,17 @@ pub record HasSharedSizes (catalogue : Catalogue) : Type 0 where
   pub branches : length catalogue.branches ≤ length catalogue.kept + 3
   pub staff : length catalogue.staff ≤ length catalogue.kept + 3
 
+-- no actor is cast twice in one film, and no two countries, languages or categories have one name
+pub record HasNoDoubles (catalogue : Catalogue) : Type 0 where
+  pub casts : are_different (λ (earlier later : Cast). earlier.film == later.film && earlier.actor == later.actor) catalogue.casts ≡ true
+  pub countries : are_different (λ (earlier later : Text). bytes_eq later earlier) catalogue.countries ≡ true
+  pub languages : are_different (λ (earlier later : Text). bytes_eq later earlier) catalogue.languages ≡ true
+  pub categories : are_different (λ (earlier later : Text). bytes_eq later earlier) catalogue.categories ≡ true
+
 pub record IsGoodCatalogue (rules : Rules) (catalogue : Catalogue) : Type 0 where
   pub names : NamesRowsOf catalogue catalogue
   pub sizes : HasSharedSizes catalogue
+  pub single : HasNoDoubles catalogue
   pub keys_fit : length catalogue.kept ≤ rules.commands
   pub keys : are_different (λ (earlier later : OfficeKept). bytes_eq earlier.command.key later.command.key) catalogue.kept ≡ true
   pub tokens : are_different (λ (earlier later : Branch). bytes_eq earlier.token later.token) catalogue.branches ≡ true

@@ -7,10 +7,7 @@ use Rattle.shop_model.specs.Refusals.{NoCopy, NoBranch}
 use Rattle.shop_model.specs.Views.{sales_by_store, sorted_by}
 use Rattle.shop_model.specs.Machine.{Reply, Sorry, Shows, StoresListed, HereAt, UnderWayTo, Gone, TransitIs, AuditIs}
 use Rattle.shop_model.specs.Books.{Books, BookCopy, Mark, Line, UnderWay, Consignment, shop_of}
-use Rattle.shop_model.specs.Sound.{copy_is, line_is, made, here, transit, gone}
-
-abbrev pub is_mark : Mark → Mark → Bool
-is_mark mark it = it.branch == mark.branch && it.copy == mark.copy
+use Rattle.shop_model.specs.Sound.{copy_is, line_is, is_mark, made, here, transit, gone}
 
 -- a copy that is here, or a line that is under way; a mark that was made and is neither is gone, scrapped or missing
 abbrev pub custody_of : Mark → List (Row BookCopy) → List Consignment → Reply
@@ -27,8 +24,9 @@ place_of mark books = custody_of mark
 abbrev pub goes_before : Consignment → Consignment → Bool
 goes_before a b = nat_lt a.source b.source || a.source == b.source && (nat_lt a.addressee b.addressee || a.addressee == b.addressee && nat_lt a.number b.number)
 
--- sales have a row for each branch with such a payment; custody asks for the branch first and then for the mark. The books of a run are sound, so an
--- audit always says so
+-- Sales have a row for each branch with such a payment; custody asks for the branch first and then for the mark. An audit is the reply over sound books,
+-- and says without a look at them that they are. Of other books that would be wrong; its premise is that there are none to be read: the books with which
+-- a chain begins are sound (`OpeningBooksAreSound`, `EmptyIsSound`), a chain has others only if they are, and no request leaves sound books for others (`StaySound`).
 abbrev pub office_look : OfficeAsk → Books → Reply
 office_look Sales books = Shows (StoresListed (flat_map (λ (it : ℕ × Branch). sales_by_store it.0 books.catalogue (shop_of it.0 books)) (numbered books.catalogue.branches)))
 office_look (Custody b x) books =

@@ -79,7 +79,8 @@ same_film a b = bytes_eq a.title b.title && bytes_eq a.description b.description
 abbrev pub same_branch : Branch → Branch → Bool
 same_branch a b = bytes_eq a.token b.token && bytes_eq a.address b.address && bytes_eq a.postal b.postal && bytes_eq a.phone b.phone && a.city == b.city && same_option a.manager b.manager
 
--- (who is new hasn't left, so that isn't compared of staff)
+-- Every field is compared but one: whether new staff have left. They haven't, whatever the act's row has there (`office_acted`), and the form in which a
+-- command is kept leaves it out.
 abbrev pub same_office_act : OfficeAct → OfficeAct → Bool
 same_office_act (AddCountry name) (AddCountry name') = bytes_eq name name'
 same_office_act (AddCity c) (AddCity c') = bytes_eq c.name c'.name && c.country == c'.country

@@ -1,5 +1,5 @@
 -- What holds of the books of a chain.
-use Rattle.std.specs.Prelude.{◌≡◌, ℕ, map, ◌+◌, ◌≤◌, ◌==◌, ◌&&◌, Bool, true, false, not, if◌then◌else◌, List, [], flat_map, length, filter}
+use Rattle.std.specs.Prelude.{◌≡◌, ℕ, map, ◌+◌, ◌≤◌, ◌==◌, ◌&&◌, ◌||◌, nat_lt, Bool, true, false, not, if◌then◌else◌, List, [], ◌++◌, flat_map, length, filter}
 use Rattle.std.specs.List.{list_any, list_all}
 use Rattle.shop_model.specs.Rows.{Row, Owned, at, is_of, IsCounted, AreNumbered, total}
 use Rattle.shop_model.specs.Calendar.{Moment}
@@ -7,7 +7,7 @@ use Rattle.shop_model.specs.Values.{Text, Branch, Customer, Rental, Payment, Cop
 use Rattle.shop_model.specs.Shop.{Kept, Shop, Catalogue}
 use Rattle.shop_model.specs.Stock.{is_here, in_stock, keeps_out}
 use Rattle.shop_model.specs.GoodShop.{IsGoodShop}
-use Rattle.shop_model.specs.Links.{has_row, IsLinkedShop, IsGoodCatalogue}
+use Rattle.shop_model.specs.Links.{has_row, are_different, IsLinkedShop, IsGoodCatalogue}
 use Rattle.shop_model.specs.Books.{Books, BookCopy, Mark, Line, LineState, UnderWay, Arrived, Missing, Consignment, shop_of}
 
 -- ---- numbers
@@ -42,6 +42,9 @@ line_is a b = false
 abbrev pub is_origin : Row BookCopy → Bool
 is_origin row = row.it.mark.branch == row.branch && row.it.mark.copy == row.number
 
+abbrev pub is_mark : Mark → Mark → Bool
+is_mark mark it = it.branch == mark.branch && it.copy == mark.copy
+
 abbrev pub all_lines : Books → List Line
 all_lines books = flat_map (λ (it : Consignment). it.lines) books.consignments
 
@@ -67,9 +70,13 @@ transit test books = lines_in UnderWay test (all_lines books)
 abbrev pub gone : (Mark → Bool) → Books → ℕ
 gone test books = rows_in Scrapped test books.copies + lines_in Missing test (all_lines books)
 
+-- how many places the marks have that pass the test: copies that are here, lines under way, and copies and lines that are gone
+abbrev pub places : (Mark → Bool) → Books → ℕ
+places test books = here test books + transit test books + gone test books
+
 -- of all marks, of one mark and of any others alike: what was made is here, under way or gone, and nothing is twice
 abbrev pub HasCustody : Books → Type 0
-HasCustody books = (test : Mark → Bool) → made test books ≡ here test books + transit test books + gone test books
+HasCustody books = (test : Mark → Bool) → made test books ≡ places test books
 
 -- the mark was made, by the import of a copy of that film
 abbrev pub is_made_as : List (Row BookCopy) → ℕ → Mark → Bool
@@ -78,6 +85,22 @@ is_made_as copies film mark = list_any (λ (row : Row BookCopy). is_origin row &
 pub record HasOrigins (books : Books) : Type 0 where
   pub rows : list_all (λ (row : Row BookCopy). is_made_as books.copies row.it.film row.it.mark) books.copies ≡ true
   pub lines : list_all (λ (line : Line). is_made_as books.copies line.film line.mark) (all_lines books) ≡ true
+
+-- the film and the mark of each row and of each line
+abbrev pub marked_films : Books → List (ℕ × Mark)
+marked_films books =
+    map (λ (row : Row BookCopy). (row.it.film, row.it.mark)) books.copies ++ map (λ (line : Line). (line.film, line.mark)) (all_lines books)
+
+-- wherever the mark stands, it stands with that film
+abbrev pub goes_with : ℕ × Mark → Books → Bool
+goes_with it books = list_all (λ (other : ℕ × Mark). not (is_mark it.1 other.1) || other.0 == it.0) (marked_films books)
+
+-- Each mark of a row or a line is made, has exactly one place, and goes with one film. This can be asked of any books, of which nothing else is known, not
+-- even that rows are numbered without gap or double; sound books are such.
+pub record IsInCustody (books : Books) : Type 0 where
+  pub is_made : list_all (λ (it : ℕ × Mark). nat_lt 0 (made (is_mark it.1) books)) (marked_films books) ≡ true
+  pub place : list_all (λ (it : ℕ × Mark). places (is_mark it.1) books == 1) (marked_films books) ≡ true
+  pub film : list_all (λ (it : ℕ × Mark). goes_with it books) (marked_films books) ≡ true
 
 -- a consignment is received and no line is under way, or it isn't and all are
 abbrev pub is_settled : Consignment → Bool
@@ -115,6 +138,7 @@ pub record IsSound (rules : Rules) (books : Books) : Type 0 where
   pub custody : HasCustody books
   pub origins : HasOrigins books
   pub settled : list_all is_settled books.consignments ≡ true
+  pub lasts : are_different (λ (earlier later : Owned Moment). earlier.owner == later.owner) books.lasts ≡ true  -- a branch has one last moment at most
   pub held : (b : ℕ) → HasOneHolder (shop_of b books)
   pub shops : (b : ℕ) → IsGoodShop rules (shop_of b books)
   pub links : (b : ℕ) → IsLinkedShop b books.catalogue (shop_of b books)

@@ -1,6 +1,6 @@
 //! Laws, each on a function with nothing to do.
 
-ghost use Rattle.shop_model.specs.Resends.{RunsResend};
+ghost use Rattle.shop_model.specs.Resends.{KeptRowsAreKept, RunsResend};
 ghost use Rattle.shop_model.specs.Laws.{
   BranchesAreAlone,
   BranchesAreIsolated,
@@ -11,6 +11,7 @@ ghost use Rattle.shop_model.specs.Laws.{
   OpeningIsSound,
   RepeatsChangeNothing,
   ResentIsAgain,
+  SoundBooksAreInCustody,
   EmptyIsSound,
   StaySound,
   StaySoundWithin,
@@ -44,6 +45,12 @@ pub fn books_stay_sound_within()
 #[tactic(auto, using(crate::proofs::Soundness::in_one_place))]
 pub fn copies_are_in_one_place()
     ensures { CopiesAreInOnePlace }
+{}
+
+/// In sound books each mark is made, has exactly one place and goes with one film.
+#[tactic(auto, using(crate::proofs::Soundness::in_custody))]
+pub fn sound_books_are_in_custody()
+    ensures { SoundBooksAreInCustody }
 {}
 
 /// The books of a chain in which no branch has asked anything are sound, where its shared rows are.
@@ -92,4 +99,10 @@ pub fn repeats_change_nothing()
 #[tactic(auto, using(crate::proofs::Resends::runs_resend))]
 pub fn runs_resend()
     ensures { RunsResend }
+{}
+
+/// In sound books each kept row is the only one of its caller under its key, so that a command of it gets its reply in any history that begins with them.
+#[tactic(auto, using(crate::proofs::Resends::kept_rows_kept))]
+pub fn kept_rows_are_kept()
+    ensures { KeptRowsAreKept }
 {}

@@ -1,11 +1,14 @@
 pub mod CreateTexts
 pub mod Stands
+pub mod Listed
+pub mod SharedTables
 pub mod Versions
 pub mod FormLemmas
 pub mod OneToOne
 pub mod OfficeOneToOne
 pub mod SameRows
 pub mod Lists
+pub mod FirstRows
 pub mod MomentTexts
 pub mod Lasts
 pub mod Values

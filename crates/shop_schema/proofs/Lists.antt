@@ -1,11 +1,9 @@
 -- The lists of the books when a row is put last, and a branch's rows in the order of their numbers.
-use Rattle.std.proofs.Common.{◌≡◌, ◌≢◌, ◌≤◌, ◌<◌, ◌+◌, ◌==◌, ◌&&◌, ℕ, suc, List, [], ◌∷◌, ◌++◌, map, filter, length, Bool, true, false, cond, refl, sym, ap, subst, ◌∙◌, arith}
+use Rattle.std.proofs.Common.{◌≡◌, ◌≤◌, ◌<◌, ◌+◌, ◌==◌, ◌&&◌, ℕ, suc, List, [], ◌∷◌, ◌++◌, map, filter, length, Bool, true, false, cond, refl, sym, ap, subst, ◌∙◌, arith}
 use Rattle.std.specs.List.{AllByRecursion, flat_map}
-use Rattle.std.specs.Ordering.{is_gt}
 use Rattle.std.proofs.lemmas.Bool.Decides.{nat_tests}
-use Rattle.sqlite_keyed.specs.Lists.{sort_by, insert_sorted}
-use Rattle.sql_rows.specs.Rows.{by, Differ, PicksOne}
-use Rattle.shop_model.specs.Rows.{Row, is_of, is_row, of, numbered_from, IsCounted, AreNumbered}
+use Rattle.sql_rows.specs.Rows.{PicksOne}
+use Rattle.shop_model.specs.Rows.{Row, is_of, is_row, numbered_from, IsCounted, AreNumbered}
 
 pub numbered_push : {A : Type 0} (n : ℕ) (xs : List A) (x : A) → numbered_from n (xs ++ x ∷ []) ≡ numbered_from n xs ++ (n + length xs, x) ∷ []
 numbered_push n [] x = λ i. (zero_more n i, x) ∷ []
@@ -36,30 +34,6 @@ module _ {X : Type 0} (number : X → ℕ) where
   counted_above k [] n low c = tt
   counted_above k (x ∷ xs) n low c = (omega (arith, c.0), counted_above (k + 1) xs n (omega arith) c.1)
 
-  all_differ : (n : ℕ) (xs : List X) → AllByRecursion (λ x. n < number x) xs → AllByRecursion (λ x. n ≢ number x) xs
-  all_differ n [] all = tt
-  all_differ n (x ∷ xs) all = (λ e. omega (arith, all.0, e), all_differ n xs all.1)
-
-  -- no number comes twice
-  pub counted_differ : (k : ℕ) (xs : List X) → IsCounted k (map number xs) → Differ number xs
-  counted_differ k [] c = tt
-  counted_differ k (x ∷ xs) c =
-      let up : AllByRecursion (λ y. number x < number y) xs = counted_above (k + 1) xs (number x) (omega (arith, c.0)) c.1 in
-      (all_differ (number x) xs up, counted_differ (k + 1) xs c.1)
-
-  not_greater : (x y : X) → number x < number y → is_gt (by number x y) ≡ false
-  not_greater x y h = grind (arith, nat_tests)
-
-  first_stays : (x : X) (xs : List X) → AllByRecursion (λ y. number x < number y) xs → insert_sorted (by number) x xs ≡ x ∷ xs
-  first_stays x [] up = refl
-  first_stays x (y ∷ xs) up = ap (λ b. cond b (y ∷ insert_sorted (by number) x xs) (x ∷ y ∷ xs)) (not_greater x y up.0)
-
-  -- what is counted is in order
-  pub counted_sorted : (k : ℕ) (xs : List X) → IsCounted k (map number xs) → sort_by (by number) xs ≡ xs
-  counted_sorted k [] c = refl
-  counted_sorted k (x ∷ xs) c =
-      ap (insert_sorted (by number) x) (counted_sorted (k + 1) xs c.1) ∙ first_stays x xs (counted_above (k + 1) xs (number x) (omega (arith, c.0)) c.1)
-
   none_equal : (n : ℕ) (xs : List X) → AllByRecursion (λ x. n < number x) xs → length (filter (λ x. number x == n) xs) ≡ 0
   none_equal n [] up = refl
   none_equal n (x ∷ xs) up = ap (λ b. length (cond b (x ∷ filter (λ y. number y == n) xs) (filter (λ y. number y == n) xs))) (unequal (number x) n up.0) ∙ none_equal n xs up.1
@@ -80,7 +54,7 @@ module _ {X : Type 0} (number : X → ℕ) where
 
 -- ---- rows of a branch
 
-filter_twice : {X : Type 0} (p q : X → Bool) (xs : List X) → filter (λ x. p x && q x) xs ≡ filter q (filter p xs)
+pub filter_twice : {X : Type 0} (p q : X → Bool) (xs : List X) → filter (λ x. p x && q x) xs ≡ filter q (filter p xs)
 filter_twice p q [] = refl
 filter_twice p q (x ∷ xs) = go (p x) (filter_twice p q xs)
   where
@@ -94,10 +68,3 @@ module _ {A : Type 0} (b : ℕ) (rows : List (Row A)) (counted : AreNumbered (is
   pub picks_row : (n : ℕ) → PicksOne (is_row b n) rows
   picks_row n =
       subst (λ (l : List (Row A)). length l ≤ 1) (sym (filter_twice (is_of b) (λ row. row.number == n) rows)) (counted_once (λ (row : Row A). row.number) 1 (filter (is_of b) rows) n counted)
-
-  pub numbers_differ : Differ (λ (row : Row A). row.number) (filter (is_of b) rows)
-  numbers_differ = counted_differ (λ (row : Row A). row.number) 1 (filter (is_of b) rows) counted
-
-  -- in order of number its rows are what the branch has
-  pub in_order : map (λ (row : Row A). row.it) (sort_by (by (λ row. row.number)) (filter (is_of b) rows)) ≡ of b rows
-  in_order = ap (map (λ (row : Row A). row.it)) (counted_sorted (λ (row : Row A). row.number) 1 (filter (is_of b) rows) counted)

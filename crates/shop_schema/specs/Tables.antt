@@ -1,6 +1,6 @@
 -- The tables of version 1 as data, in the order in which they are made, and then the indexes. A table's rows are in a tree of their own, and so are the
 -- entries of each key and of each index. Columns are counted from 1, since the hidden rowid comes first.
-use Rattle.std.specs.Prelude.{Bool, true, false, [], ◌∷◌, ◌++◌, None, codes, List, ℕ}
+use Rattle.std.specs.Prelude.{Bool, true, false, [], ◌∷◌, ◌++◌, None, codes, List, ℕ, map}
 use Rattle.sqlite.specs.declared.types.Value.TheVariants.{Null}
 use Rattle.sqlite_value.specs.declared.keys.Collation.TheVariants.{Binary}
 use Rattle.sqlite_value.specs.Keys.{plain}
@@ -17,6 +17,16 @@ use Rattle.sqlite_schema.specs.declared.schema.Kind.TheVariants.{Integer, Text, 
 abbrev pub column_of : List ℕ → Kind → Bool → Column
 column_of name kind not_null = record { name = name; kind = kind; is_strict = true; not_null = not_null; default = Null; collation = Binary }
 
+-- columns with a value in each row
+abbrev pub number : List ℕ → Column
+number name = column_of name Integer true
+
+abbrev pub text : List ℕ → Column
+text name = column_of name Text true
+
+abbrev pub bytes : List ℕ → Column
+bytes name = column_of name Blob true
+
 -- a foreign key, which forbids a row without its parent and does nothing else
 abbrev pub reference_of : List ℕ → List ℕ → List (List ℕ) → Reference
 reference_of columns parent parent_columns = record { columns = columns; parent = parent; parent_columns = parent_columns; on_delete = NoAction; on_update = NoAction; is_deferred = false }
@@ -30,425 +40,139 @@ automatic_of name digits tree table columns =
 abbrev pub index_of : List ℕ → ℕ → ℕ → List ℕ → Index
 index_of name tree table columns = record { name = name; tree = tree; table = table; columns = columns; order = plain; is_unique = false }
 
-abbrev pub chain_table : Table
-chain_table = record {
-  name = codes "chain";
-  tree = 0;
-  columns = column_of (codes "version") Integer true
-      ∷ column_of (codes "office_token") Text true
-      ∷ [];
+-- a table by its name, its tree, the columns of its primary key, those of each key, its columns, and its foreign keys
+abbrev pub table_of : List ℕ → ℕ → List ℕ → List (List ℕ) → List Column → List Reference → Table
+table_of name tree primary uniques columns references = record {
+  name = name;
+  tree = tree;
+  columns = columns;
   key = None;
-  primary = [];
-  uniques = [];
-  orders = [];
+  primary = primary;
+  uniques = uniques;
+  orders = map (λ _. plain) uniques;
   checks = [];
-  references = [];
+  references = references;
   computed = [];
   stamps = record { places = []; terms = []; formats = [] };
   is_counted = false;
 }
+
+abbrev pub chain_table : Table
+chain_table =
+    table_of (codes "chain") 0 [] [] (number (codes "version") ∷ text (codes "office_token") ∷ []) []
 
 abbrev pub country_table : Table
-country_table = record {
-  name = codes "country";
-  tree = 1;
-  columns = column_of (codes "number") Integer true
-      ∷ column_of (codes "name") Text true
-      ∷ [];
-  key = None;
-  primary = 1 ∷ [];
-  uniques = (1 ∷ []) ∷ (2 ∷ []) ∷ [];
-  orders = plain ∷ plain ∷ [];
-  checks = [];
-  references = [];
-  computed = [];
-  stamps = record { places = []; terms = []; formats = [] };
-  is_counted = false;
-}
+country_table =
+    table_of (codes "country") 1 (1 ∷ []) ((1 ∷ []) ∷ (2 ∷ []) ∷ []) (number (codes "number") ∷ text (codes "name") ∷ []) []
 
 abbrev pub language_table : Table
-language_table = record {
-  name = codes "language";
-  tree = 4;
-  columns = column_of (codes "number") Integer true
-      ∷ column_of (codes "name") Text true
-      ∷ [];
-  key = None;
-  primary = 1 ∷ [];
-  uniques = (1 ∷ []) ∷ (2 ∷ []) ∷ [];
-  orders = plain ∷ plain ∷ [];
-  checks = [];
-  references = [];
-  computed = [];
-  stamps = record { places = []; terms = []; formats = [] };
-  is_counted = false;
-}
+language_table =
+    table_of (codes "language") 4 (1 ∷ []) ((1 ∷ []) ∷ (2 ∷ []) ∷ []) (number (codes "number") ∷ text (codes "name") ∷ []) []
 
 abbrev pub category_table : Table
-category_table = record {
-  name = codes "category";
-  tree = 7;
-  columns = column_of (codes "number") Integer true
-      ∷ column_of (codes "name") Text true
-      ∷ [];
-  key = None;
-  primary = 1 ∷ [];
-  uniques = (1 ∷ []) ∷ (2 ∷ []) ∷ [];
-  orders = plain ∷ plain ∷ [];
-  checks = [];
-  references = [];
-  computed = [];
-  stamps = record { places = []; terms = []; formats = [] };
-  is_counted = false;
-}
+category_table =
+    table_of (codes "category") 7 (1 ∷ []) ((1 ∷ []) ∷ (2 ∷ []) ∷ []) (number (codes "number") ∷ text (codes "name") ∷ []) []
 
 abbrev pub city_table : Table
-city_table = record {
-  name = codes "city";
-  tree = 10;
-  columns = column_of (codes "number") Integer true
-      ∷ column_of (codes "name") Text true
-      ∷ column_of (codes "country") Integer true
-      ∷ [];
-  key = None;
-  primary = 1 ∷ [];
-  uniques = (1 ∷ []) ∷ [];
-  orders = plain ∷ [];
-  checks = [];
-  references = reference_of (3 ∷ []) (codes "country") (codes "number" ∷ []) ∷ [];
-  computed = [];
-  stamps = record { places = []; terms = []; formats = [] };
-  is_counted = false;
-}
+city_table =
+    table_of (codes "city") 10 (1 ∷ []) ((1 ∷ []) ∷ [])
+    (number (codes "number") ∷ text (codes "name") ∷ number (codes "country") ∷ [])
+    (reference_of (3 ∷ []) (codes "country") (codes "number" ∷ []) ∷ [])
 
 abbrev pub actor_table : Table
-actor_table = record {
-  name = codes "actor";
-  tree = 12;
-  columns = column_of (codes "number") Integer true
-      ∷ column_of (codes "first") Text true
-      ∷ column_of (codes "last") Text true
-      ∷ [];
-  key = None;
-  primary = 1 ∷ [];
-  uniques = (1 ∷ []) ∷ [];
-  orders = plain ∷ [];
-  checks = [];
-  references = [];
-  computed = [];
-  stamps = record { places = []; terms = []; formats = [] };
-  is_counted = false;
-}
+actor_table =
+    table_of (codes "actor") 12 (1 ∷ []) ((1 ∷ []) ∷ []) (number (codes "number") ∷ text (codes "first") ∷ text (codes "last") ∷ []) []
 
 abbrev pub film_table : Table
-film_table = record {
-  name = codes "film";
-  tree = 14;
-  columns = column_of (codes "number") Integer true
-      ∷ column_of (codes "title") Text true
-      ∷ column_of (codes "description") Text true
-      ∷ column_of (codes "language") Integer true
-      ∷ column_of (codes "category") Integer true
-      ∷ column_of (codes "period") Integer true
-      ∷ column_of (codes "rate") Integer true
-      ∷ column_of (codes "replacement") Integer true
-      ∷ column_of (codes "length") Integer false
-      ∷ column_of (codes "rating") Text true
-      ∷ column_of (codes "features") Text true
-      ∷ column_of (codes "withdrawn") Integer true
-      ∷ [];
-  key = None;
-  primary = 1 ∷ [];
-  uniques = (1 ∷ []) ∷ [];
-  orders = plain ∷ [];
-  checks = [];
-  references = reference_of (4 ∷ []) (codes "language") (codes "number" ∷ []) ∷ reference_of (5 ∷ []) (codes "category") (codes "number" ∷ []) ∷ [];
-  computed = [];
-  stamps = record { places = []; terms = []; formats = [] };
-  is_counted = false;
-}
+film_table =
+    table_of (codes "film") 14 (1 ∷ []) ((1 ∷ []) ∷ [])
+    (number (codes "number") ∷ text (codes "title") ∷ text (codes "description") ∷ number (codes "language") ∷ number (codes "category")
+    ∷ number (codes "period") ∷ number (codes "rate") ∷ number (codes "replacement") ∷ column_of (codes "length") Integer false
+    ∷ text (codes "rating") ∷ text (codes "features") ∷ number (codes "withdrawn") ∷ [])
+    (reference_of (4 ∷ []) (codes "language") (codes "number" ∷ []) ∷ reference_of (5 ∷ []) (codes "category") (codes "number" ∷ []) ∷ [])
 
 abbrev pub film_actor_table : Table
-film_actor_table = record {
-  name = codes "film_actor";
-  tree = 16;
-  columns = column_of (codes "film") Integer true
-      ∷ column_of (codes "actor") Integer true
-      ∷ [];
-  key = None;
-  primary = 1 ∷ 2 ∷ [];
-  uniques = (1 ∷ 2 ∷ []) ∷ [];
-  orders = plain ∷ [];
-  checks = [];
-  references = reference_of (1 ∷ []) (codes "film") (codes "number" ∷ []) ∷ reference_of (2 ∷ []) (codes "actor") (codes "number" ∷ []) ∷ [];
-  computed = [];
-  stamps = record { places = []; terms = []; formats = [] };
-  is_counted = false;
-}
+film_actor_table =
+    table_of (codes "film_actor") 16 (1 ∷ 2 ∷ []) ((1 ∷ 2 ∷ []) ∷ [])
+    (number (codes "film") ∷ number (codes "actor") ∷ [])
+    (reference_of (1 ∷ []) (codes "film") (codes "number" ∷ []) ∷ reference_of (2 ∷ []) (codes "actor") (codes "number" ∷ []) ∷ [])
 
 abbrev pub branch_table : Table
-branch_table = record {
-  name = codes "branch";
-  tree = 18;
-  columns = column_of (codes "number") Integer true
-      ∷ column_of (codes "token") Text true
-      ∷ column_of (codes "address") Text true
-      ∷ column_of (codes "postal") Text true
-      ∷ column_of (codes "phone") Text true
-      ∷ column_of (codes "city") Integer true
-      ∷ column_of (codes "manager") Integer false
-      ∷ column_of (codes "last_moment") Text false
-      ∷ [];
-  key = None;
-  primary = 1 ∷ [];
-  uniques = (1 ∷ []) ∷ (2 ∷ []) ∷ [];
-  orders = plain ∷ plain ∷ [];
-  checks = [];
-  references = reference_of (6 ∷ []) (codes "city") (codes "number" ∷ []) ∷ [];
-  computed = [];
-  stamps = record { places = []; terms = []; formats = [] };
-  is_counted = false;
-}
+branch_table =
+    table_of (codes "branch") 18 (1 ∷ []) ((1 ∷ []) ∷ (2 ∷ []) ∷ [])
+    (number (codes "number") ∷ text (codes "token") ∷ text (codes "address") ∷ text (codes "postal") ∷ text (codes "phone") ∷ number (codes "city")
+    ∷ column_of (codes "manager") Integer false ∷ column_of (codes "last_moment") Text false ∷ [])
+    (reference_of (6 ∷ []) (codes "city") (codes "number" ∷ []) ∷ [])
 
 abbrev pub staff_table : Table
-staff_table = record {
-  name = codes "staff";
-  tree = 21;
-  columns = column_of (codes "number") Integer true
-      ∷ column_of (codes "branch") Integer true
-      ∷ column_of (codes "first") Text true
-      ∷ column_of (codes "last") Text true
-      ∷ column_of (codes "address") Text true
-      ∷ column_of (codes "postal") Text true
-      ∷ column_of (codes "phone") Text true
-      ∷ column_of (codes "city") Integer true
-      ∷ column_of (codes "gone") Integer true
-      ∷ [];
-  key = None;
-  primary = 1 ∷ [];
-  uniques = (1 ∷ []) ∷ [];
-  orders = plain ∷ [];
-  checks = [];
-  references = reference_of (2 ∷ []) (codes "branch") (codes "number" ∷ []) ∷ reference_of (8 ∷ []) (codes "city") (codes "number" ∷ []) ∷ [];
-  computed = [];
-  stamps = record { places = []; terms = []; formats = [] };
-  is_counted = false;
-}
+staff_table =
+    table_of (codes "staff") 21 (1 ∷ []) ((1 ∷ []) ∷ [])
+    (number (codes "number") ∷ number (codes "branch") ∷ text (codes "first") ∷ text (codes "last") ∷ text (codes "address") ∷ text (codes "postal")
+    ∷ text (codes "phone") ∷ number (codes "city") ∷ number (codes "gone") ∷ [])
+    (reference_of (2 ∷ []) (codes "branch") (codes "number" ∷ []) ∷ reference_of (8 ∷ []) (codes "city") (codes "number" ∷ []) ∷ [])
 
 abbrev pub customer_table : Table
-customer_table = record {
-  name = codes "customer";
-  tree = 23;
-  columns = column_of (codes "branch") Integer true
-      ∷ column_of (codes "number") Integer true
-      ∷ column_of (codes "first") Text true
-      ∷ column_of (codes "last") Text true
-      ∷ column_of (codes "address") Text true
-      ∷ column_of (codes "postal") Text true
-      ∷ column_of (codes "phone") Text true
-      ∷ column_of (codes "city") Integer true
-      ∷ column_of (codes "active") Integer true
-      ∷ column_of (codes "created") Text true
-      ∷ [];
-  key = None;
-  primary = 1 ∷ 2 ∷ [];
-  uniques = (1 ∷ 2 ∷ []) ∷ [];
-  orders = plain ∷ [];
-  checks = [];
-  references = reference_of (1 ∷ []) (codes "branch") (codes "number" ∷ []) ∷ reference_of (8 ∷ []) (codes "city") (codes "number" ∷ []) ∷ [];
-  computed = [];
-  stamps = record { places = []; terms = []; formats = [] };
-  is_counted = false;
-}
+customer_table =
+    table_of (codes "customer") 23 (1 ∷ 2 ∷ []) ((1 ∷ 2 ∷ []) ∷ [])
+    (number (codes "branch") ∷ number (codes "number") ∷ text (codes "first") ∷ text (codes "last") ∷ text (codes "address") ∷ text (codes "postal")
+    ∷ text (codes "phone") ∷ number (codes "city") ∷ number (codes "active") ∷ text (codes "created") ∷ [])
+    (reference_of (1 ∷ []) (codes "branch") (codes "number" ∷ []) ∷ reference_of (8 ∷ []) (codes "city") (codes "number" ∷ []) ∷ [])
 
 abbrev pub copy_table : Table
-copy_table = record {
-  name = codes "copy";
-  tree = 25;
-  columns = column_of (codes "branch") Integer true
-      ∷ column_of (codes "number") Integer true
-      ∷ column_of (codes "film") Integer true
-      ∷ column_of (codes "state") Integer true
-      ∷ column_of (codes "origin_branch") Integer true
-      ∷ column_of (codes "origin_copy") Integer true
-      ∷ [];
-  key = None;
-  primary = 1 ∷ 2 ∷ [];
-  uniques = (1 ∷ 2 ∷ []) ∷ [];
-  orders = plain ∷ [];
-  checks = [];
-  references = reference_of (1 ∷ []) (codes "branch") (codes "number" ∷ []) ∷ reference_of (3 ∷ []) (codes "film") (codes "number" ∷ []) ∷ [];
-  computed = [];
-  stamps = record { places = []; terms = []; formats = [] };
-  is_counted = false;
-}
+copy_table =
+    table_of (codes "copy") 25 (1 ∷ 2 ∷ []) ((1 ∷ 2 ∷ []) ∷ [])
+    (number (codes "branch") ∷ number (codes "number") ∷ number (codes "film") ∷ number (codes "state") ∷ number (codes "origin_branch")
+    ∷ number (codes "origin_copy") ∷ [])
+    (reference_of (1 ∷ []) (codes "branch") (codes "number" ∷ []) ∷ reference_of (3 ∷ []) (codes "film") (codes "number" ∷ []) ∷ [])
 
 abbrev pub rental_table : Table
-rental_table = record {
-  name = codes "rental";
-  tree = 27;
-  columns = column_of (codes "branch") Integer true
-      ∷ column_of (codes "number") Integer true
-      ∷ column_of (codes "moment") Text true
-      ∷ column_of (codes "copy") Integer true
-      ∷ column_of (codes "customer") Integer true
-      ∷ column_of (codes "returned") Text false
-      ∷ column_of (codes "staff") Integer true
-      ∷ [];
-  key = None;
-  primary = 1 ∷ 2 ∷ [];
-  uniques = (1 ∷ 2 ∷ []) ∷ (1 ∷ 3 ∷ 4 ∷ 5 ∷ []) ∷ [];
-  orders = plain ∷ plain ∷ [];
-  checks = [];
-  references = reference_of (1 ∷ 4 ∷ []) (codes "copy") (codes "branch" ∷ codes "number" ∷ []) ∷ reference_of (1 ∷ 5 ∷ []) (codes "customer") (codes "branch" ∷ codes "number" ∷ []) ∷ reference_of (7 ∷ []) (codes "staff") (codes "number" ∷ []) ∷ [];
-  computed = [];
-  stamps = record { places = []; terms = []; formats = [] };
-  is_counted = false;
-}
+rental_table =
+    table_of (codes "rental") 27 (1 ∷ 2 ∷ []) ((1 ∷ 2 ∷ []) ∷ (1 ∷ 3 ∷ 4 ∷ 5 ∷ []) ∷ [])
+    (number (codes "branch") ∷ number (codes "number") ∷ text (codes "moment") ∷ number (codes "copy") ∷ number (codes "customer")
+    ∷ column_of (codes "returned") Text false ∷ number (codes "staff") ∷ [])
+    (reference_of (1 ∷ 4 ∷ []) (codes "copy") (codes "branch" ∷ codes "number" ∷ []) ∷ reference_of (1 ∷ 5 ∷ []) (codes "customer") (codes "branch" ∷ codes "number" ∷ []) ∷ reference_of (7 ∷ []) (codes "staff") (codes "number" ∷ []) ∷ [])
 
 abbrev pub payment_table : Table
-payment_table = record {
-  name = codes "payment";
-  tree = 30;
-  columns = column_of (codes "branch") Integer true
-      ∷ column_of (codes "number") Integer true
-      ∷ column_of (codes "customer") Integer true
-      ∷ column_of (codes "staff") Integer true
-      ∷ column_of (codes "rental") Integer false
-      ∷ column_of (codes "amount") Integer true
-      ∷ column_of (codes "moment") Text true
-      ∷ [];
-  key = None;
-  primary = 1 ∷ 2 ∷ [];
-  uniques = (1 ∷ 2 ∷ []) ∷ [];
-  orders = plain ∷ [];
-  checks = [];
-  references = reference_of (1 ∷ 3 ∷ []) (codes "customer") (codes "branch" ∷ codes "number" ∷ []) ∷ reference_of (4 ∷ []) (codes "staff") (codes "number" ∷ []) ∷ reference_of (1 ∷ 5 ∷ []) (codes "rental") (codes "branch" ∷ codes "number" ∷ []) ∷ [];
-  computed = [];
-  stamps = record { places = []; terms = []; formats = [] };
-  is_counted = false;
-}
+payment_table =
+    table_of (codes "payment") 30 (1 ∷ 2 ∷ []) ((1 ∷ 2 ∷ []) ∷ [])
+    (number (codes "branch") ∷ number (codes "number") ∷ number (codes "customer") ∷ number (codes "staff") ∷ column_of (codes "rental") Integer false
+    ∷ number (codes "amount") ∷ text (codes "moment") ∷ [])
+    (reference_of (1 ∷ 3 ∷ []) (codes "customer") (codes "branch" ∷ codes "number" ∷ []) ∷ reference_of (4 ∷ []) (codes "staff") (codes "number" ∷ []) ∷ reference_of (1 ∷ 5 ∷ []) (codes "rental") (codes "branch" ∷ codes "number" ∷ []) ∷ [])
 
 abbrev pub lot_table : Table
-lot_table = record {
-  name = codes "lot";
-  tree = 32;
-  columns = column_of (codes "branch") Integer true
-      ∷ column_of (codes "name") Text true
-      ∷ [];
-  key = None;
-  primary = 1 ∷ 2 ∷ [];
-  uniques = (1 ∷ 2 ∷ []) ∷ [];
-  orders = plain ∷ [];
-  checks = [];
-  references = reference_of (1 ∷ []) (codes "branch") (codes "number" ∷ []) ∷ [];
-  computed = [];
-  stamps = record { places = []; terms = []; formats = [] };
-  is_counted = false;
-}
+lot_table =
+    table_of (codes "lot") 32 (1 ∷ 2 ∷ []) ((1 ∷ 2 ∷ []) ∷ [])
+    (number (codes "branch") ∷ text (codes "name") ∷ [])
+    (reference_of (1 ∷ []) (codes "branch") (codes "number" ∷ []) ∷ [])
 
 abbrev pub consignment_table : Table
-consignment_table = record {
-  name = codes "consignment";
-  tree = 34;
-  columns = column_of (codes "source") Integer true
-      ∷ column_of (codes "addressee") Integer true
-      ∷ column_of (codes "number") Integer true
-      ∷ column_of (codes "place") Integer true
-      ∷ column_of (codes "received") Integer true
-      ∷ [];
-  key = None;
-  primary = 1 ∷ 2 ∷ 3 ∷ [];
-  uniques = (1 ∷ 2 ∷ 3 ∷ []) ∷ (4 ∷ []) ∷ [];
-  orders = plain ∷ plain ∷ [];
-  checks = [];
-  references = reference_of (1 ∷ []) (codes "branch") (codes "number" ∷ []) ∷ reference_of (2 ∷ []) (codes "branch") (codes "number" ∷ []) ∷ [];
-  computed = [];
-  stamps = record { places = []; terms = []; formats = [] };
-  is_counted = false;
-}
+consignment_table =
+    table_of (codes "consignment") 34 (1 ∷ 2 ∷ 3 ∷ []) ((1 ∷ 2 ∷ 3 ∷ []) ∷ (4 ∷ []) ∷ [])
+    (number (codes "source") ∷ number (codes "addressee") ∷ number (codes "number") ∷ number (codes "place") ∷ number (codes "received") ∷ [])
+    (reference_of (1 ∷ []) (codes "branch") (codes "number" ∷ []) ∷ reference_of (2 ∷ []) (codes "branch") (codes "number" ∷ []) ∷ [])
 
 abbrev pub consignment_line_table : Table
-consignment_line_table = record {
-  name = codes "consignment_line";
-  tree = 37;
-  columns = column_of (codes "source") Integer true
-      ∷ column_of (codes "addressee") Integer true
-      ∷ column_of (codes "number") Integer true
-      ∷ column_of (codes "line") Integer true
-      ∷ column_of (codes "film") Integer true
-      ∷ column_of (codes "origin_branch") Integer true
-      ∷ column_of (codes "origin_copy") Integer true
-      ∷ column_of (codes "state") Integer true
-      ∷ [];
-  key = None;
-  primary = 1 ∷ 2 ∷ 3 ∷ 4 ∷ [];
-  uniques = (1 ∷ 2 ∷ 3 ∷ 4 ∷ []) ∷ [];
-  orders = plain ∷ [];
-  checks = [];
-  references = reference_of (1 ∷ 2 ∷ 3 ∷ []) (codes "consignment") (codes "source" ∷ codes "addressee" ∷ codes "number" ∷ []) ∷ reference_of (5 ∷ []) (codes "film") (codes "number" ∷ []) ∷ [];
-  computed = [];
-  stamps = record { places = []; terms = []; formats = [] };
-  is_counted = false;
-}
+consignment_line_table =
+    table_of (codes "consignment_line") 37 (1 ∷ 2 ∷ 3 ∷ 4 ∷ []) ((1 ∷ 2 ∷ 3 ∷ 4 ∷ []) ∷ [])
+    (number (codes "source") ∷ number (codes "addressee") ∷ number (codes "number") ∷ number (codes "line") ∷ number (codes "film")
+    ∷ number (codes "origin_branch") ∷ number (codes "origin_copy") ∷ number (codes "state") ∷ [])
+    (reference_of (1 ∷ 2 ∷ 3 ∷ []) (codes "consignment") (codes "source" ∷ codes "addressee" ∷ codes "number" ∷ []) ∷ reference_of (5 ∷ []) (codes "film") (codes "number" ∷ []) ∷ [])
 
 abbrev pub kept_table : Table
-kept_table = record {
-  name = codes "kept";
-  tree = 39;
-  columns = column_of (codes "caller") Integer true
-      ∷ column_of (codes "key") Text true
-      ∷ column_of (codes "command") Blob true
-      ∷ column_of (codes "reply") Text true
-      ∷ [];
-  key = None;
-  primary = 1 ∷ 2 ∷ [];
-  uniques = (1 ∷ 2 ∷ []) ∷ [];
-  orders = plain ∷ [];
-  checks = [];
-  references = [];
-  computed = [];
-  stamps = record { places = []; terms = []; formats = [] };
-  is_counted = false;
-}
+kept_table =
+    table_of (codes "kept") 39 (1 ∷ 2 ∷ []) ((1 ∷ 2 ∷ []) ∷ [])
+    (number (codes "caller") ∷ text (codes "key") ∷ bytes (codes "command") ∷ text (codes "reply") ∷ [])
+    []
 
 abbrev pub counter_table : Table
-counter_table = record {
-  name = codes "counter";
-  tree = 41;
-  columns = column_of (codes "caller") Integer true
-      ∷ column_of (codes "kind") Integer true
-      ∷ column_of (codes "last") Integer true
-      ∷ [];
-  key = None;
-  primary = 1 ∷ 2 ∷ [];
-  uniques = (1 ∷ 2 ∷ []) ∷ [];
-  orders = plain ∷ [];
-  checks = [];
-  references = [];
-  computed = [];
-  stamps = record { places = []; terms = []; formats = [] };
-  is_counted = false;
-}
+counter_table =
+    table_of (codes "counter") 41 (1 ∷ 2 ∷ []) ((1 ∷ 2 ∷ []) ∷ []) (number (codes "caller") ∷ number (codes "kind") ∷ number (codes "last") ∷ []) []
 
 abbrev pub out_copy_table : Table
-out_copy_table = record {
-  name = codes "out_copy";
-  tree = 43;
-  columns = column_of (codes "branch") Integer true
-      ∷ column_of (codes "copy") Integer true
-      ∷ column_of (codes "rental") Integer true
-      ∷ [];
-  key = None;
-  primary = 1 ∷ 2 ∷ [];
-  uniques = (1 ∷ 2 ∷ []) ∷ [];
-  orders = plain ∷ [];
-  checks = [];
-  references = reference_of (1 ∷ 2 ∷ []) (codes "copy") (codes "branch" ∷ codes "number" ∷ []) ∷ reference_of (1 ∷ 3 ∷ []) (codes "rental") (codes "branch" ∷ codes "number" ∷ []) ∷ [];
-  computed = [];
-  stamps = record { places = []; terms = []; formats = [] };
-  is_counted = false;
-}
+out_copy_table =
+    table_of (codes "out_copy") 43 (1 ∷ 2 ∷ []) ((1 ∷ 2 ∷ []) ∷ [])
+    (number (codes "branch") ∷ number (codes "copy") ∷ number (codes "rental") ∷ [])
+    (reference_of (1 ∷ 2 ∷ []) (codes "copy") (codes "branch" ∷ codes "number" ∷ []) ∷ reference_of (1 ∷ 3 ∷ []) (codes "rental") (codes "branch" ∷ codes "number" ∷ []) ∷ [])
 
 abbrev pub shop_schema : Schema
 shop_schema = record {

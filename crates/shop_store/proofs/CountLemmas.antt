@@ -15,25 +15,22 @@ use Rattle.shop_model.specs.Rows.{of}
 use Rattle.shop_model.specs.Books.{Books}
 use Rattle.shop_schema.specs.Tables.{shop_schema, counter_table}
 use Rattle.shop_schema.specs.Columns.{counter_columns}
-use Rattle.shop_schema.specs.Counts.{Count, Out, Counts, is_count, is_out, raise, raised, put_out, drop_out, count_in, counts_of}
+use Rattle.shop_schema.specs.Counts.{Count, Out, Counts, is_count, is_out, raise, raised, drop_out, count_in, counts_of}
 use Rattle.shop_schema.specs.Held.{IsHeld}
 use Rattle.shop_schema.specs.Shop.{StandsFor, IsShop, Holds, Reads, Tallies}
-use Rattle.shop_schema.proofs.Stands.{with_counters}
+use Rattle.shop_schema.proofs.Stands.{stands_but}
 use Rattle.shop_store.specs.declared.counts.CountKind.{CountKind}
 use Rattle.shop_store.specs.Counted.{kind_number, CountsOnce, IsOutBy}
-use Rattle.shop_store.proofs.CustomerTexts.{of_two}
+use Rattle.shop_store.proofs.BranchRows.{of_two}
 use Rattle.shop_store.proofs.CountsOf.{told_count}
 use Rattle.shop_store.proofs.Outs.{open_of, outs_numbered, picks_out}
-use Rattle.shop_store.proofs.CountTexts.{Beside, select_count, select_count_means, shows_counts, plus_one, plus_one_is, take_text, take_terms, told_terms, take_means, count_set, count_set_is, count_kept, count_test, plus, raise_text, raise_terms, raise_told, raise_means, count_more, count_more_is, more_kept, insert_out, puts_out, delete_out, drops_out, select_out, select_out_means, shows_out}
+use Rattle.shop_store.proofs.CountTexts.{Beside, select_count, select_count_means, shows_counts, plus_one, plus_one_is, take_text, take_terms, told_terms, take_means, count_set, count_set_is, count_kept, count_test, plus, raise_text, raise_terms, raise_told, raise_means, count_more, count_more_is, more_kept, delete_out, drops_out, select_out, select_out_means, shows_out}
 
 -- a change of the two tables, beside any books
 tallies_by : (old new : State) (Given : Counts → Type 0) (change : Counts → Counts) → ((books : Books) → IsShop old → Changes shop_schema (Beside books) old new Given change) → Tallies old new Given change (λ _. ⊤)
 tallies_by old new Given change changes counts books holds given =
     let done = writes_by shop_schema (Beside books) old new Given change (changes books) counts (record { schema_is = holds.schema_is; keyed = holds.keyed; stands = holds.stands }) given in
     (record { schema_is = done.schema_is; keyed = done.keyed; stands = done.stands }, tt)
-
-pub tallies_put_out : (old new : State) (o : Out) (count : ℕ) → ExecutesInside 0 insert_out (number_value o.branch ∷ number_value o.copy ∷ number_value o.rental ∷ []) old new (Ok count) → Tallies old new (λ _. ⊤) (put_out o) (λ _. ⊤)
-tallies_put_out old new o count h = tallies_by old new _ _ (λ books shop. puts_out books old new o count shop h)
 
 pub tallies_drop_out : (old new : State) (b x n : ℕ) (count : ℕ) → ExecutesInside 0 delete_out (number_value b ∷ number_value x ∷ number_value n ∷ []) old new (Ok count) → Tallies old new (IsOutBy b x n) (drop_out b x n) (λ _. ⊤)
 tallies_drop_out old new b x n count h = tallies_by old new _ _ (λ books shop. drops_out books old new b x n count shop h)
@@ -88,7 +85,7 @@ tallies_taken old new b kind rows h row n some is counts books holds given =
     take_means refl refl rows h refl (λ r. refl) (λ r. refl) (λ r. refl) (λ r. refl) (λ v vs. refl) (λ r. refl) in
     let done = it.rows holds.keyed counts.counters holds.stands.counters given.small given.once in
     let found = filter (is_count b k) counts.counters in (
-      record { schema_is = it.schema_is; keyed = it.keyed holds.keyed; stands = with_counters _ _ books counts _ it.others holds.stands done.0 },
+      record { schema_is = it.schema_is; keyed = it.keyed holds.keyed; stands = stands_but 18 counter_table refl refl counts _ books books _ refl _ _ it.others holds.stands done.0 },
       told found (all-filter (λ (c : Count). c.last < 2 ^ 32) (is_count b k) counts.counters given.small) given.once (sym (ap (λ rs. slice_get rs 0) done.1) ∙ some),
     )
   where
@@ -111,7 +108,7 @@ tallies_raised old new b kind m few rows h counts books holds given =
     (count_test b k) (count_more_is m few) (more_kept m few) old new holds.schema_is
     raise_means refl refl rows h refl (λ r. refl) (λ r. refl) (λ r. refl) (λ r. refl) (λ v vs. refl) (λ r. refl) in
     let done = it.rows holds.keyed counts.counters holds.stands.counters given.small given.once in
-    (record { schema_is = it.schema_is; keyed = it.keyed holds.keyed; stands = with_counters _ _ books counts _ it.others holds.stands done.0 }, tt)
+    (record { schema_is = it.schema_is; keyed = it.keyed holds.keyed; stands = stands_but 18 counter_table refl refl counts _ books books _ refl _ _ it.others holds.stands done.0 }, tt)
 
 -- ---- how many rows there are
 

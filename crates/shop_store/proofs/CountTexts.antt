@@ -1,40 +1,37 @@
 -- The texts on counts and on copies that are out, as SQL has them.
-use Rattle.std.proofs.Common.{◌≡◌, ◌+◌, ◌<◌, ◌^◌, ◌&&◌, ℕ, pos, List, [], ◌∷◌, codes, map, filter, true, cond, Some, None, Ok, refl, sym, ap, subst, arith, nat_lt, IsPermutation}
+use Rattle.std.proofs.Common.{◌≡◌, ◌+◌, ◌<◌, ◌^◌, ◌&&◌, ℕ, pos, List, [], ◌∷◌, codes, map, filter, true, cond, Some, None, Ok, refl, ap, arith, nat_lt, IsPermutation}
 use Rattle.std.specs.Prelude.{⊤}
 use Rattle.std.proofs.lemmas.Bool.Decides.{nat_tests}
 use Rattle.sqlite.specs.declared.types.Value.{Value}
-use Rattle.sqlite.specs.declared.types.Value.TheVariants.{Null, Int}
+use Rattle.sqlite.specs.declared.types.Value.TheVariants.{Int}
 use Rattle.sqlite_value.specs.Order as sql
 use Rattle.sqlite_value.specs.Order.{column}
 use Rattle.sqlite_trees.specs.Tree.{Trees}
 use Rattle.sqlite_sql.specs.Term.{Term, lit, col, op2}
 use Rattle.sqlite_sql.specs.Ops.{binary, int_or, real_arith, from_int}
-use Rattle.sqlite_value.specs.declared.keys.Collation.TheVariants.{Binary}
-use Rattle.sqlite_sql.specs.declared.ops.BinaryOp.TheVariants.{Arith, Compare}
-use Rattle.sqlite_sql.specs.declared.ops.CompareOp.TheVariants.{Eq}
+use Rattle.sqlite_sql.specs.declared.ops.BinaryOp.TheVariants.{Arith}
 use Rattle.sqlite_sql.specs.declared.ops.ArithOp.TheVariants.{Add}
-use Rattle.sqlite.specs.Source.TheVariants.{Values}
-use Rattle.sqlite.specs.Command.TheVariants.{Insert, Update, Delete}
+use Rattle.sqlite.specs.Command.TheVariants.{Update, Delete}
 use Rattle.sqlite_tied.specs.Compute.{everything}
 use Rattle.sqlite.specs.Listing.{understood}
 use Rattle.sqlite.specs.State.{State, Shown, ExecutesInside}
 use Rattle.sql_rows.specs.Builds.{Means}
-use Rattle.sql_rows.specs.Rows.{HasRows, PicksOne, number_value}
+use Rattle.sql_rows.specs.Rows.{PicksOne, number_value}
 use Rattle.sql_rows.specs.Books.{Changes}
 use Rattle.sql_rows.proofs.Appends.{map_push, are_kept}
 use Rattle.sql_rows.proofs.Queries.{Selects, plain_query}
 use Rattle.sql_rows.proofs.ColumnTests.{number_test, number_tested, two_tested, three_tested}
 use Rattle.sql_rows.proofs.Projects.{projects_bag, projects_one}
 use Rattle.sql_rows.proofs.Showing.{MeansShowing}
-use Rattle.sql_rows.proofs.Steps.{puts_row}
 use Rattle.sql_rows.proofs.Drops.{drops_row}
 use Rattle.shop_model.specs.Books.{Books}
 use Rattle.shop_schema.specs.Tables.{shop_schema, counter_table, out_copy_table}
 use Rattle.shop_schema.specs.Columns.{counter_columns, out_columns}
 use Rattle.shop_schema.specs.Counts.{Count, Out, Counts, is_count, is_out, is_out_by, raised, put_out, drop_out}
-use Rattle.shop_schema.specs.Shop.{StandsWith, IsShop}
-use Rattle.shop_schema.proofs.Stands.{with_outs}
-use Rattle.shop_store.proofs.CustomerTexts.{of_two}
+use Rattle.shop_schema.specs.Shop.{StandsWith, IsShop, Tallies}
+use Rattle.shop_schema.proofs.Stands.{stands_but, rows_of, with_rows}
+use Rattle.shop_schema.proofs.Listed.{tallies_put}
+use Rattle.shop_store.proofs.BranchRows.{of_two, equals}
 
 -- ---- counts
 
@@ -125,9 +122,6 @@ more_kept m few c small = ap (are_kept counter_table.columns) (count_more_is m f
 abbrev pub Beside : Books → Trees → Counts → Type 0
 Beside books trees counts = StandsWith counts trees books
 
-abbrev pub values_3 : List Term
-values_3 = lit Null ∷ col 0 0 ∷ col 0 1 ∷ col 0 2 ∷ []
-
 -- ---- copies that are out
 
 abbrev pub select_out : List ℕ
@@ -149,22 +143,17 @@ shows_out counts old new b x rows books has h s few =
 abbrev pub insert_out : List ℕ
 insert_out = codes "INSERT INTO out_copy (branch, copy, rental) VALUES (?1, ?2, ?3)"
 
-pub insert_out_means : Means shop_schema insert_out (Insert 19 (Values values_3 4))
+pub tallies_put_out : (old new : State) (o : Out) (count : ℕ) → ExecutesInside 0 insert_out (out_columns o) old new (Ok count) → Tallies old new (λ _. ⊤) (put_out o) (λ _. ⊤)
 unfolding understood everything
-insert_out_means = record { is = refl; plain = (refl, refl) }
-
-pub puts_out : (books : Books) (old new : State) (o : Out) (count : ℕ) → IsShop old → ExecutesInside 0 insert_out (out_columns o) old new (Ok count)
-    → Changes shop_schema (Beside books) old new (λ _. ⊤) (put_out o)
-puts_out books old new o count has h =
-    puts_row shop_schema (Beside books) insert_out 19 out_copy_table values_3 3 insert_out_means (record { place = refl; uncounted = refl; unstamped = refl })
-    (out_columns o) old new count has h refl refl refl (λ id. refl) (put_out o)
-    (λ counts same s more. with_outs _ _ books counts _ same s (subst (HasRows 3 (new.now.trees 43)) (sym (map_push out_columns counts.outs o)) (more _ s.outs)))
+tallies_put_out old new o =
+    tallies_put 19 out_copy_table (record { place = refl; uncounted = refl; unstamped = refl }) refl insert_out (record { is = refl; plain = (refl, refl) }) (out_columns o) refl refl refl (λ id. refl) (put_out o)
+    (λ counts books. ap (λ rows. with_rows 19 rows (rows_of counts books)) (map_push out_columns counts.outs o)) old new
 
 abbrev pub delete_out : List ℕ
 delete_out = codes "DELETE FROM out_copy WHERE branch = ?1 AND copy = ?2 AND rental = ?3"
 
 abbrev pub of_three : List Term
-of_three = op2 (Compare Eq Binary) (col 1 1) (col 0 0) ∷ op2 (Compare Eq Binary) (col 1 2) (col 0 1) ∷ op2 (Compare Eq Binary) (col 1 3) (col 0 2) ∷ []
+of_three = equals 0 (1 ∷ 2 ∷ 3 ∷ [])
 
 pub out_by_test : (b x n : ℕ) (o : Out) → (number_test 0 b (out_columns o) && (number_test 1 x (out_columns o) && (number_test 2 n (out_columns o) && true))) ≡ is_out_by b x n o
 out_by_test b x n o = three_tested _ _ _ (number_tested o.branch b) (number_tested o.copy x) (number_tested o.rental n)
@@ -178,4 +167,4 @@ pub drops_out : (books : Books) (old new : State) (b x n : ℕ) (count : ℕ) �
 drops_out books old new b x n count has h =
     drops_row shop_schema (Beside books) delete_out 19 out_copy_table 3 of_three (col 1 0 ∷ []) (number_value b ∷ number_value x ∷ number_value n ∷ []) out_columns
     (λ vs. number_test 0 b vs && (number_test 1 x vs && (number_test 2 n vs && true))) (is_out_by b x n) (out_by_test b x n) old new has delete_out_means refl refl count h refl (λ r. refl) (λ r. refl)
-    (λ counts. PicksOne (is_out_by b x n) counts.outs) (drop_out b x n) (λ counts same s few drops. with_outs _ _ books counts _ same s (drops counts.outs s.outs few))
+    (λ counts. PicksOne (is_out_by b x n) counts.outs) (drop_out b x n) (λ counts same s few drops. stands_but 19 out_copy_table refl refl counts _ books books _ refl _ _ same s (drops counts.outs s.outs few))

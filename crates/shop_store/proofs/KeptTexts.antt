@@ -4,11 +4,11 @@ use Rattle.std.specs.Prelude.{⊤, slice_get}
 use Rattle.std.specs.Str.{bytes_eq}
 use Rattle.std.proofs.lemmas.Bool.Decides.{nat_tests}
 use Rattle.std.proofs.lemmas.List.Sorted.{IsPermutation-sym, IsPermutation-trans, IsPermutation-to_front, IsPermutation-middle}
-use Rattle.sqlite.specs.declared.types.Value.TheVariants.{Null, Text, Blob}
+use Rattle.sqlite.specs.declared.types.Value.TheVariants.{Text, Blob}
 use Rattle.sqlite_value.specs.Order as sql
 use Rattle.sqlite_value.specs.Order.{column}
 use Rattle.sqlite_value.specs.declared.keys.Collation.TheVariants.{Binary}
-use Rattle.sqlite_sql.specs.Term.{Term, lit, col, op2}
+use Rattle.sqlite_sql.specs.Term.{Term, col, op2}
 use Rattle.sqlite_sql.specs.declared.ops.BinaryOp.TheVariants.{Compare}
 use Rattle.sqlite_sql.specs.declared.ops.CompareOp.TheVariants.{Eq}
 use Rattle.sqlite.specs.Source.TheVariants.{Values}
@@ -23,8 +23,8 @@ use Rattle.sql_rows.proofs.Appends.{map_push}
 use Rattle.sql_rows.proofs.Bags.{length-map}
 use Rattle.sql_rows.proofs.Queries.{Selects, plain_query}
 use Rattle.sql_rows.proofs.ColumnTests.{number_test, number_tested, text_test, text_tested, two_tested}
-use Rattle.sql_rows.proofs.Projects.{projects_one, still_holds, writes_by}
-use Rattle.sql_rows.proofs.Steps.{puts_row}
+use Rattle.sql_rows.proofs.Projects.{projects_one, still_holds}
+use Rattle.sql_rows.proofs.Steps.{has_put}
 use Rattle.shop_model.specs.Rows.{Owned, owned_by}
 use Rattle.shop_model.specs.Values.{Command}
 use Rattle.shop_model.specs.Shop.{Kept, OfficeKept}
@@ -33,18 +33,17 @@ use Rattle.shop_schema.specs.Tables.{shop_schema, kept_table}
 use Rattle.shop_schema.specs.Columns.{kept_columns, office_kept_columns, kept_rows}
 use Rattle.shop_schema.specs.Forms.{command_form}
 use Rattle.shop_schema.specs.Held.{IsHeld}
-use Rattle.shop_schema.specs.Shop.{StandsFor, StandsWith, Holds, Reads, Writes}
-use Rattle.shop_schema.proofs.Stands.{with_kept}
+use Rattle.shop_schema.specs.Shop.{StandsFor, Holds, Reads, Writes}
+use Rattle.shop_schema.proofs.Stands.{stands_but}
+use Rattle.shop_schema.proofs.FirstRows.{first_none, first_some}
+use Rattle.shop_schema.proofs.Listed.{values}
 use Rattle.shop_store.specs.Seen.{stored_kept}
 use Rattle.shop_schema.proofs.Different.{different_once}
 
 abbrev pub insert_kept : List ℕ
 insert_kept = codes "INSERT INTO kept (caller, \"key\", command, reply) VALUES (?1, ?2, ?3, ?4)"
 
-abbrev values_4 : List Term
-values_4 = lit Null ∷ col 0 0 ∷ col 0 1 ∷ col 0 2 ∷ col 0 3 ∷ []
-
-pub insert_kept_means : Means shop_schema insert_kept (Insert 17 (Values values_4 5))
+pub insert_kept_means : Means shop_schema insert_kept (Insert 17 (Values (values 4) 5))
 unfolding understood everything
 insert_kept_means = record { is = refl; plain = (refl, refl) }
 
@@ -67,12 +66,11 @@ module _ (old new : State) (b : ℕ) (command : Command) (key form reply : List 
       (IsPermutation-trans _ _ _ has (put_between (map kept_columns kept) (map office_kept_columns office) (kept_columns kept_row)))
 
   pub puts_kept : (count : ℕ) → command.key ≡ key → command_form command ≡ form → ExecutesInside 0 insert_kept (number_value b ∷ Text key ∷ Blob form ∷ Text reply ∷ []) old new (Ok count) → Writes old new (λ _. ⊤) with_row
-  puts_kept count is_key is_form h counts =
+  puts_kept count is_key is_form h counts books holds given =
       let ran : ExecutesInside 0 insert_kept (kept_columns kept_row) old new (Ok count) = subst (λ (row : sql.Row). ExecutesInside 0 insert_kept row old new (Ok count)) (λ i. number_value b ∷ Text (sym is_key i) ∷ Blob (sym is_form i) ∷ Text reply ∷ []) h in
-      writes_by shop_schema (StandsWith counts) old new (λ _. ⊤) with_row (λ has.
-      puts_row shop_schema (StandsWith counts) insert_kept 17 kept_table values_4 4 insert_kept_means (record { place = refl; uncounted = refl; unstamped = refl })
-      (kept_columns kept_row) old new count has ran refl refl refl (λ id. refl) with_row
-      (λ books same s more. with_kept _ _ books (books.kept ++ kept_row ∷ []) books.catalogue.kept same s (row_put _ books.kept books.catalogue.kept (more _ s.kept))))
+      let done = has_put shop_schema insert_kept 17 kept_table (values 4) 4 insert_kept_means (record { place = refl; uncounted = refl; unstamped = refl }) (kept_columns kept_row) (kept_columns kept_row) old new count ran refl refl refl (λ id. refl) holds.schema_is in
+      let rows = row_put _ books.kept books.catalogue.kept (done.rows _ holds.stands.kept) in
+      record { schema_is = done.schema_is; keyed = done.keyed holds.keyed; stands = stands_but 17 kept_table refl refl counts counts books (with_row books) _ refl old.now.trees new.now.trees done.others holds.stands rows }
 
 -- ---- reads: the rows themselves are the values that the table stands for
 
@@ -131,8 +129,6 @@ owned_picked b p (row ∷ kept) = go (row.owner == b) (owned_picked b p kept)
         further false same = same
     go false more = more
 
--- ---- how many
-
 -- ---- one, by its key
 
 abbrev pub select_kept : List ℕ
@@ -182,26 +178,22 @@ module _ (old new : State) (b : ℕ) (key : List ℕ) (rows : List sql.Row) (h :
   still : (books : Books) → Holds old books → Holds new books
   still = still_holds shop_schema StandsFor select_kept (number_value b ∷ Text key ∷ []) old new select_kept_means.plain rows h
 
-  first_is : (books : Books) → Holds old books → IsHeld books → slice_get (map stored_columns (filter (has_key key) (owned_by b books.kept))) 0 ≡ slice_get rows 0
-  first_is books holds held = sym (ap (λ (found : List sql.Row). slice_get found 0) (shows_kept old new b key rows h low books holds held))
-
-  pub told_no_kept : slice_get rows 0 ≡ None → Reads old new (λ books. None ≡ head (map stored_kept (filter (has_key key) (owned_by b books.kept))))
-  told_no_kept none books holds held = (still books holds, unknown (filter (has_key key) (owned_by b books.kept)) (first_is books holds held ∙ none))
+  pub read_kept : (slice : List sql.Row) → slice ≡ rows
+      → (None ≡ slice_get slice 0 → Reads old new (λ books. None ≡ head (map stored_kept (filter (has_key key) (owned_by b books.kept)))))
+      × ((row : sql.Row) (form reply : List ℕ) → Some row ≡ slice_get slice 0 → column row 0 ≡ Blob form → column row 1 ≡ Text reply
+      → Reads old new (λ books. Some (form, reply) ≡ head (map stored_kept (filter (has_key key) (owned_by b books.kept)))))
+  read_kept slice same = (
+    λ none books holds held. (still books holds, first_none stored_columns stored_kept (filter (has_key key) (owned_by b books.kept)) rows slice (shows_kept old new b key rows h low books holds held) same none),
+    λ row form reply some is_form is_reply books holds held. (
+      still books holds,
+      first_some stored_columns stored_kept (filter (has_key key) (owned_by b books.kept)) rows slice (shows_kept old new b key rows h low books holds held) same row (form, reply) some (λ it is. stored it row form reply is is_form is_reply),
+    ),
+  )
     where
-      unknown : (found : List Kept) → slice_get (map stored_columns found) 0 ≡ None → None ≡ head (map stored_kept found)
-      unknown [] e = refl
-      unknown (it ∷ more) e = cc
-
-  pub told_kept : (row : sql.Row) (form reply : List ℕ) → slice_get rows 0 ≡ Some row → column row 0 ≡ Blob form → column row 1 ≡ Text reply
-      → Reads old new (λ books. Some (form, reply) ≡ head (map stored_kept (filter (has_key key) (owned_by b books.kept))))
-  told_kept row form reply some is_form is_reply books holds held = (still books holds, known (filter (has_key key) (owned_by b books.kept)) (first_is books holds held ∙ some))
-    where
-      known : (found : List Kept) → slice_get (map stored_columns found) 0 ≡ Some row → Some (form, reply) ≡ head (map stored_kept found)
-      known [] e = cc
-      known (it ∷ more) e =
-          let same : stored_columns it ≡ row = cc in
-          let first : Blob (command_form it.command) ≡ Blob form = ap (λ r. column r 0) same ∙ is_form in
-          let second : Text it.reply ≡ Text reply = ap (λ r. column r 1) same ∙ is_reply in
+      stored : (it : Kept) (row : sql.Row) (form reply : List ℕ) → stored_columns it ≡ row → column row 0 ≡ Blob form → column row 1 ≡ Text reply → (form, reply) ≡ stored_kept it
+      stored it row form reply is is_form is_reply =
+          let first : Blob (command_form it.command) ≡ Blob form = ap (λ r. column r 0) is ∙ is_form in
+          let second : Text it.reply ≡ Text reply = ap (λ r. column r 1) is ∙ is_reply in
           let one : form ≡ command_form it.command = cc in
           let other : reply ≡ it.reply = cc in
-          (λ i. Some (one i, other i))
+          (λ i. (one i, other i))

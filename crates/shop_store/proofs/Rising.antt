@@ -5,19 +5,15 @@ use Rattle.std.specs.Ordering.{is_gt}
 use Rattle.std.specs.List.{AllByRecursion}
 use Rattle.std.proofs.lemmas.Bool.{cases_Bool}
 use Rattle.std.proofs.lemmas.Bool.Decides.{nat_tests}
-use Rattle.sqlite_trees.specs.Tree.{IsAscending}
 use Rattle.sqlite_keyed.specs.Lists.{sort_by, insert_sorted}
 use Rattle.sqlite_keyed.proofs.ListLemmas.{all-filter}
 use Rattle.sql_rows.specs.Rows.{by, Differ}
+pub use Rattle.shop_schema.proofs.Lists.{filter_twice}
 use Rattle.shop_model.specs.Rows.{Row, is_of, of, IsCounted, AreNumbered}
 
 abbrev pub Rise : {A : Type 0} → List (Row A) → Type 0
 Rise [] = ⊤
 Rise (x ∷ xs) = AllByRecursion (λ y. x.number < y.number) xs × Rise xs
-
-pub rise_ascending : {A : Type 0} (xs : List (Row A)) → Rise xs → IsAscending (λ (x y : Row A). x.number < y.number) xs
-rise_ascending [] r = tt
-rise_ascending (x ∷ xs) r = (r.0, rise_ascending xs r.1)
 
 pub counted_above : {A : Type 0} (k : ℕ) (xs : List (Row A)) (n : ℕ) → n < k → IsCounted k (map (λ row. row.number) xs) → AllByRecursion (λ y. n < y.number) xs
 counted_above k [] n low c = tt
@@ -53,15 +49,6 @@ pub rise_sorted : {A : Type 0} (xs : List (Row A)) → Rise xs → sort_by (by (
 rise_sorted {A} [] r = refl
 rise_sorted {A} (x ∷ xs) r = ap (insert_sorted (by (λ (row : Row A). row.number)) x) (rise_sorted xs r.1) ∙ first_stays x xs r.0
 
-pub filter_twice : {X : Type 0} (p q : X → Bool) (xs : List X) → filter (λ x. p x && q x) xs ≡ filter q (filter p xs)
-filter_twice p q [] = refl
-filter_twice p q (x ∷ xs) = go (p x) (filter_twice p q xs)
-  where
-    go : (b : Bool) → filter (λ y. p y && q y) xs ≡ filter q (filter p xs)
-        → cond (b && q x) (x ∷ filter (λ y. p y && q y) xs) (filter (λ y. p y && q y) xs) ≡ filter q (cond b (x ∷ filter p xs) (filter p xs))
-    go true more = ap (λ l. cond (q x) (x ∷ l) l) more
-    go false more = more
-
 pub map_filter : {X Y : Type 0} (f : X → Y) (q : Y → Bool) (xs : List X) → map f (filter (λ x. q (f x)) xs) ≡ filter q (map f xs)
 map_filter f q [] = refl
 map_filter f q (x ∷ xs) = go (q (f x)) (map_filter f q xs)
@@ -80,14 +67,9 @@ module _ {A : Type 0} (test : A → Bool) (b : ℕ) (rows : List (Row A)) (count
   split : filter (of_which test b) rows ≡ filter (λ (row : Row A). test row.it) (filter (is_of b) rows)
   split = filter_twice (is_of b) (λ (row : Row A). test row.it) rows
 
-  which_rise : Rise (filter (of_which test b) rows)
+  pub which_rise : Rise (filter (of_which test b) rows)
   which_rise = subst Rise (sym split) (filter_rise (λ (row : Row A). test row.it) (filter (is_of b) rows) (counted_rise 1 (filter (is_of b) rows) counted))
 
-  pub which_differ : Differ (λ (row : Row A). row.number) (filter (of_which test b) rows)
-  which_differ = rise_differ (filter (of_which test b) rows) which_rise
-
-  -- in order of number they are those of the branch that pass
-  pub which_order : map (λ (row : Row A). row.it) (sort_by (by (λ (row : Row A). row.number)) (filter (of_which test b) rows)) ≡ filter test (of b rows)
-  which_order =
-      ap (map (λ (row : Row A). row.it)) (rise_sorted (filter (of_which test b) rows) which_rise ∙ split)
-      ∙ map_filter (λ (row : Row A). row.it) test (filter (is_of b) rows)
+  -- they are those of the branch that pass
+  pub which_are : map (λ (row : Row A). row.it) (filter (of_which test b) rows) ≡ filter test (of b rows)
+  which_are = ap (map (λ (row : Row A). row.it)) split ∙ map_filter (λ (row : Row A). row.it) test (filter (is_of b) rows)

@@ -18,7 +18,7 @@ use Rattle.shop_schema.specs.Tables.{shop_schema}
 use Rattle.shop_schema.specs.RowValues.{IsRow, IsRental}
 use Rattle.shop_schema.specs.Shop.{StandsFor, Reads}
 use Rattle.shop_schema.proofs.OneToOne.{one_moment, bytes_same, moment_same, moment_equal}
-use Rattle.shop_store.proofs.RentalTexts.{select_same, same_means, is_same, shows_same}
+use Rattle.shop_store.proofs.OnRentals.{select_same, same_means, is_same, shows_same}
 
 apart : true ≡ false → ⊥
 apart e = cc

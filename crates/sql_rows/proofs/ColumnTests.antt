@@ -26,6 +26,10 @@ text_test at t vs = is_true (binary (Compare Eq Binary) (column vs at) (Text t))
 pub number_tested : (m n : ℕ) → is_true (binary (Compare Eq Binary) (number_value m) (number_value n)) ≡ (m == n)
 number_tested = equal_numbers
 
+-- the same of a row's column whose number is known
+pub test_of : (vs : Row) (at m n : ℕ) → column vs at ≡ number_value m → number_test at n vs ≡ (m == n)
+test_of vs at m n is = ap (λ v. is_true (binary (Compare Eq Binary) v (Int (pos n)))) is ∙ number_tested m n
+
 pub text_tested : (s t : List ℕ) → is_true (binary (Compare Eq Binary) (Text s) (Text t)) ≡ bytes_eq s t
 unfolding binary
 text_tested s t = truth_of _ ∙ ap is_eq (value_cmp-Text s t) ∙ is_eq-slice_cmp s t

@@ -1,18 +1,23 @@
 -- Which fault a row that cannot be read gives, and for which values a tree stands.
 use Rattle.std.proofs.lemmas.List.Sorted.{IsPermutation-sym, IsPermutation-trans}
-use Rattle.std.proofs.Common.{refl, ◌≡◌, ◌≢◌, ◌<◌, ℕ, zero, suc, List, [], ◌∷◌, length, get_or, map, sym, subst, ◌∙◌, arith}
+use Rattle.std.proofs.Common.{refl, ◌≡◌, ◌≢◌, ◌<◌, inl, inr, ℕ, zero, suc, List, [], ◌∷◌, length, get_or, map, sym, subst, ◌∙◌, arith, false, IsTrue, Bor}
+use Rattle.std.proofs.lemmas.Bool.{cases_Bool}
+use Rattle.sqlite_rules.specs.Lists.{Has}
+use Rattle.sqlite_trees.specs.declared.store.Store.{Ghosts}
+use Rattle.sqlite.specs.Held.{Held, state}
+use Rattle.sqlite.specs.State.{ExecutesInside, Survives}
 use Rattle.std.specs.List.{AllByRecursion}
 use Rattle.sqlite_value.specs.Order.{Row}
-use Rattle.std.specs.Prelude.{IfOk, IfErr, Result, Ok, Err, Vec, IsPermutation}
+use Rattle.std.specs.Prelude.{IfOk, IfErr, IsErrAnd, Result, Ok, Err, Vec, IsPermutation}
 use Rattle.std.specs.declared.alloc.Global.{Global}
 use Rattle.sql_rows.specs.declared.fault.StoreFault.{StoreFault}
 use Rattle.sql_rows.specs.Rows.{HasRows, columns_of}
 use Rattle.sql_rows.proofs.Bags.{all_along, unmapped_bag}
 use Rattle.sqlite.specs.declared.error.Error.{Error}
 use Rattle.sqlite.specs.declared.error.Error.TheVariants.{SqliteFailure}
-use Rattle.sqlite.specs.declared.error.ErrorCode.TheVariants.{OutOfMemory}
+use Rattle.sqlite.specs.declared.error.ErrorCode.TheVariants.{OutOfMemory, TransactionState}
 use Rattle.sql_rows.specs.declared.fault.StoreFault.TheVariants.{Memory, Failed}
-use Rattle.sql_rows.specs.Fault.{fault_of}
+use Rattle.sql_rows.specs.Fault.{fault_of, IsToldOf, StatementGave, OneGave}
 
 pub failed_why : (e : Error) → fault_of e ≡ Failed → e ≢ SqliteFailure OutOfMemory
 failed_why e h is = absurd (let k : Memory ≡ Failed = subst (λ x. fault_of x ≡ Failed) is h in cc)
@@ -42,3 +47,29 @@ pub audited : {X : Type 0} (columns : X → Row) (P : X → Type 0) (width : ℕ
     → IfOk r (λ all. HasRows width tree (map columns all.items)) × IfErr r (λ e. e ≡ Failed → (xs : List X) → AllByRecursion P xs → ¬ HasRows width tree (map columns xs))
 audited columns P width tree rows (Ok all) read ok failed = (stands_if columns width tree rows read all.items ok, tt)
 audited columns P width tree rows (Err e) read ok failed = (tt, λ is. no_books columns P width tree rows read (failed is))
+
+-- ---- which error a statement is given
+
+module _ {S : Type 0} (g : Ghosts S) (old new : Held S) (sql : List ℕ) (params : Row) (r : Result ℕ Error)
+    (ended : (state g old).in_transaction ≡ false → (r ≡ Err (SqliteFailure TransactionState)) × (new ≡ old))
+    (runs : IsTrue (state g old).in_transaction → ExecutesInside 0 sql params (state g old) (state g new) r) where
+  pub statement_gave : (e : Error) → r ≡ Err e → StatementGave sql params (state g old) (state g new) e
+  statement_gave e is = elim (cases_Bool (state g old).in_transaction) [
+    | inl inside ↦ inl (inside, rw is at (runs inside))
+    | inr outside ↦ let same : e ≡ SqliteFailure TransactionState = (let at = (ended outside).0 in cc) in inr (outside, same)
+  ]
+
+among : (texts : List (Bor (List ℕ))) (i : ℕ) (d : Bor (List ℕ)) → i < length texts → Has (map (λ t. t.now) texts) (get_or texts i d).now
+among [] i d low = absurd (omega arith)
+among (x ∷ xs) zero d low = inl refl
+among (x ∷ xs) (suc i) d low = inr (among xs i d (omega arith))
+
+-- what one of several texts was given
+pub one_gave : {S : Type 0} (g : Ghosts S) (texts : List (Bor (List ℕ))) (i : ℕ) (d : Bor (List ℕ)) → i < length texts → (old before new : Held S) → Survives (state g old) (state g before) (λ _. ⊥)
+    → (fault : StoreFault) → IsToldOf (StatementGave (get_or texts i d).now [] (state g before) (state g new)) fault → IsToldOf (OneGave g (map (λ t. t.now) texts) old new) fault
+one_gave g texts i d low old before new survives fault told =
+    (told.0, told.1, record { text = (get_or texts i d).now; among = among texts i d low; before = before; survives = survives; gave = told.2 })
+
+pub err_and : {A E : Type 0} (r : Result A E) {P Q : E → Type 0} → IsErrAnd r P → ((e : E) → P e → Q e) → IfErr r Q
+err_and (Ok x) p to = tt
+err_and (Err e) p to = to e p

@@ -1,6 +1,5 @@
 -- What one text makes of the books: an INSERT of a row and an UPDATE of at most one, and what a SELECT shows.
 use Rattle.std.proofs.Common.{◌≡◌, ◌≤◌, ◌/◌, ℕ, suc, List, [], ◌∷◌, ◌++◌, map, filter, drop, length, slice_get, true, Bool, cond, Some, Ok, refl, sym, ap, subst, ◌∙◌, IsTrue, IsPermutation}
-use Rattle.std.specs.Prelude.{⊤}
 use Rattle.std.specs.List.{AllByRecursion, list_all}
 use Rattle.std.proofs.lemmas.List.Sorted.{IsPermutation-sym}
 use Rattle.sqlite.specs.declared.types.Value.{Value}
@@ -28,7 +27,7 @@ use Rattle.sqlite_keyed.specs.Lists.{update_where, sort_by}
 use Rattle.sqlite_keyed.proofs.ListLemmas.{all-filter}
 use Rattle.sql_rows.specs.Builds.{Means}
 use Rattle.sql_rows.specs.Rows.{HasRows, SameBut, columns_of, by, Differ, PicksOne, number_value}
-use Rattle.sql_rows.specs.Books.{IsOf, Changes}
+use Rattle.sql_rows.specs.Books.{IsOf, IsKeyed, Changes}
 use Rattle.sql_rows.proofs.Appends.{id_of, int_is, cast_int, cast_all_kept, are_kept}
 use Rattle.sql_rows.proofs.Keyed.{keyed_at, applies_keyed}
 use Rattle.sql_rows.proofs.Puts.{IsPlainTable, Puts, inserts}
@@ -39,22 +38,25 @@ use Rattle.sql_rows.proofs.Alters.{Moves, are_idle, updates, moved}
 
 -- ---- INSERT of one row
 
--- Without `put` each premise is `refl` where the schema, the text and the table are known; `put` says what books the tables stand for with the row.
-pub puts_row : {B : Type 0} (schema : Schema) (Stands : Trees → B → Type 0) (sql : List ℕ) (at : ℕ) (table : Table) (terms : List Term) (width : ℕ)
-    → Means schema sql (Insert at (Values terms (suc width))) → IsPlainTable schema at table
-    → (values : Row) (old new : State) (count : ℕ) → IsOf schema old → ExecutesInside 0 sql values old new (Ok count)
-    → value_rows values (suc width) (length terms / suc width) terms ≡ eval_all terms (values ∷ []) ∷ [] → eval_all terms (values ∷ []) ≡ Null ∷ values
-    → are_kept table.columns values ≡ true → ((id : Value) → columns_of width (id ∷ values) ≡ values) → (change : B → B)
-    → ((books : B) → SameBut schema table.tree old.now.trees new.now.trees → Stands old.now.trees books
-    → ((rows : List Row) → HasRows width (old.now.trees table.tree) rows → HasRows width (new.now.trees table.tree) (rows ++ values ∷ [])) → Stands new.now.trees (change books))
-    → Changes schema Stands old new (λ _. ⊤) change
-puts_row schema Stands sql at table terms width means plain values old new count has h one is kept columns change put =
-    let done = subst (λ (row : Row). Puts schema table row old new) is (inserts schema sql values old new has at table terms (suc width) means plain count h.0 one) in
+-- the row was put, and nothing else is changed
+pub record HasPut (schema : Schema) (table : Table) (width : ℕ) (values : Row) (old new : State) : Type 0 where
+  pub schema_is : IsOf schema new
+  pub keyed : IsKeyed schema old → IsKeyed schema new
+  pub others : SameBut schema table.tree old.now.trees new.now.trees
+  pub rows : (rows : List Row) → HasRows width (old.now.trees table.tree) rows → HasRows width (new.now.trees table.tree) (rows ++ values ∷ [])
+
+-- each premise is `refl` where the schema, the text and the table are known
+pub has_put : (schema : Schema) (sql : List ℕ) (at : ℕ) (table : Table) (terms : List Term) (width : ℕ) → Means schema sql (Insert at (Values terms (suc width))) → IsPlainTable schema at table
+    → (params values : Row) (old new : State) (count : ℕ) → ExecutesInside 0 sql params old new (Ok count)
+    → value_rows params (suc width) (length terms / suc width) terms ≡ eval_all terms (params ∷ []) ∷ [] → eval_all terms (params ∷ []) ≡ Null ∷ values
+    → are_kept table.columns values ≡ true → ((id : Value) → columns_of width (id ∷ values) ≡ values) → IsOf schema old → HasPut schema table width values old new
+has_put schema sql at table terms width means plain params values old new count h one is kept columns has =
+    let done = subst (λ (row : Row). Puts schema table row old new) is (inserts schema sql params old new has at table terms (suc width) means plain count h.0 one) in
     record {
       schema_is = done.schema_is;
       keyed = applies_keyed schema Enforced old.now.trees new.now.trees _ at plain.place done.applies;
-      books = λ _ books s _. put books done.applies.tables s (λ rows had. puts_values schema table values old new width rows done kept columns had);
-      shows = h.1;
+      others = done.applies.tables;
+      rows = λ rows had. puts_values schema table values old new width rows done kept columns had;
     }
 
 -- ---- SELECT

@@ -1,9 +1,10 @@
 use Rattle.sql_rows.proofs.Inside.{on_ok_then}
-use Rattle.catalogue_store.proofs.OpeningRows.{fills_categories}
+use Rattle.shop_schema.proofs.SharedTables.{categories}
+use Rattle.catalogue_store.proofs.Fills.{fills_two}
 use Rattle.catalogue_store.proofs.Sequence.{clean_before}
 use Rattle.catalogue_store.proofs.opening.put_categories.Goals as goal
 
 pub returns-clause-put : goal.returns-clause-put
 returns-clause-put g c clean =
     let clean_1 = clean_before _ _ _ c.put_category-2.ensures.inside clean in
-    on_ok_then c.put_category-2.result (λ last. fills_categories _ _ _ (rw c.number.ensures at (c.in_ok-put_category.ensures.put clean_1)) (rw c.number-2.ensures at last)) (c.put_category-2.ensures.put clean)
+    on_ok_then c.put_category-2.result (λ last. fills_two categories.part _ _ _ _ _ (rw c.number.ensures at (c.in_ok-put_category.ensures.put clean_1)) (rw c.number-2.ensures at last)) (c.put_category-2.ensures.put clean)

@@ -1,18 +1,12 @@
-use Rattle.std.proofs.Common.{◌≡◌, ◌≤◌, List, slice_get, Some, None, sym, ap, ◌∙◌, arith}
-use Rattle.sqlite_value.specs.Order as sql
-use Rattle.catalogue_store.proofs.SharedReads.{told_no_film, told_film}
+use Rattle.std.proofs.Common.{arith}
+use Rattle.catalogue_store.proofs.SharedReads.{read_film}
 use Rattle.catalogue_store.proofs.reads.film_at.Goals as goal
 
 pub returns-in-None-clause-found : goal.returns-in-None-clause-found
 returns-in-None-clause-found g c clean =
-    let shown = rw (c.to_sql.ensures, c.get.ensures.value) at (c.in_ok-rows.ensures.shown clean) in
-    let low : 1 ≤ c.args.film = omega arith in
-    let none : slice_get c.in_ok-rows.rows.items 0 ≡ None = ap (λ (rows : List sql.Row). slice_get rows 0) (sym c.deref.ensures.value) ∙ sym c.in-None.ensures.value in
-    told_no_film _ _ c.args.film _ shown low none
+    (read_film _ _ c.args.film _ _ (rw (c.to_sql.ensures, c.get.ensures.value) at (c.in_ok-rows.ensures.shown clean)) (omega arith) c.deref.ensures.value).0 c.in-None.ensures.value
 
 pub returns-clause-found : goal.returns-clause-found
 returns-clause-found g c clean =
-    let shown = rw (c.to_sql.ensures, c.get.ensures.value) at (c.in_ok-rows.ensures.shown clean) in
-    let low : 1 ≤ c.args.film = omega arith in
-    let some : slice_get c.in_ok-rows.rows.items 0 ≡ Some c.in-Some.row.now = ap (λ (rows : List sql.Row). slice_get rows 0) (sym c.deref.ensures.value) ∙ sym c.in-Some.ensures.value in
-    told_film _ _ c.args.film _ shown low c.in-Some.row.now c.in_ok-flag_at-in-Some.field-0 some c.in_ok-flag_at-in-Some.ensures.ok
+    (read_film _ _ c.args.film _ _ (rw (c.to_sql.ensures, c.get.ensures.value) at (c.in_ok-rows.ensures.shown clean)) (omega arith) c.deref.ensures.value).1
+    c.in-Some.row.now c.in_ok-flag_at-in-Some.field-0 c.in-Some.ensures.value c.in_ok-flag_at-in-Some.ensures.ok

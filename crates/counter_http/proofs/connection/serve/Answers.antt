@@ -101,3 +101,9 @@ returns-then-max_requests-eq0-clause-served g c = served_limit 0 _ _ [] _ _ _ _ 
 
 pub returns-then-max_requests-eq0-clause-none_allowed : goal.returns-then-max_requests-eq0-clause-none_allowed
 returns-then-max_requests-eq0-clause-none_allowed g c none = (refl, refl, Keeps-same _, Keeps-same _)
+
+pub returns-in_default-clause-fault : goal.returns-in_default-clause-fault
+returns-in_default-clause-fault g c = (run_starts, Keeps-same _, Keeps-same _)
+
+pub returns-in_default-new-clause-fault : goal.returns-in_default-new-clause-fault
+returns-in_default-new-clause-fault g c = (run_starts, Keeps-same _, Keeps-same _)

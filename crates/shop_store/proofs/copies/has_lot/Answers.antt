@@ -1,5 +1,5 @@
 use Rattle.std.proofs.Common.{◌≡◌, ◌==◌, length, not, ap, ◌∙◌, arith}
-use Rattle.shop_store.proofs.CopyReads.{read_lot}
+use Rattle.shop_store.proofs.OnCopies.{read_lot}
 use Rattle.shop_store.proofs.copies.has_lot.Goals as goal
 
 pub returns-clause-found : goal.returns-clause-found

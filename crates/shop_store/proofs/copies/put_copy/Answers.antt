@@ -1,6 +1,6 @@
 use Rattle.sql_rows.proofs.Inside.{on_ok_then}
 use Rattle.shop_store.specs.Seen.{seen_copy_row}
-use Rattle.shop_store.proofs.CopyReads.{write_copy}
+use Rattle.shop_store.proofs.OnCopies.{write_copy}
 use Rattle.shop_store.proofs.copies.put_copy.Goals as goal
 
 pub returns-clause-put : goal.returns-clause-put

@@ -1,5 +1,5 @@
 use Rattle.sql_rows.proofs.Inside.{on_ok_then}
-use Rattle.shop_store.proofs.CopyReads.{write_lot}
+use Rattle.shop_store.proofs.OnCopies.{write_lot}
 use Rattle.shop_store.proofs.copies.put_lot.Goals as goal
 
 pub returns-clause-put : goal.returns-clause-put

@@ -1,6 +1,6 @@
 use Rattle.sql_rows.proofs.Inside.{on_ok_then}
 use Rattle.shop_store.specs.Seen.{seen_state}
-use Rattle.shop_store.proofs.CopyReads.{write_state}
+use Rattle.shop_store.proofs.OnCopies.{write_state}
 use Rattle.shop_store.proofs.copies.set_state.Goals as goal
 
 pub returns-clause-set : goal.returns-clause-set

@@ -1,4 +1,4 @@
-use Rattle.shop_store.proofs.CustomerReads.{read_customer}
+use Rattle.shop_store.proofs.OnCustomers.{read_customer}
 use Rattle.shop_store.proofs.customers.customer_at.Goals as goal
 
 pub returns-clause-row : goal.returns-clause-row

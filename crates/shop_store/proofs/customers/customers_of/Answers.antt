@@ -1,4 +1,4 @@
-use Rattle.shop_store.proofs.CustomerReads.{read_customers}
+use Rattle.shop_store.proofs.OnCustomers.{read_customers}
 use Rattle.shop_store.proofs.customers.customers_of.Goals as goal
 
 pub returns-clause-rows : goal.returns-clause-rows

@@ -1,6 +1,6 @@
 use Rattle.sql_rows.proofs.Inside.{on_ok_then}
 use Rattle.shop_store.specs.Seen.{seen_row}
-use Rattle.shop_store.proofs.CustomerReads.{write_customer}
+use Rattle.shop_store.proofs.OnCustomers.{write_customer}
 use Rattle.shop_store.proofs.customers.put_customer.Goals as goal
 
 pub returns-clause-put : goal.returns-clause-put

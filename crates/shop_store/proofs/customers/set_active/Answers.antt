@@ -1,5 +1,5 @@
 use Rattle.sql_rows.proofs.Inside.{on_ok_then}
-use Rattle.shop_store.proofs.CustomerReads.{write_active}
+use Rattle.shop_store.proofs.OnCustomers.{write_active}
 use Rattle.shop_store.proofs.customers.set_active.Goals as goal
 
 pub returns-clause-set : goal.returns-clause-set

@@ -1,19 +1,14 @@
-use Rattle.std.proofs.Common.{◌≡◌, ◌≤◌, List, slice_get, Some, None, sym, ap, ◌∙◌, arith}
-use Rattle.sqlite_value.specs.Order as sql
-use Rattle.shop_store.proofs.KeptTexts.{told_kept, told_no_kept}
+use Rattle.std.proofs.Common.{arith}
+use Rattle.shop_store.proofs.KeptTexts.{read_kept}
 use Rattle.shop_store.proofs.kept.kept_at.Goals as goal
 
 pub returns-in-None-clause-found : goal.returns-in-None-clause-found
 returns-in-None-clause-found g c clean =
     let shown = rw (c.to_sql.ensures, c.get.ensures.value, c.to_sql-2.ensures, c.as_str.ensures.value) at (c.in_ok-rows.ensures.shown clean) in
-    let low : 1 ≤ c.args.branch = omega arith in
-    let none : slice_get c.in_ok-rows.rows.items 0 ≡ None = ap (λ (rows : List sql.Row). slice_get rows 0) (sym c.deref.ensures.value) ∙ sym c.in-None.ensures.value in
-    told_no_kept _ _ c.args.branch c.args.key.now _ shown low none
+    (read_kept _ _ c.args.branch c.args.key.now _ shown (omega arith) _ c.deref.ensures.value).0 c.in-None.ensures.value
 
 pub returns-clause-found : goal.returns-clause-found
 returns-clause-found g c clean =
     let shown = rw (c.to_sql.ensures, c.get.ensures.value, c.to_sql-2.ensures, c.as_str.ensures.value) at (c.in_ok-rows.ensures.shown clean) in
-    let low : 1 ≤ c.args.branch = omega arith in
-    let some : slice_get c.in_ok-rows.rows.items 0 ≡ Some c.in-Some.row.now = ap (λ (rows : List sql.Row). slice_get rows 0) (sym c.deref.ensures.value) ∙ sym c.in-Some.ensures.value in
-    told_kept _ _ c.args.branch c.args.key.now _ shown low c.in-Some.row.now c.in_ok-bytes_at-in-Some.field-0 c.in_ok-words_at-in-Some.field-0 some
-    c.in_ok-bytes_at-in-Some.ensures.ok c.in_ok-words_at-in-Some.ensures.ok
+    (read_kept _ _ c.args.branch c.args.key.now _ shown (omega arith) _ c.deref.ensures.value).1
+    c.in-Some.row.now c.in_ok-bytes_at-in-Some.field-0 c.in_ok-words_at-in-Some.field-0 c.in-Some.ensures.value c.in_ok-bytes_at-in-Some.ensures.ok c.in_ok-words_at-in-Some.ensures.ok

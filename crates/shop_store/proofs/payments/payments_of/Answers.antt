@@ -1,4 +1,4 @@
-use Rattle.shop_store.proofs.PaymentReads.{read_payments}
+use Rattle.shop_store.proofs.OnPayments.{read_payments}
 use Rattle.shop_store.proofs.payments.payments_of.Goals as goal
 
 pub returns-clause-rows : goal.returns-clause-rows

@@ -1,6 +1,6 @@
 use Rattle.sql_rows.proofs.Inside.{on_ok_then}
 use Rattle.shop_store.specs.Seen.{seen_payment_row}
-use Rattle.shop_store.proofs.PaymentReads.{write_payment}
+use Rattle.shop_store.proofs.OnPayments.{write_payment}
 use Rattle.shop_store.proofs.payments.put_payment.Goals as goal
 
 pub returns-clause-put : goal.returns-clause-put

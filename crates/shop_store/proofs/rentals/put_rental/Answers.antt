@@ -1,6 +1,6 @@
 use Rattle.sql_rows.proofs.Inside.{on_ok_then}
 use Rattle.shop_store.specs.Seen.{opened_row}
-use Rattle.shop_store.proofs.RentalReads.{write_rental}
+use Rattle.shop_store.proofs.OnRentals.{write_rental}
 use Rattle.shop_store.proofs.rentals.put_rental.Goals as goal
 
 pub returns-clause-put : goal.returns-clause-put

@@ -1,4 +1,4 @@
-use Rattle.shop_store.proofs.RentalReads.{read_rental}
+use Rattle.shop_store.proofs.OnRentals.{read_rental}
 use Rattle.shop_store.proofs.rentals.rental_at.Goals as goal
 
 pub returns-clause-row : goal.returns-clause-row

@@ -1,5 +1,5 @@
 use Rattle.sql_rows.proofs.Inside.{on_ok_then}
-use Rattle.shop_store.proofs.RentalReads.{write_returned}
+use Rattle.shop_store.proofs.OnRentals.{write_returned}
 use Rattle.shop_store.proofs.rentals.set_returned.Goals as goal
 
 pub returns-clause-set : goal.returns-clause-set

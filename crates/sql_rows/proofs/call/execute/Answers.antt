@@ -1,4 +1,5 @@
 use Rattle.sql_rows.proofs.Inside.{ran_inside, stopped_inside, keeps_shown}
+use Rattle.sql_rows.proofs.Faults.{statement_gave}
 use Rattle.sql_rows.proofs.call.execute.Goals as goal
 
 pub returns-in-Ok-clause-inside : goal.returns-in-Ok-clause-inside
@@ -15,6 +16,11 @@ returns-in-Ok-clause-ran g c clean =
 pub returns-in-Err-clause-inside : goal.returns-in-Err-clause-inside
 returns-in-Err-clause-inside g c = record {
   survives = c.execute.ensures.survives;
-  kept = λ clean inside. stopped_inside g.S.Store c.args.tx.now.conn.now c.execute.new.self.conn.now _ _ c.execute.result c.execute.ensures.ended (c.execute.ensures.runs clean) c.in-Err.error c.in-Err.is;
+  kept = λ clean inside. stopped_inside g.S.Store c.args.tx.now.conn.now c.execute.new.self.conn.now _ _ c.execute.result c.execute.ensures.ended (c.execute.ensures.runs clean) c.in-Err.failure c.in-Err.is;
   lives = λ clean inside. tt;
 }
+
+pub returns-in-Err-clause-told : goal.returns-in-Err-clause-told
+returns-in-Err-clause-told g c clean =
+    let gave = statement_gave g.S.Store c.args.tx.now.conn.now c.execute.new.self.conn.now _ _ c.execute.result c.execute.ensures.ended (c.execute.ensures.runs clean) c.in-Err.failure c.in-Err.is in
+    (c.in-Err.failure, c.fault_of.ensures, gave)

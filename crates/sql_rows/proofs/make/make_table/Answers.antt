@@ -1,4 +1,5 @@
 use Rattle.sql_rows.proofs.Inside.{ran_inside, stopped_inside, keeps_shown}
+use Rattle.sql_rows.proofs.Faults.{statement_gave}
 use Rattle.sql_rows.proofs.Creates.{builds}
 use Rattle.sql_rows.proofs.make.make_table.Goals as goal
 
@@ -13,3 +14,8 @@ returns-in-Ok-clause-kept g c clean =
 pub returns-in-Err-clause-kept : goal.returns-in-Err-clause-kept
 returns-in-Err-clause-kept g c clean =
     stopped_inside g.S.Store c.args.tx.now.conn.now c.execute.new.self.conn.now _ _ c.execute.result c.execute.ensures.ended (c.execute.ensures.runs clean) c.in-Err.error c.in-Err.is
+
+pub returns-in-Err-clause-told : goal.returns-in-Err-clause-told
+returns-in-Err-clause-told g c clean =
+    let gave = statement_gave g.S.Store c.args.tx.now.conn.now c.execute.new.self.conn.now _ _ c.execute.result c.execute.ensures.ended (c.execute.ensures.runs clean) c.in-Err.error c.in-Err.is in
+    (c.in-Err.error, c.fault_of.ensures, gave)

@@ -1,9 +1,11 @@
-use Rattle.std.proofs.Common.{◌+◌, ◌∙◌, refl, subst, arith, map, drop}
+use Rattle.std.proofs.Common.{◌+◌, ◌∙◌, refl, sym, subst, arith, map, drop}
 use Rattle.sqlite.specs.Held.{state}
 use Rattle.sql_rows.specs.Builds.{Builds}
 use Rattle.sql_rows.proofs.Creates.{next_of}
 use Rattle.sql_rows.proofs.Inside.{survives_nothing, keeps_then}
 use Rattle.sql_rows.proofs.Stays.{survives_more}
+use Rattle.sql_rows.specs.Fault.{IsToldOf}
+use Rattle.sql_rows.proofs.Faults.{one_gave, err_and}
 use Rattle.sql_rows.proofs.make.make_tables.Goals as goal
 
 pub loop-text-init : goal.loop-text-init
@@ -23,3 +25,9 @@ loop-text-preserved g c = record {
       (subst (Builds whole (state g.S.Store c.loop-text.tx.conn.now).now) (next_of c.args.texts.now c.loop-text.text-index _ (omega (arith, c.loop-text-test.true)))
       (c.loop-text.invariant.built (omega (arith, clean, c.make_table.ensures.survives.clean)) whole b));
 }
+
+pub returns-in_err-make_table-clause-told : goal.returns-in_err-make_table-clause-told
+returns-in_err-make_table-clause-told g c clean =
+    let told = one_gave g.S.Store c.args.texts.now c.loop-text.text-index _ (omega (arith, c.loop-text-test.true)) c.args.tx.now.conn.now c.loop-text.tx.conn.now c.make_table.new.tx.conn.now
+    c.loop-text.invariant.survives c.in_err-make_table.field-0.0 (c.in_err-make_table.ensures.told clean) in
+    err_and c.from_residual.result c.from_residual.ensures.1 (λ fault is. subst (IsToldOf _) (sym is) told)

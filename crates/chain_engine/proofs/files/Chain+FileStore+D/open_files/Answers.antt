@@ -1,8 +1,8 @@
-use Rattle.std.proofs.Common.{◌≡◌, inl, inr, refl, sym, true, false, arith}
+use Rattle.std.proofs.Common.{inl, inr, refl, sym, arith}
 use Rattle.sqlite.specs.Files.{file_state}
 use Rattle.sqlite.specs.State.{HasCleanDisk}
 use Rattle.sqlite.specs.declared.file.Leftover.TheVariants as left
-use Rattle.chain_engine.proofs.Opening.{found_rests, holds_no_chain, has_this_version, has_no_version, has_other_version, left_as_found}
+use Rattle.chain_engine.proofs.Opening.{found_rests, kept_rests, opened_at, holds_no_chain, has_this_version, has_no_version, has_other_version, left_as_found}
 use Rattle.chain_engine.proofs.files.Chain+FileStore+D.open_files.Goals as goal
 
 pub returns-then-not-may_be_used-clause-kept : goal.returns-then-not-may_be_used-clause-kept
@@ -21,16 +21,14 @@ returns-in-Ok-This-clause-found g c clean books held =
     let first : HasCleanDisk (file_state c.in-Ok.conn) = omega (arith, clean, c.known.ensures.crash.clean) in
     let told = rw c.in-Ok-This.field-0-is at (c.in-Ok-This.ensures.told clean) in
     let rests = found_rests c.in-Ok.conn c.args.files (c.in-Ok.ensures.opened first) (c.in-Ok.ensures.found first) g.met.D.Disk.seen_may_stay told.0 books held in
-    record {
-      sound = held.sound;
-      values = held.values;
-      rests = λ _. c.known.ensures.same clean books rests;
-      alone = λ _. refl;
-      left = λ failed. absurd (apart failed);
-    }
-  where
-    apart : false ≡ true → ⊥
-    apart e = cc
+    opened_at _ books refl held.sound held.values (c.known.ensures.same clean books rests)
+
+pub returns-in-Ok-This-clause-again : goal.returns-in-Ok-This-clause-again
+returns-in-Ok-This-clause-again g c clean books keeps =
+    let first : HasCleanDisk (file_state c.in-Ok.conn) = omega (arith, clean, c.known.ensures.crash.clean) in
+    let told = rw c.in-Ok-This.field-0-is at (c.in-Ok-This.ensures.told clean) in
+    let rests = kept_rests c.in-Ok.conn c.args.files (c.in-Ok.ensures.opened first) (c.in-Ok.ensures.found first) g.met.D.Disk.seen_may_stay told.0 books keeps in
+    opened_at _ books refl keeps.sound keeps.values (c.known.ensures.same clean books rests)
 
 pub returns-in-Ok-This-clause-this : goal.returns-in-Ok-This-clause-this
 returns-in-Ok-This-clause-this g c clean =

@@ -1,0 +1,20 @@
+use Rattle.std.proofs.Common.{Ok, Err, Result, IfOk, IfErr}
+use Rattle.chain_engine.proofs.files.Chain+FileStore+D.reopen.Goals as goal
+
+ok_then : {A E : Type 0} (r : Result A E) {P Q : A → Type 0} → IfOk r P → ((x : A) → P x → Q x) → IfOk r Q
+ok_then (Ok x) h f = f x h
+ok_then (Err e) h f = tt
+
+err_then : {A E : Type 0} (r : Result A E) {P Q : E → Type 0} → IfErr r P → ((e : E) → P e → Q e) → IfErr r Q
+err_then (Ok x) h f = tt
+err_then (Err e) h f = f e h
+
+pub returns-clause-honest : goal.returns-clause-honest
+returns-clause-honest g c = ok_then c.open_files.result c.open_files.ensures.honest (λ chain was clean. c.close.ensures.clean (was clean))
+
+pub returns-clause-same : goal.returns-clause-same
+returns-clause-same g c =
+    ok_then c.open_files.result c.open_files.ensures.again (λ chain again clean live books besides at. again clean books (c.close.ensures.keeps live books besides at))
+
+pub returns-clause-kept : goal.returns-clause-kept
+returns-clause-kept g c = err_then c.open_files.result c.open_files.ensures.kept (λ e kept. (c.close.result, c.close.ensures.keeps, kept))

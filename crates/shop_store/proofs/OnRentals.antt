@@ -1,0 +1,112 @@
+-- What the texts of rentals say and make of the books.
+use Rattle.std.proofs.Common.{◌≡◌, ◌==◌, ◌&&◌, ℕ, List, [], ◌∷◌, codes, filter, Bool, true, Ok, None, Some, Option, is_eq, refl, ap, ◌∙◌, arith}
+use Rattle.std.specs.Prelude.{is_none, length}
+use Rattle.std.specs.Str.{bytes_eq}
+use Rattle.sqlite.specs.declared.types.Value.TheVariants.{Null, Text}
+use Rattle.sqlite.specs.Values.{or_null}
+use Rattle.sqlite_value.specs.Order as sql
+use Rattle.sqlite_value.specs.Order.{column}
+use Rattle.sqlite_value.specs.declared.keys.Collation.TheVariants.{Binary}
+use Rattle.sqlite_value.proofs.OrderLemmas.{value_cmp-Null, value_cmp-apart}
+use Rattle.sqlite_sql.specs.Term.{Term, lit, col, op2}
+use Rattle.sqlite_sql.specs.Ops.{binary, is_true}
+use Rattle.sqlite_sql.specs.declared.ops.BinaryOp.TheVariants.{Is, Compare}
+use Rattle.sqlite_sql.specs.declared.ops.CompareOp.TheVariants.{Eq}
+use Rattle.sqlite_tied.specs.Compute.{everything}
+use Rattle.sqlite.specs.Listing.{understood}
+use Rattle.sqlite.specs.State.{State, ExecutesInside, Shown}
+use Rattle.sql_rows.specs.Rows.{number_value}
+use Rattle.sql_rows.proofs.Appends.{are_kept}
+use Rattle.sql_rows.proofs.Queries.{Selects, plain_query, truth_of}
+use Rattle.sql_rows.proofs.ColumnTests.{number_test, number_tested, text_test, text_tested, two_tested}
+use Rattle.sql_rows.proofs.Projects.{projects_count}
+use Rattle.shop_model.specs.Calendar.{Moment, moment_text}
+use Rattle.shop_model.specs.Rows.{Row, set_row}
+use Rattle.shop_model.specs.Values.{Rental}
+use Rattle.shop_model.specs.Books.{Books}
+use Rattle.shop_schema.specs.Tables.{shop_schema, rental_table}
+use Rattle.shop_schema.specs.Columns.{rental_columns, moment_value}
+use Rattle.shop_schema.specs.Held.{IsHeld}
+use Rattle.shop_schema.specs.Shop.{StandsFor, IsShop, Writes}
+use Rattle.shop_schema.proofs.Listed.{PutsLast, puts_last}
+use Rattle.shop_store.specs.Seen.{seen_rental_row}
+use Rattle.shop_store.proofs.BranchRows.{equals, ReadsOne, reads_one, ReadsWhich, reads_which, sets_column}
+use Rattle.shop_store.proofs.BranchTables.{rentals}
+
+-- each column takes its value as it is
+kept_rental : (c : Row Rental) → are_kept rental_table.columns (rental_columns c) ≡ true
+kept_rental c = go c.it.returned
+  where
+    go : (r : Option Moment) → are_kept rental_table.columns (rental_columns (record c { it = record c.it { returned = r } })) ≡ true
+    go None = refl
+    go (Some moment) = refl
+
+pub write_rental : PutsLast rentals.rows (codes "INSERT INTO rental (branch, number, moment, copy, customer, returned, staff) VALUES (?1, ?2, ?3, ?4, ?5, ?6, ?7)")
+unfolding understood everything
+write_rental = puts_last rentals.rows _ (record { is = refl; plain = (refl, refl) }) (λ x. refl) (λ x. refl) kept_rental (λ x id. refl)
+
+pub read_rental : ReadsOne rentals seen_rental_row (codes "SELECT branch, number, moment, copy, customer, returned, staff FROM rental WHERE branch = ?1 AND number = ?2")
+unfolding understood everything
+read_rental = reads_one rentals seen_rental_row _ (record { names = _; is = refl; plain = (refl, refl); unlisted = refl }) (λ b n r. refl)
+
+abbrev select_of_customer : List ℕ
+select_of_customer = codes "SELECT branch, number, moment, copy, customer, returned, staff FROM rental WHERE branch = ?1 AND customer = ?2 ORDER BY number"
+
+pub read_of_customer : (b n : ℕ) → ReadsWhich rentals seen_rental_row select_of_customer (number_value b ∷ number_value n ∷ []) b (λ it. it.customer == n)
+unfolding understood everything
+read_of_customer b n =
+    reads_which rentals seen_rental_row select_of_customer (equals 0 (1 ∷ 5 ∷ [])) (record { names = _; is = refl; plain = (refl, refl); unlisted = refl }) (number_value b ∷ number_value n ∷ []) b
+    (λ vs. number_test 0 b vs && (number_test 4 n vs && true)) (λ it. it.customer == n) (λ row. two_tested _ _ (number_tested row.branch b) (number_tested row.it.customer n)) (λ r. refl)
+
+-- `column IS NULL`, as WHERE has it
+abbrev null_test : ℕ → sql.Row → Bool
+null_test at vs = is_true (binary (Is Binary) (column vs at) Null)
+
+null_tested : (o : Option Moment) → is_true (binary (Is Binary) (or_null moment_value o) Null) ≡ is_none o
+unfolding binary
+null_tested None = truth_of _ ∙ ap is_eq (value_cmp-Null Null)
+null_tested (Some moment) = truth_of _ ∙ ap is_eq (value_cmp-apart (moment_value moment) Null (λ e. omega (arith, e)))
+
+abbrev select_open : List ℕ
+select_open = codes "SELECT branch, number, moment, copy, customer, returned, staff FROM rental WHERE branch = ?1 AND returned IS NULL ORDER BY number"
+
+pub read_open : (b : ℕ) → ReadsWhich rentals seen_rental_row select_open (number_value b ∷ []) b (λ it. is_none it.returned)
+unfolding understood everything
+read_open b =
+    reads_which rentals seen_rental_row select_open (op2 (Compare Eq Binary) (col 1 1) (col 0 0) ∷ op2 (Is Binary) (col 1 6) (lit Null) ∷ []) (record { names = _; is = refl; plain = (refl, refl); unlisted = refl }) (number_value b ∷ []) b
+    (λ vs. number_test 0 b vs && (null_test 5 vs && true)) (λ it. is_none it.returned) (λ row. two_tested _ _ (number_tested row.branch b) (null_tested row.it.returned)) (λ r. refl)
+
+abbrev update_returned : List ℕ
+update_returned = codes "UPDATE rental SET returned = ?3 WHERE branch = ?1 AND number = ?2"
+
+pub write_returned : (old new : State) (b n : ℕ) (moment : Moment) (count : ℕ) → ExecutesInside 0 update_returned (number_value b ∷ number_value n ∷ moment_value moment ∷ []) old new (Ok count)
+    → Writes old new IsHeld (λ books. record books { rentals = set_row b n (λ it. record it { returned = Some moment }) books.rentals })
+unfolding understood everything
+write_returned old new b n moment =
+    sets_column rentals update_returned 5 (moment_value moment) (λ it. record it { returned = Some moment }) b n (record { is = refl; plain = (refl, refl) }) (λ row. refl) (λ row. refl)
+    (λ r. refl) (λ r. refl) (λ r. refl) (λ r. refl) (λ w vs. refl) old new
+
+-- a rental by all that no two share
+abbrev pub select_same : List ℕ
+select_same = codes "SELECT number FROM rental WHERE branch = ?1 AND moment = ?2 AND copy = ?3 AND customer = ?4"
+
+abbrev pub of_same : List Term
+of_same = equals 0 (1 ∷ 3 ∷ 4 ∷ 5 ∷ [])
+
+pub same_means : Selects shop_schema select_same (plain_query 27 of_same (col 1 2 ∷ []) [])
+unfolding understood everything
+same_means = record { names = _; is = refl; plain = (refl, refl); unlisted = refl }
+
+abbrev pub is_same : ℕ → List ℕ → ℕ → ℕ → Row Rental → Bool
+is_same b t x c row = row.branch == b && (bytes_eq (moment_text row.it.rented) t && (row.it.copy == x && row.it.customer == c))
+
+same_tested : (b : ℕ) (t : List ℕ) (x c : ℕ) (row : Row Rental)
+    → (number_test 0 b (rental_columns row) && (text_test 2 t (rental_columns row) && (number_test 3 x (rental_columns row) && (number_test 4 c (rental_columns row) && true)))) ≡ is_same b t x c row
+same_tested b t x c row =
+    λ i. number_tested row.branch b i && (text_tested (moment_text row.it.rented) t i && two_tested _ _ (number_tested row.it.copy x) (number_tested row.it.customer c) i)
+
+pub shows_same : (old new : State) (b : ℕ) (t : List ℕ) (x c : ℕ) (rows : List sql.Row) (books : Books) → IsShop old
+    → Shown select_same (number_value b ∷ Text t ∷ number_value x ∷ number_value c ∷ []) old new rows → StandsFor old.now.trees books → length rows ≡ length (filter (is_same b t x c) books.rentals)
+shows_same old new b t x c rows books has h s =
+    projects_count shop_schema select_same 27 7 of_same (col 1 2 ∷ []) same_means (number_value b ∷ Text t ∷ number_value x ∷ number_value c ∷ []) old new rows has h rental_columns books.rentals s.rentals refl
+    (λ vs. number_test 0 b vs && (text_test 2 t vs && (number_test 3 x vs && (number_test 4 c vs && true)))) (λ vs. column vs 1 ∷ []) (is_same b t x c) (same_tested b t x c) (λ r. refl)
