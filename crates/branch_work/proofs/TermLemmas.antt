@@ -1,23 +1,25 @@
 -- What is found of a rental's copy and film tells its terms.
-use Rattle.std.proofs.Common.{◌≡◌, ◌∙◌, refl, sym, ap, ℕ, ◌+◌, ◌<◌, List, [], ◌∷◌, ◌++◌, length, map, filter, flat_map, take, get_or, codes, append-nil, Bool, true, false, Option, Some, None, option_map}
-use Rattle.std.proofs.lemmas.List.{map-append, map_more}
+use Rattle.std.proofs.Common.{◌≡◌, ◌∙◌, inl, inr, refl, sym, ap, arith, ℕ, ◌+◌, ◌<◌, List, [], ◌∷◌, ◌++◌, length, map, filter, flat_map, take, get_or, codes, append_assoc, append-nil, Bool, true, false, Option, Some, None, option_map}
+use Rattle.std.proofs.lemmas.Bool.{cases_Bool}
+use Rattle.std.proofs.lemmas.List.{map-append, take_more, length-append}
 use Rattle.std.proofs.lemmas.List.Elements.{filter-append}
 use Rattle.std.specs.Prelude.{◌-◌, ◌==◌, ◌&&◌, ◌||◌, if◌then◌else◌, nat_lt, is_none, is_some}
 use Rattle.std.specs.List.{list_any}
 use Rattle.std.specs.Option.{option_to_list}
-use Rattle.shop_model.specs.Rows.{at, of}
+use Rattle.shop_model.specs.Rows.{at, numbered, numbered_from, of}
 use Rattle.shop_model.specs.Calendar.{Moment, day_of}
 use Rattle.shop_model.specs.Values.{Text, Copy, Customer, Film, Rental}
 use Rattle.shop_model.specs.Shop.{Catalogue, Shop}
 use Rattle.shop_model.specs.Books.{BookCopy, Books, head, shop_of, unmarked}
 use Rattle.shop_model.specs.Stock.{film_of, is_overdue}
 use Rattle.shop_model.specs.Views.{overdue_row}
-use Rattle.shop_model.proofs.RowLemmas.{filter_away, map_at}
-use Rattle.shop_types.specs.Seen.{seen_customer, seen_rental}
+use Rattle.shop_model.proofs.RowLemmas.{differ_test, filter_away, map_at}
+use Rattle.shop_types.specs.Seen.{seen_customer}
 use Rattle.shop_store.specs.declared.copies.CopyRow.{CopyRow}
 use Rattle.shop_store.specs.declared.customers.CustomerRow.{CustomerRow}
-use Rattle.shop_store.specs.declared.rentals.RentalRow.{RentalRow}
 use Rattle.shop_store.specs.Seen.{seen_copy_row}
+use Rattle.shop_schema.proofs.Lists.{flat_map_push}
+use Rattle.branch_work.specs.Finds.{rentals_at}
 use Rattle.catalogue_store.specs.Seen.{title_of}
 use Rattle.shop_views.specs.declared.overdue_rows.OverdueRow.{OverdueRow}
 use Rattle.shop_views.specs.Overdue.{seen_overdue}
@@ -134,18 +136,42 @@ kept_alone g p x is = rw is refl
 pub kept_none : {A B : Type 0} (g : A → B) (p : A → Bool) (x : A) → p x ≡ false → [] ≡ map g (filter p (x ∷ []))
 kept_none g p x isnt = rw isnt refl
 
--- one row more of a list that is chosen row by row
-abbrev pub rental_of : RentalRow → Rental
-rental_of row = seen_rental row.rental
+-- one number more of a list that is chosen number by number
+pub more_kept : {B : Type 0} (g : Rental → B) (p : Rental → Bool) (rentals : List Rental) (numbers : List ℕ) (i n : ℕ) → i < length numbers → n ≡ get_or numbers i n
+    → map g (filter p (rentals_at (take i numbers) rentals)) ++ map g (filter p (at n rentals)) ≡ map g (filter p (rentals_at (take (i + 1) numbers) rentals))
+more_kept {B = B} g p rentals numbers i n lt is =
+    let f : ℕ → List Rental = λ m. at m rentals in
+    let taken : take (i + 1) numbers ≡ take i numbers ++ n ∷ [] = take_more numbers i n lt ∙ ap (λ (m : ℕ). take i numbers ++ m ∷ []) (sym is) in
+    sym (map-append g (filter p (flat_map f (take i numbers))) (filter p (f n)))
+    ∙ ap (map g) (sym (filter-append p (flat_map f (take i numbers)) (f n)))
+    ∙ ap (λ (rs : List Rental). map g (filter p rs)) (sym (flat_map_push f (take i numbers) n) ∙ ap (flat_map f) (sym taken))
 
-pub more_kept : {B : Type 0} (g : Rental → B) (p : Rental → Bool) (rows : List RentalRow) (i : ℕ) (row : RentalRow) → i < length rows → row ≡ get_or rows i row
-    → map g (filter p (map rental_of (take i rows))) ++ map g (filter p (rental_of row ∷ [])) ≡ map g (filter p (map rental_of (take (i + 1) rows)))
-more_kept {B = B} g p rows i row lt is =
-    let before : List Rental = map rental_of (take i rows) in
-    sym (map-append g (filter p before) (filter p (rental_of row ∷ [])))
-    ∙ ap (map g) (sym (filter-append p before (rental_of row ∷ [])))
-    ∙ ap (λ (r : RentalRow). map g (filter p (before ++ rental_of r ∷ []))) is
-    ∙ ap (λ (rs : List Rental). map g (filter p rs)) (sym (map_more rental_of rows i row lt))
+-- ---- the open rentals by their numbers
+
+at_behind : (before after : List Rental) (rental : Rental) → at (length before + 1) (before ++ rental ∷ after) ≡ rental ∷ []
+at_behind [] after rental = refl
+at_behind (first ∷ before) after rental =
+    let later : (length (first ∷ before) + 1 == 1) ≡ false = differ_test (length (first ∷ before) + 1) 1 (omega arith) in
+    let less : length (first ∷ before) + 1 - 1 ≡ length before + 1 = omega arith in
+    rw later (ap (λ (n : ℕ). at n (before ++ rental ∷ after)) less ∙ at_behind before after rental)
+
+chosen_after : (p : Rental → Bool) (before after : List Rental)
+    → rentals_at (map (λ (it : ℕ × Rental). it.0) (filter (λ (it : ℕ × Rental). p it.1) (numbered_from (length before + 1) after))) (before ++ after) ≡ filter p after
+chosen_after p before [] = refl
+chosen_after p before (rental ∷ after) =
+    let numbers : ℕ → List ℕ = λ k. map (λ (it : ℕ × Rental). it.0) (filter (λ (it : ℕ × Rental). p it.1) (numbered_from k after)) in
+    let next : length (before ++ rental ∷ []) + 1 ≡ length before + 1 + 1 = ap (λ (n : ℕ). n + 1) (length-append before (rental ∷ [])) in
+    let rest : rentals_at (numbers (length before + 1 + 1)) (before ++ rental ∷ after) ≡ filter p after =
+    (λ i. rentals_at (numbers (sym next i)) (sym (append_assoc before (rental ∷ []) after) i)) ∙ chosen_after p (before ++ rental ∷ []) after in
+    elim (cases_Bool (p rental)) [
+      | inl passes ↦ rw passes (λ i. at_behind before after rental i ++ rest i)
+      | inr fails ↦ rw fails rest
+    ]
+
+-- those that pass, by their numbers
+pub chosen_by_number : (p : Rental → Bool) (rentals : List Rental)
+    → rentals_at (map (λ (it : ℕ × Rental). it.0) (filter (λ (it : ℕ × Rental). p it.1) (numbered rentals))) rentals ≡ filter p rentals
+chosen_by_number p rentals = chosen_after p [] rentals
 
 pub seen_pushed : {A B : Type 0} (f : A → B) (before after : List A) (found : Option A) → after ≡ before ++ option_to_list found → map f after ≡ map f before ++ option_to_list (option_map f found)
 seen_pushed {A = A} {B = B} f before after found is = ap (map f) is ∙ map-append f before (option_to_list found) ∙ ap (λ (xs : List B). map f before ++ xs) (same found)

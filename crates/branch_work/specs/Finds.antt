@@ -1,13 +1,15 @@
 -- What is found of the rows that a command names.
-use Rattle.std.specs.Prelude.{◌≡◌, ℕ, zero, suc, ℤ, [], ◌∷◌, ◌++◌, ◌==◌, Bool, true, false, not, is_some, List, map, filter, Option, Some, None, option_map}
+use Rattle.std.specs.Prelude.{◌≡◌, ℕ, zero, suc, ℤ, [], ◌∷◌, ◌++◌, ◌==◌, Bool, true, false, not, is_some, List, map, filter, flat_map, Option, Some, None, option_map}
 use Rattle.std.specs.Str.{bytes_eq}
-use Rattle.shop_model.specs.Rows.{lacks, owned_by}
+use Rattle.shop_model.specs.Rows.{at, lacks, owned_by}
 use Rattle.shop_model.specs.Values.{Text, Command, Rental, Payment, Ask, FilmInStock, FilmNotInStock}
 use Rattle.shop_model.specs.Verdict.{is_film_withdrawn}
 use Rattle.shop_model.specs.Shop.{Catalogue, Shop}
 use Rattle.shop_model.specs.Stock.{is_here, in_stock, film_in_stock, film_not_in_stock}
 use Rattle.shop_model.specs.Books.{Books, head, unmarked}
+use Rattle.shop_types.specs.Seen.{seen_payment}
 use Rattle.shop_store.specs.declared.copies.CopyRow.{CopyRow}
+use Rattle.shop_store.specs.declared.payments.PaymentRow.{PaymentRow}
 use Rattle.shop_store.specs.Seen.{seen_copy_row}
 use Rattle.stock_csv.specs.declared.StockRow.{StockRow}
 use Rattle.branch_core.specs.declared.found.StockFound.{StockFound}
@@ -60,12 +62,22 @@ abbrev pub stock_listed : Bool → ℕ → Shop → List ℕ
 stock_listed true film shop = film_in_stock film shop
 stock_listed false film shop = film_not_in_stock film shop
 
+-- ---- overdue rentals
+
+-- the rentals of the numbers, in the order of these
+abbrev pub rentals_at : List ℕ → List Rental → List Rental
+rentals_at numbers rentals = flat_map (λ n. at n rentals) numbers
+
 -- ---- rewards
 
 -- the numbers from 1 to n
 abbrev pub numbers_to : ℕ → List ℕ
 numbers_to zero = []
 numbers_to (suc n) = numbers_to n ++ suc n ∷ []
+
+-- the payments of rows
+abbrev pub payments_of : List PaymentRow → List Payment
+payments_of rows = map (λ row. seen_payment row.payment) rows
 
 -- the payment is of a day of the month
 abbrev pub is_paid_in : ℤ × ℤ → Payment → Bool

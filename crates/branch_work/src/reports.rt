@@ -16,7 +16,7 @@ use crate::balances::{find_paid, find_terms};
 use crate::looking::find_active;
 use crate::overdue::find_overdue;
 use crate::rewards::find_rewarded;
-use balance_rule::{Paid, RentalTerms, balance, last_month};
+use balance_rule::{Paid, RentalTerms, balance};
 use reply_bodies::{balance_text, rewards_text};
 use shop_types::{BranchNo, Cents, CustomerNo, Moment, Refusal, Reply};
 use shop_views::overdue_text;
@@ -93,7 +93,7 @@ pub fn look_rewards<S: Alter>(
     if purchases == 0 || cents == 0 {
         return Ok(Reply::refused(Refusal::BadThreshold));
     }
-    let customers = find_rewarded(alloc, tx, branch, last_month(at), purchases, cents)?;
+    let customers = find_rewarded(alloc, tx, branch, at, purchases, cents)?;
     match rewards_text(alloc, customers.as_slice()) {
         Ok(text) => Ok(Reply::accepted(text)),
         Err(_) => Err(StoreFault::Memory),

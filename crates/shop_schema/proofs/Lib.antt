@@ -16,3 +16,5 @@ pub mod FirstValues
 pub mod Numbered
 pub mod Different
 pub mod FormSteps
+pub mod Days
+pub mod MomentOrder

@@ -225,6 +225,7 @@ shop_schema = record {
       ∷ index_of (codes "copy_film") 45 25 (1 ∷ 3 ∷ 2 ∷ [])
       ∷ index_of (codes "rental_customer") 46 27 (1 ∷ 5 ∷ 2 ∷ [])
       ∷ index_of (codes "payment_customer") 47 30 (1 ∷ 3 ∷ 2 ∷ [])
+      ∷ index_of (codes "payment_moment") 48 30 (1 ∷ 7 ∷ 2 ∷ [])
       ∷ [];
   views = [];
 }

@@ -5,17 +5,19 @@ use Rattle.std.specs.List.{AllByRecursion}
 use Rattle.sqlite_value.specs.Order as sql
 use Rattle.sqlite_value.specs.Order.{column}
 use Rattle.sqlite.specs.State.{State, Shown, ExecutesInside}
-use Rattle.sqlite_keyed.proofs.ListLemmas.{all-filter}
+use Rattle.sqlite_keyed.proofs.ListLemmas.{all-filter, map-map}
 use Rattle.sql_rows.specs.Rows.{number_value}
 use Rattle.sql_rows.specs.Books.{Changes}
 use Rattle.sql_rows.proofs.ColumnTests.{number_test}
 use Rattle.sql_rows.proofs.Projects.{still_holds, writes_by}
+use Rattle.sql_rows.proofs.Queries.{unmapped}
 use Rattle.sql_rows.proofs.Tells.{sets_and_tells}
-use Rattle.shop_model.specs.Rows.{of}
+use Rattle.shop_model.specs.Rows.{Row, is_of, of}
+use Rattle.shop_model.specs.Values.{Rental}
 use Rattle.shop_model.specs.Books.{Books}
 use Rattle.shop_schema.specs.Tables.{shop_schema, counter_table}
 use Rattle.shop_schema.specs.Columns.{counter_columns}
-use Rattle.shop_schema.specs.Counts.{Count, Out, Counts, is_count, is_out, raise, raised, drop_out, count_in, counts_of}
+use Rattle.shop_schema.specs.Counts.{Count, Out, Counts, is_count, is_open, is_out, raise, raised, drop_out, count_in, counts_of}
 use Rattle.shop_schema.specs.Held.{IsHeld}
 use Rattle.shop_schema.specs.Shop.{StandsFor, IsShop, Holds, Reads, Tallies}
 use Rattle.shop_schema.proofs.Stands.{stands_but}
@@ -23,8 +25,9 @@ use Rattle.shop_store.specs.declared.counts.CountKind.{CountKind}
 use Rattle.shop_store.specs.Counted.{kind_number, CountsOnce, IsOutBy}
 use Rattle.shop_store.proofs.BranchRows.{of_two}
 use Rattle.shop_store.proofs.CountsOf.{told_count}
-use Rattle.shop_store.proofs.Outs.{open_of, outs_numbered, picks_out}
-use Rattle.shop_store.proofs.CountTexts.{Beside, select_count, select_count_means, shows_counts, plus_one, plus_one_is, take_text, take_terms, told_terms, take_means, count_set, count_set_is, count_kept, count_test, plus, raise_text, raise_terms, raise_told, raise_means, count_more, count_more_is, more_kept, delete_out, drops_out, select_out, select_out_means, shows_out}
+use Rattle.shop_store.proofs.Outs.{open_of, outs_numbered, picks_out, opens_of, outs_rise, outs_are}
+use Rattle.shop_store.proofs.Rising.{rise_differ, rise_sorted}
+use Rattle.shop_store.proofs.CountTexts.{Beside, select_count, select_count_means, shows_counts, plus_one, plus_one_is, take_text, take_terms, told_terms, take_means, count_set, count_set_is, count_kept, count_test, plus, raise_text, raise_terms, raise_told, raise_means, count_more, count_more_is, more_kept, delete_out, drops_out, select_out, select_out_means, shows_out, select_outs, select_outs_means, shows_outs}
 
 -- a change of the two tables, beside any books
 tallies_by : (old new : State) (Given : Counts → Type 0) (change : Counts → Counts) → ((books : Books) → IsShop old → Changes shop_schema (Beside books) old new Given change) → Tallies old new Given change (λ _. ⊤)
@@ -71,6 +74,25 @@ read_out old new b x rows h = (
         let same : number_value o.rental ∷ [] ≡ row = cc in
         ap (λ m. m ∷ []) (same_number _ _ (ap (λ r. column r 0) same ∙ is))
     one_out (o ∷ p ∷ more) few row n e is = absurd (omega (arith, few))
+
+-- ---- all copies that are out
+
+unmapped_numbers : (ms ns : List ℕ) → map number_value ms ≡ map number_value ns → ms ≡ ns
+unmapped_numbers = unmapped number_value same_number
+
+pub read_outs : (old new : State) (b : ℕ) (rows seen : List sql.Row) (numbers : List ℕ) → Shown select_outs (number_value b ∷ []) old new rows → seen ≡ rows
+    → map number_value numbers ≡ map (λ row. column row 0) seen → Reads old new (λ books. numbers ≡ opens_of (of b books.rentals))
+read_outs old new b rows seen numbers h same read books holds held =
+    let number : Row Rental → ℕ = λ row. row.number in
+    let outs : List (Row Rental) = filter (is_of b) (filter is_open books.rentals) in
+    let rise = outs_rise b books held in
+    let found = shows_outs old new b rows books holds.schema_is h holds.stands (rise_differ outs rise) in
+    let shown : rows ≡ map (λ row. number_value (number row) ∷ []) outs = found ∙ ap (map (λ row. number_value (number row) ∷ [])) (rise_sorted outs rise) in
+    let firsts : map number_value numbers ≡ map number_value (map number outs) =
+    read ∙ ap (map (λ row. column row 0)) (same ∙ shown) ∙ map-map (λ row. column row 0) (λ row. number_value (number row) ∷ []) outs ∙ sym (map-map number_value number outs) in (
+      still_holds shop_schema StandsFor select_outs (number_value b ∷ []) old new select_outs_means.plain rows h books holds,
+      unmapped_numbers _ _ firsts ∙ outs_are b books held,
+    )
 
 -- ---- a number that is taken
 

@@ -1,12 +1,14 @@
 -- The texts on counts and on copies that are out, as SQL has them.
-use Rattle.std.proofs.Common.{◌≡◌, ◌+◌, ◌<◌, ◌^◌, ◌&&◌, ℕ, pos, List, [], ◌∷◌, codes, map, filter, true, cond, Some, None, Ok, refl, ap, arith, nat_lt, IsPermutation}
+use Rattle.std.proofs.Common.{◌≡◌, ◌+◌, ◌<◌, ◌^◌, ◌&&◌, ℕ, pos, List, [], ◌∷◌, codes, map, filter, true, cond, Some, None, Ok, refl, ap, arith, nat_lt, IsPermutation, subst}
 use Rattle.std.specs.Prelude.{⊤}
 use Rattle.std.proofs.lemmas.Bool.Decides.{nat_tests}
 use Rattle.sqlite.specs.declared.types.Value.{Value}
 use Rattle.sqlite.specs.declared.types.Value.TheVariants.{Int}
 use Rattle.sqlite_value.specs.Order as sql
 use Rattle.sqlite_value.specs.Order.{column}
+use Rattle.sqlite_value.specs.Keys.{ascending}
 use Rattle.sqlite_trees.specs.Tree.{Trees}
+use Rattle.sqlite_value.specs.declared.keys.Collation.TheVariants.{Binary}
 use Rattle.sqlite_sql.specs.Term.{Term, lit, col, op2}
 use Rattle.sqlite_sql.specs.Ops.{binary, int_or, real_arith, from_int}
 use Rattle.sqlite_sql.specs.declared.ops.BinaryOp.TheVariants.{Arith}
@@ -15,23 +17,27 @@ use Rattle.sqlite.specs.Command.TheVariants.{Update, Delete}
 use Rattle.sqlite_tied.specs.Compute.{everything}
 use Rattle.sqlite.specs.Listing.{understood}
 use Rattle.sqlite.specs.State.{State, Shown, ExecutesInside}
+use Rattle.sqlite_keyed.specs.Lists.{sort_by}
+use Rattle.sqlite_keyed.proofs.ListLemmas.{map-map}
 use Rattle.sql_rows.specs.Builds.{Means}
-use Rattle.sql_rows.specs.Rows.{PicksOne, number_value}
+use Rattle.sql_rows.specs.Rows.{HasRows, PicksOne, by, Differ, number_value}
 use Rattle.sql_rows.specs.Books.{Changes}
 use Rattle.sql_rows.proofs.Appends.{map_push, are_kept}
 use Rattle.sql_rows.proofs.Queries.{Selects, plain_query}
-use Rattle.sql_rows.proofs.ColumnTests.{number_test, number_tested, two_tested, three_tested}
-use Rattle.sql_rows.proofs.Projects.{projects_bag, projects_one}
+use Rattle.sql_rows.proofs.ColumnTests.{number_test, number_tested, one_tested, two_tested, three_tested}
+use Rattle.sql_rows.proofs.Projects.{projects_bag, projects_one, projects_sorted}
 use Rattle.sql_rows.proofs.Showing.{MeansShowing}
 use Rattle.sql_rows.proofs.Drops.{drops_row}
+use Rattle.shop_model.specs.Rows.{Row, is_of}
+use Rattle.shop_model.specs.Values.{Rental}
 use Rattle.shop_model.specs.Books.{Books}
 use Rattle.shop_schema.specs.Tables.{shop_schema, counter_table, out_copy_table}
 use Rattle.shop_schema.specs.Columns.{counter_columns, out_columns}
-use Rattle.shop_schema.specs.Counts.{Count, Out, Counts, is_count, is_out, is_out_by, raised, put_out, drop_out}
-use Rattle.shop_schema.specs.Shop.{StandsWith, IsShop, Tallies}
+use Rattle.shop_schema.specs.Counts.{Count, Out, Counts, is_count, is_open, is_out, is_out_by, out_of, raised, put_out, drop_out}
+use Rattle.shop_schema.specs.Shop.{StandsFor, StandsWith, IsShop, Tallies}
 use Rattle.shop_schema.proofs.Stands.{stands_but, rows_of, with_rows}
 use Rattle.shop_schema.proofs.Listed.{tallies_put}
-use Rattle.shop_store.proofs.BranchRows.{of_two, equals}
+use Rattle.shop_store.proofs.BranchRows.{of_one, of_two, equals}
 
 -- ---- counts
 
@@ -139,6 +145,22 @@ pub shows_out : (counts : Counts) (old new : State) (b x : ℕ) (rows : List sql
 shows_out counts old new b x rows books has h s few =
     projects_one shop_schema select_out 43 3 of_two (col 1 3 ∷ []) select_out_means (number_value b ∷ number_value x ∷ []) old new rows has h out_columns counts.outs s.outs refl
     (λ vs. number_test 0 b vs && (number_test 1 x vs && true)) (λ vs. column vs 2 ∷ []) (is_out b x) (out_test b x) (λ r. refl) few
+
+-- all of a branch, in order of the rentals' numbers: of books' own counts these are the open rentals
+abbrev pub select_outs : List ℕ
+select_outs = codes "SELECT rental FROM out_copy WHERE branch = ?1 ORDER BY rental"
+
+pub select_outs_means : Selects shop_schema select_outs (plain_query 43 of_one (col 1 3 ∷ []) ((col 1 3, ascending Binary) ∷ []))
+unfolding understood everything
+select_outs_means = record { names = _; is = refl; plain = (refl, refl); unlisted = refl }
+
+pub shows_outs : (old new : State) (b : ℕ) (rows : List sql.Row) (books : Books) → IsShop old → Shown select_outs (number_value b ∷ []) old new rows → StandsFor old.now.trees books
+    → Differ (λ (row : Row Rental). row.number) (filter (is_of b) (filter is_open books.rentals))
+    → rows ≡ map (λ (row : Row Rental). number_value row.number ∷ []) (sort_by (by (λ row. row.number)) (filter (is_of b) (filter is_open books.rentals)))
+shows_outs old new b rows books has h s apart =
+    projects_sorted shop_schema select_outs 43 3 of_one (col 1 3 ∷ []) 2 select_outs_means (number_value b ∷ []) old new rows has h (λ row. out_columns (out_of row)) (filter is_open books.rentals)
+    (subst (HasRows 3 (old.now.trees 43)) (map-map out_columns out_of (filter is_open books.rentals)) s.outs) refl
+    (λ vs. number_test 0 b vs && true) (λ vs. column vs 2 ∷ []) (is_of b) (λ c. one_tested _ (number_tested c.branch b)) (λ r. refl) (λ c. c.number) (λ c. refl) apart
 
 abbrev pub insert_out : List ℕ
 insert_out = codes "INSERT INTO out_copy (branch, copy, rental) VALUES (?1, ?2, ?3)"

@@ -1,23 +1,17 @@
 -- What the texts of rentals say and make of the books.
-use Rattle.std.proofs.Common.{◌≡◌, ◌==◌, ◌&&◌, ℕ, List, [], ◌∷◌, codes, filter, Bool, true, Ok, None, Some, Option, is_eq, refl, ap, ◌∙◌, arith}
-use Rattle.std.specs.Prelude.{is_none, length}
+use Rattle.std.proofs.Common.{◌≡◌, ◌==◌, ◌&&◌, ℕ, List, [], ◌∷◌, codes, filter, Bool, true, Ok, None, Some, Option, refl}
+use Rattle.std.specs.Prelude.{length}
 use Rattle.std.specs.Str.{bytes_eq}
-use Rattle.sqlite.specs.declared.types.Value.TheVariants.{Null, Text}
-use Rattle.sqlite.specs.Values.{or_null}
+use Rattle.sqlite.specs.declared.types.Value.TheVariants.{Text}
 use Rattle.sqlite_value.specs.Order as sql
 use Rattle.sqlite_value.specs.Order.{column}
-use Rattle.sqlite_value.specs.declared.keys.Collation.TheVariants.{Binary}
-use Rattle.sqlite_value.proofs.OrderLemmas.{value_cmp-Null, value_cmp-apart}
-use Rattle.sqlite_sql.specs.Term.{Term, lit, col, op2}
-use Rattle.sqlite_sql.specs.Ops.{binary, is_true}
-use Rattle.sqlite_sql.specs.declared.ops.BinaryOp.TheVariants.{Is, Compare}
-use Rattle.sqlite_sql.specs.declared.ops.CompareOp.TheVariants.{Eq}
+use Rattle.sqlite_sql.specs.Term.{Term, col}
 use Rattle.sqlite_tied.specs.Compute.{everything}
 use Rattle.sqlite.specs.Listing.{understood}
 use Rattle.sqlite.specs.State.{State, ExecutesInside, Shown}
 use Rattle.sql_rows.specs.Rows.{number_value}
 use Rattle.sql_rows.proofs.Appends.{are_kept}
-use Rattle.sql_rows.proofs.Queries.{Selects, plain_query, truth_of}
+use Rattle.sql_rows.proofs.Queries.{Selects, plain_query}
 use Rattle.sql_rows.proofs.ColumnTests.{number_test, number_tested, text_test, text_tested, two_tested}
 use Rattle.sql_rows.proofs.Projects.{projects_count}
 use Rattle.shop_model.specs.Calendar.{Moment, moment_text}
@@ -57,24 +51,6 @@ unfolding understood everything
 read_of_customer b n =
     reads_which rentals seen_rental_row select_of_customer (equals 0 (1 ∷ 5 ∷ [])) (record { names = _; is = refl; plain = (refl, refl); unlisted = refl }) (number_value b ∷ number_value n ∷ []) b
     (λ vs. number_test 0 b vs && (number_test 4 n vs && true)) (λ it. it.customer == n) (λ row. two_tested _ _ (number_tested row.branch b) (number_tested row.it.customer n)) (λ r. refl)
-
--- `column IS NULL`, as WHERE has it
-abbrev null_test : ℕ → sql.Row → Bool
-null_test at vs = is_true (binary (Is Binary) (column vs at) Null)
-
-null_tested : (o : Option Moment) → is_true (binary (Is Binary) (or_null moment_value o) Null) ≡ is_none o
-unfolding binary
-null_tested None = truth_of _ ∙ ap is_eq (value_cmp-Null Null)
-null_tested (Some moment) = truth_of _ ∙ ap is_eq (value_cmp-apart (moment_value moment) Null (λ e. omega (arith, e)))
-
-abbrev select_open : List ℕ
-select_open = codes "SELECT branch, number, moment, copy, customer, returned, staff FROM rental WHERE branch = ?1 AND returned IS NULL ORDER BY number"
-
-pub read_open : (b : ℕ) → ReadsWhich rentals seen_rental_row select_open (number_value b ∷ []) b (λ it. is_none it.returned)
-unfolding understood everything
-read_open b =
-    reads_which rentals seen_rental_row select_open (op2 (Compare Eq Binary) (col 1 1) (col 0 0) ∷ op2 (Is Binary) (col 1 6) (lit Null) ∷ []) (record { names = _; is = refl; plain = (refl, refl); unlisted = refl }) (number_value b ∷ []) b
-    (λ vs. number_test 0 b vs && (null_test 5 vs && true)) (λ it. is_none it.returned) (λ row. two_tested _ _ (number_tested row.branch b) (null_tested row.it.returned)) (λ r. refl)
 
 abbrev update_returned : List ℕ
 update_returned = codes "UPDATE rental SET returned = ?3 WHERE branch = ?1 AND number = ?2"

@@ -1,7 +1,9 @@
-ghost use Rattle.std.specs.Prelude.{◌≡◌, ◌+◌, ⊤, [], ◌∷◌, Some, IfOk, OnOk, map, filter, option_to_list};
+ghost use Rattle.std.specs.Prelude.{◌≡◌, ◌+◌, ⊤, [], ◌∷◌, Some, IfOk, OnOk, is_none, map, filter, option_to_list};
 ghost use Rattle.sqlite.specs.Held.{state};
 ghost use Rattle.sqlite.specs.State.{HasCleanDisk};
+ghost use Rattle.sqlite_value.specs.Order.{column};
 ghost use Rattle.sql_rows.specs.Calls.{StaysInside};
+ghost use Rattle.sql_rows.specs.Rows.{number_value};
 ghost use Rattle.shop_model.specs.Rows.{numbered, of};
 ghost use Rattle.shop_model.specs.Stock.{keeps_out};
 ghost use Rattle.shop_schema.specs.Counts.{count_in, is_count, raise, put_out, drop_out};
@@ -12,7 +14,8 @@ use shop_schema::row_number_at;
 use shop_types::{BranchNo, CopyNo, RentalNo};
 use sql_rows::{StoreFault, execute, number_at, query};
 use sqlite::types::ToSql;
-use sqlite::{Alter, Transaction};
+use sqlite::{Alter, Row, Transaction};
+use std::alloc::Global;
 
 /// The kinds of rows that are counted for each branch.
 #[derive(Clone, Copy, Debug, PartialEq, Eq)]
@@ -124,6 +127,38 @@ pub fn out_at<S: Alter>(
         None => Ok(None),
         Some(row) => Ok(Some(row_number_at(row, 0)?)),
     }
+}
+
+/// The numbers of the branch's rentals whose copies are out, in order. As many rows are read, however many rentals there are.
+pub fn rentals_out<S: Alter>(
+    tx: &mut Transaction<'_, S>,
+    alloc: Global,
+    branch: BranchNo,
+) -> Result<Vec<RentalNo>, StoreFault>
+    ensures same_reference { tx.new.conn.ghost_name ≡ tx.old.conn.ghost_name }
+    ensures inside { StaysInside (state S.Store tx.old.conn.now) (state S.Store tx.new.conn.now) result }
+    ensures found { HasCleanDisk (state S.Store tx.new.conn.now) → IfOk result (λ rentals. Reads (state S.Store tx.old.conn.now) (state S.Store tx.new.conn.now)
+        (λ books. rentals.items ≡ map (λ it. it.0) (filter (λ it. is_none it.1.returned) (numbered (of branch books.rentals))))) }
+{
+    let rows = query(
+        tx,
+        "SELECT rental FROM out_copy WHERE branch = ?1 ORDER BY rental",
+        &[branch.get().to_sql()],
+    )?;
+    rentals_in(alloc, rows.as_slice())
+}
+
+/// The numbers in the first column of the rows, in their order.
+fn rentals_in(alloc: Global, rows: &[Row]) -> Result<Vec<RentalNo>, StoreFault>
+    ensures { IfOk result (λ rentals. map number_value rentals.items ≡ map (λ row. column row 0) rows.now) }
+{
+    let mut rentals = Vec::new(alloc);
+    for row in rows {
+        if rentals.push(row_number_at(row, 0)?).is_err() {
+            return Err(StoreFault::Memory);
+        }
+    }
+    Ok(rentals)
 }
 
 /// Notes that the branch's copy is out by the rental. After a fault the transaction may be rolled back.

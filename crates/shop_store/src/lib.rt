@@ -14,10 +14,12 @@ pub use branches::{last_at, set_last};
 pub use copies::{
     CopyRow, CopyState, Mark, copies_of_film, copy_at, has_lot, put_copy, put_lot, set_state,
 };
-pub use counts::{CountKind, count_of, drop_out, out_at, put_out, raise_count, take_number};
+pub use counts::{
+    CountKind, count_of, drop_out, out_at, put_out, raise_count, rentals_out, take_number,
+};
 pub use customers::{CustomerRow, customer_at, customers_of, put_customer, set_active};
 pub use kept::{KeptRow, kept_at, put_kept};
-pub use payments::{PaymentRow, payments_of, payments_of_customer, put_payment};
+pub use payments::{PaymentRow, payments_between, payments_of_customer, put_payment};
 pub use rentals::{
-    RentalRow, has_rental, open_rentals, put_rental, rental_at, rentals_of_customer, set_returned,
+    RentalRow, has_rental, put_rental, rental_at, rentals_of_customer, set_returned,
 };

@@ -1,4 +1,4 @@
-ghost use Rattle.std.specs.Prelude.{⊤, ◌≡◌, ◌≢◌, ◌==◌, ◌≤◌, ◌<◌, ℕ, [], ◌∷◌, ◌++◌, OnOk, IfOk, IfErr, filter, map, length};
+ghost use Rattle.std.specs.Prelude.{⊤, ◌≡◌, ◌≢◌, ◌==◌, ◌&&◌, ◌≤◌, ◌<◌, ℕ, [], ◌∷◌, ◌++◌, OnOk, IfOk, IfErr, filter, map, length};
 ghost use Rattle.sqlite.specs.Held.{state};
 ghost use Rattle.sqlite.specs.State.{HasCleanDisk};
 ghost use Rattle.sqlite.specs.Values.{bound, or_null};
@@ -7,7 +7,7 @@ ghost use Rattle.sqlite_value.specs.Value.{owned};
 ghost use Rattle.sql_rows.specs.Calls.{StaysInside};
 ghost use Rattle.sql_rows.specs.Rows.{number_value};
 ghost use Rattle.sql_rows.specs.declared.fault.StoreFault.TheVariants.{Failed};
-ghost use Rattle.shop_model.specs.Calendar.{moment_text};
+ghost use Rattle.shop_model.specs.Calendar.{moment_text, is_by, is_earlier};
 ghost use Rattle.shop_model.specs.Rows.{of};
 ghost use Rattle.shop_types.specs.Seen.{seen_payment};
 ghost use Rattle.shop_schema.specs.Columns.{payment_columns};
@@ -16,7 +16,7 @@ ghost use Rattle.shop_schema.specs.Shop.{Reads, Writes};
 ghost use Rattle.shop_store.specs.Seen.{seen_payment_row};
 
 use shop_schema::{MomentText, moment_at, row_number_at, row_number_or_null_at};
-use shop_types::{Amount, BranchNo, CustomerNo, Payment, PaymentNo, RentalNo};
+use shop_types::{Amount, BranchNo, CustomerNo, Moment, Payment, PaymentNo, RentalNo};
 use sql_rows::{StoreFault, Stored, execute, number_at, query, read_all};
 use sqlite::types::{ToSql, ValueRef};
 use sqlite::{Alter, Row, Transaction};
@@ -111,20 +111,31 @@ pub fn payments_of_customer<S: Alter>(
     read_all(alloc, rows.as_slice())
 }
 
-/// All payments of the branch, in order of number. After a fault the transaction may be rolled back.
-pub fn payments_of<S: Alter>(
+/// The branch's payments from the one moment on and before the other, in order of number. After a fault the transaction may be rolled back.
+pub fn payments_between<S: Alter>(
     tx: &mut Transaction<'_, S>,
     alloc: Global,
     branch: BranchNo,
+    start: Moment,
+    end: Moment,
 ) -> Result<Vec<PaymentRow>, StoreFault>
     ensures same_reference { tx.new.conn.ghost_name ≡ tx.old.conn.ghost_name }
     ensures inside { StaysInside (state S.Store tx.old.conn.now) (state S.Store tx.new.conn.now) result }
-    ensures rows { HasCleanDisk (state S.Store tx.new.conn.now) → IfOk result (λ rows. Reads (state S.Store tx.old.conn.now) (state S.Store tx.new.conn.now) (λ books. map (λ row. seen_payment row.payment) rows.items ≡ of branch books.payments)) }
+    ensures rows { HasCleanDisk (state S.Store tx.new.conn.now) → IfOk result (λ rows. Reads (state S.Store tx.old.conn.now) (state S.Store tx.new.conn.now)
+        (λ books. map (λ row. seen_payment row.payment) rows.items ≡ filter (λ it. is_by start it.paid && is_earlier it.paid end) (of branch books.payments))) }
 {
+    let _real = start.text();
+    let _also = end.text();
+    let first = MomentText::of(start);
+    let past = MomentText::of(end);
     let rows = query(
         tx,
-        "SELECT branch, number, customer, staff, rental, amount, moment FROM payment WHERE branch = ?1 ORDER BY number",
-        &[branch.get().to_sql()],
+        "SELECT branch, number, customer, staff, rental, amount, moment FROM payment WHERE branch = ?1 AND moment >= ?2 AND moment < ?3 ORDER BY number",
+        &[
+            branch.get().to_sql(),
+            first.as_str().to_sql(),
+            past.as_str().to_sql(),
+        ],
     )?;
     read_all(alloc, rows.as_slice())
 }

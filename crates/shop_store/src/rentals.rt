@@ -1,4 +1,4 @@
-ghost use Rattle.std.specs.Prelude.{⊤, ◌≡◌, ◌==◌, ◌&&◌, [], ◌∷◌, ◌++◌, Some, OnOk, IfOk, is_none, filter, map, option_map, option_to_list};
+ghost use Rattle.std.specs.Prelude.{⊤, ◌≡◌, ◌==◌, ◌&&◌, [], ◌∷◌, ◌++◌, Some, OnOk, IfOk, filter, map, option_map, option_to_list};
 ghost use Rattle.sqlite.specs.Held.{state};
 ghost use Rattle.sqlite.specs.State.{HasCleanDisk};
 ghost use Rattle.sqlite.specs.Values.{bound};
@@ -129,25 +129,6 @@ pub fn rentals_of_customer<S: Alter>(
         tx,
         "SELECT branch, number, moment, copy, customer, returned, staff FROM rental WHERE branch = ?1 AND customer = ?2 ORDER BY number",
         &[branch.get().to_sql(), customer.get().to_sql()],
-    )?;
-    read_all(alloc, rows.as_slice())
-}
-
-/// The branch's rentals whose copies are not back, in order of number. After a fault the transaction may be rolled back.
-pub fn open_rentals<S: Alter>(
-    tx: &mut Transaction<'_, S>,
-    alloc: Global,
-    branch: BranchNo,
-) -> Result<Vec<RentalRow>, StoreFault>
-    ensures same_reference { tx.new.conn.ghost_name ≡ tx.old.conn.ghost_name }
-    ensures inside { StaysInside (state S.Store tx.old.conn.now) (state S.Store tx.new.conn.now) result }
-    ensures rows { HasCleanDisk (state S.Store tx.new.conn.now) → IfOk result (λ rows. Reads (state S.Store tx.old.conn.now) (state S.Store tx.new.conn.now)
-        (λ books. map (λ row. seen_rental row.rental) rows.items ≡ filter (λ it. is_none it.returned) (of branch books.rentals))) }
-{
-    let rows = query(
-        tx,
-        "SELECT branch, number, moment, copy, customer, returned, staff FROM rental WHERE branch = ?1 AND returned IS NULL ORDER BY number",
-        &[branch.get().to_sql()],
     )?;
     read_all(alloc, rows.as_slice())
 }

@@ -85,6 +85,24 @@ impl Moment {
         })
     }
 
+    /// The first second of a month.
+    pub fn month_start(year: u16, month: u8) -> Moment
+        requires year_low { 1970 ≤ year }
+        requires year_high { year ≤ 9999 }
+        requires month_low { 1 ≤ month }
+        requires month_high { month ≤ 12 }
+        ensures { result ≡ record { year = year; month = month; day = 1; hour = 0; minute = 0; second = 0 } }
+    {
+        Moment {
+            year,
+            month,
+            day: 1,
+            hour: 0,
+            minute: 0,
+            second: 0,
+        }
+    }
+
     /// The moment that the 19 bytes `YYYY-MM-DDTHH:MM:SS` write: a date of the calendar from 1970 to 9999 and a time of day.
     pub fn read(text: &str) -> Option<Moment>
         ensures some { IfSome result (λ m. IsTextOf text.now m) }

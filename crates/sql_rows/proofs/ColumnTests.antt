@@ -1,6 +1,8 @@
--- Tests of columns by a number or a text, and columns that may be NULL.
-use Rattle.std.proofs.Common.{◌≡◌, ◌==◌, ◌&&◌, ℕ, pos, Bool, true, false, Option, Some, None, List, refl, sym, ap, is_eq, ◌∙◌}
+-- Tests of columns by a number, a text or a range of texts, and columns that may be NULL.
+use Rattle.std.proofs.Common.{◌≡◌, ◌==◌, ◌&&◌, ℕ, pos, Bool, true, false, Option, Some, None, List, refl, sym, ap, is_eq, is_lt, ◌∙◌}
 use Rattle.std.specs.Str.{bytes_eq}
+use Rattle.std.specs.Ordering.{nat_cmp, is_ge}
+use Rattle.std.specs.Cmp.Lexicographic.{slice_cmp}
 use Rattle.std.proofs.lemmas.Map.Text.{is_eq-slice_cmp}
 use Rattle.sqlite.specs.declared.types.Value.{Value}
 use Rattle.sqlite.specs.declared.types.Value.TheVariants.{Int, Text, Null}
@@ -10,7 +12,7 @@ use Rattle.sqlite_value.specs.declared.keys.Collation.TheVariants.{Binary}
 use Rattle.sqlite_value.proofs.OrderLemmas.{value_cmp-Text}
 use Rattle.sqlite_schema.specs.declared.schema.Kind.TheVariants as kind
 use Rattle.sqlite_sql.specs.declared.ops.BinaryOp.TheVariants.{Compare}
-use Rattle.sqlite_sql.specs.declared.ops.CompareOp.TheVariants.{Eq}
+use Rattle.sqlite_sql.specs.declared.ops.CompareOp.TheVariants.{Eq, Lt, Ge}
 use Rattle.sqlite_sql.specs.Ops.{binary, is_true}
 use Rattle.sql_rows.specs.Rows.{number_value, flag_value}
 use Rattle.sql_rows.proofs.Appends.{is_kept}
@@ -33,6 +35,21 @@ test_of vs at m n is = ap (λ v. is_true (binary (Compare Eq Binary) v (Int (pos
 pub text_tested : (s t : List ℕ) → is_true (binary (Compare Eq Binary) (Text s) (Text t)) ≡ bytes_eq s t
 unfolding binary
 text_tested s t = truth_of _ ∙ ap is_eq (value_cmp-Text s t) ∙ is_eq-slice_cmp s t
+
+-- `column >= text` and `column < text`, by the order of bytes
+abbrev pub from_test : ℕ → List ℕ → Row → Bool
+from_test at t vs = is_true (binary (Compare Ge Binary) (column vs at) (Text t))
+
+abbrev pub before_test : ℕ → List ℕ → Row → Bool
+before_test at t vs = is_true (binary (Compare Lt Binary) (column vs at) (Text t))
+
+pub from_tested : (s t : List ℕ) → is_true (binary (Compare Ge Binary) (Text s) (Text t)) ≡ is_ge (slice_cmp nat_cmp s t)
+unfolding binary
+from_tested s t = truth_of _ ∙ ap is_ge (value_cmp-Text s t)
+
+pub before_tested : (s t : List ℕ) → is_true (binary (Compare Lt Binary) (Text s) (Text t)) ≡ is_lt (slice_cmp nat_cmp s t)
+unfolding binary
+before_tested s t = truth_of _ ∙ ap is_lt (value_cmp-Text s t)
 
 -- a list of tests ends with `true`
 pub and_true : (b : Bool) → (b && true) ≡ b

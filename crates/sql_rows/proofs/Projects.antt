@@ -1,23 +1,26 @@
 -- What a SELECT of some columns shows, and what a call says of the books.
-use Rattle.std.proofs.Common.{◌≡◌, ◌≤◌, ℕ, List, [], ◌∷◌, map, filter, length, Bool, cond, sym, ap, subst, ◌∙◌, IsPermutation}
+use Rattle.std.proofs.Common.{◌≡◌, ◌≤◌, ℕ, suc, List, [], ◌∷◌, map, filter, length, Bool, cond, sym, ap, subst, ◌∙◌, IsPermutation}
 use Rattle.std.specs.List.{list_all}
 use Rattle.std.proofs.lemmas.List.Sorted.{IsPermutation-sym, length_permutation}
-use Rattle.sqlite_value.specs.Order.{Row}
+use Rattle.sqlite_value.specs.Order.{Row, column}
+use Rattle.sqlite_value.specs.Keys.{ascending}
+use Rattle.sqlite_value.specs.declared.keys.Collation.TheVariants.{Binary}
 use Rattle.sqlite_trees.specs.Tree.{Trees}
-use Rattle.sqlite_sql.specs.Term.{Term, holds}
+use Rattle.sqlite_sql.specs.Term.{Term, col, holds}
 use Rattle.sqlite_sql.specs.Query.{Query, Output, output}
 use Rattle.sqlite_sql.specs.Program.{overlay}
 use Rattle.sqlite.specs.Schema.{Schema}
 use Rattle.sqlite.specs.Effect.{Database}
 use Rattle.sqlite.specs.Listing.{understood}
 use Rattle.sqlite.specs.State.{State, Shown}
+use Rattle.sqlite_keyed.specs.Lists.{sort_by}
 use Rattle.sqlite.proofs.Callers.{IsPlain}
-use Rattle.sql_rows.specs.Rows.{HasRows, AreKeyed, columns_of, PicksOne}
+use Rattle.sql_rows.specs.Rows.{HasRows, AreKeyed, columns_of, PicksOne, by, Differ, number_value}
 use Rattle.sql_rows.specs.Books.{IsOf, Changes}
 use Rattle.sql_rows.specs.Calls.{Holds, Writes}
-use Rattle.sql_rows.proofs.Bags.{short_bag, length-map}
+use Rattle.sql_rows.proofs.Bags.{short_bag, length-map, no_ties}
 use Rattle.sql_rows.proofs.Inside.{shown_same}
-use Rattle.sql_rows.proofs.Queries.{Selects, plain_query, answers, reads_bag}
+use Rattle.sql_rows.proofs.Queries.{Selects, plain_query, answers, reads_bag, reads_sorted, number_cmp, last_key}
 
 -- `seen` is the filter and `show` the columns that are shown, both written over the columns; `tests_are` says that of a value's columns the filter is `p`
 module _ {X : Type 0} (schema : Schema) (sql : List ℕ) (tree width : ℕ) (tests shown : List Term) (means : Selects schema sql (plain_query tree tests shown []))
@@ -44,6 +47,22 @@ module _ {X : Type 0} (schema : Schema) (sql : List ℕ) (tree width : ℕ) (tes
     -- as many rows as values
     pub projects_count : length rows ≡ length (filter p xs)
     projects_count = length_permutation _ _ projects_bag ∙ length-map {A = X} (λ x. show (columns x)) (filter p xs)
+
+-- some columns, in the order of the number in one of them
+module _ {X : Type 0} (schema : Schema) (sql : List ℕ) (tree width : ℕ) (tests shown : List Term) (place : ℕ)
+    (means : Selects schema sql (plain_query tree tests shown ((col 1 (suc place), ascending Binary) ∷ [])))
+    (params : Row) (old new : State) (rows : List Row) (has : IsOf schema old) (h : Shown sql params old new rows)
+    (columns : X → Row) (xs : List X) (s : HasRows width (old.now.trees tree) (map columns xs)) (low : overlay old.now.trees [] tree ≡ old.now.trees tree)
+    (seen : Row → Bool) (show : Row → Row) (p : X → Bool) (tests_are : (x : X) → seen (columns x) ≡ p x) where
+  abbrev sorted : Query
+  sorted = plain_query tree tests shown ((col 1 (suc place), ascending Binary) ∷ [])
+
+  pub projects_sorted : ((r : Row) → cond (list_all (holds (params ∷ r ∷ [])) tests) (output sorted (params ∷ r ∷ []) ∷ []) [] ≡ cond (seen (columns_of width r)) ((column (columns_of width r) place ∷ [], show (columns_of width r)) ∷ []) [])
+      → (number : X → ℕ) → ((x : X) → column (columns x) place ≡ number_value (number x)) → Differ number (filter p xs) → rows ≡ map (λ x. show (columns x)) (sort_by (by number) (filter p xs))
+  projects_sorted only number numbers apart =
+      reads_sorted tree tests shown ((col 1 (suc place), ascending Binary) ∷ []) params old.now.trees columns xs (columns_of width) s low (λ vs. cond (seen vs) ((column vs place ∷ [], show vs) ∷ []) []) only p
+      (λ x. (number_value (number x) ∷ [], show (columns x))) (λ x. (λ i. cond (tests_are x i) ((numbers x i ∷ [], show (columns x)) ∷ []) [])) rows (answers schema sql sorted params old new has means rows h)
+      (by number) (λ x y. last_key _ ∙ number_cmp (number x) (number y)) (no_ties number (filter p xs) apart)
 
 module _ {B : Type 0} (schema : Schema) (Stands : Trees → B → Type 0) where
   -- a query leaves the tables as they were

@@ -1,6 +1,5 @@
-use Rattle.std.proofs.Common.{◌≡◌, ◌∙◌, ◌+◌, sym, ap, arith, ℕ, List, [], ◌∷◌, ◌++◌, map}
-use Rattle.shop_types.specs.Seen.{seen_payment}
-use Rattle.branch_work.specs.Finds.{rewarded_numbers}
+use Rattle.std.proofs.Common.{◌≡◌, ◌∙◌, ◌+◌, sym, ap, arith, ℕ, List, [], ◌∷◌, ◌++◌}
+use Rattle.branch_work.specs.Finds.{payments_of, rewarded_numbers}
 use Rattle.branch_work.proofs.RewardLemmas.{number_is, rewarded_more, rewarded_same}
 use Rattle.branch_work.proofs.rewards.rewarded_among.Goals as goal
 use Rattle.branch_work.proofs.rewards.rewarded_among.Goals.{then-branch+in-Ok, else-branch}
@@ -9,7 +8,7 @@ pub loop-index-preserved : goal.loop-index-preserved
 loop-index-preserved c =
     let i = c.loop-index.index in
     let customer = c.unwrap-customer.result in
-    let payments = map seen_payment c.args.payments.now in
+    let payments = payments_of c.args.rows.now in
     let before = c.loop-index.invariant in
     let number : customer ≡ i + 1 = number_is i customer c.new.result c.new.ensures c.unwrap-customer.ensures in
     elim c.if-branch.branch [
@@ -23,4 +22,4 @@ loop-index-preserved c =
 pub returns : goal.returns
 returns c =
     let all : c.loop-index.index ≡ c.args.customers = omega (arith, c.loop-index-test.false, c.loop-index.auto.index-end) in
-    c.loop-index.invariant ∙ ap (λ (n : ℕ). rewarded_numbers c.args.month c.args.purchases c.args.cents n (map seen_payment c.args.payments.now)) all
+    c.loop-index.invariant ∙ ap (λ (n : ℕ). rewarded_numbers c.args.month c.args.purchases c.args.cents n (payments_of c.args.rows.now)) all
