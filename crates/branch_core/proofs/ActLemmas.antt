@@ -1,18 +1,20 @@
 -- Refusals of commands on a customer, a copy, a rental or a payment, by what was found of it.
-use Rattle.std.proofs.Common.{◌≡◌, ◌⊎◌, refl, sym, ap, ◌∙◌, inl, inr, ℕ, ◌+◌, ◌-◌, Bool, true, false, not, List, [], ◌∷◌, map, filter, Option, Some, None}
+use Rattle.std.proofs.Common.{◌≡◌, ◌⊎◌, refl, sym, ap, ◌∙◌, inl, inr, ℕ, ◌+◌, ◌-◌, Bool, true, false, not, List, [], ◌∷◌, map, filter, Option, Some, None, option_map}
 use Rattle.std.specs.Prelude.{◌==◌, ◌&&◌, is_some}
 use Rattle.std.specs.Option.{option_to_list}
 use Rattle.std.specs.List.{list_any}
 use Rattle.std.proofs.lemmas.Bool.{cases_Bool}
 use Rattle.shop_model.specs.Calendar.{Moment, same_moment}
-use Rattle.shop_model.specs.Rows.{at, lacks, is_empty, numbered_from}
+use Rattle.shop_model.specs.Rows.{at, is_empty, numbered_from}
 use Rattle.shop_model.specs.Values.{Copy, Customer, Rental, SetActive, Rent, TakeBack, Pay, Scrap, Rules}
 use Rattle.shop_model.specs.Shop.{Catalogue, Shop, same_flag}
 use Rattle.shop_model.specs.Stock.{is_here, keeps_out, in_stock}
-use Rattle.shop_model.specs.Refusals.{NoCustomer, NoCopy, CopyNotHere, CopyOut, FilmWithdrawn, SameMoment, Already}
+use Rattle.shop_model.specs.Refusals.{NoCustomer, NoCopy, CopyNotHere, CopyOut, FilmWithdrawn, SameMoment, RentalReturned, Already}
 use Rattle.shop_model.specs.Verdict.{Verdict, Refused, Accepted, first, act_refusals, is_film_withdrawn}
 use Rattle.shop_model.specs.Books.{head}
-use Rattle.branch_core.specs.Agreed.{active_at, copy_at, renter_at, open_of}
+use Rattle.branch_core.specs.declared.found.CopyFound.{CopyFound}
+use Rattle.branch_core.specs.declared.found.RentalFound.{RentalFound}
+use Rattle.branch_core.specs.Agreed.{active_at, copy_at, rental_at, open_of, seen_copy, seen_rental}
 
 -- there is one row of a number at most
 at_one : {A : Type 0} (n : ℕ) (rows : List A) → (at n rows ≡ []) ⊎ ((x : A) × (at n rows ≡ x ∷ []))
@@ -43,6 +45,18 @@ found_some f n rows b is = elim (at_one n rows) [
 
     inside : {C : Type 0} {x y : C} → ◌≡◌ {A = Option C} (Some x) (Some y) → x ≡ y
     inside e = cc
+
+pub is_not : (b : Bool) → not b ≡ true → b ≡ false
+is_not true e = sym e
+is_not false e = refl
+
+pub is_so : (b : Bool) → not b ≡ false → b ≡ true
+is_so true e = refl
+is_so false e = sym e
+
+-- the copy as it was found
+pub seen : (found : Option CopyFound) (it : CopyFound) (catalogue : Catalogue) (shop : Shop) (x : ℕ) → found ≡ Some it → option_map seen_copy found ≡ copy_at catalogue shop x → Some (seen_copy it) ≡ copy_at catalogue shop x
+seen found it catalogue shop x is copy = ap (option_map seen_copy) (sym is) ∙ copy
 
 -- ---- whether a customer may rent
 
@@ -75,32 +89,71 @@ out_stock x rentals out is = ap not (open_some 1 x rentals ∙ ap (λ (ns : List
 
 -- ---- taking back
 
-pub return_open : (rules : Rules) (b : ℕ) (catalogue : Catalogue) (shop : Shop) (moment : Moment) (r : ℕ) → Some false ≡ head (map (λ (it : Rental). is_some it.returned) (at r shop.rentals))
-    → Some Accepted ≡ Some (first (act_refusals rules b catalogue shop moment (TakeBack r)))
-return_open rules b catalogue shop moment r is = let one = found_some (λ (it : Rental). is_some it.returned) r shop.rentals false is in rw (one.1, one.2) refl
+-- the rental as it was found
+pub found_rental : (found : Option RentalFound) (it : RentalFound) (shop : Shop) (r : ℕ) → found ≡ Some it → option_map seen_rental found ≡ rental_at shop r → Some (seen_rental it) ≡ rental_at shop r
+found_rental found it shop r is rental = ap (option_map seen_rental) (sym is) ∙ rental
+
+module _ (rules : Rules) (b : ℕ) (catalogue : Catalogue) (shop : Shop) (moment : Moment) (r c x : ℕ) where
+  abbrev told : Rental → ℕ × ℕ × Bool
+  told it = (it.customer, it.copy, is_some it.returned)
+
+  pub return_open : (back : Bool) → Some (c, x, back) ≡ rental_at shop r → back ≡ false → Some Accepted ≡ Some (first (act_refusals rules b catalogue shop moment (TakeBack r)))
+  return_open back is not_back =
+      let one = found_some told r shop.rentals (c, x, back) is in
+      let still : is_some one.0.returned ≡ false = ap (λ (p : ℕ × ℕ × Bool). p.2) one.2 ∙ not_back in
+      rw (one.1, still) refl
+
+  pub return_back : (back : Bool) → Some (c, x, back) ≡ rental_at shop r → back ≡ true → Some (Refused RentalReturned) ≡ Some (first (act_refusals rules b catalogue shop moment (TakeBack r)))
+  return_back back is so =
+      let one = found_some told r shop.rentals (c, x, back) is in
+      let came : is_some one.0.returned ≡ true = ap (λ (p : ℕ × ℕ × Bool). p.2) one.2 ∙ so in
+      rw (one.1, came) refl
+
+-- the copy that comes back
+pub return_copy : (shop : Shop) (r c x : ℕ) (back : Bool) → Some (c, x, back) ≡ rental_at shop r → Some x ≡ head (map (λ (it : Rental). it.copy) (at r shop.rentals))
+return_copy shop r c x back is =
+    let one = found_some (λ (it : Rental). let p : ℕ × ℕ × Bool = (it.customer, it.copy, is_some it.returned) in p) r shop.rentals (c, x, back) is in
+    let copy : one.0.copy ≡ x = ap (λ (p : ℕ × ℕ × Bool). p.1) one.2 in
+    rw (one.1, copy) refl
 
 -- ---- paying
 
-is_there : (lack : Bool) → true ≡ not lack → lack ≡ false
-is_there true is = is
-is_there false is = refl
+pub is_there : {A : Type 0} (o : Option A) → is_some o ≡ true → (x : A) × (o ≡ Some x)
+is_there None e = cc
+is_there (Some x) e = (x, refl)
 
--- a payment of a rental by the customer who made it
-pub pay_own : (rules : Rules) (b : ℕ) (catalogue : Catalogue) (shop : Shop) (moment : Moment) (c r amount renter : ℕ) (has : Bool) → has ≡ not (lacks shop.customers c) → has ≡ true
-    → Some renter ≡ renter_at shop r → (renter == c) ≡ true → Some Accepted ≡ Some (first (act_refusals rules b catalogue shop moment (Pay c (Some r) amount)))
-pay_own rules b catalogue shop moment c r amount renter has is so found own =
-    let one = found_some (λ (it : Rental). it.customer) r shop.rentals renter found in
-    let same : (one.0.customer == c) ≡ true = ap (λ (n : ℕ). n == c) one.2 ∙ own in
-    rw (is_there (lacks shop.customers c) (sym so ∙ is), one.1, same) refl
+-- a payment of the rental by the customer who made it
+pub pay_own : (rules : Rules) (b : ℕ) (catalogue : Catalogue) (shop : Shop) (moment : Moment) (c r amount renter x : ℕ) (active back : Bool) → Some active ≡ active_at c shop
+    → Some (renter, x, back) ≡ rental_at shop r → (renter == c) ≡ true → Some Accepted ≡ Some (first (act_refusals rules b catalogue shop moment (Pay c (Some r) amount)))
+pay_own rules b catalogue shop moment c r amount renter x active back there found own =
+    let who = found_some (λ (it : Customer). it.active) c shop.customers active there in
+    let one = found_some (λ (it : Rental). let p : ℕ × ℕ × Bool = (it.customer, it.copy, is_some it.returned) in p) r shop.rentals (renter, x, back) found in
+    let same : (one.0.customer == c) ≡ true = ap (λ (p : ℕ × ℕ × Bool). p.0 == c) one.2 ∙ own in
+    rw (who.1, one.1, same) refl
 
 -- ---- scrapping
 
-module _ (rules : Rules) (b : ℕ) (catalogue : Catalogue) (shop : Shop) (moment : Moment) (x : ℕ) (is : Some true ≡ head (map is_here (at x shop.copies))) where
-  pub scrap_in : in_stock x shop.rentals ≡ true → Some Accepted ≡ Some (first (act_refusals rules b catalogue shop moment (Scrap x)))
-  scrap_in stock = let one = found_some is_here x shop.copies true is in rw (one.1, one.2, stock) refl
+module _ (rules : Rules) (b : ℕ) (catalogue : Catalogue) (shop : Shop) (moment : Moment) (x : ℕ) (here withdrawn : Bool) (is : Some (here, withdrawn) ≡ copy_at catalogue shop x) where
+  abbrev Scraps : Verdict → Type 0
+  Scraps v = Some v ≡ Some (first (act_refusals rules b catalogue shop moment (Scrap x)))
 
-  pub scrap_out : in_stock x shop.rentals ≡ false → Some (Refused CopyOut) ≡ Some (first (act_refusals rules b catalogue shop moment (Scrap x)))
-  scrap_out stock = let one = found_some is_here x shop.copies true is in rw (one.1, one.2, stock) refl
+  pub scrap_away : here ≡ false → Scraps (Refused CopyNotHere)
+  scrap_away away =
+      let what = found_some (λ (it : Copy). (is_here it, is_film_withdrawn catalogue it.film)) x shop.copies (here, withdrawn) is in
+      let at_shop : is_here what.0 ≡ false = ap (λ (p : Bool × Bool). p.0) what.2 ∙ away in
+      rw (what.1, at_shop) refl
+
+  pub scrap_out : here ≡ true → in_stock x shop.rentals ≡ false → Scraps (Refused CopyOut)
+  scrap_out there stock =
+      let what = found_some (λ (it : Copy). (is_here it, is_film_withdrawn catalogue it.film)) x shop.copies (here, withdrawn) is in
+      let at_shop : is_here what.0 ≡ true = ap (λ (p : Bool × Bool). p.0) what.2 ∙ there in
+      rw (what.1, at_shop, stock) refl
+
+  pub scrap_in : here ≡ true → in_stock x shop.rentals ≡ true → Scraps Accepted
+  scrap_in there stock =
+      let what = found_some (λ (it : Copy). (is_here it, is_film_withdrawn catalogue it.film)) x shop.copies (here, withdrawn) is in
+      let at_shop : is_here what.0 ≡ true = ap (λ (p : Bool × Bool). p.0) what.2 ∙ there in
+      rw (what.1, at_shop, stock) refl
 
 -- ---- renting
 

@@ -1,23 +1,23 @@
 -- Verdicts by what was found.
-use Rattle.std.proofs.Common.{◌≡◌, refl, sym, ap, ◌∙◌, inl, inr, ℕ, ◌-◌, Bool, false, not, ◌&&◌, List, [], ◌∷◌, map, filter, Option, Some, None, option_map, IfOk, Result, Global, Vec}
-use Rattle.std.specs.Prelude.{◌==◌}
+use Rattle.std.proofs.Common.{◌≡◌, refl, sym, ap, ◌∙◌, inl, inr, ℕ, ◌-◌, Bool, false, not, ◌&&◌, List, [], ◌∷◌, map, filter, Option, Some, None, option_map, subst, Result, Ok, Err}
+use Rattle.std.specs.Prelude.{◌==◌, IsErrAnd}
 use Rattle.std.specs.Str.{bytes_eq}
-use Rattle.std.specs.List.{All, list_any}
+use Rattle.std.specs.List.{list_any}
 use Rattle.std.proofs.lemmas.Bool.{cases_Bool}
 use Rattle.std.proofs.Math.Bool.{or-false}
-use Rattle.shop_model.specs.Calendar.{Moment}
 use Rattle.shop_model.specs.Rows.{at}
-use Rattle.shop_model.specs.Values.{Text, Stock, Staff, Act, Import, Command, Rules}
+use Rattle.shop_model.specs.Values.{Staff, Act, Command, Rules}
 use Rattle.shop_model.specs.Refusals as named
+use Rattle.shop_types.specs.declared.refusal.Refusal.{Refusal}
+use Rattle.shop_types.specs.Seen.{seen_refusal}
 use Rattle.shop_model.specs.Shop.{Kept, Catalogue, Shop}
-use Rattle.shop_model.specs.Verdict.{Verdict, Refused, Accepted, first, refusals, resent, verdict, staff_is, act_refusals, import_refusals}
+use Rattle.shop_model.specs.Verdict.{Verdict, Refused, Accepted, first, refusals, resent, verdict, staff_is}
 use Rattle.shop_model.specs.Books.{head}
-use Rattle.shop_types.specs.declared.refusal.BadCsv.{BadCsv}
 use Rattle.branch_core.specs.declared.found.KeptFound.{KeptFound}
-use Rattle.branch_core.specs.declared.found.StockFound.{StockFound}
-use Rattle.branch_core.specs.declared.found.ActFound.TheVariants as found
-use Rattle.branch_core.specs.Agreed.{RowAgrees, ActAgrees, kept_for, post_of, seen_kept, seen_stock}
-use Rattle.branch_core.specs.Decided.{decided, IsRefused}
+use Rattle.branch_core.specs.Agreed.{kept_for, post_of, seen_kept}
+use Rattle.branch_core.specs.declared.change.Rows.{Rows}
+use Rattle.branch_core.specs.declared.change.Change.{Change}
+use Rattle.branch_core.specs.Decided.{decided, verdict_before, verdict_by, IsRefused, IsActDecided, IsDecided}
 
 resent_new : (command : Command) (kept : List Kept) (new : Verdict) → None ≡ head (map (kept_for command) kept) → resent command kept new ≡ new
 resent_new command [] new is = refl
@@ -38,6 +38,34 @@ pub refused : (problem : named.Problem) (verdict : Verdict) (act : Act) → opti
 refused (named.Decision refusal) verdict act is = cc
 refused problem verdict act is = absurd (let none = is in cc)
 
+-- ---- tests that stop a command, and tests that it passes
+
+pub passed : {A : Type 0} (test : Result A Refusal) (x : A) (rest verdict : Verdict) → test ≡ Ok x → verdict_before test rest ≡ Some verdict → verdict ≡ rest
+passed test x rest verdict was said = let same : Some rest ≡ Some verdict = ap (λ t. verdict_before t rest) (sym was) ∙ said in cc
+
+-- a refusal that is handed on
+stopped : {A : Type 0} (test : Result A Refusal) (e y : Refusal) (rest verdict : Verdict) (act : Act) → test ≡ Err e → verdict_before test rest ≡ Some verdict → y ≡ e → IsRefused verdict act (seen_refusal y)
+stopped {A} test e y rest verdict act was said same =
+    refused (seen_refusal y) verdict act (ap (λ f. verdict_before {A = A} (Err f) rest) same ∙ ap (λ t. verdict_before t rest) (sym was) ∙ said)
+
+pub act_stopped : {A : Type 0} (rules : Rules) (command : Command) (shop : Shop) (test : Result A Refusal) (e : Refusal) (verdict : Verdict) (r : Result Rows Refusal) → test ≡ Err e → verdict_by test ≡ Some verdict
+    → IsErrAnd r (λ y. y ≡ e) → IsActDecided rules verdict command shop r
+act_stopped rules command shop test e verdict (Ok it) was said is = absurd is
+act_stopped rules command shop test e verdict (Err y) was said is = stopped test e y Accepted verdict command.act was said is
+
+module _ (rules : Rules) (b : ℕ) (catalogue : Catalogue) (shop : Shop) (command : Command) (new : verdict rules b catalogue shop command ≡ first (refusals rules b catalogue shop command)) where
+  pub command_stopped : {A : Type 0} (test : Result A Refusal) (e : Refusal) (rest : Verdict) (r : Result Change Refusal) → test ≡ Err e → verdict_before test rest ≡ Some (first (refusals rules b catalogue shop command))
+      → IsErrAnd r (λ y. y ≡ e) → IsDecided rules b catalogue shop command r
+  command_stopped test e rest (Ok it) was said is = absurd is
+  command_stopped test e rest (Err y) was said is =
+      subst (λ (v : Verdict). IsRefused v command.act (seen_refusal y)) (sym new) (stopped test e y rest (first (refusals rules b catalogue shop command)) command.act was said is)
+
+  pub act_refused : (e : Refusal) (rest : Verdict) (r : Result Change Refusal) → first (refusals rules b catalogue shop command) ≡ rest → IsRefused rest command.act (seen_refusal e)
+      → IsErrAnd r (λ y. y ≡ e) → IsDecided rules b catalogue shop command r
+  act_refused e rest (Ok it) same said is = absurd is
+  act_refused e rest (Err y) same said is =
+      subst (λ (v : Verdict). IsRefused v command.act (seen_refusal y)) (sym (new ∙ same)) (subst (λ (f : Refusal). IsRefused rest command.act (seen_refusal f)) (sym is) said)
+
 abbrev pub works_in : ℕ → Option (ℕ × Bool) → Bool
 works_in b None = false
 works_in b (Some post) = post.0 == b && not post.1
@@ -49,12 +77,3 @@ works b n (x ∷ rows) = elim (cases_Bool (n == 1)) [
   | inl here ↦ rw here (or-false (staff_is b x))
   | inr further ↦ rw further (works b (n - 1) rows)
 ]
-
--- what is found for an import is of no other act
-pub import_by : (rules : Rules) (b : ℕ) (catalogue : Catalogue) (shop : Shop) (moment : Moment) (asked : Act) (copies : ℕ) (has_lot : Bool) (stock : Result (Vec StockFound Global) BadCsv)
-    (verdict : Option Verdict)
-    → ((lot : Text) → IfOk stock (λ rows. All (RowAgrees catalogue) rows.items) → has_lot ≡ list_any (bytes_eq lot) shop.lots → verdict ≡ Some (first (import_refusals catalogue shop lot (seen_stock stock))))
-    → ActAgrees rules catalogue shop asked (found.Import copies has_lot stock) → verdict ≡ Some (first (act_refusals rules b catalogue shop moment asked))
-import_by rules b catalogue shop moment (Import lot file) copies has_lot stock verdict says agree =
-    says lot agree.rows agree.lot_in ∙ ap (λ (it : Stock). Some (first (import_refusals catalogue shop lot it))) agree.reading
-import_by rules b catalogue shop moment asked copies has_lot stock verdict says agree = absurd agree

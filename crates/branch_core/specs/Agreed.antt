@@ -1,5 +1,5 @@
 -- When what was found is what a catalogue and a shop have of the rows that a command names.
-use Rattle.std.specs.Prelude.{◌≡◌, ⊤, ℕ, ◌==◌, ◌&&◌, ◌≤◌, Bool, false, Option, option_to_list, is_some, not, List, map, filter, length, replicate, flat_map, sum_by, option_map, IfSome, Result, Ok, Err, IfOk}
+use Rattle.std.specs.Prelude.{◌≡◌, ℕ, ◌==◌, ◌&&◌, ◌≤◌, Bool, false, Option, Some, None, option_to_list, is_some, not, List, map, filter, length, replicate, flat_map, sum_by, option_map, IfSome, Result, Ok, Err, IfOk}
 use Rattle.std.specs.List.{All, list_any}
 use Rattle.std.specs.Str.{bytes_eq}
 use Rattle.std.specs.declared.alloc.Global.{Global}
@@ -12,16 +12,13 @@ use Rattle.shop_model.specs.Stock.{is_here, in_stock, keeps_out}
 use Rattle.shop_model.specs.Shop.{Kept, Catalogue, Shop, same_command, same_flag}
 use Rattle.shop_model.specs.Verdict.{is_film_withdrawn}
 use Rattle.shop_model.specs.Books.{head}
-use Rattle.shop_types.specs.declared.command.Act.{Act as Asked}
-use Rattle.shop_types.specs.declared.command.Act.TheVariants as asked
 use Rattle.shop_types.specs.declared.refusal.BadCsv.{BadCsv}
 use Rattle.branch_core.specs.declared.film_copies.FilmCopy.{FilmCopy}
 use Rattle.branch_core.specs.declared.found.KeptFound.{KeptFound}
 use Rattle.branch_core.specs.declared.found.StaffFound.{StaffFound}
 use Rattle.branch_core.specs.declared.found.StockFound.{StockFound}
 use Rattle.branch_core.specs.declared.found.CopyFound.{CopyFound}
-use Rattle.branch_core.specs.declared.found.ActFound.{ActFound}
-use Rattle.branch_core.specs.declared.found.ActFound.TheVariants as found
+use Rattle.branch_core.specs.declared.found.RentalFound.{RentalFound}
 use Rattle.branch_core.specs.declared.found.Found.{Found}
 
 -- ---- the kept row and the member of staff
@@ -60,17 +57,35 @@ pub record RowAgrees (catalogue : Catalogue) (row : StockFound) : Type 0 where
   pub there : row.is_there ≡ not (lacks catalogue.films row.film)
   pub withdrawn : row.is_withdrawn ≡ is_film_withdrawn catalogue row.film
 
--- ---- the act
+-- ---- the rows that an act names
 
-pub record CustomerAgrees (catalogue : Catalogue) (shop : Shop) (person : Person) (has_city : Bool) (customers : ℕ) : Type 0 where
-  pub city : has_city ≡ not (lacks catalogue.cities person.city)
-  pub count : customers ≡ length shop.customers
+-- the city of a new customer
+abbrev pub city_in : Act → Option ℕ
+city_in (AddCustomer person) = Some person.city
+city_in act = None
 
-pub record ImportAgrees (rules : Rules) (catalogue : Catalogue) (shop : Shop) (lot file : Text) (copies : ℕ) (has_lot : Bool) (stock : Result (Vec StockFound Global) BadCsv) : Type 0 where
-  pub count : copies ≡ length shop.copies
-  pub lot_in : has_lot ≡ list_any (bytes_eq lot) shop.lots
-  pub reading : seen_stock stock ≡ rules.stock_of file
-  pub rows : IfOk stock (λ rows. All (RowAgrees catalogue) rows.items)
+abbrev pub customer_in : Act → Option ℕ
+customer_in (SetActive c active) = Some c
+customer_in (Rent c x) = Some c
+customer_in (Pay c rental amount) = Some c
+customer_in act = None
+
+abbrev pub copy_in : Act → Option ℕ
+copy_in (Rent c x) = Some x
+copy_in (Scrap x) = Some x
+copy_in act = None
+
+abbrev pub rental_in : Act → Option ℕ
+rental_in (TakeBack r) = Some r
+rental_in (Pay c rental amount) = rental
+rental_in act = None
+
+-- the lot and the stock file of an import
+abbrev pub import_in : Act → Option (Text × Text)
+import_in (Import lot file) = Some (lot, file)
+import_in act = None
+
+-- ---- what a shop has of them
 
 -- whether the customer of the number may rent
 abbrev pub active_at : ℕ → Shop → Option Bool
@@ -90,50 +105,38 @@ open_of x rentals = map (λ (it : ℕ × model.Rental). it.0) (filter (λ (it : 
 abbrev pub IsOut : Shop → ℕ → Option ℕ → Type 0
 IsOut shop x out = option_to_list out ≡ open_of x shop.rentals
 
-pub record RentAgrees (catalogue : Catalogue) (shop : Shop) (c x : ℕ) (is_active : Option Bool) (copy : Option CopyFound) (out : Option ℕ) (rentals : ℕ) : Type 0 where
-  pub customer : is_active ≡ active_at c shop
-  pub copy_is : option_map seen_copy copy ≡ copy_at catalogue shop x
-  pub out_is : IsOut shop x out
-  pub count : rentals ≡ length shop.rentals
-
-pub record ScrapAgrees (shop : Shop) (x : ℕ) (found : Option Bool) (out : Option ℕ) : Type 0 where
-  pub copy_is : found ≡ head (map is_here (at x shop.copies))
-  pub out_is : IsOut shop x out
-
 -- whether there is a rental of the moment, and of the copy and by the customer of the act
 abbrev pub has_same_rental : Moment → Act → Shop → Bool
 has_same_rental moment (Rent c x) shop = list_any (λ (it : model.Rental). same_moment it.rented moment && it.copy == x && it.customer == c) shop.rentals
 has_same_rental moment act shop = false
 
--- whose rental it is
-abbrev pub renter_at : Shop → ℕ → Option ℕ
-renter_at shop r = head (map (λ (it : model.Rental). it.customer) (at r shop.rentals))
+-- whose rental it is, of which copy, and whether that is back
+abbrev pub seen_rental : RentalFound → ℕ × ℕ × Bool
+seen_rental rental = (rental.customer, rental.copy, rental.is_returned)
 
--- where no rental is named, any renter will do
-pub record PayAgrees (shop : Shop) (c : ℕ) (rental : Option ℕ) (has_customer : Bool) (renter : Option ℕ) (payments : ℕ) : Type 0 where
-  pub customer : has_customer ≡ not (lacks shop.customers c)
-  pub renter_is : IfSome rental (λ r. renter ≡ renter_at shop r)
-  pub count : payments ≡ length shop.payments
+abbrev pub rental_at : Shop → ℕ → Option (ℕ × ℕ × Bool)
+rental_at shop r = head (map (λ (it : model.Rental). (it.customer, it.copy, is_some it.returned)) (at r shop.rentals))
 
--- what is found for another act agrees with nothing
-abbrev pub ActAgrees : Rules → Catalogue → Shop → Act → ActFound → Type 0
-ActAgrees rules catalogue shop (AddCustomer person) (found.Customer has_city customers) = CustomerAgrees catalogue shop person has_city customers
-ActAgrees rules catalogue shop (SetActive c active) (found.Active is_active) = is_active ≡ active_at c shop
-ActAgrees rules catalogue shop (Rent c x) (found.Rent is_active copy out rentals) = RentAgrees catalogue shop c x is_active copy out rentals
-ActAgrees rules catalogue shop (TakeBack r) (found.TakeBack is_returned) = is_returned ≡ head (map (λ (it : model.Rental). is_some it.returned) (at r shop.rentals))
-ActAgrees rules catalogue shop (Pay c rental amount) (found.Pay has_customer renter payments) = PayAgrees shop c rental has_customer renter payments
-ActAgrees rules catalogue shop (Scrap x) (found.Scrap is_here out) = ScrapAgrees shop x is_here out
-ActAgrees rules catalogue shop (Import lot file) (found.Import copies has_lot stock) = ImportAgrees rules catalogue shop lot file copies has_lot stock
-ActAgrees rules catalogue shop act it = ⊥
+-- so many copies, a lot of that name or none, and the rows of the stock file
+pub record ImportAgrees (rules : Rules) (catalogue : Catalogue) (shop : Shop) (copies : ℕ) (has_lot : Bool) (stock : Result (Vec StockFound Global) BadCsv) (named : Text × Text) : Type 0 where
+  pub count : copies ≡ length shop.copies
+  pub lot_in : has_lot ≡ list_any (bytes_eq named.0) shop.lots
+  pub reading : seen_stock stock ≡ rules.stock_of named.1
+  pub rows : IfOk stock (λ rows. All (RowAgrees catalogue) rows.items)
 
--- all that was found is what the catalogue and the shop have
+-- All that was found is what the catalogue and the shop have. Of a kind of row that the act doesn't name, anything may be found.
 pub record Agrees (rules : Rules) (catalogue : Catalogue) (shop : Shop) (command : Command) (found : Found) : Type 0 where
   pub kept : option_map seen_kept found.kept ≡ head (map (kept_for command) (filter (λ (k : Kept). bytes_eq k.command.key command.key) shop.kept))
   pub keys : found.keys ≡ length shop.kept
   pub last : found.last ≡ shop.last
   pub staff : option_map seen_staff found.staff ≡ head (map post_of (at command.staff catalogue.staff))
-  pub has_same : found.has_same ≡ has_same_rental command.moment command.act shop
-  pub act : ActAgrees rules catalogue shop command.act found.act
+  pub city : IfSome (city_in command.act) (λ n. found.has_city ≡ not (lacks catalogue.cities n))
+  pub customer : IfSome (customer_in command.act) (λ c. found.customer ≡ active_at c shop)
+  pub copy : IfSome (copy_in command.act) (λ x. option_map seen_copy found.copy ≡ copy_at catalogue shop x)
+  pub out : IfSome (copy_in command.act) (λ x. IsOut shop x found.out)
+  pub same : found.has_same ≡ has_same_rental command.moment command.act shop
+  pub rental : IfSome (rental_in command.act) (λ r. option_map seen_rental found.rental ≡ rental_at shop r)
+  pub import : IfSome (import_in command.act) (ImportAgrees rules catalogue shop found.copies found.has_lot found.stock)
 
 -- ---- the copies of a film
 
@@ -153,23 +156,7 @@ is_listed is_in copy = copy.1 && same_flag copy.2 is_in
 
 -- ---- what a caller sees to
 
--- it was found for this act
-abbrev pub IsFoundFor : Asked → ActFound → Type 0
-IsFoundFor (asked.Customer person) (found.Customer has_city customers) = ⊤
-IsFoundFor (asked.Active customer active) (found.Active is_active) = ⊤
-IsFoundFor (asked.Rent customer copy) (found.Rent is_active it out rentals) = ⊤
-IsFoundFor (asked.TakeBack rental) (found.TakeBack is_returned) = ⊤
-IsFoundFor (asked.Pay customer rental amount) (found.Pay has_customer renter payments) = ⊤
-IsFoundFor (asked.Import lot file) (found.Import copies has_lot stock) = ⊤
-IsFoundFor (asked.Scrap copy) (found.Scrap is_here out) = ⊤
-IsFoundFor act it = ⊥
-
--- a branch has at most a million rows of a kind, and a stock file lists at most a thousand copies, so that no number wraps
-abbrev pub IsWithin : ActFound → Type 0
-IsWithin (found.Customer has_city customers) = customers ≤ 1_000_000
-IsWithin (found.Active is_active) = ⊤
-IsWithin (found.Rent is_active copy out rentals) = rentals ≤ 1_000_000
-IsWithin (found.TakeBack is_returned) = ⊤
-IsWithin (found.Pay has_customer renter payments) = payments ≤ 1_000_000
-IsWithin (found.Scrap is_here out) = ⊤
-IsWithin (found.Import copies has_lot stock) = (copies ≤ 1_000_000) × IfOk stock (λ rows. copies_of rows.items ≤ 1_000)
+-- a branch has at most a million copies, and a stock file lists at most a thousand, so that no number wraps
+pub record IsWithin (found : Found) : Type 0 where
+  pub copies : found.copies ≤ 1_000_000
+  pub stock : IfOk found.stock (λ rows. copies_of rows.items ≤ 1_000)

@@ -1,40 +1,32 @@
 //! What an accepted command changes.
 
-use shop_types::{CopyNo, Customer, CustomerNo, Moment, Payment, PaymentNo, Rental, RentalNo};
+use crate::StockFound;
+use shop_types::{CopyNo, Customer, CustomerNo, LotName, Moment, Payment, Rental, RentalNo};
 
-/// The rows that a command adds or sets, beside the command itself.
+/// The rows that a command adds or sets, beside the command itself. A row that is added gets the branch's next number of its kind.
 #[derive(Debug, Drop)]
-pub enum Rows {
-    /// An active customer, with the branch's next number.
-    Customer {
-        number: CustomerNo,
-        customer: Customer,
-    },
+pub enum Rows<'a> {
+    /// An active customer.
+    Customer(Customer),
     /// Whether the customer may rent.
     Active {
         customer: CustomerNo,
         active: bool,
     },
-    /// A rental that is open, with the branch's next number.
-    Rent {
-        number: RentalNo,
-        rental: Rental,
-    },
+    /// A rental that is open.
+    Rent(Rental),
     /// The rental's copy came back then.
     TakeBack {
         rental: RentalNo,
+        copy: CopyNo,
         returned: Moment,
     },
-    /// A payment, with the branch's next number.
-    Pay {
-        number: PaymentNo,
-        payment: Payment,
-    },
-    /// So many copies that are in the shop, with the branch's next numbers, from the first on. Their films are those of the stock
-    /// file, in the order of its rows, each as often as its row says.
+    /// A payment.
+    Pay(Payment),
+    /// The copies that the rows of a stock file list, which are in the shop, each film as often as its row says, and the lot.
     Import {
-        first: CopyNo,
-        count: u32,
+        stock: &'a [StockFound],
+        lot: &'a LotName,
     },
     /// The copy is scrapped.
     Scrap(CopyNo),
@@ -46,5 +38,5 @@ pub enum Change<'a> {
     /// It was sent before, and had the reply with this body: nothing changes.
     Again(&'a str),
     /// It adds or sets these rows, and is kept.
-    Rows(Rows),
+    Rows(Rows<'a>),
 }

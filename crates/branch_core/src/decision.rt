@@ -1,35 +1,33 @@
 //! The decision on a command of a branch.
 
-ghost use Rattle.std.specs.Prelude.{◌≡◌, ℕ, ◌+◌, ◌≤◌, ◌&&◌, nat_lt, not, true, None, List, length, map, option_map, IfOk, OnErr};
+ghost use Rattle.std.specs.Prelude.{◌≡◌, ℕ, ◌+◌, ◌&&◌, nat_lt, true, None, Some, List, length, map, option_map, IfOk};
 ghost use Rattle.std.specs.List.{list_any};
-ghost use Rattle.shop_model.specs.Calendar as calendar;
-ghost use Rattle.shop_model.specs.Rows.{at, lacks};
+ghost use Rattle.shop_model.specs.Rows.{at};
 ghost use Rattle.shop_model.specs.Values as model;
 ghost use Rattle.shop_model.specs.Shop.{Catalogue, Shop};
 ghost use Rattle.shop_model.specs.Verdict.{first, refusals, act_refusals, is_before, is_full, new_copies, staff_is};
 ghost use Rattle.shop_model.specs.Books.{head};
 ghost use Rattle.shop_types.specs.Seen.{seen_act, seen_command};
-ghost use Rattle.branch_core.specs.Agreed.{Agrees, ActAgrees, IsFoundFor, IsWithin, has_same_rental, seen_staff, post_of};
-ghost use Rattle.branch_core.specs.Decided.{IsDecided, Adds, TakesMemory, AreWithin, IsChangeWithin, verdict_by};
+ghost use Rattle.branch_core.specs.Agreed.{Agrees, IsWithin, seen_staff, post_of};
+ghost use Rattle.branch_core.specs.Decided.{IsDecided, IsActDecided, AreWithin, IsChangeWithin, verdict_before};
 
-use crate::acts::{active_refusal, payment_refusal, rent_refusal, return_refusal, scrap_refusal};
-use crate::stock::{new_copies, stock_refusal};
-use crate::{ActFound, Change, Found, Rows, StaffFound};
+use crate::acts::{check_active, check_city, check_payment, check_rent, check_return, check_scrap};
+use crate::stock::{check_stock, new_copies};
+use crate::{Change, Found, Rows, StaffFound};
 use shop_types::{
     Act, Amount, BranchNo, Command, CopyNo, Customer, CustomerNo, Limits, Moment, NoMemory,
-    Payment, Person, Refusal, Rental, RentalNo, RowNumber,
+    Payment, Person, Refusal, Rental, RentalNo,
 };
 
 /// The change that a branch's command makes, or the first refusal that holds of it. `Memory` comes only where a customer would be
 /// added: there was none left for the copy of the person, and the command may be decided again.
 pub fn decide<'a>(
     branch: BranchNo,
-    command: &Command,
-    found: &Found<'a>,
+    command: &'a Command,
+    found: &'a Found<'a>,
     limits: Limits,
 ) -> Result<Change<'a>, Refusal>
-    requires act { IsFoundFor command.now.act found.now.act }
-    requires within { IsWithin found.now.act }
+    requires within { IsWithin found.now }
     ensures decided { (rules : model.Rules) (catalogue : Catalogue) (shop : Shop) → rules.commands ≡ limits.commands → rules.copies ≡ limits.copies
         → Agrees rules catalogue shop (seen_command command.now) found.now → IsDecided rules branch catalogue shop (seen_command command.now) result }
     ensures within { IfOk result IsChangeWithin }
@@ -42,66 +40,62 @@ pub fn decide<'a>(
                 Err(Refusal::KeyUsed)
             }
         }
-        None => match first_refusal(branch, command.at, &command.act, found, limits) {
-            Some(refusal) => Err(refusal),
-            None => match new_rows(command, &found.act) {
-                Ok(rows) => Ok(Change::Rows(rows)),
-                Err(_) => Err(Refusal::Memory),
-            },
-        },
+        None => {
+            check_command(branch, command, found, limits)?;
+            Ok(Change::Rows(act_rows(command, found)?))
+        }
     }
 }
 
-/// The first refusal of a command whose key isn't kept, given at the moment.
-fn first_refusal(
+/// The first refusal of a command whose key isn't kept, beside those of its act.
+fn check_command(
     branch: BranchNo,
-    at: Moment,
-    asked: &Act,
-    found: &Found,
+    command: &Command,
+    found: &Found<'_>,
     limits: Limits,
-) -> Option<Refusal>
-    requires act { IsFoundFor asked.now found.now.act }
-    requires within { IsWithin found.now.act }
-    ensures { (rules : model.Rules) (catalogue : Catalogue) (shop : Shop) (command : model.Command) → command.moment ≡ at → command.act ≡ seen_act asked.now → rules.commands ≡ limits.commands → rules.copies ≡ limits.copies
-        → Agrees rules catalogue shop command found.now → verdict_by result ≡ Some (first (refusals rules branch catalogue shop command)) }
+) -> Result<(), Refusal>
+    requires within { IsWithin found.now }
+    ensures { (rules : model.Rules) (catalogue : Catalogue) (shop : Shop) → rules.commands ≡ limits.commands → rules.copies ≡ limits.copies
+        → Agrees rules catalogue shop (seen_command command.now) found.now
+        → verdict_before result (first (act_refusals rules branch catalogue shop command.now.at (seen_act command.now.act))) ≡ Some (first (refusals rules branch catalogue shop (seen_command command.now))) }
 {
-    if is_full(found, limits) {
-        Some(Refusal::Full)
-    } else if is_before(at, found.last) {
-        Some(Refusal::MomentBack)
+    if is_full(&command.act, found, limits) {
+        Err(Refusal::Full)
+    } else if is_before(command.at, found.last) {
+        Err(Refusal::MomentBack)
     } else if !works_at(found.staff, branch) {
-        Some(Refusal::NoStaff)
+        Err(Refusal::NoStaff)
     } else {
-        act_refusal(asked, &found.act, found.has_same)
+        Ok(())
     }
 }
 
 /// Whether the branch has as many kept rows as it may, or would have more copies.
-fn is_full(found: &Found, limits: Limits) -> bool
-    requires { IsWithin found.now.act }
-    ensures { (rules : model.Rules) (catalogue : Catalogue) (shop : Shop) (command : model.Command) → rules.commands ≡ limits.commands → rules.copies ≡ limits.copies
+fn is_full(act: &Act, found: &Found<'_>, limits: Limits) -> bool
+    requires { IsWithin found.now }
+    ensures { (rules : model.Rules) (catalogue : Catalogue) (shop : Shop) (command : model.Command) → command.act ≡ seen_act act.now → rules.commands ≡ limits.commands → rules.copies ≡ limits.copies
         → Agrees rules catalogue shop command found.now → result ≡ is_full rules shop command.act }
 {
-    limits.commands() <= found.keys || has_no_room(&found.act, limits)
+    limits.commands() <= found.keys || has_no_room(act, found, limits)
 }
 
 /// Whether the act makes copies, and more than the branch may still have.
-fn has_no_room(act: &ActFound, limits: Limits) -> bool
-    requires { IsWithin act.now }
-    ensures { (rules : model.Rules) (catalogue : Catalogue) (shop : Shop) (asked : model.Act) → rules.copies ≡ limits.copies → ActAgrees rules catalogue shop asked act.now
-        → result ≡ (nat_lt 0 (new_copies rules shop asked) && nat_lt rules.copies (length shop.copies + new_copies rules shop asked)) }
+fn has_no_room(act: &Act, found: &Found<'_>, limits: Limits) -> bool
+    requires { IsWithin found.now }
+    ensures { (rules : model.Rules) (catalogue : Catalogue) (shop : Shop) (command : model.Command) → command.act ≡ seen_act act.now → rules.copies ≡ limits.copies → Agrees rules catalogue shop command found.now
+        → result ≡ (nat_lt 0 (new_copies rules shop command.act) && nat_lt rules.copies (length shop.copies + new_copies rules shop command.act)) }
 {
     match act {
-        ActFound::Customer { .. }
-        | ActFound::Active { .. }
-        | ActFound::Rent { .. }
-        | ActFound::TakeBack { .. }
-        | ActFound::Pay { .. }
-        | ActFound::Scrap { .. } => false,
-        ActFound::Import { copies, stock, .. } => {
-            let new = new_copies(stock);
-            0 < new && limits.copies() < *copies + new
+        Act::Import { .. } => {
+            let new = new_copies(&found.stock);
+            0 < new && limits.copies() < found.copies + new
         }
+        Act::Customer(_)
+        | Act::Active { .. }
+        | Act::Rent { .. }
+        | Act::TakeBack(_)
+        | Act::Pay { .. }
+        | Act::Scrap(_) => false,
     }
 }
 
@@ -125,102 +119,54 @@ fn works_at(staff: Option<StaffFound>, branch: BranchNo) -> bool
     }
 }
 
-/// The first refusal that goes by what the act is. Of a rental it is told whether there is one of the same moment, copy and customer.
-fn act_refusal(asked: &Act, act: &ActFound, has_same: bool) -> Option<Refusal>
-    requires { IsFoundFor asked.now act.now }
-    ensures { (rules : model.Rules) (b : ℕ) (catalogue : Catalogue) (shop : Shop) (moment : calendar.Moment) → ActAgrees rules catalogue shop (seen_act asked.now) act.now
-        → has_same ≡ has_same_rental moment (seen_act asked.now) shop → verdict_by result ≡ Some (first (act_refusals rules b catalogue shop moment (seen_act asked.now))) }
+/// The rows that the command's act adds or sets, or the first refusal that goes by what the act is.
+fn act_rows<'a>(command: &'a Command, found: &'a Found<'a>) -> Result<Rows<'a>, Refusal>
+    requires within { IsWithin found.now }
+    ensures decided { (rules : model.Rules) (b : ℕ) (catalogue : Catalogue) (shop : Shop) → Agrees rules catalogue shop (seen_command command.now) found.now
+        → IsActDecided rules (first (act_refusals rules b catalogue shop command.now.at (seen_act command.now.act))) (seen_command command.now) shop result }
+    ensures within { IfOk result AreWithin }
 {
-    match (asked, act) {
-        (Act::Customer(_), ActFound::Customer { has_city, .. }) => city_refusal(*has_city),
-        (Act::Active { active, .. }, ActFound::Active { is_active }) => {
-            active_refusal(*is_active, *active)
+    match &command.act {
+        Act::Customer(person) => {
+            check_city(found.has_city)?;
+            match new_customer(person, command.at) {
+                Ok(customer) => Ok(Rows::Customer(customer)),
+                Err(_) => Err(Refusal::Memory),
+            }
         }
-        (
-            Act::Rent { .. },
-            ActFound::Rent {
-                is_active,
-                copy,
-                out,
-                ..
-            },
-        ) => rent_refusal(*is_active, *copy, *out, has_same),
-        (Act::TakeBack(_), ActFound::TakeBack { is_returned }) => return_refusal(*is_returned),
-        (
-            Act::Pay {
-                customer,
-                rental,
-                ..
-            },
-            ActFound::Pay {
-                has_customer,
-                renter,
-                ..
-            },
-        ) => payment_refusal(*customer, *rental, *has_customer, *renter),
-        (Act::Import { .. }, ActFound::Import { has_lot, stock, .. }) => {
-            stock_refusal(stock, *has_lot)
+        Act::Active { customer, active } => {
+            check_active(found.customer, *active)?;
+            Ok(Rows::Active {
+                customer: *customer,
+                active: *active,
+            })
         }
-        (Act::Scrap(_), ActFound::Scrap { is_here, out }) => scrap_refusal(*is_here, *out),
-        _ => unreachable!(),
-    }
-}
-
-/// Of a customer in a city that may not be there.
-fn city_refusal(has_city: bool) -> Option<Refusal>
-    ensures { (rules : model.Rules) (b : ℕ) (catalogue : Catalogue) (shop : Shop) (moment : calendar.Moment) (person : model.Person) → has_city ≡ not (lacks catalogue.cities person.city)
-        → verdict_by result ≡ Some (first (act_refusals rules b catalogue shop moment (model.AddCustomer person))) }
-{
-    if has_city {
-        None
-    } else {
-        Some(Refusal::NoSharedRow)
-    }
-}
-
-/// The rows that an accepted command adds or sets.
-fn new_rows(command: &Command, act: &ActFound) -> Result<Rows, NoMemory>
-    requires act { IsFoundFor command.now.act act.now }
-    requires within { IsWithin act.now }
-    ensures added { (rules : model.Rules) (catalogue : Catalogue) (shop : Shop) → ActAgrees rules catalogue shop (seen_act command.now.act) act.now
-        → IfOk result (λ rows. Adds rules (seen_command command.now) (seen_act command.now.act) shop rows) }
-    ensures memory { OnErr result (TakesMemory (seen_act command.now.act)) }
-    ensures bound { IfOk result AreWithin }
-{
-    match (&command.act, act) {
-        (Act::Customer(person), ActFound::Customer { customers, .. }) => Ok(Rows::Customer {
-            number: number_after(*customers),
-            customer: new_customer(person, command.at)?,
-        }),
-        (Act::Active { customer, active }, ActFound::Active { .. }) => Ok(Rows::Active {
-            customer: *customer,
-            active: *active,
-        }),
-        (Act::Rent { customer, copy }, ActFound::Rent { rentals, .. }) => Ok(Rows::Rent {
-            number: number_after(*rentals),
-            rental: new_rental(command, *customer, *copy),
-        }),
-        (Act::TakeBack(rental), ActFound::TakeBack { .. }) => Ok(Rows::TakeBack {
+        Act::Rent { customer, copy } => {
+            check_rent(found.customer, found.copy, found.out, found.has_same)?;
+            Ok(Rows::Rent(new_rental(command, *customer, *copy)))
+        }
+        Act::TakeBack(rental) => Ok(Rows::TakeBack {
             rental: *rental,
+            copy: check_return(found.rental)?,
             returned: command.at,
         }),
-        (
-            Act::Pay {
-                customer,
-                rental,
-                amount,
-            },
-            ActFound::Pay { payments, .. },
-        ) => Ok(Rows::Pay {
-            number: number_after(*payments),
-            payment: new_payment(command, *customer, *rental, *amount),
+        Act::Pay {
+            customer,
+            rental,
+            amount,
+        } => {
+            check_payment(*customer, *rental, found.customer, found.rental)?;
+            let payment = new_payment(command, *customer, *rental, *amount);
+            Ok(Rows::Pay(payment))
+        }
+        Act::Import { lot, .. } => Ok(Rows::Import {
+            stock: check_stock(&found.stock, found.has_lot)?,
+            lot,
         }),
-        (Act::Scrap(copy), ActFound::Scrap { .. }) => Ok(Rows::Scrap(*copy)),
-        (Act::Import { .. }, ActFound::Import { copies, stock, .. }) => Ok(Rows::Import {
-            first: number_after(*copies),
-            count: new_copies(stock),
-        }),
-        _ => unreachable!(),
+        Act::Scrap(copy) => {
+            check_scrap(found.copy, found.out)?;
+            Ok(Rows::Scrap(*copy))
+        }
     }
 }
 
@@ -264,12 +210,4 @@ fn new_payment(
         amount,
         paid: command.at,
     }
-}
-
-/// The next number, where so many rows are numbered.
-fn number_after<const KIND: u8>(count: u32) -> RowNumber<KIND>
-    requires { count ≤ 1_000_000 }
-    ensures { result ≡ count + 1 }
-{
-    RowNumber::new(count + 1).unwrap()
 }

@@ -1,6 +1,6 @@
 //! What was found of the rows that a command names.
 
-use shop_types::{BadCsv, BranchNo, CustomerNo, FilmNo, Moment, RentalNo};
+use shop_types::{BadCsv, BranchNo, CopyNo, CustomerNo, FilmNo, Moment, RentalNo};
 
 /// The kept row of the command's key, as compared with the command.
 #[derive(Clone, Copy, Debug)]
@@ -40,58 +40,16 @@ pub struct CopyFound {
     pub is_withdrawn: bool,
 }
 
-/// What is read for one kind of act alone.
-#[derive(Debug, Drop)]
-pub enum ActFound {
-    Customer {
-        /// Whether the catalogue has the customer's city.
-        has_city: bool,
-        /// How many customers the branch has.
-        customers: u32,
-    },
-    Active {
-        /// Whether the customer may rent, where there is such a customer.
-        is_active: Option<bool>,
-    },
-    Rent {
-        /// Whether the customer may rent, where there is such a customer.
-        is_active: Option<bool>,
-        /// The copy, where there is one of the number.
-        copy: Option<CopyFound>,
-        /// The copy's open rental, where it is out.
-        out: Option<RentalNo>,
-        /// How many rentals the branch has.
-        rentals: u32,
-    },
-    TakeBack {
-        /// Whether the copy came back already, where there is such a rental.
-        is_returned: Option<bool>,
-    },
-    Pay {
-        /// Whether the branch has a customer of the number.
-        has_customer: bool,
-        /// The customer of the rental that is named, where one is named and there is one of the number.
-        renter: Option<CustomerNo>,
-        /// How many payments the branch has.
-        payments: u32,
-    },
-    Import {
-        /// How many copies the branch has, in whatever state.
-        copies: u32,
-        /// Whether the branch has a lot of the name.
-        has_lot: bool,
-        /// The rows of the stock file in their order, or its fault.
-        stock: Result<Vec<StockFound>, BadCsv>,
-    },
-    Scrap {
-        /// Whether the copy is in the shop, where there is one of the number.
-        is_here: Option<bool>,
-        /// The copy's open rental, where it is out.
-        out: Option<RentalNo>,
-    },
+/// A rental that a command names.
+#[derive(Clone, Copy, Debug, PartialEq, Eq)]
+pub struct RentalFound {
+    pub customer: CustomerNo,
+    pub copy: CopyNo,
+    /// Whether the copy came back already.
+    pub is_returned: bool,
 }
 
-/// All that a decision reads.
+/// All that a decision reads. Where the command names no row of a kind, what is said of it is not looked at.
 #[derive(Debug, Drop)]
 pub struct Found<'a> {
     /// The branch's kept row of the command's key, where there is one.
@@ -102,8 +60,22 @@ pub struct Found<'a> {
     pub last: Option<Moment>,
     /// The member of staff of the command's number, where there is one.
     pub staff: Option<StaffFound>,
-    /// Whether the branch has a rental of the command's moment, copy and customer. A command that is no rental has none.
+    /// Whether the catalogue has the city of a new customer.
+    pub has_city: bool,
+    /// Whether the customer may rent, where the branch has one of the number.
+    pub customer: Option<bool>,
+    /// The copy, where the branch has one of the number.
+    pub copy: Option<CopyFound>,
+    /// The copy's open rental, where it is out.
+    pub out: Option<RentalNo>,
+    /// Whether the branch has a rental of the command's moment, copy and customer.
     pub has_same: bool,
-    /// What is found for the command's act.
-    pub act: ActFound,
+    /// The rental, where the branch has one of the number.
+    pub rental: Option<RentalFound>,
+    /// How many copies the branch has, in whatever state, where it is to get more.
+    pub copies: u32,
+    /// Whether the branch has a lot of the name.
+    pub has_lot: bool,
+    /// The rows of the stock file in their order, or its fault.
+    pub stock: Result<Vec<StockFound>, BadCsv>,
 }

@@ -1,11 +1,12 @@
 //! What the rows of a stock file come to.
 
-ghost use Rattle.std.specs.Prelude.{◌≡◌, ◌≤◌, not, IfOk};
+ghost use Rattle.std.specs.Prelude.{◌≡◌, ◌≤◌, Some, not, IfOk};
 ghost use Rattle.std.specs.List.{All, list_any};
 ghost use Rattle.std.specs.Str.{bytes_eq};
 ghost use Rattle.shop_model.specs.Values.{Text, Copies};
 ghost use Rattle.shop_model.specs.Shop.{Catalogue, Shop};
 ghost use Rattle.shop_model.specs.Verdict.{first, import_refusals, new_in};
+ghost use Rattle.shop_model.specs.Machine.{films_in};
 ghost use Rattle.branch_core.specs.Agreed.{RowAgrees, films_of, copies_of, seen_stock};
 ghost use Rattle.branch_core.specs.Decided.{verdict_by};
 
@@ -13,7 +14,7 @@ use crate::StockFound;
 use shop_types::{BadCsv, Refusal};
 
 /// How many copies the rows list.
-fn copies_in(rows: &[StockFound]) -> u32
+pub fn copies_in(rows: &[StockFound]) -> u32
     requires { copies_of rows.now ≤ 1_000 }
     ensures { result ≡ copies_of rows.now }
 {
@@ -36,31 +37,39 @@ pub fn new_copies(stock: &Result<Vec<StockFound>, BadCsv>) -> u32
     }
 }
 
-/// The first refusal of an import of the stock file, by whether the branch has a lot of the name.
-pub fn stock_refusal(stock: &Result<Vec<StockFound>, BadCsv>, has_lot: bool) -> Option<Refusal>
-    ensures { (catalogue : Catalogue) (shop : Shop) (lot : Text) → IfOk stock.now (λ rows. All (RowAgrees catalogue) rows.items) → has_lot ≡ list_any (bytes_eq lot) shop.lots
+/// The rows of the stock file, or the first refusal of its import, by whether the branch has a lot of the name.
+pub fn check_stock(
+    stock: &Result<Vec<StockFound>, BadCsv>,
+    has_lot: bool,
+) -> Result<&[StockFound], Refusal>
+    ensures verdict { (catalogue : Catalogue) (shop : Shop) (lot : Text) → IfOk stock.now (λ rows. All (RowAgrees catalogue) rows.items) → has_lot ≡ list_any (bytes_eq lot) shop.lots
         → verdict_by result ≡ Some (first (import_refusals catalogue shop lot (seen_stock stock.now))) }
+    ensures rows { IfOk result (λ rows. films_of rows.now ≡ films_in (seen_stock stock.now)) }
+    ensures few { IfOk stock.now (λ rows. copies_of rows.items ≤ 1_000) → IfOk result (λ rows. copies_of rows.now ≤ 1_000) }
 {
     match stock {
-        Ok(rows) => rows_refusal(rows.as_slice(), has_lot),
-        Err(_) if has_lot => Some(Refusal::LotIn),
-        Err(fault) => Some(Refusal::BadCsv(*fault)),
+        Ok(rows) => {
+            check_rows(rows.as_slice(), has_lot)?;
+            Ok(rows.as_slice())
+        }
+        Err(_) if has_lot => Err(Refusal::LotIn),
+        Err(fault) => Err(Refusal::BadCsv(*fault)),
     }
 }
 
 /// The first refusal of an import of the rows.
-fn rows_refusal(rows: &[StockFound], has_lot: bool) -> Option<Refusal>
+fn check_rows(rows: &[StockFound], has_lot: bool) -> Result<(), Refusal>
     ensures { (catalogue : Catalogue) (shop : Shop) (lot : Text) → All (RowAgrees catalogue) rows.now → has_lot ≡ list_any (bytes_eq lot) shop.lots
         → verdict_by result ≡ Some (first (import_refusals catalogue shop lot (Copies (films_of rows.now)))) }
 {
     if has_withdrawn(rows) {
-        Some(Refusal::FilmWithdrawn)
+        Err(Refusal::FilmWithdrawn)
     } else if has_unknown(rows) {
-        Some(Refusal::NoFilm)
+        Err(Refusal::NoFilm)
     } else if has_lot {
-        Some(Refusal::LotIn)
+        Err(Refusal::LotIn)
     } else {
-        None
+        Ok(())
     }
 }
 

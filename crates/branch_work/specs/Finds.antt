@@ -1,6 +1,8 @@
 -- What is found of the rows that a command names.
-use Rattle.std.specs.Prelude.{◌≡◌, ℕ, zero, suc, ℤ, [], ◌∷◌, ◌++◌, ◌==◌, Bool, true, false, not, is_some, List, map, filter, flat_map, Option, Some, None, option_map}
+use Rattle.std.specs.Prelude.{◌≡◌, ℕ, zero, suc, ℤ, [], ◌∷◌, ◌++◌, ◌==◌, ◌&&◌, Bool, true, false, not, is_some, List, map, filter, flat_map, Option, Some, None, option_map}
 use Rattle.std.specs.Str.{bytes_eq}
+use Rattle.std.specs.List.{list_any}
+use Rattle.shop_model.specs.Calendar.{Moment, same_moment}
 use Rattle.shop_model.specs.Rows.{at, lacks, owned_by}
 use Rattle.shop_model.specs.Values.{Text, Command, Rental, Payment, Ask, FilmInStock, FilmNotInStock}
 use Rattle.shop_model.specs.Verdict.{is_film_withdrawn}
@@ -46,6 +48,11 @@ by_form form kept = (bytes_eq kept.0 form, kept.1)
 -- what was found of the key is what the branch has under it
 abbrev pub IsKeptFor : ℕ → Command → Option KeptFound → Books → Type 0
 IsKeptFor b command kept books = option_map told kept ≡ head (map (kept_for command) (filter (λ it. bytes_eq it.command.key command.key) (owned_by b books.kept)))
+
+-- whether there is a rental of the moment, the customer and the copy, where both are named
+abbrev pub has_same : Moment → Option ℕ → Option ℕ → Shop → Bool
+has_same moment (Some c) (Some x) shop = list_any (λ (it : Rental). same_moment it.rented moment && it.copy == x && it.customer == c) shop.rentals
+has_same moment c x shop = false
 
 -- ---- the copies of a film
 

@@ -4,16 +4,14 @@ use Rattle.sqlite.specs.State.{State}
 use Rattle.shop_values.specs.LimitValues.{Limits}
 use Rattle.shop_model.specs.Calendar.{Moment}
 use Rattle.shop_model.specs.Rows.{lacks, owned_by}
-use Rattle.shop_model.specs.Values.{Act, Command}
+use Rattle.shop_model.specs.Values.{Command}
 use Rattle.shop_model.specs.Machine.{Request, Done, reply_text}
 use Rattle.shop_model.specs.Answers.{Answer, answer_of}
 use Rattle.shop_model.specs.Books.{Books, Counter, head, shop_of, book_done, known_caller, reply_for, after_for}
 use Rattle.shop_model.specs.Office.{office_look}
 use Rattle.shop_schema.specs.Held.{IsHeld}
 use Rattle.shop_schema.specs.Shop.{Holds}
-use Rattle.branch_core.specs.Agreed.{ActAgrees}
 use Rattle.branch_core.specs.Decided.{Adds}
-use Rattle.branch_core.specs.declared.found.ActFound.{ActFound}
 use Rattle.branch_core.specs.declared.change.Rows.{Rows}
 use Rattle.branch_work.specs.Rules.{rules_of}
 
@@ -39,7 +37,7 @@ WorksFor limits b last request answer is_changed old new =
     (books : Books) → Holds old books → IsHeld books → lacks books.catalogue.branches b ≡ false → IfSome last (λ moment. moment ≡ head (owned_by b books.lasts)) → IsDone limits b request answer is_changed new books
 
 -- with the rows of an accepted command the tables come to stand for the books after it, and the reply is its own
-abbrev pub IsAdded : Limits → ℕ → Command → Act → ActFound → Rows → Answer → State → State → Type 0
-IsAdded limits b command act found rows answer old new =
-    (books : Books) → Holds old books → IsHeld books → ActAgrees (rules_of limits) books.catalogue (shop_of b books) act found → Adds (rules_of limits) command act (shop_of b books) rows
+abbrev pub IsAdded : Limits → ℕ → Command → Rows → Answer → State → State → Type 0
+IsAdded limits b command rows answer old new =
+    (books : Books) → Holds old books → IsHeld books → Adds (rules_of limits) command command.act (shop_of b books) rows
     → Holds new (book_done (rules_of limits) b command books) × (answer ≡ answer_of (Done (reply_text (rules_of limits) command (shop_of b books))))

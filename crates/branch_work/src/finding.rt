@@ -1,28 +1,27 @@
 //! What the tables have of the rows that a command names.
 
-ghost use Rattle.std.specs.Prelude.{◌≡◌, ◌≤◌, ℕ, map, option_map, IfOk};
+ghost use Rattle.std.specs.Prelude.{◌≡◌, ◌≤◌, not, map, option_map, IfOk, IfSome};
 ghost use Rattle.std.specs.List.{All};
 ghost use Rattle.sqlite.specs.Held.{state};
 ghost use Rattle.sqlite.specs.State.{HasCleanDisk};
 ghost use Rattle.sql_rows.specs.Calls.{StaysWithin};
-ghost use Rattle.shop_model.specs.Rows.{at, owned_by};
-ghost use Rattle.shop_model.specs.Values.{Pay};
+ghost use Rattle.shop_model.specs.Rows.{at, lacks, owned_by};
 ghost use Rattle.shop_model.specs.Books.{head, shop_of};
 ghost use Rattle.shop_values.specs.LimitValues as values;
 ghost use Rattle.shop_types.specs.Seen.{seen_act, seen_command};
 ghost use Rattle.shop_schema.specs.Shop.{Reads};
 ghost use Rattle.shop_store.specs.Seen.{seen_kept};
 ghost use Rattle.stock_csv.specs.Stock.{stock_of};
-ghost use Rattle.branch_core.specs.Agreed.{Agrees, ActAgrees, RowAgrees, IsFoundFor, IsWithin, has_same_rental, seen_kept as told, seen_staff, post_of, seen_stock, copies_of};
+ghost use Rattle.branch_core.specs.Agreed.{Agrees, ImportAgrees, RowAgrees, IsWithin, active_at, city_in, customer_in, copy_in, rental_in, import_in, seen_kept as told, seen_staff, post_of, seen_stock, copies_of};
 ghost use Rattle.branch_work.specs.Rules.{rules_of};
-ghost use Rattle.branch_work.specs.Finds.{as_listed, found_row, told_row, by_form, IsKeptFor};
+ghost use Rattle.branch_work.specs.Finds.{as_listed, found_row, told_row, by_form, has_same, IsKeptFor};
 
-use crate::looking::{find_active, find_copy, find_here, find_renter, find_returned};
-use branch_core::{ActFound, Found, KeptFound, StaffFound, StockFound};
+use crate::looking::{find_active, find_copy, find_out, find_rental};
+use branch_core::{Found, KeptFound, StaffFound, StockFound};
 use catalogue_store::{film_at, has_city, staff_at};
-use shop_store::{CountKind, KeptRow, count_of, has_lot, has_rental, out_at};
+use shop_store::{CountKind, KeptRow, count_of, has_lot, has_rental};
 use shop_types::{
-    Act, BadCsv, BranchNo, Command, CopyNo, CustomerNo, LotName, Moment, Person, RentalNo, StaffNo,
+    Act, BadCsv, BranchNo, CityNo, Command, CopyNo, CustomerNo, Moment, RentalNo, StaffNo,
     StockFile,
 };
 use sql_rows::{Bytes, StoreFault};
@@ -43,6 +42,62 @@ pub fn kept_found<'a>(kept: Option<&'a KeptRow>, form: &Bytes) -> Option<KeptFou
     }
 }
 
+/// The rows that an act names, beside those of an import.
+#[derive(Clone, Copy, Debug)]
+struct Named {
+    city: Option<CityNo>,
+    customer: Option<CustomerNo>,
+    copy: Option<CopyNo>,
+    rental: Option<RentalNo>,
+}
+
+fn named_in(act: &Act) -> Named
+    ensures city { result.city ≡ city_in (seen_act act.now) }
+    ensures customer { result.customer ≡ customer_in (seen_act act.now) }
+    ensures copy { result.copy ≡ copy_in (seen_act act.now) }
+    ensures rental { result.rental ≡ rental_in (seen_act act.now) }
+{
+    let none = Named {
+        city: None,
+        customer: None,
+        copy: None,
+        rental: None,
+    };
+    match act {
+        Act::Customer(person) => Named {
+            city: Some(person.city),
+            ..none
+        },
+        Act::Active { customer, .. } => Named {
+            customer: Some(*customer),
+            ..none
+        },
+        Act::Rent { customer, copy } => Named {
+            customer: Some(*customer),
+            copy: Some(*copy),
+            ..none
+        },
+        Act::TakeBack(rental) => Named {
+            rental: Some(*rental),
+            ..none
+        },
+        Act::Pay {
+            customer,
+            rental,
+            ..
+        } => Named {
+            customer: Some(*customer),
+            rental: *rental,
+            ..none
+        },
+        Act::Scrap(copy) => Named {
+            copy: Some(*copy),
+            ..none
+        },
+        Act::Import { .. } => none,
+    }
+}
+
 /// What a decision on the branch's command reads, where its kept row and the branch's last moment are known.
 pub fn find<'a, S: Alter>(
     alloc: Global,
@@ -56,29 +111,41 @@ pub fn find<'a, S: Alter>(
     ensures inside { StaysWithin (state S.Store tx.old.conn.now) (state S.Store tx.new.conn.now) result }
     ensures found { HasCleanDisk (state S.Store tx.new.conn.now) → IfOk result (λ found. Reads (state S.Store tx.old.conn.now) (state S.Store tx.new.conn.now) (λ books. (limits : values.Limits)
         → IsKeptFor branch (seen_command command.now) kept.entry books → last ≡ head (owned_by branch books.lasts) → Agrees (rules_of limits) books.catalogue (shop_of branch books) (seen_command command.now) found)) }
-    ensures act { IfOk result (λ found. IsFoundFor command.now.act found.act) }
-    ensures within { IfOk result (λ found. IsWithin found.act) }
+    ensures within { IfOk result (λ found. IsWithin found) }
 {
-    let keys = fitting(count_of(tx, branch, CountKind::Kept)? as usize)?;
+    let named = named_in(&command.act);
+    let keys = fitting(count_of(tx, branch, CountKind::Kept)?)?;
     let staff = find_staff(tx, command.staff)?;
-    let has_same = find_same(tx, branch, command.at, &command.act)?;
-    let act = find_act(alloc, tx, branch, &command.act)?;
+    let has_city = find_city(tx, named.city)?;
+    let customer = find_customer(tx, branch, named.customer)?;
+    let copy = find_copy(tx, branch, named.copy)?;
+    let out = find_out(tx, branch, named.copy)?;
+    let has_same = find_same(tx, branch, command.at, named.customer, named.copy)?;
+    let rental = find_rental(tx, branch, named.rental)?;
+    let import = find_import(alloc, tx, branch, &command.act)?;
     Ok(Found {
         kept,
         keys,
         last,
         staff,
+        has_city,
+        customer,
+        copy,
+        out,
         has_same,
-        act,
+        rental,
+        copies: import.copies,
+        has_lot: import.has_lot,
+        stock: import.stock,
     })
 }
 
 /// The number of rows, where it is a million at most: no sound table has more of a branch.
-pub fn fitting(count: usize) -> Result<u32, StoreFault>
+pub fn fitting(count: u32) -> Result<u32, StoreFault>
     ensures { IfOk result (λ n. (n ≡ count) × (n ≤ 1_000_000)) }
 {
     if count <= 1_000_000 {
-        Ok(count as u32)
+        Ok(count)
     } else {
         Err(StoreFault::Failed)
     }
@@ -101,169 +168,88 @@ fn find_staff<S: Alter>(
     }
 }
 
-/// Whether the branch has a rental of the moment, and of the copy and by the customer of the act. Of an act that is no rental nothing is read.
+/// Whether the catalogue has the city, where one is named.
+fn find_city<S: Alter>(
+    tx: &mut Transaction<'_, S>,
+    city: Option<CityNo>,
+) -> Result<bool, StoreFault>
+    ensures same_reference { tx.new.conn.ghost_name ≡ tx.old.conn.ghost_name }
+    ensures inside { StaysWithin (state S.Store tx.old.conn.now) (state S.Store tx.new.conn.now) result }
+    ensures found { HasCleanDisk (state S.Store tx.new.conn.now) → IfOk result (λ has. Reads (state S.Store tx.old.conn.now) (state S.Store tx.new.conn.now) (λ books. IfSome city (λ n. has ≡ not (lacks books.catalogue.cities n)))) }
+{
+    match city {
+        Some(city) => Ok(has_city(tx, city)?),
+        None => Ok(false),
+    }
+}
+
+/// Whether the customer may rent, where one is named and the branch has one of the number.
+fn find_customer<S: Alter>(
+    tx: &mut Transaction<'_, S>,
+    branch: BranchNo,
+    customer: Option<CustomerNo>,
+) -> Result<Option<bool>, StoreFault>
+    ensures same_reference { tx.new.conn.ghost_name ≡ tx.old.conn.ghost_name }
+    ensures inside { StaysWithin (state S.Store tx.old.conn.now) (state S.Store tx.new.conn.now) result }
+    ensures found { HasCleanDisk (state S.Store tx.new.conn.now) → IfOk result (λ found. Reads (state S.Store tx.old.conn.now) (state S.Store tx.new.conn.now) (λ books. IfSome customer (λ c. found ≡ active_at c (shop_of branch books)))) }
+{
+    match customer {
+        Some(customer) => find_active(tx, branch, customer),
+        None => Ok(None),
+    }
+}
+
+/// Whether the branch has a rental of the moment, and of the copy and by the customer where both are named.
 fn find_same<S: Alter>(
     tx: &mut Transaction<'_, S>,
     branch: BranchNo,
     at: Moment,
-    act: &Act,
+    customer: Option<CustomerNo>,
+    copy: Option<CopyNo>,
 ) -> Result<bool, StoreFault>
     ensures same_reference { tx.new.conn.ghost_name ≡ tx.old.conn.ghost_name }
     ensures inside { StaysWithin (state S.Store tx.old.conn.now) (state S.Store tx.new.conn.now) result }
-    ensures found { HasCleanDisk (state S.Store tx.new.conn.now) → IfOk result (λ has. Reads (state S.Store tx.old.conn.now) (state S.Store tx.new.conn.now) (λ books. has ≡ has_same_rental at (seen_act act.now) (shop_of branch books))) }
+    ensures found { HasCleanDisk (state S.Store tx.new.conn.now) → IfOk result (λ has. Reads (state S.Store tx.old.conn.now) (state S.Store tx.new.conn.now) (λ books. has ≡ has_same at customer copy (shop_of branch books))) }
 {
-    match act {
-        Act::Rent { customer, copy } => Ok(has_rental(tx, branch, at, *copy, *customer)?),
-        Act::Customer(_) => Ok(false),
-        Act::Active { .. } => Ok(false),
-        Act::TakeBack(_) => Ok(false),
-        Act::Pay { .. } => Ok(false),
-        Act::Scrap(_) => Ok(false),
-        Act::Import { .. } => Ok(false),
+    match (customer, copy) {
+        (Some(customer), Some(copy)) => Ok(has_rental(tx, branch, at, copy, customer)?),
+        _ => Ok(false),
     }
 }
 
-/// What is read for the act alone.
-fn find_act<S: Alter>(
-    alloc: Global,
-    tx: &mut Transaction<'_, S>,
-    branch: BranchNo,
-    act: &Act,
-) -> Result<ActFound, StoreFault>
-    ensures same_reference { tx.new.conn.ghost_name ≡ tx.old.conn.ghost_name }
-    ensures inside { StaysWithin (state S.Store tx.old.conn.now) (state S.Store tx.new.conn.now) result }
-    ensures found { HasCleanDisk (state S.Store tx.new.conn.now) → IfOk result (λ found. Reads (state S.Store tx.old.conn.now) (state S.Store tx.new.conn.now) (λ books. (limits : values.Limits)
-        → ActAgrees (rules_of limits) books.catalogue (shop_of branch books) (seen_act act.now) found)) }
-    ensures act { IfOk result (λ found. IsFoundFor act.now found) }
-    ensures within { IfOk result (λ found. IsWithin found) }
-{
-    match act {
-        Act::Customer(person) => find_customer(tx, branch, person),
-        Act::Active { customer, .. } => Ok(ActFound::Active {
-            is_active: find_active(tx, branch, *customer)?,
-        }),
-        Act::Rent { customer, copy } => find_rent(tx, branch, *customer, *copy),
-        Act::TakeBack(rental) => Ok(ActFound::TakeBack {
-            is_returned: find_returned(tx, branch, *rental)?,
-        }),
-        Act::Pay {
-            customer,
-            rental,
-            ..
-        } => find_pay(tx, branch, *customer, *rental),
-        Act::Scrap(copy) => find_scrap(tx, branch, *copy),
-        Act::Import { lot, file } => find_import(alloc, tx, branch, lot, file),
-    }
+/// What is found for an import.
+#[derive(Debug, Drop)]
+struct ImportFound {
+    copies: u32,
+    has_lot: bool,
+    stock: Result<Vec<StockFound>, BadCsv>,
 }
 
-/// What is read for a rental.
-fn find_rent<S: Alter>(
-    tx: &mut Transaction<'_, S>,
-    branch: BranchNo,
-    customer: CustomerNo,
-    copy: CopyNo,
-) -> Result<ActFound, StoreFault>
-    ensures same_reference { tx.new.conn.ghost_name ≡ tx.old.conn.ghost_name }
-    ensures inside { StaysWithin (state S.Store tx.old.conn.now) (state S.Store tx.new.conn.now) result }
-    ensures found { HasCleanDisk (state S.Store tx.new.conn.now) → IfOk result (λ found. Reads (state S.Store tx.old.conn.now) (state S.Store tx.new.conn.now) (λ books. (limits : values.Limits)
-        → ActAgrees (rules_of limits) books.catalogue (shop_of branch books) (seen_act (Act.Rent customer copy)) found)) }
-    ensures act { IfOk result (λ found. IsFoundFor (Act.Rent customer copy) found) }
-    ensures within { IfOk result (λ found. IsWithin found) }
-{
-    let is_active = find_active(tx, branch, customer)?;
-    let found = find_copy(tx, branch, copy)?;
-    let out = out_at(tx, branch, copy)?;
-    let rentals = fitting(count_of(tx, branch, CountKind::Rentals)? as usize)?;
-    Ok(ActFound::Rent {
-        is_active,
-        copy: found,
-        out,
-        rentals,
-    })
-}
-
-/// What is read for a payment.
-fn find_pay<S: Alter>(
-    tx: &mut Transaction<'_, S>,
-    branch: BranchNo,
-    customer: CustomerNo,
-    rental: Option<RentalNo>,
-) -> Result<ActFound, StoreFault>
-    ensures same_reference { tx.new.conn.ghost_name ≡ tx.old.conn.ghost_name }
-    ensures inside { StaysWithin (state S.Store tx.old.conn.now) (state S.Store tx.new.conn.now) result }
-    ensures found { HasCleanDisk (state S.Store tx.new.conn.now) → IfOk result (λ found. Reads (state S.Store tx.old.conn.now) (state S.Store tx.new.conn.now) (λ books. (limits : values.Limits) (amount : ℕ)
-        → ActAgrees (rules_of limits) books.catalogue (shop_of branch books) (Pay customer rental amount) found)) }
-    ensures act { (amount : _) → IfOk result (λ found. IsFoundFor (Act.Pay customer rental amount) found) }
-    ensures within { IfOk result (λ found. IsWithin found) }
-{
-    let has_customer = find_active(tx, branch, customer)?.is_some();
-    let renter = find_renter(tx, branch, rental)?;
-    let payments = fitting(count_of(tx, branch, CountKind::Payments)? as usize)?;
-    Ok(ActFound::Pay {
-        has_customer,
-        renter,
-        payments,
-    })
-}
-
-/// What is read for a copy that is to be scrapped.
-fn find_scrap<S: Alter>(
-    tx: &mut Transaction<'_, S>,
-    branch: BranchNo,
-    copy: CopyNo,
-) -> Result<ActFound, StoreFault>
-    ensures same_reference { tx.new.conn.ghost_name ≡ tx.old.conn.ghost_name }
-    ensures inside { StaysWithin (state S.Store tx.old.conn.now) (state S.Store tx.new.conn.now) result }
-    ensures found { HasCleanDisk (state S.Store tx.new.conn.now) → IfOk result (λ found. Reads (state S.Store tx.old.conn.now) (state S.Store tx.new.conn.now) (λ books. (limits : values.Limits)
-        → ActAgrees (rules_of limits) books.catalogue (shop_of branch books) (seen_act (Act.Scrap copy)) found)) }
-    ensures act { IfOk result (λ found. IsFoundFor (Act.Scrap copy) found) }
-    ensures within { IfOk result (λ found. IsWithin found) }
-{
-    let is_here = find_here(tx, branch, copy)?;
-    let out = out_at(tx, branch, copy)?;
-    Ok(ActFound::Scrap { is_here, out })
-}
-
-/// What is read for a new customer.
-fn find_customer<S: Alter>(
-    tx: &mut Transaction<'_, S>,
-    branch: BranchNo,
-    person: &Person,
-) -> Result<ActFound, StoreFault>
-    ensures same_reference { tx.new.conn.ghost_name ≡ tx.old.conn.ghost_name }
-    ensures inside { StaysWithin (state S.Store tx.old.conn.now) (state S.Store tx.new.conn.now) result }
-    ensures found { HasCleanDisk (state S.Store tx.new.conn.now) → IfOk result (λ found. Reads (state S.Store tx.old.conn.now) (state S.Store tx.new.conn.now) (λ books. (limits : values.Limits)
-        → ActAgrees (rules_of limits) books.catalogue (shop_of branch books) (seen_act (Act.Customer person.now)) found)) }
-    ensures act { IfOk result (λ found. IsFoundFor (Act.Customer person.now) found) }
-    ensures within { IfOk result (λ found. IsWithin found) }
-{
-    let has_city = has_city(tx, person.city)?;
-    let customers = fitting(count_of(tx, branch, CountKind::Customers)? as usize)?;
-    Ok(ActFound::Customer {
-        has_city,
-        customers,
-    })
-}
-
-/// What is read for an import.
+/// What is read for an import. Of another act nothing is read.
 fn find_import<S: Alter>(
     alloc: Global,
     tx: &mut Transaction<'_, S>,
     branch: BranchNo,
-    lot: &LotName,
-    file: &StockFile,
-) -> Result<ActFound, StoreFault>
+    act: &Act,
+) -> Result<ImportFound, StoreFault>
     ensures same_reference { tx.new.conn.ghost_name ≡ tx.old.conn.ghost_name }
     ensures inside { StaysWithin (state S.Store tx.old.conn.now) (state S.Store tx.new.conn.now) result }
     ensures found { HasCleanDisk (state S.Store tx.new.conn.now) → IfOk result (λ found. Reads (state S.Store tx.old.conn.now) (state S.Store tx.new.conn.now) (λ books. (limits : values.Limits)
-        → ActAgrees (rules_of limits) books.catalogue (shop_of branch books) (seen_act (Act.Import lot.now file.now)) found)) }
-    ensures act { IfOk result (λ found. IsFoundFor (Act.Import lot.now file.now) found) }
-    ensures within { IfOk result (λ found. IsWithin found) }
+        → IfSome (import_in (seen_act act.now)) (ImportAgrees (rules_of limits) books.catalogue (shop_of branch books) found.copies found.has_lot found.stock))) }
+    ensures few { IfOk result (λ found. found.copies ≤ 1_000_000) }
+    ensures listed { IfOk result (λ found. IfOk found.stock (λ rows. copies_of rows.items ≤ 1_000)) }
 {
-    let copies = fitting(count_of(tx, branch, CountKind::Copies)? as usize)?;
+    let Act::Import { lot, file } = act else {
+        return Ok(ImportFound {
+            copies: 0,
+            has_lot: false,
+            stock: Ok(Vec::new(alloc)),
+        });
+    };
+    let copies = fitting(count_of(tx, branch, CountKind::Copies)?)?;
     let has_lot = has_lot(tx, branch, lot)?;
     let stock = find_stock(alloc, tx, file)?;
-    Ok(ActFound::Import {
+    Ok(ImportFound {
         copies,
         has_lot,
         stock,

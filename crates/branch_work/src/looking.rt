@@ -10,12 +10,12 @@ ghost use Rattle.shop_model.specs.Books.{head, shop_of};
 ghost use Rattle.shop_schema.specs.Shop.{Reads};
 ghost use Rattle.shop_store.specs.Seen.{seen_state};
 ghost use Rattle.branch_work.specs.Finds.{is_yes, copy_shown};
-ghost use Rattle.branch_core.specs.Agreed.{active_at, copy_at, seen_copy, seen_film_copy, AreOfFilm};
+ghost use Rattle.branch_core.specs.Agreed.{active_at, copy_at, rental_at, seen_copy, seen_rental, seen_film_copy, AreOfFilm, IsOut};
 
-use branch_core::{CopyFound, FilmCopy};
+use branch_core::{CopyFound, FilmCopy, RentalFound};
 use catalogue_store::film_at;
 use shop_store::{CopyRow, CopyState, copies_of_film, copy_at, customer_at, out_at, rental_at};
-use shop_types::{BranchNo, CopyNo, CustomerNo, FilmNo, RentalNo};
+use shop_types::{BranchNo, CopyNo, CustomerNo, FilmNo, Rental, RentalNo};
 use sql_rows::StoreFault;
 use sqlite::{Alter, Transaction};
 use std::alloc::Global;
@@ -68,18 +68,21 @@ pub fn find_here<S: Alter>(
     }
 }
 
-/// Whether the copy is in the shop and its film withdrawn, where the branch has a copy of the number.
+/// Whether the copy is in the shop and its film withdrawn, where one is named and the branch has a copy of the number.
 pub fn find_copy<S: Alter>(
     tx: &mut Transaction<'_, S>,
     branch: BranchNo,
-    copy: CopyNo,
+    copy: Option<CopyNo>,
 ) -> Result<Option<CopyFound>, StoreFault>
     ensures same_reference { tx.new.conn.ghost_name ≡ tx.old.conn.ghost_name }
     ensures inside { StaysWithin (state S.Store tx.old.conn.now) (state S.Store tx.new.conn.now) result }
     ensures found { HasCleanDisk (state S.Store tx.new.conn.now) → IfOk result (λ found. Reads (state S.Store tx.old.conn.now) (state S.Store tx.new.conn.now)
-        (λ books. option_map seen_copy found ≡ copy_at books.catalogue (shop_of branch books) copy)) }
+        (λ books. IfSome copy (λ x. option_map seen_copy found ≡ copy_at books.catalogue (shop_of branch books) x))) }
 {
-    let Some(row) = copy_at(tx, branch, copy)? else {
+    let Some(number) = copy else {
+        return Ok(None);
+    };
+    let Some(row) = copy_at(tx, branch, number)? else {
         return Ok(None);
     };
     let withdrawn = film_at(tx, row.film)?;
@@ -89,37 +92,66 @@ pub fn find_copy<S: Alter>(
     }))
 }
 
-/// Whether the rental's copy came back, where the branch has a rental of the number.
-pub fn find_returned<S: Alter>(
+/// The copy's open rental, where a copy is named and is out.
+pub fn find_out<S: Alter>(
     tx: &mut Transaction<'_, S>,
     branch: BranchNo,
-    rental: RentalNo,
-) -> Result<Option<bool>, StoreFault>
+    copy: Option<CopyNo>,
+) -> Result<Option<RentalNo>, StoreFault>
     ensures same_reference { tx.new.conn.ghost_name ≡ tx.old.conn.ghost_name }
     ensures inside { StaysWithin (state S.Store tx.old.conn.now) (state S.Store tx.new.conn.now) result }
-    ensures found { HasCleanDisk (state S.Store tx.new.conn.now) → IfOk result (λ found. Reads (state S.Store tx.old.conn.now) (state S.Store tx.new.conn.now) (λ books. found ≡ head (map (λ it. is_some it.returned) (at rental (shop_of branch books).rentals)))) }
+    ensures found { HasCleanDisk (state S.Store tx.new.conn.now) → IfOk result (λ out. Reads (state S.Store tx.old.conn.now) (state S.Store tx.new.conn.now) (λ books. IfSome copy (λ x. IsOut (shop_of branch books) x out))) }
 {
-    match rental_at(tx, branch, rental)? {
-        Some(row) => Ok(Some(row.rental.returned.is_some())),
-        None => Ok(None),
-    }
+    let Some(number) = copy else {
+        return Ok(None);
+    };
+    Ok(out_at(tx, branch, number)?)
 }
 
-/// The customer of the rental, where one is named and the branch has it.
-pub fn find_renter<S: Alter>(
+/// The rental, where one is named and the branch has it.
+pub fn find_rental<S: Alter>(
     tx: &mut Transaction<'_, S>,
     branch: BranchNo,
     rental: Option<RentalNo>,
-) -> Result<Option<CustomerNo>, StoreFault>
+) -> Result<Option<RentalFound>, StoreFault>
     ensures same_reference { tx.new.conn.ghost_name ≡ tx.old.conn.ghost_name }
     ensures inside { StaysWithin (state S.Store tx.old.conn.now) (state S.Store tx.new.conn.now) result }
-    ensures found { HasCleanDisk (state S.Store tx.new.conn.now) → IfOk result (λ renter. Reads (state S.Store tx.old.conn.now) (state S.Store tx.new.conn.now)
-        (λ books. IfSome rental (λ r. renter ≡ head (map (λ it. it.customer) (at r (shop_of branch books).rentals))))) }
+    ensures found { HasCleanDisk (state S.Store tx.new.conn.now) → IfOk result (λ found. Reads (state S.Store tx.old.conn.now) (state S.Store tx.new.conn.now)
+        (λ books. IfSome rental (λ r. option_map seen_rental found ≡ rental_at (shop_of branch books) r))) }
 {
     let Some(number) = rental else {
         return Ok(None);
     };
     match rental_at(tx, branch, number)? {
+        Some(row) => Ok(Some(rental_found(row.rental))),
+        None => Ok(None),
+    }
+}
+
+/// What is found of a rental.
+fn rental_found(rental: Rental) -> RentalFound
+    ensures { seen_rental result ≡ (rental.customer, rental.copy, is_some rental.returned) }
+{
+    let is_returned = rental.returned.is_some();
+    RentalFound {
+        customer: rental.customer,
+        copy: rental.copy,
+        is_returned,
+    }
+}
+
+/// The customer of the rental, where the branch has it.
+fn find_renter<S: Alter>(
+    tx: &mut Transaction<'_, S>,
+    branch: BranchNo,
+    rental: RentalNo,
+) -> Result<Option<CustomerNo>, StoreFault>
+    ensures same_reference { tx.new.conn.ghost_name ≡ tx.old.conn.ghost_name }
+    ensures inside { StaysWithin (state S.Store tx.old.conn.now) (state S.Store tx.new.conn.now) result }
+    ensures found { HasCleanDisk (state S.Store tx.new.conn.now) → IfOk result (λ renter. Reads (state S.Store tx.old.conn.now) (state S.Store tx.new.conn.now)
+        (λ books. renter ≡ head (map (λ it. it.customer) (at rental (shop_of branch books).rentals)))) }
+{
+    match rental_at(tx, branch, rental)? {
         Some(row) => Ok(Some(row.rental.customer)),
         None => Ok(None),
     }
@@ -136,7 +168,7 @@ pub fn find_holder<S: Alter>(
     ensures found { HasCleanDisk (state S.Store tx.new.conn.now) → IfOk result (λ holder. Reads (state S.Store tx.old.conn.now) (state S.Store tx.new.conn.now) (λ books. holder ≡ head (held_by copy (shop_of branch books).rentals))) }
 {
     match out_at(tx, branch, copy)? {
-        Some(rental) => find_renter(tx, branch, Some(rental)),
+        Some(rental) => find_renter(tx, branch, rental),
         None => Ok(None),
     }
 }

@@ -17,19 +17,17 @@ ghost use Rattle.shop_model.specs.Books.{head, shop_of};
 ghost use Rattle.shop_types.specs.Seen.{seen_act, seen_ask, seen_command, seen_refusal, seen_request};
 ghost use Rattle.shop_types.specs.Replies.{seen_reply};
 ghost use Rattle.shop_schema.specs.Forms.{command_form};
-ghost use Rattle.branch_core.specs.Agreed.{ActAgrees, AreOfFilm, IsWithin};
-ghost use Rattle.branch_core.specs.Decided.{Adds, AreWithin, IsRefused};
+ghost use Rattle.branch_core.specs.Agreed.{AreOfFilm};
+ghost use Rattle.branch_core.specs.Decided.{AreWithin, IsRefused};
 ghost use Rattle.branch_work.specs.Rules.{rules_of};
 ghost use Rattle.branch_work.specs.Finds.{stock_asked, stock_listed};
 ghost use Rattle.branch_work.specs.Works.{IsDone, Works, WorksFor, IsAdded};
 
+use crate::adding::{add_rows, keep};
 use crate::finding::{find, kept_found};
 use crate::looking::{find_here, find_holder, find_of_film};
-use crate::new_rows::new_rows;
 use crate::reports::{look_balance, look_overdue, look_rewards};
-use crate::tallying::{copy_back, tally};
-use crate::writing::write;
-use branch_core::{ActFound, Change, FilmCopy, Rows, decide, film_in_stock, film_not_in_stock};
+use branch_core::{Change, FilmCopy, Rows, decide, film_in_stock, film_not_in_stock};
 use catalogue_store::film_at;
 use reply_bodies::{copies_text, customer_text, holder_text, in_stock_text};
 use shop_schema::{command_form, command_values};
@@ -215,7 +213,7 @@ fn act<S: Alter>(
             Err(_) => Err(StoreFault::Memory),
         },
         Ok(Change::Rows(rows)) => {
-            let reply = add(alloc, tx, branch, command, &form, rows, &found.act)?;
+            let reply = add(alloc, tx, branch, command, &form, rows)?;
             Ok((reply, true))
         }
         Err(refusal) => Ok((refuse(alloc, refusal)?, false)),
@@ -234,30 +232,24 @@ fn form_of(alloc: Global, command: &Command) -> Result<Bytes, StoreFault>
     }
 }
 
-/// Writes the rows of an accepted command, and gives its reply.
+/// Writes the rows of an accepted command, keeps it, and gives its reply.
 fn add<S: Alter>(
     alloc: Global,
     tx: &mut Transaction<'_, S>,
     branch: BranchNo,
     command: &Command,
     form: &Bytes,
-    rows: Rows,
-    act: &ActFound,
+    rows: Rows<'_>,
 ) -> Result<Reply, StoreFault>
     requires form { form.now ≡ command_form (seen_command command.now) }
-    requires first { AreWithin rows }
-    requires within { IsWithin act.now }
+    requires within { AreWithin rows }
     ensures same_reference { tx.new.conn.ghost_name ≡ tx.old.conn.ghost_name }
     ensures inside { StaysWithin (state S.Store tx.old.conn.now) (state S.Store tx.new.conn.now) result }
-    ensures added { HasCleanDisk (state S.Store tx.new.conn.now) → IfOk result (λ reply. (limits : _) → IsAdded limits branch (seen_command command.now) (seen_act command.now.act) act.now rows (seen_reply reply) (state S.Store tx.old.conn.now) (state S.Store tx.new.conn.now)) }
+    ensures added { HasCleanDisk (state S.Store tx.new.conn.now) → IfOk result (λ reply. (limits : _) → IsAdded limits branch (seen_command command.now) rows.entry (seen_reply reply) (state S.Store tx.old.conn.now) (state S.Store tx.new.conn.now)) }
 {
-    let Ok((new, reply)) = new_rows(alloc, branch, command, rows, act) else {
-        return Err(StoreFault::Memory);
-    };
-    let back = copy_back(tx, branch, &new)?;
-    write(tx, branch, command, form, &new, reply.as_str())?;
-    tally(tx, branch, &new, back)?;
-    Ok(Reply::accepted(reply))
+    let text = add_rows(alloc, tx, branch, rows)?;
+    keep(tx, branch, command, form, text.as_str())?;
+    Ok(Reply::accepted(text))
 }
 
 /// The reply to a command that is refused.

@@ -355,13 +355,13 @@ raised_as_many b k m a j (c ∷ cs) = go (is_count a j (cond (is_count b k c) (r
     go false true e more = cc
     go false false e more = more
 
-pub raised_small : (b k : ℕ) (cs : List Count) → AllByRecursion (λ (c : Count). c.last ≤ 1_000_000) cs → AllByRecursion (λ (c : Count). c.last < 2 ^ 32) (map (λ c. cond (is_count b k c) (raised 1 c) c) cs)
-raised_small b k [] all = tt
-raised_small b k (c ∷ cs) all = (go (is_count b k c), raised_small b k cs all.1)
+pub raised_small : (b k m : ℕ) → m ≤ 1_000_000 → (cs : List Count) → AllByRecursion (λ (c : Count). c.last ≤ 1_000_000) cs → AllByRecursion (λ (c : Count). c.last < 2 ^ 32) (map (λ c. cond (is_count b k c) (raised m c) c) cs)
+raised_small b k m low [] all = tt
+raised_small b k m low (c ∷ cs) all = (go (is_count b k c), raised_small b k m low cs all.1)
   where
     few : c.last ≤ 1_000_000
     few = all.0
 
-    go : (t : Bool) → (cond t (raised 1 c) c).last < 2 ^ 32
-    go true = omega (arith, few)
+    go : (t : Bool) → (cond t (raised m c) c).last < 2 ^ 32
+    go true = omega (arith, few, low)
     go false = omega (arith, few)

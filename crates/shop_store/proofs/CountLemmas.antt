@@ -27,7 +27,7 @@ use Rattle.shop_store.proofs.BranchRows.{of_two}
 use Rattle.shop_store.proofs.CountsOf.{told_count}
 use Rattle.shop_store.proofs.Outs.{open_of, outs_numbered, picks_out, opens_of, outs_rise, outs_are}
 use Rattle.shop_store.proofs.Rising.{rise_differ, rise_sorted}
-use Rattle.shop_store.proofs.CountTexts.{Beside, select_count, select_count_means, shows_counts, plus_one, plus_one_is, take_text, take_terms, told_terms, take_means, count_set, count_set_is, count_kept, count_test, plus, raise_text, raise_terms, raise_told, raise_means, count_more, count_more_is, more_kept, delete_out, drops_out, select_out, select_out_means, shows_out, select_outs, select_outs_means, shows_outs}
+use Rattle.shop_store.proofs.CountTexts.{Beside, select_count, select_count_means, shows_counts, count_test, plus, plus_is, raise_text, raise_terms, raise_told, raise_means, count_more, count_more_is, more_kept, delete_out, drops_out, select_out, select_out_means, shows_out, select_outs, select_outs_means, shows_outs}
 
 -- a change of the two tables, beside any books
 tallies_by : (old new : State) (Given : Counts → Type 0) (change : Counts → Counts) → ((books : Books) → IsShop old → Changes shop_schema (Beside books) old new Given change) → Tallies old new Given change (λ _. ⊤)
@@ -94,43 +94,36 @@ read_outs old new b rows seen numbers h same read books holds held =
       unmapped_numbers _ _ firsts ∙ outs_are b books held,
     )
 
--- ---- a number that is taken
+-- ---- numbers that are taken
 
-pub tallies_taken : (old new : State) (b : ℕ) (kind : CountKind) (rows : List sql.Row) → Shown take_text (number_value b ∷ number_value (kind_number kind) ∷ []) old new rows
+pub tallies_taken : (old new : State) (b : ℕ) (kind : CountKind) (m : ℕ) → m < 2 ^ 32 → (rows : List sql.Row) → Shown raise_text (number_value b ∷ number_value (kind_number kind) ∷ number_value m ∷ []) old new rows
     → (row : sql.Row) (n : ℕ) → slice_get rows 0 ≡ Some row → column row 0 ≡ number_value n
-    → Tallies old new (CountsOnce b kind) (raise b (kind_number kind) 1) (λ counts. map (λ (it : Count). it.last + 1) (filter (is_count b (kind_number kind)) counts.counters) ≡ n ∷ [])
-tallies_taken old new b kind rows h row n some is counts books holds given =
-    let k = kind_number kind in
-    let it = sets_and_tells shop_schema take_text 18 counter_table 3 of_two take_terms told_terms (number_value b ∷ number_value k ∷ []) counter_columns
-    (λ vs. number_test 0 b vs && (number_test 1 k vs && true)) (is_count b k) count_set (raised 1) (λ vs. plus_one (column vs 2) ∷ []) (λ c. c.last < 2 ^ 32)
-    (count_test b k) count_set_is count_kept old new holds.schema_is
-    take_means refl refl rows h refl (λ r. refl) (λ r. refl) (λ r. refl) (λ r. refl) (λ v vs. refl) (λ r. refl) in
-    let done = it.rows holds.keyed counts.counters holds.stands.counters given.small given.once in
-    let found = filter (is_count b k) counts.counters in (
-      record { schema_is = it.schema_is; keyed = it.keyed holds.keyed; stands = stands_but 18 counter_table refl refl counts _ books books _ refl _ _ it.others holds.stands done.0 },
-      told found (all-filter (λ (c : Count). c.last < 2 ^ 32) (is_count b k) counts.counters given.small) given.once (sym (ap (λ rs. slice_get rs 0) done.1) ∙ some),
-    )
-  where
-    told : (found : List Count) → AllByRecursion (λ c. c.last < 2 ^ 32) found → length found ≤ 1 → slice_get (map (λ (c : Count). plus_one (number_value c.last) ∷ []) found) 0 ≡ Some row
-        → map (λ (it : Count). it.last + 1) found ≡ n ∷ []
-    told [] all few e = cc
-    told (c ∷ []) all few e =
-        let same : plus_one (number_value c.last) ∷ [] ≡ row = cc in
-        ap (λ m. m ∷ []) (same_number _ _ (sym (plus_one_is c.last all.0) ∙ ap (λ r. column r 0) same ∙ is))
-    told (c ∷ d ∷ more) all few e = absurd (omega (arith, few))
-
--- ---- a count that is raised
-
-pub tallies_raised : (old new : State) (b : ℕ) (kind : CountKind) (m : ℕ) → m < 2 ^ 32 → (rows : List sql.Row) → Shown raise_text (number_value b ∷ number_value (kind_number kind) ∷ number_value m ∷ []) old new rows
-    → Tallies old new (CountsOnce b kind) (raise b (kind_number kind) m) (λ _. ⊤)
-tallies_raised old new b kind m few rows h counts books holds given =
+    → Tallies old new (CountsOnce b kind) (raise b (kind_number kind) m) (λ counts. map (λ (it : Count). it.last + m) (filter (is_count b (kind_number kind)) counts.counters) ≡ n ∷ [])
+tallies_taken old new b kind m few rows h row n some is counts books holds given =
     let k = kind_number kind in
     let it = sets_and_tells shop_schema raise_text 18 counter_table 3 of_two raise_terms raise_told (number_value b ∷ number_value k ∷ number_value m ∷ []) counter_columns
     (λ vs. number_test 0 b vs && (number_test 1 k vs && true)) (is_count b k) (count_more m) (raised m) (λ vs. plus m (column vs 2) ∷ []) (λ c. c.last < 2 ^ 32)
     (count_test b k) (count_more_is m few) (more_kept m few) old new holds.schema_is
     raise_means refl refl rows h refl (λ r. refl) (λ r. refl) (λ r. refl) (λ r. refl) (λ v vs. refl) (λ r. refl) in
     let done = it.rows holds.keyed counts.counters holds.stands.counters given.small given.once in
-    (record { schema_is = it.schema_is; keyed = it.keyed holds.keyed; stands = stands_but 18 counter_table refl refl counts _ books books _ refl _ _ it.others holds.stands done.0 }, tt)
+    let found = filter (is_count b k) counts.counters in (
+      record { schema_is = it.schema_is; keyed = it.keyed holds.keyed; stands = stands_but 18 counter_table refl refl counts _ books books _ refl _ _ it.others holds.stands done.0 },
+      told found (all-filter (λ (c : Count). c.last < 2 ^ 32) (is_count b k) counts.counters given.small) given.once (sym (ap (λ rs. slice_get rs 0) done.1) ∙ some),
+    )
+  where
+    told : (found : List Count) → AllByRecursion (λ c. c.last < 2 ^ 32) found → length found ≤ 1 → slice_get (map (λ (c : Count). plus m (number_value c.last) ∷ []) found) 0 ≡ Some row
+        → map (λ (it : Count). it.last + m) found ≡ n ∷ []
+    told [] all few_found e = cc
+    told (c ∷ []) all few_found e =
+        let same : plus m (number_value c.last) ∷ [] ≡ row = cc in
+        ap (λ k. k ∷ []) (same_number _ _ (sym (plus_is c.last m all.0 few) ∙ ap (λ r. column r 0) same ∙ is))
+    told (c ∷ d ∷ more) all few_found e = absurd (omega (arith, few_found))
+
+-- a count that is raised, of which nothing is told
+pub tallies_raised : (old new : State) (b : ℕ) (kind : CountKind) (m n : ℕ)
+    → Tallies old new (CountsOnce b kind) (raise b (kind_number kind) m) (λ counts. map (λ (it : Count). it.last + m) (filter (is_count b (kind_number kind)) counts.counters) ≡ n ∷ [])
+    → Tallies old new (CountsOnce b kind) (raise b (kind_number kind) m) (λ _. ⊤)
+tallies_raised old new b kind m n taken counts books holds given = ((taken counts books holds given).0, tt)
 
 -- ---- how many rows there are
 

@@ -3,7 +3,6 @@ use Rattle.std.proofs.Common.{◌≡◌, ◌+◌, ◌<◌, ◌^◌, ◌&&◌, �
 use Rattle.std.specs.Prelude.{⊤}
 use Rattle.std.proofs.lemmas.Bool.Decides.{nat_tests}
 use Rattle.sqlite.specs.declared.types.Value.{Value}
-use Rattle.sqlite.specs.declared.types.Value.TheVariants.{Int}
 use Rattle.sqlite_value.specs.Order as sql
 use Rattle.sqlite_value.specs.Order.{column}
 use Rattle.sqlite_value.specs.Keys.{ascending}
@@ -57,40 +56,7 @@ shows_counts counts old new b k rows books has h s =
     projects_bag shop_schema select_count 41 3 of_two (col 1 3 ∷ []) select_count_means (number_value b ∷ number_value k ∷ []) old new rows has h counter_columns counts.counters s.counters refl
     (λ vs. number_test 0 b vs && (number_test 1 k vs && true)) (λ vs. column vs 2 ∷ []) (is_count b k) (count_test b k) (λ r. refl)
 
--- one more, as SQL adds it: a number where 64 bits hold it
-abbrev pub plus_one : Value → Value
-plus_one v = binary (Arith Add) v (Int (pos 1))
-
-pub plus_one_is : (n : ℕ) → n < 2 ^ 32 → plus_one (number_value n) ≡ number_value (n + 1)
-unfolding binary
-plus_one_is n small =
-    let fits : nat_lt (n + 1) (2 ^ 63) ≡ true = grind (arith, nat_tests) in
-    ap (λ b. int_or (cond b (Some (pos (n + 1))) None) (real_arith Add (from_int (pos n)) (from_int (pos 1)))) fits
-
-abbrev pub take_text : List ℕ
-take_text = codes "UPDATE counter SET last = last + 1 WHERE caller = ?1 AND kind = ?2 RETURNING last"
-
-abbrev pub take_terms : List Term
-take_terms = col 1 0 ∷ col 1 0 ∷ col 1 1 ∷ col 1 2 ∷ op2 (Arith Add) (col 1 3) (lit (Int (pos 1))) ∷ []
-
--- behind the two parameters, a NULL and the rowid stand the columns
-abbrev pub told_terms : List Term
-told_terms = col 0 6 ∷ []
-
-pub take_means : MeansShowing shop_schema take_text (Update 18 (record { lets = []; body = plain_query 41 of_two take_terms [] })) told_terms
-unfolding understood everything
-take_means = record { names = _; is = refl; shows = refl; untimed = refl }
-
-abbrev pub count_set : sql.Row → sql.Row
-count_set vs = column vs 0 ∷ column vs 1 ∷ plus_one (column vs 2) ∷ []
-
-pub count_set_is : (c : Count) → c.last < 2 ^ 32 → count_set (counter_columns c) ≡ counter_columns (raised 1 c)
-count_set_is c small = ap (λ v. number_value c.caller ∷ number_value c.kind ∷ v ∷ []) (plus_one_is c.last small)
-
-pub count_kept : (c : Count) → c.last < 2 ^ 32 → are_kept counter_table.columns (count_set (counter_columns c)) ≡ true
-count_kept c small = ap (are_kept counter_table.columns) (count_set_is c small)
-
--- so many more, by a parameter
+-- so many more, as SQL adds them: a number where 64 bits hold it
 abbrev pub plus : ℕ → Value → Value
 plus m v = binary (Arith Add) v (number_value m)
 

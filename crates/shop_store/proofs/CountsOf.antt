@@ -78,19 +78,19 @@ told_count b k books rows row n low same some is =
     let one : row ≡ number_value (count_in k b books) ∷ [] = all-slice_get P rows 0 row some all in
     same_number _ _ (sym is ∙ ap (λ r. column r 0) one)
 
-picked_next : (b k : ℕ) (books : Books) (cs : List Count) → AllByRecursion (IsRight b k books) cs → AllByRecursion (λ m. m ≡ count_in k b books + 1) (map (λ (c : Count). c.last + 1) (filter (is_count b k) cs))
-picked_next b k books [] all = tt
-picked_next b k books (c ∷ cs) all = go (is_count b k c) refl (picked_next b k books cs all.1)
+picked_more : (b k m : ℕ) (books : Books) (cs : List Count) → AllByRecursion (IsRight b k books) cs → AllByRecursion (λ n. n ≡ count_in k b books + m) (map (λ (c : Count). c.last + m) (filter (is_count b k) cs))
+picked_more b k m books [] all = tt
+picked_more b k m books (c ∷ cs) all = go (is_count b k c) refl (picked_more b k m books cs all.1)
   where
-    go : (t : Bool) → is_count b k c ≡ t → AllByRecursion (λ m. m ≡ count_in k b books + 1) (map (λ (c : Count). c.last + 1) (filter (is_count b k) cs))
-        → AllByRecursion (λ m. m ≡ count_in k b books + 1) (map (λ (c : Count). c.last + 1) (cond t (c ∷ filter (is_count b k) cs) (filter (is_count b k) cs)))
-    go true e more = (ap (λ n. n + 1) (all.0 e), more)
+    go : (t : Bool) → is_count b k c ≡ t → AllByRecursion (λ n. n ≡ count_in k b books + m) (map (λ (c : Count). c.last + m) (filter (is_count b k) cs))
+        → AllByRecursion (λ n. n ≡ count_in k b books + m) (map (λ (c : Count). c.last + m) (cond t (c ∷ filter (is_count b k) cs) (filter (is_count b k) cs)))
+    go true e more = (ap (λ n. n + m) (all.0 e), more)
     go false e more = more
 
--- what one more of the count is
-pub told_next : (b k : ℕ) (books : Books) (n : ℕ) → 1 ≤ b → map (λ (c : Count). c.last + 1) (filter (is_count b k) (counts_of books).counters) ≡ n ∷ [] → n ≡ count_in k b books + 1
-told_next b k books n low is =
-    let all : AllByRecursion (λ m. m ≡ count_in k b books + 1) (n ∷ []) = subst (AllByRecursion (λ m. m ≡ count_in k b books + 1)) is (picked_next b k books (counts_of books).counters (counts_right b k books low)) in
+-- what so many more of the count are
+pub told_more : (b k m : ℕ) (books : Books) (n : ℕ) → 1 ≤ b → map (λ (c : Count). c.last + m) (filter (is_count b k) (counts_of books).counters) ≡ n ∷ [] → n ≡ count_in k b books + m
+told_more b k m books n low is =
+    let all : AllByRecursion (λ p. p ≡ count_in k b books + m) (n ∷ []) = subst (AllByRecursion (λ p. p ≡ count_in k b books + m)) is (picked_more b k m books (counts_of books).counters (counts_right b k books low)) in
     all.0
 
 -- ---- there is one of each kind

@@ -63,7 +63,7 @@ pub fn count_of<S: Alter>(
     }
 }
 
-/// Raises the branch's count of the kind by one, and tells it. A count that isn't there is not made. After a fault the transaction may be rolled back.
+/// Raises the branch's count of the kind by one, and tells it. A count that isn't there is a fault. After a fault the transaction may be rolled back.
 pub fn take_number<S: Alter>(
     tx: &mut Transaction<'_, S>,
     branch: BranchNo,
@@ -74,10 +74,26 @@ pub fn take_number<S: Alter>(
     ensures taken { HasCleanDisk (state S.Store tx.new.conn.now) → IfOk result (λ number. Tallies (state S.Store tx.old.conn.now) (state S.Store tx.new.conn.now) (CountsOnce branch kind) (raise branch (kind_number kind) 1)
         (λ counts. map (λ it. it.last + 1) (filter (is_count branch (kind_number kind)) counts.counters) ≡ number ∷ [])) }
 {
+    take_numbers(tx, branch, kind, 1)
+}
+
+/// Raises the branch's count of the kind by so many, and tells what it is then. A count that isn't there is a fault. After a fault the transaction
+/// may be rolled back.
+pub fn take_numbers<S: Alter>(
+    tx: &mut Transaction<'_, S>,
+    branch: BranchNo,
+    kind: CountKind,
+    more: u32,
+) -> Result<u32, StoreFault>
+    ensures same_reference { tx.new.conn.ghost_name ≡ tx.old.conn.ghost_name }
+    ensures inside { StaysInside (state S.Store tx.old.conn.now) (state S.Store tx.new.conn.now) result }
+    ensures taken { HasCleanDisk (state S.Store tx.new.conn.now) → IfOk result (λ last. Tallies (state S.Store tx.old.conn.now) (state S.Store tx.new.conn.now) (CountsOnce branch kind) (raise branch (kind_number kind) more)
+        (λ counts. map (λ it. it.last + more) (filter (is_count branch (kind_number kind)) counts.counters) ≡ last ∷ [])) }
+{
     let rows = query(
         tx,
-        "UPDATE counter SET last = last + 1 WHERE caller = ?1 AND kind = ?2 RETURNING last",
-        &[branch.get().to_sql(), kind.number().to_sql()],
+        "UPDATE counter SET last = last + ?3 WHERE caller = ?1 AND kind = ?2 RETURNING last",
+        &[branch.get().to_sql(), kind.number().to_sql(), more.to_sql()],
     )?;
     match rows.first() {
         None => Err(StoreFault::Failed),
@@ -96,15 +112,8 @@ pub fn raise_count<S: Alter>(
     ensures inside { StaysInside (state S.Store tx.old.conn.now) (state S.Store tx.new.conn.now) result }
     ensures raised { HasCleanDisk (state S.Store tx.new.conn.now) → OnOk result (Tallies (state S.Store tx.old.conn.now) (state S.Store tx.new.conn.now) (CountsOnce branch kind) (raise branch (kind_number kind) more) (λ _. ⊤)) }
 {
-    let rows = query(
-        tx,
-        "UPDATE counter SET last = last + ?3 WHERE caller = ?1 AND kind = ?2 RETURNING last",
-        &[branch.get().to_sql(), kind.number().to_sql(), more.to_sql()],
-    )?;
-    match rows.first() {
-        None => Err(StoreFault::Failed),
-        Some(_) => Ok(()),
-    }
+    take_numbers(tx, branch, kind, more)?;
+    Ok(())
 }
 
 /// The copy's open rental, where it is out: no copy has two. One row is read, however many rentals there are.

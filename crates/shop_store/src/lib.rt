@@ -16,6 +16,7 @@ pub use copies::{
 };
 pub use counts::{
     CountKind, count_of, drop_out, out_at, put_out, raise_count, rentals_out, take_number,
+    take_numbers,
 };
 pub use customers::{CustomerRow, customer_at, customers_of, put_customer, set_active};
 pub use kept::{KeptRow, kept_at, put_kept};

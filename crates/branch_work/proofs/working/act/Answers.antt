@@ -57,7 +57,7 @@ returns-in-Ok-Rows-clause-works g c = λ clean books holds held there last.
     let P : Result Change Refusal → Type 0 = λ it. IsDecided rules b books.catalogue shop command it in
     let decision = c.in-Ok-Rows.is ∙ ap known c.in-Ok-Rows.field-0-is in
     let is : P (Ok (change.Rows c.in-Ok-Rows.rows)) = subst P decision (c.decide.ensures.decided rules books.catalogue shop refl refl agrees) in
-    let added = c.in_ok-reply-in-Ok-Rows.ensures.added clean c.args.limits books found.0 held agrees.act is.1 in
+    let added = c.in_ok-reply-in-Ok-Rows.ensures.added clean c.args.limits books found.0 held is.1 in
     accepted_done c.args.limits b books command there _ _ is.0 added.1 added.0
 
 pub returns-clause-works : goal.returns-clause-works

@@ -1,0 +1,26 @@
+use Rattle.std.proofs.Common.{◌≤◌, arith, refl, sym}
+use Rattle.sqlite.specs.Held.{state}
+use Rattle.sqlite.specs.State.{HasCleanDisk}
+use Rattle.sql_rows.proofs.Inside.{on_ok_then}
+use Rattle.shop_types.specs.Seen.{seen_command}
+use Rattle.shop_schema.specs.Counts.{counts_of, raise}
+use Rattle.shop_store.proofs.CountsOf.{beside}
+use Rattle.branch_work.proofs.Counting.{kept_added}
+use Rattle.branch_work.proofs.adding.keep.Goals as goal
+
+pub returns-clause-kept : goal.returns-clause-kept
+returns-clause-kept g c = λ clean.
+    let b = c.args.branch in
+    let low : 1 ≤ b = omega arith in
+    let s0 = state g.S.Store c.args.tx.now.conn.now in
+    let s1 = state g.S.Store c.raise_count.new.tx.conn.now in
+    let s2 = state g.S.Store c.put_kept.new.tx.conn.now in
+    let s3 = state g.S.Store c.set_last.new.tx.conn.now in
+    let clean2 : HasCleanDisk s2 = omega (arith, clean, c.set_last.ensures.inside.survives.clean) in
+    let clean1 : HasCleanDisk s1 = omega (arith, clean2, c.put_kept.ensures.inside.survives.clean) in
+    let command = seen_command c.args.command.now in
+    let kept = c.in_ok-put_kept.ensures.put clean2 command refl (sym c.requires) in
+    on_ok_then c.set_last.result (λ last. λ books holds once.
+    let counts = raise b 4 1 (counts_of books) in
+    let counted = c.in_ok-raise_count.ensures.raised clean1 (counts_of books) books (beside s0 books holds) once in
+    kept_added s3 b command c.args.reply.now books low (last counts _ (kept counts books counted.0 tt) tt)) (c.set_last.ensures.set clean)

@@ -1,0 +1,128 @@
+//! How the copies of an import are written and counted.
+
+ghost use Rattle.std.specs.Prelude.{◌≡◌, ⊤, ◌+◌, ◌≤◌, ◌++◌, map, length, replicate, string_bytes, vec_len, IfOk, OnOk};
+ghost use Rattle.sqlite.specs.Held.{state};
+ghost use Rattle.sqlite.specs.State.{HasCleanDisk};
+ghost use Rattle.sql_rows.specs.Calls.{StaysWithin};
+ghost use Rattle.shop_model.specs.Rows.{next};
+ghost use Rattle.shop_model.specs.Books.{imported};
+ghost use Rattle.shop_schema.specs.Shop.{Writes};
+ghost use Rattle.shop_store.specs.Seen.{seen_copy_row};
+ghost use Rattle.branch_core.specs.Agreed.{copies_of, films_of};
+ghost use Rattle.branch_work.specs.Added.{Makes, copies_from, import_text, with_import};
+
+use crate::finding::fitting;
+use branch_core::{StockFound, copies_in};
+use reply_bodies::new_copies_text;
+use shop_store::{CopyRow, CopyState, CountKind, Mark, put_copy, put_lot, take_numbers};
+use shop_types::{BranchNo, CopyNo, FilmNo, LotName, NoMemory};
+use sql_rows::StoreFault;
+use sqlite::{Alter, Transaction};
+use std::alloc::Global;
+
+/// Adds the copies that the stock lists, and the lot, and gives the body of the reply.
+pub fn import<S: Alter>(
+    alloc: Global,
+    tx: &mut Transaction<'_, S>,
+    branch: BranchNo,
+    stock: &[StockFound],
+    lot: &LotName,
+) -> Result<String, StoreFault>
+    requires few { copies_of stock.now ≤ 1_000 }
+    ensures same_reference { tx.new.conn.ghost_name ≡ tx.old.conn.ghost_name }
+    ensures inside { StaysWithin (state S.Store tx.old.conn.now) (state S.Store tx.new.conn.now) result }
+    ensures added { HasCleanDisk (state S.Store tx.new.conn.now) → IfOk result (λ text. Makes (state S.Store tx.old.conn.now) (state S.Store tx.new.conn.now) (λ _. ⊤) (with_import branch (films_of stock.now) lot.now)
+        (string_bytes text) (λ books. import_text (length (films_of stock.now)) (next branch books.copies))) }
+{
+    let count = copies_in(stock);
+    let last = fitting(take_numbers(tx, branch, CountKind::Copies, count)?)?;
+    let first = first_of(last, count)?;
+    let Ok(copies) = new_copies(alloc, branch, first, stock) else {
+        return Err(StoreFault::Memory);
+    };
+    put_copies(tx, copies.as_slice())?;
+    put_lot(tx, branch, lot)?;
+    match new_copies_text(alloc, count, first) {
+        Ok(text) => Ok(text),
+        Err(_) => Err(StoreFault::Memory),
+    }
+}
+
+/// The first of so many numbers that end with the last.
+fn first_of(last: u32, count: u32) -> Result<CopyNo, StoreFault>
+    requires { last ≤ 1_000_000 }
+    ensures first { IfOk result (λ first. first + count ≡ last + 1) }
+    ensures bound { IfOk result (λ first. first ≤ 1_000_001) }
+{
+    match last.checked_sub(count) {
+        Some(before) => Ok(CopyNo::new(before + 1).unwrap()),
+        None => Err(StoreFault::Failed),
+    }
+}
+
+/// The copies that the stock lists, with numbers from the first on.
+fn new_copies(
+    alloc: Global,
+    branch: BranchNo,
+    first: CopyNo,
+    stock: &[StockFound],
+) -> Result<Vec<CopyRow>, NoMemory>
+    requires first { first ≤ 1_000_001 }
+    requires few { copies_of stock.now ≤ 1_000 }
+    ensures { IfOk result (λ copies. map seen_copy_row copies.items ≡ copies_from branch first (films_of stock.now)) }
+{
+    let mut copies = Vec::new(alloc);
+    for row in stock {
+        push_copies(&mut copies, branch, first, row.film, row.copies)?;
+    }
+    Ok(copies)
+}
+
+/// Adds so many copies of the film to those of an import, whose numbers go on from the first.
+fn push_copies(
+    copies: &mut Vec<CopyRow>,
+    branch: BranchNo,
+    first: CopyNo,
+    film: FilmNo,
+    count: u16,
+) -> Result<(), NoMemory>
+    requires { first + vec_len copies.old + count ≤ 2_000_000 }
+    ensures rows { OnOk result (map seen_copy_row copies.new.items ≡ map seen_copy_row copies.old.items ++ copies_from branch (first + vec_len copies.old) (replicate count film)) }
+    ensures len { OnOk result (vec_len copies.new ≡ vec_len copies.old + count) }
+{
+    copies.reserve(count as usize)?;
+    for _ in 0..count {
+        copies.push_reserved(new_copy(branch, first.get() + copies.len() as u32, film));
+    }
+    Ok(())
+}
+
+/// A copy that the branch imports, with that number.
+fn new_copy(branch: BranchNo, number: u32, film: FilmNo) -> CopyRow
+    requires { 1 ≤ number }
+    ensures { seen_copy_row result ≡ record { branch = branch; number = number; it = imported branch film number } }
+{
+    let number = CopyNo::new(number).unwrap();
+    CopyRow {
+        branch,
+        number,
+        film,
+        state: CopyState::Here,
+        mark: Mark {
+            branch,
+            copy: number,
+        },
+    }
+}
+
+/// Writes the copies, in their order.
+fn put_copies<S: Alter>(tx: &mut Transaction<'_, S>, copies: &[CopyRow]) -> Result<(), StoreFault>
+    ensures same_reference { tx.new.conn.ghost_name ≡ tx.old.conn.ghost_name }
+    ensures inside { StaysWithin (state S.Store tx.old.conn.now) (state S.Store tx.new.conn.now) result }
+    ensures put { HasCleanDisk (state S.Store tx.new.conn.now) → OnOk result (Writes (state S.Store tx.old.conn.now) (state S.Store tx.new.conn.now) (λ _. ⊤) (λ books. record books { copies = books.copies ++ map seen_copy_row copies.now })) }
+{
+    for row in copies {
+        put_copy(tx, *row)?;
+    }
+    Ok(())
+}
