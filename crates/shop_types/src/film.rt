@@ -1,5 +1,7 @@
-ghost use Rattle.std.specs.Prelude.{◌≡◌, ◌≤◌, Some, None, nat_lt, if◌then◌else◌};
-ghost use Rattle.shop_types.specs.Films.{rating_text, features_text};
+ghost use Rattle.std.specs.Prelude.{◌≡◌, ◌≤◌, Some, None, IfSome, IfNone, nat_lt, if◌then◌else◌};
+ghost use Rattle.shop_types.specs.declared.film.Rating.{Rating};
+ghost use Rattle.shop_types.specs.declared.film.Features.{Features};
+ghost use Rattle.shop_types.specs.Films.{rating_text, rating_of, features_text, features_of};
 
 use shop_values::{Amount, CategoryNo, L500, LanguageNo, Rate, T128};
 use std::marker::Model;
@@ -95,6 +97,22 @@ impl Rating {
             Rating::Nc17 => "NC-17",
         }
     }
+
+    /// The rating that the sample database spells so.
+    pub fn read(text: &str) -> Option<Rating>
+        ensures value { result ≡ rating_of text.now }
+        ensures some { IfSome result (λ rating. rating_text rating ≡ text.now) }
+        ensures none { IfNone result ((rating : Rating) → ¬ (rating_text rating ≡ text.now)) }
+    {
+        match text {
+            "G" => Some(Rating::G),
+            "PG" => Some(Rating::Pg),
+            "PG-13" => Some(Rating::Pg13),
+            "R" => Some(Rating::R),
+            "NC-17" => Some(Rating::Nc17),
+            _ => None,
+        }
+    }
 }
 
 /// What comes with a film: the special features of the Sakila sample database.
@@ -134,6 +152,39 @@ impl Features {
             (false, true, true, true) => "Commentaries,Deleted Scenes,Behind the Scenes",
             (true, true, true, true) => "Trailers,Commentaries,Deleted Scenes,Behind the Scenes",
         }
+    }
+
+    /// The features whose names the text has: each at most once, in the sample database's order, with commas between.
+    pub fn read(text: &str) -> Option<Features>
+        ensures value { result ≡ features_of text.now }
+        ensures some { IfSome result (λ features. features_text features ≡ text.now) }
+        ensures none { IfNone result ((features : Features) → ¬ (features_text features ≡ text.now)) }
+    {
+        let (trailers, commentaries, deleted_scenes, behind_the_scenes) = match text {
+            "" => (false, false, false, false),
+            "Trailers" => (true, false, false, false),
+            "Commentaries" => (false, true, false, false),
+            "Trailers,Commentaries" => (true, true, false, false),
+            "Deleted Scenes" => (false, false, true, false),
+            "Trailers,Deleted Scenes" => (true, false, true, false),
+            "Commentaries,Deleted Scenes" => (false, true, true, false),
+            "Trailers,Commentaries,Deleted Scenes" => (true, true, true, false),
+            "Behind the Scenes" => (false, false, false, true),
+            "Trailers,Behind the Scenes" => (true, false, false, true),
+            "Commentaries,Behind the Scenes" => (false, true, false, true),
+            "Trailers,Commentaries,Behind the Scenes" => (true, true, false, true),
+            "Deleted Scenes,Behind the Scenes" => (false, false, true, true),
+            "Trailers,Deleted Scenes,Behind the Scenes" => (true, false, true, true),
+            "Commentaries,Deleted Scenes,Behind the Scenes" => (false, true, true, true),
+            "Trailers,Commentaries,Deleted Scenes,Behind the Scenes" => (true, true, true, true),
+            _ => return None,
+        };
+        Some(Features {
+            trailers,
+            commentaries,
+            deleted_scenes,
+            behind_the_scenes,
+        })
     }
 }
 

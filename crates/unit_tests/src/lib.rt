@@ -15,3 +15,5 @@ mod routes;
 mod types;
 #[cfg(test)]
 mod values;
+#[cfg(test)]
+mod words;

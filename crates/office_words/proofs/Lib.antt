@@ -1,0 +1,3 @@
+pub mod NumberLemmas
+pub mod OfficeIsSimple
+pub mod WorkedLines

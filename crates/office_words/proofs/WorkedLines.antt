@@ -1,0 +1,38 @@
+-- Lines that are known: the definition computes on words that are written out.
+use Rattle.std.proofs.Common.{◌≡◌, refl, List, [], ◌∷◌, Some, None, false, codes}
+use Rattle.clap.specs.Words.{Text}
+use Rattle.clap.proofs.OnLiterals.{clap_on_literals}
+use Rattle.shop_types.specs.declared.film.Rating.TheVariants as rating
+use Rattle.shop_types.specs.declared.office.OfficeAct.TheVariants as office
+use Rattle.shop_types.specs.declared.line.LineAct.TheVariants as act
+use Rattle.office_words.specs.Line.{line_of}
+
+abbrev title_and_kinds : List Text
+title_and_kinds = codes "--title" ∷ codes "STONE" ∷ codes "--language" ∷ codes "1" ∷ codes "--category" ∷ codes "2" ∷ []
+
+-- a film's other options have defaults, and it has no length
+pub film_with_defaults : line_of (codes "film-add" ∷ codes "--key" ∷ codes "f1" ∷ title_and_kinds) ≡ Some (record {
+  db = None;
+  act = act.Office (record {
+    key = codes "f1";
+    act = office.Film (record {
+      title = codes "STONE";
+      description = [];
+      language = 1;
+      category = 2;
+      period = 3;
+      rate = 499;
+      replacement = 1_999;
+      minutes = None;
+      rating = rating.G;
+      features = record { trailers = false; commentaries = false; deleted_scenes = false; behind_the_scenes = false };
+    });
+  });
+})
+unfolding clap_on_literals
+film_with_defaults = refl
+
+-- a command without its key is no line
+pub film_without_key : line_of (codes "film-add" ∷ title_and_kinds) ≡ None
+unfolding clap_on_literals
+film_without_key = refl

@@ -1,0 +1,159 @@
+-- The command line of head office, as the library `clap` sees it: `[--db FILE] SUBCOMMAND [OPTION]..`, without the program's name.
+use Rattle.std.specs.Prelude.{ℕ, true, List, [], ◌∷◌, ◌++◌, Some, codes, fold}
+use Rattle.clap.specs.Words.{App, Rule, Shape, Text, new_rule, with_subcommand}
+use Rattle.clap.specs.Simple.{new_shape}
+use Rattle.clap.specs.declared.builder.value_parser.ValueParser.TheVariants as parser
+
+-- ---- options
+
+-- `--NAME TEXT`, which may be left out
+abbrev pub optional_rule : Text → Rule
+optional_rule name = record (new_rule name) { long = Some name }
+
+-- `--NAME TEXT`, which must be there
+abbrev pub text_rule : Text → Rule
+text_rule name = record (new_rule name) { long = Some name; required = true }
+
+-- `--NAME TEXT`, which has a default
+abbrev pub default_rule : Text → Text → Rule
+default_rule name value = record (optional_rule name) { defaults = value ∷ [] }
+
+-- `--NAME NUMBER`, of this range, which must be there
+abbrev pub number_rule : Text → ℕ → ℕ → Rule
+number_rule name low high = record (text_rule name) { parser = Some (parser.Unsigned low high) }
+
+-- `--NAME NUMBER`, of this range, which may be left out
+abbrev pub optional_number_rule : Text → ℕ → ℕ → Rule
+optional_number_rule name low high = record (optional_rule name) { parser = Some (parser.Unsigned low high) }
+
+-- `--NAME NUMBER`, of this range, which has a default
+abbrev pub default_number_rule : Text → ℕ → ℕ → Text → Rule
+default_number_rule name low high value = record (optional_number_rule name low high) { defaults = value ∷ [] }
+
+-- the number of a row
+abbrev pub row_rule : Text → Rule
+row_rule name = number_rule name 1 4_294_967_295
+
+-- the names of a person
+abbrev pub person_rules : List Rule
+person_rules = text_rule (codes "first") ∷ text_rule (codes "last") ∷ []
+
+-- where a branch or a person is found
+abbrev pub contact_rules : List Rule
+contact_rules = text_rule (codes "address") ∷ text_rule (codes "postal") ∷ text_rule (codes "phone") ∷ []
+
+-- ---- subcommands
+
+abbrev pub subcommand_shape : Text → List Rule → Shape
+subcommand_shape name rules = record (new_shape name) { rules = rules }
+
+-- a subcommand that changes the catalogue: it has a key
+abbrev pub keyed_shape : Text → List Rule → Shape
+keyed_shape name rules = subcommand_shape name (text_rule (codes "key") ∷ rules)
+
+-- a subcommand that adds what has a name alone
+abbrev pub named_shape : Text → Shape
+named_shape name = keyed_shape name (text_rule (codes "name") ∷ [])
+
+abbrev pub city_add_shape : Shape
+city_add_shape = keyed_shape (codes "city-add") (text_rule (codes "name") ∷ row_rule (codes "country") ∷ [])
+
+abbrev pub actor_add_shape : Shape
+actor_add_shape = keyed_shape (codes "actor-add") person_rules
+
+abbrev pub film_text_rules : List Rule
+film_text_rules = text_rule (codes "title") ∷ default_rule (codes "description") [] ∷ []
+
+abbrev pub film_kind_rules : List Rule
+film_kind_rules = row_rule (codes "language") ∷ row_rule (codes "category") ∷ default_rule (codes "rating") (codes "G") ∷ []
+
+abbrev pub film_terms_rules : List Rule
+film_terms_rules = default_number_rule (codes "period") 1 255 (codes "3")
+    ∷ default_number_rule (codes "rate") 0 9_999 (codes "499")
+    ∷ default_number_rule (codes "replacement") 0 99_999 (codes "1999") ∷ []
+
+abbrev pub film_disc_rules : List Rule
+film_disc_rules = optional_number_rule (codes "length") 1 65_535 ∷ default_rule (codes "features") [] ∷ []
+
+abbrev pub film_add_shape : Shape
+film_add_shape = keyed_shape (codes "film-add") (film_text_rules ++ film_kind_rules ++ film_terms_rules ++ film_disc_rules)
+
+abbrev pub film_price_shape : Shape
+film_price_shape = keyed_shape (codes "film-price") (row_rule (codes "film") ∷ number_rule (codes "rate") 0 9_999 ∷ [])
+
+abbrev pub film_withdraw_shape : Shape
+film_withdraw_shape = keyed_shape (codes "film-withdraw") (row_rule (codes "film") ∷ [])
+
+abbrev pub cast_add_shape : Shape
+cast_add_shape = keyed_shape (codes "cast-add") (row_rule (codes "film") ∷ row_rule (codes "actor") ∷ [])
+
+abbrev pub branch_add_shape : Shape
+branch_add_shape = keyed_shape (codes "branch-add") (text_rule (codes "token") ∷ row_rule (codes "city") ∷ contact_rules)
+
+abbrev pub staff_add_shape : Shape
+staff_add_shape = keyed_shape (codes "staff-add") (row_rule (codes "branch") ∷ row_rule (codes "city") ∷ person_rules ++ contact_rules)
+
+abbrev pub staff_leave_shape : Shape
+staff_leave_shape = keyed_shape (codes "staff-leave") (row_rule (codes "staff") ∷ [])
+
+abbrev pub manager_set_shape : Shape
+manager_set_shape = keyed_shape (codes "manager-set") (row_rule (codes "branch") ∷ row_rule (codes "staff") ∷ [])
+
+abbrev pub init_shape : Shape
+init_shape = subcommand_shape (codes "init") (text_rule (codes "token") ∷ [])
+
+abbrev pub migrate_shape : Shape
+migrate_shape = subcommand_shape (codes "migrate") []
+
+abbrev pub serve_shape : Shape
+serve_shape = subcommand_shape (codes "serve")
+    (number_rule (codes "port") 1 65_535 ∷ number_rule (codes "connections") 1 1_000_000 ∷ [])
+
+abbrev pub replay_shape : Shape
+replay_shape = subcommand_shape (codes "replay") []
+
+-- ---- the whole line
+
+abbrev pub name_shapes : List Shape
+name_shapes = named_shape (codes "country-add") ∷ named_shape (codes "language-add") ∷ named_shape (codes "category-add") ∷ []
+
+abbrev pub entry_shapes : List Shape
+entry_shapes = city_add_shape ∷ actor_add_shape ∷ film_add_shape ∷ []
+
+abbrev pub film_shapes : List Shape
+film_shapes = film_price_shape ∷ film_withdraw_shape ∷ cast_add_shape ∷ []
+
+abbrev pub place_shapes : List Shape
+place_shapes = branch_add_shape ∷ staff_add_shape ∷ []
+
+abbrev pub post_shapes : List Shape
+post_shapes = staff_leave_shape ∷ manager_set_shape ∷ []
+
+abbrev pub file_shapes : List Shape
+file_shapes = init_shape ∷ migrate_shape ∷ []
+
+abbrev pub request_shapes : List Shape
+request_shapes = serve_shape ∷ replay_shape ∷ []
+
+-- the command line before its subcommands
+abbrev pub top_app : App
+top_app = record {
+  top = record (new_shape (codes "sakila")) {
+    rules = optional_rule (codes "db") ∷ [];
+    no_binary_name = true;
+    subcommand_required = true;
+  };
+  subs = [];
+}
+
+abbrev pub with_catalogue : App → App
+with_catalogue app = fold with_subcommand (fold with_subcommand (fold with_subcommand app name_shapes) entry_shapes) film_shapes
+
+abbrev pub with_places : App → App
+with_places app = fold with_subcommand (fold with_subcommand app place_shapes) post_shapes
+
+abbrev pub with_program : App → App
+with_program app = fold with_subcommand (fold with_subcommand app file_shapes) request_shapes
+
+abbrev pub office_app : App
+office_app = with_program (with_places (with_catalogue top_app))

@@ -1,0 +1,76 @@
+-- What the options of a subcommand say, each as a value of its kind: none where it isn't there or isn't of its kind.
+use Rattle.std.specs.Prelude.{◌≡◌, ℕ, ◌^◌, ◌&&◌, ◌==◌, List, Option, Some, None}
+use Rattle.std.specs.Prelude.{Result, Ok, Err, option_and_then, option_map, codes, if◌then◌else◌, nat_lt, nat_le}
+use Rattle.std.specs.Str.Parse.{digits_value, without_leading_plus}
+use Rattle.clap.specs.ValueTests.{is_numeral}
+use Rattle.clap.specs.Words.{Row, Text, first_of, one_of, found_of, rows_of}
+use Rattle.clap.specs.declared.parser.matches.ArgMatches.{ArgMatches}
+use Rattle.shop_values.specs.Texts.{is_text, is_key, is_token}
+use Rattle.shop_types.specs.declared.film.Rating.{Rating}
+use Rattle.shop_types.specs.declared.film.Features.{Features}
+use Rattle.shop_types.specs.declared.line.Usage.{Usage}
+use Rattle.shop_types.specs.declared.line.Usage.TheVariants as usage
+use Rattle.shop_types.specs.Films.{rating_of, features_of}
+
+-- the values of the options
+abbrev pub values_of : ArgMatches → List Row
+values_of matches = rows_of (found_of matches)
+
+-- a reading gives the value where there is one, and fails where there is none; it may also fail for want of memory
+abbrev pub Reads : {A : Type 0} → Result A Usage → Option A → Type 0
+Reads (Ok value) found = found ≡ Some value
+Reads (Err e) found = ¬ (e ≡ usage.Memory) → found ≡ None
+
+-- what the function makes of the value, where there is one
+abbrev pub with_value : {A B : Type 0} → Option A → (A → Option B) → Option B
+with_value found f = option_and_then f found
+
+-- ---- texts
+
+abbrev pub text_given : ℕ → ℕ → Text → List Row → Option Text
+text_given low high id rows = with_value (first_of id rows) (λ text. if is_text low high text then Some text else None)
+
+abbrev pub key_given : List Row → Option Text
+key_given rows = with_value (first_of (codes "key") rows) (λ text. if is_key text then Some text else None)
+
+abbrev pub token_given : List Row → Option Text
+token_given rows = with_value (first_of (codes "token") rows) (λ text. if is_token text then Some text else None)
+
+abbrev pub rating_given : List Row → Option Rating
+rating_given rows = with_value (first_of (codes "rating") rows) rating_of
+
+abbrev pub features_given : List Row → Option Features
+features_given rows = with_value (first_of (codes "features") rows) features_of
+
+-- ---- numbers
+
+-- the number that a text writes in decimal, after a plus or none, below 2 ^ bits
+abbrev pub number_of : ℕ → Text → Option ℕ
+number_of bits text =
+    let digits = without_leading_plus text in
+    if is_numeral digits && nat_lt (digits_value 10 digits) (2 ^ bits) then Some (digits_value 10 digits) else None
+
+abbrev pub number_given : ℕ → Text → List Row → Option ℕ
+number_given bits id rows = with_value (one_of id rows) (number_of bits)
+
+-- the number of a row
+abbrev pub row_given : Text → List Row → Option ℕ
+row_given id rows = with_value (number_given 32 id rows) (λ n. if n == 0 then None else Some n)
+
+abbrev pub rate_given : List Row → Option ℕ
+rate_given rows = with_value (number_given 16 (codes "rate") rows) (λ n. if nat_le n 9_999 then Some n else None)
+
+abbrev pub replacement_given : List Row → Option ℕ
+replacement_given rows = with_value (number_given 32 (codes "replacement") rows) (λ n. if nat_le n 99_999 then Some n else None)
+
+abbrev pub period_given : List Row → Option ℕ
+period_given rows = with_value (number_given 8 (codes "period") rows) (λ n. if nat_lt 0 n then Some n else None)
+
+abbrev pub minutes_from : Option Text → List Row → Option (Option ℕ)
+minutes_from None rows = Some None
+minutes_from (Some text) rows =
+    option_map Some (with_value (number_given 16 (codes "length") rows) (λ n. if nat_lt 0 n then Some n else None))
+
+-- the length of a film, which may be left out
+abbrev pub minutes_given : List Row → Option (Option ℕ)
+minutes_given rows = minutes_from (first_of (codes "length") rows) rows

@@ -1,0 +1,4 @@
+pub mod CommandLine
+pub mod Given
+pub mod Acts
+pub mod Line

@@ -1,0 +1,10 @@
+//! Head office's words, as the library `clap` reads them.
+#![tactic(auto)]
+
+mod acts;
+mod clap_words;
+mod commands;
+mod given;
+mod options;
+
+pub use clap_words::ClapWords;
