@@ -1,7 +1,7 @@
 //! The chain that a row talks to, in memory or in files on disks in memory.
 use crate::fault::Fault;
 use crate::tables::{change, new_tables};
-use chain_engine::Chain;
+use chain_engine::{Chain, OpenFault};
 use counter_http::{End, ServeFault, Served, serve};
 use sakila_office::NoWords;
 use shop_types::Limits;
@@ -122,11 +122,19 @@ fn in_memory(alloc: Global, limits: Limits) -> Result<Shop, Fault> {
     }
 }
 
-fn opened(alloc: Global, files: Files<Memory>) -> Result<Shop, Fault> {
-    match Chain::open_files(alloc, files, Limits::default()) {
+/// The chain that was opened.
+fn found(
+    alloc: Global,
+    opened: Result<Chain<FileStore<Memory>>, (OpenFault, Files<Memory>)>,
+) -> Result<Shop, Fault> {
+    match opened {
         Ok(chain) => Ok(Shop::Files(chain)),
         Err((fault, _)) => Err(Fault::Opening(fault.to_string(alloc)?)),
     }
+}
+
+fn opened(alloc: Global, files: Files<Memory>) -> Result<Shop, Fault> {
+    found(alloc, Chain::open_files(alloc, files, Limits::default()))
 }
 
 /// Opens the files, which has to be refused with the fault of that name.
@@ -234,10 +242,10 @@ impl Shop {
 
     /// The chain that its files hold, or none where the opening has to be refused with the fault of a name.
     pub fn reopened(self, alloc: Global, fault: &str) -> Result<Shop, Fault> {
-        let files = self.files()?;
-        match fault {
-            "" => opened(alloc, files),
-            name => refused(alloc, files, name),
+        match (self, fault) {
+            (Shop::Files(chain), "") => found(alloc, chain.reopen()),
+            (shop, "") => opened(alloc, shop.files()?),
+            (shop, name) => refused(alloc, shop.files()?, name),
         }
     }
 
