@@ -1,11 +1,16 @@
 -- What is found of a rental's copy and film tells its terms.
-use Rattle.std.proofs.Common.{◌≡◌, ◌∙◌, inl, inr, refl, sym, ap, arith, ℕ, ◌+◌, ◌<◌, List, [], ◌∷◌, ◌++◌, length, map, filter, flat_map, take, get_or, codes, append_assoc, append-nil, Bool, true, false, Option, Some, None, option_map}
+use Rattle.std.proofs.Common.{◌≡◌, ◌∙◌, inl, inr, refl, sym, ap, subst, cond, arith, ℕ, ◌+◌, ◌<◌, List, [], ◌∷◌, ◌++◌, length, map, filter, flat_map, take, get_or, codes, append_assoc, append-nil, Bool, true, false, Option, Some, None, option_map}
 use Rattle.std.proofs.lemmas.Bool.{cases_Bool}
 use Rattle.std.proofs.lemmas.List.{map-append, take_more, length-append}
 use Rattle.std.proofs.lemmas.List.Elements.{filter-append}
 use Rattle.std.specs.Prelude.{◌-◌, ◌==◌, ◌&&◌, ◌||◌, if◌then◌else◌, nat_lt, is_none, is_some}
 use Rattle.std.specs.List.{list_any}
-use Rattle.std.specs.Option.{option_to_list}
+use Rattle.std.specs.Option.{option_to_list, IfSome}
+use Rattle.std.proofs.Common.{Ordering, Less, Equal, Greater}
+use Rattle.std.specs.Ordering.{is_eq, nat_cmp}
+use Rattle.std.specs.BTreeMap.{BTreeMap, Updates, get, is_at}
+use Rattle.std.specs.Map.{lookup}
+use Rattle.std.proofs.lemmas.Map.Lookups.{exact_unsigned}
 use Rattle.shop_model.specs.Rows.{at, numbered, numbered_from, of}
 use Rattle.shop_model.specs.Calendar.{Moment, day_of}
 use Rattle.shop_model.specs.Values.{Text, Copy, Customer, Film, Rental}
@@ -19,8 +24,9 @@ use Rattle.shop_store.specs.declared.copies.CopyRow.{CopyRow}
 use Rattle.shop_store.specs.declared.customers.CustomerRow.{CustomerRow}
 use Rattle.shop_store.specs.Seen.{seen_copy_row}
 use Rattle.shop_schema.proofs.Lists.{flat_map_push}
-use Rattle.branch_work.specs.Finds.{rentals_at}
-use Rattle.catalogue_store.specs.Seen.{title_of}
+use Rattle.branch_work.specs.Finds.{AreKnown, rentals_at}
+use Rattle.catalogue_store.specs.declared.reads.FilmTerms.{FilmTerms}
+use Rattle.catalogue_store.specs.Seen.{seen_terms, title_of}
 use Rattle.shop_views.specs.declared.overdue_rows.OverdueRow.{OverdueRow}
 use Rattle.shop_views.specs.Overdue.{seen_overdue}
 use Rattle.balance_rule.specs.declared.rows.RentalTerms.{RentalTerms}
@@ -207,3 +213,27 @@ listed_row catalogue shop rental film title row found listed told there is same 
     let film_title : title ≡ flat_map (λ (it : Film). it.title) (film_of catalogue shop rental) =
     title_is title (at film catalogue.films) told (picks_one film catalogue.films) ∙ ap (flat_map (λ (it : Film). it.title)) (sym same) in
     ap seen_overdue made ∙ (λ i. record { customer = name_is i; phone = phone_is i; title = film_title i })
+
+-- ---- films whose terms are known
+
+is_equal : (o : Ordering) → is_eq o ≡ true → o ≡ Equal
+is_equal Less is = cc
+is_equal Equal is = refl
+is_equal Greater is = cc
+
+-- what is read of a film is known beside the others
+pub known_more : (catalogue : Catalogue) (old new : BTreeMap ℕ FilmTerms) (film number : ℕ) (terms : FilmTerms) → AreKnown old catalogue → number ≡ film
+    → Some (seen_terms terms) ≡ head (map price (at film catalogue.films)) → Updates nat_cmp old new number (Some terms) → AreKnown new catalogue
+known_more catalogue old new film number terms known same told updates = λ other.
+    let holds : Option FilmTerms → Type 0 = λ found. IfSome found (λ it. Some (seen_terms it) ≡ head (map price (at other catalogue.films))) in
+    elim (cases_Bool (is_at (nat_cmp number) other)) [
+      | inl at_it ↦
+          let one : film ≡ other = sym same ∙ exact_unsigned number other (is_equal (nat_cmp number other) at_it) in
+          let there : get nat_cmp new other ≡ Some terms = updates.0 other ∙ ap (λ (b : Bool). cond b (Some terms) (get nat_cmp old other)) at_it in
+          subst holds (sym there) (told ∙ ap (λ (n : ℕ). head (map price (at n catalogue.films))) one)
+      | inr isnt ↦ subst holds (sym (updates.2 other isnt)) (known other)
+    ]
+
+pub none_known : (catalogue : Catalogue) (known : BTreeMap ℕ FilmTerms) → known.entries ≡ [] → AreKnown known catalogue
+none_known catalogue known none = λ film.
+    subst (λ (entries : List (ℕ × FilmTerms)). IfSome (lookup (is_at (nat_cmp film)) entries) (λ it. Some (seen_terms it) ≡ head (map price (at film catalogue.films)))) (sym none) tt

@@ -1,5 +1,8 @@
 -- What is found of the rows that a command names.
 use Rattle.std.specs.Prelude.{◌≡◌, ℕ, zero, suc, ℤ, [], ◌∷◌, ◌++◌, ◌==◌, ◌&&◌, Bool, true, false, not, is_some, List, map, filter, flat_map, Option, Some, None, option_map}
+use Rattle.std.specs.Option.{IfSome}
+use Rattle.std.specs.Ordering.{nat_cmp}
+use Rattle.std.specs.BTreeMap.{BTreeMap, get}
 use Rattle.std.specs.Str.{bytes_eq}
 use Rattle.std.specs.List.{list_any}
 use Rattle.shop_model.specs.Calendar.{Moment, same_moment}
@@ -16,6 +19,8 @@ use Rattle.shop_store.specs.Seen.{seen_copy_row}
 use Rattle.stock_csv.specs.declared.StockRow.{StockRow}
 use Rattle.branch_core.specs.declared.found.StockFound.{StockFound}
 use Rattle.branch_core.specs.declared.found.KeptFound.{KeptFound}
+use Rattle.catalogue_store.specs.declared.reads.FilmTerms.{FilmTerms}
+use Rattle.catalogue_store.specs.Seen.{seen_terms, terms_of}
 use Rattle.balance_rule.specs.Balance.{paid_of}
 use Rattle.balance_rule.specs.Rewards.{is_on, passes}
 use Rattle.branch_core.specs.Agreed.{seen_kept as told, kept_for}
@@ -68,6 +73,12 @@ stock_asked false film = FilmNotInStock film
 abbrev pub stock_listed : Bool → ℕ → Shop → List ℕ
 stock_listed true film shop = film_in_stock film shop
 stock_listed false film shop = film_not_in_stock film shop
+
+-- ---- balances
+
+-- what is known of films is what the catalogue has of them
+abbrev pub AreKnown : BTreeMap ℕ FilmTerms → Catalogue → Type 0
+AreKnown known catalogue = (film : ℕ) → IfSome (get nat_cmp known film) (λ terms. Some (seen_terms terms) ≡ head (map terms_of (at film catalogue.films)))
 
 -- ---- overdue rentals
 

@@ -3,14 +3,15 @@ use Rattle.std.proofs.lemmas.List.{take_all, map_more}
 use Rattle.std.proofs.lemmas.Grind.{flat_map-append}
 use Rattle.sqlite.specs.Held.{state}
 use Rattle.sqlite.specs.State.{HasCleanDisk}
-use Rattle.sql_rows.proofs.Stays.{within_as, within_then}
+use Rattle.sql_rows.proofs.Stays.{within_as, within_none, within_then}
 use Rattle.shop_model.specs.Values.{Rental}
 use Rattle.shop_model.specs.Books.{shop_of}
 use Rattle.shop_types.specs.Seen.{seen_rental}
 use Rattle.shop_store.specs.declared.rentals.RentalRow.{RentalRow}
 use Rattle.balance_rule.specs.declared.rows.RentalTerms.{RentalTerms}
 use Rattle.balance_rule.specs.Balance.{terms_of}
-use Rattle.branch_work.proofs.Readings.{reads_then, reads_as}
+use Rattle.branch_work.proofs.Readings.{reads_then, reads_as, reads_none}
+use Rattle.branch_work.proofs.TermLemmas.{none_known}
 use Rattle.branch_work.proofs.balances.with_terms.Goals as goal
 
 abbrev seen : RentalRow → Rental
@@ -24,6 +25,11 @@ more_flat {B = B} f rows i row lt is =
     ∙ sym (flat_map-append f (map seen (take i rows)) (seen row ∷ []))
     ∙ ap (λ (r : RentalRow). flat_map f (map seen (take i rows) ++ seen r ∷ [])) is
     ∙ ap (flat_map f) (sym (map_more seen rows i row lt))
+
+pub loop-row-init : goal.loop-row-init
+loop-row-init g c =
+    let s0 = state g.S.Store c.args.tx.now.conn.now in
+    (refl, within_none s0 (Ok tt), λ clean. reads_none s0 _ (λ books held. (c.new-terms.ensures.items, none_known books.catalogue c.new-known.result c.new-known.ensures.empty)))
 
 pub loop-row-preserved : goal.loop-row-preserved
 loop-row-preserved g c =
@@ -41,11 +47,12 @@ loop-row-preserved g c =
           let clean1 : HasCleanDisk s1 = omega (arith, clean, told.inside.survives.clean) in
           reads_as s0 s2 _ _ (λ books held is.
           let f : Rental → List RentalTerms = terms_of books.catalogue (shop_of c.args.branch books) in
-          c.in_ok-push_found.ensures ∙ (λ j. is.0 j ++ is.1 j) ∙ more_flat f rows i c.row-item.result c.loop-row-test.true c.row-item.is)
+          let it = is.1 is.0.1 in
+          (c.in_ok-push_found.ensures ∙ (λ j. is.0.0 j ++ it.0 j) ∙ more_flat f rows i c.row-item.result c.loop-row-test.true c.row-item.is, it.1))
           (reads_then s0 s1 s2 _ _ (inv.2 clean1) (told.found clean))),
     )
 
 pub returns-clause-found : goal.returns-clause-found
 returns-clause-found g c = λ clean.
     reads_as (state g.S.Store c.args.tx.now.conn.now) (state g.S.Store c.loop-row.tx.conn.now) _ _
-    (λ books held is. is ∙ ap (λ (rs : List RentalRow). flat_map (terms_of books.catalogue (shop_of c.args.branch books)) (map seen rs)) (take_all c.loop-row.row-index c.args.rows.now c.loop-row-test.false)) (c.loop-row.invariant.2 clean)
+    (λ books held is. is.0 ∙ ap (λ (rs : List RentalRow). flat_map (terms_of books.catalogue (shop_of c.args.branch books)) (map seen rs)) (take_all c.loop-row.row-index c.args.rows.now c.loop-row-test.false)) (c.loop-row.invariant.2 clean)

@@ -9,6 +9,7 @@ use Rattle.shop_types.specs.Seen.{seen_rental}
 use Rattle.shop_schema.specs.Shop.{Reads}
 use Rattle.shop_store.specs.declared.rentals.RentalRow.{RentalRow}
 use Rattle.balance_rule.specs.Balance.{terms_of}
+use Rattle.branch_work.specs.Finds.{AreKnown}
 use Rattle.branch_work.proofs.balances.with_terms.Given as goal
 
 abbrev pub invariant-loop-row : goal.invariant-loop-row
@@ -16,4 +17,5 @@ invariant-loop-row g l =
     (l.tx.conn.ghost_name ≡ l.fn.tx.conn.ghost_name)
     × StaysWithin {X = ⊤} {E = StoreFault} (state g.S.Store l.fn.tx.conn.now) (state g.S.Store l.tx.conn.now) (Ok tt)
     × (HasCleanDisk (state g.S.Store l.tx.conn.now) → Reads (state g.S.Store l.fn.tx.conn.now) (state g.S.Store l.tx.conn.now)
-    (λ books. l.terms.items ≡ flat_map (terms_of books.catalogue (shop_of l.branch books)) (map (λ (row : RentalRow). seen_rental row.rental) (take l.row-index l.rows))))
+    (λ books. (l.terms.items ≡ flat_map (terms_of books.catalogue (shop_of l.branch books)) (map (λ (row : RentalRow). seen_rental row.rental) (take l.row-index l.rows)))
+    × AreKnown l.known books.catalogue))
