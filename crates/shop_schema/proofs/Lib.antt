@@ -12,6 +12,7 @@ pub mod FirstRows
 pub mod MomentTexts
 pub mod Lasts
 pub mod Values
+pub mod OfficeValues
 pub mod FirstValues
 pub mod Numbered
 pub mod Different

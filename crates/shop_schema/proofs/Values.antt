@@ -12,18 +12,35 @@ use Rattle.shop_model.specs.Json.{escape_byte, flag_text, object}
 use Rattle.shop_model.specs.Rows.{Row, of, is_row, next, put, put_all, set_row}
 use Rattle.shop_model.specs.Values.{Text, Customer, Rental, Scrapped, Act, AddCustomer, SetActive, Rent, TakeBack, Pay, Import, Dispatch, Receive, Scrap, Command, Rules}
 use Rattle.shop_model.specs.Machine.{films_in, told, reply_text, if_accepted, Do}
-use Rattle.shop_model.specs.Shop.{Shop}
+use Rattle.shop_model.specs.Shop.{Shop, Catalogue}
+use Rattle.shop_model.specs.Links.{IsGoodCatalogue}
 use Rattle.shop_model.specs.Books.{Books, BookCopy, put_state, book_acted, Counter, book_done, imported, unmarked, shop_of}
 use Rattle.shop_model.specs.Sound.{IsSound}
 use Rattle.shop_model.specs.Verdict.{Verdict, Accepted, verdict}
 use Rattle.shop_model.proofs.Soundness.{after_sound}
 use Rattle.shop_model.proofs.RowLemmas.{put_own, length_map}
-use Rattle.shop_schema.specs.Held.{IsHeld}
+use Rattle.shop_schema.specs.Held.{HasFewShared, IsHeld}
 use Rattle.shop_schema.specs.RowValues.{IsNumber, IsRow, IsCustomer, IsCopy, IsRental, IsPayment, IsLot, IsKept, IsLast, AreBytes, IsAct, IsCommand, AreValues}
 use Rattle.shop_schema.specs.Steps.{FilmsFit, FitsTables, IsBuilt}
 use Rattle.shop_types.specs.Seen.{seen_act}
 use Rattle.shop_types.specs.declared.command.Act as types
 use Rattle.shop_types.specs.declared.command.Act.TheVariants as act
+
+-- a good catalogue by a size of a million has few shared rows
+few_by_good : (sizes : Rules) (catalogue : Catalogue) → sizes.commands ≡ 1_000_000 → IsGoodCatalogue sizes catalogue → HasFewShared catalogue
+few_by_good sizes catalogue commands good =
+    let keys = good.keys_fit in
+    let few = good.sizes in
+    record {
+      countries = omega (arith, commands, keys, few.countries);
+      cities = omega (arith, commands, keys, few.cities);
+      languages = omega (arith, commands, keys, few.languages);
+      categories = omega (arith, commands, keys, few.categories);
+      actors = omega (arith, commands, keys, few.actors);
+      films = omega (arith, commands, keys, few.films);
+      branches = omega (arith, commands, keys, few.branches);
+      staff = omega (arith, commands, keys, few.staff);
+    }
 
 -- sound books of such rows, by sizes of a million, are held
 pub held_by_sound : (sizes : Rules) (books : Books) → sizes.commands ≡ 1_000_000 → sizes.copies ≡ 1_000_000 → IsSound sizes books → AreValues books → IsHeld books
@@ -39,6 +56,10 @@ held_by_sound sizes books commands copies sound values = record {
   most_copies = λ b. let few = (sound.shops b).copies in omega arith;
   most_office_kept = let few = sound.catalogue.keys_fit in omega arith;
   out_once = λ b. (sound.held b).one;
+  owners = sound.owners;
+  office_keys = sound.catalogue.keys;
+  single = sound.catalogue.single;
+  few_shared = few_by_good sizes books.catalogue commands sound.catalogue;
 }
 
 -- ---- lists of which all items are such
@@ -110,7 +131,7 @@ import_reply copies first c f = IsUtf8-from_ascii _
     (IsAscii-append (decimal first) (codes "}") (IsAscii-decimal first f) (ascii_bytes (codes "}") refl)))))
 
 -- a number in an object of one member, whose name is plain
-number_reply : (name : List ℕ) → list_all (λ b. nat_lt b 128) name ≡ true → (n : ℕ) → n < 2 ^ 64 → IsUtf8 (name ++ (decimal n ++ codes "}"))
+pub number_reply : (name : List ℕ) → list_all (λ b. nat_lt b 128) name ≡ true → (n : ℕ) → n < 2 ^ 64 → IsUtf8 (name ++ (decimal n ++ codes "}"))
 number_reply name plain n fits = IsUtf8-from_ascii _ (IsAscii-append name (decimal n ++ codes "}") (ascii_bytes name plain) (IsAscii-append (decimal n) (codes "}") (IsAscii-decimal n fits) (ascii_bytes (codes "}") refl)))
 
 rental_reply : (n : ℕ) → n < 2 ^ 64 → IsUtf8 (object ((codes "rental", decimal n) ∷ []))
@@ -135,7 +156,7 @@ active_reply true n fits = number_reply (codes "{\"active\":true,\"customer\":")
 active_reply false n fits = number_reply (codes "{\"active\":false,\"customer\":") refl n fits
 
 -- the number of a row is small
-small : (n : ℕ) → IsNumber n → n < 2 ^ 64
+pub small : (n : ℕ) → IsNumber n → n < 2 ^ 64
 small n is = grind (arith, nat_tests)
 
 reply_utf8 : (rules : Rules) (act : Act) (shop : Shop) → length shop.customers ≤ 1_000_000 → length shop.rentals ≤ 1_000_000 → length shop.payments ≤ 1_000_000 → length shop.copies ≤ 1_000_000 → IsAct act → FitsTables rules act → IsBuilt act

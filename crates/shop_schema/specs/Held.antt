@@ -2,15 +2,26 @@
 use Rattle.std.specs.Prelude.{◌≡◌, ℕ, ◌≤◌, true, length, filter}
 use Rattle.std.specs.Str.{bytes_eq}
 use Rattle.shop_model.specs.Values.{Branch}
-use Rattle.shop_model.specs.Shop.{Kept}
+use Rattle.shop_model.specs.Shop.{Kept, OfficeKept, Catalogue}
 use Rattle.shop_model.specs.Books.{Books, shop_of}
 use Rattle.shop_model.specs.Stock.{keeps_out}
-use Rattle.shop_model.specs.Links.{are_different}
-use Rattle.shop_model.specs.Sound.{HasNumbers}
+use Rattle.shop_model.specs.Links.{are_different, HasNoDoubles}
+use Rattle.shop_model.specs.Sound.{HasNumbers, HasOwners}
 use Rattle.shop_schema.specs.RowValues.{AreValues}
 
--- Its rows are such as the program can hold, they are numbered, no key of a branch and no token comes twice, no caller has more than a million rows of a kind, and
--- a copy is out at most once.
+-- no numbered list of shared rows is more than three longer than the most keys that head office may have
+pub record HasFewShared (catalogue : Catalogue) : Type 0 where
+  pub countries : length catalogue.countries ≤ 1_000_003
+  pub cities : length catalogue.cities ≤ 1_000_003
+  pub languages : length catalogue.languages ≤ 1_000_003
+  pub categories : length catalogue.categories ≤ 1_000_003
+  pub actors : length catalogue.actors ≤ 1_000_003
+  pub films : length catalogue.films ≤ 1_000_003
+  pub branches : length catalogue.branches ≤ 1_000_003
+  pub staff : length catalogue.staff ≤ 1_000_003
+
+-- Its rows are such as the program can hold, they are numbered, the branches that they name are there, no key of a caller and no token comes twice, no cast and no
+-- name of a country, language or category does, no caller has more than a million rows of a kind, shared rows are few, and a copy is out at most once.
 pub record IsHeld (books : Books) : Type 0 where
   pub values : AreValues books
   pub numbers : HasNumbers books
@@ -23,3 +34,7 @@ pub record IsHeld (books : Books) : Type 0 where
   pub most_copies : (b : ℕ) → length (shop_of b books).copies ≤ 1_000_000
   pub most_office_kept : length books.catalogue.kept ≤ 1_000_000
   pub out_once : (b x : ℕ) → length (filter (keeps_out x) (shop_of b books).rentals) ≤ 1
+  pub owners : HasOwners books.catalogue.branches books
+  pub office_keys : are_different (λ (earlier later : OfficeKept). bytes_eq earlier.command.key later.command.key) books.catalogue.kept ≡ true
+  pub single : HasNoDoubles books.catalogue
+  pub few_shared : HasFewShared books.catalogue

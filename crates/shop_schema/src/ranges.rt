@@ -1,9 +1,10 @@
 //! The values of commands.
 
-ghost use Rattle.shop_schema.specs.RowValues.{IsPerson, AreBytes, IsAct, IsCommand};
-ghost use Rattle.shop_types.specs.Seen.{seen_person, seen_act, seen_command};
+ghost use Rattle.shop_schema.specs.RowValues.{IsKey, IsPerson, IsRating, IsFilm, IsBranch, AreBytes, IsAct, IsCommand, IsOfficeAct};
+ghost use Rattle.shop_types.specs.Films.{rating_text};
+ghost use Rattle.shop_types.specs.Seen.{seen_person, seen_film, seen_branch, seen_act, seen_command, seen_office_act, seen_office};
 
-use shop_types::{Act, Command, Person};
+use shop_types::{Act, Branch, Command, Film, OfficeAct, OfficeCommand, Person, Rating};
 
 fn person_values(person: &Person)
     ensures { IsPerson (seen_person person.now) }
@@ -65,4 +66,87 @@ pub fn command_values(command: &Command)
     let _staff = command.staff.get();
     let _text = command.at.text();
     act_values(&command.act);
+}
+
+#[tactic(auto, using(crate::proofs::OfficeValues::rating_is))]
+fn rating_values(rating: Rating)
+    ensures { IsRating (rating_text rating) }
+{}
+
+fn film_values(film: &Film)
+    ensures { IsFilm (seen_film film.now) }
+{
+    let _title = film.title.as_str();
+    let _description = film.description.as_str();
+    let _language = film.language.get();
+    let _category = film.category.get();
+    let _period = film.period.get();
+    let _rate = film.rate.get();
+    let _replacement = film.replacement.get();
+    if let Some(minutes) = film.minutes {
+        let _minutes = minutes.get();
+    }
+    rating_values(film.rating);
+    let _features = film.features.text();
+}
+
+fn branch_values(branch: &Branch)
+    ensures { IsBranch (seen_branch branch.now) }
+{
+    let _token = branch.token.as_bytes();
+    let _address = branch.address.as_str();
+    let _postal = branch.postal.as_str();
+    let _phone = branch.phone.as_str();
+    let _city = branch.city.get();
+}
+
+fn office_act_values(act: &OfficeAct)
+    ensures { IsOfficeAct (seen_office_act act.now) }
+{
+    match act {
+        OfficeAct::Country(name) | OfficeAct::Language(name) | OfficeAct::Category(name) => {
+            let _name = name.as_str();
+        }
+        OfficeAct::City(city) => {
+            let _name = city.name.as_str();
+            let _country = city.country.get();
+        }
+        OfficeAct::Actor(actor) => {
+            let _first = actor.first.as_str();
+            let _last = actor.last.as_str();
+        }
+        OfficeAct::Film(film) => film_values(film),
+        OfficeAct::Price { film, rate } => {
+            let _film = film.get();
+            let _rate = rate.get();
+        }
+        OfficeAct::Withdraw(film) => {
+            let _film = film.get();
+        }
+        OfficeAct::Cast { film, actor } => {
+            let _film = film.get();
+            let _actor = actor.get();
+        }
+        OfficeAct::Branch(branch) => branch_values(branch),
+        OfficeAct::Staff(staff) => {
+            let _branch = staff.branch.get();
+            person_values(&staff.person);
+        }
+        OfficeAct::Leave(staff) => {
+            let _staff = staff.get();
+        }
+        OfficeAct::Manager { branch, staff } => {
+            let _branch = branch.get();
+            let _staff = staff.get();
+        }
+    }
+}
+
+/// The values of a command of head office are such as the tables can hold: a law, so that nothing is done.
+pub fn office_values(command: &OfficeCommand)
+    ensures key { IsKey (seen_office command.now).key }
+    ensures act { IsOfficeAct (seen_office command.now).act }
+{
+    let _key = command.key.as_str();
+    office_act_values(&command.act);
 }

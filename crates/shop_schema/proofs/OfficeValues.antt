@@ -1,0 +1,325 @@
+-- By head office's commands too the rows of the books stay such as the program can hold, and what is known of the books stays known.
+use Rattle.std.proofs.Common.{◌≡◌, ◌≤◌, ◌<◌, ◌+◌, ◌-◌, ◌^◌, ◌==◌, ℕ, suc, List, [], ◌∷◌, ◌++◌, length, Bool, true, false, cond, refl, ap, subst, arith, codes, decimal, IsUtf8, length-append}
+use Rattle.std.specs.Prelude.{nat_lt, None, Some, Option, IfSome}
+use Rattle.std.specs.List.{AllByRecursion, list_all}
+use Rattle.std.proofs.lemmas.Fmt.{IsAscii-decimal}
+use Rattle.std.proofs.lemmas.Str.{IsUtf8-from_ascii, IsAscii-append}
+use Rattle.shop_model.specs.Json.{escape_byte, object}
+use Rattle.shop_model.specs.Rows.{set_at}
+use Rattle.shop_model.specs.Values.{Film, Branch, Staff, OfficeAct, AddCountry, AddCity, AddLanguage, AddCategory, AddActor, AddFilm, PriceFilm, WithdrawFilm, AddCast, AddBranch, AddStaff, StaffLeaves, SetManager, OfficeCommand, Rules}
+use Rattle.shop_model.specs.Machine.{Office, office_acted, office_told, office_text, office_done, if_accepted}
+use Rattle.shop_model.specs.Shop.{Catalogue}
+use Rattle.shop_model.specs.Books.{Books, HeadOffice}
+use Rattle.shop_model.specs.Sound.{IsSound}
+use Rattle.shop_model.specs.Verdict.{Verdict, Accepted, office_verdict}
+use Rattle.shop_model.proofs.Soundness.{after_sound}
+use Rattle.shop_schema.specs.Held.{HasFewShared, IsHeld}
+use Rattle.shop_schema.specs.RowValues.{IsNumber, IsName, IsCity, IsActor, IsRating, IsFilm, IsCast, IsBranch, IsStaff, IsKey, IsOfficeAct, IsOfficeKept, AreShared, AreCatalogueValues, AreValues}
+use Rattle.shop_types.specs.Films.{rating_text}
+use Rattle.shop_types.specs.declared.film.Rating.{Rating}
+use Rattle.shop_types.specs.declared.film.Rating.TheVariants as rating
+use Rattle.shop_schema.proofs.Values.{held_by_sound, all_push, ascii_bytes, number_reply, small}
+
+-- a rating's text is one
+pub rating_is : (it : Rating) → IsRating (rating_text it)
+rating_is rating.G = refl
+rating_is rating.Pg = refl
+rating_is rating.Pg13 = refl
+rating_is rating.R = refl
+rating_is rating.Nc17 = refl
+
+-- ---- lists of shared rows
+
+length_set : {A : Type 0} (n : ℕ) (f : A → A) (xs : List A) → length (set_at n f xs) ≡ length xs
+length_set n f [] = refl
+length_set n f (x ∷ xs) = go (n == 1) (length_set (n - 1) f xs)
+  where
+    go : (hit : Bool) → length (set_at (n - 1) f xs) ≡ length xs → length (cond hit (f x ∷ xs) (x ∷ set_at (n - 1) f xs)) ≡ length (x ∷ xs)
+    go true more = refl
+    go false more = ap suc more
+
+all_set : {A : Type 0} (P : A → Type 0) (n : ℕ) (f : A → A) (xs : List A) → ((x : A) → P x → P (f x)) → AllByRecursion P xs → AllByRecursion P (set_at n f xs)
+all_set P n f [] stays all = tt
+all_set P n f (x ∷ xs) stays all = go (n == 1) (all_set P (n - 1) f xs stays all.1)
+  where
+    go : (hit : Bool) → AllByRecursion P (set_at (n - 1) f xs) → AllByRecursion P (cond hit (f x ∷ xs) (x ∷ set_at (n - 1) f xs))
+    go true more = (stays x all.0, all.1)
+    go false more = (all.0, more)
+
+shared_push : {A : Type 0} (P : A → Type 0) (xs : List A) (x : A) → length xs ≤ 1_000_003 → P x → AreShared P xs → AreShared P (xs ++ x ∷ [])
+shared_push P xs x few such all = let more = length-append xs (x ∷ []) in (omega (arith, more, few), all_push P xs x all.1 such)
+
+shared_set : {A : Type 0} (P : A → Type 0) (n : ℕ) (f : A → A) (xs : List A) → ((x : A) → P x → P (f x)) → AreShared P xs → AreShared P (set_at n f xs)
+shared_set P n f xs stays all = let same = length_set n f xs in (omega (arith, same, all.0), all_set P n f xs stays all.1)
+
+-- ---- rows of which a column is another
+
+rated : (film : Film) (rate : ℕ) (withdrawn : Bool) → IsFilm film → rate ≤ 9_999 → IsFilm (record film { rate = rate; withdrawn = withdrawn })
+rated film rate withdrawn is low = record {
+  title = is.title;
+  description = is.description;
+  language = is.language;
+  category = is.category;
+  period = is.period;
+  rate = low;
+  replacement = is.replacement;
+  minutes = is.minutes;
+  rating = is.rating;
+  features = is.features;
+}
+
+managed : (branch : Branch) (manager : Option ℕ) → IsBranch branch → IfSome manager IsNumber → IsBranch (record branch { manager = manager })
+managed branch manager is who = record {
+  token = is.token;
+  address = is.address;
+  postal = is.postal;
+  phone = is.phone;
+  city = is.city;
+  manager = who;
+}
+
+-- ---- kept replies
+
+two_reply : (first second : List ℕ) → list_all (λ b. nat_lt b 128) first ≡ true → list_all (λ b. nat_lt b 128) second ≡ true → (m n : ℕ) → m < 2 ^ 64 → n < 2 ^ 64
+    → IsUtf8 (first ++ (decimal m ++ (second ++ (decimal n ++ codes "}"))))
+two_reply first second plain also m n fits fit = IsUtf8-from_ascii _
+    (IsAscii-append first (decimal m ++ (second ++ (decimal n ++ codes "}"))) (ascii_bytes first plain)
+    (IsAscii-append (decimal m) (second ++ (decimal n ++ codes "}")) (IsAscii-decimal m fits)
+    (IsAscii-append second (decimal n ++ codes "}") (ascii_bytes second also)
+    (IsAscii-append (decimal n) (codes "}") (IsAscii-decimal n fit) (ascii_bytes (codes "}") refl)))))
+
+next : (n : ℕ) → n ≤ 1_000_003 → n + 1 < 2 ^ 64
+next n few = omega (arith, few)
+
+low_rate : (n : ℕ) → n ≤ 9_999 → n < 2 ^ 64
+low_rate n low = omega (arith, low)
+
+office_reply : (act : OfficeAct) (it : Catalogue) → IsOfficeAct act → HasFewShared it → IsUtf8 (object (office_told act it))
+unfolding escape_byte
+office_reply (AddCountry name) it is few = number_reply (codes "{\"country\":") refl (length it.countries + 1) (next _ few.countries)
+office_reply (AddCity city) it is few = number_reply (codes "{\"city\":") refl (length it.cities + 1) (next _ few.cities)
+office_reply (AddLanguage name) it is few = number_reply (codes "{\"language\":") refl (length it.languages + 1) (next _ few.languages)
+office_reply (AddCategory name) it is few = number_reply (codes "{\"category\":") refl (length it.categories + 1) (next _ few.categories)
+office_reply (AddActor actor) it is few = number_reply (codes "{\"actor\":") refl (length it.actors + 1) (next _ few.actors)
+office_reply (AddFilm film) it is few = number_reply (codes "{\"film\":") refl (length it.films + 1) (next _ few.films)
+office_reply (PriceFilm f rate) it is few = two_reply (codes "{\"film\":") (codes ",\"rate\":") refl refl f rate (small f is.0) (low_rate rate is.1)
+office_reply (WithdrawFilm f) it is few = number_reply (codes "{\"film\":") refl f (small f is)
+office_reply (AddCast cast) it is few = two_reply (codes "{\"actor\":") (codes ",\"film\":") refl refl cast.actor cast.film (small cast.actor is.1) (small cast.film is.0)
+office_reply (AddBranch branch) it is few = number_reply (codes "{\"branch\":") refl (length it.branches + 1) (next _ few.branches)
+office_reply (AddStaff staff) it is few = number_reply (codes "{\"staff\":") refl (length it.staff + 1) (next _ few.staff)
+office_reply (StaffLeaves s) it is few = number_reply (codes "{\"staff\":") refl s (small s is)
+office_reply (SetManager b s) it is few = two_reply (codes "{\"branch\":") (codes ",\"staff\":") refl refl b s (small b is.0) (small s is.1)
+
+-- ---- a step
+
+acted_values : (act : OfficeAct) (it : Catalogue) → IsOfficeAct act → AreCatalogueValues it → HasFewShared it → AreCatalogueValues (office_acted act it)
+acted_values (AddCountry name) it is v few = record {
+  office_token = v.office_token;
+  kept = v.kept;
+  casts = v.casts;
+  countries = shared_push IsName it.countries name few.countries is v.countries;
+  cities = v.cities;
+  languages = v.languages;
+  categories = v.categories;
+  actors = v.actors;
+  films = v.films;
+  branches = v.branches;
+  staff = v.staff;
+}
+acted_values (AddCity city) it is v few = record {
+  office_token = v.office_token;
+  kept = v.kept;
+  casts = v.casts;
+  countries = v.countries;
+  cities = shared_push IsCity it.cities city few.cities is v.cities;
+  languages = v.languages;
+  categories = v.categories;
+  actors = v.actors;
+  films = v.films;
+  branches = v.branches;
+  staff = v.staff;
+}
+acted_values (AddLanguage name) it is v few = record {
+  office_token = v.office_token;
+  kept = v.kept;
+  casts = v.casts;
+  countries = v.countries;
+  cities = v.cities;
+  languages = shared_push IsName it.languages name few.languages is v.languages;
+  categories = v.categories;
+  actors = v.actors;
+  films = v.films;
+  branches = v.branches;
+  staff = v.staff;
+}
+acted_values (AddCategory name) it is v few = record {
+  office_token = v.office_token;
+  kept = v.kept;
+  casts = v.casts;
+  countries = v.countries;
+  cities = v.cities;
+  languages = v.languages;
+  categories = shared_push IsName it.categories name few.categories is v.categories;
+  actors = v.actors;
+  films = v.films;
+  branches = v.branches;
+  staff = v.staff;
+}
+acted_values (AddActor actor) it is v few = record {
+  office_token = v.office_token;
+  kept = v.kept;
+  casts = v.casts;
+  countries = v.countries;
+  cities = v.cities;
+  languages = v.languages;
+  categories = v.categories;
+  actors = shared_push IsActor it.actors actor few.actors is v.actors;
+  films = v.films;
+  branches = v.branches;
+  staff = v.staff;
+}
+acted_values (AddFilm film) it is v few = record {
+  office_token = v.office_token;
+  kept = v.kept;
+  casts = v.casts;
+  countries = v.countries;
+  cities = v.cities;
+  languages = v.languages;
+  categories = v.categories;
+  actors = v.actors;
+  films = shared_push IsFilm it.films (record film { withdrawn = false }) few.films (rated film film.rate false is is.rate) v.films;
+  branches = v.branches;
+  staff = v.staff;
+}
+acted_values (PriceFilm f rate) it is v few = record {
+  office_token = v.office_token;
+  kept = v.kept;
+  casts = v.casts;
+  countries = v.countries;
+  cities = v.cities;
+  languages = v.languages;
+  categories = v.categories;
+  actors = v.actors;
+  films = shared_set IsFilm f (λ (x : Film). record x { rate = rate }) it.films (λ x such. rated x rate x.withdrawn such is.1) v.films;
+  branches = v.branches;
+  staff = v.staff;
+}
+acted_values (WithdrawFilm f) it is v few = record {
+  office_token = v.office_token;
+  kept = v.kept;
+  casts = v.casts;
+  countries = v.countries;
+  cities = v.cities;
+  languages = v.languages;
+  categories = v.categories;
+  actors = v.actors;
+  films = shared_set IsFilm f (λ (x : Film). record x { withdrawn = true }) it.films (λ x such. rated x x.rate true such such.rate) v.films;
+  branches = v.branches;
+  staff = v.staff;
+}
+acted_values (AddCast cast) it is v few = record {
+  office_token = v.office_token;
+  kept = v.kept;
+  casts = all_push IsCast it.casts cast v.casts is;
+  countries = v.countries;
+  cities = v.cities;
+  languages = v.languages;
+  categories = v.categories;
+  actors = v.actors;
+  films = v.films;
+  branches = v.branches;
+  staff = v.staff;
+}
+acted_values (AddBranch branch) it is v few = record {
+  office_token = v.office_token;
+  kept = v.kept;
+  casts = v.casts;
+  countries = v.countries;
+  cities = v.cities;
+  languages = v.languages;
+  categories = v.categories;
+  actors = v.actors;
+  films = v.films;
+  branches = shared_push IsBranch it.branches (record branch { manager = None }) few.branches (managed branch None is tt) v.branches;
+  staff = v.staff;
+}
+acted_values (AddStaff staff) it is v few = record {
+  office_token = v.office_token;
+  kept = v.kept;
+  casts = v.casts;
+  countries = v.countries;
+  cities = v.cities;
+  languages = v.languages;
+  categories = v.categories;
+  actors = v.actors;
+  films = v.films;
+  branches = v.branches;
+  staff = shared_push IsStaff it.staff (record staff { gone = false }) few.staff is v.staff;
+}
+acted_values (StaffLeaves s) it is v few = record {
+  office_token = v.office_token;
+  kept = v.kept;
+  casts = v.casts;
+  countries = v.countries;
+  cities = v.cities;
+  languages = v.languages;
+  categories = v.categories;
+  actors = v.actors;
+  films = v.films;
+  branches = v.branches;
+  staff = shared_set IsStaff s (λ (x : Staff). record x { gone = true }) it.staff (λ x such. such) v.staff;
+}
+acted_values (SetManager b s) it is v few = record {
+  office_token = v.office_token;
+  kept = v.kept;
+  casts = v.casts;
+  countries = v.countries;
+  cities = v.cities;
+  languages = v.languages;
+  categories = v.categories;
+  actors = v.actors;
+  films = v.films;
+  branches = shared_set IsBranch b (λ (x : Branch). record x { manager = Some s }) it.branches (λ x such. managed x (Some s) such is.1) v.branches;
+  staff = v.staff;
+}
+
+-- what an accepted command of head office makes of the books
+pub office_values_done : (command : OfficeCommand) (books : Books) → IsOfficeAct command.act → IsKey command.key → AreValues books → HasFewShared books.catalogue
+    → AreValues (record books { catalogue = office_done command books.catalogue })
+office_values_done command books is key values few =
+    let v = acted_values command.act books.catalogue is values.catalogue few in
+    let reply = office_reply command.act books.catalogue is few in
+    record {
+      catalogue = record {
+        office_token = v.office_token;
+        kept = all_push IsOfficeKept books.catalogue.kept (record { command = command; reply = office_text command books.catalogue }) values.catalogue.kept (key, is, reply);
+        casts = v.casts;
+        countries = v.countries;
+        cities = v.cities;
+        languages = v.languages;
+        categories = v.categories;
+        actors = v.actors;
+        films = v.films;
+        branches = v.branches;
+        staff = v.staff;
+      };
+      customers = values.customers;
+      copies = values.copies;
+      rentals = values.rentals;
+      payments = values.payments;
+      lots = values.lots;
+      consignments = values.consignments;
+      kept = values.kept;
+      lasts = values.lasts;
+    }
+
+-- and of sound books it makes books that are held
+pub office_next_held : (rules sizes : Rules) (command : OfficeCommand) (books : Books) → rules.commands ≤ sizes.commands → rules.copies ≤ sizes.copies → sizes.commands ≡ 1_000_000 → sizes.copies ≡ 1_000_000
+    → IsSound sizes books → AreValues books → IsOfficeAct command.act → IsKey command.key
+    → office_verdict rules books.catalogue command ≡ Accepted → IsHeld (record books { catalogue = office_done command books.catalogue })
+office_next_held rules sizes command books most fit commands copies sound values is key accepted =
+    let after : IsSound sizes (record books { catalogue = if_accepted (office_verdict rules books.catalogue command) (office_done command books.catalogue) books.catalogue }) =
+    after_sound rules sizes HeadOffice (Office command) books most fit sound in
+    let next = subst (λ (v : Verdict). IsSound sizes (record books { catalogue = if_accepted v (office_done command books.catalogue) books.catalogue })) accepted after in
+    let held = held_by_sound sizes books commands copies sound values in
+    held_by_sound sizes (record books { catalogue = office_done command books.catalogue }) commands copies next (office_values_done command books is key values held.few_shared)
