@@ -74,11 +74,11 @@ module _ (old new : State) (b : ℕ) (command : Command) (key form reply : List 
 
 -- ---- reads: the rows themselves are the values that the table stands for
 
-as_it_is : (rows : List sql.Row) → map (λ vs. vs) rows ≡ rows
+pub as_it_is : (rows : List sql.Row) → map (λ vs. vs) rows ≡ rows
 as_it_is [] = refl
 as_it_is (row ∷ rows) = ap (λ l. row ∷ l) (as_it_is rows)
 
-filter_append : {X : Type 0} (p : X → Bool) (xs ys : List X) → filter p (xs ++ ys) ≡ filter p xs ++ filter p ys
+pub filter_append : {X : Type 0} (p : X → Bool) (xs ys : List X) → filter p (xs ++ ys) ≡ filter p xs ++ filter p ys
 filter_append p [] ys = refl
 filter_append p (x ∷ xs) ys = go (p x) (filter_append p xs ys)
   where
@@ -86,7 +86,7 @@ filter_append p (x ∷ xs) ys = go (p x) (filter_append p xs ys)
     go true more = ap (λ l. x ∷ l) more
     go false more = more
 
-append_none : {X : Type 0} (xs : List X) → xs ++ [] ≡ xs
+pub append_none : {X : Type 0} (xs : List X) → xs ++ [] ≡ xs
 append_none [] = refl
 append_none (x ∷ xs) = ap (λ l. x ∷ l) (append_none xs)
 
@@ -134,7 +134,7 @@ owned_picked b p (row ∷ kept) = go (row.owner == b) (owned_picked b p kept)
 abbrev pub select_kept : List ℕ
 select_kept = codes "SELECT command, reply FROM kept WHERE caller = ?1 AND \"key\" = ?2"
 
-abbrev of_key : List Term
+abbrev pub of_key : List Term
 of_key = op2 (Compare Eq Binary) (col 1 1) (col 0 0) ∷ op2 (Compare Eq Binary) (col 1 2) (col 0 1) ∷ []
 
 pub select_kept_means : Selects shop_schema select_kept (plain_query 39 of_key (col 1 3 ∷ col 1 4 ∷ []) [])

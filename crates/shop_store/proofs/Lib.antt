@@ -13,3 +13,5 @@ pub mod CountsOf
 pub mod Outs
 pub mod CountLemmas
 pub mod Agreeing
+pub mod OfficeKeptTexts
+pub mod OfficeCounts

@@ -3,11 +3,11 @@ use Rattle.std.specs.Prelude.{ℕ, List, None}
 use Rattle.shop_model.specs.Rows.{Row}
 use Rattle.shop_model.specs.Values as model
 use Rattle.shop_model.specs.Values.{Customer, Rental, Payment}
-use Rattle.shop_model.specs.Shop.{Kept}
+use Rattle.shop_model.specs.Shop.{Kept, OfficeKept}
 use Rattle.shop_model.specs.Books as books
 use Rattle.shop_model.specs.Books.{BookCopy}
 use Rattle.shop_types.specs.Seen.{seen_customer, seen_rental, seen_payment}
-use Rattle.shop_schema.specs.Forms.{command_form}
+use Rattle.shop_schema.specs.Forms.{command_form, office_command_form}
 use Rattle.shop_store.specs.declared.customers.CustomerRow.{CustomerRow}
 use Rattle.shop_store.specs.declared.copies.CopyState.{CopyState}
 use Rattle.shop_store.specs.declared.copies.CopyState.TheVariants as state
@@ -39,6 +39,9 @@ seen_kept row = (row.form, row.reply)
 
 abbrev pub stored_kept : Kept → List ℕ × List ℕ
 stored_kept kept = (command_form kept.command, kept.reply)
+
+abbrev pub stored_office_kept : OfficeKept → List ℕ × List ℕ
+stored_office_kept kept = (office_command_form kept.command, kept.reply)
 
 -- a rental of a branch, with the number
 abbrev pub seen_rental_row : RentalRow → Row Rental

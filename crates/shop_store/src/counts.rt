@@ -1,4 +1,4 @@
-ghost use Rattle.std.specs.Prelude.{◌≡◌, ◌+◌, ⊤, [], ◌∷◌, Some, IfOk, OnOk, is_none, map, filter, option_to_list};
+ghost use Rattle.std.specs.Prelude.{◌≡◌, ◌≤◌, ◌+◌, ⊤, [], ◌∷◌, Some, IfOk, OnOk, is_none, map, filter, length, option_to_list};
 ghost use Rattle.sqlite.specs.Held.{state};
 ghost use Rattle.sqlite.specs.State.{HasCleanDisk};
 ghost use Rattle.sqlite_value.specs.Order.{column};
@@ -6,7 +6,7 @@ ghost use Rattle.sql_rows.specs.Calls.{StaysInside};
 ghost use Rattle.sql_rows.specs.Rows.{number_value};
 ghost use Rattle.shop_model.specs.Rows.{numbered, of};
 ghost use Rattle.shop_model.specs.Stock.{keeps_out};
-ghost use Rattle.shop_schema.specs.Counts.{count_in, is_count, raise, put_out, drop_out};
+ghost use Rattle.shop_schema.specs.Counts.{count_in, is_count, kept_kind, raise, put_out, drop_out};
 ghost use Rattle.shop_schema.specs.Shop.{Reads, Tallies};
 ghost use Rattle.shop_store.specs.Counted.{kind_number, CountsOnce, IsOutBy};
 
@@ -42,6 +42,28 @@ impl CountKind {
     }
 }
 
+/// How many rows of the kind a caller has: a branch by its number, or head office, which is 0. One row is read, however many there are.
+fn count_by<S: Alter>(
+    tx: &mut Transaction<'_, S>,
+    caller: u32,
+    kind: CountKind,
+) -> Result<u32, StoreFault>
+    ensures same_reference { tx.new.conn.ghost_name ≡ tx.old.conn.ghost_name }
+    ensures inside { StaysInside (state S.Store tx.old.conn.now) (state S.Store tx.new.conn.now) result }
+    ensures branch { HasCleanDisk (state S.Store tx.new.conn.now) → 1 ≤ caller → IfOk result (λ count. Reads (state S.Store tx.old.conn.now) (state S.Store tx.new.conn.now) (λ books. count ≡ count_in (kind_number kind) caller books)) }
+    ensures office { HasCleanDisk (state S.Store tx.new.conn.now) → caller ≡ 0 → kind_number kind ≡ kept_kind → IfOk result (λ count. Reads (state S.Store tx.old.conn.now) (state S.Store tx.new.conn.now) (λ books. count ≡ length books.catalogue.kept)) }
+{
+    let rows = query(
+        tx,
+        "SELECT last FROM counter WHERE caller = ?1 AND kind = ?2",
+        &[caller.to_sql(), kind.number().to_sql()],
+    )?;
+    match rows.first() {
+        None => Err(StoreFault::Failed),
+        Some(row) => number_at(row, 0),
+    }
+}
+
 /// How many rows of the kind the branch has. One row is read, however many there are.
 pub fn count_of<S: Alter>(
     tx: &mut Transaction<'_, S>,
@@ -52,15 +74,16 @@ pub fn count_of<S: Alter>(
     ensures inside { StaysInside (state S.Store tx.old.conn.now) (state S.Store tx.new.conn.now) result }
     ensures count { HasCleanDisk (state S.Store tx.new.conn.now) → IfOk result (λ count. Reads (state S.Store tx.old.conn.now) (state S.Store tx.new.conn.now) (λ books. count ≡ count_in (kind_number kind) branch books)) }
 {
-    let rows = query(
-        tx,
-        "SELECT last FROM counter WHERE caller = ?1 AND kind = ?2",
-        &[branch.get().to_sql(), kind.number().to_sql()],
-    )?;
-    match rows.first() {
-        None => Err(StoreFault::Failed),
-        Some(row) => number_at(row, 0),
-    }
+    count_by(tx, branch.get(), kind)
+}
+
+/// How many commands of head office are kept. One row is read, however many there are.
+pub fn office_keys<S: Alter>(tx: &mut Transaction<'_, S>) -> Result<u32, StoreFault>
+    ensures same_reference { tx.new.conn.ghost_name ≡ tx.old.conn.ghost_name }
+    ensures inside { StaysInside (state S.Store tx.old.conn.now) (state S.Store tx.new.conn.now) result }
+    ensures count { HasCleanDisk (state S.Store tx.new.conn.now) → IfOk result (λ count. Reads (state S.Store tx.old.conn.now) (state S.Store tx.new.conn.now) (λ books. count ≡ length books.catalogue.kept)) }
+{
+    count_by(tx, 0, CountKind::Kept)
 }
 
 /// Raises the branch's count of the kind by one, and tells it. A count that isn't there is a fault. After a fault the transaction may be rolled back.
@@ -77,6 +100,29 @@ pub fn take_number<S: Alter>(
     take_numbers(tx, branch, kind, 1)
 }
 
+/// Raises a caller's count of the kind by so many, and tells what it is then. The caller is a branch's number or 0 for head office.
+fn take_by<S: Alter>(
+    tx: &mut Transaction<'_, S>,
+    caller: u32,
+    kind: CountKind,
+    more: u32,
+) -> Result<u32, StoreFault>
+    ensures same_reference { tx.new.conn.ghost_name ≡ tx.old.conn.ghost_name }
+    ensures inside { StaysInside (state S.Store tx.old.conn.now) (state S.Store tx.new.conn.now) result }
+    ensures taken { HasCleanDisk (state S.Store tx.new.conn.now) → IfOk result (λ last. Tallies (state S.Store tx.old.conn.now) (state S.Store tx.new.conn.now) (CountsOnce caller kind) (raise caller (kind_number kind) more)
+        (λ counts. map (λ it. it.last + more) (filter (is_count caller (kind_number kind)) counts.counters) ≡ last ∷ [])) }
+{
+    let rows = query(
+        tx,
+        "UPDATE counter SET last = last + ?3 WHERE caller = ?1 AND kind = ?2 RETURNING last",
+        &[caller.to_sql(), kind.number().to_sql(), more.to_sql()],
+    )?;
+    match rows.first() {
+        None => Err(StoreFault::Failed),
+        Some(row) => number_at(row, 0),
+    }
+}
+
 /// Raises the branch's count of the kind by so many, and tells what it is then. A count that isn't there is a fault. After a fault the transaction
 /// may be rolled back.
 pub fn take_numbers<S: Alter>(
@@ -90,15 +136,7 @@ pub fn take_numbers<S: Alter>(
     ensures taken { HasCleanDisk (state S.Store tx.new.conn.now) → IfOk result (λ last. Tallies (state S.Store tx.old.conn.now) (state S.Store tx.new.conn.now) (CountsOnce branch kind) (raise branch (kind_number kind) more)
         (λ counts. map (λ it. it.last + more) (filter (is_count branch (kind_number kind)) counts.counters) ≡ last ∷ [])) }
 {
-    let rows = query(
-        tx,
-        "UPDATE counter SET last = last + ?3 WHERE caller = ?1 AND kind = ?2 RETURNING last",
-        &[branch.get().to_sql(), kind.number().to_sql(), more.to_sql()],
-    )?;
-    match rows.first() {
-        None => Err(StoreFault::Failed),
-        Some(row) => number_at(row, 0),
-    }
+    take_by(tx, branch.get(), kind, more)
 }
 
 /// Raises the branch's count of the kind by so many. A count that isn't there is a fault. After a fault the transaction may be rolled back.
@@ -113,6 +151,16 @@ pub fn raise_count<S: Alter>(
     ensures raised { HasCleanDisk (state S.Store tx.new.conn.now) → OnOk result (Tallies (state S.Store tx.old.conn.now) (state S.Store tx.new.conn.now) (CountsOnce branch kind) (raise branch (kind_number kind) more) (λ _. ⊤)) }
 {
     take_numbers(tx, branch, kind, more)?;
+    Ok(())
+}
+
+/// Raises the count of head office's kept commands by one. A count that isn't there is a fault. After a fault the transaction may be rolled back.
+pub fn raise_office_keys<S: Alter>(tx: &mut Transaction<'_, S>) -> Result<(), StoreFault>
+    ensures same_reference { tx.new.conn.ghost_name ≡ tx.old.conn.ghost_name }
+    ensures inside { StaysInside (state S.Store tx.old.conn.now) (state S.Store tx.new.conn.now) result }
+    ensures raised { HasCleanDisk (state S.Store tx.new.conn.now) → OnOk result (Tallies (state S.Store tx.old.conn.now) (state S.Store tx.new.conn.now) (CountsOnce 0 CountKind.Kept) (raise 0 kept_kind 1) (λ _. ⊤)) }
+{
+    take_by(tx, 0, CountKind::Kept, 1)?;
     Ok(())
 }
 

@@ -15,11 +15,11 @@ pub use copies::{
     CopyRow, CopyState, Mark, copies_of_film, copy_at, has_lot, put_copy, put_lot, set_state,
 };
 pub use counts::{
-    CountKind, count_of, drop_out, out_at, put_out, raise_count, rentals_out, take_number,
-    take_numbers,
+    CountKind, count_of, drop_out, office_keys, out_at, put_out, raise_count, raise_office_keys,
+    rentals_out, take_number, take_numbers,
 };
 pub use customers::{CustomerRow, customer_at, customers_of, put_customer, set_active};
-pub use kept::{KeptRow, kept_at, put_kept};
+pub use kept::{KeptRow, kept_at, office_kept_at, put_kept, put_office_kept};
 pub use payments::{PaymentRow, payments_between, payments_of_customer, put_payment};
 pub use rentals::{
     RentalRow, has_rental, put_rental, rental_at, rentals_of_customer, set_returned,
