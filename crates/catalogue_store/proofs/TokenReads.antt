@@ -1,6 +1,6 @@
 -- What is read by a token: head office's, or a branch's.
-use Rattle.std.proofs.Common.{◌≡◌, ◌≤◌, ◌+◌, ◌==◌, ◌&&◌, ℕ, suc, List, [], ◌∷◌, codes, map, filter, length, cond, not, Bool, true, false, Some, None, refl, sym, ap, subst, ◌∙◌, arith}
-use Rattle.std.specs.Prelude.{slice_get}
+use Rattle.std.proofs.Common.{◌≡◌, ◌≤◌, ◌+◌, ◌==◌, ◌&&◌, ℕ, suc, List, [], ◌∷◌, codes, map, filter, length, cond, not, Bool, true, false, Some, None, Ok, Err, Result, refl, sym, ap, subst, ◌∙◌, arith}
+use Rattle.std.specs.Prelude.{IfOk, slice_get}
 use Rattle.std.specs.Str.{bytes_eq}
 use Rattle.sqlite.specs.declared.types.Value.TheVariants.{Text}
 use Rattle.sqlite_value.specs.Order as sql
@@ -13,6 +13,7 @@ use Rattle.sqlite_tied.specs.Compute.{everything}
 use Rattle.sqlite.specs.Listing.{understood}
 use Rattle.sqlite.specs.State.{State, Shown}
 use Rattle.sql_rows.specs.Rows.{PicksOne, number_value}
+use Rattle.sql_rows.specs.declared.fault.StoreFault.{StoreFault}
 use Rattle.sql_rows.proofs.Queries.{Selects, plain_query}
 use Rattle.sql_rows.proofs.ColumnTests.{text_test, text_tested, one_tested}
 use Rattle.sql_rows.proofs.Projects.{projects_one, still_holds}
@@ -60,6 +61,42 @@ told_office old new token rows h books holds held = (
     there : (t : Bool) → not (length (map (λ it. column (chain_columns it) 0 ∷ []) (cond t (office ∷ []) [])) == 0) ≡ t
     there true = refl
     there false = refl
+
+abbrev pub select_office_token : List ℕ
+select_office_token = codes "SELECT office_token FROM chain"
+
+pub select_office_token_means : Selects shop_schema select_office_token (plain_query 0 [] (col 1 2 ∷ []) [])
+unfolding understood everything
+select_office_token_means = record { names = _; is = refl; plain = (refl, refl); unlisted = refl }
+
+told_office_token : (old new : State) (rows slice : List sql.Row) (row : sql.Row) (token : List ℕ) → Shown select_office_token [] old new rows → slice ≡ rows → Some row ≡ slice_get slice 0 → column row 0 ≡ Text token
+    → Reads old new (λ books. token ≡ books.catalogue.office_token)
+told_office_token old new rows slice row token h same some is books holds held = (
+  still_holds shop_schema StandsFor select_office_token [] old new select_office_token_means.plain rows h books holds,
+  told (sym (some ∙ ap (λ (rs : List sql.Row). slice_get rs 0) (same ∙ shown))),
+)
+  where
+    office : model.Text
+    office = books.catalogue.office_token
+
+    shown : rows ≡ (Text office ∷ []) ∷ []
+    shown =
+        projects_one shop_schema select_office_token 0 2 [] (col 1 2 ∷ []) select_office_token_means [] old new rows holds.schema_is h chain_columns (office ∷ []) holds.stands.chain refl
+        (λ vs. true) (λ vs. column vs 1 ∷ []) (λ t. true) (λ t. refl) (λ r. refl) (omega arith)
+
+    same_text : (s t : List ℕ) → Text s ≡ Text t → t ≡ s
+    same_text s t e = cc
+
+    told : slice_get ((Text office ∷ []) ∷ []) 0 ≡ Some row → token ≡ office
+    told e =
+        let one : (Text office ∷ []) ≡ row = cc in
+        same_text office token (ap (λ (r : sql.Row). column r 0) one ∙ is)
+
+-- what the call tells of it
+pub read_office_token : (old new : State) (rows slice : List sql.Row) (row : sql.Row) (r : Result (List ℕ) StoreFault) → Shown select_office_token [] old new rows → slice ≡ rows → Some row ≡ slice_get slice 0
+    → IfOk r (λ token. column row 0 ≡ Text token) → IfOk r (λ token. Reads old new (λ books. token ≡ books.catalogue.office_token))
+read_office_token old new rows slice row (Err e) h same some is = tt
+read_office_token old new rows slice row (Ok token) h same some is = told_office_token old new rows slice row token h same some is
 
 -- ---- a branch
 

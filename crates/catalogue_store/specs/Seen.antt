@@ -1,6 +1,9 @@
 -- What is found of shared rows, as the model has it.
-use Rattle.std.specs.Prelude.{ℕ, Bool, Option, Some, None}
-use Rattle.shop_model.specs.Values.{Text, Film, Staff}
+use Rattle.std.specs.Prelude.{◌≡◌, ℕ, Bool, List, [], ◌∷◌, Option, Some, None}
+use Rattle.sqlite_value.specs.Order as sql
+use Rattle.sqlite_value.specs.Order.{column}
+use Rattle.sql_rows.specs.Rows.{number_value}
+use Rattle.shop_model.specs.Values.{Text, Film, Branch, Staff}
 use Rattle.shop_model.specs.Books.{Caller, Counter, Nobody}
 use Rattle.catalogue_store.specs.declared.reads.StaffPost.{StaffPost}
 use Rattle.catalogue_store.specs.declared.reads.FilmTerms.{FilmTerms}
@@ -29,3 +32,11 @@ terms_of film = (film.rate, film.period)
 
 abbrev pub title_of : Film → Text
 title_of film = film.title
+
+abbrev pub manager_of : Branch → Option ℕ
+manager_of branch = branch.manager
+
+-- the number in the first row of those that a query shows, or 0 where it shows none
+abbrev pub IsFirstNumber : List sql.Row → ℕ → Type 0
+IsFirstNumber [] n = n ≡ 0
+IsFirstNumber (row ∷ rows) n = column row 0 ≡ number_value n

@@ -1,19 +1,20 @@
-ghost use Rattle.std.specs.Prelude.{◌≡◌, ◌≢◌, ◌≤◌, ◌<◌, ℕ, not, IfOk, IfErr, length, map, option_map};
+ghost use Rattle.std.specs.Prelude.{◌≡◌, ◌≢◌, ◌≤◌, ◌<◌, ℕ, IfOk, IfErr, length, map, option_map};
 ghost use Rattle.std.specs.Str.{bytes_eq};
 ghost use Rattle.sqlite.specs.Held.{state};
 ghost use Rattle.sqlite.specs.State.{HasCleanDisk};
+ghost use Rattle.sqlite.specs.declared.types.Value.TheVariants.{Text};
 ghost use Rattle.sqlite_value.specs.Order.{column};
 ghost use Rattle.sql_rows.specs.Calls.{StaysInside};
 ghost use Rattle.sql_rows.specs.Rows.{number_value};
 ghost use Rattle.sql_rows.specs.declared.fault.StoreFault.TheVariants.{Failed};
-ghost use Rattle.shop_model.specs.Rows.{at, lacks};
+ghost use Rattle.shop_model.specs.Rows.{at};
 ghost use Rattle.shop_model.specs.Books.{head, branch_with};
 ghost use Rattle.shop_schema.specs.Shop.{Reads};
-ghost use Rattle.catalogue_store.specs.Seen.{branch_caller, seen_post, post_of, withdrawn_of, seen_terms, terms_of, title_of};
+ghost use Rattle.catalogue_store.specs.Seen.{branch_caller, seen_post, post_of, withdrawn_of, seen_terms, terms_of, title_of, manager_of};
 
-use shop_schema::{row_number_at, text_at};
-use shop_types::{BranchNo, CityNo, FilmNo, Rate, StaffNo, T128, Token};
-use sql_rows::{StoreFault, flag_at, number_at, query};
+use shop_schema::{row_number_at, row_number_or_null_at, text_at};
+use shop_types::{BranchNo, FilmNo, Rate, StaffNo, T128, Token};
+use sql_rows::{StoreFault, flag_at, number_at, query, words_at};
 use sqlite::types::ToSql;
 use sqlite::{Alter, Row, Transaction};
 
@@ -34,10 +35,20 @@ pub struct FilmTerms {
 }
 
 /// The token as a text.
-fn token_text(token: &Token) -> &str
+pub(crate) fn token_text(token: &Token) -> &str
     ensures { result.now ≡ token.now }
 {
     std::str::from_utf8(token.as_bytes().as_slice()).unwrap()
+}
+
+/// The token in the column.
+fn token_at(row: &Row, at: usize) -> Result<Token, StoreFault>
+    ensures { IfOk result (λ token. column row.now at ≡ Text token) }
+{
+    match Token::read(words_at(row, at)?.as_str().as_bytes()) {
+        Some(token) => Ok(token),
+        None => Err(StoreFault::Failed),
+    }
 }
 
 /// The branch whose token it is.
@@ -74,6 +85,39 @@ pub fn is_office<S: Alter>(tx: &mut Transaction<'_, S>, token: &Token) -> Result
     Ok(!rows.is_empty())
 }
 
+/// Head office's token.
+pub fn office_token<S: Alter>(tx: &mut Transaction<'_, S>) -> Result<Token, StoreFault>
+    ensures same_reference { tx.new.conn.ghost_name ≡ tx.old.conn.ghost_name }
+    ensures inside { StaysInside (state S.Store tx.old.conn.now) (state S.Store tx.new.conn.now) result }
+    ensures found { HasCleanDisk (state S.Store tx.new.conn.now) → IfOk result (λ token. Reads (state S.Store tx.old.conn.now) (state S.Store tx.new.conn.now) (λ books. token ≡ books.catalogue.office_token)) }
+{
+    let rows = query(tx, "SELECT office_token FROM chain", &[])?;
+    match rows.first() {
+        None => Err(StoreFault::Failed),
+        Some(row) => token_at(row, 0),
+    }
+}
+
+/// Who manages the branch of the number, if anyone; nothing at all where there is no such branch.
+pub fn branch_at<S: Alter>(
+    tx: &mut Transaction<'_, S>,
+    branch: BranchNo,
+) -> Result<Option<Option<StaffNo>>, StoreFault>
+    ensures same_reference { tx.new.conn.ghost_name ≡ tx.old.conn.ghost_name }
+    ensures inside { StaysInside (state S.Store tx.old.conn.now) (state S.Store tx.new.conn.now) result }
+    ensures found { HasCleanDisk (state S.Store tx.new.conn.now) → IfOk result (λ manager. Reads (state S.Store tx.old.conn.now) (state S.Store tx.new.conn.now) (λ books. manager ≡ head (map manager_of (at branch books.catalogue.branches)))) }
+{
+    let rows = query(
+        tx,
+        "SELECT manager FROM branch WHERE number = ?1",
+        &[branch.get().to_sql()],
+    )?;
+    match rows.first() {
+        None => Ok(None),
+        Some(row) => Ok(Some(row_number_or_null_at(row, 0)?)),
+    }
+}
+
 /// Where the member of staff of the number works.
 pub fn staff_at<S: Alter>(
     tx: &mut Transaction<'_, S>,
@@ -95,20 +139,6 @@ pub fn staff_at<S: Alter>(
             gone: flag_at(row, 1)?,
         })),
     }
-}
-
-/// Whether there is a city of the number.
-pub fn has_city<S: Alter>(tx: &mut Transaction<'_, S>, city: CityNo) -> Result<bool, StoreFault>
-    ensures same_reference { tx.new.conn.ghost_name ≡ tx.old.conn.ghost_name }
-    ensures inside { StaysInside (state S.Store tx.old.conn.now) (state S.Store tx.new.conn.now) result }
-    ensures found { HasCleanDisk (state S.Store tx.new.conn.now) → IfOk result (λ has. Reads (state S.Store tx.old.conn.now) (state S.Store tx.new.conn.now) (λ books. has ≡ not (lacks books.catalogue.cities city))) }
-{
-    let rows = query(
-        tx,
-        "SELECT number FROM city WHERE number = ?1",
-        &[city.get().to_sql()],
-    )?;
-    Ok(!rows.is_empty())
 }
 
 /// Whether the film of the number is withdrawn, where there is such a film.

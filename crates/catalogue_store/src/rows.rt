@@ -1,0 +1,171 @@
+//! Whether there is a shared row of a number, a name or a token.
+
+ghost use Rattle.std.specs.Prelude.{◌≡◌, ◌==◌, ◌&&◌, not, IfOk};
+ghost use Rattle.std.specs.List.{list_any};
+ghost use Rattle.std.specs.Str.{bytes_eq};
+ghost use Rattle.sqlite.specs.Held.{state};
+ghost use Rattle.sqlite.specs.State.{HasCleanDisk};
+ghost use Rattle.sql_rows.specs.Calls.{StaysInside};
+ghost use Rattle.shop_model.specs.Rows.{lacks};
+ghost use Rattle.shop_schema.specs.Shop.{Reads};
+
+use crate::reads::token_text;
+use shop_types::{ActorNo, CategoryNo, CityNo, CountryNo, FilmNo, LanguageNo, Token};
+use sql_rows::{StoreFault, query};
+use sqlite::types::ToSql;
+use sqlite::{Alter, Transaction};
+
+/// Whether there is a country of the number.
+pub fn has_country<S: Alter>(
+    tx: &mut Transaction<'_, S>,
+    country: CountryNo,
+) -> Result<bool, StoreFault>
+    ensures same_reference { tx.new.conn.ghost_name ≡ tx.old.conn.ghost_name }
+    ensures inside { StaysInside (state S.Store tx.old.conn.now) (state S.Store tx.new.conn.now) result }
+    ensures found { HasCleanDisk (state S.Store tx.new.conn.now) → IfOk result (λ has. Reads (state S.Store tx.old.conn.now) (state S.Store tx.new.conn.now) (λ books. has ≡ not (lacks books.catalogue.countries country))) }
+{
+    let rows = query(
+        tx,
+        "SELECT number FROM country WHERE number = ?1",
+        &[country.get().to_sql()],
+    )?;
+    Ok(!rows.is_empty())
+}
+
+/// Whether there is a language of the number.
+pub fn has_language<S: Alter>(
+    tx: &mut Transaction<'_, S>,
+    language: LanguageNo,
+) -> Result<bool, StoreFault>
+    ensures same_reference { tx.new.conn.ghost_name ≡ tx.old.conn.ghost_name }
+    ensures inside { StaysInside (state S.Store tx.old.conn.now) (state S.Store tx.new.conn.now) result }
+    ensures found { HasCleanDisk (state S.Store tx.new.conn.now) → IfOk result (λ has. Reads (state S.Store tx.old.conn.now) (state S.Store tx.new.conn.now) (λ books. has ≡ not (lacks books.catalogue.languages language))) }
+{
+    let rows = query(
+        tx,
+        "SELECT number FROM language WHERE number = ?1",
+        &[language.get().to_sql()],
+    )?;
+    Ok(!rows.is_empty())
+}
+
+/// Whether there is a category of the number.
+pub fn has_category<S: Alter>(
+    tx: &mut Transaction<'_, S>,
+    category: CategoryNo,
+) -> Result<bool, StoreFault>
+    ensures same_reference { tx.new.conn.ghost_name ≡ tx.old.conn.ghost_name }
+    ensures inside { StaysInside (state S.Store tx.old.conn.now) (state S.Store tx.new.conn.now) result }
+    ensures found { HasCleanDisk (state S.Store tx.new.conn.now) → IfOk result (λ has. Reads (state S.Store tx.old.conn.now) (state S.Store tx.new.conn.now) (λ books. has ≡ not (lacks books.catalogue.categories category))) }
+{
+    let rows = query(
+        tx,
+        "SELECT number FROM category WHERE number = ?1",
+        &[category.get().to_sql()],
+    )?;
+    Ok(!rows.is_empty())
+}
+
+/// Whether there is a city of the number.
+pub fn has_city<S: Alter>(tx: &mut Transaction<'_, S>, city: CityNo) -> Result<bool, StoreFault>
+    ensures same_reference { tx.new.conn.ghost_name ≡ tx.old.conn.ghost_name }
+    ensures inside { StaysInside (state S.Store tx.old.conn.now) (state S.Store tx.new.conn.now) result }
+    ensures found { HasCleanDisk (state S.Store tx.new.conn.now) → IfOk result (λ has. Reads (state S.Store tx.old.conn.now) (state S.Store tx.new.conn.now) (λ books. has ≡ not (lacks books.catalogue.cities city))) }
+{
+    let rows = query(
+        tx,
+        "SELECT number FROM city WHERE number = ?1",
+        &[city.get().to_sql()],
+    )?;
+    Ok(!rows.is_empty())
+}
+
+/// Whether there is an actor of the number.
+pub fn has_actor<S: Alter>(tx: &mut Transaction<'_, S>, actor: ActorNo) -> Result<bool, StoreFault>
+    ensures same_reference { tx.new.conn.ghost_name ≡ tx.old.conn.ghost_name }
+    ensures inside { StaysInside (state S.Store tx.old.conn.now) (state S.Store tx.new.conn.now) result }
+    ensures found { HasCleanDisk (state S.Store tx.new.conn.now) → IfOk result (λ has. Reads (state S.Store tx.old.conn.now) (state S.Store tx.new.conn.now) (λ books. has ≡ not (lacks books.catalogue.actors actor))) }
+{
+    let rows = query(
+        tx,
+        "SELECT number FROM actor WHERE number = ?1",
+        &[actor.get().to_sql()],
+    )?;
+    Ok(!rows.is_empty())
+}
+
+/// Whether a country has the name, by its bytes.
+pub fn is_country<S: Alter>(tx: &mut Transaction<'_, S>, name: &str) -> Result<bool, StoreFault>
+    ensures same_reference { tx.new.conn.ghost_name ≡ tx.old.conn.ghost_name }
+    ensures inside { StaysInside (state S.Store tx.old.conn.now) (state S.Store tx.new.conn.now) result }
+    ensures found { HasCleanDisk (state S.Store tx.new.conn.now) → IfOk result (λ is. Reads (state S.Store tx.old.conn.now) (state S.Store tx.new.conn.now) (λ books. is ≡ list_any (bytes_eq name.now) books.catalogue.countries)) }
+{
+    let rows = query(
+        tx,
+        "SELECT number FROM country WHERE name = ?1",
+        &[name.to_sql()],
+    )?;
+    Ok(!rows.is_empty())
+}
+
+/// Whether a language has the name, by its bytes.
+pub fn is_language<S: Alter>(tx: &mut Transaction<'_, S>, name: &str) -> Result<bool, StoreFault>
+    ensures same_reference { tx.new.conn.ghost_name ≡ tx.old.conn.ghost_name }
+    ensures inside { StaysInside (state S.Store tx.old.conn.now) (state S.Store tx.new.conn.now) result }
+    ensures found { HasCleanDisk (state S.Store tx.new.conn.now) → IfOk result (λ is. Reads (state S.Store tx.old.conn.now) (state S.Store tx.new.conn.now) (λ books. is ≡ list_any (bytes_eq name.now) books.catalogue.languages)) }
+{
+    let rows = query(
+        tx,
+        "SELECT number FROM language WHERE name = ?1",
+        &[name.to_sql()],
+    )?;
+    Ok(!rows.is_empty())
+}
+
+/// Whether a category has the name, by its bytes.
+pub fn is_category<S: Alter>(tx: &mut Transaction<'_, S>, name: &str) -> Result<bool, StoreFault>
+    ensures same_reference { tx.new.conn.ghost_name ≡ tx.old.conn.ghost_name }
+    ensures inside { StaysInside (state S.Store tx.old.conn.now) (state S.Store tx.new.conn.now) result }
+    ensures found { HasCleanDisk (state S.Store tx.new.conn.now) → IfOk result (λ is. Reads (state S.Store tx.old.conn.now) (state S.Store tx.new.conn.now) (λ books. is ≡ list_any (bytes_eq name.now) books.catalogue.categories)) }
+{
+    let rows = query(
+        tx,
+        "SELECT number FROM category WHERE name = ?1",
+        &[name.to_sql()],
+    )?;
+    Ok(!rows.is_empty())
+}
+
+/// Whether a branch has the token. Head office's is another question.
+pub fn has_token<S: Alter>(tx: &mut Transaction<'_, S>, token: &Token) -> Result<bool, StoreFault>
+    ensures same_reference { tx.new.conn.ghost_name ≡ tx.old.conn.ghost_name }
+    ensures inside { StaysInside (state S.Store tx.old.conn.now) (state S.Store tx.new.conn.now) result }
+    ensures found { HasCleanDisk (state S.Store tx.new.conn.now) → IfOk result (λ has. Reads (state S.Store tx.old.conn.now) (state S.Store tx.new.conn.now)
+        (λ books. has ≡ list_any (λ it. bytes_eq it.token token.now) books.catalogue.branches)) }
+{
+    let rows = query(
+        tx,
+        "SELECT number FROM branch WHERE token = ?1",
+        &[token_text(token).to_sql()],
+    )?;
+    Ok(!rows.is_empty())
+}
+
+/// Whether the actor is in the film's cast.
+pub fn has_cast<S: Alter>(
+    tx: &mut Transaction<'_, S>,
+    film: FilmNo,
+    actor: ActorNo,
+) -> Result<bool, StoreFault>
+    ensures same_reference { tx.new.conn.ghost_name ≡ tx.old.conn.ghost_name }
+    ensures inside { StaysInside (state S.Store tx.old.conn.now) (state S.Store tx.new.conn.now) result }
+    ensures found { HasCleanDisk (state S.Store tx.new.conn.now) → IfOk result (λ has. Reads (state S.Store tx.old.conn.now) (state S.Store tx.new.conn.now)
+        (λ books. has ≡ list_any (λ it. it.film == film && it.actor == actor) books.catalogue.casts)) }
+{
+    let rows = query(
+        tx,
+        "SELECT film FROM film_actor WHERE film = ?1 AND actor = ?2",
+        &[film.get().to_sql(), actor.get().to_sql()],
+    )?;
+    Ok(!rows.is_empty())
+}
