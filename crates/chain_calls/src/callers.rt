@@ -23,6 +23,7 @@ fn faults_have_names(rt: HostRuntime) -> Result<(), Fail> {
         (OpenFault::Store, "store_failed"),
         (OpenFault::NotAChain, "not_a_chain"),
         (OpenFault::OtherVersion, "other_version"),
+        (OpenFault::Already, "already"),
     ] {
         assert!(rt; fault.to_string(rt.alloc())?.as_str() == name);
     }

@@ -4,6 +4,10 @@
 #[cfg(test)]
 mod callers;
 #[cfg(test)]
+mod files;
+#[cfg(test)]
 mod replays;
+#[cfg(test)]
+mod shared;
 #[cfg(test)]
 mod statements;

@@ -7,3 +7,4 @@ pub mod Resting
 pub mod Requests
 pub mod Deciding
 pub mod Opening
+pub mod NewFiles

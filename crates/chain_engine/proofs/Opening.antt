@@ -1,5 +1,5 @@
 -- What an open of files finds, and what files hold after the store is closed.
-use Rattle.std.proofs.Common.{◌≡◌, ◌∙◌, inl, inr, refl, sym, ap, subst, true, false, IsTrue, arith, map, List, [], ◌∷◌, pos, negsuc}
+use Rattle.std.proofs.Common.{◌≡◌, ◌≢◌, ◌⊎◌, ◌∙◌, inl, inr, refl, sym, ap, subst, true, false, IsTrue, arith, map, List, [], ◌∷◌, pos, negsuc}
 use Rattle.std.specs.Prelude.{◌==◌}
 use Rattle.std.proofs.lemmas.Bool.{cases_Bool}
 use Rattle.std.proofs.lemmas.List.Sorted.{length_permutation}
@@ -41,7 +41,10 @@ use Rattle.shop_schema.specs.declared.known.KnownVersion.TheVariants.{This, Miss
 use Rattle.chain_engine.specs.Chains.{Rests, IsAt, widest_rules}
 use Rattle.chain_engine.specs.Holding.{Chained}
 use Rattle.chain_engine.proofs.Deciding.{stands_in_any}
-use Rattle.chain_engine.specs.Files.{HoldsBooks, HoldsOne, KeepsBooks, HoldsNoChain, HasThisVersion, HasNoVersion, HasOtherVersion, Knows}
+use Rattle.chain_engine.specs.declared.chain.OpenFault.{OpenFault}
+use Rattle.chain_engine.specs.declared.chain.OpenFault.TheVariants as fault
+use Rattle.chain_engine.specs.Files.{HoldsBooks, HoldsOne, KeepsBooks, HoldsNoChain, HasThisVersion, HasNoVersion, HasOtherVersion, OpenFailed, Knows}
+use Rattle.chain_engine.specs.Openings.{IsNotOpened}
 
 pub clean_store : {D : Type 0} {g : Ghosts D} (it : FileStore D g) (files : Files D) → (files.log, files.db) ≡ store_files it → AreClean g files.log files.db → IsClean (view it)
 clean_store {D} {g} it files is honest = no_doubt _ (clean_is it.pool ∙ subst (λ (p : D × D). AreClean g p.0 p.1) is honest)
@@ -172,3 +175,29 @@ module _ {D : Type 0} {g : Ghosts D} (c : Held (FileStore D g)) (files : Files D
         | inl before ↦ only_committed c stays opened.0.is_open left before ∙ found.holds db held
         | inr none ↦ absurd none
       ])
+
+-- ---- faults
+
+pub none_is_no_version : fault.NotAChain ≢ fault.OtherVersion
+none_is_no_version e = cc
+
+pub none_is_not_already : fault.NotAChain ≢ fault.Already
+none_is_not_already e = cc
+
+pub version_is_not_none : fault.OtherVersion ≢ fault.NotAChain
+version_is_not_none e = cc
+
+pub version_is_not_already : fault.OtherVersion ≢ fault.Already
+version_is_not_already e = cc
+
+-- a fault of the store, and what is left of the files
+pub unopened_by : {D : Type 0} (g : Ghosts D) (files : Files D) (why : OpenFault) (left : Files D) → why ≢ fault.NotAChain → why ≢ fault.OtherVersion → why ≢ fault.Already
+    → (AreClean g left.log left.db → OpenFailed g files left ⊎ ((db : Trees) → HoldsDatabase (image_of g files) db → HoldsOne g left (λ found. found ≡ db)))
+    → IsNotOpened g files why left
+unopened_by g files why left chain version already kept = record {
+  no_chain = λ honest is. absurd (chain is);
+  no_version = λ honest is. absurd (chain is);
+  other = λ honest is. absurd (version is);
+  kept = kept;
+  already = already;
+}

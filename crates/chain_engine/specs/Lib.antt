@@ -5,3 +5,4 @@ pub mod Steps
 pub mod Decisions
 pub mod Faults
 pub mod Files
+pub mod Openings

@@ -39,6 +39,8 @@ pub enum OpenFault {
     NotAChain,
     /// The files hold a chain of another version.
     OtherVersion,
+    /// The files hold tables already, where a chain was to be made.
+    Already,
 }
 
 impl fmt::Display for OpenFault {
@@ -51,6 +53,7 @@ impl fmt::Display for OpenFault {
             OpenFault::Store => "store_failed",
             OpenFault::NotAChain => "not_a_chain",
             OpenFault::OtherVersion => "other_version",
+            OpenFault::Already => "already",
         })
     }
 }
@@ -60,6 +63,7 @@ pub(crate) fn named(fault: StoreFault) -> OpenFault
     ensures told { result ≡ open_fault_for fault }
     ensures chain { result ≢ OpenFault.NotAChain }
     ensures version { result ≢ OpenFault.OtherVersion }
+    ensures already { result ≢ OpenFault.Already }
 {
     match fault {
         StoreFault::Memory => OpenFault::Memory,

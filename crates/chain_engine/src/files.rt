@@ -12,7 +12,8 @@ ghost use Rattle.shop_model.specs.Books.{Books};
 ghost use Rattle.shop_schema.specs.Shop.{HasVersion};
 ghost use Rattle.shop_schema.specs.Versions.{version_of};
 ghost use Rattle.chain_engine.specs.Chains.{IsAt, Rests};
-ghost use Rattle.chain_engine.specs.Files.{Knows, HoldsBooks, HoldsOne, KeepsBooks, HoldsNoChain, HasThisVersion, HasNoVersion, HasOtherVersion, OpenFailed};
+ghost use Rattle.chain_engine.specs.Files.{Knows, HoldsOne, KeepsBooks, OpenFailed};
+ghost use Rattle.chain_engine.specs.Openings.{IsOpenedIn, IsNotOpened};
 
 use crate::chain::{Chain, OpenFault, named};
 use shop_schema::{KnownVersion, has_version, is_shop, version};
@@ -56,7 +57,7 @@ fn known<S: Alter>(alloc: Global, conn: &mut Connection<S>) -> Result<KnownVersi
 }
 
 /// Gives the files back. Nothing more is written, so the last commits may stand in the log alone.
-fn give_back<D: Disk + Drop>(conn: Connection<FileStore<D>>) -> Files<D>
+pub(crate) fn give_back<D: Disk + Drop>(conn: Connection<FileStore<D>>) -> Files<D>
     ensures left { AreClean D.Disk result.log result.db → HoldsOne D.Disk result (file_state conn).may_leave }
     ensures clean { AreClean D.Disk result.log result.db → HasCleanDisk (file_state conn) }
     ensures seen { outcomes D.Disk result.log result.db (image_of D.Disk result) }
@@ -72,15 +73,8 @@ impl<D: Disk + Drop> Chain<FileStore<D>> {
         files: Files<D>,
         limits: Limits,
     ) -> Result<Chain<FileStore<D>>, (OpenFault, Files<D>)>
-        ensures live { IfOk result (λ chain. (chain.limits ≡ limits) × (chain.is_failed ≡ false)) }
-        ensures honest { IfOk result (λ chain. HasCleanDisk (file_state chain.conn) → AreClean D.Disk files.log files.db) }
-        ensures found { IfOk result (λ chain. HasCleanDisk (file_state chain.conn) → (books : Books) → HoldsBooks (image_of D.Disk files) books → IsAt over_files chain books books) }
-        ensures again { IfOk result (λ chain. HasCleanDisk (file_state chain.conn) → (books : Books) → KeepsBooks D.Disk files books → IsAt over_files chain books books) }
-        ensures this { IfOk result (λ chain. HasCleanDisk (file_state chain.conn) → HasThisVersion (image_of D.Disk files)) }
-        ensures no_chain { IfErr result (λ e. AreClean D.Disk e.1.log e.1.db → e.0 ≡ OpenFault.NotAChain → HoldsNoChain (image_of D.Disk files)) }
-        ensures no_version { IfErr result (λ e. AreClean D.Disk e.1.log e.1.db → e.0 ≡ OpenFault.NotAChain → HasNoVersion (image_of D.Disk files)) }
-        ensures other { IfErr result (λ e. AreClean D.Disk e.1.log e.1.db → e.0 ≡ OpenFault.OtherVersion → HasOtherVersion (image_of D.Disk files)) }
-        ensures kept { IfErr result (λ e. AreClean D.Disk e.1.log e.1.db → OpenFailed D.Disk files e.1 ⊎ ((db : Trees) → HoldsDatabase (image_of D.Disk files) db → HoldsOne D.Disk e.1 (λ left. left ≡ db))) }
+        ensures opened { IfOk result (λ chain. IsOpenedIn files limits chain) }
+        ensures refused { IfErr result (λ e. IsNotOpened D.Disk files e.0 e.1) }
     {
         if !files.may_be_used() {
             return Err((OpenFault::Store, files));

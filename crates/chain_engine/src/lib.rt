@@ -3,8 +3,10 @@
 
 mod callers;
 mod chain;
+mod creating;
 mod creation;
 mod files;
+mod paths;
 mod step;
 
 pub use chain::{Chain, OpenFault};

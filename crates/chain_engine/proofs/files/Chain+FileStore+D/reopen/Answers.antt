@@ -1,4 +1,4 @@
-use Rattle.std.proofs.Common.{Ok, Err, Result, IfOk, IfErr}
+use Rattle.std.proofs.Common.{◌≡◌, subst, Ok, Err, Result, IfOk, IfErr}
 use Rattle.chain_engine.proofs.files.Chain+FileStore+D.reopen.Goals as goal
 
 ok_then : {A E : Type 0} (r : Result A E) {P Q : A → Type 0} → IfOk r P → ((x : A) → P x → Q x) → IfOk r Q
@@ -9,12 +9,15 @@ err_then : {A E : Type 0} (r : Result A E) {P Q : E → Type 0} → IfErr r P �
 err_then (Ok x) h f = tt
 err_then (Err e) h f = f e h
 
+pub returns-clause-live : goal.returns-clause-live
+returns-clause-live g c = ok_then c.open_files.result c.open_files.ensures.opened (λ chain it. (subst (λ self. chain.limits ≡ self.limits) c.self.view_is it.limits, it.live))
+
 pub returns-clause-honest : goal.returns-clause-honest
-returns-clause-honest g c = ok_then c.open_files.result c.open_files.ensures.honest (λ chain was clean. c.close.ensures.clean (was clean))
+returns-clause-honest g c = ok_then c.open_files.result c.open_files.ensures.opened (λ chain it clean. c.close.ensures.clean (it.honest clean))
 
 pub returns-clause-same : goal.returns-clause-same
 returns-clause-same g c =
-    ok_then c.open_files.result c.open_files.ensures.again (λ chain again clean live books besides at. again clean books (c.close.ensures.keeps live books besides at))
+    ok_then c.open_files.result c.open_files.ensures.opened (λ chain it clean live books besides at. it.again clean books (c.close.ensures.keeps live books besides at))
 
 pub returns-clause-kept : goal.returns-clause-kept
-returns-clause-kept g c = err_then c.open_files.result c.open_files.ensures.kept (λ e kept. (c.close.result, c.close.ensures.keeps, kept))
+returns-clause-kept g c = err_then c.open_files.result c.open_files.ensures.refused (λ e it. (c.close.result, c.close.ensures.keeps, it.kept))
