@@ -58,6 +58,7 @@ pub fn work<S: Alter>(
     match request {
         Request::Do(command) => act(alloc, tx, limits, branch, last, command),
         Request::Look(ask) => Ok((look(alloc, tx, branch, *ask)?, false)),
+        Request::Office(_) => Ok((Reply::refused(Refusal::NoRoute), false)),
     }
 }
 

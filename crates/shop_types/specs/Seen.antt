@@ -64,7 +64,7 @@ seen_payment payment = record {
   paid = payment.paid;
 }
 
--- ---- requests
+-- ---- a branch's requests
 
 abbrev pub seen_act : Act → model.Act
 seen_act (act.Customer person) = model.AddCustomer (seen_person person)
@@ -92,10 +92,6 @@ seen_ask (ask.FilmNotInStock film) = model.FilmNotInStock film
 seen_ask (ask.Balance customer at) = model.Balance customer at
 seen_ask (ask.Overdue at) = model.Overdue at
 seen_ask (ask.Rewards at purchases cents) = model.Rewards at purchases cents
-
-abbrev pub seen_request : Request → machine.Request
-seen_request (request.Do command) = machine.Do (seen_command command)
-seen_request (request.Look ask) = machine.Look (seen_ask ask)
 
 abbrev pub seen_caller : Caller → books.Caller
 seen_caller (caller.Branch number) = books.Counter number
@@ -158,6 +154,13 @@ seen_office_act (office.Manager branch staff) = model.SetManager branch staff
 
 abbrev pub seen_office : OfficeCommand → model.OfficeCommand
 seen_office command = record { key = command.key; act = seen_office_act command.act }
+
+-- ---- requests
+
+abbrev pub seen_request : Request → machine.Request
+seen_request (request.Do command) = machine.Do (seen_command command)
+seen_request (request.Look ask) = machine.Look (seen_ask ask)
+seen_request (request.Office command) = machine.Office (seen_office command)
 
 -- ---- refusals
 

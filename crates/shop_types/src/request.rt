@@ -1,4 +1,4 @@
-use crate::Command;
+use crate::{Command, OfficeCommand};
 use shop_values::{BranchNo, CopyNo, CustomerNo, FilmNo, Moment};
 
 /// What a counter's reading shows.
@@ -34,6 +34,8 @@ pub enum Ask {
 pub enum Request {
     Do(Command),
     Look(Ask),
+    /// A command of head office, which a counter may not ask.
+    Office(OfficeCommand),
 }
 
 /// Who asks, by the token that came with the request.

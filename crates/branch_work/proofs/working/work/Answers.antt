@@ -1,12 +1,13 @@
-use Rattle.std.proofs.Common.{◌∙◌, sym, subst, false, arith}
+use Rattle.std.proofs.Common.{◌∙◌, refl, sym, subst, false, arith}
 use Rattle.sqlite.specs.Held.{state}
 use Rattle.sqlite.specs.State.{HasCleanDisk}
 use Rattle.std.proofs.lemmas.Result.{IfOk-weaker}
 use Rattle.shop_types.specs.declared.request.Request.{Request}
+use Rattle.shop_types.specs.declared.request.Request.TheVariants as request
 use Rattle.shop_types.specs.Seen.{seen_request}
 use Rattle.shop_types.specs.Replies.{seen_reply}
 use Rattle.branch_work.specs.Works.{IsDone}
-use Rattle.branch_work.proofs.Doing.{nobody_done, is_there, isnt_there}
+use Rattle.branch_work.proofs.Doing.{nobody_done, kept_done, is_there, isnt_there}
 use Rattle.branch_work.proofs.working.work.Goals as goal
 
 pub returns-in_default-clause-works : goal.returns-in_default-clause-works
@@ -34,3 +35,10 @@ returns-in_ok-look-in-Look-clause-works g c = λ clean books holds held.
     let there = is_there _ _ _ (sym c.in-Some.is ∙ found.1) in
     let P : Request → Type 0 = λ it. IsDone c.args.limits c.args.branch (seen_request it) (seen_reply c.in_ok-look-in-Look.field-0) false s2 books in
     subst P (sym c.in-Look.is) (c.in_ok-look-in-Look.ensures.works clean c.args.limits books found.0 held there.0 tt)
+
+pub returns-in-Office-clause-works : goal.returns-in-Office-clause-works
+returns-in-Office-clause-works g c = λ clean books holds held.
+    let found = c.in_ok-last.ensures.found clean books holds held in
+    let there = is_there _ _ _ (sym c.in-Some.is ∙ found.1) in
+    let P : Request → Type 0 = λ it. IsDone c.args.limits c.args.branch (seen_request it) (seen_reply c.refused-in-Office.result) false (state g.S.Store c.last_at.new.tx.conn.now) books in
+    subst P (sym c.in-Office.is) (kept_done c.args.limits c.args.branch books (seen_request (request.Office c.in-Office.field-0)) _ false _ there.0 refl c.refused-in-Office.ensures found.0)
