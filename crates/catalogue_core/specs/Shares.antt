@@ -1,5 +1,5 @@
 -- When what was found is what the catalogue has of the rows that a command of head office names.
-use Rattle.std.specs.Prelude.{◌≡◌, ⊤, ℕ, ◌==◌, ◌&&◌, Bool, Option, not, map, filter, length, option_map}
+use Rattle.std.specs.Prelude.{◌≡◌, ⊤, ℕ, ◌==◌, ◌&&◌, Bool, false, Option, None, not, map, filter, length, option_map}
 use Rattle.std.specs.List.{list_any}
 use Rattle.std.specs.Str.{bytes_eq}
 use Rattle.shop_model.specs.Rows.{at, lacks}
@@ -9,6 +9,7 @@ use Rattle.shop_model.specs.Books.{head}
 use Rattle.shop_types.specs.Verdicts.{seen_kept, seen_post, post_of}
 use Rattle.catalogue_core.specs.declared.shared.BranchFound.{BranchFound}
 use Rattle.catalogue_core.specs.declared.shared.Shared.{Shared}
+use Rattle.catalogue_core.specs.declared.shared.SharedRows.{SharedRows}
 
 -- ---- rows of the catalogue, where there is one of the number
 
@@ -36,29 +37,44 @@ is_cast catalogue cast = list_any (λ (it : Cast). it.film == cast.film && it.ac
 
 -- ---- the act
 
-pub record FilmShares (catalogue : Catalogue) (film : Film) (it : Shared) : Type 0 where
+-- of no row there is anything
+abbrev pub no_rows : SharedRows
+no_rows = record {
+  has_token = false;
+  is_named = false;
+  has_country = false;
+  has_city = false;
+  has_language = false;
+  has_category = false;
+  has_actor = false;
+  has_cast = false;
+  film = None;
+  branch = None;
+  staff = None;
+}
+
+pub record FilmShares (catalogue : Catalogue) (film : Film) (it : SharedRows) : Type 0 where
   pub language : it.has_language ≡ not (lacks catalogue.languages film.language)
   pub category : it.has_category ≡ not (lacks catalogue.categories film.category)
 
-pub record CastShares (catalogue : Catalogue) (cast : Cast) (it : Shared) : Type 0 where
+pub record CastShares (catalogue : Catalogue) (cast : Cast) (it : SharedRows) : Type 0 where
   pub film : it.film ≡ film_at catalogue cast.film
   pub actor : it.has_actor ≡ not (lacks catalogue.actors cast.actor)
   pub cast_in : it.has_cast ≡ is_cast catalogue cast
 
-pub record BranchShares (catalogue : Catalogue) (branch : Branch) (it : Shared) : Type 0 where
-  pub office : it.office_token ≡ catalogue.office_token
+pub record BranchShares (catalogue : Catalogue) (branch : Branch) (it : SharedRows) : Type 0 where
   pub token : it.has_token ≡ is_token catalogue branch.token
   pub city : it.has_city ≡ not (lacks catalogue.cities branch.city)
 
-pub record StaffShares (catalogue : Catalogue) (staff : Staff) (it : Shared) : Type 0 where
+pub record StaffShares (catalogue : Catalogue) (staff : Staff) (it : SharedRows) : Type 0 where
   pub branch : option_map seen_branch_found it.branch ≡ branch_at catalogue staff.branch
   pub city : it.has_city ≡ not (lacks catalogue.cities staff.person.city)
 
-pub record ManagerShares (catalogue : Catalogue) (b s : ℕ) (it : Shared) : Type 0 where
+pub record ManagerShares (catalogue : Catalogue) (b s : ℕ) (it : SharedRows) : Type 0 where
   pub branch : option_map seen_branch_found it.branch ≡ branch_at catalogue b
   pub staff : option_map seen_post it.staff ≡ staff_at catalogue s
 
-abbrev pub ActShares : Catalogue → OfficeAct → Shared → Type 0
+abbrev pub ActShares : Catalogue → OfficeAct → SharedRows → Type 0
 ActShares catalogue (AddCountry name) it = it.is_named ≡ list_any (bytes_eq name) catalogue.countries
 ActShares catalogue (AddCity city) it = it.has_country ≡ not (lacks catalogue.countries city.country)
 ActShares catalogue (AddLanguage name) it = it.is_named ≡ list_any (bytes_eq name) catalogue.languages
@@ -82,4 +98,5 @@ kept_for command kept = (same_office kept.command command, kept.reply)
 pub record Shares (catalogue : Catalogue) (command : OfficeCommand) (it : Shared) : Type 0 where
   pub kept : option_map seen_kept it.kept ≡ head (map (kept_for command) (filter (λ (k : OfficeKept). bytes_eq k.command.key command.key) catalogue.kept))
   pub keys : it.keys ≡ length catalogue.kept
-  pub act : ActShares catalogue command.act it
+  pub office : it.office_token ≡ catalogue.office_token
+  pub act : ActShares catalogue command.act it.rows

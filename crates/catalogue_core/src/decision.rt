@@ -9,12 +9,12 @@ ghost use Rattle.shop_types.specs.Verdicts.{verdict_by};
 ghost use Rattle.catalogue_core.specs.Shares.{Shares, ActShares};
 ghost use Rattle.catalogue_core.specs.Decided.{IsDecided, fresh_refusals};
 
-use crate::Shared;
 use crate::acts::{
     branch_refusal, cast_refusal, leave_refusal, manager_refusal, name_refusal, price_refusal,
     row_refusal, staff_refusal, withdraw_refusal,
 };
-use shop_types::{Limits, OfficeAct, OfficeCommand, Refusal};
+use crate::{Shared, SharedRows};
+use shop_types::{Limits, OfficeAct, OfficeCommand, Refusal, Token};
 
 /// What is decided of a command that isn't refused.
 #[derive(Clone, Copy, Debug)]
@@ -56,33 +56,32 @@ fn first_refusal(act: &OfficeAct, shared: &Shared, limits: Limits) -> Option<Ref
     if limits.commands() <= shared.keys {
         Some(Refusal::Full)
     } else {
-        act_refusal(act, shared)
+        act_refusal(act, &shared.office_token, &shared.rows)
     }
 }
 
 /// The first refusal that goes by what the command does.
-fn act_refusal(act: &OfficeAct, shared: &Shared) -> Option<Refusal>
-    ensures { (catalogue : Catalogue) → ActShares catalogue (seen_office_act act.now) shared.now → verdict_by result ≡ Some (first (office_refusals catalogue (seen_office_act act.now))) }
+fn act_refusal(act: &OfficeAct, office_token: &Token, rows: &SharedRows) -> Option<Refusal>
+    ensures { (catalogue : Catalogue) → office_token.now ≡ catalogue.office_token → ActShares catalogue (seen_office_act act.now) rows.now
+        → verdict_by result ≡ Some (first (office_refusals catalogue (seen_office_act act.now))) }
 {
     match act {
         OfficeAct::Country(_) | OfficeAct::Language(_) | OfficeAct::Category(_) => {
-            name_refusal(shared.is_named)
+            name_refusal(rows.is_named)
         }
-        OfficeAct::City(_) => row_refusal(shared.has_country),
+        OfficeAct::City(_) => row_refusal(rows.has_country),
         OfficeAct::Actor(_) => None,
-        OfficeAct::Film(_) => row_refusal(shared.has_language && shared.has_category),
-        OfficeAct::Price { .. } => price_refusal(shared.film),
-        OfficeAct::Withdraw(_) => withdraw_refusal(shared.film),
-        OfficeAct::Cast { .. } => cast_refusal(shared.film, shared.has_actor, shared.has_cast),
-        OfficeAct::Branch(branch) => branch_refusal(
-            branch.token == shared.office_token,
-            shared.has_token,
-            shared.has_city,
-        ),
-        OfficeAct::Staff(_) => staff_refusal(shared.branch, shared.has_city),
-        OfficeAct::Leave(_) => leave_refusal(shared.staff),
+        OfficeAct::Film(_) => row_refusal(rows.has_language && rows.has_category),
+        OfficeAct::Price { .. } => price_refusal(rows.film),
+        OfficeAct::Withdraw(_) => withdraw_refusal(rows.film),
+        OfficeAct::Cast { .. } => cast_refusal(rows.film, rows.has_actor, rows.has_cast),
+        OfficeAct::Branch(branch) => {
+            branch_refusal(branch.token == *office_token, rows.has_token, rows.has_city)
+        }
+        OfficeAct::Staff(_) => staff_refusal(rows.branch, rows.has_city),
+        OfficeAct::Leave(_) => leave_refusal(rows.staff),
         OfficeAct::Manager { branch, staff } => {
-            manager_refusal(*branch, *staff, shared.branch, shared.staff)
+            manager_refusal(*branch, *staff, rows.branch, rows.staff)
         }
     }
 }

@@ -6,4 +6,4 @@ mod decision;
 mod shared;
 
 pub use decision::{OfficeChange, decide_office};
-pub use shared::{BranchFound, Shared};
+pub use shared::{BranchFound, Shared, SharedRows};

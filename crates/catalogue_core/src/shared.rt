@@ -1,5 +1,8 @@
 //! What was found of the shared rows that a command of head office names.
 
+ghost use Rattle.std.specs.Prelude.{◌≡◌};
+ghost use Rattle.catalogue_core.specs.Shares.{no_rows};
+
 use shop_types::{KeptFound, StaffFound, StaffNo, Token};
 
 /// A branch that a command names.
@@ -8,8 +11,7 @@ pub struct BranchFound {
     pub manager: Option<StaffNo>,
 }
 
-/// All that a decision reads: the catalogue, head office's own keys, and nothing of any branch. What is said of a row that the command doesn't name is
-/// never looked at.
+/// All that a decision reads: the catalogue, head office's own keys, and nothing of any branch.
 #[derive(Debug, Drop)]
 pub struct Shared<'a> {
     /// Head office's kept row of the command's key, where there is one.
@@ -18,6 +20,12 @@ pub struct Shared<'a> {
     pub keys: u32,
     /// Head office's token.
     pub office_token: Token,
+    pub rows: SharedRows,
+}
+
+/// The rows that a command's act names. What is said of a row that it doesn't name is never looked at.
+#[derive(Clone, Copy, Debug)]
+pub struct SharedRows {
     /// Whether a branch has the token that the command gives.
     pub has_token: bool,
     /// Whether the name of a new country, language or category is that of one already, by its bytes.
@@ -35,4 +43,25 @@ pub struct Shared<'a> {
     pub branch: Option<BranchFound>,
     /// The member of staff, where there is one of the number.
     pub staff: Option<StaffFound>,
+}
+
+impl SharedRows {
+    /// Of no row there is anything.
+    pub fn none() -> SharedRows
+        ensures { result ≡ no_rows }
+    {
+        SharedRows {
+            has_token: false,
+            is_named: false,
+            has_country: false,
+            has_city: false,
+            has_language: false,
+            has_category: false,
+            has_actor: false,
+            has_cast: false,
+            film: None,
+            branch: None,
+            staff: None,
+        }
+    }
 }
