@@ -1,0 +1,4 @@
+pub mod Written
+pub mod Readings
+pub mod Kepts
+pub mod Doing

@@ -1,0 +1,312 @@
+//! What the tables have of the shared rows that a command of head office names.
+
+ghost use Rattle.std.specs.Prelude.{◌≡◌, map, option_map, IfOk};
+ghost use Rattle.sqlite.specs.Held.{state};
+ghost use Rattle.sqlite.specs.State.{HasCleanDisk};
+ghost use Rattle.sql_rows.specs.Calls.{StaysWithin};
+ghost use Rattle.shop_model.specs.Values as model;
+ghost use Rattle.shop_types.specs.Seen.{seen_city, seen_film, seen_branch, seen_staff, seen_office_act, seen_office};
+ghost use Rattle.shop_types.specs.Verdicts.{seen_kept as told, seen_post};
+ghost use Rattle.shop_schema.specs.Shop.{Reads};
+ghost use Rattle.shop_store.specs.Seen.{seen_kept};
+ghost use Rattle.catalogue_core.specs.Shares.{Shares, seen_branch_found, branch_at as branch_in, staff_at as staff_in, film_at as film_in};
+ghost use Rattle.office_work.specs.Found.{by_form, shared_of, IsKeptFor, FindsFor};
+
+use catalogue_core::{BranchFound, SharedRows};
+use catalogue_store::{
+    branch_at, film_at, has_actor, has_cast, has_category, has_city, has_country, has_language,
+    has_token, is_category, is_country, is_language, office_token, staff_at,
+};
+use shop_store::{KeptRow, office_keys};
+use shop_types::{
+    ActorNo, Branch, BranchNo, City, Film, FilmNo, KeptFound, OfficeAct, OfficeCommand, Staff,
+    StaffFound, StaffNo, T45, Token,
+};
+use sql_rows::{Bytes, StoreFault};
+use sqlite::{Alter, Transaction};
+
+/// The kept row as it compares with a command of that stored form.
+pub fn kept_found<'a>(kept: Option<&'a KeptRow>, form: &Bytes) -> Option<KeptFound<'a>>
+    ensures { option_map told result ≡ option_map (λ row. by_form form.now (seen_kept row.now)) kept.entry }
+{
+    match kept {
+        Some(row) => Some(KeptFound {
+            is_same: row.form.as_slice() == form.as_slice(),
+            reply: row.reply.as_str(),
+        }),
+        None => None,
+    }
+}
+
+/// Head office's count and token, and the rows that its command names.
+#[derive(Clone, Copy, Debug)]
+pub struct SharedFound {
+    /// How many kept rows head office has.
+    pub keys: u32,
+    pub office_token: Token,
+    pub rows: SharedRows,
+}
+
+/// What a decision on head office's command reads of the tables, beside what is kept under the command's key.
+pub fn find<S: Alter>(
+    tx: &mut Transaction<'_, S>,
+    command: &OfficeCommand,
+) -> Result<SharedFound, StoreFault>
+    ensures same_reference { tx.new.conn.ghost_name ≡ tx.old.conn.ghost_name }
+    ensures inside { StaysWithin (state S.Store tx.old.conn.now) (state S.Store tx.new.conn.now) result }
+    ensures found { HasCleanDisk (state S.Store tx.new.conn.now) → IfOk result (λ found.
+        Reads (state S.Store tx.old.conn.now) (state S.Store tx.new.conn.now) (λ books. (kept : _)
+        → IsKeptFor (seen_office command.now) kept books → Shares books.catalogue (seen_office command.now) (shared_of kept found))) }
+{
+    let keys = office_keys(tx)?;
+    let token = office_token(tx)?;
+    let rows = find_rows(tx, &command.act)?;
+    Ok(SharedFound {
+        keys,
+        office_token: token,
+        rows,
+    })
+}
+
+/// What there is of the rows that an act names.
+fn find_rows<S: Alter>(
+    tx: &mut Transaction<'_, S>,
+    act: &OfficeAct,
+) -> Result<SharedRows, StoreFault>
+    ensures same_reference { tx.new.conn.ghost_name ≡ tx.old.conn.ghost_name }
+    ensures inside { StaysWithin (state S.Store tx.old.conn.now) (state S.Store tx.new.conn.now) result }
+    ensures found { HasCleanDisk (state S.Store tx.new.conn.now) → IfOk result (λ rows.
+        FindsFor (seen_office_act act.now) rows (state S.Store tx.old.conn.now) (state S.Store tx.new.conn.now)) }
+{
+    match act {
+        OfficeAct::Country(name) => for_country(tx, name),
+        OfficeAct::City(city) => for_city(tx, city),
+        OfficeAct::Language(name) => for_language(tx, name),
+        OfficeAct::Category(name) => for_category(tx, name),
+        OfficeAct::Actor(_) => Ok(SharedRows::none()),
+        OfficeAct::Film(film) => for_film(tx, film),
+        OfficeAct::Price { film, .. } => for_price(tx, *film),
+        OfficeAct::Withdraw(film) => for_price(tx, *film),
+        OfficeAct::Cast { film, actor } => for_cast(tx, *film, *actor),
+        OfficeAct::Branch(branch) => for_branch(tx, branch),
+        OfficeAct::Staff(staff) => for_staff(tx, staff),
+        OfficeAct::Leave(staff) => for_leave(tx, *staff),
+        OfficeAct::Manager { branch, staff } => for_manager(tx, *branch, *staff),
+    }
+}
+
+/// Whether a country has the name of a new one.
+fn for_country<S: Alter>(tx: &mut Transaction<'_, S>, name: &T45) -> Result<SharedRows, StoreFault>
+    ensures same_reference { tx.new.conn.ghost_name ≡ tx.old.conn.ghost_name }
+    ensures inside { StaysWithin (state S.Store tx.old.conn.now) (state S.Store tx.new.conn.now) result }
+    ensures found { HasCleanDisk (state S.Store tx.new.conn.now) → IfOk result (λ rows.
+        FindsFor (model.AddCountry name.now) rows (state S.Store tx.old.conn.now) (state S.Store tx.new.conn.now)) }
+{
+    let is_named = is_country(tx, name.as_str())?;
+    Ok(SharedRows {
+        is_named,
+        ..SharedRows::none()
+    })
+}
+
+/// Whether there is the country of a new city.
+fn for_city<S: Alter>(tx: &mut Transaction<'_, S>, city: &City) -> Result<SharedRows, StoreFault>
+    ensures same_reference { tx.new.conn.ghost_name ≡ tx.old.conn.ghost_name }
+    ensures inside { StaysWithin (state S.Store tx.old.conn.now) (state S.Store tx.new.conn.now) result }
+    ensures found { HasCleanDisk (state S.Store tx.new.conn.now) → IfOk result (λ rows.
+        FindsFor (model.AddCity (seen_city city.now)) rows (state S.Store tx.old.conn.now) (state S.Store tx.new.conn.now)) }
+{
+    let has_country = has_country(tx, city.country)?;
+    Ok(SharedRows {
+        has_country,
+        ..SharedRows::none()
+    })
+}
+
+/// Whether a language has the name of a new one.
+fn for_language<S: Alter>(tx: &mut Transaction<'_, S>, name: &T45) -> Result<SharedRows, StoreFault>
+    ensures same_reference { tx.new.conn.ghost_name ≡ tx.old.conn.ghost_name }
+    ensures inside { StaysWithin (state S.Store tx.old.conn.now) (state S.Store tx.new.conn.now) result }
+    ensures found { HasCleanDisk (state S.Store tx.new.conn.now) → IfOk result (λ rows.
+        FindsFor (model.AddLanguage name.now) rows (state S.Store tx.old.conn.now) (state S.Store tx.new.conn.now)) }
+{
+    let is_named = is_language(tx, name.as_str())?;
+    Ok(SharedRows {
+        is_named,
+        ..SharedRows::none()
+    })
+}
+
+/// Whether a category has the name of a new one.
+fn for_category<S: Alter>(tx: &mut Transaction<'_, S>, name: &T45) -> Result<SharedRows, StoreFault>
+    ensures same_reference { tx.new.conn.ghost_name ≡ tx.old.conn.ghost_name }
+    ensures inside { StaysWithin (state S.Store tx.old.conn.now) (state S.Store tx.new.conn.now) result }
+    ensures found { HasCleanDisk (state S.Store tx.new.conn.now) → IfOk result (λ rows.
+        FindsFor (model.AddCategory name.now) rows (state S.Store tx.old.conn.now) (state S.Store tx.new.conn.now)) }
+{
+    let is_named = is_category(tx, name.as_str())?;
+    Ok(SharedRows {
+        is_named,
+        ..SharedRows::none()
+    })
+}
+
+/// Whether there are the language and the category of a new film.
+fn for_film<S: Alter>(tx: &mut Transaction<'_, S>, film: &Film) -> Result<SharedRows, StoreFault>
+    ensures same_reference { tx.new.conn.ghost_name ≡ tx.old.conn.ghost_name }
+    ensures inside { StaysWithin (state S.Store tx.old.conn.now) (state S.Store tx.new.conn.now) result }
+    ensures found { HasCleanDisk (state S.Store tx.new.conn.now) → IfOk result (λ rows.
+        FindsFor (model.AddFilm (seen_film film.now)) rows (state S.Store tx.old.conn.now) (state S.Store tx.new.conn.now)) }
+{
+    let has_language = has_language(tx, film.language)?;
+    let has_category = has_category(tx, film.category)?;
+    Ok(SharedRows {
+        has_language,
+        has_category,
+        ..SharedRows::none()
+    })
+}
+
+/// Whether there is a film whose price is set, or that is withdrawn, and whether it is withdrawn already.
+fn for_price<S: Alter>(tx: &mut Transaction<'_, S>, film: FilmNo) -> Result<SharedRows, StoreFault>
+    ensures same_reference { tx.new.conn.ghost_name ≡ tx.old.conn.ghost_name }
+    ensures inside { StaysWithin (state S.Store tx.old.conn.now) (state S.Store tx.new.conn.now) result }
+    ensures found { HasCleanDisk (state S.Store tx.new.conn.now) → IfOk result (λ rows.
+        Reads (state S.Store tx.old.conn.now) (state S.Store tx.new.conn.now) (λ books. rows.film ≡ film_in books.catalogue film)) }
+{
+    let film = film_at(tx, film)?;
+    Ok(SharedRows {
+        film,
+        ..SharedRows::none()
+    })
+}
+
+/// Whether there are a film and an actor who comes into its cast, and whether the actor is in it already.
+fn for_cast<S: Alter>(
+    tx: &mut Transaction<'_, S>,
+    film: FilmNo,
+    actor: ActorNo,
+) -> Result<SharedRows, StoreFault>
+    ensures same_reference { tx.new.conn.ghost_name ≡ tx.old.conn.ghost_name }
+    ensures inside { StaysWithin (state S.Store tx.old.conn.now) (state S.Store tx.new.conn.now) result }
+    ensures found { HasCleanDisk (state S.Store tx.new.conn.now) → IfOk result (λ rows.
+        FindsFor (model.AddCast (record { film = film; actor = actor })) rows (state S.Store tx.old.conn.now) (state S.Store tx.new.conn.now)) }
+{
+    let withdrawn = film_at(tx, film)?;
+    let has_actor = has_actor(tx, actor)?;
+    let has_cast = has_cast(tx, film, actor)?;
+    Ok(SharedRows {
+        film: withdrawn,
+        has_actor,
+        has_cast,
+        ..SharedRows::none()
+    })
+}
+
+/// Whether a branch has the token of a new one, and whether there is its city.
+fn for_branch<S: Alter>(
+    tx: &mut Transaction<'_, S>,
+    branch: &Branch,
+) -> Result<SharedRows, StoreFault>
+    ensures same_reference { tx.new.conn.ghost_name ≡ tx.old.conn.ghost_name }
+    ensures inside { StaysWithin (state S.Store tx.old.conn.now) (state S.Store tx.new.conn.now) result }
+    ensures found { HasCleanDisk (state S.Store tx.new.conn.now) → IfOk result (λ rows.
+        FindsFor (model.AddBranch (seen_branch branch.now)) rows (state S.Store tx.old.conn.now) (state S.Store tx.new.conn.now)) }
+{
+    let has_token = has_token(tx, &branch.token)?;
+    let has_city = has_city(tx, branch.city)?;
+    Ok(SharedRows {
+        has_token,
+        has_city,
+        ..SharedRows::none()
+    })
+}
+
+/// Whether there are the branch and the city of a new member of staff.
+fn for_staff<S: Alter>(tx: &mut Transaction<'_, S>, staff: &Staff) -> Result<SharedRows, StoreFault>
+    ensures same_reference { tx.new.conn.ghost_name ≡ tx.old.conn.ghost_name }
+    ensures inside { StaysWithin (state S.Store tx.old.conn.now) (state S.Store tx.new.conn.now) result }
+    ensures found { HasCleanDisk (state S.Store tx.new.conn.now) → IfOk result (λ rows.
+        FindsFor (model.AddStaff (seen_staff staff.now)) rows (state S.Store tx.old.conn.now) (state S.Store tx.new.conn.now)) }
+{
+    let branch = find_branch(tx, staff.branch)?;
+    let has_city = has_city(tx, staff.person.city)?;
+    Ok(SharedRows {
+        branch,
+        has_city,
+        ..SharedRows::none()
+    })
+}
+
+/// Whether there is a member of staff who leaves, and whether the member left already.
+fn for_leave<S: Alter>(
+    tx: &mut Transaction<'_, S>,
+    staff: StaffNo,
+) -> Result<SharedRows, StoreFault>
+    ensures same_reference { tx.new.conn.ghost_name ≡ tx.old.conn.ghost_name }
+    ensures inside { StaysWithin (state S.Store tx.old.conn.now) (state S.Store tx.new.conn.now) result }
+    ensures found { HasCleanDisk (state S.Store tx.new.conn.now) → IfOk result (λ rows.
+        FindsFor (model.StaffLeaves staff) rows (state S.Store tx.old.conn.now) (state S.Store tx.new.conn.now)) }
+{
+    let staff = find_staff(tx, staff)?;
+    Ok(SharedRows {
+        staff,
+        ..SharedRows::none()
+    })
+}
+
+/// Whether there are a branch and a member of staff who becomes its manager.
+fn for_manager<S: Alter>(
+    tx: &mut Transaction<'_, S>,
+    branch: BranchNo,
+    staff: StaffNo,
+) -> Result<SharedRows, StoreFault>
+    ensures same_reference { tx.new.conn.ghost_name ≡ tx.old.conn.ghost_name }
+    ensures inside { StaysWithin (state S.Store tx.old.conn.now) (state S.Store tx.new.conn.now) result }
+    ensures found { HasCleanDisk (state S.Store tx.new.conn.now) → IfOk result (λ rows.
+        FindsFor (model.SetManager branch staff) rows (state S.Store tx.old.conn.now) (state S.Store tx.new.conn.now)) }
+{
+    let managed = find_branch(tx, branch)?;
+    let manager = find_staff(tx, staff)?;
+    Ok(SharedRows {
+        branch: managed,
+        staff: manager,
+        ..SharedRows::none()
+    })
+}
+
+/// The branch of the number.
+fn find_branch<S: Alter>(
+    tx: &mut Transaction<'_, S>,
+    branch: BranchNo,
+) -> Result<Option<BranchFound>, StoreFault>
+    ensures same_reference { tx.new.conn.ghost_name ≡ tx.old.conn.ghost_name }
+    ensures inside { StaysWithin (state S.Store tx.old.conn.now) (state S.Store tx.new.conn.now) result }
+    ensures found { HasCleanDisk (state S.Store tx.new.conn.now) → IfOk result (λ found.
+        Reads (state S.Store tx.old.conn.now) (state S.Store tx.new.conn.now)
+        (λ books. option_map seen_branch_found found ≡ branch_in books.catalogue branch)) }
+{
+    match branch_at(tx, branch)? {
+        Some(manager) => Ok(Some(BranchFound { manager })),
+        None => Ok(None),
+    }
+}
+
+/// The member of staff of the number.
+fn find_staff<S: Alter>(
+    tx: &mut Transaction<'_, S>,
+    staff: StaffNo,
+) -> Result<Option<StaffFound>, StoreFault>
+    ensures same_reference { tx.new.conn.ghost_name ≡ tx.old.conn.ghost_name }
+    ensures inside { StaysWithin (state S.Store tx.old.conn.now) (state S.Store tx.new.conn.now) result }
+    ensures found { HasCleanDisk (state S.Store tx.new.conn.now) → IfOk result (λ found.
+        Reads (state S.Store tx.old.conn.now) (state S.Store tx.new.conn.now) (λ books. option_map seen_post found ≡ staff_in books.catalogue staff)) }
+{
+    match staff_at(tx, staff)? {
+        Some(post) => Ok(Some(StaffFound {
+            branch: post.branch,
+            gone: post.gone,
+        })),
+        None => Ok(None),
+    }
+}
