@@ -1,5 +1,6 @@
 pub mod Failures
 pub mod Standing
+pub mod Asking
 pub mod Taking
 pub mod Branches
 pub mod Running

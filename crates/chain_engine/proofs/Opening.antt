@@ -38,12 +38,12 @@ use Rattle.shop_schema.specs.Columns.{this_version}
 use Rattle.sqlite.specs.Schema.{Schema}
 use Rattle.shop_schema.specs.Versions.{version_of, version_told}
 use Rattle.shop_schema.specs.declared.known.KnownVersion.TheVariants.{This, Missing, Other}
-use Rattle.chain_engine.specs.Chains.{Rests, IsAt, widest_rules}
+use Rattle.chain_engine.specs.Chains.{Rests, IsAt, StandsForEither, widest_rules}
 use Rattle.chain_engine.specs.Holding.{Chained}
 use Rattle.chain_engine.proofs.Deciding.{stands_in_any}
 use Rattle.chain_engine.specs.declared.chain.OpenFault.{OpenFault}
 use Rattle.chain_engine.specs.declared.chain.OpenFault.TheVariants as fault
-use Rattle.chain_engine.specs.Files.{HoldsBooks, HoldsOne, KeepsBooks, HoldsNoChain, HasThisVersion, HasNoVersion, HasOtherVersion, OpenFailed, Knows}
+use Rattle.chain_engine.specs.Files.{HoldsBooks, HoldsOne, KeepsBooks, KeepsEither, HoldsNoChain, HasThisVersion, HasNoVersion, HasOtherVersion, OpenFailed, Knows}
 use Rattle.chain_engine.specs.Openings.{IsNotOpened}
 
 pub clean_store : {D : Type 0} {g : Ghosts D} (it : FileStore D g) (files : Files D) → (files.log, files.db) ≡ store_files it → AreClean g files.log files.db → IsClean (view it)
@@ -68,6 +68,15 @@ keeps_books {D} {g} chain files left live books besides at = record {
   sound = at.sound;
   values = at.values;
   left = λ honest. kept_one g files _ _ (left honest) (at.rests live).left;
+}
+
+-- whether the store has failed or not, they keep its books, or those besides
+pub keeps_either : {D : Type 0} {g : Ghosts D} (chain : Chained (FileStore D g)) (files : Files D) → (AreClean g files.log files.db → HoldsOne g files (file_state chain.conn).may_leave)
+    → (books besides : Books) → IsAt over_files chain books besides → KeepsEither g files books besides
+keeps_either {D} {g} chain files left books besides at = record {
+  sound = at.sound;
+  values = at.values;
+  left = λ honest. kept_one g files _ _ (left honest) (elim (cases_Bool chain.is_failed) [ inl failed ↦ at.left failed | inr live ↦ λ db may. inl ((at.rests live).left db may) ]);
 }
 
 -- a chain that rests on books, and whose store hasn't failed, is at them
@@ -136,6 +145,17 @@ module _ {D : Type 0} {g : Ghosts D} (c : Held (FileStore D g)) (files : Files D
   kept_rests stays schema books keeps =
       rests_on stays schema books (stands_in_any _ _ books
       (∥∥₁_map (keeps.left found.honest (image_of g files) (stays _, stays _)) (λ it. subst (λ t. StandsFor t books) (sym (found.holds it.0 it.2)) it.1)))
+
+  -- or one of two
+  pub either_rests : SeenMayStay g → opened_state.now.schema ≡ shop_schema → (books besides : Books) → KeepsEither g files books besides
+      → ∥ Rests opened_state books ⊎ (IsSound widest_rules besides × AreValues besides × Rests opened_state besides) ∥₁
+  either_rests stays schema books besides keeps =
+      ∥∥₁_map (keeps.left found.honest (image_of g files) (stays _, stays _)) (λ it.
+      let stands : StandsForEither books besides opened_state.committed.trees = subst (StandsForEither books besides) (sym (found.holds it.0 it.2)) it.1 in
+      elim stands [
+        | inl first ↦ inl (rests_on stays schema books first)
+        | inr other ↦ inr (other.0, other.1, rests_on stays schema besides other.2)
+      ])
 
   is_database : (db : Trees) → HoldsDatabase (image_of g files) db → IsDatabaseOf opened_state.now.schema db
   is_database db held = subst (IsDatabaseOf opened_state.now.schema) (shows_found db held) (opened.1 opened.0.is_open).0

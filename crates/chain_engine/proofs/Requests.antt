@@ -7,10 +7,9 @@ use Rattle.sqlite.specs.State.{HasCleanDisk}
 use Rattle.shop_model.specs.Refusals as named
 use Rattle.shop_model.specs.Machine.{Request, Sorry}
 use Rattle.shop_model.specs.Answers.{Answer, answer_of, problem_answer}
-use Rattle.shop_model.specs.Books.{Books, Caller, Counter, known_caller, caller_of, reply_for, after_for}
+use Rattle.shop_model.specs.Books.{Books, Caller, known_caller, caller_of, reply_for, after_for}
 use Rattle.shop_model.specs.Office.{office_look}
 use Rattle.shop_model.specs.Histories.{is_store_failure}
-use Rattle.shop_schema.specs.RowValues.{IsNumber}
 use Rattle.shop_schema.specs.Shop.{StandsFor}
 use Rattle.shop_types.specs.declared.request.Request.{Request as Asked}
 use Rattle.shop_types.specs.declared.request.Caller.{Caller as Known}
@@ -20,10 +19,9 @@ use Rattle.shop_types.specs.Seen.{seen_caller, seen_refusal, seen_request}
 use Rattle.sql_rows.specs.declared.fault.StoreFault.{StoreFault}
 use Rattle.sql_rows.specs.declared.fault.StoreFault.TheVariants as fault
 use Rattle.branch_work.specs.Rules.{rules_of}
-use Rattle.branch_work.specs.Works.{after_branch}
 use Rattle.chain_engine.specs.Holding.{Chained, Holding, holding}
 use Rattle.chain_engine.specs.Chains.{IsAt, Takes, failed_at, Answers, AnswersEvent, event_of}
-use Rattle.chain_engine.specs.Steps.{IsAsked, IsMade, IsUndone, LeavesEitherOf, HasCaller}
+use Rattle.chain_engine.specs.Steps.{IsAsker, IsAsked, IsMade, IsUndone, LeavesEitherOf, HasCaller, left_by}
 use Rattle.chain_engine.specs.Decisions.{FindsCaller, IsStoreRefusal, IsStoreRefusalAt, refusal_for, is_final}
 use Rattle.chain_engine.proofs.Failures.{decided_fine, memory_fine, size_fine, failure_is}
 use Rattle.chain_engine.proofs.Standing.{are_held, values_after, sound_after}
@@ -123,7 +121,7 @@ refused_takes {S} {g} {old} {new} {Q} it who what taken tell = record {
               values = then.values;
               rests = λ isnt. never new.is_failed isnt is;
               alone = λ isnt. never new.is_failed isnt is;
-              left = λ _ db may. elim (then.left is db may) [ inl first ↦ inl first | inr other ↦ inl (subst (λ (l : Books). StandsFor db l) one other) ];
+              left = λ _ db may. elim (then.left is db may) [ inl first ↦ inl first | inr other ↦ inl (subst (λ (l : Books). StandsFor db l) one other.2) ];
             },
           )
     ]
@@ -146,7 +144,7 @@ pub room_at : (caller : Caller) (request : Request) (it : Refusal) (before after
 room_at caller request it before after other (inl lacks) = inl lacks
 room_at caller request it before after other (inr (failed, same)) = absurd (other failed)
 
--- ---- a branch's request
+-- ---- a request
 
 module _ {S : Type 0} (g : Ghosts S) (old new : Chained S) (limits : new.limits ≡ old.limits) (fine : old.is_failed ≡ false) where
   -- with the same books, by what the store answered
@@ -175,10 +173,10 @@ module _ {S : Type 0} (g : Ghosts S) (old new : Chained S) (limits : new.limits 
         (books, besides, tell (holding old books besides) (holding new books besides) (inr (refl, same)), record { sound = at.sound; values = at.values; rests = λ isnt. never new.is_failed isnt failed; alone = λ isnt. never new.is_failed isnt failed; left = λ _ db may. inl (rests.left db may) });
   }
 
-  module _ (b : ℕ) (request : Request) (branch : IsNumber b) (asked : IsAsked request) (most : old.limits.commands ≤ 1_000_000) (fit : old.limits.copies ≤ 1_000_000) where
+  module _ (caller : Caller) (request : Request) (who : IsAsker caller) (asked : IsAsked request) (most : old.limits.commands ≤ 1_000_000) (fit : old.limits.copies ≤ 1_000_000) where
     -- the request was answered
     pub made : (answer : Answer) → new.is_failed ≡ false → (HasCleanDisk (state g new.conn) → HasCleanDisk (state g old.conn))
-        → (HasCleanDisk (state g new.conn) → IsMade old.limits b request answer (state g old.conn) (state g new.conn)) → Takes g old new (Answers (Counter b) request answer)
+        → (HasCleanDisk (state g new.conn) → IsMade old.limits caller request answer (state g old.conn) (state g new.conn)) → Takes g old new (Answers caller request answer)
     made answer still clean is = record {
       clean = clean;
       goes = λ now books besides at.
@@ -186,9 +184,9 @@ module _ {S : Type 0} (g : Ghosts S) (old new : Chained S) (limits : new.limits 
           let it = is now in
           let told = it.reply books (at.rests fine) held in
           let rests = it.books books (at.rests fine) held in
-          let after = after_branch old.limits b request books in
-          let sends : is_store_failure answer ≡ false = ap is_store_failure told ∙ decided_fine (reply_for (rules_of old.limits) office_look (known_caller books.catalogue (Counter b)) request books) in
-          let P : Answers (Counter b) request answer (holding old books besides) (holding new after after) = record {
+          let after = left_by old.limits caller request books in
+          let sends : is_store_failure answer ≡ false = ap is_store_failure told ∙ decided_fine (reply_for (rules_of old.limits) office_look (known_caller books.catalogue caller) request books) in
+          let P : Answers caller request answer (holding old books besides) (holding new after after) = record {
             limits = limits;
             failed = still ∙ sym sends;
             stays = no_failure old.is_failed _ fine;
@@ -199,8 +197,8 @@ module _ {S : Type 0} (g : Ghosts S) (old new : Chained S) (limits : new.limits 
             after,
             P,
             record {
-              sound = sound_after old.limits b request books most fit at.sound;
-              values = values_after old.limits b books branch held request asked;
+              sound = sound_after old.limits caller request books most fit at.sound;
+              values = values_after old.limits books held caller who request asked;
               rests = λ _. rests;
               alone = λ _. refl;
               left = λ was. never new.is_failed still was;
@@ -210,13 +208,13 @@ module _ {S : Type 0} (g : Ghosts S) (old new : Chained S) (limits : new.limits 
 
     -- it wasn't
     pub unmade : (it : StoreFault) → new.is_failed ≡ is_final it → (HasCleanDisk (state g new.conn) → HasCleanDisk (state g old.conn))
-        → (HasCleanDisk (state g new.conn) → (it ≢ fault.Failed → IsUndone (state g old.conn) (state g new.conn)) × LeavesEitherOf old.limits b request (state g old.conn) (state g new.conn))
-        → Takes g old new (Answers (Counter b) request (problem_answer (seen_refusal (refusal_for it))))
-    unmade fault.Memory failed clean is = kept fault.Memory _ failed clean (λ now. (is now).0 (λ e. other e)) (λ before after refused. store_refuses (Counter b) request _ before after (room_at (Counter b) request _ before after (λ e. let no : _ = e in cc) refused))
+        → (HasCleanDisk (state g new.conn) → (it ≢ fault.Failed → IsUndone (state g old.conn) (state g new.conn)) × LeavesEitherOf old.limits caller request (state g old.conn) (state g new.conn))
+        → Takes g old new (Answers caller request (problem_answer (seen_refusal (refusal_for it))))
+    unmade fault.Memory failed clean is = kept fault.Memory _ failed clean (λ now. (is now).0 (λ e. other e)) (λ before after refused. store_refuses caller request _ before after (room_at caller request _ before after (λ e. let no : _ = e in cc) refused))
       where
         other : fault.Memory ≡ fault.Failed → ⊥
         other e = cc
-    unmade fault.Size failed clean is = kept fault.Size _ failed clean (λ now. (is now).0 (λ e. other e)) (λ before after refused. store_refuses (Counter b) request _ before after (room_at (Counter b) request _ before after (λ e. let no : _ = e in cc) refused))
+    unmade fault.Size failed clean is = kept fault.Size _ failed clean (λ now. (is now).0 (λ e. other e)) (λ before after refused. store_refuses caller request _ before after (room_at caller request _ before after (λ e. let no : _ = e in cc) refused))
       where
         other : fault.Size ≡ fault.Failed → ⊥
         other e = cc
@@ -225,17 +223,20 @@ module _ {S : Type 0} (g : Ghosts S) (old new : Chained S) (limits : new.limits 
       goes = λ now books besides at.
           let held = are_held books at.sound at.values in
           let either = (is now).1 books (at.rests fine) held in
-          let after = after_branch old.limits b request books in
-          let same : holding new books after ≡ failed_at (Counter b) request (holding old books besides) = rw (limits, failed, fine) refl in (
+          let after = left_by old.limits caller request books in
+          let same : holding new books after ≡ failed_at caller request (holding old books besides) = rw (limits, failed, fine) refl in (
             books,
             after,
-            fails (Counter b) request (holding old books besides) (holding new books after) same,
+            fails caller request (holding old books besides) (holding new books after) same,
             record {
               sound = at.sound;
               values = at.values;
               rests = λ isnt. never new.is_failed isnt failed;
               alone = λ isnt. never new.is_failed isnt failed;
-              left = λ _ db may. either db may;
+              left = λ _ db may. elim (either db may) [
+                | inl before ↦ inl before
+                | inr done ↦ inr (sound_after old.limits caller request books most fit at.sound, values_after old.limits books held caller who request asked, done)
+              ];
             },
           );
     }

@@ -14,15 +14,14 @@ use Rattle.sql_rows.proofs.Whole.{crash_new, dropped}
 use Rattle.shop_values.specs.LimitValues.{Limits}
 use Rattle.shop_model.specs.Machine.{Request}
 use Rattle.shop_model.specs.Answers.{Answer}
-use Rattle.shop_model.specs.Books.{Books}
-use Rattle.shop_types.specs.declared.request.Caller.{Caller}
+use Rattle.shop_model.specs.Books.{Books, Caller}
+use Rattle.shop_types.specs.declared.request.Caller.{Caller as Known}
 use Rattle.shop_types.specs.Seen.{seen_caller}
 use Rattle.shop_schema.specs.Tables.{shop_schema}
 use Rattle.shop_schema.specs.Held.{IsHeld}
 use Rattle.shop_schema.specs.Shop.{StandsFor, Holds}
-use Rattle.branch_work.specs.Works.{after_branch, IsDone, Works}
 use Rattle.chain_engine.specs.Chains.{Rests}
-use Rattle.chain_engine.specs.Steps.{IsMade, LeavesAfter, LeavesEitherOf, IsCallerOf, HasCaller}
+use Rattle.chain_engine.specs.Steps.{left_by, IsDone, Works, IsMade, LeavesAfter, LeavesEitherOf, IsCallerOf, HasCaller}
 
 pub holds_as : (s t : State) (books : Books) → t.now ≡ s.now → Holds s books → Holds t books
 holds_as s t books same h = record {
@@ -63,32 +62,32 @@ module _ {S : Type 0} (g : Ghosts S) (old mid end : Held S) where
     left = λ db may. subst (λ (trees : Trees). StandsFor trees books) (sym (settled end.store db shows.is_open may ∙ ap (λ (d : Database). d.trees) shows.committed_is)) holds.stands;
   }
 
-  pub caller_between : {E : Type 0} (token : List ℕ) (r : Result Caller E) → HasCleanDisk (state g mid) → StaysInside (state g begun) (state g mid) r
+  pub caller_between : {E : Type 0} (token : List ℕ) (r : Result Known E) → HasCleanDisk (state g mid) → StaysInside (state g begun) (state g mid) r
       → IfOk r (λ caller. IsCallerOf token (seen_caller caller) (state g begun)) → IfOk r (λ caller. HasCaller token (seen_caller caller) (state g old))
   caller_between token (Ok caller) clean inside found = λ books rests held.
       found books (holds_as (state g old) (state g begun) books refl (rests.now (inside.lives clean refl).was_open)) held
   caller_between token (Err e) clean inside found = tt
 
 -- a crash leaves the books before the request or those after it
-pub either_of : (limits : Limits) (b : ℕ) (request : Request) (old end : State) → Survives old end (LeavesAfter limits b request old) → HasCleanDisk end → LeavesEitherOf limits b request old end
-either_of limits b request old end survives clean books rests held db may = elim (survives.crash clean db may) [
+pub either_of : (limits : Limits) (caller : Caller) (request : Request) (old end : State) → Survives old end (LeavesAfter limits caller request old) → HasCleanDisk end → LeavesEitherOf limits caller request old end
+either_of limits caller request old end survives clean books rests held db may = elim (survives.crash clean db may) [
   | inl before ↦ inl (rests.left db before)
   | inr after ↦ inr (after books rests held)
 ]
 
-module _ {S : Type 0} (g : Ghosts S) (old mid end : Held S) (limits : Limits) (b : ℕ) (request : Request) (answer : Answer) (is_changed : Bool)
-    (works : HasCleanDisk (state g mid) → Works limits b request answer is_changed (state g (record old { in_transaction = true })) (state g mid))
+module _ {S : Type 0} (g : Ghosts S) (old mid end : Held S) (limits : Limits) (caller : Caller) (request : Request) (answer : Answer) (is_changed : Bool)
+    (works : HasCleanDisk (state g mid) → Works limits caller request answer is_changed (state g (record old { in_transaction = true })) (state g mid))
     (live : HasCleanDisk (state g mid) → IsTrue (state g old).is_open) where
-  done : HasCleanDisk (state g mid) → (books : Books) → Rests (state g old) books → IsHeld books → IsDone limits b request answer is_changed (state g mid) books
+  done : HasCleanDisk (state g mid) → (books : Books) → Rests (state g old) books → IsHeld books → IsDone limits caller request answer is_changed (state g mid) books
   done clean books rests held = works clean books (holds_as (state g old) (state g (record old { in_transaction = true })) books refl (rests.now (live clean))) held
 
-  pub made_commit : HasCleanDisk (state g mid) → Settled g → Shows (state g mid) (state g end) (state g mid).now (state g mid).now false → IsMade limits b request answer (state g old) (state g end)
+  pub made_commit : HasCleanDisk (state g mid) → Settled g → Shows (state g mid) (state g end) (state g mid).now (state g mid).now false → IsMade limits caller request answer (state g old) (state g end)
   made_commit clean settled shows = record {
     reply = λ books rests held. (done clean books rests held).reply;
-    books = λ books rests held. rests_after g old mid end (after_branch limits b request books) settled (done clean books rests held).holds shows;
+    books = λ books rests held. rests_after g old mid end (left_by limits caller request books) settled (done clean books rests held).holds shows;
   }
 
-  pub made_nothing : HasCleanDisk (state g mid) → is_changed ≡ false → ((books : Books) → Rests (state g old) books → Rests (state g end) books) → IsMade limits b request answer (state g old) (state g end)
+  pub made_nothing : HasCleanDisk (state g mid) → is_changed ≡ false → ((books : Books) → Rests (state g old) books → Rests (state g end) books) → IsMade limits caller request answer (state g old) (state g end)
   made_nothing clean same back = record {
     reply = λ books rests held. (done clean books rests held).reply;
     books = λ books rests held. subst (λ (after : Books). Rests (state g end) after) (sym ((done clean books rests held).same same)) (back books rests);
@@ -96,12 +95,12 @@ module _ {S : Type 0} (g : Ghosts S) (old mid end : Held S) (limits : Limits) (b
 
   -- what the commit leaves, whether or not it answers so
   pub leaves_after : Survives (state g (record old { in_transaction = true })) (state g mid) (λ _. ⊥) → Survives (state g mid) (state g end) (λ db. db ≡ (state g mid).now.trees)
-      → Survives (state g old) (state g end) (LeavesAfter limits b request (state g old))
-  leaves_after inside ending = crash_new g old mid end (LeavesAfter limits b request (state g old)) (λ clean books rests held. (done clean books rests held).holds.stands) inside ending
+      → Survives (state g old) (state g end) (LeavesAfter limits caller request (state g old))
+  leaves_after inside ending = crash_new g old mid end (LeavesAfter limits caller request (state g old)) (λ clean books rests held. (done clean books rests held).holds.stands) inside ending
 
 -- and then a call that commits nothing
-pub leaves_then : (limits : Limits) (b : ℕ) (request : Request) (old fin end : State) → Survives old fin (LeavesAfter limits b request old) → Survives fin end (λ _. ⊥) → Survives old end (LeavesAfter limits b request old)
-leaves_then limits b request old fin end one two = survives_then old fin end _ _ (LeavesAfter limits b request old) (λ _ db after. after) (λ _ db none. absurd none) one two
+pub leaves_then : (limits : Limits) (caller : Caller) (request : Request) (old fin end : State) → Survives old fin (LeavesAfter limits caller request old) → Survives fin end (λ _. ⊥) → Survives old end (LeavesAfter limits caller request old)
+leaves_then limits caller request old fin end one two = survives_then old fin end _ _ (LeavesAfter limits caller request old) (λ _ db after. after) (λ _ db none. absurd none) one two
 
 -- a commit that failed, of a store that was still open at a later call, has done nothing
 module _ {S : Type 0} (g : Ghosts S) (old mid fin end : Held S) where

@@ -34,9 +34,13 @@ pub record Rests (s : State) (books : Books) : Type 0 where
   pub committed : IsTrue s.is_open → s.committed ≡ s.now
   pub left : (db : Trees) → s.may_leave db → StandsFor db books
 
+-- a database that stands for the books, or for those besides, which then are sound too, with values in their ranges
+abbrev pub StandsForEither : Books → Books → Trees → Type 0
+StandsForEither books besides db = StandsFor db books ⊎ (IsSound widest_rules besides × AreValues besides × StandsFor db besides)
+
 -- once the store has failed, a crash leaves the books, or those besides
 abbrev pub LeavesEither : State → Books → Books → Type 0
-LeavesEither s books besides = (db : Trees) → s.may_leave db → StandsFor db books ⊎ StandsFor db besides
+LeavesEither s books besides = (db : Trees) → s.may_leave db → StandsForEither books besides db
 
 -- the chain has these books: they are sound, and its tables stand for them until the store fails; a crash may then leave those besides
 pub record IsAt {S : Type 0} (g : Ghosts S) (chain : Chained S) (books besides : Books) : Type 0 where

@@ -21,7 +21,7 @@ use Rattle.shop_schema.specs.Tables.{shop_schema}
 use Rattle.shop_schema.specs.Versions.{version_of}
 use Rattle.shop_schema.specs.declared.known.KnownVersion.{KnownVersion}
 use Rattle.shop_schema.specs.declared.known.KnownVersion.TheVariants.{This, Missing, Other}
-use Rattle.chain_engine.specs.Chains.{widest_rules}
+use Rattle.chain_engine.specs.Chains.{widest_rules, StandsForEither}
 
 -- What is known of the tables. They are a chain's of this version; or they aren't a chain's: the first isn't the one that has the version, or hasn't its one row, or tells
 -- this version of other tables; or that table tells another version, whatever the others are.
@@ -48,6 +48,12 @@ pub record KeepsBooks {D : Type 0} (g : Ghosts D) (files : Files D) (books : Boo
   pub sound : IsSound widest_rules books
   pub values : AreValues books
   pub left : AreClean g files.log files.db → HoldsOne g files (λ db. StandsFor db books)
+
+-- The files keep the books of a chain that is closed, or those besides, where its store had failed: those before the request at which it failed, or after it.
+pub record KeepsEither {D : Type 0} (g : Ghosts D) (files : Files D) (books besides : Books) : Type 0 where
+  pub sound : IsSound widest_rules books
+  pub values : AreValues books
+  pub left : AreClean g files.log files.db → HoldsOne g files (StandsForEither books besides)
 
 -- no database in the files has the tables of a chain, these and no other, standing for books
 abbrev pub HoldsNoChain : Image → Type 0

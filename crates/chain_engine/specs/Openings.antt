@@ -17,7 +17,7 @@ use Rattle.chain_engine.specs.declared.chain.OpenFault.{OpenFault}
 use Rattle.chain_engine.specs.declared.chain.OpenFault.TheVariants as fault
 use Rattle.chain_engine.specs.Holding.{Chained}
 use Rattle.chain_engine.specs.Chains.{IsAt}
-use Rattle.chain_engine.specs.Files.{HoldsBooks, HoldsOne, KeepsBooks, HoldsNoChain, HasThisVersion, HasNoVersion, HasOtherVersion, OpenFailed}
+use Rattle.chain_engine.specs.Files.{HoldsBooks, HoldsOne, KeepsBooks, KeepsEither, HoldsNoChain, HasThisVersion, HasNoVersion, HasOtherVersion, OpenFailed}
 
 -- ---- making
 
@@ -68,6 +68,8 @@ pub record IsOpenedIn {D : Type 0} {g : Ghosts D} (files : Files D) (given : Lim
   pub found : HasCleanDisk (file_state chain.conn) → (books : Books) → HoldsBooks (image_of g files) books → IsAt over_files chain books books
   -- and those that were closed
   pub again : HasCleanDisk (file_state chain.conn) → (books : Books) → KeepsBooks g files books → IsAt over_files chain books books
+  -- or, where the store had failed, one of the two
+  pub either : HasCleanDisk (file_state chain.conn) → (books besides : Books) → KeepsEither g files books besides → ∥ IsAt over_files chain books books ⊎ IsAt over_files chain besides besides ∥₁
   -- the files hold a chain of this version
   pub this : HasCleanDisk (file_state chain.conn) → HasThisVersion (image_of g files)
 

@@ -7,19 +7,17 @@ ghost use Rattle.shop_schema.specs.Shop.{first_books};
 ghost use Rattle.shop_types.specs.Seen.{seen_caller, seen_request};
 ghost use Rattle.shop_types.specs.Replies.{seen_reply};
 ghost use Rattle.chain_engine.specs.Chains.{IsAt, Takes, Answers, AnswersEvent, Runs, event_of};
-ghost use Rattle.chain_engine.specs.Steps.{IsAsked};
+ghost use Rattle.chain_engine.specs.Steps.{asker, asked_of};
 ghost use Rattle.chain_engine.specs.Decisions.{FindsCaller, IsOfStore, refusal_for, is_final};
-ghost use Rattle.shop_model.specs.Books.{Counter, HeadOffice};
 ghost use Rattle.shop_model.specs.Answers.{problem_answer};
 ghost use Rattle.shop_model.specs.Refusals.{StoreFailed};
-ghost use Rattle.chain_engine.specs.Holding.{Holding};
 ghost use Rattle.chain_engine.specs.Faults.{fault_name, open_fault_for};
 
+use crate::asked::{Asked, asked_values};
 use crate::callers::find_caller;
 use crate::creation::{create, create_opening};
 use crate::step::step;
-use shop_schema::command_values;
-use shop_types::{BranchNo, Caller, Limits, NoMemory, Refusal, Reply, Request, Token};
+use shop_types::{Caller, Limits, NoMemory, Refusal, Reply, Request, Token};
 use sql_rows::StoreFault;
 use sqlite::{Alter, Connection, MemStore};
 use std::alloc::Global;
@@ -173,9 +171,12 @@ impl<S: Alter> Chain<S> {
             return Reply::refused(Refusal::StoreFailed);
         }
         match caller {
-            Caller::Branch(branch) => self.answer_branch(*branch, request),
+            Caller::Branch(branch) => self.answer_asked(&Asked::OfBranch(*branch, request)),
             Caller::Nobody => Reply::refused(Refusal::NoCounter),
-            Caller::Office => refuse_office(request),
+            Caller::Office => match request {
+                Request::Office(command) => self.answer_asked(&Asked::OfOffice(command)),
+                Request::Do(_) | Request::Look(_) => Reply::refused(Refusal::NoRoute),
+            },
         }
     }
 
@@ -204,15 +205,14 @@ impl<S: Alter> Chain<S> {
         }
     }
 
-    /// Answers a request of a branch, where the store hasn't failed.
-    fn answer_branch(&mut self, branch: BranchNo, request: &Request) -> Reply
+    /// Answers what the tables answer, where the store hasn't failed.
+    fn answer_asked(&mut self, asked: &Asked<'_>) -> Reply
         requires { self.old.is_failed ≡ false }
-        ensures { Takes S.Store self.old self.new (Answers (Counter branch) (seen_request request.now) (seen_reply result)) }
+        ensures { Takes S.Store self.old self.new (Answers (asker asked.now) (asked_of asked.now) (seen_reply result)) }
     {
-        request_values(request);
+        asked_values(asked);
         limits_fit(self.limits);
-        let _number = branch.get();
-        match step(self.alloc, &mut self.conn, self.limits, branch, request) {
+        match step(self.alloc, &mut self.conn, self.limits, asked) {
             Ok(reply) => reply,
             Err(fault) => Reply::refused(self.refusal(fault)),
         }
@@ -234,30 +234,11 @@ impl<S: Alter> Chain<S> {
     }
 }
 
-/// The values of a request are such as the tables can hold: a law, so that nothing is done.
-fn request_values(request: &Request)
-    ensures { IsAsked (seen_request request.now) }
-{
-    match request {
-        Request::Do(command) => command_values(command),
-        Request::Look(_) => {}
-    }
-}
-
-/// The limits are a million at most: a law too.
+/// The limits are a million at most: a law, so that nothing is done.
 fn limits_fit(limits: Limits)
     ensures commands { limits.commands ≤ 1_000_000 }
     ensures copies { limits.copies ≤ 1_000_000 }
 {
     let _commands = limits.commands();
     let _copies = limits.copies();
-}
-
-/// Refuses what head office may not ask as a counter does.
-fn refuse_office(request: &Request) -> Reply
-    ensures { (old : Holding) → old.is_failed ≡ false → Answers HeadOffice (seen_request request.now) (seen_reply result) old old }
-{
-    match request {
-        Request::Do(_) | Request::Look(_) => Reply::refused(Refusal::NoRoute),
-    }
 }

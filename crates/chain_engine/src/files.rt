@@ -12,7 +12,7 @@ ghost use Rattle.shop_model.specs.Books.{Books};
 ghost use Rattle.shop_schema.specs.Shop.{HasVersion};
 ghost use Rattle.shop_schema.specs.Versions.{version_of};
 ghost use Rattle.chain_engine.specs.Chains.{IsAt, Rests};
-ghost use Rattle.chain_engine.specs.Files.{Knows, HoldsOne, KeepsBooks, OpenFailed};
+ghost use Rattle.chain_engine.specs.Files.{Knows, HoldsOne, KeepsBooks, KeepsEither, OpenFailed};
 ghost use Rattle.chain_engine.specs.Openings.{IsOpenedIn, IsNotOpened};
 
 use crate::chain::{Chain, OpenFault, named};
@@ -96,9 +96,11 @@ impl<D: Disk + Drop> Chain<FileStore<D>> {
         }
     }
 
-    /// Gives the files back, which hold what a crash of the chain may leave. Unless the store has failed, they keep the chain's books.
+    /// Gives the files back, which hold what a crash of the chain may leave. Unless the store has failed, they keep the chain's books; else they keep the books before
+    /// the request at which it failed, or those after it.
     pub fn close(self) -> Files<D>
         ensures keeps { self.is_failed ≡ false → (books besides : Books) → IsAt over_files self books besides → KeepsBooks D.Disk result books }
+        ensures either { (books besides : Books) → IsAt over_files self books besides → KeepsEither D.Disk result books besides }
         ensures left { AreClean D.Disk result.log result.db → HoldsOne D.Disk result (file_state self.conn).may_leave }
         ensures clean { AreClean D.Disk result.log result.db → HasCleanDisk (file_state self.conn) }
         ensures seen { outcomes D.Disk result.log result.db (image_of D.Disk result) }
@@ -112,11 +114,14 @@ impl<D: Disk + Drop> Chain<FileStore<D>> {
         give_back(conn)
     }
 
-    /// Closes the chain and opens its files again, with the limits that it had: the new chain has the same books. A fault gives the files back, as `open_files` does.
+    /// Closes the chain and opens its files again, with the limits that it had: the new chain has the same books, or, where the store had failed, those before the
+    /// request at which it failed or those after it. A fault gives the files back, as `open_files` does.
     pub fn reopen(self) -> Result<Chain<FileStore<D>>, (OpenFault, Files<D>)>
         ensures live { IfOk result (λ chain. (chain.limits ≡ self.limits) × (chain.is_failed ≡ false)) }
         ensures honest { IfOk result (λ chain. HasCleanDisk (file_state chain.conn) → HasCleanDisk (file_state self.conn)) }
         ensures same { IfOk result (λ chain. HasCleanDisk (file_state chain.conn) → self.is_failed ≡ false → (books besides : Books) → IsAt over_files self books besides → IsAt over_files chain books books) }
+        ensures either { IfOk result (λ chain. HasCleanDisk (file_state chain.conn) → (books besides : Books) → IsAt over_files self books besides
+            → ∥ IsAt over_files chain books books ⊎ IsAt over_files chain besides besides ∥₁) }
         ensures kept { IfErr result (λ e. (closed : _) × (self.is_failed ≡ false → (books besides : Books) → IsAt over_files self books besides → KeepsBooks D.Disk closed books)
             × (AreClean D.Disk e.1.log e.1.db → OpenFailed D.Disk closed e.1 ⊎ ((db : Trees) → HoldsDatabase (image_of D.Disk closed) db → HoldsOne D.Disk e.1 (λ left. left ≡ db)))) }
     {

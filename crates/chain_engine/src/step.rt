@@ -1,35 +1,34 @@
-//! A branch's request in one transaction.
+//! A request of a branch, or a command of head office, in one transaction.
 
 ghost use Rattle.std.specs.Prelude.{◌≡◌, ◌≢◌, false, IsTrue, IfOk, IfErr};
 ghost use Rattle.sqlite.specs.Held.{state};
 ghost use Rattle.sqlite.specs.State.{HasCleanDisk, Survives};
-ghost use Rattle.shop_types.specs.Seen.{seen_request};
 ghost use Rattle.shop_types.specs.Replies.{seen_reply};
-ghost use Rattle.chain_engine.specs.Steps.{IsMade, IsUndone, LeavesAfter, LeavesEitherOf};
+ghost use Rattle.sql_rows.specs.Calls.{StaysInside};
+ghost use Rattle.chain_engine.specs.Steps.{Works, IsMade, IsUndone, LeavesAfter, LeavesEitherOf, asker, asked_of};
 
-use branch_work::work;
-use shop_types::{BranchNo, Limits, Reply, Request};
+use crate::asked::Asked;
+use shop_types::{Limits, Reply};
 use sql_rows::{StoreFault, fault_of, query};
-use sqlite::{Alter, Connection};
+use sqlite::{Alter, Connection, Transaction};
 use std::alloc::Global;
 
-/// Answers a branch's request in one transaction, whose commit is the last call to the store where the request changes anything.
+/// Answers what is asked in one transaction, whose commit is the last call to the store where the request changes anything.
 pub fn step<S: Alter>(
     alloc: Global,
     conn: &mut Connection<S>,
     limits: Limits,
-    branch: BranchNo,
-    request: &Request,
+    asked: &Asked<'_>,
 ) -> Result<Reply, StoreFault>
     requires { conn.old.in_transaction ≡ false }
     ensures ended { conn.new.in_transaction ≡ false }
-    ensures made { HasCleanDisk (state S.Store conn.new) → IfOk result (λ reply. IsMade limits branch (seen_request request.now) (seen_reply reply) (state S.Store conn.old) (state S.Store conn.new)) }
+    ensures made { HasCleanDisk (state S.Store conn.new) → IfOk result (λ reply. IsMade limits (asker asked.now) (asked_of asked.now) (seen_reply reply) (state S.Store conn.old) (state S.Store conn.new)) }
     ensures undone { HasCleanDisk (state S.Store conn.new) → IfErr result (λ fault. (fault ≢ StoreFault.Failed → IsUndone (state S.Store conn.old) (state S.Store conn.new))
-        × LeavesEitherOf limits branch (seen_request request.now) (state S.Store conn.old) (state S.Store conn.new)) }
-    ensures crash { Survives (state S.Store conn.old) (state S.Store conn.new) (LeavesAfter limits branch (seen_request request.now) (state S.Store conn.old)) }
+        × LeavesEitherOf limits (asker asked.now) (asked_of asked.now) (state S.Store conn.old) (state S.Store conn.new)) }
+    ensures crash { Survives (state S.Store conn.old) (state S.Store conn.new) (LeavesAfter limits (asker asked.now) (asked_of asked.now) (state S.Store conn.old)) }
 {
     let mut tx = conn.transaction();
-    let fault = match work(alloc, &mut tx, limits, branch, request) {
+    let fault = match work_of(alloc, &mut tx, limits, asked) {
         Ok((reply, true)) => match tx.commit() {
             Ok(()) => return Ok(reply),
             Err(error) => fault_of(error),
@@ -48,6 +47,23 @@ pub fn step<S: Alter>(
         Err(fault)
     } else {
         Err(StoreFault::Failed)
+    }
+}
+
+/// Answers what is asked inside a transaction, and tells whether there is anything to commit.
+fn work_of<S: Alter>(
+    alloc: Global,
+    tx: &mut Transaction<'_, S>,
+    limits: Limits,
+    asked: &Asked<'_>,
+) -> Result<(Reply, bool), StoreFault>
+    ensures same_reference { tx.new.conn.ghost_name ≡ tx.old.conn.ghost_name }
+    ensures inside { StaysInside (state S.Store tx.old.conn.now) (state S.Store tx.new.conn.now) result }
+    ensures works { HasCleanDisk (state S.Store tx.new.conn.now) → IfOk result (λ done. Works limits (asker asked.now) (asked_of asked.now) (seen_reply done.0) done.1 (state S.Store tx.old.conn.now) (state S.Store tx.new.conn.now)) }
+{
+    match *asked {
+        Asked::OfBranch(branch, request) => branch_work::work(alloc, tx, limits, branch, request),
+        Asked::OfOffice(command) => office_work::work(alloc, tx, limits, command),
     }
 }
 

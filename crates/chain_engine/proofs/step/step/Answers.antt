@@ -2,63 +2,67 @@ use Rattle.std.proofs.Common.{rules, ◌≡◌, inl, refl, sym, subst, arith, Is
 use Rattle.sqlite.specs.Held.{state}
 use Rattle.sqlite.specs.State.{HasCleanDisk, Survives}
 use Rattle.shop_model.specs.Answers.{Answer}
+use Rattle.shop_model.specs.Books.{Caller}
 use Rattle.shop_model.specs.Machine.{Request}
-use Rattle.shop_types.specs.Seen.{seen_request}
 use Rattle.shop_types.specs.Replies.{seen_reply}
-use Rattle.chain_engine.specs.Steps.{IsMade, IsUndone, LeavesAfter}
+use Rattle.chain_engine.specs.Steps.{IsMade, IsUndone, LeavesAfter, asker, asked_of}
 use Rattle.chain_engine.proofs.Resting.{rests_back, either_of, made_commit, made_nothing, leaves_after, leaves_then, undone_after}
 use Rattle.chain_engine.proofs.step.step.Goals as goal
 
 pub returns-in-Ok-clause-made : goal.returns-in-Ok-clause-made
 returns-in-Ok-clause-made g c clean =
     let old = c.args.conn.now in
-    let mid = c.work.new.tx.conn.now in
+    let mid = c.work_of.new.tx.conn.now in
     let end = c.commit.new.self.0 in
-    let request : Request = seen_request c.args.request.now in
+    let caller : Caller = asker c.args.asked.now in
+    let request : Request = asked_of c.args.asked.now in
     let answer : Answer = seen_reply c.in-Ok-default-true.reply in
     let same : end ≡ c.conn-1.given.0 = search rules in
     let clean_end : HasCleanDisk (state g.S.Store end) = subst (λ h. HasCleanDisk (state g.S.Store h)) (sym same) clean in
     let clean_mid : HasCleanDisk (state g.S.Store mid) = omega (arith, clean_end, c.commit.ensures.survives.clean) in
     let inside = rw c.transaction-tx.ensures.begun at c.in-Ok-default-true.ensures.inside in
     let works = rw c.transaction-tx.ensures.begun at c.in-Ok-default-true.ensures.works in
-    subst (λ h. IsMade c.args.limits c.args.branch request answer (state g.S.Store old) (state g.S.Store h)) same
-    (made_commit g.S.Store old mid end c.args.limits c.args.branch request answer c.in-Ok-default-true.field-0-1 works (λ k. (inside.lives k refl).was_open) clean_mid g.met.S.Store.settled (c.in-Ok.ensures.ok clean_end).1)
+    subst (λ h. IsMade c.args.limits caller request answer (state g.S.Store old) (state g.S.Store h)) same
+    (made_commit g.S.Store old mid end c.args.limits caller request answer c.in-Ok-default-true.field-0-1 works (λ k. (inside.lives k refl).was_open) clean_mid g.met.S.Store.settled (c.in-Ok.ensures.ok clean_end).1)
 
 pub returns-in-Ok-clause-crash : goal.returns-in-Ok-clause-crash
 returns-in-Ok-clause-crash g c =
     let old = c.args.conn.now in
-    let mid = c.work.new.tx.conn.now in
+    let mid = c.work_of.new.tx.conn.now in
     let end = c.commit.new.self.0 in
-    let request : Request = seen_request c.args.request.now in
+    let caller : Caller = asker c.args.asked.now in
+    let request : Request = asked_of c.args.asked.now in
     let answer : Answer = seen_reply c.in-Ok-default-true.reply in
     let same : end ≡ c.conn-1.given.0 = search rules in
     let inside = rw c.transaction-tx.ensures.begun at c.in-Ok-default-true.ensures.inside in
     let works = rw c.transaction-tx.ensures.begun at c.in-Ok-default-true.ensures.works in
-    subst (λ h. Survives (state g.S.Store old) (state g.S.Store h) (LeavesAfter c.args.limits c.args.branch request (state g.S.Store old))) same
-    (leaves_after g.S.Store old mid end c.args.limits c.args.branch request answer c.in-Ok-default-true.field-0-1 works (λ k. (inside.lives k refl).was_open) inside.survives c.commit.ensures.survives)
+    subst (λ h. Survives (state g.S.Store old) (state g.S.Store h) (LeavesAfter c.args.limits caller request (state g.S.Store old))) same
+    (leaves_after g.S.Store old mid end c.args.limits caller request answer c.in-Ok-default-true.field-0-1 works (λ k. (inside.lives k refl).was_open) inside.survives c.commit.ensures.survives)
 
 pub returns-in-Ok-default-false-clause-made : goal.returns-in-Ok-default-false-clause-made
 returns-in-Ok-default-false-clause-made g c clean =
     let old = c.args.conn.now in
-    let mid = c.work.new.tx.conn.now in
+    let mid = c.work_of.new.tx.conn.now in
     let end = c.rollback.new.self.0 in
-    let request : Request = seen_request c.args.request.now in
+    let caller : Caller = asker c.args.asked.now in
+    let request : Request = asked_of c.args.asked.now in
     let answer : Answer = seen_reply c.in-Ok-default-false.reply in
     let same : end ≡ c.conn-in-Ok-default-false-1.given.0 = search rules in
     let clean_end : HasCleanDisk (state g.S.Store end) = subst (λ h. HasCleanDisk (state g.S.Store h)) (sym same) clean in
     let clean_mid : HasCleanDisk (state g.S.Store mid) = omega (arith, clean_end, c.rollback.ensures.survives.clean) in
     let inside = rw c.transaction-tx.ensures.begun at c.in-Ok-default-false.ensures.inside in
     let works = rw c.transaction-tx.ensures.begun at c.in-Ok-default-false.ensures.works in
-    subst (λ h. IsMade c.args.limits c.args.branch request answer (state g.S.Store old) (state g.S.Store h)) same
-    (made_nothing g.S.Store old mid end c.args.limits c.args.branch request answer c.in-Ok-default-false.field-0-1 works (λ k. (inside.lives k refl).was_open) clean_mid c.in-Ok-default-false.field-0-1-test
+    subst (λ h. IsMade c.args.limits caller request answer (state g.S.Store old) (state g.S.Store h)) same
+    (made_nothing g.S.Store old mid end c.args.limits caller request answer c.in-Ok-default-false.field-0-1 works (λ k. (inside.lives k refl).was_open) clean_mid c.in-Ok-default-false.field-0-1-test
     (λ books rests. rests_back g.S.Store old mid end books inside.survives (inside.kept clean_mid refl) (c.rollback.ensures.undone clean_end) c.rollback.ensures.survives clean_end rests))
 
 pub returns-in-Err-clause-undone : goal.returns-in-Err-clause-undone
 returns-in-Err-clause-undone g c clean =
     let old = c.args.conn.now in
-    let mid = c.work.new.tx.conn.now in
+    let mid = c.work_of.new.tx.conn.now in
     let end = c.rollback-in-Err.new.self.0 in
-    let request : Request = seen_request c.args.request.now in
+    let caller : Caller = asker c.args.asked.now in
+    let request : Request = asked_of c.args.asked.now in
     let same : end ≡ c.conn-in-Err-1.given.0 = search rules in
     let clean_end : HasCleanDisk (state g.S.Store end) = subst (λ h. HasCleanDisk (state g.S.Store h)) (sym same) clean in
     let clean_mid : HasCleanDisk (state g.S.Store mid) = omega (arith, clean_end, c.rollback-in-Err.ensures.survives.clean) in
@@ -70,35 +74,37 @@ returns-in-Err-clause-undone g c clean =
 pub returns-then-is_open-clause-crash : goal.returns-then-is_open-clause-crash
 returns-then-is_open-clause-crash g c =
     let old = c.args.conn.now in
-    let mid = c.work.new.tx.conn.now in
+    let mid = c.work_of.new.tx.conn.now in
     let fin = c.commit.new.self.0 in
-    let request : Request = seen_request c.args.request.now in
+    let caller : Caller = asker c.args.asked.now in
+    let request : Request = asked_of c.args.asked.now in
     let answer : Answer = seen_reply c.in-Ok-default-true.reply in
     let same : fin ≡ c.conn-1.given.0 = search rules in
     let inside = rw c.transaction-tx.ensures.begun at c.in-Ok-default-true.ensures.inside in
     let works = rw c.transaction-tx.ensures.begun at c.in-Ok-default-true.ensures.works in
-    let first = leaves_after g.S.Store old mid fin c.args.limits c.args.branch request answer c.in-Ok-default-true.field-0-1 works (λ k. (inside.lives k refl).was_open) inside.survives c.commit.ensures.survives in
-    leaves_then c.args.limits c.args.branch request (state g.S.Store old) (state g.S.Store fin) (state g.S.Store c.is_open.new.conn) first
+    let first = leaves_after g.S.Store old mid fin c.args.limits caller request answer c.in-Ok-default-true.field-0-1 works (λ k. (inside.lives k refl).was_open) inside.survives c.commit.ensures.survives in
+    leaves_then c.args.limits caller request (state g.S.Store old) (state g.S.Store fin) (state g.S.Store c.is_open.new.conn) first
     (subst (λ h. Survives (state g.S.Store h) (state g.S.Store c.is_open.new.conn) (λ _. ⊥)) (sym same) c.is_open.ensures.crash)
 
 pub returns-else-is_open-clause-crash : goal.returns-else-is_open-clause-crash
 returns-else-is_open-clause-crash g c =
     let old = c.args.conn.now in
-    let mid = c.work.new.tx.conn.now in
+    let mid = c.work_of.new.tx.conn.now in
     let fin = c.commit.new.self.0 in
-    let request : Request = seen_request c.args.request.now in
+    let caller : Caller = asker c.args.asked.now in
+    let request : Request = asked_of c.args.asked.now in
     let answer : Answer = seen_reply c.in-Ok-default-true.reply in
     let same : fin ≡ c.conn-1.given.0 = search rules in
     let inside = rw c.transaction-tx.ensures.begun at c.in-Ok-default-true.ensures.inside in
     let works = rw c.transaction-tx.ensures.begun at c.in-Ok-default-true.ensures.works in
-    let first = leaves_after g.S.Store old mid fin c.args.limits c.args.branch request answer c.in-Ok-default-true.field-0-1 works (λ k. (inside.lives k refl).was_open) inside.survives c.commit.ensures.survives in
-    leaves_then c.args.limits c.args.branch request (state g.S.Store old) (state g.S.Store fin) (state g.S.Store c.is_open.new.conn) first
+    let first = leaves_after g.S.Store old mid fin c.args.limits caller request answer c.in-Ok-default-true.field-0-1 works (λ k. (inside.lives k refl).was_open) inside.survives c.commit.ensures.survives in
+    leaves_then c.args.limits caller request (state g.S.Store old) (state g.S.Store fin) (state g.S.Store c.is_open.new.conn) first
     (subst (λ h. Survives (state g.S.Store h) (state g.S.Store c.is_open.new.conn) (λ _. ⊥)) (sym same) c.is_open.ensures.crash)
 
 pub returns-then-is_open-clause-undone : goal.returns-then-is_open-clause-undone
 returns-then-is_open-clause-undone g c clean =
     let old = c.args.conn.now in
-    let mid = c.work.new.tx.conn.now in
+    let mid = c.work_of.new.tx.conn.now in
     let fin = c.commit.new.self.0 in
     let end = c.is_open.new.conn in
     let same : fin ≡ c.conn-1.given.0 = search rules in
@@ -115,14 +121,15 @@ returns-then-is_open-clause-undone g c clean =
 pub returns-else-is_open-clause-undone : goal.returns-else-is_open-clause-undone
 returns-else-is_open-clause-undone g c clean =
     let old = c.args.conn.now in
-    let mid = c.work.new.tx.conn.now in
+    let mid = c.work_of.new.tx.conn.now in
     let fin = c.commit.new.self.0 in
-    let request : Request = seen_request c.args.request.now in
+    let caller : Caller = asker c.args.asked.now in
+    let request : Request = asked_of c.args.asked.now in
     let answer : Answer = seen_reply c.in-Ok-default-true.reply in
     let same : fin ≡ c.conn-1.given.0 = search rules in
     let inside = rw c.transaction-tx.ensures.begun at c.in-Ok-default-true.ensures.inside in
     let works = rw c.transaction-tx.ensures.begun at c.in-Ok-default-true.ensures.works in
-    let first = leaves_after g.S.Store old mid fin c.args.limits c.args.branch request answer c.in-Ok-default-true.field-0-1 works (λ k. (inside.lives k refl).was_open) inside.survives c.commit.ensures.survives in
-    let whole = leaves_then c.args.limits c.args.branch request (state g.S.Store old) (state g.S.Store fin) (state g.S.Store c.is_open.new.conn) first
+    let first = leaves_after g.S.Store old mid fin c.args.limits caller request answer c.in-Ok-default-true.field-0-1 works (λ k. (inside.lives k refl).was_open) inside.survives c.commit.ensures.survives in
+    let whole = leaves_then c.args.limits caller request (state g.S.Store old) (state g.S.Store fin) (state g.S.Store c.is_open.new.conn) first
     (subst (λ h. Survives (state g.S.Store h) (state g.S.Store c.is_open.new.conn) (λ _. ⊥)) (sym same) c.is_open.ensures.crash) in
-    (λ other. absurd (other refl), either_of c.args.limits c.args.branch request (state g.S.Store old) (state g.S.Store c.is_open.new.conn) whole clean)
+    (λ other. absurd (other refl), either_of c.args.limits caller request (state g.S.Store old) (state g.S.Store c.is_open.new.conn) whole clean)

@@ -1,7 +1,7 @@
 use Rattle.std.proofs.Common.{subst}
 use Rattle.sqlite.specs.Files.{file_state}
 use Rattle.chain_engine.specs.Files.{HoldsOne}
-use Rattle.chain_engine.proofs.Opening.{keeps_books}
+use Rattle.chain_engine.proofs.Opening.{keeps_books, keeps_either}
 use Rattle.chain_engine.proofs.files.Chain+FileStore+D.close.Goals as goal
 
 pub returns-clause-left : goal.returns-clause-left
@@ -9,3 +9,6 @@ returns-clause-left g c honest = subst (λ chain. HoldsOne g.D.Disk c.give_back.
 
 pub returns-clause-keeps : goal.returns-clause-keeps
 returns-clause-keeps g c live books besides at = keeps_books _ c.give_back.result (λ honest. returns-clause-left g c honest) live books besides at
+
+pub returns-clause-either : goal.returns-clause-either
+returns-clause-either g c books besides at = keeps_either _ c.give_back.result (λ honest. returns-clause-left g c honest) books besides at

@@ -1,8 +1,9 @@
 use Rattle.std.proofs.Common.{inl, inr, refl, sym, arith}
+use Rattle.std.proofs.Math.Logic.{∥∥₁_map}
 use Rattle.sqlite.specs.Files.{file_state}
 use Rattle.sqlite.specs.State.{HasCleanDisk}
 use Rattle.sqlite.specs.declared.file.Leftover.TheVariants as left
-use Rattle.chain_engine.proofs.Opening.{found_rests, kept_rests, opened_at, holds_no_chain, has_this_version, has_no_version, has_other_version, left_as_found, unopened_by, none_is_no_version, none_is_not_already, version_is_not_none, version_is_not_already}
+use Rattle.chain_engine.proofs.Opening.{found_rests, kept_rests, either_rests, opened_at, holds_no_chain, has_this_version, has_no_version, has_other_version, left_as_found, unopened_by, none_is_no_version, none_is_not_already, version_is_not_none, version_is_not_already}
 use Rattle.chain_engine.proofs.NewFiles.{store_is_not_a_chain, store_is_no_version, store_is_not_already}
 use Rattle.chain_engine.proofs.files.Chain+FileStore+D.open_files.Goals as goal
 
@@ -29,6 +30,11 @@ returns-in-Ok-This-clause-opened g c =
           opened_at _ books refl held.sound held.values (c.known.ensures.same clean books (found_rests c.in-Ok.conn c.args.files (opened clean) (found clean) stays (told clean).0 books held));
       again = λ clean books keeps.
           opened_at _ books refl keeps.sound keeps.values (c.known.ensures.same clean books (kept_rests c.in-Ok.conn c.args.files (opened clean) (found clean) stays (told clean).0 books keeps));
+      either = λ clean books besides keeps.
+          ∥∥₁_map (either_rests c.in-Ok.conn c.args.files (opened clean) (found clean) stays (told clean).0 books besides keeps) (λ it. elim it [
+            | inl first ↦ inl (opened_at _ books refl keeps.sound keeps.values (c.known.ensures.same clean books first))
+            | inr other ↦ inr (opened_at _ besides refl other.0 other.1 (c.known.ensures.same clean besides other.2))
+          ]);
       this = λ clean. has_this_version c.in-Ok.conn c.args.files (opened clean) (found clean) (told clean);
     }
 
