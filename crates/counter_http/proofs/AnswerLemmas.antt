@@ -11,6 +11,7 @@ use Rattle.shop_model.specs.Histories.{is_store_failure}
 use Rattle.shop_model.proofs.Callers.{known_same}
 use Rattle.shop_types.specs.declared.refusal.Refusal.{Refusal as Told}
 use Rattle.shop_types.specs.Seen.{seen_refusal}
+use Rattle.counter_routes.specs.Words.{Meaning}
 use Rattle.counter_routes.specs.Readings.{reading_of}
 use Rattle.chain_engine.specs.Holding.{Holding}
 use Rattle.branch_work.specs.Rules.{rules_of}
@@ -21,22 +22,25 @@ use Rattle.chain_engine.proofs.Requests.{no_failure, never, lacks_memory, store_
 use Rattle.counter_http.specs.Events.{known_token, sender_of, AnswersMessage, AnswersNobody}
 
 -- a text that is no request is told so, whoever sent it
-unread_reply : (rules : Rules) (message : Message) (caller : Caller) (d : Refusal) (books : Books) → reading_of message caller ≡ Unread d
-    → reply_for rules office_look caller (reading_of message caller) books ≡ Sorry d
-unread_reply rules message (Counter b) d books e = ap (λ (r : Request). reply_for rules office_look (Counter b) r books) e
-unread_reply rules message HeadOffice d books e = ap (λ (r : Request). reply_for rules office_look HeadOffice r books) e
-unread_reply rules message Nobody d books e = let same : NoCounter ≡ d = cc in ap (λ (r : Refusal). Sorry r) same
+unread_reply : (rules : Rules) (meaning : Meaning) (message : Message) (caller : Caller) (d : Refusal) (books : Books)
+    → reading_of meaning message caller ≡ Unread d
+    → reply_for rules office_look caller (reading_of meaning message caller) books ≡ Sorry d
+unread_reply rules meaning message (Counter b) d books e = ap (λ (r : Request). reply_for rules office_look (Counter b) r books) e
+unread_reply rules meaning message HeadOffice d books e = ap (λ (r : Request). reply_for rules office_look HeadOffice r books) e
+unread_reply rules meaning message Nobody d books e = let same : NoCounter ≡ d = cc in ap (λ (r : Refusal). Sorry r) same
 
 -- and changes nothing
-unread_after : (rules : Rules) (message : Message) (caller : Caller) (d : Refusal) (books : Books) → reading_of message caller ≡ Unread d
-    → after_for rules caller (reading_of message caller) books ≡ books
-unread_after rules message (Counter b) d books e = ap (λ (r : Request). after_for rules (Counter b) r books) e
-unread_after rules message HeadOffice d books e = ap (λ (r : Request). after_for rules HeadOffice r books) e
-unread_after rules message Nobody d books e = refl
+unread_after : (rules : Rules) (meaning : Meaning) (message : Message) (caller : Caller) (d : Refusal) (books : Books)
+    → reading_of meaning message caller ≡ Unread d
+    → after_for rules caller (reading_of meaning message caller) books ≡ books
+unread_after rules meaning message (Counter b) d books e = ap (λ (r : Request). after_for rules (Counter b) r books) e
+unread_after rules meaning message HeadOffice d books e = ap (λ (r : Request). after_for rules HeadOffice r books) e
+unread_after rules meaning message Nobody d books e = refl
 
-pub refused_answers : (message : Message) (d : Refusal) (old new : Holding) → reading_of message (sender_of message old) ≡ Unread d → new ≡ old → old.is_failed ≡ false
-    → AnswersMessage message (problem_answer (Decision d)) old new
-refused_answers message d old new e same fine =
+pub refused_answers : (meaning : Meaning) (message : Message) (d : Refusal) (old new : Holding)
+    → reading_of meaning message (sender_of message old) ≡ Unread d → new ≡ old → old.is_failed ≡ false
+    → AnswersMessage meaning message (problem_answer (Decision d)) old new
+refused_answers meaning message d old new e same fine =
     let sender = sender_of message old in
     let known = known_same (known_token message.token) old.books.catalogue in record {
       limits = ap (λ (h : Holding). h.limits) same;
@@ -44,28 +48,32 @@ refused_answers message d old new e same fine =
       stays = no_failure old.is_failed (is_store_failure (problem_answer (Decision d))) fine;
       at_failure = never _ (decided_fine (Sorry d));
       step = inl (record {
-        reply = ap answer_of (sym (unread_reply (rules_of old.limits) message sender d old.books e))
-            ∙ ap (λ (c : Caller). answer_of (reply_for (rules_of old.limits) office_look c (reading_of message sender) old.books)) (sym known);
-        books = ap (λ (h : Holding). h.books) same ∙ sym (unread_after (rules_of old.limits) message sender d old.books e)
-            ∙ ap (λ (c : Caller). after_for (rules_of old.limits) c (reading_of message sender) old.books) (sym known);
+        reply = ap answer_of (sym (unread_reply (rules_of old.limits) meaning message sender d old.books e))
+            ∙ ap (λ (c : Caller). answer_of (reply_for (rules_of old.limits) office_look c (reading_of meaning message sender) old.books)) (sym known);
+        books = ap (λ (h : Holding). h.books) same ∙ sym (unread_after (rules_of old.limits) meaning message sender d old.books e)
+            ∙ ap (λ (c : Caller). after_for (rules_of old.limits) c (reading_of meaning message sender) old.books) (sym known);
       });
     }
 
 -- the store can't do its part
-pub memory_answers : (message : Message) (answer : Answer) (old new : Holding) → answer ≡ problem_answer Memory → new ≡ old → old.is_failed ≡ false → AnswersMessage message answer old new
-memory_answers message answer old new is same fine = rw is (lacks_memory (sender_of message old) (reading_of message (sender_of message old)) old new same fine)
+pub memory_answers : (meaning : Meaning) (message : Message) (answer : Answer) (old new : Holding)
+    → answer ≡ problem_answer Memory → new ≡ old → old.is_failed ≡ false → AnswersMessage meaning message answer old new
+memory_answers meaning message answer old new is same fine =
+    rw is (lacks_memory (sender_of message old) (reading_of meaning message (sender_of message old)) old new same fine)
 
-pub store_answers : (message : Message) (refusal : Told) (answer : Answer) (old new : Holding) → IsStoreRefusalAt (sender_of message old) (reading_of message (sender_of message old)) refusal old new → answer ≡ problem_answer (seen_refusal refusal)
-    → AnswersMessage message answer old new
-store_answers message refusal answer old new refused is = rw is (store_refuses (sender_of message old) (reading_of message (sender_of message old)) refusal old new refused)
+pub store_answers : (meaning : Meaning) (message : Message) (refusal : Told) (answer : Answer) (old new : Holding)
+    → IsStoreRefusalAt (sender_of message old) (reading_of meaning message (sender_of message old)) refusal old new
+    → answer ≡ problem_answer (seen_refusal refusal) → AnswersMessage meaning message answer old new
+store_answers meaning message refusal answer old new refused is =
+    rw is (store_refuses (sender_of message old) (reading_of meaning message (sender_of message old)) refusal old new refused)
 
 -- nobody sent the message
-pub nobody_answers : (message : Message) (answer : Answer) (old new : Holding) → known_token message.token ≡ None → AnswersNobody answer old new
-    → AnswersMessage message answer old new
-nobody_answers message answer old new none answers =
-    let P : Caller → Type 0 = λ c. Answers c (reading_of message c) answer old new in
+pub nobody_answers : (meaning : Meaning) (message : Message) (answer : Answer) (old new : Holding)
+    → known_token message.token ≡ None → AnswersNobody answer old new → AnswersMessage meaning message answer old new
+nobody_answers meaning message answer old new none answers =
+    let P : Caller → Type 0 = λ c. Answers c (reading_of meaning message c) answer old new in
     let who : Nobody ≡ sender_of message old = ap (λ (token : Option (List ℕ)). caller_of token old.books.catalogue) (sym none) in
-    subst P who (answers (reading_of message Nobody))
+    subst P who (answers (reading_of meaning message Nobody))
 
 -- whatever nobody asks
 pub nobody_refused : (held : Holding) → held.is_failed ≡ false → AnswersNobody (problem_answer (Decision NoCounter)) held held
@@ -86,10 +94,11 @@ pub sent_by : (message : Message) (token : List ℕ) (caller : Caller) (held : H
 sent_by message token caller held known found = found ∙ ap (λ (it : Option (List ℕ)). caller_of it held.books.catalogue) (sym known)
 
 -- the chain answered a request of that caller, and they are the message's
-pub asked_answers : (message : Message) (caller : Caller) (request : Request) (answer : Answer) (old mid new : Holding) → mid ≡ old
-    → caller ≡ sender_of message old → request ≡ reading_of message caller → Answers caller request answer mid new → AnswersMessage message answer old new
-asked_answers message caller request answer old mid new same who what answers =
+pub asked_answers : (meaning : Meaning) (message : Message) (caller : Caller) (request : Request) (answer : Answer) (old mid new : Holding) → mid ≡ old
+    → caller ≡ sender_of message old → request ≡ reading_of meaning message caller → Answers caller request answer mid new
+    → AnswersMessage meaning message answer old new
+asked_answers meaning message caller request answer old mid new same who what answers =
     let P : Holding → Caller → Request → Type 0 = λ h c r. Answers c r answer h new in
     let first : P old caller request = subst (λ (h : Holding). P h caller request) same answers in
-    let second : P old caller (reading_of message caller) = subst (λ (r : Request). P old caller r) what first in
-    subst (λ (c : Caller). P old c (reading_of message c)) who second
+    let second : P old caller (reading_of meaning message caller) = subst (λ (r : Request). P old caller r) what first in
+    subst (λ (c : Caller). P old c (reading_of meaning message c)) who second

@@ -4,6 +4,7 @@ use Rattle.std.proofs.lemmas.List.{map-append}
 use Rattle.http_messages.specs.Input.{HasMessage}
 use Rattle.http_messages.proofs.StreamLemmas.{HasMessages-append, HasMessages-snoc}
 use Rattle.sqlite_trees.specs.declared.store.Store.{Ghosts}
+use Rattle.counter_routes.specs.Words.{Meaning}
 use Rattle.chain_engine.specs.Holding.{Chained, Holding}
 use Rattle.chain_engine.specs.Chains.{Takes, Runs}
 use Rattle.chain_engine.proofs.Taking.{takes_same, takes_then}
@@ -11,21 +12,22 @@ use Rattle.chain_engine.proofs.Running.{runs_none, runs_more}
 use Rattle.counter_http.specs.Events.{event_of, AnswersMessage}
 use Rattle.counter_http.specs.Exchanges.{Exchange, events_of, answers_of, messages_of, HasRun, RunsOver}
 
-run_one : (old mid new : Holding) (es : List Exchange) (e : Exchange)
-    → Runs (events_of es) (answers_of es) old mid → AnswersMessage e.message e.answer mid new
-    → Runs (events_of (es ++ e ∷ [])) (answers_of (es ++ e ∷ [])) old new
-run_one old mid new es e runs step =
-    rw (map-append (λ (x : Exchange). event_of x.message) es (e ∷ []), map-append (λ (x : Exchange). x.answer) es (e ∷ []))
-    (runs_more old mid new (events_of es) (answers_of es) (event_of e.message) e.answer runs step)
+run_one : (meaning : Meaning) (old mid new : Holding) (es : List Exchange) (e : Exchange)
+    → Runs (events_of meaning es) (answers_of es) old mid → AnswersMessage meaning e.message e.answer mid new
+    → Runs (events_of meaning (es ++ e ∷ [])) (answers_of (es ++ e ∷ [])) old new
+run_one meaning old mid new es e runs step =
+    rw (map-append (λ (x : Exchange). event_of meaning x.message) es (e ∷ []), map-append (λ (x : Exchange). x.answer) es (e ∷ []))
+    (runs_more old mid new (events_of meaning es) (answers_of es) (event_of meaning e.message) e.answer runs step)
 
 -- nothing is answered yet
-pub run_starts : {S : Type 0} {g : Ghosts S} {chain : Chained S} → RunsOver g chain chain []
-run_starts {S} {g} {chain} = record { takes = takes_same (λ held. runs_none held); same = λ none. refl }
+pub run_starts : {S : Type 0} {g : Ghosts S} {meaning : Meaning} {chain : Chained S} → RunsOver g meaning chain chain []
+run_starts {S} {g} {meaning} {chain} = record { takes = takes_same (λ held. runs_none held); same = λ none. refl }
 
-pub run_grows : {S : Type 0} {g : Ghosts S} {old mid new : Chained S} (e : Exchange) → Takes g mid new (AnswersMessage e.message e.answer)
-    → (es : List Exchange) → RunsOver g old mid es → RunsOver g old new (es ++ e ∷ [])
-run_grows e step es ran = record {
-  takes = takes_then ran.takes step (λ old mid new x y. run_one old mid new es e x y);
+pub run_grows : {S : Type 0} {g : Ghosts S} {meaning : Meaning} {old mid new : Chained S} (e : Exchange)
+    → Takes g mid new (AnswersMessage meaning e.message e.answer)
+    → (es : List Exchange) → RunsOver g meaning old mid es → RunsOver g meaning old new (es ++ e ∷ [])
+run_grows {S} {g} {meaning} e step es ran = record {
+  takes = takes_then ran.takes step (λ old mid new x y. run_one meaning old mid new es e x y);
   same = λ none. absurd (some es none);
 }
   where

@@ -10,11 +10,11 @@ use Rattle.counter_http.specs.Exchanges.{text_of}
 use Rattle.counter_http.specs.Branches.{BranchesAreSentTheSame, seen_of}
 
 pub sent_the_same : BranchesAreSentTheSame
-sent_the_same b exchanges others old new other another ran ran' agree seen =
+sent_the_same b meaning second exchanges others old new other another ran ran' agree seen =
     let here = ran.branches agree.numbers b in
     let there = ran'.branches agree.numbers_too b in
     let told : Limits → List Input → State → List Answer = λ limits view state. map answer_of (replies (rules_of limits) b view state) in
-    let middle = ap (λ (l : Limits). told l (seen_of (rules_of old.limits) b exchanges old.books) (state_of b old.books)) agree.limits
+    let middle = ap (λ (l : Limits). told l (seen_of meaning (rules_of old.limits) b exchanges old.books) (state_of b old.books)) agree.limits
     ∙ ap (λ (v : List Input). told other.limits v (state_of b old.books)) seen
-    ∙ ap (λ (s : State). told other.limits (seen_of (rules_of other.limits) b others other.books) s) agree.shop in
+    ∙ ap (λ (s : State). told other.limits (seen_of second (rules_of other.limits) b others other.books) s) agree.shop in
     ap (λ (answers : List Answer). flat_map text_of answers) (here.told ∙ middle ∙ sym there.told)

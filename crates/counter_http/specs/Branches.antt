@@ -6,18 +6,19 @@ use Rattle.shop_model.specs.Machine.{Input}
 use Rattle.shop_model.specs.Books.{Books, state_of}
 use Rattle.shop_model.specs.Sound.{HasNumbers}
 use Rattle.branch_work.specs.Rules.{rules_of}
+use Rattle.counter_routes.specs.Words.{Meaning}
 use Rattle.chain_engine.specs.Holding.{Holding}
 use Rattle.chain_engine.specs.Branches.{answered_to, seen_by}
 use Rattle.chain_engine.specs.Chains.{Runs}
 use Rattle.counter_http.specs.Exchanges.{Exchange, events_of, answers_of, text_of}
 
 -- the bytes sent to the branch: the replies to its own messages, one after another, but for those by which the store could not do its part
-abbrev pub sent_to : Rules → ℕ → List Exchange → Books → List ℕ
-sent_to rules b exchanges books = flat_map text_of (answered_to rules b (events_of exchanges) (answers_of exchanges) books)
+abbrev pub sent_to : Meaning → Rules → ℕ → List Exchange → Books → List ℕ
+sent_to meaning rules b exchanges books = flat_map text_of (answered_to rules b (events_of meaning exchanges) (answers_of exchanges) books)
 
 -- what the branch saw of the messages that were answered: its own requests, head office's accepted commands and the consignments sent to it, in their order
-abbrev pub seen_of : Rules → ℕ → List Exchange → Books → List Input
-seen_of rules b exchanges books = seen_by rules b (events_of exchanges) (answers_of exchanges) books
+abbrev pub seen_of : Meaning → Rules → ℕ → List Exchange → Books → List Input
+seen_of meaning rules b exchanges books = seen_by rules b (events_of meaning exchanges) (answers_of exchanges) books
 
 -- two chains agree on what concerns the branch: the limits, the catalogue and the branch's shop; the rows of both are numbered, as those of sound books are
 pub record AgreeOn (b : ℕ) (one other : Holding) : Type 0 where
@@ -26,10 +27,10 @@ pub record AgreeOn (b : ℕ) (one other : Holding) : Type 0 where
   pub numbers : HasNumbers one.books
   pub numbers_too : HasNumbers other.books
 
--- In any two histories that agree on what concerns a branch, that branch is sent the same bytes.
+-- In any two histories that agree on what concerns a branch, that branch is sent the same bytes, whatever head office's words mean in each.
 abbrev pub BranchesAreSentTheSame : Type 0
 BranchesAreSentTheSame =
-    (b : ℕ) (exchanges others : List Exchange) (old new other another : Holding)
-    → Runs (events_of exchanges) (answers_of exchanges) old new → Runs (events_of others) (answers_of others) other another
-    → AgreeOn b old other → seen_of (rules_of old.limits) b exchanges old.books ≡ seen_of (rules_of other.limits) b others other.books
-    → sent_to (rules_of old.limits) b exchanges old.books ≡ sent_to (rules_of other.limits) b others other.books
+    (b : ℕ) (meaning second : Meaning) (exchanges others : List Exchange) (old new other another : Holding)
+    → Runs (events_of meaning exchanges) (answers_of exchanges) old new → Runs (events_of second others) (answers_of others) other another
+    → AgreeOn b old other → seen_of meaning (rules_of old.limits) b exchanges old.books ≡ seen_of second (rules_of other.limits) b others other.books
+    → sent_to meaning (rules_of old.limits) b exchanges old.books ≡ sent_to second (rules_of other.limits) b others other.books

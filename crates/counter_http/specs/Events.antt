@@ -5,6 +5,7 @@ use Rattle.shop_values.specs.Texts.{is_token}
 use Rattle.shop_model.specs.Machine.{Request}
 use Rattle.shop_model.specs.Answers.{Answer}
 use Rattle.shop_model.specs.Books.{Event, Caller, Nobody, caller_of}
+use Rattle.counter_routes.specs.Words.{Meaning}
 use Rattle.counter_routes.specs.Readings.{reading_of}
 use Rattle.chain_engine.specs.Holding.{Holding}
 use Rattle.chain_engine.specs.Chains.{Answers, AnswersEvent}
@@ -13,9 +14,9 @@ use Rattle.chain_engine.specs.Chains.{Answers, AnswersEvent}
 abbrev pub known_token : Option (List ℕ) → Option (List ℕ)
 known_token token = option_and_then (λ digits. if is_token digits then Some digits else None) token
 
--- who asks shows in the token, and what is asked depends on who asks
-abbrev pub event_of : Message → Event
-event_of message = record { token = known_token message.token; request = reading_of message }
+-- who asks shows in the token, and what is asked depends on who asks, and of head office on what its words mean
+abbrev pub event_of : Meaning → Message → Event
+event_of meaning message = record { token = known_token message.token; request = reading_of meaning message }
 
 -- who sent the message, by the catalogue as it is now
 abbrev pub sender_of : Message → Holding → Caller
@@ -23,8 +24,8 @@ sender_of message holding = caller_of (known_token message.token) holding.books.
 
 -- The chain makes the books' step at the message and answers so, or lacks memory or room, or the store fails. Where the store had failed before, the answer is
 -- its failure.
-abbrev pub AnswersMessage : Message → Answer → Holding → Holding → Type 0
-AnswersMessage message answer old new = AnswersEvent (event_of message) answer old new
+abbrev pub AnswersMessage : Meaning → Message → Answer → Holding → Holding → Type 0
+AnswersMessage meaning message answer old new = AnswersEvent (event_of meaning message) answer old new
 
 -- the answer to nobody, whatever nobody asks
 abbrev pub AnswersNobody : Answer → Holding → Holding → Type 0

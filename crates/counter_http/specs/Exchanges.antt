@@ -8,6 +8,7 @@ use Rattle.shop_model.specs.Answers.{Answer}
 use Rattle.shop_model.specs.Books.{Event}
 use Rattle.shop_model.specs.Histories.{is_store_failure}
 use Rattle.sqlite_trees.specs.declared.store.Store.{Ghosts}
+use Rattle.counter_routes.specs.Words.{Meaning}
 use Rattle.chain_engine.specs.Holding.{Chained}
 use Rattle.chain_engine.specs.Chains.{Takes, Runs}
 use Rattle.counter_http.specs.Events.{event_of}
@@ -24,8 +25,9 @@ text_of answer = reply_text answer.status answer.body
 abbrev pub messages_of : List Exchange → List Message
 messages_of exchanges = map (λ exchange. exchange.message) exchanges
 
-abbrev pub events_of : List Exchange → List Event
-events_of exchanges = map (λ exchange. event_of exchange.message) exchanges
+-- what was asked, where head office's words have that meaning
+abbrev pub events_of : Meaning → List Exchange → List Event
+events_of meaning exchanges = map (λ exchange. event_of meaning exchange.message) exchanges
 
 abbrev pub answers_of : List Exchange → List Answer
 answers_of exchanges = map (λ exchange. exchange.answer) exchanges
@@ -40,8 +42,8 @@ pub record GoesOn (exchange : Exchange) : Type 0 where
   pub sound : is_store_failure exchange.answer ≡ false
 
 -- the chain answers the messages, one after another; where none came, it is as it was, whatever its store is
-pub record RunsOver {S : Type 0} (g : Ghosts S) (old new : Chained S) (exchanges : List Exchange) : Type 0 where
-  pub takes : Takes g old new (Runs (events_of exchanges) (answers_of exchanges))
+pub record RunsOver {S : Type 0} (g : Ghosts S) (meaning : Meaning) (old new : Chained S) (exchanges : List Exchange) : Type 0 where
+  pub takes : Takes g old new (Runs (events_of meaning exchanges) (answers_of exchanges))
   pub same : exchanges ≡ [] → new ≡ old
 
 -- What was read begins with the messages of the exchanges, and then a rest that isn't answered; and `Ran` is so of the exchanges. What is said of the bytes

@@ -10,7 +10,7 @@ ghost use Rattle.counter_http.specs.Events.{known_token, AnswersNobody, AnswersM
 use chain_engine::Chain;
 use counter_routes::{Reading, Routes};
 use http_messages::Request;
-use shop_types::{Refusal, Reply, Token};
+use shop_types::{OfficeWords, Refusal, Reply, Token};
 use sqlite::Alter;
 use std::alloc::Global;
 
@@ -36,13 +36,14 @@ fn answer_nobody<S: Alter>(chain: &Chain<S>) -> Reply
 }
 
 /// The chain's reply to a message. Who sent it is looked for before what it asks, and what the store lacks is answered as such.
-pub fn answer<S: Alter>(
+pub fn answer<O: OfficeWords, S: Alter>(
     alloc: Global,
     chain: &mut Chain<S>,
     routes: &Routes,
+    words: &O,
     message: &Request<'_>,
 ) -> Reply
-    ensures { Takes S.Store chain.old chain.new (AnswersMessage (message_of message.now) (seen_reply result)) }
+    ensures { Takes S.Store chain.old chain.new (AnswersMessage (O.meaning words.now) (message_of message.now) (seen_reply result)) }
 {
     let Some(token) = token_of(message) else {
         return answer_nobody(chain);
@@ -51,7 +52,7 @@ pub fn answer<S: Alter>(
         Ok(caller) => caller,
         Err(refusal) => return Reply::refused(refusal),
     };
-    match routes.read(alloc, message, caller) {
+    match routes.read(alloc, words, message, caller) {
         Ok(Reading::Asked(request)) => chain.answer(&caller, &request),
         Ok(Reading::Refused(refusal)) => Reply::refused(refusal),
         Err(_) => Reply::refused(Refusal::Memory),

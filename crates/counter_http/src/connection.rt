@@ -94,21 +94,22 @@ fn fault_reply(fault: Fault) -> Reply
 }
 
 /// Answers one request.
-fn respond<W: Write, S: Alter>(
+fn respond<W: Write, O: OfficeWords, S: Alter>(
     alloc: Global,
     writer: &mut W,
     chain: &mut Chain<S>,
     routes: &Routes,
+    words: &O,
     request: &Request<'_>,
 ) -> io::Result<After>
-    ensures ok { IfOk result (λ after. (a : Answer) × Takes S.Store chain.old chain.new (AnswersMessage (message_of request.now) a)
+    ensures ok { IfOk result (λ after. (a : Answer) × Takes S.Store chain.old chain.new (AnswersMessage (O.meaning words.now) (message_of request.now) a)
         × Appends (W.contents writer.old) (W.contents writer.new) (text_of a)
         × IsAfter after (record { message = message_of request.now; answer = a })) }
-    ensures err { OnErr result ((a : Answer) × Takes S.Store chain.old chain.new (AnswersMessage (message_of request.now) a)
+    ensures err { OnErr result ((a : Answer) × Takes S.Store chain.old chain.new (AnswersMessage (O.meaning words.now) (message_of request.now) a)
         × ((front : List ℕ) × (rest : List ℕ) × (text_of a ≡ front ++ rest) × (0 < length rest)
         × Appends (W.contents writer.old) (W.contents writer.new) front)) }
 {
-    let reply = answer(alloc, chain, routes, request);
+    let reply = answer(alloc, chain, routes, words, request);
     let failed = is_failure(&reply);
     write_reply(writer, &reply)?;
     Ok(if failed {
@@ -122,18 +123,18 @@ fn respond<W: Write, S: Alter>(
 
 /// Reads requests and writes the replies to them, until the input or the connection ends, or `max_requests` are answered; with 0 nothing is read.
 /// However the reader cuts its bytes, the replies are those to the messages of what it gives, in order.
-/// The memory for the connection is taken before the first byte is read. `words` reads head office's words: no route asks it yet.
+/// The memory for the connection is taken before the first byte is read. `words` reads the words that head office sends.
 pub fn serve<R: Read, W: Write, O: OfficeWords, S: Alter>(
     alloc: Global,
     reader: &mut R,
     writer: &mut W,
     chain: &mut Chain<S>,
-    _words: &O,
+    words: &O,
     max_requests: u32,
 ) -> Result<Served, ServeFault>
-    ensures served { IfOk result (λ served. IsServed served max_requests (RunsOver S.Store chain.old chain.new)
+    ensures served { IfOk result (λ served. IsServed served max_requests (RunsOver S.Store (O.meaning words.now) chain.old chain.new)
         (R.remaining reader.old) (R.remaining reader.new) (W.contents writer.old) (W.contents writer.new)) }
-    ensures fault { IfErr result (λ fault. IsFault fault max_requests (RunsOver S.Store chain.old chain.new)
+    ensures fault { IfErr result (λ fault. IsFault fault max_requests (RunsOver S.Store (O.meaning words.now) chain.old chain.new)
         (R.remaining reader.old) (R.remaining reader.new) (W.contents writer.old) (W.contents writer.new)) }
     ensures none_allowed { max_requests ≡ 0 → (result ≡ Ok (record { replies = 0; end = End.Limit })) × (chain.new ≡ chain.old)
         × Keeps (R.remaining reader.old) (R.remaining reader.new) × Keeps (W.contents writer.old) (W.contents writer.new) }
@@ -154,7 +155,7 @@ pub fn serve<R: Read, W: Write, O: OfficeWords, S: Alter>(
     'requests: while replies < max_requests {
         match read_request(inbox.bytes()) {
             Reading::Whole(request, len) => {
-                let Ok(after) = respond(alloc, writer, chain, &routes, &request) else {
+                let Ok(after) = respond(alloc, writer, chain, &routes, words, &request) else {
                     return Err(ServeFault::Write { replies });
                 };
                 inbox.consume(len);

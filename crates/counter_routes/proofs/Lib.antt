@@ -2,3 +2,4 @@ pub mod RouteLemmas
 pub mod BodyLemmas
 pub mod MomentLemmas
 pub mod PartLemmas
+pub mod WordLemmas

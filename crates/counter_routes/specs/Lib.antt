@@ -3,4 +3,5 @@ pub mod Routes
 pub mod Bodies
 pub mod Imports
 pub mod Looks
+pub mod Words
 pub mod Readings

@@ -2,9 +2,9 @@
 use Rattle.std.specs.Prelude.{◌≡◌, ℕ, Bool, true, false, List, Option, Some, None, option_map, option_and_then, unwrap_or, if◌then◌else◌}
 use Rattle.http_messages.specs.Message.{Message}
 use Rattle.serde_json.specs.Data.{Data}
-use Rattle.shop_model.specs.Values.{Command, Ask, OneCustomer, InStock, HeldBy, FilmInStock, FilmNotInStock}
+use Rattle.shop_model.specs.Values.{Text, Command, OfficeCommand, Ask, OneCustomer, InStock, HeldBy, FilmInStock, FilmNotInStock}
 use Rattle.shop_model.specs.Refusals as named
-use Rattle.shop_model.specs.Machine.{Request, Unread, Do, Look}
+use Rattle.shop_model.specs.Machine.{Request, Unread, Do, Look, Office}
 use Rattle.shop_model.specs.Books.{Caller, Counter, HeadOffice, Nobody}
 use Rattle.shop_types.specs.Seen.{seen_request, seen_refusal}
 use Rattle.shop_types.specs.Replies.{has_fixed_body}
@@ -17,6 +17,7 @@ use Rattle.counter_routes.specs.Routes.{route_of}
 use Rattle.counter_routes.specs.Bodies.{body_of, new_customer, new_active, new_rental, new_return, new_payment, new_scrap}
 use Rattle.counter_routes.specs.Imports.{import_in}
 use Rattle.counter_routes.specs.Looks.{ask_in, balance_in, overdue_in, rewards_in}
+use Rattle.counter_routes.specs.Words.{Meaning, texts_of, command_of_words, is_to_office}
 
 -- the request, or the refusal `bad_body` where there is none
 abbrev pub or_bad_body : Option Request → Request
@@ -58,11 +59,26 @@ abbrev pub counter_request : Message → Request
 counter_request message =
     if is_stock_file message.body then request_at message (route_of message.posts message.target) else Unread named.TooLong
 
--- what a message asks of that caller: nobody asks anything, and head office has no routes yet
-abbrev pub reading_of : Message → Caller → Request
-reading_of message (Counter b) = counter_request message
-reading_of message HeadOffice = Unread named.NoRoute
-reading_of message Nobody = Unread named.NoCounter
+-- a command of head office, or `usage` where the words mean none
+abbrev pub office_or_usage : Option OfficeCommand → Request
+office_or_usage command = unwrap_or (option_map Office command) (Unread named.Usage)
+
+-- what head office's words ask, or `bad_body` where the body is no list of texts
+abbrev pub words_request : Meaning → Option (List Text) → Request
+words_request meaning words = or_bad_body (option_map (λ them. office_or_usage (command_of_words meaning them)) words)
+
+-- What head office's message asks, where its body is no longer than one may be: it has one route, and there its words are read.
+abbrev pub office_request : Meaning → Message → Request
+office_request meaning message =
+    if is_stock_file message.body
+    then (if is_to_office message then words_request meaning (texts_of message.body) else Unread named.NoRoute)
+    else Unread named.TooLong
+
+-- what a message asks of that caller, where head office's words have that meaning; nobody asks anything
+abbrev pub reading_of : Meaning → Message → Caller → Request
+reading_of meaning message (Counter b) = counter_request message
+reading_of meaning message HeadOffice = office_request meaning message
+reading_of meaning message Nobody = Unread named.NoCounter
 
 -- a command, which has a body
 abbrev pub is_command : Option Route → Bool
@@ -83,10 +99,10 @@ is_command (Some route.Balance) = false
 is_command (Some route.Overdue) = false
 is_command (Some route.Rewards) = false
 
--- reading the message takes memory: it is a counter's command
+-- reading the message takes memory: it is a counter's command, or has head office's words
 abbrev pub takes_memory : Message → Caller → Bool
 takes_memory message (Counter b) = is_command (route_of message.posts message.target)
-takes_memory message HeadOffice = false
+takes_memory message HeadOffice = is_to_office message
 takes_memory message Nobody = false
 
 -- a reading is that request, or a refusal of a text that is none

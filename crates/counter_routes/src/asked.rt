@@ -14,8 +14,9 @@ use crate::bodies::{
 };
 use crate::imports::import_command;
 use crate::looks::{balance_ask, number_of, overdue_ask, rewards_ask};
+use crate::office::read_office;
 use crate::paths::{Route, Routes};
-use shop_types::{Ask, Caller, Command, NoMemory, Refusal, Request};
+use shop_types::{Ask, Caller, Command, NoMemory, OfficeWords, Refusal, Request};
 use std::alloc::Global;
 
 /// What a message asks: a request to the shop, or why it is none.
@@ -85,16 +86,19 @@ impl Routes {
         }
     }
 
-    /// What a message asks of that caller. It is refused with `no_counter` where nobody asks, with `too_long` where a counter's body has more
+    /// What a message asks of that caller. It is refused with `no_counter` where nobody asks, with `too_long` where the body has more
     /// than 65,536 bytes, with `no_route` where there is no such request for that caller, and with `bad_body` where a part of the path or a JSON body is not of its form.
-    /// A stock file is kept as it came, whatever it says. Only a command takes memory.
-    pub fn read(
+    /// A stock file is kept as it came, whatever it says. Head office has one request: its words, sent by POST to `/office` as a JSON list of texts.
+    /// It is refused with `usage` where `words` reads no command in them, or one with a file's name, or one that only the program can do.
+    /// Only a counter's command and head office's words take memory.
+    pub fn read<O: OfficeWords>(
         &self,
         alloc: Global,
+        words: &O,
         message: &http_messages::Request<'_>,
         caller: Caller,
     ) -> Result<Reading, NoMemory>
-        ensures reading { IfOk result (λ reading. Reads reading (reading_of (message_of message.now) (seen_caller caller))) }
+        ensures reading { IfOk result (λ reading. Reads reading (reading_of (O.meaning words.now) (message_of message.now) (seen_caller caller))) }
         ensures memory { OnErr result (takes_memory (message_of message.now) (seen_caller caller) ≡ true) }
     {
         match caller {
@@ -103,7 +107,7 @@ impl Routes {
                 Ok(Reading::Refused(Refusal::TooLong))
             }
             Caller::Branch(_) => self.read_counter(alloc, message),
-            Caller::Office => Ok(Reading::Refused(Refusal::NoRoute)),
+            Caller::Office => read_office(alloc, words, message),
             Caller::Nobody => Ok(Reading::Refused(Refusal::NoCounter)),
         }
     }

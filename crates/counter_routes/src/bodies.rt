@@ -209,7 +209,8 @@ fn scrapped(alloc: Global, value: &Value) -> Result<Command, Fault>
     command(alloc, value, Act::Scrap(copy))
 }
 
-fn value_of(alloc: Global, body: &[u8]) -> Result<Value, Fault>
+/// The value that a body writes.
+pub(crate) fn value_of(alloc: Global, body: &[u8]) -> Result<Value, Fault>
     ensures ok { IfOk result (λ value. body_of body.now ≡ Some (view value)) }
     ensures bad { IfErr result (λ fault. fault ≡ BadBody → body_of body.now ≡ None) }
 {

@@ -5,7 +5,7 @@ use Rattle.counter_http.proofs.connection.serve.Given as goal
 
 abbrev pub invariant-requests : goal.invariant-requests
 invariant-requests g l = record {
-  serving : IsServing l.replies (RunsOver g.S.Store l.fn.chain l.chain) l.inbox
+  serving : IsServing l.replies (RunsOver g.S.Store (g.O.OfficeWords.meaning l.words) l.fn.chain l.chain) l.inbox
       (g.R.Read.remaining l.fn.reader) (g.R.Read.remaining l.reader)
       (g.W.Write.contents l.fn.writer) (g.W.Write.contents l.writer);
   within : l.replies ≤ l.max_requests;

@@ -1,0 +1,99 @@
+//! Head office's words, which come as a JSON list of texts.
+
+ghost use Rattle.std.specs.Prelude.{◌≡◌, true, IfOk, IfErr, OnErr, Some, None, map, option_map, string_bytes};
+ghost use Rattle.serde_json.specs.View.{view};
+ghost use Rattle.http_messages.specs.Shown.{message_of};
+ghost use Rattle.shop_types.specs.Seen.{seen_office};
+ghost use Rattle.shop_types.specs.Lines.{seen_line};
+ghost use Rattle.counter_routes.specs.Words.{list_of_texts, texts_of, command_of_line, command_of_words, is_to_office as asks_office};
+ghost use Rattle.counter_routes.specs.Readings.{Reads, office_or_usage, office_request};
+ghost use Rattle.counter_routes.specs.declared.bodies.Fault.TheVariants.{BadBody};
+
+use crate::asked::Reading;
+use crate::bodies::{Fault, value_of};
+use serde_json::Value;
+use shop_types::{Line, LineAct, NoMemory, OfficeCommand, OfficeWords, Refusal, Request, Usage};
+use std::alloc::Global;
+
+/// The texts that a value lists.
+fn texts(alloc: Global, value: &Value) -> Result<Vec<String>, Fault>
+    ensures ok { IfOk result (λ texts. list_of_texts (view value.now) ≡ Some (map string_bytes texts.items)) }
+    ensures bad { IfErr result (λ fault. fault ≡ BadBody → list_of_texts (view value.now) ≡ None) }
+{
+    let items = value.as_array().ok_or(Fault::BadBody)?;
+    let mut texts = Vec::with_capacity(alloc, items.len())?;
+    for item in items {
+        let text = item.as_str().ok_or(Fault::BadBody)?;
+        texts.push_reserved(String::from_str(alloc, text)?);
+    }
+    Ok(texts)
+}
+
+/// The texts that a body lists.
+fn body_texts(alloc: Global, body: &[u8]) -> Result<Vec<String>, Fault>
+    ensures ok { IfOk result (λ texts. texts_of body.now ≡ Some (map string_bytes texts.items)) }
+    ensures bad { IfErr result (λ fault. fault ≡ BadBody → texts_of body.now ≡ None) }
+{
+    texts(alloc, &value_of(alloc, body)?)
+}
+
+/// The command of head office that a line is. A line that names a file, or that only the program can do, is none.
+fn office_command(line: Line) -> Option<OfficeCommand>
+    ensures { option_map seen_office result ≡ command_of_line (seen_line line) }
+{
+    let Line { db, act } = line;
+    if db.is_some() {
+        return None;
+    }
+    match act {
+        LineAct::Office(command) => Some(command),
+        _ => None,
+    }
+}
+
+/// What the words ask: the command that they mean, or `usage` where they mean none.
+fn read_words<O: OfficeWords>(words: &O, texts: &[String]) -> Result<Reading, NoMemory>
+    ensures { IfOk result (λ reading. Reads reading (office_or_usage (command_of_words (O.meaning words.now) (map string_bytes texts.now)))) }
+{
+    match words.read(texts) {
+        Ok(line) => match office_command(line) {
+            Some(command) => Ok(Reading::Asked(Request::Office(command))),
+            None => Ok(Reading::Refused(Refusal::Usage)),
+        },
+        Err(fault) => match fault {
+            Usage::Words(_) => Ok(Reading::Refused(Refusal::Usage)),
+            Usage::Memory => Err(NoMemory),
+        },
+    }
+}
+
+/// Whether the message is one that head office may send: POST to the one target.
+fn is_to_office(message: &http_messages::Request<'_>) -> bool
+    ensures { result ≡ asks_office (message_of message.now) }
+{
+    message.posts && message.target == b"/office".as_slice()
+}
+
+/// What head office's message asks.
+pub(crate) fn read_office<O: OfficeWords>(
+    alloc: Global,
+    words: &O,
+    message: &http_messages::Request<'_>,
+) -> Result<Reading, NoMemory>
+    ensures reading { IfOk result (λ reading. Reads reading (office_request (O.meaning words.now) (message_of message.now))) }
+    ensures memory { OnErr result (asks_office (message_of message.now) ≡ true) }
+{
+    if message.body.len() > 65_536 {
+        return Ok(Reading::Refused(Refusal::TooLong));
+    }
+    if !is_to_office(message) {
+        return Ok(Reading::Refused(Refusal::NoRoute));
+    }
+    match body_texts(alloc, message.body) {
+        Ok(texts) => read_words(words, texts.as_slice()),
+        Err(fault) => match fault {
+            Fault::BadBody => Ok(Reading::Refused(Refusal::BadBody)),
+            Fault::NoMemory => Err(NoMemory),
+        },
+    }
+}
