@@ -10,7 +10,7 @@ fn main(rt: HostRuntime) -> io::Result<ExitCode> {
         words.push(word)?;
     }
     let status = sakila_office::run(
-        rt.alloc(),
+        &rt,
         &words,
         &mut rt.stdin(),
         &mut rt.stdout(),

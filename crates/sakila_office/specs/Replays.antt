@@ -1,9 +1,8 @@
--- The program's one word so far, and the status that it ends with.
-use Rattle.std.specs.Prelude.{◌≡◌, ℕ, Bool, false, List, [], ◌∷◌, Option, codes}
-use Rattle.std.specs.Str.{bytes_eq}
+-- What `replay` does, and the status that it ends with.
+use Rattle.std.specs.Prelude.{◌≡◌, ℕ, List, Option}
 use Rattle.std.specs.Io.KnownBytes.{Keeps}
-use Rattle.shop_values.specs.LimitValues.{most_limits}
 use Rattle.shop_model.specs.Opening.{opening_books}
+use Rattle.office_words.specs.Line.{line_of}
 use Rattle.chain_engine.specs.Holding.{Holding}
 use Rattle.chain_engine.specs.Chains.{Runs}
 use Rattle.counter_http.specs.Exchanges.{Exchange, events_of, answers_of}
@@ -12,12 +11,7 @@ use Rattle.counter_http.specs.declared.connection.End.{End}
 use Rattle.counter_http.specs.declared.connection.End.TheVariants.{Closed, Cut, Asked, Limit, Refused, StoreFailed}
 use Rattle.counter_http.specs.declared.connection.Served.{Served}
 use Rattle.counter_http.specs.declared.connection.ServeFault.{ServeFault}
-
--- the words are `replay` alone
-abbrev pub asks_replay : List (List ℕ) → Bool
-asks_replay [] = false
-asks_replay (word ∷ []) = bytes_eq word (codes "replay")
-asks_replay (word ∷ other ∷ words) = false
+use Rattle.sakila_office.specs.Commands.{opened_holding}
 
 -- 0 where all that came was answered, 1 where the input broke off or was no message, 3 where the store failed
 abbrev pub status_of : End → ℕ
@@ -30,11 +24,11 @@ status_of StoreFailed = 3
 
 -- the chain that is shown, before anything is asked
 abbrev pub opening_holding : Holding
-opening_holding = record { limits = most_limits; is_failed = false; books = opening_books; besides = opening_books }
+opening_holding = opened_holding opening_books
 
--- the chain that is shown answers the messages, one after another
+-- the chain that is shown answers the messages, one after another, head office's words read by the table of words
 abbrev pub RunsFromOpening : List Exchange → Type 0
-RunsFromOpening exchanges = (after : Holding) × Runs (events_of exchanges) (answers_of exchanges) opening_holding after
+RunsFromOpening exchanges = (after : Holding) × Runs (events_of line_of exchanges) (answers_of exchanges) opening_holding after
 
 -- an input was replayed: 1,000 requests at most were answered by a chain with the opening rows, or reading or writing failed, or there was no memory or room
 pub data Replays (status : ℕ) (input left output written : Option (List ℕ)) : Type 0 where

@@ -1,7 +1,10 @@
-//! Head office's words, and the whole program for one list of words.
+//! The program of head office, for one list of words.
 #![tactic(auto)]
 
+mod commands;
+mod printing;
 mod program;
+mod replays;
 mod words;
 
 pub use program::run;

@@ -1,78 +1,90 @@
 //! The program for one list of words.
-ghost use Rattle.std.specs.Prelude.{◌≡◌, true, false, map, string_bytes};
-ghost use Rattle.std.specs.Io.KnownBytes.{Keeps};
-ghost use Rattle.sakila_office.specs.Replays.{asks_replay, status_of, Replays};
+ghost use Rattle.std.specs.Prelude.{ℕ, List, Option, Some, None, map, string_bytes};
+ghost use Rattle.shop_types.specs.Lines.{seen_line};
+ghost use Rattle.office_words.specs.Line.{line_of};
+ghost use Rattle.sakila_office.specs.Tasks.{task_of, task_with};
+ghost use Rattle.sakila_office.specs.Program.{Performs};
 
-use crate::NoWords;
-use chain_engine::Chain;
-use counter_http::{End, serve};
-use shop_types::Limits;
-use std::alloc::Global;
+use crate::commands::{make, put};
+use crate::printing::{tell, tell_misplaced, tell_unbuilt, tell_usage};
+use crate::replays::replay;
+use office_words::ClapWords;
+use shop_types::{Line, LineAct, OfficeWords, Refusal, Reply, Usage};
+use sqlite_disk::Disk;
+use sqlite_std_file::File;
 use std::io::{Read, Write};
 
-/// How many requests are answered over one connection, or of one input.
-const MOST_REQUESTS: u32 = 1000;
-
-fn asks_for_replay(words: &[String]) -> bool
-    ensures { result ≡ asks_replay (map string_bytes words.now) }
+/// Does what a line with a file asks for.
+fn perform_in<W: Write, E: Write>(
+    rt: &HostRuntime,
+    file: &str,
+    act: LineAct,
+    out: &mut W,
+    err: &mut E,
+) -> u8
+    ensures { (input : Option (List ℕ)) → Performs ⟦<File as Disk>⟧ (task_with act (Some file.now)) result
+        input input (W.contents out.old) (W.contents out.new) }
 {
-    match words {
-        [word] => word.as_str() == "replay",
-        _ => false,
+    match act {
+        LineAct::Init(ref token) => make(rt, file, token, out, err),
+        LineAct::Office(command) => put(rt, file, command, out, err),
+        LineAct::Migrate | LineAct::Serve { .. } => tell_unbuilt(err),
+        LineAct::Replay => tell_misplaced(err),
     }
 }
 
-/// The status that the program ends with after a connection that ended so.
-fn status(end: End) -> u8
-    ensures { result ≡ status_of end }
-{
-    match end {
-        End::Closed | End::Asked | End::Limit => 0,
-        End::Cut | End::Refused => 1,
-        End::StoreFailed => 3,
-    }
-}
-
-/// Answers the requests of the reader by a new chain with the opening rows.
-fn replay<R: Read, W: Write, E: Write>(
-    alloc: Global,
+/// Does what a line without a file asks for.
+fn perform_alone<R: Read, W: Write, E: Write>(
+    rt: &HostRuntime,
+    act: &LineAct,
     reader: &mut R,
     out: &mut W,
     err: &mut E,
 ) -> u8
-    ensures { Replays result (R.remaining reader.old) (R.remaining reader.new) (W.contents out.old) (W.contents out.new) }
+    ensures { Performs ⟦<File as Disk>⟧ (task_with act.now None) result
+        (R.remaining reader.old) (R.remaining reader.new) (W.contents out.old) (W.contents out.new) }
 {
-    let mut chain = match Chain::demo(alloc, Limits::default()) {
-        Ok(chain) => chain,
-        Err(fault) => {
-            let _ = writeln!(err, "store: {fault}");
-            return 3;
-        }
-    };
-    let words = NoWords::new(alloc);
-    match serve(alloc, reader, out, &mut chain, &words, MOST_REQUESTS) {
-        Ok(served) => status(served.end),
-        Err(_) => 3,
+    match act {
+        LineAct::Replay => replay(rt.alloc(), reader, out, err),
+        LineAct::Init(_) | LineAct::Office(_) => tell_misplaced(err),
+        LineAct::Migrate | LineAct::Serve { .. } => tell_unbuilt(err),
     }
 }
 
-/// The whole program for its words, without its own name, over a reader and two writers: it answers the status.
-/// `replay` answers the requests of the reader. Other words change nothing and are told the usage on `err`, with status 2.
+/// Does what the line asks for.
+fn perform<R: Read, W: Write, E: Write>(
+    rt: &HostRuntime,
+    line: Line,
+    reader: &mut R,
+    out: &mut W,
+    err: &mut E,
+) -> u8
+    ensures { Performs ⟦<File as Disk>⟧ (task_of (Some (seen_line line))) result
+        (R.remaining reader.old) (R.remaining reader.new) (W.contents out.old) (W.contents out.new) }
+{
+    let Line { db, act } = line;
+    match db {
+        Some(file) => perform_in(rt, file.as_str(), act, out, err),
+        None => perform_alone(rt, &act, reader, out, err),
+    }
+}
+
+/// The whole program for its words, without its own name, over a reader and two writers: it answers the status. `docs/REQUESTS.md` has the words.
+/// What it can't do is told on `err`: the usage, a refusal, or `store: NAME` where there is no chain in the file.
 pub fn run<R: Read, W: Write, E: Write>(
-    alloc: Global,
+    rt: &HostRuntime,
     words: &[String],
     reader: &mut R,
     out: &mut W,
     err: &mut E,
 ) -> u8
-    ensures replay { asks_replay (map string_bytes words.now) ≡ true
-        → Replays result (R.remaining reader.old) (R.remaining reader.new) (W.contents out.old) (W.contents out.new) }
-    ensures usage { asks_replay (map string_bytes words.now) ≡ false
-        → (result ≡ 2) × Keeps (R.remaining reader.old) (R.remaining reader.new) × Keeps (W.contents out.old) (W.contents out.new) }
+    ensures { Performs ⟦<File as Disk>⟧ (task_of (line_of (map string_bytes words.now))) result
+        (R.remaining reader.old) (R.remaining reader.new) (W.contents out.old) (W.contents out.new) }
 {
-    if asks_for_replay(words) {
-        return replay(alloc, reader, out, err);
+    let reader_of_words = ClapWords { alloc: rt.alloc() };
+    match reader_of_words.read(words) {
+        Ok(line) => perform(rt, line, reader, out, err),
+        Err(Usage::Words(text)) => tell_usage(text.as_str(), err),
+        Err(Usage::Memory) => tell(&Reply::refused(Refusal::Memory), out, err),
     }
-    let _ = writeln!(err, "usage: sakila replay");
-    2
 }

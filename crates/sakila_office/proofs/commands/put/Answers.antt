@@ -1,0 +1,19 @@
+use Rattle.std.proofs.Common.{◌∙◌}
+use Rattle.shop_types.specs.Replies.{seen_reply}
+use Rattle.sakila_office.specs.Commands.{answered}
+use Rattle.sakila_office.proofs.Books.{is_opened}
+use Rattle.sakila_office.proofs.commands.put.Goals as goal
+
+pub returns-in-Ok : goal.returns-in-Ok
+returns-in-Ok g c =
+    let opened = c.in-Ok.ensures.opened in
+    let files = opened.0 in
+    let found = opened.3 in
+    answered (seen_reply c.answer-reply.result.0) (record {
+      files = files;
+      left = c.answer-reply.result.1;
+      answers = λ honest books holds.
+          let at = found.found (c.answer-reply.ensures.honest honest) books holds in
+          let told = c.answer-reply.ensures.answers honest books books at in
+          rw (← is_opened c.in-Ok.chain books (found.limits ∙ c.default.ensures) found.live) told;
+    }) c.tell.ensures

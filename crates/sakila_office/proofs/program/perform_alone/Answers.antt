@@ -1,0 +1,4 @@
+use Rattle.sakila_office.proofs.program.perform_alone.Goals as goal
+
+pub returns-in-Replay : goal.returns-in-Replay
+returns-in-Replay g c = rw c.in-Replay.is c.replay.ensures

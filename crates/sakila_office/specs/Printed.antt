@@ -1,0 +1,25 @@
+-- What the program prints, and the status that it ends with.
+use Rattle.std.specs.Prelude.{◌≡◌, ◌≢◌, ◌⊎◌, ◌==◌, ℕ, List, [], ◌∷◌, ◌++◌, Option, if◌then◌else◌}
+use Rattle.std.specs.Io.KnownBytes.{Appends, Keeps}
+use Rattle.shop_model.specs.Answers.{Answer}
+
+-- the text and a line's end
+abbrev pub line_bytes : List ℕ → List ℕ
+line_bytes text = text ++ 10 ∷ []
+
+-- the text is printed as a line, with status 0; where standard output fails the status is 3
+abbrev pub IsPrinted : List ℕ → ℕ → Option (List ℕ) → Option (List ℕ) → Type 0
+IsPrinted text status output written = ((status ≡ 0) × Appends output written (line_bytes text)) ⊎ (status ≡ 3)
+
+-- nothing is printed on standard output, with that status
+abbrev pub IsSilent : ℕ → ℕ → Option (List ℕ) → Option (List ℕ) → Type 0
+IsSilent wanted status output written = (status ≡ wanted) × Keeps output written
+
+-- 3 where the chain couldn't do its part, for want of memory or room or because its store failed, and 1 for any other refusal
+abbrev pub refused_status : ℕ → ℕ
+refused_status status = if status == 503 then 3 else 1
+
+-- the body of an accepted answer is printed on standard output, and of a refusal nothing
+pub record IsTold (answer : Answer) (status : ℕ) (output written : Option (List ℕ)) : Type 0 where
+  pub accepted : answer.status ≡ 200 → IsPrinted answer.body status output written
+  pub refused : answer.status ≢ 200 → IsSilent (refused_status answer.status) status output written

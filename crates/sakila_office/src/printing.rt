@@ -1,0 +1,69 @@
+//! What is printed, and the status that goes with it.
+ghost use Rattle.std.specs.Prelude.{◌≡◌, OnOk};
+ghost use Rattle.std.specs.Io.KnownBytes.{Appends};
+ghost use Rattle.shop_types.specs.Replies.{seen_reply};
+ghost use Rattle.sakila_office.specs.Printed.{line_bytes, IsPrinted, IsTold};
+
+use chain_engine::OpenFault;
+use shop_types::Reply;
+use std::io::{self, Write};
+
+fn write_line<W: Write>(writer: &mut W, text: &[u8]) -> io::Result<()>
+    ensures { OnOk result (Appends (W.contents writer.old) (W.contents writer.new) (line_bytes text.now)) }
+{
+    writer.write_all(text)?;
+    writer.write_all(b"\n")
+}
+
+/// Prints a line on standard output, with status 0.
+pub(crate) fn print<W: Write>(out: &mut W, text: &[u8]) -> u8
+    ensures { IsPrinted text.now result (W.contents out.old) (W.contents out.new) }
+{
+    match write_line(out, text) {
+        Ok(()) => 0,
+        Err(_) => 3,
+    }
+}
+
+/// Prints what a chain replied: an accepted answer on standard output, a refusal on standard error.
+pub(crate) fn tell<W: Write, E: Write>(reply: &Reply, out: &mut W, err: &mut E) -> u8
+    ensures { IsTold (seen_reply reply.now) result (W.contents out.old) (W.contents out.new) }
+{
+    if reply.status == 200 {
+        return print(out, reply.body_bytes());
+    }
+    let _ = write_line(err, reply.body_bytes());
+    if reply.status == 503 { 3 } else { 1 }
+}
+
+/// Prints why there is no chain.
+pub(crate) fn tell_fault<E: Write>(fault: OpenFault, err: &mut E) -> u8
+    ensures { result ≡ 3 }
+{
+    let _ = writeln!(err, "store: {fault}");
+    3
+}
+
+/// Prints what is wrong with the words.
+pub(crate) fn tell_usage<E: Write>(text: &str, err: &mut E) -> u8
+    ensures { result ≡ 2 }
+{
+    let _ = write_line(err, text.trim_end().as_bytes());
+    2
+}
+
+/// Prints that `--db` is missing, or is there where it may not be.
+pub(crate) fn tell_misplaced<E: Write>(err: &mut E) -> u8
+    ensures { result ≡ 2 }
+{
+    let _ = write_line(err, b"usage: --db");
+    2
+}
+
+/// Prints that the subcommand isn't one of this program's yet.
+pub(crate) fn tell_unbuilt<E: Write>(err: &mut E) -> u8
+    ensures { result ≡ 2 }
+{
+    let _ = write_line(err, b"error: this subcommand isn't built yet");
+    2
+}
