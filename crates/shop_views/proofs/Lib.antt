@@ -1,1 +1,4 @@
 pub mod OverdueLemmas
+pub mod JoinLemmas
+pub mod RowTexts
+pub mod PageLemmas

@@ -26,8 +26,7 @@ fn customer_name(alloc: Global, first: &str, last: &str) -> Result<String, Alloc
     format!(in alloc; "{last}, {first}")
 }
 
-/// One rental, as an object.
-fn overdue_row(alloc: Global, row: &OverdueRow) -> Result<Value, AllocError>
+fn overdue_value(alloc: Global, row: &OverdueRow) -> Result<Value, AllocError>
     ensures { IfOk result (λ v. view v ≡ overdue_data (seen_overdue row.now)) }
 {
     let customer = customer_name(alloc, row.first.as_str(), row.last.as_str())?;
@@ -36,6 +35,15 @@ fn overdue_row(alloc: Global, row: &OverdueRow) -> Result<Value, AllocError>
         "phone": row.phone.as_str(),
         "title": row.title.as_str()
     })
+}
+
+/// One rental, as an object.
+pub fn overdue_row(alloc: Global, row: &OverdueRow) -> Result<Value, AllocError>
+    ensures value { IfOk result (λ v. view v ≡ overdue_data (seen_overdue row.now)) }
+    ensures text { IfOk result (λ v. compact_text (view v) ≡ overdue_text (seen_overdue row.now)) }
+    ensures no_float { IfOk result (λ v. has_float (view v) ≡ false) }
+{
+    overdue_value(alloc, row)
 }
 
 /// The rentals in their order, as a list of objects.
@@ -52,7 +60,7 @@ fn overdue_list(alloc: Global, rows: &[OverdueRow]) -> Result<Value, AllocError>
 {
     let mut items = Vec::with_capacity(alloc, rows.len())?;
     for row in rows {
-        items.push_reserved(overdue_row(alloc, row)?);
+        items.push_reserved(overdue_value(alloc, row)?);
     }
     Ok(Value::Array(items))
 }

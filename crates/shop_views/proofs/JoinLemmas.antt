@@ -1,0 +1,23 @@
+-- Texts that are joined.
+use Rattle.std.proofs.Common.{◌≡◌, ◌∙◌, refl, sym, ap, ℕ, List, [], ◌∷◌, ◌++◌, map}
+use Rattle.std.specs.Prelude.{String, string_bytes}
+use Rattle.std.specs.List.{join_by, flat_map}
+use Rattle.std.specs.declared.alloc.Global.{Global}
+
+flat_is : {X : Type 0} (f : X → List ℕ) (separator : List ℕ) (xs : List X) → flat_map (λ y. separator ++ f y) xs ≡ flat_map (λ y. separator ++ y) (map f xs)
+flat_is f separator [] = refl
+flat_is f separator (x ∷ xs) = ap (λ (l : List ℕ). (separator ++ f x) ++ l) (flat_is f separator xs)
+
+join_map : {X : Type 0} (f : X → List ℕ) (separator : List ℕ) (xs : List X) → join_by f separator xs ≡ join_by (λ (piece : List ℕ). piece) separator (map f xs)
+join_map f separator [] = refl
+join_map f separator (x ∷ xs) = ap (λ (l : List ℕ). f x ++ l) (flat_is f separator xs)
+
+-- a text that is joined of others, each of which is that of a value
+pub joined_texts : {X : Type 0} (f : X → List ℕ) (separator text : List ℕ) (slice texts : List (String Global)) (xs : List X) → text ≡ join_by string_bytes separator slice → slice ≡ texts → map string_bytes texts ≡ map f xs → text ≡ join_by f separator xs
+joined_texts f separator text slice texts xs is same each =
+    is ∙ ap (λ (l : List (String Global)). join_by string_bytes separator l) same
+    ∙ join_map string_bytes separator texts ∙ ap (λ (l : List (List ℕ)). join_by (λ (piece : List ℕ). piece) separator l) each ∙ sym (join_map f separator xs)
+
+pub each_itself : (texts : List (List ℕ)) → texts ≡ map (λ (text : List ℕ). text) texts
+each_itself [] = refl
+each_itself (text ∷ texts) = ap (λ (l : List (List ℕ)). text ∷ l) (each_itself texts)

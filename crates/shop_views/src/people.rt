@@ -1,0 +1,113 @@
+//! Customers and staff as the lists of people show them.
+
+ghost use Rattle.std.specs.Prelude.{◌≡◌, [], codes, false, if◌then◌else◌, IfOk};
+ghost use Rattle.serde_json.specs.View.{view};
+ghost use Rattle.serde_json.specs.Written.{compact_text, has_float};
+ghost use Rattle.shop_model.specs.Answers.{listed_customer, person_text};
+ghost use Rattle.shop_views.specs.People.{person_as, seen_customer, seen_staff, customer_data, staff_data};
+
+use crate::names::{PersonName, full_name};
+use serde_json::{Value, json};
+use shop_values::{BranchNo, CustomerNo, L45, StaffNo, T128};
+use std::alloc::{AllocError, Global};
+
+/// A person of a branch, with the names of the city and of its country.
+#[derive(Clone, Debug, Drop, PartialEq, Eq)]
+pub struct ListedPerson {
+    pub branch: BranchNo,
+    pub name: PersonName,
+    pub address: T128,
+    /// The postal code, which may be empty.
+    pub postal: L45,
+    /// The telephone number, which may be empty.
+    pub phone: L45,
+    /// The city's name, empty where there is no such city.
+    pub city: L45,
+    /// The name of the city's country, empty where there is none.
+    pub country: L45,
+}
+
+/// A customer and its number.
+#[derive(Clone, Debug, Drop, PartialEq, Eq)]
+pub struct CustomerRow {
+    pub number: CustomerNo,
+    pub person: ListedPerson,
+    /// Whether the customer may rent.
+    pub active: bool,
+}
+
+/// A member of staff and its number.
+#[derive(Clone, Debug, Drop, PartialEq, Eq)]
+pub struct StaffRow {
+    pub number: StaffNo,
+    pub person: ListedPerson,
+}
+
+/// What the list notes of a customer.
+fn note_of(active: bool) -> &'static str
+    ensures { result.now ≡ (if active then codes "active" else []) }
+{
+    if active { "active" } else { "" }
+}
+
+/// The customer by that whole name.
+fn customer_object(alloc: Global, row: &CustomerRow, name: &str) -> Result<Value, AllocError>
+    ensures { IfOk result (λ v. view v ≡ customer_data (person_as row.now.number name.now row.now.person, row.now.active)) }
+{
+    let person = &row.person;
+    let note = note_of(row.active);
+    json!(in alloc; {
+        "address": person.address.as_str(),
+        "branch": person.branch.get(),
+        "city": person.city.as_str(),
+        "country": person.country.as_str(),
+        "id": row.number.get(),
+        "name": name,
+        "note": note,
+        "phone": person.phone.as_str(),
+        "postal": person.postal.as_str()
+    })
+}
+
+fn customer_value(alloc: Global, row: &CustomerRow) -> Result<Value, AllocError>
+    ensures { IfOk result (λ v. view v ≡ customer_data (seen_customer row.now)) }
+{
+    let names = &row.person.name;
+    let name = full_name(alloc, names.first.as_str(), names.last.as_str())?;
+    customer_object(alloc, row, name.as_str())
+}
+
+/// A customer of `customer_list`, as an object: `id` is the customer's number, and who may not rent has an empty note.
+pub fn customer_row(alloc: Global, row: &CustomerRow) -> Result<Value, AllocError>
+    ensures value { IfOk result (λ v. view v ≡ customer_data (seen_customer row.now)) }
+    ensures text { IfOk result (λ v. compact_text (view v) ≡ listed_customer (seen_customer row.now)) }
+    ensures no_float { IfOk result (λ v. has_float (view v) ≡ false) }
+{
+    customer_value(alloc, row)
+}
+
+fn staff_value(alloc: Global, row: &StaffRow) -> Result<Value, AllocError>
+    ensures { IfOk result (λ v. view v ≡ staff_data (seen_staff row.now)) }
+{
+    let staff = &row.person;
+    let name = full_name(alloc, staff.name.first.as_str(), staff.name.last.as_str())?;
+    json!(in alloc; {
+        "address": staff.address.as_str(),
+        "branch": staff.branch.get(),
+        "city": staff.city.as_str(),
+        "country": staff.country.as_str(),
+        "id": row.number.get(),
+        "name": name.as_str(),
+        "phone": staff.phone.as_str(),
+        "postal": staff.postal.as_str()
+    })
+}
+
+/// A member of staff of `staff_list`, as an object: `id` is the number of the member of staff.
+pub fn staff_row(alloc: Global, row: &StaffRow) -> Result<Value, AllocError>
+    ensures value { IfOk result (λ v. view v ≡ staff_data (seen_staff row.now)) }
+    ensures text { IfOk result (λ v. compact_text (view v) ≡ person_text [] (seen_staff row.now)) }
+    ensures no_float { IfOk result (λ v. has_float (view v) ≡ false) }
+{
+    staff_value(alloc, row)
+}
