@@ -12,6 +12,7 @@ mod shops;
 mod tables;
 mod talk;
 mod texts;
+mod words;
 
 use crate::serving::serve_input;
 use crate::talk::Talk;
@@ -37,7 +38,7 @@ fn play(rt: &HostRuntime, path: &str, seen: &mut Vec<String>, sum: Sum) -> Sum {
         };
     };
     let mut out = rt.stdout();
-    let mut talk = Talk::new(rt.alloc(), path, seen);
+    let mut talk = Talk::new(rt, path, seen);
     for (index, line) in text.as_str().lines().enumerate() {
         talk.takes(&mut out, index.saturating_add(1), line);
     }

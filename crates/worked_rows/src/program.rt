@@ -1,5 +1,5 @@
 //! The whole program, run with some words on a standard input of its own.
-ghost use Rattle.std.specs.Prelude.{◌≡◌, Some, OnOk};
+ghost use Rattle.std.specs.Prelude.{◌≡◌, ◌≢◌, Some, true, false, [], OnOk};
 
 use crate::fault::{Fault, shown};
 use sakila_office::run;
@@ -14,33 +14,26 @@ pub struct Run {
     wanted_status: Option<u8>,
     wanted_out: Vec<u8>,
     wanted_err: Vec<u8>,
-}
-
-fn words_of(alloc: Global, line: &str) -> Result<Vec<String>, Fault> {
-    let mut words = Vec::new(alloc);
-    for word in line.split(' ') {
-        if !word.is_empty() {
-            words.push(String::from_str(alloc, word)?)?;
-        }
-    }
-    Ok(words)
+    /// Whether the usage is wanted on standard error, whatever its text is.
+    is_usage: bool,
 }
 
 impl Run {
-    /// Runs the program with the words of the line.
-    pub fn new(alloc: Global, line: &str, mut input: &[u8]) -> Result<Run, Fault> {
-        let words = words_of(alloc, line)?;
+    /// Runs the program with these words.
+    pub fn new(rt: &HostRuntime, words: &[String], mut input: &[u8]) -> Run {
+        let alloc = rt.alloc();
         let mut out = Vec::new(alloc);
         let mut err = Vec::new(alloc);
-        let status = run(alloc, words.as_slice(), &mut input, &mut out, &mut err);
-        Ok(Run {
+        let status = run(rt, words, &mut input, &mut out, &mut err);
+        Run {
             status,
             out,
             err,
             wanted_status: None,
             wanted_out: Vec::new(alloc),
             wanted_err: Vec::new(alloc),
-        })
+            is_usage: false,
+        }
     }
 
     pub fn wants_status(&mut self, text: &str) -> Result<(), Fault> {
@@ -49,6 +42,12 @@ impl Run {
             Err(_) => return Err(Fault::Line("this is no status of a program")),
         }
         Ok(())
+    }
+
+    /// The usage is wanted: status 2, and some text on standard error.
+    pub fn wants_usage(&mut self) {
+        self.wanted_status = Some(2);
+        self.is_usage = true;
     }
 
     /// More is wanted on standard output, behind what is wanted there already.
@@ -63,11 +62,23 @@ impl Run {
         Ok(())
     }
 
+    /// Whether standard error has what is wanted there.
+    fn is_told(&self) -> bool
+        ensures usage { result ≡ true → self.now.is_usage ≡ true → self.now.err.items ≢ [] }
+        ensures err { result ≡ true → self.now.is_usage ≡ false → self.now.err.items ≡ self.now.wanted_err.items }
+    {
+        if self.is_usage {
+            return !self.err.is_empty() && self.wanted_err.is_empty();
+        }
+        self.err.as_slice() == self.wanted_err.as_slice()
+    }
+
     /// Whether the program ended so: its status, and what it wrote to both its outputs.
     pub fn settle(&self, alloc: Global) -> Result<(), Fault>
         ensures status { OnOk result (self.now.wanted_status ≡ Some self.now.status) }
         ensures out { OnOk result (self.now.out.items ≡ self.now.wanted_out.items) }
-        ensures err { OnOk result (self.now.err.items ≡ self.now.wanted_err.items) }
+        ensures usage { OnOk result (self.now.is_usage ≡ true → self.now.err.items ≢ []) }
+        ensures err { OnOk result (self.now.is_usage ≡ false → self.now.err.items ≡ self.now.wanted_err.items) }
     {
         if self.wanted_status != Some(self.status) {
             return Err(Fault::Status(self.status));
@@ -75,7 +86,7 @@ impl Run {
         if self.out.as_slice() != self.wanted_out.as_slice() {
             return Err(Fault::Output("out", shown(alloc, self.out.as_slice())?));
         }
-        if self.err.as_slice() != self.wanted_err.as_slice() {
+        if !self.is_told() {
             return Err(Fault::Output("err", shown(alloc, self.err.as_slice())?));
         }
         Ok(())

@@ -6,6 +6,7 @@ use crate::program::Run;
 use crate::quoted::unquoted;
 use crate::shops::{How, Shop, WHOLE, new_shop};
 use crate::texts::request;
+use crate::words::words_of;
 use std::alloc::Global;
 
 /// What was asked last, and what is wanted of it.
@@ -16,7 +17,8 @@ enum Asked {
 }
 
 #[derive(Drop)]
-pub struct Row {
+pub struct Row<'t> {
+    rt: &'t HostRuntime,
     alloc: Global,
     shop: Option<Shop>,
     asked: Option<Asked>,
@@ -26,10 +28,11 @@ pub struct Row {
     count: u32,
 }
 
-impl Row {
-    pub fn new(alloc: Global) -> Row {
+impl<'t> Row<'t> {
+    pub fn new(rt: &'t HostRuntime) -> Row<'t> {
         Row {
-            alloc,
+            rt,
+            alloc: rt.alloc(),
             shop: None,
             asked: None,
             how: WHOLE,
@@ -181,13 +184,14 @@ impl Row {
         Ok(())
     }
 
-    fn runs(&mut self, line: &str) -> Result<(), Fault> {
+    fn runs(&mut self, names: &Names, line: &str) -> Result<(), Fault> {
         self.settle()?;
+        let words = words_of(self.alloc, names.filled(line)?.as_slice())?;
         let input = match self.input.take() {
             Some(input) => input,
             None => Vec::new(self.alloc),
         };
-        let run = Run::new(self.alloc, line, input.as_slice())?;
+        let run = Run::new(self.rt, words.as_slice(), input.as_slice());
         self.asked = Some(Asked::Program(run));
         self.counts();
         Ok(())
@@ -201,6 +205,11 @@ impl Row {
         match word {
             "out" => run.wants_out(bytes.as_slice()),
             "err" => run.wants_err(bytes.as_slice()),
+            "usage" if line.is_empty() => {
+                run.wants_usage();
+                Ok(())
+            }
+            "usage" => Err(Fault::Line("the usage's text isn't compared")),
             _ => run.wants_status(line),
         }
     }
@@ -208,7 +217,9 @@ impl Row {
     /// Compares what was asked last, where a line with this first word says no more of it.
     pub fn settle_before(&mut self, word: &str) -> Result<(), Fault> {
         match word.as_bytes() {
-            b"let" | b"end" | b"status" | b"out" | b"err" | [b'1'..=b'9', _, _] => Ok(()),
+            b"let" | b"end" | b"status" | b"out" | b"err" | b"usage" | [b'1'..=b'9', _, _] => Ok(
+                (),
+            ),
             _ => self.settle(),
         }
     }
@@ -227,8 +238,8 @@ impl Row {
             "pieces" | "cut" | "most" | "room" => self.comes(word, rest),
             "end" => self.ends(rest),
             "stdin" => self.reads(names, rest),
-            "words" => self.runs(rest),
-            "status" | "out" | "err" => self.has_run(names, word, rest),
+            "words" => self.runs(names, rest),
+            "status" | "out" | "err" | "usage" => self.has_run(names, word, rest),
             _ => self.plays_exchange(names, word, rest),
         }
     }

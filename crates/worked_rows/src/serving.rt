@@ -2,7 +2,7 @@
 use crate::tables::new_tables;
 use chain_engine::Chain;
 use counter_http::{End, serve};
-use sakila_office::NoWords;
+use office_words::ClapWords;
 use shop_types::Limits;
 use sqlite::{Alter, Connection, Options};
 use sqlite_disk::Unknown;
@@ -19,7 +19,7 @@ fn served<R: Read, W: Write, S: Alter>(
     chain: &mut Chain<S>,
     most: u32,
 ) -> Result<(), &'static str> {
-    match serve(alloc, reader, out, chain, &NoWords::new(alloc), most) {
+    match serve(alloc, reader, out, chain, &ClapWords { alloc }, most) {
         Ok(served) => match served.end {
             End::Closed | End::Asked | End::Limit => Ok(()),
             End::Cut => Err("the input is cut"),

@@ -3,7 +3,7 @@ use crate::fault::Fault;
 use crate::tables::{change, new_tables};
 use chain_engine::{Chain, OpenFault};
 use counter_http::{End, ServeFault, Served, serve};
-use sakila_office::NoWords;
+use office_words::ClapWords;
 use shop_types::Limits;
 use sqlite::{Alter, Connection, FileStore, Files, MemStore, Options};
 use sqlite_disk::Memory;
@@ -95,7 +95,7 @@ fn told_by<S: Alter>(
     input: &[u8],
     how: How,
 ) -> Result<Told, Fault> {
-    let words = NoWords::new(alloc);
+    let words = ClapWords { alloc };
     let mut reader = Pieces {
         bytes: &input[..how.cut.min(input.len())],
         most: how.pieces,
