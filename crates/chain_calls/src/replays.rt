@@ -14,9 +14,10 @@ fn text<const LOW: usize, const HIGH: usize>(
     Ok(Text::read(String::from_str(alloc, text)?).ok_or("text")?)
 }
 
-fn new_customer(alloc: Global) -> Result<Command, Fail> {
+/// A command under the key, which makes a customer.
+pub(crate) fn new_customer(alloc: Global, key: &str) -> Result<Command, Fail> {
     Ok(Command {
-        key: Key::read(String::from_str(alloc, "k1")?).ok_or("key")?,
+        key: Key::read(String::from_str(alloc, key)?).ok_or("key")?,
         staff: StaffNo::new(1).ok_or("staff")?,
         at: Moment::read("2026-03-01T10:00:00").ok_or("moment")?,
         act: Act::Customer(Person {
@@ -36,7 +37,7 @@ fn first_customer(rt: HostRuntime) -> Result<(), Fail> {
     let alloc = rt.alloc();
     let mut chain = Chain::demo(alloc, Limits::default())?;
     let token = Token::read(b"11111111111111111111111111111111").ok_or("token")?;
-    let requests = [(token, Request::Do(new_customer(alloc)?))];
+    let requests = [(token, Request::Do(new_customer(alloc, "k1")?))];
     let replies = chain.replay(&requests)?;
     assert_eq!(rt; replies.len(), 1);
     for told in &replies {

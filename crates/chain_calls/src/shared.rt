@@ -81,6 +81,14 @@ fn opened<'a, S: Alter>(conn: &'a mut Connection<S>) -> Result<Transaction<'a, S
     Ok(tx)
 }
 
+/// Commits the opening rows to a new database.
+pub(crate) fn put_rows<S: Alter>(conn: &mut Connection<S>) -> Result<(), &'static str> {
+    match opened(conn)?.commit() {
+        Ok(()) => Ok(()),
+        Err(_) => Err("the opening rows aren't committed"),
+    }
+}
+
 #[test]
 fn shared_rows_are_found(rt: HostRuntime) -> Result<(), Fail> {
     let Ok(mut conn) = Connection::open_in_memory(rt.alloc()) else {

@@ -16,4 +16,6 @@ mod types;
 #[cfg(test)]
 mod values;
 #[cfg(test)]
+mod views;
+#[cfg(test)]
 mod words;

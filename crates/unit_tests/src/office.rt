@@ -1,5 +1,5 @@
 //! Head office's values and decisions, over what was found by hand.
-use catalogue_core::{BranchFound, OfficeChange, Shared, decide_office};
+use catalogue_core::{BranchFound, OfficeChange, Shared, SharedRows, decide_office};
 use reply_bodies::office_text;
 use shop_types::*;
 use std::alloc::Global;
@@ -41,17 +41,12 @@ fn decided(alloc: Global, act: OfficeAct, facts: Facts) -> Result<Result<bool, R
         kept,
         keys: facts.keys,
         office_token,
-        has_token: false,
-        is_named: false,
-        has_country: false,
-        has_city: false,
-        has_language: false,
-        has_category: false,
-        has_actor: false,
-        has_cast: false,
-        film: facts.film,
-        branch: facts.branch,
-        staff: facts.staff,
+        rows: SharedRows {
+            film: facts.film,
+            branch: facts.branch,
+            staff: facts.staff,
+            ..SharedRows::none()
+        },
     };
     Ok(match decide_office(&command, &shared, limits) {
         Ok(OfficeChange::Again(_)) => Ok(true),
