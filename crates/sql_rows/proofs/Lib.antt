@@ -23,3 +23,5 @@ pub mod Projects
 pub mod Stays
 pub mod Tells
 pub mod Drops
+pub mod EachLemmas
+pub mod Joins

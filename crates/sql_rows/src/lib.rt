@@ -1,13 +1,15 @@
-//! Rows of SQL tables as values, for any schema: what tables stand for, how a table is made, and how rows are read.
+//! Rows of SQL tables as values, for any schema: what tables stand for, how a table is made, and how rows are read, all at once or one at a time.
 #![tactic(auto)]
 
 mod call;
+mod each;
 mod fault;
 mod make;
 mod stored;
 mod text;
 
 pub use call::{execute, query};
+pub use each::{TakesRows, each_row};
 pub use fault::{StoreFault, fault_of};
 pub use make::make_tables;
 pub use stored::{

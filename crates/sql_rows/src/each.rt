@@ -1,0 +1,65 @@
+//! A query whose rows are taken one at a time, outside any transaction.
+
+ghost use Rattle.std.specs.Prelude.{◌≡◌, ℕ, List, [], ◌∷◌, ◌++◌, false, OnOk};
+ghost use Rattle.sqlite.specs.Held.{state};
+ghost use Rattle.sqlite.specs.Given.{IsPlain, HasGiven};
+ghost use Rattle.sqlite.specs.Listing.{understood};
+ghost use Rattle.sqlite.specs.State.{HasCleanDisk, IsUnchanged, KeepsCommit, Survives, Shown};
+ghost use Rattle.sqlite.specs.Values.{bound};
+ghost use Rattle.sqlite_value.specs.Order.{Row as SqlRow};
+
+use crate::fault::{StoreFault, fault_of};
+use sqlite::types::ValueRef;
+use sqlite::{Alter, Connection, Row, Rows};
+
+/// What takes the rows of an answer in their order.
+pub trait TakesRows: Sized {
+    // what was the first has come to this by these rows
+    ghost took: { Self → Self → List SqlRow → Type 0 };
+
+    fn take(&mut self, row: &Row) -> Result<(), StoreFault>
+        ensures { OnOk result ((first : _) (given : List SqlRow) → took first self.old given → took first self.new (given ++ row.now ∷ [])) };
+}
+
+/// Hands the rows of an answer that has just begun to `taker`, up to its end.
+fn take_all<S: Alter, T: TakesRows>(rows: &mut Rows<'_, S>, taker: &mut T) -> Result<(), StoreFault>
+    ensures same_reference { rows.new.conn.ghost_name ≡ rows.old.conn.ghost_name }
+    ensures took { HasCleanDisk (state S.Store rows.new.conn.now) → OnOk result ((sql : List ℕ) (params : SqlRow) → IsPlain (understood rows.old.conn.now.schema sql) → HasGiven S.Store sql params rows.old.conn.now []
+        → (given : List SqlRow) × Shown sql params (state S.Store rows.old.conn.now) (state S.Store rows.new.conn.now) given × (T.TakesRows.took taker.old taker.old [] → T.TakesRows.took taker.old taker.new given)) }
+    ensures same { HasCleanDisk (state S.Store rows.new.conn.now) → OnOk result (IsUnchanged (state S.Store rows.old.conn.now) (state S.Store rows.new.conn.now)) }
+    ensures kept { HasCleanDisk (state S.Store rows.new.conn.now) → KeepsCommit (state S.Store rows.old.conn.now) (state S.Store rows.new.conn.now) }
+    ensures mode { rows.old.conn.now.in_transaction ≡ false → rows.new.conn.now.in_transaction ≡ false }
+    ensures survives { Survives (state S.Store rows.old.conn.now) (state S.Store rows.new.conn.now) (λ _. ⊥) }
+{
+    'rows: for _ in 0..u64::MAX {
+        if let Err(error) = rows.advance() {
+            return Err(fault_of(error));
+        }
+        let Some(row) = rows.get() else {
+            return Ok(());
+        };
+        taker.take(row)?;
+    }
+    Err(StoreFault::Failed)
+}
+
+/// Hands the rows that a query shows to `taker`, one at a time. The database stays as it was, unless the store fails, which commits nothing.
+pub fn each_row<S: Alter, T: TakesRows>(
+    conn: &mut Connection<S>,
+    text: &str,
+    params: &[ValueRef<'_>],
+    taker: &mut T,
+) -> Result<(), StoreFault>
+    requires { IsPlain (understood conn.old.schema text.now) }
+    ensures took { HasCleanDisk (state S.Store conn.new) → OnOk result ((rows : List SqlRow) × Shown text.now (bound params.now) (state S.Store conn.old) (state S.Store conn.new) rows × (T.TakesRows.took taker.old taker.old [] → T.TakesRows.took taker.old taker.new rows)) }
+    ensures same { HasCleanDisk (state S.Store conn.new) → OnOk result (IsUnchanged (state S.Store conn.old) (state S.Store conn.new)) }
+    ensures kept { HasCleanDisk (state S.Store conn.new) → KeepsCommit (state S.Store conn.old) (state S.Store conn.new) }
+    ensures mode { conn.old.in_transaction ≡ false → conn.new.in_transaction ≡ false }
+    ensures survives { Survives (state S.Store conn.old) (state S.Store conn.new) (λ _. ⊥) }
+{
+    let mut rows = match conn.query(text, params) {
+        Ok(rows) => rows,
+        Err(error) => return Err(fault_of(error)),
+    };
+    take_all(&mut rows, taker)
+}
