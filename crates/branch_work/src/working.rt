@@ -7,7 +7,7 @@ ghost use Rattle.sql_rows.specs.Calls.{StaysInside, StaysWithin};
 ghost use Rattle.shop_model.specs.Calendar.{IsMoment};
 ghost use Rattle.shop_model.specs.Rows.{lacks, owned_by};
 ghost use Rattle.shop_model.specs.Values as model;
-ghost use Rattle.shop_model.specs.Values.{OneCustomer, InStock, HeldBy};
+ghost use Rattle.shop_model.specs.Values.{OneCustomer, OneFilm, InStock, HeldBy};
 ghost use Rattle.shop_model.specs.Shop.{Shop};
 ghost use Rattle.shop_model.specs.Refusals as named;
 ghost use Rattle.shop_model.specs.Verdict.{Verdict, Refused, Accepted, verdict};
@@ -28,8 +28,8 @@ use crate::finding::{find, kept_found};
 use crate::looking::{find_here, find_holder, find_of_film};
 use crate::reports::{look_balance, look_overdue, look_rewards};
 use branch_core::{Change, FilmCopy, Rows, decide, film_in_stock, film_not_in_stock};
-use catalogue_store::film_at;
-use reply_bodies::{copies_text, customer_text, holder_text, in_stock_text};
+use catalogue_store::{film_at, film_row};
+use reply_bodies::{copies_text, customer_text, film_text, holder_text, in_stock_text};
 use shop_schema::{command_form, command_values};
 use shop_store::{customer_at, kept_at, last_at, out_at};
 use shop_types::{
@@ -75,10 +75,11 @@ fn look<S: Alter>(
 {
     match ask {
         Ask::Customer(number) => look_customer(alloc, tx, branch, number),
+        Ask::Film(number) => look_film(alloc, tx, branch, number),
         Ask::InStock(copy) => look_in_stock(alloc, tx, branch, copy),
         Ask::HeldBy(copy) => look_holder(alloc, tx, branch, copy),
-        Ask::FilmInStock(film) => look_film(alloc, tx, branch, film, true),
-        Ask::FilmNotInStock(film) => look_film(alloc, tx, branch, film, false),
+        Ask::FilmInStock(film) => look_film_copies(alloc, tx, branch, film, true),
+        Ask::FilmNotInStock(film) => look_film_copies(alloc, tx, branch, film, false),
         Ask::Balance { customer, at } => look_balance(alloc, tx, branch, customer, at),
         Ask::Overdue(at) => look_overdue(alloc, tx, branch, at),
         Ask::Rewards {
@@ -106,6 +107,26 @@ fn look_customer<S: Alter>(
             Err(_) => Err(StoreFault::Memory),
         },
         None => Ok(Reply::refused(Refusal::NoCustomer)),
+    }
+}
+
+/// Tells of a film, which may be withdrawn. The branch is only the one that asks.
+fn look_film<S: Alter>(
+    alloc: Global,
+    tx: &mut Transaction<'_, S>,
+    branch: BranchNo,
+    number: FilmNo,
+) -> Result<Reply, StoreFault>
+    ensures same_reference { tx.new.conn.ghost_name ≡ tx.old.conn.ghost_name }
+    ensures inside { StaysWithin (state S.Store tx.old.conn.now) (state S.Store tx.new.conn.now) result }
+    ensures works { HasCleanDisk (state S.Store tx.new.conn.now) → IfOk result (λ reply. (limits : _) → WorksFor limits branch None (Look (OneFilm number)) (seen_reply reply) false (state S.Store tx.old.conn.now) (state S.Store tx.new.conn.now)) }
+{
+    match film_row(tx, number)? {
+        Some(row) => match film_text(alloc, number, &row.film, row.withdrawn) {
+            Ok(text) => Ok(Reply::accepted(text)),
+            Err(_) => Err(StoreFault::Memory),
+        },
+        None => Ok(Reply::refused(Refusal::NoFilm)),
     }
 }
 
@@ -152,7 +173,7 @@ fn look_holder<S: Alter>(
 }
 
 /// Lists the copies of a film that are here and in stock, or here and not in stock.
-fn look_film<S: Alter>(
+fn look_film_copies<S: Alter>(
     alloc: Global,
     tx: &mut Transaction<'_, S>,
     branch: BranchNo,

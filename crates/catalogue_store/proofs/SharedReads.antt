@@ -39,7 +39,7 @@ of_number = op2 (Compare Eq Binary) (col 1 1) (col 0 0) ∷ []
 
 -- `shown` are the columns that the text asks for, and `show` the same of a row's columns
 module _ {A : Type 0} (t : ByNumber A) (text : List ℕ) (shown : List Term) where
-  abbrev width : ℕ
+  abbrev pub width : ℕ
   width = length t.table.columns
 
   abbrev pub asked : Query
@@ -51,10 +51,10 @@ module _ {A : Type 0} (t : ByNumber A) (text : List ℕ) (shown : List Term) whe
 
   module _ (means : Selects shop_schema text asked) (show : sql.Row → sql.Row) (only : Shows show)
       (old new : State) (n : ℕ) (rows : List sql.Row) (h : Shown text (number_value n ∷ []) old new rows) (low : 1 ≤ n) where
-    still : (books : Books) → Holds old books → Holds new books
+    pub still : (books : Books) → Holds old books → Holds new books
     still = still_holds shop_schema StandsFor text (number_value n ∷ []) old new means.plain rows h
 
-    shows_shared : (books : Books) → Holds old books → rows ≡ map (λ x. show (t.columns books (n, x))) (at n (t.part.items books))
+    pub shows_shared : (books : Books) → Holds old books → rows ≡ map (λ x. show (t.columns books (n, x))) (at n (t.part.items books))
     shows_shared books holds =
         projects_one shop_schema text t.table.tree width of_number shown means (number_value n ∷ []) old new rows holds.schema_is h (t.columns books) (numbered (t.part.items books))
         (t.stood (counts_of books) books old.now.trees holds.stands) (own_rows old.now.trees t.table.tree) (λ vs. number_test 0 n vs && true) show (λ it. it.0 == n)

@@ -6,7 +6,9 @@ use Rattle.sql_rows.specs.Rows.{number_value}
 use Rattle.shop_model.specs.Values.{Text, Film, Branch, Staff}
 use Rattle.shop_model.specs.Books.{Caller, Counter, Nobody}
 use Rattle.catalogue_store.specs.declared.reads.StaffPost.{StaffPost}
+use Rattle.shop_types.specs.Seen.{seen_film}
 use Rattle.catalogue_store.specs.declared.reads.FilmTerms.{FilmTerms}
+use Rattle.catalogue_store.specs.declared.films.FilmRow.{FilmRow}
 
 -- the branch as a caller, or nobody
 abbrev pub branch_caller : Option ℕ → Caller
@@ -29,6 +31,10 @@ seen_terms terms = (terms.rate, terms.period)
 
 abbrev pub terms_of : Film → ℕ × ℕ
 terms_of film = (film.rate, film.period)
+
+-- a film that was found, withdrawn or not
+abbrev pub seen_film_row : FilmRow → Film
+seen_film_row row = record (seen_film row.film) { withdrawn = row.withdrawn }
 
 abbrev pub title_of : Film → Text
 title_of film = film.title

@@ -1,20 +1,19 @@
-ghost use Rattle.std.specs.Prelude.{◌≡◌, ◌≢◌, ◌≤◌, ◌<◌, ℕ, IfOk, IfErr, length, map, option_map};
+ghost use Rattle.std.specs.Prelude.{◌≡◌, IfOk, map, option_map};
 ghost use Rattle.std.specs.Str.{bytes_eq};
 ghost use Rattle.sqlite.specs.Held.{state};
 ghost use Rattle.sqlite.specs.State.{HasCleanDisk};
 ghost use Rattle.sqlite.specs.declared.types.Value.TheVariants.{Text};
 ghost use Rattle.sqlite_value.specs.Order.{column};
 ghost use Rattle.sql_rows.specs.Calls.{StaysInside};
-ghost use Rattle.sql_rows.specs.Rows.{number_value};
-ghost use Rattle.sql_rows.specs.declared.fault.StoreFault.TheVariants.{Failed};
 ghost use Rattle.shop_model.specs.Rows.{at};
 ghost use Rattle.shop_model.specs.Books.{head, branch_with};
 ghost use Rattle.shop_schema.specs.Shop.{Reads};
 ghost use Rattle.catalogue_store.specs.Seen.{branch_caller, seen_post, post_of, withdrawn_of, seen_terms, terms_of, title_of, manager_of};
 
+use crate::columns::{days_at, rate_at};
 use shop_schema::{row_number_at, row_number_or_null_at, text_at};
 use shop_types::{BranchNo, FilmNo, Rate, StaffNo, T128, Token};
-use sql_rows::{StoreFault, flag_at, number_at, query, words_at};
+use sql_rows::{StoreFault, flag_at, query, words_at};
 use sqlite::types::ToSql;
 use sqlite::{Alter, Row, Transaction};
 
@@ -161,31 +160,6 @@ pub fn film_at<S: Alter>(
     }
 }
 
-/// The rate in the column, in cents.
-fn rate_at(row: &Row, at: usize) -> Result<Rate, StoreFault>
-    ensures ok { IfOk result (λ n. column row.now at ≡ number_value n) }
-    ensures failed { IfErr result (λ e. e ≡ Failed → (n : ℕ) → n ≤ 9_999 → at < length row.now → column row.now at ≢ number_value n) }
-{
-    let Ok(cents) = u16::try_from(number_at(row, at)?) else {
-        return Err(StoreFault::Failed);
-    };
-    match Rate::new(cents) {
-        Some(rate) => Ok(rate),
-        None => Err(StoreFault::Failed),
-    }
-}
-
-/// The period in the column, in days.
-fn period_at(row: &Row, at: usize) -> Result<u8, StoreFault>
-    ensures ok { IfOk result (λ n. column row.now at ≡ number_value n) }
-    ensures failed { IfErr result (λ e. e ≡ Failed → (n : ℕ) → n ≤ 255 → at < length row.now → column row.now at ≢ number_value n) }
-{
-    match u8::try_from(number_at(row, at)?) {
-        Ok(days) => Ok(days),
-        Err(_) => Err(StoreFault::Failed),
-    }
-}
-
 /// By what a rental of the film of the number is charged, where there is such a film.
 pub fn film_terms<S: Alter>(
     tx: &mut Transaction<'_, S>,
@@ -204,7 +178,7 @@ pub fn film_terms<S: Alter>(
         None => Ok(None),
         Some(row) => Ok(Some(FilmTerms {
             rate: rate_at(row, 0)?,
-            period: period_at(row, 1)?,
+            period: days_at(row, 1)?,
         })),
     }
 }

@@ -2,7 +2,7 @@
 use Rattle.std.specs.Prelude.{◌≡◌, ℕ, Bool, true, false, List, Option, Some, None, option_map, option_and_then, unwrap_or, if◌then◌else◌}
 use Rattle.http_messages.specs.Message.{Message}
 use Rattle.serde_json.specs.Data.{Data}
-use Rattle.shop_model.specs.Values.{Text, Command, OfficeCommand, Ask, OneCustomer, InStock, HeldBy, FilmInStock, FilmNotInStock}
+use Rattle.shop_model.specs.Values.{Text, Command, OfficeCommand, Ask, OneCustomer, OneFilm, InStock, HeldBy, FilmInStock, FilmNotInStock}
 use Rattle.shop_model.specs.Refusals as named
 use Rattle.shop_model.specs.Machine.{Request, Unread, Do, Look, Office}
 use Rattle.shop_model.specs.Books.{Caller, Counter, HeadOffice, Nobody}
@@ -46,6 +46,7 @@ request_at message (Some route.Pay) = command_or_bad (written_in new_payment mes
 request_at message (Some route.Import) = command_or_bad (import_in message.target message.body)
 request_at message (Some route.Scrap) = command_or_bad (written_in new_scrap message.body)
 request_at message (Some route.Customer) = look_or_bad (ask_in OneCustomer message.target)
+request_at message (Some route.Film) = look_or_bad (ask_in OneFilm message.target)
 request_at message (Some route.InStock) = look_or_bad (ask_in InStock message.target)
 request_at message (Some route.HeldBy) = look_or_bad (ask_in HeldBy message.target)
 request_at message (Some route.FilmInStock) = look_or_bad (ask_in FilmInStock message.target)
@@ -91,6 +92,7 @@ is_command (Some route.Pay) = true
 is_command (Some route.Import) = true
 is_command (Some route.Scrap) = true
 is_command (Some route.Customer) = false
+is_command (Some route.Film) = false
 is_command (Some route.InStock) = false
 is_command (Some route.HeldBy) = false
 is_command (Some route.FilmInStock) = false

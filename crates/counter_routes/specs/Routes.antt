@@ -9,7 +9,7 @@ use Rattle.matchit.specs.Route.{Scan, parse_route}
 use Rattle.matchit.specs.Router.{RouteOf, route_from, nearest}
 use Rattle.matchit.specs.declared.error.InsertError.{InsertError}
 use Rattle.counter_routes.specs.declared.paths.Route.{Route}
-use Rattle.counter_routes.specs.declared.paths.Route.TheVariants.{NewCustomer, Active, Rent, Return, Pay, Import, Scrap, Customer, InStock, HeldBy, FilmInStock, FilmNotInStock, Balance, Overdue, Rewards}
+use Rattle.counter_routes.specs.declared.paths.Route.TheVariants.{NewCustomer, Active, Rent, Return, Pay, Import, Scrap, Customer, Film, InStock, HeldBy, FilmInStock, FilmNotInStock, Balance, Overdue, Rewards}
 use Rattle.counter_routes.specs.declared.paths.Pattern.{Pattern}
 
 -- the rows of a router
@@ -74,6 +74,7 @@ post_entries =
 unfoldable pub get_entries : List Entry
 get_entries =
     (codes "/customer/{n}", Customer)
+    ∷ (codes "/film/{n}", Film)
     ∷ (codes "/in-stock/{copy}", InStock)
     ∷ (codes "/held-by/{copy}", HeldBy)
     ∷ (codes "/film-in-stock/{film}", FilmInStock)

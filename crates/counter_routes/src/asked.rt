@@ -76,6 +76,7 @@ impl Routes {
             Route::Import => read_command(import_command(alloc, target, body)),
             Route::Scrap => read_command(scrap_command(alloc, body)),
             Route::Customer => Ok(read_look(number_of(target).map(Ask::Customer))),
+            Route::Film => Ok(read_look(number_of(target).map(Ask::Film))),
             Route::InStock => Ok(read_look(number_of(target).map(Ask::InStock))),
             Route::HeldBy => Ok(read_look(number_of(target).map(Ask::HeldBy))),
             Route::FilmInStock => Ok(read_look(number_of(target).map(Ask::FilmInStock))),

@@ -18,6 +18,7 @@ pub(crate) enum Route {
     Import,
     Scrap,
     Customer,
+    Film,
     InStock,
     HeldBy,
     FilmInStock,
@@ -65,10 +66,14 @@ const POST_ROUTES: [Pattern; 7] = [
     },
 ];
 
-const GET_ROUTES: [Pattern; 8] = [
+const GET_ROUTES: [Pattern; 9] = [
     Pattern {
         text: "/customer/{n}",
         route: Route::Customer,
+    },
+    Pattern {
+        text: "/film/{n}",
+        route: Route::Film,
     },
     Pattern {
         text: "/in-stock/{copy}",

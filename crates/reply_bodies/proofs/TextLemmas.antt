@@ -1,5 +1,5 @@
 -- What serde_json writes is JSON text as the definitions of the shop have it.
-use Rattle.std.proofs.Common.{◌≡◌, ◌∙◌, refl, ap, ℕ, true, false, Bool, List, [], ◌∷◌, ◌++◌, map, codes, decimal}
+use Rattle.std.proofs.Common.{◌≡◌, ◌∙◌, refl, ap, ℕ, true, false, Bool, List, [], ◌∷◌, ◌++◌, map, codes, decimal, Option, Some, None}
 use Rattle.std.specs.Prelude.{Result, IfOk, String, string_bytes}
 use Rattle.std.specs.declared.alloc.Global.{Global}
 use Rattle.std.proofs.lemmas.Result.{IfOk-weaker}
@@ -7,9 +7,10 @@ use Rattle.json.specs.Print as print
 use Rattle.serde_json.specs.Data.{Data, null, boolean, number, unsigned, string, array, object, Items, no_items, item, Members, no_members, member}
 use Rattle.serde_json.specs.View.{items_of}
 use Rattle.serde_json.specs.Written as written
-use Rattle.shop_model.specs.Values.{Text, OfficeAct, AddCountry, AddCity, AddLanguage, AddCategory, AddActor, AddFilm, PriceFilm, WithdrawFilm, AddCast, AddBranch, AddStaff, StaffLeaves, SetManager}
+use Rattle.shop_model.specs.Values.{Text, Film, OfficeAct, AddCountry, AddCity, AddLanguage, AddCategory, AddActor, AddFilm, PriceFilm, WithdrawFilm, AddCast, AddBranch, AddStaff, StaffLeaves, SetManager}
 use Rattle.shop_model.specs.Json as json
-use Rattle.reply_bodies.specs.Bodies.{numbers_value, office_value, office_members}
+use Rattle.shop_model.specs.Answers.{film_text}
+use Rattle.reply_bodies.specs.Bodies.{numbers_value, film_value, office_value, office_members}
 
 -- a value's text by the definitions of the shop
 abbrev mutual
@@ -75,6 +76,15 @@ pub text_of_value : {E : Type 0} (r : Result (String Global) E) (value d : Data)
     → IfOk r (λ s. string_bytes s ≡ json_text d)
 text_of_value r value d e none_float h =
     IfOk-weaker r _ _ (λ s text. text (ap written.has_float e ∙ none_float) ∙ (ap written.compact_text e ∙ same_text d)) h
+
+-- a film's length is a number or null
+pub film_body : (n : ℕ) (it : Film) → (written.has_float (film_value n it) ≡ false) × (json_text (film_value n it) ≡ film_text n it)
+film_body n it = go it.minutes
+  where
+    go : (minutes : Option ℕ) → (written.has_float (film_value n (record it { minutes = minutes })) ≡ false)
+        × (json_text (film_value n (record it { minutes = minutes })) ≡ film_text n (record it { minutes = minutes }))
+    go None = (refl, refl)
+    go (Some minutes) = (refl, refl)
 
 -- what a command of head office is told has numbers alone
 pub office_body : (act : OfficeAct) (next : ℕ) → (written.has_float (office_value act next) ≡ false) × (json_text (office_value act next) ≡ json.object (office_members act next))

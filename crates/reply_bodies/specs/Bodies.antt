@@ -4,7 +4,7 @@ use Rattle.serde_json.specs.Data.{Data, null, boolean, number, unsigned, string,
 use Rattle.serde_json.specs.Find.{of_integer}
 use Rattle.serde_json.specs.View.{items_of}
 use Rattle.shop_model.specs.Calendar.{moment_text}
-use Rattle.shop_model.specs.Values.{Text, Customer, OfficeAct, AddCountry, AddCity, AddLanguage, AddCategory, AddActor, AddFilm, PriceFilm, WithdrawFilm, AddCast, AddBranch, AddStaff, StaffLeaves, SetManager}
+use Rattle.shop_model.specs.Values.{Text, Film, Customer, OfficeAct, AddCountry, AddCity, AddLanguage, AddCategory, AddActor, AddFilm, PriceFilm, WithdrawFilm, AddCast, AddBranch, AddStaff, StaffLeaves, SetManager}
 
 -- a customer and its number
 abbrev pub customer_value : ℕ → Customer → Data
@@ -18,6 +18,27 @@ customer_value n it = object
     (member (codes "last") (string it.person.last)
     (member (codes "phone") (string it.person.phone)
     (member (codes "postal") (string it.person.postal) no_members)))))))))
+
+-- a film's length, where it is known
+abbrev pub minutes_value : Option ℕ → Data
+minutes_value None = null
+minutes_value (Some n) = number (unsigned n)
+
+-- a film and its number
+abbrev pub film_value : ℕ → Film → Data
+film_value n it = object
+    (member (codes "category") (number (unsigned it.category))
+    (member (codes "description") (string it.description)
+    (member (codes "features") (string it.features)
+    (member (codes "film") (number (unsigned n))
+    (member (codes "language") (number (unsigned it.language))
+    (member (codes "length") (minutes_value it.minutes)
+    (member (codes "period") (number (unsigned it.period))
+    (member (codes "rate") (number (unsigned it.rate))
+    (member (codes "rating") (string it.rating)
+    (member (codes "replacement") (number (unsigned it.replacement))
+    (member (codes "title") (string it.title)
+    (member (codes "withdrawn") (boolean it.withdrawn) no_members))))))))))))
 
 -- whether a customer may rent
 abbrev pub active_value : ℕ → Bool → Data

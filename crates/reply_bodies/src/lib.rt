@@ -2,6 +2,7 @@
 #![tactic(auto)]
 
 mod customer;
+mod film;
 mod numbers;
 mod office;
 mod payment;
@@ -9,6 +10,7 @@ mod rental;
 mod stock;
 
 pub use customer::{customer_text, new_customer_text};
+pub use film::film_text;
 pub use office::office_text;
 pub use payment::{balance_text, payment_text, rewards_text};
 pub use rental::{

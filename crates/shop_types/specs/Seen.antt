@@ -85,6 +85,7 @@ seen_command command = record {
 
 abbrev pub seen_ask : Ask → model.Ask
 seen_ask (ask.Customer number) = model.OneCustomer number
+seen_ask (ask.Film number) = model.OneFilm number
 seen_ask (ask.InStock copy) = model.InStock copy
 seen_ask (ask.HeldBy copy) = model.HeldBy copy
 seen_ask (ask.FilmInStock film) = model.FilmInStock film

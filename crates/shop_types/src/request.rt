@@ -6,6 +6,8 @@ use shop_values::{BranchNo, CopyNo, CustomerNo, FilmNo, Moment};
 pub enum Ask {
     /// One customer of the branch.
     Customer(CustomerNo),
+    /// One film, which is the same in all branches.
+    Film(FilmNo),
     /// Whether no rental of the copy is open. It looks at rentals alone, whatever the copy's state is.
     InStock(CopyNo),
     /// Which customer has the copy, by its open rental.

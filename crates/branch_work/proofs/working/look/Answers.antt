@@ -13,6 +13,11 @@ returns-in-Customer-clause-works g c = λ clean.
     let P : Ask → Type 0 = λ it. IfOk c.look_customer.result (λ reply. (limits : Limits) → WorksFor limits c.args.branch None (Look (seen_ask it)) (seen_reply reply) false (state g.S.Store c.args.tx.now.conn.now) (state g.S.Store c.look_customer.new.tx.conn.now)) in
     subst P (sym c.in-Customer.is) (c.look_customer.ensures.works clean)
 
+pub returns-in-Film-clause-works : goal.returns-in-Film-clause-works
+returns-in-Film-clause-works g c = λ clean.
+    let P : Ask → Type 0 = λ it. IfOk c.look_film.result (λ reply. (limits : Limits) → WorksFor limits c.args.branch None (Look (seen_ask it)) (seen_reply reply) false (state g.S.Store c.args.tx.now.conn.now) (state g.S.Store c.look_film.new.tx.conn.now)) in
+    subst P (sym c.in-Film.is) (c.look_film.ensures.works clean)
+
 pub returns-in-InStock-clause-works : goal.returns-in-InStock-clause-works
 returns-in-InStock-clause-works g c = λ clean.
     let P : Ask → Type 0 = λ it. IfOk c.look_in_stock.result (λ reply. (limits : Limits) → WorksFor limits c.args.branch None (Look (seen_ask it)) (seen_reply reply) false (state g.S.Store c.args.tx.now.conn.now) (state g.S.Store c.look_in_stock.new.tx.conn.now)) in
@@ -25,13 +30,13 @@ returns-in-HeldBy-clause-works g c = λ clean.
 
 pub returns-in-FilmInStock-clause-works : goal.returns-in-FilmInStock-clause-works
 returns-in-FilmInStock-clause-works g c = λ clean.
-    let P : Ask → Type 0 = λ it. IfOk c.look_film.result (λ reply. (limits : Limits) → WorksFor limits c.args.branch None (Look (seen_ask it)) (seen_reply reply) false (state g.S.Store c.args.tx.now.conn.now) (state g.S.Store c.look_film.new.tx.conn.now)) in
-    subst P (sym c.in-FilmInStock.is) (c.look_film.ensures.works clean)
+    let P : Ask → Type 0 = λ it. IfOk c.look_film_copies.result (λ reply. (limits : Limits) → WorksFor limits c.args.branch None (Look (seen_ask it)) (seen_reply reply) false (state g.S.Store c.args.tx.now.conn.now) (state g.S.Store c.look_film_copies.new.tx.conn.now)) in
+    subst P (sym c.in-FilmInStock.is) (c.look_film_copies.ensures.works clean)
 
 pub returns-in-FilmNotInStock-clause-works : goal.returns-in-FilmNotInStock-clause-works
 returns-in-FilmNotInStock-clause-works g c = λ clean.
-    let P : Ask → Type 0 = λ it. IfOk c.look_film-in-FilmNotInStock.result (λ reply. (limits : Limits) → WorksFor limits c.args.branch None (Look (seen_ask it)) (seen_reply reply) false (state g.S.Store c.args.tx.now.conn.now) (state g.S.Store c.look_film-in-FilmNotInStock.new.tx.conn.now)) in
-    subst P (sym c.in-FilmNotInStock.is) (c.look_film-in-FilmNotInStock.ensures.works clean)
+    let P : Ask → Type 0 = λ it. IfOk c.look_film_copies-in-FilmNotInStock.result (λ reply. (limits : Limits) → WorksFor limits c.args.branch None (Look (seen_ask it)) (seen_reply reply) false (state g.S.Store c.args.tx.now.conn.now) (state g.S.Store c.look_film_copies-in-FilmNotInStock.new.tx.conn.now)) in
+    subst P (sym c.in-FilmNotInStock.is) (c.look_film_copies-in-FilmNotInStock.ensures.works clean)
 
 pub returns-in-Balance-clause-works : goal.returns-in-Balance-clause-works
 returns-in-Balance-clause-works g c = λ clean.

@@ -9,4 +9,4 @@ returns-in-None-clause-found g c clean =
 pub returns-clause-found : goal.returns-clause-found
 returns-clause-found g c clean =
     (read_terms _ _ c.args.film _ _ (rw (c.to_sql.ensures, c.get.ensures.value) at (c.in_ok-rows.ensures.shown clean)) (omega arith) c.deref.ensures.value).1
-    c.in-Some.row.now (c.in_ok-rate_at-in-Some.field-0, c.in_ok-period_at-in-Some.field-0) c.in-Some.ensures.value (c.in_ok-rate_at-in-Some.ensures.ok, c.in_ok-period_at-in-Some.ensures.ok)
+    c.in-Some.row.now (c.in_ok-rate_at-in-Some.field-0, c.in_ok-days_at-in-Some.field-0) c.in-Some.ensures.value (c.in_ok-rate_at-in-Some.ensures.ok, c.in_ok-days_at-in-Some.ensures.ok)

@@ -1,7 +1,7 @@
 use Rattle.std.proofs.Common.{◌≡◌, refl, rules}
 use Rattle.std.specs.Prelude.{option_map}
 use Rattle.shop_model.specs.Refusals.{NoRoute}
-use Rattle.shop_model.specs.Values.{OneCustomer, InStock, HeldBy, FilmInStock, FilmNotInStock}
+use Rattle.shop_model.specs.Values.{OneCustomer, OneFilm, InStock, HeldBy, FilmInStock, FilmNotInStock}
 use Rattle.shop_types.specs.Seen.{seen_ask}
 use Rattle.counter_routes.specs.Looks.{ask_in}
 use Rattle.counter_routes.proofs.paths.Routes.read_counter.Goals as goal
@@ -41,6 +41,11 @@ pub returns-in-Customer-clause-reading : goal.returns-in-Customer-clause-reading
 returns-in-Customer-clause-reading c =
     let same : option_map seen_ask c.map.result ≡ ask_in OneCustomer c.args.message.now.target.now = search rules in
     rw (← c.in-Some.ensures, c.in-Customer.is) (c.read_look.ensures _ same)
+
+pub returns-in-Film-clause-reading : goal.returns-in-Film-clause-reading
+returns-in-Film-clause-reading c =
+    let same : option_map seen_ask c.map-in-Film.result ≡ ask_in OneFilm c.args.message.now.target.now = search rules in
+    rw (← c.in-Some.ensures, c.in-Film.is) (c.read_look-in-Film.ensures _ same)
 
 pub returns-in-InStock-clause-reading : goal.returns-in-InStock-clause-reading
 returns-in-InStock-clause-reading c =

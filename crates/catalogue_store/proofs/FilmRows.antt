@@ -1,0 +1,66 @@
+-- What is read of a film by its number, with all its columns.
+use Rattle.std.proofs.Common.{◌≡◌, ◌≢◌, ◌≤◌, ◌<◌, ◌-◌, ◌==◌, ℕ, List, [], ◌∷◌, Bool, true, false, cond, codes, map, length, refl, sym, ap, ◌∙◌, arith, Ok, Err, Result}
+use Rattle.std.specs.Prelude.{Option, Some, None, IfOk, IfErr, IsErrAnd, take, option_map}
+use Rattle.std.specs.Option.{option_to_list}
+use Rattle.sqlite_value.specs.Order as sql
+use Rattle.sqlite_value.specs.Order.{column}
+use Rattle.sqlite_tied.specs.Compute.{everything}
+use Rattle.sqlite.specs.Listing.{understood}
+use Rattle.sqlite.specs.State.{State, Shown}
+use Rattle.sql_rows.specs.Rows.{number_value, flag_value}
+use Rattle.sql_rows.specs.declared.fault.StoreFault.{StoreFault}
+use Rattle.sql_rows.specs.declared.fault.StoreFault.TheVariants.{Failed}
+use Rattle.shop_model.specs.Rows.{at}
+use Rattle.shop_model.specs.Values.{Film}
+use Rattle.shop_schema.specs.Columns.{film_columns}
+use Rattle.shop_schema.specs.RowValues.{IsNumber, IsFilm}
+use Rattle.shop_schema.specs.Shop.{Reads}
+use Rattle.shop_schema.proofs.Listed.{cols}
+use Rattle.shop_schema.proofs.SameRows.{same_film}
+use Rattle.catalogue_store.specs.Seen.{seen_film_row}
+use Rattle.catalogue_store.specs.declared.films.FilmRow.{FilmRow}
+use Rattle.catalogue_store.proofs.ByNumber.{films}
+use Rattle.catalogue_store.proofs.SharedReads.{still, shows_shared}
+
+abbrev select_row : List ℕ
+select_row = codes "SELECT number, title, description, language, category, period, rate, replacement, length, rating, features, withdrawn FROM film WHERE number = ?1"
+
+abbrev columns_read : FilmRow → sql.Row
+columns_read row = film_columns (row.number, seen_film_row row)
+
+-- a number picks one row at most
+at_short : {A : Type 0} (n : ℕ) (xs : List A) → length (at n xs) ≤ 1
+at_short n [] = omega arith
+at_short n (x ∷ xs) = go (n == 1) (at_short (n - 1) xs)
+  where
+    go : (b : Bool) → length (at (n - 1) xs) ≤ 1 → length (cond b (x ∷ []) (at (n - 1) xs)) ≤ 1
+    go true more = omega arith
+    go false more = more
+
+-- the columns of the row that was read are those of the film
+film_of : (n : ℕ) (o : Option FilmRow) (rows : List Film) → length rows ≤ 1 → map columns_read (option_to_list o) ≡ take 1 (map (λ x. film_columns (n, x)) rows)
+    → option_to_list (option_map seen_film_row o) ≡ rows
+film_of n None [] few is = refl
+film_of n None (x ∷ []) few is = cc
+film_of n (Some row) [] few is = cc
+film_of n (Some row) (x ∷ []) few is =
+    let columns : columns_read row ≡ film_columns (n, x) = cc in
+    ap (λ (it : ℕ × Film). it.1 ∷ []) (same_film (row.number, seen_film_row row) (n, x) columns)
+film_of n o (x ∷ y ∷ rows) few is = absurd (omega (arith, few))
+
+pub read_row : (old new : State) (n : ℕ) (rows slice : List sql.Row) (r : Result (Option FilmRow) StoreFault) → Shown select_row (number_value n ∷ []) old new rows → 1 ≤ n → slice ≡ rows
+    → IfOk r (λ o. map columns_read (option_to_list o) ≡ take 1 slice)
+    → IfOk r (λ o. Reads old new (λ books. option_to_list (option_map seen_film_row o) ≡ at n books.catalogue.films))
+unfolding understood everything
+read_row old new n rows slice (Err e) h low same read = tt
+read_row old new n rows slice (Ok o) h low same read = λ books holds held.
+    let found = shows_shared films select_row (cols 1 1 12) (record { names = _; is = refl; plain = (refl, refl); unlisted = refl }) (λ vs. vs) (λ m r. refl) old new n rows h low books holds in (
+      still films select_row (cols 1 1 12) (record { names = _; is = refl; plain = (refl, refl); unlisted = refl }) (λ vs. vs) (λ m r. refl) old new n rows h low books holds,
+      film_of n o (at n books.catalogue.films) (at_short n books.catalogue.films) (read ∙ ap (take 1) (same ∙ found)),
+    )
+
+-- a row whose last column is no truth value is no film's
+pub no_film : (r : Result FilmRow StoreFault) (e : StoreFault) (row : sql.Row) → IsErrAnd r (λ y. y ≡ e) → (e ≡ Failed → (b : Bool) → 11 < length row → column row 11 ≢ flag_value b) → length row ≡ 12
+    → IfErr r (λ y. y ≡ Failed → (x : FilmRow) → IsNumber x.number × IsFilm (seen_film_row x) → columns_read x ≢ row)
+no_film (Ok it) e row is none wide = tt
+no_film (Err y) e row is none wide = λ failed x fits same. none (sym is ∙ failed) x.withdrawn (omega (arith, wide)) (ap (λ (columns : sql.Row). column columns 11) (sym same))

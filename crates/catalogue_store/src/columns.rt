@@ -1,0 +1,121 @@
+//! Columns of films read as their values. Where a column holds no such value, the fault is `Failed`.
+
+ghost use Rattle.std.specs.Prelude.{◌≡◌, ◌≢◌, ◌≤◌, ◌<◌, ℕ, ◌&&◌, nat_lt, nat_le, if◌then◌else◌, length, Option, Some, None, IfOk, IfErr, IfSome, IsUtf8};
+ghost use Rattle.sqlite.specs.declared.types.Value.TheVariants.{Text as SqlText};
+ghost use Rattle.sqlite.specs.Values.{or_null};
+ghost use Rattle.sqlite_value.specs.Order.{column};
+ghost use Rattle.sql_rows.specs.Rows.{number_value};
+ghost use Rattle.sql_rows.specs.declared.fault.StoreFault.TheVariants.{Failed};
+ghost use Rattle.shop_types.specs.Films.{rating_text, features_text};
+ghost use Rattle.shop_types.specs.declared.film.Rating.{Rating as TheRating};
+ghost use Rattle.shop_types.specs.declared.film.Features.{Features as TheFeatures};
+
+use shop_types::{Amount, Features, Minutes, Period, Rate, Rating};
+use sql_rows::{StoreFault, number_at, number_or_null_at, words_at};
+use sqlite::Row;
+
+/// The rate in the column, in cents.
+pub(crate) fn rate_at(row: &Row, at: usize) -> Result<Rate, StoreFault>
+    ensures ok { IfOk result (λ n. column row.now at ≡ number_value n) }
+    ensures value { IfOk result (λ n. n ≤ 9_999) }
+    ensures failed { IfErr result (λ e. e ≡ Failed → (n : ℕ) → n ≤ 9_999 → at < length row.now → column row.now at ≢ number_value n) }
+{
+    let Ok(cents) = u16::try_from(number_at(row, at)?) else {
+        return Err(StoreFault::Failed);
+    };
+    match Rate::new(cents) {
+        Some(rate) => Ok(rate),
+        None => Err(StoreFault::Failed),
+    }
+}
+
+/// What is in the column, in cents, of a film's replacement.
+pub(crate) fn replacement_at(row: &Row, at: usize) -> Result<Amount, StoreFault>
+    ensures ok { IfOk result (λ n. column row.now at ≡ number_value n) }
+    ensures value { IfOk result (λ n. n ≤ 99_999) }
+    ensures failed { IfErr result (λ e. e ≡ Failed → (n : ℕ) → n ≤ 99_999 → at < length row.now → column row.now at ≢ number_value n) }
+{
+    match Amount::new(number_at(row, at)?) {
+        Some(amount) => Ok(amount),
+        None => Err(StoreFault::Failed),
+    }
+}
+
+/// The days in the column.
+pub(crate) fn days_at(row: &Row, at: usize) -> Result<u8, StoreFault>
+    ensures ok { IfOk result (λ n. column row.now at ≡ number_value n) }
+    ensures failed { IfErr result (λ e. e ≡ Failed → (n : ℕ) → n ≤ 255 → at < length row.now → column row.now at ≢ number_value n) }
+{
+    match u8::try_from(number_at(row, at)?) {
+        Ok(days) => Ok(days),
+        Err(_) => Err(StoreFault::Failed),
+    }
+}
+
+/// The period in the column, in days.
+pub(crate) fn period_at(row: &Row, at: usize) -> Result<Period, StoreFault>
+    ensures ok { IfOk result (λ n. column row.now at ≡ number_value n) }
+    ensures value { IfOk result (λ n. (1 ≤ n) × (n ≤ 255)) }
+    ensures failed { IfErr result (λ e. e ≡ Failed → (n : ℕ) → (1 ≤ n) × (n ≤ 255) → at < length row.now → column row.now at ≢ number_value n) }
+{
+    match Period::new(days_at(row, at)?) {
+        Some(period) => Ok(period),
+        None => Err(StoreFault::Failed),
+    }
+}
+
+/// The length of so many minutes, where they are 1 to 65,535.
+fn minutes_of(number: u32) -> Option<Minutes>
+    ensures { result ≡ (if nat_lt 0 number && nat_le number 65_535 then Some number else None) }
+{
+    match u16::try_from(number) {
+        Ok(minutes) => Minutes::new(minutes),
+        Err(_) => None,
+    }
+}
+
+/// The length in the column, in minutes, or none where it is NULL.
+pub(crate) fn minutes_or_null_at(row: &Row, at: usize) -> Result<Option<Minutes>, StoreFault>
+    ensures ok { IfOk result (λ o. column row.now at ≡ or_null number_value o) }
+    ensures value { IfOk result (λ o. IfSome o (λ n. (1 ≤ n) × (n ≤ 65_535))) }
+    ensures failed { IfErr result (λ e. e ≡ Failed → (o : Option ℕ) → IfSome o (λ n. (1 ≤ n) × (n ≤ 65_535)) → at < length row.now → column row.now at ≢ or_null number_value o) }
+{
+    let Some(number) = number_or_null_at(row, at)? else {
+        return Ok(None);
+    };
+    match minutes_of(number) {
+        Some(minutes) => Ok(Some(minutes)),
+        None => Err(StoreFault::Failed),
+    }
+}
+
+/// The rating in the column, by its text.
+pub(crate) fn rating_at(row: &Row, at: usize) -> Result<Rating, StoreFault>
+    ensures ok { IfOk result (λ it. column row.now at ≡ SqlText (rating_text it)) }
+    ensures failed { IfErr result (λ e. e ≡ Failed → (it : TheRating) → at < length row.now → column row.now at ≢ SqlText (rating_text it)) }
+{
+    let words = match words_at(row, at) {
+        Ok(words) => words,
+        Err(fault) => return Err(fault),
+    };
+    match Rating::read(words.as_str()) {
+        Some(rating) => Ok(rating),
+        None => Err(StoreFault::Failed),
+    }
+}
+
+/// The special features in the column, by their text.
+pub(crate) fn features_at(row: &Row, at: usize) -> Result<Features, StoreFault>
+    ensures ok { IfOk result (λ it. column row.now at ≡ SqlText (features_text it)) }
+    ensures value { IfOk result (λ it. IsUtf8 (features_text it)) }
+    ensures failed { IfErr result (λ e. e ≡ Failed → (it : TheFeatures) → IsUtf8 (features_text it) → at < length row.now → column row.now at ≢ SqlText (features_text it)) }
+{
+    let words = match words_at(row, at) {
+        Ok(words) => words,
+        Err(fault) => return Err(fault),
+    };
+    match Features::read(words.as_str()) {
+        Some(features) => Ok(features),
+        None => Err(StoreFault::Failed),
+    }
+}
