@@ -6,5 +6,5 @@ mod rewards;
 mod rows;
 
 pub use fees::{balance, is_overdue, late_days};
-pub use rewards::{last_month, rewarded};
+pub use rewards::{is_on, last_month, rewarded};
 pub use rows::{Paid, RentalTerms};

@@ -42,7 +42,7 @@ pub fn last_month(at: Moment) -> Option<(i32, i32)>
 }
 
 /// Whether a payment is of a day from the first to the last.
-fn is_on(payment: &Paid, month: (i32, i32)) -> bool
+pub fn is_on(payment: &Paid, month: (i32, i32)) -> bool
     ensures { result ≡ is_on month payment.now }
 {
     let day = payment.at.day();

@@ -1,9 +1,16 @@
 -- Who is rewarded: one payment or customer more, the payments of the month alone, and the customers by number.
-use Rattle.std.proofs.Common.{◌≡◌, ◌≢◌, ◌∙◌, refl, sym, ap, inl, inr, arith, ℕ, ℤ, suc, ◌+◌, ◌<◌, ◌≤◌, List, [], ◌∷◌, ◌++◌, length, map, filter, take, get_or, append_assoc, append-nil, Bool, true, false, Option, Some, None, option_map, codes, decimal}
-use Rattle.std.specs.Prelude.{◌==◌, ◌&&◌, nat_lt, sum_by, if◌then◌else◌}
+use Rattle.std.proofs.Common.{◌≡◌, ◌≢◌, ◌∙◌, refl, sym, ap, inl, inr, arith, ℕ, ℤ, suc, ◌+◌, ◌<◌, ◌≤◌, List, [], ◌∷◌, ◌++◌, length, map, filter, take, get_or, subst, cond, Ordering, Equal, append_assoc, append-nil, Bool, true, false, Option, Some, None, option_map, codes, decimal}
+use Rattle.std.specs.Prelude.{◌==◌, ◌&&◌, ◌*◌, nat_lt, sum_by, if◌then◌else◌}
 use Rattle.std.proofs.lemmas.Bool.{cases_Bool}
 use Rattle.std.proofs.lemmas.Bool.Decides.{nat_tests}
-use Rattle.std.proofs.lemmas.List.{map_more, length-map}
+use Rattle.std.proofs.lemmas.List.{map_more, length-map, length-append}
+use Rattle.std.proofs.lemmas.List.Sums.{sum_by-append, sum_by-cons}
+use Rattle.std.proofs.lemmas.Map.Lookups.{exact_unsigned}
+use Rattle.std.specs.BTreeMap.{BTreeMap, Updates, get, is_at}
+use Rattle.std.specs.Cmp.{nat_cmp_is}
+use Rattle.std.specs.Map.{lookup}
+use Rattle.std.specs.Option.{IfSome}
+use Rattle.std.specs.Ordering.{is_eq, nat_cmp}
 use Rattle.shop_model.specs.Rows.{numbered, numbered_from}
 use Rattle.shop_model.specs.Calendar.{Moment}
 use Rattle.shop_model.specs.Values.{Text, Payment, Rewards}
@@ -12,16 +19,18 @@ use Rattle.shop_model.specs.Answers.{Answer, answer_of, accepted_answer}
 use Rattle.shop_model.specs.Shop.{Catalogue, Shop}
 use Rattle.shop_model.specs.Stock.{rewarded_in, rewarded}
 use Rattle.shop_model.specs.Machine.{Shows, CustomersAre, look}
-use Rattle.shop_model.proofs.RowLemmas.{one_more, differ_test}
+use Rattle.shop_model.proofs.RowLemmas.{one_more, more_yes, more_no, differ_test, same_test}
 use Rattle.balance_rule.specs.declared.rows.Paid.{Paid}
 use Rattle.balance_rule.specs.Balance.{amount_of, paid_of}
 use Rattle.balance_rule.specs.Rewards.{seen_days, is_on}
 use Rattle.balance_rule.proofs.SumLemmas.{passes_are}
-use Rattle.branch_work.specs.Finds.{numbers_to, is_paid_in, passes_for, rewarded_numbers}
+use Rattle.branch_work.specs.declared.rewards.PaidSum.{PaidSum}
+use Rattle.branch_work.specs.Finds.{AreSmall, AreSummed, is_paid_in, numbers_to, one_paid, paid_in, passes_for, rewarded_numbers, sum_or_none}
+use Rattle.branch_work.proofs.TermLemmas.{is_equal}
 
 -- ---- one row more of a list that is filtered row by row
 
-taken : {A B : Type 0} (f : A → B) (rows : List A) (i : ℕ) (row : A) → i < length rows → row ≡ get_or rows i row → map f (take (i + 1) rows) ≡ map f (take i rows) ++ f row ∷ []
+pub taken : {A B : Type 0} (f : A → B) (rows : List A) (i : ℕ) (row : A) → i < length rows → row ≡ get_or rows i row → map f (take (i + 1) rows) ≡ map f (take i rows) ++ f row ∷ []
 taken {A = A} f rows i row lt is = map_more f rows i row lt ∙ ap (λ (r : A). map f (take i rows) ++ f r ∷ []) (sym is)
 
 pub kept_yes : {A B : Type 0} (p : B → Bool) (f : A → B) (rows : List A) (i : ℕ) (row : A) → i < length rows → row ≡ get_or rows i row → p (f row) ≡ true
@@ -153,3 +162,100 @@ pub rewards_told : (b : ℕ) (catalogue : Catalogue) (shop : Shop) (moment : Mom
 rewards_told b catalogue shop moment purchases cents found numbers body answer some some_cents same named listed told =
     told ∙ ap accepted_answer listed ∙ ap (λ (ns : List ℕ). answer_of (Shows (CustomersAre ns))) (same ∙ named)
     ∙ ap answer_of (sym (good_thresholds b catalogue shop moment purchases cents some some_cents))
+
+-- ---- sums by customer
+
+abbrev summed : List Paid → PaidSum
+summed paid = record { purchases = length paid; cents = sum_by amount_of paid }
+
+one_longer : (paid : List Paid) (it : Paid) → summed (paid ++ it ∷ []) ≡ record { purchases = length paid + 1; cents = sum_by amount_of paid + it.amount }
+one_longer paid it =
+    let long = length-append paid (it ∷ []) in
+    let sum = sum_by-append amount_of paid (it ∷ []) in
+    let one : sum_by amount_of (it ∷ []) ≡ it.amount = sum_by-cons amount_of it [] ∙ omega arith in
+    λ i. record { purchases = long i; cents = (sum ∙ ap (λ (n : ℕ). sum_by amount_of paid + n) one) i }
+
+-- a key that is another isn't found for it
+apart : (a b : ℕ) → (a == b) ≡ false → is_at (nat_cmp a) b ≡ false
+apart a b other = elim (cases_Bool (is_at (nat_cmp a) b)) [
+  | inl is ↦
+      let same : a ≡ b = exact_unsigned a b (is_equal (nat_cmp a b) is) in
+      grind (arith, nat_tests)
+  | inr isnt ↦ isnt
+]
+
+paid_own : (month : ℤ × ℤ) (c : ℕ) (payments : List Payment) (it : Payment) → (it.customer == c) ≡ true → is_on month (paid_of it) ≡ true
+    → paid_in month c (payments ++ it ∷ []) ≡ paid_in month c payments ++ paid_of it ∷ []
+paid_own month c payments it own on =
+    ap (filter (is_on month)) (more_yes paid_of (λ (p : Payment). p.customer == c) payments it own)
+    ∙ one_more (is_on month) (map paid_of (filter (λ (p : Payment). p.customer == c) payments)) (paid_of it) ∙ rw on refl
+
+paid_off : (month : ℤ × ℤ) (c : ℕ) (payments : List Payment) (it : Payment) → is_on month (paid_of it) ≡ false → paid_in month c (payments ++ it ∷ []) ≡ paid_in month c payments
+paid_off month c payments it off = elim (cases_Bool (it.customer == c)) [
+  | inl own ↦ ap (filter (is_on month)) (more_yes paid_of (λ (p : Payment). p.customer == c) payments it own)
+      ∙ one_more (is_on month) (map paid_of (filter (λ (p : Payment). p.customer == c) payments)) (paid_of it) ∙ rw off refl
+  | inr other ↦ paid_other month c payments it other
+]
+  where
+    paid_other : (month : ℤ × ℤ) (c : ℕ) (payments : List Payment) (it : Payment) → (it.customer == c) ≡ false → paid_in month c (payments ++ it ∷ []) ≡ paid_in month c payments
+    paid_other month c payments it other = ap (filter (is_on month)) (more_no paid_of (λ (p : Payment). p.customer == c) payments it other)
+
+-- a payment of another day changes no sum
+pub sums_same : (month : ℤ × ℤ) (sums : BTreeMap ℕ PaidSum) (payments : List Payment) (it : Payment) → AreSummed month sums payments → is_on month (paid_of it) ≡ false
+    → AreSummed month sums (payments ++ it ∷ [])
+sums_same month sums payments it are off = λ c.
+    are c ∙ ap summed (sym (paid_off month c payments it off))
+
+-- a payment of the month changes its customer's sum alone
+pub sums_more : (month : ℤ × ℤ) (old new : BTreeMap ℕ PaidSum) (payments : List Payment) (it : Payment) → AreSummed month old payments → is_on month (paid_of it) ≡ true
+    → Updates nat_cmp old new it.customer (Some (one_paid it.amount (get nat_cmp old it.customer))) → AreSummed month new (payments ++ it ∷ [])
+sums_more month old new payments it are on updates = λ c.
+    elim (cases_Bool (it.customer == c)) [
+      | inl own ↦
+          let same : it.customer ≡ c = grind (arith, nat_tests) in
+          let there : get nat_cmp new it.customer ≡ Some (one_paid it.amount (get nat_cmp old it.customer)) =
+          updates.0 it.customer ∙ ap (λ (o : Ordering). cond (is_eq o) (Some (one_paid it.amount (get nat_cmp old it.customer))) (get nat_cmp old it.customer)) (sym (nat_cmp_is it.customer it.customer Equal refl)) in
+          let more : PaidSum → PaidSum = λ sum. record { purchases = sum.purchases + 1; cents = sum.cents + it.amount } in
+          let before = are it.customer in
+          ap (λ (n : ℕ). sum_or_none (get nat_cmp new n)) (sym same) ∙ ap sum_or_none there ∙ ap more before
+          ∙ sym (one_longer (paid_in month it.customer payments) (paid_of it)) ∙ ap summed (sym (paid_own month it.customer payments it (same_test it.customer) on))
+          ∙ ap (λ (n : ℕ). summed (paid_in month n (payments ++ it ∷ []))) same
+      | inr other ↦
+          let differ : is_at (nat_cmp it.customer) c ≡ false = apart it.customer c other in
+          ap sum_or_none (updates.2 c differ) ∙ are c ∙ ap summed (sym (ap (filter (is_on month)) (more_no paid_of (λ (p : Payment). p.customer == c) payments it other)))
+    ]
+
+-- where nothing is summed there is no payment
+pub none_summed : (month : ℤ × ℤ) (sums : BTreeMap ℕ PaidSum) → sums.entries ≡ [] → AreSummed month sums []
+none_summed month sums none = λ c. subst (λ (entries : List (ℕ × PaidSum)). sum_or_none (lookup (is_at (nat_cmp c)) entries) ≡ record { purchases = 0; cents = 0 }) (sym none) refl
+
+-- ---- their bounds
+
+pub none_large : (sums : BTreeMap ℕ PaidSum) → sums.entries ≡ [] → AreSmall 0 sums
+none_large sums none = λ c.
+    subst (λ (entries : List (ℕ × PaidSum)). IfSome (lookup (is_at (nat_cmp c)) entries) (λ sum. (sum.purchases ≤ 0) × (sum.cents ≤ 99999 * 0))) (sym none) tt
+
+weaker : (n m : ℕ) (sum : Option PaidSum) → n ≤ m → IfSome sum (λ it. (it.purchases ≤ n) × (it.cents ≤ 99999 * n)) → IfSome sum (λ it. (it.purchases ≤ m) × (it.cents ≤ 99999 * m))
+weaker n m None le small = tt
+weaker n m (Some sum) le small = let few = small.0 in let low = small.1 in (omega (arith, few, le), omega (arith, low, le))
+
+pub small_below : (n m : ℕ) (sums : BTreeMap ℕ PaidSum) → n ≤ m → AreSmall n sums → AreSmall m sums
+small_below n m sums le small = λ c. weaker n m (get nat_cmp sums c) le (small c)
+
+small_added : (n amount : ℕ) (sum : Option PaidSum) → amount ≤ 99999 → IfSome sum (λ it. (it.purchases ≤ n) × (it.cents ≤ 99999 * n))
+    → ((one_paid amount sum).purchases ≤ n + 1) × ((one_paid amount sum).cents ≤ 99999 * (n + 1))
+small_added n amount None low small = (omega arith, omega (arith, low))
+small_added n amount (Some sum) low small = let few = small.0 in let less = small.1 in (omega (arith, few), omega (arith, less, low))
+
+pub small_more : (n customer amount : ℕ) (old new : BTreeMap ℕ PaidSum) → amount ≤ 99999 → AreSmall n old
+    → Updates nat_cmp old new customer (Some (one_paid amount (get nat_cmp old customer))) → AreSmall (n + 1) new
+small_more n customer amount old new low small updates = λ c.
+    let holds : Option PaidSum → Type 0 = λ found. IfSome found (λ it. (it.purchases ≤ n + 1) × (it.cents ≤ 99999 * (n + 1))) in
+    let more : n ≤ n + 1 = omega arith in
+    elim (cases_Bool (is_at (nat_cmp customer) c)) [
+      | inl at_it ↦
+          let there : get nat_cmp new c ≡ Some (one_paid amount (get nat_cmp old customer)) =
+          updates.0 c ∙ ap (λ (b : Bool). cond b (Some (one_paid amount (get nat_cmp old customer))) (get nat_cmp old c)) at_it in
+          subst holds (sym there) (small_added n amount (get nat_cmp old customer) low (small customer))
+      | inr isnt ↦ subst holds (sym (updates.2 c isnt)) (weaker n (n + 1) (get nat_cmp old c) more (small c))
+    ]

@@ -216,7 +216,7 @@ listed_row catalogue shop rental film title row found listed told there is same 
 
 -- ---- films whose terms are known
 
-is_equal : (o : Ordering) → is_eq o ≡ true → o ≡ Equal
+pub is_equal : (o : Ordering) → is_eq o ≡ true → o ≡ Equal
 is_equal Less is = cc
 is_equal Equal is = refl
 is_equal Greater is = cc

@@ -1,5 +1,5 @@
 -- What is found of the rows that a command names.
-use Rattle.std.specs.Prelude.{◌≡◌, ℕ, zero, suc, ℤ, [], ◌∷◌, ◌++◌, ◌==◌, ◌&&◌, Bool, true, false, not, is_some, List, map, filter, flat_map, Option, Some, None, option_map}
+use Rattle.std.specs.Prelude.{◌≡◌, ◌≤◌, ℕ, ◌+◌, ◌*◌, zero, suc, ℤ, [], ◌∷◌, ◌++◌, ◌==◌, ◌&&◌, Bool, true, false, not, is_some, List, length, sum_by, map, filter, flat_map, Option, Some, None, option_map}
 use Rattle.std.specs.Option.{IfSome}
 use Rattle.std.specs.Ordering.{nat_cmp}
 use Rattle.std.specs.BTreeMap.{BTreeMap, get}
@@ -21,8 +21,10 @@ use Rattle.branch_core.specs.declared.found.StockFound.{StockFound}
 use Rattle.branch_core.specs.declared.found.KeptFound.{KeptFound}
 use Rattle.catalogue_store.specs.declared.reads.FilmTerms.{FilmTerms}
 use Rattle.catalogue_store.specs.Seen.{seen_terms, terms_of}
-use Rattle.balance_rule.specs.Balance.{paid_of}
+use Rattle.balance_rule.specs.declared.rows.Paid.{Paid}
+use Rattle.balance_rule.specs.Balance.{amount_of, paid_of}
 use Rattle.balance_rule.specs.Rewards.{is_on, passes}
+use Rattle.branch_work.specs.declared.rewards.PaidSum.{PaidSum}
 use Rattle.branch_core.specs.Agreed.{seen_kept as told, kept_for}
 
 -- the row, with whether the catalogue has its film, and whether that is withdrawn
@@ -104,6 +106,27 @@ is_paid_in month payment = is_on month (paid_of payment)
 -- the customer's payments pass both thresholds in the month
 abbrev pub passes_for : ℤ × ℤ → ℕ → ℕ → List Payment → ℕ → Bool
 passes_for month purchases cents payments c = passes month purchases cents (map paid_of (filter (λ (it : Payment). it.customer == c) payments))
+
+-- the customer's payments in the month
+abbrev pub paid_in : ℤ × ℤ → ℕ → List Payment → List Paid
+paid_in month c payments = filter (is_on month) (map paid_of (filter (λ (it : Payment). it.customer == c) payments))
+
+-- a sum, or none paid
+abbrev pub sum_or_none : Option PaidSum → PaidSum
+sum_or_none None = record { purchases = 0; cents = 0 }
+sum_or_none (Some sum) = sum
+
+-- a payment more
+abbrev pub one_paid : ℕ → Option PaidSum → PaidSum
+one_paid amount sum = record { purchases = (sum_or_none sum).purchases + 1; cents = (sum_or_none sum).cents + amount }
+
+-- each customer's sum is of the customer's payments in the month
+abbrev pub AreSummed : ℤ × ℤ → BTreeMap ℕ PaidSum → List Payment → Type 0
+AreSummed month sums payments = (c : ℕ) → sum_or_none (get nat_cmp sums c) ≡ record { purchases = length (paid_in month c payments); cents = sum_by amount_of (paid_in month c payments) }
+
+-- no sum is of more than so many payments, each of at most 999.99
+abbrev pub AreSmall : ℕ → BTreeMap ℕ PaidSum → Type 0
+AreSmall n sums = (c : ℕ) → IfSome (get nat_cmp sums c) (λ sum. (sum.purchases ≤ n) × (sum.cents ≤ 99999 * n))
 
 -- of so many customers, those for whom that is so
 abbrev pub rewarded_numbers : ℤ × ℤ → ℕ → ℕ → ℕ → List Payment → List ℕ

@@ -1,6 +1,8 @@
 //! Which of a branch's customers are rewarded.
 
-ghost use Rattle.std.specs.Prelude.{◌≡◌, ℕ, ◌+◌, ◌*◌, ◌==◌, ◌≤◌, Some, length, filter, map, IfOk};
+ghost use Rattle.std.specs.Prelude.{◌≡◌, ℕ, ℤ, ◌+◌, ◌*◌, ◌≤◌, List, Some, length, IfOk, OnOk};
+ghost use Rattle.std.specs.BTreeMap.{Updates, get};
+ghost use Rattle.std.specs.Ordering.{nat_cmp};
 ghost use Rattle.sqlite.specs.Held.{state};
 ghost use Rattle.sqlite.specs.State.{HasCleanDisk};
 ghost use Rattle.sql_rows.specs.Calls.{StaysWithin};
@@ -8,16 +10,24 @@ ghost use Rattle.shop_model.specs.Calendar.{month_before, seconds_of};
 ghost use Rattle.shop_model.specs.Books.{shop_of};
 ghost use Rattle.shop_model.specs.Stock.{rewarded_in};
 ghost use Rattle.shop_schema.specs.Shop.{Reads};
-ghost use Rattle.balance_rule.specs.Balance.{paid_of};
-ghost use Rattle.branch_work.specs.Finds.{passes_for, payments_of, rewarded_numbers};
+ghost use Rattle.shop_model.specs.Values.{Payment};
+ghost use Rattle.branch_work.specs.Finds.{AreSmall, AreSummed, one_paid, passes_for, payments_of, rewarded_numbers, sum_or_none};
 
 use crate::balances::paid_by;
-use balance_rule::{Paid, last_month, rewarded};
+use balance_rule::{is_on, last_month};
 use shop_store::{CountKind, PaymentRow, count_of, payments_between};
-use shop_types::{BranchNo, CustomerNo, Moment};
+use shop_types::{Amount, BranchNo, CustomerNo, Moment};
 use sql_rows::StoreFault;
 use sqlite::{Alter, Transaction};
 use std::alloc::Global;
+use std::collections::BTreeMap;
+
+/// What a customer paid in a month: how often, and how many cents.
+#[derive(Clone, Copy)]
+pub struct PaidSum {
+    pub purchases: u32,
+    pub cents: u64,
+}
 
 /// The customers, by number, whose payments in the month before the moment's are more in number and in cents than the thresholds. Nobody in January 1970,
 /// before which there is no month.
@@ -74,10 +84,11 @@ fn rewarded_among(
     requires rows { length rows.now ≤ 1_000_000 }
     ensures { IfOk result (λ numbers. numbers.items ≡ rewarded_numbers month purchases cents customers (payments_of rows.now)) }
 {
+    let sums = sums_of(alloc, rows, month)?;
     let mut numbers = Vec::new(alloc);
     for index in 0..customers {
         let customer = CustomerNo::new(index + 1).unwrap();
-        if passes_for(alloc, rows, customer, month, purchases, cents)? {
+        if passes_for(&sums, customer, purchases, cents) {
             let Ok(()) = numbers.push(customer) else {
                 return Err(StoreFault::Memory);
             };
@@ -86,37 +97,66 @@ fn rewarded_among(
     Ok(numbers)
 }
 
-/// Whether the customer's payments among these pass both thresholds in the month.
-fn passes_for(
+/// What each customer paid in the month, by these payments. A customer without one isn't there.
+fn sums_of(
     alloc: Global,
     rows: &[PaymentRow],
-    customer: CustomerNo,
     month: (i32, i32),
-    purchases: u32,
-    cents: u32,
-) -> Result<bool, StoreFault>
+) -> Result<BTreeMap<u32, PaidSum>, StoreFault>
     requires { length rows.now ≤ 1_000_000 }
-    ensures { IfOk result (λ is. is ≡ passes_for month purchases cents (payments_of rows.now) customer) }
+    ensures { IfOk result (λ sums. AreSummed month sums (payments_of rows.now)) }
 {
-    let paid = paid_among(alloc, rows, customer)?;
-    Ok(rewarded(paid.as_slice(), month, purchases, cents))
-}
-
-/// The customer's payments among these, in their order.
-fn paid_among(
-    alloc: Global,
-    rows: &[PaymentRow],
-    customer: CustomerNo,
-) -> Result<Vec<Paid>, StoreFault>
-    ensures { IfOk result (λ paid. paid.items ≡ map paid_of (filter (λ it. it.customer == customer) (payments_of rows.now))) }
-{
-    let mut paid = Vec::new(alloc);
+    let mut sums = BTreeMap::new(alloc);
     for row in rows {
-        if row.payment.customer == customer {
-            let Ok(()) = paid.push(paid_by(row.payment)) else {
-                return Err(StoreFault::Memory);
-            };
+        if is_on(&paid_by(row.payment), month) {
+            add_paid(&mut sums, row.payment.customer, row.payment.amount)?;
         }
     }
-    Ok(paid)
+    Ok(sums)
+}
+
+/// Adds a payment to the customer's sum.
+fn add_paid(
+    sums: &mut BTreeMap<u32, PaidSum>,
+    customer: CustomerNo,
+    amount: Amount,
+) -> Result<(), StoreFault>
+    requires { AreSmall 1_000_000 sums.now }
+    ensures { OnOk result (Updates nat_cmp sums.old sums.new customer (Some (one_paid amount (get nat_cmp sums.old customer)))) }
+{
+    let before = sum_at(sums, customer);
+    let sum = PaidSum {
+        purchases: before.purchases + 1,
+        cents: before.cents + u64::from(amount.get()),
+    };
+    match sums.insert(customer.get(), sum) {
+        Ok(_) => Ok(()),
+        Err(_) => Err(StoreFault::Memory),
+    }
+}
+
+/// What the customer paid.
+fn sum_at(sums: &BTreeMap<u32, PaidSum>, customer: CustomerNo) -> PaidSum
+    ensures { result ≡ sum_or_none (get nat_cmp sums.now customer) }
+{
+    match sums.get(&customer.get()).copied() {
+        Some(sum) => sum,
+        None => PaidSum {
+            purchases: 0,
+            cents: 0,
+        },
+    }
+}
+
+/// Whether what the customer paid passes both thresholds.
+fn passes_for(
+    sums: &BTreeMap<u32, PaidSum>,
+    customer: CustomerNo,
+    purchases: u32,
+    cents: u32,
+) -> bool
+    ensures { (month : ℤ × ℤ) (payments : List Payment) → AreSummed month sums.now payments → result ≡ passes_for month purchases cents payments customer }
+{
+    let sum = sum_at(sums, customer);
+    sum.purchases > purchases && sum.cents > u64::from(cents)
 }

@@ -4,4 +4,4 @@ use Rattle.branch_work.proofs.rewards.rewarded_among.Given as goal
 
 -- those of the customers so far
 abbrev pub invariant-loop-index : goal.invariant-loop-index
-invariant-loop-index l = l.numbers.items ≡ rewarded_numbers l.month l.purchases l.cents l.index (payments_of l.rows)
+invariant-loop-index l = l.numbers.items ≡ rewarded_numbers l.fn.month l.purchases l.cents l.index (payments_of l.rows)
