@@ -1,0 +1,12 @@
+pub mod Numbers
+pub mod Orders
+pub mod PageLines
+pub mod PeopleQueries
+pub mod PersonJoin
+pub mod PeopleJoins
+pub mod PersonLines
+pub mod Casts
+pub mod FilmQuery
+pub mod FilmJoin
+pub mod FilmRuns
+pub mod FilmLines

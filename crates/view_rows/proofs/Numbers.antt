@@ -1,0 +1,57 @@
+-- Shared rows that are joined by their numbers: `LEFT JOIN t ON t.number = key`.
+use Rattle.std.proofs.Common.{◌≡◌, ◌≤◌, ◌==◌, ◌&&◌, ◌+◌, ◌-◌, ℕ, zero, suc, List, [], ◌∷◌, ◌++◌, map, filter, true, false, Bool, cond, refl, sym, ap, ◌∙◌, arith, inl, inr}
+use Rattle.std.specs.Prelude.{◌⊎◌}
+use Rattle.std.specs.List.{flat_map}
+use Rattle.std.proofs.lemmas.Bool.Decides.{nat_tests}
+use Rattle.sqlite.specs.declared.types.Value.TheVariants.{Null}
+use Rattle.sqlite_value.specs.Order.{Row, column}
+use Rattle.sqlite_sql.specs.Query.{or_nulls}
+use Rattle.sql_rows.specs.Rows.{HasRows, columns_of, number_value}
+use Rattle.sql_rows.proofs.Joins.{or_blank, equals, left_key, left_no_key}
+use Rattle.shop_model.specs.Rows.{at, numbered, numbered_from}
+use Rattle.shop_schema.proofs.Lasts.{numbered_once}
+use Rattle.shop_schema.proofs.Numbered.{picked}
+
+pub numbered_at : {A : Type 0} (n : ℕ) (xs : List A) → filter (λ (it : ℕ × A). it.0 == n) (numbered xs) ≡ map (λ x. (n, x)) (at n xs)
+numbered_at {A} zero xs = none_below 1 (omega arith) xs ∙ ap (map (λ x. (0, x))) (sym (nowhere xs))
+  where
+    none_below : (k : ℕ) → 1 ≤ k → (xs : List A) → filter (λ (it : ℕ × A). it.0 == 0) (numbered_from k xs) ≡ []
+    none_below k low [] = refl
+    none_below k low (x ∷ xs) = ap (λ b. cond b ((k, x) ∷ filter (λ (it : ℕ × A). it.0 == 0) (numbered_from (k + 1) xs)) (filter (λ (it : ℕ × A). it.0 == 0) (numbered_from (k + 1) xs))) (above k low) ∙ none_below (k + 1) (omega arith) xs
+      where
+        above : (k : ℕ) → 1 ≤ k → (k == 0) ≡ false
+        above k low = grind (arith, nat_tests)
+
+    nowhere : (xs : List A) → at 0 xs ≡ []
+    nowhere [] = refl
+    nowhere (x ∷ xs) = nowhere xs
+numbered_at (suc n) xs = picked (suc n) (omega arith) xs
+
+-- at most one row has the number
+pub one_at : {A : Type 0} (n : ℕ) (xs : List A) → (at n xs ≡ []) ⊎ ((x : A) × (at n xs ≡ x ∷ []))
+one_at n [] = inl refl
+one_at {A} n (x ∷ xs) = go (n == 1) (one_at (n - 1) xs)
+  where
+    go : (b : Bool) → (at (n - 1) xs ≡ []) ⊎ ((y : A) × (at (n - 1) xs ≡ y ∷ [])) → (cond b (x ∷ []) (at (n - 1) xs) ≡ []) ⊎ ((y : A) × (cond b (x ∷ []) (at (n - 1) xs) ≡ y ∷ []))
+    go true more = inr (x, refl)
+    go false more = more
+
+module _ {A Z : Type 0} (width : ℕ) (columns : ℕ × A → Row) (tree : List Row) (xs : List A) (has : HasRows width tree (map columns (numbered xs)))
+    (numbers : (it : ℕ × A) → column (columns it) 0 ≡ number_value it.0) (first : (r : Row) → column r 1 ≡ column (columns_of width r) 0)
+    (gives : Row → List Z) (only : (r : Row) → gives r ≡ gives (Null ∷ columns_of width r)) where
+  abbrev hands_on : Row → List Z
+  hands_on c = gives (Null ∷ c)
+
+  -- the key is a number
+  pub left_number : (n : ℕ) → flat_map gives (or_nulls (filter (λ r. equals (column r 1) (number_value n) && true) tree)) ≡ flat_map hands_on (or_blank width (map (λ x. columns (n, x)) (at n xs)))
+  left_number n =
+      left_key width columns tree (numbered xs) has gives only (λ it. it.0) numbers first n (numbered_once 1 xs n)
+      ∙ ap (λ (l : List (ℕ × A)). flat_map hands_on (or_blank width (map columns l))) (numbered_at n xs) ∙ ap (λ l. flat_map hands_on (or_blank width l)) (through (at n xs))
+    where
+      through : (l : List A) → map columns (map (λ x. (n, x)) l) ≡ map (λ x. columns (n, x)) l
+      through [] = refl
+      through (x ∷ l) = ap (λ rows. columns (n, x) ∷ rows) (through l)
+
+  -- the key is NULL
+  pub left_null : flat_map gives (or_nulls (filter (λ r. equals (column r 1) Null && true) tree)) ≡ hands_on (columns_of width []) ++ []
+  left_null = left_no_key width columns tree (numbered xs) has gives only (λ it. it.0) numbers first

@@ -1,0 +1,61 @@
+-- What the texts of the lists of people mean.
+use Rattle.std.proofs.Common.{ℕ, List, [], ◌∷◌, codes, refl}
+use Rattle.sqlite_value.specs.Keys.{ascending}
+use Rattle.sqlite_value.specs.declared.keys.Key.{Key}
+use Rattle.sqlite_value.specs.declared.keys.Collation.TheVariants.{Binary}
+use Rattle.sqlite_sql.specs.Term.{Term, col}
+use Rattle.sqlite_sql.specs.Query.{Query, Join, inner, left, end}
+use Rattle.sqlite_tied.specs.Compute.{everything}
+use Rattle.sqlite.specs.Listing.{understood}
+use Rattle.sql_rows.proofs.Queries.{Selects}
+use Rattle.sql_rows.proofs.Joins.{joined_query, are_equal}
+use Rattle.shop_schema.specs.Tables.{shop_schema}
+
+-- what is joined to a city, and to a person, whose city stands in the same column of either table
+abbrev pub with_country : Join
+with_country = left 1 (are_equal (col 3 1) (col 2 3) ∷ []) end
+
+abbrev pub with_city : Join
+with_city = left 10 (are_equal (col 2 1) (col 1 8) ∷ []) with_country
+
+-- ---- customers
+
+abbrev pub select_customers : List ℕ
+select_customers = codes "SELECT c.number, c.first, c.last, c.address, c.postal, c.phone, ci.name, co.name, c.active FROM customer AS c LEFT JOIN city AS ci ON ci.number = c.city LEFT JOIN country AS co ON co.number = ci.country WHERE c.branch = ?1 ORDER BY c.number"
+
+abbrev pub customer_tests : List Term
+customer_tests = are_equal (col 1 1) (col 0 0) ∷ []
+
+abbrev pub customer_shows : List Term
+customer_shows = col 1 2 ∷ col 1 3 ∷ col 1 4 ∷ col 1 5 ∷ col 1 6 ∷ col 1 7 ∷ col 2 2 ∷ col 3 2 ∷ col 1 9 ∷ []
+
+abbrev pub customer_order : List (Term × Key)
+customer_order = (col 1 2, ascending Binary) ∷ []
+
+abbrev pub customers_query : Query
+customers_query = joined_query (inner 23 with_city) customer_tests customer_shows customer_order
+
+pub customers_mean : Selects shop_schema select_customers customers_query
+unfolding understood everything
+customers_mean = record { names = _; is = refl; plain = (refl, refl); unlisted = refl }
+
+-- ---- staff
+
+abbrev pub select_staff : List ℕ
+select_staff = codes "SELECT s.number, s.first, s.last, s.address, s.postal, s.phone, ci.name, co.name FROM staff AS s LEFT JOIN city AS ci ON ci.number = s.city LEFT JOIN country AS co ON co.number = ci.country WHERE s.branch = ?1 ORDER BY s.number"
+
+abbrev pub staff_tests : List Term
+staff_tests = are_equal (col 1 2) (col 0 0) ∷ []
+
+abbrev pub staff_shows : List Term
+staff_shows = col 1 1 ∷ col 1 3 ∷ col 1 4 ∷ col 1 5 ∷ col 1 6 ∷ col 1 7 ∷ col 2 2 ∷ col 3 2 ∷ []
+
+abbrev pub staff_order : List (Term × Key)
+staff_order = (col 1 1, ascending Binary) ∷ []
+
+abbrev pub staff_query : Query
+staff_query = joined_query (inner 21 with_city) staff_tests staff_shows staff_order
+
+pub staff_mean : Selects shop_schema select_staff staff_query
+unfolding understood everything
+staff_mean = record { names = _; is = refl; plain = (refl, refl); unlisted = refl }

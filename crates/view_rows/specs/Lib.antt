@@ -1,0 +1,3 @@
+pub mod Shown
+pub mod Pages
+pub mod Films
