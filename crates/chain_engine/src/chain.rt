@@ -100,7 +100,7 @@ impl Chain<MemStore> {
         limits: Limits,
     ) -> Result<Chain<MemStore>, OpenFault>
         ensures made { IfOk result (λ chain. (chain.limits ≡ limits) × (chain.is_failed ≡ false) × IsAt over_memory chain (first_books office.now) (first_books office.now)) }
-        ensures fault { IfErr result (λ e. (e ≢ OpenFault.NotAChain) × (e ≢ OpenFault.OtherVersion)) }
+        ensures fault { IfErr result (λ e. (e ≢ OpenFault.NotAChain) × (e ≢ OpenFault.OtherVersion) × (e ≢ OpenFault.Already)) }
     {
         let Ok(mut conn) = Connection::open_in_memory(alloc) else {
             return Err(OpenFault::Memory);
@@ -121,7 +121,7 @@ impl Chain<MemStore> {
     /// A chain in memory, with the opening rows, in which no branch has asked anything. Where there is none, memory or room is wanting, or the store has failed.
     pub fn demo(alloc: Global, limits: Limits) -> Result<Chain<MemStore>, OpenFault>
         ensures made { IfOk result (λ chain. (chain.limits ≡ limits) × (chain.is_failed ≡ false) × IsAt over_memory chain opening_books opening_books) }
-        ensures fault { IfErr result (λ e. (e ≢ OpenFault.NotAChain) × (e ≢ OpenFault.OtherVersion)) }
+        ensures fault { IfErr result (λ e. (e ≢ OpenFault.NotAChain) × (e ≢ OpenFault.OtherVersion) × (e ≢ OpenFault.Already)) }
     {
         let Ok(mut conn) = Connection::open_in_memory(alloc) else {
             return Err(OpenFault::Memory);

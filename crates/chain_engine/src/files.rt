@@ -3,16 +3,15 @@
 ghost use Rattle.std.specs.Prelude.{◌≡◌, ◌⊎◌, false, IfOk, IfErr, map};
 ghost use Rattle.sqlite.specs.Held.{state};
 ghost use Rattle.sqlite.specs.State.{HasCleanDisk, Survives};
-ghost use Rattle.sqlite.specs.Files.{over_files, file_state, image_of, HoldsDatabase};
+ghost use Rattle.sqlite.specs.Files.{over_files, file_state, image_of};
 ghost use Rattle.sqlite_wal.specs.Files.{outcomes};
 ghost use Rattle.sqlite_wal.specs.Reads.{AreClean};
-ghost use Rattle.sqlite_trees.specs.Tree.{Trees};
 ghost use Rattle.sql_rows.specs.Rows.{columns_of};
 ghost use Rattle.shop_model.specs.Books.{Books};
 ghost use Rattle.shop_schema.specs.Shop.{HasVersion};
 ghost use Rattle.shop_schema.specs.Versions.{version_of};
 ghost use Rattle.chain_engine.specs.Chains.{IsAt, Rests};
-ghost use Rattle.chain_engine.specs.Files.{Knows, HoldsOne, KeepsBooks, KeepsEither, OpenFailed};
+ghost use Rattle.chain_engine.specs.Files.{Knows, HoldsOne, KeepsBooks, KeepsEither};
 ghost use Rattle.chain_engine.specs.Openings.{IsOpenedIn, IsNotOpened};
 
 use crate::chain::{Chain, OpenFault, named};
@@ -123,7 +122,7 @@ impl<D: Disk + Drop> Chain<FileStore<D>> {
         ensures either { IfOk result (λ chain. HasCleanDisk (file_state chain.conn) → (books besides : Books) → IsAt over_files self books besides
             → ∥ IsAt over_files chain books books ⊎ IsAt over_files chain besides besides ∥₁) }
         ensures kept { IfErr result (λ e. (closed : _) × (self.is_failed ≡ false → (books besides : Books) → IsAt over_files self books besides → KeepsBooks D.Disk closed books)
-            × (AreClean D.Disk e.1.log e.1.db → OpenFailed D.Disk closed e.1 ⊎ ((db : Trees) → HoldsDatabase (image_of D.Disk closed) db → HoldsOne D.Disk e.1 (λ left. left ≡ db)))) }
+            × IsNotOpened D.Disk closed e.0 e.1) }
     {
         let alloc = self.alloc;
         let limits = self.limits;

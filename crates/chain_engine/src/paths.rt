@@ -1,14 +1,14 @@
 //! A chain in a file of the operating system, and the log beside it.
 
-ghost use Rattle.std.specs.Prelude.{◌≢◌, true, false, IfOk, IfErr};
+ghost use Rattle.std.specs.Prelude.{◌≡◌, ◌≢◌, true, false, IfOk, IfErr};
 ghost use Rattle.sqlite_std_file.specs.File.{IsFresh};
 ghost use Rattle.shop_schema.specs.Shop.{first_books};
-ghost use Rattle.chain_engine.specs.Openings.{IsCreated, IsOpenedIn};
+ghost use Rattle.chain_engine.specs.Openings.{IsCreated, IsNotCreated, IsOpenedIn, IsNotOpened};
 
 use crate::chain::{Chain, OpenFault};
 use shop_types::{Limits, Token};
 use sqlite::FileStore;
-use sqlite_disk::{Files, Unknown};
+use sqlite_disk::{Disk, Files, Unknown};
 use sqlite_std_file::{File, OpenError};
 use std::fs::metadata;
 use std::io;
@@ -46,6 +46,8 @@ impl Chain<FileStore<File>> {
         ensures made { IfOk result (λ chain. (files : _) × IsFresh true files.log × IsFresh false files.db × IsCreated files limits (first_books office.now) chain) }
         ensures chain { IfErr result (λ e. e ≢ OpenFault.NotAChain) }
         ensures version { IfErr result (λ e. e ≢ OpenFault.OtherVersion) }
+        ensures there { IfErr result (λ e. e ≡ OpenFault.Already → (files left : _) × IsFresh true files.log × IsFresh false files.db
+            × IsNotCreated ⟦<File as Disk>⟧ files (first_books office.now) e left) }
     {
         let files = files_at(rt, path)?;
         match Chain::create_files(rt.alloc(), files, limits, office) {
@@ -62,6 +64,7 @@ impl Chain<FileStore<File>> {
     ) -> Result<Chain<FileStore<File>>, OpenFault>
         ensures opened { IfOk result (λ chain. (files : _) × IsFresh true files.log × IsFresh false files.db × IsOpenedIn files limits chain) }
         ensures already { IfErr result (λ e. e ≢ OpenFault.Already) }
+        ensures version { IfErr result (λ e. e ≡ OpenFault.OtherVersion → (files left : _) × IsFresh true files.log × IsFresh false files.db × IsNotOpened ⟦<File as Disk>⟧ files e left) }
     {
         if is_missing(rt, path) {
             return Err(OpenFault::NotAChain);

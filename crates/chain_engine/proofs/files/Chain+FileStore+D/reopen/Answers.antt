@@ -23,4 +23,4 @@ pub returns-clause-either : goal.returns-clause-either
 returns-clause-either g c = ok_then c.open_files.result c.open_files.ensures.opened (λ chain it clean books besides at. it.either clean books besides (c.close.ensures.either books besides at))
 
 pub returns-clause-kept : goal.returns-clause-kept
-returns-clause-kept g c = err_then c.open_files.result c.open_files.ensures.refused (λ e it. (c.close.result, c.close.ensures.keeps, it.kept))
+returns-clause-kept g c = err_then c.open_files.result c.open_files.ensures.refused (λ e it. (c.close.result, c.close.ensures.keeps, it))
