@@ -6,8 +6,6 @@ mod messages;
 #[cfg(test)]
 mod money;
 #[cfg(test)]
-mod office;
-#[cfg(test)]
 mod rentals;
 #[cfg(test)]
 mod routes;
@@ -17,5 +15,3 @@ mod types;
 mod values;
 #[cfg(test)]
 mod views;
-#[cfg(test)]
-mod words;
