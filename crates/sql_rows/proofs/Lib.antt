@@ -23,5 +23,6 @@ pub mod Projects
 pub mod Stays
 pub mod Tells
 pub mod Drops
+pub mod TextLemmas
 pub mod EachLemmas
 pub mod Joins

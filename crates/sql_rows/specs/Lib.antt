@@ -3,3 +3,4 @@ pub mod Builds
 pub mod Fault
 pub mod Books
 pub mod Calls
+pub mod Texts

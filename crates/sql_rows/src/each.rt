@@ -2,11 +2,11 @@
 
 ghost use Rattle.std.specs.Prelude.{◌≡◌, ℕ, List, [], ◌∷◌, ◌++◌, false, OnOk};
 ghost use Rattle.sqlite.specs.Held.{state};
-ghost use Rattle.sqlite.specs.Given.{IsPlain, HasGiven};
-ghost use Rattle.sqlite.specs.Listing.{understood};
+ghost use Rattle.sqlite.specs.Given.{HasGiven};
 ghost use Rattle.sqlite.specs.State.{HasCleanDisk, IsUnchanged, KeepsCommit, Survives, Shown};
 ghost use Rattle.sqlite.specs.Values.{bound};
 ghost use Rattle.sqlite_value.specs.Order.{Row as SqlRow};
+ghost use Rattle.sql_rows.specs.Texts.{IsQuery};
 
 use crate::fault::{StoreFault, fault_of};
 use sqlite::types::ValueRef;
@@ -24,7 +24,7 @@ pub trait TakesRows: Sized {
 /// Hands the rows of an answer that has just begun to `taker`, up to its end.
 fn take_all<S: Alter, T: TakesRows>(rows: &mut Rows<'_, S>, taker: &mut T) -> Result<(), StoreFault>
     ensures same_reference { rows.new.conn.ghost_name ≡ rows.old.conn.ghost_name }
-    ensures took { HasCleanDisk (state S.Store rows.new.conn.now) → OnOk result ((sql : List ℕ) (params : SqlRow) → IsPlain (understood rows.old.conn.now.schema sql) → HasGiven S.Store sql params rows.old.conn.now []
+    ensures took { HasCleanDisk (state S.Store rows.new.conn.now) → OnOk result ((sql : List ℕ) (params : SqlRow) → IsQuery sql → HasGiven S.Store sql params rows.old.conn.now []
         → (given : List SqlRow) × Shown sql params (state S.Store rows.old.conn.now) (state S.Store rows.new.conn.now) given × (T.TakesRows.took taker.old taker.old [] → T.TakesRows.took taker.old taker.new given)) }
     ensures same { HasCleanDisk (state S.Store rows.new.conn.now) → OnOk result (IsUnchanged (state S.Store rows.old.conn.now) (state S.Store rows.new.conn.now)) }
     ensures kept { HasCleanDisk (state S.Store rows.new.conn.now) → KeepsCommit (state S.Store rows.old.conn.now) (state S.Store rows.new.conn.now) }
@@ -50,7 +50,7 @@ pub fn each_row<S: Alter, T: TakesRows>(
     params: &[ValueRef<'_>],
     taker: &mut T,
 ) -> Result<(), StoreFault>
-    requires { IsPlain (understood conn.old.schema text.now) }
+    requires { IsQuery text.now }
     ensures took { HasCleanDisk (state S.Store conn.new) → OnOk result ((rows : List SqlRow) × Shown text.now (bound params.now) (state S.Store conn.old) (state S.Store conn.new) rows × (T.TakesRows.took taker.old taker.old [] → T.TakesRows.took taker.old taker.new rows)) }
     ensures same { HasCleanDisk (state S.Store conn.new) → OnOk result (IsUnchanged (state S.Store conn.old) (state S.Store conn.new)) }
     ensures kept { HasCleanDisk (state S.Store conn.new) → KeepsCommit (state S.Store conn.old) (state S.Store conn.new) }

@@ -49,6 +49,7 @@ pub fn read_all<T: Stored>(alloc: Global, rows: &[Row]) -> Result<Vec<T>, StoreF
 pub fn read_one<T: Stored>(rows: &[Row]) -> Result<Option<T>, StoreFault>
     ensures ok { IfOk result (λ o. map T.Stored.columns (option_to_list o) ≡ take 1 rows.now) }
     ensures value { IfOk result (λ o. IfSome o T.Stored.fits) }
+    ensures failed { IfErr result (λ e. e ≡ Failed → (o : _) → IfSome o T.Stored.fits → map T.Stored.columns (option_to_list o) ≢ take 1 rows.now) }
 {
     match rows.first() {
         None => Ok(None),

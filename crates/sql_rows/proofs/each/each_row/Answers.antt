@@ -1,15 +1,12 @@
-use Rattle.std.proofs.Common.{List, [], arith, rules, sym, subst, inl, OnOk}
+use Rattle.std.proofs.Common.{List, [], arith, rules, inl, OnOk}
 use Rattle.sqlite_value.specs.Order.{Row}
-use Rattle.sqlite.specs.Effect.{Database}
-use Rattle.sqlite.specs.Given.{IsPlain}
 use Rattle.sqlite.specs.Held.{state}
-use Rattle.sqlite.specs.Listing.{understood}
 use Rattle.sqlite.specs.State.{HasCleanDisk, Survives, Shown, CommitsShowing}
 use Rattle.sqlite.specs.Values.{bound}
-use Rattle.sqlite.proofs.Callers.{begun_plain}
 use Rattle.sql_rows.proofs.Inside.{keeps_unqueried, on_ok_then}
 use Rattle.sql_rows.proofs.Stays.{survives_more}
-use Rattle.sql_rows.proofs.EachLemmas.{shown_from, commits_nothing}
+use Rattle.sql_rows.proofs.EachLemmas.{shown_from}
+use Rattle.sql_rows.proofs.TextLemmas.{begun_query, commits_nothing}
 use Rattle.sql_rows.proofs.each.each_row.Goals as goal
 
 pub returns-in-Err-clause-kept : goal.returns-in-Err-clause-kept
@@ -34,11 +31,10 @@ returns-clause-took g c clean =
     let now = c.take_all.new.rows.conn.now in
     let late : HasCleanDisk (state g.S.Store now) = search rules in
     let early : HasCleanDisk (state g.S.Store begun) = omega (arith, late, c.take_all.ensures.survives.clean) in
-    let start = begun_plain g.S.Store text params c.args.conn.now begun c.requires (c.in-Ok.ensures.begun early) in
-    let plain : IsPlain (understood begun.schema text) = subst (λ (d : Database). IsPlain (understood d.schema text)) (sym start.1.0.now_is) c.requires in
+    let start = begun_query g.S.Store text params c.args.conn.now begun c.requires (c.in-Ok.ensures.begun early) in
     let told : OnOk c.take_all.result ((x : List Row) × Shown text params old (state g.S.Store now) x × (g.T.TakesRows.took c.args.taker.now c.args.taker.now [] → g.T.TakesRows.took c.args.taker.now c.take_all.new.taker x)) =
     on_ok_then c.take_all.result (λ given.
-    let it = given text params plain start.0 in
+    let it = given text params c.requires start.0 in
     (it.0, shown_from text params old (state g.S.Store begun) (state g.S.Store now) it.0 c.requires start.1 it.1, it.2)) (c.take_all.ensures.took late) in
     search rules
 
