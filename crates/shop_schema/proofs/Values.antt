@@ -59,6 +59,7 @@ held_by_sound sizes books commands copies sound values = record {
   owners = sound.owners;
   office_keys = sound.catalogue.keys;
   single = sound.catalogue.single;
+  names = sound.catalogue.names;
   few_shared = few_by_good sizes books.catalogue commands sound.catalogue;
 }
 

@@ -5,7 +5,7 @@ use Rattle.shop_model.specs.Values.{Branch}
 use Rattle.shop_model.specs.Shop.{Kept, OfficeKept, Catalogue}
 use Rattle.shop_model.specs.Books.{Books, shop_of}
 use Rattle.shop_model.specs.Stock.{keeps_out}
-use Rattle.shop_model.specs.Links.{are_different, HasNoDoubles}
+use Rattle.shop_model.specs.Links.{are_different, HasNoDoubles, NamesRowsOf}
 use Rattle.shop_model.specs.Sound.{HasNumbers, HasOwners}
 use Rattle.shop_schema.specs.RowValues.{AreValues}
 
@@ -21,7 +21,8 @@ pub record HasFewShared (catalogue : Catalogue) : Type 0 where
   pub staff : length catalogue.staff ≤ 1_000_003
 
 -- Its rows are such as the program can hold, they are numbered, the branches that they name are there, no key of a caller and no token comes twice, no cast and no
--- name of a country, language or category does, no caller has more than a million rows of a kind, shared rows are few, and a copy is out at most once.
+-- name of a country, language or category does, no caller has more than a million rows of a kind, shared rows are few and name rows that are there, and a copy is
+-- out at most once.
 pub record IsHeld (books : Books) : Type 0 where
   pub values : AreValues books
   pub numbers : HasNumbers books
@@ -37,4 +38,5 @@ pub record IsHeld (books : Books) : Type 0 where
   pub owners : HasOwners books.catalogue.branches books
   pub office_keys : are_different (λ (earlier later : OfficeKept). bytes_eq earlier.command.key later.command.key) books.catalogue.kept ≡ true
   pub single : HasNoDoubles books.catalogue
+  pub names : NamesRowsOf books.catalogue books.catalogue
   pub few_shared : HasFewShared books.catalogue

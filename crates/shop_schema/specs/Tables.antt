@@ -226,6 +226,7 @@ shop_schema = record {
       ∷ index_of (codes "rental_customer") 46 27 (1 ∷ 5 ∷ 2 ∷ [])
       ∷ index_of (codes "payment_customer") 47 30 (1 ∷ 3 ∷ 2 ∷ [])
       ∷ index_of (codes "payment_moment") 48 30 (1 ∷ 7 ∷ 2 ∷ [])
+      ∷ index_of (codes "film_actor_actor") 49 16 (2 ∷ 1 ∷ [])
       ∷ [];
   views = [];
 }

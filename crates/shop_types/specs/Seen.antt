@@ -21,6 +21,10 @@ use Rattle.shop_types.specs.declared.office.OfficeAct.TheVariants as office
 use Rattle.shop_types.specs.declared.office.OfficeCommand.{OfficeCommand}
 use Rattle.shop_types.specs.declared.request.Ask.{Ask}
 use Rattle.shop_types.specs.declared.request.Ask.TheVariants as ask
+use Rattle.shop_types.specs.declared.request.View.{View}
+use Rattle.shop_types.specs.declared.request.View.TheVariants as view
+use Rattle.shop_types.specs.declared.request.OfficeAsk.{OfficeAsk}
+use Rattle.shop_types.specs.declared.request.OfficeAsk.TheVariants as office_ask
 use Rattle.shop_types.specs.declared.request.Request.{Request}
 use Rattle.shop_types.specs.declared.request.Request.TheVariants as request
 use Rattle.shop_types.specs.declared.request.Caller.{Caller}
@@ -158,10 +162,23 @@ seen_office command = record { key = command.key; act = seen_office_act command.
 
 -- ---- requests
 
+abbrev pub seen_view : View → model.View
+seen_view view.CustomerList = model.CustomerList
+seen_view view.StaffList = model.StaffList
+seen_view view.FilmList = model.FilmList
+seen_view view.ActorInfo = model.ActorInfo
+seen_view view.SalesByStore = model.SalesByStore
+seen_view view.SalesByFilmCategory = model.SalesByCategory
+
+abbrev pub seen_office_ask : OfficeAsk → model.OfficeAsk
+seen_office_ask office_ask.Sales = model.Sales
+
 abbrev pub seen_request : Request → machine.Request
 seen_request (request.Do command) = machine.Do (seen_command command)
 seen_request (request.Look ask) = machine.Look (seen_ask ask)
+seen_request (request.View it) = machine.Look (model.OneView (seen_view it))
 seen_request (request.Office command) = machine.Office (seen_office command)
+seen_request (request.OfficeLook ask) = machine.OfficeLook (seen_office_ask ask)
 
 -- ---- refusals
 

@@ -27,7 +27,7 @@ pub use person::{Customer, Person};
 pub use refusal::{BadCsv, Refusal};
 pub use rental::Rental;
 pub use reply::{Body, Reply};
-pub use request::{Ask, Caller, Request};
+pub use request::{Ask, Caller, OfficeAsk, Request, View};
 pub use shop_values::{
     ActorNo, Amount, BranchNo, CategoryNo, Cents, CityNo, CopyNo, CountryNo, CustomerNo, FilmNo,
     Key, L45, L500, LanguageNo, Limits, LotName, Moment, Name, NoMemory, PaymentNo, Rate, RentalNo,

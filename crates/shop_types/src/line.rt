@@ -1,4 +1,4 @@
-use crate::OfficeCommand;
+use crate::{OfficeAsk, OfficeCommand};
 use shop_values::Token;
 
 /// What a line of words asks the program of head office for.
@@ -6,6 +6,8 @@ use shop_values::Token;
 pub enum LineAct {
     /// A command of head office to the chain.
     Office(OfficeCommand),
+    /// A reading of head office, from the chain.
+    OfficeLook(OfficeAsk),
     /// To make a new chain, whose head office has the token.
     Init(Token),
     /// To bring the chain's file to the form that this program reads.

@@ -31,13 +31,41 @@ pub enum Ask {
     },
 }
 
+/// A view of the Sakila manual, over the catalogue and the shop of the branch that asks.
+#[derive(Clone, Copy, Debug, PartialEq, Eq)]
+pub enum View {
+    /// All customers of the branch.
+    CustomerList,
+    /// All staff of the branch, those who left too.
+    StaffList,
+    /// All films, withdrawn ones too, each with its actors.
+    FilmList,
+    /// All actors, each with the films by category.
+    ActorInfo,
+    /// What the branch has taken for rentals.
+    SalesByStore,
+    /// What it has taken for rentals of each category's films.
+    SalesByFilmCategory,
+}
+
+/// What a reading of head office shows, over all branches.
+#[derive(Clone, Copy, Debug, PartialEq, Eq)]
+pub enum OfficeAsk {
+    /// What each branch has taken for rentals, in order of the branches' numbers.
+    Sales,
+}
+
 /// What a caller asks.
 #[derive(Clone, Debug, Drop, PartialEq, Eq)]
 pub enum Request {
     Do(Command),
     Look(Ask),
+    /// A view, which a counter asks for.
+    View(View),
     /// A command of head office, which a counter may not ask.
     Office(OfficeCommand),
+    /// A reading of head office, which a counter may not ask.
+    OfficeLook(OfficeAsk),
 }
 
 /// Who asks, by the token that came with the request.
