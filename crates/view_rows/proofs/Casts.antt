@@ -24,7 +24,7 @@ filter_or {X} p q apart (x ∷ xs) = go (p x) (q x) refl refl (filter_or p q apa
     go false true e f h = IsPermutation-trans _ _ _ (IsPermutation-middle (filter p xs) x (filter q xs)) (IsPermutation-cons x _ _ h)
     go false false e f h = h
 
-turned : (m n : ℕ) → (m == n) ≡ (n == m)
+pub turned : (m n : ℕ) → (m == n) ≡ (n == m)
 turned m n = grind (arith, nat_tests)
 
 abbrev pub Differ : List Cast → Type 0
@@ -74,7 +74,7 @@ AreApart = IsAscending (λ (a b : Cast). (a.film == b.film && a.actor == b.actor
 abbrev pub AreThere : Catalogue → List Cast → Type 0
 AreThere catalogue = AllByRecursion (λ (c : Cast). lacks catalogue.actors c.actor ≡ false)
 
-not_true : (b : Bool) → not b ≡ true → b ≡ false
+pub not_true : (b : Bool) → not b ≡ true → b ≡ false
 not_true true h = cc
 not_true false h = refl
 

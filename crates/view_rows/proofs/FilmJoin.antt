@@ -1,9 +1,8 @@
 -- What the films' join shows of the books.
-use Rattle.std.proofs.Common.{◌≡◌, ◌==◌, ◌&&◌, ◌<◌, ◌+◌, ℕ, List, [], ◌∷◌, ◌++◌, map, filter, true, false, Bool, cond, Option, Some, None, refl, sym, ap, subst, ◌∙◌, arith, is_eq, is_lt, append-nil, inl, inr, IsPermutation, Less, Equal, Greater}
+use Rattle.std.proofs.Common.{◌≡◌, ◌==◌, ◌&&◌, ◌<◌, ◌+◌, ℕ, List, [], ◌∷◌, ◌++◌, map, filter, true, false, Bool, cond, Option, Some, None, refl, sym, ap, subst, ◌∙◌, arith, is_eq, is_lt, append-nil, inl, inr, IsPermutation, Equal}
 use Rattle.std.specs.Prelude.{◌⊎◌}
 use Rattle.std.specs.List.{flat_map, AllByRecursion}
 use Rattle.std.specs.Ordering.{nat_cmp, ordering_then}
-use Rattle.std.proofs.lemmas.Bool.Decides.{nat_tests}
 use Rattle.std.proofs.lemmas.List.Sorted.{IsPermutation-trans, IsPermutation-map, length_permutation}
 use Rattle.sqlite.specs.declared.types.Value.{Value}
 use Rattle.sqlite.specs.declared.types.Value.TheVariants.{Null, Text}
@@ -29,6 +28,7 @@ use Rattle.shop_schema.specs.Tables.{shop_schema}
 use Rattle.shop_schema.specs.Shop.{IsShop, StandsFor}
 use Rattle.shop_schema.specs.Columns.{named_columns, actor_columns, film_columns, cast_columns}
 use Rattle.view_rows.specs.Shown.{name_or_null, FilmLine, shown_film, actors_of, lines_of, film_lines}
+use Rattle.view_rows.proofs.Orders.{less, greater, equal, above_from, numbered_rise}
 use Rattle.view_rows.proofs.Numbers.{one_at, left_number, left_null}
 use Rattle.view_rows.proofs.Casts.{casts_of, played_by, cast_bag, there_one, any_cast, differ_in, AreApart, AreThere}
 use Rattle.view_rows.proofs.FilmQuery.{select_films, films_query, films_mean, film_shows, film_order, with_actor, with_cast, with_category}
@@ -138,15 +138,6 @@ module _ (catalogue : Catalogue) (db : Trees) (categories : HasRows 2 (db 7) (ma
 abbrev Later : FilmLine → FilmLine → Type 0
 Later a b = (a.0.0 < b.0.0) ⊎ ((a.0.0 ≡ b.0.0) × (x : ℕ × Actor) × (y : ℕ × Actor) × (a.1 ≡ Some x) × (b.1 ≡ Some y) × (x.0 < y.0))
 
-less : (m n : ℕ) → m < n → nat_cmp m n ≡ Less
-less m n h = grind (arith, nat_tests)
-
-greater : (m n : ℕ) → m < n → nat_cmp n m ≡ Greater
-greater m n h = grind (arith, nat_tests)
-
-equal : (m n : ℕ) → m ≡ n → nat_cmp m n ≡ Equal
-equal m n h = grind (arith, nat_tests)
-
 abbrev actor_key : FilmLine → Value
 actor_key line = or_null (λ (it : ℕ × Actor). number_value it.0) line.1
 
@@ -168,14 +159,6 @@ climbs catalogue a b (inr h) =
       ap is_eq (compares catalogue a b ∙ (λ i. ordering_then (equal a.0.0 b.0.0 h.0 i) (ordering_then ((by_actor a b x y h.3 h.4 ∙ less x.0 y.0 h.5) i) Equal))),
       ap is_lt (compares catalogue b a ∙ (λ i. ordering_then (equal b.0.0 a.0.0 (sym h.0) i) (ordering_then ((by_actor b a y x h.4 h.3 ∙ greater x.0 y.0 h.5) i) Equal))),
     )
-
-above_from : {A : Type 0} (k : ℕ) (xs : List A) (n : ℕ) → n < k → AllByRecursion (λ (it : ℕ × A). n < it.0) (numbered_from k xs)
-above_from k [] n low = tt
-above_from k (x ∷ xs) n low = (low, above_from (k + 1) xs n (omega arith))
-
-numbered_rise : {A : Type 0} (k : ℕ) (xs : List A) → IsAscending (λ (a b : ℕ × A). a.0 < b.0) (numbered_from k xs)
-numbered_rise k [] = tt
-numbered_rise k (x ∷ xs) = (above_from (k + 1) xs k (omega arith), numbered_rise (k + 1) xs)
 
 lines_up : (film : ℕ × Film) (l : List (ℕ × Actor)) → IsAscending (λ (a b : ℕ × Actor). a.0 < b.0) l → IsAscending Later (lines_of film l)
 lines_up film [] up = (tt, tt)

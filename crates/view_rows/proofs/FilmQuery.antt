@@ -7,7 +7,9 @@ use Rattle.sqlite_sql.specs.Term.{Term, col}
 use Rattle.sqlite_sql.specs.Query.{Query, Join, inner, left, end}
 use Rattle.sqlite_tied.specs.Compute.{everything}
 use Rattle.sqlite.specs.Listing.{understood}
+use Rattle.sql_rows.specs.Texts.{IsQuery}
 use Rattle.sql_rows.proofs.Queries.{Selects}
+use Rattle.sql_rows.proofs.TextLemmas.{is_query}
 use Rattle.shop_schema.specs.Tables.{shop_schema}
 use Rattle.sql_rows.proofs.Joins.{joined_query, are_equal}
 
@@ -36,3 +38,7 @@ films_query = joined_query (inner 14 with_category) [] film_shows film_order
 pub films_mean : Selects shop_schema select_films films_query
 unfolding understood everything
 films_mean = record { names = _; is = refl; plain = (refl, refl); unlisted = refl }
+
+pub films_ask : IsQuery select_films
+unfolding everything
+films_ask = is_query select_films (record { parsed = _; is = refl; selects = refl; untimed = refl })

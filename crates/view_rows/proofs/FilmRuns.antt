@@ -24,20 +24,20 @@ run_append catalogue so_far (line ∷ a) b = run_append catalogue (take_line cat
 
 -- ---- names that are joined
 
-others_are : {X : Type 0} (f : X → model.Text) (separator : model.Text) (xs : List X) → flat_map (λ x. separator ++ f x) xs ≡ flat_map (λ (name : model.Text). separator ++ name) (map f xs)
-others_are f separator [] = refl
-others_are f separator (x ∷ xs) = ap (λ (l : model.Text). (separator ++ f x) ++ l) (others_are f separator xs)
+others_are : {X Y : Type 0} (g : Y → model.Text) (f : X → Y) (separator : model.Text) (xs : List X) → flat_map (λ x. separator ++ g (f x)) xs ≡ flat_map (λ y. separator ++ g y) (map f xs)
+others_are g f separator [] = refl
+others_are g f separator (x ∷ xs) = ap (λ (l : model.Text). (separator ++ g (f x)) ++ l) (others_are g f separator xs)
 
-join_map : {X : Type 0} (f : X → model.Text) (separator : model.Text) (xs : List X) → join_by f separator xs ≡ join_by (λ (name : model.Text). name) separator (map f xs)
-join_map f separator [] = refl
-join_map f separator (x ∷ xs) = ap (λ (l : model.Text). f x ++ l) (others_are f separator xs)
+pub join_map : {X Y : Type 0} (g : Y → model.Text) (f : X → Y) (separator : model.Text) (xs : List X) → join_by (λ x. g (f x)) separator xs ≡ join_by g separator (map f xs)
+join_map g f separator [] = refl
+join_map g f separator (x ∷ xs) = ap (λ (l : model.Text). g (f x) ++ l) (others_are g f separator xs)
 
 pub whole_seen : (row : rows.FilmRow) → seen_film row ≡ whole (seen_part row)
-whole_seen row = ap (λ (actors : model.Text). film_with actors row) (join_map name_text (codes ", ") row.actors.items)
+whole_seen row = ap (λ (actors : model.Text). film_with actors row) (join_map (λ (name : model.Text). name) name_text (codes ", ") row.actors.items)
 
 -- ---- the lines of one film
 
-same_one : (n : ℕ) → (n == n) ≡ true
+pub same_one : (n : ℕ) → (n == n) ≡ true
 same_one n = grind (arith, nat_tests)
 
 module _ (catalogue : Catalogue) (film : ℕ × Film) where
@@ -74,7 +74,7 @@ module _ (catalogue : Catalogue) (film : ℕ × Film) where
       ap (λ (s : Grouped). run_from catalogue s (map (λ actor. (film, Some actor)) l)) (starts so_far before (Some it)) ∙ further (closed so_far) (actor_name it ∷ []) l
 
   whole_is : whole (part_of (map actor_name (actors_of catalogue film.0))) ≡ film_row catalogue film
-  whole_is = ap (λ (actors : model.Text). record (film_alone catalogue film) { actors = actors }) (sym (join_map actor_name (codes ", ") (actors_of catalogue film.0)))
+  whole_is = ap (λ (actors : model.Text). record (film_alone catalogue film) { actors = actors }) (sym (join_map (λ (name : model.Text). name) actor_name (codes ", ") (actors_of catalogue film.0)))
 
 -- ---- all films
 

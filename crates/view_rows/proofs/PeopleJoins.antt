@@ -4,7 +4,7 @@ use Rattle.sqlite.specs.declared.types.Value.{Value}
 use Rattle.sqlite.specs.declared.types.Value.TheVariants.{Null, Text}
 use Rattle.sqlite_value.specs.Order as sql
 use Rattle.sqlite_trees.specs.Tree.{Trees}
-use Rattle.sqlite_sql.specs.Query.{Output, output_cmp}
+use Rattle.sqlite_sql.specs.Query.{end, Output, output_cmp}
 use Rattle.sqlite_sql.specs.Program.{overlay}
 use Rattle.sqlite.specs.State.{State, Shown}
 use Rattle.sqlite_keyed.proofs.ListLemmas.{map-map, ascending-map, ascending-filter, ascending_weaker, IsPermutation-same}
@@ -42,7 +42,7 @@ module _ (b : ℕ) (catalogue : Catalogue) (db : Trees) (cities : HasRows 3 (db 
 
   customer_brings : shown_of customers_query (overlay db []) with_city ((number_value b ∷ []) ∷ (Null ∷ customer_columns x) ∷ []) ≡ cond (x.branch == b) (customer_output catalogue x ∷ []) []
   customer_brings =
-      person_brings customers_query catalogue db cities countries (number_value b ∷ []) (Null ∷ customer_columns x) x.it.person.city refl customer_out
+      person_brings 8 end customers_query catalogue db cities countries (number_value b ∷ []) (Null ∷ customer_columns x) x.it.person.city refl customer_out
       (λ r2 r3. ap (λ t. cond t ((
         number_value x.number ∷ [],
         number_value x.number ∷ Text x.it.person.first ∷ Text x.it.person.last ∷ Text x.it.person.address ∷ Text x.it.person.postal ∷ Text x.it.person.phone ∷ sql.column r2 2 ∷ sql.column r3 2 ∷ flag_value x.it.active ∷ [],
@@ -87,7 +87,7 @@ module _ (b : ℕ) (catalogue : Catalogue) (db : Trees) (cities : HasRows 3 (db 
 
   staff_brings : shown_of staff_query (overlay db []) with_city ((number_value b ∷ []) ∷ (Null ∷ staff_columns x) ∷ []) ≡ cond (x.1.branch == b) (staff_output catalogue x ∷ []) []
   staff_brings =
-      person_brings staff_query catalogue db cities countries (number_value b ∷ []) (Null ∷ staff_columns x) x.1.person.city refl staff_out
+      person_brings 8 end staff_query catalogue db cities countries (number_value b ∷ []) (Null ∷ staff_columns x) x.1.person.city refl staff_out
       (λ r2 r3. ap (λ t. cond t ((
         number_value x.0 ∷ [],
         number_value x.0 ∷ Text x.1.person.first ∷ Text x.1.person.last ∷ Text x.1.person.address ∷ Text x.1.person.postal ∷ Text x.1.person.phone ∷ sql.column r2 2 ∷ sql.column r3 2 ∷ [],

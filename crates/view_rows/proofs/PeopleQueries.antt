@@ -7,16 +7,22 @@ use Rattle.sqlite_sql.specs.Term.{Term, col}
 use Rattle.sqlite_sql.specs.Query.{Query, Join, inner, left, end}
 use Rattle.sqlite_tied.specs.Compute.{everything}
 use Rattle.sqlite.specs.Listing.{understood}
+use Rattle.sql_rows.specs.Texts.{IsQuery}
 use Rattle.sql_rows.proofs.Queries.{Selects}
+use Rattle.sql_rows.proofs.TextLemmas.{is_query}
 use Rattle.sql_rows.proofs.Joins.{joined_query, are_equal}
 use Rattle.shop_schema.specs.Tables.{shop_schema}
 
--- what is joined to a city, and to a person, whose city stands in the same column of either table
-abbrev pub with_country : Join
-with_country = left 1 (are_equal (col 3 1) (col 2 3) ∷ []) end
+-- what is joined to a city, and to a row that has a city in this column
+abbrev pub country_then : Join → Join
+country_then more = left 1 (are_equal (col 3 1) (col 2 3) ∷ []) more
 
+abbrev pub city_then : ℕ → Join → Join
+city_then at more = left 10 (are_equal (col 2 1) (col 1 at) ∷ []) (country_then more)
+
+-- what is joined to a person, whose city stands in the same column of either table
 abbrev pub with_city : Join
-with_city = left 10 (are_equal (col 2 1) (col 1 8) ∷ []) with_country
+with_city = city_then 8 end
 
 -- ---- customers
 
@@ -39,6 +45,10 @@ pub customers_mean : Selects shop_schema select_customers customers_query
 unfolding understood everything
 customers_mean = record { names = _; is = refl; plain = (refl, refl); unlisted = refl }
 
+pub customers_ask : IsQuery select_customers
+unfolding everything
+customers_ask = is_query select_customers (record { parsed = _; is = refl; selects = refl; untimed = refl })
+
 -- ---- staff
 
 abbrev pub select_staff : List ℕ
@@ -59,3 +69,7 @@ staff_query = joined_query (inner 21 with_city) staff_tests staff_shows staff_or
 pub staff_mean : Selects shop_schema select_staff staff_query
 unfolding understood everything
 staff_mean = record { names = _; is = refl; plain = (refl, refl); unlisted = refl }
+
+pub staff_ask : IsQuery select_staff
+unfolding everything
+staff_ask = is_query select_staff (record { parsed = _; is = refl; selects = refl; untimed = refl })

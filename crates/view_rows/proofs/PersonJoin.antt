@@ -1,4 +1,4 @@
--- The names of a person's city and country, as they are joined.
+-- The names of a row's city and country, as they are joined.
 use Rattle.std.proofs.Common.{◌≡◌, ◌&&◌, ℕ, List, [], ◌∷◌, map, filter, true, refl, sym, ap, subst, ◌∙◌, append-nil, inl, inr}
 use Rattle.std.specs.Prelude.{◌⊎◌}
 use Rattle.std.specs.List.{flat_map}
@@ -7,7 +7,7 @@ use Rattle.sqlite.specs.declared.types.Value.TheVariants.{Null, Text}
 use Rattle.sqlite_value.specs.Order as sql
 use Rattle.sqlite_value.specs.Order.{column}
 use Rattle.sqlite_trees.specs.Tree.{Trees}
-use Rattle.sqlite_sql.specs.Query.{Query, end, or_nulls, Output}
+use Rattle.sqlite_sql.specs.Query.{Query, Join, or_nulls, Output}
 use Rattle.sqlite_sql.specs.Program.{overlay}
 use Rattle.sqlite_keyed.proofs.ListLemmas.{flat_map_same_on}
 use Rattle.sql_rows.specs.Rows.{HasRows, columns_of, number_value}
@@ -19,17 +19,17 @@ use Rattle.shop_model.specs.Shop.{Catalogue}
 use Rattle.shop_schema.specs.Columns.{named_columns, city_columns}
 use Rattle.view_rows.specs.Shown.{name_or_null}
 use Rattle.view_rows.proofs.Numbers.{one_at, left_number, left_null}
-use Rattle.view_rows.proofs.PeopleQueries.{with_city, with_country}
+use Rattle.view_rows.proofs.PeopleQueries.{country_then, city_then}
 
--- `its` is the person's row, with the city's number in column 8; `out` is what the query shows of it with these two names
-module _ (q : Query) (catalogue : Catalogue) (db : Trees) (cities : HasRows 3 (db 10) (map city_columns (numbered catalogue.cities))) (countries : HasRows 2 (db 1) (map named_columns (numbered catalogue.countries)))
-    (params its : sql.Row) (n : ℕ) (city : column its 8 ≡ number_value n)
-    (out : Value → Value → List Output) (ends : (r2 r3 : sql.Row) → shown_of q (overlay db []) end (params ∷ its ∷ r2 ∷ r3 ∷ []) ≡ out (column r2 2) (column r3 2)) where
+-- `its` is the row, with the city's number in the column `place`; `more` is joined behind; `out` is what the query shows with these two names
+module _ (place : ℕ) (more : Join) (q : Query) (catalogue : Catalogue) (db : Trees) (cities : HasRows 3 (db 10) (map city_columns (numbered catalogue.cities))) (countries : HasRows 2 (db 1) (map named_columns (numbered catalogue.countries)))
+    (params its : sql.Row) (n : ℕ) (city : column its place ≡ number_value n)
+    (out : Value → Value → List Output) (ends : (r2 r3 : sql.Row) → shown_of q (overlay db []) more (params ∷ its ∷ r2 ∷ r3 ∷ []) ≡ out (column r2 2) (column r3 2)) where
   abbrev last : sql.Row → sql.Row → List Output
-  last r2 r3 = shown_of q (overlay db []) end (params ∷ its ∷ r2 ∷ r3 ∷ [])
+  last r2 r3 = shown_of q (overlay db []) more (params ∷ its ∷ r2 ∷ r3 ∷ [])
 
   abbrev shows : sql.Row → List Output
-  shows r2 = shown_of q (overlay db []) with_country (params ∷ its ∷ r2 ∷ [])
+  shows r2 = shown_of q (overlay db []) (country_then more) (params ∷ its ∷ r2 ∷ [])
 
   only : (r2 r : sql.Row) → last r2 r ≡ last r2 (Null ∷ columns_of 2 r)
   only r2 r = ends r2 r ∙ sym (ends r2 (Null ∷ columns_of 2 r))
@@ -56,7 +56,7 @@ module _ (q : Query) (catalogue : Catalogue) (db : Trees) (cities : HasRows 3 (d
       left_null 2 named_columns (db 1) catalogue.countries countries (λ it. refl) (λ r. refl) (last (Null ∷ columns_of 3 [])) (only (Null ∷ columns_of 3 []))
       ∙ append-nil _ ∙ ends (Null ∷ columns_of 3 []) (Null ∷ columns_of 2 [])
 
-  pub person_brings : shown_of q (overlay db []) with_city (params ∷ its ∷ [])
+  pub person_brings : shown_of q (overlay db []) (city_then place more) (params ∷ its ∷ [])
       ≡ out (name_or_null (map (λ (it : City). it.name) (at n catalogue.cities))) (name_or_null (flat_map (λ (it : City). at it.country catalogue.countries) (at n catalogue.cities)))
   person_brings =
       ap (λ v. flat_map shows (or_nulls (filter (λ r. equals (column r 1) v && true) (db 10)))) city

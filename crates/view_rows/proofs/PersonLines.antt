@@ -29,7 +29,7 @@ name_read l (inr one) = subst P (sym one.1) (sym (append-nil one.0))
     P : List model.Text → Type 0
     P l = text_or_empty (name_or_null l) ≡ flat_map (λ (name : model.Text). name) l
 
-city_read : (catalogue : Catalogue) (n : ℕ) → text_or_empty (name_or_null (map (λ (it : City). it.name) (at n catalogue.cities))) ≡ city_name catalogue n
+pub city_read : (catalogue : Catalogue) (n : ℕ) → text_or_empty (name_or_null (map (λ (it : City). it.name) (at n catalogue.cities))) ≡ city_name catalogue n
 city_read catalogue n = go (at n catalogue.cities) (one_at n catalogue.cities)
   where
     P : List City → Type 0
@@ -39,7 +39,7 @@ city_read catalogue n = go (at n catalogue.cities) (one_at n catalogue.cities)
     go l (inl none) = subst P (sym none) refl
     go l (inr one) = subst P (sym one.1) (sym (append-nil one.0.name))
 
-country_read : (catalogue : Catalogue) (n : ℕ) → text_or_empty (name_or_null (flat_map (λ (it : City). at it.country catalogue.countries) (at n catalogue.cities))) ≡ country_name catalogue n
+pub country_read : (catalogue : Catalogue) (n : ℕ) → text_or_empty (name_or_null (flat_map (λ (it : City). at it.country catalogue.countries) (at n catalogue.cities))) ≡ country_name catalogue n
 country_read catalogue n = go (at n catalogue.cities) (one_at n catalogue.cities)
   where
     P : List City → Type 0

@@ -11,7 +11,7 @@ ghost use Rattle.shop_model.specs.Books.{Books, shop_of};
 ghost use Rattle.shop_model.specs.Machine.{CustomersListed};
 ghost use Rattle.shop_model.specs.Answers.{shown_text};
 ghost use Rattle.shop_model.specs.Views.{customer_list};
-ghost use Rattle.shop_schema.specs.Shop.{IsShop, Holds};
+ghost use Rattle.shop_schema.specs.Shop.{Holds};
 ghost use Rattle.shop_schema.specs.Held.{IsHeld};
 ghost use Rattle.shop_views.specs.Page.{HasValues};
 ghost use Rattle.shop_views.specs.People.{seen_customer, customer_data};
@@ -70,7 +70,6 @@ pub fn customer_list<S: Alter>(
     alloc: Global,
     branch: BranchNo,
 ) -> Result<String, StoreFault>
-    requires { IsShop (state S.Store conn.old) }
     ensures text { HasCleanDisk (state S.Store conn.new) → IfOk result (λ s. (books : Books) → Holds (state S.Store conn.old) books → IsHeld books
         → string_bytes s ≡ shown_text (CustomersListed (customer_list branch books.catalogue (shop_of branch books)))) }
     ensures same { HasCleanDisk (state S.Store conn.new) → OnOk result (IsUnchanged (state S.Store conn.old) (state S.Store conn.new)) }

@@ -11,12 +11,11 @@ ghost use Rattle.sql_rows.specs.Rows.{number_value};
 ghost use Rattle.shop_model.specs.Values.{Actor};
 ghost use Rattle.shop_model.specs.Shop.{Catalogue};
 ghost use Rattle.shop_model.specs.Books.{Books};
-ghost use Rattle.shop_model.specs.Links.{NamesRowsOf};
 ghost use Rattle.shop_model.specs.Machine.{FilmsListed};
 ghost use Rattle.shop_model.specs.Answers.{shown_text};
 ghost use Rattle.shop_model.specs.Views.{FilmRow as ModelFilm, film_list};
 ghost use Rattle.shop_types.specs.Films.{rating_text};
-ghost use Rattle.shop_schema.specs.Shop.{IsShop, Holds};
+ghost use Rattle.shop_schema.specs.Shop.{Holds};
 ghost use Rattle.shop_schema.specs.Held.{IsHeld};
 ghost use Rattle.shop_views.specs.Names.{name_text};
 ghost use Rattle.shop_views.specs.Films.{film_with, seen_film, film_data};
@@ -189,8 +188,7 @@ fn finish(taker: FilmPage) -> Result<String, AllocError>
 
 /// All films, withdrawn ones and those without actors too, as the text of a list. The database stays as it was, unless the store fails, which commits nothing.
 pub fn film_list<S: Alter>(conn: &mut Connection<S>, alloc: Global) -> Result<String, StoreFault>
-    requires { IsShop (state S.Store conn.old) }
-    ensures text { HasCleanDisk (state S.Store conn.new) → IfOk result (λ s. (books : Books) → Holds (state S.Store conn.old) books → IsHeld books → NamesRowsOf books.catalogue books.catalogue
+    ensures text { HasCleanDisk (state S.Store conn.new) → IfOk result (λ s. (books : Books) → Holds (state S.Store conn.old) books → IsHeld books
         → string_bytes s ≡ shown_text (FilmsListed (film_list books.catalogue))) }
     ensures same { HasCleanDisk (state S.Store conn.new) → OnOk result (IsUnchanged (state S.Store conn.old) (state S.Store conn.new)) }
     ensures kept { HasCleanDisk (state S.Store conn.new) → KeepsCommit (state S.Store conn.old) (state S.Store conn.new) }

@@ -10,7 +10,7 @@ ghost use Rattle.shop_model.specs.Books.{Books};
 ghost use Rattle.shop_model.specs.Machine.{StaffListed};
 ghost use Rattle.shop_model.specs.Answers.{shown_text};
 ghost use Rattle.shop_model.specs.Views.{staff_list};
-ghost use Rattle.shop_schema.specs.Shop.{IsShop, Holds};
+ghost use Rattle.shop_schema.specs.Shop.{Holds};
 ghost use Rattle.shop_views.specs.Page.{HasValues};
 ghost use Rattle.shop_views.specs.People.{seen_staff, staff_data};
 ghost use Rattle.view_rows.specs.Shown.{shown_staff, listed_staff};
@@ -67,7 +67,6 @@ pub fn staff_list<S: Alter>(
     alloc: Global,
     branch: BranchNo,
 ) -> Result<String, StoreFault>
-    requires { IsShop (state S.Store conn.old) }
     ensures text { HasCleanDisk (state S.Store conn.new) → IfOk result (λ s. (books : Books) → Holds (state S.Store conn.old) books
         → string_bytes s ≡ shown_text (StaffListed (staff_list branch books.catalogue))) }
     ensures same { HasCleanDisk (state S.Store conn.new) → OnOk result (IsUnchanged (state S.Store conn.old) (state S.Store conn.new)) }

@@ -1,6 +1,4 @@
 use Rattle.std.proofs.Common.{refl, ◌∙◌, sym, ap, subst, filter, map}
-use Rattle.sqlite.specs.Given.{IsPlain}
-use Rattle.sqlite.specs.Listing.{understood}
 use Rattle.sqlite_keyed.proofs.ListLemmas.{map-map}
 use Rattle.shop_model.specs.Rows.{is_of}
 use Rattle.shop_model.specs.Books.{shop_of}
@@ -10,13 +8,13 @@ use Rattle.shop_views.specs.Page.{HasValues}
 use Rattle.shop_views.specs.People.{customer_data}
 use Rattle.view_rows.specs.Shown.{shown_customer, listed_customer}
 use Rattle.view_rows.proofs.PageLines.{listed_none}
-use Rattle.view_rows.proofs.PeopleQueries.{select_customers, customers_mean}
+use Rattle.view_rows.proofs.PeopleQueries.{customers_ask}
 use Rattle.view_rows.proofs.PeopleJoins.{shows_customers}
 use Rattle.view_rows.proofs.PersonLines.{customers_are}
 use Rattle.view_rows.proofs.customers.customer_list.Goals as goal
 
 pub each_row-requires : goal.each_row-requires
-each_row-requires g c = subst (λ schema. IsPlain (understood schema select_customers)) (sym c.requires) customers_mean.plain
+each_row-requires g c = customers_ask
 
 pub returns-clause-text : goal.returns-clause-text
 returns-clause-text g c clean books holds held =

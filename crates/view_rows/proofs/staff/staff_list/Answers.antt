@@ -1,6 +1,4 @@
 use Rattle.std.proofs.Common.{◌==◌, ℕ, refl, sym, subst, filter, map}
-use Rattle.sqlite.specs.Given.{IsPlain}
-use Rattle.sqlite.specs.Listing.{understood}
 use Rattle.sqlite_keyed.proofs.ListLemmas.{map-map}
 use Rattle.shop_model.specs.Rows.{numbered}
 use Rattle.shop_model.specs.Values.{Staff}
@@ -10,12 +8,12 @@ use Rattle.shop_views.specs.Page.{HasValues}
 use Rattle.shop_views.specs.People.{staff_data}
 use Rattle.view_rows.specs.Shown.{shown_staff, listed_staff}
 use Rattle.view_rows.proofs.PageLines.{listed_none}
-use Rattle.view_rows.proofs.PeopleQueries.{select_staff, staff_mean}
+use Rattle.view_rows.proofs.PeopleQueries.{staff_ask}
 use Rattle.view_rows.proofs.PeopleJoins.{shows_staff}
 use Rattle.view_rows.proofs.staff.staff_list.Goals as goal
 
 pub each_row-requires : goal.each_row-requires
-each_row-requires g c = subst (λ schema. IsPlain (understood schema select_staff)) (sym c.requires) staff_mean.plain
+each_row-requires g c = staff_ask
 
 pub returns-clause-text : goal.returns-clause-text
 returns-clause-text g c clean books holds =

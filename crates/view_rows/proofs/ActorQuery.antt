@@ -1,0 +1,44 @@
+-- What the text of the actors' view means.
+use Rattle.std.proofs.Common.{ℕ, List, [], ◌∷◌, codes, refl}
+use Rattle.sqlite_value.specs.Keys.{ascending}
+use Rattle.sqlite_value.specs.declared.keys.Key.{Key}
+use Rattle.sqlite_value.specs.declared.keys.Collation.TheVariants.{Binary}
+use Rattle.sqlite_sql.specs.Term.{Term, col}
+use Rattle.sqlite_sql.specs.Query.{Query, Join, inner, left, end}
+use Rattle.sqlite_tied.specs.Compute.{everything}
+use Rattle.sqlite.specs.Listing.{understood}
+use Rattle.sql_rows.specs.Texts.{IsQuery}
+use Rattle.sql_rows.proofs.Queries.{Selects}
+use Rattle.sql_rows.proofs.TextLemmas.{is_query}
+use Rattle.shop_schema.specs.Tables.{shop_schema}
+use Rattle.sql_rows.proofs.Joins.{joined_query, are_equal}
+
+abbrev pub select_actors : List ℕ
+select_actors = codes "SELECT a.number, a.first, a.last, k.number, k.name, f.title FROM actor AS a LEFT JOIN film_actor AS fa ON fa.actor = a.number LEFT JOIN film AS f ON f.number = fa.film LEFT JOIN category AS k ON k.number = f.category ORDER BY a.number, k.name, k.number, f.title, f.number"
+
+-- what is joined to a film, to a cast, and to an actor
+abbrev pub with_category : Join
+with_category = left 7 (are_equal (col 4 1) (col 3 5) ∷ []) end
+
+abbrev pub with_film : Join
+with_film = left 14 (are_equal (col 3 1) (col 2 1) ∷ []) with_category
+
+abbrev pub with_cast : Join
+with_cast = left 16 (are_equal (col 2 2) (col 1 1) ∷ []) with_film
+
+abbrev pub actor_shows : List Term
+actor_shows = col 1 1 ∷ col 1 2 ∷ col 1 3 ∷ col 4 1 ∷ col 4 2 ∷ col 3 2 ∷ []
+
+abbrev pub actor_order : List (Term × Key)
+actor_order = (col 1 1, ascending Binary) ∷ (col 4 2, ascending Binary) ∷ (col 4 1, ascending Binary) ∷ (col 3 2, ascending Binary) ∷ (col 3 1, ascending Binary) ∷ []
+
+abbrev pub actors_query : Query
+actors_query = joined_query (inner 12 with_cast) [] actor_shows actor_order
+
+pub actors_mean : Selects shop_schema select_actors actors_query
+unfolding understood everything
+actors_mean = record { names = _; is = refl; plain = (refl, refl); unlisted = refl }
+
+pub actors_ask : IsQuery select_actors
+unfolding everything
+actors_ask = is_query select_actors (record { parsed = _; is = refl; selects = refl; untimed = refl })

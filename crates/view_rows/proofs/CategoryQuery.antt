@@ -1,0 +1,34 @@
+-- What the text of the categories means.
+use Rattle.std.proofs.Common.{ℕ, List, [], ◌∷◌, codes, refl}
+use Rattle.sqlite_value.specs.Keys.{ascending}
+use Rattle.sqlite_value.specs.declared.keys.Key.{Key}
+use Rattle.sqlite_value.specs.declared.keys.Collation.TheVariants.{Binary}
+use Rattle.sqlite_sql.specs.Term.{Term, col}
+use Rattle.sqlite_sql.specs.Query.{Query, inner, end}
+use Rattle.sqlite_tied.specs.Compute.{everything}
+use Rattle.sqlite.specs.Listing.{understood}
+use Rattle.sql_rows.specs.Texts.{IsQuery}
+use Rattle.sql_rows.proofs.Queries.{Selects}
+use Rattle.sql_rows.proofs.TextLemmas.{is_query}
+use Rattle.sql_rows.proofs.Joins.{joined_query}
+use Rattle.shop_schema.specs.Tables.{shop_schema}
+
+abbrev pub select_categories : List ℕ
+select_categories = codes "SELECT number, name FROM category ORDER BY number"
+
+abbrev pub category_shows : List Term
+category_shows = col 1 1 ∷ col 1 2 ∷ []
+
+abbrev pub category_order : List (Term × Key)
+category_order = (col 1 1, ascending Binary) ∷ []
+
+abbrev pub categories_query : Query
+categories_query = joined_query (inner 7 end) [] category_shows category_order
+
+pub categories_mean : Selects shop_schema select_categories categories_query
+unfolding understood everything
+categories_mean = record { names = _; is = refl; plain = (refl, refl); unlisted = refl }
+
+pub categories_ask : IsQuery select_categories
+unfolding everything
+categories_ask = is_query select_categories (record { parsed = _; is = refl; selects = refl; untimed = refl })

@@ -1,0 +1,19 @@
+use Rattle.std.proofs.Common.{refl, map, option_map}
+use Rattle.std.proofs.lemmas.Result.{IfOk-weaker}
+use Rattle.shop_model.specs.Machine.{ActorsListed}
+use Rattle.shop_views.specs.Films.{actor_data}
+use Rattle.view_rows.specs.Actors.{seen_part, closed}
+use Rattle.view_rows.proofs.ActorLines.{last_actor, no_last_actor}
+use Rattle.view_rows.proofs.actors.finish.Goals as goal
+
+pub returns-in_ok-add_actor-in-Some : goal.returns-in_ok-add_actor-in-Some
+returns-in_ok-add_actor-in-Some c =
+    IfOk-weaker c.finish.result _ _
+    (λ s shown actors on. let all = closed (actors, option_map seen_part c.args.taker.actor) in
+    shown (ActorsListed all) (map actor_data all) refl (last_actor _ _ actors c.in-Some.actor c.in_ok-add_actor-in-Some.ensures on c.args.taker.actor c.in-Some.is)) c.finish.ensures.shown
+
+pub returns-in-None : goal.returns-in-None
+returns-in-None c =
+    IfOk-weaker c.finish-in-None.result _ _
+    (λ s shown actors on. let all = closed (actors, option_map seen_part c.args.taker.actor) in
+    shown (ActorsListed all) (map actor_data all) refl (no_last_actor _ actors on c.args.taker.actor c.in-None.is)) c.finish-in-None.ensures.shown
