@@ -4,15 +4,19 @@ use Rattle.sqlite.specs.State.{State}
 use Rattle.shop_values.specs.LimitValues.{Limits}
 use Rattle.shop_model.specs.Calendar.{Moment}
 use Rattle.shop_model.specs.Rows.{lacks, owned_by}
-use Rattle.shop_model.specs.Values.{Command}
-use Rattle.shop_model.specs.Machine.{Request, Done, reply_text}
+use Rattle.shop_model.specs.Values.{Command, OneView}
+use Rattle.shop_model.specs.Machine.{Request, Look, Done, reply_text}
 use Rattle.shop_model.specs.Answers.{Answer, answer_of}
 use Rattle.shop_model.specs.Books.{Books, Counter, head, shop_of, book_done, known_caller, reply_for, after_for}
 use Rattle.shop_model.specs.Office.{office_look}
+use Rattle.shop_types.specs.Seen.{seen_view}
+use Rattle.shop_types.specs.Replies.{seen_reply}
 use Rattle.shop_schema.specs.Held.{IsHeld}
 use Rattle.shop_schema.specs.Shop.{Holds}
 use Rattle.branch_core.specs.Decided.{Adds}
 use Rattle.branch_core.specs.declared.change.Rows.{Rows}
+use Rattle.branch_work.specs.declared.working.Worked.{Worked}
+use Rattle.branch_work.specs.declared.working.Worked.TheVariants.{Answered, Shows}
 use Rattle.branch_work.specs.Rules.{rules_of}
 
 -- the answer to a branch's request, and the books after it
@@ -28,8 +32,13 @@ pub record IsDone (limits : Limits) (b : ℕ) (request : Request) (answer : Answ
   pub holds : Holds new (after_branch limits b request books)
   pub same : is_changed ≡ false → after_branch limits b request books ≡ books
 
-abbrev pub Works : Limits → ℕ → Request → Answer → Bool → State → State → Type 0
-Works limits b request answer is_changed old new = (books : Books) → Holds old books → IsHeld books → IsDone limits b request answer is_changed new books
+-- the request came to this: it is done, or it is a view of a branch that is there, which is still to be shown
+abbrev pub IsWorked : Limits → ℕ → Request → Worked → State → Books → Type 0
+IsWorked limits b request (Answered reply is_changed) new books = IsDone limits b request (seen_reply reply) is_changed new books
+IsWorked limits b request (Shows view) new books = (request ≡ Look (OneView (seen_view view))) × (lacks books.catalogue.branches b ≡ false)
+
+abbrev pub Works : Limits → ℕ → Request → Worked → State → State → Type 0
+Works limits b request worked old new = (books : Books) → Holds old books → IsHeld books → IsWorked limits b request worked new books
 
 -- the same of a branch that is there, whose last moment was found where one is given
 abbrev pub WorksFor : Limits → ℕ → Option (Option Moment) → Request → Answer → Bool → State → State → Type 0

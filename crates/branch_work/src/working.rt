@@ -34,31 +34,53 @@ use shop_schema::{command_form, command_values};
 use shop_store::{customer_at, kept_at, last_at, out_at};
 use shop_types::{
     Ask, BranchNo, Command, CopyNo, CustomerNo, FilmNo, Limits, Moment, NoMemory, Refusal, Reply,
-    Request,
+    Request, View,
 };
 use sql_rows::{Bytes, StoreFault};
 use sqlite::{Alter, Transaction};
 use std::alloc::Global;
 
-/// Answers a branch's request, and tells whether there is anything to commit.
+/// What a branch's request came to inside a transaction.
+#[derive(Drop)]
+pub enum Worked {
+    /// It is answered, and it is told whether there is anything to commit.
+    Answered { reply: Reply, is_changed: bool },
+    /// It asks for a view, and the branch is there. A view is shown outside any transaction, since its rows come one at a time.
+    Shows(View),
+}
+
+/// What a branch's request comes to. A command is done, and a look is answered; a view is left to the caller.
 pub fn work<S: Alter>(
     alloc: Global,
     tx: &mut Transaction<'_, S>,
     limits: Limits,
     branch: BranchNo,
     request: &Request,
-) -> Result<(Reply, bool), StoreFault>
+) -> Result<Worked, StoreFault>
     ensures same_reference { tx.new.conn.ghost_name ≡ tx.old.conn.ghost_name }
     ensures inside { StaysInside (state S.Store tx.old.conn.now) (state S.Store tx.new.conn.now) result }
-    ensures works { HasCleanDisk (state S.Store tx.new.conn.now) → IfOk result (λ done. Works limits branch (seen_request request.now) (seen_reply done.0) done.1 (state S.Store tx.old.conn.now) (state S.Store tx.new.conn.now)) }
+    ensures works { HasCleanDisk (state S.Store tx.new.conn.now) → IfOk result (λ worked. Works limits branch (seen_request request.now) worked (state S.Store tx.old.conn.now) (state S.Store tx.new.conn.now)) }
 {
     let Some(last) = last_at(tx, branch)? else {
-        return Ok((Reply::refused(Refusal::NoCounter), false));
+        return Ok(Worked::Answered {
+            reply: Reply::refused(Refusal::NoCounter),
+            is_changed: false,
+        });
     };
     match request {
-        Request::Do(command) => act(alloc, tx, limits, branch, last, command),
-        Request::Look(ask) => Ok((look(alloc, tx, branch, *ask)?, false)),
-        Request::Office(_) => Ok((Reply::refused(Refusal::NoRoute), false)),
+        Request::Do(command) => {
+            let (reply, is_changed) = act(alloc, tx, limits, branch, last, command)?;
+            Ok(Worked::Answered { reply, is_changed })
+        }
+        Request::Look(ask) => Ok(Worked::Answered {
+            reply: look(alloc, tx, branch, *ask)?,
+            is_changed: false,
+        }),
+        Request::View(view) => Ok(Worked::Shows(*view)),
+        Request::Office(_) | Request::OfficeLook(_) => Ok(Worked::Answered {
+            reply: Reply::refused(Refusal::NoRoute),
+            is_changed: false,
+        }),
     }
 }
 

@@ -1,7 +1,6 @@
-use Rattle.std.proofs.Common.{◌∙◌, refl, sym, subst, false, arith}
+use Rattle.std.proofs.Common.{◌∙◌, refl, sym, ap, subst, false, arith, inl, inr}
 use Rattle.sqlite.specs.Held.{state}
 use Rattle.sqlite.specs.State.{HasCleanDisk}
-use Rattle.std.proofs.lemmas.Result.{IfOk-weaker}
 use Rattle.shop_types.specs.declared.request.Request.{Request}
 use Rattle.shop_types.specs.declared.request.Request.TheVariants as request
 use Rattle.shop_types.specs.Seen.{seen_request}
@@ -15,16 +14,21 @@ returns-in_default-clause-works g c = λ clean books holds held.
     let found = c.in_ok-last.ensures.found clean books holds held in
     nobody_done c.args.limits c.args.branch books _ _ _ (isnt_there _ _ (sym c.in_default.is ∙ found.1)) c.refused.ensures found.0
 
-pub returns-in-Do-clause-works : goal.returns-in-Do-clause-works
-returns-in-Do-clause-works g c = λ clean.
+pub returns-in_ok-reply-in-Do-clause-works : goal.returns-in_ok-reply-in-Do-clause-works
+returns-in_ok-reply-in-Do-clause-works g c = λ clean books holds held.
     let s1 = state g.S.Store c.last_at.new.tx.conn.now in
     let s2 = state g.S.Store c.act.new.tx.conn.now in
     let before : HasCleanDisk s1 = omega (arith, clean, c.act.ensures.inside.survives.clean) in
-    IfOk-weaker c.act.result _ _ (λ done works. λ books holds held.
     let found = c.in_ok-last.ensures.found before books holds held in
     let there = is_there _ _ _ (sym c.in-Some.is ∙ found.1) in
-    let P : Request → Type 0 = λ it. IsDone c.args.limits c.args.branch (seen_request it) (seen_reply done.0) done.1 s2 books in
-    subst P (sym c.in-Do.is) (works books found.0 held there.0 there.1)) (c.act.ensures.works clean)
+    let P : Request → Type 0 = λ it. IsDone c.args.limits c.args.branch (seen_request it) (seen_reply c.in_ok-reply-in-Do.reply) c.in_ok-reply-in-Do.is_changed s2 books in
+    subst P (sym c.in-Do.is) (c.in_ok-reply-in-Do.ensures.works clean books found.0 held there.0 there.1)
+
+pub returns-in-View-clause-works : goal.returns-in-View-clause-works
+returns-in-View-clause-works g c = λ clean books holds held.
+    let found = c.in_ok-last.ensures.found clean books holds held in
+    let there = is_there _ _ _ (sym c.in-Some.is ∙ found.1) in
+    (ap seen_request c.in-View.is, there.0)
 
 pub returns-in_ok-look-in-Look-clause-works : goal.returns-in_ok-look-in-Look-clause-works
 returns-in_ok-look-in-Look-clause-works g c = λ clean books holds held.
@@ -41,4 +45,7 @@ returns-in-Office-clause-works g c = λ clean books holds held.
     let found = c.in_ok-last.ensures.found clean books holds held in
     let there = is_there _ _ _ (sym c.in-Some.is ∙ found.1) in
     let P : Request → Type 0 = λ it. IsDone c.args.limits c.args.branch (seen_request it) (seen_reply c.refused-in-Office.result) false (state g.S.Store c.last_at.new.tx.conn.now) books in
-    subst P (sym c.in-Office.is) (kept_done c.args.limits c.args.branch books (seen_request (request.Office c.in-Office.field-0)) _ false _ there.0 refl c.refused-in-Office.ensures found.0)
+    elim c.in-Office.is [
+      | inl it ↦ subst P (sym it.1) (kept_done c.args.limits c.args.branch books (seen_request (request.Office it.0)) _ false _ there.0 refl c.refused-in-Office.ensures found.0)
+      | inr it ↦ subst P (sym it.1) (kept_done c.args.limits c.args.branch books (seen_request (request.OfficeLook it.0)) _ false _ there.0 refl c.refused-in-Office.ensures found.0)
+    ]
