@@ -4,6 +4,7 @@ pub mod Asking
 pub mod Taking
 pub mod Branches
 pub mod Running
+pub mod Following
 pub mod Resting
 pub mod Requests
 pub mod Deciding

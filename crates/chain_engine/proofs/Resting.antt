@@ -1,5 +1,5 @@
 -- What a transaction leaves of a connection between two requests.
-use Rattle.std.proofs.Common.{◌≡◌, ◌∙◌, inl, inr, refl, sym, ap, subst, arith, ℕ, List, Bool, true, false, IsTrue, Ok, Err, Result, IfOk}
+use Rattle.std.proofs.Common.{◌≡◌, ◌≢◌, ◌∙◌, inl, inr, refl, sym, ap, subst, arith, ℕ, List, Bool, true, false, IsTrue, Ok, Err, Result, IfOk, IfErr}
 use Rattle.sqlite_trees.specs.declared.store.Store.{Ghosts}
 use Rattle.sqlite_trees.specs.Tree.{Trees}
 use Rattle.sqlite.specs.declared.error.Error.{Error}
@@ -15,13 +15,18 @@ use Rattle.shop_values.specs.LimitValues.{Limits}
 use Rattle.shop_model.specs.Machine.{Request}
 use Rattle.shop_model.specs.Answers.{Answer}
 use Rattle.shop_model.specs.Books.{Books, Caller}
+use Rattle.sql_rows.specs.declared.fault.StoreFault.{StoreFault}
+use Rattle.sql_rows.specs.declared.fault.StoreFault.TheVariants.{Failed}
 use Rattle.shop_types.specs.declared.request.Caller.{Caller as Known}
 use Rattle.shop_types.specs.Seen.{seen_caller}
 use Rattle.shop_schema.specs.Tables.{shop_schema}
 use Rattle.shop_schema.specs.Held.{IsHeld}
 use Rattle.shop_schema.specs.Shop.{StandsFor, Holds}
 use Rattle.chain_engine.specs.Chains.{Rests}
-use Rattle.chain_engine.specs.Steps.{left_by, IsDone, Works, IsMade, LeavesAfter, LeavesEitherOf, IsCallerOf, HasCaller}
+use Rattle.chain_engine.specs.declared.step.Work.TheVariants as work
+use Rattle.chain_engine.specs.declared.reports.Report.{Report}
+use Rattle.chain_engine.specs.Reports.{ShowsReport}
+use Rattle.chain_engine.specs.Steps.{left_by, HasCome, IsDone, Does, Works, IsMade, IsUndone, LeavesAfter, LeavesEitherOf, IsCallerOf, HasCaller}
 
 pub holds_as : (s t : State) (books : Books) → t.now ≡ s.now → Holds s books → Holds t books
 holds_as s t books same h = record {
@@ -54,6 +59,23 @@ module _ {S : Type 0} (g : Ghosts S) (old mid end : Held S) where
         ];
       }
 
+  -- a call that commits nothing, and then a transaction with nothing in it, which is rolled back
+  pub rests_settled : (books : Books) → Survives (state g old) (state g mid) (λ _. ⊥) → KeepsCommit (state g old) (state g mid) → IsRolledBack (state g (record mid { in_transaction = true })) (state g end)
+      → Survives (state g (record mid { in_transaction = true })) (state g end) (λ _. ⊥) → HasCleanDisk (state g end) → Rests (state g old) books → Rests (state g end) books
+  rests_settled books called kept back ending clean rests =
+      let clean_mid : HasCleanDisk (state g mid) = omega (arith, clean, ending.clean) in
+      let was : IsTrue (state g end).is_open → IsTrue (state g old).is_open = λ live. kept.was_open (back.was_open live) in
+      let undone = λ (live : IsTrue (state g end).is_open). back.undone live in
+      let first = λ (live : IsTrue (state g end).is_open). kept.committed (back.was_open live) in
+      record {
+        now = λ live. holds_as (state g old) (state g end) books ((undone live).0 ∙ first live ∙ rests.committed (was live)) (rests.now (was live));
+        committed = λ live. (undone live).1 ∙ sym (undone live).0;
+        left = λ db may. elim (ending.crash clean db may) [
+          | inl before ↦ elim (called.crash clean_mid db before) [ inl at_first ↦ rests.left db at_first | inr none ↦ absurd none ]
+          | inr none ↦ absurd none
+        ];
+      }
+
   -- it was committed
   pub rests_after : (books : Books) → Settled g → Holds (state g mid) books → Shows (state g mid) (state g end) (state g mid).now (state g mid).now false → Rests (state g end) books
   rests_after books settled holds shows = record {
@@ -76,7 +98,7 @@ either_of limits caller request old end survives clean books rests held db may =
 ]
 
 module _ {S : Type 0} (g : Ghosts S) (old mid end : Held S) (limits : Limits) (caller : Caller) (request : Request) (answer : Answer) (is_changed : Bool)
-    (works : HasCleanDisk (state g mid) → Works limits caller request answer is_changed (state g (record old { in_transaction = true })) (state g mid))
+    (works : HasCleanDisk (state g mid) → Does limits caller request answer is_changed (state g (record old { in_transaction = true })) (state g mid))
     (live : HasCleanDisk (state g mid) → IsTrue (state g old).is_open) where
   done : HasCleanDisk (state g mid) → (books : Books) → Rests (state g old) books → IsHeld books → IsDone limits caller request answer is_changed (state g mid) books
   done clean books rests held = works clean books (holds_as (state g old) (state g (record old { in_transaction = true })) books refl (rests.now (live clean))) held
@@ -125,3 +147,27 @@ module _ {S : Type 0} (g : Ghosts S) (old mid fin end : Held S) where
     where
       apart : false ≡ true → ⊥
       apart e = cc
+
+-- a reading was looked at in a transaction, which was rolled back, and then it was shown
+module _ {S : Type 0} (g : Ghosts S) (old mid back end : Held S) (limits : Limits) (caller : Caller) (request : Request) (report : Report)
+    (works : HasCleanDisk (state g mid) → Works limits caller request (work.Shows report) (state g (record old { in_transaction = true })) (state g mid))
+    (live : HasCleanDisk (state g mid) → IsTrue (state g old).is_open) (returned : (books : Books) → Rests (state g old) books → Rests (state g back) books) (stays : IsUndone (state g back) (state g end)) where
+  pub shows_made : HasCleanDisk (state g mid) → (answer : Answer) → ShowsReport report answer (state g back) → IsMade limits caller request answer (state g old) (state g end)
+  shows_made clean answer shown = record {
+    reply = λ books rests held. shown books (returned books rests) held ∙ sym (came books rests held).0;
+    books = λ books rests held. subst (λ (after : Books). Rests (state g end) after) (sym (came books rests held).1) (stays books (returned books rests) held);
+  }
+    where
+      came : (books : Books) → Rests (state g old) books → IsHeld books → HasCome limits caller request (work.Shows report) (state g mid) books
+      came books rests held = works clean books (holds_as (state g old) (state g (record old { in_transaction = true })) books refl (rests.now (live clean))) held
+
+  pub shows_nothing : (fault : StoreFault) → (fault ≢ Failed → IsUndone (state g old) (state g end)) × LeavesEitherOf limits caller request (state g old) (state g end)
+  shows_nothing fault = (λ other. undone, λ books rests held db may. inl ((undone books rests held).left db may))
+    where
+      undone : IsUndone (state g old) (state g end)
+      undone books rests held = stays books (returned books rests) held
+
+-- what is said of each error is said of the one that came
+pub of_any_error : {A E : Type 0} (r : Result A E) (P : E → Type 0) → ((e : E) → P e) → IfErr r P
+of_any_error (Ok x) P h = tt
+of_any_error (Err e) P h = h e

@@ -6,3 +6,4 @@ pub mod Decisions
 pub mod Faults
 pub mod Files
 pub mod Openings
+pub mod Reports

@@ -3,11 +3,12 @@ use Rattle.std.specs.Prelude.{◌≡◌, ◌⊎◌, ⊤, ℕ, Bool, false, List,
 use Rattle.sqlite_trees.specs.Tree.{Trees}
 use Rattle.sqlite.specs.State.{State}
 use Rattle.shop_values.specs.LimitValues.{Limits}
-use Rattle.shop_model.specs.Machine.{Request, Unread, Do, Look, Office, OfficeLook}
+use Rattle.shop_model.specs.Machine.{Request, Unread, Do, Look, Office, OfficeLook, Shows as Shown}
 use Rattle.shop_model.specs.Answers.{Answer, answer_of}
 use Rattle.shop_model.specs.Books.{Books, Caller, Counter, HeadOffice, Nobody, caller_of, known_caller, reply_for, after_for}
 use Rattle.shop_model.specs.Office.{office_look}
 use Rattle.shop_types.specs.Seen.{seen_request, seen_office}
+use Rattle.shop_types.specs.Replies.{seen_reply}
 use Rattle.sql_rows.specs.Books.{no_schema}
 use Rattle.shop_schema.specs.Held.{IsHeld}
 use Rattle.shop_schema.specs.RowValues.{IsNumber, IsCommand, IsKey, IsOfficeAct}
@@ -16,6 +17,9 @@ use Rattle.shop_schema.specs.Shop.{StandsFor, Holds}
 use Rattle.branch_work.specs.Rules.{rules_of}
 use Rattle.chain_engine.specs.declared.asked.Asked.{Asked}
 use Rattle.chain_engine.specs.declared.asked.Asked.TheVariants.{OfBranch, OfOffice}
+use Rattle.chain_engine.specs.declared.step.Work.{Work}
+use Rattle.chain_engine.specs.declared.step.Work.TheVariants.{Done, Shows}
+use Rattle.chain_engine.specs.Reports.{shown_by}
 use Rattle.chain_engine.specs.Chains.{Rests}
 
 -- ---- what is asked
@@ -58,8 +62,16 @@ pub record IsDone (limits : Limits) (caller : Caller) (request : Request) (answe
   pub holds : Holds new (left_by limits caller request books)
   pub same : is_changed ≡ false → left_by limits caller request books ≡ books
 
-abbrev pub Works : Limits → Caller → Request → Answer → Bool → State → State → Type 0
-Works limits caller request answer is_changed old new = (books : Books) → Holds old books → IsHeld books → IsDone limits caller request answer is_changed new books
+abbrev pub Does : Limits → Caller → Request → Answer → Bool → State → State → Type 0
+Does limits caller request answer is_changed old new = (books : Books) → Holds old books → IsHeld books → IsDone limits caller request answer is_changed new books
+
+-- it has come to this: it is done, or it is a reading, which is to be shown
+abbrev pub HasCome : Limits → Caller → Request → Work → State → Books → Type 0
+HasCome limits caller request (Done reply is_changed) new books = IsDone limits caller request (seen_reply reply) is_changed new books
+HasCome limits caller request (Shows report) new books = (told_to limits caller request books ≡ answer_of (Shown (shown_by report books))) × (left_by limits caller request books ≡ books)
+
+abbrev pub Works : Limits → Caller → Request → Work → State → State → Type 0
+Works limits caller request work old new = (books : Books) → Holds old books → IsHeld books → HasCome limits caller request work new books
 
 -- the step is made
 pub record IsMade (limits : Limits) (caller : Caller) (request : Request) (answer : Answer) (old new : State) : Type 0 where

@@ -35,7 +35,7 @@ fn request_values(request: &Request)
 {
     match request {
         Request::Do(command) => command_values(command),
-        Request::Look(_) => {}
         Request::Office(command) => office_values(command),
+        Request::Look(_) | Request::View(_) | Request::OfficeLook(_) => {}
     }
 }

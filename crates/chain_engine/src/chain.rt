@@ -4,7 +4,9 @@ ghost use Rattle.std.specs.Prelude.{◌≡◌, ◌≢◌, ◌≤◌, ◌||◌, t
 ghost use Rattle.sqlite.specs.Steps.{over_memory};
 ghost use Rattle.shop_model.specs.Opening.{opening_books};
 ghost use Rattle.shop_schema.specs.Shop.{first_books};
-ghost use Rattle.shop_types.specs.Seen.{seen_caller, seen_request};
+ghost use Rattle.shop_model.specs.Machine.{OfficeLook};
+ghost use Rattle.shop_model.specs.Books.{HeadOffice};
+ghost use Rattle.shop_types.specs.Seen.{seen_caller, seen_office_ask, seen_request};
 ghost use Rattle.shop_types.specs.Replies.{seen_reply};
 ghost use Rattle.chain_engine.specs.Chains.{IsAt, Takes, Answers, AnswersEvent, Runs, event_of};
 ghost use Rattle.chain_engine.specs.Steps.{asker, asked_of};
@@ -16,8 +18,9 @@ ghost use Rattle.chain_engine.specs.Faults.{fault_name, open_fault_for};
 use crate::asked::{Asked, asked_values};
 use crate::callers::find_caller;
 use crate::creation::{create, create_opening};
+use crate::reports::{Report, show};
 use crate::step::step;
-use shop_types::{Caller, Limits, NoMemory, Refusal, Reply, Request, Token};
+use shop_types::{Caller, Limits, NoMemory, OfficeAsk, Refusal, Reply, Request, Token};
 use sql_rows::StoreFault;
 use sqlite::{Alter, Connection, MemStore};
 use std::alloc::Global;
@@ -175,7 +178,10 @@ impl<S: Alter> Chain<S> {
             Caller::Nobody => Reply::refused(Refusal::NoCounter),
             Caller::Office => match request {
                 Request::Office(command) => self.answer_asked(&Asked::OfOffice(command)),
-                Request::Do(_) | Request::Look(_) => Reply::refused(Refusal::NoRoute),
+                Request::OfficeLook(ask) => self.answer_office(*ask),
+                Request::Do(_) | Request::Look(_) | Request::View(_) => {
+                    Reply::refused(Refusal::NoRoute)
+                }
             },
         }
     }
@@ -213,6 +219,18 @@ impl<S: Alter> Chain<S> {
         asked_values(asked);
         limits_fit(self.limits);
         match step(self.alloc, &mut self.conn, self.limits, asked) {
+            Ok(reply) => reply,
+            Err(fault) => Reply::refused(self.refusal(fault)),
+        }
+    }
+
+    /// Answers a reading of head office, where the store hasn't failed.
+    fn answer_office(&mut self, ask: OfficeAsk) -> Reply
+        requires { self.old.is_failed ≡ false }
+        ensures { Takes S.Store self.old self.new (Answers HeadOffice (OfficeLook (seen_office_ask ask)) (seen_reply result)) }
+    {
+        limits_fit(self.limits);
+        match show(self.alloc, &mut self.conn, Report::OfOffice(ask)) {
             Ok(reply) => reply,
             Err(fault) => Reply::refused(self.refusal(fault)),
         }

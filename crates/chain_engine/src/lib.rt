@@ -8,6 +8,7 @@ mod creating;
 mod creation;
 mod files;
 mod paths;
+mod reports;
 mod step;
 
 pub use chain::{Chain, OpenFault};

@@ -8,6 +8,8 @@ ghost use Rattle.sql_rows.specs.Calls.{StaysInside};
 ghost use Rattle.chain_engine.specs.Steps.{Works, IsMade, IsUndone, LeavesAfter, LeavesEitherOf, asker, asked_of};
 
 use crate::asked::Asked;
+use crate::reports::{Report, show};
+use branch_work::Worked;
 use shop_types::{Limits, Reply};
 use sql_rows::{StoreFault, fault_of, query};
 use sqlite::{Alter, Connection, Transaction};
@@ -29,13 +31,17 @@ pub fn step<S: Alter>(
 {
     let mut tx = conn.transaction();
     let fault = match work_of(alloc, &mut tx, limits, asked) {
-        Ok((reply, true)) => match tx.commit() {
+        Ok(Work::Done(reply, true)) => match tx.commit() {
             Ok(()) => return Ok(reply),
             Err(error) => fault_of(error),
         },
-        Ok((reply, false)) => {
+        Ok(Work::Done(reply, false)) => {
             tx.rollback();
             return Ok(reply);
+        }
+        Ok(Work::Shows(report)) => {
+            tx.rollback();
+            return show(alloc, conn, report);
         }
         Err(fault) => {
             tx.rollback();
@@ -50,20 +56,37 @@ pub fn step<S: Alter>(
     }
 }
 
-/// Answers what is asked inside a transaction, and tells whether there is anything to commit.
+/// What is asked has come to this inside its transaction.
+#[derive(Drop)]
+pub(crate) enum Work {
+    /// It is answered, and it is told whether there is anything to commit.
+    Done(Reply, bool),
+    /// It is to be read outside the transaction.
+    Shows(Report),
+}
+
+/// Does what is asked inside a transaction.
 fn work_of<S: Alter>(
     alloc: Global,
     tx: &mut Transaction<'_, S>,
     limits: Limits,
     asked: &Asked<'_>,
-) -> Result<(Reply, bool), StoreFault>
+) -> Result<Work, StoreFault>
     ensures same_reference { tx.new.conn.ghost_name ≡ tx.old.conn.ghost_name }
     ensures inside { StaysInside (state S.Store tx.old.conn.now) (state S.Store tx.new.conn.now) result }
-    ensures works { HasCleanDisk (state S.Store tx.new.conn.now) → IfOk result (λ done. Works limits (asker asked.now) (asked_of asked.now) (seen_reply done.0) done.1 (state S.Store tx.old.conn.now) (state S.Store tx.new.conn.now)) }
+    ensures works { HasCleanDisk (state S.Store tx.new.conn.now) → IfOk result (λ work. Works limits (asker asked.now) (asked_of asked.now) work (state S.Store tx.old.conn.now) (state S.Store tx.new.conn.now)) }
 {
     match *asked {
-        Asked::OfBranch(branch, request) => branch_work::work(alloc, tx, limits, branch, request),
-        Asked::OfOffice(command) => office_work::work(alloc, tx, limits, command),
+        Asked::OfBranch(branch, request) => {
+            match branch_work::work(alloc, tx, limits, branch, request)? {
+                Worked::Answered { reply, is_changed } => Ok(Work::Done(reply, is_changed)),
+                Worked::Shows(view) => Ok(Work::Shows(Report::OfBranch(branch, view))),
+            }
+        }
+        Asked::OfOffice(command) => {
+            let (reply, is_changed) = office_work::work(alloc, tx, limits, command)?;
+            Ok(Work::Done(reply, is_changed))
+        }
     }
 }
 

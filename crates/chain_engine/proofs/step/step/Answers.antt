@@ -1,12 +1,15 @@
 use Rattle.std.proofs.Common.{rules, ◌≡◌, inl, refl, sym, subst, arith, IsTrue}
+use Rattle.std.proofs.lemmas.Result.{IfOk-weaker}
 use Rattle.sqlite.specs.Held.{state}
 use Rattle.sqlite.specs.State.{HasCleanDisk, Survives}
 use Rattle.shop_model.specs.Answers.{Answer}
-use Rattle.shop_model.specs.Books.{Caller}
+use Rattle.shop_model.specs.Books.{Books, Caller}
 use Rattle.shop_model.specs.Machine.{Request}
 use Rattle.shop_types.specs.Replies.{seen_reply}
+use Rattle.chain_engine.specs.Chains.{Rests}
+use Rattle.chain_engine.specs.Reports.{ShowsReport}
 use Rattle.chain_engine.specs.Steps.{IsMade, IsUndone, LeavesAfter, asker, asked_of}
-use Rattle.chain_engine.proofs.Resting.{rests_back, either_of, made_commit, made_nothing, leaves_after, leaves_then, undone_after}
+use Rattle.chain_engine.proofs.Resting.{rests_back, either_of, made_commit, made_nothing, leaves_after, leaves_then, undone_after, shows_made, shows_nothing, of_any_error}
 use Rattle.chain_engine.proofs.step.step.Goals as goal
 
 pub returns-in-Ok-clause-made : goal.returns-in-Ok-clause-made
@@ -16,14 +19,14 @@ returns-in-Ok-clause-made g c clean =
     let end = c.commit.new.self.0 in
     let caller : Caller = asker c.args.asked.now in
     let request : Request = asked_of c.args.asked.now in
-    let answer : Answer = seen_reply c.in-Ok-default-true.reply in
+    let answer : Answer = seen_reply c.in-Ok-Done-default-true.reply in
     let same : end ≡ c.conn-1.given.0 = search rules in
     let clean_end : HasCleanDisk (state g.S.Store end) = subst (λ h. HasCleanDisk (state g.S.Store h)) (sym same) clean in
     let clean_mid : HasCleanDisk (state g.S.Store mid) = omega (arith, clean_end, c.commit.ensures.survives.clean) in
-    let inside = rw c.transaction-tx.ensures.begun at c.in-Ok-default-true.ensures.inside in
-    let works = rw c.transaction-tx.ensures.begun at c.in-Ok-default-true.ensures.works in
+    let inside = rw c.transaction-tx.ensures.begun at c.in-Ok-Done-default-true.ensures.inside in
+    let works = rw c.in-Ok-Done-default-true.field-0-is at (rw c.transaction-tx.ensures.begun at c.in-Ok-Done-default-true.ensures.works) in
     subst (λ h. IsMade c.args.limits caller request answer (state g.S.Store old) (state g.S.Store h)) same
-    (made_commit g.S.Store old mid end c.args.limits caller request answer c.in-Ok-default-true.field-0-1 works (λ k. (inside.lives k refl).was_open) clean_mid g.met.S.Store.settled (c.in-Ok.ensures.ok clean_end).1)
+    (made_commit g.S.Store old mid end c.args.limits caller request answer c.in-Ok-Done-default-true.field-0-1 works (λ k. (inside.lives k refl).was_open) clean_mid g.met.S.Store.settled (c.in-Ok.ensures.ok clean_end).1)
 
 pub returns-in-Ok-clause-crash : goal.returns-in-Ok-clause-crash
 returns-in-Ok-clause-crash g c =
@@ -32,28 +35,28 @@ returns-in-Ok-clause-crash g c =
     let end = c.commit.new.self.0 in
     let caller : Caller = asker c.args.asked.now in
     let request : Request = asked_of c.args.asked.now in
-    let answer : Answer = seen_reply c.in-Ok-default-true.reply in
+    let answer : Answer = seen_reply c.in-Ok-Done-default-true.reply in
     let same : end ≡ c.conn-1.given.0 = search rules in
-    let inside = rw c.transaction-tx.ensures.begun at c.in-Ok-default-true.ensures.inside in
-    let works = rw c.transaction-tx.ensures.begun at c.in-Ok-default-true.ensures.works in
+    let inside = rw c.transaction-tx.ensures.begun at c.in-Ok-Done-default-true.ensures.inside in
+    let works = rw c.in-Ok-Done-default-true.field-0-is at (rw c.transaction-tx.ensures.begun at c.in-Ok-Done-default-true.ensures.works) in
     subst (λ h. Survives (state g.S.Store old) (state g.S.Store h) (LeavesAfter c.args.limits caller request (state g.S.Store old))) same
-    (leaves_after g.S.Store old mid end c.args.limits caller request answer c.in-Ok-default-true.field-0-1 works (λ k. (inside.lives k refl).was_open) inside.survives c.commit.ensures.survives)
+    (leaves_after g.S.Store old mid end c.args.limits caller request answer c.in-Ok-Done-default-true.field-0-1 works (λ k. (inside.lives k refl).was_open) inside.survives c.commit.ensures.survives)
 
-pub returns-in-Ok-default-false-clause-made : goal.returns-in-Ok-default-false-clause-made
-returns-in-Ok-default-false-clause-made g c clean =
+pub returns-in-Ok-Done-default-false-clause-made : goal.returns-in-Ok-Done-default-false-clause-made
+returns-in-Ok-Done-default-false-clause-made g c clean =
     let old = c.args.conn.now in
     let mid = c.work_of.new.tx.conn.now in
     let end = c.rollback.new.self.0 in
     let caller : Caller = asker c.args.asked.now in
     let request : Request = asked_of c.args.asked.now in
-    let answer : Answer = seen_reply c.in-Ok-default-false.reply in
-    let same : end ≡ c.conn-in-Ok-default-false-1.given.0 = search rules in
+    let answer : Answer = seen_reply c.in-Ok-Done-default-false.reply in
+    let same : end ≡ c.conn-in-Ok-Done-default-false-1.given.0 = search rules in
     let clean_end : HasCleanDisk (state g.S.Store end) = subst (λ h. HasCleanDisk (state g.S.Store h)) (sym same) clean in
     let clean_mid : HasCleanDisk (state g.S.Store mid) = omega (arith, clean_end, c.rollback.ensures.survives.clean) in
-    let inside = rw c.transaction-tx.ensures.begun at c.in-Ok-default-false.ensures.inside in
-    let works = rw c.transaction-tx.ensures.begun at c.in-Ok-default-false.ensures.works in
+    let inside = rw c.transaction-tx.ensures.begun at c.in-Ok-Done-default-false.ensures.inside in
+    let works = rw c.in-Ok-Done-default-false.field-0-is at (rw c.transaction-tx.ensures.begun at c.in-Ok-Done-default-false.ensures.works) in
     subst (λ h. IsMade c.args.limits caller request answer (state g.S.Store old) (state g.S.Store h)) same
-    (made_nothing g.S.Store old mid end c.args.limits caller request answer c.in-Ok-default-false.field-0-1 works (λ k. (inside.lives k refl).was_open) clean_mid c.in-Ok-default-false.field-0-1-test
+    (made_nothing g.S.Store old mid end c.args.limits caller request answer c.in-Ok-Done-default-false.field-0-1 works (λ k. (inside.lives k refl).was_open) clean_mid c.in-Ok-Done-default-false.field-0-1-test
     (λ books rests. rests_back g.S.Store old mid end books inside.survives (inside.kept clean_mid refl) (c.rollback.ensures.undone clean_end) c.rollback.ensures.survives clean_end rests))
 
 pub returns-in-Err-clause-undone : goal.returns-in-Err-clause-undone
@@ -78,11 +81,11 @@ returns-then-is_open-clause-crash g c =
     let fin = c.commit.new.self.0 in
     let caller : Caller = asker c.args.asked.now in
     let request : Request = asked_of c.args.asked.now in
-    let answer : Answer = seen_reply c.in-Ok-default-true.reply in
+    let answer : Answer = seen_reply c.in-Ok-Done-default-true.reply in
     let same : fin ≡ c.conn-1.given.0 = search rules in
-    let inside = rw c.transaction-tx.ensures.begun at c.in-Ok-default-true.ensures.inside in
-    let works = rw c.transaction-tx.ensures.begun at c.in-Ok-default-true.ensures.works in
-    let first = leaves_after g.S.Store old mid fin c.args.limits caller request answer c.in-Ok-default-true.field-0-1 works (λ k. (inside.lives k refl).was_open) inside.survives c.commit.ensures.survives in
+    let inside = rw c.transaction-tx.ensures.begun at c.in-Ok-Done-default-true.ensures.inside in
+    let works = rw c.in-Ok-Done-default-true.field-0-is at (rw c.transaction-tx.ensures.begun at c.in-Ok-Done-default-true.ensures.works) in
+    let first = leaves_after g.S.Store old mid fin c.args.limits caller request answer c.in-Ok-Done-default-true.field-0-1 works (λ k. (inside.lives k refl).was_open) inside.survives c.commit.ensures.survives in
     leaves_then c.args.limits caller request (state g.S.Store old) (state g.S.Store fin) (state g.S.Store c.is_open.new.conn) first
     (subst (λ h. Survives (state g.S.Store h) (state g.S.Store c.is_open.new.conn) (λ _. ⊥)) (sym same) c.is_open.ensures.crash)
 
@@ -93,11 +96,11 @@ returns-else-is_open-clause-crash g c =
     let fin = c.commit.new.self.0 in
     let caller : Caller = asker c.args.asked.now in
     let request : Request = asked_of c.args.asked.now in
-    let answer : Answer = seen_reply c.in-Ok-default-true.reply in
+    let answer : Answer = seen_reply c.in-Ok-Done-default-true.reply in
     let same : fin ≡ c.conn-1.given.0 = search rules in
-    let inside = rw c.transaction-tx.ensures.begun at c.in-Ok-default-true.ensures.inside in
-    let works = rw c.transaction-tx.ensures.begun at c.in-Ok-default-true.ensures.works in
-    let first = leaves_after g.S.Store old mid fin c.args.limits caller request answer c.in-Ok-default-true.field-0-1 works (λ k. (inside.lives k refl).was_open) inside.survives c.commit.ensures.survives in
+    let inside = rw c.transaction-tx.ensures.begun at c.in-Ok-Done-default-true.ensures.inside in
+    let works = rw c.in-Ok-Done-default-true.field-0-is at (rw c.transaction-tx.ensures.begun at c.in-Ok-Done-default-true.ensures.works) in
+    let first = leaves_after g.S.Store old mid fin c.args.limits caller request answer c.in-Ok-Done-default-true.field-0-1 works (λ k. (inside.lives k refl).was_open) inside.survives c.commit.ensures.survives in
     leaves_then c.args.limits caller request (state g.S.Store old) (state g.S.Store fin) (state g.S.Store c.is_open.new.conn) first
     (subst (λ h. Survives (state g.S.Store h) (state g.S.Store c.is_open.new.conn) (λ _. ⊥)) (sym same) c.is_open.ensures.crash)
 
@@ -111,7 +114,7 @@ returns-then-is_open-clause-undone g c clean =
     let crash = subst (λ h. Survives (state g.S.Store h) (state g.S.Store end) (λ _. ⊥)) (sym same) c.is_open.ensures.crash in
     let clean_fin : HasCleanDisk (state g.S.Store fin) = omega (arith, clean, crash.clean) in
     let clean_mid : HasCleanDisk (state g.S.Store mid) = omega (arith, clean_fin, c.commit.ensures.survives.clean) in
-    let inside = rw c.transaction-tx.ensures.begun at c.in-Ok-default-true.ensures.inside in
+    let inside = rw c.transaction-tx.ensures.begun at c.in-Ok-Done-default-true.ensures.inside in
     let live : IsTrue (state g.S.Store fin).is_open = subst (λ h. IsTrue (state g.S.Store h).is_open) (sym same) (c.if-is_open.ensures.was clean refl) in
     let after = subst (λ h. IsTrue (state g.S.Store end).is_open → ((state g.S.Store end).now ≡ (state g.S.Store h).committed) × ((state g.S.Store end).committed ≡ (state g.S.Store h).committed)) (sym same) (c.is_open.ensures.same clean) in
     let undone : IsUndone (state g.S.Store old) (state g.S.Store end) = λ books rests held.
@@ -125,11 +128,51 @@ returns-else-is_open-clause-undone g c clean =
     let fin = c.commit.new.self.0 in
     let caller : Caller = asker c.args.asked.now in
     let request : Request = asked_of c.args.asked.now in
-    let answer : Answer = seen_reply c.in-Ok-default-true.reply in
+    let answer : Answer = seen_reply c.in-Ok-Done-default-true.reply in
     let same : fin ≡ c.conn-1.given.0 = search rules in
-    let inside = rw c.transaction-tx.ensures.begun at c.in-Ok-default-true.ensures.inside in
-    let works = rw c.transaction-tx.ensures.begun at c.in-Ok-default-true.ensures.works in
-    let first = leaves_after g.S.Store old mid fin c.args.limits caller request answer c.in-Ok-default-true.field-0-1 works (λ k. (inside.lives k refl).was_open) inside.survives c.commit.ensures.survives in
+    let inside = rw c.transaction-tx.ensures.begun at c.in-Ok-Done-default-true.ensures.inside in
+    let works = rw c.in-Ok-Done-default-true.field-0-is at (rw c.transaction-tx.ensures.begun at c.in-Ok-Done-default-true.ensures.works) in
+    let first = leaves_after g.S.Store old mid fin c.args.limits caller request answer c.in-Ok-Done-default-true.field-0-1 works (λ k. (inside.lives k refl).was_open) inside.survives c.commit.ensures.survives in
     let whole = leaves_then c.args.limits caller request (state g.S.Store old) (state g.S.Store fin) (state g.S.Store c.is_open.new.conn) first
     (subst (λ h. Survives (state g.S.Store h) (state g.S.Store c.is_open.new.conn) (λ _. ⊥)) (sym same) c.is_open.ensures.crash) in
     (λ other. absurd (other refl), either_of c.args.limits caller request (state g.S.Store old) (state g.S.Store c.is_open.new.conn) whole clean)
+
+pub returns-in-Ok-Shows-clause-made : goal.returns-in-Ok-Shows-clause-made
+returns-in-Ok-Shows-clause-made g c clean =
+    let old = c.args.conn.now in
+    let mid = c.work_of.new.tx.conn.now in
+    let back = c.rollback-in-Ok-Shows.new.self.0 in
+    let end = c.show.new.conn in
+    let caller : Caller = asker c.args.asked.now in
+    let request : Request = asked_of c.args.asked.now in
+    let same : back ≡ c.conn-in-Ok-Shows-1.given.0 = search rules in
+    let crash = subst (λ h. Survives (state g.S.Store h) (state g.S.Store end) (λ _. ⊥)) (sym same) c.show.ensures.crash in
+    let clean_back : HasCleanDisk (state g.S.Store back) = omega (arith, clean, crash.clean) in
+    let clean_mid : HasCleanDisk (state g.S.Store mid) = omega (arith, clean_back, c.rollback-in-Ok-Shows.ensures.survives.clean) in
+    let inside = rw c.transaction-tx.ensures.begun at c.in-Ok-Shows.ensures.inside in
+    let works = rw c.in-Ok-Shows.field-0-is at (rw c.transaction-tx.ensures.begun at c.in-Ok-Shows.ensures.works) in
+    let returned = λ (books : Books) (rests : Rests (state g.S.Store old) books).
+    rests_back g.S.Store old mid back books inside.survives (inside.kept clean_mid refl) (c.rollback-in-Ok-Shows.ensures.undone clean_back) c.rollback-in-Ok-Shows.ensures.survives clean_back rests in
+    let stays = subst (λ h. IsUndone (state g.S.Store h) (state g.S.Store end)) (sym same) (c.show.ensures.same clean) in
+    IfOk-weaker c.show.result _ _
+    (λ reply shown. shows_made g.S.Store old mid back end c.args.limits caller request c.in-Ok-Shows.report works (λ k. (inside.lives k refl).was_open) returned stays clean_mid (seen_reply reply)
+    (subst (λ h. ShowsReport c.in-Ok-Shows.report (seen_reply reply) (state g.S.Store h)) (sym same) shown)) (c.show.ensures.shown clean)
+
+pub returns-in-Ok-Shows-clause-undone : goal.returns-in-Ok-Shows-clause-undone
+returns-in-Ok-Shows-clause-undone g c clean =
+    let old = c.args.conn.now in
+    let mid = c.work_of.new.tx.conn.now in
+    let back = c.rollback-in-Ok-Shows.new.self.0 in
+    let end = c.show.new.conn in
+    let caller : Caller = asker c.args.asked.now in
+    let request : Request = asked_of c.args.asked.now in
+    let same : back ≡ c.conn-in-Ok-Shows-1.given.0 = search rules in
+    let crash = subst (λ h. Survives (state g.S.Store h) (state g.S.Store end) (λ _. ⊥)) (sym same) c.show.ensures.crash in
+    let clean_back : HasCleanDisk (state g.S.Store back) = omega (arith, clean, crash.clean) in
+    let clean_mid : HasCleanDisk (state g.S.Store mid) = omega (arith, clean_back, c.rollback-in-Ok-Shows.ensures.survives.clean) in
+    let inside = rw c.transaction-tx.ensures.begun at c.in-Ok-Shows.ensures.inside in
+    let works = rw c.in-Ok-Shows.field-0-is at (rw c.transaction-tx.ensures.begun at c.in-Ok-Shows.ensures.works) in
+    let returned = λ (books : Books) (rests : Rests (state g.S.Store old) books).
+    rests_back g.S.Store old mid back books inside.survives (inside.kept clean_mid refl) (c.rollback-in-Ok-Shows.ensures.undone clean_back) c.rollback-in-Ok-Shows.ensures.survives clean_back rests in
+    let stays = subst (λ h. IsUndone (state g.S.Store h) (state g.S.Store end)) (sym same) (c.show.ensures.same clean) in
+    of_any_error c.show.result _ (shows_nothing g.S.Store old mid back end c.args.limits caller request c.in-Ok-Shows.report works (λ k. (inside.lives k refl).was_open) returned stays)
