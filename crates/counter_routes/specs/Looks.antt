@@ -1,9 +1,10 @@
 -- What a look is: its path's parts say all of it.
-use Rattle.std.specs.Prelude.{ℕ, List, slice_get, Option, Some, option_map, option_and_then, codes, if◌then◌else◌}
+use Rattle.std.specs.Prelude.{ℕ, List, slice_get, Option, Some, None, option_map, option_and_then, codes, if◌then◌else◌}
 use Rattle.std.specs.Str.{bytes_eq}
 use Rattle.http_messages.specs.Items.{parts}
 use Rattle.shop_values.specs.Numbers.{row_number_of}
 use Rattle.shop_model.specs.Values.{Ask, Balance, Overdue, Rewards}
+use Rattle.shop_model.specs.Values.{View, CustomerList, StaffList, FilmList, ActorInfo, SalesByStore, SalesByCategory}
 use Rattle.counter_routes.specs.Bodies.{◌>>=◌}
 use Rattle.counter_routes.specs.Imports.{moment_in}
 
@@ -41,3 +42,17 @@ rewards_in target = do
   purchases ← threshold_in target 3
   cents ← threshold_in target 4
   Some (Rewards moment purchases cents)
+
+-- the view of that name, which is compared byte by byte
+abbrev pub view_of : List ℕ → Option View
+view_of name = if bytes_eq name (codes "customer_list") then Some CustomerList
+    else (if bytes_eq name (codes "staff_list") then Some StaffList
+    else (if bytes_eq name (codes "film_list") then Some FilmList
+    else (if bytes_eq name (codes "actor_info") then Some ActorInfo
+    else (if bytes_eq name (codes "sales_by_store") then Some SalesByStore
+    else (if bytes_eq name (codes "sales_by_film_category") then Some SalesByCategory
+    else None)))))
+
+-- the view whose name stands behind the second slash
+abbrev pub view_in : List ℕ → Option View
+view_in target = option_and_then view_of (slice_get (parts target) 2)

@@ -2,9 +2,9 @@
 use Rattle.std.specs.Prelude.{◌≡◌, ℕ, Bool, true, false, List, Option, Some, None, option_map, option_and_then, unwrap_or, if◌then◌else◌}
 use Rattle.http_messages.specs.Message.{Message}
 use Rattle.serde_json.specs.Data.{Data}
-use Rattle.shop_model.specs.Values.{Text, Command, OfficeCommand, Ask, OneCustomer, OneFilm, InStock, HeldBy, FilmInStock, FilmNotInStock}
+use Rattle.shop_model.specs.Values.{Text, Command, Ask, OneCustomer, OneFilm, InStock, HeldBy, FilmInStock, FilmNotInStock, View, OneView}
 use Rattle.shop_model.specs.Refusals as named
-use Rattle.shop_model.specs.Machine.{Request, Unread, Do, Look, Office}
+use Rattle.shop_model.specs.Machine.{Request, Unread, Do, Look}
 use Rattle.shop_model.specs.Books.{Caller, Counter, HeadOffice, Nobody}
 use Rattle.shop_types.specs.Seen.{seen_request, seen_refusal}
 use Rattle.shop_types.specs.Replies.{has_fixed_body}
@@ -16,8 +16,8 @@ use Rattle.counter_routes.specs.declared.asked.Reading.TheVariants.{Asked, Refus
 use Rattle.counter_routes.specs.Routes.{route_of}
 use Rattle.counter_routes.specs.Bodies.{body_of, new_customer, new_active, new_rental, new_return, new_payment, new_scrap}
 use Rattle.counter_routes.specs.Imports.{import_in}
-use Rattle.counter_routes.specs.Looks.{ask_in, balance_in, overdue_in, rewards_in}
-use Rattle.counter_routes.specs.Words.{Meaning, texts_of, command_of_words, is_to_office}
+use Rattle.counter_routes.specs.Looks.{ask_in, balance_in, overdue_in, rewards_in, view_in}
+use Rattle.counter_routes.specs.Words.{Meaning, texts_of, request_of_words, is_to_office}
 
 -- the request, or the refusal `bad_body` where there is none
 abbrev pub or_bad_body : Option Request → Request
@@ -34,6 +34,10 @@ command_or_bad command = or_bad_body (option_map Do command)
 -- a look, or `bad_body` where nothing is asked
 abbrev pub look_or_bad : Option Ask → Request
 look_or_bad ask = or_bad_body (option_map Look ask)
+
+-- a view, or `no_route` where none has the name: that path has nothing to show
+abbrev pub view_or_no_route : Option View → Request
+view_or_no_route view = unwrap_or (option_map (λ it. Look (OneView it)) view) (Unread named.NoRoute)
 
 -- what a message to that route asks
 abbrev pub request_at : Message → Option Route → Request
@@ -54,19 +58,20 @@ request_at message (Some route.FilmNotInStock) = look_or_bad (ask_in FilmNotInSt
 request_at message (Some route.Balance) = look_or_bad (balance_in message.target)
 request_at message (Some route.Overdue) = look_or_bad (overdue_in message.target)
 request_at message (Some route.Rewards) = look_or_bad (rewards_in message.target)
+request_at message (Some route.View) = view_or_no_route (view_in message.target)
 
 -- What a counter's message asks, where its body is no longer than a stock file may be. Of the body of a GET nothing else is looked at.
 abbrev pub counter_request : Message → Request
 counter_request message =
     if is_stock_file message.body then request_at message (route_of message.posts message.target) else Unread named.TooLong
 
--- a command of head office, or `usage` where the words mean none
-abbrev pub office_or_usage : Option OfficeCommand → Request
-office_or_usage command = unwrap_or (option_map Office command) (Unread named.Usage)
+-- what head office asks, or `usage` where the words ask a chain for nothing
+abbrev pub office_or_usage : Option Request → Request
+office_or_usage request = unwrap_or request (Unread named.Usage)
 
 -- what head office's words ask, or `bad_body` where the body is no list of texts
 abbrev pub words_request : Meaning → Option (List Text) → Request
-words_request meaning words = or_bad_body (option_map (λ them. office_or_usage (command_of_words meaning them)) words)
+words_request meaning words = or_bad_body (option_map (λ them. office_or_usage (request_of_words meaning them)) words)
 
 -- What head office's message asks, where its body is no longer than one may be: it has one route, and there its words are read.
 abbrev pub office_request : Meaning → Message → Request
@@ -100,6 +105,7 @@ is_command (Some route.FilmNotInStock) = false
 is_command (Some route.Balance) = false
 is_command (Some route.Overdue) = false
 is_command (Some route.Rewards) = false
+is_command (Some route.View) = false
 
 -- reading the message takes memory: it is a counter's command, or has head office's words
 abbrev pub takes_memory : Message → Caller → Bool

@@ -9,7 +9,7 @@ use Rattle.matchit.specs.Route.{Scan, parse_route}
 use Rattle.matchit.specs.Router.{RouteOf, route_from, nearest}
 use Rattle.matchit.specs.declared.error.InsertError.{InsertError}
 use Rattle.counter_routes.specs.declared.paths.Route.{Route}
-use Rattle.counter_routes.specs.declared.paths.Route.TheVariants.{NewCustomer, Active, Rent, Return, Pay, Import, Scrap, Customer, Film, InStock, HeldBy, FilmInStock, FilmNotInStock, Balance, Overdue, Rewards}
+use Rattle.counter_routes.specs.declared.paths.Route.TheVariants.{NewCustomer, Active, Rent, Return, Pay, Import, Scrap, Customer, Film, InStock, HeldBy, FilmInStock, FilmNotInStock, Balance, Overdue, Rewards, View}
 use Rattle.counter_routes.specs.declared.paths.Pattern.{Pattern}
 
 -- the rows of a router
@@ -82,6 +82,7 @@ get_entries =
     ∷ (codes "/balance/{customer}/{at}", Balance)
     ∷ (codes "/overdue/{at}", Overdue)
     ∷ (codes "/rewards/{at}/{purchases}/{cents}", Rewards)
+    ∷ (codes "/views/{name}", View)
     ∷ []
 
 -- the routes of one method

@@ -2,10 +2,10 @@
 
 ghost use Rattle.std.specs.Prelude.{◌≡◌, ◌≤◌, true, IfOk, IfErr, OnErr, Err, Option, Some, None, option_map, length};
 ghost use Rattle.http_messages.specs.Shown.{message_of};
-ghost use Rattle.shop_model.specs.Values.{Command as Written, Ask as Asking};
-ghost use Rattle.shop_types.specs.Seen.{seen_command, seen_ask, seen_caller};
+ghost use Rattle.shop_model.specs.Values.{Command as Written, Ask as Asking, View as Viewing};
+ghost use Rattle.shop_types.specs.Seen.{seen_command, seen_ask, seen_view, seen_caller};
 ghost use Rattle.counter_routes.specs.Routes.{route_of};
-ghost use Rattle.counter_routes.specs.Readings.{Reads, command_or_bad, look_or_bad, request_at, reading_of, is_command, takes_memory};
+ghost use Rattle.counter_routes.specs.Readings.{Reads, command_or_bad, look_or_bad, view_or_no_route, request_at, reading_of, is_command, takes_memory};
 ghost use Rattle.counter_routes.specs.declared.bodies.Fault.TheVariants.{BadBody, NoMemory as OutOfMemory};
 
 use crate::bodies::{
@@ -13,10 +13,10 @@ use crate::bodies::{
     scrap_command,
 };
 use crate::imports::import_command;
-use crate::looks::{balance_ask, number_of, overdue_ask, rewards_ask};
+use crate::looks::{balance_ask, number_of, overdue_ask, rewards_ask, view_asked};
 use crate::office::read_office;
 use crate::paths::{Route, Routes};
-use shop_types::{Ask, Caller, Command, NoMemory, OfficeWords, Refusal, Request};
+use shop_types::{Ask, Caller, Command, NoMemory, OfficeWords, Refusal, Request, View};
 use std::alloc::Global;
 
 /// What a message asks: a request to the shop, or why it is none.
@@ -52,6 +52,16 @@ fn read_look(ask: Option<Ask>) -> Reading
     }
 }
 
+/// What a view's message asks: the view, or `no_route` where no view has the name.
+fn read_view(view: Option<View>) -> Reading
+    ensures { (viewing : Option Viewing) → option_map seen_view view ≡ viewing → Reads result (view_or_no_route viewing) }
+{
+    match view {
+        Some(view) => Reading::Asked(Request::View(view)),
+        None => Reading::Refused(Refusal::NoRoute),
+    }
+}
+
 impl Routes {
     fn read_counter(
         &self,
@@ -84,13 +94,15 @@ impl Routes {
             Route::Balance => Ok(read_look(balance_ask(target))),
             Route::Overdue => Ok(read_look(overdue_ask(target))),
             Route::Rewards => Ok(read_look(rewards_ask(target))),
+            Route::View => Ok(read_view(view_asked(target))),
         }
     }
 
     /// What a message asks of that caller. It is refused with `no_counter` where nobody asks, with `too_long` where the body has more
-    /// than 65,536 bytes, with `no_route` where there is no such request for that caller, and with `bad_body` where a part of the path or a JSON body is not of its form.
+    /// than 65,536 bytes, with `no_route` where there is no such request for that caller or no view of that name, and with `bad_body` where a part of the path or a JSON body is not of its form.
     /// A stock file is kept as it came, whatever it says. Head office has one request: its words, sent by POST to `/office` as a JSON list of texts.
-    /// It is refused with `usage` where `words` reads no command in them, or one with a file's name, or one that only the program can do.
+    /// They ask for a command or for a reading over all branches.
+    /// It is refused with `usage` where `words` reads neither in them, or a file's name too, or what only the program can do.
     /// Only a counter's command and head office's words take memory.
     pub fn read<O: OfficeWords>(
         &self,

@@ -1,12 +1,12 @@
 //! Looks, whose parts stand in the path.
 
 ghost use Rattle.std.specs.Prelude.{◌≡◌, option_map};
-ghost use Rattle.shop_types.specs.Seen.{seen_ask};
-ghost use Rattle.counter_routes.specs.Looks.{number_in, threshold_of, threshold_in, balance_in, overdue_in, rewards_in};
+ghost use Rattle.shop_types.specs.Seen.{seen_ask, seen_view};
+ghost use Rattle.counter_routes.specs.Looks.{number_in, threshold_of, threshold_in, balance_in, overdue_in, rewards_in, view_of, view_in};
 
 use crate::imports::moment;
 use http_messages::part;
-use shop_types::{Ask, RowNumber};
+use shop_types::{Ask, RowNumber, View};
 
 /// A number from 1 that is of no table's row.
 type NumberAlone = RowNumber<0>;
@@ -65,4 +65,36 @@ pub(crate) fn rewards_ask(target: &[u8]) -> Option<Ask>
         purchases: threshold(target, 3)?,
         cents: threshold(target, 4)?,
     })
+}
+
+/// The view of that name.
+fn view_named(name: &[u8]) -> Option<View>
+    ensures { option_map seen_view result ≡ view_of name.now }
+{
+    if name == b"customer_list".as_slice() {
+        return Some(View::CustomerList);
+    }
+    if name == b"staff_list".as_slice() {
+        return Some(View::StaffList);
+    }
+    if name == b"film_list".as_slice() {
+        return Some(View::FilmList);
+    }
+    if name == b"actor_info".as_slice() {
+        return Some(View::ActorInfo);
+    }
+    if name == b"sales_by_store".as_slice() {
+        return Some(View::SalesByStore);
+    }
+    if name == b"sales_by_film_category".as_slice() {
+        return Some(View::SalesByFilmCategory);
+    }
+    None
+}
+
+/// The view that a path names.
+pub(crate) fn view_asked(target: &[u8]) -> Option<View>
+    ensures { option_map seen_view result ≡ view_in target.now }
+{
+    view_named(part(target, 2)?)
 }

@@ -3,16 +3,16 @@
 ghost use Rattle.std.specs.Prelude.{◌≡◌, true, IfOk, IfErr, OnErr, Some, None, map, option_map, string_bytes};
 ghost use Rattle.serde_json.specs.View.{view};
 ghost use Rattle.http_messages.specs.Shown.{message_of};
-ghost use Rattle.shop_types.specs.Seen.{seen_office};
+ghost use Rattle.shop_types.specs.Seen.{seen_request};
 ghost use Rattle.shop_types.specs.Lines.{seen_line};
-ghost use Rattle.counter_routes.specs.Words.{list_of_texts, texts_of, command_of_line, command_of_words, is_to_office as asks_office};
+ghost use Rattle.counter_routes.specs.Words.{list_of_texts, texts_of, request_of_line, request_of_words, is_to_office as asks_office};
 ghost use Rattle.counter_routes.specs.Readings.{Reads, office_or_usage, office_request};
 ghost use Rattle.counter_routes.specs.declared.bodies.Fault.TheVariants.{BadBody};
 
 use crate::asked::Reading;
 use crate::bodies::{Fault, value_of};
 use serde_json::Value;
-use shop_types::{Line, LineAct, NoMemory, OfficeCommand, OfficeWords, Refusal, Request, Usage};
+use shop_types::{Line, LineAct, NoMemory, OfficeWords, Refusal, Request, Usage};
 use std::alloc::Global;
 
 /// The texts that a value lists.
@@ -37,27 +37,28 @@ fn body_texts(alloc: Global, body: &[u8]) -> Result<Vec<String>, Fault>
     texts(alloc, &value_of(alloc, body)?)
 }
 
-/// The command of head office that a line is. A line that names a file, or that only the program can do, is none.
-fn office_command(line: Line) -> Option<OfficeCommand>
-    ensures { option_map seen_office result ≡ command_of_line (seen_line line) }
+/// What a line asks of a chain: a command or a reading. A line that names a file, or that only the program can do, asks nothing.
+fn line_request(line: Line) -> Option<Request>
+    ensures { option_map seen_request result ≡ request_of_line (seen_line line) }
 {
     let Line { db, act } = line;
     if db.is_some() {
         return None;
     }
     match act {
-        LineAct::Office(command) => Some(command),
+        LineAct::Office(command) => Some(Request::Office(command)),
+        LineAct::OfficeLook(ask) => Some(Request::OfficeLook(ask)),
         _ => None,
     }
 }
 
-/// What the words ask: the command that they mean, or `usage` where they mean none.
+/// What the words ask: the command or the reading that they mean, or `usage` where they mean neither.
 fn read_words<O: OfficeWords>(words: &O, texts: &[String]) -> Result<Reading, NoMemory>
-    ensures { IfOk result (λ reading. Reads reading (office_or_usage (command_of_words (O.meaning words.now) (map string_bytes texts.now)))) }
+    ensures { IfOk result (λ reading. Reads reading (office_or_usage (request_of_words (O.meaning words.now) (map string_bytes texts.now)))) }
 {
     match words.read(texts) {
-        Ok(line) => match office_command(line) {
-            Some(command) => Ok(Reading::Asked(Request::Office(command))),
+        Ok(line) => match line_request(line) {
+            Some(request) => Ok(Reading::Asked(request)),
             None => Ok(Reading::Refused(Refusal::Usage)),
         },
         Err(fault) => match fault {

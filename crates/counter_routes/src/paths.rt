@@ -26,6 +26,7 @@ pub(crate) enum Route {
     Balance,
     Overdue,
     Rewards,
+    View,
 }
 
 /// A route, and the paths that it takes.
@@ -66,7 +67,7 @@ const POST_ROUTES: [Pattern; 7] = [
     },
 ];
 
-const GET_ROUTES: [Pattern; 9] = [
+const GET_ROUTES: [Pattern; 10] = [
     Pattern {
         text: "/customer/{n}",
         route: Route::Customer,
@@ -102,6 +103,10 @@ const GET_ROUTES: [Pattern; 9] = [
     Pattern {
         text: "/rewards/{at}/{purchases}/{cents}",
         route: Route::Rewards,
+    },
+    Pattern {
+        text: "/views/{name}",
+        route: Route::View,
     },
 ];
 

@@ -78,3 +78,7 @@ returns-in-Overdue-clause-reading c =
 pub returns-in-Rewards-clause-reading : goal.returns-in-Rewards-clause-reading
 returns-in-Rewards-clause-reading c =
     rw (← c.in-Some.ensures, c.in-Rewards.is) (c.read_look-in-Rewards.ensures _ c.rewards_ask.ensures)
+
+pub returns-in-View-clause-reading : goal.returns-in-View-clause-reading
+returns-in-View-clause-reading c =
+    rw (← c.in-Some.ensures, c.in-View.is) (c.read_view.ensures _ c.view_asked.ensures)

@@ -1,0 +1,54 @@
+-- One connection after another: what the chain ran over in each, it ran over in all.
+use Rattle.std.proofs.Common.{◌≡◌, ◌∙◌, List, [], ◌∷◌, ◌++◌, refl, Option, Ok, Err, ℕ}
+use Rattle.std.specs.Prelude.{Result, IfOk, IfErr}
+use Rattle.std.proofs.lemmas.List.{map-append}
+use Rattle.sqlite_trees.specs.declared.store.Store.{Ghosts}
+use Rattle.counter_routes.specs.Words.{Meaning}
+use Rattle.chain_engine.specs.Holding.{Chained, Holding}
+use Rattle.chain_engine.specs.Chains.{Runs}
+use Rattle.chain_engine.proofs.Taking.{takes_then}
+use Rattle.chain_engine.proofs.Following.{runs_follow}
+use Rattle.counter_http.specs.Events.{event_of}
+use Rattle.counter_http.specs.Exchanges.{Exchange, events_of, answers_of, RunsOver}
+use Rattle.counter_http.specs.Served.{IsServed, IsFault}
+use Rattle.counter_http.specs.declared.connection.Served.{Served}
+use Rattle.counter_http.specs.declared.connection.ServeFault.{ServeFault}
+use Rattle.counter_http.specs.declared.connection.ServeFault.TheVariants as kind
+use Rattle.counter_http.proofs.Runs.{run_starts}
+
+both_run : (meaning : Meaning) (old mid new : Holding) (es more : List Exchange)
+    → Runs (events_of meaning es) (answers_of es) old mid → Runs (events_of meaning more) (answers_of more) mid new
+    → Runs (events_of meaning (es ++ more)) (answers_of (es ++ more)) old new
+both_run meaning old mid new es more first second =
+    rw (map-append (λ (x : Exchange). event_of meaning x.message) es more, map-append (λ (x : Exchange). x.answer) es more)
+    (runs_follow old mid new (events_of meaning es) (events_of meaning more) (answers_of es) (answers_of more) first second)
+
+pub run_follows : {S : Type 0} {g : Ghosts S} {meaning : Meaning} {old mid new : Chained S} (es more : List Exchange)
+    → RunsOver g meaning old mid es → RunsOver g meaning mid new more → RunsOver g meaning old new (es ++ more)
+run_follows {S} {g} {meaning} {old} {mid} {new} es more first second = record {
+  takes = takes_then first.takes second.takes (λ old mid new x y. both_run meaning old mid new es more x y);
+  same = same es more first second;
+}
+  where
+    same : (es more : List Exchange) → RunsOver g meaning old mid es → RunsOver g meaning mid new more → es ++ more ≡ [] → new ≡ old
+    same [] more first second none = second.same none ∙ first.same refl
+    same (e ∷ es) more first second none = cc
+
+-- the chain ran over some exchanges
+abbrev pub RunsOverSome : {S : Type 0} → Ghosts S → Meaning → Chained S → Chained S → Type 0
+RunsOverSome g meaning old new = (exchanges : List Exchange) × RunsOver g meaning old new exchanges
+
+pub some_start : {S : Type 0} {g : Ghosts S} {meaning : Meaning} {chain : Chained S} → RunsOverSome g meaning chain chain
+some_start {S} {g} {meaning} {chain} = ([], run_starts)
+
+pub some_follow : {S : Type 0} {g : Ghosts S} {meaning : Meaning} {old mid new : Chained S} → RunsOverSome g meaning old mid → RunsOverSome g meaning mid new → RunsOverSome g meaning old new
+some_follow {S} {g} {meaning} {old} {mid} {new} first second = (first.0 ++ second.0, run_follows first.0 second.0 first.1 second.1)
+
+-- however a connection ended
+pub some_ran : (result : Result Served ServeFault) (most : ℕ) (Ran : List Exchange → Type 0) (input left output written : Option (List ℕ))
+    → IfOk result (λ served. IsServed served most Ran input left output written) → IfErr result (λ fault. IsFault fault most Ran input left output written)
+    → (exchanges : List Exchange) × Ran exchanges
+some_ran (Ok served) most Ran input left output written ok err = (ok.exchanges, ok.ran.ran)
+some_ran (Err kind.Memory) most Ran input left output written ok err = ([], err.0)
+some_ran (Err (kind.Read replies)) most Ran input left output written ok err = (err.exchanges, err.ran.ran)
+some_ran (Err (kind.Write replies)) most Ran input left output written ok err = (err.exchanges ++ err.failed, err.ran.ran)
