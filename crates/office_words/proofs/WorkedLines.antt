@@ -4,6 +4,7 @@ use Rattle.clap.specs.Words.{Text}
 use Rattle.clap.proofs.OnLiterals.{clap_on_literals}
 use Rattle.shop_types.specs.declared.film.Rating.TheVariants as rating
 use Rattle.shop_types.specs.declared.office.OfficeAct.TheVariants as office
+use Rattle.shop_types.specs.declared.request.OfficeAsk.TheVariants.{Sales}
 use Rattle.shop_types.specs.declared.line.LineAct.TheVariants as act
 use Rattle.office_words.specs.Line.{line_of}
 
@@ -36,3 +37,13 @@ film_with_defaults = refl
 pub film_without_key : line_of (codes "film-add" ∷ title_and_kinds) ≡ None
 unfolding clap_on_literals
 film_without_key = refl
+
+-- a reading has neither a key nor options
+pub sales_of_no_file : line_of (codes "sales" ∷ []) ≡ Some (record { db = None; act = act.OfficeLook Sales })
+unfolding clap_on_literals
+sales_of_no_file = refl
+
+pub sales_of_a_file : line_of (codes "--db" ∷ codes "chain" ∷ codes "sales" ∷ [])
+    ≡ Some (record { db = Some (codes "chain"); act = act.OfficeLook Sales })
+unfolding clap_on_literals
+sales_of_a_file = refl

@@ -10,6 +10,7 @@ use Rattle.shop_types.specs.declared.film.Film.{Film}
 use Rattle.shop_types.specs.declared.person.Person.{Person}
 use Rattle.shop_types.specs.declared.office.OfficeAct.{OfficeAct}
 use Rattle.shop_types.specs.declared.office.OfficeAct.TheVariants as office
+use Rattle.shop_types.specs.declared.request.OfficeAsk.TheVariants.{Sales}
 use Rattle.shop_types.specs.declared.line.LineAct.{LineAct}
 use Rattle.shop_types.specs.declared.line.LineAct.TheVariants as act
 use Rattle.office_words.specs.Given.{with_value, text_given, key_given, token_given, rating_given, features_given}
@@ -134,4 +135,5 @@ act_of name rows = if bytes_eq name (codes "init") then option_map act.Init (tok
     else (if bytes_eq name (codes "migrate") then Some act.Migrate
     else (if bytes_eq name (codes "serve") then serve_of rows
     else (if bytes_eq name (codes "replay") then Some act.Replay
-    else command_of name rows)))
+    else (if bytes_eq name (codes "sales") then Some (act.OfficeLook Sales)
+    else command_of name rows))))

@@ -112,6 +112,9 @@ serve_shape = subcommand_shape (codes "serve")
 abbrev pub replay_shape : Shape
 replay_shape = subcommand_shape (codes "replay") []
 
+abbrev pub sales_shape : Shape
+sales_shape = subcommand_shape (codes "sales") []
+
 -- ---- the whole line
 
 abbrev pub name_shapes : List Shape
@@ -135,6 +138,9 @@ file_shapes = init_shape ∷ migrate_shape ∷ []
 abbrev pub request_shapes : List Shape
 request_shapes = serve_shape ∷ replay_shape ∷ []
 
+abbrev pub reading_shapes : List Shape
+reading_shapes = sales_shape ∷ []
+
 -- the command line before its subcommands
 abbrev pub top_app : App
 top_app = record {
@@ -155,5 +161,8 @@ with_places app = fold with_subcommand (fold with_subcommand app place_shapes) p
 abbrev pub with_program : App → App
 with_program app = fold with_subcommand (fold with_subcommand app file_shapes) request_shapes
 
+abbrev pub with_readings : App → App
+with_readings app = fold with_subcommand app reading_shapes
+
 abbrev pub office_app : App
-office_app = with_program (with_places (with_catalogue top_app))
+office_app = with_readings (with_program (with_places (with_catalogue top_app)))

@@ -5,7 +5,8 @@ ghost use Rattle.office_words.specs.Acts.{person_of, staff_of, manager_of, offic
 use crate::given;
 use clap::ArgMatches;
 use shop_types::{
-    Actor, Branch, City, Film, LineAct, OfficeAct, OfficeCommand, Person, Staff, T45, Usage,
+    Actor, Branch, City, Film, LineAct, OfficeAct, OfficeAsk, OfficeCommand, Person, Staff, T45,
+    Usage,
 };
 use std::alloc::Global;
 
@@ -160,6 +161,7 @@ pub(crate) fn act(alloc: Global, name: &str, given: &ArgMatches<'_>) -> Result<L
         "migrate" => Ok(LineAct::Migrate),
         "serve" => serve(alloc, given),
         "replay" => Ok(LineAct::Replay),
+        "sales" => Ok(LineAct::OfficeLook(OfficeAsk::Sales)),
         _ => command(alloc, name, given),
     }
 }

@@ -200,6 +200,13 @@ fn replay<'a>(alloc: Global) -> Command<'a>
     Command::new(alloc, "replay")
 }
 
+fn sales<'a>(alloc: Global) -> Command<'a>
+    ensures shape { shape_of result ≡ line.sales_shape }
+    ensures local { (fields_of result).has_globals ≡ false }
+{
+    Command::new(alloc, "sales")
+}
+
 fn with_names<'a>(alloc: Global, command: Command<'a>) -> Result<Command<'a>, AllocError>
     requires local { (fields_of command).has_globals ≡ false }
     ensures app { IfOk result (λ c. app_of c ≡ fold with_subcommand (app_of command.entry) line.name_shapes) }
@@ -294,6 +301,14 @@ fn with_program<'a>(alloc: Global, command: Command<'a>) -> Result<Command<'a>, 
     with_requests(alloc, command)
 }
 
+fn with_readings<'a>(alloc: Global, command: Command<'a>) -> Result<Command<'a>, AllocError>
+    requires local { (fields_of command).has_globals ≡ false }
+    ensures app { IfOk result (λ c. app_of c ≡ line.with_readings (app_of command.entry)) }
+    ensures local { IfOk result (λ c. (fields_of c).has_globals ≡ false) }
+{
+    with_command(command, sales(alloc))
+}
+
 fn top<'a>(alloc: Global) -> Result<Command<'a>, AllocError>
     ensures app { IfOk result (λ c. app_of c ≡ line.top_app) }
     ensures local { IfOk result (λ c. (fields_of c).has_globals ≡ false) }
@@ -312,5 +327,6 @@ pub(crate) fn office<'a>(alloc: Global) -> Result<Command<'a>, AllocError>
     let command = top(alloc)?;
     let command = with_catalogue(alloc, command)?;
     let command = with_places(alloc, command)?;
-    with_program(alloc, command)
+    let command = with_program(alloc, command)?;
+    with_readings(alloc, command)
 }
