@@ -1,7 +1,6 @@
-//! A chain with no shared row, the faults by which there is none, and head office's words before there are any.
+//! A chain with no shared row, and the faults by which there is none.
 use chain_engine::{Chain, OpenFault};
-use sakila_office::NoWords;
-use shop_types::{Caller, Limits, OfficeWords, Token, Usage};
+use shop_types::{Caller, Limits, Token};
 use std::test::Fail;
 
 #[test]
@@ -27,27 +26,5 @@ fn faults_have_names(rt: HostRuntime) -> Result<(), Fail> {
     ] {
         assert!(rt; fault.to_string(rt.alloc())?.as_str() == name);
     }
-    Ok(())
-}
-
-/// Whether the reader tells something of the words, and so neither reads them nor lacks memory.
-fn tells<W: OfficeWords>(reader: &W, words: &[String]) -> bool {
-    match reader.read(words) {
-        Err(Usage::Words(text)) => text.is_empty(),
-        Err(Usage::Memory) | Ok(_) => false,
-    }
-}
-
-#[test]
-fn no_words_are_read(rt: HostRuntime) -> Result<(), Fail> {
-    let alloc = rt.alloc();
-    let reader = NoWords::new(alloc);
-    let words = [
-        String::from_str(alloc, "serve")?,
-        String::from_str(alloc, "8080")?,
-    ];
-    assert!(rt; tells(&reader, &words));
-    assert!(rt; tells(&reader, &[String::from_str(alloc, "replay")?]));
-    assert!(rt; tells(&reader, &[]));
     Ok(())
 }

@@ -12,4 +12,6 @@ mod replays;
 #[cfg(test)]
 mod shared;
 #[cfg(test)]
+mod sockets;
+#[cfg(test)]
 mod statements;

@@ -1,20 +1,22 @@
--- A chain in a file: how it is made, and how it answers a command of head office.
-use Rattle.std.specs.Prelude.{◌≡◌, ℕ, false, List, Option, codes}
+-- A chain in a file: how it is made, how it answers a request of head office, and how it serves connections.
+use Rattle.std.specs.Prelude.{◌≡◌, ◌⊎◌, ℕ, false, List, Option, codes}
+use Rattle.std.specs.Io.KnownBytes.{Keeps}
 use Rattle.sqlite_disk.specs.declared.Disk.{Ghosts}
 use Rattle.sqlite_disk.specs.declared.Files.{Files}
 use Rattle.sqlite_wal.specs.Reads.{AreClean}
 use Rattle.sqlite.specs.Files.{image_of}
 use Rattle.shop_values.specs.LimitValues.{most_limits}
-use Rattle.shop_model.specs.Machine.{Office}
 use Rattle.shop_model.specs.Answers.{Answer}
 use Rattle.shop_model.specs.Books.{Books, HeadOffice}
-use Rattle.shop_types.specs.declared.office.OfficeCommand.{OfficeCommand}
-use Rattle.shop_types.specs.Seen.{seen_office}
+use Rattle.shop_types.specs.declared.request.Request.{Request}
+use Rattle.shop_types.specs.Seen.{seen_request}
 use Rattle.shop_schema.specs.Shop.{first_books}
 use Rattle.chain_engine.specs.Holding.{Holding}
-use Rattle.chain_engine.specs.Chains.{Answers}
+use Rattle.office_words.specs.Line.{line_of}
+use Rattle.chain_engine.specs.Chains.{Answers, Runs}
 use Rattle.chain_engine.specs.Files.{HoldsBooks, KeepsBooks}
 use Rattle.chain_engine.specs.Openings.{HoldsNoTable}
+use Rattle.counter_http.specs.Exchanges.{Exchange, events_of, answers_of}
 use Rattle.sakila_office.specs.Printed.{IsPrinted, IsSilent, IsTold}
 
 -- ---- between two runs of the program the books stand in two files, the database and its log
@@ -30,15 +32,25 @@ pub record IsMade {D : Type 0} (g : Ghosts D) (token : List ℕ) : Type 0 where
   pub none : AreClean g left.log left.db → HoldsNoTable (image_of g files)
   pub kept : AreClean g left.log left.db → KeepsBooks g left (first_books token)
 
--- The chain was opened in the files that it stands in, got the command and answered so, and was closed. Whatever books the files held, the answer is theirs; and
+-- The chain was opened in the files that it stands in, got the request and answered so, and was closed. Whatever books the files held, the answer is theirs; and
 -- unless the store failed, the files then keep the books after it.
-pub record IsAnswered {D : Type 0} (g : Ghosts D) (command : OfficeCommand) (answer : Answer) : Type 0 where
+pub record IsAnswered {D : Type 0} (g : Ghosts D) (request : Request) (answer : Answer) : Type 0 where
   pub files : Files D
   pub left : Files D
   pub answers : AreClean g left.log left.db → (books : Books) → HoldsBooks (image_of g files) books
-      → (after : Holding) × Answers HeadOffice (Office (seen_office command)) answer (opened_holding books) after × (after.is_failed ≡ false → KeepsBooks g left after.books)
+      → (after : Holding) × Answers HeadOffice (seen_request request) answer (opened_holding books) after × (after.is_failed ≡ false → KeepsBooks g left after.books)
 
--- ---- the two tasks, over such files
+-- The chain was opened in the files that it stands in, ran over some exchanges, and was closed. Whatever books the files held, the run begins at them; and unless the
+-- store failed, the files then keep the books after it. With status 0 it didn't fail.
+pub record IsServedIn {D : Type 0} (g : Ghosts D) (status : ℕ) : Type 0 where
+  pub files : Files D
+  pub left : Files D
+  pub exchanges : List Exchange
+  pub runs : AreClean g left.log left.db → (books : Books) → HoldsBooks (image_of g files) books
+      → (after : Holding) × Runs (events_of line_of exchanges) (answers_of exchanges) (opened_holding books) after
+      × (after.is_failed ≡ false → KeepsBooks g left after.books) × (status ≡ 0 → after.is_failed ≡ false)
+
+-- ---- the three tasks, over such files
 
 -- the chain was made and its version is told, or there are tables already, or the store couldn't do its part
 pub data Makes {D : Type 0} (g : Ghosts D) (token : List ℕ) (status : ℕ) (output written : Option (List ℕ)) : Type 0 where
@@ -46,7 +58,12 @@ pub data Makes {D : Type 0} (g : Ghosts D) (token : List ℕ) (status : ℕ) (ou
   already : IsSilent 1 status output written → Makes g token status output written
   not_made : IsSilent 3 status output written → Makes g token status output written
 
--- the command was answered, and the answer is told; or no chain was opened, and it did nothing
-pub data Puts {D : Type 0} (g : Ghosts D) (command : OfficeCommand) (status : ℕ) (output written : Option (List ℕ)) : Type 0 where
-  answered : (answer : Answer) → IsAnswered g command answer → IsTold answer status output written → Puts g command status output written
-  not_opened : IsSilent 3 status output written → Puts g command status output written
+-- the request was answered, and the answer is told; or no chain was opened, and it did nothing
+pub data Puts {D : Type 0} (g : Ghosts D) (request : Request) (status : ℕ) (output written : Option (List ℕ)) : Type 0 where
+  answered : (answer : Answer) → IsAnswered g request answer → IsTold answer status output written → Puts g request status output written
+  not_opened : IsSilent 3 status output written → Puts g request status output written
+
+-- the chain served connections, and nothing is printed; or no chain was opened, and it did nothing
+pub data Serves {D : Type 0} (g : Ghosts D) (status : ℕ) (output written : Option (List ℕ)) : Type 0 where
+  served : IsServedIn g status → (status ≡ 0) ⊎ (status ≡ 3) → Keeps output written → Serves g status output written
+  not_served : IsSilent 3 status output written → Serves g status output written

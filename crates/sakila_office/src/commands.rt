@@ -1,24 +1,28 @@
-//! A chain in a file: it is made, or gets one command of head office.
-ghost use Rattle.std.specs.Prelude.{◌≡◌, false};
+//! A chain in a file: it is made, gets one request of head office, or serves connections.
+ghost use Rattle.std.specs.Prelude.{◌≡◌, ◌⊎◌, ℕ, true, false, List, Option};
 ghost use Rattle.sqlite.specs.State.{HasCleanDisk};
 ghost use Rattle.sqlite.specs.Files.{over_files, file_state};
 ghost use Rattle.sqlite_wal.specs.Reads.{AreClean};
-ghost use Rattle.shop_model.specs.Machine.{Office};
 ghost use Rattle.shop_model.specs.Books.{Books, HeadOffice};
 ghost use Rattle.shop_types.specs.Replies.{seen_reply};
-ghost use Rattle.shop_types.specs.Seen.{seen_office};
+ghost use Rattle.shop_types.specs.Seen.{seen_request};
+ghost use Rattle.office_words.specs.Line.{line_of};
 ghost use Rattle.chain_engine.specs.Holding.{Holding, holding};
-ghost use Rattle.chain_engine.specs.Chains.{IsAt, Answers};
+ghost use Rattle.chain_engine.specs.Chains.{IsAt, Answers, Runs};
 ghost use Rattle.chain_engine.specs.Files.{KeepsBooks};
-ghost use Rattle.sakila_office.specs.Commands.{Makes, Puts};
+ghost use Rattle.counter_http.specs.Exchanges.{Exchange, events_of, answers_of, RunsOver};
+ghost use Rattle.sakila_office.specs.Commands.{Makes, Puts, Serves};
 
 use crate::printing::{print, tell, tell_fault};
+use crate::serving::serve_listener;
 use chain_engine::{Chain, OpenFault};
-use shop_types::{Caller, Limits, OfficeCommand, Refusal, Reply, Request, Token};
-use sqlite::{FileStore, Files};
+use office_words::ClapWords;
+use shop_types::{Caller, Limits, Refusal, Reply, Request, Token};
+use sqlite::{Alter, FileStore, Files};
 use sqlite_disk::Disk;
 use sqlite_std_file::File;
 use std::io::Write;
+use std::net::{Ipv4Addr, TcpListener};
 
 /// Makes a chain in the file, and tells its version.
 pub(crate) fn make<W: Write, E: Write>(
@@ -40,35 +44,82 @@ pub(crate) fn make<W: Write, E: Write>(
     }
 }
 
-/// The chain's reply to the command of head office, and its files, closed.
-fn answer<D: Disk + Drop>(
-    mut chain: Chain<FileStore<D>>,
-    command: OfficeCommand,
-) -> (Reply, Files<D>)
+/// The chain's reply to the request of head office, and its files, closed.
+fn answer<D: Disk + Drop>(mut chain: Chain<FileStore<D>>, request: &Request) -> (Reply, Files<D>)
     ensures honest { AreClean D.Disk result.1.log result.1.db → HasCleanDisk (file_state chain.conn) }
     ensures answers { AreClean D.Disk result.1.log result.1.db → (books besides : Books) → IsAt over_files chain books besides
-        → (after : Holding) × Answers HeadOffice (Office (seen_office command)) (seen_reply result.0) (holding chain books besides) after
+        → (after : Holding) × Answers HeadOffice (seen_request request.now) (seen_reply result.0) (holding chain books besides) after
         × (after.is_failed ≡ false → KeepsBooks D.Disk result.1 after.books) }
 {
-    let reply = chain.answer(&Caller::Office, &Request::Office(command));
+    let reply = chain.answer(&Caller::Office, request);
     (reply, chain.close())
 }
 
-/// Puts the command of head office to the chain in the file, and tells the answer.
+/// Puts the request of head office to the chain in the file, and tells the answer.
 pub(crate) fn put<W: Write, E: Write>(
     rt: &HostRuntime,
     file: &str,
-    command: OfficeCommand,
+    request: &Request,
     out: &mut W,
     err: &mut E,
 ) -> u8
-    ensures { Puts ⟦<File as Disk>⟧ command result (W.contents out.old) (W.contents out.new) }
+    ensures { Puts ⟦<File as Disk>⟧ request.now result (W.contents out.old) (W.contents out.new) }
 {
     match Chain::open(rt, file, Limits::default()) {
         Ok(chain) => {
-            let (reply, files) = answer(chain, command);
+            let (reply, files) = answer(chain, request);
             drop(files);
             tell(&reply, out, err)
+        }
+        Err(fault) => tell_fault(fault, err),
+    }
+}
+
+/// Serves so many connections at the port by the chain. Where the port can't be had, it answers 3.
+fn serve_port<S: Alter>(rt: &HostRuntime, chain: &mut Chain<S>, port: u16, connections: u32) -> u8
+    ensures ran { (exchanges : List Exchange) × RunsOver S.Store line_of chain.old chain.new exchanges }
+    ensures status { (result ≡ 0) ⊎ (result ≡ 3) }
+    ensures failed { chain.new.is_failed ≡ true → result ≡ 3 }
+{
+    let Ok(listener) = TcpListener::bind(rt, (Ipv4Addr::LOCALHOST, port)) else {
+        return 3;
+    };
+    let alloc = rt.alloc();
+    serve_listener(alloc, &listener, chain, &ClapWords { alloc }, connections)
+}
+
+/// The status after so many connections, and the chain's files, closed.
+fn serve_chain<D: Disk + Drop>(
+    rt: &HostRuntime,
+    mut chain: Chain<FileStore<D>>,
+    port: u16,
+    connections: u32,
+) -> (u8, Files<D>)
+    ensures status { (result.0 ≡ 0) ⊎ (result.0 ≡ 3) }
+    ensures honest { AreClean D.Disk result.1.log result.1.db → HasCleanDisk (file_state chain.conn) }
+    ensures runs { (exchanges : List Exchange) × (AreClean D.Disk result.1.log result.1.db → (books besides : Books) → IsAt over_files chain books besides
+        → (after : Holding) × Runs (events_of line_of exchanges) (answers_of exchanges) (holding chain books besides) after
+        × (after.is_failed ≡ false → KeepsBooks D.Disk result.1 after.books) × (result.0 ≡ 0 → after.is_failed ≡ false)) }
+{
+    let status = serve_port(rt, &mut chain, port, connections);
+    (status, chain.close())
+}
+
+/// Serves so many connections at the port by the chain in the file.
+pub(crate) fn serve_in<E: Write>(
+    rt: &HostRuntime,
+    file: &str,
+    port: u16,
+    connections: u32,
+    err: &mut E,
+) -> u8
+    ensures { (output : Option (List ℕ)) → Serves ⟦<File as Disk>⟧ result output output }
+{
+    match Chain::open(rt, file, Limits::default()) {
+        Ok(chain) => {
+            let (status, files) = serve_chain(rt, chain, port, connections);
+            drop(files);
+            status
         }
         Err(fault) => tell_fault(fault, err),
     }

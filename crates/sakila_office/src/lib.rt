@@ -5,7 +5,7 @@ mod commands;
 mod printing;
 mod program;
 mod replays;
-mod words;
+mod serving;
 
 pub use program::run;
-pub use words::NoWords;
+pub use serving::{serve_listener, serve_patiently};

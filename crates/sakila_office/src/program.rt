@@ -5,11 +5,11 @@ ghost use Rattle.office_words.specs.Line.{line_of};
 ghost use Rattle.sakila_office.specs.Tasks.{task_of, task_with};
 ghost use Rattle.sakila_office.specs.Program.{Performs};
 
-use crate::commands::{make, put};
+use crate::commands::{make, put, serve_in};
 use crate::printing::{tell, tell_misplaced, tell_unbuilt, tell_usage};
 use crate::replays::replay;
 use office_words::ClapWords;
-use shop_types::{Line, LineAct, OfficeWords, Refusal, Reply, Usage};
+use shop_types::{Line, LineAct, OfficeWords, Refusal, Reply, Request, Usage};
 use sqlite_disk::Disk;
 use sqlite_std_file::File;
 use std::io::{Read, Write};
@@ -27,8 +27,10 @@ fn perform_in<W: Write, E: Write>(
 {
     match act {
         LineAct::Init(ref token) => make(rt, file, token, out, err),
-        LineAct::Office(command) => put(rt, file, command, out, err),
-        LineAct::Migrate | LineAct::Serve { .. } => tell_unbuilt(err),
+        LineAct::Office(command) => put(rt, file, &Request::Office(command), out, err),
+        LineAct::OfficeLook(ask) => put(rt, file, &Request::OfficeLook(ask), out, err),
+        LineAct::Serve { port, connections } => serve_in(rt, file, port, connections, err),
+        LineAct::Migrate => tell_unbuilt(err),
         LineAct::Replay => tell_misplaced(err),
     }
 }
@@ -46,8 +48,9 @@ fn perform_alone<R: Read, W: Write, E: Write>(
 {
     match act {
         LineAct::Replay => replay(rt.alloc(), reader, out, err),
-        LineAct::Init(_) | LineAct::Office(_) => tell_misplaced(err),
-        LineAct::Migrate | LineAct::Serve { .. } => tell_unbuilt(err),
+        LineAct::Init(_) | LineAct::Office(_) | LineAct::OfficeLook(_) | LineAct::Serve { .. } =>
+            tell_misplaced(err),
+        LineAct::Migrate => tell_unbuilt(err),
     }
 }
 

@@ -3,15 +3,13 @@ ghost use Rattle.std.specs.Prelude.{◌≡◌};
 ghost use Rattle.sakila_office.specs.Replays.{status_of, Replays};
 
 use crate::printing::tell_fault;
+use crate::serving::MOST_REQUESTS;
 use chain_engine::Chain;
 use counter_http::{End, serve};
 use office_words::ClapWords;
 use shop_types::Limits;
 use std::alloc::Global;
 use std::io::{Read, Write};
-
-/// How many requests are answered of one input.
-const MOST_REQUESTS: u32 = 1000;
 
 /// The status that the program ends with after a connection that ended so.
 fn status(end: End) -> u8

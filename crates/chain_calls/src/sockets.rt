@@ -1,0 +1,54 @@
+//! Connections over loopback.
+use chain_engine::Chain;
+use office_words::ClapWords;
+use sakila_office::{serve_listener, serve_patiently};
+use shop_types::Limits;
+use std::alloc::Global;
+use std::io::{Read, Write};
+use std::net::{Shutdown, TcpListener, TcpStream};
+use std::test::Fail;
+use std::time::Duration;
+
+const ASKED: &[u8] =
+    b"POST /customer HTTP/1.1\r\nhost: localhost\r\ncounter-token: 11111111111111111111111111111111\r\ncontent-length: 133\r\n\r\n{\"key\":\"k1\",\"staff\":1,\"at\":\"2026-03-01T10:00:00\",\"first\":\"MARY\",\"last\":\"SMITH\",\"address\":\"1 Main\",\"postal\":\"\",\"phone\":\"555\",\"city\":1}";
+
+const TOLD: &[u8] =
+    b"HTTP/1.1 200 OK\r\ncontent-type: application/json\r\ncontent-length: 14\r\n\r\n{\"customer\":1}";
+
+/// A peer that has asked, and asks no more.
+fn asking(rt: &HostRuntime, listener: &TcpListener) -> Result<TcpStream, Fail> {
+    let stream = TcpStream::connect(rt, listener.local_addr()?)?;
+    let mut writer = &stream;
+    writer.write_all(ASKED)?;
+    stream.shutdown(Shutdown::Write)?;
+    Ok(stream)
+}
+
+/// Whether the peer is told the reply, and no more.
+fn is_told(alloc: Global, stream: &TcpStream) -> Result<bool, Fail> {
+    let mut bytes = Vec::new(alloc);
+    let mut reader = stream;
+    reader.read_to_end(&mut bytes)?;
+    Ok(bytes.as_slice() == TOLD)
+}
+
+/// A peer is answered; then one that is silent is left, and the next is answered.
+#[test]
+fn a_silent_peer_is_left(rt: HostRuntime) -> Result<(), Fail> {
+    let alloc = rt.alloc();
+    let listener = TcpListener::bind(&rt, "127.0.0.1:0")?;
+    let mut chain = Chain::demo(alloc, Limits::default())?;
+    let words = ClapWords { alloc };
+    let first = asking(&rt, &listener)?;
+    assert_eq!(rt; serve_listener(alloc, &listener, &mut chain, &words, 1), 0);
+    assert!(rt; is_told(alloc, &first)?);
+    let _silent = TcpStream::connect(&rt, listener.local_addr()?)?;
+    let again = asking(&rt, &listener)?;
+    let patience = Duration::from_millis(50);
+    assert_eq!(rt;
+        serve_patiently(alloc, &listener, &mut chain, &words, 2, patience),
+        0
+    );
+    assert!(rt; is_told(alloc, &again)?);
+    Ok(())
+}

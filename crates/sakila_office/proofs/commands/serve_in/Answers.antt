@@ -1,0 +1,20 @@
+use Rattle.std.proofs.Common.{◌∙◌}
+use Rattle.sakila_office.specs.Commands.{served}
+use Rattle.sakila_office.proofs.Books.{is_opened}
+use Rattle.sakila_office.proofs.Tasks.{keeps_same}
+use Rattle.sakila_office.proofs.commands.serve_in.Goals as goal
+
+pub returns-in-Ok : goal.returns-in-Ok
+returns-in-Ok g c output =
+    let opened = c.in-Ok.ensures.opened in
+    let found = opened.3 in
+    let ran = c.serve_chain-status.ensures.runs in
+    served (record {
+      files = opened.0;
+      left = c.serve_chain-status.result.1;
+      exchanges = ran.0;
+      runs = λ honest books holds.
+          let at = found.found (c.serve_chain-status.ensures.honest honest) books holds in
+          let told = ran.1 honest books books at in
+          rw (← is_opened c.in-Ok.chain books (found.limits ∙ c.default.ensures) found.live) told;
+    }) c.serve_chain-status.ensures.status (keeps_same output)
