@@ -21,6 +21,8 @@ const PATIENCE: u64 = 30;
 const MOST_DROPPED: u32 = 64;
 
 fn set_patience(stream: &TcpStream, patience: Duration) -> io::Result<()> {
+    // A reply goes out in two pieces, and the second isn't to wait until the peer has told that it has the first.
+    stream.set_nodelay(true)?;
     stream.set_read_timeout(Some(patience))?;
     stream.set_write_timeout(Some(patience))
 }
