@@ -80,7 +80,8 @@ pub fn balance(rentals: &[RentalTerms], payments: &[Paid], at: Moment) -> Cents
     requires rentals { length rentals.now ≤ 1_000_000 }
     requires payments { length payments.now ≤ 1_000_000 }
     ensures sum { result ≡ owed_at rentals.now payments.now at }
-    ensures balance { (catalogue : Catalogue) (shop : Shop) (customer : ℕ) → AreTermsOf catalogue shop customer rentals.now → ArePaidBy shop customer payments.now → result ≡ balance catalogue shop customer at }
+    ensures balance { (catalogue : Catalogue) (shop : Shop) (customer : ℕ) → AreTermsOf catalogue shop customer rentals.now
+        → ArePaidBy shop customer payments.now → result ≡ balance catalogue shop customer at }
 {
     let owed = fees(rentals, at) as i64;
     Cents::new(owed - paid(payments, at) as i64)

@@ -82,7 +82,8 @@ fn cents_on(payments: &[Paid], month: (i32, i32)) -> u64
 pub fn rewarded(payments: &[Paid], month: (i32, i32), purchases: u32, cents: u32) -> bool
     requires { length payments.now ≤ 1_000_000 }
     ensures sum { result ≡ passes month purchases cents payments.now }
-    ensures customer { (shop : Shop) (customer : ℕ) (days : ℕ × ℕ) → month ≡ seen_days days → ArePaidBy shop customer payments.now → result ≡ is_rewarded days shop purchases cents customer }
+    ensures customer { (shop : Shop) (customer : ℕ) (days : ℕ × ℕ) → month ≡ seen_days days → ArePaidBy shop customer payments.now
+        → result ≡ is_rewarded days shop purchases cents customer }
 {
     count_on(payments, month) > purchases && cents_on(payments, month) > u64::from(cents)
 }

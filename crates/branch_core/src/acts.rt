@@ -15,7 +15,8 @@ use shop_types::{CopyNo, CustomerNo, Refusal, RentalNo};
 
 /// Of a new customer in a city that may not be there.
 pub fn check_city(has_city: bool) -> Result<(), Refusal>
-    ensures { (rules : model.Rules) (b : ℕ) (catalogue : Catalogue) (shop : Shop) (moment : calendar.Moment) (person : model.Person) → has_city ≡ not (lacks catalogue.cities person.city)
+    ensures { (rules : model.Rules) (b : ℕ) (catalogue : Catalogue) (shop : Shop) (moment : calendar.Moment) (person : model.Person)
+        → has_city ≡ not (lacks catalogue.cities person.city)
         → verdict_by result ≡ Some (first (act_refusals rules b catalogue shop moment (model.AddCustomer person))) }
 {
     if has_city {
@@ -49,8 +50,10 @@ pub fn check_rent(
     out: Option<RentalNo>,
     has_same: bool,
 ) -> Result<(), Refusal>
-    ensures { (rules : model.Rules) (b : ℕ) (catalogue : Catalogue) (shop : Shop) (moment : calendar.Moment) (customer copy : ℕ) → is_active ≡ active_at customer shop → option_map seen_copy found ≡ copy_at catalogue shop copy
-        → IsOut shop copy out → has_same ≡ has_same_rental moment (model.Rent customer copy) shop → verdict_by result ≡ Some (first (act_refusals rules b catalogue shop moment (model.Rent customer copy))) }
+    ensures { (rules : model.Rules) (b : ℕ) (catalogue : Catalogue) (shop : Shop) (moment : calendar.Moment) (customer copy : ℕ)
+        → is_active ≡ active_at customer shop → option_map seen_copy found ≡ copy_at catalogue shop copy
+        → IsOut shop copy out → has_same ≡ has_same_rental moment (model.Rent customer copy) shop
+        → verdict_by result ≡ Some (first (act_refusals rules b catalogue shop moment (model.Rent customer copy))) }
 {
     match is_active {
         None => Err(Refusal::NoCustomer),
@@ -65,8 +68,10 @@ fn check_copy(
     out: Option<RentalNo>,
     has_same: bool,
 ) -> Result<(), Refusal>
-    ensures { (rules : model.Rules) (b : ℕ) (catalogue : Catalogue) (shop : Shop) (moment : calendar.Moment) (customer copy : ℕ) → Some true ≡ active_at customer shop → option_map seen_copy found ≡ copy_at catalogue shop copy
-        → IsOut shop copy out → has_same ≡ has_same_rental moment (model.Rent customer copy) shop → verdict_by result ≡ Some (first (act_refusals rules b catalogue shop moment (model.Rent customer copy))) }
+    ensures { (rules : model.Rules) (b : ℕ) (catalogue : Catalogue) (shop : Shop) (moment : calendar.Moment) (customer copy : ℕ)
+        → Some true ≡ active_at customer shop → option_map seen_copy found ≡ copy_at catalogue shop copy
+        → IsOut shop copy out → has_same ≡ has_same_rental moment (model.Rent customer copy) shop
+        → verdict_by result ≡ Some (first (act_refusals rules b catalogue shop moment (model.Rent customer copy))) }
 {
     let Some(found) = found else {
         return Err(Refusal::NoCopy);
@@ -88,9 +93,11 @@ fn check_copy(
 
 /// Of taking a rental's copy back, and which copy that is.
 pub fn check_return(found: Option<RentalFound>) -> Result<CopyNo, Refusal>
-    ensures verdict { (rules : model.Rules) (b : ℕ) (catalogue : Catalogue) (shop : Shop) (moment : calendar.Moment) (r : ℕ) → option_map seen_rental found ≡ rental_at shop r
+    ensures verdict { (rules : model.Rules) (b : ℕ) (catalogue : Catalogue) (shop : Shop) (moment : calendar.Moment) (r : ℕ)
+        → option_map seen_rental found ≡ rental_at shop r
         → verdict_by result ≡ Some (first (act_refusals rules b catalogue shop moment (model.TakeBack r))) }
-    ensures copy { (shop : Shop) (r : ℕ) → option_map seen_rental found ≡ rental_at shop r → IfOk result (λ copy. Some copy ≡ head (map (λ it. it.copy) (at r shop.rentals))) }
+    ensures copy { (shop : Shop) (r : ℕ) → option_map seen_rental found ≡ rental_at shop r
+        → IfOk result (λ copy. Some copy ≡ head (map (λ it. it.copy) (at r shop.rentals))) }
 {
     match found {
         None => Err(Refusal::NoRental),
@@ -112,7 +119,8 @@ pub fn check_payment(
     found: Option<RentalFound>,
 ) -> Result<(), Refusal>
     ensures { (rules : model.Rules) (b : ℕ) (catalogue : Catalogue) (shop : Shop) (moment : calendar.Moment) (amount : ℕ) → is_active ≡ active_at customer shop
-        → IfSome rental (λ r. option_map seen_rental found ≡ rental_at shop r) → verdict_by result ≡ Some (first (act_refusals rules b catalogue shop moment (model.Pay customer rental amount))) }
+        → IfSome rental (λ r. option_map seen_rental found ≡ rental_at shop r)
+        → verdict_by result ≡ Some (first (act_refusals rules b catalogue shop moment (model.Pay customer rental amount))) }
 {
     if is_active.is_none() {
         return Err(Refusal::NoCustomer);
@@ -134,7 +142,8 @@ pub fn check_payment(
 
 /// Of scrapping a copy.
 pub fn check_scrap(found: Option<CopyFound>, out: Option<RentalNo>) -> Result<(), Refusal>
-    ensures { (rules : model.Rules) (b : ℕ) (catalogue : Catalogue) (shop : Shop) (moment : calendar.Moment) (copy : ℕ) → option_map seen_copy found ≡ copy_at catalogue shop copy
+    ensures { (rules : model.Rules) (b : ℕ) (catalogue : Catalogue) (shop : Shop) (moment : calendar.Moment) (copy : ℕ)
+        → option_map seen_copy found ≡ copy_at catalogue shop copy
         → IsOut shop copy out → verdict_by result ≡ Some (first (act_refusals rules b catalogue shop moment (model.Scrap copy))) }
 {
     let Some(found) = found else {

@@ -57,7 +57,8 @@ fn check_command(
     requires within { IsWithin found.now }
     ensures { (rules : model.Rules) (catalogue : Catalogue) (shop : Shop) → rules.commands ≡ limits.commands → rules.copies ≡ limits.copies
         → Agrees rules catalogue shop (seen_command command.now) found.now
-        → verdict_before result (first (act_refusals rules branch catalogue shop command.now.at (seen_act command.now.act))) ≡ Some (first (refusals rules branch catalogue shop (seen_command command.now))) }
+        → verdict_before result (first (act_refusals rules branch catalogue shop command.now.at (seen_act command.now.act))) ≡ Some
+        (first (refusals rules branch catalogue shop (seen_command command.now))) }
 {
     if is_full(&command.act, found, limits) {
         Err(Refusal::Full)
@@ -73,7 +74,8 @@ fn check_command(
 /// Whether the branch has as many kept rows as it may, or would have more copies.
 fn is_full(act: &Act, found: &Found<'_>, limits: Limits) -> bool
     requires { IsWithin found.now }
-    ensures { (rules : model.Rules) (catalogue : Catalogue) (shop : Shop) (command : model.Command) → command.act ≡ seen_act act.now → rules.commands ≡ limits.commands → rules.copies ≡ limits.copies
+    ensures { (rules : model.Rules) (catalogue : Catalogue) (shop : Shop) (command : model.Command) → command.act ≡ seen_act act.now
+        → rules.commands ≡ limits.commands → rules.copies ≡ limits.copies
         → Agrees rules catalogue shop command found.now → result ≡ is_full rules shop command.act }
 {
     limits.commands() <= found.keys || has_no_room(act, found, limits)
@@ -82,7 +84,8 @@ fn is_full(act: &Act, found: &Found<'_>, limits: Limits) -> bool
 /// Whether the act makes copies, and more than the branch may still have.
 fn has_no_room(act: &Act, found: &Found<'_>, limits: Limits) -> bool
     requires { IsWithin found.now }
-    ensures { (rules : model.Rules) (catalogue : Catalogue) (shop : Shop) (command : model.Command) → command.act ≡ seen_act act.now → rules.copies ≡ limits.copies → Agrees rules catalogue shop command found.now
+    ensures { (rules : model.Rules) (catalogue : Catalogue) (shop : Shop) (command : model.Command) → command.act ≡ seen_act act.now
+        → rules.copies ≡ limits.copies → Agrees rules catalogue shop command found.now
         → result ≡ (nat_lt 0 (new_copies rules shop command.act) && nat_lt rules.copies (length shop.copies + new_copies rules shop command.act)) }
 {
     match act {
@@ -111,7 +114,8 @@ fn is_before(moment: Moment, last: Option<Moment>) -> bool
 
 /// Whether there is such a member of staff, who works at the branch and hasn't left.
 fn works_at(staff: Option<StaffFound>, branch: BranchNo) -> bool
-    ensures { (rows : List model.Staff) (n : ℕ) → option_map seen_staff staff ≡ head (map post_of (at n rows)) → result ≡ list_any (staff_is branch) (at n rows) }
+    ensures { (rows : List model.Staff) (n : ℕ) → option_map seen_staff staff ≡ head (map post_of (at n rows))
+        → result ≡ list_any (staff_is branch) (at n rows) }
 {
     match staff {
         Some(staff) => staff.branch == branch && !staff.gone,

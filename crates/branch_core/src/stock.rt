@@ -42,7 +42,8 @@ pub fn check_stock(
     stock: &Result<Vec<StockFound>, BadCsv>,
     has_lot: bool,
 ) -> Result<&[StockFound], Refusal>
-    ensures verdict { (catalogue : Catalogue) (shop : Shop) (lot : Text) → IfOk stock.now (λ rows. All (RowAgrees catalogue) rows.items) → has_lot ≡ list_any (bytes_eq lot) shop.lots
+    ensures verdict { (catalogue : Catalogue) (shop : Shop) (lot : Text) → IfOk stock.now (λ rows. All (RowAgrees catalogue) rows.items)
+        → has_lot ≡ list_any (bytes_eq lot) shop.lots
         → verdict_by result ≡ Some (first (import_refusals catalogue shop lot (seen_stock stock.now))) }
     ensures rows { IfOk result (λ rows. films_of rows.now ≡ films_in (seen_stock stock.now)) }
     ensures few { IfOk stock.now (λ rows. copies_of rows.items ≤ 1_000) → IfOk result (λ rows. copies_of rows.now ≤ 1_000) }

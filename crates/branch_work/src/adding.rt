@@ -41,7 +41,8 @@ pub fn add_rows<S: Alter>(
     requires within { AreWithin rows }
     ensures same_reference { tx.new.conn.ghost_name ≡ tx.old.conn.ghost_name }
     ensures inside { StaysWithin (state S.Store tx.old.conn.now) (state S.Store tx.new.conn.now) result }
-    ensures added { HasCleanDisk (state S.Store tx.new.conn.now) → IfOk result (λ text. AreAdded branch rows.entry (string_bytes text) (state S.Store tx.old.conn.now) (state S.Store tx.new.conn.now)) }
+    ensures added { HasCleanDisk (state S.Store tx.new.conn.now)
+        → IfOk result (λ text. AreAdded branch rows.entry (string_bytes text) (state S.Store tx.old.conn.now) (state S.Store tx.new.conn.now)) }
 {
     match rows {
         Rows::Customer(customer) => add_customer(alloc, tx, branch, customer),
@@ -69,7 +70,8 @@ pub fn keep<S: Alter>(
     requires { form.now ≡ command_form (seen_command command.now) }
     ensures same_reference { tx.new.conn.ghost_name ≡ tx.old.conn.ghost_name }
     ensures inside { StaysWithin (state S.Store tx.old.conn.now) (state S.Store tx.new.conn.now) result }
-    ensures kept { HasCleanDisk (state S.Store tx.new.conn.now) → OnOk result ((books : books.Books) → Holds (state S.Store tx.old.conn.now) books → CountsOnce branch CountKind.Kept (counts_of books)
+    ensures kept { HasCleanDisk (state S.Store tx.new.conn.now)
+        → OnOk result ((books : books.Books) → Holds (state S.Store tx.old.conn.now) books → CountsOnce branch CountKind.Kept (counts_of books)
         → Holds (state S.Store tx.new.conn.now) (with_kept branch (seen_command command.now) reply.now books)) }
 {
     raise_count(tx, branch, CountKind::Kept, 1)?;
@@ -85,7 +87,9 @@ fn next_number<const KIND: u8, S: Alter>(
 ) -> Result<RowNumber<KIND>, StoreFault>
     ensures same_reference { tx.new.conn.ghost_name ≡ tx.old.conn.ghost_name }
     ensures inside { StaysWithin (state S.Store tx.old.conn.now) (state S.Store tx.new.conn.now) result }
-    ensures taken { HasCleanDisk (state S.Store tx.new.conn.now) → IfOk result (λ number. Tallies (state S.Store tx.old.conn.now) (state S.Store tx.new.conn.now) (CountsOnce branch kind) (raise branch (kind_number kind) 1)
+    ensures taken { HasCleanDisk (state S.Store tx.new.conn.now)
+        → IfOk result (λ number. Tallies (state S.Store tx.old.conn.now) (state S.Store tx.new.conn.now) (CountsOnce branch kind)
+        (raise branch (kind_number kind) 1)
         (λ counts. map (λ it. it.last + 1) (filter (is_count branch (kind_number kind)) counts.counters) ≡ number ∷ [])) }
 {
     let number = fitting(take_number(tx, branch, kind)?)?;
@@ -103,7 +107,8 @@ fn add_customer<S: Alter>(
 ) -> Result<String, StoreFault>
     ensures same_reference { tx.new.conn.ghost_name ≡ tx.old.conn.ghost_name }
     ensures inside { StaysWithin (state S.Store tx.old.conn.now) (state S.Store tx.new.conn.now) result }
-    ensures added { HasCleanDisk (state S.Store tx.new.conn.now) → IfOk result (λ text. AreAdded branch (Rows.Customer customer) (string_bytes text) (state S.Store tx.old.conn.now) (state S.Store tx.new.conn.now)) }
+    ensures added { HasCleanDisk (state S.Store tx.new.conn.now)
+        → IfOk result (λ text. AreAdded branch (Rows.Customer customer) (string_bytes text) (state S.Store tx.old.conn.now) (state S.Store tx.new.conn.now)) }
 {
     let number = next_number(tx, branch, CountKind::Customers)?;
     let row = CustomerRow {
@@ -127,7 +132,9 @@ fn put_active<S: Alter>(
 ) -> Result<String, StoreFault>
     ensures same_reference { tx.new.conn.ghost_name ≡ tx.old.conn.ghost_name }
     ensures inside { StaysWithin (state S.Store tx.old.conn.now) (state S.Store tx.new.conn.now) result }
-    ensures added { HasCleanDisk (state S.Store tx.new.conn.now) → IfOk result (λ text. AreAdded branch (Rows.Active customer active) (string_bytes text) (state S.Store tx.old.conn.now) (state S.Store tx.new.conn.now)) }
+    ensures added { HasCleanDisk (state S.Store tx.new.conn.now)
+        → IfOk result (λ text. AreAdded branch (Rows.Active customer active) (string_bytes text) (state S.Store tx.old.conn.now)
+        (state S.Store tx.new.conn.now)) }
 {
     set_active(tx, branch, customer, active)?;
     match active_text(alloc, customer, active) {
@@ -144,7 +151,8 @@ fn add_rental<S: Alter>(
 ) -> Result<String, StoreFault>
     ensures same_reference { tx.new.conn.ghost_name ≡ tx.old.conn.ghost_name }
     ensures inside { StaysWithin (state S.Store tx.old.conn.now) (state S.Store tx.new.conn.now) result }
-    ensures added { HasCleanDisk (state S.Store tx.new.conn.now) → IfOk result (λ text. AreAdded branch (Rows.Rent rental) (string_bytes text) (state S.Store tx.old.conn.now) (state S.Store tx.new.conn.now)) }
+    ensures added { HasCleanDisk (state S.Store tx.new.conn.now)
+        → IfOk result (λ text. AreAdded branch (Rows.Rent rental) (string_bytes text) (state S.Store tx.old.conn.now) (state S.Store tx.new.conn.now)) }
 {
     let copy = rental.copy;
     let number = next_number(tx, branch, CountKind::Rentals)?;
@@ -172,7 +180,9 @@ fn take_back<S: Alter>(
 ) -> Result<String, StoreFault>
     ensures same_reference { tx.new.conn.ghost_name ≡ tx.old.conn.ghost_name }
     ensures inside { StaysWithin (state S.Store tx.old.conn.now) (state S.Store tx.new.conn.now) result }
-    ensures added { HasCleanDisk (state S.Store tx.new.conn.now) → IfOk result (λ text. AreAdded branch (Rows.TakeBack rental copy returned) (string_bytes text) (state S.Store tx.old.conn.now) (state S.Store tx.new.conn.now)) }
+    ensures added { HasCleanDisk (state S.Store tx.new.conn.now)
+        → IfOk result (λ text. AreAdded branch (Rows.TakeBack rental copy returned) (string_bytes text) (state S.Store tx.old.conn.now)
+        (state S.Store tx.new.conn.now)) }
 {
     set_returned(tx, branch, rental, returned)?;
     drop_out(tx, branch, copy, rental)?;
@@ -190,7 +200,8 @@ fn add_payment<S: Alter>(
 ) -> Result<String, StoreFault>
     ensures same_reference { tx.new.conn.ghost_name ≡ tx.old.conn.ghost_name }
     ensures inside { StaysWithin (state S.Store tx.old.conn.now) (state S.Store tx.new.conn.now) result }
-    ensures added { HasCleanDisk (state S.Store tx.new.conn.now) → IfOk result (λ text. AreAdded branch (Rows.Pay payment) (string_bytes text) (state S.Store tx.old.conn.now) (state S.Store tx.new.conn.now)) }
+    ensures added { HasCleanDisk (state S.Store tx.new.conn.now)
+        → IfOk result (λ text. AreAdded branch (Rows.Pay payment) (string_bytes text) (state S.Store tx.old.conn.now) (state S.Store tx.new.conn.now)) }
 {
     let number = next_number(tx, branch, CountKind::Payments)?;
     let row = PaymentRow {
@@ -213,7 +224,8 @@ fn scrap<S: Alter>(
 ) -> Result<String, StoreFault>
     ensures same_reference { tx.new.conn.ghost_name ≡ tx.old.conn.ghost_name }
     ensures inside { StaysWithin (state S.Store tx.old.conn.now) (state S.Store tx.new.conn.now) result }
-    ensures added { HasCleanDisk (state S.Store tx.new.conn.now) → IfOk result (λ text. AreAdded branch (Rows.Scrap copy) (string_bytes text) (state S.Store tx.old.conn.now) (state S.Store tx.new.conn.now)) }
+    ensures added { HasCleanDisk (state S.Store tx.new.conn.now)
+        → IfOk result (λ text. AreAdded branch (Rows.Scrap copy) (string_bytes text) (state S.Store tx.old.conn.now) (state S.Store tx.new.conn.now)) }
 {
     set_state(tx, branch, copy, CopyState::Scrapped)?;
     match scrapped_text(alloc, copy) {

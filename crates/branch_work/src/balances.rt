@@ -32,7 +32,9 @@ pub fn find_terms<S: Alter>(
 ) -> Result<Vec<RentalTerms>, StoreFault>
     ensures same_reference { tx.new.conn.ghost_name ≡ tx.old.conn.ghost_name }
     ensures inside { StaysWithin (state S.Store tx.old.conn.now) (state S.Store tx.new.conn.now) result }
-    ensures found { HasCleanDisk (state S.Store tx.new.conn.now) → IfOk result (λ terms. Reads (state S.Store tx.old.conn.now) (state S.Store tx.new.conn.now) (λ books. AreTermsOf books.catalogue (shop_of branch books) customer terms.items)) }
+    ensures found { HasCleanDisk (state S.Store tx.new.conn.now)
+        → IfOk result (λ terms. Reads (state S.Store tx.old.conn.now) (state S.Store tx.new.conn.now)
+        (λ books. AreTermsOf books.catalogue (shop_of branch books) customer terms.items)) }
 {
     let rows = rentals_of_customer(tx, alloc, branch, customer)?;
     with_terms(alloc, tx, branch, rows.as_slice())
@@ -81,7 +83,8 @@ fn terms_once<S: Alter>(
     ensures same_reference { tx.new.conn.ghost_name ≡ tx.old.conn.ghost_name }
     ensures inside { StaysWithin (state S.Store tx.old.conn.now) (state S.Store tx.new.conn.now) result }
     ensures found { HasCleanDisk (state S.Store tx.new.conn.now) → IfOk result (λ terms. Reads (state S.Store tx.old.conn.now) (state S.Store tx.new.conn.now)
-        (λ books. AreKnown known.old books.catalogue → (option_map seen_terms terms ≡ head (map price (at film books.catalogue.films))) × AreKnown known.new books.catalogue)) }
+        (λ books. AreKnown known.old books.catalogue → (option_map seen_terms terms ≡ head (map price (at film books.catalogue.films)))
+        × AreKnown known.new books.catalogue)) }
 {
     let number = film.get();
     if let Some(terms) = known.get(&number).copied() {
@@ -136,7 +139,9 @@ pub fn find_paid<S: Alter>(
 ) -> Result<Vec<Paid>, StoreFault>
     ensures same_reference { tx.new.conn.ghost_name ≡ tx.old.conn.ghost_name }
     ensures inside { StaysWithin (state S.Store tx.old.conn.now) (state S.Store tx.new.conn.now) result }
-    ensures found { HasCleanDisk (state S.Store tx.new.conn.now) → IfOk result (λ paid. Reads (state S.Store tx.old.conn.now) (state S.Store tx.new.conn.now) (λ books. ArePaidBy (shop_of branch books) customer paid.items)) }
+    ensures found { HasCleanDisk (state S.Store tx.new.conn.now)
+        → IfOk result (λ paid. Reads (state S.Store tx.old.conn.now) (state S.Store tx.new.conn.now)
+        (λ books. ArePaidBy (shop_of branch books) customer paid.items)) }
 {
     let rows = payments_of_customer(tx, alloc, branch, customer)?;
     let mut payments = Vec::new(alloc);

@@ -109,8 +109,10 @@ pub fn find<'a, S: Alter>(
 ) -> Result<Found<'a>, StoreFault>
     ensures same_reference { tx.new.conn.ghost_name ≡ tx.old.conn.ghost_name }
     ensures inside { StaysWithin (state S.Store tx.old.conn.now) (state S.Store tx.new.conn.now) result }
-    ensures found { HasCleanDisk (state S.Store tx.new.conn.now) → IfOk result (λ found. Reads (state S.Store tx.old.conn.now) (state S.Store tx.new.conn.now) (λ books. (limits : values.Limits)
-        → IsKeptFor branch (seen_command command.now) kept.entry books → last ≡ head (owned_by branch books.lasts) → Agrees (rules_of limits) books.catalogue (shop_of branch books) (seen_command command.now) found)) }
+    ensures found { HasCleanDisk (state S.Store tx.new.conn.now)
+        → IfOk result (λ found. Reads (state S.Store tx.old.conn.now) (state S.Store tx.new.conn.now) (λ books. (limits : values.Limits)
+        → IsKeptFor branch (seen_command command.now) kept.entry books → last ≡ head (owned_by branch books.lasts)
+        → Agrees (rules_of limits) books.catalogue (shop_of branch books) (seen_command command.now) found)) }
     ensures within { IfOk result (λ found. IsWithin found) }
 {
     let named = named_in(&command.act);
@@ -157,7 +159,9 @@ fn find_staff<S: Alter>(
 ) -> Result<Option<StaffFound>, StoreFault>
     ensures same_reference { tx.new.conn.ghost_name ≡ tx.old.conn.ghost_name }
     ensures inside { StaysWithin (state S.Store tx.old.conn.now) (state S.Store tx.new.conn.now) result }
-    ensures found { HasCleanDisk (state S.Store tx.new.conn.now) → IfOk result (λ found. Reads (state S.Store tx.old.conn.now) (state S.Store tx.new.conn.now) (λ books. option_map seen_staff found ≡ head (map post_of (at staff books.catalogue.staff)))) }
+    ensures found { HasCleanDisk (state S.Store tx.new.conn.now)
+        → IfOk result (λ found. Reads (state S.Store tx.old.conn.now) (state S.Store tx.new.conn.now)
+        (λ books. option_map seen_staff found ≡ head (map post_of (at staff books.catalogue.staff)))) }
 {
     match staff_at(tx, staff)? {
         Some(post) => Ok(Some(StaffFound {
@@ -175,7 +179,9 @@ fn find_city<S: Alter>(
 ) -> Result<bool, StoreFault>
     ensures same_reference { tx.new.conn.ghost_name ≡ tx.old.conn.ghost_name }
     ensures inside { StaysWithin (state S.Store tx.old.conn.now) (state S.Store tx.new.conn.now) result }
-    ensures found { HasCleanDisk (state S.Store tx.new.conn.now) → IfOk result (λ has. Reads (state S.Store tx.old.conn.now) (state S.Store tx.new.conn.now) (λ books. IfSome city (λ n. has ≡ not (lacks books.catalogue.cities n)))) }
+    ensures found { HasCleanDisk (state S.Store tx.new.conn.now)
+        → IfOk result (λ has. Reads (state S.Store tx.old.conn.now) (state S.Store tx.new.conn.now)
+        (λ books. IfSome city (λ n. has ≡ not (lacks books.catalogue.cities n)))) }
 {
     match city {
         Some(city) => Ok(has_city(tx, city)?),
@@ -191,7 +197,9 @@ fn find_customer<S: Alter>(
 ) -> Result<Option<bool>, StoreFault>
     ensures same_reference { tx.new.conn.ghost_name ≡ tx.old.conn.ghost_name }
     ensures inside { StaysWithin (state S.Store tx.old.conn.now) (state S.Store tx.new.conn.now) result }
-    ensures found { HasCleanDisk (state S.Store tx.new.conn.now) → IfOk result (λ found. Reads (state S.Store tx.old.conn.now) (state S.Store tx.new.conn.now) (λ books. IfSome customer (λ c. found ≡ active_at c (shop_of branch books)))) }
+    ensures found { HasCleanDisk (state S.Store tx.new.conn.now)
+        → IfOk result (λ found. Reads (state S.Store tx.old.conn.now) (state S.Store tx.new.conn.now)
+        (λ books. IfSome customer (λ c. found ≡ active_at c (shop_of branch books)))) }
 {
     match customer {
         Some(customer) => find_active(tx, branch, customer),
@@ -209,7 +217,9 @@ fn find_same<S: Alter>(
 ) -> Result<bool, StoreFault>
     ensures same_reference { tx.new.conn.ghost_name ≡ tx.old.conn.ghost_name }
     ensures inside { StaysWithin (state S.Store tx.old.conn.now) (state S.Store tx.new.conn.now) result }
-    ensures found { HasCleanDisk (state S.Store tx.new.conn.now) → IfOk result (λ has. Reads (state S.Store tx.old.conn.now) (state S.Store tx.new.conn.now) (λ books. has ≡ has_same at customer copy (shop_of branch books))) }
+    ensures found { HasCleanDisk (state S.Store tx.new.conn.now)
+        → IfOk result (λ has. Reads (state S.Store tx.old.conn.now) (state S.Store tx.new.conn.now)
+        (λ books. has ≡ has_same at customer copy (shop_of branch books))) }
 {
     match (customer, copy) {
         (Some(customer), Some(copy)) => Ok(has_rental(tx, branch, at, copy, customer)?),
@@ -234,8 +244,10 @@ fn find_import<S: Alter>(
 ) -> Result<ImportFound, StoreFault>
     ensures same_reference { tx.new.conn.ghost_name ≡ tx.old.conn.ghost_name }
     ensures inside { StaysWithin (state S.Store tx.old.conn.now) (state S.Store tx.new.conn.now) result }
-    ensures found { HasCleanDisk (state S.Store tx.new.conn.now) → IfOk result (λ found. Reads (state S.Store tx.old.conn.now) (state S.Store tx.new.conn.now) (λ books. (limits : values.Limits)
-        → IfSome (import_in (seen_act act.now)) (ImportAgrees (rules_of limits) books.catalogue (shop_of branch books) found.copies found.has_lot found.stock))) }
+    ensures found { HasCleanDisk (state S.Store tx.new.conn.now)
+        → IfOk result (λ found. Reads (state S.Store tx.old.conn.now) (state S.Store tx.new.conn.now) (λ books. (limits : values.Limits)
+        → IfSome (import_in (seen_act act.now))
+        (ImportAgrees (rules_of limits) books.catalogue (shop_of branch books) found.copies found.has_lot found.stock))) }
     ensures few { IfOk result (λ found. found.copies ≤ 1_000_000) }
     ensures listed { IfOk result (λ found. IfOk found.stock (λ rows. copies_of rows.items ≤ 1_000)) }
 {
@@ -264,7 +276,9 @@ fn find_stock<S: Alter>(
 ) -> Result<Result<Vec<StockFound>, BadCsv>, StoreFault>
     ensures same_reference { tx.new.conn.ghost_name ≡ tx.old.conn.ghost_name }
     ensures inside { StaysWithin (state S.Store tx.old.conn.now) (state S.Store tx.new.conn.now) result }
-    ensures found { HasCleanDisk (state S.Store tx.new.conn.now) → IfOk result (λ stock. Reads (state S.Store tx.old.conn.now) (state S.Store tx.new.conn.now) (λ books. IfOk stock (λ rows. All (RowAgrees books.catalogue) rows.items))) }
+    ensures found { HasCleanDisk (state S.Store tx.new.conn.now)
+        → IfOk result (λ stock. Reads (state S.Store tx.old.conn.now) (state S.Store tx.new.conn.now)
+        (λ books. IfOk stock (λ rows. All (RowAgrees books.catalogue) rows.items))) }
     ensures value { IfOk result (λ stock. seen_stock stock ≡ stock_of file.now) }
     ensures few { IfOk result (λ stock. IfOk stock (λ rows. copies_of rows.items ≤ 1_000)) }
 {
@@ -283,7 +297,9 @@ fn find_films<S: Alter>(
 ) -> Result<Vec<StockFound>, StoreFault>
     ensures same_reference { tx.new.conn.ghost_name ≡ tx.old.conn.ghost_name }
     ensures inside { StaysWithin (state S.Store tx.old.conn.now) (state S.Store tx.new.conn.now) result }
-    ensures found { HasCleanDisk (state S.Store tx.new.conn.now) → IfOk result (λ found. Reads (state S.Store tx.old.conn.now) (state S.Store tx.new.conn.now) (λ books. found.items ≡ map (found_row books.catalogue) rows.now)) }
+    ensures found { HasCleanDisk (state S.Store tx.new.conn.now)
+        → IfOk result (λ found. Reads (state S.Store tx.old.conn.now) (state S.Store tx.new.conn.now)
+        (λ books. found.items ≡ map (found_row books.catalogue) rows.now)) }
     ensures same { IfOk result (λ found. map as_listed found.items ≡ rows.now) }
 {
     let mut found = Vec::new(alloc);

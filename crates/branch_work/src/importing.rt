@@ -31,7 +31,8 @@ pub fn import<S: Alter>(
     requires few { copies_of stock.now ≤ 1_000 }
     ensures same_reference { tx.new.conn.ghost_name ≡ tx.old.conn.ghost_name }
     ensures inside { StaysWithin (state S.Store tx.old.conn.now) (state S.Store tx.new.conn.now) result }
-    ensures added { HasCleanDisk (state S.Store tx.new.conn.now) → IfOk result (λ text. Makes (state S.Store tx.old.conn.now) (state S.Store tx.new.conn.now) (λ _. ⊤) (with_import branch (films_of stock.now) lot.now)
+    ensures added { HasCleanDisk (state S.Store tx.new.conn.now)
+        → IfOk result (λ text. Makes (state S.Store tx.old.conn.now) (state S.Store tx.new.conn.now) (λ _. ⊤) (with_import branch (films_of stock.now) lot.now)
         (string_bytes text) (λ books. import_text (length (films_of stock.now)) (next branch books.copies))) }
 {
     let count = copies_in(stock);
@@ -87,7 +88,8 @@ fn push_copies(
     count: u16,
 ) -> Result<(), NoMemory>
     requires { first + vec_len copies.old + count ≤ 2_000_000 }
-    ensures rows { OnOk result (map seen_copy_row copies.new.items ≡ map seen_copy_row copies.old.items ++ copies_from branch (first + vec_len copies.old) (replicate count film)) }
+    ensures rows { OnOk result (map seen_copy_row copies.new.items ≡ map seen_copy_row copies.old.items ++ copies_from branch (first + vec_len copies.old)
+        (replicate count film)) }
     ensures len { OnOk result (vec_len copies.new ≡ vec_len copies.old + count) }
 {
     copies.reserve(count as usize)?;
@@ -119,7 +121,9 @@ fn new_copy(branch: BranchNo, number: u32, film: FilmNo) -> CopyRow
 fn put_copies<S: Alter>(tx: &mut Transaction<'_, S>, copies: &[CopyRow]) -> Result<(), StoreFault>
     ensures same_reference { tx.new.conn.ghost_name ≡ tx.old.conn.ghost_name }
     ensures inside { StaysWithin (state S.Store tx.old.conn.now) (state S.Store tx.new.conn.now) result }
-    ensures put { HasCleanDisk (state S.Store tx.new.conn.now) → OnOk result (Writes (state S.Store tx.old.conn.now) (state S.Store tx.new.conn.now) (λ _. ⊤) (λ books. record books { copies = books.copies ++ map seen_copy_row copies.now })) }
+    ensures put { HasCleanDisk (state S.Store tx.new.conn.now)
+        → OnOk result (Writes (state S.Store tx.old.conn.now) (state S.Store tx.new.conn.now) (λ _. ⊤)
+        (λ books. record books { copies = books.copies ++ map seen_copy_row copies.now })) }
 {
     for row in copies {
         put_copy(tx, *row)?;

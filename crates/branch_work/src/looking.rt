@@ -28,7 +28,9 @@ pub fn find_active<S: Alter>(
 ) -> Result<Option<bool>, StoreFault>
     ensures same_reference { tx.new.conn.ghost_name ≡ tx.old.conn.ghost_name }
     ensures inside { StaysWithin (state S.Store tx.old.conn.now) (state S.Store tx.new.conn.now) result }
-    ensures found { HasCleanDisk (state S.Store tx.new.conn.now) → IfOk result (λ found. Reads (state S.Store tx.old.conn.now) (state S.Store tx.new.conn.now) (λ books. found ≡ active_at customer (shop_of branch books))) }
+    ensures found { HasCleanDisk (state S.Store tx.new.conn.now)
+        → IfOk result (λ found. Reads (state S.Store tx.old.conn.now) (state S.Store tx.new.conn.now)
+        (λ books. found ≡ active_at customer (shop_of branch books))) }
 {
     match customer_at(tx, branch, customer)? {
         Some(row) => Ok(Some(row.customer.active)),
@@ -60,7 +62,9 @@ pub fn find_here<S: Alter>(
 ) -> Result<Option<bool>, StoreFault>
     ensures same_reference { tx.new.conn.ghost_name ≡ tx.old.conn.ghost_name }
     ensures inside { StaysWithin (state S.Store tx.old.conn.now) (state S.Store tx.new.conn.now) result }
-    ensures found { HasCleanDisk (state S.Store tx.new.conn.now) → IfOk result (λ found. Reads (state S.Store tx.old.conn.now) (state S.Store tx.new.conn.now) (λ books. found ≡ head (map is_here (at copy (shop_of branch books).copies)))) }
+    ensures found { HasCleanDisk (state S.Store tx.new.conn.now)
+        → IfOk result (λ found. Reads (state S.Store tx.old.conn.now) (state S.Store tx.new.conn.now)
+        (λ books. found ≡ head (map is_here (at copy (shop_of branch books).copies)))) }
 {
     match copy_at(tx, branch, copy)? {
         Some(row) => Ok(Some(is_here(row.state))),
@@ -100,7 +104,9 @@ pub fn find_out<S: Alter>(
 ) -> Result<Option<RentalNo>, StoreFault>
     ensures same_reference { tx.new.conn.ghost_name ≡ tx.old.conn.ghost_name }
     ensures inside { StaysWithin (state S.Store tx.old.conn.now) (state S.Store tx.new.conn.now) result }
-    ensures found { HasCleanDisk (state S.Store tx.new.conn.now) → IfOk result (λ out. Reads (state S.Store tx.old.conn.now) (state S.Store tx.new.conn.now) (λ books. IfSome copy (λ x. IsOut (shop_of branch books) x out))) }
+    ensures found { HasCleanDisk (state S.Store tx.new.conn.now)
+        → IfOk result (λ out. Reads (state S.Store tx.old.conn.now) (state S.Store tx.new.conn.now)
+        (λ books. IfSome copy (λ x. IsOut (shop_of branch books) x out))) }
 {
     let Some(number) = copy else {
         return Ok(None);
@@ -165,7 +171,9 @@ pub fn find_holder<S: Alter>(
 ) -> Result<Option<CustomerNo>, StoreFault>
     ensures same_reference { tx.new.conn.ghost_name ≡ tx.old.conn.ghost_name }
     ensures inside { StaysWithin (state S.Store tx.old.conn.now) (state S.Store tx.new.conn.now) result }
-    ensures found { HasCleanDisk (state S.Store tx.new.conn.now) → IfOk result (λ holder. Reads (state S.Store tx.old.conn.now) (state S.Store tx.new.conn.now) (λ books. holder ≡ head (held_by copy (shop_of branch books).rentals))) }
+    ensures found { HasCleanDisk (state S.Store tx.new.conn.now)
+        → IfOk result (λ holder. Reads (state S.Store tx.old.conn.now) (state S.Store tx.new.conn.now)
+        (λ books. holder ≡ head (held_by copy (shop_of branch books).rentals))) }
 {
     match out_at(tx, branch, copy)? {
         Some(rental) => find_renter(tx, branch, rental),
@@ -182,7 +190,9 @@ pub fn find_of_film<S: Alter>(
 ) -> Result<Vec<FilmCopy>, StoreFault>
     ensures same_reference { tx.new.conn.ghost_name ≡ tx.old.conn.ghost_name }
     ensures inside { StaysWithin (state S.Store tx.old.conn.now) (state S.Store tx.new.conn.now) result }
-    ensures found { HasCleanDisk (state S.Store tx.new.conn.now) → IfOk result (λ copies. Reads (state S.Store tx.old.conn.now) (state S.Store tx.new.conn.now) (λ books. AreOfFilm film (shop_of branch books) copies.items)) }
+    ensures found { HasCleanDisk (state S.Store tx.new.conn.now)
+        → IfOk result (λ copies. Reads (state S.Store tx.old.conn.now) (state S.Store tx.new.conn.now)
+        (λ books. AreOfFilm film (shop_of branch books) copies.items)) }
 {
     let rows = copies_of_film(tx, alloc, branch, film)?;
     with_stock(alloc, tx, branch, rows.as_slice())

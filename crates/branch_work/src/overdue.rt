@@ -33,7 +33,9 @@ pub fn find_overdue<S: Alter>(
 ) -> Result<Vec<OverdueRow>, StoreFault>
     ensures same_reference { tx.new.conn.ghost_name ≡ tx.old.conn.ghost_name }
     ensures inside { StaysWithin (state S.Store tx.old.conn.now) (state S.Store tx.new.conn.now) result }
-    ensures found { HasCleanDisk (state S.Store tx.new.conn.now) → IfOk result (λ rows. Reads (state S.Store tx.old.conn.now) (state S.Store tx.new.conn.now) (λ books. map seen_overdue rows.items ≡ overdue_list books.catalogue (shop_of branch books) at)) }
+    ensures found { HasCleanDisk (state S.Store tx.new.conn.now)
+        → IfOk result (λ rows. Reads (state S.Store tx.old.conn.now) (state S.Store tx.new.conn.now)
+        (λ books. map seen_overdue rows.items ≡ overdue_list books.catalogue (shop_of branch books) at)) }
 {
     let numbers = rentals_out(tx, alloc, branch)?;
     overdue_among(alloc, tx, branch, numbers.as_slice(), at)
@@ -50,7 +52,8 @@ fn overdue_among<S: Alter>(
     ensures same_reference { tx.new.conn.ghost_name ≡ tx.old.conn.ghost_name }
     ensures inside { StaysWithin (state S.Store tx.old.conn.now) (state S.Store tx.new.conn.now) result }
     ensures found { HasCleanDisk (state S.Store tx.new.conn.now) → IfOk result (λ overdue. Reads (state S.Store tx.old.conn.now) (state S.Store tx.new.conn.now)
-        (λ books. map seen_overdue overdue.items ≡ map (overdue_row books.catalogue (shop_of branch books)) (filter (is_overdue books.catalogue (shop_of branch books) at) (rentals_at numbers.now (shop_of branch books).rentals)))) }
+        (λ books. map seen_overdue overdue.items ≡ map (overdue_row books.catalogue (shop_of branch books))
+        (filter (is_overdue books.catalogue (shop_of branch books) at) (rentals_at numbers.now (shop_of branch books).rentals)))) }
 {
     let mut overdue = Vec::new(alloc);
     for number in numbers {
@@ -70,7 +73,8 @@ fn overdue_of<S: Alter>(
     ensures same_reference { tx.new.conn.ghost_name ≡ tx.old.conn.ghost_name }
     ensures inside { StaysWithin (state S.Store tx.old.conn.now) (state S.Store tx.new.conn.now) result }
     ensures found { HasCleanDisk (state S.Store tx.new.conn.now) → IfOk result (λ row. Reads (state S.Store tx.old.conn.now) (state S.Store tx.new.conn.now)
-        (λ books. option_to_list (option_map seen_overdue row) ≡ map (overdue_row books.catalogue (shop_of branch books)) (filter (is_overdue books.catalogue (shop_of branch books) at) (at_number number (shop_of branch books).rentals)))) }
+        (λ books. option_to_list (option_map seen_overdue row) ≡ map (overdue_row books.catalogue (shop_of branch books))
+        (filter (is_overdue books.catalogue (shop_of branch books) at) (at_number number (shop_of branch books).rentals)))) }
 {
     let Some(row) = rental_at(tx, branch, number)? else {
         return Err(StoreFault::Failed);
@@ -88,7 +92,8 @@ fn overdue_at<S: Alter>(
     ensures same_reference { tx.new.conn.ghost_name ≡ tx.old.conn.ghost_name }
     ensures inside { StaysWithin (state S.Store tx.old.conn.now) (state S.Store tx.new.conn.now) result }
     ensures found { HasCleanDisk (state S.Store tx.new.conn.now) → IfOk result (λ row. Reads (state S.Store tx.old.conn.now) (state S.Store tx.new.conn.now)
-        (λ books. option_to_list (option_map seen_overdue row) ≡ map (overdue_row books.catalogue (shop_of branch books)) (filter (is_overdue books.catalogue (shop_of branch books) at) (seen_rental rental ∷ [])))) }
+        (λ books. option_to_list (option_map seen_overdue row) ≡ map (overdue_row books.catalogue (shop_of branch books))
+        (filter (is_overdue books.catalogue (shop_of branch books) at) (seen_rental rental ∷ [])))) }
 {
     if rental.returned.is_some() {
         return Ok(None);
@@ -115,7 +120,8 @@ fn listed_as<S: Alter>(
     ensures same_reference { tx.new.conn.ghost_name ≡ tx.old.conn.ghost_name }
     ensures inside { StaysWithin (state S.Store tx.old.conn.now) (state S.Store tx.new.conn.now) result }
     ensures found { HasCleanDisk (state S.Store tx.new.conn.now) → IfOk result (λ row. Reads (state S.Store tx.old.conn.now) (state S.Store tx.new.conn.now)
-        (λ books. film_of books.catalogue (shop_of branch books) (seen_rental rental) ≡ at film books.catalogue.films → seen_overdue row ≡ overdue_row books.catalogue (shop_of branch books) (seen_rental rental))) }
+        (λ books. film_of books.catalogue (shop_of branch books) (seen_rental rental) ≡ at film books.catalogue.films
+        → seen_overdue row ≡ overdue_row books.catalogue (shop_of branch books) (seen_rental rental))) }
 {
     let Some(title) = film_title(tx, film)? else {
         return Err(StoreFault::Failed);

@@ -34,7 +34,10 @@ pub fn look_balance<S: Alter>(
 ) -> Result<Reply, StoreFault>
     ensures same_reference { tx.new.conn.ghost_name ≡ tx.old.conn.ghost_name }
     ensures inside { StaysWithin (state S.Store tx.old.conn.now) (state S.Store tx.new.conn.now) result }
-    ensures works { HasCleanDisk (state S.Store tx.new.conn.now) → IfOk result (λ reply. (limits : _) → WorksFor limits branch None (Look (Balance customer at)) (seen_reply reply) false (state S.Store tx.old.conn.now) (state S.Store tx.new.conn.now)) }
+    ensures works { HasCleanDisk (state S.Store tx.new.conn.now)
+        → IfOk result (λ reply. (limits : _)
+        → WorksFor limits branch None (Look (Balance customer at)) (seen_reply reply) false (state S.Store tx.old.conn.now)
+        (state S.Store tx.new.conn.now)) }
 {
     let Some(_) = find_active(tx, branch, customer)? else {
         return Ok(Reply::refused(Refusal::NoCustomer));
@@ -50,7 +53,8 @@ pub fn look_balance<S: Alter>(
 
 /// The balance by those rows. No sound table has more than a million of them.
 fn owed(rentals: &[RentalTerms], payments: &[Paid], at: Moment) -> Result<Cents, StoreFault>
-    ensures { IfOk result (λ cents. (catalogue : Catalogue) (shop : Shop) (customer : ℕ) → AreTermsOf catalogue shop customer rentals.now → ArePaidBy shop customer payments.now
+    ensures { IfOk result (λ cents. (catalogue : Catalogue) (shop : Shop) (customer : ℕ) → AreTermsOf catalogue shop customer rentals.now
+        → ArePaidBy shop customer payments.now
         → cents ≡ balance catalogue shop customer at) }
 {
     if 1_000_000 < rentals.len() || 1_000_000 < payments.len() {
@@ -68,7 +72,9 @@ pub fn look_overdue<S: Alter>(
 ) -> Result<Reply, StoreFault>
     ensures same_reference { tx.new.conn.ghost_name ≡ tx.old.conn.ghost_name }
     ensures inside { StaysWithin (state S.Store tx.old.conn.now) (state S.Store tx.new.conn.now) result }
-    ensures works { HasCleanDisk (state S.Store tx.new.conn.now) → IfOk result (λ reply. (limits : _) → WorksFor limits branch None (Look (Overdue at)) (seen_reply reply) false (state S.Store tx.old.conn.now) (state S.Store tx.new.conn.now)) }
+    ensures works { HasCleanDisk (state S.Store tx.new.conn.now)
+        → IfOk result (λ reply. (limits : _)
+        → WorksFor limits branch None (Look (Overdue at)) (seen_reply reply) false (state S.Store tx.old.conn.now) (state S.Store tx.new.conn.now)) }
 {
     let rows = find_overdue(alloc, tx, branch, at)?;
     match overdue_text(alloc, rows.as_slice()) {
@@ -88,7 +94,10 @@ pub fn look_rewards<S: Alter>(
 ) -> Result<Reply, StoreFault>
     ensures same_reference { tx.new.conn.ghost_name ≡ tx.old.conn.ghost_name }
     ensures inside { StaysWithin (state S.Store tx.old.conn.now) (state S.Store tx.new.conn.now) result }
-    ensures works { HasCleanDisk (state S.Store tx.new.conn.now) → IfOk result (λ reply. (limits : _) → WorksFor limits branch None (Look (Rewards at purchases cents)) (seen_reply reply) false (state S.Store tx.old.conn.now) (state S.Store tx.new.conn.now)) }
+    ensures works { HasCleanDisk (state S.Store tx.new.conn.now)
+        → IfOk result (λ reply. (limits : _)
+        → WorksFor limits branch None (Look (Rewards at purchases cents)) (seen_reply reply) false (state S.Store tx.old.conn.now)
+        (state S.Store tx.new.conn.now)) }
 {
     if purchases == 0 || cents == 0 {
         return Ok(Reply::refused(Refusal::BadThreshold));

@@ -41,7 +41,8 @@ pub fn find_rewarded<S: Alter>(
 ) -> Result<Vec<CustomerNo>, StoreFault>
     ensures same_reference { tx.new.conn.ghost_name ≡ tx.old.conn.ghost_name }
     ensures inside { StaysWithin (state S.Store tx.old.conn.now) (state S.Store tx.new.conn.now) result }
-    ensures found { HasCleanDisk (state S.Store tx.new.conn.now) → IfOk result (λ customers. Reads (state S.Store tx.old.conn.now) (state S.Store tx.new.conn.now)
+    ensures found { HasCleanDisk (state S.Store tx.new.conn.now)
+        → IfOk result (λ customers. Reads (state S.Store tx.old.conn.now) (state S.Store tx.new.conn.now)
         (λ books. customers.items ≡ rewarded_in (month_before at) (shop_of branch books) purchases cents)) }
 {
     let Some(month) = last_month(at) else {

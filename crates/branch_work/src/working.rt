@@ -59,7 +59,8 @@ pub fn work<S: Alter>(
 ) -> Result<Worked, StoreFault>
     ensures same_reference { tx.new.conn.ghost_name ≡ tx.old.conn.ghost_name }
     ensures inside { StaysInside (state S.Store tx.old.conn.now) (state S.Store tx.new.conn.now) result }
-    ensures works { HasCleanDisk (state S.Store tx.new.conn.now) → IfOk result (λ worked. Works limits branch (seen_request request.now) worked (state S.Store tx.old.conn.now) (state S.Store tx.new.conn.now)) }
+    ensures works { HasCleanDisk (state S.Store tx.new.conn.now)
+        → IfOk result (λ worked. Works limits branch (seen_request request.now) worked (state S.Store tx.old.conn.now) (state S.Store tx.new.conn.now)) }
 {
     let Some(last) = last_at(tx, branch)? else {
         return Ok(Worked::Answered {
@@ -93,7 +94,9 @@ fn look<S: Alter>(
 ) -> Result<Reply, StoreFault>
     ensures same_reference { tx.new.conn.ghost_name ≡ tx.old.conn.ghost_name }
     ensures inside { StaysWithin (state S.Store tx.old.conn.now) (state S.Store tx.new.conn.now) result }
-    ensures works { HasCleanDisk (state S.Store tx.new.conn.now) → IfOk result (λ reply. (limits : _) → WorksFor limits branch None (Look (seen_ask ask)) (seen_reply reply) false (state S.Store tx.old.conn.now) (state S.Store tx.new.conn.now)) }
+    ensures works { HasCleanDisk (state S.Store tx.new.conn.now)
+        → IfOk result (λ reply. (limits : _)
+        → WorksFor limits branch None (Look (seen_ask ask)) (seen_reply reply) false (state S.Store tx.old.conn.now) (state S.Store tx.new.conn.now)) }
 {
     match ask {
         Ask::Customer(number) => look_customer(alloc, tx, branch, number),
@@ -121,7 +124,10 @@ fn look_customer<S: Alter>(
 ) -> Result<Reply, StoreFault>
     ensures same_reference { tx.new.conn.ghost_name ≡ tx.old.conn.ghost_name }
     ensures inside { StaysWithin (state S.Store tx.old.conn.now) (state S.Store tx.new.conn.now) result }
-    ensures works { HasCleanDisk (state S.Store tx.new.conn.now) → IfOk result (λ reply. (limits : _) → WorksFor limits branch None (Look (OneCustomer number)) (seen_reply reply) false (state S.Store tx.old.conn.now) (state S.Store tx.new.conn.now)) }
+    ensures works { HasCleanDisk (state S.Store tx.new.conn.now)
+        → IfOk result (λ reply. (limits : _)
+        → WorksFor limits branch None (Look (OneCustomer number)) (seen_reply reply) false (state S.Store tx.old.conn.now)
+        (state S.Store tx.new.conn.now)) }
 {
     match customer_at(tx, branch, number)? {
         Some(row) => match customer_text(alloc, number, &row.customer) {
@@ -141,7 +147,9 @@ fn look_film<S: Alter>(
 ) -> Result<Reply, StoreFault>
     ensures same_reference { tx.new.conn.ghost_name ≡ tx.old.conn.ghost_name }
     ensures inside { StaysWithin (state S.Store tx.old.conn.now) (state S.Store tx.new.conn.now) result }
-    ensures works { HasCleanDisk (state S.Store tx.new.conn.now) → IfOk result (λ reply. (limits : _) → WorksFor limits branch None (Look (OneFilm number)) (seen_reply reply) false (state S.Store tx.old.conn.now) (state S.Store tx.new.conn.now)) }
+    ensures works { HasCleanDisk (state S.Store tx.new.conn.now)
+        → IfOk result (λ reply. (limits : _)
+        → WorksFor limits branch None (Look (OneFilm number)) (seen_reply reply) false (state S.Store tx.old.conn.now) (state S.Store tx.new.conn.now)) }
 {
     match film_row(tx, number)? {
         Some(row) => match film_text(alloc, number, &row.film, row.withdrawn) {
@@ -161,7 +169,9 @@ fn look_in_stock<S: Alter>(
 ) -> Result<Reply, StoreFault>
     ensures same_reference { tx.new.conn.ghost_name ≡ tx.old.conn.ghost_name }
     ensures inside { StaysWithin (state S.Store tx.old.conn.now) (state S.Store tx.new.conn.now) result }
-    ensures works { HasCleanDisk (state S.Store tx.new.conn.now) → IfOk result (λ reply. (limits : _) → WorksFor limits branch None (Look (InStock copy)) (seen_reply reply) false (state S.Store tx.old.conn.now) (state S.Store tx.new.conn.now)) }
+    ensures works { HasCleanDisk (state S.Store tx.new.conn.now)
+        → IfOk result (λ reply. (limits : _)
+        → WorksFor limits branch None (Look (InStock copy)) (seen_reply reply) false (state S.Store tx.old.conn.now) (state S.Store tx.new.conn.now)) }
 {
     let Some(_) = find_here(tx, branch, copy)? else {
         return Ok(Reply::refused(Refusal::NoCopy));
@@ -182,7 +192,9 @@ fn look_holder<S: Alter>(
 ) -> Result<Reply, StoreFault>
     ensures same_reference { tx.new.conn.ghost_name ≡ tx.old.conn.ghost_name }
     ensures inside { StaysWithin (state S.Store tx.old.conn.now) (state S.Store tx.new.conn.now) result }
-    ensures works { HasCleanDisk (state S.Store tx.new.conn.now) → IfOk result (λ reply. (limits : _) → WorksFor limits branch None (Look (HeldBy copy)) (seen_reply reply) false (state S.Store tx.old.conn.now) (state S.Store tx.new.conn.now)) }
+    ensures works { HasCleanDisk (state S.Store tx.new.conn.now)
+        → IfOk result (λ reply. (limits : _)
+        → WorksFor limits branch None (Look (HeldBy copy)) (seen_reply reply) false (state S.Store tx.old.conn.now) (state S.Store tx.new.conn.now)) }
 {
     let Some(_) = find_here(tx, branch, copy)? else {
         return Ok(Reply::refused(Refusal::NoCopy));
@@ -204,7 +216,10 @@ fn look_film_copies<S: Alter>(
 ) -> Result<Reply, StoreFault>
     ensures same_reference { tx.new.conn.ghost_name ≡ tx.old.conn.ghost_name }
     ensures inside { StaysWithin (state S.Store tx.old.conn.now) (state S.Store tx.new.conn.now) result }
-    ensures works { HasCleanDisk (state S.Store tx.new.conn.now) → IfOk result (λ reply. (limits : _) → WorksFor limits branch None (Look (stock_asked is_in film)) (seen_reply reply) false (state S.Store tx.old.conn.now) (state S.Store tx.new.conn.now)) }
+    ensures works { HasCleanDisk (state S.Store tx.new.conn.now)
+        → IfOk result (λ reply. (limits : _)
+        → WorksFor limits branch None (Look (stock_asked is_in film)) (seen_reply reply) false (state S.Store tx.old.conn.now)
+        (state S.Store tx.new.conn.now)) }
 {
     let Some(_) = film_at(tx, film)? else {
         return Ok(Reply::refused(Refusal::NoFilm));
@@ -218,7 +233,8 @@ fn look_film_copies<S: Alter>(
 
 /// The body that lists the copies that are here and in stock, or here and not in stock.
 fn listed_text(alloc: Global, copies: &[FilmCopy], is_in: bool) -> Result<String, NoMemory>
-    ensures { IfOk result (λ text. (film : ℕ) (shop : Shop) → AreOfFilm film shop copies.now → string_bytes text ≡ shown_text (CopiesAre (stock_listed is_in film shop))) }
+    ensures { IfOk result (λ text. (film : ℕ) (shop : Shop) → AreOfFilm film shop copies.now
+        → string_bytes text ≡ shown_text (CopiesAre (stock_listed is_in film shop))) }
 {
     let numbers = if is_in {
         film_in_stock(alloc, copies)?
@@ -239,7 +255,9 @@ fn act<S: Alter>(
 ) -> Result<(Reply, bool), StoreFault>
     ensures same_reference { tx.new.conn.ghost_name ≡ tx.old.conn.ghost_name }
     ensures inside { StaysWithin (state S.Store tx.old.conn.now) (state S.Store tx.new.conn.now) result }
-    ensures works { HasCleanDisk (state S.Store tx.new.conn.now) → IfOk result (λ done. WorksFor limits branch (Some last) (Do (seen_command command.now)) (seen_reply done.0) done.1 (state S.Store tx.old.conn.now) (state S.Store tx.new.conn.now)) }
+    ensures works { HasCleanDisk (state S.Store tx.new.conn.now)
+        → IfOk result (λ done. WorksFor limits branch (Some last) (Do (seen_command command.now)) (seen_reply done.0) done.1 (state S.Store tx.old.conn.now)
+        (state S.Store tx.new.conn.now)) }
 {
     let form = form_of(alloc, command)?;
     let kept = kept_at(tx, branch, &command.key)?;
@@ -289,7 +307,9 @@ fn add<S: Alter>(
     requires within { AreWithin rows }
     ensures same_reference { tx.new.conn.ghost_name ≡ tx.old.conn.ghost_name }
     ensures inside { StaysWithin (state S.Store tx.old.conn.now) (state S.Store tx.new.conn.now) result }
-    ensures added { HasCleanDisk (state S.Store tx.new.conn.now) → IfOk result (λ reply. (limits : _) → IsAdded limits branch (seen_command command.now) rows.entry (seen_reply reply) (state S.Store tx.old.conn.now) (state S.Store tx.new.conn.now)) }
+    ensures added { HasCleanDisk (state S.Store tx.new.conn.now)
+        → IfOk result (λ reply. (limits : _)
+        → IsAdded limits branch (seen_command command.now) rows.entry (seen_reply reply) (state S.Store tx.old.conn.now) (state S.Store tx.new.conn.now)) }
 {
     let text = add_rows(alloc, tx, branch, rows)?;
     keep(tx, branch, command, form, text.as_str())?;

@@ -37,7 +37,8 @@ pub fn row_refusal(is_there: bool) -> Option<Refusal>
 
 /// Of a film's new price. The price that stands is a price like any other.
 pub fn price_refusal(film: Option<bool>) -> Option<Refusal>
-    ensures { (catalogue : Catalogue) (f rate : ℕ) → film ≡ film_at catalogue f → verdict_by result ≡ Some (first (office_refusals catalogue (PriceFilm f rate))) }
+    ensures { (catalogue : Catalogue) (f rate : ℕ) → film ≡ film_at catalogue f
+        → verdict_by result ≡ Some (first (office_refusals catalogue (PriceFilm f rate))) }
 {
     match film {
         None => Some(Refusal::NoFilm),
@@ -58,7 +59,8 @@ pub fn withdraw_refusal(film: Option<bool>) -> Option<Refusal>
 
 /// Of putting an actor into a film's cast.
 pub fn cast_refusal(film: Option<bool>, has_actor: bool, has_cast: bool) -> Option<Refusal>
-    ensures { (catalogue : Catalogue) (cast : Cast) → film ≡ film_at catalogue cast.film → has_actor ≡ not (lacks catalogue.actors cast.actor) → has_cast ≡ is_cast catalogue cast
+    ensures { (catalogue : Catalogue) (cast : Cast) → film ≡ film_at catalogue cast.film → has_actor ≡ not (lacks catalogue.actors cast.actor)
+        → has_cast ≡ is_cast catalogue cast
         → verdict_by result ≡ Some (first (office_refusals catalogue (AddCast cast))) }
 {
     if film.is_none() {
@@ -74,7 +76,8 @@ pub fn cast_refusal(film: Option<bool>, has_actor: bool, has_cast: bool) -> Opti
 
 /// Of a new branch, whose token may be head office's or a branch's.
 pub fn branch_refusal(is_office: bool, has_token: bool, has_city: bool) -> Option<Refusal>
-    ensures { (catalogue : Catalogue) (branch : Branch) → is_office ≡ bytes_eq branch.token catalogue.office_token → has_token ≡ is_token catalogue branch.token → has_city ≡ not (lacks catalogue.cities branch.city)
+    ensures { (catalogue : Catalogue) (branch : Branch) → is_office ≡ bytes_eq branch.token catalogue.office_token
+        → has_token ≡ is_token catalogue branch.token → has_city ≡ not (lacks catalogue.cities branch.city)
         → verdict_by result ≡ Some (first (office_refusals catalogue (AddBranch branch))) }
 {
     if is_office || has_token {
@@ -88,7 +91,8 @@ pub fn branch_refusal(is_office: bool, has_token: bool, has_city: bool) -> Optio
 
 /// Of a new member of staff.
 pub fn staff_refusal(branch: Option<BranchFound>, has_city: bool) -> Option<Refusal>
-    ensures { (catalogue : Catalogue) (staff : Staff) → option_map seen_branch_found branch ≡ branch_at catalogue staff.branch → has_city ≡ not (lacks catalogue.cities staff.person.city)
+    ensures { (catalogue : Catalogue) (staff : Staff) → option_map seen_branch_found branch ≡ branch_at catalogue staff.branch
+        → has_city ≡ not (lacks catalogue.cities staff.person.city)
         → verdict_by result ≡ Some (first (office_refusals catalogue (AddStaff staff))) }
 {
     if branch.is_none() {
@@ -102,7 +106,8 @@ pub fn staff_refusal(branch: Option<BranchFound>, has_city: bool) -> Option<Refu
 
 /// Of a member of staff who leaves.
 pub fn leave_refusal(staff: Option<StaffFound>) -> Option<Refusal>
-    ensures { (catalogue : Catalogue) (s : ℕ) → option_map seen_post staff ≡ staff_at catalogue s → verdict_by result ≡ Some (first (office_refusals catalogue (StaffLeaves s))) }
+    ensures { (catalogue : Catalogue) (s : ℕ) → option_map seen_post staff ≡ staff_at catalogue s
+        → verdict_by result ≡ Some (first (office_refusals catalogue (StaffLeaves s))) }
 {
     match staff {
         None => Some(Refusal::NoStaff),
@@ -123,7 +128,8 @@ pub fn manager_refusal(
     branch: Option<BranchFound>,
     staff: Option<StaffFound>,
 ) -> Option<Refusal>
-    ensures { (catalogue : Catalogue) → option_map seen_branch_found branch ≡ branch_at catalogue number → option_map seen_post staff ≡ staff_at catalogue manager
+    ensures { (catalogue : Catalogue) → option_map seen_branch_found branch ≡ branch_at catalogue number
+        → option_map seen_post staff ≡ staff_at catalogue manager
         → verdict_by result ≡ Some (first (office_refusals catalogue (SetManager number manager))) }
 {
     let Some(staff) = staff else {

@@ -31,7 +31,8 @@ pub fn decide_office<'a>(
     shared: &Shared<'a>,
     limits: Limits,
 ) -> Result<OfficeChange<'a>, Refusal>
-    ensures { (rules : model.Rules) (catalogue : Catalogue) → rules.commands ≡ limits.commands → Shares catalogue (seen_office command.now) shared.now → IsDecided rules catalogue (seen_office command.now) result }
+    ensures { (rules : model.Rules) (catalogue : Catalogue) → rules.commands ≡ limits.commands → Shares catalogue (seen_office command.now) shared.now
+        → IsDecided rules catalogue (seen_office command.now) result }
 {
     match shared.kept {
         Some(kept) => {
@@ -50,7 +51,8 @@ pub fn decide_office<'a>(
 
 /// The first refusal of a command whose key isn't kept.
 fn first_refusal(act: &OfficeAct, shared: &Shared, limits: Limits) -> Option<Refusal>
-    ensures { (rules : model.Rules) (catalogue : Catalogue) (command : model.OfficeCommand) → command.act ≡ seen_office_act act.now → rules.commands ≡ limits.commands → Shares catalogue command shared.now
+    ensures { (rules : model.Rules) (catalogue : Catalogue) (command : model.OfficeCommand) → command.act ≡ seen_office_act act.now
+        → rules.commands ≡ limits.commands → Shares catalogue command shared.now
         → verdict_by result ≡ Some (first (fresh_refusals rules catalogue command)) }
 {
     if limits.commands() <= shared.keys {

@@ -78,7 +78,8 @@ fn minutes_of(number: u32) -> Option<Minutes>
 pub(crate) fn minutes_or_null_at(row: &Row, at: usize) -> Result<Option<Minutes>, StoreFault>
     ensures ok { IfOk result (λ o. column row.now at ≡ or_null number_value o) }
     ensures value { IfOk result (λ o. IfSome o (λ n. (1 ≤ n) × (n ≤ 65_535))) }
-    ensures failed { IfErr result (λ e. e ≡ Failed → (o : Option ℕ) → IfSome o (λ n. (1 ≤ n) × (n ≤ 65_535)) → at < length row.now → column row.now at ≢ or_null number_value o) }
+    ensures failed { IfErr result (λ e. e ≡ Failed → (o : Option ℕ) → IfSome o (λ n. (1 ≤ n) × (n ≤ 65_535)) → at < length row.now
+        → column row.now at ≢ or_null number_value o) }
 {
     let Some(number) = number_or_null_at(row, at)? else {
         return Ok(None);
@@ -108,7 +109,8 @@ pub(crate) fn rating_at(row: &Row, at: usize) -> Result<Rating, StoreFault>
 pub(crate) fn features_at(row: &Row, at: usize) -> Result<Features, StoreFault>
     ensures ok { IfOk result (λ it. column row.now at ≡ SqlText (features_text it)) }
     ensures value { IfOk result (λ it. IsUtf8 (features_text it)) }
-    ensures failed { IfErr result (λ e. e ≡ Failed → (it : TheFeatures) → IsUtf8 (features_text it) → at < length row.now → column row.now at ≢ SqlText (features_text it)) }
+    ensures failed { IfErr result (λ e. e ≡ Failed → (it : TheFeatures) → IsUtf8 (features_text it) → at < length row.now
+        → column row.now at ≢ SqlText (features_text it)) }
 {
     let words = match words_at(row, at) {
         Ok(words) => words,

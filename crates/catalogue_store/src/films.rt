@@ -63,7 +63,9 @@ pub fn film_row<S: Alter>(
 ) -> Result<Option<FilmRow>, StoreFault>
     ensures same_reference { tx.new.conn.ghost_name ≡ tx.old.conn.ghost_name }
     ensures inside { StaysInside (state S.Store tx.old.conn.now) (state S.Store tx.new.conn.now) result }
-    ensures found { HasCleanDisk (state S.Store tx.new.conn.now) → IfOk result (λ row. Reads (state S.Store tx.old.conn.now) (state S.Store tx.new.conn.now) (λ books. option_to_list (option_map seen_film_row row) ≡ at number books.catalogue.films)) }
+    ensures found { HasCleanDisk (state S.Store tx.new.conn.now)
+        → IfOk result (λ row. Reads (state S.Store tx.old.conn.now) (state S.Store tx.new.conn.now)
+        (λ books. option_to_list (option_map seen_film_row row) ≡ at number books.catalogue.films)) }
 {
     let rows = query(
         tx,

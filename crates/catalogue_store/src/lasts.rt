@@ -24,7 +24,8 @@ fn first_number(rows: &[Row]) -> Result<u32, StoreFault>
 pub fn last_country<S: Alter>(tx: &mut Transaction<'_, S>) -> Result<u32, StoreFault>
     ensures same_reference { tx.new.conn.ghost_name ≡ tx.old.conn.ghost_name }
     ensures inside { StaysInside (state S.Store tx.old.conn.now) (state S.Store tx.new.conn.now) result }
-    ensures last { HasCleanDisk (state S.Store tx.new.conn.now) → IfOk result (λ last. Reads (state S.Store tx.old.conn.now) (state S.Store tx.new.conn.now) (λ books. last ≡ length books.catalogue.countries)) }
+    ensures last { HasCleanDisk (state S.Store tx.new.conn.now)
+        → IfOk result (λ last. Reads (state S.Store tx.old.conn.now) (state S.Store tx.new.conn.now) (λ books. last ≡ length books.catalogue.countries)) }
 {
     let rows = query(
         tx,
@@ -38,7 +39,8 @@ pub fn last_country<S: Alter>(tx: &mut Transaction<'_, S>) -> Result<u32, StoreF
 pub fn last_language<S: Alter>(tx: &mut Transaction<'_, S>) -> Result<u32, StoreFault>
     ensures same_reference { tx.new.conn.ghost_name ≡ tx.old.conn.ghost_name }
     ensures inside { StaysInside (state S.Store tx.old.conn.now) (state S.Store tx.new.conn.now) result }
-    ensures last { HasCleanDisk (state S.Store tx.new.conn.now) → IfOk result (λ last. Reads (state S.Store tx.old.conn.now) (state S.Store tx.new.conn.now) (λ books. last ≡ length books.catalogue.languages)) }
+    ensures last { HasCleanDisk (state S.Store tx.new.conn.now)
+        → IfOk result (λ last. Reads (state S.Store tx.old.conn.now) (state S.Store tx.new.conn.now) (λ books. last ≡ length books.catalogue.languages)) }
 {
     let rows = query(
         tx,
@@ -52,7 +54,8 @@ pub fn last_language<S: Alter>(tx: &mut Transaction<'_, S>) -> Result<u32, Store
 pub fn last_category<S: Alter>(tx: &mut Transaction<'_, S>) -> Result<u32, StoreFault>
     ensures same_reference { tx.new.conn.ghost_name ≡ tx.old.conn.ghost_name }
     ensures inside { StaysInside (state S.Store tx.old.conn.now) (state S.Store tx.new.conn.now) result }
-    ensures last { HasCleanDisk (state S.Store tx.new.conn.now) → IfOk result (λ last. Reads (state S.Store tx.old.conn.now) (state S.Store tx.new.conn.now) (λ books. last ≡ length books.catalogue.categories)) }
+    ensures last { HasCleanDisk (state S.Store tx.new.conn.now)
+        → IfOk result (λ last. Reads (state S.Store tx.old.conn.now) (state S.Store tx.new.conn.now) (λ books. last ≡ length books.catalogue.categories)) }
 {
     let rows = query(
         tx,
@@ -66,7 +69,8 @@ pub fn last_category<S: Alter>(tx: &mut Transaction<'_, S>) -> Result<u32, Store
 pub fn last_city<S: Alter>(tx: &mut Transaction<'_, S>) -> Result<u32, StoreFault>
     ensures same_reference { tx.new.conn.ghost_name ≡ tx.old.conn.ghost_name }
     ensures inside { StaysInside (state S.Store tx.old.conn.now) (state S.Store tx.new.conn.now) result }
-    ensures last { HasCleanDisk (state S.Store tx.new.conn.now) → IfOk result (λ last. Reads (state S.Store tx.old.conn.now) (state S.Store tx.new.conn.now) (λ books. last ≡ length books.catalogue.cities)) }
+    ensures last { HasCleanDisk (state S.Store tx.new.conn.now)
+        → IfOk result (λ last. Reads (state S.Store tx.old.conn.now) (state S.Store tx.new.conn.now) (λ books. last ≡ length books.catalogue.cities)) }
 {
     let rows = query(
         tx,
@@ -80,7 +84,8 @@ pub fn last_city<S: Alter>(tx: &mut Transaction<'_, S>) -> Result<u32, StoreFaul
 pub fn last_actor<S: Alter>(tx: &mut Transaction<'_, S>) -> Result<u32, StoreFault>
     ensures same_reference { tx.new.conn.ghost_name ≡ tx.old.conn.ghost_name }
     ensures inside { StaysInside (state S.Store tx.old.conn.now) (state S.Store tx.new.conn.now) result }
-    ensures last { HasCleanDisk (state S.Store tx.new.conn.now) → IfOk result (λ last. Reads (state S.Store tx.old.conn.now) (state S.Store tx.new.conn.now) (λ books. last ≡ length books.catalogue.actors)) }
+    ensures last { HasCleanDisk (state S.Store tx.new.conn.now)
+        → IfOk result (λ last. Reads (state S.Store tx.old.conn.now) (state S.Store tx.new.conn.now) (λ books. last ≡ length books.catalogue.actors)) }
 {
     let rows = query(
         tx,
@@ -94,7 +99,8 @@ pub fn last_actor<S: Alter>(tx: &mut Transaction<'_, S>) -> Result<u32, StoreFau
 pub fn last_film<S: Alter>(tx: &mut Transaction<'_, S>) -> Result<u32, StoreFault>
     ensures same_reference { tx.new.conn.ghost_name ≡ tx.old.conn.ghost_name }
     ensures inside { StaysInside (state S.Store tx.old.conn.now) (state S.Store tx.new.conn.now) result }
-    ensures last { HasCleanDisk (state S.Store tx.new.conn.now) → IfOk result (λ last. Reads (state S.Store tx.old.conn.now) (state S.Store tx.new.conn.now) (λ books. last ≡ length books.catalogue.films)) }
+    ensures last { HasCleanDisk (state S.Store tx.new.conn.now)
+        → IfOk result (λ last. Reads (state S.Store tx.old.conn.now) (state S.Store tx.new.conn.now) (λ books. last ≡ length books.catalogue.films)) }
 {
     let rows = query(
         tx,
@@ -108,7 +114,8 @@ pub fn last_film<S: Alter>(tx: &mut Transaction<'_, S>) -> Result<u32, StoreFaul
 pub fn last_branch<S: Alter>(tx: &mut Transaction<'_, S>) -> Result<u32, StoreFault>
     ensures same_reference { tx.new.conn.ghost_name ≡ tx.old.conn.ghost_name }
     ensures inside { StaysInside (state S.Store tx.old.conn.now) (state S.Store tx.new.conn.now) result }
-    ensures last { HasCleanDisk (state S.Store tx.new.conn.now) → IfOk result (λ last. Reads (state S.Store tx.old.conn.now) (state S.Store tx.new.conn.now) (λ books. last ≡ length books.catalogue.branches)) }
+    ensures last { HasCleanDisk (state S.Store tx.new.conn.now)
+        → IfOk result (λ last. Reads (state S.Store tx.old.conn.now) (state S.Store tx.new.conn.now) (λ books. last ≡ length books.catalogue.branches)) }
 {
     let rows = query(
         tx,
@@ -122,7 +129,8 @@ pub fn last_branch<S: Alter>(tx: &mut Transaction<'_, S>) -> Result<u32, StoreFa
 pub fn last_staff<S: Alter>(tx: &mut Transaction<'_, S>) -> Result<u32, StoreFault>
     ensures same_reference { tx.new.conn.ghost_name ≡ tx.old.conn.ghost_name }
     ensures inside { StaysInside (state S.Store tx.old.conn.now) (state S.Store tx.new.conn.now) result }
-    ensures last { HasCleanDisk (state S.Store tx.new.conn.now) → IfOk result (λ last. Reads (state S.Store tx.old.conn.now) (state S.Store tx.new.conn.now) (λ books. last ≡ length books.catalogue.staff)) }
+    ensures last { HasCleanDisk (state S.Store tx.new.conn.now)
+        → IfOk result (λ last. Reads (state S.Store tx.old.conn.now) (state S.Store tx.new.conn.now) (λ books. last ≡ length books.catalogue.staff)) }
 {
     let rows = query(
         tx,

@@ -181,7 +181,9 @@ pub fn put_country<S: Alter>(
 ) -> Result<(), StoreFault>
     ensures same_reference { tx.new.conn.ghost_name ≡ tx.old.conn.ghost_name }
     ensures inside { StaysInside (state S.Store tx.old.conn.now) (state S.Store tx.new.conn.now) result }
-    ensures put { HasCleanDisk (state S.Store tx.new.conn.now) → OnOk result (Writes (state S.Store tx.old.conn.now) (state S.Store tx.new.conn.now) (λ books. number ≡ length books.catalogue.countries + 1) (λ books. record books { catalogue = record books.catalogue { countries = books.catalogue.countries ++ name.now ∷ [] } })) }
+    ensures put { HasCleanDisk (state S.Store tx.new.conn.now)
+        → OnOk result (Writes (state S.Store tx.old.conn.now) (state S.Store tx.new.conn.now) (λ books. number ≡ length books.catalogue.countries + 1)
+        (λ books. record books { catalogue = record books.catalogue { countries = books.catalogue.countries ++ name.now ∷ [] } })) }
 {
     execute(
         tx,
@@ -198,7 +200,9 @@ pub fn put_language<S: Alter>(
 ) -> Result<(), StoreFault>
     ensures same_reference { tx.new.conn.ghost_name ≡ tx.old.conn.ghost_name }
     ensures inside { StaysInside (state S.Store tx.old.conn.now) (state S.Store tx.new.conn.now) result }
-    ensures put { HasCleanDisk (state S.Store tx.new.conn.now) → OnOk result (Writes (state S.Store tx.old.conn.now) (state S.Store tx.new.conn.now) (λ books. number ≡ length books.catalogue.languages + 1) (λ books. record books { catalogue = record books.catalogue { languages = books.catalogue.languages ++ name.now ∷ [] } })) }
+    ensures put { HasCleanDisk (state S.Store tx.new.conn.now)
+        → OnOk result (Writes (state S.Store tx.old.conn.now) (state S.Store tx.new.conn.now) (λ books. number ≡ length books.catalogue.languages + 1)
+        (λ books. record books { catalogue = record books.catalogue { languages = books.catalogue.languages ++ name.now ∷ [] } })) }
 {
     execute(
         tx,
@@ -215,7 +219,9 @@ pub fn put_category<S: Alter>(
 ) -> Result<(), StoreFault>
     ensures same_reference { tx.new.conn.ghost_name ≡ tx.old.conn.ghost_name }
     ensures inside { StaysInside (state S.Store tx.old.conn.now) (state S.Store tx.new.conn.now) result }
-    ensures put { HasCleanDisk (state S.Store tx.new.conn.now) → OnOk result (Writes (state S.Store tx.old.conn.now) (state S.Store tx.new.conn.now) (λ books. number ≡ length books.catalogue.categories + 1) (λ books. record books { catalogue = record books.catalogue { categories = books.catalogue.categories ++ name.now ∷ [] } })) }
+    ensures put { HasCleanDisk (state S.Store tx.new.conn.now)
+        → OnOk result (Writes (state S.Store tx.old.conn.now) (state S.Store tx.new.conn.now) (λ books. number ≡ length books.catalogue.categories + 1)
+        (λ books. record books { catalogue = record books.catalogue { categories = books.catalogue.categories ++ name.now ∷ [] } })) }
 {
     execute(
         tx,
@@ -228,7 +234,9 @@ pub fn put_category<S: Alter>(
 pub fn put_city<S: Alter>(tx: &mut Transaction<'_, S>, city: &NewCity<'_>) -> Result<(), StoreFault>
     ensures same_reference { tx.new.conn.ghost_name ≡ tx.old.conn.ghost_name }
     ensures inside { StaysInside (state S.Store tx.old.conn.now) (state S.Store tx.new.conn.now) result }
-    ensures put { HasCleanDisk (state S.Store tx.new.conn.now) → OnOk result (Writes (state S.Store tx.old.conn.now) (state S.Store tx.new.conn.now) (λ books. city.now.number ≡ length books.catalogue.cities + 1) (λ books. record books { catalogue = record books.catalogue { cities = books.catalogue.cities ++ seen_city city.now ∷ [] } })) }
+    ensures put { HasCleanDisk (state S.Store tx.new.conn.now)
+        → OnOk result (Writes (state S.Store tx.old.conn.now) (state S.Store tx.new.conn.now) (λ books. city.now.number ≡ length books.catalogue.cities + 1)
+        (λ books. record books { catalogue = record books.catalogue { cities = books.catalogue.cities ++ seen_city city.now ∷ [] } })) }
 {
     execute(
         tx,
@@ -244,7 +252,9 @@ pub fn put_actor<S: Alter>(
 ) -> Result<(), StoreFault>
     ensures same_reference { tx.new.conn.ghost_name ≡ tx.old.conn.ghost_name }
     ensures inside { StaysInside (state S.Store tx.old.conn.now) (state S.Store tx.new.conn.now) result }
-    ensures put { HasCleanDisk (state S.Store tx.new.conn.now) → OnOk result (Writes (state S.Store tx.old.conn.now) (state S.Store tx.new.conn.now) (λ books. actor.now.number ≡ length books.catalogue.actors + 1) (λ books. record books { catalogue = record books.catalogue { actors = books.catalogue.actors ++ seen_actor actor.now ∷ [] } })) }
+    ensures put { HasCleanDisk (state S.Store tx.new.conn.now)
+        → OnOk result (Writes (state S.Store tx.old.conn.now) (state S.Store tx.new.conn.now) (λ books. actor.now.number ≡ length books.catalogue.actors + 1)
+        (λ books. record books { catalogue = record books.catalogue { actors = books.catalogue.actors ++ seen_actor actor.now ∷ [] } })) }
 {
     execute(
         tx,
@@ -257,7 +267,9 @@ pub fn put_actor<S: Alter>(
 pub fn put_film<S: Alter>(tx: &mut Transaction<'_, S>, film: &NewFilm<'_>) -> Result<(), StoreFault>
     ensures same_reference { tx.new.conn.ghost_name ≡ tx.old.conn.ghost_name }
     ensures inside { StaysInside (state S.Store tx.old.conn.now) (state S.Store tx.new.conn.now) result }
-    ensures put { HasCleanDisk (state S.Store tx.new.conn.now) → OnOk result (Writes (state S.Store tx.old.conn.now) (state S.Store tx.new.conn.now) (λ books. film.now.number ≡ length books.catalogue.films + 1) (λ books. record books { catalogue = record books.catalogue { films = books.catalogue.films ++ seen_film film.now ∷ [] } })) }
+    ensures put { HasCleanDisk (state S.Store tx.new.conn.now)
+        → OnOk result (Writes (state S.Store tx.old.conn.now) (state S.Store tx.new.conn.now) (λ books. film.now.number ≡ length books.catalogue.films + 1)
+        (λ books. record books { catalogue = record books.catalogue { films = books.catalogue.films ++ seen_film film.now ∷ [] } })) }
 {
     execute(
         tx,
@@ -274,7 +286,9 @@ pub fn put_cast<S: Alter>(
 ) -> Result<(), StoreFault>
     ensures same_reference { tx.new.conn.ghost_name ≡ tx.old.conn.ghost_name }
     ensures inside { StaysInside (state S.Store tx.old.conn.now) (state S.Store tx.new.conn.now) result }
-    ensures put { HasCleanDisk (state S.Store tx.new.conn.now) → OnOk result (Writes (state S.Store tx.old.conn.now) (state S.Store tx.new.conn.now) (λ _. ⊤) (λ books. record books { catalogue = record books.catalogue { casts = books.catalogue.casts ++ record { film = film; actor = actor } ∷ [] } })) }
+    ensures put { HasCleanDisk (state S.Store tx.new.conn.now)
+        → OnOk result (Writes (state S.Store tx.old.conn.now) (state S.Store tx.new.conn.now) (λ _. ⊤)
+        (λ books. record books { catalogue = record books.catalogue { casts = books.catalogue.casts ++ record { film = film; actor = actor } ∷ [] } })) }
 {
     execute(
         tx,
@@ -290,7 +304,11 @@ pub fn put_branch<S: Alter>(
 ) -> Result<(), StoreFault>
     ensures same_reference { tx.new.conn.ghost_name ≡ tx.old.conn.ghost_name }
     ensures inside { StaysInside (state S.Store tx.old.conn.now) (state S.Store tx.new.conn.now) result }
-    ensures put { HasCleanDisk (state S.Store tx.new.conn.now) → OnOk result (Writes (state S.Store tx.old.conn.now) (state S.Store tx.new.conn.now) (λ books. (branch.now.number ≡ length books.catalogue.branches + 1) × (owned_by branch.now.number books.lasts ≡ [])) (λ books. record books { catalogue = record books.catalogue { branches = books.catalogue.branches ++ seen_branch branch.now ∷ [] } })) }
+    ensures put { HasCleanDisk (state S.Store tx.new.conn.now)
+        → OnOk result (Writes (state S.Store tx.old.conn.now) (state S.Store tx.new.conn.now)
+        (λ books. (branch.now.number ≡ length books.catalogue.branches + 1)
+        × (owned_by branch.now.number books.lasts ≡ []))
+        (λ books. record books { catalogue = record books.catalogue { branches = books.catalogue.branches ++ seen_branch branch.now ∷ [] } })) }
 {
     execute(
         tx,
@@ -306,7 +324,9 @@ pub fn put_staff<S: Alter>(
 ) -> Result<(), StoreFault>
     ensures same_reference { tx.new.conn.ghost_name ≡ tx.old.conn.ghost_name }
     ensures inside { StaysInside (state S.Store tx.old.conn.now) (state S.Store tx.new.conn.now) result }
-    ensures put { HasCleanDisk (state S.Store tx.new.conn.now) → OnOk result (Writes (state S.Store tx.old.conn.now) (state S.Store tx.new.conn.now) (λ books. staff.now.number ≡ length books.catalogue.staff + 1) (λ books. record books { catalogue = record books.catalogue { staff = books.catalogue.staff ++ seen_staff staff.now ∷ [] } })) }
+    ensures put { HasCleanDisk (state S.Store tx.new.conn.now)
+        → OnOk result (Writes (state S.Store tx.old.conn.now) (state S.Store tx.new.conn.now) (λ books. staff.now.number ≡ length books.catalogue.staff + 1)
+        (λ books. record books { catalogue = record books.catalogue { staff = books.catalogue.staff ++ seen_staff staff.now ∷ [] } })) }
 {
     execute(
         tx,

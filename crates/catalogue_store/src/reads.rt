@@ -57,7 +57,9 @@ pub fn branch_with<S: Alter>(
 ) -> Result<Option<BranchNo>, StoreFault>
     ensures same_reference { tx.new.conn.ghost_name ≡ tx.old.conn.ghost_name }
     ensures inside { StaysInside (state S.Store tx.old.conn.now) (state S.Store tx.new.conn.now) result }
-    ensures found { HasCleanDisk (state S.Store tx.new.conn.now) → IfOk result (λ branch. Reads (state S.Store tx.old.conn.now) (state S.Store tx.new.conn.now) (λ books. branch_caller branch ≡ branch_with token.now 1 books.catalogue.branches)) }
+    ensures found { HasCleanDisk (state S.Store tx.new.conn.now)
+        → IfOk result (λ branch. Reads (state S.Store tx.old.conn.now) (state S.Store tx.new.conn.now)
+        (λ books. branch_caller branch ≡ branch_with token.now 1 books.catalogue.branches)) }
 {
     let rows = query(
         tx,
@@ -74,7 +76,9 @@ pub fn branch_with<S: Alter>(
 pub fn is_office<S: Alter>(tx: &mut Transaction<'_, S>, token: &Token) -> Result<bool, StoreFault>
     ensures same_reference { tx.new.conn.ghost_name ≡ tx.old.conn.ghost_name }
     ensures inside { StaysInside (state S.Store tx.old.conn.now) (state S.Store tx.new.conn.now) result }
-    ensures found { HasCleanDisk (state S.Store tx.new.conn.now) → IfOk result (λ is. Reads (state S.Store tx.old.conn.now) (state S.Store tx.new.conn.now) (λ books. is ≡ bytes_eq token.now books.catalogue.office_token)) }
+    ensures found { HasCleanDisk (state S.Store tx.new.conn.now)
+        → IfOk result (λ is. Reads (state S.Store tx.old.conn.now) (state S.Store tx.new.conn.now)
+        (λ books. is ≡ bytes_eq token.now books.catalogue.office_token)) }
 {
     let rows = query(
         tx,
@@ -88,7 +92,8 @@ pub fn is_office<S: Alter>(tx: &mut Transaction<'_, S>, token: &Token) -> Result
 pub fn office_token<S: Alter>(tx: &mut Transaction<'_, S>) -> Result<Token, StoreFault>
     ensures same_reference { tx.new.conn.ghost_name ≡ tx.old.conn.ghost_name }
     ensures inside { StaysInside (state S.Store tx.old.conn.now) (state S.Store tx.new.conn.now) result }
-    ensures found { HasCleanDisk (state S.Store tx.new.conn.now) → IfOk result (λ token. Reads (state S.Store tx.old.conn.now) (state S.Store tx.new.conn.now) (λ books. token ≡ books.catalogue.office_token)) }
+    ensures found { HasCleanDisk (state S.Store tx.new.conn.now)
+        → IfOk result (λ token. Reads (state S.Store tx.old.conn.now) (state S.Store tx.new.conn.now) (λ books. token ≡ books.catalogue.office_token)) }
 {
     let rows = query(tx, "SELECT office_token FROM chain", &[])?;
     match rows.first() {
@@ -104,7 +109,9 @@ pub fn branch_at<S: Alter>(
 ) -> Result<Option<Option<StaffNo>>, StoreFault>
     ensures same_reference { tx.new.conn.ghost_name ≡ tx.old.conn.ghost_name }
     ensures inside { StaysInside (state S.Store tx.old.conn.now) (state S.Store tx.new.conn.now) result }
-    ensures found { HasCleanDisk (state S.Store tx.new.conn.now) → IfOk result (λ manager. Reads (state S.Store tx.old.conn.now) (state S.Store tx.new.conn.now) (λ books. manager ≡ head (map manager_of (at branch books.catalogue.branches)))) }
+    ensures found { HasCleanDisk (state S.Store tx.new.conn.now)
+        → IfOk result (λ manager. Reads (state S.Store tx.old.conn.now) (state S.Store tx.new.conn.now)
+        (λ books. manager ≡ head (map manager_of (at branch books.catalogue.branches)))) }
 {
     let rows = query(
         tx,
@@ -124,7 +131,9 @@ pub fn staff_at<S: Alter>(
 ) -> Result<Option<StaffPost>, StoreFault>
     ensures same_reference { tx.new.conn.ghost_name ≡ tx.old.conn.ghost_name }
     ensures inside { StaysInside (state S.Store tx.old.conn.now) (state S.Store tx.new.conn.now) result }
-    ensures found { HasCleanDisk (state S.Store tx.new.conn.now) → IfOk result (λ post. Reads (state S.Store tx.old.conn.now) (state S.Store tx.new.conn.now) (λ books. option_map seen_post post ≡ head (map post_of (at staff books.catalogue.staff)))) }
+    ensures found { HasCleanDisk (state S.Store tx.new.conn.now)
+        → IfOk result (λ post. Reads (state S.Store tx.old.conn.now) (state S.Store tx.new.conn.now)
+        (λ books. option_map seen_post post ≡ head (map post_of (at staff books.catalogue.staff)))) }
 {
     let rows = query(
         tx,
@@ -147,7 +156,9 @@ pub fn film_at<S: Alter>(
 ) -> Result<Option<bool>, StoreFault>
     ensures same_reference { tx.new.conn.ghost_name ≡ tx.old.conn.ghost_name }
     ensures inside { StaysInside (state S.Store tx.old.conn.now) (state S.Store tx.new.conn.now) result }
-    ensures found { HasCleanDisk (state S.Store tx.new.conn.now) → IfOk result (λ withdrawn. Reads (state S.Store tx.old.conn.now) (state S.Store tx.new.conn.now) (λ books. withdrawn ≡ head (map withdrawn_of (at film books.catalogue.films)))) }
+    ensures found { HasCleanDisk (state S.Store tx.new.conn.now)
+        → IfOk result (λ withdrawn. Reads (state S.Store tx.old.conn.now) (state S.Store tx.new.conn.now)
+        (λ books. withdrawn ≡ head (map withdrawn_of (at film books.catalogue.films)))) }
 {
     let rows = query(
         tx,
@@ -167,7 +178,9 @@ pub fn film_terms<S: Alter>(
 ) -> Result<Option<FilmTerms>, StoreFault>
     ensures same_reference { tx.new.conn.ghost_name ≡ tx.old.conn.ghost_name }
     ensures inside { StaysInside (state S.Store tx.old.conn.now) (state S.Store tx.new.conn.now) result }
-    ensures found { HasCleanDisk (state S.Store tx.new.conn.now) → IfOk result (λ terms. Reads (state S.Store tx.old.conn.now) (state S.Store tx.new.conn.now) (λ books. option_map seen_terms terms ≡ head (map terms_of (at film books.catalogue.films)))) }
+    ensures found { HasCleanDisk (state S.Store tx.new.conn.now)
+        → IfOk result (λ terms. Reads (state S.Store tx.old.conn.now) (state S.Store tx.new.conn.now)
+        (λ books. option_map seen_terms terms ≡ head (map terms_of (at film books.catalogue.films)))) }
 {
     let rows = query(
         tx,
@@ -190,7 +203,9 @@ pub fn film_title<S: Alter>(
 ) -> Result<Option<T128>, StoreFault>
     ensures same_reference { tx.new.conn.ghost_name ≡ tx.old.conn.ghost_name }
     ensures inside { StaysInside (state S.Store tx.old.conn.now) (state S.Store tx.new.conn.now) result }
-    ensures found { HasCleanDisk (state S.Store tx.new.conn.now) → IfOk result (λ title. Reads (state S.Store tx.old.conn.now) (state S.Store tx.new.conn.now) (λ books. title ≡ head (map title_of (at film books.catalogue.films)))) }
+    ensures found { HasCleanDisk (state S.Store tx.new.conn.now)
+        → IfOk result (λ title. Reads (state S.Store tx.old.conn.now) (state S.Store tx.new.conn.now)
+        (λ books. title ≡ head (map title_of (at film books.catalogue.films)))) }
 {
     let rows = query(
         tx,

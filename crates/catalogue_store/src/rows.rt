@@ -22,7 +22,9 @@ pub fn has_country<S: Alter>(
 ) -> Result<bool, StoreFault>
     ensures same_reference { tx.new.conn.ghost_name ≡ tx.old.conn.ghost_name }
     ensures inside { StaysInside (state S.Store tx.old.conn.now) (state S.Store tx.new.conn.now) result }
-    ensures found { HasCleanDisk (state S.Store tx.new.conn.now) → IfOk result (λ has. Reads (state S.Store tx.old.conn.now) (state S.Store tx.new.conn.now) (λ books. has ≡ not (lacks books.catalogue.countries country))) }
+    ensures found { HasCleanDisk (state S.Store tx.new.conn.now)
+        → IfOk result (λ has. Reads (state S.Store tx.old.conn.now) (state S.Store tx.new.conn.now)
+        (λ books. has ≡ not (lacks books.catalogue.countries country))) }
 {
     let rows = query(
         tx,
@@ -39,7 +41,9 @@ pub fn has_language<S: Alter>(
 ) -> Result<bool, StoreFault>
     ensures same_reference { tx.new.conn.ghost_name ≡ tx.old.conn.ghost_name }
     ensures inside { StaysInside (state S.Store tx.old.conn.now) (state S.Store tx.new.conn.now) result }
-    ensures found { HasCleanDisk (state S.Store tx.new.conn.now) → IfOk result (λ has. Reads (state S.Store tx.old.conn.now) (state S.Store tx.new.conn.now) (λ books. has ≡ not (lacks books.catalogue.languages language))) }
+    ensures found { HasCleanDisk (state S.Store tx.new.conn.now)
+        → IfOk result (λ has. Reads (state S.Store tx.old.conn.now) (state S.Store tx.new.conn.now)
+        (λ books. has ≡ not (lacks books.catalogue.languages language))) }
 {
     let rows = query(
         tx,
@@ -56,7 +60,9 @@ pub fn has_category<S: Alter>(
 ) -> Result<bool, StoreFault>
     ensures same_reference { tx.new.conn.ghost_name ≡ tx.old.conn.ghost_name }
     ensures inside { StaysInside (state S.Store tx.old.conn.now) (state S.Store tx.new.conn.now) result }
-    ensures found { HasCleanDisk (state S.Store tx.new.conn.now) → IfOk result (λ has. Reads (state S.Store tx.old.conn.now) (state S.Store tx.new.conn.now) (λ books. has ≡ not (lacks books.catalogue.categories category))) }
+    ensures found { HasCleanDisk (state S.Store tx.new.conn.now)
+        → IfOk result (λ has. Reads (state S.Store tx.old.conn.now) (state S.Store tx.new.conn.now)
+        (λ books. has ≡ not (lacks books.catalogue.categories category))) }
 {
     let rows = query(
         tx,
@@ -70,7 +76,8 @@ pub fn has_category<S: Alter>(
 pub fn has_city<S: Alter>(tx: &mut Transaction<'_, S>, city: CityNo) -> Result<bool, StoreFault>
     ensures same_reference { tx.new.conn.ghost_name ≡ tx.old.conn.ghost_name }
     ensures inside { StaysInside (state S.Store tx.old.conn.now) (state S.Store tx.new.conn.now) result }
-    ensures found { HasCleanDisk (state S.Store tx.new.conn.now) → IfOk result (λ has. Reads (state S.Store tx.old.conn.now) (state S.Store tx.new.conn.now) (λ books. has ≡ not (lacks books.catalogue.cities city))) }
+    ensures found { HasCleanDisk (state S.Store tx.new.conn.now)
+        → IfOk result (λ has. Reads (state S.Store tx.old.conn.now) (state S.Store tx.new.conn.now) (λ books. has ≡ not (lacks books.catalogue.cities city))) }
 {
     let rows = query(
         tx,
@@ -84,7 +91,8 @@ pub fn has_city<S: Alter>(tx: &mut Transaction<'_, S>, city: CityNo) -> Result<b
 pub fn has_actor<S: Alter>(tx: &mut Transaction<'_, S>, actor: ActorNo) -> Result<bool, StoreFault>
     ensures same_reference { tx.new.conn.ghost_name ≡ tx.old.conn.ghost_name }
     ensures inside { StaysInside (state S.Store tx.old.conn.now) (state S.Store tx.new.conn.now) result }
-    ensures found { HasCleanDisk (state S.Store tx.new.conn.now) → IfOk result (λ has. Reads (state S.Store tx.old.conn.now) (state S.Store tx.new.conn.now) (λ books. has ≡ not (lacks books.catalogue.actors actor))) }
+    ensures found { HasCleanDisk (state S.Store tx.new.conn.now)
+        → IfOk result (λ has. Reads (state S.Store tx.old.conn.now) (state S.Store tx.new.conn.now) (λ books. has ≡ not (lacks books.catalogue.actors actor))) }
 {
     let rows = query(
         tx,
@@ -98,7 +106,9 @@ pub fn has_actor<S: Alter>(tx: &mut Transaction<'_, S>, actor: ActorNo) -> Resul
 pub fn is_country<S: Alter>(tx: &mut Transaction<'_, S>, name: &str) -> Result<bool, StoreFault>
     ensures same_reference { tx.new.conn.ghost_name ≡ tx.old.conn.ghost_name }
     ensures inside { StaysInside (state S.Store tx.old.conn.now) (state S.Store tx.new.conn.now) result }
-    ensures found { HasCleanDisk (state S.Store tx.new.conn.now) → IfOk result (λ is. Reads (state S.Store tx.old.conn.now) (state S.Store tx.new.conn.now) (λ books. is ≡ list_any (bytes_eq name.now) books.catalogue.countries)) }
+    ensures found { HasCleanDisk (state S.Store tx.new.conn.now)
+        → IfOk result (λ is. Reads (state S.Store tx.old.conn.now) (state S.Store tx.new.conn.now)
+        (λ books. is ≡ list_any (bytes_eq name.now) books.catalogue.countries)) }
 {
     let rows = query(
         tx,
@@ -112,7 +122,9 @@ pub fn is_country<S: Alter>(tx: &mut Transaction<'_, S>, name: &str) -> Result<b
 pub fn is_language<S: Alter>(tx: &mut Transaction<'_, S>, name: &str) -> Result<bool, StoreFault>
     ensures same_reference { tx.new.conn.ghost_name ≡ tx.old.conn.ghost_name }
     ensures inside { StaysInside (state S.Store tx.old.conn.now) (state S.Store tx.new.conn.now) result }
-    ensures found { HasCleanDisk (state S.Store tx.new.conn.now) → IfOk result (λ is. Reads (state S.Store tx.old.conn.now) (state S.Store tx.new.conn.now) (λ books. is ≡ list_any (bytes_eq name.now) books.catalogue.languages)) }
+    ensures found { HasCleanDisk (state S.Store tx.new.conn.now)
+        → IfOk result (λ is. Reads (state S.Store tx.old.conn.now) (state S.Store tx.new.conn.now)
+        (λ books. is ≡ list_any (bytes_eq name.now) books.catalogue.languages)) }
 {
     let rows = query(
         tx,
@@ -126,7 +138,9 @@ pub fn is_language<S: Alter>(tx: &mut Transaction<'_, S>, name: &str) -> Result<
 pub fn is_category<S: Alter>(tx: &mut Transaction<'_, S>, name: &str) -> Result<bool, StoreFault>
     ensures same_reference { tx.new.conn.ghost_name ≡ tx.old.conn.ghost_name }
     ensures inside { StaysInside (state S.Store tx.old.conn.now) (state S.Store tx.new.conn.now) result }
-    ensures found { HasCleanDisk (state S.Store tx.new.conn.now) → IfOk result (λ is. Reads (state S.Store tx.old.conn.now) (state S.Store tx.new.conn.now) (λ books. is ≡ list_any (bytes_eq name.now) books.catalogue.categories)) }
+    ensures found { HasCleanDisk (state S.Store tx.new.conn.now)
+        → IfOk result (λ is. Reads (state S.Store tx.old.conn.now) (state S.Store tx.new.conn.now)
+        (λ books. is ≡ list_any (bytes_eq name.now) books.catalogue.categories)) }
 {
     let rows = query(
         tx,

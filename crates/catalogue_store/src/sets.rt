@@ -67,7 +67,12 @@ pub fn set_manager<S: Alter>(
     ensures same_reference { tx.new.conn.ghost_name ≡ tx.old.conn.ghost_name }
     ensures inside { StaysInside (state S.Store tx.old.conn.now) (state S.Store tx.new.conn.now) result }
     ensures set { HasCleanDisk (state S.Store tx.new.conn.now) → OnOk result (Writes (state S.Store tx.old.conn.now) (state S.Store tx.new.conn.now) (λ _. ⊤)
-        (λ books. record books { catalogue = record books.catalogue { branches = set_at branch (λ r. record r { manager = Some staff }) books.catalogue.branches } })) }
+        (λ books. record books {
+          catalogue = record books.catalogue {
+            branches = set_at branch
+                (λ r. record r { manager = Some staff }) books.catalogue.branches;
+          };
+        })) }
 {
     execute(
         tx,

@@ -1,9 +1,10 @@
 //! A chain over a log that fails at some call and at each one after it, and its files opened again.
 use crate::replays::new_customer;
-use crate::shared::put_rows;
+use catalogue_store::put_opening;
 use chain_engine::Chain;
+use shop_schema::create_tables;
 use shop_types::{Ask, CustomerNo, Limits, Reply, Request, Token};
-use sqlite::{Connection, FileStore, Files, Options};
+use sqlite::{Alter, Connection, FileStore, Files, Options};
 use sqlite_disk::{Disk, Fuse, Memory};
 use std::alloc::Global;
 use std::test::Fail;
@@ -16,6 +17,21 @@ const KEYS: [&str; 2] = ["k1", "k2"];
 const STORE_FAILED: &[u8] = b"{\"refused\":\"store_failed\"}";
 
 const NO_CUSTOMER: &[u8] = b"{\"refused\":\"no_customer\"}";
+
+/// Commits the opening rows to a new database.
+fn put_rows<S: Alter>(conn: &mut Connection<S>) -> Result<(), &'static str> {
+    if !conn.is_autocommit() {
+        return Err("a transaction is open");
+    }
+    let mut tx = conn.transaction();
+    if create_tables(&mut tx).is_err() || put_opening(&mut tx).is_err() {
+        return Err("the opening rows");
+    }
+    match tx.commit() {
+        Ok(()) => Ok(()),
+        Err(_) => Err("the opening rows aren't committed"),
+    }
+}
 
 /// The files of a chain with the opening rows.
 fn opening(alloc: Global) -> Result<Files<Memory>, Fail> {

@@ -1,4 +1,4 @@
-//! Calls of a chain and of its tables that no connection makes, each once on its happy path.
+//! Calls of a chain that no row makes, each once on its happy path.
 #![tactic(auto)]
 
 #[cfg(test)]
@@ -10,8 +10,4 @@ mod files;
 #[cfg(test)]
 mod replays;
 #[cfg(test)]
-mod shared;
-#[cfg(test)]
 mod sockets;
-#[cfg(test)]
-mod statements;

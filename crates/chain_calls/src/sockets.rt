@@ -15,40 +15,51 @@ const ASKED: &[u8] =
 const TOLD: &[u8] =
     b"HTTP/1.1 200 OK\r\ncontent-type: application/json\r\ncontent-length: 14\r\n\r\n{\"customer\":1}";
 
-/// A peer that has asked, and asks no more.
-fn asking(rt: &HostRuntime, listener: &TcpListener) -> Result<TcpStream, Fail> {
+/// The head of a request whose body is too long.
+const TOO_LONG: &[u8] =
+    b"POST /customer HTTP/1.1\r\nhost: localhost\r\ncontent-length: 70000\r\n\r\n";
+
+const REFUSED: &[u8] =
+    b"HTTP/1.1 400 Bad Request\r\ncontent-type: application/json\r\ncontent-length: 22\r\n\r\n{\"refused\":\"too_long\"}";
+
+/// A peer that has sent the pieces, and sends no more.
+fn asking(rt: &HostRuntime, listener: &TcpListener, pieces: &[&[u8]]) -> Result<TcpStream, Fail> {
     let stream = TcpStream::connect(rt, listener.local_addr()?)?;
     let mut writer = &stream;
-    writer.write_all(ASKED)?;
+    for piece in pieces {
+        writer.write_all(piece)?;
+    }
     stream.shutdown(Shutdown::Write)?;
     Ok(stream)
 }
 
 /// Whether the peer is told the reply, and no more.
-fn is_told(alloc: Global, stream: &TcpStream) -> Result<bool, Fail> {
+fn is_told(alloc: Global, stream: &TcpStream, reply: &[u8]) -> Result<bool, Fail> {
     let mut bytes = Vec::new(alloc);
     let mut reader = stream;
     reader.read_to_end(&mut bytes)?;
-    Ok(bytes.as_slice() == TOLD)
+    Ok(bytes.as_slice() == reply)
 }
 
-/// A peer is answered; then one that is silent is left, and the next is answered.
+/// A peer is answered; then one that is silent is left, and the next is answered; and one that sends more than is read has its reply too.
 #[test]
-fn a_silent_peer_is_left(rt: HostRuntime) -> Result<(), Fail> {
+fn peers_are_answered_and_left(rt: HostRuntime) -> Result<(), Fail> {
     let alloc = rt.alloc();
     let listener = TcpListener::bind(&rt, "127.0.0.1:0")?;
     let mut chain = Chain::demo(alloc, Limits::default())?;
     let words = ClapWords { alloc };
-    let first = asking(&rt, &listener)?;
+    let first = asking(&rt, &listener, &[ASKED])?;
     assert_eq!(rt; serve_listener(alloc, &listener, &mut chain, &words, 1), 0);
-    assert!(rt; is_told(alloc, &first)?);
+    assert!(rt; is_told(alloc, &first, TOLD)?);
     let _silent = TcpStream::connect(&rt, listener.local_addr()?)?;
-    let again = asking(&rt, &listener)?;
+    let again = asking(&rt, &listener, &[ASKED])?;
+    let longest = asking(&rt, &listener, &[TOO_LONG, &[b' '; 40000]])?;
     let patience = Duration::from_millis(50);
     assert_eq!(rt;
-        serve_patiently(alloc, &listener, &mut chain, &words, 2, patience),
+        serve_patiently(alloc, &listener, &mut chain, &words, 3, patience),
         0
     );
-    assert!(rt; is_told(alloc, &again)?);
+    assert!(rt; is_told(alloc, &again, TOLD)?);
+    assert!(rt; is_told(alloc, &longest, REFUSED)?);
     Ok(())
 }

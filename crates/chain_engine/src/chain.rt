@@ -102,7 +102,8 @@ impl Chain<MemStore> {
         office: &Token,
         limits: Limits,
     ) -> Result<Chain<MemStore>, OpenFault>
-        ensures made { IfOk result (λ chain. (chain.limits ≡ limits) × (chain.is_failed ≡ false) × IsAt over_memory chain (first_books office.now) (first_books office.now)) }
+        ensures made { IfOk result (λ chain. (chain.limits ≡ limits) × (chain.is_failed ≡ false)
+            × IsAt over_memory chain (first_books office.now) (first_books office.now)) }
         ensures fault { IfErr result (λ e. (e ≢ OpenFault.NotAChain) × (e ≢ OpenFault.OtherVersion) × (e ≢ OpenFault.Already)) }
     {
         let Ok(mut conn) = Connection::open_in_memory(alloc) else {
@@ -121,7 +122,8 @@ impl Chain<MemStore> {
         }
     }
 
-    /// A chain in memory, with the opening rows, in which no branch has asked anything. Where there is none, memory or room is wanting, or the store has failed.
+    /// A chain in memory, with the opening rows, in which no branch has asked anything. Where there is none, memory or room is wanting, or the store has
+    /// failed.
     pub fn demo(alloc: Global, limits: Limits) -> Result<Chain<MemStore>, OpenFault>
         ensures made { IfOk result (λ chain. (chain.limits ≡ limits) × (chain.is_failed ≡ false) × IsAt over_memory chain opening_books opening_books) }
         ensures fault { IfErr result (λ e. (e ≢ OpenFault.NotAChain) × (e ≢ OpenFault.OtherVersion) × (e ≢ OpenFault.Already)) }
@@ -164,8 +166,8 @@ impl<S: Alter> Chain<S> {
         }
     }
 
-    /// Answers one request of a caller. What is answered with a refusal has changed nothing; where it is `Memory` or `Size`, the request may be sent again as it was.
-    /// Once the answer is `StoreFailed`, it is that for good: the chain is to be closed and opened again.
+    /// Answers one request of a caller. What is answered with a refusal has changed nothing; where it is `Memory` or `Size`, the request may be sent again as
+    /// it was. Once the answer is `StoreFailed`, it is that for good: the chain is to be closed and opened again.
     pub fn answer(&mut self, caller: &Caller, request: &Request) -> Reply
         ensures taken { Takes S.Store self.old self.new (Answers (seen_caller caller.now) (seen_request request.now) (seen_reply result)) }
         ensures failed { self.old.is_failed ≡ true → (self.new ≡ self.old) × (seen_reply result ≡ problem_answer StoreFailed) }
@@ -189,7 +191,8 @@ impl<S: Alter> Chain<S> {
     /// Answers requests one after another, each as if it had come alone. An `Err` has answered none and changed nothing.
     pub fn replay(&mut self, requests: &[(Token, Request)]) -> Result<Vec<Reply>, NoMemory>
         ensures ran { IfOk result (λ replies. Takes S.Store self.old self.new (Runs (map event_of requests.now) (map seen_reply replies.items))) }
-        ensures failed { self.old.is_failed ≡ true → (self.new ≡ self.old) × IfOk result (λ replies. map seen_reply replies.items ≡ map (λ _. problem_answer StoreFailed) requests.now) }
+        ensures failed { self.old.is_failed ≡ true → (self.new ≡ self.old)
+            × IfOk result (λ replies. map seen_reply replies.items ≡ map (λ _. problem_answer StoreFailed) requests.now) }
         ensures nothing { OnErr result (self.new ≡ self.old) }
     {
         let mut replies = Vec::with_capacity(self.alloc, requests.len())?;

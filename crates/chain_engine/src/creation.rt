@@ -19,7 +19,8 @@ use sqlite::{Alter, Connection};
 pub fn create<S: Alter>(conn: &mut Connection<S>, office: &Token) -> Result<(), StoreFault>
     requires { conn.old.in_transaction ≡ false }
     ensures ended { conn.new.in_transaction ≡ false }
-    ensures made { HasCleanDisk (state S.Store conn.new) → (state S.Store conn.old).now.schema ≡ no_schema → OnOk result (Rests (state S.Store conn.new) (first_books office.now)) }
+    ensures made { HasCleanDisk (state S.Store conn.new) → (state S.Store conn.old).now.schema ≡ no_schema
+        → OnOk result (Rests (state S.Store conn.new) (first_books office.now)) }
     ensures crash { Survives (state S.Store conn.old) (state S.Store conn.new) (LeavesMade (state S.Store conn.old) (first_books office.now)) }
 {
     let mut tx = conn.transaction();
@@ -35,7 +36,8 @@ pub fn create<S: Alter>(conn: &mut Connection<S>, office: &Token) -> Result<(), 
 pub fn create_opening<S: Alter>(conn: &mut Connection<S>) -> Result<(), StoreFault>
     requires { conn.old.in_transaction ≡ false }
     ensures ended { conn.new.in_transaction ≡ false }
-    ensures made { HasCleanDisk (state S.Store conn.new) → (state S.Store conn.old).now.schema ≡ no_schema → OnOk result (Rests (state S.Store conn.new) opening_books) }
+    ensures made { HasCleanDisk (state S.Store conn.new) → (state S.Store conn.old).now.schema ≡ no_schema
+        → OnOk result (Rests (state S.Store conn.new) opening_books) }
     ensures crash { Survives (state S.Store conn.old) (state S.Store conn.new) (LeavesMade (state S.Store conn.old) opening_books) }
 {
     let mut tx = conn.transaction();

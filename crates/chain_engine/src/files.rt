@@ -26,7 +26,8 @@ use std::alloc::Global;
 fn version_in<S: Alter>(conn: &mut Connection<S>) -> Result<KnownVersion, StoreFault>
     requires { conn.old.in_transaction ≡ false }
     ensures ended { conn.new.in_transaction ≡ false }
-    ensures read { HasCleanDisk (state S.Store conn.new) → HasVersion (state S.Store conn.old).now.schema → IfOk result (λ it. it ≡ version_of (map (columns_of 1) ((state S.Store conn.old).now.trees 0))) }
+    ensures read { HasCleanDisk (state S.Store conn.new) → HasVersion (state S.Store conn.old).now.schema
+        → IfOk result (λ it. it ≡ version_of (map (columns_of 1) ((state S.Store conn.old).now.trees 0))) }
     ensures same { HasCleanDisk (state S.Store conn.new) → (books : Books) → Rests (state S.Store conn.old) books → Rests (state S.Store conn.new) books }
     ensures crash { Survives (state S.Store conn.old) (state S.Store conn.new) (λ _. ⊥) }
 {
@@ -65,8 +66,8 @@ pub(crate) fn give_back<D: Disk + Drop>(conn: Connection<FileStore<D>>) -> Files
 }
 
 impl<D: Disk + Drop> Chain<FileStore<D>> {
-    /// Opens the chain that the files hold; the limits are those of this opening. A fault gives the files back: `NotAChain` where they hold none, `OtherVersion` where
-    /// its version isn't the program's, and `Memory`, `Size` or `Store` where the store can't do its part.
+    /// Opens the chain that the files hold; the limits are those of this opening. A fault gives the files back: `NotAChain` where they hold none,
+    /// `OtherVersion` where its version isn't the program's, and `Memory`, `Size` or `Store` where the store can't do its part.
     pub fn open_files(
         alloc: Global,
         files: Files<D>,
@@ -95,8 +96,8 @@ impl<D: Disk + Drop> Chain<FileStore<D>> {
         }
     }
 
-    /// Gives the files back, which hold what a crash of the chain may leave. Unless the store has failed, they keep the chain's books; else they keep the books before
-    /// the request at which it failed, or those after it.
+    /// Gives the files back, which hold what a crash of the chain may leave. Unless the store has failed, they keep the chain's books; else they keep the
+    /// books before the request at which it failed, or those after it.
     pub fn close(self) -> Files<D>
         ensures keeps { self.is_failed ≡ false → (books besides : Books) → IsAt over_files self books besides → KeepsBooks D.Disk result books }
         ensures either { (books besides : Books) → IsAt over_files self books besides → KeepsEither D.Disk result books besides }
@@ -113,15 +114,17 @@ impl<D: Disk + Drop> Chain<FileStore<D>> {
         give_back(conn)
     }
 
-    /// Closes the chain and opens its files again, with the limits that it had: the new chain has the same books, or, where the store had failed, those before the
-    /// request at which it failed or those after it. A fault gives the files back, as `open_files` does.
+    /// Closes the chain and opens its files again, with the limits that it had: the new chain has the same books, or, where the store had failed, those
+    /// before the request at which it failed or those after it. A fault gives the files back, as `open_files` does.
     pub fn reopen(self) -> Result<Chain<FileStore<D>>, (OpenFault, Files<D>)>
         ensures live { IfOk result (λ chain. (chain.limits ≡ self.limits) × (chain.is_failed ≡ false)) }
         ensures honest { IfOk result (λ chain. HasCleanDisk (file_state chain.conn) → HasCleanDisk (file_state self.conn)) }
-        ensures same { IfOk result (λ chain. HasCleanDisk (file_state chain.conn) → self.is_failed ≡ false → (books besides : Books) → IsAt over_files self books besides → IsAt over_files chain books books) }
+        ensures same { IfOk result (λ chain. HasCleanDisk (file_state chain.conn) → self.is_failed ≡ false → (books besides : Books)
+            → IsAt over_files self books besides → IsAt over_files chain books books) }
         ensures either { IfOk result (λ chain. HasCleanDisk (file_state chain.conn) → (books besides : Books) → IsAt over_files self books besides
             → ∥ IsAt over_files chain books books ⊎ IsAt over_files chain besides besides ∥₁) }
-        ensures kept { IfErr result (λ e. (closed : _) × (self.is_failed ≡ false → (books besides : Books) → IsAt over_files self books besides → KeepsBooks D.Disk closed books)
+        ensures kept { IfErr result (λ e. (closed : _)
+            × (self.is_failed ≡ false → (books besides : Books) → IsAt over_files self books besides → KeepsBooks D.Disk closed books)
             × IsNotOpened D.Disk closed e.0 e.1) }
     {
         let alloc = self.alloc;

@@ -35,15 +35,16 @@ fn is_missing(rt: &HostRuntime, path: &str) -> bool {
 }
 
 impl Chain<FileStore<File>> {
-    /// Makes a chain with head office's token and no shared row in the file, which is made where it isn't there. `Already` where the file holds tables, which stay
-    /// as they are.
+    /// Makes a chain with head office's token and no shared row in the file, which is made where it isn't there. `Already` where the file holds tables, which
+    /// stay as they are.
     pub fn create(
         rt: &HostRuntime,
         path: &str,
         limits: Limits,
         office: &Token,
     ) -> Result<Chain<FileStore<File>>, OpenFault>
-        ensures made { IfOk result (λ chain. (files : _) × IsFresh true files.log × IsFresh false files.db × IsCreated files limits (first_books office.now) chain) }
+        ensures made { IfOk result (λ chain. (files : _) × IsFresh true files.log × IsFresh false files.db
+            × IsCreated files limits (first_books office.now) chain) }
         ensures chain { IfErr result (λ e. e ≢ OpenFault.NotAChain) }
         ensures version { IfErr result (λ e. e ≢ OpenFault.OtherVersion) }
         ensures there { IfErr result (λ e. e ≡ OpenFault.Already → (files left : _) × IsFresh true files.log × IsFresh false files.db
@@ -64,7 +65,8 @@ impl Chain<FileStore<File>> {
     ) -> Result<Chain<FileStore<File>>, OpenFault>
         ensures opened { IfOk result (λ chain. (files : _) × IsFresh true files.log × IsFresh false files.db × IsOpenedIn files limits chain) }
         ensures already { IfErr result (λ e. e ≢ OpenFault.Already) }
-        ensures version { IfErr result (λ e. e ≡ OpenFault.OtherVersion → (files left : _) × IsFresh true files.log × IsFresh false files.db × IsNotOpened ⟦<File as Disk>⟧ files e left) }
+        ensures version { IfErr result (λ e. e ≡ OpenFault.OtherVersion → (files left : _) × IsFresh true files.log × IsFresh false files.db
+            × IsNotOpened ⟦<File as Disk>⟧ files e left) }
     {
         if is_missing(rt, path) {
             return Err(OpenFault::NotAChain);

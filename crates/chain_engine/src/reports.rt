@@ -32,7 +32,8 @@ fn report_text<S: Alter>(
     conn: &mut Connection<S>,
     report: Report,
 ) -> Result<String, StoreFault>
-    ensures text { HasCleanDisk (state S.Store conn.new) → IfOk result (λ s. (books : Books) → Holds (state S.Store conn.old) books → IsHeld books → string_bytes s ≡ shown_text (shown_by report books)) }
+    ensures text { HasCleanDisk (state S.Store conn.new)
+        → IfOk result (λ s. (books : Books) → Holds (state S.Store conn.old) books → IsHeld books → string_bytes s ≡ shown_text (shown_by report books)) }
     ensures same { HasCleanDisk (state S.Store conn.new) → OnOk result (IsUnchanged (state S.Store conn.old) (state S.Store conn.new)) }
     ensures kept { HasCleanDisk (state S.Store conn.new) → KeepsCommit (state S.Store conn.old) (state S.Store conn.new) }
     ensures mode { conn.old.in_transaction ≡ false → conn.new.in_transaction ≡ false }

@@ -24,10 +24,13 @@ pub fn step<S: Alter>(
 ) -> Result<Reply, StoreFault>
     requires { conn.old.in_transaction ≡ false }
     ensures ended { conn.new.in_transaction ≡ false }
-    ensures made { HasCleanDisk (state S.Store conn.new) → IfOk result (λ reply. IsMade limits (asker asked.now) (asked_of asked.now) (seen_reply reply) (state S.Store conn.old) (state S.Store conn.new)) }
-    ensures undone { HasCleanDisk (state S.Store conn.new) → IfErr result (λ fault. (fault ≢ StoreFault.Failed → IsUndone (state S.Store conn.old) (state S.Store conn.new))
+    ensures made { HasCleanDisk (state S.Store conn.new)
+        → IfOk result (λ reply. IsMade limits (asker asked.now) (asked_of asked.now) (seen_reply reply) (state S.Store conn.old) (state S.Store conn.new)) }
+    ensures undone { HasCleanDisk (state S.Store conn.new)
+        → IfErr result (λ fault. (fault ≢ StoreFault.Failed → IsUndone (state S.Store conn.old) (state S.Store conn.new))
         × LeavesEitherOf limits (asker asked.now) (asked_of asked.now) (state S.Store conn.old) (state S.Store conn.new)) }
-    ensures crash { Survives (state S.Store conn.old) (state S.Store conn.new) (LeavesAfter limits (asker asked.now) (asked_of asked.now) (state S.Store conn.old)) }
+    ensures crash { Survives (state S.Store conn.old) (state S.Store conn.new)
+        (LeavesAfter limits (asker asked.now) (asked_of asked.now) (state S.Store conn.old)) }
 {
     let mut tx = conn.transaction();
     let fault = match work_of(alloc, &mut tx, limits, asked) {
@@ -74,7 +77,8 @@ fn work_of<S: Alter>(
 ) -> Result<Work, StoreFault>
     ensures same_reference { tx.new.conn.ghost_name ≡ tx.old.conn.ghost_name }
     ensures inside { StaysInside (state S.Store tx.old.conn.now) (state S.Store tx.new.conn.now) result }
-    ensures works { HasCleanDisk (state S.Store tx.new.conn.now) → IfOk result (λ work. Works limits (asker asked.now) (asked_of asked.now) work (state S.Store tx.old.conn.now) (state S.Store tx.new.conn.now)) }
+    ensures works { HasCleanDisk (state S.Store tx.new.conn.now)
+        → IfOk result (λ work. Works limits (asker asked.now) (asked_of asked.now) work (state S.Store tx.old.conn.now) (state S.Store tx.new.conn.now)) }
 {
     match *asked {
         Asked::OfBranch(branch, request) => {

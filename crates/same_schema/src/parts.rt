@@ -70,7 +70,8 @@ fn same_action(first: Action, second: Action) -> bool
 }
 
 fn same_ends(first: &Reference, second: &Reference) -> bool
-    ensures { IsTrue result ↔ ((first.now.columns ≡ second.now.columns) × ((first.now.parent ≡ second.now.parent) × (first.now.parent_columns ≡ second.now.parent_columns))) }
+    ensures { IsTrue result ↔ ((first.now.columns ≡ second.now.columns)
+        × ((first.now.parent ≡ second.now.parent) × (first.now.parent_columns ≡ second.now.parent_columns))) }
 {
     first.columns.same(&second.columns)
         && first.parent.same(&second.parent)
@@ -78,7 +79,8 @@ fn same_ends(first: &Reference, second: &Reference) -> bool
 }
 
 fn same_actions(first: &Reference, second: &Reference) -> bool
-    ensures { IsTrue result ↔ ((first.now.on_delete ≡ second.now.on_delete) × ((first.now.on_update ≡ second.now.on_update) × (first.now.is_deferred ≡ second.now.is_deferred))) }
+    ensures { IsTrue result ↔ ((first.now.on_delete ≡ second.now.on_delete)
+        × ((first.now.on_update ≡ second.now.on_update) × (first.now.is_deferred ≡ second.now.is_deferred))) }
 {
     same_action(first.on_delete, second.on_delete)
         && same_action(first.on_update, second.on_update)
@@ -100,7 +102,8 @@ fn same_tree(first: &Index, second: &Index) -> bool
 
 /// The columns and how they are sorted.
 fn same_order(first: &Index, second: &Index) -> bool
-    ensures { IsTrue result ↔ ((first.now.columns ≡ second.now.columns) × ((first.now.order ≡ second.now.order) × (first.now.is_unique ≡ second.now.is_unique))) }
+    ensures { IsTrue result ↔ ((first.now.columns ≡ second.now.columns)
+        × ((first.now.order ≡ second.now.order) × (first.now.is_unique ≡ second.now.is_unique))) }
 {
     first.columns.same(&second.columns)
         && first.order.same(&second.order)

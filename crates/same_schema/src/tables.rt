@@ -42,7 +42,8 @@ fn same_columns(first: &Table, second: &Table) -> bool
 
 /// The other keys.
 fn same_keys(first: &Table, second: &Table) -> bool
-    ensures { IsTrue result ↔ ((first.now.uniques ≡ second.now.uniques) × ((first.now.orders ≡ second.now.orders) × (first.now.references ≡ second.now.references))) }
+    ensures { IsTrue result ↔ ((first.now.uniques ≡ second.now.uniques)
+        × ((first.now.orders ≡ second.now.orders) × (first.now.references ≡ second.now.references))) }
 {
     first.uniques.same(&second.uniques)
         && first.orders.same(&second.orders)
@@ -58,7 +59,8 @@ fn same_names(first: &Table, second: &Table) -> bool
 }
 
 fn same_rest(first: &Table, second: &Table) -> bool
-    ensures { IsTrue result ↔ (((first.now.checks ≡ second.now.checks) × ((first.now.computed ≡ second.now.computed) × (first.now.stamps ≡ second.now.stamps))) × IsTrue (is_bare second.now)) }
+    ensures { IsTrue result ↔ (((first.now.checks ≡ second.now.checks) × ((first.now.computed ≡ second.now.computed) × (first.now.stamps ≡ second.now.stamps)))
+        × IsTrue (is_bare second.now)) }
 {
     same_terms(&first.checks, &second.checks)
         && first.computed.same(&second.computed)

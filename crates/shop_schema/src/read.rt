@@ -47,7 +47,8 @@ pub fn moment_at(row: &Row, at: usize) -> Result<Moment, StoreFault>
 pub fn moment_or_null_at(row: &Row, at: usize) -> Result<Option<Moment>, StoreFault>
     ensures ok { IfOk result (λ o. column row.now at ≡ or_null moment_value o) }
     ensures value { IfOk result (λ o. IfSome o IsMoment) }
-    ensures failed { IfErr result (λ e. e ≡ Failed → (o : Option Civil) → IfSome o IsMoment → at < length row.now → column row.now at ≢ or_null moment_value o) }
+    ensures failed { IfErr result (λ e. e ≡ Failed → (o : Option Civil) → IfSome o IsMoment → at < length row.now
+        → column row.now at ≢ or_null moment_value o) }
 {
     let Some(words) = words_or_null_at(row, at)? else {
         return Ok(None);

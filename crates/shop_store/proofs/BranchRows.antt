@@ -27,7 +27,7 @@ use Rattle.sql_rows.specs.Rows.{by, PicksOne, columns_from, columns_of, number_v
 use Rattle.sql_rows.specs.declared.fault.StoreFault.{StoreFault}
 use Rattle.sql_rows.proofs.Appends.{are_kept, id_of}
 use Rattle.sql_rows.proofs.Bags.{length-map}
-use Rattle.sql_rows.proofs.ColumnTests.{number_test, one_tested, two_tested, test_of}
+use Rattle.sql_rows.proofs.ColumnTests.{number_test, two_tested, test_of}
 use Rattle.sql_rows.proofs.OfKind.{unmapped_kind}
 use Rattle.sql_rows.proofs.Projects.{still_holds, writes_by}
 use Rattle.sql_rows.proofs.Queries.{Selects, plain_query}
@@ -42,7 +42,7 @@ use Rattle.shop_schema.specs.Shop.{StandsFor, StandsWith, Holds, Reads, Writes}
 use Rattle.shop_schema.specs.Counts.{counts_of}
 use Rattle.shop_schema.proofs.Lists.{picks_row}
 use Rattle.shop_schema.proofs.Listed.{Plain, cols, width, stood, changed, own_rows}
-use Rattle.shop_store.proofs.Rising.{Rise, counted_rise, of_which, which_rise, which_are, rise_differ, rise_sorted}
+use Rattle.shop_store.proofs.Rising.{Rise, of_which, which_rise, which_are, rise_differ, rise_sorted}
 
 -- `Fits` says which rows the program can hold: their columns are one to one
 pub record BranchRows (A : Type 0) : Type 1 where
@@ -165,21 +165,6 @@ module _ {A : Type 0} (t : BranchRows A) where
           )
 
   module _ {R : Type 0} (seen : R → Row A) (text : List ℕ) where
-    -- all rows of a branch
-    abbrev pub ReadsAll : Type 1
-    ReadsAll = (old new : State) (b : ℕ) (rows slice : List sql.Row) (r : Result (Vec R Global) StoreFault) → Shown text (number_value b ∷ []) old new rows → slice ≡ rows
-        → IfOk r (λ all. map (λ x. columns (seen x)) all.items ≡ slice) → IfOk r (λ all. AllByRecursion (λ x. IsRow t.Fits (seen x)) all.items)
-        → IfOk r (λ all. Reads old new (λ books. map (λ x. (seen x).it) all.items ≡ of b (items books)))
-
-    pub reads_all : Selects shop_schema text (sorted_query of_one)
-        → ((b : ℕ) (r : sql.Row) → cond (list_all (holds ((number_value b ∷ []) ∷ r ∷ [])) of_one) (output (sorted_query of_one) ((number_value b ∷ []) ∷ r ∷ []) ∷ []) []
-        ≡ cond (number_test 0 b (columns_of wide r) && true) ((column (columns_of wide r) 1 ∷ [], columns_of wide r) ∷ []) []) → ReadsAll
-    reads_all means only old new b rows slice (Err e) h same read kinds = tt
-    reads_all means only old new b rows slice (Ok all) h same read kinds = λ books holds held.
-        let found = reads_sorted of_one seen text means (number_value b ∷ []) (λ vs. number_test 0 b vs && true) (is_of b) (λ row. one_tested _ (test_of (columns row) 0 row.branch b (t.begins row).0)) (only b)
-        (λ books held. counted_rise 1 (filter (is_of b) (items books)) (t.counted books held b)) old new rows slice all.items h same read kinds books holds held in
-        (found.0, sym (map-map (λ (row : Row A). row.it) seen all.items) ∙ ap (map (λ (row : Row A). row.it)) found.1)
-
     -- those of a branch whose rows pass a test
     abbrev pub ReadsWhich : sql.Row → ℕ → (A → Bool) → Type 1
     ReadsWhich params b which = (old new : State) (rows slice : List sql.Row) (r : Result (Vec R Global) StoreFault) → Shown text params old new rows → slice ≡ rows

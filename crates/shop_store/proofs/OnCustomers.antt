@@ -9,16 +9,12 @@ use Rattle.shop_schema.specs.Held.{IsHeld}
 use Rattle.shop_schema.specs.Shop.{Writes}
 use Rattle.shop_schema.proofs.Listed.{PutsLast, puts_last}
 use Rattle.shop_store.specs.Seen.{seen_row}
-use Rattle.shop_store.proofs.BranchRows.{ReadsOne, reads_one, ReadsAll, reads_all, sets_column}
+use Rattle.shop_store.proofs.BranchRows.{ReadsOne, reads_one, sets_column}
 use Rattle.shop_store.proofs.BranchTables.{customers}
 
 pub write_customer : PutsLast customers.rows (codes "INSERT INTO customer (branch, number, first, last, address, postal, phone, city, active, created) VALUES (?1, ?2, ?3, ?4, ?5, ?6, ?7, ?8, ?9, ?10)")
 unfolding understood everything
 write_customer = puts_last customers.rows _ (record { is = refl; plain = (refl, refl) }) (λ x. refl) (λ x. refl) (λ x. refl) (λ x id. refl)
-
-pub read_customers : ReadsAll customers seen_row (codes "SELECT branch, number, first, last, address, postal, phone, city, active, created FROM customer WHERE branch = ?1 ORDER BY number")
-unfolding understood everything
-read_customers = reads_all customers seen_row _ (record { names = _; is = refl; plain = (refl, refl); unlisted = refl }) (λ b r. refl)
 
 pub read_customer : ReadsOne customers seen_row (codes "SELECT branch, number, first, last, address, postal, phone, city, active, created FROM customer WHERE branch = ?1 AND number = ?2")
 unfolding understood everything

@@ -41,7 +41,9 @@ pub fn set_last<S: Alter>(
 ) -> Result<(), StoreFault>
     ensures same_reference { tx.new.conn.ghost_name ≡ tx.old.conn.ghost_name }
     ensures inside { StaysInside (state S.Store tx.old.conn.now) (state S.Store tx.new.conn.now) result }
-    ensures set { HasCleanDisk (state S.Store tx.new.conn.now) → OnOk result (Writes (state S.Store tx.old.conn.now) (state S.Store tx.new.conn.now) (λ _. ⊤) (λ books. record books { lasts = set_last branch moment books.lasts })) }
+    ensures set { HasCleanDisk (state S.Store tx.new.conn.now)
+        → OnOk result (Writes (state S.Store tx.old.conn.now) (state S.Store tx.new.conn.now) (λ _. ⊤)
+        (λ books. record books { lasts = set_last branch moment books.lasts })) }
 {
     let last = MomentText::of(moment);
     execute(

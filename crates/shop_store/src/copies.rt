@@ -160,7 +160,9 @@ pub fn set_state<S: Alter>(
 ) -> Result<(), StoreFault>
     ensures same_reference { tx.new.conn.ghost_name ≡ tx.old.conn.ghost_name }
     ensures inside { StaysInside (state S.Store tx.old.conn.now) (state S.Store tx.new.conn.now) result }
-    ensures set { HasCleanDisk (state S.Store tx.new.conn.now) → OnOk result (Writes (state S.Store tx.old.conn.now) (state S.Store tx.new.conn.now) IsHeld (λ books. record books { copies = set_row branch number (put_state (seen_state new)) books.copies })) }
+    ensures set { HasCleanDisk (state S.Store tx.new.conn.now)
+        → OnOk result (Writes (state S.Store tx.old.conn.now) (state S.Store tx.new.conn.now) IsHeld
+        (λ books. record books { copies = set_row branch number (put_state (seen_state new)) books.copies })) }
 {
     execute(
         tx,
@@ -177,7 +179,9 @@ pub fn set_state<S: Alter>(
 pub fn put_copy<S: Alter>(tx: &mut Transaction<'_, S>, row: CopyRow) -> Result<(), StoreFault>
     ensures same_reference { tx.new.conn.ghost_name ≡ tx.old.conn.ghost_name }
     ensures inside { StaysInside (state S.Store tx.old.conn.now) (state S.Store tx.new.conn.now) result }
-    ensures put { HasCleanDisk (state S.Store tx.new.conn.now) → OnOk result (Writes (state S.Store tx.old.conn.now) (state S.Store tx.new.conn.now) (λ _. ⊤) (λ books. record books { copies = books.copies ++ seen_copy_row row ∷ [] })) }
+    ensures put { HasCleanDisk (state S.Store tx.new.conn.now)
+        → OnOk result (Writes (state S.Store tx.old.conn.now) (state S.Store tx.new.conn.now) (λ _. ⊤)
+        (λ books. record books { copies = books.copies ++ seen_copy_row row ∷ [] })) }
 {
     execute(
         tx,
@@ -194,7 +198,9 @@ pub fn has_lot<S: Alter>(
 ) -> Result<bool, StoreFault>
     ensures same_reference { tx.new.conn.ghost_name ≡ tx.old.conn.ghost_name }
     ensures inside { StaysInside (state S.Store tx.old.conn.now) (state S.Store tx.new.conn.now) result }
-    ensures found { HasCleanDisk (state S.Store tx.new.conn.now) → IfOk result (λ has. Reads (state S.Store tx.old.conn.now) (state S.Store tx.new.conn.now) (λ books. has ≡ list_any (bytes_eq lot.now) (owned_by branch books.lots))) }
+    ensures found { HasCleanDisk (state S.Store tx.new.conn.now)
+        → IfOk result (λ has. Reads (state S.Store tx.old.conn.now) (state S.Store tx.new.conn.now)
+        (λ books. has ≡ list_any (bytes_eq lot.now) (owned_by branch books.lots))) }
 {
     let rows = query(
         tx,
@@ -212,7 +218,9 @@ pub fn put_lot<S: Alter>(
 ) -> Result<(), StoreFault>
     ensures same_reference { tx.new.conn.ghost_name ≡ tx.old.conn.ghost_name }
     ensures inside { StaysInside (state S.Store tx.old.conn.now) (state S.Store tx.new.conn.now) result }
-    ensures put { HasCleanDisk (state S.Store tx.new.conn.now) → OnOk result (Writes (state S.Store tx.old.conn.now) (state S.Store tx.new.conn.now) (λ _. ⊤) (λ books. record books { lots = books.lots ++ record { owner = branch; it = lot.now } ∷ [] })) }
+    ensures put { HasCleanDisk (state S.Store tx.new.conn.now)
+        → OnOk result (Writes (state S.Store tx.old.conn.now) (state S.Store tx.new.conn.now) (λ _. ⊤)
+        (λ books. record books { lots = books.lots ++ record { owner = branch; it = lot.now } ∷ [] })) }
 {
     execute(
         tx,

@@ -50,8 +50,11 @@ fn count_by<S: Alter>(
 ) -> Result<u32, StoreFault>
     ensures same_reference { tx.new.conn.ghost_name ≡ tx.old.conn.ghost_name }
     ensures inside { StaysInside (state S.Store tx.old.conn.now) (state S.Store tx.new.conn.now) result }
-    ensures branch { HasCleanDisk (state S.Store tx.new.conn.now) → 1 ≤ caller → IfOk result (λ count. Reads (state S.Store tx.old.conn.now) (state S.Store tx.new.conn.now) (λ books. count ≡ count_in (kind_number kind) caller books)) }
-    ensures office { HasCleanDisk (state S.Store tx.new.conn.now) → caller ≡ 0 → kind_number kind ≡ kept_kind → IfOk result (λ count. Reads (state S.Store tx.old.conn.now) (state S.Store tx.new.conn.now) (λ books. count ≡ length books.catalogue.kept)) }
+    ensures branch { HasCleanDisk (state S.Store tx.new.conn.now) → 1 ≤ caller
+        → IfOk result (λ count. Reads (state S.Store tx.old.conn.now) (state S.Store tx.new.conn.now)
+        (λ books. count ≡ count_in (kind_number kind) caller books)) }
+    ensures office { HasCleanDisk (state S.Store tx.new.conn.now) → caller ≡ 0 → kind_number kind ≡ kept_kind
+        → IfOk result (λ count. Reads (state S.Store tx.old.conn.now) (state S.Store tx.new.conn.now) (λ books. count ≡ length books.catalogue.kept)) }
 {
     let rows = query(
         tx,
@@ -72,7 +75,9 @@ pub fn count_of<S: Alter>(
 ) -> Result<u32, StoreFault>
     ensures same_reference { tx.new.conn.ghost_name ≡ tx.old.conn.ghost_name }
     ensures inside { StaysInside (state S.Store tx.old.conn.now) (state S.Store tx.new.conn.now) result }
-    ensures count { HasCleanDisk (state S.Store tx.new.conn.now) → IfOk result (λ count. Reads (state S.Store tx.old.conn.now) (state S.Store tx.new.conn.now) (λ books. count ≡ count_in (kind_number kind) branch books)) }
+    ensures count { HasCleanDisk (state S.Store tx.new.conn.now)
+        → IfOk result (λ count. Reads (state S.Store tx.old.conn.now) (state S.Store tx.new.conn.now)
+        (λ books. count ≡ count_in (kind_number kind) branch books)) }
 {
     count_by(tx, branch.get(), kind)
 }
@@ -81,7 +86,8 @@ pub fn count_of<S: Alter>(
 pub fn office_keys<S: Alter>(tx: &mut Transaction<'_, S>) -> Result<u32, StoreFault>
     ensures same_reference { tx.new.conn.ghost_name ≡ tx.old.conn.ghost_name }
     ensures inside { StaysInside (state S.Store tx.old.conn.now) (state S.Store tx.new.conn.now) result }
-    ensures count { HasCleanDisk (state S.Store tx.new.conn.now) → IfOk result (λ count. Reads (state S.Store tx.old.conn.now) (state S.Store tx.new.conn.now) (λ books. count ≡ length books.catalogue.kept)) }
+    ensures count { HasCleanDisk (state S.Store tx.new.conn.now)
+        → IfOk result (λ count. Reads (state S.Store tx.old.conn.now) (state S.Store tx.new.conn.now) (λ books. count ≡ length books.catalogue.kept)) }
 {
     count_by(tx, 0, CountKind::Kept)
 }
@@ -94,7 +100,9 @@ pub fn take_number<S: Alter>(
 ) -> Result<u32, StoreFault>
     ensures same_reference { tx.new.conn.ghost_name ≡ tx.old.conn.ghost_name }
     ensures inside { StaysInside (state S.Store tx.old.conn.now) (state S.Store tx.new.conn.now) result }
-    ensures taken { HasCleanDisk (state S.Store tx.new.conn.now) → IfOk result (λ number. Tallies (state S.Store tx.old.conn.now) (state S.Store tx.new.conn.now) (CountsOnce branch kind) (raise branch (kind_number kind) 1)
+    ensures taken { HasCleanDisk (state S.Store tx.new.conn.now)
+        → IfOk result (λ number. Tallies (state S.Store tx.old.conn.now) (state S.Store tx.new.conn.now) (CountsOnce branch kind)
+        (raise branch (kind_number kind) 1)
         (λ counts. map (λ it. it.last + 1) (filter (is_count branch (kind_number kind)) counts.counters) ≡ number ∷ [])) }
 {
     take_numbers(tx, branch, kind, 1)
@@ -109,7 +117,9 @@ fn take_by<S: Alter>(
 ) -> Result<u32, StoreFault>
     ensures same_reference { tx.new.conn.ghost_name ≡ tx.old.conn.ghost_name }
     ensures inside { StaysInside (state S.Store tx.old.conn.now) (state S.Store tx.new.conn.now) result }
-    ensures taken { HasCleanDisk (state S.Store tx.new.conn.now) → IfOk result (λ last. Tallies (state S.Store tx.old.conn.now) (state S.Store tx.new.conn.now) (CountsOnce caller kind) (raise caller (kind_number kind) more)
+    ensures taken { HasCleanDisk (state S.Store tx.new.conn.now)
+        → IfOk result (λ last. Tallies (state S.Store tx.old.conn.now) (state S.Store tx.new.conn.now) (CountsOnce caller kind)
+        (raise caller (kind_number kind) more)
         (λ counts. map (λ it. it.last + more) (filter (is_count caller (kind_number kind)) counts.counters) ≡ last ∷ [])) }
 {
     let rows = query(
@@ -133,7 +143,9 @@ pub fn take_numbers<S: Alter>(
 ) -> Result<u32, StoreFault>
     ensures same_reference { tx.new.conn.ghost_name ≡ tx.old.conn.ghost_name }
     ensures inside { StaysInside (state S.Store tx.old.conn.now) (state S.Store tx.new.conn.now) result }
-    ensures taken { HasCleanDisk (state S.Store tx.new.conn.now) → IfOk result (λ last. Tallies (state S.Store tx.old.conn.now) (state S.Store tx.new.conn.now) (CountsOnce branch kind) (raise branch (kind_number kind) more)
+    ensures taken { HasCleanDisk (state S.Store tx.new.conn.now)
+        → IfOk result (λ last. Tallies (state S.Store tx.old.conn.now) (state S.Store tx.new.conn.now) (CountsOnce branch kind)
+        (raise branch (kind_number kind) more)
         (λ counts. map (λ it. it.last + more) (filter (is_count branch (kind_number kind)) counts.counters) ≡ last ∷ [])) }
 {
     take_by(tx, branch.get(), kind, more)
@@ -148,7 +160,9 @@ pub fn raise_count<S: Alter>(
 ) -> Result<(), StoreFault>
     ensures same_reference { tx.new.conn.ghost_name ≡ tx.old.conn.ghost_name }
     ensures inside { StaysInside (state S.Store tx.old.conn.now) (state S.Store tx.new.conn.now) result }
-    ensures raised { HasCleanDisk (state S.Store tx.new.conn.now) → OnOk result (Tallies (state S.Store tx.old.conn.now) (state S.Store tx.new.conn.now) (CountsOnce branch kind) (raise branch (kind_number kind) more) (λ _. ⊤)) }
+    ensures raised { HasCleanDisk (state S.Store tx.new.conn.now)
+        → OnOk result (Tallies (state S.Store tx.old.conn.now) (state S.Store tx.new.conn.now) (CountsOnce branch kind) (raise branch (kind_number kind) more)
+        (λ _. ⊤)) }
 {
     take_numbers(tx, branch, kind, more)?;
     Ok(())
@@ -158,7 +172,8 @@ pub fn raise_count<S: Alter>(
 pub fn raise_office_keys<S: Alter>(tx: &mut Transaction<'_, S>) -> Result<(), StoreFault>
     ensures same_reference { tx.new.conn.ghost_name ≡ tx.old.conn.ghost_name }
     ensures inside { StaysInside (state S.Store tx.old.conn.now) (state S.Store tx.new.conn.now) result }
-    ensures raised { HasCleanDisk (state S.Store tx.new.conn.now) → OnOk result (Tallies (state S.Store tx.old.conn.now) (state S.Store tx.new.conn.now) (CountsOnce 0 CountKind.Kept) (raise 0 kept_kind 1) (λ _. ⊤)) }
+    ensures raised { HasCleanDisk (state S.Store tx.new.conn.now)
+        → OnOk result (Tallies (state S.Store tx.old.conn.now) (state S.Store tx.new.conn.now) (CountsOnce 0 CountKind.Kept) (raise 0 kept_kind 1) (λ _. ⊤)) }
 {
     take_by(tx, 0, CountKind::Kept, 1)?;
     Ok(())
@@ -227,7 +242,9 @@ pub fn put_out<S: Alter>(
 ) -> Result<(), StoreFault>
     ensures same_reference { tx.new.conn.ghost_name ≡ tx.old.conn.ghost_name }
     ensures inside { StaysInside (state S.Store tx.old.conn.now) (state S.Store tx.new.conn.now) result }
-    ensures put { HasCleanDisk (state S.Store tx.new.conn.now) → OnOk result (Tallies (state S.Store tx.old.conn.now) (state S.Store tx.new.conn.now) (λ _. ⊤) (put_out (record { branch = branch; copy = copy; rental = rental })) (λ _. ⊤)) }
+    ensures put { HasCleanDisk (state S.Store tx.new.conn.now)
+        → OnOk result (Tallies (state S.Store tx.old.conn.now) (state S.Store tx.new.conn.now) (λ _. ⊤)
+        (put_out (record { branch = branch; copy = copy; rental = rental })) (λ _. ⊤)) }
 {
     execute(
         tx,
@@ -249,7 +266,9 @@ pub fn drop_out<S: Alter>(
 ) -> Result<(), StoreFault>
     ensures same_reference { tx.new.conn.ghost_name ≡ tx.old.conn.ghost_name }
     ensures inside { StaysInside (state S.Store tx.old.conn.now) (state S.Store tx.new.conn.now) result }
-    ensures dropped { HasCleanDisk (state S.Store tx.new.conn.now) → OnOk result (Tallies (state S.Store tx.old.conn.now) (state S.Store tx.new.conn.now) (IsOutBy branch copy rental) (drop_out branch copy rental) (λ _. ⊤)) }
+    ensures dropped { HasCleanDisk (state S.Store tx.new.conn.now)
+        → OnOk result (Tallies (state S.Store tx.old.conn.now) (state S.Store tx.new.conn.now) (IsOutBy branch copy rental) (drop_out branch copy rental)
+        (λ _. ⊤)) }
 {
     execute(
         tx,

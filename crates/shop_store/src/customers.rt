@@ -1,4 +1,4 @@
-ghost use Rattle.std.specs.Prelude.{⊤, ◌≡◌, [], ◌∷◌, ◌++◌, OnOk, IfOk, map, option_map, option_to_list};
+ghost use Rattle.std.specs.Prelude.{⊤, ◌≡◌, [], ◌∷◌, ◌++◌, OnOk, IfOk, option_map, option_to_list};
 ghost use Rattle.sqlite.specs.Held.{state};
 ghost use Rattle.sqlite.specs.State.{HasCleanDisk};
 ghost use Rattle.sqlite.specs.Values.{bound};
@@ -14,10 +14,9 @@ ghost use Rattle.shop_store.specs.Seen.{seen_row};
 
 use shop_schema::{MomentText, moment_at, row_number_at, text_at};
 use shop_types::{BranchNo, Customer, CustomerNo, Person};
-use sql_rows::{StoreFault, Stored, execute, flag_at, query, read_all, read_one};
+use sql_rows::{StoreFault, Stored, execute, flag_at, query, read_one};
 use sqlite::types::{ToSql, ValueRef};
 use sqlite::{Alter, Row, Transaction};
-use std::alloc::Global;
 
 /// A customer of a branch, with its number there.
 #[derive(Debug, Drop)]
@@ -76,24 +75,6 @@ impl CustomerRow {
     }
 }
 
-/// The customers of the branch, in order of number. After a fault the transaction may be rolled back.
-pub fn customers_of<S: Alter>(
-    tx: &mut Transaction<'_, S>,
-    alloc: Global,
-    branch: BranchNo,
-) -> Result<Vec<CustomerRow>, StoreFault>
-    ensures same_reference { tx.new.conn.ghost_name ≡ tx.old.conn.ghost_name }
-    ensures inside { StaysInside (state S.Store tx.old.conn.now) (state S.Store tx.new.conn.now) result }
-    ensures rows { HasCleanDisk (state S.Store tx.new.conn.now) → IfOk result (λ rows. Reads (state S.Store tx.old.conn.now) (state S.Store tx.new.conn.now) (λ books. map (λ row. (seen_row row).it) rows.items ≡ of branch books.customers)) }
-{
-    let rows = query(
-        tx,
-        "SELECT branch, number, first, last, address, postal, phone, city, active, created FROM customer WHERE branch = ?1 ORDER BY number",
-        &[branch.get().to_sql()],
-    )?;
-    read_all(alloc, rows.as_slice())
-}
-
 /// The customer of the number, if the branch has it.
 pub fn customer_at<S: Alter>(
     tx: &mut Transaction<'_, S>,
@@ -102,7 +83,9 @@ pub fn customer_at<S: Alter>(
 ) -> Result<Option<CustomerRow>, StoreFault>
     ensures same_reference { tx.new.conn.ghost_name ≡ tx.old.conn.ghost_name }
     ensures inside { StaysInside (state S.Store tx.old.conn.now) (state S.Store tx.new.conn.now) result }
-    ensures row { HasCleanDisk (state S.Store tx.new.conn.now) → IfOk result (λ row. Reads (state S.Store tx.old.conn.now) (state S.Store tx.new.conn.now) (λ books. option_to_list (option_map (λ it. seen_customer it.customer) row) ≡ at number (of branch books.customers))) }
+    ensures row { HasCleanDisk (state S.Store tx.new.conn.now)
+        → IfOk result (λ row. Reads (state S.Store tx.old.conn.now) (state S.Store tx.new.conn.now)
+        (λ books. option_to_list (option_map (λ it. seen_customer it.customer) row) ≡ at number (of branch books.customers))) }
 {
     let rows = query(
         tx,
@@ -119,7 +102,9 @@ pub fn put_customer<S: Alter>(
 ) -> Result<(), StoreFault>
     ensures same_reference { tx.new.conn.ghost_name ≡ tx.old.conn.ghost_name }
     ensures inside { StaysInside (state S.Store tx.old.conn.now) (state S.Store tx.new.conn.now) result }
-    ensures put { HasCleanDisk (state S.Store tx.new.conn.now) → OnOk result (Writes (state S.Store tx.old.conn.now) (state S.Store tx.new.conn.now) (λ _. ⊤) (λ books. record books { customers = books.customers ++ seen_row row.now ∷ [] })) }
+    ensures put { HasCleanDisk (state S.Store tx.new.conn.now)
+        → OnOk result (Writes (state S.Store tx.old.conn.now) (state S.Store tx.new.conn.now) (λ _. ⊤)
+        (λ books. record books { customers = books.customers ++ seen_row row.now ∷ [] })) }
 {
     let created = MomentText::of(row.customer.created);
     execute(
@@ -138,7 +123,9 @@ pub fn set_active<S: Alter>(
 ) -> Result<(), StoreFault>
     ensures same_reference { tx.new.conn.ghost_name ≡ tx.old.conn.ghost_name }
     ensures inside { StaysInside (state S.Store tx.old.conn.now) (state S.Store tx.new.conn.now) result }
-    ensures set { HasCleanDisk (state S.Store tx.new.conn.now) → OnOk result (Writes (state S.Store tx.old.conn.now) (state S.Store tx.new.conn.now) IsHeld (λ books. record books { customers = set_row branch number (λ it. record it { active = active }) books.customers })) }
+    ensures set { HasCleanDisk (state S.Store tx.new.conn.now)
+        → OnOk result (Writes (state S.Store tx.old.conn.now) (state S.Store tx.new.conn.now) IsHeld
+        (λ books. record books { customers = set_row branch number (λ it. record it { active = active }) books.customers })) }
 {
     execute(
         tx,

@@ -30,9 +30,11 @@ fn kept_by<S: Alter>(
 ) -> Result<Option<KeptRow>, StoreFault>
     ensures same_reference { tx.new.conn.ghost_name ≡ tx.old.conn.ghost_name }
     ensures inside { StaysInside (state S.Store tx.old.conn.now) (state S.Store tx.new.conn.now) result }
-    ensures branch { HasCleanDisk (state S.Store tx.new.conn.now) → 1 ≤ caller → IfOk result (λ kept. Reads (state S.Store tx.old.conn.now) (state S.Store tx.new.conn.now)
+    ensures branch { HasCleanDisk (state S.Store tx.new.conn.now) → 1 ≤ caller
+        → IfOk result (λ kept. Reads (state S.Store tx.old.conn.now) (state S.Store tx.new.conn.now)
         (λ books. option_map seen_kept kept ≡ head (map stored_kept (filter (λ it. bytes_eq it.command.key key.now) (owned_by caller books.kept))))) }
-    ensures office { HasCleanDisk (state S.Store tx.new.conn.now) → caller ≡ 0 → IfOk result (λ kept. Reads (state S.Store tx.old.conn.now) (state S.Store tx.new.conn.now)
+    ensures office { HasCleanDisk (state S.Store tx.new.conn.now) → caller ≡ 0
+        → IfOk result (λ kept. Reads (state S.Store tx.old.conn.now) (state S.Store tx.new.conn.now)
         (λ books. option_map seen_kept kept ≡ head (map stored_office_kept (filter (λ it. bytes_eq it.command.key key.now) books.catalogue.kept)))) }
 {
     let rows = query(
@@ -86,10 +88,15 @@ fn put_by<S: Alter>(
 ) -> Result<(), StoreFault>
     ensures same_reference { tx.new.conn.ghost_name ≡ tx.old.conn.ghost_name }
     ensures inside { StaysInside (state S.Store tx.old.conn.now) (state S.Store tx.new.conn.now) result }
-    ensures branch { HasCleanDisk (state S.Store tx.new.conn.now) → OnOk result ((command : model.Command) → command.key ≡ key.now → command_form command ≡ form.now
-        → Writes (state S.Store tx.old.conn.now) (state S.Store tx.new.conn.now) (λ _. ⊤) (λ books. record books { kept = books.kept ++ record { owner = caller; it = record { command = command; reply = reply.now } } ∷ [] })) }
-    ensures office { HasCleanDisk (state S.Store tx.new.conn.now) → caller ≡ 0 → OnOk result ((command : model.OfficeCommand) → command.key ≡ key.now → office_command_form command ≡ form.now
-        → Writes (state S.Store tx.old.conn.now) (state S.Store tx.new.conn.now) (λ _. ⊤) (λ books. record books { catalogue = record books.catalogue { kept = books.catalogue.kept ++ record { command = command; reply = reply.now } ∷ [] } })) }
+    ensures branch { HasCleanDisk (state S.Store tx.new.conn.now)
+        → OnOk result ((command : model.Command) → command.key ≡ key.now → command_form command ≡ form.now
+        → Writes (state S.Store tx.old.conn.now) (state S.Store tx.new.conn.now) (λ _. ⊤)
+        (λ books. record books { kept = books.kept ++ record { owner = caller; it = record { command = command; reply = reply.now } } ∷ [] })) }
+    ensures office { HasCleanDisk (state S.Store tx.new.conn.now) → caller ≡ 0
+        → OnOk result ((command : model.OfficeCommand) → command.key ≡ key.now → office_command_form command ≡ form.now
+        → Writes (state S.Store tx.old.conn.now) (state S.Store tx.new.conn.now) (λ _. ⊤) (λ books. record books {
+          catalogue = record books.catalogue { kept = books.catalogue.kept ++ record { command = command; reply = reply.now } ∷ [] };
+        })) }
 {
     execute(
         tx,
@@ -113,8 +120,10 @@ pub fn put_kept<S: Alter>(
 ) -> Result<(), StoreFault>
     ensures same_reference { tx.new.conn.ghost_name ≡ tx.old.conn.ghost_name }
     ensures inside { StaysInside (state S.Store tx.old.conn.now) (state S.Store tx.new.conn.now) result }
-    ensures put { HasCleanDisk (state S.Store tx.new.conn.now) → OnOk result ((command : model.Command) → command.key ≡ key.now → command_form command ≡ form.now
-        → Writes (state S.Store tx.old.conn.now) (state S.Store tx.new.conn.now) (λ _. ⊤) (λ books. record books { kept = books.kept ++ record { owner = branch; it = record { command = command; reply = reply.now } } ∷ [] })) }
+    ensures put { HasCleanDisk (state S.Store tx.new.conn.now)
+        → OnOk result ((command : model.Command) → command.key ≡ key.now → command_form command ≡ form.now
+        → Writes (state S.Store tx.old.conn.now) (state S.Store tx.new.conn.now) (λ _. ⊤)
+        (λ books. record books { kept = books.kept ++ record { owner = branch; it = record { command = command; reply = reply.now } } ∷ [] })) }
 {
     put_by(tx, branch.get(), key, form, reply)
 }
@@ -128,8 +137,11 @@ pub fn put_office_kept<S: Alter>(
 ) -> Result<(), StoreFault>
     ensures same_reference { tx.new.conn.ghost_name ≡ tx.old.conn.ghost_name }
     ensures inside { StaysInside (state S.Store tx.old.conn.now) (state S.Store tx.new.conn.now) result }
-    ensures put { HasCleanDisk (state S.Store tx.new.conn.now) → OnOk result ((command : model.OfficeCommand) → command.key ≡ key.now → office_command_form command ≡ form.now
-        → Writes (state S.Store tx.old.conn.now) (state S.Store tx.new.conn.now) (λ _. ⊤) (λ books. record books { catalogue = record books.catalogue { kept = books.catalogue.kept ++ record { command = command; reply = reply.now } ∷ [] } })) }
+    ensures put { HasCleanDisk (state S.Store tx.new.conn.now)
+        → OnOk result ((command : model.OfficeCommand) → command.key ≡ key.now → office_command_form command ≡ form.now
+        → Writes (state S.Store tx.old.conn.now) (state S.Store tx.new.conn.now) (λ _. ⊤) (λ books. record books {
+          catalogue = record books.catalogue { kept = books.catalogue.kept ++ record { command = command; reply = reply.now } ∷ [] };
+        })) }
 {
     put_by(tx, 0, key, form, reply)
 }

@@ -18,7 +18,7 @@ pub use counts::{
     CountKind, count_of, drop_out, office_keys, out_at, put_out, raise_count, raise_office_keys,
     rentals_out, take_number, take_numbers,
 };
-pub use customers::{CustomerRow, customer_at, customers_of, put_customer, set_active};
+pub use customers::{CustomerRow, customer_at, put_customer, set_active};
 pub use kept::{KeptRow, kept_at, office_kept_at, put_kept, put_office_kept};
 pub use payments::{PaymentRow, payments_between, payments_of_customer, put_payment};
 pub use rentals::{

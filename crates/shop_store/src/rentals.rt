@@ -75,7 +75,9 @@ pub fn rental_at<S: Alter>(
 ) -> Result<Option<RentalRow>, StoreFault>
     ensures same_reference { tx.new.conn.ghost_name ≡ tx.old.conn.ghost_name }
     ensures inside { StaysInside (state S.Store tx.old.conn.now) (state S.Store tx.new.conn.now) result }
-    ensures row { HasCleanDisk (state S.Store tx.new.conn.now) → IfOk result (λ row. Reads (state S.Store tx.old.conn.now) (state S.Store tx.new.conn.now) (λ books. option_to_list (option_map (λ it. seen_rental it.rental) row) ≡ at number (of branch books.rentals))) }
+    ensures row { HasCleanDisk (state S.Store tx.new.conn.now)
+        → IfOk result (λ row. Reads (state S.Store tx.old.conn.now) (state S.Store tx.new.conn.now)
+        (λ books. option_to_list (option_map (λ it. seen_rental it.rental) row) ≡ at number (of branch books.rentals))) }
 {
     let rows = query(
         tx,
@@ -137,7 +139,9 @@ pub fn rentals_of_customer<S: Alter>(
 pub fn put_rental<S: Alter>(tx: &mut Transaction<'_, S>, row: &RentalRow) -> Result<(), StoreFault>
     ensures same_reference { tx.new.conn.ghost_name ≡ tx.old.conn.ghost_name }
     ensures inside { StaysInside (state S.Store tx.old.conn.now) (state S.Store tx.new.conn.now) result }
-    ensures put { HasCleanDisk (state S.Store tx.new.conn.now) → OnOk result (Writes (state S.Store tx.old.conn.now) (state S.Store tx.new.conn.now) (λ _. ⊤) (λ books. record books { rentals = books.rentals ++ opened_row row.now ∷ [] })) }
+    ensures put { HasCleanDisk (state S.Store tx.new.conn.now)
+        → OnOk result (Writes (state S.Store tx.old.conn.now) (state S.Store tx.new.conn.now) (λ _. ⊤)
+        (λ books. record books { rentals = books.rentals ++ opened_row row.now ∷ [] })) }
 {
     let rented = MomentText::of(row.rental.rented);
     execute(
@@ -156,7 +160,9 @@ pub fn set_returned<S: Alter>(
 ) -> Result<(), StoreFault>
     ensures same_reference { tx.new.conn.ghost_name ≡ tx.old.conn.ghost_name }
     ensures inside { StaysInside (state S.Store tx.old.conn.now) (state S.Store tx.new.conn.now) result }
-    ensures set { HasCleanDisk (state S.Store tx.new.conn.now) → OnOk result (Writes (state S.Store tx.old.conn.now) (state S.Store tx.new.conn.now) IsHeld (λ books. record books { rentals = set_row branch number (λ it. record it { returned = Some moment }) books.rentals })) }
+    ensures set { HasCleanDisk (state S.Store tx.new.conn.now)
+        → OnOk result (Writes (state S.Store tx.old.conn.now) (state S.Store tx.new.conn.now) IsHeld
+        (λ books. record books { rentals = set_row branch number (λ it. record it { returned = Some moment }) books.rentals })) }
 {
     let returned = MomentText::of(moment);
     execute(

@@ -19,7 +19,8 @@ pub fn query<S: Alter>(
 ) -> Result<Vec<Row>, StoreFault>
     ensures same_reference { tx.new.conn.ghost_name ≡ tx.old.conn.ghost_name }
     ensures inside { StaysInside (state S.Store tx.old.conn.now) (state S.Store tx.new.conn.now) result }
-    ensures shown { HasCleanDisk (state S.Store tx.new.conn.now) → IfOk result (λ rows. Shown text.now (bound params.now) (state S.Store tx.old.conn.now) (state S.Store tx.new.conn.now) rows.items) }
+    ensures shown { HasCleanDisk (state S.Store tx.new.conn.now)
+        → IfOk result (λ rows. Shown text.now (bound params.now) (state S.Store tx.old.conn.now) (state S.Store tx.new.conn.now) rows.items) }
     ensures told { HasCleanDisk (state S.Store tx.new.conn.now)
         → IfErr result (IsToldOf (QueryGave text.now (bound params.now) (state S.Store tx.old.conn.now) (state S.Store tx.new.conn.now))) }
 {
@@ -38,7 +39,8 @@ pub fn execute<S: Alter>(
 ) -> Result<(), StoreFault>
     ensures same_reference { tx.new.conn.ghost_name ≡ tx.old.conn.ghost_name }
     ensures inside { StaysInside (state S.Store tx.old.conn.now) (state S.Store tx.new.conn.now) result }
-    ensures ran { HasCleanDisk (state S.Store tx.new.conn.now) → OnOk result ((count : ℕ) × ExecutesInside 0 text.now (bound params.now) (state S.Store tx.old.conn.now) (state S.Store tx.new.conn.now) (Ok count)) }
+    ensures ran { HasCleanDisk (state S.Store tx.new.conn.now)
+        → OnOk result ((count : ℕ) × ExecutesInside 0 text.now (bound params.now) (state S.Store tx.old.conn.now) (state S.Store tx.new.conn.now) (Ok count)) }
     ensures told { HasCleanDisk (state S.Store tx.new.conn.now)
         → IfErr result (IsToldOf (StatementGave text.now (bound params.now) (state S.Store tx.old.conn.now) (state S.Store tx.new.conn.now))) }
     ensures ended { (state S.Store tx.old.conn.now).in_transaction ≡ false → (result ≡ Err StoreFault.Failed) × (tx.new.conn.now ≡ tx.old.conn.now) }

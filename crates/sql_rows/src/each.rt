@@ -24,9 +24,12 @@ pub trait TakesRows: Sized {
 /// Hands the rows of an answer that has just begun to `taker`, up to its end.
 fn take_all<S: Alter, T: TakesRows>(rows: &mut Rows<'_, S>, taker: &mut T) -> Result<(), StoreFault>
     ensures same_reference { rows.new.conn.ghost_name ≡ rows.old.conn.ghost_name }
-    ensures took { HasCleanDisk (state S.Store rows.new.conn.now) → OnOk result ((sql : List ℕ) (params : SqlRow) → IsQuery sql → HasGiven S.Store sql params rows.old.conn.now []
-        → (given : List SqlRow) × Shown sql params (state S.Store rows.old.conn.now) (state S.Store rows.new.conn.now) given × (T.TakesRows.took taker.old taker.old [] → T.TakesRows.took taker.old taker.new given)) }
-    ensures same { HasCleanDisk (state S.Store rows.new.conn.now) → OnOk result (IsUnchanged (state S.Store rows.old.conn.now) (state S.Store rows.new.conn.now)) }
+    ensures took { HasCleanDisk (state S.Store rows.new.conn.now)
+        → OnOk result ((sql : List ℕ) (params : SqlRow) → IsQuery sql → HasGiven S.Store sql params rows.old.conn.now []
+        → (given : List SqlRow) × Shown sql params (state S.Store rows.old.conn.now) (state S.Store rows.new.conn.now) given
+        × (T.TakesRows.took taker.old taker.old [] → T.TakesRows.took taker.old taker.new given)) }
+    ensures same { HasCleanDisk (state S.Store rows.new.conn.now)
+        → OnOk result (IsUnchanged (state S.Store rows.old.conn.now) (state S.Store rows.new.conn.now)) }
     ensures kept { HasCleanDisk (state S.Store rows.new.conn.now) → KeepsCommit (state S.Store rows.old.conn.now) (state S.Store rows.new.conn.now) }
     ensures mode { rows.old.conn.now.in_transaction ≡ false → rows.new.conn.now.in_transaction ≡ false }
     ensures survives { Survives (state S.Store rows.old.conn.now) (state S.Store rows.new.conn.now) (λ _. ⊥) }
@@ -51,7 +54,9 @@ pub fn each_row<S: Alter, T: TakesRows>(
     taker: &mut T,
 ) -> Result<(), StoreFault>
     requires { IsQuery text.now }
-    ensures took { HasCleanDisk (state S.Store conn.new) → OnOk result ((rows : List SqlRow) × Shown text.now (bound params.now) (state S.Store conn.old) (state S.Store conn.new) rows × (T.TakesRows.took taker.old taker.old [] → T.TakesRows.took taker.old taker.new rows)) }
+    ensures took { HasCleanDisk (state S.Store conn.new)
+        → OnOk result ((rows : List SqlRow) × Shown text.now (bound params.now) (state S.Store conn.old) (state S.Store conn.new) rows
+        × (T.TakesRows.took taker.old taker.old [] → T.TakesRows.took taker.old taker.new rows)) }
     ensures same { HasCleanDisk (state S.Store conn.new) → OnOk result (IsUnchanged (state S.Store conn.old) (state S.Store conn.new)) }
     ensures kept { HasCleanDisk (state S.Store conn.new) → KeepsCommit (state S.Store conn.old) (state S.Store conn.new) }
     ensures mode { conn.old.in_transaction ≡ false → conn.new.in_transaction ≡ false }

@@ -260,7 +260,8 @@ fn finish(taker: ActorPage) -> Result<String, AllocError>
     }
 }
 
-/// All actors, those without a film too, each with the films by category, as the text of a list. The database stays as it was, unless the store fails, which commits nothing.
+/// All actors, those without a film too, each with the films by category, as the text of a list. The database stays as it was, unless the store fails, which
+/// commits nothing.
 pub fn actor_info<S: Alter>(conn: &mut Connection<S>, alloc: Global) -> Result<String, StoreFault>
     ensures text { HasCleanDisk (state S.Store conn.new) → IfOk result (λ s. (books : Books) → Holds (state S.Store conn.old) books → IsHeld books
         → string_bytes s ≡ shown_text (ActorsListed (actor_info books.catalogue))) }

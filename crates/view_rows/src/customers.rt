@@ -29,7 +29,8 @@ use std::alloc::{AllocError, Global};
 
 /// The customer of a row.
 fn read_customer(alloc: Global, row: &Row, branch: BranchNo) -> Result<CustomerRow, StoreFault>
-    ensures { IfOk result (λ it. (catalogue : Catalogue) (x : ModelRow Customer) → row.now ≡ shown_customer catalogue x → seen_customer it ≡ listed_customer branch catalogue x) }
+    ensures { IfOk result (λ it. (catalogue : Catalogue) (x : ModelRow Customer) → row.now ≡ shown_customer catalogue x
+        → seen_customer it ≡ listed_customer branch catalogue x) }
 {
     Ok(CustomerRow {
         number: row_number_at(row, 0)?,

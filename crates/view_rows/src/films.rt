@@ -75,7 +75,8 @@ fn rating_at(row: &Row, at: usize) -> Result<Rating, StoreFault>
 
 /// The actor of the row, or none where it has none.
 fn actor_at(row: &Row) -> Result<Option<PersonName>, StoreFault>
-    ensures { IfOk result (λ name. (o : Option (ℕ × Actor)) → column row.now 7 ≡ or_null (λ it. SqlText it.1.first) o → column row.now 8 ≡ or_null (λ it. SqlText it.1.last) o
+    ensures { IfOk result (λ name. (o : Option (ℕ × Actor)) → column row.now 7 ≡ or_null (λ it. SqlText it.1.first) o
+        → column row.now 8 ≡ or_null (λ it. SqlText it.1.last) o
         → map name_text (option_to_list name) ≡ names_of o) }
 {
     let Some(first) = words_or_null_at(row, 7)? else {
@@ -92,7 +93,8 @@ fn actor_at(row: &Row) -> Result<Option<PersonName>, StoreFault>
 
 /// The film of the row, without its actor.
 fn film_at(alloc: Global, row: &Row) -> Result<FilmRow, StoreFault>
-    ensures film { IfOk result (λ it. (catalogue : Catalogue) (line : FilmLine) → row.now ≡ shown_film catalogue line → film_with [] it ≡ film_alone catalogue line.0) }
+    ensures film { IfOk result (λ it. (catalogue : Catalogue) (line : FilmLine) → row.now ≡ shown_film catalogue line
+        → film_with [] it ≡ film_alone catalogue line.0) }
     ensures none { IfOk result (λ it. it.actors.items ≡ []) }
 {
     Ok(FilmRow {
@@ -136,8 +138,10 @@ fn next_film(
     row: &Row,
     page: &mut ListPage,
 ) -> Result<FilmRow, StoreFault>
-    ensures { IfOk result (λ it. (catalogue : Catalogue) (line : FilmLine) (films : List ModelFilm) → row.now ≡ shown_film catalogue line → HasValues page.old (map film_data films)
-        → HasValues page.new (map film_data (take_line catalogue (films, option_map seen_part film) line).0) × (Some (seen_part it) ≡ (take_line catalogue (films, option_map seen_part film) line).1)) }
+    ensures { IfOk result (λ it. (catalogue : Catalogue) (line : FilmLine) (films : List ModelFilm) → row.now ≡ shown_film catalogue line
+        → HasValues page.old (map film_data films)
+        → HasValues page.new (map film_data (take_line catalogue (films, option_map seen_part film) line).0)
+        × (Some (seen_part it) ≡ (take_line catalogue (films, option_map seen_part film) line).1)) }
 {
     let Some(film) = film else {
         return with_actor(film_at(alloc, row)?, row);
@@ -170,7 +174,8 @@ impl TakesRows for FilmPage {
 
 /// The text of the list with the last film.
 fn finish(taker: FilmPage) -> Result<String, AllocError>
-    ensures { IfOk result (λ s. (films : List ModelFilm) → HasValues taker.page (map film_data films) → string_bytes s ≡ shown_text (FilmsListed (closed (films, option_map seen_part taker.film)))) }
+    ensures { IfOk result (λ s. (films : List ModelFilm) → HasValues taker.page (map film_data films)
+        → string_bytes s ≡ shown_text (FilmsListed (closed (films, option_map seen_part taker.film)))) }
 {
     let FilmPage {
         mut page,

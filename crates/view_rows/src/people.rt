@@ -35,7 +35,8 @@ pub(crate) fn person_at(
     row: &Row,
     branch: BranchNo,
 ) -> Result<ListedPerson, StoreFault>
-    ensures { IfOk result (λ it. (catalogue : Catalogue) (n : ℕ) (person : Person) (rest : SqlRow) → row.now ≡ shown_person catalogue n person ++ rest → seen_person n it ≡ person_row catalogue branch n person) }
+    ensures { IfOk result (λ it. (catalogue : Catalogue) (n : ℕ) (person : Person) (rest : SqlRow) → row.now ≡ shown_person catalogue n person ++ rest
+        → seen_person n it ≡ person_row catalogue branch n person) }
 {
     Ok(ListedPerson {
         branch,

@@ -27,7 +27,8 @@ use std::alloc::{AllocError, Global};
 
 /// The member of staff of a row.
 fn read_staff(alloc: Global, row: &Row, branch: BranchNo) -> Result<StaffRow, StoreFault>
-    ensures { IfOk result (λ it. (catalogue : Catalogue) (x : ℕ × Staff) → row.now ≡ shown_staff catalogue x → seen_staff it ≡ listed_staff branch catalogue x) }
+    ensures { IfOk result (λ it. (catalogue : Catalogue) (x : ℕ × Staff) → row.now ≡ shown_staff catalogue x
+        → seen_staff it ≡ listed_staff branch catalogue x) }
 {
     Ok(StaffRow {
         number: row_number_at(row, 0)?,

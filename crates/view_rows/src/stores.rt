@@ -85,7 +85,8 @@ fn rental_sum<S: Alter>(
 /// The manager of the row, or none where it has none.
 fn manager_at(row: &Row) -> Result<Option<PersonName>, StoreFault>
     ensures { IfOk result (λ name. (o : Option Staff) → column row.now 3 ≡ or_null (λ it. SqlText it.person.first) o
-        → column row.now 4 ≡ or_null (λ it. SqlText it.person.last) o → manager_text name ≡ flat_map (λ (it : Staff). person_name it.person) (option_to_list o)) }
+        → column row.now 4 ≡ or_null (λ it. SqlText it.person.last) o
+        → manager_text name ≡ flat_map (λ (it : Staff). person_name it.person) (option_to_list o)) }
 {
     let Some(first) = words_or_null_at(row, 3)? else {
         return Ok(None);
@@ -172,7 +173,8 @@ fn add_branch<S: Alter>(
     branch: BranchNo,
     page: &mut ListPage,
 ) -> Result<bool, StoreFault>
-    ensures added { HasCleanDisk (state S.Store conn.new) → OnOk result ((books : Books) (values : List Data) → Holds (state S.Store conn.old) books → IsHeld books
+    ensures added { HasCleanDisk (state S.Store conn.new)
+        → OnOk result ((books : Books) (values : List Data) → Holds (state S.Store conn.old) books → IsHeld books
         → HasValues page.old values → HasValues page.new (values ++ map store_data (sales_of_branch books branch))) }
     ensures there { HasCleanDisk (state S.Store conn.new) → IfOk result (λ there. (books : Books) → Holds (state S.Store conn.old) books
         → there ≡ not (lacks books.catalogue.branches branch)) }

@@ -1,0 +1,58 @@
+"""A chain in a file, made by head office's words and served by `sakila serve` on a port of 127.0.0.1: what the scripts beside this one share."""
+import os
+import socket
+import subprocess
+import time
+
+PROGRAM = os.path.join(os.path.dirname(os.path.abspath(__file__)), "../crates/sakila/out/sakila")
+OFFICE, TOKEN = "0" * 32, "1" * 32
+AT = "2026-03-01T10:00:00"
+MARY = {"key": "k1", "staff": 1, "at": AT, "first": "MARY", "last": "SMITH", "address": "1 Main", "postal": "", "phone": "555", "city": 1}
+WORDS = [
+    ["init", "--token", OFFICE],
+    ["country-add", "--key", "c1", "--name", "Canada"],
+    ["city-add", "--key", "c2", "--name", "Lethbridge", "--country", "1"],
+    ["branch-add", "--key", "c3", "--token", TOKEN, "--address", "10 High", "--postal", "", "--phone", "", "--city", "1"],
+    ["staff-add", "--key", "c4", "--branch", "1", "--first", "IDA", "--last", "LUND", "--address", "2 Side", "--postal", "", "--phone", "", "--city", "1"],
+    ["language-add", "--key", "c5", "--name", "English"],
+    ["category-add", "--key", "c6", "--name", "Action"],
+    ["film-add", "--key", "c7", "--title", "RIVER DAWN", "--language", "1", "--category", "1"],
+]
+
+
+def make(file):
+    """Makes the chain, with one branch, one of its staff, one city and one film."""
+    for it in WORDS:
+        subprocess.run([PROGRAM, "--db", file, *it], check=True, stdout=subprocess.DEVNULL)
+
+
+class Shop:
+    """A chain in a file, served over so many connections."""
+
+    def __init__(self, file, connections):
+        with socket.socket() as free:
+            free.bind(("127.0.0.1", 0))
+            self.port = free.getsockname()[1]
+        self.program = subprocess.Popen([PROGRAM, "--db", file, "serve", "--port", str(self.port), "--connections", str(connections)])
+
+    def connect(self):
+        """Returns a socket to the program, which may not listen yet."""
+        for _ in range(500):
+            try:
+                return socket.create_connection(("127.0.0.1", self.port), timeout=60)
+            except ConnectionRefusedError:
+                time.sleep(0.01)
+        raise ConnectionRefusedError("sakila serve doesn't answer")
+
+    def ends(self):
+        return self.program.wait(timeout=60)
+
+    def curl(self, *words):
+        return subprocess.run(["curl", "-s", "-H", f"counter-token: {TOKEN}", "--retry", "20", "--retry-connrefused", "--retry-delay", "1", *words], capture_output=True, text=True).stdout
+
+    def at(self, path):
+        return f"http://127.0.0.1:{self.port}{path}"
+
+
+def request(body, path="/customer", more=""):
+    return f"POST {path} HTTP/1.1\r\ncounter-token: {TOKEN}\r\n{more}content-length: {len(body)}\r\n\r\n{body}".encode()

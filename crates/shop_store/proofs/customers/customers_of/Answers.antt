@@ -1,7 +1,0 @@
-use Rattle.shop_store.proofs.OnCustomers.{read_customers}
-use Rattle.shop_store.proofs.customers.customers_of.Goals as goal
-
-pub returns-clause-rows : goal.returns-clause-rows
-returns-clause-rows g c clean =
-    let shown = rw (c.to_sql.ensures, c.get.ensures.value) at (c.in_ok-rows.ensures.shown clean) in
-    read_customers _ _ c.args.branch _ _ c.read_all.result shown c.as_slice.ensures.value c.read_all.ensures.ok c.read_all.ensures.values
