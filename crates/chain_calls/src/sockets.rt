@@ -17,17 +17,24 @@ const TOLD: &[u8] =
 
 /// The head of a request whose body is too long.
 const TOO_LONG: &[u8] =
-    b"POST /customer HTTP/1.1\r\nhost: localhost\r\ncontent-length: 70000\r\n\r\n";
+    b"POST /customer HTTP/1.1\r\nhost: localhost\r\ncontent-length: 81920\r\n\r\n";
 
 const REFUSED: &[u8] =
     b"HTTP/1.1 400 Bad Request\r\ncontent-type: application/json\r\ncontent-length: 22\r\n\r\n{\"refused\":\"too_long\"}";
 
-/// A peer that has sent the pieces, and sends no more.
-fn asking(rt: &HostRuntime, listener: &TcpListener, pieces: &[&[u8]]) -> Result<TcpStream, Fail> {
+/// A peer that has sent the first bytes and so many times the others, and sends no more.
+fn asking(
+    rt: &HostRuntime,
+    listener: &TcpListener,
+    first: &[u8],
+    rest: &[u8],
+    times: u32,
+) -> Result<TcpStream, Fail> {
     let stream = TcpStream::connect(rt, listener.local_addr()?)?;
     let mut writer = &stream;
-    for piece in pieces {
-        writer.write_all(piece)?;
+    writer.write_all(first)?;
+    for _ in 0..times {
+        writer.write_all(rest)?;
     }
     stream.shutdown(Shutdown::Write)?;
     Ok(stream)
@@ -48,12 +55,12 @@ fn peers_are_answered_and_left(rt: HostRuntime) -> Result<(), Fail> {
     let listener = TcpListener::bind(&rt, "127.0.0.1:0")?;
     let mut chain = Chain::demo(alloc, Limits::default())?;
     let words = ClapWords { alloc };
-    let first = asking(&rt, &listener, &[ASKED])?;
+    let first = asking(&rt, &listener, ASKED, b"", 0)?;
     assert_eq!(rt; serve_listener(alloc, &listener, &mut chain, &words, 1), 0);
     assert!(rt; is_told(alloc, &first, TOLD)?);
     let _silent = TcpStream::connect(&rt, listener.local_addr()?)?;
-    let again = asking(&rt, &listener, &[ASKED])?;
-    let longest = asking(&rt, &listener, &[TOO_LONG, &[b' '; 40000]])?;
+    let again = asking(&rt, &listener, ASKED, b"", 0)?;
+    let longest = asking(&rt, &listener, TOO_LONG, &[b' '; 8192], 10)?;
     let patience = Duration::from_millis(50);
     assert_eq!(rt;
         serve_patiently(alloc, &listener, &mut chain, &words, 3, patience),

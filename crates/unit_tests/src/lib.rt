@@ -2,16 +2,10 @@
 #![tactic(auto)]
 
 #[cfg(test)]
-mod messages;
-#[cfg(test)]
 mod money;
 #[cfg(test)]
 mod rentals;
 #[cfg(test)]
 mod routes;
 #[cfg(test)]
-mod types;
-#[cfg(test)]
 mod values;
-#[cfg(test)]
-mod views;

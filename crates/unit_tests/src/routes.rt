@@ -7,23 +7,6 @@ use std::test::Fail;
 #[test]
 fn parts_are_those_of_the_router(rt: HostRuntime) -> Result<(), Fail> {
     let mut router = Router::new(rt.alloc());
-    router.insert("/customer/{n}", 1u8).ok().ok_or("route")?;
-    for path in [
-        "/customer/1",
-        "/customer/%2f",
-        "/customer/M\u{fc}ller",
-        "/customer/{n}",
-    ] {
-        let found = router.at(path).ok().ok_or("no route")?;
-        let named = found.params.get("n").ok_or("no part")?;
-        assert!(rt; part(path.as_bytes(), 2).ok_or("no part")? == named.as_bytes());
-    }
-    Ok(())
-}
-
-#[test]
-fn parts_of_imports_are_those_of_the_router(rt: HostRuntime) -> Result<(), Fail> {
-    let mut router = Router::new(rt.alloc());
     let pattern = "/import/{key}/{staff}/{at}/{lot}";
     router.insert(pattern, 1u8).ok().ok_or("route")?;
     for path in [
