@@ -13,8 +13,9 @@ use Rattle.shop_types.specs.Seen.{seen_refusal}
 use Rattle.shop_model.specs.Shop.{Kept, Catalogue, Shop}
 use Rattle.shop_model.specs.Verdict.{Verdict, Refused, Accepted, first, refusals, resent, verdict, staff_is}
 use Rattle.shop_model.specs.Books.{head}
-use Rattle.branch_core.specs.declared.found.KeptFound.{KeptFound}
-use Rattle.branch_core.specs.Agreed.{kept_for, post_of, seen_kept}
+use Rattle.shop_types.specs.declared.found.KeptFound.{KeptFound}
+use Rattle.shop_types.specs.Verdicts.{seen_kept, post_of}
+use Rattle.branch_core.specs.Agreed.{kept_for}
 use Rattle.branch_core.specs.declared.change.Rows.{Rows}
 use Rattle.branch_core.specs.declared.change.Change.{Change}
 use Rattle.branch_core.specs.Decided.{decided, verdict_before, verdict_by, IsRefused, IsActDecided, IsDecided}

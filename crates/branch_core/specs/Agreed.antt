@@ -7,36 +7,24 @@ use Rattle.std.specs.declared.vec.Vec.{Vec}
 use Rattle.shop_model.specs.Calendar.{Moment, same_moment}
 use Rattle.shop_model.specs.Rows.{at, lacks, numbered}
 use Rattle.shop_model.specs.Values as model
-use Rattle.shop_model.specs.Values.{Text, Person, Staff, Customer, Copy, Act, AddCustomer, SetActive, Rent, TakeBack, Pay, Import, Scrap, Command, Stock, Copies, BadLine, Rules}
+use Rattle.shop_model.specs.Values.{Text, Person, Customer, Copy, Act, AddCustomer, SetActive, Rent, TakeBack, Pay, Import, Scrap, Command, Stock, Copies, BadLine, Rules}
 use Rattle.shop_model.specs.Stock.{is_here, in_stock, keeps_out}
 use Rattle.shop_model.specs.Shop.{Kept, Catalogue, Shop, same_command, same_flag}
 use Rattle.shop_model.specs.Verdict.{is_film_withdrawn}
 use Rattle.shop_model.specs.Books.{head}
 use Rattle.shop_types.specs.declared.refusal.BadCsv.{BadCsv}
+use Rattle.shop_types.specs.Verdicts.{seen_kept, seen_post, post_of}
 use Rattle.branch_core.specs.declared.film_copies.FilmCopy.{FilmCopy}
-use Rattle.branch_core.specs.declared.found.KeptFound.{KeptFound}
-use Rattle.branch_core.specs.declared.found.StaffFound.{StaffFound}
 use Rattle.branch_core.specs.declared.found.StockFound.{StockFound}
 use Rattle.branch_core.specs.declared.found.CopyFound.{CopyFound}
 use Rattle.branch_core.specs.declared.found.RentalFound.{RentalFound}
 use Rattle.branch_core.specs.declared.found.Found.{Found}
 
--- ---- the kept row and the member of staff
+-- ---- the kept row
 
--- whether the kept command is the same, and its reply
-abbrev pub seen_kept : KeptFound → Bool × Text
-seen_kept kept = (kept.is_same, kept.reply.now)
-
--- the same of a kept row, for a command that came under its key
+-- whether the kept command is the same, and its reply, for a command that came under its key
 abbrev pub kept_for : Command → Kept → Bool × Text
 kept_for command kept = (same_command kept.command command, kept.reply)
-
--- the branch, and whether the member of staff left
-abbrev pub seen_staff : StaffFound → ℕ × Bool
-seen_staff staff = (staff.branch, staff.gone)
-
-abbrev pub post_of : Staff → ℕ × Bool
-post_of staff = (staff.branch, staff.gone)
 
 -- ---- the stock file
 
@@ -129,7 +117,7 @@ pub record Agrees (rules : Rules) (catalogue : Catalogue) (shop : Shop) (command
   pub kept : option_map seen_kept found.kept ≡ head (map (kept_for command) (filter (λ (k : Kept). bytes_eq k.command.key command.key) shop.kept))
   pub keys : found.keys ≡ length shop.kept
   pub last : found.last ≡ shop.last
-  pub staff : option_map seen_staff found.staff ≡ head (map post_of (at command.staff catalogue.staff))
+  pub staff : option_map seen_post found.staff ≡ head (map post_of (at command.staff catalogue.staff))
   pub city : IfSome (city_in command.act) (λ n. found.has_city ≡ not (lacks catalogue.cities n))
   pub customer : IfSome (customer_in command.act) (λ c. found.customer ≡ active_at c shop)
   pub copy : IfSome (copy_in command.act) (λ x. option_map seen_copy found.copy ≡ copy_at catalogue shop x)

@@ -8,15 +8,16 @@ ghost use Rattle.shop_model.specs.Shop.{Catalogue, Shop};
 ghost use Rattle.shop_model.specs.Verdict.{first, refusals, act_refusals, is_before, is_full, new_copies, staff_is};
 ghost use Rattle.shop_model.specs.Books.{head};
 ghost use Rattle.shop_types.specs.Seen.{seen_act, seen_command};
-ghost use Rattle.branch_core.specs.Agreed.{Agrees, IsWithin, seen_staff, post_of};
+ghost use Rattle.shop_types.specs.Verdicts.{seen_post, post_of};
+ghost use Rattle.branch_core.specs.Agreed.{Agrees, IsWithin};
 ghost use Rattle.branch_core.specs.Decided.{IsDecided, IsActDecided, AreWithin, IsChangeWithin, verdict_before};
 
 use crate::acts::{check_active, check_city, check_payment, check_rent, check_return, check_scrap};
 use crate::stock::{check_stock, new_copies};
-use crate::{Change, Found, Rows, StaffFound};
+use crate::{Change, Found, Rows};
 use shop_types::{
     Act, Amount, BranchNo, Command, CopyNo, Customer, CustomerNo, Limits, Moment, NoMemory,
-    Payment, Person, Refusal, Rental, RentalNo,
+    Payment, Person, Refusal, Rental, RentalNo, StaffFound,
 };
 
 /// The change that a branch's command makes, or the first refusal that holds of it. `Memory` comes only where a customer would be
@@ -114,7 +115,7 @@ fn is_before(moment: Moment, last: Option<Moment>) -> bool
 
 /// Whether there is such a member of staff, who works at the branch and hasn't left.
 fn works_at(staff: Option<StaffFound>, branch: BranchNo) -> bool
-    ensures { (rows : List model.Staff) (n : ℕ) → option_map seen_staff staff ≡ head (map post_of (at n rows))
+    ensures { (rows : List model.Staff) (n : ℕ) → option_map seen_post staff ≡ head (map post_of (at n rows))
         → result ≡ list_any (staff_is branch) (at n rows) }
 {
     match staff {

@@ -1,23 +1,6 @@
 //! What was found of the rows that a command names.
 
-use shop_types::{BadCsv, BranchNo, CopyNo, CustomerNo, FilmNo, Moment, RentalNo};
-
-/// The kept row of the command's key, as compared with the command.
-#[derive(Clone, Copy, Debug)]
-pub struct KeptFound<'a> {
-    /// Whether the kept command is equal to the command.
-    pub is_same: bool,
-    /// The body of the reply that the kept command had.
-    pub reply: &'a str,
-}
-
-/// The member of staff whom the command names.
-#[derive(Clone, Copy, Debug)]
-pub struct StaffFound {
-    pub branch: BranchNo,
-    /// Whether the member of staff left.
-    pub gone: bool,
-}
+use shop_types::{BadCsv, CopyNo, CustomerNo, FilmNo, KeptFound, Moment, RentalNo, StaffFound};
 
 /// A row of the stock file, with what the catalogue says of its film.
 #[derive(Clone, Copy, Debug)]

@@ -12,6 +12,6 @@ mod stock;
 pub use change::{Change, Rows};
 pub use decision::decide;
 pub use film_copies::{FilmCopy, film_in_stock, film_not_in_stock};
-pub use found::{CopyFound, Found, KeptFound, RentalFound, StaffFound, StockFound};
+pub use found::{CopyFound, Found, RentalFound, StockFound};
 pub use rentals::{held_by, in_stock};
 pub use stock::copies_in;

@@ -1,7 +1,6 @@
 -- What is found under a key, by the stored form of the command and by the command itself.
-use Rattle.std.proofs.Common.{◌≡◌, ◌∙◌, refl, sym, ap, ℕ, Bool, true, false, List, [], ◌∷◌, map, filter, cond, Option, Some, None, option_map, Bor}
+use Rattle.std.proofs.Common.{◌≡◌, ◌∙◌, refl, sym, ap, ℕ, Bool, true, false, List, [], ◌∷◌, map, filter, cond, Option, Some, option_map}
 use Rattle.std.specs.Prelude.{◌==◌}
-use Rattle.std.specs.Option.{option_copied}
 use Rattle.std.specs.List.{AllByRecursion}
 use Rattle.std.specs.Str.{bytes_eq}
 use Rattle.std.proofs.lemmas.Slice.Eq.{bytes_eq-Decides}
@@ -13,10 +12,8 @@ use Rattle.shop_model.specs.Books.{head}
 use Rattle.shop_schema.specs.Forms.{command_form}
 use Rattle.shop_schema.specs.RowValues.{IsKept}
 use Rattle.shop_schema.proofs.OneToOne.{forms_are_one_to_one}
-use Rattle.shop_store.specs.declared.kept.KeptRow.{KeptRow}
-use Rattle.shop_store.specs.Seen.{seen_kept, stored_kept}
+use Rattle.shop_store.specs.Seen.{by_form, stored_kept}
 use Rattle.branch_core.specs.Agreed.{kept_for}
-use Rattle.branch_work.specs.Finds.{by_form}
 
 IsReal : Kept → Type 0
 IsReal kept = IsMoment kept.command.moment
@@ -66,8 +63,3 @@ pub kept_told : (b : ℕ) (command : Command) (form : List ℕ) (found : Option 
     → found ≡ head (map stored_kept (filter (λ (k : Kept). bytes_eq k.command.key command.key) (owned_by b rows)))
     → option_map (by_form form) found ≡ head (map (kept_for command) (filter (λ (k : Kept). bytes_eq k.command.key command.key) (owned_by b rows)))
 kept_told b command form found rows is real all told = ap (λ (o : Option (List ℕ × List ℕ)). option_map (by_form form) o) told ∙ first_told command form (owned_by b rows) is real (owned_real b rows all)
-
--- the row that is looked at and the row itself
-pub copied_told : (form : List ℕ) (o : Option (Bor KeptRow)) → option_map (λ (row : Bor KeptRow). by_form form (seen_kept row.now)) o ≡ option_map (by_form form) (option_map seen_kept (option_copied o))
-copied_told form None = refl
-copied_told form (Some row) = refl

@@ -7,25 +7,26 @@ use Rattle.std.specs.Str.{bytes_eq}
 use Rattle.std.specs.List.{list_any}
 use Rattle.shop_model.specs.Calendar.{Moment, same_moment}
 use Rattle.shop_model.specs.Rows.{at, lacks, owned_by}
-use Rattle.shop_model.specs.Values.{Text, Command, Rental, Payment, Ask, FilmInStock, FilmNotInStock}
+use Rattle.shop_model.specs.Values.{Command, Rental, Payment, Ask, FilmInStock, FilmNotInStock}
 use Rattle.shop_model.specs.Verdict.{is_film_withdrawn}
 use Rattle.shop_model.specs.Shop.{Catalogue, Shop}
 use Rattle.shop_model.specs.Stock.{is_here, in_stock, film_in_stock, film_not_in_stock}
 use Rattle.shop_model.specs.Books.{Books, head, unmarked}
+use Rattle.shop_types.specs.declared.found.KeptFound.{KeptFound}
 use Rattle.shop_types.specs.Seen.{seen_payment}
+use Rattle.shop_types.specs.Verdicts.{seen_kept}
 use Rattle.shop_store.specs.declared.copies.CopyRow.{CopyRow}
 use Rattle.shop_store.specs.declared.payments.PaymentRow.{PaymentRow}
 use Rattle.shop_store.specs.Seen.{seen_copy_row}
 use Rattle.stock_csv.specs.declared.StockRow.{StockRow}
 use Rattle.branch_core.specs.declared.found.StockFound.{StockFound}
-use Rattle.branch_core.specs.declared.found.KeptFound.{KeptFound}
 use Rattle.catalogue_store.specs.declared.reads.FilmTerms.{FilmTerms}
 use Rattle.catalogue_store.specs.Seen.{seen_terms, terms_of}
 use Rattle.balance_rule.specs.declared.rows.Paid.{Paid}
 use Rattle.balance_rule.specs.Balance.{amount_of, paid_of}
 use Rattle.balance_rule.specs.Rewards.{is_on, passes}
 use Rattle.branch_work.specs.declared.rewards.PaidSum.{PaidSum}
-use Rattle.branch_core.specs.Agreed.{seen_kept as told, kept_for}
+use Rattle.branch_core.specs.Agreed.{kept_for}
 
 -- the row, with whether the catalogue has its film, and whether that is withdrawn
 abbrev pub found_row : Catalogue → StockRow → StockFound
@@ -48,13 +49,9 @@ told_row row withdrawn = record { film = row.film; copies = row.copies; is_there
 abbrev pub as_listed : StockFound → StockRow
 as_listed found = record { film = found.film; copies = found.copies }
 
--- whether the stored form is this one, and the reply
-abbrev pub by_form : List ℕ → List ℕ × List ℕ → Bool × Text
-by_form form kept = (bytes_eq kept.0 form, kept.1)
-
 -- what was found of the key is what the branch has under it
 abbrev pub IsKeptFor : ℕ → Command → Option KeptFound → Books → Type 0
-IsKeptFor b command kept books = option_map told kept ≡ head (map (kept_for command) (filter (λ it. bytes_eq it.command.key command.key) (owned_by b books.kept)))
+IsKeptFor b command kept books = option_map seen_kept kept ≡ head (map (kept_for command) (filter (λ it. bytes_eq it.command.key command.key) (owned_by b books.kept)))
 
 -- whether there is a rental of the moment, the customer and the copy, where both are named
 abbrev pub has_same : Moment → Option ℕ → Option ℕ → Shop → Bool

@@ -1,46 +1,32 @@
 //! What the tables have of the rows that a command names.
 
-ghost use Rattle.std.specs.Prelude.{◌≡◌, ◌≤◌, not, map, option_map, IfOk, IfSome};
+ghost use Rattle.std.specs.Prelude.{◌≡◌, ◌≤◌, not, map, IfOk, IfSome};
 ghost use Rattle.std.specs.List.{All};
 ghost use Rattle.sqlite.specs.Held.{state};
 ghost use Rattle.sqlite.specs.State.{HasCleanDisk};
 ghost use Rattle.sql_rows.specs.Calls.{StaysWithin};
-ghost use Rattle.shop_model.specs.Rows.{at, lacks, owned_by};
+ghost use Rattle.shop_model.specs.Rows.{lacks, owned_by};
 ghost use Rattle.shop_model.specs.Books.{head, shop_of};
 ghost use Rattle.shop_values.specs.LimitValues as values;
 ghost use Rattle.shop_types.specs.Seen.{seen_act, seen_command};
 ghost use Rattle.shop_schema.specs.Shop.{Reads};
-ghost use Rattle.shop_store.specs.Seen.{seen_kept};
 ghost use Rattle.stock_csv.specs.Stock.{stock_of};
-ghost use Rattle.branch_core.specs.Agreed.{Agrees, ImportAgrees, RowAgrees, IsWithin, active_at, city_in, customer_in, copy_in, rental_in, import_in, seen_kept as told, seen_staff, post_of, seen_stock, copies_of};
+ghost use Rattle.branch_core.specs.Agreed.{Agrees, ImportAgrees, RowAgrees, IsWithin, active_at, city_in, customer_in, copy_in, rental_in, import_in, seen_stock, copies_of};
 ghost use Rattle.branch_work.specs.Rules.{rules_of};
-ghost use Rattle.branch_work.specs.Finds.{as_listed, found_row, told_row, by_form, has_same, IsKeptFor};
+ghost use Rattle.branch_work.specs.Finds.{as_listed, found_row, told_row, has_same, IsKeptFor};
 
 use crate::looking::{find_active, find_copy, find_out, find_rental};
-use branch_core::{Found, KeptFound, StaffFound, StockFound};
+use branch_core::{Found, StockFound};
 use catalogue_store::{film_at, has_city, staff_at};
-use shop_store::{CountKind, KeptRow, count_of, has_lot, has_rental};
+use shop_store::{CountKind, count_of, has_lot, has_rental};
 use shop_types::{
-    Act, BadCsv, BranchNo, CityNo, Command, CopyNo, CustomerNo, Moment, RentalNo, StaffNo,
+    Act, BadCsv, BranchNo, CityNo, Command, CopyNo, CustomerNo, KeptFound, Moment, RentalNo,
     StockFile,
 };
-use sql_rows::{Bytes, StoreFault};
+use sql_rows::StoreFault;
 use sqlite::{Alter, Transaction};
 use std::alloc::Global;
 use stock_csv::{StockFault, StockRow, read_stock};
-
-/// The kept row as it compares with a command of that stored form.
-pub fn kept_found<'a>(kept: Option<&'a KeptRow>, form: &Bytes) -> Option<KeptFound<'a>>
-    ensures { option_map told result ≡ option_map (λ row. by_form form.now (seen_kept row.now)) kept.entry }
-{
-    match kept {
-        Some(row) => Some(KeptFound {
-            is_same: row.form.as_slice() == form.as_slice(),
-            reply: row.reply.as_str(),
-        }),
-        None => None,
-    }
-}
 
 /// The rows that an act names, beside those of an import.
 #[derive(Clone, Copy, Debug)]
@@ -117,7 +103,7 @@ pub fn find<'a, S: Alter>(
 {
     let named = named_in(&command.act);
     let keys = fitting(count_of(tx, branch, CountKind::Kept)?)?;
-    let staff = find_staff(tx, command.staff)?;
+    let staff = staff_at(tx, command.staff)?;
     let has_city = find_city(tx, named.city)?;
     let customer = find_customer(tx, branch, named.customer)?;
     let copy = find_copy(tx, branch, named.copy)?;
@@ -150,25 +136,6 @@ pub fn fitting(count: u32) -> Result<u32, StoreFault>
         Ok(count)
     } else {
         Err(StoreFault::Failed)
-    }
-}
-
-fn find_staff<S: Alter>(
-    tx: &mut Transaction<'_, S>,
-    staff: StaffNo,
-) -> Result<Option<StaffFound>, StoreFault>
-    ensures same_reference { tx.new.conn.ghost_name ≡ tx.old.conn.ghost_name }
-    ensures inside { StaysWithin (state S.Store tx.old.conn.now) (state S.Store tx.new.conn.now) result }
-    ensures found { HasCleanDisk (state S.Store tx.new.conn.now)
-        → IfOk result (λ found. Reads (state S.Store tx.old.conn.now) (state S.Store tx.new.conn.now)
-        (λ books. option_map seen_staff found ≡ head (map post_of (at staff books.catalogue.staff)))) }
-{
-    match staff_at(tx, staff)? {
-        Some(post) => Ok(Some(StaffFound {
-            branch: post.branch,
-            gone: post.gone,
-        })),
-        None => Ok(None),
     }
 }
 

@@ -24,14 +24,14 @@ ghost use Rattle.branch_work.specs.Finds.{stock_asked, stock_listed};
 ghost use Rattle.branch_work.specs.Works.{IsDone, Works, WorksFor, IsAdded};
 
 use crate::adding::{add_rows, keep};
-use crate::finding::{find, kept_found};
+use crate::finding::find;
 use crate::looking::{find_here, find_holder, find_of_film};
 use crate::reports::{look_balance, look_overdue, look_rewards};
 use branch_core::{Change, FilmCopy, Rows, decide, film_in_stock, film_not_in_stock};
 use catalogue_store::{film_at, film_row};
 use reply_bodies::{copies_text, customer_text, film_text, holder_text, in_stock_text};
 use shop_schema::{command_form, command_values};
-use shop_store::{customer_at, kept_at, last_at, out_at};
+use shop_store::{customer_at, kept_at, kept_found, last_at, out_at};
 use shop_types::{
     Ask, BranchNo, Command, CopyNo, CustomerNo, FilmNo, Limits, Moment, NoMemory, Refusal, Reply,
     Request, View,

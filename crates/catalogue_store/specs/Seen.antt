@@ -3,9 +3,8 @@ use Rattle.std.specs.Prelude.{◌≡◌, ℕ, Bool, List, [], ◌∷◌, Option,
 use Rattle.sqlite_value.specs.Order as sql
 use Rattle.sqlite_value.specs.Order.{column}
 use Rattle.sql_rows.specs.Rows.{number_value}
-use Rattle.shop_model.specs.Values.{Text, Film, Branch, Staff}
+use Rattle.shop_model.specs.Values.{Text, Film, Branch}
 use Rattle.shop_model.specs.Books.{Caller, Counter, Nobody}
-use Rattle.catalogue_store.specs.declared.reads.StaffPost.{StaffPost}
 use Rattle.shop_types.specs.Seen.{seen_film}
 use Rattle.catalogue_store.specs.declared.reads.FilmTerms.{FilmTerms}
 use Rattle.catalogue_store.specs.declared.films.FilmRow.{FilmRow}
@@ -14,13 +13,6 @@ use Rattle.catalogue_store.specs.declared.films.FilmRow.{FilmRow}
 abbrev pub branch_caller : Option ℕ → Caller
 branch_caller None = Nobody
 branch_caller (Some branch) = Counter branch
-
--- the branch, and whether the member of staff left
-abbrev pub seen_post : StaffPost → ℕ × Bool
-seen_post post = (post.branch, post.gone)
-
-abbrev pub post_of : Staff → ℕ × Bool
-post_of staff = (staff.branch, staff.gone)
 
 abbrev pub withdrawn_of : Film → Bool
 withdrawn_of film = film.withdrawn

@@ -7,23 +7,16 @@ ghost use Rattle.sqlite_value.specs.Order.{column};
 ghost use Rattle.sql_rows.specs.Calls.{StaysInside};
 ghost use Rattle.shop_model.specs.Rows.{at};
 ghost use Rattle.shop_model.specs.Books.{head, branch_with};
+ghost use Rattle.shop_types.specs.Verdicts.{seen_post, post_of};
 ghost use Rattle.shop_schema.specs.Shop.{Reads};
-ghost use Rattle.catalogue_store.specs.Seen.{branch_caller, seen_post, post_of, withdrawn_of, seen_terms, terms_of, title_of, manager_of};
+ghost use Rattle.catalogue_store.specs.Seen.{branch_caller, withdrawn_of, seen_terms, terms_of, title_of, manager_of};
 
 use crate::columns::{days_at, rate_at};
 use shop_schema::{row_number_at, row_number_or_null_at, text_at};
-use shop_types::{BranchNo, FilmNo, Rate, StaffNo, T128, Token};
+use shop_types::{BranchNo, FilmNo, Rate, StaffFound, StaffNo, T128, Token};
 use sql_rows::{StoreFault, flag_at, query, words_at};
 use sqlite::types::ToSql;
 use sqlite::{Alter, Row, Transaction};
-
-/// Where a member of staff works, or worked before leaving.
-#[derive(Clone, Copy, Debug, PartialEq, Eq)]
-pub struct StaffPost {
-    pub branch: BranchNo,
-    /// Whether the member of staff left.
-    pub gone: bool,
-}
 
 /// By what a rental of a film is charged.
 #[derive(Clone, Copy, Debug, PartialEq, Eq)]
@@ -124,11 +117,11 @@ pub fn branch_at<S: Alter>(
     }
 }
 
-/// Where the member of staff of the number works.
+/// Where the member of staff of the number works, or worked before leaving.
 pub fn staff_at<S: Alter>(
     tx: &mut Transaction<'_, S>,
     staff: StaffNo,
-) -> Result<Option<StaffPost>, StoreFault>
+) -> Result<Option<StaffFound>, StoreFault>
     ensures same_reference { tx.new.conn.ghost_name ≡ tx.old.conn.ghost_name }
     ensures inside { StaysInside (state S.Store tx.old.conn.now) (state S.Store tx.new.conn.now) result }
     ensures found { HasCleanDisk (state S.Store tx.new.conn.now)
@@ -142,7 +135,7 @@ pub fn staff_at<S: Alter>(
     )?;
     match rows.first() {
         None => Ok(None),
-        Some(row) => Ok(Some(StaffPost {
+        Some(row) => Ok(Some(StaffFound {
             branch: row_number_at(row, 0)?,
             gone: flag_at(row, 1)?,
         })),

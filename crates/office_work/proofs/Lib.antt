@@ -1,4 +1,3 @@
 pub mod Written
 pub mod Readings
-pub mod Kepts
 pub mod Doing

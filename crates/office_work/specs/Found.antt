@@ -1,8 +1,8 @@
 -- What is found of the rows that a command of head office names.
-use Rattle.std.specs.Prelude.{◌≡◌, ℕ, Bool, List, map, filter, Option, option_map}
+use Rattle.std.specs.Prelude.{◌≡◌, map, filter, Option, option_map}
 use Rattle.std.specs.Str.{bytes_eq}
 use Rattle.sqlite.specs.State.{State}
-use Rattle.shop_model.specs.Values.{Text, OfficeAct, OfficeCommand}
+use Rattle.shop_model.specs.Values.{OfficeAct, OfficeCommand}
 use Rattle.shop_model.specs.Shop.{OfficeKept}
 use Rattle.shop_model.specs.Books.{Books, head}
 use Rattle.shop_types.specs.declared.found.KeptFound.{KeptFound}
@@ -12,10 +12,6 @@ use Rattle.catalogue_core.specs.declared.shared.Shared.{Shared}
 use Rattle.catalogue_core.specs.declared.shared.SharedRows.{SharedRows}
 use Rattle.catalogue_core.specs.Shares.{ActShares, kept_for}
 use Rattle.office_work.specs.declared.finding.SharedFound.{SharedFound}
-
--- whether the stored form is this one, and the reply
-abbrev pub by_form : List ℕ → List ℕ × List ℕ → Bool × Text
-by_form form kept = (bytes_eq kept.0 form, kept.1)
 
 -- what was found of the key is what head office has under it
 abbrev pub IsKeptFor : OfficeCommand → Option KeptFound → Books → Type 0

@@ -1,42 +1,27 @@
 //! What the tables have of the shared rows that a command of head office names.
 
-ghost use Rattle.std.specs.Prelude.{◌≡◌, map, option_map, IfOk};
+ghost use Rattle.std.specs.Prelude.{◌≡◌, option_map, IfOk};
 ghost use Rattle.sqlite.specs.Held.{state};
 ghost use Rattle.sqlite.specs.State.{HasCleanDisk};
 ghost use Rattle.sql_rows.specs.Calls.{StaysWithin};
 ghost use Rattle.shop_model.specs.Values as model;
 ghost use Rattle.shop_types.specs.Seen.{seen_city, seen_film, seen_branch, seen_staff, seen_office_act, seen_office};
-ghost use Rattle.shop_types.specs.Verdicts.{seen_kept as told, seen_post};
 ghost use Rattle.shop_schema.specs.Shop.{Reads};
-ghost use Rattle.shop_store.specs.Seen.{seen_kept};
-ghost use Rattle.catalogue_core.specs.Shares.{Shares, seen_branch_found, branch_at as branch_in, staff_at as staff_in, film_at as film_in};
-ghost use Rattle.office_work.specs.Found.{by_form, shared_of, IsKeptFor, FindsFor};
+ghost use Rattle.catalogue_core.specs.Shares.{Shares, seen_branch_found, branch_at as branch_in, film_at as film_in};
+ghost use Rattle.office_work.specs.Found.{shared_of, IsKeptFor, FindsFor};
 
 use catalogue_core::{BranchFound, SharedRows};
 use catalogue_store::{
     branch_at, film_at, has_actor, has_cast, has_category, has_city, has_country, has_language,
     has_token, is_category, is_country, is_language, office_token, staff_at,
 };
-use shop_store::{KeptRow, office_keys};
+use shop_store::office_keys;
 use shop_types::{
-    ActorNo, Branch, BranchNo, City, Film, FilmNo, KeptFound, OfficeAct, OfficeCommand, Staff,
-    StaffFound, StaffNo, T45, Token,
+    ActorNo, Branch, BranchNo, City, Film, FilmNo, OfficeAct, OfficeCommand, Staff, StaffNo, T45,
+    Token,
 };
-use sql_rows::{Bytes, StoreFault};
+use sql_rows::StoreFault;
 use sqlite::{Alter, Transaction};
-
-/// The kept row as it compares with a command of that stored form.
-pub fn kept_found<'a>(kept: Option<&'a KeptRow>, form: &Bytes) -> Option<KeptFound<'a>>
-    ensures { option_map told result ≡ option_map (λ row. by_form form.now (seen_kept row.now)) kept.entry }
-{
-    match kept {
-        Some(row) => Some(KeptFound {
-            is_same: row.form.as_slice() == form.as_slice(),
-            reply: row.reply.as_str(),
-        }),
-        None => None,
-    }
-}
 
 /// Head office's count and token, and the rows that its command names.
 #[derive(Clone, Copy, Debug)]
@@ -248,7 +233,7 @@ fn for_leave<S: Alter>(
     ensures found { HasCleanDisk (state S.Store tx.new.conn.now) → IfOk result (λ rows.
         FindsFor (model.StaffLeaves staff) rows (state S.Store tx.old.conn.now) (state S.Store tx.new.conn.now)) }
 {
-    let staff = find_staff(tx, staff)?;
+    let staff = staff_at(tx, staff)?;
     Ok(SharedRows {
         staff,
         ..SharedRows::none()
@@ -267,7 +252,7 @@ fn for_manager<S: Alter>(
         FindsFor (model.SetManager branch staff) rows (state S.Store tx.old.conn.now) (state S.Store tx.new.conn.now)) }
 {
     let managed = find_branch(tx, branch)?;
-    let manager = find_staff(tx, staff)?;
+    let manager = staff_at(tx, staff)?;
     Ok(SharedRows {
         branch: managed,
         staff: manager,
@@ -288,25 +273,6 @@ fn find_branch<S: Alter>(
 {
     match branch_at(tx, branch)? {
         Some(manager) => Ok(Some(BranchFound { manager })),
-        None => Ok(None),
-    }
-}
-
-/// The member of staff of the number.
-fn find_staff<S: Alter>(
-    tx: &mut Transaction<'_, S>,
-    staff: StaffNo,
-) -> Result<Option<StaffFound>, StoreFault>
-    ensures same_reference { tx.new.conn.ghost_name ≡ tx.old.conn.ghost_name }
-    ensures inside { StaysWithin (state S.Store tx.old.conn.now) (state S.Store tx.new.conn.now) result }
-    ensures found { HasCleanDisk (state S.Store tx.new.conn.now) → IfOk result (λ found.
-        Reads (state S.Store tx.old.conn.now) (state S.Store tx.new.conn.now) (λ books. option_map seen_post found ≡ staff_in books.catalogue staff)) }
-{
-    match staff_at(tx, staff)? {
-        Some(post) => Ok(Some(StaffFound {
-            branch: post.branch,
-            gone: post.gone,
-        })),
         None => Ok(None),
     }
 }

@@ -16,10 +16,10 @@ ghost use Rattle.shop_schema.specs.Forms.{office_command_form};
 ghost use Rattle.office_work.specs.Works.{Works};
 
 use crate::adding::add;
-use crate::finding::{find, kept_found};
+use crate::finding::find;
 use catalogue_core::{OfficeChange, Shared, decide_office};
 use shop_schema::office_form;
-use shop_store::office_kept_at;
+use shop_store::{kept_found, office_kept_at};
 use shop_types::{Limits, OfficeCommand, Refusal, Reply};
 use sql_rows::{Bytes, StoreFault};
 use sqlite::{Alter, Transaction};

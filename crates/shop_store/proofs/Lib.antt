@@ -5,6 +5,7 @@ pub mod OnCustomers
 pub mod OnCopies
 pub mod BranchTexts
 pub mod KeptTexts
+pub mod KeptLemmas
 pub mod OnRentals
 pub mod SameRentals
 pub mod OnPayments

@@ -1,8 +1,9 @@
 -- What a row means.
-use Rattle.std.specs.Prelude.{ℕ, List, None}
+use Rattle.std.specs.Prelude.{ℕ, Bool, List, None}
+use Rattle.std.specs.Str.{bytes_eq}
 use Rattle.shop_model.specs.Rows.{Row}
 use Rattle.shop_model.specs.Values as model
-use Rattle.shop_model.specs.Values.{Customer, Rental, Payment}
+use Rattle.shop_model.specs.Values.{Text, Customer, Rental, Payment}
 use Rattle.shop_model.specs.Shop.{Kept, OfficeKept}
 use Rattle.shop_model.specs.Books as books
 use Rattle.shop_model.specs.Books.{BookCopy}
@@ -42,6 +43,10 @@ stored_kept kept = (command_form kept.command, kept.reply)
 
 abbrev pub stored_office_kept : OfficeKept → List ℕ × List ℕ
 stored_office_kept kept = (office_command_form kept.command, kept.reply)
+
+-- whether the stored form is this one, and the reply
+abbrev pub by_form : List ℕ → List ℕ × List ℕ → Bool × Text
+by_form form kept = (bytes_eq kept.0 form, kept.1)
 
 -- a rental of a branch, with the number
 abbrev pub seen_rental_row : RentalRow → Row Rental

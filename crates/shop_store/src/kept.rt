@@ -6,11 +6,12 @@ ghost use Rattle.sql_rows.specs.Calls.{StaysInside};
 ghost use Rattle.shop_model.specs.Rows.{owned_by};
 ghost use Rattle.shop_model.specs.Values as model;
 ghost use Rattle.shop_model.specs.Books.{head};
+ghost use Rattle.shop_types.specs.Verdicts.{seen_kept as told};
 ghost use Rattle.shop_schema.specs.Forms.{command_form, office_command_form};
 ghost use Rattle.shop_schema.specs.Shop.{Reads, Writes};
-ghost use Rattle.shop_store.specs.Seen.{seen_kept, stored_kept, stored_office_kept};
+ghost use Rattle.shop_store.specs.Seen.{seen_kept, by_form, stored_kept, stored_office_kept};
 
-use shop_types::{BranchNo, Key};
+use shop_types::{BranchNo, KeptFound, Key};
 use sql_rows::{Bytes, StoreFault, Words, bytes_at, execute, query, words_at};
 use sqlite::types::ToSql;
 use sqlite::{Alter, Transaction};
@@ -20,6 +21,19 @@ use sqlite::{Alter, Transaction};
 pub struct KeptRow {
     pub form: Bytes,
     pub reply: Words,
+}
+
+/// The kept row as it compares with a command of that stored form.
+pub fn kept_found<'a>(kept: Option<&'a KeptRow>, form: &Bytes) -> Option<KeptFound<'a>>
+    ensures { option_map told result ≡ option_map (λ row. by_form form.now (seen_kept row.now)) kept.entry }
+{
+    match kept {
+        Some(row) => Some(KeptFound {
+            is_same: row.form.as_slice() == form.as_slice(),
+            reply: row.reply.as_str(),
+        }),
+        None => None,
+    }
 }
 
 /// What is kept under the key of a caller: of a branch by its number, or of head office, which is 0.

@@ -19,7 +19,7 @@ pub use counts::{
     rentals_out, take_number, take_numbers,
 };
 pub use customers::{CustomerRow, customer_at, put_customer, set_active};
-pub use kept::{KeptRow, kept_at, office_kept_at, put_kept, put_office_kept};
+pub use kept::{KeptRow, kept_at, kept_found, office_kept_at, put_kept, put_office_kept};
 pub use payments::{PaymentRow, payments_between, payments_of_customer, put_payment};
 pub use rentals::{
     RentalRow, has_rental, put_rental, rental_at, rentals_of_customer, set_returned,

@@ -10,12 +10,12 @@ use Rattle.branch_core.specs.Decided.{IsDecided}
 use Rattle.branch_core.specs.declared.change.Change.{Change}
 use Rattle.branch_core.specs.declared.change.Change.TheVariants as change
 use Rattle.shop_store.specs.declared.kept.KeptRow.{KeptRow}
-use Rattle.shop_store.specs.Seen.{seen_kept}
-use Rattle.branch_work.specs.Finds.{by_form}
+use Rattle.shop_store.specs.Seen.{seen_kept, by_form}
+use Rattle.shop_store.proofs.KeptLemmas.{copied_told}
 use Rattle.branch_work.specs.Rules.{rules_of}
 use Rattle.sql_rows.proofs.Stays.{within_of, within_as, within_err, within_then}
 use Rattle.branch_work.proofs.Doing.{again_done, accepted_done, refused_done}
-use Rattle.branch_work.proofs.Kepts.{kept_told, copied_told}
+use Rattle.branch_work.proofs.Kepts.{kept_told}
 use Rattle.branch_work.proofs.working.act.Goals as goal
 
 abbrev known : Change → Result Change Refusal

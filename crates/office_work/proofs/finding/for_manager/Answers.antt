@@ -8,7 +8,7 @@ pub returns-clause-found : goal.returns-clause-found
 returns-clause-found g c = λ clean.
     let s0 = state g.S.Store c.args.tx.now.conn.now in
     let s1 = state g.S.Store c.find_branch.new.tx.conn.now in
-    let s2 = state g.S.Store c.find_staff.new.tx.conn.now in
-    let clean1 : HasCleanDisk s1 = omega (arith, clean, c.find_staff.ensures.inside.survives.clean) in
+    let s2 = state g.S.Store c.staff_at.new.tx.conn.now in
+    let clean1 : HasCleanDisk s1 = omega (arith, clean, c.staff_at.ensures.inside.survives.clean) in
     reads_as s0 s2 _ _ (λ books held is. record { branch = is.0; staff = is.1 })
     (reads_then s0 s1 s2 _ _ (c.in_ok-managed.ensures.found clean1) (c.in_ok-manager.ensures.found clean))

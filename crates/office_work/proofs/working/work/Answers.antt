@@ -9,12 +9,11 @@ use Rattle.catalogue_core.specs.Decided.{IsDecided}
 use Rattle.catalogue_core.specs.declared.decision.OfficeChange.{OfficeChange}
 use Rattle.catalogue_core.specs.declared.decision.OfficeChange.TheVariants as change
 use Rattle.shop_store.specs.declared.kept.KeptRow.{KeptRow}
-use Rattle.shop_store.specs.Seen.{seen_kept}
+use Rattle.shop_store.specs.Seen.{seen_kept, by_form}
+use Rattle.shop_store.proofs.KeptLemmas.{copied_told}
 use Rattle.shop_schema.proofs.OfficeOneToOne.{office_told}
 use Rattle.sql_rows.proofs.Stays.{within_of, inside_then, inside_as}
-use Rattle.office_work.specs.Found.{by_form}
 use Rattle.office_work.proofs.Readings.{inside_err}
-use Rattle.office_work.proofs.Kepts.{copied_told}
 use Rattle.office_work.proofs.Doing.{again_done, accepted_done, refused_done}
 use Rattle.office_work.proofs.working.work.Goals as goal
 
