@@ -1,32 +1,19 @@
 -- What is found of the rows that a command names.
-use Rattle.std.specs.Prelude.{◌≡◌, ◌≤◌, ℕ, ◌+◌, ◌*◌, zero, suc, ℤ, [], ◌∷◌, ◌++◌, ◌==◌, ◌&&◌, Bool, true, false, not, is_some, List, length, sum_by, map, filter, flat_map, Option, Some, None, option_map}
-use Rattle.std.specs.Option.{IfSome}
-use Rattle.std.specs.Ordering.{nat_cmp}
-use Rattle.std.specs.BTreeMap.{BTreeMap, get}
+use Rattle.std.specs.Prelude.{◌≡◌, ℕ, ◌==◌, ◌&&◌, Bool, false, not, is_some, map, filter, Option, Some, option_map}
 use Rattle.std.specs.Str.{bytes_eq}
 use Rattle.std.specs.List.{list_any}
 use Rattle.shop_model.specs.Calendar.{Moment, same_moment}
-use Rattle.shop_model.specs.Rows.{at, lacks, owned_by}
-use Rattle.shop_model.specs.Values.{Command, Rental, Payment, Ask, FilmInStock, FilmNotInStock}
+use Rattle.shop_model.specs.Rows.{lacks, owned_by}
+use Rattle.shop_model.specs.Values.{Command, Rental}
 use Rattle.shop_model.specs.Verdict.{is_film_withdrawn}
 use Rattle.shop_model.specs.Shop.{Catalogue, Shop}
-use Rattle.shop_model.specs.Stock.{is_here, in_stock, film_in_stock, film_not_in_stock}
-use Rattle.shop_model.specs.Books.{Books, head, unmarked}
+use Rattle.shop_model.specs.Books.{Books, head}
 use Rattle.shop_types.specs.declared.found.KeptFound.{KeptFound}
-use Rattle.shop_types.specs.Seen.{seen_payment}
 use Rattle.shop_types.specs.Verdicts.{seen_kept}
-use Rattle.shop_store.specs.declared.copies.CopyRow.{CopyRow}
-use Rattle.shop_store.specs.declared.payments.PaymentRow.{PaymentRow}
-use Rattle.shop_store.specs.Seen.{seen_copy_row}
 use Rattle.stock_csv.specs.declared.StockRow.{StockRow}
 use Rattle.branch_core.specs.declared.found.StockFound.{StockFound}
-use Rattle.catalogue_store.specs.declared.reads.FilmTerms.{FilmTerms}
-use Rattle.catalogue_store.specs.Seen.{seen_terms, terms_of}
-use Rattle.balance_rule.specs.declared.rows.Paid.{Paid}
-use Rattle.balance_rule.specs.Balance.{amount_of, paid_of}
-use Rattle.balance_rule.specs.Rewards.{is_on, passes}
-use Rattle.branch_work.specs.declared.rewards.PaidSum.{PaidSum}
 use Rattle.branch_core.specs.Agreed.{kept_for}
+use Rattle.branch_looks.specs.Finds.{is_yes}
 
 -- the row, with whether the catalogue has its film, and whether that is withdrawn
 abbrev pub found_row : Catalogue → StockRow → StockFound
@@ -38,10 +25,6 @@ found_row catalogue row = record {
 }
 
 -- the row, by whether its film is withdrawn, where there is such a film
-abbrev pub is_yes : Option Bool → Bool
-is_yes None = false
-is_yes (Some b) = b
-
 abbrev pub told_row : StockRow → Option Bool → StockFound
 told_row row withdrawn = record { film = row.film; copies = row.copies; is_there = is_some withdrawn; is_withdrawn = is_yes withdrawn }
 
@@ -57,74 +40,3 @@ IsKeptFor b command kept books = option_map seen_kept kept ≡ head (map (kept_f
 abbrev pub has_same : Moment → Option ℕ → Option ℕ → Shop → Bool
 has_same moment (Some c) (Some x) shop = list_any (λ (it : Rental). same_moment it.rented moment && it.copy == x && it.customer == c) shop.rentals
 has_same moment c x shop = false
-
--- ---- the copies of a film
-
--- a copy's number, whether it is here, and whether it is in stock by the rentals of the branch
-abbrev pub copy_shown : List Rental → CopyRow → ℕ × Bool × Bool
-copy_shown rentals row = (row.number, is_here (unmarked (seen_copy_row row).it), in_stock row.number rentals)
-
--- the copies that are asked for: those in stock, or those that aren't
-abbrev pub stock_asked : Bool → ℕ → Ask
-stock_asked true film = FilmInStock film
-stock_asked false film = FilmNotInStock film
-
-abbrev pub stock_listed : Bool → ℕ → Shop → List ℕ
-stock_listed true film shop = film_in_stock film shop
-stock_listed false film shop = film_not_in_stock film shop
-
--- ---- balances
-
--- what is known of films is what the catalogue has of them
-abbrev pub AreKnown : BTreeMap ℕ FilmTerms → Catalogue → Type 0
-AreKnown known catalogue = (film : ℕ) → IfSome (get nat_cmp known film) (λ terms. Some (seen_terms terms) ≡ head (map terms_of (at film catalogue.films)))
-
--- ---- overdue rentals
-
--- the rentals of the numbers, in the order of these
-abbrev pub rentals_at : List ℕ → List Rental → List Rental
-rentals_at numbers rentals = flat_map (λ n. at n rentals) numbers
-
--- ---- rewards
-
--- the numbers from 1 to n
-abbrev pub numbers_to : ℕ → List ℕ
-numbers_to zero = []
-numbers_to (suc n) = numbers_to n ++ suc n ∷ []
-
--- the payments of rows
-abbrev pub payments_of : List PaymentRow → List Payment
-payments_of rows = map (λ row. seen_payment row.payment) rows
-
--- the payment is of a day of the month
-abbrev pub is_paid_in : ℤ × ℤ → Payment → Bool
-is_paid_in month payment = is_on month (paid_of payment)
-
--- the customer's payments pass both thresholds in the month
-abbrev pub passes_for : ℤ × ℤ → ℕ → ℕ → List Payment → ℕ → Bool
-passes_for month purchases cents payments c = passes month purchases cents (map paid_of (filter (λ (it : Payment). it.customer == c) payments))
-
--- the customer's payments in the month
-abbrev pub paid_in : ℤ × ℤ → ℕ → List Payment → List Paid
-paid_in month c payments = filter (is_on month) (map paid_of (filter (λ (it : Payment). it.customer == c) payments))
-
--- a sum, or none paid
-abbrev pub sum_or_none : Option PaidSum → PaidSum
-sum_or_none None = record { purchases = 0; cents = 0 }
-sum_or_none (Some sum) = sum
-
--- a payment more
-abbrev pub one_paid : ℕ → Option PaidSum → PaidSum
-one_paid amount sum = record { purchases = (sum_or_none sum).purchases + 1; cents = (sum_or_none sum).cents + amount }
-
--- each customer's sum is of the customer's payments in the month
-abbrev pub AreSummed : ℤ × ℤ → BTreeMap ℕ PaidSum → List Payment → Type 0
-AreSummed month sums payments = (c : ℕ) → sum_or_none (get nat_cmp sums c) ≡ record { purchases = length (paid_in month c payments); cents = sum_by amount_of (paid_in month c payments) }
-
--- no sum is of more than so many payments, each of at most 999.99
-abbrev pub AreSmall : ℕ → BTreeMap ℕ PaidSum → Type 0
-AreSmall n sums = (c : ℕ) → IfSome (get nat_cmp sums c) (λ sum. (sum.purchases ≤ n) × (sum.cents ≤ 99999 * n))
-
--- of so many customers, those for whom that is so
-abbrev pub rewarded_numbers : ℤ × ℤ → ℕ → ℕ → ℕ → List Payment → List ℕ
-rewarded_numbers month purchases cents n payments = filter (passes_for month purchases cents payments) (numbers_to n)

@@ -1,5 +1,5 @@
 -- What a branch's request does inside one transaction.
-use Rattle.std.specs.Prelude.{◌≡◌, ℕ, Bool, false, Option, IfSome}
+use Rattle.std.specs.Prelude.{◌≡◌, ℕ, Bool, false, Option}
 use Rattle.sqlite.specs.State.{State}
 use Rattle.shop_values.specs.LimitValues.{Limits}
 use Rattle.shop_model.specs.Calendar.{Moment}
@@ -40,10 +40,10 @@ IsWorked limits b request (Shows view) new books = (request ≡ Look (OneView (s
 abbrev pub Works : Limits → ℕ → Request → Worked → State → State → Type 0
 Works limits b request worked old new = (books : Books) → Holds old books → IsHeld books → IsWorked limits b request worked new books
 
--- the same of a branch that is there, whose last moment was found where one is given
-abbrev pub WorksFor : Limits → ℕ → Option (Option Moment) → Request → Answer → Bool → State → State → Type 0
+-- the same of a branch that is there and has that last moment
+abbrev pub WorksFor : Limits → ℕ → Option Moment → Request → Answer → Bool → State → State → Type 0
 WorksFor limits b last request answer is_changed old new =
-    (books : Books) → Holds old books → IsHeld books → lacks books.catalogue.branches b ≡ false → IfSome last (λ moment. moment ≡ head (owned_by b books.lasts)) → IsDone limits b request answer is_changed new books
+    (books : Books) → Holds old books → IsHeld books → lacks books.catalogue.branches b ≡ false → last ≡ head (owned_by b books.lasts) → IsDone limits b request answer is_changed new books
 
 -- with the rows of an accepted command the tables come to stand for the books after it, and the reply is its own
 abbrev pub IsAdded : Limits → ℕ → Command → Rows → Answer → State → State → Type 0

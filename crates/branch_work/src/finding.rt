@@ -15,8 +15,8 @@ ghost use Rattle.branch_core.specs.Agreed.{Agrees, ImportAgrees, RowAgrees, IsWi
 ghost use Rattle.branch_work.specs.Rules.{rules_of};
 ghost use Rattle.branch_work.specs.Finds.{as_listed, found_row, told_row, has_same, IsKeptFor};
 
-use crate::looking::{find_active, find_copy, find_out, find_rental};
 use branch_core::{Found, StockFound};
+use branch_looks::{find_active, find_copy, find_out, find_rental};
 use catalogue_store::{film_at, has_city, staff_at};
 use shop_store::{CountKind, count_of, has_lot, has_rental};
 use shop_types::{

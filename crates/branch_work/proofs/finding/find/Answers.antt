@@ -10,7 +10,7 @@ use Rattle.shop_model.specs.Books.{shop_of}
 use Rattle.shop_types.specs.Seen.{seen_act}
 use Rattle.branch_core.specs.Agreed.{active_at, copy_at, rental_at, seen_copy, seen_rental, IsOut, customer_in, copy_in, has_same_rental}
 use Rattle.branch_work.specs.Finds.{has_same}
-use Rattle.branch_work.proofs.Readings.{reads_then, reads_as}
+use Rattle.branch_looks.proofs.Readings.{reads_then, reads_as}
 use Rattle.branch_work.proofs.finding.find.Goals as goal
 
 -- of the acts only a rental names both a customer and a copy

@@ -8,7 +8,7 @@ use Rattle.shop_types.specs.declared.command.Act.{Act}
 use Rattle.shop_types.specs.Seen.{seen_act}
 use Rattle.branch_core.specs.Agreed.{ImportAgrees, import_in}
 use Rattle.branch_work.specs.Rules.{rules_of}
-use Rattle.branch_work.proofs.Readings.{reads_then, reads_as}
+use Rattle.branch_looks.proofs.Readings.{reads_then, reads_as}
 use Rattle.branch_work.proofs.finding.find_import.Goals as goal
 
 pub returns-clause-found : goal.returns-clause-found

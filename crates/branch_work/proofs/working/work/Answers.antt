@@ -32,13 +32,16 @@ returns-in-View-clause-works g c = λ clean books holds held.
 
 pub returns-in_ok-look-in-Look-clause-works : goal.returns-in_ok-look-in-Look-clause-works
 returns-in_ok-look-in-Look-clause-works g c = λ clean books holds held.
+    let b = c.args.branch in
     let s1 = state g.S.Store c.last_at.new.tx.conn.now in
     let s2 = state g.S.Store c.look.new.tx.conn.now in
     let before : HasCleanDisk s1 = omega (arith, clean, c.look.ensures.inside.survives.clean) in
     let found = c.in_ok-last.ensures.found before books holds held in
     let there = is_there _ _ _ (sym c.in-Some.is ∙ found.1) in
-    let P : Request → Type 0 = λ it. IsDone c.args.limits c.args.branch (seen_request it) (seen_reply c.in_ok-look-in-Look.field-0) false s2 books in
-    subst P (sym c.in-Look.is) (c.in_ok-look-in-Look.ensures.works clean c.args.limits books found.0 held there.0 tt)
+    let shown = c.in_ok-look-in-Look.ensures.shown clean books found.0 held in
+    let answer = seen_reply c.in_ok-look-in-Look.field-0 in
+    let P : Request → Type 0 = λ it. IsDone c.args.limits b (seen_request it) answer false s2 books in
+    subst P (sym c.in-Look.is) (kept_done c.args.limits b books (seen_request (request.Look c.in-Look.ask.now)) answer false s2 there.0 refl shown.1 shown.0)
 
 pub returns-in-Office-clause-works : goal.returns-in-Office-clause-works
 returns-in-Office-clause-works g c = λ clean books holds held.

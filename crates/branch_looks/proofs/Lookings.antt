@@ -1,0 +1,38 @@
+-- What is found of one row tells what the books have of it.
+use Rattle.std.proofs.Common.{◌≡◌, ◌∙◌, ap, sym, ℕ, Bool, List, map, Option, Some, None, option_map}
+use Rattle.std.specs.Option.{option_to_list}
+use Rattle.shop_model.specs.Rows.{at}
+use Rattle.shop_model.specs.Values.{Copy}
+use Rattle.shop_model.specs.Shop.{Catalogue}
+use Rattle.shop_model.specs.Stock.{is_here}
+use Rattle.shop_model.specs.Verdict.{is_film_withdrawn}
+use Rattle.catalogue_store.specs.Seen.{withdrawn_of}
+use Rattle.branch_looks.specs.Finds.{is_yes}
+use Rattle.branch_looks.proofs.Readings.{at_most_one}
+use Rattle.shop_model.specs.Books.{BookCopy, head, unmarked}
+use Rattle.shop_model.proofs.RowLemmas.{map_map, map_at}
+use Rattle.shop_store.specs.Seen.{seen_copy_row}
+use Rattle.shop_store.specs.declared.copies.CopyRow.{CopyRow}
+
+pub head_of : {X Y Z : Type 0} (f : X → Y) (g : Y → Z) (o : Option X) (l : List Y) → option_to_list (option_map f o) ≡ l → option_map (λ x. g (f x)) o ≡ head (map g l)
+head_of f g None l is = ap (λ l. head (map g l)) is
+head_of f g (Some x) l is = ap (λ l. head (map g l)) is
+
+-- a copy that was found, as a branch's shop has it
+pub copy_in_shop : {Z : Type 0} (g : Copy → Z) (n : ℕ) (o : Option CopyRow) (copies : List BookCopy) → option_to_list (option_map (λ (x : CopyRow). (seen_copy_row x).it) o) ≡ at n copies
+    → option_map (λ (x : CopyRow). g (unmarked (seen_copy_row x).it)) o ≡ head (map g (at n (map unmarked copies)))
+copy_in_shop g n o copies is =
+    head_of (λ (x : CopyRow). (seen_copy_row x).it) (λ (it : BookCopy). g (unmarked it)) o (at n copies) is
+    ∙ ap head (sym (map_map g unmarked (at n copies)) ∙ ap (map g) (map_at unmarked n copies))
+
+-- the copy, and whether its film is withdrawn
+pub copy_told : (catalogue : Catalogue) (n : ℕ) (o : Option CopyRow) (row : CopyRow) (copies : List BookCopy) (withdrawn : Option Bool) → o ≡ Some row
+    → option_to_list (option_map (λ (x : CopyRow). (seen_copy_row x).it) o) ≡ at n copies → withdrawn ≡ head (map withdrawn_of (at row.film catalogue.films))
+    → ◌≡◌ {A = Option (Bool × Bool)} (Some (is_here (unmarked (seen_copy_row row).it), is_yes withdrawn))
+    (head (map (λ (it : Copy). let p : Bool × Bool = (is_here it, is_film_withdrawn catalogue it.film) in p) (at n (map unmarked copies))))
+copy_told catalogue n o row copies withdrawn found is told =
+    let shows : CopyRow → Bool × Bool = λ x. (is_here (unmarked (seen_copy_row x).it), is_film_withdrawn catalogue x.film) in
+    let film : is_yes withdrawn ≡ is_film_withdrawn catalogue row.film = ap is_yes told ∙ sym (at_most_one row.film catalogue.films) in
+    ap (λ (b : Bool). let p : Option (Bool × Bool) = Some (is_here (unmarked (seen_copy_row row).it), b) in p) film
+    ∙ sym (ap (option_map shows) found)
+    ∙ copy_in_shop (λ (it : Copy). let p : Bool × Bool = (is_here it, is_film_withdrawn catalogue it.film) in p) n o copies is

@@ -1,0 +1,23 @@
+use Rattle.std.proofs.Common.{◌∙◌, ap, arith, List, map, flat_map}
+use Rattle.sqlite.specs.Held.{state}
+use Rattle.sqlite.specs.State.{HasCleanDisk}
+use Rattle.std.proofs.lemmas.Result.{IfOk-weaker}
+use Rattle.shop_model.specs.Values.{Rental}
+use Rattle.shop_model.specs.Books.{shop_of}
+use Rattle.shop_types.specs.Seen.{seen_rental}
+use Rattle.shop_store.specs.declared.rentals.RentalRow.{RentalRow}
+use Rattle.balance_rule.specs.Balance.{terms_of}
+use Rattle.branch_looks.proofs.Readings.{reads_then, reads_as}
+use Rattle.branch_looks.proofs.balances.find_terms.Goals as goal
+
+pub returns-clause-found : goal.returns-clause-found
+returns-clause-found g c = λ clean.
+    let b = c.args.branch in
+    let s0 = state g.S.Store c.args.tx.now.conn.now in
+    let s1 = state g.S.Store c.rentals_of_customer.new.tx.conn.now in
+    let s2 = state g.S.Store c.with_terms.new.tx.conn.now in
+    let before : HasCleanDisk s1 = omega (arith, clean, c.with_terms.ensures.inside.survives.clean) in
+    IfOk-weaker c.with_terms.result _ _ (λ terms reads. reads_as s0 s2 _ _
+    (λ books held is. is.1 ∙ ap (λ (rows : List RentalRow). flat_map (terms_of books.catalogue (shop_of b books)) (map (λ (row : RentalRow). seen_rental row.rental) rows)) c.as_slice.ensures.value
+    ∙ ap (λ (rentals : List Rental). flat_map (terms_of books.catalogue (shop_of b books)) rentals) is.0)
+    (reads_then s0 s1 s2 _ _ (c.in_ok-rows.ensures.rows before) reads)) (c.with_terms.ensures.found clean)

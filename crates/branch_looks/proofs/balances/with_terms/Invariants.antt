@@ -1,0 +1,21 @@
+use Rattle.std.proofs.Common.{◌≡◌, Ok, take, map, flat_map}
+use Rattle.std.specs.Prelude.{⊤}
+use Rattle.sqlite.specs.Held.{state}
+use Rattle.sqlite.specs.State.{HasCleanDisk}
+use Rattle.sql_rows.specs.Calls.{StaysWithin}
+use Rattle.sql_rows.specs.declared.fault.StoreFault.{StoreFault}
+use Rattle.shop_model.specs.Books.{shop_of}
+use Rattle.shop_types.specs.Seen.{seen_rental}
+use Rattle.shop_schema.specs.Shop.{Reads}
+use Rattle.shop_store.specs.declared.rentals.RentalRow.{RentalRow}
+use Rattle.balance_rule.specs.Balance.{terms_of}
+use Rattle.branch_looks.specs.Finds.{AreKnown}
+use Rattle.branch_looks.proofs.balances.with_terms.Given as goal
+
+abbrev pub invariant-loop-row : goal.invariant-loop-row
+invariant-loop-row g l =
+    (l.tx.conn.ghost_name ≡ l.fn.tx.conn.ghost_name)
+    × StaysWithin {X = ⊤} {E = StoreFault} (state g.S.Store l.fn.tx.conn.now) (state g.S.Store l.tx.conn.now) (Ok tt)
+    × (HasCleanDisk (state g.S.Store l.tx.conn.now) → Reads (state g.S.Store l.fn.tx.conn.now) (state g.S.Store l.tx.conn.now)
+    (λ books. (l.terms.items ≡ flat_map (terms_of books.catalogue (shop_of l.branch books)) (map (λ (row : RentalRow). seen_rental row.rental) (take l.row-index l.rows)))
+    × AreKnown l.known books.catalogue))

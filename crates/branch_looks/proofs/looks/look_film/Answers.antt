@@ -1,0 +1,25 @@
+use Rattle.std.proofs.Common.{◌∙◌, sym, ap, List, Option, option_map}
+use Rattle.std.specs.Option.{option_to_list}
+use Rattle.shop_model.specs.Values.{Film}
+use Rattle.shop_model.specs.Refusals.{NoFilm}
+use Rattle.shop_model.specs.Machine.{given, FilmIs}
+use Rattle.shop_model.specs.Answers.{answer_of, accepted_answer}
+use Rattle.catalogue_store.specs.Seen.{seen_film_row}
+use Rattle.catalogue_store.specs.declared.films.FilmRow.{FilmRow}
+use Rattle.branch_looks.proofs.looks.look_film.Goals as goal
+
+pub returns-in-Ok-clause-shown : goal.returns-in-Ok-clause-shown
+returns-in-Ok-clause-shown g c = λ clean books holds held.
+    let found = c.in_ok-row.ensures.found clean books holds held in
+    let shown = ap (λ (o : Option FilmRow). option_to_list (option_map seen_film_row o)) (sym c.in-Some.is) ∙ found.1 in (
+      found.0,
+      c.accepted.ensures ∙ ap accepted_answer c.in-Ok.ensures ∙ ap (λ (rows : List Film). answer_of (given NoFilm (FilmIs c.args.number) rows)) shown,
+    )
+
+pub returns-clause-shown : goal.returns-clause-shown
+returns-clause-shown g c = λ clean books holds held.
+    let found = c.in_ok-row.ensures.found clean books holds held in
+    let shown = ap (λ (o : Option FilmRow). option_to_list (option_map seen_film_row o)) (sym c.in-None.is) ∙ found.1 in (
+      found.0,
+      c.refused.ensures ∙ ap (λ (rows : List Film). answer_of (given NoFilm (FilmIs c.args.number) rows)) shown,
+    )

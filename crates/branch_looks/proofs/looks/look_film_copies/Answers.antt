@@ -1,0 +1,45 @@
+use Rattle.std.proofs.Common.{◌≡◌, ◌∙◌, sym, ap, subst, arith, ℕ, true, false, Bool, map, Some, None}
+use Rattle.sqlite.specs.Held.{state}
+use Rattle.sqlite.specs.State.{HasCleanDisk}
+use Rattle.catalogue_store.specs.Seen.{withdrawn_of}
+use Rattle.shop_model.specs.Refusals.{NoFilm}
+use Rattle.shop_model.specs.Shop.{Catalogue, Shop}
+use Rattle.shop_model.specs.Machine.{CopiesAre, Sorry, Shows, look}
+use Rattle.shop_model.specs.Answers.{answer_of, accepted_answer}
+use Rattle.shop_model.specs.Books.{head, shop_of}
+use Rattle.shop_model.specs.Rows.{at}
+use Rattle.shop_model.specs.Stock.{film_in_stock, film_not_in_stock}
+use Rattle.branch_core.specs.Agreed.{AreOfFilm}
+use Rattle.branch_looks.specs.Finds.{stock_asked, stock_listed}
+use Rattle.branch_looks.proofs.Shows.{given_none, given_some}
+use Rattle.branch_looks.proofs.looks.look_film_copies.Goals as goal
+
+no_film : (is_in : Bool) (b film : ℕ) (catalogue : Catalogue) (shop : Shop) → None ≡ head (map withdrawn_of (at film catalogue.films)) → look b catalogue shop (stock_asked is_in film) ≡ Sorry NoFilm
+no_film true b film catalogue shop is = given_none NoFilm _ withdrawn_of (at film catalogue.films) is
+no_film false b film catalogue shop is = given_none NoFilm _ withdrawn_of (at film catalogue.films) is
+
+film_shown : (is_in : Bool) (b film : ℕ) (catalogue : Catalogue) (shop : Shop) (w : Bool) → Some w ≡ head (map withdrawn_of (at film catalogue.films)) → look b catalogue shop (stock_asked is_in film) ≡ Shows (CopiesAre (stock_listed is_in film shop))
+film_shown true b film catalogue shop w is = given_some NoFilm (CopiesAre (film_in_stock film shop)) withdrawn_of (at film catalogue.films) w is
+film_shown false b film catalogue shop w is = given_some NoFilm (CopiesAre (film_not_in_stock film shop)) withdrawn_of (at film catalogue.films) w is
+
+pub returns-in-Ok-clause-shown : goal.returns-in-Ok-clause-shown
+returns-in-Ok-clause-shown g c = λ clean books holds held.
+    let b = c.args.branch in
+    let film = c.args.film in
+    let shop = shop_of b books in
+    let s1 = state g.S.Store c.film_at.new.tx.conn.now in
+    let before : HasCleanDisk s1 = omega (arith, clean, c.in_ok-copies.ensures.inside.survives.clean) in
+    let found = c.in_ok-film_at.ensures.found before books holds held in
+    let copies = c.in_ok-copies.ensures.found clean books found.0 held in
+    let are : AreOfFilm film shop c.as_slice.result.now = subst (AreOfFilm film shop) (sym c.as_slice.ensures.value) copies.1 in (
+      copies.0,
+      c.accepted.ensures ∙ ap accepted_answer (c.in-Ok.ensures film shop are) ∙ ap answer_of (sym (film_shown c.args.is_in b film books.catalogue shop _ (sym c.in-Some.is ∙ found.1))),
+    )
+
+pub returns-in_default-clause-shown : goal.returns-in_default-clause-shown
+returns-in_default-clause-shown g c = λ clean books holds held.
+    let b = c.args.branch in
+    let found = c.in_ok-film_at.ensures.found clean books holds held in (
+      found.0,
+      c.refused.ensures ∙ ap answer_of (sym (no_film c.args.is_in b c.args.film books.catalogue (shop_of b books) (sym c.in_default.is ∙ found.1))),
+    )

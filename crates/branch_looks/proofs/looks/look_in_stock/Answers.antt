@@ -1,0 +1,32 @@
+use Rattle.std.proofs.Common.{◌≡◌, ◌∙◌, sym, ap, arith, Bool}
+use Rattle.sqlite.specs.Held.{state}
+use Rattle.sqlite.specs.State.{HasCleanDisk}
+use Rattle.shop_model.specs.Refusals.{NoCopy}
+use Rattle.shop_model.specs.Stock.{is_here, in_stock}
+use Rattle.shop_model.specs.Machine.{Reply, Shows, InStockIs}
+use Rattle.shop_model.specs.Answers.{answer_of, accepted_answer}
+use Rattle.shop_model.specs.Books.{shop_of}
+use Rattle.branch_looks.proofs.Shows.{given_none, given_some, stock_of_out}
+use Rattle.branch_looks.proofs.looks.look_in_stock.Goals as goal
+
+pub returns-in-Ok-clause-shown : goal.returns-in-Ok-clause-shown
+returns-in-Ok-clause-shown g c = λ clean books holds held.
+    let copy = c.args.copy in
+    let shop = shop_of c.args.branch books in
+    let s1 = state g.S.Store c.find_here.new.tx.conn.now in
+    let before : HasCleanDisk s1 = omega (arith, clean, c.in_ok-out.ensures.inside.survives.clean) in
+    let found = c.in_ok-find_here.ensures.found before books holds held in
+    let out = c.in_ok-out.ensures.found clean books found.0 held in
+    let is_in : c.is_none.result ≡ in_stock copy shop.rentals = stock_of_out copy shop.rentals c.in_ok-out.out _ c.is_none.ensures out.1 in
+    let shows : Bool → Reply = λ b. Shows (InStockIs b) in (
+      out.0,
+      c.accepted.ensures ∙ ap accepted_answer c.in-Ok.ensures ∙ ap (λ (b : Bool). answer_of (shows b)) is_in
+          ∙ ap answer_of (sym (given_some NoCopy (InStockIs (in_stock copy shop.rentals)) is_here _ _ (sym c.in-Some.is ∙ found.1))),
+    )
+
+pub returns-in_default-clause-shown : goal.returns-in_default-clause-shown
+returns-in_default-clause-shown g c = λ clean books holds held.
+    let found = c.in_ok-find_here.ensures.found clean books holds held in (
+      found.0,
+      c.refused.ensures ∙ ap answer_of (sym (given_none NoCopy _ is_here _ (sym c.in_default.is ∙ found.1))),
+    )

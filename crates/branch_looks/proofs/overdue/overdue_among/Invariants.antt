@@ -1,0 +1,21 @@
+use Rattle.std.proofs.Common.{◌≡◌, Ok, take, map, filter}
+use Rattle.std.specs.Prelude.{⊤}
+use Rattle.sqlite.specs.Held.{state}
+use Rattle.sqlite.specs.State.{HasCleanDisk}
+use Rattle.sql_rows.specs.Calls.{StaysWithin}
+use Rattle.sql_rows.specs.declared.fault.StoreFault.{StoreFault}
+use Rattle.shop_model.specs.Books.{shop_of}
+use Rattle.shop_model.specs.Stock.{is_overdue}
+use Rattle.shop_model.specs.Views.{overdue_row}
+use Rattle.shop_schema.specs.Shop.{Reads}
+use Rattle.shop_views.specs.Overdue.{seen_overdue}
+use Rattle.branch_looks.specs.Finds.{rentals_at}
+use Rattle.branch_looks.proofs.overdue.overdue_among.Given as goal
+
+-- the overdue ones of the numbers so far
+abbrev pub invariant-loop-number : goal.invariant-loop-number
+invariant-loop-number g l =
+    (l.tx.conn.ghost_name ≡ l.fn.tx.conn.ghost_name)
+    × StaysWithin {X = ⊤} {E = StoreFault} (state g.S.Store l.fn.tx.conn.now) (state g.S.Store l.tx.conn.now) (Ok tt)
+    × (HasCleanDisk (state g.S.Store l.tx.conn.now) → Reads (state g.S.Store l.fn.tx.conn.now) (state g.S.Store l.tx.conn.now)
+    (λ books. map seen_overdue l.overdue.items ≡ map (overdue_row books.catalogue (shop_of l.branch books)) (filter (is_overdue books.catalogue (shop_of l.branch books) l.at) (rentals_at (take l.number-index l.numbers) (shop_of l.branch books).rentals))))

@@ -1,0 +1,39 @@
+use Rattle.std.proofs.Common.{◌∙◌, sym, ap, subst, arith, ℤ}
+use Rattle.sqlite.specs.Held.{state}
+use Rattle.sqlite.specs.State.{HasCleanDisk}
+use Rattle.shop_model.specs.Values.{Customer}
+use Rattle.shop_model.specs.Refusals.{NoCustomer}
+use Rattle.shop_model.specs.Stock.{balance}
+use Rattle.shop_model.specs.Machine.{BalanceIs, Reply, Shows}
+use Rattle.shop_model.specs.Answers.{answer_of, accepted_answer}
+use Rattle.shop_model.specs.Books.{shop_of}
+use Rattle.balance_rule.specs.Balance.{AreTermsOf, ArePaidBy}
+use Rattle.branch_looks.proofs.Shows.{given_none, given_some}
+use Rattle.branch_looks.proofs.reports.look_balance.Goals as goal
+
+pub returns-in-Ok-clause-shown : goal.returns-in-Ok-clause-shown
+returns-in-Ok-clause-shown g c = λ clean books holds held.
+    let customer = c.args.customer in
+    let shop = shop_of c.args.branch books in
+    let s1 = state g.S.Store c.find_active.new.tx.conn.now in
+    let s2 = state g.S.Store c.find_terms.new.tx.conn.now in
+    let second : HasCleanDisk s2 = omega (arith, clean, c.in_ok-payments.ensures.inside.survives.clean) in
+    let first : HasCleanDisk s1 = omega (arith, second, c.in_ok-rentals.ensures.inside.survives.clean) in
+    let found = c.in_ok-find_active.ensures.found first books holds held in
+    let rentals = c.in_ok-rentals.ensures.found second books found.0 held in
+    let payments = c.in_ok-payments.ensures.found clean books rentals.0 held in
+    let are_terms : AreTermsOf books.catalogue shop customer c.as_slice.result.now = subst (AreTermsOf books.catalogue shop customer) (sym c.as_slice.ensures.value) rentals.1 in
+    let are_paid : ArePaidBy shop customer c.as_slice-2.result.now = subst (ArePaidBy shop customer) (sym c.as_slice-2.ensures.value) payments.1 in
+    let cents = c.in_ok-cents.ensures books.catalogue shop customer are_terms are_paid in
+    let shows : ℤ → Reply = λ owed. Shows (BalanceIs owed) in (
+      payments.0,
+      c.accepted.ensures ∙ ap accepted_answer c.in-Ok.ensures ∙ ap (λ (owed : ℤ). answer_of (shows owed)) cents
+          ∙ ap answer_of (sym (given_some NoCustomer (BalanceIs (balance books.catalogue shop customer c.args.at)) (λ (it : Customer). it.active) _ _ (sym c.in-Some.is ∙ found.1))),
+    )
+
+pub returns-in_default-clause-shown : goal.returns-in_default-clause-shown
+returns-in_default-clause-shown g c = λ clean books holds held.
+    let found = c.in_ok-find_active.ensures.found clean books holds held in (
+      found.0,
+      c.refused.ensures ∙ ap answer_of (sym (given_none NoCustomer _ (λ (it : Customer). it.active) _ (sym c.in_default.is ∙ found.1))),
+    )

@@ -1,0 +1,164 @@
+//! What a customer owes, by the customer's rentals and payments.
+
+ghost use Rattle.std.specs.Prelude.{◌≡◌, ◌++◌, map, flat_map, option_map, IfOk, OnOk};
+ghost use Rattle.std.specs.Option.{option_to_list};
+ghost use Rattle.sqlite.specs.Held.{state};
+ghost use Rattle.sqlite.specs.State.{HasCleanDisk};
+ghost use Rattle.sql_rows.specs.Calls.{StaysWithin};
+ghost use Rattle.shop_model.specs.Books.{shop_of};
+ghost use Rattle.shop_types.specs.Seen.{seen_payment, seen_rental};
+ghost use Rattle.shop_schema.specs.Shop.{Reads};
+ghost use Rattle.shop_model.specs.Rows.{at};
+ghost use Rattle.shop_model.specs.Books.{head};
+ghost use Rattle.catalogue_store.specs.Seen.{seen_terms, terms_of as price};
+ghost use Rattle.balance_rule.specs.Balance.{AreTermsOf, ArePaidBy, paid_of, terms_of};
+ghost use Rattle.branch_looks.specs.Finds.{AreKnown};
+
+use balance_rule::{Paid, RentalTerms};
+use catalogue_store::{FilmTerms, film_terms};
+use shop_store::{RentalRow, copy_at, payments_of_customer, rentals_of_customer};
+use shop_types::{BranchNo, CustomerNo, FilmNo, Payment, Rental};
+use sql_rows::StoreFault;
+use sqlite::{Alter, Transaction};
+use std::alloc::Global;
+use std::collections::BTreeMap;
+
+/// The customer's rentals, in order of number, each with its film's rate and period as they are now.
+pub fn find_terms<S: Alter>(
+    alloc: Global,
+    tx: &mut Transaction<'_, S>,
+    branch: BranchNo,
+    customer: CustomerNo,
+) -> Result<Vec<RentalTerms>, StoreFault>
+    ensures same_reference { tx.new.conn.ghost_name ≡ tx.old.conn.ghost_name }
+    ensures inside { StaysWithin (state S.Store tx.old.conn.now) (state S.Store tx.new.conn.now) result }
+    ensures found { HasCleanDisk (state S.Store tx.new.conn.now)
+        → IfOk result (λ terms. Reads (state S.Store tx.old.conn.now) (state S.Store tx.new.conn.now)
+        (λ books. AreTermsOf books.catalogue (shop_of branch books) customer terms.items)) }
+{
+    let rows = rentals_of_customer(tx, alloc, branch, customer)?;
+    with_terms(alloc, tx, branch, rows.as_slice())
+}
+
+/// The terms of those rentals, each film's read once. A rental whose film isn't there has none.
+fn with_terms<S: Alter>(
+    alloc: Global,
+    tx: &mut Transaction<'_, S>,
+    branch: BranchNo,
+    rows: &[RentalRow],
+) -> Result<Vec<RentalTerms>, StoreFault>
+    ensures same_reference { tx.new.conn.ghost_name ≡ tx.old.conn.ghost_name }
+    ensures inside { StaysWithin (state S.Store tx.old.conn.now) (state S.Store tx.new.conn.now) result }
+    ensures found { HasCleanDisk (state S.Store tx.new.conn.now) → IfOk result (λ terms. Reads (state S.Store tx.old.conn.now) (state S.Store tx.new.conn.now)
+        (λ books. terms.items ≡ flat_map (terms_of books.catalogue (shop_of branch books)) (map (λ row. seen_rental row.rental) rows.now))) }
+{
+    let mut known = BTreeMap::new(alloc);
+    let mut terms = Vec::new(alloc);
+    for row in rows {
+        let found = terms_at(tx, &mut known, branch, row.rental)?;
+        push_found(&mut terms, found)?;
+    }
+    Ok(terms)
+}
+
+/// Puts what was found last, where it was.
+pub fn push_found<T: Drop>(list: &mut Vec<T>, found: Option<T>) -> Result<(), StoreFault>
+    ensures { OnOk result (list.new.items ≡ list.old.items ++ option_to_list found) }
+{
+    match found {
+        Some(one) => match list.push(one) {
+            Ok(()) => Ok(()),
+            Err(_) => Err(StoreFault::Memory),
+        },
+        None => Ok(()),
+    }
+}
+
+/// By what a rental of the film is charged: the store is asked where it isn't known yet.
+fn terms_once<S: Alter>(
+    tx: &mut Transaction<'_, S>,
+    known: &mut BTreeMap<u32, FilmTerms>,
+    film: FilmNo,
+) -> Result<Option<FilmTerms>, StoreFault>
+    ensures same_reference { tx.new.conn.ghost_name ≡ tx.old.conn.ghost_name }
+    ensures inside { StaysWithin (state S.Store tx.old.conn.now) (state S.Store tx.new.conn.now) result }
+    ensures found { HasCleanDisk (state S.Store tx.new.conn.now) → IfOk result (λ terms. Reads (state S.Store tx.old.conn.now) (state S.Store tx.new.conn.now)
+        (λ books. AreKnown known.old books.catalogue → (option_map seen_terms terms ≡ head (map price (at film books.catalogue.films)))
+        × AreKnown known.new books.catalogue)) }
+{
+    let number = film.get();
+    if let Some(terms) = known.get(&number).copied() {
+        return Ok(Some(terms));
+    }
+    let Some(terms) = film_terms(tx, film)? else {
+        return Ok(None);
+    };
+    let kept = FilmTerms {
+        rate: terms.rate,
+        period: terms.period,
+    };
+    match known.insert(number, kept) {
+        Ok(_) => Ok(Some(terms)),
+        Err(_) => Err(StoreFault::Memory),
+    }
+}
+
+/// The terms of one rental, where its copy and film are there.
+fn terms_at<S: Alter>(
+    tx: &mut Transaction<'_, S>,
+    known: &mut BTreeMap<u32, FilmTerms>,
+    branch: BranchNo,
+    rental: Rental,
+) -> Result<Option<RentalTerms>, StoreFault>
+    ensures same_reference { tx.new.conn.ghost_name ≡ tx.old.conn.ghost_name }
+    ensures inside { StaysWithin (state S.Store tx.old.conn.now) (state S.Store tx.new.conn.now) result }
+    ensures found { HasCleanDisk (state S.Store tx.new.conn.now) → IfOk result (λ terms. Reads (state S.Store tx.old.conn.now) (state S.Store tx.new.conn.now)
+        (λ books. AreKnown known.old books.catalogue
+        → (option_to_list terms ≡ terms_of books.catalogue (shop_of branch books) (seen_rental rental)) × AreKnown known.new books.catalogue)) }
+{
+    let Some(copy) = copy_at(tx, branch, rental.copy)? else {
+        return Ok(None);
+    };
+    match terms_once(tx, known, copy.film)? {
+        Some(film) => Ok(Some(RentalTerms {
+            rented: rental.rented,
+            returned: rental.returned,
+            rate: film.rate,
+            period: film.period,
+        })),
+        None => Ok(None),
+    }
+}
+
+/// The customer's payments, in order of number.
+pub fn find_paid<S: Alter>(
+    alloc: Global,
+    tx: &mut Transaction<'_, S>,
+    branch: BranchNo,
+    customer: CustomerNo,
+) -> Result<Vec<Paid>, StoreFault>
+    ensures same_reference { tx.new.conn.ghost_name ≡ tx.old.conn.ghost_name }
+    ensures inside { StaysWithin (state S.Store tx.old.conn.now) (state S.Store tx.new.conn.now) result }
+    ensures found { HasCleanDisk (state S.Store tx.new.conn.now)
+        → IfOk result (λ paid. Reads (state S.Store tx.old.conn.now) (state S.Store tx.new.conn.now)
+        (λ books. ArePaidBy (shop_of branch books) customer paid.items)) }
+{
+    let rows = payments_of_customer(tx, alloc, branch, customer)?;
+    let mut payments = Vec::new(alloc);
+    for row in &rows {
+        let Ok(()) = payments.push(paid_by(row.payment)) else {
+            return Err(StoreFault::Memory);
+        };
+    }
+    Ok(payments)
+}
+
+/// What a balance reads of the payment.
+pub fn paid_by(payment: Payment) -> Paid
+    ensures { result ≡ paid_of (seen_payment payment) }
+{
+    Paid {
+        amount: payment.amount,
+        at: payment.paid,
+    }
+}

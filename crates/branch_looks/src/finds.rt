@@ -1,0 +1,240 @@
+//! What is found of customers, copies and rentals.
+
+ghost use Rattle.std.specs.Prelude.{◌≡◌, ℕ, is_some, map, option_map, IfOk, IfSome};
+ghost use Rattle.sqlite.specs.Held.{state};
+ghost use Rattle.sqlite.specs.State.{HasCleanDisk};
+ghost use Rattle.sql_rows.specs.Calls.{StaysWithin};
+ghost use Rattle.shop_model.specs.Rows.{at};
+ghost use Rattle.shop_model.specs.Stock.{is_here, held_by};
+ghost use Rattle.shop_model.specs.Books.{head, shop_of};
+ghost use Rattle.shop_schema.specs.Shop.{Reads};
+ghost use Rattle.shop_store.specs.Seen.{seen_state};
+ghost use Rattle.branch_looks.specs.Finds.{is_yes, copy_shown};
+ghost use Rattle.branch_core.specs.Agreed.{active_at, copy_at, rental_at, seen_copy, seen_rental, seen_film_copy, AreOfFilm, IsOut};
+
+use branch_core::{CopyFound, FilmCopy, RentalFound};
+use catalogue_store::film_at;
+use shop_store::{CopyRow, CopyState, copies_of_film, copy_at, customer_at, out_at, rental_at};
+use shop_types::{BranchNo, CopyNo, CustomerNo, FilmNo, Rental, RentalNo};
+use sql_rows::StoreFault;
+use sqlite::{Alter, Transaction};
+use std::alloc::Global;
+
+/// Whether the customer may rent, where the branch has one of the number.
+pub fn find_active<S: Alter>(
+    tx: &mut Transaction<'_, S>,
+    branch: BranchNo,
+    customer: CustomerNo,
+) -> Result<Option<bool>, StoreFault>
+    ensures same_reference { tx.new.conn.ghost_name ≡ tx.old.conn.ghost_name }
+    ensures inside { StaysWithin (state S.Store tx.old.conn.now) (state S.Store tx.new.conn.now) result }
+    ensures found { HasCleanDisk (state S.Store tx.new.conn.now)
+        → IfOk result (λ found. Reads (state S.Store tx.old.conn.now) (state S.Store tx.new.conn.now)
+        (λ books. found ≡ active_at customer (shop_of branch books))) }
+{
+    match customer_at(tx, branch, customer)? {
+        Some(row) => Ok(Some(row.customer.active)),
+        None => Ok(None),
+    }
+}
+
+/// Whether a copy of the state is in the shop.
+fn is_here(state: CopyState) -> bool
+    ensures { (film : ℕ) → result ≡ is_here (record { film = film; state = seen_state state }) }
+{
+    match state {
+        CopyState::Here => true,
+        CopyState::Sent | CopyState::Scrapped => false,
+    }
+}
+
+fn is_yes(answer: Option<bool>) -> bool
+    ensures { result ≡ is_yes answer }
+{
+    matches!(answer, Some(true))
+}
+
+/// Whether the copy is in the shop, where the branch has one of the number.
+pub fn find_here<S: Alter>(
+    tx: &mut Transaction<'_, S>,
+    branch: BranchNo,
+    copy: CopyNo,
+) -> Result<Option<bool>, StoreFault>
+    ensures same_reference { tx.new.conn.ghost_name ≡ tx.old.conn.ghost_name }
+    ensures inside { StaysWithin (state S.Store tx.old.conn.now) (state S.Store tx.new.conn.now) result }
+    ensures found { HasCleanDisk (state S.Store tx.new.conn.now)
+        → IfOk result (λ found. Reads (state S.Store tx.old.conn.now) (state S.Store tx.new.conn.now)
+        (λ books. found ≡ head (map is_here (at copy (shop_of branch books).copies)))) }
+{
+    match copy_at(tx, branch, copy)? {
+        Some(row) => Ok(Some(is_here(row.state))),
+        None => Ok(None),
+    }
+}
+
+/// Whether the copy is in the shop and its film withdrawn, where one is named and the branch has a copy of the number.
+pub fn find_copy<S: Alter>(
+    tx: &mut Transaction<'_, S>,
+    branch: BranchNo,
+    copy: Option<CopyNo>,
+) -> Result<Option<CopyFound>, StoreFault>
+    ensures same_reference { tx.new.conn.ghost_name ≡ tx.old.conn.ghost_name }
+    ensures inside { StaysWithin (state S.Store tx.old.conn.now) (state S.Store tx.new.conn.now) result }
+    ensures found { HasCleanDisk (state S.Store tx.new.conn.now) → IfOk result (λ found. Reads (state S.Store tx.old.conn.now) (state S.Store tx.new.conn.now)
+        (λ books. IfSome copy (λ x. option_map seen_copy found ≡ copy_at books.catalogue (shop_of branch books) x))) }
+{
+    let Some(number) = copy else {
+        return Ok(None);
+    };
+    let Some(row) = copy_at(tx, branch, number)? else {
+        return Ok(None);
+    };
+    let withdrawn = film_at(tx, row.film)?;
+    Ok(Some(CopyFound {
+        is_here: is_here(row.state),
+        is_withdrawn: is_yes(withdrawn),
+    }))
+}
+
+/// The copy's open rental, where a copy is named and is out.
+pub fn find_out<S: Alter>(
+    tx: &mut Transaction<'_, S>,
+    branch: BranchNo,
+    copy: Option<CopyNo>,
+) -> Result<Option<RentalNo>, StoreFault>
+    ensures same_reference { tx.new.conn.ghost_name ≡ tx.old.conn.ghost_name }
+    ensures inside { StaysWithin (state S.Store tx.old.conn.now) (state S.Store tx.new.conn.now) result }
+    ensures found { HasCleanDisk (state S.Store tx.new.conn.now)
+        → IfOk result (λ out. Reads (state S.Store tx.old.conn.now) (state S.Store tx.new.conn.now)
+        (λ books. IfSome copy (λ x. IsOut (shop_of branch books) x out))) }
+{
+    let Some(number) = copy else {
+        return Ok(None);
+    };
+    Ok(out_at(tx, branch, number)?)
+}
+
+/// The rental, where one is named and the branch has it.
+pub fn find_rental<S: Alter>(
+    tx: &mut Transaction<'_, S>,
+    branch: BranchNo,
+    rental: Option<RentalNo>,
+) -> Result<Option<RentalFound>, StoreFault>
+    ensures same_reference { tx.new.conn.ghost_name ≡ tx.old.conn.ghost_name }
+    ensures inside { StaysWithin (state S.Store tx.old.conn.now) (state S.Store tx.new.conn.now) result }
+    ensures found { HasCleanDisk (state S.Store tx.new.conn.now) → IfOk result (λ found. Reads (state S.Store tx.old.conn.now) (state S.Store tx.new.conn.now)
+        (λ books. IfSome rental (λ r. option_map seen_rental found ≡ rental_at (shop_of branch books) r))) }
+{
+    let Some(number) = rental else {
+        return Ok(None);
+    };
+    match rental_at(tx, branch, number)? {
+        Some(row) => Ok(Some(rental_found(row.rental))),
+        None => Ok(None),
+    }
+}
+
+/// What is found of a rental.
+fn rental_found(rental: Rental) -> RentalFound
+    ensures { seen_rental result ≡ (rental.customer, rental.copy, is_some rental.returned) }
+{
+    let is_returned = rental.returned.is_some();
+    RentalFound {
+        customer: rental.customer,
+        copy: rental.copy,
+        is_returned,
+    }
+}
+
+/// The customer of the rental, where the branch has it.
+fn find_renter<S: Alter>(
+    tx: &mut Transaction<'_, S>,
+    branch: BranchNo,
+    rental: RentalNo,
+) -> Result<Option<CustomerNo>, StoreFault>
+    ensures same_reference { tx.new.conn.ghost_name ≡ tx.old.conn.ghost_name }
+    ensures inside { StaysWithin (state S.Store tx.old.conn.now) (state S.Store tx.new.conn.now) result }
+    ensures found { HasCleanDisk (state S.Store tx.new.conn.now) → IfOk result (λ renter. Reads (state S.Store tx.old.conn.now) (state S.Store tx.new.conn.now)
+        (λ books. renter ≡ head (map (λ it. it.customer) (at rental (shop_of branch books).rentals)))) }
+{
+    match rental_at(tx, branch, rental)? {
+        Some(row) => Ok(Some(row.rental.customer)),
+        None => Ok(None),
+    }
+}
+
+/// The customer who has the copy, where it is out.
+pub fn find_holder<S: Alter>(
+    tx: &mut Transaction<'_, S>,
+    branch: BranchNo,
+    copy: CopyNo,
+) -> Result<Option<CustomerNo>, StoreFault>
+    ensures same_reference { tx.new.conn.ghost_name ≡ tx.old.conn.ghost_name }
+    ensures inside { StaysWithin (state S.Store tx.old.conn.now) (state S.Store tx.new.conn.now) result }
+    ensures found { HasCleanDisk (state S.Store tx.new.conn.now)
+        → IfOk result (λ holder. Reads (state S.Store tx.old.conn.now) (state S.Store tx.new.conn.now)
+        (λ books. holder ≡ head (held_by copy (shop_of branch books).rentals))) }
+{
+    match out_at(tx, branch, copy)? {
+        Some(rental) => find_renter(tx, branch, rental),
+        None => Ok(None),
+    }
+}
+
+/// The branch's copies of the film, in order of number.
+pub fn find_of_film<S: Alter>(
+    alloc: Global,
+    tx: &mut Transaction<'_, S>,
+    branch: BranchNo,
+    film: FilmNo,
+) -> Result<Vec<FilmCopy>, StoreFault>
+    ensures same_reference { tx.new.conn.ghost_name ≡ tx.old.conn.ghost_name }
+    ensures inside { StaysWithin (state S.Store tx.old.conn.now) (state S.Store tx.new.conn.now) result }
+    ensures found { HasCleanDisk (state S.Store tx.new.conn.now)
+        → IfOk result (λ copies. Reads (state S.Store tx.old.conn.now) (state S.Store tx.new.conn.now)
+        (λ books. AreOfFilm film (shop_of branch books) copies.items)) }
+{
+    let rows = copies_of_film(tx, alloc, branch, film)?;
+    with_stock(alloc, tx, branch, rows.as_slice())
+}
+
+/// The copies of those rows, each with whether it is in stock.
+fn with_stock<S: Alter>(
+    alloc: Global,
+    tx: &mut Transaction<'_, S>,
+    branch: BranchNo,
+    rows: &[CopyRow],
+) -> Result<Vec<FilmCopy>, StoreFault>
+    ensures same_reference { tx.new.conn.ghost_name ≡ tx.old.conn.ghost_name }
+    ensures inside { StaysWithin (state S.Store tx.old.conn.now) (state S.Store tx.new.conn.now) result }
+    ensures found { HasCleanDisk (state S.Store tx.new.conn.now) → IfOk result (λ copies. Reads (state S.Store tx.old.conn.now) (state S.Store tx.new.conn.now)
+        (λ books. map seen_film_copy copies.items ≡ map (copy_shown (shop_of branch books).rentals) rows.now)) }
+{
+    let mut copies = Vec::new(alloc);
+    for row in rows {
+        let copy = with_its_stock(tx, branch, *row)?;
+        let Ok(()) = copies.push(copy) else {
+            return Err(StoreFault::Memory);
+        };
+    }
+    Ok(copies)
+}
+
+/// The copy of that row, with whether it is in stock.
+fn with_its_stock<S: Alter>(
+    tx: &mut Transaction<'_, S>,
+    branch: BranchNo,
+    row: CopyRow,
+) -> Result<FilmCopy, StoreFault>
+    ensures same_reference { tx.new.conn.ghost_name ≡ tx.old.conn.ghost_name }
+    ensures inside { StaysWithin (state S.Store tx.old.conn.now) (state S.Store tx.new.conn.now) result }
+    ensures found { HasCleanDisk (state S.Store tx.new.conn.now) → IfOk result (λ copy. Reads (state S.Store tx.old.conn.now) (state S.Store tx.new.conn.now)
+        (λ books. seen_film_copy copy ≡ copy_shown (shop_of branch books).rentals row)) }
+{
+    let out = out_at(tx, branch, row.number)?;
+    Ok(FilmCopy {
+        number: row.number,
+        is_here: is_here(row.state),
+        is_in_stock: out.is_none(),
+    })
+}

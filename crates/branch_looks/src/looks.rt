@@ -1,0 +1,184 @@
+//! A branch's reading inside one transaction, which changes nothing.
+
+ghost use Rattle.std.specs.Prelude.{◌≡◌, ℕ, IfOk, string_bytes};
+ghost use Rattle.sqlite.specs.Held.{state};
+ghost use Rattle.sqlite.specs.State.{HasCleanDisk};
+ghost use Rattle.sql_rows.specs.Calls.{StaysWithin};
+ghost use Rattle.shop_model.specs.Values.{OneCustomer, OneFilm, InStock, HeldBy};
+ghost use Rattle.shop_model.specs.Shop.{Shop};
+ghost use Rattle.shop_model.specs.Machine.{CopiesAre};
+ghost use Rattle.shop_model.specs.Answers.{shown_text};
+ghost use Rattle.shop_types.specs.Seen.{seen_ask};
+ghost use Rattle.shop_types.specs.Replies.{seen_reply};
+ghost use Rattle.shop_schema.specs.Shop.{Reads};
+ghost use Rattle.branch_core.specs.Agreed.{AreOfFilm};
+ghost use Rattle.branch_looks.specs.Finds.{stock_asked, stock_listed};
+ghost use Rattle.branch_looks.specs.Looks.{looked};
+
+use crate::finds::{find_here, find_holder, find_of_film};
+use crate::reports::{look_balance, look_overdue, look_rewards};
+use branch_core::{FilmCopy, film_in_stock, film_not_in_stock};
+use catalogue_store::{film_at, film_row};
+use reply_bodies::{copies_text, customer_text, film_text, holder_text, in_stock_text};
+use shop_store::{customer_at, out_at};
+use shop_types::{Ask, BranchNo, CopyNo, CustomerNo, FilmNo, NoMemory, Refusal, Reply};
+use sql_rows::StoreFault;
+use sqlite::{Alter, Transaction};
+use std::alloc::Global;
+
+/// Answers a reading of a branch.
+pub fn look<S: Alter>(
+    alloc: Global,
+    tx: &mut Transaction<'_, S>,
+    branch: BranchNo,
+    ask: Ask,
+) -> Result<Reply, StoreFault>
+    ensures same_reference { tx.new.conn.ghost_name ≡ tx.old.conn.ghost_name }
+    ensures inside { StaysWithin (state S.Store tx.old.conn.now) (state S.Store tx.new.conn.now) result }
+    ensures shown { HasCleanDisk (state S.Store tx.new.conn.now)
+        → IfOk result (λ reply. Reads (state S.Store tx.old.conn.now) (state S.Store tx.new.conn.now)
+        (λ books. seen_reply reply ≡ looked branch (seen_ask ask) books)) }
+{
+    match ask {
+        Ask::Customer(number) => look_customer(alloc, tx, branch, number),
+        Ask::Film(number) => look_film(alloc, tx, branch, number),
+        Ask::InStock(copy) => look_in_stock(alloc, tx, branch, copy),
+        Ask::HeldBy(copy) => look_holder(alloc, tx, branch, copy),
+        Ask::FilmInStock(film) => look_film_copies(alloc, tx, branch, film, true),
+        Ask::FilmNotInStock(film) => look_film_copies(alloc, tx, branch, film, false),
+        Ask::Balance { customer, at } => look_balance(alloc, tx, branch, customer, at),
+        Ask::Overdue(at) => look_overdue(alloc, tx, branch, at),
+        Ask::Rewards {
+            at,
+            purchases,
+            cents,
+        } => look_rewards(alloc, tx, branch, at, purchases, cents),
+    }
+}
+
+/// Tells of a customer.
+fn look_customer<S: Alter>(
+    alloc: Global,
+    tx: &mut Transaction<'_, S>,
+    branch: BranchNo,
+    number: CustomerNo,
+) -> Result<Reply, StoreFault>
+    ensures same_reference { tx.new.conn.ghost_name ≡ tx.old.conn.ghost_name }
+    ensures inside { StaysWithin (state S.Store tx.old.conn.now) (state S.Store tx.new.conn.now) result }
+    ensures shown { HasCleanDisk (state S.Store tx.new.conn.now)
+        → IfOk result (λ reply. Reads (state S.Store tx.old.conn.now) (state S.Store tx.new.conn.now)
+        (λ books. seen_reply reply ≡ looked branch (OneCustomer number) books)) }
+{
+    match customer_at(tx, branch, number)? {
+        Some(row) => match customer_text(alloc, number, &row.customer) {
+            Ok(text) => Ok(Reply::accepted(text)),
+            Err(_) => Err(StoreFault::Memory),
+        },
+        None => Ok(Reply::refused(Refusal::NoCustomer)),
+    }
+}
+
+/// Tells of a film, which may be withdrawn. The branch is only the one that asks.
+fn look_film<S: Alter>(
+    alloc: Global,
+    tx: &mut Transaction<'_, S>,
+    branch: BranchNo,
+    number: FilmNo,
+) -> Result<Reply, StoreFault>
+    ensures same_reference { tx.new.conn.ghost_name ≡ tx.old.conn.ghost_name }
+    ensures inside { StaysWithin (state S.Store tx.old.conn.now) (state S.Store tx.new.conn.now) result }
+    ensures shown { HasCleanDisk (state S.Store tx.new.conn.now)
+        → IfOk result (λ reply. Reads (state S.Store tx.old.conn.now) (state S.Store tx.new.conn.now)
+        (λ books. seen_reply reply ≡ looked branch (OneFilm number) books)) }
+{
+    match film_row(tx, number)? {
+        Some(row) => match film_text(alloc, number, &row.film, row.withdrawn) {
+            Ok(text) => Ok(Reply::accepted(text)),
+            Err(_) => Err(StoreFault::Memory),
+        },
+        None => Ok(Reply::refused(Refusal::NoFilm)),
+    }
+}
+
+/// Tells whether a copy is in stock.
+fn look_in_stock<S: Alter>(
+    alloc: Global,
+    tx: &mut Transaction<'_, S>,
+    branch: BranchNo,
+    copy: CopyNo,
+) -> Result<Reply, StoreFault>
+    ensures same_reference { tx.new.conn.ghost_name ≡ tx.old.conn.ghost_name }
+    ensures inside { StaysWithin (state S.Store tx.old.conn.now) (state S.Store tx.new.conn.now) result }
+    ensures shown { HasCleanDisk (state S.Store tx.new.conn.now)
+        → IfOk result (λ reply. Reads (state S.Store tx.old.conn.now) (state S.Store tx.new.conn.now)
+        (λ books. seen_reply reply ≡ looked branch (InStock copy) books)) }
+{
+    let Some(_) = find_here(tx, branch, copy)? else {
+        return Ok(Reply::refused(Refusal::NoCopy));
+    };
+    let out = out_at(tx, branch, copy)?;
+    match in_stock_text(alloc, out.is_none()) {
+        Ok(text) => Ok(Reply::accepted(text)),
+        Err(_) => Err(StoreFault::Memory),
+    }
+}
+
+/// Tells which customer has a copy.
+fn look_holder<S: Alter>(
+    alloc: Global,
+    tx: &mut Transaction<'_, S>,
+    branch: BranchNo,
+    copy: CopyNo,
+) -> Result<Reply, StoreFault>
+    ensures same_reference { tx.new.conn.ghost_name ≡ tx.old.conn.ghost_name }
+    ensures inside { StaysWithin (state S.Store tx.old.conn.now) (state S.Store tx.new.conn.now) result }
+    ensures shown { HasCleanDisk (state S.Store tx.new.conn.now)
+        → IfOk result (λ reply. Reads (state S.Store tx.old.conn.now) (state S.Store tx.new.conn.now)
+        (λ books. seen_reply reply ≡ looked branch (HeldBy copy) books)) }
+{
+    let Some(_) = find_here(tx, branch, copy)? else {
+        return Ok(Reply::refused(Refusal::NoCopy));
+    };
+    let holder = find_holder(tx, branch, copy)?;
+    match holder_text(alloc, holder) {
+        Ok(text) => Ok(Reply::accepted(text)),
+        Err(_) => Err(StoreFault::Memory),
+    }
+}
+
+/// Lists the copies of a film that are here and in stock, or here and not in stock.
+fn look_film_copies<S: Alter>(
+    alloc: Global,
+    tx: &mut Transaction<'_, S>,
+    branch: BranchNo,
+    film: FilmNo,
+    is_in: bool,
+) -> Result<Reply, StoreFault>
+    ensures same_reference { tx.new.conn.ghost_name ≡ tx.old.conn.ghost_name }
+    ensures inside { StaysWithin (state S.Store tx.old.conn.now) (state S.Store tx.new.conn.now) result }
+    ensures shown { HasCleanDisk (state S.Store tx.new.conn.now)
+        → IfOk result (λ reply. Reads (state S.Store tx.old.conn.now) (state S.Store tx.new.conn.now)
+        (λ books. seen_reply reply ≡ looked branch (stock_asked is_in film) books)) }
+{
+    let Some(_) = film_at(tx, film)? else {
+        return Ok(Reply::refused(Refusal::NoFilm));
+    };
+    let copies = find_of_film(alloc, tx, branch, film)?;
+    match listed_text(alloc, copies.as_slice(), is_in) {
+        Ok(text) => Ok(Reply::accepted(text)),
+        Err(_) => Err(StoreFault::Memory),
+    }
+}
+
+/// The body that lists the copies that are here and in stock, or here and not in stock.
+fn listed_text(alloc: Global, copies: &[FilmCopy], is_in: bool) -> Result<String, NoMemory>
+    ensures { IfOk result (λ text. (film : ℕ) (shop : Shop) → AreOfFilm film shop copies.now
+        → string_bytes text ≡ shown_text (CopiesAre (stock_listed is_in film shop))) }
+{
+    let numbers = if is_in {
+        film_in_stock(alloc, copies)?
+    } else {
+        film_not_in_stock(alloc, copies)?
+    };
+    Ok(copies_text(alloc, numbers.as_slice())?)
+}

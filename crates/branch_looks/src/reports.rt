@@ -1,0 +1,108 @@
+//! What a branch is told of money.
+
+ghost use Rattle.std.specs.Prelude.{◌≡◌, ℕ, IfOk};
+ghost use Rattle.sqlite.specs.Held.{state};
+ghost use Rattle.sqlite.specs.State.{HasCleanDisk};
+ghost use Rattle.sql_rows.specs.Calls.{StaysWithin};
+ghost use Rattle.shop_model.specs.Values.{Balance, Overdue, Rewards};
+ghost use Rattle.shop_model.specs.Shop.{Catalogue, Shop};
+ghost use Rattle.shop_model.specs.Stock.{balance};
+ghost use Rattle.shop_types.specs.Replies.{seen_reply};
+ghost use Rattle.shop_schema.specs.Shop.{Reads};
+ghost use Rattle.balance_rule.specs.Balance.{AreTermsOf, ArePaidBy};
+ghost use Rattle.branch_looks.specs.Looks.{looked};
+
+use crate::balances::{find_paid, find_terms};
+use crate::finds::find_active;
+use crate::overdue::find_overdue;
+use crate::rewards::find_rewarded;
+use balance_rule::{Paid, RentalTerms, balance};
+use reply_bodies::{balance_text, rewards_text};
+use shop_types::{BranchNo, Cents, CustomerNo, Moment, Refusal, Reply};
+use shop_views::overdue_text;
+use sql_rows::StoreFault;
+use sqlite::{Alter, Transaction};
+use std::alloc::Global;
+
+/// Tells what a customer owes at a moment.
+pub fn look_balance<S: Alter>(
+    alloc: Global,
+    tx: &mut Transaction<'_, S>,
+    branch: BranchNo,
+    customer: CustomerNo,
+    at: Moment,
+) -> Result<Reply, StoreFault>
+    ensures same_reference { tx.new.conn.ghost_name ≡ tx.old.conn.ghost_name }
+    ensures inside { StaysWithin (state S.Store tx.old.conn.now) (state S.Store tx.new.conn.now) result }
+    ensures shown { HasCleanDisk (state S.Store tx.new.conn.now)
+        → IfOk result (λ reply. Reads (state S.Store tx.old.conn.now) (state S.Store tx.new.conn.now)
+        (λ books. seen_reply reply ≡ looked branch (Balance customer at) books)) }
+{
+    let Some(_) = find_active(tx, branch, customer)? else {
+        return Ok(Reply::refused(Refusal::NoCustomer));
+    };
+    let rentals = find_terms(alloc, tx, branch, customer)?;
+    let payments = find_paid(alloc, tx, branch, customer)?;
+    let cents = owed(rentals.as_slice(), payments.as_slice(), at)?;
+    match balance_text(alloc, cents) {
+        Ok(text) => Ok(Reply::accepted(text)),
+        Err(_) => Err(StoreFault::Memory),
+    }
+}
+
+/// The balance by those rows. No sound table has more than a million of them.
+fn owed(rentals: &[RentalTerms], payments: &[Paid], at: Moment) -> Result<Cents, StoreFault>
+    ensures { IfOk result (λ cents. (catalogue : Catalogue) (shop : Shop) (customer : ℕ) → AreTermsOf catalogue shop customer rentals.now
+        → ArePaidBy shop customer payments.now
+        → cents ≡ balance catalogue shop customer at) }
+{
+    if 1_000_000 < rentals.len() || 1_000_000 < payments.len() {
+        return Err(StoreFault::Failed);
+    }
+    Ok(balance(rentals, payments, at))
+}
+
+/// Lists the rentals that are overdue at a moment.
+pub fn look_overdue<S: Alter>(
+    alloc: Global,
+    tx: &mut Transaction<'_, S>,
+    branch: BranchNo,
+    at: Moment,
+) -> Result<Reply, StoreFault>
+    ensures same_reference { tx.new.conn.ghost_name ≡ tx.old.conn.ghost_name }
+    ensures inside { StaysWithin (state S.Store tx.old.conn.now) (state S.Store tx.new.conn.now) result }
+    ensures shown { HasCleanDisk (state S.Store tx.new.conn.now)
+        → IfOk result (λ reply. Reads (state S.Store tx.old.conn.now) (state S.Store tx.new.conn.now)
+        (λ books. seen_reply reply ≡ looked branch (Overdue at) books)) }
+{
+    let rows = find_overdue(alloc, tx, branch, at)?;
+    match overdue_text(alloc, rows.as_slice()) {
+        Ok(text) => Ok(Reply::accepted(text)),
+        Err(_) => Err(StoreFault::Memory),
+    }
+}
+
+/// Lists the customers who are rewarded for the month before a moment's.
+pub fn look_rewards<S: Alter>(
+    alloc: Global,
+    tx: &mut Transaction<'_, S>,
+    branch: BranchNo,
+    at: Moment,
+    purchases: u32,
+    cents: u32,
+) -> Result<Reply, StoreFault>
+    ensures same_reference { tx.new.conn.ghost_name ≡ tx.old.conn.ghost_name }
+    ensures inside { StaysWithin (state S.Store tx.old.conn.now) (state S.Store tx.new.conn.now) result }
+    ensures shown { HasCleanDisk (state S.Store tx.new.conn.now)
+        → IfOk result (λ reply. Reads (state S.Store tx.old.conn.now) (state S.Store tx.new.conn.now)
+        (λ books. seen_reply reply ≡ looked branch (Rewards at purchases cents) books)) }
+{
+    if purchases == 0 || cents == 0 {
+        return Ok(Reply::refused(Refusal::BadThreshold));
+    }
+    let customers = find_rewarded(alloc, tx, branch, at, purchases, cents)?;
+    match rewards_text(alloc, customers.as_slice()) {
+        Ok(text) => Ok(Reply::accepted(text)),
+        Err(_) => Err(StoreFault::Memory),
+    }
+}
