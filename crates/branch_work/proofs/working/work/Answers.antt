@@ -41,7 +41,7 @@ returns-in_ok-look-in-Look-clause-works g c = λ clean books holds held.
     let shown = c.in_ok-look-in-Look.ensures.shown clean books found.0 held in
     let answer = seen_reply c.in_ok-look-in-Look.field-0 in
     let P : Request → Type 0 = λ it. IsDone c.args.limits b (seen_request it) answer false s2 books in
-    subst P (sym c.in-Look.is) (kept_done c.args.limits b books (seen_request (request.Look c.in-Look.ask.now)) answer false s2 there.0 refl shown.1 shown.0)
+    subst P (sym c.in-Look.is) (kept_done c.args.limits b books (seen_request (request.Look c.in-Look.ask)) answer false s2 there.0 refl shown.1 shown.0)
 
 pub returns-in-Office-clause-works : goal.returns-in-Office-clause-works
 returns-in-Office-clause-works g c = λ clean books holds held.
