@@ -1,5 +1,5 @@
 -- What serde_json writes is JSON text as the definitions of the shop have it.
-use Rattle.std.proofs.Common.{◌≡◌, ◌∙◌, refl, ap, ℕ, true, false, Bool, List, [], ◌∷◌, ◌++◌, map, codes, decimal, Option, Some, None}
+use Rattle.std.proofs.Common.{◌≡◌, ◌∙◌, refl, ap, ℕ, true, false, Bool, List, [], ◌∷◌, ◌++◌, map, decimal, Option, Some, None}
 use Rattle.std.specs.Prelude.{Result, IfOk, String, string_bytes}
 use Rattle.std.specs.declared.alloc.Global.{Global}
 use Rattle.std.proofs.lemmas.Result.{IfOk-weaker}
@@ -10,25 +10,8 @@ use Rattle.serde_json.specs.Written as written
 use Rattle.shop_model.specs.Values.{Text, Film, OfficeAct, AddCountry, AddCity, AddLanguage, AddCategory, AddActor, AddFilm, PriceFilm, WithdrawFilm, AddCast, AddBranch, AddStaff, StaffLeaves, SetManager}
 use Rattle.shop_model.specs.Json as json
 use Rattle.shop_model.specs.Answers.{film_text}
+use Rattle.reply_bodies.specs.Texts.{json_text, item_texts, member_texts}
 use Rattle.reply_bodies.specs.Bodies.{numbers_value, film_value, office_value, office_members}
-
--- a value's text by the definitions of the shop
-abbrev mutual
-  pub json_text : Data → Text
-  json_text null = codes "null"
-  json_text (boolean b) = json.flag_text b
-  json_text (number n) = written.number_text n
-  json_text (string s) = json.quoted s
-  json_text (array ds) = json.array (item_texts ds)
-  json_text (object ms) = json.object (member_texts ms)
-
-  pub item_texts : Items → List Text
-  item_texts no_items = []
-  item_texts (item d ds) = json_text d ∷ item_texts ds
-
-  pub member_texts : Members → List (Text × Text)
-  member_texts no_members = []
-  member_texts (member k d ms) = (k, json_text d) ∷ member_texts ms
 
 same_escapes : print.escape_byte ≡ json.escape_byte
 unfolding print.escape_byte json.escape_byte

@@ -2,21 +2,13 @@ ghost use Rattle.std.specs.Prelude.{◌≡◌, IfOk, string_bytes};
 ghost use Rattle.serde_json.specs.View.{view};
 ghost use Rattle.shop_model.specs.Answers.{film_text};
 ghost use Rattle.shop_types.specs.Seen.{seen_film};
-ghost use Rattle.reply_bodies.specs.Bodies.{minutes_value, film_value};
+ghost use Rattle.reply_bodies.specs.Bodies.{film_value};
 
-use serde_json::{Value, json};
-use shop_types::{Film, Minutes};
+use crate::fields::{Field, object_of};
+use serde_json::Value;
+use shop_types::Film;
 use shop_values::FilmNo;
 use std::alloc::{AllocError, Global};
-
-fn minutes_value(minutes: Option<Minutes>) -> Value
-    ensures { view result ≡ minutes_value minutes }
-{
-    match minutes {
-        Some(minutes) => Value::from(minutes.get()),
-        None => Value::Null,
-    }
-}
 
 fn film_value(
     alloc: Global,
@@ -26,21 +18,27 @@ fn film_value(
 ) -> Result<Value, AllocError>
     ensures { IfOk result (λ v. view v ≡ film_value number (record (seen_film film.now) { withdrawn = withdrawn })) }
 {
-    let length = minutes_value(film.minutes);
-    json!(in alloc; {
-        "category": film.category.get(),
-        "description": film.description.as_str(),
-        "features": film.features.text(),
-        "film": number.get(),
-        "language": film.language.get(),
-        "length": length,
-        "period": film.period.get(),
-        "rate": film.rate.get(),
-        "rating": film.rating.text(),
-        "replacement": film.replacement.get(),
-        "title": film.title.as_str(),
-        "withdrawn": withdrawn
-    })
+    let length = match film.minutes {
+        Some(minutes) => Field::Number("length", minutes.get() as u64),
+        None => Field::Null("length"),
+    };
+    object_of(
+        alloc,
+        &[
+            Field::Number("category", film.category.get() as u64),
+            Field::Text("description", film.description.as_str()),
+            Field::Text("features", film.features.text()),
+            Field::Number("film", number.get() as u64),
+            Field::Number("language", film.language.get() as u64),
+            length,
+            Field::Number("period", film.period.get() as u64),
+            Field::Number("rate", film.rate.get() as u64),
+            Field::Text("rating", film.rating.text()),
+            Field::Number("replacement", film.replacement.get() as u64),
+            Field::Text("title", film.title.as_str()),
+            Field::Flag("withdrawn", withdrawn),
+        ],
+    )
 }
 
 /// The body that shows a film and its number, withdrawn or not: language and category are their numbers, and `length` is `null` where it isn't known.

@@ -2,6 +2,7 @@
 #![tactic(auto)]
 
 mod customer;
+mod fields;
 mod film;
 mod numbers;
 mod office;
@@ -10,6 +11,7 @@ mod rental;
 mod stock;
 
 pub use customer::{customer_text, new_customer_text};
+pub use fields::{Field, object_of};
 pub use film::film_text;
 pub use office::office_text;
 pub use payment::{balance_text, payment_text, rewards_text};

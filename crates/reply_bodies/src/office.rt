@@ -1,36 +1,52 @@
-ghost use Rattle.std.specs.Prelude.{◌≡◌, IfOk, string_bytes};
+ghost use Rattle.std.specs.Prelude.{◌≡◌, ◌∷◌, option_to_list, IfOk, string_bytes};
 ghost use Rattle.serde_json.specs.View.{view};
 ghost use Rattle.shop_model.specs.Json.{object};
 ghost use Rattle.shop_types.specs.Seen.{seen_office_act};
+ghost use Rattle.reply_bodies.specs.Fields.{fields_value};
 ghost use Rattle.reply_bodies.specs.Bodies.{office_value, office_members};
 
-use serde_json::{Value, json};
+use crate::fields::{Field, object_of};
+use serde_json::Value;
 use shop_types::OfficeAct;
 use std::alloc::{AllocError, Global};
+
+/// The members of the body, one or two: a new row's number is the next one of its kind.
+fn office_fields(act: &OfficeAct, next: u32) -> (Field<'static>, Option<Field<'static>>)
+    ensures { fields_value (result.0 ∷ option_to_list result.1) ≡ office_value (seen_office_act act.now) next }
+{
+    let next = next as u64;
+    match act {
+        OfficeAct::Country(_) => (Field::Number("country", next), None),
+        OfficeAct::City(_) => (Field::Number("city", next), None),
+        OfficeAct::Language(_) => (Field::Number("language", next), None),
+        OfficeAct::Category(_) => (Field::Number("category", next), None),
+        OfficeAct::Actor(_) => (Field::Number("actor", next), None),
+        OfficeAct::Film(_) => (Field::Number("film", next), None),
+        OfficeAct::Price { film, rate } => (
+            Field::Number("film", film.get() as u64),
+            Some(Field::Number("rate", rate.get() as u64)),
+        ),
+        OfficeAct::Withdraw(film) => (Field::Number("film", film.get() as u64), None),
+        OfficeAct::Cast { film, actor } => (
+            Field::Number("actor", actor.get() as u64),
+            Some(Field::Number("film", film.get() as u64)),
+        ),
+        OfficeAct::Branch(_) => (Field::Number("branch", next), None),
+        OfficeAct::Staff(_) => (Field::Number("staff", next), None),
+        OfficeAct::Leave(staff) => (Field::Number("staff", staff.get() as u64), None),
+        OfficeAct::Manager { branch, staff } => (
+            Field::Number("branch", branch.get() as u64),
+            Some(Field::Number("staff", staff.get() as u64)),
+        ),
+    }
+}
 
 fn office_value(alloc: Global, act: &OfficeAct, next: u32) -> Result<Value, AllocError>
     ensures { IfOk result (λ v. view v ≡ office_value (seen_office_act act.now) next) }
 {
-    match act {
-        OfficeAct::Country(_) => json!(in alloc; {"country": next}),
-        OfficeAct::City(_) => json!(in alloc; {"city": next}),
-        OfficeAct::Language(_) => json!(in alloc; {"language": next}),
-        OfficeAct::Category(_) => json!(in alloc; {"category": next}),
-        OfficeAct::Actor(_) => json!(in alloc; {"actor": next}),
-        OfficeAct::Film(_) => json!(in alloc; {"film": next}),
-        OfficeAct::Price { film, rate } => {
-            json!(in alloc; {"film": film.get(), "rate": rate.get()})
-        }
-        OfficeAct::Withdraw(film) => json!(in alloc; {"film": film.get()}),
-        OfficeAct::Cast { film, actor } => {
-            json!(in alloc; {"actor": actor.get(), "film": film.get()})
-        }
-        OfficeAct::Branch(_) => json!(in alloc; {"branch": next}),
-        OfficeAct::Staff(_) => json!(in alloc; {"staff": next}),
-        OfficeAct::Leave(staff) => json!(in alloc; {"staff": staff.get()}),
-        OfficeAct::Manager { branch, staff } => {
-            json!(in alloc; {"branch": branch.get(), "staff": staff.get()})
-        }
+    match office_fields(act, next) {
+        (only, None) => object_of(alloc, &[only]),
+        (first, Some(second)) => object_of(alloc, &[first, second]),
     }
 }
 

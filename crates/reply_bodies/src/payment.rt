@@ -4,6 +4,7 @@ ghost use Rattle.serde_json.specs.View.{view};
 ghost use Rattle.shop_model.specs.Json.{numbers_text, object};
 ghost use Rattle.reply_bodies.specs.Bodies.{balance_value, rewards_value};
 
+use crate::fields::{Field, object_text};
 use crate::numbers::numbers_value;
 use serde_json::{Value, json};
 use shop_values::{Cents, CustomerNo, PaymentNo};
@@ -13,7 +14,7 @@ use std::alloc::{AllocError, Global};
 pub fn payment_text(alloc: Global, payment: PaymentNo) -> Result<String, AllocError>
     ensures { IfOk result (λ s. string_bytes s ≡ object ((codes "payment", decimal payment) ∷ [])) }
 {
-    json!(in alloc; {"payment": payment.get()})?.to_string(alloc)
+    object_text(alloc, &[Field::Number("payment", payment.get() as u64)])
 }
 
 fn balance_value(alloc: Global, balance: Cents) -> Result<Value, AllocError>

@@ -5,6 +5,7 @@ ghost use Rattle.reply_bodies.specs.Bodies.{active_value, copies_value, holder_v
 ghost use Rattle.std.specs.Option.{option_to_list};
 ghost use Rattle.shop_model.specs.Answers.{holder_text};
 
+use crate::fields::{Field, object_of, object_text};
 use crate::numbers::numbers_value;
 use serde_json::{Value, json};
 use shop_values::{CopyNo, CustomerNo, RentalNo};
@@ -13,7 +14,13 @@ use std::alloc::{AllocError, Global};
 fn active_value(alloc: Global, customer: CustomerNo, active: bool) -> Result<Value, AllocError>
     ensures { IfOk result (λ v. view v ≡ active_value customer active) }
 {
-    json!(in alloc; {"active": active, "customer": customer.get()})
+    object_of(
+        alloc,
+        &[
+            Field::Flag("active", active),
+            Field::Number("customer", customer.get() as u64),
+        ],
+    )
 }
 
 /// The body that tells a counter whether the customer may rent from now on.
@@ -27,37 +34,38 @@ pub fn active_text(alloc: Global, customer: CustomerNo, active: bool) -> Result<
 pub fn rental_text(alloc: Global, rental: RentalNo) -> Result<String, AllocError>
     ensures { IfOk result (λ s. string_bytes s ≡ object ((codes "rental", decimal rental) ∷ [])) }
 {
-    json!(in alloc; {"rental": rental.get()})?.to_string(alloc)
+    object_text(alloc, &[Field::Number("rental", rental.get() as u64)])
 }
 
 /// The body that tells a counter which rental's copy came back.
 pub fn returned_text(alloc: Global, rental: RentalNo) -> Result<String, AllocError>
     ensures { IfOk result (λ s. string_bytes s ≡ object ((codes "returned", decimal rental) ∷ [])) }
 {
-    json!(in alloc; {"returned": rental.get()})?.to_string(alloc)
+    object_text(alloc, &[Field::Number("returned", rental.get() as u64)])
 }
 
 /// The body that tells a counter which copy is scrapped.
 pub fn scrapped_text(alloc: Global, copy: CopyNo) -> Result<String, AllocError>
     ensures { IfOk result (λ s. string_bytes s ≡ object ((codes "scrapped", decimal copy) ∷ [])) }
 {
-    json!(in alloc; {"scrapped": copy.get()})?.to_string(alloc)
+    object_text(alloc, &[Field::Number("scrapped", copy.get() as u64)])
 }
 
 /// The body that shows whether a copy is in stock.
 pub fn in_stock_text(alloc: Global, is_in: bool) -> Result<String, AllocError>
     ensures { IfOk result (λ s. string_bytes s ≡ object ((codes "in_stock", flag_text is_in) ∷ [])) }
 {
-    json!(in alloc; {"in_stock": is_in})?.to_string(alloc)
+    object_text(alloc, &[Field::Flag("in_stock", is_in)])
 }
 
 fn holder_value(alloc: Global, customer: Option<CustomerNo>) -> Result<Value, AllocError>
     ensures { IfOk result (λ v. view v ≡ holder_value customer) }
 {
-    match customer {
-        Some(customer) => json!(in alloc; {"customer": customer.get()}),
-        None => json!(in alloc; {"customer": null}),
-    }
+    let holder = match customer {
+        Some(customer) => Field::Number("customer", customer.get() as u64),
+        None => Field::Null("customer"),
+    };
+    object_of(alloc, &[holder])
 }
 
 /// The body that shows which customer has a copy: `null` where none does.

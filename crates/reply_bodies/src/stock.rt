@@ -1,7 +1,7 @@
 ghost use Rattle.std.specs.Prelude.{◌≡◌, [], ◌∷◌, codes, decimal, IfOk, string_bytes};
 ghost use Rattle.shop_model.specs.Json.{object};
 
-use serde_json::json;
+use crate::fields::{Field, object_text};
 use shop_values::CopyNo;
 use std::alloc::{AllocError, Global};
 
@@ -9,5 +9,11 @@ use std::alloc::{AllocError, Global};
 pub fn new_copies_text(alloc: Global, copies: u32, first: CopyNo) -> Result<String, AllocError>
     ensures { IfOk result (λ s. string_bytes s ≡ object ((codes "copies", decimal copies) ∷ (codes "first", decimal first) ∷ [])) }
 {
-    json!(in alloc; {"copies": copies, "first": first.get()})?.to_string(alloc)
+    object_text(
+        alloc,
+        &[
+            Field::Number("copies", copies as u64),
+            Field::Number("first", first.get() as u64),
+        ],
+    )
 }

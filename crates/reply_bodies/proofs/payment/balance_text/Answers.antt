@@ -4,7 +4,8 @@ use Rattle.std.proofs.lemmas.Result.{IfOk-weaker}
 use Rattle.shop_model.specs.Json.{object as object_text}
 use Rattle.serde_json.specs.Written as written
 use Rattle.reply_bodies.specs.Bodies.{balance_value}
-use Rattle.reply_bodies.proofs.TextLemmas.{json_text, text_of_value}
+use Rattle.reply_bodies.specs.Texts.{json_text}
+use Rattle.reply_bodies.proofs.TextLemmas.{text_of_value}
 use Rattle.reply_bodies.proofs.payment.balance_text.Goals as goal
 
 no_float : (cents : ℤ) → written.has_float (balance_value cents) ≡ false

@@ -4,7 +4,8 @@ use Rattle.shop_model.specs.Json.{array as array_text, object as object_text, nu
 use Rattle.shop_model.specs.Values.{Text}
 use Rattle.serde_json.specs.Written as written
 use Rattle.reply_bodies.specs.Bodies.{copies_value}
-use Rattle.reply_bodies.proofs.TextLemmas.{json_text, numbers_no_float, numbers_texts, text_of_value}
+use Rattle.reply_bodies.specs.Texts.{json_text}
+use Rattle.reply_bodies.proofs.TextLemmas.{numbers_no_float, numbers_texts, text_of_value}
 use Rattle.reply_bodies.proofs.rental.copies_text.Goals as goal
 
 no_float_in : (ns : List ℕ) → written.has_float (copies_value ns) ≡ false

@@ -6,7 +6,8 @@ use Rattle.shop_model.specs.Json.{object}
 use Rattle.shop_model.specs.Answers.{holder_text}
 use Rattle.serde_json.specs.Written as written
 use Rattle.reply_bodies.specs.Bodies.{holder_value}
-use Rattle.reply_bodies.proofs.TextLemmas.{json_text, text_of_value}
+use Rattle.reply_bodies.specs.Texts.{json_text}
+use Rattle.reply_bodies.proofs.TextLemmas.{text_of_value}
 use Rattle.reply_bodies.proofs.rental.holder_text.Goals as goal
 
 no_float : (customer : Option ℕ) → written.has_float (holder_value customer) ≡ false
