@@ -6,7 +6,8 @@ use Rattle.shop_model.specs.Answers.{overdue_text}
 use Rattle.shop_model.specs.Json.{array}
 use Rattle.shop_model.specs.Values.{Text}
 use Rattle.shop_model.specs.Views as views
-use Rattle.reply_bodies.proofs.TextLemmas.{item_texts, same_text}
+use Rattle.reply_bodies.specs.Texts.{item_texts}
+use Rattle.reply_bodies.proofs.TextLemmas.{same_text}
 use Rattle.shop_views.specs.Overdue.{overdue_data, overdue_value}
 
 pub no_float : (rows : List views.OverdueRow) → written.has_float (overdue_value rows) ≡ false

@@ -10,7 +10,8 @@ use Rattle.shop_model.specs.Values.{Text}
 use Rattle.shop_model.specs.Json.{items_text, array}
 use Rattle.shop_model.specs.Machine.{Shown, CustomerIs, FilmIs, InStockIs, HolderIs, CopiesAre, BalanceIs, OverdueAre, CustomersAre, ArrivalsAre, SentAre, CustomersListed, StaffListed, FilmsListed, ActorsListed, StoresListed, CategoriesListed, HereAt, UnderWayTo, Gone, TransitIs, AuditIs}
 use Rattle.shop_model.specs.Answers.{shown_text, overdue_text, listed_customer, person_text, listed_film, listed_actor, listed_store, listed_category}
-use Rattle.reply_bodies.proofs.TextLemmas.{json_text, same_text, list_texts}
+use Rattle.reply_bodies.specs.Texts.{json_text}
+use Rattle.reply_bodies.proofs.TextLemmas.{same_text, list_texts}
 use Rattle.shop_views.specs.Overdue.{overdue_data}
 use Rattle.shop_views.specs.People.{customer_data, staff_data}
 use Rattle.shop_views.specs.Films.{film_data, actor_data}

@@ -9,7 +9,8 @@ ghost use Rattle.shop_model.specs.Answers.{listed_actor};
 ghost use Rattle.shop_views.specs.Films.{films_text, seen_actor, actor_data};
 
 use crate::names::PersonName;
-use serde_json::{Value, json};
+use reply_bodies::{Field, object_of};
+use serde_json::Value;
 use shop_values::{ActorNo, T45, T128};
 use std::alloc::{AllocError, Global};
 
@@ -84,16 +85,26 @@ fn film_info(alloc: Global, groups: &[FilmGroup]) -> Result<String, AllocError>
     texts.as_slice().join(alloc, "; ")
 }
 
+/// The actor with that text of the films.
+fn actor_object<'a>(alloc: Global, row: &'a ActorRow, films: &'a str) -> Result<Value, AllocError>
+    ensures { IfOk result (λ v. view v ≡ actor_data (record (seen_actor row.now) { films = films.now })) }
+{
+    object_of(
+        alloc,
+        &[
+            Field::Number("actor", row.number.get() as u64),
+            Field::Text("film_info", films),
+            Field::Text("first", row.name.first.as_str()),
+            Field::Text("last", row.name.last.as_str()),
+        ],
+    )
+}
+
 fn actor_value(alloc: Global, row: &ActorRow) -> Result<Value, AllocError>
     ensures { IfOk result (λ v. view v ≡ actor_data (seen_actor row.now)) }
 {
     let films = film_info(alloc, row.groups.as_slice())?;
-    json!(in alloc; {
-        "actor": row.number.get(),
-        "film_info": films.as_str(),
-        "first": row.name.first.as_str(),
-        "last": row.name.last.as_str()
-    })
+    actor_object(alloc, row, films.as_str())
 }
 
 /// An actor of `actor_info`, as an object: who plays in no film has an empty `film_info`.

@@ -7,7 +7,8 @@ ghost use Rattle.shop_model.specs.Answers.{listed_film};
 ghost use Rattle.shop_views.specs.Films.{film_with, seen_film, film_data};
 
 use crate::names::{PersonName, joined_names};
-use serde_json::{Value, json};
+use reply_bodies::{Field, object_of};
+use serde_json::Value;
 use shop_types::{Minutes, Rating};
 use shop_values::{FilmNo, L45, L500, Rate, T128};
 use std::alloc::{AllocError, Global};
@@ -29,31 +30,26 @@ pub struct FilmRow {
 }
 
 /// The film with that text of its actors.
-fn film_object(alloc: Global, row: &FilmRow, actors: &str) -> Result<Value, AllocError>
+fn film_object<'a>(alloc: Global, row: &'a FilmRow, actors: &'a str) -> Result<Value, AllocError>
     ensures { IfOk result (λ v. view v ≡ film_data (film_with actors.now row.now)) }
 {
-    match row.minutes {
-        Some(minutes) => json!(in alloc; {
-            "actors": actors,
-            "category": row.category.as_str(),
-            "description": row.description.as_str(),
-            "film": row.number.get(),
-            "length": minutes.get(),
-            "price": row.rate.get(),
-            "rating": row.rating.text(),
-            "title": row.title.as_str()
-        }),
-        None => json!(in alloc; {
-            "actors": actors,
-            "category": row.category.as_str(),
-            "description": row.description.as_str(),
-            "film": row.number.get(),
-            "length": null,
-            "price": row.rate.get(),
-            "rating": row.rating.text(),
-            "title": row.title.as_str()
-        }),
-    }
+    let length = match row.minutes {
+        Some(minutes) => Field::Number("length", minutes.get() as u64),
+        None => Field::Null("length"),
+    };
+    object_of(
+        alloc,
+        &[
+            Field::Text("actors", actors),
+            Field::Text("category", row.category.as_str()),
+            Field::Text("description", row.description.as_str()),
+            Field::Number("film", row.number.get() as u64),
+            length,
+            Field::Number("price", row.rate.get() as u64),
+            Field::Text("rating", row.rating.text()),
+            Field::Text("title", row.title.as_str()),
+        ],
+    )
 }
 
 fn film_value(alloc: Global, row: &FilmRow) -> Result<Value, AllocError>

@@ -5,7 +5,8 @@ ghost use Rattle.shop_model.specs.Json.{array};
 ghost use Rattle.shop_model.specs.Answers.{overdue_text};
 ghost use Rattle.shop_views.specs.Overdue.{overdue_data, overdue_value, seen_overdue};
 
-use serde_json::{Value, json};
+use reply_bodies::{Field, object_of};
+use serde_json::Value;
 use shop_values::{L45, T45, T128};
 use std::alloc::{AllocError, Global};
 
@@ -26,15 +27,29 @@ fn customer_name(alloc: Global, first: &str, last: &str) -> Result<String, Alloc
     format!(in alloc; "{last}, {first}")
 }
 
+/// The rental by that name of the customer.
+fn overdue_object<'a>(
+    alloc: Global,
+    row: &'a OverdueRow,
+    customer: &'a str,
+) -> Result<Value, AllocError>
+    ensures { IfOk result (λ v. view v ≡ overdue_data (record (seen_overdue row.now) { customer = customer.now })) }
+{
+    object_of(
+        alloc,
+        &[
+            Field::Text("customer", customer),
+            Field::Text("phone", row.phone.as_str()),
+            Field::Text("title", row.title.as_str()),
+        ],
+    )
+}
+
 fn overdue_value(alloc: Global, row: &OverdueRow) -> Result<Value, AllocError>
     ensures { IfOk result (λ v. view v ≡ overdue_data (seen_overdue row.now)) }
 {
     let customer = customer_name(alloc, row.first.as_str(), row.last.as_str())?;
-    json!(in alloc; {
-        "customer": customer.as_str(),
-        "phone": row.phone.as_str(),
-        "title": row.title.as_str()
-    })
+    overdue_object(alloc, row, customer.as_str())
 }
 
 /// One rental, as an object.

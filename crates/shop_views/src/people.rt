@@ -7,7 +7,8 @@ ghost use Rattle.shop_model.specs.Answers.{listed_customer, person_text};
 ghost use Rattle.shop_views.specs.People.{person_as, seen_customer, seen_staff, customer_data, staff_data};
 
 use crate::names::{PersonName, full_name};
-use serde_json::{Value, json};
+use reply_bodies::{Field, object_of};
+use serde_json::Value;
 use shop_values::{BranchNo, CustomerNo, L45, StaffNo, T128};
 use std::alloc::{AllocError, Global};
 
@@ -51,22 +52,29 @@ fn note_of(active: bool) -> &'static str
 }
 
 /// The customer by that whole name.
-fn customer_object(alloc: Global, row: &CustomerRow, name: &str) -> Result<Value, AllocError>
+fn customer_object<'a>(
+    alloc: Global,
+    row: &'a CustomerRow,
+    name: &'a str,
+) -> Result<Value, AllocError>
     ensures { IfOk result (λ v. view v ≡ customer_data (person_as row.now.number name.now row.now.person, row.now.active)) }
 {
     let person = &row.person;
     let note = note_of(row.active);
-    json!(in alloc; {
-        "address": person.address.as_str(),
-        "branch": person.branch.get(),
-        "city": person.city.as_str(),
-        "country": person.country.as_str(),
-        "id": row.number.get(),
-        "name": name,
-        "note": note,
-        "phone": person.phone.as_str(),
-        "postal": person.postal.as_str()
-    })
+    object_of(
+        alloc,
+        &[
+            Field::Text("address", person.address.as_str()),
+            Field::Number("branch", person.branch.get() as u64),
+            Field::Text("city", person.city.as_str()),
+            Field::Text("country", person.country.as_str()),
+            Field::Number("id", row.number.get() as u64),
+            Field::Text("name", name),
+            Field::Text("note", note),
+            Field::Text("phone", person.phone.as_str()),
+            Field::Text("postal", person.postal.as_str()),
+        ],
+    )
 }
 
 fn customer_value(alloc: Global, row: &CustomerRow) -> Result<Value, AllocError>
@@ -86,21 +94,32 @@ pub fn customer_row(alloc: Global, row: &CustomerRow) -> Result<Value, AllocErro
     customer_value(alloc, row)
 }
 
+/// The member of staff by that whole name.
+fn staff_object<'a>(alloc: Global, row: &'a StaffRow, name: &'a str) -> Result<Value, AllocError>
+    ensures { IfOk result (λ v. view v ≡ staff_data (person_as row.now.number name.now row.now.person)) }
+{
+    let person = &row.person;
+    object_of(
+        alloc,
+        &[
+            Field::Text("address", person.address.as_str()),
+            Field::Number("branch", person.branch.get() as u64),
+            Field::Text("city", person.city.as_str()),
+            Field::Text("country", person.country.as_str()),
+            Field::Number("id", row.number.get() as u64),
+            Field::Text("name", name),
+            Field::Text("phone", person.phone.as_str()),
+            Field::Text("postal", person.postal.as_str()),
+        ],
+    )
+}
+
 fn staff_value(alloc: Global, row: &StaffRow) -> Result<Value, AllocError>
     ensures { IfOk result (λ v. view v ≡ staff_data (seen_staff row.now)) }
 {
-    let staff = &row.person;
-    let name = full_name(alloc, staff.name.first.as_str(), staff.name.last.as_str())?;
-    json!(in alloc; {
-        "address": staff.address.as_str(),
-        "branch": staff.branch.get(),
-        "city": staff.city.as_str(),
-        "country": staff.country.as_str(),
-        "id": row.number.get(),
-        "name": name.as_str(),
-        "phone": staff.phone.as_str(),
-        "postal": staff.postal.as_str()
-    })
+    let names = &row.person.name;
+    let name = full_name(alloc, names.first.as_str(), names.last.as_str())?;
+    staff_object(alloc, row, name.as_str())
 }
 
 /// A member of staff of `staff_list`, as an object: `id` is the number of the member of staff.

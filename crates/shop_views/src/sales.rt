@@ -7,7 +7,8 @@ ghost use Rattle.shop_model.specs.Answers.{listed_store, listed_category};
 ghost use Rattle.shop_views.specs.Sales.{manager_text, seen_store, seen_category, store_data, category_data};
 
 use crate::names::{PersonName, full_name};
-use serde_json::{Value, json};
+use reply_bodies::{Field, object_of};
+use serde_json::Value;
 use shop_values::{L45, T45};
 use std::alloc::{AllocError, Global};
 
@@ -50,16 +51,31 @@ fn manager_name(alloc: Global, manager: &Option<PersonName>) -> Result<String, A
     }
 }
 
+/// The branch by that text of the place and the manager's whole name.
+fn store_object<'a>(
+    alloc: Global,
+    store: &'a str,
+    manager: &'a str,
+    total: u64,
+) -> Result<Value, AllocError>
+    ensures { IfOk result (λ v. view v ≡ store_data (record { store = store.now; manager = manager.now; total = total })) }
+{
+    object_of(
+        alloc,
+        &[
+            Field::Text("manager", manager),
+            Field::Text("store", store),
+            Field::Number("total", total),
+        ],
+    )
+}
+
 fn store_value(alloc: Global, row: &StoreRow) -> Result<Value, AllocError>
     ensures { IfOk result (λ v. view v ≡ store_data (seen_store row.now)) }
 {
     let store = store_name(alloc, row.city.as_str(), row.country.as_str())?;
     let manager = manager_name(alloc, &row.manager)?;
-    json!(in alloc; {
-        "manager": manager.as_str(),
-        "store": store.as_str(),
-        "total": row.total
-    })
+    store_object(alloc, store.as_str(), manager.as_str(), row.total)
 }
 
 /// The row of `sales_by_store`, as an object.
@@ -74,10 +90,13 @@ pub fn store_row(alloc: Global, row: &StoreRow) -> Result<Value, AllocError>
 fn category_value(alloc: Global, row: &CategoryRow) -> Result<Value, AllocError>
     ensures { IfOk result (λ v. view v ≡ category_data (seen_category row.now)) }
 {
-    json!(in alloc; {
-        "category": row.category.as_str(),
-        "total": row.total
-    })
+    object_of(
+        alloc,
+        &[
+            Field::Text("category", row.category.as_str()),
+            Field::Number("total", row.total),
+        ],
+    )
 }
 
 /// A row of `sales_by_film_category`, as an object.
