@@ -1,3 +1,4 @@
 pub mod NumberLemmas
 pub mod OfficeIsSimple
+pub mod TableLemmas
 pub mod WorkedLines

@@ -2,3 +2,4 @@ pub mod CommandLine
 pub mod Given
 pub mod Acts
 pub mod Line
+pub mod Table

@@ -1,14 +1,151 @@
-ghost use Rattle.std.specs.Prelude.{◌≡◌, false, true, IfOk, codes, fold};
-ghost use Rattle.clap.specs.Words.{app_of, shape_of, with_rule, with_subcommand, new_app};
+//! The command line of head office, as a table of its subcommands and their options.
+
+ghost use Rattle.std.specs.Prelude.{◌≡◌, false, IfOk, map, fold};
+ghost use Rattle.clap.specs.Words.{app_of, shape_of, with_subcommand};
 ghost use Rattle.clap.specs.declared.builder.command.Command.TheViews.{out-Command as fields_of};
 ghost use Rattle.office_words.specs.CommandLine as line;
+ghost use Rattle.office_words.specs.Table.{table_shape};
 
-use crate::options::{
-    default_number, default_text, number, optional, optional_number, row, text, with_contact,
-    with_option, with_person,
-};
+use crate::options::{Kind, optional, with_options};
 use clap::Command;
 use std::alloc::{AllocError, Global};
+
+/// A subcommand: its name and its options.
+#[derive(Clone, Copy)]
+struct Subcommand {
+    name: &'static str,
+    options: &'static [(&'static str, Kind)],
+}
+
+/// The subcommands, in the order in which help tells them.
+const SUBCOMMANDS: [Subcommand; 18] = [
+    // ---- what changes the catalogue
+    Subcommand {
+        name: "country-add",
+        options: &[("key", Kind::Text), ("name", Kind::Text)],
+    },
+    Subcommand {
+        name: "language-add",
+        options: &[("key", Kind::Text), ("name", Kind::Text)],
+    },
+    Subcommand {
+        name: "category-add",
+        options: &[("key", Kind::Text), ("name", Kind::Text)],
+    },
+    Subcommand {
+        name: "city-add",
+        options: &[
+            ("key", Kind::Text),
+            ("name", Kind::Text),
+            ("country", Kind::Row),
+        ],
+    },
+    Subcommand {
+        name: "actor-add",
+        options: &[
+            ("key", Kind::Text),
+            ("first", Kind::Text),
+            ("last", Kind::Text),
+        ],
+    },
+    Subcommand {
+        name: "film-add",
+        options: &[
+            ("key", Kind::Text),
+            ("title", Kind::Text),
+            ("description", Kind::DefaultText("")),
+            ("language", Kind::Row),
+            ("category", Kind::Row),
+            ("rating", Kind::DefaultText("G")),
+            ("period", Kind::DefaultNumber(1, 255, "3")),
+            ("rate", Kind::DefaultNumber(0, 9_999, "499")),
+            ("replacement", Kind::DefaultNumber(0, 99_999, "1999")),
+            ("length", Kind::OptionalNumber(1, 65_535)),
+            ("features", Kind::DefaultText("")),
+        ],
+    },
+    Subcommand {
+        name: "film-price",
+        options: &[
+            ("key", Kind::Text),
+            ("film", Kind::Row),
+            ("rate", Kind::Number(0, 9_999)),
+        ],
+    },
+    Subcommand {
+        name: "film-withdraw",
+        options: &[("key", Kind::Text), ("film", Kind::Row)],
+    },
+    Subcommand {
+        name: "cast-add",
+        options: &[
+            ("key", Kind::Text),
+            ("film", Kind::Row),
+            ("actor", Kind::Row),
+        ],
+    },
+    // ---- the branches and their staff
+    Subcommand {
+        name: "branch-add",
+        options: &[
+            ("key", Kind::Text),
+            ("token", Kind::Text),
+            ("city", Kind::Row),
+            ("address", Kind::Text),
+            ("postal", Kind::Text),
+            ("phone", Kind::Text),
+        ],
+    },
+    Subcommand {
+        name: "staff-add",
+        options: &[
+            ("key", Kind::Text),
+            ("branch", Kind::Row),
+            ("city", Kind::Row),
+            ("first", Kind::Text),
+            ("last", Kind::Text),
+            ("address", Kind::Text),
+            ("postal", Kind::Text),
+            ("phone", Kind::Text),
+        ],
+    },
+    Subcommand {
+        name: "staff-leave",
+        options: &[("key", Kind::Text), ("staff", Kind::Row)],
+    },
+    Subcommand {
+        name: "manager-set",
+        options: &[
+            ("key", Kind::Text),
+            ("branch", Kind::Row),
+            ("staff", Kind::Row),
+        ],
+    },
+    // ---- the program itself
+    Subcommand {
+        name: "init",
+        options: &[("token", Kind::Text)],
+    },
+    Subcommand {
+        name: "migrate",
+        options: &[],
+    },
+    Subcommand {
+        name: "serve",
+        options: &[
+            ("port", Kind::Number(1, 65_535)),
+            ("connections", Kind::Number(1, 1_000_000)),
+        ],
+    },
+    Subcommand {
+        name: "replay",
+        options: &[],
+    },
+    Subcommand {
+        name: "sales",
+        options: &[],
+    },
+];
 
 /// The command with one more subcommand.
 fn with_command<'a>(command: Command<'a>, inner: Command<'a>) -> Result<Command<'a>, AllocError>
@@ -20,295 +157,33 @@ fn with_command<'a>(command: Command<'a>, inner: Command<'a>) -> Result<Command<
     command.subcommand(inner)
 }
 
-/// A subcommand that changes the catalogue.
-fn keyed<'a>(alloc: Global, name: &'a str) -> Result<Command<'a>, AllocError>
-    ensures app { IfOk result (λ c. app_of c ≡ with_rule (new_app name.entry.now) (line.text_rule (codes "key"))) }
+/// The command of a subcommand.
+fn command_of<'a>(alloc: Global, subcommand: Subcommand) -> Result<Command<'a>, AllocError>
+    ensures shape { IfOk result (λ c. shape_of c ≡ table_shape subcommand) }
     ensures local { IfOk result (λ c. (fields_of c).has_globals ≡ false) }
 {
-    with_option(Command::new(alloc, name), text(alloc, "key"))
+    let command = Command::new(alloc, subcommand.name);
+    with_options(alloc, command, subcommand.options)
 }
 
-/// A subcommand that adds what has a name alone.
-fn named<'a>(alloc: Global, name: &'a str) -> Result<Command<'a>, AllocError>
-    ensures shape { IfOk result (λ c. shape_of c ≡ line.named_shape name.entry.now) }
-    ensures local { IfOk result (λ c. (fields_of c).has_globals ≡ false) }
-{
-    with_option(keyed(alloc, name)?, text(alloc, "name"))
-}
-
-fn city_add<'a>(alloc: Global) -> Result<Command<'a>, AllocError>
-    ensures shape { IfOk result (λ c. shape_of c ≡ line.city_add_shape) }
-    ensures local { IfOk result (λ c. (fields_of c).has_globals ≡ false) }
-{
-    let command = keyed(alloc, "city-add")?;
-    let command = with_option(command, text(alloc, "name"))?;
-    with_option(command, row(alloc, "country"))
-}
-
-fn actor_add<'a>(alloc: Global) -> Result<Command<'a>, AllocError>
-    ensures shape { IfOk result (λ c. shape_of c ≡ line.actor_add_shape) }
-    ensures local { IfOk result (λ c. (fields_of c).has_globals ≡ false) }
-{
-    let command = keyed(alloc, "actor-add")?;
-    with_person(alloc, command)
-}
-
-fn with_film_texts<'a>(alloc: Global, command: Command<'a>) -> Result<Command<'a>, AllocError>
+/// The command with these subcommands more.
+fn with_commands<'a>(
+    alloc: Global,
+    mut command: Command<'a>,
+    subcommands: &[Subcommand],
+) -> Result<Command<'a>, AllocError>
     requires local { (fields_of command).has_globals ≡ false }
-    ensures app { IfOk result (λ c. app_of c ≡ fold with_rule (app_of command.entry) line.film_text_rules) }
+    ensures app { IfOk result (λ c. app_of c ≡ fold with_subcommand (app_of command.entry) (map table_shape subcommands.now)) }
     ensures local { IfOk result (λ c. (fields_of c).has_globals ≡ false) }
 {
-    let command = with_option(command, text(alloc, "title"))?;
-    with_option(command, default_text(alloc, "description", ""))
+    for subcommand in subcommands {
+        let inner = command_of(alloc, *subcommand)?;
+        command = with_command(command, inner)?;
+    }
+    Ok(command)
 }
 
-fn with_film_kinds<'a>(alloc: Global, command: Command<'a>) -> Result<Command<'a>, AllocError>
-    requires local { (fields_of command).has_globals ≡ false }
-    ensures app { IfOk result (λ c. app_of c ≡ fold with_rule (app_of command.entry) line.film_kind_rules) }
-    ensures local { IfOk result (λ c. (fields_of c).has_globals ≡ false) }
-{
-    let command = with_option(command, row(alloc, "language"))?;
-    let command = with_option(command, row(alloc, "category"))?;
-    with_option(command, default_text(alloc, "rating", "G"))
-}
-
-fn with_film_terms<'a>(alloc: Global, command: Command<'a>) -> Result<Command<'a>, AllocError>
-    requires local { (fields_of command).has_globals ≡ false }
-    ensures app { IfOk result (λ c. app_of c ≡ fold with_rule (app_of command.entry) line.film_terms_rules) }
-    ensures local { IfOk result (λ c. (fields_of c).has_globals ≡ false) }
-{
-    let command = with_option(command, default_number(alloc, "period", 1, 255, "3"))?;
-    let command = with_option(command, default_number(alloc, "rate", 0, 9_999, "499"))?;
-    with_option(
-        command,
-        default_number(alloc, "replacement", 0, 99_999, "1999"),
-    )
-}
-
-fn with_film_disc<'a>(alloc: Global, command: Command<'a>) -> Result<Command<'a>, AllocError>
-    requires local { (fields_of command).has_globals ≡ false }
-    ensures app { IfOk result (λ c. app_of c ≡ fold with_rule (app_of command.entry) line.film_disc_rules) }
-    ensures local { IfOk result (λ c. (fields_of c).has_globals ≡ false) }
-{
-    let command = with_option(command, optional_number(alloc, "length", 1, 65_535))?;
-    with_option(command, default_text(alloc, "features", ""))
-}
-
-fn film_add<'a>(alloc: Global) -> Result<Command<'a>, AllocError>
-    ensures shape { IfOk result (λ c. shape_of c ≡ line.film_add_shape) }
-    ensures local { IfOk result (λ c. (fields_of c).has_globals ≡ false) }
-{
-    let command = keyed(alloc, "film-add")?;
-    let command = with_film_texts(alloc, command)?;
-    let command = with_film_kinds(alloc, command)?;
-    let command = with_film_terms(alloc, command)?;
-    with_film_disc(alloc, command)
-}
-
-fn film_price<'a>(alloc: Global) -> Result<Command<'a>, AllocError>
-    ensures shape { IfOk result (λ c. shape_of c ≡ line.film_price_shape) }
-    ensures local { IfOk result (λ c. (fields_of c).has_globals ≡ false) }
-{
-    let command = keyed(alloc, "film-price")?;
-    let command = with_option(command, row(alloc, "film"))?;
-    with_option(command, number(alloc, "rate", 0, 9_999))
-}
-
-fn film_withdraw<'a>(alloc: Global) -> Result<Command<'a>, AllocError>
-    ensures shape { IfOk result (λ c. shape_of c ≡ line.film_withdraw_shape) }
-    ensures local { IfOk result (λ c. (fields_of c).has_globals ≡ false) }
-{
-    let command = keyed(alloc, "film-withdraw")?;
-    with_option(command, row(alloc, "film"))
-}
-
-fn cast_add<'a>(alloc: Global) -> Result<Command<'a>, AllocError>
-    ensures shape { IfOk result (λ c. shape_of c ≡ line.cast_add_shape) }
-    ensures local { IfOk result (λ c. (fields_of c).has_globals ≡ false) }
-{
-    let command = keyed(alloc, "cast-add")?;
-    let command = with_option(command, row(alloc, "film"))?;
-    with_option(command, row(alloc, "actor"))
-}
-
-fn branch_add<'a>(alloc: Global) -> Result<Command<'a>, AllocError>
-    ensures shape { IfOk result (λ c. shape_of c ≡ line.branch_add_shape) }
-    ensures local { IfOk result (λ c. (fields_of c).has_globals ≡ false) }
-{
-    let command = keyed(alloc, "branch-add")?;
-    let command = with_option(command, text(alloc, "token"))?;
-    let command = with_option(command, row(alloc, "city"))?;
-    with_contact(alloc, command)
-}
-
-fn staff_add<'a>(alloc: Global) -> Result<Command<'a>, AllocError>
-    ensures shape { IfOk result (λ c. shape_of c ≡ line.staff_add_shape) }
-    ensures local { IfOk result (λ c. (fields_of c).has_globals ≡ false) }
-{
-    let command = keyed(alloc, "staff-add")?;
-    let command = with_option(command, row(alloc, "branch"))?;
-    let command = with_option(command, row(alloc, "city"))?;
-    let command = with_person(alloc, command)?;
-    with_contact(alloc, command)
-}
-
-fn staff_leave<'a>(alloc: Global) -> Result<Command<'a>, AllocError>
-    ensures shape { IfOk result (λ c. shape_of c ≡ line.staff_leave_shape) }
-    ensures local { IfOk result (λ c. (fields_of c).has_globals ≡ false) }
-{
-    let command = keyed(alloc, "staff-leave")?;
-    with_option(command, row(alloc, "staff"))
-}
-
-fn manager_set<'a>(alloc: Global) -> Result<Command<'a>, AllocError>
-    ensures shape { IfOk result (λ c. shape_of c ≡ line.manager_set_shape) }
-    ensures local { IfOk result (λ c. (fields_of c).has_globals ≡ false) }
-{
-    let command = keyed(alloc, "manager-set")?;
-    let command = with_option(command, row(alloc, "branch"))?;
-    with_option(command, row(alloc, "staff"))
-}
-
-fn init<'a>(alloc: Global) -> Result<Command<'a>, AllocError>
-    ensures shape { IfOk result (λ c. shape_of c ≡ line.init_shape) }
-    ensures local { IfOk result (λ c. (fields_of c).has_globals ≡ false) }
-{
-    let command = Command::new(alloc, "init");
-    with_option(command, text(alloc, "token"))
-}
-
-fn migrate<'a>(alloc: Global) -> Command<'a>
-    ensures shape { shape_of result ≡ line.migrate_shape }
-    ensures local { (fields_of result).has_globals ≡ false }
-{
-    Command::new(alloc, "migrate")
-}
-
-fn serve<'a>(alloc: Global) -> Result<Command<'a>, AllocError>
-    ensures shape { IfOk result (λ c. shape_of c ≡ line.serve_shape) }
-    ensures local { IfOk result (λ c. (fields_of c).has_globals ≡ false) }
-{
-    let command = Command::new(alloc, "serve");
-    let command = with_option(command, number(alloc, "port", 1, 65_535))?;
-    with_option(command, number(alloc, "connections", 1, 1_000_000))
-}
-
-fn replay<'a>(alloc: Global) -> Command<'a>
-    ensures shape { shape_of result ≡ line.replay_shape }
-    ensures local { (fields_of result).has_globals ≡ false }
-{
-    Command::new(alloc, "replay")
-}
-
-fn sales<'a>(alloc: Global) -> Command<'a>
-    ensures shape { shape_of result ≡ line.sales_shape }
-    ensures local { (fields_of result).has_globals ≡ false }
-{
-    Command::new(alloc, "sales")
-}
-
-fn with_names<'a>(alloc: Global, command: Command<'a>) -> Result<Command<'a>, AllocError>
-    requires local { (fields_of command).has_globals ≡ false }
-    ensures app { IfOk result (λ c. app_of c ≡ fold with_subcommand (app_of command.entry) line.name_shapes) }
-    ensures local { IfOk result (λ c. (fields_of c).has_globals ≡ false) }
-{
-    let command = with_command(command, named(alloc, "country-add")?)?;
-    let command = with_command(command, named(alloc, "language-add")?)?;
-    with_command(command, named(alloc, "category-add")?)
-}
-
-fn with_entries<'a>(alloc: Global, command: Command<'a>) -> Result<Command<'a>, AllocError>
-    requires local { (fields_of command).has_globals ≡ false }
-    ensures app { IfOk result (λ c. app_of c ≡ fold with_subcommand (app_of command.entry) line.entry_shapes) }
-    ensures local { IfOk result (λ c. (fields_of c).has_globals ≡ false) }
-{
-    let command = with_command(command, city_add(alloc)?)?;
-    let command = with_command(command, actor_add(alloc)?)?;
-    with_command(command, film_add(alloc)?)
-}
-
-fn with_films<'a>(alloc: Global, command: Command<'a>) -> Result<Command<'a>, AllocError>
-    requires local { (fields_of command).has_globals ≡ false }
-    ensures app { IfOk result (λ c. app_of c ≡ fold with_subcommand (app_of command.entry) line.film_shapes) }
-    ensures local { IfOk result (λ c. (fields_of c).has_globals ≡ false) }
-{
-    let command = with_command(command, film_price(alloc)?)?;
-    let command = with_command(command, film_withdraw(alloc)?)?;
-    with_command(command, cast_add(alloc)?)
-}
-
-fn with_branches<'a>(alloc: Global, command: Command<'a>) -> Result<Command<'a>, AllocError>
-    requires local { (fields_of command).has_globals ≡ false }
-    ensures app { IfOk result (λ c. app_of c ≡ fold with_subcommand (app_of command.entry) line.place_shapes) }
-    ensures local { IfOk result (λ c. (fields_of c).has_globals ≡ false) }
-{
-    let command = with_command(command, branch_add(alloc)?)?;
-    with_command(command, staff_add(alloc)?)
-}
-
-fn with_posts<'a>(alloc: Global, command: Command<'a>) -> Result<Command<'a>, AllocError>
-    requires local { (fields_of command).has_globals ≡ false }
-    ensures app { IfOk result (λ c. app_of c ≡ fold with_subcommand (app_of command.entry) line.post_shapes) }
-    ensures local { IfOk result (λ c. (fields_of c).has_globals ≡ false) }
-{
-    let command = with_command(command, staff_leave(alloc)?)?;
-    with_command(command, manager_set(alloc)?)
-}
-
-fn with_files<'a>(alloc: Global, command: Command<'a>) -> Result<Command<'a>, AllocError>
-    requires local { (fields_of command).has_globals ≡ false }
-    ensures app { IfOk result (λ c. app_of c ≡ fold with_subcommand (app_of command.entry) line.file_shapes) }
-    ensures local { IfOk result (λ c. (fields_of c).has_globals ≡ false) }
-{
-    let command = with_command(command, init(alloc)?)?;
-    with_command(command, migrate(alloc))
-}
-
-fn with_requests<'a>(alloc: Global, command: Command<'a>) -> Result<Command<'a>, AllocError>
-    requires local { (fields_of command).has_globals ≡ false }
-    ensures app { IfOk result (λ c. app_of c ≡ fold with_subcommand (app_of command.entry) line.request_shapes) }
-    ensures local { IfOk result (λ c. (fields_of c).has_globals ≡ false) }
-{
-    let command = with_command(command, serve(alloc)?)?;
-    with_command(command, replay(alloc))
-}
-
-fn with_catalogue<'a>(alloc: Global, command: Command<'a>) -> Result<Command<'a>, AllocError>
-    requires local { (fields_of command).has_globals ≡ false }
-    ensures app { IfOk result (λ c. app_of c ≡ line.with_catalogue (app_of command.entry)) }
-    ensures local { IfOk result (λ c. (fields_of c).has_globals ≡ false) }
-{
-    let command = with_names(alloc, command)?;
-    let command = with_entries(alloc, command)?;
-    with_films(alloc, command)
-}
-
-fn with_places<'a>(alloc: Global, command: Command<'a>) -> Result<Command<'a>, AllocError>
-    requires local { (fields_of command).has_globals ≡ false }
-    ensures app { IfOk result (λ c. app_of c ≡ line.with_places (app_of command.entry)) }
-    ensures local { IfOk result (λ c. (fields_of c).has_globals ≡ false) }
-{
-    let command = with_branches(alloc, command)?;
-    with_posts(alloc, command)
-}
-
-fn with_program<'a>(alloc: Global, command: Command<'a>) -> Result<Command<'a>, AllocError>
-    requires local { (fields_of command).has_globals ≡ false }
-    ensures app { IfOk result (λ c. app_of c ≡ line.with_program (app_of command.entry)) }
-    ensures local { IfOk result (λ c. (fields_of c).has_globals ≡ false) }
-{
-    let command = with_files(alloc, command)?;
-    with_requests(alloc, command)
-}
-
-fn with_readings<'a>(alloc: Global, command: Command<'a>) -> Result<Command<'a>, AllocError>
-    requires local { (fields_of command).has_globals ≡ false }
-    ensures app { IfOk result (λ c. app_of c ≡ line.with_readings (app_of command.entry)) }
-    ensures local { IfOk result (λ c. (fields_of c).has_globals ≡ false) }
-{
-    with_command(command, sales(alloc))
-}
-
+/// The command line before its subcommands.
 fn top<'a>(alloc: Global) -> Result<Command<'a>, AllocError>
     ensures app { IfOk result (λ c. app_of c ≡ line.top_app) }
     ensures local { IfOk result (λ c. (fields_of c).has_globals ≡ false) }
@@ -325,8 +200,5 @@ pub(crate) fn office<'a>(alloc: Global) -> Result<Command<'a>, AllocError>
     ensures local { IfOk result (λ c. (fields_of c).has_globals ≡ false) }
 {
     let command = top(alloc)?;
-    let command = with_catalogue(alloc, command)?;
-    let command = with_places(alloc, command)?;
-    let command = with_program(alloc, command)?;
-    with_readings(alloc, command)
+    with_commands(alloc, command, &SUBCOMMANDS)
 }

@@ -1,11 +1,31 @@
-ghost use Rattle.std.specs.Prelude.{◌≡◌, false, true, IfOk, fold};
+//! What the options of a command say to the library `clap`.
+
+ghost use Rattle.std.specs.Prelude.{◌≡◌, false, IfOk, map, fold};
 ghost use Rattle.clap.specs.Words.{rule_of, app_of, with_rule};
 ghost use Rattle.clap.specs.declared.builder.command.Command.TheViews.{out-Command as fields_of};
 ghost use Rattle.office_words.specs.CommandLine as line;
+ghost use Rattle.office_words.specs.Table.{kind_rule, option_rule};
 
 use clap::builder::ValueParser;
 use clap::{Arg, Command};
 use std::alloc::{AllocError, Global};
+
+/// What stands after an option.
+#[derive(Clone, Copy)]
+pub(crate) enum Kind {
+    /// A text, which must be there.
+    Text,
+    /// A text, which is this one where it's left out.
+    DefaultText(&'static str),
+    /// A number of this range, which must be there.
+    Number(u64, u64),
+    /// A number of this range, which may be left out.
+    OptionalNumber(u64, u64),
+    /// A number of this range, which is the one of this text where it's left out.
+    DefaultNumber(u64, u64, &'static str),
+    /// The number of a row, which must be there.
+    Row,
+}
 
 /// `--NAME TEXT`, which may be left out.
 pub(crate) fn optional<'a>(alloc: Global, name: &'a str) -> Arg<'a>
@@ -16,7 +36,7 @@ pub(crate) fn optional<'a>(alloc: Global, name: &'a str) -> Arg<'a>
 }
 
 /// `--NAME TEXT`, which must be there.
-pub(crate) fn text<'a>(alloc: Global, name: &'a str) -> Arg<'a>
+fn text<'a>(alloc: Global, name: &'a str) -> Arg<'a>
     ensures rule { rule_of result ≡ line.text_rule name.entry.now }
     ensures local { result.global ≡ false }
 {
@@ -24,7 +44,7 @@ pub(crate) fn text<'a>(alloc: Global, name: &'a str) -> Arg<'a>
 }
 
 /// `--NAME TEXT`, which has a default.
-pub(crate) fn default_text<'a>(alloc: Global, name: &'a str, value: &'a str) -> Arg<'a>
+fn default_text<'a>(alloc: Global, name: &'a str, value: &'a str) -> Arg<'a>
     ensures rule { rule_of result ≡ line.default_rule name.entry.now value.entry.now }
     ensures local { result.global ≡ false }
 {
@@ -32,7 +52,7 @@ pub(crate) fn default_text<'a>(alloc: Global, name: &'a str, value: &'a str) -> 
 }
 
 /// `--NAME NUMBER`, of this range, which must be there.
-pub(crate) fn number<'a>(alloc: Global, name: &'a str, low: u64, high: u64) -> Arg<'a>
+fn number<'a>(alloc: Global, name: &'a str, low: u64, high: u64) -> Arg<'a>
     ensures rule { rule_of result ≡ line.number_rule name.entry.now low high }
     ensures local { result.global ≡ false }
 {
@@ -40,7 +60,7 @@ pub(crate) fn number<'a>(alloc: Global, name: &'a str, low: u64, high: u64) -> A
 }
 
 /// `--NAME NUMBER`, of this range, which may be left out.
-pub(crate) fn optional_number<'a>(alloc: Global, name: &'a str, low: u64, high: u64) -> Arg<'a>
+fn optional_number<'a>(alloc: Global, name: &'a str, low: u64, high: u64) -> Arg<'a>
     ensures rule { rule_of result ≡ line.optional_number_rule name.entry.now low high }
     ensures local { result.global ≡ false }
 {
@@ -48,32 +68,30 @@ pub(crate) fn optional_number<'a>(alloc: Global, name: &'a str, low: u64, high: 
 }
 
 /// `--NAME NUMBER`, of this range, which has a default.
-pub(crate) fn default_number<'a>(
-    alloc: Global,
-    name: &'a str,
-    low: u64,
-    high: u64,
-    value: &'a str,
-) -> Arg<'a>
+fn default_number<'a>(alloc: Global, name: &'a str, low: u64, high: u64, value: &'a str) -> Arg<'a>
     ensures rule { rule_of result ≡ line.default_number_rule name.entry.now low high value.entry.now }
     ensures local { result.global ≡ false }
 {
     optional_number(alloc, name, low, high).default_value(value)
 }
 
-/// `--NAME NUMBER`, the number of a row, which must be there.
-pub(crate) fn row<'a>(alloc: Global, name: &'a str) -> Arg<'a>
-    ensures rule { rule_of result ≡ line.row_rule name.entry.now }
+/// The option of this name and kind.
+fn option<'a>(alloc: Global, name: &'static str, kind: Kind) -> Arg<'a>
+    ensures rule { rule_of result ≡ kind_rule name.entry.now kind }
     ensures local { result.global ≡ false }
 {
-    number(alloc, name, 1, 4_294_967_295)
+    match kind {
+        Kind::Text => text(alloc, name),
+        Kind::DefaultText(value) => default_text(alloc, name, value),
+        Kind::Number(low, high) => number(alloc, name, low, high),
+        Kind::OptionalNumber(low, high) => optional_number(alloc, name, low, high),
+        Kind::DefaultNumber(low, high, value) => default_number(alloc, name, low, high, value),
+        Kind::Row => number(alloc, name, 1, 4_294_967_295),
+    }
 }
 
 /// The command with one more option.
-pub(crate) fn with_option<'a>(
-    command: Command<'a>,
-    option: Arg<'a>,
-) -> Result<Command<'a>, AllocError>
+fn with_option<'a>(command: Command<'a>, option: Arg<'a>) -> Result<Command<'a>, AllocError>
     requires global { option.global ≡ false }
     requires local { (fields_of command).has_globals ≡ false }
     ensures app { IfOk result (λ c. app_of c ≡ with_rule (app_of command.entry) (rule_of option.entry)) }
@@ -82,29 +100,19 @@ pub(crate) fn with_option<'a>(
     command.arg(option)
 }
 
-/// The command with the names of a person.
-pub(crate) fn with_person<'a>(
+/// The command with these options more.
+pub(crate) fn with_options<'a>(
     alloc: Global,
-    command: Command<'a>,
+    mut command: Command<'a>,
+    options: &[(&'static str, Kind)],
 ) -> Result<Command<'a>, AllocError>
     requires local { (fields_of command).has_globals ≡ false }
-    ensures app { IfOk result (λ c. app_of c ≡ fold with_rule (app_of command.entry) line.person_rules) }
+    ensures app { IfOk result (λ c. app_of c ≡ fold with_rule (app_of command.entry) (map option_rule options.now)) }
     ensures local { IfOk result (λ c. (fields_of c).has_globals ≡ false) }
 {
-    let command = with_option(command, text(alloc, "first"))?;
-    with_option(command, text(alloc, "last"))
-}
-
-/// The command with where a branch or a person is found.
-pub(crate) fn with_contact<'a>(
-    alloc: Global,
-    command: Command<'a>,
-) -> Result<Command<'a>, AllocError>
-    requires local { (fields_of command).has_globals ≡ false }
-    ensures app { IfOk result (λ c. app_of c ≡ fold with_rule (app_of command.entry) line.contact_rules) }
-    ensures local { IfOk result (λ c. (fields_of c).has_globals ≡ false) }
-{
-    let command = with_option(command, text(alloc, "address"))?;
-    let command = with_option(command, text(alloc, "postal"))?;
-    with_option(command, text(alloc, "phone"))
+    for entry in options {
+        let (name, kind) = *entry;
+        command = with_option(command, option(alloc, name, kind))?;
+    }
+    Ok(command)
 }
