@@ -1,4 +1,5 @@
 pub mod NumberLemmas
 pub mod OfficeIsSimple
+pub mod ReadingLemmas
 pub mod TableLemmas
 pub mod WorkedLines

@@ -14,6 +14,8 @@ use Rattle.shop_types.specs.declared.request.OfficeAsk.TheVariants.{Sales}
 use Rattle.shop_types.specs.declared.line.LineAct.{LineAct}
 use Rattle.shop_types.specs.declared.line.LineAct.TheVariants as act
 use Rattle.office_words.specs.Given.{with_value, text_given, key_given, token_given, rating_given, features_given}
+use Rattle.office_words.specs.declared.acts.FilmFacts.{FilmFacts}
+use Rattle.office_words.specs.declared.acts.Contact.{Contact}
 use Rattle.office_words.specs.Given.{number_given, row_given, rate_given, replacement_given, period_given, minutes_given}
 
 abbrev pub name_of : List Row → Option Text
@@ -30,6 +32,28 @@ actor_of rows =
     with_value (text_given 1 45 (codes "first") rows) (λ first.
     with_value (text_given 1 45 (codes "last") rows) (λ last.
     Some (record { first = first; last = last })))
+
+-- what a film has beside its texts
+abbrev pub facts_of : List Row → Option FilmFacts
+facts_of rows =
+    with_value (row_given (codes "language") rows) (λ language.
+    with_value (row_given (codes "category") rows) (λ category.
+    with_value (period_given rows) (λ period.
+    with_value (rate_given rows) (λ rate.
+    with_value (replacement_given rows) (λ replacement.
+    with_value (minutes_given rows) (λ minutes.
+    with_value (rating_given rows) (λ rating.
+    with_value (features_given rows) (λ features.
+    Some (record {
+      language = language;
+      category = category;
+      period = period;
+      rate = rate;
+      replacement = replacement;
+      minutes = minutes;
+      rating = rating;
+      features = features;
+    })))))))))
 
 abbrev pub film_of : List Row → Option Film
 film_of rows =
@@ -68,6 +92,14 @@ cast_of rows =
     with_value (row_given (codes "actor") rows) (λ actor.
     Some (office.Cast film actor)))
 
+-- where a branch or a person is found
+abbrev pub contact_of : List Row → Option Contact
+contact_of rows =
+    with_value (text_given 1 128 (codes "address") rows) (λ address.
+    with_value (text_given 0 45 (codes "postal") rows) (λ postal.
+    with_value (text_given 0 45 (codes "phone") rows) (λ phone.
+    Some (record { address = address; postal = postal; phone = phone }))))
+
 abbrev pub branch_of : List Row → Option Branch
 branch_of rows =
     with_value (token_given rows) (λ token.
@@ -98,6 +130,21 @@ manager_of rows =
     with_value (row_given (codes "branch") rows) (λ branch.
     with_value (row_given (codes "staff") rows) (λ staff.
     Some (office.Manager branch staff)))
+
+-- what a command of this name does to the branches and their staff
+abbrev pub place_act_of : Text → List Row → Option OfficeAct
+place_act_of name rows = if bytes_eq name (codes "branch-add") then option_map office.Branch (branch_of rows)
+    else (if bytes_eq name (codes "staff-add") then option_map office.Staff (staff_of rows)
+    else (if bytes_eq name (codes "staff-leave") then option_map office.Leave (row_given (codes "staff") rows)
+    else (if bytes_eq name (codes "manager-set") then manager_of rows
+    else None)))
+
+-- what a command of this name does to the films that there are, or to the branches
+abbrev pub film_act_of : Text → List Row → Option OfficeAct
+film_act_of name rows = if bytes_eq name (codes "film-price") then price_of rows
+    else (if bytes_eq name (codes "film-withdraw") then option_map office.Withdraw (row_given (codes "film") rows)
+    else (if bytes_eq name (codes "cast-add") then cast_of rows
+    else place_act_of name rows))
 
 -- what a command of this name does to the catalogue
 abbrev pub office_act_of : Text → List Row → Option OfficeAct

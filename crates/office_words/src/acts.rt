@@ -1,12 +1,12 @@
 ghost use Rattle.office_words.specs.Given.{values_of, Reads};
-ghost use Rattle.office_words.specs.Acts.{name_of, city_of, actor_of, film_of, price_of, cast_of, branch_of};
-ghost use Rattle.office_words.specs.Acts.{person_of, staff_of, manager_of, office_act_of, command_of, serve_of, act_of};
+ghost use Rattle.office_words.specs.Acts.{name_of, city_of, actor_of, facts_of, film_of, price_of, cast_of, contact_of, branch_of};
+ghost use Rattle.office_words.specs.Acts.{person_of, staff_of, manager_of, place_act_of, film_act_of, office_act_of, command_of, serve_of, act_of};
 
 use crate::given;
 use clap::ArgMatches;
 use shop_types::{
-    Actor, Branch, City, Film, LineAct, OfficeAct, OfficeAsk, OfficeCommand, Person, Staff, T45,
-    Usage,
+    Actor, Amount, Branch, CategoryNo, City, Features, Film, L45, LanguageNo, LineAct, Minutes,
+    OfficeAct, OfficeAsk, OfficeCommand, Period, Person, Rate, Rating, Staff, T45, T128, Usage,
 };
 use std::alloc::Global;
 
@@ -34,12 +34,23 @@ fn actor(alloc: Global, given: &ArgMatches<'_>) -> Result<Actor, Usage>
     })
 }
 
-fn film(alloc: Global, given: &ArgMatches<'_>) -> Result<Film, Usage>
-    ensures { Reads result (film_of (values_of given.now)) }
+/// What a film has beside its texts.
+#[derive(Clone, Copy)]
+struct FilmFacts {
+    language: LanguageNo,
+    category: CategoryNo,
+    period: Period,
+    rate: Rate,
+    replacement: Amount,
+    minutes: Option<Minutes>,
+    rating: Rating,
+    features: Features,
+}
+
+fn film_facts(alloc: Global, given: &ArgMatches<'_>) -> Result<FilmFacts, Usage>
+    ensures { Reads result (facts_of (values_of given.now)) }
 {
-    Ok(Film {
-        title: given::text(alloc, given, "title")?,
-        description: given::text(alloc, given, "description")?,
+    Ok(FilmFacts {
         language: given::row(alloc, given, "language")?,
         category: given::row(alloc, given, "category")?,
         period: given::period(alloc, given)?,
@@ -48,6 +59,24 @@ fn film(alloc: Global, given: &ArgMatches<'_>) -> Result<Film, Usage>
         minutes: given::minutes(alloc, given)?,
         rating: given::rating(alloc, given)?,
         features: given::features(alloc, given)?,
+    })
+}
+
+fn film(alloc: Global, given: &ArgMatches<'_>) -> Result<Film, Usage>
+    ensures { Reads result (film_of (values_of given.now)) }
+{
+    let facts = film_facts(alloc, given)?;
+    Ok(Film {
+        title: given::text(alloc, given, "title")?,
+        description: given::text(alloc, given, "description")?,
+        language: facts.language,
+        category: facts.category,
+        period: facts.period,
+        rate: facts.rate,
+        replacement: facts.replacement,
+        minutes: facts.minutes,
+        rating: facts.rating,
+        features: facts.features,
     })
 }
 
@@ -69,28 +98,52 @@ fn cast(alloc: Global, given: &ArgMatches<'_>) -> Result<OfficeAct, Usage>
     })
 }
 
-fn branch(alloc: Global, given: &ArgMatches<'_>) -> Result<Branch, Usage>
-    ensures { Reads result (branch_of (values_of given.now)) }
+/// Where a branch or a person is found.
+#[derive(Drop)]
+struct Contact {
+    address: T128,
+    postal: L45,
+    phone: L45,
+}
+
+fn contact_details(alloc: Global, given: &ArgMatches<'_>) -> Result<Contact, Usage>
+    ensures { Reads result (contact_of (values_of given.now)) }
 {
-    Ok(Branch {
-        token: given::token(alloc, given)?,
+    Ok(Contact {
         address: given::text(alloc, given, "address")?,
         postal: given::text(alloc, given, "postal")?,
         phone: given::text(alloc, given, "phone")?,
-        city: given::row(alloc, given, "city")?,
+    })
+}
+
+fn branch(alloc: Global, given: &ArgMatches<'_>) -> Result<Branch, Usage>
+    ensures { Reads result (branch_of (values_of given.now)) }
+{
+    let token = given::token(alloc, given)?;
+    let city = given::row(alloc, given, "city")?;
+    let found = contact_details(alloc, given)?;
+    Ok(Branch {
+        token,
+        address: found.address,
+        postal: found.postal,
+        phone: found.phone,
+        city,
     })
 }
 
 fn person(alloc: Global, given: &ArgMatches<'_>) -> Result<Person, Usage>
     ensures { Reads result (person_of (values_of given.now)) }
 {
+    let city = given::row(alloc, given, "city")?;
+    let names = actor(alloc, given)?;
+    let found = contact_details(alloc, given)?;
     Ok(Person {
-        first: given::text(alloc, given, "first")?,
-        last: given::text(alloc, given, "last")?,
-        address: given::text(alloc, given, "address")?,
-        postal: given::text(alloc, given, "postal")?,
-        phone: given::text(alloc, given, "phone")?,
-        city: given::row(alloc, given, "city")?,
+        first: names.first,
+        last: names.last,
+        address: found.address,
+        postal: found.postal,
+        phone: found.phone,
+        city,
     })
 }
 
@@ -112,6 +165,31 @@ fn manager(alloc: Global, given: &ArgMatches<'_>) -> Result<OfficeAct, Usage>
     })
 }
 
+/// What a command of this name does to the branches and their staff.
+fn place_act(alloc: Global, name: &str, given: &ArgMatches<'_>) -> Result<OfficeAct, Usage>
+    ensures { Reads result (place_act_of name.now (values_of given.now)) }
+{
+    match name {
+        "branch-add" => Ok(OfficeAct::Branch(branch(alloc, given)?)),
+        "staff-add" => Ok(OfficeAct::Staff(staff(alloc, given)?)),
+        "staff-leave" => Ok(OfficeAct::Leave(given::row(alloc, given, "staff")?)),
+        "manager-set" => manager(alloc, given),
+        _ => Err(given::unread(alloc)),
+    }
+}
+
+/// What a command of this name does to the films that there are, or to the branches.
+fn film_act(alloc: Global, name: &str, given: &ArgMatches<'_>) -> Result<OfficeAct, Usage>
+    ensures { Reads result (film_act_of name.now (values_of given.now)) }
+{
+    match name {
+        "film-price" => price(alloc, given),
+        "film-withdraw" => Ok(OfficeAct::Withdraw(given::row(alloc, given, "film")?)),
+        "cast-add" => cast(alloc, given),
+        _ => place_act(alloc, name, given),
+    }
+}
+
 /// What a command of this name does to the catalogue.
 fn office_act(alloc: Global, name: &str, given: &ArgMatches<'_>) -> Result<OfficeAct, Usage>
     ensures { Reads result (office_act_of name.now (values_of given.now)) }
@@ -123,14 +201,7 @@ fn office_act(alloc: Global, name: &str, given: &ArgMatches<'_>) -> Result<Offic
         "category-add" => Ok(OfficeAct::Category(named(alloc, given)?)),
         "actor-add" => Ok(OfficeAct::Actor(actor(alloc, given)?)),
         "film-add" => Ok(OfficeAct::Film(film(alloc, given)?)),
-        "film-price" => price(alloc, given),
-        "film-withdraw" => Ok(OfficeAct::Withdraw(given::row(alloc, given, "film")?)),
-        "cast-add" => cast(alloc, given),
-        "branch-add" => Ok(OfficeAct::Branch(branch(alloc, given)?)),
-        "staff-add" => Ok(OfficeAct::Staff(staff(alloc, given)?)),
-        "staff-leave" => Ok(OfficeAct::Leave(given::row(alloc, given, "staff")?)),
-        "manager-set" => manager(alloc, given),
-        _ => Err(given::unread(alloc)),
+        _ => film_act(alloc, name, given),
     }
 }
 

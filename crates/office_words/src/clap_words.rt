@@ -62,8 +62,8 @@ fn line(
     ensures ok { IfOk result (λ line. line_from (values_of given.now) (Some (name.now, values_of inner.now)) ≡ Some (seen_line line)) }
     ensures refused { IfErr result (λ e. ¬ (e ≡ usage.Memory) → line_from (values_of given.now) (Some (name.now, values_of inner.now)) ≡ None) }
 {
-    let act = acts::act(alloc, name, inner)?;
     let db = file(alloc, given)?;
+    let act = acts::act(alloc, name, inner)?;
     Ok(Line { db, act })
 }
 
