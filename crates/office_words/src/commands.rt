@@ -147,16 +147,6 @@ const SUBCOMMANDS: [Subcommand; 18] = [
     },
 ];
 
-/// The command with one more subcommand.
-fn with_command<'a>(command: Command<'a>, inner: Command<'a>) -> Result<Command<'a>, AllocError>
-    requires inner { (fields_of inner).has_globals ≡ false }
-    requires local { (fields_of command).has_globals ≡ false }
-    ensures app { IfOk result (λ c. app_of c ≡ with_subcommand (app_of command.entry) (shape_of inner.entry)) }
-    ensures local { IfOk result (λ c. (fields_of c).has_globals ≡ false) }
-{
-    command.subcommand(inner)
-}
-
 /// The command of a subcommand.
 fn command_of<'a>(alloc: Global, subcommand: Subcommand) -> Result<Command<'a>, AllocError>
     ensures shape { IfOk result (λ c. shape_of c ≡ table_shape subcommand) }
@@ -178,7 +168,7 @@ fn with_commands<'a>(
 {
     for subcommand in subcommands {
         let inner = command_of(alloc, *subcommand)?;
-        command = with_command(command, inner)?;
+        command = command.subcommand(inner)?;
     }
     Ok(command)
 }

@@ -90,16 +90,6 @@ fn option<'a>(alloc: Global, name: &'static str, kind: Kind) -> Arg<'a>
     }
 }
 
-/// The command with one more option.
-fn with_option<'a>(command: Command<'a>, option: Arg<'a>) -> Result<Command<'a>, AllocError>
-    requires global { option.global ≡ false }
-    requires local { (fields_of command).has_globals ≡ false }
-    ensures app { IfOk result (λ c. app_of c ≡ with_rule (app_of command.entry) (rule_of option.entry)) }
-    ensures local { IfOk result (λ c. (fields_of c).has_globals ≡ false) }
-{
-    command.arg(option)
-}
-
 /// The command with these options more.
 pub(crate) fn with_options<'a>(
     alloc: Global,
@@ -112,7 +102,7 @@ pub(crate) fn with_options<'a>(
 {
     for entry in options {
         let (name, kind) = *entry;
-        command = with_option(command, option(alloc, name, kind))?;
+        command = command.arg(option(alloc, name, kind))?;
     }
     Ok(command)
 }
