@@ -2,12 +2,13 @@
 use Rattle.std.proofs.Common.{◌≡◌, ◌≢◌, ◌≤◌, ◌<◌, ◌-◌, ◌==◌, ℕ, List, [], ◌∷◌, Bool, true, false, cond, codes, map, length, refl, sym, ap, ◌∙◌, arith, Ok, Err, Result}
 use Rattle.std.specs.Prelude.{Option, Some, None, IfOk, IfErr, IsErrAnd, take, option_map}
 use Rattle.std.specs.Option.{option_to_list}
+use Rattle.sqlite.specs.declared.types.Value.{Value}
 use Rattle.sqlite_value.specs.Order as sql
 use Rattle.sqlite_value.specs.Order.{column}
 use Rattle.sqlite_tied.specs.Compute.{everything}
 use Rattle.sqlite.specs.Listing.{understood}
 use Rattle.sqlite.specs.State.{State, Shown}
-use Rattle.sql_rows.specs.Rows.{number_value, flag_value}
+use Rattle.sql_rows.specs.Rows.{number_value}
 use Rattle.sql_rows.specs.declared.fault.StoreFault.{StoreFault}
 use Rattle.sql_rows.specs.declared.fault.StoreFault.TheVariants.{Failed}
 use Rattle.shop_model.specs.Rows.{at}
@@ -20,10 +21,20 @@ use Rattle.shop_schema.proofs.SameRows.{same_film}
 use Rattle.catalogue_store.specs.Seen.{seen_film_row}
 use Rattle.catalogue_store.specs.declared.films.FilmRow.{FilmRow}
 use Rattle.catalogue_store.proofs.ByNumber.{films}
-use Rattle.catalogue_store.proofs.SharedReads.{still, shows_shared}
+use Rattle.sql_rows.proofs.Queries.{Selects}
+use Rattle.shop_schema.specs.Tables.{shop_schema}
+use Rattle.catalogue_store.proofs.SharedReads.{asked, Shows, still, shows_shared}
 
 abbrev select_row : List ℕ
 select_row = codes "SELECT number, title, description, language, category, period, rate, replacement, length, rating, features, withdrawn FROM film WHERE number = ?1"
+
+select_row_means : Selects shop_schema select_row (asked films select_row (cols 1 1 12))
+unfolding understood everything
+select_row_means = record { names = _; is = refl; plain = (refl, refl); unlisted = refl }
+
+select_row_shows : Shows films select_row (cols 1 1 12) (λ vs. vs)
+unfolding understood everything
+select_row_shows m r = refl
 
 abbrev columns_read : FilmRow → sql.Row
 columns_read row = film_columns (row.number, seen_film_row row)
@@ -51,16 +62,18 @@ film_of n o (x ∷ y ∷ rows) few is = absurd (omega (arith, few))
 pub read_row : (old new : State) (n : ℕ) (rows slice : List sql.Row) (r : Result (Option FilmRow) StoreFault) → Shown select_row (number_value n ∷ []) old new rows → 1 ≤ n → slice ≡ rows
     → IfOk r (λ o. map columns_read (option_to_list o) ≡ take 1 slice)
     → IfOk r (λ o. Reads old new (λ books. option_to_list (option_map seen_film_row o) ≡ at n books.catalogue.films))
-unfolding understood everything
 read_row old new n rows slice (Err e) h low same read = tt
 read_row old new n rows slice (Ok o) h low same read = λ books holds held.
-    let found = shows_shared films select_row (cols 1 1 12) (record { names = _; is = refl; plain = (refl, refl); unlisted = refl }) (λ vs. vs) (λ m r. refl) old new n rows h low books holds in (
-      still films select_row (cols 1 1 12) (record { names = _; is = refl; plain = (refl, refl); unlisted = refl }) (λ vs. vs) (λ m r. refl) old new n rows h low books holds,
+    let found = shows_shared films select_row (cols 1 1 12) select_row_means (λ vs. vs) select_row_shows old new n rows h low books holds in (
+      still films select_row (cols 1 1 12) select_row_means (λ vs. vs) select_row_shows old new n rows h low books holds,
       film_of n o (at n books.catalogue.films) (at_short n books.catalogue.films) (read ∙ ap (take 1) (same ∙ found)),
     )
 
--- a row whose last column is no truth value is no film's
-pub no_film : (r : Result FilmRow StoreFault) (e : StoreFault) (row : sql.Row) → IsErrAnd r (λ y. y ≡ e) → (e ≡ Failed → (b : Bool) → 11 < length row → column row 11 ≢ flag_value b) → length row ≡ 12
+-- a row of which a column holds no value of its kind is no film's
+pub no_film : {V : Type 0} (at : ℕ) (value : V → Value) (Is : V → Type 0) (part : FilmRow → V) → at < 12
+    → ((x : FilmRow) → IsNumber x.number × IsFilm (seen_film_row x) → Is (part x)) → ((x : FilmRow) → column (columns_read x) at ≡ value (part x))
+    → (r : Result FilmRow StoreFault) (e : StoreFault) (row : sql.Row) → length row ≡ 12 → IsErrAnd r (λ y. y ≡ e) → (e ≡ Failed → (v : V) → Is v → at < length row → column row at ≢ value v)
     → IfErr r (λ y. y ≡ Failed → (x : FilmRow) → IsNumber x.number × IsFilm (seen_film_row x) → columns_read x ≢ row)
-no_film (Ok it) e row is none wide = tt
-no_film (Err y) e row is none wide = λ failed x fits same. none (sym is ∙ failed) x.withdrawn (omega (arith, wide)) (ap (λ (columns : sql.Row). column columns 11) (sym same))
+no_film at value Is part within is shown (Ok it) e row wide same none = tt
+no_film at value Is part within is shown (Err y) e row wide same none = λ failed x fits columns.
+    none (sym same ∙ failed) (part x) (is x fits) (omega (arith, wide, within)) (ap (λ (r : sql.Row). column r at) (sym columns) ∙ shown x)

@@ -56,7 +56,7 @@ module _ {A : Type 0} where
 -- what the call tells of the rows that it is shown
 abbrev pub ReadsLast : {A : Type 0} → ByNumber A → List ℕ → Type 1
 ReadsLast t text =
-    (old new : State) (rows slice : List sql.Row) (r : Result ℕ StoreFault) → Shown text [] old new rows → slice ≡ rows → IfOk r (IsFirstNumber slice) → IfOk r (λ n. Reads old new (λ books. n ≡ length (t.part.items books)))
+    (old new : State) (r : Result ℕ StoreFault) → IfOk r (λ n. (rows : List sql.Row) × Shown text [] old new rows × IsFirstNumber rows n) → IfOk r (λ n. Reads old new (λ books. n ≡ length (t.part.items books)))
 
 module _ {A : Type 0} (t : ByNumber A) (text : List ℕ) where
   abbrev last_query : Query
@@ -68,12 +68,18 @@ module _ {A : Type 0} (t : ByNumber A) (text : List ℕ) where
   -- the premises are `refl` where the text and the table are known
   pub reads_last : Selects shop_schema text last_query
       → ((r : sql.Row) → output falling ([] ∷ r ∷ []) ∷ [] ≡ (column (columns_of (length t.table.columns) r) 0 ∷ [], column (columns_of (length t.table.columns) r) 0 ∷ []) ∷ []) → ReadsLast t text
-  reads_last means only old new rows slice (Err e) h same first = tt
-  reads_last means only old new rows slice (Ok n) h same first = λ books holds held. (
+  reads_last means only old new (Err e) told = tt
+  reads_last means only old new (Ok n) told = λ books holds held. (
     still_holds shop_schema StandsFor text [] old new means.plain rows h books holds,
-    counts_all (t.part.items books) rows n (shows books holds) (subst (λ (l : List sql.Row). IsFirstNumber l n) same first),
+    counts_all (t.part.items books) rows n (shows books holds) told.2,
   )
     where
+      rows : List sql.Row
+      rows = told.0
+
+      h : Shown text [] old new rows
+      h = told.1
+
       shows : (books : Books) → Holds old books → rows ≡ map (λ (it : ℕ × A). number_value it.0 ∷ []) (ending (numbered (t.part.items books)))
       shows books holds =
           let its = numbered (t.part.items books) in

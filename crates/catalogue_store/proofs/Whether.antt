@@ -1,10 +1,9 @@
 -- Whether a SELECT shows a row, as a call tells it.
-use Rattle.std.proofs.Common.{◌≡◌, ◌==◌, ◌+◌, ◌&&◌, ◌||◌, ℕ, suc, List, [], ◌∷◌, codes, map, filter, length, cond, not, Bool, true, false, refl, ap, ◌∙◌, arith}
-use Rattle.std.specs.Prelude.{Vec, vec_len}
+use Rattle.std.proofs.Common.{◌≡◌, ◌==◌, ◌+◌, ◌&&◌, ◌||◌, ℕ, suc, List, [], ◌∷◌, codes, map, filter, length, cond, not, Bool, true, false, Ok, Err, Result, refl, ap, ◌∙◌, arith}
+use Rattle.std.specs.Prelude.{IfOk}
 use Rattle.std.specs.List.{list_all, list_any}
 use Rattle.std.specs.Str.{bytes_eq}
 use Rattle.std.proofs.lemmas.Bool.Decides.{nat_tests}
-use Rattle.std.specs.declared.alloc.Global.{Global}
 use Rattle.sqlite.specs.declared.types.Value.TheVariants.{Text}
 use Rattle.sqlite_value.specs.Order as sql
 use Rattle.sqlite_value.specs.Order.{column}
@@ -19,6 +18,7 @@ use Rattle.sqlite_tied.specs.Compute.{everything}
 use Rattle.sqlite.specs.Listing.{understood}
 use Rattle.sqlite.specs.State.{State, Shown}
 use Rattle.sql_rows.specs.Rows.{HasRows, columns_of, number_value}
+use Rattle.sql_rows.specs.declared.fault.StoreFault.{StoreFault}
 use Rattle.sql_rows.proofs.Queries.{Selects, plain_query}
 use Rattle.sql_rows.proofs.ColumnTests.{number_test, number_tested, text_test, text_tested, one_tested, two_tested}
 use Rattle.sql_rows.proofs.Projects.{projects_count, still_holds}
@@ -34,12 +34,14 @@ use Rattle.shop_schema.proofs.Different.{bytes_eq_turned}
 use Rattle.shop_schema.proofs.Listed.{own_rows}
 use Rattle.catalogue_store.proofs.ByNumber.{ByNumber, countries, languages, categories, branches}
 
--- `!rows.is_empty()` tells it
-pub told_by : (old new : State) {P : Books → Bool} {empty : Bool} (rows : Vec sql.Row Global) → empty ≡ (vec_len rows == 0) → Reads old new (λ books. not (length rows.items == 0) ≡ P books) → Reads old new (λ books. not empty ≡ P books)
-told_by old new rows is told books holds held =
-    let count : vec_len rows ≡ length rows.items = omega (arith, rows.ok.0) in
-    let found = told books holds held in
-    (found.0, ap not (is ∙ ap (λ (n : ℕ). n == 0) count) ∙ found.1)
+-- the call tells it
+pub told : (old new : State) (text : List ℕ) (params : sql.Row) {P : Books → Bool} (r : Result Bool StoreFault)
+    → IfOk r (λ shows. (rows : List sql.Row) × Shown text params old new rows × (shows ≡ not (length rows == 0)))
+    → ((rows : List sql.Row) → Shown text params old new rows → Reads old new (λ books. not (length rows == 0) ≡ P books)) → IfOk r (λ shows. Reads old new (λ books. shows ≡ P books))
+told old new text params (Err e) seen read = tt
+told old new text params (Ok shows) seen read = λ books holds held.
+    let found = read seen.0 seen.1 books holds held in
+    (found.0, seen.2 ∙ found.1)
 
 any_there : {X : Type 0} (p : X → Bool) (xs : List X) → not (length (filter p xs) == 0) ≡ list_any p xs
 any_there p [] = refl

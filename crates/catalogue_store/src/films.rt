@@ -39,9 +39,8 @@ impl Stored for FilmRow {
         }
         Ok(FilmRow {
             number: row_number_at(row, 0)?,
+            withdrawn: flag_at(row, 11)?,
             film: Film {
-                title: text_at(row, 1)?,
-                description: text_at(row, 2)?,
                 language: row_number_at(row, 3)?,
                 category: row_number_at(row, 4)?,
                 period: period_at(row, 5)?,
@@ -50,8 +49,9 @@ impl Stored for FilmRow {
                 minutes: minutes_or_null_at(row, 8)?,
                 rating: rating_at(row, 9)?,
                 features: features_at(row, 10)?,
+                title: text_at(row, 1)?,
+                description: text_at(row, 2)?,
             },
-            withdrawn: flag_at(row, 11)?,
         })
     }
 }

@@ -12,6 +12,7 @@ ghost use Rattle.shop_schema.specs.Shop.{Reads};
 ghost use Rattle.catalogue_store.specs.Seen.{branch_caller, withdrawn_of, seen_terms, terms_of, title_of, manager_of};
 
 use crate::columns::{days_at, rate_at};
+use crate::rows::shows_row;
 use shop_schema::{row_number_at, row_number_or_null_at, text_at};
 use shop_types::{BranchNo, FilmNo, Rate, StaffFound, StaffNo, T128, Token};
 use sql_rows::{StoreFault, flag_at, query, words_at};
@@ -73,12 +74,11 @@ pub fn is_office<S: Alter>(tx: &mut Transaction<'_, S>, token: &Token) -> Result
         → IfOk result (λ is. Reads (state S.Store tx.old.conn.now) (state S.Store tx.new.conn.now)
         (λ books. is ≡ bytes_eq token.now books.catalogue.office_token)) }
 {
-    let rows = query(
+    shows_row(
         tx,
         "SELECT version FROM chain WHERE office_token = ?1",
         &[token_text(token).to_sql()],
-    )?;
-    Ok(!rows.is_empty())
+    )
 }
 
 /// Head office's token.

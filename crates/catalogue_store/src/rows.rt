@@ -1,10 +1,12 @@
 //! Whether there is a shared row of a number, a name or a token.
 
-ghost use Rattle.std.specs.Prelude.{◌≡◌, ◌==◌, ◌&&◌, not, IfOk};
+ghost use Rattle.std.specs.Prelude.{◌≡◌, ◌==◌, ◌&&◌, not, IfOk, List, length};
 ghost use Rattle.std.specs.List.{list_any};
 ghost use Rattle.std.specs.Str.{bytes_eq};
 ghost use Rattle.sqlite.specs.Held.{state};
-ghost use Rattle.sqlite.specs.State.{HasCleanDisk};
+ghost use Rattle.sqlite.specs.State.{HasCleanDisk, Shown};
+ghost use Rattle.sqlite.specs.Values.{bound};
+ghost use Rattle.sqlite_value.specs.Order.{Row as SqlRow};
 ghost use Rattle.sql_rows.specs.Calls.{StaysInside};
 ghost use Rattle.shop_model.specs.Rows.{lacks};
 ghost use Rattle.shop_schema.specs.Shop.{Reads};
@@ -12,8 +14,23 @@ ghost use Rattle.shop_schema.specs.Shop.{Reads};
 use crate::reads::token_text;
 use shop_types::{ActorNo, CategoryNo, CityNo, CountryNo, FilmNo, LanguageNo, Token};
 use sql_rows::{StoreFault, query};
-use sqlite::types::ToSql;
+use sqlite::types::{ToSql, ValueRef};
 use sqlite::{Alter, Transaction};
+
+/// Whether the query shows a row.
+pub(crate) fn shows_row<S: Alter>(
+    tx: &mut Transaction<'_, S>,
+    text: &str,
+    params: &[ValueRef<'_>],
+) -> Result<bool, StoreFault>
+    ensures same_reference { tx.new.conn.ghost_name ≡ tx.old.conn.ghost_name }
+    ensures inside { StaysInside (state S.Store tx.old.conn.now) (state S.Store tx.new.conn.now) result }
+    ensures shown { HasCleanDisk (state S.Store tx.new.conn.now) → IfOk result (λ shows. (rows : List SqlRow)
+        × Shown text.now (bound params.now) (state S.Store tx.old.conn.now) (state S.Store tx.new.conn.now) rows × (shows ≡ not (length rows == 0))) }
+{
+    let rows = query(tx, text, params)?;
+    Ok(!rows.is_empty())
+}
 
 /// Whether there is a country of the number.
 pub fn has_country<S: Alter>(
@@ -26,12 +43,11 @@ pub fn has_country<S: Alter>(
         → IfOk result (λ has. Reads (state S.Store tx.old.conn.now) (state S.Store tx.new.conn.now)
         (λ books. has ≡ not (lacks books.catalogue.countries country))) }
 {
-    let rows = query(
+    shows_row(
         tx,
         "SELECT number FROM country WHERE number = ?1",
         &[country.get().to_sql()],
-    )?;
-    Ok(!rows.is_empty())
+    )
 }
 
 /// Whether there is a language of the number.
@@ -45,12 +61,11 @@ pub fn has_language<S: Alter>(
         → IfOk result (λ has. Reads (state S.Store tx.old.conn.now) (state S.Store tx.new.conn.now)
         (λ books. has ≡ not (lacks books.catalogue.languages language))) }
 {
-    let rows = query(
+    shows_row(
         tx,
         "SELECT number FROM language WHERE number = ?1",
         &[language.get().to_sql()],
-    )?;
-    Ok(!rows.is_empty())
+    )
 }
 
 /// Whether there is a category of the number.
@@ -64,12 +79,11 @@ pub fn has_category<S: Alter>(
         → IfOk result (λ has. Reads (state S.Store tx.old.conn.now) (state S.Store tx.new.conn.now)
         (λ books. has ≡ not (lacks books.catalogue.categories category))) }
 {
-    let rows = query(
+    shows_row(
         tx,
         "SELECT number FROM category WHERE number = ?1",
         &[category.get().to_sql()],
-    )?;
-    Ok(!rows.is_empty())
+    )
 }
 
 /// Whether there is a city of the number.
@@ -79,12 +93,11 @@ pub fn has_city<S: Alter>(tx: &mut Transaction<'_, S>, city: CityNo) -> Result<b
     ensures found { HasCleanDisk (state S.Store tx.new.conn.now)
         → IfOk result (λ has. Reads (state S.Store tx.old.conn.now) (state S.Store tx.new.conn.now) (λ books. has ≡ not (lacks books.catalogue.cities city))) }
 {
-    let rows = query(
+    shows_row(
         tx,
         "SELECT number FROM city WHERE number = ?1",
         &[city.get().to_sql()],
-    )?;
-    Ok(!rows.is_empty())
+    )
 }
 
 /// Whether there is an actor of the number.
@@ -94,12 +107,11 @@ pub fn has_actor<S: Alter>(tx: &mut Transaction<'_, S>, actor: ActorNo) -> Resul
     ensures found { HasCleanDisk (state S.Store tx.new.conn.now)
         → IfOk result (λ has. Reads (state S.Store tx.old.conn.now) (state S.Store tx.new.conn.now) (λ books. has ≡ not (lacks books.catalogue.actors actor))) }
 {
-    let rows = query(
+    shows_row(
         tx,
         "SELECT number FROM actor WHERE number = ?1",
         &[actor.get().to_sql()],
-    )?;
-    Ok(!rows.is_empty())
+    )
 }
 
 /// Whether a country has the name, by its bytes.
@@ -110,12 +122,11 @@ pub fn is_country<S: Alter>(tx: &mut Transaction<'_, S>, name: &str) -> Result<b
         → IfOk result (λ is. Reads (state S.Store tx.old.conn.now) (state S.Store tx.new.conn.now)
         (λ books. is ≡ list_any (bytes_eq name.now) books.catalogue.countries)) }
 {
-    let rows = query(
+    shows_row(
         tx,
         "SELECT number FROM country WHERE name = ?1",
         &[name.to_sql()],
-    )?;
-    Ok(!rows.is_empty())
+    )
 }
 
 /// Whether a language has the name, by its bytes.
@@ -126,12 +137,11 @@ pub fn is_language<S: Alter>(tx: &mut Transaction<'_, S>, name: &str) -> Result<
         → IfOk result (λ is. Reads (state S.Store tx.old.conn.now) (state S.Store tx.new.conn.now)
         (λ books. is ≡ list_any (bytes_eq name.now) books.catalogue.languages)) }
 {
-    let rows = query(
+    shows_row(
         tx,
         "SELECT number FROM language WHERE name = ?1",
         &[name.to_sql()],
-    )?;
-    Ok(!rows.is_empty())
+    )
 }
 
 /// Whether a category has the name, by its bytes.
@@ -142,12 +152,11 @@ pub fn is_category<S: Alter>(tx: &mut Transaction<'_, S>, name: &str) -> Result<
         → IfOk result (λ is. Reads (state S.Store tx.old.conn.now) (state S.Store tx.new.conn.now)
         (λ books. is ≡ list_any (bytes_eq name.now) books.catalogue.categories)) }
 {
-    let rows = query(
+    shows_row(
         tx,
         "SELECT number FROM category WHERE name = ?1",
         &[name.to_sql()],
-    )?;
-    Ok(!rows.is_empty())
+    )
 }
 
 /// Whether a branch has the token. Head office's is another question.
@@ -157,12 +166,11 @@ pub fn has_token<S: Alter>(tx: &mut Transaction<'_, S>, token: &Token) -> Result
     ensures found { HasCleanDisk (state S.Store tx.new.conn.now) → IfOk result (λ has. Reads (state S.Store tx.old.conn.now) (state S.Store tx.new.conn.now)
         (λ books. has ≡ list_any (λ it. bytes_eq it.token token.now) books.catalogue.branches)) }
 {
-    let rows = query(
+    shows_row(
         tx,
         "SELECT number FROM branch WHERE token = ?1",
         &[token_text(token).to_sql()],
-    )?;
-    Ok(!rows.is_empty())
+    )
 }
 
 /// Whether the actor is in the film's cast.
@@ -176,10 +184,9 @@ pub fn has_cast<S: Alter>(
     ensures found { HasCleanDisk (state S.Store tx.new.conn.now) → IfOk result (λ has. Reads (state S.Store tx.old.conn.now) (state S.Store tx.new.conn.now)
         (λ books. has ≡ list_any (λ it. it.film == film && it.actor == actor) books.catalogue.casts)) }
 {
-    let rows = query(
+    shows_row(
         tx,
         "SELECT film FROM film_actor WHERE film = ?1 AND actor = ?2",
         &[film.get().to_sql(), actor.get().to_sql()],
-    )?;
-    Ok(!rows.is_empty())
+    )
 }

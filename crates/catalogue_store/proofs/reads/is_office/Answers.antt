@@ -1,11 +1,7 @@
-use Rattle.std.proofs.Common.{◌≡◌, ◌==◌, ℕ, length, not, ap, ◌∙◌, arith}
-use Rattle.std.specs.Prelude.{vec_len}
+use Rattle.catalogue_store.proofs.Whether.{told}
 use Rattle.catalogue_store.proofs.TokenReads.{told_office}
 use Rattle.catalogue_store.proofs.reads.is_office.Goals as goal
 
 pub returns-clause-found : goal.returns-clause-found
-returns-clause-found g c clean books holds held =
-    let shown = rw (c.to_sql.ensures, c.token_text.ensures) at (c.in_ok-rows.ensures.shown clean) in
-    let count : vec_len c.in_ok-rows.rows ≡ length c.in_ok-rows.rows.items = omega (arith, c.in_ok-rows.rows.ok.0) in
-    let told = told_office _ _ c.args.token.now _ shown books holds held in
-    (told.0, ap not (c.is_empty.ensures ∙ ap (λ (n : ℕ). n == 0) count) ∙ told.1)
+returns-clause-found g c clean =
+    told _ _ _ _ c.shows_row.result (rw (c.to_sql.ensures, c.token_text.ensures) at (c.shows_row.ensures.shown clean)) (told_office _ _ c.args.token.now)

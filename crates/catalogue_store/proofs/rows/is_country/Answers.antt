@@ -1,6 +1,6 @@
-use Rattle.catalogue_store.proofs.Whether.{told_by, named_country}
+use Rattle.catalogue_store.proofs.Whether.{told, named_country}
 use Rattle.catalogue_store.proofs.rows.is_country.Goals as goal
 
 pub returns-clause-found : goal.returns-clause-found
 returns-clause-found g c clean =
-    told_by _ _ c.in_ok-rows.rows c.is_empty.ensures (named_country _ _ c.args.name.now _ (rw (c.to_sql.ensures) at (c.in_ok-rows.ensures.shown clean)))
+    told _ _ _ _ c.shows_row.result (rw c.to_sql.ensures at (c.shows_row.ensures.shown clean)) (named_country _ _ c.args.name.now)
