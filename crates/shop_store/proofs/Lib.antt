@@ -16,3 +16,4 @@ pub mod CountLemmas
 pub mod Agreeing
 pub mod OfficeKeptTexts
 pub mod OfficeCounts
+pub mod Refused

@@ -39,16 +39,16 @@ impl Stored for CustomerRow {
             branch: row_number_at(row, 0)?,
             number: row_number_at(row, 1)?,
             customer: Customer {
+                active: flag_at(row, 8)?,
+                created: moment_at(row, 9)?,
                 person: Person {
+                    city: row_number_at(row, 7)?,
                     first: text_at(row, 2)?,
                     last: text_at(row, 3)?,
                     address: text_at(row, 4)?,
                     postal: text_at(row, 5)?,
                     phone: text_at(row, 6)?,
-                    city: row_number_at(row, 7)?,
                 },
-                active: flag_at(row, 8)?,
-                created: moment_at(row, 9)?,
             },
         })
     }
