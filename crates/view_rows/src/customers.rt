@@ -34,8 +34,8 @@ fn read_customer(alloc: Global, row: &Row, branch: BranchNo) -> Result<CustomerR
 {
     Ok(CustomerRow {
         number: row_number_at(row, 0)?,
-        person: person_at(alloc, row, branch)?,
         active: flag_at(row, 8)?,
+        person: person_at(alloc, row, branch)?,
     })
 }
 

@@ -99,12 +99,12 @@ fn film_at(alloc: Global, row: &Row) -> Result<FilmRow, StoreFault>
 {
     Ok(FilmRow {
         number: row_number_at(row, 0)?,
-        title: text_at(row, 1)?,
-        description: text_at(row, 2)?,
-        category: name_at(alloc, row, 3)?,
         rate: rate_at(row, 4)?,
         minutes: minutes_at(row, 5)?,
         rating: rating_at(row, 6)?,
+        title: text_at(row, 1)?,
+        description: text_at(row, 2)?,
+        category: name_at(alloc, row, 3)?,
         actors: Vec::new(alloc),
     })
 }
