@@ -29,7 +29,7 @@ use std::alloc::Global;
 use stock_csv::{StockFault, StockRow, read_stock};
 
 /// The rows that an act names, beside those of an import.
-#[derive(Clone, Copy, Debug)]
+#[derive(Clone, Copy)]
 struct Named {
     city: Option<CityNo>,
     customer: Option<CustomerNo>,
@@ -195,7 +195,7 @@ fn find_same<S: Alter>(
 }
 
 /// What is found for an import.
-#[derive(Debug, Drop)]
+#[derive(Drop)]
 struct ImportFound {
     copies: u32,
     has_lot: bool,

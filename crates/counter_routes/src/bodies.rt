@@ -12,7 +12,7 @@ use shop_types::{Act, Amount, Command, Key, Moment, Person, RentalNo, RowNumber,
 use std::alloc::{AllocError, Global};
 
 /// Why a body gives no command.
-#[derive(Clone, Copy, Debug, PartialEq, Eq)]
+#[derive(Clone, Copy)]
 pub(crate) enum Fault {
     BadBody,
     NoMemory,

@@ -8,7 +8,7 @@ use shop_types::NoMemory;
 use std::alloc::{AllocError, Global};
 
 /// What a path asks for.
-#[derive(Clone, Copy, Debug, PartialEq, Eq)]
+#[derive(Clone, Copy)]
 pub(crate) enum Route {
     NewCustomer,
     Active,

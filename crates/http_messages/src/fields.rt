@@ -12,7 +12,7 @@ use crate::lists::lists_close;
 use httparse::spans::HeaderSpan;
 
 /// The values of the fields of one name.
-#[derive(Clone, Copy, Debug)]
+#[derive(Clone, Copy)]
 pub(crate) enum Found<'b> {
     Absent,
     One(&'b [u8]),
