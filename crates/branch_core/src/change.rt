@@ -4,7 +4,7 @@ use crate::StockFound;
 use shop_types::{CopyNo, Customer, CustomerNo, LotName, Moment, Payment, Rental, RentalNo};
 
 /// The rows that a command adds or sets, beside the command itself. A row that is added gets the branch's next number of its kind.
-#[derive(Debug, Drop)]
+#[derive(Drop)]
 pub enum Rows<'a> {
     /// An active customer.
     Customer(Customer),
@@ -33,7 +33,7 @@ pub enum Rows<'a> {
 }
 
 /// What is decided of a command that isn't refused.
-#[derive(Debug, Drop)]
+#[derive(Drop)]
 pub enum Change<'a> {
     /// It was sent before, and had the reply with this body: nothing changes.
     Again(&'a str),

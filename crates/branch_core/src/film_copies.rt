@@ -9,7 +9,7 @@ use shop_types::{CopyNo, NoMemory};
 use std::alloc::Global;
 
 /// A copy of a film.
-#[derive(Debug, Drop)]
+#[derive(Drop)]
 pub struct FilmCopy {
     pub number: CopyNo,
     /// Whether it is in the shop, neither sent nor scrapped.

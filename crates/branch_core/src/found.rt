@@ -33,7 +33,7 @@ pub struct RentalFound {
 }
 
 /// All that a decision reads. Where the command names no row of a kind, what is said of it is not looked at.
-#[derive(Debug, Drop)]
+#[derive(Drop)]
 pub struct Found<'a> {
     /// The branch's kept row of the command's key, where there is one.
     pub kept: Option<KeptFound<'a>>,

@@ -12,7 +12,7 @@ pub struct BranchFound {
 }
 
 /// All that a decision reads: the catalogue, head office's own keys, and nothing of any branch.
-#[derive(Debug, Drop)]
+#[derive(Drop)]
 pub struct Shared<'a> {
     /// Head office's kept row of the command's key, where there is one.
     pub kept: Option<KeptFound<'a>>,

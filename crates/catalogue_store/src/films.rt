@@ -21,7 +21,7 @@ use sqlite::types::ToSql;
 use sqlite::{Alter, Row, Transaction};
 
 /// A film of the catalogue, with its number.
-#[derive(Debug, Drop)]
+#[derive(Drop)]
 pub struct FilmRow {
     pub number: FilmNo,
     pub film: Film,

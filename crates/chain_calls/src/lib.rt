@@ -6,8 +6,6 @@ mod callers;
 #[cfg(test)]
 mod failing;
 #[cfg(test)]
-mod files;
-#[cfg(test)]
 mod replays;
 #[cfg(test)]
 mod sockets;

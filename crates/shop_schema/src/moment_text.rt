@@ -5,7 +5,7 @@ use shop_types::Moment;
 use std::marker::Model;
 
 /// The text of a moment, as a column has it.
-#[derive(Debug, Drop)]
+#[derive(Drop)]
 pub struct MomentText {
     bytes: [u8; 19],
 }

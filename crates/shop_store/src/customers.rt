@@ -19,7 +19,7 @@ use sqlite::types::{ToSql, ValueRef};
 use sqlite::{Alter, Row, Transaction};
 
 /// A customer of a branch, with its number there.
-#[derive(Debug, Drop)]
+#[derive(Drop)]
 pub struct CustomerRow {
     pub branch: BranchNo,
     pub number: CustomerNo,

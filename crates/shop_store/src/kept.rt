@@ -17,7 +17,7 @@ use sqlite::types::ToSql;
 use sqlite::{Alter, Transaction};
 
 /// A command that its caller was accepted for, as it is stored, and the body of the reply that it had.
-#[derive(Debug, Drop)]
+#[derive(Drop)]
 pub struct KeptRow {
     pub form: Bytes,
     pub reply: Words,

@@ -2,21 +2,21 @@ use crate::Person;
 use shop_values::{BranchNo, CityNo, CountryNo, L45, T45, T128, Token};
 
 /// A city of a country.
-#[derive(Clone, Debug, Drop, PartialEq, Eq)]
+#[derive(Drop)]
 pub struct City {
     pub name: T45,
     pub country: CountryNo,
 }
 
 /// Who plays in films.
-#[derive(Clone, Debug, Drop, PartialEq, Eq)]
+#[derive(Drop)]
 pub struct Actor {
     pub first: T45,
     pub last: T45,
 }
 
 /// A branch that head office adds. It has no manager.
-#[derive(Clone, Debug, Drop, PartialEq, Eq)]
+#[derive(Drop)]
 pub struct Branch {
     /// By which its counter is known.
     pub token: Token,
@@ -29,7 +29,7 @@ pub struct Branch {
 }
 
 /// A member of staff whom head office adds. Who is new hasn't left.
-#[derive(Clone, Debug, Drop, PartialEq, Eq)]
+#[derive(Drop)]
 pub struct Staff {
     pub branch: BranchNo,
     pub person: Person,

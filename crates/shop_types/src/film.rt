@@ -189,7 +189,7 @@ impl Features {
 }
 
 /// A film that head office adds. It isn't withdrawn.
-#[derive(Clone, Debug, Drop, PartialEq, Eq)]
+#[derive(Drop)]
 pub struct Film {
     pub title: T128,
     pub description: L500,

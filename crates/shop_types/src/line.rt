@@ -27,7 +27,7 @@ pub struct Line {
 }
 
 /// Why words are no line.
-#[derive(Debug, Drop)]
+#[derive(Drop)]
 pub enum Usage {
     /// A text that says what is wrong with them.
     Words(String),

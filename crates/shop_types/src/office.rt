@@ -2,7 +2,7 @@ use crate::{Actor, Branch, City, Film, Staff};
 use shop_values::{ActorNo, BranchNo, FilmNo, Key, Rate, StaffNo, T45};
 
 /// What a command of head office does to the catalogue.
-#[derive(Clone, Debug, Drop, PartialEq, Eq)]
+#[derive(Drop)]
 pub enum OfficeAct {
     Country(T45),
     City(City),
@@ -25,7 +25,7 @@ pub enum OfficeAct {
 }
 
 /// A command of head office.
-#[derive(Clone, Debug, Drop, PartialEq, Eq)]
+#[derive(Drop)]
 pub struct OfficeCommand {
     /// By which the command is known where it is sent again.
     pub key: Key,

@@ -1,7 +1,7 @@
 use shop_values::{CityNo, L45, Moment, T45, T128};
 
 /// Who a customer or a member of staff is.
-#[derive(Clone, Debug, Drop, PartialEq, Eq)]
+#[derive(Clone, Drop)]
 pub struct Person {
     pub first: T45,
     pub last: T45,
@@ -14,7 +14,7 @@ pub struct Person {
 }
 
 /// A customer of a branch. Its number is that of its row.
-#[derive(Clone, Debug, Drop, PartialEq, Eq)]
+#[derive(Drop)]
 pub struct Customer {
     pub person: Person,
     /// Whether the customer may rent.

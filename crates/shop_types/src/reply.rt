@@ -8,7 +8,7 @@ use shop_values::NoMemory;
 use std::alloc::Global;
 
 /// The body of a reply: a JSON text (RFC 8259).
-#[derive(Debug, Drop)]
+#[derive(Drop)]
 pub enum Body {
     Text(String),
     /// A text that stands in the program, and so takes no memory.
@@ -16,7 +16,7 @@ pub enum Body {
 }
 
 /// What a caller is told.
-#[derive(Debug, Drop)]
+#[derive(Drop)]
 pub struct Reply {
     /// A status of RFC 9110.
     pub status: u16,

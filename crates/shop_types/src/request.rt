@@ -56,7 +56,7 @@ pub enum OfficeAsk {
 }
 
 /// What a caller asks.
-#[derive(Clone, Debug, Drop, PartialEq, Eq)]
+#[derive(Drop)]
 pub enum Request {
     Do(Command),
     Look(Ask),

@@ -1,13 +1,10 @@
 ghost use Rattle.std.specs.Prelude.{◌≡◌, ◌≤◌, ℕ, List, Some, None, length, if◌then◌else◌};
-ghost use Rattle.std.specs.Str.{bytes_eq};
-ghost use Rattle.std.specs.Cmp.Rules.{comparing};
-ghost use Rattle.std.proofs.Common.{rules};
 ghost use Rattle.shop_types.specs.StockFiles.{is_stock_file};
 
 use std::marker::Model;
 
 /// A stock file, as it came and whatever it says: at most 65,536 bytes, which is what the body of a request can have.
-#[derive(Clone, Debug, Drop)]
+#[derive(Drop)]
 pub struct StockFile {
     bytes: Vec<u8>,
 }
@@ -41,18 +38,4 @@ impl StockFile {
     {
         self.bytes.as_slice()
     }
-}
-
-impl PartialEq for StockFile {
-    ghost eq = { bytes_eq };
-
-    ghost laws = { Prim.search (comparing, rules) };
-
-    fn eq(&self, other: &StockFile) -> bool {
-        self.bytes == other.bytes
-    }
-}
-
-impl Eq for StockFile {
-    ghost laws = { Prim.search (comparing, rules) };
 }

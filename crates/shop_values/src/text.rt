@@ -9,7 +9,7 @@ ghost use Rattle.shop_values.specs.Texts.{is_text, is_printed};
 use std::marker::Model;
 
 /// A text of LOW to HIGH bytes of UTF-8 with no control byte, which is one below 32, or 127.
-#[derive(Clone, Debug, Drop)]
+#[derive(Clone, Drop)]
 pub struct Text<const LOW: usize, const HIGH: usize> {
     text: String,
 }

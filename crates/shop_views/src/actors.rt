@@ -15,7 +15,7 @@ use shop_values::{ActorNo, T45, T128};
 use std::alloc::{AllocError, Global};
 
 /// An actor's films of a category.
-#[derive(Debug, Drop)]
+#[derive(Drop)]
 pub struct FilmGroup {
     /// The category's name.
     pub category: T45,
@@ -24,7 +24,7 @@ pub struct FilmGroup {
 }
 
 /// An actor with the films by category.
-#[derive(Debug, Drop)]
+#[derive(Drop)]
 pub struct ActorRow {
     pub number: ActorNo,
     pub name: PersonName,

@@ -14,7 +14,7 @@ use shop_values::{FilmNo, L45, L500, Rate, T128};
 use std::alloc::{AllocError, Global};
 
 /// A film with the name of its category and those who play in it.
-#[derive(Debug, Drop)]
+#[derive(Drop)]
 pub struct FilmRow {
     pub number: FilmNo,
     pub title: T128,

@@ -8,7 +8,7 @@ use shop_values::T45;
 use std::alloc::{AllocError, Global};
 
 /// A person's names.
-#[derive(Debug, Drop)]
+#[derive(Drop)]
 pub struct PersonName {
     pub first: T45,
     pub last: T45,

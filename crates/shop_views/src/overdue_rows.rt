@@ -11,7 +11,7 @@ use shop_values::{L45, T45, T128};
 use std::alloc::{AllocError, Global};
 
 /// A rental that is overdue: its customer's names and telephone number, and its film's title.
-#[derive(Debug, Drop)]
+#[derive(Drop)]
 pub struct OverdueRow {
     pub first: T45,
     pub last: T45,

@@ -13,7 +13,7 @@ use shop_values::{BranchNo, CustomerNo, L45, StaffNo, T128};
 use std::alloc::{AllocError, Global};
 
 /// A person of a branch, with the names of the city and of its country.
-#[derive(Debug, Drop)]
+#[derive(Drop)]
 pub struct ListedPerson {
     pub branch: BranchNo,
     pub name: PersonName,
@@ -29,7 +29,7 @@ pub struct ListedPerson {
 }
 
 /// A customer and its number.
-#[derive(Debug, Drop)]
+#[derive(Drop)]
 pub struct CustomerRow {
     pub number: CustomerNo,
     pub person: ListedPerson,
@@ -38,7 +38,7 @@ pub struct CustomerRow {
 }
 
 /// A member of staff and its number.
-#[derive(Debug, Drop)]
+#[derive(Drop)]
 pub struct StaffRow {
     pub number: StaffNo,
     pub person: ListedPerson,

@@ -13,7 +13,7 @@ use shop_values::{L45, T45};
 use std::alloc::{AllocError, Global};
 
 /// What a branch has taken for rentals.
-#[derive(Debug, Drop)]
+#[derive(Drop)]
 pub struct StoreRow {
     /// The name of the branch's city, empty where there is no such city.
     pub city: L45,
@@ -26,7 +26,7 @@ pub struct StoreRow {
 }
 
 /// What a branch has taken for rentals of a category's films.
-#[derive(Debug, Drop)]
+#[derive(Drop)]
 pub struct CategoryRow {
     /// The category's name.
     pub category: T45,

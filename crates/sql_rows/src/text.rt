@@ -10,7 +10,7 @@ use std::alloc::{AllocError, Global};
 use std::marker::Model;
 
 /// A text, which contracts see as its bytes.
-#[derive(Debug, Drop)]
+#[derive(Drop)]
 pub struct Words {
     text: String,
 }
@@ -51,7 +51,7 @@ impl Words {
 }
 
 /// Bytes, which contracts see as a list of numbers.
-#[derive(Debug, Drop)]
+#[derive(Drop)]
 pub struct Bytes {
     bytes: Vec<u8>,
 }
