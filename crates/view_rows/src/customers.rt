@@ -25,7 +25,7 @@ use shop_views::{CustomerRow, ListPage, customer_row};
 use sql_rows::{StoreFault, TakesRows, each_row, flag_at};
 use sqlite::types::ToSql;
 use sqlite::{Alter, Connection, Row};
-use std::alloc::{AllocError, Global};
+use std::alloc::Global;
 
 /// The customer of a row.
 fn read_customer(alloc: Global, row: &Row, branch: BranchNo) -> Result<CustomerRow, StoreFault>
@@ -40,11 +40,11 @@ fn read_customer(alloc: Global, row: &Row, branch: BranchNo) -> Result<CustomerR
 }
 
 /// Puts the customer last.
-fn add_customer(alloc: Global, row: &CustomerRow, page: &mut ListPage) -> Result<(), AllocError>
+fn add_customer(alloc: Global, row: &CustomerRow, page: &mut ListPage) -> Result<(), StoreFault>
     ensures { OnOk result ((values : List Data) → HasValues page.old values → HasValues page.new (values ++ customer_data (seen_customer row.now) ∷ [])) }
 {
     let value = customer_row(alloc, row)?;
-    page.add(&value)
+    Ok(page.add(&value)?)
 }
 
 /// The list of a branch's customers, so far.
@@ -60,8 +60,7 @@ impl TakesRows for CustomerPage {
 
     fn take(&mut self, row: &Row) -> Result<(), StoreFault> {
         let customer = read_customer(self.alloc, row, self.branch)?;
-        add_customer(self.alloc, &customer, &mut self.page)?;
-        Ok(())
+        add_customer(self.alloc, &customer, &mut self.page)
     }
 }
 

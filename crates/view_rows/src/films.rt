@@ -124,10 +124,10 @@ fn with_actor(film: FilmRow, row: &Row) -> Result<FilmRow, StoreFault>
 }
 
 /// Puts the film last.
-fn add_film(alloc: Global, film: &FilmRow, page: &mut ListPage) -> Result<(), AllocError>
-    ensures { OnOk result ((values : List Data) → HasValues page.old values → HasValues page.new (values ++ film_data (seen_film film.now) ∷ [])) }
+fn add_film(alloc: Global, film: FilmRow, page: &mut ListPage) -> Result<(), AllocError>
+    ensures { OnOk result ((values : List Data) → HasValues page.old values → HasValues page.new (values ++ film_data (seen_film film) ∷ [])) }
 {
-    let value = film_row(alloc, film)?;
+    let value = film_row(alloc, &film)?;
     page.add(&value)
 }
 
@@ -149,7 +149,7 @@ fn next_film(
     if row_number_at(row, 0)? == film.number {
         with_actor(film, row)
     } else {
-        add_film(alloc, &film, page)?;
+        add_film(alloc, film, page)?;
         with_actor(film_at(alloc, row)?, row)
     }
 }
@@ -184,7 +184,7 @@ fn finish(taker: FilmPage) -> Result<String, AllocError>
     } = taker;
     match film {
         Some(film) => {
-            add_film(alloc, &film, &mut page)?;
+            add_film(alloc, film, &mut page)?;
             page.finish()
         }
         None => page.finish(),

@@ -23,7 +23,7 @@ use shop_views::{ListPage, StaffRow, staff_row};
 use sql_rows::{StoreFault, TakesRows, each_row};
 use sqlite::types::ToSql;
 use sqlite::{Alter, Connection, Row};
-use std::alloc::{AllocError, Global};
+use std::alloc::Global;
 
 /// The member of staff of a row.
 fn read_staff(alloc: Global, row: &Row, branch: BranchNo) -> Result<StaffRow, StoreFault>
@@ -37,11 +37,11 @@ fn read_staff(alloc: Global, row: &Row, branch: BranchNo) -> Result<StaffRow, St
 }
 
 /// Puts the member of staff last.
-fn add_staff(alloc: Global, row: &StaffRow, page: &mut ListPage) -> Result<(), AllocError>
+fn add_staff(alloc: Global, row: &StaffRow, page: &mut ListPage) -> Result<(), StoreFault>
     ensures { OnOk result ((values : List Data) → HasValues page.old values → HasValues page.new (values ++ staff_data (seen_staff row.now) ∷ [])) }
 {
     let value = staff_row(alloc, row)?;
-    page.add(&value)
+    Ok(page.add(&value)?)
 }
 
 /// The list of a branch's staff, so far.
@@ -57,8 +57,7 @@ impl TakesRows for StaffPage {
 
     fn take(&mut self, row: &Row) -> Result<(), StoreFault> {
         let staff = read_staff(self.alloc, row, self.branch)?;
-        add_staff(self.alloc, &staff, &mut self.page)?;
-        Ok(())
+        add_staff(self.alloc, &staff, &mut self.page)
     }
 }
 

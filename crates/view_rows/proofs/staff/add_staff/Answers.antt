@@ -1,8 +1,7 @@
 use Rattle.std.proofs.Common.{◌++◌, ◌∷◌, [], subst}
-use Rattle.sql_rows.proofs.Inside.{on_ok_then}
 use Rattle.shop_views.specs.Page.{HasValues}
 use Rattle.view_rows.proofs.staff.add_staff.Goals as goal
 
 pub returns : goal.returns
 returns c =
-    on_ok_then c.add.result (λ added values is. subst (λ d. HasValues c.add.new.self (values ++ d ∷ [])) c.in_ok-value.ensures.value (added values c.in_ok-value.ensures.no_float is)) c.add.ensures.added
+    λ values is. subst (λ d. HasValues c.add.new.self (values ++ d ∷ [])) c.in_ok-value.ensures.value (c.in_ok-add.ensures.added values c.in_ok-value.ensures.no_float is)
