@@ -7,11 +7,11 @@ use Rattle.sqlite.specs.declared.types.Value.TheVariants.{Text}
 use Rattle.sqlite_value.specs.Order as sql
 use Rattle.sqlite_value.specs.Order.{column}
 use Rattle.sql_rows.specs.Rows.{number_value}
+use Rattle.shop_model.specs.Values as model
 use Rattle.shop_model.specs.Views.{ActorRow}
 use Rattle.shop_views.specs.Films.{films_text, actor_data}
 use Rattle.shop_views.specs.Page.{Page, HasValues}
 use Rattle.shop_views.specs.declared.actors.FilmGroup.{FilmGroup}
-use Rattle.shop_views.specs.declared.names.PersonName.{PersonName}
 use Rattle.view_rows.specs.declared.actors.StartedActor.{StartedActor}
 use Rattle.view_rows.specs.Actors.{ActorLine, shown_actor, text_of, told_film, take_any, every_group, seen_group, ActorPart, actor_alone, whole, seen_part, Grouped, closed, take_line, runs}
 use Rattle.view_rows.proofs.PageLines.{split_last}
@@ -24,13 +24,13 @@ pub whole_seen : (actor : StartedActor) (groups : List FilmGroup) → map seen_g
     → join_by films_text (codes "; ") groups ≡ (whole (seen_part actor)).films
 whole_seen actor groups is = join_map text_of seen_group (codes "; ") groups ∙ ap (join_by text_of (codes "; ")) is
 
-pub actor_is : (row : sql.Row) (number : ℕ) (name : PersonName) (complete : List FilmGroup) → column row 0 ≡ number_value number → column row 1 ≡ Text name.first → column row 2 ≡ Text name.last → complete ≡ []
+pub actor_is : (row : sql.Row) (number : ℕ) (first last : model.Text) (complete : List FilmGroup) → column row 0 ≡ number_value number → column row 1 ≡ Text first → column row 2 ≡ Text last → complete ≡ []
     → (line : ActorLine) → row ≡ shown_actor line
-    → ◌≡◌ {A = ActorPart} (record { number = number; first = name.first; last = name.last; films = [] }, (map seen_group complete, None)) (actor_alone line.0, ([], None))
-actor_is row number name complete at0 at1 at2 none line is =
+    → ◌≡◌ {A = ActorPart} (record { number = number; first = first; last = last; films = [] }, (map seen_group complete, None)) (actor_alone line.0, ([], None))
+actor_is row number first last complete at0 at1 at2 none line is =
     let numbers : number ≡ line.0.0 = same_number _ _ (sym at0 ∙ ap (λ r. column r 0) is) in
-    let firsts : name.first ≡ line.0.1.first = same_words _ _ (sym at1 ∙ ap (λ r. column r 1) is) in
-    let lasts : name.last ≡ line.0.1.last = same_words _ _ (sym at2 ∙ ap (λ r. column r 2) is) in
+    let firsts : first ≡ line.0.1.first = same_words _ _ (sym at1 ∙ ap (λ r. column r 1) is) in
+    let lasts : last ≡ line.0.1.last = same_words _ _ (sym at2 ∙ ap (λ r. column r 2) is) in
     (λ i. (record { number = numbers i; first = firsts i; last = lasts i; films = [] }, (map seen_group (none i), None)))
 
 -- ---- the next actor

@@ -1,7 +1,6 @@
 //! What customers and staff have in common in the rows of their joins.
 
 ghost use Rattle.std.specs.Prelude.{◌≡◌, ◌++◌, ℕ, IfOk};
-ghost use Rattle.sqlite.specs.declared.types.Value.TheVariants.{Text as SqlText};
 ghost use Rattle.sqlite_value.specs.Order.{Row as SqlRow, column};
 ghost use Rattle.shop_model.specs.Values.{Person};
 ghost use Rattle.shop_model.specs.Shop.{Catalogue};
@@ -30,16 +29,6 @@ pub(crate) fn name_at(alloc: Global, row: &Row, at: usize) -> Result<L45, StoreF
     }
 }
 
-/// The name of a person, of whom these columns have the first name and the last.
-pub(crate) fn person_name_at(row: &Row, first: usize, last: usize) -> Result<PersonName, StoreFault>
-    ensures { IfOk result (λ name. (column row.now first ≡ SqlText name.first) × (column row.now last ≡ SqlText name.last)) }
-{
-    Ok(PersonName {
-        first: text_at(row, first)?,
-        last: text_at(row, last)?,
-    })
-}
-
 /// The person of a row, with the names of city and country. The first column is the number.
 pub(crate) fn person_at(
     alloc: Global,
@@ -51,7 +40,10 @@ pub(crate) fn person_at(
 {
     Ok(ListedPerson {
         branch,
-        name: person_name_at(row, 1, 2)?,
+        name: PersonName {
+            first: text_at(row, 1)?,
+            last: text_at(row, 2)?,
+        },
         address: text_at(row, 3)?,
         postal: text_at(row, 4)?,
         phone: text_at(row, 5)?,
