@@ -13,9 +13,8 @@ fn is_same(router: &Router<u8>, path: &str, place: usize, name: &str) -> Option<
 }
 
 fn are_same(router: &Router<u8>, path: &str) -> bool {
-    [(2, "key"), (3, "staff"), (4, "at"), (5, "lot")]
-        .iter()
-        .all(|(place, name)| is_same(router, path, *place, name) == Some(true))
+    let parts = [(2, "key"), (3, "staff"), (4, "at"), (5, "lot")];
+    parts.iter().all(|(place, name)| is_same(router, path, *place, name) == Some(true))
 }
 
 /// The parts that the router takes for a pattern's names are those between the slashes.
