@@ -6,7 +6,8 @@ use Rattle.std.specs.List.{list_any}
 use Rattle.std.proofs.lemmas.Bool.{cases_Bool}
 use Rattle.shop_model.specs.Calendar.{Moment, same_moment}
 use Rattle.shop_model.specs.Rows.{at, is_empty, numbered_from}
-use Rattle.shop_model.specs.Values.{Copy, Customer, Rental, SetActive, Rent, TakeBack, Pay, Scrap, Rules}
+use Rattle.shop_model.specs.Values.{Copy, Customer, Rental, Rules}
+use Rattle.shop_model.specs.Values as model
 use Rattle.shop_model.specs.Shop.{Catalogue, Shop, same_flag}
 use Rattle.shop_model.specs.Stock.{is_here, keeps_out, in_stock}
 use Rattle.shop_model.specs.Refusals.{NoCustomer, NoCopy, CopyNotHere, CopyOut, FilmWithdrawn, SameMoment, RentalReturned, Already}
@@ -61,13 +62,13 @@ seen found it catalogue shop x is copy = ap (option_map seen_copy) (sym is) ∙ 
 -- ---- whether a customer may rent
 
 module _ (rules : Rules) (b : ℕ) (catalogue : Catalogue) (shop : Shop) (moment : Moment) (c : ℕ) (active : Bool) where
-  pub active_none : None ≡ active_at c shop → Some (Refused NoCustomer) ≡ Some (first (act_refusals rules b catalogue shop moment (SetActive c active)))
+  pub active_none : None ≡ active_at c shop → Some (Refused NoCustomer) ≡ Some (first (act_refusals rules b catalogue shop moment (model.SetActive c active)))
   active_none is = rw (found_none (λ (it : Customer). it.active) c shop.customers is) refl
 
-  pub active_already : (was : Bool) → Some was ≡ active_at c shop → same_flag was active ≡ true → Some (Refused Already) ≡ Some (first (act_refusals rules b catalogue shop moment (SetActive c active)))
+  pub active_already : (was : Bool) → Some was ≡ active_at c shop → same_flag was active ≡ true → Some (Refused Already) ≡ Some (first (act_refusals rules b catalogue shop moment (model.SetActive c active)))
   active_already was is same = let one = found_some (λ (it : Customer). it.active) c shop.customers was is in rw (one.1, one.2, same) refl
 
-  pub active_set : (was : Bool) → Some was ≡ active_at c shop → same_flag was active ≡ false → Some Accepted ≡ Some (first (act_refusals rules b catalogue shop moment (SetActive c active)))
+  pub active_set : (was : Bool) → Some was ≡ active_at c shop → same_flag was active ≡ false → Some Accepted ≡ Some (first (act_refusals rules b catalogue shop moment (model.SetActive c active)))
   active_set was is same = let one = found_some (λ (it : Customer). it.active) c shop.customers was is in rw (one.1, one.2, same) refl
 
 -- ---- a copy's open rental
@@ -97,13 +98,13 @@ module _ (rules : Rules) (b : ℕ) (catalogue : Catalogue) (shop : Shop) (moment
   abbrev told : Rental → ℕ × ℕ × Bool
   told it = (it.customer, it.copy, is_some it.returned)
 
-  pub return_open : (back : Bool) → Some (c, x, back) ≡ rental_at shop r → back ≡ false → Some Accepted ≡ Some (first (act_refusals rules b catalogue shop moment (TakeBack r)))
+  pub return_open : (back : Bool) → Some (c, x, back) ≡ rental_at shop r → back ≡ false → Some Accepted ≡ Some (first (act_refusals rules b catalogue shop moment (model.TakeBack r)))
   return_open back is not_back =
       let one = found_some told r shop.rentals (c, x, back) is in
       let still : is_some one.0.returned ≡ false = ap (λ (p : ℕ × ℕ × Bool). p.2) one.2 ∙ not_back in
       rw (one.1, still) refl
 
-  pub return_back : (back : Bool) → Some (c, x, back) ≡ rental_at shop r → back ≡ true → Some (Refused RentalReturned) ≡ Some (first (act_refusals rules b catalogue shop moment (TakeBack r)))
+  pub return_back : (back : Bool) → Some (c, x, back) ≡ rental_at shop r → back ≡ true → Some (Refused RentalReturned) ≡ Some (first (act_refusals rules b catalogue shop moment (model.TakeBack r)))
   return_back back is so =
       let one = found_some told r shop.rentals (c, x, back) is in
       let came : is_some one.0.returned ≡ true = ap (λ (p : ℕ × ℕ × Bool). p.2) one.2 ∙ so in
@@ -124,7 +125,7 @@ is_there (Some x) e = (x, refl)
 
 -- a payment of the rental by the customer who made it
 pub pay_own : (rules : Rules) (b : ℕ) (catalogue : Catalogue) (shop : Shop) (moment : Moment) (c r amount renter x : ℕ) (active back : Bool) → Some active ≡ active_at c shop
-    → Some (renter, x, back) ≡ rental_at shop r → (renter == c) ≡ true → Some Accepted ≡ Some (first (act_refusals rules b catalogue shop moment (Pay c (Some r) amount)))
+    → Some (renter, x, back) ≡ rental_at shop r → (renter == c) ≡ true → Some Accepted ≡ Some (first (act_refusals rules b catalogue shop moment (model.Pay c (Some r) amount)))
 pay_own rules b catalogue shop moment c r amount renter x active back there found own =
     let who = found_some (λ (it : Customer). it.active) c shop.customers active there in
     let one = found_some (λ (it : Rental). let p : ℕ × ℕ × Bool = (it.customer, it.copy, is_some it.returned) in p) r shop.rentals (renter, x, back) found in
@@ -135,7 +136,7 @@ pay_own rules b catalogue shop moment c r amount renter x active back there foun
 
 module _ (rules : Rules) (b : ℕ) (catalogue : Catalogue) (shop : Shop) (moment : Moment) (x : ℕ) (here withdrawn : Bool) (is : Some (here, withdrawn) ≡ copy_at catalogue shop x) where
   abbrev Scraps : Verdict → Type 0
-  Scraps v = Some v ≡ Some (first (act_refusals rules b catalogue shop moment (Scrap x)))
+  Scraps v = Some v ≡ Some (first (act_refusals rules b catalogue shop moment (model.Scrap x)))
 
   pub scrap_away : here ≡ false → Scraps (Refused CopyNotHere)
   scrap_away away =
@@ -159,7 +160,7 @@ module _ (rules : Rules) (b : ℕ) (catalogue : Catalogue) (shop : Shop) (moment
 
 module _ (rules : Rules) (b : ℕ) (catalogue : Catalogue) (shop : Shop) (moment : Moment) (c x : ℕ) (active : Some true ≡ active_at c shop) where
   abbrev Rents : Verdict → Type 0
-  Rents v = Some v ≡ Some (first (act_refusals rules b catalogue shop moment (Rent c x)))
+  Rents v = Some v ≡ Some (first (act_refusals rules b catalogue shop moment (model.Rent c x)))
 
   pub rent_no_copy : None ≡ copy_at catalogue shop x → Rents (Refused NoCopy)
   rent_no_copy is =

@@ -7,7 +7,7 @@ use Rattle.std.specs.declared.vec.Vec.{Vec}
 use Rattle.shop_model.specs.Calendar.{Moment, same_moment}
 use Rattle.shop_model.specs.Rows.{at, lacks, numbered}
 use Rattle.shop_model.specs.Values as model
-use Rattle.shop_model.specs.Values.{Text, Person, Customer, Copy, Act, AddCustomer, SetActive, Rent, TakeBack, Pay, Import, Scrap, Command, Stock, Copies, BadLine, Rules}
+use Rattle.shop_model.specs.Values.{Text, Person, Customer, Copy, Act, Command, Stock, Copies, BadLine, Rules}
 use Rattle.shop_model.specs.Stock.{is_here, in_stock, keeps_out}
 use Rattle.shop_model.specs.Shop.{Kept, Catalogue, Shop, same_command, same_flag}
 use Rattle.shop_model.specs.Verdict.{is_film_withdrawn}
@@ -49,28 +49,28 @@ pub record RowAgrees (catalogue : Catalogue) (row : StockFound) : Type 0 where
 
 -- the city of a new customer
 abbrev pub city_in : Act → Option ℕ
-city_in (AddCustomer person) = Some person.city
+city_in (model.AddCustomer person) = Some person.city
 city_in act = None
 
 abbrev pub customer_in : Act → Option ℕ
-customer_in (SetActive c active) = Some c
-customer_in (Rent c x) = Some c
-customer_in (Pay c rental amount) = Some c
+customer_in (model.SetActive c active) = Some c
+customer_in (model.Rent c x) = Some c
+customer_in (model.Pay c rental amount) = Some c
 customer_in act = None
 
 abbrev pub copy_in : Act → Option ℕ
-copy_in (Rent c x) = Some x
-copy_in (Scrap x) = Some x
+copy_in (model.Rent c x) = Some x
+copy_in (model.Scrap x) = Some x
 copy_in act = None
 
 abbrev pub rental_in : Act → Option ℕ
-rental_in (TakeBack r) = Some r
-rental_in (Pay c rental amount) = rental
+rental_in (model.TakeBack r) = Some r
+rental_in (model.Pay c rental amount) = rental
 rental_in act = None
 
 -- the lot and the stock file of an import
 abbrev pub import_in : Act → Option (Text × Text)
-import_in (Import lot file) = Some (lot, file)
+import_in (model.Import lot file) = Some (lot, file)
 import_in act = None
 
 -- ---- what a shop has of them
@@ -95,7 +95,7 @@ IsOut shop x out = option_to_list out ≡ open_of x shop.rentals
 
 -- whether there is a rental of the moment, and of the copy and by the customer of the act
 abbrev pub has_same_rental : Moment → Act → Shop → Bool
-has_same_rental moment (Rent c x) shop = list_any (λ (it : model.Rental). same_moment it.rented moment && it.copy == x && it.customer == c) shop.rentals
+has_same_rental moment (model.Rent c x) shop = list_any (λ (it : model.Rental). same_moment it.rented moment && it.copy == x && it.customer == c) shop.rentals
 has_same_rental moment act shop = false
 
 -- whose rental it is, of which copy, and whether that is back

@@ -2,7 +2,8 @@
 use Rattle.std.specs.Prelude.{◌≡◌, ⊤, ℕ, ◌≤◌, true, List, [], ◌∷◌, ◌++◌, map, Option, option_map, Some, None, Result, Ok, Err}
 use Rattle.shop_model.specs.Calendar.{Moment}
 use Rattle.shop_model.specs.Rows.{at}
-use Rattle.shop_model.specs.Values.{Text, Person, Act, AddCustomer, SetActive, Rent, TakeBack, Pay, Import, Scrap, Command, Rules}
+use Rattle.shop_model.specs.Values.{Text, Person, Act, Command, Rules}
+use Rattle.shop_model.specs.Values as model
 use Rattle.shop_model.specs.Refusals as named
 use Rattle.shop_model.specs.Shop.{Catalogue, Shop}
 use Rattle.shop_model.specs.Verdict.{Verdict, Again, Refused, Accepted, verdict}
@@ -25,18 +26,18 @@ use Rattle.branch_core.specs.declared.change.Change.TheVariants as change
 -- an active customer, who was created at the command's moment: the row that the act puts last
 pub record IsNewCustomer (rules : Rules) (command : Command) (person : Person) (shop : Shop) (customer : Customer) : Type 0 where
   pub row : seen_customer customer ≡ record { person = person; active = true; created = command.moment }
-  pub added : (acted rules command (AddCustomer person) shop).customers ≡ shop.customers ++ seen_customer customer ∷ []
+  pub added : (acted rules command (model.AddCustomer person) shop).customers ≡ shop.customers ++ seen_customer customer ∷ []
 
 -- the copies that the stock file lists, which are those that the act puts last, and its lot
 pub record AreNewCopies (rules : Rules) (command : Command) (lot file : Text) (shop : Shop) (stock : List StockFound) (named : Text) : Type 0 where
   pub films : films_of stock ≡ films_in (rules.stock_of file)
   pub lot_is : named ≡ lot
-  pub added : (acted rules command (Import lot file) shop).copies ≡ shop.copies ++ map here (films_of stock)
+  pub added : (acted rules command (model.Import lot file) shop).copies ≡ shop.copies ++ map here (films_of stock)
 
 -- an open rental of the copy by the customer, at the command's moment: the row that the act puts last
 pub record IsNewRental (rules : Rules) (command : Command) (c x : ℕ) (shop : Shop) (rental : Rental) : Type 0 where
   pub row : seen_rental rental ≡ record { rented = command.moment; copy = x; customer = c; returned = None; staff = command.staff }
-  pub added : (acted rules command (Rent c x) shop).rentals ≡ shop.rentals ++ seen_rental rental ∷ []
+  pub added : (acted rules command (model.Rent c x) shop).rentals ≡ shop.rentals ++ seen_rental rental ∷ []
 
 -- the rental comes back at the command's moment, and with it its copy
 pub record IsReturn (command : Command) (r : ℕ) (shop : Shop) (rental copy : ℕ) (returned : Moment) : Type 0 where
@@ -47,17 +48,17 @@ pub record IsReturn (command : Command) (r : ℕ) (shop : Shop) (rental copy : �
 -- a payment of the customer, taken at the command's moment: the row that the act puts last
 pub record IsNewPayment (rules : Rules) (command : Command) (c : ℕ) (rental : Option ℕ) (amount : ℕ) (shop : Shop) (payment : Payment) : Type 0 where
   pub row : seen_payment payment ≡ record { customer = c; staff = command.staff; rental = rental; amount = amount; paid = command.moment }
-  pub added : (acted rules command (Pay c rental amount) shop).payments ≡ shop.payments ++ seen_payment payment ∷ []
+  pub added : (acted rules command (model.Pay c rental amount) shop).payments ≡ shop.payments ++ seen_payment payment ∷ []
 
 -- they are the rows that the act adds to the shop or sets
 abbrev pub Adds : Rules → Command → Act → Shop → Rows → Type 0
-Adds rules command (AddCustomer person) shop (rows.Customer customer) = IsNewCustomer rules command person shop customer
-Adds rules command (SetActive c active) shop (rows.Active customer flag) = (customer ≡ c) × (flag ≡ active)
-Adds rules command (Rent c x) shop (rows.Rent rental) = IsNewRental rules command c x shop rental
-Adds rules command (TakeBack r) shop (rows.TakeBack rental copy returned) = IsReturn command r shop rental copy returned
-Adds rules command (Pay c rental amount) shop (rows.Pay payment) = IsNewPayment rules command c rental amount shop payment
-Adds rules command (Scrap x) shop (rows.Scrap copy) = copy ≡ x
-Adds rules command (Import lot file) shop (rows.Import stock named) = AreNewCopies rules command lot file shop stock.now named.now
+Adds rules command (model.AddCustomer person) shop (rows.Customer customer) = IsNewCustomer rules command person shop customer
+Adds rules command (model.SetActive c active) shop (rows.Active customer flag) = (customer ≡ c) × (flag ≡ active)
+Adds rules command (model.Rent c x) shop (rows.Rent rental) = IsNewRental rules command c x shop rental
+Adds rules command (model.TakeBack r) shop (rows.TakeBack rental copy returned) = IsReturn command r shop rental copy returned
+Adds rules command (model.Pay c rental amount) shop (rows.Pay payment) = IsNewPayment rules command c rental amount shop payment
+Adds rules command (model.Scrap x) shop (rows.Scrap copy) = copy ≡ x
+Adds rules command (model.Import lot file) shop (rows.Import stock named) = AreNewCopies rules command lot file shop stock.now named.now
 Adds rules command act shop it = ⊥
 
 -- ---- verdicts
@@ -77,7 +78,7 @@ verdict_by result = verdict_before result Accepted
 
 -- the act takes memory: the person of a new customer is copied
 abbrev pub TakesMemory : Act → Type 0
-TakesMemory (AddCustomer person) = ⊤
+TakesMemory (model.AddCustomer person) = ⊤
 TakesMemory act = ⊥
 
 -- an import has at most a thousand copies, so that no number of a new one wraps

@@ -4,7 +4,7 @@ use Rattle.shop_values.specs.LimitValues.{Limits}
 use Rattle.shop_model.specs.Json.{object}
 use Rattle.shop_model.specs.Rows.{at, of, put, set_row}
 use Rattle.shop_model.specs.Values as model
-use Rattle.shop_model.specs.Values.{Rules, Command, Act, AddCustomer, SetActive, Rent, TakeBack, Pay, Import, Dispatch, Receive, Scrap, Customer, Rental, Payment, Scrapped}
+use Rattle.shop_model.specs.Values.{Rules, Command, Act, Customer, Rental, Payment, Scrapped}
 use Rattle.shop_model.specs.Machine.{told, reply_text}
 use Rattle.shop_model.specs.Books.{Books, book_acted, book_done, head, put_state, set_last, shop_of, unmarked}
 use Rattle.shop_model.proofs.RowLemmas.{length_map, map_at, row_at}
@@ -32,37 +32,37 @@ copy_found b n x books held is =
     ∙ ap (λ (m : ℕ). m ∷ []) one.2
 
 pub rows_acted : (limits : Limits) (b : ℕ) (command : Command) (act : Act) (it : Rows) (books : Books) → IsHeld books → Adds (rules_of limits) command act (shop_of b books) it → AreActed limits b command act it books
-rows_acted limits b command (AddCustomer person) (rows.Customer customer) books held adds = record {
+rows_acted limits b command (model.AddCustomer person) (rows.Customer customer) books held adds = record {
   ready = tt;
   acted = ap (λ (row : Customer). record books { customers = put b (λ _. row) books.customers }) adds.row;
   told = refl;
 }
-rows_acted limits b command (SetActive c active) (rows.Active customer flag) books held adds = record {
+rows_acted limits b command (model.SetActive c active) (rows.Active customer flag) books held adds = record {
   ready = tt;
   acted = λ i. record books { customers = set_row b (adds.0 i) (λ it. record it { active = adds.1 i }) books.customers };
   told = λ i. rows_text b (rows.Active (adds.0 i) (adds.1 i)) books;
 }
-rows_acted limits b command (Rent c x) (rows.Rent rental) books held adds = record {
+rows_acted limits b command (model.Rent c x) (rows.Rent rental) books held adds = record {
   ready = tt;
   acted = ap (λ (row : Rental). record books { rentals = put b (λ _. record row { returned = None }) books.rentals }) adds.row;
   told = refl;
 }
-rows_acted limits b command (TakeBack r) (rows.TakeBack rental copy returned) books held adds = record {
+rows_acted limits b command (model.TakeBack r) (rows.TakeBack rental copy returned) books held adds = record {
   ready = copy_found b rental copy books held (adds.copy_is ∙ ap (λ (n : ℕ). head (map (λ (it : Rental). it.copy) (at n (of b books.rentals)))) (sym adds.number));
   acted = λ i. record books { rentals = set_row b (adds.number i) (λ it. record it { returned = Some (adds.moment i) }) books.rentals };
   told = ap (λ (n : ℕ). rows_text b (rows.TakeBack n copy returned) books) adds.number;
 }
-rows_acted limits b command (Pay c rental amount) (rows.Pay payment) books held adds = record {
+rows_acted limits b command (model.Pay c rental amount) (rows.Pay payment) books held adds = record {
   ready = tt;
   acted = ap (λ (row : Payment). record books { payments = put b (λ _. row) books.payments }) adds.row;
   told = refl;
 }
-rows_acted limits b command (Scrap x) (rows.Scrap copy) books held adds = record {
+rows_acted limits b command (model.Scrap x) (rows.Scrap copy) books held adds = record {
   ready = tt;
   acted = ap (λ (n : ℕ). record books { copies = set_row b n (put_state Scrapped) books.copies }) adds;
   told = ap (λ (n : ℕ). rows_text b (rows.Scrap n) books) adds;
 }
-rows_acted limits b command (Import lot file) (rows.Import stock named) books held adds = record {
+rows_acted limits b command (model.Import lot file) (rows.Import stock named) books held adds = record {
   ready = tt;
   acted = λ i. with_import b (adds.films i) (adds.lot_is i) books;
   told = λ i. import_text (length (adds.films i)) (sym (length_map unmarked (of b books.copies)) i + 1);
@@ -71,15 +71,15 @@ rows_acted limits b command act it books held adds = absurd adds
 
 -- what an act does leaves the kept commands and the last moments
 acted_kept : (rules : Rules) (b : ℕ) (command : Command) (act : Act) (books : Books) → ((book_acted rules b command act books).kept ≡ books.kept) × ((book_acted rules b command act books).lasts ≡ books.lasts)
-acted_kept rules b command (AddCustomer person) books = (refl, refl)
-acted_kept rules b command (SetActive c active) books = (refl, refl)
-acted_kept rules b command (Rent c x) books = (refl, refl)
-acted_kept rules b command (TakeBack r) books = (refl, refl)
-acted_kept rules b command (Pay c rental amount) books = (refl, refl)
-acted_kept rules b command (Import lot file) books = (refl, refl)
-acted_kept rules b command (Dispatch to xs) books = (refl, refl)
-acted_kept rules b command (Receive source number missing) books = (refl, refl)
-acted_kept rules b command (Scrap x) books = (refl, refl)
+acted_kept rules b command (model.AddCustomer person) books = (refl, refl)
+acted_kept rules b command (model.SetActive c active) books = (refl, refl)
+acted_kept rules b command (model.Rent c x) books = (refl, refl)
+acted_kept rules b command (model.TakeBack r) books = (refl, refl)
+acted_kept rules b command (model.Pay c rental amount) books = (refl, refl)
+acted_kept rules b command (model.Import lot file) books = (refl, refl)
+acted_kept rules b command (model.Dispatch to xs) books = (refl, refl)
+acted_kept rules b command (model.Receive source number missing) books = (refl, refl)
+acted_kept rules b command (model.Scrap x) books = (refl, refl)
 
 -- with its rows and itself kept, a command's books are those after it
 pub rows_done : (limits : Limits) (b : ℕ) (command : Command) (it : Rows) (reply : model.Text) (books : Books) → AreActed limits b command command.act it books → reply ≡ rows_text b it books

@@ -7,7 +7,8 @@ use Rattle.serde_json.specs.Read.{read}
 use Rattle.shop_values.specs.Texts.{is_text, is_key}
 use Rattle.shop_values.specs.Numbers.{is_row_number}
 use Rattle.shop_model.specs.Calendar.{Moment}
-use Rattle.shop_model.specs.Values.{Text, Person, Act, AddCustomer, SetActive, Rent, TakeBack, Pay, Scrap, Command}
+use Rattle.shop_model.specs.Values.{Text, Person, Act, Command}
+use Rattle.shop_model.specs.Values as model
 use Rattle.counter_routes.specs.Moments.{moment_of}
 
 infixl 10 ◌>>=◌
@@ -83,27 +84,27 @@ command_at act d = do
 unfoldable pub new_customer : Data → Option Command
 new_customer d = if has_members 9 d then (do
   person ← person_at d
-  command_at (AddCustomer person) d) else None
+  command_at (model.AddCustomer person) d) else None
 
 -- the command that sets whether a customer may rent: five members and no others
 unfoldable pub new_active : Data → Option Command
 new_active d = if has_members 5 d then (do
   customer ← number_at (codes "customer") d
   active ← bool_at (codes "active") d
-  command_at (SetActive customer active) d) else None
+  command_at (model.SetActive customer active) d) else None
 
 -- the command that rents a copy to a customer: five members and no others
 unfoldable pub new_rental : Data → Option Command
 new_rental d = if has_members 5 d then (do
   customer ← number_at (codes "customer") d
   copy ← number_at (codes "copy") d
-  command_at (Rent customer copy) d) else None
+  command_at (model.Rent customer copy) d) else None
 
 -- the command that takes the copy of a rental back: four members and no others
 unfoldable pub new_return : Data → Option Command
 new_return d = if has_members 4 d then (do
   rental ← number_at (codes "rental") d
-  command_at (TakeBack rental) d) else None
+  command_at (model.TakeBack rental) d) else None
 
 -- the command that takes a payment of a customer: six members and no others
 unfoldable pub new_payment : Data → Option Command
@@ -111,13 +112,13 @@ new_payment d = if has_members 6 d then (do
   customer ← number_at (codes "customer") d
   rental ← rental_at d
   amount ← amount_at d
-  command_at (Pay customer rental amount) d) else None
+  command_at (model.Pay customer rental amount) d) else None
 
 -- the command that takes a copy out of the shop: four members and no others
 unfoldable pub new_scrap : Data → Option Command
 new_scrap d = if has_members 4 d then (do
   copy ← number_at (codes "copy") d
-  command_at (Scrap copy) d) else None
+  command_at (model.Scrap copy) d) else None
 
 -- the value that a body's bytes write (RFC 8259), where they are UTF-8 and nest at most 127 deep
 abbrev pub body_of : List ℕ → Option Data

@@ -7,7 +7,8 @@ use Rattle.std.proofs.lemmas.Bool.Decides.{nat_tests}
 use Rattle.std.proofs.lemmas.Slice.Eq.{bytes_eq-Decides}
 use Rattle.sql_rows.proofs.Appends.{both}
 use Rattle.shop_model.specs.Calendar.{Moment, IsMoment, moment_text, same_moment, digit, days_in_month, is_leap_year}
-use Rattle.shop_model.specs.Values.{Text, Person, Act, AddCustomer, SetActive, Rent, TakeBack, Pay, Import, Dispatch, Receive, Scrap, Command}
+use Rattle.shop_model.specs.Values.{Text, Person, Act, Command}
+use Rattle.shop_model.specs.Values as model
 use Rattle.shop_model.specs.Shop.{same_option, same_numbers, same_flag, same_person, same_act, same_command}
 use Rattle.shop_schema.specs.Forms.{joined, number_form, text_form, numbers_form, option_form, flag_form, act_form, command_form, FormsAreOneToOne}
 use Rattle.shop_schema.proofs.FormLemmas.{number_ends, number_is, text_ends, numbers_ends, option_ends, flag_ends, moment_ends, person_is}
@@ -32,15 +33,15 @@ pub person_same : (p : Person) → same_person p p ≡ true
 person_same p = rw (bytes_same p.first, bytes_same p.last, bytes_same p.address, bytes_same p.postal, bytes_same p.phone, number_same p.city)
 
 act_same : (a : Act) → same_act a a ≡ true
-act_same (AddCustomer p) = person_same p
-act_same (SetActive c active) = rw (number_same c, flag_same active)
-act_same (Rent c x) = simp number_same
-act_same (TakeBack r) = number_same r
-act_same (Pay c r amount) = rw (number_same c, option_same r, number_same amount)
-act_same (Import lot file) = simp bytes_same
-act_same (Dispatch a xs) = rw (number_same a, bytes_same xs)
-act_same (Receive s n missing) = simp (number_same, bytes_same)
-act_same (Scrap x) = number_same x
+act_same (model.AddCustomer p) = person_same p
+act_same (model.SetActive c active) = rw (number_same c, flag_same active)
+act_same (model.Rent c x) = simp number_same
+act_same (model.TakeBack r) = number_same r
+act_same (model.Pay c r amount) = rw (number_same c, option_same r, number_same amount)
+act_same (model.Import lot file) = simp bytes_same
+act_same (model.Dispatch a xs) = rw (number_same a, bytes_same xs)
+act_same (model.Receive s n missing) = simp (number_same, bytes_same)
+act_same (model.Scrap x) = number_same x
 
 pub moment_same : (m : Moment) → same_moment m m ≡ true
 moment_same m = rw (number_same m.year, number_same m.month, number_same m.day, number_same m.hour, number_same m.minute, number_same m.second)
@@ -51,35 +52,35 @@ command_same c = rw (bytes_same c.key, number_same c.staff, moment_same c.moment
 -- ---- acts of one form
 
 act_is : (a b : Act) → act_form a ≡ act_form b → a ≡ b
-act_is (AddCustomer p) (AddCustomer q) h = let person = person_is p q cc in ap AddCustomer person
-act_is (SetActive c x) (SetActive d y) h =
+act_is (model.AddCustomer p) (model.AddCustomer q) h = let person = person_is p q cc in ap model.AddCustomer person
+act_is (model.SetActive c x) (model.SetActive d y) h =
     let rest : joined (number_form c ∷ flag_form x ∷ []) ≡ joined (number_form d ∷ flag_form y ∷ []) = cc in
     let number = number_ends c d _ _ rest in
-    λ i. SetActive (number.0 i) ((flag_ends x y [] [] number.1).0 i)
-act_is (Rent c x) (Rent d y) h =
+    λ i. model.SetActive (number.0 i) ((flag_ends x y [] [] number.1).0 i)
+act_is (model.Rent c x) (model.Rent d y) h =
     let rest : joined (number_form c ∷ number_form x ∷ []) ≡ joined (number_form d ∷ number_form y ∷ []) = cc in
     let number = number_ends c d _ _ rest in
-    λ i. Rent (number.0 i) ((number_ends x y [] [] number.1).0 i)
-act_is (TakeBack r) (TakeBack s) h = let number = number_is r s cc in ap TakeBack number
-act_is (Pay c r m) (Pay d s n) h =
+    λ i. model.Rent (number.0 i) ((number_ends x y [] [] number.1).0 i)
+act_is (model.TakeBack r) (model.TakeBack s) h = let number = number_is r s cc in ap model.TakeBack number
+act_is (model.Pay c r m) (model.Pay d s n) h =
     let rest : joined (number_form c ∷ option_form r ∷ number_form m ∷ []) ≡ joined (number_form d ∷ option_form s ∷ number_form n ∷ []) = cc in
     let number = number_ends c d _ _ rest in
     let rental = option_ends r s _ _ number.1 in
-    λ i. Pay (number.0 i) (rental.0 i) ((number_ends m n [] [] rental.1).0 i)
-act_is (Import lot file) (Import lot' file') h =
+    λ i. model.Pay (number.0 i) (rental.0 i) ((number_ends m n [] [] rental.1).0 i)
+act_is (model.Import lot file) (model.Import lot' file') h =
     let rest : joined (text_form lot ∷ text_form file ∷ []) ≡ joined (text_form lot' ∷ text_form file' ∷ []) = cc in
     let name = text_ends lot lot' _ _ rest in
-    λ i. Import (name.0 i) ((text_ends file file' [] [] name.1).0 i)
-act_is (Dispatch a xs) (Dispatch b ys) h =
+    λ i. model.Import (name.0 i) ((text_ends file file' [] [] name.1).0 i)
+act_is (model.Dispatch a xs) (model.Dispatch b ys) h =
     let rest : joined (number_form a ∷ numbers_form xs ∷ []) ≡ joined (number_form b ∷ numbers_form ys ∷ []) = cc in
     let number = number_ends a b _ _ rest in
-    λ i. Dispatch (number.0 i) ((numbers_ends xs ys [] [] number.1).0 i)
-act_is (Receive s n xs) (Receive t m ys) h =
+    λ i. model.Dispatch (number.0 i) ((numbers_ends xs ys [] [] number.1).0 i)
+act_is (model.Receive s n xs) (model.Receive t m ys) h =
     let rest : joined (number_form s ∷ number_form n ∷ numbers_form xs ∷ []) ≡ joined (number_form t ∷ number_form m ∷ numbers_form ys ∷ []) = cc in
     let source = number_ends s t _ _ rest in
     let number = number_ends n m _ _ source.1 in
-    λ i. Receive (source.0 i) (number.0 i) ((numbers_ends xs ys [] [] number.1).0 i)
-act_is (Scrap x) (Scrap y) h = let number = number_is x y cc in ap Scrap number
+    λ i. model.Receive (source.0 i) (number.0 i) ((numbers_ends xs ys [] [] number.1).0 i)
+act_is (model.Scrap x) (model.Scrap y) h = let number = number_is x y cc in ap model.Scrap number
 act_is a b h = cc
 
 -- ---- values that are the same are equal
@@ -134,21 +135,21 @@ person_equal p q h =
     }
 
 act_equal : (a b : Act) → same_act a b ≡ true → a ≡ b
-act_equal (AddCustomer p) (AddCustomer q) h = ap AddCustomer (person_equal p q h)
-act_equal (SetActive c x) (SetActive d y) h = let k = both (c == d) (same_flag x y) h in λ i. SetActive (number_equal c d k.0 i) (flag_equal x y k.1 i)
-act_equal (Rent c x) (Rent d y) h = let k = both (c == d) (x == y) h in λ i. Rent (number_equal c d k.0 i) (number_equal x y k.1 i)
-act_equal (TakeBack r) (TakeBack s) h = ap TakeBack (number_equal r s h)
-act_equal (Pay c r m) (Pay d s n) h =
+act_equal (model.AddCustomer p) (model.AddCustomer q) h = ap model.AddCustomer (person_equal p q h)
+act_equal (model.SetActive c x) (model.SetActive d y) h = let k = both (c == d) (same_flag x y) h in λ i. model.SetActive (number_equal c d k.0 i) (flag_equal x y k.1 i)
+act_equal (model.Rent c x) (model.Rent d y) h = let k = both (c == d) (x == y) h in λ i. model.Rent (number_equal c d k.0 i) (number_equal x y k.1 i)
+act_equal (model.TakeBack r) (model.TakeBack s) h = ap model.TakeBack (number_equal r s h)
+act_equal (model.Pay c r m) (model.Pay d s n) h =
     let k = both (c == d && same_option r s) (m == n) h in
     let l = both (c == d) (same_option r s) k.0 in
-    λ i. Pay (number_equal c d l.0 i) (option_equal r s l.1 i) (number_equal m n k.1 i)
-act_equal (Import lot file) (Import lot' file') h = let k = both (bytes_eq lot lot') (bytes_eq file file') h in λ i. Import (text_equal lot lot' k.0 i) (text_equal file file' k.1 i)
-act_equal (Dispatch a xs) (Dispatch b ys) h = let k = both (a == b) (same_numbers xs ys) h in λ i. Dispatch (number_equal a b k.0 i) (text_equal xs ys k.1 i)
-act_equal (Receive s n xs) (Receive t m ys) h =
+    λ i. model.Pay (number_equal c d l.0 i) (option_equal r s l.1 i) (number_equal m n k.1 i)
+act_equal (model.Import lot file) (model.Import lot' file') h = let k = both (bytes_eq lot lot') (bytes_eq file file') h in λ i. model.Import (text_equal lot lot' k.0 i) (text_equal file file' k.1 i)
+act_equal (model.Dispatch a xs) (model.Dispatch b ys) h = let k = both (a == b) (same_numbers xs ys) h in λ i. model.Dispatch (number_equal a b k.0 i) (text_equal xs ys k.1 i)
+act_equal (model.Receive s n xs) (model.Receive t m ys) h =
     let k = both (s == t && n == m) (same_numbers xs ys) h in
     let l = both (s == t) (n == m) k.0 in
-    λ i. Receive (number_equal s t l.0 i) (number_equal n m l.1 i) (text_equal xs ys k.1 i)
-act_equal (Scrap x) (Scrap y) h = ap Scrap (number_equal x y h)
+    λ i. model.Receive (number_equal s t l.0 i) (number_equal n m l.1 i) (text_equal xs ys k.1 i)
+act_equal (model.Scrap x) (model.Scrap y) h = ap model.Scrap (number_equal x y h)
 act_equal a b h = cc
 
 command_equal : (a b : Command) → same_command a b ≡ true → a ≡ b

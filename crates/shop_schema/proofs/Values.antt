@@ -10,7 +10,8 @@ use Rattle.std.proofs.lemmas.Str.Ascii.{IsAscii-nil, IsAscii-cons}
 use Rattle.shop_model.specs.Calendar.{IsMoment}
 use Rattle.shop_model.specs.Json.{escape_byte, flag_text, object}
 use Rattle.shop_model.specs.Rows.{Row, of, is_row, next, put, put_all, set_row}
-use Rattle.shop_model.specs.Values.{Text, Customer, Rental, Scrapped, Act, AddCustomer, SetActive, Rent, TakeBack, Pay, Import, Dispatch, Receive, Scrap, Command, Rules}
+use Rattle.shop_model.specs.Values.{Text, Customer, Rental, Scrapped, Act, Command, Rules}
+use Rattle.shop_model.specs.Values as model
 use Rattle.shop_model.specs.Machine.{films_in, told, reply_text, if_accepted, Do}
 use Rattle.shop_model.specs.Shop.{Shop, Catalogue}
 use Rattle.shop_model.specs.Links.{IsGoodCatalogue}
@@ -162,29 +163,29 @@ small n is = grind (arith, nat_tests)
 
 reply_utf8 : (rules : Rules) (act : Act) (shop : Shop) → length shop.customers ≤ 1_000_000 → length shop.rentals ≤ 1_000_000 → length shop.payments ≤ 1_000_000 → length shop.copies ≤ 1_000_000 → IsAct act → FitsTables rules act → IsBuilt act
     → IsUtf8 (object (told rules act shop))
-reply_utf8 rules (AddCustomer person) shop customers rentals payments copies is fits built = customer_reply (length shop.customers + 1) (omega arith)
-reply_utf8 rules (Import lot file) shop customers rentals payments copies is fits built = import_reply (length (films_in (rules.stock_of file))) (length shop.copies + 1) (omega (arith, fits.1)) (omega arith)
-reply_utf8 rules (SetActive c active) shop customers rentals payments copies is fits built = active_reply active c (small c is)
-reply_utf8 rules (Rent c x) shop customers rentals payments copies is fits built = rental_reply (length shop.rentals + 1) (omega arith)
-reply_utf8 rules (TakeBack r) shop customers rentals payments copies is fits built = returned_reply r (small r is)
-reply_utf8 rules (Pay c rental amount) shop customers rentals payments copies is fits built = payment_reply (length shop.payments + 1) (omega arith)
-reply_utf8 rules (Dispatch to xs) shop customers rentals payments copies is fits built = absurd built
-reply_utf8 rules (Receive source number missing) shop customers rentals payments copies is fits built = absurd built
-reply_utf8 rules (Scrap x) shop customers rentals payments copies is fits built = scrapped_reply x (small x is)
+reply_utf8 rules (model.AddCustomer person) shop customers rentals payments copies is fits built = customer_reply (length shop.customers + 1) (omega arith)
+reply_utf8 rules (model.Import lot file) shop customers rentals payments copies is fits built = import_reply (length (films_in (rules.stock_of file))) (length shop.copies + 1) (omega (arith, fits.1)) (omega arith)
+reply_utf8 rules (model.SetActive c active) shop customers rentals payments copies is fits built = active_reply active c (small c is)
+reply_utf8 rules (model.Rent c x) shop customers rentals payments copies is fits built = rental_reply (length shop.rentals + 1) (omega arith)
+reply_utf8 rules (model.TakeBack r) shop customers rentals payments copies is fits built = returned_reply r (small r is)
+reply_utf8 rules (model.Pay c rental amount) shop customers rentals payments copies is fits built = payment_reply (length shop.payments + 1) (omega arith)
+reply_utf8 rules (model.Dispatch to xs) shop customers rentals payments copies is fits built = absurd built
+reply_utf8 rules (model.Receive source number missing) shop customers rentals payments copies is fits built = absurd built
+reply_utf8 rules (model.Scrap x) shop customers rentals payments copies is fits built = scrapped_reply x (small x is)
 
 -- ---- what a step is given
 
 -- rules by which every stock file fits are rules by which every act does
 pub acts_fit : (rules : Rules) → ((file : Text) → FilmsFit (rules.stock_of file)) → (act : Act) → FitsTables rules act
-acts_fit rules files (AddCustomer person) = tt
-acts_fit rules files (SetActive c active) = tt
-acts_fit rules files (Rent c x) = tt
-acts_fit rules files (TakeBack r) = tt
-acts_fit rules files (Pay c rental amount) = tt
-acts_fit rules files (Import lot file) = files file
-acts_fit rules files (Dispatch to xs) = tt
-acts_fit rules files (Receive source number missing) = tt
-acts_fit rules files (Scrap x) = tt
+acts_fit rules files (model.AddCustomer person) = tt
+acts_fit rules files (model.SetActive c active) = tt
+acts_fit rules files (model.Rent c x) = tt
+acts_fit rules files (model.TakeBack r) = tt
+acts_fit rules files (model.Pay c rental amount) = tt
+acts_fit rules files (model.Import lot file) = files file
+acts_fit rules files (model.Dispatch to xs) = tt
+acts_fit rules files (model.Receive source number missing) = tt
+acts_fit rules files (model.Scrap x) = tt
 
 -- the program's acts are those that it takes
 pub acts_built : (it : types.Act) → IsBuilt (seen_act it)
@@ -200,7 +201,7 @@ acts_built (act.Scrap copy) = tt
 
 acted_values : (rules : Rules) (b : ℕ) (command : Command) (act : Act) (books : Books) → IsNumber b → IsNumber command.staff → IsMoment command.moment → IsAct act → IsHeld books → FitsTables rules act → IsBuilt act
     → AreValues (book_acted rules b command act books)
-acted_values rules b command (AddCustomer person) books branch staff moment is held fits built =
+acted_values rules b command (model.AddCustomer person) books branch staff moment is held fits built =
     let v = held.values in
     let few = held.most_customers b in
     record {
@@ -214,7 +215,7 @@ acted_values rules b command (AddCustomer person) books branch staff moment is h
       kept = v.kept;
       lasts = v.lasts;
     }
-acted_values rules b command (Import lot file) books branch staff moment is held fits built =
+acted_values rules b command (model.Import lot file) books branch staff moment is held fits built =
     let v = held.values in
     let few : length (of b books.copies) ≤ 1_000_000 = subst (λ n. n ≤ 1_000_000) (length_map unmarked (of b books.copies)) (held.most_copies b) in
     record {
@@ -228,7 +229,7 @@ acted_values rules b command (Import lot file) books branch staff moment is held
       kept = v.kept;
       lasts = v.lasts;
     }
-acted_values rules b command (SetActive c active) books branch staff moment is held fits built =
+acted_values rules b command (model.SetActive c active) books branch staff moment is held fits built =
     let v = held.values in
     record {
       catalogue = v.catalogue;
@@ -241,7 +242,7 @@ acted_values rules b command (SetActive c active) books branch staff moment is h
       kept = v.kept;
       lasts = v.lasts;
     }
-acted_values rules b command (Rent c x) books branch staff moment is held fits built =
+acted_values rules b command (model.Rent c x) books branch staff moment is held fits built =
     let v = held.values in
     let few = held.most_rentals b in
     record {
@@ -256,7 +257,7 @@ acted_values rules b command (Rent c x) books branch staff moment is held fits b
       kept = v.kept;
       lasts = v.lasts;
     }
-acted_values rules b command (TakeBack r) books branch staff moment is held fits built =
+acted_values rules b command (model.TakeBack r) books branch staff moment is held fits built =
     let v = held.values in
     record {
       catalogue = v.catalogue;
@@ -269,7 +270,7 @@ acted_values rules b command (TakeBack r) books branch staff moment is held fits
       kept = v.kept;
       lasts = v.lasts;
     }
-acted_values rules b command (Pay c rental amount) books branch staff moment is held fits built =
+acted_values rules b command (model.Pay c rental amount) books branch staff moment is held fits built =
     let v = held.values in
     let few = held.most_payments b in
     record {
@@ -284,9 +285,9 @@ acted_values rules b command (Pay c rental amount) books branch staff moment is 
       kept = v.kept;
       lasts = v.lasts;
     }
-acted_values rules b command (Dispatch to xs) books branch staff moment is held fits built = absurd built
-acted_values rules b command (Receive source number missing) books branch staff moment is held fits built = absurd built
-acted_values rules b command (Scrap x) books branch staff moment is held fits built =
+acted_values rules b command (model.Dispatch to xs) books branch staff moment is held fits built = absurd built
+acted_values rules b command (model.Receive source number missing) books branch staff moment is held fits built = absurd built
+acted_values rules b command (model.Scrap x) books branch staff moment is held fits built =
     let v = held.values in
     record {
       catalogue = v.catalogue;

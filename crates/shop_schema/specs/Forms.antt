@@ -2,7 +2,8 @@
 use Rattle.std.specs.Prelude.{◌≡◌, ◌↔◌, IsTrue, ℕ, ◌/◌, ◌%◌, Bool, if◌then◌else◌, List, [], ◌∷◌, ◌++◌, length, flat_map, Option}
 use Rattle.std.specs.Option.{option_to_list}
 use Rattle.shop_model.specs.Calendar.{IsMoment, moment_text}
-use Rattle.shop_model.specs.Values.{Text, Person, Film, Branch, Act, AddCustomer, SetActive, Rent, TakeBack, Pay, Import, Dispatch, Receive, Scrap, Command, OfficeAct, AddCountry, AddCity, AddLanguage, AddCategory, AddActor, AddFilm, PriceFilm, WithdrawFilm, AddCast, AddBranch, AddStaff, StaffLeaves, SetManager, OfficeCommand}
+use Rattle.shop_model.specs.Values.{Text, Person, Film, Branch, Act, Command, OfficeAct, AddCountry, AddCity, AddLanguage, AddCategory, AddActor, AddFilm, PriceFilm, WithdrawFilm, AddCast, AddBranch, AddStaff, StaffLeaves, SetManager, OfficeCommand}
+use Rattle.shop_model.specs.Values as model
 use Rattle.shop_model.specs.Shop.{same_command, same_office}
 
 -- four bytes, the least first; the last is one for numbers below 2 ^ 32
@@ -31,15 +32,15 @@ abbrev pub person_form : Person → List ℕ
 person_form p = joined (text_form p.first ∷ text_form p.last ∷ text_form p.address ∷ text_form p.postal ∷ text_form p.phone ∷ number_form p.city ∷ [])
 
 abbrev pub act_form : Act → List ℕ
-act_form (AddCustomer person) = 1 ∷ person_form person
-act_form (SetActive customer active) = 2 ∷ joined (number_form customer ∷ flag_form active ∷ [])
-act_form (Rent customer copy) = 3 ∷ joined (number_form customer ∷ number_form copy ∷ [])
-act_form (TakeBack rental) = 4 ∷ number_form rental
-act_form (Pay customer rental amount) = 5 ∷ joined (number_form customer ∷ option_form rental ∷ number_form amount ∷ [])
-act_form (Import lot file) = 6 ∷ joined (text_form lot ∷ text_form file ∷ [])
-act_form (Dispatch addressee copies) = 7 ∷ joined (number_form addressee ∷ numbers_form copies ∷ [])
-act_form (Receive source number missing) = 8 ∷ joined (number_form source ∷ number_form number ∷ numbers_form missing ∷ [])
-act_form (Scrap copy) = 9 ∷ number_form copy
+act_form (model.AddCustomer person) = 1 ∷ person_form person
+act_form (model.SetActive customer active) = 2 ∷ joined (number_form customer ∷ flag_form active ∷ [])
+act_form (model.Rent customer copy) = 3 ∷ joined (number_form customer ∷ number_form copy ∷ [])
+act_form (model.TakeBack rental) = 4 ∷ number_form rental
+act_form (model.Pay customer rental amount) = 5 ∷ joined (number_form customer ∷ option_form rental ∷ number_form amount ∷ [])
+act_form (model.Import lot file) = 6 ∷ joined (text_form lot ∷ text_form file ∷ [])
+act_form (model.Dispatch addressee copies) = 7 ∷ joined (number_form addressee ∷ numbers_form copies ∷ [])
+act_form (model.Receive source number missing) = 8 ∷ joined (number_form source ∷ number_form number ∷ numbers_form missing ∷ [])
+act_form (model.Scrap copy) = 9 ∷ number_form copy
 
 -- a moment is its text of 19 bytes
 abbrev pub command_form : Command → List ℕ

@@ -6,7 +6,8 @@ use Rattle.shop_values.specs.Numbers.{is_row_number}
 use Rattle.shop_values.specs.Texts.{is_text, is_key, is_token}
 use Rattle.shop_model.specs.Calendar.{Moment, IsMoment}
 use Rattle.shop_model.specs.Rows.{Row, Owned}
-use Rattle.shop_model.specs.Values.{Text, Person, City, Actor, Film, Cast, Branch, Staff, Customer, Rental, Payment, Act, AddCustomer, SetActive, Rent, TakeBack, Pay, Import, Dispatch, Receive, Scrap, Command, OfficeAct, AddCountry, AddCity, AddLanguage, AddCategory, AddActor, AddFilm, PriceFilm, WithdrawFilm, AddCast, AddBranch, AddStaff, StaffLeaves, SetManager}
+use Rattle.shop_model.specs.Values.{Text, Person, City, Actor, Film, Cast, Branch, Staff, Customer, Rental, Payment, Act, Command, OfficeAct, AddCountry, AddCity, AddLanguage, AddCategory, AddActor, AddFilm, PriceFilm, WithdrawFilm, AddCast, AddBranch, AddStaff, StaffLeaves, SetManager}
+use Rattle.shop_model.specs.Values as model
 use Rattle.shop_model.specs.Shop.{Kept, OfficeKept, Catalogue}
 use Rattle.shop_model.specs.Books.{Books, Mark, BookCopy, Line, Consignment}
 
@@ -131,15 +132,15 @@ abbrev pub AreBytes : List ℕ → Type 0
 AreBytes bytes = AllByRecursion (λ b. b < 256) bytes
 
 abbrev pub IsAct : Act → Type 0
-IsAct (AddCustomer person) = IsPerson person
-IsAct (SetActive customer active) = IsNumber customer
-IsAct (Rent customer copy) = IsNumber customer × IsNumber copy
-IsAct (TakeBack rental) = IsNumber rental
-IsAct (Pay customer rental amount) = IsNumber customer × IfSome rental IsNumber × (amount ≤ 99_999)
-IsAct (Import lot file) = IsKey lot × AreBytes file
-IsAct (Dispatch addressee copies) = IsNumber addressee × AreNumbers copies
-IsAct (Receive source number missing) = IsNumber source × IsNumber number × AreNumbers missing
-IsAct (Scrap copy) = IsNumber copy
+IsAct (model.AddCustomer person) = IsPerson person
+IsAct (model.SetActive customer active) = IsNumber customer
+IsAct (model.Rent customer copy) = IsNumber customer × IsNumber copy
+IsAct (model.TakeBack rental) = IsNumber rental
+IsAct (model.Pay customer rental amount) = IsNumber customer × IfSome rental IsNumber × (amount ≤ 99_999)
+IsAct (model.Import lot file) = IsKey lot × AreBytes file
+IsAct (model.Dispatch addressee copies) = IsNumber addressee × AreNumbers copies
+IsAct (model.Receive source number missing) = IsNumber source × IsNumber number × AreNumbers missing
+IsAct (model.Scrap copy) = IsNumber copy
 
 pub record IsCommand (it : Command) : Type 0 where
   pub key : IsKey it.key

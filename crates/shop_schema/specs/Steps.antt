@@ -1,7 +1,8 @@
 -- What is asked of a command's act, so that its step leaves rows that the program can hold.
 use Rattle.std.specs.Prelude.{⊤, ◌≤◌, length}
 use Rattle.std.specs.List.{AllByRecursion}
-use Rattle.shop_model.specs.Values.{Stock, Act, AddCustomer, SetActive, Rent, TakeBack, Pay, Import, Dispatch, Receive, Scrap, Rules}
+use Rattle.shop_model.specs.Values.{Stock, Act, Rules}
+use Rattle.shop_model.specs.Values as model
 use Rattle.shop_model.specs.Machine.{films_in}
 use Rattle.shop_schema.specs.RowValues.{IsNumber}
 
@@ -11,24 +12,24 @@ FilmsFit stock = AllByRecursion IsNumber (films_in stock) × (length (films_in s
 
 -- what the rules read in a stock file fits the table of copies
 abbrev pub FitsTables : Rules → Act → Type 0
-FitsTables rules (AddCustomer person) = ⊤
-FitsTables rules (SetActive customer active) = ⊤
-FitsTables rules (Rent customer copy) = ⊤
-FitsTables rules (TakeBack rental) = ⊤
-FitsTables rules (Pay customer rental amount) = ⊤
-FitsTables rules (Import lot file) = FilmsFit (rules.stock_of file)
-FitsTables rules (Dispatch addressee copies) = ⊤
-FitsTables rules (Receive source number missing) = ⊤
-FitsTables rules (Scrap copy) = ⊤
+FitsTables rules (model.AddCustomer person) = ⊤
+FitsTables rules (model.SetActive customer active) = ⊤
+FitsTables rules (model.Rent customer copy) = ⊤
+FitsTables rules (model.TakeBack rental) = ⊤
+FitsTables rules (model.Pay customer rental amount) = ⊤
+FitsTables rules (model.Import lot file) = FilmsFit (rules.stock_of file)
+FitsTables rules (model.Dispatch addressee copies) = ⊤
+FitsTables rules (model.Receive source number missing) = ⊤
+FitsTables rules (model.Scrap copy) = ⊤
 
 -- the acts that the program takes so far
 abbrev pub IsBuilt : Act → Type 0
-IsBuilt (AddCustomer person) = ⊤
-IsBuilt (SetActive customer active) = ⊤
-IsBuilt (Rent customer copy) = ⊤
-IsBuilt (TakeBack rental) = ⊤
-IsBuilt (Pay customer rental amount) = ⊤
-IsBuilt (Import lot file) = ⊤
-IsBuilt (Dispatch addressee copies) = ⊥
-IsBuilt (Receive source number missing) = ⊥
-IsBuilt (Scrap copy) = ⊤
+IsBuilt (model.AddCustomer person) = ⊤
+IsBuilt (model.SetActive customer active) = ⊤
+IsBuilt (model.Rent customer copy) = ⊤
+IsBuilt (model.TakeBack rental) = ⊤
+IsBuilt (model.Pay customer rental amount) = ⊤
+IsBuilt (model.Import lot file) = ⊤
+IsBuilt (model.Dispatch addressee copies) = ⊥
+IsBuilt (model.Receive source number missing) = ⊥
+IsBuilt (model.Scrap copy) = ⊤

@@ -4,7 +4,8 @@ use Rattle.sqlite.specs.State.{HasCleanDisk}
 use Rattle.sql_rows.proofs.Stays.{within_of, within_as, within_err, within_then}
 use Rattle.shop_model.specs.Calendar.{Moment}
 use Rattle.shop_model.specs.Rows.{lacks}
-use Rattle.shop_model.specs.Values.{Act, AddCustomer, SetActive, Rent, TakeBack, Pay, Import, Dispatch, Receive, Scrap}
+use Rattle.shop_model.specs.Values.{Act}
+use Rattle.shop_model.specs.Values as model
 use Rattle.shop_model.specs.Shop.{Shop}
 use Rattle.shop_model.specs.Books.{shop_of}
 use Rattle.shop_types.specs.Seen.{seen_act}
@@ -15,15 +16,15 @@ use Rattle.branch_work.proofs.finding.find.Goals as goal
 
 -- of the acts only a rental names both a customer and a copy
 same_named : (moment : Moment) (act : Act) (shop : Shop) → has_same moment (customer_in act) (copy_in act) shop ≡ has_same_rental moment act shop
-same_named moment (AddCustomer person) shop = refl
-same_named moment (SetActive c active) shop = refl
-same_named moment (Rent c x) shop = refl
-same_named moment (TakeBack r) shop = refl
-same_named moment (Pay c rental amount) shop = refl
-same_named moment (Import lot file) shop = refl
-same_named moment (Dispatch to xs) shop = refl
-same_named moment (Receive source number missing) shop = refl
-same_named moment (Scrap x) shop = refl
+same_named moment (model.AddCustomer person) shop = refl
+same_named moment (model.SetActive c active) shop = refl
+same_named moment (model.Rent c x) shop = refl
+same_named moment (model.TakeBack r) shop = refl
+same_named moment (model.Pay c rental amount) shop = refl
+same_named moment (model.Import lot file) shop = refl
+same_named moment (model.Dispatch to xs) shop = refl
+same_named moment (model.Receive source number missing) shop = refl
+same_named moment (model.Scrap x) shop = refl
 
 pub returns-clause-found : goal.returns-clause-found
 returns-clause-found g c = λ clean.
