@@ -1,18 +1,15 @@
 //! Plays files of rows, each request and the bytes of its reply; and serves requests over a chain in a file.
 #![tactic(auto)]
 
-mod exchange;
-mod fault;
-mod names;
+mod calls;
+mod failing;
 mod program;
-mod quoted;
 mod row;
 mod serving;
 mod shops;
+mod sockets;
 mod tables;
 mod talk;
-mod texts;
-mod words;
 
 use crate::serving::serve_input;
 use crate::talk::Talk;

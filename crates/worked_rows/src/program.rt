@@ -1,7 +1,7 @@
 //! The whole program, run with some words on a standard input of its own.
 ghost use Rattle.std.specs.Prelude.{◌≡◌, ◌≢◌, Some, true, false, [], OnOk};
 
-use crate::fault::{Fault, shown};
+use row_texts::{Fault, shown};
 use sakila_office::run;
 use std::alloc::Global;
 

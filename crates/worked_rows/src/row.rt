@@ -1,12 +1,8 @@
 //! One row as it is played, line by line.
-use crate::exchange::Exchange;
-use crate::fault::Fault;
-use crate::names::Names;
+use crate::calls::call;
 use crate::program::Run;
-use crate::quoted::unquoted;
 use crate::shops::{How, Shop, WHOLE, new_shop};
-use crate::texts::request;
-use crate::words::words_of;
+use row_texts::{Exchange, Fault, Names, request, unquoted, words_of};
 use std::alloc::Global;
 
 /// What was asked last, and what is wanted of it.
@@ -142,6 +138,14 @@ impl<'t> Row<'t> {
         Ok(())
     }
 
+    /// Calls that no request makes are an exchange.
+    fn calls(&mut self, name: &str) -> Result<(), Fault> {
+        self.settle()?;
+        call(self.rt, name)?;
+        self.counts();
+        Ok(())
+    }
+
     fn begins(&mut self, words: &str) -> Result<(), Fault> {
         self.settle()?;
         self.shop = Some(new_shop(self.alloc, words)?);
@@ -231,6 +235,7 @@ impl<'t> Row<'t> {
             "chain" => self.begins(rest),
             "reopen" => self.reopens(rest),
             "sql" => self.changes(rest),
+            "call" => self.calls(rest),
             "raw" => {
                 let input = unquoted(self.alloc, rest)?;
                 self.asks(input.as_slice())

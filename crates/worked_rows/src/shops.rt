@@ -1,9 +1,9 @@
 //! The chain that a row talks to, in memory or in files on disks in memory.
-use crate::fault::Fault;
 use crate::tables::{change, new_tables};
 use chain_engine::{Chain, OpenFault};
 use counter_http::{End, ServeFault, Served, serve};
 use office_words::ClapWords;
+use row_texts::{Fault, Told};
 use shop_types::Limits;
 use sqlite::{Alter, Connection, FileStore, Files, MemStore, Options};
 use sqlite_disk::Memory;
@@ -33,14 +33,6 @@ pub const WHOLE: How = How {
     most: 1000,
     room: usize::MAX,
 };
-
-/// What came of a connection.
-#[derive(Drop)]
-pub struct Told {
-    pub bytes: Vec<u8>,
-    pub replies: u32,
-    pub end: &'static str,
-}
 
 /// Gives its bytes a few at a time.
 #[derive(Drop)]
@@ -150,7 +142,7 @@ fn refused(alloc: Global, files: Files<Memory>, name: &str) -> Result<Shop, Faul
     }
 }
 
-fn new_files(alloc: Global) -> Files<Memory> {
+pub fn new_files(alloc: Global) -> Files<Memory> {
     Files {
         log: Memory::new(alloc),
         db: Memory::new(alloc),
@@ -158,7 +150,7 @@ fn new_files(alloc: Global) -> Files<Memory> {
 }
 
 /// The files, with what a statement or the opening rows make of them where there is none.
-fn changed(
+pub fn changed(
     alloc: Global,
     files: Files<Memory>,
     text: Option<&str>,

@@ -2,9 +2,16 @@
 ghost use Rattle.std.specs.Prelude.{◌≡◌, OnOk};
 
 use crate::fault::{Fault, shown};
-use crate::shops::Told;
 use crate::texts::put_reply;
 use std::alloc::Global;
+
+/// What came of a connection.
+#[derive(Drop)]
+pub struct Told {
+    pub bytes: Vec<u8>,
+    pub replies: u32,
+    pub end: &'static str,
+}
 
 /// A connection whose replies are being compared.
 #[derive(Drop)]

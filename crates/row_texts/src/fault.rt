@@ -1,9 +1,9 @@
 //! What is wrong with a line.
 use std::alloc::{AllocError, AllocFailed, Global};
-use std::fmt;
+use std::{fmt, io};
 
 /// Why a row stops at a line.
-#[derive(Debug, Drop)]
+#[derive(Drop)]
 pub enum Fault {
     Memory,
     /// The line can't be played.
@@ -29,6 +29,12 @@ impl From<AllocError> for Fault {
 impl<T: Drop> From<AllocFailed<T>> for Fault {
     fn from(_: AllocFailed<T>) -> Fault {
         Fault::Memory
+    }
+}
+
+impl From<io::Error> for Fault {
+    fn from(_: io::Error) -> Fault {
+        Fault::Line("the input or the output failed")
     }
 }
 

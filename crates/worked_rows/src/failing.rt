@@ -1,13 +1,12 @@
 //! A chain over a log that fails at some call and at each one after it, and its files opened again.
-use crate::replays::new_customer;
-use catalogue_store::put_opening;
+use crate::calls::{branch_token, new_customer, replies};
+use crate::shops::{changed, new_files};
 use chain_engine::Chain;
-use shop_schema::create_tables;
+use row_texts::Fault;
 use shop_types::{Ask, CustomerNo, Limits, Reply, Request, Token};
-use sqlite::{Alter, Connection, FileStore, Files, Options};
+use sqlite::{FileStore, Files};
 use sqlite_disk::{Disk, Fuse, Memory};
 use std::alloc::Global;
-use std::test::Fail;
 
 /// More calls of the log than an opening and a command take.
 const MOST_CALLS: u64 = 1000;
@@ -18,37 +17,11 @@ const STORE_FAILED: &[u8] = b"{\"refused\":\"store_failed\"}";
 
 const NO_CUSTOMER: &[u8] = b"{\"refused\":\"no_customer\"}";
 
-/// Commits the opening rows to a new database.
-fn put_rows<S: Alter>(conn: &mut Connection<S>) -> Result<(), &'static str> {
-    if !conn.is_autocommit() {
-        return Err("a transaction is open");
-    }
-    let mut tx = conn.transaction();
-    if create_tables(&mut tx).is_err() || put_opening(&mut tx).is_err() {
-        return Err("the opening rows");
-    }
-    match tx.commit() {
-        Ok(()) => Ok(()),
-        Err(_) => Err("the opening rows aren't committed"),
-    }
-}
-
-/// The files of a chain with the opening rows.
-fn opening(alloc: Global) -> Result<Files<Memory>, Fail> {
-    let files = Files {
-        log: Memory::new(alloc),
-        db: Memory::new(alloc),
-    };
-    let Ok(mut conn) = Connection::open_files(alloc, files, Options::new(1)) else {
-        return Err("a new database")?;
-    };
-    put_rows(&mut conn)?;
-    Ok(conn.into_store().close())
-}
-
-fn copied(alloc: Global, disk: &Memory) -> Result<Memory, Fail> {
+fn copied(alloc: Global, disk: &Memory) -> Result<Memory, Fault> {
     let mut copy = Memory::new(alloc);
-    copy.write_at(0, disk.bytes())?;
+    if copy.write_at(0, disk.bytes()).is_err() {
+        return Err(Fault::Memory);
+    }
     Ok(copy)
 }
 
@@ -57,30 +30,30 @@ fn fused(
     alloc: Global,
     files: &Files<Memory>,
     calls: u64,
-) -> Result<Chain<FileStore<Fuse<Memory>>>, Fail> {
+) -> Result<Chain<FileStore<Fuse<Memory>>>, Fault> {
     let files = Files {
         log: Fuse::new(copied(alloc, &files.log)?, calls),
         db: Fuse::new(copied(alloc, &files.db)?, u64::MAX),
     };
     let Ok(chain) = Chain::open_files(alloc, files, Limits::default()) else {
-        return Err("the chain isn't opened")?;
+        return Err(Fault::Line("the chain isn't opened"));
     };
     Ok(chain)
 }
 
 /// How many of the first replies accept, where all others have this status and body.
-fn accepted(replies: &[Reply], status: u16, body: &[u8]) -> Result<usize, Fail> {
+fn accepted(replies: &[Reply], status: u16, body: &[u8]) -> Result<usize, Fault> {
     let count = replies.iter().take_while(|it| it.status == 200).count();
     for told in replies.iter().skip(count) {
         if told.status != status || told.body_bytes() != body {
-            return Err("another reply")?;
+            return Err(Fault::Line("another reply"));
         }
     }
     Ok(count)
 }
 
-fn commands(alloc: Global) -> Result<Vec<(Token, Request)>, Fail> {
-    let token = Token::read(b"11111111111111111111111111111111").ok_or("token")?;
+fn commands(alloc: Global) -> Result<Vec<(Token, Request)>, Fault> {
+    let token = branch_token()?;
     let mut requests = Vec::new(alloc);
     for key in KEYS {
         requests.push((token, Request::Do(new_customer(alloc, key)?)))?;
@@ -89,30 +62,30 @@ fn commands(alloc: Global) -> Result<Vec<(Token, Request)>, Fail> {
 }
 
 /// How many customers the chain in copies of the files has.
-fn customers(alloc: Global, log: &Memory, db: &Memory) -> Result<usize, Fail> {
-    let token = Token::read(b"11111111111111111111111111111111").ok_or("token")?;
+fn customers(alloc: Global, log: &Memory, db: &Memory) -> Result<usize, Fault> {
+    let token = branch_token()?;
     let files = Files {
         log: copied(alloc, log)?,
         db: copied(alloc, db)?,
     };
     let Ok(mut chain) = Chain::open_files(alloc, files, Limits::default()) else {
-        return Err("the chain isn't opened again")?;
+        return Err(Fault::Line("the chain isn't opened again"));
     };
     let mut looks = Vec::new(alloc);
     for number in [1, 2] {
-        let number = CustomerNo::new(number).ok_or("the customer")?;
+        let number = CustomerNo::new(number).ok_or(Fault::Line("the customer"))?;
         looks.push((token, Request::Look(Ask::Customer(number))))?;
     }
-    accepted(&chain.replay(&looks)?, 409, NO_CUSTOMER)
+    accepted(replies(&mut chain, &looks)?.as_slice(), 409, NO_CUSTOMER)
 }
 
 /// How many calls of the log it takes to open the chain and to do the first command. What is left of many calls is told by using them up.
-fn calls_of_first(alloc: Global, files: &Files<Memory>) -> Result<u64, Fail> {
+fn calls_of_first(alloc: Global, files: &Files<Memory>) -> Result<u64, Fault> {
     let mut chain = fused(alloc, files, MOST_CALLS)?;
     let commands = commands(alloc)?;
-    let first = commands.get(..1).ok_or("the first command")?;
-    if accepted(&chain.replay(first)?, 503, STORE_FAILED)? != 1 {
-        return Err("too few calls")?;
+    let first = commands.get(..1).ok_or(Fault::Line("the first command"))?;
+    if accepted(replies(&mut chain, first)?.as_slice(), 503, STORE_FAILED)? != 1 {
+        return Err(Fault::Line("too few calls"));
     }
     let mut log = chain.close().log;
     for left in 0..MOST_CALLS {
@@ -120,13 +93,17 @@ fn calls_of_first(alloc: Global, files: &Files<Memory>) -> Result<u64, Fail> {
             return Ok(MOST_CALLS.saturating_sub(left));
         }
     }
-    Err("no call was made")?
+    Err(Fault::Line("no call was made"))
 }
 
 /// How many commands are accepted before the log fails, and how many customers there are when the files are opened again.
-fn stopped_at(alloc: Global, files: &Files<Memory>, calls: u64) -> Result<(usize, usize), Fail> {
+fn stopped_at(alloc: Global, files: &Files<Memory>, calls: u64) -> Result<(usize, usize), Fault> {
     let mut chain = fused(alloc, files, calls)?;
-    let done = accepted(&chain.replay(&commands(alloc)?)?, 503, STORE_FAILED)?;
+    let done = accepted(
+        replies(&mut chain, &commands(alloc)?)?.as_slice(),
+        503,
+        STORE_FAILED,
+    )?;
     let left = chain.close();
     let found = customers(alloc, left.log.inner(), left.db.inner())?;
     Ok((done, found))
@@ -134,16 +111,13 @@ fn stopped_at(alloc: Global, files: &Files<Memory>, calls: u64) -> Result<(usize
 
 /// The last call of a command's commit is the sync, and the one before it writes its end. Where that write fails the books are those before the command, and
 /// where the sync fails those after it; one call later the command is accepted, and the next one fails.
-#[test]
-fn a_failing_log_leaves_the_books_before_or_after(rt: HostRuntime) -> Result<(), Fail> {
-    let alloc = rt.alloc();
-    let files = opening(alloc)?;
+pub fn failing_log(alloc: Global) -> Result<(), Fault> {
+    let files = changed(alloc, new_files(alloc), None)?;
     let calls = calls_of_first(alloc, &files)?;
     for (fewer, found) in [(2, (0, 0)), (1, (0, 1)), (0, (1, 1))] {
-        assert_eq!(rt;
-            stopped_at(alloc, &files, calls.saturating_sub(fewer))?,
-            found
-        );
+        if stopped_at(alloc, &files, calls.saturating_sub(fewer))? != found {
+            return Err(Fault::Line("the log's failure leaves other books"));
+        }
     }
     Ok(())
 }

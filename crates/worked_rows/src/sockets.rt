@@ -1,12 +1,12 @@
 //! Connections over loopback.
 use chain_engine::Chain;
 use office_words::ClapWords;
+use row_texts::Fault;
 use sakila_office::{serve_listener, serve_patiently};
 use shop_types::Limits;
 use std::alloc::Global;
 use std::io::{Read, Write};
 use std::net::{Shutdown, TcpListener, TcpStream};
-use std::test::Fail;
 use std::time::Duration;
 
 const ASKED: &[u8] =
@@ -29,7 +29,7 @@ fn asking(
     first: &[u8],
     rest: &[u8],
     times: u32,
-) -> Result<TcpStream, Fail> {
+) -> Result<TcpStream, Fault> {
     let stream = TcpStream::connect(rt, listener.local_addr()?)?;
     let mut writer = &stream;
     writer.write_all(first)?;
@@ -41,7 +41,7 @@ fn asking(
 }
 
 /// Whether the peer is told the reply, and no more.
-fn is_told(alloc: Global, stream: &TcpStream, reply: &[u8]) -> Result<bool, Fail> {
+fn is_told(alloc: Global, stream: &TcpStream, reply: &[u8]) -> Result<bool, Fault> {
     let mut bytes = Vec::new(alloc);
     let mut reader = stream;
     reader.read_to_end(&mut bytes)?;
@@ -49,24 +49,25 @@ fn is_told(alloc: Global, stream: &TcpStream, reply: &[u8]) -> Result<bool, Fail
 }
 
 /// A peer is answered; then one that is silent is left, and the next is answered; and one that sends more than is read has its reply too.
-#[test]
-fn peers_are_answered_and_left(rt: HostRuntime) -> Result<(), Fail> {
+pub fn peers(rt: &HostRuntime) -> Result<(), Fault> {
     let alloc = rt.alloc();
-    let listener = TcpListener::bind(&rt, "127.0.0.1:0")?;
-    let mut chain = Chain::demo(alloc, Limits::default())?;
+    let listener = TcpListener::bind(rt, "127.0.0.1:0")?;
+    let Ok(mut chain) = Chain::demo(alloc, Limits::default()) else {
+        return Err(Fault::Line("the chain isn't made"));
+    };
     let words = ClapWords { alloc };
-    let first = asking(&rt, &listener, ASKED, b"", 0)?;
-    assert_eq!(rt; serve_listener(alloc, &listener, &mut chain, &words, 1), 0);
-    assert!(rt; is_told(alloc, &first, TOLD)?);
-    let _silent = TcpStream::connect(&rt, listener.local_addr()?)?;
-    let again = asking(&rt, &listener, ASKED, b"", 0)?;
-    let longest = asking(&rt, &listener, TOO_LONG, &[b' '; 8192], 10)?;
+    let first = asking(rt, &listener, ASKED, b"", 0)?;
+    let status = serve_listener(alloc, &listener, &mut chain, &words, 1);
+    if status != 0 || !is_told(alloc, &first, TOLD)? {
+        return Err(Fault::Line("a peer isn't answered"));
+    }
+    let _silent = TcpStream::connect(rt, listener.local_addr()?)?;
+    let again = asking(rt, &listener, ASKED, b"", 0)?;
+    let longest = asking(rt, &listener, TOO_LONG, &[b' '; 8192], 10)?;
     let patience = Duration::from_millis(50);
-    assert_eq!(rt;
-        serve_patiently(alloc, &listener, &mut chain, &words, 3, patience),
-        0
-    );
-    assert!(rt; is_told(alloc, &again, TOLD)?);
-    assert!(rt; is_told(alloc, &longest, REFUSED)?);
+    let status = serve_patiently(alloc, &listener, &mut chain, &words, 3, patience);
+    if status != 0 || !is_told(alloc, &again, TOLD)? || !is_told(alloc, &longest, REFUSED)? {
+        return Err(Fault::Line("a peer behind a silent one isn't answered"));
+    }
     Ok(())
 }
