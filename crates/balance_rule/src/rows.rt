@@ -3,7 +3,7 @@
 use shop_types::{Amount, Moment, Rate};
 
 /// What a balance reads of a rental, and of the row of its film as it is now.
-#[derive(Clone, Copy, Debug, PartialEq, Eq)]
+#[derive(Clone, Copy)]
 pub struct RentalTerms {
     pub rented: Moment,
     /// When the copy came back. A rental without it is open.
@@ -15,7 +15,7 @@ pub struct RentalTerms {
 }
 
 /// What a balance reads of a payment.
-#[derive(Clone, Copy, Debug, PartialEq, Eq)]
+#[derive(Clone, Copy)]
 pub struct Paid {
     pub amount: Amount,
     pub at: Moment,

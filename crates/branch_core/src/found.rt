@@ -3,7 +3,7 @@
 use shop_types::{BadCsv, CopyNo, CustomerNo, FilmNo, KeptFound, Moment, RentalNo, StaffFound};
 
 /// A row of the stock file, with what the catalogue says of its film.
-#[derive(Clone, Copy, Debug)]
+#[derive(Clone, Copy)]
 pub struct StockFound {
     pub film: FilmNo,
     /// How many copies of the film the row lists, 1 or more.
@@ -15,7 +15,7 @@ pub struct StockFound {
 }
 
 /// A copy that a command names.
-#[derive(Clone, Copy, Debug, PartialEq, Eq)]
+#[derive(Clone, Copy)]
 pub struct CopyFound {
     /// Whether it is in the shop, neither sent nor scrapped.
     pub is_here: bool,
@@ -24,7 +24,7 @@ pub struct CopyFound {
 }
 
 /// A rental that a command names.
-#[derive(Clone, Copy, Debug, PartialEq, Eq)]
+#[derive(Clone, Copy)]
 pub struct RentalFound {
     pub customer: CustomerNo,
     pub copy: CopyNo,

@@ -17,7 +17,7 @@ use crate::{Shared, SharedRows};
 use shop_types::{Limits, OfficeAct, OfficeCommand, Refusal, Token};
 
 /// What is decided of a command that isn't refused.
-#[derive(Clone, Copy, Debug)]
+#[derive(Clone, Copy)]
 pub enum OfficeChange<'a> {
     /// It was sent before, and had the reply with this body: nothing changes.
     Again(&'a str),

@@ -6,7 +6,7 @@ ghost use Rattle.catalogue_core.specs.Shares.{no_rows};
 use shop_types::{KeptFound, StaffFound, StaffNo, Token};
 
 /// A branch that a command names.
-#[derive(Clone, Copy, Debug)]
+#[derive(Clone, Copy)]
 pub struct BranchFound {
     pub manager: Option<StaffNo>,
 }
@@ -24,7 +24,7 @@ pub struct Shared<'a> {
 }
 
 /// The rows that a command's act names. What is said of a row that it doesn't name is never looked at.
-#[derive(Clone, Copy, Debug)]
+#[derive(Clone, Copy)]
 pub struct SharedRows {
     /// Whether a branch has the token that the command gives.
     pub has_token: bool,

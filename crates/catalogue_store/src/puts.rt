@@ -20,7 +20,7 @@ use sqlite::types::{ToSql, ValueRef};
 use sqlite::{Alter, Transaction};
 
 /// A city that is to be added.
-#[derive(Clone, Copy, Debug)]
+#[derive(Clone, Copy)]
 pub struct NewCity<'a> {
     pub number: CityNo,
     pub name: &'a str,
@@ -28,7 +28,7 @@ pub struct NewCity<'a> {
 }
 
 /// An actor who is to be added.
-#[derive(Clone, Copy, Debug)]
+#[derive(Clone, Copy)]
 pub struct NewActor<'a> {
     pub number: ActorNo,
     pub first: &'a str,
@@ -36,7 +36,7 @@ pub struct NewActor<'a> {
 }
 
 /// A film that is to be added.
-#[derive(Clone, Copy, Debug)]
+#[derive(Clone, Copy)]
 pub struct NewFilm<'a> {
     pub number: FilmNo,
     pub title: &'a str,
@@ -58,7 +58,7 @@ pub struct NewFilm<'a> {
 }
 
 /// A branch that is to be added, which has no command yet.
-#[derive(Clone, Copy, Debug)]
+#[derive(Clone, Copy)]
 pub struct NewBranch<'a> {
     pub number: BranchNo,
     pub token: &'a Token,
@@ -70,7 +70,7 @@ pub struct NewBranch<'a> {
 }
 
 /// A member of staff who is to be added.
-#[derive(Clone, Copy, Debug)]
+#[derive(Clone, Copy)]
 pub struct NewStaff<'a> {
     pub number: StaffNo,
     pub branch: BranchNo,

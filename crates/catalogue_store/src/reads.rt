@@ -20,7 +20,7 @@ use sqlite::types::ToSql;
 use sqlite::{Alter, Row, Transaction};
 
 /// By what a rental of a film is charged.
-#[derive(Clone, Copy, Debug, PartialEq, Eq)]
+#[derive(Clone, Copy)]
 pub struct FilmTerms {
     pub rate: Rate,
     /// For how many days it is rented.

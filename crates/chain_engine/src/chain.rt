@@ -28,7 +28,7 @@ use std::fmt;
 use std::marker::Model;
 
 /// Why there is no chain.
-#[derive(Clone, Copy, Debug, PartialEq, Eq)]
+#[derive(Clone, Copy, Debug)]
 pub enum OpenFault {
     /// There is no memory left.
     Memory,

@@ -22,7 +22,7 @@ use std::alloc::Global;
 use std::io::{self, Read, Write};
 
 /// Why a connection ended. Where several hold at one reply, the first of `StoreFailed`, `Refused`, `Asked` and `Limit` stands.
-#[derive(Clone, Copy, Debug, PartialEq, Eq)]
+#[derive(Clone, Copy)]
 pub enum End {
     /// The input ended behind a whole request, or before the first.
     Closed,
@@ -39,14 +39,14 @@ pub enum End {
 }
 
 /// How many replies were written, and why the connection ended.
-#[derive(Clone, Copy, Debug, PartialEq, Eq)]
+#[derive(Clone, Copy)]
 pub struct Served {
     pub replies: u32,
     pub end: End,
 }
 
 /// What went wrong, with the number of replies that were wholly written before.
-#[derive(Clone, Copy, Debug, PartialEq, Eq)]
+#[derive(Clone, Copy, Debug)]
 pub enum ServeFault {
     /// The reader failed. Each request that was read whole has been answered.
     Read { replies: u32 },

@@ -21,7 +21,7 @@ pub const FIELD_LIMIT: usize = 32;
 pub const BODY_LIMIT: u64 = 65536;
 
 /// A whole request, as slices of the bytes that it was read from.
-#[derive(Clone, Copy, Debug)]
+#[derive(Clone, Copy)]
 pub struct Request<'b> {
     /// Whether the method is POST; it is GET otherwise.
     pub posts: bool,
@@ -37,7 +37,7 @@ pub struct Request<'b> {
 }
 
 /// Why no more of an input is read.
-#[derive(Clone, Copy, Debug, PartialEq, Eq)]
+#[derive(Clone, Copy, Debug)]
 pub enum Fault {
     /// `bad_head`: no head of HTTP/1.x with at most 32 fields can begin so, or the method is neither
     /// GET nor POST, or there is a `transfer-encoding` field, more than one `content-length`, or one
@@ -48,7 +48,7 @@ pub enum Fault {
 }
 
 /// What the bytes so far are.
-#[derive(Clone, Copy, Debug)]
+#[derive(Clone, Copy)]
 pub enum Reading<'b> {
     /// A whole request, and the count of its bytes: the next one begins behind them.
     Whole(Request<'b>, usize),

@@ -24,7 +24,7 @@ use sql_rows::StoreFault;
 use sqlite::{Alter, Transaction};
 
 /// Head office's count and token, and the rows that its command names.
-#[derive(Clone, Copy, Debug)]
+#[derive(Clone, Copy)]
 pub struct SharedFound {
     /// How many kept rows head office has.
     pub keys: u32,

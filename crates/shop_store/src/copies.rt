@@ -24,7 +24,7 @@ use sqlite::{Alter, Row, Transaction};
 use std::alloc::Global;
 
 /// Where a copy is.
-#[derive(Clone, Copy, Debug, PartialEq, Eq)]
+#[derive(Clone, Copy)]
 pub enum CopyState {
     Here,
     Sent,
@@ -32,14 +32,14 @@ pub enum CopyState {
 }
 
 /// Where a copy was imported, and the number that it had there. It moves with the copy.
-#[derive(Clone, Copy, Debug, PartialEq, Eq)]
+#[derive(Clone, Copy)]
 pub struct Mark {
     pub branch: BranchNo,
     pub copy: CopyNo,
 }
 
 /// A copy of a branch, by the number that it has there.
-#[derive(Clone, Copy, Debug, Drop, PartialEq, Eq)]
+#[derive(Clone, Copy, Drop)]
 pub struct CopyRow {
     pub branch: BranchNo,
     pub number: CopyNo,

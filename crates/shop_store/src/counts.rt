@@ -18,7 +18,7 @@ use sqlite::{Alter, Row, Transaction};
 use std::alloc::Global;
 
 /// The kinds of rows that are counted for each branch.
-#[derive(Clone, Copy, Debug, PartialEq, Eq)]
+#[derive(Clone, Copy)]
 pub enum CountKind {
     Customers,
     Copies,

@@ -23,7 +23,7 @@ use sqlite::{Alter, Row, Transaction};
 use std::alloc::Global;
 
 /// A payment at a branch, with its number there.
-#[derive(Clone, Copy, Debug, PartialEq, Eq, Drop)]
+#[derive(Clone, Copy, Drop)]
 pub struct PaymentRow {
     pub branch: BranchNo,
     pub number: PaymentNo,

@@ -21,7 +21,7 @@ use sqlite::{Alter, Row, Transaction};
 use std::alloc::Global;
 
 /// A rental of a branch, with its number there.
-#[derive(Clone, Copy, Debug, PartialEq, Eq, Drop)]
+#[derive(Clone, Copy, Drop)]
 pub struct RentalRow {
     pub branch: BranchNo,
     pub number: RentalNo,

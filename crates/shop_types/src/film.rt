@@ -7,7 +7,7 @@ use shop_values::{Amount, CategoryNo, L500, LanguageNo, Rate, T128};
 use std::marker::Model;
 
 /// How many days a film may be kept, from 1 to 255.
-#[derive(Clone, Copy, Debug, PartialEq, Eq)]
+#[derive(Clone, Copy)]
 pub struct Period(u8);
 
 impl Model for Period {
@@ -39,7 +39,7 @@ impl Period {
 }
 
 /// How long a film is, from 1 to 65,535 minutes.
-#[derive(Clone, Copy, Debug, PartialEq, Eq)]
+#[derive(Clone, Copy)]
 pub struct Minutes(u16);
 
 impl Model for Minutes {
@@ -75,7 +75,7 @@ impl Minutes {
 }
 
 /// For whom a film is meant: the ratings of the Sakila sample database.
-#[derive(Clone, Copy, Debug, PartialEq, Eq)]
+#[derive(Clone, Copy)]
 pub enum Rating {
     G,
     Pg,
@@ -116,7 +116,7 @@ impl Rating {
 }
 
 /// What comes with a film: the special features of the Sakila sample database.
-#[derive(Clone, Copy, Debug, PartialEq, Eq)]
+#[derive(Clone, Copy)]
 pub struct Features {
     pub trailers: bool,
     pub commentaries: bool,

@@ -1,7 +1,7 @@
 use shop_values::BranchNo;
 
 /// The kept row of a command's key, as compared with the command.
-#[derive(Clone, Copy, Debug)]
+#[derive(Clone, Copy)]
 pub struct KeptFound<'a> {
     /// Whether the kept command is equal to the command.
     pub is_same: bool,
@@ -10,7 +10,7 @@ pub struct KeptFound<'a> {
 }
 
 /// A member of staff whom a command names.
-#[derive(Clone, Copy, Debug)]
+#[derive(Clone, Copy)]
 pub struct StaffFound {
     pub branch: BranchNo,
     /// Whether the member of staff left.

@@ -1,7 +1,7 @@
 use shop_values::{Amount, CustomerNo, Moment, RentalNo, StaffNo};
 
 /// A payment of a customer. Its number is that of its row.
-#[derive(Clone, Copy, Debug, PartialEq, Eq)]
+#[derive(Clone, Copy)]
 pub struct Payment {
     pub customer: CustomerNo,
     /// Who gave the command by which it was taken.

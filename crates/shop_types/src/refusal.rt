@@ -3,14 +3,14 @@ ghost use Rattle.shop_model.specs.Refusals.{problem_number, problem_name, proble
 ghost use Rattle.shop_types.specs.Seen.{seen_refusal};
 
 /// A stock file is at fault: the number of its first line that is, where the file's first line has the number 1.
-#[derive(Clone, Copy, Debug, PartialEq, Eq)]
+#[derive(Clone, Copy)]
 pub struct BadCsv {
     pub line: u32,
 }
 
 /// Why a request is refused. Of those that hold a caller is told the one with the lowest number, but that `Usage` is looked for
 /// before `KeyUsed`, and the last three may come at any point.
-#[derive(Clone, Copy, Debug, PartialEq, Eq)]
+#[derive(Clone, Copy)]
 pub enum Refusal {
     /// The head of the message is none that is served.
     BadHead,

@@ -1,7 +1,7 @@
 use shop_values::{CopyNo, CustomerNo, Moment, StaffNo};
 
 /// A rental of a branch. Its number is that of its row. A copy has one open rental at most.
-#[derive(Clone, Copy, Debug, PartialEq, Eq)]
+#[derive(Clone, Copy)]
 pub struct Rental {
     pub rented: Moment,
     pub copy: CopyNo,

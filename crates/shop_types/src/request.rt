@@ -2,7 +2,7 @@ use crate::{Command, OfficeCommand};
 use shop_values::{BranchNo, CopyNo, CustomerNo, FilmNo, Moment};
 
 /// What a counter's reading shows.
-#[derive(Clone, Copy, Debug, PartialEq, Eq)]
+#[derive(Clone, Copy)]
 pub enum Ask {
     /// One customer of the branch.
     Customer(CustomerNo),
@@ -32,7 +32,7 @@ pub enum Ask {
 }
 
 /// A view of the Sakila manual, over the catalogue and the shop of the branch that asks.
-#[derive(Clone, Copy, Debug, PartialEq, Eq)]
+#[derive(Clone, Copy)]
 pub enum View {
     /// All customers of the branch.
     CustomerList,
@@ -49,7 +49,7 @@ pub enum View {
 }
 
 /// What a reading of head office shows, over all branches.
-#[derive(Clone, Copy, Debug, PartialEq, Eq)]
+#[derive(Clone, Copy)]
 pub enum OfficeAsk {
     /// What each branch has taken for rentals, in order of the branches' numbers.
     Sales,
@@ -69,7 +69,7 @@ pub enum Request {
 }
 
 /// Who asks, by the token that came with the request.
-#[derive(Clone, Copy, Debug, PartialEq, Eq)]
+#[derive(Clone, Copy, PartialEq, Eq)]
 pub enum Caller {
     /// A counter of the branch.
     Branch(BranchNo),

@@ -4,7 +4,7 @@ ghost use Rattle.shop_values.specs.LimitValues.{is_limit, limits_of, most_limits
 use std::marker::Model;
 
 /// How many commands and how many copies a shop holds at most, each from 1 to 1,000,000.
-#[derive(Clone, Copy, Debug, PartialEq, Eq)]
+#[derive(Clone, Copy)]
 pub struct Limits {
     commands: u32,
     copies: u32,

@@ -7,7 +7,7 @@ use std::fmt;
 use std::marker::Model;
 
 /// A date and a time of day to the second, from 1970 to 9999, in no time zone.
-#[derive(Clone, Copy, Debug, PartialEq, Eq)]
+#[derive(Clone, Copy, PartialEq, Eq)]
 pub struct Moment {
     year: u16,
     month: u8,

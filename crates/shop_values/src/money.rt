@@ -3,7 +3,7 @@ ghost use Rattle.std.specs.Prelude.{◌≡◌, ◌≤◌, Some, None, nat_le, if
 use std::marker::Model;
 
 /// What a customer owes, in cents. Below zero it is what the branch owes.
-#[derive(Clone, Copy, Debug, PartialEq, Eq)]
+#[derive(Clone, Copy, PartialEq, Eq)]
 pub struct Cents(i64);
 
 impl Model for Cents {
@@ -31,7 +31,7 @@ impl Cents {
 }
 
 /// What a rental of a film costs, from 0 to 9,999 cents.
-#[derive(Clone, Copy, Debug, PartialEq, Eq)]
+#[derive(Clone, Copy, PartialEq, Eq)]
 pub struct Rate(u16);
 
 impl Model for Rate {
@@ -67,7 +67,7 @@ impl Rate {
 }
 
 /// What a payment is of, from 0 to 99,999 cents.
-#[derive(Clone, Copy, Debug, PartialEq, Eq)]
+#[derive(Clone, Copy, PartialEq, Eq)]
 pub struct Amount(u32);
 
 impl Model for Amount {

@@ -4,7 +4,7 @@ use std::alloc::AllocError;
 use std::fmt;
 
 /// There was no memory left. What failed by it has changed nothing.
-#[derive(Clone, Copy, Debug, PartialEq, Eq)]
+#[derive(Clone, Copy, Debug)]
 pub struct NoMemory;
 
 impl From<AllocError> for NoMemory {

@@ -4,7 +4,7 @@ ghost use Rattle.shop_values.specs.Numbers.{row_number_of, ten_digits_value};
 use std::marker::Model;
 
 /// The number of a row, from 1 to 4,294,967,295. KIND says of which table, so that the numbers of two tables don't mix.
-#[derive(Clone, Copy, Debug, PartialEq, Eq, PartialOrd, Ord)]
+#[derive(Clone, Copy, PartialEq, Eq, PartialOrd, Ord)]
 pub struct RowNumber<const KIND: u8>(u32);
 
 pub type BranchNo = RowNumber<1>;

@@ -5,7 +5,7 @@ ghost use Rattle.shop_values.specs.Texts.{is_token, is_hex_byte};
 use std::marker::Model;
 
 /// The token by which a counter shows which branch it stands in: 32 digits of lower-case hexadecimal.
-#[derive(Clone, Copy, Debug, PartialEq, Eq)]
+#[derive(Clone, Copy, PartialEq, Eq)]
 pub struct Token {
     digits: [u8; 32],
 }

@@ -5,7 +5,7 @@ use sqlite::{Error, ErrorCode};
 use std::alloc::AllocError;
 
 /// Why a call of the store did nothing that counts.
-#[derive(Clone, Copy, Debug, PartialEq, Eq, Drop)]
+#[derive(Clone, Copy, Debug, Drop)]
 pub enum StoreFault {
     /// There was no memory left.
     Memory,

@@ -19,14 +19,14 @@ use shop_values::FilmNo;
 use std::alloc::Global;
 
 /// A row of a stock file: how many copies of a film come, from 1 to 99.
-#[derive(Clone, Copy, Debug, PartialEq, Eq)]
+#[derive(Clone, Copy)]
 pub struct StockRow {
     pub film: FilmNo,
     pub copies: u16,
 }
 
 /// Why a stock file was not read.
-#[derive(Clone, Copy, Debug, PartialEq, Eq)]
+#[derive(Clone, Copy)]
 pub enum StockFault {
     /// The file breaks a rule.
     Bad(BadCsv),
