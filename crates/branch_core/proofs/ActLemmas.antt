@@ -98,13 +98,16 @@ module _ (rules : Rules) (b : ℕ) (catalogue : Catalogue) (shop : Shop) (moment
   abbrev told : Rental → ℕ × ℕ × Bool
   told it = (it.customer, it.copy, is_some it.returned)
 
-  pub return_open : (back : Bool) → Some (c, x, back) ≡ rental_at shop r → back ≡ false → Some Accepted ≡ Some (first (act_refusals rules b catalogue shop moment (model.TakeBack r)))
+  abbrev ReturnIs : Verdict → Type 0
+  ReturnIs verdict = Some verdict ≡ Some (first (act_refusals rules b catalogue shop moment (model.TakeBack r)))
+
+  pub return_open : (back : Bool) → Some (c, x, back) ≡ rental_at shop r → back ≡ false → ReturnIs Accepted
   return_open back is not_back =
       let one = found_some told r shop.rentals (c, x, back) is in
       let still : is_some one.0.returned ≡ false = ap (λ (p : ℕ × ℕ × Bool). p.2) one.2 ∙ not_back in
       rw (one.1, still) refl
 
-  pub return_back : (back : Bool) → Some (c, x, back) ≡ rental_at shop r → back ≡ true → Some (Refused RentalReturned) ≡ Some (first (act_refusals rules b catalogue shop moment (model.TakeBack r)))
+  pub return_back : (back : Bool) → Some (c, x, back) ≡ rental_at shop r → back ≡ true → ReturnIs (Refused RentalReturned)
   return_back back is so =
       let one = found_some told r shop.rentals (c, x, back) is in
       let came : is_some one.0.returned ≡ true = ap (λ (p : ℕ × ℕ × Bool). p.2) one.2 ∙ so in

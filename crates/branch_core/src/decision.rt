@@ -94,12 +94,7 @@ fn has_no_room(act: &Act, found: &Found<'_>, limits: Limits) -> bool
             let new = new_copies(&found.stock);
             0 < new && limits.copies() < found.copies + new
         }
-        Act::Customer(_)
-        | Act::Active { .. }
-        | Act::Rent { .. }
-        | Act::TakeBack(_)
-        | Act::Pay { .. }
-        | Act::Scrap(_) => false,
+        _ => false,
     }
 }
 

@@ -72,14 +72,7 @@ rows_acted limits b command act it books held adds = absurd adds
 -- what an act does leaves the kept commands and the last moments
 acted_kept : (rules : Rules) (b : ℕ) (command : Command) (act : Act) (books : Books) → ((book_acted rules b command act books).kept ≡ books.kept) × ((book_acted rules b command act books).lasts ≡ books.lasts)
 acted_kept rules b command (model.AddCustomer person) books = (refl, refl)
-acted_kept rules b command (model.SetActive c active) books = (refl, refl)
-acted_kept rules b command (model.Rent c x) books = (refl, refl)
-acted_kept rules b command (model.TakeBack r) books = (refl, refl)
-acted_kept rules b command (model.Pay c rental amount) books = (refl, refl)
-acted_kept rules b command (model.Import lot file) books = (refl, refl)
-acted_kept rules b command (model.Dispatch to xs) books = (refl, refl)
-acted_kept rules b command (model.Receive source number missing) books = (refl, refl)
-acted_kept rules b command (model.Scrap x) books = (refl, refl)
+acted_kept rules b command act books = (refl, refl)
 
 -- with its rows and itself kept, a command's books are those after it
 pub rows_done : (limits : Limits) (b : ℕ) (command : Command) (it : Rows) (reply : model.Text) (books : Books) → AreActed limits b command command.act it books → reply ≡ rows_text b it books

@@ -177,25 +177,13 @@ reply_utf8 rules (model.Scrap x) shop customers rentals payments copies is fits 
 
 -- rules by which every stock file fits are rules by which every act does
 pub acts_fit : (rules : Rules) → ((file : Text) → FilmsFit (rules.stock_of file)) → (act : Act) → FitsTables rules act
-acts_fit rules files (model.AddCustomer person) = tt
-acts_fit rules files (model.SetActive c active) = tt
-acts_fit rules files (model.Rent c x) = tt
-acts_fit rules files (model.TakeBack r) = tt
-acts_fit rules files (model.Pay c rental amount) = tt
 acts_fit rules files (model.Import lot file) = files file
-acts_fit rules files (model.Dispatch to xs) = tt
-acts_fit rules files (model.Receive source number missing) = tt
-acts_fit rules files (model.Scrap x) = tt
+acts_fit rules files act = tt
 
 -- the program's acts are those that it takes
 pub acts_built : (it : types.Act) → IsBuilt (seen_act it)
 acts_built (act.Customer person) = tt
-acts_built (act.Active customer active) = tt
-acts_built (act.Rent customer copy) = tt
-acts_built (act.TakeBack rental) = tt
-acts_built (act.Pay customer rental amount) = tt
-acts_built (act.Import lot file) = tt
-acts_built (act.Scrap copy) = tt
+acts_built it = tt
 
 -- ---- a step
 

@@ -12,24 +12,11 @@ FilmsFit stock = AllByRecursion IsNumber (films_in stock) × (length (films_in s
 
 -- what the rules read in a stock file fits the table of copies
 abbrev pub FitsTables : Rules → Act → Type 0
-FitsTables rules (model.AddCustomer person) = ⊤
-FitsTables rules (model.SetActive customer active) = ⊤
-FitsTables rules (model.Rent customer copy) = ⊤
-FitsTables rules (model.TakeBack rental) = ⊤
-FitsTables rules (model.Pay customer rental amount) = ⊤
 FitsTables rules (model.Import lot file) = FilmsFit (rules.stock_of file)
-FitsTables rules (model.Dispatch addressee copies) = ⊤
-FitsTables rules (model.Receive source number missing) = ⊤
-FitsTables rules (model.Scrap copy) = ⊤
+FitsTables rules act = ⊤
 
 -- the acts that the program takes so far
 abbrev pub IsBuilt : Act → Type 0
-IsBuilt (model.AddCustomer person) = ⊤
-IsBuilt (model.SetActive customer active) = ⊤
-IsBuilt (model.Rent customer copy) = ⊤
-IsBuilt (model.TakeBack rental) = ⊤
-IsBuilt (model.Pay customer rental amount) = ⊤
-IsBuilt (model.Import lot file) = ⊤
 IsBuilt (model.Dispatch addressee copies) = ⊥
 IsBuilt (model.Receive source number missing) = ⊥
-IsBuilt (model.Scrap copy) = ⊤
+IsBuilt act = ⊤

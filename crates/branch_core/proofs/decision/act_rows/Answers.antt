@@ -17,29 +17,19 @@ abbrev Says : {A : Type 0} → Rules → ℕ → Catalogue → Shop → Command 
 Says rules b catalogue shop command test = verdict_by test ≡ Some (first (act_refusals rules b catalogue shop command.at (seen_act command.act)))
 
 pub returns-in_err-check_city-in-Customer-clause-decided : goal.returns-in_err-check_city-in-Customer-clause-decided
-returns-in_err-check_city-in-Customer-clause-decided c = λ rules b catalogue shop agree.
-    let said : Says rules b catalogue shop c.args.command.now c.check_city.result = rw c.in-Customer.is (c.check_city.ensures rules b catalogue shop c.args.command.now.at (seen_person c.in-Customer.person) (rw c.in-Customer.is at agree.city)) in
-    act_stopped rules (seen_command c.args.command.now) shop _ _ _ _ c.in_err-check_city-in-Customer.was said c.from_residual.ensures.1
+returns-in_err-check_city-in-Customer-clause-decided c = λ rules b catalogue shop agree. act_stopped rules (seen_command c.args.command.now) shop _ _ _ _ c.in_err-check_city-in-Customer.was (rw c.in-Customer.is (c.check_city.ensures rules b catalogue shop c.args.command.now.at (seen_person c.in-Customer.person) (rw c.in-Customer.is at agree.city))) c.from_residual.ensures.1
 
 pub returns-in_err-check_active-in-Active-clause-decided : goal.returns-in_err-check_active-in-Active-clause-decided
-returns-in_err-check_active-in-Active-clause-decided c = λ rules b catalogue shop agree.
-    let said : Says rules b catalogue shop c.args.command.now c.check_active.result = rw c.in-Active.is (c.check_active.ensures rules b catalogue shop c.args.command.now.at c.in-Active.customer (rw c.in-Active.is at agree.customer)) in
-    act_stopped rules (seen_command c.args.command.now) shop _ _ _ _ c.in_err-check_active-in-Active.was said c.from_residual-in_err-check_active-in-Active.ensures.1
+returns-in_err-check_active-in-Active-clause-decided c = λ rules b catalogue shop agree. act_stopped rules (seen_command c.args.command.now) shop _ _ _ _ c.in_err-check_active-in-Active.was (rw c.in-Active.is (c.check_active.ensures rules b catalogue shop c.args.command.now.at c.in-Active.customer (rw c.in-Active.is at agree.customer))) c.from_residual-in_err-check_active-in-Active.ensures.1
 
 pub returns-in_err-check_rent-in-Rent-clause-decided : goal.returns-in_err-check_rent-in-Rent-clause-decided
-returns-in_err-check_rent-in-Rent-clause-decided c = λ rules b catalogue shop agree.
-    let said : Says rules b catalogue shop c.args.command.now c.check_rent.result = rw c.in-Rent.is (c.check_rent.ensures rules b catalogue shop c.args.command.now.at c.in-Rent.customer c.in-Rent.copy (rw c.in-Rent.is at agree.customer) (rw c.in-Rent.is at agree.copy) (rw c.in-Rent.is at agree.out) (rw c.in-Rent.is at agree.same)) in
-    act_stopped rules (seen_command c.args.command.now) shop _ _ _ _ c.in_err-check_rent-in-Rent.was said c.from_residual-in_err-check_rent-in-Rent.ensures.1
+returns-in_err-check_rent-in-Rent-clause-decided c = λ rules b catalogue shop agree. act_stopped rules (seen_command c.args.command.now) shop _ _ _ _ c.in_err-check_rent-in-Rent.was (rw c.in-Rent.is (c.check_rent.ensures rules b catalogue shop c.args.command.now.at c.in-Rent.customer c.in-Rent.copy (rw c.in-Rent.is at agree.customer) (rw c.in-Rent.is at agree.copy) (rw c.in-Rent.is at agree.out) (rw c.in-Rent.is at agree.same))) c.from_residual-in_err-check_rent-in-Rent.ensures.1
 
 pub returns-in_err-check_return-in-TakeBack-clause-decided : goal.returns-in_err-check_return-in-TakeBack-clause-decided
-returns-in_err-check_return-in-TakeBack-clause-decided c = λ rules b catalogue shop agree.
-    let said : Says rules b catalogue shop c.args.command.now c.check_return.result = rw c.in-TakeBack.is (c.check_return.ensures.verdict rules b catalogue shop c.args.command.now.at c.in-TakeBack.rental (rw c.in-TakeBack.is at agree.rental)) in
-    act_stopped rules (seen_command c.args.command.now) shop _ _ _ _ c.in_err-check_return-in-TakeBack.was said c.from_residual-in_err-check_return-in-TakeBack.ensures.1
+returns-in_err-check_return-in-TakeBack-clause-decided c = λ rules b catalogue shop agree. act_stopped rules (seen_command c.args.command.now) shop _ _ _ _ c.in_err-check_return-in-TakeBack.was (rw c.in-TakeBack.is (c.check_return.ensures.verdict rules b catalogue shop c.args.command.now.at c.in-TakeBack.rental (rw c.in-TakeBack.is at agree.rental))) c.from_residual-in_err-check_return-in-TakeBack.ensures.1
 
 pub returns-in_err-check_payment-in-Pay-clause-decided : goal.returns-in_err-check_payment-in-Pay-clause-decided
-returns-in_err-check_payment-in-Pay-clause-decided c = λ rules b catalogue shop agree.
-    let said : Says rules b catalogue shop c.args.command.now c.check_payment.result = rw c.in-Pay.is (c.check_payment.ensures rules b catalogue shop c.args.command.now.at c.in-Pay.amount (rw c.in-Pay.is at agree.customer) (rw c.in-Pay.is at agree.rental)) in
-    act_stopped rules (seen_command c.args.command.now) shop _ _ _ _ c.in_err-check_payment-in-Pay.was said c.from_residual-in_err-check_payment-in-Pay.ensures.1
+returns-in_err-check_payment-in-Pay-clause-decided c = λ rules b catalogue shop agree. act_stopped rules (seen_command c.args.command.now) shop _ _ _ _ c.in_err-check_payment-in-Pay.was (rw c.in-Pay.is (c.check_payment.ensures rules b catalogue shop c.args.command.now.at c.in-Pay.amount (rw c.in-Pay.is at agree.customer) (rw c.in-Pay.is at agree.rental))) c.from_residual-in_err-check_payment-in-Pay.ensures.1
 
 pub returns-in_err-check_stock-in-Import-clause-decided : goal.returns-in_err-check_stock-in-Import-clause-decided
 returns-in_err-check_stock-in-Import-clause-decided c = λ rules b catalogue shop agree.
@@ -49,29 +39,19 @@ returns-in_err-check_stock-in-Import-clause-decided c = λ rules b catalogue sho
     act_stopped rules (seen_command c.args.command.now) shop _ _ _ _ c.in_err-check_stock-in-Import.was said c.from_residual-in_err-check_stock-in-Import.ensures.1
 
 pub returns-in_err-check_scrap-in-Scrap-clause-decided : goal.returns-in_err-check_scrap-in-Scrap-clause-decided
-returns-in_err-check_scrap-in-Scrap-clause-decided c = λ rules b catalogue shop agree.
-    let said : Says rules b catalogue shop c.args.command.now c.check_scrap.result = rw c.in-Scrap.is (c.check_scrap.ensures rules b catalogue shop c.args.command.now.at c.in-Scrap.copy (rw c.in-Scrap.is at agree.copy) (rw c.in-Scrap.is at agree.out)) in
-    act_stopped rules (seen_command c.args.command.now) shop _ _ _ _ c.in_err-check_scrap-in-Scrap.was said c.from_residual-in_err-check_scrap-in-Scrap.ensures.1
+returns-in_err-check_scrap-in-Scrap-clause-decided c = λ rules b catalogue shop agree. act_stopped rules (seen_command c.args.command.now) shop _ _ _ _ c.in_err-check_scrap-in-Scrap.was (rw c.in-Scrap.is (c.check_scrap.ensures rules b catalogue shop c.args.command.now.at c.in-Scrap.copy (rw c.in-Scrap.is at agree.copy) (rw c.in-Scrap.is at agree.out))) c.from_residual-in_err-check_scrap-in-Scrap.ensures.1
 
 pub returns-in_ok-check_active-in-Active-clause-decided : goal.returns-in_ok-check_active-in-Active-clause-decided
-returns-in_ok-check_active-in-Active-clause-decided c = λ rules b catalogue shop agree.
-    let said : Says rules b catalogue shop c.args.command.now c.check_active.result = rw c.in-Active.is (c.check_active.ensures rules b catalogue shop c.args.command.now.at c.in-Active.customer (rw c.in-Active.is at agree.customer)) in
-    (passed _ _ _ _ c.in_ok-check_active-in-Active.was said, rw c.in-Active.is (refl, refl))
+returns-in_ok-check_active-in-Active-clause-decided c = λ rules b catalogue shop agree. (passed _ _ _ _ c.in_ok-check_active-in-Active.was (rw c.in-Active.is (c.check_active.ensures rules b catalogue shop c.args.command.now.at c.in-Active.customer (rw c.in-Active.is at agree.customer))), rw c.in-Active.is (refl, refl))
 
 pub returns-in_ok-check_rent-in-Rent-clause-decided : goal.returns-in_ok-check_rent-in-Rent-clause-decided
-returns-in_ok-check_rent-in-Rent-clause-decided c = λ rules b catalogue shop agree.
-    let said : Says rules b catalogue shop c.args.command.now c.check_rent.result = rw c.in-Rent.is (c.check_rent.ensures rules b catalogue shop c.args.command.now.at c.in-Rent.customer c.in-Rent.copy (rw c.in-Rent.is at agree.customer) (rw c.in-Rent.is at agree.copy) (rw c.in-Rent.is at agree.out) (rw c.in-Rent.is at agree.same)) in
-    (passed _ _ _ _ c.in_ok-check_rent-in-Rent.was said, rw c.in-Rent.is (let row = ap seen_rental c.new_rental.ensures in record { row = row; added = ap (λ it. shop.rentals ++ it ∷ []) (sym row) }))
+returns-in_ok-check_rent-in-Rent-clause-decided c = λ rules b catalogue shop agree. (passed _ _ _ _ c.in_ok-check_rent-in-Rent.was (rw c.in-Rent.is (c.check_rent.ensures rules b catalogue shop c.args.command.now.at c.in-Rent.customer c.in-Rent.copy (rw c.in-Rent.is at agree.customer) (rw c.in-Rent.is at agree.copy) (rw c.in-Rent.is at agree.out) (rw c.in-Rent.is at agree.same))), rw c.in-Rent.is (let row = ap seen_rental c.new_rental.ensures in record { row = row; added = ap (λ it. shop.rentals ++ it ∷ []) (sym row) }))
 
 pub returns-in_ok-check_return-in-TakeBack-clause-decided : goal.returns-in_ok-check_return-in-TakeBack-clause-decided
-returns-in_ok-check_return-in-TakeBack-clause-decided c = λ rules b catalogue shop agree.
-    let said : Says rules b catalogue shop c.args.command.now c.check_return.result = rw c.in-TakeBack.is (c.check_return.ensures.verdict rules b catalogue shop c.args.command.now.at c.in-TakeBack.rental (rw c.in-TakeBack.is at agree.rental)) in
-    (passed _ _ _ _ c.in_ok-check_return-in-TakeBack.was said, rw c.in-TakeBack.is (record { number = refl; moment = refl; copy_is = c.in_ok-check_return-in-TakeBack.ensures.copy shop c.in-TakeBack.rental (rw c.in-TakeBack.is at agree.rental) }))
+returns-in_ok-check_return-in-TakeBack-clause-decided c = λ rules b catalogue shop agree. (passed _ _ _ _ c.in_ok-check_return-in-TakeBack.was (rw c.in-TakeBack.is (c.check_return.ensures.verdict rules b catalogue shop c.args.command.now.at c.in-TakeBack.rental (rw c.in-TakeBack.is at agree.rental))), rw c.in-TakeBack.is (record { number = refl; moment = refl; copy_is = c.in_ok-check_return-in-TakeBack.ensures.copy shop c.in-TakeBack.rental (rw c.in-TakeBack.is at agree.rental) }))
 
 pub returns-in_ok-check_payment-in-Pay-clause-decided : goal.returns-in_ok-check_payment-in-Pay-clause-decided
-returns-in_ok-check_payment-in-Pay-clause-decided c = λ rules b catalogue shop agree.
-    let said : Says rules b catalogue shop c.args.command.now c.check_payment.result = rw c.in-Pay.is (c.check_payment.ensures rules b catalogue shop c.args.command.now.at c.in-Pay.amount (rw c.in-Pay.is at agree.customer) (rw c.in-Pay.is at agree.rental)) in
-    (passed _ _ _ _ c.in_ok-check_payment-in-Pay.was said, rw c.in-Pay.is (let row = ap seen_payment c.new_payment-payment.ensures in record { row = row; added = ap (λ it. shop.payments ++ it ∷ []) (sym row) }))
+returns-in_ok-check_payment-in-Pay-clause-decided c = λ rules b catalogue shop agree. (passed _ _ _ _ c.in_ok-check_payment-in-Pay.was (rw c.in-Pay.is (c.check_payment.ensures rules b catalogue shop c.args.command.now.at c.in-Pay.amount (rw c.in-Pay.is at agree.customer) (rw c.in-Pay.is at agree.rental))), rw c.in-Pay.is (let row = ap seen_payment c.new_payment-payment.ensures in record { row = row; added = ap (λ it. shop.payments ++ it ∷ []) (sym row) }))
 
 pub returns-in_ok-check_stock-in-Import-clause-decided : goal.returns-in_ok-check_stock-in-Import-clause-decided
 returns-in_ok-check_stock-in-Import-clause-decided c = λ rules b catalogue shop agree.
@@ -82,16 +62,10 @@ returns-in_ok-check_stock-in-Import-clause-decided c = λ rules b catalogue shop
     (passed _ _ _ _ c.in_ok-check_stock-in-Import.was said, rw c.in-Import.is (record { films = films; lot_is = refl; added = ap (λ fs. shop.copies ++ map here fs) (sym films) }))
 
 pub returns-in_ok-check_scrap-in-Scrap-clause-decided : goal.returns-in_ok-check_scrap-in-Scrap-clause-decided
-returns-in_ok-check_scrap-in-Scrap-clause-decided c = λ rules b catalogue shop agree.
-    let said : Says rules b catalogue shop c.args.command.now c.check_scrap.result = rw c.in-Scrap.is (c.check_scrap.ensures rules b catalogue shop c.args.command.now.at c.in-Scrap.copy (rw c.in-Scrap.is at agree.copy) (rw c.in-Scrap.is at agree.out)) in
-    (passed _ _ _ _ c.in_ok-check_scrap-in-Scrap.was said, rw c.in-Scrap.is refl)
+returns-in_ok-check_scrap-in-Scrap-clause-decided c = λ rules b catalogue shop agree. (passed _ _ _ _ c.in_ok-check_scrap-in-Scrap.was (rw c.in-Scrap.is (c.check_scrap.ensures rules b catalogue shop c.args.command.now.at c.in-Scrap.copy (rw c.in-Scrap.is at agree.copy) (rw c.in-Scrap.is at agree.out))), rw c.in-Scrap.is refl)
 
 pub returns-in-Ok-clause-decided : goal.returns-in-Ok-clause-decided
-returns-in-Ok-clause-decided c = λ rules b catalogue shop agree.
-    let said : Says rules b catalogue shop c.args.command.now c.check_city.result = rw c.in-Customer.is (c.check_city.ensures rules b catalogue shop c.args.command.now.at (seen_person c.in-Customer.person) (rw c.in-Customer.is at agree.city)) in
-    (passed _ _ _ _ c.in_ok-check_city-in-Customer.was said, rw c.in-Customer.is (let row = ap seen_customer c.in-Ok.ensures in record { row = row; added = ap (λ it. shop.customers ++ it ∷ []) (sym row) }))
+returns-in-Ok-clause-decided c = λ rules b catalogue shop agree. (passed _ _ _ _ c.in_ok-check_city-in-Customer.was (rw c.in-Customer.is (c.check_city.ensures rules b catalogue shop c.args.command.now.at (seen_person c.in-Customer.person) (rw c.in-Customer.is at agree.city))), rw c.in-Customer.is (let row = ap seen_customer c.in-Ok.ensures in record { row = row; added = ap (λ it. shop.customers ++ it ∷ []) (sym row) }))
 
 pub returns-in-Err-clause-decided : goal.returns-in-Err-clause-decided
-returns-in-Err-clause-decided c = λ rules b catalogue shop agree.
-    let said : Says rules b catalogue shop c.args.command.now c.check_city.result = rw c.in-Customer.is (c.check_city.ensures rules b catalogue shop c.args.command.now.at (seen_person c.in-Customer.person) (rw c.in-Customer.is at agree.city)) in
-    (passed _ _ _ _ c.in_ok-check_city-in-Customer.was said, rw c.in-Customer.is tt)
+returns-in-Err-clause-decided c = λ rules b catalogue shop agree. (passed _ _ _ _ c.in_ok-check_city-in-Customer.was (rw c.in-Customer.is (c.check_city.ensures rules b catalogue shop c.args.command.now.at (seen_person c.in-Customer.person) (rw c.in-Customer.is at agree.city))), rw c.in-Customer.is tt)

@@ -16,15 +16,8 @@ use Rattle.branch_work.proofs.finding.find.Goals as goal
 
 -- of the acts only a rental names both a customer and a copy
 same_named : (moment : Moment) (act : Act) (shop : Shop) → has_same moment (customer_in act) (copy_in act) shop ≡ has_same_rental moment act shop
-same_named moment (model.AddCustomer person) shop = refl
-same_named moment (model.SetActive c active) shop = refl
 same_named moment (model.Rent c x) shop = refl
-same_named moment (model.TakeBack r) shop = refl
-same_named moment (model.Pay c rental amount) shop = refl
-same_named moment (model.Import lot file) shop = refl
-same_named moment (model.Dispatch to xs) shop = refl
-same_named moment (model.Receive source number missing) shop = refl
-same_named moment (model.Scrap x) shop = refl
+same_named moment act shop = refl
 
 pub returns-clause-found : goal.returns-clause-found
 returns-clause-found g c = λ clean.
