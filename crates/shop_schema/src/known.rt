@@ -56,7 +56,7 @@ fn versions<S: Alter>(tx: &mut Transaction<'_, S>) -> Result<Vec<Row>, StoreFaul
 }
 
 /// Which version the tables of a chain are of.
-#[derive(Clone, Copy)]
+#[derive(Clone, Copy, PartialEq, Eq)]
 pub enum KnownVersion {
     /// The table that has the version doesn't have one row, so that this is no chain.
     Missing,
