@@ -1,5 +1,5 @@
 //! A connection, from its first byte to its end.
-ghost use Rattle.std.specs.Prelude.{◌≡◌, ◌<◌, length, ◌++◌, ℕ, List, Ok, IfOk, IfErr, OnOk, OnErr};
+ghost use Rattle.std.specs.Prelude.{◌≡◌, [], ◌<◌, length, ◌++◌, ℕ, List, Ok, IfOk, IfErr, OnOk, OnErr};
 ghost use Rattle.std.specs.Io.KnownBytes.{Appends, Keeps};
 ghost use Rattle.http_messages.specs.Shown.{message_of};
 ghost use Rattle.shop_model.specs.Answers.{Answer};
@@ -151,11 +151,40 @@ pub fn serve<R: Read, W: Write, O: OfficeWords, S: Alter>(
     let Ok(routes) = Routes::new(alloc) else {
         return Err(ServeFault::Memory);
     };
+    serve_requests(
+        alloc,
+        reader,
+        writer,
+        chain,
+        &routes,
+        words,
+        &mut inbox,
+        max_requests,
+    )
+}
+
+/// The same with what a connection has of its own: the routes, and the bytes that were read and not answered.
+fn serve_requests<R: Read, W: Write, O: OfficeWords, S: Alter>(
+    alloc: Global,
+    reader: &mut R,
+    writer: &mut W,
+    chain: &mut Chain<S>,
+    routes: &Routes,
+    words: &O,
+    inbox: &mut Inbox,
+    max_requests: u32,
+) -> Result<Served, ServeFault>
+    requires { inbox.old ≡ [] }
+    ensures served { IfOk result (λ served. IsServed served max_requests (RunsOver S.Store (O.meaning words.now) chain.old chain.new)
+        (R.remaining reader.old) (R.remaining reader.new) (W.contents writer.old) (W.contents writer.new)) }
+    ensures fault { IfErr result (λ fault. IsFault fault max_requests (RunsOver S.Store (O.meaning words.now) chain.old chain.new)
+        (R.remaining reader.old) (R.remaining reader.new) (W.contents writer.old) (W.contents writer.new)) }
+{
     let mut replies = 0;
     'requests: while replies < max_requests {
         match read_request(inbox.bytes()) {
             Reading::Whole(request, len) => {
-                let Ok(after) = respond(alloc, writer, chain, &routes, words, &request) else {
+                let Ok(after) = respond(alloc, writer, chain, routes, words, &request) else {
                     return Err(ServeFault::Write { replies });
                 };
                 inbox.consume(len);

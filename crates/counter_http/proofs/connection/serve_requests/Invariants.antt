@@ -1,7 +1,7 @@
 use Rattle.std.proofs.Common.{◌≤◌, ◌-◌, ◌*◌, length}
 use Rattle.counter_http.specs.Exchanges.{RunsOver}
 use Rattle.counter_http.specs.Served.{IsServing}
-use Rattle.counter_http.proofs.connection.serve.Given as goal
+use Rattle.counter_http.proofs.connection.serve_requests.Given as goal
 
 abbrev pub invariant-requests : goal.invariant-requests
 invariant-requests g l = record {
