@@ -1,5 +1,5 @@
 -- The words in which the worked rows are written: who asks what, and what is answered.
-use Rattle.std.specs.Prelude.{ℕ, if◌then◌else◌, List, [], ◌∷◌, map, codes, Some}
+use Rattle.std.specs.Prelude.{◌≡◌, ℕ, if◌then◌else◌, List, [], ◌∷◌, map, codes, Some}
 use Rattle.std.specs.Str.{bytes_eq}
 use Rattle.shop_model.specs.Calendar.{Moment}
 use Rattle.shop_model.specs.Values.{Text, Person, Act, OfficeAct, Ask, OfficeAsk, Stock, Copies, BadLine, Rules}
@@ -109,13 +109,17 @@ ok body = record { status = 200; body = body }
 abbrev pub no : Text → Answer
 no body = record { status = 409; body = body }
 
-abbrev pub answers_from : Rules → Books → List Event → List Answer
-answers_from rules books events = map (λ (it : Caller × Reply). answer_of it.1) (run rules office_look events books)
+-- requests, each with what it is answered
+abbrev pub Script : Type 0
+Script = List (Event × Answer)
 
--- what a list of requests is answered on the opening rows
-abbrev pub answers : Rules → List Event → List Answer
-answers rules events = answers_from rules opening_books events
+abbrev pub books_after : Rules → Script → Books
+books_after rules script = last_books rules (map (λ (it : Event × Answer). it.0) script) opening_books
 
--- the same after other requests
-abbrev pub answers_after : Rules → List Event → List Event → List Answer
-answers_after rules earlier events = answers_from rules (last_books rules earlier opening_books) events
+-- the requests are answered so over these books
+abbrev pub PlaysOn : Rules → Books → Script → Type 0
+PlaysOn rules books script = map (λ (it : Caller × Reply). answer_of it.1) (run rules office_look (map (λ (it : Event × Answer). it.0) script) books) ≡ map (λ (it : Event × Answer). it.1) script
+
+-- and so on the opening rows, after the requests of another script
+abbrev pub Plays : Rules → Script → Script → Type 0
+Plays rules earlier script = PlaysOn rules (books_after rules earlier) script

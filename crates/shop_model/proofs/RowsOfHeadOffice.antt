@@ -1,5 +1,5 @@
 -- Worked rows: what head office adds, changes and withdraws.
-use Rattle.std.proofs.Common.{◌≡◌, ℕ, [], ◌∷◌, false, None, refl}
+use Rattle.std.proofs.Common.{ℕ, [], ◌∷◌, false, None, refl}
 use Rattle.std.specs.Prelude.{codes}
 use Rattle.std.specs.Fmt.{digits}
 use Rattle.shop_model.specs.Json.{escape_byte}
@@ -10,7 +10,7 @@ use Rattle.shop_model.specs.Machine.{Unread}
 use Rattle.shop_model.specs.Opening.{token_of}
 use Rattle.shop_model.specs.Shop.{Catalogue}
 use Rattle.shop_model.specs.Sound.{opening}
-use Rattle.shop_model.proofs.RowScripts.{ten, one_comedy, limited, rules, sends, does, asks, orders, wants, mary, ok, no, answers_from, answers, answers_after}
+use Rattle.shop_model.proofs.RowScripts.{ten, one_comedy, limited, rules, sends, does, asks, orders, wants, mary, ok, no, Plays, PlaysOn}
 
 abbrev stone : Film
 stone = record { title = codes "STONE"; description = []; language = 1; category = 2; period = 3; rate = 499; replacement = 1999; minutes = None; rating = codes "G"; features = []; withdrawn = false }
@@ -21,110 +21,87 @@ high_street digit = record { token = token_of digit; address = codes "40 High"; 
 abbrev nowhere : Catalogue
 nowhere = record { office_token = token_of 0; kept = []; casts = []; countries = []; cities = []; languages = []; categories = []; actors = []; films = []; branches = []; staff = [] }
 
-film_added : answers rules (orders (codes "f1") (AddFilm stone) ∷ asks 3 (OneFilm 3) ∷ [])
-    ≡ ok (codes "{\"film\":3}")
-    ∷ ok (codes "{\"category\":2,\"description\":\"\",\"features\":\"\",\"film\":3,\"language\":1,\"length\":null,\"period\":3,\"rate\":499,\"rating\":\"G\",\"replacement\":1999,\"title\":\"STONE\",\"withdrawn\":false}")
-    ∷ []
+film_added : Plays rules [] (
+    (orders (codes "f1") (AddFilm stone), ok (codes "{\"film\":3}"))
+    ∷ (asks 3 (OneFilm 3), ok (codes "{\"category\":2,\"description\":\"\",\"features\":\"\",\"film\":3,\"language\":1,\"length\":null,\"period\":3,\"rate\":499,\"rating\":\"G\",\"replacement\":1999,\"title\":\"STONE\",\"withdrawn\":false}"))
+    ∷ [])
 unfolding digits escape_byte day_of day_number days_of_years days_of_months seconds_of
 film_added = refl
 
-film_withdrawn : answers rules (orders (codes "w1") (WithdrawFilm 2) ∷ orders (codes "w2") (WithdrawFilm 2) ∷ does 1 (codes "a") ten (Import (codes "L1") one_comedy) ∷ [])
-    ≡ ok (codes "{\"film\":2}")
-    ∷ no (codes "{\"refused\":\"already\"}")
-    ∷ no (codes "{\"refused\":\"film_withdrawn\"}")
-    ∷ []
+film_withdrawn : Plays rules [] (
+    (orders (codes "w1") (WithdrawFilm 2), ok (codes "{\"film\":2}"))
+    ∷ (orders (codes "w2") (WithdrawFilm 2), no (codes "{\"refused\":\"already\"}"))
+    ∷ (does 1 (codes "a") ten (Import (codes "L1") one_comedy), no (codes "{\"refused\":\"film_withdrawn\"}"))
+    ∷ [])
 unfolding digits escape_byte day_of day_number days_of_years days_of_months seconds_of
 film_withdrawn = refl
 
 -- the token of a branch, that of head office, and a free one
-token_taken : answers rules
-    (orders (codes "a") (AddBranch (high_street 1))
-    ∷ orders (codes "b") (AddBranch (high_street 0))
-    ∷ orders (codes "c") (AddBranch (high_street 4))
-    ∷ orders (codes "d") (AddStaff (record { branch = 4; person = mary; gone = false }))
+token_taken : Plays rules [] (
+    (orders (codes "a") (AddBranch (high_street 1)), no (codes "{\"refused\":\"token_taken\"}"))
+    ∷ (orders (codes "b") (AddBranch (high_street 0)), no (codes "{\"refused\":\"token_taken\"}"))
+    ∷ (orders (codes "c") (AddBranch (high_street 4)), ok (codes "{\"branch\":4}"))
+    ∷ (orders (codes "d") (AddStaff (record { branch = 4; person = mary; gone = false })), ok (codes "{\"staff\":4}"))
     ∷ [])
-    ≡ no (codes "{\"refused\":\"token_taken\"}")
-    ∷ no (codes "{\"refused\":\"token_taken\"}")
-    ∷ ok (codes "{\"branch\":4}")
-    ∷ ok (codes "{\"staff\":4}")
-    ∷ []
 unfolding digits escape_byte day_of day_number days_of_years days_of_months seconds_of
 token_taken = refl
 
 -- staff of another branch, staff that isn't there, and then the branch's own
-managers : answers rules
-    (orders (codes "a") (SetManager 3 2)
-    ∷ orders (codes "b") (SetManager 3 9)
-    ∷ orders (codes "c") (SetManager 3 3)
-    ∷ orders (codes "d") (SetManager 3 3)
+managers : Plays rules [] (
+    (orders (codes "a") (SetManager 3 2), no (codes "{\"refused\":\"no_branch\"}"))
+    ∷ (orders (codes "b") (SetManager 3 9), no (codes "{\"refused\":\"no_staff\"}"))
+    ∷ (orders (codes "c") (SetManager 3 3), ok (codes "{\"branch\":3,\"staff\":3}"))
+    ∷ (orders (codes "d") (SetManager 3 3), no (codes "{\"refused\":\"already\"}"))
     ∷ [])
-    ≡ no (codes "{\"refused\":\"no_branch\"}")
-    ∷ no (codes "{\"refused\":\"no_staff\"}")
-    ∷ ok (codes "{\"branch\":3,\"staff\":3}")
-    ∷ no (codes "{\"refused\":\"already\"}")
-    ∷ []
 unfolding digits escape_byte day_of day_number days_of_years days_of_months seconds_of
 managers = refl
 
 -- head office begins with no shared row at all
-file_from_nothing : answers_from rules (opening nowhere)
-    (orders (codes "c1") (AddCountry (codes "Canada"))
-    ∷ orders (codes "c2") (AddCity (record { name = codes "Lethbridge"; country = 2 }))
-    ∷ orders (codes "c3") (AddCity (record { name = codes "Lethbridge"; country = 1 }))
+file_from_nothing : PlaysOn rules (opening nowhere) (
+    (orders (codes "c1") (AddCountry (codes "Canada")), ok (codes "{\"country\":1}"))
+    ∷ (orders (codes "c2") (AddCity (record { name = codes "Lethbridge"; country = 2 })), no (codes "{\"refused\":\"no_shared_row\"}"))
+    ∷ (orders (codes "c3") (AddCity (record { name = codes "Lethbridge"; country = 1 })), ok (codes "{\"city\":1}"))
     ∷ [])
-    ≡ ok (codes "{\"country\":1}")
-    ∷ no (codes "{\"refused\":\"no_shared_row\"}")
-    ∷ ok (codes "{\"city\":1}")
-    ∷ []
 unfolding digits escape_byte day_of day_number days_of_years days_of_months seconds_of
 file_from_nothing = refl
 
-shared_rows : answers rules
-    (orders (codes "a") (AddLanguage (codes "French"))
-    ∷ orders (codes "b") (AddLanguage (codes "French"))
-    ∷ orders (codes "c") (AddCategory (codes "Drama"))
-    ∷ orders (codes "d") (AddActor (record { first = codes "CY"; last = codes "DOE" }))
-    ∷ orders (codes "e") (AddCast (record { film = 2; actor = 3 }))
-    ∷ orders (codes "f") (AddCast (record { film = 2; actor = 3 }))
-    ∷ orders (codes "g") (StaffLeaves 3)
-    ∷ orders (codes "h") (StaffLeaves 3)
+shared_rows : Plays rules [] (
+    (orders (codes "a") (AddLanguage (codes "French")), ok (codes "{\"language\":2}"))
+    ∷ (orders (codes "b") (AddLanguage (codes "French")), no (codes "{\"refused\":\"already\"}"))
+    ∷ (orders (codes "c") (AddCategory (codes "Drama")), ok (codes "{\"category\":3}"))
+    ∷ (orders (codes "d") (AddActor (record { first = codes "CY"; last = codes "DOE" })), ok (codes "{\"actor\":3}"))
+    ∷ (orders (codes "e") (AddCast (record { film = 2; actor = 3 })), ok (codes "{\"actor\":3,\"film\":2}"))
+    ∷ (orders (codes "f") (AddCast (record { film = 2; actor = 3 })), no (codes "{\"refused\":\"already\"}"))
+    ∷ (orders (codes "g") (StaffLeaves 3), ok (codes "{\"staff\":3}"))
+    ∷ (orders (codes "h") (StaffLeaves 3), no (codes "{\"refused\":\"already\"}"))
     ∷ [])
-    ≡ ok (codes "{\"language\":2}")
-    ∷ no (codes "{\"refused\":\"already\"}")
-    ∷ ok (codes "{\"category\":3}")
-    ∷ ok (codes "{\"actor\":3}")
-    ∷ ok (codes "{\"actor\":3,\"film\":2}")
-    ∷ no (codes "{\"refused\":\"already\"}")
-    ∷ ok (codes "{\"staff\":3}")
-    ∷ no (codes "{\"refused\":\"already\"}")
-    ∷ []
 unfolding digits escape_byte day_of day_number days_of_years days_of_months seconds_of
 shared_rows = refl
 
 -- with one kept key allowed the second command finds no room, and a reading is answered
-office_limit : answers (limited 1 1000000) (orders (codes "a") (AddCountry (codes "Chile")) ∷ orders (codes "b") (AddCountry (codes "Peru")) ∷ wants Sales ∷ [])
-    ≡ ok (codes "{\"country\":3}")
-    ∷ no (codes "{\"refused\":\"full\"}")
-    ∷ ok (codes "[]")
-    ∷ []
+office_limit : Plays (limited 1 1000000) [] (
+    (orders (codes "a") (AddCountry (codes "Chile")), ok (codes "{\"country\":3}"))
+    ∷ (orders (codes "b") (AddCountry (codes "Peru")), no (codes "{\"refused\":\"full\"}"))
+    ∷ (wants Sales, ok (codes "[]"))
+    ∷ [])
 unfolding digits escape_byte day_of day_number days_of_years days_of_months seconds_of
 office_limit = refl
 
 -- head office's keys are kept as a branch's are; words that are no command
-used_key_and_usage : answers_after rules (orders (codes "p1") (PriceFilm 1 299) ∷ []) (orders (codes "p1") (PriceFilm 1 250) ∷ orders (codes "p1") (PriceFilm 1 299) ∷ sends 0 (Unread Usage) ∷ [])
-    ≡ no (codes "{\"refused\":\"key_used\"}")
-    ∷ ok (codes "{\"film\":1,\"rate\":299}")
-    ∷ record { status = 400; body = codes "{\"refused\":\"usage\"}" }
-    ∷ []
+used_key_and_usage : Plays rules ((orders (codes "p1") (PriceFilm 1 299), ok (codes "{\"film\":1,\"rate\":299}")) ∷ []) (
+    (orders (codes "p1") (PriceFilm 1 250), no (codes "{\"refused\":\"key_used\"}"))
+    ∷ (orders (codes "p1") (PriceFilm 1 299), ok (codes "{\"film\":1,\"rate\":299}"))
+    ∷ (sends 0 (Unread Usage), record { status = 400; body = codes "{\"refused\":\"usage\"}" })
+    ∷ [])
 unfolding digits escape_byte day_of day_number days_of_years days_of_months seconds_of
 used_key_and_usage = refl
 
 -- who left works no more
-manager_leaves : answers rules (orders (codes "a") (StaffLeaves 1) ∷ orders (codes "b") (SetManager 1 1) ∷ does 1 (codes "a") ten (AddCustomer mary) ∷ orders (codes "c") (PriceFilm 9 1) ∷ [])
-    ≡ ok (codes "{\"staff\":1}")
-    ∷ no (codes "{\"refused\":\"no_staff\"}")
-    ∷ no (codes "{\"refused\":\"no_staff\"}")
-    ∷ no (codes "{\"refused\":\"no_film\"}")
-    ∷ []
+manager_leaves : Plays rules [] (
+    (orders (codes "a") (StaffLeaves 1), ok (codes "{\"staff\":1}"))
+    ∷ (orders (codes "b") (SetManager 1 1), no (codes "{\"refused\":\"no_staff\"}"))
+    ∷ (does 1 (codes "a") ten (AddCustomer mary), no (codes "{\"refused\":\"no_staff\"}"))
+    ∷ (orders (codes "c") (PriceFilm 9 1), no (codes "{\"refused\":\"no_film\"}"))
+    ∷ [])
 unfolding digits escape_byte day_of day_number days_of_years days_of_months seconds_of
 manager_leaves = refl

@@ -9,7 +9,7 @@ use Rattle.shop_model.specs.Answers.{Answer, answer_of}
 use Rattle.shop_model.specs.Opening.{opening_books}
 use Rattle.shop_model.specs.Books.{Event, run, replies_to}
 use Rattle.shop_model.specs.Office.{office_look}
-use Rattle.shop_model.proofs.RowScripts.{moment, ten, two_copies, one_copy, rules, does, asks, wants, mary, ok, answers}
+use Rattle.shop_model.proofs.RowScripts.{moment, ten, two_copies, one_copy, rules, does, asks, wants, mary, ok, Plays}
 use Rattle.std.specs.Prelude.{replicate}
 use Rattle.shop_model.proofs.RowsOfRentals.{four_copies_in}
 
@@ -53,22 +53,20 @@ among_others = ten_customers ++ customer_comes ∷ ten_imports ++ copies_come �
 abbrev sent_to : ℕ → List Event → List Answer
 sent_to b events = map answer_of (replies_to b (run rules office_look events opening_books))
 
-none_between : sent_to 2 alone
-    ≡ ok (codes "{\"customer\":1}")
+abbrev told : List Answer
+told =
+    ok (codes "{\"customer\":1}")
     ∷ ok (codes "{\"copies\":2,\"first\":1}")
     ∷ ok (codes "{\"rental\":1}")
     ∷ ok (codes "{\"customer\":1}")
     ∷ []
+
+none_between : sent_to 2 alone ≡ told
 unfolding digits escape_byte day_of day_number days_of_years days_of_months seconds_of
 none_between = refl
 
 -- forty requests of another branch between change no byte of it
-forty_between : sent_to 2 among_others
-    ≡ ok (codes "{\"customer\":1}")
-    ∷ ok (codes "{\"copies\":2,\"first\":1}")
-    ∷ ok (codes "{\"rental\":1}")
-    ∷ ok (codes "{\"customer\":1}")
-    ∷ []
+forty_between : sent_to 2 among_others ≡ told
 unfolding digits escape_byte day_of day_number days_of_years days_of_months seconds_of
 forty_between = refl
 
@@ -77,27 +75,17 @@ unfolding digits escape_byte day_of day_number days_of_years days_of_months seco
 forty_accepted = refl
 
 -- one request of each kind, from the first customer to the audit
-whole_day : answers rules
-    (does 1 (codes "k1") ten (AddCustomer mary) ∷ four_copies_in ++
-    does 1 (codes "a") ten (Rent 1 1)
-    ∷ does 1 (codes "b") ten (TakeBack 1)
-    ∷ does 1 (codes "c") ten (Pay 1 (Some 1) 499)
-    ∷ asks 1 (Balance 1 ten)
-    ∷ asks 1 (OneView FilmList)
-    ∷ does 1 (codes "d") ten (Dispatch 2 (3 ∷ []))
-    ∷ does 2 (codes "a") ten (Receive 1 1 [])
-    ∷ wants Audit
+whole_day : Plays rules [] (
+    (does 1 (codes "k1") ten (AddCustomer mary), ok (codes "{\"customer\":1}"))
+    ∷ four_copies_in ++
+    (does 1 (codes "a") ten (Rent 1 1), ok (codes "{\"rental\":1}"))
+    ∷ (does 1 (codes "b") ten (TakeBack 1), ok (codes "{\"returned\":1}"))
+    ∷ (does 1 (codes "c") ten (Pay 1 (Some 1) 499), ok (codes "{\"payment\":1}"))
+    ∷ (asks 1 (Balance 1 ten), ok (codes "{\"balance\":0}"))
+    ∷ (asks 1 (OneView FilmList), ok (codes "[{\"actors\":\"ANN HILL, BO KERR\",\"category\":\"Action\",\"description\":\"\",\"film\":1,\"length\":86,\"price\":499,\"rating\":\"PG\",\"title\":\"RIVER DAWN\"},{\"actors\":\"BO KERR\",\"category\":\"Comedy\",\"description\":\"\",\"film\":2,\"length\":null,\"price\":299,\"rating\":\"G\",\"title\":\"NORTH LIGHT\"}]"))
+    ∷ (does 1 (codes "d") ten (Dispatch 2 (3 ∷ [])), ok (codes "{\"consignment\":1,\"to\":2}"))
+    ∷ (does 2 (codes "a") ten (Receive 1 1 []), ok (codes "{\"copies\":[1]}"))
+    ∷ (wants Audit, ok (codes "{\"gone\":0,\"here\":4,\"made\":4,\"sound\":true,\"transit\":0}"))
     ∷ [])
-    ≡ ok (codes "{\"customer\":1}")
-    ∷ ok (codes "{\"copies\":4,\"first\":1}")
-    ∷ ok (codes "{\"rental\":1}")
-    ∷ ok (codes "{\"returned\":1}")
-    ∷ ok (codes "{\"payment\":1}")
-    ∷ ok (codes "{\"balance\":0}")
-    ∷ ok (codes "[{\"actors\":\"ANN HILL, BO KERR\",\"category\":\"Action\",\"description\":\"\",\"film\":1,\"length\":86,\"price\":499,\"rating\":\"PG\",\"title\":\"RIVER DAWN\"},{\"actors\":\"BO KERR\",\"category\":\"Comedy\",\"description\":\"\",\"film\":2,\"length\":null,\"price\":299,\"rating\":\"G\",\"title\":\"NORTH LIGHT\"}]")
-    ∷ ok (codes "{\"consignment\":1,\"to\":2}")
-    ∷ ok (codes "{\"copies\":[1]}")
-    ∷ ok (codes "{\"gone\":0,\"here\":4,\"made\":4,\"sound\":true,\"transit\":0}")
-    ∷ []
 unfolding digits escape_byte day_of day_number days_of_years days_of_months seconds_of
 whole_day = refl

@@ -1,127 +1,111 @@
 -- Worked rows: payments, balances, overdue rentals and rewards.
-use Rattle.std.proofs.Common.{◌≡◌, List, [], ◌∷◌, ◌++◌, Some, None, refl}
+use Rattle.std.proofs.Common.{◌≡◌, [], ◌∷◌, ◌++◌, Some, None, refl}
 use Rattle.std.specs.Prelude.{codes}
 use Rattle.std.specs.Fmt.{digits}
 use Rattle.shop_model.specs.Json.{escape_byte}
 use Rattle.shop_model.specs.Calendar.{day_of, day_number, days_of_years, days_of_months, seconds_of, days_in_month}
 use Rattle.shop_model.specs.Values.{AddCustomer, Rent, TakeBack, Pay, Import, PriceFilm, Balance, Overdue, Rewards}
-use Rattle.shop_model.specs.Books.{Event}
-use Rattle.shop_model.proofs.RowScripts.{moment, ten, march, one_copy, rules, does, asks, orders, mary, ok, no, answers_after}
+use Rattle.shop_model.proofs.RowScripts.{moment, ten, march, one_copy, rules, does, asks, orders, mary, ok, no, Script, Plays}
 
 -- one copy of the first film, at 499 cents for three days, and one customer
-abbrev pub copy_and_customer : List Event
+abbrev pub copy_and_customer : Script
 copy_and_customer =
-    does 1 (codes "i1") ten (Import (codes "L1") one_copy)
-    ∷ does 1 (codes "k1") ten (AddCustomer mary)
+    (does 1 (codes "i1") ten (Import (codes "L1") one_copy), ok (codes "{\"copies\":1,\"first\":1}"))
+    ∷ (does 1 (codes "k1") ten (AddCustomer mary), ok (codes "{\"customer\":1}"))
     ∷ []
 
 -- rented and paid at once, and returned on the fifth day after
-abbrev pub five_days_out : List Event
+abbrev pub five_days_out : Script
 five_days_out =
-    does 1 (codes "a") ten (Rent 1 1)
-    ∷ does 1 (codes "b") ten (Pay 1 (Some 1) 499)
-    ∷ does 1 (codes "c") (moment 2026 3 6 9 0 0) (TakeBack 1)
+    (does 1 (codes "a") ten (Rent 1 1), ok (codes "{\"rental\":1}"))
+    ∷ (does 1 (codes "b") ten (Pay 1 (Some 1) 499), ok (codes "{\"payment\":1}"))
+    ∷ (does 1 (codes "c") (moment 2026 3 6 9 0 0) (TakeBack 1), ok (codes "{\"returned\":1}"))
     ∷ []
 
-two_late_days : answers_after rules copy_and_customer (five_days_out ++ asks 1 (Balance 1 (march 10)) ∷ [])
-    ≡ ok (codes "{\"rental\":1}")
-    ∷ ok (codes "{\"payment\":1}")
-    ∷ ok (codes "{\"returned\":1}")
-    ∷ ok (codes "{\"balance\":200}")
-    ∷ []
+two_late_days : Plays rules copy_and_customer (
+    five_days_out ++
+    (asks 1 (Balance 1 (march 10)), ok (codes "{\"balance\":200}"))
+    ∷ [])
 unfolding digits escape_byte day_of day_number days_of_years days_of_months seconds_of
 two_late_days = refl
 
 -- the return isn't compared with the moment that is asked for; a rental is
-balance_before_payment : answers_after rules (copy_and_customer ++ five_days_out) (asks 1 (Balance 1 (march 3)) ∷ asks 1 (Balance 1 (moment 2026 3 1 9 59 59)) ∷ [])
-    ≡ ok (codes "{\"balance\":200}")
-    ∷ ok (codes "{\"balance\":0}")
-    ∷ []
+balance_before_payment : Plays rules (copy_and_customer ++ five_days_out) (
+    (asks 1 (Balance 1 (march 3)), ok (codes "{\"balance\":200}"))
+    ∷ (asks 1 (Balance 1 (moment 2026 3 1 9 59 59)), ok (codes "{\"balance\":0}"))
+    ∷ [])
 unfolding digits escape_byte day_of day_number days_of_years days_of_months seconds_of
 balance_before_payment = refl
 
 -- days are counted by their numbers, not by hours
-one_late_day : answers_after rules copy_and_customer (does 1 (codes "a") (moment 2026 3 1 23 59 59) (Rent 1 1) ∷ does 1 (codes "b") (march 5) (TakeBack 1) ∷ asks 1 (Balance 1 (march 10)) ∷ [])
-    ≡ ok (codes "{\"rental\":1}")
-    ∷ ok (codes "{\"returned\":1}")
-    ∷ ok (codes "{\"balance\":599}")
-    ∷ []
+one_late_day : Plays rules copy_and_customer (
+    (does 1 (codes "a") (moment 2026 3 1 23 59 59) (Rent 1 1), ok (codes "{\"rental\":1}"))
+    ∷ (does 1 (codes "b") (march 5) (TakeBack 1), ok (codes "{\"returned\":1}"))
+    ∷ (asks 1 (Balance 1 (march 10)), ok (codes "{\"balance\":599}"))
+    ∷ [])
 unfolding digits escape_byte day_of day_number days_of_years days_of_months seconds_of
 one_late_day = refl
 
 -- an open rental adds no late fee, and is overdue after its period
-open_rental_overdue : answers_after rules copy_and_customer (does 1 (codes "a") ten (Rent 1 1) ∷ asks 1 (Balance 1 (moment 2026 12 31 0 0 0)) ∷ asks 1 (Overdue (moment 2026 3 4 23 59 59)) ∷ asks 1 (Overdue (march 5)) ∷ [])
-    ≡ ok (codes "{\"rental\":1}")
-    ∷ ok (codes "{\"balance\":499}")
-    ∷ ok (codes "[]")
-    ∷ ok (codes "[{\"customer\":\"SMITH, MARY\",\"phone\":\"555\",\"title\":\"RIVER DAWN\"}]")
-    ∷ []
+open_rental_overdue : Plays rules copy_and_customer (
+    (does 1 (codes "a") ten (Rent 1 1), ok (codes "{\"rental\":1}"))
+    ∷ (asks 1 (Balance 1 (moment 2026 12 31 0 0 0)), ok (codes "{\"balance\":499}"))
+    ∷ (asks 1 (Overdue (moment 2026 3 4 23 59 59)), ok (codes "[]"))
+    ∷ (asks 1 (Overdue (march 5)), ok (codes "[{\"customer\":\"SMITH, MARY\",\"phone\":\"555\",\"title\":\"RIVER DAWN\"}]"))
+    ∷ [])
 unfolding digits escape_byte day_of day_number days_of_years days_of_months seconds_of
 open_rental_overdue = refl
 
 -- a balance goes by the price that stands
-price_lowered : answers_after rules (copy_and_customer ++ five_days_out) (orders (codes "p1") (PriceFilm 1 299) ∷ asks 1 (Balance 1 (march 10)) ∷ [])
-    ≡ ok (codes "{\"film\":1,\"rate\":299}")
-    ∷ ok (codes "{\"balance\":0}")
-    ∷ []
+price_lowered : Plays rules (copy_and_customer ++ five_days_out) (
+    (orders (codes "p1") (PriceFilm 1 299), ok (codes "{\"film\":1,\"rate\":299}"))
+    ∷ (asks 1 (Balance 1 (march 10)), ok (codes "{\"balance\":0}"))
+    ∷ [])
 unfolding digits escape_byte day_of day_number days_of_years days_of_months seconds_of
 price_lowered = refl
 
-price_and_back : answers_after rules (copy_and_customer ++ does 1 (codes "a") ten (Rent 1 1) ∷ [])
-    (asks 1 (Balance 1 (march 2))
-    ∷ orders (codes "p1") (PriceFilm 1 299)
-    ∷ asks 1 (Balance 1 (march 2))
-    ∷ orders (codes "p2") (PriceFilm 1 499)
-    ∷ asks 1 (Balance 1 (march 2))
+price_and_back : Plays rules (copy_and_customer ++ (does 1 (codes "a") ten (Rent 1 1), ok (codes "{\"rental\":1}")) ∷ []) (
+    (asks 1 (Balance 1 (march 2)), ok (codes "{\"balance\":499}"))
+    ∷ (orders (codes "p1") (PriceFilm 1 299), ok (codes "{\"film\":1,\"rate\":299}"))
+    ∷ (asks 1 (Balance 1 (march 2)), ok (codes "{\"balance\":299}"))
+    ∷ (orders (codes "p2") (PriceFilm 1 499), ok (codes "{\"film\":1,\"rate\":499}"))
+    ∷ (asks 1 (Balance 1 (march 2)), ok (codes "{\"balance\":499}"))
     ∷ [])
-    ≡ ok (codes "{\"balance\":499}")
-    ∷ ok (codes "{\"film\":1,\"rate\":299}")
-    ∷ ok (codes "{\"balance\":299}")
-    ∷ ok (codes "{\"film\":1,\"rate\":499}")
-    ∷ ok (codes "{\"balance\":499}")
-    ∷ []
 unfolding digits escape_byte day_of day_number days_of_years days_of_months seconds_of
 price_and_back = refl
 
 -- both thresholds have to be passed
-rewards_in_leap_month : answers_after rules copy_and_customer
-    (does 1 (codes "a") (moment 2028 2 1 0 0 0) (Pay 1 None 300)
-    ∷ does 1 (codes "b") (moment 2028 2 29 23 59 59) (Pay 1 None 200)
-    ∷ asks 1 (Rewards (moment 2028 3 31 0 0 0) 1 499)
-    ∷ asks 1 (Rewards (moment 2028 3 31 0 0 0) 1 500)
-    ∷ asks 1 (Rewards (moment 2028 3 31 0 0 0) 2 499)
-    ∷ asks 1 (Rewards (moment 2028 3 31 0 0 0) 0 499)
+rewards_in_leap_month : Plays rules copy_and_customer (
+    (does 1 (codes "a") (moment 2028 2 1 0 0 0) (Pay 1 None 300), ok (codes "{\"payment\":1}"))
+    ∷ (does 1 (codes "b") (moment 2028 2 29 23 59 59) (Pay 1 None 200), ok (codes "{\"payment\":2}"))
+    ∷ (asks 1 (Rewards (moment 2028 3 31 0 0 0) 1 499), ok (codes "{\"count\":1,\"customers\":[1]}"))
+    ∷ (asks 1 (Rewards (moment 2028 3 31 0 0 0) 1 500), ok (codes "{\"count\":0,\"customers\":[]}"))
+    ∷ (asks 1 (Rewards (moment 2028 3 31 0 0 0) 2 499), ok (codes "{\"count\":0,\"customers\":[]}"))
+    ∷ (asks 1 (Rewards (moment 2028 3 31 0 0 0) 0 499), no (codes "{\"refused\":\"bad_threshold\"}"))
     ∷ [])
-    ≡ ok (codes "{\"payment\":1}")
-    ∷ ok (codes "{\"payment\":2}")
-    ∷ ok (codes "{\"count\":1,\"customers\":[1]}")
-    ∷ ok (codes "{\"count\":0,\"customers\":[]}")
-    ∷ ok (codes "{\"count\":0,\"customers\":[]}")
-    ∷ no (codes "{\"refused\":\"bad_threshold\"}")
-    ∷ []
 unfolding digits escape_byte day_of day_number days_of_years days_of_months seconds_of
 rewards_in_leap_month = refl
 
-no_month_before : answers_after rules copy_and_customer (asks 1 (Rewards (moment 1970 1 31 0 0 0) 1 1) ∷ [])
-    ≡ ok (codes "{\"count\":0,\"customers\":[]}")
-    ∷ []
+no_month_before : Plays rules copy_and_customer (
+    (asks 1 (Rewards (moment 1970 1 31 0 0 0) 1 1), ok (codes "{\"count\":0,\"customers\":[]}"))
+    ∷ [])
 unfolding digits escape_byte day_of day_number days_of_years days_of_months seconds_of
 no_month_before = refl
 
-balance_below_zero : answers_after rules copy_and_customer (does 1 (codes "a") ten (Pay 1 None 1000) ∷ asks 1 (Balance 1 ten) ∷ asks 1 (Balance 1 (moment 2026 3 1 9 59 59)) ∷ [])
-    ≡ ok (codes "{\"payment\":1}")
-    ∷ ok (codes "{\"balance\":-1000}")
-    ∷ ok (codes "{\"balance\":0}")
-    ∷ []
+balance_below_zero : Plays rules copy_and_customer (
+    (does 1 (codes "a") ten (Pay 1 None 1000), ok (codes "{\"payment\":1}"))
+    ∷ (asks 1 (Balance 1 ten), ok (codes "{\"balance\":-1000}"))
+    ∷ (asks 1 (Balance 1 (moment 2026 3 1 9 59 59)), ok (codes "{\"balance\":0}"))
+    ∷ [])
 unfolding digits escape_byte day_of day_number days_of_years days_of_months seconds_of
 balance_below_zero = refl
 
-rental_of_another : answers_after rules copy_and_customer (does 1 (codes "a") ten (AddCustomer mary) ∷ does 1 (codes "b") ten (Rent 1 1) ∷ does 1 (codes "c") ten (Pay 2 (Some 1) 499) ∷ does 1 (codes "d") ten (Pay 2 (Some 9) 499) ∷ [])
-    ≡ ok (codes "{\"customer\":2}")
-    ∷ ok (codes "{\"rental\":1}")
-    ∷ no (codes "{\"refused\":\"wrong_customer\"}")
-    ∷ no (codes "{\"refused\":\"no_rental\"}")
-    ∷ []
+rental_of_another : Plays rules copy_and_customer (
+    (does 1 (codes "a") ten (AddCustomer mary), ok (codes "{\"customer\":2}"))
+    ∷ (does 1 (codes "b") ten (Rent 1 1), ok (codes "{\"rental\":1}"))
+    ∷ (does 1 (codes "c") ten (Pay 2 (Some 1) 499), no (codes "{\"refused\":\"wrong_customer\"}"))
+    ∷ (does 1 (codes "d") ten (Pay 2 (Some 9) 499), no (codes "{\"refused\":\"no_rental\"}"))
+    ∷ [])
 unfolding digits escape_byte day_of day_number days_of_years days_of_months seconds_of
 rental_of_another = refl
 
@@ -130,9 +114,9 @@ leap_month : (days_in_month 2028 2 ≡ 29) × (days_in_month 2026 2 ≡ 28)
 leap_month = (refl, refl)
 
 -- a threshold of nothing is refused also where there is no month before
-threshold_in_first_month : answers_after rules copy_and_customer (asks 1 (Rewards (moment 1970 1 31 0 0 0) 0 1) ∷ asks 1 (Rewards (moment 1970 1 31 0 0 0) 1 0) ∷ [])
-    ≡ no (codes "{\"refused\":\"bad_threshold\"}")
-    ∷ no (codes "{\"refused\":\"bad_threshold\"}")
-    ∷ []
+threshold_in_first_month : Plays rules copy_and_customer (
+    (asks 1 (Rewards (moment 1970 1 31 0 0 0) 0 1), no (codes "{\"refused\":\"bad_threshold\"}"))
+    ∷ (asks 1 (Rewards (moment 1970 1 31 0 0 0) 1 0), no (codes "{\"refused\":\"bad_threshold\"}"))
+    ∷ [])
 unfolding digits escape_byte day_of day_number days_of_years days_of_months seconds_of
 threshold_in_first_month = refl
