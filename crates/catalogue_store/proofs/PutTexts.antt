@@ -102,7 +102,7 @@ branch_means = record { is = refl; plain = (refl, refl) }
 new_branch : (books : Books) (n : ℕ) (x : Branch) → owned_by n books.lasts ≡ [] → branch_columns [] (n, x) ≡ branch_columns books.lasts (n, x)
 new_branch books n x none = ap (λ (ms : List Moment). branch_params n x ++ or_null moment_value (head ms) ∷ []) (sym none)
 
-one_more : (books : Books) (n : ℕ) (x : Branch) → IsNext branches n books → owned_by n books.lasts ≡ []
+pub one_more : (books : Books) (n : ℕ) (x : Branch) → IsNext branches n books → owned_by n books.lasts ≡ []
     → map (branch_columns books.lasts) (numbered books.catalogue.branches) ++ branch_columns [] (n, x) ∷ [] ≡ map (branch_columns books.lasts) (numbered (books.catalogue.branches ++ x ∷ []))
 one_more books n x next none =
     ap (λ (row : sql.Row). map (branch_columns books.lasts) (numbered books.catalogue.branches) ++ row ∷ []) (new_branch books n x none)

@@ -2,12 +2,15 @@
 use Rattle.std.proofs.Common.{Ok, Err, Result, OnOk, IsTrue, true, refl, subst, sym, ◌∙◌, arith}
 use Rattle.sqlite.specs.State.{State, HasCleanDisk, Shows}
 use Rattle.sqlite.proofs.StateLemmas.{survives_then}
-use Rattle.sql_rows.specs.Calls.{StaysInside}
+use Rattle.sql_rows.specs.Calls.{StaysInside, StaysWithin}
 use Rattle.sql_rows.proofs.Inside.{keeps_then}
 
 -- a clean disk was clean before
 pub clean_before : {X E : Type 0} (b c : State) (r : Result X E) → StaysInside b c r → HasCleanDisk c → HasCleanDisk b
 clean_before b c r two clean = omega (arith, two.survives.clean, clean)
+
+pub clean_within : {X E : Type 0} (b c : State) (r : Result X E) → StaysWithin b c r → HasCleanDisk c → HasCleanDisk b
+clean_within b c r two clean = omega (arith, two.survives.clean, clean)
 
 both_shown : {X E : Type 0} (a b c : State) (r : Result X E) → Shows a b b.now a.committed true → OnOk r (Shows b c c.now b.committed true) → OnOk r (Shows a c c.now a.committed true)
 both_shown a b c (Err e) one two = tt

@@ -31,8 +31,8 @@ use Rattle.shop_schema.specs.Shop.{StandsFor, IsShop, Reads, Writes}
 use Rattle.shop_schema.proofs.Listed.{PutsLast, puts_last}
 use Rattle.shop_store.specs.Seen.{seen_copy_row}
 use Rattle.shop_store.specs.declared.copies.CopyRow.{CopyRow}
-use Rattle.shop_store.proofs.Rising.{which_rise}
-use Rattle.shop_store.proofs.BranchRows.{of_two, equals, ReadsOne, reads_one, reads_sorted, sets_column}
+use Rattle.shop_ledger.proofs.Rising.{which_rise}
+use Rattle.shop_ledger.proofs.BranchRows.{of_two, equals, ReadsOne, reads_one, reads_sorted, sets_column}
 use Rattle.shop_store.proofs.BranchTables.{copies, lots}
 
 -- each column takes its value as it is

@@ -9,7 +9,7 @@ use Rattle.shop_schema.specs.Held.{IsHeld}
 use Rattle.shop_schema.specs.Shop.{Writes}
 use Rattle.shop_schema.proofs.Listed.{PutsLast, puts_last}
 use Rattle.shop_store.specs.Seen.{seen_row}
-use Rattle.shop_store.proofs.BranchRows.{ReadsOne, reads_one, sets_column}
+use Rattle.shop_ledger.proofs.BranchRows.{ReadsOne, reads_one, sets_column}
 use Rattle.shop_store.proofs.BranchTables.{customers}
 
 pub write_customer : PutsLast customers.rows (codes "INSERT INTO customer (branch, number, first, last, address, postal, phone, city, active, created) VALUES (?1, ?2, ?3, ?4, ?5, ?6, ?7, ?8, ?9, ?10)")

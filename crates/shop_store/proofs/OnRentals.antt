@@ -24,7 +24,7 @@ use Rattle.shop_schema.specs.Held.{IsHeld}
 use Rattle.shop_schema.specs.Shop.{StandsFor, IsShop, Writes}
 use Rattle.shop_schema.proofs.Listed.{PutsLast, puts_last}
 use Rattle.shop_store.specs.Seen.{seen_rental_row}
-use Rattle.shop_store.proofs.BranchRows.{equals, ReadsOne, reads_one, ReadsWhich, reads_which, sets_column}
+use Rattle.shop_ledger.proofs.BranchRows.{equals, ReadsOne, reads_one, ReadsWhich, reads_which, sets_column}
 use Rattle.shop_store.proofs.BranchTables.{rentals}
 
 -- each column takes its value as it is

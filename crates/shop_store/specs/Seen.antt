@@ -1,22 +1,17 @@
 -- What a row means.
-use Rattle.std.specs.Prelude.{ℕ, Bool, List, None}
-use Rattle.std.specs.Str.{bytes_eq}
+use Rattle.std.specs.Prelude.{None}
 use Rattle.shop_model.specs.Rows.{Row}
 use Rattle.shop_model.specs.Values as model
-use Rattle.shop_model.specs.Values.{Text, Customer, Rental, Payment}
-use Rattle.shop_model.specs.Shop.{Kept, OfficeKept}
+use Rattle.shop_model.specs.Values.{Customer, Rental}
 use Rattle.shop_model.specs.Books as books
 use Rattle.shop_model.specs.Books.{BookCopy}
-use Rattle.shop_types.specs.Seen.{seen_customer, seen_rental, seen_payment}
-use Rattle.shop_schema.specs.Forms.{command_form, office_command_form}
+use Rattle.shop_types.specs.Seen.{seen_customer, seen_rental}
 use Rattle.shop_store.specs.declared.customers.CustomerRow.{CustomerRow}
 use Rattle.shop_store.specs.declared.copies.CopyState.{CopyState}
 use Rattle.shop_store.specs.declared.copies.CopyState.TheVariants as state
 use Rattle.shop_store.specs.declared.copies.Mark.{Mark}
 use Rattle.shop_store.specs.declared.copies.CopyRow.{CopyRow}
-use Rattle.shop_store.specs.declared.kept.KeptRow.{KeptRow}
 use Rattle.shop_store.specs.declared.rentals.RentalRow.{RentalRow}
-use Rattle.shop_store.specs.declared.payments.PaymentRow.{PaymentRow}
 
 -- a customer of a branch, with the number
 abbrev pub seen_row : CustomerRow → Row Customer
@@ -34,20 +29,6 @@ seen_mark mark = record { branch = mark.branch; copy = mark.copy }
 abbrev pub seen_copy_row : CopyRow → Row BookCopy
 seen_copy_row row = record { branch = row.branch; number = row.number; it = record { film = row.film; state = seen_state row.state; mark = seen_mark row.mark } }
 
--- the stored form of a kept command, and its reply
-abbrev pub seen_kept : KeptRow → List ℕ × List ℕ
-seen_kept row = (row.form, row.reply)
-
-abbrev pub stored_kept : Kept → List ℕ × List ℕ
-stored_kept kept = (command_form kept.command, kept.reply)
-
-abbrev pub stored_office_kept : OfficeKept → List ℕ × List ℕ
-stored_office_kept kept = (office_command_form kept.command, kept.reply)
-
--- whether the stored form is this one, and the reply
-abbrev pub by_form : List ℕ → List ℕ × List ℕ → Bool × Text
-by_form form kept = (bytes_eq kept.0 form, kept.1)
-
 -- a rental of a branch, with the number
 abbrev pub seen_rental_row : RentalRow → Row Rental
 seen_rental_row row = record { branch = row.branch; number = row.number; it = seen_rental row.rental }
@@ -55,7 +36,3 @@ seen_rental_row row = record { branch = row.branch; number = row.number; it = se
 -- the same as an open one
 abbrev pub opened_row : RentalRow → Row Rental
 opened_row row = record { branch = row.branch; number = row.number; it = record (seen_rental row.rental) { returned = None } }
-
--- a payment at a branch, with the number
-abbrev pub seen_payment_row : PaymentRow → Row Payment
-seen_payment_row row = record { branch = row.branch; number = row.number; it = seen_payment row.payment }

@@ -1,0 +1,367 @@
+-- What a change of the books makes of their own counts: where the rows of one kind of one branch alone grow, its count alone does.
+use Rattle.std.proofs.Common.{◌≡◌, ◌+◌, ◌<◌, ◌≤◌, ◌^◌, ◌==◌, ◌&&◌, ℕ, suc, List, [], ◌∷◌, ◌++◌, map, filter, length, true, false, Bool, cond, not, Some, None, refl, sym, ap, subst, ◌∙◌, arith}
+use Rattle.std.specs.Prelude.{flat_map, is_none}
+use Rattle.std.specs.List.{AllByRecursion}
+use Rattle.std.proofs.lemmas.Bool.Decides.{nat_tests}
+use Rattle.std.proofs.lemmas.List.Elements.{filter-append}
+use Rattle.std.proofs.lemmas.List.{length-append}
+use Rattle.shop_model.specs.Calendar.{Moment}
+use Rattle.shop_model.specs.Rows.{Row, Owned, is_of, is_row, of, owned_by, numbered, put, next, set_row}
+use Rattle.shop_model.specs.Values.{Branch, Customer, Payment, Rental, Text}
+use Rattle.shop_model.specs.Shop.{Kept}
+use Rattle.shop_model.specs.Books.{Books, BookCopy}
+use Rattle.shop_model.proofs.RowLemmas.{same_if, more_yes, more_no, length_map, put_own, put_other}
+use Rattle.shop_schema.specs.Counts.{Count, is_count, count_in, count_of, branch_counts, office_count, counts_of, raise, raised, is_open, out_of, is_out_by, put_out, drop_out}
+use Rattle.shop_ledger.specs.declared.counts.CountKind.{CountKind}
+use Rattle.shop_ledger.specs.declared.counts.CountKind.TheVariants as kind
+use Rattle.shop_ledger.specs.Counted.{kind_number}
+
+not_office : (b : ℕ) → 1 ≤ b → (0 == b) ≡ false
+not_office b low = grind (arith, nat_tests)
+
+turned : (a b : ℕ) (t : Bool) → (a == b) ≡ t → (b == a) ≡ t
+turned a b true h = grind (arith, nat_tests)
+turned a b false h = grind (arith, nat_tests)
+
+-- the branch's count of the kind has grown by so many, and no other has
+abbrev pub GrowsBy : ℕ → ℕ → ℕ → Books → Books → Type 0
+GrowsBy b k m old new = (a : ℕ) (kind : CountKind) → count_in (kind_number kind) a new ≡ cond (a == b && kind_number kind == k) (count_in (kind_number kind) a old + m) (count_in (kind_number kind) a old)
+
+module _ (b k m : ℕ) (old new : Books) (low : 1 ≤ b) (branches : new.catalogue.branches ≡ old.catalogue.branches) (office : new.catalogue.kept ≡ old.catalogue.kept) (grows : GrowsBy b k m old new) where
+  grown : (a : ℕ) (kind : CountKind) → count_of new a (kind_number kind) ≡ cond (a == b && kind_number kind == k) (raised m (count_of old a (kind_number kind))) (count_of old a (kind_number kind))
+  grown a kind = go (a == b && kind_number kind == k) (grows a kind)
+    where
+      go : (t : Bool) → count_in (kind_number kind) a new ≡ cond t (count_in (kind_number kind) a old + m) (count_in (kind_number kind) a old)
+          → count_of new a (kind_number kind) ≡ cond t (raised m (count_of old a (kind_number kind))) (count_of old a (kind_number kind))
+      go true e = ap (λ n. record { caller = a; kind = kind_number kind; last = n }) e
+      go false e = ap (λ n. record { caller = a; kind = kind_number kind; last = n }) e
+
+  office_row : office_count new ≡ cond (0 == b && 4 == k) (raised m (office_count old)) (office_count old)
+  office_row = go (0 == b) (not_office b low)
+    where
+      go : (t : Bool) → t ≡ false → office_count new ≡ cond (t && 4 == k) (raised m (office_count old)) (office_count old)
+      go true e = cc
+      go false e = ap (λ kept. record { caller = 0; kind = 4; last = length kept }) office
+
+  all_grown : (its : List (ℕ × Branch)) → flat_map (branch_counts new) its ≡ map (λ c. cond (is_count b k c) (raised m c) c) (flat_map (branch_counts old) its)
+  all_grown [] = refl
+  all_grown (it ∷ its) =
+      λ i. grown it.0 kind.Customers i ∷ grown it.0 kind.Copies i ∷ grown it.0 kind.Rentals i ∷ grown it.0 kind.Payments i ∷ grown it.0 kind.Kept i ∷ all_grown its i
+
+  pub counters_grown : (counts_of new).counters ≡ (raise b k m (counts_of old)).counters
+  counters_grown = λ i. office_row i ∷ (ap (λ (bs : List Branch). flat_map (branch_counts new) (numbered bs)) branches ∙ all_grown (numbered old.catalogue.branches)) i
+
+-- ---- rows put last
+
+same_count : (t : Bool) (m n : ℕ) → n ≡ cond (t && false) (n + m) n
+same_count true m n = refl
+same_count false m n = refl
+
+pushed : {A : Type 0} (xs : List A) (x : A) → length (xs ++ x ∷ []) ≡ length xs + 1
+pushed [] x = refl
+pushed (y ∷ xs) x = let shorter = pushed xs x in omega (arith, shorter)
+
+pub one_put : {A : Type 0} (b : ℕ) (make : ℕ → A) (rows : List (Row A)) (a : ℕ) → length (of a (put b make rows)) ≡ cond (a == b && true) (length (of a rows) + 1) (length (of a rows))
+one_put {A} b make rows a = go (a == b) refl
+  where
+    go : (t : Bool) → (a == b) ≡ t → length (of a (put b make rows)) ≡ cond (t && true) (length (of a rows) + 1) (length (of a rows))
+    go true e = subst (λ n. length (of n (put b make rows)) ≡ length (of n rows) + 1) (sym (same_if a b e)) (ap length (put_own b make rows) ∙ pushed (of b rows) (make (next b rows)))
+    go false e = ap length (put_other a b make rows (turned a b false e))
+
+pub one_kept : (b : ℕ) (x : Kept) (rows : List (Owned Kept)) (a : ℕ) → length (owned_by a (rows ++ record { owner = b; it = x } ∷ [])) ≡ cond (a == b && true) (length (owned_by a rows) + 1) (length (owned_by a rows))
+one_kept b x rows a = go (a == b) refl
+  where
+    go : (t : Bool) → (a == b) ≡ t → length (owned_by a (rows ++ record { owner = b; it = x } ∷ [])) ≡ cond (t && true) (length (owned_by a rows) + 1) (length (owned_by a rows))
+    go true e = ap length (more_yes (λ (row : Owned Kept). row.it) (λ row. row.owner == a) rows (record { owner = b; it = x }) (turned a b true e)) ∙ pushed (owned_by a rows) x
+    go false e = ap length (more_no (λ (row : Owned Kept). row.it) (λ row. row.owner == a) rows (record { owner = b; it = x }) (turned a b false e))
+
+-- a payment
+pub payment_counted : (b : ℕ) (make : ℕ → Payment) (books : Books) → 1 ≤ b → counts_of (record books { payments = put b make books.payments }) ≡ raise b 3 1 (counts_of books)
+payment_counted b make books low = λ i. record { counters = counters_grown b 3 1 books (record books { payments = put b make books.payments }) low refl refl grows i; outs = (counts_of books).outs }
+  where
+    grows : GrowsBy b 3 1 books (record books { payments = put b make books.payments })
+    grows a kind.Customers = same_count (a == b) 1 _
+    grows a kind.Copies = same_count (a == b) 1 _
+    grows a kind.Rentals = same_count (a == b) 1 _
+    grows a kind.Payments = one_put b make books.payments a
+    grows a kind.Kept = same_count (a == b) 1 _
+
+-- a kept command
+pub kept_counted : (b : ℕ) (x : Kept) (books : Books) → 1 ≤ b → counts_of (record books { kept = books.kept ++ record { owner = b; it = x } ∷ [] }) ≡ raise b 4 1 (counts_of books)
+kept_counted b x books low = λ i. record { counters = counters_grown b 4 1 books (record books { kept = books.kept ++ record { owner = b; it = x } ∷ [] }) low refl refl grows i; outs = (counts_of books).outs }
+  where
+    grows : GrowsBy b 4 1 books (record books { kept = books.kept ++ record { owner = b; it = x } ∷ [] })
+    grows a kind.Customers = same_count (a == b) 1 _
+    grows a kind.Copies = same_count (a == b) 1 _
+    grows a kind.Rentals = same_count (a == b) 1 _
+    grows a kind.Payments = same_count (a == b) 1 _
+    grows a kind.Kept = one_kept b x books.kept a
+
+-- a rental, which is open
+pub rental_counted : (b : ℕ) (x : Rental) (books : Books) → 1 ≤ b → x.returned ≡ None
+    → counts_of (record books { rentals = put b (λ _. x) books.rentals }) ≡ put_out (record { branch = b; copy = x.copy; rental = next b books.rentals }) (raise b 2 1 (counts_of books))
+rental_counted b x books low not_back = λ i. record { counters = counters_grown b 2 1 books (record books { rentals = put b (λ _. x) books.rentals }) low refl refl grows i; outs = outs_more i }
+  where
+    grows : GrowsBy b 2 1 books (record books { rentals = put b (λ _. x) books.rentals })
+    grows a kind.Customers = same_count (a == b) 1 _
+    grows a kind.Copies = same_count (a == b) 1 _
+    grows a kind.Rentals = one_put b (λ _. x) books.rentals a
+    grows a kind.Payments = same_count (a == b) 1 _
+    grows a kind.Kept = same_count (a == b) 1 _
+
+    outs_more : map out_of (filter is_open (put b (λ _. x) books.rentals)) ≡ map out_of (filter is_open books.rentals) ++ record { branch = b; copy = x.copy; rental = next b books.rentals } ∷ []
+    outs_more = more_yes out_of is_open books.rentals (record { branch = b; number = next b books.rentals; it = x }) (ap is_none not_back)
+
+-- ---- many rows put last
+
+of_all : {A : Type 0} (b : ℕ) (more : List (Row A)) (a : ℕ) → AllByRecursion (λ (row : Row A). row.branch ≡ b) more → (t : Bool) → (a == b) ≡ t → length (filter (is_of a) more) ≡ cond (t && true) (length more) 0
+of_all b [] a all true e = refl
+of_all b [] a all false e = refl
+of_all b (row ∷ more) a all true e =
+    let yes : (row.branch == a) ≡ true = subst (λ n. (n == a) ≡ true) (sym all.0) (turned a b true e) in
+    ap (λ u. length (cond u (row ∷ filter (is_of a) more) (filter (is_of a) more))) yes ∙ ap suc (of_all b more a all.1 true e)
+of_all b (row ∷ more) a all false e =
+    let no : (row.branch == a) ≡ false = subst (λ n. (n == a) ≡ false) (sym all.0) (turned a b false e) in
+    ap (λ u. length (cond u (row ∷ filter (is_of a) more) (filter (is_of a) more))) no ∙ of_all b more a all.1 false e
+
+pub many_put : {A : Type 0} (b : ℕ) (rows more : List (Row A)) (a : ℕ) → AllByRecursion (λ (row : Row A). row.branch ≡ b) more
+    → length (of a (rows ++ more)) ≡ cond (a == b && true) (length (of a rows) + length more) (length (of a rows))
+many_put {A} b rows more a all = go (a == b) (of_all b more a all (a == b) refl)
+  where
+    split : length (of a (rows ++ more)) ≡ length (of a rows) + length (filter (is_of a) more)
+    split =
+        let whole = length_map (λ (row : Row A). row.it) (filter (is_of a) (rows ++ more)) in
+        let first = length_map (λ (row : Row A). row.it) (filter (is_of a) rows) in
+        let both = ap length (filter-append (is_of a) rows more) ∙ length-append (filter (is_of a) rows) (filter (is_of a) more) in
+        omega (arith, whole, first, both)
+
+    go : (t : Bool) → length (filter (is_of a) more) ≡ cond (t && true) (length more) 0 → length (of a (rows ++ more)) ≡ cond (t && true) (length (of a rows) + length more) (length (of a rows))
+    go true e = omega (arith, split, e)
+    go false e = omega (arith, split, e)
+
+-- copies that are imported
+pub copies_counted : (b : ℕ) (more : List (Row BookCopy)) (lots : List (Owned Text)) (books : Books) → 1 ≤ b → AllByRecursion (λ (row : Row BookCopy). row.branch ≡ b) more
+    → counts_of (record books { copies = books.copies ++ more; lots = lots }) ≡ raise b 1 (length more) (counts_of books)
+copies_counted b more lots books low all =
+    λ i. record { counters = counters_grown b 1 (length more) books (record books { copies = books.copies ++ more; lots = lots }) low refl refl grows i; outs = (counts_of books).outs }
+  where
+    grows : GrowsBy b 1 (length more) books (record books { copies = books.copies ++ more; lots = lots })
+    grows a kind.Customers = same_count (a == b) (length more) _
+    grows a kind.Copies = many_put b books.copies more a all
+    grows a kind.Rentals = same_count (a == b) (length more) _
+    grows a kind.Payments = same_count (a == b) (length more) _
+    grows a kind.Kept = same_count (a == b) (length more) _
+
+-- one row, whatever its number is
+pub customer_row_counted : (b : ℕ) (row : Row Customer) (books : Books) → 1 ≤ b → row.branch ≡ b → counts_of (record books { customers = books.customers ++ row ∷ [] }) ≡ raise b 0 1 (counts_of books)
+customer_row_counted b row books low own = λ i. record { counters = counters_grown b 0 1 books (record books { customers = books.customers ++ row ∷ [] }) low refl refl grows i; outs = (counts_of books).outs }
+  where
+    grows : GrowsBy b 0 1 books (record books { customers = books.customers ++ row ∷ [] })
+    grows a kind.Customers = many_put b books.customers (row ∷ []) a (own, tt)
+    grows a kind.Copies = same_count (a == b) 1 _
+    grows a kind.Rentals = same_count (a == b) 1 _
+    grows a kind.Payments = same_count (a == b) 1 _
+    grows a kind.Kept = same_count (a == b) 1 _
+
+pub payment_row_counted : (b : ℕ) (row : Row Payment) (books : Books) → 1 ≤ b → row.branch ≡ b → counts_of (record books { payments = books.payments ++ row ∷ [] }) ≡ raise b 3 1 (counts_of books)
+payment_row_counted b row books low own = λ i. record { counters = counters_grown b 3 1 books (record books { payments = books.payments ++ row ∷ [] }) low refl refl grows i; outs = (counts_of books).outs }
+  where
+    grows : GrowsBy b 3 1 books (record books { payments = books.payments ++ row ∷ [] })
+    grows a kind.Customers = same_count (a == b) 1 _
+    grows a kind.Copies = same_count (a == b) 1 _
+    grows a kind.Rentals = same_count (a == b) 1 _
+    grows a kind.Payments = many_put b books.payments (row ∷ []) a (own, tt)
+    grows a kind.Kept = same_count (a == b) 1 _
+
+pub rental_row_counted : (b : ℕ) (row : Row Rental) (books : Books) → 1 ≤ b → row.branch ≡ b → row.it.returned ≡ None
+    → counts_of (record books { rentals = books.rentals ++ row ∷ [] }) ≡ put_out (record { branch = b; copy = row.it.copy; rental = row.number }) (raise b 2 1 (counts_of books))
+rental_row_counted b row books low own not_back = λ i. record { counters = counters_grown b 2 1 books (record books { rentals = books.rentals ++ row ∷ [] }) low refl refl grows i; outs = outs_more i }
+  where
+    grows : GrowsBy b 2 1 books (record books { rentals = books.rentals ++ row ∷ [] })
+    grows a kind.Customers = same_count (a == b) 1 _
+    grows a kind.Copies = same_count (a == b) 1 _
+    grows a kind.Rentals = many_put b books.rentals (row ∷ []) a (own, tt)
+    grows a kind.Payments = same_count (a == b) 1 _
+    grows a kind.Kept = same_count (a == b) 1 _
+
+    outs_more : map out_of (filter is_open (books.rentals ++ row ∷ [])) ≡ map out_of (filter is_open books.rentals) ++ record { branch = b; copy = row.it.copy; rental = row.number } ∷ []
+    outs_more = more_yes out_of is_open books.rentals row (ap is_none not_back) ∙ ap (λ (n : ℕ). map out_of (filter is_open books.rentals) ++ record { branch = n; copy = row.it.copy; rental = row.number } ∷ []) own
+
+-- ---- rows that are set
+
+pub set_keeps : {A : Type 0} (b n : ℕ) (f : A → A) (rows : List (Row A)) (a : ℕ) → length (of a (set_row b n f rows)) ≡ length (of a rows)
+set_keeps {A} b n f [] a = refl
+set_keeps {A} b n f (row ∷ rows) a = go (is_row b n row) (set_keeps b n f rows a)
+  where
+    step : (u : Bool) (x y : A) → length (of a (set_row b n f rows)) ≡ length (of a rows)
+        → length (map (λ (r : Row A). r.it) (cond u (record row { it = x } ∷ filter (is_of a) (set_row b n f rows)) (filter (is_of a) (set_row b n f rows))))
+        ≡ length (map (λ (r : Row A). r.it) (cond u (record row { it = y } ∷ filter (is_of a) rows) (filter (is_of a) rows)))
+    step true x y more = ap suc more
+    step false x y more = more
+
+    go : (t : Bool) → length (of a (set_row b n f rows)) ≡ length (of a rows)
+        → length (of a (cond t (record row { it = f row.it }) row ∷ set_row b n f rows)) ≡ length (of a (row ∷ rows))
+    go true more = step (row.branch == a) (f row.it) row.it more
+    go false more = step (row.branch == a) row.it row.it more
+
+module _ (old new : Books) (branches : new.catalogue.branches ≡ old.catalogue.branches) (office : new.catalogue.kept ≡ old.catalogue.kept)
+    (same : (a : ℕ) (kind : CountKind) → count_in (kind_number kind) a new ≡ count_in (kind_number kind) a old) where
+  still : (a : ℕ) (kind : CountKind) → count_of new a (kind_number kind) ≡ count_of old a (kind_number kind)
+  still a kind = ap (λ n. record { caller = a; kind = kind_number kind; last = n }) (same a kind)
+
+  all_still : (its : List (ℕ × Branch)) → flat_map (branch_counts new) its ≡ flat_map (branch_counts old) its
+  all_still [] = refl
+  all_still (it ∷ its) = λ i. still it.0 kind.Customers i ∷ still it.0 kind.Copies i ∷ still it.0 kind.Rentals i ∷ still it.0 kind.Payments i ∷ still it.0 kind.Kept i ∷ all_still its i
+
+  pub counters_still : (counts_of new).counters ≡ (counts_of old).counters
+  counters_still =
+      λ i. record { caller = 0; kind = 4; last = length (office i) } ∷ (ap (λ (bs : List Branch). flat_map (branch_counts new) (numbered bs)) branches ∙ all_still (numbered old.catalogue.branches)) i
+
+-- a customer who is set
+pub active_counted : (b n : ℕ) (f : Customer → Customer) (books : Books) → counts_of (record books { customers = set_row b n f books.customers }) ≡ counts_of books
+active_counted b n f books = λ i. record { counters = counters_still books (record books { customers = set_row b n f books.customers }) refl refl same i; outs = (counts_of books).outs }
+  where
+    same : (a : ℕ) (kind : CountKind) → count_in (kind_number kind) a (record books { customers = set_row b n f books.customers }) ≡ count_in (kind_number kind) a books
+    same a kind.Customers = set_keeps b n f books.customers a
+    same a kind.Copies = refl
+    same a kind.Rentals = refl
+    same a kind.Payments = refl
+    same a kind.Kept = refl
+
+-- a copy that is set
+pub state_counted : (b n : ℕ) (f : BookCopy → BookCopy) (books : Books) → counts_of (record books { copies = set_row b n f books.copies }) ≡ counts_of books
+state_counted b n f books = λ i. record { counters = counters_still books (record books { copies = set_row b n f books.copies }) refl refl same i; outs = (counts_of books).outs }
+  where
+    same : (a : ℕ) (kind : CountKind) → count_in (kind_number kind) a (record books { copies = set_row b n f books.copies }) ≡ count_in (kind_number kind) a books
+    same a kind.Customers = refl
+    same a kind.Copies = set_keeps b n f books.copies a
+    same a kind.Rentals = refl
+    same a kind.Payments = refl
+    same a kind.Kept = refl
+
+-- ---- a copy that comes back
+
+-- of the open rentals, that of the number is the one of the copy: so it is where a number comes once
+abbrev pub IsItsRental : ℕ → ℕ → ℕ → Row Rental → Type 0
+IsItsRental b n x row = is_open row ≡ true → is_out_by b x n (out_of row) ≡ is_row b n row
+
+abbrev back : Moment → Rental → Rental
+back m it = record it { returned = Some m }
+
+outs_left : (b n x : ℕ) (m : Moment) (rows : List (Row Rental)) → AllByRecursion (IsItsRental b n x) rows
+    → map out_of (filter is_open (set_row b n (back m) rows)) ≡ filter (λ o. not (is_out_by b x n o)) (map out_of (filter is_open rows))
+outs_left b n x m [] all = refl
+outs_left b n x m (row ∷ rows) all = go (is_row b n row) refl (is_open row) refl (outs_left b n x m rows all.1)
+  where
+    go : (t : Bool) → is_row b n row ≡ t → (u : Bool) → is_open row ≡ u → map out_of (filter is_open (set_row b n (back m) rows)) ≡ filter (λ o. not (is_out_by b x n o)) (map out_of (filter is_open rows))
+        → map out_of (filter is_open (cond t (record row { it = back m row.it }) row ∷ set_row b n (back m) rows))
+        ≡ filter (λ o. not (is_out_by b x n o)) (map out_of (cond u (row ∷ filter is_open rows) (filter is_open rows)))
+    go true p true q more =
+        more ∙ ap (λ v. cond (not v) (out_of row ∷ filter (λ o. not (is_out_by b x n o)) (map out_of (filter is_open rows))) (filter (λ o. not (is_out_by b x n o)) (map out_of (filter is_open rows)))) (sym (all.0 q ∙ p))
+    go true p false q more = more
+    go false p true q more =
+        ap (λ v. map out_of (cond v (row ∷ filter is_open (set_row b n (back m) rows)) (filter is_open (set_row b n (back m) rows)))) q ∙ ap (λ l. out_of row ∷ l) more
+        ∙ ap (λ v. cond (not v) (out_of row ∷ filter (λ o. not (is_out_by b x n o)) (map out_of (filter is_open rows))) (filter (λ o. not (is_out_by b x n o)) (map out_of (filter is_open rows)))) (sym (all.0 q ∙ p))
+    go false p false q more = ap (λ v. map out_of (cond v (row ∷ filter is_open (set_row b n (back m) rows)) (filter is_open (set_row b n (back m) rows)))) q ∙ more
+
+pub returned_counted : (b n x : ℕ) (m : Moment) (books : Books) → AllByRecursion (IsItsRental b n x) books.rentals
+    → counts_of (record books { rentals = set_row b n (back m) books.rentals }) ≡ drop_out b x n (counts_of books)
+returned_counted b n x m books all =
+    λ i. record { counters = counters_still books (record books { rentals = set_row b n (back m) books.rentals }) refl refl same i; outs = outs_left b n x m books.rentals all i }
+  where
+    same : (a : ℕ) (kind : CountKind) → count_in (kind_number kind) a (record books { rentals = set_row b n (back m) books.rentals }) ≡ count_in (kind_number kind) a books
+    same a kind.Customers = refl
+    same a kind.Copies = refl
+    same a kind.Rentals = set_keeps b n (back m) books.rentals a
+    same a kind.Payments = refl
+    same a kind.Kept = refl
+
+-- where the rental of the number is found with its copy, it is its rental
+abbrev HasCopy : ℕ → ℕ → ℕ → Row Rental → Type 0
+HasCopy b n x row = is_row b n row ≡ true → row.it.copy ≡ x
+
+have_copy : (b n x : ℕ) (rows : List (Row Rental)) → AllByRecursion (λ (m : ℕ). m ≡ x) (map (λ (row : Row Rental). row.it.copy) (filter (is_row b n) rows)) → AllByRecursion (HasCopy b n x) rows
+have_copy b n x [] all = tt
+have_copy b n x (row ∷ rows) all = go (is_row b n row) refl (λ more. have_copy b n x rows more) all
+  where
+    apart : false ≡ true → ⊥
+    apart e = cc
+
+    go : (t : Bool) → is_row b n row ≡ t → (AllByRecursion (λ (m : ℕ). m ≡ x) (map (λ (it : Row Rental). it.it.copy) (filter (is_row b n) rows)) → AllByRecursion (HasCopy b n x) rows)
+        → AllByRecursion (λ (m : ℕ). m ≡ x) (map (λ (it : Row Rental). it.it.copy) (cond t (row ∷ filter (is_row b n) rows) (filter (is_row b n) rows))) → AllByRecursion (HasCopy b n x) (row ∷ rows)
+    go true p more all = ((λ h. all.0), more all.1)
+    go false p more all = ((λ h. absurd (apart (sym p ∙ h))), more all)
+
+pub same_rental : (b n x : ℕ) (row : Row Rental) → HasCopy b n x row → is_out_by b x n (out_of row) ≡ is_row b n row
+same_rental b n x row has = go (row.branch == b) refl (row.number == n) refl
+  where
+    go : (s : Bool) → (row.branch == b) ≡ s → (t : Bool) → (row.number == n) ≡ t → (s && row.it.copy == x && t) ≡ (s && t)
+    go false p t q = refl
+    go true p false q = none (row.it.copy == x)
+      where
+        none : (u : Bool) → (true && u && false) ≡ false
+        none true = refl
+        none false = refl
+    go true p true q =
+        let both : is_row b n row ≡ true = λ i. p i && q i in
+        let its : row.it.copy ≡ x = has both in
+        let yes : (row.it.copy == x) ≡ true = grind (arith, its, nat_tests) in
+        ap (λ u. true && u && true) yes
+
+pub its_rentals : (b n x : ℕ) (rows : List (Row Rental)) → map (λ (row : Row Rental). row.it.copy) (filter (is_row b n) rows) ≡ x ∷ [] → AllByRecursion (IsItsRental b n x) rows
+its_rentals b n x rows is = all rows (have_copy b n x rows (subst (AllByRecursion (λ (m : ℕ). m ≡ x)) (sym is) (refl, tt)))
+  where
+    all : (rows : List (Row Rental)) → AllByRecursion (HasCopy b n x) rows → AllByRecursion (IsItsRental b n x) rows
+    all [] h = tt
+    all (row ∷ rows) h = ((λ is_out. same_rental b n x row h.0), all rows h.1)
+
+-- and it is out at most once
+fewer : (b n x : ℕ) (rows : List (Row Rental)) → AllByRecursion (HasCopy b n x) rows → length (filter (is_out_by b x n) (map out_of (filter is_open rows))) ≤ length (filter (is_row b n) rows)
+fewer b n x [] all = omega arith
+fewer b n x (row ∷ rows) all = go (is_open row) (is_row b n row) (same_rental b n x row all.0) (fewer b n x rows all.1)
+  where
+    go : (u t : Bool) → is_out_by b x n (out_of row) ≡ t → length (filter (is_out_by b x n) (map out_of (filter is_open rows))) ≤ length (filter (is_row b n) rows)
+        → length (filter (is_out_by b x n) (map out_of (cond u (row ∷ filter is_open rows) (filter is_open rows)))) ≤ length (cond t (row ∷ filter (is_row b n) rows) (filter (is_row b n) rows))
+    go true true e more = rw e (omega (arith, more))
+    go true false e more = rw e more
+    go false true e more = omega (arith, more)
+    go false false e more = more
+
+pub out_once : (b n x : ℕ) (books : Books) → map (λ (row : Row Rental). row.it.copy) (filter (is_row b n) books.rentals) ≡ x ∷ [] → length (filter (is_out_by b x n) (counts_of books).outs) ≤ 1
+out_once b n x books is =
+    let all = have_copy b n x books.rentals (subst (AllByRecursion (λ (m : ℕ). m ≡ x)) (sym is) (refl, tt)) in
+    let few = fewer b n x books.rentals all in
+    let one : length (filter (is_row b n) books.rentals) ≡ 1 = sym (length_map (λ (row : Row Rental). row.it.copy) (filter (is_row b n) books.rentals)) ∙ ap length is in
+    omega (arith, few, one)
+
+-- ---- counts of which one more kind is raised
+
+raised_test : (b k m : ℕ) (a j : ℕ) (c : Count) → is_count a j (cond (is_count b k c) (raised m c) c) ≡ is_count a j c
+raised_test b k m a j c = go (is_count b k c)
+  where
+    go : (t : Bool) → is_count a j (cond t (raised m c) c) ≡ is_count a j c
+    go true = refl
+    go false = refl
+
+pub raised_as_many : (b k m a j : ℕ) (cs : List Count) → length (filter (is_count a j) (map (λ c. cond (is_count b k c) (raised m c) c) cs)) ≡ length (filter (is_count a j) cs)
+raised_as_many b k m a j [] = refl
+raised_as_many b k m a j (c ∷ cs) = go (is_count a j (cond (is_count b k c) (raised m c) c)) (is_count a j c) (raised_test b k m a j c) (raised_as_many b k m a j cs)
+  where
+    go : (s t : Bool) → s ≡ t → length (filter (is_count a j) (map (λ c. cond (is_count b k c) (raised m c) c) cs)) ≡ length (filter (is_count a j) cs)
+        → length (cond s (cond (is_count b k c) (raised m c) c ∷ filter (is_count a j) (map (λ c. cond (is_count b k c) (raised m c) c) cs)) (filter (is_count a j) (map (λ c. cond (is_count b k c) (raised m c) c) cs)))
+        ≡ length (cond t (c ∷ filter (is_count a j) cs) (filter (is_count a j) cs))
+    go true true e more = ap suc more
+    go true false e more = cc
+    go false true e more = cc
+    go false false e more = more
+
+pub raised_small : (b k m : ℕ) → m ≤ 1_000_000 → (cs : List Count) → AllByRecursion (λ (c : Count). c.last ≤ 1_000_000) cs → AllByRecursion (λ (c : Count). c.last < 2 ^ 32) (map (λ c. cond (is_count b k c) (raised m c) c) cs)
+raised_small b k m low [] all = tt
+raised_small b k m low (c ∷ cs) all = (go (is_count b k c), raised_small b k m low cs all.1)
+  where
+    few : c.last ≤ 1_000_000
+    few = all.0
+
+    go : (t : Bool) → (cond t (raised m c) c).last < 2 ^ 32
+    go true = omega (arith, few, low)
+    go false = omega (arith, few)

@@ -1,0 +1,140 @@
+-- What the texts on counts and on copies that are out say of them.
+use Rattle.std.proofs.Common.{◌≡◌, ◌+◌, ◌<◌, ◌≤◌, ◌^◌, ◌&&◌, ℕ, List, [], ◌∷◌, map, filter, length, true, Some, None, Ok, Err, Result, refl, sym, ap, ◌∙◌, arith}
+use Rattle.std.specs.Prelude.{⊤, slice_get, IfOk}
+use Rattle.std.specs.List.{AllByRecursion}
+use Rattle.sqlite_value.specs.Order as sql
+use Rattle.sqlite_value.specs.Order.{column}
+use Rattle.sqlite.specs.State.{State, Shown, ExecutesInside}
+use Rattle.sqlite_keyed.proofs.ListLemmas.{all-filter, map-map}
+use Rattle.sql_rows.specs.Rows.{number_value}
+use Rattle.sql_rows.specs.Books.{Changes}
+use Rattle.sql_rows.proofs.ColumnTests.{number_test}
+use Rattle.sql_rows.proofs.Projects.{still_holds, writes_by}
+use Rattle.sql_rows.proofs.Queries.{unmapped}
+use Rattle.sql_rows.proofs.Tells.{sets_and_tells}
+use Rattle.shop_model.specs.Rows.{Row, is_of, of}
+use Rattle.shop_model.specs.Values.{Rental}
+use Rattle.shop_model.specs.Books.{Books}
+use Rattle.shop_schema.specs.Tables.{shop_schema, counter_table}
+use Rattle.shop_schema.specs.Columns.{counter_columns}
+use Rattle.shop_schema.specs.Counts.{Count, Out, Counts, is_count, is_open, is_out, raise, raised, drop_out, count_in, counts_of}
+use Rattle.shop_schema.specs.Held.{IsHeld}
+use Rattle.shop_schema.specs.Shop.{StandsFor, IsShop, Holds, Reads, Tallies}
+use Rattle.shop_schema.proofs.Stands.{stands_but}
+use Rattle.shop_ledger.specs.declared.counts.CountKind.{CountKind}
+use Rattle.shop_ledger.specs.Counted.{kind_number, CountsOnce, IsOutBy}
+use Rattle.shop_ledger.proofs.BranchRows.{of_two}
+use Rattle.shop_ledger.proofs.CountsOf.{told_count}
+use Rattle.shop_ledger.proofs.Outs.{open_of, outs_numbered, picks_out, opens_of, outs_rise, outs_are}
+use Rattle.shop_ledger.proofs.Rising.{rise_differ, rise_sorted}
+use Rattle.shop_ledger.proofs.CountTexts.{Beside, select_count, select_count_means, shows_counts, count_test, plus, plus_is, raise_text, raise_terms, raise_told, raise_means, count_more, count_more_is, more_kept, delete_out, drops_out, select_out, select_out_means, shows_out, select_outs, select_outs_means, shows_outs}
+
+-- a change of the two tables, beside any books
+tallies_by : (old new : State) (Given : Counts → Type 0) (change : Counts → Counts) → ((books : Books) → IsShop old → Changes shop_schema (Beside books) old new Given change) → Tallies old new Given change (λ _. ⊤)
+tallies_by old new Given change changes counts books holds given =
+    let done = writes_by shop_schema (Beside books) old new Given change (changes books) counts (record { schema_is = holds.schema_is; keyed = holds.keyed; stands = holds.stands }) given in
+    (record { schema_is = done.schema_is; keyed = done.keyed; stands = done.stands }, tt)
+
+pub tallies_drop_out : (old new : State) (b x n : ℕ) (count : ℕ) → ExecutesInside 0 delete_out (number_value b ∷ number_value x ∷ number_value n ∷ []) old new (Ok count) → Tallies old new (IsOutBy b x n) (drop_out b x n) (λ _. ⊤)
+tallies_drop_out old new b x n count h = tallies_by old new _ _ (λ books shop. drops_out books old new b x n count shop h)
+
+same_number : (m n : ℕ) → number_value m ≡ number_value n → m ≡ n
+same_number m n h = cc
+
+-- ---- the copy that is out
+
+pub read_out : (old new : State) (b x : ℕ) (rows : List sql.Row) → Shown select_out (number_value b ∷ number_value x ∷ []) old new rows
+    → (slice_get rows 0 ≡ None → Reads old new (λ books. [] ≡ open_of x (of b books.rentals)))
+    × ((row : sql.Row) (n : ℕ) → slice_get rows 0 ≡ Some row → column row 0 ≡ number_value n → Reads old new (λ books. n ∷ [] ≡ open_of x (of b books.rentals)))
+read_out old new b x rows h = (
+  λ none books holds held. (still books holds, sym (no_out (outs books) (sym (ap (λ rs. slice_get rs 0) (shown books holds held)) ∙ none)) ∙ outs_numbered b x books held),
+  λ row n some is books holds held. (
+    still books holds,
+    sym (one_out (outs books) (picks_out b x books held) row n (sym (ap (λ rs. slice_get rs 0) (shown books holds held)) ∙ some) is) ∙ outs_numbered b x books held,
+  ),
+)
+  where
+    outs : Books → List Out
+    outs books = filter (is_out b x) (counts_of books).outs
+
+    still : (books : Books) → Holds old books → Holds new books
+    still = still_holds shop_schema StandsFor select_out (number_value b ∷ number_value x ∷ []) old new select_out_means.plain rows h
+
+    shown : (books : Books) → Holds old books → IsHeld books → rows ≡ map (λ (o : Out). number_value o.rental ∷ []) (outs books)
+    shown books holds held = shows_out (counts_of books) old new b x rows books holds.schema_is h holds.stands (picks_out b x books held)
+
+    no_out : (found : List Out) → slice_get (map (λ (o : Out). number_value o.rental ∷ []) found) 0 ≡ None → map (λ (it : Out). it.rental) found ≡ []
+    no_out [] e = refl
+    no_out (o ∷ more) e = cc
+
+    one_out : (found : List Out) → length found ≤ 1 → (row : sql.Row) (n : ℕ) → slice_get (map (λ (o : Out). number_value o.rental ∷ []) found) 0 ≡ Some row → column row 0 ≡ number_value n
+        → map (λ (it : Out). it.rental) found ≡ n ∷ []
+    one_out [] few row n e is = cc
+    one_out (o ∷ []) few row n e is =
+        let same : number_value o.rental ∷ [] ≡ row = cc in
+        ap (λ m. m ∷ []) (same_number _ _ (ap (λ r. column r 0) same ∙ is))
+    one_out (o ∷ p ∷ more) few row n e is = absurd (omega (arith, few))
+
+-- ---- all copies that are out
+
+unmapped_numbers : (ms ns : List ℕ) → map number_value ms ≡ map number_value ns → ms ≡ ns
+unmapped_numbers = unmapped number_value same_number
+
+pub read_outs : (old new : State) (b : ℕ) (rows seen : List sql.Row) (numbers : List ℕ) → Shown select_outs (number_value b ∷ []) old new rows → seen ≡ rows
+    → map number_value numbers ≡ map (λ row. column row 0) seen → Reads old new (λ books. numbers ≡ opens_of (of b books.rentals))
+read_outs old new b rows seen numbers h same read books holds held =
+    let number : Row Rental → ℕ = λ row. row.number in
+    let outs : List (Row Rental) = filter (is_of b) (filter is_open books.rentals) in
+    let rise = outs_rise b books held in
+    let found = shows_outs old new b rows books holds.schema_is h holds.stands (rise_differ outs rise) in
+    let shown : rows ≡ map (λ row. number_value (number row) ∷ []) outs = found ∙ ap (map (λ row. number_value (number row) ∷ [])) (rise_sorted outs rise) in
+    let firsts : map number_value numbers ≡ map number_value (map number outs) =
+    read ∙ ap (map (λ row. column row 0)) (same ∙ shown) ∙ map-map (λ row. column row 0) (λ row. number_value (number row) ∷ []) outs ∙ sym (map-map number_value number outs) in (
+      still_holds shop_schema StandsFor select_outs (number_value b ∷ []) old new select_outs_means.plain rows h books holds,
+      unmapped_numbers _ _ firsts ∙ outs_are b books held,
+    )
+
+-- ---- numbers that are taken
+
+pub tallies_taken : (old new : State) (b : ℕ) (kind : CountKind) (m : ℕ) → m < 2 ^ 32 → (rows : List sql.Row) → Shown raise_text (number_value b ∷ number_value (kind_number kind) ∷ number_value m ∷ []) old new rows
+    → (row : sql.Row) (n : ℕ) → slice_get rows 0 ≡ Some row → column row 0 ≡ number_value n
+    → Tallies old new (CountsOnce b kind) (raise b (kind_number kind) m) (λ counts. map (λ (it : Count). it.last + m) (filter (is_count b (kind_number kind)) counts.counters) ≡ n ∷ [])
+tallies_taken old new b kind m few rows h row n some is counts books holds given =
+    let k = kind_number kind in
+    let it = sets_and_tells shop_schema raise_text 18 counter_table 3 of_two raise_terms raise_told (number_value b ∷ number_value k ∷ number_value m ∷ []) counter_columns
+    (λ vs. number_test 0 b vs && (number_test 1 k vs && true)) (is_count b k) (count_more m) (raised m) (λ vs. plus m (column vs 2) ∷ []) (λ c. c.last < 2 ^ 32)
+    (count_test b k) (count_more_is m few) (more_kept m few) old new holds.schema_is
+    raise_means refl refl rows h refl (λ r. refl) (λ r. refl) (λ r. refl) (λ r. refl) (λ v vs. refl) (λ r. refl) in
+    let done = it.rows holds.keyed counts.counters holds.stands.counters given.small given.once in
+    let found = filter (is_count b k) counts.counters in (
+      record { schema_is = it.schema_is; keyed = it.keyed holds.keyed; stands = stands_but 18 counter_table refl refl counts _ books books _ refl _ _ it.others holds.stands done.0 },
+      told found (all-filter (λ (c : Count). c.last < 2 ^ 32) (is_count b k) counts.counters given.small) given.once (sym (ap (λ rs. slice_get rs 0) done.1) ∙ some),
+    )
+  where
+    told : (found : List Count) → AllByRecursion (λ c. c.last < 2 ^ 32) found → length found ≤ 1 → slice_get (map (λ (c : Count). plus m (number_value c.last) ∷ []) found) 0 ≡ Some row
+        → map (λ (it : Count). it.last + m) found ≡ n ∷ []
+    told [] all few_found e = cc
+    told (c ∷ []) all few_found e =
+        let same : plus m (number_value c.last) ∷ [] ≡ row = cc in
+        ap (λ k. k ∷ []) (same_number _ _ (sym (plus_is c.last m all.0 few) ∙ ap (λ r. column r 0) same ∙ is))
+    told (c ∷ d ∷ more) all few_found e = absurd (omega (arith, few_found))
+
+-- a count that is raised, of which nothing is told
+pub tallies_raised : (old new : State) (b : ℕ) (kind : CountKind) (m n : ℕ)
+    → Tallies old new (CountsOnce b kind) (raise b (kind_number kind) m) (λ counts. map (λ (it : Count). it.last + m) (filter (is_count b (kind_number kind)) counts.counters) ≡ n ∷ [])
+    → Tallies old new (CountsOnce b kind) (raise b (kind_number kind) m) (λ _. ⊤)
+tallies_raised old new b kind m n taken counts books holds given = ((taken counts books holds given).0, tt)
+
+-- ---- how many rows there are
+
+pub read_count : (old new : State) (b k : ℕ) (rows : List sql.Row) → Shown select_count (number_value b ∷ number_value k ∷ []) old new rows → 1 ≤ b
+    → (row : sql.Row) (n : ℕ) → slice_get rows 0 ≡ Some row → column row 0 ≡ number_value n → Reads old new (λ books. n ≡ count_in k b books)
+read_count old new b k rows h low row n some is books holds held = (
+  still_holds shop_schema StandsFor select_count (number_value b ∷ number_value k ∷ []) old new select_count_means.plain rows h books holds,
+  told_count b k books rows row n low (shows_counts (counts_of books) old new b k rows books holds.schema_is h holds.stands) some is,
+)
+
+-- what a reader of a column answers
+pub ok_then : {A E : Type 0} (r : Result A E) (P Q : A → Type 0) → ((x : A) → P x → Q x) → IfOk r P → IfOk r Q
+ok_then (Ok x) P Q f p = f x p
+ok_then (Err e) P Q f p = tt

@@ -1,0 +1,167 @@
+-- The counts of the books themselves: which row has which, and what a new row makes of them.
+use Rattle.std.proofs.Common.{◌≡◌, ◌+◌, ◌<◌, ◌≤◌, ◌^◌, ◌==◌, ◌&&◌, ℕ, suc, List, [], ◌∷◌, ◌++◌, map, filter, length, true, false, Bool, cond, Some, refl, sym, ap, subst, ◌∙◌, arith, IsPermutation}
+use Rattle.std.specs.Prelude.{slice_get, flat_map}
+use Rattle.std.specs.List.{AllByRecursion}
+use Rattle.std.proofs.lemmas.Bool.Decides.{nat_tests}
+use Rattle.sqlite_value.specs.Order as sql
+use Rattle.sqlite_value.specs.Order.{column}
+use Rattle.sqlite_keyed.proofs.ListLemmas.{all-slice_get}
+use Rattle.sql_rows.specs.Rows.{PicksOne, number_value}
+use Rattle.sql_rows.proofs.Bags.{all_along}
+use Rattle.shop_model.specs.Rows.{of, numbered}
+use Rattle.shop_model.specs.Values.{Branch}
+use Rattle.shop_model.specs.Books.{Books, unmarked}
+use Rattle.shop_model.proofs.RowLemmas.{same_if, length_map}
+use Rattle.shop_schema.specs.Held.{IsHeld}
+use Rattle.shop_schema.specs.Counts.{Count, Counts, is_count, count_in, branch_counts, office_count, counts_of}
+use Rattle.sqlite.specs.State.{State}
+use Rattle.shop_schema.specs.Shop.{StandsWith, Holds, HoldsWith}
+use Rattle.shop_schema.proofs.Lasts.{numbered_once}
+use Rattle.shop_ledger.specs.declared.counts.CountKind.{CountKind}
+use Rattle.shop_ledger.specs.declared.counts.CountKind.TheVariants as kind
+use Rattle.shop_ledger.specs.Counted.{kind_number, CountsOnce}
+
+same_number : (m n : ℕ) → number_value m ≡ number_value n → m ≡ n
+same_number m n h = cc
+
+not_office : (b : ℕ) → 1 ≤ b → (0 == b) ≡ false
+not_office b low = grind (arith, nat_tests)
+
+-- ---- each count of a branch's rows of the kind is the books'
+
+abbrev IsRight : ℕ → ℕ → Books → Count → Type 0
+IsRight b k books c = is_count b k c ≡ true → c.last ≡ count_in k b books
+
+one_right : (b k a j : ℕ) (books : Books) → (a == b && j == k) ≡ true → count_in j a books ≡ count_in k b books
+one_right b k a j books h = go (a == b) refl (j == k) refl h
+  where
+    go : (s : Bool) → (a == b) ≡ s → (t : Bool) → (j == k) ≡ t → (s && t) ≡ true → count_in j a books ≡ count_in k b books
+    go true p true q e = λ i. count_in (same_if j k q i) (same_if a b p i) books
+    go true p false q e = cc
+    go false p t q e = cc
+
+branches_right : (b k : ℕ) (books : Books) (its : List (ℕ × Branch)) → AllByRecursion (IsRight b k books) (flat_map (branch_counts books) its)
+branches_right b k books [] = tt
+branches_right b k books (it ∷ its) = (
+  one_right b k it.0 0 books,
+  (one_right b k it.0 1 books, (one_right b k it.0 2 books, (one_right b k it.0 3 books, (one_right b k it.0 4 books, branches_right b k books its)))),
+)
+
+office_apart : (b k : ℕ) → 1 ≤ b → (0 == b && 4 == k) ≡ true → ⊥
+office_apart b k low h = go (0 == b) (not_office b low) h
+  where
+    go : (s : Bool) → s ≡ false → (s && 4 == k) ≡ true → ⊥
+    go true p e = cc
+    go false p e = cc
+
+counts_right : (b k : ℕ) (books : Books) → 1 ≤ b → AllByRecursion (IsRight b k books) (counts_of books).counters
+counts_right b k books low = (λ h. absurd (office_apart b k low h), branches_right b k books (numbered books.catalogue.branches))
+
+abbrev last_value : Count → sql.Row
+last_value c = number_value c.last ∷ []
+
+picked_right : (b k : ℕ) (books : Books) (cs : List Count) → AllByRecursion (IsRight b k books) cs → AllByRecursion (λ vs. vs ≡ number_value (count_in k b books) ∷ []) (map last_value (filter (is_count b k) cs))
+picked_right b k books [] all = tt
+picked_right b k books (c ∷ cs) all = go (is_count b k c) refl (picked_right b k books cs all.1)
+  where
+    go : (t : Bool) → is_count b k c ≡ t → AllByRecursion (λ vs. vs ≡ number_value (count_in k b books) ∷ []) (map last_value (filter (is_count b k) cs))
+        → AllByRecursion (λ vs. vs ≡ number_value (count_in k b books) ∷ []) (map last_value (cond t (c ∷ filter (is_count b k) cs) (filter (is_count b k) cs)))
+    go true e more = (ap (λ n. number_value n ∷ []) (all.0 e), more)
+    go false e more = more
+
+-- the first row tells it
+pub told_count : (b k : ℕ) (books : Books) (rows : List sql.Row) (row : sql.Row) (n : ℕ) → 1 ≤ b → IsPermutation (map last_value (filter (is_count b k) (counts_of books).counters)) rows
+    → slice_get rows 0 ≡ Some row → column row 0 ≡ number_value n → n ≡ count_in k b books
+told_count b k books rows row n low same some is =
+    let P : sql.Row → Type 0 = λ vs. vs ≡ number_value (count_in k b books) ∷ [] in
+    let all = all_along P _ rows same (picked_right b k books (counts_of books).counters (counts_right b k books low)) in
+    let one : row ≡ number_value (count_in k b books) ∷ [] = all-slice_get P rows 0 row some all in
+    same_number _ _ (sym is ∙ ap (λ r. column r 0) one)
+
+picked_more : (b k m : ℕ) (books : Books) (cs : List Count) → AllByRecursion (IsRight b k books) cs → AllByRecursion (λ n. n ≡ count_in k b books + m) (map (λ (c : Count). c.last + m) (filter (is_count b k) cs))
+picked_more b k m books [] all = tt
+picked_more b k m books (c ∷ cs) all = go (is_count b k c) refl (picked_more b k m books cs all.1)
+  where
+    go : (t : Bool) → is_count b k c ≡ t → AllByRecursion (λ n. n ≡ count_in k b books + m) (map (λ (c : Count). c.last + m) (filter (is_count b k) cs))
+        → AllByRecursion (λ n. n ≡ count_in k b books + m) (map (λ (c : Count). c.last + m) (cond t (c ∷ filter (is_count b k) cs) (filter (is_count b k) cs)))
+    go true e more = (ap (λ n. n + m) (all.0 e), more)
+    go false e more = more
+
+-- what so many more of the count are
+pub told_more : (b k m : ℕ) (books : Books) (n : ℕ) → 1 ≤ b → map (λ (c : Count). c.last + m) (filter (is_count b k) (counts_of books).counters) ≡ n ∷ [] → n ≡ count_in k b books + m
+told_more b k m books n low is =
+    let all : AllByRecursion (λ p. p ≡ count_in k b books + m) (n ∷ []) = subst (AllByRecursion (λ p. p ≡ count_in k b books + m)) is (picked_more b k m books (counts_of books).counters (counts_right b k books low)) in
+    all.0
+
+-- ---- there is one of each kind
+
+per_branch : (kind : CountKind) (b : ℕ) (books : Books) (it : ℕ × Branch) (rest : List Count) (t : Bool) → (it.0 == b) ≡ t
+    → length (filter (is_count b (kind_number kind)) (branch_counts books it ++ rest)) ≡ cond t (suc (length (filter (is_count b (kind_number kind)) rest))) (length (filter (is_count b (kind_number kind)) rest))
+per_branch kind.Customers b books it rest true e = rw e refl
+per_branch kind.Customers b books it rest false e = rw e refl
+per_branch kind.Copies b books it rest true e = rw e refl
+per_branch kind.Copies b books it rest false e = rw e refl
+per_branch kind.Rentals b books it rest true e = rw e refl
+per_branch kind.Rentals b books it rest false e = rw e refl
+per_branch kind.Payments b books it rest true e = rw e refl
+per_branch kind.Payments b books it rest false e = rw e refl
+per_branch kind.Kept b books it rest true e = rw e refl
+per_branch kind.Kept b books it rest false e = rw e refl
+
+as_many : (kind : CountKind) (b : ℕ) (books : Books) (its : List (ℕ × Branch)) → length (filter (is_count b (kind_number kind)) (flat_map (branch_counts books) its)) ≡ length (filter (λ (it : ℕ × Branch). it.0 == b) its)
+as_many kind b books [] = refl
+as_many kind b books (it ∷ its) = go (it.0 == b) (per_branch kind b books it (flat_map (branch_counts books) its) (it.0 == b) refl) (as_many kind b books its)
+  where
+    go : (t : Bool) → length (filter (is_count b (kind_number kind)) (branch_counts books it ++ flat_map (branch_counts books) its)) ≡ cond t (suc (length (filter (is_count b (kind_number kind)) (flat_map (branch_counts books) its)))) (length (filter (is_count b (kind_number kind)) (flat_map (branch_counts books) its)))
+        → length (filter (is_count b (kind_number kind)) (flat_map (branch_counts books) its)) ≡ length (filter (λ (it : ℕ × Branch). it.0 == b) its)
+        → length (filter (is_count b (kind_number kind)) (branch_counts books it ++ flat_map (branch_counts books) its)) ≡ length (cond t (it ∷ filter (λ (it : ℕ × Branch). it.0 == b) its) (filter (λ (it : ℕ × Branch). it.0 == b) its))
+    go true e more = e ∙ ap suc more
+    go false e more = e ∙ more
+
+without_office : (b k : ℕ) (books : Books) (rest : List Count) → 1 ≤ b → filter (is_count b k) (office_count books ∷ rest) ≡ filter (is_count b k) rest
+without_office b k books rest low = ap (λ s. cond (s && 4 == k) (office_count books ∷ filter (is_count b k) rest) (filter (is_count b k) rest)) (not_office b low)
+
+once_counted : (kind : CountKind) (b : ℕ) (books : Books) → 1 ≤ b → PicksOne (is_count b (kind_number kind)) (counts_of books).counters
+once_counted kind b books low =
+    let k = kind_number kind in
+    let its = numbered books.catalogue.branches in
+    subst (λ (n : ℕ). n ≤ 1) (sym (ap length (without_office b k books (flat_map (branch_counts books) its) low) ∙ as_many kind b books its)) (numbered_once 1 books.catalogue.branches b)
+
+-- ---- and none is great
+
+module _ (books : Books) (held : IsHeld books) where
+  copies_small : (b : ℕ) → length (of b books.copies) ≤ 1_000_000
+  copies_small b = subst (λ n. n ≤ 1_000_000) (length_map unmarked (of b books.copies)) (held.most_copies b)
+
+  small : (n : ℕ) → n ≤ 1_000_000 → n < 2 ^ 32
+  small n h = omega (arith, h)
+
+  branches_small : (its : List (ℕ × Branch)) → AllByRecursion (λ (c : Count). c.last < 2 ^ 32) (flat_map (branch_counts books) its)
+  branches_small [] = tt
+  branches_small (it ∷ its) = (
+    small _ (held.most_customers it.0),
+    (small _ (copies_small it.0), (small _ (held.most_rentals it.0), (small _ (held.most_payments it.0), (small _ (held.most_kept it.0), branches_small its)))),
+  )
+
+  -- the books' own counts are such as one more is taken of
+  pub held_once : (kind : CountKind) (b : ℕ) → 1 ≤ b → CountsOnce b kind (counts_of books)
+  held_once kind b low = record { once = once_counted kind b books low; small = (small _ held.most_office_kept, branches_small (numbered books.catalogue.branches)) }
+
+  all_million : (its : List (ℕ × Branch)) → AllByRecursion (λ (c : Count). c.last ≤ 1_000_000) (flat_map (branch_counts books) its)
+  all_million [] = tt
+  all_million (it ∷ its) = (
+    held.most_customers it.0,
+    (copies_small it.0, (held.most_rentals it.0, (held.most_payments it.0, (held.most_kept it.0, all_million its)))),
+  )
+
+  -- none is above a million
+  pub held_million : AllByRecursion (λ (c : Count). c.last ≤ 1_000_000) (counts_of books).counters
+  held_million = (held.most_office_kept, all_million (numbered books.catalogue.branches))
+
+-- ---- between two commands the counts are the books' own
+
+pub beside : (s : State) (books : Books) → Holds s books → HoldsWith (counts_of books) s books
+beside s books h = record { schema_is = h.schema_is; keyed = h.keyed; stands = h.stands }
+
+pub agreed : (s : State) (books : Books) (counts : Counts) → counts_of books ≡ counts → HoldsWith counts s books → Holds s books
+agreed s books counts same h = record { schema_is = h.schema_is; keyed = h.keyed; stands = subst (λ c. StandsWith c s.now.trees books) (sym same) h.stands }

@@ -1,0 +1,15 @@
+pub mod Rising
+pub mod BranchRows
+pub mod PaymentTable
+pub mod Refused
+pub mod BranchTexts
+pub mod KeptTexts
+pub mod KeptLemmas
+pub mod OnPayments
+pub mod CountTexts
+pub mod CountsOf
+pub mod Outs
+pub mod CountLemmas
+pub mod Agreeing
+pub mod OfficeKeptTexts
+pub mod OfficeCounts

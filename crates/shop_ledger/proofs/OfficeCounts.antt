@@ -1,0 +1,228 @@
+-- What head office's commands make of the books' own counts, and its count of kept commands, whose caller is 0.
+use Rattle.std.proofs.Common.{◌≡◌, ◌+◌, ◌-◌, ◌<◌, ◌≤◌, ◌^◌, ◌==◌, ◌&&◌, ℕ, List, [], ◌∷◌, ◌++◌, map, filter, length, true, false, Bool, cond, not, Some, None, refl, sym, ap, subst, ◌∙◌, arith, true≢false, IsPermutation}
+use Rattle.std.specs.Prelude.{slice_get, flat_map}
+use Rattle.std.specs.List.{AllByRecursion, list_all}
+use Rattle.std.proofs.lemmas.Bool.{and_parts}
+use Rattle.std.proofs.lemmas.Bool.Decides.{nat_tests}
+use Rattle.sqlite.specs.State.{State, Shown}
+use Rattle.sqlite_value.specs.Order as sql
+use Rattle.sqlite_value.specs.Order.{column}
+use Rattle.sqlite_keyed.proofs.ListLemmas.{all-slice_get}
+use Rattle.sql_rows.specs.Rows.{number_value}
+use Rattle.sql_rows.proofs.Bags.{all_along}
+use Rattle.sql_rows.proofs.Projects.{still_holds}
+use Rattle.shop_model.specs.Rows.{Row, Owned, at, lacks, is_empty, set_at, numbered, numbered_from}
+use Rattle.shop_model.specs.Values.{Branch, Customer, Rental, Payment, OfficeAct, AddCountry, AddCity, AddLanguage, AddCategory, AddActor, AddFilm, PriceFilm, WithdrawFilm, AddCast, AddBranch, AddStaff, StaffLeaves, SetManager, OfficeCommand}
+use Rattle.shop_model.specs.Shop.{Kept, OfficeKept, Catalogue}
+use Rattle.shop_model.specs.Machine.{office_acted, office_text, office_done}
+use Rattle.shop_model.specs.Links.{has_row}
+use Rattle.shop_model.specs.Sound.{HasOwners}
+use Rattle.shop_model.specs.Books.{Books, BookCopy}
+use Rattle.shop_model.proofs.RowLemmas.{same_if, more_no, length_map}
+use Rattle.shop_schema.specs.Counts.{Count, Counts, is_count, branch_counts, office_count, counts_of, raise, raised, add_count, new_count, with_branch}
+use Rattle.shop_schema.specs.Held.{IsHeld}
+use Rattle.shop_schema.specs.Tables.{shop_schema}
+use Rattle.shop_schema.specs.Shop.{StandsFor, Holds, HoldsWith, Reads}
+use Rattle.shop_schema.proofs.Lists.{numbered_push, flat_map_push}
+use Rattle.shop_schema.proofs.Values.{all_push}
+use Rattle.shop_ledger.specs.declared.counts.CountKind.TheVariants as kind
+use Rattle.shop_ledger.specs.Counted.{CountsOnce, office_grown, office_counted}
+use Rattle.shop_ledger.proofs.CountTexts.{select_count, select_count_means, shows_counts}
+use Rattle.shop_ledger.proofs.CountsOf.{held_once, agreed}
+
+-- ---- no count of a branch is head office's
+
+abbrev IsBranchs : Count → Type 0
+IsBranchs c = 1 ≤ c.caller
+
+not_office : (b : ℕ) → 1 ≤ b → (b == 0) ≡ false
+not_office b low = grind (arith, nat_tests)
+
+callers : (books : Books) (k : ℕ) → 1 ≤ k → (branches : List Branch) → AllByRecursion IsBranchs (flat_map (branch_counts books) (numbered_from k branches))
+callers books k low [] = tt
+callers books k low (branch ∷ branches) = (low, (low, (low, (low, (low, callers books (k + 1) (omega arith) branches)))))
+
+apart : (k : ℕ) (c : Count) → IsBranchs c → is_count 0 k c ≡ false
+apart k c low = ap (λ t. t && c.kind == k) (not_office c.caller low)
+
+none_picked : (cs : List Count) → AllByRecursion IsBranchs cs → filter (is_count 0 4) cs ≡ []
+none_picked [] all = refl
+none_picked (c ∷ cs) all = ap (λ t. cond t (c ∷ filter (is_count 0 4) cs) (filter (is_count 0 4) cs)) (apart 4 c all.0) ∙ none_picked cs all.1
+
+none_raised : (cs : List Count) → AllByRecursion IsBranchs cs → map (λ c. cond (is_count 0 4 c) (raised 1 c) c) cs ≡ cs
+none_raised [] all = refl
+none_raised (c ∷ cs) all = λ i. cond (apart 4 c all.0 i) (raised 1 c) c ∷ none_raised cs all.1 i
+
+-- ---- the count that is head office's
+
+own_counts : (books : Books) → filter (is_count 0 4) (counts_of books).counters ≡ office_count books ∷ []
+own_counts books = ap (λ l. office_count books ∷ l) (none_picked (flat_map (branch_counts books) (numbered books.catalogue.branches)) (callers books 1 (omega arith) books.catalogue.branches))
+
+same_number : (m n : ℕ) → number_value m ≡ number_value n → m ≡ n
+same_number m n h = cc
+
+pub read_office_count : (old new : State) (rows : List sql.Row) → Shown select_count (number_value 0 ∷ number_value 4 ∷ []) old new rows
+    → (row : sql.Row) (n : ℕ) → slice_get rows 0 ≡ Some row → column row 0 ≡ number_value n → Reads old new (λ books. n ≡ length books.catalogue.kept)
+read_office_count old new rows h row n some is books holds held =
+    let P : sql.Row → Type 0 = λ vs. vs ≡ number_value (length books.catalogue.kept) ∷ [] in
+    let same = subst (λ (cs : List Count). IsPermutation (map (λ (c : Count). number_value c.last ∷ []) cs) rows) (own_counts books) (shows_counts (counts_of books) old new 0 4 rows books holds.schema_is h holds.stands) in
+    let all = all_along P _ rows same (refl, tt) in
+    let one : row ≡ number_value (length books.catalogue.kept) ∷ [] = all-slice_get P rows 0 row some all in (
+      still_holds shop_schema StandsFor select_count (number_value 0 ∷ number_value 4 ∷ []) old new select_count_means.plain rows h books holds,
+      same_number _ _ (sym is ∙ ap (λ r. column r 0) one),
+    )
+
+-- the books' own counts are such as one more is taken of
+pub office_once : (books : Books) → IsHeld books → CountsOnce 0 kind.Kept (counts_of books)
+office_once books held = record { once = subst (λ (n : ℕ). n ≤ 1) (sym (ap length (own_counts books))) (omega arith); small = (held_once books held kind.Kept 1 (omega arith)).small }
+
+one_more : (c : Count) (counts : Counts) → 1 ≤ c.caller → c.last ≡ 0 → CountsOnce 0 kind.Kept counts → CountsOnce 0 kind.Kept (add_count c counts)
+one_more c counts low none given = record {
+  once = subst (λ (n : ℕ). n ≤ 1) (sym same) given.once;
+  small = all_push (λ (it : Count). it.last < 2 ^ 32) counts.counters c given.small (omega (arith, none));
+}
+  where
+    same : length (filter (is_count 0 4) (counts.counters ++ c ∷ [])) ≡ length (filter (is_count 0 4) counts.counters)
+    same =
+        sym (length_map (λ (it : Count). it) (filter (is_count 0 4) (counts.counters ++ c ∷ [])))
+        ∙ ap length (more_no (λ (it : Count). it) (is_count 0 4) counts.counters c (apart 4 c low))
+        ∙ length_map (λ (it : Count). it) (filter (is_count 0 4) counts.counters)
+
+new_branch_once : (b : ℕ) (counts : Counts) → 1 ≤ b → CountsOnce 0 kind.Kept counts → CountsOnce 0 kind.Kept (with_branch b counts)
+new_branch_once b counts low given = one_more _ _ low refl (one_more _ _ low refl (one_more _ _ low refl (one_more _ _ low refl (one_more _ _ low refl given))))
+
+-- and so are they with a new branch's
+pub branch_once : (b : ℕ) (books : Books) → 1 ≤ b → IsHeld books → CountsOnce 0 kind.Kept (with_branch b (counts_of books))
+branch_once b books low held = new_branch_once b (counts_of books) low (office_once books held)
+
+-- ---- a new branch has nothing
+
+lacks_next : {A : Type 0} (n : ℕ) (xs : List A) → length xs < n → lacks xs n ≡ true
+lacks_next n [] more = refl
+lacks_next n (x ∷ xs) more = ap (λ t. is_empty (cond t (x ∷ []) (at (n - 1) xs))) other ∙ lacks_next (n - 1) xs (omega (arith, more))
+  where
+    other : (n == 1) ≡ false
+    other = grind (arith, nat_tests)
+
+none_of : {X : Type 0} (owner : X → ℕ) (branches : List Branch) (b : ℕ) → lacks branches b ≡ true → (xs : List X) → list_all (λ x. has_row branches (owner x)) xs ≡ true → filter (λ x. owner x == b) xs ≡ []
+none_of owner branches b lacking [] all = refl
+none_of {X} owner branches b lacking (x ∷ xs) all =
+    let parts = and_parts (has_row branches (owner x)) (list_all (λ y. has_row branches (owner y)) xs) all in
+    go (owner x == b) refl parts.0 (none_of owner branches b lacking xs parts.1)
+  where
+    go : (t : Bool) → (owner x == b) ≡ t → has_row branches (owner x) ≡ true → filter (λ y. owner y == b) xs ≡ [] → cond t (x ∷ filter (λ y. owner y == b) xs) (filter (λ y. owner y == b) xs) ≡ []
+    go true is there more =
+        let its : has_row branches b ≡ true = subst (λ n. has_row branches n ≡ true) (same_if (owner x) b is) there in
+        absurd (true≢false (sym its ∙ ap not lacking))
+    go false isnt there more = more
+
+new_counts : (books : Books) (b : ℕ) (branch : Branch) → lacks books.catalogue.branches b ≡ true → HasOwners books.catalogue.branches books
+    → branch_counts books (b, branch) ≡ new_count b 0 ∷ new_count b 1 ∷ new_count b 2 ∷ new_count b 3 ∷ new_count b 4 ∷ []
+new_counts books b branch lacking owners =
+    let branches = books.catalogue.branches in
+    let customers = ap (λ (rows : List (Row Customer)). length (map (λ (row : Row Customer). row.it) rows)) (none_of (λ (row : Row Customer). row.branch) branches b lacking books.customers owners.customers) in
+    let copies = ap (λ (rows : List (Row BookCopy)). length (map (λ (row : Row BookCopy). row.it) rows)) (none_of (λ (row : Row BookCopy). row.branch) branches b lacking books.copies owners.copies) in
+    let rentals = ap (λ (rows : List (Row Rental)). length (map (λ (row : Row Rental). row.it) rows)) (none_of (λ (row : Row Rental). row.branch) branches b lacking books.rentals owners.rentals) in
+    let payments = ap (λ (rows : List (Row Payment)). length (map (λ (row : Row Payment). row.it) rows)) (none_of (λ (row : Row Payment). row.branch) branches b lacking books.payments owners.payments) in
+    let kept = ap (λ (rows : List (Owned Kept)). length (map (λ (row : Owned Kept). row.it) rows)) (none_of (λ (row : Owned Kept). row.owner) branches b lacking books.kept owners.kept) in
+    λ i. record { caller = b; kind = 0; last = customers i } ∷ record { caller = b; kind = 1; last = copies i } ∷ record { caller = b; kind = 2; last = rentals i }
+    ∷ record { caller = b; kind = 3; last = payments i } ∷ record { caller = b; kind = 4; last = kept i } ∷ []
+
+-- ---- what the rows of a command make of the counts
+
+five_put : (xs : List Count) (a b c d e : Count) → xs ++ a ∷ b ∷ c ∷ d ∷ e ∷ [] ≡ ((((xs ++ a ∷ []) ++ b ∷ []) ++ c ∷ []) ++ d ∷ []) ++ e ∷ []
+five_put [] a b c d e = refl
+five_put (x ∷ xs) a b c d e = ap (λ l. x ∷ l) (five_put xs a b c d e)
+
+branch_put : (books : Books) (branch : Branch) → HasOwners books.catalogue.branches books
+    → office_count books ∷ flat_map (branch_counts books) (numbered (books.catalogue.branches ++ branch ∷ [])) ≡ (with_branch (length books.catalogue.branches + 1) (counts_of books)).counters
+branch_put books branch owners =
+    let branches = books.catalogue.branches in
+    let n = length branches + 1 in
+    let place : 1 + length branches ≡ n = omega arith in
+    let new = new_counts books n branch (lacks_next n branches (omega arith)) owners in
+    ap (λ (cs : List Count). office_count books ∷ cs)
+    (ap (flat_map (branch_counts books)) (numbered_push 1 branches branch) ∙ flat_map_push (branch_counts books) (numbered branches) (1 + length branches, branch)
+    ∙ ap (λ (cs : List Count). flat_map (branch_counts books) (numbered branches) ++ cs) (ap (λ (k : ℕ). branch_counts books (k, branch)) place ∙ new))
+    ∙ five_put (office_count books ∷ flat_map (branch_counts books) (numbered branches)) _ _ _ _ _
+
+branch_set : (books : Books) (k n : ℕ) (f : Branch → Branch) (branches : List Branch) → flat_map (branch_counts books) (numbered_from k (set_at n f branches)) ≡ flat_map (branch_counts books) (numbered_from k branches)
+branch_set books k n f [] = refl
+branch_set books k n f (branch ∷ branches) = go (n == 1) (branch_set books (k + 1) (n - 1) f branches)
+  where
+    go : (hit : Bool) → flat_map (branch_counts books) (numbered_from (k + 1) (set_at (n - 1) f branches)) ≡ flat_map (branch_counts books) (numbered_from (k + 1) branches)
+        → flat_map (branch_counts books) (numbered_from k (cond hit (f branch ∷ branches) (branch ∷ set_at (n - 1) f branches))) ≡ flat_map (branch_counts books) (numbered_from k (branch ∷ branches))
+    go true more = refl
+    go false more = ap (λ (cs : List Count). branch_counts books (k, branch) ++ cs) more
+
+pub office_rows_counted : (act : OfficeAct) (books : Books) → HasOwners books.catalogue.branches books
+    → counts_of (record books { catalogue = office_acted act books.catalogue }) ≡ office_grown act (length books.catalogue.branches + 1) (counts_of books)
+office_rows_counted (AddCountry name) books owners = refl
+office_rows_counted (AddCity city) books owners = refl
+office_rows_counted (AddLanguage name) books owners = refl
+office_rows_counted (AddCategory name) books owners = refl
+office_rows_counted (AddActor actor) books owners = refl
+office_rows_counted (AddFilm film) books owners = refl
+office_rows_counted (PriceFilm film rate) books owners = refl
+office_rows_counted (WithdrawFilm film) books owners = refl
+office_rows_counted (AddCast cast) books owners = refl
+office_rows_counted (AddBranch branch) books owners = λ i. record { counters = branch_put books (record branch { manager = None }) owners i; outs = (counts_of books).outs }
+office_rows_counted (AddStaff staff) books owners = refl
+office_rows_counted (StaffLeaves staff) books owners = refl
+office_rows_counted (SetManager b staff) books owners = λ i. record { counters = office_count books ∷ branch_set books 1 b (λ r. record r { manager = Some staff }) books.catalogue.branches i; outs = (counts_of books).outs }
+
+kept_stays : (act : OfficeAct) (it : Catalogue) → (office_acted act it).kept ≡ it.kept
+kept_stays (AddCountry name) it = refl
+kept_stays (AddCity city) it = refl
+kept_stays (AddLanguage name) it = refl
+kept_stays (AddCategory name) it = refl
+kept_stays (AddActor actor) it = refl
+kept_stays (AddFilm film) it = refl
+kept_stays (PriceFilm film rate) it = refl
+kept_stays (WithdrawFilm film) it = refl
+kept_stays (AddCast cast) it = refl
+kept_stays (AddBranch branch) it = refl
+kept_stays (AddStaff staff) it = refl
+kept_stays (StaffLeaves staff) it = refl
+kept_stays (SetManager b staff) it = refl
+
+pushed : {A : Type 0} (xs : List A) (x : A) → length (xs ++ x ∷ []) ≡ length xs + 1
+pushed [] x = refl
+pushed (y ∷ xs) x = let shorter = pushed xs x in omega (arith, shorter)
+
+-- with the key that is kept, head office's count is one more than with the rows alone
+pub office_counted_raised : (command : OfficeCommand) (books : Books)
+    → counts_of (record books { catalogue = office_done command books.catalogue }) ≡ raise 0 4 1 (counts_of (record books { catalogue = office_acted command.act books.catalogue }))
+office_counted_raised command books =
+    let it = office_acted command.act books.catalogue in
+    let kept : OfficeKept = record { command = command; reply = office_text command books.catalogue } in
+    let more : length (books.catalogue.kept ++ kept ∷ []) ≡ length it.kept + 1 = pushed books.catalogue.kept kept ∙ ap (λ (ks : List OfficeKept). length ks + 1) (sym (kept_stays command.act books.catalogue)) in
+    let others = none_raised (flat_map (branch_counts books) (numbered it.branches)) (callers books 1 (omega arith) it.branches) in
+    λ i. record { counters = record { caller = 0; kind = 4; last = more i } ∷ sym others i; outs = (counts_of books).outs }
+
+-- so the counts of the books after a command are those that the command makes
+pub office_counts_done : (command : OfficeCommand) (books : Books) → HasOwners books.catalogue.branches books
+    → counts_of (record books { catalogue = office_done command books.catalogue }) ≡ office_counted command.act (length books.catalogue.branches + 1) (counts_of books)
+office_counts_done command books owners = office_counted_raised command books ∙ ap (raise 0 4 1) (office_rows_counted command.act books owners)
+
+pub office_counts_agreed : (s : State) (command : OfficeCommand) (books : Books) → HasOwners books.catalogue.branches books
+    → HoldsWith (office_counted command.act (length books.catalogue.branches + 1) (counts_of books)) s (record books { catalogue = office_done command books.catalogue })
+    → Holds s (record books { catalogue = office_done command books.catalogue })
+office_counts_agreed s command books owners holds =
+    agreed s (record books { catalogue = office_done command books.catalogue }) (office_counted command.act (length books.catalogue.branches + 1) (counts_of books)) (office_counts_done command books owners) holds
+
+-- and with the rows alone the counts are such as one more key is taken of
+pub office_grown_once : (act : OfficeAct) (b : ℕ) (books : Books) → 1 ≤ b → IsHeld books → CountsOnce 0 kind.Kept (office_grown act b (counts_of books))
+office_grown_once (AddCountry name) b books low held = office_once books held
+office_grown_once (AddCity city) b books low held = office_once books held
+office_grown_once (AddLanguage name) b books low held = office_once books held
+office_grown_once (AddCategory name) b books low held = office_once books held
+office_grown_once (AddActor actor) b books low held = office_once books held
+office_grown_once (AddFilm film) b books low held = office_once books held
+office_grown_once (PriceFilm film rate) b books low held = office_once books held
+office_grown_once (WithdrawFilm film) b books low held = office_once books held
+office_grown_once (AddCast cast) b books low held = office_once books held
+office_grown_once (AddBranch branch) b books low held = branch_once b books low held
+office_grown_once (AddStaff staff) b books low held = office_once books held
+office_grown_once (StaffLeaves staff) b books low held = office_once books held
+office_grown_once (SetManager place staff) b books low held = office_once books held

@@ -1,0 +1,26 @@
+-- A row of which a column holds no value of its kind is that of no value.
+use Rattle.std.proofs.Common.{◌≡◌, ◌≢◌, ◌<◌, ℕ, length, sym, ap, ◌∙◌, arith, Ok, Err, Result}
+use Rattle.std.specs.Prelude.{IfErr, IsErrAnd}
+use Rattle.sqlite.specs.declared.types.Value.{Value}
+use Rattle.sqlite_value.specs.Order.{Row, column}
+use Rattle.sql_rows.specs.declared.fault.StoreFault.{StoreFault}
+use Rattle.sql_rows.specs.declared.fault.StoreFault.TheVariants.{Failed}
+use Rattle.shop_schema.specs.Columns.{payment_columns}
+use Rattle.shop_schema.specs.RowValues.{IsRow, IsPayment}
+use Rattle.shop_ledger.specs.Seen.{seen_payment_row}
+use Rattle.shop_ledger.specs.declared.payments.PaymentRow.{PaymentRow}
+
+-- `part` is the value of that column
+abbrev pub Refuses : (T V : Type 0) → (T → Row) → (T → Type 0) → ℕ → Type 1
+Refuses T V columns Fits width =
+    (at : ℕ) (value : V → Value) (Is : V → Type 0) (part : T → V) → at < width → ((x : T) → Fits x → Is (part x)) → ((x : T) → column (columns x) at ≡ value (part x))
+    → (r : Result T StoreFault) (e : StoreFault) (row : Row) → length row ≡ width → IsErrAnd r (λ y. y ≡ e) → (e ≡ Failed → (v : V) → Is v → at < length row → column row at ≢ value v)
+    → IfErr r (λ y. y ≡ Failed → (x : T) → Fits x → columns x ≢ row)
+
+pub refused : {T V : Type 0} (columns : T → Row) (Fits : T → Type 0) (width : ℕ) → Refuses T V columns Fits width
+refused columns Fits width at value Is part within is shown (Ok it) e row wide same none = tt
+refused columns Fits width at value Is part within is shown (Err y) e row wide same none = λ failed x fits told.
+    none (sym same ∙ failed) (part x) (is x fits) (omega (arith, wide, within)) (ap (λ (r : Row). column r at) (sym told) ∙ shown x)
+
+pub no_payment : {V : Type 0} → Refuses PaymentRow V (λ row. payment_columns (seen_payment_row row)) (λ row. IsRow IsPayment (seen_payment_row row)) 7
+no_payment = refused _ _ 7

@@ -1,0 +1,45 @@
+-- Counts of a branch's rows by their kinds, and copies that are out.
+use Rattle.std.specs.Prelude.{ℕ, ◌<◌, ◌^◌}
+use Rattle.std.specs.List.{AllByRecursion}
+use Rattle.sql_rows.specs.Rows.{PicksOne}
+use Rattle.shop_model.specs.Values.{OfficeAct, AddCountry, AddCity, AddLanguage, AddCategory, AddActor, AddFilm, PriceFilm, WithdrawFilm, AddCast, AddBranch, AddStaff, StaffLeaves, SetManager}
+use Rattle.shop_schema.specs.Counts.{Counts, is_count, raise, with_branch, is_out_by, customers_kind, copies_kind, rentals_kind, payments_kind, kept_kind}
+use Rattle.shop_ledger.specs.declared.counts.CountKind.{CountKind}
+use Rattle.shop_ledger.specs.declared.counts.CountKind.TheVariants as kind
+
+-- the number of the kind, as the table has it
+abbrev pub kind_number : CountKind → ℕ
+kind_number kind.Customers = customers_kind
+kind_number kind.Copies = copies_kind
+kind_number kind.Rentals = rentals_kind
+kind_number kind.Payments = payments_kind
+kind_number kind.Kept = kept_kind
+
+-- the branch has at most one count of the kind, and no count is so great that one more is no number of 64 bits
+pub record CountsOnce (b : ℕ) (kind : CountKind) (counts : Counts) : Type 0 where
+  pub once : PicksOne (is_count b (kind_number kind)) counts.counters
+  pub small : AllByRecursion (λ it. it.last < 2 ^ 32) counts.counters
+
+-- the branch's copy is out by the rental at most once
+abbrev pub IsOutBy : ℕ → ℕ → ℕ → Counts → Type 0
+IsOutBy b copy rental counts = PicksOne (is_out_by b copy rental) counts.outs
+
+-- how the rows of a command of head office change the counts: a new branch, whose number is b, has its five counts, which are zero
+abbrev pub office_grown : OfficeAct → ℕ → Counts → Counts
+office_grown (AddCountry name) b counts = counts
+office_grown (AddCity city) b counts = counts
+office_grown (AddLanguage name) b counts = counts
+office_grown (AddCategory name) b counts = counts
+office_grown (AddActor actor) b counts = counts
+office_grown (AddFilm film) b counts = counts
+office_grown (PriceFilm film rate) b counts = counts
+office_grown (WithdrawFilm film) b counts = counts
+office_grown (AddCast cast) b counts = counts
+office_grown (AddBranch branch) b counts = with_branch b counts
+office_grown (AddStaff staff) b counts = counts
+office_grown (StaffLeaves staff) b counts = counts
+office_grown (SetManager branch staff) b counts = counts
+
+-- how the command does: there is a kept key more
+abbrev pub office_counted : OfficeAct → ℕ → Counts → Counts
+office_counted act b counts = raise 0 kept_kind 1 (office_grown act b counts)

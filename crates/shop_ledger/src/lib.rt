@@ -1,0 +1,16 @@
+//! What the shop keeps account of beside its rows: payments, counts of rows, copies that are out, kept commands and last moments, one function a statement.
+//! Each works inside a transaction of the caller's, and tells what it found or made of the books that the tables stand for.
+#![tactic(auto)]
+
+mod branches;
+mod counts;
+mod kept;
+mod payments;
+
+pub use branches::{last_at, set_last};
+pub use counts::{
+    CountKind, count_of, drop_out, office_keys, out_at, put_out, raise_count, raise_office_keys,
+    rentals_out, take_number, take_numbers,
+};
+pub use kept::{KeptRow, kept_at, kept_found, office_kept_at, put_kept, put_office_kept};
+pub use payments::{PaymentRow, payments_between, payments_of_customer, put_payment};

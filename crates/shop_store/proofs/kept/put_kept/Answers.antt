@@ -1,4 +1,0 @@
-use Rattle.shop_store.proofs.kept.put_kept.Goals as goal
-
-pub returns-clause-put : goal.returns-clause-put
-returns-clause-put g c clean = rw (c.get.ensures.value) at (c.put_by.ensures.branch clean)
