@@ -9,6 +9,8 @@ use Rattle.shop_values.specs.Numbers.{is_row_number}
 use Rattle.shop_model.specs.Calendar.{Moment}
 use Rattle.shop_model.specs.Values.{Text, Person, Act, Command}
 use Rattle.shop_model.specs.Values as model
+use Rattle.counter_routes.specs.declared.bodies.CommandForm.{CommandForm}
+use Rattle.counter_routes.specs.declared.bodies.CommandForm.TheVariants as form
 use Rattle.counter_routes.specs.Moments.{moment_of}
 
 infixl 10 ◌>>=◌
@@ -72,53 +74,48 @@ person_at d = do
   city ← number_at (codes "city") d
   Some (record { first = first; last = last; address = address; postal = postal; phone = phone; city = city })
 
--- the command to do this, with the key, the staff and the moment that three of the members are
-abbrev pub command_at : Act → Data → Option Command
-command_at act d = do
-  key ← key_at d
-  staff ← number_at (codes "staff") d
-  moment ← moment_at d
-  Some (record { key = key; staff = staff; moment = moment; act = act })
+-- how many members the body of a command has
+abbrev pub member_count : CommandForm → ℕ
+member_count form.NewCustomer = 9
+member_count form.Active = 5
+member_count form.Rent = 5
+member_count form.Return = 4
+member_count form.Pay = 6
+member_count form.Scrap = 4
 
--- the command that adds a customer: nine members and no others
-unfoldable pub new_customer : Data → Option Command
-new_customer d = if has_members 9 d then (do
-  person ← person_at d
-  command_at (model.AddCustomer person) d) else None
-
--- the command that sets whether a customer may rent: five members and no others
-unfoldable pub new_active : Data → Option Command
-new_active d = if has_members 5 d then (do
+-- what a command does, by the members that say it
+abbrev pub act_at : CommandForm → Data → Option Act
+act_at form.NewCustomer d = option_map model.AddCustomer (person_at d)
+act_at form.Active d = do
   customer ← number_at (codes "customer") d
   active ← bool_at (codes "active") d
-  command_at (model.SetActive customer active) d) else None
-
--- the command that rents a copy to a customer: five members and no others
-unfoldable pub new_rental : Data → Option Command
-new_rental d = if has_members 5 d then (do
+  Some (model.SetActive customer active)
+act_at form.Rent d = do
   customer ← number_at (codes "customer") d
   copy ← number_at (codes "copy") d
-  command_at (model.Rent customer copy) d) else None
-
--- the command that takes the copy of a rental back: four members and no others
-unfoldable pub new_return : Data → Option Command
-new_return d = if has_members 4 d then (do
-  rental ← number_at (codes "rental") d
-  command_at (model.TakeBack rental) d) else None
-
--- the command that takes a payment of a customer: six members and no others
-unfoldable pub new_payment : Data → Option Command
-new_payment d = if has_members 6 d then (do
+  Some (model.Rent customer copy)
+act_at form.Return d = option_map model.TakeBack (number_at (codes "rental") d)
+act_at form.Pay d = do
   customer ← number_at (codes "customer") d
   rental ← rental_at d
   amount ← amount_at d
-  command_at (model.Pay customer rental amount) d) else None
+  Some (model.Pay customer rental amount)
+act_at form.Scrap d = option_map model.Scrap (number_at (codes "copy") d)
 
--- the command that takes a copy out of the shop: four members and no others
-unfoldable pub new_scrap : Data → Option Command
-new_scrap d = if has_members 4 d then (do
-  copy ← number_at (codes "copy") d
-  command_at (model.Scrap copy) d) else None
+-- the staff who gives the command and the moment, where the body has so many members and no others
+abbrev pub giver_at : ℕ → Data → Option (ℕ × Moment)
+giver_at n d = if has_members n d then (do
+  staff ← number_at (codes "staff") d
+  moment ← moment_at d
+  Some (staff, moment)) else None
+
+-- the command of that form: what it does, with the key, the staff and the moment that three more of the members are
+unfoldable pub command_in : CommandForm → Data → Option Command
+command_in form d = do
+  giver ← giver_at (member_count form) d
+  key ← key_at d
+  act ← act_at form d
+  Some (record { key = key; staff = giver.0; moment = giver.1; act = act })
 
 -- the value that a body's bytes write (RFC 8259), where they are UTF-8 and nest at most 127 deep
 abbrev pub body_of : List ℕ → Option Data

@@ -3,8 +3,10 @@ use Rattle.std.specs.Prelude.{ℕ, List, slice_get, Option, Some, None, option_m
 use Rattle.std.specs.Str.{bytes_eq}
 use Rattle.http_messages.specs.Items.{parts}
 use Rattle.shop_values.specs.Numbers.{row_number_of}
-use Rattle.shop_model.specs.Values.{Ask, Balance, Overdue, Rewards}
+use Rattle.shop_model.specs.Values.{Ask, OneCustomer, OneFilm, InStock, HeldBy, FilmInStock, FilmNotInStock, Balance, Overdue, Rewards}
 use Rattle.shop_model.specs.Values.{View, CustomerList, StaffList, FilmList, ActorInfo, SalesByStore, SalesByCategory}
+use Rattle.counter_routes.specs.declared.looks.LookForm.{LookForm}
+use Rattle.counter_routes.specs.declared.looks.LookForm.TheVariants as look
 use Rattle.counter_routes.specs.Bodies.{◌>>=◌}
 use Rattle.counter_routes.specs.Imports.{moment_in}
 
@@ -42,6 +44,18 @@ rewards_in target = do
   purchases ← threshold_in target 3
   cents ← threshold_in target 4
   Some (Rewards moment purchases cents)
+
+-- what a path of that form asks
+abbrev pub look_in : LookForm → List ℕ → Option Ask
+look_in look.Customer target = ask_in OneCustomer target
+look_in look.Film target = ask_in OneFilm target
+look_in look.InStock target = ask_in InStock target
+look_in look.HeldBy target = ask_in HeldBy target
+look_in look.FilmInStock target = ask_in FilmInStock target
+look_in look.FilmNotInStock target = ask_in FilmNotInStock target
+look_in look.Balance target = balance_in target
+look_in look.Overdue target = overdue_in target
+look_in look.Rewards target = rewards_in target
 
 -- the view of that name, which is compared byte by byte
 abbrev pub view_of : List ℕ → Option View

@@ -2,7 +2,7 @@
 use Rattle.std.specs.Prelude.{◌≡◌, ℕ, Bool, true, false, List, Option, Some, None, option_map, option_and_then, unwrap_or, if◌then◌else◌}
 use Rattle.http_messages.specs.Message.{Message}
 use Rattle.serde_json.specs.Data.{Data}
-use Rattle.shop_model.specs.Values.{Text, Command, Ask, OneCustomer, OneFilm, InStock, HeldBy, FilmInStock, FilmNotInStock, View, OneView}
+use Rattle.shop_model.specs.Values.{Text, Command, Ask, View, OneView}
 use Rattle.shop_model.specs.Refusals as named
 use Rattle.shop_model.specs.Machine.{Request, Unread, Do, Look}
 use Rattle.shop_model.specs.Books.{Caller, Counter, HeadOffice, Nobody}
@@ -14,9 +14,9 @@ use Rattle.counter_routes.specs.declared.paths.Route.TheVariants as route
 use Rattle.counter_routes.specs.declared.asked.Reading.{Reading}
 use Rattle.counter_routes.specs.declared.asked.Reading.TheVariants.{Asked, Refused}
 use Rattle.counter_routes.specs.Routes.{route_of}
-use Rattle.counter_routes.specs.Bodies.{body_of, new_customer, new_active, new_rental, new_return, new_payment, new_scrap}
+use Rattle.counter_routes.specs.Bodies.{body_of, command_in}
 use Rattle.counter_routes.specs.Imports.{import_in}
-use Rattle.counter_routes.specs.Looks.{ask_in, balance_in, overdue_in, rewards_in, view_in}
+use Rattle.counter_routes.specs.Looks.{look_in, view_in}
 use Rattle.counter_routes.specs.Words.{Meaning, texts_of, request_of_words, is_to_office}
 
 -- the request, or the refusal `bad_body` where there is none
@@ -42,22 +42,9 @@ view_or_no_route view = unwrap_or (option_map (λ it. Look (OneView it)) view) (
 -- what a message to that route asks
 abbrev pub request_at : Message → Option Route → Request
 request_at message None = Unread named.NoRoute
-request_at message (Some route.NewCustomer) = command_or_bad (written_in new_customer message.body)
-request_at message (Some route.Active) = command_or_bad (written_in new_active message.body)
-request_at message (Some route.Rent) = command_or_bad (written_in new_rental message.body)
-request_at message (Some route.Return) = command_or_bad (written_in new_return message.body)
-request_at message (Some route.Pay) = command_or_bad (written_in new_payment message.body)
+request_at message (Some (route.Command form)) = command_or_bad (written_in (command_in form) message.body)
 request_at message (Some route.Import) = command_or_bad (import_in message.target message.body)
-request_at message (Some route.Scrap) = command_or_bad (written_in new_scrap message.body)
-request_at message (Some route.Customer) = look_or_bad (ask_in OneCustomer message.target)
-request_at message (Some route.Film) = look_or_bad (ask_in OneFilm message.target)
-request_at message (Some route.InStock) = look_or_bad (ask_in InStock message.target)
-request_at message (Some route.HeldBy) = look_or_bad (ask_in HeldBy message.target)
-request_at message (Some route.FilmInStock) = look_or_bad (ask_in FilmInStock message.target)
-request_at message (Some route.FilmNotInStock) = look_or_bad (ask_in FilmNotInStock message.target)
-request_at message (Some route.Balance) = look_or_bad (balance_in message.target)
-request_at message (Some route.Overdue) = look_or_bad (overdue_in message.target)
-request_at message (Some route.Rewards) = look_or_bad (rewards_in message.target)
+request_at message (Some (route.Look form)) = look_or_bad (look_in form message.target)
 request_at message (Some route.View) = view_or_no_route (view_in message.target)
 
 -- What a counter's message asks, where its body is no longer than a stock file may be. Of the body of a GET nothing else is looked at.
@@ -89,22 +76,9 @@ reading_of meaning message Nobody = Unread named.NoCounter
 -- a command, which has a body
 abbrev pub is_command : Option Route → Bool
 is_command None = false
-is_command (Some route.NewCustomer) = true
-is_command (Some route.Active) = true
-is_command (Some route.Rent) = true
-is_command (Some route.Return) = true
-is_command (Some route.Pay) = true
+is_command (Some (route.Command form)) = true
 is_command (Some route.Import) = true
-is_command (Some route.Scrap) = true
-is_command (Some route.Customer) = false
-is_command (Some route.Film) = false
-is_command (Some route.InStock) = false
-is_command (Some route.HeldBy) = false
-is_command (Some route.FilmInStock) = false
-is_command (Some route.FilmNotInStock) = false
-is_command (Some route.Balance) = false
-is_command (Some route.Overdue) = false
-is_command (Some route.Rewards) = false
+is_command (Some (route.Look form)) = false
 is_command (Some route.View) = false
 
 -- reading the message takes memory: it is a counter's command, or has head office's words

@@ -9,7 +9,9 @@ use Rattle.matchit.specs.Route.{Scan, parse_route}
 use Rattle.matchit.specs.Router.{RouteOf, route_from, nearest}
 use Rattle.matchit.specs.declared.error.InsertError.{InsertError}
 use Rattle.counter_routes.specs.declared.paths.Route.{Route}
-use Rattle.counter_routes.specs.declared.paths.Route.TheVariants.{NewCustomer, Active, Rent, Return, Pay, Import, Scrap, Customer, Film, InStock, HeldBy, FilmInStock, FilmNotInStock, Balance, Overdue, Rewards, View}
+use Rattle.counter_routes.specs.declared.paths.Route.TheVariants.{Command, Import, Look, View}
+use Rattle.counter_routes.specs.declared.bodies.CommandForm.TheVariants as command
+use Rattle.counter_routes.specs.declared.looks.LookForm.TheVariants as look
 use Rattle.counter_routes.specs.declared.paths.Pattern.{Pattern}
 
 -- the rows of a router
@@ -61,27 +63,27 @@ entries ps = map entry_of ps
 -- the routes of POST requests
 unfoldable pub post_entries : List Entry
 post_entries =
-    (codes "/customer", NewCustomer)
+    (codes "/customer", Command command.NewCustomer)
     ∷ (codes "/import/{key}/{staff}/{at}/{lot}", Import)
-    ∷ (codes "/customer-active", Active)
-    ∷ (codes "/rent", Rent)
-    ∷ (codes "/return", Return)
-    ∷ (codes "/pay", Pay)
-    ∷ (codes "/scrap", Scrap)
+    ∷ (codes "/customer-active", Command command.Active)
+    ∷ (codes "/rent", Command command.Rent)
+    ∷ (codes "/return", Command command.Return)
+    ∷ (codes "/pay", Command command.Pay)
+    ∷ (codes "/scrap", Command command.Scrap)
     ∷ []
 
 -- the routes of GET requests
 unfoldable pub get_entries : List Entry
 get_entries =
-    (codes "/customer/{n}", Customer)
-    ∷ (codes "/film/{n}", Film)
-    ∷ (codes "/in-stock/{copy}", InStock)
-    ∷ (codes "/held-by/{copy}", HeldBy)
-    ∷ (codes "/film-in-stock/{film}", FilmInStock)
-    ∷ (codes "/film-not-in-stock/{film}", FilmNotInStock)
-    ∷ (codes "/balance/{customer}/{at}", Balance)
-    ∷ (codes "/overdue/{at}", Overdue)
-    ∷ (codes "/rewards/{at}/{purchases}/{cents}", Rewards)
+    (codes "/customer/{n}", Look look.Customer)
+    ∷ (codes "/film/{n}", Look look.Film)
+    ∷ (codes "/in-stock/{copy}", Look look.InStock)
+    ∷ (codes "/held-by/{copy}", Look look.HeldBy)
+    ∷ (codes "/film-in-stock/{film}", Look look.FilmInStock)
+    ∷ (codes "/film-not-in-stock/{film}", Look look.FilmNotInStock)
+    ∷ (codes "/balance/{customer}/{at}", Look look.Balance)
+    ∷ (codes "/overdue/{at}", Look look.Overdue)
+    ∷ (codes "/rewards/{at}/{purchases}/{cents}", Look look.Rewards)
     ∷ (codes "/views/{name}", View)
     ∷ []
 

@@ -8,12 +8,9 @@ ghost use Rattle.counter_routes.specs.Routes.{route_of};
 ghost use Rattle.counter_routes.specs.Readings.{Reads, command_or_bad, look_or_bad, view_or_no_route, request_at, reading_of, is_command, takes_memory};
 ghost use Rattle.counter_routes.specs.declared.bodies.Fault.TheVariants.{BadBody, NoMemory as OutOfMemory};
 
-use crate::bodies::{
-    Fault, active_command, new_customer_command, payment_command, rental_command, return_command,
-    scrap_command,
-};
+use crate::bodies::{Fault, body_command};
 use crate::imports::import_command;
-use crate::looks::{balance_ask, number_of, overdue_ask, rewards_ask, view_asked};
+use crate::looks::{look_asked, view_asked};
 use crate::office::read_office;
 use crate::paths::{Route, Routes};
 use shop_types::{Ask, Caller, Command, NoMemory, OfficeWords, Refusal, Request, View};
@@ -78,22 +75,9 @@ impl Routes {
         };
         let http_messages::Request { target, body, .. } = *message;
         match route {
-            Route::NewCustomer => read_command(new_customer_command(alloc, body)),
-            Route::Active => read_command(active_command(alloc, body)),
-            Route::Rent => read_command(rental_command(alloc, body)),
-            Route::Return => read_command(return_command(alloc, body)),
-            Route::Pay => read_command(payment_command(alloc, body)),
+            Route::Command(form) => read_command(body_command(alloc, form, body)),
             Route::Import => read_command(import_command(alloc, target, body)),
-            Route::Scrap => read_command(scrap_command(alloc, body)),
-            Route::Customer => Ok(read_look(number_of(target).map(Ask::Customer))),
-            Route::Film => Ok(read_look(number_of(target).map(Ask::Film))),
-            Route::InStock => Ok(read_look(number_of(target).map(Ask::InStock))),
-            Route::HeldBy => Ok(read_look(number_of(target).map(Ask::HeldBy))),
-            Route::FilmInStock => Ok(read_look(number_of(target).map(Ask::FilmInStock))),
-            Route::FilmNotInStock => Ok(read_look(number_of(target).map(Ask::FilmNotInStock))),
-            Route::Balance => Ok(read_look(balance_ask(target))),
-            Route::Overdue => Ok(read_look(overdue_ask(target))),
-            Route::Rewards => Ok(read_look(rewards_ask(target))),
+            Route::Look(form) => Ok(read_look(look_asked(form, target))),
             Route::View => Ok(read_view(view_asked(target))),
         }
     }

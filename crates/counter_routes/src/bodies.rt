@@ -3,12 +3,13 @@
 ghost use Rattle.std.specs.Prelude.{◌≡◌, IfOk, IfErr, Some, None, option_map};
 ghost use Rattle.serde_json.specs.View.{view};
 ghost use Rattle.shop_types.specs.Seen.{seen_person, seen_act, seen_command};
-ghost use Rattle.counter_routes.specs.Bodies.{string_at, text_at, key_at, moment_at, number_at, bool_at, rental_at, amount_at, has_members as is_object_of, person_at, command_at, new_customer, new_active, new_rental, new_return, new_payment, new_scrap, body_of};
+ghost use Rattle.counter_routes.specs.Bodies.{string_at, text_at, key_at, moment_at, number_at, bool_at, rental_at, amount_at, has_members as is_object_of, person_at, member_count, act_at, giver_at, command_in, body_of};
 ghost use Rattle.counter_routes.specs.Readings.{written_in};
 ghost use Rattle.counter_routes.specs.declared.bodies.Fault.TheVariants.{BadBody, NoMemory as OutOfMemory};
+ghost use Rattle.counter_routes.specs.declared.bodies.CommandForm.TheVariants.{NewCustomer};
 
 use serde_json::Value;
-use shop_types::{Act, Amount, Command, Key, Moment, Person, RentalNo, RowNumber, Text};
+use shop_types::{Act, Amount, Command, Key, Moment, Person, RentalNo, RowNumber, StaffNo, Text};
 use std::alloc::{AllocError, Global};
 
 /// Why a body gives no command.
@@ -115,98 +116,91 @@ fn person(alloc: Global, value: &Value) -> Result<Person, Fault>
     })
 }
 
-/// The command to do that, with the key, the staff and the moment that three of the members are.
-fn command(alloc: Global, value: &Value, act: Act) -> Result<Command, Fault>
-    ensures ok { IfOk result (λ command. command_at (seen_act act) (view value.now) ≡ Some (seen_command command)) }
-    ensures bad { IfErr result (λ fault. fault ≡ BadBody → command_at (seen_act act) (view value.now) ≡ None) }
+/// What a command's body says, beside who gives the command and when.
+#[derive(Clone, Copy)]
+pub(crate) enum CommandForm {
+    NewCustomer,
+    Active,
+    Rent,
+    Return,
+    Pay,
+    Scrap,
+}
+
+/// How many members a body of the form has.
+fn member_count(form: CommandForm) -> usize
+    ensures { result ≡ member_count form }
 {
+    match form {
+        CommandForm::NewCustomer => 9,
+        CommandForm::Pay => 6,
+        CommandForm::Active | CommandForm::Rent => 5,
+        CommandForm::Return | CommandForm::Scrap => 4,
+    }
+}
+
+/// What a command does whose parts are numbers and flags: it adds no customer.
+fn plain_act(form: CommandForm, value: &Value) -> Option<Act>
+    ensures { ¬ (form ≡ NewCustomer) → option_map seen_act result ≡ act_at form (view value.now) }
+{
+    match form {
+        CommandForm::NewCustomer => None,
+        CommandForm::Active => Some(Act::Active {
+            customer: number(value, "customer")?,
+            active: flag(value, "active")?,
+        }),
+        CommandForm::Rent => Some(Act::Rent {
+            customer: number(value, "customer")?,
+            copy: number(value, "copy")?,
+        }),
+        CommandForm::Return => Some(Act::TakeBack(number(value, "rental")?)),
+        CommandForm::Pay => Some(Act::Pay {
+            customer: number(value, "customer")?,
+            rental: rental_or_none(value)?,
+            amount: amount(value)?,
+        }),
+        CommandForm::Scrap => Some(Act::Scrap(number(value, "copy")?)),
+    }
+}
+
+/// What a command of the form does.
+fn act(alloc: Global, form: CommandForm, value: &Value) -> Result<Act, Fault>
+    ensures ok { IfOk result (λ act. act_at form (view value.now) ≡ Some (seen_act act)) }
+    ensures bad { IfErr result (λ fault. fault ≡ BadBody → act_at form (view value.now) ≡ None) }
+{
+    match form {
+        CommandForm::NewCustomer => Ok(Act::Customer(person(alloc, value)?)),
+        _ => plain_act(form, value).ok_or(Fault::BadBody),
+    }
+}
+
+/// Who gives the command and when, where the body has so many members.
+fn giver(value: &Value, count: usize) -> Option<(StaffNo, Moment)>
+    ensures { result ≡ giver_at count (view value.now) }
+{
+    if !has_members(value, count) {
+        return None;
+    }
+    Some((number(value, "staff")?, moment(value)?))
+}
+
+/// The command of the form that a value writes.
+#[tactic(auto, unfolding(crate::specs::Bodies::command_in))]
+fn command(alloc: Global, form: CommandForm, value: &Value) -> Result<Command, Fault>
+    ensures ok { IfOk result (λ command. command_in form (view value.now) ≡ Some (seen_command command)) }
+    ensures bad { IfErr result (λ fault. fault ≡ BadBody → command_in form (view value.now) ≡ None) }
+{
+    let Some((staff, at)) = giver(value, member_count(form)) else {
+        return Err(Fault::BadBody);
+    };
+    let key = key(alloc, value)?;
+    let act = act(alloc, form, value)?;
     Ok(Command {
-        key: key(alloc, value)?,
-        staff: number(value, "staff").ok_or(Fault::BadBody)?,
-        at: moment(value).ok_or(Fault::BadBody)?,
+        key,
+        staff,
+        at,
         act,
     })
-}
-
-#[tactic(auto, unfolding(crate::specs::Bodies::new_customer))]
-fn customer(alloc: Global, value: &Value) -> Result<Command, Fault>
-    ensures ok { IfOk result (λ command. new_customer (view value.now) ≡ Some (seen_command command)) }
-    ensures bad { IfErr result (λ fault. fault ≡ BadBody → new_customer (view value.now) ≡ None) }
-{
-    if !has_members(value, 9) {
-        return Err(Fault::BadBody);
-    }
-    command(alloc, value, Act::Customer(person(alloc, value)?))
-}
-
-#[tactic(auto, unfolding(crate::specs::Bodies::new_active))]
-fn customer_active(alloc: Global, value: &Value) -> Result<Command, Fault>
-    ensures ok { IfOk result (λ command. new_active (view value.now) ≡ Some (seen_command command)) }
-    ensures bad { IfErr result (λ fault. fault ≡ BadBody → new_active (view value.now) ≡ None) }
-{
-    if !has_members(value, 5) {
-        return Err(Fault::BadBody);
-    }
-    let act = Act::Active {
-        customer: number(value, "customer").ok_or(Fault::BadBody)?,
-        active: flag(value, "active").ok_or(Fault::BadBody)?,
-    };
-    command(alloc, value, act)
-}
-
-#[tactic(auto, unfolding(crate::specs::Bodies::new_rental))]
-fn rental(alloc: Global, value: &Value) -> Result<Command, Fault>
-    ensures ok { IfOk result (λ command. new_rental (view value.now) ≡ Some (seen_command command)) }
-    ensures bad { IfErr result (λ fault. fault ≡ BadBody → new_rental (view value.now) ≡ None) }
-{
-    if !has_members(value, 5) {
-        return Err(Fault::BadBody);
-    }
-    let act = Act::Rent {
-        customer: number(value, "customer").ok_or(Fault::BadBody)?,
-        copy: number(value, "copy").ok_or(Fault::BadBody)?,
-    };
-    command(alloc, value, act)
-}
-
-#[tactic(auto, unfolding(crate::specs::Bodies::new_return))]
-fn returned(alloc: Global, value: &Value) -> Result<Command, Fault>
-    ensures ok { IfOk result (λ command. new_return (view value.now) ≡ Some (seen_command command)) }
-    ensures bad { IfErr result (λ fault. fault ≡ BadBody → new_return (view value.now) ≡ None) }
-{
-    if !has_members(value, 4) {
-        return Err(Fault::BadBody);
-    }
-    let rental = number(value, "rental").ok_or(Fault::BadBody)?;
-    command(alloc, value, Act::TakeBack(rental))
-}
-
-#[tactic(auto, unfolding(crate::specs::Bodies::new_payment))]
-fn payment(alloc: Global, value: &Value) -> Result<Command, Fault>
-    ensures ok { IfOk result (λ command. new_payment (view value.now) ≡ Some (seen_command command)) }
-    ensures bad { IfErr result (λ fault. fault ≡ BadBody → new_payment (view value.now) ≡ None) }
-{
-    if !has_members(value, 6) {
-        return Err(Fault::BadBody);
-    }
-    let act = Act::Pay {
-        customer: number(value, "customer").ok_or(Fault::BadBody)?,
-        rental: rental_or_none(value).ok_or(Fault::BadBody)?,
-        amount: amount(value).ok_or(Fault::BadBody)?,
-    };
-    command(alloc, value, act)
-}
-
-#[tactic(auto, unfolding(crate::specs::Bodies::new_scrap))]
-fn scrapped(alloc: Global, value: &Value) -> Result<Command, Fault>
-    ensures ok { IfOk result (λ command. new_scrap (view value.now) ≡ Some (seen_command command)) }
-    ensures bad { IfErr result (λ fault. fault ≡ BadBody → new_scrap (view value.now) ≡ None) }
-{
-    if !has_members(value, 4) {
-        return Err(Fault::BadBody);
-    }
-    let copy = number(value, "copy").ok_or(Fault::BadBody)?;
-    command(alloc, value, Act::Scrap(copy))
 }
 
 /// The value that a body writes.
@@ -221,50 +215,10 @@ pub(crate) fn value_of(alloc: Global, body: &[u8]) -> Result<Value, Fault>
     }
 }
 
-/// The command to add a customer that a body writes.
-pub(crate) fn new_customer_command(alloc: Global, body: &[u8]) -> Result<Command, Fault>
-    ensures ok { IfOk result (λ command. written_in new_customer body.now ≡ Some (seen_command command)) }
-    ensures bad { IfErr result (λ fault. fault ≡ BadBody → written_in new_customer body.now ≡ None) }
+/// The command of the form that a body writes.
+pub(crate) fn body_command(alloc: Global, form: CommandForm, body: &[u8]) -> Result<Command, Fault>
+    ensures ok { IfOk result (λ command. written_in (command_in form) body.now ≡ Some (seen_command command)) }
+    ensures bad { IfErr result (λ fault. fault ≡ BadBody → written_in (command_in form) body.now ≡ None) }
 {
-    customer(alloc, &value_of(alloc, body)?)
-}
-
-/// The command to set whether a customer may rent that a body writes.
-pub(crate) fn active_command(alloc: Global, body: &[u8]) -> Result<Command, Fault>
-    ensures ok { IfOk result (λ command. written_in new_active body.now ≡ Some (seen_command command)) }
-    ensures bad { IfErr result (λ fault. fault ≡ BadBody → written_in new_active body.now ≡ None) }
-{
-    customer_active(alloc, &value_of(alloc, body)?)
-}
-
-/// The command to rent a copy that a body writes.
-pub(crate) fn rental_command(alloc: Global, body: &[u8]) -> Result<Command, Fault>
-    ensures ok { IfOk result (λ command. written_in new_rental body.now ≡ Some (seen_command command)) }
-    ensures bad { IfErr result (λ fault. fault ≡ BadBody → written_in new_rental body.now ≡ None) }
-{
-    rental(alloc, &value_of(alloc, body)?)
-}
-
-/// The command to take a rental's copy back that a body writes.
-pub(crate) fn return_command(alloc: Global, body: &[u8]) -> Result<Command, Fault>
-    ensures ok { IfOk result (λ command. written_in new_return body.now ≡ Some (seen_command command)) }
-    ensures bad { IfErr result (λ fault. fault ≡ BadBody → written_in new_return body.now ≡ None) }
-{
-    returned(alloc, &value_of(alloc, body)?)
-}
-
-/// The command to take a payment that a body writes.
-pub(crate) fn payment_command(alloc: Global, body: &[u8]) -> Result<Command, Fault>
-    ensures ok { IfOk result (λ command. written_in new_payment body.now ≡ Some (seen_command command)) }
-    ensures bad { IfErr result (λ fault. fault ≡ BadBody → written_in new_payment body.now ≡ None) }
-{
-    payment(alloc, &value_of(alloc, body)?)
-}
-
-/// The command to scrap a copy that a body writes.
-pub(crate) fn scrap_command(alloc: Global, body: &[u8]) -> Result<Command, Fault>
-    ensures ok { IfOk result (λ command. written_in new_scrap body.now ≡ Some (seen_command command)) }
-    ensures bad { IfErr result (λ fault. fault ≡ BadBody → written_in new_scrap body.now ≡ None) }
-{
-    scrapped(alloc, &value_of(alloc, body)?)
+    command(alloc, form, &value_of(alloc, body)?)
 }

@@ -2,7 +2,7 @@
 
 ghost use Rattle.std.specs.Prelude.{◌≡◌, option_map};
 ghost use Rattle.shop_types.specs.Seen.{seen_ask, seen_view};
-ghost use Rattle.counter_routes.specs.Looks.{number_in, threshold_of, threshold_in, balance_in, overdue_in, rewards_in, view_of, view_in};
+ghost use Rattle.counter_routes.specs.Looks.{number_in, threshold_of, threshold_in, balance_in, overdue_in, rewards_in, look_in, view_of, view_in};
 
 use crate::imports::moment;
 use http_messages::part;
@@ -12,7 +12,7 @@ use shop_types::{Ask, RowNumber, View};
 type NumberAlone = RowNumber<0>;
 
 /// The number of a row that the path's part behind its second slash is.
-pub(crate) fn number_of<const KIND: u8>(target: &[u8]) -> Option<RowNumber<KIND>>
+fn number_of<const KIND: u8>(target: &[u8]) -> Option<RowNumber<KIND>>
     ensures { result ≡ number_in target.now }
 {
     RowNumber::read(part(target, 2)?)
@@ -38,7 +38,7 @@ fn threshold(target: &[u8], n: usize) -> Option<u32>
 
 /// The look at a customer's balance that a path writes.
 #[tactic(auto, unfolding(crate::specs::Looks::balance_in))]
-pub(crate) fn balance_ask(target: &[u8]) -> Option<Ask>
+fn balance_ask(target: &[u8]) -> Option<Ask>
     ensures { option_map seen_ask result ≡ balance_in target.now }
 {
     Some(Ask::Balance {
@@ -49,7 +49,7 @@ pub(crate) fn balance_ask(target: &[u8]) -> Option<Ask>
 
 /// The look at the overdue rentals that a path writes.
 #[tactic(auto, unfolding(crate::specs::Looks::overdue_in))]
-pub(crate) fn overdue_ask(target: &[u8]) -> Option<Ask>
+fn overdue_ask(target: &[u8]) -> Option<Ask>
     ensures { option_map seen_ask result ≡ overdue_in target.now }
 {
     Some(Ask::Overdue(moment(target, 2)?))
@@ -57,7 +57,7 @@ pub(crate) fn overdue_ask(target: &[u8]) -> Option<Ask>
 
 /// The look at the rewards that a path writes.
 #[tactic(auto, unfolding(crate::specs::Looks::rewards_in))]
-pub(crate) fn rewards_ask(target: &[u8]) -> Option<Ask>
+fn rewards_ask(target: &[u8]) -> Option<Ask>
     ensures { option_map seen_ask result ≡ rewards_in target.now }
 {
     Some(Ask::Rewards {
@@ -65,6 +65,37 @@ pub(crate) fn rewards_ask(target: &[u8]) -> Option<Ask>
         purchases: threshold(target, 3)?,
         cents: threshold(target, 4)?,
     })
+}
+
+/// What a look's path asks.
+#[derive(Clone, Copy)]
+pub(crate) enum LookForm {
+    Customer,
+    Film,
+    InStock,
+    HeldBy,
+    FilmInStock,
+    FilmNotInStock,
+    Balance,
+    Overdue,
+    Rewards,
+}
+
+/// The look of the form that a path writes.
+pub(crate) fn look_asked(form: LookForm, target: &[u8]) -> Option<Ask>
+    ensures { option_map seen_ask result ≡ look_in form target.now }
+{
+    match form {
+        LookForm::Customer => Some(Ask::Customer(number_of(target)?)),
+        LookForm::Film => Some(Ask::Film(number_of(target)?)),
+        LookForm::InStock => Some(Ask::InStock(number_of(target)?)),
+        LookForm::HeldBy => Some(Ask::HeldBy(number_of(target)?)),
+        LookForm::FilmInStock => Some(Ask::FilmInStock(number_of(target)?)),
+        LookForm::FilmNotInStock => Some(Ask::FilmNotInStock(number_of(target)?)),
+        LookForm::Balance => balance_ask(target),
+        LookForm::Overdue => overdue_ask(target),
+        LookForm::Rewards => rewards_ask(target),
+    }
 }
 
 /// The view of that name.

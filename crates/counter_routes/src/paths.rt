@@ -3,6 +3,8 @@
 ghost use Rattle.std.specs.Prelude.{◌≡◌, IfOk, true};
 ghost use Rattle.counter_routes.specs.Routes.{table, is_table, entries, entries_of, post_entries, get_entries, begins_with_slash, has_question_mark, route_of};
 
+use crate::bodies::CommandForm;
+use crate::looks::LookForm;
 use matchit::{InsertError, Router};
 use shop_types::NoMemory;
 use std::alloc::{AllocError, Global};
@@ -10,22 +12,11 @@ use std::alloc::{AllocError, Global};
 /// What a path asks for.
 #[derive(Clone, Copy)]
 pub(crate) enum Route {
-    NewCustomer,
-    Active,
-    Rent,
-    Return,
-    Pay,
+    /// A command that the body writes.
+    Command(CommandForm),
+    /// An import, of the file that the body is.
     Import,
-    Scrap,
-    Customer,
-    Film,
-    InStock,
-    HeldBy,
-    FilmInStock,
-    FilmNotInStock,
-    Balance,
-    Overdue,
-    Rewards,
+    Look(LookForm),
     View,
 }
 
@@ -39,7 +30,7 @@ pub(crate) struct Pattern {
 const POST_ROUTES: [Pattern; 7] = [
     Pattern {
         text: "/customer",
-        route: Route::NewCustomer,
+        route: Route::Command(CommandForm::NewCustomer),
     },
     Pattern {
         text: "/import/{key}/{staff}/{at}/{lot}",
@@ -47,62 +38,62 @@ const POST_ROUTES: [Pattern; 7] = [
     },
     Pattern {
         text: "/customer-active",
-        route: Route::Active,
+        route: Route::Command(CommandForm::Active),
     },
     Pattern {
         text: "/rent",
-        route: Route::Rent,
+        route: Route::Command(CommandForm::Rent),
     },
     Pattern {
         text: "/return",
-        route: Route::Return,
+        route: Route::Command(CommandForm::Return),
     },
     Pattern {
         text: "/pay",
-        route: Route::Pay,
+        route: Route::Command(CommandForm::Pay),
     },
     Pattern {
         text: "/scrap",
-        route: Route::Scrap,
+        route: Route::Command(CommandForm::Scrap),
     },
 ];
 
 const GET_ROUTES: [Pattern; 10] = [
     Pattern {
         text: "/customer/{n}",
-        route: Route::Customer,
+        route: Route::Look(LookForm::Customer),
     },
     Pattern {
         text: "/film/{n}",
-        route: Route::Film,
+        route: Route::Look(LookForm::Film),
     },
     Pattern {
         text: "/in-stock/{copy}",
-        route: Route::InStock,
+        route: Route::Look(LookForm::InStock),
     },
     Pattern {
         text: "/held-by/{copy}",
-        route: Route::HeldBy,
+        route: Route::Look(LookForm::HeldBy),
     },
     Pattern {
         text: "/film-in-stock/{film}",
-        route: Route::FilmInStock,
+        route: Route::Look(LookForm::FilmInStock),
     },
     Pattern {
         text: "/film-not-in-stock/{film}",
-        route: Route::FilmNotInStock,
+        route: Route::Look(LookForm::FilmNotInStock),
     },
     Pattern {
         text: "/balance/{customer}/{at}",
-        route: Route::Balance,
+        route: Route::Look(LookForm::Balance),
     },
     Pattern {
         text: "/overdue/{at}",
-        route: Route::Overdue,
+        route: Route::Look(LookForm::Overdue),
     },
     Pattern {
         text: "/rewards/{at}/{purchases}/{cents}",
-        route: Route::Rewards,
+        route: Route::Look(LookForm::Rewards),
     },
     Pattern {
         text: "/views/{name}",

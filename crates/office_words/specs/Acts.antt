@@ -23,8 +23,8 @@ name_of rows = text_given 1 45 (codes "name") rows
 
 abbrev pub city_of : List Row → Option City
 city_of rows =
-    with_value (name_of rows) (λ name.
     with_value (row_given (codes "country") rows) (λ country.
+    with_value (name_of rows) (λ name.
     Some (record { name = name; country = country })))
 
 abbrev pub actor_of : List Row → Option Actor
@@ -131,22 +131,22 @@ manager_of rows =
     with_value (row_given (codes "staff") rows) (λ staff.
     Some (office.Manager branch staff)))
 
--- what a command of this name does to the branches and their staff
+-- what a command of this name does that takes numbers alone
+abbrev pub plain_act_of : Text → List Row → Option OfficeAct
+plain_act_of name rows = if bytes_eq name (codes "film-price") then price_of rows
+    else (if bytes_eq name (codes "film-withdraw") then option_map office.Withdraw (row_given (codes "film") rows)
+    else (if bytes_eq name (codes "cast-add") then cast_of rows
+    else (if bytes_eq name (codes "staff-leave") then option_map office.Leave (row_given (codes "staff") rows)
+    else (if bytes_eq name (codes "manager-set") then manager_of rows
+    else None))))
+
+-- what a command of this name does that adds a branch or staff, or takes numbers alone
 abbrev pub place_act_of : Text → List Row → Option OfficeAct
 place_act_of name rows = if bytes_eq name (codes "branch-add") then option_map office.Branch (branch_of rows)
     else (if bytes_eq name (codes "staff-add") then option_map office.Staff (staff_of rows)
-    else (if bytes_eq name (codes "staff-leave") then option_map office.Leave (row_given (codes "staff") rows)
-    else (if bytes_eq name (codes "manager-set") then manager_of rows
-    else None)))
+    else plain_act_of name rows)
 
--- what a command of this name does to the films that there are, or to the branches
-abbrev pub film_act_of : Text → List Row → Option OfficeAct
-film_act_of name rows = if bytes_eq name (codes "film-price") then price_of rows
-    else (if bytes_eq name (codes "film-withdraw") then option_map office.Withdraw (row_given (codes "film") rows)
-    else (if bytes_eq name (codes "cast-add") then cast_of rows
-    else place_act_of name rows))
-
--- what a command of this name does to the catalogue
+-- what a command of this name does
 abbrev pub office_act_of : Text → List Row → Option OfficeAct
 office_act_of name rows = if bytes_eq name (codes "country-add") then option_map office.Country (name_of rows)
     else (if bytes_eq name (codes "city-add") then option_map office.City (city_of rows)
@@ -154,14 +154,7 @@ office_act_of name rows = if bytes_eq name (codes "country-add") then option_map
     else (if bytes_eq name (codes "category-add") then option_map office.Category (name_of rows)
     else (if bytes_eq name (codes "actor-add") then option_map office.Actor (actor_of rows)
     else (if bytes_eq name (codes "film-add") then option_map office.Film (film_of rows)
-    else (if bytes_eq name (codes "film-price") then price_of rows
-    else (if bytes_eq name (codes "film-withdraw") then option_map office.Withdraw (row_given (codes "film") rows)
-    else (if bytes_eq name (codes "cast-add") then cast_of rows
-    else (if bytes_eq name (codes "branch-add") then option_map office.Branch (branch_of rows)
-    else (if bytes_eq name (codes "staff-add") then option_map office.Staff (staff_of rows)
-    else (if bytes_eq name (codes "staff-leave") then option_map office.Leave (row_given (codes "staff") rows)
-    else (if bytes_eq name (codes "manager-set") then manager_of rows
-    else None))))))))))))
+    else place_act_of name rows)))))
 
 -- a command of head office, with its key
 abbrev pub command_of : Text → List Row → Option LineAct

@@ -1,27 +1,23 @@
+ghost use Rattle.std.specs.Prelude.{◌≡◌};
 ghost use Rattle.office_words.specs.Given.{values_of, Reads};
-ghost use Rattle.office_words.specs.Acts.{name_of, city_of, actor_of, facts_of, film_of, price_of, cast_of, contact_of, branch_of};
-ghost use Rattle.office_words.specs.Acts.{person_of, staff_of, manager_of, place_act_of, film_act_of, office_act_of, command_of, serve_of, act_of};
+ghost use Rattle.office_words.specs.Acts.{city_of, actor_of, facts_of, film_of, contact_of, branch_of};
+ghost use Rattle.office_words.specs.Acts.{person_of, staff_of, plain_act_of, place_act_of, office_act_of, command_of, serve_of, act_of};
 
 use crate::given;
 use clap::ArgMatches;
 use shop_types::{
     Actor, Amount, Branch, CategoryNo, City, Features, Film, L45, LanguageNo, LineAct, Minutes,
-    OfficeAct, OfficeAsk, OfficeCommand, Period, Person, Rate, Rating, Staff, T45, T128, Usage,
+    OfficeAct, OfficeAsk, OfficeCommand, Period, Person, Rate, Rating, Staff, T128, Usage,
 };
 use std::alloc::Global;
-
-fn named(alloc: Global, given: &ArgMatches<'_>) -> Result<T45, Usage>
-    ensures { Reads result (name_of (values_of given.now)) }
-{
-    given::text(alloc, given, "name")
-}
 
 fn city(alloc: Global, given: &ArgMatches<'_>) -> Result<City, Usage>
     ensures { Reads result (city_of (values_of given.now)) }
 {
+    let country = given::of_kind(alloc, given::row(given, "country"))?;
     Ok(City {
-        name: named(alloc, given)?,
-        country: given::row(alloc, given, "country")?,
+        name: given::text(alloc, given, "name")?,
+        country,
     })
 }
 
@@ -47,25 +43,25 @@ struct FilmFacts {
     features: Features,
 }
 
-fn film_facts(alloc: Global, given: &ArgMatches<'_>) -> Result<FilmFacts, Usage>
-    ensures { Reads result (facts_of (values_of given.now)) }
+fn film_facts(given: &ArgMatches<'_>) -> Option<FilmFacts>
+    ensures { result ≡ facts_of (values_of given.now) }
 {
-    Ok(FilmFacts {
-        language: given::row(alloc, given, "language")?,
-        category: given::row(alloc, given, "category")?,
-        period: given::period(alloc, given)?,
-        rate: given::rate(alloc, given)?,
-        replacement: given::replacement(alloc, given)?,
-        minutes: given::minutes(alloc, given)?,
-        rating: given::rating(alloc, given)?,
-        features: given::features(alloc, given)?,
+    Some(FilmFacts {
+        language: given::row(given, "language")?,
+        category: given::row(given, "category")?,
+        period: given::period(given)?,
+        rate: given::rate(given)?,
+        replacement: given::replacement(given)?,
+        minutes: given::minutes(given)?,
+        rating: given::rating(given)?,
+        features: given::features(given)?,
     })
 }
 
 fn film(alloc: Global, given: &ArgMatches<'_>) -> Result<Film, Usage>
     ensures { Reads result (film_of (values_of given.now)) }
 {
-    let facts = film_facts(alloc, given)?;
+    let facts = given::of_kind(alloc, film_facts(given))?;
     Ok(Film {
         title: given::text(alloc, given, "title")?,
         description: given::text(alloc, given, "description")?,
@@ -77,24 +73,6 @@ fn film(alloc: Global, given: &ArgMatches<'_>) -> Result<Film, Usage>
         minutes: facts.minutes,
         rating: facts.rating,
         features: facts.features,
-    })
-}
-
-fn price(alloc: Global, given: &ArgMatches<'_>) -> Result<OfficeAct, Usage>
-    ensures { Reads result (price_of (values_of given.now)) }
-{
-    Ok(OfficeAct::Price {
-        film: given::row(alloc, given, "film")?,
-        rate: given::rate(alloc, given)?,
-    })
-}
-
-fn cast(alloc: Global, given: &ArgMatches<'_>) -> Result<OfficeAct, Usage>
-    ensures { Reads result (cast_of (values_of given.now)) }
-{
-    Ok(OfficeAct::Cast {
-        film: given::row(alloc, given, "film")?,
-        actor: given::row(alloc, given, "actor")?,
     })
 }
 
@@ -119,8 +97,8 @@ fn contact_details(alloc: Global, given: &ArgMatches<'_>) -> Result<Contact, Usa
 fn branch(alloc: Global, given: &ArgMatches<'_>) -> Result<Branch, Usage>
     ensures { Reads result (branch_of (values_of given.now)) }
 {
-    let token = given::token(alloc, given)?;
-    let city = given::row(alloc, given, "city")?;
+    let token = given::of_kind(alloc, given::token(given))?;
+    let city = given::of_kind(alloc, given::row(given, "city"))?;
     let found = contact_details(alloc, given)?;
     Ok(Branch {
         token,
@@ -134,7 +112,7 @@ fn branch(alloc: Global, given: &ArgMatches<'_>) -> Result<Branch, Usage>
 fn person(alloc: Global, given: &ArgMatches<'_>) -> Result<Person, Usage>
     ensures { Reads result (person_of (values_of given.now)) }
 {
-    let city = given::row(alloc, given, "city")?;
+    let city = given::of_kind(alloc, given::row(given, "city"))?;
     let names = actor(alloc, given)?;
     let found = contact_details(alloc, given)?;
     Ok(Person {
@@ -150,43 +128,44 @@ fn person(alloc: Global, given: &ArgMatches<'_>) -> Result<Person, Usage>
 fn staff(alloc: Global, given: &ArgMatches<'_>) -> Result<Staff, Usage>
     ensures { Reads result (staff_of (values_of given.now)) }
 {
+    let branch = given::of_kind(alloc, given::row(given, "branch"))?;
     Ok(Staff {
-        branch: given::row(alloc, given, "branch")?,
+        branch,
         person: person(alloc, given)?,
     })
 }
 
-fn manager(alloc: Global, given: &ArgMatches<'_>) -> Result<OfficeAct, Usage>
-    ensures { Reads result (manager_of (values_of given.now)) }
+/// What a command of this name does that takes numbers alone.
+fn plain_act(name: &str, given: &ArgMatches<'_>) -> Option<OfficeAct>
+    ensures { result ≡ plain_act_of name.now (values_of given.now) }
 {
-    Ok(OfficeAct::Manager {
-        branch: given::row(alloc, given, "branch")?,
-        staff: given::row(alloc, given, "staff")?,
-    })
+    match name {
+        "film-price" => Some(OfficeAct::Price {
+            film: given::row(given, "film")?,
+            rate: given::rate(given)?,
+        }),
+        "film-withdraw" => Some(OfficeAct::Withdraw(given::row(given, "film")?)),
+        "cast-add" => Some(OfficeAct::Cast {
+            film: given::row(given, "film")?,
+            actor: given::row(given, "actor")?,
+        }),
+        "staff-leave" => Some(OfficeAct::Leave(given::row(given, "staff")?)),
+        "manager-set" => Some(OfficeAct::Manager {
+            branch: given::row(given, "branch")?,
+            staff: given::row(given, "staff")?,
+        }),
+        _ => None,
+    }
 }
 
-/// What a command of this name does to the branches and their staff.
+/// What a command of this name does that adds a branch or staff, or takes numbers alone.
 fn place_act(alloc: Global, name: &str, given: &ArgMatches<'_>) -> Result<OfficeAct, Usage>
     ensures { Reads result (place_act_of name.now (values_of given.now)) }
 {
     match name {
         "branch-add" => Ok(OfficeAct::Branch(branch(alloc, given)?)),
         "staff-add" => Ok(OfficeAct::Staff(staff(alloc, given)?)),
-        "staff-leave" => Ok(OfficeAct::Leave(given::row(alloc, given, "staff")?)),
-        "manager-set" => manager(alloc, given),
-        _ => Err(given::unread(alloc)),
-    }
-}
-
-/// What a command of this name does to the films that there are, or to the branches.
-fn film_act(alloc: Global, name: &str, given: &ArgMatches<'_>) -> Result<OfficeAct, Usage>
-    ensures { Reads result (film_act_of name.now (values_of given.now)) }
-{
-    match name {
-        "film-price" => price(alloc, given),
-        "film-withdraw" => Ok(OfficeAct::Withdraw(given::row(alloc, given, "film")?)),
-        "cast-add" => cast(alloc, given),
-        _ => place_act(alloc, name, given),
+        _ => given::of_kind(alloc, plain_act(name, given)),
     }
 }
 
@@ -195,13 +174,13 @@ fn office_act(alloc: Global, name: &str, given: &ArgMatches<'_>) -> Result<Offic
     ensures { Reads result (office_act_of name.now (values_of given.now)) }
 {
     match name {
-        "country-add" => Ok(OfficeAct::Country(named(alloc, given)?)),
+        "country-add" => Ok(OfficeAct::Country(given::text(alloc, given, "name")?)),
         "city-add" => Ok(OfficeAct::City(city(alloc, given)?)),
-        "language-add" => Ok(OfficeAct::Language(named(alloc, given)?)),
-        "category-add" => Ok(OfficeAct::Category(named(alloc, given)?)),
+        "language-add" => Ok(OfficeAct::Language(given::text(alloc, given, "name")?)),
+        "category-add" => Ok(OfficeAct::Category(given::text(alloc, given, "name")?)),
         "actor-add" => Ok(OfficeAct::Actor(actor(alloc, given)?)),
         "film-add" => Ok(OfficeAct::Film(film(alloc, given)?)),
-        _ => film_act(alloc, name, given),
+        _ => place_act(alloc, name, given),
     }
 }
 
@@ -214,12 +193,12 @@ fn command(alloc: Global, name: &str, given: &ArgMatches<'_>) -> Result<LineAct,
     }))
 }
 
-fn serve(alloc: Global, given: &ArgMatches<'_>) -> Result<LineAct, Usage>
-    ensures { Reads result (serve_of (values_of given.now)) }
+fn serve(given: &ArgMatches<'_>) -> Option<LineAct>
+    ensures { result ≡ serve_of (values_of given.now) }
 {
-    Ok(LineAct::Serve {
-        port: given::port(alloc, given)?,
-        connections: given::connections(alloc, given)?,
+    Some(LineAct::Serve {
+        port: given::u16_of(given, "port")?,
+        connections: given::u32_of(given, "connections")?,
     })
 }
 
@@ -228,9 +207,9 @@ pub(crate) fn act(alloc: Global, name: &str, given: &ArgMatches<'_>) -> Result<L
     ensures { Reads result (act_of name.now (values_of given.now)) }
 {
     match name {
-        "init" => Ok(LineAct::Init(given::token(alloc, given)?)),
+        "init" => Ok(LineAct::Init(given::of_kind(alloc, given::token(given))?)),
         "migrate" => Ok(LineAct::Migrate),
-        "serve" => serve(alloc, given),
+        "serve" => given::of_kind(alloc, serve(given)),
         "replay" => Ok(LineAct::Replay),
         "sales" => Ok(LineAct::OfficeLook(OfficeAsk::Sales)),
         _ => command(alloc, name, given),

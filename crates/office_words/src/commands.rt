@@ -18,7 +18,7 @@ struct Subcommand {
 }
 
 /// The subcommands, in the order in which help tells them.
-const SUBCOMMANDS: [Subcommand; 18] = [
+static SUBCOMMANDS: [Subcommand; 18] = [
     // ---- what changes the catalogue
     Subcommand {
         name: "country-add",

@@ -19,7 +19,7 @@ pub(crate) fn unread(alloc: Global) -> Usage {
 }
 
 /// The value, where there is one.
-fn of_kind<T>(alloc: Global, value: Option<T>) -> Result<T, Usage>
+pub(crate) fn of_kind<T>(alloc: Global, value: Option<T>) -> Result<T, Usage>
     ensures { Reads result value }
 {
     match value {
@@ -52,13 +52,13 @@ fn u8_of(given: &ArgMatches<'_>, id: &str) -> Option<u8>
     given.get_one::<u8>(id)
 }
 
-fn u16_of(given: &ArgMatches<'_>, id: &str) -> Option<u16>
+pub(crate) fn u16_of(given: &ArgMatches<'_>, id: &str) -> Option<u16>
     ensures { result ≡ number_given 16 id.now (values_of given.now) }
 {
     given.get_one::<u16>(id)
 }
 
-fn u32_of(given: &ArgMatches<'_>, id: &str) -> Option<u32>
+pub(crate) fn u32_of(given: &ArgMatches<'_>, id: &str) -> Option<u32>
     ensures { result ≡ number_given 32 id.now (values_of given.now) }
 {
     given.get_one::<u32>(id)
@@ -88,97 +88,57 @@ pub(crate) fn key(alloc: Global, given: &ArgMatches<'_>) -> Result<Key, Usage>
     of_kind(alloc, Key::read(owned(alloc, text)?))
 }
 
-pub(crate) fn token(alloc: Global, given: &ArgMatches<'_>) -> Result<Token, Usage>
-    ensures { Reads result (token_given (values_of given.now)) }
+pub(crate) fn token(given: &ArgMatches<'_>) -> Option<Token>
+    ensures { result ≡ token_given (values_of given.now) }
 {
-    let Some(text) = str_of(given, "token") else {
-        return Err(unread(alloc));
-    };
-    of_kind(alloc, Token::read(text.as_bytes()))
+    Token::read(str_of(given, "token")?.as_bytes())
 }
 
-pub(crate) fn rating(alloc: Global, given: &ArgMatches<'_>) -> Result<Rating, Usage>
-    ensures { Reads result (rating_given (values_of given.now)) }
+pub(crate) fn rating(given: &ArgMatches<'_>) -> Option<Rating>
+    ensures { result ≡ rating_given (values_of given.now) }
 {
-    let Some(text) = str_of(given, "rating") else {
-        return Err(unread(alloc));
-    };
-    of_kind(alloc, Rating::read(text))
+    Rating::read(str_of(given, "rating")?)
 }
 
-pub(crate) fn features(alloc: Global, given: &ArgMatches<'_>) -> Result<Features, Usage>
-    ensures { Reads result (features_given (values_of given.now)) }
+pub(crate) fn features(given: &ArgMatches<'_>) -> Option<Features>
+    ensures { result ≡ features_given (values_of given.now) }
 {
-    let Some(text) = str_of(given, "features") else {
-        return Err(unread(alloc));
-    };
-    of_kind(alloc, Features::read(text))
+    Features::read(str_of(given, "features")?)
 }
 
 // ---- numbers
 
 /// The number of a row.
-pub(crate) fn row<const KIND: u8>(
-    alloc: Global,
-    given: &ArgMatches<'_>,
-    id: &str,
-) -> Result<RowNumber<KIND>, Usage>
-    ensures { Reads result (row_given id.now (values_of given.now)) }
+pub(crate) fn row<const KIND: u8>(given: &ArgMatches<'_>, id: &str) -> Option<RowNumber<KIND>>
+    ensures { result ≡ row_given id.now (values_of given.now) }
 {
-    let Some(number) = u32_of(given, id) else {
-        return Err(unread(alloc));
-    };
-    of_kind(alloc, RowNumber::new(number))
+    RowNumber::new(u32_of(given, id)?)
 }
 
-pub(crate) fn rate(alloc: Global, given: &ArgMatches<'_>) -> Result<Rate, Usage>
-    ensures { Reads result (rate_given (values_of given.now)) }
+pub(crate) fn rate(given: &ArgMatches<'_>) -> Option<Rate>
+    ensures { result ≡ rate_given (values_of given.now) }
 {
-    let Some(cents) = u16_of(given, "rate") else {
-        return Err(unread(alloc));
-    };
-    of_kind(alloc, Rate::new(cents))
+    Rate::new(u16_of(given, "rate")?)
 }
 
-pub(crate) fn replacement(alloc: Global, given: &ArgMatches<'_>) -> Result<Amount, Usage>
-    ensures { Reads result (replacement_given (values_of given.now)) }
+pub(crate) fn replacement(given: &ArgMatches<'_>) -> Option<Amount>
+    ensures { result ≡ replacement_given (values_of given.now) }
 {
-    let Some(cents) = u32_of(given, "replacement") else {
-        return Err(unread(alloc));
-    };
-    of_kind(alloc, Amount::new(cents))
+    Amount::new(u32_of(given, "replacement")?)
 }
 
-pub(crate) fn period(alloc: Global, given: &ArgMatches<'_>) -> Result<Period, Usage>
-    ensures { Reads result (period_given (values_of given.now)) }
+pub(crate) fn period(given: &ArgMatches<'_>) -> Option<Period>
+    ensures { result ≡ period_given (values_of given.now) }
 {
-    let Some(days) = u8_of(given, "period") else {
-        return Err(unread(alloc));
-    };
-    of_kind(alloc, Period::new(days))
+    Period::new(u8_of(given, "period")?)
 }
 
 /// The length of a film, which may be left out.
-pub(crate) fn minutes(alloc: Global, given: &ArgMatches<'_>) -> Result<Option<Minutes>, Usage>
-    ensures { Reads result (minutes_given (values_of given.now)) }
+pub(crate) fn minutes(given: &ArgMatches<'_>) -> Option<Option<Minutes>>
+    ensures { result ≡ minutes_given (values_of given.now) }
 {
     let Some(_) = str_of(given, "length") else {
-        return Ok(None);
+        return Some(None);
     };
-    let Some(number) = u16_of(given, "length") else {
-        return Err(unread(alloc));
-    };
-    Ok(Some(of_kind(alloc, Minutes::new(number))?))
-}
-
-pub(crate) fn port(alloc: Global, given: &ArgMatches<'_>) -> Result<u16, Usage>
-    ensures { Reads result (number_given 16 (codes "port") (values_of given.now)) }
-{
-    of_kind(alloc, u16_of(given, "port"))
-}
-
-pub(crate) fn connections(alloc: Global, given: &ArgMatches<'_>) -> Result<u32, Usage>
-    ensures { Reads result (number_given 32 (codes "connections") (values_of given.now)) }
-{
-    of_kind(alloc, u32_of(given, "connections"))
+    Some(Some(Minutes::new(u16_of(given, "length")?)?))
 }

@@ -35,58 +35,25 @@ pub(crate) fn optional<'a>(alloc: Global, name: &'a str) -> Arg<'a>
     Arg::new(alloc, name).long(name)
 }
 
-/// `--NAME TEXT`, which must be there.
-fn text<'a>(alloc: Global, name: &'a str) -> Arg<'a>
-    ensures rule { rule_of result ≡ line.text_rule name.entry.now }
-    ensures local { result.global ≡ false }
-{
-    Arg::new(alloc, name).long(name).required(true)
-}
-
-/// `--NAME TEXT`, which has a default.
-fn default_text<'a>(alloc: Global, name: &'a str, value: &'a str) -> Arg<'a>
-    ensures rule { rule_of result ≡ line.default_rule name.entry.now value.entry.now }
-    ensures local { result.global ≡ false }
-{
-    optional(alloc, name).default_value(value)
-}
-
-/// `--NAME NUMBER`, of this range, which must be there.
-fn number<'a>(alloc: Global, name: &'a str, low: u64, high: u64) -> Arg<'a>
-    ensures rule { rule_of result ≡ line.number_rule name.entry.now low high }
-    ensures local { result.global ≡ false }
-{
-    text(alloc, name).value_parser(ValueParser::unsigned(low, high))
-}
-
-/// `--NAME NUMBER`, of this range, which may be left out.
-fn optional_number<'a>(alloc: Global, name: &'a str, low: u64, high: u64) -> Arg<'a>
-    ensures rule { rule_of result ≡ line.optional_number_rule name.entry.now low high }
-    ensures local { result.global ≡ false }
-{
-    optional(alloc, name).value_parser(ValueParser::unsigned(low, high))
-}
-
-/// `--NAME NUMBER`, of this range, which has a default.
-fn default_number<'a>(alloc: Global, name: &'a str, low: u64, high: u64, value: &'a str) -> Arg<'a>
-    ensures rule { rule_of result ≡ line.default_number_rule name.entry.now low high value.entry.now }
-    ensures local { result.global ≡ false }
-{
-    optional_number(alloc, name, low, high).default_value(value)
-}
-
 /// The option of this name and kind.
 fn option<'a>(alloc: Global, name: &'static str, kind: Kind) -> Arg<'a>
     ensures rule { rule_of result ≡ kind_rule name.entry.now kind }
     ensures local { result.global ≡ false }
 {
+    let named = optional(alloc, name);
     match kind {
-        Kind::Text => text(alloc, name),
-        Kind::DefaultText(value) => default_text(alloc, name, value),
-        Kind::Number(low, high) => number(alloc, name, low, high),
-        Kind::OptionalNumber(low, high) => optional_number(alloc, name, low, high),
-        Kind::DefaultNumber(low, high, value) => default_number(alloc, name, low, high, value),
-        Kind::Row => number(alloc, name, 1, 4_294_967_295),
+        Kind::Text => named.required(true),
+        Kind::DefaultText(value) => named.default_value(value),
+        Kind::Number(low, high) => named
+            .required(true)
+            .value_parser(ValueParser::unsigned(low, high)),
+        Kind::OptionalNumber(low, high) => named.value_parser(ValueParser::unsigned(low, high)),
+        Kind::DefaultNumber(low, high, value) => named
+            .value_parser(ValueParser::unsigned(low, high))
+            .default_value(value),
+        Kind::Row => named
+            .required(true)
+            .value_parser(ValueParser::unsigned(1, 4_294_967_295)),
     }
 }
 

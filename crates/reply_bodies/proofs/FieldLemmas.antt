@@ -19,7 +19,7 @@ put_at Less k l d e ms put_ms hd he hms hput = rw (hd, he, hms) refl
 put_at Equal k l d e ms put_ms hd he hms hput = rw (hd, hms) refl
 put_at Greater k l d e ms put_ms hd he hms hput = rw (he, hput) refl
 
-put_no_float : (k : model.Text) (d : Data) (ms : Members) → has_float d ≡ false → members_have_float ms ≡ false → members_have_float (put k d ms) ≡ false
+pub put_no_float : (k : model.Text) (d : Data) (ms : Members) → has_float d ≡ false → members_have_float ms ≡ false → members_have_float (put k d ms) ≡ false
 put_no_float k d no_members none h = rw none refl
 put_no_float k d (member l e ms) none h =
     let each = neither (has_float e) (members_have_float ms) h in

@@ -1,2 +1,3 @@
 pub mod TextLemmas
 pub mod FieldLemmas
+pub mod FilmLemmas

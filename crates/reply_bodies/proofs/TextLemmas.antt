@@ -1,5 +1,5 @@
 -- What serde_json writes is JSON text as the definitions of the shop have it.
-use Rattle.std.proofs.Common.{◌≡◌, ◌∙◌, refl, ap, ℕ, true, false, Bool, List, [], ◌∷◌, ◌++◌, map, decimal, Option, Some, None}
+use Rattle.std.proofs.Common.{◌≡◌, ◌∙◌, refl, ap, ℕ, true, false, Bool, List, [], ◌∷◌, ◌++◌, map, decimal}
 use Rattle.std.specs.Prelude.{Result, IfOk, String, string_bytes}
 use Rattle.std.specs.declared.alloc.Global.{Global}
 use Rattle.std.proofs.lemmas.Result.{IfOk-weaker}
@@ -7,11 +7,10 @@ use Rattle.json.specs.Print as print
 use Rattle.serde_json.specs.Data.{Data, null, boolean, number, unsigned, string, array, object, Items, no_items, item, Members, no_members, member}
 use Rattle.serde_json.specs.View.{items_of}
 use Rattle.serde_json.specs.Written as written
-use Rattle.shop_model.specs.Values.{Text, Film, OfficeAct, AddCountry, AddCity, AddLanguage, AddCategory, AddActor, AddFilm, PriceFilm, WithdrawFilm, AddCast, AddBranch, AddStaff, StaffLeaves, SetManager}
+use Rattle.shop_model.specs.Values.{Text}
 use Rattle.shop_model.specs.Json as json
-use Rattle.shop_model.specs.Answers.{film_text}
 use Rattle.reply_bodies.specs.Texts.{json_text, item_texts, member_texts}
-use Rattle.reply_bodies.specs.Bodies.{numbers_value, film_value, office_value, office_members}
+use Rattle.reply_bodies.specs.Bodies.{numbers_value}
 
 same_escapes : print.escape_byte ≡ json.escape_byte
 unfolding print.escape_byte json.escape_byte
@@ -59,28 +58,3 @@ pub text_of_value : {E : Type 0} (r : Result (String Global) E) (value d : Data)
     → IfOk r (λ s. string_bytes s ≡ json_text d)
 text_of_value r value d e none_float h =
     IfOk-weaker r _ _ (λ s text. text (ap written.has_float e ∙ none_float) ∙ (ap written.compact_text e ∙ same_text d)) h
-
--- a film's length is a number or null
-pub film_body : (n : ℕ) (it : Film) → (written.has_float (film_value n it) ≡ false) × (json_text (film_value n it) ≡ film_text n it)
-film_body n it = go it.minutes
-  where
-    go : (minutes : Option ℕ) → (written.has_float (film_value n (record it { minutes = minutes })) ≡ false)
-        × (json_text (film_value n (record it { minutes = minutes })) ≡ film_text n (record it { minutes = minutes }))
-    go None = (refl, refl)
-    go (Some minutes) = (refl, refl)
-
--- what a command of head office is told has numbers alone
-pub office_body : (act : OfficeAct) (next : ℕ) → (written.has_float (office_value act next) ≡ false) × (json_text (office_value act next) ≡ json.object (office_members act next))
-office_body (AddCountry name) next = (refl, refl)
-office_body (AddCity city) next = (refl, refl)
-office_body (AddLanguage name) next = (refl, refl)
-office_body (AddCategory name) next = (refl, refl)
-office_body (AddActor actor) next = (refl, refl)
-office_body (AddFilm film) next = (refl, refl)
-office_body (PriceFilm film rate) next = (refl, refl)
-office_body (WithdrawFilm film) next = (refl, refl)
-office_body (AddCast cast) next = (refl, refl)
-office_body (AddBranch branch) next = (refl, refl)
-office_body (AddStaff staff) next = (refl, refl)
-office_body (StaffLeaves staff) next = (refl, refl)
-office_body (SetManager branch staff) next = (refl, refl)

@@ -1,3 +1,4 @@
 pub mod Bodies
 pub mod Texts
 pub mod Fields
+pub mod FilmBodies

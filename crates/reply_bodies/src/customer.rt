@@ -1,13 +1,10 @@
 ghost use Rattle.std.specs.Prelude.{◌≡◌, [], ◌∷◌, codes, decimal, IfOk, string_bytes};
-ghost use Rattle.serde_json.specs.View.{view};
 ghost use Rattle.shop_model.specs.Json.{object};
 ghost use Rattle.shop_model.specs.Calendar.{moment_text};
 ghost use Rattle.shop_model.specs.Answers.{customer_text};
 ghost use Rattle.shop_types.specs.Seen.{seen_customer};
-ghost use Rattle.reply_bodies.specs.Bodies.{customer_value};
 
-use crate::fields::{Field, object_of, object_text};
-use serde_json::Value;
+use crate::fields::{Field, object_text};
 use shop_types::Customer;
 use shop_values::CustomerNo;
 use std::alloc::{AllocError, Global};
@@ -19,18 +16,18 @@ pub fn new_customer_text(alloc: Global, number: CustomerNo) -> Result<String, Al
     object_text(alloc, &[Field::Number("customer", number.get() as u64)])
 }
 
-/// The customer by that text of the moment.
-fn customer_object<'a>(
+/// The body with that text of the moment.
+fn customer_body<'a>(
     alloc: Global,
     number: CustomerNo,
     customer: &'a Customer,
     created: &'a str,
-) -> Result<Value, AllocError>
-    ensures { IfOk result (λ v. created.now ≡ moment_text customer.now.created
-        → view v ≡ customer_value number (seen_customer customer.now)) }
+) -> Result<String, AllocError>
+    ensures { IfOk result (λ s. created.now ≡ moment_text customer.now.created
+        → string_bytes s ≡ customer_text number (seen_customer customer.now)) }
 {
     let person = &customer.person;
-    object_of(
+    object_text(
         alloc,
         &[
             Field::Flag("active", customer.active),
@@ -46,17 +43,6 @@ fn customer_object<'a>(
     )
 }
 
-fn customer_value(
-    alloc: Global,
-    number: CustomerNo,
-    customer: &Customer,
-) -> Result<Value, AllocError>
-    ensures { IfOk result (λ v. view v ≡ customer_value number (seen_customer customer.now)) }
-{
-    let created = customer.created.to_string(alloc)?;
-    customer_object(alloc, number, customer, created.as_str())
-}
-
 /// The body that shows a customer and its number: the moment is its text, the city is its number, and an empty postal code or telephone number is an empty
 /// text.
 pub fn customer_text(
@@ -66,5 +52,6 @@ pub fn customer_text(
 ) -> Result<String, AllocError>
     ensures { IfOk result (λ s. string_bytes s ≡ customer_text number (seen_customer customer.now)) }
 {
-    customer_value(alloc, number, customer)?.to_string(alloc)
+    let created = customer.created.to_string(alloc)?;
+    customer_body(alloc, number, customer, created.as_str())
 }

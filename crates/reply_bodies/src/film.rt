@@ -2,7 +2,7 @@ ghost use Rattle.std.specs.Prelude.{◌≡◌, IfOk, string_bytes};
 ghost use Rattle.serde_json.specs.View.{view};
 ghost use Rattle.shop_model.specs.Answers.{film_text};
 ghost use Rattle.shop_types.specs.Seen.{seen_film};
-ghost use Rattle.reply_bodies.specs.Bodies.{film_value};
+ghost use Rattle.reply_bodies.specs.FilmBodies.{film_value};
 
 use crate::fields::{Field, object_of};
 use serde_json::Value;

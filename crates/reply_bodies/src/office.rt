@@ -1,18 +1,16 @@
 ghost use Rattle.std.specs.Prelude.{◌≡◌, ◌∷◌, option_to_list, IfOk, string_bytes};
-ghost use Rattle.serde_json.specs.View.{view};
 ghost use Rattle.shop_model.specs.Json.{object};
 ghost use Rattle.shop_types.specs.Seen.{seen_office_act};
-ghost use Rattle.reply_bodies.specs.Fields.{fields_value};
-ghost use Rattle.reply_bodies.specs.Bodies.{office_value, office_members};
+ghost use Rattle.reply_bodies.specs.Fields.{fields_text};
+ghost use Rattle.reply_bodies.specs.Bodies.{office_members};
 
-use crate::fields::{Field, object_of};
-use serde_json::Value;
+use crate::fields::{Field, object_text};
 use shop_types::OfficeAct;
 use std::alloc::{AllocError, Global};
 
 /// The members of the body, one or two: a new row's number is the next one of its kind.
 fn office_fields(act: &OfficeAct, next: u32) -> (Field<'static>, Option<Field<'static>>)
-    ensures { fields_value (result.0 ∷ option_to_list result.1) ≡ office_value (seen_office_act act.now) next }
+    ensures { fields_text (result.0 ∷ option_to_list result.1) ≡ object (office_members (seen_office_act act.now) next) }
 {
     let next = next as u64;
     match act {
@@ -41,18 +39,12 @@ fn office_fields(act: &OfficeAct, next: u32) -> (Field<'static>, Option<Field<'s
     }
 }
 
-fn office_value(alloc: Global, act: &OfficeAct, next: u32) -> Result<Value, AllocError>
-    ensures { IfOk result (λ v. view v ≡ office_value (seen_office_act act.now) next) }
-{
-    match office_fields(act, next) {
-        (only, None) => object_of(alloc, &[only]),
-        (first, Some(second)) => object_of(alloc, &[first, second]),
-    }
-}
-
 /// The body that tells head office what its command did: a new row has the next number of its kind.
 pub fn office_text(alloc: Global, act: &OfficeAct, next: u32) -> Result<String, AllocError>
     ensures { IfOk result (λ s. string_bytes s ≡ object (office_members (seen_office_act act.now) next)) }
 {
-    office_value(alloc, act, next)?.to_string(alloc)
+    match office_fields(act, next) {
+        (only, None) => object_text(alloc, &[only]),
+        (first, Some(second)) => object_text(alloc, &[first, second]),
+    }
 }

@@ -2,10 +2,10 @@ ghost use Rattle.std.specs.Prelude.{◌≡◌, [], ◌∷◌, codes, decimal, le
 ghost use Rattle.std.specs.Fmt.{signed_decimal};
 ghost use Rattle.serde_json.specs.View.{view};
 ghost use Rattle.shop_model.specs.Json.{numbers_text, object};
-ghost use Rattle.reply_bodies.specs.Bodies.{balance_value, rewards_value};
+ghost use Rattle.reply_bodies.specs.Bodies.{balance_value};
 
 use crate::fields::{Field, object_text};
-use crate::numbers::numbers_value;
+use crate::numbers::listed_text;
 use serde_json::{Value, json};
 use shop_values::{Cents, CustomerNo, PaymentNo};
 use std::alloc::{AllocError, Global};
@@ -30,16 +30,9 @@ pub fn balance_text(alloc: Global, balance: Cents) -> Result<String, AllocError>
     balance_value(alloc, balance)?.to_string(alloc)
 }
 
-fn rewards_value(alloc: Global, customers: &[CustomerNo]) -> Result<Value, AllocError>
-    ensures { IfOk result (λ v. view v ≡ rewards_value customers.now) }
-{
-    let numbers = numbers_value(alloc, customers)?;
-    json!(in alloc; {"count": customers.len(), "customers": numbers})
-}
-
 /// The body that lists the customers who are rewarded by their numbers, with their count.
 pub fn rewards_text(alloc: Global, customers: &[CustomerNo]) -> Result<String, AllocError>
     ensures { IfOk result (λ s. string_bytes s ≡ object ((codes "count", decimal (length customers.now)) ∷ (codes "customers", numbers_text customers.now) ∷ [])) }
 {
-    rewards_value(alloc, customers)?.to_string(alloc)
+    listed_text(alloc, "customers", customers)
 }

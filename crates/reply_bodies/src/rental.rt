@@ -1,33 +1,24 @@
 ghost use Rattle.std.specs.Prelude.{◌≡◌, [], ◌∷◌, codes, decimal, length, IfOk, string_bytes};
-ghost use Rattle.serde_json.specs.View.{view};
 ghost use Rattle.shop_model.specs.Json.{flag_text, numbers_text, object};
-ghost use Rattle.reply_bodies.specs.Bodies.{active_value, copies_value, holder_value};
 ghost use Rattle.std.specs.Option.{option_to_list};
 ghost use Rattle.shop_model.specs.Answers.{holder_text};
 
-use crate::fields::{Field, object_of, object_text};
-use crate::numbers::numbers_value;
-use serde_json::{Value, json};
+use crate::fields::{Field, object_text};
+use crate::numbers::listed_text;
 use shop_values::{CopyNo, CustomerNo, RentalNo};
 use std::alloc::{AllocError, Global};
 
-fn active_value(alloc: Global, customer: CustomerNo, active: bool) -> Result<Value, AllocError>
-    ensures { IfOk result (λ v. view v ≡ active_value customer active) }
+/// The body that tells a counter whether the customer may rent from now on.
+pub fn active_text(alloc: Global, customer: CustomerNo, active: bool) -> Result<String, AllocError>
+    ensures { IfOk result (λ s. string_bytes s ≡ object ((codes "active", flag_text active) ∷ (codes "customer", decimal customer) ∷ [])) }
 {
-    object_of(
+    object_text(
         alloc,
         &[
             Field::Flag("active", active),
             Field::Number("customer", customer.get() as u64),
         ],
     )
-}
-
-/// The body that tells a counter whether the customer may rent from now on.
-pub fn active_text(alloc: Global, customer: CustomerNo, active: bool) -> Result<String, AllocError>
-    ensures { IfOk result (λ s. string_bytes s ≡ object ((codes "active", flag_text active) ∷ (codes "customer", decimal customer) ∷ [])) }
-{
-    active_value(alloc, customer, active)?.to_string(alloc)
 }
 
 /// The body that tells a counter the number of the rental it made.
@@ -58,33 +49,20 @@ pub fn in_stock_text(alloc: Global, is_in: bool) -> Result<String, AllocError>
     object_text(alloc, &[Field::Flag("in_stock", is_in)])
 }
 
-fn holder_value(alloc: Global, customer: Option<CustomerNo>) -> Result<Value, AllocError>
-    ensures { IfOk result (λ v. view v ≡ holder_value customer) }
+/// The body that shows which customer has a copy: `null` where none does.
+pub fn holder_text(alloc: Global, customer: Option<CustomerNo>) -> Result<String, AllocError>
+    ensures { IfOk result (λ s. string_bytes s ≡ object ((codes "customer", holder_text (option_to_list customer)) ∷ [])) }
 {
     let holder = match customer {
         Some(customer) => Field::Number("customer", customer.get() as u64),
         None => Field::Null("customer"),
     };
-    object_of(alloc, &[holder])
-}
-
-/// The body that shows which customer has a copy: `null` where none does.
-pub fn holder_text(alloc: Global, customer: Option<CustomerNo>) -> Result<String, AllocError>
-    ensures { IfOk result (λ s. string_bytes s ≡ object ((codes "customer", holder_text (option_to_list customer)) ∷ [])) }
-{
-    holder_value(alloc, customer)?.to_string(alloc)
-}
-
-fn copies_value(alloc: Global, copies: &[CopyNo]) -> Result<Value, AllocError>
-    ensures { IfOk result (λ v. view v ≡ copies_value copies.now) }
-{
-    let numbers = numbers_value(alloc, copies)?;
-    json!(in alloc; {"copies": numbers, "count": copies.len()})
+    object_text(alloc, &[holder])
 }
 
 /// The body that lists copies by their numbers, with their count.
 pub fn copies_text(alloc: Global, copies: &[CopyNo]) -> Result<String, AllocError>
     ensures { IfOk result (λ s. string_bytes s ≡ object ((codes "copies", numbers_text copies.now) ∷ (codes "count", decimal (length copies.now)) ∷ [])) }
 {
-    copies_value(alloc, copies)?.to_string(alloc)
+    listed_text(alloc, "copies", copies)
 }

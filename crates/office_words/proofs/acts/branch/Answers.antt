@@ -10,4 +10,4 @@ pub returns-in_err-found : goal.returns-in_err-found
 returns-in_err-found c = search (rules, branch_without_contact)
 
 pub returns : goal.returns
-returns c = branch_by_contact (values_of c.args.given.now) ∙ (rw (c.in_ok-token.ensures, c.in_ok-found.ensures, c.in_ok-city.ensures) refl)
+returns c = branch_by_contact (values_of c.args.given.now) ∙ (rw (← c.token.ensures, c.in_ok-token.ensures, c.in_ok-found.ensures, ← c.row.ensures, c.in_ok-city.ensures) refl)

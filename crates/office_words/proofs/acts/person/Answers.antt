@@ -13,4 +13,4 @@ pub returns-in_err-found : goal.returns-in_err-found
 returns-in_err-found c = search (rules, person_without_contact)
 
 pub returns : goal.returns
-returns c = person_by_names (values_of c.args.given.now) ∙ (rw (c.in_ok-names.ensures, c.in_ok-found.ensures, c.in_ok-city.ensures) refl)
+returns c = person_by_names (values_of c.args.given.now) ∙ (rw (c.in_ok-names.ensures, c.in_ok-found.ensures, ← c.row.ensures, c.in_ok-city.ensures) refl)

@@ -2,8 +2,9 @@ use Rattle.std.proofs.Common.{◌∙◌}
 use Rattle.std.proofs.lemmas.Result.{IfOk-weaker}
 use Rattle.shop_model.specs.Values.{Film}
 use Rattle.shop_types.specs.Seen.{seen_film}
-use Rattle.reply_bodies.specs.Bodies.{film_value}
-use Rattle.reply_bodies.proofs.TextLemmas.{text_of_value, film_body}
+use Rattle.reply_bodies.specs.FilmBodies.{film_value}
+use Rattle.reply_bodies.proofs.TextLemmas.{text_of_value}
+use Rattle.reply_bodies.proofs.FilmLemmas.{film_body}
 use Rattle.reply_bodies.proofs.film.film_text.Goals as goal
 
 pub returns : goal.returns
