@@ -1,29 +1,22 @@
 //! The list of all actors, each with the films by category: neighbouring rows of one join belong to one actor, and in them to one category.
 
-ghost use Rattle.std.specs.Prelude.{◌≡◌, List, [], ◌∷◌, ◌++◌, false, Option, Some, None, IfOk, OnOk, map, option_map, string_bytes};
+ghost use Rattle.std.specs.Prelude.{◌≡◌, List, [], ◌∷◌, ◌++◌, Option, Some, None, IfOk, OnOk, map, option_map};
 ghost use Rattle.serde_json.specs.Data.{Data};
-ghost use Rattle.sqlite.specs.Held.{state};
-ghost use Rattle.sqlite.specs.State.{HasCleanDisk, IsUnchanged, KeepsCommit, Survives};
-ghost use Rattle.shop_model.specs.Books.{Books};
-ghost use Rattle.shop_model.specs.Machine.{ActorsListed};
-ghost use Rattle.shop_model.specs.Answers.{shown_text};
-ghost use Rattle.shop_model.specs.Views.{ActorRow as ModelActor, actor_info};
-ghost use Rattle.shop_schema.specs.Shop.{Holds};
-ghost use Rattle.shop_schema.specs.Held.{IsHeld};
+ghost use Rattle.shop_model.specs.Views.{ActorRow as ModelActor};
 ghost use Rattle.shop_views.specs.Films.{seen_actor, actor_data};
 ghost use Rattle.shop_views.specs.Page.{HasValues};
-ghost use Rattle.view_rows.specs.Actors.{ActorLine, shown_actor, told_film, take_film, take_any, every_group, seen_group, seen_open, seen_groups, seen_told, actor_alone, whole, seen_part, take_line, closed, HasActors};
+ghost use Rattle.view_rows.specs.Actors.{ActorLine, shown_actor, told_film, take_film, take_any, every_group, seen_group, seen_open, seen_groups, seen_told, actor_alone, whole, seen_part, take_line, HasActors};
 
 use shop_schema::{row_number_at, text_at};
 use shop_values::{ActorNo, CategoryNo, T45, T128};
 use shop_views::{ActorRow, FilmGroup, ListPage, PersonName, actor_row};
-use sql_rows::{StoreFault, TakesRows, each_row, number_or_null_at};
-use sqlite::{Alter, Connection, Row};
+use sql_rows::{StoreFault, TakesRows, number_or_null_at};
+use sqlite::Row;
 use std::alloc::{AllocError, Global};
 
 /// A film of an actor, by its category and title.
 #[derive(Drop)]
-pub(crate) struct CategoryFilm {
+pub struct CategoryFilm {
     number: CategoryNo,
     category: T45,
     title: T128,
@@ -31,21 +24,21 @@ pub(crate) struct CategoryFilm {
 
 /// The films of a category that more rows may belong to.
 #[derive(Drop)]
-pub(crate) struct OpenGroup {
+pub struct OpenGroup {
     number: CategoryNo,
     films: FilmGroup,
 }
 
 /// The films of an actor so far, by category.
 #[derive(Drop)]
-pub(crate) struct FilmGroups {
+pub struct FilmGroups {
     complete: Vec<FilmGroup>,
     last: Option<OpenGroup>,
 }
 
 /// An actor with the films so far.
 #[derive(Drop)]
-pub(crate) struct StartedActor {
+pub struct StartedActor {
     number: ActorNo,
     name: PersonName,
     groups: FilmGroups,
@@ -192,7 +185,7 @@ fn whole_actor(actor: StartedActor) -> Result<ActorRow, AllocError>
 }
 
 /// Puts the actor last.
-fn add_actor(alloc: Global, actor: StartedActor, page: &mut ListPage) -> Result<(), AllocError>
+pub fn add_actor(alloc: Global, actor: StartedActor, page: &mut ListPage) -> Result<(), AllocError>
     ensures { OnOk result ((values : List Data) → HasValues page.old values
         → HasValues page.new (values ++ actor_data (whole (seen_part actor)) ∷ [])) }
 {
@@ -225,10 +218,10 @@ fn next_actor(
 
 /// The list of actors, so far, and the actor that isn't on it yet.
 #[derive(Drop)]
-pub(crate) struct ActorPage {
-    page: ListPage,
-    alloc: Global,
-    actor: Option<StartedActor>,
+pub struct ActorPage {
+    pub page: ListPage,
+    pub alloc: Global,
+    pub actor: Option<StartedActor>,
 }
 
 impl TakesRows for ActorPage {
@@ -239,47 +232,4 @@ impl TakesRows for ActorPage {
         self.actor = Some(next_actor(self.alloc, actor, row, &mut self.page)?);
         Ok(())
     }
-}
-
-/// The text of the list with the last actor.
-fn finish(taker: ActorPage) -> Result<String, AllocError>
-    ensures { IfOk result (λ s. (actors : List ModelActor) → HasValues taker.page (map actor_data actors)
-        → string_bytes s ≡ shown_text (ActorsListed (closed (actors, option_map seen_part taker.actor)))) }
-{
-    let ActorPage {
-        mut page,
-        alloc,
-        actor,
-    } = taker;
-    match actor {
-        Some(actor) => {
-            add_actor(alloc, actor, &mut page)?;
-            page.finish()
-        }
-        None => page.finish(),
-    }
-}
-
-/// All actors, those without a film too, each with the films by category, as the text of a list. The database stays as it was, unless the store fails, which
-/// commits nothing.
-pub fn actor_info<S: Alter>(conn: &mut Connection<S>, alloc: Global) -> Result<String, StoreFault>
-    ensures text { HasCleanDisk (state S.Store conn.new) → IfOk result (λ s. (books : Books) → Holds (state S.Store conn.old) books → IsHeld books
-        → string_bytes s ≡ shown_text (ActorsListed (actor_info books.catalogue))) }
-    ensures same { HasCleanDisk (state S.Store conn.new) → OnOk result (IsUnchanged (state S.Store conn.old) (state S.Store conn.new)) }
-    ensures kept { HasCleanDisk (state S.Store conn.new) → KeepsCommit (state S.Store conn.old) (state S.Store conn.new) }
-    ensures mode { conn.old.in_transaction ≡ false → conn.new.in_transaction ≡ false }
-    ensures survives { Survives (state S.Store conn.old) (state S.Store conn.new) (λ _. ⊥) }
-{
-    let mut taker = ActorPage {
-        page: ListPage::new(alloc),
-        alloc,
-        actor: None,
-    };
-    each_row(
-        conn,
-        "SELECT a.number, a.first, a.last, k.number, k.name, f.title FROM actor AS a LEFT JOIN film_actor AS fa ON fa.actor = a.number LEFT JOIN film AS f ON f.number = fa.film LEFT JOIN category AS k ON k.number = f.category ORDER BY a.number, k.name, k.number, f.title, f.number",
-        &[],
-        &mut taker,
-    )?;
-    Ok(finish(taker)?)
 }

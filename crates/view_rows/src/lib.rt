@@ -1,4 +1,5 @@
-//! The shop's views, each the text of a list whose rows one join shows one at a time, outside any transaction.
+//! What takes the rows of the views' joins, which are shown one at a time, outside any transaction; and the views of customers, films and categories,
+//! each the text of a list.
 #![tactic(auto)]
 
 mod actors;
@@ -8,12 +9,10 @@ mod films;
 mod people;
 mod staff;
 mod stores;
-mod views;
 
-pub use actors::actor_info;
+pub use actors::{ActorPage, CategoryFilm, FilmGroups, OpenGroup, StartedActor, add_actor};
 pub use categories::sales_by_film_category;
 pub use customers::customer_list;
 pub use films::film_list;
-pub use staff::staff_list;
-pub use stores::{sales, sales_by_store};
-pub use views::view_text;
+pub use staff::StaffPage;
+pub use stores::{SalesSum, add_store, find_store};

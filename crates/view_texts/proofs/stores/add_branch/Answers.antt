@@ -3,7 +3,7 @@ use Rattle.sqlite.specs.Held.{state}
 use Rattle.shop_views.specs.Sales.{seen_store}
 use Rattle.view_rows.proofs.Looks.{holds_still, was_clean}
 use Rattle.view_rows.proofs.SalesLists.{absent_added, unsold_added, store_added, is_there}
-use Rattle.view_rows.proofs.stores.add_branch.Goals as goal
+use Rattle.view_texts.proofs.stores.add_branch.Goals as goal
 
 pub returns-in_default-clause-added : goal.returns-in_default-clause-added
 returns-in_default-clause-added g c clean books values holds held =

@@ -10,7 +10,7 @@ use Rattle.view_rows.specs.Shown.{shown_staff, listed_staff}
 use Rattle.view_rows.proofs.PageLines.{listed_none}
 use Rattle.view_rows.proofs.PeopleQueries.{staff_ask}
 use Rattle.view_rows.proofs.PeopleJoins.{shows_staff}
-use Rattle.view_rows.proofs.staff.staff_list.Goals as goal
+use Rattle.view_texts.proofs.staff.staff_list.Goals as goal
 
 pub each_row-requires : goal.each_row-requires
 each_row-requires g c = staff_ask

@@ -7,7 +7,7 @@ use Rattle.view_rows.proofs.ActorQuery.{actors_ask}
 use Rattle.view_rows.proofs.ActorOrder.{shows_actors}
 use Rattle.view_rows.proofs.ActorRuns.{all_actors}
 use Rattle.view_rows.proofs.ActorLines.{nothing_taken}
-use Rattle.view_rows.proofs.actors.actor_info.Goals as goal
+use Rattle.view_texts.proofs.actors.actor_info.Goals as goal
 
 pub each_row-requires : goal.each_row-requires
 each_row-requires g c = actors_ask

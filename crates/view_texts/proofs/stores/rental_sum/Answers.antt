@@ -3,7 +3,7 @@ use Rattle.view_rows.specs.Payments.{paid_lines}
 use Rattle.view_rows.proofs.PaymentQuery.{payments_ask}
 use Rattle.view_rows.proofs.PaymentLines.{shows_lines}
 use Rattle.view_rows.proofs.SalesLines.{sold_none, sum_is}
-use Rattle.view_rows.proofs.stores.rental_sum.Goals as goal
+use Rattle.view_texts.proofs.stores.rental_sum.Goals as goal
 
 pub each_row-requires : goal.each_row-requires
 each_row-requires g c = payments_ask

@@ -2,7 +2,7 @@ use Rattle.std.proofs.Common.{refl, map}
 use Rattle.shop_model.specs.Machine.{StoresListed}
 use Rattle.shop_views.specs.Sales.{store_data}
 use Rattle.view_rows.specs.Sales.{sales_of_first}
-use Rattle.view_rows.proofs.stores.sales.Goals as goal
+use Rattle.view_texts.proofs.stores.sales.Goals as goal
 
 pub returns-clause-text : goal.returns-clause-text
 returns-clause-text g c clean books holds held =

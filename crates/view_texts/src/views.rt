@@ -11,9 +11,6 @@ ghost use Rattle.shop_schema.specs.Shop.{Holds};
 ghost use Rattle.shop_schema.specs.Held.{IsHeld};
 
 use crate::actors::actor_info;
-use crate::categories::sales_by_film_category;
-use crate::customers::customer_list;
-use crate::films::film_list;
 use crate::staff::staff_list;
 use crate::stores::sales_by_store;
 use shop_types::View;
@@ -21,6 +18,7 @@ use shop_values::BranchNo;
 use sql_rows::StoreFault;
 use sqlite::{Alter, Connection};
 use std::alloc::Global;
+use view_rows::{customer_list, film_list, sales_by_film_category};
 
 /// The view as the branch sees it, as the text of a list. The database stays as it was, unless the store fails, which commits nothing.
 pub fn view_text<S: Alter>(

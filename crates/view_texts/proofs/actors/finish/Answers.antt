@@ -4,7 +4,7 @@ use Rattle.shop_model.specs.Machine.{ActorsListed}
 use Rattle.shop_views.specs.Films.{actor_data}
 use Rattle.view_rows.specs.Actors.{seen_part, closed}
 use Rattle.view_rows.proofs.ActorLines.{last_actor, no_last_actor}
-use Rattle.view_rows.proofs.actors.finish.Goals as goal
+use Rattle.view_texts.proofs.actors.finish.Goals as goal
 
 pub returns-in_ok-add_actor-in-Some : goal.returns-in_ok-add_actor-in-Some
 returns-in_ok-add_actor-in-Some c =
