@@ -1,0 +1,84 @@
+-- What the rows of head office's commands make of the books, and that a new branch has no last moment.
+use Rattle.std.proofs.Common.{◌≡◌, ◌+◌, ◌-◌, ◌<◌, ◌==◌, ℕ, List, [], ◌∷◌, ◌++◌, map, filter, length, true, false, Bool, cond, not, refl, sym, ap, subst, ◌∙◌, arith, true≢false}
+use Rattle.std.specs.List.{list_all}
+use Rattle.std.proofs.lemmas.Bool.{and_parts}
+use Rattle.std.proofs.lemmas.Bool.Decides.{nat_tests}
+use Rattle.sqlite.specs.State.{State}
+use Rattle.shop_model.specs.Calendar.{Moment}
+use Rattle.shop_model.specs.Rows.{Owned, at, lacks, is_empty, owned_by}
+use Rattle.shop_model.specs.Values.{Text, Branch, OfficeAct, AddCountry, AddCity, AddLanguage, AddCategory, AddActor, AddFilm, PriceFilm, WithdrawFilm, AddCast, AddBranch, AddStaff, StaffLeaves, SetManager, OfficeCommand}
+use Rattle.shop_model.specs.Shop.{Catalogue}
+use Rattle.shop_model.specs.Machine.{office_acted, office_text, office_done}
+use Rattle.shop_model.specs.Links.{has_row}
+use Rattle.shop_model.specs.Books.{Books}
+use Rattle.shop_model.proofs.RowLemmas.{same_if}
+use Rattle.shop_schema.specs.Counts.{counts_of, with_branch}
+use Rattle.shop_schema.specs.Held.{IsHeld}
+use Rattle.shop_schema.specs.Shop.{HoldsWith}
+use Rattle.office_adds.specs.Added.{with_act, with_kept}
+
+-- ---- a branch that isn't there has no last moment
+
+lacks_next : {A : Type 0} (n : ℕ) (xs : List A) → length xs < n → lacks xs n ≡ true
+lacks_next n [] more = refl
+lacks_next n (x ∷ xs) more = ap (λ t. is_empty (cond t (x ∷ []) (at (n - 1) xs))) other ∙ lacks_next (n - 1) xs (omega (arith, more))
+  where
+    other : (n == 1) ≡ false
+    other = grind (arith, nat_tests)
+
+none_of : (branches : List Branch) (b : ℕ) → lacks branches b ≡ true → (rows : List (Owned Moment)) → list_all (λ (row : Owned Moment). has_row branches row.owner) rows ≡ true
+    → filter (λ (row : Owned Moment). row.owner == b) rows ≡ []
+none_of branches b lacking [] all = refl
+none_of branches b lacking (row ∷ rows) all =
+    let parts = and_parts (has_row branches row.owner) (list_all (λ (other : Owned Moment). has_row branches other.owner) rows) all in
+    go (row.owner == b) refl parts.0 (none_of branches b lacking rows parts.1)
+  where
+    rest : List (Owned Moment)
+    rest = filter (λ (other : Owned Moment). other.owner == b) rows
+
+    go : (t : Bool) → (row.owner == b) ≡ t → has_row branches row.owner ≡ true → rest ≡ [] → cond t (row ∷ rest) rest ≡ []
+    go true is there more =
+        let its : has_row branches b ≡ true = subst (λ n. has_row branches n ≡ true) (same_if row.owner b is) there in
+        absurd (true≢false (sym its ∙ ap not lacking))
+    go false isnt there more = more
+
+pub no_last : (books : Books) → IsHeld books → owned_by (length books.catalogue.branches + 1) books.lasts ≡ []
+no_last books held =
+    let branches = books.catalogue.branches in
+    let b = length branches + 1 in
+    ap (map (λ (row : Owned Moment). row.it)) (none_of branches b (lacks_next b branches (omega arith)) books.lasts held.owners.lasts)
+
+-- ---- rows
+
+-- a new branch with its counts
+pub branch_added : (s : State) (books : Books) (n : ℕ) (row branch : Branch) → n ≡ length books.catalogue.branches + 1 → row ≡ branch
+    → HoldsWith (with_branch n (counts_of books)) s (record books { catalogue = record books.catalogue { branches = books.catalogue.branches ++ row ∷ [] } })
+    → HoldsWith (with_branch (length books.catalogue.branches + 1) (counts_of books)) s (record books { catalogue = record books.catalogue { branches = books.catalogue.branches ++ branch ∷ [] } })
+branch_added s books n row branch is same holds =
+    subst (λ (it : Branch). HoldsWith (with_branch (length books.catalogue.branches + 1) (counts_of books)) s (record books { catalogue = record books.catalogue { branches = books.catalogue.branches ++ it ∷ [] } })) same
+    (subst (λ (m : ℕ). HoldsWith (with_branch m (counts_of books)) s (record books { catalogue = record books.catalogue { branches = books.catalogue.branches ++ row ∷ [] } })) is holds)
+
+-- ---- the command itself
+
+kept_stays : (act : OfficeAct) (it : Catalogue) → (office_acted act it).kept ≡ it.kept
+kept_stays (AddCountry name) it = refl
+kept_stays (AddCity city) it = refl
+kept_stays (AddLanguage name) it = refl
+kept_stays (AddCategory name) it = refl
+kept_stays (AddActor actor) it = refl
+kept_stays (AddFilm film) it = refl
+kept_stays (PriceFilm film rate) it = refl
+kept_stays (WithdrawFilm film) it = refl
+kept_stays (AddCast cast) it = refl
+kept_stays (AddBranch branch) it = refl
+kept_stays (AddStaff staff) it = refl
+kept_stays (StaffLeaves staff) it = refl
+kept_stays (SetManager branch staff) it = refl
+
+-- with its rows and itself kept, a command's books are those after it
+pub act_kept : (command : OfficeCommand) (reply : Text) (books : Books) → reply ≡ office_text command books.catalogue
+    → with_kept command reply (with_act command.act books) ≡ record books { catalogue = office_done command books.catalogue }
+act_kept command reply books is =
+    let it = office_acted command.act books.catalogue in
+    let stays : it.kept ≡ books.catalogue.kept = kept_stays command.act books.catalogue in
+    λ i. record books { catalogue = record it { kept = stays i ++ record { command = command; reply = is i } ∷ [] } }
