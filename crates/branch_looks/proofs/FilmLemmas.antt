@@ -8,7 +8,7 @@ use Rattle.shop_model.specs.Books.{BookCopy, Books, shop_of, unmarked}
 use Rattle.shop_model.proofs.RowLemmas.{map_map}
 use Rattle.shop_store.specs.declared.copies.CopyRow.{CopyRow}
 use Rattle.shop_store.specs.Seen.{seen_copy_row}
-use Rattle.shop_store.proofs.Rising.{filter_twice, map_filter}
+use Rattle.shop_ledger.proofs.Rising.{filter_twice, map_filter}
 use Rattle.branch_core.specs.declared.film_copies.FilmCopy.{FilmCopy}
 use Rattle.branch_core.specs.Agreed.{seen_film_copy, AreOfFilm}
 use Rattle.branch_looks.specs.Finds.{copy_shown}

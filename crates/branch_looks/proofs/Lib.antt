@@ -5,3 +5,4 @@ pub mod Shows
 pub mod TermLemmas
 pub mod RewardLemmas
 pub mod MonthLemmas
+pub mod Stocks

@@ -10,7 +10,7 @@ use Rattle.shop_model.specs.Stock.{is_here, in_stock, film_in_stock, film_not_in
 use Rattle.shop_model.specs.Books.{head, unmarked}
 use Rattle.shop_types.specs.Seen.{seen_payment}
 use Rattle.shop_store.specs.declared.copies.CopyRow.{CopyRow}
-use Rattle.shop_store.specs.declared.payments.PaymentRow.{PaymentRow}
+use Rattle.shop_ledger.specs.declared.payments.PaymentRow.{PaymentRow}
 use Rattle.shop_store.specs.Seen.{seen_copy_row}
 use Rattle.catalogue_store.specs.declared.reads.FilmTerms.{FilmTerms}
 use Rattle.catalogue_store.specs.Seen.{seen_terms, terms_of}

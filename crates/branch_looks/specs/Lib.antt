@@ -1,2 +1,3 @@
 pub mod Finds
 pub mod Looks
+pub mod Commands

@@ -16,7 +16,8 @@ ghost use Rattle.branch_looks.specs.Finds.{AreKnown};
 
 use balance_rule::{Paid, RentalTerms};
 use catalogue_store::{FilmTerms, film_terms};
-use shop_store::{RentalRow, copy_at, payments_of_customer, rentals_of_customer};
+use shop_ledger::payments_of_customer;
+use shop_store::{RentalRow, copy_at, rentals_of_customer};
 use shop_types::{BranchNo, CustomerNo, FilmNo, Payment, Rental};
 use sql_rows::StoreFault;
 use sqlite::{Alter, Transaction};

@@ -1,12 +1,14 @@
-//! What a branch's reading shows inside one transaction, and what is found of single rows, for readings and commands alike.
+//! What a branch's reading shows inside one transaction, and what is found there of rows: of those that a reading asks for, and of all that a command's
+//! decision reads.
 #![tactic(auto)]
 
 mod balances;
+mod commands;
 mod finds;
 mod looks;
 mod overdue;
 mod reports;
 mod rewards;
 
-pub use finds::{find_active, find_copy, find_out, find_rental};
+pub use commands::{find_for_command, fitting};
 pub use looks::look;

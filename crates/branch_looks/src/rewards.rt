@@ -15,7 +15,7 @@ ghost use Rattle.branch_looks.specs.Finds.{AreSmall, AreSummed, one_paid, passes
 
 use crate::balances::paid_by;
 use balance_rule::{is_on, last_month};
-use shop_store::{CountKind, PaymentRow, count_of, payments_between};
+use shop_ledger::{CountKind, PaymentRow, count_of, payments_between};
 use shop_types::{Amount, BranchNo, CustomerNo, Moment};
 use sql_rows::StoreFault;
 use sqlite::{Alter, Transaction};

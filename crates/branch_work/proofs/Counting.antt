@@ -8,10 +8,10 @@ use Rattle.shop_types.specs.Seen.{seen_customer, seen_rental, seen_payment}
 use Rattle.shop_schema.specs.Held.{IsHeld}
 use Rattle.shop_schema.specs.Counts.{Counts, counts_of, raise, put_out}
 use Rattle.shop_schema.specs.Shop.{Holds, HoldsWith}
-use Rattle.shop_store.specs.declared.counts.CountKind.TheVariants as kind
-use Rattle.shop_store.specs.Counted.{CountsOnce}
-use Rattle.shop_store.proofs.CountsOf.{agreed, held_once, held_million}
-use Rattle.shop_store.proofs.Agreeing.{kept_counted, customer_row_counted, payment_row_counted, rental_row_counted, copies_counted, active_counted, state_counted, returned_counted, its_rentals, raised_as_many, raised_small}
+use Rattle.shop_ledger.specs.declared.counts.CountKind.TheVariants as kind
+use Rattle.shop_ledger.specs.Counted.{CountsOnce}
+use Rattle.shop_ledger.proofs.CountsOf.{agreed, held_once, held_million}
+use Rattle.shop_ledger.proofs.Agreeing.{kept_counted, customer_row_counted, payment_row_counted, rental_row_counted, copies_counted, active_counted, state_counted, returned_counted, its_rentals, raised_as_many, raised_small}
 use Rattle.branch_core.specs.Agreed.{films_of}
 use Rattle.branch_core.specs.Decided.{AreWithin}
 use Rattle.branch_core.specs.declared.change.Rows.{Rows}

@@ -12,7 +12,7 @@ use Rattle.shop_model.specs.Books.{head}
 use Rattle.shop_schema.specs.Forms.{command_form}
 use Rattle.shop_schema.specs.RowValues.{IsKept}
 use Rattle.shop_schema.proofs.OneToOne.{forms_are_one_to_one}
-use Rattle.shop_store.specs.Seen.{by_form, stored_kept}
+use Rattle.shop_ledger.specs.Seen.{by_form, stored_kept}
 use Rattle.branch_core.specs.Agreed.{kept_for}
 
 IsReal : Kept → Type 0

@@ -9,20 +9,23 @@ ghost use Rattle.shop_types.specs.Seen.{seen_command};
 ghost use Rattle.shop_schema.specs.Counts.{counts_of, is_count, raise};
 ghost use Rattle.shop_schema.specs.Forms.{command_form};
 ghost use Rattle.shop_schema.specs.Shop.{Holds, Tallies};
-ghost use Rattle.shop_store.specs.Counted.{kind_number, CountsOnce};
+ghost use Rattle.shop_ledger.specs.Counted.{kind_number, CountsOnce};
 ghost use Rattle.branch_core.specs.Decided.{AreWithin};
 ghost use Rattle.branch_work.specs.Added.{AreAdded, with_kept};
 
-use crate::finding::fitting;
 use crate::importing::import;
 use branch_core::Rows;
+use branch_looks::fitting;
 use reply_bodies::{
     active_text, new_customer_text, payment_text, rental_text, returned_text, scrapped_text,
 };
-use shop_store::{
-    CopyState, CountKind, CustomerRow, PaymentRow, RentalRow, drop_out, put_customer, put_kept,
-    put_out, put_payment, put_rental, raise_count, set_active, set_last, set_returned, set_state,
+use shop_ledger::{
+    CountKind, PaymentRow, drop_out, put_kept, put_out, put_payment, raise_count, set_last,
     take_number,
+};
+use shop_store::{
+    CopyState, CustomerRow, RentalRow, put_customer, put_rental, set_active, set_returned,
+    set_state,
 };
 use shop_types::{
     BranchNo, Command, CopyNo, Customer, CustomerNo, Moment, Payment, Rental, RentalNo, RowNumber,

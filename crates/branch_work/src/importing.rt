@@ -11,10 +11,11 @@ ghost use Rattle.shop_store.specs.Seen.{seen_copy_row};
 ghost use Rattle.branch_core.specs.Agreed.{copies_of, films_of};
 ghost use Rattle.branch_work.specs.Added.{Makes, copies_from, import_text, with_import};
 
-use crate::finding::fitting;
 use branch_core::{StockFound, copies_in};
+use branch_looks::fitting;
 use reply_bodies::new_copies_text;
-use shop_store::{CopyRow, CopyState, CountKind, Mark, put_copy, put_lot, take_numbers};
+use shop_ledger::{CountKind, take_numbers};
+use shop_store::{CopyRow, CopyState, Mark, put_copy, put_lot};
 use shop_types::{BranchNo, CopyNo, FilmNo, LotName, NoMemory};
 use sql_rows::StoreFault;
 use sqlite::{Alter, Transaction};

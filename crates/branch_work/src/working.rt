@@ -17,11 +17,10 @@ ghost use Rattle.branch_core.specs.Decided.{AreWithin, IsRefused};
 ghost use Rattle.branch_work.specs.Works.{Works, WorksFor, IsAdded};
 
 use crate::adding::{add_rows, keep};
-use crate::finding::find;
 use branch_core::{Change, Rows, decide};
-use branch_looks::look;
+use branch_looks::{find_for_command, look};
+use shop_ledger::{kept_at, kept_found, last_at};
 use shop_schema::{command_form, command_values};
-use shop_store::{kept_at, kept_found, last_at};
 use shop_types::{BranchNo, Command, Limits, Moment, Refusal, Reply, Request, View};
 use sql_rows::{Bytes, StoreFault};
 use sqlite::{Alter, Transaction};
@@ -89,7 +88,7 @@ fn act<S: Alter>(
 {
     let form = form_of(alloc, command)?;
     let kept = kept_at(tx, branch, &command.key)?;
-    let found = find(
+    let found = find_for_command(
         alloc,
         tx,
         branch,

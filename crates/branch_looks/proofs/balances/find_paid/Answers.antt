@@ -4,7 +4,7 @@ use Rattle.sqlite.specs.Held.{state}
 use Rattle.sqlite_keyed.proofs.ListLemmas.{map-map}
 use Rattle.shop_model.specs.Values.{Payment}
 use Rattle.shop_types.specs.Seen.{seen_payment}
-use Rattle.shop_store.specs.declared.payments.PaymentRow.{PaymentRow}
+use Rattle.shop_ledger.specs.declared.payments.PaymentRow.{PaymentRow}
 use Rattle.balance_rule.specs.declared.rows.Paid.{Paid}
 use Rattle.balance_rule.specs.Balance.{paid_of}
 use Rattle.branch_looks.proofs.Readings.{reads_as}

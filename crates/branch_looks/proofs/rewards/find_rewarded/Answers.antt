@@ -4,7 +4,7 @@ use Rattle.sqlite.specs.Held.{state}
 use Rattle.sqlite.specs.State.{HasCleanDisk}
 use Rattle.shop_model.specs.Calendar.{month_before}
 use Rattle.shop_model.specs.Books.{shop_of}
-use Rattle.shop_store.specs.declared.payments.PaymentRow.{PaymentRow}
+use Rattle.shop_ledger.specs.declared.payments.PaymentRow.{PaymentRow}
 use Rattle.branch_looks.specs.Finds.{payments_of}
 use Rattle.branch_looks.proofs.Readings.{reads_then, reads_as, reads_none}
 use Rattle.branch_looks.proofs.RewardLemmas.{found_are}

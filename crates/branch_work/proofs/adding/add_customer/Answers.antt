@@ -5,8 +5,8 @@ use Rattle.shop_model.specs.Json.{object}
 use Rattle.shop_model.specs.Rows.{next}
 use Rattle.shop_types.specs.Seen.{seen_customer}
 use Rattle.shop_schema.specs.Counts.{counts_of, raise}
-use Rattle.shop_store.specs.declared.counts.CountKind.TheVariants as kind
-use Rattle.shop_store.proofs.CountsOf.{beside, held_once, told_more}
+use Rattle.shop_ledger.specs.declared.counts.CountKind.TheVariants as kind
+use Rattle.shop_ledger.proofs.CountsOf.{beside, held_once, told_more}
 use Rattle.branch_work.proofs.Counting.{customer_added}
 use Rattle.branch_work.proofs.adding.add_customer.Goals as goal
 

@@ -4,7 +4,7 @@ use Rattle.sqlite.specs.State.{HasCleanDisk}
 use Rattle.sql_rows.proofs.Inside.{on_ok_then}
 use Rattle.shop_types.specs.Seen.{seen_command}
 use Rattle.shop_schema.specs.Counts.{counts_of, raise}
-use Rattle.shop_store.proofs.CountsOf.{beside}
+use Rattle.shop_ledger.proofs.CountsOf.{beside}
 use Rattle.branch_work.proofs.Counting.{kept_added}
 use Rattle.branch_work.proofs.adding.keep.Goals as goal
 

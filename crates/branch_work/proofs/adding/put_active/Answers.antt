@@ -1,7 +1,7 @@
 use Rattle.sqlite.specs.Held.{state}
 use Rattle.shop_schema.specs.Counts.{counts_of}
-use Rattle.shop_store.proofs.CountsOf.{agreed, beside}
-use Rattle.shop_store.proofs.Agreeing.{active_counted}
+use Rattle.shop_ledger.proofs.CountsOf.{agreed, beside}
+use Rattle.shop_ledger.proofs.Agreeing.{active_counted}
 use Rattle.branch_work.proofs.adding.put_active.Goals as goal
 
 pub returns-in-Ok-clause-added : goal.returns-in-Ok-clause-added

@@ -2,8 +2,8 @@ use Rattle.sqlite.specs.Held.{state}
 use Rattle.shop_model.specs.Values.{Scrapped}
 use Rattle.shop_model.specs.Books.{put_state}
 use Rattle.shop_schema.specs.Counts.{counts_of}
-use Rattle.shop_store.proofs.CountsOf.{agreed, beside}
-use Rattle.shop_store.proofs.Agreeing.{state_counted}
+use Rattle.shop_ledger.proofs.CountsOf.{agreed, beside}
+use Rattle.shop_ledger.proofs.Agreeing.{state_counted}
 use Rattle.branch_work.proofs.adding.scrap.Goals as goal
 
 pub returns-in-Ok-clause-added : goal.returns-in-Ok-clause-added

@@ -2,8 +2,8 @@ use Rattle.std.proofs.Common.{arith}
 use Rattle.sqlite.specs.Held.{state}
 use Rattle.sqlite.specs.State.{HasCleanDisk}
 use Rattle.shop_schema.specs.Counts.{counts_of, drop_out}
-use Rattle.shop_store.proofs.CountsOf.{agreed, beside}
-use Rattle.shop_store.proofs.Agreeing.{returned_counted, its_rentals, out_once}
+use Rattle.shop_ledger.proofs.CountsOf.{agreed, beside}
+use Rattle.shop_ledger.proofs.Agreeing.{returned_counted, its_rentals, out_once}
 use Rattle.branch_work.proofs.adding.take_back.Goals as goal
 
 pub returns-in-Ok-clause-added : goal.returns-in-Ok-clause-added

@@ -5,9 +5,9 @@ use Rattle.shop_model.specs.Rows.{Row, next}
 use Rattle.shop_model.specs.Books.{BookCopy}
 use Rattle.shop_schema.specs.Counts.{counts_of, raise}
 use Rattle.shop_schema.specs.Shop.{HoldsWith}
-use Rattle.shop_store.specs.declared.counts.CountKind.TheVariants as kind
+use Rattle.shop_ledger.specs.declared.counts.CountKind.TheVariants as kind
 use Rattle.shop_store.specs.Seen.{seen_copy_row}
-use Rattle.shop_store.proofs.CountsOf.{beside, held_once, told_more}
+use Rattle.shop_ledger.proofs.CountsOf.{beside, held_once, told_more}
 use Rattle.branch_core.specs.Agreed.{films_of}
 use Rattle.branch_core.proofs.StockLemmas.{length_films}
 use Rattle.branch_work.specs.Added.{copies_from, import_text}

@@ -7,10 +7,10 @@ use Rattle.stock_csv.specs.Rows.{stock_rows_of}
 use Rattle.stock_csv.specs.Stock.{stock_from, films_of}
 use Rattle.branch_core.specs.declared.found.StockFound.{StockFound}
 use Rattle.branch_core.specs.Agreed.{RowAgrees}
-use Rattle.branch_work.specs.Finds.{found_row}
+use Rattle.branch_looks.specs.Commands.{found_row}
 use Rattle.branch_looks.proofs.Readings.{reads_as}
-use Rattle.branch_work.proofs.Stocks.{same_films, rows_agree, few_copies}
-use Rattle.branch_work.proofs.finding.find_stock.Goals as goal
+use Rattle.branch_looks.proofs.Stocks.{same_films, rows_agree, few_copies}
+use Rattle.branch_looks.proofs.commands.find_stock.Goals as goal
 
 pub returns-in_ok-find_films-in-Ok-clause-found : goal.returns-in_ok-find_films-in-Ok-clause-found
 returns-in_ok-find_films-in-Ok-clause-found g c = λ clean.

@@ -5,8 +5,8 @@ use Rattle.sqlite.specs.State.{HasCleanDisk}
 use Rattle.sql_rows.specs.Calls.{StaysWithin}
 use Rattle.sql_rows.specs.declared.fault.StoreFault.{StoreFault}
 use Rattle.shop_schema.specs.Shop.{Reads}
-use Rattle.branch_work.specs.Finds.{as_listed, found_row}
-use Rattle.branch_work.proofs.finding.find_films.Given as goal
+use Rattle.branch_looks.specs.Commands.{as_listed, found_row}
+use Rattle.branch_looks.proofs.commands.find_films.Given as goal
 
 abbrev pub invariant-loop-row : goal.invariant-loop-row
 invariant-loop-row g l =

@@ -10,9 +10,9 @@ use Rattle.shop_model.specs.Shop.{Shop}
 use Rattle.shop_model.specs.Books.{shop_of}
 use Rattle.shop_types.specs.Seen.{seen_act}
 use Rattle.branch_core.specs.Agreed.{active_at, copy_at, rental_at, seen_copy, seen_rental, IsOut, customer_in, copy_in, has_same_rental}
-use Rattle.branch_work.specs.Finds.{has_same}
+use Rattle.branch_looks.specs.Commands.{has_same}
 use Rattle.branch_looks.proofs.Readings.{reads_then, reads_as}
-use Rattle.branch_work.proofs.finding.find.Goals as goal
+use Rattle.branch_looks.proofs.commands.find_for_command.Goals as goal
 
 -- of the acts only a rental names both a customer and a copy
 same_named : (moment : Moment) (act : Act) (shop : Shop) → has_same moment (customer_in act) (copy_in act) shop ≡ has_same_rental moment act shop
@@ -48,7 +48,7 @@ returns-clause-found g c = λ clean.
     let third = reads_then s4 s5 s6 _ _ (c.in_ok-copy.ensures.found clean5) (c.in_ok-out.ensures.found clean6) in
     let fourth = reads_then s6 s7 s8 _ _ (c.in_ok-has_same.ensures.found clean7) (c.in_ok-rental.ensures.found clean8) in
     let rows = reads_then s0 s4 s8 _ _ (reads_then s0 s2 s4 _ _ first second) (reads_then s4 s6 s8 _ _ third fourth) in
-    reads_as s0 s9 _ _ (λ books held is. λ limits kept last.
+    reads_as s0 s9 _ _ (λ books held is. λ rules reads kept last.
     let shop = shop_of b books in
     let head = is.0.0 in
     let tail = is.0.1 in record {
@@ -62,7 +62,7 @@ returns-clause-found g c = λ clean.
       out = subst (λ (o : Option ℕ). IfSome o (λ n. IsOut shop n c.in_ok-out.out)) named.copy tail.0.1;
       same = tail.1.0 ∙ (λ i. has_same at (named.customer i) (named.copy i) shop) ∙ same_named at act shop;
       rental = subst (λ (o : Option ℕ). IfSome o (λ n. option_map seen_rental c.in_ok-rental.rental ≡ rental_at shop n)) named.rental tail.1.1;
-      import = is.1 limits;
+      import = is.1 rules reads;
     })
     (reads_then s0 s8 s9 _ _ rows (c.in_ok-import.ensures.found clean))
 

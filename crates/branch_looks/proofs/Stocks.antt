@@ -15,7 +15,7 @@ use Rattle.branch_core.specs.Agreed.{films_of as films_found, copies_of, RowAgre
 use Rattle.branch_core.proofs.StockLemmas.{length_films}
 use Rattle.catalogue_store.specs.Seen.{withdrawn_of}
 use Rattle.branch_looks.proofs.Readings.{at_most_one}
-use Rattle.branch_work.specs.Finds.{as_listed, found_row, told_row}
+use Rattle.branch_looks.specs.Commands.{as_listed, found_row, told_row}
 
 same_there : (films : List Film) → is_some (head (map withdrawn_of films)) ≡ not (is_empty films)
 same_there [] = refl

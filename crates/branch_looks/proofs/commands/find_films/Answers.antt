@@ -5,10 +5,10 @@ use Rattle.sqlite.specs.State.{HasCleanDisk}
 use Rattle.sql_rows.proofs.Stays.{within_of, within_as, within_then}
 use Rattle.stock_csv.specs.declared.StockRow.{StockRow}
 use Rattle.branch_core.specs.declared.found.StockFound.{StockFound}
-use Rattle.branch_work.specs.Finds.{as_listed, found_row, told_row}
+use Rattle.branch_looks.specs.Commands.{as_listed, found_row, told_row}
 use Rattle.branch_looks.proofs.Readings.{reads_then, reads_as}
-use Rattle.branch_work.proofs.Stocks.{row_found, row_listed}
-use Rattle.branch_work.proofs.finding.find_films.Goals as goal
+use Rattle.branch_looks.proofs.Stocks.{row_found, row_listed}
+use Rattle.branch_looks.proofs.commands.find_films.Goals as goal
 
 pub loop-row-preserved : goal.loop-row-preserved
 loop-row-preserved g c =

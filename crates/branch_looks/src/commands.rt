@@ -1,4 +1,4 @@
-//! What the tables have of the rows that a command names.
+//! What a command's decision reads: what the tables have of the rows that the command names.
 
 ghost use Rattle.std.specs.Prelude.{◌≡◌, ◌≤◌, not, map, IfOk, IfSome};
 ghost use Rattle.std.specs.List.{All};
@@ -6,19 +6,19 @@ ghost use Rattle.sqlite.specs.Held.{state};
 ghost use Rattle.sqlite.specs.State.{HasCleanDisk};
 ghost use Rattle.sql_rows.specs.Calls.{StaysWithin};
 ghost use Rattle.shop_model.specs.Rows.{lacks, owned_by};
+ghost use Rattle.shop_model.specs.Values.{Rules};
 ghost use Rattle.shop_model.specs.Books.{head, shop_of};
-ghost use Rattle.shop_values.specs.LimitValues as values;
 ghost use Rattle.shop_types.specs.Seen.{seen_act, seen_command};
 ghost use Rattle.shop_schema.specs.Shop.{Reads};
 ghost use Rattle.stock_csv.specs.Stock.{stock_of};
 ghost use Rattle.branch_core.specs.Agreed.{Agrees, ImportAgrees, RowAgrees, IsWithin, active_at, city_in, customer_in, copy_in, rental_in, import_in, seen_stock, copies_of};
-ghost use Rattle.branch_work.specs.Rules.{rules_of};
-ghost use Rattle.branch_work.specs.Finds.{as_listed, found_row, told_row, has_same, IsKeptFor};
+ghost use Rattle.branch_looks.specs.Commands.{as_listed, found_row, told_row, has_same, IsKeptFor};
 
+use crate::finds::{find_active, find_copy, find_out, find_rental};
 use branch_core::{Found, StockFound};
-use branch_looks::{find_active, find_copy, find_out, find_rental};
 use catalogue_store::{film_at, has_city, staff_at};
-use shop_store::{CountKind, count_of, has_lot, has_rental};
+use shop_ledger::{CountKind, count_of};
+use shop_store::{has_lot, has_rental};
 use shop_types::{
     Act, BadCsv, BranchNo, CityNo, Command, CopyNo, CustomerNo, KeptFound, Moment, RentalNo,
     StockFile,
@@ -84,8 +84,8 @@ fn named_in(act: &Act) -> Named
     }
 }
 
-/// What a decision on the branch's command reads, where its kept row and the branch's last moment are known.
-pub fn find<'a, S: Alter>(
+/// All that a decision on the branch's command reads, where its kept row and the branch's last moment are known.
+pub fn find_for_command<'a, S: Alter>(
     alloc: Global,
     tx: &mut Transaction<'_, S>,
     branch: BranchNo,
@@ -96,9 +96,9 @@ pub fn find<'a, S: Alter>(
     ensures same_reference { tx.new.conn.ghost_name ≡ tx.old.conn.ghost_name }
     ensures inside { StaysWithin (state S.Store tx.old.conn.now) (state S.Store tx.new.conn.now) result }
     ensures found { HasCleanDisk (state S.Store tx.new.conn.now)
-        → IfOk result (λ found. Reads (state S.Store tx.old.conn.now) (state S.Store tx.new.conn.now) (λ books. (limits : values.Limits)
-        → IsKeptFor branch (seen_command command.now) kept.entry books → last ≡ head (owned_by branch books.lasts)
-        → Agrees (rules_of limits) books.catalogue (shop_of branch books) (seen_command command.now) found)) }
+        → IfOk result (λ found. Reads (state S.Store tx.old.conn.now) (state S.Store tx.new.conn.now) (λ books. (rules : Rules)
+        → rules.stock_of ≡ stock_of → IsKeptFor branch (seen_command command.now) kept.entry books → last ≡ head (owned_by branch books.lasts)
+        → Agrees rules books.catalogue (shop_of branch books) (seen_command command.now) found)) }
     ensures within { IfOk result (λ found. IsWithin found) }
 {
     let named = named_in(&command.act);
@@ -212,9 +212,9 @@ fn find_import<S: Alter>(
     ensures same_reference { tx.new.conn.ghost_name ≡ tx.old.conn.ghost_name }
     ensures inside { StaysWithin (state S.Store tx.old.conn.now) (state S.Store tx.new.conn.now) result }
     ensures found { HasCleanDisk (state S.Store tx.new.conn.now)
-        → IfOk result (λ found. Reads (state S.Store tx.old.conn.now) (state S.Store tx.new.conn.now) (λ books. (limits : values.Limits)
-        → IfSome (import_in (seen_act act.now))
-        (ImportAgrees (rules_of limits) books.catalogue (shop_of branch books) found.copies found.has_lot found.stock))) }
+        → IfOk result (λ found. Reads (state S.Store tx.old.conn.now) (state S.Store tx.new.conn.now) (λ books. (rules : Rules)
+        → rules.stock_of ≡ stock_of → IfSome (import_in (seen_act act.now))
+        (ImportAgrees rules books.catalogue (shop_of branch books) found.copies found.has_lot found.stock))) }
     ensures few { IfOk result (λ found. found.copies ≤ 1_000_000) }
     ensures listed { IfOk result (λ found. IfOk found.stock (λ rows. copies_of rows.items ≤ 1_000)) }
 {

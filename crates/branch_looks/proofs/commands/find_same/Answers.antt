@@ -1,9 +1,9 @@
 use Rattle.std.proofs.Common.{sym, ◌∙◌}
 use Rattle.sqlite.specs.Held.{state}
 use Rattle.shop_model.specs.Books.{shop_of}
-use Rattle.branch_work.specs.Finds.{has_same}
+use Rattle.branch_looks.specs.Commands.{has_same}
 use Rattle.branch_looks.proofs.Readings.{reads_as}
-use Rattle.branch_work.proofs.finding.find_same.Goals as goal
+use Rattle.branch_looks.proofs.commands.find_same.Goals as goal
 
 pub returns-in_ok-has_rental-in-Some-Some-clause-found : goal.returns-in_ok-has_rental-in-Some-Some-clause-found
 returns-in_ok-has_rental-in-Some-Some-clause-found g c = λ clean.
