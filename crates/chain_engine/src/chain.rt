@@ -1,6 +1,6 @@
 //! The chain of shops over a store.
 
-ghost use Rattle.std.specs.Prelude.{◌≡◌, ◌≢◌, ◌≤◌, ◌||◌, true, false, Some, Err, IfOk, IfErr, OnErr, map};
+ghost use Rattle.std.specs.Prelude.{◌≡◌, ◌≢◌, ◌≤◌, ◌||◌, true, false, Err, IfOk, IfErr, OnErr, map};
 ghost use Rattle.sqlite.specs.Steps.{over_memory};
 ghost use Rattle.shop_model.specs.Opening.{opening_books};
 ghost use Rattle.shop_schema.specs.Shop.{first_books};
@@ -8,70 +8,21 @@ ghost use Rattle.shop_model.specs.Machine.{OfficeLook};
 ghost use Rattle.shop_model.specs.Books.{HeadOffice};
 ghost use Rattle.shop_types.specs.Seen.{seen_caller, seen_office_ask, seen_request};
 ghost use Rattle.shop_types.specs.Replies.{seen_reply};
-ghost use Rattle.chain_engine.specs.Chains.{IsAt, Takes, Answers, AnswersEvent, Runs, event_of};
-ghost use Rattle.chain_engine.specs.Steps.{asker, asked_of};
-ghost use Rattle.chain_engine.specs.Decisions.{FindsCaller, IsOfStore, refusal_for, is_final};
+ghost use Rattle.chain_store.specs.Chains.{IsAt, Takes, Answers, AnswersEvent, Runs, event_of};
+ghost use Rattle.chain_store.specs.Steps.{asker, asked_of};
+ghost use Rattle.chain_store.specs.Decisions.{FindsCaller, IsOfStore, refusal_for, is_final};
 ghost use Rattle.shop_model.specs.Answers.{problem_answer};
 ghost use Rattle.shop_model.specs.Refusals.{StoreFailed};
-ghost use Rattle.chain_engine.specs.Faults.{fault_name, open_fault_for};
 
-use crate::asked::{Asked, asked_values};
-use crate::callers::find_caller;
-use crate::creation::{create, create_opening};
-use crate::reports::{Report, show};
 use crate::step::step;
+use chain_store::{
+    Asked, FirstRows, OpenFault, Report, asked_values, find_caller, first_values, in_memory, show,
+};
 use shop_types::{Caller, Limits, NoMemory, OfficeAsk, Refusal, Reply, Request, Token};
 use sql_rows::StoreFault;
 use sqlite::{Alter, Connection, MemStore};
 use std::alloc::Global;
-use std::fmt;
 use std::marker::Model;
-
-/// Why there is no chain.
-#[derive(Clone, Copy, Debug)]
-pub enum OpenFault {
-    /// There is no memory left.
-    Memory,
-    /// The store can hold no more.
-    Size,
-    /// The store failed.
-    Store,
-    /// The files hold no chain of shops.
-    NotAChain,
-    /// The files hold a chain of another version.
-    OtherVersion,
-    /// The files hold tables already, where a chain was to be made.
-    Already,
-}
-
-impl fmt::Display for OpenFault {
-    ghost output = { λ fault. Some (fault_name fault) };
-
-    fn fmt<W: fmt::Write>(&self, f: &mut fmt::Formatter<W>) -> fmt::Result {
-        f.write_str(match self {
-            OpenFault::Memory => "memory",
-            OpenFault::Size => "size",
-            OpenFault::Store => "store_failed",
-            OpenFault::NotAChain => "not_a_chain",
-            OpenFault::OtherVersion => "other_version",
-            OpenFault::Already => "already",
-        })
-    }
-}
-
-/// Why there is no chain, by what the store answered.
-pub(crate) fn named(fault: StoreFault) -> OpenFault
-    ensures told { result ≡ open_fault_for fault }
-    ensures chain { result ≢ OpenFault.NotAChain }
-    ensures version { result ≢ OpenFault.OtherVersion }
-    ensures already { result ≢ OpenFault.Already }
-{
-    match fault {
-        StoreFault::Memory => OpenFault::Memory,
-        StoreFault::Size => OpenFault::Size,
-        StoreFault::Failed => OpenFault::Store,
-    }
-}
 
 /// A chain of shops: its limits, and the books of all branches in the tables of a store.
 #[derive(Drop)]
@@ -84,7 +35,7 @@ pub struct Chain<S: Alter> {
 
 impl<S: Alter> Model for Chain<S> {
     ghost use Rattle.std.specs.Prelude.{◌≡◌, false};
-    ghost use Rattle.chain_engine.specs.Holding.{Chained, chained_code};
+    ghost use Rattle.chain_store.specs.Holding.{Chained, chained_code};
 
     ghost Value = { Chained S };
 
@@ -106,19 +57,16 @@ impl Chain<MemStore> {
             × IsAt over_memory chain (first_books office.now) (first_books office.now)) }
         ensures fault { IfErr result (λ e. (e ≢ OpenFault.NotAChain) × (e ≢ OpenFault.OtherVersion) × (e ≢ OpenFault.Already)) }
     {
-        let Ok(mut conn) = Connection::open_in_memory(alloc) else {
-            return Err(OpenFault::Memory);
-        };
-        // A look at the token tells the proof that it is one.
-        let _digits = office.as_bytes();
-        match create(&mut conn, office) {
-            Ok(()) => Ok(Chain {
+        let first = FirstRows::OfOffice(office);
+        first_values(&first);
+        match in_memory(alloc, &first) {
+            Ok(conn) => Ok(Chain {
                 limits,
                 is_failed: false,
                 conn,
                 alloc,
             }),
-            Err(fault) => Err(named(fault)),
+            Err(fault) => Err(fault),
         }
     }
 
@@ -128,17 +76,16 @@ impl Chain<MemStore> {
         ensures made { IfOk result (λ chain. (chain.limits ≡ limits) × (chain.is_failed ≡ false) × IsAt over_memory chain opening_books opening_books) }
         ensures fault { IfErr result (λ e. (e ≢ OpenFault.NotAChain) × (e ≢ OpenFault.OtherVersion) × (e ≢ OpenFault.Already)) }
     {
-        let Ok(mut conn) = Connection::open_in_memory(alloc) else {
-            return Err(OpenFault::Memory);
-        };
-        match create_opening(&mut conn) {
-            Ok(()) => Ok(Chain {
+        let first = FirstRows::OfOpening;
+        first_values(&first);
+        match in_memory(alloc, &first) {
+            Ok(conn) => Ok(Chain {
                 limits,
                 is_failed: false,
                 conn,
                 alloc,
             }),
-            Err(fault) => Err(named(fault)),
+            Err(fault) => Err(fault),
         }
     }
 }

@@ -1,41 +1,24 @@
 //! A chain in two files: how it is opened, and how it is closed.
 
-ghost use Rattle.std.specs.Prelude.{◌≡◌, ◌⊎◌, false, IfOk, IfErr, map};
+ghost use Rattle.std.specs.Prelude.{◌≡◌, ◌⊎◌, false, IfOk, IfErr};
 ghost use Rattle.sqlite.specs.Held.{state};
 ghost use Rattle.sqlite.specs.State.{HasCleanDisk, Survives};
 ghost use Rattle.sqlite.specs.Files.{over_files, file_state, image_of};
 ghost use Rattle.sqlite_wal.specs.Files.{outcomes};
 ghost use Rattle.sqlite_wal.specs.Reads.{AreClean};
-ghost use Rattle.sql_rows.specs.Rows.{columns_of};
 ghost use Rattle.shop_model.specs.Books.{Books};
-ghost use Rattle.shop_schema.specs.Shop.{HasVersion};
-ghost use Rattle.shop_schema.specs.Versions.{version_of};
-ghost use Rattle.chain_engine.specs.Chains.{IsAt, Rests};
-ghost use Rattle.chain_engine.specs.Files.{Knows, HoldsOne, KeepsBooks, KeepsEither};
-ghost use Rattle.chain_engine.specs.Openings.{IsOpenedIn, IsNotOpened};
+ghost use Rattle.chain_store.specs.Chains.{IsAt, Rests};
+ghost use Rattle.chain_store.specs.Files.{Knows, HoldsOne, KeepsBooks, KeepsEither};
+ghost use Rattle.chain_store.specs.Openings.{IsOpenedIn, IsNotOpened};
 
-use crate::chain::{Chain, OpenFault, named};
-use shop_schema::{KnownVersion, has_version, is_shop, version};
+use crate::chain::Chain;
+use chain_store::{OpenFault, connect, give_back, verdict};
+use shop_schema::{KnownVersion, has_version, is_shop};
 use shop_types::Limits;
-use sql_rows::{StoreFault, fault_of};
-use sqlite::{Alter, Connection, FileStore, Files, Options};
+use sql_rows::StoreFault;
+use sqlite::{Alter, Connection, FileStore, Files};
 use sqlite_disk::Disk;
 use std::alloc::Global;
-
-/// The version that the first table tells, in a transaction that changes nothing.
-fn version_in<S: Alter>(conn: &mut Connection<S>) -> Result<KnownVersion, StoreFault>
-    requires { conn.old.in_transaction ≡ false }
-    ensures ended { conn.new.in_transaction ≡ false }
-    ensures read { HasCleanDisk (state S.Store conn.new) → HasVersion (state S.Store conn.old).now.schema
-        → IfOk result (λ it. it ≡ version_of (map (columns_of 1) ((state S.Store conn.old).now.trees 0))) }
-    ensures same { HasCleanDisk (state S.Store conn.new) → (books : Books) → Rests (state S.Store conn.old) books → Rests (state S.Store conn.new) books }
-    ensures crash { Survives (state S.Store conn.old) (state S.Store conn.new) (λ _. ⊥) }
-{
-    let mut tx = conn.transaction();
-    let found = version(&mut tx);
-    tx.rollback();
-    found
-}
 
 /// Whether the tables are a chain's, and of which version.
 fn known<S: Alter>(alloc: Global, conn: &mut Connection<S>) -> Result<KnownVersion, StoreFault>
@@ -49,20 +32,11 @@ fn known<S: Alter>(alloc: Global, conn: &mut Connection<S>) -> Result<KnownVersi
         return Ok(KnownVersion::Missing);
     }
     let is_this = is_shop(alloc, conn.schema())?;
-    let found = version_in(conn)?;
+    let found = chain_store::version_in(conn)?;
     if found == KnownVersion::This && !is_this {
         return Ok(KnownVersion::Missing);
     }
     Ok(found)
-}
-
-/// Gives the files back. Nothing more is written, so the last commits may stand in the log alone.
-pub(crate) fn give_back<D: Disk + Drop>(conn: Connection<FileStore<D>>) -> Files<D>
-    ensures left { AreClean D.Disk result.log result.db → HoldsOne D.Disk result (file_state conn).may_leave }
-    ensures clean { AreClean D.Disk result.log result.db → HasCleanDisk (file_state conn) }
-    ensures seen { outcomes D.Disk result.log result.db (image_of D.Disk result) }
-{
-    conn.into_store().close()
 }
 
 impl<D: Disk + Drop> Chain<FileStore<D>> {
@@ -76,23 +50,15 @@ impl<D: Disk + Drop> Chain<FileStore<D>> {
         ensures opened { IfOk result (λ chain. IsOpenedIn files limits chain) }
         ensures refused { IfErr result (λ e. IsNotOpened D.Disk files e.0 e.1) }
     {
-        if !files.may_be_used() {
-            return Err((OpenFault::Store, files));
-        }
-        let mut conn = match Connection::open_files(alloc, files, Options::new(1)) {
-            Ok(conn) => conn,
-            Err((error, left)) => return Err((named(fault_of(error)), left.into_files())),
-        };
-        match known(alloc, &mut conn) {
-            Ok(KnownVersion::This) => Ok(Chain {
+        let mut conn = connect(alloc, files)?;
+        match verdict(known(alloc, &mut conn)) {
+            Ok(()) => Ok(Chain {
                 limits,
                 is_failed: false,
                 conn,
                 alloc,
             }),
-            Ok(KnownVersion::Missing) => Err((OpenFault::NotAChain, give_back(conn))),
-            Ok(KnownVersion::Other) => Err((OpenFault::OtherVersion, give_back(conn))),
-            Err(fault) => Err((named(fault), give_back(conn))),
+            Err(fault) => Err((fault, give_back(conn))),
         }
     }
 

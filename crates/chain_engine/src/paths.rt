@@ -3,36 +3,14 @@
 ghost use Rattle.std.specs.Prelude.{◌≡◌, ◌≢◌, true, false, IfOk, IfErr};
 ghost use Rattle.sqlite_std_file.specs.File.{IsFresh};
 ghost use Rattle.shop_schema.specs.Shop.{first_books};
-ghost use Rattle.chain_engine.specs.Openings.{IsCreated, IsNotCreated, IsOpenedIn, IsNotOpened};
+ghost use Rattle.chain_store.specs.Openings.{IsCreated, IsNotCreated, IsOpenedIn, IsNotOpened};
 
-use crate::chain::{Chain, OpenFault};
+use crate::chain::Chain;
+use chain_store::{OpenFault, files_at, is_missing};
 use shop_types::{Limits, Token};
 use sqlite::FileStore;
-use sqlite_disk::{Disk, Files, Unknown};
-use sqlite_std_file::{File, OpenError};
-use std::fs::metadata;
-use std::io;
-
-/// The two files, or why they aren't opened.
-fn files_at(rt: &HostRuntime, path: &str) -> Result<Files<File>, OpenFault>
-    ensures fresh { IfOk result (λ files. IsFresh true files.log × IsFresh false files.db) }
-    ensures chain { IfErr result (λ e. e ≢ OpenFault.NotAChain) }
-    ensures version { IfErr result (λ e. e ≢ OpenFault.OtherVersion) }
-    ensures already { IfErr result (λ e. e ≢ OpenFault.Already) }
-{
-    match sqlite_std_file::open(rt, path, Unknown) {
-        Ok(files) => Ok(files),
-        Err(OpenError::OutOfMemory) => Err(OpenFault::Memory),
-        Err(_) => Err(OpenFault::Store),
-    }
-}
-
-fn is_missing(rt: &HostRuntime, path: &str) -> bool {
-    match metadata(rt, path) {
-        Err(error) => error.kind() == io::ErrorKind::NotFound,
-        Ok(_) => false,
-    }
-}
+use sqlite_disk::Disk;
+use sqlite_std_file::File;
 
 impl Chain<FileStore<File>> {
     /// Makes a chain with head office's token and no shared row in the file, which is made where it isn't there. `Already` where the file holds tables, which

@@ -1,21 +1,15 @@
 //! A request of a branch, or a command of head office, in one transaction.
 
-ghost use Rattle.std.specs.Prelude.{◌≡◌, ◌≢◌, false, IsTrue, IfOk, IfErr};
+ghost use Rattle.std.specs.Prelude.{◌≡◌, ◌≢◌, false, IfOk, IfErr};
 ghost use Rattle.sqlite.specs.Held.{state};
 ghost use Rattle.sqlite.specs.State.{HasCleanDisk, Survives};
-ghost use Rattle.shop_model.specs.Books.{Counter, HeadOffice};
-ghost use Rattle.shop_model.specs.Machine.{Office};
 ghost use Rattle.shop_types.specs.Replies.{seen_reply};
-ghost use Rattle.shop_types.specs.Seen.{seen_office, seen_request};
-ghost use Rattle.sql_rows.specs.Calls.{StaysInside};
-ghost use Rattle.chain_engine.specs.Steps.{Works, IsMade, IsUndone, LeavesAfter, LeavesEitherOf, asker, asked_of};
+ghost use Rattle.chain_store.specs.Steps.{IsMade, IsUndone, LeavesAfter, LeavesEitherOf, asker, asked_of};
 
-use crate::asked::Asked;
-use crate::reports::{Report, show};
-use branch_work::Worked;
-use shop_types::{BranchNo, Limits, OfficeCommand, Reply, Request};
-use sql_rows::{StoreFault, fault_of, query};
-use sqlite::{Alter, Connection, Transaction};
+use chain_store::{Asked, Work, is_open, show, work_of};
+use shop_types::{Limits, Reply};
+use sql_rows::{StoreFault, fault_of};
+use sqlite::{Alter, Connection};
 use std::alloc::Global;
 
 /// Answers what is asked in one transaction, whose commit is the last call to the store where the request changes anything.
@@ -60,81 +54,4 @@ pub fn step<S: Alter>(
     } else {
         Err(StoreFault::Failed)
     }
-}
-
-/// What is asked has come to this inside its transaction.
-#[derive(Drop)]
-pub(crate) enum Work {
-    /// It is answered, and it is told whether there is anything to commit.
-    Done(Reply, bool),
-    /// It is to be read outside the transaction.
-    Shows(Report),
-}
-
-/// Does what is asked inside a transaction.
-fn work_of<S: Alter>(
-    alloc: Global,
-    tx: &mut Transaction<'_, S>,
-    limits: Limits,
-    asked: &Asked<'_>,
-) -> Result<Work, StoreFault>
-    ensures same_reference { tx.new.conn.ghost_name ≡ tx.old.conn.ghost_name }
-    ensures inside { StaysInside (state S.Store tx.old.conn.now) (state S.Store tx.new.conn.now) result }
-    ensures works { HasCleanDisk (state S.Store tx.new.conn.now)
-        → IfOk result (λ work. Works limits (asker asked.now) (asked_of asked.now) work (state S.Store tx.old.conn.now) (state S.Store tx.new.conn.now)) }
-{
-    match *asked {
-        Asked::OfBranch(branch, request) => branch_work_of(alloc, tx, limits, branch, request),
-        Asked::OfOffice(command) => office_work_of(alloc, tx, limits, command),
-    }
-}
-
-/// The same of a branch's request.
-fn branch_work_of<S: Alter>(
-    alloc: Global,
-    tx: &mut Transaction<'_, S>,
-    limits: Limits,
-    branch: BranchNo,
-    request: &Request,
-) -> Result<Work, StoreFault>
-    ensures same_reference { tx.new.conn.ghost_name ≡ tx.old.conn.ghost_name }
-    ensures inside { StaysInside (state S.Store tx.old.conn.now) (state S.Store tx.new.conn.now) result }
-    ensures works { HasCleanDisk (state S.Store tx.new.conn.now)
-        → IfOk result (λ work. Works limits (Counter branch) (seen_request request.now) work (state S.Store tx.old.conn.now) (state S.Store tx.new.conn.now)) }
-{
-    match branch_work::work(alloc, tx, limits, branch, request)? {
-        Worked::Answered { reply, is_changed } => Ok(Work::Done(reply, is_changed)),
-        Worked::Shows(view) => Ok(Work::Shows(Report::OfBranch(branch, view))),
-    }
-}
-
-/// The same of head office's command.
-fn office_work_of<S: Alter>(
-    alloc: Global,
-    tx: &mut Transaction<'_, S>,
-    limits: Limits,
-    command: &OfficeCommand,
-) -> Result<Work, StoreFault>
-    ensures same_reference { tx.new.conn.ghost_name ≡ tx.old.conn.ghost_name }
-    ensures inside { StaysInside (state S.Store tx.old.conn.now) (state S.Store tx.new.conn.now) result }
-    ensures works { HasCleanDisk (state S.Store tx.new.conn.now)
-        → IfOk result (λ work. Works limits HeadOffice (Office (seen_office command.now)) work (state S.Store tx.old.conn.now) (state S.Store tx.new.conn.now)) }
-{
-    let (reply, is_changed) = office_work::work(alloc, tx, limits, command)?;
-    Ok(Work::Done(reply, is_changed))
-}
-
-/// Whether the store was still open at the call.
-fn is_open<S: Alter>(conn: &mut Connection<S>) -> bool
-    requires { conn.old.in_transaction ≡ false }
-    ensures ended { conn.new.in_transaction ≡ false }
-    ensures was { HasCleanDisk (state S.Store conn.new) → IsTrue result → IsTrue (state S.Store conn.old).is_open }
-    ensures same { HasCleanDisk (state S.Store conn.new) → IsTrue (state S.Store conn.new).is_open
-        → ((state S.Store conn.new).now ≡ (state S.Store conn.old).committed) × ((state S.Store conn.new).committed ≡ (state S.Store conn.old).committed) }
-    ensures crash { Survives (state S.Store conn.old) (state S.Store conn.new) (λ _. ⊥) }
-{
-    let mut tx = conn.transaction();
-    let answers = query(&mut tx, "SELECT 1", &[]).is_ok();
-    tx.rollback();
-    answers
 }

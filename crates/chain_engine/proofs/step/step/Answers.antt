@@ -6,10 +6,10 @@ use Rattle.shop_model.specs.Answers.{Answer}
 use Rattle.shop_model.specs.Books.{Books, Caller}
 use Rattle.shop_model.specs.Machine.{Request}
 use Rattle.shop_types.specs.Replies.{seen_reply}
-use Rattle.chain_engine.specs.Chains.{Rests}
-use Rattle.chain_engine.specs.Reports.{ShowsReport}
-use Rattle.chain_engine.specs.Steps.{IsMade, IsUndone, LeavesAfter, asker, asked_of}
-use Rattle.chain_engine.proofs.Resting.{rests_back, either_of, made_commit, made_nothing, leaves_after, leaves_then, undone_after, shows_made, shows_nothing, of_any_error}
+use Rattle.chain_store.specs.Chains.{Rests}
+use Rattle.chain_store.specs.Reports.{ShowsReport}
+use Rattle.chain_store.specs.Steps.{IsMade, IsUndone, LeavesAfter, asker, asked_of}
+use Rattle.chain_store.proofs.Resting.{rests_back, either_of, made_commit, made_nothing, leaves_after, leaves_then, undone_after, shows_made, shows_nothing, of_any_error}
 use Rattle.chain_engine.proofs.step.step.Goals as goal
 
 pub returns-in-Ok-clause-made : goal.returns-in-Ok-clause-made

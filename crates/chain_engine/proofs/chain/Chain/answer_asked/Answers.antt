@@ -4,11 +4,11 @@ use Rattle.shop_model.specs.Books.{Caller}
 use Rattle.shop_model.specs.Machine.{Request}
 use Rattle.shop_types.specs.Seen.{seen_refusal}
 use Rattle.shop_types.specs.Replies.{seen_reply}
-use Rattle.chain_engine.specs.Holding.{Chained}
-use Rattle.chain_engine.specs.Chains.{Takes, Answers}
-use Rattle.chain_engine.specs.Steps.{asker, asked_of}
-use Rattle.chain_engine.specs.Decisions.{refusal_for, is_final}
-use Rattle.chain_engine.proofs.Requests.{made, unmade}
+use Rattle.chain_store.specs.Holding.{Chained}
+use Rattle.chain_store.specs.Chains.{Takes, Answers}
+use Rattle.chain_store.specs.Steps.{asker, asked_of}
+use Rattle.chain_store.specs.Decisions.{refusal_for, is_final}
+use Rattle.chain_store.proofs.Requests.{made, unmade}
 use Rattle.chain_engine.proofs.chain.Chain.answer_asked.Goals as goal
 
 pub returns-in-Ok : goal.returns-in-Ok

@@ -5,11 +5,11 @@ use Rattle.shop_model.specs.Books.{HeadOffice}
 use Rattle.shop_model.specs.Machine.{Request, OfficeLook}
 use Rattle.shop_types.specs.Seen.{seen_office_ask, seen_refusal}
 use Rattle.shop_types.specs.Replies.{seen_reply}
-use Rattle.chain_engine.specs.Holding.{Chained}
-use Rattle.chain_engine.specs.Chains.{Takes, Answers}
-use Rattle.chain_engine.specs.Decisions.{refusal_for, is_final}
-use Rattle.chain_engine.proofs.Requests.{made, unmade}
-use Rattle.chain_engine.proofs.Asking.{office_made, office_unmade}
+use Rattle.chain_store.specs.Holding.{Chained}
+use Rattle.chain_store.specs.Chains.{Takes, Answers}
+use Rattle.chain_store.specs.Decisions.{refusal_for, is_final}
+use Rattle.chain_store.proofs.Requests.{made, unmade}
+use Rattle.chain_store.proofs.Asking.{office_made, office_unmade}
 use Rattle.chain_engine.proofs.chain.Chain.answer_office.Goals as goal
 
 pub returns-in-Ok : goal.returns-in-Ok

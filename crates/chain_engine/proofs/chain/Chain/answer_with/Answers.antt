@@ -1,8 +1,8 @@
 use Rattle.shop_model.specs.Books.{caller_in}
 use Rattle.shop_types.specs.Seen.{seen_request}
-use Rattle.chain_engine.specs.Chains.{event_of}
-use Rattle.chain_engine.proofs.Requests.{event_answered, store_refuses, refused_takes}
-use Rattle.chain_engine.proofs.Taking.{takes_then}
+use Rattle.chain_store.specs.Chains.{event_of}
+use Rattle.chain_store.proofs.Requests.{event_answered, store_refuses, refused_takes}
+use Rattle.chain_store.proofs.Taking.{takes_then}
 use Rattle.chain_engine.proofs.chain.Chain.answer_with.Goals as goal
 
 pub returns-in-Ok-clause-taken : goal.returns-in-Ok-clause-taken

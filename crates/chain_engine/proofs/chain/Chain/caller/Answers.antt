@@ -1,8 +1,8 @@
 use Rattle.std.proofs.Common.{◌≡◌, refl, sym, subst, arith, Ok, Err}
-use Rattle.chain_engine.specs.Holding.{Chained}
-use Rattle.chain_engine.specs.Chains.{Takes}
-use Rattle.chain_engine.specs.Decisions.{FindsCaller, refusal_for, is_final}
-use Rattle.chain_engine.proofs.Requests.{found, kept}
+use Rattle.chain_store.specs.Holding.{Chained}
+use Rattle.chain_store.specs.Chains.{Takes}
+use Rattle.chain_store.specs.Decisions.{FindsCaller, refusal_for, is_final}
+use Rattle.chain_store.proofs.Requests.{found, kept}
 use Rattle.chain_engine.proofs.chain.Chain.caller.Goals as goal
 
 pub returns-in-Ok-clause-taken : goal.returns-in-Ok-clause-taken

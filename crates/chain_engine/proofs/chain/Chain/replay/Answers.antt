@@ -4,10 +4,10 @@ use Rattle.shop_model.specs.Answers.{Answer, problem_answer}
 use Rattle.shop_model.specs.Refusals.{StoreFailed}
 use Rattle.shop_types.specs.declared.request.Request.{Request}
 use Rattle.shop_types.specs.Replies.{seen_reply}
-use Rattle.chain_engine.specs.Holding.{Chained}
-use Rattle.chain_engine.specs.Chains.{event_of}
-use Rattle.chain_engine.proofs.Running.{runs_none, runs_more}
-use Rattle.chain_engine.proofs.Taking.{takes_same, takes_then}
+use Rattle.chain_store.specs.Holding.{Chained}
+use Rattle.chain_store.specs.Chains.{event_of}
+use Rattle.chain_store.proofs.Running.{runs_none, runs_more}
+use Rattle.chain_store.proofs.Taking.{takes_same, takes_then}
 use Rattle.chain_engine.proofs.chain.Chain.replay.Goals as goal
 
 pub push_reserved-requires : goal.push_reserved-requires

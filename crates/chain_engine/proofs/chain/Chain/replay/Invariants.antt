@@ -2,7 +2,7 @@ use Rattle.std.proofs.Common.{◌≡◌, ◌≤◌, true, length, take, map, vec
 use Rattle.shop_model.specs.Answers.{problem_answer}
 use Rattle.shop_model.specs.Refusals.{StoreFailed}
 use Rattle.shop_types.specs.Replies.{seen_reply}
-use Rattle.chain_engine.specs.Chains.{Takes, Runs, event_of}
+use Rattle.chain_store.specs.Chains.{Takes, Runs, event_of}
 use Rattle.chain_engine.proofs.chain.Chain.replay.Given as goal
 
 abbrev pub invariant-loop-token : goal.invariant-loop-token

@@ -1,60 +1,49 @@
-use Rattle.std.proofs.Common.{rules, ◌≡◌, ◌≢◌, arith, inl, inr, refl, sym}
+use Rattle.std.proofs.Common.{◌≡◌, ◌≢◌, arith, inl, inr, refl, subst}
 use Rattle.sqlite.specs.Files.{file_state}
 use Rattle.sqlite.specs.State.{HasCleanDisk}
-use Rattle.sqlite.specs.declared.file.Leftover.TheVariants as left
-use Rattle.sql_rows.specs.Books.{no_schema}
 use Rattle.shop_model.proofs.Soundness.{empty_sound}
 use Rattle.shop_schema.specs.Shop.{first_books}
-use Rattle.shop_schema.proofs.FirstValues.{first_values}
-use Rattle.chain_engine.specs.Chains.{widest_rules}
-use Rattle.chain_engine.proofs.Opening.{opened_at}
-use Rattle.chain_engine.proofs.NewFiles.{stopped_by, store_is_not_a_chain, store_is_no_version, store_is_not_already, already_is_not_a_chain, already_is_no_version, holds_no_table, holds_a_table, closed_as_found, none_or_new}
+use Rattle.chain_store.specs.Chains.{widest_rules}
+use Rattle.chain_store.specs.Files.{HoldsOne}
+use Rattle.chain_store.proofs.Opening.{opened_at}
+use Rattle.chain_store.proofs.NewFiles.{stopped_by, holds_no_table, holds_a_table, closed_as_found, none_or_new}
+use Rattle.chain_engine.proofs.Refusing.{refused_by}
 use Rattle.chain_engine.proofs.creating.Chain+FileStore+D.create_files.Goals as goal
 
-pub returns-then-not-may_be_used-clause-refused : goal.returns-then-not-may_be_used-clause-refused
-returns-then-not-may_be_used-clause-refused g c =
-    stopped_by g.D.Disk c.args.files _ _ _ store_is_not_a_chain store_is_no_version store_is_not_already (λ honest. inl (left.Files c.args.files, refl, λ _ image left. left))
+pub returns-in_err-conn-clause-refused : goal.returns-in_err-conn-clause-refused
+returns-in_err-conn-clause-refused g c =
+    refused_by c.from_residual.result _ _
+    (stopped_by g.D.Disk c.args.files _ _ _ c.in_err-conn.ensures.chain c.in_err-conn.ensures.version c.in_err-conn.ensures.already (λ honest. inl c.in_err-conn.ensures.left))
+    c.from_residual.ensures.1
 
-pub returns-in-Err-clause-refused : goal.returns-in-Err-clause-refused
-returns-in-Err-clause-refused g c =
-    stopped_by g.D.Disk c.args.files _ _ _ c.named.ensures.chain c.named.ensures.version c.named.ensures.already (λ honest. inl (c.in-Err.left, sym c.into_files.ensures, c.in-Err.ensures.unharmed))
-
-pub returns-then-not-has_no_table-clause-refused : goal.returns-then-not-has_no_table-clause-refused
-returns-then-not-has_no_table-clause-refused g c =
-    let some : (file_state c.in-Ok.conn).now.schema ≢ no_schema = search rules in
-    record {
-      already = λ honest is.
-          let clean = c.give_back.ensures.clean honest in
-          holds_a_table c.in-Ok.conn c.args.files (c.in-Ok.ensures.opened clean) g.met.D.Disk.seen_may_stay (c.in-Ok.ensures.found clean) some;
-      kept = λ honest is.
-          let clean = c.give_back.ensures.clean honest in
-          closed_as_found c.in-Ok.conn c.args.files (c.in-Ok.ensures.opened clean) g.met.D.Disk.seen_may_stay (c.in-Ok.ensures.found clean) c.give_back.result (c.give_back.ensures.left honest);
-      stopped = λ honest other. absurd (other refl);
-      chain = already_is_not_a_chain;
-      version = already_is_no_version;
-    }
-
-pub returns-in-Ok-create-clause-made : goal.returns-in-Ok-create-clause-made
-returns-in-Ok-create-clause-made g c =
-    let first = λ (clean : HasCleanDisk (file_state c.create.new.conn)). let r : HasCleanDisk (file_state c.in-Ok.conn) = omega (arith, clean, c.create.ensures.crash.clean) in r in
-    let none : (file_state c.in-Ok.conn).now.schema ≡ no_schema = c.has_no_table.ensures.0 (search rules) in
+pub returns-in-Ok-clause-made : goal.returns-in-Ok-clause-made
+returns-in-Ok-clause-made g c =
+    let first = λ (clean : HasCleanDisk (file_state c.create.new.conn)). let r : HasCleanDisk (file_state c.in_ok-conn.conn) = omega (arith, clean, c.create.ensures.crash.clean) in r in
     record {
       limits = refl;
       live = refl;
-      honest = λ clean. (c.in-Ok.ensures.found (first clean)).honest;
-      made = λ clean.
-          opened_at _ (first_books c.args.office.now) refl (empty_sound widest_rules c.args.office.now) (first_values c.args.office.now c.as_bytes-digits.ensures.kind)
-          (c.in-Ok-create.ensures.made clean none);
-      none = λ clean. holds_no_table c.in-Ok.conn c.args.files (c.in-Ok.ensures.opened (first clean)) g.met.D.Disk.seen_may_stay (c.in-Ok.ensures.found (first clean)) none;
+      honest = λ clean. (c.in_ok-conn.ensures.found (first clean)).honest;
+      made = λ clean. opened_at _ (first_books c.args.office.now) refl (empty_sound widest_rules c.args.office.now) c.first_values.ensures (c.in-Ok.ensures.made clean);
+      none = λ clean. holds_no_table c.in_ok-conn.conn c.args.files (c.in_ok-conn.ensures.opened (first clean)) g.met.D.Disk.seen_may_stay (c.in_ok-conn.ensures.found (first clean)) c.in-Ok.ensures.none;
     }
 
-pub returns-in-Err-create-clause-refused : goal.returns-in-Err-create-clause-refused
-returns-in-Err-create-clause-refused g c =
-    let back = c.give_back-in-Err-create in
-    let none : (file_state c.in-Ok.conn).now.schema ≡ no_schema = c.has_no_table.ensures.0 (search rules) in
-    stopped_by g.D.Disk c.args.files (first_books c.args.office.now) _ back.result c.named-in-Err-create.ensures.chain c.named-in-Err-create.ensures.version c.named-in-Err-create.ensures.already
-    (λ honest.
-    let clean = back.ensures.clean honest in
-    let first : HasCleanDisk (file_state c.in-Ok.conn) = omega (arith, clean, c.create.ensures.crash.clean) in
-    inr (none_or_new c.in-Ok.conn c.args.files (c.in-Ok.ensures.opened first) g.met.D.Disk.seen_may_stay none (first_books c.args.office.now) c.create.new.conn back.result
-    c.create.ensures.crash clean (back.ensures.left honest)))
+pub returns-in-Err-clause-refused : goal.returns-in-Err-clause-refused
+returns-in-Err-clause-refused g c =
+    let conn = c.in_ok-conn.conn in
+    let stays = g.met.D.Disk.seen_may_stay in
+    let first = λ (clean : HasCleanDisk (file_state c.create.new.conn)). let r : HasCleanDisk (file_state conn) = omega (arith, clean, c.create.ensures.crash.clean) in r in
+    record {
+      already = λ honest is.
+          let clean = first (c.give_back.ensures.clean honest) in
+          holds_a_table conn c.args.files (c.in_ok-conn.ensures.opened clean) stays (c.in_ok-conn.ensures.found clean) (c.in-Err.ensures.there is).0;
+      kept = λ honest is.
+          let clean = first (c.give_back.ensures.clean honest) in
+          closed_as_found conn c.args.files (c.in_ok-conn.ensures.opened clean) stays (c.in_ok-conn.ensures.found clean) c.give_back.result
+          (subst (λ h. HoldsOne g.D.Disk c.give_back.result (file_state h).may_leave) (c.in-Err.ensures.there is).1 (c.give_back.ensures.left honest));
+      stopped = λ honest other.
+          let clean = c.give_back.ensures.clean honest in
+          inr (none_or_new conn c.args.files (c.in_ok-conn.ensures.opened (first clean)) stays (c.in-Err.ensures.stopped other) (first_books c.args.office.now) c.create.new.conn c.give_back.result
+          c.create.ensures.crash clean (c.give_back.ensures.left honest));
+      chain = c.in-Err.ensures.chain;
+      version = c.in-Err.ensures.version;
+    }

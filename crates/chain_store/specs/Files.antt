@@ -1,0 +1,77 @@
+-- The books that two files hold.
+use Rattle.std.specs.Prelude.{◌≡◌, ◌⊎◌, map}
+use Rattle.sqlite_disk.specs.declared.Disk.{Ghosts}
+use Rattle.sqlite_disk.specs.declared.Files.{Files}
+use Rattle.sqlite_wal.specs.Files.{outcomes}
+use Rattle.sqlite_wal.specs.Reads.{AreClean}
+use Rattle.sqlite_wal.specs.Recovery.{Image}
+use Rattle.sqlite_trees.specs.Tree.{Trees}
+use Rattle.sqlite_catalog.specs.Listing.{IsSound as IsDatabaseOf}
+use Rattle.sqlite.specs.Schema.{Schema}
+use Rattle.sqlite.specs.State.{State}
+use Rattle.sqlite.specs.Files.{HoldsDatabase, IsCleanLeft, LeavesFiles}
+use Rattle.sqlite.specs.Closing.{files_left}
+use Rattle.sqlite.specs.declared.file.Leftover.{Leftover}
+use Rattle.sql_rows.specs.Rows.{columns_of}
+use Rattle.shop_model.specs.Books.{Books}
+use Rattle.shop_model.specs.Sound.{IsSound}
+use Rattle.shop_schema.specs.RowValues.{AreValues}
+use Rattle.shop_schema.specs.Shop.{StandsFor, HasVersion}
+use Rattle.shop_schema.specs.Tables.{shop_schema}
+use Rattle.shop_schema.specs.Versions.{version_of}
+use Rattle.shop_schema.specs.declared.known.KnownVersion.{KnownVersion}
+use Rattle.shop_schema.specs.declared.known.KnownVersion.TheVariants.{This, Missing, Other}
+use Rattle.chain_store.specs.Chains.{widest_rules, StandsForEither}
+
+-- What is known of the tables. They are a chain's of this version; or they aren't a chain's: the first isn't the one that has the version, or hasn't its one row, or tells
+-- this version of other tables; or that table tells another version, whatever the others are.
+abbrev pub Knows : KnownVersion → State → Type 0
+Knows This s = (s.now.schema ≡ shop_schema) × (version_of (map (columns_of 1) (s.now.trees 0)) ≡ This)
+Knows Missing s = (¬ HasVersion s.now.schema) ⊎ ((version_of (map (columns_of 1) (s.now.trees 0)) ≡ Missing) ⊎ ((version_of (map (columns_of 1) (s.now.trees 0)) ≡ This) × (¬ (s.now.schema ≡ shop_schema))))
+Knows Other s = HasVersion s.now.schema × (version_of (map (columns_of 1) (s.now.trees 0)) ≡ Other)
+
+-- an image of the two files, as it is read or as a crash left it, holds a database whose tables stand for these books
+pub record HoldsBooks (image : Image) (books : Books) : Type 0 where
+  pub db : Trees
+  pub holds : ∥ HoldsDatabase image db ∥₁
+  pub stands : StandsFor db books
+  pub sound : IsSound widest_rules books
+  pub values : AreValues books
+
+-- whatever a crash leaves of the files, or a read finds in them, is a database of which this holds
+abbrev pub HoldsOne : {D : Type 0} → Ghosts D → Files D → (Trees → Type 0) → Type 0
+HoldsOne g files P = (image : Image) → outcomes g files.log files.db image → ∥ ((db : Trees) × P db × HoldsDatabase image db) ∥₁
+
+-- The files keep the books of a chain that is closed: what a close promises, and what an open asks. The books are sound, and where no wrong answer of the disk was
+-- taken as true, whatever is found in the files, or a crash leaves of them, is a database whose tables stand for the books.
+pub record KeepsBooks {D : Type 0} (g : Ghosts D) (files : Files D) (books : Books) : Type 0 where
+  pub sound : IsSound widest_rules books
+  pub values : AreValues books
+  pub left : AreClean g files.log files.db → HoldsOne g files (λ db. StandsFor db books)
+
+-- The files keep the books of a chain that is closed, or those besides, where its store had failed: those before the request at which it failed, or after it.
+pub record KeepsEither {D : Type 0} (g : Ghosts D) (files : Files D) (books besides : Books) : Type 0 where
+  pub sound : IsSound widest_rules books
+  pub values : AreValues books
+  pub left : AreClean g files.log files.db → HoldsOne g files (StandsForEither books besides)
+
+-- no database in the files has the tables of a chain, these and no other, standing for books
+abbrev pub HoldsNoChain : Image → Type 0
+HoldsNoChain image = (db : Trees) → HoldsDatabase image db → IsDatabaseOf shop_schema db → (books : Books) → ¬ StandsFor db books
+
+-- the database in the files has the tables of a chain, and the one row of the first tells this version
+abbrev pub HasThisVersion : Image → Type 0
+HasThisVersion image = (db : Trees) → HoldsDatabase image db → IsDatabaseOf shop_schema db × (version_of (map (columns_of 1) (db 0)) ≡ This)
+
+-- the database in the files doesn't begin with the table that has the version, or that hasn't its one row, or tells this version of other tables
+abbrev pub HasNoVersion : Image → Type 0
+HasNoVersion image = (db : Trees) → HoldsDatabase image db → (schema : Schema) × IsDatabaseOf schema db
+    × ((¬ HasVersion schema) ⊎ ((version_of (map (columns_of 1) (db 0)) ≡ Missing) ⊎ ((version_of (map (columns_of 1) (db 0)) ≡ This) × (¬ (schema ≡ shop_schema)))))
+
+-- the database in the files begins with the table that has the version, and its one row has another
+abbrev pub HasOtherVersion : Image → Type 0
+HasOtherVersion image = (db : Trees) → HoldsDatabase image db → (schema : Schema) × IsDatabaseOf schema db × HasVersion schema × (version_of (map (columns_of 1) (db 0)) ≡ Other)
+
+-- the files that an open of these left as it failed
+abbrev pub OpenFailed : {D : Type 0} → Ghosts D → Files D → Files D → Type 0
+OpenFailed {D} g files now = (left : Leftover D g) × (files_left left ≡ (now.log, now.db)) × (IsCleanLeft left → LeavesFiles files left)

@@ -1,0 +1,87 @@
+-- What making and opening a chain in two files promise.
+use Rattle.std.specs.Prelude.{◌≡◌, ◌≢◌, ◌⊎◌, false}
+use Rattle.sqlite_disk.specs.declared.Disk.{Ghosts}
+use Rattle.sqlite_disk.specs.declared.Files.{Files}
+use Rattle.sqlite_wal.specs.Reads.{AreClean}
+use Rattle.sqlite_wal.specs.Recovery.{Image}
+use Rattle.sqlite_trees.specs.Tree.{Trees}
+use Rattle.sqlite_store.specs.declared.store.FileStore.{FileStore}
+use Rattle.sqlite_catalog.specs.Listing.{IsSound as IsDatabaseOf}
+use Rattle.sqlite.specs.State.{HasCleanDisk}
+use Rattle.sqlite.specs.Files.{HoldsDatabase, over_files, file_state, image_of}
+use Rattle.sql_rows.specs.Books.{no_schema}
+use Rattle.shop_values.specs.LimitValues.{Limits}
+use Rattle.shop_model.specs.Books.{Books}
+use Rattle.shop_schema.specs.Shop.{StandsFor}
+use Rattle.chain_store.specs.declared.faults.OpenFault.{OpenFault}
+use Rattle.chain_store.specs.declared.faults.OpenFault.TheVariants as fault
+use Rattle.chain_store.specs.Holding.{Chained}
+use Rattle.chain_store.specs.Chains.{IsAt}
+use Rattle.chain_store.specs.Files.{HoldsBooks, HoldsOne, KeepsBooks, KeepsEither, HoldsNoChain, HasThisVersion, HasNoVersion, HasOtherVersion, OpenFailed}
+
+-- ---- making
+
+-- the database in the files has no table
+abbrev pub HoldsNoTable : Image → Type 0
+HoldsNoTable image = (db : Trees) → HoldsDatabase image db → IsDatabaseOf no_schema db
+
+-- the database in the files has a table
+abbrev pub HoldsATable : Image → Type 0
+HoldsATable image = (db : Trees) → HoldsDatabase image db → ¬ IsDatabaseOf no_schema db
+
+-- a database with no table, or the tables that stand for the books
+abbrev pub IsNoneOrNew : Books → Trees → Type 0
+IsNoneOrNew books db = IsDatabaseOf no_schema db ⊎ StandsFor db books
+
+-- a chain that was made in the files, with these limits and books
+pub record IsCreated {D : Type 0} {g : Ghosts D} (files : Files D) (given : Limits) (books : Books) (chain : Chained (FileStore D g)) : Type 0 where
+  pub limits : chain.limits ≡ given
+  pub live : chain.is_failed ≡ false
+  -- no wrong answer of the disk was taken as true before
+  pub honest : HasCleanDisk (file_state chain.conn) → AreClean g files.log files.db
+  -- the chain has the books
+  pub made : HasCleanDisk (file_state chain.conn) → IsAt over_files chain books books
+  -- where the files held a database, it had no table
+  pub none : HasCleanDisk (file_state chain.conn) → HoldsNoTable (image_of g files)
+
+-- the fault for which no chain with these books was made in the files, and what is left of them
+pub record IsNotCreated {D : Type 0} (g : Ghosts D) (files : Files D) (books : Books) (why : OpenFault) (left : Files D) : Type 0 where
+  -- Already: the files hold a table,
+  pub already : AreClean g left.log left.db → why ≡ fault.Already → HoldsATable (image_of g files)
+  -- and go on to hold the same database
+  pub kept : AreClean g left.log left.db → why ≡ fault.Already → (db : Trees) → HoldsDatabase (image_of g files) db → HoldsOne g left (λ found. found ≡ db)
+  -- any other: the files are as the opening left them that failed; or what is found in them, or a crash leaves of them, has no table, or is the whole chain
+  pub stopped : AreClean g left.log left.db → why ≢ fault.Already → OpenFailed g files left ⊎ HoldsOne g left (IsNoneOrNew books)
+  -- what only an opening tells isn't told
+  pub chain : why ≢ fault.NotAChain
+  pub version : why ≢ fault.OtherVersion
+
+-- ---- opening
+
+-- a chain that was opened in the files, with these limits
+pub record IsOpenedIn {D : Type 0} {g : Ghosts D} (files : Files D) (given : Limits) (chain : Chained (FileStore D g)) : Type 0 where
+  pub limits : chain.limits ≡ given
+  pub live : chain.is_failed ≡ false
+  -- no wrong answer of the disk was taken as true before
+  pub honest : HasCleanDisk (file_state chain.conn) → AreClean g files.log files.db
+  -- the chain has the books that are found in the files,
+  pub found : HasCleanDisk (file_state chain.conn) → (books : Books) → HoldsBooks (image_of g files) books → IsAt over_files chain books books
+  -- and those that were closed
+  pub again : HasCleanDisk (file_state chain.conn) → (books : Books) → KeepsBooks g files books → IsAt over_files chain books books
+  -- or, where the store had failed, one of the two
+  pub either : HasCleanDisk (file_state chain.conn) → (books besides : Books) → KeepsEither g files books besides → ∥ IsAt over_files chain books books ⊎ IsAt over_files chain besides besides ∥₁
+  -- the files hold a chain of this version
+  pub this : HasCleanDisk (file_state chain.conn) → HasThisVersion (image_of g files)
+
+-- the fault for which no chain was opened in the files, and what is left of them
+pub record IsNotOpened {D : Type 0} (g : Ghosts D) (files : Files D) (why : OpenFault) (left : Files D) : Type 0 where
+  -- NotAChain: no tables in the files stand for books,
+  pub no_chain : AreClean g left.log left.db → why ≡ fault.NotAChain → HoldsNoChain (image_of g files)
+  -- and they don't tell a version
+  pub no_version : AreClean g left.log left.db → why ≡ fault.NotAChain → HasNoVersion (image_of g files)
+  -- OtherVersion: they tell another one
+  pub other : AreClean g left.log left.db → why ≡ fault.OtherVersion → HasOtherVersion (image_of g files)
+  -- whatever the fault is, the files are as the opening of their database left them that failed, or go on to hold the same database
+  pub kept : AreClean g left.log left.db → OpenFailed g files left ⊎ ((db : Trees) → HoldsDatabase (image_of g files) db → HoldsOne g left (λ found. found ≡ db))
+  -- what only making a chain tells isn't told
+  pub already : why ≢ fault.Already

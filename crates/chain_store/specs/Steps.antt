@@ -1,0 +1,112 @@
+-- What the transaction of a request leaves.
+use Rattle.std.specs.Prelude.{◌≡◌, ◌⊎◌, ⊤, ℕ, Bool, false, List, Some}
+use Rattle.sqlite_trees.specs.Tree.{Trees}
+use Rattle.sqlite.specs.State.{State}
+use Rattle.shop_values.specs.LimitValues.{Limits}
+use Rattle.shop_model.specs.Machine.{Request, Unread, Do, Look, Office, OfficeLook, Shows as Shown}
+use Rattle.shop_model.specs.Answers.{Answer, answer_of}
+use Rattle.shop_model.specs.Books.{Books, Caller, Counter, HeadOffice, Nobody, caller_of, known_caller, reply_for, after_for}
+use Rattle.shop_model.specs.Office.{office_look}
+use Rattle.shop_model.specs.Opening.{opening_books}
+use Rattle.shop_types.specs.Seen.{seen_request, seen_office}
+use Rattle.shop_types.specs.Replies.{seen_reply}
+use Rattle.sql_rows.specs.Books.{no_schema}
+use Rattle.shop_schema.specs.Held.{IsHeld}
+use Rattle.shop_schema.specs.RowValues.{IsNumber, IsCommand, IsKey, IsOfficeAct}
+use Rattle.shop_schema.specs.Steps.{IsBuilt}
+use Rattle.shop_schema.specs.Shop.{StandsFor, Holds, first_books}
+use Rattle.branch_work.specs.Rules.{rules_of}
+use Rattle.chain_store.specs.declared.asked.Asked.{Asked}
+use Rattle.chain_store.specs.declared.asked.Asked.TheVariants.{OfBranch, OfOffice}
+use Rattle.chain_store.specs.declared.creation.FirstRows.{FirstRows}
+use Rattle.chain_store.specs.declared.creation.FirstRows.TheVariants.{OfOffice as WithToken, OfOpening as WithOpening}
+use Rattle.chain_store.specs.declared.work.Work.{Work}
+use Rattle.chain_store.specs.declared.work.Work.TheVariants.{Done, Shows}
+use Rattle.chain_store.specs.Reports.{shown_by}
+use Rattle.chain_store.specs.Chains.{Rests}
+
+-- ---- what is asked
+
+-- who asks, and the request
+abbrev pub asker : Asked → Caller
+asker (OfBranch b request) = Counter b
+asker (OfOffice command) = HeadOffice
+
+abbrev pub asked_of : Asked → Request
+asked_of (OfBranch b request) = seen_request request.now
+asked_of (OfOffice command) = Office (seen_office command.now)
+
+-- a caller whose number the tables can hold
+abbrev pub IsAsker : Caller → Type 0
+IsAsker (Counter b) = IsNumber b
+IsAsker HeadOffice = ⊤
+IsAsker Nobody = ⊤
+
+-- a request whose values the tables can hold, of an act that the program takes
+abbrev pub IsAsked : Request → Type 0
+IsAsked (Unread refusal) = ⊤
+IsAsked (Do command) = IsCommand command × IsBuilt command.act
+IsAsked (Look ask) = ⊤
+IsAsked (Office command) = IsKey command.key × IsOfficeAct command.act
+IsAsked (OfficeLook ask) = ⊤
+
+-- ---- one request
+
+-- the answer to a caller's request, and the books after it
+abbrev pub told_to : Limits → Caller → Request → Books → Answer
+told_to limits caller request books = answer_of (reply_for (rules_of limits) office_look (known_caller books.catalogue caller) request books)
+
+abbrev pub left_by : Limits → Caller → Request → Books → Books
+left_by limits caller request books = after_for (rules_of limits) (known_caller books.catalogue caller) request books
+
+-- inside the transaction the request is answered, the tables come to stand for the books after it, and it is told whether there is anything to commit
+pub record IsDone (limits : Limits) (caller : Caller) (request : Request) (answer : Answer) (is_changed : Bool) (new : State) (books : Books) : Type 0 where
+  pub reply : answer ≡ told_to limits caller request books
+  pub holds : Holds new (left_by limits caller request books)
+  pub same : is_changed ≡ false → left_by limits caller request books ≡ books
+
+abbrev pub Does : Limits → Caller → Request → Answer → Bool → State → State → Type 0
+Does limits caller request answer is_changed old new = (books : Books) → Holds old books → IsHeld books → IsDone limits caller request answer is_changed new books
+
+-- it has come to this: it is done, or it is a reading, which is to be shown
+abbrev pub HasCome : Limits → Caller → Request → Work → State → Books → Type 0
+HasCome limits caller request (Done reply is_changed) new books = IsDone limits caller request (seen_reply reply) is_changed new books
+HasCome limits caller request (Shows report) new books = (told_to limits caller request books ≡ answer_of (Shown (shown_by report books))) × (left_by limits caller request books ≡ books)
+
+abbrev pub Works : Limits → Caller → Request → Work → State → State → Type 0
+Works limits caller request work old new = (books : Books) → Holds old books → IsHeld books → HasCome limits caller request work new books
+
+-- the step is made
+pub record IsMade (limits : Limits) (caller : Caller) (request : Request) (answer : Answer) (old new : State) : Type 0 where
+  pub reply : (books : Books) → Rests old books → IsHeld books → answer ≡ told_to limits caller request books
+  pub books : (books : Books) → Rests old books → IsHeld books → Rests new (left_by limits caller request books)
+
+-- nothing is done
+abbrev pub IsUndone : State → State → Type 0
+IsUndone old new = (books : Books) → Rests old books → IsHeld books → Rests new books
+
+-- a crash leaves the books before the request or those after it
+abbrev pub LeavesEitherOf : Limits → Caller → Request → State → State → Type 0
+LeavesEitherOf limits caller request old new =
+    (books : Books) → Rests old books → IsHeld books → (db : Trees) → new.may_leave db → StandsFor db books ⊎ StandsFor db (left_by limits caller request books)
+
+-- what the commit of a request may leave on the disk
+abbrev pub LeavesAfter : Limits → Caller → Request → State → Trees → Type 0
+LeavesAfter limits caller request old db = (books : Books) → Rests old books → IsHeld books → StandsFor db (left_by limits caller request books)
+
+-- the books that the first rows of a chain stand for
+abbrev pub books_with : FirstRows → Books
+books_with (WithToken office) = first_books office.now
+books_with WithOpening = opening_books
+
+-- what the commit of a new chain may leave, in a database that had no table
+abbrev pub LeavesMade : State → Books → Trees → Type 0
+LeavesMade old books db = old.now.schema ≡ no_schema → StandsFor db books
+
+-- the caller has the token, in whatever books the tables stand for
+abbrev pub IsCallerOf : List ℕ → Caller → State → Type 0
+IsCallerOf token caller s = (books : Books) → Holds s books → IsHeld books → caller ≡ caller_of (Some token) books.catalogue
+
+-- the same between two requests
+abbrev pub HasCaller : List ℕ → Caller → State → Type 0
+HasCaller token caller s = (books : Books) → Rests s books → IsHeld books → caller ≡ caller_of (Some token) books.catalogue

@@ -1,0 +1,20 @@
+//! What a chain of shops rests on: its books in the tables of a store, and what each call does to a connection between two requests.
+#![tactic(auto)]
+
+mod asked;
+mod callers;
+mod creation;
+mod faults;
+mod files;
+mod paths;
+mod reports;
+mod work;
+
+pub use asked::{Asked, asked_values};
+pub use callers::find_caller;
+pub use creation::{FirstRows, create, first_values, in_memory};
+pub use faults::{OpenFault, named};
+pub use files::{connect, give_back, verdict, version_in};
+pub use paths::{files_at, is_missing};
+pub use reports::{Report, show};
+pub use work::{Work, is_open, work_of};

@@ -1,0 +1,32 @@
+//! The two files at a path of the operating system.
+
+ghost use Rattle.std.specs.Prelude.{◌≡◌, ◌≢◌, true, false, IfOk, IfErr};
+ghost use Rattle.sqlite_std_file.specs.File.{IsFresh};
+
+use crate::faults::OpenFault;
+use sqlite_disk::{Files, Unknown};
+use sqlite_std_file::{File, OpenError};
+use std::fs::metadata;
+use std::io;
+
+/// The two files, or why they aren't opened.
+pub fn files_at(rt: &HostRuntime, path: &str) -> Result<Files<File>, OpenFault>
+    ensures fresh { IfOk result (λ files. IsFresh true files.log × IsFresh false files.db) }
+    ensures chain { IfErr result (λ e. e ≢ OpenFault.NotAChain) }
+    ensures version { IfErr result (λ e. e ≢ OpenFault.OtherVersion) }
+    ensures already { IfErr result (λ e. e ≢ OpenFault.Already) }
+{
+    match sqlite_std_file::open(rt, path, Unknown) {
+        Ok(files) => Ok(files),
+        Err(OpenError::OutOfMemory) => Err(OpenFault::Memory),
+        Err(_) => Err(OpenFault::Store),
+    }
+}
+
+/// Whether there is no file at the path.
+pub fn is_missing(rt: &HostRuntime, path: &str) -> bool {
+    match metadata(rt, path) {
+        Err(error) => error.kind() == io::ErrorKind::NotFound,
+        Ok(_) => false,
+    }
+}

@@ -1,0 +1,67 @@
+//! Readings whose rows come one at a time, outside any transaction.
+
+ghost use Rattle.std.specs.Prelude.{◌≡◌, false, IfOk, OnOk, string_bytes};
+ghost use Rattle.sqlite.specs.Held.{state};
+ghost use Rattle.sqlite.specs.State.{HasCleanDisk, IsUnchanged, KeepsCommit, Survives};
+ghost use Rattle.shop_model.specs.Books.{Books};
+ghost use Rattle.shop_model.specs.Answers.{shown_text};
+ghost use Rattle.shop_types.specs.Replies.{seen_reply};
+ghost use Rattle.shop_schema.specs.Shop.{Holds};
+ghost use Rattle.shop_schema.specs.Held.{IsHeld};
+ghost use Rattle.chain_store.specs.Steps.{IsUndone};
+ghost use Rattle.chain_store.specs.Reports.{shown_by, ShowsReport};
+
+use shop_types::{BranchNo, OfficeAsk, Reply, View};
+use sql_rows::StoreFault;
+use sqlite::{Alter, Connection};
+use std::alloc::Global;
+use view_texts::{sales, view_text};
+
+/// What is read.
+#[derive(Clone, Copy)]
+pub enum Report {
+    /// A view, for the branch.
+    OfBranch(BranchNo, View),
+    /// A reading of head office.
+    OfOffice(OfficeAsk),
+}
+
+/// The text of what is read.
+fn report_text<S: Alter>(
+    alloc: Global,
+    conn: &mut Connection<S>,
+    report: Report,
+) -> Result<String, StoreFault>
+    ensures text { HasCleanDisk (state S.Store conn.new)
+        → IfOk result (λ s. (books : Books) → Holds (state S.Store conn.old) books → IsHeld books → string_bytes s ≡ shown_text (shown_by report books)) }
+    ensures same { HasCleanDisk (state S.Store conn.new) → OnOk result (IsUnchanged (state S.Store conn.old) (state S.Store conn.new)) }
+    ensures kept { HasCleanDisk (state S.Store conn.new) → KeepsCommit (state S.Store conn.old) (state S.Store conn.new) }
+    ensures mode { conn.old.in_transaction ≡ false → conn.new.in_transaction ≡ false }
+    ensures survives { Survives (state S.Store conn.old) (state S.Store conn.new) (λ _. ⊥) }
+{
+    match report {
+        Report::OfBranch(branch, view) => view_text(conn, alloc, branch, view),
+        Report::OfOffice(OfficeAsk::Sales) => sales(conn, alloc),
+    }
+}
+
+/// The reply that shows what is read. The database stays as it was.
+pub fn show<S: Alter>(
+    alloc: Global,
+    conn: &mut Connection<S>,
+    report: Report,
+) -> Result<Reply, StoreFault>
+    requires { conn.old.in_transaction ≡ false }
+    ensures ended { conn.new.in_transaction ≡ false }
+    ensures shown { HasCleanDisk (state S.Store conn.new) → IfOk result (λ reply. ShowsReport report (seen_reply reply) (state S.Store conn.old)) }
+    ensures same { HasCleanDisk (state S.Store conn.new) → IsUndone (state S.Store conn.old) (state S.Store conn.new) }
+    ensures crash { Survives (state S.Store conn.old) (state S.Store conn.new) (λ _. ⊥) }
+{
+    let text = report_text(alloc, conn, report);
+    // What a failed query may have left is dropped, as a transaction's end drops it.
+    conn.transaction().rollback();
+    match text {
+        Ok(text) => Ok(Reply::accepted(text)),
+        Err(fault) => Err(fault),
+    }
+}
