@@ -53,7 +53,11 @@ pub fn answer<O: OfficeWords, S: Alter>(
         Err(refusal) => return Reply::refused(refusal),
     };
     match routes.read(alloc, words, message, caller) {
-        Ok(Reading::Asked(request)) => chain.answer(&caller, &request),
+        Ok(Reading::Asked(request)) => {
+            let reply = chain.answer(&caller, &request);
+            drop(request);
+            reply
+        }
         Ok(Reading::Refused(refusal)) => Reply::refused(refusal),
         Err(_) => Reply::refused(Refusal::Memory),
     }

@@ -3,6 +3,7 @@ ghost use Rattle.std.specs.Prelude.{ℕ, List, Option, Some, None, map, string_b
 ghost use Rattle.shop_types.specs.Lines.{seen_line};
 ghost use Rattle.office_words.specs.Line.{line_of};
 ghost use Rattle.sakila_office.specs.Tasks.{task_of, task_with};
+ghost use Rattle.sakila_office.specs.Commands.{Puts};
 ghost use Rattle.sakila_office.specs.Program.{Performs};
 
 use crate::commands::{make, put, serve_in};
@@ -13,6 +14,21 @@ use shop_types::{Line, LineAct, OfficeWords, Refusal, Reply, Request, Usage};
 use sqlite_disk::Disk;
 use sqlite_std_file::File;
 use std::io::{Read, Write};
+
+/// Puts the request of head office to the chain in the file, and lets it go.
+fn put_request<W: Write, E: Write>(
+    rt: &HostRuntime,
+    file: &str,
+    request: Request,
+    out: &mut W,
+    err: &mut E,
+) -> u8
+    ensures { Puts ⟦<File as Disk>⟧ request result (W.contents out.old) (W.contents out.new) }
+{
+    let status = put(rt, file, &request, out, err);
+    drop(request);
+    status
+}
 
 /// Does what a line with a file asks for.
 fn perform_in<W: Write, E: Write>(
@@ -26,9 +42,9 @@ fn perform_in<W: Write, E: Write>(
         input input (W.contents out.old) (W.contents out.new) }
 {
     match act {
-        LineAct::Init(ref token) => make(rt, file, token, out, err),
-        LineAct::Office(command) => put(rt, file, &Request::Office(command), out, err),
-        LineAct::OfficeLook(ask) => put(rt, file, &Request::OfficeLook(ask), out, err),
+        LineAct::Init(token) => make(rt, file, &token, out, err),
+        LineAct::Office(command) => put_request(rt, file, Request::Office(command), out, err),
+        LineAct::OfficeLook(ask) => put_request(rt, file, Request::OfficeLook(ask), out, err),
         LineAct::Serve { port, connections } => serve_in(rt, file, port, connections, err),
         LineAct::Migrate => tell_unbuilt(err),
         LineAct::Replay => tell_misplaced(err),
@@ -68,7 +84,11 @@ fn perform<R: Read, W: Write, E: Write>(
     let Line { db, act } = line;
     match db {
         Some(file) => perform_in(rt, file.as_str(), act, out, err),
-        None => perform_alone(rt, &act, reader, out, err),
+        None => {
+            let status = perform_alone(rt, &act, reader, out, err);
+            drop(act);
+            status
+        }
     }
 }
 

@@ -34,7 +34,7 @@ pub returns-in-Ok-Asked : goal.returns-in-Ok-Asked
 returns-in-Ok-Asked g c =
     let meaning : Meaning = g.O.OfficeWords.meaning c.args.words.now in
     let message : Message = message_of c.args.message.now in
-    takes_then c.in-Ok.ensures.taken c.answer.ensures.taken (λ old mid new x y.
+    takes_then c.in-Ok.ensures.taken c.answer-reply.ensures.taken (λ old mid new x y.
     asked_answers meaning message (seen_caller c.in-Ok.caller) _ _ old mid new x.1 (sent_by message _ _ old (sym c.in-Some.ensures) x.0) (rw c.in-Ok-Asked.field-0-is at c.in-Ok-Asked.ensures.reading) y)
 
 pub returns-in-Ok-Refused : goal.returns-in-Ok-Refused
