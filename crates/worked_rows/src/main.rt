@@ -1,54 +1,62 @@
-//! Plays files of rows, each request and the bytes of its reply; and serves requests over a chain in a file.
+//! Plays files of rows, each request and the bytes of its reply.
 #![tactic(auto)]
 
 mod calls;
 mod failing;
 mod program;
 mod row;
-mod serving;
 mod shops;
 mod sockets;
 mod tables;
 mod talk;
+mod values;
 
-use crate::serving::serve_input;
-use crate::talk::Talk;
+use crate::talk::{Sum, Talk};
 use std::process::ExitCode;
 use std::{env, fs, io};
 
-/// What came of the files.
-#[derive(Clone, Copy)]
-struct Sum {
-    rows: u32,
-    wrong: u32,
-    exchanges: u32,
-    is_well: bool,
+/// Plays the lines of a file.
+fn play_lines<'t>(
+    rt: &'t HostRuntime,
+    path: &'t str,
+    text: &'t str,
+    seen: &'t mut Vec<String>,
+) -> Sum {
+    let mut out = rt.stdout();
+    let mut talk = Talk::new(rt, path, seen);
+    for (index, line) in text.lines().enumerate() {
+        talk.takes(&mut out, index.saturating_add(1), line);
+    }
+    talk.close(&mut out);
+    let sum = talk.sum;
+    drop(talk);
+    sum
+}
+
+/// Says what is wrong with a whole file.
+fn complain(rt: &HostRuntime, path: &str, text: &str) {
+    let _ = println!(rt; "{path}:0: {text}");
 }
 
 /// Plays a file, and adds what came of it.
 fn play(rt: &HostRuntime, path: &str, seen: &mut Vec<String>, sum: Sum) -> Sum {
     let Ok(text) = fs::read_to_string(rt, path) else {
-        let _ = println!(rt; "{path}:0: the file isn't read");
+        complain(rt, path, "the file isn't read");
         return Sum {
             is_well: false,
             ..sum
         };
     };
-    let mut out = rt.stdout();
-    let mut talk = Talk::new(rt, path, seen);
-    for (index, line) in text.as_str().lines().enumerate() {
-        talk.takes(&mut out, index.saturating_add(1), line);
-    }
-    talk.close(&mut out);
-    let is_empty = talk.rows == 0 && talk.wrong == 0;
-    if is_empty && talk.is_well {
-        let _ = println!(rt; "{path}:0: the file has no rows");
+    let played = play_lines(rt, path, text.as_str(), seen);
+    let is_empty = played.rows == 0 && played.wrong == 0;
+    if is_empty && played.is_well {
+        complain(rt, path, "the file has no rows");
     }
     Sum {
-        wrong: sum.wrong.saturating_add(talk.wrong),
-        rows: sum.rows.saturating_add(talk.rows),
-        exchanges: sum.exchanges.saturating_add(talk.exchanges),
-        is_well: sum.is_well && talk.is_well && !is_empty,
+        wrong: sum.wrong.saturating_add(played.wrong),
+        rows: sum.rows.saturating_add(played.rows),
+        exchanges: sum.exchanges.saturating_add(played.exchanges),
+        is_well: sum.is_well && played.is_well && !is_empty,
     }
 }
 
@@ -70,27 +78,10 @@ fn play_all(rt: &HostRuntime, paths: &[String]) -> ExitCode {
     ExitCode::from(if sum.is_well && told.is_ok() { 0 } else { 1 })
 }
 
-fn serve(rt: &HostRuntime, path: &str, most: &str) -> ExitCode {
-    let served = match most.parse::<u32>() {
-        Ok(most) => serve_input(rt, path, most),
-        Err(_) => Err("MAX is a number"),
-    };
-    match served {
-        Ok(()) => ExitCode::SUCCESS,
-        Err(text) => {
-            let _ = eprintln!(rt; "serve: {text}");
-            ExitCode::from(1)
-        }
-    }
-}
-
 fn main(rt: HostRuntime) -> io::Result<ExitCode> {
-    let mut words = Vec::new(rt.alloc());
-    for word in env::args(&rt)?.skip(1) {
-        words.push(word)?;
+    let mut paths = Vec::new(rt.alloc());
+    for path in env::args(&rt)?.skip(1) {
+        paths.push(path)?;
     }
-    Ok(match words.as_slice() {
-        [word, path, most] if word.as_str() == "serve" => serve(&rt, path.as_str(), most.as_str()),
-        paths => play_all(&rt, paths),
-    })
+    Ok(play_all(&rt, paths.as_slice()))
 }

@@ -36,7 +36,7 @@ impl Run {
         }
     }
 
-    pub fn wants_status(&mut self, text: &str) -> Result<(), Fault> {
+    fn wants_status(&mut self, text: &str) -> Result<(), Fault> {
         match text.parse::<u8>() {
             Ok(status) => self.wanted_status = Some(status),
             Err(_) => return Err(Fault::Line("this is no status of a program")),
@@ -45,21 +45,35 @@ impl Run {
     }
 
     /// The usage is wanted: status 2, and some text on standard error.
-    pub fn wants_usage(&mut self) {
+    fn wants_usage(&mut self) {
         self.wanted_status = Some(2);
         self.is_usage = true;
     }
 
     /// More is wanted on standard output, behind what is wanted there already.
-    pub fn wants_out(&mut self, bytes: &[u8]) -> Result<(), Fault> {
+    fn wants_out(&mut self, bytes: &[u8]) -> Result<(), Fault> {
         self.wanted_out.extend_from_slice(bytes)?;
         Ok(())
     }
 
     /// The same on standard error.
-    pub fn wants_err(&mut self, bytes: &[u8]) -> Result<(), Fault> {
+    fn wants_err(&mut self, bytes: &[u8]) -> Result<(), Fault> {
         self.wanted_err.extend_from_slice(bytes)?;
         Ok(())
+    }
+
+    /// What a line wants, by its first word, what stands behind it, and the bytes that it writes.
+    pub fn wants(&mut self, word: &str, line: &str, bytes: &[u8]) -> Result<(), Fault> {
+        match word {
+            "out" => self.wants_out(bytes),
+            "err" => self.wants_err(bytes),
+            "usage" if line.is_empty() => {
+                self.wants_usage();
+                Ok(())
+            }
+            "usage" => Err(Fault::Line("the usage's text isn't compared")),
+            _ => self.wants_status(line),
+        }
     }
 
     /// Whether standard error has what is wanted there.

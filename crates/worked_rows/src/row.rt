@@ -66,6 +66,12 @@ impl<'t> Row<'t> {
         self.count = self.count.saturating_add(1);
     }
 
+    /// What is asked is an exchange.
+    fn has_asked(&mut self, asked: Asked) {
+        self.asked = Some(asked);
+        self.counts();
+    }
+
     fn asks(&mut self, input: &[u8]) -> Result<(), Fault> {
         self.settle()?;
         let Some(shop) = &mut self.shop else {
@@ -73,10 +79,9 @@ impl<'t> Row<'t> {
         };
         let told = shop.tells(self.alloc, input, self.how)?;
         let exchange = Exchange::new(self.alloc, told, self.how.room);
-        self.asked = Some(Asked::Connection(exchange));
         self.how = WHOLE;
         self.is_how_said = false;
-        self.counts();
+        self.has_asked(Asked::Connection(exchange));
         Ok(())
     }
 
@@ -92,17 +97,31 @@ impl<'t> Row<'t> {
         let Some((method, rest)) = line.split_once(' ') else {
             return Err(Fault::Line("a method and a path are wanted"));
         };
-        let (path, body) = match rest.split_once(' ') {
-            Some((path, body)) => (path, Some(self.bytes_of(names, body)?)),
-            None => (rest, None),
-        };
-        let path = names.filled(path)?;
-        let body = match &body {
-            Some(body) => Some(body.as_slice()),
-            None => None,
-        };
-        let input = request(self.alloc, who, method, path.as_slice(), body)?;
+        let input = self.message(names, who, method, rest)?;
         self.asks(input.as_slice())
+    }
+
+    /// The bytes of a request, by its path and its body.
+    fn message(
+        &self,
+        names: &Names,
+        who: &str,
+        method: &str,
+        rest: &str,
+    ) -> Result<Vec<u8>, Fault> {
+        let Some((path, body)) = rest.split_once(' ') else {
+            let path = names.filled(rest)?;
+            return request(self.alloc, who, method, path.as_slice(), None);
+        };
+        let body = self.bytes_of(names, body)?;
+        let path = names.filled(path)?;
+        request(
+            self.alloc,
+            who,
+            method,
+            path.as_slice(),
+            Some(body.as_slice()),
+        )
     }
 
     fn is_told(&mut self, names: &Names, status: &str, body: &str) -> Result<(), Fault> {
@@ -196,8 +215,7 @@ impl<'t> Row<'t> {
             None => Vec::new(self.alloc),
         };
         let run = Run::new(self.rt, words.as_slice(), input.as_slice());
-        self.asked = Some(Asked::Program(run));
-        self.counts();
+        self.has_asked(Asked::Program(run));
         Ok(())
     }
 
@@ -206,16 +224,7 @@ impl<'t> Row<'t> {
         let Some(Asked::Program(run)) = &mut self.asked else {
             return Err(Fault::Line("no program was run"));
         };
-        match word {
-            "out" => run.wants_out(bytes.as_slice()),
-            "err" => run.wants_err(bytes.as_slice()),
-            "usage" if line.is_empty() => {
-                run.wants_usage();
-                Ok(())
-            }
-            "usage" => Err(Fault::Line("the usage's text isn't compared")),
-            _ => run.wants_status(line),
-        }
+        run.wants(word, line, bytes.as_slice())
     }
 
     /// Compares what was asked last, where a line with this first word says no more of it.

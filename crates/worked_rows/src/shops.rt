@@ -10,12 +10,22 @@ use sqlite_disk::Memory;
 use std::alloc::Global;
 use std::io::{self, Read};
 
-#[derive(Drop)]
 pub enum Shop {
     Memory(Chain<MemStore>),
     Files(Chain<FileStore<Memory>>),
     /// The files of a chain that is closed.
     Closed(Files<Memory>),
+}
+
+/// A chain in files is closed before its files go.
+impl Drop for Shop {
+    fn drop(self) {
+        match self {
+            Shop::Memory(chain) => drop(chain),
+            Shop::Files(chain) => drop(chain.close()),
+            Shop::Closed(files) => drop(files),
+        }
+    }
 }
 
 /// How the bytes of the next connection come, how many requests it may have, and how many bytes of replies there is room for.
@@ -129,16 +139,27 @@ fn opened(alloc: Global, files: Files<Memory>) -> Result<Shop, Fault> {
     found(alloc, Chain::open_files(alloc, files, Limits::default()))
 }
 
-/// Opens the files, which has to be refused with the fault of that name.
-fn refused(alloc: Global, files: Files<Memory>, name: &str) -> Result<Shop, Fault> {
-    let Err((fault, files)) = Chain::open_files(alloc, files, Limits::default()) else {
-        return Err(Fault::Line("the files are opened"));
-    };
+/// Whether the fault has that name.
+fn has_name(alloc: Global, fault: OpenFault, name: &str) -> Result<(), Fault> {
     let told = fault.to_string(alloc)?;
     if told.as_str() == name {
-        Ok(Shop::Closed(files))
+        Ok(())
     } else {
         Err(Fault::Opening(told))
+    }
+}
+
+/// Opens the files, which has to be refused with the fault of that name.
+fn refused(alloc: Global, files: Files<Memory>, name: &str) -> Result<Shop, Fault> {
+    match Chain::open_files(alloc, files, Limits::default()) {
+        Ok(chain) => {
+            drop(chain.close());
+            Err(Fault::Line("the files are opened"))
+        }
+        Err((fault, files)) => {
+            has_name(alloc, fault, name)?;
+            Ok(Shop::Closed(files))
+        }
     }
 }
 
@@ -147,6 +168,18 @@ pub fn new_files(alloc: Global) -> Files<Memory> {
         log: Memory::new(alloc),
         db: Memory::new(alloc),
     }
+}
+
+/// Does a statement on the tables, or makes them where there is none, and closes their files.
+fn done(
+    mut conn: Connection<FileStore<Memory>>,
+    text: Option<&str>,
+) -> (Result<(), &'static str>, Files<Memory>) {
+    let done = match text {
+        Some(text) => change(&mut conn, text),
+        None => new_tables(&mut conn),
+    };
+    (done, conn.into_store().close())
 }
 
 /// The files, with what a statement or the opening rows make of them where there is none.
@@ -158,17 +191,12 @@ pub fn changed(
     if !files.may_be_used() {
         return Err(Fault::Line(NO_CHAIN));
     }
-    let Ok(mut conn) = Connection::open_files(alloc, files, Options::new(1)) else {
+    let Ok(conn) = Connection::open_files(alloc, files, Options::new(1)) else {
         return Err(Fault::Line(NO_CHAIN));
     };
-    let done = match text {
-        Some(text) => change(&mut conn, text),
-        None => new_tables(&mut conn),
-    };
-    let files = conn.into_store().close();
-    match done {
-        Ok(()) => Ok(files),
-        Err(text) => Err(Fault::Line(text)),
+    match done(conn, text) {
+        (Ok(()), files) => Ok(files),
+        (Err(text), _) => Err(Fault::Line(text)),
     }
 }
 
@@ -184,14 +212,20 @@ const STOCK: [(&str, &str); 2] = [
     ),
 ];
 
-fn stocked(alloc: Global) -> Result<Shop, Fault> {
-    let mut shop = in_memory(alloc, Limits::default())?;
+/// Adds the first lot and the first customer.
+fn stock(alloc: Global, shop: &mut Shop) -> Result<(), Fault> {
     for (input, wanted) in STOCK {
         let told = shop.tells(alloc, input.as_bytes(), WHOLE)?;
         if told.bytes.as_slice() != wanted.as_bytes() {
             return Err(Fault::Line("the first lot or customer isn't answered"));
         }
     }
+    Ok(())
+}
+
+fn stocked(alloc: Global) -> Result<Shop, Fault> {
+    let mut shop = in_memory(alloc, Limits::default())?;
+    stock(alloc, &mut shop)?;
     Ok(shop)
 }
 
@@ -234,10 +268,12 @@ impl Shop {
 
     /// The chain that its files hold, or none where the opening has to be refused with the fault of a name.
     pub fn reopened(self, alloc: Global, fault: &str) -> Result<Shop, Fault> {
-        match (self, fault) {
-            (Shop::Files(chain), "") => found(alloc, chain.reopen()),
-            (shop, "") => opened(alloc, shop.files()?),
-            (shop, name) => refused(alloc, shop.files()?, name),
+        if !fault.is_empty() {
+            return refused(alloc, self.files()?, fault);
+        }
+        match self {
+            Shop::Files(chain) => found(alloc, chain.reopen()),
+            shop => opened(alloc, shop.files()?),
         }
     }
 

@@ -4,6 +4,7 @@ use office_words::ClapWords;
 use row_texts::Fault;
 use sakila_office::{serve_listener, serve_patiently};
 use shop_types::Limits;
+use sqlite::Alter;
 use std::alloc::Global;
 use std::io::{Read, Write};
 use std::net::{Shutdown, TcpListener, TcpStream};
@@ -48,25 +49,44 @@ fn is_told(alloc: Global, stream: &TcpStream, reply: &[u8]) -> Result<bool, Faul
     Ok(bytes.as_slice() == reply)
 }
 
-/// A peer is answered; then one that is silent is left, and the next is answered; and one that sends more than is read has its reply too.
-pub fn peers(rt: &HostRuntime) -> Result<(), Fault> {
+/// A peer is answered.
+fn one_peer<S: Alter>(
+    rt: &HostRuntime,
+    listener: &TcpListener,
+    chain: &mut Chain<S>,
+) -> Result<bool, Fault> {
     let alloc = rt.alloc();
+    let peer = asking(rt, listener, ASKED, b"", 0)?;
+    let status = serve_listener(alloc, listener, chain, &ClapWords { alloc }, 1);
+    Ok(is_told(alloc, &peer, TOLD)? && status == 0)
+}
+
+/// A peer that is silent is left, and the next is answered; and one that sends more than is read has its reply too.
+fn later_peers<S: Alter>(
+    rt: &HostRuntime,
+    listener: &TcpListener,
+    chain: &mut Chain<S>,
+) -> Result<bool, Fault> {
+    let alloc = rt.alloc();
+    let _silent = TcpStream::connect(rt, listener.local_addr()?)?;
+    let peer = asking(rt, listener, ASKED, b"", 0)?;
+    let longest = asking(rt, listener, TOO_LONG, &[b' '; 8192], 10)?;
+    let patience = Duration::from_millis(50);
+    let status = serve_patiently(alloc, listener, chain, &ClapWords { alloc }, 3, patience);
+    let are_told = is_told(alloc, &peer, TOLD)? && is_told(alloc, &longest, REFUSED)?;
+    Ok(are_told && status == 0)
+}
+
+/// One peer, and then several of which the first is silent.
+pub fn peers(rt: &HostRuntime) -> Result<(), Fault> {
     let listener = TcpListener::bind(rt, "127.0.0.1:0")?;
-    let Ok(mut chain) = Chain::demo(alloc, Limits::default()) else {
+    let Ok(mut chain) = Chain::demo(rt.alloc(), Limits::default()) else {
         return Err(Fault::Line("the chain isn't made"));
     };
-    let words = ClapWords { alloc };
-    let first = asking(rt, &listener, ASKED, b"", 0)?;
-    let status = serve_listener(alloc, &listener, &mut chain, &words, 1);
-    if status != 0 || !is_told(alloc, &first, TOLD)? {
+    if !one_peer(rt, &listener, &mut chain)? {
         return Err(Fault::Line("a peer isn't answered"));
     }
-    let _silent = TcpStream::connect(rt, listener.local_addr()?)?;
-    let again = asking(rt, &listener, ASKED, b"", 0)?;
-    let longest = asking(rt, &listener, TOO_LONG, &[b' '; 8192], 10)?;
-    let patience = Duration::from_millis(50);
-    let status = serve_patiently(alloc, &listener, &mut chain, &words, 3, patience);
-    if status != 0 || !is_told(alloc, &again, TOLD)? || !is_told(alloc, &longest, REFUSED)? {
+    if !later_peers(rt, &listener, &mut chain)? {
         return Err(Fault::Line("a peer behind a silent one isn't answered"));
     }
     Ok(())
