@@ -1,13 +1,12 @@
 //! What a customer owes, by the customer's rentals and payments.
 
-ghost use Rattle.std.specs.Prelude.{◌≡◌, ◌++◌, map, flat_map, option_map, IfOk, OnOk};
+ghost use Rattle.std.specs.Prelude.{◌≡◌, ◌++◌, map, flat_map, option_map, OnOk};
 ghost use Rattle.std.specs.Option.{option_to_list};
 ghost use Rattle.sqlite.specs.Held.{state};
-ghost use Rattle.sqlite.specs.State.{HasCleanDisk};
 ghost use Rattle.sql_rows.specs.Calls.{StaysWithin};
 ghost use Rattle.shop_model.specs.Books.{shop_of};
 ghost use Rattle.shop_types.specs.Seen.{seen_payment, seen_rental};
-ghost use Rattle.shop_schema.specs.Shop.{Reads};
+ghost use Rattle.shop_schema.specs.Calls.{Finds};
 ghost use Rattle.shop_model.specs.Rows.{at};
 ghost use Rattle.shop_model.specs.Books.{head};
 ghost use Rattle.catalogue_store.specs.Seen.{seen_terms, terms_of as price};
@@ -33,9 +32,8 @@ pub fn find_terms<S: Alter>(
 ) -> Result<Vec<RentalTerms>, StoreFault>
     ensures same_reference { tx.new.conn.ghost_name ≡ tx.old.conn.ghost_name }
     ensures inside { StaysWithin (state S.Store tx.old.conn.now) (state S.Store tx.new.conn.now) result }
-    ensures found { HasCleanDisk (state S.Store tx.new.conn.now)
-        → IfOk result (λ terms. Reads (state S.Store tx.old.conn.now) (state S.Store tx.new.conn.now)
-        (λ books. AreTermsOf books.catalogue (shop_of branch books) customer terms.items)) }
+    ensures found { Finds (state S.Store tx.old.conn.now) (state S.Store tx.new.conn.now) result
+        (λ terms books. AreTermsOf books.catalogue (shop_of branch books) customer terms.items) }
 {
     let rows = rentals_of_customer(tx, alloc, branch, customer)?;
     with_terms(alloc, tx, branch, rows.as_slice())
@@ -50,8 +48,8 @@ fn with_terms<S: Alter>(
 ) -> Result<Vec<RentalTerms>, StoreFault>
     ensures same_reference { tx.new.conn.ghost_name ≡ tx.old.conn.ghost_name }
     ensures inside { StaysWithin (state S.Store tx.old.conn.now) (state S.Store tx.new.conn.now) result }
-    ensures found { HasCleanDisk (state S.Store tx.new.conn.now) → IfOk result (λ terms. Reads (state S.Store tx.old.conn.now) (state S.Store tx.new.conn.now)
-        (λ books. terms.items ≡ flat_map (terms_of books.catalogue (shop_of branch books)) (map (λ row. seen_rental row.rental) rows.now))) }
+    ensures found { Finds (state S.Store tx.old.conn.now) (state S.Store tx.new.conn.now) result
+        (λ terms books. terms.items ≡ flat_map (terms_of books.catalogue (shop_of branch books)) (map (λ row. seen_rental row.rental) rows.now)) }
 {
     let mut known = BTreeMap::new(alloc);
     let mut terms = Vec::new(alloc);
@@ -83,9 +81,9 @@ fn terms_once<S: Alter>(
 ) -> Result<Option<FilmTerms>, StoreFault>
     ensures same_reference { tx.new.conn.ghost_name ≡ tx.old.conn.ghost_name }
     ensures inside { StaysWithin (state S.Store tx.old.conn.now) (state S.Store tx.new.conn.now) result }
-    ensures found { HasCleanDisk (state S.Store tx.new.conn.now) → IfOk result (λ terms. Reads (state S.Store tx.old.conn.now) (state S.Store tx.new.conn.now)
-        (λ books. AreKnown known.old books.catalogue → (option_map seen_terms terms ≡ head (map price (at film books.catalogue.films)))
-        × AreKnown known.new books.catalogue)) }
+    ensures found { Finds (state S.Store tx.old.conn.now) (state S.Store tx.new.conn.now) result
+        (λ terms books. AreKnown known.old books.catalogue → (option_map seen_terms terms ≡ head (map price (at film books.catalogue.films)))
+        × AreKnown known.new books.catalogue) }
 {
     let number = film.get();
     if let Some(terms) = known.get(&number).copied() {
@@ -113,9 +111,9 @@ fn terms_at<S: Alter>(
 ) -> Result<Option<RentalTerms>, StoreFault>
     ensures same_reference { tx.new.conn.ghost_name ≡ tx.old.conn.ghost_name }
     ensures inside { StaysWithin (state S.Store tx.old.conn.now) (state S.Store tx.new.conn.now) result }
-    ensures found { HasCleanDisk (state S.Store tx.new.conn.now) → IfOk result (λ terms. Reads (state S.Store tx.old.conn.now) (state S.Store tx.new.conn.now)
-        (λ books. AreKnown known.old books.catalogue
-        → (option_to_list terms ≡ terms_of books.catalogue (shop_of branch books) (seen_rental rental)) × AreKnown known.new books.catalogue)) }
+    ensures found { Finds (state S.Store tx.old.conn.now) (state S.Store tx.new.conn.now) result
+        (λ terms books. AreKnown known.old books.catalogue
+        → (option_to_list terms ≡ terms_of books.catalogue (shop_of branch books) (seen_rental rental)) × AreKnown known.new books.catalogue) }
 {
     let Some(copy) = copy_at(tx, branch, rental.copy)? else {
         return Ok(None);
@@ -140,9 +138,8 @@ pub fn find_paid<S: Alter>(
 ) -> Result<Vec<Paid>, StoreFault>
     ensures same_reference { tx.new.conn.ghost_name ≡ tx.old.conn.ghost_name }
     ensures inside { StaysWithin (state S.Store tx.old.conn.now) (state S.Store tx.new.conn.now) result }
-    ensures found { HasCleanDisk (state S.Store tx.new.conn.now)
-        → IfOk result (λ paid. Reads (state S.Store tx.old.conn.now) (state S.Store tx.new.conn.now)
-        (λ books. ArePaidBy (shop_of branch books) customer paid.items)) }
+    ensures found { Finds (state S.Store tx.old.conn.now) (state S.Store tx.new.conn.now) result
+        (λ paid books. ArePaidBy (shop_of branch books) customer paid.items) }
 {
     let rows = payments_of_customer(tx, alloc, branch, customer)?;
     let mut payments = Vec::new(alloc);

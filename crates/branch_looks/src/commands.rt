@@ -3,13 +3,12 @@
 ghost use Rattle.std.specs.Prelude.{◌≡◌, ◌≤◌, not, map, IfOk, IfSome};
 ghost use Rattle.std.specs.List.{All};
 ghost use Rattle.sqlite.specs.Held.{state};
-ghost use Rattle.sqlite.specs.State.{HasCleanDisk};
 ghost use Rattle.sql_rows.specs.Calls.{StaysWithin};
 ghost use Rattle.shop_model.specs.Rows.{lacks, owned_by};
 ghost use Rattle.shop_model.specs.Values.{Rules};
 ghost use Rattle.shop_model.specs.Books.{head, shop_of};
 ghost use Rattle.shop_types.specs.Seen.{seen_act, seen_command};
-ghost use Rattle.shop_schema.specs.Shop.{Reads};
+ghost use Rattle.shop_schema.specs.Calls.{Finds};
 ghost use Rattle.stock_csv.specs.Stock.{stock_of};
 ghost use Rattle.branch_core.specs.Agreed.{Agrees, ImportAgrees, RowAgrees, IsWithin, active_at, city_in, customer_in, copy_in, rental_in, import_in, seen_stock, copies_of};
 ghost use Rattle.branch_looks.specs.Commands.{as_listed, found_row, told_row, has_same, IsKeptFor};
@@ -95,10 +94,10 @@ pub fn find_for_command<'a, S: Alter>(
 ) -> Result<Found<'a>, StoreFault>
     ensures same_reference { tx.new.conn.ghost_name ≡ tx.old.conn.ghost_name }
     ensures inside { StaysWithin (state S.Store tx.old.conn.now) (state S.Store tx.new.conn.now) result }
-    ensures found { HasCleanDisk (state S.Store tx.new.conn.now)
-        → IfOk result (λ found. Reads (state S.Store tx.old.conn.now) (state S.Store tx.new.conn.now) (λ books. (rules : Rules)
+    ensures found { Finds (state S.Store tx.old.conn.now) (state S.Store tx.new.conn.now) result
+        (λ found books. (rules : Rules)
         → rules.stock_of ≡ stock_of → IsKeptFor branch (seen_command command.now) kept.entry books → last ≡ head (owned_by branch books.lasts)
-        → Agrees rules books.catalogue (shop_of branch books) (seen_command command.now) found)) }
+        → Agrees rules books.catalogue (shop_of branch books) (seen_command command.now) found) }
     ensures within { IfOk result (λ found. IsWithin found) }
 {
     let named = named_in(&command.act);
@@ -146,9 +145,8 @@ fn find_city<S: Alter>(
 ) -> Result<bool, StoreFault>
     ensures same_reference { tx.new.conn.ghost_name ≡ tx.old.conn.ghost_name }
     ensures inside { StaysWithin (state S.Store tx.old.conn.now) (state S.Store tx.new.conn.now) result }
-    ensures found { HasCleanDisk (state S.Store tx.new.conn.now)
-        → IfOk result (λ has. Reads (state S.Store tx.old.conn.now) (state S.Store tx.new.conn.now)
-        (λ books. IfSome city (λ n. has ≡ not (lacks books.catalogue.cities n)))) }
+    ensures found { Finds (state S.Store tx.old.conn.now) (state S.Store tx.new.conn.now) result
+        (λ has books. IfSome city (λ n. has ≡ not (lacks books.catalogue.cities n))) }
 {
     match city {
         Some(city) => Ok(has_city(tx, city)?),
@@ -164,9 +162,8 @@ fn find_customer<S: Alter>(
 ) -> Result<Option<bool>, StoreFault>
     ensures same_reference { tx.new.conn.ghost_name ≡ tx.old.conn.ghost_name }
     ensures inside { StaysWithin (state S.Store tx.old.conn.now) (state S.Store tx.new.conn.now) result }
-    ensures found { HasCleanDisk (state S.Store tx.new.conn.now)
-        → IfOk result (λ found. Reads (state S.Store tx.old.conn.now) (state S.Store tx.new.conn.now)
-        (λ books. IfSome customer (λ c. found ≡ active_at c (shop_of branch books)))) }
+    ensures found { Finds (state S.Store tx.old.conn.now) (state S.Store tx.new.conn.now) result
+        (λ found books. IfSome customer (λ c. found ≡ active_at c (shop_of branch books))) }
 {
     match customer {
         Some(customer) => find_active(tx, branch, customer),
@@ -184,9 +181,8 @@ fn find_same<S: Alter>(
 ) -> Result<bool, StoreFault>
     ensures same_reference { tx.new.conn.ghost_name ≡ tx.old.conn.ghost_name }
     ensures inside { StaysWithin (state S.Store tx.old.conn.now) (state S.Store tx.new.conn.now) result }
-    ensures found { HasCleanDisk (state S.Store tx.new.conn.now)
-        → IfOk result (λ has. Reads (state S.Store tx.old.conn.now) (state S.Store tx.new.conn.now)
-        (λ books. has ≡ has_same at customer copy (shop_of branch books))) }
+    ensures found { Finds (state S.Store tx.old.conn.now) (state S.Store tx.new.conn.now) result
+        (λ has books. has ≡ has_same at customer copy (shop_of branch books)) }
 {
     match (customer, copy) {
         (Some(customer), Some(copy)) => Ok(has_rental(tx, branch, at, copy, customer)?),
@@ -211,10 +207,10 @@ fn find_import<S: Alter>(
 ) -> Result<ImportFound, StoreFault>
     ensures same_reference { tx.new.conn.ghost_name ≡ tx.old.conn.ghost_name }
     ensures inside { StaysWithin (state S.Store tx.old.conn.now) (state S.Store tx.new.conn.now) result }
-    ensures found { HasCleanDisk (state S.Store tx.new.conn.now)
-        → IfOk result (λ found. Reads (state S.Store tx.old.conn.now) (state S.Store tx.new.conn.now) (λ books. (rules : Rules)
+    ensures found { Finds (state S.Store tx.old.conn.now) (state S.Store tx.new.conn.now) result
+        (λ found books. (rules : Rules)
         → rules.stock_of ≡ stock_of → IfSome (import_in (seen_act act.now))
-        (ImportAgrees rules books.catalogue (shop_of branch books) found.copies found.has_lot found.stock))) }
+        (ImportAgrees rules books.catalogue (shop_of branch books) found.copies found.has_lot found.stock)) }
     ensures few { IfOk result (λ found. found.copies ≤ 1_000_000) }
     ensures listed { IfOk result (λ found. IfOk found.stock (λ rows. copies_of rows.items ≤ 1_000)) }
 {
@@ -243,9 +239,8 @@ fn find_stock<S: Alter>(
 ) -> Result<Result<Vec<StockFound>, BadCsv>, StoreFault>
     ensures same_reference { tx.new.conn.ghost_name ≡ tx.old.conn.ghost_name }
     ensures inside { StaysWithin (state S.Store tx.old.conn.now) (state S.Store tx.new.conn.now) result }
-    ensures found { HasCleanDisk (state S.Store tx.new.conn.now)
-        → IfOk result (λ stock. Reads (state S.Store tx.old.conn.now) (state S.Store tx.new.conn.now)
-        (λ books. IfOk stock (λ rows. All (RowAgrees books.catalogue) rows.items))) }
+    ensures found { Finds (state S.Store tx.old.conn.now) (state S.Store tx.new.conn.now) result
+        (λ stock books. IfOk stock (λ rows. All (RowAgrees books.catalogue) rows.items)) }
     ensures value { IfOk result (λ stock. seen_stock stock ≡ stock_of file.now) }
     ensures few { IfOk result (λ stock. IfOk stock (λ rows. copies_of rows.items ≤ 1_000)) }
 {
@@ -264,9 +259,8 @@ fn find_films<S: Alter>(
 ) -> Result<Vec<StockFound>, StoreFault>
     ensures same_reference { tx.new.conn.ghost_name ≡ tx.old.conn.ghost_name }
     ensures inside { StaysWithin (state S.Store tx.old.conn.now) (state S.Store tx.new.conn.now) result }
-    ensures found { HasCleanDisk (state S.Store tx.new.conn.now)
-        → IfOk result (λ found. Reads (state S.Store tx.old.conn.now) (state S.Store tx.new.conn.now)
-        (λ books. found.items ≡ map (found_row books.catalogue) rows.now)) }
+    ensures found { Finds (state S.Store tx.old.conn.now) (state S.Store tx.new.conn.now) result
+        (λ found books. found.items ≡ map (found_row books.catalogue) rows.now) }
     ensures same { IfOk result (λ found. map as_listed found.items ≡ rows.now) }
 {
     let mut found = Vec::new(alloc);

@@ -1,13 +1,12 @@
 //! What is found of customers, copies and rentals.
 
-ghost use Rattle.std.specs.Prelude.{◌≡◌, ℕ, is_some, map, option_map, IfOk, IfSome};
+ghost use Rattle.std.specs.Prelude.{◌≡◌, ℕ, is_some, map, option_map, IfSome};
 ghost use Rattle.sqlite.specs.Held.{state};
-ghost use Rattle.sqlite.specs.State.{HasCleanDisk};
 ghost use Rattle.sql_rows.specs.Calls.{StaysWithin};
 ghost use Rattle.shop_model.specs.Rows.{at};
 ghost use Rattle.shop_model.specs.Stock.{is_here, held_by};
 ghost use Rattle.shop_model.specs.Books.{head, shop_of};
-ghost use Rattle.shop_schema.specs.Shop.{Reads};
+ghost use Rattle.shop_schema.specs.Calls.{Finds};
 ghost use Rattle.shop_store.specs.Seen.{seen_state};
 ghost use Rattle.branch_looks.specs.Finds.{is_yes, copy_shown};
 ghost use Rattle.branch_core.specs.Agreed.{active_at, copy_at, rental_at, seen_copy, seen_rental, seen_film_copy, AreOfFilm, IsOut};
@@ -29,9 +28,8 @@ pub fn find_active<S: Alter>(
 ) -> Result<Option<bool>, StoreFault>
     ensures same_reference { tx.new.conn.ghost_name ≡ tx.old.conn.ghost_name }
     ensures inside { StaysWithin (state S.Store tx.old.conn.now) (state S.Store tx.new.conn.now) result }
-    ensures found { HasCleanDisk (state S.Store tx.new.conn.now)
-        → IfOk result (λ found. Reads (state S.Store tx.old.conn.now) (state S.Store tx.new.conn.now)
-        (λ books. found ≡ active_at customer (shop_of branch books))) }
+    ensures found { Finds (state S.Store tx.old.conn.now) (state S.Store tx.new.conn.now) result
+        (λ found books. found ≡ active_at customer (shop_of branch books)) }
 {
     match customer_at(tx, branch, customer)? {
         Some(row) => Ok(Some(row.customer.active)),
@@ -63,9 +61,8 @@ pub fn find_here<S: Alter>(
 ) -> Result<Option<bool>, StoreFault>
     ensures same_reference { tx.new.conn.ghost_name ≡ tx.old.conn.ghost_name }
     ensures inside { StaysWithin (state S.Store tx.old.conn.now) (state S.Store tx.new.conn.now) result }
-    ensures found { HasCleanDisk (state S.Store tx.new.conn.now)
-        → IfOk result (λ found. Reads (state S.Store tx.old.conn.now) (state S.Store tx.new.conn.now)
-        (λ books. found ≡ head (map is_here (at copy (shop_of branch books).copies)))) }
+    ensures found { Finds (state S.Store tx.old.conn.now) (state S.Store tx.new.conn.now) result
+        (λ found books. found ≡ head (map is_here (at copy (shop_of branch books).copies))) }
 {
     match copy_at(tx, branch, copy)? {
         Some(row) => Ok(Some(is_here(row.state))),
@@ -81,8 +78,8 @@ pub fn find_copy<S: Alter>(
 ) -> Result<Option<CopyFound>, StoreFault>
     ensures same_reference { tx.new.conn.ghost_name ≡ tx.old.conn.ghost_name }
     ensures inside { StaysWithin (state S.Store tx.old.conn.now) (state S.Store tx.new.conn.now) result }
-    ensures found { HasCleanDisk (state S.Store tx.new.conn.now) → IfOk result (λ found. Reads (state S.Store tx.old.conn.now) (state S.Store tx.new.conn.now)
-        (λ books. IfSome copy (λ x. option_map seen_copy found ≡ copy_at books.catalogue (shop_of branch books) x))) }
+    ensures found { Finds (state S.Store tx.old.conn.now) (state S.Store tx.new.conn.now) result
+        (λ found books. IfSome copy (λ x. option_map seen_copy found ≡ copy_at books.catalogue (shop_of branch books) x)) }
 {
     let Some(number) = copy else {
         return Ok(None);
@@ -105,9 +102,8 @@ pub fn find_out<S: Alter>(
 ) -> Result<Option<RentalNo>, StoreFault>
     ensures same_reference { tx.new.conn.ghost_name ≡ tx.old.conn.ghost_name }
     ensures inside { StaysWithin (state S.Store tx.old.conn.now) (state S.Store tx.new.conn.now) result }
-    ensures found { HasCleanDisk (state S.Store tx.new.conn.now)
-        → IfOk result (λ out. Reads (state S.Store tx.old.conn.now) (state S.Store tx.new.conn.now)
-        (λ books. IfSome copy (λ x. IsOut (shop_of branch books) x out))) }
+    ensures found { Finds (state S.Store tx.old.conn.now) (state S.Store tx.new.conn.now) result
+        (λ out books. IfSome copy (λ x. IsOut (shop_of branch books) x out)) }
 {
     let Some(number) = copy else {
         return Ok(None);
@@ -123,8 +119,8 @@ pub fn find_rental<S: Alter>(
 ) -> Result<Option<RentalFound>, StoreFault>
     ensures same_reference { tx.new.conn.ghost_name ≡ tx.old.conn.ghost_name }
     ensures inside { StaysWithin (state S.Store tx.old.conn.now) (state S.Store tx.new.conn.now) result }
-    ensures found { HasCleanDisk (state S.Store tx.new.conn.now) → IfOk result (λ found. Reads (state S.Store tx.old.conn.now) (state S.Store tx.new.conn.now)
-        (λ books. IfSome rental (λ r. option_map seen_rental found ≡ rental_at (shop_of branch books) r))) }
+    ensures found { Finds (state S.Store tx.old.conn.now) (state S.Store tx.new.conn.now) result
+        (λ found books. IfSome rental (λ r. option_map seen_rental found ≡ rental_at (shop_of branch books) r)) }
 {
     let Some(number) = rental else {
         return Ok(None);
@@ -155,8 +151,8 @@ fn find_renter<S: Alter>(
 ) -> Result<Option<CustomerNo>, StoreFault>
     ensures same_reference { tx.new.conn.ghost_name ≡ tx.old.conn.ghost_name }
     ensures inside { StaysWithin (state S.Store tx.old.conn.now) (state S.Store tx.new.conn.now) result }
-    ensures found { HasCleanDisk (state S.Store tx.new.conn.now) → IfOk result (λ renter. Reads (state S.Store tx.old.conn.now) (state S.Store tx.new.conn.now)
-        (λ books. renter ≡ head (map (λ it. it.customer) (at rental (shop_of branch books).rentals)))) }
+    ensures found { Finds (state S.Store tx.old.conn.now) (state S.Store tx.new.conn.now) result
+        (λ renter books. renter ≡ head (map (λ it. it.customer) (at rental (shop_of branch books).rentals))) }
 {
     match rental_at(tx, branch, rental)? {
         Some(row) => Ok(Some(row.rental.customer)),
@@ -172,9 +168,8 @@ pub fn find_holder<S: Alter>(
 ) -> Result<Option<CustomerNo>, StoreFault>
     ensures same_reference { tx.new.conn.ghost_name ≡ tx.old.conn.ghost_name }
     ensures inside { StaysWithin (state S.Store tx.old.conn.now) (state S.Store tx.new.conn.now) result }
-    ensures found { HasCleanDisk (state S.Store tx.new.conn.now)
-        → IfOk result (λ holder. Reads (state S.Store tx.old.conn.now) (state S.Store tx.new.conn.now)
-        (λ books. holder ≡ head (held_by copy (shop_of branch books).rentals))) }
+    ensures found { Finds (state S.Store tx.old.conn.now) (state S.Store tx.new.conn.now) result
+        (λ holder books. holder ≡ head (held_by copy (shop_of branch books).rentals)) }
 {
     match out_at(tx, branch, copy)? {
         Some(rental) => find_renter(tx, branch, rental),
@@ -191,9 +186,8 @@ pub fn find_of_film<S: Alter>(
 ) -> Result<Vec<FilmCopy>, StoreFault>
     ensures same_reference { tx.new.conn.ghost_name ≡ tx.old.conn.ghost_name }
     ensures inside { StaysWithin (state S.Store tx.old.conn.now) (state S.Store tx.new.conn.now) result }
-    ensures found { HasCleanDisk (state S.Store tx.new.conn.now)
-        → IfOk result (λ copies. Reads (state S.Store tx.old.conn.now) (state S.Store tx.new.conn.now)
-        (λ books. AreOfFilm film (shop_of branch books) copies.items)) }
+    ensures found { Finds (state S.Store tx.old.conn.now) (state S.Store tx.new.conn.now) result
+        (λ copies books. AreOfFilm film (shop_of branch books) copies.items) }
 {
     let rows = copies_of_film(tx, alloc, branch, film)?;
     with_stock(alloc, tx, branch, rows.as_slice())
@@ -208,8 +202,8 @@ fn with_stock<S: Alter>(
 ) -> Result<Vec<FilmCopy>, StoreFault>
     ensures same_reference { tx.new.conn.ghost_name ≡ tx.old.conn.ghost_name }
     ensures inside { StaysWithin (state S.Store tx.old.conn.now) (state S.Store tx.new.conn.now) result }
-    ensures found { HasCleanDisk (state S.Store tx.new.conn.now) → IfOk result (λ copies. Reads (state S.Store tx.old.conn.now) (state S.Store tx.new.conn.now)
-        (λ books. map seen_film_copy copies.items ≡ map (copy_shown (shop_of branch books).rentals) rows.now)) }
+    ensures found { Finds (state S.Store tx.old.conn.now) (state S.Store tx.new.conn.now) result
+        (λ copies books. map seen_film_copy copies.items ≡ map (copy_shown (shop_of branch books).rentals) rows.now) }
 {
     let mut copies = Vec::new(alloc);
     for row in rows {
@@ -229,8 +223,8 @@ fn with_its_stock<S: Alter>(
 ) -> Result<FilmCopy, StoreFault>
     ensures same_reference { tx.new.conn.ghost_name ≡ tx.old.conn.ghost_name }
     ensures inside { StaysWithin (state S.Store tx.old.conn.now) (state S.Store tx.new.conn.now) result }
-    ensures found { HasCleanDisk (state S.Store tx.new.conn.now) → IfOk result (λ copy. Reads (state S.Store tx.old.conn.now) (state S.Store tx.new.conn.now)
-        (λ books. seen_film_copy copy ≡ copy_shown (shop_of branch books).rentals row)) }
+    ensures found { Finds (state S.Store tx.old.conn.now) (state S.Store tx.new.conn.now) result
+        (λ copy books. seen_film_copy copy ≡ copy_shown (shop_of branch books).rentals row) }
 {
     let out = out_at(tx, branch, row.number)?;
     Ok(FilmCopy {

@@ -2,7 +2,6 @@
 
 ghost use Rattle.std.specs.Prelude.{◌≡◌, ℕ, IfOk, string_bytes};
 ghost use Rattle.sqlite.specs.Held.{state};
-ghost use Rattle.sqlite.specs.State.{HasCleanDisk};
 ghost use Rattle.sql_rows.specs.Calls.{StaysWithin};
 ghost use Rattle.shop_model.specs.Values.{OneCustomer, OneFilm, InStock, HeldBy};
 ghost use Rattle.shop_model.specs.Shop.{Shop};
@@ -10,7 +9,7 @@ ghost use Rattle.shop_model.specs.Machine.{CopiesAre};
 ghost use Rattle.shop_model.specs.Answers.{shown_text};
 ghost use Rattle.shop_types.specs.Seen.{seen_ask};
 ghost use Rattle.shop_types.specs.Replies.{seen_reply};
-ghost use Rattle.shop_schema.specs.Shop.{Reads};
+ghost use Rattle.shop_schema.specs.Calls.{Finds};
 ghost use Rattle.branch_core.specs.Agreed.{AreOfFilm};
 ghost use Rattle.branch_looks.specs.Finds.{stock_asked, stock_listed};
 ghost use Rattle.branch_looks.specs.Looks.{looked};
@@ -36,9 +35,8 @@ pub fn look<S: Alter>(
 ) -> Result<Reply, StoreFault>
     ensures same_reference { tx.new.conn.ghost_name ≡ tx.old.conn.ghost_name }
     ensures inside { StaysWithin (state S.Store tx.old.conn.now) (state S.Store tx.new.conn.now) result }
-    ensures shown { HasCleanDisk (state S.Store tx.new.conn.now)
-        → IfOk result (λ reply. Reads (state S.Store tx.old.conn.now) (state S.Store tx.new.conn.now)
-        (λ books. seen_reply reply ≡ looked branch (seen_ask ask) books)) }
+    ensures shown { Finds (state S.Store tx.old.conn.now) (state S.Store tx.new.conn.now) result
+        (λ reply books. seen_reply reply ≡ looked branch (seen_ask ask) books) }
 {
     match ask {
         Ask::Customer(number) => look_customer(alloc, tx, branch, number),
@@ -66,9 +64,8 @@ fn look_customer<S: Alter>(
 ) -> Result<Reply, StoreFault>
     ensures same_reference { tx.new.conn.ghost_name ≡ tx.old.conn.ghost_name }
     ensures inside { StaysWithin (state S.Store tx.old.conn.now) (state S.Store tx.new.conn.now) result }
-    ensures shown { HasCleanDisk (state S.Store tx.new.conn.now)
-        → IfOk result (λ reply. Reads (state S.Store tx.old.conn.now) (state S.Store tx.new.conn.now)
-        (λ books. seen_reply reply ≡ looked branch (OneCustomer number) books)) }
+    ensures shown { Finds (state S.Store tx.old.conn.now) (state S.Store tx.new.conn.now) result
+        (λ reply books. seen_reply reply ≡ looked branch (OneCustomer number) books) }
 {
     match customer_at(tx, branch, number)? {
         Some(row) => match customer_text(alloc, number, &row.customer) {
@@ -88,9 +85,8 @@ fn look_film<S: Alter>(
 ) -> Result<Reply, StoreFault>
     ensures same_reference { tx.new.conn.ghost_name ≡ tx.old.conn.ghost_name }
     ensures inside { StaysWithin (state S.Store tx.old.conn.now) (state S.Store tx.new.conn.now) result }
-    ensures shown { HasCleanDisk (state S.Store tx.new.conn.now)
-        → IfOk result (λ reply. Reads (state S.Store tx.old.conn.now) (state S.Store tx.new.conn.now)
-        (λ books. seen_reply reply ≡ looked branch (OneFilm number) books)) }
+    ensures shown { Finds (state S.Store tx.old.conn.now) (state S.Store tx.new.conn.now) result
+        (λ reply books. seen_reply reply ≡ looked branch (OneFilm number) books) }
 {
     match film_row(tx, number)? {
         Some(row) => match film_text(alloc, number, &row.film, row.withdrawn) {
@@ -110,9 +106,8 @@ fn look_in_stock<S: Alter>(
 ) -> Result<Reply, StoreFault>
     ensures same_reference { tx.new.conn.ghost_name ≡ tx.old.conn.ghost_name }
     ensures inside { StaysWithin (state S.Store tx.old.conn.now) (state S.Store tx.new.conn.now) result }
-    ensures shown { HasCleanDisk (state S.Store tx.new.conn.now)
-        → IfOk result (λ reply. Reads (state S.Store tx.old.conn.now) (state S.Store tx.new.conn.now)
-        (λ books. seen_reply reply ≡ looked branch (InStock copy) books)) }
+    ensures shown { Finds (state S.Store tx.old.conn.now) (state S.Store tx.new.conn.now) result
+        (λ reply books. seen_reply reply ≡ looked branch (InStock copy) books) }
 {
     let Some(_) = find_here(tx, branch, copy)? else {
         return Ok(Reply::refused(Refusal::NoCopy));
@@ -133,9 +128,8 @@ fn look_holder<S: Alter>(
 ) -> Result<Reply, StoreFault>
     ensures same_reference { tx.new.conn.ghost_name ≡ tx.old.conn.ghost_name }
     ensures inside { StaysWithin (state S.Store tx.old.conn.now) (state S.Store tx.new.conn.now) result }
-    ensures shown { HasCleanDisk (state S.Store tx.new.conn.now)
-        → IfOk result (λ reply. Reads (state S.Store tx.old.conn.now) (state S.Store tx.new.conn.now)
-        (λ books. seen_reply reply ≡ looked branch (HeldBy copy) books)) }
+    ensures shown { Finds (state S.Store tx.old.conn.now) (state S.Store tx.new.conn.now) result
+        (λ reply books. seen_reply reply ≡ looked branch (HeldBy copy) books) }
 {
     let Some(_) = find_here(tx, branch, copy)? else {
         return Ok(Reply::refused(Refusal::NoCopy));
@@ -157,9 +151,8 @@ fn look_film_copies<S: Alter>(
 ) -> Result<Reply, StoreFault>
     ensures same_reference { tx.new.conn.ghost_name ≡ tx.old.conn.ghost_name }
     ensures inside { StaysWithin (state S.Store tx.old.conn.now) (state S.Store tx.new.conn.now) result }
-    ensures shown { HasCleanDisk (state S.Store tx.new.conn.now)
-        → IfOk result (λ reply. Reads (state S.Store tx.old.conn.now) (state S.Store tx.new.conn.now)
-        (λ books. seen_reply reply ≡ looked branch (stock_asked is_in film) books)) }
+    ensures shown { Finds (state S.Store tx.old.conn.now) (state S.Store tx.new.conn.now) result
+        (λ reply books. seen_reply reply ≡ looked branch (stock_asked is_in film) books) }
 {
     let Some(_) = film_at(tx, film)? else {
         return Ok(Reply::refused(Refusal::NoFilm));

@@ -1,16 +1,15 @@
 //! Which of a branch's rentals are overdue.
 
-ghost use Rattle.std.specs.Prelude.{◌≡◌, [], ◌∷◌, filter, map, option_map, IfOk};
+ghost use Rattle.std.specs.Prelude.{◌≡◌, [], ◌∷◌, filter, map, option_map};
 ghost use Rattle.std.specs.Option.{option_to_list};
 ghost use Rattle.sqlite.specs.Held.{state};
-ghost use Rattle.sqlite.specs.State.{HasCleanDisk};
 ghost use Rattle.sql_rows.specs.Calls.{StaysWithin};
 ghost use Rattle.shop_model.specs.Rows.{at, at as at_number};
 ghost use Rattle.shop_model.specs.Books.{shop_of};
 ghost use Rattle.shop_model.specs.Stock.{film_of, is_overdue};
 ghost use Rattle.shop_model.specs.Views.{overdue_row, overdue_list};
 ghost use Rattle.shop_types.specs.Seen.{seen_rental};
-ghost use Rattle.shop_schema.specs.Shop.{Reads};
+ghost use Rattle.shop_schema.specs.Calls.{Finds};
 ghost use Rattle.shop_views.specs.Overdue.{seen_overdue};
 ghost use Rattle.branch_looks.specs.Finds.{rentals_at};
 
@@ -34,9 +33,8 @@ pub fn find_overdue<S: Alter>(
 ) -> Result<Vec<OverdueRow>, StoreFault>
     ensures same_reference { tx.new.conn.ghost_name ≡ tx.old.conn.ghost_name }
     ensures inside { StaysWithin (state S.Store tx.old.conn.now) (state S.Store tx.new.conn.now) result }
-    ensures found { HasCleanDisk (state S.Store tx.new.conn.now)
-        → IfOk result (λ rows. Reads (state S.Store tx.old.conn.now) (state S.Store tx.new.conn.now)
-        (λ books. map seen_overdue rows.items ≡ overdue_list books.catalogue (shop_of branch books) at)) }
+    ensures found { Finds (state S.Store tx.old.conn.now) (state S.Store tx.new.conn.now) result
+        (λ rows books. map seen_overdue rows.items ≡ overdue_list books.catalogue (shop_of branch books) at) }
 {
     let numbers = rentals_out(tx, alloc, branch)?;
     overdue_among(alloc, tx, branch, numbers.as_slice(), at)
@@ -52,9 +50,9 @@ fn overdue_among<S: Alter>(
 ) -> Result<Vec<OverdueRow>, StoreFault>
     ensures same_reference { tx.new.conn.ghost_name ≡ tx.old.conn.ghost_name }
     ensures inside { StaysWithin (state S.Store tx.old.conn.now) (state S.Store tx.new.conn.now) result }
-    ensures found { HasCleanDisk (state S.Store tx.new.conn.now) → IfOk result (λ overdue. Reads (state S.Store tx.old.conn.now) (state S.Store tx.new.conn.now)
-        (λ books. map seen_overdue overdue.items ≡ map (overdue_row books.catalogue (shop_of branch books))
-        (filter (is_overdue books.catalogue (shop_of branch books) at) (rentals_at numbers.now (shop_of branch books).rentals)))) }
+    ensures found { Finds (state S.Store tx.old.conn.now) (state S.Store tx.new.conn.now) result
+        (λ overdue books. map seen_overdue overdue.items ≡ map (overdue_row books.catalogue (shop_of branch books))
+        (filter (is_overdue books.catalogue (shop_of branch books) at) (rentals_at numbers.now (shop_of branch books).rentals))) }
 {
     let mut overdue = Vec::new(alloc);
     for number in numbers {
@@ -73,9 +71,9 @@ fn overdue_of<S: Alter>(
 ) -> Result<Option<OverdueRow>, StoreFault>
     ensures same_reference { tx.new.conn.ghost_name ≡ tx.old.conn.ghost_name }
     ensures inside { StaysWithin (state S.Store tx.old.conn.now) (state S.Store tx.new.conn.now) result }
-    ensures found { HasCleanDisk (state S.Store tx.new.conn.now) → IfOk result (λ row. Reads (state S.Store tx.old.conn.now) (state S.Store tx.new.conn.now)
-        (λ books. option_to_list (option_map seen_overdue row) ≡ map (overdue_row books.catalogue (shop_of branch books))
-        (filter (is_overdue books.catalogue (shop_of branch books) at) (at_number number (shop_of branch books).rentals)))) }
+    ensures found { Finds (state S.Store tx.old.conn.now) (state S.Store tx.new.conn.now) result
+        (λ row books. option_to_list (option_map seen_overdue row) ≡ map (overdue_row books.catalogue (shop_of branch books))
+        (filter (is_overdue books.catalogue (shop_of branch books) at) (at_number number (shop_of branch books).rentals))) }
 {
     let Some(row) = rental_at(tx, branch, number)? else {
         return Err(StoreFault::Failed);
@@ -92,9 +90,9 @@ fn overdue_at<S: Alter>(
 ) -> Result<Option<OverdueRow>, StoreFault>
     ensures same_reference { tx.new.conn.ghost_name ≡ tx.old.conn.ghost_name }
     ensures inside { StaysWithin (state S.Store tx.old.conn.now) (state S.Store tx.new.conn.now) result }
-    ensures found { HasCleanDisk (state S.Store tx.new.conn.now) → IfOk result (λ row. Reads (state S.Store tx.old.conn.now) (state S.Store tx.new.conn.now)
-        (λ books. option_to_list (option_map seen_overdue row) ≡ map (overdue_row books.catalogue (shop_of branch books))
-        (filter (is_overdue books.catalogue (shop_of branch books) at) (seen_rental rental ∷ [])))) }
+    ensures found { Finds (state S.Store tx.old.conn.now) (state S.Store tx.new.conn.now) result
+        (λ row books. option_to_list (option_map seen_overdue row) ≡ map (overdue_row books.catalogue (shop_of branch books))
+        (filter (is_overdue books.catalogue (shop_of branch books) at) (seen_rental rental ∷ []))) }
 {
     if rental.returned.is_some() {
         return Ok(None);
@@ -120,9 +118,9 @@ fn listed_as<S: Alter>(
 ) -> Result<OverdueRow, StoreFault>
     ensures same_reference { tx.new.conn.ghost_name ≡ tx.old.conn.ghost_name }
     ensures inside { StaysWithin (state S.Store tx.old.conn.now) (state S.Store tx.new.conn.now) result }
-    ensures found { HasCleanDisk (state S.Store tx.new.conn.now) → IfOk result (λ row. Reads (state S.Store tx.old.conn.now) (state S.Store tx.new.conn.now)
-        (λ books. film_of books.catalogue (shop_of branch books) (seen_rental rental) ≡ at film books.catalogue.films
-        → seen_overdue row ≡ overdue_row books.catalogue (shop_of branch books) (seen_rental rental))) }
+    ensures found { Finds (state S.Store tx.old.conn.now) (state S.Store tx.new.conn.now) result
+        (λ row books. film_of books.catalogue (shop_of branch books) (seen_rental rental) ≡ at film books.catalogue.films
+        → seen_overdue row ≡ overdue_row books.catalogue (shop_of branch books) (seen_rental rental)) }
 {
     let Some(title) = film_title(tx, film)? else {
         return Err(StoreFault::Failed);

@@ -2,13 +2,12 @@
 
 ghost use Rattle.std.specs.Prelude.{◌≡◌, ℕ, IfOk};
 ghost use Rattle.sqlite.specs.Held.{state};
-ghost use Rattle.sqlite.specs.State.{HasCleanDisk};
 ghost use Rattle.sql_rows.specs.Calls.{StaysWithin};
 ghost use Rattle.shop_model.specs.Values.{Balance, Overdue, Rewards};
 ghost use Rattle.shop_model.specs.Shop.{Catalogue, Shop};
 ghost use Rattle.shop_model.specs.Stock.{balance};
 ghost use Rattle.shop_types.specs.Replies.{seen_reply};
-ghost use Rattle.shop_schema.specs.Shop.{Reads};
+ghost use Rattle.shop_schema.specs.Calls.{Finds};
 ghost use Rattle.balance_rule.specs.Balance.{AreTermsOf, ArePaidBy};
 ghost use Rattle.branch_looks.specs.Looks.{looked};
 
@@ -34,9 +33,8 @@ pub fn look_balance<S: Alter>(
 ) -> Result<Reply, StoreFault>
     ensures same_reference { tx.new.conn.ghost_name ≡ tx.old.conn.ghost_name }
     ensures inside { StaysWithin (state S.Store tx.old.conn.now) (state S.Store tx.new.conn.now) result }
-    ensures shown { HasCleanDisk (state S.Store tx.new.conn.now)
-        → IfOk result (λ reply. Reads (state S.Store tx.old.conn.now) (state S.Store tx.new.conn.now)
-        (λ books. seen_reply reply ≡ looked branch (Balance customer at) books)) }
+    ensures shown { Finds (state S.Store tx.old.conn.now) (state S.Store tx.new.conn.now) result
+        (λ reply books. seen_reply reply ≡ looked branch (Balance customer at) books) }
 {
     let Some(_) = find_active(tx, branch, customer)? else {
         return Ok(Reply::refused(Refusal::NoCustomer));
@@ -71,9 +69,8 @@ pub fn look_overdue<S: Alter>(
 ) -> Result<Reply, StoreFault>
     ensures same_reference { tx.new.conn.ghost_name ≡ tx.old.conn.ghost_name }
     ensures inside { StaysWithin (state S.Store tx.old.conn.now) (state S.Store tx.new.conn.now) result }
-    ensures shown { HasCleanDisk (state S.Store tx.new.conn.now)
-        → IfOk result (λ reply. Reads (state S.Store tx.old.conn.now) (state S.Store tx.new.conn.now)
-        (λ books. seen_reply reply ≡ looked branch (Overdue at) books)) }
+    ensures shown { Finds (state S.Store tx.old.conn.now) (state S.Store tx.new.conn.now) result
+        (λ reply books. seen_reply reply ≡ looked branch (Overdue at) books) }
 {
     let rows = find_overdue(alloc, tx, branch, at)?;
     match overdue_text(alloc, rows.as_slice()) {
@@ -93,9 +90,8 @@ pub fn look_rewards<S: Alter>(
 ) -> Result<Reply, StoreFault>
     ensures same_reference { tx.new.conn.ghost_name ≡ tx.old.conn.ghost_name }
     ensures inside { StaysWithin (state S.Store tx.old.conn.now) (state S.Store tx.new.conn.now) result }
-    ensures shown { HasCleanDisk (state S.Store tx.new.conn.now)
-        → IfOk result (λ reply. Reads (state S.Store tx.old.conn.now) (state S.Store tx.new.conn.now)
-        (λ books. seen_reply reply ≡ looked branch (Rewards at purchases cents) books)) }
+    ensures shown { Finds (state S.Store tx.old.conn.now) (state S.Store tx.new.conn.now) result
+        (λ reply books. seen_reply reply ≡ looked branch (Rewards at purchases cents) books) }
 {
     if purchases == 0 || cents == 0 {
         return Ok(Reply::refused(Refusal::BadThreshold));

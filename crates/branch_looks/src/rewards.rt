@@ -4,12 +4,11 @@ ghost use Rattle.std.specs.Prelude.{◌≡◌, ℕ, ℤ, ◌+◌, ◌*◌, ◌�
 ghost use Rattle.std.specs.BTreeMap.{Updates, get};
 ghost use Rattle.std.specs.Ordering.{nat_cmp};
 ghost use Rattle.sqlite.specs.Held.{state};
-ghost use Rattle.sqlite.specs.State.{HasCleanDisk};
 ghost use Rattle.sql_rows.specs.Calls.{StaysWithin};
 ghost use Rattle.shop_model.specs.Calendar.{month_before, seconds_of};
 ghost use Rattle.shop_model.specs.Books.{shop_of};
 ghost use Rattle.shop_model.specs.Stock.{rewarded_in};
-ghost use Rattle.shop_schema.specs.Shop.{Reads};
+ghost use Rattle.shop_schema.specs.Calls.{Finds};
 ghost use Rattle.shop_model.specs.Values.{Payment};
 ghost use Rattle.branch_looks.specs.Finds.{AreSmall, AreSummed, one_paid, passes_for, payments_of, rewarded_numbers, sum_or_none};
 
@@ -41,9 +40,8 @@ pub fn find_rewarded<S: Alter>(
 ) -> Result<Vec<CustomerNo>, StoreFault>
     ensures same_reference { tx.new.conn.ghost_name ≡ tx.old.conn.ghost_name }
     ensures inside { StaysWithin (state S.Store tx.old.conn.now) (state S.Store tx.new.conn.now) result }
-    ensures found { HasCleanDisk (state S.Store tx.new.conn.now)
-        → IfOk result (λ customers. Reads (state S.Store tx.old.conn.now) (state S.Store tx.new.conn.now)
-        (λ books. customers.items ≡ rewarded_in (month_before at) (shop_of branch books) purchases cents)) }
+    ensures found { Finds (state S.Store tx.old.conn.now) (state S.Store tx.new.conn.now) result
+        (λ customers books. customers.items ≡ rewarded_in (month_before at) (shop_of branch books) purchases cents) }
 {
     let Some(month) = last_month(at) else {
         return Ok(Vec::new(alloc));

@@ -6,6 +6,7 @@ ghost use Rattle.sqlite.specs.State.{HasCleanDisk};
 ghost use Rattle.sql_rows.specs.Calls.{StaysWithin};
 ghost use Rattle.shop_model.specs.Rows.{next};
 ghost use Rattle.shop_model.specs.Books.{imported};
+ghost use Rattle.shop_schema.specs.Calls.{Stores};
 ghost use Rattle.shop_schema.specs.Shop.{Writes};
 ghost use Rattle.shop_store.specs.Seen.{seen_copy_row};
 ghost use Rattle.branch_core.specs.Agreed.{copies_of, films_of};
@@ -122,9 +123,8 @@ fn new_copy(branch: BranchNo, number: u32, film: FilmNo) -> CopyRow
 fn put_copies<S: Alter>(tx: &mut Transaction<'_, S>, copies: &[CopyRow]) -> Result<(), StoreFault>
     ensures same_reference { tx.new.conn.ghost_name ≡ tx.old.conn.ghost_name }
     ensures inside { StaysWithin (state S.Store tx.old.conn.now) (state S.Store tx.new.conn.now) result }
-    ensures put { HasCleanDisk (state S.Store tx.new.conn.now)
-        → OnOk result (Writes (state S.Store tx.old.conn.now) (state S.Store tx.new.conn.now) (λ _. ⊤)
-        (λ books. record books { copies = books.copies ++ map seen_copy_row copies.now })) }
+    ensures put { Stores (state S.Store tx.old.conn.now) (state S.Store tx.new.conn.now) result (λ _. ⊤)
+        (λ books. record books { copies = books.copies ++ map seen_copy_row copies.now }) }
 {
     for row in copies {
         put_copy(tx, *row)?;

@@ -1,14 +1,13 @@
 //! A film with all its columns.
 
-ghost use Rattle.std.specs.Prelude.{◌≡◌, IfOk, option_map};
+ghost use Rattle.std.specs.Prelude.{◌≡◌, option_map};
 ghost use Rattle.std.specs.Option.{option_to_list};
 ghost use Rattle.sqlite.specs.Held.{state};
-ghost use Rattle.sqlite.specs.State.{HasCleanDisk};
 ghost use Rattle.sql_rows.specs.Calls.{StaysInside};
 ghost use Rattle.shop_model.specs.Rows.{at};
+ghost use Rattle.shop_schema.specs.Calls.{Finds};
 ghost use Rattle.shop_schema.specs.Columns.{film_columns};
 ghost use Rattle.shop_schema.specs.RowValues.{IsNumber, IsFilm};
-ghost use Rattle.shop_schema.specs.Shop.{Reads};
 ghost use Rattle.catalogue_store.specs.Seen.{seen_film_row};
 
 use crate::columns::{
@@ -63,9 +62,8 @@ pub fn film_row<S: Alter>(
 ) -> Result<Option<FilmRow>, StoreFault>
     ensures same_reference { tx.new.conn.ghost_name ≡ tx.old.conn.ghost_name }
     ensures inside { StaysInside (state S.Store tx.old.conn.now) (state S.Store tx.new.conn.now) result }
-    ensures found { HasCleanDisk (state S.Store tx.new.conn.now)
-        → IfOk result (λ row. Reads (state S.Store tx.old.conn.now) (state S.Store tx.new.conn.now)
-        (λ books. option_to_list (option_map seen_film_row row) ≡ at number books.catalogue.films)) }
+    ensures found { Finds (state S.Store tx.old.conn.now) (state S.Store tx.new.conn.now) result
+        (λ row books. option_to_list (option_map seen_film_row row) ≡ at number books.catalogue.films) }
 {
     let rows = query(
         tx,

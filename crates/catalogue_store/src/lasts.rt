@@ -5,7 +5,7 @@ ghost use Rattle.sqlite.specs.Held.{state};
 ghost use Rattle.sqlite.specs.State.{HasCleanDisk, Shown};
 ghost use Rattle.sqlite_value.specs.Order.{Row as SqlRow};
 ghost use Rattle.sql_rows.specs.Calls.{StaysInside};
-ghost use Rattle.shop_schema.specs.Shop.{Reads};
+ghost use Rattle.shop_schema.specs.Calls.{Finds};
 ghost use Rattle.catalogue_store.specs.Seen.{IsFirstNumber};
 
 use sql_rows::{StoreFault, number_at, query};
@@ -36,8 +36,8 @@ fn number_shown<S: Alter>(tx: &mut Transaction<'_, S>, text: &str) -> Result<u32
 pub fn last_country<S: Alter>(tx: &mut Transaction<'_, S>) -> Result<u32, StoreFault>
     ensures same_reference { tx.new.conn.ghost_name ≡ tx.old.conn.ghost_name }
     ensures inside { StaysInside (state S.Store tx.old.conn.now) (state S.Store tx.new.conn.now) result }
-    ensures last { HasCleanDisk (state S.Store tx.new.conn.now)
-        → IfOk result (λ last. Reads (state S.Store tx.old.conn.now) (state S.Store tx.new.conn.now) (λ books. last ≡ length books.catalogue.countries)) }
+    ensures last { Finds (state S.Store tx.old.conn.now) (state S.Store tx.new.conn.now) result
+        (λ last books. last ≡ length books.catalogue.countries) }
 {
     number_shown(
         tx,
@@ -49,8 +49,8 @@ pub fn last_country<S: Alter>(tx: &mut Transaction<'_, S>) -> Result<u32, StoreF
 pub fn last_language<S: Alter>(tx: &mut Transaction<'_, S>) -> Result<u32, StoreFault>
     ensures same_reference { tx.new.conn.ghost_name ≡ tx.old.conn.ghost_name }
     ensures inside { StaysInside (state S.Store tx.old.conn.now) (state S.Store tx.new.conn.now) result }
-    ensures last { HasCleanDisk (state S.Store tx.new.conn.now)
-        → IfOk result (λ last. Reads (state S.Store tx.old.conn.now) (state S.Store tx.new.conn.now) (λ books. last ≡ length books.catalogue.languages)) }
+    ensures last { Finds (state S.Store tx.old.conn.now) (state S.Store tx.new.conn.now) result
+        (λ last books. last ≡ length books.catalogue.languages) }
 {
     number_shown(
         tx,
@@ -62,8 +62,8 @@ pub fn last_language<S: Alter>(tx: &mut Transaction<'_, S>) -> Result<u32, Store
 pub fn last_category<S: Alter>(tx: &mut Transaction<'_, S>) -> Result<u32, StoreFault>
     ensures same_reference { tx.new.conn.ghost_name ≡ tx.old.conn.ghost_name }
     ensures inside { StaysInside (state S.Store tx.old.conn.now) (state S.Store tx.new.conn.now) result }
-    ensures last { HasCleanDisk (state S.Store tx.new.conn.now)
-        → IfOk result (λ last. Reads (state S.Store tx.old.conn.now) (state S.Store tx.new.conn.now) (λ books. last ≡ length books.catalogue.categories)) }
+    ensures last { Finds (state S.Store tx.old.conn.now) (state S.Store tx.new.conn.now) result
+        (λ last books. last ≡ length books.catalogue.categories) }
 {
     number_shown(
         tx,
@@ -75,8 +75,8 @@ pub fn last_category<S: Alter>(tx: &mut Transaction<'_, S>) -> Result<u32, Store
 pub fn last_city<S: Alter>(tx: &mut Transaction<'_, S>) -> Result<u32, StoreFault>
     ensures same_reference { tx.new.conn.ghost_name ≡ tx.old.conn.ghost_name }
     ensures inside { StaysInside (state S.Store tx.old.conn.now) (state S.Store tx.new.conn.now) result }
-    ensures last { HasCleanDisk (state S.Store tx.new.conn.now)
-        → IfOk result (λ last. Reads (state S.Store tx.old.conn.now) (state S.Store tx.new.conn.now) (λ books. last ≡ length books.catalogue.cities)) }
+    ensures last { Finds (state S.Store tx.old.conn.now) (state S.Store tx.new.conn.now) result
+        (λ last books. last ≡ length books.catalogue.cities) }
 {
     number_shown(tx, "SELECT number FROM city ORDER BY number DESC LIMIT 1")
 }
@@ -85,8 +85,8 @@ pub fn last_city<S: Alter>(tx: &mut Transaction<'_, S>) -> Result<u32, StoreFaul
 pub fn last_actor<S: Alter>(tx: &mut Transaction<'_, S>) -> Result<u32, StoreFault>
     ensures same_reference { tx.new.conn.ghost_name ≡ tx.old.conn.ghost_name }
     ensures inside { StaysInside (state S.Store tx.old.conn.now) (state S.Store tx.new.conn.now) result }
-    ensures last { HasCleanDisk (state S.Store tx.new.conn.now)
-        → IfOk result (λ last. Reads (state S.Store tx.old.conn.now) (state S.Store tx.new.conn.now) (λ books. last ≡ length books.catalogue.actors)) }
+    ensures last { Finds (state S.Store tx.old.conn.now) (state S.Store tx.new.conn.now) result
+        (λ last books. last ≡ length books.catalogue.actors) }
 {
     number_shown(tx, "SELECT number FROM actor ORDER BY number DESC LIMIT 1")
 }
@@ -95,8 +95,8 @@ pub fn last_actor<S: Alter>(tx: &mut Transaction<'_, S>) -> Result<u32, StoreFau
 pub fn last_film<S: Alter>(tx: &mut Transaction<'_, S>) -> Result<u32, StoreFault>
     ensures same_reference { tx.new.conn.ghost_name ≡ tx.old.conn.ghost_name }
     ensures inside { StaysInside (state S.Store tx.old.conn.now) (state S.Store tx.new.conn.now) result }
-    ensures last { HasCleanDisk (state S.Store tx.new.conn.now)
-        → IfOk result (λ last. Reads (state S.Store tx.old.conn.now) (state S.Store tx.new.conn.now) (λ books. last ≡ length books.catalogue.films)) }
+    ensures last { Finds (state S.Store tx.old.conn.now) (state S.Store tx.new.conn.now) result
+        (λ last books. last ≡ length books.catalogue.films) }
 {
     number_shown(tx, "SELECT number FROM film ORDER BY number DESC LIMIT 1")
 }
@@ -105,8 +105,8 @@ pub fn last_film<S: Alter>(tx: &mut Transaction<'_, S>) -> Result<u32, StoreFaul
 pub fn last_branch<S: Alter>(tx: &mut Transaction<'_, S>) -> Result<u32, StoreFault>
     ensures same_reference { tx.new.conn.ghost_name ≡ tx.old.conn.ghost_name }
     ensures inside { StaysInside (state S.Store tx.old.conn.now) (state S.Store tx.new.conn.now) result }
-    ensures last { HasCleanDisk (state S.Store tx.new.conn.now)
-        → IfOk result (λ last. Reads (state S.Store tx.old.conn.now) (state S.Store tx.new.conn.now) (λ books. last ≡ length books.catalogue.branches)) }
+    ensures last { Finds (state S.Store tx.old.conn.now) (state S.Store tx.new.conn.now) result
+        (λ last books. last ≡ length books.catalogue.branches) }
 {
     number_shown(tx, "SELECT number FROM branch ORDER BY number DESC LIMIT 1")
 }
@@ -115,8 +115,8 @@ pub fn last_branch<S: Alter>(tx: &mut Transaction<'_, S>) -> Result<u32, StoreFa
 pub fn last_staff<S: Alter>(tx: &mut Transaction<'_, S>) -> Result<u32, StoreFault>
     ensures same_reference { tx.new.conn.ghost_name ≡ tx.old.conn.ghost_name }
     ensures inside { StaysInside (state S.Store tx.old.conn.now) (state S.Store tx.new.conn.now) result }
-    ensures last { HasCleanDisk (state S.Store tx.new.conn.now)
-        → IfOk result (λ last. Reads (state S.Store tx.old.conn.now) (state S.Store tx.new.conn.now) (λ books. last ≡ length books.catalogue.staff)) }
+    ensures last { Finds (state S.Store tx.old.conn.now) (state S.Store tx.new.conn.now) result
+        (λ last books. last ≡ length books.catalogue.staff) }
 {
     number_shown(tx, "SELECT number FROM staff ORDER BY number DESC LIMIT 1")
 }

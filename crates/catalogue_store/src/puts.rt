@@ -1,15 +1,14 @@
 //! How each shared row is added. A row's number is one more than that of the last row of its table.
 
-ghost use Rattle.std.specs.Prelude.{⊤, ◌≡◌, ◌+◌, [], ◌∷◌, ◌++◌, length, OnOk};
+ghost use Rattle.std.specs.Prelude.{⊤, ◌≡◌, ◌+◌, [], ◌∷◌, ◌++◌, length};
 ghost use Rattle.sqlite.specs.Held.{state};
-ghost use Rattle.sqlite.specs.State.{HasCleanDisk};
 ghost use Rattle.sqlite.specs.Values.{bound, or_null};
 ghost use Rattle.sqlite_value.specs.Value.{owned};
 ghost use Rattle.sql_rows.specs.Calls.{StaysInside};
 ghost use Rattle.sql_rows.specs.Rows.{number_value};
 ghost use Rattle.shop_model.specs.Rows.{owned_by};
+ghost use Rattle.shop_schema.specs.Calls.{Stores};
 ghost use Rattle.shop_schema.specs.Columns.{city_columns, actor_columns, film_columns, staff_columns};
-ghost use Rattle.shop_schema.specs.Shop.{Writes};
 ghost use Rattle.catalogue_store.specs.New.{seen_city, seen_actor, seen_film, seen_branch, seen_staff, branch_params};
 
 use shop_types::{
@@ -181,9 +180,8 @@ pub fn put_country<S: Alter>(
 ) -> Result<(), StoreFault>
     ensures same_reference { tx.new.conn.ghost_name ≡ tx.old.conn.ghost_name }
     ensures inside { StaysInside (state S.Store tx.old.conn.now) (state S.Store tx.new.conn.now) result }
-    ensures put { HasCleanDisk (state S.Store tx.new.conn.now)
-        → OnOk result (Writes (state S.Store tx.old.conn.now) (state S.Store tx.new.conn.now) (λ books. number ≡ length books.catalogue.countries + 1)
-        (λ books. record books { catalogue = record books.catalogue { countries = books.catalogue.countries ++ name.now ∷ [] } })) }
+    ensures put { Stores (state S.Store tx.old.conn.now) (state S.Store tx.new.conn.now) result (λ books. number ≡ length books.catalogue.countries + 1)
+        (λ books. record books { catalogue = record books.catalogue { countries = books.catalogue.countries ++ name.now ∷ [] } }) }
 {
     execute(
         tx,
@@ -200,9 +198,8 @@ pub fn put_language<S: Alter>(
 ) -> Result<(), StoreFault>
     ensures same_reference { tx.new.conn.ghost_name ≡ tx.old.conn.ghost_name }
     ensures inside { StaysInside (state S.Store tx.old.conn.now) (state S.Store tx.new.conn.now) result }
-    ensures put { HasCleanDisk (state S.Store tx.new.conn.now)
-        → OnOk result (Writes (state S.Store tx.old.conn.now) (state S.Store tx.new.conn.now) (λ books. number ≡ length books.catalogue.languages + 1)
-        (λ books. record books { catalogue = record books.catalogue { languages = books.catalogue.languages ++ name.now ∷ [] } })) }
+    ensures put { Stores (state S.Store tx.old.conn.now) (state S.Store tx.new.conn.now) result (λ books. number ≡ length books.catalogue.languages + 1)
+        (λ books. record books { catalogue = record books.catalogue { languages = books.catalogue.languages ++ name.now ∷ [] } }) }
 {
     execute(
         tx,
@@ -219,9 +216,8 @@ pub fn put_category<S: Alter>(
 ) -> Result<(), StoreFault>
     ensures same_reference { tx.new.conn.ghost_name ≡ tx.old.conn.ghost_name }
     ensures inside { StaysInside (state S.Store tx.old.conn.now) (state S.Store tx.new.conn.now) result }
-    ensures put { HasCleanDisk (state S.Store tx.new.conn.now)
-        → OnOk result (Writes (state S.Store tx.old.conn.now) (state S.Store tx.new.conn.now) (λ books. number ≡ length books.catalogue.categories + 1)
-        (λ books. record books { catalogue = record books.catalogue { categories = books.catalogue.categories ++ name.now ∷ [] } })) }
+    ensures put { Stores (state S.Store tx.old.conn.now) (state S.Store tx.new.conn.now) result (λ books. number ≡ length books.catalogue.categories + 1)
+        (λ books. record books { catalogue = record books.catalogue { categories = books.catalogue.categories ++ name.now ∷ [] } }) }
 {
     execute(
         tx,
@@ -234,9 +230,8 @@ pub fn put_category<S: Alter>(
 pub fn put_city<S: Alter>(tx: &mut Transaction<'_, S>, city: &NewCity<'_>) -> Result<(), StoreFault>
     ensures same_reference { tx.new.conn.ghost_name ≡ tx.old.conn.ghost_name }
     ensures inside { StaysInside (state S.Store tx.old.conn.now) (state S.Store tx.new.conn.now) result }
-    ensures put { HasCleanDisk (state S.Store tx.new.conn.now)
-        → OnOk result (Writes (state S.Store tx.old.conn.now) (state S.Store tx.new.conn.now) (λ books. city.now.number ≡ length books.catalogue.cities + 1)
-        (λ books. record books { catalogue = record books.catalogue { cities = books.catalogue.cities ++ seen_city city.now ∷ [] } })) }
+    ensures put { Stores (state S.Store tx.old.conn.now) (state S.Store tx.new.conn.now) result (λ books. city.now.number ≡ length books.catalogue.cities + 1)
+        (λ books. record books { catalogue = record books.catalogue { cities = books.catalogue.cities ++ seen_city city.now ∷ [] } }) }
 {
     execute(
         tx,
@@ -252,9 +247,8 @@ pub fn put_actor<S: Alter>(
 ) -> Result<(), StoreFault>
     ensures same_reference { tx.new.conn.ghost_name ≡ tx.old.conn.ghost_name }
     ensures inside { StaysInside (state S.Store tx.old.conn.now) (state S.Store tx.new.conn.now) result }
-    ensures put { HasCleanDisk (state S.Store tx.new.conn.now)
-        → OnOk result (Writes (state S.Store tx.old.conn.now) (state S.Store tx.new.conn.now) (λ books. actor.now.number ≡ length books.catalogue.actors + 1)
-        (λ books. record books { catalogue = record books.catalogue { actors = books.catalogue.actors ++ seen_actor actor.now ∷ [] } })) }
+    ensures put { Stores (state S.Store tx.old.conn.now) (state S.Store tx.new.conn.now) result (λ books. actor.now.number ≡ length books.catalogue.actors + 1)
+        (λ books. record books { catalogue = record books.catalogue { actors = books.catalogue.actors ++ seen_actor actor.now ∷ [] } }) }
 {
     execute(
         tx,
@@ -267,9 +261,8 @@ pub fn put_actor<S: Alter>(
 pub fn put_film<S: Alter>(tx: &mut Transaction<'_, S>, film: &NewFilm<'_>) -> Result<(), StoreFault>
     ensures same_reference { tx.new.conn.ghost_name ≡ tx.old.conn.ghost_name }
     ensures inside { StaysInside (state S.Store tx.old.conn.now) (state S.Store tx.new.conn.now) result }
-    ensures put { HasCleanDisk (state S.Store tx.new.conn.now)
-        → OnOk result (Writes (state S.Store tx.old.conn.now) (state S.Store tx.new.conn.now) (λ books. film.now.number ≡ length books.catalogue.films + 1)
-        (λ books. record books { catalogue = record books.catalogue { films = books.catalogue.films ++ seen_film film.now ∷ [] } })) }
+    ensures put { Stores (state S.Store tx.old.conn.now) (state S.Store tx.new.conn.now) result (λ books. film.now.number ≡ length books.catalogue.films + 1)
+        (λ books. record books { catalogue = record books.catalogue { films = books.catalogue.films ++ seen_film film.now ∷ [] } }) }
 {
     execute(
         tx,
@@ -286,9 +279,8 @@ pub fn put_cast<S: Alter>(
 ) -> Result<(), StoreFault>
     ensures same_reference { tx.new.conn.ghost_name ≡ tx.old.conn.ghost_name }
     ensures inside { StaysInside (state S.Store tx.old.conn.now) (state S.Store tx.new.conn.now) result }
-    ensures put { HasCleanDisk (state S.Store tx.new.conn.now)
-        → OnOk result (Writes (state S.Store tx.old.conn.now) (state S.Store tx.new.conn.now) (λ _. ⊤)
-        (λ books. record books { catalogue = record books.catalogue { casts = books.catalogue.casts ++ record { film = film; actor = actor } ∷ [] } })) }
+    ensures put { Stores (state S.Store tx.old.conn.now) (state S.Store tx.new.conn.now) result (λ _. ⊤)
+        (λ books. record books { catalogue = record books.catalogue { casts = books.catalogue.casts ++ record { film = film; actor = actor } ∷ [] } }) }
 {
     execute(
         tx,
@@ -304,11 +296,9 @@ pub fn put_branch<S: Alter>(
 ) -> Result<(), StoreFault>
     ensures same_reference { tx.new.conn.ghost_name ≡ tx.old.conn.ghost_name }
     ensures inside { StaysInside (state S.Store tx.old.conn.now) (state S.Store tx.new.conn.now) result }
-    ensures put { HasCleanDisk (state S.Store tx.new.conn.now)
-        → OnOk result (Writes (state S.Store tx.old.conn.now) (state S.Store tx.new.conn.now)
-        (λ books. (branch.now.number ≡ length books.catalogue.branches + 1)
+    ensures put { Stores (state S.Store tx.old.conn.now) (state S.Store tx.new.conn.now) result (λ books. (branch.now.number ≡ length books.catalogue.branches + 1)
         × (owned_by branch.now.number books.lasts ≡ []))
-        (λ books. record books { catalogue = record books.catalogue { branches = books.catalogue.branches ++ seen_branch branch.now ∷ [] } })) }
+        (λ books. record books { catalogue = record books.catalogue { branches = books.catalogue.branches ++ seen_branch branch.now ∷ [] } }) }
 {
     execute(
         tx,
@@ -324,9 +314,8 @@ pub fn put_staff<S: Alter>(
 ) -> Result<(), StoreFault>
     ensures same_reference { tx.new.conn.ghost_name ≡ tx.old.conn.ghost_name }
     ensures inside { StaysInside (state S.Store tx.old.conn.now) (state S.Store tx.new.conn.now) result }
-    ensures put { HasCleanDisk (state S.Store tx.new.conn.now)
-        → OnOk result (Writes (state S.Store tx.old.conn.now) (state S.Store tx.new.conn.now) (λ books. staff.now.number ≡ length books.catalogue.staff + 1)
-        (λ books. record books { catalogue = record books.catalogue { staff = books.catalogue.staff ++ seen_staff staff.now ∷ [] } })) }
+    ensures put { Stores (state S.Store tx.old.conn.now) (state S.Store tx.new.conn.now) result (λ books. staff.now.number ≡ length books.catalogue.staff + 1)
+        (λ books. record books { catalogue = record books.catalogue { staff = books.catalogue.staff ++ seen_staff staff.now ∷ [] } }) }
 {
     execute(
         tx,

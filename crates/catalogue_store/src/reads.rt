@@ -1,14 +1,13 @@
 ghost use Rattle.std.specs.Prelude.{◌≡◌, IfOk, map, option_map};
 ghost use Rattle.std.specs.Str.{bytes_eq};
 ghost use Rattle.sqlite.specs.Held.{state};
-ghost use Rattle.sqlite.specs.State.{HasCleanDisk};
 ghost use Rattle.sqlite.specs.declared.types.Value.TheVariants.{Text};
 ghost use Rattle.sqlite_value.specs.Order.{column};
 ghost use Rattle.sql_rows.specs.Calls.{StaysInside};
 ghost use Rattle.shop_model.specs.Rows.{at};
 ghost use Rattle.shop_model.specs.Books.{head, branch_with};
 ghost use Rattle.shop_types.specs.Verdicts.{seen_post, post_of};
-ghost use Rattle.shop_schema.specs.Shop.{Reads};
+ghost use Rattle.shop_schema.specs.Calls.{Finds};
 ghost use Rattle.catalogue_store.specs.Seen.{branch_caller, withdrawn_of, seen_terms, terms_of, title_of, manager_of};
 
 use crate::columns::{days_at, rate_at};
@@ -51,9 +50,8 @@ pub fn branch_with<S: Alter>(
 ) -> Result<Option<BranchNo>, StoreFault>
     ensures same_reference { tx.new.conn.ghost_name ≡ tx.old.conn.ghost_name }
     ensures inside { StaysInside (state S.Store tx.old.conn.now) (state S.Store tx.new.conn.now) result }
-    ensures found { HasCleanDisk (state S.Store tx.new.conn.now)
-        → IfOk result (λ branch. Reads (state S.Store tx.old.conn.now) (state S.Store tx.new.conn.now)
-        (λ books. branch_caller branch ≡ branch_with token.now 1 books.catalogue.branches)) }
+    ensures found { Finds (state S.Store tx.old.conn.now) (state S.Store tx.new.conn.now) result
+        (λ branch books. branch_caller branch ≡ branch_with token.now 1 books.catalogue.branches) }
 {
     let rows = query(
         tx,
@@ -70,9 +68,8 @@ pub fn branch_with<S: Alter>(
 pub fn is_office<S: Alter>(tx: &mut Transaction<'_, S>, token: &Token) -> Result<bool, StoreFault>
     ensures same_reference { tx.new.conn.ghost_name ≡ tx.old.conn.ghost_name }
     ensures inside { StaysInside (state S.Store tx.old.conn.now) (state S.Store tx.new.conn.now) result }
-    ensures found { HasCleanDisk (state S.Store tx.new.conn.now)
-        → IfOk result (λ is. Reads (state S.Store tx.old.conn.now) (state S.Store tx.new.conn.now)
-        (λ books. is ≡ bytes_eq token.now books.catalogue.office_token)) }
+    ensures found { Finds (state S.Store tx.old.conn.now) (state S.Store tx.new.conn.now) result
+        (λ is books. is ≡ bytes_eq token.now books.catalogue.office_token) }
 {
     shows_row(
         tx,
@@ -85,8 +82,8 @@ pub fn is_office<S: Alter>(tx: &mut Transaction<'_, S>, token: &Token) -> Result
 pub fn office_token<S: Alter>(tx: &mut Transaction<'_, S>) -> Result<Token, StoreFault>
     ensures same_reference { tx.new.conn.ghost_name ≡ tx.old.conn.ghost_name }
     ensures inside { StaysInside (state S.Store tx.old.conn.now) (state S.Store tx.new.conn.now) result }
-    ensures found { HasCleanDisk (state S.Store tx.new.conn.now)
-        → IfOk result (λ token. Reads (state S.Store tx.old.conn.now) (state S.Store tx.new.conn.now) (λ books. token ≡ books.catalogue.office_token)) }
+    ensures found { Finds (state S.Store tx.old.conn.now) (state S.Store tx.new.conn.now) result
+        (λ token books. token ≡ books.catalogue.office_token) }
 {
     let rows = query(tx, "SELECT office_token FROM chain", &[])?;
     match rows.first() {
@@ -102,9 +99,8 @@ pub fn branch_at<S: Alter>(
 ) -> Result<Option<Option<StaffNo>>, StoreFault>
     ensures same_reference { tx.new.conn.ghost_name ≡ tx.old.conn.ghost_name }
     ensures inside { StaysInside (state S.Store tx.old.conn.now) (state S.Store tx.new.conn.now) result }
-    ensures found { HasCleanDisk (state S.Store tx.new.conn.now)
-        → IfOk result (λ manager. Reads (state S.Store tx.old.conn.now) (state S.Store tx.new.conn.now)
-        (λ books. manager ≡ head (map manager_of (at branch books.catalogue.branches)))) }
+    ensures found { Finds (state S.Store tx.old.conn.now) (state S.Store tx.new.conn.now) result
+        (λ manager books. manager ≡ head (map manager_of (at branch books.catalogue.branches))) }
 {
     let rows = query(
         tx,
@@ -124,9 +120,8 @@ pub fn staff_at<S: Alter>(
 ) -> Result<Option<StaffFound>, StoreFault>
     ensures same_reference { tx.new.conn.ghost_name ≡ tx.old.conn.ghost_name }
     ensures inside { StaysInside (state S.Store tx.old.conn.now) (state S.Store tx.new.conn.now) result }
-    ensures found { HasCleanDisk (state S.Store tx.new.conn.now)
-        → IfOk result (λ post. Reads (state S.Store tx.old.conn.now) (state S.Store tx.new.conn.now)
-        (λ books. option_map seen_post post ≡ head (map post_of (at staff books.catalogue.staff)))) }
+    ensures found { Finds (state S.Store tx.old.conn.now) (state S.Store tx.new.conn.now) result
+        (λ post books. option_map seen_post post ≡ head (map post_of (at staff books.catalogue.staff))) }
 {
     let rows = query(
         tx,
@@ -149,9 +144,8 @@ pub fn film_at<S: Alter>(
 ) -> Result<Option<bool>, StoreFault>
     ensures same_reference { tx.new.conn.ghost_name ≡ tx.old.conn.ghost_name }
     ensures inside { StaysInside (state S.Store tx.old.conn.now) (state S.Store tx.new.conn.now) result }
-    ensures found { HasCleanDisk (state S.Store tx.new.conn.now)
-        → IfOk result (λ withdrawn. Reads (state S.Store tx.old.conn.now) (state S.Store tx.new.conn.now)
-        (λ books. withdrawn ≡ head (map withdrawn_of (at film books.catalogue.films)))) }
+    ensures found { Finds (state S.Store tx.old.conn.now) (state S.Store tx.new.conn.now) result
+        (λ withdrawn books. withdrawn ≡ head (map withdrawn_of (at film books.catalogue.films))) }
 {
     let rows = query(
         tx,
@@ -171,9 +165,8 @@ pub fn film_terms<S: Alter>(
 ) -> Result<Option<FilmTerms>, StoreFault>
     ensures same_reference { tx.new.conn.ghost_name ≡ tx.old.conn.ghost_name }
     ensures inside { StaysInside (state S.Store tx.old.conn.now) (state S.Store tx.new.conn.now) result }
-    ensures found { HasCleanDisk (state S.Store tx.new.conn.now)
-        → IfOk result (λ terms. Reads (state S.Store tx.old.conn.now) (state S.Store tx.new.conn.now)
-        (λ books. option_map seen_terms terms ≡ head (map terms_of (at film books.catalogue.films)))) }
+    ensures found { Finds (state S.Store tx.old.conn.now) (state S.Store tx.new.conn.now) result
+        (λ terms books. option_map seen_terms terms ≡ head (map terms_of (at film books.catalogue.films))) }
 {
     let rows = query(
         tx,
@@ -196,9 +189,8 @@ pub fn film_title<S: Alter>(
 ) -> Result<Option<T128>, StoreFault>
     ensures same_reference { tx.new.conn.ghost_name ≡ tx.old.conn.ghost_name }
     ensures inside { StaysInside (state S.Store tx.old.conn.now) (state S.Store tx.new.conn.now) result }
-    ensures found { HasCleanDisk (state S.Store tx.new.conn.now)
-        → IfOk result (λ title. Reads (state S.Store tx.old.conn.now) (state S.Store tx.new.conn.now)
-        (λ books. title ≡ head (map title_of (at film books.catalogue.films)))) }
+    ensures found { Finds (state S.Store tx.old.conn.now) (state S.Store tx.new.conn.now) result
+        (λ title books. title ≡ head (map title_of (at film books.catalogue.films))) }
 {
     let rows = query(
         tx,

@@ -9,7 +9,7 @@ ghost use Rattle.sqlite.specs.Values.{bound};
 ghost use Rattle.sqlite_value.specs.Order.{Row as SqlRow};
 ghost use Rattle.sql_rows.specs.Calls.{StaysInside};
 ghost use Rattle.shop_model.specs.Rows.{lacks};
-ghost use Rattle.shop_schema.specs.Shop.{Reads};
+ghost use Rattle.shop_schema.specs.Calls.{Finds};
 
 use crate::reads::token_text;
 use shop_types::{ActorNo, CategoryNo, CityNo, CountryNo, FilmNo, LanguageNo, Token};
@@ -39,9 +39,8 @@ pub fn has_country<S: Alter>(
 ) -> Result<bool, StoreFault>
     ensures same_reference { tx.new.conn.ghost_name ≡ tx.old.conn.ghost_name }
     ensures inside { StaysInside (state S.Store tx.old.conn.now) (state S.Store tx.new.conn.now) result }
-    ensures found { HasCleanDisk (state S.Store tx.new.conn.now)
-        → IfOk result (λ has. Reads (state S.Store tx.old.conn.now) (state S.Store tx.new.conn.now)
-        (λ books. has ≡ not (lacks books.catalogue.countries country))) }
+    ensures found { Finds (state S.Store tx.old.conn.now) (state S.Store tx.new.conn.now) result
+        (λ has books. has ≡ not (lacks books.catalogue.countries country)) }
 {
     shows_row(
         tx,
@@ -57,9 +56,8 @@ pub fn has_language<S: Alter>(
 ) -> Result<bool, StoreFault>
     ensures same_reference { tx.new.conn.ghost_name ≡ tx.old.conn.ghost_name }
     ensures inside { StaysInside (state S.Store tx.old.conn.now) (state S.Store tx.new.conn.now) result }
-    ensures found { HasCleanDisk (state S.Store tx.new.conn.now)
-        → IfOk result (λ has. Reads (state S.Store tx.old.conn.now) (state S.Store tx.new.conn.now)
-        (λ books. has ≡ not (lacks books.catalogue.languages language))) }
+    ensures found { Finds (state S.Store tx.old.conn.now) (state S.Store tx.new.conn.now) result
+        (λ has books. has ≡ not (lacks books.catalogue.languages language)) }
 {
     shows_row(
         tx,
@@ -75,9 +73,8 @@ pub fn has_category<S: Alter>(
 ) -> Result<bool, StoreFault>
     ensures same_reference { tx.new.conn.ghost_name ≡ tx.old.conn.ghost_name }
     ensures inside { StaysInside (state S.Store tx.old.conn.now) (state S.Store tx.new.conn.now) result }
-    ensures found { HasCleanDisk (state S.Store tx.new.conn.now)
-        → IfOk result (λ has. Reads (state S.Store tx.old.conn.now) (state S.Store tx.new.conn.now)
-        (λ books. has ≡ not (lacks books.catalogue.categories category))) }
+    ensures found { Finds (state S.Store tx.old.conn.now) (state S.Store tx.new.conn.now) result
+        (λ has books. has ≡ not (lacks books.catalogue.categories category)) }
 {
     shows_row(
         tx,
@@ -90,8 +87,8 @@ pub fn has_category<S: Alter>(
 pub fn has_city<S: Alter>(tx: &mut Transaction<'_, S>, city: CityNo) -> Result<bool, StoreFault>
     ensures same_reference { tx.new.conn.ghost_name ≡ tx.old.conn.ghost_name }
     ensures inside { StaysInside (state S.Store tx.old.conn.now) (state S.Store tx.new.conn.now) result }
-    ensures found { HasCleanDisk (state S.Store tx.new.conn.now)
-        → IfOk result (λ has. Reads (state S.Store tx.old.conn.now) (state S.Store tx.new.conn.now) (λ books. has ≡ not (lacks books.catalogue.cities city))) }
+    ensures found { Finds (state S.Store tx.old.conn.now) (state S.Store tx.new.conn.now) result
+        (λ has books. has ≡ not (lacks books.catalogue.cities city)) }
 {
     shows_row(
         tx,
@@ -104,8 +101,8 @@ pub fn has_city<S: Alter>(tx: &mut Transaction<'_, S>, city: CityNo) -> Result<b
 pub fn has_actor<S: Alter>(tx: &mut Transaction<'_, S>, actor: ActorNo) -> Result<bool, StoreFault>
     ensures same_reference { tx.new.conn.ghost_name ≡ tx.old.conn.ghost_name }
     ensures inside { StaysInside (state S.Store tx.old.conn.now) (state S.Store tx.new.conn.now) result }
-    ensures found { HasCleanDisk (state S.Store tx.new.conn.now)
-        → IfOk result (λ has. Reads (state S.Store tx.old.conn.now) (state S.Store tx.new.conn.now) (λ books. has ≡ not (lacks books.catalogue.actors actor))) }
+    ensures found { Finds (state S.Store tx.old.conn.now) (state S.Store tx.new.conn.now) result
+        (λ has books. has ≡ not (lacks books.catalogue.actors actor)) }
 {
     shows_row(
         tx,
@@ -118,9 +115,8 @@ pub fn has_actor<S: Alter>(tx: &mut Transaction<'_, S>, actor: ActorNo) -> Resul
 pub fn is_country<S: Alter>(tx: &mut Transaction<'_, S>, name: &str) -> Result<bool, StoreFault>
     ensures same_reference { tx.new.conn.ghost_name ≡ tx.old.conn.ghost_name }
     ensures inside { StaysInside (state S.Store tx.old.conn.now) (state S.Store tx.new.conn.now) result }
-    ensures found { HasCleanDisk (state S.Store tx.new.conn.now)
-        → IfOk result (λ is. Reads (state S.Store tx.old.conn.now) (state S.Store tx.new.conn.now)
-        (λ books. is ≡ list_any (bytes_eq name.now) books.catalogue.countries)) }
+    ensures found { Finds (state S.Store tx.old.conn.now) (state S.Store tx.new.conn.now) result
+        (λ is books. is ≡ list_any (bytes_eq name.now) books.catalogue.countries) }
 {
     shows_row(
         tx,
@@ -133,9 +129,8 @@ pub fn is_country<S: Alter>(tx: &mut Transaction<'_, S>, name: &str) -> Result<b
 pub fn is_language<S: Alter>(tx: &mut Transaction<'_, S>, name: &str) -> Result<bool, StoreFault>
     ensures same_reference { tx.new.conn.ghost_name ≡ tx.old.conn.ghost_name }
     ensures inside { StaysInside (state S.Store tx.old.conn.now) (state S.Store tx.new.conn.now) result }
-    ensures found { HasCleanDisk (state S.Store tx.new.conn.now)
-        → IfOk result (λ is. Reads (state S.Store tx.old.conn.now) (state S.Store tx.new.conn.now)
-        (λ books. is ≡ list_any (bytes_eq name.now) books.catalogue.languages)) }
+    ensures found { Finds (state S.Store tx.old.conn.now) (state S.Store tx.new.conn.now) result
+        (λ is books. is ≡ list_any (bytes_eq name.now) books.catalogue.languages) }
 {
     shows_row(
         tx,
@@ -148,9 +143,8 @@ pub fn is_language<S: Alter>(tx: &mut Transaction<'_, S>, name: &str) -> Result<
 pub fn is_category<S: Alter>(tx: &mut Transaction<'_, S>, name: &str) -> Result<bool, StoreFault>
     ensures same_reference { tx.new.conn.ghost_name ≡ tx.old.conn.ghost_name }
     ensures inside { StaysInside (state S.Store tx.old.conn.now) (state S.Store tx.new.conn.now) result }
-    ensures found { HasCleanDisk (state S.Store tx.new.conn.now)
-        → IfOk result (λ is. Reads (state S.Store tx.old.conn.now) (state S.Store tx.new.conn.now)
-        (λ books. is ≡ list_any (bytes_eq name.now) books.catalogue.categories)) }
+    ensures found { Finds (state S.Store tx.old.conn.now) (state S.Store tx.new.conn.now) result
+        (λ is books. is ≡ list_any (bytes_eq name.now) books.catalogue.categories) }
 {
     shows_row(
         tx,
@@ -163,8 +157,8 @@ pub fn is_category<S: Alter>(tx: &mut Transaction<'_, S>, name: &str) -> Result<
 pub fn has_token<S: Alter>(tx: &mut Transaction<'_, S>, token: &Token) -> Result<bool, StoreFault>
     ensures same_reference { tx.new.conn.ghost_name ≡ tx.old.conn.ghost_name }
     ensures inside { StaysInside (state S.Store tx.old.conn.now) (state S.Store tx.new.conn.now) result }
-    ensures found { HasCleanDisk (state S.Store tx.new.conn.now) → IfOk result (λ has. Reads (state S.Store tx.old.conn.now) (state S.Store tx.new.conn.now)
-        (λ books. has ≡ list_any (λ it. bytes_eq it.token token.now) books.catalogue.branches)) }
+    ensures found { Finds (state S.Store tx.old.conn.now) (state S.Store tx.new.conn.now) result
+        (λ has books. has ≡ list_any (λ it. bytes_eq it.token token.now) books.catalogue.branches) }
 {
     shows_row(
         tx,
@@ -181,8 +175,8 @@ pub fn has_cast<S: Alter>(
 ) -> Result<bool, StoreFault>
     ensures same_reference { tx.new.conn.ghost_name ≡ tx.old.conn.ghost_name }
     ensures inside { StaysInside (state S.Store tx.old.conn.now) (state S.Store tx.new.conn.now) result }
-    ensures found { HasCleanDisk (state S.Store tx.new.conn.now) → IfOk result (λ has. Reads (state S.Store tx.old.conn.now) (state S.Store tx.new.conn.now)
-        (λ books. has ≡ list_any (λ it. it.film == film && it.actor == actor) books.catalogue.casts)) }
+    ensures found { Finds (state S.Store tx.old.conn.now) (state S.Store tx.new.conn.now) result
+        (λ has books. has ≡ list_any (λ it. it.film == film && it.actor == actor) books.catalogue.casts) }
 {
     shows_row(
         tx,

@@ -1,11 +1,10 @@
 //! What head office sets in shared rows that are there. A row that isn't there is not made.
 
-ghost use Rattle.std.specs.Prelude.{⊤, ◌≡◌, OnOk, Some, true};
+ghost use Rattle.std.specs.Prelude.{⊤, ◌≡◌, Some, true};
 ghost use Rattle.sqlite.specs.Held.{state};
-ghost use Rattle.sqlite.specs.State.{HasCleanDisk};
 ghost use Rattle.sql_rows.specs.Calls.{StaysInside};
 ghost use Rattle.shop_model.specs.Rows.{set_at};
-ghost use Rattle.shop_schema.specs.Shop.{Writes};
+ghost use Rattle.shop_schema.specs.Calls.{Stores};
 
 use shop_types::{BranchNo, FilmNo, Rate, StaffNo};
 use sql_rows::{StoreFault, execute};
@@ -20,8 +19,8 @@ pub fn set_rate<S: Alter>(
 ) -> Result<(), StoreFault>
     ensures same_reference { tx.new.conn.ghost_name ≡ tx.old.conn.ghost_name }
     ensures inside { StaysInside (state S.Store tx.old.conn.now) (state S.Store tx.new.conn.now) result }
-    ensures set { HasCleanDisk (state S.Store tx.new.conn.now) → OnOk result (Writes (state S.Store tx.old.conn.now) (state S.Store tx.new.conn.now) (λ _. ⊤)
-        (λ books. record books { catalogue = record books.catalogue { films = set_at film (λ f. record f { rate = rate }) books.catalogue.films } })) }
+    ensures set { Stores (state S.Store tx.old.conn.now) (state S.Store tx.new.conn.now) result (λ _. ⊤)
+        (λ books. record books { catalogue = record books.catalogue { films = set_at film (λ f. record f { rate = rate }) books.catalogue.films } }) }
 {
     execute(
         tx,
@@ -34,8 +33,8 @@ pub fn set_rate<S: Alter>(
 pub fn set_withdrawn<S: Alter>(tx: &mut Transaction<'_, S>, film: FilmNo) -> Result<(), StoreFault>
     ensures same_reference { tx.new.conn.ghost_name ≡ tx.old.conn.ghost_name }
     ensures inside { StaysInside (state S.Store tx.old.conn.now) (state S.Store tx.new.conn.now) result }
-    ensures set { HasCleanDisk (state S.Store tx.new.conn.now) → OnOk result (Writes (state S.Store tx.old.conn.now) (state S.Store tx.new.conn.now) (λ _. ⊤)
-        (λ books. record books { catalogue = record books.catalogue { films = set_at film (λ f. record f { withdrawn = true }) books.catalogue.films } })) }
+    ensures set { Stores (state S.Store tx.old.conn.now) (state S.Store tx.new.conn.now) result (λ _. ⊤)
+        (λ books. record books { catalogue = record books.catalogue { films = set_at film (λ f. record f { withdrawn = true }) books.catalogue.films } }) }
 {
     execute(
         tx,
@@ -48,8 +47,8 @@ pub fn set_withdrawn<S: Alter>(tx: &mut Transaction<'_, S>, film: FilmNo) -> Res
 pub fn set_gone<S: Alter>(tx: &mut Transaction<'_, S>, staff: StaffNo) -> Result<(), StoreFault>
     ensures same_reference { tx.new.conn.ghost_name ≡ tx.old.conn.ghost_name }
     ensures inside { StaysInside (state S.Store tx.old.conn.now) (state S.Store tx.new.conn.now) result }
-    ensures set { HasCleanDisk (state S.Store tx.new.conn.now) → OnOk result (Writes (state S.Store tx.old.conn.now) (state S.Store tx.new.conn.now) (λ _. ⊤)
-        (λ books. record books { catalogue = record books.catalogue { staff = set_at staff (λ r. record r { gone = true }) books.catalogue.staff } })) }
+    ensures set { Stores (state S.Store tx.old.conn.now) (state S.Store tx.new.conn.now) result (λ _. ⊤)
+        (λ books. record books { catalogue = record books.catalogue { staff = set_at staff (λ r. record r { gone = true }) books.catalogue.staff } }) }
 {
     execute(
         tx,
@@ -66,13 +65,13 @@ pub fn set_manager<S: Alter>(
 ) -> Result<(), StoreFault>
     ensures same_reference { tx.new.conn.ghost_name ≡ tx.old.conn.ghost_name }
     ensures inside { StaysInside (state S.Store tx.old.conn.now) (state S.Store tx.new.conn.now) result }
-    ensures set { HasCleanDisk (state S.Store tx.new.conn.now) → OnOk result (Writes (state S.Store tx.old.conn.now) (state S.Store tx.new.conn.now) (λ _. ⊤)
+    ensures set { Stores (state S.Store tx.old.conn.now) (state S.Store tx.new.conn.now) result (λ _. ⊤)
         (λ books. record books {
           catalogue = record books.catalogue {
             branches = set_at branch
                 (λ r. record r { manager = Some staff }) books.catalogue.branches;
           };
-        })) }
+        }) }
 {
     execute(
         tx,

@@ -6,7 +6,7 @@ ghost use Rattle.sqlite.specs.State.{HasCleanDisk};
 ghost use Rattle.sql_rows.specs.Calls.{StaysWithin};
 ghost use Rattle.shop_model.specs.Values as model;
 ghost use Rattle.shop_types.specs.Seen.{seen_film, seen_branch, seen_staff, seen_office_act, seen_office};
-ghost use Rattle.shop_schema.specs.Shop.{Reads};
+ghost use Rattle.shop_schema.specs.Calls.{Finds};
 ghost use Rattle.catalogue_core.specs.Shares.{Shares, seen_branch_found};
 ghost use Rattle.office_finds.specs.Found.{shared_of, IsKeptFor, FindsFor};
 
@@ -39,9 +39,9 @@ pub fn find<S: Alter>(
 ) -> Result<SharedFound, StoreFault>
     ensures same_reference { tx.new.conn.ghost_name ≡ tx.old.conn.ghost_name }
     ensures inside { StaysWithin (state S.Store tx.old.conn.now) (state S.Store tx.new.conn.now) result }
-    ensures found { HasCleanDisk (state S.Store tx.new.conn.now) → IfOk result (λ found.
-        Reads (state S.Store tx.old.conn.now) (state S.Store tx.new.conn.now) (λ books. (kept : _)
-        → IsKeptFor (seen_office command.now) kept books → Shares books.catalogue (seen_office command.now) (shared_of kept found))) }
+    ensures found { Finds (state S.Store tx.old.conn.now) (state S.Store tx.new.conn.now) result
+        (λ found books. (kept : _)
+        → IsKeptFor (seen_office command.now) kept books → Shares books.catalogue (seen_office command.now) (shared_of kept found)) }
 {
     let keys = office_keys(tx)?;
     let token = office_token(tx)?;

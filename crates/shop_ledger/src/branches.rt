@@ -1,10 +1,9 @@
-ghost use Rattle.std.specs.Prelude.{◌≡◌, ⊤, IfOk, OnOk, if◌then◌else◌, Some, None};
+ghost use Rattle.std.specs.Prelude.{◌≡◌, ⊤, if◌then◌else◌, Some, None};
 ghost use Rattle.sqlite.specs.Held.{state};
-ghost use Rattle.sqlite.specs.State.{HasCleanDisk};
 ghost use Rattle.sql_rows.specs.Calls.{StaysInside};
 ghost use Rattle.shop_model.specs.Rows.{lacks, owned_by};
 ghost use Rattle.shop_model.specs.Books.{head, set_last};
-ghost use Rattle.shop_schema.specs.Shop.{Reads, Writes};
+ghost use Rattle.shop_schema.specs.Calls.{Finds, Stores};
 
 use shop_schema::{MomentText, moment_or_null_at};
 use shop_types::{BranchNo, Moment};
@@ -19,8 +18,8 @@ pub fn last_at<S: Alter>(
 ) -> Result<Option<Option<Moment>>, StoreFault>
     ensures same_reference { tx.new.conn.ghost_name ≡ tx.old.conn.ghost_name }
     ensures inside { StaysInside (state S.Store tx.old.conn.now) (state S.Store tx.new.conn.now) result }
-    ensures found { HasCleanDisk (state S.Store tx.new.conn.now) → IfOk result (λ last. Reads (state S.Store tx.old.conn.now) (state S.Store tx.new.conn.now)
-        (λ books. last ≡ (if lacks books.catalogue.branches branch then None else Some (head (owned_by branch books.lasts))))) }
+    ensures found { Finds (state S.Store tx.old.conn.now) (state S.Store tx.new.conn.now) result
+        (λ last books. last ≡ (if lacks books.catalogue.branches branch then None else Some (head (owned_by branch books.lasts)))) }
 {
     let rows = query(
         tx,
@@ -41,9 +40,8 @@ pub fn set_last<S: Alter>(
 ) -> Result<(), StoreFault>
     ensures same_reference { tx.new.conn.ghost_name ≡ tx.old.conn.ghost_name }
     ensures inside { StaysInside (state S.Store tx.old.conn.now) (state S.Store tx.new.conn.now) result }
-    ensures set { HasCleanDisk (state S.Store tx.new.conn.now)
-        → OnOk result (Writes (state S.Store tx.old.conn.now) (state S.Store tx.new.conn.now) (λ _. ⊤)
-        (λ books. record books { lasts = set_last branch moment books.lasts })) }
+    ensures set { Stores (state S.Store tx.old.conn.now) (state S.Store tx.new.conn.now) result (λ _. ⊤)
+        (λ books. record books { lasts = set_last branch moment books.lasts }) }
 {
     let last = MomentText::of(moment);
     execute(

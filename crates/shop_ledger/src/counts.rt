@@ -6,6 +6,7 @@ ghost use Rattle.sql_rows.specs.Calls.{StaysInside};
 ghost use Rattle.sql_rows.specs.Rows.{number_value};
 ghost use Rattle.shop_model.specs.Rows.{numbered, of};
 ghost use Rattle.shop_model.specs.Stock.{keeps_out};
+ghost use Rattle.shop_schema.specs.Calls.{Finds};
 ghost use Rattle.shop_schema.specs.Counts.{count_in, is_count, kept_kind, raise, put_out, drop_out};
 ghost use Rattle.shop_schema.specs.Shop.{Reads, Tallies};
 ghost use Rattle.shop_ledger.specs.Counted.{kind_number, CountsOnce, IsOutBy};
@@ -75,9 +76,8 @@ pub fn count_of<S: Alter>(
 ) -> Result<u32, StoreFault>
     ensures same_reference { tx.new.conn.ghost_name ≡ tx.old.conn.ghost_name }
     ensures inside { StaysInside (state S.Store tx.old.conn.now) (state S.Store tx.new.conn.now) result }
-    ensures count { HasCleanDisk (state S.Store tx.new.conn.now)
-        → IfOk result (λ count. Reads (state S.Store tx.old.conn.now) (state S.Store tx.new.conn.now)
-        (λ books. count ≡ count_in (kind_number kind) branch books)) }
+    ensures count { Finds (state S.Store tx.old.conn.now) (state S.Store tx.new.conn.now) result
+        (λ count books. count ≡ count_in (kind_number kind) branch books) }
 {
     count_by(tx, branch.get(), kind)
 }
@@ -86,8 +86,8 @@ pub fn count_of<S: Alter>(
 pub fn office_keys<S: Alter>(tx: &mut Transaction<'_, S>) -> Result<u32, StoreFault>
     ensures same_reference { tx.new.conn.ghost_name ≡ tx.old.conn.ghost_name }
     ensures inside { StaysInside (state S.Store tx.old.conn.now) (state S.Store tx.new.conn.now) result }
-    ensures count { HasCleanDisk (state S.Store tx.new.conn.now)
-        → IfOk result (λ count. Reads (state S.Store tx.old.conn.now) (state S.Store tx.new.conn.now) (λ books. count ≡ length books.catalogue.kept)) }
+    ensures count { Finds (state S.Store tx.old.conn.now) (state S.Store tx.new.conn.now) result
+        (λ count books. count ≡ length books.catalogue.kept) }
 {
     count_by(tx, 0, CountKind::Kept)
 }
@@ -187,8 +187,8 @@ pub fn out_at<S: Alter>(
 ) -> Result<Option<RentalNo>, StoreFault>
     ensures same_reference { tx.new.conn.ghost_name ≡ tx.old.conn.ghost_name }
     ensures inside { StaysInside (state S.Store tx.old.conn.now) (state S.Store tx.new.conn.now) result }
-    ensures found { HasCleanDisk (state S.Store tx.new.conn.now) → IfOk result (λ out. Reads (state S.Store tx.old.conn.now) (state S.Store tx.new.conn.now)
-        (λ books. option_to_list out ≡ map (λ it. it.0) (filter (λ it. keeps_out copy it.1) (numbered (of branch books.rentals))))) }
+    ensures found { Finds (state S.Store tx.old.conn.now) (state S.Store tx.new.conn.now) result
+        (λ out books. option_to_list out ≡ map (λ it. it.0) (filter (λ it. keeps_out copy it.1) (numbered (of branch books.rentals)))) }
 {
     let rows = query(
         tx,
@@ -209,8 +209,8 @@ pub fn rentals_out<S: Alter>(
 ) -> Result<Vec<RentalNo>, StoreFault>
     ensures same_reference { tx.new.conn.ghost_name ≡ tx.old.conn.ghost_name }
     ensures inside { StaysInside (state S.Store tx.old.conn.now) (state S.Store tx.new.conn.now) result }
-    ensures found { HasCleanDisk (state S.Store tx.new.conn.now) → IfOk result (λ rentals. Reads (state S.Store tx.old.conn.now) (state S.Store tx.new.conn.now)
-        (λ books. rentals.items ≡ map (λ it. it.0) (filter (λ it. is_none it.1.returned) (numbered (of branch books.rentals))))) }
+    ensures found { Finds (state S.Store tx.old.conn.now) (state S.Store tx.new.conn.now) result
+        (λ rentals books. rentals.items ≡ map (λ it. it.0) (filter (λ it. is_none it.1.returned) (numbered (of branch books.rentals)))) }
 {
     let rows = query(
         tx,

@@ -7,6 +7,7 @@ ghost use Rattle.shop_model.specs.Rows.{owned_by};
 ghost use Rattle.shop_model.specs.Values as model;
 ghost use Rattle.shop_model.specs.Books.{head};
 ghost use Rattle.shop_types.specs.Verdicts.{seen_kept as told};
+ghost use Rattle.shop_schema.specs.Calls.{Finds};
 ghost use Rattle.shop_schema.specs.Forms.{command_form, office_command_form};
 ghost use Rattle.shop_schema.specs.Shop.{Reads, Writes};
 ghost use Rattle.shop_ledger.specs.Seen.{seen_kept, by_form, stored_kept, stored_office_kept};
@@ -73,8 +74,8 @@ pub fn kept_at<S: Alter>(
 ) -> Result<Option<KeptRow>, StoreFault>
     ensures same_reference { tx.new.conn.ghost_name ≡ tx.old.conn.ghost_name }
     ensures inside { StaysInside (state S.Store tx.old.conn.now) (state S.Store tx.new.conn.now) result }
-    ensures found { HasCleanDisk (state S.Store tx.new.conn.now) → IfOk result (λ kept. Reads (state S.Store tx.old.conn.now) (state S.Store tx.new.conn.now)
-        (λ books. option_map seen_kept kept ≡ head (map stored_kept (filter (λ it. bytes_eq it.command.key key.now) (owned_by branch books.kept))))) }
+    ensures found { Finds (state S.Store tx.old.conn.now) (state S.Store tx.new.conn.now) result
+        (λ kept books. option_map seen_kept kept ≡ head (map stored_kept (filter (λ it. bytes_eq it.command.key key.now) (owned_by branch books.kept)))) }
 {
     kept_by(tx, branch.get(), key)
 }
@@ -86,8 +87,8 @@ pub fn office_kept_at<S: Alter>(
 ) -> Result<Option<KeptRow>, StoreFault>
     ensures same_reference { tx.new.conn.ghost_name ≡ tx.old.conn.ghost_name }
     ensures inside { StaysInside (state S.Store tx.old.conn.now) (state S.Store tx.new.conn.now) result }
-    ensures found { HasCleanDisk (state S.Store tx.new.conn.now) → IfOk result (λ kept. Reads (state S.Store tx.old.conn.now) (state S.Store tx.new.conn.now)
-        (λ books. option_map seen_kept kept ≡ head (map stored_office_kept (filter (λ it. bytes_eq it.command.key key.now) books.catalogue.kept)))) }
+    ensures found { Finds (state S.Store tx.old.conn.now) (state S.Store tx.new.conn.now) result
+        (λ kept books. option_map seen_kept kept ≡ head (map stored_office_kept (filter (λ it. bytes_eq it.command.key key.now) books.catalogue.kept))) }
 {
     kept_by(tx, 0, key)
 }

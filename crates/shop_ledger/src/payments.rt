@@ -1,6 +1,5 @@
-ghost use Rattle.std.specs.Prelude.{⊤, ◌≡◌, ◌≢◌, ◌==◌, ◌&&◌, ◌≤◌, ◌<◌, ℕ, [], ◌∷◌, ◌++◌, OnOk, IfOk, IfErr, filter, map, length};
+ghost use Rattle.std.specs.Prelude.{⊤, ◌≡◌, ◌≢◌, ◌==◌, ◌&&◌, ◌≤◌, ◌<◌, ℕ, [], ◌∷◌, ◌++◌, IfOk, IfErr, filter, map, length};
 ghost use Rattle.sqlite.specs.Held.{state};
-ghost use Rattle.sqlite.specs.State.{HasCleanDisk};
 ghost use Rattle.sqlite.specs.Values.{bound, or_null};
 ghost use Rattle.sqlite_value.specs.Order.{column};
 ghost use Rattle.sqlite_value.specs.Value.{owned};
@@ -10,9 +9,9 @@ ghost use Rattle.sql_rows.specs.declared.fault.StoreFault.TheVariants.{Failed};
 ghost use Rattle.shop_model.specs.Calendar.{moment_text, is_by, is_earlier};
 ghost use Rattle.shop_model.specs.Rows.{of};
 ghost use Rattle.shop_types.specs.Seen.{seen_payment};
+ghost use Rattle.shop_schema.specs.Calls.{Finds, Stores};
 ghost use Rattle.shop_schema.specs.Columns.{payment_columns};
 ghost use Rattle.shop_schema.specs.RowValues.{IsRow, IsPayment};
-ghost use Rattle.shop_schema.specs.Shop.{Reads, Writes};
 ghost use Rattle.shop_ledger.specs.Seen.{seen_payment_row};
 
 use shop_schema::{MomentText, moment_at, row_number_at, row_number_or_null_at};
@@ -100,8 +99,8 @@ pub fn payments_of_customer<S: Alter>(
 ) -> Result<Vec<PaymentRow>, StoreFault>
     ensures same_reference { tx.new.conn.ghost_name ≡ tx.old.conn.ghost_name }
     ensures inside { StaysInside (state S.Store tx.old.conn.now) (state S.Store tx.new.conn.now) result }
-    ensures rows { HasCleanDisk (state S.Store tx.new.conn.now) → IfOk result (λ rows. Reads (state S.Store tx.old.conn.now) (state S.Store tx.new.conn.now)
-        (λ books. map (λ row. seen_payment row.payment) rows.items ≡ filter (λ it. it.customer == customer) (of branch books.payments))) }
+    ensures rows { Finds (state S.Store tx.old.conn.now) (state S.Store tx.new.conn.now) result
+        (λ rows books. map (λ row. seen_payment row.payment) rows.items ≡ filter (λ it. it.customer == customer) (of branch books.payments)) }
 {
     let rows = query(
         tx,
@@ -121,8 +120,8 @@ pub fn payments_between<S: Alter>(
 ) -> Result<Vec<PaymentRow>, StoreFault>
     ensures same_reference { tx.new.conn.ghost_name ≡ tx.old.conn.ghost_name }
     ensures inside { StaysInside (state S.Store tx.old.conn.now) (state S.Store tx.new.conn.now) result }
-    ensures rows { HasCleanDisk (state S.Store tx.new.conn.now) → IfOk result (λ rows. Reads (state S.Store tx.old.conn.now) (state S.Store tx.new.conn.now)
-        (λ books. map (λ row. seen_payment row.payment) rows.items ≡ filter (λ it. is_by start it.paid && is_earlier it.paid end) (of branch books.payments))) }
+    ensures rows { Finds (state S.Store tx.old.conn.now) (state S.Store tx.new.conn.now) result
+        (λ rows books. map (λ row. seen_payment row.payment) rows.items ≡ filter (λ it. is_by start it.paid && is_earlier it.paid end) (of branch books.payments)) }
 {
     let _real = start.text();
     let _also = end.text();
@@ -147,9 +146,8 @@ pub fn put_payment<S: Alter>(
 ) -> Result<(), StoreFault>
     ensures same_reference { tx.new.conn.ghost_name ≡ tx.old.conn.ghost_name }
     ensures inside { StaysInside (state S.Store tx.old.conn.now) (state S.Store tx.new.conn.now) result }
-    ensures put { HasCleanDisk (state S.Store tx.new.conn.now)
-        → OnOk result (Writes (state S.Store tx.old.conn.now) (state S.Store tx.new.conn.now) (λ _. ⊤)
-        (λ books. record books { payments = books.payments ++ seen_payment_row row.now ∷ [] })) }
+    ensures put { Stores (state S.Store tx.old.conn.now) (state S.Store tx.new.conn.now) result (λ _. ⊤)
+        (λ books. record books { payments = books.payments ++ seen_payment_row row.now ∷ [] }) }
 {
     let paid = MomentText::of(row.payment.paid);
     execute(

@@ -1,15 +1,14 @@
-ghost use Rattle.std.specs.Prelude.{⊤, ◌≡◌, [], ◌∷◌, ◌++◌, OnOk, IfOk, option_map, option_to_list};
+ghost use Rattle.std.specs.Prelude.{⊤, ◌≡◌, [], ◌∷◌, ◌++◌, option_map, option_to_list};
 ghost use Rattle.sqlite.specs.Held.{state};
-ghost use Rattle.sqlite.specs.State.{HasCleanDisk};
 ghost use Rattle.sqlite.specs.Values.{bound};
 ghost use Rattle.sql_rows.specs.Calls.{StaysInside};
 ghost use Rattle.shop_model.specs.Calendar.{moment_text};
 ghost use Rattle.shop_model.specs.Rows.{at, of, set_row};
 ghost use Rattle.shop_types.specs.Seen.{seen_customer};
+ghost use Rattle.shop_schema.specs.Calls.{Finds, Stores};
 ghost use Rattle.shop_schema.specs.Columns.{customer_columns};
 ghost use Rattle.shop_schema.specs.RowValues.{IsRow, IsCustomer};
 ghost use Rattle.shop_schema.specs.Held.{IsHeld};
-ghost use Rattle.shop_schema.specs.Shop.{Reads, Writes};
 ghost use Rattle.shop_store.specs.Seen.{seen_row};
 
 use shop_schema::{MomentText, moment_at, row_number_at, text_at};
@@ -83,9 +82,8 @@ pub fn customer_at<S: Alter>(
 ) -> Result<Option<CustomerRow>, StoreFault>
     ensures same_reference { tx.new.conn.ghost_name ≡ tx.old.conn.ghost_name }
     ensures inside { StaysInside (state S.Store tx.old.conn.now) (state S.Store tx.new.conn.now) result }
-    ensures row { HasCleanDisk (state S.Store tx.new.conn.now)
-        → IfOk result (λ row. Reads (state S.Store tx.old.conn.now) (state S.Store tx.new.conn.now)
-        (λ books. option_to_list (option_map (λ it. seen_customer it.customer) row) ≡ at number (of branch books.customers))) }
+    ensures row { Finds (state S.Store tx.old.conn.now) (state S.Store tx.new.conn.now) result
+        (λ row books. option_to_list (option_map (λ it. seen_customer it.customer) row) ≡ at number (of branch books.customers)) }
 {
     let rows = query(
         tx,
@@ -102,9 +100,8 @@ pub fn put_customer<S: Alter>(
 ) -> Result<(), StoreFault>
     ensures same_reference { tx.new.conn.ghost_name ≡ tx.old.conn.ghost_name }
     ensures inside { StaysInside (state S.Store tx.old.conn.now) (state S.Store tx.new.conn.now) result }
-    ensures put { HasCleanDisk (state S.Store tx.new.conn.now)
-        → OnOk result (Writes (state S.Store tx.old.conn.now) (state S.Store tx.new.conn.now) (λ _. ⊤)
-        (λ books. record books { customers = books.customers ++ seen_row row.now ∷ [] })) }
+    ensures put { Stores (state S.Store tx.old.conn.now) (state S.Store tx.new.conn.now) result (λ _. ⊤)
+        (λ books. record books { customers = books.customers ++ seen_row row.now ∷ [] }) }
 {
     let created = MomentText::of(row.customer.created);
     execute(
@@ -123,9 +120,8 @@ pub fn set_active<S: Alter>(
 ) -> Result<(), StoreFault>
     ensures same_reference { tx.new.conn.ghost_name ≡ tx.old.conn.ghost_name }
     ensures inside { StaysInside (state S.Store tx.old.conn.now) (state S.Store tx.new.conn.now) result }
-    ensures set { HasCleanDisk (state S.Store tx.new.conn.now)
-        → OnOk result (Writes (state S.Store tx.old.conn.now) (state S.Store tx.new.conn.now) IsHeld
-        (λ books. record books { customers = set_row branch number (λ it. record it { active = active }) books.customers })) }
+    ensures set { Stores (state S.Store tx.old.conn.now) (state S.Store tx.new.conn.now) result IsHeld
+        (λ books. record books { customers = set_row branch number (λ it. record it { active = active }) books.customers }) }
 {
     execute(
         tx,

@@ -1,16 +1,15 @@
-ghost use Rattle.std.specs.Prelude.{⊤, ◌≡◌, ◌==◌, ◌&&◌, [], ◌∷◌, ◌++◌, Some, OnOk, IfOk, filter, map, option_map, option_to_list};
+ghost use Rattle.std.specs.Prelude.{⊤, ◌≡◌, ◌==◌, ◌&&◌, [], ◌∷◌, ◌++◌, Some, filter, map, option_map, option_to_list};
 ghost use Rattle.sqlite.specs.Held.{state};
-ghost use Rattle.sqlite.specs.State.{HasCleanDisk};
 ghost use Rattle.sqlite.specs.Values.{bound};
 ghost use Rattle.sql_rows.specs.Calls.{StaysInside};
 ghost use Rattle.std.specs.List.{list_any};
 ghost use Rattle.shop_model.specs.Calendar.{moment_text, same_moment};
 ghost use Rattle.shop_model.specs.Rows.{at, of, set_row};
 ghost use Rattle.shop_types.specs.Seen.{seen_rental};
+ghost use Rattle.shop_schema.specs.Calls.{Finds, Stores};
 ghost use Rattle.shop_schema.specs.Columns.{rental_columns};
 ghost use Rattle.shop_schema.specs.RowValues.{IsRow, IsRental};
 ghost use Rattle.shop_schema.specs.Held.{IsHeld};
-ghost use Rattle.shop_schema.specs.Shop.{Reads, Writes};
 ghost use Rattle.shop_store.specs.Seen.{seen_rental_row, opened_row};
 
 use shop_schema::{MomentText, moment_at, moment_or_null_at, row_number_at};
@@ -75,9 +74,8 @@ pub fn rental_at<S: Alter>(
 ) -> Result<Option<RentalRow>, StoreFault>
     ensures same_reference { tx.new.conn.ghost_name ≡ tx.old.conn.ghost_name }
     ensures inside { StaysInside (state S.Store tx.old.conn.now) (state S.Store tx.new.conn.now) result }
-    ensures row { HasCleanDisk (state S.Store tx.new.conn.now)
-        → IfOk result (λ row. Reads (state S.Store tx.old.conn.now) (state S.Store tx.new.conn.now)
-        (λ books. option_to_list (option_map (λ it. seen_rental it.rental) row) ≡ at number (of branch books.rentals))) }
+    ensures row { Finds (state S.Store tx.old.conn.now) (state S.Store tx.new.conn.now) result
+        (λ row books. option_to_list (option_map (λ it. seen_rental it.rental) row) ≡ at number (of branch books.rentals)) }
 {
     let rows = query(
         tx,
@@ -97,8 +95,8 @@ pub fn has_rental<S: Alter>(
 ) -> Result<bool, StoreFault>
     ensures same_reference { tx.new.conn.ghost_name ≡ tx.old.conn.ghost_name }
     ensures inside { StaysInside (state S.Store tx.old.conn.now) (state S.Store tx.new.conn.now) result }
-    ensures found { HasCleanDisk (state S.Store tx.new.conn.now) → IfOk result (λ has. Reads (state S.Store tx.old.conn.now) (state S.Store tx.new.conn.now)
-        (λ books. has ≡ list_any (λ it. same_moment it.rented rented && it.copy == copy && it.customer == customer) (of branch books.rentals))) }
+    ensures found { Finds (state S.Store tx.old.conn.now) (state S.Store tx.new.conn.now) result
+        (λ has books. has ≡ list_any (λ it. same_moment it.rented rented && it.copy == copy && it.customer == customer) (of branch books.rentals)) }
 {
     let _real = rented.text();
     let text = MomentText::of(rented);
@@ -124,8 +122,8 @@ pub fn rentals_of_customer<S: Alter>(
 ) -> Result<Vec<RentalRow>, StoreFault>
     ensures same_reference { tx.new.conn.ghost_name ≡ tx.old.conn.ghost_name }
     ensures inside { StaysInside (state S.Store tx.old.conn.now) (state S.Store tx.new.conn.now) result }
-    ensures rows { HasCleanDisk (state S.Store tx.new.conn.now) → IfOk result (λ rows. Reads (state S.Store tx.old.conn.now) (state S.Store tx.new.conn.now)
-        (λ books. map (λ row. seen_rental row.rental) rows.items ≡ filter (λ it. it.customer == customer) (of branch books.rentals))) }
+    ensures rows { Finds (state S.Store tx.old.conn.now) (state S.Store tx.new.conn.now) result
+        (λ rows books. map (λ row. seen_rental row.rental) rows.items ≡ filter (λ it. it.customer == customer) (of branch books.rentals)) }
 {
     let rows = query(
         tx,
@@ -139,9 +137,8 @@ pub fn rentals_of_customer<S: Alter>(
 pub fn put_rental<S: Alter>(tx: &mut Transaction<'_, S>, row: &RentalRow) -> Result<(), StoreFault>
     ensures same_reference { tx.new.conn.ghost_name ≡ tx.old.conn.ghost_name }
     ensures inside { StaysInside (state S.Store tx.old.conn.now) (state S.Store tx.new.conn.now) result }
-    ensures put { HasCleanDisk (state S.Store tx.new.conn.now)
-        → OnOk result (Writes (state S.Store tx.old.conn.now) (state S.Store tx.new.conn.now) (λ _. ⊤)
-        (λ books. record books { rentals = books.rentals ++ opened_row row.now ∷ [] })) }
+    ensures put { Stores (state S.Store tx.old.conn.now) (state S.Store tx.new.conn.now) result (λ _. ⊤)
+        (λ books. record books { rentals = books.rentals ++ opened_row row.now ∷ [] }) }
 {
     let rented = MomentText::of(row.rental.rented);
     execute(
@@ -160,9 +157,8 @@ pub fn set_returned<S: Alter>(
 ) -> Result<(), StoreFault>
     ensures same_reference { tx.new.conn.ghost_name ≡ tx.old.conn.ghost_name }
     ensures inside { StaysInside (state S.Store tx.old.conn.now) (state S.Store tx.new.conn.now) result }
-    ensures set { HasCleanDisk (state S.Store tx.new.conn.now)
-        → OnOk result (Writes (state S.Store tx.old.conn.now) (state S.Store tx.new.conn.now) IsHeld
-        (λ books. record books { rentals = set_row branch number (λ it. record it { returned = Some moment }) books.rentals })) }
+    ensures set { Stores (state S.Store tx.old.conn.now) (state S.Store tx.new.conn.now) result IsHeld
+        (λ books. record books { rentals = set_row branch number (λ it. record it { returned = Some moment }) books.rentals }) }
 {
     let returned = MomentText::of(moment);
     execute(
