@@ -5,7 +5,7 @@ use Rattle.shop_values.specs.LimitValues.{Limits}
 use Rattle.shop_model.specs.Calendar.{Moment}
 use Rattle.shop_model.specs.Rows.{lacks, owned_by}
 use Rattle.shop_model.specs.Values.{Command, OneView}
-use Rattle.shop_model.specs.Machine.{Request, Look, Done, reply_text}
+use Rattle.shop_model.specs.Machine.{Request, Do, Look, Done, reply_text}
 use Rattle.shop_model.specs.Answers.{Answer, answer_of}
 use Rattle.shop_model.specs.Books.{Books, Counter, head, shop_of, book_done, known_caller, reply_for, after_for}
 use Rattle.shop_model.specs.Office.{office_look}
@@ -13,7 +13,9 @@ use Rattle.shop_types.specs.Seen.{seen_view}
 use Rattle.shop_types.specs.Replies.{seen_reply}
 use Rattle.shop_schema.specs.Held.{IsHeld}
 use Rattle.shop_schema.specs.Shop.{Holds}
+use Rattle.branch_core.specs.Agreed.{Agrees}
 use Rattle.branch_core.specs.Decided.{Adds}
+use Rattle.branch_core.specs.declared.found.Found.{Found}
 use Rattle.branch_core.specs.declared.change.Rows.{Rows}
 use Rattle.branch_work.specs.declared.working.Worked.{Worked}
 use Rattle.branch_work.specs.declared.working.Worked.TheVariants.{Answered, Shows}
@@ -44,6 +46,12 @@ Works limits b request worked old new = (books : Books) → Holds old books → 
 abbrev pub WorksFor : Limits → ℕ → Option Moment → Request → Answer → Bool → State → State → Type 0
 WorksFor limits b last request answer is_changed old new =
     (books : Books) → Holds old books → IsHeld books → lacks books.catalogue.branches b ≡ false → last ≡ head (owned_by b books.lasts) → IsDone limits b request answer is_changed new books
+
+-- the same of a branch that is there, where this was found for the decision
+abbrev pub WorksBy : Limits → ℕ → Command → Found → Answer → Bool → State → State → Type 0
+WorksBy limits b command found answer is_changed old new =
+    (books : Books) → Holds old books → IsHeld books → lacks books.catalogue.branches b ≡ false → Agrees (rules_of limits) books.catalogue (shop_of b books) command found
+    → IsDone limits b (Do command) answer is_changed new books
 
 -- with the rows of an accepted command the tables come to stand for the books after it, and the reply is its own
 abbrev pub IsAdded : Limits → ℕ → Command → Rows → Answer → State → State → Type 0

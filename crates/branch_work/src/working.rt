@@ -13,11 +13,12 @@ ghost use Rattle.shop_model.specs.Answers.{answer_of};
 ghost use Rattle.shop_types.specs.Seen.{seen_command, seen_refusal, seen_request};
 ghost use Rattle.shop_types.specs.Replies.{seen_reply};
 ghost use Rattle.shop_schema.specs.Forms.{command_form};
+ghost use Rattle.branch_core.specs.Agreed.{IsWithin};
 ghost use Rattle.branch_core.specs.Decided.{AreWithin, IsRefused};
-ghost use Rattle.branch_work.specs.Works.{Works, WorksFor, IsAdded};
+ghost use Rattle.branch_work.specs.Works.{Works, WorksFor, WorksBy, IsAdded};
 
 use crate::adding::{add_rows, keep};
-use branch_core::{Change, Rows, decide};
+use branch_core::{Change, Found, Rows, decide};
 use branch_looks::{find_for_command, look};
 use shop_ledger::{kept_at, kept_found, last_at};
 use shop_schema::{command_form, command_values};
@@ -96,13 +97,34 @@ fn act<S: Alter>(
         last,
         kept_found(kept.as_ref(), &form),
     )?;
-    match decide(branch, command, &found, limits) {
+    carry_out(alloc, tx, limits, branch, command, &form, &found)
+}
+
+/// Answers a command by what was found for its decision.
+fn carry_out<S: Alter>(
+    alloc: Global,
+    tx: &mut Transaction<'_, S>,
+    limits: Limits,
+    branch: BranchNo,
+    command: &Command,
+    form: &Bytes,
+    found: &Found<'_>,
+) -> Result<(Reply, bool), StoreFault>
+    requires form { form.now ≡ command_form (seen_command command.now) }
+    requires within { IsWithin found.now }
+    ensures same_reference { tx.new.conn.ghost_name ≡ tx.old.conn.ghost_name }
+    ensures inside { StaysWithin (state S.Store tx.old.conn.now) (state S.Store tx.new.conn.now) result }
+    ensures works { HasCleanDisk (state S.Store tx.new.conn.now)
+        → IfOk result (λ done. WorksBy limits branch (seen_command command.now) found.now (seen_reply done.0) done.1 (state S.Store tx.old.conn.now)
+        (state S.Store tx.new.conn.now)) }
+{
+    match decide(branch, command, found, limits) {
         Ok(Change::Again(reply)) => match String::from_str(alloc, reply) {
             Ok(text) => Ok((Reply::accepted(text), false)),
             Err(_) => Err(StoreFault::Memory),
         },
         Ok(Change::Rows(rows)) => {
-            let reply = add(alloc, tx, branch, command, &form, rows)?;
+            let reply = add(alloc, tx, branch, command, form, rows)?;
             Ok((reply, true))
         }
         Err(refusal) => Ok((refuse(alloc, refusal)?, false)),
