@@ -1,5 +1,5 @@
 -- What each statement of the opening adds, and all of them in turn.
-use Rattle.std.proofs.Common.{◌≡◌, ◌/◌, ◌-◌, ℕ, suc, List, [], ◌∷◌, codes, map, length, take, true, Some, None, Ok, refl, sym, ap, subst}
+use Rattle.std.proofs.Common.{◌≡◌, ◌/◌, ◌-◌, ℕ, suc, List, [], ◌∷◌, ◌++◌, codes, map, length, take, true, Some, None, Ok, refl, sym, ap, subst}
 use Rattle.std.specs.Prelude.{⊤}
 use Rattle.sqlite.specs.declared.types.Value.{Value}
 use Rattle.sqlite.specs.declared.types.Value.TheVariants.{Null}
@@ -33,8 +33,8 @@ use Rattle.catalogue_store.specs.Runs.{Runs}
 use Rattle.catalogue_store.proofs.PutTexts.{one_more}
 
 -- where the statement runs, tables that stand for the first books come to stand for the second ones
-abbrev Goes : List ℕ → Books → Books → Type 1
-Goes text a b = (counts : Counts) (old new : State) (count : ℕ) → ExecutesInside 0 text [] old new (Ok count) → HoldsWith counts old a → HoldsWith counts new b
+record Goes (text : List ℕ) (a b : Books) : Type 1 where
+  goes : (counts : Counts) (old new : State) (count : ℕ) → ExecutesInside 0 text [] old new (Ok count) → HoldsWith counts old a → HoldsWith counts new b
 
 -- the same of a statement that adds a count, beside any books
 abbrev Begins : List ℕ → Count → Type 1
@@ -52,8 +52,10 @@ module _ {A : Type 0} (t : Shared A) (text : List ℕ) (n : ℕ) (x : A) where
   adds : Means shop_schema text (Insert t.place (Values terms (suc (width t)))) → value_rows [] (suc (width t)) (length terms / suc (width t)) terms ≡ eval_all terms ([] ∷ []) ∷ []
       → eval_all terms ([] ∷ []) ≡ Null ∷ t.columns (n, x) → are_kept t.table.columns (t.columns (n, x)) ≡ true → ((id : Value) → columns_of (width t) (id ∷ t.columns (n, x)) ≡ t.columns (n, x))
       → (books : Books) → IsNext t.part n books → Goes text books (push t.part x books)
-  adds means one is kept whole books next counts old new count ran holds =
-      puts t text terms means [] x (n, x) one is kept whole (IsNext t.part n) (λ books next. next_row (t.part.items books) x n next) old new count ran counts books holds next
+  adds means one is kept whole books next = record {
+    goes = λ counts old new count ran holds.
+        puts t text terms means [] x (n, x) one is kept whole (IsNext t.part n) (λ books next. next_row (t.part.items books) x n next) old new count ran counts books holds next;
+  }
 
 module _ {A : Type 0} (t : Plain A) (text : List ℕ) (x : A) where
   abbrev plain_terms : List Term
@@ -62,8 +64,10 @@ module _ {A : Type 0} (t : Plain A) (text : List ℕ) (x : A) where
   adds_plain : Means shop_schema text (Insert t.place (Values plain_terms (suc (width t)))) → value_rows [] (suc (width t)) (length plain_terms / suc (width t)) plain_terms ≡ eval_all plain_terms ([] ∷ []) ∷ []
       → eval_all plain_terms ([] ∷ []) ≡ Null ∷ t.columns x → are_kept t.table.columns (t.columns x) ≡ true → ((id : Value) → columns_of (width t) (id ∷ t.columns x) ≡ t.columns x)
       → (books : Books) → Goes text books (push t.part x books)
-  adds_plain means one is kept whole books counts old new count ran holds =
-      puts t text plain_terms means [] x x one is kept whole (λ _. ⊤) (λ books given. refl) old new count ran counts books holds tt
+  adds_plain means one is kept whole books = record {
+    goes = λ counts old new count ran holds.
+        puts t text plain_terms means [] x x one is kept whole (λ _. ⊤) (λ books given. refl) old new count ran counts books holds tt;
+  }
 
 -- a branch, which has no last moment
 module _ (text : List ℕ) (n : ℕ) (x : Branch) where
@@ -73,24 +77,58 @@ module _ (text : List ℕ) (n : ℕ) (x : Branch) where
   adds_branch : Means shop_schema text (Insert 8 (Values branch_terms 9)) → value_rows [] 9 (length branch_terms / 9) branch_terms ≡ eval_all branch_terms ([] ∷ []) ∷ []
       → eval_all branch_terms ([] ∷ []) ≡ Null ∷ branch_columns [] (n, x) → are_kept branch_table.columns (branch_columns [] (n, x)) ≡ true → ((id : Value) → columns_of 8 (id ∷ branch_columns [] (n, x)) ≡ branch_columns [] (n, x))
       → (books : Books) → IsNext branches n books → owned_by n books.lasts ≡ [] → Goes text books (push branches x books)
-  adds_branch means one is kept whole books next none counts old new count ran holds =
-      let done = has_put shop_schema text 8 branch_table branch_terms 8 means (record { place = refl; uncounted = refl; unstamped = refl }) [] (branch_columns [] (n, x)) old new count ran one is kept whole holds.schema_is in
-      let rows = subst (HasRows 8 (new.now.trees 18)) (one_more books n x next none) (done.rows _ holds.stands.branches) in
-      record { schema_is = done.schema_is; keyed = done.keyed holds.keyed; stands = stands_but 8 branch_table refl refl counts counts books (push branches x books) _ refl old.now.trees new.now.trees done.others holds.stands rows }
+  adds_branch means one is kept whole books next none = record {
+    goes = λ counts old new count ran holds.
+        let done = has_put shop_schema text 8 branch_table branch_terms 8 means (record { place = refl; uncounted = refl; unstamped = refl }) [] (branch_columns [] (n, x)) old new count ran one is kept whole holds.schema_is in
+        let rows = subst (HasRows 8 (new.now.trees 18)) (one_more books n x next none) (done.rows _ holds.stands.branches) in
+        record { schema_is = done.schema_is; keyed = done.keyed holds.keyed; stands = stands_but 8 branch_table refl refl counts counts books (push branches x books) _ refl old.now.trees new.now.trees done.others holds.stands rows };
+  }
 
--- a count
-module _ (text : List ℕ) (it : Count) where
-  abbrev count_terms : List Term
-  count_terms = literals (counter_columns it)
+-- the text adds this count
+abbrev count_terms : Count → List Term
+count_terms it = literals (counter_columns it)
 
-  begins : Means shop_schema text (Insert 18 (Values count_terms 4)) → value_rows [] 4 (length count_terms / 4) count_terms ≡ eval_all count_terms ([] ∷ []) ∷ []
-      → eval_all count_terms ([] ∷ []) ≡ Null ∷ counter_columns it → are_kept counter_table.columns (counter_columns it) ≡ true → ((id : Value) → columns_of 3 (id ∷ counter_columns it) ≡ counter_columns it)
-      → Begins text it
-  begins means one is kept whole counts books old new count ran holds =
-      let done = has_put shop_schema text 18 counter_table count_terms 3 means (record { place = refl; uncounted = refl; unstamped = refl }) [] (counter_columns it) old new count ran one is kept whole holds.schema_is in
-      let rows = done.rows _ (stands_at 18 counter_table refl counts books old.now.trees holds.stands) in
-      let changes = ap (λ (rows : List sql.Row). with_rows 18 rows (rows_of counts books)) (map_push counter_columns counts.counters it) in
-      record { schema_is = done.schema_is; keyed = done.keyed holds.keyed; stands = stands_but 18 counter_table refl refl counts (add_count it counts) books books _ changes old.now.trees new.now.trees done.others holds.stands rows }
+abbrev IsCount : List ℕ → Count → Type 0
+IsCount text it = Means shop_schema text (Insert 18 (Values (count_terms it) 4)) × (value_rows [] 4 (length (count_terms it) / 4) (count_terms it) ≡ eval_all (count_terms it) ([] ∷ []) ∷ [])
+    × (eval_all (count_terms it) ([] ∷ []) ≡ Null ∷ counter_columns it) × (are_kept counter_table.columns (counter_columns it) ≡ true)
+
+begins : (text : List ℕ) (it : Count) → IsCount text it → Begins text it
+begins text it is counts books old new count ran holds =
+    let done = has_put shop_schema text 18 counter_table (count_terms it) 3 is.0 (record { place = refl; uncounted = refl; unstamped = refl }) [] (counter_columns it) old new count ran is.1 is.2 is.3 (λ id. refl) holds.schema_is in
+    let rows = done.rows _ (stands_at 18 counter_table refl counts books old.now.trees holds.stands) in
+    let changes = ap (λ (rows : List sql.Row). with_rows 18 rows (rows_of counts books)) (map_push counter_columns counts.counters it) in
+    record { schema_is = done.schema_is; keyed = done.keyed holds.keyed; stands = stands_but 18 counter_table refl refl counts (add_count it counts) books books _ changes old.now.trees new.now.trees done.others holds.stands rows }
+
+-- ---- statements one after another
+
+-- where the statements run, tables that stand for the first books beside the first counts come to stand for the others
+record Leads (texts : List (List ℕ)) (counts : Counts) (a : Books) (after : Counts) (b : Books) : Type 1 where
+  leads : {S : Type 0} (g : Ghosts S) (old new : Held S) → Runs g texts old new → HoldsWith counts (state g old) a → HoldsWith after (state g new) b
+
+ends : (counts : Counts) (a : Books) → Leads [] counts a counts a
+ends counts a = record { leads = λ {S} g old new ran holds. subst (λ (s : Held S). HoldsWith counts (state g s) a) (sym ran) holds }
+
+then : {text : List ℕ} {more : List (List ℕ)} {counts after : Counts} {a b c : Books} → Goes text a b → Leads more counts b after c → Leads (text ∷ more) counts a after c
+then {counts = counts} step rest = record { leads = λ g old new ran holds. rest.leads g ran.0 new ran.3 (step.goes counts _ _ _ ran.2 holds) }
+
+-- the texts add these counts
+abbrev AreCounts : List (List ℕ) → List Count → Type 0
+AreCounts [] [] = ⊤
+AreCounts [] (it ∷ its) = ⊥
+AreCounts (text ∷ texts) [] = ⊥
+AreCounts (text ∷ texts) (it ∷ its) = IsCount text it × AreCounts texts its
+
+abbrev add_counts : List Count → Counts → Counts
+add_counts [] counts = counts
+add_counts (it ∷ its) counts = add_counts its (add_count it counts)
+
+begin_all : (texts : List (List ℕ)) (its : List Count) (more : List (List ℕ)) (counts after : Counts) (a b : Books) → AreCounts texts its → Leads more (add_counts its counts) a after b → Leads (texts ++ more) counts a after b
+begin_all [] [] more counts after a b are rest = rest
+begin_all [] (it ∷ its) more counts after a b are rest = absurd are
+begin_all (text ∷ texts) [] more counts after a b are rest = absurd are
+begin_all (text ∷ texts) (it ∷ its) more counts after a b are rest = record {
+  leads = λ g old new ran holds. (begin_all texts its more (add_count it counts) after a b are.1 rest).leads g ran.0 new ran.3 (begins text it are.0 counts a _ _ _ ran.2 holds);
+}
 
 -- ---- the statements
 
@@ -194,65 +232,33 @@ adds_kim : Goes (codes "INSERT INTO staff (number, branch, first, last, address,
 unfolding understood everything
 adds_kim = adds staff _ 3 (opening_staff 3 (codes "KIM") (codes "ROSS")) (record { is = refl; plain = (refl, refl) }) refl refl refl (λ id. refl) (stage 20) refl
 
-begins_1_0 : Begins (codes "INSERT INTO counter (caller, kind, last) VALUES (1, 0, 0)") (new_count 1 0)
-unfolding understood everything
-begins_1_0 = begins _ (new_count 1 0) (record { is = refl; plain = (refl, refl) }) refl refl refl (λ id. refl)
+-- the counts of a new branch, one a kind
+abbrev branch_counts : ℕ → List Count
+branch_counts b = new_count b 0 ∷ new_count b 1 ∷ new_count b 2 ∷ new_count b 3 ∷ new_count b 4 ∷ []
 
-begins_1_1 : Begins (codes "INSERT INTO counter (caller, kind, last) VALUES (1, 1, 0)") (new_count 1 1)
-unfolding understood everything
-begins_1_1 = begins _ (new_count 1 1) (record { is = refl; plain = (refl, refl) }) refl refl refl (λ id. refl)
+abbrev count_texts_1 : List (List ℕ)
+count_texts_1 = codes "INSERT INTO counter (caller, kind, last) VALUES (1, 0, 0)" ∷ codes "INSERT INTO counter (caller, kind, last) VALUES (1, 1, 0)"
+    ∷ codes "INSERT INTO counter (caller, kind, last) VALUES (1, 2, 0)" ∷ codes "INSERT INTO counter (caller, kind, last) VALUES (1, 3, 0)" ∷ codes "INSERT INTO counter (caller, kind, last) VALUES (1, 4, 0)" ∷ []
 
-begins_1_2 : Begins (codes "INSERT INTO counter (caller, kind, last) VALUES (1, 2, 0)") (new_count 1 2)
+are_counts_1 : AreCounts count_texts_1 (branch_counts 1)
 unfolding understood everything
-begins_1_2 = begins _ (new_count 1 2) (record { is = refl; plain = (refl, refl) }) refl refl refl (λ id. refl)
+are_counts_1 = ((record { is = refl; plain = (refl, refl) }, refl, refl, refl), ((record { is = refl; plain = (refl, refl) }, refl, refl, refl), ((record { is = refl; plain = (refl, refl) }, refl, refl, refl), ((record { is = refl; plain = (refl, refl) }, refl, refl, refl), ((record { is = refl; plain = (refl, refl) }, refl, refl, refl), tt)))))
 
-begins_1_3 : Begins (codes "INSERT INTO counter (caller, kind, last) VALUES (1, 3, 0)") (new_count 1 3)
-unfolding understood everything
-begins_1_3 = begins _ (new_count 1 3) (record { is = refl; plain = (refl, refl) }) refl refl refl (λ id. refl)
+abbrev count_texts_2 : List (List ℕ)
+count_texts_2 = codes "INSERT INTO counter (caller, kind, last) VALUES (2, 0, 0)" ∷ codes "INSERT INTO counter (caller, kind, last) VALUES (2, 1, 0)"
+    ∷ codes "INSERT INTO counter (caller, kind, last) VALUES (2, 2, 0)" ∷ codes "INSERT INTO counter (caller, kind, last) VALUES (2, 3, 0)" ∷ codes "INSERT INTO counter (caller, kind, last) VALUES (2, 4, 0)" ∷ []
 
-begins_1_4 : Begins (codes "INSERT INTO counter (caller, kind, last) VALUES (1, 4, 0)") (new_count 1 4)
+are_counts_2 : AreCounts count_texts_2 (branch_counts 2)
 unfolding understood everything
-begins_1_4 = begins _ (new_count 1 4) (record { is = refl; plain = (refl, refl) }) refl refl refl (λ id. refl)
+are_counts_2 = ((record { is = refl; plain = (refl, refl) }, refl, refl, refl), ((record { is = refl; plain = (refl, refl) }, refl, refl, refl), ((record { is = refl; plain = (refl, refl) }, refl, refl, refl), ((record { is = refl; plain = (refl, refl) }, refl, refl, refl), ((record { is = refl; plain = (refl, refl) }, refl, refl, refl), tt)))))
 
-begins_2_0 : Begins (codes "INSERT INTO counter (caller, kind, last) VALUES (2, 0, 0)") (new_count 2 0)
-unfolding understood everything
-begins_2_0 = begins _ (new_count 2 0) (record { is = refl; plain = (refl, refl) }) refl refl refl (λ id. refl)
+abbrev count_texts_3 : List (List ℕ)
+count_texts_3 = codes "INSERT INTO counter (caller, kind, last) VALUES (3, 0, 0)" ∷ codes "INSERT INTO counter (caller, kind, last) VALUES (3, 1, 0)"
+    ∷ codes "INSERT INTO counter (caller, kind, last) VALUES (3, 2, 0)" ∷ codes "INSERT INTO counter (caller, kind, last) VALUES (3, 3, 0)" ∷ codes "INSERT INTO counter (caller, kind, last) VALUES (3, 4, 0)" ∷ []
 
-begins_2_1 : Begins (codes "INSERT INTO counter (caller, kind, last) VALUES (2, 1, 0)") (new_count 2 1)
+are_counts_3 : AreCounts count_texts_3 (branch_counts 3)
 unfolding understood everything
-begins_2_1 = begins _ (new_count 2 1) (record { is = refl; plain = (refl, refl) }) refl refl refl (λ id. refl)
-
-begins_2_2 : Begins (codes "INSERT INTO counter (caller, kind, last) VALUES (2, 2, 0)") (new_count 2 2)
-unfolding understood everything
-begins_2_2 = begins _ (new_count 2 2) (record { is = refl; plain = (refl, refl) }) refl refl refl (λ id. refl)
-
-begins_2_3 : Begins (codes "INSERT INTO counter (caller, kind, last) VALUES (2, 3, 0)") (new_count 2 3)
-unfolding understood everything
-begins_2_3 = begins _ (new_count 2 3) (record { is = refl; plain = (refl, refl) }) refl refl refl (λ id. refl)
-
-begins_2_4 : Begins (codes "INSERT INTO counter (caller, kind, last) VALUES (2, 4, 0)") (new_count 2 4)
-unfolding understood everything
-begins_2_4 = begins _ (new_count 2 4) (record { is = refl; plain = (refl, refl) }) refl refl refl (λ id. refl)
-
-begins_3_0 : Begins (codes "INSERT INTO counter (caller, kind, last) VALUES (3, 0, 0)") (new_count 3 0)
-unfolding understood everything
-begins_3_0 = begins _ (new_count 3 0) (record { is = refl; plain = (refl, refl) }) refl refl refl (λ id. refl)
-
-begins_3_1 : Begins (codes "INSERT INTO counter (caller, kind, last) VALUES (3, 1, 0)") (new_count 3 1)
-unfolding understood everything
-begins_3_1 = begins _ (new_count 3 1) (record { is = refl; plain = (refl, refl) }) refl refl refl (λ id. refl)
-
-begins_3_2 : Begins (codes "INSERT INTO counter (caller, kind, last) VALUES (3, 2, 0)") (new_count 3 2)
-unfolding understood everything
-begins_3_2 = begins _ (new_count 3 2) (record { is = refl; plain = (refl, refl) }) refl refl refl (λ id. refl)
-
-begins_3_3 : Begins (codes "INSERT INTO counter (caller, kind, last) VALUES (3, 3, 0)") (new_count 3 3)
-unfolding understood everything
-begins_3_3 = begins _ (new_count 3 3) (record { is = refl; plain = (refl, refl) }) refl refl refl (λ id. refl)
-
-begins_3_4 : Begins (codes "INSERT INTO counter (caller, kind, last) VALUES (3, 4, 0)") (new_count 3 4)
-unfolding understood everything
-begins_3_4 = begins _ (new_count 3 4) (record { is = refl; plain = (refl, refl) }) refl refl refl (λ id. refl)
+are_counts_3 = ((record { is = refl; plain = (refl, refl) }, refl, refl, refl), ((record { is = refl; plain = (refl, refl) }, refl, refl, refl), ((record { is = refl; plain = (refl, refl) }, refl, refl, refl), ((record { is = refl; plain = (refl, refl) }, refl, refl, refl), ((record { is = refl; plain = (refl, refl) }, refl, refl, refl), tt)))))
 
 abbrev pub texts : List (List ℕ)
 texts = codes "INSERT INTO country (number, name) VALUES (1, 'Canada')"
@@ -276,95 +282,24 @@ texts = codes "INSERT INTO country (number, name) VALUES (1, 'Canada')"
     ∷ codes "INSERT INTO staff (number, branch, first, last, address, postal, phone, city, gone) VALUES (1, 1, 'IDA', 'LUND', '2 Side', '', '', 1, 0)"
     ∷ codes "INSERT INTO staff (number, branch, first, last, address, postal, phone, city, gone) VALUES (2, 2, 'JON', 'VEGA', '2 Side', '', '', 2, 0)"
     ∷ codes "INSERT INTO staff (number, branch, first, last, address, postal, phone, city, gone) VALUES (3, 3, 'KIM', 'ROSS', '2 Side', '', '', 3, 0)"
-    ∷ codes "INSERT INTO counter (caller, kind, last) VALUES (1, 0, 0)"
-    ∷ codes "INSERT INTO counter (caller, kind, last) VALUES (1, 1, 0)"
-    ∷ codes "INSERT INTO counter (caller, kind, last) VALUES (1, 2, 0)"
-    ∷ codes "INSERT INTO counter (caller, kind, last) VALUES (1, 3, 0)"
-    ∷ codes "INSERT INTO counter (caller, kind, last) VALUES (1, 4, 0)"
-    ∷ codes "INSERT INTO counter (caller, kind, last) VALUES (2, 0, 0)"
-    ∷ codes "INSERT INTO counter (caller, kind, last) VALUES (2, 1, 0)"
-    ∷ codes "INSERT INTO counter (caller, kind, last) VALUES (2, 2, 0)"
-    ∷ codes "INSERT INTO counter (caller, kind, last) VALUES (2, 3, 0)"
-    ∷ codes "INSERT INTO counter (caller, kind, last) VALUES (2, 4, 0)"
-    ∷ codes "INSERT INTO counter (caller, kind, last) VALUES (3, 0, 0)"
-    ∷ codes "INSERT INTO counter (caller, kind, last) VALUES (3, 1, 0)"
-    ∷ codes "INSERT INTO counter (caller, kind, last) VALUES (3, 2, 0)"
-    ∷ codes "INSERT INTO counter (caller, kind, last) VALUES (3, 3, 0)"
-    ∷ codes "INSERT INTO counter (caller, kind, last) VALUES (3, 4, 0)"
-    ∷ []
+    ∷ count_texts_1 ++ count_texts_2 ++ count_texts_3 ++ []
 
-pub opening_added : {S : Type 0} (g : Ghosts S) (counts : Counts) (old new : Held S) → Runs g texts old new → HoldsWith counts (state g old) (first_books (token_of 0)) → HoldsWith (with_branch 3 (with_branch 2 (with_branch 1 counts))) (state g new) opening_books
-opening_added {S} g counts old new ran0 holds0 =
-    let holds1 = adds_canada counts _ _ _ ran0.2 holds0 in
-    let ran1 = ran0.3 in
-    let holds2 = adds_australia counts _ _ _ ran1.2 holds1 in
-    let ran2 = ran1.3 in
-    let holds3 = adds_english counts _ _ _ ran2.2 holds2 in
-    let ran3 = ran2.3 in
-    let holds4 = adds_action counts _ _ _ ran3.2 holds3 in
-    let ran4 = ran3.3 in
-    let holds5 = adds_comedy counts _ _ _ ran4.2 holds4 in
-    let ran5 = ran4.3 in
-    let holds6 = adds_ann counts _ _ _ ran5.2 holds5 in
-    let ran6 = ran5.3 in
-    let holds7 = adds_bo counts _ _ _ ran6.2 holds6 in
-    let ran7 = ran6.3 in
-    let holds8 = adds_river counts _ _ _ ran7.2 holds7 in
-    let ran8 = ran7.3 in
-    let holds9 = adds_north counts _ _ _ ran8.2 holds8 in
-    let ran9 = ran8.3 in
-    let holds10 = adds_cast_1 counts _ _ _ ran9.2 holds9 in
-    let ran10 = ran9.3 in
-    let holds11 = adds_cast_2 counts _ _ _ ran10.2 holds10 in
-    let ran11 = ran10.3 in
-    let holds12 = adds_cast_3 counts _ _ _ ran11.2 holds11 in
-    let ran12 = ran11.3 in
-    let holds13 = adds_lethbridge counts _ _ _ ran12.2 holds12 in
-    let ran13 = ran12.3 in
-    let holds14 = adds_woodridge counts _ _ _ ran13.2 holds13 in
-    let ran14 = ran13.3 in
-    let holds15 = adds_brisbane counts _ _ _ ran14.2 holds14 in
-    let ran15 = ran14.3 in
-    let holds16 = adds_branch_1 counts _ _ _ ran15.2 holds15 in
-    let ran16 = ran15.3 in
-    let holds17 = adds_branch_2 counts _ _ _ ran16.2 holds16 in
-    let ran17 = ran16.3 in
-    let holds18 = adds_branch_3 counts _ _ _ ran17.2 holds17 in
-    let ran18 = ran17.3 in
-    let holds19 = adds_ida counts _ _ _ ran18.2 holds18 in
-    let ran19 = ran18.3 in
-    let holds20 = adds_jon counts _ _ _ ran19.2 holds19 in
-    let ran20 = ran19.3 in
-    let holds21 = adds_kim counts _ _ _ ran20.2 holds20 in
-    let ran21 = ran20.3 in
-    let holds22 = begins_1_0 counts opening_books _ _ _ ran21.2 holds21 in
-    let ran22 = ran21.3 in
-    let holds23 = begins_1_1 _ opening_books _ _ _ ran22.2 holds22 in
-    let ran23 = ran22.3 in
-    let holds24 = begins_1_2 _ opening_books _ _ _ ran23.2 holds23 in
-    let ran24 = ran23.3 in
-    let holds25 = begins_1_3 _ opening_books _ _ _ ran24.2 holds24 in
-    let ran25 = ran24.3 in
-    let holds26 = begins_1_4 _ opening_books _ _ _ ran25.2 holds25 in
-    let ran26 = ran25.3 in
-    let holds27 = begins_2_0 _ opening_books _ _ _ ran26.2 holds26 in
-    let ran27 = ran26.3 in
-    let holds28 = begins_2_1 _ opening_books _ _ _ ran27.2 holds27 in
-    let ran28 = ran27.3 in
-    let holds29 = begins_2_2 _ opening_books _ _ _ ran28.2 holds28 in
-    let ran29 = ran28.3 in
-    let holds30 = begins_2_3 _ opening_books _ _ _ ran29.2 holds29 in
-    let ran30 = ran29.3 in
-    let holds31 = begins_2_4 _ opening_books _ _ _ ran30.2 holds30 in
-    let ran31 = ran30.3 in
-    let holds32 = begins_3_0 _ opening_books _ _ _ ran31.2 holds31 in
-    let ran32 = ran31.3 in
-    let holds33 = begins_3_1 _ opening_books _ _ _ ran32.2 holds32 in
-    let ran33 = ran32.3 in
-    let holds34 = begins_3_2 _ opening_books _ _ _ ran33.2 holds33 in
-    let ran34 = ran33.3 in
-    let holds35 = begins_3_3 _ opening_books _ _ _ ran34.2 holds34 in
-    let ran35 = ran34.3 in
-    let holds36 = begins_3_4 _ opening_books _ _ _ ran35.2 holds35 in
-    let ran36 = ran35.3 in
-    subst (λ (s : Held S). HoldsWith (with_branch 3 (with_branch 2 (with_branch 1 counts))) (state g s) opening_books) (sym ran36) holds36
+-- the counts beside the opening books
+abbrev opened : Counts → Counts
+opened counts = with_branch 3 (with_branch 2 (with_branch 1 counts))
+
+pub opening_added : {S : Type 0} (g : Ghosts S) (counts : Counts) (old new : Held S) → Runs g texts old new → HoldsWith counts (state g old) (first_books (token_of 0))
+    → HoldsWith (opened counts) (state g new) opening_books
+opening_added g counts = shared.leads g
+  where
+    counted : Leads (count_texts_1 ++ count_texts_2 ++ count_texts_3 ++ []) counts opening_books (opened counts) opening_books
+    counted =
+        begin_all count_texts_1 (branch_counts 1) (count_texts_2 ++ count_texts_3 ++ []) counts (opened counts) opening_books opening_books are_counts_1
+        (begin_all count_texts_2 (branch_counts 2) (count_texts_3 ++ []) (with_branch 1 counts) (opened counts) opening_books opening_books are_counts_2
+        (begin_all count_texts_3 (branch_counts 3) [] (with_branch 2 (with_branch 1 counts)) (opened counts) opening_books opening_books are_counts_3 (ends (opened counts) opening_books)))
+
+    shared : Leads texts counts (first_books (token_of 0)) (opened counts) opening_books
+    shared =
+        then adds_canada (then adds_australia (then adds_english (then adds_action (then adds_comedy (then adds_ann (then adds_bo (then adds_river
+        (then adds_north (then adds_cast_1 (then adds_cast_2 (then adds_cast_3 (then adds_lethbridge (then adds_woodridge (then adds_brisbane
+        (then adds_branch_1 (then adds_branch_2 (then adds_branch_3 (then adds_ida (then adds_jon (then adds_kim counted))))))))))))))))))))
