@@ -1,5 +1,5 @@
 -- What the number of a row says of the calls that it was made of.
-use Rattle.std.proofs.Common.{◌≡◌, ℕ, true, false, Ok, Err, Result, refl, sym, subst}
+use Rattle.std.proofs.Common.{◌≡◌, ◌+◌, ℕ, true, false, Ok, Err, Result, refl, sym, subst}
 use Rattle.std.specs.Prelude.{IsOk, IsErr, IfOk, OnOk}
 use Rattle.sqlite.specs.State.{State}
 use Rattle.sql_rows.specs.Calls.{StaysInside}
@@ -21,9 +21,10 @@ pub numbered_as : {X E F : Type 0} (put : Result X E) (r : Result ℕ F) (m : �
 numbered_as put (Ok n) m W Q is put_it make = subst Q (sym is.0) (make (when_ok put W is.1 put_it))
 numbered_as put (Err e) m W Q is put_it make = tt
 
-pub put_inside : {X E F : Type 0} (a b : State) (put : Result X E) (r : Result ℕ F) (m : ℕ) → IfOk r (λ n. (n ≡ m) × IsOk put) → StaysInside a b put → StaysInside a b r
-put_inside a b put (Ok n) m is h = inside_as a b put (Ok n) h (λ _. is.1)
-put_inside a b put (Err e) m is h = inside_as a b put (Err e) h (λ ok. absurd (apart ok))
+-- so the calls stay inside
+pub put_inside : {X E F : Type 0} {a b : State} {put : Result X E} (r : Result ℕ F) (m : ℕ) → IfOk r (λ n. (n ≡ m) × IsOk put) → StaysInside a b put → StaysInside a b r
+put_inside {a = a} {b = b} {put = put} (Ok n) m is h = inside_as a b put (Ok n) h (λ _. is.1)
+put_inside {a = a} {b = b} {put = put} (Err e) m is h = inside_as a b put (Err e) h (λ ok. absurd (apart ok))
 
 -- the same calls, and then an error
 pub inside_err : {X E Y F : Type 0} (a b : State) (r : Result X E) (s : Result Y F) → StaysInside a b r → IsErr s → StaysInside a b s
@@ -34,7 +35,11 @@ inside_err a b r (Err f) h err = record { survives = h.survives; kept = h.kept; 
 pub told_then : {Y E F : Type 0} (a b c : State) (last : Result ℕ E) (n : ℕ) (r : Result Y F) → last ≡ Ok n → StaysInside a b last → StaysInside b c r → StaysInside a c r
 told_then {Y} {E} a b c last n r told one two = inside_then a b c last r (subst (λ (it : Result ℕ E). IsOk it) (sym told) refl) one (within_of b c r two)
 
+-- the number is the one that comes after the last
+abbrev pub IsNext : {E : Type 0} → Result ℕ E → ℕ → Type 0
+IsNext last number = (n : ℕ) × (last ≡ Ok n) × (number ≡ n + 1)
+
 -- the last number was told before
-pub added_inside : {X E F : Type 0} (a b c : State) (last : Result ℕ E) (n : ℕ) (put : Result X E) (r : Result ℕ F) (m : ℕ)
-    → last ≡ Ok n → IfOk r (λ n. (n ≡ m) × IsOk put) → StaysInside a b last → StaysInside b c put → StaysInside a c r
-added_inside a b c last n put r m told is one two = told_then a b c last n r told one (put_inside b c put r m is two)
+pub added_inside : {X E F : Type 0} {a b c : State} {last : Result ℕ E} {put : Result X E} {number : ℕ} (r : Result ℕ F)
+    → IsNext last number → IfOk r (λ n. (n ≡ number) × IsOk put) → StaysInside a b last → StaysInside b c put → StaysInside a c r
+added_inside {a = a} {b = b} {c = c} {last = last} r next is one two = told_then a b c last next.0 r next.1 one (put_inside r _ is two)

@@ -1,21 +1,27 @@
 -- What the rows of head office's commands make of the books, and that a new branch has no last moment.
-use Rattle.std.proofs.Common.{◌≡◌, ◌+◌, ◌-◌, ◌<◌, ◌==◌, ℕ, List, [], ◌∷◌, ◌++◌, map, filter, length, true, false, Bool, cond, not, refl, sym, ap, subst, ◌∙◌, arith, true≢false}
+use Rattle.std.proofs.Common.{◌≡◌, ◌+◌, IfOk, Result, ◌-◌, ◌<◌, ◌==◌, ℕ, List, [], ◌∷◌, ◌++◌, map, filter, length, true, false, Bool, cond, not, refl, sym, ap, subst, ◌∙◌, arith, true≢false}
+use Rattle.std.specs.Prelude.{⊤, IsOk}
 use Rattle.std.specs.List.{list_all}
 use Rattle.std.proofs.lemmas.Bool.{and_parts}
 use Rattle.std.proofs.lemmas.Bool.Decides.{nat_tests}
-use Rattle.sqlite.specs.State.{State}
+use Rattle.sqlite.specs.State.{State, HasCleanDisk}
+use Rattle.sql_rows.specs.Calls.{StaysInside}
 use Rattle.shop_model.specs.Calendar.{Moment}
 use Rattle.shop_model.specs.Rows.{Owned, at, lacks, is_empty, owned_by}
 use Rattle.shop_model.specs.Values.{Text, Branch, OfficeAct, AddCountry, AddCity, AddLanguage, AddCategory, AddActor, AddFilm, PriceFilm, WithdrawFilm, AddCast, AddBranch, AddStaff, StaffLeaves, SetManager, OfficeCommand}
 use Rattle.shop_model.specs.Shop.{Catalogue}
-use Rattle.shop_model.specs.Machine.{office_acted, office_text, office_done}
+use Rattle.shop_model.specs.Machine.{office_acted, office_told, office_text, office_done}
 use Rattle.shop_model.specs.Links.{has_row}
 use Rattle.shop_model.specs.Books.{Books}
 use Rattle.shop_model.proofs.RowLemmas.{same_if}
-use Rattle.shop_schema.specs.Counts.{counts_of, with_branch}
+use Rattle.shop_schema.specs.Counts.{Counts, counts_of, with_branch}
+use Rattle.shop_schema.specs.Calls.{Finds, Stores}
 use Rattle.shop_schema.specs.Held.{IsHeld}
 use Rattle.shop_schema.specs.Shop.{HoldsWith}
-use Rattle.office_adds.specs.Added.{with_act, with_kept}
+use Rattle.shop_ledger.proofs.CountsOf.{beside}
+use Rattle.reply_bodies.specs.Bodies.{office_members}
+use Rattle.office_adds.specs.Added.{with_act, with_counts, with_kept, IsActed, IsNumbered}
+use Rattle.office_adds.proofs.Numbers.{was_ok, numbered_as, IsNext}
 
 -- ---- a branch that isn't there has no last moment
 
@@ -57,6 +63,45 @@ pub branch_added : (s : State) (books : Books) (n : ℕ) (row branch : Branch) �
 branch_added s books n row branch is same holds =
     subst (λ (it : Branch). HoldsWith (with_branch (length books.catalogue.branches + 1) (counts_of books)) s (record books { catalogue = record books.catalogue { branches = books.catalogue.branches ++ it ∷ [] } })) same
     (subst (λ (m : ℕ). HoldsWith (with_branch m (counts_of books)) s (record books { catalogue = record books.catalogue { branches = books.catalogue.branches ++ row ∷ [] } })) is holds)
+
+-- an act makes these books, beside counts that stay, and its reply is that of the number
+abbrev pub Makes : OfficeAct → ℕ → Books → Books → Type 0
+Makes act number books made =
+    ◌≡◌ {A = Counts × Books × List (Text × Text)} (counts_of books, made, office_members act number) (with_counts act books, with_act act books, office_told act books.catalogue)
+
+made_so : (act : OfficeAct) (number : ℕ) (books made : Books) {s : State} → Makes act number books made → HoldsWith (counts_of books) s made
+    → IsActed act s books × (office_members act number ≡ office_told act books.catalogue)
+made_so act number books made {s = s} makes holds = (subst (λ (it : Counts × Books × List (Text × Text)). HoldsWith it.0 s it.1) makes holds, ap (λ (it : Counts × Books × List (Text × Text)). it.2) makes)
+
+-- the books with these rows in the place of a list of the catalogue
+abbrev pub with_rows : {W : Type 0} → (Catalogue → List W → Catalogue) → List W → Books → Books
+with_rows set rows books = record books { catalogue = set books.catalogue rows }
+
+-- a row is put after the last of its list, whose number was told before
+pub row_added : {W X E F : Type 0} {b c : State} {last : Result ℕ E} {put : Result X E} {number n : ℕ} {row new : W} {was act : OfficeAct}
+    (get : Catalogue → List W) (set : Catalogue → List W → Catalogue) (a : State) (r : Result ℕ F)
+    → was ≡ act → ((books : Books) → Makes act (length (get books.catalogue) + 1) books (with_rows set (get books.catalogue ++ new ∷ []) books))
+    → row ≡ new → n ≡ number → IsNext last number → IfOk r (λ it. (it ≡ number) × IsOk put) → StaysInside b c put
+    → Finds a b last (λ last books. last ≡ length (get books.catalogue))
+    → Stores b c put (λ books. n ≡ length (get books.catalogue) + 1) (λ books. with_rows set (get books.catalogue ++ row ∷ []) books)
+    → HasCleanDisk c → IfOk r (λ it. IsNumbered was it a c)
+row_added {W} {b = b} {c = c} {last = last} {put = put} {number = number} {was = was} {act = act} get set a r is_act makes same own next is inside found stored clean =
+    let clean_b : HasCleanDisk b = omega (arith, clean, inside.survives.clean) in
+    numbered_as put r number _ (λ it. IsNumbered was it a c) is (stored clean)
+    (λ written. subst (λ (it : OfficeAct). IsNumbered it number a c) (sym is_act) (λ books holds held.
+    let told = was_ok last next.0 _ next.1 (found clean_b) books holds held in
+    let comes : number ≡ length (get books.catalogue) + 1 = next.2 ∙ ap (λ (it : ℕ). it + 1) told.1 in
+    let holds_new = written (counts_of books) books (beside b books told.0) (own ∙ comes) in
+    let its = made_so act _ books _ (makes books) (subst (λ (it : W). HoldsWith (counts_of books) c (with_rows set (get books.catalogue ++ it ∷ []) books)) same holds_new) in
+    (its.0, ap (office_members act) comes ∙ its.1)))
+
+-- a row is put that has no number, or changed
+pub row_changed : {X E F : Type 0} {a b : State} {put : Result X E} {was act : OfficeAct} {change : Books → Books} (r : Result ℕ F)
+    → was ≡ act → ((books : Books) → Makes act 0 books (change books)) → IfOk r (λ it. (it ≡ 0) × IsOk put) → StaysInside a b put → Stores a b put (λ _. ⊤) change
+    → HasCleanDisk b → IfOk r (λ it. IsNumbered was it a b)
+row_changed {a = a} {b = b} {put = put} {was = was} {act = act} {change = change} r is_act makes is inside stored clean =
+    numbered_as put r 0 _ (λ it. IsNumbered was it a b) is (stored clean)
+    (λ written. subst (λ (it : OfficeAct). IsNumbered it 0 a b) (sym is_act) (λ books holds held. made_so act 0 books (change books) (makes books) (written (counts_of books) books (beside a books holds) tt)))
 
 -- ---- the command itself
 

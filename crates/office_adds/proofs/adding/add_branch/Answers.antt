@@ -38,7 +38,7 @@ returns-clause-inside g c =
     let s2 = state g.S.Store c.put_branch.new.tx.conn.now in
     let s3 = state g.S.Store c.put_counts.new.tx.conn.now in
     let next = c.in_ok-number.ensures in
-    let counted = put_inside s2 s3 c.put_counts.result c.numbered.result c.in_ok-number.number c.numbered.ensures c.put_counts.ensures.inside in
+    let counted = put_inside c.numbered.result c.in_ok-number.number c.numbered.ensures c.put_counts.ensures.inside in
     told_then (state g.S.Store c.args.tx.now.conn.now) s1 s3 c.last_branch.result next.0 c.numbered.result next.1 c.last_branch.ensures.inside
     (inside_then s1 s2 s3 _ c.numbered.result refl c.in_ok-put_branch.ensures.inside (within_of s2 s3 c.numbered.result counted))
 
