@@ -77,6 +77,11 @@ made_so act number books made {s = s} makes holds = (subst (λ (it : Counts × B
 abbrev pub with_rows : {W : Type 0} → (Catalogue → List W → Catalogue) → List W → Books → Books
 with_rows set rows books = record books { catalogue = set books.catalogue rows }
 
+-- the number of an act, as that of the act by another name
+pub of_act : {F : Type 0} {was act : OfficeAct} (a b : State) (r : Result ℕ F) → was ≡ act → (HasCleanDisk b → IfOk r (λ n. IsNumbered act n a b))
+    → HasCleanDisk b → IfOk r (λ n. IsNumbered was n a b)
+of_act a b r is numbered clean = subst (λ (it : OfficeAct). IfOk r (λ n. IsNumbered it n a b)) (sym is) (numbered clean)
+
 -- a row is put after the last of its list, whose number was told before
 pub row_added : {W X E F : Type 0} {b c : State} {last : Result ℕ E} {put : Result X E} {number n : ℕ} {row new : W} {was act : OfficeAct}
     (get : Catalogue → List W) (set : Catalogue → List W → Catalogue) (a : State) (r : Result ℕ F)
@@ -85,10 +90,9 @@ pub row_added : {W X E F : Type 0} {b c : State} {last : Result ℕ E} {put : Re
     → Finds a b last (λ last books. last ≡ length (get books.catalogue))
     → Stores b c put (λ books. n ≡ length (get books.catalogue) + 1) (λ books. with_rows set (get books.catalogue ++ row ∷ []) books)
     → HasCleanDisk c → IfOk r (λ it. IsNumbered was it a c)
-row_added {W} {b = b} {c = c} {last = last} {put = put} {number = number} {was = was} {act = act} get set a r is_act makes same own next is inside found stored clean =
+row_added {W} {b = b} {c = c} {last = last} {put = put} {number = number} {act = act} get set a r is_act makes same own next is inside found stored =
+    of_act a c r is_act (λ clean. numbered_as put r number _ (λ it. IsNumbered act it a c) is (stored clean) (λ written. λ books holds held.
     let clean_b : HasCleanDisk b = omega (arith, clean, inside.survives.clean) in
-    numbered_as put r number _ (λ it. IsNumbered was it a c) is (stored clean)
-    (λ written. subst (λ (it : OfficeAct). IsNumbered it number a c) (sym is_act) (λ books holds held.
     let told = was_ok last next.0 _ next.1 (found clean_b) books holds held in
     let comes : number ≡ length (get books.catalogue) + 1 = next.2 ∙ ap (λ (it : ℕ). it + 1) told.1 in
     let holds_new = written (counts_of books) books (beside b books told.0) (own ∙ comes) in
@@ -99,9 +103,9 @@ row_added {W} {b = b} {c = c} {last = last} {put = put} {number = number} {was =
 pub row_changed : {X E F : Type 0} {a b : State} {put : Result X E} {was act : OfficeAct} {change : Books → Books} (r : Result ℕ F)
     → was ≡ act → ((books : Books) → Makes act 0 books (change books)) → IfOk r (λ it. (it ≡ 0) × IsOk put) → StaysInside a b put → Stores a b put (λ _. ⊤) change
     → HasCleanDisk b → IfOk r (λ it. IsNumbered was it a b)
-row_changed {a = a} {b = b} {put = put} {was = was} {act = act} {change = change} r is_act makes is inside stored clean =
-    numbered_as put r 0 _ (λ it. IsNumbered was it a b) is (stored clean)
-    (λ written. subst (λ (it : OfficeAct). IsNumbered it 0 a b) (sym is_act) (λ books holds held. made_so act 0 books (change books) (makes books) (written (counts_of books) books (beside a books holds) tt)))
+row_changed {a = a} {b = b} {put = put} {act = act} {change = change} r is_act makes is inside stored =
+    of_act a b r is_act (λ clean. numbered_as put r 0 _ (λ it. IsNumbered act it a b) is (stored clean)
+    (λ written. λ books holds held. made_so act 0 books (change books) (makes books) (written (counts_of books) books (beside a books holds) tt)))
 
 -- ---- the command itself
 

@@ -1,10 +1,7 @@
-use Rattle.std.proofs.Common.{sym, subst, ap, refl, IfOk}
-use Rattle.sqlite.specs.Held.{state}
-use Rattle.shop_types.specs.declared.office.OfficeAct.{OfficeAct}
+use Rattle.std.proofs.Common.{ap, refl}
 use Rattle.shop_types.specs.Seen.{seen_office_act}
-use Rattle.office_adds.specs.Added.{IsNumbered}
 use Rattle.office_adds.proofs.Numbers.{put_inside, added_inside}
-use Rattle.office_adds.proofs.Written.{row_added, row_changed}
+use Rattle.office_adds.proofs.Written.{of_act, row_added, row_changed}
 use Rattle.office_adds.proofs.adding.write.Goals as goal
 
 pub returns-in_ok-number-in-Country-clause-numbered : goal.returns-in_ok-number-in-Country-clause-numbered
@@ -51,10 +48,7 @@ pub returns-in-Manager-clause-numbered : goal.returns-in-Manager-clause-numbered
 returns-in-Manager-clause-numbered g c = row_changed c.without_number-in-Manager.result (ap seen_office_act c.in-Manager.is) (λ books. refl) c.without_number-in-Manager.ensures c.set_manager.ensures.inside c.set_manager.ensures.set
 
 pub returns-in-Branch-clause-numbered : goal.returns-in-Branch-clause-numbered
-returns-in-Branch-clause-numbered g c = λ clean.
-    let s0 = state g.S.Store c.args.tx.now.conn.now in
-    let s1 = state g.S.Store c.add_branch.new.tx.conn.now in
-    subst (λ (it : OfficeAct). IfOk c.add_branch.result (λ number. IsNumbered (seen_office_act it) number s0 s1)) (sym c.in-Branch.is) (c.add_branch.ensures.numbered clean)
+returns-in-Branch-clause-numbered g c = of_act _ _ c.add_branch.result (ap seen_office_act c.in-Branch.is) c.add_branch.ensures.numbered
 
 pub returns-in-Price-clause-inside : goal.returns-in-Price-clause-inside
 returns-in-Price-clause-inside g c = put_inside c.without_number.result _ c.without_number.ensures c.set_rate.ensures.inside
