@@ -1,3 +1,4 @@
+pub mod Failing
 pub mod Refusing
 pub use Rattle.chain_store.proofs.Failures
 pub use Rattle.chain_store.proofs.Taking

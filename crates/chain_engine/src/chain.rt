@@ -14,9 +14,9 @@ ghost use Rattle.chain_store.specs.Decisions.{FindsCaller, IsOfStore, refusal_fo
 ghost use Rattle.shop_model.specs.Answers.{problem_answer};
 ghost use Rattle.shop_model.specs.Refusals.{StoreFailed};
 
-use crate::step::step;
+use chain_steps::{caller_unless_failed, step};
 use chain_store::{
-    Asked, FirstRows, OpenFault, Report, asked_values, find_caller, first_values, in_memory, show,
+    Asked, FirstRows, OpenFault, Report, asked_values, first_values, in_memory, show,
 };
 use shop_types::{Caller, Limits, NoMemory, OfficeAsk, Refusal, Reply, Request, Token};
 use sql_rows::StoreFault;
@@ -104,10 +104,7 @@ impl<S: Alter> Chain<S> {
         ensures refused { IfErr result IsOfStore }
         ensures failed { self.old.is_failed ≡ true → (self.new ≡ self.old) × (result ≡ Err Refusal.StoreFailed) }
     {
-        if self.is_failed {
-            return Err(Refusal::StoreFailed);
-        }
-        match find_caller(&mut self.conn, token) {
+        match caller_unless_failed(self.is_failed, &mut self.conn, token) {
             Ok(caller) => Ok(caller),
             Err(fault) => Err(self.refusal(fault)),
         }

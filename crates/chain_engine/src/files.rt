@@ -1,43 +1,22 @@
 //! A chain in two files: how it is opened, and how it is closed.
 
 ghost use Rattle.std.specs.Prelude.{◌≡◌, ◌⊎◌, false, IfOk, IfErr};
-ghost use Rattle.sqlite.specs.Held.{state};
-ghost use Rattle.sqlite.specs.State.{HasCleanDisk, Survives};
+ghost use Rattle.sqlite.specs.State.{HasCleanDisk};
 ghost use Rattle.sqlite.specs.Files.{over_files, file_state, image_of};
 ghost use Rattle.sqlite_wal.specs.Files.{outcomes};
 ghost use Rattle.sqlite_wal.specs.Reads.{AreClean};
 ghost use Rattle.shop_model.specs.Books.{Books};
-ghost use Rattle.chain_store.specs.Chains.{IsAt, Rests};
-ghost use Rattle.chain_store.specs.Files.{Knows, HoldsOne, KeepsBooks, KeepsEither};
+ghost use Rattle.chain_store.specs.Chains.{IsAt};
+ghost use Rattle.chain_store.specs.Files.{HoldsOne, KeepsBooks, KeepsEither};
 ghost use Rattle.chain_store.specs.Openings.{IsOpenedIn, IsNotOpened};
 
 use crate::chain::Chain;
+use chain_steps::chain_version;
 use chain_store::{OpenFault, connect, give_back, verdict};
-use shop_schema::{KnownVersion, has_version, is_shop};
 use shop_types::Limits;
-use sql_rows::StoreFault;
-use sqlite::{Alter, Connection, FileStore, Files};
+use sqlite::{FileStore, Files};
 use sqlite_disk::Disk;
 use std::alloc::Global;
-
-/// Whether the tables are a chain's, and of which version.
-fn known<S: Alter>(alloc: Global, conn: &mut Connection<S>) -> Result<KnownVersion, StoreFault>
-    requires { conn.old.in_transaction ≡ false }
-    ensures ended { conn.new.in_transaction ≡ false }
-    ensures told { HasCleanDisk (state S.Store conn.new) → IfOk result (λ it. Knows it (state S.Store conn.old)) }
-    ensures same { HasCleanDisk (state S.Store conn.new) → (books : Books) → Rests (state S.Store conn.old) books → Rests (state S.Store conn.new) books }
-    ensures crash { Survives (state S.Store conn.old) (state S.Store conn.new) (λ _. ⊥) }
-{
-    if !has_version(alloc, conn.schema())? {
-        return Ok(KnownVersion::Missing);
-    }
-    let is_this = is_shop(alloc, conn.schema())?;
-    let found = chain_store::version_in(conn)?;
-    if found == KnownVersion::This && !is_this {
-        return Ok(KnownVersion::Missing);
-    }
-    Ok(found)
-}
 
 impl<D: Disk + Drop> Chain<FileStore<D>> {
     /// Opens the chain that the files hold; the limits are those of this opening. A fault gives the files back: `NotAChain` where they hold none,
@@ -51,7 +30,7 @@ impl<D: Disk + Drop> Chain<FileStore<D>> {
         ensures refused { IfErr result (λ e. IsNotOpened D.Disk files e.0 e.1) }
     {
         let mut conn = connect(alloc, files)?;
-        match verdict(known(alloc, &mut conn)) {
+        match verdict(chain_version(alloc, &mut conn)) {
             Ok(()) => Ok(Chain {
                 limits,
                 is_failed: false,

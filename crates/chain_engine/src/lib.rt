@@ -5,7 +5,6 @@ mod chain;
 mod creating;
 mod files;
 mod paths;
-mod step;
 
 pub use chain::Chain;
 pub use chain_store::OpenFault;

@@ -1,4 +1,4 @@
-use Rattle.std.proofs.Common.{◌≡◌, ◌≢◌, arith, inl, inr, refl, subst}
+use Rattle.std.proofs.Common.{arith, inl, inr, refl, subst}
 use Rattle.sqlite.specs.Files.{file_state}
 use Rattle.sqlite.specs.State.{HasCleanDisk}
 use Rattle.shop_model.proofs.Soundness.{empty_sound}

@@ -15,23 +15,23 @@ returns-in_err-conn-clause-refused g c =
 pub returns-in-Ok-clause-opened : goal.returns-in-Ok-clause-opened
 returns-in-Ok-clause-opened g c =
     let conn = c.in_ok-conn.conn in
-    let first = λ (clean : HasCleanDisk (file_state c.known.new.conn)). let r : HasCleanDisk (file_state conn) = omega (arith, clean, c.known.ensures.crash.clean) in r in
-    let opened = λ (clean : HasCleanDisk (file_state c.known.new.conn)). c.in_ok-conn.ensures.opened (first clean) in
-    let found = λ (clean : HasCleanDisk (file_state c.known.new.conn)). c.in_ok-conn.ensures.found (first clean) in
-    let this = λ (clean : HasCleanDisk (file_state c.known.new.conn)). rw c.in-Ok.ensures.this at (c.known.ensures.told clean) in
+    let first = λ (clean : HasCleanDisk (file_state c.chain_version.new.conn)). let r : HasCleanDisk (file_state conn) = omega (arith, clean, c.chain_version.ensures.crash.clean) in r in
+    let opened = λ (clean : HasCleanDisk (file_state c.chain_version.new.conn)). c.in_ok-conn.ensures.opened (first clean) in
+    let found = λ (clean : HasCleanDisk (file_state c.chain_version.new.conn)). c.in_ok-conn.ensures.found (first clean) in
+    let this = λ (clean : HasCleanDisk (file_state c.chain_version.new.conn)). rw c.in-Ok.ensures.this at (c.chain_version.ensures.told clean) in
     let stays = g.met.D.Disk.seen_may_stay in
     record {
       limits = refl;
       live = refl;
       honest = λ clean. (found clean).honest;
       found = λ clean books held.
-          opened_at _ books refl held.sound held.values (c.known.ensures.same clean books (found_rests conn c.args.files (opened clean) (found clean) stays (this clean).0 books held));
+          opened_at _ books refl held.sound held.values (c.chain_version.ensures.same clean books (found_rests conn c.args.files (opened clean) (found clean) stays (this clean).0 books held));
       again = λ clean books keeps.
-          opened_at _ books refl keeps.sound keeps.values (c.known.ensures.same clean books (kept_rests conn c.args.files (opened clean) (found clean) stays (this clean).0 books keeps));
+          opened_at _ books refl keeps.sound keeps.values (c.chain_version.ensures.same clean books (kept_rests conn c.args.files (opened clean) (found clean) stays (this clean).0 books keeps));
       either = λ clean books besides keeps.
           ∥∥₁_map (either_rests conn c.args.files (opened clean) (found clean) stays (this clean).0 books besides keeps) (λ it. elim it [
-            | inl first ↦ inl (opened_at _ books refl keeps.sound keeps.values (c.known.ensures.same clean books first))
-            | inr other ↦ inr (opened_at _ besides refl other.0 other.1 (c.known.ensures.same clean besides other.2))
+            | inl first ↦ inl (opened_at _ books refl keeps.sound keeps.values (c.chain_version.ensures.same clean books first))
+            | inr other ↦ inr (opened_at _ besides refl other.0 other.1 (c.chain_version.ensures.same clean besides other.2))
           ]);
       this = λ clean. has_this_version conn c.args.files (opened clean) (found clean) (this clean);
     }
@@ -40,20 +40,20 @@ pub returns-in-Err-clause-refused : goal.returns-in-Err-clause-refused
 returns-in-Err-clause-refused g c =
     let conn = c.in_ok-conn.conn in
     let back = c.give_back in
-    let first = λ (clean : HasCleanDisk (file_state c.known.new.conn)). let r : HasCleanDisk (file_state conn) = omega (arith, clean, c.known.ensures.crash.clean) in r in
+    let first = λ (clean : HasCleanDisk (file_state c.chain_version.new.conn)). let r : HasCleanDisk (file_state conn) = omega (arith, clean, c.chain_version.ensures.crash.clean) in r in
     record {
       no_chain = λ honest is.
           let clean = back.ensures.clean honest in
-          holds_no_chain conn c.args.files (c.in_ok-conn.ensures.opened (first clean)) (c.in_ok-conn.ensures.found (first clean)) (rw (c.in-Err.ensures.none is) at (c.known.ensures.told clean));
+          holds_no_chain conn c.args.files (c.in_ok-conn.ensures.opened (first clean)) (c.in_ok-conn.ensures.found (first clean)) (rw (c.in-Err.ensures.none is) at (c.chain_version.ensures.told clean));
       no_version = λ honest is.
           let clean = back.ensures.clean honest in
-          has_no_version conn c.args.files (c.in_ok-conn.ensures.opened (first clean)) (c.in_ok-conn.ensures.found (first clean)) (rw (c.in-Err.ensures.none is) at (c.known.ensures.told clean));
+          has_no_version conn c.args.files (c.in_ok-conn.ensures.opened (first clean)) (c.in_ok-conn.ensures.found (first clean)) (rw (c.in-Err.ensures.none is) at (c.chain_version.ensures.told clean));
       other = λ honest is.
           let clean = back.ensures.clean honest in
-          has_other_version conn c.args.files (c.in_ok-conn.ensures.opened (first clean)) (c.in_ok-conn.ensures.found (first clean)) (rw (c.in-Err.ensures.other is) at (c.known.ensures.told clean));
+          has_other_version conn c.args.files (c.in_ok-conn.ensures.opened (first clean)) (c.in_ok-conn.ensures.found (first clean)) (rw (c.in-Err.ensures.other is) at (c.chain_version.ensures.told clean));
       kept = λ honest.
           let clean = back.ensures.clean honest in
-          inr (left_as_found conn c.args.files (c.in_ok-conn.ensures.opened (first clean)) (c.in_ok-conn.ensures.found (first clean)) g.met.D.Disk.seen_may_stay c.known.new.conn back.result c.known.ensures.crash clean
+          inr (left_as_found conn c.args.files (c.in_ok-conn.ensures.opened (first clean)) (c.in_ok-conn.ensures.found (first clean)) g.met.D.Disk.seen_may_stay c.chain_version.new.conn back.result c.chain_version.ensures.crash clean
           (back.ensures.left honest));
       already = c.in-Err.ensures.already;
     }

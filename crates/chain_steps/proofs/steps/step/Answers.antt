@@ -10,7 +10,7 @@ use Rattle.chain_store.specs.Chains.{Rests}
 use Rattle.chain_store.specs.Reports.{ShowsReport}
 use Rattle.chain_store.specs.Steps.{IsMade, IsUndone, LeavesAfter, asker, asked_of}
 use Rattle.chain_store.proofs.Resting.{rests_back, either_of, made_commit, made_nothing, leaves_after, leaves_then, undone_after, shows_made, shows_nothing, of_any_error}
-use Rattle.chain_engine.proofs.step.step.Goals as goal
+use Rattle.chain_steps.proofs.steps.step.Goals as goal
 
 pub returns-in-Ok-clause-made : goal.returns-in-Ok-clause-made
 returns-in-Ok-clause-made g c clean =
