@@ -1,7 +1,8 @@
-use Rattle.std.proofs.Common.{◌∙◌, sym, ap, arith, List}
+use Rattle.std.proofs.Common.{◌∙◌, refl, sym, ap, arith, List}
 use Rattle.std.proofs.lemmas.Result.{IfOk-weaker}
 use Rattle.sqlite.specs.Held.{state}
 use Rattle.sqlite.specs.State.{HasCleanDisk}
+use Rattle.sql_rows.proofs.Stays.{within_of, within_none, within_as, within_err, within_then}
 use Rattle.shop_model.specs.Calendar.{month_before}
 use Rattle.shop_model.specs.Books.{shop_of}
 use Rattle.shop_ledger.specs.declared.payments.PaymentRow.{PaymentRow}
@@ -31,3 +32,33 @@ returns-clause-found g c = λ clean.
     (λ books held is. found_are month days (shop_of b books) c.args.purchases c.args.cents _ _ numbers.items are is.0
     (ap (λ (rows : List PaymentRow). payments_of rows) c.as_slice.ensures.value ∙ is.1 ∙ of_the_month b month days bounds.0 bounds.1 are c.last_month_bounds-start.ensures books held) found)
     (reads_then s0 s1 s2 _ _ (c.in_ok-customers.ensures.count before) (c.in_ok-rows.ensures.rows clean))) c.rewarded_among.ensures
+
+pub returns-in_default-clause-inside : goal.returns-in_default-clause-inside
+returns-in_default-clause-inside g c = within_none (state g.S.Store c.args.tx.now.conn.now) _
+
+pub returns-in_err-customers-clause-inside : goal.returns-in_err-customers-clause-inside
+returns-in_err-customers-clause-inside g c =
+    let s0 = state g.S.Store c.args.tx.now.conn.now in
+    let s1 = state g.S.Store c.count_of.new.tx.conn.now in
+    within_err s0 s1 _ _ (within_of s0 s1 _ c.count_of.ensures.inside) c.from_residual.ensures.0
+
+pub returns-in_err-rows-clause-inside : goal.returns-in_err-rows-clause-inside
+returns-in_err-rows-clause-inside g c =
+    let s0 = state g.S.Store c.args.tx.now.conn.now in
+    let s1 = state g.S.Store c.count_of.new.tx.conn.now in
+    let s2 = state g.S.Store c.payments_between.new.tx.conn.now in
+    within_err s0 s2 _ _ (within_then s0 s1 s2 _ _ refl (within_of s0 s1 _ c.in_ok-customers.ensures.inside) (within_of s1 s2 _ c.payments_between.ensures.inside)) c.from_residual-in_err-rows.ensures.0
+
+pub returns-then-customers-gt1000000-clause-inside : goal.returns-then-customers-gt1000000-clause-inside
+returns-then-customers-gt1000000-clause-inside g c =
+    let s0 = state g.S.Store c.args.tx.now.conn.now in
+    let s1 = state g.S.Store c.count_of.new.tx.conn.now in
+    let s2 = state g.S.Store c.payments_between.new.tx.conn.now in
+    within_as s0 s2 _ _ (within_then s0 s1 s2 _ _ refl (within_of s0 s1 _ c.in_ok-customers.ensures.inside) (within_of s1 s2 _ c.in_ok-rows.ensures.inside)) (λ ok. refl)
+
+pub returns-clause-inside : goal.returns-clause-inside
+returns-clause-inside g c =
+    let s0 = state g.S.Store c.args.tx.now.conn.now in
+    let s1 = state g.S.Store c.count_of.new.tx.conn.now in
+    let s2 = state g.S.Store c.payments_between.new.tx.conn.now in
+    within_as s0 s2 _ _ (within_then s0 s1 s2 _ _ refl (within_of s0 s1 _ c.in_ok-customers.ensures.inside) (within_of s1 s2 _ c.in_ok-rows.ensures.inside)) (λ ok. refl)
