@@ -69,151 +69,76 @@ is_of_branch b [] e f = absurd (apart e) where
   apart e = cc
 is_of_branch b (row ∷ rows) e f = rw (not_false (row.branch == b) (or_parts (not (row.branch == b)) _ f).0)
 
+-- what each list of rows names, one after another
+names_of : (named rows : Catalogue) → list_all (λ (it : City). has_row named.countries it.country) rows.cities ≡ true
+    → list_all (λ (it : Film). has_row named.languages it.language) rows.films ≡ true → list_all (λ (it : Film). has_row named.categories it.category) rows.films ≡ true
+    → list_all (λ (it : Cast). has_row named.films it.film) rows.casts ≡ true → list_all (λ (it : Cast). has_row named.actors it.actor) rows.casts ≡ true
+    → list_all (λ (it : Branch). has_row named.cities it.city) rows.branches ≡ true
+    → ((b : ℕ) → list_all (λ (it : Branch). list_all (is_staff_of b named.staff) (option_to_list it.manager)) (at b rows.branches) ≡ true)
+    → list_all (λ (it : Staff). has_row named.branches it.branch) rows.staff ≡ true → list_all (λ (it : Staff). has_row named.cities it.person.city) rows.staff ≡ true
+    → NamesRowsOf named rows
+names_of named rows countries languages categories films actors cities managers branches staff_cities = record {
+  city_countries = countries;
+  film_languages = languages;
+  film_categories = categories;
+  cast_films = films;
+  cast_actors = actors;
+  branch_cities = cities;
+  managers = managers;
+  staff_branches = branches;
+  staff_cities = staff_cities;
+}
+
 names_acted : (act : OfficeAct) (it : Catalogue) → NamesRowsOf it it → NoneHold (office_refusals it act) → NamesRowsOf (office_acted act it) (office_acted act it)
-names_acted (AddCountry name) it old none = let h = names_grow it (office_acted (AddCountry name) it) it (office_grows (AddCountry name) it) old in record {
-  city_countries = h.city_countries;
-  film_languages = h.film_languages;
-  film_categories = h.film_categories;
-  cast_films = h.cast_films;
-  cast_actors = h.cast_actors;
-  branch_cities = h.branch_cities;
-  managers = h.managers;
-  staff_branches = h.staff_branches;
-  staff_cities = h.staff_cities;
-}
-names_acted (AddCity city) it old none = let h = names_grow it (office_acted (AddCity city) it) it (office_grows (AddCity city) it) old in record {
-  city_countries = all_more (λ (x : City). has_row it.countries x.country) it.cities city h.city_countries (is_there it.countries city.country none.0);
-  film_languages = h.film_languages;
-  film_categories = h.film_categories;
-  cast_films = h.cast_films;
-  cast_actors = h.cast_actors;
-  branch_cities = h.branch_cities;
-  managers = h.managers;
-  staff_branches = h.staff_branches;
-  staff_cities = h.staff_cities;
-}
-names_acted (AddLanguage name) it old none = let h = names_grow it (office_acted (AddLanguage name) it) it (office_grows (AddLanguage name) it) old in record {
-  city_countries = h.city_countries;
-  film_languages = h.film_languages;
-  film_categories = h.film_categories;
-  cast_films = h.cast_films;
-  cast_actors = h.cast_actors;
-  branch_cities = h.branch_cities;
-  managers = h.managers;
-  staff_branches = h.staff_branches;
-  staff_cities = h.staff_cities;
-}
-names_acted (AddCategory name) it old none = let h = names_grow it (office_acted (AddCategory name) it) it (office_grows (AddCategory name) it) old in record {
-  city_countries = h.city_countries;
-  film_languages = h.film_languages;
-  film_categories = h.film_categories;
-  cast_films = h.cast_films;
-  cast_actors = h.cast_actors;
-  branch_cities = h.branch_cities;
-  managers = h.managers;
-  staff_branches = h.staff_branches;
-  staff_cities = h.staff_cities;
-}
-names_acted (AddActor actor) it old none = let h = names_grow it (office_acted (AddActor actor) it) it (office_grows (AddActor actor) it) old in record {
-  city_countries = h.city_countries;
-  film_languages = h.film_languages;
-  film_categories = h.film_categories;
-  cast_films = h.cast_films;
-  cast_actors = h.cast_actors;
-  branch_cities = h.branch_cities;
-  managers = h.managers;
-  staff_branches = h.staff_branches;
-  staff_cities = h.staff_cities;
-}
-names_acted (AddFilm film) it old none = let h = names_grow it (office_acted (AddFilm film) it) it (office_grows (AddFilm film) it) old in record {
-  city_countries = h.city_countries;
-  film_languages = all_more (λ (x : Film). has_row it.languages x.language) it.films (record film { withdrawn = false }) h.film_languages (is_there it.languages film.language (or_parts (lacks it.languages film.language) (lacks it.categories film.category) none.0).0);
-  film_categories = all_more (λ (x : Film). has_row it.categories x.category) it.films (record film { withdrawn = false }) h.film_categories (is_there it.categories film.category (or_parts (lacks it.languages film.language) (lacks it.categories film.category) none.0).1);
-  cast_films = h.cast_films;
-  cast_actors = h.cast_actors;
-  branch_cities = h.branch_cities;
-  managers = h.managers;
-  staff_branches = h.staff_branches;
-  staff_cities = h.staff_cities;
-}
-names_acted (PriceFilm f rate) it old none = let h = names_grow it (office_acted (PriceFilm f rate) it) it (office_grows (PriceFilm f rate) it) old in record {
-  city_countries = h.city_countries;
-  film_languages = all_set (λ (x : Film). has_row it.languages x.language) f (λ (x : Film). record x { rate = rate }) it.films h.film_languages (λ x is. is);
-  film_categories = all_set (λ (x : Film). has_row it.categories x.category) f (λ (x : Film). record x { rate = rate }) it.films h.film_categories (λ x is. is);
-  cast_films = h.cast_films;
-  cast_actors = h.cast_actors;
-  branch_cities = h.branch_cities;
-  managers = h.managers;
-  staff_branches = h.staff_branches;
-  staff_cities = h.staff_cities;
-}
-names_acted (WithdrawFilm f) it old none = let h = names_grow it (office_acted (WithdrawFilm f) it) it (office_grows (WithdrawFilm f) it) old in record {
-  city_countries = h.city_countries;
-  film_languages = all_set (λ (x : Film). has_row it.languages x.language) f (λ (x : Film). record x { withdrawn = true }) it.films h.film_languages (λ x is. is);
-  film_categories = all_set (λ (x : Film). has_row it.categories x.category) f (λ (x : Film). record x { withdrawn = true }) it.films h.film_categories (λ x is. is);
-  cast_films = h.cast_films;
-  cast_actors = h.cast_actors;
-  branch_cities = h.branch_cities;
-  managers = h.managers;
-  staff_branches = h.staff_branches;
-  staff_cities = h.staff_cities;
-}
-names_acted (AddCast cast) it old none = let h = names_grow it (office_acted (AddCast cast) it) it (office_grows (AddCast cast) it) old in record {
-  city_countries = h.city_countries;
-  film_languages = h.film_languages;
-  film_categories = h.film_categories;
-  cast_films = all_more (λ (x : Cast). has_row it.films x.film) it.casts cast h.cast_films (is_there it.films cast.film none.0);
-  cast_actors = all_more (λ (x : Cast). has_row it.actors x.actor) it.casts cast h.cast_actors (is_there it.actors cast.actor none.1.0);
-  branch_cities = h.branch_cities;
-  managers = h.managers;
-  staff_branches = h.staff_branches;
-  staff_cities = h.staff_cities;
-}
-names_acted (AddBranch branch) it old none = let h = names_grow it (office_acted (AddBranch branch) it) it (office_grows (AddBranch branch) it) old in record {
-  city_countries = h.city_countries;
-  film_languages = h.film_languages;
-  film_categories = h.film_categories;
-  cast_films = h.cast_films;
-  cast_actors = h.cast_actors;
-  branch_cities = all_more (λ (x : Branch). has_row it.cities x.city) it.branches (record branch { manager = None }) h.branch_cities (is_there it.cities branch.city none.1.0);
-  managers = λ c. all_at_more (λ (x : Branch). list_all (is_staff_of c it.staff) (option_to_list x.manager)) c it.branches (record branch { manager = None }) (h.managers c) refl;
-  staff_branches = h.staff_branches;
-  staff_cities = h.staff_cities;
-}
-names_acted (AddStaff staff) it old none = let h = names_grow it (office_acted (AddStaff staff) it) it (office_grows (AddStaff staff) it) old in record {
-  city_countries = h.city_countries;
-  film_languages = h.film_languages;
-  film_categories = h.film_categories;
-  cast_films = h.cast_films;
-  cast_actors = h.cast_actors;
-  branch_cities = h.branch_cities;
-  managers = h.managers;
-  staff_branches = all_more (λ (x : Staff). has_row it.branches x.branch) it.staff (record staff { gone = false }) h.staff_branches (is_there it.branches staff.branch none.0);
-  staff_cities = all_more (λ (x : Staff). has_row it.cities x.person.city) it.staff (record staff { gone = false }) h.staff_cities (is_there it.cities staff.person.city none.1.0);
-}
-names_acted (StaffLeaves s) it old none = let h = names_grow it (office_acted (StaffLeaves s) it) it (office_grows (StaffLeaves s) it) old in record {
-  city_countries = h.city_countries;
-  film_languages = h.film_languages;
-  film_categories = h.film_categories;
-  cast_films = h.cast_films;
-  cast_actors = h.cast_actors;
-  branch_cities = h.branch_cities;
-  managers = h.managers;
-  staff_branches = all_set (λ (x : Staff). has_row it.branches x.branch) s (λ (x : Staff). record x { gone = true }) it.staff h.staff_branches (λ x is. is);
-  staff_cities = all_set (λ (x : Staff). has_row it.cities x.person.city) s (λ (x : Staff). record x { gone = true }) it.staff h.staff_cities (λ x is. is);
-}
-names_acted (SetManager b s) it old none = let h = names_grow it (office_acted (SetManager b s) it) it (office_grows (SetManager b s) it) old in record {
-  city_countries = h.city_countries;
-  film_languages = h.film_languages;
-  film_categories = h.film_categories;
-  cast_films = h.cast_films;
-  cast_actors = h.cast_actors;
-  branch_cities = all_set (λ (x : Branch). has_row it.cities x.city) b (λ (x : Branch). record x { manager = Some s }) it.branches h.branch_cities (λ x is. is);
-  managers = λ c. all_at_set (λ (x : Branch). list_all (is_staff_of c it.staff) (option_to_list x.manager)) c b (λ (x : Branch). record x { manager = Some s }) it.branches (h.managers c)
-      (λ same x is. let of : is_staff_of b it.staff s ≡ true = is_of_branch b (at s it.staff) (or_parts (lacks it.staff s) _ none.0).0 (or_parts (lacks it.branches b) _ none.1.0).1 in rw (same, of));
-  staff_branches = h.staff_branches;
-  staff_cities = h.staff_cities;
-}
+names_acted (AddCountry name) it old none = let h = names_grow it (office_acted (AddCountry name) it) it (office_grows (AddCountry name) it) old in
+    names_of _ _ h.city_countries h.film_languages h.film_categories h.cast_films h.cast_actors h.branch_cities h.managers h.staff_branches h.staff_cities
+names_acted (AddCity city) it old none = let h = names_grow it (office_acted (AddCity city) it) it (office_grows (AddCity city) it) old in
+    names_of _ _ (all_more (λ (x : City). has_row it.countries x.country) it.cities city h.city_countries (is_there it.countries city.country none.0))
+    h.film_languages h.film_categories h.cast_films h.cast_actors h.branch_cities h.managers h.staff_branches h.staff_cities
+names_acted (AddLanguage name) it old none = let h = names_grow it (office_acted (AddLanguage name) it) it (office_grows (AddLanguage name) it) old in
+    names_of _ _ h.city_countries h.film_languages h.film_categories h.cast_films h.cast_actors h.branch_cities h.managers h.staff_branches h.staff_cities
+names_acted (AddCategory name) it old none = let h = names_grow it (office_acted (AddCategory name) it) it (office_grows (AddCategory name) it) old in
+    names_of _ _ h.city_countries h.film_languages h.film_categories h.cast_films h.cast_actors h.branch_cities h.managers h.staff_branches h.staff_cities
+names_acted (AddActor actor) it old none = let h = names_grow it (office_acted (AddActor actor) it) it (office_grows (AddActor actor) it) old in
+    names_of _ _ h.city_countries h.film_languages h.film_categories h.cast_films h.cast_actors h.branch_cities h.managers h.staff_branches h.staff_cities
+names_acted (AddFilm film) it old none = let h = names_grow it (office_acted (AddFilm film) it) it (office_grows (AddFilm film) it) old in
+    names_of _ _ h.city_countries
+    (all_more (λ (x : Film). has_row it.languages x.language) it.films (record film { withdrawn = false }) h.film_languages (is_there it.languages film.language (or_parts (lacks it.languages film.language) (lacks it.categories film.category) none.0).0))
+    (all_more (λ (x : Film). has_row it.categories x.category) it.films (record film { withdrawn = false }) h.film_categories (is_there it.categories film.category (or_parts (lacks it.languages film.language) (lacks it.categories film.category) none.0).1))
+    h.cast_films h.cast_actors h.branch_cities h.managers h.staff_branches h.staff_cities
+names_acted (PriceFilm f rate) it old none = let h = names_grow it (office_acted (PriceFilm f rate) it) it (office_grows (PriceFilm f rate) it) old in
+    names_of _ _ h.city_countries
+    (all_set (λ (x : Film). has_row it.languages x.language) f (λ (x : Film). record x { rate = rate }) it.films h.film_languages (λ x is. is))
+    (all_set (λ (x : Film). has_row it.categories x.category) f (λ (x : Film). record x { rate = rate }) it.films h.film_categories (λ x is. is)) h.cast_films
+    h.cast_actors h.branch_cities h.managers h.staff_branches h.staff_cities
+names_acted (WithdrawFilm f) it old none = let h = names_grow it (office_acted (WithdrawFilm f) it) it (office_grows (WithdrawFilm f) it) old in
+    names_of _ _ h.city_countries
+    (all_set (λ (x : Film). has_row it.languages x.language) f (λ (x : Film). record x { withdrawn = true }) it.films h.film_languages (λ x is. is))
+    (all_set (λ (x : Film). has_row it.categories x.category) f (λ (x : Film). record x { withdrawn = true }) it.films h.film_categories (λ x is. is))
+    h.cast_films h.cast_actors h.branch_cities h.managers h.staff_branches h.staff_cities
+names_acted (AddCast cast) it old none = let h = names_grow it (office_acted (AddCast cast) it) it (office_grows (AddCast cast) it) old in
+    names_of _ _ h.city_countries h.film_languages h.film_categories
+    (all_more (λ (x : Cast). has_row it.films x.film) it.casts cast h.cast_films (is_there it.films cast.film none.0))
+    (all_more (λ (x : Cast). has_row it.actors x.actor) it.casts cast h.cast_actors (is_there it.actors cast.actor none.1.0)) h.branch_cities h.managers
+    h.staff_branches h.staff_cities
+names_acted (AddBranch branch) it old none = let h = names_grow it (office_acted (AddBranch branch) it) it (office_grows (AddBranch branch) it) old in
+    names_of _ _ h.city_countries h.film_languages h.film_categories h.cast_films h.cast_actors
+    (all_more (λ (x : Branch). has_row it.cities x.city) it.branches (record branch { manager = None }) h.branch_cities (is_there it.cities branch.city none.1.0))
+    (λ c. all_at_more (λ (x : Branch). list_all (is_staff_of c it.staff) (option_to_list x.manager)) c it.branches (record branch { manager = None }) (h.managers c) refl)
+    h.staff_branches h.staff_cities
+names_acted (AddStaff staff) it old none = let h = names_grow it (office_acted (AddStaff staff) it) it (office_grows (AddStaff staff) it) old in
+    names_of _ _ h.city_countries h.film_languages h.film_categories h.cast_films h.cast_actors h.branch_cities h.managers
+    (all_more (λ (x : Staff). has_row it.branches x.branch) it.staff (record staff { gone = false }) h.staff_branches (is_there it.branches staff.branch none.0))
+    (all_more (λ (x : Staff). has_row it.cities x.person.city) it.staff (record staff { gone = false }) h.staff_cities (is_there it.cities staff.person.city none.1.0))
+names_acted (StaffLeaves s) it old none = let h = names_grow it (office_acted (StaffLeaves s) it) it (office_grows (StaffLeaves s) it) old in
+    names_of _ _ h.city_countries h.film_languages h.film_categories h.cast_films h.cast_actors h.branch_cities h.managers
+    (all_set (λ (x : Staff). has_row it.branches x.branch) s (λ (x : Staff). record x { gone = true }) it.staff h.staff_branches (λ x is. is))
+    (all_set (λ (x : Staff). has_row it.cities x.person.city) s (λ (x : Staff). record x { gone = true }) it.staff h.staff_cities (λ x is. is))
+names_acted (SetManager b s) it old none = let h = names_grow it (office_acted (SetManager b s) it) it (office_grows (SetManager b s) it) old in
+    names_of _ _ h.city_countries h.film_languages h.film_categories h.cast_films h.cast_actors
+    (all_set (λ (x : Branch). has_row it.cities x.city) b (λ (x : Branch). record x { manager = Some s }) it.branches h.branch_cities (λ x is. is))
+    (λ c. all_at_set (λ (x : Branch). list_all (is_staff_of c it.staff) (option_to_list x.manager)) c b (λ (x : Branch). record x { manager = Some s }) it.branches (h.managers c) (λ same x is. let of : is_staff_of b it.staff s ≡ true = is_of_branch b (at s it.staff) (or_parts (lacks it.staff s) _ none.0).0 (or_parts (lacks it.branches b) _ none.1.0).1 in rw (same, of)))
+    h.staff_branches h.staff_cities
 
 -- ---- sizes, with one key more
 
