@@ -14,7 +14,7 @@ use Rattle.shop_model.specs.Sound.{IsSound}
 use Rattle.shop_model.specs.Verdict.{Verdict, Accepted, office_verdict}
 use Rattle.shop_model.proofs.Soundness.{after_sound}
 use Rattle.shop_schema.specs.Held.{HasFewShared, IsHeld}
-use Rattle.shop_schema.specs.RowValues.{IsNumber, IsName, IsCity, IsActor, IsRating, IsFilm, IsCast, IsBranch, IsStaff, IsKey, IsOfficeAct, IsOfficeKept, AreShared, AreCatalogueValues, AreValues}
+use Rattle.shop_schema.specs.RowValues.{IsToken, IsNumber, IsName, IsCity, IsActor, IsRating, IsFilm, IsCast, IsBranch, IsStaff, IsKey, IsOfficeAct, IsOfficeKept, AreShared, AreCatalogueValues, AreValues}
 use Rattle.shop_types.specs.Films.{rating_text}
 use Rattle.shop_types.specs.declared.film.Rating.{Rating}
 use Rattle.shop_types.specs.declared.film.Rating.TheVariants as rating
@@ -112,176 +112,64 @@ office_reply (SetManager b s) it is few = two_reply (codes "{\"branch\":") (code
 
 -- ---- a step
 
+-- what holds of each list of a catalogue, one after another
+values_of : (it : Catalogue) → IsToken it.office_token → AllByRecursion IsOfficeKept it.kept → AllByRecursion IsCast it.casts → AreShared IsName it.countries
+    → AreShared IsCity it.cities → AreShared IsName it.languages → AreShared IsName it.categories → AreShared IsActor it.actors → AreShared IsFilm it.films
+    → AreShared IsBranch it.branches → AreShared IsStaff it.staff → AreCatalogueValues it
+values_of it token kept casts countries cities languages categories actors films branches staff = record {
+  office_token = token;
+  kept = kept;
+  casts = casts;
+  countries = countries;
+  cities = cities;
+  languages = languages;
+  categories = categories;
+  actors = actors;
+  films = films;
+  branches = branches;
+  staff = staff;
+}
+
 acted_values : (act : OfficeAct) (it : Catalogue) → IsOfficeAct act → AreCatalogueValues it → HasFewShared it → AreCatalogueValues (office_acted act it)
-acted_values (AddCountry name) it is v few = record {
-  office_token = v.office_token;
-  kept = v.kept;
-  casts = v.casts;
-  countries = shared_push IsName it.countries name few.countries is v.countries;
-  cities = v.cities;
-  languages = v.languages;
-  categories = v.categories;
-  actors = v.actors;
-  films = v.films;
-  branches = v.branches;
-  staff = v.staff;
-}
-acted_values (AddCity city) it is v few = record {
-  office_token = v.office_token;
-  kept = v.kept;
-  casts = v.casts;
-  countries = v.countries;
-  cities = shared_push IsCity it.cities city few.cities is v.cities;
-  languages = v.languages;
-  categories = v.categories;
-  actors = v.actors;
-  films = v.films;
-  branches = v.branches;
-  staff = v.staff;
-}
-acted_values (AddLanguage name) it is v few = record {
-  office_token = v.office_token;
-  kept = v.kept;
-  casts = v.casts;
-  countries = v.countries;
-  cities = v.cities;
-  languages = shared_push IsName it.languages name few.languages is v.languages;
-  categories = v.categories;
-  actors = v.actors;
-  films = v.films;
-  branches = v.branches;
-  staff = v.staff;
-}
-acted_values (AddCategory name) it is v few = record {
-  office_token = v.office_token;
-  kept = v.kept;
-  casts = v.casts;
-  countries = v.countries;
-  cities = v.cities;
-  languages = v.languages;
-  categories = shared_push IsName it.categories name few.categories is v.categories;
-  actors = v.actors;
-  films = v.films;
-  branches = v.branches;
-  staff = v.staff;
-}
-acted_values (AddActor actor) it is v few = record {
-  office_token = v.office_token;
-  kept = v.kept;
-  casts = v.casts;
-  countries = v.countries;
-  cities = v.cities;
-  languages = v.languages;
-  categories = v.categories;
-  actors = shared_push IsActor it.actors actor few.actors is v.actors;
-  films = v.films;
-  branches = v.branches;
-  staff = v.staff;
-}
-acted_values (AddFilm film) it is v few = record {
-  office_token = v.office_token;
-  kept = v.kept;
-  casts = v.casts;
-  countries = v.countries;
-  cities = v.cities;
-  languages = v.languages;
-  categories = v.categories;
-  actors = v.actors;
-  films = shared_push IsFilm it.films (record film { withdrawn = false }) few.films (rated film film.rate false is is.rate) v.films;
-  branches = v.branches;
-  staff = v.staff;
-}
-acted_values (PriceFilm f rate) it is v few = record {
-  office_token = v.office_token;
-  kept = v.kept;
-  casts = v.casts;
-  countries = v.countries;
-  cities = v.cities;
-  languages = v.languages;
-  categories = v.categories;
-  actors = v.actors;
-  films = shared_set IsFilm f (λ (x : Film). record x { rate = rate }) it.films (λ x such. rated x rate x.withdrawn such is.1) v.films;
-  branches = v.branches;
-  staff = v.staff;
-}
-acted_values (WithdrawFilm f) it is v few = record {
-  office_token = v.office_token;
-  kept = v.kept;
-  casts = v.casts;
-  countries = v.countries;
-  cities = v.cities;
-  languages = v.languages;
-  categories = v.categories;
-  actors = v.actors;
-  films = shared_set IsFilm f (λ (x : Film). record x { withdrawn = true }) it.films (λ x such. rated x x.rate true such such.rate) v.films;
-  branches = v.branches;
-  staff = v.staff;
-}
-acted_values (AddCast cast) it is v few = record {
-  office_token = v.office_token;
-  kept = v.kept;
-  casts = all_push IsCast it.casts cast v.casts is;
-  countries = v.countries;
-  cities = v.cities;
-  languages = v.languages;
-  categories = v.categories;
-  actors = v.actors;
-  films = v.films;
-  branches = v.branches;
-  staff = v.staff;
-}
-acted_values (AddBranch branch) it is v few = record {
-  office_token = v.office_token;
-  kept = v.kept;
-  casts = v.casts;
-  countries = v.countries;
-  cities = v.cities;
-  languages = v.languages;
-  categories = v.categories;
-  actors = v.actors;
-  films = v.films;
-  branches = shared_push IsBranch it.branches (record branch { manager = None }) few.branches (managed branch None is tt) v.branches;
-  staff = v.staff;
-}
-acted_values (AddStaff staff) it is v few = record {
-  office_token = v.office_token;
-  kept = v.kept;
-  casts = v.casts;
-  countries = v.countries;
-  cities = v.cities;
-  languages = v.languages;
-  categories = v.categories;
-  actors = v.actors;
-  films = v.films;
-  branches = v.branches;
-  staff = shared_push IsStaff it.staff (record staff { gone = false }) few.staff is v.staff;
-}
-acted_values (StaffLeaves s) it is v few = record {
-  office_token = v.office_token;
-  kept = v.kept;
-  casts = v.casts;
-  countries = v.countries;
-  cities = v.cities;
-  languages = v.languages;
-  categories = v.categories;
-  actors = v.actors;
-  films = v.films;
-  branches = v.branches;
-  staff = shared_set IsStaff s (λ (x : Staff). record x { gone = true }) it.staff (λ x such. such) v.staff;
-}
-acted_values (SetManager b s) it is v few = record {
-  office_token = v.office_token;
-  kept = v.kept;
-  casts = v.casts;
-  countries = v.countries;
-  cities = v.cities;
-  languages = v.languages;
-  categories = v.categories;
-  actors = v.actors;
-  films = v.films;
-  branches = shared_set IsBranch b (λ (x : Branch). record x { manager = Some s }) it.branches (λ x such. managed x (Some s) such is.1) v.branches;
-  staff = v.staff;
-}
+acted_values (AddCountry name) it is v few =
+    values_of _ v.office_token v.kept v.casts (shared_push IsName it.countries name few.countries is v.countries) v.cities v.languages v.categories v.actors
+    v.films v.branches v.staff
+acted_values (AddCity city) it is v few =
+    values_of _ v.office_token v.kept v.casts v.countries (shared_push IsCity it.cities city few.cities is v.cities) v.languages v.categories v.actors v.films
+    v.branches v.staff
+acted_values (AddLanguage name) it is v few =
+    values_of _ v.office_token v.kept v.casts v.countries v.cities (shared_push IsName it.languages name few.languages is v.languages) v.categories v.actors
+    v.films v.branches v.staff
+acted_values (AddCategory name) it is v few =
+    values_of _ v.office_token v.kept v.casts v.countries v.cities v.languages (shared_push IsName it.categories name few.categories is v.categories) v.actors
+    v.films v.branches v.staff
+acted_values (AddActor actor) it is v few =
+    values_of _ v.office_token v.kept v.casts v.countries v.cities v.languages v.categories (shared_push IsActor it.actors actor few.actors is v.actors)
+    v.films v.branches v.staff
+acted_values (AddFilm film) it is v few =
+    values_of _ v.office_token v.kept v.casts v.countries v.cities v.languages v.categories v.actors
+    (shared_push IsFilm it.films (record film { withdrawn = false }) few.films (rated film film.rate false is is.rate) v.films) v.branches v.staff
+acted_values (PriceFilm f rate) it is v few =
+    values_of _ v.office_token v.kept v.casts v.countries v.cities v.languages v.categories v.actors
+    (shared_set IsFilm f (λ (x : Film). record x { rate = rate }) it.films (λ x such. rated x rate x.withdrawn such is.1) v.films) v.branches v.staff
+acted_values (WithdrawFilm f) it is v few =
+    values_of _ v.office_token v.kept v.casts v.countries v.cities v.languages v.categories v.actors
+    (shared_set IsFilm f (λ (x : Film). record x { withdrawn = true }) it.films (λ x such. rated x x.rate true such such.rate) v.films) v.branches v.staff
+acted_values (AddCast cast) it is v few =
+    values_of _ v.office_token v.kept (all_push IsCast it.casts cast v.casts is) v.countries v.cities v.languages v.categories v.actors v.films v.branches
+    v.staff
+acted_values (AddBranch branch) it is v few =
+    values_of _ v.office_token v.kept v.casts v.countries v.cities v.languages v.categories v.actors v.films
+    (shared_push IsBranch it.branches (record branch { manager = None }) few.branches (managed branch None is tt) v.branches) v.staff
+acted_values (AddStaff staff) it is v few =
+    values_of _ v.office_token v.kept v.casts v.countries v.cities v.languages v.categories v.actors v.films v.branches
+    (shared_push IsStaff it.staff (record staff { gone = false }) few.staff is v.staff)
+acted_values (StaffLeaves s) it is v few =
+    values_of _ v.office_token v.kept v.casts v.countries v.cities v.languages v.categories v.actors v.films v.branches
+    (shared_set IsStaff s (λ (x : Staff). record x { gone = true }) it.staff (λ x such. such) v.staff)
+acted_values (SetManager b s) it is v few =
+    values_of _ v.office_token v.kept v.casts v.countries v.cities v.languages v.categories v.actors v.films
+    (shared_set IsBranch b (λ (x : Branch). record x { manager = Some s }) it.branches (λ x such. managed x (Some s) such is.1) v.branches) v.staff
 
 -- what an accepted command of head office makes of the books
 pub office_values_done : (command : OfficeCommand) (books : Books) → IsOfficeAct command.act → IsKey command.key → AreValues books → HasFewShared books.catalogue
