@@ -1,4 +1,5 @@
 pub mod Readings
+pub mod Chained
 pub mod Lookings
 pub mod FilmLemmas
 pub mod Shows
