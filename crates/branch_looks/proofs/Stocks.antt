@@ -1,6 +1,6 @@
 -- What is found of the films of a stock file.
 use Rattle.std.proofs.Common.{◌≡◌, ◌∙◌, refl, sym, ap, ℕ, ◌+◌, ◌<◌, ◌≤◌, List, [], ◌∷◌, ◌++◌, length, map, take, get_or, replicate, not, Bool, Option, arith}
-use Rattle.std.specs.Prelude.{◌-◌, is_some}
+use Rattle.std.specs.Prelude.{is_some}
 use Rattle.std.specs.List.{All}
 use Rattle.std.proofs.lemmas.List.{map_more, map_push, take_more}
 use Rattle.std.proofs.lemmas.List.Elements.{All-map, All-weaker}

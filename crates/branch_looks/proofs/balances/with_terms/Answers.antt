@@ -3,7 +3,7 @@ use Rattle.std.proofs.lemmas.List.{take_all, map_more}
 use Rattle.std.proofs.lemmas.Grind.{flat_map-append}
 use Rattle.sqlite.specs.Held.{state}
 use Rattle.sqlite.specs.State.{HasCleanDisk}
-use Rattle.sql_rows.proofs.Stays.{within_as, within_none, within_then}
+use Rattle.sql_rows.proofs.Stays.{within_as, within_err, within_none, within_then}
 use Rattle.shop_model.specs.Values.{Rental}
 use Rattle.shop_model.specs.Books.{shop_of}
 use Rattle.shop_types.specs.Seen.{seen_rental}
@@ -56,3 +56,12 @@ pub returns-clause-found : goal.returns-clause-found
 returns-clause-found g c = λ clean.
     reads_as (state g.S.Store c.args.tx.now.conn.now) (state g.S.Store c.loop-row.tx.conn.now) _ _
     (λ books held is. is.0 ∙ ap (λ (rs : List RentalRow). flat_map (terms_of books.catalogue (shop_of c.args.branch books)) (map seen rs)) (take_all c.loop-row.row-index c.args.rows.now c.loop-row-test.false)) (c.loop-row.invariant.2 clean)
+
+pub returns-in_err-found-clause-inside : goal.returns-in_err-found-clause-inside
+returns-in_err-found-clause-inside g c = within_err _ _ _ _ (within_then _ _ _ _ _ refl c.loop-row.invariant.1 c.terms_at.ensures.inside) c.from_residual.ensures.0
+
+pub returns-in_err-push_found-clause-inside : goal.returns-in_err-push_found-clause-inside
+returns-in_err-push_found-clause-inside g c = within_err _ _ _ _ (within_then _ _ _ _ _ refl c.loop-row.invariant.1 c.in_ok-found.ensures.inside) c.from_residual-in_err-push_found.ensures.0
+
+pub returns-clause-inside : goal.returns-clause-inside
+returns-clause-inside g c = within_as _ _ _ _ c.loop-row.invariant.1 (λ ok. refl)

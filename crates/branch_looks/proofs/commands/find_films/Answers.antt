@@ -2,7 +2,7 @@ use Rattle.std.proofs.Common.{◌≡◌, ◌∙◌, ◌++◌, ◌∷◌, [], Ok,
 use Rattle.std.proofs.lemmas.List.{take_all}
 use Rattle.sqlite.specs.Held.{state}
 use Rattle.sqlite.specs.State.{HasCleanDisk}
-use Rattle.sql_rows.proofs.Stays.{within_of, within_as, within_then}
+use Rattle.sql_rows.proofs.Stays.{within_as, within_err, within_of, within_then}
 use Rattle.stock_csv.specs.declared.StockRow.{StockRow}
 use Rattle.branch_core.specs.declared.found.StockFound.{StockFound}
 use Rattle.branch_looks.specs.Commands.{as_listed, found_row, told_row}
@@ -32,3 +32,12 @@ pub returns-clause-found : goal.returns-clause-found
 returns-clause-found g c = λ clean.
     reads_as (state g.S.Store c.args.tx.now.conn.now) (state g.S.Store c.loop-row.tx.conn.now) _ _
     (λ books held is. is ∙ ap (λ (rs : List StockRow). map (found_row books.catalogue) rs) (take_all c.loop-row.row-index c.args.rows.now c.loop-row-test.false)) (c.loop-row.invariant.2 clean)
+
+pub returns-in_err-withdrawn-clause-inside : goal.returns-in_err-withdrawn-clause-inside
+returns-in_err-withdrawn-clause-inside g c = within_err _ _ _ _ (within_then _ _ _ _ _ refl c.loop-row.invariant.1 (within_of _ _ _ c.film_at.ensures.inside)) c.from_residual.ensures.0
+
+pub returns-in_default-clause-inside : goal.returns-in_default-clause-inside
+returns-in_default-clause-inside g c = within_err _ _ _ _ (within_then _ _ _ _ _ refl c.loop-row.invariant.1 (within_of _ _ _ c.in_ok-withdrawn.ensures.inside)) refl
+
+pub returns-clause-inside : goal.returns-clause-inside
+returns-clause-inside g c = within_as _ _ _ _ c.loop-row.invariant.1 (λ ok. refl)

@@ -1,6 +1,7 @@
-use Rattle.std.proofs.Common.{◌≡◌, ◌∙◌, sym, ap, subst, arith, ℕ, Bool, Option, Some, None, option_map, IfSome}
+use Rattle.std.proofs.Common.{◌≡◌, ◌∙◌, refl, sym, ap, subst, arith, ℕ, Bool, Option, Some, None, option_map, IfSome}
 use Rattle.sqlite.specs.Held.{state}
 use Rattle.sqlite.specs.State.{HasCleanDisk}
+use Rattle.sql_rows.proofs.Stays.{within_as, within_err, within_of, within_then}
 use Rattle.shop_model.specs.Values.{Copy}
 use Rattle.shop_model.specs.Stock.{is_here}
 use Rattle.shop_model.specs.Verdict.{is_film_withdrawn}
@@ -34,3 +35,9 @@ returns-clause-found g c = λ clean.
     ((λ i. let p : Option (Bool × Bool) = Some (c.is_here.ensures c.in-Some-2.row.film i, c.is_yes.ensures i) in p)
     ∙ copy_told books.catalogue c.in-Some.number c.in_ok-row.field-0 c.in-Some-2.row _ c.in_ok-withdrawn.withdrawn c.in-Some-2.is is.0 is.1))
     (reads_then s0 s1 s2 _ _ (c.in_ok-row.ensures.row before) (c.in_ok-withdrawn.ensures.found clean))
+
+pub returns-in_err-withdrawn-clause-inside : goal.returns-in_err-withdrawn-clause-inside
+returns-in_err-withdrawn-clause-inside g c = within_err _ _ _ _ (within_then _ _ _ _ _ refl (within_of _ _ _ c.in_ok-row.ensures.inside) (within_of _ _ _ c.film_at.ensures.inside)) c.from_residual-in_err-withdrawn.ensures.0
+
+pub returns-clause-inside : goal.returns-clause-inside
+returns-clause-inside g c = within_as _ _ _ _ (within_then _ _ _ _ _ refl (within_of _ _ _ c.in_ok-row.ensures.inside) (within_of _ _ _ c.in_ok-withdrawn.ensures.inside)) (λ ok. refl)

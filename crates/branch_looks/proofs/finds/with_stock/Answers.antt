@@ -2,7 +2,7 @@ use Rattle.std.proofs.Common.{◌∙◌, ◌++◌, ◌∷◌, [], Ok, refl, sym,
 use Rattle.std.proofs.lemmas.List.{take_all, map_push, map_more}
 use Rattle.sqlite.specs.Held.{state}
 use Rattle.sqlite.specs.State.{HasCleanDisk}
-use Rattle.sql_rows.proofs.Stays.{within_as, within_then}
+use Rattle.sql_rows.proofs.Stays.{within_as, within_err, within_then}
 use Rattle.shop_model.specs.Books.{Books, shop_of}
 use Rattle.shop_store.specs.declared.copies.CopyRow.{CopyRow}
 use Rattle.branch_core.specs.Agreed.{seen_film_copy}
@@ -38,3 +38,12 @@ pub returns-clause-found : goal.returns-clause-found
 returns-clause-found g c = λ clean.
     reads_as (state g.S.Store c.args.tx.now.conn.now) (state g.S.Store c.loop-row.tx.conn.now) _ _
     (λ books held is. is ∙ ap (λ (rs : List CopyRow). map (copy_shown (shop_of c.args.branch books).rentals) rs) (take_all c.loop-row.row-index c.args.rows.now c.loop-row-test.false)) (c.loop-row.invariant.2 clean)
+
+pub returns-in_err-copy-clause-inside : goal.returns-in_err-copy-clause-inside
+returns-in_err-copy-clause-inside g c = within_err _ _ _ _ (within_then _ _ _ _ _ refl c.loop-row.invariant.1 c.with_its_stock.ensures.inside) c.from_residual.ensures.0
+
+pub returns-in_default-clause-inside : goal.returns-in_default-clause-inside
+returns-in_default-clause-inside g c = within_err _ _ _ _ (within_then _ _ _ _ _ refl c.loop-row.invariant.1 c.in_ok-copy.ensures.inside) refl
+
+pub returns-clause-inside : goal.returns-clause-inside
+returns-clause-inside g c = within_as _ _ _ _ c.loop-row.invariant.1 (λ ok. refl)

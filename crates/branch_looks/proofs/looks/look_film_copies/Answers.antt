@@ -1,6 +1,7 @@
-use Rattle.std.proofs.Common.{◌≡◌, ◌∙◌, sym, ap, subst, arith, ℕ, true, false, Bool, map, Some, None}
+use Rattle.std.proofs.Common.{◌≡◌, ◌∙◌, refl, sym, ap, subst, arith, ℕ, true, false, Bool, map, Some, None}
 use Rattle.sqlite.specs.Held.{state}
 use Rattle.sqlite.specs.State.{HasCleanDisk}
+use Rattle.sql_rows.proofs.Stays.{within_as, within_err, within_of, within_then}
 use Rattle.catalogue_store.specs.Seen.{withdrawn_of}
 use Rattle.shop_model.specs.Refusals.{NoFilm}
 use Rattle.shop_model.specs.Shop.{Catalogue, Shop}
@@ -43,3 +44,12 @@ returns-in_default-clause-shown g c = λ clean books holds held.
       found.0,
       c.refused.ensures ∙ ap answer_of (sym (no_film c.args.is_in b c.args.film books.catalogue (shop_of b books) (sym c.in_default.is ∙ found.1))),
     )
+
+pub returns-in_err-copies-clause-inside : goal.returns-in_err-copies-clause-inside
+returns-in_err-copies-clause-inside g c = within_err _ _ _ _ (within_then _ _ _ _ _ refl (within_of _ _ _ c.in_ok-film_at.ensures.inside) c.find_of_film.ensures.inside) c.from_residual-in_err-copies.ensures.0
+
+pub returns-clause-inside : goal.returns-clause-inside
+returns-clause-inside g c = within_err _ _ _ _ (within_then _ _ _ _ _ refl (within_of _ _ _ c.in_ok-film_at.ensures.inside) c.in_ok-copies.ensures.inside) refl
+
+pub returns-in-Ok-clause-inside : goal.returns-in-Ok-clause-inside
+returns-in-Ok-clause-inside g c = within_as _ _ _ _ (within_then _ _ _ _ _ refl (within_of _ _ _ c.in_ok-film_at.ensures.inside) c.in_ok-copies.ensures.inside) (λ ok. refl)

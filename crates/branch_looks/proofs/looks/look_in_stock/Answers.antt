@@ -1,6 +1,7 @@
-use Rattle.std.proofs.Common.{◌≡◌, ◌∙◌, sym, ap, arith, Bool}
+use Rattle.std.proofs.Common.{◌≡◌, ◌∙◌, refl, sym, ap, arith, Bool}
 use Rattle.sqlite.specs.Held.{state}
 use Rattle.sqlite.specs.State.{HasCleanDisk}
+use Rattle.sql_rows.proofs.Stays.{within_as, within_err, within_of, within_then}
 use Rattle.shop_model.specs.Refusals.{NoCopy}
 use Rattle.shop_model.specs.Stock.{is_here, in_stock}
 use Rattle.shop_model.specs.Machine.{Reply, Shows, InStockIs}
@@ -30,3 +31,12 @@ returns-in_default-clause-shown g c = λ clean books holds held.
       found.0,
       c.refused.ensures ∙ ap answer_of (sym (given_none NoCopy _ is_here _ (sym c.in_default.is ∙ found.1))),
     )
+
+pub returns-in_err-out-clause-inside : goal.returns-in_err-out-clause-inside
+returns-in_err-out-clause-inside g c = within_err _ _ _ _ (within_then _ _ _ _ _ refl c.in_ok-find_here.ensures.inside (within_of _ _ _ c.out_at.ensures.inside)) c.from_residual-in_err-out.ensures.0
+
+pub returns-in-Err-clause-inside : goal.returns-in-Err-clause-inside
+returns-in-Err-clause-inside g c = within_err _ _ _ _ (within_then _ _ _ _ _ refl c.in_ok-find_here.ensures.inside (within_of _ _ _ c.in_ok-out.ensures.inside)) refl
+
+pub returns-in-Ok-clause-inside : goal.returns-in-Ok-clause-inside
+returns-in-Ok-clause-inside g c = within_as _ _ _ _ (within_then _ _ _ _ _ refl c.in_ok-find_here.ensures.inside (within_of _ _ _ c.in_ok-out.ensures.inside)) (λ ok. refl)

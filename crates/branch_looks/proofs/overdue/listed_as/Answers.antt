@@ -1,6 +1,7 @@
 use Rattle.std.proofs.Common.{◌∙◌, refl, sym, arith}
 use Rattle.sqlite.specs.Held.{state}
 use Rattle.sqlite.specs.State.{HasCleanDisk}
+use Rattle.sql_rows.proofs.Stays.{within_as, within_err, within_of, within_then}
 use Rattle.shop_model.specs.Books.{shop_of}
 use Rattle.shop_types.specs.Seen.{seen_rental}
 use Rattle.branch_looks.proofs.Readings.{reads_then, reads_as}
@@ -17,3 +18,12 @@ returns-clause-found g c = λ clean.
     (λ books held is of_film. listed_row books.catalogue (shop_of c.args.branch books) (seen_rental c.args.rental) c.args.film c.in-Some.title c.in-Some-2.row c.in_ok-row.field-0 _
     (sym c.in-Some.is ∙ is.0) c.in-Some-2.is is.1 of_film refl)
     (reads_then s0 s1 s2 _ _ (c.in_ok-title.ensures.found before) (c.in_ok-row.ensures.row clean))
+
+pub returns-in_err-row-clause-inside : goal.returns-in_err-row-clause-inside
+returns-in_err-row-clause-inside g c = within_err _ _ _ _ (within_then _ _ _ _ _ refl (within_of _ _ _ c.in_ok-title.ensures.inside) (within_of _ _ _ c.customer_at.ensures.inside)) c.from_residual-in_err-row.ensures.0
+
+pub returns-in_default-2-clause-inside : goal.returns-in_default-2-clause-inside
+returns-in_default-2-clause-inside g c = within_err _ _ _ _ (within_then _ _ _ _ _ refl (within_of _ _ _ c.in_ok-title.ensures.inside) (within_of _ _ _ c.in_ok-row.ensures.inside)) refl
+
+pub returns-clause-inside : goal.returns-clause-inside
+returns-clause-inside g c = within_as _ _ _ _ (within_then _ _ _ _ _ refl (within_of _ _ _ c.in_ok-title.ensures.inside) (within_of _ _ _ c.in_ok-row.ensures.inside)) (λ ok. refl)

@@ -2,7 +2,7 @@ use Rattle.std.proofs.Common.{◌∙◌, ◌++◌, Ok, refl, ap, arith, map, fil
 use Rattle.std.proofs.lemmas.List.{take_all}
 use Rattle.sqlite.specs.Held.{state}
 use Rattle.sqlite.specs.State.{HasCleanDisk}
-use Rattle.sql_rows.proofs.Stays.{within_as, within_then}
+use Rattle.sql_rows.proofs.Stays.{within_as, within_err, within_then}
 use Rattle.shop_model.specs.Values.{Rental}
 use Rattle.shop_model.specs.Books.{shop_of}
 use Rattle.shop_model.specs.Stock.{is_overdue}
@@ -39,3 +39,12 @@ returns-clause-found g c = λ clean.
     reads_as (state g.S.Store c.args.tx.now.conn.now) (state g.S.Store c.loop-number.tx.conn.now) _ _
     (λ books held is. is ∙ ap (λ (ns : List ℕ). map (views.overdue_row books.catalogue (shop_of c.args.branch books)) (filter (is_overdue books.catalogue (shop_of c.args.branch books) c.args.at) (rentals_at ns (shop_of c.args.branch books).rentals))) (take_all c.loop-number.number-index c.args.numbers.now c.loop-number-test.false))
     (c.loop-number.invariant.2 clean)
+
+pub returns-in_err-found-clause-inside : goal.returns-in_err-found-clause-inside
+returns-in_err-found-clause-inside g c = within_err _ _ _ _ (within_then _ _ _ _ _ refl c.loop-number.invariant.1 c.overdue_of.ensures.inside) c.from_residual.ensures.0
+
+pub returns-in_err-push_found-clause-inside : goal.returns-in_err-push_found-clause-inside
+returns-in_err-push_found-clause-inside g c = within_err _ _ _ _ (within_then _ _ _ _ _ refl c.loop-number.invariant.1 c.in_ok-found.ensures.inside) c.from_residual-in_err-push_found.ensures.0
+
+pub returns-clause-inside : goal.returns-clause-inside
+returns-clause-inside g c = within_as _ _ _ _ c.loop-number.invariant.1 (λ ok. refl)

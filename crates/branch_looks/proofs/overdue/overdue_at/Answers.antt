@@ -69,3 +69,12 @@ returns-clause-found g c = λ clean.
     ap (λ (row : views.OverdueRow). row ∷ []) (is.1 of_film)
     ∙ kept_alone (views.overdue_row books.catalogue shop) (is_overdue books.catalogue shop c.args.at) rental (late ∙ sym c.is_overdue.ensures ∙ c.if-not-is_overdue.false))
     (reads_then s0 s2 s3 _ _ (reads_then s0 s1 s2 _ _ (c.in_ok-copy.ensures.row first) (c.in_ok-terms.ensures.found second)) (c.in_ok-listed_as.ensures.found clean))
+
+pub returns-in_err-terms-clause-inside : goal.returns-in_err-terms-clause-inside
+returns-in_err-terms-clause-inside g c = within_err _ _ _ _ (within_then _ _ _ _ _ refl (within_of _ _ _ c.in_ok-copy.ensures.inside) (within_of _ _ _ c.film_terms.ensures.inside)) c.from_residual-in_err-terms.ensures.0
+
+pub returns-in_default-2-clause-inside : goal.returns-in_default-2-clause-inside
+returns-in_default-2-clause-inside g c = within_err _ _ _ _ (within_then _ _ _ _ _ refl (within_of _ _ _ c.in_ok-copy.ensures.inside) (within_of _ _ _ c.in_ok-terms.ensures.inside)) refl
+
+pub returns-then-not-is_overdue-clause-inside : goal.returns-then-not-is_overdue-clause-inside
+returns-then-not-is_overdue-clause-inside g c = within_as _ _ _ _ (within_then _ _ _ _ _ refl (within_of _ _ _ c.in_ok-copy.ensures.inside) (within_of _ _ _ c.in_ok-terms.ensures.inside)) (λ ok. refl)

@@ -1,8 +1,9 @@
-use Rattle.std.proofs.Common.{◌∙◌, sym, ap, arith, filter, map, List, Option, option_map}
+use Rattle.std.proofs.Common.{◌∙◌, refl, sym, ap, arith, filter, map, List, Option, option_map}
 use Rattle.std.specs.Option.{option_to_list}
 use Rattle.std.proofs.lemmas.Result.{IfOk-weaker}
 use Rattle.sqlite.specs.Held.{state}
 use Rattle.sqlite.specs.State.{HasCleanDisk}
+use Rattle.sql_rows.proofs.Stays.{within_of, within_then}
 use Rattle.shop_model.specs.Values.{Rental}
 use Rattle.shop_model.specs.Books.{shop_of}
 use Rattle.shop_model.specs.Stock.{is_overdue}
@@ -26,3 +27,6 @@ returns-clause-found g c = λ clean.
     let shop = shop_of c.args.branch books in
     is.1 ∙ ap (λ (rentals : List Rental). map (overdue_row books.catalogue shop) (filter (is_overdue books.catalogue shop c.args.at) rentals)) (ap seen (sym c.in-Some.is) ∙ is.0))
     (reads_then s0 s1 s2 _ _ (c.in_ok-row.ensures.row before) reads)) (c.overdue_at.ensures.found clean)
+
+pub returns-clause-inside : goal.returns-clause-inside
+returns-clause-inside g c = within_then _ _ _ _ _ refl (within_of _ _ _ c.in_ok-row.ensures.inside) c.overdue_at.ensures.inside

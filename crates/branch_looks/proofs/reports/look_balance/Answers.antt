@@ -1,6 +1,7 @@
-use Rattle.std.proofs.Common.{◌∙◌, sym, ap, subst, arith, ℤ}
+use Rattle.std.proofs.Common.{◌∙◌, refl, sym, ap, subst, arith, ℤ}
 use Rattle.sqlite.specs.Held.{state}
 use Rattle.sqlite.specs.State.{HasCleanDisk}
+use Rattle.sql_rows.proofs.Stays.{within_as, within_err, within_then}
 use Rattle.shop_model.specs.Values.{Customer}
 use Rattle.shop_model.specs.Refusals.{NoCustomer}
 use Rattle.shop_model.specs.Stock.{balance}
@@ -37,3 +38,18 @@ returns-in_default-clause-shown g c = λ clean books holds held.
       found.0,
       c.refused.ensures ∙ ap answer_of (sym (given_none NoCustomer _ (λ (it : Customer). it.active) _ (sym c.in_default.is ∙ found.1))),
     )
+
+pub returns-in_err-rentals-clause-inside : goal.returns-in_err-rentals-clause-inside
+returns-in_err-rentals-clause-inside g c = within_err _ _ _ _ (within_then _ _ _ _ _ refl c.in_ok-find_active.ensures.inside c.find_terms.ensures.inside) c.from_residual-in_err-rentals.ensures.0
+
+pub returns-in_err-payments-clause-inside : goal.returns-in_err-payments-clause-inside
+returns-in_err-payments-clause-inside g c = within_err _ _ _ _ (within_then _ _ _ _ _ refl c.in_ok-find_active.ensures.inside (within_then _ _ _ _ _ refl c.in_ok-rentals.ensures.inside c.find_paid.ensures.inside)) c.from_residual-in_err-payments.ensures.0
+
+pub returns-in_err-cents-clause-inside : goal.returns-in_err-cents-clause-inside
+returns-in_err-cents-clause-inside g c = within_err _ _ _ _ (within_then _ _ _ _ _ refl c.in_ok-find_active.ensures.inside (within_then _ _ _ _ _ refl c.in_ok-rentals.ensures.inside c.in_ok-payments.ensures.inside)) c.from_residual-in_err-cents.ensures.0
+
+pub returns-clause-inside : goal.returns-clause-inside
+returns-clause-inside g c = within_err _ _ _ _ (within_then _ _ _ _ _ refl c.in_ok-find_active.ensures.inside (within_then _ _ _ _ _ refl c.in_ok-rentals.ensures.inside c.in_ok-payments.ensures.inside)) refl
+
+pub returns-in-Ok-clause-inside : goal.returns-in-Ok-clause-inside
+returns-in-Ok-clause-inside g c = within_as _ _ _ _ (within_then _ _ _ _ _ refl c.in_ok-find_active.ensures.inside (within_then _ _ _ _ _ refl c.in_ok-rentals.ensures.inside c.in_ok-payments.ensures.inside)) (λ ok. refl)
