@@ -1,7 +1,7 @@
 //! A connection to the chain, and the replies that are wanted of it.
 ghost use Rattle.std.specs.Prelude.{◌≡◌, OnOk};
 
-use crate::fault::{Fault, shown};
+use crate::fault::Fault;
 use crate::texts::put_reply;
 use std::alloc::Global;
 
@@ -60,6 +60,11 @@ impl Exchange {
         }
     }
 
+    /// The bytes of the replies that were told.
+    pub fn told(&self) -> &[u8] {
+        self.told.bytes.as_slice()
+    }
+
     /// One reply more is wanted.
     pub fn wants(&mut self, alloc: Global, status: &str, body: &[u8]) -> Result<(), Fault> {
         if self.end.is_some() {
@@ -89,7 +94,7 @@ impl Exchange {
     }
 
     /// Whether what was told is what is wanted: the bytes of the replies, their count and the end.
-    pub fn settle(&self, alloc: Global) -> Result<(), Fault>
+    pub fn settle(&self) -> Result<(), Fault>
         ensures bytes { OnOk result (self.now.told.bytes.items ≡ self.now.wanted.items) }
         ensures replies { OnOk result (self.now.told.replies ≡ self.now.replies) }
     {
@@ -98,7 +103,7 @@ impl Exchange {
         }
         if self.told.bytes.as_slice() != self.wanted.as_slice() {
             let at = difference(self.told.bytes.as_slice(), self.wanted.as_slice());
-            return Err(Fault::Replies(at, shown(alloc, self.told.bytes.as_slice())?));
+            return Err(Fault::Replies(at));
         }
         let wanted = self.end.unwrap_or("closed");
         if self.told.end != wanted || self.told.replies != self.replies {

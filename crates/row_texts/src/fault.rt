@@ -1,23 +1,25 @@
 //! What is wrong with a line.
-use std::alloc::{AllocError, AllocFailed, Global};
+use std::alloc::{AllocError, AllocFailed};
 use std::{fmt, io};
 
 /// Why a row stops at a line.
-#[derive(Drop)]
+#[derive(Clone, Copy)]
 pub enum Fault {
     Memory,
     /// The line can't be played.
     Line(&'static str),
     /// The connection didn't end so, or with another count of replies.
     End(&'static str, u32),
-    /// The replies differ from those that are wanted, first at that byte; and the replies.
-    Replies(usize, String),
+    /// The replies differ from those that are wanted, first at that byte.
+    Replies(usize),
     /// The files aren't opened, for the fault of that name.
-    Opening(String),
+    Opening(&'static str),
     /// The program ended with that status.
     Status(u8),
-    /// The program wrote that to its output of that name.
-    Output(&'static str, String),
+    /// The program wrote something else to its standard output.
+    Out,
+    /// The same of its standard error.
+    Err,
 }
 
 impl From<AllocError> for Fault {
@@ -38,24 +40,38 @@ impl From<io::Error> for Fault {
     }
 }
 
-impl fmt::Display for Fault {
+/// Bytes as a text in quotes.
+#[derive(Clone, Copy)]
+struct Quotes<'t>(&'t [u8]);
+
+impl fmt::Display for Quotes<'_> {
     fn fmt<W: fmt::Write>(&self, f: &mut fmt::Formatter<W>) -> fmt::Result {
-        match self {
-            Fault::Memory => f.write_str("no memory"),
-            Fault::Line(text) => f.write_str(text),
-            Fault::End(end, replies) => write!(f, "the end is {end} {replies}"),
-            Fault::Replies(at, told) => write!(f, "byte {at} differs in {told}"),
-            Fault::Opening(name) => write!(f, "the files aren't opened: {name}"),
-            Fault::Status(status) => write!(f, "the status is {status}"),
-            Fault::Output(name, told) => write!(f, "{name} is {told}"),
+        match str::from_utf8(self.0) {
+            Ok(text) => write!(f, "{text:?}"),
+            Err(_) => f.write_str("what is no text"),
         }
     }
 }
 
-/// The bytes as a text in quotes.
-pub fn shown(alloc: Global, bytes: &[u8]) -> Result<String, Fault> {
-    Ok(match str::from_utf8(bytes) {
-        Ok(text) => format!(in alloc; "{text:?}")?,
-        Err(_) => String::from_str(alloc, "what is no text")?,
-    })
+/// A fault, and what was told where it is that something else is wanted.
+#[derive(Clone, Copy)]
+pub struct Complaint<'t> {
+    pub fault: Fault,
+    pub told: &'t [u8],
+}
+
+impl fmt::Display for Complaint<'_> {
+    fn fmt<W: fmt::Write>(&self, f: &mut fmt::Formatter<W>) -> fmt::Result {
+        let told = Quotes(self.told);
+        match self.fault {
+            Fault::Memory => f.write_str("no memory"),
+            Fault::Line(text) => f.write_str(text),
+            Fault::End(end, replies) => write!(f, "the end is {end} {replies}"),
+            Fault::Replies(at) => write!(f, "byte {at} differs in {told}"),
+            Fault::Opening(name) => write!(f, "the files aren't opened: {name}"),
+            Fault::Status(status) => write!(f, "the status is {status}"),
+            Fault::Out => write!(f, "out is {told}"),
+            Fault::Err => write!(f, "err is {told}"),
+        }
+    }
 }

@@ -9,7 +9,7 @@ mod texts;
 mod words;
 
 pub use exchange::{Exchange, Told};
-pub use fault::{Fault, shown};
+pub use fault::{Complaint, Fault};
 pub use names::Names;
 pub use quoted::unquoted;
 pub use texts::request;

@@ -8,77 +8,57 @@ use row_texts::Fault;
 use shop_types::{
     Act, Caller, CityNo, Command, Key, Limits, Moment, Person, Reply, Request, StaffNo, Text, Token,
 };
-use sqlite::Alter;
 use std::alloc::Global;
 
 /// Branch 1's token.
-pub fn branch_token() -> Result<Token, Fault> {
-    Token::read(b"11111111111111111111111111111111").ok_or(NO_VALUE)
+fn branch_token() -> Option<Token> {
+    Token::read(b"11111111111111111111111111111111")
 }
 
-fn text<const LOW: usize, const HIGH: usize>(
-    alloc: Global,
-    text: &str,
-) -> Result<Text<LOW, HIGH>, Fault> {
-    Text::read(String::from_str(alloc, text)?).ok_or(NO_VALUE)
+fn text<const LOW: usize, const HIGH: usize>(alloc: Global, text: &str) -> Option<Text<LOW, HIGH>> {
+    Text::read(String::from_str(alloc, text).ok()?)
 }
 
-fn mary_smith(alloc: Global) -> Result<Person, Fault> {
-    let city = CityNo::new(1).ok_or(NO_VALUE)?;
-    Ok(Person {
+fn mary_smith(alloc: Global) -> Option<Person> {
+    Some(Person {
         first: text(alloc, "MARY")?,
         last: text(alloc, "SMITH")?,
         address: text(alloc, "1 Main")?,
         postal: text(alloc, "")?,
         phone: text(alloc, "555")?,
-        city,
+        city: CityNo::new(1)?,
     })
 }
 
-/// A command under the key, which makes a customer.
-fn new_customer(alloc: Global, key: &str) -> Result<Command, Fault> {
-    let staff = StaffNo::new(1).ok_or(NO_VALUE)?;
-    let at = Moment::read("2026-03-01T10:00:00").ok_or(NO_VALUE)?;
-    let key = Key::read(String::from_str(alloc, key)?).ok_or(NO_VALUE)?;
-    Ok(Command {
-        key,
-        staff,
-        at,
+/// A command under a key, which makes a customer.
+fn new_customer(alloc: Global) -> Option<Command> {
+    Some(Command {
+        key: Key::read(String::from_str(alloc, "k1").ok()?)?,
+        staff: StaffNo::new(1)?,
+        at: Moment::read("2026-03-01T10:00:00")?,
         act: Act::Customer(mary_smith(alloc)?),
     })
 }
 
-fn request(alloc: Global, key: &str) -> Result<(Token, Request), Fault> {
-    let token = branch_token()?;
-    Ok((token, Request::Do(new_customer(alloc, key)?)))
-}
-
-/// Branch 1's requests to make customers, under the keys.
-pub fn commands(alloc: Global, keys: &[&str]) -> Result<Vec<(Token, Request)>, Fault> {
-    let mut requests = Vec::new(alloc);
-    for key in keys {
-        requests.push(request(alloc, key)?)?;
-    }
-    Ok(requests)
-}
-
-/// The replies to the requests.
-pub fn replies<S: Alter>(
-    chain: &mut Chain<S>,
-    requests: &[(Token, Request)],
-) -> Result<Vec<Reply>, Fault> {
-    chain.replay(requests).map_err(|_| Fault::Memory)
+/// Branch 1's request to make a customer.
+fn request(alloc: Global) -> Option<(Token, Request)> {
+    Some((branch_token()?, Request::Do(new_customer(alloc)?)))
 }
 
 /// A chain with no shared row knows head office alone.
 fn new_chain(alloc: Global) -> Result<(), Fault> {
-    let office = Token::read(b"0123456789abcdef0123456789abcdef").ok_or(NO_VALUE)?;
+    let (Some(office), Some(branch)) = (
+        Token::read(b"0123456789abcdef0123456789abcdef"),
+        branch_token(),
+    ) else {
+        return Err(NO_VALUE);
+    };
     let Ok(mut chain) = Chain::memory(alloc, &office, Limits::default()) else {
         return Err(Fault::Line("the chain isn't made"));
     };
     let knows = matches!(chain.caller(&office), Ok(Caller::Office));
     is_so(knows, "head office isn't known")?;
-    let knows = matches!(chain.caller(&branch_token()?), Ok(Caller::Nobody));
+    let knows = matches!(chain.caller(&branch), Ok(Caller::Nobody));
     is_so(knows && !chain.is_failed(), "a branch is known")
 }
 
@@ -111,14 +91,26 @@ fn is_told(alloc: Global, replies: &[Reply], wanted: &[u8]) -> Result<(), Fault>
     }
 }
 
-/// The first customer's request as a value: its reply has the bytes that the connection sends.
-fn first_customer(alloc: Global) -> Result<(), Fault> {
-    let requests = commands(alloc, &["k1"])?;
+/// The reply of a new chain to the requests.
+fn is_told_first(alloc: Global, requests: &[(Token, Request)]) -> Result<(), Fault> {
     let Ok(mut chain) = Chain::demo(alloc, Limits::default()) else {
         return Err(Fault::Line("the chain isn't made"));
     };
-    let told = replies(&mut chain, requests.as_slice())?;
-    is_told(alloc, told.as_slice(), FIRST_CUSTOMER)
+    let Ok(replies) = chain.replay(requests) else {
+        return Err(Fault::Memory);
+    };
+    is_told(alloc, replies.as_slice(), FIRST_CUSTOMER)
+}
+
+/// The first customer's request as a value: its reply has the bytes that the connection sends.
+fn first_customer(alloc: Global) -> Result<(), Fault> {
+    let Some(asked) = request(alloc) else {
+        return Err(NO_VALUE);
+    };
+    let requests = [asked];
+    let told = is_told_first(alloc, &requests);
+    drop(requests);
+    told
 }
 
 /// Makes the calls of that name.
@@ -132,7 +124,7 @@ pub fn call(rt: &HostRuntime, name: &str) -> Result<(), Fault> {
         "peers" => peers(rt),
         "rewards" => rewards(),
         "rentals" => rentals(),
-        "routes" => routes(alloc),
+        "routes" => routes(),
         "texts" => texts(alloc),
         _ => Err(Fault::Line("there is no such call")),
     }

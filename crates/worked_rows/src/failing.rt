@@ -1,26 +1,73 @@
 //! A chain over a log that fails at some call and at each one after it, and its files opened again.
-use crate::calls::{branch_token, commands, replies};
-use crate::shops::{changed, new_files};
-use chain_engine::Chain;
-use row_texts::Fault;
-use shop_types::{Ask, CustomerNo, Limits, Reply, Request, Token};
-use sqlite::{Alter, Files};
+use crate::connection::WHOLE;
+use crate::shops::{Disks, Shop, opened, opening_files};
+use row_texts::{Exchange, Fault, request};
+use shop_types::Limits;
+use sqlite::Files;
 use sqlite_disk::{Disk, Fuse, Memory};
 use std::alloc::Global;
 
 /// More calls of the log than an opening and a command take.
 const MOST_CALLS: u64 = 1000;
 
-const KEYS: [&str; 2] = ["k1", "k2"];
+/// A request of branch 1, and its reply where all is well.
+#[derive(Clone, Copy)]
+struct Asked {
+    method: &'static str,
+    path: &'static str,
+    body: &'static str,
+    reply: &'static str,
+}
 
-const CUSTOMERS: [u32; 2] = [1, 2];
+static COMMANDS: [Asked; 2] = [
+    Asked {
+        method: "POST",
+        path: "/customer",
+        body: "{\"key\":\"k1\",\"staff\":1,\"at\":\"2026-03-01T10:00:00\",\"first\":\"MARY\",\"last\":\"SMITH\",\"address\":\"1 Main\",\"postal\":\"\",\"phone\":\"555\",\"city\":1}",
+        reply: "{\"customer\":1}",
+    },
+    Asked {
+        method: "POST",
+        path: "/customer",
+        body: "{\"key\":\"k2\",\"staff\":1,\"at\":\"2026-03-01T10:00:00\",\"first\":\"MARY\",\"last\":\"SMITH\",\"address\":\"1 Main\",\"postal\":\"\",\"phone\":\"555\",\"city\":1}",
+        reply: "{\"customer\":2}",
+    },
+];
 
-/// How a request is refused: the status and the body.
-type Refused = (u16, &'static [u8]);
+static LOOKS: [Asked; 2] = [
+    Asked {
+        method: "GET",
+        path: "/customer/1",
+        body: "",
+        reply: "{\"active\":true,\"address\":\"1 Main\",\"city\":1,\"created\":\"2026-03-01T10:00:00\",\"customer\":1,\"first\":\"MARY\",\"last\":\"SMITH\",\"phone\":\"555\",\"postal\":\"\"}",
+    },
+    Asked {
+        method: "GET",
+        path: "/customer/2",
+        body: "",
+        reply: "{\"active\":true,\"address\":\"1 Main\",\"city\":1,\"created\":\"2026-03-01T10:00:00\",\"customer\":2,\"first\":\"MARY\",\"last\":\"SMITH\",\"phone\":\"555\",\"postal\":\"\"}",
+    },
+];
 
-const STORE_FAILED: Refused = (503, b"{\"refused\":\"store_failed\"}");
+/// How a request is refused: the status, the body, and how its connection ends.
+#[derive(Clone, Copy)]
+struct Refused {
+    status: &'static str,
+    body: &'static str,
+    end: &'static str,
+}
 
-const NO_CUSTOMER: Refused = (409, b"{\"refused\":\"no_customer\"}");
+const STORE_FAILED: Refused = Refused {
+    status: "503",
+    body: "{\"refused\":\"store_failed\"}",
+    end: "store_failed 1",
+};
+
+const NO_CUSTOMER: Refused = Refused {
+    status: "409",
+    body: "{\"refused\":\"no_customer\"}",
+    end: "closed 1",
+};
 
 fn copied(alloc: Global, disk: &Memory) -> Result<Memory, Fault> {
     let mut copy = Memory::new(alloc);
@@ -31,66 +78,77 @@ fn copied(alloc: Global, disk: &Memory) -> Result<Memory, Fault> {
 }
 
 /// Copies of the files, whose log fails after so many calls.
-fn fused(
-    alloc: Global,
-    log: &Memory,
-    db: &Memory,
-    calls: u64,
-) -> Result<Files<Fuse<Memory>>, Fault> {
-    let log = copied(alloc, log)?;
-    let db = copied(alloc, db)?;
+fn fused(alloc: Global, files: &Disks, calls: u64) -> Result<Disks, Fault> {
+    let log = copied(alloc, files.log.inner())?;
+    let db = copied(alloc, files.db.inner())?;
     Ok(Files {
         log: Fuse::new(log, calls),
         db: Fuse::new(db, u64::MAX),
     })
 }
 
-/// How many of the first replies accept, where all others refuse so.
-fn accepted(replies: &[Reply], refused: Refused) -> Result<usize, Fault> {
-    let (status, body) = refused;
-    let count = replies.iter().take_while(|it| it.status == 200).count();
-    for told in replies.iter().skip(count) {
-        if told.status != status || told.body_bytes() != body {
-            return Err(Fault::Line("another reply"));
+/// Sends the request, whose reply has to be this one.
+fn asks(
+    alloc: Global,
+    shop: &mut Shop,
+    asked: Asked,
+    status: &str,
+    body: &str,
+    end: &str,
+) -> Result<(), Fault> {
+    let input = request(
+        alloc,
+        "1",
+        asked.method,
+        asked.path.as_bytes(),
+        Some(asked.body.as_bytes()),
+    )?;
+    let told = shop.tells(alloc, input.as_slice(), WHOLE)?;
+    let mut exchange = Exchange::new(alloc, told, usize::MAX);
+    exchange.wants(alloc, status, body.as_bytes())?;
+    exchange.ends(end)?;
+    match exchange.settle() {
+        Ok(()) => Ok(()),
+        Err(_) => Err(Fault::Line("another reply")),
+    }
+}
+
+/// Sends the requests, of which the first ones have to be accepted, so many, and all others refused so.
+fn asks_all(
+    alloc: Global,
+    shop: &mut Shop,
+    all: &[Asked],
+    accepted: usize,
+    refused: Refused,
+) -> Result<(), Fault> {
+    for (index, asked) in all.iter().enumerate() {
+        if index < accepted {
+            asks(alloc, shop, *asked, "200", asked.reply, "closed 1")?;
+        } else {
+            asks(
+                alloc,
+                shop,
+                *asked,
+                refused.status,
+                refused.body,
+                refused.end,
+            )?;
         }
     }
-    Ok(count)
+    Ok(())
 }
 
-fn accepted_by<S: Alter>(
-    chain: &mut Chain<S>,
-    requests: &[(Token, Request)],
-    refused: Refused,
-) -> Result<usize, Fault> {
-    accepted(replies(chain, requests)?.as_slice(), refused)
-}
-
-/// How many of the requests a chain over the files accepts before it refuses all others so, and the files when it is closed.
+/// The same by the chain that the files hold, and the files when it is closed.
 fn played(
     alloc: Global,
-    files: Files<Fuse<Memory>>,
-    requests: &[(Token, Request)],
+    files: Disks,
+    all: &[Asked],
+    accepted: usize,
     refused: Refused,
-) -> Result<(usize, Files<Fuse<Memory>>), Fault> {
-    let Ok(mut chain) = Chain::open_files(alloc, files, Limits::default()) else {
-        return Err(Fault::Line("the chain isn't opened"));
-    };
-    let count = accepted_by(&mut chain, requests, refused);
-    let files = chain.close();
-    Ok((count?, files))
-}
-
-fn look(customer: u32) -> Result<(Token, Request), Fault> {
-    let number = CustomerNo::new(customer).ok_or(Fault::Line("the customer"))?;
-    Ok((branch_token()?, Request::Look(Ask::Customer(number))))
-}
-
-fn looks(alloc: Global) -> Result<Vec<(Token, Request)>, Fault> {
-    let mut requests = Vec::new(alloc);
-    for customer in CUSTOMERS {
-        requests.push(look(customer)?)?;
-    }
-    Ok(requests)
+) -> Result<Disks, Fault> {
+    let mut shop = opened(alloc, files, Limits::default())?;
+    asks_all(alloc, &mut shop, all, accepted, refused)?;
+    Ok(shop.files())
 }
 
 /// How many calls it had before it fails. What is left of many calls is told by using them up.
@@ -104,56 +162,28 @@ fn calls_made(log: &mut Fuse<Memory>) -> Result<u64, Fault> {
 }
 
 /// How many calls of the log it takes to open the chain and to do the first command.
-fn calls_of_first(
-    alloc: Global,
-    files: &Files<Memory>,
-    commands: &[(Token, Request)],
-) -> Result<u64, Fault> {
-    let Some(first) = commands.get(..1) else {
-        return Err(Fault::Line("the first command"));
-    };
-    let files = fused(alloc, &files.log, &files.db, MOST_CALLS)?;
-    let (count, mut left) = played(alloc, files, first, STORE_FAILED)?;
-    if count != 1 {
-        return Err(Fault::Line("too few calls"));
-    }
+fn calls_of_first(alloc: Global, files: &Disks) -> Result<u64, Fault> {
+    let files = fused(alloc, files, MOST_CALLS)?;
+    let mut left = played(alloc, files, &COMMANDS[..1], 1, STORE_FAILED)?;
     calls_made(&mut left.log)
 }
 
-/// How many commands are accepted before the log fails, and how many customers there are when the files are opened again.
-fn stopped_at(
-    alloc: Global,
-    files: Files<Fuse<Memory>>,
-    commands: &[(Token, Request)],
-    looks: &[(Token, Request)],
-) -> Result<(usize, usize), Fault> {
-    let (done, left) = played(alloc, files, commands, STORE_FAILED)?;
-    let again = fused(alloc, left.log.inner(), left.db.inner(), u64::MAX)?;
-    let (found, _) = played(alloc, again, looks, NO_CUSTOMER)?;
-    Ok((done, found))
-}
-
-fn failing(
-    alloc: Global,
-    files: &Files<Memory>,
-    commands: &[(Token, Request)],
-    looks: &[(Token, Request)],
-) -> Result<(), Fault> {
-    let calls = calls_of_first(alloc, files, commands)?;
-    for (fewer, found) in [(2, (0, 0)), (1, (0, 1)), (0, (1, 1))] {
-        let files = fused(alloc, &files.log, &files.db, calls.saturating_sub(fewer))?;
-        if stopped_at(alloc, files, commands, looks)? != found {
-            return Err(Fault::Line("the log's failure leaves other books"));
-        }
-    }
+/// So many commands are accepted before the log fails behind the calls, and so many customers are there when the files are opened again.
+fn stops(alloc: Global, files: &Disks, calls: u64, done: usize, found: usize) -> Result<(), Fault> {
+    let files = fused(alloc, files, calls)?;
+    let left = played(alloc, files, &COMMANDS, done, STORE_FAILED)?;
+    let again = fused(alloc, &left, u64::MAX)?;
+    drop(played(alloc, again, &LOOKS, found, NO_CUSTOMER)?);
     Ok(())
 }
 
 /// The last call of a command's commit is the sync, and the one before it writes its end. Where that write fails the books are those before the command, and
 /// where the sync fails those after it; one call later the command is accepted, and the next one fails.
 pub fn failing_log(alloc: Global) -> Result<(), Fault> {
-    let files = changed(alloc, new_files(alloc), None)?;
-    let commands = commands(alloc, &KEYS)?;
-    let looks = looks(alloc)?;
-    failing(alloc, &files, commands.as_slice(), looks.as_slice())
+    let files = opening_files(alloc)?;
+    let calls = calls_of_first(alloc, &files)?;
+    for (fewer, done, found) in [(2, 0, 0), (1, 0, 1), (0, 1, 1)] {
+        stops(alloc, &files, calls.saturating_sub(fewer), done, found)?;
+    }
+    Ok(())
 }

@@ -2,6 +2,7 @@
 #![tactic(auto)]
 
 mod calls;
+mod connection;
 mod failing;
 mod program;
 mod row;

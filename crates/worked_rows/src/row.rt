@@ -1,7 +1,8 @@
 //! One row as it is played, line by line.
 use crate::calls::call;
+use crate::connection::{How, WHOLE};
 use crate::program::Run;
-use crate::shops::{How, Shop, WHOLE, new_shop};
+use crate::shops::{Shop, new_shop};
 use row_texts::{Exchange, Fault, Names, request, unquoted, words_of};
 use std::alloc::Global;
 
@@ -12,38 +13,82 @@ enum Asked {
     Program(Run),
 }
 
+impl Asked {
+    fn settle(&self) -> Result<(), Fault> {
+        match self {
+            Asked::Connection(exchange) => exchange.settle(),
+            Asked::Program(run) => run.settle(),
+        }
+    }
+
+    /// What was told where the fault says that something else is wanted.
+    fn told(&self, fault: Fault) -> &[u8] {
+        match self {
+            Asked::Connection(exchange) => exchange.told(),
+            Asked::Program(run) => run.told(fault),
+        }
+    }
+}
+
+/// The first words of lines that say more of what was asked last, beside those of replies.
+const SAY_MORE: [&str; 6] = ["let", "end", "status", "out", "err", "usage"];
+
+/// Whether the word is a reply's status.
+fn is_status(word: &str) -> bool {
+    matches!(word.as_bytes(), [b'1'..=b'9', b'0'..=b'9', b'0'..=b'9'])
+}
+
+/// Whether a line with this first word says more of what was asked last.
+pub fn says_more(word: &str) -> bool {
+    SAY_MORE.iter().any(|it| *it == word) || is_status(word)
+}
+
 #[derive(Drop)]
 pub struct Row<'t> {
     rt: &'t HostRuntime,
     alloc: Global,
     shop: Option<Shop>,
+    /// Whether the chain may be closed and its files opened again.
+    is_in_files: bool,
     asked: Option<Asked>,
     how: How,
     is_how_said: bool,
-    input: Option<Vec<u8>>,
+    input: Vec<u8>,
+    is_input_said: bool,
     count: u32,
 }
 
 impl<'t> Row<'t> {
     pub fn new(rt: &'t HostRuntime) -> Row<'t> {
+        let alloc = rt.alloc();
         Row {
             rt,
-            alloc: rt.alloc(),
+            alloc,
             shop: None,
+            is_in_files: false,
             asked: None,
             how: WHOLE,
             is_how_said: false,
-            input: None,
+            input: Vec::new(alloc),
+            is_input_said: false,
             count: 0,
         }
     }
 
-    /// Compares what was asked last.
+    /// Compares what was asked last, and forgets it where it agrees.
     pub fn settle(&mut self) -> Result<(), Fault> {
-        match self.asked.take() {
-            Some(Asked::Connection(exchange)) => exchange.settle(self.alloc),
-            Some(Asked::Program(run)) => run.settle(self.alloc),
-            None => Ok(()),
+        if let Some(asked) = &self.asked {
+            asked.settle()?;
+        }
+        drop(self.asked.take());
+        Ok(())
+    }
+
+    /// What was told where the fault says that something else is wanted.
+    pub fn told(&self, fault: Fault) -> &[u8] {
+        match &self.asked {
+            Some(asked) => asked.told(fault),
+            None => &[],
         }
     }
 
@@ -56,7 +101,7 @@ impl<'t> Row<'t> {
         if self.is_how_said {
             return Err(Fault::Line("no request comes so"));
         }
-        if self.input.is_some() {
+        if self.is_input_said {
             return Err(Fault::Line("no program reads this"));
         }
         Ok(self.count)
@@ -68,12 +113,11 @@ impl<'t> Row<'t> {
 
     /// What is asked is an exchange.
     fn has_asked(&mut self, asked: Asked) {
-        self.asked = Some(asked);
+        drop(self.asked.replace(asked));
         self.counts();
     }
 
     fn asks(&mut self, input: &[u8]) -> Result<(), Fault> {
-        self.settle()?;
         let Some(shop) = &mut self.shop else {
             return Err(Fault::Line("there is no chain yet"));
         };
@@ -142,7 +186,6 @@ impl<'t> Row<'t> {
 
     /// How the bytes of the next connection come.
     fn comes(&mut self, word: &str, count: &str) -> Result<(), Fault> {
-        self.settle()?;
         let Ok(count) = count.parse::<u32>() else {
             return Err(Fault::Line("a count is wanted"));
         };
@@ -159,30 +202,37 @@ impl<'t> Row<'t> {
 
     /// Calls that no request makes are an exchange.
     fn calls(&mut self, name: &str) -> Result<(), Fault> {
-        self.settle()?;
         call(self.rt, name)?;
         self.counts();
         Ok(())
     }
 
     fn begins(&mut self, words: &str) -> Result<(), Fault> {
-        self.settle()?;
-        self.shop = Some(new_shop(self.alloc, words)?);
+        let shop = new_shop(self.alloc, words)?;
+        self.keeps(shop);
+        self.is_in_files = matches!(words, "files" | "empty");
         Ok(())
     }
 
+    fn keeps(&mut self, shop: Shop) {
+        drop(self.shop.replace(shop));
+    }
+
     fn take_shop(&mut self) -> Result<Shop, Fault> {
-        self.settle()?;
         match self.shop.take() {
-            Some(shop) => Ok(shop),
+            Some(shop) if self.is_in_files => Ok(shop),
+            Some(shop) => {
+                drop(shop);
+                Err(Fault::Line("the chain isn't in files"))
+            }
             None => Err(Fault::Line("there is no chain yet")),
         }
     }
 
     /// An opening that has to be refused is an exchange: its fault is compared.
     fn reopens(&mut self, fault: &str) -> Result<(), Fault> {
-        let shop = self.take_shop()?;
-        self.shop = Some(shop.reopened(self.alloc, fault)?);
+        let shop = self.take_shop()?.reopened(self.alloc, fault)?;
+        self.keeps(shop);
         if !fault.is_empty() {
             self.counts();
         }
@@ -190,31 +240,24 @@ impl<'t> Row<'t> {
     }
 
     fn changes(&mut self, text: &str) -> Result<(), Fault> {
-        let shop = self.take_shop()?;
-        self.shop = Some(shop.changed(self.alloc, text)?);
+        let shop = self.take_shop()?.changed(self.alloc, text)?;
+        self.keeps(shop);
         Ok(())
     }
 
     /// Several lines of standard input stand one behind the other.
     fn reads(&mut self, names: &Names, line: &str) -> Result<(), Fault> {
-        self.settle()?;
-        let mut input = match self.input.take() {
-            Some(input) => input,
-            None => Vec::new(self.alloc),
-        };
-        input.extend_from_slice(self.bytes_of(names, line)?.as_slice())?;
-        self.input = Some(input);
+        let bytes = self.bytes_of(names, line)?;
+        self.input.extend_from_slice(bytes.as_slice())?;
+        self.is_input_said = true;
         Ok(())
     }
 
     fn runs(&mut self, names: &Names, line: &str) -> Result<(), Fault> {
-        self.settle()?;
         let words = words_of(self.alloc, names.filled(line)?.as_slice())?;
-        let input = match self.input.take() {
-            Some(input) => input,
-            None => Vec::new(self.alloc),
-        };
-        let run = Run::new(self.rt, words.as_slice(), input.as_slice());
+        let run = Run::new(self.rt, words.as_slice(), self.input.as_slice());
+        self.input.clear();
+        self.is_input_said = false;
         self.has_asked(Asked::Program(run));
         Ok(())
     }
@@ -225,16 +268,6 @@ impl<'t> Row<'t> {
             return Err(Fault::Line("no program was run"));
         };
         run.wants(word, line, bytes.as_slice())
-    }
-
-    /// Compares what was asked last, where a line with this first word says no more of it.
-    pub fn settle_before(&mut self, word: &str) -> Result<(), Fault> {
-        match word.as_bytes() {
-            b"let" | b"end" | b"status" | b"out" | b"err" | b"usage" | [b'1'..=b'9', _, _] => Ok(
-                (),
-            ),
-            _ => self.settle(),
-        }
     }
 
     /// Plays a line, by its first word and what stands behind it.
@@ -259,10 +292,12 @@ impl<'t> Row<'t> {
     }
 
     fn plays_exchange(&mut self, names: &Names, word: &str, rest: &str) -> Result<(), Fault> {
-        match word.as_bytes() {
-            [_] => self.sends(names, word, rest),
-            [b'1'..=b'9', b'0'..=b'9', b'0'..=b'9'] => self.is_told(names, word, rest),
-            _ => Err(Fault::Line("this line isn't read")),
+        if word.len() == 1 {
+            return self.sends(names, word, rest);
         }
+        if is_status(word) {
+            return self.is_told(names, word, rest);
+        }
+        Err(Fault::Line("this line isn't read"))
     }
 }

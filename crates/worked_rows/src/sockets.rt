@@ -4,7 +4,7 @@ use office_words::ClapWords;
 use row_texts::Fault;
 use sakila_office::{serve_listener, serve_patiently};
 use shop_types::Limits;
-use sqlite::Alter;
+use sqlite::MemStore;
 use std::alloc::Global;
 use std::io::{Read, Write};
 use std::net::{Shutdown, TcpListener, TcpStream};
@@ -50,10 +50,10 @@ fn is_told(alloc: Global, stream: &TcpStream, reply: &[u8]) -> Result<bool, Faul
 }
 
 /// A peer is answered.
-fn one_peer<S: Alter>(
+fn one_peer(
     rt: &HostRuntime,
     listener: &TcpListener,
-    chain: &mut Chain<S>,
+    chain: &mut Chain<MemStore>,
 ) -> Result<bool, Fault> {
     let alloc = rt.alloc();
     let peer = asking(rt, listener, ASKED, b"", 0)?;
@@ -62,10 +62,10 @@ fn one_peer<S: Alter>(
 }
 
 /// A peer that is silent is left, and the next is answered; and one that sends more than is read has its reply too.
-fn later_peers<S: Alter>(
+fn later_peers(
     rt: &HostRuntime,
     listener: &TcpListener,
-    chain: &mut Chain<S>,
+    chain: &mut Chain<MemStore>,
 ) -> Result<bool, Fault> {
     let alloc = rt.alloc();
     let _silent = TcpStream::connect(rt, listener.local_addr()?)?;
