@@ -1,6 +1,6 @@
 -- What the number of a row says of the calls that it was made of.
 use Rattle.std.proofs.Common.{◌≡◌, ◌+◌, ℕ, true, false, Ok, Err, Result, refl, sym, subst}
-use Rattle.std.specs.Prelude.{IsOk, IsErr, IfOk, OnOk}
+use Rattle.std.specs.Prelude.{IsOk, IfOk, OnOk}
 use Rattle.sqlite.specs.State.{State}
 use Rattle.sql_rows.specs.Calls.{StaysInside}
 use Rattle.sql_rows.proofs.Stays.{within_of, inside_then, inside_as}
@@ -25,11 +25,6 @@ numbered_as put (Err e) m W Q is put_it make = tt
 pub put_inside : {X E F : Type 0} {a b : State} {put : Result X E} (r : Result ℕ F) (m : ℕ) → IfOk r (λ n. (n ≡ m) × IsOk put) → StaysInside a b put → StaysInside a b r
 put_inside {a = a} {b = b} {put = put} (Ok n) m is h = inside_as a b put (Ok n) h (λ _. is.1)
 put_inside {a = a} {b = b} {put = put} (Err e) m is h = inside_as a b put (Err e) h (λ ok. absurd (apart ok))
-
--- the same calls, and then an error
-pub inside_err : {X E Y F : Type 0} (a b : State) (r : Result X E) (s : Result Y F) → StaysInside a b r → IsErr s → StaysInside a b s
-inside_err a b r (Ok y) h err = absurd (apart err)
-inside_err a b r (Err f) h err = record { survives = h.survives; kept = h.kept; lives = λ clean inside. tt }
 
 -- two calls, of which the first told the last number
 pub told_then : {Y E F : Type 0} (a b c : State) (last : Result ℕ E) (n : ℕ) (r : Result Y F) → last ≡ Ok n → StaysInside a b last → StaysInside b c r → StaysInside a c r

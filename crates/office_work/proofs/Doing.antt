@@ -1,8 +1,6 @@
 -- What a command of head office comes to, by its verdict.
-use Rattle.std.proofs.Common.{◌≡◌, ◌∙◌, sym, ap, subst, ℕ, true, false, List, Result, Ok, Err}
-use Rattle.std.specs.Prelude.{IsErr}
+use Rattle.std.proofs.Common.{◌≡◌, ◌∙◌, sym, ap, subst, ℕ, true, false, List}
 use Rattle.sqlite.specs.State.{State}
-use Rattle.sql_rows.specs.Calls.{StaysInside}
 use Rattle.shop_model.specs.Values.{OfficeCommand, Rules}
 use Rattle.shop_model.specs.Refusals as named
 use Rattle.shop_model.specs.Verdict.{Verdict, Again, Refused, Accepted, office_verdict}
@@ -11,14 +9,6 @@ use Rattle.shop_model.specs.Answers.{Answer, answer_of}
 use Rattle.shop_model.specs.Books.{Books}
 use Rattle.shop_schema.specs.Shop.{Holds}
 use Rattle.office_work.specs.Works.{told_office, after_office, IsDone}
-
--- the same calls, and then an error
-pub inside_err : {X E Y F : Type 0} (a b : State) (r : Result X E) (s : Result Y F) → StaysInside a b r → IsErr s → StaysInside a b s
-inside_err a b r (Ok y) h err = absurd (apart err)
-  where
-    apart : false ≡ true → ⊥
-    apart e = cc
-inside_err a b r (Err f) h err = record { survives = h.survives; kept = h.kept; lives = λ clean inside. tt }
 
 module _ (rules : Rules) (command : OfficeCommand) (books : Books) (answer : Answer) (s : State) where
   by_verdict : (v : Verdict) → office_verdict rules books.catalogue command ≡ v

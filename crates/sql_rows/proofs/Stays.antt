@@ -73,3 +73,7 @@ inside_as a b (Err e) (Err f) h ok = record { survives = h.survives; kept = h.ke
 pub within_err : {X E Y F : Type 0} (a b : State) (r : Result X E) (s : Result Y F) → StaysWithin a b r → IsErr s → StaysWithin a b s
 within_err a b r (Ok y) h err = absurd (apart err)
 within_err a b r (Err f) h err = record { survives = h.survives; kept = h.kept; mode = λ clean inside. tt; lives = λ clean inside live. tt }
+
+pub inside_err : {X E Y F : Type 0} (a b : State) (r : Result X E) (s : Result Y F) → StaysInside a b r → IsErr s → StaysInside a b s
+inside_err a b r (Ok y) h err = absurd (apart err)
+inside_err a b r (Err f) h err = record { survives = h.survives; kept = h.kept; lives = λ clean inside. tt }

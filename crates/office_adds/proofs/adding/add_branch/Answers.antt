@@ -7,8 +7,8 @@ use Rattle.shop_types.specs.Seen.{seen_branch}
 use Rattle.shop_schema.specs.Counts.{counts_of}
 use Rattle.shop_ledger.proofs.CountsOf.{beside}
 use Rattle.office_adds.specs.Added.{IsNumbered}
-use Rattle.sql_rows.proofs.Stays.{within_of, inside_then}
-use Rattle.office_adds.proofs.Numbers.{was_ok, numbered_as, put_inside, inside_err, told_then}
+use Rattle.sql_rows.proofs.Stays.{inside_err, within_of, inside_then}
+use Rattle.office_adds.proofs.Numbers.{was_ok, numbered_as, put_inside, told_then}
 use Rattle.office_adds.proofs.Written.{no_last, branch_added}
 use Rattle.office_adds.proofs.adding.add_branch.Goals as goal
 

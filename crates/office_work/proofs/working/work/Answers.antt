@@ -12,8 +12,8 @@ use Rattle.shop_ledger.specs.declared.kept.KeptRow.{KeptRow}
 use Rattle.shop_ledger.specs.Seen.{seen_kept, by_form}
 use Rattle.shop_ledger.proofs.KeptLemmas.{copied_told}
 use Rattle.shop_schema.proofs.OfficeOneToOne.{office_told}
-use Rattle.sql_rows.proofs.Stays.{within_of, inside_then, inside_as}
-use Rattle.office_work.proofs.Doing.{inside_err, again_done, accepted_done, refused_done}
+use Rattle.sql_rows.proofs.Stays.{within_of, inside_then, inside_as, inside_err}
+use Rattle.office_work.proofs.Doing.{again_done, accepted_done, refused_done}
 use Rattle.office_work.proofs.working.work.Goals as goal
 
 abbrev known : OfficeChange → Result OfficeChange Refusal
