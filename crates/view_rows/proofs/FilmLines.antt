@@ -22,7 +22,7 @@ use Rattle.shop_views.specs.Films.{film_with, seen_film, film_data}
 use Rattle.shop_views.specs.Page.{Page, HasValues}
 use Rattle.shop_views.specs.declared.names.PersonName.{PersonName}
 use Rattle.shop_views.specs.declared.films.FilmRow as rows
-use Rattle.view_rows.specs.Shown.{text_or_empty, FilmLine, shown_film}
+use Rattle.view_rows.specs.Shown.{text_or_empty, IsNameIn, FilmLine, shown_film}
 use Rattle.view_rows.specs.Films.{names_of, film_alone, FilmPart, whole, seen_part, Grouped, closed, take_line, runs}
 use Rattle.view_rows.proofs.Numbers.{one_at}
 use Rattle.view_rows.proofs.PageLines.{split_last}
@@ -70,15 +70,16 @@ film_is row number title description category rate minutes rating at0 at1 at2 at
 
 -- ---- the actor of a row
 
-pub no_actor : (row : sql.Row) → column row 7 ≡ Null → (o : Option (ℕ × Actor)) → column row 7 ≡ or_null (λ (it : ℕ × Actor). Text it.1.first) o → [] ≡ names_of o
-no_actor row none None first = refl
-no_actor row none (Some it) first = absurd (let both : Null ≡ Text it.1.first = sym none ∙ first in cc)
-
-pub one_actor : (row : sql.Row) (name : PersonName) → column row 7 ≡ Text name.first → column row 8 ≡ Text name.last
-    → (o : Option (ℕ × Actor)) → column row 7 ≡ or_null (λ (it : ℕ × Actor). Text it.1.first) o → column row 8 ≡ or_null (λ (it : ℕ × Actor). Text it.1.last) o → map name_text (name ∷ []) ≡ names_of o
-one_actor row name first last None firsts lasts = absurd (let both : Text name.first ≡ Null = sym first ∙ firsts in cc)
-one_actor row name first last (Some it) firsts lasts =
-    (λ i. full_name (same_words _ _ (sym first ∙ firsts) i) (same_words _ _ (sym last ∙ lasts) i) ∷ [])
+pub actor_named : (row : sql.Row) (name : Option PersonName) → IsNameIn (column row 7) (column row 8) name → (catalogue : Catalogue) (line : FilmLine) → row ≡ shown_film catalogue line
+    → map name_text (option_to_list name) ≡ names_of line.1
+actor_named row name is catalogue line shown = go name is line.1 (ap (λ r. column r 7) shown) (ap (λ r. column r 8) shown)
+  where
+    go : (name : Option PersonName) → IsNameIn (column row 7) (column row 8) name → (o : Option (ℕ × Actor)) → column row 7 ≡ or_null (λ (it : ℕ × Actor). Text it.1.first) o
+        → column row 8 ≡ or_null (λ (it : ℕ × Actor). Text it.1.last) o → map name_text (option_to_list name) ≡ names_of o
+    go None none None first last = refl
+    go None none (Some it) first last = absurd (let both : Null ≡ Text it.1.first = sym none ∙ first in cc)
+    go (Some name) some None first last = absurd (let both : Text name.first ≡ Null = sym some.0 ∙ first in cc)
+    go (Some name) some (Some it) first last = (λ i. full_name (same_words _ _ (sym some.0 ∙ first) i) (same_words _ _ (sym some.1 ∙ last) i) ∷ [])
 
 -- the film with one actor more, or none
 pub part_more : (film it : rows.FilmRow) (name : Option PersonName) (o : Option (ℕ × Actor)) → film_with [] it ≡ film_with [] film → it.actors.items ≡ film.actors.items ++ option_to_list name

@@ -3,7 +3,7 @@ use Rattle.std.proofs.Common.{◌≡◌, ◌+◌, ℕ, List, [], ◌∷◌, ◌+
 use Rattle.std.specs.Prelude.{◌⊎◌, is_some, unwrap_or, if◌then◌else◌, codes}
 use Rattle.std.specs.Option.{option_to_list}
 use Rattle.std.specs.List.{flat_map}
-use Rattle.sqlite.specs.declared.types.Value.TheVariants.{Text}
+use Rattle.sqlite.specs.declared.types.Value.TheVariants.{Null, Text}
 use Rattle.sqlite.specs.Values.{or_null}
 use Rattle.sqlite_value.specs.Order as sql
 use Rattle.sqlite_value.specs.Order.{column}
@@ -13,16 +13,16 @@ use Rattle.shop_model.specs.Values as model
 use Rattle.shop_model.specs.Values.{Branch, Staff, Rental, Payment}
 use Rattle.shop_model.specs.Shop.{Catalogue}
 use Rattle.shop_model.specs.Books.{Books, head, shop_of}
-use Rattle.shop_model.specs.Views.{person_name, manager_name, city_name, country_name, paid_rentals, takings}
+use Rattle.shop_model.specs.Views.{full_name, person_name, manager_name, city_name, country_name, paid_rentals, takings}
 use Rattle.shop_schema.proofs.Lists.{flat_map_push}
 use Rattle.shop_views.specs.Sales.{manager_text}
 use Rattle.shop_views.specs.declared.names.PersonName.{PersonName}
-use Rattle.view_rows.specs.Shown.{text_or_empty}
+use Rattle.view_rows.specs.Shown.{text_or_empty, IsNameIn}
 use Rattle.view_rows.specs.Payments.{PaidLine, shown_line, paid_lines, Sale, sale, sale_in}
 use Rattle.view_rows.specs.Sales.{sum_of, rental_sum, manager_of, shown_store, store_with}
 use Rattle.view_rows.proofs.Numbers.{one_at}
 use Rattle.view_rows.proofs.PageLines.{split_last}
-use Rattle.view_rows.proofs.PersonLines.{city_read, country_read, same_number}
+use Rattle.view_rows.proofs.PersonLines.{city_read, country_read, same_number, same_words}
 use Rattle.view_rows.proofs.PaymentLines.{paid_are, takings_are}
 
 -- ---- sums
@@ -84,15 +84,21 @@ only_manager catalogue branch = go branch.manager
     go None = refl
     go (Some n) = subst (λ (k : List Staff). option_to_list (head k) ≡ k) (sym (append-nil (at n catalogue.staff))) (one_only (at n catalogue.staff) (one_at n catalogue.staff))
 
+manager_named : (row : sql.Row) (name : Option PersonName) → IsNameIn (column row 3) (column row 4) name → (o : Option Staff) → column row 3 ≡ or_null (λ (it : Staff). Text it.person.first) o
+    → column row 4 ≡ or_null (λ (it : Staff). Text it.person.last) o → manager_text name ≡ flat_map (λ (it : Staff). person_name it.person) (option_to_list o)
+manager_named row None none None first last = refl
+manager_named row None none (Some it) first last = absurd (let both : Null ≡ Text it.person.first = sym none ∙ first in cc)
+manager_named row (Some name) some None first last = absurd (let both : Text name.first ≡ Null = sym some.0 ∙ first in cc)
+manager_named row (Some name) some (Some it) first last =
+    (λ i. full_name (same_words _ _ (sym some.0 ∙ first) i) (same_words _ _ (sym some.1 ∙ last) i)) ∙ sym (append-nil (person_name it.person))
+
 pub store_is : (row : sql.Row) (city country : model.Text) (manager : Option PersonName) → city ≡ text_or_empty (column row 1) → country ≡ text_or_empty (column row 2)
-    → ((o : Option Staff) → column row 3 ≡ or_null (λ (it : Staff). Text it.person.first) o → column row 4 ≡ or_null (λ (it : Staff). Text it.person.last) o
-    → manager_text manager ≡ flat_map (λ (it : Staff). person_name it.person) (option_to_list o))
-    → (catalogue : Catalogue) (x : ℕ × Branch) → row ≡ shown_store catalogue x → record { store = city ++ codes "," ++ country; manager = manager_text manager; total = 0 } ≡ store_with catalogue 0 x.1
+    → IsNameIn (column row 3) (column row 4) manager → (catalogue : Catalogue) (x : ℕ × Branch) → row ≡ shown_store catalogue x → record { store = city ++ codes "," ++ country; manager = manager_text manager; total = 0 } ≡ store_with catalogue 0 x.1
 store_is row city country manager at1 at2 at3 catalogue x is =
     let cities : city ≡ city_name catalogue x.1.city = at1 ∙ ap (λ r. text_or_empty (column r 1)) is ∙ city_read catalogue x.1.city in
     let countries : country ≡ country_name catalogue x.1.city = at2 ∙ ap (λ r. text_or_empty (column r 2)) is ∙ country_read catalogue x.1.city in
     let managers : manager_text manager ≡ manager_name catalogue x.1 =
-    at3 (manager_of catalogue x.1) (ap (λ r. column r 3) is) (ap (λ r. column r 4) is) ∙ ap (flat_map (λ (it : Staff). person_name it.person)) (only_manager catalogue x.1) in
+    manager_named row manager at3 (manager_of catalogue x.1) (ap (λ r. column r 3) is) (ap (λ r. column r 4) is) ∙ ap (flat_map (λ (it : Staff). person_name it.person)) (only_manager catalogue x.1) in
     (λ i. record { store = cities i ++ codes "," ++ countries i; manager = managers i; total = 0 })
 
 -- the branch of the number, where it is there

@@ -1,5 +1,5 @@
 -- What the rows of the views' joins show of the books, and what the lists show of them.
-use Rattle.std.specs.Prelude.{ℕ, Bool, List, [], ◌∷◌, ◌++◌, map, filter, flat_map, Option, Some, None}
+use Rattle.std.specs.Prelude.{◌≡◌, ℕ, Bool, List, [], ◌∷◌, ◌++◌, map, filter, flat_map, Option, Some, None}
 use Rattle.sqlite.specs.declared.types.Value.{Value}
 use Rattle.sqlite.specs.declared.types.Value.TheVariants.{Null, Int, Real, Text, Blob}
 use Rattle.sqlite.specs.Values.{or_null}
@@ -10,6 +10,7 @@ use Rattle.shop_model.specs.Values as model
 use Rattle.shop_model.specs.Values.{Person, City, Actor, Film, Staff, Customer}
 use Rattle.shop_model.specs.Shop.{Catalogue}
 use Rattle.shop_model.specs.Views.{PersonRow, person_row, is_cast}
+use Rattle.shop_views.specs.declared.names.PersonName.{PersonName}
 
 -- the name of a row that may be missing
 abbrev pub name_or_null : List model.Text → Value
@@ -25,6 +26,11 @@ text_or_empty (Text t) = t
 text_or_empty (Blob b) = []
 
 -- ---- people
+
+-- the names in these two columns, or none where the first is NULL
+abbrev pub IsNameIn : Value → Value → Option PersonName → Type 0
+IsNameIn first last None = first ≡ Null
+IsNameIn first last (Some name) = (first ≡ Text name.first) × (last ≡ Text name.last)
 
 -- a person's number and person, with the names of city and country
 abbrev pub shown_person : Catalogue → ℕ → Person → sql.Row

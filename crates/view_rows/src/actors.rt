@@ -7,6 +7,7 @@ ghost use Rattle.shop_views.specs.Films.{seen_actor, actor_data};
 ghost use Rattle.shop_views.specs.Page.{HasValues};
 ghost use Rattle.view_rows.specs.Actors.{ActorLine, shown_actor, told_film, take_film, take_any, every_group, seen_group, seen_open, seen_groups, seen_told, actor_alone, whole, seen_part, take_line, HasActors};
 
+use crate::people::person_name_at;
 use shop_schema::{row_number_at, text_at};
 use shop_values::{ActorNo, CategoryNo, T45, T128};
 use shop_views::{ActorRow, FilmGroup, ListPage, PersonName, actor_row};
@@ -64,10 +65,7 @@ fn actor_at(alloc: Global, row: &Row) -> Result<StartedActor, StoreFault>
 {
     Ok(StartedActor {
         number: row_number_at(row, 0)?,
-        name: PersonName {
-            first: text_at(row, 1)?,
-            last: text_at(row, 2)?,
-        },
+        name: person_name_at(row, 1, 2)?,
         groups: FilmGroups {
             complete: Vec::new(alloc),
             last: None,
@@ -159,13 +157,10 @@ fn all_groups(groups: FilmGroups) -> Result<Vec<FilmGroup>, AllocError>
     ensures { IfOk result (λ all. map seen_group all.items ≡ every_group (seen_groups groups)) }
 {
     let FilmGroups { mut complete, last } = groups;
-    match last {
-        Some(group) => {
-            complete.push(group.films)?;
-            Ok(complete)
-        }
-        None => Ok(complete),
+    if let Some(group) = last {
+        complete.push(group.films)?;
     }
+    Ok(complete)
 }
 
 /// The actor, of whom no more rows come.

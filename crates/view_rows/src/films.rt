@@ -1,6 +1,6 @@
 //! The list of all films, each with its actors: neighbouring rows of one join belong to one film.
 
-ghost use Rattle.std.specs.Prelude.{◌≡◌, ℕ, List, [], ◌∷◌, ◌++◌, false, Option, Some, IfOk, OnOk, map, option_map, option_to_list, string_bytes};
+ghost use Rattle.std.specs.Prelude.{◌≡◌, List, [], ◌∷◌, ◌++◌, false, Option, Some, IfOk, OnOk, map, option_map, string_bytes};
 ghost use Rattle.serde_json.specs.Data.{Data};
 ghost use Rattle.sqlite.specs.Held.{state};
 ghost use Rattle.sqlite.specs.State.{HasCleanDisk, IsUnchanged, KeepsCommit, Survives};
@@ -8,7 +8,6 @@ ghost use Rattle.sqlite.specs.Values.{or_null};
 ghost use Rattle.sqlite.specs.declared.types.Value.TheVariants.{Text as SqlText};
 ghost use Rattle.sqlite_value.specs.Order.{column};
 ghost use Rattle.sql_rows.specs.Rows.{number_value};
-ghost use Rattle.shop_model.specs.Values.{Actor};
 ghost use Rattle.shop_model.specs.Shop.{Catalogue};
 ghost use Rattle.shop_model.specs.Books.{Books};
 ghost use Rattle.shop_model.specs.Machine.{FilmsListed};
@@ -17,20 +16,17 @@ ghost use Rattle.shop_model.specs.Views.{FilmRow as ModelFilm, film_list};
 ghost use Rattle.shop_types.specs.Films.{rating_text};
 ghost use Rattle.shop_schema.specs.Shop.{Holds};
 ghost use Rattle.shop_schema.specs.Held.{IsHeld};
-ghost use Rattle.shop_views.specs.Names.{name_text};
 ghost use Rattle.shop_views.specs.Films.{film_with, seen_film, film_data};
 ghost use Rattle.shop_views.specs.Page.{HasValues};
 ghost use Rattle.view_rows.specs.Shown.{FilmLine, shown_film};
 ghost use Rattle.view_rows.specs.Films.{names_of, film_alone, seen_part, take_line, closed, HasFilms};
 
-use crate::people::name_at;
+use crate::people::{name_at, person_name_or_null_at};
 use shop_schema::{row_number_at, text_at};
 use shop_types::{Minutes, Rating};
-use shop_values::{Rate, T45};
-use shop_views::{FilmRow, ListPage, PersonName, film_row};
-use sql_rows::{
-    StoreFault, TakesRows, each_row, number_at, number_or_null_at, words_at, words_or_null_at,
-};
+use shop_values::Rate;
+use shop_views::{FilmRow, ListPage, film_row};
+use sql_rows::{StoreFault, TakesRows, each_row, number_at, number_or_null_at, words_at};
 use sqlite::{Alter, Connection, Row};
 use std::alloc::{AllocError, Global};
 
@@ -73,24 +69,6 @@ fn rating_at(row: &Row, at: usize) -> Result<Rating, StoreFault>
     }
 }
 
-/// The actor of the row, or none where it has none.
-fn actor_at(row: &Row) -> Result<Option<PersonName>, StoreFault>
-    ensures { IfOk result (λ name. (o : Option (ℕ × Actor)) → column row.now 7 ≡ or_null (λ it. SqlText it.1.first) o
-        → column row.now 8 ≡ or_null (λ it. SqlText it.1.last) o
-        → map name_text (option_to_list name) ≡ names_of o) }
-{
-    let Some(first) = words_or_null_at(row, 7)? else {
-        return Ok(None);
-    };
-    match T45::read(first.into_string()) {
-        Some(first) => Ok(Some(PersonName {
-            first,
-            last: text_at(row, 8)?,
-        })),
-        None => Err(StoreFault::Failed),
-    }
-}
-
 /// The film of the row, without its actor.
 fn film_at(alloc: Global, row: &Row) -> Result<FilmRow, StoreFault>
     ensures film { IfOk result (λ it. (catalogue : Catalogue) (line : FilmLine) → row.now ≡ shown_film catalogue line
@@ -115,7 +93,7 @@ fn with_actor(film: FilmRow, row: &Row) -> Result<FilmRow, StoreFault>
         → seen_part it ≡ ((seen_part film).0, (seen_part film).1 ++ names_of line.1)) }
 {
     let mut film = film;
-    if let Some(name) = actor_at(row)?
+    if let Some(name) = person_name_or_null_at(row, 7, 8)?
         && film.actors.push(name).is_err()
     {
         return Err(StoreFault::Memory);

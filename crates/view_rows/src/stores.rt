@@ -1,28 +1,23 @@
 //! What branches have taken for rentals.
 
-ghost use Rattle.std.specs.Prelude.{◌≡◌, ℕ, List, [], ◌∷◌, ◌++◌, false, Option, Some, None, IfOk, OnOk, map, flat_map, option_map, option_to_list};
+ghost use Rattle.std.specs.Prelude.{◌≡◌, ℕ, List, [], ◌∷◌, ◌++◌, false, Option, Some, None, IfOk, OnOk, map, option_map};
 ghost use Rattle.serde_json.specs.Data.{Data};
 ghost use Rattle.sqlite.specs.Held.{state};
 ghost use Rattle.sqlite.specs.State.{HasCleanDisk, IsUnchanged, KeepsCommit, Survives};
-ghost use Rattle.sqlite.specs.Values.{or_null};
-ghost use Rattle.sqlite.specs.declared.types.Value.TheVariants.{Text as SqlText};
-ghost use Rattle.sqlite_value.specs.Order.{column};
 ghost use Rattle.shop_model.specs.Rows.{at};
-ghost use Rattle.shop_model.specs.Values.{Branch, Staff};
+ghost use Rattle.shop_model.specs.Values.{Branch};
 ghost use Rattle.shop_model.specs.Shop.{Catalogue};
 ghost use Rattle.shop_model.specs.Books.{Books, head};
-ghost use Rattle.shop_model.specs.Views.{person_name};
 ghost use Rattle.shop_schema.specs.Shop.{Holds};
 ghost use Rattle.shop_views.specs.Page.{HasValues};
-ghost use Rattle.shop_views.specs.Sales.{manager_text, seen_store, store_data};
+ghost use Rattle.shop_views.specs.Sales.{seen_store, store_data};
 ghost use Rattle.view_rows.specs.Payments.{PaidLine, shown_line, Sale, sale_in};
 ghost use Rattle.view_rows.specs.Sales.{sum_of, HasSold, shown_store, store_with, HasFound};
 
-use crate::people::name_at;
-use shop_schema::text_at;
-use shop_values::{BranchNo, T45};
-use shop_views::{ListPage, PersonName, StoreRow, store_row};
-use sql_rows::{StoreFault, TakesRows, each_row, number_at, number_or_null_at, words_or_null_at};
+use crate::people::{city_at, person_name_or_null_at};
+use shop_values::BranchNo;
+use shop_views::{ListPage, StoreRow, store_row};
+use sql_rows::{StoreFault, TakesRows, each_row, number_at, number_or_null_at};
 use sqlite::types::ToSql;
 use sqlite::{Alter, Connection, Row};
 use std::alloc::{AllocError, Global};
@@ -57,33 +52,16 @@ impl TakesRows for SalesSum {
     }
 }
 
-/// The manager of the row, or none where it has none.
-fn manager_at(row: &Row) -> Result<Option<PersonName>, StoreFault>
-    ensures { IfOk result (λ name. (o : Option Staff) → column row.now 3 ≡ or_null (λ it. SqlText it.person.first) o
-        → column row.now 4 ≡ or_null (λ it. SqlText it.person.last) o
-        → manager_text name ≡ flat_map (λ (it : Staff). person_name it.person) (option_to_list o)) }
-{
-    let Some(first) = words_or_null_at(row, 3)? else {
-        return Ok(None);
-    };
-    match T45::read(first.into_string()) {
-        Some(first) => Ok(Some(PersonName {
-            first,
-            last: text_at(row, 4)?,
-        })),
-        None => Err(StoreFault::Failed),
-    }
-}
-
 /// The branch of the row, with no sum yet.
 fn read_store(alloc: Global, row: &Row) -> Result<StoreRow, StoreFault>
     ensures { IfOk result (λ it. (catalogue : Catalogue) (x : ℕ × Branch) → row.now ≡ shown_store catalogue x
         → seen_store it ≡ store_with catalogue 0 x.1) }
 {
+    let (city, country) = city_at(alloc, row, 1, 2)?;
     Ok(StoreRow {
-        city: name_at(alloc, row, 1)?,
-        country: name_at(alloc, row, 2)?,
-        manager: manager_at(row)?,
+        city,
+        country,
+        manager: person_name_or_null_at(row, 3, 4)?,
         total: 0,
     })
 }
@@ -137,6 +115,8 @@ pub fn add_store(
     ensures { OnOk result ((values : List Data) → HasValues page.old values
         → HasValues page.new (values ++ store_data (record (seen_store row) { total = total }) ∷ [])) }
 {
-    let value = store_row(alloc, &StoreRow { total, ..row })?;
+    let mut row = row;
+    row.total = total;
+    let value = store_row(alloc, &row)?;
     page.add(&value)
 }

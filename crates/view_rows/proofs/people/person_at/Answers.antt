@@ -4,5 +4,7 @@ use Rattle.view_rows.proofs.people.person_at.Goals as goal
 
 pub returns : goal.returns
 returns c =
-    person_is c.args.row.now _ c.args.branch refl c.in_ok-text_at.ensures.ok c.in_ok-text_at-2.ensures.ok c.in_ok-text_at-3.ensures.ok c.in_ok-text_at-4.ensures.ok c.in_ok-text_at-5.ensures.ok
-    c.in_ok-name_at.ensures c.in_ok-name_at-2.ensures
+    let name = c.in_ok-name.ensures in
+    let city = c.in_ok-city.ensures in
+    let address = c.in_ok-address.ensures in
+    person_is c.args.row.now _ c.args.branch refl name.0 name.1 address.0 address.1 address.2 city.0 city.1
