@@ -1,6 +1,6 @@
 //! Actors as the list of actors shows them, each with the films by category.
 
-ghost use Rattle.std.specs.Prelude.{◌≡◌, ◌++◌, codes, false, map, IfOk, string_bytes};
+ghost use Rattle.std.specs.Prelude.{◌≡◌, codes, false, map, IfOk, string_bytes};
 ghost use Rattle.std.specs.List.{join_by};
 ghost use Rattle.serde_json.specs.View.{view};
 ghost use Rattle.serde_json.specs.Written.{compact_text, has_float};
@@ -8,7 +8,7 @@ ghost use Rattle.shop_model.specs.Values.{Text};
 ghost use Rattle.shop_model.specs.Answers.{listed_actor};
 ghost use Rattle.shop_views.specs.Films.{films_text, seen_actor, actor_data};
 
-use crate::names::PersonName;
+use crate::names::{PersonName, with_between};
 use reply_bodies::{Field, object_of};
 use serde_json::Value;
 use shop_values::{ActorNo, T45, T128};
@@ -51,19 +51,12 @@ fn joined_titles(alloc: Global, titles: &[T128]) -> Result<String, AllocError>
     texts.as_slice().join(alloc, ", ")
 }
 
-/// The category's name, a colon and the titles.
-fn group_text(alloc: Global, category: &str, titles: &str) -> Result<String, AllocError>
-    ensures { IfOk result (λ s. string_bytes s ≡ category.now ++ codes ": " ++ titles.now) }
-{
-    format!(in alloc; "{category}: {titles}")
-}
-
-/// The films of a category.
+/// The films of a category: its name, a colon and the titles.
 fn films_text(alloc: Global, films: &FilmGroup) -> Result<String, AllocError>
     ensures { IfOk result (λ s. string_bytes s ≡ films_text films.now) }
 {
     let titles = joined_titles(alloc, films.titles.as_slice())?;
-    group_text(alloc, films.category.as_str(), titles.as_str())
+    with_between(alloc, films.category.as_str(), ": ", titles.as_str())
 }
 
 /// The films of each category, each as a text of its own.

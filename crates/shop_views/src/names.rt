@@ -14,11 +14,23 @@ pub struct PersonName {
     pub last: T45,
 }
 
+/// The two texts with that one between.
+pub(crate) fn with_between(
+    alloc: Global,
+    first: &str,
+    between: &str,
+    last: &str,
+) -> Result<String, AllocError>
+    ensures { IfOk result (λ s. string_bytes s ≡ first.now ++ between.now ++ last.now) }
+{
+    format!(in alloc; "{first}{between}{last}")
+}
+
 /// The first name, a blank and the last name.
 pub(crate) fn full_name(alloc: Global, first: &str, last: &str) -> Result<String, AllocError>
     ensures { IfOk result (λ s. string_bytes s ≡ first.now ++ codes " " ++ last.now) }
 {
-    format!(in alloc; "{first} {last}")
+    with_between(alloc, first, " ", last)
 }
 
 /// The names, each as a text of its own.

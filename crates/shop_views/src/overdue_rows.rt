@@ -1,10 +1,11 @@
-ghost use Rattle.std.specs.Prelude.{◌≡◌, ◌++◌, codes, false, map, IfOk, string_bytes};
+ghost use Rattle.std.specs.Prelude.{◌≡◌, false, map, IfOk, string_bytes};
 ghost use Rattle.serde_json.specs.View.{view};
 ghost use Rattle.serde_json.specs.Written.{compact_text, has_float};
 ghost use Rattle.shop_model.specs.Json.{array};
 ghost use Rattle.shop_model.specs.Answers.{overdue_text};
 ghost use Rattle.shop_views.specs.Overdue.{overdue_data, overdue_value, seen_overdue};
 
+use crate::names::with_between;
 use reply_bodies::{Field, object_of};
 use serde_json::Value;
 use shop_values::{L45, T45, T128};
@@ -18,13 +19,6 @@ pub struct OverdueRow {
     /// The telephone number, which may be empty.
     pub phone: L45,
     pub title: T128,
-}
-
-/// The last name, a comma and the first name.
-fn customer_name(alloc: Global, first: &str, last: &str) -> Result<String, AllocError>
-    ensures { IfOk result (λ s. string_bytes s ≡ last.now ++ codes ", " ++ first.now) }
-{
-    format!(in alloc; "{last}, {first}")
 }
 
 /// The rental by that name of the customer.
@@ -48,7 +42,7 @@ fn overdue_object<'a>(
 fn overdue_value(alloc: Global, row: &OverdueRow) -> Result<Value, AllocError>
     ensures { IfOk result (λ v. view v ≡ overdue_data (seen_overdue row.now)) }
 {
-    let customer = customer_name(alloc, row.first.as_str(), row.last.as_str())?;
+    let customer = with_between(alloc, row.last.as_str(), ", ", row.first.as_str())?;
     overdue_object(alloc, row, customer.as_str())
 }
 

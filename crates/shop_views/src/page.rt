@@ -29,16 +29,20 @@ impl Model for ListPage {
     ghost view = { λ p. record { text = string_bytes p.text; has_items = p.has_items } };
 }
 
+/// What stands before a value: a comma, or what opens the list.
+fn opening(later: bool) -> &'static str
+    ensures { result.now ≡ opening later }
+{
+    if later { "," } else { "[" }
+}
+
 /// The value's text, behind what opens the list or a comma.
 fn piece(alloc: Global, later: bool, value: &Value) -> Result<String, AllocError>
     ensures { IfOk result (λ s. has_float (view value.now) ≡ false → string_bytes s ≡ opening later ++ compact_text (view value.now)) }
 {
     let text = value.to_string(alloc)?;
-    if later {
-        format!(in alloc; ",{text}")
-    } else {
-        format!(in alloc; "[{text}")
-    }
+    let opening = opening(later);
+    format!(in alloc; "{opening}{text}")
 }
 
 /// What ends the list.

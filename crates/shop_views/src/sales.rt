@@ -1,12 +1,12 @@
 //! The rows of the two views of sales.
 
-ghost use Rattle.std.specs.Prelude.{◌≡◌, ◌++◌, codes, false, IfOk, string_bytes};
+ghost use Rattle.std.specs.Prelude.{◌≡◌, false, IfOk, string_bytes};
 ghost use Rattle.serde_json.specs.View.{view};
 ghost use Rattle.serde_json.specs.Written.{compact_text, has_float};
 ghost use Rattle.shop_model.specs.Answers.{listed_store, listed_category};
 ghost use Rattle.shop_views.specs.Sales.{manager_text, seen_store, seen_category, store_data, category_data};
 
-use crate::names::{PersonName, full_name};
+use crate::names::{PersonName, full_name, with_between};
 use reply_bodies::{Field, object_of};
 use serde_json::Value;
 use shop_values::{L45, T45};
@@ -32,13 +32,6 @@ pub struct CategoryRow {
     pub category: T45,
     /// The sum of the payments for rentals of its films, in cents.
     pub total: u64,
-}
-
-/// The city and its country.
-fn store_name(alloc: Global, city: &str, country: &str) -> Result<String, AllocError>
-    ensures { IfOk result (λ s. string_bytes s ≡ city.now ++ codes "," ++ country.now) }
-{
-    format!(in alloc; "{city},{country}")
 }
 
 /// The manager's whole name, empty where none is set.
@@ -73,7 +66,7 @@ fn store_object<'a>(
 fn store_value(alloc: Global, row: &StoreRow) -> Result<Value, AllocError>
     ensures { IfOk result (λ v. view v ≡ store_data (seen_store row.now)) }
 {
-    let store = store_name(alloc, row.city.as_str(), row.country.as_str())?;
+    let store = with_between(alloc, row.city.as_str(), ",", row.country.as_str())?;
     let manager = manager_name(alloc, &row.manager)?;
     store_object(alloc, store.as_str(), manager.as_str(), row.total)
 }
