@@ -1,6 +1,7 @@
--- Texts that are joined.
-use Rattle.std.proofs.Common.{◌≡◌, ◌∙◌, refl, sym, ap, ℕ, List, [], ◌∷◌, ◌++◌, map}
-use Rattle.std.specs.Prelude.{String, string_bytes}
+-- Texts that are made of values, and joined.
+use Rattle.std.proofs.Common.{◌≡◌, ◌<◌, ◌+◌, ◌∙◌, refl, sym, ap, ℕ, List, [], ◌∷◌, ◌++◌, map, take, length}
+use Rattle.std.proofs.lemmas.List.{take_more, map-append}
+use Rattle.std.specs.Prelude.{String, string_bytes, get_or}
 use Rattle.std.specs.List.{join_by, flat_map}
 use Rattle.std.specs.declared.alloc.Global.{Global}
 
@@ -21,3 +22,10 @@ joined_texts f separator text slice texts xs is same each =
 pub each_itself : (texts : List (List ℕ)) → texts ≡ map (λ (text : List ℕ). text) texts
 each_itself [] = refl
 each_itself (text ∷ texts) = ap (λ (l : List (List ℕ)). text ∷ l) (each_itself texts)
+
+-- what was made of the values so far, with one more
+pub made_more : {X Y Z : Type 0} (seen : Y → Z) (told : X → Z) (xs : List X) (i : ℕ) (x : X) (old new : List Y) (y : Y) → i < length xs → x ≡ get_or xs i x → new ≡ old ++ y ∷ [] → seen y ≡ told x
+    → map seen old ≡ map told (take i xs) → map seen new ≡ map told (take (i + 1) xs)
+made_more {X} {Y} {Z} seen told xs i x old new y within at pushed is so_far =
+    let more : take (i + 1) xs ≡ take i xs ++ x ∷ [] = take_more xs i x within ∙ ap (λ (z : X). take i xs ++ z ∷ []) (sym at) in
+    ap (map seen) pushed ∙ map-append seen old (y ∷ []) ∙ (λ j. so_far j ++ is j ∷ []) ∙ sym (ap (map told) more ∙ map-append told (take i xs) (x ∷ []))

@@ -8,7 +8,16 @@ use Rattle.shop_model.specs.Values.{Text}
 use Rattle.shop_model.specs.Views as views
 use Rattle.reply_bodies.specs.Texts.{item_texts}
 use Rattle.reply_bodies.proofs.TextLemmas.{same_text}
-use Rattle.shop_views.specs.Overdue.{overdue_data, overdue_value}
+use Rattle.shop_views.specs.Overdue.{overdue_data, overdue_value, seen_overdue}
+use Rattle.shop_views.specs.declared.overdue_rows.OverdueRow as rows
+use Rattle.serde_json.specs.Data.{Data}
+
+abbrev pub row_data : rows.OverdueRow → Data
+row_data row = overdue_data (seen_overdue row)
+
+pub all_data : (all : List rows.OverdueRow) → map row_data all ≡ map overdue_data (map seen_overdue all)
+all_data [] = refl
+all_data (row ∷ all) = ap (λ (ds : List Data). row_data row ∷ ds) (all_data all)
 
 pub no_float : (rows : List views.OverdueRow) → written.has_float (overdue_value rows) ≡ false
 no_float [] = refl
