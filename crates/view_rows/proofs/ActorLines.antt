@@ -1,5 +1,5 @@
 -- A row of the actors' join, taken.
-use Rattle.std.proofs.Common.{◌≡◌, ◌==◌, ℕ, false, cond, List, [], ◌∷◌, ◌++◌, codes, map, Option, Some, None, option_map, refl, sym, ap, subst, ◌∙◌}
+use Rattle.std.proofs.Common.{◌≡◌, ◌==◌, ℕ, Bool, true, false, cond, List, [], ◌∷◌, ◌++◌, codes, map, Option, Some, None, option_map, refl, sym, ap, subst, ◌∙◌}
 use Rattle.std.specs.List.{join_by}
 use Rattle.std.proofs.lemmas.List.{map-append}
 use Rattle.serde_json.specs.Data.{Data}
@@ -12,8 +12,9 @@ use Rattle.shop_model.specs.Views.{ActorRow}
 use Rattle.shop_views.specs.Films.{films_text, actor_data}
 use Rattle.shop_views.specs.Page.{Page, HasValues}
 use Rattle.shop_views.specs.declared.actors.FilmGroup.{FilmGroup}
+use Rattle.view_rows.specs.declared.actors.OpenGroup.{OpenGroup}
 use Rattle.view_rows.specs.declared.actors.StartedActor.{StartedActor}
-use Rattle.view_rows.specs.Actors.{ActorLine, shown_actor, text_of, told_film, take_any, every_group, seen_group, ActorPart, actor_alone, whole, seen_part, Grouped, closed, take_line, runs}
+use Rattle.view_rows.specs.Actors.{ActorLine, Group, Groups, ToldFilm, shown_actor, text_of, told_film, take_film, take_any, every_group, seen_group, seen_open, ActorPart, actor_alone, whole, seen_part, Grouped, closed, take_line, runs}
 use Rattle.view_rows.proofs.PageLines.{split_last}
 use Rattle.view_rows.proofs.PersonLines.{same_number, same_words}
 use Rattle.view_rows.proofs.FilmRuns.{join_map}
@@ -23,6 +24,30 @@ use Rattle.view_rows.proofs.ActorRuns.{run_push}
 pub whole_seen : (actor : StartedActor) (groups : List FilmGroup) → map seen_group groups ≡ every_group (seen_part actor).1
     → join_by films_text (codes "; ") groups ≡ (whole (seen_part actor)).films
 whole_seen actor groups is = join_map text_of seen_group (codes "; ") groups ∙ ap (join_by text_of (codes "; ")) is
+
+-- ---- films of an actor: one begins the first category, belongs to the category under way, or begins another
+
+abbrev with_group : List Group → ToldFilm → ℕ × Group → Bool → Groups
+with_group complete film open_one same =
+    cond {A = Groups} same (complete, Some (open_one.0, (open_one.1.0, open_one.1.1 ++ film.2 ∷ []))) (complete ++ open_one.1 ∷ [], Some (film.0, (film.1, film.2 ∷ [])))
+
+pub first_group : (complete : List Group) (film : ToldFilm) (fresh : ℕ × Group) (held : Option (ℕ × Group)) → fresh ≡ (film.0, (film.1, film.2 ∷ [])) → held ≡ None
+    → ◌≡◌ {A = Groups} (complete, Some fresh) (take_film (complete, held) film)
+first_group complete film fresh held is none = subst (λ (o : Option (ℕ × Group)). ◌≡◌ {A = Groups} (complete, Some fresh) (take_film (complete, o) film)) (sym none) (λ i. (complete, Some (is i)))
+
+pub same_group : (complete : List Group) (film : ToldFilm) (open_one it : ℕ × Group) (held : Option (ℕ × Group)) → (film.0 == open_one.0) ≡ true
+    → it ≡ (open_one.0, (open_one.1.0, open_one.1.1 ++ film.2 ∷ [])) → held ≡ Some open_one → ◌≡◌ {A = Groups} (complete, Some it) (take_film (complete, held) film)
+same_group complete film open_one it held same is there =
+    subst (λ (o : Option (ℕ × Group)). ◌≡◌ {A = Groups} (complete, Some it) (take_film (complete, o) film)) (sym there)
+    ((λ i. (complete, Some (is i))) ∙ ap (with_group complete film open_one) (sym same))
+
+pub next_group : (complete more : List FilmGroup) (film : ToldFilm) (group : OpenGroup) (fresh : ℕ × Group) (held : Option (ℕ × Group)) → (film.0 == group.number) ≡ false → more ≡ complete ++ group.films ∷ []
+    → fresh ≡ (film.0, (film.1, film.2 ∷ [])) → held ≡ Some (seen_open group) → ◌≡◌ {A = Groups} (map seen_group more, Some fresh) (take_film (map seen_group complete, held) film)
+next_group complete more film group fresh held other pushed is there =
+    subst (λ (o : Option (ℕ × Group)). ◌≡◌ {A = Groups} (map seen_group more, Some fresh) (take_film (map seen_group complete, o) film)) (sym there)
+    ((λ i. ((ap (map seen_group) pushed ∙ map-append seen_group complete (group.films ∷ [])) i, Some (is i))) ∙ ap (with_group (map seen_group complete) film (seen_open group)) (sym other))
+
+-- ---- an actor
 
 pub actor_is : (row : sql.Row) (number : ℕ) (first last : model.Text) (complete : List FilmGroup) → column row 0 ≡ number_value number → column row 1 ≡ Text first → column row 2 ≡ Text last → complete ≡ []
     → (line : ActorLine) → row ≡ shown_actor line

@@ -227,6 +227,14 @@ fn list_text(alloc: Global, rows: &[CategoryRow]) -> Result<String, AllocError>
     page.finish()
 }
 
+/// The text of the list of the categories that have a sum, in their order.
+fn sums_text(alloc: Global, sums: Vec<CategorySum>) -> Result<String, AllocError>
+    ensures { IfOk result (λ s. string_bytes s ≡ shown_text (CategoriesListed (sorted_by sells_more (sold (map seen_sum sums.items))))) }
+{
+    let rows = in_order(alloc, sums)?;
+    list_text(alloc, rows.as_slice())
+}
+
 /// What the branch has taken for rentals of each category's films, as the text of a list: the greatest total first, and then by the byte order of the
 /// names. A category without a payment for a rental isn't on it. The database stays as it was, unless the store fails, which commits nothing.
 pub fn sales_by_film_category<S: Alter>(
@@ -243,6 +251,5 @@ pub fn sales_by_film_category<S: Alter>(
 {
     let sums = categories(conn, alloc)?;
     let sums = with_sales(conn, branch, sums)?;
-    let rows = in_order(alloc, sums)?;
-    Ok(list_text(alloc, rows.as_slice())?)
+    Ok(sums_text(alloc, sums)?)
 }

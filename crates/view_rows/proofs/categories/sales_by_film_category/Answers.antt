@@ -1,9 +1,8 @@
-use Rattle.std.proofs.Common.{◌∙◌, ap, map}
+use Rattle.std.proofs.Common.{◌∙◌, ap}
 use Rattle.sqlite.specs.Held.{state}
 use Rattle.shop_model.specs.Machine.{CategoriesListed}
 use Rattle.shop_model.specs.Answers.{shown_text}
 use Rattle.shop_model.specs.Views.{sells_more, sorted_by}
-use Rattle.shop_views.specs.Sales.{seen_category}
 use Rattle.view_rows.specs.CategorySums.{sold}
 use Rattle.view_rows.proofs.CategorySales.{all_sold}
 use Rattle.view_rows.proofs.Looks.{holds_still, was_clean}
@@ -16,6 +15,4 @@ returns-clause-text g c clean books holds held =
     let still = holds_still (state g.S.Store c.args.conn.now) mid books (c.in_ok-sums.ensures.same early) holds in
     let names = c.in_ok-sums.ensures.sums early books holds in
     let sums = c.in_ok-sums-2.ensures.sums clean books still held books.catalogue.categories names in
-    c.in_ok-list_text.ensures
-    ∙ ap (λ rows. shown_text (CategoriesListed rows))
-    (ap (map seen_category) c.as_slice.ensures.value ∙ c.in_ok-rows.ensures ∙ ap (λ l. sorted_by sells_more (sold l)) sums ∙ all_sold c.args.branch books)
+    c.in_ok-sums_text.ensures ∙ ap (λ rows. shown_text (CategoriesListed rows)) (ap (λ l. sorted_by sells_more (sold l)) sums ∙ all_sold c.args.branch books)
