@@ -4,24 +4,24 @@ ghost use Rattle.std.specs.Prelude.{◌≡◌, ℕ, List, [], ◌++◌, false, n
 ghost use Rattle.serde_json.specs.Data.{Data};
 ghost use Rattle.sqlite.specs.Held.{state};
 ghost use Rattle.sqlite.specs.State.{HasCleanDisk, IsUnchanged, KeepsCommit, Survives};
-ghost use Rattle.shop_model.specs.Rows.{lacks, numbered};
+ghost use Rattle.shop_model.specs.Rows.{at, lacks, numbered};
 ghost use Rattle.shop_model.specs.Values.{Branch};
-ghost use Rattle.shop_model.specs.Books.{Books, shop_of};
+ghost use Rattle.shop_model.specs.Books.{Books, head, shop_of};
 ghost use Rattle.shop_model.specs.Machine.{StoresListed};
 ghost use Rattle.shop_model.specs.Answers.{shown_text};
 ghost use Rattle.shop_model.specs.Views.{sales_by_store};
 ghost use Rattle.shop_schema.specs.Shop.{Holds};
 ghost use Rattle.shop_schema.specs.Held.{IsHeld};
 ghost use Rattle.shop_views.specs.Page.{HasValues};
-ghost use Rattle.shop_views.specs.Sales.{store_data};
-ghost use Rattle.view_rows.specs.Sales.{rental_sum, sales_of_branch, sales_of_first};
+ghost use Rattle.shop_views.specs.Sales.{seen_store, store_data};
+ghost use Rattle.view_rows.specs.Sales.{rental_sum, store_with, sales_of_branch, sales_of_first};
 
 use shop_values::BranchNo;
-use shop_views::ListPage;
+use shop_views::{ListPage, StoreRow};
 use sql_rows::{StoreFault, each_row};
 use sqlite::types::ToSql;
 use sqlite::{Alter, Connection};
-use std::alloc::Global;
+use std::alloc::{AllocError, Global};
 use view_rows::{SalesSum, add_store, find_store};
 
 /// What the branch's payments brought that name a rental, or none where there is no such payment.
@@ -46,6 +46,23 @@ fn rental_sum<S: Alter>(
     Ok(taker.sum)
 }
 
+/// Puts the branch of the row last, if its payments brought a sum.
+fn add_sold(
+    alloc: Global,
+    row: StoreRow,
+    sum: Option<u64>,
+    page: &mut ListPage,
+) -> Result<(), AllocError>
+    ensures { OnOk result ((books : Books) (branch : ℕ) (values : List Data)
+        → Some (seen_store row) ≡ head (map (store_with books.catalogue 0) (at branch books.catalogue.branches)) → sum ≡ rental_sum (shop_of branch books)
+        → HasValues page.old values → HasValues page.new (values ++ map store_data (sales_of_branch books branch))) }
+{
+    match sum {
+        Some(total) => add_store(alloc, row, total, page),
+        None => Ok(()),
+    }
+}
+
 /// Puts the branch last, if any of its payments names a rental. Tells whether there is such a branch.
 fn add_branch<S: Alter>(
     conn: &mut Connection<S>,
@@ -66,9 +83,8 @@ fn add_branch<S: Alter>(
     let Some(row) = find_store(conn, alloc, branch)? else {
         return Ok(false);
     };
-    if let Some(total) = rental_sum(conn, branch)? {
-        add_store(alloc, row, total, page)?;
-    }
+    let sum = rental_sum(conn, branch)?;
+    add_sold(alloc, row, sum, page)?;
     Ok(true)
 }
 
