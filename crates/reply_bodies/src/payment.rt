@@ -6,7 +6,7 @@ ghost use Rattle.reply_bodies.specs.Bodies.{balance_value};
 
 use crate::fields::{Field, object_text};
 use crate::numbers::listed_text;
-use serde_json::{Value, json};
+use serde_json::{Map, Value, put};
 use shop_values::{Cents, CustomerNo, PaymentNo};
 use std::alloc::{AllocError, Global};
 
@@ -20,7 +20,9 @@ pub fn payment_text(alloc: Global, payment: PaymentNo) -> Result<String, AllocEr
 fn balance_value(alloc: Global, balance: Cents) -> Result<Value, AllocError>
     ensures { IfOk result (λ v. view v ≡ balance_value balance) }
 {
-    json!(in alloc; {"balance": balance.get()})
+    let mut map = Map::new(alloc);
+    put(&mut map, alloc, "balance", Value::from(balance.get()))?;
+    Ok(Value::Object(map))
 }
 
 /// The body that shows what a customer owes, in cents: below zero, with a sign, what the branch owes.
