@@ -3,3 +3,5 @@ pub mod BodyLemmas
 pub mod MomentLemmas
 pub mod PartLemmas
 pub mod WordLemmas
+pub mod FoundLemmas
+pub mod PersonLemmas

@@ -63,6 +63,21 @@ count (member name d ms) = suc (count ms)
 abbrev pub has_members : ℕ → Data → Bool
 has_members n d = unwrap_or (option_map (λ ms. count ms == n) (as_object d)) false
 
+-- a person's names
+abbrev pub names_at : Data → Option (Text × Text)
+names_at d = do
+  first ← text_at 1 45 (codes "first") d
+  last ← text_at 1 45 (codes "last") d
+  Some (first, last)
+
+-- where a person is found
+abbrev pub contact_at : Data → Option (Text × Text × Text)
+contact_at d = do
+  address ← text_at 1 128 (codes "address") d
+  postal ← text_at 0 45 (codes "postal") d
+  phone ← text_at 0 45 (codes "phone") d
+  Some (address, postal, phone)
+
 -- who a person is, by six of the members
 abbrev pub person_at : Data → Option Person
 person_at d = do

@@ -3,13 +3,15 @@
 ghost use Rattle.std.specs.Prelude.{◌≡◌, IfOk, IfErr, Some, None, option_map};
 ghost use Rattle.serde_json.specs.View.{view};
 ghost use Rattle.shop_types.specs.Seen.{seen_person, seen_act, seen_command};
-ghost use Rattle.counter_routes.specs.Bodies.{string_at, text_at, key_at, moment_at, number_at, bool_at, rental_at, amount_at, has_members as is_object_of, person_at, member_count, act_at, giver_at, command_in, body_of};
+ghost use Rattle.counter_routes.specs.Bodies.{string_at, text_at, key_at, moment_at, number_at, bool_at, rental_at, amount_at, has_members as is_object_of, names_at, contact_at, person_at, member_count, act_at, giver_at, command_in, body_of};
 ghost use Rattle.counter_routes.specs.Readings.{written_in};
 ghost use Rattle.counter_routes.specs.declared.bodies.Fault.TheVariants.{BadBody, NoMemory as OutOfMemory};
 ghost use Rattle.counter_routes.specs.declared.bodies.CommandForm.TheVariants.{NewCustomer};
 
 use serde_json::Value;
-use shop_types::{Act, Amount, Command, Key, Moment, Person, RentalNo, RowNumber, StaffNo, Text};
+use shop_types::{
+    Act, Amount, Command, Key, L45, Moment, Person, RentalNo, RowNumber, StaffNo, T45, T128, Text,
+};
 use std::alloc::{AllocError, Global};
 
 /// Why a body gives no command.
@@ -102,17 +104,40 @@ fn text<const LOW: usize, const HIGH: usize>(
     Text::read(String::from_str(alloc, text)?).ok_or(Fault::BadBody)
 }
 
+/// The first name and the last.
+fn names(alloc: Global, value: &Value) -> Result<(T45, T45), Fault>
+    ensures ok { IfOk result (λ names. names_at (view value.now) ≡ Some names) }
+    ensures bad { IfErr result (λ fault. fault ≡ BadBody → names_at (view value.now) ≡ None) }
+{
+    Ok((text(alloc, value, "first")?, text(alloc, value, "last")?))
+}
+
+/// The address, the postal code and the telephone number.
+fn contact(alloc: Global, value: &Value) -> Result<(T128, L45, L45), Fault>
+    ensures ok { IfOk result (λ contact. contact_at (view value.now) ≡ Some contact) }
+    ensures bad { IfErr result (λ fault. fault ≡ BadBody → contact_at (view value.now) ≡ None) }
+{
+    Ok((
+        text(alloc, value, "address")?,
+        text(alloc, value, "postal")?,
+        text(alloc, value, "phone")?,
+    ))
+}
+
 fn person(alloc: Global, value: &Value) -> Result<Person, Fault>
     ensures ok { IfOk result (λ person. person_at (view value.now) ≡ Some (seen_person person)) }
     ensures bad { IfErr result (λ fault. fault ≡ BadBody → person_at (view value.now) ≡ None) }
 {
+    let city = number(value, "city").ok_or(Fault::BadBody)?;
+    let (first, last) = names(alloc, value)?;
+    let (address, postal, phone) = contact(alloc, value)?;
     Ok(Person {
-        first: text(alloc, value, "first")?,
-        last: text(alloc, value, "last")?,
-        address: text(alloc, value, "address")?,
-        postal: text(alloc, value, "postal")?,
-        phone: text(alloc, value, "phone")?,
-        city: number(value, "city").ok_or(Fault::BadBody)?,
+        first,
+        last,
+        address,
+        postal,
+        phone,
+        city,
     })
 }
 

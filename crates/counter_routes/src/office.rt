@@ -43,6 +43,7 @@ fn line_request(line: Line) -> Option<Request>
 {
     let Line { db, act } = line;
     if db.is_some() {
+        drop(act);
         return None;
     }
     match act {

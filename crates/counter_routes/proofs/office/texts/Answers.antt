@@ -1,16 +1,19 @@
 use Rattle.std.proofs.Common.{rules, ◌≡◌, ◌∙◌, ◌+◌, ◌++◌, ◌∷◌, [], List, Some, None, sym, ap, arith, map, drop, string_bytes}
 use Rattle.std.proofs.lemmas.List.{drop_all, drop_more, map-append}
+use Rattle.std.specs.Prelude.{option_map}
 use Rattle.serde_json.specs.Data.{Items, item}
 use Rattle.serde_json.specs.Find.{as_str, as_array}
 use Rattle.serde_json.specs.View.{view, items_view}
 use Rattle.shop_model.specs.Values.{Text}
 use Rattle.counter_routes.specs.Words.{texts_in, list_of_texts}
 use Rattle.counter_routes.proofs.WordLemmas.{behind, behind_all, behind_last, behind_text, behind_other}
+use Rattle.counter_routes.proofs.FoundLemmas.{was_there, was_not, handed_on}
 use Rattle.counter_routes.proofs.office.texts.Goals as goal
 
 pub loop-item-init : goal.loop-item-init
 loop-item-init c =
-    let whole : as_array (view c.args.value.now) ≡ Some (items_view c.in_ok-items.items.now.items) = search rules in
+    let whole : as_array (view c.args.value.now) ≡ Some (items_view c.in_ok-items.items.now.items) =
+    sym c.as_array.ensures ∙ ap (option_map (λ v. items_view v.now.items)) (was_there c.as_array.result _ c.in_ok-items.items c.in_ok-items.ensures.value) in
     let items : c.deref-item-items.result.now ≡ c.in_ok-items.items.now.items = c.deref-item-items.ensures.value in
     record {
       len = c.in_ok-texts.ensures.len;
@@ -31,7 +34,8 @@ loop-item-preserved c =
     let text = c.in_ok-text.text.now in
     let front : items_view (drop i items) ≡ item (view c.item-item.result) rest =
     ap items_view (drop_more items i c.item-item.result c.loop-item-test.true) ∙ ap (λ x. item (view x) rest) (sym c.item-item.is) in
-    let told : as_str (view c.item-item.result) ≡ Some text = search rules in
+    let told : as_str (view c.item-item.result) ≡ Some text =
+    sym c.as_str.ensures ∙ ap (option_map (λ s. s.now)) (was_there c.as_str.result _ c.in_ok-text.text c.in_ok-text.ensures.value) in
     let after : map string_bytes c.push_reserved.new.self.items ≡ before ++ text ∷ [] =
     ap (map string_bytes) c.push_reserved.ensures.items ∙ map-append string_bytes c.loop-item.texts.items (c.in_ok-from_str.field-0 ∷ [])
     ∙ ap (λ (t : Text). before ++ t ∷ []) c.in_ok-from_str.ensures.ok in
@@ -50,10 +54,11 @@ returns-in_err-text-clause-bad c =
     let before : List Text = map string_bytes c.loop-item.texts.items in
     let front : items_view (drop i items) ≡ item (view c.item-item.result) rest =
     ap items_view (drop_more items i c.item-item.result c.loop-item-test.true) ∙ ap (λ x. item (view x) rest) (sym c.item-item.is) in
-    let other : as_str (view c.item-item.result) ≡ None = search rules in
+    let other : as_str (view c.item-item.result) ≡ None =
+    sym c.as_str.ensures ∙ ap (option_map (λ s. s.now)) (was_not c.as_str.result _ _ c.in_err-text.ensures.value) in
     let none : list_of_texts (view c.args.value.now) ≡ None =
     sym inv.read ∙ ap (λ (them : Items). behind before (texts_in them)) front ∙ behind_other before (view c.item-item.result) rest other in
-    search (rules, none)
+    handed_on _ _ c.from_residual-in_err-text.ensures.1 (λ _. none)
 
 pub returns-clause-ok : goal.returns-clause-ok
 returns-clause-ok c =

@@ -1,12 +1,24 @@
-use Rattle.std.proofs.Common.{refl}
+use Rattle.std.proofs.Common.{◌+◌, ◌∙◌, ap, drop, refl}
 use Rattle.std.proofs.lemmas.List.{drop_all, drop_more}
-use Rattle.counter_routes.specs.Routes.{table, is_table}
-use Rattle.counter_routes.proofs.RouteLemmas.{only_memory, first_true}
+use Rattle.counter_routes.specs.Routes.{Rows, table, is_table, with_routes, are_new, entries}
+use Rattle.counter_routes.proofs.RouteLemmas.{inserted, only_memory, first_true, second_true}
 use Rattle.counter_routes.proofs.paths.build.Goals as goal
 
 pub loop-pattern-init : goal.loop-pattern-init
 unfolding is_table
 loop-pattern-init c = record { rest = rw c.new-router.ensures refl; fits = rw c.new-router.ensures c.requires }
+
+pub loop-pattern-preserved : goal.loop-pattern-preserved
+loop-pattern-preserved c =
+    let at = c.loop-pattern in
+    let e = drop_more c.args.patterns.now at.pattern-index _ c.loop-pattern-test.true in
+    let new = inserted _ _ _ _ _ c.in_default.ensures in
+    let rest = rw e at at.invariant.rest in
+    let fits = rw e at at.invariant.fits in
+    record {
+      rest = ap (λ (rows : Rows). with_routes rows (entries (drop (at.pattern-index + 1) c.args.patterns.now))) new ∙ rest;
+      fits = ap (λ (rows : Rows). are_new rows (entries (drop (at.pattern-index + 1) c.args.patterns.now))) new ∙ second_true _ _ fits;
+    }
 
 pub unreachable-requires : goal.unreachable-requires
 unreachable-requires c =
