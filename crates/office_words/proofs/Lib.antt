@@ -1,3 +1,4 @@
+pub mod LineLemmas
 pub mod NumberLemmas
 pub mod OfficeIsSimple
 pub mod ReadingLemmas
