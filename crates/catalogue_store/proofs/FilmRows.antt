@@ -18,9 +18,10 @@ use Rattle.shop_schema.specs.RowValues.{IsNumber, IsFilm}
 use Rattle.shop_schema.specs.Shop.{Reads}
 use Rattle.shop_schema.proofs.Listed.{cols}
 use Rattle.shop_schema.proofs.SameRows.{same_film}
-use Rattle.catalogue_store.specs.Seen.{seen_film_row}
+use Rattle.catalogue_store.specs.Seen.{seen_film_row, IsNoFilm}
 use Rattle.catalogue_store.specs.declared.films.FilmRow.{FilmRow}
 use Rattle.catalogue_store.proofs.ByNumber.{films}
+use Rattle.sql_rows.proofs.Faults.{err_and}
 use Rattle.sql_rows.proofs.Queries.{Selects}
 use Rattle.shop_schema.specs.Tables.{shop_schema}
 use Rattle.catalogue_store.proofs.SharedReads.{asked, Shows, still, shows_shared}
@@ -70,10 +71,13 @@ read_row old new n rows slice (Ok o) h low same read = λ books holds held.
     )
 
 -- a row of which a column holds no value of its kind is no film's
-pub no_film : {V : Type 0} (at : ℕ) (value : V → Value) (Is : V → Type 0) (part : FilmRow → V) → at < 12
+pub no_film : {V W : Type 0} (at : ℕ) (value : V → Value) (Is : V → Type 0) (part : FilmRow → V) → at < 12
     → ((x : FilmRow) → IsNumber x.number × IsFilm (seen_film_row x) → Is (part x)) → ((x : FilmRow) → column (columns_read x) at ≡ value (part x))
-    → (r : Result FilmRow StoreFault) (e : StoreFault) (row : sql.Row) → length row ≡ 12 → IsErrAnd r (λ y. y ≡ e) → (e ≡ Failed → (v : V) → Is v → at < length row → column row at ≢ value v)
-    → IfErr r (λ y. y ≡ Failed → (x : FilmRow) → IsNumber x.number × IsFilm (seen_film_row x) → columns_read x ≢ row)
-no_film at value Is part within is shown (Ok it) e row wide same none = tt
-no_film at value Is part within is shown (Err y) e row wide same none = λ failed x fits columns.
-    none (sym same ∙ failed) (part x) (is x fits) (omega (arith, wide, within)) (ap (λ (r : sql.Row). column r at) (sym columns) ∙ shown x)
+    → (r : Result W StoreFault) (e : StoreFault) (row : sql.Row) → length row ≡ 12 → IsErrAnd r (λ y. y ≡ e) → (e ≡ Failed → (v : V) → Is v → at < length row → column row at ≢ value v)
+    → IfErr r (λ y. y ≡ Failed → IsNoFilm row)
+no_film at value Is part within is shown r e row wide same none =
+    err_and r same (λ y is_e failed x fits columns. none (sym is_e ∙ failed) (part x) (is x fits) (omega (arith, wide, within)) (ap (λ (r : sql.Row). column r at) (sym columns) ∙ shown x))
+
+-- nor is a row of which several columns hold none
+pub still_no_film : {W : Type 0} (r : Result W StoreFault) (e : StoreFault) (row : sql.Row) → IsErrAnd r (λ y. y ≡ e) → (e ≡ Failed → IsNoFilm row) → IfErr r (λ y. y ≡ Failed → IsNoFilm row)
+still_no_film r e row same none = err_and r same (λ y is_e failed. none (sym is_e ∙ failed))

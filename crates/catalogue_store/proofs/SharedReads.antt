@@ -1,6 +1,6 @@
 -- What is read of a shared row by its number.
-use Rattle.std.proofs.Common.{◌≡◌, ◌≤◌, ◌==◌, ◌&&◌, ℕ, List, [], ◌∷◌, codes, map, length, cond, not, true, Some, None, refl, sym, ap, subst, ◌∙◌, arith}
-use Rattle.std.specs.Prelude.{slice_get}
+use Rattle.std.proofs.Common.{◌≡◌, ◌≤◌, ◌==◌, ◌&&◌, ℕ, List, [], ◌∷◌, codes, map, length, cond, not, true, Some, None, Ok, Err, Result, refl, sym, ap, subst, ◌∙◌, arith}
+use Rattle.std.specs.Prelude.{slice_get, IfOk, Option}
 use Rattle.std.specs.List.{list_all}
 use Rattle.std.proofs.lemmas.Bool.Decides.{nat_tests}
 use Rattle.sqlite.specs.declared.types.Value.TheVariants.{Null, Text}
@@ -33,7 +33,7 @@ use Rattle.shop_schema.proofs.Listed.{own_rows}
 use Rattle.shop_schema.proofs.Numbered.{picked}
 use Rattle.catalogue_store.proofs.ByNumber.{ByNumber, countries, languages, categories, cities, actors, films, staff, branches}
 use Rattle.shop_types.specs.Verdicts.{post_of}
-use Rattle.catalogue_store.specs.Seen.{withdrawn_of, terms_of, title_of, manager_of}
+use Rattle.catalogue_store.specs.Seen.{withdrawn_of, terms_of, title_of, manager_of, TellsFirst}
 
 abbrev pub of_number : List Term
 of_number = op2 (Compare Eq Binary) (col 1 1) (col 0 0) ∷ []
@@ -91,6 +91,13 @@ ReadsFirst {A} {V} t text told Fits =
     (old new : State) (n : ℕ) (rows slice : List sql.Row) → Shown text (number_value n ∷ []) old new rows → 1 ≤ n → slice ≡ rows
     → (None ≡ slice_get slice 0 → Reads old new (λ books. None ≡ head (map told (at n (t.part.items books)))))
     × ((row : sql.Row) (v : V) → Some row ≡ slice_get slice 0 → Fits row v → Reads old new (λ books. Some v ≡ head (map told (at n (t.part.items books)))))
+
+-- what a reader of the first row answers
+pub told_first : {V E : Type 0} {Fits : sql.Row → V → Type 0} (slice : List sql.Row) (P : Option V → Type 0) (r : Result (Option V) E) → IfOk r (TellsFirst Fits slice)
+    → (None ≡ slice_get slice 0 → P None) → ((row : sql.Row) (v : V) → Some row ≡ slice_get slice 0 → Fits row v → P (Some v)) → IfOk r P
+told_first slice P (Err e) told none some = tt
+told_first slice P (Ok None) told none some = none told
+told_first slice P (Ok (Some v)) told none some = some told.0 v told.1 told.2
 
 -- ---- whether there is a row of the number
 

@@ -1,11 +1,13 @@
 -- What is found of shared rows, as the model has it.
-use Rattle.std.specs.Prelude.{◌≡◌, ℕ, Bool, List, [], ◌∷◌, Option, Some, None}
+use Rattle.std.specs.Prelude.{◌≡◌, ◌≢◌, ℕ, Bool, List, [], ◌∷◌, Option, Some, None, slice_get}
 use Rattle.sqlite_value.specs.Order as sql
 use Rattle.sqlite_value.specs.Order.{column}
 use Rattle.sql_rows.specs.Rows.{number_value}
 use Rattle.shop_model.specs.Values.{Text, Film, Branch}
 use Rattle.shop_model.specs.Books.{Caller, Counter, Nobody}
 use Rattle.shop_types.specs.Seen.{seen_film}
+use Rattle.shop_schema.specs.Columns.{film_columns}
+use Rattle.shop_schema.specs.RowValues.{IsNumber, IsFilm}
 use Rattle.catalogue_store.specs.declared.reads.FilmTerms.{FilmTerms}
 use Rattle.catalogue_store.specs.declared.films.FilmRow.{FilmRow}
 
@@ -28,6 +30,10 @@ terms_of film = (film.rate, film.period)
 abbrev pub seen_film_row : FilmRow → Film
 seen_film_row row = record (seen_film row.film) { withdrawn = row.withdrawn }
 
+-- the row is that of no film that the program can hold
+abbrev pub IsNoFilm : sql.Row → Type 0
+IsNoFilm row = (x : FilmRow) → IsNumber x.number × IsFilm (seen_film_row x) → film_columns (x.number, seen_film_row x) ≢ row
+
 abbrev pub title_of : Film → Text
 title_of film = film.title
 
@@ -38,3 +44,8 @@ manager_of branch = branch.manager
 abbrev pub IsFirstNumber : List sql.Row → ℕ → Type 0
 IsFirstNumber [] n = n ≡ 0
 IsFirstNumber (row ∷ rows) n = column row 0 ≡ number_value n
+
+-- the value is that of the first row, if there is a row
+abbrev pub TellsFirst : {V : Type 0} → (sql.Row → V → Type 0) → List sql.Row → Option V → Type 0
+TellsFirst Fits rows None = None ≡ slice_get rows 0
+TellsFirst Fits rows (Some v) = (row : sql.Row) × (Some row ≡ slice_get rows 0) × Fits row v

@@ -2,13 +2,15 @@ ghost use Rattle.std.specs.Prelude.{◌≡◌, IfOk, map, option_map};
 ghost use Rattle.std.specs.Str.{bytes_eq};
 ghost use Rattle.sqlite.specs.Held.{state};
 ghost use Rattle.sqlite.specs.declared.types.Value.TheVariants.{Text};
+ghost use Rattle.sqlite.specs.Values.{or_null};
 ghost use Rattle.sqlite_value.specs.Order.{column};
+ghost use Rattle.sql_rows.specs.Rows.{number_value, flag_value};
 ghost use Rattle.sql_rows.specs.Calls.{StaysInside};
 ghost use Rattle.shop_model.specs.Rows.{at};
 ghost use Rattle.shop_model.specs.Books.{head, branch_with};
 ghost use Rattle.shop_types.specs.Verdicts.{seen_post, post_of};
 ghost use Rattle.shop_schema.specs.Calls.{Finds};
-ghost use Rattle.catalogue_store.specs.Seen.{branch_caller, withdrawn_of, seen_terms, terms_of, title_of, manager_of};
+ghost use Rattle.catalogue_store.specs.Seen.{branch_caller, withdrawn_of, seen_terms, terms_of, title_of, manager_of, TellsFirst};
 
 use crate::columns::{days_at, rate_at};
 use crate::rows::shows_row;
@@ -43,6 +45,16 @@ fn token_at(row: &Row, at: usize) -> Result<Token, StoreFault>
     }
 }
 
+/// The branch of the number in the first row, if there is a row.
+fn first_branch(rows: &[Row]) -> Result<Option<BranchNo>, StoreFault>
+    ensures { IfOk result (TellsFirst (λ row it. column row 0 ≡ number_value it) rows.now) }
+{
+    match rows.first() {
+        None => Ok(None),
+        Some(row) => Ok(Some(row_number_at(row, 0)?)),
+    }
+}
+
 /// The branch whose token it is.
 pub fn branch_with<S: Alter>(
     tx: &mut Transaction<'_, S>,
@@ -58,10 +70,7 @@ pub fn branch_with<S: Alter>(
         "SELECT number FROM branch WHERE token = ?1",
         &[token_text(token).to_sql()],
     )?;
-    match rows.first() {
-        None => Ok(None),
-        Some(row) => Ok(Some(row_number_at(row, 0)?)),
-    }
+    first_branch(rows.as_slice())
 }
 
 /// Whether it is head office's token.
@@ -92,6 +101,16 @@ pub fn office_token<S: Alter>(tx: &mut Transaction<'_, S>) -> Result<Token, Stor
     }
 }
 
+/// Who manages the branch in the first row, if there is a row.
+fn first_manager(rows: &[Row]) -> Result<Option<Option<StaffNo>>, StoreFault>
+    ensures { IfOk result (TellsFirst (λ row it. column row 0 ≡ or_null number_value it) rows.now) }
+{
+    match rows.first() {
+        None => Ok(None),
+        Some(row) => Ok(Some(row_number_or_null_at(row, 0)?)),
+    }
+}
+
 /// Who manages the branch of the number, if anyone; nothing at all where there is no such branch.
 pub fn branch_at<S: Alter>(
     tx: &mut Transaction<'_, S>,
@@ -107,9 +126,19 @@ pub fn branch_at<S: Alter>(
         "SELECT manager FROM branch WHERE number = ?1",
         &[branch.get().to_sql()],
     )?;
+    first_manager(rows.as_slice())
+}
+
+/// Where the member of staff in the first row works, if there is a row.
+fn first_staff(rows: &[Row]) -> Result<Option<StaffFound>, StoreFault>
+    ensures { IfOk result (TellsFirst (λ row it. (column row 0 ≡ number_value it.branch) × (column row 1 ≡ flag_value it.gone)) rows.now) }
+{
     match rows.first() {
         None => Ok(None),
-        Some(row) => Ok(Some(row_number_or_null_at(row, 0)?)),
+        Some(row) => Ok(Some(StaffFound {
+            branch: row_number_at(row, 0)?,
+            gone: flag_at(row, 1)?,
+        })),
     }
 }
 
@@ -128,12 +157,16 @@ pub fn staff_at<S: Alter>(
         "SELECT branch, gone FROM staff WHERE number = ?1",
         &[staff.get().to_sql()],
     )?;
+    first_staff(rows.as_slice())
+}
+
+/// The truth value in the first row, if there is a row.
+fn first_flag(rows: &[Row]) -> Result<Option<bool>, StoreFault>
+    ensures { IfOk result (TellsFirst (λ row it. column row 0 ≡ flag_value it) rows.now) }
+{
     match rows.first() {
         None => Ok(None),
-        Some(row) => Ok(Some(StaffFound {
-            branch: row_number_at(row, 0)?,
-            gone: flag_at(row, 1)?,
-        })),
+        Some(row) => Ok(Some(flag_at(row, 0)?)),
     }
 }
 
@@ -152,9 +185,19 @@ pub fn film_at<S: Alter>(
         "SELECT withdrawn FROM film WHERE number = ?1",
         &[film.get().to_sql()],
     )?;
+    first_flag(rows.as_slice())
+}
+
+/// By what a rental is charged by the first row, if there is a row.
+fn first_terms(rows: &[Row]) -> Result<Option<FilmTerms>, StoreFault>
+    ensures { IfOk result (TellsFirst (λ row it. (column row 0 ≡ number_value it.rate) × (column row 1 ≡ number_value it.period)) rows.now) }
+{
     match rows.first() {
         None => Ok(None),
-        Some(row) => Ok(Some(flag_at(row, 0)?)),
+        Some(row) => Ok(Some(FilmTerms {
+            rate: rate_at(row, 0)?,
+            period: days_at(row, 1)?,
+        })),
     }
 }
 
@@ -173,12 +216,16 @@ pub fn film_terms<S: Alter>(
         "SELECT rate, period FROM film WHERE number = ?1",
         &[film.get().to_sql()],
     )?;
+    first_terms(rows.as_slice())
+}
+
+/// The text in the first row, if there is a row.
+fn first_text(rows: &[Row]) -> Result<Option<T128>, StoreFault>
+    ensures { IfOk result (TellsFirst (λ row it. column row 0 ≡ Text it) rows.now) }
+{
     match rows.first() {
         None => Ok(None),
-        Some(row) => Ok(Some(FilmTerms {
-            rate: rate_at(row, 0)?,
-            period: days_at(row, 1)?,
-        })),
+        Some(row) => Ok(Some(text_at(row, 0)?)),
     }
 }
 
@@ -197,8 +244,5 @@ pub fn film_title<S: Alter>(
         "SELECT title FROM film WHERE number = ?1",
         &[film.get().to_sql()],
     )?;
-    match rows.first() {
-        None => Ok(None),
-        Some(row) => Ok(Some(text_at(row, 0)?)),
-    }
+    first_text(rows.as_slice())
 }

@@ -1,12 +1,8 @@
 use Rattle.std.proofs.Common.{arith}
-use Rattle.catalogue_store.proofs.SharedReads.{read_staff}
+use Rattle.catalogue_store.proofs.SharedReads.{read_staff, told_first}
 use Rattle.catalogue_store.proofs.reads.staff_at.Goals as goal
-
-pub returns-in-None-clause-found : goal.returns-in-None-clause-found
-returns-in-None-clause-found g c clean =
-    (read_staff _ _ c.args.staff _ _ (rw (c.to_sql.ensures, c.get.ensures.value) at (c.in_ok-rows.ensures.shown clean)) (omega arith) c.deref.ensures.value).0 c.in-None.ensures.value
 
 pub returns-clause-found : goal.returns-clause-found
 returns-clause-found g c clean =
-    (read_staff _ _ c.args.staff _ _ (rw (c.to_sql.ensures, c.get.ensures.value) at (c.in_ok-rows.ensures.shown clean)) (omega arith) c.deref.ensures.value).1
-    c.in-Some.row.now (c.in_ok-row_number_at-in-Some.field-0, c.in_ok-flag_at-in-Some.field-0) c.in-Some.ensures.value (c.in_ok-row_number_at-in-Some.ensures.ok, c.in_ok-flag_at-in-Some.ensures.ok)
+    let read = read_staff _ _ c.args.staff _ _ (rw (c.to_sql.ensures, c.get.ensures.value) at (c.in_ok-rows.ensures.shown clean)) (omega arith) c.as_slice.ensures.value in
+    told_first _ _ c.first_staff.result c.first_staff.ensures read.0 (λ row it. read.1 row (it.branch, it.gone))
