@@ -1,6 +1,6 @@
 -- What the texts on counts and on copies that are out say of them.
 use Rattle.std.proofs.Common.{◌≡◌, ◌+◌, ◌<◌, ◌≤◌, ◌^◌, ◌&&◌, ℕ, List, [], ◌∷◌, map, filter, length, true, Some, None, Ok, Err, Result, refl, sym, ap, ◌∙◌, arith}
-use Rattle.std.specs.Prelude.{⊤, slice_get, IfOk}
+use Rattle.std.specs.Prelude.{⊤, slice_get, IfOk, Option}
 use Rattle.std.specs.List.{AllByRecursion}
 use Rattle.sqlite_value.specs.Order as sql
 use Rattle.sqlite_value.specs.Order.{column}
@@ -23,6 +23,7 @@ use Rattle.shop_schema.specs.Shop.{StandsFor, IsShop, Holds, Reads, Tallies}
 use Rattle.shop_schema.proofs.Stands.{stands_but}
 use Rattle.shop_ledger.specs.declared.counts.CountKind.{CountKind}
 use Rattle.shop_ledger.specs.Counted.{kind_number, CountsOnce, IsOutBy}
+use Rattle.shop_ledger.specs.Seen.{TellsFirst}
 use Rattle.shop_ledger.proofs.BranchRows.{of_two}
 use Rattle.shop_ledger.proofs.CountsOf.{told_count}
 use Rattle.shop_ledger.proofs.Outs.{open_of, outs_numbered, picks_out, opens_of, outs_rise, outs_are}
@@ -138,3 +139,14 @@ read_count old new b k rows h low row n some is books holds held = (
 pub ok_then : {A E : Type 0} (r : Result A E) (P Q : A → Type 0) → ((x : A) → P x → Q x) → IfOk r P → IfOk r Q
 ok_then (Ok x) P Q f p = f x p
 ok_then (Err e) P Q f p = tt
+
+-- what a reader of the first row answers
+pub told_first : {V E : Type 0} {Fits : sql.Row → V → Type 0} (rows slice : List sql.Row) (P : Option V → Type 0) (r : Result (Option V) E) → slice ≡ rows → IfOk r (TellsFirst Fits slice)
+    → (slice_get rows 0 ≡ None → P None) → ((row : sql.Row) (v : V) → slice_get rows 0 ≡ Some row → Fits row v → P (Some v)) → IfOk r P
+told_first rows slice P (Err e) same told none some = tt
+told_first rows slice P (Ok None) same told none some = none (ap (λ rs. slice_get rs 0) (sym same) ∙ sym told)
+told_first rows slice P (Ok (Some v)) same told none some = some told.0 v (ap (λ rs. slice_get rs 0) (sym same) ∙ sym told.1) told.2
+
+pub told_number : {E : Type 0} (rows slice : List sql.Row) (P : ℕ → Type 0) (r : Result ℕ E) → slice ≡ rows → IfOk r (λ n. TellsFirst (λ row m. column row 0 ≡ number_value m) slice (Some n))
+    → ((row : sql.Row) (n : ℕ) → slice_get rows 0 ≡ Some row → column row 0 ≡ number_value n → P n) → IfOk r P
+told_number rows slice P r same told some = ok_then r _ P (λ n it. some it.0 n (ap (λ rs. slice_get rs 0) (sym same) ∙ sym it.1) it.2) told

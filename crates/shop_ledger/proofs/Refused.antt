@@ -11,16 +11,21 @@ use Rattle.shop_ledger.specs.Seen.{seen_payment_row}
 use Rattle.shop_ledger.specs.declared.payments.PaymentRow.{PaymentRow}
 
 -- `part` is the value of that column
-abbrev pub Refuses : (T V : Type 0) → (T → Row) → (T → Type 0) → ℕ → Type 1
-Refuses T V columns Fits width =
+abbrev pub Refuses : (T V W : Type 0) → (T → Row) → (T → Type 0) → ℕ → Type 1
+Refuses T V W columns Fits width =
     (at : ℕ) (value : V → Value) (Is : V → Type 0) (part : T → V) → at < width → ((x : T) → Fits x → Is (part x)) → ((x : T) → column (columns x) at ≡ value (part x))
-    → (r : Result T StoreFault) (e : StoreFault) (row : Row) → length row ≡ width → IsErrAnd r (λ y. y ≡ e) → (e ≡ Failed → (v : V) → Is v → at < length row → column row at ≢ value v)
+    → (r : Result W StoreFault) (e : StoreFault) (row : Row) → length row ≡ width → IsErrAnd r (λ y. y ≡ e) → (e ≡ Failed → (v : V) → Is v → at < length row → column row at ≢ value v)
     → IfErr r (λ y. y ≡ Failed → (x : T) → Fits x → columns x ≢ row)
 
-pub refused : {T V : Type 0} (columns : T → Row) (Fits : T → Type 0) (width : ℕ) → Refuses T V columns Fits width
+pub refused : {T V W : Type 0} (columns : T → Row) (Fits : T → Type 0) (width : ℕ) → Refuses T V W columns Fits width
 refused columns Fits width at value Is part within is shown (Ok it) e row wide same none = tt
 refused columns Fits width at value Is part within is shown (Err y) e row wide same none = λ failed x fits told.
     none (sym same ∙ failed) (part x) (is x fits) (omega (arith, wide, within)) (ap (λ (r : Row). column r at) (sym told) ∙ shown x)
 
-pub no_payment : {V : Type 0} → Refuses PaymentRow V (λ row. payment_columns (seen_payment_row row)) (λ row. IsRow IsPayment (seen_payment_row row)) 7
+-- what a reader of several columns refused is refused
+pub still_refused : {W P : Type 0} (r : Result W StoreFault) (e : StoreFault) → IsErrAnd r (λ y. y ≡ e) → (e ≡ Failed → P) → IfErr r (λ y. y ≡ Failed → P)
+still_refused (Ok it) e same none = tt
+still_refused (Err y) e same none = λ failed. none (sym same ∙ failed)
+
+pub no_payment : {V W : Type 0} → Refuses PaymentRow V W (λ row. payment_columns (seen_payment_row row)) (λ row. IsRow IsPayment (seen_payment_row row)) 7
 no_payment = refused _ _ 7

@@ -1,6 +1,7 @@
 -- What a row means.
-use Rattle.std.specs.Prelude.{ℕ, Bool, List}
+use Rattle.std.specs.Prelude.{◌≡◌, ℕ, Bool, List, Option, Some, None, slice_get}
 use Rattle.std.specs.Str.{bytes_eq}
+use Rattle.sqlite_value.specs.Order as sql
 use Rattle.shop_model.specs.Rows.{Row}
 use Rattle.shop_model.specs.Values.{Text, Payment}
 use Rattle.shop_model.specs.Shop.{Kept, OfficeKept}
@@ -26,3 +27,8 @@ by_form form kept = (bytes_eq kept.0 form, kept.1)
 -- a payment at a branch, with the number
 abbrev pub seen_payment_row : PaymentRow → Row Payment
 seen_payment_row row = record { branch = row.branch; number = row.number; it = seen_payment row.payment }
+
+-- the value is that of the first row, if there is a row
+abbrev pub TellsFirst : {V : Type 0} → (sql.Row → V → Type 0) → List sql.Row → Option V → Type 0
+TellsFirst Fits rows None = None ≡ slice_get rows 0
+TellsFirst Fits rows (Some v) = (row : sql.Row) × (Some row ≡ slice_get rows 0) × Fits row v

@@ -1,15 +1,30 @@
-ghost use Rattle.std.specs.Prelude.{◌≡◌, ⊤, if◌then◌else◌, Some, None};
+ghost use Rattle.std.specs.Prelude.{◌≡◌, ⊤, if◌then◌else◌, Some, None, IfOk, IfSome};
 ghost use Rattle.sqlite.specs.Held.{state};
+ghost use Rattle.sqlite.specs.Values.{or_null};
+ghost use Rattle.sqlite_value.specs.Order.{column};
 ghost use Rattle.sql_rows.specs.Calls.{StaysInside};
+ghost use Rattle.shop_model.specs.Calendar.{IsMoment};
 ghost use Rattle.shop_model.specs.Rows.{lacks, owned_by};
 ghost use Rattle.shop_model.specs.Books.{head, set_last};
 ghost use Rattle.shop_schema.specs.Calls.{Finds, Stores};
+ghost use Rattle.shop_schema.specs.Columns.{moment_value};
+ghost use Rattle.shop_ledger.specs.Seen.{TellsFirst};
 
 use shop_schema::{MomentText, moment_or_null_at};
 use shop_types::{BranchNo, Moment};
 use sql_rows::{StoreFault, execute, query};
 use sqlite::types::ToSql;
-use sqlite::{Alter, Transaction};
+use sqlite::{Alter, Row, Transaction};
+
+/// The moment in the first column of the first row or none where it is NULL, if there is a row.
+fn first_moment(rows: &[Row]) -> Result<Option<Option<Moment>>, StoreFault>
+    ensures { IfOk result (TellsFirst (λ row last. (column row 0 ≡ or_null moment_value last) × IfSome last IsMoment) rows.now) }
+{
+    match rows.first() {
+        None => Ok(None),
+        Some(row) => Ok(Some(moment_or_null_at(row, 0)?)),
+    }
+}
 
 /// The moment of the branch's last accepted command, where there is one; nothing at all where there is no such branch.
 pub fn last_at<S: Alter>(
@@ -26,10 +41,7 @@ pub fn last_at<S: Alter>(
         "SELECT last_moment FROM branch WHERE number = ?1",
         &[branch.get().to_sql()],
     )?;
-    match rows.first() {
-        None => Ok(None),
-        Some(row) => Ok(Some(moment_or_null_at(row, 0)?)),
-    }
+    first_moment(rows.as_slice())
 }
 
 /// Makes the moment the last one of the branch. After a fault the transaction may be rolled back.

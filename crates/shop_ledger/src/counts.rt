@@ -10,6 +10,7 @@ ghost use Rattle.shop_schema.specs.Calls.{Finds};
 ghost use Rattle.shop_schema.specs.Counts.{count_in, is_count, kept_kind, raise, put_out, drop_out};
 ghost use Rattle.shop_schema.specs.Shop.{Reads, Tallies};
 ghost use Rattle.shop_ledger.specs.Counted.{kind_number, CountsOnce, IsOutBy};
+ghost use Rattle.shop_ledger.specs.Seen.{TellsFirst};
 
 use shop_schema::row_number_at;
 use shop_types::{BranchNo, CopyNo, RentalNo};
@@ -43,6 +44,16 @@ impl CountKind {
     }
 }
 
+/// The number in the first column of the first row. Where there is no row, the fault is `Failed`.
+fn first_number(rows: &[Row]) -> Result<u32, StoreFault>
+    ensures { IfOk result (λ n. TellsFirst (λ row m. column row 0 ≡ number_value m) rows.now (Some n)) }
+{
+    match rows.first() {
+        None => Err(StoreFault::Failed),
+        Some(row) => number_at(row, 0),
+    }
+}
+
 /// How many rows of the kind a caller has: a branch by its number, or head office, which is 0. One row is read, however many there are.
 fn count_by<S: Alter>(
     tx: &mut Transaction<'_, S>,
@@ -62,10 +73,7 @@ fn count_by<S: Alter>(
         "SELECT last FROM counter WHERE caller = ?1 AND kind = ?2",
         &[caller.to_sql(), kind.number().to_sql()],
     )?;
-    match rows.first() {
-        None => Err(StoreFault::Failed),
-        Some(row) => number_at(row, 0),
-    }
+    first_number(rows.as_slice())
 }
 
 /// How many rows of the kind the branch has. One row is read, however many there are.
@@ -127,10 +135,7 @@ fn take_by<S: Alter>(
         "UPDATE counter SET last = last + ?3 WHERE caller = ?1 AND kind = ?2 RETURNING last",
         &[caller.to_sql(), kind.number().to_sql(), more.to_sql()],
     )?;
-    match rows.first() {
-        None => Err(StoreFault::Failed),
-        Some(row) => number_at(row, 0),
-    }
+    first_number(rows.as_slice())
 }
 
 /// Raises the branch's count of the kind by so many, and tells what it is then. A count that isn't there is a fault. After a fault the transaction
@@ -179,6 +184,16 @@ pub fn raise_office_keys<S: Alter>(tx: &mut Transaction<'_, S>) -> Result<(), St
     Ok(())
 }
 
+/// The number in the first column of the first row, if there is a row.
+fn first_rental(rows: &[Row]) -> Result<Option<RentalNo>, StoreFault>
+    ensures { IfOk result (TellsFirst (λ row n. column row 0 ≡ number_value n) rows.now) }
+{
+    match rows.first() {
+        None => Ok(None),
+        Some(row) => Ok(Some(row_number_at(row, 0)?)),
+    }
+}
+
 /// The copy's open rental, where it is out: no copy has two. One row is read, however many rentals there are.
 pub fn out_at<S: Alter>(
     tx: &mut Transaction<'_, S>,
@@ -195,10 +210,7 @@ pub fn out_at<S: Alter>(
         "SELECT rental FROM out_copy WHERE branch = ?1 AND copy = ?2",
         &[branch.get().to_sql(), copy.get().to_sql()],
     )?;
-    match rows.first() {
-        None => Ok(None),
-        Some(row) => Ok(Some(row_number_at(row, 0)?)),
-    }
+    first_rental(rows.as_slice())
 }
 
 /// The numbers of the branch's rentals whose copies are out, in order. As many rows are read, however many rentals there are.

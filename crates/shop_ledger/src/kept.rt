@@ -2,6 +2,8 @@ ghost use Rattle.std.specs.Prelude.{◌≡◌, ◌≤◌, ⊤, [], ◌∷◌, �
 ghost use Rattle.std.specs.Str.{bytes_eq};
 ghost use Rattle.sqlite.specs.Held.{state};
 ghost use Rattle.sqlite.specs.State.{HasCleanDisk};
+ghost use Rattle.sqlite.specs.declared.types.Value.TheVariants.{Text, Blob};
+ghost use Rattle.sqlite_value.specs.Order.{column};
 ghost use Rattle.sql_rows.specs.Calls.{StaysInside};
 ghost use Rattle.shop_model.specs.Rows.{owned_by};
 ghost use Rattle.shop_model.specs.Values as model;
@@ -10,12 +12,12 @@ ghost use Rattle.shop_types.specs.Verdicts.{seen_kept as told};
 ghost use Rattle.shop_schema.specs.Calls.{Finds};
 ghost use Rattle.shop_schema.specs.Forms.{command_form, office_command_form};
 ghost use Rattle.shop_schema.specs.Shop.{Reads, Writes};
-ghost use Rattle.shop_ledger.specs.Seen.{seen_kept, by_form, stored_kept, stored_office_kept};
+ghost use Rattle.shop_ledger.specs.Seen.{seen_kept, by_form, stored_kept, stored_office_kept, TellsFirst};
 
 use shop_types::{BranchNo, KeptFound, Key};
 use sql_rows::{Bytes, StoreFault, Words, bytes_at, execute, query, words_at};
 use sqlite::types::ToSql;
-use sqlite::{Alter, Transaction};
+use sqlite::{Alter, Row, Transaction};
 
 /// A command that its caller was accepted for, as it is stored, and the body of the reply that it had.
 #[derive(Drop)]
@@ -34,6 +36,19 @@ pub fn kept_found<'a>(kept: Option<&'a KeptRow>, form: &Bytes) -> Option<KeptFou
             reply: row.reply.as_str(),
         }),
         None => None,
+    }
+}
+
+/// The stored form and the reply in the first row, if there is a row.
+fn first_kept(rows: &[Row]) -> Result<Option<KeptRow>, StoreFault>
+    ensures { IfOk result (TellsFirst (λ row kept. (column row 0 ≡ Blob kept.form) × (column row 1 ≡ Text kept.reply)) rows.now) }
+{
+    match rows.first() {
+        None => Ok(None),
+        Some(row) => Ok(Some(KeptRow {
+            form: bytes_at(row, 0)?,
+            reply: words_at(row, 1)?,
+        })),
     }
 }
 
@@ -57,13 +72,7 @@ fn kept_by<S: Alter>(
         "SELECT command, reply FROM kept WHERE caller = ?1 AND \"key\" = ?2",
         &[caller.to_sql(), key.as_str().to_sql()],
     )?;
-    match rows.first() {
-        None => Ok(None),
-        Some(row) => Ok(Some(KeptRow {
-            form: bytes_at(row, 0)?,
-            reply: words_at(row, 1)?,
-        })),
-    }
+    first_kept(rows.as_slice())
 }
 
 /// What is kept under the branch's key.
