@@ -1,11 +1,14 @@
 -- What a row means.
-use Rattle.std.specs.Prelude.{None}
+use Rattle.std.specs.Prelude.{◌≢◌, None}
+use Rattle.sqlite_value.specs.Order as sql
 use Rattle.shop_model.specs.Rows.{Row}
 use Rattle.shop_model.specs.Values as model
 use Rattle.shop_model.specs.Values.{Customer, Rental}
 use Rattle.shop_model.specs.Books as books
 use Rattle.shop_model.specs.Books.{BookCopy}
 use Rattle.shop_types.specs.Seen.{seen_customer, seen_rental}
+use Rattle.shop_schema.specs.Columns.{customer_columns}
+use Rattle.shop_schema.specs.RowValues.{IsRow, IsCustomer}
 use Rattle.shop_store.specs.declared.customers.CustomerRow.{CustomerRow}
 use Rattle.shop_store.specs.declared.copies.CopyState.{CopyState}
 use Rattle.shop_store.specs.declared.copies.CopyState.TheVariants as state
@@ -16,6 +19,10 @@ use Rattle.shop_store.specs.declared.rentals.RentalRow.{RentalRow}
 -- a customer of a branch, with the number
 abbrev pub seen_row : CustomerRow → Row Customer
 seen_row row = record { branch = row.branch; number = row.number; it = seen_customer row.customer }
+
+-- the row is that of no customer that the program can hold
+abbrev pub IsNoCustomer : sql.Row → Type 0
+IsNoCustomer row = (x : CustomerRow) → IsRow IsCustomer (seen_row x) → customer_columns (seen_row x) ≢ row
 
 abbrev pub seen_state : CopyState → model.CopyState
 seen_state state.Here = model.Here

@@ -1,18 +1,22 @@
-ghost use Rattle.std.specs.Prelude.{⊤, ◌≡◌, [], ◌∷◌, ◌++◌, option_map, option_to_list};
+ghost use Rattle.std.specs.Prelude.{⊤, ◌≡◌, [], ◌∷◌, ◌++◌, IfOk, IfErr, length, option_map, option_to_list};
 ghost use Rattle.sqlite.specs.Held.{state};
 ghost use Rattle.sqlite.specs.Values.{bound};
+ghost use Rattle.sqlite.specs.declared.types.Value.TheVariants.{Text};
+ghost use Rattle.sqlite_value.specs.Order.{column};
 ghost use Rattle.sql_rows.specs.Calls.{StaysInside};
+ghost use Rattle.sql_rows.specs.Rows.{number_value};
+ghost use Rattle.sql_rows.specs.declared.fault.StoreFault.TheVariants.{Failed};
 ghost use Rattle.shop_model.specs.Calendar.{moment_text};
 ghost use Rattle.shop_model.specs.Rows.{at, of, set_row};
 ghost use Rattle.shop_types.specs.Seen.{seen_customer};
 ghost use Rattle.shop_schema.specs.Calls.{Finds, Stores};
 ghost use Rattle.shop_schema.specs.Columns.{customer_columns};
-ghost use Rattle.shop_schema.specs.RowValues.{IsRow, IsCustomer};
+ghost use Rattle.shop_schema.specs.RowValues.{IsNumber, IsText, IsName, IsRow, IsCustomer};
 ghost use Rattle.shop_schema.specs.Held.{IsHeld};
-ghost use Rattle.shop_store.specs.Seen.{seen_row};
+ghost use Rattle.shop_store.specs.Seen.{seen_row, IsNoCustomer};
 
 use shop_schema::{MomentText, moment_at, row_number_at, text_at};
-use shop_types::{BranchNo, Customer, CustomerNo, Person};
+use shop_types::{BranchNo, CityNo, Customer, CustomerNo, L45, Person, T45, T128};
 use sql_rows::{StoreFault, Stored, execute, flag_at, query, read_one};
 use sqlite::types::{ToSql, ValueRef};
 use sqlite::{Alter, Row, Transaction};
@@ -25,6 +29,32 @@ pub struct CustomerRow {
     pub customer: Customer,
 }
 
+/// The customer's first and last name.
+fn names_at(row: &Row) -> Result<(T45, T45), StoreFault>
+    requires { length row.now ≡ 10 }
+    ensures ok { IfOk result (λ it. (column row.now 2 ≡ Text it.0) × (column row.now 3 ≡ Text it.1)) }
+    ensures value { IfOk result (λ it. IsName it.0 × IsName it.1) }
+    ensures failed { IfErr result (λ e. e ≡ Failed → IsNoCustomer row.now) }
+{
+    Ok((text_at(row, 2)?, text_at(row, 3)?))
+}
+
+/// Where the customer lives, by city, address and postal code, and the telephone number.
+fn home_at(row: &Row) -> Result<(CityNo, T128, L45, L45), StoreFault>
+    requires { length row.now ≡ 10 }
+    ensures ok { IfOk result (λ it. (column row.now 7 ≡ number_value it.0) × (column row.now 4 ≡ Text it.1)
+        × (column row.now 5 ≡ Text it.2) × (column row.now 6 ≡ Text it.3)) }
+    ensures value { IfOk result (λ it. IsNumber it.0 × IsText 1 128 it.1 × IsText 0 45 it.2 × IsText 0 45 it.3) }
+    ensures failed { IfErr result (λ e. e ≡ Failed → IsNoCustomer row.now) }
+{
+    Ok((
+        row_number_at(row, 7)?,
+        text_at(row, 4)?,
+        text_at(row, 5)?,
+        text_at(row, 6)?,
+    ))
+}
+
 impl Stored for CustomerRow {
     ghost columns = { λ row. customer_columns (seen_row row) };
 
@@ -34,20 +64,26 @@ impl Stored for CustomerRow {
         if row.column_count() != 10 {
             return Err(StoreFault::Failed);
         }
+        let branch = row_number_at(row, 0)?;
+        let number = row_number_at(row, 1)?;
+        let active = flag_at(row, 8)?;
+        let created = moment_at(row, 9)?;
+        let (first, last) = names_at(row)?;
+        let (city, address, postal, phone) = home_at(row)?;
         Ok(CustomerRow {
-            branch: row_number_at(row, 0)?,
-            number: row_number_at(row, 1)?,
+            branch,
+            number,
             customer: Customer {
-                active: flag_at(row, 8)?,
-                created: moment_at(row, 9)?,
                 person: Person {
-                    city: row_number_at(row, 7)?,
-                    first: text_at(row, 2)?,
-                    last: text_at(row, 3)?,
-                    address: text_at(row, 4)?,
-                    postal: text_at(row, 5)?,
-                    phone: text_at(row, 6)?,
+                    first,
+                    last,
+                    address,
+                    postal,
+                    phone,
+                    city,
                 },
+                active,
+                created,
             },
         })
     }

@@ -16,6 +16,19 @@ returns-clause-ok c =
     sym c.in_ok-row_number_at.ensures.ok i ∷ sym c.in_ok-row_number_at-2.ensures.ok i ∷ sym c.in_ok-moment_at.ensures.ok i ∷ sym c.in_ok-row_number_at-3.ensures.ok i ∷ sym c.in_ok-row_number_at-4.ensures.ok i
     ∷ sym c.in_ok-moment_or_null_at.ensures.ok i ∷ sym c.in_ok-row_number_at-5.ensures.ok i ∷ []) ∙ whole 7 c.args.row.now wide
 
+pub returns-clause-value : goal.returns-clause-value
+returns-clause-value c = (
+  c.in_ok-row_number_at.ensures.value,
+  c.in_ok-row_number_at-2.ensures.value,
+  record {
+    rented = c.in_ok-moment_at.ensures.value;
+    copy = c.in_ok-row_number_at-3.ensures.value;
+    customer = c.in_ok-row_number_at-4.ensures.value;
+    returned = c.in_ok-moment_or_null_at.ensures.value;
+    staff = c.in_ok-row_number_at-5.ensures.value;
+  },
+)
+
 pub returns-in_err-row_number_at-clause-failed : goal.returns-in_err-row_number_at-clause-failed
 returns-in_err-row_number_at-clause-failed c =
     no_rental 0 number_value IsNumber (λ x. x.branch) (omega arith) (λ x fits. fits.0) (λ x. refl) _ _ c.args.row.now (omega (arith, c.column_count.ensures, c.if-column_count-ne7.false)) c.from_residual.ensures.1 c.in_err-row_number_at.ensures.failed
