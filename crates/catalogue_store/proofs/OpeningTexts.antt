@@ -1,5 +1,5 @@
 -- What each statement of the opening adds, and all of them in turn.
-use Rattle.std.proofs.Common.{◌≡◌, ◌/◌, ◌-◌, ℕ, suc, List, [], ◌∷◌, ◌++◌, codes, map, length, take, true, Some, None, Ok, refl, sym, ap, subst}
+use Rattle.std.proofs.Common.{◌≡◌, ◌/◌, ◌-◌, ℕ, suc, List, [], ◌∷◌, codes, map, length, take, true, Some, None, Ok, refl, sym, subst}
 use Rattle.std.specs.Prelude.{⊤}
 use Rattle.sqlite.specs.declared.types.Value.{Value}
 use Rattle.sqlite.specs.declared.types.Value.TheVariants.{Null}
@@ -15,18 +15,18 @@ use Rattle.sqlite.specs.Held.{Held, state}
 use Rattle.sqlite.specs.State.{State, ExecutesInside}
 use Rattle.sql_rows.specs.Builds.{Means}
 use Rattle.sql_rows.specs.Rows.{HasRows, columns_of}
-use Rattle.sql_rows.proofs.Appends.{are_kept, map_push}
+use Rattle.sql_rows.proofs.Appends.{are_kept}
 use Rattle.sql_rows.proofs.Steps.{has_put}
 use Rattle.shop_model.specs.Rows.{owned_by}
 use Rattle.shop_model.specs.Values.{Branch}
 use Rattle.shop_model.specs.Books.{Books}
 use Rattle.shop_model.specs.Sound.{opening}
 use Rattle.shop_model.specs.Opening.{token_of, river_dawn, north_light, opening_branch, opening_staff, opening_catalogue, opening_books}
-use Rattle.shop_schema.specs.Tables.{shop_schema, branch_table, counter_table}
-use Rattle.shop_schema.specs.Columns.{branch_columns, counter_columns}
-use Rattle.shop_schema.specs.Counts.{Count, Counts, new_count, add_count, with_branch}
+use Rattle.shop_schema.specs.Tables.{shop_schema, branch_table}
+use Rattle.shop_schema.specs.Columns.{branch_columns}
+use Rattle.shop_schema.specs.Counts.{Counts}
 use Rattle.shop_schema.specs.Shop.{HoldsWith, first_books}
-use Rattle.shop_schema.proofs.Stands.{rows_of, with_rows, stands_but, stands_at}
+use Rattle.shop_schema.proofs.Stands.{stands_but}
 use Rattle.shop_schema.proofs.Listed.{Shared, Plain, width, puts, next_row, IsNext, push}
 use Rattle.shop_schema.proofs.SharedTables.{countries, languages, categories, cities, actors, films, casts, branches, staff}
 use Rattle.catalogue_store.specs.Runs.{Runs}
@@ -35,10 +35,6 @@ use Rattle.catalogue_store.proofs.PutTexts.{one_more}
 -- where the statement runs, tables that stand for the first books come to stand for the second ones
 record Goes (text : List ℕ) (a b : Books) : Type 1 where
   goes : (counts : Counts) (old new : State) (count : ℕ) → ExecutesInside 0 text [] old new (Ok count) → HoldsWith counts old a → HoldsWith counts new b
-
--- the same of a statement that adds a count, beside any books
-abbrev Begins : List ℕ → Count → Type 1
-Begins text it = (counts : Counts) (books : Books) (old new : State) (count : ℕ) → ExecutesInside 0 text [] old new (Ok count) → HoldsWith counts old books → HoldsWith (add_count it counts) new books
 
 -- ---- one row, whose values stand in the statement; the premises before the books are `refl` where the text is known
 
@@ -84,51 +80,17 @@ module _ (text : List ℕ) (n : ℕ) (x : Branch) where
         record { schema_is = done.schema_is; keyed = done.keyed holds.keyed; stands = stands_but 8 branch_table refl refl counts counts books (push branches x books) _ refl old.now.trees new.now.trees done.others holds.stands rows };
   }
 
--- the text adds this count
-abbrev count_terms : Count → List Term
-count_terms it = literals (counter_columns it)
-
-abbrev IsCount : List ℕ → Count → Type 0
-IsCount text it = Means shop_schema text (Insert 18 (Values (count_terms it) 4)) × (value_rows [] 4 (length (count_terms it) / 4) (count_terms it) ≡ eval_all (count_terms it) ([] ∷ []) ∷ [])
-    × (eval_all (count_terms it) ([] ∷ []) ≡ Null ∷ counter_columns it) × (are_kept counter_table.columns (counter_columns it) ≡ true)
-
-begins : (text : List ℕ) (it : Count) → IsCount text it → Begins text it
-begins text it is counts books old new count ran holds =
-    let done = has_put shop_schema text 18 counter_table (count_terms it) 3 is.0 (record { place = refl; uncounted = refl; unstamped = refl }) [] (counter_columns it) old new count ran is.1 is.2 is.3 (λ id. refl) holds.schema_is in
-    let rows = done.rows _ (stands_at 18 counter_table refl counts books old.now.trees holds.stands) in
-    let changes = ap (λ (rows : List sql.Row). with_rows 18 rows (rows_of counts books)) (map_push counter_columns counts.counters it) in
-    record { schema_is = done.schema_is; keyed = done.keyed holds.keyed; stands = stands_but 18 counter_table refl refl counts (add_count it counts) books books _ changes old.now.trees new.now.trees done.others holds.stands rows }
-
 -- ---- statements one after another
 
--- where the statements run, tables that stand for the first books beside the first counts come to stand for the others
-record Leads (texts : List (List ℕ)) (counts : Counts) (a : Books) (after : Counts) (b : Books) : Type 1 where
-  leads : {S : Type 0} (g : Ghosts S) (old new : Held S) → Runs g texts old new → HoldsWith counts (state g old) a → HoldsWith after (state g new) b
+-- where the statements run, tables that stand for the first books come to stand for the others, beside the same counts
+record Leads (texts : List (List ℕ)) (counts : Counts) (a b : Books) : Type 1 where
+  leads : {S : Type 0} (g : Ghosts S) (old new : Held S) → Runs g texts old new → HoldsWith counts (state g old) a → HoldsWith counts (state g new) b
 
-ends : (counts : Counts) (a : Books) → Leads [] counts a counts a
+ends : (counts : Counts) (a : Books) → Leads [] counts a a
 ends counts a = record { leads = λ {S} g old new ran holds. subst (λ (s : Held S). HoldsWith counts (state g s) a) (sym ran) holds }
 
-then : {text : List ℕ} {more : List (List ℕ)} {counts after : Counts} {a b c : Books} → Goes text a b → Leads more counts b after c → Leads (text ∷ more) counts a after c
+then : {text : List ℕ} {more : List (List ℕ)} {counts : Counts} {a b c : Books} → Goes text a b → Leads more counts b c → Leads (text ∷ more) counts a c
 then {counts = counts} step rest = record { leads = λ g old new ran holds. rest.leads g ran.0 new ran.3 (step.goes counts _ _ _ ran.2 holds) }
-
--- the texts add these counts
-abbrev AreCounts : List (List ℕ) → List Count → Type 0
-AreCounts [] [] = ⊤
-AreCounts [] (it ∷ its) = ⊥
-AreCounts (text ∷ texts) [] = ⊥
-AreCounts (text ∷ texts) (it ∷ its) = IsCount text it × AreCounts texts its
-
-abbrev add_counts : List Count → Counts → Counts
-add_counts [] counts = counts
-add_counts (it ∷ its) counts = add_counts its (add_count it counts)
-
-begin_all : (texts : List (List ℕ)) (its : List Count) (more : List (List ℕ)) (counts after : Counts) (a b : Books) → AreCounts texts its → Leads more (add_counts its counts) a after b → Leads (texts ++ more) counts a after b
-begin_all [] [] more counts after a b are rest = rest
-begin_all [] (it ∷ its) more counts after a b are rest = absurd are
-begin_all (text ∷ texts) [] more counts after a b are rest = absurd are
-begin_all (text ∷ texts) (it ∷ its) more counts after a b are rest = record {
-  leads = λ g old new ran holds. (begin_all texts its more (add_count it counts) after a b are.1 rest).leads g ran.0 new ran.3 (begins text it are.0 counts a _ _ _ ran.2 holds);
-}
 
 -- ---- the statements
 
@@ -232,34 +194,6 @@ adds_kim : Goes (codes "INSERT INTO staff (number, branch, first, last, address,
 unfolding understood everything
 adds_kim = adds staff _ 3 (opening_staff 3 (codes "KIM") (codes "ROSS")) (record { is = refl; plain = (refl, refl) }) refl refl refl (λ id. refl) (stage 20) refl
 
--- the counts of a new branch, one a kind
-abbrev branch_counts : ℕ → List Count
-branch_counts b = new_count b 0 ∷ new_count b 1 ∷ new_count b 2 ∷ new_count b 3 ∷ new_count b 4 ∷ []
-
-abbrev count_texts_1 : List (List ℕ)
-count_texts_1 = codes "INSERT INTO counter (caller, kind, last) VALUES (1, 0, 0)" ∷ codes "INSERT INTO counter (caller, kind, last) VALUES (1, 1, 0)"
-    ∷ codes "INSERT INTO counter (caller, kind, last) VALUES (1, 2, 0)" ∷ codes "INSERT INTO counter (caller, kind, last) VALUES (1, 3, 0)" ∷ codes "INSERT INTO counter (caller, kind, last) VALUES (1, 4, 0)" ∷ []
-
-are_counts_1 : AreCounts count_texts_1 (branch_counts 1)
-unfolding understood everything
-are_counts_1 = ((record { is = refl; plain = (refl, refl) }, refl, refl, refl), ((record { is = refl; plain = (refl, refl) }, refl, refl, refl), ((record { is = refl; plain = (refl, refl) }, refl, refl, refl), ((record { is = refl; plain = (refl, refl) }, refl, refl, refl), ((record { is = refl; plain = (refl, refl) }, refl, refl, refl), tt)))))
-
-abbrev count_texts_2 : List (List ℕ)
-count_texts_2 = codes "INSERT INTO counter (caller, kind, last) VALUES (2, 0, 0)" ∷ codes "INSERT INTO counter (caller, kind, last) VALUES (2, 1, 0)"
-    ∷ codes "INSERT INTO counter (caller, kind, last) VALUES (2, 2, 0)" ∷ codes "INSERT INTO counter (caller, kind, last) VALUES (2, 3, 0)" ∷ codes "INSERT INTO counter (caller, kind, last) VALUES (2, 4, 0)" ∷ []
-
-are_counts_2 : AreCounts count_texts_2 (branch_counts 2)
-unfolding understood everything
-are_counts_2 = ((record { is = refl; plain = (refl, refl) }, refl, refl, refl), ((record { is = refl; plain = (refl, refl) }, refl, refl, refl), ((record { is = refl; plain = (refl, refl) }, refl, refl, refl), ((record { is = refl; plain = (refl, refl) }, refl, refl, refl), ((record { is = refl; plain = (refl, refl) }, refl, refl, refl), tt)))))
-
-abbrev count_texts_3 : List (List ℕ)
-count_texts_3 = codes "INSERT INTO counter (caller, kind, last) VALUES (3, 0, 0)" ∷ codes "INSERT INTO counter (caller, kind, last) VALUES (3, 1, 0)"
-    ∷ codes "INSERT INTO counter (caller, kind, last) VALUES (3, 2, 0)" ∷ codes "INSERT INTO counter (caller, kind, last) VALUES (3, 3, 0)" ∷ codes "INSERT INTO counter (caller, kind, last) VALUES (3, 4, 0)" ∷ []
-
-are_counts_3 : AreCounts count_texts_3 (branch_counts 3)
-unfolding understood everything
-are_counts_3 = ((record { is = refl; plain = (refl, refl) }, refl, refl, refl), ((record { is = refl; plain = (refl, refl) }, refl, refl, refl), ((record { is = refl; plain = (refl, refl) }, refl, refl, refl), ((record { is = refl; plain = (refl, refl) }, refl, refl, refl), ((record { is = refl; plain = (refl, refl) }, refl, refl, refl), tt)))))
-
 abbrev pub texts : List (List ℕ)
 texts = codes "INSERT INTO country (number, name) VALUES (1, 'Canada')"
     ∷ codes "INSERT INTO country (number, name) VALUES (2, 'Australia')"
@@ -282,24 +216,13 @@ texts = codes "INSERT INTO country (number, name) VALUES (1, 'Canada')"
     ∷ codes "INSERT INTO staff (number, branch, first, last, address, postal, phone, city, gone) VALUES (1, 1, 'IDA', 'LUND', '2 Side', '', '', 1, 0)"
     ∷ codes "INSERT INTO staff (number, branch, first, last, address, postal, phone, city, gone) VALUES (2, 2, 'JON', 'VEGA', '2 Side', '', '', 2, 0)"
     ∷ codes "INSERT INTO staff (number, branch, first, last, address, postal, phone, city, gone) VALUES (3, 3, 'KIM', 'ROSS', '2 Side', '', '', 3, 0)"
-    ∷ count_texts_1 ++ count_texts_2 ++ count_texts_3 ++ []
+    ∷ []
 
--- the counts beside the opening books
-abbrev opened : Counts → Counts
-opened counts = with_branch 3 (with_branch 2 (with_branch 1 counts))
-
-pub opening_added : {S : Type 0} (g : Ghosts S) (counts : Counts) (old new : Held S) → Runs g texts old new → HoldsWith counts (state g old) (first_books (token_of 0))
-    → HoldsWith (opened counts) (state g new) opening_books
-opening_added g counts = shared.leads g
+pub opening_added : {S : Type 0} (g : Ghosts S) (counts : Counts) (old new : Held S) → Runs g texts old new → HoldsWith counts (state g old) (first_books (token_of 0)) → HoldsWith counts (state g new) opening_books
+opening_added g counts = added.leads g
   where
-    counted : Leads (count_texts_1 ++ count_texts_2 ++ count_texts_3 ++ []) counts opening_books (opened counts) opening_books
-    counted =
-        begin_all count_texts_1 (branch_counts 1) (count_texts_2 ++ count_texts_3 ++ []) counts (opened counts) opening_books opening_books are_counts_1
-        (begin_all count_texts_2 (branch_counts 2) (count_texts_3 ++ []) (with_branch 1 counts) (opened counts) opening_books opening_books are_counts_2
-        (begin_all count_texts_3 (branch_counts 3) [] (with_branch 2 (with_branch 1 counts)) (opened counts) opening_books opening_books are_counts_3 (ends (opened counts) opening_books)))
-
-    shared : Leads texts counts (first_books (token_of 0)) (opened counts) opening_books
-    shared =
+    added : Leads texts counts (first_books (token_of 0)) opening_books
+    added =
         then adds_canada (then adds_australia (then adds_english (then adds_action (then adds_comedy (then adds_ann (then adds_bo (then adds_river
         (then adds_north (then adds_cast_1 (then adds_cast_2 (then adds_cast_3 (then adds_lethbridge (then adds_woodridge (then adds_brisbane
-        (then adds_branch_1 (then adds_branch_2 (then adds_branch_3 (then adds_ida (then adds_jon (then adds_kim counted))))))))))))))))))))
+        (then adds_branch_1 (then adds_branch_2 (then adds_branch_3 (then adds_ida (then adds_jon (then adds_kim (ends counts opening_books)))))))))))))))))))))
