@@ -6,7 +6,7 @@ use Rattle.shop_model.specs.Values.{Copy}
 use Rattle.shop_model.specs.Shop.{Catalogue}
 use Rattle.shop_model.specs.Stock.{is_here}
 use Rattle.shop_model.specs.Verdict.{is_film_withdrawn}
-use Rattle.catalogue_store.specs.Seen.{withdrawn_of}
+use Rattle.shop_store.specs.SharedSeen.{withdrawn_of}
 use Rattle.branch_looks.specs.Finds.{is_yes}
 use Rattle.branch_looks.proofs.Readings.{at_most_one}
 use Rattle.shop_model.specs.Books.{BookCopy, head, unmarked}

@@ -8,7 +8,7 @@ use Rattle.shop_model.specs.Values.{Film}
 use Rattle.shop_model.specs.Books.{Books, head}
 use Rattle.shop_schema.specs.Held.{IsHeld}
 use Rattle.shop_schema.specs.Shop.{Reads}
-use Rattle.catalogue_store.specs.Seen.{withdrawn_of}
+use Rattle.shop_store.specs.SharedSeen.{withdrawn_of}
 use Rattle.branch_looks.specs.Finds.{is_yes}
 
 pub reads_then : (a b c : State) (P Q : Books → Type 0) → Reads a b P → Reads b c Q → Reads a c (λ books. P books × Q books)

@@ -13,7 +13,7 @@ use Rattle.stock_csv.specs.Stock.{films_of, IsStockRow, IsStock}
 use Rattle.branch_core.specs.declared.found.StockFound.{StockFound}
 use Rattle.branch_core.specs.Agreed.{films_of as films_found, copies_of, RowAgrees}
 use Rattle.branch_core.proofs.StockLemmas.{length_films}
-use Rattle.catalogue_store.specs.Seen.{withdrawn_of}
+use Rattle.shop_store.specs.SharedSeen.{withdrawn_of}
 use Rattle.branch_looks.proofs.Readings.{at_most_one}
 use Rattle.branch_looks.specs.Commands.{as_listed, found_row, told_row}
 

@@ -25,10 +25,10 @@ use Rattle.shop_store.specs.declared.customers.CustomerRow.{CustomerRow}
 use Rattle.shop_store.specs.Seen.{seen_copy_row}
 use Rattle.shop_schema.proofs.Lists.{flat_map_push}
 use Rattle.branch_looks.specs.Finds.{AreKnown, rentals_at}
-use Rattle.catalogue_store.specs.declared.reads.FilmTerms.{FilmTerms}
-use Rattle.catalogue_store.specs.Seen.{seen_terms, title_of}
-use Rattle.shop_views.specs.declared.overdue_rows.OverdueRow.{OverdueRow}
-use Rattle.shop_views.specs.Overdue.{seen_overdue}
+use Rattle.shop_store.specs.declared.reads.FilmTerms.{FilmTerms}
+use Rattle.shop_store.specs.SharedSeen.{seen_terms, title_of}
+use Rattle.reply_bodies.specs.declared.overdue_rows.OverdueRow.{OverdueRow}
+use Rattle.reply_bodies.specs.Overdue.{seen_overdue}
 use Rattle.balance_rule.specs.declared.rows.RentalTerms.{RentalTerms}
 use Rattle.balance_rule.specs.Balance.{terms, terms_of}
 

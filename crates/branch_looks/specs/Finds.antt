@@ -12,8 +12,8 @@ use Rattle.shop_types.specs.Seen.{seen_payment}
 use Rattle.shop_store.specs.declared.copies.CopyRow.{CopyRow}
 use Rattle.shop_ledger.specs.declared.payments.PaymentRow.{PaymentRow}
 use Rattle.shop_store.specs.Seen.{seen_copy_row}
-use Rattle.catalogue_store.specs.declared.reads.FilmTerms.{FilmTerms}
-use Rattle.catalogue_store.specs.Seen.{seen_terms, terms_of}
+use Rattle.shop_store.specs.declared.reads.FilmTerms.{FilmTerms}
+use Rattle.shop_store.specs.SharedSeen.{seen_terms, terms_of}
 use Rattle.balance_rule.specs.declared.rows.Paid.{Paid}
 use Rattle.balance_rule.specs.Balance.{amount_of, paid_of}
 use Rattle.balance_rule.specs.Rewards.{is_on, passes}

@@ -9,14 +9,13 @@ ghost use Rattle.shop_types.specs.Seen.{seen_payment, seen_rental};
 ghost use Rattle.shop_schema.specs.Calls.{Finds};
 ghost use Rattle.shop_model.specs.Rows.{at};
 ghost use Rattle.shop_model.specs.Books.{head};
-ghost use Rattle.catalogue_store.specs.Seen.{seen_terms, terms_of as price};
+ghost use Rattle.shop_store.specs.SharedSeen.{seen_terms, terms_of as price};
 ghost use Rattle.balance_rule.specs.Balance.{AreTermsOf, ArePaidBy, paid_of, terms_of};
 ghost use Rattle.branch_looks.specs.Finds.{AreKnown};
 
 use balance_rule::{Paid, RentalTerms};
-use catalogue_store::{FilmTerms, film_terms};
 use shop_ledger::payments_of_customer;
-use shop_store::{RentalRow, copy_at, rentals_of_customer};
+use shop_store::{FilmTerms, RentalRow, copy_at, film_terms, rentals_of_customer};
 use shop_types::{BranchNo, CustomerNo, FilmNo, Payment, Rental};
 use sql_rows::StoreFault;
 use sqlite::{Alter, Transaction};

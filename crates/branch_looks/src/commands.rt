@@ -15,9 +15,8 @@ ghost use Rattle.branch_looks.specs.Commands.{as_listed, found_row, told_row, ha
 
 use crate::finds::{find_active, find_copy, find_out, find_rental};
 use branch_core::{Found, StockFound};
-use catalogue_store::{film_at, has_city, staff_at};
 use shop_ledger::{CountKind, count_of};
-use shop_store::{has_lot, has_rental};
+use shop_store::{film_at, has_city, has_lot, has_rental, staff_at};
 use shop_types::{
     Act, BadCsv, BranchNo, CityNo, Command, CopyNo, CustomerNo, KeptFound, Moment, RentalNo,
     StockFile,

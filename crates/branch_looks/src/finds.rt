@@ -12,9 +12,8 @@ ghost use Rattle.branch_looks.specs.Finds.{is_yes, copy_shown};
 ghost use Rattle.branch_core.specs.Agreed.{active_at, copy_at, rental_at, seen_copy, seen_rental, seen_film_copy, AreOfFilm, IsOut};
 
 use branch_core::{CopyFound, FilmCopy, RentalFound};
-use catalogue_store::film_at;
 use shop_ledger::out_at;
-use shop_store::{CopyRow, CopyState, copies_of_film, copy_at, customer_at, rental_at};
+use shop_store::{CopyRow, CopyState, copies_of_film, copy_at, customer_at, film_at, rental_at};
 use shop_types::{BranchNo, CopyNo, CustomerNo, FilmNo, Rental, RentalNo};
 use sql_rows::StoreFault;
 use sqlite::{Alter, Transaction};

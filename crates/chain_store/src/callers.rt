@@ -7,7 +7,7 @@ ghost use Rattle.sql_rows.specs.Calls.{StaysInside};
 ghost use Rattle.shop_types.specs.Seen.{seen_caller};
 ghost use Rattle.chain_store.specs.Steps.{IsUndone, IsCallerOf, HasCaller};
 
-use catalogue_store::{branch_with, is_office};
+use shop_store::{branch_with, is_office};
 use shop_types::{Caller, Token};
 use sql_rows::StoreFault;
 use sqlite::{Alter, Connection, Transaction};

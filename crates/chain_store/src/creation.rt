@@ -11,8 +11,8 @@ ghost use Rattle.chain_store.specs.Chains.{Rests};
 ghost use Rattle.chain_store.specs.Steps.{LeavesMade, books_with};
 
 use crate::faults::{OpenFault, named};
-use catalogue_store::{put_opening, put_token};
 use shop_schema::create_tables;
+use shop_store::{put_opening, put_token};
 use shop_types::Token;
 use sql_rows::{StoreFault, fault_of};
 use sqlite::{Alter, Connection, MemStore, Transaction};

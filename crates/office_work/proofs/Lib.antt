@@ -1,1 +1,4 @@
+pub mod Written
+pub mod Numbers
+pub mod Readings
 pub mod Doing

@@ -15,9 +15,9 @@ ghost use Rattle.shop_types.specs.Verdicts.{verdict_by};
 ghost use Rattle.shop_schema.specs.Forms.{office_command_form};
 ghost use Rattle.office_work.specs.Works.{Works};
 
+use crate::adding::add;
+use crate::finding::find;
 use catalogue_core::{OfficeChange, Shared, decide_office};
-use office_adds::add;
-use office_finds::find;
 use shop_ledger::{kept_found, office_kept_at};
 use shop_schema::office_form;
 use shop_types::{Limits, OfficeCommand, Refusal, Reply};

@@ -1,3 +1,9 @@
+pub mod Names
+pub mod Overdue
+pub mod People
+pub mod Films
+pub mod Sales
+pub mod Page
 pub mod Bodies
 pub mod Texts
 pub mod Fields

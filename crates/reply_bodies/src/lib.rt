@@ -1,21 +1,36 @@
-//! Bodies of replies: JSON texts (RFC 8259) with no white space, the members of each object in the byte order of their names.
+//! Bodies of replies: JSON texts (RFC 8259) with no white space, the members of each object in the byte order of their names; and rows of views, each as such an
+//! object. A page takes rows one at a time, and is the text of their list.
 #![tactic(auto)]
 
+mod actors;
 mod customer;
 mod fields;
 mod film;
+mod films;
+mod names;
 mod numbers;
 mod office;
+mod overdue_rows;
+mod page;
 mod payment;
+mod people;
 mod rental;
+mod sales;
 mod stock;
 
+pub use actors::{ActorRow, FilmGroup, actor_row};
 pub use customer::{customer_text, new_customer_text};
 pub use fields::{Field, object_of};
 pub use film::film_text;
+pub use films::{FilmRow, film_row};
+pub use names::PersonName;
 pub use office::office_text;
+pub use overdue_rows::{OverdueRow, overdue, overdue_row, overdue_text};
+pub use page::ListPage;
 pub use payment::{balance_text, payment_text, rewards_text};
+pub use people::{CustomerRow, ListedPerson, StaffRow, customer_row, staff_row};
 pub use rental::{
     active_text, copies_text, holder_text, in_stock_text, rental_text, returned_text, scrapped_text,
 };
+pub use sales::{CategoryRow, StoreRow, category_row, store_row};
 pub use stock::new_copies_text;

@@ -22,7 +22,7 @@ use Rattle.sqlite_schema.specs.declared.schema.View.{View}
 use Rattle.sqlite_tied.specs.Compute.{everything}
 use Rattle.sqlite.specs.Listing.{understood}
 use Rattle.shop_schema.specs.Tables.{chain_table, shop_schema}
-use Rattle.same_schema.specs.Bare.{HaveFirst}
+use Rattle.shop_schema.specs.Bare.{HaveFirst}
 use Rattle.sql_rows.proofs.Queries.{Selects, plain_query, answers}
 
 abbrev pub version_text : List ℕ

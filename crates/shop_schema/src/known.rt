@@ -12,7 +12,7 @@ ghost use Rattle.shop_schema.specs.Shop.{HasVersion};
 ghost use Rattle.shop_schema.specs.Versions.{version_of};
 
 use crate::create::create_shop;
-use same_schema::{same_first, same_schema};
+use crate::same_tables::{same_first, same_schema};
 use sql_rows::{StoreFault, number_at, query};
 use sqlite::{Alter, Connection, MemStore, Row, Transaction};
 use sqlite_schema::schema::Schema;

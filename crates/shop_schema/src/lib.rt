@@ -9,6 +9,8 @@ mod moment_text;
 mod office_forms;
 mod ranges;
 mod read;
+mod same_parts;
+mod same_tables;
 
 pub use create::{create_shop, create_tables};
 pub use form::command_form;

@@ -1,3 +1,17 @@
+pub mod Tokens
+pub mod ByNumber
+pub mod SharedReads
+pub mod Whether
+pub mod SetTexts
+pub mod LastRow
+pub mod LastNumbers
+pub mod TokenReads
+pub mod Sequence
+pub mod PutTexts
+pub mod OpeningTexts
+pub mod CountPuts
+pub mod FilmColumns
+pub mod FilmRows
 pub mod BranchTables
 pub mod OnCustomers
 pub mod OnCopies

@@ -9,15 +9,15 @@ ghost use Rattle.shop_model.specs.Answers.{shown_text};
 ghost use Rattle.shop_model.specs.Views.{ActorRow as ModelActor, actor_info};
 ghost use Rattle.shop_schema.specs.Shop.{Holds};
 ghost use Rattle.shop_schema.specs.Held.{IsHeld};
-ghost use Rattle.shop_views.specs.Films.{actor_data};
-ghost use Rattle.shop_views.specs.Page.{HasValues};
-ghost use Rattle.view_rows.specs.Actors.{seen_part, closed};
+ghost use Rattle.reply_bodies.specs.Films.{actor_data};
+ghost use Rattle.reply_bodies.specs.Page.{HasValues};
+ghost use Rattle.branch_looks.specs.Actors.{seen_part, closed};
 
-use shop_views::ListPage;
+use branch_looks::{ActorPage, add_actor};
+use reply_bodies::ListPage;
 use sql_rows::{StoreFault, each_row};
 use sqlite::{Alter, Connection};
 use std::alloc::{AllocError, Global};
-use view_rows::{ActorPage, add_actor};
 
 /// The text of the list with the last actor.
 fn finish(taker: ActorPage) -> Result<String, AllocError>

@@ -9,13 +9,13 @@ ghost use Rattle.shop_model.specs.Answers.{shown_text};
 ghost use Rattle.shop_model.specs.Views.{staff_list};
 ghost use Rattle.shop_schema.specs.Shop.{Holds};
 
+use branch_looks::StaffPage;
+use reply_bodies::ListPage;
 use shop_values::BranchNo;
-use shop_views::ListPage;
 use sql_rows::{StoreFault, each_row};
 use sqlite::types::ToSql;
 use sqlite::{Alter, Connection};
 use std::alloc::Global;
-use view_rows::StaffPage;
 
 /// The staff of the branch, those who left too, as the text of a list. The database stays as it was, unless the store fails, which commits nothing.
 pub fn staff_list<S: Alter>(

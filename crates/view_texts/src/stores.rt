@@ -12,17 +12,17 @@ ghost use Rattle.shop_model.specs.Answers.{shown_text};
 ghost use Rattle.shop_model.specs.Views.{sales_by_store};
 ghost use Rattle.shop_schema.specs.Shop.{Holds};
 ghost use Rattle.shop_schema.specs.Held.{IsHeld};
-ghost use Rattle.shop_views.specs.Page.{HasValues};
-ghost use Rattle.shop_views.specs.Sales.{seen_store, store_data};
-ghost use Rattle.view_rows.specs.Sales.{rental_sum, store_with, sales_of_branch, sales_of_first};
+ghost use Rattle.reply_bodies.specs.Page.{HasValues};
+ghost use Rattle.reply_bodies.specs.Sales.{seen_store, store_data};
+ghost use Rattle.branch_looks.specs.Sales.{rental_sum, store_with, sales_of_branch, sales_of_first};
 
+use branch_looks::{SalesSum, add_store, find_store};
+use reply_bodies::{ListPage, StoreRow};
 use shop_values::BranchNo;
-use shop_views::{ListPage, StoreRow};
 use sql_rows::{StoreFault, each_row};
 use sqlite::types::ToSql;
 use sqlite::{Alter, Connection};
 use std::alloc::{AllocError, Global};
-use view_rows::{SalesSum, add_store, find_store};
 
 /// What the branch's payments brought that name a rental, or none where there is no such payment.
 fn rental_sum<S: Alter>(

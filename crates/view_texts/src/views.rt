@@ -13,12 +13,12 @@ ghost use Rattle.shop_schema.specs.Held.{IsHeld};
 use crate::actors::actor_info;
 use crate::staff::staff_list;
 use crate::stores::sales_by_store;
+use branch_looks::{customer_list, film_list, sales_by_film_category};
 use shop_types::View;
 use shop_values::BranchNo;
 use sql_rows::StoreFault;
 use sqlite::{Alter, Connection};
 use std::alloc::Global;
-use view_rows::{customer_list, film_list, sales_by_film_category};
 
 /// The view as the branch sees it, as the text of a list. The database stays as it was, unless the store fails, which commits nothing.
 pub fn view_text<S: Alter>(

@@ -1,6 +1,6 @@
 use Rattle.std.proofs.Common.{◌∙◌, sym, ap, option_map}
 use Rattle.sqlite.specs.Held.{state}
-use Rattle.catalogue_store.specs.Seen.{seen_terms}
+use Rattle.shop_store.specs.SharedSeen.{seen_terms}
 use Rattle.branch_looks.proofs.Readings.{reads_as}
 use Rattle.branch_looks.proofs.TermLemmas.{known_more}
 use Rattle.branch_looks.proofs.balances.terms_once.Goals as goal

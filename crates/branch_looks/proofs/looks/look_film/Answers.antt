@@ -4,8 +4,8 @@ use Rattle.shop_model.specs.Values.{Film}
 use Rattle.shop_model.specs.Refusals.{NoFilm}
 use Rattle.shop_model.specs.Machine.{given, FilmIs}
 use Rattle.shop_model.specs.Answers.{answer_of, accepted_answer}
-use Rattle.catalogue_store.specs.Seen.{seen_film_row}
-use Rattle.catalogue_store.specs.declared.films.FilmRow.{FilmRow}
+use Rattle.shop_store.specs.SharedSeen.{seen_film_row}
+use Rattle.shop_store.specs.declared.films.FilmRow.{FilmRow}
 use Rattle.branch_looks.proofs.looks.look_film.Goals as goal
 
 pub returns-in-Ok-clause-shown : goal.returns-in-Ok-clause-shown

@@ -2,7 +2,7 @@ use Rattle.std.proofs.Common.{◌≡◌, ◌∙◌, refl, sym, ap, subst, arith,
 use Rattle.sqlite.specs.Held.{state}
 use Rattle.sqlite.specs.State.{HasCleanDisk}
 use Rattle.sql_rows.proofs.Stays.{within_as, within_err, within_of, within_then}
-use Rattle.catalogue_store.specs.Seen.{withdrawn_of}
+use Rattle.shop_store.specs.SharedSeen.{withdrawn_of}
 use Rattle.shop_model.specs.Refusals.{NoFilm}
 use Rattle.shop_model.specs.Shop.{Catalogue, Shop}
 use Rattle.shop_model.specs.Machine.{CopiesAre, Sorry, Shows, look}

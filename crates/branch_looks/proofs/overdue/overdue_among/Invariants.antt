@@ -8,7 +8,7 @@ use Rattle.shop_model.specs.Books.{shop_of}
 use Rattle.shop_model.specs.Stock.{is_overdue}
 use Rattle.shop_model.specs.Views.{overdue_row}
 use Rattle.shop_schema.specs.Shop.{Reads}
-use Rattle.shop_views.specs.Overdue.{seen_overdue}
+use Rattle.reply_bodies.specs.Overdue.{seen_overdue}
 use Rattle.branch_looks.specs.Finds.{rentals_at}
 use Rattle.branch_looks.proofs.overdue.overdue_among.Given as goal
 

@@ -4,12 +4,12 @@ use Rattle.shop_model.specs.Rows.{numbered}
 use Rattle.shop_model.specs.Values.{Staff}
 use Rattle.shop_model.specs.Machine.{StaffListed}
 use Rattle.shop_model.specs.Views.{staff_list}
-use Rattle.shop_views.specs.Page.{HasValues}
-use Rattle.shop_views.specs.People.{staff_data}
-use Rattle.view_rows.specs.Shown.{shown_staff, listed_staff}
-use Rattle.view_rows.proofs.PageLines.{listed_none}
-use Rattle.view_rows.proofs.PeopleQueries.{staff_ask}
-use Rattle.view_rows.proofs.PeopleJoins.{shows_staff}
+use Rattle.reply_bodies.specs.Page.{HasValues}
+use Rattle.reply_bodies.specs.People.{staff_data}
+use Rattle.branch_looks.specs.Shown.{shown_staff, listed_staff}
+use Rattle.branch_looks.proofs.PageLines.{listed_none}
+use Rattle.branch_looks.proofs.PeopleQueries.{staff_ask}
+use Rattle.branch_looks.proofs.PeopleJoins.{shows_staff}
 use Rattle.view_texts.proofs.staff.staff_list.Goals as goal
 
 pub each_row-requires : goal.each_row-requires

@@ -1,8 +1,8 @@
 use Rattle.std.proofs.Common.{◌∙◌, sym, ap, option_map}
 use Rattle.sqlite.specs.Held.{state}
-use Rattle.shop_views.specs.Sales.{seen_store}
-use Rattle.view_rows.proofs.Looks.{holds_still, was_clean}
-use Rattle.view_rows.proofs.SalesLists.{absent_added, is_there}
+use Rattle.reply_bodies.specs.Sales.{seen_store}
+use Rattle.branch_looks.proofs.Looks.{holds_still, was_clean}
+use Rattle.branch_looks.proofs.SalesLists.{absent_added, is_there}
 use Rattle.view_texts.proofs.stores.add_branch.Goals as goal
 
 pub returns-in_default-clause-added : goal.returns-in_default-clause-added

@@ -1,7 +1,7 @@
 use Rattle.std.proofs.Common.{[]}
-use Rattle.shop_views.specs.Page.{HasValues}
-use Rattle.view_rows.proofs.Looks.{Looked}
-use Rattle.view_rows.proofs.SalesLists.{IsListed}
+use Rattle.reply_bodies.specs.Page.{HasValues}
+use Rattle.branch_looks.proofs.Looks.{Looked}
+use Rattle.branch_looks.proofs.SalesLists.{IsListed}
 use Rattle.view_texts.proofs.stores.add_branches.Given as goal
 
 -- the branches below the number are on the page, and nothing else was done

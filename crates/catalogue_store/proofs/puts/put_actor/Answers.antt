@@ -1,8 +1,0 @@
-use Rattle.sql_rows.proofs.Inside.{on_ok_then}
-use Rattle.catalogue_store.specs.New.{seen_actor}
-use Rattle.catalogue_store.proofs.PutTexts.{puts_actor}
-use Rattle.catalogue_store.proofs.puts.put_actor.Goals as goal
-
-pub returns-clause-put : goal.returns-clause-put
-returns-clause-put g c clean =
-    on_ok_then c.execute.result (λ ran. puts_actor _ _ c.args.actor.now.number (seen_actor c.args.actor.now) ran.0 (rw c.values.ensures at ran.1)) (c.execute.ensures.ran clean)

@@ -1,6 +1,0 @@
-use Rattle.catalogue_store.proofs.Whether.{told, named_language}
-use Rattle.catalogue_store.proofs.rows.is_language.Goals as goal
-
-pub returns-clause-found : goal.returns-clause-found
-returns-clause-found g c clean =
-    told _ _ _ _ c.shows_row.result (rw c.to_sql.ensures at (c.shows_row.ensures.shown clean)) (named_language _ _ c.args.name.now)

@@ -1,0 +1,133 @@
+-- What the rows of head office's commands make of the books, and that a new branch has no last moment.
+use Rattle.std.proofs.Common.{◌≡◌, ◌+◌, IfOk, Result, ◌-◌, ◌<◌, ◌==◌, ℕ, List, [], ◌∷◌, ◌++◌, map, filter, length, true, false, Bool, cond, not, refl, sym, ap, subst, ◌∙◌, arith, true≢false}
+use Rattle.std.specs.Prelude.{⊤, IsOk}
+use Rattle.std.specs.List.{list_all}
+use Rattle.std.proofs.lemmas.Bool.{and_parts}
+use Rattle.std.proofs.lemmas.Bool.Decides.{nat_tests}
+use Rattle.sqlite.specs.State.{State, HasCleanDisk}
+use Rattle.sql_rows.specs.Calls.{StaysInside}
+use Rattle.shop_model.specs.Calendar.{Moment}
+use Rattle.shop_model.specs.Rows.{Owned, at, lacks, is_empty, owned_by}
+use Rattle.shop_model.specs.Values.{Text, Branch, OfficeAct, AddCountry, AddCity, AddLanguage, AddCategory, AddActor, AddFilm, PriceFilm, WithdrawFilm, AddCast, AddBranch, AddStaff, StaffLeaves, SetManager, OfficeCommand}
+use Rattle.shop_model.specs.Shop.{Catalogue}
+use Rattle.shop_model.specs.Machine.{office_acted, office_told, office_text, office_done}
+use Rattle.shop_model.specs.Links.{has_row}
+use Rattle.shop_model.specs.Books.{Books}
+use Rattle.shop_model.proofs.RowLemmas.{same_if}
+use Rattle.shop_schema.specs.Counts.{Counts, counts_of, with_branch}
+use Rattle.shop_schema.specs.Calls.{Finds, Stores}
+use Rattle.shop_schema.specs.Held.{IsHeld}
+use Rattle.shop_schema.specs.Shop.{HoldsWith}
+use Rattle.shop_ledger.proofs.CountsOf.{beside}
+use Rattle.reply_bodies.specs.Bodies.{office_members}
+use Rattle.office_work.specs.Added.{with_act, with_counts, with_kept, IsActed, IsNumbered}
+use Rattle.office_work.proofs.Numbers.{was_ok, numbered_as, IsNext}
+
+-- ---- a branch that isn't there has no last moment
+
+lacks_next : {A : Type 0} (n : ℕ) (xs : List A) → length xs < n → lacks xs n ≡ true
+lacks_next n [] more = refl
+lacks_next n (x ∷ xs) more = ap (λ t. is_empty (cond t (x ∷ []) (at (n - 1) xs))) other ∙ lacks_next (n - 1) xs (omega (arith, more))
+  where
+    other : (n == 1) ≡ false
+    other = grind (arith, nat_tests)
+
+none_of : (branches : List Branch) (b : ℕ) → lacks branches b ≡ true → (rows : List (Owned Moment)) → list_all (λ (row : Owned Moment). has_row branches row.owner) rows ≡ true
+    → filter (λ (row : Owned Moment). row.owner == b) rows ≡ []
+none_of branches b lacking [] all = refl
+none_of branches b lacking (row ∷ rows) all =
+    let parts = and_parts (has_row branches row.owner) (list_all (λ (other : Owned Moment). has_row branches other.owner) rows) all in
+    go (row.owner == b) refl parts.0 (none_of branches b lacking rows parts.1)
+  where
+    rest : List (Owned Moment)
+    rest = filter (λ (other : Owned Moment). other.owner == b) rows
+
+    go : (t : Bool) → (row.owner == b) ≡ t → has_row branches row.owner ≡ true → rest ≡ [] → cond t (row ∷ rest) rest ≡ []
+    go true is there more =
+        let its : has_row branches b ≡ true = subst (λ n. has_row branches n ≡ true) (same_if row.owner b is) there in
+        absurd (true≢false (sym its ∙ ap not lacking))
+    go false isnt there more = more
+
+pub no_last : (books : Books) → IsHeld books → owned_by (length books.catalogue.branches + 1) books.lasts ≡ []
+no_last books held =
+    let branches = books.catalogue.branches in
+    let b = length branches + 1 in
+    ap (map (λ (row : Owned Moment). row.it)) (none_of branches b (lacks_next b branches (omega arith)) books.lasts held.owners.lasts)
+
+-- ---- rows
+
+-- a new branch with its counts
+pub branch_added : (s : State) (books : Books) (n : ℕ) (row branch : Branch) → n ≡ length books.catalogue.branches + 1 → row ≡ branch
+    → HoldsWith (with_branch n (counts_of books)) s (record books { catalogue = record books.catalogue { branches = books.catalogue.branches ++ row ∷ [] } })
+    → HoldsWith (with_branch (length books.catalogue.branches + 1) (counts_of books)) s (record books { catalogue = record books.catalogue { branches = books.catalogue.branches ++ branch ∷ [] } })
+branch_added s books n row branch is same holds =
+    subst (λ (it : Branch). HoldsWith (with_branch (length books.catalogue.branches + 1) (counts_of books)) s (record books { catalogue = record books.catalogue { branches = books.catalogue.branches ++ it ∷ [] } })) same
+    (subst (λ (m : ℕ). HoldsWith (with_branch m (counts_of books)) s (record books { catalogue = record books.catalogue { branches = books.catalogue.branches ++ row ∷ [] } })) is holds)
+
+-- an act makes these books, beside counts that stay, and its reply is that of the number
+abbrev pub Makes : OfficeAct → ℕ → Books → Books → Type 0
+Makes act number books made =
+    ◌≡◌ {A = Counts × Books × List (Text × Text)} (counts_of books, made, office_members act number) (with_counts act books, with_act act books, office_told act books.catalogue)
+
+made_so : (act : OfficeAct) (number : ℕ) (books made : Books) {s : State} → Makes act number books made → HoldsWith (counts_of books) s made
+    → IsActed act s books × (office_members act number ≡ office_told act books.catalogue)
+made_so act number books made {s = s} makes holds = (subst (λ (it : Counts × Books × List (Text × Text)). HoldsWith it.0 s it.1) makes holds, ap (λ (it : Counts × Books × List (Text × Text)). it.2) makes)
+
+-- the books with these rows in the place of a list of the catalogue
+abbrev pub with_rows : {W : Type 0} → (Catalogue → List W → Catalogue) → List W → Books → Books
+with_rows set rows books = record books { catalogue = set books.catalogue rows }
+
+-- the number of an act, as that of the act by another name
+pub of_act : {F : Type 0} {was act : OfficeAct} (a b : State) (r : Result ℕ F) → was ≡ act → (HasCleanDisk b → IfOk r (λ n. IsNumbered act n a b))
+    → HasCleanDisk b → IfOk r (λ n. IsNumbered was n a b)
+of_act a b r is numbered clean = subst (λ (it : OfficeAct). IfOk r (λ n. IsNumbered it n a b)) (sym is) (numbered clean)
+
+-- a row is put after the last of its list, whose number was told before
+pub row_added : {W X E F : Type 0} {b c : State} {last : Result ℕ E} {put : Result X E} {number n : ℕ} {row new : W} {was act : OfficeAct}
+    (get : Catalogue → List W) (set : Catalogue → List W → Catalogue) (a : State) (r : Result ℕ F)
+    → was ≡ act → ((books : Books) → Makes act (length (get books.catalogue) + 1) books (with_rows set (get books.catalogue ++ new ∷ []) books))
+    → row ≡ new → n ≡ number → IsNext last number → IfOk r (λ it. (it ≡ number) × IsOk put) → StaysInside b c put
+    → Finds a b last (λ last books. last ≡ length (get books.catalogue))
+    → Stores b c put (λ books. n ≡ length (get books.catalogue) + 1) (λ books. with_rows set (get books.catalogue ++ row ∷ []) books)
+    → HasCleanDisk c → IfOk r (λ it. IsNumbered was it a c)
+row_added {W} {b = b} {c = c} {last = last} {put = put} {number = number} {act = act} get set a r is_act makes same own next is inside found stored =
+    of_act a c r is_act (λ clean. numbered_as put r number _ (λ it. IsNumbered act it a c) is (stored clean) (λ written. λ books holds held.
+    let clean_b : HasCleanDisk b = omega (arith, clean, inside.survives.clean) in
+    let told = was_ok last next.0 _ next.1 (found clean_b) books holds held in
+    let comes : number ≡ length (get books.catalogue) + 1 = next.2 ∙ ap (λ (it : ℕ). it + 1) told.1 in
+    let holds_new = written (counts_of books) books (beside b books told.0) (own ∙ comes) in
+    let its = made_so act _ books _ (makes books) (subst (λ (it : W). HoldsWith (counts_of books) c (with_rows set (get books.catalogue ++ it ∷ []) books)) same holds_new) in
+    (its.0, ap (office_members act) comes ∙ its.1)))
+
+-- a row is put that has no number, or changed
+pub row_changed : {X E F : Type 0} {a b : State} {put : Result X E} {was act : OfficeAct} {change : Books → Books} (r : Result ℕ F)
+    → was ≡ act → ((books : Books) → Makes act 0 books (change books)) → IfOk r (λ it. (it ≡ 0) × IsOk put) → StaysInside a b put → Stores a b put (λ _. ⊤) change
+    → HasCleanDisk b → IfOk r (λ it. IsNumbered was it a b)
+row_changed {a = a} {b = b} {put = put} {act = act} {change = change} r is_act makes is inside stored =
+    of_act a b r is_act (λ clean. numbered_as put r 0 _ (λ it. IsNumbered act it a b) is (stored clean)
+    (λ written. λ books holds held. made_so act 0 books (change books) (makes books) (written (counts_of books) books (beside a books holds) tt)))
+
+-- ---- the command itself
+
+kept_stays : (act : OfficeAct) (it : Catalogue) → (office_acted act it).kept ≡ it.kept
+kept_stays (AddCountry name) it = refl
+kept_stays (AddCity city) it = refl
+kept_stays (AddLanguage name) it = refl
+kept_stays (AddCategory name) it = refl
+kept_stays (AddActor actor) it = refl
+kept_stays (AddFilm film) it = refl
+kept_stays (PriceFilm film rate) it = refl
+kept_stays (WithdrawFilm film) it = refl
+kept_stays (AddCast cast) it = refl
+kept_stays (AddBranch branch) it = refl
+kept_stays (AddStaff staff) it = refl
+kept_stays (StaffLeaves staff) it = refl
+kept_stays (SetManager branch staff) it = refl
+
+-- with its rows and itself kept, a command's books are those after it
+pub act_kept : (command : OfficeCommand) (reply : Text) (books : Books) → reply ≡ office_text command books.catalogue
+    → with_kept command reply (with_act command.act books) ≡ record books { catalogue = office_done command books.catalogue }
+act_kept command reply books is =
+    let it = office_acted command.act books.catalogue in
+    let stays : it.kept ≡ books.catalogue.kept = kept_stays command.act books.catalogue in
+    λ i. record books { catalogue = record it { kept = stays i ++ record { command = command; reply = is i } ∷ [] } }

@@ -1,5 +1,0 @@
-use Rattle.std.proofs.Common.{length}
-use Rattle.same_schema.proofs.parts.+same_slices.Given as goal
-
-abbrev pub decreases-same_slices : goal.decreases-same_slices
-decreases-same_slices g l = length l.first.now

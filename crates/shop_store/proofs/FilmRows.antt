@@ -1,0 +1,83 @@
+-- What is read of a film by its number, with all its columns.
+use Rattle.std.proofs.Common.{◌≡◌, ◌≢◌, ◌≤◌, ◌<◌, ◌-◌, ◌==◌, ℕ, List, [], ◌∷◌, Bool, true, false, cond, codes, map, length, refl, sym, ap, ◌∙◌, arith, Ok, Err, Result}
+use Rattle.std.specs.Prelude.{Option, Some, None, IfOk, IfErr, IsErrAnd, take, option_map}
+use Rattle.std.specs.Option.{option_to_list}
+use Rattle.sqlite.specs.declared.types.Value.{Value}
+use Rattle.sqlite_value.specs.Order as sql
+use Rattle.sqlite_value.specs.Order.{column}
+use Rattle.sqlite_tied.specs.Compute.{everything}
+use Rattle.sqlite.specs.Listing.{understood}
+use Rattle.sqlite.specs.State.{State, Shown}
+use Rattle.sql_rows.specs.Rows.{number_value}
+use Rattle.sql_rows.specs.declared.fault.StoreFault.{StoreFault}
+use Rattle.sql_rows.specs.declared.fault.StoreFault.TheVariants.{Failed}
+use Rattle.shop_model.specs.Rows.{at}
+use Rattle.shop_model.specs.Values.{Film}
+use Rattle.shop_schema.specs.Columns.{film_columns}
+use Rattle.shop_schema.specs.RowValues.{IsNumber, IsFilm}
+use Rattle.shop_schema.specs.Shop.{Reads}
+use Rattle.shop_schema.proofs.Listed.{cols}
+use Rattle.shop_schema.proofs.SameRows.{same_film}
+use Rattle.shop_store.specs.SharedSeen.{seen_film_row, IsNoFilm}
+use Rattle.shop_store.specs.declared.films.FilmRow.{FilmRow}
+use Rattle.shop_store.proofs.ByNumber.{films}
+use Rattle.sql_rows.proofs.Faults.{err_and}
+use Rattle.sql_rows.proofs.Queries.{Selects}
+use Rattle.shop_schema.specs.Tables.{shop_schema}
+use Rattle.shop_store.proofs.SharedReads.{asked, Shows, still, shows_shared}
+
+abbrev select_row : List ℕ
+select_row = codes "SELECT number, title, description, language, category, period, rate, replacement, length, rating, features, withdrawn FROM film WHERE number = ?1"
+
+select_row_means : Selects shop_schema select_row (asked films select_row (cols 1 1 12))
+unfolding understood everything
+select_row_means = record { names = _; is = refl; plain = (refl, refl); unlisted = refl }
+
+select_row_shows : Shows films select_row (cols 1 1 12) (λ vs. vs)
+unfolding understood everything
+select_row_shows m r = refl
+
+abbrev columns_read : FilmRow → sql.Row
+columns_read row = film_columns (row.number, seen_film_row row)
+
+-- a number picks one row at most
+at_short : {A : Type 0} (n : ℕ) (xs : List A) → length (at n xs) ≤ 1
+at_short n [] = omega arith
+at_short n (x ∷ xs) = go (n == 1) (at_short (n - 1) xs)
+  where
+    go : (b : Bool) → length (at (n - 1) xs) ≤ 1 → length (cond b (x ∷ []) (at (n - 1) xs)) ≤ 1
+    go true more = omega arith
+    go false more = more
+
+-- the columns of the row that was read are those of the film
+film_of : (n : ℕ) (o : Option FilmRow) (rows : List Film) → length rows ≤ 1 → map columns_read (option_to_list o) ≡ take 1 (map (λ x. film_columns (n, x)) rows)
+    → option_to_list (option_map seen_film_row o) ≡ rows
+film_of n None [] few is = refl
+film_of n None (x ∷ []) few is = cc
+film_of n (Some row) [] few is = cc
+film_of n (Some row) (x ∷ []) few is =
+    let columns : columns_read row ≡ film_columns (n, x) = cc in
+    ap (λ (it : ℕ × Film). it.1 ∷ []) (same_film (row.number, seen_film_row row) (n, x) columns)
+film_of n o (x ∷ y ∷ rows) few is = absurd (omega (arith, few))
+
+pub read_row : (old new : State) (n : ℕ) (rows slice : List sql.Row) (r : Result (Option FilmRow) StoreFault) → Shown select_row (number_value n ∷ []) old new rows → 1 ≤ n → slice ≡ rows
+    → IfOk r (λ o. map columns_read (option_to_list o) ≡ take 1 slice)
+    → IfOk r (λ o. Reads old new (λ books. option_to_list (option_map seen_film_row o) ≡ at n books.catalogue.films))
+read_row old new n rows slice (Err e) h low same read = tt
+read_row old new n rows slice (Ok o) h low same read = λ books holds held.
+    let found = shows_shared films select_row (cols 1 1 12) select_row_means (λ vs. vs) select_row_shows old new n rows h low books holds in (
+      still films select_row (cols 1 1 12) select_row_means (λ vs. vs) select_row_shows old new n rows h low books holds,
+      film_of n o (at n books.catalogue.films) (at_short n books.catalogue.films) (read ∙ ap (take 1) (same ∙ found)),
+    )
+
+-- a row of which a column holds no value of its kind is no film's
+pub no_film : {V W : Type 0} (at : ℕ) (value : V → Value) (Is : V → Type 0) (part : FilmRow → V) → at < 12
+    → ((x : FilmRow) → IsNumber x.number × IsFilm (seen_film_row x) → Is (part x)) → ((x : FilmRow) → column (columns_read x) at ≡ value (part x))
+    → (r : Result W StoreFault) (e : StoreFault) (row : sql.Row) → length row ≡ 12 → IsErrAnd r (λ y. y ≡ e) → (e ≡ Failed → (v : V) → Is v → at < length row → column row at ≢ value v)
+    → IfErr r (λ y. y ≡ Failed → IsNoFilm row)
+no_film at value Is part within is shown r e row wide same none =
+    err_and r same (λ y is_e failed x fits columns. none (sym is_e ∙ failed) (part x) (is x fits) (omega (arith, wide, within)) (ap (λ (r : sql.Row). column r at) (sym columns) ∙ shown x))
+
+-- nor is a row of which several columns hold none
+pub still_no_film : {W : Type 0} (r : Result W StoreFault) (e : StoreFault) (row : sql.Row) → IsErrAnd r (λ y. y ≡ e) → (e ≡ Failed → IsNoFilm row) → IfErr r (λ y. y ≡ Failed → IsNoFilm row)
+still_no_film r e row same none = err_and r same (λ y is_e failed. none (sym is_e ∙ failed))

@@ -1,0 +1,125 @@
+-- The greatest number of a table of shared rows is how many rows it has.
+use Rattle.std.proofs.Common.{◌≡◌, ◌<◌, ◌+◌, ℕ, List, [], ◌∷◌, codes, map, filter, length, true, Ok, Err, Result, refl, sym, ap, subst, ◌∙◌, arith}
+use Rattle.std.specs.Prelude.{IfOk}
+use Rattle.std.specs.List.{AllByRecursion}
+use Rattle.sqlite_value.specs.Order as sql
+use Rattle.sqlite_value.specs.Order.{column}
+use Rattle.sqlite_trees.specs.Tree.{IsAscending}
+use Rattle.sqlite_sql.specs.Term.{col}
+use Rattle.sqlite_sql.specs.Query.{Query, output}
+use Rattle.sqlite_tied.specs.Compute.{everything}
+use Rattle.sqlite.specs.Listing.{understood}
+use Rattle.sqlite.specs.State.{State, Shown}
+use Rattle.sql_rows.specs.Rows.{columns_of, number_value}
+use Rattle.sql_rows.specs.declared.fault.StoreFault.{StoreFault}
+use Rattle.sql_rows.proofs.Projects.{still_holds}
+use Rattle.sql_rows.proofs.Queries.{Selects, plain_query}
+use Rattle.shop_model.specs.Rows.{numbered, numbered_from}
+use Rattle.shop_model.specs.Books.{Books}
+use Rattle.shop_schema.specs.Tables.{shop_schema}
+use Rattle.shop_schema.specs.Counts.{counts_of}
+use Rattle.shop_schema.specs.Shop.{StandsFor, Holds, Reads}
+use Rattle.shop_schema.proofs.Listed.{own_rows}
+use Rattle.shop_store.specs.SharedSeen.{IsFirstNumber}
+use Rattle.shop_store.proofs.ByNumber.{ByNumber, countries, languages, categories, cities, actors, films, branches, staff}
+use Rattle.shop_store.proofs.LastRow.{ending, first_query, descending, projects_last}
+
+same_number : (m n : ℕ) → number_value m ≡ number_value n → n ≡ m
+same_number m n h = cc
+
+module _ {A : Type 0} where
+  above : (k m : ℕ) → k < m → (xs : List A) → AllByRecursion (λ (it : ℕ × A). k < it.0) (numbered_from m xs)
+  above k m low [] = tt
+  above k m low (x ∷ xs) = (low, above k (m + 1) (omega arith) xs)
+
+  rise : (k : ℕ) (xs : List A) → IsAscending (λ (a b : ℕ × A). a.0 < b.0) (numbered_from k xs)
+  rise k [] = tt
+  rise k (x ∷ xs) = (above k (k + 1) (omega arith) xs, rise (k + 1) xs)
+
+  all_pass : (xs : List (ℕ × A)) → filter (λ _. true) xs ≡ xs
+  all_pass [] = refl
+  all_pass (x ∷ xs) = ap (λ l. x ∷ l) (all_pass xs)
+
+  -- the number of the last of the rows from the k-th on
+  last_number : (k : ℕ) (x : A) (xs : List A) → map (λ (it : ℕ × A). number_value it.0 ∷ []) (ending (numbered_from k (x ∷ xs))) ≡ (number_value (k + length xs) ∷ []) ∷ []
+  last_number k x [] = let same : k ≡ k + 0 = omega arith in ap (λ (n : ℕ). (number_value n ∷ []) ∷ []) same
+  last_number k x (y ∷ xs) = let same : k + 1 + length xs ≡ k + length (y ∷ xs) = omega arith in last_number (k + 1) y xs ∙ ap (λ (n : ℕ). (number_value n ∷ []) ∷ []) same
+
+  -- so the first row's number is how many there are
+  counts_all : (xs : List A) (rows : List sql.Row) (n : ℕ) → rows ≡ map (λ (it : ℕ × A). number_value it.0 ∷ []) (ending (numbered xs)) → IsFirstNumber rows n → n ≡ length xs
+  counts_all [] rows n are first = subst (λ (l : List sql.Row). IsFirstNumber l n) are first
+  counts_all (x ∷ xs) rows n are first =
+      let told : number_value (1 + length xs) ≡ number_value n = subst (λ (l : List sql.Row). IsFirstNumber l n) (are ∙ last_number 1 x xs) first in
+      let same : n ≡ 1 + length xs = same_number (1 + length xs) n told in
+      omega (arith, same)
+
+-- what the call tells of the rows that it is shown
+abbrev pub ReadsLast : {A : Type 0} → ByNumber A → List ℕ → Type 1
+ReadsLast t text =
+    (old new : State) (r : Result ℕ StoreFault) → IfOk r (λ n. (rows : List sql.Row) × Shown text [] old new rows × IsFirstNumber rows n) → IfOk r (λ n. Reads old new (λ books. n ≡ length (t.part.items books)))
+
+module _ {A : Type 0} (t : ByNumber A) (text : List ℕ) where
+  abbrev last_query : Query
+  last_query = first_query t.table.tree [] (col 1 1 ∷ []) ((col 1 1, descending) ∷ [])
+
+  abbrev falling : Query
+  falling = plain_query t.table.tree [] (col 1 1 ∷ []) ((col 1 1, descending) ∷ [])
+
+  -- the premises are `refl` where the text and the table are known
+  pub reads_last : Selects shop_schema text last_query
+      → ((r : sql.Row) → output falling ([] ∷ r ∷ []) ∷ [] ≡ (column (columns_of (length t.table.columns) r) 0 ∷ [], column (columns_of (length t.table.columns) r) 0 ∷ []) ∷ []) → ReadsLast t text
+  reads_last means only old new (Err e) told = tt
+  reads_last means only old new (Ok n) told = λ books holds held. (
+    still_holds shop_schema StandsFor text [] old new means.plain rows h books holds,
+    counts_all (t.part.items books) rows n (shows books holds) told.2,
+  )
+    where
+      rows : List sql.Row
+      rows = told.0
+
+      h : Shown text [] old new rows
+      h = told.1
+
+      shows : (books : Books) → Holds old books → rows ≡ map (λ (it : ℕ × A). number_value it.0 ∷ []) (ending (numbered (t.part.items books)))
+      shows books holds =
+          let its = numbered (t.part.items books) in
+          projects_last shop_schema text t.table.tree (length t.table.columns) [] (col 1 1 ∷ []) 0 means [] old new rows holds.schema_is h (t.columns books) its
+          (t.stood (counts_of books) books old.now.trees holds.stands) (own_rows old.now.trees t.table.tree) (λ vs. true) (λ vs. column vs 0 ∷ []) (λ it. true) (λ it. refl) only (λ it. it.0) (t.numbers books)
+          (subst (IsAscending (λ (a b : ℕ × A). a.0 < b.0)) (sym (all_pass its)) (rise 1 (t.part.items books)))
+          ∙ ap (λ (l : List (ℕ × A)). map (λ it. column (t.columns books it) 0 ∷ []) (ending l)) (all_pass its) ∙ shown (ending its)
+        where
+          shown : (its : List (ℕ × A)) → map (λ it. column (t.columns books it) 0 ∷ []) its ≡ map (λ (it : ℕ × A). number_value it.0 ∷ []) its
+          shown [] = refl
+          shown (it ∷ its) = λ i. (t.numbers books it i ∷ []) ∷ shown its i
+
+pub last_country : ReadsLast countries (codes "SELECT number FROM country ORDER BY number DESC LIMIT 1")
+unfolding understood everything
+last_country = reads_last countries _ (record { names = _; is = refl; plain = (refl, refl); unlisted = refl }) (λ r. refl)
+
+pub last_language : ReadsLast languages (codes "SELECT number FROM language ORDER BY number DESC LIMIT 1")
+unfolding understood everything
+last_language = reads_last languages _ (record { names = _; is = refl; plain = (refl, refl); unlisted = refl }) (λ r. refl)
+
+pub last_category : ReadsLast categories (codes "SELECT number FROM category ORDER BY number DESC LIMIT 1")
+unfolding understood everything
+last_category = reads_last categories _ (record { names = _; is = refl; plain = (refl, refl); unlisted = refl }) (λ r. refl)
+
+pub last_city : ReadsLast cities (codes "SELECT number FROM city ORDER BY number DESC LIMIT 1")
+unfolding understood everything
+last_city = reads_last cities _ (record { names = _; is = refl; plain = (refl, refl); unlisted = refl }) (λ r. refl)
+
+pub last_actor : ReadsLast actors (codes "SELECT number FROM actor ORDER BY number DESC LIMIT 1")
+unfolding understood everything
+last_actor = reads_last actors _ (record { names = _; is = refl; plain = (refl, refl); unlisted = refl }) (λ r. refl)
+
+pub last_film : ReadsLast films (codes "SELECT number FROM film ORDER BY number DESC LIMIT 1")
+unfolding understood everything
+last_film = reads_last films _ (record { names = _; is = refl; plain = (refl, refl); unlisted = refl }) (λ r. refl)
+
+pub last_branch : ReadsLast branches (codes "SELECT number FROM branch ORDER BY number DESC LIMIT 1")
+unfolding understood everything
+last_branch = reads_last branches _ (record { names = _; is = refl; plain = (refl, refl); unlisted = refl }) (λ r. refl)
+
+pub last_staff : ReadsLast staff (codes "SELECT number FROM staff ORDER BY number DESC LIMIT 1")
+unfolding understood everything
+last_staff = reads_last staff _ (record { names = _; is = refl; plain = (refl, refl); unlisted = refl }) (λ r. refl)

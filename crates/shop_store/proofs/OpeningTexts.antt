@@ -1,0 +1,228 @@
+-- What each statement of the opening adds, and all of them in turn.
+use Rattle.std.proofs.Common.{◌≡◌, ◌/◌, ◌-◌, ℕ, suc, List, [], ◌∷◌, codes, map, length, take, true, Some, None, Ok, refl, sym, subst}
+use Rattle.std.specs.Prelude.{⊤}
+use Rattle.sqlite.specs.declared.types.Value.{Value}
+use Rattle.sqlite.specs.declared.types.Value.TheVariants.{Null}
+use Rattle.sqlite_value.specs.Order as sql
+use Rattle.sqlite_sql.specs.Term.{Term, lit, eval_all}
+use Rattle.sqlite.specs.Source.TheVariants.{Values}
+use Rattle.sqlite.specs.Command.TheVariants.{Insert}
+use Rattle.sqlite.specs.Effect.{value_rows}
+use Rattle.sqlite_tied.specs.Compute.{everything}
+use Rattle.sqlite.specs.Listing.{understood}
+use Rattle.sqlite_trees.specs.declared.store.Store.{Ghosts}
+use Rattle.sqlite.specs.Held.{Held, state}
+use Rattle.sqlite.specs.State.{State, ExecutesInside}
+use Rattle.sql_rows.specs.Builds.{Means}
+use Rattle.sql_rows.specs.Rows.{HasRows, columns_of}
+use Rattle.sql_rows.proofs.Appends.{are_kept}
+use Rattle.sql_rows.proofs.Steps.{has_put}
+use Rattle.shop_model.specs.Rows.{owned_by}
+use Rattle.shop_model.specs.Values.{Branch}
+use Rattle.shop_model.specs.Books.{Books}
+use Rattle.shop_model.specs.Sound.{opening}
+use Rattle.shop_model.specs.Opening.{token_of, river_dawn, north_light, opening_branch, opening_staff, opening_catalogue, opening_books}
+use Rattle.shop_schema.specs.Tables.{shop_schema, branch_table}
+use Rattle.shop_schema.specs.Columns.{branch_columns}
+use Rattle.shop_schema.specs.Counts.{Counts}
+use Rattle.shop_schema.specs.Shop.{HoldsWith, first_books}
+use Rattle.shop_schema.proofs.Stands.{stands_but}
+use Rattle.shop_schema.proofs.Listed.{Shared, Plain, width, puts, next_row, IsNext, push}
+use Rattle.shop_schema.proofs.SharedTables.{countries, languages, categories, cities, actors, films, casts, branches, staff}
+use Rattle.shop_store.specs.Runs.{Runs}
+use Rattle.shop_store.proofs.PutTexts.{one_more}
+
+-- where the statement runs, tables that stand for the first books come to stand for the second ones
+record Goes (text : List ℕ) (a b : Books) : Type 1 where
+  goes : (counts : Counts) (old new : State) (count : ℕ) → ExecutesInside 0 text [] old new (Ok count) → HoldsWith counts old a → HoldsWith counts new b
+
+-- ---- one row, whose values stand in the statement; the premises before the books are `refl` where the text is known
+
+abbrev literals : sql.Row → List Term
+literals row = lit Null ∷ map lit row
+
+module _ {A : Type 0} (t : Shared A) (text : List ℕ) (n : ℕ) (x : A) where
+  abbrev terms : List Term
+  terms = literals (t.columns (n, x))
+
+  adds : Means shop_schema text (Insert t.place (Values terms (suc (width t)))) → value_rows [] (suc (width t)) (length terms / suc (width t)) terms ≡ eval_all terms ([] ∷ []) ∷ []
+      → eval_all terms ([] ∷ []) ≡ Null ∷ t.columns (n, x) → are_kept t.table.columns (t.columns (n, x)) ≡ true → ((id : Value) → columns_of (width t) (id ∷ t.columns (n, x)) ≡ t.columns (n, x))
+      → (books : Books) → IsNext t.part n books → Goes text books (push t.part x books)
+  adds means one is kept whole books next = record {
+    goes = λ counts old new count ran holds.
+        puts t text terms means [] x (n, x) one is kept whole (IsNext t.part n) (λ books next. next_row (t.part.items books) x n next) old new count ran counts books holds next;
+  }
+
+module _ {A : Type 0} (t : Plain A) (text : List ℕ) (x : A) where
+  abbrev plain_terms : List Term
+  plain_terms = literals (t.columns x)
+
+  adds_plain : Means shop_schema text (Insert t.place (Values plain_terms (suc (width t)))) → value_rows [] (suc (width t)) (length plain_terms / suc (width t)) plain_terms ≡ eval_all plain_terms ([] ∷ []) ∷ []
+      → eval_all plain_terms ([] ∷ []) ≡ Null ∷ t.columns x → are_kept t.table.columns (t.columns x) ≡ true → ((id : Value) → columns_of (width t) (id ∷ t.columns x) ≡ t.columns x)
+      → (books : Books) → Goes text books (push t.part x books)
+  adds_plain means one is kept whole books = record {
+    goes = λ counts old new count ran holds.
+        puts t text plain_terms means [] x x one is kept whole (λ _. ⊤) (λ books given. refl) old new count ran counts books holds tt;
+  }
+
+-- a branch, which has no last moment
+module _ (text : List ℕ) (n : ℕ) (x : Branch) where
+  abbrev branch_terms : List Term
+  branch_terms = literals (branch_columns [] (n, x))
+
+  adds_branch : Means shop_schema text (Insert 8 (Values branch_terms 9)) → value_rows [] 9 (length branch_terms / 9) branch_terms ≡ eval_all branch_terms ([] ∷ []) ∷ []
+      → eval_all branch_terms ([] ∷ []) ≡ Null ∷ branch_columns [] (n, x) → are_kept branch_table.columns (branch_columns [] (n, x)) ≡ true → ((id : Value) → columns_of 8 (id ∷ branch_columns [] (n, x)) ≡ branch_columns [] (n, x))
+      → (books : Books) → IsNext branches n books → owned_by n books.lasts ≡ [] → Goes text books (push branches x books)
+  adds_branch means one is kept whole books next none = record {
+    goes = λ counts old new count ran holds.
+        let done = has_put shop_schema text 8 branch_table branch_terms 8 means (record { place = refl; uncounted = refl; unstamped = refl }) [] (branch_columns [] (n, x)) old new count ran one is kept whole holds.schema_is in
+        let rows = subst (HasRows 8 (new.now.trees 18)) (one_more books n x next none) (done.rows _ holds.stands.branches) in
+        record { schema_is = done.schema_is; keyed = done.keyed holds.keyed; stands = stands_but 8 branch_table refl refl counts counts books (push branches x books) _ refl old.now.trees new.now.trees done.others holds.stands rows };
+  }
+
+-- ---- statements one after another
+
+-- where the statements run, tables that stand for the first books come to stand for the others, beside the same counts
+record Leads (texts : List (List ℕ)) (counts : Counts) (a b : Books) : Type 1 where
+  leads : {S : Type 0} (g : Ghosts S) (old new : Held S) → Runs g texts old new → HoldsWith counts (state g old) a → HoldsWith counts (state g new) b
+
+ends : (counts : Counts) (a : Books) → Leads [] counts a a
+ends counts a = record { leads = λ {S} g old new ran holds. subst (λ (s : Held S). HoldsWith counts (state g s) a) (sym ran) holds }
+
+then : {text : List ℕ} {more : List (List ℕ)} {counts : Counts} {a b c : Books} → Goes text a b → Leads more counts b c → Leads (text ∷ more) counts a c
+then {counts = counts} step rest = record { leads = λ g old new ran holds. rest.leads g ran.0 new ran.3 (step.goes counts _ _ _ ran.2 holds) }
+
+-- ---- the statements
+
+-- the books after so many of them
+abbrev stage : ℕ → Books
+stage n = opening (record {
+  office_token = token_of 0;
+  kept = [];
+  countries = take n opening_catalogue.countries;
+  languages = take (n - 2) opening_catalogue.languages;
+  categories = take (n - 3) opening_catalogue.categories;
+  actors = take (n - 5) opening_catalogue.actors;
+  films = take (n - 7) opening_catalogue.films;
+  casts = take (n - 9) opening_catalogue.casts;
+  cities = take (n - 12) opening_catalogue.cities;
+  branches = take (n - 15) opening_catalogue.branches;
+  staff = take (n - 18) opening_catalogue.staff;
+})
+
+adds_canada : Goes (codes "INSERT INTO country (number, name) VALUES (1, 'Canada')") (stage 0) (stage 1)
+unfolding understood everything
+adds_canada = adds countries _ 1 (codes "Canada") (record { is = refl; plain = (refl, refl) }) refl refl refl (λ id. refl) (stage 0) refl
+
+adds_australia : Goes (codes "INSERT INTO country (number, name) VALUES (2, 'Australia')") (stage 1) (stage 2)
+unfolding understood everything
+adds_australia = adds countries _ 2 (codes "Australia") (record { is = refl; plain = (refl, refl) }) refl refl refl (λ id. refl) (stage 1) refl
+
+adds_english : Goes (codes "INSERT INTO language (number, name) VALUES (1, 'English')") (stage 2) (stage 3)
+unfolding understood everything
+adds_english = adds languages _ 1 (codes "English") (record { is = refl; plain = (refl, refl) }) refl refl refl (λ id. refl) (stage 2) refl
+
+adds_action : Goes (codes "INSERT INTO category (number, name) VALUES (1, 'Action')") (stage 3) (stage 4)
+unfolding understood everything
+adds_action = adds categories _ 1 (codes "Action") (record { is = refl; plain = (refl, refl) }) refl refl refl (λ id. refl) (stage 3) refl
+
+adds_comedy : Goes (codes "INSERT INTO category (number, name) VALUES (2, 'Comedy')") (stage 4) (stage 5)
+unfolding understood everything
+adds_comedy = adds categories _ 2 (codes "Comedy") (record { is = refl; plain = (refl, refl) }) refl refl refl (λ id. refl) (stage 4) refl
+
+adds_ann : Goes (codes "INSERT INTO actor (number, first, last) VALUES (1, 'ANN', 'HILL')") (stage 5) (stage 6)
+unfolding understood everything
+adds_ann = adds actors _ 1 (record { first = codes "ANN"; last = codes "HILL" }) (record { is = refl; plain = (refl, refl) }) refl refl refl (λ id. refl) (stage 5) refl
+
+adds_bo : Goes (codes "INSERT INTO actor (number, first, last) VALUES (2, 'BO', 'KERR')") (stage 6) (stage 7)
+unfolding understood everything
+adds_bo = adds actors _ 2 (record { first = codes "BO"; last = codes "KERR" }) (record { is = refl; plain = (refl, refl) }) refl refl refl (λ id. refl) (stage 6) refl
+
+adds_river : Goes (codes "INSERT INTO film (number, title, description, language, category, period, rate, replacement, length, rating, features, withdrawn) VALUES (1, 'RIVER DAWN', '', 1, 1, 3, 499, 1999, 86, 'PG', '', 0)") (stage 7) (stage 8)
+unfolding understood everything
+adds_river = adds films _ 1 river_dawn (record { is = refl; plain = (refl, refl) }) refl refl refl (λ id. refl) (stage 7) refl
+
+adds_north : Goes (codes "INSERT INTO film (number, title, description, language, category, period, rate, replacement, length, rating, features, withdrawn) VALUES (2, 'NORTH LIGHT', '', 1, 2, 5, 299, 999, NULL, 'G', '', 0)") (stage 8) (stage 9)
+unfolding understood everything
+adds_north = adds films _ 2 north_light (record { is = refl; plain = (refl, refl) }) refl refl refl (λ id. refl) (stage 8) refl
+
+adds_cast_1 : Goes (codes "INSERT INTO film_actor (film, actor) VALUES (1, 1)") (stage 9) (stage 10)
+unfolding understood everything
+adds_cast_1 = adds_plain casts _ (record { film = 1; actor = 1 }) (record { is = refl; plain = (refl, refl) }) refl refl refl (λ id. refl) (stage 9)
+
+adds_cast_2 : Goes (codes "INSERT INTO film_actor (film, actor) VALUES (1, 2)") (stage 10) (stage 11)
+unfolding understood everything
+adds_cast_2 = adds_plain casts _ (record { film = 1; actor = 2 }) (record { is = refl; plain = (refl, refl) }) refl refl refl (λ id. refl) (stage 10)
+
+adds_cast_3 : Goes (codes "INSERT INTO film_actor (film, actor) VALUES (2, 2)") (stage 11) (stage 12)
+unfolding understood everything
+adds_cast_3 = adds_plain casts _ (record { film = 2; actor = 2 }) (record { is = refl; plain = (refl, refl) }) refl refl refl (λ id. refl) (stage 11)
+
+adds_lethbridge : Goes (codes "INSERT INTO city (number, name, country) VALUES (1, 'Lethbridge', 1)") (stage 12) (stage 13)
+unfolding understood everything
+adds_lethbridge = adds cities _ 1 (record { name = codes "Lethbridge"; country = 1 }) (record { is = refl; plain = (refl, refl) }) refl refl refl (λ id. refl) (stage 12) refl
+
+adds_woodridge : Goes (codes "INSERT INTO city (number, name, country) VALUES (2, 'Woodridge', 2)") (stage 13) (stage 14)
+unfolding understood everything
+adds_woodridge = adds cities _ 2 (record { name = codes "Woodridge"; country = 2 }) (record { is = refl; plain = (refl, refl) }) refl refl refl (λ id. refl) (stage 13) refl
+
+adds_brisbane : Goes (codes "INSERT INTO city (number, name, country) VALUES (3, 'Brisbane', 2)") (stage 14) (stage 15)
+unfolding understood everything
+adds_brisbane = adds cities _ 3 (record { name = codes "Brisbane"; country = 2 }) (record { is = refl; plain = (refl, refl) }) refl refl refl (λ id. refl) (stage 14) refl
+
+adds_branch_1 : Goes (codes "INSERT INTO branch (number, token, address, postal, phone, city, manager, last_moment) VALUES (1, '11111111111111111111111111111111', '10 High', '', '', 1, 1, NULL)") (stage 15) (stage 16)
+unfolding understood everything
+adds_branch_1 = adds_branch _ 1 (opening_branch 1 (codes "10 High") (Some 1)) (record { is = refl; plain = (refl, refl) }) refl refl refl (λ id. refl) (stage 15) refl refl
+
+adds_branch_2 : Goes (codes "INSERT INTO branch (number, token, address, postal, phone, city, manager, last_moment) VALUES (2, '22222222222222222222222222222222', '20 High', '', '', 2, 2, NULL)") (stage 16) (stage 17)
+unfolding understood everything
+adds_branch_2 = adds_branch _ 2 (opening_branch 2 (codes "20 High") (Some 2)) (record { is = refl; plain = (refl, refl) }) refl refl refl (λ id. refl) (stage 16) refl refl
+
+adds_branch_3 : Goes (codes "INSERT INTO branch (number, token, address, postal, phone, city, manager, last_moment) VALUES (3, '33333333333333333333333333333333', '30 High', '', '', 3, NULL, NULL)") (stage 17) (stage 18)
+unfolding understood everything
+adds_branch_3 = adds_branch _ 3 (opening_branch 3 (codes "30 High") None) (record { is = refl; plain = (refl, refl) }) refl refl refl (λ id. refl) (stage 17) refl refl
+
+adds_ida : Goes (codes "INSERT INTO staff (number, branch, first, last, address, postal, phone, city, gone) VALUES (1, 1, 'IDA', 'LUND', '2 Side', '', '', 1, 0)") (stage 18) (stage 19)
+unfolding understood everything
+adds_ida = adds staff _ 1 (opening_staff 1 (codes "IDA") (codes "LUND")) (record { is = refl; plain = (refl, refl) }) refl refl refl (λ id. refl) (stage 18) refl
+
+adds_jon : Goes (codes "INSERT INTO staff (number, branch, first, last, address, postal, phone, city, gone) VALUES (2, 2, 'JON', 'VEGA', '2 Side', '', '', 2, 0)") (stage 19) (stage 20)
+unfolding understood everything
+adds_jon = adds staff _ 2 (opening_staff 2 (codes "JON") (codes "VEGA")) (record { is = refl; plain = (refl, refl) }) refl refl refl (λ id. refl) (stage 19) refl
+
+adds_kim : Goes (codes "INSERT INTO staff (number, branch, first, last, address, postal, phone, city, gone) VALUES (3, 3, 'KIM', 'ROSS', '2 Side', '', '', 3, 0)") (stage 20) (stage 21)
+unfolding understood everything
+adds_kim = adds staff _ 3 (opening_staff 3 (codes "KIM") (codes "ROSS")) (record { is = refl; plain = (refl, refl) }) refl refl refl (λ id. refl) (stage 20) refl
+
+abbrev pub texts : List (List ℕ)
+texts = codes "INSERT INTO country (number, name) VALUES (1, 'Canada')"
+    ∷ codes "INSERT INTO country (number, name) VALUES (2, 'Australia')"
+    ∷ codes "INSERT INTO language (number, name) VALUES (1, 'English')"
+    ∷ codes "INSERT INTO category (number, name) VALUES (1, 'Action')"
+    ∷ codes "INSERT INTO category (number, name) VALUES (2, 'Comedy')"
+    ∷ codes "INSERT INTO actor (number, first, last) VALUES (1, 'ANN', 'HILL')"
+    ∷ codes "INSERT INTO actor (number, first, last) VALUES (2, 'BO', 'KERR')"
+    ∷ codes "INSERT INTO film (number, title, description, language, category, period, rate, replacement, length, rating, features, withdrawn) VALUES (1, 'RIVER DAWN', '', 1, 1, 3, 499, 1999, 86, 'PG', '', 0)"
+    ∷ codes "INSERT INTO film (number, title, description, language, category, period, rate, replacement, length, rating, features, withdrawn) VALUES (2, 'NORTH LIGHT', '', 1, 2, 5, 299, 999, NULL, 'G', '', 0)"
+    ∷ codes "INSERT INTO film_actor (film, actor) VALUES (1, 1)"
+    ∷ codes "INSERT INTO film_actor (film, actor) VALUES (1, 2)"
+    ∷ codes "INSERT INTO film_actor (film, actor) VALUES (2, 2)"
+    ∷ codes "INSERT INTO city (number, name, country) VALUES (1, 'Lethbridge', 1)"
+    ∷ codes "INSERT INTO city (number, name, country) VALUES (2, 'Woodridge', 2)"
+    ∷ codes "INSERT INTO city (number, name, country) VALUES (3, 'Brisbane', 2)"
+    ∷ codes "INSERT INTO branch (number, token, address, postal, phone, city, manager, last_moment) VALUES (1, '11111111111111111111111111111111', '10 High', '', '', 1, 1, NULL)"
+    ∷ codes "INSERT INTO branch (number, token, address, postal, phone, city, manager, last_moment) VALUES (2, '22222222222222222222222222222222', '20 High', '', '', 2, 2, NULL)"
+    ∷ codes "INSERT INTO branch (number, token, address, postal, phone, city, manager, last_moment) VALUES (3, '33333333333333333333333333333333', '30 High', '', '', 3, NULL, NULL)"
+    ∷ codes "INSERT INTO staff (number, branch, first, last, address, postal, phone, city, gone) VALUES (1, 1, 'IDA', 'LUND', '2 Side', '', '', 1, 0)"
+    ∷ codes "INSERT INTO staff (number, branch, first, last, address, postal, phone, city, gone) VALUES (2, 2, 'JON', 'VEGA', '2 Side', '', '', 2, 0)"
+    ∷ codes "INSERT INTO staff (number, branch, first, last, address, postal, phone, city, gone) VALUES (3, 3, 'KIM', 'ROSS', '2 Side', '', '', 3, 0)"
+    ∷ []
+
+pub opening_added : {S : Type 0} (g : Ghosts S) (counts : Counts) (old new : Held S) → Runs g texts old new → HoldsWith counts (state g old) (first_books (token_of 0)) → HoldsWith counts (state g new) opening_books
+opening_added g counts = added.leads g
+  where
+    added : Leads texts counts (first_books (token_of 0)) opening_books
+    added =
+        then adds_canada (then adds_australia (then adds_english (then adds_action (then adds_comedy (then adds_ann (then adds_bo (then adds_river
+        (then adds_north (then adds_cast_1 (then adds_cast_2 (then adds_cast_3 (then adds_lethbridge (then adds_woodridge (then adds_brisbane
+        (then adds_branch_1 (then adds_branch_2 (then adds_branch_3 (then adds_ida (then adds_jon (then adds_kim (ends counts opening_books)))))))))))))))))))))

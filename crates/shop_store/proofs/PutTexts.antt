@@ -1,0 +1,116 @@
+-- What the statements mean, and what they make of the books.
+use Rattle.std.proofs.Common.{◌≡◌, ◌&&◌, ℕ, pos, List, [], ◌∷◌, ◌++◌, codes, map, true, Option, Some, None, Ok, refl, sym, ap, subst, ◌∙◌}
+use Rattle.std.proofs.lemmas.List.Sorted.{IsPermutation-refl}
+use Rattle.sqlite.specs.declared.types.Value.TheVariants.{Null, Int, Text}
+use Rattle.sqlite_value.specs.Order as sql
+use Rattle.sqlite_sql.specs.Term.{Term, lit, col}
+use Rattle.sqlite.specs.Values.{or_null}
+use Rattle.sqlite.specs.Source.TheVariants.{Values}
+use Rattle.sqlite.specs.Command.TheVariants.{Insert}
+use Rattle.sqlite_tied.specs.Compute.{everything}
+use Rattle.sqlite.specs.Listing.{understood}
+use Rattle.sqlite.specs.State.{State, ExecutesInside}
+use Rattle.sql_rows.specs.Builds.{Means}
+use Rattle.sql_rows.specs.Rows.{HasRows, number_value}
+use Rattle.sqlite_schema.specs.declared.schema.Kind.TheVariants as kind
+use Rattle.sql_rows.proofs.Appends.{is_kept, map_push}
+use Rattle.sql_rows.proofs.Steps.{has_put}
+use Rattle.shop_model.specs.Calendar.{Moment}
+use Rattle.shop_model.specs.Rows.{owned_by, numbered}
+use Rattle.shop_model.specs.Values as model
+use Rattle.shop_model.specs.Values.{Branch}
+use Rattle.shop_model.specs.Books.{Books, head}
+use Rattle.shop_schema.specs.Tables.{shop_schema, chain_table, branch_table}
+use Rattle.shop_schema.specs.Columns.{chain_columns, branch_columns, moment_value}
+use Rattle.shop_schema.specs.Shop.{IsShop, IsKeyed, HaveNoRows, HoldsWith, Writes, first_books}
+use Rattle.shop_schema.specs.Counts.{no_counts}
+use Rattle.shop_schema.proofs.Stands.{stands_first, stands_but}
+use Rattle.shop_schema.proofs.Listed.{PutsNext, PutsLast, puts_next, puts_last, next_row, IsNext, push, cols}
+use Rattle.shop_schema.proofs.SharedTables.{countries, languages, categories, cities, actors, films, casts, branches, staff}
+use Rattle.shop_store.specs.New.{branch_params}
+
+-- ---- head office's token
+
+abbrev pub insert_token : List ℕ
+insert_token = codes "INSERT INTO chain (version, office_token) VALUES (1, ?1)"
+
+abbrev pub token_terms : List Term
+token_terms = lit Null ∷ lit (Int (pos 1)) ∷ col 0 0 ∷ []
+
+token_means : Means shop_schema insert_token (Insert 0 (Values token_terms 3))
+unfolding understood everything
+token_means = record { is = refl; plain = (refl, refl) }
+
+none_yet : (old : List sql.Row) → old ≡ [] → HasRows 2 old []
+none_yet old empty = rw empty (IsPermutation-refl [])
+
+pub holds_first : (old new : State) (token : model.Text) (count : ℕ) → ExecutesInside 0 insert_token (Text token ∷ []) old new (Ok count) → IsShop old → IsKeyed old → HaveNoRows old.now.trees → HoldsWith no_counts new (first_books token)
+holds_first old new token count h shop keyed empty =
+    let done = has_put shop_schema insert_token 0 chain_table token_terms 2 token_means (record { place = refl; uncounted = refl; unstamped = refl }) (Text token ∷ []) (chain_columns token) old new count h refl refl refl (λ id. refl) shop in
+    record { schema_is = done.schema_is; keyed = done.keyed keyed; stands = stands_first old.now.trees new.now.trees token empty done.others (done.rows [] (none_yet _ empty.0)) }
+
+-- ---- shared rows
+
+kept_or_null : (o : Option ℕ) → (is_kept kind.Integer (or_null number_value o) && true) ≡ true
+kept_or_null None = refl
+kept_or_null (Some n) = refl
+
+pub puts_country : PutsNext countries (codes "INSERT INTO country (number, name) VALUES (?1, ?2)")
+unfolding understood everything
+puts_country = puts_next countries _ (record { is = refl; plain = (refl, refl) }) (λ n x. refl) (λ n x. refl) (λ n x. refl) (λ n x id. refl)
+
+pub puts_language : PutsNext languages (codes "INSERT INTO language (number, name) VALUES (?1, ?2)")
+unfolding understood everything
+puts_language = puts_next languages _ (record { is = refl; plain = (refl, refl) }) (λ n x. refl) (λ n x. refl) (λ n x. refl) (λ n x id. refl)
+
+pub puts_category : PutsNext categories (codes "INSERT INTO category (number, name) VALUES (?1, ?2)")
+unfolding understood everything
+puts_category = puts_next categories _ (record { is = refl; plain = (refl, refl) }) (λ n x. refl) (λ n x. refl) (λ n x. refl) (λ n x id. refl)
+
+pub puts_city : PutsNext cities (codes "INSERT INTO city (number, name, country) VALUES (?1, ?2, ?3)")
+unfolding understood everything
+puts_city = puts_next cities _ (record { is = refl; plain = (refl, refl) }) (λ n x. refl) (λ n x. refl) (λ n x. refl) (λ n x id. refl)
+
+pub puts_actor : PutsNext actors (codes "INSERT INTO actor (number, first, last) VALUES (?1, ?2, ?3)")
+unfolding understood everything
+puts_actor = puts_next actors _ (record { is = refl; plain = (refl, refl) }) (λ n x. refl) (λ n x. refl) (λ n x. refl) (λ n x id. refl)
+
+pub puts_film : PutsNext films (codes "INSERT INTO film (number, title, description, language, category, period, rate, replacement, length, rating, features, withdrawn) VALUES (?1, ?2, ?3, ?4, ?5, ?6, ?7, ?8, ?9, ?10, ?11, ?12)")
+unfolding understood everything
+puts_film = puts_next films _ (record { is = refl; plain = (refl, refl) }) (λ n x. refl) (λ n x. refl) (λ n x. kept_or_null x.minutes) (λ n x id. refl)
+
+pub puts_staff : PutsNext staff (codes "INSERT INTO staff (number, branch, first, last, address, postal, phone, city, gone) VALUES (?1, ?2, ?3, ?4, ?5, ?6, ?7, ?8, ?9)")
+unfolding understood everything
+puts_staff = puts_next staff _ (record { is = refl; plain = (refl, refl) }) (λ n x. refl) (λ n x. refl) (λ n x. refl) (λ n x id. refl)
+
+pub puts_cast : PutsLast casts (codes "INSERT INTO film_actor (film, actor) VALUES (?1, ?2)")
+unfolding understood everything
+puts_cast = puts_last casts _ (record { is = refl; plain = (refl, refl) }) (λ x. refl) (λ x. refl) (λ x. refl) (λ x id. refl)
+
+-- ---- branches, which have no last moment yet
+
+abbrev branch_terms : List Term
+branch_terms = lit Null ∷ (cols 0 0 7 ++ lit Null ∷ [])
+
+abbrev pub insert_branch : List ℕ
+insert_branch = codes "INSERT INTO branch (number, token, address, postal, phone, city, manager, last_moment) VALUES (?1, ?2, ?3, ?4, ?5, ?6, ?7, NULL)"
+
+branch_means : Means shop_schema insert_branch (Insert 8 (Values branch_terms 9))
+unfolding understood everything
+branch_means = record { is = refl; plain = (refl, refl) }
+
+new_branch : (books : Books) (n : ℕ) (x : Branch) → owned_by n books.lasts ≡ [] → branch_columns [] (n, x) ≡ branch_columns books.lasts (n, x)
+new_branch books n x none = ap (λ (ms : List Moment). branch_params n x ++ or_null moment_value (head ms) ∷ []) (sym none)
+
+pub one_more : (books : Books) (n : ℕ) (x : Branch) → IsNext branches n books → owned_by n books.lasts ≡ []
+    → map (branch_columns books.lasts) (numbered books.catalogue.branches) ++ branch_columns [] (n, x) ∷ [] ≡ map (branch_columns books.lasts) (numbered (books.catalogue.branches ++ x ∷ []))
+one_more books n x next none =
+    ap (λ (row : sql.Row). map (branch_columns books.lasts) (numbered books.catalogue.branches) ++ row ∷ []) (new_branch books n x none)
+    ∙ sym (ap (map (branch_columns books.lasts)) (next_row books.catalogue.branches x n next) ∙ map_push (branch_columns books.lasts) (numbered books.catalogue.branches) (n, x))
+
+pub puts_branch : (old new : State) (n : ℕ) (x : Branch) (count : ℕ) → ExecutesInside 0 insert_branch (branch_params n x) old new (Ok count)
+    → Writes old new (λ books. IsNext branches n books × (owned_by n books.lasts ≡ [])) (push branches x)
+puts_branch old new n x count h counts books holds given =
+    let done = has_put shop_schema insert_branch 8 branch_table branch_terms 8 branch_means (record { place = refl; uncounted = refl; unstamped = refl }) (branch_params n x) (branch_columns [] (n, x)) old new count h refl refl (kept_or_null x.manager) (λ id. refl) holds.schema_is in
+    let rows = subst (HasRows 8 (new.now.trees 18)) (one_more books n x given.0 given.1) (done.rows _ holds.stands.branches) in
+    record { schema_is = done.schema_is; keyed = done.keyed holds.keyed; stands = stands_but 8 branch_table refl refl counts counts books (push branches x books) _ refl old.now.trees new.now.trees done.others holds.stands rows }

@@ -1,0 +1,187 @@
+-- What is read of a shared row by its number.
+use Rattle.std.proofs.Common.{◌≡◌, ◌≤◌, ◌==◌, ◌&&◌, ℕ, List, [], ◌∷◌, codes, map, length, cond, not, true, Some, None, Ok, Err, Result, refl, sym, ap, subst, ◌∙◌, arith}
+use Rattle.std.specs.Prelude.{slice_get, IfOk, Option}
+use Rattle.std.specs.List.{list_all}
+use Rattle.std.proofs.lemmas.Bool.Decides.{nat_tests}
+use Rattle.sqlite.specs.declared.types.Value.TheVariants.{Null, Text}
+use Rattle.sqlite.specs.Values.{or_null}
+use Rattle.sqlite_value.specs.Order as sql
+use Rattle.sqlite_value.specs.Order.{column}
+use Rattle.sqlite_value.specs.declared.keys.Collation.TheVariants.{Binary}
+use Rattle.sqlite_sql.specs.Term.{Term, col, op2, holds}
+use Rattle.sqlite_sql.specs.Query.{Query, output}
+use Rattle.sqlite_sql.specs.declared.ops.BinaryOp.TheVariants.{Compare}
+use Rattle.sqlite_sql.specs.declared.ops.CompareOp.TheVariants.{Eq}
+use Rattle.sqlite_tied.specs.Compute.{everything}
+use Rattle.sqlite.specs.Listing.{understood}
+use Rattle.sqlite.specs.State.{State, Shown}
+use Rattle.sqlite_keyed.proofs.ListLemmas.{map-map}
+use Rattle.sql_rows.specs.Rows.{columns_of, number_value, flag_value}
+use Rattle.sql_rows.proofs.Bags.{length-map}
+use Rattle.sql_rows.proofs.Queries.{Selects, plain_query}
+use Rattle.sql_rows.proofs.ColumnTests.{number_test, one_tested, same_flag, same_or_null, test_of}
+use Rattle.sql_rows.proofs.Projects.{projects_one, still_holds}
+use Rattle.shop_model.specs.Rows.{at, is_empty, lacks, numbered}
+use Rattle.shop_model.specs.Values as model
+use Rattle.shop_model.specs.Books.{Books, head}
+use Rattle.shop_schema.specs.Tables.{shop_schema}
+use Rattle.shop_schema.specs.Shop.{StandsFor, Holds, Reads}
+use Rattle.shop_schema.specs.Counts.{counts_of}
+use Rattle.shop_schema.proofs.FirstRows.{first_none, first_some}
+use Rattle.shop_schema.proofs.Lasts.{numbered_once}
+use Rattle.shop_schema.proofs.Listed.{own_rows}
+use Rattle.shop_schema.proofs.Numbered.{picked}
+use Rattle.shop_store.proofs.ByNumber.{ByNumber, countries, languages, categories, cities, actors, films, staff, branches}
+use Rattle.shop_types.specs.Verdicts.{post_of}
+use Rattle.shop_store.specs.SharedSeen.{withdrawn_of, terms_of, title_of, manager_of, TellsFirst}
+
+abbrev pub of_number : List Term
+of_number = op2 (Compare Eq Binary) (col 1 1) (col 0 0) ∷ []
+
+-- `shown` are the columns that the text asks for, and `show` the same of a row's columns
+module _ {A : Type 0} (t : ByNumber A) (text : List ℕ) (shown : List Term) where
+  abbrev pub width : ℕ
+  width = length t.table.columns
+
+  abbrev pub asked : Query
+  asked = plain_query t.table.tree of_number shown []
+
+  abbrev pub Shows : (sql.Row → sql.Row) → Type 0
+  Shows show = (n : ℕ) (r : sql.Row) → cond (list_all (holds ((number_value n ∷ []) ∷ r ∷ [])) of_number) (output asked ((number_value n ∷ []) ∷ r ∷ []) ∷ []) []
+      ≡ cond (number_test 0 n (columns_of width r) && true) (([], show (columns_of width r)) ∷ []) []
+
+  module _ (means : Selects shop_schema text asked) (show : sql.Row → sql.Row) (only : Shows show)
+      (old new : State) (n : ℕ) (rows : List sql.Row) (h : Shown text (number_value n ∷ []) old new rows) (low : 1 ≤ n) where
+    pub still : (books : Books) → Holds old books → Holds new books
+    still = still_holds shop_schema StandsFor text (number_value n ∷ []) old new means.plain rows h
+
+    pub shows_shared : (books : Books) → Holds old books → rows ≡ map (λ x. show (t.columns books (n, x))) (at n (t.part.items books))
+    shows_shared books holds =
+        projects_one shop_schema text t.table.tree width of_number shown means (number_value n ∷ []) old new rows holds.schema_is h (t.columns books) (numbered (t.part.items books))
+        (t.stood (counts_of books) books old.now.trees holds.stands) (own_rows old.now.trees t.table.tree) (λ vs. number_test 0 n vs && true) show (λ it. it.0 == n)
+        (λ it. one_tested _ (test_of (t.columns books it) 0 it.0 n (t.numbers books it))) (only n) (numbered_once 1 (t.part.items books) n)
+        ∙ ap (map (λ it. show (t.columns books it))) (picked n low (t.part.items books)) ∙ map-map (λ (it : ℕ × A). show (t.columns books it)) (λ x. (n, x)) (at n (t.part.items books))
+
+    -- whether there is a row
+    pub reads_whether : Reads old new (λ books. not (length rows == 0) ≡ not (lacks (t.part.items books) n))
+    reads_whether books holds held = (
+      still books holds,
+      ap (λ (k : ℕ). not (k == 0)) (ap length (shows_shared books holds) ∙ length-map (λ x. show (t.columns books (n, x))) (at n (t.part.items books))) ∙ ap not (none_there (at n (t.part.items books))),
+    )
+      where
+        none_there : (xs : List A) → (length xs == 0) ≡ is_empty xs
+        none_there [] = refl
+        none_there (x ∷ xs) = grind (arith, nat_tests)
+
+    -- what the first row tells: `means_it` says that a value that its columns fit is that of the shared row
+    pub reads_first : {V : Type 0} (told : A → V) (Fits : sql.Row → V → Type 0) → ((books : Books) (x : A) (v : V) → Fits (show (t.columns books (n, x))) v → v ≡ told x) → (slice : List sql.Row) → slice ≡ rows
+        → (None ≡ slice_get slice 0 → Reads old new (λ books. None ≡ head (map told (at n (t.part.items books)))))
+        × ((row : sql.Row) (v : V) → Some row ≡ slice_get slice 0 → Fits row v → Reads old new (λ books. Some v ≡ head (map told (at n (t.part.items books)))))
+    reads_first told Fits means_it slice same = (
+      λ none books holds held. (still books holds, first_none (λ x. show (t.columns books (n, x))) told (at n (t.part.items books)) rows slice (shows_shared books holds) same none),
+      λ row v some fits books holds held. (
+        still books holds,
+        first_some (λ x. show (t.columns books (n, x))) told (at n (t.part.items books)) rows slice (shows_shared books holds) same row v some (λ x is. means_it books x v (subst (λ r. Fits r v) (sym is) fits)),
+      ),
+    )
+
+-- what the first row tells of a shared row
+abbrev pub ReadsFirst : {A V : Type 0} → ByNumber A → List ℕ → (A → V) → (sql.Row → V → Type 0) → Type 1
+ReadsFirst {A} {V} t text told Fits =
+    (old new : State) (n : ℕ) (rows slice : List sql.Row) → Shown text (number_value n ∷ []) old new rows → 1 ≤ n → slice ≡ rows
+    → (None ≡ slice_get slice 0 → Reads old new (λ books. None ≡ head (map told (at n (t.part.items books)))))
+    × ((row : sql.Row) (v : V) → Some row ≡ slice_get slice 0 → Fits row v → Reads old new (λ books. Some v ≡ head (map told (at n (t.part.items books)))))
+
+-- what a reader of the first row answers
+pub told_first : {V E : Type 0} {Fits : sql.Row → V → Type 0} (slice : List sql.Row) (P : Option V → Type 0) (r : Result (Option V) E) → IfOk r (TellsFirst Fits slice)
+    → (None ≡ slice_get slice 0 → P None) → ((row : sql.Row) (v : V) → Some row ≡ slice_get slice 0 → Fits row v → P (Some v)) → IfOk r P
+told_first slice P (Err e) told none some = tt
+told_first slice P (Ok None) told none some = none told
+told_first slice P (Ok (Some v)) told none some = some told.0 v told.1 told.2
+
+-- ---- whether there is a row of the number
+
+abbrev pub ReadsWhether : {A : Type 0} → ByNumber A → List ℕ → Type 1
+ReadsWhether t text =
+    (old new : State) (n : ℕ) (rows : List sql.Row) → Shown text (number_value n ∷ []) old new rows → 1 ≤ n → Reads old new (λ books. not (length rows == 0) ≡ not (lacks (t.part.items books) n))
+
+pub read_country : ReadsWhether countries (codes "SELECT number FROM country WHERE number = ?1")
+unfolding understood everything
+read_country = reads_whether countries _ (col 1 1 ∷ []) (record { names = _; is = refl; plain = (refl, refl); unlisted = refl }) (λ vs. column vs 0 ∷ []) (λ m r. refl)
+
+pub read_language : ReadsWhether languages (codes "SELECT number FROM language WHERE number = ?1")
+unfolding understood everything
+read_language = reads_whether languages _ (col 1 1 ∷ []) (record { names = _; is = refl; plain = (refl, refl); unlisted = refl }) (λ vs. column vs 0 ∷ []) (λ m r. refl)
+
+pub read_category : ReadsWhether categories (codes "SELECT number FROM category WHERE number = ?1")
+unfolding understood everything
+read_category = reads_whether categories _ (col 1 1 ∷ []) (record { names = _; is = refl; plain = (refl, refl); unlisted = refl }) (λ vs. column vs 0 ∷ []) (λ m r. refl)
+
+pub read_city : ReadsWhether cities (codes "SELECT number FROM city WHERE number = ?1")
+unfolding understood everything
+read_city = reads_whether cities _ (col 1 1 ∷ []) (record { names = _; is = refl; plain = (refl, refl); unlisted = refl }) (λ vs. column vs 0 ∷ []) (λ m r. refl)
+
+pub read_actor : ReadsWhether actors (codes "SELECT number FROM actor WHERE number = ?1")
+unfolding understood everything
+read_actor = reads_whether actors _ (col 1 1 ∷ []) (record { names = _; is = refl; plain = (refl, refl); unlisted = refl }) (λ vs. column vs 0 ∷ []) (λ m r. refl)
+
+-- ---- a film
+
+abbrev select_film : List ℕ
+select_film = codes "SELECT withdrawn FROM film WHERE number = ?1"
+
+pub read_film : ReadsFirst films select_film withdrawn_of (λ row v. column row 0 ≡ flag_value v)
+unfolding understood everything
+read_film old new n rows slice h low =
+    reads_first films select_film (col 1 12 ∷ []) (record { names = _; is = refl; plain = (refl, refl); unlisted = refl }) (λ vs. column vs 11 ∷ []) (λ m r. refl) old new n rows h low
+    withdrawn_of (λ row v. column row 0 ≡ flag_value v) (λ books x v is. same_flag v x.withdrawn (sym is)) slice
+
+same_number : (m n : ℕ) → number_value m ≡ number_value n → n ≡ m
+same_number m n h = cc
+
+same_words : (s t : model.Text) → Text s ≡ Text t → t ≡ s
+same_words s t h = cc
+
+-- rate and period
+abbrev select_terms : List ℕ
+select_terms = codes "SELECT rate, period FROM film WHERE number = ?1"
+
+pub read_terms : ReadsFirst films select_terms terms_of (λ row v. (column row 0 ≡ number_value v.0) × (column row 1 ≡ number_value v.1))
+unfolding understood everything
+read_terms old new n rows slice h low =
+    reads_first films select_terms (col 1 7 ∷ col 1 6 ∷ []) (record { names = _; is = refl; plain = (refl, refl); unlisted = refl }) (λ vs. column vs 6 ∷ column vs 5 ∷ []) (λ m r. refl) old new n rows h low
+    terms_of (λ row v. (column row 0 ≡ number_value v.0) × (column row 1 ≡ number_value v.1)) (λ books x v is. let cents = same_number x.rate v.0 is.0 in let days = same_number x.period v.1 is.1 in (λ i. (cents i, days i))) slice
+
+abbrev select_title : List ℕ
+select_title = codes "SELECT title FROM film WHERE number = ?1"
+
+pub read_title : ReadsFirst films select_title title_of (λ row v. column row 0 ≡ Text v)
+unfolding understood everything
+read_title old new n rows slice h low =
+    reads_first films select_title (col 1 2 ∷ []) (record { names = _; is = refl; plain = (refl, refl); unlisted = refl }) (λ vs. column vs 1 ∷ []) (λ m r. refl) old new n rows h low
+    title_of (λ row v. column row 0 ≡ Text v) (λ books x v is. same_words x.title v is) slice
+
+-- ---- a member of staff
+
+abbrev select_staff : List ℕ
+select_staff = codes "SELECT branch, gone FROM staff WHERE number = ?1"
+
+pub read_staff : ReadsFirst staff select_staff post_of (λ row v. (column row 0 ≡ number_value v.0) × (column row 1 ≡ flag_value v.1))
+unfolding understood everything
+read_staff old new n rows slice h low =
+    reads_first staff select_staff (col 1 2 ∷ col 1 9 ∷ []) (record { names = _; is = refl; plain = (refl, refl); unlisted = refl }) (λ vs. column vs 1 ∷ column vs 8 ∷ []) (λ m r. refl) old new n rows h low
+    post_of (λ row v. (column row 0 ≡ number_value v.0) × (column row 1 ≡ flag_value v.1)) (λ books x v is. let place = same_number x.branch v.0 is.0 in let left = same_flag v.1 x.gone (sym is.1) in (λ i. (place i, left i))) slice
+
+-- ---- a branch
+
+abbrev select_manager : List ℕ
+select_manager = codes "SELECT manager FROM branch WHERE number = ?1"
+
+number_is_some : (n : ℕ) → number_value n ≡ Null → ⊥
+number_is_some n h = cc
+
+pub read_manager : ReadsFirst branches select_manager manager_of (λ row v. column row 0 ≡ or_null number_value v)
+unfolding understood everything
+read_manager old new n rows slice h low =
+    reads_first branches select_manager (col 1 7 ∷ []) (record { names = _; is = refl; plain = (refl, refl); unlisted = refl }) (λ vs. column vs 6 ∷ []) (λ m r. refl) old new n rows h low
+    manager_of (λ row v. column row 0 ≡ or_null number_value v) (λ books x v is. same_or_null number_value number_is_some (λ a b same. same_number b a (sym same)) v x.manager (sym is)) slice

@@ -1,0 +1,145 @@
+-- Whether a SELECT shows a row, as a call tells it.
+use Rattle.std.proofs.Common.{◌≡◌, ◌==◌, ◌+◌, ◌&&◌, ◌||◌, ℕ, suc, List, [], ◌∷◌, codes, map, filter, length, cond, not, Bool, true, false, Ok, Err, Result, refl, ap, ◌∙◌, arith}
+use Rattle.std.specs.Prelude.{IfOk}
+use Rattle.std.specs.List.{list_all, list_any}
+use Rattle.std.specs.Str.{bytes_eq}
+use Rattle.std.proofs.lemmas.Bool.Decides.{nat_tests}
+use Rattle.sqlite.specs.declared.types.Value.TheVariants.{Text}
+use Rattle.sqlite_value.specs.Order as sql
+use Rattle.sqlite_value.specs.Order.{column}
+use Rattle.sqlite_value.specs.declared.keys.Collation.TheVariants.{Binary}
+use Rattle.sqlite_trees.specs.Tree.{Trees}
+use Rattle.sqlite_sql.specs.Term.{Term, col, op2, holds}
+use Rattle.sqlite_sql.specs.Query.{Query, output}
+use Rattle.sqlite_sql.specs.declared.ops.BinaryOp.TheVariants.{Compare}
+use Rattle.sqlite_sql.specs.declared.ops.CompareOp.TheVariants.{Eq}
+use Rattle.sqlite_sql.specs.Ops.{binary, is_true}
+use Rattle.sqlite_tied.specs.Compute.{everything}
+use Rattle.sqlite.specs.Listing.{understood}
+use Rattle.sqlite.specs.State.{State, Shown}
+use Rattle.sql_rows.specs.Rows.{HasRows, columns_of, number_value}
+use Rattle.sql_rows.specs.declared.fault.StoreFault.{StoreFault}
+use Rattle.sql_rows.proofs.Queries.{Selects, plain_query}
+use Rattle.sql_rows.proofs.ColumnTests.{number_test, number_tested, text_test, text_tested, one_tested, two_tested}
+use Rattle.sql_rows.proofs.Projects.{projects_count, still_holds}
+use Rattle.shop_model.specs.Rows.{numbered, numbered_from}
+use Rattle.shop_model.specs.Values as model
+use Rattle.shop_model.specs.Values.{Cast, Branch}
+use Rattle.shop_model.specs.Books.{Books}
+use Rattle.shop_schema.specs.Tables.{shop_schema}
+use Rattle.shop_schema.specs.Columns.{cast_columns}
+use Rattle.shop_schema.specs.Counts.{counts_of}
+use Rattle.shop_schema.specs.Shop.{StandsFor, Reads}
+use Rattle.shop_schema.proofs.Different.{bytes_eq_turned}
+use Rattle.shop_schema.proofs.Listed.{own_rows}
+use Rattle.shop_store.proofs.ByNumber.{ByNumber, countries, languages, categories, branches}
+
+-- the call tells it
+pub told : (old new : State) (text : List ℕ) (params : sql.Row) {P : Books → Bool} (r : Result Bool StoreFault)
+    → IfOk r (λ shows. (rows : List sql.Row) × Shown text params old new rows × (shows ≡ not (length rows == 0)))
+    → ((rows : List sql.Row) → Shown text params old new rows → Reads old new (λ books. not (length rows == 0) ≡ P books)) → IfOk r (λ shows. Reads old new (λ books. shows ≡ P books))
+told old new text params (Err e) seen read = tt
+told old new text params (Ok shows) seen read = λ books holds held.
+    let found = read seen.0 seen.1 books holds held in
+    (found.0, seen.2 ∙ found.1)
+
+any_there : {X : Type 0} (p : X → Bool) (xs : List X) → not (length (filter p xs) == 0) ≡ list_any p xs
+any_there p [] = refl
+any_there {X} p (x ∷ xs) = go (p x) (any_there p xs)
+  where
+    go : (b : Bool) → not (length (filter p xs) == 0) ≡ list_any p xs → not (length (cond b (x ∷ filter p xs) (filter p xs)) == 0) ≡ (b || list_any p xs)
+    go true more = grind (arith, nat_tests)
+    go false more = more
+
+any_numbered : {A : Type 0} (q : A → Bool) (k : ℕ) (xs : List A) → list_any (λ (it : ℕ × A). q it.1) (numbered_from k xs) ≡ list_any q xs
+any_numbered q k [] = refl
+any_numbered q k (x ∷ xs) = ap (λ b. q x || b) (any_numbered q (k + 1) xs)
+
+-- `seen` is the filter, written over a row's columns; of a value's it is `p`
+module _ {X : Type 0} (text : List ℕ) (tree width : ℕ) (tests shown : List Term) (means : Selects shop_schema text (plain_query tree tests shown []))
+    (columns : Books → X → sql.Row) (items : Books → List X) (stood : (books : Books) (trees : Trees) → StandsFor trees books → HasRows width (trees tree) (map (columns books) (items books)))
+    (params : sql.Row) (seen : sql.Row → Bool) (show : sql.Row → sql.Row) (p : X → Bool) (tests_are : (books : Books) (x : X) → seen (columns books x) ≡ p x) where
+  abbrev asked : Query
+  asked = plain_query tree tests shown []
+
+  pub reads_any : ((r : sql.Row) → cond (list_all (holds (params ∷ r ∷ [])) tests) (output asked (params ∷ r ∷ []) ∷ []) [] ≡ cond (seen (columns_of width r)) (([], show (columns_of width r)) ∷ []) [])
+      → (old new : State) (rows : List sql.Row) → Shown text params old new rows → Reads old new (λ books. not (length rows == 0) ≡ list_any p (items books))
+  reads_any only old new rows h books holds held = (
+    still_holds shop_schema StandsFor text params old new means.plain rows h books holds,
+    ap (λ (n : ℕ). not (n == 0))
+        (projects_count shop_schema text tree width tests shown means params old new rows holds.schema_is h (columns books) (items books) (stood books old.now.trees holds.stands) (own_rows old.now.trees tree) seen show p (tests_are books) only)
+        ∙ any_there p (items books),
+  )
+
+-- ---- by a text
+
+module _ {A : Type 0} (t : ByNumber A) (text : List ℕ) (place : ℕ) where
+  abbrev pub of_text : List Term
+  of_text = op2 (Compare Eq Binary) (col 1 (suc place)) (col 0 0) ∷ []
+
+  abbrev with_text : Query
+  with_text = plain_query t.table.tree of_text (col 1 1 ∷ []) []
+
+  -- the premises are `refl` where the text and the table are known
+  pub reads_text : Selects shop_schema text with_text → (of : A → List ℕ) → ((books : Books) (it : ℕ × A) → column (t.columns books it) place ≡ Text (of it.1))
+      → ((name : List ℕ) (r : sql.Row) → cond (list_all (holds ((Text name ∷ []) ∷ r ∷ [])) of_text) (output with_text ((Text name ∷ []) ∷ r ∷ []) ∷ []) []
+      ≡ cond (text_test place name (columns_of (length t.table.columns) r) && true) (([], column (columns_of (length t.table.columns) r) 0 ∷ []) ∷ []) [])
+      → (old new : State) (name : List ℕ) (rows : List sql.Row) → Shown text (Text name ∷ []) old new rows → Reads old new (λ books. not (length rows == 0) ≡ list_any (λ x. bytes_eq (of x) name) (t.part.items books))
+  reads_text means of texts only old new name rows h books holds held =
+      let found =
+      reads_any text t.table.tree (length t.table.columns) of_text (col 1 1 ∷ []) means t.columns (λ them. numbered (t.part.items them)) (λ them trees s. t.stood (counts_of them) them trees s) (Text name ∷ [])
+      (λ vs. text_test place name vs && true) (λ vs. column vs 0 ∷ []) (λ it. bytes_eq (of it.1) name)
+      (λ them it. one_tested _ (ap (λ v. is_true (binary (Compare Eq Binary) v (Text name))) (texts them it) ∙ text_tested (of it.1) name)) (only name) old new rows h books holds held in
+      (found.0, found.1 ∙ any_numbered (λ x. bytes_eq (of x) name) 1 (t.part.items books))
+
+any_turned : (name : List ℕ) (names : List model.Text) → list_any (λ x. bytes_eq x name) names ≡ list_any (bytes_eq name) names
+any_turned name [] = refl
+any_turned name (x ∷ names) = λ i. bytes_eq_turned x name i || any_turned name names i
+
+-- the names of a table
+abbrev pub ReadsName : ByNumber model.Text → List ℕ → Type 1
+ReadsName t text =
+    (old new : State) (name : List ℕ) (rows : List sql.Row) → Shown text (Text name ∷ []) old new rows → Reads old new (λ books. not (length rows == 0) ≡ list_any (bytes_eq name) (t.part.items books))
+
+turned_name : (t : ByNumber model.Text) (old new : State) (name : List ℕ) (found : Bool)
+    → Reads old new (λ books. found ≡ list_any (λ x. bytes_eq x name) (t.part.items books)) → Reads old new (λ books. found ≡ list_any (bytes_eq name) (t.part.items books))
+turned_name t old new name found told books holds held = ((told books holds held).0, (told books holds held).1 ∙ any_turned name (t.part.items books))
+
+pub named_country : ReadsName countries (codes "SELECT number FROM country WHERE name = ?1")
+unfolding understood everything
+named_country old new name rows h =
+    turned_name countries old new name _ (reads_text countries _ 1 (record { names = _; is = refl; plain = (refl, refl); unlisted = refl }) (λ it. it) (λ books it. refl) (λ n r. refl) old new name rows h)
+
+pub named_language : ReadsName languages (codes "SELECT number FROM language WHERE name = ?1")
+unfolding understood everything
+named_language old new name rows h =
+    turned_name languages old new name _ (reads_text languages _ 1 (record { names = _; is = refl; plain = (refl, refl); unlisted = refl }) (λ it. it) (λ books it. refl) (λ n r. refl) old new name rows h)
+
+pub named_category : ReadsName categories (codes "SELECT number FROM category WHERE name = ?1")
+unfolding understood everything
+named_category old new name rows h =
+    turned_name categories old new name _ (reads_text categories _ 1 (record { names = _; is = refl; plain = (refl, refl); unlisted = refl }) (λ it. it) (λ books it. refl) (λ n r. refl) old new name rows h)
+
+abbrev pub select_token : List ℕ
+select_token = codes "SELECT number FROM branch WHERE token = ?1"
+
+pub token_taken : (old new : State) (token : List ℕ) (rows : List sql.Row) → Shown select_token (Text token ∷ []) old new rows
+    → Reads old new (λ books. not (length rows == 0) ≡ list_any (λ (it : Branch). bytes_eq it.token token) books.catalogue.branches)
+unfolding understood everything
+token_taken = reads_text branches select_token 1 (record { names = _; is = refl; plain = (refl, refl); unlisted = refl }) (λ it. it.token) (λ books it. refl) (λ n r. refl)
+
+-- ---- who is cast
+
+abbrev pub select_cast : List ℕ
+select_cast = codes "SELECT film FROM film_actor WHERE film = ?1 AND actor = ?2"
+
+abbrev of_cast : List Term
+of_cast = op2 (Compare Eq Binary) (col 1 1) (col 0 0) ∷ op2 (Compare Eq Binary) (col 1 2) (col 0 1) ∷ []
+
+pub read_cast : (old new : State) (film actor : ℕ) (rows : List sql.Row) → Shown select_cast (number_value film ∷ number_value actor ∷ []) old new rows
+    → Reads old new (λ books. not (length rows == 0) ≡ list_any (λ (it : Cast). it.film == film && it.actor == actor) books.catalogue.casts)
+unfolding understood everything
+read_cast old new film actor =
+    reads_any select_cast 16 2 of_cast (col 1 1 ∷ []) (record { names = _; is = refl; plain = (refl, refl); unlisted = refl }) (λ books. cast_columns) (λ books. books.catalogue.casts) (λ books trees s. s.casts)
+    (number_value film ∷ number_value actor ∷ []) (λ vs. number_test 0 film vs && (number_test 1 actor vs && true)) (λ vs. column vs 0 ∷ []) (λ it. it.film == film && it.actor == actor)
+    (λ books it. two_tested _ _ (number_tested it.film film) (number_tested it.actor actor)) (λ r. refl) old new

@@ -1,0 +1,51 @@
+-- What is found of shared rows, as the model has it.
+use Rattle.std.specs.Prelude.{◌≡◌, ◌≢◌, ℕ, Bool, List, [], ◌∷◌, Option, Some, None, slice_get}
+use Rattle.sqlite_value.specs.Order as sql
+use Rattle.sqlite_value.specs.Order.{column}
+use Rattle.sql_rows.specs.Rows.{number_value}
+use Rattle.shop_model.specs.Values.{Text, Film, Branch}
+use Rattle.shop_model.specs.Books.{Caller, Counter, Nobody}
+use Rattle.shop_types.specs.Seen.{seen_film}
+use Rattle.shop_schema.specs.Columns.{film_columns}
+use Rattle.shop_schema.specs.RowValues.{IsNumber, IsFilm}
+use Rattle.shop_store.specs.declared.reads.FilmTerms.{FilmTerms}
+use Rattle.shop_store.specs.declared.films.FilmRow.{FilmRow}
+
+-- the branch as a caller, or nobody
+abbrev pub branch_caller : Option ℕ → Caller
+branch_caller None = Nobody
+branch_caller (Some branch) = Counter branch
+
+abbrev pub withdrawn_of : Film → Bool
+withdrawn_of film = film.withdrawn
+
+-- the rate in cents, and the period in days
+abbrev pub seen_terms : FilmTerms → ℕ × ℕ
+seen_terms terms = (terms.rate, terms.period)
+
+abbrev pub terms_of : Film → ℕ × ℕ
+terms_of film = (film.rate, film.period)
+
+-- a film that was found, withdrawn or not
+abbrev pub seen_film_row : FilmRow → Film
+seen_film_row row = record (seen_film row.film) { withdrawn = row.withdrawn }
+
+-- the row is that of no film that the program can hold
+abbrev pub IsNoFilm : sql.Row → Type 0
+IsNoFilm row = (x : FilmRow) → IsNumber x.number × IsFilm (seen_film_row x) → film_columns (x.number, seen_film_row x) ≢ row
+
+abbrev pub title_of : Film → Text
+title_of film = film.title
+
+abbrev pub manager_of : Branch → Option ℕ
+manager_of branch = branch.manager
+
+-- the number in the first row of those that a query shows, or 0 where it shows none
+abbrev pub IsFirstNumber : List sql.Row → ℕ → Type 0
+IsFirstNumber [] n = n ≡ 0
+IsFirstNumber (row ∷ rows) n = column row 0 ≡ number_value n
+
+-- the value is that of the first row, if there is a row
+abbrev pub TellsFirst : {V : Type 0} → (sql.Row → V → Type 0) → List sql.Row → Option V → Type 0
+TellsFirst Fits rows None = None ≡ slice_get rows 0
+TellsFirst Fits rows (Some v) = (row : sql.Row) × (Some row ≡ slice_get rows 0) × Fits row v

@@ -1,4 +1,0 @@
-pub mod OverdueLemmas
-pub mod JoinLemmas
-pub mod RowTexts
-pub mod PageLemmas

@@ -1,7 +1,0 @@
-use Rattle.shop_views.specs.Sales.{seen_category}
-use Rattle.view_rows.proofs.CategoryOrder.{IsLater}
-use Rattle.view_rows.proofs.categories.place_among.Given as goal
-
--- the row stands behind those before this place
-abbrev pub invariant-loop-place : goal.invariant-loop-place
-invariant-loop-place l = IsLater (seen_category l.row) l.place l.rows
