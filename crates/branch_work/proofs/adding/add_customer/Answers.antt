@@ -1,4 +1,4 @@
-use Rattle.std.proofs.Common.{◌≡◌, ◌≤◌, ◌∙◌, ◌∷◌, [], ℕ, ap, arith, codes, decimal}
+use Rattle.std.proofs.Common.{◌≡◌, ◌≤◌, ◌∙◌, ◌∷◌, [], ℕ, ap, arith, codes, decimal, refl}
 use Rattle.sqlite.specs.Held.{state}
 use Rattle.sqlite.specs.State.{HasCleanDisk}
 use Rattle.shop_model.specs.Json.{object}
@@ -8,6 +8,7 @@ use Rattle.shop_schema.specs.Counts.{counts_of, raise}
 use Rattle.shop_ledger.specs.declared.counts.CountKind.TheVariants as kind
 use Rattle.shop_ledger.proofs.CountsOf.{beside, held_once, told_more}
 use Rattle.branch_work.proofs.Counting.{customer_added}
+use Rattle.sql_rows.proofs.Stays.{within_as, within_err, within_of, within_then}
 use Rattle.branch_work.proofs.adding.add_customer.Goals as goal
 
 pub returns-in-Ok-clause-added : goal.returns-in-Ok-clause-added
@@ -23,3 +24,30 @@ returns-in-Ok-clause-added g c = λ clean books holds held ready.
     let is : n ≡ next b books.customers = told_more b 0 1 books n low taken.1 in
     let put = c.in_ok-put_customer.ensures.put clean (raise b 0 1 (counts_of books)) books taken.0 tt in
     (customer_added s2 b books low n (seen_customer c.args.customer) is put, c.in-Ok.ensures ∙ ap (λ (m : ℕ). object ((codes "customer", decimal m) ∷ [])) is)
+
+pub returns-in_err-number-clause-inside : goal.returns-in_err-number-clause-inside
+returns-in_err-number-clause-inside g c =
+    let s0 = state g.S.Store c.args.tx.now.conn.now in
+    let s1 = state g.S.Store c.next_number.new.tx.conn.now in
+    within_err s0 s1 _ _ c.next_number.ensures.inside c.from_residual.ensures.0
+
+pub returns-in_err-put_customer-clause-inside : goal.returns-in_err-put_customer-clause-inside
+returns-in_err-put_customer-clause-inside g c =
+    let s0 = state g.S.Store c.args.tx.now.conn.now in
+    let s1 = state g.S.Store c.next_number.new.tx.conn.now in
+    let s2 = state g.S.Store c.put_customer.new.tx.conn.now in
+    within_err s0 s2 _ _ (within_then s0 s1 s2 _ _ refl c.in_ok-number.ensures.inside (within_of s1 s2 _ c.put_customer.ensures.inside)) c.from_residual-in_err-put_customer.ensures.0
+
+pub returns-in-Ok-clause-inside : goal.returns-in-Ok-clause-inside
+returns-in-Ok-clause-inside g c =
+    let s0 = state g.S.Store c.args.tx.now.conn.now in
+    let s1 = state g.S.Store c.next_number.new.tx.conn.now in
+    let s2 = state g.S.Store c.put_customer.new.tx.conn.now in
+    within_as s0 s2 _ _ (within_then s0 s1 s2 _ _ refl c.in_ok-number.ensures.inside (within_of s1 s2 _ c.in_ok-put_customer.ensures.inside)) (λ ok. refl)
+
+pub returns-clause-inside : goal.returns-clause-inside
+returns-clause-inside g c =
+    let s0 = state g.S.Store c.args.tx.now.conn.now in
+    let s1 = state g.S.Store c.next_number.new.tx.conn.now in
+    let s2 = state g.S.Store c.put_customer.new.tx.conn.now in
+    within_err s0 s2 _ _ (within_then s0 s1 s2 _ _ refl c.in_ok-number.ensures.inside (within_of s1 s2 _ c.in_ok-put_customer.ensures.inside)) refl

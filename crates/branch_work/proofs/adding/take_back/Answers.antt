@@ -1,9 +1,10 @@
-use Rattle.std.proofs.Common.{arith}
+use Rattle.std.proofs.Common.{arith, refl}
 use Rattle.sqlite.specs.Held.{state}
 use Rattle.sqlite.specs.State.{HasCleanDisk}
 use Rattle.shop_schema.specs.Counts.{counts_of, drop_out}
 use Rattle.shop_ledger.proofs.CountsOf.{agreed, beside}
 use Rattle.shop_ledger.proofs.Agreeing.{returned_counted, its_rentals, out_once}
+use Rattle.sql_rows.proofs.Stays.{within_as, within_err, within_of, within_then}
 use Rattle.branch_work.proofs.adding.take_back.Goals as goal
 
 pub returns-in-Ok-clause-added : goal.returns-in-Ok-clause-added
@@ -18,3 +19,30 @@ returns-in-Ok-clause-added g c = λ clean books holds held ready.
       agreed s2 _ (drop_out b c.args.copy c.args.rental (counts_of books)) (returned_counted b c.args.rental c.args.copy c.args.returned books (its_rentals b c.args.rental c.args.copy books.rentals ready)) dropped.0,
       c.in-Ok.ensures,
     )
+
+pub returns-in_err-set_returned-clause-inside : goal.returns-in_err-set_returned-clause-inside
+returns-in_err-set_returned-clause-inside g c =
+    let s0 = state g.S.Store c.args.tx.now.conn.now in
+    let s1 = state g.S.Store c.set_returned.new.tx.conn.now in
+    within_err s0 s1 _ _ (within_of s0 s1 _ c.set_returned.ensures.inside) c.from_residual.ensures.0
+
+pub returns-in_err-drop_out-clause-inside : goal.returns-in_err-drop_out-clause-inside
+returns-in_err-drop_out-clause-inside g c =
+    let s0 = state g.S.Store c.args.tx.now.conn.now in
+    let s1 = state g.S.Store c.set_returned.new.tx.conn.now in
+    let s2 = state g.S.Store c.drop_out.new.tx.conn.now in
+    within_err s0 s2 _ _ (within_then s0 s1 s2 _ _ refl (within_of s0 s1 _ c.in_ok-set_returned.ensures.inside) (within_of s1 s2 _ c.drop_out.ensures.inside)) c.from_residual-in_err-drop_out.ensures.0
+
+pub returns-in-Ok-clause-inside : goal.returns-in-Ok-clause-inside
+returns-in-Ok-clause-inside g c =
+    let s0 = state g.S.Store c.args.tx.now.conn.now in
+    let s1 = state g.S.Store c.set_returned.new.tx.conn.now in
+    let s2 = state g.S.Store c.drop_out.new.tx.conn.now in
+    within_as s0 s2 _ _ (within_then s0 s1 s2 _ _ refl (within_of s0 s1 _ c.in_ok-set_returned.ensures.inside) (within_of s1 s2 _ c.in_ok-drop_out.ensures.inside)) (λ ok. refl)
+
+pub returns-in-Err-clause-inside : goal.returns-in-Err-clause-inside
+returns-in-Err-clause-inside g c =
+    let s0 = state g.S.Store c.args.tx.now.conn.now in
+    let s1 = state g.S.Store c.set_returned.new.tx.conn.now in
+    let s2 = state g.S.Store c.drop_out.new.tx.conn.now in
+    within_err s0 s2 _ _ (within_then s0 s1 s2 _ _ refl (within_of s0 s1 _ c.in_ok-set_returned.ensures.inside) (within_of s1 s2 _ c.in_ok-drop_out.ensures.inside)) refl

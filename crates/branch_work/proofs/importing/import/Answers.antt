@@ -1,4 +1,4 @@
-use Rattle.std.proofs.Common.{◌≡◌, ◌≤◌, ◌∙◌, ◌++◌, ◌∷◌, [], List, ap, sym, subst, arith, length, map}
+use Rattle.std.proofs.Common.{◌≡◌, ◌≤◌, ◌∙◌, ◌++◌, ◌∷◌, [], List, ap, sym, subst, arith, length, map, refl}
 use Rattle.sqlite.specs.Held.{state}
 use Rattle.sqlite.specs.State.{HasCleanDisk}
 use Rattle.shop_model.specs.Rows.{Row, next}
@@ -12,6 +12,7 @@ use Rattle.branch_core.specs.Agreed.{films_of}
 use Rattle.branch_core.proofs.StockLemmas.{length_films}
 use Rattle.branch_work.specs.Added.{copies_from, import_text}
 use Rattle.branch_work.proofs.Counting.{import_added}
+use Rattle.sql_rows.proofs.Stays.{within_as, within_err, within_of, within_then}
 use Rattle.branch_work.proofs.importing.import.Goals as goal
 
 pub returns-in-Ok-new_copies_text-clause-added : goal.returns-in-Ok-new_copies_text-clause-added
@@ -39,3 +40,58 @@ returns-in-Ok-new_copies_text-clause-added g c = λ clean books holds held ready
           (subst (λ (rs : List (Row BookCopy)). HoldsWith counts s3 (record books { copies = books.copies ++ rs; lots = books.lots ++ record { owner = b; it = c.args.lot.now } ∷ [] })) rows lot),
       c.in-Ok-new_copies_text.ensures ∙ (λ i. import_text (all i) (is i)),
     )
+
+pub returns-in_err-take_numbers-clause-inside : goal.returns-in_err-take_numbers-clause-inside
+returns-in_err-take_numbers-clause-inside g c =
+    let s0 = state g.S.Store c.args.tx.now.conn.now in
+    let s1 = state g.S.Store c.take_numbers.new.tx.conn.now in
+    within_err s0 s1 _ _ (within_of s0 s1 _ c.take_numbers.ensures.inside) c.from_residual.ensures.0
+
+pub returns-in_err-last-clause-inside : goal.returns-in_err-last-clause-inside
+returns-in_err-last-clause-inside g c =
+    let s0 = state g.S.Store c.args.tx.now.conn.now in
+    let s1 = state g.S.Store c.take_numbers.new.tx.conn.now in
+    within_err s0 s1 _ _ (within_of s0 s1 _ c.in_ok-take_numbers.ensures.inside) c.from_residual-in_err-last.ensures.0
+
+pub returns-in_err-first-clause-inside : goal.returns-in_err-first-clause-inside
+returns-in_err-first-clause-inside g c =
+    let s0 = state g.S.Store c.args.tx.now.conn.now in
+    let s1 = state g.S.Store c.take_numbers.new.tx.conn.now in
+    within_err s0 s1 _ _ (within_of s0 s1 _ c.in_ok-take_numbers.ensures.inside) c.from_residual-in_err-first.ensures.0
+
+pub returns-in_default-clause-inside : goal.returns-in_default-clause-inside
+returns-in_default-clause-inside g c =
+    let s0 = state g.S.Store c.args.tx.now.conn.now in
+    let s1 = state g.S.Store c.take_numbers.new.tx.conn.now in
+    within_err s0 s1 _ _ (within_of s0 s1 _ c.in_ok-take_numbers.ensures.inside) refl
+
+pub returns-in_err-put_copies-clause-inside : goal.returns-in_err-put_copies-clause-inside
+returns-in_err-put_copies-clause-inside g c =
+    let s0 = state g.S.Store c.args.tx.now.conn.now in
+    let s1 = state g.S.Store c.take_numbers.new.tx.conn.now in
+    let s2 = state g.S.Store c.put_copies.new.tx.conn.now in
+    within_err s0 s2 _ _ (within_then s0 s1 s2 _ _ refl (within_of s0 s1 _ c.in_ok-take_numbers.ensures.inside) c.put_copies.ensures.inside) c.from_residual-in_err-put_copies.ensures.0
+
+pub returns-in_err-put_lot-clause-inside : goal.returns-in_err-put_lot-clause-inside
+returns-in_err-put_lot-clause-inside g c =
+    let s0 = state g.S.Store c.args.tx.now.conn.now in
+    let s1 = state g.S.Store c.take_numbers.new.tx.conn.now in
+    let s2 = state g.S.Store c.put_copies.new.tx.conn.now in
+    let s3 = state g.S.Store c.put_lot.new.tx.conn.now in
+    within_err s0 s3 _ _ (within_then s0 s2 s3 _ _ refl (within_then s0 s1 s2 _ _ refl (within_of s0 s1 _ c.in_ok-take_numbers.ensures.inside) c.in_ok-put_copies.ensures.inside) (within_of s2 s3 _ c.put_lot.ensures.inside)) c.from_residual-in_err-put_lot.ensures.0
+
+pub returns-in-Ok-new_copies_text-clause-inside : goal.returns-in-Ok-new_copies_text-clause-inside
+returns-in-Ok-new_copies_text-clause-inside g c =
+    let s0 = state g.S.Store c.args.tx.now.conn.now in
+    let s1 = state g.S.Store c.take_numbers.new.tx.conn.now in
+    let s2 = state g.S.Store c.put_copies.new.tx.conn.now in
+    let s3 = state g.S.Store c.put_lot.new.tx.conn.now in
+    within_as s0 s3 _ _ (within_then s0 s2 s3 _ _ refl (within_then s0 s1 s2 _ _ refl (within_of s0 s1 _ c.in_ok-take_numbers.ensures.inside) c.in_ok-put_copies.ensures.inside) (within_of s2 s3 _ c.in_ok-put_lot.ensures.inside)) (λ ok. refl)
+
+pub returns-clause-inside : goal.returns-clause-inside
+returns-clause-inside g c =
+    let s0 = state g.S.Store c.args.tx.now.conn.now in
+    let s1 = state g.S.Store c.take_numbers.new.tx.conn.now in
+    let s2 = state g.S.Store c.put_copies.new.tx.conn.now in
+    let s3 = state g.S.Store c.put_lot.new.tx.conn.now in
+    within_err s0 s3 _ _ (within_then s0 s2 s3 _ _ refl (within_then s0 s1 s2 _ _ refl (within_of s0 s1 _ c.in_ok-take_numbers.ensures.inside) c.in_ok-put_copies.ensures.inside) (within_of s2 s3 _ c.in_ok-put_lot.ensures.inside)) refl

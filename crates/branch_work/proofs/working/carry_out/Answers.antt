@@ -9,6 +9,7 @@ use Rattle.branch_core.specs.Decided.{IsDecided}
 use Rattle.branch_core.specs.declared.change.Change.{Change}
 use Rattle.branch_core.specs.declared.change.Change.TheVariants as change
 use Rattle.branch_work.specs.Rules.{rules_of}
+use Rattle.sql_rows.proofs.Stays.{within_as, within_err}
 use Rattle.branch_work.proofs.Doing.{again_done, accepted_done, refused_done}
 use Rattle.branch_work.proofs.working.carry_out.Goals as goal
 
@@ -46,3 +47,15 @@ returns-in_ok-refuse-in-Err-clause-works g c = λ clean books holds held there a
     let is : P (Err c.in-Err.refusal) = subst P c.in-Err.is (c.decide.ensures.decided rules books.catalogue shop refl refl agrees) in
     let refused = c.in_ok-refuse-in-Err.ensures (verdict rules b books.catalogue shop command) (seen_act c.args.command.now.act) is in
     refused_done c.args.limits b books command there refused.0 _ _ refused.1 refused.2 holds
+
+pub returns-in_err-reply-in-Ok-Rows-clause-inside : goal.returns-in_err-reply-in-Ok-Rows-clause-inside
+returns-in_err-reply-in-Ok-Rows-clause-inside g c =
+    let s0 = state g.S.Store c.args.tx.now.conn.now in
+    let s1 = state g.S.Store c.add.new.tx.conn.now in
+    within_err s0 s1 _ _ c.add.ensures.inside c.from_residual.ensures.0
+
+pub returns-in_ok-reply-in-Ok-Rows-clause-inside : goal.returns-in_ok-reply-in-Ok-Rows-clause-inside
+returns-in_ok-reply-in-Ok-Rows-clause-inside g c =
+    let s0 = state g.S.Store c.args.tx.now.conn.now in
+    let s1 = state g.S.Store c.add.new.tx.conn.now in
+    within_as s0 s1 _ _ c.in_ok-reply-in-Ok-Rows.ensures.inside (λ ok. refl)

@@ -6,6 +6,7 @@ use Rattle.shop_types.specs.declared.request.Request.TheVariants as request
 use Rattle.shop_types.specs.Seen.{seen_request}
 use Rattle.shop_types.specs.Replies.{seen_reply}
 use Rattle.branch_work.specs.Works.{IsDone}
+use Rattle.sql_rows.proofs.Stays.{inside_then, inside_as, inside_err}
 use Rattle.branch_work.proofs.Doing.{nobody_done, kept_done, is_there, isnt_there}
 use Rattle.branch_work.proofs.working.work.Goals as goal
 
@@ -52,3 +53,37 @@ returns-in-Office-clause-works g c = λ clean books holds held.
       | inl it ↦ subst P (sym it.1) (kept_done c.args.limits c.args.branch books (seen_request (request.Office it.0)) _ false _ there.0 refl c.refused-in-Office.ensures found.0)
       | inr it ↦ subst P (sym it.1) (kept_done c.args.limits c.args.branch books (seen_request (request.OfficeLook it.0)) _ false _ there.0 refl c.refused-in-Office.ensures found.0)
     ]
+
+pub returns-in_default-clause-inside : goal.returns-in_default-clause-inside
+returns-in_default-clause-inside g c =
+    let s0 = state g.S.Store c.args.tx.now.conn.now in
+    let s1 = state g.S.Store c.last_at.new.tx.conn.now in
+    inside_as s0 s1 _ _ c.in_ok-last.ensures.inside (λ ok. refl)
+
+pub returns-in_err-reply-in-Do-clause-inside : goal.returns-in_err-reply-in-Do-clause-inside
+returns-in_err-reply-in-Do-clause-inside g c =
+    let s0 = state g.S.Store c.args.tx.now.conn.now in
+    let s1 = state g.S.Store c.last_at.new.tx.conn.now in
+    let s2 = state g.S.Store c.act.new.tx.conn.now in
+    inside_err s0 s2 _ _ (inside_then s0 s1 s2 _ _ refl c.in_ok-last.ensures.inside c.act.ensures.inside) c.from_residual-in_err-reply-in-Do.ensures.0
+
+pub returns-in_ok-reply-in-Do-clause-inside : goal.returns-in_ok-reply-in-Do-clause-inside
+returns-in_ok-reply-in-Do-clause-inside g c =
+    let s0 = state g.S.Store c.args.tx.now.conn.now in
+    let s1 = state g.S.Store c.last_at.new.tx.conn.now in
+    let s2 = state g.S.Store c.act.new.tx.conn.now in
+    inside_as s0 s2 _ _ (inside_then s0 s1 s2 _ _ refl c.in_ok-last.ensures.inside c.in_ok-reply-in-Do.ensures.inside) (λ ok. refl)
+
+pub returns-in_err-look-in-Look-clause-inside : goal.returns-in_err-look-in-Look-clause-inside
+returns-in_err-look-in-Look-clause-inside g c =
+    let s0 = state g.S.Store c.args.tx.now.conn.now in
+    let s1 = state g.S.Store c.last_at.new.tx.conn.now in
+    let s2 = state g.S.Store c.look.new.tx.conn.now in
+    inside_err s0 s2 _ _ (inside_then s0 s1 s2 _ _ refl c.in_ok-last.ensures.inside c.look.ensures.inside) c.from_residual-in_err-look-in-Look.ensures.0
+
+pub returns-in_ok-look-in-Look-clause-inside : goal.returns-in_ok-look-in-Look-clause-inside
+returns-in_ok-look-in-Look-clause-inside g c =
+    let s0 = state g.S.Store c.args.tx.now.conn.now in
+    let s1 = state g.S.Store c.last_at.new.tx.conn.now in
+    let s2 = state g.S.Store c.look.new.tx.conn.now in
+    inside_as s0 s2 _ _ (inside_then s0 s1 s2 _ _ refl c.in_ok-last.ensures.inside c.in_ok-look-in-Look.ensures.inside) (λ ok. refl)
