@@ -33,7 +33,8 @@ use Rattle.shop_schema.proofs.Listed.{own_rows}
 use Rattle.shop_schema.proofs.Numbered.{picked}
 use Rattle.shop_store.proofs.ByNumber.{ByNumber, countries, languages, categories, cities, actors, films, staff, branches}
 use Rattle.shop_types.specs.Verdicts.{post_of}
-use Rattle.shop_store.specs.SharedSeen.{withdrawn_of, terms_of, title_of, manager_of, TellsFirst}
+use Rattle.shop_ledger.specs.Seen.{TellsFirst}
+use Rattle.shop_store.specs.SharedSeen.{withdrawn_of, terms_of, title_of, manager_of}
 
 abbrev pub of_number : List Term
 of_number = op2 (Compare Eq Binary) (col 1 1) (col 0 0) ∷ []

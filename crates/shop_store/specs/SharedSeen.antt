@@ -1,5 +1,5 @@
 -- What is found of shared rows, as the model has it.
-use Rattle.std.specs.Prelude.{◌≡◌, ◌≢◌, ℕ, Bool, List, [], ◌∷◌, Option, Some, None, slice_get}
+use Rattle.std.specs.Prelude.{◌≡◌, ◌≢◌, ℕ, Bool, List, [], ◌∷◌, Option, Some, None}
 use Rattle.sqlite_value.specs.Order as sql
 use Rattle.sqlite_value.specs.Order.{column}
 use Rattle.sql_rows.specs.Rows.{number_value}
@@ -44,8 +44,3 @@ manager_of branch = branch.manager
 abbrev pub IsFirstNumber : List sql.Row → ℕ → Type 0
 IsFirstNumber [] n = n ≡ 0
 IsFirstNumber (row ∷ rows) n = column row 0 ≡ number_value n
-
--- the value is that of the first row, if there is a row
-abbrev pub TellsFirst : {V : Type 0} → (sql.Row → V → Type 0) → List sql.Row → Option V → Type 0
-TellsFirst Fits rows None = None ≡ slice_get rows 0
-TellsFirst Fits rows (Some v) = (row : sql.Row) × (Some row ≡ slice_get rows 0) × Fits row v

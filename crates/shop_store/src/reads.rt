@@ -10,7 +10,8 @@ ghost use Rattle.shop_model.specs.Rows.{at};
 ghost use Rattle.shop_model.specs.Books.{head, branch_with};
 ghost use Rattle.shop_types.specs.Verdicts.{seen_post, post_of};
 ghost use Rattle.shop_schema.specs.Calls.{Finds};
-ghost use Rattle.shop_store.specs.SharedSeen.{branch_caller, withdrawn_of, seen_terms, terms_of, title_of, manager_of, TellsFirst};
+ghost use Rattle.shop_ledger.specs.Seen.{TellsFirst};
+ghost use Rattle.shop_store.specs.SharedSeen.{branch_caller, withdrawn_of, seen_terms, terms_of, title_of, manager_of};
 
 use crate::columns::{days_at, rate_at};
 use crate::rows::shows_row;
