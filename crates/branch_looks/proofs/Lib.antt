@@ -16,7 +16,7 @@ pub mod PaymentLines
 pub mod StoreQuery
 pub mod StoreJoin
 pub mod SalesLines
-pub mod Looks
+pub mod Unchanged
 pub mod SalesLists
 pub mod ActorQuery
 pub mod ByText

@@ -5,7 +5,7 @@ use Rattle.shop_model.specs.Answers.{shown_text}
 use Rattle.shop_model.specs.Views.{sells_more, sorted_by}
 use Rattle.branch_looks.specs.CategorySums.{sold}
 use Rattle.branch_looks.proofs.CategorySales.{all_sold}
-use Rattle.branch_looks.proofs.Looks.{holds_still, was_clean}
+use Rattle.branch_looks.proofs.Unchanged.{holds_still, was_clean}
 use Rattle.branch_looks.proofs.categories.sales_by_film_category.Goals as goal
 
 pub returns-clause-text : goal.returns-clause-text

@@ -1,7 +1,7 @@
 use Rattle.std.proofs.Common.{◌∙◌, sym, ap, option_map}
 use Rattle.sqlite.specs.Held.{state}
 use Rattle.reply_bodies.specs.Sales.{seen_store}
-use Rattle.branch_looks.proofs.Looks.{holds_still, was_clean}
+use Rattle.branch_looks.proofs.Unchanged.{holds_still, was_clean}
 use Rattle.branch_looks.proofs.SalesLists.{absent_added, is_there}
 use Rattle.view_texts.proofs.stores.add_branch.Goals as goal
 

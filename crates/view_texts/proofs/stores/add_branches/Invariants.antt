@@ -1,6 +1,6 @@
 use Rattle.std.proofs.Common.{[]}
 use Rattle.reply_bodies.specs.Page.{HasValues}
-use Rattle.branch_looks.proofs.Looks.{Looked}
+use Rattle.branch_looks.proofs.Unchanged.{Looked}
 use Rattle.branch_looks.proofs.SalesLists.{IsListed}
 use Rattle.view_texts.proofs.stores.add_branches.Given as goal
 
