@@ -1,7 +1,10 @@
-use Rattle.std.proofs.Common.{rules, ◌≡◌, inl, refl, sym, subst, arith, IsTrue}
+use Rattle.std.proofs.Common.{◌≡◌, ◌∙◌, inl, refl, sym, subst, arith, IsTrue}
 use Rattle.std.proofs.lemmas.Result.{IfOk-weaker}
 use Rattle.sqlite.specs.Held.{state}
-use Rattle.sqlite.specs.State.{HasCleanDisk, Survives}
+use Rattle.sqlite.specs.State.{State, HasCleanDisk, Survives}
+use Rattle.sqlite.proofs.StateLemmas.{survives_then}
+use Rattle.sqlite.proofs.Callers.{survives_begin}
+use Rattle.shop_values.specs.LimitValues.{Limits}
 use Rattle.shop_model.specs.Answers.{Answer}
 use Rattle.shop_model.specs.Books.{Books, Caller}
 use Rattle.shop_model.specs.Machine.{Request}
@@ -12,6 +15,10 @@ use Rattle.chain_store.specs.Steps.{IsMade, IsUndone, LeavesAfter, asker, asked_
 use Rattle.chain_store.proofs.Resting.{rests_back, either_of, made_commit, made_nothing, leaves_after, leaves_then, undone_after, shows_made, shows_nothing, of_any_error}
 use Rattle.chain_steps.proofs.steps.step.Goals as goal
 
+-- calls of which none commits anything
+leaves_nothing : (limits : Limits) (caller : Caller) (request : Request) (old mid end : State) → Survives old mid (λ _. ⊥) → Survives mid end (λ _. ⊥) → Survives old end (LeavesAfter limits caller request old)
+leaves_nothing limits caller request old mid end one two = survives_then old mid end _ _ (LeavesAfter limits caller request old) (λ _ db none. absurd none) (λ _ db none. absurd none) one two
+
 pub returns-in-Ok-clause-made : goal.returns-in-Ok-clause-made
 returns-in-Ok-clause-made g c clean =
     let old = c.args.conn.now in
@@ -20,7 +27,7 @@ returns-in-Ok-clause-made g c clean =
     let caller : Caller = asker c.args.asked.now in
     let request : Request = asked_of c.args.asked.now in
     let answer : Answer = seen_reply c.in-Ok-Done-default-true.reply in
-    let same : end ≡ c.conn-1.given.0 = search rules in
+    let same : end ≡ c.conn-1.given.0 = sym (c.conn-1.given.1 (sym (c.in-Ok-Done-default-true.ensures.same_reference ∙ c.transaction-tx.ensures.same_reference))) in
     let clean_end : HasCleanDisk (state g.S.Store end) = subst (λ h. HasCleanDisk (state g.S.Store h)) (sym same) clean in
     let clean_mid : HasCleanDisk (state g.S.Store mid) = omega (arith, clean_end, c.commit.ensures.survives.clean) in
     let inside = rw c.transaction-tx.ensures.begun at c.in-Ok-Done-default-true.ensures.inside in
@@ -36,7 +43,7 @@ returns-in-Ok-clause-crash g c =
     let caller : Caller = asker c.args.asked.now in
     let request : Request = asked_of c.args.asked.now in
     let answer : Answer = seen_reply c.in-Ok-Done-default-true.reply in
-    let same : end ≡ c.conn-1.given.0 = search rules in
+    let same : end ≡ c.conn-1.given.0 = sym (c.conn-1.given.1 (sym (c.in-Ok-Done-default-true.ensures.same_reference ∙ c.transaction-tx.ensures.same_reference))) in
     let inside = rw c.transaction-tx.ensures.begun at c.in-Ok-Done-default-true.ensures.inside in
     let works = rw c.in-Ok-Done-default-true.field-0-is at (rw c.transaction-tx.ensures.begun at c.in-Ok-Done-default-true.ensures.works) in
     subst (λ h. Survives (state g.S.Store old) (state g.S.Store h) (LeavesAfter c.args.limits caller request (state g.S.Store old))) same
@@ -50,7 +57,7 @@ returns-in-Ok-Done-default-false-clause-made g c clean =
     let caller : Caller = asker c.args.asked.now in
     let request : Request = asked_of c.args.asked.now in
     let answer : Answer = seen_reply c.in-Ok-Done-default-false.reply in
-    let same : end ≡ c.conn-in-Ok-Done-default-false-1.given.0 = search rules in
+    let same : end ≡ c.conn-in-Ok-Done-default-false-1.given.0 = sym (c.conn-in-Ok-Done-default-false-1.given.1 (sym (c.in-Ok-Done-default-false.ensures.same_reference ∙ c.transaction-tx.ensures.same_reference))) in
     let clean_end : HasCleanDisk (state g.S.Store end) = subst (λ h. HasCleanDisk (state g.S.Store h)) (sym same) clean in
     let clean_mid : HasCleanDisk (state g.S.Store mid) = omega (arith, clean_end, c.rollback.ensures.survives.clean) in
     let inside = rw c.transaction-tx.ensures.begun at c.in-Ok-Done-default-false.ensures.inside in
@@ -66,7 +73,7 @@ returns-in-Err-clause-undone g c clean =
     let end = c.rollback-in-Err.new.self.0 in
     let caller : Caller = asker c.args.asked.now in
     let request : Request = asked_of c.args.asked.now in
-    let same : end ≡ c.conn-in-Err-1.given.0 = search rules in
+    let same : end ≡ c.conn-in-Err-1.given.0 = sym (c.conn-in-Err-1.given.1 (sym (c.in-Err.ensures.same_reference ∙ c.transaction-tx.ensures.same_reference))) in
     let clean_end : HasCleanDisk (state g.S.Store end) = subst (λ h. HasCleanDisk (state g.S.Store h)) (sym same) clean in
     let clean_mid : HasCleanDisk (state g.S.Store mid) = omega (arith, clean_end, c.rollback-in-Err.ensures.survives.clean) in
     let inside = rw c.transaction-tx.ensures.begun at c.in-Err.ensures.inside in
@@ -82,7 +89,7 @@ returns-then-is_open-clause-crash g c =
     let caller : Caller = asker c.args.asked.now in
     let request : Request = asked_of c.args.asked.now in
     let answer : Answer = seen_reply c.in-Ok-Done-default-true.reply in
-    let same : fin ≡ c.conn-1.given.0 = search rules in
+    let same : fin ≡ c.conn-1.given.0 = sym (c.conn-1.given.1 (sym (c.in-Ok-Done-default-true.ensures.same_reference ∙ c.transaction-tx.ensures.same_reference))) in
     let inside = rw c.transaction-tx.ensures.begun at c.in-Ok-Done-default-true.ensures.inside in
     let works = rw c.in-Ok-Done-default-true.field-0-is at (rw c.transaction-tx.ensures.begun at c.in-Ok-Done-default-true.ensures.works) in
     let first = leaves_after g.S.Store old mid fin c.args.limits caller request answer c.in-Ok-Done-default-true.field-0-1 works (λ k. (inside.lives k refl).was_open) inside.survives c.commit.ensures.survives in
@@ -97,7 +104,7 @@ returns-else-is_open-clause-crash g c =
     let caller : Caller = asker c.args.asked.now in
     let request : Request = asked_of c.args.asked.now in
     let answer : Answer = seen_reply c.in-Ok-Done-default-true.reply in
-    let same : fin ≡ c.conn-1.given.0 = search rules in
+    let same : fin ≡ c.conn-1.given.0 = sym (c.conn-1.given.1 (sym (c.in-Ok-Done-default-true.ensures.same_reference ∙ c.transaction-tx.ensures.same_reference))) in
     let inside = rw c.transaction-tx.ensures.begun at c.in-Ok-Done-default-true.ensures.inside in
     let works = rw c.in-Ok-Done-default-true.field-0-is at (rw c.transaction-tx.ensures.begun at c.in-Ok-Done-default-true.ensures.works) in
     let first = leaves_after g.S.Store old mid fin c.args.limits caller request answer c.in-Ok-Done-default-true.field-0-1 works (λ k. (inside.lives k refl).was_open) inside.survives c.commit.ensures.survives in
@@ -110,7 +117,7 @@ returns-then-is_open-clause-undone g c clean =
     let mid = c.work_of.new.tx.conn.now in
     let fin = c.commit.new.self.0 in
     let end = c.is_open.new.conn in
-    let same : fin ≡ c.conn-1.given.0 = search rules in
+    let same : fin ≡ c.conn-1.given.0 = sym (c.conn-1.given.1 (sym (c.in-Ok-Done-default-true.ensures.same_reference ∙ c.transaction-tx.ensures.same_reference))) in
     let crash = subst (λ h. Survives (state g.S.Store h) (state g.S.Store end) (λ _. ⊥)) (sym same) c.is_open.ensures.crash in
     let clean_fin : HasCleanDisk (state g.S.Store fin) = omega (arith, clean, crash.clean) in
     let clean_mid : HasCleanDisk (state g.S.Store mid) = omega (arith, clean_fin, c.commit.ensures.survives.clean) in
@@ -129,7 +136,7 @@ returns-else-is_open-clause-undone g c clean =
     let caller : Caller = asker c.args.asked.now in
     let request : Request = asked_of c.args.asked.now in
     let answer : Answer = seen_reply c.in-Ok-Done-default-true.reply in
-    let same : fin ≡ c.conn-1.given.0 = search rules in
+    let same : fin ≡ c.conn-1.given.0 = sym (c.conn-1.given.1 (sym (c.in-Ok-Done-default-true.ensures.same_reference ∙ c.transaction-tx.ensures.same_reference))) in
     let inside = rw c.transaction-tx.ensures.begun at c.in-Ok-Done-default-true.ensures.inside in
     let works = rw c.in-Ok-Done-default-true.field-0-is at (rw c.transaction-tx.ensures.begun at c.in-Ok-Done-default-true.ensures.works) in
     let first = leaves_after g.S.Store old mid fin c.args.limits caller request answer c.in-Ok-Done-default-true.field-0-1 works (λ k. (inside.lives k refl).was_open) inside.survives c.commit.ensures.survives in
@@ -145,7 +152,7 @@ returns-in-Ok-Shows-clause-made g c clean =
     let end = c.show.new.conn in
     let caller : Caller = asker c.args.asked.now in
     let request : Request = asked_of c.args.asked.now in
-    let same : back ≡ c.conn-in-Ok-Shows-1.given.0 = search rules in
+    let same : back ≡ c.conn-in-Ok-Shows-1.given.0 = sym (c.conn-in-Ok-Shows-1.given.1 (sym (c.in-Ok-Shows.ensures.same_reference ∙ c.transaction-tx.ensures.same_reference))) in
     let crash = subst (λ h. Survives (state g.S.Store h) (state g.S.Store end) (λ _. ⊥)) (sym same) c.show.ensures.crash in
     let clean_back : HasCleanDisk (state g.S.Store back) = omega (arith, clean, crash.clean) in
     let clean_mid : HasCleanDisk (state g.S.Store mid) = omega (arith, clean_back, c.rollback-in-Ok-Shows.ensures.survives.clean) in
@@ -166,7 +173,7 @@ returns-in-Ok-Shows-clause-undone g c clean =
     let end = c.show.new.conn in
     let caller : Caller = asker c.args.asked.now in
     let request : Request = asked_of c.args.asked.now in
-    let same : back ≡ c.conn-in-Ok-Shows-1.given.0 = search rules in
+    let same : back ≡ c.conn-in-Ok-Shows-1.given.0 = sym (c.conn-in-Ok-Shows-1.given.1 (sym (c.in-Ok-Shows.ensures.same_reference ∙ c.transaction-tx.ensures.same_reference))) in
     let crash = subst (λ h. Survives (state g.S.Store h) (state g.S.Store end) (λ _. ⊥)) (sym same) c.show.ensures.crash in
     let clean_back : HasCleanDisk (state g.S.Store back) = omega (arith, clean, crash.clean) in
     let clean_mid : HasCleanDisk (state g.S.Store mid) = omega (arith, clean_back, c.rollback-in-Ok-Shows.ensures.survives.clean) in
@@ -176,3 +183,35 @@ returns-in-Ok-Shows-clause-undone g c clean =
     rests_back g.S.Store old mid back books inside.survives (inside.kept clean_mid refl) (c.rollback-in-Ok-Shows.ensures.undone clean_back) c.rollback-in-Ok-Shows.ensures.survives clean_back rests in
     let stays = subst (λ h. IsUndone (state g.S.Store h) (state g.S.Store end)) (sym same) (c.show.ensures.same clean) in
     of_any_error c.show.result _ (shows_nothing g.S.Store old mid back end c.args.limits caller request c.in-Ok-Shows.report works (λ k. (inside.lives k refl).was_open) returned stays)
+
+pub returns-in-Ok-Done-default-false-clause-crash : goal.returns-in-Ok-Done-default-false-clause-crash
+returns-in-Ok-Done-default-false-clause-crash g c =
+    let old = c.args.conn.now in
+    let mid = c.work_of.new.tx.conn.now in
+    let end = c.rollback.new.self.0 in
+    let same : end ≡ c.conn-in-Ok-Done-default-false-1.given.0 = sym (c.conn-in-Ok-Done-default-false-1.given.1 (sym (c.in-Ok-Done-default-false.ensures.same_reference ∙ c.transaction-tx.ensures.same_reference))) in
+    let inside = rw c.transaction-tx.ensures.begun at c.in-Ok-Done-default-false.ensures.inside in
+    subst (λ h. Survives (state g.S.Store old) (state g.S.Store h) (LeavesAfter c.args.limits (asker c.args.asked.now) (asked_of c.args.asked.now) (state g.S.Store old))) same
+    (leaves_nothing c.args.limits (asker c.args.asked.now) (asked_of c.args.asked.now) (state g.S.Store old) (state g.S.Store mid) (state g.S.Store end) (survives_begin g.S.Store old (state g.S.Store mid) _ inside.survives) c.rollback.ensures.survives)
+
+pub returns-in-Err-clause-crash : goal.returns-in-Err-clause-crash
+returns-in-Err-clause-crash g c =
+    let old = c.args.conn.now in
+    let mid = c.work_of.new.tx.conn.now in
+    let end = c.rollback-in-Err.new.self.0 in
+    let same : end ≡ c.conn-in-Err-1.given.0 = sym (c.conn-in-Err-1.given.1 (sym (c.in-Err.ensures.same_reference ∙ c.transaction-tx.ensures.same_reference))) in
+    let inside = rw c.transaction-tx.ensures.begun at c.in-Err.ensures.inside in
+    subst (λ h. Survives (state g.S.Store old) (state g.S.Store h) (LeavesAfter c.args.limits (asker c.args.asked.now) (asked_of c.args.asked.now) (state g.S.Store old))) same
+    (leaves_nothing c.args.limits (asker c.args.asked.now) (asked_of c.args.asked.now) (state g.S.Store old) (state g.S.Store mid) (state g.S.Store end) (survives_begin g.S.Store old (state g.S.Store mid) _ inside.survives) c.rollback-in-Err.ensures.survives)
+
+pub returns-in-Ok-Shows-clause-crash : goal.returns-in-Ok-Shows-clause-crash
+returns-in-Ok-Shows-clause-crash g c =
+    let old = c.args.conn.now in
+    let mid = c.work_of.new.tx.conn.now in
+    let back = c.rollback-in-Ok-Shows.new.self.0 in
+    let end = c.show.new.conn in
+    let same : back ≡ c.conn-in-Ok-Shows-1.given.0 = sym (c.conn-in-Ok-Shows-1.given.1 (sym (c.in-Ok-Shows.ensures.same_reference ∙ c.transaction-tx.ensures.same_reference))) in
+    let inside = rw c.transaction-tx.ensures.begun at c.in-Ok-Shows.ensures.inside in
+    leaves_then c.args.limits (asker c.args.asked.now) (asked_of c.args.asked.now) (state g.S.Store old) (state g.S.Store back) (state g.S.Store end)
+    (leaves_nothing c.args.limits (asker c.args.asked.now) (asked_of c.args.asked.now) (state g.S.Store old) (state g.S.Store mid) (state g.S.Store back) (survives_begin g.S.Store old (state g.S.Store mid) _ inside.survives) c.rollback-in-Ok-Shows.ensures.survives)
+    (subst (λ h. Survives (state g.S.Store h) (state g.S.Store end) (λ _. ⊥)) (sym same) c.show.ensures.crash)
