@@ -10,7 +10,7 @@ use Rattle.shop_model.specs.Values.{Copy, Customer, Rental, Rules}
 use Rattle.shop_model.specs.Values as model
 use Rattle.shop_model.specs.Shop.{Catalogue, Shop, same_flag}
 use Rattle.shop_model.specs.Stock.{is_here, keeps_out, in_stock}
-use Rattle.shop_model.specs.Refusals.{NoCustomer, NoCopy, CopyNotHere, CopyOut, FilmWithdrawn, SameMoment, RentalReturned, Already}
+use Rattle.shop_model.specs.Refusals.{NoCopy, CopyNotHere, CopyOut, FilmWithdrawn, SameMoment, RentalReturned}
 use Rattle.shop_model.specs.Verdict.{Verdict, Refused, Accepted, first, act_refusals, is_film_withdrawn}
 use Rattle.shop_model.specs.Books.{head}
 use Rattle.branch_core.specs.declared.found.CopyFound.{CopyFound}
@@ -62,11 +62,6 @@ seen found it catalogue shop x is copy = ap (option_map seen_copy) (sym is) ∙ 
 -- ---- whether a customer may rent
 
 module _ (rules : Rules) (b : ℕ) (catalogue : Catalogue) (shop : Shop) (moment : Moment) (c : ℕ) (active : Bool) where
-  pub active_none : None ≡ active_at c shop → Some (Refused NoCustomer) ≡ Some (first (act_refusals rules b catalogue shop moment (model.SetActive c active)))
-  active_none is = rw (found_none (λ (it : Customer). it.active) c shop.customers is) refl
-
-  pub active_already : (was : Bool) → Some was ≡ active_at c shop → same_flag was active ≡ true → Some (Refused Already) ≡ Some (first (act_refusals rules b catalogue shop moment (model.SetActive c active)))
-  active_already was is same = let one = found_some (λ (it : Customer). it.active) c shop.customers was is in rw (one.1, one.2, same) refl
 
   pub active_set : (was : Bool) → Some was ≡ active_at c shop → same_flag was active ≡ false → Some Accepted ≡ Some (first (act_refusals rules b catalogue shop moment (model.SetActive c active)))
   active_set was is same = let one = found_some (λ (it : Customer). it.active) c shop.customers was is in rw (one.1, one.2, same) refl

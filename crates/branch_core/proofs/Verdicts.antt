@@ -32,9 +32,6 @@ fresh rules b catalogue shop command kept none is =
     resent_new command (filter (λ (k : Kept). bytes_eq k.command.key command.key) shop.kept) (first (refusals rules b catalogue shop command))
     (ap (λ (it : Option KeptFound). option_map seen_kept it) (sym none) ∙ is)
 
-pub accepted : (verdict : Verdict) → Some Accepted ≡ Some verdict → verdict ≡ Accepted
-accepted verdict is = cc
-
 pub refused : (problem : named.Problem) (verdict : Verdict) (act : Act) → option_map Refused (decided problem) ≡ Some verdict → IsRefused verdict act problem
 refused (named.Decision refusal) verdict act is = cc
 refused problem verdict act is = absurd (let none = is in cc)

@@ -1,5 +1,5 @@
 -- Rows that are put among others, one after another.
-use Rattle.std.proofs.Common.{◌≡◌, ℕ, List, [], ◌∷◌, ◌++◌, map, take, drop, Option, Some, None, refl, sym, ap, ◌∙◌, append-nil}
+use Rattle.std.proofs.Common.{◌≡◌, ℕ, List, [], ◌∷◌, ◌++◌, map, take, drop, Option, Some, refl, sym, ap, ◌∙◌}
 use Rattle.std.specs.Option.{option_to_list}
 use Rattle.std.proofs.lemmas.List.{map-append}
 use Rattle.shop_model.specs.Values.{Text}
@@ -30,10 +30,6 @@ last_put xs name total done next is =
     ap (λ l. all_put l done) (flat_map_push (λ (it : Text × Option ℕ). map (λ n. (it.0, n)) (option_to_list it.1)) xs (name, Some total))
     ∙ put_behind (sold xs) ((name, total) ∷ []) done ∙ ap (all_put (sold xs)) (sym is)
 
-pub last_left : (xs : List (Text × Option ℕ)) (name : Text) (done : List (Text × ℕ)) → all_put (sold (xs ++ (name, None) ∷ [])) done ≡ all_put (sold xs) done
-last_left xs name done =
-    ap (λ l. all_put l done) (flat_map_push (λ (it : Text × Option ℕ). map (λ n. (it.0, n)) (option_to_list it.1)) xs (name, None) ∙ append-nil (sold xs))
-
 -- ---- the place of a row
 
 -- the row stands behind those before the place
@@ -51,8 +47,3 @@ module _ (start : List (Text × ℕ)) (sums rest : List CategorySum) (it : Categ
   popped_put rows next total some is so_far =
       so_far ∙ ap (λ l. all_put (sold l) (map seen_category rows)) (parts ∙ ap (λ o. map seen_sum rest ++ (it.name, o) ∷ []) some)
       ∙ last_put (map seen_sum rest) it.name total (map seen_category rows) (map seen_category next) is
-
-  pub popped_left : (rows : List CategoryRow) → it.sum ≡ None → start ≡ all_put (sold (map seen_sum sums)) (map seen_category rows) → start ≡ all_put (sold (map seen_sum rest)) (map seen_category rows)
-  popped_left rows none so_far =
-      so_far ∙ ap (λ l. all_put (sold l) (map seen_category rows)) (parts ∙ ap (λ o. map seen_sum rest ++ (it.name, o) ∷ []) none)
-      ∙ last_left (map seen_sum rest) it.name (map seen_category rows)

@@ -1,31 +1,37 @@
 -- Calls inside a transaction that were well, one after another.
-use Rattle.std.proofs.Common.{arith, refl, Ok}
+use Rattle.std.proofs.Common.{Ok}
+use Rattle.std.specs.Borrow.{MutBor}
 use Rattle.std.specs.Prelude.{⊤}
-use Rattle.sqlite.specs.State.{State, HasCleanDisk}
+use Rattle.sqlite_trees.specs.declared.store.Store.{Ghosts}
+use Rattle.sqlite.specs.Held.{Held, state}
+use Rattle.sqlite.specs.State.{HasCleanDisk}
 use Rattle.sql_rows.specs.Calls.{StaysInside, StaysWithin}
-use Rattle.sql_rows.proofs.Stays.{within_as, within_of, within_then}
+use Rattle.sql_rows.proofs.Stays.{clean_within, within_as, within_of, within_then}
 use Rattle.shop_model.specs.Books.{Books}
 use Rattle.shop_schema.specs.Shop.{Reads}
 use Rattle.branch_looks.proofs.Readings.{reads_then}
 
 -- what calls leave, and what they find of the books over a disk that did as it was told
-pub record Calls (a b : State) : Type 1 where
+pub record Calls {S : Type 0} (g : Ghosts S) (a b : MutBor (Held S)) : Type 1 where
   pub Says : Books → Type 0
-  pub inside : StaysWithin {X = ⊤} {E = ⊤} a b (Ok tt)
-  pub found : HasCleanDisk b → Reads a b Says
+  pub inside : StaysWithin {X = ⊤} {E = ⊤} g a b (Ok tt)
+  pub found : HasCleanDisk (state g b.now) → Reads (state g a.now) (state g b.now) Says
 
--- one call, which may come to none
-abbrev pub call_within : {X E : Type 0} {a b : State} {x : X} {P : Books → Type 0} → StaysWithin {X = X} {E = E} a b (Ok x) → (HasCleanDisk b → Reads a b P) → Calls a b
-call_within {a = a} {b = b} {x = x} {P = P} inside found = record { Says = P; inside = within_as a b (Ok x) (Ok tt) inside (λ ok. refl); found = found }
+module _ {S : Type 0} {g : Ghosts S} {a b : MutBor (Held S)} where
+  -- one call, which may come to none
+  abbrev pub call_within : {X E : Type 0} {x : X} {P : Books → Type 0} → StaysWithin {X = X} {E = E} g a b (Ok x)
+      → (HasCleanDisk (state g b.now) → Reads (state g a.now) (state g b.now) P) → Calls g a b
+  call_within {P = P} inside found = record { Says = P; inside = within_as inside; found = found }
 
--- one call that shows that the transaction was open
-abbrev pub call_inside : {X E : Type 0} {a b : State} {x : X} {P : Books → Type 0} → StaysInside {X = X} {E = E} a b (Ok x) → (HasCleanDisk b → Reads a b P) → Calls a b
-call_inside {a = a} {b = b} {x = x} inside found = call_within (within_of a b (Ok x) inside) found
+  -- one call that shows that the transaction was open
+  abbrev pub call_inside : {X E : Type 0} {x : X} {P : Books → Type 0} → StaysInside {X = X} {E = E} g a b (Ok x)
+      → (HasCleanDisk (state g b.now) → Reads (state g a.now) (state g b.now) P) → Calls g a b
+  call_inside inside found = call_within (within_of inside) found
 
--- calls, and then more from where they left the state
-abbrev pub calls_then : {a b c : State} → Calls a b → Calls b c → Calls a c
-calls_then {a = a} {b = b} {c = c} one two = record {
-  Says = λ books. one.Says books × two.Says books;
-  inside = within_then a b c (Ok tt) (Ok tt) refl one.inside two.inside;
-  found = λ clean. reads_then a b c one.Says two.Says (one.found (omega (arith, clean, two.inside.survives.clean))) (two.found clean);
-}
+  -- calls, and then more from where they left the state
+  abbrev pub calls_then : {c : MutBor (Held S)} → Calls g a b → Calls g b c → Calls g a c
+  calls_then {c = c} one two = record {
+    Says = λ books. one.Says books × two.Says books;
+    inside = within_then one.inside two.inside;
+    found = λ clean. reads_then (state g a.now) (state g b.now) (state g c.now) one.Says two.Says (one.found (clean_within two.inside clean)) (two.found clean);
+  }

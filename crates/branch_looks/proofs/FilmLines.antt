@@ -1,6 +1,5 @@
 -- A row of the films' join, read and taken.
 use Rattle.std.proofs.Common.{◌≡◌, ◌==◌, ℕ, true, false, cond, List, [], ◌∷◌, ◌++◌, map, Option, Some, None, option_map, refl, sym, ap, subst, ◌∙◌, arith}
-use Rattle.std.specs.Prelude.{option_to_list}
 use Rattle.std.proofs.lemmas.Bool.Decides.{nat_tests}
 use Rattle.std.proofs.lemmas.List.{map-append}
 use Rattle.serde_json.specs.Data.{Data}
@@ -12,17 +11,15 @@ use Rattle.sql_rows.specs.Rows.{number_value}
 use Rattle.sql_rows.proofs.ColumnTests.{same_or_null}
 use Rattle.shop_model.specs.Rows.{at}
 use Rattle.shop_model.specs.Values as model
-use Rattle.shop_model.specs.Values.{Actor}
 use Rattle.shop_model.specs.Shop.{Catalogue}
-use Rattle.shop_model.specs.Views.{FilmRow, full_name, category_name}
+use Rattle.shop_model.specs.Views.{FilmRow, category_name}
 use Rattle.shop_types.specs.Films.{rating_text}
 use Rattle.shop_types.specs.declared.film.Rating.{Rating}
 use Rattle.reply_bodies.specs.Names.{name_text}
 use Rattle.reply_bodies.specs.Films.{film_with, seen_film, film_data}
 use Rattle.reply_bodies.specs.Page.{Page, HasValues}
-use Rattle.reply_bodies.specs.declared.names.PersonName.{PersonName}
 use Rattle.reply_bodies.specs.declared.films.FilmRow as rows
-use Rattle.branch_looks.specs.Shown.{text_or_empty, IsNameIn, FilmLine, shown_film}
+use Rattle.branch_looks.specs.Shown.{text_or_empty, FilmLine, shown_film}
 use Rattle.branch_looks.specs.Films.{names_of, film_alone, FilmPart, whole, seen_part, Grouped, closed, take_line, runs}
 use Rattle.branch_looks.proofs.Numbers.{one_at}
 use Rattle.branch_looks.proofs.PageLines.{split_last}
@@ -70,23 +67,6 @@ film_is row number title description category rate minutes rating at0 at1 at2 at
 
 -- ---- the actor of a row
 
-pub actor_named : (row : sql.Row) (name : Option PersonName) → IsNameIn (column row 7) (column row 8) name → (catalogue : Catalogue) (line : FilmLine) → row ≡ shown_film catalogue line
-    → map name_text (option_to_list name) ≡ names_of line.1
-actor_named row name is catalogue line shown = go name is line.1 (ap (λ r. column r 7) shown) (ap (λ r. column r 8) shown)
-  where
-    go : (name : Option PersonName) → IsNameIn (column row 7) (column row 8) name → (o : Option (ℕ × Actor)) → column row 7 ≡ or_null (λ (it : ℕ × Actor). Text it.1.first) o
-        → column row 8 ≡ or_null (λ (it : ℕ × Actor). Text it.1.last) o → map name_text (option_to_list name) ≡ names_of o
-    go None none None first last = refl
-    go None none (Some it) first last = absurd (let both : Null ≡ Text it.1.first = sym none ∙ first in cc)
-    go (Some name) some None first last = absurd (let both : Text name.first ≡ Null = sym some.0 ∙ first in cc)
-    go (Some name) some (Some it) first last = (λ i. full_name (same_words _ _ (sym some.0 ∙ first) i) (same_words _ _ (sym some.1 ∙ last) i) ∷ [])
-
--- the film with one actor more, or none
-pub part_more : (film it : rows.FilmRow) (name : Option PersonName) (o : Option (ℕ × Actor)) → film_with [] it ≡ film_with [] film → it.actors.items ≡ film.actors.items ++ option_to_list name
-    → map name_text (option_to_list name) ≡ names_of o → seen_part it ≡ ((seen_part film).0, (seen_part film).1 ++ names_of o)
-part_more film it name o same items names =
-    (λ i. (same i, (ap (map name_text) items ∙ map-append name_text film.actors.items (option_to_list name) ∙ ap (λ l. map name_text film.actors.items ++ l) names) i))
-
 -- ---- the next film
 
 -- what a film under way comes to by a line, and what is on the page then
@@ -99,21 +79,6 @@ Takes catalogue old new held it line films =
 fresh_part : (catalogue : Catalogue) (line : FilmLine) (fresh it : rows.FilmRow) → film_with [] fresh ≡ film_alone catalogue line.0 → fresh.actors.items ≡ []
     → seen_part it ≡ ((seen_part fresh).0, (seen_part fresh).1 ++ names_of line.1) → seen_part it ≡ (film_alone catalogue line.0, names_of line.1)
 fresh_part catalogue line fresh it alone none seen = seen ∙ (λ i. (alone i, map name_text (none i) ++ names_of line.1))
-
-pub first_film : (catalogue : Catalogue) (page : Page) (line : FilmLine) (films : List FilmRow) (fresh it : rows.FilmRow) → film_with [] fresh ≡ film_alone catalogue line.0 → fresh.actors.items ≡ []
-    → seen_part it ≡ ((seen_part fresh).0, (seen_part fresh).1 ++ names_of line.1) → (held : Option rows.FilmRow) → held ≡ None → Takes catalogue page page held it line films
-first_film catalogue page line films fresh it alone none seen held is =
-    subst (λ (o : Option rows.FilmRow). Takes catalogue page page o it line films) (sym is) (λ on. (on, ap Some (fresh_part catalogue line fresh it alone none seen)))
-
--- a row of the film under way
-pub same_film : (catalogue : Catalogue) (page : Page) (line : FilmLine) (films : List FilmRow) (film it : rows.FilmRow) → line.0.0 ≡ film.number
-    → seen_part it ≡ ((seen_part film).0, (seen_part film).1 ++ names_of line.1) → (held : Option rows.FilmRow) → held ≡ Some film → Takes catalogue page page held it line films
-same_film catalogue page line films film it here seen held is =
-    let tested : (line.0.0 == film.number) ≡ true = grind (arith, nat_tests) in
-    let taken : take_line catalogue (films, Some (seen_part film)) line ≡ (films, Some ((seen_part film).0, (seen_part film).1 ++ names_of line.1)) =
-    ap (λ b. cond {A = Grouped} b (films, Some ((seen_part film).0, (seen_part film).1 ++ names_of line.1)) (films ++ whole (seen_part film) ∷ [], Some (film_alone catalogue line.0, names_of line.1))) tested in
-    subst (λ (o : Option rows.FilmRow). Takes catalogue page page o it line films) (sym is)
-    (λ on. (subst (λ (s : Grouped). HasValues page (map film_data s.0)) (sym taken) on, ap Some seen ∙ ap (λ (s : Grouped). s.1) (sym taken)))
 
 pushed_film : (films : List FilmRow) (film : rows.FilmRow) → map film_data films ++ film_data (seen_film film) ∷ [] ≡ map film_data (films ++ whole (seen_part film) ∷ [])
 pushed_film films film = ap (λ row. map film_data films ++ film_data row ∷ []) (whole_seen film) ∙ sym (map-append film_data films (whole (seen_part film) ∷ []))

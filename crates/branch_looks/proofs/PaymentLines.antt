@@ -8,7 +8,7 @@ use Rattle.sqlite_value.specs.Order as sql
 use Rattle.sqlite.specs.State.{State, Shown}
 use Rattle.sqlite_keyed.proofs.ListLemmas.{map-map, map-flat_map, flat_map-map, flat_map_same_on, filter-map, filter_same}
 use Rattle.sql_rows.specs.Rows.{number_value}
-use Rattle.shop_model.specs.Rows.{Row, at, is_of, is_row, of, total, is_empty, IsCounted}
+use Rattle.shop_model.specs.Rows.{Row, at, is_of, is_row, of, total, IsCounted}
 use Rattle.shop_model.specs.Values.{Film, Copy, Rental, Payment}
 use Rattle.shop_model.specs.Shop.{Catalogue, Shop}
 use Rattle.shop_model.specs.Books.{Books, BookCopy, head, unmarked, shop_of}
@@ -164,7 +164,3 @@ module _ (catalogue : Catalogue) (shop : Shop) where
   pub takings_are : (pairs : List (Payment × Rental)) → takings pairs ≡ total (λ (it : Sale). it.amount) (map (sale catalogue shop) pairs)
   takings_are [] = refl
   takings_are (it ∷ pairs) = ap (λ n. it.0.amount + n) (takings_are pairs)
-
-pub none_mapped : {A B : Type 0} (f : A → B) (xs : List A) → is_empty (map f xs) ≡ is_empty xs
-none_mapped f [] = refl
-none_mapped f (x ∷ xs) = refl

@@ -3,12 +3,11 @@ use Rattle.std.proofs.Common.{◌≡◌, ◌≢◌, ◌∙◌, refl, sym, ap, in
 use Rattle.std.specs.Prelude.{◌==◌, ◌&&◌, ◌*◌, nat_lt, sum_by, if◌then◌else◌}
 use Rattle.std.proofs.lemmas.Bool.{cases_Bool}
 use Rattle.std.proofs.lemmas.Bool.Decides.{nat_tests}
-use Rattle.std.proofs.lemmas.List.{map_more, length-map, length-append}
+use Rattle.std.proofs.lemmas.List.{map_more, length-append}
 use Rattle.std.proofs.lemmas.List.Sums.{sum_by-append, sum_by-cons}
 use Rattle.std.proofs.lemmas.Map.Lookups.{exact_unsigned}
 use Rattle.std.specs.BTreeMap.{BTreeMap, Updates, get, is_at}
 use Rattle.std.specs.Cmp.{nat_cmp_is}
-use Rattle.std.specs.Map.{lookup}
 use Rattle.std.specs.Option.{IfSome}
 use Rattle.std.specs.Ordering.{is_eq, nat_cmp}
 use Rattle.shop_model.specs.Rows.{numbered, numbered_from}
@@ -32,38 +31,6 @@ use Rattle.branch_looks.proofs.TermLemmas.{is_equal}
 
 pub taken : {A B : Type 0} (f : A → B) (rows : List A) (i : ℕ) (row : A) → i < length rows → row ≡ get_or rows i row → map f (take (i + 1) rows) ≡ map f (take i rows) ++ f row ∷ []
 taken {A = A} f rows i row lt is = map_more f rows i row lt ∙ ap (λ (r : A). map f (take i rows) ++ f r ∷ []) (sym is)
-
-pub kept_yes : {A B : Type 0} (p : B → Bool) (f : A → B) (rows : List A) (i : ℕ) (row : A) → i < length rows → row ≡ get_or rows i row → p (f row) ≡ true
-    → filter p (map f (take (i + 1) rows)) ≡ filter p (map f (take i rows)) ++ f row ∷ []
-kept_yes p f rows i row lt is passes = rw (taken f rows i row lt is, one_more p (map f (take i rows)) (f row), passes) refl
-
-pub kept_no : {A B : Type 0} (p : B → Bool) (f : A → B) (rows : List A) (i : ℕ) (row : A) → i < length rows → row ≡ get_or rows i row → p (f row) ≡ false
-    → filter p (map f (take (i + 1) rows)) ≡ filter p (map f (take i rows))
-kept_no p f rows i row lt is fails = rw (taken f rows i row lt is, one_more p (map f (take i rows)) (f row), fails) refl
-
-fewer : {A : Type 0} (p : A → Bool) (xs : List A) → length (filter p xs) ≤ length xs
-fewer p [] = omega arith
-fewer p (x ∷ xs) = let rest = fewer p xs in elim (cases_Bool (p x)) [
-  | inl is ↦ rw is (omega (arith, rest))
-  | inr isnt ↦ rw isnt (omega (arith, rest))
-]
-
--- what is made of rows that are filtered is no longer than what the rows are seen as
-pub fewer_made : {A B C : Type 0} (p : B → Bool) (f : A → B) (g : B → C) (rows : List A) (made : List C) → made ≡ map g (filter p (map f rows)) → length made ≤ length rows
-fewer_made p f g rows made is =
-    let long = ap length is in
-    let same = length-map (filter p (map f rows)) g in
-    let less = fewer p (map f rows) in
-    let all = length-map rows f in
-    omega (arith, long, same, less, all)
-
-pub fewer_seen : {A B C : Type 0} (p : B → Bool) (f : A → B) (h : C → B) (rows : List A) (kept : List C) → map h kept ≡ filter p (map f rows) → length kept ≤ length rows
-fewer_seen p f h rows kept is =
-    let long = ap length is in
-    let same = length-map kept h in
-    let less = fewer p (map f rows) in
-    let all = length-map rows f in
-    omega (arith, long, same, less, all)
 
 -- ---- one customer more
 
@@ -225,22 +192,11 @@ sums_more month old new payments it are on updates = λ c.
           ap sum_or_none (updates.2 c differ) ∙ are c ∙ ap summed (sym (ap (filter (is_on month)) (more_no paid_of (λ (p : Payment). p.customer == c) payments it other)))
     ]
 
--- where nothing is summed there is no payment
-pub none_summed : (month : ℤ × ℤ) (sums : BTreeMap ℕ PaidSum) → sums.entries ≡ [] → AreSummed month sums []
-none_summed month sums none = λ c. subst (λ (entries : List (ℕ × PaidSum)). sum_or_none (lookup (is_at (nat_cmp c)) entries) ≡ record { purchases = 0; cents = 0 }) (sym none) refl
-
 -- ---- their bounds
-
-pub none_large : (sums : BTreeMap ℕ PaidSum) → sums.entries ≡ [] → AreSmall 0 sums
-none_large sums none = λ c.
-    subst (λ (entries : List (ℕ × PaidSum)). IfSome (lookup (is_at (nat_cmp c)) entries) (λ sum. (sum.purchases ≤ 0) × (sum.cents ≤ 99999 * 0))) (sym none) tt
 
 weaker : (n m : ℕ) (sum : Option PaidSum) → n ≤ m → IfSome sum (λ it. (it.purchases ≤ n) × (it.cents ≤ 99999 * n)) → IfSome sum (λ it. (it.purchases ≤ m) × (it.cents ≤ 99999 * m))
 weaker n m None le small = tt
 weaker n m (Some sum) le small = let few = small.0 in let low = small.1 in (omega (arith, few, le), omega (arith, low, le))
-
-pub small_below : (n m : ℕ) (sums : BTreeMap ℕ PaidSum) → n ≤ m → AreSmall n sums → AreSmall m sums
-small_below n m sums le small = λ c. weaker n m (get nat_cmp sums c) le (small c)
 
 small_added : (n amount : ℕ) (sum : Option PaidSum) → amount ≤ 99999 → IfSome sum (λ it. (it.purchases ≤ n) × (it.cents ≤ 99999 * n))
     → ((one_paid amount sum).purchases ≤ n + 1) × ((one_paid amount sum).cents ≤ 99999 * (n + 1))

@@ -64,9 +64,6 @@ pub store_added : (books : Books) (b total : ℕ) (row : StoreRow) (page : Page)
     → Some total ≡ rental_sum (shop_of b books) → HasValues page (values ++ store_data (record row { total = total }) ∷ []) → HasValues page (values ++ map store_data (sales_of_branch books b))
 store_added books b total row page values there sum = subst (HasValues page) (ap (λ l. values ++ map store_data l) (sym (one_sale books b total row there sum)))
 
-pub is_absent : (books : Books) (b : ℕ) → None ≡ head (map (store_with books.catalogue 0) (at b books.catalogue.branches)) → false ≡ not (lacks books.catalogue.branches b)
-is_absent books b none = ap (λ (l : List Branch). not (is_empty l)) (sym (found_none (store_with books.catalogue 0) b books.catalogue.branches none))
-
 pub is_there : (books : Books) (b : ℕ) (row : StoreRow) → Some row ≡ head (map (store_with books.catalogue 0) (at b books.catalogue.branches)) → true ≡ not (lacks books.catalogue.branches b)
 is_there books b row there = ap (λ (l : List Branch). not (is_empty l)) (sym (found_some (store_with books.catalogue 0) b books.catalogue.branches row there).1)
 
@@ -79,9 +76,6 @@ pub record IsListed (page : Page) (number : ℕ) (books : Books) : Type 0 where
   pub all : books.catalogue.branches ≡ before ++ after
   pub next : number ≡ 1 + length before
   pub has : HasValues page (map store_data (sales_of_first books before))
-
-pub listed_first : (page : Page) (books : Books) → HasValues page [] → IsListed page 1 books
-listed_first page books none = record { before = []; after = books.catalogue.branches; all = refl; next = refl; has = none }
 
 at_behind : {A : Type 0} (before after : List A) → at (1 + length before) (before ++ after) ≡ at 1 after
 at_behind [] after = refl

@@ -1,13 +1,12 @@
 -- Calls in a row that look and change nothing.
-use Rattle.std.proofs.Common.{◌≡◌, false, refl, sym, subst, arith, IsTrue}
+use Rattle.std.proofs.Common.{◌≡◌, false, sym, subst, arith, IsTrue}
 use Rattle.sqlite_trees.specs.declared.store.Store.{Ghosts}
 use Rattle.sqlite.specs.Effect.{Database}
 use Rattle.sqlite.specs.Held.{Held, state}
 use Rattle.sqlite.specs.State.{State, HasCleanDisk, IsUnchanged, KeepsCommit, Survives}
-use Rattle.sqlite.proofs.StateLemmas.{unchanged}
 use Rattle.sqlite.proofs.Callers.{unchanged_then}
 use Rattle.sql_rows.specs.Rows.{AreKeyed}
-use Rattle.sql_rows.proofs.Inside.{keeps_then, survives_nothing}
+use Rattle.sql_rows.proofs.Inside.{keeps_then}
 use Rattle.sql_rows.proofs.Stays.{survives_more}
 use Rattle.shop_model.specs.Books.{Books}
 use Rattle.shop_schema.specs.Tables.{shop_schema}
@@ -37,15 +36,6 @@ pub record Looked {S : Type 0} (g : Ghosts S) (old now : Held S) (Known : Books 
   pub known : HasCleanDisk (state g now) → (books : Books) → Holds (state g old) books → IsHeld books → Known books
 
 module _ {S : Type 0} (g : Ghosts S) where
-  pub looked_none : (old : Held S) (Known : Books → Type 0) → ((books : Books) → Known books) → Looked g old old Known
-  looked_none old Known is = record {
-    survives = survives_nothing (state g old);
-    mode = λ m. m;
-    kept = λ clean. record { was_open = λ now. now; committed = λ _. refl };
-    same = λ clean live. unchanged (state g old) live;
-    known = λ clean books holds held. is books;
-  }
-
   module _ (old mid new : Held S) (Known : Books → Type 0) (so_far : Looked g old mid Known) (survives : Survives (state g mid) (state g new) (λ _. ⊥)) where
     pub survives_next : Survives (state g old) (state g new) (λ _. ⊥)
     survives_next = survives_more (state g old) (state g mid) (state g new) so_far.survives survives

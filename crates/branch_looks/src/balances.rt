@@ -29,8 +29,7 @@ pub fn find_terms<S: Alter>(
     branch: BranchNo,
     customer: CustomerNo,
 ) -> Result<Vec<RentalTerms>, StoreFault>
-    ensures same_reference { tx.new.conn.ghost_name ≡ tx.old.conn.ghost_name }
-    ensures inside { StaysWithin (state S.Store tx.old.conn.now) (state S.Store tx.new.conn.now) result }
+    ensures inside { StaysWithin S.Store tx.old.conn tx.new.conn result }
     ensures found { Finds (state S.Store tx.old.conn.now) (state S.Store tx.new.conn.now) result
         (λ terms books. AreTermsOf books.catalogue (shop_of branch books) customer terms.items) }
 {
@@ -45,8 +44,7 @@ fn with_terms<S: Alter>(
     branch: BranchNo,
     rows: &[RentalRow],
 ) -> Result<Vec<RentalTerms>, StoreFault>
-    ensures same_reference { tx.new.conn.ghost_name ≡ tx.old.conn.ghost_name }
-    ensures inside { StaysWithin (state S.Store tx.old.conn.now) (state S.Store tx.new.conn.now) result }
+    ensures inside { StaysWithin S.Store tx.old.conn tx.new.conn result }
     ensures found { Finds (state S.Store tx.old.conn.now) (state S.Store tx.new.conn.now) result
         (λ terms books. terms.items ≡ flat_map (terms_of books.catalogue (shop_of branch books)) (map (λ row. seen_rental row.rental) rows.now)) }
 {
@@ -78,8 +76,7 @@ fn terms_once<S: Alter>(
     known: &mut BTreeMap<u32, FilmTerms>,
     film: FilmNo,
 ) -> Result<Option<FilmTerms>, StoreFault>
-    ensures same_reference { tx.new.conn.ghost_name ≡ tx.old.conn.ghost_name }
-    ensures inside { StaysWithin (state S.Store tx.old.conn.now) (state S.Store tx.new.conn.now) result }
+    ensures inside { StaysWithin S.Store tx.old.conn tx.new.conn result }
     ensures found { Finds (state S.Store tx.old.conn.now) (state S.Store tx.new.conn.now) result
         (λ terms books. AreKnown known.old books.catalogue → (option_map seen_terms terms ≡ head (map price (at film books.catalogue.films)))
         × AreKnown known.new books.catalogue) }
@@ -108,8 +105,7 @@ fn terms_at<S: Alter>(
     branch: BranchNo,
     rental: Rental,
 ) -> Result<Option<RentalTerms>, StoreFault>
-    ensures same_reference { tx.new.conn.ghost_name ≡ tx.old.conn.ghost_name }
-    ensures inside { StaysWithin (state S.Store tx.old.conn.now) (state S.Store tx.new.conn.now) result }
+    ensures inside { StaysWithin S.Store tx.old.conn tx.new.conn result }
     ensures found { Finds (state S.Store tx.old.conn.now) (state S.Store tx.new.conn.now) result
         (λ terms books. AreKnown known.old books.catalogue
         → (option_to_list terms ≡ terms_of books.catalogue (shop_of branch books) (seen_rental rental)) × AreKnown known.new books.catalogue) }
@@ -135,8 +131,7 @@ pub fn find_paid<S: Alter>(
     branch: BranchNo,
     customer: CustomerNo,
 ) -> Result<Vec<Paid>, StoreFault>
-    ensures same_reference { tx.new.conn.ghost_name ≡ tx.old.conn.ghost_name }
-    ensures inside { StaysWithin (state S.Store tx.old.conn.now) (state S.Store tx.new.conn.now) result }
+    ensures inside { StaysWithin S.Store tx.old.conn tx.new.conn result }
     ensures found { Finds (state S.Store tx.old.conn.now) (state S.Store tx.new.conn.now) result
         (λ paid books. ArePaidBy (shop_of branch books) customer paid.items) }
 {

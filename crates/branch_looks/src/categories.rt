@@ -1,10 +1,11 @@
 //! What a branch has taken for rentals of each category's films.
 
-ghost use Rattle.std.specs.Prelude.{◌≡◌, ◌≤◌, length, ℕ, ◌+◌, List, [], ◌∷◌, ◌++◌, false, Option, IfSome, IfOk, OnOk, map, string_bytes};
+ghost use Rattle.std.specs.Prelude.{◌≡◌, ◌≤◌, length, ◌+◌, List, [], ◌∷◌, ◌++◌, Option, IfSome, IfOk, OnOk, map, string_bytes};
 ghost use Rattle.std.specs.List.{insert};
 ghost use Rattle.serde_json.specs.Data.{Data};
 ghost use Rattle.sqlite.specs.Held.{state};
-ghost use Rattle.sqlite.specs.State.{HasCleanDisk, IsUnchanged, KeepsCommit, Survives};
+ghost use Rattle.sqlite.specs.State.{HasCleanDisk};
+ghost use Rattle.sql_rows.specs.Calls.{StaysSame};
 ghost use Rattle.shop_model.specs.Rows.{set_at};
 ghost use Rattle.shop_model.specs.Values.{Text};
 ghost use Rattle.shop_model.specs.Books.{Books, shop_of};
@@ -72,10 +73,7 @@ fn categories<S: Alter>(
 ) -> Result<Vec<CategorySum>, StoreFault>
     ensures sums { HasCleanDisk (state S.Store conn.new) → IfOk result (λ sums. (books : Books) → Holds (state S.Store conn.old) books
         → map seen_sum sums.items ≡ summed books.catalogue.categories []) }
-    ensures same { HasCleanDisk (state S.Store conn.new) → OnOk result (IsUnchanged (state S.Store conn.old) (state S.Store conn.new)) }
-    ensures kept { HasCleanDisk (state S.Store conn.new) → KeepsCommit (state S.Store conn.old) (state S.Store conn.new) }
-    ensures mode { conn.old.in_transaction ≡ false → conn.new.in_transaction ≡ false }
-    ensures survives { Survives (state S.Store conn.old) (state S.Store conn.new) (λ _. ⊥) }
+    ensures same { StaysSame S.Store conn.old conn.new result }
 {
     let mut taker = CategoryNames {
         sums: Vec::new(alloc),
@@ -144,10 +142,7 @@ fn with_sales<S: Alter>(
 ) -> Result<Vec<CategorySum>, StoreFault>
     ensures sums { HasCleanDisk (state S.Store conn.new) → IfOk result (λ new. (books : Books) → Holds (state S.Store conn.old) books → IsHeld books
         → (names : List Text) → map seen_sum sums.items ≡ summed names [] → map seen_sum new.items ≡ summed names (sales_of_branch branch books)) }
-    ensures same { HasCleanDisk (state S.Store conn.new) → OnOk result (IsUnchanged (state S.Store conn.old) (state S.Store conn.new)) }
-    ensures kept { HasCleanDisk (state S.Store conn.new) → KeepsCommit (state S.Store conn.old) (state S.Store conn.new) }
-    ensures mode { conn.old.in_transaction ≡ false → conn.new.in_transaction ≡ false }
-    ensures survives { Survives (state S.Store conn.old) (state S.Store conn.new) (λ _. ⊥) }
+    ensures same { StaysSame S.Store conn.old conn.new result }
 {
     let mut taker = CategorySums { sums };
     each_row(
@@ -244,10 +239,7 @@ pub fn sales_by_film_category<S: Alter>(
 ) -> Result<String, StoreFault>
     ensures text { HasCleanDisk (state S.Store conn.new) → IfOk result (λ s. (books : Books) → Holds (state S.Store conn.old) books → IsHeld books
         → string_bytes s ≡ shown_text (CategoriesListed (sales_by_category books.catalogue (shop_of branch books)))) }
-    ensures same { HasCleanDisk (state S.Store conn.new) → OnOk result (IsUnchanged (state S.Store conn.old) (state S.Store conn.new)) }
-    ensures kept { HasCleanDisk (state S.Store conn.new) → KeepsCommit (state S.Store conn.old) (state S.Store conn.new) }
-    ensures mode { conn.old.in_transaction ≡ false → conn.new.in_transaction ≡ false }
-    ensures survives { Survives (state S.Store conn.old) (state S.Store conn.new) (λ _. ⊥) }
+    ensures same { StaysSame S.Store conn.old conn.new result }
 {
     let sums = categories(conn, alloc)?;
     let sums = with_sales(conn, branch, sums)?;

@@ -91,8 +91,7 @@ pub fn find_for_command<'a, S: Alter>(
     last: Option<Moment>,
     kept: Option<KeptFound<'a>>,
 ) -> Result<Found<'a>, StoreFault>
-    ensures same_reference { tx.new.conn.ghost_name ≡ tx.old.conn.ghost_name }
-    ensures inside { StaysWithin (state S.Store tx.old.conn.now) (state S.Store tx.new.conn.now) result }
+    ensures inside { StaysWithin S.Store tx.old.conn tx.new.conn result }
     ensures found { Finds (state S.Store tx.old.conn.now) (state S.Store tx.new.conn.now) result
         (λ found books. (rules : Rules)
         → rules.stock_of ≡ stock_of → IsKeptFor branch (seen_command command.now) kept.entry books → last ≡ head (owned_by branch books.lasts)
@@ -142,8 +141,7 @@ fn find_city<S: Alter>(
     tx: &mut Transaction<'_, S>,
     city: Option<CityNo>,
 ) -> Result<bool, StoreFault>
-    ensures same_reference { tx.new.conn.ghost_name ≡ tx.old.conn.ghost_name }
-    ensures inside { StaysWithin (state S.Store tx.old.conn.now) (state S.Store tx.new.conn.now) result }
+    ensures inside { StaysWithin S.Store tx.old.conn tx.new.conn result }
     ensures found { Finds (state S.Store tx.old.conn.now) (state S.Store tx.new.conn.now) result
         (λ has books. IfSome city (λ n. has ≡ not (lacks books.catalogue.cities n))) }
 {
@@ -159,8 +157,7 @@ fn find_customer<S: Alter>(
     branch: BranchNo,
     customer: Option<CustomerNo>,
 ) -> Result<Option<bool>, StoreFault>
-    ensures same_reference { tx.new.conn.ghost_name ≡ tx.old.conn.ghost_name }
-    ensures inside { StaysWithin (state S.Store tx.old.conn.now) (state S.Store tx.new.conn.now) result }
+    ensures inside { StaysWithin S.Store tx.old.conn tx.new.conn result }
     ensures found { Finds (state S.Store tx.old.conn.now) (state S.Store tx.new.conn.now) result
         (λ found books. IfSome customer (λ c. found ≡ active_at c (shop_of branch books))) }
 {
@@ -178,8 +175,7 @@ fn find_same<S: Alter>(
     customer: Option<CustomerNo>,
     copy: Option<CopyNo>,
 ) -> Result<bool, StoreFault>
-    ensures same_reference { tx.new.conn.ghost_name ≡ tx.old.conn.ghost_name }
-    ensures inside { StaysWithin (state S.Store tx.old.conn.now) (state S.Store tx.new.conn.now) result }
+    ensures inside { StaysWithin S.Store tx.old.conn tx.new.conn result }
     ensures found { Finds (state S.Store tx.old.conn.now) (state S.Store tx.new.conn.now) result
         (λ has books. has ≡ has_same at customer copy (shop_of branch books)) }
 {
@@ -204,8 +200,7 @@ fn find_import<S: Alter>(
     branch: BranchNo,
     act: &Act,
 ) -> Result<ImportFound, StoreFault>
-    ensures same_reference { tx.new.conn.ghost_name ≡ tx.old.conn.ghost_name }
-    ensures inside { StaysWithin (state S.Store tx.old.conn.now) (state S.Store tx.new.conn.now) result }
+    ensures inside { StaysWithin S.Store tx.old.conn tx.new.conn result }
     ensures found { Finds (state S.Store tx.old.conn.now) (state S.Store tx.new.conn.now) result
         (λ found books. (rules : Rules)
         → rules.stock_of ≡ stock_of → IfSome (import_in (seen_act act.now))
@@ -236,8 +231,7 @@ fn find_stock<S: Alter>(
     tx: &mut Transaction<'_, S>,
     file: &StockFile,
 ) -> Result<Result<Vec<StockFound>, BadCsv>, StoreFault>
-    ensures same_reference { tx.new.conn.ghost_name ≡ tx.old.conn.ghost_name }
-    ensures inside { StaysWithin (state S.Store tx.old.conn.now) (state S.Store tx.new.conn.now) result }
+    ensures inside { StaysWithin S.Store tx.old.conn tx.new.conn result }
     ensures found { Finds (state S.Store tx.old.conn.now) (state S.Store tx.new.conn.now) result
         (λ stock books. IfOk stock (λ rows. All (RowAgrees books.catalogue) rows.items)) }
     ensures value { IfOk result (λ stock. seen_stock stock ≡ stock_of file.now) }
@@ -256,8 +250,7 @@ fn find_films<S: Alter>(
     tx: &mut Transaction<'_, S>,
     rows: &[StockRow],
 ) -> Result<Vec<StockFound>, StoreFault>
-    ensures same_reference { tx.new.conn.ghost_name ≡ tx.old.conn.ghost_name }
-    ensures inside { StaysWithin (state S.Store tx.old.conn.now) (state S.Store tx.new.conn.now) result }
+    ensures inside { StaysWithin S.Store tx.old.conn tx.new.conn result }
     ensures found { Finds (state S.Store tx.old.conn.now) (state S.Store tx.new.conn.now) result
         (λ found books. found.items ≡ map (found_row books.catalogue) rows.now) }
     ensures same { IfOk result (λ found. map as_listed found.items ≡ rows.now) }

@@ -25,8 +25,7 @@ pub fn find_active<S: Alter>(
     branch: BranchNo,
     customer: CustomerNo,
 ) -> Result<Option<bool>, StoreFault>
-    ensures same_reference { tx.new.conn.ghost_name ≡ tx.old.conn.ghost_name }
-    ensures inside { StaysWithin (state S.Store tx.old.conn.now) (state S.Store tx.new.conn.now) result }
+    ensures inside { StaysWithin S.Store tx.old.conn tx.new.conn result }
     ensures found { Finds (state S.Store tx.old.conn.now) (state S.Store tx.new.conn.now) result
         (λ found books. found ≡ active_at customer (shop_of branch books)) }
 {
@@ -58,8 +57,7 @@ pub fn find_here<S: Alter>(
     branch: BranchNo,
     copy: CopyNo,
 ) -> Result<Option<bool>, StoreFault>
-    ensures same_reference { tx.new.conn.ghost_name ≡ tx.old.conn.ghost_name }
-    ensures inside { StaysWithin (state S.Store tx.old.conn.now) (state S.Store tx.new.conn.now) result }
+    ensures inside { StaysWithin S.Store tx.old.conn tx.new.conn result }
     ensures found { Finds (state S.Store tx.old.conn.now) (state S.Store tx.new.conn.now) result
         (λ found books. found ≡ head (map is_here (at copy (shop_of branch books).copies))) }
 {
@@ -75,8 +73,7 @@ pub fn find_copy<S: Alter>(
     branch: BranchNo,
     copy: Option<CopyNo>,
 ) -> Result<Option<CopyFound>, StoreFault>
-    ensures same_reference { tx.new.conn.ghost_name ≡ tx.old.conn.ghost_name }
-    ensures inside { StaysWithin (state S.Store tx.old.conn.now) (state S.Store tx.new.conn.now) result }
+    ensures inside { StaysWithin S.Store tx.old.conn tx.new.conn result }
     ensures found { Finds (state S.Store tx.old.conn.now) (state S.Store tx.new.conn.now) result
         (λ found books. IfSome copy (λ x. option_map seen_copy found ≡ copy_at books.catalogue (shop_of branch books) x)) }
 {
@@ -99,8 +96,7 @@ pub fn find_out<S: Alter>(
     branch: BranchNo,
     copy: Option<CopyNo>,
 ) -> Result<Option<RentalNo>, StoreFault>
-    ensures same_reference { tx.new.conn.ghost_name ≡ tx.old.conn.ghost_name }
-    ensures inside { StaysWithin (state S.Store tx.old.conn.now) (state S.Store tx.new.conn.now) result }
+    ensures inside { StaysWithin S.Store tx.old.conn tx.new.conn result }
     ensures found { Finds (state S.Store tx.old.conn.now) (state S.Store tx.new.conn.now) result
         (λ out books. IfSome copy (λ x. IsOut (shop_of branch books) x out)) }
 {
@@ -116,8 +112,7 @@ pub fn find_rental<S: Alter>(
     branch: BranchNo,
     rental: Option<RentalNo>,
 ) -> Result<Option<RentalFound>, StoreFault>
-    ensures same_reference { tx.new.conn.ghost_name ≡ tx.old.conn.ghost_name }
-    ensures inside { StaysWithin (state S.Store tx.old.conn.now) (state S.Store tx.new.conn.now) result }
+    ensures inside { StaysWithin S.Store tx.old.conn tx.new.conn result }
     ensures found { Finds (state S.Store tx.old.conn.now) (state S.Store tx.new.conn.now) result
         (λ found books. IfSome rental (λ r. option_map seen_rental found ≡ rental_at (shop_of branch books) r)) }
 {
@@ -148,8 +143,7 @@ fn find_renter<S: Alter>(
     branch: BranchNo,
     rental: RentalNo,
 ) -> Result<Option<CustomerNo>, StoreFault>
-    ensures same_reference { tx.new.conn.ghost_name ≡ tx.old.conn.ghost_name }
-    ensures inside { StaysWithin (state S.Store tx.old.conn.now) (state S.Store tx.new.conn.now) result }
+    ensures inside { StaysWithin S.Store tx.old.conn tx.new.conn result }
     ensures found { Finds (state S.Store tx.old.conn.now) (state S.Store tx.new.conn.now) result
         (λ renter books. renter ≡ head (map (λ it. it.customer) (at rental (shop_of branch books).rentals))) }
 {
@@ -165,8 +159,7 @@ pub fn find_holder<S: Alter>(
     branch: BranchNo,
     copy: CopyNo,
 ) -> Result<Option<CustomerNo>, StoreFault>
-    ensures same_reference { tx.new.conn.ghost_name ≡ tx.old.conn.ghost_name }
-    ensures inside { StaysWithin (state S.Store tx.old.conn.now) (state S.Store tx.new.conn.now) result }
+    ensures inside { StaysWithin S.Store tx.old.conn tx.new.conn result }
     ensures found { Finds (state S.Store tx.old.conn.now) (state S.Store tx.new.conn.now) result
         (λ holder books. holder ≡ head (held_by copy (shop_of branch books).rentals)) }
 {
@@ -183,8 +176,7 @@ pub fn find_of_film<S: Alter>(
     branch: BranchNo,
     film: FilmNo,
 ) -> Result<Vec<FilmCopy>, StoreFault>
-    ensures same_reference { tx.new.conn.ghost_name ≡ tx.old.conn.ghost_name }
-    ensures inside { StaysWithin (state S.Store tx.old.conn.now) (state S.Store tx.new.conn.now) result }
+    ensures inside { StaysWithin S.Store tx.old.conn tx.new.conn result }
     ensures found { Finds (state S.Store tx.old.conn.now) (state S.Store tx.new.conn.now) result
         (λ copies books. AreOfFilm film (shop_of branch books) copies.items) }
 {
@@ -199,8 +191,7 @@ fn with_stock<S: Alter>(
     branch: BranchNo,
     rows: &[CopyRow],
 ) -> Result<Vec<FilmCopy>, StoreFault>
-    ensures same_reference { tx.new.conn.ghost_name ≡ tx.old.conn.ghost_name }
-    ensures inside { StaysWithin (state S.Store tx.old.conn.now) (state S.Store tx.new.conn.now) result }
+    ensures inside { StaysWithin S.Store tx.old.conn tx.new.conn result }
     ensures found { Finds (state S.Store tx.old.conn.now) (state S.Store tx.new.conn.now) result
         (λ copies books. map seen_film_copy copies.items ≡ map (copy_shown (shop_of branch books).rentals) rows.now) }
 {
@@ -220,8 +211,7 @@ fn with_its_stock<S: Alter>(
     branch: BranchNo,
     row: CopyRow,
 ) -> Result<FilmCopy, StoreFault>
-    ensures same_reference { tx.new.conn.ghost_name ≡ tx.old.conn.ghost_name }
-    ensures inside { StaysWithin (state S.Store tx.old.conn.now) (state S.Store tx.new.conn.now) result }
+    ensures inside { StaysWithin S.Store tx.old.conn tx.new.conn result }
     ensures found { Finds (state S.Store tx.old.conn.now) (state S.Store tx.new.conn.now) result
         (λ copy books. seen_film_copy copy ≡ copy_shown (shop_of branch books).rentals row) }
 {

@@ -32,8 +32,7 @@ pub fn look<S: Alter>(
     branch: BranchNo,
     ask: Ask,
 ) -> Result<Reply, StoreFault>
-    ensures same_reference { tx.new.conn.ghost_name ≡ tx.old.conn.ghost_name }
-    ensures inside { StaysWithin (state S.Store tx.old.conn.now) (state S.Store tx.new.conn.now) result }
+    ensures inside { StaysWithin S.Store tx.old.conn tx.new.conn result }
     ensures shown { Finds (state S.Store tx.old.conn.now) (state S.Store tx.new.conn.now) result
         (λ reply books. seen_reply reply ≡ looked branch (seen_ask ask) books) }
 {
@@ -61,8 +60,7 @@ fn look_customer<S: Alter>(
     branch: BranchNo,
     number: CustomerNo,
 ) -> Result<Reply, StoreFault>
-    ensures same_reference { tx.new.conn.ghost_name ≡ tx.old.conn.ghost_name }
-    ensures inside { StaysWithin (state S.Store tx.old.conn.now) (state S.Store tx.new.conn.now) result }
+    ensures inside { StaysWithin S.Store tx.old.conn tx.new.conn result }
     ensures shown { Finds (state S.Store tx.old.conn.now) (state S.Store tx.new.conn.now) result
         (λ reply books. seen_reply reply ≡ looked branch (OneCustomer number) books) }
 {
@@ -82,8 +80,7 @@ fn look_film<S: Alter>(
     branch: BranchNo,
     number: FilmNo,
 ) -> Result<Reply, StoreFault>
-    ensures same_reference { tx.new.conn.ghost_name ≡ tx.old.conn.ghost_name }
-    ensures inside { StaysWithin (state S.Store tx.old.conn.now) (state S.Store tx.new.conn.now) result }
+    ensures inside { StaysWithin S.Store tx.old.conn tx.new.conn result }
     ensures shown { Finds (state S.Store tx.old.conn.now) (state S.Store tx.new.conn.now) result
         (λ reply books. seen_reply reply ≡ looked branch (OneFilm number) books) }
 {
@@ -103,8 +100,7 @@ fn look_in_stock<S: Alter>(
     branch: BranchNo,
     copy: CopyNo,
 ) -> Result<Reply, StoreFault>
-    ensures same_reference { tx.new.conn.ghost_name ≡ tx.old.conn.ghost_name }
-    ensures inside { StaysWithin (state S.Store tx.old.conn.now) (state S.Store tx.new.conn.now) result }
+    ensures inside { StaysWithin S.Store tx.old.conn tx.new.conn result }
     ensures shown { Finds (state S.Store tx.old.conn.now) (state S.Store tx.new.conn.now) result
         (λ reply books. seen_reply reply ≡ looked branch (InStock copy) books) }
 {
@@ -125,8 +121,7 @@ fn look_holder<S: Alter>(
     branch: BranchNo,
     copy: CopyNo,
 ) -> Result<Reply, StoreFault>
-    ensures same_reference { tx.new.conn.ghost_name ≡ tx.old.conn.ghost_name }
-    ensures inside { StaysWithin (state S.Store tx.old.conn.now) (state S.Store tx.new.conn.now) result }
+    ensures inside { StaysWithin S.Store tx.old.conn tx.new.conn result }
     ensures shown { Finds (state S.Store tx.old.conn.now) (state S.Store tx.new.conn.now) result
         (λ reply books. seen_reply reply ≡ looked branch (HeldBy copy) books) }
 {
@@ -148,8 +143,7 @@ fn look_film_copies<S: Alter>(
     film: FilmNo,
     is_in: bool,
 ) -> Result<Reply, StoreFault>
-    ensures same_reference { tx.new.conn.ghost_name ≡ tx.old.conn.ghost_name }
-    ensures inside { StaysWithin (state S.Store tx.old.conn.now) (state S.Store tx.new.conn.now) result }
+    ensures inside { StaysWithin S.Store tx.old.conn tx.new.conn result }
     ensures shown { Finds (state S.Store tx.old.conn.now) (state S.Store tx.new.conn.now) result
         (λ reply books. seen_reply reply ≡ looked branch (stock_asked is_in film) books) }
 {

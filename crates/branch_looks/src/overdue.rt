@@ -30,8 +30,7 @@ pub fn find_overdue<S: Alter>(
     branch: BranchNo,
     at: Moment,
 ) -> Result<Vec<OverdueRow>, StoreFault>
-    ensures same_reference { tx.new.conn.ghost_name ≡ tx.old.conn.ghost_name }
-    ensures inside { StaysWithin (state S.Store tx.old.conn.now) (state S.Store tx.new.conn.now) result }
+    ensures inside { StaysWithin S.Store tx.old.conn tx.new.conn result }
     ensures found { Finds (state S.Store tx.old.conn.now) (state S.Store tx.new.conn.now) result
         (λ rows books. map seen_overdue rows.items ≡ overdue_list books.catalogue (shop_of branch books) at) }
 {
@@ -47,8 +46,7 @@ fn overdue_among<S: Alter>(
     numbers: &[RentalNo],
     at: Moment,
 ) -> Result<Vec<OverdueRow>, StoreFault>
-    ensures same_reference { tx.new.conn.ghost_name ≡ tx.old.conn.ghost_name }
-    ensures inside { StaysWithin (state S.Store tx.old.conn.now) (state S.Store tx.new.conn.now) result }
+    ensures inside { StaysWithin S.Store tx.old.conn tx.new.conn result }
     ensures found { Finds (state S.Store tx.old.conn.now) (state S.Store tx.new.conn.now) result
         (λ overdue books. map seen_overdue overdue.items ≡ map (overdue_row books.catalogue (shop_of branch books))
         (filter (is_overdue books.catalogue (shop_of branch books) at) (rentals_at numbers.now (shop_of branch books).rentals))) }
@@ -68,8 +66,7 @@ fn overdue_of<S: Alter>(
     number: RentalNo,
     at: Moment,
 ) -> Result<Option<OverdueRow>, StoreFault>
-    ensures same_reference { tx.new.conn.ghost_name ≡ tx.old.conn.ghost_name }
-    ensures inside { StaysWithin (state S.Store tx.old.conn.now) (state S.Store tx.new.conn.now) result }
+    ensures inside { StaysWithin S.Store tx.old.conn tx.new.conn result }
     ensures found { Finds (state S.Store tx.old.conn.now) (state S.Store tx.new.conn.now) result
         (λ row books. option_to_list (option_map seen_overdue row) ≡ map (overdue_row books.catalogue (shop_of branch books))
         (filter (is_overdue books.catalogue (shop_of branch books) at) (at_number number (shop_of branch books).rentals))) }
@@ -87,8 +84,7 @@ fn overdue_at<S: Alter>(
     rental: Rental,
     at: Moment,
 ) -> Result<Option<OverdueRow>, StoreFault>
-    ensures same_reference { tx.new.conn.ghost_name ≡ tx.old.conn.ghost_name }
-    ensures inside { StaysWithin (state S.Store tx.old.conn.now) (state S.Store tx.new.conn.now) result }
+    ensures inside { StaysWithin S.Store tx.old.conn tx.new.conn result }
     ensures found { Finds (state S.Store tx.old.conn.now) (state S.Store tx.new.conn.now) result
         (λ row books. option_to_list (option_map seen_overdue row) ≡ map (overdue_row books.catalogue (shop_of branch books))
         (filter (is_overdue books.catalogue (shop_of branch books) at) (seen_rental rental ∷ []))) }
@@ -115,8 +111,7 @@ fn listed_as<S: Alter>(
     rental: Rental,
     film: FilmNo,
 ) -> Result<OverdueRow, StoreFault>
-    ensures same_reference { tx.new.conn.ghost_name ≡ tx.old.conn.ghost_name }
-    ensures inside { StaysWithin (state S.Store tx.old.conn.now) (state S.Store tx.new.conn.now) result }
+    ensures inside { StaysWithin S.Store tx.old.conn tx.new.conn result }
     ensures found { Finds (state S.Store tx.old.conn.now) (state S.Store tx.new.conn.now) result
         (λ row books. film_of books.catalogue (shop_of branch books) (seen_rental rental) ≡ at film books.catalogue.films
         → seen_overdue row ≡ overdue_row books.catalogue (shop_of branch books) (seen_rental rental)) }

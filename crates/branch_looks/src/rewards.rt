@@ -38,8 +38,7 @@ pub fn find_rewarded<S: Alter>(
     purchases: u32,
     cents: u32,
 ) -> Result<Vec<CustomerNo>, StoreFault>
-    ensures same_reference { tx.new.conn.ghost_name ≡ tx.old.conn.ghost_name }
-    ensures inside { StaysWithin (state S.Store tx.old.conn.now) (state S.Store tx.new.conn.now) result }
+    ensures inside { StaysWithin S.Store tx.old.conn tx.new.conn result }
     ensures found { Finds (state S.Store tx.old.conn.now) (state S.Store tx.new.conn.now) result
         (λ customers books. customers.items ≡ rewarded_in (month_before at) (shop_of branch books) purchases cents) }
 {

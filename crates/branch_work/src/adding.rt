@@ -42,8 +42,7 @@ pub fn add_rows<S: Alter>(
     rows: Rows<'_>,
 ) -> Result<String, StoreFault>
     requires within { AreWithin rows }
-    ensures same_reference { tx.new.conn.ghost_name ≡ tx.old.conn.ghost_name }
-    ensures inside { StaysWithin (state S.Store tx.old.conn.now) (state S.Store tx.new.conn.now) result }
+    ensures inside { StaysWithin S.Store tx.old.conn tx.new.conn result }
     ensures added { HasCleanDisk (state S.Store tx.new.conn.now)
         → IfOk result (λ text. AreAdded branch rows.entry (string_bytes text) (state S.Store tx.old.conn.now) (state S.Store tx.new.conn.now)) }
 {
@@ -71,8 +70,7 @@ pub fn keep<S: Alter>(
     reply: &str,
 ) -> Result<(), StoreFault>
     requires { form.now ≡ command_form (seen_command command.now) }
-    ensures same_reference { tx.new.conn.ghost_name ≡ tx.old.conn.ghost_name }
-    ensures inside { StaysWithin (state S.Store tx.old.conn.now) (state S.Store tx.new.conn.now) result }
+    ensures inside { StaysWithin S.Store tx.old.conn tx.new.conn result }
     ensures kept { HasCleanDisk (state S.Store tx.new.conn.now)
         → OnOk result ((books : books.Books) → Holds (state S.Store tx.old.conn.now) books → CountsOnce branch CountKind.Kept (counts_of books)
         → Holds (state S.Store tx.new.conn.now) (with_kept branch (seen_command command.now) reply.now books)) }
@@ -88,8 +86,7 @@ fn next_number<const KIND: u8, S: Alter>(
     branch: BranchNo,
     kind: CountKind,
 ) -> Result<RowNumber<KIND>, StoreFault>
-    ensures same_reference { tx.new.conn.ghost_name ≡ tx.old.conn.ghost_name }
-    ensures inside { StaysWithin (state S.Store tx.old.conn.now) (state S.Store tx.new.conn.now) result }
+    ensures inside { StaysWithin S.Store tx.old.conn tx.new.conn result }
     ensures taken { HasCleanDisk (state S.Store tx.new.conn.now)
         → IfOk result (λ number. Tallies (state S.Store tx.old.conn.now) (state S.Store tx.new.conn.now) (CountsOnce branch kind)
         (raise branch (kind_number kind) 1)
@@ -108,8 +105,7 @@ fn add_customer<S: Alter>(
     branch: BranchNo,
     customer: Customer,
 ) -> Result<String, StoreFault>
-    ensures same_reference { tx.new.conn.ghost_name ≡ tx.old.conn.ghost_name }
-    ensures inside { StaysWithin (state S.Store tx.old.conn.now) (state S.Store tx.new.conn.now) result }
+    ensures inside { StaysWithin S.Store tx.old.conn tx.new.conn result }
     ensures added { HasCleanDisk (state S.Store tx.new.conn.now)
         → IfOk result (λ text. AreAdded branch (Rows.Customer customer) (string_bytes text) (state S.Store tx.old.conn.now) (state S.Store tx.new.conn.now)) }
 {
@@ -133,8 +129,7 @@ fn put_active<S: Alter>(
     customer: CustomerNo,
     active: bool,
 ) -> Result<String, StoreFault>
-    ensures same_reference { tx.new.conn.ghost_name ≡ tx.old.conn.ghost_name }
-    ensures inside { StaysWithin (state S.Store tx.old.conn.now) (state S.Store tx.new.conn.now) result }
+    ensures inside { StaysWithin S.Store tx.old.conn tx.new.conn result }
     ensures added { HasCleanDisk (state S.Store tx.new.conn.now)
         → IfOk result (λ text. AreAdded branch (Rows.Active customer active) (string_bytes text) (state S.Store tx.old.conn.now)
         (state S.Store tx.new.conn.now)) }
@@ -152,8 +147,7 @@ fn add_rental<S: Alter>(
     branch: BranchNo,
     rental: Rental,
 ) -> Result<String, StoreFault>
-    ensures same_reference { tx.new.conn.ghost_name ≡ tx.old.conn.ghost_name }
-    ensures inside { StaysWithin (state S.Store tx.old.conn.now) (state S.Store tx.new.conn.now) result }
+    ensures inside { StaysWithin S.Store tx.old.conn tx.new.conn result }
     ensures added { HasCleanDisk (state S.Store tx.new.conn.now)
         → IfOk result (λ text. AreAdded branch (Rows.Rent rental) (string_bytes text) (state S.Store tx.old.conn.now) (state S.Store tx.new.conn.now)) }
 {
@@ -181,8 +175,7 @@ fn take_back<S: Alter>(
     copy: CopyNo,
     returned: Moment,
 ) -> Result<String, StoreFault>
-    ensures same_reference { tx.new.conn.ghost_name ≡ tx.old.conn.ghost_name }
-    ensures inside { StaysWithin (state S.Store tx.old.conn.now) (state S.Store tx.new.conn.now) result }
+    ensures inside { StaysWithin S.Store tx.old.conn tx.new.conn result }
     ensures added { HasCleanDisk (state S.Store tx.new.conn.now)
         → IfOk result (λ text. AreAdded branch (Rows.TakeBack rental copy returned) (string_bytes text) (state S.Store tx.old.conn.now)
         (state S.Store tx.new.conn.now)) }
@@ -201,8 +194,7 @@ fn add_payment<S: Alter>(
     branch: BranchNo,
     payment: Payment,
 ) -> Result<String, StoreFault>
-    ensures same_reference { tx.new.conn.ghost_name ≡ tx.old.conn.ghost_name }
-    ensures inside { StaysWithin (state S.Store tx.old.conn.now) (state S.Store tx.new.conn.now) result }
+    ensures inside { StaysWithin S.Store tx.old.conn tx.new.conn result }
     ensures added { HasCleanDisk (state S.Store tx.new.conn.now)
         → IfOk result (λ text. AreAdded branch (Rows.Pay payment) (string_bytes text) (state S.Store tx.old.conn.now) (state S.Store tx.new.conn.now)) }
 {
@@ -225,8 +217,7 @@ fn scrap<S: Alter>(
     branch: BranchNo,
     copy: CopyNo,
 ) -> Result<String, StoreFault>
-    ensures same_reference { tx.new.conn.ghost_name ≡ tx.old.conn.ghost_name }
-    ensures inside { StaysWithin (state S.Store tx.old.conn.now) (state S.Store tx.new.conn.now) result }
+    ensures inside { StaysWithin S.Store tx.old.conn tx.new.conn result }
     ensures added { HasCleanDisk (state S.Store tx.new.conn.now)
         → IfOk result (λ text. AreAdded branch (Rows.Scrap copy) (string_bytes text) (state S.Store tx.old.conn.now) (state S.Store tx.new.conn.now)) }
 {

@@ -31,8 +31,7 @@ pub fn import<S: Alter>(
     lot: &LotName,
 ) -> Result<String, StoreFault>
     requires few { copies_of stock.now ≤ 1_000 }
-    ensures same_reference { tx.new.conn.ghost_name ≡ tx.old.conn.ghost_name }
-    ensures inside { StaysWithin (state S.Store tx.old.conn.now) (state S.Store tx.new.conn.now) result }
+    ensures inside { StaysWithin S.Store tx.old.conn tx.new.conn result }
     ensures added { HasCleanDisk (state S.Store tx.new.conn.now)
         → IfOk result (λ text. Makes (state S.Store tx.old.conn.now) (state S.Store tx.new.conn.now) (λ _. ⊤) (with_import branch (films_of stock.now) lot.now)
         (string_bytes text) (λ books. import_text (length (films_of stock.now)) (next branch books.copies))) }
@@ -121,8 +120,7 @@ fn new_copy(branch: BranchNo, number: u32, film: FilmNo) -> CopyRow
 
 /// Writes the copies, in their order.
 fn put_copies<S: Alter>(tx: &mut Transaction<'_, S>, copies: &[CopyRow]) -> Result<(), StoreFault>
-    ensures same_reference { tx.new.conn.ghost_name ≡ tx.old.conn.ghost_name }
-    ensures inside { StaysWithin (state S.Store tx.old.conn.now) (state S.Store tx.new.conn.now) result }
+    ensures inside { StaysWithin S.Store tx.old.conn tx.new.conn result }
     ensures put { Stores (state S.Store tx.old.conn.now) (state S.Store tx.new.conn.now) result (λ _. ⊤)
         (λ books. record books { copies = books.copies ++ map seen_copy_row copies.now }) }
 {

@@ -44,8 +44,7 @@ pub fn work<S: Alter>(
     branch: BranchNo,
     request: &Request,
 ) -> Result<Worked, StoreFault>
-    ensures same_reference { tx.new.conn.ghost_name ≡ tx.old.conn.ghost_name }
-    ensures inside { StaysInside (state S.Store tx.old.conn.now) (state S.Store tx.new.conn.now) result }
+    ensures inside { StaysInside S.Store tx.old.conn tx.new.conn result }
     ensures works { HasCleanDisk (state S.Store tx.new.conn.now)
         → IfOk result (λ worked. Works limits branch (seen_request request.now) worked (state S.Store tx.old.conn.now) (state S.Store tx.new.conn.now)) }
 {
@@ -81,8 +80,7 @@ fn act<S: Alter>(
     last: Option<Moment>,
     command: &Command,
 ) -> Result<(Reply, bool), StoreFault>
-    ensures same_reference { tx.new.conn.ghost_name ≡ tx.old.conn.ghost_name }
-    ensures inside { StaysWithin (state S.Store tx.old.conn.now) (state S.Store tx.new.conn.now) result }
+    ensures inside { StaysWithin S.Store tx.old.conn tx.new.conn result }
     ensures works { HasCleanDisk (state S.Store tx.new.conn.now)
         → IfOk result (λ done. WorksFor limits branch last (Do (seen_command command.now)) (seen_reply done.0) done.1 (state S.Store tx.old.conn.now)
         (state S.Store tx.new.conn.now)) }
@@ -112,8 +110,7 @@ fn carry_out<S: Alter>(
 ) -> Result<(Reply, bool), StoreFault>
     requires form { form.now ≡ command_form (seen_command command.now) }
     requires within { IsWithin found.now }
-    ensures same_reference { tx.new.conn.ghost_name ≡ tx.old.conn.ghost_name }
-    ensures inside { StaysWithin (state S.Store tx.old.conn.now) (state S.Store tx.new.conn.now) result }
+    ensures inside { StaysWithin S.Store tx.old.conn tx.new.conn result }
     ensures works { HasCleanDisk (state S.Store tx.new.conn.now)
         → IfOk result (λ done. WorksBy limits branch (seen_command command.now) found.now (seen_reply done.0) done.1 (state S.Store tx.old.conn.now)
         (state S.Store tx.new.conn.now)) }
@@ -154,8 +151,7 @@ fn add<S: Alter>(
 ) -> Result<Reply, StoreFault>
     requires form { form.now ≡ command_form (seen_command command.now) }
     requires within { AreWithin rows }
-    ensures same_reference { tx.new.conn.ghost_name ≡ tx.old.conn.ghost_name }
-    ensures inside { StaysWithin (state S.Store tx.old.conn.now) (state S.Store tx.new.conn.now) result }
+    ensures inside { StaysWithin S.Store tx.old.conn tx.new.conn result }
     ensures added { HasCleanDisk (state S.Store tx.new.conn.now)
         → IfOk result (λ reply. (limits : _)
         → IsAdded limits branch (seen_command command.now) rows.entry (seen_reply reply) (state S.Store tx.old.conn.now) (state S.Store tx.new.conn.now)) }

@@ -1,5 +1,5 @@
 -- One run follows another.
-use Rattle.std.proofs.Common.{◌≡◌, List, [], ◌∷◌, ◌++◌, length, map, filter, Bool, true, false, inl, inr, Some, refl, sym, ap, ap₂, subst, arith, ◌∙◌, length-append}
+use Rattle.std.proofs.Common.{◌≡◌, List, [], ◌∷◌, ◌++◌, length, map, Bool, true, false, inl, inr, Some, refl, sym, ap, ap₂, subst, arith, ◌∙◌, length-append}
 use Rattle.std.specs.Prelude.{◌||◌, ◌==◌, if◌then◌else◌}
 use Rattle.std.specs.Str.{bytes_eq}
 use Rattle.std.proofs.lemmas.Bool.{cases_Bool}
@@ -12,9 +12,9 @@ use Rattle.shop_model.specs.Values.{OfficeAsk, Rules}
 use Rattle.shop_model.specs.Refusals.{StoreFailed}
 use Rattle.shop_model.specs.Machine.{Reply}
 use Rattle.shop_model.specs.Answers.{Answer, answer_of, problem_text}
-use Rattle.shop_model.specs.Books.{Books, Event, Caller, counted_one, after, run, last_books}
+use Rattle.shop_model.specs.Books.{Books, Event, Caller, after, run, last_books}
 use Rattle.shop_model.specs.Office.{office_look}
-use Rattle.shop_model.specs.Histories.{IsRun, is_decided, is_store_failure, is_answer, outcome_of, counted_in, fails_for_good, has_failed}
+use Rattle.shop_model.specs.Histories.{IsRun, is_decided, is_store_failure, is_answer, counted_in, fails_for_good, has_failed}
 use Rattle.shop_model.proofs.CustodyLemmas.{and_parts}
 use Rattle.shop_model.proofs.Histories.{run_append, last_append}
 use Rattle.shop_model.proofs.Resends.{runs_resend}

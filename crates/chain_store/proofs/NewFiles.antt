@@ -30,12 +30,6 @@ store_is_no_version e = cc
 pub store_is_not_already : fault.Store ≢ fault.Already
 store_is_not_already e = cc
 
-pub already_is_not_a_chain : fault.Already ≢ fault.NotAChain
-already_is_not_a_chain e = cc
-
-pub already_is_no_version : fault.Already ≢ fault.OtherVersion
-already_is_no_version e = cc
-
 -- a fault of the store, and what is left of the files
 pub stopped_by : {D : Type 0} (g : Ghosts D) (files : Files D) (books : Books) (why : OpenFault) (left : Files D) → why ≢ fault.NotAChain → why ≢ fault.OtherVersion → why ≢ fault.Already
     → (AreClean g left.log left.db → OpenFailed g files left ⊎ HoldsOne g left (IsNoneOrNew books)) → IsNotCreated g files books why left

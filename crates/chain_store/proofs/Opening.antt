@@ -198,18 +198,6 @@ module _ {D : Type 0} {g : Ghosts D} (c : Held (FileStore D g)) (files : Files D
 
 -- ---- faults
 
-pub none_is_no_version : fault.NotAChain ≢ fault.OtherVersion
-none_is_no_version e = cc
-
-pub none_is_not_already : fault.NotAChain ≢ fault.Already
-none_is_not_already e = cc
-
-pub version_is_not_none : fault.OtherVersion ≢ fault.NotAChain
-version_is_not_none e = cc
-
-pub version_is_not_already : fault.OtherVersion ≢ fault.Already
-version_is_not_already e = cc
-
 -- a fault of the store, and what is left of the files
 pub unopened_by : {D : Type 0} (g : Ghosts D) (files : Files D) (why : OpenFault) (left : Files D) → why ≢ fault.NotAChain → why ≢ fault.OtherVersion → why ≢ fault.Already
     → (AreClean g left.log left.db → OpenFailed g files left ⊎ ((db : Trees) → HoldsDatabase (image_of g files) db → HoldsOne g left (λ found. found ≡ db)))

@@ -1,5 +1,6 @@
 -- What a transaction leaves of a connection between two requests.
-use Rattle.std.proofs.Common.{◌≡◌, ◌≢◌, ◌∙◌, inl, inr, refl, sym, ap, subst, arith, ℕ, List, Bool, true, false, IsTrue, Ok, Err, Result, IfOk, IfErr}
+use Rattle.std.proofs.Common.{◌≡◌, ◌≢◌, ◌∙◌, inl, inr, refl, sym, ap, subst, arith, ℕ, List, Bool, true, false, IsTrue, Ok, Err, Result, IfOk, IfErr, OnOk}
+use Rattle.std.specs.Borrow.{MutBor}
 use Rattle.sqlite_trees.specs.declared.store.Store.{Ghosts}
 use Rattle.sqlite_trees.specs.Tree.{Trees}
 use Rattle.sqlite.specs.declared.error.Error.{Error}
@@ -36,6 +37,11 @@ holds_as s t books same h = record {
   keyed = subst (λ (d : Database). AreKeyed shop_schema d.trees) (sym same) h.keyed;
   stands = subst (λ (d : Database). StandsFor d.trees books) (sym same) h.stands;
 }
+
+-- what a call leaves of a transaction that has just begun
+pub begun_inside : {S X E : Type 0} (g : Ghosts S) (old : Held S) {tx after : MutBor (Held S)} {r : Result X E} → tx.now ≡ record old { in_transaction = true } → StaysInside g tx after r
+    → StaysInside g (record tx { now = record old { in_transaction = true } }) after r
+begun_inside g old is h = record { same_reference = h.same_reference; survives = rw is at h.survives; kept = rw is at h.kept; lives = rw is at h.lives }
 
 -- while a store is open, a crash leaves the last commit
 abbrev pub Settled : {S : Type 0} → Ghosts S → Type 0
@@ -91,11 +97,10 @@ module _ {S : Type 0} (g : Ghosts S) (old mid end : Held S) where
       → Survives (state g mid) (state g end) (λ db. db ≡ (state g mid).now.trees) → Survives (state g old) (state g end) (LeavesMade (state g old) books)
   made_new books made inside ending = crash_new g old mid end (LeavesMade (state g old) books) (λ clean none. (made clean none).stands) inside ending
 
-  pub caller_between : {E : Type 0} (token : List ℕ) (r : Result Known E) → HasCleanDisk (state g mid) → StaysInside (state g begun) (state g mid) r
+  pub caller_between : {E : Type 0} (token : List ℕ) (r : Result Known E) → OnOk r (IsTrue (state g old).is_open)
       → IfOk r (λ caller. IsCallerOf token (seen_caller caller) (state g begun)) → IfOk r (λ caller. HasCaller token (seen_caller caller) (state g old))
-  caller_between token (Ok caller) clean inside found = λ books rests held.
-      found books (holds_as (state g old) (state g begun) books refl (rests.now (inside.lives clean refl).was_open)) held
-  caller_between token (Err e) clean inside found = tt
+  caller_between token (Ok caller) live found = λ books rests held. found books (holds_as (state g old) (state g begun) books refl (rests.now live)) held
+  caller_between token (Err e) live found = tt
 
 -- of a database that has tables nothing is made
 pub leaves_untouched : (s : State) (books : Books) → Survives s s (LeavesMade s books)

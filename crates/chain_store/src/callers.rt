@@ -27,8 +27,7 @@ pub fn find_caller<S: Alter>(conn: &mut Connection<S>, token: &Token) -> Result<
 }
 
 fn caller_in<S: Alter>(tx: &mut Transaction<'_, S>, token: &Token) -> Result<Caller, StoreFault>
-    ensures same_reference { tx.new.conn.ghost_name ≡ tx.old.conn.ghost_name }
-    ensures inside { StaysInside (state S.Store tx.old.conn.now) (state S.Store tx.new.conn.now) result }
+    ensures inside { StaysInside S.Store tx.old.conn tx.new.conn result }
     ensures found { HasCleanDisk (state S.Store tx.new.conn.now)
         → IfOk result (λ caller. IsCallerOf token.now (seen_caller caller) (state S.Store tx.old.conn.now)) }
 {

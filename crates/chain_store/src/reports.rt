@@ -1,8 +1,9 @@
 //! Readings whose rows come one at a time, outside any transaction.
 
-ghost use Rattle.std.specs.Prelude.{◌≡◌, false, IfOk, OnOk, string_bytes};
+ghost use Rattle.std.specs.Prelude.{◌≡◌, false, IfOk, string_bytes};
 ghost use Rattle.sqlite.specs.Held.{state};
-ghost use Rattle.sqlite.specs.State.{HasCleanDisk, IsUnchanged, KeepsCommit, Survives};
+ghost use Rattle.sqlite.specs.State.{HasCleanDisk, Survives};
+ghost use Rattle.sql_rows.specs.Calls.{StaysSame};
 ghost use Rattle.shop_model.specs.Books.{Books};
 ghost use Rattle.shop_model.specs.Answers.{shown_text};
 ghost use Rattle.shop_types.specs.Replies.{seen_reply};
@@ -34,10 +35,7 @@ fn report_text<S: Alter>(
 ) -> Result<String, StoreFault>
     ensures text { HasCleanDisk (state S.Store conn.new)
         → IfOk result (λ s. (books : Books) → Holds (state S.Store conn.old) books → IsHeld books → string_bytes s ≡ shown_text (shown_by report books)) }
-    ensures same { HasCleanDisk (state S.Store conn.new) → OnOk result (IsUnchanged (state S.Store conn.old) (state S.Store conn.new)) }
-    ensures kept { HasCleanDisk (state S.Store conn.new) → KeepsCommit (state S.Store conn.old) (state S.Store conn.new) }
-    ensures mode { conn.old.in_transaction ≡ false → conn.new.in_transaction ≡ false }
-    ensures survives { Survives (state S.Store conn.old) (state S.Store conn.new) (λ _. ⊥) }
+    ensures same { StaysSame S.Store conn.old conn.new result }
 {
     match report {
         Report::OfBranch(branch, view) => view_text(conn, alloc, branch, view),

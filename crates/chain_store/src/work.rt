@@ -33,8 +33,7 @@ pub fn work_of<S: Alter>(
     limits: Limits,
     asked: &Asked<'_>,
 ) -> Result<Work, StoreFault>
-    ensures same_reference { tx.new.conn.ghost_name ≡ tx.old.conn.ghost_name }
-    ensures inside { StaysInside (state S.Store tx.old.conn.now) (state S.Store tx.new.conn.now) result }
+    ensures inside { StaysInside S.Store tx.old.conn tx.new.conn result }
     ensures works { HasCleanDisk (state S.Store tx.new.conn.now)
         → IfOk result (λ work. Works limits (asker asked.now) (asked_of asked.now) work (state S.Store tx.old.conn.now) (state S.Store tx.new.conn.now)) }
 {
@@ -52,8 +51,7 @@ fn branch_work_of<S: Alter>(
     branch: BranchNo,
     request: &Request,
 ) -> Result<Work, StoreFault>
-    ensures same_reference { tx.new.conn.ghost_name ≡ tx.old.conn.ghost_name }
-    ensures inside { StaysInside (state S.Store tx.old.conn.now) (state S.Store tx.new.conn.now) result }
+    ensures inside { StaysInside S.Store tx.old.conn tx.new.conn result }
     ensures works { HasCleanDisk (state S.Store tx.new.conn.now)
         → IfOk result (λ work. Works limits (Counter branch) (seen_request request.now) work (state S.Store tx.old.conn.now) (state S.Store tx.new.conn.now)) }
 {
@@ -70,8 +68,7 @@ fn office_work_of<S: Alter>(
     limits: Limits,
     command: &OfficeCommand,
 ) -> Result<Work, StoreFault>
-    ensures same_reference { tx.new.conn.ghost_name ≡ tx.old.conn.ghost_name }
-    ensures inside { StaysInside (state S.Store tx.old.conn.now) (state S.Store tx.new.conn.now) result }
+    ensures inside { StaysInside S.Store tx.old.conn tx.new.conn result }
     ensures works { HasCleanDisk (state S.Store tx.new.conn.now)
         → IfOk result (λ work. Works limits HeadOffice (Office (seen_office command.now)) work (state S.Store tx.old.conn.now) (state S.Store tx.new.conn.now)) }
 {

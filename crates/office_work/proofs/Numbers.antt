@@ -1,9 +1,11 @@
 -- What the number of a row says of the calls that it was made of.
 use Rattle.std.proofs.Common.{◌≡◌, ◌+◌, ℕ, true, false, Ok, Err, Result, refl, sym, subst}
 use Rattle.std.specs.Prelude.{IsOk, IfOk, OnOk}
-use Rattle.sqlite.specs.State.{State}
+use Rattle.std.specs.Borrow.{MutBor}
+use Rattle.sqlite_trees.specs.declared.store.Store.{Ghosts}
+use Rattle.sqlite.specs.Held.{Held}
 use Rattle.sql_rows.specs.Calls.{StaysInside}
-use Rattle.sql_rows.proofs.Stays.{within_of, inside_then, inside_as}
+use Rattle.sql_rows.proofs.Stays.{inside_err, inside_then, inside_when, within_of}
 
 apart : false ≡ true → ⊥
 apart e = cc
@@ -22,19 +24,20 @@ numbered_as put (Ok n) m W Q is put_it make = subst Q (sym is.0) (make (when_ok 
 numbered_as put (Err e) m W Q is put_it make = tt
 
 -- so the calls stay inside
-pub put_inside : {X E F : Type 0} {a b : State} {put : Result X E} (r : Result ℕ F) (m : ℕ) → IfOk r (λ n. (n ≡ m) × IsOk put) → StaysInside a b put → StaysInside a b r
-put_inside {a = a} {b = b} {put = put} (Ok n) m is h = inside_as a b put (Ok n) h (λ _. is.1)
-put_inside {a = a} {b = b} {put = put} (Err e) m is h = inside_as a b put (Err e) h (λ ok. absurd (apart ok))
+module _ {S X E F : Type 0} {g : Ghosts S} {a b : MutBor (Held S)} where
+  pub put_inside : {put : Result X E} (r : Result ℕ F) (m : ℕ) → IfOk r (λ n. (n ≡ m) × IsOk put) → StaysInside g a b put → StaysInside g a b r
+  put_inside (Ok n) m is h = inside_when h (λ _. is.1)
+  put_inside (Err e) m is h = inside_err h refl
 
--- two calls, of which the first told the last number
-pub told_then : {Y E F : Type 0} (a b c : State) (last : Result ℕ E) (n : ℕ) (r : Result Y F) → last ≡ Ok n → StaysInside a b last → StaysInside b c r → StaysInside a c r
-told_then {Y} {E} a b c last n r told one two = inside_then a b c last r (subst (λ (it : Result ℕ E). IsOk it) (sym told) refl) one (within_of b c r two)
+  -- two calls, of which the first told the last number
+  pub told_then : {c : MutBor (Held S)} {last : Result ℕ E} {r : Result X F} (n : ℕ) → last ≡ Ok n → StaysInside g a b last → StaysInside g b c r → StaysInside g a c r
+  told_then n told one two = inside_then (subst (λ (it : Result ℕ E). StaysInside g a b it) told one) (within_of two)
 
 -- the number is the one that comes after the last
 abbrev pub IsNext : {E : Type 0} → Result ℕ E → ℕ → Type 0
 IsNext last number = (n : ℕ) × (last ≡ Ok n) × (number ≡ n + 1)
 
 -- the last number was told before
-pub added_inside : {X E F : Type 0} {a b c : State} {last : Result ℕ E} {put : Result X E} {number : ℕ} (r : Result ℕ F)
-    → IsNext last number → IfOk r (λ n. (n ≡ number) × IsOk put) → StaysInside a b last → StaysInside b c put → StaysInside a c r
-added_inside {a = a} {b = b} {c = c} {last = last} r next is one two = told_then a b c last next.0 r next.1 one (put_inside r _ is two)
+pub added_inside : {S X E F : Type 0} {g : Ghosts S} {a b c : MutBor (Held S)} {last : Result ℕ E} {put : Result X E} {number : ℕ} (r : Result ℕ F)
+    → IsNext last number → IfOk r (λ n. (n ≡ number) × IsOk put) → StaysInside g a b last → StaysInside g b c put → StaysInside g a c r
+added_inside r next is one two = told_then next.0 next.1 one (put_inside r _ is two)

@@ -1,9 +1,12 @@
 -- One read after another, and what is made of what a read found.
-use Rattle.std.proofs.Common.{◌≡◌, true, false, Ok, Err, Result, refl, sym, subst}
+use Rattle.std.proofs.Common.{◌≡◌, Ok, Err, Result, refl, sym, subst}
 use Rattle.std.specs.Prelude.{IsOk, IfOk}
+use Rattle.std.specs.Borrow.{MutBor}
+use Rattle.sqlite_trees.specs.declared.store.Store.{Ghosts}
+use Rattle.sqlite.specs.Held.{Held, state}
 use Rattle.sqlite.specs.State.{State, HasCleanDisk}
 use Rattle.sql_rows.specs.Calls.{StaysInside, StaysWithin}
-use Rattle.sql_rows.proofs.Stays.{within_of, within_as}
+use Rattle.sql_rows.proofs.Stays.{within_err, within_of, within_when}
 use Rattle.shop_model.specs.Values.{OfficeAct}
 use Rattle.shop_model.specs.Books.{Books}
 use Rattle.shop_schema.specs.Calls.{Finds}
@@ -19,9 +22,6 @@ reads_then a b c P Q one two = λ books holds held. let first = one books holds 
 pub reads_as : (a b : State) (P Q : Books → Type 0) → ((books : Books) → IsHeld books → P books → Q books) → Reads a b P → Reads a b Q
 reads_as a b P Q more one = λ books holds held. let first = one books holds held in (first.0, more books held first.1)
 
-apart : false ≡ true → ⊥
-apart e = cc
-
 -- what is said of what a call answered, of a value that has it in it
 made : {X Y E F : Type 0} (r : Result X E) (s : Result Y F) (f : Y → X) (P : X → Type 0) → IfOk s (λ y. r ≡ Ok (f y)) → IfOk r P → IfOk s (λ y. P (f y))
 made {X} {Y} {E} r (Ok y) f P is ok = subst (λ (it : Result X E). IfOk it P) is ok
@@ -36,14 +36,17 @@ pub of_act : {F : Type 0} {was act : OfficeAct} (a b : State) (s : Result Shared
     → HasCleanDisk b → IfOk s (λ rows. FindsFor was rows a b)
 of_act a b s is found clean = subst (λ (it : OfficeAct). IfOk s (λ rows. FindsFor it rows a b)) (sym is) (found clean)
 
--- a call found all that an act's rows have
-pub found_of : {X E F : Type 0} {a b : State} {r : Result X E} {was act : OfficeAct} (f : SharedRows → X) (Says : X → Books → Type 0) (s : Result SharedRows F)
-    → was ≡ act → ((rows : SharedRows) (books : Books) → Says (f rows) books → ActShares books.catalogue act rows) → IfOk s (λ rows. r ≡ Ok (f rows))
-    → StaysInside a b r → Finds a b r Says → HasCleanDisk b → IfOk s (λ rows. FindsFor was rows a b)
-found_of {a = a} {b = b} {r = r} {act = act} f Says s is_act more is inside found =
-    of_act a b s is_act (λ clean. more_ok s _ (λ rows. FindsFor act rows a b) (λ rows. reads_as a b _ _ (λ books held. more rows books))
-    (made r s f (λ it. Reads a b (Says it)) is (found clean)))
+module _ {S X E : Type 0} {g : Ghosts S} {a b : MutBor (Held S)} {r : Result X E} where
+  -- a call found all that an act's rows have
+  pub found_of : {F : Type 0} {was act : OfficeAct} (f : SharedRows → X) (Says : X → Books → Type 0) (s : Result SharedRows F)
+      → was ≡ act → ((rows : SharedRows) (books : Books) → Says (f rows) books → ActShares books.catalogue act rows) → IfOk s (λ rows. r ≡ Ok (f rows))
+      → StaysInside g a b r → Finds (state g a.now) (state g b.now) r Says → HasCleanDisk (state g b.now) → IfOk s (λ rows. FindsFor was rows (state g a.now) (state g b.now))
+  found_of {act = act} f Says s is_act more is inside found =
+      let from = state g a.now in
+      let to = state g b.now in
+      of_act from to s is_act (λ clean. more_ok s _ (λ rows. FindsFor act rows from to) (λ rows. reads_as from to _ _ (λ books held. more rows books))
+      (made r s f (λ it. Reads from to (Says it)) is (found clean)))
 
-pub made_within : {X Y E F : Type 0} {a b : State} {r : Result X E} (s : Result Y F) (f : Y → X) → IfOk s (λ y. r ≡ Ok (f y)) → StaysInside a b r → StaysWithin a b s
-made_within {X} {E = E} {a = a} {b = b} {r = r} (Ok y) f is h = within_as a b r (Ok y) (within_of a b r h) (λ _. subst (λ (it : Result X E). IsOk it) (sym is) refl)
-made_within {a = a} {b = b} {r = r} (Err e) f is h = within_as a b r (Err e) (within_of a b r h) (λ ok. absurd (apart ok))
+  pub made_within : {Y F : Type 0} (s : Result Y F) (f : Y → X) → IfOk s (λ y. r ≡ Ok (f y)) → StaysInside g a b r → StaysWithin g a b s
+  made_within (Ok y) f is h = within_when (within_of h) (λ _. subst (λ (it : Result X E). IsOk it) (sym is) refl)
+  made_within (Err e) f is h = within_err (within_of h) refl

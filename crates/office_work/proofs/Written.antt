@@ -4,8 +4,12 @@ use Rattle.std.specs.Prelude.{⊤, IsOk}
 use Rattle.std.specs.List.{list_all}
 use Rattle.std.proofs.lemmas.Bool.{and_parts}
 use Rattle.std.proofs.lemmas.Bool.Decides.{nat_tests}
+use Rattle.std.specs.Borrow.{MutBor}
+use Rattle.sqlite_trees.specs.declared.store.Store.{Ghosts}
+use Rattle.sqlite.specs.Held.{Held, state}
 use Rattle.sqlite.specs.State.{State, HasCleanDisk}
 use Rattle.sql_rows.specs.Calls.{StaysInside}
+use Rattle.sql_rows.proofs.Stays.{clean_before}
 use Rattle.shop_model.specs.Calendar.{Moment}
 use Rattle.shop_model.specs.Rows.{Owned, at, lacks, is_empty, owned_by}
 use Rattle.shop_model.specs.Values.{Text, Branch, OfficeAct, AddCountry, AddCity, AddLanguage, AddCategory, AddActor, AddFilm, PriceFilm, WithdrawFilm, AddCast, AddBranch, AddStaff, StaffLeaves, SetManager, OfficeCommand}
@@ -82,30 +86,31 @@ pub of_act : {F : Type 0} {was act : OfficeAct} (a b : State) (r : Result ℕ F)
     → HasCleanDisk b → IfOk r (λ n. IsNumbered was n a b)
 of_act a b r is numbered clean = subst (λ (it : OfficeAct). IfOk r (λ n. IsNumbered it n a b)) (sym is) (numbered clean)
 
--- a row is put after the last of its list, whose number was told before
-pub row_added : {W X E F : Type 0} {b c : State} {last : Result ℕ E} {put : Result X E} {number n : ℕ} {row new : W} {was act : OfficeAct}
-    (get : Catalogue → List W) (set : Catalogue → List W → Catalogue) (a : State) (r : Result ℕ F)
-    → was ≡ act → ((books : Books) → Makes act (length (get books.catalogue) + 1) books (with_rows set (get books.catalogue ++ new ∷ []) books))
-    → row ≡ new → n ≡ number → IsNext last number → IfOk r (λ it. (it ≡ number) × IsOk put) → StaysInside b c put
-    → Finds a b last (λ last books. last ≡ length (get books.catalogue))
-    → Stores b c put (λ books. n ≡ length (get books.catalogue) + 1) (λ books. with_rows set (get books.catalogue ++ row ∷ []) books)
-    → HasCleanDisk c → IfOk r (λ it. IsNumbered was it a c)
-row_added {W} {b = b} {c = c} {last = last} {put = put} {number = number} {act = act} get set a r is_act makes same own next is inside found stored =
-    of_act a c r is_act (λ clean. numbered_as put r number _ (λ it. IsNumbered act it a c) is (stored clean) (λ written. λ books holds held.
-    let clean_b : HasCleanDisk b = omega (arith, clean, inside.survives.clean) in
-    let told = was_ok last next.0 _ next.1 (found clean_b) books holds held in
-    let comes : number ≡ length (get books.catalogue) + 1 = next.2 ∙ ap (λ (it : ℕ). it + 1) told.1 in
-    let holds_new = written (counts_of books) books (beside b books told.0) (own ∙ comes) in
-    let its = made_so act _ books _ (makes books) (subst (λ (it : W). HoldsWith (counts_of books) c (with_rows set (get books.catalogue ++ it ∷ []) books)) same holds_new) in
-    (its.0, ap (office_members act) comes ∙ its.1)))
+module _ {S X E F : Type 0} {g : Ghosts S} {b c : MutBor (Held S)} {put : Result X E} {was act : OfficeAct} where
+  -- a row is put after the last of its list, whose number was told before
+  pub row_added : {W : Type 0} {last : Result ℕ E} {number n : ℕ} {row new : W} (get : Catalogue → List W) (set : Catalogue → List W → Catalogue) (a : State) (r : Result ℕ F)
+      → was ≡ act → ((books : Books) → Makes act (length (get books.catalogue) + 1) books (with_rows set (get books.catalogue ++ new ∷ []) books))
+      → row ≡ new → n ≡ number → IsNext last number → IfOk r (λ it. (it ≡ number) × IsOk put) → StaysInside g b c put
+      → Finds a (state g b.now) last (λ last books. last ≡ length (get books.catalogue))
+      → Stores (state g b.now) (state g c.now) put (λ books. n ≡ length (get books.catalogue) + 1) (λ books. with_rows set (get books.catalogue ++ row ∷ []) books)
+      → HasCleanDisk (state g c.now) → IfOk r (λ it. IsNumbered was it a (state g c.now))
+  row_added {W} {last = last} {number = number} get set a r is_act makes same own next is inside found stored =
+      let to = state g c.now in
+      of_act a to r is_act (λ clean. numbered_as put r number _ (λ it. IsNumbered act it a to) is (stored clean) (λ written. λ books holds held.
+      let told = was_ok last next.0 _ next.1 (found (clean_before inside clean)) books holds held in
+      let comes : number ≡ length (get books.catalogue) + 1 = next.2 ∙ ap (λ (it : ℕ). it + 1) told.1 in
+      let holds_new = written (counts_of books) books (beside (state g b.now) books told.0) (own ∙ comes) in
+      let its = made_so act _ books _ (makes books) (subst (λ (it : W). HoldsWith (counts_of books) to (with_rows set (get books.catalogue ++ it ∷ []) books)) same holds_new) in
+      (its.0, ap (office_members act) comes ∙ its.1)))
 
--- a row is put that has no number, or changed
-pub row_changed : {X E F : Type 0} {a b : State} {put : Result X E} {was act : OfficeAct} {change : Books → Books} (r : Result ℕ F)
-    → was ≡ act → ((books : Books) → Makes act 0 books (change books)) → IfOk r (λ it. (it ≡ 0) × IsOk put) → StaysInside a b put → Stores a b put (λ _. ⊤) change
-    → HasCleanDisk b → IfOk r (λ it. IsNumbered was it a b)
-row_changed {a = a} {b = b} {put = put} {act = act} {change = change} r is_act makes is inside stored =
-    of_act a b r is_act (λ clean. numbered_as put r 0 _ (λ it. IsNumbered act it a b) is (stored clean)
-    (λ written. λ books holds held. made_so act 0 books (change books) (makes books) (written (counts_of books) books (beside a books holds) tt)))
+  -- a row is put that has no number, or changed
+  pub row_changed : {change : Books → Books} (r : Result ℕ F) → was ≡ act → ((books : Books) → Makes act 0 books (change books)) → IfOk r (λ it. (it ≡ 0) × IsOk put)
+      → StaysInside g b c put → Stores (state g b.now) (state g c.now) put (λ _. ⊤) change → HasCleanDisk (state g c.now) → IfOk r (λ it. IsNumbered was it (state g b.now) (state g c.now))
+  row_changed {change = change} r is_act makes is inside stored =
+      let from = state g b.now in
+      let to = state g c.now in
+      of_act from to r is_act (λ clean. numbered_as put r 0 _ (λ it. IsNumbered act it from to) is (stored clean)
+      (λ written. λ books holds held. made_so act 0 books (change books) (makes books) (written (counts_of books) books (beside from books holds) tt)))
 
 -- ---- the command itself
 

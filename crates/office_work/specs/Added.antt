@@ -1,7 +1,6 @@
 -- What the rows of an accepted command of head office make of the books, and what is replied of them.
 use Rattle.std.specs.Prelude.{◌≡◌, ℕ, ◌+◌, [], ◌∷◌, ◌++◌, length}
 use Rattle.sqlite.specs.State.{State}
-use Rattle.shop_model.specs.Json.{object}
 use Rattle.shop_model.specs.Values.{Text, OfficeAct, OfficeCommand}
 use Rattle.shop_model.specs.Machine.{Done, office_acted, office_told, office_text, office_done}
 use Rattle.shop_model.specs.Answers.{Answer, answer_of}
@@ -28,10 +27,6 @@ IsActed act new books = HoldsWith (with_counts act books) new (with_act act book
 abbrev pub IsNumbered : OfficeAct → ℕ → State → State → Type 0
 IsNumbered act number old new =
     (books : Books) → Holds old books → IsHeld books → IsActed act new books × (office_members act number ≡ office_told act books.catalogue)
-
--- so they do, and the reply tells of it
-abbrev pub AreAdded : OfficeAct → Text → State → State → Type 0
-AreAdded act text old new = (books : Books) → Holds old books → IsHeld books → IsActed act new books × (text ≡ object (office_told act books.catalogue))
 
 -- the books with the command kept
 abbrev pub with_kept : OfficeCommand → Text → Books → Books

@@ -33,8 +33,7 @@ pub(crate) fn add<S: Alter>(
     form: &Bytes,
 ) -> Result<Reply, StoreFault>
     requires { form.now ≡ office_command_form (seen_office command.now) }
-    ensures same_reference { tx.new.conn.ghost_name ≡ tx.old.conn.ghost_name }
-    ensures inside { StaysInside (state S.Store tx.old.conn.now) (state S.Store tx.new.conn.now) result }
+    ensures inside { StaysInside S.Store tx.old.conn tx.new.conn result }
     ensures added { HasCleanDisk (state S.Store tx.new.conn.now)
         → IfOk result (λ reply. IsAdded (seen_office command.now) (seen_reply reply) (state S.Store tx.old.conn.now) (state S.Store tx.new.conn.now)) }
 {
@@ -62,8 +61,7 @@ fn keep<S: Alter>(
     reply: &str,
 ) -> Result<(), StoreFault>
     requires { form.now ≡ office_command_form (seen_office command.now) }
-    ensures same_reference { tx.new.conn.ghost_name ≡ tx.old.conn.ghost_name }
-    ensures inside { StaysInside (state S.Store tx.old.conn.now) (state S.Store tx.new.conn.now) result }
+    ensures inside { StaysInside S.Store tx.old.conn tx.new.conn result }
     ensures kept { HasCleanDisk (state S.Store tx.new.conn.now)
         → OnOk result (IsKept (seen_office command.now) reply.now (state S.Store tx.old.conn.now) (state S.Store tx.new.conn.now)) }
 {
@@ -73,8 +71,7 @@ fn keep<S: Alter>(
 
 /// Writes the rows of an act, and gives the number of its new row, or 0 where it has none.
 fn write<S: Alter>(tx: &mut Transaction<'_, S>, act: &OfficeAct) -> Result<u32, StoreFault>
-    ensures same_reference { tx.new.conn.ghost_name ≡ tx.old.conn.ghost_name }
-    ensures inside { StaysInside (state S.Store tx.old.conn.now) (state S.Store tx.new.conn.now) result }
+    ensures inside { StaysInside S.Store tx.old.conn tx.new.conn result }
     ensures numbered { HasCleanDisk (state S.Store tx.new.conn.now)
         → IfOk result (λ number. IsNumbered (seen_office_act act.now) number (state S.Store tx.old.conn.now) (state S.Store tx.new.conn.now)) }
 {
@@ -163,8 +160,7 @@ fn without_number(set: Result<(), StoreFault>) -> Result<u32, StoreFault>
 
 /// Adds a branch, and begins its counts.
 fn add_branch<S: Alter>(tx: &mut Transaction<'_, S>, branch: &Branch) -> Result<u32, StoreFault>
-    ensures same_reference { tx.new.conn.ghost_name ≡ tx.old.conn.ghost_name }
-    ensures inside { StaysInside (state S.Store tx.old.conn.now) (state S.Store tx.new.conn.now) result }
+    ensures inside { StaysInside S.Store tx.old.conn tx.new.conn result }
     ensures numbered { HasCleanDisk (state S.Store tx.new.conn.now)
         → IfOk result (λ number. IsNumbered (model.AddBranch (seen_branch branch.now)) number (state S.Store tx.old.conn.now) (state S.Store tx.new.conn.now)) }
 {

@@ -37,8 +37,7 @@ pub(crate) fn find<S: Alter>(
     tx: &mut Transaction<'_, S>,
     command: &OfficeCommand,
 ) -> Result<SharedFound, StoreFault>
-    ensures same_reference { tx.new.conn.ghost_name ≡ tx.old.conn.ghost_name }
-    ensures inside { StaysWithin (state S.Store tx.old.conn.now) (state S.Store tx.new.conn.now) result }
+    ensures inside { StaysWithin S.Store tx.old.conn tx.new.conn result }
     ensures found { Finds (state S.Store tx.old.conn.now) (state S.Store tx.new.conn.now) result
         (λ found books. (kept : _)
         → IsKeptFor (seen_office command.now) kept books → Shares books.catalogue (seen_office command.now) (shared_of kept found)) }
@@ -58,8 +57,7 @@ fn find_rows<S: Alter>(
     tx: &mut Transaction<'_, S>,
     act: &OfficeAct,
 ) -> Result<SharedRows, StoreFault>
-    ensures same_reference { tx.new.conn.ghost_name ≡ tx.old.conn.ghost_name }
-    ensures inside { StaysWithin (state S.Store tx.old.conn.now) (state S.Store tx.new.conn.now) result }
+    ensures inside { StaysWithin S.Store tx.old.conn tx.new.conn result }
     ensures found { HasCleanDisk (state S.Store tx.new.conn.now) → IfOk result (λ rows.
         FindsFor (seen_office_act act.now) rows (state S.Store tx.old.conn.now) (state S.Store tx.new.conn.now)) }
 {
@@ -82,8 +80,7 @@ fn find_rows<S: Alter>(
 
 /// Whether there are the language and the category of a new film.
 fn for_film<S: Alter>(tx: &mut Transaction<'_, S>, film: &Film) -> Result<SharedRows, StoreFault>
-    ensures same_reference { tx.new.conn.ghost_name ≡ tx.old.conn.ghost_name }
-    ensures inside { StaysWithin (state S.Store tx.old.conn.now) (state S.Store tx.new.conn.now) result }
+    ensures inside { StaysWithin S.Store tx.old.conn tx.new.conn result }
     ensures found { HasCleanDisk (state S.Store tx.new.conn.now) → IfOk result (λ rows.
         FindsFor (model.AddFilm (seen_film film.now)) rows (state S.Store tx.old.conn.now) (state S.Store tx.new.conn.now)) }
 {
@@ -102,8 +99,7 @@ fn for_cast<S: Alter>(
     film: FilmNo,
     actor: ActorNo,
 ) -> Result<SharedRows, StoreFault>
-    ensures same_reference { tx.new.conn.ghost_name ≡ tx.old.conn.ghost_name }
-    ensures inside { StaysWithin (state S.Store tx.old.conn.now) (state S.Store tx.new.conn.now) result }
+    ensures inside { StaysWithin S.Store tx.old.conn tx.new.conn result }
     ensures found { HasCleanDisk (state S.Store tx.new.conn.now) → IfOk result (λ rows.
         FindsFor (model.AddCast (record { film = film; actor = actor })) rows (state S.Store tx.old.conn.now) (state S.Store tx.new.conn.now)) }
 {
@@ -123,8 +119,7 @@ fn for_branch<S: Alter>(
     tx: &mut Transaction<'_, S>,
     branch: &Branch,
 ) -> Result<SharedRows, StoreFault>
-    ensures same_reference { tx.new.conn.ghost_name ≡ tx.old.conn.ghost_name }
-    ensures inside { StaysWithin (state S.Store tx.old.conn.now) (state S.Store tx.new.conn.now) result }
+    ensures inside { StaysWithin S.Store tx.old.conn tx.new.conn result }
     ensures found { HasCleanDisk (state S.Store tx.new.conn.now) → IfOk result (λ rows.
         FindsFor (model.AddBranch (seen_branch branch.now)) rows (state S.Store tx.old.conn.now) (state S.Store tx.new.conn.now)) }
 {
@@ -139,8 +134,7 @@ fn for_branch<S: Alter>(
 
 /// Whether there are the branch and the city of a new member of staff.
 fn for_staff<S: Alter>(tx: &mut Transaction<'_, S>, staff: &Staff) -> Result<SharedRows, StoreFault>
-    ensures same_reference { tx.new.conn.ghost_name ≡ tx.old.conn.ghost_name }
-    ensures inside { StaysWithin (state S.Store tx.old.conn.now) (state S.Store tx.new.conn.now) result }
+    ensures inside { StaysWithin S.Store tx.old.conn tx.new.conn result }
     ensures found { HasCleanDisk (state S.Store tx.new.conn.now) → IfOk result (λ rows.
         FindsFor (model.AddStaff (seen_staff staff.now)) rows (state S.Store tx.old.conn.now) (state S.Store tx.new.conn.now)) }
 {
@@ -159,8 +153,7 @@ fn for_manager<S: Alter>(
     branch: BranchNo,
     staff: StaffNo,
 ) -> Result<SharedRows, StoreFault>
-    ensures same_reference { tx.new.conn.ghost_name ≡ tx.old.conn.ghost_name }
-    ensures inside { StaysWithin (state S.Store tx.old.conn.now) (state S.Store tx.new.conn.now) result }
+    ensures inside { StaysWithin S.Store tx.old.conn tx.new.conn result }
     ensures found { HasCleanDisk (state S.Store tx.new.conn.now) → IfOk result (λ rows.
         FindsFor (model.SetManager branch staff) rows (state S.Store tx.old.conn.now) (state S.Store tx.new.conn.now)) }
 {

@@ -32,8 +32,7 @@ pub fn work<S: Alter>(
     limits: Limits,
     command: &OfficeCommand,
 ) -> Result<(Reply, bool), StoreFault>
-    ensures same_reference { tx.new.conn.ghost_name ≡ tx.old.conn.ghost_name }
-    ensures inside { StaysInside (state S.Store tx.old.conn.now) (state S.Store tx.new.conn.now) result }
+    ensures inside { StaysInside S.Store tx.old.conn tx.new.conn result }
     ensures works { HasCleanDisk (state S.Store tx.new.conn.now) → IfOk result (λ done. (rules : model.Rules) → rules.commands ≡ limits.commands
         → Works rules (seen_office command.now) (seen_reply done.0) done.1 (state S.Store tx.old.conn.now) (state S.Store tx.new.conn.now)) }
 {

@@ -61,30 +61,12 @@ pushed : {A : Type 0} (xs : List A) (x : A) → length (xs ++ x ∷ []) ≡ leng
 pushed [] x = refl
 pushed (y ∷ xs) x = let shorter = pushed xs x in omega (arith, shorter)
 
-pub one_put : {A : Type 0} (b : ℕ) (make : ℕ → A) (rows : List (Row A)) (a : ℕ) → length (of a (put b make rows)) ≡ cond (a == b && true) (length (of a rows) + 1) (length (of a rows))
-one_put {A} b make rows a = go (a == b) refl
-  where
-    go : (t : Bool) → (a == b) ≡ t → length (of a (put b make rows)) ≡ cond (t && true) (length (of a rows) + 1) (length (of a rows))
-    go true e = subst (λ n. length (of n (put b make rows)) ≡ length (of n rows) + 1) (sym (same_if a b e)) (ap length (put_own b make rows) ∙ pushed (of b rows) (make (next b rows)))
-    go false e = ap length (put_other a b make rows (turned a b false e))
-
 pub one_kept : (b : ℕ) (x : Kept) (rows : List (Owned Kept)) (a : ℕ) → length (owned_by a (rows ++ record { owner = b; it = x } ∷ [])) ≡ cond (a == b && true) (length (owned_by a rows) + 1) (length (owned_by a rows))
 one_kept b x rows a = go (a == b) refl
   where
     go : (t : Bool) → (a == b) ≡ t → length (owned_by a (rows ++ record { owner = b; it = x } ∷ [])) ≡ cond (t && true) (length (owned_by a rows) + 1) (length (owned_by a rows))
     go true e = ap length (more_yes (λ (row : Owned Kept). row.it) (λ row. row.owner == a) rows (record { owner = b; it = x }) (turned a b true e)) ∙ pushed (owned_by a rows) x
     go false e = ap length (more_no (λ (row : Owned Kept). row.it) (λ row. row.owner == a) rows (record { owner = b; it = x }) (turned a b false e))
-
--- a payment
-pub payment_counted : (b : ℕ) (make : ℕ → Payment) (books : Books) → 1 ≤ b → counts_of (record books { payments = put b make books.payments }) ≡ raise b 3 1 (counts_of books)
-payment_counted b make books low = λ i. record { counters = counters_grown b 3 1 books (record books { payments = put b make books.payments }) low refl refl grows i; outs = (counts_of books).outs }
-  where
-    grows : GrowsBy b 3 1 books (record books { payments = put b make books.payments })
-    grows a kind.Customers = same_count (a == b) 1 _
-    grows a kind.Copies = same_count (a == b) 1 _
-    grows a kind.Rentals = same_count (a == b) 1 _
-    grows a kind.Payments = one_put b make books.payments a
-    grows a kind.Kept = same_count (a == b) 1 _
 
 -- a kept command
 pub kept_counted : (b : ℕ) (x : Kept) (books : Books) → 1 ≤ b → counts_of (record books { kept = books.kept ++ record { owner = b; it = x } ∷ [] }) ≡ raise b 4 1 (counts_of books)
@@ -96,21 +78,6 @@ kept_counted b x books low = λ i. record { counters = counters_grown b 4 1 book
     grows a kind.Rentals = same_count (a == b) 1 _
     grows a kind.Payments = same_count (a == b) 1 _
     grows a kind.Kept = one_kept b x books.kept a
-
--- a rental, which is open
-pub rental_counted : (b : ℕ) (x : Rental) (books : Books) → 1 ≤ b → x.returned ≡ None
-    → counts_of (record books { rentals = put b (λ _. x) books.rentals }) ≡ put_out (record { branch = b; copy = x.copy; rental = next b books.rentals }) (raise b 2 1 (counts_of books))
-rental_counted b x books low not_back = λ i. record { counters = counters_grown b 2 1 books (record books { rentals = put b (λ _. x) books.rentals }) low refl refl grows i; outs = outs_more i }
-  where
-    grows : GrowsBy b 2 1 books (record books { rentals = put b (λ _. x) books.rentals })
-    grows a kind.Customers = same_count (a == b) 1 _
-    grows a kind.Copies = same_count (a == b) 1 _
-    grows a kind.Rentals = one_put b (λ _. x) books.rentals a
-    grows a kind.Payments = same_count (a == b) 1 _
-    grows a kind.Kept = same_count (a == b) 1 _
-
-    outs_more : map out_of (filter is_open (put b (λ _. x) books.rentals)) ≡ map out_of (filter is_open books.rentals) ++ record { branch = b; copy = x.copy; rental = next b books.rentals } ∷ []
-    outs_more = more_yes out_of is_open books.rentals (record { branch = b; number = next b books.rentals; it = x }) (ap is_none not_back)
 
 -- ---- many rows put last
 

@@ -90,9 +90,6 @@ pub append_none : {X : Type 0} (xs : List X) → xs ++ [] ≡ xs
 append_none [] = refl
 append_none (x ∷ xs) = ap (λ l. x ∷ l) (append_none xs)
 
-abbrev is_of_branch : ℕ → Owned Kept → Bool
-is_of_branch b row = row.owner == b
-
 -- no row of head office is a branch's
 none_of_office : (b : ℕ) → 1 ≤ b → (test : sql.Row → Bool) (office : List OfficeKept) → filter (λ vs. number_test 0 b vs && test vs) (map office_kept_columns office) ≡ []
 none_of_office b low test [] = refl

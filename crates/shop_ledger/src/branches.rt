@@ -31,8 +31,7 @@ pub fn last_at<S: Alter>(
     tx: &mut Transaction<'_, S>,
     branch: BranchNo,
 ) -> Result<Option<Option<Moment>>, StoreFault>
-    ensures same_reference { tx.new.conn.ghost_name ≡ tx.old.conn.ghost_name }
-    ensures inside { StaysInside (state S.Store tx.old.conn.now) (state S.Store tx.new.conn.now) result }
+    ensures inside { StaysInside S.Store tx.old.conn tx.new.conn result }
     ensures found { Finds (state S.Store tx.old.conn.now) (state S.Store tx.new.conn.now) result
         (λ last books. last ≡ (if lacks books.catalogue.branches branch then None else Some (head (owned_by branch books.lasts)))) }
 {
@@ -50,8 +49,7 @@ pub fn set_last<S: Alter>(
     branch: BranchNo,
     moment: Moment,
 ) -> Result<(), StoreFault>
-    ensures same_reference { tx.new.conn.ghost_name ≡ tx.old.conn.ghost_name }
-    ensures inside { StaysInside (state S.Store tx.old.conn.now) (state S.Store tx.new.conn.now) result }
+    ensures inside { StaysInside S.Store tx.old.conn tx.new.conn result }
     ensures set { Stores (state S.Store tx.old.conn.now) (state S.Store tx.new.conn.now) result (λ _. ⊤)
         (λ books. record books { lasts = set_last branch moment books.lasts }) }
 {

@@ -60,8 +60,7 @@ fn count_by<S: Alter>(
     caller: u32,
     kind: CountKind,
 ) -> Result<u32, StoreFault>
-    ensures same_reference { tx.new.conn.ghost_name ≡ tx.old.conn.ghost_name }
-    ensures inside { StaysInside (state S.Store tx.old.conn.now) (state S.Store tx.new.conn.now) result }
+    ensures inside { StaysInside S.Store tx.old.conn tx.new.conn result }
     ensures branch { HasCleanDisk (state S.Store tx.new.conn.now) → 1 ≤ caller
         → IfOk result (λ count. Reads (state S.Store tx.old.conn.now) (state S.Store tx.new.conn.now)
         (λ books. count ≡ count_in (kind_number kind) caller books)) }
@@ -82,8 +81,7 @@ pub fn count_of<S: Alter>(
     branch: BranchNo,
     kind: CountKind,
 ) -> Result<u32, StoreFault>
-    ensures same_reference { tx.new.conn.ghost_name ≡ tx.old.conn.ghost_name }
-    ensures inside { StaysInside (state S.Store tx.old.conn.now) (state S.Store tx.new.conn.now) result }
+    ensures inside { StaysInside S.Store tx.old.conn tx.new.conn result }
     ensures count { Finds (state S.Store tx.old.conn.now) (state S.Store tx.new.conn.now) result
         (λ count books. count ≡ count_in (kind_number kind) branch books) }
 {
@@ -92,8 +90,7 @@ pub fn count_of<S: Alter>(
 
 /// How many commands of head office are kept. One row is read, however many there are.
 pub fn office_keys<S: Alter>(tx: &mut Transaction<'_, S>) -> Result<u32, StoreFault>
-    ensures same_reference { tx.new.conn.ghost_name ≡ tx.old.conn.ghost_name }
-    ensures inside { StaysInside (state S.Store tx.old.conn.now) (state S.Store tx.new.conn.now) result }
+    ensures inside { StaysInside S.Store tx.old.conn tx.new.conn result }
     ensures count { Finds (state S.Store tx.old.conn.now) (state S.Store tx.new.conn.now) result
         (λ count books. count ≡ length books.catalogue.kept) }
 {
@@ -106,8 +103,7 @@ pub fn take_number<S: Alter>(
     branch: BranchNo,
     kind: CountKind,
 ) -> Result<u32, StoreFault>
-    ensures same_reference { tx.new.conn.ghost_name ≡ tx.old.conn.ghost_name }
-    ensures inside { StaysInside (state S.Store tx.old.conn.now) (state S.Store tx.new.conn.now) result }
+    ensures inside { StaysInside S.Store tx.old.conn tx.new.conn result }
     ensures taken { HasCleanDisk (state S.Store tx.new.conn.now)
         → IfOk result (λ number. Tallies (state S.Store tx.old.conn.now) (state S.Store tx.new.conn.now) (CountsOnce branch kind)
         (raise branch (kind_number kind) 1)
@@ -123,8 +119,7 @@ fn take_by<S: Alter>(
     kind: CountKind,
     more: u32,
 ) -> Result<u32, StoreFault>
-    ensures same_reference { tx.new.conn.ghost_name ≡ tx.old.conn.ghost_name }
-    ensures inside { StaysInside (state S.Store tx.old.conn.now) (state S.Store tx.new.conn.now) result }
+    ensures inside { StaysInside S.Store tx.old.conn tx.new.conn result }
     ensures taken { HasCleanDisk (state S.Store tx.new.conn.now)
         → IfOk result (λ last. Tallies (state S.Store tx.old.conn.now) (state S.Store tx.new.conn.now) (CountsOnce caller kind)
         (raise caller (kind_number kind) more)
@@ -146,8 +141,7 @@ pub fn take_numbers<S: Alter>(
     kind: CountKind,
     more: u32,
 ) -> Result<u32, StoreFault>
-    ensures same_reference { tx.new.conn.ghost_name ≡ tx.old.conn.ghost_name }
-    ensures inside { StaysInside (state S.Store tx.old.conn.now) (state S.Store tx.new.conn.now) result }
+    ensures inside { StaysInside S.Store tx.old.conn tx.new.conn result }
     ensures taken { HasCleanDisk (state S.Store tx.new.conn.now)
         → IfOk result (λ last. Tallies (state S.Store tx.old.conn.now) (state S.Store tx.new.conn.now) (CountsOnce branch kind)
         (raise branch (kind_number kind) more)
@@ -163,8 +157,7 @@ pub fn raise_count<S: Alter>(
     kind: CountKind,
     more: u32,
 ) -> Result<(), StoreFault>
-    ensures same_reference { tx.new.conn.ghost_name ≡ tx.old.conn.ghost_name }
-    ensures inside { StaysInside (state S.Store tx.old.conn.now) (state S.Store tx.new.conn.now) result }
+    ensures inside { StaysInside S.Store tx.old.conn tx.new.conn result }
     ensures raised { HasCleanDisk (state S.Store tx.new.conn.now)
         → OnOk result (Tallies (state S.Store tx.old.conn.now) (state S.Store tx.new.conn.now) (CountsOnce branch kind) (raise branch (kind_number kind) more)
         (λ _. ⊤)) }
@@ -175,8 +168,7 @@ pub fn raise_count<S: Alter>(
 
 /// Raises the count of head office's kept commands by one. A count that isn't there is a fault. After a fault the transaction may be rolled back.
 pub fn raise_office_keys<S: Alter>(tx: &mut Transaction<'_, S>) -> Result<(), StoreFault>
-    ensures same_reference { tx.new.conn.ghost_name ≡ tx.old.conn.ghost_name }
-    ensures inside { StaysInside (state S.Store tx.old.conn.now) (state S.Store tx.new.conn.now) result }
+    ensures inside { StaysInside S.Store tx.old.conn tx.new.conn result }
     ensures raised { HasCleanDisk (state S.Store tx.new.conn.now)
         → OnOk result (Tallies (state S.Store tx.old.conn.now) (state S.Store tx.new.conn.now) (CountsOnce 0 CountKind.Kept) (raise 0 kept_kind 1) (λ _. ⊤)) }
 {
@@ -200,8 +192,7 @@ pub fn out_at<S: Alter>(
     branch: BranchNo,
     copy: CopyNo,
 ) -> Result<Option<RentalNo>, StoreFault>
-    ensures same_reference { tx.new.conn.ghost_name ≡ tx.old.conn.ghost_name }
-    ensures inside { StaysInside (state S.Store tx.old.conn.now) (state S.Store tx.new.conn.now) result }
+    ensures inside { StaysInside S.Store tx.old.conn tx.new.conn result }
     ensures found { Finds (state S.Store tx.old.conn.now) (state S.Store tx.new.conn.now) result
         (λ out books. option_to_list out ≡ map (λ it. it.0) (filter (λ it. keeps_out copy it.1) (numbered (of branch books.rentals)))) }
 {
@@ -219,8 +210,7 @@ pub fn rentals_out<S: Alter>(
     alloc: Global,
     branch: BranchNo,
 ) -> Result<Vec<RentalNo>, StoreFault>
-    ensures same_reference { tx.new.conn.ghost_name ≡ tx.old.conn.ghost_name }
-    ensures inside { StaysInside (state S.Store tx.old.conn.now) (state S.Store tx.new.conn.now) result }
+    ensures inside { StaysInside S.Store tx.old.conn tx.new.conn result }
     ensures found { Finds (state S.Store tx.old.conn.now) (state S.Store tx.new.conn.now) result
         (λ rentals books. rentals.items ≡ map (λ it. it.0) (filter (λ it. is_none it.1.returned) (numbered (of branch books.rentals)))) }
 {
@@ -252,8 +242,7 @@ pub fn put_out<S: Alter>(
     copy: CopyNo,
     rental: RentalNo,
 ) -> Result<(), StoreFault>
-    ensures same_reference { tx.new.conn.ghost_name ≡ tx.old.conn.ghost_name }
-    ensures inside { StaysInside (state S.Store tx.old.conn.now) (state S.Store tx.new.conn.now) result }
+    ensures inside { StaysInside S.Store tx.old.conn tx.new.conn result }
     ensures put { HasCleanDisk (state S.Store tx.new.conn.now)
         → OnOk result (Tallies (state S.Store tx.old.conn.now) (state S.Store tx.new.conn.now) (λ _. ⊤)
         (put_out (record { branch = branch; copy = copy; rental = rental })) (λ _. ⊤)) }
@@ -276,8 +265,7 @@ pub fn drop_out<S: Alter>(
     copy: CopyNo,
     rental: RentalNo,
 ) -> Result<(), StoreFault>
-    ensures same_reference { tx.new.conn.ghost_name ≡ tx.old.conn.ghost_name }
-    ensures inside { StaysInside (state S.Store tx.old.conn.now) (state S.Store tx.new.conn.now) result }
+    ensures inside { StaysInside S.Store tx.old.conn tx.new.conn result }
     ensures dropped { HasCleanDisk (state S.Store tx.new.conn.now)
         → OnOk result (Tallies (state S.Store tx.old.conn.now) (state S.Store tx.new.conn.now) (IsOutBy branch copy rental) (drop_out branch copy rental)
         (λ _. ⊤)) }

@@ -58,8 +58,7 @@ fn kept_by<S: Alter>(
     caller: u32,
     key: &Key,
 ) -> Result<Option<KeptRow>, StoreFault>
-    ensures same_reference { tx.new.conn.ghost_name ≡ tx.old.conn.ghost_name }
-    ensures inside { StaysInside (state S.Store tx.old.conn.now) (state S.Store tx.new.conn.now) result }
+    ensures inside { StaysInside S.Store tx.old.conn tx.new.conn result }
     ensures branch { HasCleanDisk (state S.Store tx.new.conn.now) → 1 ≤ caller
         → IfOk result (λ kept. Reads (state S.Store tx.old.conn.now) (state S.Store tx.new.conn.now)
         (λ books. option_map seen_kept kept ≡ head (map stored_kept (filter (λ it. bytes_eq it.command.key key.now) (owned_by caller books.kept))))) }
@@ -81,8 +80,7 @@ pub fn kept_at<S: Alter>(
     branch: BranchNo,
     key: &Key,
 ) -> Result<Option<KeptRow>, StoreFault>
-    ensures same_reference { tx.new.conn.ghost_name ≡ tx.old.conn.ghost_name }
-    ensures inside { StaysInside (state S.Store tx.old.conn.now) (state S.Store tx.new.conn.now) result }
+    ensures inside { StaysInside S.Store tx.old.conn tx.new.conn result }
     ensures found { Finds (state S.Store tx.old.conn.now) (state S.Store tx.new.conn.now) result
         (λ kept books. option_map seen_kept kept ≡ head (map stored_kept (filter (λ it. bytes_eq it.command.key key.now) (owned_by branch books.kept)))) }
 {
@@ -94,8 +92,7 @@ pub fn office_kept_at<S: Alter>(
     tx: &mut Transaction<'_, S>,
     key: &Key,
 ) -> Result<Option<KeptRow>, StoreFault>
-    ensures same_reference { tx.new.conn.ghost_name ≡ tx.old.conn.ghost_name }
-    ensures inside { StaysInside (state S.Store tx.old.conn.now) (state S.Store tx.new.conn.now) result }
+    ensures inside { StaysInside S.Store tx.old.conn tx.new.conn result }
     ensures found { Finds (state S.Store tx.old.conn.now) (state S.Store tx.new.conn.now) result
         (λ kept books. option_map seen_kept kept ≡ head (map stored_office_kept (filter (λ it. bytes_eq it.command.key key.now) books.catalogue.kept))) }
 {
@@ -110,8 +107,7 @@ fn put_by<S: Alter>(
     form: &Bytes,
     reply: &str,
 ) -> Result<(), StoreFault>
-    ensures same_reference { tx.new.conn.ghost_name ≡ tx.old.conn.ghost_name }
-    ensures inside { StaysInside (state S.Store tx.old.conn.now) (state S.Store tx.new.conn.now) result }
+    ensures inside { StaysInside S.Store tx.old.conn tx.new.conn result }
     ensures branch { HasCleanDisk (state S.Store tx.new.conn.now)
         → OnOk result ((command : model.Command) → command.key ≡ key.now → command_form command ≡ form.now
         → Writes (state S.Store tx.old.conn.now) (state S.Store tx.new.conn.now) (λ _. ⊤)
@@ -142,8 +138,7 @@ pub fn put_kept<S: Alter>(
     form: &Bytes,
     reply: &str,
 ) -> Result<(), StoreFault>
-    ensures same_reference { tx.new.conn.ghost_name ≡ tx.old.conn.ghost_name }
-    ensures inside { StaysInside (state S.Store tx.old.conn.now) (state S.Store tx.new.conn.now) result }
+    ensures inside { StaysInside S.Store tx.old.conn tx.new.conn result }
     ensures put { HasCleanDisk (state S.Store tx.new.conn.now)
         → OnOk result ((command : model.Command) → command.key ≡ key.now → command_form command ≡ form.now
         → Writes (state S.Store tx.old.conn.now) (state S.Store tx.new.conn.now) (λ _. ⊤)
@@ -159,8 +154,7 @@ pub fn put_office_kept<S: Alter>(
     form: &Bytes,
     reply: &str,
 ) -> Result<(), StoreFault>
-    ensures same_reference { tx.new.conn.ghost_name ≡ tx.old.conn.ghost_name }
-    ensures inside { StaysInside (state S.Store tx.old.conn.now) (state S.Store tx.new.conn.now) result }
+    ensures inside { StaysInside S.Store tx.old.conn tx.new.conn result }
     ensures put { HasCleanDisk (state S.Store tx.new.conn.now)
         → OnOk result ((command : model.OfficeCommand) → command.key ≡ key.now → office_command_form command ≡ form.now
         → Writes (state S.Store tx.old.conn.now) (state S.Store tx.new.conn.now) (λ _. ⊤) (λ books. record books {

@@ -97,8 +97,7 @@ pub fn payments_of_customer<S: Alter>(
     branch: BranchNo,
     customer: CustomerNo,
 ) -> Result<Vec<PaymentRow>, StoreFault>
-    ensures same_reference { tx.new.conn.ghost_name ≡ tx.old.conn.ghost_name }
-    ensures inside { StaysInside (state S.Store tx.old.conn.now) (state S.Store tx.new.conn.now) result }
+    ensures inside { StaysInside S.Store tx.old.conn tx.new.conn result }
     ensures rows { Finds (state S.Store tx.old.conn.now) (state S.Store tx.new.conn.now) result
         (λ rows books. map (λ row. seen_payment row.payment) rows.items ≡ filter (λ it. it.customer == customer) (of branch books.payments)) }
 {
@@ -118,8 +117,7 @@ pub fn payments_between<S: Alter>(
     start: Moment,
     end: Moment,
 ) -> Result<Vec<PaymentRow>, StoreFault>
-    ensures same_reference { tx.new.conn.ghost_name ≡ tx.old.conn.ghost_name }
-    ensures inside { StaysInside (state S.Store tx.old.conn.now) (state S.Store tx.new.conn.now) result }
+    ensures inside { StaysInside S.Store tx.old.conn tx.new.conn result }
     ensures rows { Finds (state S.Store tx.old.conn.now) (state S.Store tx.new.conn.now) result
         (λ rows books. map (λ row. seen_payment row.payment) rows.items ≡ filter (λ it. is_by start it.paid && is_earlier it.paid end) (of branch books.payments)) }
 {
@@ -144,8 +142,7 @@ pub fn put_payment<S: Alter>(
     tx: &mut Transaction<'_, S>,
     row: &PaymentRow,
 ) -> Result<(), StoreFault>
-    ensures same_reference { tx.new.conn.ghost_name ≡ tx.old.conn.ghost_name }
-    ensures inside { StaysInside (state S.Store tx.old.conn.now) (state S.Store tx.new.conn.now) result }
+    ensures inside { StaysInside S.Store tx.old.conn tx.new.conn result }
     ensures put { Stores (state S.Store tx.old.conn.now) (state S.Store tx.new.conn.now) result (λ _. ⊤)
         (λ books. record books { payments = books.payments ++ seen_payment_row row.now ∷ [] }) }
 {

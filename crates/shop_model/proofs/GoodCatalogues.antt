@@ -226,21 +226,6 @@ none_kept command (k ∷ ks) v e = elim (cases_Bool (same_office k.command comma
   refused : (r : Refusal) → Refused r ≡ Accepted → ⊥
   refused r e = cc
 
-office_kept : (act : OfficeAct) (it : Catalogue) → (office_acted act it).office_token ≡ it.office_token
-office_kept (AddCountry name) it = refl
-office_kept (AddCity city) it = refl
-office_kept (AddLanguage name) it = refl
-office_kept (AddCategory name) it = refl
-office_kept (AddActor actor) it = refl
-office_kept (AddFilm film) it = refl
-office_kept (PriceFilm f rate) it = refl
-office_kept (WithdrawFilm f) it = refl
-office_kept (AddCast cast) it = refl
-office_kept (AddBranch branch) it = refl
-office_kept (AddStaff staff) it = refl
-office_kept (StaffLeaves s) it = refl
-office_kept (SetManager b s) it = refl
-
 pub done_grows : (command : OfficeCommand) (it : Catalogue) → Grows it (office_done command it)
 done_grows command it = let g = office_grows command.act it in record { countries = g.countries; cities = g.cities; languages = g.languages; categories = g.categories; actors = g.actors; films = g.films; branches = g.branches; staff = g.staff }
 

@@ -8,7 +8,7 @@ use Rattle.shop_model.specs.Refusals.{TooLong, NoCounter, NoRoute, BadBody, KeyU
 use Rattle.shop_model.specs.Json.{escape_byte}
 use Rattle.shop_model.specs.Machine.{Reply, Sorry, Done, Shows}
 use Rattle.shop_model.specs.Answers.{Answer, answer_of, problem_answer}
-use Rattle.shop_model.specs.Books.{Books, Event, Caller, NoRoom, counted_one, caller_in, reply_in, after, run, last_books}
+use Rattle.shop_model.specs.Books.{Books, Event, Caller, counted_one, caller_in, reply_in, after, run, last_books}
 use Rattle.shop_model.specs.Histories.{is_decided, is_store_failure, is_answer, outcome_of, counted_in, fails_for_good, has_failed, IsRun, IsStep}
 use Rattle.shop_model.proofs.CustodyLemmas.{and_parts}
 
@@ -47,11 +47,6 @@ decided_is (Sorry Already) = refl
 decided_is (Sorry Usage) = refl
 decided_is (Done text) = refl
 decided_is (Shows shown) = refl
-
--- want of memory or room is no failure of the store, and neither is a decision
-pub memory_is : outcome_of (problem_answer Memory) ≡ NoRoom
-unfolding escape_byte
-memory_is = refl
 
 memory_answer : is_answer (problem_answer Memory) ≡ true
 unfolding escape_byte

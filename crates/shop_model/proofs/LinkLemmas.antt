@@ -126,10 +126,6 @@ pub all_joined : {A B : Type 0} (p : B → Bool) (q : A → Bool) (f : A → Lis
 all_joined p q f [] shows all = refl
 all_joined p q f (x ∷ xs) shows all = let h = and_parts (q x) (list_all q xs) all in all_append p (f x) (flat_map f xs) (shows x h.0) (all_joined p q f xs shows h.1)
 
-pub all_true : {A : Type 0} (xs : List A) → list_all (λ (x : A). true) xs ≡ true
-all_true [] = refl
-all_true (x ∷ xs) = all_true xs
-
 pub none_lacks : {A : Type 0} (rows : List A) (ns : List ℕ) → list_any (lacks rows) ns ≡ false → list_all (has_row rows) ns ≡ true
 none_lacks rows [] none = refl
 none_lacks rows (n ∷ ns) none = let h = or_parts (lacks rows n) (list_any (lacks rows) ns) none in rw h.0 (none_lacks rows ns h.1)

@@ -1,5 +1,5 @@
 -- A form shows where it ends: what two forms begin with is one part, and what follows is one too.
-use Rattle.std.proofs.Common.{◌≡◌, ℕ, ◌%◌, ◌/◌, List, [], ◌∷◌, ◌++◌, length, Bool, true, false, Option, Some, None, refl, ap, arith}
+use Rattle.std.proofs.Common.{◌≡◌, ℕ, ◌%◌, ◌/◌, List, [], ◌∷◌, ◌++◌, length, Bool, true, false, Option, Some, None, refl, arith}
 use Rattle.std.specs.Prelude.{flat_map}
 use Rattle.std.specs.Option.{option_to_list}
 use Rattle.shop_model.specs.Calendar.{Moment, moment_text}
@@ -49,9 +49,6 @@ each_ends (x ∷ ms) (y ∷ ns) r s n h =
 pub numbers_ends : (ms ns : List ℕ) (r s : List ℕ) → numbers_form ms ++ r ≡ numbers_form ns ++ s → (ms ≡ ns) × (r ≡ s)
 numbers_ends ms ns r s h = let n = number_ends (length ms) (length ns) (flat_map number_form ms ++ r) (flat_map number_form ns ++ s) h in each_ends ms ns r s n.0 n.1
 
-pub numbers_is : (ms ns : List ℕ) → numbers_form ms ≡ numbers_form ns → ms ≡ ns
-numbers_is ms ns h = (numbers_ends ms ns [] [] (ap (λ (l : List ℕ). l ++ []) h)).0
-
 pub option_ends : (o p : Option ℕ) (r s : List ℕ) → option_form o ++ r ≡ option_form p ++ s → (o ≡ p) × (r ≡ s)
 option_ends o p r s h = let it = numbers_ends (option_to_list o) (option_to_list p) r s h in (one o p it.0, it.1)
   where
@@ -61,17 +58,11 @@ option_ends o p r s h = let it = numbers_ends (option_to_list o) (option_to_list
     one (Some m) None e = cc
     one (Some m) (Some n) e = cc
 
-pub option_is : (o p : Option ℕ) → option_form o ≡ option_form p → o ≡ p
-option_is o p h = (option_ends o p [] [] (ap (λ (l : List ℕ). l ++ []) h)).0
-
 pub flag_ends : (a b : Bool) (r s : List ℕ) → flag_form a ++ r ≡ flag_form b ++ s → (a ≡ b) × (r ≡ s)
 flag_ends true true r s h = (refl, cc)
 flag_ends false false r s h = (refl, cc)
 flag_ends true false r s h = cc
 flag_ends false true r s h = cc
-
-pub flag_is : (a b : Bool) → flag_form a ≡ flag_form b → a ≡ b
-flag_is a b h = (flag_ends a b [] [] h).0
 
 pub moment_ends : (a b : Moment) (r s : List ℕ) → moment_text a ++ r ≡ moment_text b ++ s → (moment_text a ≡ moment_text b) × (r ≡ s)
 moment_ends a b r s h = same_length (moment_text a) (moment_text b) r s refl h

@@ -1,24 +1,21 @@
 -- By head office's commands too the rows of the books stay such as the program can hold, and what is known of the books stays known.
-use Rattle.std.proofs.Common.{◌≡◌, ◌≤◌, ◌<◌, ◌+◌, ◌-◌, ◌^◌, ◌==◌, ℕ, suc, List, [], ◌∷◌, ◌++◌, length, Bool, true, false, cond, refl, ap, subst, arith, codes, decimal, IsUtf8, length-append}
+use Rattle.std.proofs.Common.{◌≡◌, ◌≤◌, ◌<◌, ◌+◌, ◌-◌, ◌^◌, ◌==◌, ℕ, suc, List, [], ◌∷◌, ◌++◌, length, Bool, true, false, cond, refl, ap, arith, codes, decimal, IsUtf8, length-append}
 use Rattle.std.specs.Prelude.{nat_lt, None, Some, Option, IfSome}
 use Rattle.std.specs.List.{AllByRecursion, list_all}
 use Rattle.std.proofs.lemmas.Fmt.{IsAscii-decimal}
 use Rattle.std.proofs.lemmas.Str.{IsUtf8-from_ascii, IsAscii-append}
 use Rattle.shop_model.specs.Json.{escape_byte, object}
 use Rattle.shop_model.specs.Rows.{set_at}
-use Rattle.shop_model.specs.Values.{Film, Branch, Staff, OfficeAct, AddCountry, AddCity, AddLanguage, AddCategory, AddActor, AddFilm, PriceFilm, WithdrawFilm, AddCast, AddBranch, AddStaff, StaffLeaves, SetManager, OfficeCommand, Rules}
-use Rattle.shop_model.specs.Machine.{Office, office_acted, office_told, office_text, office_done, if_accepted}
+use Rattle.shop_model.specs.Values.{Film, Branch, Staff, OfficeAct, AddCountry, AddCity, AddLanguage, AddCategory, AddActor, AddFilm, PriceFilm, WithdrawFilm, AddCast, AddBranch, AddStaff, StaffLeaves, SetManager, OfficeCommand}
+use Rattle.shop_model.specs.Machine.{office_acted, office_told, office_text, office_done}
 use Rattle.shop_model.specs.Shop.{Catalogue}
-use Rattle.shop_model.specs.Books.{Books, HeadOffice}
-use Rattle.shop_model.specs.Sound.{IsSound}
-use Rattle.shop_model.specs.Verdict.{Verdict, Accepted, office_verdict}
-use Rattle.shop_model.proofs.Soundness.{after_sound}
-use Rattle.shop_schema.specs.Held.{HasFewShared, IsHeld}
+use Rattle.shop_model.specs.Books.{Books}
+use Rattle.shop_schema.specs.Held.{HasFewShared}
 use Rattle.shop_schema.specs.RowValues.{IsToken, IsNumber, IsName, IsCity, IsActor, IsRating, IsFilm, IsCast, IsBranch, IsStaff, IsKey, IsOfficeAct, IsOfficeKept, AreShared, AreCatalogueValues, AreValues}
 use Rattle.shop_types.specs.Films.{rating_text}
 use Rattle.shop_types.specs.declared.film.Rating.{Rating}
 use Rattle.shop_types.specs.declared.film.Rating.TheVariants as rating
-use Rattle.shop_schema.proofs.Values.{held_by_sound, all_push, ascii_bytes, number_reply, small}
+use Rattle.shop_schema.proofs.Values.{all_push, ascii_bytes, number_reply, small}
 
 -- a rating's text is one
 pub rating_is : (it : Rating) → IsRating (rating_text it)
@@ -200,14 +197,3 @@ office_values_done command books is key values few =
       kept = values.kept;
       lasts = values.lasts;
     }
-
--- and of sound books it makes books that are held
-pub office_next_held : (rules sizes : Rules) (command : OfficeCommand) (books : Books) → rules.commands ≤ sizes.commands → rules.copies ≤ sizes.copies → sizes.commands ≡ 1_000_000 → sizes.copies ≡ 1_000_000
-    → IsSound sizes books → AreValues books → IsOfficeAct command.act → IsKey command.key
-    → office_verdict rules books.catalogue command ≡ Accepted → IsHeld (record books { catalogue = office_done command books.catalogue })
-office_next_held rules sizes command books most fit commands copies sound values is key accepted =
-    let after : IsSound sizes (record books { catalogue = if_accepted (office_verdict rules books.catalogue command) (office_done command books.catalogue) books.catalogue }) =
-    after_sound rules sizes HeadOffice (Office command) books most fit sound in
-    let next = subst (λ (v : Verdict). IsSound sizes (record books { catalogue = if_accepted v (office_done command books.catalogue) books.catalogue })) accepted after in
-    let held = held_by_sound sizes books commands copies sound values in
-    held_by_sound sizes (record books { catalogue = office_done command books.catalogue }) commands copies next (office_values_done command books is key values held.few_shared)

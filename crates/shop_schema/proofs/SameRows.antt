@@ -5,11 +5,11 @@ use Rattle.sqlite.specs.Values.{or_null}
 use Rattle.sql_rows.specs.Rows.{number_value}
 use Rattle.sql_rows.proofs.ColumnTests.{same_flag}
 use Rattle.shop_model.specs.Calendar.{Moment, IsMoment, moment_text}
-use Rattle.shop_model.specs.Rows.{Row, Owned}
+use Rattle.shop_model.specs.Rows.{Row}
 use Rattle.shop_model.specs.Values as model
-use Rattle.shop_model.specs.Values.{Person, City, Actor, Film, Cast, Branch, Staff, Customer, CopyState, Here, Sent, Scrapped, Rental, Payment}
-use Rattle.shop_model.specs.Books.{BookCopy, LineState, UnderWay, Arrived, Missing}
-use Rattle.shop_schema.specs.Columns.{moment_value, named_columns, city_columns, actor_columns, film_columns, cast_columns, staff_columns, customer_columns, state_value, copy_columns, rental_columns, payment_columns, lot_columns, line_value}
+use Rattle.shop_model.specs.Values.{Person, City, Film, Customer, CopyState, Here, Sent, Scrapped, Rental, Payment}
+use Rattle.shop_model.specs.Books.{BookCopy}
+use Rattle.shop_schema.specs.Columns.{moment_value, named_columns, city_columns, film_columns, customer_columns, state_value, copy_columns, rental_columns, payment_columns}
 use Rattle.shop_schema.specs.RowValues.{IsRow, IsCustomer, IsRental, IsPayment}
 use Rattle.shop_schema.proofs.OneToOne.{one_moment}
 
@@ -34,33 +34,7 @@ same_state Sent Sent h = refl
 same_state Scrapped Scrapped h = refl
 same_state a b h = cc
 
-same_line_state : (a b : LineState) → line_value a ≡ line_value b → a ≡ b
-same_line_state UnderWay UnderWay h = refl
-same_line_state Arrived Arrived h = refl
-same_line_state Missing Missing h = refl
-same_line_state a b h = cc
-
 -- ---- shared rows
-
-pub same_named : (a b : ℕ × model.Text) → named_columns a ≡ named_columns b → a ≡ b
-same_named a b h =
-    let number : a.0 ≡ b.0 = cc in
-    let name : a.1 ≡ b.1 = cc in
-    (λ i. (number i, name i))
-
-pub same_city : (a b : ℕ × City) → city_columns a ≡ city_columns b → a ≡ b
-same_city a b h =
-    let number : a.0 ≡ b.0 = cc in
-    let name : a.1.name ≡ b.1.name = cc in
-    let country : a.1.country ≡ b.1.country = cc in
-    (λ i. (number i, record { name = name i; country = country i }))
-
-pub same_actor : (a b : ℕ × Actor) → actor_columns a ≡ actor_columns b → a ≡ b
-same_actor a b h =
-    let number : a.0 ≡ b.0 = cc in
-    let first : a.1.first ≡ b.1.first = cc in
-    let last : a.1.last ≡ b.1.last = cc in
-    (λ i. (number i, record { first = first i; last = last i }))
 
 pub same_film : (a b : ℕ × Film) → film_columns a ≡ film_columns b → a ≡ b
 same_film a b h =
@@ -93,22 +67,8 @@ same_film a b h =
       },
     ))
 
-pub same_cast : (a b : Cast) → cast_columns a ≡ cast_columns b → a ≡ b
-same_cast a b h =
-    let film : a.film ≡ b.film = cc in
-    let actor : a.actor ≡ b.actor = cc in
-    (λ i. record { film = film i; actor = actor i })
-
 same_person : (p q : Person) → p.first ≡ q.first → p.last ≡ q.last → p.address ≡ q.address → p.postal ≡ q.postal → p.phone ≡ q.phone → p.city ≡ q.city → p ≡ q
 same_person p q first last address postal phone city = λ i. record { first = first i; last = last i; address = address i; postal = postal i; phone = phone i; city = city i }
-
-pub same_staff : (a b : ℕ × Staff) → staff_columns a ≡ staff_columns b → a ≡ b
-same_staff a b h =
-    let number : a.0 ≡ b.0 = cc in
-    let branch : a.1.branch ≡ b.1.branch = cc in
-    let person : a.1.person ≡ b.1.person = same_person a.1.person b.1.person (cc) (cc) (cc) (cc) (cc) (cc) in
-    let gone : a.1.gone ≡ b.1.gone = same_flag a.1.gone b.1.gone cc in
-    (λ i. (number i, record { branch = branch i; person = person i; gone = gone i }))
 
 -- ---- rows of a branch
 
@@ -152,9 +112,3 @@ same_payment a b p q h =
     let amount : a.it.amount ≡ b.it.amount = cc in
     let paid : a.it.paid ≡ b.it.paid = same_moment_value a.it.paid b.it.paid p.2.paid q.2.paid cc in
     (λ i. record { branch = branch i; number = number i; it = record { customer = customer i; staff = staff i; rental = rental i; amount = amount i; paid = paid i } })
-
-pub same_lot : (a b : Owned model.Text) → lot_columns a ≡ lot_columns b → a ≡ b
-same_lot a b h =
-    let owner : a.owner ≡ b.owner = cc in
-    let it : a.it ≡ b.it = cc in
-    (λ i. record { owner = owner i; it = it i })

@@ -12,20 +12,15 @@ use Rattle.shop_model.specs.Json.{escape_byte, flag_text, object}
 use Rattle.shop_model.specs.Rows.{Row, of, is_row, next, put, put_all, set_row}
 use Rattle.shop_model.specs.Values.{Text, Customer, Rental, Scrapped, Act, Command, Rules}
 use Rattle.shop_model.specs.Values as model
-use Rattle.shop_model.specs.Machine.{films_in, told, reply_text, if_accepted, Do}
+use Rattle.shop_model.specs.Machine.{films_in, told, reply_text}
 use Rattle.shop_model.specs.Shop.{Shop, Catalogue}
 use Rattle.shop_model.specs.Links.{IsGoodCatalogue}
-use Rattle.shop_model.specs.Books.{Books, BookCopy, put_state, book_acted, Counter, book_done, imported, unmarked, shop_of}
+use Rattle.shop_model.specs.Books.{Books, BookCopy, put_state, book_acted, book_done, imported, unmarked, shop_of}
 use Rattle.shop_model.specs.Sound.{IsSound}
-use Rattle.shop_model.specs.Verdict.{Verdict, Accepted, verdict}
-use Rattle.shop_model.proofs.Soundness.{after_sound}
 use Rattle.shop_model.proofs.RowLemmas.{put_own, length_map}
 use Rattle.shop_schema.specs.Held.{HasFewShared, IsHeld}
 use Rattle.shop_schema.specs.RowValues.{IsNumber, IsRow, IsCustomer, IsCopy, IsRental, IsPayment, IsLot, IsKept, IsLast, AreBytes, IsAct, IsCommand, AreValues}
 use Rattle.shop_schema.specs.Steps.{FilmsFit, FitsTables, IsBuilt}
-use Rattle.shop_types.specs.Seen.{seen_act}
-use Rattle.shop_types.specs.declared.command.Act as types
-use Rattle.shop_types.specs.declared.command.Act.TheVariants as act
 
 -- a good catalogue by a size of a million has few shared rows
 few_by_good : (sizes : Rules) (catalogue : Catalogue) → sizes.commands ≡ 1_000_000 → IsGoodCatalogue sizes catalogue → HasFewShared catalogue
@@ -180,11 +175,6 @@ pub acts_fit : (rules : Rules) → ((file : Text) → FilmsFit (rules.stock_of f
 acts_fit rules files (model.Import lot file) = files file
 acts_fit rules files act = tt
 
--- the program's acts are those that it takes
-pub acts_built : (it : types.Act) → IsBuilt (seen_act it)
-acts_built (act.Customer person) = tt
-acts_built it = tt
-
 -- ---- a step
 
 acted_values : (rules : Rules) (b : ℕ) (command : Command) (act : Act) (books : Books) → IsNumber b → IsNumber command.staff → IsMoment command.moment → IsAct act → IsHeld books → FitsTables rules act → IsBuilt act
@@ -306,17 +296,6 @@ values_done rules b command books branch is held fits built =
       kept = all_push IsKept books.kept (record { owner = b; it = record { command = command; reply = reply_text rules command (shop_of b books) } }) held.values.kept (branch, is, reply);
       lasts = (is.moment, all_kept IsLast (λ row. not (row.owner == b)) books.lasts held.values.lasts);
     }
-
--- and of sound books it makes books that are held
-pub next_held : (rules sizes : Rules) (b : ℕ) (command : Command) (books : Books) → rules.commands ≤ sizes.commands → rules.copies ≤ sizes.copies → sizes.commands ≡ 1_000_000 → sizes.copies ≡ 1_000_000
-    → IsSound sizes books → AreValues books → IsNumber b → IsCommand command → FitsTables rules command.act → IsBuilt command.act
-    → verdict rules b books.catalogue (shop_of b books) command ≡ Accepted → IsHeld (book_done rules b command books)
-next_held rules sizes b command books most fit commands copies sound values branch is fits built accepted =
-    let after : IsSound sizes (if_accepted (verdict rules b books.catalogue (shop_of b books) command) (book_done rules b command books) books) =
-    after_sound rules sizes (Counter b) (Do command) books most fit sound in
-    let next = subst (λ (v : Verdict). IsSound sizes (if_accepted v (book_done rules b command books) books)) accepted after in
-    let held = held_by_sound sizes books commands copies sound values in
-    held_by_sound sizes (book_done rules b command books) commands copies next (values_done rules b command books branch is held fits built)
 
 -- ---- the bytes of a stock file
 

@@ -47,10 +47,9 @@ pub fn has_version(alloc: Global, schema: &Schema) -> Result<bool, StoreFault>
 
 /// The rows of the table that has the version, each with the version alone, in any order.
 fn versions<S: Alter>(tx: &mut Transaction<'_, S>) -> Result<Vec<Row>, StoreFault>
-    ensures same_reference { tx.new.conn.ghost_name ≡ tx.old.conn.ghost_name }
     ensures read { HasCleanDisk (state S.Store tx.new.conn.now) → HasVersion (state S.Store tx.old.conn.now).now.schema
         → IfOk result (λ rows. IsPermutation (map (columns_of 1) ((state S.Store tx.old.conn.now).now.trees 0)) rows.items) }
-    ensures inside { StaysInside (state S.Store tx.old.conn.now) (state S.Store tx.new.conn.now) result }
+    ensures inside { StaysInside S.Store tx.old.conn tx.new.conn result }
 {
     query(tx, "SELECT version FROM chain", &[])
 }
@@ -83,10 +82,9 @@ fn told_by(rows: &[Row]) -> Result<KnownVersion, StoreFault>
 
 /// Which version the tables are of, in a database of which no more is known than that it `has_version`.
 pub fn version<S: Alter>(tx: &mut Transaction<'_, S>) -> Result<KnownVersion, StoreFault>
-    ensures same_reference { tx.new.conn.ghost_name ≡ tx.old.conn.ghost_name }
     ensures read { HasCleanDisk (state S.Store tx.new.conn.now) → HasVersion (state S.Store tx.old.conn.now).now.schema
         → IfOk result (λ it. it ≡ version_of (map (columns_of 1) ((state S.Store tx.old.conn.now).now.trees 0))) }
-    ensures inside { StaysInside (state S.Store tx.old.conn.now) (state S.Store tx.new.conn.now) result }
+    ensures inside { StaysInside S.Store tx.old.conn tx.new.conn result }
 {
     let rows = versions(tx)?;
     told_by(rows.as_slice())

@@ -6,7 +6,6 @@ pub mod SetTexts
 pub mod LastRow
 pub mod LastNumbers
 pub mod TokenReads
-pub mod Sequence
 pub mod PutTexts
 pub mod OpeningTexts
 pub mod CountPuts

@@ -116,8 +116,7 @@ pub fn customer_at<S: Alter>(
     branch: BranchNo,
     number: CustomerNo,
 ) -> Result<Option<CustomerRow>, StoreFault>
-    ensures same_reference { tx.new.conn.ghost_name ≡ tx.old.conn.ghost_name }
-    ensures inside { StaysInside (state S.Store tx.old.conn.now) (state S.Store tx.new.conn.now) result }
+    ensures inside { StaysInside S.Store tx.old.conn tx.new.conn result }
     ensures row { Finds (state S.Store tx.old.conn.now) (state S.Store tx.new.conn.now) result
         (λ row books. option_to_list (option_map (λ it. seen_customer it.customer) row) ≡ at number (of branch books.customers)) }
 {
@@ -134,8 +133,7 @@ pub fn put_customer<S: Alter>(
     tx: &mut Transaction<'_, S>,
     row: &CustomerRow,
 ) -> Result<(), StoreFault>
-    ensures same_reference { tx.new.conn.ghost_name ≡ tx.old.conn.ghost_name }
-    ensures inside { StaysInside (state S.Store tx.old.conn.now) (state S.Store tx.new.conn.now) result }
+    ensures inside { StaysInside S.Store tx.old.conn tx.new.conn result }
     ensures put { Stores (state S.Store tx.old.conn.now) (state S.Store tx.new.conn.now) result (λ _. ⊤)
         (λ books. record books { customers = books.customers ++ seen_row row.now ∷ [] }) }
 {
@@ -154,8 +152,7 @@ pub fn set_active<S: Alter>(
     number: CustomerNo,
     active: bool,
 ) -> Result<(), StoreFault>
-    ensures same_reference { tx.new.conn.ghost_name ≡ tx.old.conn.ghost_name }
-    ensures inside { StaysInside (state S.Store tx.old.conn.now) (state S.Store tx.new.conn.now) result }
+    ensures inside { StaysInside S.Store tx.old.conn tx.new.conn result }
     ensures set { Stores (state S.Store tx.old.conn.now) (state S.Store tx.new.conn.now) result IsHeld
         (λ books. record books { customers = set_row branch number (λ it. record it { active = active }) books.customers }) }
 {

@@ -128,8 +128,7 @@ pub fn film_row<S: Alter>(
     tx: &mut Transaction<'_, S>,
     number: FilmNo,
 ) -> Result<Option<FilmRow>, StoreFault>
-    ensures same_reference { tx.new.conn.ghost_name ≡ tx.old.conn.ghost_name }
-    ensures inside { StaysInside (state S.Store tx.old.conn.now) (state S.Store tx.new.conn.now) result }
+    ensures inside { StaysInside S.Store tx.old.conn tx.new.conn result }
     ensures found { Finds (state S.Store tx.old.conn.now) (state S.Store tx.new.conn.now) result
         (λ row books. option_to_list (option_map seen_film_row row) ≡ at number books.catalogue.films) }
 {

@@ -23,8 +23,7 @@ fn first_number(rows: &[Row]) -> Result<u32, StoreFault>
 
 /// The number in the first row that the query shows, or 0 where it shows none.
 fn number_shown<S: Alter>(tx: &mut Transaction<'_, S>, text: &str) -> Result<u32, StoreFault>
-    ensures same_reference { tx.new.conn.ghost_name ≡ tx.old.conn.ghost_name }
-    ensures inside { StaysInside (state S.Store tx.old.conn.now) (state S.Store tx.new.conn.now) result }
+    ensures inside { StaysInside S.Store tx.old.conn tx.new.conn result }
     ensures shown { HasCleanDisk (state S.Store tx.new.conn.now) → IfOk result (λ n. (rows : List SqlRow)
         × Shown text.now [] (state S.Store tx.old.conn.now) (state S.Store tx.new.conn.now) rows × IsFirstNumber rows n) }
 {
@@ -34,8 +33,7 @@ fn number_shown<S: Alter>(tx: &mut Transaction<'_, S>, text: &str) -> Result<u32
 
 /// The number of the last country, or 0 where there is none.
 pub fn last_country<S: Alter>(tx: &mut Transaction<'_, S>) -> Result<u32, StoreFault>
-    ensures same_reference { tx.new.conn.ghost_name ≡ tx.old.conn.ghost_name }
-    ensures inside { StaysInside (state S.Store tx.old.conn.now) (state S.Store tx.new.conn.now) result }
+    ensures inside { StaysInside S.Store tx.old.conn tx.new.conn result }
     ensures last { Finds (state S.Store tx.old.conn.now) (state S.Store tx.new.conn.now) result
         (λ last books. last ≡ length books.catalogue.countries) }
 {
@@ -47,8 +45,7 @@ pub fn last_country<S: Alter>(tx: &mut Transaction<'_, S>) -> Result<u32, StoreF
 
 /// The number of the last language, or 0 where there is none.
 pub fn last_language<S: Alter>(tx: &mut Transaction<'_, S>) -> Result<u32, StoreFault>
-    ensures same_reference { tx.new.conn.ghost_name ≡ tx.old.conn.ghost_name }
-    ensures inside { StaysInside (state S.Store tx.old.conn.now) (state S.Store tx.new.conn.now) result }
+    ensures inside { StaysInside S.Store tx.old.conn tx.new.conn result }
     ensures last { Finds (state S.Store tx.old.conn.now) (state S.Store tx.new.conn.now) result
         (λ last books. last ≡ length books.catalogue.languages) }
 {
@@ -60,8 +57,7 @@ pub fn last_language<S: Alter>(tx: &mut Transaction<'_, S>) -> Result<u32, Store
 
 /// The number of the last category, or 0 where there is none.
 pub fn last_category<S: Alter>(tx: &mut Transaction<'_, S>) -> Result<u32, StoreFault>
-    ensures same_reference { tx.new.conn.ghost_name ≡ tx.old.conn.ghost_name }
-    ensures inside { StaysInside (state S.Store tx.old.conn.now) (state S.Store tx.new.conn.now) result }
+    ensures inside { StaysInside S.Store tx.old.conn tx.new.conn result }
     ensures last { Finds (state S.Store tx.old.conn.now) (state S.Store tx.new.conn.now) result
         (λ last books. last ≡ length books.catalogue.categories) }
 {
@@ -73,8 +69,7 @@ pub fn last_category<S: Alter>(tx: &mut Transaction<'_, S>) -> Result<u32, Store
 
 /// The number of the last city, or 0 where there is none.
 pub fn last_city<S: Alter>(tx: &mut Transaction<'_, S>) -> Result<u32, StoreFault>
-    ensures same_reference { tx.new.conn.ghost_name ≡ tx.old.conn.ghost_name }
-    ensures inside { StaysInside (state S.Store tx.old.conn.now) (state S.Store tx.new.conn.now) result }
+    ensures inside { StaysInside S.Store tx.old.conn tx.new.conn result }
     ensures last { Finds (state S.Store tx.old.conn.now) (state S.Store tx.new.conn.now) result
         (λ last books. last ≡ length books.catalogue.cities) }
 {
@@ -83,8 +78,7 @@ pub fn last_city<S: Alter>(tx: &mut Transaction<'_, S>) -> Result<u32, StoreFaul
 
 /// The number of the last actor, or 0 where there is none.
 pub fn last_actor<S: Alter>(tx: &mut Transaction<'_, S>) -> Result<u32, StoreFault>
-    ensures same_reference { tx.new.conn.ghost_name ≡ tx.old.conn.ghost_name }
-    ensures inside { StaysInside (state S.Store tx.old.conn.now) (state S.Store tx.new.conn.now) result }
+    ensures inside { StaysInside S.Store tx.old.conn tx.new.conn result }
     ensures last { Finds (state S.Store tx.old.conn.now) (state S.Store tx.new.conn.now) result
         (λ last books. last ≡ length books.catalogue.actors) }
 {
@@ -93,8 +87,7 @@ pub fn last_actor<S: Alter>(tx: &mut Transaction<'_, S>) -> Result<u32, StoreFau
 
 /// The number of the last film, or 0 where there is none.
 pub fn last_film<S: Alter>(tx: &mut Transaction<'_, S>) -> Result<u32, StoreFault>
-    ensures same_reference { tx.new.conn.ghost_name ≡ tx.old.conn.ghost_name }
-    ensures inside { StaysInside (state S.Store tx.old.conn.now) (state S.Store tx.new.conn.now) result }
+    ensures inside { StaysInside S.Store tx.old.conn tx.new.conn result }
     ensures last { Finds (state S.Store tx.old.conn.now) (state S.Store tx.new.conn.now) result
         (λ last books. last ≡ length books.catalogue.films) }
 {
@@ -103,8 +96,7 @@ pub fn last_film<S: Alter>(tx: &mut Transaction<'_, S>) -> Result<u32, StoreFaul
 
 /// The number of the last branch, or 0 where there is none.
 pub fn last_branch<S: Alter>(tx: &mut Transaction<'_, S>) -> Result<u32, StoreFault>
-    ensures same_reference { tx.new.conn.ghost_name ≡ tx.old.conn.ghost_name }
-    ensures inside { StaysInside (state S.Store tx.old.conn.now) (state S.Store tx.new.conn.now) result }
+    ensures inside { StaysInside S.Store tx.old.conn tx.new.conn result }
     ensures last { Finds (state S.Store tx.old.conn.now) (state S.Store tx.new.conn.now) result
         (λ last books. last ≡ length books.catalogue.branches) }
 {
@@ -113,8 +105,7 @@ pub fn last_branch<S: Alter>(tx: &mut Transaction<'_, S>) -> Result<u32, StoreFa
 
 /// The number of the last member of staff, or 0 where there is none.
 pub fn last_staff<S: Alter>(tx: &mut Transaction<'_, S>) -> Result<u32, StoreFault>
-    ensures same_reference { tx.new.conn.ghost_name ≡ tx.old.conn.ghost_name }
-    ensures inside { StaysInside (state S.Store tx.old.conn.now) (state S.Store tx.new.conn.now) result }
+    ensures inside { StaysInside S.Store tx.old.conn tx.new.conn result }
     ensures last { Finds (state S.Store tx.old.conn.now) (state S.Store tx.new.conn.now) result
         (λ last books. last ≡ length books.catalogue.staff) }
 {

@@ -42,8 +42,7 @@ const ROWS: [&str; 21] = [
 
 /// Gives new tables their row of the table `chain`, and no count. After a fault the transaction may be rolled back.
 fn put_chain<S: Alter>(tx: &mut Transaction<'_, S>, token: &Token) -> Result<(), StoreFault>
-    ensures same_reference { tx.new.conn.ghost_name ≡ tx.old.conn.ghost_name }
-    ensures inside { StaysInside (state S.Store tx.old.conn.now) (state S.Store tx.new.conn.now) result }
+    ensures inside { StaysInside S.Store tx.old.conn tx.new.conn result }
     ensures put { HasCleanDisk (state S.Store tx.new.conn.now)
         → OnOk result (IsShop (state S.Store tx.old.conn.now) → IsKeyed (state S.Store tx.old.conn.now) → HaveNoRows (state S.Store tx.old.conn.now).now.trees
         → HoldsWith no_counts (state S.Store tx.new.conn.now) (first_books token.now)) }
@@ -57,8 +56,7 @@ fn put_chain<S: Alter>(tx: &mut Transaction<'_, S>, token: &Token) -> Result<(),
 
 /// Gives new tables head office's token and its count, so that they are those of a chain with no shared row. After a fault the transaction may be rolled back.
 pub fn put_token<S: Alter>(tx: &mut Transaction<'_, S>, token: &Token) -> Result<(), StoreFault>
-    ensures same_reference { tx.new.conn.ghost_name ≡ tx.old.conn.ghost_name }
-    ensures inside { StaysInside (state S.Store tx.old.conn.now) (state S.Store tx.new.conn.now) result }
+    ensures inside { StaysInside S.Store tx.old.conn tx.new.conn result }
     ensures put { HasCleanDisk (state S.Store tx.new.conn.now)
         → OnOk result (IsShop (state S.Store tx.old.conn.now) → IsKeyed (state S.Store tx.old.conn.now) → HaveNoRows (state S.Store tx.old.conn.now).now.trees
         → Holds (state S.Store tx.new.conn.now) (first_books token.now)) }
@@ -77,8 +75,7 @@ fn token_with(digit: u8) -> Token
 
 /// Runs the statements, which have no parameters, one after another. After a fault the transaction may be rolled back.
 fn run_all<S: Alter>(tx: &mut Transaction<'_, S>, texts: &[&str]) -> Result<(), StoreFault>
-    ensures same_reference { tx.new.conn.ghost_name ≡ tx.old.conn.ghost_name }
-    ensures inside { StaysWithin (state S.Store tx.old.conn.now) (state S.Store tx.new.conn.now) result }
+    ensures inside { StaysWithin S.Store tx.old.conn tx.new.conn result }
     ensures ran { HasCleanDisk (state S.Store tx.new.conn.now)
         → OnOk result (Runs S.Store (map (λ t. t.now) texts.now) tx.old.conn.now tx.new.conn.now) }
 {
@@ -90,8 +87,7 @@ fn run_all<S: Alter>(tx: &mut Transaction<'_, S>, texts: &[&str]) -> Result<(), 
 
 /// Gives new tables the rows with which the chain that is shown and tested begins. After a fault the transaction may be rolled back.
 pub fn put_opening<S: Alter>(tx: &mut Transaction<'_, S>) -> Result<(), StoreFault>
-    ensures same_reference { tx.new.conn.ghost_name ≡ tx.old.conn.ghost_name }
-    ensures inside { StaysInside (state S.Store tx.old.conn.now) (state S.Store tx.new.conn.now) result }
+    ensures inside { StaysInside S.Store tx.old.conn tx.new.conn result }
     ensures put { HasCleanDisk (state S.Store tx.new.conn.now)
         → OnOk result (IsShop (state S.Store tx.old.conn.now) → IsKeyed (state S.Store tx.old.conn.now) → HaveNoRows (state S.Store tx.old.conn.now).now.trees
         → Holds (state S.Store tx.new.conn.now) opening_books) }

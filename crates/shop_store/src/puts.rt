@@ -178,8 +178,7 @@ pub fn put_country<S: Alter>(
     number: CountryNo,
     name: &str,
 ) -> Result<(), StoreFault>
-    ensures same_reference { tx.new.conn.ghost_name ≡ tx.old.conn.ghost_name }
-    ensures inside { StaysInside (state S.Store tx.old.conn.now) (state S.Store tx.new.conn.now) result }
+    ensures inside { StaysInside S.Store tx.old.conn tx.new.conn result }
     ensures put { Stores (state S.Store tx.old.conn.now) (state S.Store tx.new.conn.now) result (λ books. number ≡ length books.catalogue.countries + 1)
         (λ books. record books { catalogue = record books.catalogue { countries = books.catalogue.countries ++ name.now ∷ [] } }) }
 {
@@ -196,8 +195,7 @@ pub fn put_language<S: Alter>(
     number: LanguageNo,
     name: &str,
 ) -> Result<(), StoreFault>
-    ensures same_reference { tx.new.conn.ghost_name ≡ tx.old.conn.ghost_name }
-    ensures inside { StaysInside (state S.Store tx.old.conn.now) (state S.Store tx.new.conn.now) result }
+    ensures inside { StaysInside S.Store tx.old.conn tx.new.conn result }
     ensures put { Stores (state S.Store tx.old.conn.now) (state S.Store tx.new.conn.now) result (λ books. number ≡ length books.catalogue.languages + 1)
         (λ books. record books { catalogue = record books.catalogue { languages = books.catalogue.languages ++ name.now ∷ [] } }) }
 {
@@ -214,8 +212,7 @@ pub fn put_category<S: Alter>(
     number: CategoryNo,
     name: &str,
 ) -> Result<(), StoreFault>
-    ensures same_reference { tx.new.conn.ghost_name ≡ tx.old.conn.ghost_name }
-    ensures inside { StaysInside (state S.Store tx.old.conn.now) (state S.Store tx.new.conn.now) result }
+    ensures inside { StaysInside S.Store tx.old.conn tx.new.conn result }
     ensures put { Stores (state S.Store tx.old.conn.now) (state S.Store tx.new.conn.now) result (λ books. number ≡ length books.catalogue.categories + 1)
         (λ books. record books { catalogue = record books.catalogue { categories = books.catalogue.categories ++ name.now ∷ [] } }) }
 {
@@ -228,8 +225,7 @@ pub fn put_category<S: Alter>(
 
 /// Adds the city. After a fault the transaction may be rolled back.
 pub fn put_city<S: Alter>(tx: &mut Transaction<'_, S>, city: &NewCity<'_>) -> Result<(), StoreFault>
-    ensures same_reference { tx.new.conn.ghost_name ≡ tx.old.conn.ghost_name }
-    ensures inside { StaysInside (state S.Store tx.old.conn.now) (state S.Store tx.new.conn.now) result }
+    ensures inside { StaysInside S.Store tx.old.conn tx.new.conn result }
     ensures put { Stores (state S.Store tx.old.conn.now) (state S.Store tx.new.conn.now) result (λ books. city.now.number ≡ length books.catalogue.cities + 1)
         (λ books. record books { catalogue = record books.catalogue { cities = books.catalogue.cities ++ seen_city city.now ∷ [] } }) }
 {
@@ -245,8 +241,7 @@ pub fn put_actor<S: Alter>(
     tx: &mut Transaction<'_, S>,
     actor: &NewActor<'_>,
 ) -> Result<(), StoreFault>
-    ensures same_reference { tx.new.conn.ghost_name ≡ tx.old.conn.ghost_name }
-    ensures inside { StaysInside (state S.Store tx.old.conn.now) (state S.Store tx.new.conn.now) result }
+    ensures inside { StaysInside S.Store tx.old.conn tx.new.conn result }
     ensures put { Stores (state S.Store tx.old.conn.now) (state S.Store tx.new.conn.now) result (λ books. actor.now.number ≡ length books.catalogue.actors + 1)
         (λ books. record books { catalogue = record books.catalogue { actors = books.catalogue.actors ++ seen_actor actor.now ∷ [] } }) }
 {
@@ -259,8 +254,7 @@ pub fn put_actor<S: Alter>(
 
 /// Adds the film. After a fault the transaction may be rolled back.
 pub fn put_film<S: Alter>(tx: &mut Transaction<'_, S>, film: &NewFilm<'_>) -> Result<(), StoreFault>
-    ensures same_reference { tx.new.conn.ghost_name ≡ tx.old.conn.ghost_name }
-    ensures inside { StaysInside (state S.Store tx.old.conn.now) (state S.Store tx.new.conn.now) result }
+    ensures inside { StaysInside S.Store tx.old.conn tx.new.conn result }
     ensures put { Stores (state S.Store tx.old.conn.now) (state S.Store tx.new.conn.now) result (λ books. film.now.number ≡ length books.catalogue.films + 1)
         (λ books. record books { catalogue = record books.catalogue { films = books.catalogue.films ++ seen_film film.now ∷ [] } }) }
 {
@@ -277,8 +271,7 @@ pub fn put_cast<S: Alter>(
     film: FilmNo,
     actor: ActorNo,
 ) -> Result<(), StoreFault>
-    ensures same_reference { tx.new.conn.ghost_name ≡ tx.old.conn.ghost_name }
-    ensures inside { StaysInside (state S.Store tx.old.conn.now) (state S.Store tx.new.conn.now) result }
+    ensures inside { StaysInside S.Store tx.old.conn tx.new.conn result }
     ensures put { Stores (state S.Store tx.old.conn.now) (state S.Store tx.new.conn.now) result (λ _. ⊤)
         (λ books. record books { catalogue = record books.catalogue { casts = books.catalogue.casts ++ record { film = film; actor = actor } ∷ [] } }) }
 {
@@ -294,8 +287,7 @@ pub fn put_branch<S: Alter>(
     tx: &mut Transaction<'_, S>,
     branch: &NewBranch<'_>,
 ) -> Result<(), StoreFault>
-    ensures same_reference { tx.new.conn.ghost_name ≡ tx.old.conn.ghost_name }
-    ensures inside { StaysInside (state S.Store tx.old.conn.now) (state S.Store tx.new.conn.now) result }
+    ensures inside { StaysInside S.Store tx.old.conn tx.new.conn result }
     ensures put { Stores (state S.Store tx.old.conn.now) (state S.Store tx.new.conn.now) result (λ books. (branch.now.number ≡ length books.catalogue.branches + 1)
         × (owned_by branch.now.number books.lasts ≡ []))
         (λ books. record books { catalogue = record books.catalogue { branches = books.catalogue.branches ++ seen_branch branch.now ∷ [] } }) }
@@ -312,8 +304,7 @@ pub fn put_staff<S: Alter>(
     tx: &mut Transaction<'_, S>,
     staff: &NewStaff<'_>,
 ) -> Result<(), StoreFault>
-    ensures same_reference { tx.new.conn.ghost_name ≡ tx.old.conn.ghost_name }
-    ensures inside { StaysInside (state S.Store tx.old.conn.now) (state S.Store tx.new.conn.now) result }
+    ensures inside { StaysInside S.Store tx.old.conn tx.new.conn result }
     ensures put { Stores (state S.Store tx.old.conn.now) (state S.Store tx.new.conn.now) result (λ books. staff.now.number ≡ length books.catalogue.staff + 1)
         (λ books. record books { catalogue = record books.catalogue { staff = books.catalogue.staff ++ seen_staff staff.now ∷ [] } }) }
 {

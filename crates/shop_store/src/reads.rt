@@ -61,8 +61,7 @@ pub fn branch_with<S: Alter>(
     tx: &mut Transaction<'_, S>,
     token: &Token,
 ) -> Result<Option<BranchNo>, StoreFault>
-    ensures same_reference { tx.new.conn.ghost_name ≡ tx.old.conn.ghost_name }
-    ensures inside { StaysInside (state S.Store tx.old.conn.now) (state S.Store tx.new.conn.now) result }
+    ensures inside { StaysInside S.Store tx.old.conn tx.new.conn result }
     ensures found { Finds (state S.Store tx.old.conn.now) (state S.Store tx.new.conn.now) result
         (λ branch books. branch_caller branch ≡ branch_with token.now 1 books.catalogue.branches) }
 {
@@ -76,8 +75,7 @@ pub fn branch_with<S: Alter>(
 
 /// Whether it is head office's token.
 pub fn is_office<S: Alter>(tx: &mut Transaction<'_, S>, token: &Token) -> Result<bool, StoreFault>
-    ensures same_reference { tx.new.conn.ghost_name ≡ tx.old.conn.ghost_name }
-    ensures inside { StaysInside (state S.Store tx.old.conn.now) (state S.Store tx.new.conn.now) result }
+    ensures inside { StaysInside S.Store tx.old.conn tx.new.conn result }
     ensures found { Finds (state S.Store tx.old.conn.now) (state S.Store tx.new.conn.now) result
         (λ is books. is ≡ bytes_eq token.now books.catalogue.office_token) }
 {
@@ -90,8 +88,7 @@ pub fn is_office<S: Alter>(tx: &mut Transaction<'_, S>, token: &Token) -> Result
 
 /// Head office's token.
 pub fn office_token<S: Alter>(tx: &mut Transaction<'_, S>) -> Result<Token, StoreFault>
-    ensures same_reference { tx.new.conn.ghost_name ≡ tx.old.conn.ghost_name }
-    ensures inside { StaysInside (state S.Store tx.old.conn.now) (state S.Store tx.new.conn.now) result }
+    ensures inside { StaysInside S.Store tx.old.conn tx.new.conn result }
     ensures found { Finds (state S.Store tx.old.conn.now) (state S.Store tx.new.conn.now) result
         (λ token books. token ≡ books.catalogue.office_token) }
 {
@@ -117,8 +114,7 @@ pub fn branch_at<S: Alter>(
     tx: &mut Transaction<'_, S>,
     branch: BranchNo,
 ) -> Result<Option<Option<StaffNo>>, StoreFault>
-    ensures same_reference { tx.new.conn.ghost_name ≡ tx.old.conn.ghost_name }
-    ensures inside { StaysInside (state S.Store tx.old.conn.now) (state S.Store tx.new.conn.now) result }
+    ensures inside { StaysInside S.Store tx.old.conn tx.new.conn result }
     ensures found { Finds (state S.Store tx.old.conn.now) (state S.Store tx.new.conn.now) result
         (λ manager books. manager ≡ head (map manager_of (at branch books.catalogue.branches))) }
 {
@@ -148,8 +144,7 @@ pub fn staff_at<S: Alter>(
     tx: &mut Transaction<'_, S>,
     staff: StaffNo,
 ) -> Result<Option<StaffFound>, StoreFault>
-    ensures same_reference { tx.new.conn.ghost_name ≡ tx.old.conn.ghost_name }
-    ensures inside { StaysInside (state S.Store tx.old.conn.now) (state S.Store tx.new.conn.now) result }
+    ensures inside { StaysInside S.Store tx.old.conn tx.new.conn result }
     ensures found { Finds (state S.Store tx.old.conn.now) (state S.Store tx.new.conn.now) result
         (λ post books. option_map seen_post post ≡ head (map post_of (at staff books.catalogue.staff))) }
 {
@@ -176,8 +171,7 @@ pub fn film_at<S: Alter>(
     tx: &mut Transaction<'_, S>,
     film: FilmNo,
 ) -> Result<Option<bool>, StoreFault>
-    ensures same_reference { tx.new.conn.ghost_name ≡ tx.old.conn.ghost_name }
-    ensures inside { StaysInside (state S.Store tx.old.conn.now) (state S.Store tx.new.conn.now) result }
+    ensures inside { StaysInside S.Store tx.old.conn tx.new.conn result }
     ensures found { Finds (state S.Store tx.old.conn.now) (state S.Store tx.new.conn.now) result
         (λ withdrawn books. withdrawn ≡ head (map withdrawn_of (at film books.catalogue.films))) }
 {
@@ -207,8 +201,7 @@ pub fn film_terms<S: Alter>(
     tx: &mut Transaction<'_, S>,
     film: FilmNo,
 ) -> Result<Option<FilmTerms>, StoreFault>
-    ensures same_reference { tx.new.conn.ghost_name ≡ tx.old.conn.ghost_name }
-    ensures inside { StaysInside (state S.Store tx.old.conn.now) (state S.Store tx.new.conn.now) result }
+    ensures inside { StaysInside S.Store tx.old.conn tx.new.conn result }
     ensures found { Finds (state S.Store tx.old.conn.now) (state S.Store tx.new.conn.now) result
         (λ terms books. option_map seen_terms terms ≡ head (map terms_of (at film books.catalogue.films))) }
 {
@@ -235,8 +228,7 @@ pub fn film_title<S: Alter>(
     tx: &mut Transaction<'_, S>,
     film: FilmNo,
 ) -> Result<Option<T128>, StoreFault>
-    ensures same_reference { tx.new.conn.ghost_name ≡ tx.old.conn.ghost_name }
-    ensures inside { StaysInside (state S.Store tx.old.conn.now) (state S.Store tx.new.conn.now) result }
+    ensures inside { StaysInside S.Store tx.old.conn tx.new.conn result }
     ensures found { Finds (state S.Store tx.old.conn.now) (state S.Store tx.new.conn.now) result
         (λ title books. title ≡ head (map title_of (at film books.catalogue.films))) }
 {

@@ -72,8 +72,7 @@ pub fn rental_at<S: Alter>(
     branch: BranchNo,
     number: RentalNo,
 ) -> Result<Option<RentalRow>, StoreFault>
-    ensures same_reference { tx.new.conn.ghost_name ≡ tx.old.conn.ghost_name }
-    ensures inside { StaysInside (state S.Store tx.old.conn.now) (state S.Store tx.new.conn.now) result }
+    ensures inside { StaysInside S.Store tx.old.conn tx.new.conn result }
     ensures row { Finds (state S.Store tx.old.conn.now) (state S.Store tx.new.conn.now) result
         (λ row books. option_to_list (option_map (λ it. seen_rental it.rental) row) ≡ at number (of branch books.rentals)) }
 {
@@ -93,8 +92,7 @@ pub fn has_rental<S: Alter>(
     copy: CopyNo,
     customer: CustomerNo,
 ) -> Result<bool, StoreFault>
-    ensures same_reference { tx.new.conn.ghost_name ≡ tx.old.conn.ghost_name }
-    ensures inside { StaysInside (state S.Store tx.old.conn.now) (state S.Store tx.new.conn.now) result }
+    ensures inside { StaysInside S.Store tx.old.conn tx.new.conn result }
     ensures found { Finds (state S.Store tx.old.conn.now) (state S.Store tx.new.conn.now) result
         (λ has books. has ≡ list_any (λ it. same_moment it.rented rented && it.copy == copy && it.customer == customer) (of branch books.rentals)) }
 {
@@ -120,8 +118,7 @@ pub fn rentals_of_customer<S: Alter>(
     branch: BranchNo,
     customer: CustomerNo,
 ) -> Result<Vec<RentalRow>, StoreFault>
-    ensures same_reference { tx.new.conn.ghost_name ≡ tx.old.conn.ghost_name }
-    ensures inside { StaysInside (state S.Store tx.old.conn.now) (state S.Store tx.new.conn.now) result }
+    ensures inside { StaysInside S.Store tx.old.conn tx.new.conn result }
     ensures rows { Finds (state S.Store tx.old.conn.now) (state S.Store tx.new.conn.now) result
         (λ rows books. map (λ row. seen_rental row.rental) rows.items ≡ filter (λ it. it.customer == customer) (of branch books.rentals)) }
 {
@@ -135,8 +132,7 @@ pub fn rentals_of_customer<S: Alter>(
 
 /// Adds the rental as an open one: a moment of return isn't looked at. After a fault the transaction may be rolled back.
 pub fn put_rental<S: Alter>(tx: &mut Transaction<'_, S>, row: &RentalRow) -> Result<(), StoreFault>
-    ensures same_reference { tx.new.conn.ghost_name ≡ tx.old.conn.ghost_name }
-    ensures inside { StaysInside (state S.Store tx.old.conn.now) (state S.Store tx.new.conn.now) result }
+    ensures inside { StaysInside S.Store tx.old.conn tx.new.conn result }
     ensures put { Stores (state S.Store tx.old.conn.now) (state S.Store tx.new.conn.now) result (λ _. ⊤)
         (λ books. record books { rentals = books.rentals ++ opened_row row.now ∷ [] }) }
 {
@@ -155,8 +151,7 @@ pub fn set_returned<S: Alter>(
     number: RentalNo,
     moment: Moment,
 ) -> Result<(), StoreFault>
-    ensures same_reference { tx.new.conn.ghost_name ≡ tx.old.conn.ghost_name }
-    ensures inside { StaysInside (state S.Store tx.old.conn.now) (state S.Store tx.new.conn.now) result }
+    ensures inside { StaysInside S.Store tx.old.conn tx.new.conn result }
     ensures set { Stores (state S.Store tx.old.conn.now) (state S.Store tx.new.conn.now) result IsHeld
         (λ books. record books { rentals = set_row branch number (λ it. record it { returned = Some moment }) books.rentals }) }
 {

@@ -23,8 +23,7 @@ pub(crate) fn shows_row<S: Alter>(
     text: &str,
     params: &[ValueRef<'_>],
 ) -> Result<bool, StoreFault>
-    ensures same_reference { tx.new.conn.ghost_name ≡ tx.old.conn.ghost_name }
-    ensures inside { StaysInside (state S.Store tx.old.conn.now) (state S.Store tx.new.conn.now) result }
+    ensures inside { StaysInside S.Store tx.old.conn tx.new.conn result }
     ensures shown { HasCleanDisk (state S.Store tx.new.conn.now) → IfOk result (λ shows. (rows : List SqlRow)
         × Shown text.now (bound params.now) (state S.Store tx.old.conn.now) (state S.Store tx.new.conn.now) rows × (shows ≡ not (length rows == 0))) }
 {
@@ -37,8 +36,7 @@ pub fn has_country<S: Alter>(
     tx: &mut Transaction<'_, S>,
     country: CountryNo,
 ) -> Result<bool, StoreFault>
-    ensures same_reference { tx.new.conn.ghost_name ≡ tx.old.conn.ghost_name }
-    ensures inside { StaysInside (state S.Store tx.old.conn.now) (state S.Store tx.new.conn.now) result }
+    ensures inside { StaysInside S.Store tx.old.conn tx.new.conn result }
     ensures found { Finds (state S.Store tx.old.conn.now) (state S.Store tx.new.conn.now) result
         (λ has books. has ≡ not (lacks books.catalogue.countries country)) }
 {
@@ -54,8 +52,7 @@ pub fn has_language<S: Alter>(
     tx: &mut Transaction<'_, S>,
     language: LanguageNo,
 ) -> Result<bool, StoreFault>
-    ensures same_reference { tx.new.conn.ghost_name ≡ tx.old.conn.ghost_name }
-    ensures inside { StaysInside (state S.Store tx.old.conn.now) (state S.Store tx.new.conn.now) result }
+    ensures inside { StaysInside S.Store tx.old.conn tx.new.conn result }
     ensures found { Finds (state S.Store tx.old.conn.now) (state S.Store tx.new.conn.now) result
         (λ has books. has ≡ not (lacks books.catalogue.languages language)) }
 {
@@ -71,8 +68,7 @@ pub fn has_category<S: Alter>(
     tx: &mut Transaction<'_, S>,
     category: CategoryNo,
 ) -> Result<bool, StoreFault>
-    ensures same_reference { tx.new.conn.ghost_name ≡ tx.old.conn.ghost_name }
-    ensures inside { StaysInside (state S.Store tx.old.conn.now) (state S.Store tx.new.conn.now) result }
+    ensures inside { StaysInside S.Store tx.old.conn tx.new.conn result }
     ensures found { Finds (state S.Store tx.old.conn.now) (state S.Store tx.new.conn.now) result
         (λ has books. has ≡ not (lacks books.catalogue.categories category)) }
 {
@@ -85,8 +81,7 @@ pub fn has_category<S: Alter>(
 
 /// Whether there is a city of the number.
 pub fn has_city<S: Alter>(tx: &mut Transaction<'_, S>, city: CityNo) -> Result<bool, StoreFault>
-    ensures same_reference { tx.new.conn.ghost_name ≡ tx.old.conn.ghost_name }
-    ensures inside { StaysInside (state S.Store tx.old.conn.now) (state S.Store tx.new.conn.now) result }
+    ensures inside { StaysInside S.Store tx.old.conn tx.new.conn result }
     ensures found { Finds (state S.Store tx.old.conn.now) (state S.Store tx.new.conn.now) result
         (λ has books. has ≡ not (lacks books.catalogue.cities city)) }
 {
@@ -99,8 +94,7 @@ pub fn has_city<S: Alter>(tx: &mut Transaction<'_, S>, city: CityNo) -> Result<b
 
 /// Whether there is an actor of the number.
 pub fn has_actor<S: Alter>(tx: &mut Transaction<'_, S>, actor: ActorNo) -> Result<bool, StoreFault>
-    ensures same_reference { tx.new.conn.ghost_name ≡ tx.old.conn.ghost_name }
-    ensures inside { StaysInside (state S.Store tx.old.conn.now) (state S.Store tx.new.conn.now) result }
+    ensures inside { StaysInside S.Store tx.old.conn tx.new.conn result }
     ensures found { Finds (state S.Store tx.old.conn.now) (state S.Store tx.new.conn.now) result
         (λ has books. has ≡ not (lacks books.catalogue.actors actor)) }
 {
@@ -113,8 +107,7 @@ pub fn has_actor<S: Alter>(tx: &mut Transaction<'_, S>, actor: ActorNo) -> Resul
 
 /// Whether a country has the name, by its bytes.
 pub fn is_country<S: Alter>(tx: &mut Transaction<'_, S>, name: &str) -> Result<bool, StoreFault>
-    ensures same_reference { tx.new.conn.ghost_name ≡ tx.old.conn.ghost_name }
-    ensures inside { StaysInside (state S.Store tx.old.conn.now) (state S.Store tx.new.conn.now) result }
+    ensures inside { StaysInside S.Store tx.old.conn tx.new.conn result }
     ensures found { Finds (state S.Store tx.old.conn.now) (state S.Store tx.new.conn.now) result
         (λ is books. is ≡ list_any (bytes_eq name.now) books.catalogue.countries) }
 {
@@ -127,8 +120,7 @@ pub fn is_country<S: Alter>(tx: &mut Transaction<'_, S>, name: &str) -> Result<b
 
 /// Whether a language has the name, by its bytes.
 pub fn is_language<S: Alter>(tx: &mut Transaction<'_, S>, name: &str) -> Result<bool, StoreFault>
-    ensures same_reference { tx.new.conn.ghost_name ≡ tx.old.conn.ghost_name }
-    ensures inside { StaysInside (state S.Store tx.old.conn.now) (state S.Store tx.new.conn.now) result }
+    ensures inside { StaysInside S.Store tx.old.conn tx.new.conn result }
     ensures found { Finds (state S.Store tx.old.conn.now) (state S.Store tx.new.conn.now) result
         (λ is books. is ≡ list_any (bytes_eq name.now) books.catalogue.languages) }
 {
@@ -141,8 +133,7 @@ pub fn is_language<S: Alter>(tx: &mut Transaction<'_, S>, name: &str) -> Result<
 
 /// Whether a category has the name, by its bytes.
 pub fn is_category<S: Alter>(tx: &mut Transaction<'_, S>, name: &str) -> Result<bool, StoreFault>
-    ensures same_reference { tx.new.conn.ghost_name ≡ tx.old.conn.ghost_name }
-    ensures inside { StaysInside (state S.Store tx.old.conn.now) (state S.Store tx.new.conn.now) result }
+    ensures inside { StaysInside S.Store tx.old.conn tx.new.conn result }
     ensures found { Finds (state S.Store tx.old.conn.now) (state S.Store tx.new.conn.now) result
         (λ is books. is ≡ list_any (bytes_eq name.now) books.catalogue.categories) }
 {
@@ -155,8 +146,7 @@ pub fn is_category<S: Alter>(tx: &mut Transaction<'_, S>, name: &str) -> Result<
 
 /// Whether a branch has the token. Head office's is another question.
 pub fn has_token<S: Alter>(tx: &mut Transaction<'_, S>, token: &Token) -> Result<bool, StoreFault>
-    ensures same_reference { tx.new.conn.ghost_name ≡ tx.old.conn.ghost_name }
-    ensures inside { StaysInside (state S.Store tx.old.conn.now) (state S.Store tx.new.conn.now) result }
+    ensures inside { StaysInside S.Store tx.old.conn tx.new.conn result }
     ensures found { Finds (state S.Store tx.old.conn.now) (state S.Store tx.new.conn.now) result
         (λ has books. has ≡ list_any (λ it. bytes_eq it.token token.now) books.catalogue.branches) }
 {
@@ -173,8 +163,7 @@ pub fn has_cast<S: Alter>(
     film: FilmNo,
     actor: ActorNo,
 ) -> Result<bool, StoreFault>
-    ensures same_reference { tx.new.conn.ghost_name ≡ tx.old.conn.ghost_name }
-    ensures inside { StaysInside (state S.Store tx.old.conn.now) (state S.Store tx.new.conn.now) result }
+    ensures inside { StaysInside S.Store tx.old.conn tx.new.conn result }
     ensures found { Finds (state S.Store tx.old.conn.now) (state S.Store tx.new.conn.now) result
         (λ has books. has ≡ list_any (λ it. it.film == film && it.actor == actor) books.catalogue.casts) }
 {

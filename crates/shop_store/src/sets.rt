@@ -1,6 +1,6 @@
 //! What head office sets in shared rows that are there. A row that isn't there is not made.
 
-ghost use Rattle.std.specs.Prelude.{⊤, ◌≡◌, Some, true};
+ghost use Rattle.std.specs.Prelude.{⊤, Some, true};
 ghost use Rattle.sqlite.specs.Held.{state};
 ghost use Rattle.sql_rows.specs.Calls.{StaysInside};
 ghost use Rattle.shop_model.specs.Rows.{set_at};
@@ -17,8 +17,7 @@ pub fn set_rate<S: Alter>(
     film: FilmNo,
     rate: Rate,
 ) -> Result<(), StoreFault>
-    ensures same_reference { tx.new.conn.ghost_name ≡ tx.old.conn.ghost_name }
-    ensures inside { StaysInside (state S.Store tx.old.conn.now) (state S.Store tx.new.conn.now) result }
+    ensures inside { StaysInside S.Store tx.old.conn tx.new.conn result }
     ensures set { Stores (state S.Store tx.old.conn.now) (state S.Store tx.new.conn.now) result (λ _. ⊤)
         (λ books. record books { catalogue = record books.catalogue { films = set_at film (λ f. record f { rate = rate }) books.catalogue.films } }) }
 {
@@ -31,8 +30,7 @@ pub fn set_rate<S: Alter>(
 
 /// Takes the film out of the catalogue, where it stays as withdrawn. After a fault the transaction may be rolled back.
 pub fn set_withdrawn<S: Alter>(tx: &mut Transaction<'_, S>, film: FilmNo) -> Result<(), StoreFault>
-    ensures same_reference { tx.new.conn.ghost_name ≡ tx.old.conn.ghost_name }
-    ensures inside { StaysInside (state S.Store tx.old.conn.now) (state S.Store tx.new.conn.now) result }
+    ensures inside { StaysInside S.Store tx.old.conn tx.new.conn result }
     ensures set { Stores (state S.Store tx.old.conn.now) (state S.Store tx.new.conn.now) result (λ _. ⊤)
         (λ books. record books { catalogue = record books.catalogue { films = set_at film (λ f. record f { withdrawn = true }) books.catalogue.films } }) }
 {
@@ -45,8 +43,7 @@ pub fn set_withdrawn<S: Alter>(tx: &mut Transaction<'_, S>, film: FilmNo) -> Res
 
 /// Sets that the member of staff left. After a fault the transaction may be rolled back.
 pub fn set_gone<S: Alter>(tx: &mut Transaction<'_, S>, staff: StaffNo) -> Result<(), StoreFault>
-    ensures same_reference { tx.new.conn.ghost_name ≡ tx.old.conn.ghost_name }
-    ensures inside { StaysInside (state S.Store tx.old.conn.now) (state S.Store tx.new.conn.now) result }
+    ensures inside { StaysInside S.Store tx.old.conn tx.new.conn result }
     ensures set { Stores (state S.Store tx.old.conn.now) (state S.Store tx.new.conn.now) result (λ _. ⊤)
         (λ books. record books { catalogue = record books.catalogue { staff = set_at staff (λ r. record r { gone = true }) books.catalogue.staff } }) }
 {
@@ -63,8 +60,7 @@ pub fn set_manager<S: Alter>(
     branch: BranchNo,
     staff: StaffNo,
 ) -> Result<(), StoreFault>
-    ensures same_reference { tx.new.conn.ghost_name ≡ tx.old.conn.ghost_name }
-    ensures inside { StaysInside (state S.Store tx.old.conn.now) (state S.Store tx.new.conn.now) result }
+    ensures inside { StaysInside S.Store tx.old.conn tx.new.conn result }
     ensures set { Stores (state S.Store tx.old.conn.now) (state S.Store tx.new.conn.now) result (λ _. ⊤)
         (λ books. record books {
           catalogue = record books.catalogue {

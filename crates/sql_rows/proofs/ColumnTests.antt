@@ -86,9 +86,6 @@ same_or_null f some one (Some x) (Some y) h = ap Some (one x y h)
 
 -- ---- a column takes it as it is
 
-pub kept_flag : (a : Bool) → is_kept kind.Integer (flag_value a) ≡ true
-kept_flag a = refl
-
 pub kept_or_null : {X : Type 0} (f : X → Value) → ((x : X) → is_kept kind.Text (f x) ≡ true) → (o : Option X) → is_kept kind.Text (or_null f o) ≡ true
 kept_or_null f kept None = refl
 kept_or_null f kept (Some x) = kept x

@@ -1,6 +1,5 @@
 -- Which fault a row that cannot be read gives, and for which values a tree stands.
-use Rattle.std.proofs.lemmas.List.Sorted.{IsPermutation-sym, IsPermutation-trans}
-use Rattle.std.proofs.Common.{refl, ◌≡◌, ◌≢◌, ◌<◌, inl, inr, ℕ, zero, suc, List, [], ◌∷◌, length, get_or, map, sym, subst, ◌∙◌, arith, false, IsTrue, Bor}
+use Rattle.std.proofs.Common.{refl, ◌≡◌, ◌≢◌, ◌<◌, inl, inr, ℕ, zero, suc, List, [], ◌∷◌, length, get_or, map, sym, ◌∙◌, arith, false, IsTrue, Bor}
 use Rattle.std.proofs.lemmas.Bool.{cases_Bool}
 use Rattle.sqlite_rules.specs.Lists.{Has}
 use Rattle.sqlite_trees.specs.declared.store.Store.{Ghosts}
@@ -8,19 +7,12 @@ use Rattle.sqlite.specs.Held.{Held, state}
 use Rattle.sqlite.specs.State.{ExecutesInside, Survives}
 use Rattle.std.specs.List.{AllByRecursion}
 use Rattle.sqlite_value.specs.Order.{Row}
-use Rattle.std.specs.Prelude.{IfOk, IfErr, IsErrAnd, Result, Ok, Err, Vec, IsPermutation}
-use Rattle.std.specs.declared.alloc.Global.{Global}
+use Rattle.std.specs.Prelude.{IfErr, IsErrAnd, Result, Ok, Err}
 use Rattle.sql_rows.specs.declared.fault.StoreFault.{StoreFault}
-use Rattle.sql_rows.specs.Rows.{HasRows, columns_of}
-use Rattle.sql_rows.proofs.Bags.{all_along, unmapped_bag}
 use Rattle.sqlite.specs.declared.error.Error.{Error}
 use Rattle.sqlite.specs.declared.error.Error.TheVariants.{SqliteFailure}
-use Rattle.sqlite.specs.declared.error.ErrorCode.TheVariants.{OutOfMemory, TransactionState}
-use Rattle.sql_rows.specs.declared.fault.StoreFault.TheVariants.{Memory, Failed}
-use Rattle.sql_rows.specs.Fault.{fault_of, IsToldOf, StatementGave, OneGave}
-
-pub failed_why : (e : Error) → fault_of e ≡ Failed → e ≢ SqliteFailure OutOfMemory
-failed_why e h is = absurd (let k : Memory ≡ Failed = subst (λ x. fault_of x ≡ Failed) is h in cc)
+use Rattle.sqlite.specs.declared.error.ErrorCode.TheVariants.{TransactionState}
+use Rattle.sql_rows.specs.Fault.{IsToldOf, StatementGave, OneGave}
 
 -- Where a row is of no value, the rows are of no values.
 pub no_values : {X : Type 0} (f : X → Row) (P : X → Type 0) (xs : List X) (rows : List Row) (i : ℕ) (row : Row) → i < length rows → row ≡ get_or rows i row → ((x : X) → P x → f x ≢ row) → AllByRecursion P xs → map f xs ≢ rows
@@ -29,24 +21,6 @@ no_values f P [] (r ∷ rows) i row low at failed all same = cc
 no_values f P (x ∷ xs) [] i row low at failed all same = cc
 no_values f P (x ∷ xs) (r ∷ rows) zero row low at failed all same = let head : f x ≡ r = cc in failed x all.0 (head ∙ sym at)
 no_values f P (x ∷ xs) (r ∷ rows) (suc i) row low at failed all same = let tail : map f xs ≡ rows = cc in no_values f P xs rows i row (omega arith) at failed all.1 tail
-
--- A tree stands for some list of values exactly where each of its rows, in any order in which they were read, is the columns of a value.
-pub stands_if : {X : Type 0} (columns : X → Row) (width : ℕ) (tree rows : List Row) → IsPermutation (map (columns_of width) tree) rows → (zs : List X) → map columns zs ≡ rows → HasRows width tree (map columns zs)
-stands_if columns width tree rows read zs is = subst (IsPermutation (map (columns_of width) tree)) (sym is) read
-
-pub only_if : {X : Type 0} (columns : X → Row) (width : ℕ) (tree rows : List Row) → IsPermutation (map (columns_of width) tree) rows → (xs : List X) → HasRows width tree (map columns xs) → (zs : List X) × IsPermutation xs zs × (map columns zs ≡ rows)
-only_if columns width tree rows read xs has = unmapped_bag columns _ _ (IsPermutation-trans _ _ _ (IsPermutation-sym _ _ has) read) xs refl
-
--- rows that are of no values, so the tree that they were read from stands for none
-pub no_books : {X : Type 0} (columns : X → Row) (P : X → Type 0) (width : ℕ) (tree rows : List Row) → IsPermutation (map (columns_of width) tree) rows → ((xs : List X) → AllByRecursion P xs → map columns xs ≢ rows)
-    → (xs : List X) → AllByRecursion P xs → ¬ HasRows width tree (map columns xs)
-no_books columns P width tree rows read failed xs all has = let it = only_if columns width tree rows read xs has in failed it.0 (all_along P xs it.0 it.1 all) it.2
-
-pub audited : {X : Type 0} (columns : X → Row) (P : X → Type 0) (width : ℕ) (tree rows : List Row) (r : Result (Vec X Global) StoreFault) → IsPermutation (map (columns_of width) tree) rows
-    → IfOk r (λ all. map columns all.items ≡ rows) → IfErr r (λ e. e ≡ Failed → (xs : List X) → AllByRecursion P xs → map columns xs ≢ rows)
-    → IfOk r (λ all. HasRows width tree (map columns all.items)) × IfErr r (λ e. e ≡ Failed → (xs : List X) → AllByRecursion P xs → ¬ HasRows width tree (map columns xs))
-audited columns P width tree rows (Ok all) read ok failed = (stands_if columns width tree rows read all.items ok, tt)
-audited columns P width tree rows (Err e) read ok failed = (tt, λ is. no_books columns P width tree rows read (failed is))
 
 -- ---- which error a statement is given
 

@@ -16,7 +16,7 @@ use Rattle.sqlite_sql.specs.Term.{Term, Env, lit, op2, holds}
 use Rattle.sqlite_sql.specs.Query.{Query, Join, inner, left, end, counted, made, folded, first, matches, or_nulls, IsAnswer, Output, output, output_cmp, page}
 use Rattle.sqlite_sql.specs.Program.{overlay}
 use Rattle.sqlite_keyed.specs.Lists.{sort_by}
-use Rattle.sqlite_keyed.proofs.ListLemmas.{map-flat_map, flat_map-map, flat_map-filter, flat_map_same_on, IsPermutation-flat_map, IsPermutation-flat_map_each, ascending_weaker}
+use Rattle.sqlite_keyed.proofs.ListLemmas.{map-flat_map, flat_map-map, flat_map_same_on, IsPermutation-flat_map, IsPermutation-flat_map_each, ascending_weaker}
 use Rattle.sqlite_keyed.proofs.SortLemmas.{sorted_is-sort_by}
 use Rattle.sql_rows.specs.Rows.{HasRows, columns_of, PicksOne, number_value}
 use Rattle.sql_rows.proofs.Bags.{bag_filter, short_bag, length-map}
@@ -70,12 +70,6 @@ module _ {Y Z : Type 0} (width : ℕ) (columns : Y → Row) (tree : List Row) (y
   narrowed : (rows : List Row) → flat_map gives rows ≡ flat_map hands (map (columns_of width) rows)
   narrowed rows = flat_map_same_on gives (λ r. hands (columns_of width r)) only rows ∙ sym (flat_map-map hands (columns_of width) rows)
 
-  pub inner_bag : IsPermutation (flat_map gives (filter test tree)) (flat_map hands (map columns (filter p ys)))
-  inner_bag = subst (λ l. IsPermutation l (flat_map hands (map columns (filter p ys)))) (sym (narrowed (filter test tree))) (IsPermutation-flat_map hands _ _ kept_bag)
-
-  pub joined_many : ((r : Row) → test r ≡ false → gives r ≡ []) → IsPermutation (flat_map gives tree) (flat_map hands (map columns (filter p ys)))
-  joined_many none = subst (λ l. IsPermutation l (flat_map hands (map columns (filter p ys)))) (flat_map-filter gives test none tree) inner_bag
-
   pub left_bag : IsPermutation (flat_map gives (or_nulls (filter test tree))) (flat_map hands (or_blank width (map columns (filter p ys))))
   left_bag =
       subst (λ l. IsPermutation l (flat_map hands (or_blank width (map columns (filter p ys))))) (sym (narrowed (or_nulls (filter test tree)) ∙ ap (flat_map hands) (narrow_nulls width (filter test tree))))
@@ -84,13 +78,6 @@ module _ {Y Z : Type 0} (width : ℕ) (columns : Y → Row) (tree : List Row) (y
   module _ (few : PicksOne p ys) where
     kept_list : map (columns_of width) (filter test tree) ≡ map columns (filter p ys)
     kept_list = short_bag _ _ kept_bag (subst (λ (n : ℕ). n ≤ 1) (sym (length-map {A = Y} columns (filter p ys))) few)
-
-    pub inner_one : flat_map gives (filter test tree) ≡ flat_map hands (map columns (filter p ys))
-    inner_one = narrowed (filter test tree) ∙ ap (flat_map hands) kept_list
-
-    -- a table of FROM a JOIN b: its ON stands in the filter, so a row that fails it brings nothing
-    pub joined_one : ((r : Row) → test r ≡ false → gives r ≡ []) → flat_map gives tree ≡ flat_map hands (map columns (filter p ys))
-    joined_one none = sym (flat_map-filter gives test none tree) ∙ inner_one
 
     pub left_one : flat_map gives (or_nulls (filter test tree)) ≡ flat_map hands (or_blank width (map columns (filter p ys)))
     left_one = narrowed (or_nulls (filter test tree)) ∙ ap (flat_map hands) (narrow_nulls width (filter test tree) ∙ ap (or_blank width) kept_list)

@@ -12,7 +12,6 @@ pub mod Creates
 pub mod Inside
 pub mod Whole
 pub mod Wholes
-pub mod Least
 pub mod Faults
 pub mod Opened
 pub mod Unique

@@ -1,11 +1,8 @@
 -- What a call does to the books that tables stand for. What books are, the schema, and when trees stand for books are parameters.
 use Rattle.std.specs.Prelude.{◌≡◌, true, []}
 use Rattle.sqlite_trees.specs.Tree.{Trees}
-use Rattle.sqlite.specs.declared.error.Error.{Error}
 use Rattle.sqlite.specs.Schema.{Schema}
-use Rattle.sqlite.specs.State.{State, Shows, KeepsCommit}
-use Rattle.sql_rows.specs.declared.fault.StoreFault.{StoreFault}
-use Rattle.sql_rows.specs.Fault.{fault_of}
+use Rattle.sqlite.specs.State.{State, Shows}
 use Rattle.sql_rows.specs.Rows.{AreKeyed}
 
 abbrev pub no_schema : Schema
@@ -25,21 +22,3 @@ pub record Changes {B : Type 0} (schema : Schema) (Stands : Trees → B → Type
   pub keyed : IsKeyed schema old → IsKeyed schema new
   pub books : IsKeyed schema old → (books : B) → Stands old.now.trees books → Given books → Stands new.now.trees (change books)
   pub shows : Shows old new new.now old.committed true
-
--- The call answered a fault of this kind, and nothing was committed. What the transaction sees may be rolled back.
-pub record Stopped (old new : State) (fault : StoreFault) : Type 0 where
-  pub error : Error
-  pub kind : fault ≡ fault_of error
-  pub kept : KeepsCommit old new
-
--- Outside a transaction, books of which this is known are changed so, and that is committed.
-pub record Commits {B : Type 0} (schema : Schema) (Stands : Trees → B → Type 0) (old new : State) (Given : B → Type 0) (change : B → B) : Type 0 where
-  pub schema_is : IsOf schema new
-  pub keyed : IsKeyed schema old → IsKeyed schema new
-  pub books : IsKeyed schema old → (books : B) → Stands old.now.trees books → Given books → Stands new.now.trees (change books)
-  pub settled : new.committed ≡ new.now
-
--- what a crash may leave of that, beside what it may leave before
-abbrev pub CommitsTo : {B : Type 0} → (schema : Schema) → (Stands : Trees → B → Type 0) → State → (B → Type 0) → (B → B) → Trees → Type 0
-CommitsTo {B} schema Stands old Given change db =
-    IsOf schema old → IsKeyed schema old → AreKeyed schema db × ((books : B) → Stands old.now.trees books → Given books → Stands db (change books))

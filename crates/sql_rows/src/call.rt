@@ -17,8 +17,7 @@ pub fn query<S: Alter>(
     text: &str,
     params: &[ValueRef<'_>],
 ) -> Result<Vec<Row>, StoreFault>
-    ensures same_reference { tx.new.conn.ghost_name ≡ tx.old.conn.ghost_name }
-    ensures inside { StaysInside (state S.Store tx.old.conn.now) (state S.Store tx.new.conn.now) result }
+    ensures inside { StaysInside S.Store tx.old.conn tx.new.conn result }
     ensures shown { HasCleanDisk (state S.Store tx.new.conn.now)
         → IfOk result (λ rows. Shown text.now (bound params.now) (state S.Store tx.old.conn.now) (state S.Store tx.new.conn.now) rows.items) }
     ensures told { HasCleanDisk (state S.Store tx.new.conn.now)
@@ -37,8 +36,7 @@ pub fn execute<S: Alter>(
     text: &str,
     params: &[ValueRef<'_>],
 ) -> Result<(), StoreFault>
-    ensures same_reference { tx.new.conn.ghost_name ≡ tx.old.conn.ghost_name }
-    ensures inside { StaysInside (state S.Store tx.old.conn.now) (state S.Store tx.new.conn.now) result }
+    ensures inside { StaysInside S.Store tx.old.conn tx.new.conn result }
     ensures ran { HasCleanDisk (state S.Store tx.new.conn.now)
         → OnOk result ((count : ℕ) × ExecutesInside 0 text.now (bound params.now) (state S.Store tx.old.conn.now) (state S.Store tx.new.conn.now) (Ok count)) }
     ensures told { HasCleanDisk (state S.Store tx.new.conn.now)

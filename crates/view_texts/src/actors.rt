@@ -1,8 +1,9 @@
 //! The list of all actors, each with the films by category: neighbouring rows of one join belong to one actor, and in them to one category.
 
-ghost use Rattle.std.specs.Prelude.{◌≡◌, List, [], false, Some, None, IfOk, OnOk, map, option_map, string_bytes};
+ghost use Rattle.std.specs.Prelude.{◌≡◌, List, [], Some, None, IfOk, map, option_map, string_bytes};
 ghost use Rattle.sqlite.specs.Held.{state};
-ghost use Rattle.sqlite.specs.State.{HasCleanDisk, IsUnchanged, KeepsCommit, Survives};
+ghost use Rattle.sqlite.specs.State.{HasCleanDisk};
+ghost use Rattle.sql_rows.specs.Calls.{StaysSame};
 ghost use Rattle.shop_model.specs.Books.{Books};
 ghost use Rattle.shop_model.specs.Machine.{ActorsListed};
 ghost use Rattle.shop_model.specs.Answers.{shown_text};
@@ -43,10 +44,7 @@ fn finish(taker: ActorPage) -> Result<String, AllocError>
 pub fn actor_info<S: Alter>(conn: &mut Connection<S>, alloc: Global) -> Result<String, StoreFault>
     ensures text { HasCleanDisk (state S.Store conn.new) → IfOk result (λ s. (books : Books) → Holds (state S.Store conn.old) books → IsHeld books
         → string_bytes s ≡ shown_text (ActorsListed (actor_info books.catalogue))) }
-    ensures same { HasCleanDisk (state S.Store conn.new) → OnOk result (IsUnchanged (state S.Store conn.old) (state S.Store conn.new)) }
-    ensures kept { HasCleanDisk (state S.Store conn.new) → KeepsCommit (state S.Store conn.old) (state S.Store conn.new) }
-    ensures mode { conn.old.in_transaction ≡ false → conn.new.in_transaction ≡ false }
-    ensures survives { Survives (state S.Store conn.old) (state S.Store conn.new) (λ _. ⊥) }
+    ensures same { StaysSame S.Store conn.old conn.new result }
 {
     let mut taker = ActorPage {
         page: ListPage::new(alloc),

@@ -3,7 +3,8 @@
 ghost use Rattle.std.specs.Prelude.{◌≡◌, ℕ, List, [], ◌++◌, false, not, Option, Some, None, IfOk, OnOk, map, flat_map, string_bytes};
 ghost use Rattle.serde_json.specs.Data.{Data};
 ghost use Rattle.sqlite.specs.Held.{state};
-ghost use Rattle.sqlite.specs.State.{HasCleanDisk, IsUnchanged, KeepsCommit, Survives};
+ghost use Rattle.sqlite.specs.State.{HasCleanDisk};
+ghost use Rattle.sql_rows.specs.Calls.{StaysSame};
 ghost use Rattle.shop_model.specs.Rows.{at, lacks, numbered};
 ghost use Rattle.shop_model.specs.Values.{Branch};
 ghost use Rattle.shop_model.specs.Books.{Books, head, shop_of};
@@ -31,10 +32,7 @@ fn rental_sum<S: Alter>(
 ) -> Result<Option<u64>, StoreFault>
     ensures sum { HasCleanDisk (state S.Store conn.new) → IfOk result (λ sum. (books : Books) → Holds (state S.Store conn.old) books → IsHeld books
         → sum ≡ rental_sum (shop_of branch books)) }
-    ensures same { HasCleanDisk (state S.Store conn.new) → OnOk result (IsUnchanged (state S.Store conn.old) (state S.Store conn.new)) }
-    ensures kept { HasCleanDisk (state S.Store conn.new) → KeepsCommit (state S.Store conn.old) (state S.Store conn.new) }
-    ensures mode { conn.old.in_transaction ≡ false → conn.new.in_transaction ≡ false }
-    ensures survives { Survives (state S.Store conn.old) (state S.Store conn.new) (λ _. ⊥) }
+    ensures same { StaysSame S.Store conn.old conn.new result }
 {
     let mut taker = SalesSum { sum: None };
     each_row(
@@ -75,10 +73,7 @@ fn add_branch<S: Alter>(
         → HasValues page.old values → HasValues page.new (values ++ map store_data (sales_of_branch books branch))) }
     ensures there { HasCleanDisk (state S.Store conn.new) → IfOk result (λ there. (books : Books) → Holds (state S.Store conn.old) books
         → there ≡ not (lacks books.catalogue.branches branch)) }
-    ensures same { HasCleanDisk (state S.Store conn.new) → OnOk result (IsUnchanged (state S.Store conn.old) (state S.Store conn.new)) }
-    ensures kept { HasCleanDisk (state S.Store conn.new) → KeepsCommit (state S.Store conn.old) (state S.Store conn.new) }
-    ensures mode { conn.old.in_transaction ≡ false → conn.new.in_transaction ≡ false }
-    ensures survives { Survives (state S.Store conn.old) (state S.Store conn.new) (λ _. ⊥) }
+    ensures same { StaysSame S.Store conn.old conn.new result }
 {
     let Some(row) = find_store(conn, alloc, branch)? else {
         return Ok(false);
@@ -97,10 +92,7 @@ pub fn sales_by_store<S: Alter>(
 ) -> Result<String, StoreFault>
     ensures text { HasCleanDisk (state S.Store conn.new) → IfOk result (λ s. (books : Books) → Holds (state S.Store conn.old) books → IsHeld books
         → string_bytes s ≡ shown_text (StoresListed (sales_by_store branch books.catalogue (shop_of branch books)))) }
-    ensures same { HasCleanDisk (state S.Store conn.new) → OnOk result (IsUnchanged (state S.Store conn.old) (state S.Store conn.new)) }
-    ensures kept { HasCleanDisk (state S.Store conn.new) → KeepsCommit (state S.Store conn.old) (state S.Store conn.new) }
-    ensures mode { conn.old.in_transaction ≡ false → conn.new.in_transaction ≡ false }
-    ensures survives { Survives (state S.Store conn.old) (state S.Store conn.new) (λ _. ⊥) }
+    ensures same { StaysSame S.Store conn.old conn.new result }
 {
     let mut page = ListPage::new(alloc);
     add_branch(conn, alloc, branch, &mut page)?;
@@ -115,10 +107,7 @@ fn add_branches<S: Alter>(
 ) -> Result<(), StoreFault>
     ensures added { HasCleanDisk (state S.Store conn.new) → OnOk result ((books : Books) → Holds (state S.Store conn.old) books → IsHeld books
         → HasValues page.old [] → HasValues page.new (map store_data (sales_of_first books books.catalogue.branches))) }
-    ensures same { HasCleanDisk (state S.Store conn.new) → OnOk result (IsUnchanged (state S.Store conn.old) (state S.Store conn.new)) }
-    ensures kept { HasCleanDisk (state S.Store conn.new) → KeepsCommit (state S.Store conn.old) (state S.Store conn.new) }
-    ensures mode { conn.old.in_transaction ≡ false → conn.new.in_transaction ≡ false }
-    ensures survives { Survives (state S.Store conn.old) (state S.Store conn.new) (λ _. ⊥) }
+    ensures same { StaysSame S.Store conn.old conn.new result }
 {
     'branches: for number in 1..=u32::MAX {
         let Some(branch) = BranchNo::new(number) else {
@@ -137,10 +126,7 @@ pub fn sales<S: Alter>(conn: &mut Connection<S>, alloc: Global) -> Result<String
     ensures text { HasCleanDisk (state S.Store conn.new) → IfOk result (λ s. (books : Books) → Holds (state S.Store conn.old) books → IsHeld books
         → string_bytes s ≡ shown_text (StoresListed
         (flat_map (λ (it : ℕ × Branch). sales_by_store it.0 books.catalogue (shop_of it.0 books)) (numbered books.catalogue.branches)))) }
-    ensures same { HasCleanDisk (state S.Store conn.new) → OnOk result (IsUnchanged (state S.Store conn.old) (state S.Store conn.new)) }
-    ensures kept { HasCleanDisk (state S.Store conn.new) → KeepsCommit (state S.Store conn.old) (state S.Store conn.new) }
-    ensures mode { conn.old.in_transaction ≡ false → conn.new.in_transaction ≡ false }
-    ensures survives { Survives (state S.Store conn.old) (state S.Store conn.new) (λ _. ⊥) }
+    ensures same { StaysSame S.Store conn.old conn.new result }
 {
     let mut page = ListPage::new(alloc);
     add_branches(conn, alloc, &mut page)?;

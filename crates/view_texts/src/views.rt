@@ -1,8 +1,9 @@
 //! Any of the views, by its name.
 
-ghost use Rattle.std.specs.Prelude.{◌≡◌, false, IfOk, OnOk, string_bytes};
+ghost use Rattle.std.specs.Prelude.{◌≡◌, IfOk, string_bytes};
 ghost use Rattle.sqlite.specs.Held.{state};
-ghost use Rattle.sqlite.specs.State.{HasCleanDisk, IsUnchanged, KeepsCommit, Survives};
+ghost use Rattle.sqlite.specs.State.{HasCleanDisk};
+ghost use Rattle.sql_rows.specs.Calls.{StaysSame};
 ghost use Rattle.shop_model.specs.Books.{Books, shop_of};
 ghost use Rattle.shop_model.specs.Machine.{view_rows};
 ghost use Rattle.shop_model.specs.Answers.{shown_text};
@@ -29,10 +30,7 @@ pub fn view_text<S: Alter>(
 ) -> Result<String, StoreFault>
     ensures text { HasCleanDisk (state S.Store conn.new) → IfOk result (λ s. (books : Books) → Holds (state S.Store conn.old) books → IsHeld books
         → string_bytes s ≡ shown_text (view_rows branch books.catalogue (shop_of branch books) (seen_view view))) }
-    ensures same { HasCleanDisk (state S.Store conn.new) → OnOk result (IsUnchanged (state S.Store conn.old) (state S.Store conn.new)) }
-    ensures kept { HasCleanDisk (state S.Store conn.new) → KeepsCommit (state S.Store conn.old) (state S.Store conn.new) }
-    ensures mode { conn.old.in_transaction ≡ false → conn.new.in_transaction ≡ false }
-    ensures survives { Survives (state S.Store conn.old) (state S.Store conn.new) (λ _. ⊥) }
+    ensures same { StaysSame S.Store conn.old conn.new result }
 {
     match view {
         View::CustomerList => customer_list(conn, alloc, branch),

@@ -1,4 +1,4 @@
-use Rattle.std.proofs.Common.{◌∙◌, refl, sym, ap, arith, ℕ, Option, option_map}
+use Rattle.std.proofs.Common.{◌∙◌, sym, ap, arith, ℕ, Option, option_map}
 use Rattle.std.specs.Option.{option_to_list}
 use Rattle.sqlite.specs.Held.{state}
 use Rattle.sqlite.specs.State.{HasCleanDisk}
@@ -48,10 +48,10 @@ returns-in-None-clause-found g c = λ clean.
     (reads_then s0 s1 s2 _ _ (c.in_ok-copy.ensures.row before) (c.in_ok-film.ensures.found clean))
 
 pub returns-in_err-film-clause-inside : goal.returns-in_err-film-clause-inside
-returns-in_err-film-clause-inside g c = within_err _ _ _ _ (within_then _ _ _ _ _ refl (within_of _ _ _ c.in_ok-copy.ensures.inside) c.terms_once.ensures.inside) c.from_residual-in_err-film.ensures.0
+returns-in_err-film-clause-inside g c = within_err (within_then (within_of c.in_ok-copy.ensures.inside) c.terms_once.ensures.inside) c.from_residual-in_err-film.ensures.0
 
 pub returns-in-Some-2-clause-inside : goal.returns-in-Some-2-clause-inside
-returns-in-Some-2-clause-inside g c = within_as _ _ _ _ (within_then _ _ _ _ _ refl (within_of _ _ _ c.in_ok-copy.ensures.inside) c.in_ok-film.ensures.inside) (λ ok. refl)
+returns-in-Some-2-clause-inside g c = within_as (within_then (within_of c.in_ok-copy.ensures.inside) c.in_ok-film.ensures.inside)
 
 pub returns-in-None-clause-inside : goal.returns-in-None-clause-inside
-returns-in-None-clause-inside g c = within_as _ _ _ _ (within_then _ _ _ _ _ refl (within_of _ _ _ c.in_ok-copy.ensures.inside) c.in_ok-film.ensures.inside) (λ ok. refl)
+returns-in-None-clause-inside g c = within_as (within_then (within_of c.in_ok-copy.ensures.inside) c.in_ok-film.ensures.inside)

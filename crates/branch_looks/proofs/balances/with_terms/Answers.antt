@@ -1,4 +1,4 @@
-use Rattle.std.proofs.Common.{◌≡◌, ◌∙◌, ◌++◌, ◌∷◌, [], Ok, refl, sym, ap, arith, map, flat_map, take, length, get_or, List, ℕ, ◌+◌, ◌<◌, append-nil}
+use Rattle.std.proofs.Common.{◌≡◌, ◌∙◌, ◌++◌, ◌∷◌, [], sym, ap, arith, map, flat_map, take, length, get_or, List, ℕ, ◌+◌, ◌<◌, append-nil}
 use Rattle.std.proofs.lemmas.List.{take_all, map_more}
 use Rattle.std.proofs.lemmas.Grind.{flat_map-append}
 use Rattle.sqlite.specs.Held.{state}
@@ -29,7 +29,7 @@ more_flat {B = B} f rows i row lt is =
 pub loop-row-init : goal.loop-row-init
 loop-row-init g c =
     let s0 = state g.S.Store c.args.tx.now.conn.now in
-    (refl, within_none s0 (Ok tt), λ clean. reads_none s0 _ (λ books held. (c.new-terms.ensures.items, none_known books.catalogue c.new-known.result c.new-known.ensures.empty)))
+    (within_none, λ clean. reads_none s0 _ (λ books held. (c.new-terms.ensures.items, none_known books.catalogue c.new-known.result c.new-known.ensures.empty)))
 
 pub loop-row-preserved : goal.loop-row-preserved
 loop-row-preserved g c =
@@ -41,27 +41,26 @@ loop-row-preserved g c =
     let before = c.loop-row.terms.items in
     let inv = c.loop-row.invariant in
     let told = c.in_ok-found.ensures in (
-      told.same_reference ∙ inv.0,
-      within_then s0 s1 s2 _ (Ok tt) refl inv.1 (within_as s1 s2 _ (Ok tt) told.inside (λ ok. refl)),
+      within_then inv.0 (within_as told.inside),
       (λ clean.
           let clean1 : HasCleanDisk s1 = omega (arith, clean, told.inside.survives.clean) in
           reads_as s0 s2 _ _ (λ books held is.
           let f : Rental → List RentalTerms = terms_of books.catalogue (shop_of c.args.branch books) in
           let it = is.1 is.0.1 in
           (c.in_ok-push_found.ensures ∙ (λ j. is.0.0 j ++ it.0 j) ∙ more_flat f rows i c.row-item.result c.loop-row-test.true c.row-item.is, it.1))
-          (reads_then s0 s1 s2 _ _ (inv.2 clean1) (told.found clean))),
+          (reads_then s0 s1 s2 _ _ (inv.1 clean1) (told.found clean))),
     )
 
 pub returns-clause-found : goal.returns-clause-found
 returns-clause-found g c = λ clean.
     reads_as (state g.S.Store c.args.tx.now.conn.now) (state g.S.Store c.loop-row.tx.conn.now) _ _
-    (λ books held is. is.0 ∙ ap (λ (rs : List RentalRow). flat_map (terms_of books.catalogue (shop_of c.args.branch books)) (map seen rs)) (take_all c.loop-row.row-index c.args.rows.now c.loop-row-test.false)) (c.loop-row.invariant.2 clean)
+    (λ books held is. is.0 ∙ ap (λ (rs : List RentalRow). flat_map (terms_of books.catalogue (shop_of c.args.branch books)) (map seen rs)) (take_all c.loop-row.row-index c.args.rows.now c.loop-row-test.false)) (c.loop-row.invariant.1 clean)
 
 pub returns-in_err-found-clause-inside : goal.returns-in_err-found-clause-inside
-returns-in_err-found-clause-inside g c = within_err _ _ _ _ (within_then _ _ _ _ _ refl c.loop-row.invariant.1 c.terms_at.ensures.inside) c.from_residual.ensures.0
+returns-in_err-found-clause-inside g c = within_err (within_then c.loop-row.invariant.0 c.terms_at.ensures.inside) c.from_residual.ensures.0
 
 pub returns-in_err-push_found-clause-inside : goal.returns-in_err-push_found-clause-inside
-returns-in_err-push_found-clause-inside g c = within_err _ _ _ _ (within_then _ _ _ _ _ refl c.loop-row.invariant.1 c.in_ok-found.ensures.inside) c.from_residual-in_err-push_found.ensures.0
+returns-in_err-push_found-clause-inside g c = within_err (within_then c.loop-row.invariant.0 c.in_ok-found.ensures.inside) c.from_residual-in_err-push_found.ensures.0
 
 pub returns-clause-inside : goal.returns-clause-inside
-returns-clause-inside g c = within_as _ _ _ _ c.loop-row.invariant.1 (λ ok. refl)
+returns-clause-inside g c = within_as c.loop-row.invariant.0

@@ -14,8 +14,7 @@ use Rattle.branch_looks.proofs.balances.with_terms.Given as goal
 
 abbrev pub invariant-loop-row : goal.invariant-loop-row
 invariant-loop-row g l =
-    (l.tx.conn.ghost_name ≡ l.fn.tx.conn.ghost_name)
-    × StaysWithin {X = ⊤} {E = StoreFault} (state g.S.Store l.fn.tx.conn.now) (state g.S.Store l.tx.conn.now) (Ok tt)
+    StaysWithin {X = ⊤} {E = StoreFault} g.S.Store l.fn.tx.conn l.tx.conn (Ok tt)
     × (HasCleanDisk (state g.S.Store l.tx.conn.now) → Reads (state g.S.Store l.fn.tx.conn.now) (state g.S.Store l.tx.conn.now)
     (λ books. (l.terms.items ≡ flat_map (terms_of books.catalogue (shop_of l.branch books)) (map (λ (row : RentalRow). seen_rental row.rental) (take l.row-index l.rows)))
     × AreKnown l.known books.catalogue))

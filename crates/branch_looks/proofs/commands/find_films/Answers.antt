@@ -1,4 +1,4 @@
-use Rattle.std.proofs.Common.{◌≡◌, ◌∙◌, ◌++◌, ◌∷◌, [], Ok, refl, ap, arith, map, List}
+use Rattle.std.proofs.Common.{◌≡◌, ◌∙◌, ◌++◌, ◌∷◌, [], refl, ap, arith, map, List}
 use Rattle.std.proofs.lemmas.List.{take_all}
 use Rattle.sqlite.specs.Held.{state}
 use Rattle.sqlite.specs.State.{HasCleanDisk}
@@ -19,25 +19,24 @@ loop-row-preserved g c =
     let inv = c.loop-row.invariant in
     let told = c.in_ok-withdrawn.ensures in
     let pushed : c.push.new.self.items ≡ c.loop-row.found.items ++ told_row c.row-item.result c.in_ok-withdrawn.withdrawn ∷ [] = c.in-Ok.ensures.items ∙ ap (λ (r : StockFound). c.loop-row.found.items ++ r ∷ []) c.told_row.ensures in (
-      told.same_reference ∙ inv.0,
-      within_then s0 s1 s2 _ (Ok tt) refl inv.1 (within_as s1 s2 _ (Ok tt) (within_of s1 s2 (Ok c.in_ok-withdrawn.withdrawn) told.inside) (λ ok. refl)),
+      within_then inv.0 (within_as (within_of told.inside)),
       (λ clean.
           let before : HasCleanDisk s1 = omega (arith, clean, told.inside.survives.clean) in
           reads_as s0 s2 _ _ (λ books held is. pushed ∙ row_found books.catalogue rows c.loop-row.row-index c.row-item.result c.loop-row.found.items c.in_ok-withdrawn.withdrawn c.loop-row-test.true c.row-item.is is.1 is.0)
-          (reads_then s0 s1 s2 _ _ (inv.2 before) (told.found clean))),
-      ap (map as_listed) pushed ∙ row_listed rows c.loop-row.row-index c.row-item.result c.loop-row.found.items c.in_ok-withdrawn.withdrawn c.loop-row-test.true c.row-item.is inv.3,
+          (reads_then s0 s1 s2 _ _ (inv.1 before) (told.found clean))),
+      ap (map as_listed) pushed ∙ row_listed rows c.loop-row.row-index c.row-item.result c.loop-row.found.items c.in_ok-withdrawn.withdrawn c.loop-row-test.true c.row-item.is inv.2,
     )
 
 pub returns-clause-found : goal.returns-clause-found
 returns-clause-found g c = λ clean.
     reads_as (state g.S.Store c.args.tx.now.conn.now) (state g.S.Store c.loop-row.tx.conn.now) _ _
-    (λ books held is. is ∙ ap (λ (rs : List StockRow). map (found_row books.catalogue) rs) (take_all c.loop-row.row-index c.args.rows.now c.loop-row-test.false)) (c.loop-row.invariant.2 clean)
+    (λ books held is. is ∙ ap (λ (rs : List StockRow). map (found_row books.catalogue) rs) (take_all c.loop-row.row-index c.args.rows.now c.loop-row-test.false)) (c.loop-row.invariant.1 clean)
 
 pub returns-in_err-withdrawn-clause-inside : goal.returns-in_err-withdrawn-clause-inside
-returns-in_err-withdrawn-clause-inside g c = within_err _ _ _ _ (within_then _ _ _ _ _ refl c.loop-row.invariant.1 (within_of _ _ _ c.film_at.ensures.inside)) c.from_residual.ensures.0
+returns-in_err-withdrawn-clause-inside g c = within_err (within_then c.loop-row.invariant.0 (within_of c.film_at.ensures.inside)) c.from_residual.ensures.0
 
 pub returns-in_default-clause-inside : goal.returns-in_default-clause-inside
-returns-in_default-clause-inside g c = within_err _ _ _ _ (within_then _ _ _ _ _ refl c.loop-row.invariant.1 (within_of _ _ _ c.in_ok-withdrawn.ensures.inside)) refl
+returns-in_default-clause-inside g c = within_err (within_then c.loop-row.invariant.0 (within_of c.in_ok-withdrawn.ensures.inside)) refl
 
 pub returns-clause-inside : goal.returns-clause-inside
-returns-clause-inside g c = within_as _ _ _ _ c.loop-row.invariant.1 (λ ok. refl)
+returns-clause-inside g c = within_as c.loop-row.invariant.0

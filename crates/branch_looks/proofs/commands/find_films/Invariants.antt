@@ -10,7 +10,6 @@ use Rattle.branch_looks.proofs.commands.find_films.Given as goal
 
 abbrev pub invariant-loop-row : goal.invariant-loop-row
 invariant-loop-row g l =
-    (l.tx.conn.ghost_name ≡ l.fn.tx.conn.ghost_name)
-    × StaysWithin {X = ⊤} {E = StoreFault} (state g.S.Store l.fn.tx.conn.now) (state g.S.Store l.tx.conn.now) (Ok tt)
+    StaysWithin {X = ⊤} {E = StoreFault} g.S.Store l.fn.tx.conn l.tx.conn (Ok tt)
     × (HasCleanDisk (state g.S.Store l.tx.conn.now) → Reads (state g.S.Store l.fn.tx.conn.now) (state g.S.Store l.tx.conn.now) (λ books. l.found.items ≡ map (found_row books.catalogue) (take l.row-index l.rows)))
     × (map as_listed l.found.items ≡ take l.row-index l.rows)

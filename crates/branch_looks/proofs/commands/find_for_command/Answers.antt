@@ -1,5 +1,4 @@
 use Rattle.std.proofs.Common.{◌≡◌, ◌∙◌, refl, subst, ℕ, Option, IfSome, not, option_map}
-use Rattle.sqlite.specs.Held.{state}
 use Rattle.sql_rows.proofs.Stays.{within_as, within_err, within_of, within_then}
 use Rattle.shop_model.specs.Calendar.{Moment}
 use Rattle.shop_model.specs.Rows.{lacks}
@@ -22,16 +21,16 @@ same_named moment (model.Rent c x) shop = refl
 same_named moment act shop = refl
 
 -- what the calls leave and find, two by two
-abbrev staff_found : (g : Over) (c : After-find_city g) → Calls (state g.S.Store c.args.tx.now.conn.now) (state g.S.Store c.staff_at.new.tx.conn.now)
+abbrev staff_found : (g : Over) (c : After-find_city g) → Calls g.S.Store c.args.tx.now.conn c.staff_at.new.tx.conn
 staff_found g c = calls_then (call_inside c.in_ok-count_of.ensures.inside c.in_ok-count_of.ensures.count) (call_inside c.in_ok-staff.ensures.inside c.in_ok-staff.ensures.found)
 
-abbrev customer_found : (g : Over) (c : After-find_copy g) → Calls (state g.S.Store c.staff_at.new.tx.conn.now) (state g.S.Store c.find_customer.new.tx.conn.now)
+abbrev customer_found : (g : Over) (c : After-find_copy g) → Calls g.S.Store c.staff_at.new.tx.conn c.find_customer.new.tx.conn
 customer_found g c = calls_then (call_within c.in_ok-has_city.ensures.inside c.in_ok-has_city.ensures.found) (call_within c.in_ok-customer.ensures.inside c.in_ok-customer.ensures.found)
 
-abbrev copy_found : (g : Over) (c : After-find_same g) → Calls (state g.S.Store c.find_customer.new.tx.conn.now) (state g.S.Store c.find_out.new.tx.conn.now)
+abbrev copy_found : (g : Over) (c : After-find_same g) → Calls g.S.Store c.find_customer.new.tx.conn c.find_out.new.tx.conn
 copy_found g c = calls_then (call_within c.in_ok-copy.ensures.inside c.in_ok-copy.ensures.found) (call_within c.in_ok-out.ensures.inside c.in_ok-out.ensures.found)
 
-abbrev rental_found : (g : Over) (c : After-find_import g) → Calls (state g.S.Store c.find_out.new.tx.conn.now) (state g.S.Store c.find_rental.new.tx.conn.now)
+abbrev rental_found : (g : Over) (c : After-find_import g) → Calls g.S.Store c.find_out.new.tx.conn c.find_rental.new.tx.conn
 rental_found g c = calls_then (call_within c.in_ok-has_same.ensures.inside c.in_ok-has_same.ensures.found) (call_within c.in_ok-rental.ensures.inside c.in_ok-rental.ensures.found)
 
 pub returns-clause-found : goal.returns-clause-found
@@ -60,33 +59,33 @@ returns-clause-found g c = λ clean.
     (calls.found clean)
 
 pub returns-in_err-staff-clause-inside : goal.returns-in_err-staff-clause-inside
-returns-in_err-staff-clause-inside g c = within_err _ _ _ _ (within_then _ _ _ _ _ refl (within_of _ _ _ c.in_ok-count_of.ensures.inside) (within_of _ _ _ c.staff_at.ensures.inside)) c.from_residual-in_err-staff.ensures.0
+returns-in_err-staff-clause-inside g c = within_err (within_then (within_of c.in_ok-count_of.ensures.inside) (within_of c.staff_at.ensures.inside)) c.from_residual-in_err-staff.ensures.0
 
 pub returns-in_err-has_city-clause-inside : goal.returns-in_err-has_city-clause-inside
 returns-in_err-has_city-clause-inside g c =
     let at = goal.at.returns-in_err-has_city-clause-inside g c in
     let first = staff_found g at.After-find_city in
-    within_err _ _ _ _ (within_then _ _ _ _ _ refl first.inside c.find_city.ensures.inside) c.from_residual-in_err-has_city.ensures.0
+    within_err (within_then first.inside c.find_city.ensures.inside) c.from_residual-in_err-has_city.ensures.0
 
 pub returns-in_err-customer-clause-inside : goal.returns-in_err-customer-clause-inside
 returns-in_err-customer-clause-inside g c =
     let at = goal.at.returns-in_err-customer-clause-inside g c in
     let first = staff_found g at.After-find_city in
-    within_err _ _ _ _ (within_then _ _ _ _ _ refl first.inside (within_then _ _ _ _ _ refl c.in_ok-has_city.ensures.inside c.find_customer.ensures.inside)) c.from_residual-in_err-customer.ensures.0
+    within_err (within_then first.inside (within_then c.in_ok-has_city.ensures.inside c.find_customer.ensures.inside)) c.from_residual-in_err-customer.ensures.0
 
 pub returns-in_err-copy-clause-inside : goal.returns-in_err-copy-clause-inside
 returns-in_err-copy-clause-inside g c =
     let at = goal.at.returns-in_err-copy-clause-inside g c in
     let first = staff_found g at.After-find_city in
     let second = customer_found g at.After-find_copy in
-    within_err _ _ _ _ (within_then _ _ _ _ _ refl (calls_then first second).inside c.find_copy.ensures.inside) c.from_residual-in_err-copy.ensures.0
+    within_err (within_then (calls_then first second).inside c.find_copy.ensures.inside) c.from_residual-in_err-copy.ensures.0
 
 pub returns-in_err-out-clause-inside : goal.returns-in_err-out-clause-inside
 returns-in_err-out-clause-inside g c =
     let at = goal.at.returns-in_err-out-clause-inside g c in
     let first = staff_found g at.After-find_city in
     let second = customer_found g at.After-find_copy in
-    within_err _ _ _ _ (within_then _ _ _ _ _ refl (calls_then first second).inside (within_then _ _ _ _ _ refl c.in_ok-copy.ensures.inside c.find_out.ensures.inside)) c.from_residual-in_err-out.ensures.0
+    within_err (within_then (calls_then first second).inside (within_then c.in_ok-copy.ensures.inside c.find_out.ensures.inside)) c.from_residual-in_err-out.ensures.0
 
 pub returns-in_err-has_same-clause-inside : goal.returns-in_err-has_same-clause-inside
 returns-in_err-has_same-clause-inside g c =
@@ -94,7 +93,7 @@ returns-in_err-has_same-clause-inside g c =
     let first = staff_found g at.After-find_city in
     let second = customer_found g at.After-find_copy in
     let third = copy_found g at.After-find_same in
-    within_err _ _ _ _ (within_then _ _ _ _ _ refl (calls_then (calls_then first second) third).inside c.find_same.ensures.inside) c.from_residual-in_err-has_same.ensures.0
+    within_err (within_then (calls_then (calls_then first second) third).inside c.find_same.ensures.inside) c.from_residual-in_err-has_same.ensures.0
 
 pub returns-in_err-rental-clause-inside : goal.returns-in_err-rental-clause-inside
 returns-in_err-rental-clause-inside g c =
@@ -102,7 +101,7 @@ returns-in_err-rental-clause-inside g c =
     let first = staff_found g at.After-find_city in
     let second = customer_found g at.After-find_copy in
     let third = copy_found g at.After-find_same in
-    within_err _ _ _ _ (within_then _ _ _ _ _ refl (calls_then (calls_then first second) third).inside (within_then _ _ _ _ _ refl c.in_ok-has_same.ensures.inside c.find_rental.ensures.inside)) c.from_residual-in_err-rental.ensures.0
+    within_err (within_then (calls_then (calls_then first second) third).inside (within_then c.in_ok-has_same.ensures.inside c.find_rental.ensures.inside)) c.from_residual-in_err-rental.ensures.0
 
 pub returns-in_err-import-clause-inside : goal.returns-in_err-import-clause-inside
 returns-in_err-import-clause-inside g c =
@@ -111,7 +110,7 @@ returns-in_err-import-clause-inside g c =
     let second = customer_found g at.After-find_copy in
     let third = copy_found g at.After-find_same in
     let fourth = rental_found g at.After-find_import in
-    within_err _ _ _ _ (within_then _ _ _ _ _ refl (calls_then (calls_then first second) (calls_then third fourth)).inside c.find_import.ensures.inside) c.from_residual-in_err-import.ensures.0
+    within_err (within_then (calls_then (calls_then first second) (calls_then third fourth)).inside c.find_import.ensures.inside) c.from_residual-in_err-import.ensures.0
 
 pub returns-clause-inside : goal.returns-clause-inside
 returns-clause-inside g c =
@@ -120,4 +119,4 @@ returns-clause-inside g c =
     let second = customer_found g at.After-find_copy in
     let third = copy_found g at.After-find_same in
     let fourth = rental_found g at.After-find_import in
-    within_as _ _ _ _ (within_then _ _ _ _ _ refl (calls_then (calls_then first second) (calls_then third fourth)).inside c.in_ok-import.ensures.inside) (λ ok. refl)
+    within_as (within_then (calls_then (calls_then first second) (calls_then third fourth)).inside c.in_ok-import.ensures.inside)

@@ -1,4 +1,4 @@
-use Rattle.std.proofs.Common.{◌∙◌, refl, sym, ap, subst, arith, IfSome}
+use Rattle.std.proofs.Common.{◌∙◌, sym, ap, subst, arith, IfSome}
 use Rattle.shop_model.specs.Rows.{of}
 use Rattle.shop_model.specs.Values.{Text, Stock}
 use Rattle.shop_model.specs.Books.{shop_of, unmarked}
@@ -26,10 +26,10 @@ returns-clause-found g c = λ clean.
     (reads_then s0 s2 s3 _ _ (reads_then s0 s1 s2 _ _ (c.in_ok-count_of.ensures.count clean1) (c.in_ok-has_lot.ensures.found clean2)) (c.in_ok-stock.ensures.found clean))
 
 pub returns-in_err-has_lot-clause-inside : goal.returns-in_err-has_lot-clause-inside
-returns-in_err-has_lot-clause-inside g c = within_err _ _ _ _ (within_then _ _ _ _ _ refl (within_of _ _ _ c.in_ok-count_of.ensures.inside) (within_of _ _ _ c.has_lot.ensures.inside)) c.from_residual-in_err-has_lot.ensures.0
+returns-in_err-has_lot-clause-inside g c = within_err (within_then (within_of c.in_ok-count_of.ensures.inside) (within_of c.has_lot.ensures.inside)) c.from_residual-in_err-has_lot.ensures.0
 
 pub returns-in_err-stock-clause-inside : goal.returns-in_err-stock-clause-inside
-returns-in_err-stock-clause-inside g c = within_err _ _ _ _ (within_then _ _ _ _ _ refl (within_of _ _ _ c.in_ok-count_of.ensures.inside) (within_then _ _ _ _ _ refl (within_of _ _ _ c.in_ok-has_lot.ensures.inside) c.find_stock.ensures.inside)) c.from_residual-in_err-stock.ensures.0
+returns-in_err-stock-clause-inside g c = within_err (within_then (within_of c.in_ok-count_of.ensures.inside) (within_then (within_of c.in_ok-has_lot.ensures.inside) c.find_stock.ensures.inside)) c.from_residual-in_err-stock.ensures.0
 
 pub returns-clause-inside : goal.returns-clause-inside
-returns-clause-inside g c = within_as _ _ _ _ (within_then _ _ _ _ _ refl (within_of _ _ _ c.in_ok-count_of.ensures.inside) (within_then _ _ _ _ _ refl (within_of _ _ _ c.in_ok-has_lot.ensures.inside) c.in_ok-stock.ensures.inside)) (λ ok. refl)
+returns-clause-inside g c = within_as (within_then (within_of c.in_ok-count_of.ensures.inside) (within_then (within_of c.in_ok-has_lot.ensures.inside) c.in_ok-stock.ensures.inside))

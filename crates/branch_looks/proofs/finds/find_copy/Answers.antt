@@ -1,4 +1,4 @@
-use Rattle.std.proofs.Common.{◌≡◌, ◌∙◌, refl, sym, ap, subst, arith, ℕ, Bool, Option, Some, None, option_map, IfSome}
+use Rattle.std.proofs.Common.{◌≡◌, ◌∙◌, sym, ap, subst, arith, ℕ, Bool, Option, Some, None, option_map, IfSome}
 use Rattle.sqlite.specs.Held.{state}
 use Rattle.sqlite.specs.State.{HasCleanDisk}
 use Rattle.sql_rows.proofs.Stays.{within_as, within_err, within_of, within_then}
@@ -37,7 +37,7 @@ returns-clause-found g c = λ clean.
     (reads_then s0 s1 s2 _ _ (c.in_ok-row.ensures.row before) (c.in_ok-withdrawn.ensures.found clean))
 
 pub returns-in_err-withdrawn-clause-inside : goal.returns-in_err-withdrawn-clause-inside
-returns-in_err-withdrawn-clause-inside g c = within_err _ _ _ _ (within_then _ _ _ _ _ refl (within_of _ _ _ c.in_ok-row.ensures.inside) (within_of _ _ _ c.film_at.ensures.inside)) c.from_residual-in_err-withdrawn.ensures.0
+returns-in_err-withdrawn-clause-inside g c = within_err (within_then (within_of c.in_ok-row.ensures.inside) (within_of c.film_at.ensures.inside)) c.from_residual-in_err-withdrawn.ensures.0
 
 pub returns-clause-inside : goal.returns-clause-inside
-returns-clause-inside g c = within_as _ _ _ _ (within_then _ _ _ _ _ refl (within_of _ _ _ c.in_ok-row.ensures.inside) (within_of _ _ _ c.in_ok-withdrawn.ensures.inside)) (λ ok. refl)
+returns-clause-inside g c = within_as (within_then (within_of c.in_ok-row.ensures.inside) (within_of c.in_ok-withdrawn.ensures.inside))

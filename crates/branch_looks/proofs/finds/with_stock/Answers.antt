@@ -1,4 +1,4 @@
-use Rattle.std.proofs.Common.{◌∙◌, ◌++◌, ◌∷◌, [], Ok, refl, sym, ap, arith, map, take, List, ℕ, Bool}
+use Rattle.std.proofs.Common.{◌∙◌, ◌++◌, ◌∷◌, [], refl, sym, ap, arith, map, take, List, ℕ, Bool}
 use Rattle.std.proofs.lemmas.List.{take_all, map_push, map_more}
 use Rattle.sqlite.specs.Held.{state}
 use Rattle.sqlite.specs.State.{HasCleanDisk}
@@ -22,8 +22,7 @@ loop-row-preserved g c =
     let told = c.in_ok-copy.ensures in
     let copy = c.in_ok-copy.copy in
     let shown : Books → CopyRow → ℕ × Bool × Bool = λ books. copy_shown (shop_of c.args.branch books).rentals in (
-      told.same_reference ∙ inv.0,
-      within_then s0 s1 s2 _ (Ok tt) refl inv.1 (within_as s1 s2 _ (Ok tt) told.inside (λ ok. refl)),
+      within_then inv.0 (within_as told.inside),
       (λ clean.
           let clean1 : HasCleanDisk s1 = omega (arith, clean, told.inside.survives.clean) in
           reads_as s0 s2 _ _ (λ books held is.
@@ -31,19 +30,19 @@ loop-row-preserved g c =
           ∙ (λ j. is.0 j ++ is.1 j ∷ [])
           ∙ ap (λ (r : CopyRow). map (shown books) (take i rows) ++ shown books r ∷ []) c.row-item.is
           ∙ sym (map_more (shown books) rows i c.row-item.result c.loop-row-test.true))
-          (reads_then s0 s1 s2 _ _ (inv.2 clean1) (told.found clean))),
+          (reads_then s0 s1 s2 _ _ (inv.1 clean1) (told.found clean))),
     )
 
 pub returns-clause-found : goal.returns-clause-found
 returns-clause-found g c = λ clean.
     reads_as (state g.S.Store c.args.tx.now.conn.now) (state g.S.Store c.loop-row.tx.conn.now) _ _
-    (λ books held is. is ∙ ap (λ (rs : List CopyRow). map (copy_shown (shop_of c.args.branch books).rentals) rs) (take_all c.loop-row.row-index c.args.rows.now c.loop-row-test.false)) (c.loop-row.invariant.2 clean)
+    (λ books held is. is ∙ ap (λ (rs : List CopyRow). map (copy_shown (shop_of c.args.branch books).rentals) rs) (take_all c.loop-row.row-index c.args.rows.now c.loop-row-test.false)) (c.loop-row.invariant.1 clean)
 
 pub returns-in_err-copy-clause-inside : goal.returns-in_err-copy-clause-inside
-returns-in_err-copy-clause-inside g c = within_err _ _ _ _ (within_then _ _ _ _ _ refl c.loop-row.invariant.1 c.with_its_stock.ensures.inside) c.from_residual.ensures.0
+returns-in_err-copy-clause-inside g c = within_err (within_then c.loop-row.invariant.0 c.with_its_stock.ensures.inside) c.from_residual.ensures.0
 
 pub returns-in_default-clause-inside : goal.returns-in_default-clause-inside
-returns-in_default-clause-inside g c = within_err _ _ _ _ (within_then _ _ _ _ _ refl c.loop-row.invariant.1 c.in_ok-copy.ensures.inside) refl
+returns-in_default-clause-inside g c = within_err (within_then c.loop-row.invariant.0 c.in_ok-copy.ensures.inside) refl
 
 pub returns-clause-inside : goal.returns-clause-inside
-returns-clause-inside g c = within_as _ _ _ _ c.loop-row.invariant.1 (λ ok. refl)
+returns-clause-inside g c = within_as c.loop-row.invariant.0

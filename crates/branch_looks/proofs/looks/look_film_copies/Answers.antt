@@ -46,10 +46,10 @@ returns-in_default-clause-shown g c = λ clean books holds held.
     )
 
 pub returns-in_err-copies-clause-inside : goal.returns-in_err-copies-clause-inside
-returns-in_err-copies-clause-inside g c = within_err _ _ _ _ (within_then _ _ _ _ _ refl (within_of _ _ _ c.in_ok-film_at.ensures.inside) c.find_of_film.ensures.inside) c.from_residual-in_err-copies.ensures.0
+returns-in_err-copies-clause-inside g c = within_err (within_then (within_of c.in_ok-film_at.ensures.inside) c.find_of_film.ensures.inside) c.from_residual-in_err-copies.ensures.0
 
 pub returns-clause-inside : goal.returns-clause-inside
-returns-clause-inside g c = within_err _ _ _ _ (within_then _ _ _ _ _ refl (within_of _ _ _ c.in_ok-film_at.ensures.inside) c.in_ok-copies.ensures.inside) refl
+returns-clause-inside g c = within_err (within_then (within_of c.in_ok-film_at.ensures.inside) c.in_ok-copies.ensures.inside) refl
 
 pub returns-in-Ok-clause-inside : goal.returns-in-Ok-clause-inside
-returns-in-Ok-clause-inside g c = within_as _ _ _ _ (within_then _ _ _ _ _ refl (within_of _ _ _ c.in_ok-film_at.ensures.inside) c.in_ok-copies.ensures.inside) (λ ok. refl)
+returns-in-Ok-clause-inside g c = within_as (within_then (within_of c.in_ok-film_at.ensures.inside) c.in_ok-copies.ensures.inside)

@@ -38,10 +38,10 @@ returns-in_default-clause-shown g c = λ clean books holds held.
     )
 
 pub returns-in_err-holder-clause-inside : goal.returns-in_err-holder-clause-inside
-returns-in_err-holder-clause-inside g c = within_err _ _ _ _ (within_then _ _ _ _ _ refl c.in_ok-find_here.ensures.inside c.find_holder.ensures.inside) c.from_residual-in_err-holder.ensures.0
+returns-in_err-holder-clause-inside g c = within_err (within_then c.in_ok-find_here.ensures.inside c.find_holder.ensures.inside) c.from_residual-in_err-holder.ensures.0
 
 pub returns-in-Err-clause-inside : goal.returns-in-Err-clause-inside
-returns-in-Err-clause-inside g c = within_err _ _ _ _ (within_then _ _ _ _ _ refl c.in_ok-find_here.ensures.inside c.in_ok-holder.ensures.inside) refl
+returns-in-Err-clause-inside g c = within_err (within_then c.in_ok-find_here.ensures.inside c.in_ok-holder.ensures.inside) refl
 
 pub returns-in-Ok-clause-inside : goal.returns-in-Ok-clause-inside
-returns-in-Ok-clause-inside g c = within_as _ _ _ _ (within_then _ _ _ _ _ refl c.in_ok-find_here.ensures.inside c.in_ok-holder.ensures.inside) (λ ok. refl)
+returns-in-Ok-clause-inside g c = within_as (within_then c.in_ok-find_here.ensures.inside c.in_ok-holder.ensures.inside)

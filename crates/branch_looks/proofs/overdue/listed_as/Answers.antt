@@ -20,10 +20,10 @@ returns-clause-found g c = λ clean.
     (reads_then s0 s1 s2 _ _ (c.in_ok-title.ensures.found before) (c.in_ok-row.ensures.row clean))
 
 pub returns-in_err-row-clause-inside : goal.returns-in_err-row-clause-inside
-returns-in_err-row-clause-inside g c = within_err _ _ _ _ (within_then _ _ _ _ _ refl (within_of _ _ _ c.in_ok-title.ensures.inside) (within_of _ _ _ c.customer_at.ensures.inside)) c.from_residual-in_err-row.ensures.0
+returns-in_err-row-clause-inside g c = within_err (within_then (within_of c.in_ok-title.ensures.inside) (within_of c.customer_at.ensures.inside)) c.from_residual-in_err-row.ensures.0
 
 pub returns-in_default-2-clause-inside : goal.returns-in_default-2-clause-inside
-returns-in_default-2-clause-inside g c = within_err _ _ _ _ (within_then _ _ _ _ _ refl (within_of _ _ _ c.in_ok-title.ensures.inside) (within_of _ _ _ c.in_ok-row.ensures.inside)) refl
+returns-in_default-2-clause-inside g c = within_err (within_then (within_of c.in_ok-title.ensures.inside) (within_of c.in_ok-row.ensures.inside)) refl
 
 pub returns-clause-inside : goal.returns-clause-inside
-returns-clause-inside g c = within_as _ _ _ _ (within_then _ _ _ _ _ refl (within_of _ _ _ c.in_ok-title.ensures.inside) (within_of _ _ _ c.in_ok-row.ensures.inside)) (λ ok. refl)
+returns-clause-inside g c = within_as (within_then (within_of c.in_ok-title.ensures.inside) (within_of c.in_ok-row.ensures.inside))

@@ -1,4 +1,4 @@
-use Rattle.std.proofs.Common.{◌∙◌, ◌++◌, Ok, refl, ap, arith, map, filter, ℕ, List, Bool}
+use Rattle.std.proofs.Common.{◌∙◌, ◌++◌, ap, arith, map, filter, ℕ, List, Bool}
 use Rattle.std.proofs.lemmas.List.{take_all}
 use Rattle.sqlite.specs.Held.{state}
 use Rattle.sqlite.specs.State.{HasCleanDisk}
@@ -23,28 +23,27 @@ loop-number-preserved g c =
     let before = c.loop-number.overdue.items in
     let inv = c.loop-number.invariant in
     let told = c.in_ok-found.ensures in (
-      told.same_reference ∙ inv.0,
-      within_then s0 s1 s2 (Ok tt) (Ok tt) refl inv.1 (within_as s1 s2 (Ok c.in_ok-found.found) (Ok tt) told.inside (λ ok. refl)),
+      within_then inv.0 (within_as told.inside),
       (λ clean.
           let clean1 : HasCleanDisk s1 = omega (arith, clean, told.inside.survives.clean) in
           reads_as s0 s2 _ _ (λ books held is.
           let row : Rental → views.OverdueRow = views.overdue_row books.catalogue (shop_of c.args.branch books) in
           let test : Rental → Bool = is_overdue books.catalogue (shop_of c.args.branch books) c.args.at in
           seen_pushed seen_overdue before c.push_found.new.list.items c.in_ok-found.found c.in_ok-push_found.ensures ∙ (λ j. is.0 j ++ is.1 j) ∙ more_kept row test (shop_of c.args.branch books).rentals numbers i c.number-item.result c.loop-number-test.true c.number-item.is)
-          (reads_then s0 s1 s2 _ _ (inv.2 clean1) (told.found clean))),
+          (reads_then s0 s1 s2 _ _ (inv.1 clean1) (told.found clean))),
     )
 
 pub returns-clause-found : goal.returns-clause-found
 returns-clause-found g c = λ clean.
     reads_as (state g.S.Store c.args.tx.now.conn.now) (state g.S.Store c.loop-number.tx.conn.now) _ _
     (λ books held is. is ∙ ap (λ (ns : List ℕ). map (views.overdue_row books.catalogue (shop_of c.args.branch books)) (filter (is_overdue books.catalogue (shop_of c.args.branch books) c.args.at) (rentals_at ns (shop_of c.args.branch books).rentals))) (take_all c.loop-number.number-index c.args.numbers.now c.loop-number-test.false))
-    (c.loop-number.invariant.2 clean)
+    (c.loop-number.invariant.1 clean)
 
 pub returns-in_err-found-clause-inside : goal.returns-in_err-found-clause-inside
-returns-in_err-found-clause-inside g c = within_err _ _ _ _ (within_then _ _ _ _ _ refl c.loop-number.invariant.1 c.overdue_of.ensures.inside) c.from_residual.ensures.0
+returns-in_err-found-clause-inside g c = within_err (within_then c.loop-number.invariant.0 c.overdue_of.ensures.inside) c.from_residual.ensures.0
 
 pub returns-in_err-push_found-clause-inside : goal.returns-in_err-push_found-clause-inside
-returns-in_err-push_found-clause-inside g c = within_err _ _ _ _ (within_then _ _ _ _ _ refl c.loop-number.invariant.1 c.in_ok-found.ensures.inside) c.from_residual-in_err-push_found.ensures.0
+returns-in_err-push_found-clause-inside g c = within_err (within_then c.loop-number.invariant.0 c.in_ok-found.ensures.inside) c.from_residual-in_err-push_found.ensures.0
 
 pub returns-clause-inside : goal.returns-clause-inside
-returns-clause-inside g c = within_as _ _ _ _ c.loop-number.invariant.1 (λ ok. refl)
+returns-clause-inside g c = within_as c.loop-number.invariant.0

@@ -15,7 +15,6 @@ use Rattle.branch_looks.proofs.overdue.overdue_among.Given as goal
 -- the overdue ones of the numbers so far
 abbrev pub invariant-loop-number : goal.invariant-loop-number
 invariant-loop-number g l =
-    (l.tx.conn.ghost_name ≡ l.fn.tx.conn.ghost_name)
-    × StaysWithin {X = ⊤} {E = StoreFault} (state g.S.Store l.fn.tx.conn.now) (state g.S.Store l.tx.conn.now) (Ok tt)
+    StaysWithin {X = ⊤} {E = StoreFault} g.S.Store l.fn.tx.conn l.tx.conn (Ok tt)
     × (HasCleanDisk (state g.S.Store l.tx.conn.now) → Reads (state g.S.Store l.fn.tx.conn.now) (state g.S.Store l.tx.conn.now)
     (λ books. map seen_overdue l.overdue.items ≡ map (overdue_row books.catalogue (shop_of l.branch books)) (filter (is_overdue books.catalogue (shop_of l.branch books) l.at) (rentals_at (take l.number-index l.numbers) (shop_of l.branch books).rentals))))

@@ -1,4 +1,4 @@
-use Rattle.std.proofs.Common.{◌∙◌, Ok, [], ◌∷◌, refl, sym, ap, arith, ℕ, Option, Some, option_map}
+use Rattle.std.proofs.Common.{◌∙◌, [], ◌∷◌, refl, sym, ap, arith, ℕ, Option, option_map}
 use Rattle.sqlite.specs.Held.{state}
 use Rattle.sqlite.specs.State.{HasCleanDisk}
 use Rattle.sql_rows.proofs.Stays.{within_as, within_err, within_of, within_then}
@@ -32,25 +32,11 @@ returns-then-not-is_overdue-clause-found g c = λ clean.
 
 pub returns-in_err-listed_as-clause-inside : goal.returns-in_err-listed_as-clause-inside
 returns-in_err-listed_as-clause-inside g c =
-    let s0 = state g.S.Store c.args.tx.now.conn.now in
-    let s1 = state g.S.Store c.copy_at.new.tx.conn.now in
-    let s2 = state g.S.Store c.film_terms.new.tx.conn.now in
-    let s3 = state g.S.Store c.listed_as.new.tx.conn.now in
-    let r = c.from_residual-in_err-listed_as.result in
-    within_then s0 s1 s3 (Ok c.in_ok-copy.field-0) r refl (within_of s0 s1 (Ok c.in_ok-copy.field-0) c.in_ok-copy.ensures.inside)
-    (within_then s1 s2 s3 (Ok c.in_ok-terms.field-0) r refl (within_of s1 s2 (Ok c.in_ok-terms.field-0) c.in_ok-terms.ensures.inside)
-    (within_err s2 s3 c.listed_as.result r c.listed_as.ensures.inside c.from_residual-in_err-listed_as.ensures.0))
+    within_then (within_of c.in_ok-copy.ensures.inside) (within_then (within_of c.in_ok-terms.ensures.inside) (within_err c.listed_as.ensures.inside c.from_residual-in_err-listed_as.ensures.0))
 
 pub returns-clause-inside : goal.returns-clause-inside
 returns-clause-inside g c =
-    let s0 = state g.S.Store c.args.tx.now.conn.now in
-    let s1 = state g.S.Store c.copy_at.new.tx.conn.now in
-    let s2 = state g.S.Store c.film_terms.new.tx.conn.now in
-    let s3 = state g.S.Store c.listed_as.new.tx.conn.now in
-    let row = c.in_ok-listed_as.field-0 in
-    within_then s0 s1 s3 (Ok c.in_ok-copy.field-0) (Ok (Some row)) refl (within_of s0 s1 (Ok c.in_ok-copy.field-0) c.in_ok-copy.ensures.inside)
-    (within_then s1 s2 s3 (Ok c.in_ok-terms.field-0) (Ok (Some row)) refl (within_of s1 s2 (Ok c.in_ok-terms.field-0) c.in_ok-terms.ensures.inside)
-    (within_as s2 s3 (Ok row) (Ok (Some row)) c.in_ok-listed_as.ensures.inside (λ ok. refl)))
+    within_then (within_of c.in_ok-copy.ensures.inside) (within_then (within_of c.in_ok-terms.ensures.inside) (within_as c.in_ok-listed_as.ensures.inside))
 
 pub returns-clause-found : goal.returns-clause-found
 returns-clause-found g c = λ clean.
@@ -71,10 +57,10 @@ returns-clause-found g c = λ clean.
     (reads_then s0 s2 s3 _ _ (reads_then s0 s1 s2 _ _ (c.in_ok-copy.ensures.row first) (c.in_ok-terms.ensures.found second)) (c.in_ok-listed_as.ensures.found clean))
 
 pub returns-in_err-terms-clause-inside : goal.returns-in_err-terms-clause-inside
-returns-in_err-terms-clause-inside g c = within_err _ _ _ _ (within_then _ _ _ _ _ refl (within_of _ _ _ c.in_ok-copy.ensures.inside) (within_of _ _ _ c.film_terms.ensures.inside)) c.from_residual-in_err-terms.ensures.0
+returns-in_err-terms-clause-inside g c = within_err (within_then (within_of c.in_ok-copy.ensures.inside) (within_of c.film_terms.ensures.inside)) c.from_residual-in_err-terms.ensures.0
 
 pub returns-in_default-2-clause-inside : goal.returns-in_default-2-clause-inside
-returns-in_default-2-clause-inside g c = within_err _ _ _ _ (within_then _ _ _ _ _ refl (within_of _ _ _ c.in_ok-copy.ensures.inside) (within_of _ _ _ c.in_ok-terms.ensures.inside)) refl
+returns-in_default-2-clause-inside g c = within_err (within_then (within_of c.in_ok-copy.ensures.inside) (within_of c.in_ok-terms.ensures.inside)) refl
 
 pub returns-then-not-is_overdue-clause-inside : goal.returns-then-not-is_overdue-clause-inside
-returns-then-not-is_overdue-clause-inside g c = within_as _ _ _ _ (within_then _ _ _ _ _ refl (within_of _ _ _ c.in_ok-copy.ensures.inside) (within_of _ _ _ c.in_ok-terms.ensures.inside)) (λ ok. refl)
+returns-then-not-is_overdue-clause-inside g c = within_as (within_then (within_of c.in_ok-copy.ensures.inside) (within_of c.in_ok-terms.ensures.inside))

@@ -1,4 +1,4 @@
-use Rattle.std.proofs.Common.{◌∙◌, refl, sym, ap, arith, filter, map, List, Option, option_map}
+use Rattle.std.proofs.Common.{◌∙◌, sym, ap, arith, filter, map, List, Option, option_map}
 use Rattle.std.specs.Option.{option_to_list}
 use Rattle.std.proofs.lemmas.Result.{IfOk-weaker}
 use Rattle.sqlite.specs.Held.{state}
@@ -29,4 +29,4 @@ returns-clause-found g c = λ clean.
     (reads_then s0 s1 s2 _ _ (c.in_ok-row.ensures.row before) reads)) (c.overdue_at.ensures.found clean)
 
 pub returns-clause-inside : goal.returns-clause-inside
-returns-clause-inside g c = within_then _ _ _ _ _ refl (within_of _ _ _ c.in_ok-row.ensures.inside) c.overdue_at.ensures.inside
+returns-clause-inside g c = within_then (within_of c.in_ok-row.ensures.inside) c.overdue_at.ensures.inside

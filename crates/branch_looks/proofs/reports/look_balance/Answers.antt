@@ -40,16 +40,16 @@ returns-in_default-clause-shown g c = λ clean books holds held.
     )
 
 pub returns-in_err-rentals-clause-inside : goal.returns-in_err-rentals-clause-inside
-returns-in_err-rentals-clause-inside g c = within_err _ _ _ _ (within_then _ _ _ _ _ refl c.in_ok-find_active.ensures.inside c.find_terms.ensures.inside) c.from_residual-in_err-rentals.ensures.0
+returns-in_err-rentals-clause-inside g c = within_err (within_then c.in_ok-find_active.ensures.inside c.find_terms.ensures.inside) c.from_residual-in_err-rentals.ensures.0
 
 pub returns-in_err-payments-clause-inside : goal.returns-in_err-payments-clause-inside
-returns-in_err-payments-clause-inside g c = within_err _ _ _ _ (within_then _ _ _ _ _ refl c.in_ok-find_active.ensures.inside (within_then _ _ _ _ _ refl c.in_ok-rentals.ensures.inside c.find_paid.ensures.inside)) c.from_residual-in_err-payments.ensures.0
+returns-in_err-payments-clause-inside g c = within_err (within_then c.in_ok-find_active.ensures.inside (within_then c.in_ok-rentals.ensures.inside c.find_paid.ensures.inside)) c.from_residual-in_err-payments.ensures.0
 
 pub returns-in_err-cents-clause-inside : goal.returns-in_err-cents-clause-inside
-returns-in_err-cents-clause-inside g c = within_err _ _ _ _ (within_then _ _ _ _ _ refl c.in_ok-find_active.ensures.inside (within_then _ _ _ _ _ refl c.in_ok-rentals.ensures.inside c.in_ok-payments.ensures.inside)) c.from_residual-in_err-cents.ensures.0
+returns-in_err-cents-clause-inside g c = within_err (within_then c.in_ok-find_active.ensures.inside (within_then c.in_ok-rentals.ensures.inside c.in_ok-payments.ensures.inside)) c.from_residual-in_err-cents.ensures.0
 
 pub returns-clause-inside : goal.returns-clause-inside
-returns-clause-inside g c = within_err _ _ _ _ (within_then _ _ _ _ _ refl c.in_ok-find_active.ensures.inside (within_then _ _ _ _ _ refl c.in_ok-rentals.ensures.inside c.in_ok-payments.ensures.inside)) refl
+returns-clause-inside g c = within_err (within_then c.in_ok-find_active.ensures.inside (within_then c.in_ok-rentals.ensures.inside c.in_ok-payments.ensures.inside)) refl
 
 pub returns-in-Ok-clause-inside : goal.returns-in-Ok-clause-inside
-returns-in-Ok-clause-inside g c = within_as _ _ _ _ (within_then _ _ _ _ _ refl c.in_ok-find_active.ensures.inside (within_then _ _ _ _ _ refl c.in_ok-rentals.ensures.inside c.in_ok-payments.ensures.inside)) (λ ok. refl)
+returns-in-Ok-clause-inside g c = within_as (within_then c.in_ok-find_active.ensures.inside (within_then c.in_ok-rentals.ensures.inside c.in_ok-payments.ensures.inside))

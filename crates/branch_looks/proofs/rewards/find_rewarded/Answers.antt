@@ -1,4 +1,4 @@
-use Rattle.std.proofs.Common.{◌∙◌, refl, sym, ap, arith, List}
+use Rattle.std.proofs.Common.{◌∙◌, sym, ap, arith, List}
 use Rattle.std.proofs.lemmas.Result.{IfOk-weaker}
 use Rattle.sqlite.specs.Held.{state}
 use Rattle.sqlite.specs.State.{HasCleanDisk}
@@ -34,31 +34,18 @@ returns-clause-found g c = λ clean.
     (reads_then s0 s1 s2 _ _ (c.in_ok-customers.ensures.count before) (c.in_ok-rows.ensures.rows clean))) c.rewarded_among.ensures
 
 pub returns-in_default-clause-inside : goal.returns-in_default-clause-inside
-returns-in_default-clause-inside g c = within_none (state g.S.Store c.args.tx.now.conn.now) _
+returns-in_default-clause-inside g c = within_none
 
 pub returns-in_err-customers-clause-inside : goal.returns-in_err-customers-clause-inside
-returns-in_err-customers-clause-inside g c =
-    let s0 = state g.S.Store c.args.tx.now.conn.now in
-    let s1 = state g.S.Store c.count_of.new.tx.conn.now in
-    within_err s0 s1 _ _ (within_of s0 s1 _ c.count_of.ensures.inside) c.from_residual.ensures.0
+returns-in_err-customers-clause-inside g c = within_err (within_of c.count_of.ensures.inside) c.from_residual.ensures.0
 
 pub returns-in_err-rows-clause-inside : goal.returns-in_err-rows-clause-inside
 returns-in_err-rows-clause-inside g c =
-    let s0 = state g.S.Store c.args.tx.now.conn.now in
-    let s1 = state g.S.Store c.count_of.new.tx.conn.now in
-    let s2 = state g.S.Store c.payments_between.new.tx.conn.now in
-    within_err s0 s2 _ _ (within_then s0 s1 s2 _ _ refl (within_of s0 s1 _ c.in_ok-customers.ensures.inside) (within_of s1 s2 _ c.payments_between.ensures.inside)) c.from_residual-in_err-rows.ensures.0
+    within_err (within_then (within_of c.in_ok-customers.ensures.inside) (within_of c.payments_between.ensures.inside)) c.from_residual-in_err-rows.ensures.0
 
 pub returns-then-customers-gt1000000-clause-inside : goal.returns-then-customers-gt1000000-clause-inside
 returns-then-customers-gt1000000-clause-inside g c =
-    let s0 = state g.S.Store c.args.tx.now.conn.now in
-    let s1 = state g.S.Store c.count_of.new.tx.conn.now in
-    let s2 = state g.S.Store c.payments_between.new.tx.conn.now in
-    within_as s0 s2 _ _ (within_then s0 s1 s2 _ _ refl (within_of s0 s1 _ c.in_ok-customers.ensures.inside) (within_of s1 s2 _ c.in_ok-rows.ensures.inside)) (λ ok. refl)
+    within_as (within_then (within_of c.in_ok-customers.ensures.inside) (within_of c.in_ok-rows.ensures.inside))
 
 pub returns-clause-inside : goal.returns-clause-inside
-returns-clause-inside g c =
-    let s0 = state g.S.Store c.args.tx.now.conn.now in
-    let s1 = state g.S.Store c.count_of.new.tx.conn.now in
-    let s2 = state g.S.Store c.payments_between.new.tx.conn.now in
-    within_as s0 s2 _ _ (within_then s0 s1 s2 _ _ refl (within_of s0 s1 _ c.in_ok-customers.ensures.inside) (within_of s1 s2 _ c.in_ok-rows.ensures.inside)) (λ ok. refl)
+returns-clause-inside g c = within_as (within_then (within_of c.in_ok-customers.ensures.inside) (within_of c.in_ok-rows.ensures.inside))

@@ -26,28 +26,14 @@ returns-in-Ok-clause-added g c = λ clean books holds held ready.
     (customer_added s2 b books low n (seen_customer c.args.customer) is put, c.in-Ok.ensures ∙ ap (λ (m : ℕ). object ((codes "customer", decimal m) ∷ [])) is)
 
 pub returns-in_err-number-clause-inside : goal.returns-in_err-number-clause-inside
-returns-in_err-number-clause-inside g c =
-    let s0 = state g.S.Store c.args.tx.now.conn.now in
-    let s1 = state g.S.Store c.next_number.new.tx.conn.now in
-    within_err s0 s1 _ _ c.next_number.ensures.inside c.from_residual.ensures.0
+returns-in_err-number-clause-inside g c = within_err c.next_number.ensures.inside c.from_residual.ensures.0
 
 pub returns-in_err-put_customer-clause-inside : goal.returns-in_err-put_customer-clause-inside
 returns-in_err-put_customer-clause-inside g c =
-    let s0 = state g.S.Store c.args.tx.now.conn.now in
-    let s1 = state g.S.Store c.next_number.new.tx.conn.now in
-    let s2 = state g.S.Store c.put_customer.new.tx.conn.now in
-    within_err s0 s2 _ _ (within_then s0 s1 s2 _ _ refl c.in_ok-number.ensures.inside (within_of s1 s2 _ c.put_customer.ensures.inside)) c.from_residual-in_err-put_customer.ensures.0
+    within_err (within_then c.in_ok-number.ensures.inside (within_of c.put_customer.ensures.inside)) c.from_residual-in_err-put_customer.ensures.0
 
 pub returns-in-Ok-clause-inside : goal.returns-in-Ok-clause-inside
-returns-in-Ok-clause-inside g c =
-    let s0 = state g.S.Store c.args.tx.now.conn.now in
-    let s1 = state g.S.Store c.next_number.new.tx.conn.now in
-    let s2 = state g.S.Store c.put_customer.new.tx.conn.now in
-    within_as s0 s2 _ _ (within_then s0 s1 s2 _ _ refl c.in_ok-number.ensures.inside (within_of s1 s2 _ c.in_ok-put_customer.ensures.inside)) (λ ok. refl)
+returns-in-Ok-clause-inside g c = within_as (within_then c.in_ok-number.ensures.inside (within_of c.in_ok-put_customer.ensures.inside))
 
 pub returns-clause-inside : goal.returns-clause-inside
-returns-clause-inside g c =
-    let s0 = state g.S.Store c.args.tx.now.conn.now in
-    let s1 = state g.S.Store c.next_number.new.tx.conn.now in
-    let s2 = state g.S.Store c.put_customer.new.tx.conn.now in
-    within_err s0 s2 _ _ (within_then s0 s1 s2 _ _ refl c.in_ok-number.ensures.inside (within_of s1 s2 _ c.in_ok-put_customer.ensures.inside)) refl
+returns-clause-inside g c = within_err (within_then c.in_ok-number.ensures.inside (within_of c.in_ok-put_customer.ensures.inside)) refl

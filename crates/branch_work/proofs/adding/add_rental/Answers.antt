@@ -29,38 +29,20 @@ returns-in-Ok-clause-added g c = λ clean books holds held ready.
     (rental_added s3 b books low n (record (seen_rental c.args.rental) { returned = None }) refl is out.0, c.in-Ok.ensures ∙ ap (λ (m : ℕ). object ((codes "rental", decimal m) ∷ [])) is)
 
 pub returns-in_err-number-clause-inside : goal.returns-in_err-number-clause-inside
-returns-in_err-number-clause-inside g c =
-    let s0 = state g.S.Store c.args.tx.now.conn.now in
-    let s1 = state g.S.Store c.next_number.new.tx.conn.now in
-    within_err s0 s1 _ _ c.next_number.ensures.inside c.from_residual.ensures.0
+returns-in_err-number-clause-inside g c = within_err c.next_number.ensures.inside c.from_residual.ensures.0
 
 pub returns-in_err-put_rental-clause-inside : goal.returns-in_err-put_rental-clause-inside
 returns-in_err-put_rental-clause-inside g c =
-    let s0 = state g.S.Store c.args.tx.now.conn.now in
-    let s1 = state g.S.Store c.next_number.new.tx.conn.now in
-    let s2 = state g.S.Store c.put_rental.new.tx.conn.now in
-    within_err s0 s2 _ _ (within_then s0 s1 s2 _ _ refl c.in_ok-number.ensures.inside (within_of s1 s2 _ c.put_rental.ensures.inside)) c.from_residual-in_err-put_rental.ensures.0
+    within_err (within_then c.in_ok-number.ensures.inside (within_of c.put_rental.ensures.inside)) c.from_residual-in_err-put_rental.ensures.0
 
 pub returns-in_err-put_out-clause-inside : goal.returns-in_err-put_out-clause-inside
 returns-in_err-put_out-clause-inside g c =
-    let s0 = state g.S.Store c.args.tx.now.conn.now in
-    let s1 = state g.S.Store c.next_number.new.tx.conn.now in
-    let s2 = state g.S.Store c.put_rental.new.tx.conn.now in
-    let s3 = state g.S.Store c.put_out.new.tx.conn.now in
-    within_err s0 s3 _ _ (within_then s0 s2 s3 _ _ refl (within_then s0 s1 s2 _ _ refl c.in_ok-number.ensures.inside (within_of s1 s2 _ c.in_ok-put_rental.ensures.inside)) (within_of s2 s3 _ c.put_out.ensures.inside)) c.from_residual-in_err-put_out.ensures.0
+    within_err (within_then (within_then c.in_ok-number.ensures.inside (within_of c.in_ok-put_rental.ensures.inside)) (within_of c.put_out.ensures.inside)) c.from_residual-in_err-put_out.ensures.0
 
 pub returns-in-Ok-clause-inside : goal.returns-in-Ok-clause-inside
 returns-in-Ok-clause-inside g c =
-    let s0 = state g.S.Store c.args.tx.now.conn.now in
-    let s1 = state g.S.Store c.next_number.new.tx.conn.now in
-    let s2 = state g.S.Store c.put_rental.new.tx.conn.now in
-    let s3 = state g.S.Store c.put_out.new.tx.conn.now in
-    within_as s0 s3 _ _ (within_then s0 s2 s3 _ _ refl (within_then s0 s1 s2 _ _ refl c.in_ok-number.ensures.inside (within_of s1 s2 _ c.in_ok-put_rental.ensures.inside)) (within_of s2 s3 _ c.in_ok-put_out.ensures.inside)) (λ ok. refl)
+    within_as (within_then (within_then c.in_ok-number.ensures.inside (within_of c.in_ok-put_rental.ensures.inside)) (within_of c.in_ok-put_out.ensures.inside))
 
 pub returns-in-Err-clause-inside : goal.returns-in-Err-clause-inside
 returns-in-Err-clause-inside g c =
-    let s0 = state g.S.Store c.args.tx.now.conn.now in
-    let s1 = state g.S.Store c.next_number.new.tx.conn.now in
-    let s2 = state g.S.Store c.put_rental.new.tx.conn.now in
-    let s3 = state g.S.Store c.put_out.new.tx.conn.now in
-    within_err s0 s3 _ _ (within_then s0 s2 s3 _ _ refl (within_then s0 s1 s2 _ _ refl c.in_ok-number.ensures.inside (within_of s1 s2 _ c.in_ok-put_rental.ensures.inside)) (within_of s2 s3 _ c.in_ok-put_out.ensures.inside)) refl
+    within_err (within_then (within_then c.in_ok-number.ensures.inside (within_of c.in_ok-put_rental.ensures.inside)) (within_of c.in_ok-put_out.ensures.inside)) refl

@@ -27,22 +27,12 @@ returns-clause-kept g c = λ clean.
     kept_added s3 b command c.args.reply.now books low (last counts _ (kept counts books counted.0 tt) tt)) (c.set_last.ensures.set clean)
 
 pub returns-in_err-raise_count-clause-inside : goal.returns-in_err-raise_count-clause-inside
-returns-in_err-raise_count-clause-inside g c =
-    let s0 = state g.S.Store c.args.tx.now.conn.now in
-    let s1 = state g.S.Store c.raise_count.new.tx.conn.now in
-    within_err s0 s1 _ _ (within_of s0 s1 _ c.raise_count.ensures.inside) c.from_residual.ensures.0
+returns-in_err-raise_count-clause-inside g c = within_err (within_of c.raise_count.ensures.inside) c.from_residual.ensures.0
 
 pub returns-in_err-put_kept-clause-inside : goal.returns-in_err-put_kept-clause-inside
 returns-in_err-put_kept-clause-inside g c =
-    let s0 = state g.S.Store c.args.tx.now.conn.now in
-    let s1 = state g.S.Store c.raise_count.new.tx.conn.now in
-    let s2 = state g.S.Store c.put_kept.new.tx.conn.now in
-    within_err s0 s2 _ _ (within_then s0 s1 s2 _ _ refl (within_of s0 s1 _ c.in_ok-raise_count.ensures.inside) (within_of s1 s2 _ c.put_kept.ensures.inside)) c.from_residual-in_err-put_kept.ensures.0
+    within_err (within_then (within_of c.in_ok-raise_count.ensures.inside) (within_of c.put_kept.ensures.inside)) c.from_residual-in_err-put_kept.ensures.0
 
 pub returns-clause-inside : goal.returns-clause-inside
 returns-clause-inside g c =
-    let s0 = state g.S.Store c.args.tx.now.conn.now in
-    let s1 = state g.S.Store c.raise_count.new.tx.conn.now in
-    let s2 = state g.S.Store c.put_kept.new.tx.conn.now in
-    let s3 = state g.S.Store c.set_last.new.tx.conn.now in
-    (within_then s0 s2 s3 _ _ refl (within_then s0 s1 s2 _ _ refl (within_of s0 s1 _ c.in_ok-raise_count.ensures.inside) (within_of s1 s2 _ c.in_ok-put_kept.ensures.inside)) (within_of s2 s3 _ c.set_last.ensures.inside))
+    (within_then (within_then (within_of c.in_ok-raise_count.ensures.inside) (within_of c.in_ok-put_kept.ensures.inside)) (within_of c.set_last.ensures.inside))

@@ -1,6 +1,5 @@
 use Rattle.std.proofs.Common.{◌≡◌, ◌∙◌, ◌∷◌, [], ℕ, Bool, true, false, Some, None, ap, sym, refl}
 use Rattle.std.specs.Prelude.{◌==◌, if◌then◌else◌}
-use Rattle.sqlite.specs.Held.{state}
 use Rattle.sql_rows.proofs.Stays.{within_as, within_err, within_of}
 use Rattle.branch_work.proofs.adding.next_number.Goals as goal
 
@@ -17,25 +16,13 @@ returns-in-Some-clause-taken g c = λ clean counts books holds given.
     (taken.0, taken.1 ∙ ap (λ (m : ℕ). m ∷ []) (sym c.in_ok-number.ensures.0 ∙ sym (number_some c.in-Some.number c.in_ok-number.number c.in-Some.ensures)))
 
 pub returns-in_err-take_number-clause-inside : goal.returns-in_err-take_number-clause-inside
-returns-in_err-take_number-clause-inside g c =
-    let s0 = state g.S.Store c.args.tx.now.conn.now in
-    let s1 = state g.S.Store c.take_number.new.tx.conn.now in
-    within_err s0 s1 _ _ (within_of s0 s1 _ c.take_number.ensures.inside) c.from_residual.ensures.0
+returns-in_err-take_number-clause-inside g c = within_err (within_of c.take_number.ensures.inside) c.from_residual.ensures.0
 
 pub returns-in_err-number-clause-inside : goal.returns-in_err-number-clause-inside
-returns-in_err-number-clause-inside g c =
-    let s0 = state g.S.Store c.args.tx.now.conn.now in
-    let s1 = state g.S.Store c.take_number.new.tx.conn.now in
-    within_err s0 s1 _ _ (within_of s0 s1 _ c.in_ok-take_number.ensures.inside) c.from_residual-in_err-number.ensures.0
+returns-in_err-number-clause-inside g c = within_err (within_of c.in_ok-take_number.ensures.inside) c.from_residual-in_err-number.ensures.0
 
 pub returns-in-Some-clause-inside : goal.returns-in-Some-clause-inside
-returns-in-Some-clause-inside g c =
-    let s0 = state g.S.Store c.args.tx.now.conn.now in
-    let s1 = state g.S.Store c.take_number.new.tx.conn.now in
-    within_as s0 s1 _ _ (within_of s0 s1 _ c.in_ok-take_number.ensures.inside) (λ ok. refl)
+returns-in-Some-clause-inside g c = within_as (within_of c.in_ok-take_number.ensures.inside)
 
 pub returns-in-None-clause-inside : goal.returns-in-None-clause-inside
-returns-in-None-clause-inside g c =
-    let s0 = state g.S.Store c.args.tx.now.conn.now in
-    let s1 = state g.S.Store c.take_number.new.tx.conn.now in
-    within_err s0 s1 _ _ (within_of s0 s1 _ c.in_ok-take_number.ensures.inside) refl
+returns-in-None-clause-inside g c = within_err (within_of c.in_ok-take_number.ensures.inside) refl

@@ -16,19 +16,10 @@ returns-in-Ok-clause-added g c = λ clean books holds held ready.
     (agreed s1 _ (counts_of books) (state_counted c.args.branch c.args.copy (put_state Scrapped) books) set, c.in-Ok.ensures)
 
 pub returns-in_err-set_state-clause-inside : goal.returns-in_err-set_state-clause-inside
-returns-in_err-set_state-clause-inside g c =
-    let s0 = state g.S.Store c.args.tx.now.conn.now in
-    let s1 = state g.S.Store c.set_state.new.tx.conn.now in
-    within_err s0 s1 _ _ (within_of s0 s1 _ c.set_state.ensures.inside) c.from_residual.ensures.0
+returns-in_err-set_state-clause-inside g c = within_err (within_of c.set_state.ensures.inside) c.from_residual.ensures.0
 
 pub returns-in-Ok-clause-inside : goal.returns-in-Ok-clause-inside
-returns-in-Ok-clause-inside g c =
-    let s0 = state g.S.Store c.args.tx.now.conn.now in
-    let s1 = state g.S.Store c.set_state.new.tx.conn.now in
-    within_as s0 s1 _ _ (within_of s0 s1 _ c.in_ok-set_state.ensures.inside) (λ ok. refl)
+returns-in-Ok-clause-inside g c = within_as (within_of c.in_ok-set_state.ensures.inside)
 
 pub returns-in-Err-clause-inside : goal.returns-in-Err-clause-inside
-returns-in-Err-clause-inside g c =
-    let s0 = state g.S.Store c.args.tx.now.conn.now in
-    let s1 = state g.S.Store c.set_state.new.tx.conn.now in
-    within_err s0 s1 _ _ (within_of s0 s1 _ c.in_ok-set_state.ensures.inside) refl
+returns-in-Err-clause-inside g c = within_err (within_of c.in_ok-set_state.ensures.inside) refl

@@ -21,28 +21,14 @@ returns-in-Ok-clause-added g c = λ clean books holds held ready.
     )
 
 pub returns-in_err-set_returned-clause-inside : goal.returns-in_err-set_returned-clause-inside
-returns-in_err-set_returned-clause-inside g c =
-    let s0 = state g.S.Store c.args.tx.now.conn.now in
-    let s1 = state g.S.Store c.set_returned.new.tx.conn.now in
-    within_err s0 s1 _ _ (within_of s0 s1 _ c.set_returned.ensures.inside) c.from_residual.ensures.0
+returns-in_err-set_returned-clause-inside g c = within_err (within_of c.set_returned.ensures.inside) c.from_residual.ensures.0
 
 pub returns-in_err-drop_out-clause-inside : goal.returns-in_err-drop_out-clause-inside
 returns-in_err-drop_out-clause-inside g c =
-    let s0 = state g.S.Store c.args.tx.now.conn.now in
-    let s1 = state g.S.Store c.set_returned.new.tx.conn.now in
-    let s2 = state g.S.Store c.drop_out.new.tx.conn.now in
-    within_err s0 s2 _ _ (within_then s0 s1 s2 _ _ refl (within_of s0 s1 _ c.in_ok-set_returned.ensures.inside) (within_of s1 s2 _ c.drop_out.ensures.inside)) c.from_residual-in_err-drop_out.ensures.0
+    within_err (within_then (within_of c.in_ok-set_returned.ensures.inside) (within_of c.drop_out.ensures.inside)) c.from_residual-in_err-drop_out.ensures.0
 
 pub returns-in-Ok-clause-inside : goal.returns-in-Ok-clause-inside
-returns-in-Ok-clause-inside g c =
-    let s0 = state g.S.Store c.args.tx.now.conn.now in
-    let s1 = state g.S.Store c.set_returned.new.tx.conn.now in
-    let s2 = state g.S.Store c.drop_out.new.tx.conn.now in
-    within_as s0 s2 _ _ (within_then s0 s1 s2 _ _ refl (within_of s0 s1 _ c.in_ok-set_returned.ensures.inside) (within_of s1 s2 _ c.in_ok-drop_out.ensures.inside)) (λ ok. refl)
+returns-in-Ok-clause-inside g c = within_as (within_then (within_of c.in_ok-set_returned.ensures.inside) (within_of c.in_ok-drop_out.ensures.inside))
 
 pub returns-in-Err-clause-inside : goal.returns-in-Err-clause-inside
-returns-in-Err-clause-inside g c =
-    let s0 = state g.S.Store c.args.tx.now.conn.now in
-    let s1 = state g.S.Store c.set_returned.new.tx.conn.now in
-    let s2 = state g.S.Store c.drop_out.new.tx.conn.now in
-    within_err s0 s2 _ _ (within_then s0 s1 s2 _ _ refl (within_of s0 s1 _ c.in_ok-set_returned.ensures.inside) (within_of s1 s2 _ c.in_ok-drop_out.ensures.inside)) refl
+returns-in-Err-clause-inside g c = within_err (within_then (within_of c.in_ok-set_returned.ensures.inside) (within_of c.in_ok-drop_out.ensures.inside)) refl

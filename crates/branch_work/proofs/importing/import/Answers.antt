@@ -42,56 +42,29 @@ returns-in-Ok-new_copies_text-clause-added g c = λ clean books holds held ready
     )
 
 pub returns-in_err-take_numbers-clause-inside : goal.returns-in_err-take_numbers-clause-inside
-returns-in_err-take_numbers-clause-inside g c =
-    let s0 = state g.S.Store c.args.tx.now.conn.now in
-    let s1 = state g.S.Store c.take_numbers.new.tx.conn.now in
-    within_err s0 s1 _ _ (within_of s0 s1 _ c.take_numbers.ensures.inside) c.from_residual.ensures.0
+returns-in_err-take_numbers-clause-inside g c = within_err (within_of c.take_numbers.ensures.inside) c.from_residual.ensures.0
 
 pub returns-in_err-last-clause-inside : goal.returns-in_err-last-clause-inside
-returns-in_err-last-clause-inside g c =
-    let s0 = state g.S.Store c.args.tx.now.conn.now in
-    let s1 = state g.S.Store c.take_numbers.new.tx.conn.now in
-    within_err s0 s1 _ _ (within_of s0 s1 _ c.in_ok-take_numbers.ensures.inside) c.from_residual-in_err-last.ensures.0
+returns-in_err-last-clause-inside g c = within_err (within_of c.in_ok-take_numbers.ensures.inside) c.from_residual-in_err-last.ensures.0
 
 pub returns-in_err-first-clause-inside : goal.returns-in_err-first-clause-inside
-returns-in_err-first-clause-inside g c =
-    let s0 = state g.S.Store c.args.tx.now.conn.now in
-    let s1 = state g.S.Store c.take_numbers.new.tx.conn.now in
-    within_err s0 s1 _ _ (within_of s0 s1 _ c.in_ok-take_numbers.ensures.inside) c.from_residual-in_err-first.ensures.0
+returns-in_err-first-clause-inside g c = within_err (within_of c.in_ok-take_numbers.ensures.inside) c.from_residual-in_err-first.ensures.0
 
 pub returns-in_default-clause-inside : goal.returns-in_default-clause-inside
-returns-in_default-clause-inside g c =
-    let s0 = state g.S.Store c.args.tx.now.conn.now in
-    let s1 = state g.S.Store c.take_numbers.new.tx.conn.now in
-    within_err s0 s1 _ _ (within_of s0 s1 _ c.in_ok-take_numbers.ensures.inside) refl
+returns-in_default-clause-inside g c = within_err (within_of c.in_ok-take_numbers.ensures.inside) refl
 
 pub returns-in_err-put_copies-clause-inside : goal.returns-in_err-put_copies-clause-inside
 returns-in_err-put_copies-clause-inside g c =
-    let s0 = state g.S.Store c.args.tx.now.conn.now in
-    let s1 = state g.S.Store c.take_numbers.new.tx.conn.now in
-    let s2 = state g.S.Store c.put_copies.new.tx.conn.now in
-    within_err s0 s2 _ _ (within_then s0 s1 s2 _ _ refl (within_of s0 s1 _ c.in_ok-take_numbers.ensures.inside) c.put_copies.ensures.inside) c.from_residual-in_err-put_copies.ensures.0
+    within_err (within_then (within_of c.in_ok-take_numbers.ensures.inside) c.put_copies.ensures.inside) c.from_residual-in_err-put_copies.ensures.0
 
 pub returns-in_err-put_lot-clause-inside : goal.returns-in_err-put_lot-clause-inside
 returns-in_err-put_lot-clause-inside g c =
-    let s0 = state g.S.Store c.args.tx.now.conn.now in
-    let s1 = state g.S.Store c.take_numbers.new.tx.conn.now in
-    let s2 = state g.S.Store c.put_copies.new.tx.conn.now in
-    let s3 = state g.S.Store c.put_lot.new.tx.conn.now in
-    within_err s0 s3 _ _ (within_then s0 s2 s3 _ _ refl (within_then s0 s1 s2 _ _ refl (within_of s0 s1 _ c.in_ok-take_numbers.ensures.inside) c.in_ok-put_copies.ensures.inside) (within_of s2 s3 _ c.put_lot.ensures.inside)) c.from_residual-in_err-put_lot.ensures.0
+    within_err (within_then (within_then (within_of c.in_ok-take_numbers.ensures.inside) c.in_ok-put_copies.ensures.inside) (within_of c.put_lot.ensures.inside)) c.from_residual-in_err-put_lot.ensures.0
 
 pub returns-in-Ok-new_copies_text-clause-inside : goal.returns-in-Ok-new_copies_text-clause-inside
 returns-in-Ok-new_copies_text-clause-inside g c =
-    let s0 = state g.S.Store c.args.tx.now.conn.now in
-    let s1 = state g.S.Store c.take_numbers.new.tx.conn.now in
-    let s2 = state g.S.Store c.put_copies.new.tx.conn.now in
-    let s3 = state g.S.Store c.put_lot.new.tx.conn.now in
-    within_as s0 s3 _ _ (within_then s0 s2 s3 _ _ refl (within_then s0 s1 s2 _ _ refl (within_of s0 s1 _ c.in_ok-take_numbers.ensures.inside) c.in_ok-put_copies.ensures.inside) (within_of s2 s3 _ c.in_ok-put_lot.ensures.inside)) (λ ok. refl)
+    within_as (within_then (within_then (within_of c.in_ok-take_numbers.ensures.inside) c.in_ok-put_copies.ensures.inside) (within_of c.in_ok-put_lot.ensures.inside))
 
 pub returns-clause-inside : goal.returns-clause-inside
 returns-clause-inside g c =
-    let s0 = state g.S.Store c.args.tx.now.conn.now in
-    let s1 = state g.S.Store c.take_numbers.new.tx.conn.now in
-    let s2 = state g.S.Store c.put_copies.new.tx.conn.now in
-    let s3 = state g.S.Store c.put_lot.new.tx.conn.now in
-    within_err s0 s3 _ _ (within_then s0 s2 s3 _ _ refl (within_then s0 s1 s2 _ _ refl (within_of s0 s1 _ c.in_ok-take_numbers.ensures.inside) c.in_ok-put_copies.ensures.inside) (within_of s2 s3 _ c.in_ok-put_lot.ensures.inside)) refl
+    within_err (within_then (within_then (within_of c.in_ok-take_numbers.ensures.inside) c.in_ok-put_copies.ensures.inside) (within_of c.in_ok-put_lot.ensures.inside)) refl

@@ -1,4 +1,4 @@
-use Rattle.std.proofs.Common.{◌≡◌, ◌++◌, Ok, take, map}
+use Rattle.std.proofs.Common.{◌++◌, Ok, take, map}
 use Rattle.std.specs.Prelude.{⊤}
 use Rattle.sqlite.specs.Held.{state}
 use Rattle.sqlite.specs.State.{HasCleanDisk}
@@ -10,6 +10,5 @@ use Rattle.branch_work.proofs.importing.put_copies.Given as goal
 
 abbrev pub invariant-loop-row : goal.invariant-loop-row
 invariant-loop-row g l =
-    (l.tx.conn.ghost_name ≡ l.fn.tx.conn.ghost_name)
-    × StaysWithin {X = ⊤} {E = StoreFault} (state g.S.Store l.fn.tx.conn.now) (state g.S.Store l.tx.conn.now) (Ok tt)
+    StaysWithin {X = ⊤} {E = StoreFault} g.S.Store l.fn.tx.conn l.tx.conn (Ok tt)
     × (HasCleanDisk (state g.S.Store l.tx.conn.now) → Writes (state g.S.Store l.fn.tx.conn.now) (state g.S.Store l.tx.conn.now) (λ _. ⊤) (λ books. record books { copies = books.copies ++ map seen_copy_row (take l.row-index l.copies) }))

@@ -7,7 +7,7 @@ use Rattle.shop_ledger.specs.Seen.{seen_kept, by_form}
 use Rattle.shop_ledger.proofs.CountLemmas.{ok_then}
 use Rattle.shop_ledger.proofs.KeptLemmas.{copied_told}
 use Rattle.branch_work.specs.Rules.{rules_of}
-use Rattle.sql_rows.proofs.Stays.{within_of, within_as, within_err, within_then}
+use Rattle.sql_rows.proofs.Stays.{within_of, within_err, within_then}
 use Rattle.branch_work.proofs.Kepts.{kept_told}
 use Rattle.branch_work.proofs.working.act.Goals as goal
 
@@ -29,17 +29,10 @@ returns-clause-works g c = λ clean. ok_then c.carry_out.result _ _ (λ done wor
 
 pub returns-in_err-found-clause-inside : goal.returns-in_err-found-clause-inside
 returns-in_err-found-clause-inside g c =
-    let s0 = state g.S.Store c.args.tx.now.conn.now in
-    let s1 = state g.S.Store c.kept_at.new.tx.conn.now in
-    let s2 = state g.S.Store c.find_for_command.new.tx.conn.now in
-    let first = within_of s0 s1 _ c.in_ok-kept.ensures.inside in
-    within_err s0 s2 _ _ (within_then s0 s1 s2 _ _ refl first c.find_for_command.ensures.inside) c.from_residual-in_err-found.ensures.0
+    let first = within_of c.in_ok-kept.ensures.inside in
+    within_err (within_then first c.find_for_command.ensures.inside) c.from_residual-in_err-found.ensures.0
 
 pub returns-clause-inside : goal.returns-clause-inside
 returns-clause-inside g c =
-    let s0 = state g.S.Store c.args.tx.now.conn.now in
-    let s1 = state g.S.Store c.kept_at.new.tx.conn.now in
-    let s2 = state g.S.Store c.find_for_command.new.tx.conn.now in
-    let s3 = state g.S.Store c.carry_out.new.tx.conn.now in
-    let first = within_of s0 s1 _ c.in_ok-kept.ensures.inside in
-    within_then s0 s2 s3 _ _ refl (within_then s0 s1 s2 _ _ refl first c.in_ok-found.ensures.inside) c.carry_out.ensures.inside
+    let first = within_of c.in_ok-kept.ensures.inside in
+    within_then (within_then first c.in_ok-found.ensures.inside) c.carry_out.ensures.inside

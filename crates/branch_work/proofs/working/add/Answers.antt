@@ -1,4 +1,4 @@
-use Rattle.std.proofs.Common.{◌≡◌, ◌≤◌, ◌∙◌, ap, subst, arith, refl}
+use Rattle.std.proofs.Common.{◌≡◌, ◌≤◌, ◌∙◌, ap, subst, arith}
 use Rattle.std.specs.Prelude.{string_bytes}
 use Rattle.sqlite.specs.Held.{state}
 use Rattle.sqlite.specs.State.{HasCleanDisk}
@@ -25,21 +25,10 @@ returns-clause-added g c = λ clean limits books holds held adds.
     (subst (Holds s2) (rows_done limits b command c.args.rows c.as_str.result.now books done (reply ∙ added.1)) kept, c.accepted.ensures ∙ ap accepted_answer (added.1 ∙ done.told))
 
 pub returns-in_err-text-clause-inside : goal.returns-in_err-text-clause-inside
-returns-in_err-text-clause-inside g c =
-    let s0 = state g.S.Store c.args.tx.now.conn.now in
-    let s1 = state g.S.Store c.add_rows.new.tx.conn.now in
-    within_err s0 s1 _ _ c.add_rows.ensures.inside c.from_residual.ensures.0
+returns-in_err-text-clause-inside g c = within_err c.add_rows.ensures.inside c.from_residual.ensures.0
 
 pub returns-in_err-keep-clause-inside : goal.returns-in_err-keep-clause-inside
-returns-in_err-keep-clause-inside g c =
-    let s0 = state g.S.Store c.args.tx.now.conn.now in
-    let s1 = state g.S.Store c.add_rows.new.tx.conn.now in
-    let s2 = state g.S.Store c.keep.new.tx.conn.now in
-    within_err s0 s2 _ _ (within_then s0 s1 s2 _ _ refl c.in_ok-text.ensures.inside c.keep.ensures.inside) c.from_residual-in_err-keep.ensures.0
+returns-in_err-keep-clause-inside g c = within_err (within_then c.in_ok-text.ensures.inside c.keep.ensures.inside) c.from_residual-in_err-keep.ensures.0
 
 pub returns-clause-inside : goal.returns-clause-inside
-returns-clause-inside g c =
-    let s0 = state g.S.Store c.args.tx.now.conn.now in
-    let s1 = state g.S.Store c.add_rows.new.tx.conn.now in
-    let s2 = state g.S.Store c.keep.new.tx.conn.now in
-    within_as s0 s2 _ _ (within_then s0 s1 s2 _ _ refl c.in_ok-text.ensures.inside c.in_ok-keep.ensures.inside) (λ ok. refl)
+returns-clause-inside g c = within_as (within_then c.in_ok-text.ensures.inside c.in_ok-keep.ensures.inside)

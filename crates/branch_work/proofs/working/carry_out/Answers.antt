@@ -1,5 +1,4 @@
 use Rattle.std.proofs.Common.{◌∙◌, refl, ap, subst, Result, Ok, Err}
-use Rattle.sqlite.specs.Held.{state}
 use Rattle.shop_model.specs.Books.{shop_of}
 use Rattle.shop_model.specs.Verdict.{verdict}
 use Rattle.shop_model.specs.Answers.{accepted_answer}
@@ -49,13 +48,7 @@ returns-in_ok-refuse-in-Err-clause-works g c = λ clean books holds held there a
     refused_done c.args.limits b books command there refused.0 _ _ refused.1 refused.2 holds
 
 pub returns-in_err-reply-in-Ok-Rows-clause-inside : goal.returns-in_err-reply-in-Ok-Rows-clause-inside
-returns-in_err-reply-in-Ok-Rows-clause-inside g c =
-    let s0 = state g.S.Store c.args.tx.now.conn.now in
-    let s1 = state g.S.Store c.add.new.tx.conn.now in
-    within_err s0 s1 _ _ c.add.ensures.inside c.from_residual.ensures.0
+returns-in_err-reply-in-Ok-Rows-clause-inside g c = within_err c.add.ensures.inside c.from_residual.ensures.0
 
 pub returns-in_ok-reply-in-Ok-Rows-clause-inside : goal.returns-in_ok-reply-in-Ok-Rows-clause-inside
-returns-in_ok-reply-in-Ok-Rows-clause-inside g c =
-    let s0 = state g.S.Store c.args.tx.now.conn.now in
-    let s1 = state g.S.Store c.add.new.tx.conn.now in
-    within_as s0 s1 _ _ c.in_ok-reply-in-Ok-Rows.ensures.inside (λ ok. refl)
+returns-in_ok-reply-in-Ok-Rows-clause-inside g c = within_as c.in_ok-reply-in-Ok-Rows.ensures.inside

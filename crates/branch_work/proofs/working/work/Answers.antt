@@ -55,35 +55,18 @@ returns-in-Office-clause-works g c = λ clean books holds held.
     ]
 
 pub returns-in_default-clause-inside : goal.returns-in_default-clause-inside
-returns-in_default-clause-inside g c =
-    let s0 = state g.S.Store c.args.tx.now.conn.now in
-    let s1 = state g.S.Store c.last_at.new.tx.conn.now in
-    inside_as s0 s1 _ _ c.in_ok-last.ensures.inside (λ ok. refl)
+returns-in_default-clause-inside g c = inside_as c.in_ok-last.ensures.inside
 
 pub returns-in_err-reply-in-Do-clause-inside : goal.returns-in_err-reply-in-Do-clause-inside
 returns-in_err-reply-in-Do-clause-inside g c =
-    let s0 = state g.S.Store c.args.tx.now.conn.now in
-    let s1 = state g.S.Store c.last_at.new.tx.conn.now in
-    let s2 = state g.S.Store c.act.new.tx.conn.now in
-    inside_err s0 s2 _ _ (inside_then s0 s1 s2 _ _ refl c.in_ok-last.ensures.inside c.act.ensures.inside) c.from_residual-in_err-reply-in-Do.ensures.0
+    inside_err (inside_then c.in_ok-last.ensures.inside c.act.ensures.inside) c.from_residual-in_err-reply-in-Do.ensures.0
 
 pub returns-in_ok-reply-in-Do-clause-inside : goal.returns-in_ok-reply-in-Do-clause-inside
-returns-in_ok-reply-in-Do-clause-inside g c =
-    let s0 = state g.S.Store c.args.tx.now.conn.now in
-    let s1 = state g.S.Store c.last_at.new.tx.conn.now in
-    let s2 = state g.S.Store c.act.new.tx.conn.now in
-    inside_as s0 s2 _ _ (inside_then s0 s1 s2 _ _ refl c.in_ok-last.ensures.inside c.in_ok-reply-in-Do.ensures.inside) (λ ok. refl)
+returns-in_ok-reply-in-Do-clause-inside g c = inside_as (inside_then c.in_ok-last.ensures.inside c.in_ok-reply-in-Do.ensures.inside)
 
 pub returns-in_err-look-in-Look-clause-inside : goal.returns-in_err-look-in-Look-clause-inside
 returns-in_err-look-in-Look-clause-inside g c =
-    let s0 = state g.S.Store c.args.tx.now.conn.now in
-    let s1 = state g.S.Store c.last_at.new.tx.conn.now in
-    let s2 = state g.S.Store c.look.new.tx.conn.now in
-    inside_err s0 s2 _ _ (inside_then s0 s1 s2 _ _ refl c.in_ok-last.ensures.inside c.look.ensures.inside) c.from_residual-in_err-look-in-Look.ensures.0
+    inside_err (inside_then c.in_ok-last.ensures.inside c.look.ensures.inside) c.from_residual-in_err-look-in-Look.ensures.0
 
 pub returns-in_ok-look-in-Look-clause-inside : goal.returns-in_ok-look-in-Look-clause-inside
-returns-in_ok-look-in-Look-clause-inside g c =
-    let s0 = state g.S.Store c.args.tx.now.conn.now in
-    let s1 = state g.S.Store c.last_at.new.tx.conn.now in
-    let s2 = state g.S.Store c.look.new.tx.conn.now in
-    inside_as s0 s2 _ _ (inside_then s0 s1 s2 _ _ refl c.in_ok-last.ensures.inside c.in_ok-look-in-Look.ensures.inside) (λ ok. refl)
+returns-in_ok-look-in-Look-clause-inside g c = inside_as (inside_then c.in_ok-last.ensures.inside c.in_ok-look-in-Look.ensures.inside)

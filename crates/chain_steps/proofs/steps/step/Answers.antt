@@ -12,7 +12,7 @@ use Rattle.shop_types.specs.Replies.{seen_reply}
 use Rattle.chain_store.specs.Chains.{Rests}
 use Rattle.chain_store.specs.Reports.{ShowsReport}
 use Rattle.chain_store.specs.Steps.{IsMade, IsUndone, LeavesAfter, asker, asked_of}
-use Rattle.chain_store.proofs.Resting.{rests_back, either_of, made_commit, made_nothing, leaves_after, leaves_then, undone_after, shows_made, shows_nothing, of_any_error}
+use Rattle.chain_store.proofs.Resting.{begun_inside, rests_back, either_of, made_commit, made_nothing, leaves_after, leaves_then, undone_after, shows_made, shows_nothing, of_any_error}
 use Rattle.chain_steps.proofs.steps.step.Goals as goal
 
 -- calls of which none commits anything
@@ -27,10 +27,10 @@ returns-in-Ok-clause-made g c clean =
     let caller : Caller = asker c.args.asked.now in
     let request : Request = asked_of c.args.asked.now in
     let answer : Answer = seen_reply c.in-Ok-Done-default-true.reply in
-    let same : end ≡ c.conn-1.given.0 = sym (c.conn-1.given.1 (sym (c.in-Ok-Done-default-true.ensures.same_reference ∙ c.transaction-tx.ensures.same_reference))) in
+    let same : end ≡ c.conn-1.given.0 = sym (c.conn-1.given.1 (sym (c.in-Ok-Done-default-true.ensures.inside.same_reference ∙ c.transaction-tx.ensures.same_reference))) in
     let clean_end : HasCleanDisk (state g.S.Store end) = subst (λ h. HasCleanDisk (state g.S.Store h)) (sym same) clean in
     let clean_mid : HasCleanDisk (state g.S.Store mid) = omega (arith, clean_end, c.commit.ensures.survives.clean) in
-    let inside = rw c.transaction-tx.ensures.begun at c.in-Ok-Done-default-true.ensures.inside in
+    let inside = begun_inside g.S.Store c.args.conn.now c.transaction-tx.ensures.begun c.in-Ok-Done-default-true.ensures.inside in
     let works = rw c.in-Ok-Done-default-true.field-0-is at (rw c.transaction-tx.ensures.begun at c.in-Ok-Done-default-true.ensures.works) in
     subst (λ h. IsMade c.args.limits caller request answer (state g.S.Store old) (state g.S.Store h)) same
     (made_commit g.S.Store old mid end c.args.limits caller request answer c.in-Ok-Done-default-true.field-0-1 works (λ k. (inside.lives k refl).was_open) clean_mid g.met.S.Store.settled (c.in-Ok.ensures.ok clean_end).1)
@@ -43,8 +43,8 @@ returns-in-Ok-clause-crash g c =
     let caller : Caller = asker c.args.asked.now in
     let request : Request = asked_of c.args.asked.now in
     let answer : Answer = seen_reply c.in-Ok-Done-default-true.reply in
-    let same : end ≡ c.conn-1.given.0 = sym (c.conn-1.given.1 (sym (c.in-Ok-Done-default-true.ensures.same_reference ∙ c.transaction-tx.ensures.same_reference))) in
-    let inside = rw c.transaction-tx.ensures.begun at c.in-Ok-Done-default-true.ensures.inside in
+    let same : end ≡ c.conn-1.given.0 = sym (c.conn-1.given.1 (sym (c.in-Ok-Done-default-true.ensures.inside.same_reference ∙ c.transaction-tx.ensures.same_reference))) in
+    let inside = begun_inside g.S.Store c.args.conn.now c.transaction-tx.ensures.begun c.in-Ok-Done-default-true.ensures.inside in
     let works = rw c.in-Ok-Done-default-true.field-0-is at (rw c.transaction-tx.ensures.begun at c.in-Ok-Done-default-true.ensures.works) in
     subst (λ h. Survives (state g.S.Store old) (state g.S.Store h) (LeavesAfter c.args.limits caller request (state g.S.Store old))) same
     (leaves_after g.S.Store old mid end c.args.limits caller request answer c.in-Ok-Done-default-true.field-0-1 works (λ k. (inside.lives k refl).was_open) inside.survives c.commit.ensures.survives)
@@ -57,10 +57,10 @@ returns-in-Ok-Done-default-false-clause-made g c clean =
     let caller : Caller = asker c.args.asked.now in
     let request : Request = asked_of c.args.asked.now in
     let answer : Answer = seen_reply c.in-Ok-Done-default-false.reply in
-    let same : end ≡ c.conn-in-Ok-Done-default-false-1.given.0 = sym (c.conn-in-Ok-Done-default-false-1.given.1 (sym (c.in-Ok-Done-default-false.ensures.same_reference ∙ c.transaction-tx.ensures.same_reference))) in
+    let same : end ≡ c.conn-in-Ok-Done-default-false-1.given.0 = sym (c.conn-in-Ok-Done-default-false-1.given.1 (sym (c.in-Ok-Done-default-false.ensures.inside.same_reference ∙ c.transaction-tx.ensures.same_reference))) in
     let clean_end : HasCleanDisk (state g.S.Store end) = subst (λ h. HasCleanDisk (state g.S.Store h)) (sym same) clean in
     let clean_mid : HasCleanDisk (state g.S.Store mid) = omega (arith, clean_end, c.rollback.ensures.survives.clean) in
-    let inside = rw c.transaction-tx.ensures.begun at c.in-Ok-Done-default-false.ensures.inside in
+    let inside = begun_inside g.S.Store c.args.conn.now c.transaction-tx.ensures.begun c.in-Ok-Done-default-false.ensures.inside in
     let works = rw c.in-Ok-Done-default-false.field-0-is at (rw c.transaction-tx.ensures.begun at c.in-Ok-Done-default-false.ensures.works) in
     subst (λ h. IsMade c.args.limits caller request answer (state g.S.Store old) (state g.S.Store h)) same
     (made_nothing g.S.Store old mid end c.args.limits caller request answer c.in-Ok-Done-default-false.field-0-1 works (λ k. (inside.lives k refl).was_open) clean_mid c.in-Ok-Done-default-false.field-0-1-test
@@ -73,10 +73,10 @@ returns-in-Err-clause-undone g c clean =
     let end = c.rollback-in-Err.new.self.0 in
     let caller : Caller = asker c.args.asked.now in
     let request : Request = asked_of c.args.asked.now in
-    let same : end ≡ c.conn-in-Err-1.given.0 = sym (c.conn-in-Err-1.given.1 (sym (c.in-Err.ensures.same_reference ∙ c.transaction-tx.ensures.same_reference))) in
+    let same : end ≡ c.conn-in-Err-1.given.0 = sym (c.conn-in-Err-1.given.1 (sym (c.in-Err.ensures.inside.same_reference ∙ c.transaction-tx.ensures.same_reference))) in
     let clean_end : HasCleanDisk (state g.S.Store end) = subst (λ h. HasCleanDisk (state g.S.Store h)) (sym same) clean in
     let clean_mid : HasCleanDisk (state g.S.Store mid) = omega (arith, clean_end, c.rollback-in-Err.ensures.survives.clean) in
-    let inside = rw c.transaction-tx.ensures.begun at c.in-Err.ensures.inside in
+    let inside = begun_inside g.S.Store c.args.conn.now c.transaction-tx.ensures.begun c.in-Err.ensures.inside in
     let undone : IsUndone (state g.S.Store old) (state g.S.Store c.conn-in-Err-1.given.0) = subst (λ h. IsUndone (state g.S.Store old) (state g.S.Store h)) same
     (λ books rests held. rests_back g.S.Store old mid end books inside.survives (inside.kept clean_mid refl) (c.rollback-in-Err.ensures.undone clean_end) c.rollback-in-Err.ensures.survives clean_end rests) in
     (λ other. undone, λ books rests held db may. inl ((undone books rests held).left db may))
@@ -89,8 +89,8 @@ returns-then-is_open-clause-crash g c =
     let caller : Caller = asker c.args.asked.now in
     let request : Request = asked_of c.args.asked.now in
     let answer : Answer = seen_reply c.in-Ok-Done-default-true.reply in
-    let same : fin ≡ c.conn-1.given.0 = sym (c.conn-1.given.1 (sym (c.in-Ok-Done-default-true.ensures.same_reference ∙ c.transaction-tx.ensures.same_reference))) in
-    let inside = rw c.transaction-tx.ensures.begun at c.in-Ok-Done-default-true.ensures.inside in
+    let same : fin ≡ c.conn-1.given.0 = sym (c.conn-1.given.1 (sym (c.in-Ok-Done-default-true.ensures.inside.same_reference ∙ c.transaction-tx.ensures.same_reference))) in
+    let inside = begun_inside g.S.Store c.args.conn.now c.transaction-tx.ensures.begun c.in-Ok-Done-default-true.ensures.inside in
     let works = rw c.in-Ok-Done-default-true.field-0-is at (rw c.transaction-tx.ensures.begun at c.in-Ok-Done-default-true.ensures.works) in
     let first = leaves_after g.S.Store old mid fin c.args.limits caller request answer c.in-Ok-Done-default-true.field-0-1 works (λ k. (inside.lives k refl).was_open) inside.survives c.commit.ensures.survives in
     leaves_then c.args.limits caller request (state g.S.Store old) (state g.S.Store fin) (state g.S.Store c.is_open.new.conn) first
@@ -104,8 +104,8 @@ returns-else-is_open-clause-crash g c =
     let caller : Caller = asker c.args.asked.now in
     let request : Request = asked_of c.args.asked.now in
     let answer : Answer = seen_reply c.in-Ok-Done-default-true.reply in
-    let same : fin ≡ c.conn-1.given.0 = sym (c.conn-1.given.1 (sym (c.in-Ok-Done-default-true.ensures.same_reference ∙ c.transaction-tx.ensures.same_reference))) in
-    let inside = rw c.transaction-tx.ensures.begun at c.in-Ok-Done-default-true.ensures.inside in
+    let same : fin ≡ c.conn-1.given.0 = sym (c.conn-1.given.1 (sym (c.in-Ok-Done-default-true.ensures.inside.same_reference ∙ c.transaction-tx.ensures.same_reference))) in
+    let inside = begun_inside g.S.Store c.args.conn.now c.transaction-tx.ensures.begun c.in-Ok-Done-default-true.ensures.inside in
     let works = rw c.in-Ok-Done-default-true.field-0-is at (rw c.transaction-tx.ensures.begun at c.in-Ok-Done-default-true.ensures.works) in
     let first = leaves_after g.S.Store old mid fin c.args.limits caller request answer c.in-Ok-Done-default-true.field-0-1 works (λ k. (inside.lives k refl).was_open) inside.survives c.commit.ensures.survives in
     leaves_then c.args.limits caller request (state g.S.Store old) (state g.S.Store fin) (state g.S.Store c.is_open.new.conn) first
@@ -117,11 +117,11 @@ returns-then-is_open-clause-undone g c clean =
     let mid = c.work_of.new.tx.conn.now in
     let fin = c.commit.new.self.0 in
     let end = c.is_open.new.conn in
-    let same : fin ≡ c.conn-1.given.0 = sym (c.conn-1.given.1 (sym (c.in-Ok-Done-default-true.ensures.same_reference ∙ c.transaction-tx.ensures.same_reference))) in
+    let same : fin ≡ c.conn-1.given.0 = sym (c.conn-1.given.1 (sym (c.in-Ok-Done-default-true.ensures.inside.same_reference ∙ c.transaction-tx.ensures.same_reference))) in
     let crash = subst (λ h. Survives (state g.S.Store h) (state g.S.Store end) (λ _. ⊥)) (sym same) c.is_open.ensures.crash in
     let clean_fin : HasCleanDisk (state g.S.Store fin) = omega (arith, clean, crash.clean) in
     let clean_mid : HasCleanDisk (state g.S.Store mid) = omega (arith, clean_fin, c.commit.ensures.survives.clean) in
-    let inside = rw c.transaction-tx.ensures.begun at c.in-Ok-Done-default-true.ensures.inside in
+    let inside = begun_inside g.S.Store c.args.conn.now c.transaction-tx.ensures.begun c.in-Ok-Done-default-true.ensures.inside in
     let live : IsTrue (state g.S.Store fin).is_open = subst (λ h. IsTrue (state g.S.Store h).is_open) (sym same) (c.if-is_open.ensures.was clean refl) in
     let after = subst (λ h. IsTrue (state g.S.Store end).is_open → ((state g.S.Store end).now ≡ (state g.S.Store h).committed) × ((state g.S.Store end).committed ≡ (state g.S.Store h).committed)) (sym same) (c.is_open.ensures.same clean) in
     let undone : IsUndone (state g.S.Store old) (state g.S.Store end) = λ books rests held.
@@ -136,8 +136,8 @@ returns-else-is_open-clause-undone g c clean =
     let caller : Caller = asker c.args.asked.now in
     let request : Request = asked_of c.args.asked.now in
     let answer : Answer = seen_reply c.in-Ok-Done-default-true.reply in
-    let same : fin ≡ c.conn-1.given.0 = sym (c.conn-1.given.1 (sym (c.in-Ok-Done-default-true.ensures.same_reference ∙ c.transaction-tx.ensures.same_reference))) in
-    let inside = rw c.transaction-tx.ensures.begun at c.in-Ok-Done-default-true.ensures.inside in
+    let same : fin ≡ c.conn-1.given.0 = sym (c.conn-1.given.1 (sym (c.in-Ok-Done-default-true.ensures.inside.same_reference ∙ c.transaction-tx.ensures.same_reference))) in
+    let inside = begun_inside g.S.Store c.args.conn.now c.transaction-tx.ensures.begun c.in-Ok-Done-default-true.ensures.inside in
     let works = rw c.in-Ok-Done-default-true.field-0-is at (rw c.transaction-tx.ensures.begun at c.in-Ok-Done-default-true.ensures.works) in
     let first = leaves_after g.S.Store old mid fin c.args.limits caller request answer c.in-Ok-Done-default-true.field-0-1 works (λ k. (inside.lives k refl).was_open) inside.survives c.commit.ensures.survives in
     let whole = leaves_then c.args.limits caller request (state g.S.Store old) (state g.S.Store fin) (state g.S.Store c.is_open.new.conn) first
@@ -152,11 +152,11 @@ returns-in-Ok-Shows-clause-made g c clean =
     let end = c.show.new.conn in
     let caller : Caller = asker c.args.asked.now in
     let request : Request = asked_of c.args.asked.now in
-    let same : back ≡ c.conn-in-Ok-Shows-1.given.0 = sym (c.conn-in-Ok-Shows-1.given.1 (sym (c.in-Ok-Shows.ensures.same_reference ∙ c.transaction-tx.ensures.same_reference))) in
+    let same : back ≡ c.conn-in-Ok-Shows-1.given.0 = sym (c.conn-in-Ok-Shows-1.given.1 (sym (c.in-Ok-Shows.ensures.inside.same_reference ∙ c.transaction-tx.ensures.same_reference))) in
     let crash = subst (λ h. Survives (state g.S.Store h) (state g.S.Store end) (λ _. ⊥)) (sym same) c.show.ensures.crash in
     let clean_back : HasCleanDisk (state g.S.Store back) = omega (arith, clean, crash.clean) in
     let clean_mid : HasCleanDisk (state g.S.Store mid) = omega (arith, clean_back, c.rollback-in-Ok-Shows.ensures.survives.clean) in
-    let inside = rw c.transaction-tx.ensures.begun at c.in-Ok-Shows.ensures.inside in
+    let inside = begun_inside g.S.Store c.args.conn.now c.transaction-tx.ensures.begun c.in-Ok-Shows.ensures.inside in
     let works = rw c.in-Ok-Shows.field-0-is at (rw c.transaction-tx.ensures.begun at c.in-Ok-Shows.ensures.works) in
     let returned = λ (books : Books) (rests : Rests (state g.S.Store old) books).
     rests_back g.S.Store old mid back books inside.survives (inside.kept clean_mid refl) (c.rollback-in-Ok-Shows.ensures.undone clean_back) c.rollback-in-Ok-Shows.ensures.survives clean_back rests in
@@ -173,11 +173,11 @@ returns-in-Ok-Shows-clause-undone g c clean =
     let end = c.show.new.conn in
     let caller : Caller = asker c.args.asked.now in
     let request : Request = asked_of c.args.asked.now in
-    let same : back ≡ c.conn-in-Ok-Shows-1.given.0 = sym (c.conn-in-Ok-Shows-1.given.1 (sym (c.in-Ok-Shows.ensures.same_reference ∙ c.transaction-tx.ensures.same_reference))) in
+    let same : back ≡ c.conn-in-Ok-Shows-1.given.0 = sym (c.conn-in-Ok-Shows-1.given.1 (sym (c.in-Ok-Shows.ensures.inside.same_reference ∙ c.transaction-tx.ensures.same_reference))) in
     let crash = subst (λ h. Survives (state g.S.Store h) (state g.S.Store end) (λ _. ⊥)) (sym same) c.show.ensures.crash in
     let clean_back : HasCleanDisk (state g.S.Store back) = omega (arith, clean, crash.clean) in
     let clean_mid : HasCleanDisk (state g.S.Store mid) = omega (arith, clean_back, c.rollback-in-Ok-Shows.ensures.survives.clean) in
-    let inside = rw c.transaction-tx.ensures.begun at c.in-Ok-Shows.ensures.inside in
+    let inside = begun_inside g.S.Store c.args.conn.now c.transaction-tx.ensures.begun c.in-Ok-Shows.ensures.inside in
     let works = rw c.in-Ok-Shows.field-0-is at (rw c.transaction-tx.ensures.begun at c.in-Ok-Shows.ensures.works) in
     let returned = λ (books : Books) (rests : Rests (state g.S.Store old) books).
     rests_back g.S.Store old mid back books inside.survives (inside.kept clean_mid refl) (c.rollback-in-Ok-Shows.ensures.undone clean_back) c.rollback-in-Ok-Shows.ensures.survives clean_back rests in
@@ -189,8 +189,8 @@ returns-in-Ok-Done-default-false-clause-crash g c =
     let old = c.args.conn.now in
     let mid = c.work_of.new.tx.conn.now in
     let end = c.rollback.new.self.0 in
-    let same : end ≡ c.conn-in-Ok-Done-default-false-1.given.0 = sym (c.conn-in-Ok-Done-default-false-1.given.1 (sym (c.in-Ok-Done-default-false.ensures.same_reference ∙ c.transaction-tx.ensures.same_reference))) in
-    let inside = rw c.transaction-tx.ensures.begun at c.in-Ok-Done-default-false.ensures.inside in
+    let same : end ≡ c.conn-in-Ok-Done-default-false-1.given.0 = sym (c.conn-in-Ok-Done-default-false-1.given.1 (sym (c.in-Ok-Done-default-false.ensures.inside.same_reference ∙ c.transaction-tx.ensures.same_reference))) in
+    let inside = begun_inside g.S.Store c.args.conn.now c.transaction-tx.ensures.begun c.in-Ok-Done-default-false.ensures.inside in
     subst (λ h. Survives (state g.S.Store old) (state g.S.Store h) (LeavesAfter c.args.limits (asker c.args.asked.now) (asked_of c.args.asked.now) (state g.S.Store old))) same
     (leaves_nothing c.args.limits (asker c.args.asked.now) (asked_of c.args.asked.now) (state g.S.Store old) (state g.S.Store mid) (state g.S.Store end) (survives_begin g.S.Store old (state g.S.Store mid) _ inside.survives) c.rollback.ensures.survives)
 
@@ -199,8 +199,8 @@ returns-in-Err-clause-crash g c =
     let old = c.args.conn.now in
     let mid = c.work_of.new.tx.conn.now in
     let end = c.rollback-in-Err.new.self.0 in
-    let same : end ≡ c.conn-in-Err-1.given.0 = sym (c.conn-in-Err-1.given.1 (sym (c.in-Err.ensures.same_reference ∙ c.transaction-tx.ensures.same_reference))) in
-    let inside = rw c.transaction-tx.ensures.begun at c.in-Err.ensures.inside in
+    let same : end ≡ c.conn-in-Err-1.given.0 = sym (c.conn-in-Err-1.given.1 (sym (c.in-Err.ensures.inside.same_reference ∙ c.transaction-tx.ensures.same_reference))) in
+    let inside = begun_inside g.S.Store c.args.conn.now c.transaction-tx.ensures.begun c.in-Err.ensures.inside in
     subst (λ h. Survives (state g.S.Store old) (state g.S.Store h) (LeavesAfter c.args.limits (asker c.args.asked.now) (asked_of c.args.asked.now) (state g.S.Store old))) same
     (leaves_nothing c.args.limits (asker c.args.asked.now) (asked_of c.args.asked.now) (state g.S.Store old) (state g.S.Store mid) (state g.S.Store end) (survives_begin g.S.Store old (state g.S.Store mid) _ inside.survives) c.rollback-in-Err.ensures.survives)
 
@@ -210,8 +210,8 @@ returns-in-Ok-Shows-clause-crash g c =
     let mid = c.work_of.new.tx.conn.now in
     let back = c.rollback-in-Ok-Shows.new.self.0 in
     let end = c.show.new.conn in
-    let same : back ≡ c.conn-in-Ok-Shows-1.given.0 = sym (c.conn-in-Ok-Shows-1.given.1 (sym (c.in-Ok-Shows.ensures.same_reference ∙ c.transaction-tx.ensures.same_reference))) in
-    let inside = rw c.transaction-tx.ensures.begun at c.in-Ok-Shows.ensures.inside in
+    let same : back ≡ c.conn-in-Ok-Shows-1.given.0 = sym (c.conn-in-Ok-Shows-1.given.1 (sym (c.in-Ok-Shows.ensures.inside.same_reference ∙ c.transaction-tx.ensures.same_reference))) in
+    let inside = begun_inside g.S.Store c.args.conn.now c.transaction-tx.ensures.begun c.in-Ok-Shows.ensures.inside in
     leaves_then c.args.limits (asker c.args.asked.now) (asked_of c.args.asked.now) (state g.S.Store old) (state g.S.Store back) (state g.S.Store end)
     (leaves_nothing c.args.limits (asker c.args.asked.now) (asked_of c.args.asked.now) (state g.S.Store old) (state g.S.Store mid) (state g.S.Store back) (survives_begin g.S.Store old (state g.S.Store mid) _ inside.survives) c.rollback-in-Ok-Shows.ensures.survives)
     (subst (λ h. Survives (state g.S.Store h) (state g.S.Store end) (λ _. ⊥)) (sym same) c.show.ensures.crash)

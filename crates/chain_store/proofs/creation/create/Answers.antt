@@ -1,7 +1,3 @@
-use Rattle.std.proofs.Common.{rules, ◌≡◌, ◌≢◌, true, refl}
-use Rattle.sqlite.specs.Held.{state}
-use Rattle.sqlite.specs.State.{Survives}
-use Rattle.sql_rows.specs.Books.{no_schema}
 use Rattle.chain_store.proofs.Resting.{leaves_untouched}
 use Rattle.chain_store.proofs.creation.create.Goals as goal
 

@@ -1,6 +1,5 @@
 use Rattle.std.proofs.Common.{refl, sym}
 use Rattle.sqlite.specs.declared.file.Leftover.TheVariants as left
-use Rattle.chain_store.proofs.NewFiles.{store_is_not_a_chain, store_is_no_version, store_is_not_already}
 use Rattle.chain_store.proofs.files.connect.Goals as goal
 
 pub returns-then-not-may_be_used-clause-left : goal.returns-then-not-may_be_used-clause-left

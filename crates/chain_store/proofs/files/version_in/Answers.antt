@@ -1,8 +1,8 @@
-use Rattle.std.proofs.Common.{rules, ◌≡◌, refl, sym, subst, arith}
+use Rattle.std.proofs.Common.{◌≡◌, ◌∙◌, refl, sym, subst, arith}
 use Rattle.sqlite.specs.Held.{state}
 use Rattle.sqlite.specs.State.{HasCleanDisk}
 use Rattle.chain_store.specs.Chains.{Rests}
-use Rattle.chain_store.proofs.Resting.{rests_back}
+use Rattle.chain_store.proofs.Resting.{begun_inside, rests_back}
 use Rattle.chain_store.proofs.files.version_in.Goals as goal
 
 pub returns-clause-same : goal.returns-clause-same
@@ -10,9 +10,9 @@ returns-clause-same g c clean books rests =
     let old = c.args.conn.now in
     let mid = c.version-found.new.tx.conn.now in
     let end = c.rollback.new.self.0 in
-    let same : end ≡ c.conn-1.given.0 = search rules in
+    let same : end ≡ c.conn-1.given.0 = sym (c.conn-1.given.1 (sym (c.version-found.ensures.inside.same_reference ∙ c.transaction-tx.ensures.same_reference))) in
     let clean_end : HasCleanDisk (state g.S.Store end) = subst (λ h. HasCleanDisk (state g.S.Store h)) (sym same) clean in
     let clean_mid : HasCleanDisk (state g.S.Store mid) = omega (arith, clean_end, c.rollback.ensures.survives.clean) in
-    let inside = rw c.transaction-tx.ensures.begun at c.version-found.ensures.inside in
+    let inside = begun_inside g.S.Store c.args.conn.now c.transaction-tx.ensures.begun c.version-found.ensures.inside in
     subst (λ h. Rests (state g.S.Store h) books) same
     (rests_back g.S.Store old mid end books inside.survives (inside.kept clean_mid refl) (c.rollback.ensures.undone clean_end) c.rollback.ensures.survives clean_end rests)

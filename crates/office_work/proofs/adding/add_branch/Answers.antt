@@ -1,4 +1,4 @@
-use Rattle.std.proofs.Common.{◌≡◌, ◌∙◌, ◌+◌, ◌∷◌, [], ℕ, ap, arith, codes, decimal, length, refl}
+use Rattle.std.proofs.Common.{◌≡◌, ◌∙◌, ◌+◌, ◌∷◌, [], ℕ, ap, arith, codes, decimal, length}
 use Rattle.sqlite.specs.Held.{state}
 use Rattle.sqlite.specs.State.{HasCleanDisk}
 use Rattle.shop_model.specs.Rows.{owned_by}
@@ -34,19 +34,11 @@ returns-clause-numbered g c = λ clean.
 
 pub returns-clause-inside : goal.returns-clause-inside
 returns-clause-inside g c =
-    let s1 = state g.S.Store c.last_branch.new.tx.conn.now in
-    let s2 = state g.S.Store c.put_branch.new.tx.conn.now in
-    let s3 = state g.S.Store c.put_counts.new.tx.conn.now in
     let next = c.in_ok-number.ensures in
     let counted = put_inside c.numbered.result c.in_ok-number.number c.numbered.ensures c.put_counts.ensures.inside in
-    told_then (state g.S.Store c.args.tx.now.conn.now) s1 s3 c.last_branch.result next.0 c.numbered.result next.1 c.last_branch.ensures.inside
-    (inside_then s1 s2 s3 _ c.numbered.result refl c.in_ok-put_branch.ensures.inside (within_of s2 s3 c.numbered.result counted))
+    told_then next.0 next.1 c.last_branch.ensures.inside (inside_then c.in_ok-put_branch.ensures.inside (within_of counted))
 
 pub returns-in_err-put_branch-clause-inside : goal.returns-in_err-put_branch-clause-inside
 returns-in_err-put_branch-clause-inside g c =
-    let s0 = state g.S.Store c.args.tx.now.conn.now in
-    let s1 = state g.S.Store c.last_branch.new.tx.conn.now in
-    let s2 = state g.S.Store c.put_branch.new.tx.conn.now in
     let next = c.in_ok-number.ensures in
-    let put = told_then s0 s1 s2 c.last_branch.result next.0 c.put_branch.result next.1 c.last_branch.ensures.inside c.put_branch.ensures.inside in
-    inside_err s0 s2 _ _ put c.from_residual-in_err-put_branch.ensures.0
+    inside_err (told_then next.0 next.1 c.last_branch.ensures.inside c.put_branch.ensures.inside) c.from_residual-in_err-put_branch.ensures.0

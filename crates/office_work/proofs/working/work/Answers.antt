@@ -1,4 +1,4 @@
-use Rattle.std.proofs.Common.{◌∙◌, refl, ap, subst, arith, Result, Ok, Err, Option, option_map}
+use Rattle.std.proofs.Common.{◌∙◌, ap, subst, arith, Result, Ok, Err, Option, option_map}
 use Rattle.sqlite.specs.Held.{state}
 use Rattle.sqlite.specs.State.{HasCleanDisk}
 use Rattle.shop_model.specs.Verdict.{office_verdict}
@@ -68,54 +68,27 @@ returns-clause-works g c = λ clean rules commands books holds held.
     refused_done rules command books _ s2 refused.0 refused.1 refused.2 found.0
 
 pub returns-in_err-found-clause-inside : goal.returns-in_err-found-clause-inside
-returns-in_err-found-clause-inside g c =
-    let s0 = state g.S.Store c.args.tx.now.conn.now in
-    let s1 = state g.S.Store c.office_kept_at.new.tx.conn.now in
-    let s2 = state g.S.Store c.find.new.tx.conn.now in
-    inside_err s0 s2 _ _ (inside_then s0 s1 s2 _ _ refl c.in_ok-kept.ensures.inside c.find.ensures.inside) c.from_residual-in_err-found.ensures.0
+returns-in_err-found-clause-inside g c = inside_err (inside_then c.in_ok-kept.ensures.inside c.find.ensures.inside) c.from_residual-in_err-found.ensures.0
 
 pub returns-in-Ok-clause-inside : goal.returns-in-Ok-clause-inside
-returns-in-Ok-clause-inside g c =
-    let s0 = state g.S.Store c.args.tx.now.conn.now in
-    let s1 = state g.S.Store c.office_kept_at.new.tx.conn.now in
-    let s2 = state g.S.Store c.find.new.tx.conn.now in
-    inside_as s0 s2 _ _ (inside_then s0 s1 s2 _ _ refl c.in_ok-kept.ensures.inside c.in_ok-found.ensures.inside) (λ ok. refl)
+returns-in-Ok-clause-inside g c = inside_as (inside_then c.in_ok-kept.ensures.inside c.in_ok-found.ensures.inside)
 
 pub returns-in-Ok-Again-clause-inside : goal.returns-in-Ok-Again-clause-inside
-returns-in-Ok-Again-clause-inside g c =
-    let s0 = state g.S.Store c.args.tx.now.conn.now in
-    let s1 = state g.S.Store c.office_kept_at.new.tx.conn.now in
-    let s2 = state g.S.Store c.find.new.tx.conn.now in
-    inside_as s0 s2 _ _ (inside_then s0 s1 s2 _ _ refl c.in_ok-kept.ensures.inside c.in_ok-found.ensures.inside) (λ ok. refl)
+returns-in-Ok-Again-clause-inside g c = inside_as (inside_then c.in_ok-kept.ensures.inside c.in_ok-found.ensures.inside)
 
 pub returns-in_err-reply-in-Ok-Accepted-clause-inside : goal.returns-in_err-reply-in-Ok-Accepted-clause-inside
 returns-in_err-reply-in-Ok-Accepted-clause-inside g c =
-    let s0 = state g.S.Store c.args.tx.now.conn.now in
-    let s1 = state g.S.Store c.office_kept_at.new.tx.conn.now in
-    let s2 = state g.S.Store c.find.new.tx.conn.now in
-    let s3 = state g.S.Store c.add.new.tx.conn.now in
-    let found = inside_then s0 s1 s2 _ _ refl c.in_ok-kept.ensures.inside c.in_ok-found.ensures.inside in
-    inside_err s0 s3 _ _ (inside_then s0 s2 s3 _ _ refl found (within_of s2 s3 _ c.add.ensures.inside)) c.from_residual-in_err-reply-in-Ok-Accepted.ensures.0
+    let found = inside_then c.in_ok-kept.ensures.inside c.in_ok-found.ensures.inside in
+    inside_err (inside_then found (within_of c.add.ensures.inside)) c.from_residual-in_err-reply-in-Ok-Accepted.ensures.0
 
 pub returns-in-Ok-Accepted-clause-inside : goal.returns-in-Ok-Accepted-clause-inside
 returns-in-Ok-Accepted-clause-inside g c =
-    let s0 = state g.S.Store c.args.tx.now.conn.now in
-    let s1 = state g.S.Store c.office_kept_at.new.tx.conn.now in
-    let s2 = state g.S.Store c.find.new.tx.conn.now in
-    let s3 = state g.S.Store c.add.new.tx.conn.now in
-    let found = inside_then s0 s1 s2 _ _ refl c.in_ok-kept.ensures.inside c.in_ok-found.ensures.inside in
-    inside_as s0 s3 _ _ (inside_then s0 s2 s3 _ _ refl found (within_of s2 s3 _ c.in_ok-reply-in-Ok-Accepted.ensures.inside)) (λ ok. refl)
+    let found = inside_then c.in_ok-kept.ensures.inside c.in_ok-found.ensures.inside in
+    inside_as (inside_then found (within_of c.in_ok-reply-in-Ok-Accepted.ensures.inside))
 
 pub returns-in_err-refuse-in-Err-clause-inside : goal.returns-in_err-refuse-in-Err-clause-inside
 returns-in_err-refuse-in-Err-clause-inside g c =
-    let s0 = state g.S.Store c.args.tx.now.conn.now in
-    let s1 = state g.S.Store c.office_kept_at.new.tx.conn.now in
-    let s2 = state g.S.Store c.find.new.tx.conn.now in
-    inside_err s0 s2 _ _ (inside_then s0 s1 s2 _ _ refl c.in_ok-kept.ensures.inside c.in_ok-found.ensures.inside) c.from_residual-in_err-refuse-in-Err.ensures.0
+    inside_err (inside_then c.in_ok-kept.ensures.inside c.in_ok-found.ensures.inside) c.from_residual-in_err-refuse-in-Err.ensures.0
 
 pub returns-clause-inside : goal.returns-clause-inside
-returns-clause-inside g c =
-    let s0 = state g.S.Store c.args.tx.now.conn.now in
-    let s1 = state g.S.Store c.office_kept_at.new.tx.conn.now in
-    let s2 = state g.S.Store c.find.new.tx.conn.now in
-    inside_as s0 s2 _ _ (inside_then s0 s1 s2 _ _ refl c.in_ok-kept.ensures.inside c.in_ok-found.ensures.inside) (λ ok. refl)
+returns-clause-inside g c = inside_as (inside_then c.in_ok-kept.ensures.inside c.in_ok-found.ensures.inside)

@@ -1,4 +1,4 @@
-use Rattle.std.proofs.Common.{rules, ◌≡◌, sym, subst, arith}
+use Rattle.std.proofs.Common.{◌≡◌, ◌∙◌, sym, subst, arith}
 use Rattle.sqlite.specs.Held.{state}
 use Rattle.sqlite.specs.State.{HasCleanDisk, Survives}
 use Rattle.sql_rows.proofs.Whole.{crash_new}
@@ -11,7 +11,7 @@ returns-in-Err-clause-crash g c =
     let old = c.args.conn.now in
     let last = c.create_tables.new.tx.conn.now in
     let end = c.commit.new.self.0 in
-    let same : end ≡ c.conn-2-1.given.0 = search rules in
+    let same : end ≡ c.conn-2-1.given.0 = sym (c.conn-2-1.given.1 (sym (c.create_tables.ensures.same_reference ∙ c.transaction-tx.ensures.same_reference))) in
     let inside : HasCleanDisk (state g.S.Store last) → LeavesNew (state g.S.Store old) (state g.S.Store last).now.trees =
     λ clean none. let it = c.in_ok-create_tables.ensures.made clean (rw c.transaction-tx.ensures.begun none) in (it.1, it.2) in
     subst (λ h. Survives (state g.S.Store old) (state g.S.Store h) (LeavesNew (state g.S.Store old))) same
@@ -21,7 +21,7 @@ pub returns-in-Ok-clause-made : goal.returns-in-Ok-clause-made
 returns-in-Ok-clause-made g c clean none =
     let last = c.create_tables.new.tx.conn.now in
     let end = c.commit.new.self.0 in
-    let same : end ≡ c.conn-2-1.given.0 = search rules in
+    let same : end ≡ c.conn-2-1.given.0 = sym (c.conn-2-1.given.1 (sym (c.create_tables.ensures.same_reference ∙ c.transaction-tx.ensures.same_reference))) in
     let clean_end : HasCleanDisk (state g.S.Store end) = subst (λ h. HasCleanDisk (state g.S.Store h)) (sym same) clean in
     let clean_last : HasCleanDisk (state g.S.Store last) = omega (arith, clean_end, c.commit.ensures.survives.clean) in
     let made = c.in_ok-create_tables.ensures.made clean_last (rw c.transaction-tx.ensures.begun none) in
@@ -33,7 +33,7 @@ returns-in-Ok-clause-crash g c =
     let old = c.args.conn.now in
     let last = c.create_tables.new.tx.conn.now in
     let end = c.commit.new.self.0 in
-    let same : end ≡ c.conn-2-1.given.0 = search rules in
+    let same : end ≡ c.conn-2-1.given.0 = sym (c.conn-2-1.given.1 (sym (c.create_tables.ensures.same_reference ∙ c.transaction-tx.ensures.same_reference))) in
     let inside : HasCleanDisk (state g.S.Store last) → LeavesNew (state g.S.Store old) (state g.S.Store last).now.trees =
     λ clean none. let it = c.in_ok-create_tables.ensures.made clean (rw c.transaction-tx.ensures.begun none) in (it.1, it.2) in
     subst (λ h. Survives (state g.S.Store old) (state g.S.Store h) (LeavesNew (state g.S.Store old))) same

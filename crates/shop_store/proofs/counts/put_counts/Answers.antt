@@ -1,15 +1,13 @@
-use Rattle.std.proofs.Common.{refl}
 use Rattle.sql_rows.proofs.Inside.{on_ok_then}
-use Rattle.sql_rows.proofs.Stays.{inside_then, within_then, within_of, within_err}
-use Rattle.shop_store.proofs.Sequence.{clean_before}
+use Rattle.sql_rows.proofs.Stays.{clean_before, inside_then, within_err, within_of, within_then}
 use Rattle.shop_store.proofs.counts.put_counts.Goals as goal
 
 pub returns-clause-put : goal.returns-clause-put
 returns-clause-put g c clean =
-    let clean_4 = clean_before _ _ _ c.put_count-5.ensures.inside clean in
-    let clean_3 = clean_before _ _ _ c.put_count-4.ensures.inside clean_4 in
-    let clean_2 = clean_before _ _ _ c.put_count-3.ensures.inside clean_3 in
-    let clean_1 = clean_before _ _ _ c.put_count-2.ensures.inside clean_2 in
+    let clean_4 = clean_before c.put_count-5.ensures.inside clean in
+    let clean_3 = clean_before c.put_count-4.ensures.inside clean_4 in
+    let clean_2 = clean_before c.put_count-3.ensures.inside clean_3 in
+    let clean_1 = clean_before c.put_count-2.ensures.inside clean_2 in
     on_ok_then c.put_count-5.result
     (λ last counts books holds given.
     let one = c.in_ok-put_count.ensures.put clean_1 counts books holds tt in
@@ -21,16 +19,16 @@ returns-clause-put g c clean =
 
 pub returns-in_err-put_count-2-clause-inside : goal.returns-in_err-put_count-2-clause-inside
 returns-in_err-put_count-2-clause-inside g c =
-    inside_then _ _ _ _ _ refl c.in_ok-put_count.ensures.inside (within_err _ _ _ _ (within_of _ _ _ c.put_count-2.ensures.inside) c.from_residual-in_err-put_count-2.ensures.0)
+    inside_then c.in_ok-put_count.ensures.inside (within_err (within_of c.put_count-2.ensures.inside) c.from_residual-in_err-put_count-2.ensures.0)
 
 pub returns-in_err-put_count-3-clause-inside : goal.returns-in_err-put_count-3-clause-inside
 returns-in_err-put_count-3-clause-inside g c =
-    inside_then _ _ _ _ _ refl c.in_ok-put_count.ensures.inside (within_then _ _ _ _ _ refl (within_of _ _ _ c.in_ok-put_count-2.ensures.inside) (within_err _ _ _ _ (within_of _ _ _ c.put_count-3.ensures.inside) c.from_residual-in_err-put_count-3.ensures.0))
+    inside_then c.in_ok-put_count.ensures.inside (within_then (within_of c.in_ok-put_count-2.ensures.inside) (within_err (within_of c.put_count-3.ensures.inside) c.from_residual-in_err-put_count-3.ensures.0))
 
 pub returns-in_err-put_count-4-clause-inside : goal.returns-in_err-put_count-4-clause-inside
 returns-in_err-put_count-4-clause-inside g c =
-    inside_then _ _ _ _ _ refl c.in_ok-put_count.ensures.inside (within_then _ _ _ _ _ refl (within_of _ _ _ c.in_ok-put_count-2.ensures.inside) (within_then _ _ _ _ _ refl (within_of _ _ _ c.in_ok-put_count-3.ensures.inside) (within_err _ _ _ _ (within_of _ _ _ c.put_count-4.ensures.inside) c.from_residual-in_err-put_count-4.ensures.0)))
+    inside_then c.in_ok-put_count.ensures.inside (within_then (within_of c.in_ok-put_count-2.ensures.inside) (within_then (within_of c.in_ok-put_count-3.ensures.inside) (within_err (within_of c.put_count-4.ensures.inside) c.from_residual-in_err-put_count-4.ensures.0)))
 
 pub returns-clause-inside : goal.returns-clause-inside
 returns-clause-inside g c =
-    inside_then _ _ _ _ _ refl c.in_ok-put_count.ensures.inside (within_then _ _ _ _ _ refl (within_of _ _ _ c.in_ok-put_count-2.ensures.inside) (within_then _ _ _ _ _ refl (within_of _ _ _ c.in_ok-put_count-3.ensures.inside) (within_then _ _ _ _ _ refl (within_of _ _ _ c.in_ok-put_count-4.ensures.inside) (within_of _ _ _ c.put_count-5.ensures.inside))))
+    inside_then c.in_ok-put_count.ensures.inside (within_then (within_of c.in_ok-put_count-2.ensures.inside) (within_then (within_of c.in_ok-put_count-3.ensures.inside) (within_then (within_of c.in_ok-put_count-4.ensures.inside) (within_of c.put_count-5.ensures.inside))))

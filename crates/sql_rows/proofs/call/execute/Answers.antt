@@ -4,6 +4,7 @@ use Rattle.sql_rows.proofs.call.execute.Goals as goal
 
 pub returns-in-Ok-clause-inside : goal.returns-in-Ok-clause-inside
 returns-in-Ok-clause-inside g c = record {
+  same_reference = c.execute.ensures.same_reference;
   survives = c.execute.ensures.survives;
   kept = λ clean inside. keeps_shown _ _ (rw c.in-Ok.is at (c.execute.ensures.runs clean inside)).1;
   lives = λ clean inside. (rw c.in-Ok.is at (c.execute.ensures.runs clean inside)).1;
@@ -15,6 +16,7 @@ returns-in-Ok-clause-ran g c clean =
 
 pub returns-in-Err-clause-inside : goal.returns-in-Err-clause-inside
 returns-in-Err-clause-inside g c = record {
+  same_reference = c.execute.ensures.same_reference;
   survives = c.execute.ensures.survives;
   kept = λ clean inside. stopped_inside g.S.Store c.args.tx.now.conn.now c.execute.new.self.conn.now _ _ c.execute.result c.execute.ensures.ended (c.execute.ensures.runs clean) c.in-Err.failure c.in-Err.is;
   lives = λ clean inside. tt;

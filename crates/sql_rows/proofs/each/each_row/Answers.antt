@@ -1,7 +1,7 @@
 use Rattle.std.proofs.Common.{List, [], arith, rules, inl, OnOk}
 use Rattle.sqlite_value.specs.Order.{Row}
 use Rattle.sqlite.specs.Held.{state}
-use Rattle.sqlite.specs.State.{HasCleanDisk, Survives, Shown, CommitsShowing}
+use Rattle.sqlite.specs.State.{HasCleanDisk, Survives, Shown}
 use Rattle.sqlite.specs.Values.{bound}
 use Rattle.sql_rows.proofs.Inside.{keeps_unqueried, on_ok_then}
 use Rattle.sql_rows.proofs.Stays.{survives_more}
@@ -9,18 +9,17 @@ use Rattle.sql_rows.proofs.EachLemmas.{shown_from}
 use Rattle.sql_rows.proofs.TextLemmas.{begun_query, commits_nothing}
 use Rattle.sql_rows.proofs.each.each_row.Goals as goal
 
-pub returns-in-Err-clause-kept : goal.returns-in-Err-clause-kept
-returns-in-Err-clause-kept g c clean =
-    let refused = rw c.in-Err.is at c.query.follows.holds-at-none in
-    keeps_unqueried c.args.text.now (bound c.args.params.now) _ _ c.in-Err.error (inl (refused.err clean))
-
-pub returns-in-Err-clause-survives : goal.returns-in-Err-clause-survives
-returns-in-Err-clause-survives g c =
+pub returns-in-Err-clause-same : goal.returns-in-Err-clause-same
+returns-in-Err-clause-same g c =
     let old = state g.S.Store c.args.conn.now in
     let new = state g.S.Store c.query.follows.lender-at-none in
     let held = c.query.follows.holds-at-none in
-    let kept : Survives old new (CommitsShowing c.args.text.now (bound c.args.params.now) old) = search rules in
-    commits_nothing c.args.text.now (bound c.args.params.now) old new c.requires kept
+    let refused = rw c.in-Err.is at held in record {
+      survives = commits_nothing c.args.text.now (bound c.args.params.now) old new c.requires refused.survives;
+      mode = refused.mode;
+      kept = λ clean. keeps_unqueried c.args.text.now (bound c.args.params.now) _ _ c.in-Err.error (inl (refused.err clean));
+      same = λ clean. tt;
+    }
 
 pub returns-clause-took : goal.returns-clause-took
 returns-clause-took g c clean =
@@ -38,10 +37,10 @@ returns-clause-took g c clean =
     (it.0, shown_from text params old (state g.S.Store begun) (state g.S.Store now) it.0 c.requires start.1 it.1, it.2)) (c.take_all.ensures.took late) in
     search rules
 
-pub returns-clause-survives : goal.returns-clause-survives
-returns-clause-survives g c =
+pub returns-clause-same : goal.returns-clause-same
+returns-clause-same g c =
     let old = state g.S.Store c.args.conn.now in
     let begun = state g.S.Store c.in-Ok.rows.conn.now in
     let now = state g.S.Store c.take_all.new.rows.conn.now in
     let all : Survives old now (λ _. ⊥) = survives_more old begun now (commits_nothing c.args.text.now (bound c.args.params.now) old begun c.requires c.in-Ok.ensures.survives) c.take_all.ensures.survives in
-    search rules
+    record { survives = search rules; mode = search rules; kept = search rules; same = search rules }

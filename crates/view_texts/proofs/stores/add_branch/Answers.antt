@@ -1,7 +1,8 @@
 use Rattle.std.proofs.Common.{◌∙◌, sym, ap, option_map}
 use Rattle.sqlite.specs.Held.{state}
+use Rattle.sql_rows.proofs.Stays.{same_as, same_err, same_then, was_clean}
 use Rattle.reply_bodies.specs.Sales.{seen_store}
-use Rattle.branch_looks.proofs.Unchanged.{holds_still, was_clean}
+use Rattle.branch_looks.proofs.Unchanged.{holds_still}
 use Rattle.branch_looks.proofs.SalesLists.{absent_added, is_there}
 use Rattle.view_texts.proofs.stores.add_branch.Goals as goal
 
@@ -11,12 +12,20 @@ returns-in_default-clause-added g c clean books values holds held =
 
 pub returns-clause-added : goal.returns-clause-added
 returns-clause-added g c clean books values holds held =
-    let mid = state g.S.Store c.find_store.new.conn in
-    let early = was_clean mid (state g.S.Store c.rental_sum.new.conn) c.rental_sum.ensures.survives clean in
-    let still = holds_still (state g.S.Store c.args.conn.now) mid books (c.in_ok-row.ensures.same early) holds in
+    let early = was_clean c.rental_sum.ensures.same clean in
+    let still = holds_still (state g.S.Store c.args.conn.now) (state g.S.Store c.find_store.new.conn) books (c.in_ok-row.ensures.same.same early) holds in
     c.in_ok-add_sold.ensures books c.args.branch values (sym (ap (option_map seen_store) c.in-Some.is) ∙ c.in_ok-row.ensures.row early books holds) (c.in_ok-sum.ensures.sum clean books still held)
 
 pub returns-clause-there : goal.returns-clause-there
 returns-clause-there g c clean books holds =
-    let early = was_clean (state g.S.Store c.find_store.new.conn) (state g.S.Store c.rental_sum.new.conn) c.rental_sum.ensures.survives clean in
+    let early = was_clean c.rental_sum.ensures.same clean in
     is_there books c.args.branch (seen_store c.in-Some.row) (sym (ap (option_map seen_store) c.in-Some.is) ∙ c.in_ok-row.ensures.row early books holds)
+
+pub returns-in_err-sum-clause-same : goal.returns-in_err-sum-clause-same
+returns-in_err-sum-clause-same g c = same_err (same_then c.in_ok-row.ensures.same c.rental_sum.ensures.same) c.from_residual-in_err-sum.ensures.0
+
+pub returns-in_err-add_sold-clause-same : goal.returns-in_err-add_sold-clause-same
+returns-in_err-add_sold-clause-same g c = same_as (same_then c.in_ok-row.ensures.same c.in_ok-sum.ensures.same)
+
+pub returns-clause-same : goal.returns-clause-same
+returns-clause-same g c = same_as (same_then c.in_ok-row.ensures.same c.in_ok-sum.ensures.same)
