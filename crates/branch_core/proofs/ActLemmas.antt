@@ -62,7 +62,6 @@ seen found it catalogue shop x is copy = ap (option_map seen_copy) (sym is) ∙ 
 -- ---- whether a customer may rent
 
 module _ (rules : Rules) (b : ℕ) (catalogue : Catalogue) (shop : Shop) (moment : Moment) (c : ℕ) (active : Bool) where
-
   pub active_set : (was : Bool) → Some was ≡ active_at c shop → same_flag was active ≡ false → Some Accepted ≡ Some (first (act_refusals rules b catalogue shop moment (model.SetActive c active)))
   active_set was is same = let one = found_some (λ (it : Customer). it.active) c shop.customers was is in rw (one.1, one.2, same) refl
 
