@@ -15,7 +15,7 @@ ghost use Rattle.branch_looks.specs.Commands.{as_listed, found_row, told_row, ha
 
 use crate::finds::{find_active, find_copy, find_out, find_rental};
 use branch_core::{Found, StockFound};
-use shop_ledger::{CountKind, count_of};
+use shop_ledger::{CountKind, Counter, count_of};
 use shop_store::{film_at, has_city, has_lot, has_rental, staff_at};
 use shop_types::{
     Act, BadCsv, BranchNo, CityNo, Command, CopyNo, CustomerNo, KeptFound, Moment, RentalNo,
@@ -99,7 +99,7 @@ pub fn find_for_command<'a, S: Alter>(
     ensures within { IfOk result (λ found. IsWithin found) }
 {
     let named = named_in(&command.act);
-    let keys = fitting(count_of(tx, branch, CountKind::Kept)?)?;
+    let keys = fitting(count_of(tx, Counter::Of(branch, CountKind::Kept))?)?;
     let staff = staff_at(tx, command.staff)?;
     let has_city = find_city(tx, named.city)?;
     let customer = find_customer(tx, branch, named.customer)?;
@@ -215,7 +215,7 @@ fn find_import<S: Alter>(
             stock: Ok(Vec::new(alloc)),
         });
     };
-    let copies = fitting(count_of(tx, branch, CountKind::Copies)?)?;
+    let copies = fitting(count_of(tx, Counter::Of(branch, CountKind::Copies))?)?;
     let has_lot = has_lot(tx, branch, lot)?;
     let stock = find_stock(alloc, tx, file)?;
     Ok(ImportFound {

@@ -14,7 +14,7 @@ ghost use Rattle.branch_looks.specs.Finds.{AreSmall, AreSummed, one_paid, passes
 
 use crate::balances::paid_by;
 use balance_rule::{is_on, last_month};
-use shop_ledger::{CountKind, PaymentRow, count_of, payments_between};
+use shop_ledger::{CountKind, Counter, PaymentRow, count_of, payments_between};
 use shop_types::{Amount, BranchNo, CustomerNo, Moment};
 use sql_rows::StoreFault;
 use sqlite::{Alter, Transaction};
@@ -46,7 +46,7 @@ pub fn find_rewarded<S: Alter>(
         return Ok(Vec::new(alloc));
     };
     let (start, end) = last_month_bounds(at);
-    let customers = count_of(tx, branch, CountKind::Customers)?;
+    let customers = count_of(tx, Counter::Of(branch, CountKind::Customers))?;
     let rows = payments_between(tx, alloc, branch, start, end)?;
     if 1_000_000 < customers || 1_000_000 < rows.len() {
         return Err(StoreFault::Failed);

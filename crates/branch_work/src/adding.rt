@@ -20,8 +20,8 @@ use reply_bodies::{
     active_text, new_customer_text, payment_text, rental_text, returned_text, scrapped_text,
 };
 use shop_ledger::{
-    CountKind, PaymentRow, drop_out, put_kept, put_out, put_payment, raise_count, set_last,
-    take_number,
+    CountKind, Counter, Owner, PaymentRow, drop_out, put_kept, put_out, put_payment, set_last,
+    take_numbers,
 };
 use shop_store::{
     CopyState, CustomerRow, RentalRow, put_customer, put_rental, set_active, set_returned,
@@ -75,8 +75,8 @@ pub fn keep<S: Alter>(
         → OnOk result ((books : books.Books) → Holds (state S.Store tx.old.conn.now) books → CountsOnce branch CountKind.Kept (counts_of books)
         → Holds (state S.Store tx.new.conn.now) (with_kept branch (seen_command command.now) reply.now books)) }
 {
-    raise_count(tx, branch, CountKind::Kept, 1)?;
-    put_kept(tx, branch, &command.key, form, reply)?;
+    take_numbers(tx, Counter::Of(branch, CountKind::Kept), 1)?;
+    put_kept(tx, Owner::Branch(branch), &command.key, form, reply)?;
     set_last(tx, branch, command.at)
 }
 
@@ -92,7 +92,7 @@ fn next_number<const KIND: u8, S: Alter>(
         (raise branch (kind_number kind) 1)
         (λ counts. map (λ it. it.last + 1) (filter (is_count branch (kind_number kind)) counts.counters) ≡ number ∷ [])) }
 {
-    let number = fitting(take_number(tx, branch, kind)?)?;
+    let number = fitting(take_numbers(tx, Counter::Of(branch, kind), 1)?)?;
     match RowNumber::new(number) {
         Some(number) => Ok(number),
         None => Err(StoreFault::Failed),

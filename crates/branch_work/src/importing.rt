@@ -15,7 +15,7 @@ ghost use Rattle.branch_work.specs.Added.{Makes, copies_from, import_text, with_
 use branch_core::{StockFound, copies_in};
 use branch_looks::fitting;
 use reply_bodies::new_copies_text;
-use shop_ledger::{CountKind, take_numbers};
+use shop_ledger::{CountKind, Counter, take_numbers};
 use shop_store::{CopyRow, CopyState, Mark, put_copy, put_lot};
 use shop_types::{BranchNo, CopyNo, FilmNo, LotName, NoMemory};
 use sql_rows::StoreFault;
@@ -37,7 +37,7 @@ pub fn import<S: Alter>(
         (string_bytes text) (λ books. import_text (length (films_of stock.now)) (next branch books.copies))) }
 {
     let count = copies_in(stock);
-    let last = fitting(take_numbers(tx, branch, CountKind::Copies, count)?)?;
+    let last = fitting(take_numbers(tx, Counter::Of(branch, CountKind::Copies), count)?)?;
     let first = first_of(last, count)?;
     let Ok(copies) = new_copies(alloc, branch, first, stock) else {
         return Err(StoreFault::Memory);

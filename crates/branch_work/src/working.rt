@@ -20,7 +20,7 @@ ghost use Rattle.branch_work.specs.Works.{Works, WorksFor, WorksBy, IsAdded};
 use crate::adding::{add_rows, keep};
 use branch_core::{Change, Found, Rows, decide};
 use branch_looks::{find_for_command, look};
-use shop_ledger::{kept_at, kept_found, last_at};
+use shop_ledger::{Owner, kept_at, kept_found, last_at};
 use shop_schema::{command_form, command_values};
 use shop_types::{BranchNo, Command, Limits, Moment, Refusal, Reply, Request, View};
 use sql_rows::{Bytes, StoreFault};
@@ -86,7 +86,7 @@ fn act<S: Alter>(
         (state S.Store tx.new.conn.now)) }
 {
     let form = form_of(alloc, command)?;
-    let kept = kept_at(tx, branch, &command.key)?;
+    let kept = kept_at(tx, Owner::Branch(branch), &command.key)?;
     let found = find_for_command(
         alloc,
         tx,

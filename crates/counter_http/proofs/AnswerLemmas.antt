@@ -1,5 +1,6 @@
 -- What may be answered to a message.
-use Rattle.std.proofs.Common.{◌≡◌, inl, refl, sym, subst, ap, ◌∙◌, List, ℕ, true, false, None, Some, Option}
+use Rattle.std.proofs.Common.{◌≡◌, inl, refl, sym, subst, ap, ◌∙◌, List, ℕ, true, false, None, Some, Option, Result, Ok, Err}
+use Rattle.std.specs.Prelude.{IfOk}
 use Rattle.http_messages.specs.Message.{Message}
 use Rattle.shop_model.specs.Values.{Rules}
 use Rattle.shop_model.specs.Refusals.{Refusal, NoCounter, Decision, Memory, StoreFailed}
@@ -12,7 +13,9 @@ use Rattle.shop_model.proofs.Callers.{known_same}
 use Rattle.shop_types.specs.declared.refusal.Refusal.{Refusal as Told}
 use Rattle.shop_types.specs.Seen.{seen_refusal}
 use Rattle.counter_routes.specs.Words.{Meaning}
-use Rattle.counter_routes.specs.Readings.{reading_of}
+use Rattle.counter_routes.specs.Readings.{Reads, reading_of}
+use Rattle.counter_routes.specs.declared.asked.Reading.{Reading}
+use Rattle.counter_routes.specs.declared.asked.Reading.TheVariants.{Asked, Refused}
 use Rattle.chain_engine.specs.Holding.{Holding}
 use Rattle.branch_work.specs.Rules.{rules_of}
 use Rattle.chain_engine.specs.Chains.{Answers}
@@ -20,6 +23,7 @@ use Rattle.chain_engine.specs.Decisions.{IsStoreRefusalAt}
 use Rattle.chain_engine.proofs.Failures.{decided_fine}
 use Rattle.chain_engine.proofs.Requests.{no_failure, never, lacks_memory, store_refuses, fails, failed_same}
 use Rattle.counter_http.specs.Events.{known_token, sender_of, AnswersMessage, AnswersNobody}
+use Rattle.counter_http.specs.Reads.{AnswersRead}
 
 -- a text that is no request is told so, whoever sent it
 unread_reply : (rules : Rules) (meaning : Meaning) (message : Message) (caller : Caller) (d : Refusal) (books : Books)
@@ -102,3 +106,14 @@ asked_answers meaning message caller request answer old mid new same who what an
     let first : P old caller request = subst (λ (h : Holding). P h caller request) same answers in
     let second : P old caller (reading_of meaning message caller) = subst (λ (r : Request). P old caller r) what first in
     subst (λ (c : Caller). P old c (reading_of meaning message c)) who second
+
+-- so by what was read the message is answered, where the chain that told the caller hadn't failed
+pub read_answers : {E : Type 0} (meaning : Meaning) (message : Message) (caller : Caller) (read : Result Reading E) (answer : Answer) (old mid new : Holding)
+    → IfOk read (λ it. Reads it (reading_of meaning message caller)) → caller ≡ sender_of message old → mid ≡ old → old.is_failed ≡ false
+    → AnswersRead caller read answer mid new → AnswersMessage meaning message answer old new
+read_answers meaning message caller (Ok (Asked asked)) answer old mid new reads who same fine answers = asked_answers meaning message caller _ answer old mid new same who reads answers
+read_answers meaning message caller (Ok (Refused refusal)) answer old mid new reads who same fine answers =
+    let what : reading_of meaning message (sender_of message old) ≡ Unread reads.0 = ap (reading_of meaning message) (sym who) ∙ reads.2 in
+    let is : answer ≡ problem_answer (Decision reads.0) = answers.0 ∙ ap problem_answer reads.1 in
+    subst (λ (a : Answer). AnswersMessage meaning message a old new) (sym is) (refused_answers meaning message reads.0 old new what (answers.1 ∙ same) fine)
+read_answers meaning message caller (Err e) answer old mid new reads who same fine answers = memory_answers meaning message answer old new answers.0 (answers.1 ∙ same) fine

@@ -1,5 +1,5 @@
 -- A branch is sent what its own machine says, so the same wherever it sees the same.
-use Rattle.std.proofs.Common.{◌≡◌, ◌∙◌, ap, sym, map, ℕ, List}
+use Rattle.std.proofs.Common.{◌∙◌, ap, sym, map, List}
 use Rattle.std.specs.List.{flat_map}
 use Rattle.shop_values.specs.LimitValues.{Limits}
 use Rattle.shop_model.specs.Machine.{State, Input, replies}

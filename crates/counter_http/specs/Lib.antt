@@ -2,3 +2,4 @@ pub mod Events
 pub mod Exchanges
 pub mod Branches
 pub mod Served
+pub mod Reads

@@ -5,12 +5,14 @@ ghost use Rattle.shop_types.specs.Replies.{seen_reply};
 ghost use Rattle.shop_model.specs.Books.{Books};
 ghost use Rattle.chain_engine.specs.Holding.{holding};
 ghost use Rattle.chain_engine.specs.Chains.{Takes};
+ghost use Rattle.shop_types.specs.Seen.{seen_caller};
 ghost use Rattle.counter_http.specs.Events.{known_token, AnswersNobody, AnswersMessage};
+ghost use Rattle.counter_http.specs.Reads.{HasFixedBody, AnswersRead};
 
 use chain_engine::Chain;
 use counter_routes::{Reading, Routes};
 use http_messages::Request;
-use shop_types::{OfficeWords, Refusal, Reply, Token};
+use shop_types::{Caller, NoMemory, OfficeWords, Refusal, Reply, Token};
 use sqlite::Alter;
 use std::alloc::Global;
 
@@ -35,6 +37,26 @@ fn answer_nobody<S: Alter>(chain: &Chain<S>) -> Reply
     }
 }
 
+/// The chain's reply to what a caller's message asks, as it was read.
+fn answer_read<S: Alter>(
+    chain: &mut Chain<S>,
+    caller: &Caller,
+    read: Result<Reading, NoMemory>,
+) -> Reply
+    requires { HasFixedBody read }
+    ensures { Takes S.Store chain.old chain.new (AnswersRead (seen_caller caller.now) read (seen_reply result)) }
+{
+    match read {
+        Ok(Reading::Asked(request)) => {
+            let reply = chain.answer(caller, &request);
+            drop(request);
+            reply
+        }
+        Ok(Reading::Refused(refusal)) => Reply::refused(refusal),
+        Err(_) => Reply::refused(Refusal::Memory),
+    }
+}
+
 /// The chain's reply to a message. Who sent it is looked for before what it asks, and what the store lacks is answered as such.
 pub fn answer<O: OfficeWords, S: Alter>(
     alloc: Global,
@@ -48,17 +70,11 @@ pub fn answer<O: OfficeWords, S: Alter>(
     let Some(token) = token_of(message) else {
         return answer_nobody(chain);
     };
-    let caller = match chain.caller(&token) {
-        Ok(caller) => caller,
-        Err(refusal) => return Reply::refused(refusal),
-    };
-    match routes.read(alloc, words, message, caller) {
-        Ok(Reading::Asked(request)) => {
-            let reply = chain.answer(&caller, &request);
-            drop(request);
-            reply
+    match chain.caller(&token) {
+        Ok(caller) => {
+            let read = routes.read(alloc, words, message, caller);
+            answer_read(chain, &caller, read)
         }
-        Ok(Reading::Refused(refusal)) => Reply::refused(refusal),
-        Err(_) => Reply::refused(Refusal::Memory),
+        Err(refusal) => Reply::refused(refusal),
     }
 }

@@ -12,13 +12,16 @@ ghost use Rattle.shop_schema.specs.Forms.{office_command_form};
 ghost use Rattle.reply_bodies.specs.Bodies.{office_members};
 ghost use Rattle.office_work.specs.Added.{IsNumbered, IsKept, IsAdded};
 
-use office_rows::{new_actor, new_branch, new_city, new_film, new_staff};
+use office_rows::{
+    new_actor, new_branch, new_city, new_film, new_staff, set_gone, set_manager, set_rate,
+    set_withdrawn,
+};
 use reply_bodies::office_text;
-use shop_ledger::{put_office_kept, raise_office_keys};
+use shop_ledger::{Counter, Owner, put_kept, take_numbers};
 use shop_store::{
     last_actor, last_branch, last_category, last_city, last_country, last_film, last_language,
     last_staff, put_actor, put_branch, put_cast, put_category, put_city, put_country, put_counts,
-    put_film, put_language, put_staff, set_gone, set_manager, set_rate, set_withdrawn,
+    put_film, put_language, put_staff,
 };
 use shop_types::{Branch, OfficeAct, OfficeCommand, Reply, RowNumber};
 use sql_rows::{Bytes, StoreFault};
@@ -65,8 +68,9 @@ fn keep<S: Alter>(
     ensures kept { HasCleanDisk (state S.Store tx.new.conn.now)
         → OnOk result (IsKept (seen_office command.now) reply.now (state S.Store tx.old.conn.now) (state S.Store tx.new.conn.now)) }
 {
-    put_office_kept(tx, &command.key, form, reply)?;
-    raise_office_keys(tx)
+    put_kept(tx, Owner::Office, &command.key, form, reply)?;
+    take_numbers(tx, Counter::OfficeKeys, 1)?;
+    Ok(())
 }
 
 /// Writes the rows of an act, and gives the number of its new row, or 0 where it has none.

@@ -11,7 +11,7 @@ ghost use Rattle.catalogue_core.specs.Shares.{Shares, seen_branch_found};
 ghost use Rattle.office_work.specs.Found.{shared_of, IsKeptFor, FindsFor};
 
 use catalogue_core::{BranchFound, SharedRows};
-use shop_ledger::office_keys;
+use shop_ledger::{Counter, count_of};
 use shop_store::{
     branch_at, film_at, has_actor, has_cast, has_category, has_city, has_country, has_language,
     has_token, is_category, is_country, is_language, office_token, staff_at,
@@ -42,7 +42,7 @@ pub(crate) fn find<S: Alter>(
         (λ found books. (kept : _)
         → IsKeptFor (seen_office command.now) kept books → Shares books.catalogue (seen_office command.now) (shared_of kept found)) }
 {
-    let keys = office_keys(tx)?;
+    let keys = count_of(tx, Counter::OfficeKeys)?;
     let token = office_token(tx)?;
     let rows = find_rows(tx, &command.act)?;
     Ok(SharedFound {

@@ -18,7 +18,7 @@ ghost use Rattle.office_work.specs.Works.{Works};
 use crate::adding::add;
 use crate::finding::find;
 use catalogue_core::{OfficeChange, Shared, decide_office};
-use shop_ledger::{kept_found, office_kept_at};
+use shop_ledger::{Owner, kept_at, kept_found};
 use shop_schema::office_form;
 use shop_types::{Limits, OfficeCommand, Refusal, Reply};
 use sql_rows::{Bytes, StoreFault};
@@ -36,7 +36,7 @@ pub fn work<S: Alter>(
     ensures works { HasCleanDisk (state S.Store tx.new.conn.now) → IfOk result (λ done. (rules : model.Rules) → rules.commands ≡ limits.commands
         → Works rules (seen_office command.now) (seen_reply done.0) done.1 (state S.Store tx.old.conn.now) (state S.Store tx.new.conn.now)) }
 {
-    let kept = office_kept_at(tx, &command.key)?;
+    let kept = kept_at(tx, Owner::Office, &command.key)?;
     let form = form_of(alloc, command)?;
     let found = find(tx, command)?;
     let shared = Shared {

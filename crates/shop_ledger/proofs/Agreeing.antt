@@ -6,11 +6,11 @@ use Rattle.std.proofs.lemmas.Bool.Decides.{nat_tests}
 use Rattle.std.proofs.lemmas.List.Elements.{filter-append}
 use Rattle.std.proofs.lemmas.List.{length-append}
 use Rattle.shop_model.specs.Calendar.{Moment}
-use Rattle.shop_model.specs.Rows.{Row, Owned, is_of, is_row, of, owned_by, numbered, put, next, set_row}
+use Rattle.shop_model.specs.Rows.{Row, Owned, is_of, is_row, of, owned_by, numbered, set_row}
 use Rattle.shop_model.specs.Values.{Branch, Customer, Payment, Rental, Text}
 use Rattle.shop_model.specs.Shop.{Kept}
 use Rattle.shop_model.specs.Books.{Books, BookCopy}
-use Rattle.shop_model.proofs.RowLemmas.{same_if, more_yes, more_no, length_map, put_own, put_other}
+use Rattle.shop_model.proofs.RowLemmas.{more_yes, more_no, length_map}
 use Rattle.shop_schema.specs.Counts.{Count, is_count, count_in, count_of, branch_counts, office_count, counts_of, raise, raised, is_open, out_of, is_out_by, put_out, drop_out}
 use Rattle.shop_ledger.specs.declared.counts.CountKind.{CountKind}
 use Rattle.shop_ledger.specs.declared.counts.CountKind.TheVariants as kind

@@ -120,12 +120,6 @@ tallies_taken old new b kind m few rows h row n some is counts books holds given
         ap (λ k. k ∷ []) (same_number _ _ (sym (plus_is c.last m all.0 few) ∙ ap (λ r. column r 0) same ∙ is))
     told (c ∷ d ∷ more) all few_found e = absurd (omega (arith, few_found))
 
--- a count that is raised, of which nothing is told
-pub tallies_raised : (old new : State) (b : ℕ) (kind : CountKind) (m n : ℕ)
-    → Tallies old new (CountsOnce b kind) (raise b (kind_number kind) m) (λ counts. map (λ (it : Count). it.last + m) (filter (is_count b (kind_number kind)) counts.counters) ≡ n ∷ [])
-    → Tallies old new (CountsOnce b kind) (raise b (kind_number kind) m) (λ _. ⊤)
-tallies_raised old new b kind m n taken counts books holds given = ((taken counts books holds given).0, tt)
-
 -- ---- how many rows there are
 
 pub read_count : (old new : State) (b k : ℕ) (rows : List sql.Row) → Shown select_count (number_value b ∷ number_value k ∷ []) old new rows → 1 ≤ b

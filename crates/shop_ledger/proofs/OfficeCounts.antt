@@ -26,9 +26,12 @@ use Rattle.shop_schema.specs.Shop.{StandsFor, Holds, HoldsWith, Reads}
 use Rattle.shop_schema.proofs.Lists.{numbered_push, flat_map_push}
 use Rattle.shop_schema.proofs.Values.{all_push}
 use Rattle.shop_ledger.specs.declared.counts.CountKind.TheVariants as kind
-use Rattle.shop_ledger.specs.Counted.{CountsOnce, office_grown, office_counted}
+use Rattle.shop_ledger.specs.declared.counts.Counter.{Counter}
+use Rattle.shop_ledger.specs.declared.counts.Counter.TheVariants.{OfficeKeys, Of}
+use Rattle.shop_ledger.specs.Counted.{kind_number, caller_of, kind_of, counted, IsCounter, CountsOnce, office_grown, office_counted}
 use Rattle.shop_ledger.proofs.CountTexts.{select_count, select_count_means, shows_counts}
 use Rattle.shop_ledger.proofs.CountsOf.{held_once, agreed}
+use Rattle.shop_ledger.proofs.CountLemmas.{read_count}
 
 -- ---- no count of a branch is head office's
 
@@ -61,7 +64,7 @@ own_counts books = ap (λ l. office_count books ∷ l) (none_picked (flat_map (b
 same_number : (m n : ℕ) → number_value m ≡ number_value n → m ≡ n
 same_number m n h = cc
 
-pub read_office_count : (old new : State) (rows : List sql.Row) → Shown select_count (number_value 0 ∷ number_value 4 ∷ []) old new rows
+read_office_count : (old new : State) (rows : List sql.Row) → Shown select_count (number_value 0 ∷ number_value 4 ∷ []) old new rows
     → (row : sql.Row) (n : ℕ) → slice_get rows 0 ≡ Some row → column row 0 ≡ number_value n → Reads old new (λ books. n ≡ length books.catalogue.kept)
 read_office_count old new rows h row n some is books holds held =
     let P : sql.Row → Type 0 = λ vs. vs ≡ number_value (length books.catalogue.kept) ∷ [] in
@@ -71,6 +74,12 @@ read_office_count old new rows h row n some is books holds held =
       still_holds shop_schema StandsFor select_count (number_value 0 ∷ number_value 4 ∷ []) old new select_count_means.plain rows h books holds,
       same_number _ _ (sym is ∙ ap (λ r. column r 0) one),
     )
+
+pub read_counted : (counter : Counter) → IsCounter counter → (old new : State) (rows : List sql.Row)
+    → Shown select_count (number_value (caller_of counter) ∷ number_value (kind_number (kind_of counter)) ∷ []) old new rows
+    → (row : sql.Row) (n : ℕ) → slice_get rows 0 ≡ Some row → column row 0 ≡ number_value n → Reads old new (λ books. n ≡ counted counter books)
+read_counted OfficeKeys is old new rows h = read_office_count old new rows h
+read_counted (Of b kind) low old new rows h = read_count old new b (kind_number kind) rows h low
 
 -- the books' own counts are such as one more is taken of
 pub office_once : (books : Books) → IsHeld books → CountsOnce 0 kind.Kept (counts_of books)

@@ -30,8 +30,10 @@ use Rattle.shop_schema.proofs.Stands.{stands_but}
 use Rattle.shop_schema.proofs.FirstRows.{first_none, first_some}
 use Rattle.shop_schema.proofs.Listed.{values}
 use Rattle.shop_schema.proofs.Different.{different_once}
-use Rattle.shop_ledger.specs.Seen.{stored_office_kept}
-use Rattle.shop_ledger.proofs.KeptTexts.{insert_kept, insert_kept_means, as_it_is, filter_append, select_kept, select_kept_means, of_key}
+use Rattle.shop_ledger.specs.declared.kept.Owner.{Owner}
+use Rattle.shop_ledger.specs.declared.kept.Owner.TheVariants as owner
+use Rattle.shop_ledger.specs.Seen.{stored_office_kept, owner_number, IsOwner, kept_under, Keeps}
+use Rattle.shop_ledger.proofs.KeptTexts.{insert_kept, insert_kept_means, puts_kept, read_kept, as_it_is, filter_append, select_kept, select_kept_means, of_key}
 
 module _ (old new : State) (command : OfficeCommand) (key form reply : List ℕ) where
   abbrev kept_row : OfficeKept
@@ -45,7 +47,7 @@ module _ (old new : State) (command : OfficeCommand) (key form reply : List ℕ)
       subst (λ (put : List sql.Row). HasRows 4 rows put)
       (append_assoc (map kept_columns kept) (map office_kept_columns office) (office_kept_columns kept_row ∷ []) ∙ ap (λ l. map kept_columns kept ++ l) (sym (map_push office_kept_columns office kept_row))) has
 
-  pub puts_office_kept : (count : ℕ) → command.key ≡ key → office_command_form command ≡ form → ExecutesInside 0 insert_kept (number_value 0 ∷ Text key ∷ Blob form ∷ Text reply ∷ []) old new (Ok count) → Writes old new (λ _. ⊤) with_row
+  puts_office_kept : (count : ℕ) → command.key ≡ key → office_command_form command ≡ form → ExecutesInside 0 insert_kept (number_value 0 ∷ Text key ∷ Blob form ∷ Text reply ∷ []) old new (Ok count) → Writes old new (λ _. ⊤) with_row
   puts_office_kept count is_key is_form h counts books holds given =
       let ran : ExecutesInside 0 insert_kept (office_kept_columns kept_row) old new (Ok count) = subst (λ (row : sql.Row). ExecutesInside 0 insert_kept row old new (Ok count)) (λ i. number_value 0 ∷ Text (sym is_key i) ∷ Blob (sym is_form i) ∷ Text reply ∷ []) h in
       let done = has_put shop_schema insert_kept 17 kept_table (values 4) 4 insert_kept_means (record { place = refl; uncounted = refl; unstamped = refl }) (office_kept_columns kept_row) (office_kept_columns kept_row) old new count ran refl refl refl (λ id. refl) holds.schema_is in
@@ -107,7 +109,7 @@ module _ (old new : State) (key : List ℕ) (rows : List sql.Row) (h : Shown sel
   still : (books : Books) → Holds old books → Holds new books
   still = still_holds shop_schema StandsFor select_kept (number_value 0 ∷ Text key ∷ []) old new select_kept_means.plain rows h
 
-  pub read_office_kept : (slice : List sql.Row) → slice ≡ rows
+  read_office_kept : (slice : List sql.Row) → slice ≡ rows
       → (None ≡ slice_get slice 0 → Reads old new (λ books. None ≡ head (map stored_office_kept (filter (has_key key) books.catalogue.kept))))
       × ((row : sql.Row) (form reply : List ℕ) → Some row ≡ slice_get slice 0 → column row 0 ≡ Blob form → column row 1 ≡ Text reply
       → Reads old new (λ books. Some (form, reply) ≡ head (map stored_office_kept (filter (has_key key) books.catalogue.kept))))
@@ -126,3 +128,18 @@ module _ (old new : State) (key : List ℕ) (rows : List sql.Row) (h : Shown sel
           let one : form ≡ office_command_form it.command = cc in
           let other : reply ≡ it.reply = cc in
           (λ i. (one i, other i))
+
+-- ---- of head office or of a branch
+
+pub puts_owned : (owner : Owner) (old new : State) (key form reply : List ℕ) (count : ℕ)
+    → ExecutesInside 0 insert_kept (number_value (owner_number owner) ∷ Text key ∷ Blob form ∷ Text reply ∷ []) old new (Ok count) → Keeps owner key form reply old new
+puts_owned owner.Office old new key form reply count h = λ command is_key is_form. puts_office_kept old new command key form reply count is_key is_form h
+puts_owned (owner.Branch b) old new key form reply count h = λ command is_key is_form. puts_kept old new b command key form reply count is_key is_form h
+
+pub read_owned : (owner : Owner) → IsOwner owner → (old new : State) (key : List ℕ) (rows : List sql.Row) → Shown select_kept (number_value (owner_number owner) ∷ Text key ∷ []) old new rows
+    → (slice : List sql.Row) → slice ≡ rows
+    → (None ≡ slice_get slice 0 → Reads old new (λ books. None ≡ head (kept_under owner key books)))
+    × ((row : sql.Row) (form reply : List ℕ) → Some row ≡ slice_get slice 0 → column row 0 ≡ Blob form → column row 1 ≡ Text reply
+    → Reads old new (λ books. Some (form, reply) ≡ head (kept_under owner key books)))
+read_owned owner.Office is old new key rows h = read_office_kept old new key rows h
+read_owned (owner.Branch b) low old new key rows h = read_kept old new b key rows h low

@@ -1,11 +1,14 @@
 -- Counts of a branch's rows by their kinds, and copies that are out.
-use Rattle.std.specs.Prelude.{ℕ, ◌<◌, ◌^◌}
+use Rattle.std.specs.Prelude.{ℕ, ◌≤◌, ◌<◌, ◌^◌, ⊤, length}
 use Rattle.std.specs.List.{AllByRecursion}
 use Rattle.sql_rows.specs.Rows.{PicksOne}
 use Rattle.shop_model.specs.Values.{OfficeAct, AddCountry, AddCity, AddLanguage, AddCategory, AddActor, AddFilm, PriceFilm, WithdrawFilm, AddCast, AddBranch, AddStaff, StaffLeaves, SetManager}
-use Rattle.shop_schema.specs.Counts.{Counts, is_count, raise, with_branch, is_out_by, customers_kind, copies_kind, rentals_kind, payments_kind, kept_kind}
+use Rattle.shop_model.specs.Books.{Books}
+use Rattle.shop_schema.specs.Counts.{Counts, is_count, count_in, raise, with_branch, is_out_by, customers_kind, copies_kind, rentals_kind, payments_kind, kept_kind}
 use Rattle.shop_ledger.specs.declared.counts.CountKind.{CountKind}
 use Rattle.shop_ledger.specs.declared.counts.CountKind.TheVariants as kind
+use Rattle.shop_ledger.specs.declared.counts.Counter.{Counter}
+use Rattle.shop_ledger.specs.declared.counts.Counter.TheVariants.{OfficeKeys, Of}
 
 -- the number of the kind, as the table has it
 abbrev pub kind_number : CountKind → ℕ
@@ -14,6 +17,24 @@ kind_number kind.Copies = copies_kind
 kind_number kind.Rentals = rentals_kind
 kind_number kind.Payments = payments_kind
 kind_number kind.Kept = kept_kind
+
+-- whose the counter is, as the table has it: a branch's number, or 0 for head office
+abbrev pub caller_of : Counter → ℕ
+caller_of OfficeKeys = 0
+caller_of (Of b kind) = b
+
+abbrev pub kind_of : Counter → CountKind
+kind_of OfficeKeys = kind.Kept
+kind_of (Of b kind) = kind
+
+abbrev pub IsCounter : Counter → Type 0
+IsCounter OfficeKeys = ⊤
+IsCounter (Of b kind) = 1 ≤ b
+
+-- what it says of the books
+abbrev pub counted : Counter → Books → ℕ
+counted OfficeKeys books = length books.catalogue.kept
+counted (Of b kind) books = count_in (kind_number kind) b books
 
 -- the branch has at most one count of the kind, and no count is so great that one more is no number of 64 bits
 pub record CountsOnce (b : ℕ) (kind : CountKind) (counts : Counts) : Type 0 where

@@ -9,7 +9,7 @@ ghost use Rattle.shop_model.specs.Stock.{keeps_out};
 ghost use Rattle.shop_schema.specs.Calls.{Finds};
 ghost use Rattle.shop_schema.specs.Counts.{count_in, is_count, kept_kind, raise, put_out, drop_out};
 ghost use Rattle.shop_schema.specs.Shop.{Reads, Tallies};
-ghost use Rattle.shop_ledger.specs.Counted.{kind_number, CountsOnce, IsOutBy};
+ghost use Rattle.shop_ledger.specs.Counted.{kind_number, caller_of, kind_of, counted, IsCounter, CountsOnce, IsOutBy};
 ghost use Rattle.shop_ledger.specs.Seen.{TellsFirst};
 
 use shop_schema::row_number_at;
@@ -44,6 +44,38 @@ impl CountKind {
     }
 }
 
+/// A row of the table `counter`.
+#[derive(Clone, Copy)]
+pub enum Counter {
+    /// How many commands of head office are kept.
+    OfficeKeys,
+    /// How many rows of the kind the branch has.
+    Of(BranchNo, CountKind),
+}
+
+impl Counter {
+    /// Whose it is, as the table has it: a branch's number, or 0 for head office.
+    fn caller(&self) -> u32
+        ensures value { result ≡ caller_of self.now }
+        ensures real { IsCounter self.now }
+    {
+        match self {
+            Counter::OfficeKeys => 0,
+            Counter::Of(branch, _) => branch.get(),
+        }
+    }
+
+    /// What it counts, as the table has it.
+    fn kind(&self) -> u32
+        ensures { result ≡ kind_number (kind_of self.now) }
+    {
+        match self {
+            Counter::OfficeKeys => CountKind::Kept.number(),
+            Counter::Of(_, kind) => kind.number(),
+        }
+    }
+}
+
 /// The number in the first column of the first row. Where there is no row, the fault is `Failed`.
 fn first_number(rows: &[Row]) -> Result<u32, StoreFault>
     ensures { IfOk result (λ n. TellsFirst (λ row m. column row 0 ≡ number_value m) rows.now (Some n)) }
@@ -54,126 +86,41 @@ fn first_number(rows: &[Row]) -> Result<u32, StoreFault>
     }
 }
 
-/// How many rows of the kind a caller has: a branch by its number, or head office, which is 0. One row is read, however many there are.
-fn count_by<S: Alter>(
-    tx: &mut Transaction<'_, S>,
-    caller: u32,
-    kind: CountKind,
-) -> Result<u32, StoreFault>
+/// What the counter says. One row is read, however many it counts.
+pub fn count_of<S: Alter>(tx: &mut Transaction<'_, S>, counter: Counter) -> Result<u32, StoreFault>
     ensures inside { StaysInside S.Store tx.old.conn tx.new.conn result }
-    ensures branch { HasCleanDisk (state S.Store tx.new.conn.now) → 1 ≤ caller
-        → IfOk result (λ count. Reads (state S.Store tx.old.conn.now) (state S.Store tx.new.conn.now)
-        (λ books. count ≡ count_in (kind_number kind) caller books)) }
-    ensures office { HasCleanDisk (state S.Store tx.new.conn.now) → caller ≡ 0 → kind_number kind ≡ kept_kind
-        → IfOk result (λ count. Reads (state S.Store tx.old.conn.now) (state S.Store tx.new.conn.now) (λ books. count ≡ length books.catalogue.kept)) }
+    ensures count { Finds (state S.Store tx.old.conn.now) (state S.Store tx.new.conn.now) result (λ count books. count ≡ counted counter books) }
 {
     let rows = query(
         tx,
         "SELECT last FROM counter WHERE caller = ?1 AND kind = ?2",
-        &[caller.to_sql(), kind.number().to_sql()],
+        &[counter.caller().to_sql(), counter.kind().to_sql()],
     )?;
     first_number(rows.as_slice())
 }
 
-/// How many rows of the kind the branch has. One row is read, however many there are.
-pub fn count_of<S: Alter>(
+/// Raises the counter by so many, and tells what it says then. A counter that isn't there is a fault. After a fault the transaction may be rolled back.
+pub fn take_numbers<S: Alter>(
     tx: &mut Transaction<'_, S>,
-    branch: BranchNo,
-    kind: CountKind,
-) -> Result<u32, StoreFault>
-    ensures inside { StaysInside S.Store tx.old.conn tx.new.conn result }
-    ensures count { Finds (state S.Store tx.old.conn.now) (state S.Store tx.new.conn.now) result
-        (λ count books. count ≡ count_in (kind_number kind) branch books) }
-{
-    count_by(tx, branch.get(), kind)
-}
-
-/// How many commands of head office are kept. One row is read, however many there are.
-pub fn office_keys<S: Alter>(tx: &mut Transaction<'_, S>) -> Result<u32, StoreFault>
-    ensures inside { StaysInside S.Store tx.old.conn tx.new.conn result }
-    ensures count { Finds (state S.Store tx.old.conn.now) (state S.Store tx.new.conn.now) result
-        (λ count books. count ≡ length books.catalogue.kept) }
-{
-    count_by(tx, 0, CountKind::Kept)
-}
-
-/// Raises the branch's count of the kind by one, and tells it. A count that isn't there is a fault. After a fault the transaction may be rolled back.
-pub fn take_number<S: Alter>(
-    tx: &mut Transaction<'_, S>,
-    branch: BranchNo,
-    kind: CountKind,
-) -> Result<u32, StoreFault>
-    ensures inside { StaysInside S.Store tx.old.conn tx.new.conn result }
-    ensures taken { HasCleanDisk (state S.Store tx.new.conn.now)
-        → IfOk result (λ number. Tallies (state S.Store tx.old.conn.now) (state S.Store tx.new.conn.now) (CountsOnce branch kind)
-        (raise branch (kind_number kind) 1)
-        (λ counts. map (λ it. it.last + 1) (filter (is_count branch (kind_number kind)) counts.counters) ≡ number ∷ [])) }
-{
-    take_numbers(tx, branch, kind, 1)
-}
-
-/// Raises a caller's count of the kind by so many, and tells what it is then. The caller is a branch's number or 0 for head office.
-fn take_by<S: Alter>(
-    tx: &mut Transaction<'_, S>,
-    caller: u32,
-    kind: CountKind,
+    counter: Counter,
     more: u32,
 ) -> Result<u32, StoreFault>
     ensures inside { StaysInside S.Store tx.old.conn tx.new.conn result }
     ensures taken { HasCleanDisk (state S.Store tx.new.conn.now)
-        → IfOk result (λ last. Tallies (state S.Store tx.old.conn.now) (state S.Store tx.new.conn.now) (CountsOnce caller kind)
-        (raise caller (kind_number kind) more)
-        (λ counts. map (λ it. it.last + more) (filter (is_count caller (kind_number kind)) counts.counters) ≡ last ∷ [])) }
+        → IfOk result (λ last. Tallies (state S.Store tx.old.conn.now) (state S.Store tx.new.conn.now) (CountsOnce (caller_of counter) (kind_of counter))
+        (raise (caller_of counter) (kind_number (kind_of counter)) more)
+        (λ counts. map (λ it. it.last + more) (filter (is_count (caller_of counter) (kind_number (kind_of counter))) counts.counters) ≡ last ∷ [])) }
 {
     let rows = query(
         tx,
         "UPDATE counter SET last = last + ?3 WHERE caller = ?1 AND kind = ?2 RETURNING last",
-        &[caller.to_sql(), kind.number().to_sql(), more.to_sql()],
+        &[
+            counter.caller().to_sql(),
+            counter.kind().to_sql(),
+            more.to_sql(),
+        ],
     )?;
     first_number(rows.as_slice())
-}
-
-/// Raises the branch's count of the kind by so many, and tells what it is then. A count that isn't there is a fault. After a fault the transaction
-/// may be rolled back.
-pub fn take_numbers<S: Alter>(
-    tx: &mut Transaction<'_, S>,
-    branch: BranchNo,
-    kind: CountKind,
-    more: u32,
-) -> Result<u32, StoreFault>
-    ensures inside { StaysInside S.Store tx.old.conn tx.new.conn result }
-    ensures taken { HasCleanDisk (state S.Store tx.new.conn.now)
-        → IfOk result (λ last. Tallies (state S.Store tx.old.conn.now) (state S.Store tx.new.conn.now) (CountsOnce branch kind)
-        (raise branch (kind_number kind) more)
-        (λ counts. map (λ it. it.last + more) (filter (is_count branch (kind_number kind)) counts.counters) ≡ last ∷ [])) }
-{
-    take_by(tx, branch.get(), kind, more)
-}
-
-/// Raises the branch's count of the kind by so many. A count that isn't there is a fault. After a fault the transaction may be rolled back.
-pub fn raise_count<S: Alter>(
-    tx: &mut Transaction<'_, S>,
-    branch: BranchNo,
-    kind: CountKind,
-    more: u32,
-) -> Result<(), StoreFault>
-    ensures inside { StaysInside S.Store tx.old.conn tx.new.conn result }
-    ensures raised { HasCleanDisk (state S.Store tx.new.conn.now)
-        → OnOk result (Tallies (state S.Store tx.old.conn.now) (state S.Store tx.new.conn.now) (CountsOnce branch kind) (raise branch (kind_number kind) more)
-        (λ _. ⊤)) }
-{
-    take_numbers(tx, branch, kind, more)?;
-    Ok(())
-}
-
-/// Raises the count of head office's kept commands by one. A count that isn't there is a fault. After a fault the transaction may be rolled back.
-pub fn raise_office_keys<S: Alter>(tx: &mut Transaction<'_, S>) -> Result<(), StoreFault>
-    ensures inside { StaysInside S.Store tx.old.conn tx.new.conn result }
-    ensures raised { HasCleanDisk (state S.Store tx.new.conn.now)
-        → OnOk result (Tallies (state S.Store tx.old.conn.now) (state S.Store tx.new.conn.now) (CountsOnce 0 CountKind.Kept) (raise 0 kept_kind 1) (λ _. ⊤)) }
-{
-    take_by(tx, 0, CountKind::Kept, 1)?;
-    Ok(())
 }
 
 /// The number in the first column of the first row, if there is a row.

@@ -9,8 +9,7 @@ mod payments;
 
 pub use branches::{last_at, set_last};
 pub use counts::{
-    CountKind, count_of, drop_out, office_keys, out_at, put_out, raise_count, raise_office_keys,
-    rentals_out, take_number, take_numbers,
+    CountKind, Counter, count_of, drop_out, out_at, put_out, rentals_out, take_numbers,
 };
-pub use kept::{KeptRow, kept_at, kept_found, office_kept_at, put_kept, put_office_kept};
+pub use kept::{KeptRow, Owner, kept_at, kept_found, put_kept};
 pub use payments::{PaymentRow, payments_between, payments_of_customer, put_payment};

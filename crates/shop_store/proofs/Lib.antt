@@ -2,7 +2,6 @@ pub mod Tokens
 pub mod ByNumber
 pub mod SharedReads
 pub mod Whether
-pub mod SetTexts
 pub mod LastRow
 pub mod LastNumbers
 pub mod TokenReads

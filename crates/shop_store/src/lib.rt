@@ -14,7 +14,6 @@ mod puts;
 mod reads;
 mod rentals;
 mod rows;
-mod sets;
 
 pub use copies::{
     CopyRow, CopyState, Mark, copies_of_film, copy_at, has_lot, put_copy, put_lot, set_state,
@@ -42,4 +41,3 @@ pub use rows::{
     has_actor, has_cast, has_category, has_city, has_country, has_language, has_token, is_category,
     is_country, is_language,
 };
-pub use sets::{set_gone, set_manager, set_rate, set_withdrawn};

@@ -14,7 +14,7 @@ returns-clause-kept g c = λ clean.
     let b = c.args.branch in
     let low : 1 ≤ b = omega arith in
     let s0 = state g.S.Store c.args.tx.now.conn.now in
-    let s1 = state g.S.Store c.raise_count.new.tx.conn.now in
+    let s1 = state g.S.Store c.take_numbers.new.tx.conn.now in
     let s2 = state g.S.Store c.put_kept.new.tx.conn.now in
     let s3 = state g.S.Store c.set_last.new.tx.conn.now in
     let clean2 : HasCleanDisk s2 = omega (arith, clean, c.set_last.ensures.inside.survives.clean) in
@@ -23,16 +23,16 @@ returns-clause-kept g c = λ clean.
     let kept = c.in_ok-put_kept.ensures.put clean2 command refl (sym c.requires) in
     on_ok_then c.set_last.result (λ last. λ books holds once.
     let counts = raise b 4 1 (counts_of books) in
-    let counted = c.in_ok-raise_count.ensures.raised clean1 (counts_of books) books (beside s0 books holds) once in
+    let counted = c.in_ok-take_numbers.ensures.taken clean1 (counts_of books) books (beside s0 books holds) once in
     kept_added s3 b command c.args.reply.now books low (last counts _ (kept counts books counted.0 tt) tt)) (c.set_last.ensures.set clean)
 
-pub returns-in_err-raise_count-clause-inside : goal.returns-in_err-raise_count-clause-inside
-returns-in_err-raise_count-clause-inside g c = within_err (within_of c.raise_count.ensures.inside) c.from_residual.ensures.0
+pub returns-in_err-take_numbers-clause-inside : goal.returns-in_err-take_numbers-clause-inside
+returns-in_err-take_numbers-clause-inside g c = within_err (within_of c.take_numbers.ensures.inside) c.from_residual.ensures.0
 
 pub returns-in_err-put_kept-clause-inside : goal.returns-in_err-put_kept-clause-inside
 returns-in_err-put_kept-clause-inside g c =
-    within_err (within_then (within_of c.in_ok-raise_count.ensures.inside) (within_of c.put_kept.ensures.inside)) c.from_residual-in_err-put_kept.ensures.0
+    within_err (within_then (within_of c.in_ok-take_numbers.ensures.inside) (within_of c.put_kept.ensures.inside)) c.from_residual-in_err-put_kept.ensures.0
 
 pub returns-clause-inside : goal.returns-clause-inside
 returns-clause-inside g c =
-    (within_then (within_then (within_of c.in_ok-raise_count.ensures.inside) (within_of c.in_ok-put_kept.ensures.inside)) (within_of c.set_last.ensures.inside))
+    (within_then (within_then (within_of c.in_ok-take_numbers.ensures.inside) (within_of c.in_ok-put_kept.ensures.inside)) (within_of c.set_last.ensures.inside))

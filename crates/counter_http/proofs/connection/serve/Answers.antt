@@ -1,4 +1,4 @@
-use Rattle.std.proofs.Common.{◌≡◌, sym, refl, []}
+use Rattle.std.proofs.Common.{sym, refl, []}
 use Rattle.counter_http.proofs.Serving.{serving_none, served_limit}
 use Rattle.counter_http.proofs.KnownBytes.{Keeps-same}
 use Rattle.counter_http.proofs.Runs.{run_starts}

@@ -7,7 +7,7 @@ use Rattle.office_work.proofs.finding.find.Goals as goal
 pub returns-clause-found : goal.returns-clause-found
 returns-clause-found g c = λ clean.
     let s0 = state g.S.Store c.args.tx.now.conn.now in
-    let s1 = state g.S.Store c.office_keys.new.tx.conn.now in
+    let s1 = state g.S.Store c.count_of.new.tx.conn.now in
     let s2 = state g.S.Store c.office_token.new.tx.conn.now in
     let s3 = state g.S.Store c.find_rows.new.tx.conn.now in
     let clean2 : HasCleanDisk s2 = omega (arith, clean, c.find_rows.ensures.inside.survives.clean) in

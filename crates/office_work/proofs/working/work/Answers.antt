@@ -22,7 +22,7 @@ known it = Ok it
 pub returns-in-Ok-clause-works : goal.returns-in-Ok-clause-works
 returns-in-Ok-clause-works g c = λ clean rules commands books holds held.
     let command = seen_office c.args.command.now in
-    let s1 = state g.S.Store c.office_kept_at.new.tx.conn.now in
+    let s1 = state g.S.Store c.kept_at.new.tx.conn.now in
     let s2 = state g.S.Store c.find.new.tx.conn.now in
     let clean1 : HasCleanDisk s1 = omega (arith, clean, c.find.ensures.inside.survives.clean) in
     let kept = c.in_ok-kept.ensures.found clean1 books holds held in
@@ -37,7 +37,7 @@ returns-in-Ok-clause-works g c = λ clean rules commands books holds held.
 pub returns-in-Ok-Accepted-clause-works : goal.returns-in-Ok-Accepted-clause-works
 returns-in-Ok-Accepted-clause-works g c = λ clean rules commands books holds held.
     let command = seen_office c.args.command.now in
-    let s1 = state g.S.Store c.office_kept_at.new.tx.conn.now in
+    let s1 = state g.S.Store c.kept_at.new.tx.conn.now in
     let s2 = state g.S.Store c.find.new.tx.conn.now in
     let s3 = state g.S.Store c.add.new.tx.conn.now in
     let clean2 : HasCleanDisk s2 = omega (arith, clean, c.add.ensures.inside.survives.clean) in
@@ -55,7 +55,7 @@ returns-in-Ok-Accepted-clause-works g c = λ clean rules commands books holds he
 pub returns-clause-works : goal.returns-clause-works
 returns-clause-works g c = λ clean rules commands books holds held.
     let command = seen_office c.args.command.now in
-    let s1 = state g.S.Store c.office_kept_at.new.tx.conn.now in
+    let s1 = state g.S.Store c.kept_at.new.tx.conn.now in
     let s2 = state g.S.Store c.find.new.tx.conn.now in
     let clean1 : HasCleanDisk s1 = omega (arith, clean, c.find.ensures.inside.survives.clean) in
     let kept = c.in_ok-kept.ensures.found clean1 books holds held in

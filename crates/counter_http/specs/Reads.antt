@@ -1,0 +1,23 @@
+-- What is answered to a caller by what was read of the message.
+use Rattle.std.specs.Prelude.{◌≡◌, true, Result, Ok, Err, ⊤}
+use Rattle.shop_model.specs.Refusals as named
+use Rattle.shop_model.specs.Answers.{Answer, problem_answer}
+use Rattle.shop_model.specs.Books.{Caller}
+use Rattle.shop_types.specs.Seen.{seen_request, seen_refusal}
+use Rattle.shop_types.specs.Replies.{has_fixed_body}
+use Rattle.counter_routes.specs.declared.asked.Reading.{Reading}
+use Rattle.counter_routes.specs.declared.asked.Reading.TheVariants.{Asked, Refused}
+use Rattle.chain_engine.specs.Holding.{Holding}
+use Rattle.chain_engine.specs.Chains.{Answers}
+
+-- no stock file is at fault yet
+abbrev pub HasFixedBody : {E : Type 0} → Result Reading E → Type 0
+HasFixedBody (Ok (Asked request)) = ⊤
+HasFixedBody (Ok (Refused refusal)) = has_fixed_body refusal ≡ true
+HasFixedBody (Err e) = ⊤
+
+-- a request is the caller's; what is none is refused, and for want of memory there is no answer: then the chain is as it was
+abbrev pub AnswersRead : {E : Type 0} → Caller → Result Reading E → Answer → Holding → Holding → Type 0
+AnswersRead caller (Ok (Asked request)) answer old new = Answers caller (seen_request request) answer old new
+AnswersRead caller (Ok (Refused refusal)) answer old new = (answer ≡ problem_answer (seen_refusal refusal)) × (new ≡ old)
+AnswersRead caller (Err e) answer old new = (answer ≡ problem_answer named.Memory) × (new ≡ old)
