@@ -1,5 +1,5 @@
 -- Refusals of commands on a customer, a copy, a rental or a payment, by what was found of it.
-use Rattle.std.proofs.Common.{◌≡◌, ◌⊎◌, refl, sym, ap, ◌∙◌, inl, inr, ℕ, ◌+◌, ◌-◌, Bool, true, false, not, List, [], ◌∷◌, map, filter, Option, Some, None, option_map}
+use Rattle.std.proofs.Common.{◌≡◌, refl, sym, ap, ◌∙◌, inl, inr, ℕ, ◌+◌, Bool, true, false, not, List, [], ◌∷◌, map, filter, Option, Some, None, option_map}
 use Rattle.std.specs.Prelude.{◌==◌, ◌&&◌, is_some}
 use Rattle.std.specs.Option.{option_to_list}
 use Rattle.std.specs.List.{list_any}
@@ -13,47 +13,10 @@ use Rattle.shop_model.specs.Stock.{is_here, keeps_out, in_stock}
 use Rattle.shop_model.specs.Refusals.{NoCopy, CopyNotHere, CopyOut, FilmWithdrawn, SameMoment, RentalReturned}
 use Rattle.shop_model.specs.Verdict.{Verdict, Refused, Accepted, first, act_refusals, is_film_withdrawn}
 use Rattle.shop_model.specs.Books.{head}
+use Rattle.shop_model.proofs.FoundLemmas.{found_none, found_some}
 use Rattle.branch_core.specs.declared.found.CopyFound.{CopyFound}
 use Rattle.branch_core.specs.declared.found.RentalFound.{RentalFound}
 use Rattle.branch_core.specs.Agreed.{active_at, copy_at, rental_at, open_of, seen_copy, seen_rental}
-
--- there is one row of a number at most
-at_one : {A : Type 0} (n : ℕ) (rows : List A) → (at n rows ≡ []) ⊎ ((x : A) × (at n rows ≡ x ∷ []))
-at_one n [] = inl refl
-at_one n (x ∷ rows) = elim (cases_Bool (n == 1)) [
-  | inl here ↦ inr (x, rw here refl)
-  | inr further ↦ elim (at_one (n - 1) rows) [ inl none ↦ inl (rw further none) | inr one ↦ inr (one.0, rw further one.1) ]
-]
-
--- what is found of it tells whether it is there, and what it is
-pub found_none : {A B : Type 0} (f : A → B) (n : ℕ) (rows : List A) → None ≡ head (map f (at n rows)) → at n rows ≡ []
-found_none f n rows is = elim (at_one n rows) [
-  | inl none ↦ none
-  | inr one ↦ let no : None ≡ Some (f one.0) = rw one.1 at is in absurd (apart no)
-]
-  where
-    apart : {C : Type 0} {x : C} → ◌≡◌ {A = Option C} None (Some x) → ⊥
-    apart e = cc
-
-pub found_some : {A B : Type 0} (f : A → B) (n : ℕ) (rows : List A) (b : B) → Some b ≡ head (map f (at n rows)) → (x : A) × (at n rows ≡ x ∷ []) × (f x ≡ b)
-found_some f n rows b is = elim (at_one n rows) [
-  | inl none ↦ let no : Some b ≡ None = rw none at is in absurd (apart no)
-  | inr one ↦ let same : Some b ≡ Some (f one.0) = rw one.1 at is in (one.0, one.1, sym (inside same))
-]
-  where
-    apart : {C : Type 0} {x : C} → ◌≡◌ {A = Option C} (Some x) None → ⊥
-    apart e = cc
-
-    inside : {C : Type 0} {x y : C} → ◌≡◌ {A = Option C} (Some x) (Some y) → x ≡ y
-    inside e = cc
-
-pub is_not : (b : Bool) → not b ≡ true → b ≡ false
-is_not true e = sym e
-is_not false e = refl
-
-pub is_so : (b : Bool) → not b ≡ false → b ≡ true
-is_so true e = refl
-is_so false e = sym e
 
 -- the copy as it was found
 pub seen : (found : Option CopyFound) (it : CopyFound) (catalogue : Catalogue) (shop : Shop) (x : ℕ) → found ≡ Some it → option_map seen_copy found ≡ copy_at catalogue shop x → Some (seen_copy it) ≡ copy_at catalogue shop x

@@ -3,6 +3,7 @@ use Rattle.std.proofs.Common.{◌≡◌, ◌==◌, ◌&&◌, ◌||◌, ◌+◌, 
 use Rattle.std.specs.List.{flat_map, list_all, list_any, AllByRecursion}
 use Rattle.std.proofs.Math.Bool.{and_comm}
 use Rattle.std.proofs.lemmas.List.Sorted.{IsPermutation-sym, IsPermutation-trans, IsPermutation-map, length_permutation}
+use Rattle.std.proofs.lemmas.Bool.{and_parts, not-true}
 use Rattle.sqlite.specs.declared.types.Value.TheVariants.{Null, Text}
 use Rattle.sqlite.specs.Values.{or_null}
 use Rattle.sqlite_value.specs.Order as sql
@@ -12,8 +13,7 @@ use Rattle.sqlite_sql.specs.Query.{end, Output}
 use Rattle.sqlite_sql.specs.Program.{overlay}
 use Rattle.sqlite_keyed.proofs.ListLemmas.{map-map, filter-map, filter_same, all-filter, all_weaker, all_from_test, ascending-map, ascending_weaker, IsPermutation-same, IsPermutation-flat_map, IsPermutation-flat_map_each}
 use Rattle.sql_rows.specs.Rows.{HasRows, columns_of, number_value}
-use Rattle.sql_rows.proofs.Appends.{both}
-use Rattle.sql_rows.proofs.ColumnTests.{one_tested, number_tested, and_true}
+use Rattle.sql_rows.proofs.ColumnTests.{one_tested, number_tested}
 use Rattle.sql_rows.proofs.Joins.{or_blank, shown_of, equals, left_bag}
 use Rattle.shop_model.specs.Rows.{at, lacks, numbered, numbered_from}
 use Rattle.shop_model.specs.Links.{has_row}
@@ -23,9 +23,10 @@ use Rattle.shop_model.specs.Shop.{Catalogue}
 use Rattle.shop_model.specs.Views.{is_cast, category_name, films_of, is_before_text}
 use Rattle.shop_model.proofs.LinkLemmas.{all_at}
 use Rattle.shop_schema.specs.Columns.{named_columns, actor_columns, film_columns, cast_columns}
+use Rattle.sqlite_tied.proofs.RuleLemmas.{and_true}
 use Rattle.branch_looks.specs.Actors.{FilmIn, ActorLine, shown_actor, films_by_category, lines_with}
 use Rattle.branch_looks.proofs.Numbers.{left_number, left_null}
-use Rattle.branch_looks.proofs.Casts.{casts_of, played_by, cast_bag, there_one, any_cast, differ_in, not_true, AreApart}
+use Rattle.branch_looks.proofs.Casts.{casts_of, played_by, cast_bag, there_one, any_cast, differ_in, AreApart}
 use Rattle.branch_looks.proofs.ByText.{sorted_bag}
 use Rattle.branch_looks.proofs.Parted.{part, parted}
 use Rattle.branch_looks.proofs.ActorQuery.{actors_query, with_category, with_film, with_cast}
@@ -59,7 +60,7 @@ HasFilms catalogue = AllByRecursion (λ (c : Cast). lacks catalogue.films c.film
 
 pub films_there : (catalogue : Catalogue) (casts : List Cast) → list_all (λ (it : Cast). has_row catalogue.films it.film) casts ≡ true → HasFilms catalogue casts
 films_there catalogue casts h =
-    all_weaker (λ (it : Cast). has_row catalogue.films it.film ≡ true) (λ (it : Cast). lacks catalogue.films it.film ≡ false) (λ it. not_true (lacks catalogue.films it.film)) casts
+    all_weaker (λ (it : Cast). has_row catalogue.films it.film ≡ true) (λ (it : Cast). lacks catalogue.films it.film ≡ false) (λ it. not-true (lacks catalogue.films it.film)) casts
     (all_from_test (λ (it : Cast). has_row catalogue.films it.film) casts h)
 
 -- ---- what one actor brings
@@ -73,7 +74,7 @@ module _ (catalogue : Catalogue) (in_category : list_all (λ (it : Film). has_ro
 
   category_there : (n : ℕ) (x : Film) → at n catalogue.films ≡ x ∷ [] → lacks catalogue.categories x.category ≡ false
   category_there n x is =
-      not_true (lacks catalogue.categories x.category)
+      not-true (lacks catalogue.categories x.category)
       (sym (and_true (has_row catalogue.categories x.category)) ∙ ap (list_all (λ (it : Film). has_row catalogue.categories it.category)) (sym is) ∙ all_at (λ (it : Film). has_row catalogue.categories it.category) n catalogue.films in_category)
 
   -- the films of an actor, by the actor's casts and by categories
@@ -84,8 +85,8 @@ module _ (catalogue : Catalogue) (in_category : list_all (λ (it : Film). has_ro
       → AllByRecursion (λ (it : ℕ × Film). ◌≡◌ {A = List FilmIn} (map (λ (name : model.Text). ((it.1.category, name), it)) (at it.1.category catalogue.categories)) (behind it ∷ [])) (numbered_from k films)
   names_rows k [] all = tt
   names_rows k (film ∷ films) all =
-      let parts = both (has_row catalogue.categories film.category) (list_all (λ (it : Film). has_row catalogue.categories it.category) films) all in
-      let one = there_one catalogue.categories film.category (not_true (lacks catalogue.categories film.category) parts.0) in (
+      let parts = and_parts (has_row catalogue.categories film.category) (list_all (λ (it : Film). has_row catalogue.categories it.category) films) all in
+      let one = there_one catalogue.categories film.category (not-true (lacks catalogue.categories film.category) parts.0) in (
         ap (map (λ (name : model.Text). ((film.category, name), (k, film)))) one.1 ∙ ap (λ (name : model.Text). ((film.category, name), (k, film)) ∷ []) (sym (named film.category one.0 one.1)),
         names_rows (k + 1) films parts.1,
       )

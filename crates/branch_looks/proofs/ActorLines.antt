@@ -7,6 +7,7 @@ use Rattle.sqlite.specs.declared.types.Value.TheVariants.{Text}
 use Rattle.sqlite_value.specs.Order as sql
 use Rattle.sqlite_value.specs.Order.{column}
 use Rattle.sql_rows.specs.Rows.{number_value}
+use Rattle.sql_rows.proofs.ColumnTests.{same_number}
 use Rattle.shop_model.specs.Values as model
 use Rattle.shop_model.specs.Views.{ActorRow}
 use Rattle.reply_bodies.specs.Films.{films_text, actor_data}
@@ -16,7 +17,7 @@ use Rattle.branch_looks.specs.declared.actors.OpenGroup.{OpenGroup}
 use Rattle.branch_looks.specs.declared.actors.StartedActor.{StartedActor}
 use Rattle.branch_looks.specs.Actors.{ActorLine, Group, Groups, ToldFilm, shown_actor, text_of, told_film, take_film, take_any, every_group, seen_group, seen_open, ActorPart, actor_alone, whole, seen_part, Grouped, closed, take_line, runs}
 use Rattle.branch_looks.proofs.PageLines.{split_last}
-use Rattle.branch_looks.proofs.PersonLines.{same_number, same_words}
+use Rattle.branch_looks.proofs.PersonLines.{same_words}
 use Rattle.branch_looks.proofs.FilmRuns.{join_map}
 use Rattle.branch_looks.proofs.ActorRuns.{run_push}
 

@@ -10,12 +10,13 @@ use Rattle.sqlite.specs.Values.{or_null}
 use Rattle.sqlite.specs.State.{State, Shown}
 use Rattle.sqlite_value.specs.Order as sql
 use Rattle.sqlite_value.specs.Order.{value_cmp}
-use Rattle.sqlite_value.proofs.OrderLemmas.{value_cmp-Text}
+use Rattle.sqlite_value.proofs.OrderLemmas.{value_cmp-Text, then-Equal}
 use Rattle.sqlite_trees.specs.Tree.{IsAscending}
 use Rattle.sqlite_sql.specs.Query.{Output, output_cmp}
+use Rattle.sqlite_sql.proofs.QueryLemmas.{output_cmp_total}
 use Rattle.sqlite_keyed.proofs.ListLemmas.{map-map, map-flat_map, IsPermutation-same, ascending-map, ascending_weaker, ascending-append, ascending-filter, all-map, all-flat_map, all_weaker}
 use Rattle.sql_rows.specs.Rows.{number_value}
-use Rattle.sql_rows.proofs.Queries.{answers, number_cmp, last_key, output_total}
+use Rattle.sql_rows.proofs.Queries.{answers, number_cmp}
 use Rattle.sql_rows.proofs.Joins.{joined_rows, Climbs}
 use Rattle.shop_model.specs.Rows.{numbered, numbered_from}
 use Rattle.shop_model.specs.Links.{NamesRowsOf}
@@ -27,8 +28,9 @@ use Rattle.shop_model.specs.Views.{is_cast, films_of, categories_by_name}
 use Rattle.shop_schema.specs.Tables.{shop_schema}
 use Rattle.shop_schema.specs.Shop.{IsShop, StandsFor}
 use Rattle.shop_schema.specs.Columns.{actor_columns}
+use Rattle.shop_store.proofs.LastNumbers.{above_from, numbered_rise}
 use Rattle.branch_looks.specs.Actors.{FilmIn, ActorLine, shown_actor, films_by_category, lines_with, actor_lines}
-use Rattle.branch_looks.proofs.Orders.{less, equal, above_from, numbered_rise}
+use Rattle.branch_looks.proofs.Orders.{less, equal}
 use Rattle.branch_looks.proofs.Casts.{AreApart}
 use Rattle.branch_looks.proofs.ByText.{by_text, Rises, sorted_up}
 use Rattle.branch_looks.proofs.ActorQuery.{select_actors, actors_query, actors_mean, actor_shows, actor_order, with_cast}
@@ -64,7 +66,7 @@ first_decides Greater p r h = absurd cc
 
 films_less : (x y : FilmIn) → Comes x y → film_order (Some x) (Some y) ≡ Less
 films_less x y comes =
-    (λ i. ordering_then (value_cmp-Text x.0.1 y.0.1 i) (ordering_then (number_cmp x.0.0 y.0.0 i) (ordering_then (value_cmp-Text x.1.1.title y.1.1.title i) (last_key (number_cmp x.1.0 y.1.0 i) i)))) ∙ go comes
+    (λ i. ordering_then (value_cmp-Text x.0.1 y.0.1 i) (ordering_then (number_cmp x.0.0 y.0.0 i) (ordering_then (value_cmp-Text x.1.1.title y.1.1.title i) (then-Equal (number_cmp x.1.0 y.1.0 i) i)))) ∙ go comes
   where
     go : Comes x y → ordering_then (slice_cmp nat_cmp x.0.1 y.0.1) (ordering_then (nat_cmp x.0.0 y.0.0) (by_text title_of x.1 y.1)) ≡ Less
     go (inl h) = first_decides (slice_cmp nat_cmp x.0.1 y.0.1) (nat_cmp x.0.0 y.0.0) (by_text title_of x.1 y.1) h
@@ -85,7 +87,7 @@ climbs : (a b : ActorLine) → Later a b
 climbs a b later =
     let ours = in_order a b later in (
       ap is_eq ours,
-      ap is_lt ((output_total actors_query).antisymm (actor_output b) (actor_output a) ∙ ap ordering_reverse ours),
+      ap is_lt ((output_cmp_total actors_query).antisymm (actor_output b) (actor_output a) ∙ ap ordering_reverse ours),
     )
 
 -- ---- all lines rise

@@ -10,10 +10,11 @@ use Rattle.shop_model.specs.Values as model
 use Rattle.shop_model.specs.Values.{Actor, Film}
 use Rattle.shop_model.specs.Shop.{Catalogue}
 use Rattle.shop_model.specs.Views.{ActorRow, actor_row, films_of, categories_by_name}
+use Rattle.shop_model.proofs.RowLemmas.{same_test}
+use Rattle.shop_store.proofs.LastNumbers.{numbered_rise}
 use Rattle.branch_looks.specs.Actors.{FilmIn, ActorLine, films_by_category, lines_with, Group, text_of, told_film, Groups, every_group, take_film, take_any, ActorPart, actor_alone, whole, Grouped, closed, take_line, run_from}
-use Rattle.branch_looks.proofs.Orders.{numbered_rise}
 use Rattle.branch_looks.proofs.ByText.{Rises, sorted_up}
-use Rattle.branch_looks.proofs.FilmRuns.{join_map, same_one}
+use Rattle.branch_looks.proofs.FilmRuns.{join_map}
 
 pub run_push : (so_far : Grouped) (lines : List ActorLine) (line : ActorLine) → run_from so_far (lines ++ line ∷ []) ≡ take_line (run_from so_far lines) line
 run_push so_far [] line = refl
@@ -47,7 +48,7 @@ module _ (c : ℕ × model.Text) where
   more_films groups names [] = ap (λ (t : List model.Text). (groups, Some (c.0, (c.1, t)))) (sym (append-nil names))
   more_films groups names (it ∷ l) =
       let one : take_film (groups, Some (c.0, (c.1, names))) (told_film (c, it)) ≡ (groups, Some (c.0, (c.1, names ++ title_of it ∷ []))) =
-      ap (λ b. cond {A = Groups} b (groups, Some (c.0, (c.1, names ++ title_of it ∷ []))) (groups ++ (c.1, names) ∷ [], Some (c.0, (c.1, title_of it ∷ [])))) (same_one c.0) in
+      ap (λ b. cond {A = Groups} b (groups, Some (c.0, (c.1, names ++ title_of it ∷ []))) (groups ++ (c.1, names) ∷ [], Some (c.0, (c.1, title_of it ∷ [])))) (same_test c.0) in
       ap (λ (s : Groups). run_films s (in_it l)) one ∙ more_films groups (names ++ title_of it ∷ []) l
       ∙ ap (λ (t : List model.Text). (groups, Some (c.0, (c.1, t)))) (append_assoc names (title_of it ∷ []) (titles l))
 
@@ -102,7 +103,7 @@ module _ (actor : ℕ × Actor) where
   further actors groups [] = refl
   further actors groups (it ∷ l) =
       let one : take_line (actors, Some (part_of groups)) (actor, Some it) ≡ (actors, Some (part_of (take_film groups (told_film it)))) =
-      ap (λ b. cond {A = Grouped} b (actors, Some (part_of (take_film groups (told_film it)))) (actors ++ whole (part_of groups) ∷ [], Some (part_of (take_film ([], None) (told_film it))))) (same_one actor.0) in
+      ap (λ b. cond {A = Grouped} b (actors, Some (part_of (take_film groups (told_film it)))) (actors ++ whole (part_of groups) ∷ [], Some (part_of (take_film ([], None) (told_film it))))) (same_test actor.0) in
       ap (λ (s : Grouped). run_from s (map (λ film. (actor, Some film)) l)) one ∙ further actors (take_film groups (told_film it)) l
 
   -- no actor is under way, or an earlier one

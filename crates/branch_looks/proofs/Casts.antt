@@ -3,14 +3,15 @@ use Rattle.std.proofs.Common.{◌≡◌, ◌==◌, ◌&&◌, ◌||◌, ℕ, Bool
 use Rattle.std.specs.List.{flat_map, list_any, list_all, AllByRecursion}
 use Rattle.std.proofs.lemmas.Bool.Decides.{nat_tests}
 use Rattle.std.proofs.lemmas.List.Sorted.{IsPermutation-refl, IsPermutation-trans, IsPermutation-cons, IsPermutation-middle, IsPermutation-append_right}
+use Rattle.std.proofs.lemmas.Bool.{and_parts, not-true}
 use Rattle.sqlite_trees.specs.Tree.{IsAscending}
 use Rattle.sqlite_keyed.proofs.ListLemmas.{filter_none, filter_same, all_of, all_weaker, all_from_test, none_from_any, IsPermutation-same}
-use Rattle.sql_rows.proofs.Appends.{both}
 use Rattle.shop_model.specs.Rows.{at, lacks, numbered, is_empty}
 use Rattle.shop_model.specs.Values.{Cast}
 use Rattle.shop_model.specs.Shop.{Catalogue}
 use Rattle.shop_model.specs.Links.{has_row, are_different}
-use Rattle.branch_looks.proofs.Numbers.{numbered_at, one_at}
+use Rattle.shop_model.proofs.FoundLemmas.{at_one}
+use Rattle.branch_looks.proofs.Numbers.{numbered_at}
 
 -- those that pass either of two tests that never both hold
 filter_or : {X : Type 0} (p q : X → Bool) → ((x : X) → p x ≡ true → q x ≡ false) → (xs : List X) → IsPermutation (filter p xs ++ filter q xs) (filter (λ x. p x || q x) xs)
@@ -52,7 +53,7 @@ module _ {A : Type 0} (xs : List A) where
       (filter_or (λ (it : ℕ × A). c.actor == it.0) (λ it. list_any (λ (d : Cast). d.actor == it.0) mine) (λ it is. not_among c.actor mine apart.0 it.0 is) (numbered xs)))
 
   pub there_one : (n : ℕ) → lacks xs n ≡ false → (x : A) × (at n xs ≡ x ∷ [])
-  there_one n has = elim (one_at n xs) [ inl none ↦ absurd (let both : false ≡ true = sym has ∙ ap (is_empty {A = A}) none in cc) | inr one ↦ one ]
+  there_one n has = elim (at_one n xs) [ inl none ↦ absurd (let both : false ≡ true = sym has ∙ ap (is_empty {A = A}) none in cc) | inr one ↦ one ]
 
 -- the casts of a film
 abbrev pub casts_of : ℕ → List Cast → List Cast
@@ -74,20 +75,16 @@ AreApart = IsAscending (λ (a b : Cast). (a.film == b.film && a.actor == b.actor
 abbrev pub AreThere : Catalogue → List Cast → Type 0
 AreThere catalogue = AllByRecursion (λ (c : Cast). lacks catalogue.actors c.actor ≡ false)
 
-pub not_true : (b : Bool) → not b ≡ true → b ≡ false
-not_true true h = cc
-not_true false h = refl
-
 pub apart_of : (casts : List Cast) → are_different (λ (earlier later : Cast). earlier.film == later.film && earlier.actor == later.actor) casts ≡ true → AreApart casts
 apart_of [] h = tt
 apart_of (c ∷ casts) h =
     let same : Cast → Bool = λ d. c.film == d.film && c.actor == d.actor in
-    let parts = both (not (list_any same casts)) (are_different (λ (earlier later : Cast). earlier.film == later.film && earlier.actor == later.actor) casts) h in
-    (none_from_any same casts (not_true _ parts.0), apart_of casts parts.1)
+    let parts = and_parts (not (list_any same casts)) (are_different (λ (earlier later : Cast). earlier.film == later.film && earlier.actor == later.actor) casts) h in
+    (none_from_any same casts (not-true _ parts.0), apart_of casts parts.1)
 
 pub there_of : (catalogue : Catalogue) (casts : List Cast) → list_all (λ (it : Cast). has_row catalogue.actors it.actor) casts ≡ true → AreThere catalogue casts
 there_of catalogue casts h =
-    all_weaker (λ (it : Cast). has_row catalogue.actors it.actor ≡ true) (λ (it : Cast). lacks catalogue.actors it.actor ≡ false) (λ it. not_true (lacks catalogue.actors it.actor)) casts
+    all_weaker (λ (it : Cast). has_row catalogue.actors it.actor ≡ true) (λ (it : Cast). lacks catalogue.actors it.actor ≡ false) (λ it. not-true (lacks catalogue.actors it.actor)) casts
     (all_from_test (λ (it : Cast). has_row catalogue.actors it.actor) casts h)
 
 -- casts that are all different have different actors in one film

@@ -1,12 +1,13 @@
 -- The rows of the categories.
 use Rattle.std.proofs.Common.{◌≡◌, ◌<◌, ℕ, List, [], ◌∷◌, map, false, refl, ap, ◌∙◌, is_eq, is_lt}
-use Rattle.std.specs.List.{flat_map}
+use Rattle.std.proofs.lemmas.List.Concat.{flat_map_single}
 use Rattle.sqlite_value.specs.Order as sql
+use Rattle.sqlite_value.proofs.OrderLemmas.{then-Equal}
 use Rattle.sqlite_sql.specs.Query.{end, Output, output_cmp}
 use Rattle.sqlite.specs.State.{State, Shown}
 use Rattle.sqlite_keyed.proofs.ListLemmas.{map-map, ascending-map, ascending_weaker, IsPermutation-same}
 use Rattle.sql_rows.specs.Rows.{number_value}
-use Rattle.sql_rows.proofs.Queries.{answers, last_key, number_cmp}
+use Rattle.sql_rows.proofs.Queries.{answers, number_cmp}
 use Rattle.sql_rows.proofs.Joins.{joined_rows, Climbs}
 use Rattle.shop_model.specs.Rows.{numbered}
 use Rattle.shop_model.specs.Values.{Text}
@@ -25,13 +26,9 @@ category_output x = (number_value x.0 ∷ [], shown_category x)
 climb : (x y : ℕ × Text) → x.0 < y.0
     → (is_eq (output_cmp categories_query (category_output x) (category_output y)) ≡ false) × (is_lt (output_cmp categories_query (category_output y) (category_output x)) ≡ false)
 climb x y h = (
-  ap is_eq (last_key _ ∙ number_cmp x.0 y.0) ∙ not_equal x.0 y.0 h,
-  ap is_lt (last_key _ ∙ number_cmp y.0 x.0) ∙ not_less x.0 y.0 h,
+  ap is_eq (then-Equal _ ∙ number_cmp x.0 y.0) ∙ not_equal x.0 y.0 h,
+  ap is_lt (then-Equal _ ∙ number_cmp y.0 x.0) ∙ not_less x.0 y.0 h,
 )
-
-each_one : {X Y : Type 0} (f : X → Y) (xs : List X) → flat_map (λ x. f x ∷ []) xs ≡ map f xs
-each_one f [] = refl
-each_one f (x ∷ xs) = ap (λ l. f x ∷ l) (each_one f xs)
 
 -- all categories, in the order of their numbers
 pub shows_categories : (old new : State) (rows : List sql.Row) (books : Books) → IsShop old → Shown select_categories [] old new rows → StandsFor old.now.trees books
@@ -44,5 +41,5 @@ shows_categories old new rows books shop h s =
     joined_rows 7 end [] category_shows category_order [] old.now.trees 2 named_columns all s.categories refl (λ r. refl)
     (λ x. category_output x ∷ []) (λ x. IsPermutation-same _ _ refl)
     rows (answers shop_schema select_categories categories_query [] old new shop categories_mean rows h)
-    (map category_output all) (IsPermutation-same _ _ (each_one category_output all)) up
+    (map category_output all) (IsPermutation-same _ _ (flat_map_single category_output all)) up
     ∙ map-map (λ (o : Output). o.1) category_output all

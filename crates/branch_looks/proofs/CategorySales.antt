@@ -14,12 +14,13 @@ use Rattle.shop_model.specs.Values.{Text, Rental, Payment}
 use Rattle.shop_model.specs.Shop.{Shop}
 use Rattle.shop_model.specs.Books.{Books, shop_of}
 use Rattle.shop_model.specs.Views.{takings, sales_of, sales_by_category, sells_more, sorted_by}
+use Rattle.shop_model.proofs.RowLemmas.{equal_test}
 use Rattle.branch_looks.specs.Payments.{PaidLine, shown_line, Sale, sale, sale_in, is_sale_of}
 use Rattle.branch_looks.specs.Sales.{sum_of}
 use Rattle.branch_looks.specs.declared.categories.CategorySum.{CategorySum}
 use Rattle.sql_rows.proofs.Bags.{length-map}
+use Rattle.sql_rows.proofs.ColumnTests.{same_number}
 use Rattle.branch_looks.specs.CategorySums.{seen_sum, sum_in, summed, with_amount, sold, sales_of_branch}
-use Rattle.branch_looks.proofs.PersonLines.{same_number}
 use Rattle.branch_looks.proofs.PaymentLines.{sales_are, takings_are}
 use Rattle.branch_looks.proofs.SalesLines.{sum_more}
 
@@ -50,9 +51,6 @@ not_same c n h = grind (arith, nat_tests)
 not_one : (c n : ℕ) → n < c → (c == n) ≡ false
 not_one c n h = grind (arith, nat_tests)
 
-same_one : (c n : ℕ) → c ≡ n → (c == n) ≡ true
-same_one c n h = grind (arith, nat_tests)
-
 added_from : (sales : List Sale) (amount c k n : ℕ) (names : List Text) → 1 ≤ n → c + 1 ≡ k + n
     → set_at n (with_amount amount) (map (sum_in sales) (numbered_from k names)) ≡ map (sum_in (sales ++ record { amount = amount; category = Some c } ∷ [])) (numbered_from k names)
 added_from sales amount c k n [] low is = refl
@@ -73,7 +71,7 @@ added_from sales amount c k n (name ∷ names) low is = go (n == 1) refl (λ low
         ≡ sum_in (sales ++ record { amount = amount; category = Some c } ∷ []) (k, name) ∷ map (sum_in (sales ++ record { amount = amount; category = Some c } ∷ [])) (numbered_from (k + 1) names)
     go true passes rest =
         let first : n ≡ 1 = one passes in
-        (λ i. its_own sales (record { amount = amount; category = Some c }) (k, name) (is_own c k true (same_one c k (omega (arith, is, first)))) i
+        (λ i. its_own sales (record { amount = amount; category = Some c }) (k, name) (is_own c k true (equal_test c k (omega (arith, is, first)))) i
         ∷ others sales (record { amount = amount; category = Some c }) (k + 1) names (λ m h. is_own c m false (not_same c m (omega (arith, is, first, h)))) i)
     go false fails rest =
         let later : 2 ≤ n = more fails in

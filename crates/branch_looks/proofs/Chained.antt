@@ -9,7 +9,7 @@ use Rattle.sql_rows.specs.Calls.{StaysInside, StaysWithin}
 use Rattle.sql_rows.proofs.Stays.{clean_within, within_as, within_of, within_then}
 use Rattle.shop_model.specs.Books.{Books}
 use Rattle.shop_schema.specs.Shop.{Reads}
-use Rattle.branch_looks.proofs.Readings.{reads_then}
+use Rattle.shop_schema.proofs.Readings.{reads_then}
 
 -- what calls leave, and what they find of the books over a disk that did as it was told
 pub record Calls {S : Type 0} (g : Ghosts S) (a b : MutBor (Held S)) : Type 1 where

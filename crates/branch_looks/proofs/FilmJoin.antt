@@ -24,12 +24,14 @@ use Rattle.shop_model.specs.Values.{Actor, Film, Cast}
 use Rattle.shop_model.specs.Shop.{Catalogue}
 use Rattle.shop_model.specs.Books.{Books}
 use Rattle.shop_model.specs.Views.{is_cast}
+use Rattle.shop_model.proofs.FoundLemmas.{at_one}
 use Rattle.shop_schema.specs.Tables.{shop_schema}
 use Rattle.shop_schema.specs.Shop.{IsShop, StandsFor}
 use Rattle.shop_schema.specs.Columns.{named_columns, actor_columns, film_columns, cast_columns}
+use Rattle.shop_store.proofs.LastNumbers.{above_from, numbered_rise}
 use Rattle.branch_looks.specs.Shown.{name_or_null, FilmLine, shown_film, actors_of, lines_of, film_lines}
-use Rattle.branch_looks.proofs.Orders.{less, greater, equal, above_from, numbered_rise}
-use Rattle.branch_looks.proofs.Numbers.{one_at, left_number, left_null}
+use Rattle.branch_looks.proofs.Orders.{less, greater, equal}
+use Rattle.branch_looks.proofs.Numbers.{left_number, left_null}
 use Rattle.branch_looks.proofs.Casts.{casts_of, played_by, cast_bag, there_one, any_cast, differ_in, AreApart, AreThere}
 use Rattle.branch_looks.proofs.FilmQuery.{select_films, films_query, films_mean, film_shows, film_order, with_actor, with_cast, with_category}
 
@@ -115,7 +117,7 @@ module _ (catalogue : Catalogue) (db : Trees) (categories : HasRows 2 (db 7) (ma
   film_brings =
       subst (λ l. IsPermutation l (map (film_output catalogue) (lines_of film (actors_of catalogue film.0))))
       (sym (left_number 2 named_columns (db 7) catalogue.categories categories (λ it. refl) (λ r. refl) (λ r2. shown_of films_query (overlay db []) with_cast ([] ∷ its ∷ r2 ∷ [])) (λ r. refl) film.1.category))
-      (go (at film.1.category catalogue.categories) refl (one_at film.1.category catalogue.categories))
+      (go (at film.1.category catalogue.categories) refl (at_one film.1.category catalogue.categories))
     where
       shows : sql.Row → List Output
       shows c2 = shown_of films_query (overlay db []) with_cast ([] ∷ its ∷ (Null ∷ c2) ∷ [])

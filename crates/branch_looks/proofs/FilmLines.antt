@@ -1,33 +1,30 @@
 -- A row of the films' join, read and taken.
-use Rattle.std.proofs.Common.{◌≡◌, ◌==◌, ℕ, true, false, cond, List, [], ◌∷◌, ◌++◌, map, Option, Some, None, option_map, refl, sym, ap, subst, ◌∙◌, arith}
-use Rattle.std.proofs.lemmas.Bool.Decides.{nat_tests}
+use Rattle.std.proofs.Common.{◌≡◌, ◌==◌, ℕ, false, cond, List, [], ◌∷◌, ◌++◌, map, Option, Some, None, option_map, refl, sym, ap, subst, ◌∙◌}
 use Rattle.std.proofs.lemmas.List.{map-append}
 use Rattle.serde_json.specs.Data.{Data}
-use Rattle.sqlite.specs.declared.types.Value.TheVariants.{Null, Text}
+use Rattle.sqlite.specs.declared.types.Value.TheVariants.{Text}
 use Rattle.sqlite.specs.Values.{or_null}
 use Rattle.sqlite_value.specs.Order as sql
 use Rattle.sqlite_value.specs.Order.{column}
 use Rattle.sql_rows.specs.Rows.{number_value}
-use Rattle.sql_rows.proofs.ColumnTests.{same_or_null}
+use Rattle.sql_rows.proofs.ColumnTests.{same_or_null, same_number}
 use Rattle.shop_model.specs.Rows.{at}
 use Rattle.shop_model.specs.Values as model
 use Rattle.shop_model.specs.Shop.{Catalogue}
 use Rattle.shop_model.specs.Views.{FilmRow, category_name}
+use Rattle.shop_model.proofs.FoundLemmas.{at_one}
 use Rattle.shop_types.specs.Films.{rating_text}
 use Rattle.shop_types.specs.declared.film.Rating.{Rating}
 use Rattle.reply_bodies.specs.Names.{name_text}
 use Rattle.reply_bodies.specs.Films.{film_with, seen_film, film_data}
 use Rattle.reply_bodies.specs.Page.{Page, HasValues}
 use Rattle.reply_bodies.specs.declared.films.FilmRow as rows
+use Rattle.shop_store.proofs.SharedReads.{number_is_some}
 use Rattle.branch_looks.specs.Shown.{text_or_empty, FilmLine, shown_film}
 use Rattle.branch_looks.specs.Films.{names_of, film_alone, FilmPart, whole, seen_part, Grouped, closed, take_line, runs}
-use Rattle.branch_looks.proofs.Numbers.{one_at}
 use Rattle.branch_looks.proofs.PageLines.{split_last}
-use Rattle.branch_looks.proofs.PersonLines.{name_read, same_number, same_words}
+use Rattle.branch_looks.proofs.PersonLines.{name_read, same_words}
 use Rattle.branch_looks.proofs.FilmRuns.{run_push, whole_seen}
-
-no_null : (n : ℕ) → number_value n ≡ Null → ⊥
-no_null n e = cc
 
 -- a film of these values, of whose actors nothing is said
 abbrev film_of : ℕ → model.Text → model.Text → model.Text → ℕ → Option ℕ → Rating → FilmRow
@@ -50,9 +47,9 @@ film_is row number title description category rate minutes rating at0 at1 at2 at
     let titles : title ≡ line.0.1.title = same_words _ _ (sym at1 ∙ ap (λ r. column r 1) is) in
     let descriptions : description ≡ line.0.1.description = same_words _ _ (sym at2 ∙ ap (λ r. column r 2) is) in
     let categories : category ≡ category_name catalogue line.0.1.category =
-    at3 ∙ ap (λ r. text_or_empty (column r 3)) is ∙ name_read (at line.0.1.category catalogue.categories) (one_at line.0.1.category catalogue.categories) in
+    at3 ∙ ap (λ r. text_or_empty (column r 3)) is ∙ name_read (at line.0.1.category catalogue.categories) (at_one line.0.1.category catalogue.categories) in
     let prices : rate ≡ line.0.1.rate = same_number _ _ (sym at4 ∙ ap (λ r. column r 4) is) in
-    let lengths : minutes ≡ line.0.1.minutes = same_or_null number_value no_null same_number _ _ (sym at5 ∙ ap (λ r. column r 5) is) in
+    let lengths : minutes ≡ line.0.1.minutes = same_or_null number_value number_is_some same_number _ _ (sym at5 ∙ ap (λ r. column r 5) is) in
     let ratings : rating_text rating ≡ line.0.1.rating = same_words _ _ (sym at6 ∙ ap (λ r. column r 6) is) in
     (λ i. record {
       number = numbers i;

@@ -1,5 +1,5 @@
 -- Lines of films, of which neighbours belong together.
-use Rattle.std.proofs.Common.{◌≡◌, ◌==◌, ◌+◌, ◌<◌, ℕ, true, false, cond, List, [], ◌∷◌, ◌++◌, codes, map, Option, Some, None, refl, sym, ap, ◌∙◌, arith, append-nil}
+use Rattle.std.proofs.Common.{◌≡◌, ◌==◌, ◌+◌, ◌<◌, ℕ, false, cond, List, [], ◌∷◌, ◌++◌, codes, map, Option, Some, None, refl, sym, ap, ◌∙◌, arith, append-nil}
 use Rattle.std.specs.Prelude.{IfSome}
 use Rattle.std.specs.List.{flat_map, join_by}
 use Rattle.std.proofs.lemmas.Bool.Decides.{nat_tests}
@@ -8,6 +8,7 @@ use Rattle.shop_model.specs.Values as model
 use Rattle.shop_model.specs.Values.{Actor, Film}
 use Rattle.shop_model.specs.Shop.{Catalogue}
 use Rattle.shop_model.specs.Views.{FilmRow, film_row}
+use Rattle.shop_model.proofs.RowLemmas.{same_test}
 use Rattle.reply_bodies.specs.Names.{name_text}
 use Rattle.reply_bodies.specs.Films.{film_with, seen_film}
 use Rattle.reply_bodies.specs.declared.films.FilmRow as rows
@@ -37,9 +38,6 @@ whole_seen row = ap (λ (actors : model.Text). film_with actors row) (join_map (
 
 -- ---- the lines of one film
 
-pub same_one : (n : ℕ) → (n == n) ≡ true
-same_one n = grind (arith, nat_tests)
-
 module _ (catalogue : Catalogue) (film : ℕ × Film) where
   abbrev part_of : List model.Text → FilmPart
   part_of names = (film_alone catalogue film, names)
@@ -48,7 +46,7 @@ module _ (catalogue : Catalogue) (film : ℕ × Film) where
   further films names [] = ap (λ t. (films, Some (part_of t))) (sym (append-nil names))
   further films names (it ∷ l) =
       let one : take_line catalogue (films, Some (part_of names)) (film, Some it) ≡ (films, Some (part_of (names ++ actor_name it ∷ []))) =
-      ap (λ b. cond {A = Grouped} b (films, Some (part_of (names ++ actor_name it ∷ []))) (films ++ whole (part_of names) ∷ [], Some (film_alone catalogue film, names_of (Some it)))) (same_one film.0) in
+      ap (λ b. cond {A = Grouped} b (films, Some (part_of (names ++ actor_name it ∷ []))) (films ++ whole (part_of names) ∷ [], Some (film_alone catalogue film, names_of (Some it)))) (same_test film.0) in
       ap (λ (s : Grouped). run_from catalogue s (map (λ actor. (film, Some actor)) l)) one ∙ further films (names ++ actor_name it ∷ []) l
       ∙ ap (λ t. (films, Some (part_of t))) (pushed names (actor_name it) (map actor_name l))
     where

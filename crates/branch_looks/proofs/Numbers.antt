@@ -1,6 +1,5 @@
 -- Shared rows that are joined by their numbers: `LEFT JOIN t ON t.number = key`.
-use Rattle.std.proofs.Common.{◌≡◌, ◌≤◌, ◌==◌, ◌&&◌, ◌+◌, ◌-◌, ℕ, zero, suc, List, [], ◌∷◌, ◌++◌, map, filter, true, false, Bool, cond, refl, sym, ap, ◌∙◌, arith, inl, inr}
-use Rattle.std.specs.Prelude.{◌⊎◌}
+use Rattle.std.proofs.Common.{◌≡◌, ◌≤◌, ◌==◌, ◌&&◌, ◌+◌, ℕ, zero, suc, List, [], ◌∷◌, ◌++◌, map, filter, true, false, cond, refl, sym, ap, ◌∙◌, arith}
 use Rattle.std.specs.List.{flat_map}
 use Rattle.std.proofs.lemmas.Bool.Decides.{nat_tests}
 use Rattle.sqlite.specs.declared.types.Value.TheVariants.{Null}
@@ -26,15 +25,6 @@ numbered_at {A} zero xs = none_below 1 (omega arith) xs ∙ ap (map (λ x. (0, x
     nowhere [] = refl
     nowhere (x ∷ xs) = nowhere xs
 numbered_at (suc n) xs = picked (suc n) (omega arith) xs
-
--- at most one row has the number
-pub one_at : {A : Type 0} (n : ℕ) (xs : List A) → (at n xs ≡ []) ⊎ ((x : A) × (at n xs ≡ x ∷ []))
-one_at n [] = inl refl
-one_at {A} n (x ∷ xs) = go (n == 1) (one_at (n - 1) xs)
-  where
-    go : (b : Bool) → (at (n - 1) xs ≡ []) ⊎ ((y : A) × (at (n - 1) xs ≡ y ∷ [])) → (cond b (x ∷ []) (at (n - 1) xs) ≡ []) ⊎ ((y : A) × (cond b (x ∷ []) (at (n - 1) xs) ≡ y ∷ []))
-    go true more = inr (x, refl)
-    go false more = more
 
 module _ {A Z : Type 0} (width : ℕ) (columns : ℕ × A → Row) (tree : List Row) (xs : List A) (has : HasRows width tree (map columns (numbered xs)))
     (numbers : (it : ℕ × A) → column (columns it) 0 ≡ number_value it.0) (first : (r : Row) → column r 1 ≡ column (columns_of width r) 0)

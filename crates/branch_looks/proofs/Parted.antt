@@ -4,8 +4,8 @@ use Rattle.std.specs.List.{flat_map, AllByRecursion}
 use Rattle.std.proofs.lemmas.List.Sorted.{IsPermutation-refl, IsPermutation-trans, IsPermutation-append_left, IsPermutation-append_right, IsPermutation-append_comm}
 use Rattle.sqlite_keyed.proofs.ListLemmas.{map-map, filter_same, flat_map_none, flat_map_same_on, IsPermutation-same}
 use Rattle.shop_model.specs.Rows.{at, numbered}
+use Rattle.sql_rows.proofs.Queries.{kept_as_map}
 use Rattle.branch_looks.proofs.Numbers.{numbered_at}
-use Rattle.branch_looks.proofs.Orders.{kept_as_map}
 use Rattle.branch_looks.proofs.Casts.{turned}
 
 -- what each value brings of two kinds

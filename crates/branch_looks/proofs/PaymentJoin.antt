@@ -8,26 +8,28 @@ use Rattle.sqlite.specs.declared.types.Value.TheVariants.{Null}
 use Rattle.sqlite.specs.Values.{or_null}
 use Rattle.sqlite_value.specs.Order as sql
 use Rattle.sqlite_value.specs.Order.{column}
+use Rattle.sqlite_value.proofs.OrderLemmas.{then-Equal}
 use Rattle.sqlite_trees.specs.Tree.{Trees}
 use Rattle.sqlite_sql.specs.Query.{end, or_nulls, Output, output_cmp}
 use Rattle.sqlite_sql.specs.Program.{overlay}
 use Rattle.sqlite.specs.State.{State, Shown}
 use Rattle.sqlite_keyed.proofs.ListLemmas.{map-map, ascending-map, ascending_weaker, IsPermutation-same}
 use Rattle.sql_rows.specs.Rows.{columns_of, number_value}
-use Rattle.sql_rows.proofs.Queries.{answers, last_key, number_cmp}
+use Rattle.sql_rows.proofs.Queries.{answers, number_cmp, kept_as_map}
 use Rattle.sql_rows.proofs.ColumnTests.{one_tested, number_tested}
 use Rattle.sql_rows.proofs.Joins.{or_blank, shown_of, equals, few_list, left_pair, left_no_pair, joined_rows, Climbs}
 use Rattle.shop_model.specs.Rows.{Row, at, is_of, is_row}
 use Rattle.shop_model.specs.Values.{Film, Rental, Payment}
 use Rattle.shop_model.specs.Books.{Books, BookCopy, head}
 use Rattle.shop_model.specs.Sound.{HasNumbers}
+use Rattle.shop_model.proofs.FoundLemmas.{at_one}
 use Rattle.shop_schema.specs.Tables.{shop_schema}
 use Rattle.shop_schema.specs.Columns.{film_columns, copy_columns, rental_columns, payment_columns}
 use Rattle.shop_schema.specs.Shop.{IsShop, StandsFor}
 use Rattle.shop_schema.proofs.Lists.{picks_row}
 use Rattle.branch_looks.specs.Payments.{category_in}
-use Rattle.branch_looks.proofs.Numbers.{one_at, left_number, left_null}
-use Rattle.branch_looks.proofs.Orders.{kept_as_map, counted_rise, not_equal, not_less}
+use Rattle.branch_looks.proofs.Numbers.{left_number, left_null}
+use Rattle.branch_looks.proofs.Orders.{counted_rise, not_equal, not_less}
 use Rattle.branch_looks.proofs.PaymentQuery.{select_payments, payments_query, payments_mean, payment_tests, payment_shows, payment_order, with_film, with_copy, with_rental}
 
 -- by the rows of the payment's branch: its rental, and the films of some copies, rentals and of the payment
@@ -70,7 +72,7 @@ module _ (b : ℕ) (books : Books) (db : Trees) (s : StandsFor db books) (held :
     copy_there : (copy : Row BookCopy) → after_copy (Null ∷ copy_columns copy) ≡ out (column c2 1) (category_of (at copy.it.film books.catalogue.films))
     copy_there copy =
         left_number 12 film_columns (db 14) books.catalogue.films s.films (λ it. refl) (λ r. refl) ends (λ r. refl) copy.it.film
-        ∙ go (at copy.it.film books.catalogue.films) (one_at copy.it.film books.catalogue.films)
+        ∙ go (at copy.it.film books.catalogue.films) (at_one copy.it.film books.catalogue.films)
       where
         ends : sql.Row → List Output
         ends r4 = shown_of payments_query (overlay db []) end (params ∷ its ∷ (Null ∷ c2) ∷ (Null ∷ copy_columns copy) ∷ r4 ∷ [])
@@ -152,8 +154,8 @@ payment_output books x = (number_value x.number ∷ [], shown_payment books x)
 climb : (books : Books) (x y : Row Payment) → x.number < y.number
     → (is_eq (output_cmp payments_query (payment_output books x) (payment_output books y)) ≡ false) × (is_lt (output_cmp payments_query (payment_output books y) (payment_output books x)) ≡ false)
 climb books x y h = (
-  ap is_eq (last_key _ ∙ number_cmp x.number y.number) ∙ not_equal x.number y.number h,
-  ap is_lt (last_key _ ∙ number_cmp y.number x.number) ∙ not_less x.number y.number h,
+  ap is_eq (then-Equal _ ∙ number_cmp x.number y.number) ∙ not_equal x.number y.number h,
+  ap is_lt (then-Equal _ ∙ number_cmp y.number x.number) ∙ not_less x.number y.number h,
 )
 
 pub shows_payments : (old new : State) (b : ℕ) (rows : List sql.Row) (books : Books) → IsShop old → Shown select_payments (number_value b ∷ []) old new rows → StandsFor old.now.trees books → HasNumbers books

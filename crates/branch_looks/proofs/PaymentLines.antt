@@ -3,6 +3,7 @@ use Rattle.std.proofs.Common.{◌≡◌, ◌==◌, ◌&&◌, ℕ, List, [], ◌�
 use Rattle.std.specs.Prelude.{◌⊎◌}
 use Rattle.std.specs.Option.{option_to_list}
 use Rattle.std.specs.List.{flat_map, list_any}
+use Rattle.std.proofs.lemmas.List.{map-id}
 use Rattle.sqlite.specs.Values.{or_null}
 use Rattle.sqlite_value.specs.Order as sql
 use Rattle.sqlite.specs.State.{State, Shown}
@@ -16,20 +17,16 @@ use Rattle.shop_model.specs.Stock.{film_of}
 use Rattle.shop_model.specs.Sound.{HasNumbers}
 use Rattle.shop_model.specs.Views.{paid_rentals, takings, sales_of}
 use Rattle.shop_model.proofs.RowLemmas.{same_if, row_at}
+use Rattle.shop_model.proofs.FoundLemmas.{at_one}
 use Rattle.shop_schema.specs.Shop.{IsShop, StandsFor}
 use Rattle.branch_looks.specs.Payments.{PaidLine, shown_line, rentals_of, category_in, paid_line, paid_lines, Sale, sale, sale_in, is_sale_of}
-use Rattle.branch_looks.proofs.Numbers.{one_at}
 use Rattle.branch_looks.proofs.PaymentQuery.{select_payments}
 use Rattle.branch_looks.proofs.PaymentJoin.{rental_rows, copy_films, rental_films, shown_payment, shows_payments}
 
 -- ---- a branch's rows
 
-same_values : {A : Type 0} (xs : List A) → map (λ x. x) xs ≡ xs
-same_values [] = refl
-same_values (x ∷ xs) = ap (λ l. x ∷ l) (same_values xs)
-
 rows_at : {A : Type 0} (b n : ℕ) (rows : List (Row A)) → IsCounted 1 (map (λ row. row.number) (filter (is_of b) rows)) → map (λ row. row.it) (filter (is_row b n) rows) ≡ at n (of b rows)
-rows_at b n rows counted = row_at (λ it. it) b n rows counted ∙ ap (at n) (same_values (of b rows))
+rows_at b n rows counted = row_at (λ it. it) b n rows counted ∙ ap (at n) (map-id (of b rows))
 
 -- the rows of a number have that number
 numbers_of : {A : Type 0} (b n : ℕ) (rows : List (Row A)) → map (λ row. row.number) (filter (is_row b n) rows) ≡ map (λ (_ : A). n) (map (λ row. row.it) (filter (is_row b n) rows))
@@ -121,7 +118,7 @@ module _ (catalogue : Catalogue) (shop : Shop) where
           ≡ map (λ (_ : ℕ). record { amount = payment.amount; category = category_in (flat_map (film_of catalogue shop) (flat_map (λ n. at n shop.rentals) (option_to_list o))) })
           (option_to_list (head (flat_map (λ n. map (λ (_ : Rental). n) (at n shop.rentals)) (option_to_list o))))
       go None = refl
-      go (Some n) = some n (at n shop.rentals) (one_at n shop.rentals)
+      go (Some n) = some n (at n shop.rentals) (at_one n shop.rentals)
 
   -- the payments that have a rental are the sales, in their order
   pub paid_are : map (sale catalogue shop) (paid_rentals shop) ≡ flat_map sale_in (map (paid_line catalogue shop) shop.payments)
@@ -131,7 +128,7 @@ module _ (catalogue : Catalogue) (shop : Shop) where
       ∙ sym (flat_map-map sale_in (paid_line catalogue shop) shop.payments)
 
   one_film : (rental : Rental) → (film_of catalogue shop rental ≡ []) ⊎ ((film : Film) × (film_of catalogue shop rental ≡ film ∷ []))
-  one_film rental = go (at rental.copy shop.copies) (one_at rental.copy shop.copies)
+  one_film rental = go (at rental.copy shop.copies) (at_one rental.copy shop.copies)
     where
       films : List Copy → List Film
       films l = flat_map (λ (copy : Copy). at copy.film catalogue.films) l
@@ -141,7 +138,7 @@ module _ (catalogue : Catalogue) (shop : Shop) where
 
       go : (l : List Copy) → (l ≡ []) ⊎ ((copy : Copy) × (l ≡ copy ∷ [])) → Q (films l)
       go l (inl none) = inl (ap films none)
-      go l (inr one) = subst Q (sym (ap films one.1 ∙ append-nil (at one.0.film catalogue.films))) (one_at one.0.film catalogue.films)
+      go l (inr one) = subst Q (sym (ap films one.1 ∙ append-nil (at one.0.film catalogue.films))) (at_one one.0.film catalogue.films)
 
   is_sale : (category : ℕ) (it : Payment × Rental) → list_any (λ (film : Film). film.category == category) (film_of catalogue shop it.1) ≡ is_sale_of category (sale catalogue shop it)
   is_sale category it = go (film_of catalogue shop it.1) (one_film it.1)

@@ -3,13 +3,14 @@ use Rattle.std.proofs.Common.{◌≡◌, ◌==◌, ◌<◌, ℕ, List, [], ◌�
 use Rattle.sqlite.specs.declared.types.Value.{Value}
 use Rattle.sqlite.specs.declared.types.Value.TheVariants.{Null, Text}
 use Rattle.sqlite_value.specs.Order as sql
+use Rattle.sqlite_value.proofs.OrderLemmas.{then-Equal}
 use Rattle.sqlite_trees.specs.Tree.{Trees}
 use Rattle.sqlite_sql.specs.Query.{end, Output, output_cmp}
 use Rattle.sqlite_sql.specs.Program.{overlay}
 use Rattle.sqlite.specs.State.{State, Shown}
 use Rattle.sqlite_keyed.proofs.ListLemmas.{map-map, ascending-map, ascending-filter, ascending_weaker, IsPermutation-same}
 use Rattle.sql_rows.specs.Rows.{HasRows, number_value, flag_value}
-use Rattle.sql_rows.proofs.Queries.{answers, last_key, number_cmp}
+use Rattle.sql_rows.proofs.Queries.{answers, number_cmp, kept_as_map}
 use Rattle.sql_rows.proofs.ColumnTests.{one_tested, number_tested}
 use Rattle.sql_rows.proofs.Joins.{shown_of, joined_rows, Climbs}
 use Rattle.shop_model.specs.Rows.{Row, is_of, numbered, IsCounted}
@@ -23,7 +24,7 @@ use Rattle.shop_schema.proofs.Lasts.{numbered_counted}
 use Rattle.branch_looks.specs.Shown.{shown_customer, shown_staff}
 use Rattle.branch_looks.proofs.PeopleQueries.{with_city, select_customers, customers_query, customers_mean, customer_tests, customer_shows, customer_order, select_staff, staff_query, staff_mean, staff_tests, staff_shows, staff_order}
 use Rattle.branch_looks.proofs.PersonJoin.{person_brings}
-use Rattle.branch_looks.proofs.Orders.{kept_as_map, counted_rise, not_equal, not_less}
+use Rattle.branch_looks.proofs.Orders.{counted_rise, not_equal, not_less}
 
 -- ---- customers
 
@@ -51,8 +52,8 @@ module _ (b : ℕ) (catalogue : Catalogue) (db : Trees) (cities : HasRows 3 (db 
 customers_climb : (catalogue : Catalogue) (x y : Row Customer) → x.number < y.number
     → (is_eq (output_cmp customers_query (customer_output catalogue x) (customer_output catalogue y)) ≡ false) × (is_lt (output_cmp customers_query (customer_output catalogue y) (customer_output catalogue x)) ≡ false)
 customers_climb catalogue x y h = (
-  ap is_eq (last_key _ ∙ number_cmp x.number y.number) ∙ not_equal x.number y.number h,
-  ap is_lt (last_key _ ∙ number_cmp y.number x.number) ∙ not_less x.number y.number h,
+  ap is_eq (then-Equal _ ∙ number_cmp x.number y.number) ∙ not_equal x.number y.number h,
+  ap is_lt (then-Equal _ ∙ number_cmp y.number x.number) ∙ not_less x.number y.number h,
 )
 
 -- the branch's customers, in the order of their numbers
@@ -96,8 +97,8 @@ module _ (b : ℕ) (catalogue : Catalogue) (db : Trees) (cities : HasRows 3 (db 
 staff_climb : (catalogue : Catalogue) (x y : ℕ × Staff) → x.0 < y.0
     → (is_eq (output_cmp staff_query (staff_output catalogue x) (staff_output catalogue y)) ≡ false) × (is_lt (output_cmp staff_query (staff_output catalogue y) (staff_output catalogue x)) ≡ false)
 staff_climb catalogue x y h = (
-  ap is_eq (last_key _ ∙ number_cmp x.0 y.0) ∙ not_equal x.0 y.0 h,
-  ap is_lt (last_key _ ∙ number_cmp y.0 x.0) ∙ not_less x.0 y.0 h,
+  ap is_eq (then-Equal _ ∙ number_cmp x.0 y.0) ∙ not_equal x.0 y.0 h,
+  ap is_lt (then-Equal _ ∙ number_cmp y.0 x.0) ∙ not_less x.0 y.0 h,
 )
 
 -- the branch's staff, in the order of their numbers

@@ -16,9 +16,10 @@ use Rattle.shop_model.specs.Rows.{at, numbered}
 use Rattle.shop_model.specs.Values as model
 use Rattle.shop_model.specs.Values.{City}
 use Rattle.shop_model.specs.Shop.{Catalogue}
+use Rattle.shop_model.proofs.FoundLemmas.{at_one}
 use Rattle.shop_schema.specs.Columns.{named_columns, city_columns}
 use Rattle.branch_looks.specs.Shown.{name_or_null}
-use Rattle.branch_looks.proofs.Numbers.{one_at, left_number, left_null}
+use Rattle.branch_looks.proofs.Numbers.{left_number, left_null}
 use Rattle.branch_looks.proofs.PeopleQueries.{country_then, city_then}
 
 -- `its` is the row, with the city's number in the column `place`; `more` is joined behind; `out` is what the query shows with these two names
@@ -42,7 +43,7 @@ module _ (place : ℕ) (more : Join) (q : Query) (catalogue : Catalogue) (db : T
   city_there : (m : ℕ) (c : City) → shows (Null ∷ city_columns (m, c)) ≡ out (Text c.name) (name_or_null (at c.country catalogue.countries))
   city_there m c =
       left_number 2 named_columns (db 1) catalogue.countries countries (λ it. refl) (λ r. refl) (last (Null ∷ city_columns (m, c))) (only (Null ∷ city_columns (m, c))) c.country
-      ∙ go (at c.country catalogue.countries) (one_at c.country catalogue.countries)
+      ∙ go (at c.country catalogue.countries) (at_one c.country catalogue.countries)
     where
       P : List model.Text → Type 0
       P l = flat_map (λ c3. last (Null ∷ city_columns (m, c)) (Null ∷ c3)) (or_blank 2 (map (λ name. named_columns (c.country, name)) l)) ≡ out (Text c.name) (name_or_null l)
@@ -61,7 +62,7 @@ module _ (place : ℕ) (more : Join) (q : Query) (catalogue : Catalogue) (db : T
   person_brings =
       ap (λ v. flat_map shows (or_nulls (filter (λ r. equals (column r 1) v && true) (db 10)))) city
       ∙ left_number 3 city_columns (db 10) catalogue.cities cities (λ it. refl) (λ r. refl) shows same_city n
-      ∙ go (at n catalogue.cities) (one_at n catalogue.cities)
+      ∙ go (at n catalogue.cities) (at_one n catalogue.cities)
     where
       P : List City → Type 0
       P l = flat_map (λ c2. shows (Null ∷ c2)) (or_blank 3 (map (λ c. city_columns (n, c)) l))

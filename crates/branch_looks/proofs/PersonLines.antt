@@ -5,16 +5,15 @@ use Rattle.std.specs.List.{flat_map}
 use Rattle.sqlite.specs.declared.types.Value.TheVariants.{Text}
 use Rattle.sqlite_value.specs.Order as sql
 use Rattle.sqlite_value.specs.Order.{column}
-use Rattle.sql_rows.specs.Rows.{number_value}
 use Rattle.shop_model.specs.Rows.{Row, at, numbered_from, IsCounted}
 use Rattle.shop_model.specs.Values as model
 use Rattle.shop_model.specs.Values.{Person, City, Customer}
 use Rattle.shop_model.specs.Shop.{Catalogue}
 use Rattle.shop_model.specs.Views.{PersonRow, full_name, city_name, country_name, person_row}
+use Rattle.shop_model.proofs.FoundLemmas.{at_one}
 use Rattle.reply_bodies.specs.People.{seen_person}
 use Rattle.reply_bodies.specs.declared.people.ListedPerson.{ListedPerson}
 use Rattle.branch_looks.specs.Shown.{name_or_null, text_or_empty, shown_person, listed_customer}
-use Rattle.branch_looks.proofs.Numbers.{one_at}
 
 -- ---- names that may be missing
 
@@ -30,7 +29,7 @@ name_read l (inr one) = subst P (sym one.1) (sym (append-nil one.0))
     P l = text_or_empty (name_or_null l) ≡ flat_map (λ (name : model.Text). name) l
 
 pub city_read : (catalogue : Catalogue) (n : ℕ) → text_or_empty (name_or_null (map (λ (it : City). it.name) (at n catalogue.cities))) ≡ city_name catalogue n
-city_read catalogue n = go (at n catalogue.cities) (one_at n catalogue.cities)
+city_read catalogue n = go (at n catalogue.cities) (at_one n catalogue.cities)
   where
     P : List City → Type 0
     P l = text_or_empty (name_or_null (map (λ (it : City). it.name) l)) ≡ flat_map (λ (it : City). it.name) l
@@ -40,7 +39,7 @@ city_read catalogue n = go (at n catalogue.cities) (one_at n catalogue.cities)
     go l (inr one) = subst P (sym one.1) (sym (append-nil one.0.name))
 
 pub country_read : (catalogue : Catalogue) (n : ℕ) → text_or_empty (name_or_null (flat_map (λ (it : City). at it.country catalogue.countries) (at n catalogue.cities))) ≡ country_name catalogue n
-country_read catalogue n = go (at n catalogue.cities) (one_at n catalogue.cities)
+country_read catalogue n = go (at n catalogue.cities) (at_one n catalogue.cities)
   where
     P : List City → Type 0
     P l = text_or_empty (name_or_null (flat_map (λ (it : City). at it.country catalogue.countries) l)) ≡ flat_map (λ (it : City). flat_map (λ (name : model.Text). name) (at it.country catalogue.countries)) l
@@ -50,12 +49,9 @@ country_read catalogue n = go (at n catalogue.cities) (one_at n catalogue.cities
     go l (inr some) =
         let countries = at some.0.country catalogue.countries in
         subst P (sym some.1)
-        (ap (λ k. text_or_empty (name_or_null k)) (append-nil countries) ∙ name_read countries (one_at some.0.country catalogue.countries) ∙ sym (append-nil (flat_map (λ (name : model.Text). name) countries)))
+        (ap (λ k. text_or_empty (name_or_null k)) (append-nil countries) ∙ name_read countries (at_one some.0.country catalogue.countries) ∙ sym (append-nil (flat_map (λ (name : model.Text). name) countries)))
 
 -- ---- a row
-
-pub same_number : (m n : ℕ) → number_value m ≡ number_value n → m ≡ n
-same_number m n e = cc
 
 pub same_words : (s t : model.Text) → Text s ≡ Text t → s ≡ t
 same_words s t e = cc

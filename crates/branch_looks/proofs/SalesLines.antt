@@ -8,21 +8,22 @@ use Rattle.sqlite.specs.Values.{or_null}
 use Rattle.sqlite_value.specs.Order as sql
 use Rattle.sqlite_value.specs.Order.{column}
 use Rattle.sql_rows.specs.Rows.{number_value}
+use Rattle.sql_rows.proofs.ColumnTests.{same_number}
 use Rattle.shop_model.specs.Rows.{at, is_empty, total}
 use Rattle.shop_model.specs.Values as model
 use Rattle.shop_model.specs.Values.{Branch, Staff, Rental, Payment}
 use Rattle.shop_model.specs.Shop.{Catalogue}
 use Rattle.shop_model.specs.Books.{Books, head, shop_of}
 use Rattle.shop_model.specs.Views.{full_name, person_name, manager_name, city_name, country_name, paid_rentals, takings}
+use Rattle.shop_model.proofs.FoundLemmas.{at_one}
 use Rattle.shop_schema.proofs.Lists.{flat_map_push}
 use Rattle.reply_bodies.specs.Sales.{manager_text}
 use Rattle.reply_bodies.specs.declared.names.PersonName.{PersonName}
 use Rattle.branch_looks.specs.Shown.{text_or_empty, IsNameIn}
 use Rattle.branch_looks.specs.Payments.{PaidLine, shown_line, paid_lines, Sale, sale, sale_in}
 use Rattle.branch_looks.specs.Sales.{sum_of, rental_sum, manager_of, shown_store, store_with}
-use Rattle.branch_looks.proofs.Numbers.{one_at}
 use Rattle.branch_looks.proofs.PageLines.{split_last}
-use Rattle.branch_looks.proofs.PersonLines.{city_read, country_read, same_number, same_words}
+use Rattle.branch_looks.proofs.PersonLines.{city_read, country_read, same_words}
 use Rattle.branch_looks.proofs.PaymentLines.{paid_are, takings_are}
 
 -- ---- sums
@@ -82,7 +83,7 @@ only_manager catalogue branch = go branch.manager
   where
     go : (o : Option ℕ) → option_to_list (head (flat_map (λ n. at n catalogue.staff) (option_to_list o))) ≡ flat_map (λ n. at n catalogue.staff) (option_to_list o)
     go None = refl
-    go (Some n) = subst (λ (k : List Staff). option_to_list (head k) ≡ k) (sym (append-nil (at n catalogue.staff))) (one_only (at n catalogue.staff) (one_at n catalogue.staff))
+    go (Some n) = subst (λ (k : List Staff). option_to_list (head k) ≡ k) (sym (append-nil (at n catalogue.staff))) (one_only (at n catalogue.staff) (at_one n catalogue.staff))
 
 manager_named : (row : sql.Row) (name : Option PersonName) → IsNameIn (column row 3) (column row 4) name → (o : Option Staff) → column row 3 ≡ or_null (λ (it : Staff). Text it.person.first) o
     → column row 4 ≡ or_null (λ (it : Staff). Text it.person.last) o → manager_text name ≡ flat_map (λ (it : Staff). person_name it.person) (option_to_list o)
@@ -104,7 +105,7 @@ store_is row city country manager at1 at2 at3 catalogue x is =
 -- the branch of the number, where it is there
 pub found_is : {X : Type 0} (value : Branch → X) (b : ℕ) (catalogue : Catalogue) (rows : List sql.Row) (seen : Option X) → rows ≡ map (shown_store catalogue) (map (λ branch. (b, branch)) (at b catalogue.branches))
     → ((found : Option (ℕ × Branch)) → rows ≡ map (shown_store catalogue) (option_to_list found) → seen ≡ option_map (λ (it : ℕ × Branch). value it.1) found) → seen ≡ head (map value (at b catalogue.branches))
-found_is {X} value b catalogue rows seen are told = go (at b catalogue.branches) (one_at b catalogue.branches) are
+found_is {X} value b catalogue rows seen are told = go (at b catalogue.branches) (at_one b catalogue.branches) are
   where
     P : List Branch → Type 0
     P l = rows ≡ map (shown_store catalogue) (map (λ branch. (b, branch)) l) → seen ≡ head (map value l)

@@ -8,25 +8,27 @@ use Rattle.sqlite.specs.declared.types.Value.TheVariants.{Null, Text}
 use Rattle.sqlite.specs.Values.{or_null}
 use Rattle.sqlite_value.specs.Order as sql
 use Rattle.sqlite_value.specs.Order.{column}
+use Rattle.sqlite_value.proofs.OrderLemmas.{then-Equal}
 use Rattle.sqlite_trees.specs.Tree.{Trees}
 use Rattle.sqlite_sql.specs.Query.{end, or_nulls, Output, output_cmp}
 use Rattle.sqlite_sql.specs.Program.{overlay}
 use Rattle.sqlite.specs.State.{State, Shown}
 use Rattle.sqlite_keyed.proofs.ListLemmas.{map-map, ascending-map, ascending-filter, ascending_weaker, IsPermutation-same}
 use Rattle.sql_rows.specs.Rows.{columns_of, number_value}
-use Rattle.sql_rows.proofs.Queries.{answers, last_key, number_cmp}
+use Rattle.sql_rows.proofs.Queries.{answers, number_cmp, kept_as_map}
 use Rattle.sql_rows.proofs.ColumnTests.{one_tested, number_tested}
 use Rattle.sql_rows.proofs.Joins.{or_blank, shown_of, equals, joined_rows, Climbs}
 use Rattle.shop_model.specs.Rows.{at, numbered}
 use Rattle.shop_model.specs.Values.{Branch, Staff}
 use Rattle.shop_model.specs.Books.{Books, head}
+use Rattle.shop_model.proofs.FoundLemmas.{at_one}
 use Rattle.shop_schema.specs.Tables.{shop_schema}
 use Rattle.shop_schema.specs.Columns.{branch_columns, staff_columns}
 use Rattle.shop_schema.specs.Shop.{IsShop, StandsFor}
 use Rattle.shop_schema.proofs.Lasts.{numbered_counted}
 use Rattle.branch_looks.specs.Sales.{manager_of, shown_store}
-use Rattle.branch_looks.proofs.Numbers.{one_at, left_number, left_null, numbered_at}
-use Rattle.branch_looks.proofs.Orders.{kept_as_map, counted_rise, not_equal, not_less}
+use Rattle.branch_looks.proofs.Numbers.{left_number, left_null, numbered_at}
+use Rattle.branch_looks.proofs.Orders.{counted_rise, not_equal, not_less}
 use Rattle.branch_looks.proofs.PersonJoin.{person_brings}
 use Rattle.branch_looks.proofs.StoreQuery.{select_store, store_query, store_means, store_tests, store_shows, store_order, with_manager, with_names}
 
@@ -80,7 +82,7 @@ module _ (b : ℕ) (books : Books) (db : Trees) (s : StandsFor db books) (x : �
         go (Some n) e =
             subst K (sym (ap (or_null number_value) e))
             (left_number 9 staff_columns (db 21) books.catalogue.staff s.staff (λ it. refl) (λ r. refl) last (λ r. refl) n
-            ∙ some n (at n books.catalogue.staff) (one_at n books.catalogue.staff)
+            ∙ some n (at n books.catalogue.staff) (at_one n books.catalogue.staff)
             ∙ ap out_of (sym (append-nil (at n books.catalogue.staff))) ∙ ap (λ o. out_of (found_by o)) (sym e))
 
   store_brings : shown_of store_query (overlay db []) with_names (params ∷ its ∷ []) ≡ cond (x.0 == b) ((number_value x.0 ∷ [], shown_store books.catalogue x) ∷ []) []
@@ -94,8 +96,8 @@ store_output books x = (number_value x.0 ∷ [], shown_store books.catalogue x)
 climb : (books : Books) (x y : ℕ × Branch) → x.0 < y.0
     → (is_eq (output_cmp store_query (store_output books x) (store_output books y)) ≡ false) × (is_lt (output_cmp store_query (store_output books y) (store_output books x)) ≡ false)
 climb books x y h = (
-  ap is_eq (last_key _ ∙ number_cmp x.0 y.0) ∙ not_equal x.0 y.0 h,
-  ap is_lt (last_key _ ∙ number_cmp y.0 x.0) ∙ not_less x.0 y.0 h,
+  ap is_eq (then-Equal _ ∙ number_cmp x.0 y.0) ∙ not_equal x.0 y.0 h,
+  ap is_lt (then-Equal _ ∙ number_cmp y.0 x.0) ∙ not_less x.0 y.0 h,
 )
 
 pub shows_store : (old new : State) (b : ℕ) (rows : List sql.Row) (books : Books) → IsShop old → Shown select_store (number_value b ∷ []) old new rows → StandsFor old.now.trees books

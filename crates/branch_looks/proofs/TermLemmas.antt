@@ -1,9 +1,9 @@
 -- What is found of a rental's copy and film tells its terms.
 use Rattle.std.proofs.Common.{◌≡◌, ◌∙◌, inl, inr, refl, sym, ap, subst, cond, arith, ℕ, ◌+◌, ◌<◌, List, [], ◌∷◌, ◌++◌, length, map, filter, flat_map, take, get_or, codes, append_assoc, append-nil, Bool, true, false, Option, Some, None, option_map}
-use Rattle.std.proofs.lemmas.Bool.{cases_Bool}
+use Rattle.std.proofs.lemmas.Bool.{cases_Bool, and_parts}
 use Rattle.std.proofs.lemmas.List.{map-append, take_more, length-append}
 use Rattle.std.proofs.lemmas.List.Elements.{filter-append}
-use Rattle.std.specs.Prelude.{◌-◌, ◌==◌, ◌&&◌, ◌||◌, if◌then◌else◌, nat_lt, is_none, is_some}
+use Rattle.std.specs.Prelude.{◌-◌, ◌==◌, ◌&&◌, if◌then◌else◌, nat_lt, is_none, is_some}
 use Rattle.std.specs.List.{list_any}
 use Rattle.std.specs.Option.{option_to_list, IfSome}
 use Rattle.std.proofs.Common.{Ordering, Less, Equal, Greater}
@@ -24,6 +24,7 @@ use Rattle.shop_store.specs.declared.copies.CopyRow.{CopyRow}
 use Rattle.shop_store.specs.declared.customers.CustomerRow.{CustomerRow}
 use Rattle.shop_store.specs.Seen.{seen_copy_row}
 use Rattle.shop_schema.proofs.Lists.{flat_map_push}
+use Rattle.sqlite_exec.proofs.SeenLemmas.{or_false}
 use Rattle.branch_looks.specs.Finds.{AreKnown, rentals_at}
 use Rattle.shop_store.specs.declared.reads.FilmTerms.{FilmTerms}
 use Rattle.shop_store.specs.SharedSeen.{seen_terms, title_of}
@@ -92,10 +93,6 @@ film_of_copy b books rental found row there is =
     ∙ ap (λ (x : Option CopyRow). films_at films (map unmarked (option_to_list (option_map (λ (x : CopyRow). (seen_copy_row x).it) x)))) there
     ∙ append-nil (at row.film films)
 
-or_false : (b : Bool) → (b || false) ≡ b
-or_false true = refl
-or_false false = refl
-
 abbrev period_told : Option (ℕ × ℕ) → ℕ
 period_told None = 0
 period_told (Some it) = it.1
@@ -107,10 +104,6 @@ late_by rental moment it (film ∷ []) is one =
     or_false (nat_lt (day_of rental.rented + film.period) (day_of moment))
     ∙ ap (λ (period : ℕ). nat_lt (day_of rental.rented + period) (day_of moment)) (sym (ap period_told is))
 late_by rental moment it (film ∷ other ∷ films) is one = cc
-
-both_left : (a b : Bool) → (a && b) ≡ true → a ≡ true
-both_left true b e = refl
-both_left false b e = e
 
 none_given : {A : Type 0} (o : Option A) → is_some o ≡ false → is_none o ≡ true
 none_given None isnt = refl
@@ -127,7 +120,7 @@ module _ (catalogue : Catalogue) (shop : Shop) (moment : Moment) (rental : Renta
       ∙ late_by rental moment it (at film catalogue.films) told (picks_one film catalogue.films)
 
   overdue_is_open : is_overdue catalogue shop moment rental ≡ true → is_none rental.returned ≡ true
-  overdue_is_open is = both_left (is_none rental.returned) (list_any (λ (f : Film). nat_lt (day_of rental.rented + f.period) (day_of moment)) (film_of catalogue shop rental)) is
+  overdue_is_open is = (and_parts (is_none rental.returned) (list_any (λ (f : Film). nat_lt (day_of rental.rented + f.period) (day_of moment)) (film_of catalogue shop rental)) is).0
 
 -- among the open rentals are all that are overdue
 pub overdue_of_open : (catalogue : Catalogue) (shop : Shop) (moment : Moment) (rentals : List Rental)

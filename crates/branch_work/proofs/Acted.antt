@@ -8,11 +8,11 @@ use Rattle.shop_model.specs.Values.{Rules, Command, Act, Customer, Rental, Payme
 use Rattle.shop_model.specs.Machine.{told, reply_text}
 use Rattle.shop_model.specs.Books.{Books, book_acted, book_done, head, put_state, set_last, shop_of, unmarked}
 use Rattle.shop_model.proofs.RowLemmas.{length_map, map_at, row_at}
+use Rattle.shop_model.proofs.FoundLemmas.{found_some}
 use Rattle.shop_schema.specs.Held.{IsHeld}
 use Rattle.branch_core.specs.Decided.{Adds}
 use Rattle.branch_core.specs.declared.change.Rows.{Rows}
 use Rattle.branch_core.specs.declared.change.Rows.TheVariants as rows
-use Rattle.branch_core.proofs.ActLemmas.{found_some}
 use Rattle.branch_work.specs.Rules.{rules_of}
 use Rattle.branch_work.specs.Added.{with_rows, rows_text, with_kept, with_import, import_text, IsBack, AreReady}
 

@@ -1,5 +1,5 @@
 -- What is found under a key, by the stored form of the command and by the command itself.
-use Rattle.std.proofs.Common.{◌≡◌, ◌∙◌, refl, sym, ap, ℕ, Bool, true, false, List, [], ◌∷◌, map, filter, cond, Option, Some, option_map}
+use Rattle.std.proofs.Common.{◌≡◌, ◌∙◌, refl, ap, ℕ, Bool, true, false, List, [], ◌∷◌, map, filter, cond, Option, Some, option_map}
 use Rattle.std.specs.Prelude.{◌==◌}
 use Rattle.std.specs.List.{AllByRecursion}
 use Rattle.std.specs.Str.{bytes_eq}
@@ -12,6 +12,7 @@ use Rattle.shop_model.specs.Books.{head}
 use Rattle.shop_schema.specs.Forms.{command_form}
 use Rattle.shop_schema.specs.RowValues.{IsKept}
 use Rattle.shop_schema.proofs.OneToOne.{forms_are_one_to_one}
+use Rattle.shop_schema.proofs.OfficeOneToOne.{same_truth}
 use Rattle.shop_ledger.specs.Seen.{by_form, stored_kept}
 use Rattle.branch_core.specs.Agreed.{kept_for}
 
@@ -27,12 +28,6 @@ owned_real b (row ∷ rows) all = go (row.owner == b) (owned_real b rows all.1)
         → AllByRecursion (λ (k : Kept). IsMoment k.command.moment) (map (λ (r : Owned Kept). r.it) (cond t (row ∷ filter (λ r. r.owner == b) rows) (filter (λ r. r.owner == b) rows)))
     go true more = (all.0.1.moment, more)
     go false more = more
-
-same_truth : (s t : Bool) → (s ≡ true → t ≡ true) → (t ≡ true → s ≡ true) → s ≡ t
-same_truth true true f h = refl
-same_truth true false f h = sym (f refl)
-same_truth false true f h = h refl
-same_truth false false f h = refl
 
 -- under one key, the stored forms are the same exactly where the commands are
 one_told : (command : Command) (form : List ℕ) (kept : Kept) → form ≡ command_form command → IsMoment command.moment → IsReal kept → bytes_eq kept.command.key command.key ≡ true

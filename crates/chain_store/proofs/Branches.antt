@@ -1,6 +1,6 @@
 -- In a run each branch is told what its own machine says.
-use Rattle.std.proofs.Common.{◌≡◌, ◌∙◌, inl, inr, ℕ, List, [], ◌∷◌, true, false, map, refl, ap, Bool, filter}
-use Rattle.std.proofs.lemmas.Bool.{cases_Bool}
+use Rattle.std.proofs.Common.{◌≡◌, ◌∙◌, inl, inr, ℕ, List, [], ◌∷◌, true, map, refl, ap, Bool, filter}
+use Rattle.std.proofs.lemmas.Bool.{cases_Bool, and_parts}
 use Rattle.shop_model.specs.Values.{OfficeAsk, Rules}
 use Rattle.shop_model.specs.Machine.{Reply}
 use Rattle.shop_model.specs.Answers.{Answer, answer_of}
@@ -8,10 +8,10 @@ use Rattle.shop_model.specs.Books.{Books, Event, Caller, is_counter, caller_in, 
 use Rattle.shop_model.specs.Histories.{IsRun, counted_in, is_decided, is_store_failure, fails_for_good}
 use Rattle.shop_model.specs.Repeats.{marked_ones}
 use Rattle.shop_model.proofs.Isolation.{alone}
+use Rattle.shop_model.proofs.Histories.{decided_failure}
+use Rattle.shop_model.proofs.Resends.{failure_undecided}
 use Rattle.chain_store.specs.Branches.{answered_to, KeepsBranches}
-use Rattle.std.specs.Prelude.{◌==◌}
 use Rattle.std.specs.List.{list_all}
-use Rattle.shop_model.proofs.CustodyLemmas.{and_parts}
 
 -- which events of the counted history were the branch's, by the catalogue as it was when each came
 abbrev are_of : Rules → (OfficeAsk → Books → Reply) → ℕ → List Event → Books → List Bool
@@ -30,18 +30,6 @@ told_to b (it ∷ all) = elim (cases_Bool (is_counter b it.0)) [
   | inr isnt ↦ rw isnt (told_to b all)
 ]
 
-failure_undecided : (answer : Answer) → is_store_failure answer ≡ true → is_decided answer ≡ false
-failure_undecided answer is = elim (cases_Bool (answer.status == 503)) [
-  | inl bad ↦ rw bad refl
-  | inr good ↦ let no : false ≡ true = rw good at is in cc
-]
-
-decided_sound : (answer : Answer) → is_decided answer ≡ true → is_store_failure answer ≡ false
-decided_sound answer is = elim (cases_Bool (answer.status == 503)) [
-  | inl bad ↦ let no : false ≡ true = rw bad at is in cc
-  | inr good ↦ rw good refl
-]
-
 -- behind a failure nothing is decided
 none_told : (rules : Rules) (b : ℕ) (events : List Event) (answers : List Answer) (books : Books) → list_all is_store_failure answers ≡ true → answered_to rules b events answers books ≡ []
 none_told rules b [] answers books all = refl
@@ -57,7 +45,7 @@ told_same rules look b [] answers books stays = refl
 told_same rules look b (event ∷ events) [] books stays = refl
 told_same rules look b (event ∷ events) (answer ∷ answers) books stays = elim (cases_Bool (is_decided answer)) [
   | inl is ↦
-      let sound = decided_sound answer is in
+      let sound = decided_failure answer is in
       let later : fails_for_good answers ≡ true = rw sound at stays in
       let more = told_same rules look b events answers (after rules event books) later in
       elim (cases_Bool (is_counter b (caller_in event books))) [

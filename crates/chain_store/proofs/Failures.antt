@@ -2,10 +2,9 @@
 use Rattle.std.proofs.Common.{◌≡◌, ℕ, Bool, true, false, not, refl}
 use Rattle.std.specs.Prelude.{◌==◌, ◌&&◌}
 use Rattle.std.specs.Str.{bytes_eq}
-use Rattle.shop_model.specs.Refusals.{Memory, Size, StoreFailed}
+use Rattle.shop_model.specs.Refusals.{StoreFailed}
 use Rattle.shop_model.specs.Machine.{Reply}
-use Rattle.shop_model.specs.Answers.{answer_of, problem_answer, problem_text}
-use Rattle.shop_model.specs.Json.{escape_byte}
+use Rattle.shop_model.specs.Answers.{answer_of, problem_text}
 use Rattle.shop_model.specs.Histories.{is_store_failure}
 use Rattle.shop_model.proofs.Histories.{decided_is}
 
@@ -22,16 +21,3 @@ decided_fine reply = fine (answer_of reply).status (bytes_eq (answer_of reply).b
             apart : false ≡ true → ⊥
             apart e = cc
         go false e = refl
-
--- nor want of memory or room
-pub memory_fine : is_store_failure (problem_answer Memory) ≡ false
-unfolding escape_byte
-memory_fine = refl
-
-pub size_fine : is_store_failure (problem_answer Size) ≡ false
-unfolding escape_byte
-size_fine = refl
-
-pub failure_is : is_store_failure (problem_answer StoreFailed) ≡ true
-unfolding escape_byte
-failure_is = refl

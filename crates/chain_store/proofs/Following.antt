@@ -2,11 +2,11 @@
 use Rattle.std.proofs.Common.{◌≡◌, List, [], ◌∷◌, ◌++◌, length, map, Bool, true, false, inl, inr, Some, refl, sym, ap, ap₂, subst, arith, ◌∙◌, length-append}
 use Rattle.std.specs.Prelude.{◌||◌, ◌==◌, if◌then◌else◌}
 use Rattle.std.specs.Str.{bytes_eq}
-use Rattle.std.proofs.lemmas.Bool.{cases_Bool}
+use Rattle.std.proofs.lemmas.Bool.{cases_Bool, and_parts, or_left, or_right}
 use Rattle.std.specs.List.{list_all}
 use Rattle.std.proofs.lemmas.List.{map-append}
 use Rattle.std.proofs.lemmas.List.Elements.{filter-append}
-use Rattle.std.proofs.lemmas.List.Folds.{list_all-append, list_any-append}
+use Rattle.std.proofs.lemmas.List.Folds.{list_any-append}
 use Rattle.shop_values.specs.LimitValues.{Limits}
 use Rattle.shop_model.specs.Values.{OfficeAsk, Rules}
 use Rattle.shop_model.specs.Refusals.{StoreFailed}
@@ -15,9 +15,9 @@ use Rattle.shop_model.specs.Answers.{Answer, answer_of, problem_text}
 use Rattle.shop_model.specs.Books.{Books, Event, Caller, after, run, last_books}
 use Rattle.shop_model.specs.Office.{office_look}
 use Rattle.shop_model.specs.Histories.{IsRun, is_decided, is_store_failure, is_answer, counted_in, fails_for_good, has_failed}
-use Rattle.shop_model.proofs.CustodyLemmas.{and_parts}
 use Rattle.shop_model.proofs.Histories.{run_append, last_append}
 use Rattle.shop_model.proofs.Resends.{runs_resend}
+use Rattle.shop_model.proofs.Origins.{all_append}
 use Rattle.branch_work.specs.Rules.{rules_of}
 use Rattle.chain_store.specs.Holding.{Holding}
 use Rattle.chain_store.specs.Chains.{Runs, failing}
@@ -27,19 +27,9 @@ use Rattle.chain_store.proofs.Branches.{runs_keep}
 abbrev FailsOn : List Answer → List Answer → Type 0
 FailsOn answers more = has_failed answers ≡ true → list_all is_store_failure more ≡ true
 
-or_first : (a b : Bool) → a ≡ true → (a || b) ≡ true
-or_first a b is = rw is refl
-
-or_second : (a b : Bool) → b ≡ true → (a || b) ≡ true
-or_second true b is = refl
-or_second false b is = is
-
 or_then : (was before mid more now : Bool) → mid ≡ (was || before) → now ≡ (mid || more) → now ≡ (was || (before || more))
 or_then true before mid more now first second = rw first at second
 or_then false before mid more now first second = rw first at second
-
-all_both : {A : Type 0} (p : A → Bool) (xs ys : List A) → list_all p xs ≡ true → list_all p ys ≡ true → list_all p (xs ++ ys) ≡ true
-all_both p xs ys all more = rw (list_all-append p xs ys, all, more) refl
 
 -- ---- the counted history
 
@@ -59,11 +49,11 @@ counts_both [] more (a ∷ answers) others same on = absurd (omega arith)
 counts_both (e ∷ events) more [] others same on = absurd (omega arith)
 counts_both (e ∷ events) more (a ∷ answers) others same on =
     let fewer : length answers ≡ length events = omega arith in
-    let rest = counts_both events more answers others fewer (λ did. on (or_second (is_store_failure a) (has_failed answers) did)) in
+    let rest = counts_both events more answers others fewer (λ did. on (or_right (is_store_failure a) (has_failed answers) did)) in
     elim (cases_Bool (is_decided a)) [
       | inl is ↦ rw is (ap (λ (l : List Event). e ∷ l) rest)
       | inr isnt ↦ elim (cases_Bool (is_store_failure a)) [
-        | inl fails ↦ rw (isnt, fails) (sym (none_counts more others (on (or_first (is_store_failure a) (has_failed answers) fails))))
+        | inl fails ↦ rw (isnt, fails) (sym (none_counts more others (on (or_left (is_store_failure a) (has_failed answers) fails))))
         | inr not ↦ rw (isnt, not) rest
       ]
     ]
@@ -72,9 +62,9 @@ stays_both : (answers others : List Answer) → fails_for_good answers ≡ true 
 stays_both [] others good more on = more
 stays_both (a ∷ answers) others good more on = elim (cases_Bool (is_store_failure a)) [
   | inl fails ↦ let all : list_all is_store_failure answers ≡ true = rw fails at good in
-      rw fails (all_both is_store_failure answers others all (on (or_first (is_store_failure a) (has_failed answers) fails)))
+      rw fails (all_append is_store_failure answers others all (on (or_left (is_store_failure a) (has_failed answers) fails)))
   | inr not ↦ let rest : fails_for_good answers ≡ true = rw not at good in
-      rw not (stays_both answers others rest more (λ did. on (or_second (is_store_failure a) (has_failed answers) did)))
+      rw not (stays_both answers others rest more (λ did. on (or_right (is_store_failure a) (has_failed answers) did)))
 ]
 
 -- ---- the run
@@ -89,7 +79,7 @@ run_follows rules look events more answers others old mid new first second on =
     let told : Told later mid ≡ Told later (last_books rules history old) = ap (λ (b : Books). Told later b) first.books in
     record {
       each = let a = length-append answers others in let b = length-append events more in let e = first.each in let f = second.each in omega arith;
-      answers_are = all_both is_answer answers others first.answers_are second.answers_are;
+      answers_are = all_append is_answer answers others first.answers_are second.answers_are;
       stays = stays_both answers others first.stays second.stays on;
       decisions = filter-append is_decided answers others ∙ ap₂ (λ (xs ys : List Answer). xs ++ ys) first.decisions (second.decisions ∙ told)
           ∙ sym (map-append (λ (it : Caller × Reply). answer_of it.1) (run rules look history old) (run rules look later (last_books rules history old)))
@@ -113,7 +103,7 @@ failing_both (e ∷ events) more (a ∷ answers) others same = elim (cases_Bool 
 
 module _ (old mid new : Holding) (events more : List Event) (answers others : List Answer) (first : Runs events answers old mid) (second : Runs more others mid new) where
   fails_on : FailsOn answers others
-  fails_on did = second.stays (first.failed ∙ or_second old.is_failed (has_failed answers) did)
+  fails_on did = second.stays (first.failed ∙ or_right old.is_failed (has_failed answers) did)
 
   follows : IsRun (rules_of old.limits) office_look (events ++ more) (answers ++ others) old.books new.books
   follows =
@@ -139,8 +129,8 @@ pub runs_follow : (old mid new : Holding) (events more : List Event) (answers ot
 runs_follow old mid new events more answers others first second = record {
   limits = second.limits ∙ first.limits;
   failed = rw (list_any-append is_store_failure answers others) (or_then old.is_failed (has_failed answers) mid.is_failed (has_failed others) new.is_failed first.failed second.failed);
-  stays = λ was. all_both is_store_failure answers others (first.stays was) (second.stays (first.failed ∙ or_first old.is_failed (has_failed answers) was));
-  same = λ was. second.same (first.failed ∙ or_first old.is_failed (has_failed answers) was) ∙ first.same was;
+  stays = λ was. all_append is_store_failure answers others (first.stays was) (second.stays (first.failed ∙ or_left old.is_failed (has_failed answers) was));
+  same = λ was. second.same (first.failed ∙ or_left old.is_failed (has_failed answers) was) ∙ first.same was;
   at_failure = follows_failed old mid new events more answers others first second;
   run = follows old mid new events more answers others first second;
   resent = runs_resend (rules_of old.limits) office_look _ _ old.books new.books (follows old mid new events more answers others first second);

@@ -10,6 +10,7 @@ use Rattle.shop_model.specs.Answers.{Answer, answer_of, problem_answer}
 use Rattle.shop_model.specs.Books.{Books, Caller, known_caller, caller_of, reply_for, after_for}
 use Rattle.shop_model.specs.Office.{office_look}
 use Rattle.shop_model.specs.Histories.{is_store_failure}
+use Rattle.shop_model.proofs.Histories.{memory_failure, size_failure, failed_failure}
 use Rattle.shop_schema.specs.Shop.{StandsFor}
 use Rattle.shop_types.specs.declared.request.Request.{Request as Asked}
 use Rattle.shop_types.specs.declared.request.Caller.{Caller as Known}
@@ -23,7 +24,7 @@ use Rattle.chain_store.specs.Holding.{Chained, Holding, holding}
 use Rattle.chain_store.specs.Chains.{IsAt, Takes, failed_at, Answers, AnswersEvent, event_of}
 use Rattle.chain_store.specs.Steps.{IsAsker, IsAsked, IsMade, IsUndone, LeavesEitherOf, HasCaller, left_by}
 use Rattle.chain_store.specs.Decisions.{FindsCaller, IsStoreRefusal, IsStoreRefusalAt, refusal_for, is_final}
-use Rattle.chain_store.proofs.Failures.{decided_fine, memory_fine, size_fine, failure_is}
+use Rattle.chain_store.proofs.Failures.{decided_fine}
 use Rattle.chain_store.proofs.Standing.{are_held, values_after, sound_after}
 
 pub no_failure : (b : Bool) (p : Bool) → b ≡ false → b ≡ true → p ≡ true
@@ -43,19 +44,19 @@ never b isnt is = let no : false ≡ true = sym isnt ∙ is in absurd (apart no)
 pub lacks_memory : (caller : Caller) (request : Request) (old new : Holding) → new ≡ old → old.is_failed ≡ false → Answers caller request (problem_answer named.Memory) old new
 lacks_memory caller request old new same fine = record {
   limits = ap (λ (h : Holding). h.limits) same;
-  failed = ap (λ (h : Holding). h.is_failed) same ∙ fine ∙ sym memory_fine;
+  failed = ap (λ (h : Holding). h.is_failed) same ∙ fine ∙ sym memory_failure;
   stays = no_failure old.is_failed _ fine;
   step = inr (inl (record { reply = inl refl; books = ap (λ (h : Holding). h.books) same }));
-  at_failure = never _ memory_fine;
+  at_failure = never _ memory_failure;
 }
 
 pub lacks_room : (caller : Caller) (request : Request) (old new : Holding) → new ≡ old → old.is_failed ≡ false → Answers caller request (problem_answer named.Size) old new
 lacks_room caller request old new same fine = record {
   limits = ap (λ (h : Holding). h.limits) same;
-  failed = ap (λ (h : Holding). h.is_failed) same ∙ fine ∙ sym size_fine;
+  failed = ap (λ (h : Holding). h.is_failed) same ∙ fine ∙ sym size_failure;
   stays = no_failure old.is_failed _ fine;
   step = inr (inl (record { reply = inr refl; books = ap (λ (h : Holding). h.books) same }));
-  at_failure = never _ size_fine;
+  at_failure = never _ size_failure;
 }
 
 failed_limits : (caller : Caller) (request : Request) (old : Holding) → (failed_at caller request old).limits ≡ old.limits
@@ -77,8 +78,8 @@ failed_same caller request held was = rw was refl
 pub fails : (caller : Caller) (request : Request) (old new : Holding) → new ≡ failed_at caller request old → Answers caller request (problem_answer named.StoreFailed) old new
 fails caller request old new same = record {
   limits = ap (λ (h : Holding). h.limits) same ∙ failed_limits caller request old;
-  failed = ap (λ (h : Holding). h.is_failed) same ∙ failed_now caller request old ∙ sym failure_is;
-  stays = λ was. failure_is;
+  failed = ap (λ (h : Holding). h.is_failed) same ∙ failed_now caller request old ∙ sym failed_failure;
+  stays = λ was. failed_failure;
   step = inr (inr (record { reply = refl; books = ap (λ (h : Holding). h.books) same ∙ failed_books caller request old }));
   at_failure = λ _. same;
 }

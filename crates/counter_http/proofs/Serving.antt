@@ -1,8 +1,9 @@
 -- A connection goes on: by more bytes, or by an exchange.
-use Rattle.std.proofs.Common.{◌≡◌, ◌≢◌, ℕ, ◌+◌, ◌<◌, inl, inr, List, [], ◌∷◌, ◌++◌, length, refl, ap, ◌∙◌, arith, append-nil, length-append, Option}
+use Rattle.std.proofs.Common.{◌≡◌, ◌≢◌, ℕ, ◌+◌, ◌<◌, inl, inr, List, [], ◌∷◌, ◌++◌, refl, ap, ◌∙◌, arith, append-nil, length-append, Option}
 use Rattle.std.proofs.lemmas.List.Elements.{All-push}
 use Rattle.std.proofs.lemmas.Grind.{flat_map-append}
 use Rattle.std.specs.Io.KnownBytes.{Appends, Consumes, Keeps, IsAtEnd}
+use Rattle.std.proofs.KnownBytes.{Consumes-nil, Appends-nil, Appends-trans, Consumes-trans, Consumes-kept}
 use Rattle.http_messages.specs.Input.{HasMessage, IsCut}
 use Rattle.http_messages.specs.declared.messages.Fault.{Fault}
 use Rattle.http_messages.specs.declared.messages.Fault.TheVariants.{BadHead, TooLong}
@@ -15,7 +16,7 @@ use Rattle.counter_http.specs.declared.connection.ServeFault.{ServeFault}
 use Rattle.counter_http.specs.declared.connection.ServeFault.TheVariants as kind
 use Rattle.counter_http.specs.declared.connection.After.TheVariants.{Asks, Fails}
 use Rattle.counter_http.specs.declared.connection.End.TheVariants.{Closed, Cut, Asked, Limit, Refused, StoreFailed}
-use Rattle.counter_http.proofs.KnownBytes.{Appends-nil, Appends-trans, Consumes-nil, Consumes-trans, Consumes-kept, IsFrontWritten}
+use Rattle.counter_http.proofs.KnownBytes.{IsFrontWritten}
 use Rattle.counter_http.proofs.Runs.{ran_none, ran_more, ran_one, ran_as}
 
 pub texts-snoc : (es : List Exchange) (e : Exchange) → texts (es ++ e ∷ []) ≡ texts es ++ text_of e.answer
@@ -25,10 +26,6 @@ texts-snoc es e =
 pub refused_is : (input : List ℕ) (fault : Fault) → IsReading input (NoMessage fault) → IsRefused fault input
 refused_is input BadHead x = x
 refused_is input TooLong x = x
-
-pub nil_from_length : (xs : List ℕ) → length xs ≡ 0 → xs ≡ []
-nil_from_length [] e = refl
-nil_from_length (x ∷ xs) e = absurd (omega arith)
 
 -- a read
 pub serving_more : (n : ℕ) (Ran : List Exchange → Type 0) (inbox longer more : List ℕ) (input mid left output written : Option (List ℕ))

@@ -1,5 +1,5 @@
 -- The reading of a moment, as a function of its text.
-use Rattle.std.proofs.Common.{◌≡◌, ◌∙◌, ℕ, ◌<◌, ◌≤◌, ◌/◌, ◌%◌, List, [], ◌∷◌, true, false, Bool, ◌&&◌, cond, refl, sym, ap, subst, arith, Option, Some, None}
+use Rattle.std.proofs.Common.{◌≡◌, ◌∙◌, ℕ, ◌<◌, ◌/◌, ◌%◌, List, [], ◌∷◌, true, ◌&&◌, cond, refl, sym, ap, subst, arith, Option, Some, None}
 use Rattle.std.proofs.lemmas.Bool.{and_parts, le-leb, leb-true, false_from_ne_true, cond-false}
 use Rattle.std.proofs.lemmas.Slice.Eq.{bytes_eq-Decides}
 use Rattle.std.proofs.lemmas.Str.{digit_value_digit}
@@ -7,7 +7,8 @@ use Rattle.std.specs.Prelude.{IfSome, IfNone}
 use Rattle.std.specs.Char.{digit_value}
 use Rattle.std.specs.Str.{bytes_eq}
 use Rattle.std.specs.Str.Parse.{digits_value}
-use Rattle.shop_model.specs.Calendar.{Moment, IsMoment, moment_text, digit, days_in_month}
+use Rattle.shop_model.specs.Calendar.{Moment, IsMoment, moment_text, digit}
+use Rattle.shop_model.proofs.NumberLemmas.{few_days}
 use Rattle.counter_routes.specs.Moments.{moment_parts, is_moment, moment_of}
 
 digit_value-digit : (n : ℕ) → digit_value (digit n) ≡ n % 10
@@ -19,20 +20,11 @@ two_digits n h = rw (digit_value-digit (n / 10), digit_value-digit n) (omega ari
 four_digits : (n : ℕ) → n < 10000 → digits_value 10 (digit (n / 1000) ∷ digit (n / 100) ∷ digit (n / 10) ∷ digit n ∷ []) ≡ n
 four_digits n h = rw (digit_value-digit (n / 1000), digit_value-digit (n / 100), digit_value-digit (n / 10), digit_value-digit n) (omega arith)
 
-at_most_31 : (february leap short : Bool) → cond february (cond leap 29 28) (cond short 30 31) ≤ 31
-at_most_31 true true short = omega arith
-at_most_31 true false short = omega arith
-at_most_31 false leap true = omega arith
-at_most_31 false leap false = omega arith
-
-days_at_most : (year month : ℕ) → days_in_month year month ≤ 31
-days_at_most year month = at_most_31 _ _ _
-
 parts_of_text : (m : Moment) → IsMoment m → moment_parts (moment_text m) ≡ m
 parts_of_text m h =
     let year = four_digits m.year (omega (arith, h.year_high)) in
     let month = two_digits m.month (omega (arith, h.month_high)) in
-    let day = two_digits m.day (omega (arith, h.day_high, days_at_most m.year m.month)) in
+    let day = two_digits m.day (omega (arith, h.day_high, few_days m.year m.month)) in
     let hour = two_digits m.hour (omega (arith, h.hour)) in
     let minute = two_digits m.minute (omega (arith, h.minute)) in
     let second = two_digits m.second (omega (arith, h.second)) in

@@ -1,5 +1,5 @@
 -- What the proofs on routes cite.
-use Rattle.std.proofs.Common.{◌≡◌, Bool, true, false, ◌&&◌, refl, List, ℕ, Option, Some, subst}
+use Rattle.std.proofs.Common.{◌≡◌, Bool, true, false, refl, List, ℕ, Option, Some, subst}
 use Rattle.std.specs.Prelude.{Result, Ok, Err, is_none, IsUtf8}
 use Rattle.std.specs.Str.{is_utf8}
 use Rattle.std.proofs.lemmas.Bool.{false_from_ne_true}
@@ -29,14 +29,6 @@ only_memory (Ok s) route old new (Err InvalidCatchAll) e h is fresh = absurd h.1
 pub inserted : (x : Result Scan InsertError) (route : Route) (old new : Rows) (u : Unit {0}) → InsertsRead x route old new (Ok u) → new ≡ with_route x route old
 inserted (Ok s) route old new u h = h.1
 inserted (Err e) route old new u h = h.0
-
-pub first_true : (a b : Bool) → (a && b) ≡ true → a ≡ true
-first_true true b e = refl
-first_true false b e = e
-
-pub second_true : (a b : Bool) → (a && b) ≡ true → b ≡ true
-second_true true b e = e
-second_true false b e = absurd (cc e)
 
 pub is_utf8-false : (bytes : List ℕ) → ¬ (IsUtf8 bytes) → is_utf8 bytes ≡ false
 is_utf8-false bytes h = false_from_ne_true _ (λ e. h (IsUtf8-from_is_utf8 bytes e))

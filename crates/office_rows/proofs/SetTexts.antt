@@ -1,5 +1,5 @@
 -- An UPDATE of one column of the shared row of a number.
-use Rattle.std.proofs.Common.{◌≡◌, ◌≤◌, ◌<◌, ◌+◌, ◌-◌, ◌==◌, ◌&&◌, ℕ, zero, suc, List, [], ◌∷◌, codes, map, drop, length, Bool, true, false, cond, Option, Some, Ok, refl, sym, ap, subst, arith}
+use Rattle.std.proofs.Common.{◌≡◌, ◌≤◌, ◌<◌, ◌+◌, ◌-◌, ◌==◌, ◌&&◌, ℕ, zero, suc, List, [], ◌∷◌, codes, map, drop, length, Bool, true, false, cond, Some, Ok, refl, sym, ap, subst, arith}
 use Rattle.std.specs.Prelude.{⊤}
 use Rattle.std.specs.List.{list_all}
 use Rattle.std.proofs.lemmas.Bool.Decides.{nat_tests}
@@ -11,15 +11,14 @@ use Rattle.sqlite_schema.specs.declared.schema.Kind.TheVariants as kind
 use Rattle.sqlite_sql.specs.Term.{Term, col, eval_all, holds}
 use Rattle.sqlite_rules.specs.Cast.{cast, cast_all, cast_row}
 use Rattle.sqlite_tied.specs.Compute.{everything}
-use Rattle.sqlite.specs.Values.{or_null}
 use Rattle.sqlite.specs.Listing.{understood}
 use Rattle.sqlite.specs.Command.TheVariants.{Update}
 use Rattle.sqlite.specs.State.{State, ExecutesInside}
 use Rattle.sqlite_keyed.specs.Lists.{update_where}
 use Rattle.sql_rows.specs.Builds.{Means}
 use Rattle.sql_rows.specs.Rows.{HasRows, SameBut, PicksOne, columns_from, columns_of, number_value, flag_value}
-use Rattle.sql_rows.proofs.Appends.{is_kept, are_kept, id_of}
-use Rattle.sql_rows.proofs.ColumnTests.{number_test, one_tested, test_of, kept_or_null, number_or_null}
+use Rattle.sql_rows.proofs.Appends.{are_kept, id_of}
+use Rattle.sql_rows.proofs.ColumnTests.{number_test, one_tested, test_of, kept_or_null}
 use Rattle.sql_rows.proofs.Projects.{writes_by}
 use Rattle.sql_rows.proofs.Queries.{plain_query}
 use Rattle.sql_rows.proofs.Steps.{sets_row}
@@ -32,6 +31,7 @@ use Rattle.shop_schema.proofs.Lasts.{numbered_once}
 use Rattle.shop_schema.proofs.Listed.{cols, own_rows}
 use Rattle.shop_store.proofs.ByNumber.{ByNumber, films, staff, branches}
 use Rattle.shop_store.proofs.SharedReads.{of_number}
+use Rattle.shop_store.proofs.PutTexts.{kept_or_null as minutes_kept}
 
 -- ---- the row of a number
 
@@ -124,9 +124,6 @@ module _ {A : Type 0} (t : ByNumber A) (text : List ℕ) (place : ℕ) (v : Valu
 abbrev pub SetsColumn : {A : Type 0} → ByNumber A → List ℕ → Value → (A → A) → Type 1
 SetsColumn t text v f =
     (old new : State) (n : ℕ) (count : ℕ) → 1 ≤ n → ExecutesInside 0 text (number_value n ∷ v ∷ []) old new (Ok count) → Writes old new (λ _. ⊤) (λ books. t.part.filled (set_at n f (t.part.items books)) books)
-
-minutes_kept : (o : Option ℕ) → (is_kept kind.Integer (or_null number_value o) && true) ≡ true
-minutes_kept o = ap (λ b. b && true) (number_or_null o)
 
 pub sets_rate : (rate : ℕ) → SetsColumn films (codes "UPDATE film SET rate = ?2 WHERE number = ?1") (number_value rate) (λ f. record f { rate = rate })
 unfolding understood everything

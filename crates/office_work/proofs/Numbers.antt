@@ -1,14 +1,12 @@
 -- What the number of a row says of the calls that it was made of.
-use Rattle.std.proofs.Common.{◌≡◌, ◌+◌, ℕ, true, false, Ok, Err, Result, refl, sym, subst}
+use Rattle.std.proofs.Common.{◌≡◌, ◌+◌, ℕ, Ok, Err, Result, refl, sym, subst}
 use Rattle.std.specs.Prelude.{IsOk, IfOk, OnOk}
 use Rattle.std.specs.Borrow.{MutBor}
+use Rattle.std.proofs.lemmas.Bool.{false≢true}
 use Rattle.sqlite_trees.specs.declared.store.Store.{Ghosts}
 use Rattle.sqlite.specs.Held.{Held}
 use Rattle.sql_rows.specs.Calls.{StaysInside}
 use Rattle.sql_rows.proofs.Stays.{inside_err, inside_then, inside_when, within_of}
-
-apart : false ≡ true → ⊥
-apart e = cc
 
 -- what a call says of what it answered
 pub was_ok : {X E : Type 0} (r : Result X E) (x : X) (P : X → Type 0) → r ≡ Ok x → IfOk r P → P x
@@ -16,7 +14,7 @@ was_ok {X} {E} r x P is ok = subst (λ (it : Result X E). IfOk it P) is ok
 
 when_ok : {X E : Type 0} (r : Result X E) (P : Type 0) → IsOk r → OnOk r P → P
 when_ok (Ok x) P ok p = p
-when_ok (Err e) P ok p = absurd (apart ok)
+when_ok (Err e) P ok p = absurd (false≢true ok)
 
 -- a number that tells that a call was answered
 pub numbered_as : {X E F : Type 0} (put : Result X E) (r : Result ℕ F) (m : ℕ) (W : Type 0) (Q : ℕ → Type 0) → IfOk r (λ n. (n ≡ m) × IsOk put) → OnOk put W → (W → Q m) → IfOk r Q

@@ -2,6 +2,7 @@
 use Rattle.std.proofs.Common.{◌≡◌, Ok, Err, Result, refl, sym, subst}
 use Rattle.std.specs.Prelude.{IsOk, IfOk}
 use Rattle.std.specs.Borrow.{MutBor}
+use Rattle.std.proofs.lemmas.Result.{IfOk-weaker}
 use Rattle.sqlite_trees.specs.declared.store.Store.{Ghosts}
 use Rattle.sqlite.specs.Held.{Held, state}
 use Rattle.sqlite.specs.State.{State, HasCleanDisk}
@@ -10,26 +11,16 @@ use Rattle.sql_rows.proofs.Stays.{within_err, within_of, within_when}
 use Rattle.shop_model.specs.Values.{OfficeAct}
 use Rattle.shop_model.specs.Books.{Books}
 use Rattle.shop_schema.specs.Calls.{Finds}
-use Rattle.shop_schema.specs.Held.{IsHeld}
 use Rattle.shop_schema.specs.Shop.{Reads}
+use Rattle.shop_schema.proofs.Readings.{reads_as}
 use Rattle.catalogue_core.specs.declared.shared.SharedRows.{SharedRows}
 use Rattle.catalogue_core.specs.Shares.{ActShares}
 use Rattle.office_work.specs.Found.{FindsFor}
-
-pub reads_then : (a b c : State) (P Q : Books → Type 0) → Reads a b P → Reads b c Q → Reads a c (λ books. P books × Q books)
-reads_then a b c P Q one two = λ books holds held. let first = one books holds held in let second = two books first.0 held in (second.0, (first.1, second.1))
-
-pub reads_as : (a b : State) (P Q : Books → Type 0) → ((books : Books) → IsHeld books → P books → Q books) → Reads a b P → Reads a b Q
-reads_as a b P Q more one = λ books holds held. let first = one books holds held in (first.0, more books held first.1)
 
 -- what is said of what a call answered, of a value that has it in it
 made : {X Y E F : Type 0} (r : Result X E) (s : Result Y F) (f : Y → X) (P : X → Type 0) → IfOk s (λ y. r ≡ Ok (f y)) → IfOk r P → IfOk s (λ y. P (f y))
 made {X} {Y} {E} r (Ok y) f P is ok = subst (λ (it : Result X E). IfOk it P) is ok
 made r (Err e) f P is ok = tt
-
-more_ok : {Y F : Type 0} (s : Result Y F) (P Q : Y → Type 0) → ((y : Y) → P y → Q y) → IfOk s P → IfOk s Q
-more_ok (Ok y) P Q more is = more y is
-more_ok (Err e) P Q more is = tt
 
 -- what was found for an act, of the act by another name
 pub of_act : {F : Type 0} {was act : OfficeAct} (a b : State) (s : Result SharedRows F) → was ≡ act → (HasCleanDisk b → IfOk s (λ rows. FindsFor act rows a b))
@@ -44,7 +35,7 @@ module _ {S X E : Type 0} {g : Ghosts S} {a b : MutBor (Held S)} {r : Result X E
   found_of {act = act} f Says s is_act more is inside found =
       let from = state g a.now in
       let to = state g b.now in
-      of_act from to s is_act (λ clean. more_ok s _ (λ rows. FindsFor act rows from to) (λ rows. reads_as from to _ _ (λ books held. more rows books))
+      of_act from to s is_act (λ clean. IfOk-weaker s _ (λ rows. FindsFor act rows from to) (λ rows. reads_as from to _ _ (λ books held. more rows books))
       (made r s f (λ it. Reads from to (Says it)) is (found clean)))
 
   pub made_within : {Y F : Type 0} (s : Result Y F) (f : Y → X) → IfOk s (λ y. r ≡ Ok (f y)) → StaysInside g a b r → StaysWithin g a b s

@@ -1,9 +1,6 @@
 -- What the rows of head office's commands make of the books, and that a new branch has no last moment.
-use Rattle.std.proofs.Common.{◌≡◌, ◌+◌, IfOk, Result, ◌-◌, ◌<◌, ◌==◌, ℕ, List, [], ◌∷◌, ◌++◌, map, filter, length, true, false, Bool, cond, not, refl, sym, ap, subst, ◌∙◌, arith, true≢false}
+use Rattle.std.proofs.Common.{◌≡◌, ◌+◌, IfOk, Result, ℕ, List, [], ◌∷◌, ◌++◌, map, length, sym, ap, subst, ◌∙◌, arith}
 use Rattle.std.specs.Prelude.{⊤, IsOk}
-use Rattle.std.specs.List.{list_all}
-use Rattle.std.proofs.lemmas.Bool.{and_parts}
-use Rattle.std.proofs.lemmas.Bool.Decides.{nat_tests}
 use Rattle.std.specs.Borrow.{MutBor}
 use Rattle.sqlite_trees.specs.declared.store.Store.{Ghosts}
 use Rattle.sqlite.specs.Held.{Held, state}
@@ -11,52 +8,28 @@ use Rattle.sqlite.specs.State.{State, HasCleanDisk}
 use Rattle.sql_rows.specs.Calls.{StaysInside}
 use Rattle.sql_rows.proofs.Stays.{clean_before}
 use Rattle.shop_model.specs.Calendar.{Moment}
-use Rattle.shop_model.specs.Rows.{Owned, at, lacks, is_empty, owned_by}
-use Rattle.shop_model.specs.Values.{Text, Branch, OfficeAct, AddCountry, AddCity, AddLanguage, AddCategory, AddActor, AddFilm, PriceFilm, WithdrawFilm, AddCast, AddBranch, AddStaff, StaffLeaves, SetManager, OfficeCommand}
+use Rattle.shop_model.specs.Rows.{Owned, owned_by}
+use Rattle.shop_model.specs.Values.{Text, Branch, OfficeAct, OfficeCommand}
 use Rattle.shop_model.specs.Shop.{Catalogue}
 use Rattle.shop_model.specs.Machine.{office_acted, office_told, office_text, office_done}
-use Rattle.shop_model.specs.Links.{has_row}
 use Rattle.shop_model.specs.Books.{Books}
-use Rattle.shop_model.proofs.RowLemmas.{same_if}
 use Rattle.shop_schema.specs.Counts.{Counts, counts_of, with_branch}
 use Rattle.shop_schema.specs.Calls.{Finds, Stores}
 use Rattle.shop_schema.specs.Held.{IsHeld}
 use Rattle.shop_schema.specs.Shop.{HoldsWith}
 use Rattle.shop_ledger.proofs.CountsOf.{beside}
+use Rattle.shop_ledger.proofs.OfficeCounts.{lacks_next, kept_stays, none_of}
 use Rattle.reply_bodies.specs.Bodies.{office_members}
 use Rattle.office_work.specs.Added.{with_act, with_counts, with_kept, IsActed, IsNumbered}
 use Rattle.office_work.proofs.Numbers.{was_ok, numbered_as, IsNext}
 
 -- ---- a branch that isn't there has no last moment
 
-lacks_next : {A : Type 0} (n : ℕ) (xs : List A) → length xs < n → lacks xs n ≡ true
-lacks_next n [] more = refl
-lacks_next n (x ∷ xs) more = ap (λ t. is_empty (cond t (x ∷ []) (at (n - 1) xs))) other ∙ lacks_next (n - 1) xs (omega (arith, more))
-  where
-    other : (n == 1) ≡ false
-    other = grind (arith, nat_tests)
-
-none_of : (branches : List Branch) (b : ℕ) → lacks branches b ≡ true → (rows : List (Owned Moment)) → list_all (λ (row : Owned Moment). has_row branches row.owner) rows ≡ true
-    → filter (λ (row : Owned Moment). row.owner == b) rows ≡ []
-none_of branches b lacking [] all = refl
-none_of branches b lacking (row ∷ rows) all =
-    let parts = and_parts (has_row branches row.owner) (list_all (λ (other : Owned Moment). has_row branches other.owner) rows) all in
-    go (row.owner == b) refl parts.0 (none_of branches b lacking rows parts.1)
-  where
-    rest : List (Owned Moment)
-    rest = filter (λ (other : Owned Moment). other.owner == b) rows
-
-    go : (t : Bool) → (row.owner == b) ≡ t → has_row branches row.owner ≡ true → rest ≡ [] → cond t (row ∷ rest) rest ≡ []
-    go true is there more =
-        let its : has_row branches b ≡ true = subst (λ n. has_row branches n ≡ true) (same_if row.owner b is) there in
-        absurd (true≢false (sym its ∙ ap not lacking))
-    go false isnt there more = more
-
 pub no_last : (books : Books) → IsHeld books → owned_by (length books.catalogue.branches + 1) books.lasts ≡ []
 no_last books held =
     let branches = books.catalogue.branches in
     let b = length branches + 1 in
-    ap (map (λ (row : Owned Moment). row.it)) (none_of branches b (lacks_next b branches (omega arith)) books.lasts held.owners.lasts)
+    ap (map (λ (row : Owned Moment). row.it)) (none_of (λ (row : Owned Moment). row.owner) branches b (lacks_next b branches (omega arith)) books.lasts held.owners.lasts)
 
 -- ---- rows
 
@@ -113,21 +86,6 @@ module _ {S X E F : Type 0} {g : Ghosts S} {b c : MutBor (Held S)} {put : Result
       (λ written. λ books holds held. made_so act 0 books (change books) (makes books) (written (counts_of books) books (beside from books holds) tt)))
 
 -- ---- the command itself
-
-kept_stays : (act : OfficeAct) (it : Catalogue) → (office_acted act it).kept ≡ it.kept
-kept_stays (AddCountry name) it = refl
-kept_stays (AddCity city) it = refl
-kept_stays (AddLanguage name) it = refl
-kept_stays (AddCategory name) it = refl
-kept_stays (AddActor actor) it = refl
-kept_stays (AddFilm film) it = refl
-kept_stays (PriceFilm film rate) it = refl
-kept_stays (WithdrawFilm film) it = refl
-kept_stays (AddCast cast) it = refl
-kept_stays (AddBranch branch) it = refl
-kept_stays (AddStaff staff) it = refl
-kept_stays (StaffLeaves staff) it = refl
-kept_stays (SetManager branch staff) it = refl
 
 -- with its rows and itself kept, a command's books are those after it
 pub act_kept : (command : OfficeCommand) (reply : Text) (books : Books) → reply ≡ office_text command books.catalogue

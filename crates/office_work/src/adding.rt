@@ -1,6 +1,6 @@
 //! How the rows of an accepted command of head office are written and counted, how it is kept, and what is replied of it.
 
-ghost use Rattle.std.specs.Prelude.{◌≡◌, ℕ, ◌+◌, string_bytes, Ok, IsOk, IfOk, OnOk};
+ghost use Rattle.std.specs.Prelude.{◌≡◌, ℕ, ◌+◌, true, string_bytes, Ok, IsOk, IfOk, OnOk};
 ghost use Rattle.sqlite.specs.Held.{state};
 ghost use Rattle.sqlite.specs.State.{HasCleanDisk};
 ghost use Rattle.sql_rows.specs.Calls.{StaysInside};
@@ -28,22 +28,23 @@ use sql_rows::{Bytes, StoreFault};
 use sqlite::{Alter, Transaction};
 use std::alloc::Global;
 
-/// Writes the rows of an accepted command, keeps it, and gives its reply. The form is the command's stored form.
+/// Writes the rows of an accepted command, keeps it, and gives its reply, with `true`, since there is something to commit. The form is the command's stored
+/// form.
 pub(crate) fn add<S: Alter>(
     alloc: Global,
     tx: &mut Transaction<'_, S>,
     command: &OfficeCommand,
     form: &Bytes,
-) -> Result<Reply, StoreFault>
+) -> Result<(Reply, bool), StoreFault>
     requires { form.now ≡ office_command_form (seen_office command.now) }
     ensures inside { StaysInside S.Store tx.old.conn tx.new.conn result }
     ensures added { HasCleanDisk (state S.Store tx.new.conn.now)
-        → IfOk result (λ reply. IsAdded (seen_office command.now) (seen_reply reply) (state S.Store tx.old.conn.now) (state S.Store tx.new.conn.now)) }
+        → IfOk result (λ done. (done.1 ≡ true) × IsAdded (seen_office command.now) (seen_reply done.0) (state S.Store tx.old.conn.now) (state S.Store tx.new.conn.now)) }
 {
     let number = write(tx, &command.act)?;
     let text = text_of(alloc, &command.act, number)?;
     keep(tx, command, form, text.as_str())?;
-    Ok(Reply::accepted(text))
+    Ok((Reply::accepted(text), true))
 }
 
 /// The body of the reply to an act, whose new row has the number.

@@ -1,5 +1,5 @@
 -- A task that isn't begun, for want of memory.
-use Rattle.std.proofs.Common.{ℕ, List, Option, None, Some, inr, refl}
+use Rattle.std.proofs.Common.{ℕ, List, Option, inr}
 use Rattle.std.specs.Io.KnownBytes.{Keeps}
 use Rattle.sqlite_disk.specs.declared.Disk.{Ghosts}
 use Rattle.sakila_office.specs.Tasks.{Task, Replay, Make, Put, Serve, Nothing}
@@ -7,10 +7,6 @@ use Rattle.sakila_office.specs.Printed.{IsSilent}
 use Rattle.sakila_office.specs.Replays.{no_chain}
 use Rattle.sakila_office.specs.Commands.{not_made, not_opened, not_served}
 use Rattle.sakila_office.specs.Program.{Performs}
-
-pub keeps_same : (bytes : Option (List ℕ)) → Keeps bytes bytes
-keeps_same None = tt
-keeps_same (Some bytes) = refl
 
 pub not_begun : {D : Type 0} (g : Ghosts D) (task : Task) (status : ℕ) (input left output written : Option (List ℕ))
     → Keeps input left → IsSilent 3 status output written → Performs g task status input left output written

@@ -4,7 +4,7 @@ use Rattle.std.specs.Prelude.{flat_map, is_none}
 use Rattle.std.specs.List.{AllByRecursion}
 use Rattle.std.proofs.lemmas.Bool.Decides.{nat_tests}
 use Rattle.std.proofs.lemmas.List.Elements.{filter-append}
-use Rattle.std.proofs.lemmas.List.{length-append}
+use Rattle.std.proofs.lemmas.List.{length-append, length_push}
 use Rattle.shop_model.specs.Calendar.{Moment}
 use Rattle.shop_model.specs.Rows.{Row, Owned, is_of, is_row, of, owned_by, numbered, set_row}
 use Rattle.shop_model.specs.Values.{Branch, Customer, Payment, Rental, Text}
@@ -12,16 +12,11 @@ use Rattle.shop_model.specs.Shop.{Kept}
 use Rattle.shop_model.specs.Books.{Books, BookCopy}
 use Rattle.shop_model.proofs.RowLemmas.{more_yes, more_no, length_map}
 use Rattle.shop_schema.specs.Counts.{Count, is_count, count_in, count_of, branch_counts, office_count, counts_of, raise, raised, is_open, out_of, is_out_by, put_out, drop_out}
+use Rattle.shop_schema.proofs.Lasts.{turned}
 use Rattle.shop_ledger.specs.declared.counts.CountKind.{CountKind}
 use Rattle.shop_ledger.specs.declared.counts.CountKind.TheVariants as kind
 use Rattle.shop_ledger.specs.Counted.{kind_number}
-
-not_office : (b : ℕ) → 1 ≤ b → (0 == b) ≡ false
-not_office b low = grind (arith, nat_tests)
-
-turned : (a b : ℕ) (t : Bool) → (a == b) ≡ t → (b == a) ≡ t
-turned a b true h = grind (arith, nat_tests)
-turned a b false h = grind (arith, nat_tests)
+use Rattle.shop_ledger.proofs.CountsOf.{not_office}
 
 -- the branch's count of the kind has grown by so many, and no other has
 abbrev pub GrowsBy : ℕ → ℕ → ℕ → Books → Books → Type 0
@@ -57,15 +52,11 @@ same_count : (t : Bool) (m n : ℕ) → n ≡ cond (t && false) (n + m) n
 same_count true m n = refl
 same_count false m n = refl
 
-pushed : {A : Type 0} (xs : List A) (x : A) → length (xs ++ x ∷ []) ≡ length xs + 1
-pushed [] x = refl
-pushed (y ∷ xs) x = let shorter = pushed xs x in omega (arith, shorter)
-
 pub one_kept : (b : ℕ) (x : Kept) (rows : List (Owned Kept)) (a : ℕ) → length (owned_by a (rows ++ record { owner = b; it = x } ∷ [])) ≡ cond (a == b && true) (length (owned_by a rows) + 1) (length (owned_by a rows))
 one_kept b x rows a = go (a == b) refl
   where
     go : (t : Bool) → (a == b) ≡ t → length (owned_by a (rows ++ record { owner = b; it = x } ∷ [])) ≡ cond (t && true) (length (owned_by a rows) + 1) (length (owned_by a rows))
-    go true e = ap length (more_yes (λ (row : Owned Kept). row.it) (λ row. row.owner == a) rows (record { owner = b; it = x }) (turned a b true e)) ∙ pushed (owned_by a rows) x
+    go true e = ap length (more_yes (λ (row : Owned Kept). row.it) (λ row. row.owner == a) rows (record { owner = b; it = x }) (turned a b true e)) ∙ length_push (owned_by a rows) x
     go false e = ap length (more_no (λ (row : Owned Kept). row.it) (λ row. row.owner == a) rows (record { owner = b; it = x }) (turned a b false e))
 
 -- a kept command

@@ -21,7 +21,7 @@ use Rattle.sqlite_rules.specs.Cast.{cast, cast_all, cast_row}
 use Rattle.sqlite.specs.Command.TheVariants.{Update}
 use Rattle.sqlite.specs.State.{State, ExecutesInside, Shown}
 use Rattle.sqlite_keyed.specs.Lists.{sort_by, update_where}
-use Rattle.sqlite_keyed.proofs.ListLemmas.{map-map, all-filter}
+use Rattle.sqlite_keyed.proofs.ListLemmas.{map-map, all-filter, all_map}
 use Rattle.sql_rows.specs.Builds.{Means}
 use Rattle.sql_rows.specs.Rows.{by, PicksOne, columns_from, columns_of, number_value}
 use Rattle.sql_rows.specs.declared.fault.StoreFault.{StoreFault}
@@ -82,10 +82,6 @@ take_few (x ∷ y ∷ xs) few = absurd (omega (arith, few))
 option_list : {X Y : Type 0} (f : X → Y) (o : Option X) → option_to_list (option_map f o) ≡ map f (option_to_list o)
 option_list f None = refl
 option_list f (Some x) = refl
-
-all_seen : {X Y : Type 0} (P : Y → Type 0) (f : X → Y) (xs : List X) → AllByRecursion (λ x. P (f x)) xs → AllByRecursion P (map f xs)
-all_seen P f [] h = tt
-all_seen P f (x ∷ xs) h = (h.0, all_seen P f xs h.1)
 
 some_seen : {X Y : Type 0} (P : Y → Type 0) (f : X → Y) (o : Option X) → IfSome o (λ x. P (f x)) → AllByRecursion P (map f (option_to_list o))
 some_seen P f None h = tt
@@ -160,7 +156,7 @@ module _ {A : Type 0} (t : BranchRows A) where
           selects_sorted shop_schema text tree wide tests (cols 1 1 wide) 1 means params old new rows holds.schema_is h columns (items books)
           (stood t.rows (counts_of books) books old.now.trees holds.stands) (own_rows old.now.trees tree) test p tested only (λ row. row.number) (λ row. (t.begins row).1) (rise_differ (filter p (items books)) rise) in (
             still_holds shop_schema StandsFor text params old new means.plain rows h books holds,
-            unmapped_kind columns (IsRow t.Fits) t.one _ _ (all_seen (IsRow t.Fits) seen all kinds) (all-filter (IsRow t.Fits) p (items books) (t.valued books held))
+            unmapped_kind columns (IsRow t.Fits) t.one _ _ (all_map (IsRow t.Fits) seen all kinds) (all-filter (IsRow t.Fits) p (items books) (t.valued books held))
                 (map-map columns seen all ∙ read ∙ same ∙ found ∙ ap (map columns) sorted),
           )
 

@@ -2,13 +2,14 @@
 use Rattle.std.proofs.Common.{◌≡◌, ◌+◌, ◌<◌, ◌≤◌, ◌^◌, ◌&&◌, ℕ, List, [], ◌∷◌, map, filter, length, true, Some, None, Ok, Err, Result, refl, sym, ap, ◌∙◌, arith}
 use Rattle.std.specs.Prelude.{⊤, slice_get, IfOk, Option}
 use Rattle.std.specs.List.{AllByRecursion}
+use Rattle.std.proofs.lemmas.Result.{IfOk-weaker}
 use Rattle.sqlite_value.specs.Order as sql
 use Rattle.sqlite_value.specs.Order.{column}
 use Rattle.sqlite.specs.State.{State, Shown, ExecutesInside}
 use Rattle.sqlite_keyed.proofs.ListLemmas.{all-filter, map-map}
 use Rattle.sql_rows.specs.Rows.{number_value}
 use Rattle.sql_rows.specs.Books.{Changes}
-use Rattle.sql_rows.proofs.ColumnTests.{number_test}
+use Rattle.sql_rows.proofs.ColumnTests.{number_test, same_number}
 use Rattle.sql_rows.proofs.Projects.{still_holds, writes_by}
 use Rattle.sql_rows.proofs.Queries.{unmapped}
 use Rattle.sql_rows.proofs.Tells.{sets_and_tells}
@@ -38,9 +39,6 @@ tallies_by old new Given change changes counts books holds given =
 
 pub tallies_drop_out : (old new : State) (b x n : ℕ) (count : ℕ) → ExecutesInside 0 delete_out (number_value b ∷ number_value x ∷ number_value n ∷ []) old new (Ok count) → Tallies old new (IsOutBy b x n) (drop_out b x n) (λ _. ⊤)
 tallies_drop_out old new b x n count h = tallies_by old new _ _ (λ books shop. drops_out books old new b x n count shop h)
-
-same_number : (m n : ℕ) → number_value m ≡ number_value n → m ≡ n
-same_number m n h = cc
 
 -- ---- the copy that is out
 
@@ -129,11 +127,6 @@ read_count old new b k rows h low row n some is books holds held = (
   told_count b k books rows row n low (shows_counts (counts_of books) old new b k rows books holds.schema_is h holds.stands) some is,
 )
 
--- what a reader of a column answers
-pub ok_then : {A E : Type 0} (r : Result A E) (P Q : A → Type 0) → ((x : A) → P x → Q x) → IfOk r P → IfOk r Q
-ok_then (Ok x) P Q f p = f x p
-ok_then (Err e) P Q f p = tt
-
 -- what a reader of the first row answers
 pub told_first : {V E : Type 0} {Fits : sql.Row → V → Type 0} (rows slice : List sql.Row) (P : Option V → Type 0) (r : Result (Option V) E) → slice ≡ rows → IfOk r (TellsFirst Fits slice)
     → (slice_get rows 0 ≡ None → P None) → ((row : sql.Row) (v : V) → slice_get rows 0 ≡ Some row → Fits row v → P (Some v)) → IfOk r P
@@ -143,4 +136,4 @@ told_first rows slice P (Ok (Some v)) same told none some = some told.0 v (ap (�
 
 pub told_number : {E : Type 0} (rows slice : List sql.Row) (P : ℕ → Type 0) (r : Result ℕ E) → slice ≡ rows → IfOk r (λ n. TellsFirst (λ row m. column row 0 ≡ number_value m) slice (Some n))
     → ((row : sql.Row) (n : ℕ) → slice_get rows 0 ≡ Some row → column row 0 ≡ number_value n → P n) → IfOk r P
-told_number rows slice P r same told some = ok_then r _ P (λ n it. some it.0 n (ap (λ rs. slice_get rs 0) (sym same) ∙ sym it.1) it.2) told
+told_number rows slice P r same told some = IfOk-weaker r _ P (λ n it. some it.0 n (ap (λ rs. slice_get rs 0) (sym same) ∙ sym it.1) it.2) told

@@ -2,6 +2,7 @@
 use Rattle.std.proofs.Common.{◌≡◌, ◌+◌, ◌<◌, ◌^◌, ◌&&◌, ℕ, pos, List, [], ◌∷◌, codes, map, filter, true, cond, Some, None, Ok, refl, ap, arith, nat_lt, IsPermutation, subst}
 use Rattle.std.specs.Prelude.{⊤}
 use Rattle.std.proofs.lemmas.Bool.Decides.{nat_tests}
+use Rattle.std.proofs.lemmas.List.{map_push}
 use Rattle.sqlite.specs.declared.types.Value.{Value}
 use Rattle.sqlite_value.specs.Order as sql
 use Rattle.sqlite_value.specs.Order.{column}
@@ -21,7 +22,7 @@ use Rattle.sqlite_keyed.proofs.ListLemmas.{map-map}
 use Rattle.sql_rows.specs.Builds.{Means}
 use Rattle.sql_rows.specs.Rows.{HasRows, PicksOne, by, Differ, number_value}
 use Rattle.sql_rows.specs.Books.{Changes}
-use Rattle.sql_rows.proofs.Appends.{map_push, are_kept}
+use Rattle.sql_rows.proofs.Appends.{are_kept}
 use Rattle.sql_rows.proofs.Queries.{Selects, plain_query}
 use Rattle.sql_rows.proofs.ColumnTests.{number_test, number_tested, one_tested, two_tested, three_tested}
 use Rattle.sql_rows.proofs.Projects.{projects_bag, projects_one, projects_sorted}

@@ -7,7 +7,7 @@ use Rattle.sqlite_value.specs.Order as sql
 use Rattle.sqlite_value.specs.Order.{column}
 use Rattle.sqlite_keyed.proofs.ListLemmas.{all-slice_get}
 use Rattle.sql_rows.specs.Rows.{PicksOne, number_value}
-use Rattle.sql_rows.proofs.Bags.{all_along}
+use Rattle.sql_rows.proofs.ColumnTests.{same_number}
 use Rattle.shop_model.specs.Rows.{of, numbered}
 use Rattle.shop_model.specs.Values.{Branch}
 use Rattle.shop_model.specs.Books.{Books, unmarked}
@@ -17,14 +17,12 @@ use Rattle.shop_schema.specs.Counts.{Count, Counts, is_count, count_in, branch_c
 use Rattle.sqlite.specs.State.{State}
 use Rattle.shop_schema.specs.Shop.{StandsWith, Holds, HoldsWith}
 use Rattle.shop_schema.proofs.Lasts.{numbered_once}
+use Rattle.sqlite_trees.proofs.ListLemmas.{all-permutation}
 use Rattle.shop_ledger.specs.declared.counts.CountKind.{CountKind}
 use Rattle.shop_ledger.specs.declared.counts.CountKind.TheVariants as kind
 use Rattle.shop_ledger.specs.Counted.{kind_number, CountsOnce}
 
-same_number : (m n : ℕ) → number_value m ≡ number_value n → m ≡ n
-same_number m n h = cc
-
-not_office : (b : ℕ) → 1 ≤ b → (0 == b) ≡ false
+pub not_office : (b : ℕ) → 1 ≤ b → (0 == b) ≡ false
 not_office b low = grind (arith, nat_tests)
 
 -- ---- each count of a branch's rows of the kind is the books'
@@ -74,7 +72,7 @@ pub told_count : (b k : ℕ) (books : Books) (rows : List sql.Row) (row : sql.Ro
     → slice_get rows 0 ≡ Some row → column row 0 ≡ number_value n → n ≡ count_in k b books
 told_count b k books rows row n low same some is =
     let P : sql.Row → Type 0 = λ vs. vs ≡ number_value (count_in k b books) ∷ [] in
-    let all = all_along P _ rows same (picked_right b k books (counts_of books).counters (counts_right b k books low)) in
+    let all = all-permutation P _ rows same (picked_right b k books (counts_of books).counters (counts_right b k books low)) in
     let one : row ≡ number_value (count_in k b books) ∷ [] = all-slice_get P rows 0 row some all in
     same_number _ _ (sym is ∙ ap (λ r. column r 0) one)
 

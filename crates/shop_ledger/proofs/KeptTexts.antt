@@ -1,9 +1,12 @@
--- Kept commands of a branch, as SQL has them. Those of head office stand in the same table, with 0 as their caller.
+-- Kept commands, as SQL has them: those of a branch, and those of head office, whose caller is 0, which is no branch's number.
 use Rattle.std.proofs.Common.{◌≡◌, ◌≤◌, ◌==◌, ◌&&◌, ℕ, List, [], ◌∷◌, ◌++◌, codes, map, filter, length, append_assoc, Bool, true, false, cond, Some, None, Ok, refl, sym, ap, subst, ◌∙◌, arith, IsPermutation}
 use Rattle.std.specs.Prelude.{⊤, slice_get}
+use Rattle.std.specs.List.{AllByRecursion}
 use Rattle.std.specs.Str.{bytes_eq}
 use Rattle.std.proofs.lemmas.Bool.Decides.{nat_tests}
 use Rattle.std.proofs.lemmas.List.Sorted.{IsPermutation-sym, IsPermutation-trans, IsPermutation-to_front, IsPermutation-middle}
+use Rattle.std.proofs.lemmas.List.Elements.{filter-append}
+use Rattle.std.proofs.lemmas.List.{append-nil, map-id, map_push}
 use Rattle.sqlite.specs.declared.types.Value.TheVariants.{Text, Blob}
 use Rattle.sqlite_value.specs.Order as sql
 use Rattle.sqlite_value.specs.Order.{column}
@@ -19,31 +22,33 @@ use Rattle.sqlite.specs.State.{State, ExecutesInside, Shown}
 use Rattle.sqlite_keyed.proofs.ListLemmas.{map-map, filter-map, filter_same}
 use Rattle.sql_rows.specs.Builds.{Means}
 use Rattle.sql_rows.specs.Rows.{HasRows, PicksOne, columns_of, number_value}
-use Rattle.sql_rows.proofs.Appends.{map_push}
 use Rattle.sql_rows.proofs.Bags.{length-map}
 use Rattle.sql_rows.proofs.Queries.{Selects, plain_query}
 use Rattle.sql_rows.proofs.ColumnTests.{number_test, number_tested, text_test, text_tested, two_tested}
 use Rattle.sql_rows.proofs.Projects.{projects_one, still_holds}
 use Rattle.sql_rows.proofs.Steps.{has_put}
 use Rattle.shop_model.specs.Rows.{Owned, owned_by}
-use Rattle.shop_model.specs.Values.{Command}
+use Rattle.shop_model.specs.Values.{Command, OfficeCommand}
 use Rattle.shop_model.specs.Shop.{Kept, OfficeKept}
 use Rattle.shop_model.specs.Books.{Books, head}
 use Rattle.shop_schema.specs.Tables.{shop_schema, kept_table}
 use Rattle.shop_schema.specs.Columns.{kept_columns, office_kept_columns, kept_rows}
-use Rattle.shop_schema.specs.Forms.{command_form}
+use Rattle.shop_schema.specs.Forms.{command_form, office_command_form}
 use Rattle.shop_schema.specs.Held.{IsHeld}
+use Rattle.shop_schema.specs.RowValues.{IsNumber, IsKept}
 use Rattle.shop_schema.specs.Shop.{StandsFor, Holds, Reads, Writes}
 use Rattle.shop_schema.proofs.Stands.{stands_but}
 use Rattle.shop_schema.proofs.FirstRows.{first_none, first_some}
 use Rattle.shop_schema.proofs.Listed.{values}
-use Rattle.shop_ledger.specs.Seen.{stored_kept}
 use Rattle.shop_schema.proofs.Different.{different_once}
+use Rattle.shop_ledger.specs.declared.kept.Owner.{Owner}
+use Rattle.shop_ledger.specs.declared.kept.Owner.TheVariants as owner
+use Rattle.shop_ledger.specs.Seen.{stored_kept, stored_office_kept, owner_number, IsOwner, kept_under, Keeps}
 
-abbrev pub insert_kept : List ℕ
+abbrev insert_kept : List ℕ
 insert_kept = codes "INSERT INTO kept (caller, \"key\", command, reply) VALUES (?1, ?2, ?3, ?4)"
 
-pub insert_kept_means : Means shop_schema insert_kept (Insert 17 (Values (values 4) 5))
+insert_kept_means : Means shop_schema insert_kept (Insert 17 (Values (values 4) 5))
 unfolding understood everything
 insert_kept_means = record { is = refl; plain = (refl, refl) }
 
@@ -65,30 +70,38 @@ module _ (old new : State) (b : ℕ) (command : Command) (key form reply : List 
       subst (λ (first : List sql.Row). IsPermutation (map (columns_of 4) rows) (first ++ map office_kept_columns office)) (sym (map_push kept_columns kept kept_row))
       (IsPermutation-trans _ _ _ has (put_between (map kept_columns kept) (map office_kept_columns office) (kept_columns kept_row)))
 
-  pub puts_kept : (count : ℕ) → command.key ≡ key → command_form command ≡ form → ExecutesInside 0 insert_kept (number_value b ∷ Text key ∷ Blob form ∷ Text reply ∷ []) old new (Ok count) → Writes old new (λ _. ⊤) with_row
+  puts_kept : (count : ℕ) → command.key ≡ key → command_form command ≡ form → ExecutesInside 0 insert_kept (number_value b ∷ Text key ∷ Blob form ∷ Text reply ∷ []) old new (Ok count) → Writes old new (λ _. ⊤) with_row
   puts_kept count is_key is_form h counts books holds given =
       let ran : ExecutesInside 0 insert_kept (kept_columns kept_row) old new (Ok count) = subst (λ (row : sql.Row). ExecutesInside 0 insert_kept row old new (Ok count)) (λ i. number_value b ∷ Text (sym is_key i) ∷ Blob (sym is_form i) ∷ Text reply ∷ []) h in
       let done = has_put shop_schema insert_kept 17 kept_table (values 4) 4 insert_kept_means (record { place = refl; uncounted = refl; unstamped = refl }) (kept_columns kept_row) (kept_columns kept_row) old new count ran refl refl refl (λ id. refl) holds.schema_is in
       let rows = row_put _ books.kept books.catalogue.kept (done.rows _ holds.stands.kept) in
       record { schema_is = done.schema_is; keyed = done.keyed holds.keyed; stands = stands_but 17 kept_table refl refl counts counts books (with_row books) _ refl old.now.trees new.now.trees done.others holds.stands rows }
 
+module _ (old new : State) (command : OfficeCommand) (key form reply : List ℕ) where
+  abbrev office_row : OfficeKept
+  office_row = record { command = command; reply = reply }
+
+  abbrev with_office_row : Books → Books
+  with_office_row books = record books { catalogue = record books.catalogue { kept = books.catalogue.kept ++ office_row ∷ [] } }
+
+  office_row_put : (rows : List sql.Row) (kept : List (Owned Kept)) (office : List OfficeKept) → HasRows 4 rows (kept_rows kept office ++ office_kept_columns office_row ∷ []) → HasRows 4 rows (kept_rows kept (office ++ office_row ∷ []))
+  office_row_put rows kept office has =
+      subst (λ (put : List sql.Row). HasRows 4 rows put)
+      (append_assoc (map kept_columns kept) (map office_kept_columns office) (office_kept_columns office_row ∷ []) ∙ ap (λ l. map kept_columns kept ++ l) (sym (map_push office_kept_columns office office_row))) has
+
+  puts_office_kept : (count : ℕ) → command.key ≡ key → office_command_form command ≡ form → ExecutesInside 0 insert_kept (number_value 0 ∷ Text key ∷ Blob form ∷ Text reply ∷ []) old new (Ok count) → Writes old new (λ _. ⊤) with_office_row
+  puts_office_kept count is_key is_form h counts books holds given =
+      let ran : ExecutesInside 0 insert_kept (office_kept_columns office_row) old new (Ok count) = subst (λ (row : sql.Row). ExecutesInside 0 insert_kept row old new (Ok count)) (λ i. number_value 0 ∷ Text (sym is_key i) ∷ Blob (sym is_form i) ∷ Text reply ∷ []) h in
+      let done = has_put shop_schema insert_kept 17 kept_table (values 4) 4 insert_kept_means (record { place = refl; uncounted = refl; unstamped = refl }) (office_kept_columns office_row) (office_kept_columns office_row) old new count ran refl refl refl (λ id. refl) holds.schema_is in
+      let rows = office_row_put _ books.kept books.catalogue.kept (done.rows _ holds.stands.kept) in
+      record { schema_is = done.schema_is; keyed = done.keyed holds.keyed; stands = stands_but 17 kept_table refl refl counts counts books (with_office_row books) _ refl old.now.trees new.now.trees done.others holds.stands rows }
+
+pub puts_owned : (owner : Owner) (old new : State) (key form reply : List ℕ) (count : ℕ)
+    → ExecutesInside 0 insert_kept (number_value (owner_number owner) ∷ Text key ∷ Blob form ∷ Text reply ∷ []) old new (Ok count) → Keeps owner key form reply old new
+puts_owned owner.Office old new key form reply count h = λ command is_key is_form. puts_office_kept old new command key form reply count is_key is_form h
+puts_owned (owner.Branch b) old new key form reply count h = λ command is_key is_form. puts_kept old new b command key form reply count is_key is_form h
+
 -- ---- reads: the rows themselves are the values that the table stands for
-
-pub as_it_is : (rows : List sql.Row) → map (λ vs. vs) rows ≡ rows
-as_it_is [] = refl
-as_it_is (row ∷ rows) = ap (λ l. row ∷ l) (as_it_is rows)
-
-pub filter_append : {X : Type 0} (p : X → Bool) (xs ys : List X) → filter p (xs ++ ys) ≡ filter p xs ++ filter p ys
-filter_append p [] ys = refl
-filter_append p (x ∷ xs) ys = go (p x) (filter_append p xs ys)
-  where
-    go : (t : Bool) → filter p (xs ++ ys) ≡ filter p xs ++ filter p ys → cond t (x ∷ filter p (xs ++ ys)) (filter p (xs ++ ys)) ≡ cond t (x ∷ filter p xs) (filter p xs) ++ filter p ys
-    go true more = ap (λ l. x ∷ l) more
-    go false more = more
-
-pub append_none : {X : Type 0} (xs : List X) → xs ++ [] ≡ xs
-append_none [] = refl
-append_none (x ∷ xs) = ap (λ l. x ∷ l) (append_none xs)
 
 -- no row of head office is a branch's
 none_of_office : (b : ℕ) → 1 ≤ b → (test : sql.Row → Bool) (office : List OfficeKept) → filter (λ vs. number_test 0 b vs && test vs) (map office_kept_columns office) ≡ []
@@ -104,9 +117,9 @@ none_of_office b low test (kept ∷ office) =
 kept_picked : (b : ℕ) → 1 ≤ b → (test : sql.Row → Bool) (p : Kept → Bool) → ((row : Owned Kept) → (number_test 0 b (kept_columns row) && test (kept_columns row)) ≡ (row.owner == b && p row.it))
     → (kept : List (Owned Kept)) (office : List OfficeKept) → filter (λ vs. number_test 0 b vs && test vs) (kept_rows kept office) ≡ map kept_columns (filter (λ row. row.owner == b && p row.it) kept)
 kept_picked b low test p tests_are kept office =
-    filter_append (λ vs. number_test 0 b vs && test vs) (map kept_columns kept) (map office_kept_columns office)
+    filter-append (λ vs. number_test 0 b vs && test vs) (map kept_columns kept) (map office_kept_columns office)
     ∙ ap (λ l. filter (λ vs. number_test 0 b vs && test vs) (map kept_columns kept) ++ l) (none_of_office b low test office)
-    ∙ append_none (filter (λ vs. number_test 0 b vs && test vs) (map kept_columns kept))
+    ∙ append-nil (filter (λ vs. number_test 0 b vs && test vs) (map kept_columns kept))
     ∙ filter-map (λ vs. number_test 0 b vs && test vs) kept_columns kept
     ∙ ap (map kept_columns) (filter_same (λ row. number_test 0 b (kept_columns row) && test (kept_columns row)) (λ row. row.owner == b && p row.it) tests_are kept)
 
@@ -126,71 +139,122 @@ owned_picked b p (row ∷ kept) = go (row.owner == b) (owned_picked b p kept)
         further false same = same
     go false more = more
 
+not_office : (b : ℕ) → IsNumber b → (b == 0) ≡ false
+not_office b is = grind (arith, nat_tests)
+
+-- no row of a branch is head office's
+none_of_branches : (test : sql.Row → Bool) (kept : List (Owned Kept)) → AllByRecursion IsKept kept → filter (λ vs. number_test 0 0 vs && test vs) (map kept_columns kept) ≡ []
+none_of_branches test [] all = refl
+none_of_branches test (row ∷ kept) all =
+    ap (λ t. cond (t && test (kept_columns row)) (kept_columns row ∷ filter (λ vs. number_test 0 0 vs && test vs) (map kept_columns kept)) (filter (λ vs. number_test 0 0 vs && test vs) (map kept_columns kept)))
+    (number_tested row.owner 0 ∙ not_office row.owner all.0.0) ∙ none_of_branches test kept all.1
+
+-- so the rows that pass are those of head office's commands that do
+office_picked : (test : sql.Row → Bool) (p : OfficeKept → Bool) → ((it : OfficeKept) → (number_test 0 0 (office_kept_columns it) && test (office_kept_columns it)) ≡ p it)
+    → (kept : List (Owned Kept)) (office : List OfficeKept) → AllByRecursion IsKept kept → filter (λ vs. number_test 0 0 vs && test vs) (kept_rows kept office) ≡ map office_kept_columns (filter p office)
+office_picked test p tests_are kept office all =
+    filter-append (λ vs. number_test 0 0 vs && test vs) (map kept_columns kept) (map office_kept_columns office)
+    ∙ ap (λ (l : List sql.Row). l ++ filter (λ vs. number_test 0 0 vs && test vs) (map office_kept_columns office)) (none_of_branches test kept all)
+    ∙ filter-map (λ vs. number_test 0 0 vs && test vs) office_kept_columns office
+    ∙ ap (map office_kept_columns) (filter_same (λ it. number_test 0 0 (office_kept_columns it) && test (office_kept_columns it)) p tests_are office)
+
 -- ---- one, by its key
 
-abbrev pub select_kept : List ℕ
+abbrev select_kept : List ℕ
 select_kept = codes "SELECT command, reply FROM kept WHERE caller = ?1 AND \"key\" = ?2"
 
-abbrev pub of_key : List Term
+abbrev of_key : List Term
 of_key = op2 (Compare Eq Binary) (col 1 1) (col 0 0) ∷ op2 (Compare Eq Binary) (col 1 2) (col 0 1) ∷ []
 
-pub select_kept_means : Selects shop_schema select_kept (plain_query 39 of_key (col 1 3 ∷ col 1 4 ∷ []) [])
+select_kept_means : Selects shop_schema select_kept (plain_query 39 of_key (col 1 3 ∷ col 1 4 ∷ []) [])
 unfolding understood everything
 select_kept_means = record { names = _; is = refl; plain = (refl, refl); unlisted = refl }
 
-abbrev has_key : List ℕ → Kept → Bool
-has_key key it = bytes_eq it.command.key key
+abbrev pair_columns : List ℕ × List ℕ → sql.Row
+pair_columns it = Blob it.0 ∷ Text it.1 ∷ []
 
-abbrev stored_columns : Kept → sql.Row
-stored_columns it = Blob (command_form it.command) ∷ Text it.reply ∷ []
+abbrev two_columns : sql.Row → sql.Row
+two_columns vs = column vs 2 ∷ column vs 3 ∷ []
 
-shows_kept : (old new : State) (b : ℕ) (key : List ℕ) (rows : List sql.Row) → Shown select_kept (number_value b ∷ Text key ∷ []) old new rows → 1 ≤ b
-    → (books : Books) → Holds old books → IsHeld books → rows ≡ map stored_columns (filter (has_key key) (owned_by b books.kept))
-shows_kept old new b key rows h low books holds held =
-    projects_one shop_schema select_kept 39 4 of_key (col 1 3 ∷ col 1 4 ∷ []) select_kept_means (number_value b ∷ Text key ∷ []) old new rows holds.schema_is h
-    (λ vs. vs) (kept_rows books.kept books.catalogue.kept) (subst (HasRows 4 (old.now.trees 39)) (sym (as_it_is (kept_rows books.kept books.catalogue.kept))) holds.stands.kept) refl
-    seen (λ vs. column vs 2 ∷ column vs 3 ∷ []) seen (λ vs. refl) (λ r. refl) few
-    ∙ ap (map (λ (vs : sql.Row). column vs 2 ∷ column vs 3 ∷ [])) picked
-    ∙ map-map (λ (vs : sql.Row). column vs 2 ∷ column vs 3 ∷ []) kept_columns found
-    ∙ sym (map-map stored_columns (λ (row : Owned Kept). row.it) found)
-    ∙ ap (map stored_columns) (owned_picked b (has_key key) books.kept)
+abbrev seen : ℕ → List ℕ → sql.Row → Bool
+seen n key vs = number_test 0 n vs && (text_test 1 key vs && true)
+
+-- what is shown of the rows that pass
+picked : (owner : Owner) → IsOwner owner → (key : List ℕ) (books : Books) → IsHeld books
+    → map two_columns (filter (seen (owner_number owner) key) (kept_rows books.kept books.catalogue.kept)) ≡ map pair_columns (kept_under owner key books)
+picked owner.Office is key books held =
+    ap (map two_columns) (office_picked (λ vs. text_test 1 key vs && true) has_key (λ it. two_tested _ _ (number_tested 0 0) (text_tested it.command.key key)) books.kept books.catalogue.kept held.values.kept)
+    ∙ map-map two_columns office_kept_columns (filter has_key books.catalogue.kept)
+    ∙ sym (map-map pair_columns stored_office_kept (filter has_key books.catalogue.kept))
   where
-    seen : sql.Row → Bool
-    seen vs = number_test 0 b vs && (text_test 1 key vs && true)
+    has_key : OfficeKept → Bool
+    has_key it = bytes_eq it.command.key key
+picked (owner.Branch b) low key books held =
+    ap (map two_columns) (kept_picked b low (λ vs. text_test 1 key vs && true) has_key (λ row. two_tested _ _ (number_tested row.owner b) (text_tested row.it.command.key key)) books.kept books.catalogue.kept)
+    ∙ map-map two_columns kept_columns found
+    ∙ sym (map-map stored_columns (λ (row : Owned Kept). row.it) found)
+    ∙ ap (map stored_columns) (owned_picked b has_key books.kept)
+    ∙ sym (map-map pair_columns stored_kept (filter has_key (owned_by b books.kept)))
+  where
+    has_key : Kept → Bool
+    has_key it = bytes_eq it.command.key key
+
+    stored_columns : Kept → sql.Row
+    stored_columns it = pair_columns (stored_kept it)
 
     found : List (Owned Kept)
-    found = filter (λ row. row.owner == b && has_key key row.it) books.kept
+    found = filter (λ row. row.owner == b && has_key row.it) books.kept
 
-    picked : filter seen (kept_rows books.kept books.catalogue.kept) ≡ map kept_columns found
-    picked = kept_picked b low (λ vs. text_test 1 key vs && true) (has_key key) (λ row. two_tested _ _ (number_tested row.owner b) (text_tested row.it.command.key key)) books.kept books.catalogue.kept
+-- a key is kept once
+once : (owner : Owner) (key : List ℕ) (books : Books) → IsHeld books → length (kept_under owner key books) ≤ 1
+once owner.Office key books held =
+    subst (λ (n : ℕ). n ≤ 1) (sym (length-map stored_office_kept (filter (λ it. bytes_eq it.command.key key) books.catalogue.kept)))
+    (different_once (λ (it : OfficeKept). it.command.key) key books.catalogue.kept held.office_keys)
+once (owner.Branch b) key books held =
+    subst (λ (n : ℕ). n ≤ 1) (sym (length-map stored_kept (filter (λ it. bytes_eq it.command.key key) (owned_by b books.kept))))
+    (different_once (λ (it : Kept). it.command.key) key (owned_by b books.kept) (held.keys b))
 
-    few : PicksOne seen (kept_rows books.kept books.catalogue.kept)
-    few =
-        subst (λ (n : ℕ). n ≤ 1)
-        (sym (ap length picked ∙ length-map kept_columns found ∙ sym (length-map (λ (row : Owned Kept). row.it) found) ∙ ap length (owned_picked b (has_key key) books.kept)))
-        (different_once (λ (it : Kept). it.command.key) key (owned_by b books.kept) (held.keys b))
+module _ (owner : Owner) (is : IsOwner owner) (old new : State) (key : List ℕ) (rows : List sql.Row) (h : Shown select_kept (number_value (owner_number owner) ∷ Text key ∷ []) old new rows) where
+  shows_kept : (books : Books) → Holds old books → IsHeld books → rows ≡ map pair_columns (kept_under owner key books)
+  shows_kept books holds held =
+      projects_one shop_schema select_kept 39 4 of_key (col 1 3 ∷ col 1 4 ∷ []) select_kept_means (number_value (owner_number owner) ∷ Text key ∷ []) old new rows holds.schema_is h
+      (λ vs. vs) all (subst (HasRows 4 (old.now.trees 39)) (sym (map-id all)) holds.stands.kept) refl
+      (seen (owner_number owner) key) two_columns (seen (owner_number owner) key) (λ vs. refl) (λ r. refl) few
+      ∙ picked owner is key books held
+    where
+      all : List sql.Row
+      all = kept_rows books.kept books.catalogue.kept
 
--- what the first row tells
-module _ (old new : State) (b : ℕ) (key : List ℕ) (rows : List sql.Row) (h : Shown select_kept (number_value b ∷ Text key ∷ []) old new rows) (low : 1 ≤ b) where
+      few : PicksOne (seen (owner_number owner) key) all
+      few =
+          subst (λ (n : ℕ). n ≤ 1)
+          (sym (sym (length-map two_columns (filter (seen (owner_number owner) key) all)) ∙ ap length (picked owner is key books held) ∙ length-map pair_columns (kept_under owner key books)))
+          (once owner key books held)
+
   still : (books : Books) → Holds old books → Holds new books
-  still = still_holds shop_schema StandsFor select_kept (number_value b ∷ Text key ∷ []) old new select_kept_means.plain rows h
+  still = still_holds shop_schema StandsFor select_kept (number_value (owner_number owner) ∷ Text key ∷ []) old new select_kept_means.plain rows h
 
-  pub read_kept : (slice : List sql.Row) → slice ≡ rows
-      → (None ≡ slice_get slice 0 → Reads old new (λ books. None ≡ head (map stored_kept (filter (has_key key) (owned_by b books.kept)))))
+  -- what the first row tells
+  pub read_owned : (slice : List sql.Row) → slice ≡ rows
+      → (None ≡ slice_get slice 0 → Reads old new (λ books. None ≡ head (kept_under owner key books)))
       × ((row : sql.Row) (form reply : List ℕ) → Some row ≡ slice_get slice 0 → column row 0 ≡ Blob form → column row 1 ≡ Text reply
-      → Reads old new (λ books. Some (form, reply) ≡ head (map stored_kept (filter (has_key key) (owned_by b books.kept)))))
-  read_kept slice same = (
-    λ none books holds held. (still books holds, first_none stored_columns stored_kept (filter (has_key key) (owned_by b books.kept)) rows slice (shows_kept old new b key rows h low books holds held) same none),
+      → Reads old new (λ books. Some (form, reply) ≡ head (kept_under owner key books)))
+  read_owned slice same = (
+    λ none books holds held. (
+      still books holds,
+      first_none pair_columns (λ it. it) (kept_under owner key books) rows slice (shows_kept books holds held) same none ∙ ap head (map-id (kept_under owner key books)),
+    ),
     λ row form reply some is_form is_reply books holds held. (
       still books holds,
-      first_some stored_columns stored_kept (filter (has_key key) (owned_by b books.kept)) rows slice (shows_kept old new b key rows h low books holds held) same row (form, reply) some (λ it is. stored it row form reply is is_form is_reply),
+      first_some pair_columns (λ it. it) (kept_under owner key books) rows slice (shows_kept books holds held) same row (form, reply) some (λ it are. stored it row form reply are is_form is_reply)
+          ∙ ap head (map-id (kept_under owner key books)),
     ),
   )
     where
-      stored : (it : Kept) (row : sql.Row) (form reply : List ℕ) → stored_columns it ≡ row → column row 0 ≡ Blob form → column row 1 ≡ Text reply → (form, reply) ≡ stored_kept it
-      stored it row form reply is is_form is_reply =
-          let first : Blob (command_form it.command) ≡ Blob form = ap (λ r. column r 0) is ∙ is_form in
-          let second : Text it.reply ≡ Text reply = ap (λ r. column r 1) is ∙ is_reply in
-          let one : form ≡ command_form it.command = cc in
-          let other : reply ≡ it.reply = cc in
+      stored : (it : List ℕ × List ℕ) (row : sql.Row) (form reply : List ℕ) → pair_columns it ≡ row → column row 0 ≡ Blob form → column row 1 ≡ Text reply → (form, reply) ≡ it
+      stored it row form reply are is_form is_reply =
+          let first : Blob it.0 ≡ Blob form = ap (λ r. column r 0) are ∙ is_form in
+          let second : Text it.1 ≡ Text reply = ap (λ r. column r 1) are ∙ is_reply in
+          let one : form ≡ it.0 = cc in
+          let other : reply ≡ it.1 = cc in
           (λ i. (one i, other i))

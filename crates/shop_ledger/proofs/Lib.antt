@@ -11,5 +11,4 @@ pub mod CountsOf
 pub mod Outs
 pub mod CountLemmas
 pub mod Agreeing
-pub mod OfficeKeptTexts
 pub mod OfficeCounts

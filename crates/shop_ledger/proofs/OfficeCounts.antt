@@ -4,13 +4,15 @@ use Rattle.std.specs.Prelude.{slice_get, flat_map}
 use Rattle.std.specs.List.{AllByRecursion, list_all}
 use Rattle.std.proofs.lemmas.Bool.{and_parts}
 use Rattle.std.proofs.lemmas.Bool.Decides.{nat_tests}
+use Rattle.std.proofs.lemmas.List.{length_push}
+use Rattle.std.proofs.ByRecursion.{All-push}
 use Rattle.sqlite.specs.State.{State, Shown}
 use Rattle.sqlite_value.specs.Order as sql
 use Rattle.sqlite_value.specs.Order.{column}
 use Rattle.sqlite_keyed.proofs.ListLemmas.{all-slice_get}
 use Rattle.sql_rows.specs.Rows.{number_value}
-use Rattle.sql_rows.proofs.Bags.{all_along}
 use Rattle.sql_rows.proofs.Projects.{still_holds}
+use Rattle.sql_rows.proofs.ColumnTests.{same_number}
 use Rattle.shop_model.specs.Rows.{Row, Owned, at, lacks, is_empty, set_at, numbered, numbered_from}
 use Rattle.shop_model.specs.Values.{Branch, Customer, Rental, Payment, OfficeAct, AddCountry, AddCity, AddLanguage, AddCategory, AddActor, AddFilm, PriceFilm, WithdrawFilm, AddCast, AddBranch, AddStaff, StaffLeaves, SetManager, OfficeCommand}
 use Rattle.shop_model.specs.Shop.{Kept, OfficeKept, Catalogue}
@@ -24,7 +26,7 @@ use Rattle.shop_schema.specs.Held.{IsHeld}
 use Rattle.shop_schema.specs.Tables.{shop_schema}
 use Rattle.shop_schema.specs.Shop.{StandsFor, Holds, HoldsWith, Reads}
 use Rattle.shop_schema.proofs.Lists.{numbered_push, flat_map_push}
-use Rattle.shop_schema.proofs.Values.{all_push}
+use Rattle.sqlite_trees.proofs.ListLemmas.{all-permutation}
 use Rattle.shop_ledger.specs.declared.counts.CountKind.TheVariants as kind
 use Rattle.shop_ledger.specs.declared.counts.Counter.{Counter}
 use Rattle.shop_ledger.specs.declared.counts.Counter.TheVariants.{OfficeKeys, Of}
@@ -61,15 +63,12 @@ none_raised (c ∷ cs) all = λ i. cond (apart 4 c all.0 i) (raised 1 c) c ∷ n
 own_counts : (books : Books) → filter (is_count 0 4) (counts_of books).counters ≡ office_count books ∷ []
 own_counts books = ap (λ l. office_count books ∷ l) (none_picked (flat_map (branch_counts books) (numbered books.catalogue.branches)) (callers books 1 (omega arith) books.catalogue.branches))
 
-same_number : (m n : ℕ) → number_value m ≡ number_value n → m ≡ n
-same_number m n h = cc
-
 read_office_count : (old new : State) (rows : List sql.Row) → Shown select_count (number_value 0 ∷ number_value 4 ∷ []) old new rows
     → (row : sql.Row) (n : ℕ) → slice_get rows 0 ≡ Some row → column row 0 ≡ number_value n → Reads old new (λ books. n ≡ length books.catalogue.kept)
 read_office_count old new rows h row n some is books holds held =
     let P : sql.Row → Type 0 = λ vs. vs ≡ number_value (length books.catalogue.kept) ∷ [] in
     let same = subst (λ (cs : List Count). IsPermutation (map (λ (c : Count). number_value c.last ∷ []) cs) rows) (own_counts books) (shows_counts (counts_of books) old new 0 4 rows books holds.schema_is h holds.stands) in
-    let all = all_along P _ rows same (refl, tt) in
+    let all = all-permutation P _ rows same (refl, tt) in
     let one : row ≡ number_value (length books.catalogue.kept) ∷ [] = all-slice_get P rows 0 row some all in (
       still_holds shop_schema StandsFor select_count (number_value 0 ∷ number_value 4 ∷ []) old new select_count_means.plain rows h books holds,
       same_number _ _ (sym is ∙ ap (λ r. column r 0) one),
@@ -88,7 +87,7 @@ office_once books held = record { once = subst (λ (n : ℕ). n ≤ 1) (sym (ap 
 one_more : (c : Count) (counts : Counts) → 1 ≤ c.caller → c.last ≡ 0 → CountsOnce 0 kind.Kept counts → CountsOnce 0 kind.Kept (add_count c counts)
 one_more c counts low none given = record {
   once = subst (λ (n : ℕ). n ≤ 1) (sym same) given.once;
-  small = all_push (λ (it : Count). it.last < 2 ^ 32) counts.counters c given.small (omega (arith, none));
+  small = All-push (λ (it : Count). it.last < 2 ^ 32) counts.counters c given.small (omega (arith, none));
 }
   where
     same : length (filter (is_count 0 4) (counts.counters ++ c ∷ [])) ≡ length (filter (is_count 0 4) counts.counters)
@@ -106,14 +105,14 @@ branch_once b books low held = new_branch_once b (counts_of books) low (office_o
 
 -- ---- a new branch has nothing
 
-lacks_next : {A : Type 0} (n : ℕ) (xs : List A) → length xs < n → lacks xs n ≡ true
+pub lacks_next : {A : Type 0} (n : ℕ) (xs : List A) → length xs < n → lacks xs n ≡ true
 lacks_next n [] more = refl
 lacks_next n (x ∷ xs) more = ap (λ t. is_empty (cond t (x ∷ []) (at (n - 1) xs))) other ∙ lacks_next (n - 1) xs (omega (arith, more))
   where
     other : (n == 1) ≡ false
     other = grind (arith, nat_tests)
 
-none_of : {X : Type 0} (owner : X → ℕ) (branches : List Branch) (b : ℕ) → lacks branches b ≡ true → (xs : List X) → list_all (λ x. has_row branches (owner x)) xs ≡ true → filter (λ x. owner x == b) xs ≡ []
+pub none_of : {X : Type 0} (owner : X → ℕ) (branches : List Branch) (b : ℕ) → lacks branches b ≡ true → (xs : List X) → list_all (λ x. has_row branches (owner x)) xs ≡ true → filter (λ x. owner x == b) xs ≡ []
 none_of owner branches b lacking [] all = refl
 none_of {X} owner branches b lacking (x ∷ xs) all =
     let parts = and_parts (has_row branches (owner x)) (list_all (λ y. has_row branches (owner y)) xs) all in
@@ -180,7 +179,7 @@ office_rows_counted (AddStaff staff) books owners = refl
 office_rows_counted (StaffLeaves staff) books owners = refl
 office_rows_counted (SetManager b staff) books owners = λ i. record { counters = office_count books ∷ branch_set books 1 b (λ r. record r { manager = Some staff }) books.catalogue.branches i; outs = (counts_of books).outs }
 
-kept_stays : (act : OfficeAct) (it : Catalogue) → (office_acted act it).kept ≡ it.kept
+pub kept_stays : (act : OfficeAct) (it : Catalogue) → (office_acted act it).kept ≡ it.kept
 kept_stays (AddCountry name) it = refl
 kept_stays (AddCity city) it = refl
 kept_stays (AddLanguage name) it = refl
@@ -195,17 +194,13 @@ kept_stays (AddStaff staff) it = refl
 kept_stays (StaffLeaves staff) it = refl
 kept_stays (SetManager b staff) it = refl
 
-pushed : {A : Type 0} (xs : List A) (x : A) → length (xs ++ x ∷ []) ≡ length xs + 1
-pushed [] x = refl
-pushed (y ∷ xs) x = let shorter = pushed xs x in omega (arith, shorter)
-
 -- with the key that is kept, head office's count is one more than with the rows alone
 pub office_counted_raised : (command : OfficeCommand) (books : Books)
     → counts_of (record books { catalogue = office_done command books.catalogue }) ≡ raise 0 4 1 (counts_of (record books { catalogue = office_acted command.act books.catalogue }))
 office_counted_raised command books =
     let it = office_acted command.act books.catalogue in
     let kept : OfficeKept = record { command = command; reply = office_text command books.catalogue } in
-    let more : length (books.catalogue.kept ++ kept ∷ []) ≡ length it.kept + 1 = pushed books.catalogue.kept kept ∙ ap (λ (ks : List OfficeKept). length ks + 1) (sym (kept_stays command.act books.catalogue)) in
+    let more : length (books.catalogue.kept ++ kept ∷ []) ≡ length it.kept + 1 = length_push books.catalogue.kept kept ∙ ap (λ (ks : List OfficeKept). length ks + 1) (sym (kept_stays command.act books.catalogue)) in
     let others = none_raised (flat_map (branch_counts books) (numbered it.branches)) (callers books 1 (omega arith) it.branches) in
     λ i. record { counters = record { caller = 0; kind = 4; last = more i } ∷ sym others i; outs = (counts_of books).outs }
 

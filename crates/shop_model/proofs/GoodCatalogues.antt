@@ -4,7 +4,7 @@ use Rattle.std.specs.Prelude.{◌==◌, ◌&&◌, nat_le}
 use Rattle.std.specs.Option.{option_to_list}
 use Rattle.std.specs.List.{list_any, list_all}
 use Rattle.std.specs.Str.{bytes_eq}
-use Rattle.std.proofs.lemmas.Bool.{cases_Bool}
+use Rattle.std.proofs.lemmas.Bool.{cases_Bool, or_parts, not-false}
 use Rattle.shop_model.specs.Rows.{at, lacks, is_empty, set_at}
 use Rattle.shop_model.specs.Values.{Text, City, Film, Cast, Branch, Staff, Customer, Copy, Rental, Payment, Arrival, OfficeAct, AddCountry, AddCity, AddLanguage, AddCategory, AddActor, AddFilm, PriceFilm, WithdrawFilm, AddCast, AddBranch, AddStaff, StaffLeaves, SetManager, OfficeCommand, Rules}
 use Rattle.shop_model.specs.Refusals.{Refusal, Full}
@@ -14,8 +14,8 @@ use Rattle.shop_model.specs.Machine.{office_acted, office_done, office_text}
 use Rattle.shop_model.specs.Links.{has_row, are_different, is_staff_of, IsLinkedShop, NamesRowsOf, HasSharedSizes, HasNoDoubles, IsGoodCatalogue}
 use Rattle.shop_model.proofs.Isolation.{NoneHold, none_hold}
 use Rattle.shop_model.proofs.GoodShops.{all_more, all_weaker, all_set, length_set, key_room}
-use Rattle.shop_model.proofs.CustodyLemmas.{or_parts}
-use Rattle.shop_model.proofs.LinkLemmas.{not_false, has_more, has_set, any_at_more, any_at_set, all_at_more, all_at_set, different_more, different_set, none_left}
+use Rattle.shop_model.proofs.LinkLemmas.{has_more, has_set, any_at_more, any_at_set, all_at_more, all_at_set, different_more, different_set, none_left}
+use Rattle.shop_model.proofs.LinkedShops.{is_there}
 
 -- what is there in the one is there in the other
 pub record Grows (old new : Catalogue) : Type 0 where
@@ -59,15 +59,12 @@ names_grow old new rows g h = record {
   staff_cities = all_weaker (λ (x : Staff). has_row old.cities x.person.city) _ rows.staff (λ (x : Staff) is. g.cities x.person.city is) h.staff_cities;
 }
 
-is_there : {A : Type 0} (rows : List A) (n : ℕ) → lacks rows n ≡ false → has_row rows n ≡ true
-is_there rows n e = rw e
-
 -- who isn't missing, and isn't of another branch, is of that one
 is_of_branch : (b : ℕ) (rows : List Staff) → is_empty rows ≡ false → list_any (λ (x : Staff). not (x.branch == b)) rows ≡ false → list_any (λ (x : Staff). x.branch == b) rows ≡ true
 is_of_branch b [] e f = absurd (apart e) where
   apart : true ≡ false → ⊥
   apart e = cc
-is_of_branch b (row ∷ rows) e f = rw (not_false (row.branch == b) (or_parts (not (row.branch == b)) _ f).0)
+is_of_branch b (row ∷ rows) e f = rw (not-false (row.branch == b) (or_parts (not (row.branch == b)) _ f).0)
 
 -- what each list of rows names, one after another
 names_of : (named rows : Catalogue) → list_all (λ (it : City). has_row named.countries it.country) rows.cities ≡ true

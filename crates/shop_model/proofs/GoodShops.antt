@@ -2,8 +2,9 @@
 use Rattle.std.proofs.Common.{◌≡◌, inl, inr, ℕ, ◌+◌, ◌-◌, ◌≤◌, ◌<◌, List, [], ◌∷◌, ◌++◌, suc, length, map, Bool, true, false, not, None, Some, refl, sym, ap, ◌∙◌, arith, length-append}
 use Rattle.std.specs.Prelude.{Option, ◌==◌, ◌&&◌, ◌||◌, nat_le, nat_lt}
 use Rattle.std.specs.List.{list_any, list_all}
-use Rattle.std.proofs.lemmas.Bool.{cases_Bool}
+use Rattle.std.proofs.lemmas.Bool.{cases_Bool, or_parts, and_parts, true≢false}
 use Rattle.std.proofs.lemmas.Bool.Decides.{nat_tests}
+use Rattle.std.proofs.lemmas.List.{map_push}
 use Rattle.shop_model.specs.Rows.{set_at, set_all, arrived, total}
 use Rattle.shop_model.specs.Calendar.{Moment, is_by, same_moment}
 use Rattle.shop_model.specs.Values.{Customer, Rental, Payment, Arrival, Stock, Copies, BadLine, Sent, Scrapped, Act, AddCustomer, SetActive, Rent, TakeBack, Pay, Import, Dispatch, Receive, Scrap, Command, Rules}
@@ -13,10 +14,6 @@ use Rattle.shop_model.specs.Machine.{acted, here, with_state, films_in, films_at
 use Rattle.shop_model.specs.GoodShop.{same_rental, are_apart, is_within, returned_by, rental_by, rises, IsGoodShop}
 use Rattle.shop_model.proofs.RowLemmas.{length_map}
 use Rattle.shop_model.proofs.Isolation.{NoneHold}
-use Rattle.shop_model.proofs.CustodyLemmas.{or_parts, and_parts}
-
-apart : true ≡ false → ⊥
-apart e = cc
 
 -- ---- lists
 
@@ -54,7 +51,7 @@ map_set_same g n f (x ∷ xs) same = elim (cases_Bool (n == 1)) [ inl is ↦ rw 
 -- ---- moments
 
 moves_on : (last : Option Moment) (moment m : Moment) → is_before moment last ≡ false → is_within last m ≡ true → is_by m moment ≡ true
-moves_on None moment m on by = absurd (apart (sym by))
+moves_on None moment m on by = absurd (true≢false (sym by))
 moves_on (Some last) moment m on by = grind (arith, nat_tests)
 
 self_by : (moment : Moment) → is_by moment moment ≡ true
@@ -137,10 +134,6 @@ incoming_new missing (a ∷ arrivals) opens fit =
 one_longer : {A : Type 0} (xs : List A) (x : A) (n : ℕ) → length xs ≤ n → length (xs ++ x ∷ []) ≤ n + 1
 one_longer xs x n le = let l = length-append xs (x ∷ []) in omega (arith, l, le)
 
-pub map_more : {A B : Type 0} (g : A → B) (xs : List A) (x : A) → map g (xs ++ x ∷ []) ≡ map g xs ++ g x ∷ []
-map_more g [] x = refl
-map_more g (y ∷ ys) x = ap (λ r. g y ∷ r) (map_more g ys x)
-
 pub key_room : (limit have : ℕ) {more : ℕ} → nat_le limit have ≡ false → more ≡ have + 1 → more ≤ limit
 key_room limit have fits e = let lt : have < limit = grind (arith, nat_tests, fits) in omega (arith, e, lt)
 
@@ -211,7 +204,7 @@ good_acted rules sizes b catalogue command k (Rent c x) shop most fit good full 
       created = base.created;
       rented = all_more _ shop.rentals (record { rented = command.moment; copy = x; customer = c; returned = None; staff = command.staff }) base.rented (rw (self_by command.moment));
       paid = base.paid;
-      rentals_rise = rw (map_more (λ (r : Rental). r.rented) shop.rentals (record { rented = command.moment; copy = x; customer = c; returned = None; staff = command.staff })) (rises_more (map (λ (r : Rental). r.rented) shop.rentals) command.moment good.rentals_rise (rw (all_map (λ n. is_by n command.moment) (λ (r : Rental). r.rented) shop.rentals) (all_weaker _ _ shop.rentals (λ (r : Rental) by. moves_on shop.last command.moment r.rented on (and_parts (is_within shop.last r.rented) _ by).0) good.rented)));
+      rentals_rise = rw (map_push (λ (r : Rental). r.rented) shop.rentals (record { rented = command.moment; copy = x; customer = c; returned = None; staff = command.staff })) (rises_more (map (λ (r : Rental). r.rented) shop.rentals) command.moment good.rentals_rise (rw (all_map (λ n. is_by n command.moment) (λ (r : Rental). r.rented) shop.rentals) (all_weaker _ _ shop.rentals (λ (r : Rental) by. moves_on shop.last command.moment r.rented on (and_parts (is_within shop.last r.rented) _ by).0) good.rented)));
       payments_rise = base.payments_rise;
       keys = base.keys;
       copies = base.copies;
@@ -246,7 +239,7 @@ good_acted rules sizes b catalogue command k (Pay c rental amount) shop most fit
       rented = base.rented;
       paid = all_more _ shop.payments (record { customer = c; staff = command.staff; rental = rental; amount = amount; paid = command.moment }) base.paid (self_by command.moment);
       rentals_rise = base.rentals_rise;
-      payments_rise = rw (map_more (λ (p : Payment). p.paid) shop.payments (record { customer = c; staff = command.staff; rental = rental; amount = amount; paid = command.moment })) (rises_more (map (λ (p : Payment). p.paid) shop.payments) command.moment good.payments_rise (rw (all_map (λ n. is_by n command.moment) (λ (p : Payment). p.paid) shop.payments) base.paid));
+      payments_rise = rw (map_push (λ (p : Payment). p.paid) shop.payments (record { customer = c; staff = command.staff; rental = rental; amount = amount; paid = command.moment })) (rises_more (map (λ (p : Payment). p.paid) shop.payments) command.moment good.payments_rise (rw (all_map (λ n. is_by n command.moment) (λ (p : Payment). p.paid) shop.payments) base.paid));
       keys = base.keys;
       copies = base.copies;
       customers_fit = base.customers_fit;

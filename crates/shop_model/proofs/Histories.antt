@@ -2,7 +2,9 @@
 use Rattle.std.proofs.Common.{◌≡◌, inl, inr, List, [], ◌∷◌, ◌++◌, length, map, filter, Bool, true, false, not, refl, sym, ap, ap₂, ◌∙◌, arith, append-nil, length-append}
 use Rattle.std.specs.Prelude.{◌==◌, ◌&&◌, ◌⊎◌, ◌||◌, if◌then◌else◌}
 use Rattle.std.specs.List.{list_all}
-use Rattle.std.proofs.lemmas.Bool.{cases_Bool}
+use Rattle.std.proofs.lemmas.Bool.{cases_Bool, and_parts}
+use Rattle.std.proofs.lemmas.List.{map-append}
+use Rattle.std.proofs.lemmas.List.Elements.{filter-append}
 use Rattle.shop_model.specs.Values.{OfficeAsk, Rules}
 use Rattle.shop_model.specs.Refusals.{TooLong, NoCounter, NoRoute, BadBody, KeyUsed, Full, MomentBack, NoStaff, NoCustomer, CustomerInactive, NoCopy, CopyNotHere, CopyOut, FilmWithdrawn, SameMoment, NoRental, RentalReturned, WrongCustomer, NoFilm, LotIn, BadCsv, NoBranch, OwnBranch, NoArrival, ArrivalReceived, BadLines, BadThreshold, TokenTaken, NoSharedRow, Already, Usage, Memory, Size, StoreFailed}
 use Rattle.shop_model.specs.Json.{escape_byte}
@@ -10,7 +12,7 @@ use Rattle.shop_model.specs.Machine.{Reply, Sorry, Done, Shows}
 use Rattle.shop_model.specs.Answers.{Answer, answer_of, problem_answer}
 use Rattle.shop_model.specs.Books.{Books, Event, Caller, counted_one, caller_in, reply_in, after, run, last_books}
 use Rattle.shop_model.specs.Histories.{is_decided, is_store_failure, is_answer, outcome_of, counted_in, fails_for_good, has_failed, IsRun, IsStep}
-use Rattle.shop_model.proofs.CustodyLemmas.{and_parts}
+use Rattle.shop_model.proofs.Origins.{all_append}
 
 -- a decision's status is never the store's
 pub decided_is : (reply : Reply) → is_decided (answer_of reply) ≡ true
@@ -52,7 +54,7 @@ memory_answer : is_answer (problem_answer Memory) ≡ true
 unfolding escape_byte
 memory_answer = refl
 
-memory_failure : is_store_failure (problem_answer Memory) ≡ false
+pub memory_failure : is_store_failure (problem_answer Memory) ≡ false
 unfolding escape_byte
 memory_failure = refl
 
@@ -60,7 +62,7 @@ size_answer : is_answer (problem_answer Size) ≡ true
 unfolding escape_byte
 size_answer = refl
 
-size_failure : is_store_failure (problem_answer Size) ≡ false
+pub size_failure : is_store_failure (problem_answer Size) ≡ false
 unfolding escape_byte
 size_failure = refl
 
@@ -68,7 +70,7 @@ failed_answer : is_answer (problem_answer StoreFailed) ≡ true
 unfolding escape_byte
 failed_answer = refl
 
-failed_failure : is_store_failure (problem_answer StoreFailed) ≡ true
+pub failed_failure : is_store_failure (problem_answer StoreFailed) ≡ true
 unfolding escape_byte
 failed_failure = refl
 
@@ -87,7 +89,7 @@ room_decided : (answer : Answer) → IsRoom answer → is_decided answer ≡ fal
 room_decided answer (inl is) = rw is refl
 room_decided answer (inr is) = rw is refl
 
-decided_failure : (answer : Answer) → is_decided answer ≡ true → is_store_failure answer ≡ false
+pub decided_failure : (answer : Answer) → is_decided answer ≡ true → is_store_failure answer ≡ false
 decided_failure answer is = elim (cases_Bool (answer.status == 503)) [
   | inl bad ↦ let no : false ≡ true = rw bad at is in absurd (apart no)
   | inr good ↦ rw good
@@ -96,18 +98,6 @@ decided_failure answer is = elim (cases_Bool (answer.status == 503)) [
   apart e = cc
 
 -- ---- one more
-
-all_append : {A : Type 0} (p : A → Bool) (xs ys : List A) → list_all p xs ≡ true → list_all p ys ≡ true → list_all p (xs ++ ys) ≡ true
-all_append p [] ys all more = more
-all_append p (x ∷ xs) ys all more = let h = and_parts (p x) (list_all p xs) all in rw h.0 (all_append p xs ys h.1 more)
-
-filter_append : {A : Type 0} (p : A → Bool) (xs ys : List A) → filter p (xs ++ ys) ≡ filter p xs ++ filter p ys
-filter_append p [] ys = refl
-filter_append p (x ∷ xs) ys = elim (cases_Bool (p x)) [ inl is ↦ rw is (ap (λ r. x ∷ r) (filter_append p xs ys)) | inr isnt ↦ rw isnt (filter_append p xs ys) ]
-
-map_append : {A B : Type 0} (f : A → B) (xs ys : List A) → map f (xs ++ ys) ≡ map f xs ++ map f ys
-map_append f [] ys = refl
-map_append f (x ∷ xs) ys = ap (λ r. f x ∷ r) (map_append f xs ys)
 
 pub run_append : (rules : Rules) (look : OfficeAsk → Books → Reply) (events more : List Event) (books : Books)
     → run rules look (events ++ more) books ≡ run rules look events books ++ run rules look more (last_books rules events books)
@@ -210,7 +200,7 @@ run_idle rules look events answers event answer old mid new r later same lacks i
       each = let a = length-append answers (answer ∷ []) in let b = length-append events (event ∷ []) in let e = r.each in omega arith;
       answers_are = all_append is_answer answers (answer ∷ []) r.answers_are (rw is refl);
       stays = stays_more answers answer r.stays later;
-      decisions = filter_append is_decided answers (answer ∷ []) ∙ rw lacks (append-nil (filter is_decided answers)) ∙ r.decisions
+      decisions = filter-append is_decided answers (answer ∷ []) ∙ rw lacks (append-nil (filter is_decided answers)) ∙ r.decisions
           ∙ ap (λ (es : List Event). map (λ (it : Caller × Reply). answer_of it.1) (run rules look es old)) (sym counts);
       books = same ∙ r.books ∙ ap (λ (es : List Event). last_books rules es old) (sym counts);
     }
@@ -232,9 +222,9 @@ run_more rules look events answers event answer old mid new r later (inl d) =
       each = let a = length-append answers (answer ∷ []) in let b = length-append events (event ∷ []) in let e = r.each in omega arith;
       answers_are = all_append is_answer answers (answer ∷ []) r.answers_are (rw decided refl);
       stays = stays_more answers answer r.stays later;
-      decisions = filter_append is_decided answers (answer ∷ []) ∙ ap₂ (λ (xs ys : List Answer). xs ++ ys) r.decisions (rw decided (ap (λ (a : Answer). a ∷ []) d.reply))
+      decisions = filter-append is_decided answers (answer ∷ []) ∙ ap₂ (λ (xs ys : List Answer). xs ++ ys) r.decisions (rw decided (ap (λ (a : Answer). a ∷ []) d.reply))
           ∙ ap (λ (b : Books). map (λ (it : Caller × Reply). answer_of it.1) (run rules look history old) ++ answer_of (reply_in rules look event b) ∷ []) r.books
-          ∙ sym (map_append (λ (it : Caller × Reply). answer_of it.1) (run rules look history old) (run rules look (event ∷ []) (last_books rules history old)))
+          ∙ sym (map-append (λ (it : Caller × Reply). answer_of it.1) (run rules look history old) (run rules look (event ∷ []) (last_books rules history old)))
           ∙ ap (map (λ (it : Caller × Reply). answer_of it.1)) (sym (run_append rules look history (event ∷ []) old))
           ∙ ap (λ (es : List Event). map (λ (it : Caller × Reply). answer_of it.1) (run rules look es old)) (sym counts);
       books = d.books ∙ ap (λ (b : Books). after rules event b) r.books ∙ sym (last_append rules history (event ∷ []) old) ∙ ap (λ (es : List Event). last_books rules es old) (sym counts);

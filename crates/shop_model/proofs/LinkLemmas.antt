@@ -2,29 +2,17 @@
 use Rattle.std.proofs.Common.{◌≡◌, ◌≢◌, inl, inr, ℕ, ◌+◌, ◌-◌, List, [], ◌∷◌, ◌++◌, filter, map, length, Bool, true, false, not, refl, sym, ap, ◌∙◌, arith}
 use Rattle.std.specs.Prelude.{◌==◌, ◌&&◌, ◌||◌, flat_map}
 use Rattle.std.specs.List.{list_any, list_all}
-use Rattle.std.proofs.lemmas.Bool.{cases_Bool}
+use Rattle.std.proofs.lemmas.Bool.{cases_Bool, or_parts, and_parts, not-true, false≢true}
 use Rattle.shop_model.specs.Rows.{at, lacks, set_at, set_all, set_among, arrived, numbered_from, mem}
 use Rattle.shop_model.specs.Links.{has_row, are_different}
 use Rattle.shop_model.proofs.RowLemmas.{same_if, differ_if, differ_test}
 use Rattle.shop_model.proofs.GoodShops.{all_set}
 use Rattle.shop_model.proofs.Origins.{all_append}
-use Rattle.shop_model.proofs.CustodyLemmas.{and_parts, or_parts}
-
-apart : false ≡ true → ⊥
-apart e = cc
-
-pub not_false : (a : Bool) → not a ≡ false → a ≡ true
-not_false true e = refl
-not_false false e = sym e
-
-pub not_true : (a : Bool) → not a ≡ true → a ≡ false
-not_true true e = sym e
-not_true false e = refl
 
 -- ---- a row of a number
 
 pub has_more : {A : Type 0} (n : ℕ) (xs ys : List A) → has_row xs n ≡ true → has_row (xs ++ ys) n ≡ true
-has_more n [] ys has = absurd (apart has)
+has_more n [] ys has = absurd (false≢true has)
 has_more n (x ∷ xs) ys has = elim (cases_Bool (n == 1)) [
   | inl is ↦ rw is
   | inr isnt ↦ rw isnt (has_more (n - 1) xs ys (rw isnt at has))
@@ -42,7 +30,7 @@ has_set_all n [] f xs = refl
 has_set_all n (m ∷ ms) f xs = has_set_all n ms f (set_at m f xs) ∙ has_set n m f xs
 
 pub any_at_more : {A : Type 0} (p : A → Bool) (n : ℕ) (xs ys : List A) → list_any p (at n xs) ≡ true → list_any p (at n (xs ++ ys)) ≡ true
-any_at_more p n [] ys some = absurd (apart some)
+any_at_more p n [] ys some = absurd (false≢true some)
 any_at_more p n (x ∷ xs) ys some = elim (cases_Bool (n == 1)) [
   | inl is ↦ let h : list_any p (x ∷ []) ≡ true = rw is at some in rw is h
   | inr isnt ↦ rw isnt (any_at_more p (n - 1) xs ys (rw isnt at some))
@@ -72,7 +60,7 @@ all_at_more p n (y ∷ ys) x all is = elim (cases_Bool (n == 1)) [
 ]
 
 pub one_at : {A : Type 0} (n : ℕ) (xs : List A) → lacks xs n ≡ false → length (at n xs) ≡ 1
-one_at n [] e = absurd (apart (sym e))
+one_at n [] e = absurd (false≢true (sym e))
 one_at n (x ∷ xs) e = elim (cases_Bool (n == 1)) [
   | inl is ↦ rw is
   | inr isnt ↦ rw isnt (one_at (n - 1) xs (rw isnt at e))
@@ -145,7 +133,7 @@ different_more same [] x all none = refl
 different_more {A = A} same (y ∷ ys) x all none =
     let h = and_parts (not (list_any (same y) ys)) (are_different same ys) all in
     let n = or_parts (same y x) (list_any (λ y. same y x) ys) none in
-    rw (any_more (same y) ys (not_true _ h.0) n.0) (different_more same ys x h.1 n.1) where
+    rw (any_more (same y) ys (not-true _ h.0) n.0) (different_more same ys x h.1 n.1) where
       any_more : (p : A → Bool) (zs : List A) → list_any p zs ≡ false → p x ≡ false → list_any p (zs ++ x ∷ []) ≡ false
       any_more p [] none isnt = rw isnt
       any_more p (z ∷ zs) none isnt = let h = or_parts (p z) (list_any p zs) none in rw h.0 (any_more p zs h.1 isnt)

@@ -4,7 +4,7 @@ use Rattle.std.specs.Prelude.{Option, ◌==◌, ◌||◌, nat_lt, nat_le}
 use Rattle.std.specs.Option.{option_to_list}
 use Rattle.std.specs.List.{list_any, list_all}
 use Rattle.std.specs.Str.{bytes_eq}
-use Rattle.std.proofs.lemmas.Bool.{cases_Bool}
+use Rattle.std.proofs.lemmas.Bool.{cases_Bool, or_parts, not-false}
 use Rattle.std.proofs.lemmas.Bool.Decides.{nat_tests}
 use Rattle.shop_model.specs.Rows.{at, lacks, is_empty, set_at, arrived, has_double}
 use Rattle.shop_model.specs.Calendar.{Moment}
@@ -19,10 +19,9 @@ use Rattle.shop_model.proofs.ShopLemmas.{with_arrivals}
 use Rattle.shop_model.proofs.Isolation.{NoneHold}
 use Rattle.shop_model.proofs.GoodShops.{all_more, all_weaker, all_set}
 use Rattle.shop_model.proofs.Origins.{all_append, all_filter}
-use Rattle.shop_model.proofs.CustodyLemmas.{or_parts}
-use Rattle.shop_model.proofs.LinkLemmas.{not_false, has_more, has_set, has_set_all, any_at_more, any_at_set, all_at, one_at, all_set_all, all_set_among, all_mapped, all_joined, none_lacks, all_arrived, different_more}
+use Rattle.shop_model.proofs.LinkLemmas.{has_more, has_set, has_set_all, any_at_more, any_at_set, all_at, one_at, all_set_all, all_set_among, all_mapped, all_joined, none_lacks, all_arrived, different_more}
 
-is_there : {A : Type 0} (rows : List A) (n : ℕ) → lacks rows n ≡ false → has_row rows n ≡ true
+pub is_there : {A : Type 0} (rows : List A) (n : ℕ) → lacks rows n ≡ false → has_row rows n ≡ true
 is_there rows n e = rw e
 
 -- ---- payments and rentals
@@ -44,7 +43,7 @@ pays_new rentals payment there same = by_list (option_to_list payment.rental) th
   by_row [] e f = absurd (apart e) where
     apart : true ≡ false → ⊥
     apart e = cc
-  by_row (row ∷ rows) e f = rw (not_false (row.customer == payment.customer) (or_parts (not (row.customer == payment.customer)) _ f).0)
+  by_row (row ∷ rows) e f = rw (not-false (row.customer == payment.customer) (or_parts (not (row.customer == payment.customer)) _ f).0)
 
   by_list : (rs : List ℕ) → list_any (lacks rentals) rs ≡ false → list_any (λ r. list_any (λ (it : Rental). not (it.customer == payment.customer)) (at r rentals)) rs ≡ false
       → list_all (λ r. list_any (λ (it : Rental). it.customer == payment.customer) (at r rentals)) rs ≡ true

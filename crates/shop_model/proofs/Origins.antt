@@ -2,14 +2,14 @@
 use Rattle.std.proofs.Common.{◌≡◌, inl, inr, ℕ, ◌+◌, List, [], ◌∷◌, ◌++◌, filter, map, Bool, true, false, not, refl, sym, ap, ◌∙◌, append-nil, append_assoc}
 use Rattle.std.specs.Prelude.{◌&&◌, ◌||◌, flat_map}
 use Rattle.std.specs.List.{list_any, list_all}
-use Rattle.std.proofs.lemmas.Bool.{cases_Bool}
+use Rattle.std.proofs.lemmas.Bool.{cases_Bool, and_parts}
 use Rattle.shop_model.specs.Rows.{arrived, Row, update_where, is_row, next, put, put_all, set_row, set_rows, mem, numbered_from}
 use Rattle.shop_model.specs.Values.{CopyState, Sent, Scrapped, Act, AddCustomer, SetActive, Rent, TakeBack, Pay, Import, Dispatch, Receive, Scrap, Command, Rules}
 use Rattle.shop_model.specs.Machine.{films_in}
 use Rattle.shop_model.specs.Books.{Books, BookCopy, Mark, Line, Consignment, book_acted, is_consignment, imported, unpacked, put_state, rows_at, under_way, checked, checked_line, come, new_consignment}
 use Rattle.shop_model.specs.Sound.{is_made_as, all_lines, HasOrigins}
 use Rattle.shop_model.proofs.RowLemmas.{same_test}
-use Rattle.shop_model.proofs.CustodyLemmas.{and_parts}
+use Rattle.shop_model.proofs.GoodShops.{all_weaker}
 
 any_left : {A : Type 0} (p : A → Bool) (xs ys : List A) → list_any p xs ≡ true → list_any p (xs ++ ys) ≡ true
 any_left p [] ys some = absurd (apart some) where
@@ -34,10 +34,6 @@ all_append p (x ∷ xs) ys a c = let h = and_parts (p x) (list_all p xs) a in rw
 all_parts : {A : Type 0} (p : A → Bool) (xs ys : List A) → list_all p (xs ++ ys) ≡ true → (list_all p xs ≡ true) × (list_all p ys ≡ true)
 all_parts p [] ys a = (refl, a)
 all_parts p (x ∷ xs) ys a = let h = and_parts (p x) (list_all p (xs ++ ys)) a in let m = all_parts p xs ys h.1 in (rw h.0 m.0, m.1)
-
-all_weaker : {A : Type 0} (p q : A → Bool) (xs : List A) → ((x : A) → p x ≡ true → q x ≡ true) → list_all p xs ≡ true → list_all q xs ≡ true
-all_weaker p q [] weaker all = refl
-all_weaker p q (x ∷ xs) weaker all = let h = and_parts (p x) (list_all p xs) all in rw (weaker x h.0) (all_weaker p q xs weaker h.1)
 
 pub all_filter : {A : Type 0} (p q : A → Bool) (xs : List A) → list_all p xs ≡ true → list_all p (filter q xs) ≡ true
 all_filter p q [] all = refl

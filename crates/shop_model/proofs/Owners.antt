@@ -2,7 +2,8 @@
 use Rattle.std.proofs.Common.{◌≡◌, inl, inr, ℕ, ◌+◌, List, [], ◌∷◌, map, length, Bool, true, false, not, None, refl, subst, ◌∙◌, arith}
 use Rattle.std.specs.Prelude.{◌==◌}
 use Rattle.std.specs.List.{list_any, list_all}
-use Rattle.std.proofs.lemmas.Bool.{cases_Bool}
+use Rattle.std.proofs.lemmas.Bool.{cases_Bool, and_parts}
+use Rattle.std.proofs.lemmas.List.{map_push}
 use Rattle.shop_model.specs.Rows.{Row, Owned, at, next, put, put_all, set_row, set_rows, update_where, is_row, IsCounted}
 use Rattle.shop_model.specs.Calendar.{Moment}
 use Rattle.shop_model.specs.Values.{Text, Branch, Staff, Customer, Rental, Payment, Act, AddCustomer, SetActive, Rent, TakeBack, Pay, Import, Dispatch, Receive, Scrap, Command, Rules}
@@ -14,9 +15,8 @@ use Rattle.shop_model.specs.Links.{has_row, is_staff_of}
 use Rattle.shop_model.specs.Sound.{HasOwners}
 use Rattle.shop_model.proofs.RowLemmas.{same_if, length_map, counted_more}
 use Rattle.shop_model.proofs.Isolation.{NoneHold}
-use Rattle.shop_model.proofs.GoodShops.{all_more, all_weaker, map_more}
+use Rattle.shop_model.proofs.GoodShops.{all_more, all_weaker}
 use Rattle.shop_model.proofs.Origins.{all_filter}
-use Rattle.shop_model.proofs.CustodyLemmas.{and_parts}
 use Rattle.shop_model.proofs.LinkLemmas.{all_at}
 
 -- ---- who gives a command is of the branch, so the branch is there
@@ -210,7 +210,7 @@ pub places_kept : (rules : Rules) (b : ℕ) (command : Command) (act : Act) (boo
     → IsCounted 1 (map (λ (it : Consignment). it.place) (book_acted rules b command act books).consignments)
 places_kept rules b command (Dispatch to xs) books counted =
     let n = length_map (λ (it : Consignment). it.place) books.consignments in
-    rw (map_more (λ (it : Consignment). it.place) books.consignments (new_consignment b to xs books)) (counted_more 1 (map (λ (it : Consignment). it.place) books.consignments) (length books.consignments + 1) counted (omega (arith, n)))
+    rw (map_push (λ (it : Consignment). it.place) books.consignments (new_consignment b to xs books)) (counted_more 1 (map (λ (it : Consignment). it.place) books.consignments) (length books.consignments + 1) counted (omega (arith, n)))
 places_kept rules b command (Receive source number missing) books counted = rw (places_checked missing (is_consignment source b number) books.consignments) counted
 places_kept rules b command (AddCustomer person) books counted = counted
 places_kept rules b command (SetActive n active) books counted = counted

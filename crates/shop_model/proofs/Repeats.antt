@@ -1,6 +1,6 @@
 -- A history without its repeats.
-use Rattle.std.proofs.Common.{◌≡◌, inl, inr, [], ◌∷◌, true, false, refl, ap}
-use Rattle.std.proofs.lemmas.Bool.{cases_Bool}
+use Rattle.std.proofs.Common.{◌≡◌, inl, inr, [], ◌∷◌, true, refl, ap}
+use Rattle.std.proofs.lemmas.Bool.{cases_Bool, false≢true}
 use Rattle.shop_model.specs.Values.{Rules}
 use Rattle.shop_model.specs.Verdict.{Verdict, Again, Refused, Accepted, verdict, office_verdict}
 use Rattle.shop_model.specs.Machine.{Request, Unread, Do, Look, Office, OfficeLook, if_accepted, office_done}
@@ -11,25 +11,20 @@ use Rattle.shop_model.specs.Laws.{RepeatsChangeNothing}
 again_leaves : {A : Type 0} (v : Verdict) (x y : A) → is_again v ≡ true → if_accepted v x y ≡ y
 again_leaves (Again text) x y e = refl
 again_leaves (Refused refusal) x y e = refl
-again_leaves Accepted x y e = absurd (apart e) where
-  apart : false ≡ true → ⊥
-  apart e = cc
-
-apart : false ≡ true → ⊥
-apart e = cc
+again_leaves Accepted x y e = absurd (false≢true e)
 
 repeat_leaves : (rules : Rules) (caller : Caller) (request : Request) (books : Books) → repeats rules caller request books ≡ true → after_for rules caller request books ≡ books
 repeat_leaves rules (Counter b) (Do command) books e = again_leaves (verdict rules b books.catalogue (shop_of b books) command) (book_done rules b command books) books e
-repeat_leaves rules (Counter b) (Unread refusal) books e = absurd (apart e)
-repeat_leaves rules (Counter b) (Look ask) books e = absurd (apart e)
-repeat_leaves rules (Counter b) (Office command) books e = absurd (apart e)
-repeat_leaves rules (Counter b) (OfficeLook ask) books e = absurd (apart e)
+repeat_leaves rules (Counter b) (Unread refusal) books e = absurd (false≢true e)
+repeat_leaves rules (Counter b) (Look ask) books e = absurd (false≢true e)
+repeat_leaves rules (Counter b) (Office command) books e = absurd (false≢true e)
+repeat_leaves rules (Counter b) (OfficeLook ask) books e = absurd (false≢true e)
 repeat_leaves rules HeadOffice (Office command) books e = rw (again_leaves (office_verdict rules books.catalogue command) (office_done command books.catalogue) books.catalogue e)
-repeat_leaves rules HeadOffice (Unread refusal) books e = absurd (apart e)
-repeat_leaves rules HeadOffice (Do command) books e = absurd (apart e)
-repeat_leaves rules HeadOffice (Look ask) books e = absurd (apart e)
-repeat_leaves rules HeadOffice (OfficeLook ask) books e = absurd (apart e)
-repeat_leaves rules Nobody request books e = absurd (apart e)
+repeat_leaves rules HeadOffice (Unread refusal) books e = absurd (false≢true e)
+repeat_leaves rules HeadOffice (Do command) books e = absurd (false≢true e)
+repeat_leaves rules HeadOffice (Look ask) books e = absurd (false≢true e)
+repeat_leaves rules HeadOffice (OfficeLook ask) books e = absurd (false≢true e)
+repeat_leaves rules Nobody request books e = absurd (false≢true e)
 
 pub without_repeats : RepeatsChangeNothing
 without_repeats rules look [] books = record { replies = refl; leaves = refl }

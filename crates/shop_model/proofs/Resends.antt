@@ -3,29 +3,27 @@ use Rattle.std.proofs.Common.{◌≡◌, inl, inr, ℕ, zero, suc, ◌+◌, ◌-
 use Rattle.std.specs.Prelude.{◌==◌, ◌&&◌, nat_le, slice_get, ⊤}
 use Rattle.std.specs.List.{list_any, list_all}
 use Rattle.std.specs.Str.{bytes_eq}
-use Rattle.std.proofs.lemmas.Bool.{cases_Bool}
+use Rattle.std.proofs.lemmas.Bool.{cases_Bool, or_parts, and_parts, not-true, false≢true}
 use Rattle.shop_model.specs.Rows.{Owned, set_at, owned_by}
-use Rattle.shop_model.specs.Values.{Text, Branch, Act, AddCustomer, SetActive, Rent, TakeBack, Pay, Import, Dispatch, Receive, Scrap, Command, OfficeAct, AddCountry, AddCity, AddLanguage, AddCategory, AddActor, AddFilm, PriceFilm, WithdrawFilm, AddCast, AddBranch, AddStaff, StaffLeaves, SetManager, OfficeCommand, OfficeAsk, Rules}
+use Rattle.shop_model.specs.Values.{Text, Branch, Command, OfficeAct, AddCountry, AddCity, AddLanguage, AddCategory, AddActor, AddFilm, PriceFilm, WithdrawFilm, AddCast, AddBranch, AddStaff, StaffLeaves, SetManager, OfficeCommand, OfficeAsk, Rules}
 use Rattle.shop_model.specs.Refusals.{Refusal, TooLong, NoCounter, NoRoute, BadBody, KeyUsed, Full, MomentBack, NoStaff, NoCustomer, CustomerInactive, NoCopy, CopyNotHere, CopyOut, FilmWithdrawn, SameMoment, NoRental, RentalReturned, WrongCustomer, NoFilm, LotIn, BadCsv, NoBranch, OwnBranch, NoArrival, ArrivalReceived, BadLines, BadThreshold, TokenTaken, NoSharedRow, Already, Usage}
 use Rattle.shop_model.specs.Shop.{Kept, OfficeKept, Catalogue, same_command, same_office}
 use Rattle.shop_model.specs.Verdict.{Verdict, Again, Refused, Accepted, resent, verdict, first, refusals, office_refusals, office_resent, office_verdict}
 use Rattle.shop_model.specs.Machine.{Request, Unread, Do, Look, Office, OfficeLook, Reply, Sorry, Done, reply_text, office_text, reply_by, if_accepted, office_acted, office_done, catalogue_after}
 use Rattle.shop_model.specs.Answers.{Answer, answer_of}
-use Rattle.shop_model.specs.Books.{Books, Event, Caller, Counter, HeadOffice, Nobody, shop_of, book_acted, book_done, branch_with, caller_of, reply_for, after_for, after, caller_in, reply_in, run}
+use Rattle.shop_model.specs.Books.{Books, Event, Caller, Counter, HeadOffice, Nobody, shop_of, book_done, branch_with, caller_of, reply_for, after_for, after, caller_in, reply_in, run}
 use Rattle.shop_model.specs.Histories.{is_decided, is_store_failure, fails_for_good, counted_in}
 use Rattle.shop_model.specs.Repeats.{are_new, marked_ones}
 use Rattle.shop_model.specs.Resends.{books_next, books_at, FindsCounted, Asks, is_command, Keeps, IsRepeat, GetsKeptReply, is_nobody, KeepsCallers, RunsResend, KeptRowsAreKept}
 use Rattle.shop_model.proofs.RowLemmas.{more_yes, more_no}
 use Rattle.shop_model.proofs.Resent.{bytes_same, command_same as branch_same, resent_again}
-use Rattle.shop_model.proofs.CustodyLemmas.{and_parts, or_parts}
-use Rattle.shop_model.proofs.LinkLemmas.{not_true}
 use Rattle.shop_model.specs.Links.{are_different}
 use Rattle.std.proofs.lemmas.Slice.Eq.{bytes_eq-Decides}
+use Rattle.std.proofs.lemmas.List.Elements.{filter-append}
 use Rattle.shop_model.proofs.OfficeResent.{command_same as office_same, office_resent_again}
 use Rattle.shop_model.proofs.Repeats as repeats
-
-apart : false ≡ true → ⊥
-apart e = cc
+use Rattle.shop_model.proofs.Histories.{decided_failure}
+use Rattle.shop_model.proofs.Isolation.{catalogue_stays}
 
 -- ---- a token stays whose it is
 
@@ -107,17 +105,6 @@ office_caller rules command catalogue token c known e = by_verdict (office_verdi
     by_verdict (Refused refusal) = e
     by_verdict Accepted = done token (acted_caller command.act catalogue token c known e)
 
-acted_catalogue : (rules : Rules) (c : ℕ) (command : Command) (act : Act) (books : Books) → (book_acted rules c command act books).catalogue ≡ books.catalogue
-acted_catalogue rules c command (AddCustomer person) books = refl
-acted_catalogue rules c command (SetActive n active) books = refl
-acted_catalogue rules c command (Rent n x) books = refl
-acted_catalogue rules c command (TakeBack r) books = refl
-acted_catalogue rules c command (Pay n rental amount) books = refl
-acted_catalogue rules c command (Import lot file) books = refl
-acted_catalogue rules c command (Dispatch to xs) books = refl
-acted_catalogue rules c command (Receive source number missing) books = refl
-acted_catalogue rules c command (Scrap x) books = refl
-
 -- ---- what is kept stays, behind it comes more
 
 abbrev Grows : ℕ → Books → Books → Type 0
@@ -183,7 +170,7 @@ office_grows rules (Counter b) (Do command) books = by_verdict (verdict rules b 
     by_verdict : (v : Verdict) → OfficeGrows books (if_accepted v (book_done rules b command books) books)
     by_verdict (Again text) = office_grows_not books
     by_verdict (Refused refusal) = office_grows_not books
-    by_verdict Accepted = ([], ap (λ (it : Catalogue). it.kept) (acted_catalogue rules b command command.act books) ∙ sym (append-nil books.catalogue.kept))
+    by_verdict Accepted = ([], ap (λ (it : Catalogue). it.kept) (catalogue_stays rules b command command.act books) ∙ sym (append-nil books.catalogue.kept))
 office_grows rules (Counter b) (Unread refusal) books = office_grows_not books
 office_grows rules (Counter b) (Look ask) books = office_grows_not books
 office_grows rules (Counter b) (Office command) books = office_grows_not books
@@ -200,15 +187,11 @@ office_grows rules HeadOffice (Look ask) books = office_grows_not books
 office_grows rules HeadOffice (OfficeLook ask) books = office_grows_not books
 office_grows rules Nobody request books = office_grows_not books
 
-filter_append : {A : Type 0} (p : A → Bool) (xs ys : List A) → filter p (xs ++ ys) ≡ filter p xs ++ filter p ys
-filter_append p [] ys = refl
-filter_append p (x ∷ xs) ys = elim (cases_Bool (p x)) [ inl is ↦ rw is (ap (λ r. x ∷ r) (filter_append p xs ys)) | inr isnt ↦ rw isnt (filter_append p xs ys) ]
-
 stays_again : (rules : Rules) (b : ℕ) (command : Command) (text : Text) (old new : Books) → Grows b old new → verdict rules b old.catalogue (shop_of b old) command ≡ Again text
     → verdict rules b new.catalogue (shop_of b new) command ≡ Again text
 stays_again rules b command text old new grows e =
     let mine : Kept → Bool = λ k. bytes_eq k.command.key command.key in
-    let is : filter mine (shop_of b new).kept ≡ filter mine (shop_of b old).kept ++ filter mine grows.0 = ap (filter mine) grows.1 ∙ filter_append mine (shop_of b old).kept grows.0 in
+    let is : filter mine (shop_of b new).kept ≡ filter mine (shop_of b old).kept ++ filter mine grows.0 = ap (filter mine) grows.1 ∙ filter-append mine (shop_of b old).kept grows.0 in
     let v = first (refusals rules b old.catalogue (shop_of b old) command) in
     let w = first (refusals rules b new.catalogue (shop_of b new) command) in
     ap (λ ks. resent command ks w) is
@@ -219,7 +202,7 @@ stays_again rules b command text old new grows e =
 done_caller : (rules : Rules) (c : ℕ) (command : Command) (books : Books) (token : Option Text) (v : Verdict) → caller_of token (if_accepted v (book_done rules c command books) books).catalogue ≡ caller_of token books.catalogue
 done_caller rules c command books token (Again text) = refl
 done_caller rules c command books token (Refused refusal) = refl
-done_caller rules c command books token Accepted = ap (caller_of token) (acted_catalogue rules c command command.act books)
+done_caller rules c command books token Accepted = ap (caller_of token) (catalogue_stays rules c command command.act books)
 
 caller_after : (rules : Rules) (caller : Caller) (request : Request) (token : Option Text) (c : Caller) (books : Books) → is_nobody c ≡ false → caller_of token books.catalogue ≡ c
     → caller_of token (after_for rules caller request books).catalogue ≡ c
@@ -266,16 +249,10 @@ callers_stay rules (e ∷ events) (a ∷ answers) books (suc i) (suc j) event le
 
 -- ---- what an event finds
 
-decided_fine : (answer : Answer) → is_decided answer ≡ true → is_store_failure answer ≡ false
-decided_fine answer is = elim (cases_Bool (answer.status == 503)) [
-  | inl bad ↦ let no : false ≡ true = rw bad at is in absurd (apart no)
-  | inr good ↦ rw good
-]
-
-failure_undecided : (answer : Answer) → is_store_failure answer ≡ true → is_decided answer ≡ false
+pub failure_undecided : (answer : Answer) → is_store_failure answer ≡ true → is_decided answer ≡ false
 failure_undecided answer is = elim (cases_Bool (answer.status == 503)) [
   | inl bad ↦ rw bad refl
-  | inr good ↦ let no : false ≡ true = rw good at is in absurd (apart no)
+  | inr good ↦ let no : false ≡ true = rw good at is in absurd (false≢true no)
 ]
 
 -- behind a failure nothing is left
@@ -296,7 +273,7 @@ finds_counted rules (e ∷ events) [] books good zero = refl
 finds_counted rules (e ∷ events) [] books good (suc n) = refl
 finds_counted rules (e ∷ events) (a ∷ answers) books good zero = refl
 finds_counted rules (e ∷ events) (a ∷ answers) books good (suc n) = elim (cases_Bool (is_decided a)) [
-  | inl fine ↦ let later : fails_for_good answers ≡ true = rw (decided_fine a fine) at good in rw fine (finds_counted rules events answers (after rules e books) later n)
+  | inl fine ↦ let later : fails_for_good answers ≡ true = rw (decided_failure a fine) at good in rw fine (finds_counted rules events answers (after rules e books) later n)
   | inr lacks ↦ elim (cases_Bool (is_store_failure a)) [
     | inl failed ↦ let all : list_all is_store_failure answers ≡ true = rw failed at good in rw (lacks, failed) (all_failed rules events answers books n all)
     | inr sound ↦ let later : fails_for_good answers ≡ true = rw sound at good in rw (lacks, sound) (finds_counted rules events answers books later n)
@@ -309,7 +286,7 @@ by_command : (P : Caller → Request → Type 0) → ((b : ℕ) (command : Comma
     → (caller : Caller) (request : Request) → is_command caller request ≡ true → P caller request
 by_command P mine theirs (Counter b) (Do command) is = mine b command
 by_command P mine theirs HeadOffice (Office command) is = theirs command
-by_command P mine theirs caller request is = absurd (apart is)
+by_command P mine theirs caller request is = absurd (false≢true is)
 
 abbrev verdict_of : Rules → Caller → Request → Books → Verdict
 verdict_of rules (Counter b) (Do command) books = verdict rules b books.catalogue (shop_of b books) command
@@ -322,7 +299,7 @@ office_stays rules command text caller request books e =
     let new = (after_for rules caller request books).catalogue in
     let mine : OfficeKept → Bool = λ k. bytes_eq k.command.key command.key in
     let grows = office_grows rules caller request books in
-    let is : filter mine new.kept ≡ filter mine books.catalogue.kept ++ filter mine grows.0 = ap (filter mine) grows.1 ∙ filter_append mine books.catalogue.kept grows.0 in
+    let is : filter mine new.kept ≡ filter mine books.catalogue.kept ++ filter mine grows.0 = ap (filter mine) grows.1 ∙ filter-append mine books.catalogue.kept grows.0 in
     let tests = (Full, nat_le rules.commands (length books.catalogue.kept)) ∷ office_refusals books.catalogue command.act in
     let w = first ((Full, nat_le rules.commands (length new.kept)) ∷ office_refusals new command.act) in
     ap (λ ks. office_resent command ks w) is ∙ office_begins command (filter mine books.catalogue.kept) (filter mine grows.0) (first tests) w text (never_again tests text) e
@@ -374,7 +351,7 @@ steps_of rules look (event ∷ events) [] books each good is = tt
 steps_of rules look (event ∷ events) (answer ∷ answers) books each good is =
     let each' : length answers ≡ length events = omega (arith, each) in (
       (λ decided.
-          let fine = decided_fine answer decided in
+          let fine = decided_failure answer decided in
           let good' : fails_for_good answers ≡ true = rw fine at good in
           let both : answer ∷ filter is_decided answers ≡ answer_of (reply_in rules look event books) ∷ answers_in rules look (counted_in events answers) (after rules event books) = rw decided at is in
           (same_head _ _ _ _ both, steps_of rules look events answers (after rules event books) each' good' (same_tail _ _ _ _ both))),
@@ -437,7 +414,7 @@ all_at p (a ∷ answers) (suc i) x all e = all_at p answers i x (and_right (p a)
   where
     and_right : (a b : Bool) → (a && b) ≡ true → b ≡ true
     and_right true b e = e
-    and_right false b e = absurd (apart e)
+    and_right false b e = absurd (false≢true e)
 
 same_some : {A : Type 0} (a x : A) → ◌≡◌ {A = Option A} (Some a) (Some x) → a ≡ x
 same_some a x e = cc
@@ -460,8 +437,8 @@ sound_before rules look e events a answers books steps j x there decided = elim 
   | inr sound ↦ sound
   | inl failed ↦
       let bad = all_at is_store_failure answers j x (steps.2 failed) there in
-      let no : false ≡ true = sym (decided_fine x decided) ∙ bad in
-      absurd (apart no)
+      let no : false ≡ true = sym (decided_failure x decided) ∙ bad in
+      absurd (false≢true no)
 ]
 
 -- the command got its reply, and is given again from then on
@@ -541,7 +518,7 @@ module _ (rules : Rules) (look : OfficeAsk → Books → Reply) (caller : Caller
       let left : next ≡ after_for rules caller request books = rw fine does.1 in
       let again : verdict_of rules caller request next ≡ Again done.0 = subst (λ (b : Books). verdict_of rules caller request b ≡ Again done.0) (sym left) done.2 in
       let rest : Asks rules events answers next j caller request = record { event = later.event; stands = later.stands; who = later.who; what = later.what } in
-      let it = each_again done.0 events answers next (steps_next rules look e events a answers books steps (decided_fine a fine)) again j y rest aj decided in
+      let it = each_again done.0 events answers next (steps_next rules look e events a answers books steps (decided_failure a fine)) again j y rest aj decided in
       record { reply = it.reply ∙ sym done.1; nothing = it.nothing }
   first_stays (e ∷ events) (a ∷ answers) books steps (suc i) (suc j) x y less before later ai aj good decided =
       let sound = sound_before rules look e events a answers books steps j y aj decided in
@@ -590,7 +567,7 @@ runs_resend rules look events answers old new ran =
 turned : (a b : Text) → bytes_eq a b ≡ false → bytes_eq b a ≡ false
 turned a b isnt = elim (cases_Bool (bytes_eq b a)) [
   | inr other ↦ other
-  | inl is ↦ let same : bytes_eq a b ≡ true = (bytes_eq-Decides a b).1 (sym ((bytes_eq-Decides b a).0 is)) in absurd (apart (sym isnt ∙ same))
+  | inl is ↦ let same : bytes_eq a b ≡ true = (bytes_eq-Decides a b).1 (sym ((bytes_eq-Decides b a).0 is)) in absurd (false≢true (sym isnt ∙ same))
 ]
 
 none_under : {A : Type 0} (key : A → Text) (x : A) (xs : List A) → list_any (λ y. bytes_eq (key x) (key y)) xs ≡ false → filter (λ y. bytes_eq (key y) (key x)) xs ≡ []
@@ -609,11 +586,11 @@ one_under key [] x n apart there = absurd (same_none x there)
 one_under {A = A} key (y ∷ ys) x zero apart there =
     let h = and_parts (not (list_any (λ z. bytes_eq (key y) (key z)) ys)) (are_different (λ (earlier later : A). bytes_eq (key earlier) (key later)) ys) apart in
     let same : y ≡ x = same_some y x there in
-    let first : filter (λ z. bytes_eq (key z) (key y)) (y ∷ ys) ≡ y ∷ [] = rw (bytes_same (key y), none_under key y ys (not_true _ h.0)) refl in
+    let first : filter (λ z. bytes_eq (key z) (key y)) (y ∷ ys) ≡ y ∷ [] = rw (bytes_same (key y), none_under key y ys (not-true _ h.0)) refl in
     subst (λ (it : A). filter (λ z. bytes_eq (key z) (key it)) (y ∷ ys) ≡ it ∷ []) same first
 one_under {A = A} key (y ∷ ys) x (suc n) apart there =
     let h = and_parts (not (list_any (λ z. bytes_eq (key y) (key z)) ys)) (are_different (λ (earlier later : A). bytes_eq (key earlier) (key later)) ys) apart in
-    rw (other_key key y x ys n (not_true _ h.0) there) (one_under key ys x n h.1 there)
+    rw (other_key key y x ys n (not-true _ h.0) there) (one_under key ys x n h.1 there)
 
 pub kept_rows_kept : KeptRowsAreKept
 kept_rows_kept rules books sound = record {

@@ -41,7 +41,7 @@ act_same (Dispatch a xs) = rw (same_test a, bytes_same xs)
 act_same (Receive s n missing) = simp (same_test, bytes_same)
 act_same (Scrap x) = same_test x
 
-moment_same : (m : Moment) → same_moment m m ≡ true
+pub moment_same : (m : Moment) → same_moment m m ≡ true
 moment_same m = rw (same_test m.year, same_test m.month, same_test m.day, same_test m.hour, same_test m.minute, same_test m.second)
 
 pub command_same : (c : Command) → same_command c c ≡ true

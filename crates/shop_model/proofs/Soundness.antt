@@ -2,7 +2,7 @@
 use Rattle.std.proofs.Common.{◌≡◌, inl, inr, ℕ, ◌+◌, ◌-◌, ◌≤◌, List, [], ◌∷◌, ◌++◌, suc, length, filter, map, Bool, true, false, not, None, Some, refl, sym, subst, ap, ◌∙◌, arith, append-nil}
 use Rattle.std.specs.Prelude.{◌==◌, ◌&&◌, ◌||◌, nat_lt, flat_map, is_none}
 use Rattle.std.specs.List.{list_any, list_all}
-use Rattle.std.proofs.lemmas.Bool.{cases_Bool}
+use Rattle.std.proofs.lemmas.Bool.{cases_Bool, or_parts, and_parts, not-true, not-false, true≢false}
 use Rattle.shop_model.specs.Rows.{Row, Owned, at, lacks, set_at, set_all, is_empty, is_row, next, mem, has_double}
 use Rattle.shop_model.specs.Calendar.{Moment}
 use Rattle.shop_model.specs.Values.{Branch, OfficeCommand, Copy, CopyState, Here, Sent, Scrapped, Rental, Arrival, Act, AddCustomer, SetActive, Rent, TakeBack, Pay, Import, Dispatch, Receive, Scrap, Command, Rules}
@@ -10,7 +10,7 @@ use Rattle.shop_model.specs.Shop.{Kept, Shop, Catalogue}
 use Rattle.shop_model.specs.Stock.{is_here, in_stock, keeps_out}
 use Rattle.shop_model.specs.Verdict.{Accepted, first, refusals, verdict, office_verdict, act_refusals, is_away, arrival}
 use Rattle.shop_model.specs.Machine.{Request, Unread, Do, Look, Office, OfficeLook, acted, done, reply_text, catalogue_after, office_done, here, with_state, films_in, incoming}
-use Rattle.shop_model.specs.Books.{Books, BookCopy, Mark, Line, UnderWay, Missing, Consignment, Event, Caller, Counter, HeadOffice, Nobody, shop_of, unmarked, as_arrival, book_acted, book_done, is_consignment, imported, unpacked, put_state, rows_at, under_way, checked, come, new_consignment, set_last, branch_after, after_for, after, caller_in, last_books}
+use Rattle.shop_model.specs.Books.{Books, BookCopy, Mark, Line, UnderWay, Missing, Consignment, Caller, Counter, HeadOffice, Nobody, shop_of, unmarked, as_arrival, book_acted, book_done, is_consignment, imported, unpacked, rows_at, come, new_consignment, set_last, branch_after, after_for, after, caller_in, last_books}
 use Rattle.shop_model.specs.Sound.{one, copy_is, line_is, is_origin, rows_made, is_mark, places, is_made_as, marked_films, HasNumbers, HasOwners, HasCustody, HasOneHolder, IsSound, all_lines, lines_in, is_settled}
 use Rattle.shop_model.specs.Laws.{StaySound, StaySoundWithin, CopiesAreInOnePlace, SoundBooksAreInCustody, OpeningIsSound, EmptyIsSound, OpeningBooksAreSound}
 use Rattle.shop_model.specs.Opening.{empty_catalogue, opening_catalogue}
@@ -23,22 +23,19 @@ use Rattle.shop_model.proofs.ShopLemmas.{arrival_of, done_own, done_other, with_
 use Rattle.shop_model.proofs.NumberLemmas.{acted_numbers}
 use Rattle.shop_model.proofs.Isolation.{is_accepted, accepted_is, not_accepted, NoneHold, accepted_holds, act_holds, not_self, catalogue_stays}
 use Rattle.shop_model.proofs.GoodShops.{all_weaker, good_acted}
-use Rattle.shop_model.proofs.LinkLemmas.{at_set_other, none_left, all_mapped}
+use Rattle.shop_model.proofs.LinkLemmas.{at_set_other, none_left, all_mapped, any_at_more}
 use Rattle.shop_model.proofs.LinkedShops.{linked_acted, linked_kept, linked_other}
 use Rattle.shop_model.proofs.GoodCatalogues.{Grows, done_grows, good_done, linked_grows}
 use Rattle.shop_model.proofs.Owners.{staff_works, branch_there, owners_done, owners_grow, places_kept}
 use Rattle.shop_model.proofs.Resent.{none_kept}
 use Rattle.shop_model.proofs.Origins.{all_append, origins_kept}
 use Rattle.shop_model.specs.GoodShop.{IsGoodShop}
-use Rattle.shop_model.proofs.CustodyLemmas.{total-append, AreHere, AllHere, and_parts, or_parts, scrapped_total, sent_total, sent_unscrapped, state_made, states_made, lines_sent, lines_unlost, import_total, put_unscrapped, unpacked_total, unpacked_made, UnderWayOld, under_way_old, made_old, made_once, AreOpen, come_old, received_total, settled_checked, settled_new, settled_sent}
-
-apart : true ≡ false → ⊥
-apart e = cc
+use Rattle.shop_model.proofs.CustodyLemmas.{total-append, AreHere, AllHere, scrapped_total, sent_total, sent_unscrapped, state_made, states_made, lines_sent, lines_unlost, import_total, put_unscrapped, unpacked_total, unpacked_made, UnderWayOld, under_way_old, made_old, made_once, AreOpen, come_old, received_total, settled_checked, settled_new, settled_sent}
 
 -- ---- from the verdict
 
 any_none : (p : ℕ → Bool) (xs : List ℕ) (x : ℕ) → list_any p xs ≡ false → mem x xs ≡ true → p x ≡ false
-any_none p [] x none within = absurd (apart (sym within))
+any_none p [] x none within = absurd (true≢false (sym within))
 any_none p (y ∷ ys) x none within =
     let h = or_parts (p y) (list_any p ys) none in
     elim (cases_Bool (y == x)) [
@@ -140,13 +137,6 @@ at_set_all_other (n ∷ ns) y f xs out =
     let h = or_parts (n == y) (mem y ns) out in
     at_set_all_other ns y f (set_at n f xs) h.1 ∙ at_set_other n y f xs (differ_if n y h.0)
 
-at_more : {A : Type 0} (p : A → Bool) (x : ℕ) (xs ys : List A) → list_any p (at x xs) ≡ true → list_any p (at x (xs ++ ys)) ≡ true
-at_more p x [] ys some = absurd (apart (sym some))
-at_more p x (it ∷ xs) ys some = elim (cases_Bool (x == 1)) [
-  | inl is ↦ let h : list_any p (it ∷ []) ≡ true = rw is at some in rw is h
-  | inr isnt ↦ rw isnt (at_more p (x - 1) xs ys (rw isnt at some))
-]
-
 none_none : {A : Type 0} (p : A → Bool) (xs : List A) → list_any p xs ≡ false → filter p xs ≡ []
 none_none p [] none = refl
 none_none p (x ∷ xs) none = let h = or_parts (p x) (list_any p xs) none in rw h.0 (none_none p xs h.1)
@@ -154,14 +144,6 @@ none_none p (x ∷ xs) none = let h = or_parts (p x) (list_any p xs) none in rw 
 some_more : {A : Type 0} (p : A → Bool) (xs : List A) (x : A) → list_any p (xs ++ x ∷ []) ≡ (list_any p xs || p x)
 some_more p [] x = elim (cases_Bool (p x)) [ inl is ↦ rw is | inr isnt ↦ rw isnt ]
 some_more p (y ∷ ys) x = elim (cases_Bool (p y)) [ inl is ↦ rw is | inr isnt ↦ rw isnt (some_more p ys x) ]
-
-not_false : (a : Bool) → not a ≡ false → a ≡ true
-not_false true e = refl
-not_false false e = sym e
-
-not_true : (a : Bool) → not a ≡ true → a ≡ false
-not_true true e = sym e
-not_true false e = refl
 
 -- rentals with no more open ones than before
 fewer_open : (x r : ℕ) (moment : Moment) (rentals : List Rental)
@@ -195,7 +177,7 @@ holder_same s t e f h = record {
 }
 
 out_now : (x : ℕ) (rentals : List Rental) → in_stock x rentals ≡ false → list_any (keeps_out x) rentals ≡ true
-out_now x rentals e = not_false (list_any (keeps_out x) rentals) e
+out_now x rentals e = not-false (list_any (keeps_out x) rentals) e
 
 holder_kept : (rules : Rules) (b : ℕ) (catalogue : Catalogue) (command : Command) (act : Act) (shop : Shop) → HasOneHolder shop
     → NoneHold (act_refusals rules b catalogue shop command.moment act) → HasOneHolder (acted rules command act shop)
@@ -217,7 +199,7 @@ holder_kept rules b catalogue command (Rent c x) shop h none = record {
   new = record { rented = command.moment; copy = x; customer = c; returned = None; staff = command.staff }
 
   closed : list_any (keeps_out x) shop.rentals ≡ false
-  closed = not_true (list_any (keeps_out x) shop.rentals) (not_false _ none.1.1.1.1.0)
+  closed = not-true (list_any (keeps_out x) shop.rentals) (not-false _ none.1.1.1.1.0)
 
   still : (y : ℕ) → (x == y) ≡ false → in_stock y (shop.rentals ++ record { rented = command.moment; copy = x; customer = c; returned = None; staff = command.staff } ∷ []) ≡ false → in_stock y shop.rentals ≡ false
   still y isnt out =
@@ -231,26 +213,26 @@ holder_kept rules b catalogue command (Rent c x) shop h none = record {
   present : (copies : List Copy) (x : ℕ) → lacks copies x ≡ false → is_away copies x ≡ false → list_any is_here (at x copies) ≡ true
   present copies x has isnt = by_row (at x copies) has isnt where
     by_row : (xs : List Copy) → is_empty xs ≡ false → list_any (λ copy. not (is_here copy)) xs ≡ false → list_any is_here xs ≡ true
-    by_row [] e f = absurd (apart e)
-    by_row (copy ∷ xs) e f = rw (not_false (is_here copy) (or_parts (not (is_here copy)) _ f).0)
+    by_row [] e f = absurd (true≢false e)
+    by_row (copy ∷ xs) e f = rw (not-false (is_here copy) (or_parts (not (is_here copy)) _ f).0)
 holder_kept rules b catalogue command (TakeBack r) shop h none = record {
   one = λ x. let fewer = (fewer_open x r command.moment shop.rentals).0 in let before = h.one x in omega (arith, fewer, before);
   here = λ x out. let some = (fewer_open x r command.moment shop.rentals).1 (out_now x (set_at r (λ it. record it { returned = Some command.moment }) shop.rentals) out) in h.here x (rw some);
 }
 holder_kept rules b catalogue command (Pay c rental amount) shop h none = record { one = h.one; here = h.here }
-holder_kept rules b catalogue command (Import lot file) shop h none = record { one = h.one; here = λ x out. at_more is_here x shop.copies (map here (films_in (rules.stock_of file))) (h.here x out) }
+holder_kept rules b catalogue command (Import lot file) shop h none = record { one = h.one; here = λ x out. any_at_more is_here x shop.copies (map here (films_in (rules.stock_of file))) (h.here x out) }
 holder_kept rules b catalogue command (Dispatch to xs) shop h none = record {
   one = h.one;
   here = λ x out. elim (cases_Bool (mem x xs)) [
-    | inl sent ↦ let stays : not (in_stock x shop.rentals) ≡ false = any_none (λ x. not (in_stock x shop.rentals)) xs x none.1.1.0 sent in absurd (apart (sym (not_false _ stays) ∙ out))
+    | inl sent ↦ let stays : not (in_stock x shop.rentals) ≡ false = any_none (λ x. not (in_stock x shop.rentals)) xs x none.1.1.0 sent in absurd (true≢false (sym (not-false _ stays) ∙ out))
     | inr unsent ↦ rw (at_set_all_other xs x (with_state Sent) shop.copies unsent) (h.here x out)
   ];
 }
-holder_kept rules b catalogue command (Receive source number missing) shop h none = record { one = h.one; here = λ x out. at_more is_here x shop.copies (map here (incoming missing (arrival source number shop))) (h.here x out) }
+holder_kept rules b catalogue command (Receive source number missing) shop h none = record { one = h.one; here = λ x out. any_at_more is_here x shop.copies (map here (incoming missing (arrival source number shop))) (h.here x out) }
 holder_kept rules b catalogue command (Scrap x) shop h none = record {
   one = h.one;
   here = λ y out. elim (cases_Bool (x == y)) [
-    | inl is ↦ let e : y ≡ x = sym (same_if x y is) in let stays : in_stock y shop.rentals ≡ true = rw e (not_false (in_stock x shop.rentals) none.1.1.0) in absurd (apart (sym stays ∙ out))
+    | inl is ↦ let e : y ≡ x = sym (same_if x y is) in let stays : in_stock y shop.rentals ≡ true = rw e (not-false (in_stock x shop.rentals) none.1.1.0) in absurd (true≢false (sym stays ∙ out))
     | inr isnt ↦ rw (at_set_other x y (with_state Scrapped) shop.copies (differ_if x y isnt)) (h.here y out)
   ];
 }
@@ -310,7 +292,7 @@ different_filtered same q [] all = refl
 different_filtered same q (x ∷ xs) all =
     let h = and_parts (not (list_any (same x) xs)) (are_different same xs) all in
     elim (cases_Bool (q x)) [
-      | inl is ↦ rw (is, any_filtered (same x) q xs (not_true (list_any (same x) xs) h.0)) (different_filtered same q xs h.1)
+      | inl is ↦ rw (is, any_filtered (same x) q xs (not-true (list_any (same x) xs) h.0)) (different_filtered same q xs h.1)
       | inr isnt ↦ rw isnt (different_filtered same q xs h.1)
     ]
 
@@ -331,7 +313,7 @@ made_parts row film mark is =
     (same_if row.it.film film first.1, rw (first.0, third.1, last.1) refl)
 
 made_some : (film : ℕ) (mark : Mark) (rows : List (Row BookCopy)) → is_made_as rows film mark ≡ true → 1 ≤ rows_made (is_mark mark) rows
-made_some film mark [] is = absurd (apart (sym is))
+made_some film mark [] is = absurd (true≢false (sym is))
 made_some film mark (row ∷ rows) is = elim (cases_Bool (made_by row film mark)) [
   | inl here ↦ rw (made_parts row film mark here).1 (omega arith)
   | inr there ↦ let more = made_some film mark rows (rw there at is) in omega (arith, more)
@@ -339,7 +321,7 @@ made_some film mark (row ∷ rows) is = elim (cases_Bool (made_by row film mark)
 
 -- a mark that is made once goes with one film
 one_film : (mark : Mark) (f g : ℕ) (rows : List (Row BookCopy)) → rows_made (is_mark mark) rows ≤ 1 → is_made_as rows f mark ≡ true → is_made_as rows g mark ≡ true → g ≡ f
-one_film mark f g [] once is was = absurd (apart (sym is))
+one_film mark f g [] once is was = absurd (true≢false (sym is))
 one_film mark f g (row ∷ rows) once is was = elim (cases_Bool (made_by row f mark)) [
   | inl here ↦ elim (cases_Bool (made_by row g mark)) [
     | inl too ↦ sym (made_parts row g mark too).0 ∙ (made_parts row f mark here).0
@@ -426,7 +408,7 @@ done_sound rules sizes b command books most fit sound e =
     let away = not_self rules b books.catalogue (shop_of b books) command.moment command.act none in
     let numbers = acted_numbers rules b command command.act books sound.numbers in
     let same = catalogue_stays rules b command command.act books in
-    let works = staff_works b books.catalogue.staff command.staff (not_false _ all.1.1.0) in
+    let works = staff_works b books.catalogue.staff command.staff (not-false _ all.1.1.0) in
     let there = branch_there b books.catalogue.branches books.catalogue.staff command.staff sound.catalogue.names.staff_branches works in
     record {
       catalogue = rw same sound.catalogue;
@@ -543,7 +525,7 @@ opening_sound rules catalogue good = record {
   origins = record { rows = refl; lines = refl };
   settled = refl;
   lasts = refl;
-  held = λ b. record { one = λ x. omega arith; here = λ x out. absurd (apart out) };
+  held = λ b. record { one = λ x. omega arith; here = λ x out. absurd (true≢false out) };
   shops = λ b. record { apart = refl; created = refl; rented = refl; paid = refl; rentals_rise = refl; payments_rise = refl; keys = omega arith; copies = omega arith; customers_fit = omega arith; rentals_fit = omega arith; payments_fit = omega arith; lots_fit = omega arith; sent_fit = omega arith };
   links = λ b. record { customer_cities = refl; copy_films = refl; rental_copies = refl; rental_customers = refl; rental_staff = refl; payment_customers = refl; payment_staff = refl; payment_rentals = refl; arrival_films = refl; parcels = refl; lots = refl; keys = refl };
 }

@@ -1,6 +1,6 @@
 -- Days are numbered in the order of year, month and day.
-use Rattle.std.proofs.Common.{◌≡◌, inl, inr, refl, ap, arith, ℕ, zero, suc, ◌+◌, ◌<◌, ◌≤◌, Bool, true, false}
-use Rattle.std.specs.Prelude.{◌-◌, ◌==◌, ◌||◌, if◌then◌else◌}
+use Rattle.std.proofs.Common.{◌≡◌, inl, inr, refl, ap, arith, ℕ, zero, suc, ◌+◌, ◌<◌, ◌≤◌}
+use Rattle.std.specs.Prelude.{◌-◌, ◌==◌}
 use Rattle.std.proofs.lemmas.Bool.{cases_Bool}
 use Rattle.shop_model.specs.Calendar.{Moment, IsMoment, is_leap_year, days_in_year, days_in_month, days_of_years, days_of_months, day_number, day_of}
 use Rattle.shop_model.proofs.RowLemmas.{same_if, differ_if}
@@ -42,15 +42,6 @@ whole_year year = elim (cases_Bool (is_leap_year year)) [
   | inl leap ↦ rw leap refl
   | inr common ↦ rw common refl
 ]
-
-pub few_days : (year month : ℕ) → days_in_month year month ≤ 31
-few_days year month = go (month == 2) (is_leap_year year) ((month == 4) || (month == 6) || (month == 9) || (month == 11))
-  where
-    go : (a b c : Bool) → (if a then (if b then 29 else 28) else (if c then 30 else 31)) ≤ 31
-    go true true c = omega arith
-    go true false c = omega arith
-    go false b true = omega arith
-    go false b false = omega arith
 
 -- a month's first day, and the days up to it
 from_first : (year month : ℕ) → 1 ≤ month → days_in_month year (suc (month - 1)) ≡ days_in_month year month

@@ -3,7 +3,7 @@ use Rattle.std.proofs.Common.{◌≡◌, ◌≤◌, ◌||◌, ℕ, List, [], ◌
 use Rattle.std.specs.List.{list_any}
 use Rattle.std.specs.Str.{bytes_eq}
 use Rattle.std.proofs.lemmas.Slice.Eq.{bytes_eq-Decides}
-use Rattle.sql_rows.proofs.Appends.{both}
+use Rattle.std.proofs.lemmas.Bool.{and_parts}
 use Rattle.shop_model.specs.Links.{are_different}
 
 turned : (s t : List ℕ) → bytes_eq s t ≡ false → bytes_eq t s ≡ false
@@ -35,7 +35,7 @@ module _ {X : Type 0} (text : X → List ℕ) where
   pub different_once : (t : List ℕ) (xs : List X) → are_different (λ a b. bytes_eq (text a) (text b)) xs ≡ true → length (filter (λ x. bytes_eq (text x) t) xs) ≤ 1
   different_once t [] h = omega arith
   different_once t (x ∷ xs) h =
-      let parts = both (not (list_any (λ y. bytes_eq (text x) (text y)) xs)) (are_different (λ a b. bytes_eq (text a) (text b)) xs) h in
+      let parts = and_parts (not (list_any (λ y. bytes_eq (text x) (text y)) xs)) (are_different (λ a b. bytes_eq (text a) (text b)) xs) h in
       go (bytes_eq (text x) t) refl parts.0 (different_once t xs parts.1)
     where
       go : (b : Bool) → bytes_eq (text x) t ≡ b → not (list_any (λ y. bytes_eq (text x) (text y)) xs) ≡ true → length (filter (λ y. bytes_eq (text y) t) xs) ≤ 1

@@ -49,7 +49,7 @@ kept_apart n b (row ∷ lasts) h = go (row.owner == b) refl (kept_apart n b last
         further true same = ap (λ l. row.it ∷ l) same
         further false same = same
 
-turned : (m n : ℕ) (t : Bool) → (m == n) ≡ t → (n == m) ≡ t
+pub turned : (m n : ℕ) (t : Bool) → (m == n) ≡ t → (n == m) ≡ t
 turned m n true h = grind (arith, nat_tests)
 turned m n false h = grind (arith, nat_tests)
 

@@ -8,6 +8,7 @@ pub mod OneToOne
 pub mod OfficeOneToOne
 pub mod SameRows
 pub mod Lists
+pub mod Readings
 pub mod FirstRows
 pub mod MomentTexts
 pub mod Lasts

@@ -1,6 +1,7 @@
 -- A table whose rows are those of a list of the books, and what an INSERT and an UPDATE make of it.
 use Rattle.std.proofs.Common.{◌≡◌, ◌/◌, ◌+◌, ℕ, zero, suc, List, [], ◌∷◌, ◌++◌, map, length, Bool, true, false, cond, None, Ok, refl, sym, ap, subst, ◌∙◌, arith}
 use Rattle.std.specs.Prelude.{⊤, unwrap_or}
+use Rattle.std.proofs.lemmas.List.{map_push}
 use Rattle.sqlite.specs.declared.types.Value.{Value}
 use Rattle.sqlite.specs.declared.types.Value.TheVariants.{Null}
 use Rattle.sqlite_value.specs.Order as sql
@@ -14,7 +15,7 @@ use Rattle.sqlite.specs.Effect.{value_rows}
 use Rattle.sqlite.specs.State.{State, ExecutesInside}
 use Rattle.sql_rows.specs.Builds.{Means}
 use Rattle.sql_rows.specs.Rows.{HasRows, SameBut, columns_of}
-use Rattle.sql_rows.proofs.Appends.{are_kept, map_push}
+use Rattle.sql_rows.proofs.Appends.{are_kept}
 use Rattle.sql_rows.proofs.Puts.{IsPlainTable}
 use Rattle.sql_rows.proofs.Steps.{has_put}
 use Rattle.shop_model.specs.Rows.{numbered}

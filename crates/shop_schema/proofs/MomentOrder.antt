@@ -7,7 +7,9 @@ use Rattle.std.specs.Cmp.Lexicographic.{slice_cmp}
 use Rattle.std.proofs.lemmas.Bool.{cases_Bool}
 use Rattle.std.proofs.lemmas.Bool.Decides.{nat_tests}
 use Rattle.shop_model.specs.Calendar.{Moment, IsMoment, digit, moment_text, day_of, seconds_of, is_by, is_earlier}
-use Rattle.shop_schema.proofs.Days.{few_days, later_year, later_month, same_days}
+use Rattle.shop_model.proofs.NumberLemmas.{few_days}
+use Rattle.sqlite_value.proofs.OrderLemmas.{then-Equal}
+use Rattle.shop_schema.proofs.Days.{later_year, later_month, same_days}
 
 -- two numbers and then two others are in the order of a third pair
 lex : (x y r s u v : ℕ) → (x < y → u < v) → (y < x → v < u) → (x ≡ y → r < s → u < v) → (x ≡ y → s < r → v < u) → (x ≡ y → r ≡ s → u ≡ v)
@@ -28,11 +30,6 @@ grouped : (a b c : Ordering) → ordering_then a (ordering_then b c) ≡ orderin
 grouped Less b c = refl
 grouped Equal b c = refl
 grouped Greater b c = refl
-
-ended : (o : Ordering) → ordering_then o Equal ≡ o
-ended Less = refl
-ended Equal = refl
-ended Greater = refl
 
 -- ---- digits
 
@@ -86,7 +83,7 @@ module _ (a b : Moment) (is : IsMoment a) (its : IsMoment b) where
       (two_digits a.hour b.hour (omega (arith, is.hour)) (omega (arith, its.hour)) _
       ∙ ap (ordering_then (nat_cmp a.hour b.hour))
       (two_digits a.minute b.minute (omega (arith, is.minute)) (omega (arith, its.minute)) _
-      ∙ ap (ordering_then (nat_cmp a.minute b.minute)) (two_digits a.second b.second (omega (arith, is.second)) (omega (arith, its.second)) Equal ∙ ended (nat_cmp a.second b.second))))))
+      ∙ ap (ordering_then (nat_cmp a.minute b.minute)) (two_digits a.second b.second (omega (arith, is.second)) (omega (arith, its.second)) Equal ∙ then-Equal (nat_cmp a.second b.second))))))
 
   clock_order : clock a b ≡ nat_cmp (time_of a) (time_of b)
   clock_order =

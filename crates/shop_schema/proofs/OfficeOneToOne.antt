@@ -1,22 +1,21 @@
 -- Under one key, two commands of head office have one form exactly where they are one command.
-use Rattle.std.proofs.Common.{◌≡◌, ℕ, ◌==◌, ◌&&◌, List, [], ◌∷◌, map, filter, cond, Bool, true, false, Option, Some, option_map, refl, sym, ap, ◌∙◌, subst}
+use Rattle.std.proofs.Common.{◌≡◌, ℕ, ◌==◌, ◌&&◌, List, [], ◌∷◌, map, filter, cond, Bool, true, false, Option, Some, option_map, refl, ap, ◌∙◌, subst, sym}
 use Rattle.std.proofs.lemmas.Slice.Eq.{bytes_eq-Decides}
 use Rattle.std.specs.Str.{bytes_eq}
-use Rattle.sql_rows.proofs.Appends.{both}
+use Rattle.std.proofs.lemmas.Bool.{and_parts}
 use Rattle.shop_model.specs.Values.{Text, Person, Film, Branch, OfficeAct, AddCountry, AddCity, AddLanguage, AddCategory, AddActor, AddFilm, PriceFilm, WithdrawFilm, AddCast, AddBranch, AddStaff, StaffLeaves, SetManager, OfficeCommand}
 use Rattle.shop_model.specs.Shop.{OfficeKept, same_option, same_flag, same_person, same_film, same_branch, same_office_act, same_office}
 use Rattle.shop_model.specs.Books.{head}
+use Rattle.shop_model.proofs.RowLemmas.{same_if, equal_test}
+use Rattle.shop_model.proofs.Resent.{bytes_same, option_same, flag_same, person_same}
 use Rattle.shop_schema.specs.Forms.{joined, number_form, text_form, person_form, film_form, branch_form, office_form, office_command_form, OfficeFormsAreOneToOne}
 use Rattle.shop_schema.proofs.FormLemmas.{number_ends, number_is, text_ends, text_is, option_ends, flag_ends, person_is}
-use Rattle.shop_schema.proofs.OneToOne.{number_same, bytes_same, option_same, flag_same, person_same, text_equal, number_equal, option_equal, flag_equal, person_equal, alone}
+use Rattle.shop_schema.proofs.OneToOne.{text_equal, option_equal, flag_equal, person_equal, alone}
 
 -- ---- acts of one form are the same
 
 same_text : (t u : Text) → t ≡ u → bytes_eq t u ≡ true
 same_text t u h = subst (λ (v : Text). bytes_eq t v ≡ true) h (bytes_same t)
-
-same_number : (m n : ℕ) → m ≡ n → (m == n) ≡ true
-same_number m n h = subst (λ k. (m == k) ≡ true) h (number_same m)
 
 option_holds : (o p : Option ℕ) → o ≡ p → same_option o p ≡ true
 option_holds o p h = subst (λ (q : Option ℕ). same_option o q ≡ true) h (option_same o)
@@ -44,8 +43,8 @@ film_is f g h =
     let features = text_ends f.features g.features _ _ rating.1 in
     let withdrawn = flag_ends f.withdrawn g.withdrawn [] [] features.1 in
     also (also (also (also (also (also (also (also (also (also
-    (same_text f.title g.title title.0) (same_text f.description g.description description.0)) (same_number f.language g.language language.0)) (same_number f.category g.category category.0))
-    (same_number f.period g.period period.0)) (same_number f.rate g.rate rate.0)) (same_number f.replacement g.replacement replacement.0)) (option_holds f.minutes g.minutes minutes.0))
+    (same_text f.title g.title title.0) (same_text f.description g.description description.0)) (equal_test f.language g.language language.0)) (equal_test f.category g.category category.0))
+    (equal_test f.period g.period period.0)) (equal_test f.rate g.rate rate.0)) (equal_test f.replacement g.replacement replacement.0)) (option_holds f.minutes g.minutes minutes.0))
     (same_text f.rating g.rating rating.0)) (same_text f.features g.features features.0)) (flag_holds f.withdrawn g.withdrawn withdrawn.0)
 
 branch_is : (b c : Branch) → branch_form b ≡ branch_form c → same_branch b c ≡ true
@@ -57,13 +56,13 @@ branch_is b c h =
     let city = number_ends b.city c.city _ _ phone.1 in
     let manager = option_ends b.manager c.manager [] [] city.1 in
     also (also (also (also (also (same_text b.token c.token token.0) (same_text b.address c.address address.0)) (same_text b.postal c.postal postal.0)) (same_text b.phone c.phone phone.0))
-    (same_number b.city c.city city.0)) (option_holds b.manager c.manager manager.0)
+    (equal_test b.city c.city city.0)) (option_holds b.manager c.manager manager.0)
 
 two_numbers : (a b c d : ℕ) → joined (number_form a ∷ number_form b ∷ []) ≡ joined (number_form c ∷ number_form d ∷ []) → (a == c && b == d) ≡ true
 two_numbers a b c d h =
     let first = number_ends a c _ _ h in
     let second = number_ends b d [] [] first.1 in
-    also (same_number a c first.0) (same_number b d second.0)
+    also (equal_test a c first.0) (equal_test b d second.0)
 
 office_is : (a b : OfficeAct) → office_form a ≡ office_form b → same_office_act a b ≡ true
 office_is (AddCountry x) (AddCountry y) h = let text : text_form x ≡ text_form y = cc in same_text x y (text_is x y text)
@@ -71,7 +70,7 @@ office_is (AddCity x) (AddCity y) h =
     let rest : joined (text_form x.name ∷ number_form x.country ∷ []) ≡ joined (text_form y.name ∷ number_form y.country ∷ []) = cc in
     let name = text_ends x.name y.name _ _ rest in
     let country = number_ends x.country y.country [] [] name.1 in
-    also (same_text x.name y.name name.0) (same_number x.country y.country country.0)
+    also (same_text x.name y.name name.0) (equal_test x.country y.country country.0)
 office_is (AddLanguage x) (AddLanguage y) h = let text : text_form x ≡ text_form y = cc in same_text x y (text_is x y text)
 office_is (AddCategory x) (AddCategory y) h = let text : text_form x ≡ text_form y = cc in same_text x y (text_is x y text)
 office_is (AddActor x) (AddActor y) h =
@@ -81,7 +80,7 @@ office_is (AddActor x) (AddActor y) h =
     also (same_text x.first y.first first.0) (same_text x.last y.last last.0)
 office_is (AddFilm x) (AddFilm y) h = let rest : film_form x ≡ film_form y = cc in film_is x y rest
 office_is (PriceFilm x m) (PriceFilm y n) h = let rest : joined (number_form x ∷ number_form m ∷ []) ≡ joined (number_form y ∷ number_form n ∷ []) = cc in two_numbers x m y n rest
-office_is (WithdrawFilm x) (WithdrawFilm y) h = let number : number_form x ≡ number_form y = cc in same_number x y (number_is x y number)
+office_is (WithdrawFilm x) (WithdrawFilm y) h = let number : number_form x ≡ number_form y = cc in equal_test x y (number_is x y number)
 office_is (AddCast x) (AddCast y) h =
     let rest : joined (number_form x.film ∷ number_form x.actor ∷ []) ≡ joined (number_form y.film ∷ number_form y.actor ∷ []) = cc in
     two_numbers x.film x.actor y.film y.actor rest
@@ -90,8 +89,8 @@ office_is (AddStaff x) (AddStaff y) h =
     let rest : joined (number_form x.branch ∷ person_form x.person ∷ []) ≡ joined (number_form y.branch ∷ person_form y.person ∷ []) = cc in
     let branch = number_ends x.branch y.branch _ _ rest in
     let person = person_is x.person y.person (alone (person_form x.person) (person_form y.person) branch.1) in
-    also (same_number x.branch y.branch branch.0) (person_holds x.person y.person person)
-office_is (StaffLeaves x) (StaffLeaves y) h = let number : number_form x ≡ number_form y = cc in same_number x y (number_is x y number)
+    also (equal_test x.branch y.branch branch.0) (person_holds x.person y.person person)
+office_is (StaffLeaves x) (StaffLeaves y) h = let number : number_form x ≡ number_form y = cc in equal_test x y (number_is x y number)
 office_is (SetManager b s) (SetManager c t) h = let rest : joined (number_form b ∷ number_form s ∷ []) ≡ joined (number_form c ∷ number_form t ∷ []) = cc in two_numbers b s c t rest
 office_is a b h = cc
 
@@ -99,24 +98,24 @@ office_is a b h = cc
 
 film_equal : (f g : Film) → same_film f g ≡ true → f ≡ g
 film_equal f g h =
-    let tenth = both _ (same_flag f.withdrawn g.withdrawn) h in
-    let ninth = both _ (bytes_eq f.features g.features) tenth.0 in
-    let eighth = both _ (bytes_eq f.rating g.rating) ninth.0 in
-    let seventh = both _ (same_option f.minutes g.minutes) eighth.0 in
-    let sixth = both _ (f.replacement == g.replacement) seventh.0 in
-    let fifth = both _ (f.rate == g.rate) sixth.0 in
-    let fourth = both _ (f.period == g.period) fifth.0 in
-    let third = both _ (f.category == g.category) fourth.0 in
-    let second = both _ (f.language == g.language) third.0 in
-    let first = both (bytes_eq f.title g.title) (bytes_eq f.description g.description) second.0 in
+    let tenth = and_parts _ (same_flag f.withdrawn g.withdrawn) h in
+    let ninth = and_parts _ (bytes_eq f.features g.features) tenth.0 in
+    let eighth = and_parts _ (bytes_eq f.rating g.rating) ninth.0 in
+    let seventh = and_parts _ (same_option f.minutes g.minutes) eighth.0 in
+    let sixth = and_parts _ (f.replacement == g.replacement) seventh.0 in
+    let fifth = and_parts _ (f.rate == g.rate) sixth.0 in
+    let fourth = and_parts _ (f.period == g.period) fifth.0 in
+    let third = and_parts _ (f.category == g.category) fourth.0 in
+    let second = and_parts _ (f.language == g.language) third.0 in
+    let first = and_parts (bytes_eq f.title g.title) (bytes_eq f.description g.description) second.0 in
     λ i. record {
       title = text_equal f.title g.title first.0 i;
       description = text_equal f.description g.description first.1 i;
-      language = number_equal f.language g.language second.1 i;
-      category = number_equal f.category g.category third.1 i;
-      period = number_equal f.period g.period fourth.1 i;
-      rate = number_equal f.rate g.rate fifth.1 i;
-      replacement = number_equal f.replacement g.replacement sixth.1 i;
+      language = same_if f.language g.language second.1 i;
+      category = same_if f.category g.category third.1 i;
+      period = same_if f.period g.period fourth.1 i;
+      rate = same_if f.rate g.rate fifth.1 i;
+      replacement = same_if f.replacement g.replacement sixth.1 i;
       minutes = option_equal f.minutes g.minutes seventh.1 i;
       rating = text_equal f.rating g.rating eighth.1 i;
       features = text_equal f.features g.features ninth.1 i;
@@ -125,53 +124,53 @@ film_equal f g h =
 
 branch_equal : (b c : Branch) → same_branch b c ≡ true → b ≡ c
 branch_equal b c h =
-    let fifth = both _ (same_option b.manager c.manager) h in
-    let fourth = both _ (b.city == c.city) fifth.0 in
-    let third = both _ (bytes_eq b.phone c.phone) fourth.0 in
-    let second = both _ (bytes_eq b.postal c.postal) third.0 in
-    let first = both (bytes_eq b.token c.token) (bytes_eq b.address c.address) second.0 in
+    let fifth = and_parts _ (same_option b.manager c.manager) h in
+    let fourth = and_parts _ (b.city == c.city) fifth.0 in
+    let third = and_parts _ (bytes_eq b.phone c.phone) fourth.0 in
+    let second = and_parts _ (bytes_eq b.postal c.postal) third.0 in
+    let first = and_parts (bytes_eq b.token c.token) (bytes_eq b.address c.address) second.0 in
     λ i. record {
       token = text_equal b.token c.token first.0 i;
       address = text_equal b.address c.address first.1 i;
       postal = text_equal b.postal c.postal second.1 i;
       phone = text_equal b.phone c.phone third.1 i;
-      city = number_equal b.city c.city fourth.1 i;
+      city = same_if b.city c.city fourth.1 i;
       manager = option_equal b.manager c.manager fifth.1 i;
     }
 
 form_equal : (a b : OfficeAct) → same_office_act a b ≡ true → office_form a ≡ office_form b
 form_equal (AddCountry x) (AddCountry y) h = ap (λ (t : Text). office_form (AddCountry t)) (text_equal x y h)
 form_equal (AddCity x) (AddCity y) h =
-    let k = both (bytes_eq x.name y.name) (x.country == y.country) h in
-    λ i. office_form (AddCity (record { name = text_equal x.name y.name k.0 i; country = number_equal x.country y.country k.1 i }))
+    let k = and_parts (bytes_eq x.name y.name) (x.country == y.country) h in
+    λ i. office_form (AddCity (record { name = text_equal x.name y.name k.0 i; country = same_if x.country y.country k.1 i }))
 form_equal (AddLanguage x) (AddLanguage y) h = ap (λ (t : Text). office_form (AddLanguage t)) (text_equal x y h)
 form_equal (AddCategory x) (AddCategory y) h = ap (λ (t : Text). office_form (AddCategory t)) (text_equal x y h)
 form_equal (AddActor x) (AddActor y) h =
-    let k = both (bytes_eq x.first y.first) (bytes_eq x.last y.last) h in
+    let k = and_parts (bytes_eq x.first y.first) (bytes_eq x.last y.last) h in
     λ i. office_form (AddActor (record { first = text_equal x.first y.first k.0 i; last = text_equal x.last y.last k.1 i }))
 form_equal (AddFilm x) (AddFilm y) h = ap (λ (f : Film). office_form (AddFilm f)) (film_equal x y h)
-form_equal (PriceFilm x m) (PriceFilm y n) h = let k = both (x == y) (m == n) h in λ i. office_form (PriceFilm (number_equal x y k.0 i) (number_equal m n k.1 i))
-form_equal (WithdrawFilm x) (WithdrawFilm y) h = ap (λ n. office_form (WithdrawFilm n)) (number_equal x y h)
+form_equal (PriceFilm x m) (PriceFilm y n) h = let k = and_parts (x == y) (m == n) h in λ i. office_form (PriceFilm (same_if x y k.0 i) (same_if m n k.1 i))
+form_equal (WithdrawFilm x) (WithdrawFilm y) h = ap (λ n. office_form (WithdrawFilm n)) (same_if x y h)
 form_equal (AddCast x) (AddCast y) h =
-    let k = both (x.film == y.film) (x.actor == y.actor) h in
-    λ i. office_form (AddCast (record { film = number_equal x.film y.film k.0 i; actor = number_equal x.actor y.actor k.1 i }))
+    let k = and_parts (x.film == y.film) (x.actor == y.actor) h in
+    λ i. office_form (AddCast (record { film = same_if x.film y.film k.0 i; actor = same_if x.actor y.actor k.1 i }))
 form_equal (AddBranch x) (AddBranch y) h = ap (λ (b : Branch). office_form (AddBranch b)) (branch_equal x y h)
 form_equal (AddStaff x) (AddStaff y) h =
-    let k = both (x.branch == y.branch) (same_person x.person y.person) h in
-    λ i. 11 ∷ joined (number_form (number_equal x.branch y.branch k.0 i) ∷ person_form (person_equal x.person y.person k.1 i) ∷ [])
-form_equal (StaffLeaves x) (StaffLeaves y) h = ap (λ n. office_form (StaffLeaves n)) (number_equal x y h)
-form_equal (SetManager b s) (SetManager c t) h = let k = both (b == c) (s == t) h in λ i. office_form (SetManager (number_equal b c k.0 i) (number_equal s t k.1 i))
+    let k = and_parts (x.branch == y.branch) (same_person x.person y.person) h in
+    λ i. 11 ∷ joined (number_form (same_if x.branch y.branch k.0 i) ∷ person_form (person_equal x.person y.person k.1 i) ∷ [])
+form_equal (StaffLeaves x) (StaffLeaves y) h = ap (λ n. office_form (StaffLeaves n)) (same_if x y h)
+form_equal (SetManager b s) (SetManager c t) h = let k = and_parts (b == c) (s == t) h in λ i. office_form (SetManager (same_if b c k.0 i) (same_if s t k.1 i))
 form_equal a b h = cc
 
 pub office_forms_are_one_to_one : OfficeFormsAreOneToOne
 office_forms_are_one_to_one a b key = (
   λ h. also (same_text a.key b.key key) (office_is a.act b.act h),
-  λ h. form_equal a.act b.act (both (bytes_eq a.key b.key) (same_office_act a.act b.act) h).1,
+  λ h. form_equal a.act b.act (and_parts (bytes_eq a.key b.key) (same_office_act a.act b.act) h).1,
 )
 
 -- ---- kept commands by their stored forms
 
-same_truth : (s t : Bool) → (s ≡ true → t ≡ true) → (t ≡ true → s ≡ true) → s ≡ t
+pub same_truth : (s t : Bool) → (s ≡ true → t ≡ true) → (t ≡ true → s ≡ true) → s ≡ t
 same_truth true true f h = refl
 same_truth true false f h = sym (f refl)
 same_truth false true f h = h refl

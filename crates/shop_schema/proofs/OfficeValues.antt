@@ -1,21 +1,23 @@
 -- By head office's commands too the rows of the books stay such as the program can hold, and what is known of the books stays known.
-use Rattle.std.proofs.Common.{◌≡◌, ◌≤◌, ◌<◌, ◌+◌, ◌-◌, ◌^◌, ◌==◌, ℕ, suc, List, [], ◌∷◌, ◌++◌, length, Bool, true, false, cond, refl, ap, arith, codes, decimal, IsUtf8, length-append}
+use Rattle.std.proofs.Common.{◌≡◌, ◌≤◌, ◌<◌, ◌+◌, ◌-◌, ◌^◌, ◌==◌, ℕ, List, [], ◌∷◌, ◌++◌, length, Bool, true, false, cond, refl, arith, codes, decimal, IsUtf8, length-append}
 use Rattle.std.specs.Prelude.{nat_lt, None, Some, Option, IfSome}
 use Rattle.std.specs.List.{AllByRecursion, list_all}
 use Rattle.std.proofs.lemmas.Fmt.{IsAscii-decimal}
 use Rattle.std.proofs.lemmas.Str.{IsUtf8-from_ascii, IsAscii-append}
+use Rattle.std.proofs.ByRecursion.{All-push}
 use Rattle.shop_model.specs.Json.{escape_byte, object}
 use Rattle.shop_model.specs.Rows.{set_at}
 use Rattle.shop_model.specs.Values.{Film, Branch, Staff, OfficeAct, AddCountry, AddCity, AddLanguage, AddCategory, AddActor, AddFilm, PriceFilm, WithdrawFilm, AddCast, AddBranch, AddStaff, StaffLeaves, SetManager, OfficeCommand}
 use Rattle.shop_model.specs.Machine.{office_acted, office_told, office_text, office_done}
 use Rattle.shop_model.specs.Shop.{Catalogue}
 use Rattle.shop_model.specs.Books.{Books}
+use Rattle.shop_model.proofs.GoodShops.{length_set}
 use Rattle.shop_schema.specs.Held.{HasFewShared}
 use Rattle.shop_schema.specs.RowValues.{IsToken, IsNumber, IsName, IsCity, IsActor, IsRating, IsFilm, IsCast, IsBranch, IsStaff, IsKey, IsOfficeAct, IsOfficeKept, AreShared, AreCatalogueValues, AreValues}
 use Rattle.shop_types.specs.Films.{rating_text}
 use Rattle.shop_types.specs.declared.film.Rating.{Rating}
 use Rattle.shop_types.specs.declared.film.Rating.TheVariants as rating
-use Rattle.shop_schema.proofs.Values.{all_push, ascii_bytes, number_reply, small}
+use Rattle.shop_schema.proofs.Values.{ascii_bytes, number_reply, small}
 
 -- a rating's text is one
 pub rating_is : (it : Rating) → IsRating (rating_text it)
@@ -27,14 +29,6 @@ rating_is rating.Nc17 = refl
 
 -- ---- lists of shared rows
 
-length_set : {A : Type 0} (n : ℕ) (f : A → A) (xs : List A) → length (set_at n f xs) ≡ length xs
-length_set n f [] = refl
-length_set n f (x ∷ xs) = go (n == 1) (length_set (n - 1) f xs)
-  where
-    go : (hit : Bool) → length (set_at (n - 1) f xs) ≡ length xs → length (cond hit (f x ∷ xs) (x ∷ set_at (n - 1) f xs)) ≡ length (x ∷ xs)
-    go true more = refl
-    go false more = ap suc more
-
 all_set : {A : Type 0} (P : A → Type 0) (n : ℕ) (f : A → A) (xs : List A) → ((x : A) → P x → P (f x)) → AllByRecursion P xs → AllByRecursion P (set_at n f xs)
 all_set P n f [] stays all = tt
 all_set P n f (x ∷ xs) stays all = go (n == 1) (all_set P (n - 1) f xs stays all.1)
@@ -44,7 +38,7 @@ all_set P n f (x ∷ xs) stays all = go (n == 1) (all_set P (n - 1) f xs stays a
     go false more = (all.0, more)
 
 shared_push : {A : Type 0} (P : A → Type 0) (xs : List A) (x : A) → length xs ≤ 1_000_003 → P x → AreShared P xs → AreShared P (xs ++ x ∷ [])
-shared_push P xs x few such all = let more = length-append xs (x ∷ []) in (omega (arith, more, few), all_push P xs x all.1 such)
+shared_push P xs x few such all = let more = length-append xs (x ∷ []) in (omega (arith, more, few), All-push P xs x all.1 such)
 
 shared_set : {A : Type 0} (P : A → Type 0) (n : ℕ) (f : A → A) (xs : List A) → ((x : A) → P x → P (f x)) → AreShared P xs → AreShared P (set_at n f xs)
 shared_set P n f xs stays all = let same = length_set n f xs in (omega (arith, same, all.0), all_set P n f xs stays all.1)
@@ -153,7 +147,7 @@ acted_values (WithdrawFilm f) it is v few =
     values_of _ v.office_token v.kept v.casts v.countries v.cities v.languages v.categories v.actors
     (shared_set IsFilm f (λ (x : Film). record x { withdrawn = true }) it.films (λ x such. rated x x.rate true such such.rate) v.films) v.branches v.staff
 acted_values (AddCast cast) it is v few =
-    values_of _ v.office_token v.kept (all_push IsCast it.casts cast v.casts is) v.countries v.cities v.languages v.categories v.actors v.films v.branches
+    values_of _ v.office_token v.kept (All-push IsCast it.casts cast v.casts is) v.countries v.cities v.languages v.categories v.actors v.films v.branches
     v.staff
 acted_values (AddBranch branch) it is v few =
     values_of _ v.office_token v.kept v.casts v.countries v.cities v.languages v.categories v.actors v.films
@@ -177,7 +171,7 @@ office_values_done command books is key values few =
     record {
       catalogue = record {
         office_token = v.office_token;
-        kept = all_push IsOfficeKept books.catalogue.kept (record { command = command; reply = office_text command books.catalogue }) values.catalogue.kept (key, is, reply);
+        kept = All-push IsOfficeKept books.catalogue.kept (record { command = command; reply = office_text command books.catalogue }) values.catalogue.kept (key, is, reply);
         casts = v.casts;
         countries = v.countries;
         cities = v.cities;

@@ -3,51 +3,18 @@ use Rattle.std.proofs.Common.{◌≡◌, ◌≤◌, ◌/◌, ℕ, ◌==◌, ◌&
 use Rattle.std.specs.Prelude.{if◌then◌else◌}
 use Rattle.std.specs.Str.{bytes_eq}
 use Rattle.std.proofs.lemmas.List.{append-nil}
-use Rattle.std.proofs.lemmas.Bool.Decides.{nat_tests}
 use Rattle.std.proofs.lemmas.Slice.Eq.{bytes_eq-Decides}
-use Rattle.sql_rows.proofs.Appends.{both}
+use Rattle.std.proofs.lemmas.Bool.{and_parts}
 use Rattle.shop_model.specs.Calendar.{Moment, IsMoment, moment_text, same_moment, digit, days_in_month, is_leap_year}
 use Rattle.shop_model.specs.Values.{Text, Person, Act, Command}
 use Rattle.shop_model.specs.Values as model
 use Rattle.shop_model.specs.Shop.{same_option, same_numbers, same_flag, same_person, same_act, same_command}
+use Rattle.shop_model.proofs.RowLemmas.{same_if}
+use Rattle.shop_model.proofs.Resent.{command_same}
 use Rattle.shop_schema.specs.Forms.{joined, number_form, text_form, numbers_form, option_form, flag_form, act_form, command_form, FormsAreOneToOne}
 use Rattle.shop_schema.proofs.FormLemmas.{number_ends, number_is, text_ends, numbers_ends, option_ends, flag_ends, moment_ends, person_is}
 
 -- ---- a value is the same as itself
-
-pub number_same : (n : ℕ) → (n == n) ≡ true
-number_same n = grind (arith, nat_tests)
-
-pub bytes_same : (x : Text) → bytes_eq x x ≡ true
-bytes_same x = (bytes_eq-Decides x x).1 refl
-
-pub option_same : (o : Option ℕ) → same_option o o ≡ true
-option_same None = refl
-option_same (Some n) = number_same n
-
-pub flag_same : (a : Bool) → same_flag a a ≡ true
-flag_same true = refl
-flag_same false = refl
-
-pub person_same : (p : Person) → same_person p p ≡ true
-person_same p = rw (bytes_same p.first, bytes_same p.last, bytes_same p.address, bytes_same p.postal, bytes_same p.phone, number_same p.city)
-
-act_same : (a : Act) → same_act a a ≡ true
-act_same (model.AddCustomer p) = person_same p
-act_same (model.SetActive c active) = rw (number_same c, flag_same active)
-act_same (model.Rent c x) = simp number_same
-act_same (model.TakeBack r) = number_same r
-act_same (model.Pay c r amount) = rw (number_same c, option_same r, number_same amount)
-act_same (model.Import lot file) = simp bytes_same
-act_same (model.Dispatch a xs) = rw (number_same a, bytes_same xs)
-act_same (model.Receive s n missing) = simp (number_same, bytes_same)
-act_same (model.Scrap x) = number_same x
-
-pub moment_same : (m : Moment) → same_moment m m ≡ true
-moment_same m = rw (number_same m.year, number_same m.month, number_same m.day, number_same m.hour, number_same m.minute, number_same m.second)
-
-command_same : (c : Command) → same_command c c ≡ true
-command_same c = rw (bytes_same c.key, number_same c.staff, moment_same c.moment, act_same c.act)
 
 -- ---- acts of one form
 
@@ -87,14 +54,11 @@ act_is a b h = cc
 pub text_equal : (t u : Text) → bytes_eq t u ≡ true → t ≡ u
 text_equal t u h = (bytes_eq-Decides t u).0 h
 
-pub number_equal : (m n : ℕ) → (m == n) ≡ true → m ≡ n
-number_equal m n h = grind (arith, nat_tests)
-
 pub option_equal : (o p : Option ℕ) → same_option o p ≡ true → o ≡ p
 option_equal None None h = refl
 option_equal None (Some n) h = cc
 option_equal (Some m) None h = cc
-option_equal (Some m) (Some n) h = ap Some (number_equal m n h)
+option_equal (Some m) (Some n) h = ap Some (same_if m n h)
 
 pub flag_equal : (a b : Bool) → same_flag a b ≡ true → a ≡ b
 flag_equal true true h = refl
@@ -104,62 +68,62 @@ flag_equal false true h = cc
 
 pub moment_equal : (a b : Moment) → same_moment a b ≡ true → a ≡ b
 moment_equal a b h =
-    let second = both (a.year == b.year && a.month == b.month && a.day == b.day && a.hour == b.hour && a.minute == b.minute) (a.second == b.second) h in
-    let minute = both (a.year == b.year && a.month == b.month && a.day == b.day && a.hour == b.hour) (a.minute == b.minute) second.0 in
-    let hour = both (a.year == b.year && a.month == b.month && a.day == b.day) (a.hour == b.hour) minute.0 in
-    let day = both (a.year == b.year && a.month == b.month) (a.day == b.day) hour.0 in
-    let month = both (a.year == b.year) (a.month == b.month) day.0 in
+    let second = and_parts (a.year == b.year && a.month == b.month && a.day == b.day && a.hour == b.hour && a.minute == b.minute) (a.second == b.second) h in
+    let minute = and_parts (a.year == b.year && a.month == b.month && a.day == b.day && a.hour == b.hour) (a.minute == b.minute) second.0 in
+    let hour = and_parts (a.year == b.year && a.month == b.month && a.day == b.day) (a.hour == b.hour) minute.0 in
+    let day = and_parts (a.year == b.year && a.month == b.month) (a.day == b.day) hour.0 in
+    let month = and_parts (a.year == b.year) (a.month == b.month) day.0 in
     λ i. record {
-      year = number_equal a.year b.year month.0 i;
-      month = number_equal a.month b.month month.1 i;
-      day = number_equal a.day b.day day.1 i;
-      hour = number_equal a.hour b.hour hour.1 i;
-      minute = number_equal a.minute b.minute minute.1 i;
-      second = number_equal a.second b.second second.1 i;
+      year = same_if a.year b.year month.0 i;
+      month = same_if a.month b.month month.1 i;
+      day = same_if a.day b.day day.1 i;
+      hour = same_if a.hour b.hour hour.1 i;
+      minute = same_if a.minute b.minute minute.1 i;
+      second = same_if a.second b.second second.1 i;
     }
 
 pub person_equal : (p q : Person) → same_person p q ≡ true → p ≡ q
 person_equal p q h =
-    let city = both (bytes_eq p.first q.first && bytes_eq p.last q.last && bytes_eq p.address q.address && bytes_eq p.postal q.postal && bytes_eq p.phone q.phone) (p.city == q.city) h in
-    let phone = both (bytes_eq p.first q.first && bytes_eq p.last q.last && bytes_eq p.address q.address && bytes_eq p.postal q.postal) (bytes_eq p.phone q.phone) city.0 in
-    let postal = both (bytes_eq p.first q.first && bytes_eq p.last q.last && bytes_eq p.address q.address) (bytes_eq p.postal q.postal) phone.0 in
-    let address = both (bytes_eq p.first q.first && bytes_eq p.last q.last) (bytes_eq p.address q.address) postal.0 in
-    let last = both (bytes_eq p.first q.first) (bytes_eq p.last q.last) address.0 in
+    let city = and_parts (bytes_eq p.first q.first && bytes_eq p.last q.last && bytes_eq p.address q.address && bytes_eq p.postal q.postal && bytes_eq p.phone q.phone) (p.city == q.city) h in
+    let phone = and_parts (bytes_eq p.first q.first && bytes_eq p.last q.last && bytes_eq p.address q.address && bytes_eq p.postal q.postal) (bytes_eq p.phone q.phone) city.0 in
+    let postal = and_parts (bytes_eq p.first q.first && bytes_eq p.last q.last && bytes_eq p.address q.address) (bytes_eq p.postal q.postal) phone.0 in
+    let address = and_parts (bytes_eq p.first q.first && bytes_eq p.last q.last) (bytes_eq p.address q.address) postal.0 in
+    let last = and_parts (bytes_eq p.first q.first) (bytes_eq p.last q.last) address.0 in
     λ i. record {
       first = text_equal p.first q.first last.0 i;
       last = text_equal p.last q.last last.1 i;
       address = text_equal p.address q.address address.1 i;
       postal = text_equal p.postal q.postal postal.1 i;
       phone = text_equal p.phone q.phone phone.1 i;
-      city = number_equal p.city q.city city.1 i;
+      city = same_if p.city q.city city.1 i;
     }
 
 act_equal : (a b : Act) → same_act a b ≡ true → a ≡ b
 act_equal (model.AddCustomer p) (model.AddCustomer q) h = ap model.AddCustomer (person_equal p q h)
-act_equal (model.SetActive c x) (model.SetActive d y) h = let k = both (c == d) (same_flag x y) h in λ i. model.SetActive (number_equal c d k.0 i) (flag_equal x y k.1 i)
-act_equal (model.Rent c x) (model.Rent d y) h = let k = both (c == d) (x == y) h in λ i. model.Rent (number_equal c d k.0 i) (number_equal x y k.1 i)
-act_equal (model.TakeBack r) (model.TakeBack s) h = ap model.TakeBack (number_equal r s h)
+act_equal (model.SetActive c x) (model.SetActive d y) h = let k = and_parts (c == d) (same_flag x y) h in λ i. model.SetActive (same_if c d k.0 i) (flag_equal x y k.1 i)
+act_equal (model.Rent c x) (model.Rent d y) h = let k = and_parts (c == d) (x == y) h in λ i. model.Rent (same_if c d k.0 i) (same_if x y k.1 i)
+act_equal (model.TakeBack r) (model.TakeBack s) h = ap model.TakeBack (same_if r s h)
 act_equal (model.Pay c r m) (model.Pay d s n) h =
-    let k = both (c == d && same_option r s) (m == n) h in
-    let l = both (c == d) (same_option r s) k.0 in
-    λ i. model.Pay (number_equal c d l.0 i) (option_equal r s l.1 i) (number_equal m n k.1 i)
-act_equal (model.Import lot file) (model.Import lot' file') h = let k = both (bytes_eq lot lot') (bytes_eq file file') h in λ i. model.Import (text_equal lot lot' k.0 i) (text_equal file file' k.1 i)
-act_equal (model.Dispatch a xs) (model.Dispatch b ys) h = let k = both (a == b) (same_numbers xs ys) h in λ i. model.Dispatch (number_equal a b k.0 i) (text_equal xs ys k.1 i)
+    let k = and_parts (c == d && same_option r s) (m == n) h in
+    let l = and_parts (c == d) (same_option r s) k.0 in
+    λ i. model.Pay (same_if c d l.0 i) (option_equal r s l.1 i) (same_if m n k.1 i)
+act_equal (model.Import lot file) (model.Import lot' file') h = let k = and_parts (bytes_eq lot lot') (bytes_eq file file') h in λ i. model.Import (text_equal lot lot' k.0 i) (text_equal file file' k.1 i)
+act_equal (model.Dispatch a xs) (model.Dispatch b ys) h = let k = and_parts (a == b) (same_numbers xs ys) h in λ i. model.Dispatch (same_if a b k.0 i) (text_equal xs ys k.1 i)
 act_equal (model.Receive s n xs) (model.Receive t m ys) h =
-    let k = both (s == t && n == m) (same_numbers xs ys) h in
-    let l = both (s == t) (n == m) k.0 in
-    λ i. model.Receive (number_equal s t l.0 i) (number_equal n m l.1 i) (text_equal xs ys k.1 i)
-act_equal (model.Scrap x) (model.Scrap y) h = ap model.Scrap (number_equal x y h)
+    let k = and_parts (s == t && n == m) (same_numbers xs ys) h in
+    let l = and_parts (s == t) (n == m) k.0 in
+    λ i. model.Receive (same_if s t l.0 i) (same_if n m l.1 i) (text_equal xs ys k.1 i)
+act_equal (model.Scrap x) (model.Scrap y) h = ap model.Scrap (same_if x y h)
 act_equal a b h = cc
 
 command_equal : (a b : Command) → same_command a b ≡ true → a ≡ b
 command_equal a b h =
-    let act = both (bytes_eq a.key b.key && a.staff == b.staff && same_moment a.moment b.moment) (same_act a.act b.act) h in
-    let moment = both (bytes_eq a.key b.key && a.staff == b.staff) (same_moment a.moment b.moment) act.0 in
-    let staff = both (bytes_eq a.key b.key) (a.staff == b.staff) moment.0 in
+    let act = and_parts (bytes_eq a.key b.key && a.staff == b.staff && same_moment a.moment b.moment) (same_act a.act b.act) h in
+    let moment = and_parts (bytes_eq a.key b.key && a.staff == b.staff) (same_moment a.moment b.moment) act.0 in
+    let staff = and_parts (bytes_eq a.key b.key) (a.staff == b.staff) moment.0 in
     λ i. record {
       key = text_equal a.key b.key staff.0 i;
-      staff = number_equal a.staff b.staff staff.1 i;
+      staff = same_if a.staff b.staff staff.1 i;
       moment = moment_equal a.moment b.moment moment.1 i;
       act = act_equal a.act b.act act.1 i;
     }

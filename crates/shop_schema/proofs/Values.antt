@@ -1,5 +1,5 @@
 -- The rows of the books stay such as the program can hold.
-use Rattle.std.proofs.Common.{◌≡◌, ◌≤◌, ◌<◌, ◌+◌, ◌^◌, ◌==◌, ℕ, suc, get_or, List, [], ◌∷◌, ◌++◌, map, filter, not, length, Bool, true, false, cond, refl, ap, subst, ◌∙◌, arith, codes, decimal, IsUtf8, IsAscii, length-append}
+use Rattle.std.proofs.Common.{◌≡◌, ◌≤◌, ◌<◌, ◌+◌, ◌^◌, ◌==◌, ℕ, suc, get_or, List, [], ◌∷◌, ◌++◌, map, not, length, Bool, true, false, refl, ap, subst, ◌∙◌, arith, codes, decimal, IsUtf8, IsAscii, length-append}
 use Rattle.std.specs.Prelude.{nat_lt, if◌then◌else◌, None, Some}
 use Rattle.std.specs.List.{AllByRecursion, list_all}
 use Rattle.std.proofs.lemmas.Bool.{and_parts, ltb-true}
@@ -7,6 +7,7 @@ use Rattle.std.proofs.lemmas.Bool.Decides.{nat_tests}
 use Rattle.std.proofs.lemmas.Fmt.{IsAscii-decimal}
 use Rattle.std.proofs.lemmas.Str.{IsUtf8-from_ascii, IsAscii-append}
 use Rattle.std.proofs.lemmas.Str.Ascii.{IsAscii-nil, IsAscii-cons}
+use Rattle.std.proofs.ByRecursion.{All-push}
 use Rattle.shop_model.specs.Calendar.{IsMoment}
 use Rattle.shop_model.specs.Json.{escape_byte, flag_text, object}
 use Rattle.shop_model.specs.Rows.{Row, of, is_row, next, put, put_all, set_row}
@@ -18,6 +19,7 @@ use Rattle.shop_model.specs.Links.{IsGoodCatalogue}
 use Rattle.shop_model.specs.Books.{Books, BookCopy, put_state, book_acted, book_done, imported, unmarked, shop_of}
 use Rattle.shop_model.specs.Sound.{IsSound}
 use Rattle.shop_model.proofs.RowLemmas.{put_own, length_map}
+use Rattle.sqlite_keyed.proofs.ListLemmas.{all-filter}
 use Rattle.shop_schema.specs.Held.{HasFewShared, IsHeld}
 use Rattle.shop_schema.specs.RowValues.{IsNumber, IsRow, IsCustomer, IsCopy, IsRental, IsPayment, IsLot, IsKept, IsLast, AreBytes, IsAct, IsCommand, AreValues}
 use Rattle.shop_schema.specs.Steps.{FilmsFit, FitsTables, IsBuilt}
@@ -61,18 +63,6 @@ held_by_sound sizes books commands copies sound values = record {
 
 -- ---- lists of which all items are such
 
-pub all_push : {A : Type 0} (P : A → Type 0) (xs : List A) (x : A) → AllByRecursion P xs → P x → AllByRecursion P (xs ++ x ∷ [])
-all_push P [] x all such = (such, tt)
-all_push P (y ∷ xs) x all such = (all.0, all_push P xs x all.1 such)
-
-all_kept : {A : Type 0} (P : A → Type 0) (test : A → Bool) (xs : List A) → AllByRecursion P xs → AllByRecursion P (filter test xs)
-all_kept P test [] all = tt
-all_kept P test (x ∷ xs) all = go (test x) (all_kept P test xs all.1)
-  where
-    go : (b : Bool) → AllByRecursion P (filter test xs) → AllByRecursion P (cond b (x ∷ filter test xs) (filter test xs))
-    go true rest = (all.0, rest)
-    go false rest = rest
-
 -- ---- numbers of new rows
 
 pub number_fits : (n : ℕ) → 1 ≤ n → n < 2 ^ 32 → IsNumber n
@@ -83,7 +73,7 @@ next_fits b rows few = number_fits (next b rows) (omega arith) (omega arith)
 
 put_values : {A : Type 0} (P : A → Type 0) (b : ℕ) (make : ℕ → A) (rows : List (Row A)) → IsNumber b → length (of b rows) ≤ 1_001_000 → P (make (next b rows))
     → AllByRecursion (IsRow P) rows → AllByRecursion (IsRow P) (put b make rows)
-put_values P b make rows branch few such all = all_push (IsRow P) rows _ all (branch, next_fits b rows few, such)
+put_values P b make rows branch few such all = All-push (IsRow P) rows _ all (branch, next_fits b rows few, such)
 
 -- rows of which some are set
 set_values : {A : Type 0} (P : A → Type 0) (b n : ℕ) (f : A → A) (rows : List (Row A)) → ((it : A) → P it → P (f it)) → AllByRecursion (IsRow P) rows → AllByRecursion (IsRow P) (set_row b n f rows)
@@ -202,7 +192,7 @@ acted_values rules b command (model.Import lot file) books branch staff moment i
       copies = import_values b (films_in (rules.stock_of file)) books.copies branch fits.0 (omega (arith, fits.1)) v.copies;
       rentals = v.rentals;
       payments = v.payments;
-      lots = all_push IsLot books.lots (record { owner = b; it = lot }) v.lots (branch, is.0);
+      lots = All-push IsLot books.lots (record { owner = b; it = lot }) v.lots (branch, is.0);
       consignments = v.consignments;
       kept = v.kept;
       lasts = v.lasts;
@@ -293,8 +283,8 @@ values_done rules b command books branch is held fits built =
       payments = v.payments;
       lots = v.lots;
       consignments = v.consignments;
-      kept = all_push IsKept books.kept (record { owner = b; it = record { command = command; reply = reply_text rules command (shop_of b books) } }) held.values.kept (branch, is, reply);
-      lasts = (is.moment, all_kept IsLast (λ row. not (row.owner == b)) books.lasts held.values.lasts);
+      kept = All-push IsKept books.kept (record { owner = b; it = record { command = command; reply = reply_text rules command (shop_of b books) } }) held.values.kept (branch, is, reply);
+      lasts = (is.moment, all-filter IsLast (λ row. not (row.owner == b)) books.lasts held.values.lasts);
     }
 
 -- ---- the bytes of a stock file

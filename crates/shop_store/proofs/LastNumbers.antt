@@ -14,6 +14,7 @@ use Rattle.sql_rows.specs.Rows.{columns_of, number_value}
 use Rattle.sql_rows.specs.declared.fault.StoreFault.{StoreFault}
 use Rattle.sql_rows.proofs.Projects.{still_holds}
 use Rattle.sql_rows.proofs.Queries.{Selects, plain_query}
+use Rattle.sql_rows.proofs.ColumnTests.{same_number}
 use Rattle.shop_model.specs.Rows.{numbered, numbered_from}
 use Rattle.shop_model.specs.Books.{Books}
 use Rattle.shop_schema.specs.Tables.{shop_schema}
@@ -24,18 +25,15 @@ use Rattle.shop_store.specs.SharedSeen.{IsFirstNumber}
 use Rattle.shop_store.proofs.ByNumber.{ByNumber, countries, languages, categories, cities, actors, films, branches, staff}
 use Rattle.shop_store.proofs.LastRow.{ending, first_query, descending, projects_last}
 
-same_number : (m n : ℕ) → number_value m ≡ number_value n → n ≡ m
-same_number m n h = cc
+pub above_from : {A : Type 0} (k : ℕ) (xs : List A) (n : ℕ) → n < k → AllByRecursion (λ (it : ℕ × A). n < it.0) (numbered_from k xs)
+above_from k [] n low = tt
+above_from k (x ∷ xs) n low = (low, above_from (k + 1) xs n (omega arith))
+
+pub numbered_rise : {A : Type 0} (k : ℕ) (xs : List A) → IsAscending (λ (a b : ℕ × A). a.0 < b.0) (numbered_from k xs)
+numbered_rise k [] = tt
+numbered_rise k (x ∷ xs) = (above_from (k + 1) xs k (omega arith), numbered_rise (k + 1) xs)
 
 module _ {A : Type 0} where
-  above : (k m : ℕ) → k < m → (xs : List A) → AllByRecursion (λ (it : ℕ × A). k < it.0) (numbered_from m xs)
-  above k m low [] = tt
-  above k m low (x ∷ xs) = (low, above k (m + 1) (omega arith) xs)
-
-  rise : (k : ℕ) (xs : List A) → IsAscending (λ (a b : ℕ × A). a.0 < b.0) (numbered_from k xs)
-  rise k [] = tt
-  rise k (x ∷ xs) = (above k (k + 1) (omega arith) xs, rise (k + 1) xs)
-
   all_pass : (xs : List (ℕ × A)) → filter (λ _. true) xs ≡ xs
   all_pass [] = refl
   all_pass (x ∷ xs) = ap (λ l. x ∷ l) (all_pass xs)
@@ -50,7 +48,7 @@ module _ {A : Type 0} where
   counts_all [] rows n are first = subst (λ (l : List sql.Row). IsFirstNumber l n) are first
   counts_all (x ∷ xs) rows n are first =
       let told : number_value (1 + length xs) ≡ number_value n = subst (λ (l : List sql.Row). IsFirstNumber l n) (are ∙ last_number 1 x xs) first in
-      let same : n ≡ 1 + length xs = same_number (1 + length xs) n told in
+      let same : n ≡ 1 + length xs = sym (same_number (1 + length xs) n told) in
       omega (arith, same)
 
 -- what the call tells of the rows that it is shown
@@ -85,7 +83,7 @@ module _ {A : Type 0} (t : ByNumber A) (text : List ℕ) where
           let its = numbered (t.part.items books) in
           projects_last shop_schema text t.table.tree (length t.table.columns) [] (col 1 1 ∷ []) 0 means [] old new rows holds.schema_is h (t.columns books) its
           (t.stood (counts_of books) books old.now.trees holds.stands) (own_rows old.now.trees t.table.tree) (λ vs. true) (λ vs. column vs 0 ∷ []) (λ it. true) (λ it. refl) only (λ it. it.0) (t.numbers books)
-          (subst (IsAscending (λ (a b : ℕ × A). a.0 < b.0)) (sym (all_pass its)) (rise 1 (t.part.items books)))
+          (subst (IsAscending (λ (a b : ℕ × A). a.0 < b.0)) (sym (all_pass its)) (numbered_rise 1 (t.part.items books)))
           ∙ ap (λ (l : List (ℕ × A)). map (λ it. column (t.columns books it) 0 ∷ []) (ending l)) (all_pass its) ∙ shown (ending its)
         where
           shown : (its : List (ℕ × A)) → map (λ it. column (t.columns books it) 0 ∷ []) its ≡ map (λ (it : ℕ × A). number_value it.0 ∷ []) its

@@ -10,7 +10,9 @@ use Rattle.sqlite.specs.declared.types.Value.TheVariants.{Int}
 use Rattle.sqlite_value.specs.Order.{Row, column}
 use Rattle.sqlite_value.specs.declared.keys.Key.{Key}
 use Rattle.sqlite_value.specs.declared.keys.Collation.TheVariants.{Binary}
+use Rattle.sqlite_value.proofs.OrderLemmas.{then-Equal}
 use Rattle.sqlite_trees.specs.Tree.{Trees, IsAscending}
+use Rattle.sqlite_trees.proofs.ListLemmas.{all-permutation}
 use Rattle.sqlite_sql.specs.Term.{Term, lit, col, holds}
 use Rattle.sqlite_sql.specs.Query.{Query, IsAnswer, Output, output}
 use Rattle.sqlite_sql.specs.Program.{overlay}
@@ -21,8 +23,8 @@ use Rattle.sqlite_keyed.proofs.ListLemmas.{ascending_weaker}
 use Rattle.sqlite_keyed.proofs.SortLemmas.{IsPermutation-sort_by}
 use Rattle.sql_rows.specs.Rows.{HasRows, columns_of, number_value}
 use Rattle.sql_rows.specs.Books.{IsOf}
-use Rattle.sql_rows.proofs.Bags.{all_along, number_total}
-use Rattle.sql_rows.proofs.Queries.{Selects, plain_query, answers, reads_sorted, number_cmp, last_key}
+use Rattle.sql_rows.proofs.Bags.{number_total}
+use Rattle.sql_rows.proofs.Queries.{Selects, plain_query, answers, reads_sorted, number_cmp}
 
 -- the last of a list, where there is one
 abbrev pub ending : {X : Type 0} → List X → List X
@@ -55,7 +57,7 @@ module _ {X : Type 0} (number : X → ℕ) where
   down_first (x ∷ []) up = refl
   down_first (x ∷ y ∷ xs) up =
       let same : IsPermutation (y ∷ xs) (sort_by (down number) (y ∷ xs)) = IsPermutation-sym _ _ (IsPermutation-sort_by (down number) down_total (y ∷ xs)) in
-      first_stays x (sort_by (down number) (y ∷ xs)) (all_along (λ z. number x < number z) _ _ same up.0) (omega (arith, length_permutation _ _ same)) ∙ down_first (y ∷ xs) up.1
+      first_stays x (sort_by (down number) (y ∷ xs)) (all-permutation (λ z. number x < number z) _ _ same up.0) (omega (arith, length_permutation _ _ same)) ∙ down_first (y ∷ xs) up.1
 
   pub down_apart : (xs : List X) → IsAscending (λ a b. number a < number b) xs → IsAscending (λ a b. is_eq (down number a b) ≡ false) xs
   down_apart xs up = ascending_weaker (λ a b. number a < number b) (λ a b. is_eq (down number a b) ≡ false) apart xs up
@@ -97,5 +99,5 @@ module _ {X : Type 0} (schema : Schema) (sql : List ℕ) (tree width : ℕ) (tes
       let all : a.0 ≡ map (λ x. show (columns x)) (sort_by (down number) (filter p xs)) =
       reads_sorted tree tests shown ((col 1 (suc place), descending) ∷ []) params old.now.trees columns xs (columns_of width) s low (λ vs. cond (seen vs) ((column vs place ∷ [], show vs) ∷ []) []) only p
       (λ x. (number_value (number x) ∷ [], show (columns x))) (λ x. (λ i. cond (tests_are x i) ((numbers x i ∷ [], show (columns x)) ∷ []) [])) a.0 a.1
-      (down number) (λ x y. last_key _ ∙ number_cmp (number y) (number x)) (down_apart number (filter p xs) up) in
+      (down number) (λ x y. then-Equal _ ∙ number_cmp (number y) (number x)) (down_apart number (filter p xs) up) in
       a.2 ∙ ap (take 1) all ∙ take_map (λ x. show (columns x)) (sort_by (down number) (filter p xs)) ∙ ap (map (λ x. show (columns x))) (down_first number (filter p xs) up)

@@ -104,7 +104,7 @@ shows_lot old new b name rows books has h s =
 alike : (s t : model.Text) → bytes_eq s t ≡ bytes_eq t s
 alike s t = same_from_decides (bytes_eq s t) (bytes_eq t s) (bytes_eq-Decides s t) (Decides-like (bytes_eq t s) sym sym (bytes_eq-Decides t s))
 
-more_than_none : (n : ℕ) → not (suc n == 0) ≡ true
+pub more_than_none : (n : ℕ) → not (suc n == 0) ≡ true
 more_than_none n = grind (arith, nat_tests)
 
 any_lot : (b : ℕ) (name : model.Text) (lots : List (Owned model.Text)) → list_any (bytes_eq name) (owned_by b lots) ≡ not (length (filter (is_lot b name) lots) == 0)

@@ -1,6 +1,7 @@
 -- What the statements mean, and what they make of the books.
 use Rattle.std.proofs.Common.{◌≡◌, ◌&&◌, ℕ, pos, List, [], ◌∷◌, ◌++◌, codes, map, true, Option, Some, None, Ok, refl, sym, ap, subst, ◌∙◌}
 use Rattle.std.proofs.lemmas.List.Sorted.{IsPermutation-refl}
+use Rattle.std.proofs.lemmas.List.{map_push}
 use Rattle.sqlite.specs.declared.types.Value.TheVariants.{Null, Int, Text}
 use Rattle.sqlite_value.specs.Order as sql
 use Rattle.sqlite_sql.specs.Term.{Term, lit, col}
@@ -13,7 +14,7 @@ use Rattle.sqlite.specs.State.{State, ExecutesInside}
 use Rattle.sql_rows.specs.Builds.{Means}
 use Rattle.sql_rows.specs.Rows.{HasRows, number_value}
 use Rattle.sqlite_schema.specs.declared.schema.Kind.TheVariants as kind
-use Rattle.sql_rows.proofs.Appends.{is_kept, map_push}
+use Rattle.sql_rows.proofs.Appends.{is_kept}
 use Rattle.sql_rows.proofs.Steps.{has_put}
 use Rattle.shop_model.specs.Calendar.{Moment}
 use Rattle.shop_model.specs.Rows.{owned_by, numbered}
@@ -51,7 +52,7 @@ holds_first old new token count h shop keyed empty =
 
 -- ---- shared rows
 
-kept_or_null : (o : Option ℕ) → (is_kept kind.Integer (or_null number_value o) && true) ≡ true
+pub kept_or_null : (o : Option ℕ) → (is_kept kind.Integer (or_null number_value o) && true) ≡ true
 kept_or_null None = refl
 kept_or_null (Some n) = refl
 

@@ -1,10 +1,9 @@
 -- Whether a branch has a rental of a moment, copy and customer.
-use Rattle.std.proofs.Common.{◌≡◌, ◌∙◌, inl, inr, refl, sym, ap, ℕ, suc, Bool, true, false, not, List, [], ◌∷◌, map, filter, length, cond, arith}
+use Rattle.std.proofs.Common.{◌≡◌, ◌∙◌, inl, inr, refl, sym, ap, ℕ, Bool, true, false, not, List, [], ◌∷◌, map, filter, length, cond}
 use Rattle.std.specs.Prelude.{◌==◌, ◌&&◌, ◌||◌}
 use Rattle.std.specs.Str.{bytes_eq}
 use Rattle.std.specs.List.{AllByRecursion, list_any}
-use Rattle.std.proofs.lemmas.Bool.{cases_Bool}
-use Rattle.std.proofs.lemmas.Bool.Decides.{nat_tests}
+use Rattle.std.proofs.lemmas.Bool.{cases_Bool, true≢false}
 use Rattle.std.proofs.lemmas.Slice.Eq.{bytes_eq-Decides}
 use Rattle.sqlite.specs.declared.types.Value.TheVariants.{Text}
 use Rattle.sqlite_value.specs.Order as sql
@@ -14,14 +13,13 @@ use Rattle.sql_rows.proofs.Projects.{still_holds}
 use Rattle.shop_model.specs.Calendar.{Moment, IsMoment, moment_text, same_moment}
 use Rattle.shop_model.specs.Rows.{Row, is_of, of}
 use Rattle.shop_model.specs.Values.{Rental}
+use Rattle.shop_model.proofs.Resent.{bytes_same, moment_same}
 use Rattle.shop_schema.specs.Tables.{shop_schema}
 use Rattle.shop_schema.specs.RowValues.{IsRow, IsRental}
 use Rattle.shop_schema.specs.Shop.{StandsFor, Reads}
-use Rattle.shop_schema.proofs.OneToOne.{one_moment, bytes_same, moment_same, moment_equal}
+use Rattle.shop_schema.proofs.OneToOne.{one_moment, moment_equal}
 use Rattle.shop_store.proofs.OnRentals.{select_same, same_means, is_same, shows_same}
-
-apart : true ≡ false → ⊥
-apart e = cc
+use Rattle.shop_store.proofs.OnCopies.{more_than_none}
 
 -- moments are the same where their texts are
 text_of_same : (a m : Moment) → IsMoment a → IsMoment m → bytes_eq (moment_text a) (moment_text m) ≡ same_moment a m
@@ -33,13 +31,10 @@ text_of_same a m p q = elim (cases_Bool (bytes_eq (moment_text a) (moment_text m
   | inr other ↦ elim (cases_Bool (same_moment a m)) [
     | inl equal ↦
         let is : a ≡ m = moment_equal a m equal in
-        absurd (apart (sym (bytes_same (moment_text m)) ∙ sym (ap (λ (it : Moment). bytes_eq (moment_text it) (moment_text m)) is) ∙ other))
+        absurd (true≢false (sym (bytes_same (moment_text m)) ∙ sym (ap (λ (it : Moment). bytes_eq (moment_text it) (moment_text m)) is) ∙ other))
     | inr differ ↦ other ∙ sym differ
   ]
 ]
-
-more_than_none : (n : ℕ) → not (suc n == 0) ≡ true
-more_than_none n = grind (arith, nat_tests)
 
 module _ (b : ℕ) (m : Moment) (x c : ℕ) (real : IsMoment m) where
   abbrev its : Rental → Bool
@@ -64,9 +59,9 @@ module _ (b : ℕ) (m : Moment) (x c : ℕ) (real : IsMoment m) where
       go true true true e q more = more_than_none (length (filter (is_same b (moment_text m) x c) rows)) ∙ sym (ap (λ (v : Bool). v || list_any its (of b rows)) q)
       go false true false e q more = more ∙ sym (ap (λ (v : Bool). v || list_any its (of b rows)) q)
       go false false t e q more = more
-      go true true false e q more = absurd (apart e)
-      go true false t e q more = absurd (apart e)
-      go false true true e q more = absurd (apart (sym e))
+      go true true false e q more = absurd (true≢false e)
+      go true false t e q more = absurd (true≢false e)
+      go false true true e q more = absurd (true≢false (sym e))
 
 pub read_same : (old new : State) (b : ℕ) (m : Moment) (x c : ℕ) (has : Bool) (rows : List sql.Row) → IsMoment m
     → Shown select_same (number_value b ∷ Text (moment_text m) ∷ number_value x ∷ number_value c ∷ []) old new rows → has ≡ not (length rows == 0)

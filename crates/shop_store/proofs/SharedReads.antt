@@ -19,7 +19,7 @@ use Rattle.sqlite_keyed.proofs.ListLemmas.{map-map}
 use Rattle.sql_rows.specs.Rows.{columns_of, number_value, flag_value}
 use Rattle.sql_rows.proofs.Bags.{length-map}
 use Rattle.sql_rows.proofs.Queries.{Selects, plain_query}
-use Rattle.sql_rows.proofs.ColumnTests.{number_test, one_tested, same_flag, same_or_null, test_of}
+use Rattle.sql_rows.proofs.ColumnTests.{number_test, one_tested, same_flag, same_or_null, test_of, same_number}
 use Rattle.sql_rows.proofs.Projects.{projects_one, still_holds}
 use Rattle.shop_model.specs.Rows.{at, is_empty, lacks, numbered}
 use Rattle.shop_model.specs.Values as model
@@ -137,9 +137,6 @@ read_film old new n rows slice h low =
     reads_first films select_film (col 1 12 ∷ []) (record { names = _; is = refl; plain = (refl, refl); unlisted = refl }) (λ vs. column vs 11 ∷ []) (λ m r. refl) old new n rows h low
     withdrawn_of (λ row v. column row 0 ≡ flag_value v) (λ books x v is. same_flag v x.withdrawn (sym is)) slice
 
-same_number : (m n : ℕ) → number_value m ≡ number_value n → n ≡ m
-same_number m n h = cc
-
 same_words : (s t : model.Text) → Text s ≡ Text t → t ≡ s
 same_words s t h = cc
 
@@ -151,7 +148,7 @@ pub read_terms : ReadsFirst films select_terms terms_of (λ row v. (column row 0
 unfolding understood everything
 read_terms old new n rows slice h low =
     reads_first films select_terms (col 1 7 ∷ col 1 6 ∷ []) (record { names = _; is = refl; plain = (refl, refl); unlisted = refl }) (λ vs. column vs 6 ∷ column vs 5 ∷ []) (λ m r. refl) old new n rows h low
-    terms_of (λ row v. (column row 0 ≡ number_value v.0) × (column row 1 ≡ number_value v.1)) (λ books x v is. let cents = same_number x.rate v.0 is.0 in let days = same_number x.period v.1 is.1 in (λ i. (cents i, days i))) slice
+    terms_of (λ row v. (column row 0 ≡ number_value v.0) × (column row 1 ≡ number_value v.1)) (λ books x v is. let cents = sym (same_number x.rate v.0 is.0) in let days = sym (same_number x.period v.1 is.1) in (λ i. (cents i, days i))) slice
 
 abbrev select_title : List ℕ
 select_title = codes "SELECT title FROM film WHERE number = ?1"
@@ -171,18 +168,18 @@ pub read_staff : ReadsFirst staff select_staff post_of (λ row v. (column row 0 
 unfolding understood everything
 read_staff old new n rows slice h low =
     reads_first staff select_staff (col 1 2 ∷ col 1 9 ∷ []) (record { names = _; is = refl; plain = (refl, refl); unlisted = refl }) (λ vs. column vs 1 ∷ column vs 8 ∷ []) (λ m r. refl) old new n rows h low
-    post_of (λ row v. (column row 0 ≡ number_value v.0) × (column row 1 ≡ flag_value v.1)) (λ books x v is. let place = same_number x.branch v.0 is.0 in let left = same_flag v.1 x.gone (sym is.1) in (λ i. (place i, left i))) slice
+    post_of (λ row v. (column row 0 ≡ number_value v.0) × (column row 1 ≡ flag_value v.1)) (λ books x v is. let place = sym (same_number x.branch v.0 is.0) in let left = same_flag v.1 x.gone (sym is.1) in (λ i. (place i, left i))) slice
 
 -- ---- a branch
 
 abbrev select_manager : List ℕ
 select_manager = codes "SELECT manager FROM branch WHERE number = ?1"
 
-number_is_some : (n : ℕ) → number_value n ≡ Null → ⊥
+pub number_is_some : (n : ℕ) → number_value n ≡ Null → ⊥
 number_is_some n h = cc
 
 pub read_manager : ReadsFirst branches select_manager manager_of (λ row v. column row 0 ≡ or_null number_value v)
 unfolding understood everything
 read_manager old new n rows slice h low =
     reads_first branches select_manager (col 1 7 ∷ []) (record { names = _; is = refl; plain = (refl, refl); unlisted = refl }) (λ vs. column vs 6 ∷ []) (λ m r. refl) old new n rows h low
-    manager_of (λ row v. column row 0 ≡ or_null number_value v) (λ books x v is. same_or_null number_value number_is_some (λ a b same. same_number b a (sym same)) v x.manager (sym is)) slice
+    manager_of (λ row v. column row 0 ≡ or_null number_value v) (λ books x v is. same_or_null number_value number_is_some same_number v x.manager (sym is)) slice

@@ -3,8 +3,8 @@ use Rattle.std.proofs.Common.{◌≡◌, ◌&&◌, ◌≤◌, ◌==◌, ℕ, Lis
 use Rattle.std.specs.Prelude.{if◌then◌else◌}
 use Rattle.std.specs.List.{flat_map, filter_map, list_all}
 use Rattle.std.proofs.lemmas.List.Sorted.{length_permutation}
+use Rattle.std.proofs.lemmas.Bool.{and_parts}
 use Rattle.sqlite.specs.declared.types.Value.{Value}
-use Rattle.sqlite.specs.declared.types.Value.TheVariants.{Int}
 use Rattle.sqlite_value.specs.Order.{Row}
 use Rattle.sqlite_trees.specs.declared.store.Shape.TheVariants.{Table as TableShape}
 use Rattle.sqlite_trees.specs.Tree.{Trees, rowid, put_row, without_rowid}
@@ -52,11 +52,6 @@ is_idle ref = is_still ref.on_delete && is_still ref.on_update
 abbrev pub are_idle : Schema → Bool
 are_idle schema = list_all (λ t. list_all is_idle t.references) schema.tables
 
-parts : (a b : Bool) → (a && b) ≡ true → (a ≡ true) × (b ≡ true)
-parts true true h = (refl, refl)
-parts true false h = cc
-parts false b h = cc
-
 still_is : (a : Action) → is_still a ≡ true → a ≡ NoAction
 still_is NoAction h = refl
 still_is Restrict h = cc
@@ -65,19 +60,19 @@ still_is SetNull h = cc
 still_is SetDefault h = cc
 
 no_deed : (deletes : Bool) (ref : Reference) → is_idle ref ≡ true → deed_for Enforced deletes ref ≡ None
-no_deed true ref h = rw (still_is ref.on_delete (parts (is_still ref.on_delete) (is_still ref.on_update) h).0)
-no_deed false ref h = rw (still_is ref.on_update (parts (is_still ref.on_delete) (is_still ref.on_update) h).1)
+no_deed true ref h = rw (still_is ref.on_delete (and_parts (is_still ref.on_delete) (is_still ref.on_update) h).0)
+no_deed false ref h = rw (still_is ref.on_update (and_parts (is_still ref.on_delete) (is_still ref.on_update) h).1)
 
 pub idle_works : (schema : Schema) (depth tree : ℕ) (olds news : List Row) → are_idle schema ≡ true → works schema Enforced depth tree olds news ≡ []
 idle_works schema depth tree olds news idle = go schema.tables idle
   where
     each : (child : Table) (refs : List Reference) → list_all is_idle refs ≡ true → filter_map (work_for schema Enforced depth tree olds news child) refs ≡ []
     each child [] h = refl
-    each child (ref ∷ refs) h = let k = parts (is_idle ref) (list_all is_idle refs) h in rw (no_deed (length news == 0) ref k.0) (each child refs k.1)
+    each child (ref ∷ refs) h = let k = and_parts (is_idle ref) (list_all is_idle refs) h in rw (no_deed (length news == 0) ref k.0) (each child refs k.1)
 
     go : (tables : List Table) → list_all (λ t. list_all is_idle t.references) tables ≡ true → flat_map (λ child. filter_map (work_for schema Enforced depth tree olds news child) child.references) tables ≡ []
     go [] h = refl
-    go (t ∷ ts) h = let k = parts (list_all is_idle t.references) (list_all (λ t. list_all is_idle t.references) ts) h in rw (each t t.references k.0) (go ts k.1)
+    go (t ∷ ts) h = let k = and_parts (list_all is_idle t.references) (list_all (λ t. list_all is_idle t.references) ts) h in rw (each t t.references k.0) (go ts k.1)
 
 -- ---- the statement
 

@@ -1,6 +1,7 @@
 -- Rowids that rise, and values that a column takes as they are.
-use Rattle.std.proofs.Common.{◌≡◌, ℤ, ◌<ℤ◌, List, [], ◌∷◌, ◌++◌, map, true, false, Bool, cond, ◌&&◌, refl, sym, ap, subst, ◌∙◌, IsTrue, Less}
+use Rattle.std.proofs.Common.{◌≡◌, ℤ, ◌<ℤ◌, List, [], ◌∷◌, true, false, Bool, cond, ◌&&◌, refl, sym, subst, ◌∙◌, IsTrue, Less}
 use Rattle.std.specs.List.{AllByRecursion}
+use Rattle.std.proofs.lemmas.Bool.{and_parts}
 use Rattle.sqlite.specs.declared.types.Value.{Value}
 use Rattle.sqlite.specs.declared.types.Value.TheVariants.{Null, Int, Real, Text, Blob}
 use Rattle.sqlite_value.specs.Order.{Row, value_cmp}
@@ -38,10 +39,6 @@ ids_above x (r ∷ rows) p all up = (below_id x r p all.0 up.0, ids_above x rows
 pub ids_rise : (rows : List Row) → IsShaped TableShape rows → IsKeyedBy id_of rows
 ids_rise [] h = tt
 ids_rise (r ∷ rows) h = (ids_above r rows h.1.0 h.1.1 h.0.0, ids_rise rows (h.0.1, h.1.1))
-
-pub map_push : {X Y : Type 0} (f : X → Y) (xs : List X) (x : X) → map f (xs ++ x ∷ []) ≡ map f xs ++ f x ∷ []
-map_push f [] x = refl
-map_push f (y ∷ xs) x = ap (λ l. f y ∷ l) (map_push f xs x)
 
 -- ---- values that a column takes as they are
 
@@ -87,12 +84,7 @@ cast_kept kind.Text (Blob b) h = cc
 cast_kept kind.Blob v h = refl
 cast_kept kind.Any v h = refl
 
-pub both : (a b : Bool) → (a && b) ≡ true → (a ≡ true) × (b ≡ true)
-both true true h = (refl, refl)
-both true false h = cc
-both false b h = cc
-
 pub cast_all_kept : (cs : List Column) (vs : Row) → are_kept cs vs ≡ true → cast_all cs vs ≡ vs
 cast_all_kept [] vs h = refl
 cast_all_kept (c ∷ cs) [] h = refl
-cast_all_kept (c ∷ cs) (v ∷ vs) h = let parts = both (is_kept c.kind v) (are_kept cs vs) h in (λ i. cast_kept c.kind v parts.0 i ∷ cast_all_kept cs vs parts.1 i)
+cast_all_kept (c ∷ cs) (v ∷ vs) h = let parts = and_parts (is_kept c.kind v) (are_kept cs vs) h in (λ i. cast_kept c.kind v parts.0 i ∷ cast_all_kept cs vs parts.1 i)

@@ -9,8 +9,9 @@ use Rattle.std.proofs.lemmas.Bool.Decides.{nat_tests}
 use Rattle.std.proofs.lemmas.List.Sorted.{IsPermutation-sym, IsPermutation-map, length_permutation}
 use Rattle.sqlite_value.specs.Order.{Row}
 use Rattle.sqlite_trees.specs.Tree.{IsAscending}
+use Rattle.sqlite_trees.proofs.ListLemmas.{all-permutation}
 use Rattle.sqlite_keyed.specs.Lists.{update_where}
-use Rattle.sqlite_keyed.proofs.ListLemmas.{map-map, map_same, filter-map, filter_same, all-map, all_unmap, along_permutation, ascending_weaker, IsPermutation-filter}
+use Rattle.sqlite_keyed.proofs.ListLemmas.{map-map, map_same, filter-map, filter_same, all-map, all_unmap, ascending_weaker, IsPermutation-filter}
 
 pub length-map : {A B : Type 0} (f : A → B) (l : List A) → length (map f l) ≡ length l
 length-map f [] = refl
@@ -55,15 +56,11 @@ module _ {X : Type 0} (narrow : Row → Row) (columns : X → Row) (test : Row �
             go true = sets x
             go false = refl
 
--- what holds of each element of a bag
-pub all_along : {X : Type 0} (P : X → Type 0) (xs ys : List X) → IsPermutation xs ys → AllByRecursion P xs → AllByRecursion P ys
-all_along P = along_permutation (λ xs ys. AllByRecursion P xs → AllByRecursion P ys) (λ xs h. h) (λ x xs ys f h. (h.0, f h.1)) (λ x y xs h. (h.1.0, (h.0, h.1.1))) (λ xs ys zs f g h. g (f h))
-
 -- each row stands for some value
 pub all_typed : {X : Type 0} (narrow : Row → Row) (columns : X → Row) (rows : List Row) (xs : List X) → IsPermutation (map narrow rows) (map columns xs) → AllByRecursion (λ r. (x : X) × (narrow r ≡ columns x)) rows
 all_typed {X} narrow columns rows xs h =
     all_unmap (λ (vs : Row). (x : X) × (vs ≡ columns x)) narrow rows
-    (all_along (λ (vs : Row). (x : X) × (vs ≡ columns x)) _ _ (IsPermutation-sym _ _ h) (all-map (λ (vs : Row). (x : X) × (vs ≡ columns x)) columns (λ x. (x, refl)) xs))
+    (all-permutation (λ (vs : Row). (x : X) × (vs ≡ columns x)) _ _ (IsPermutation-sym _ _ h) (all-map (λ (vs : Row). (x : X) × (vs ≡ columns x)) columns (λ x. (x, refl)) xs))
 
 -- ---- in order of number
 

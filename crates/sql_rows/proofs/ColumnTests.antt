@@ -14,6 +14,7 @@ use Rattle.sqlite_schema.specs.declared.schema.Kind.TheVariants as kind
 use Rattle.sqlite_sql.specs.declared.ops.BinaryOp.TheVariants.{Compare}
 use Rattle.sqlite_sql.specs.declared.ops.CompareOp.TheVariants.{Eq, Lt, Ge}
 use Rattle.sqlite_sql.specs.Ops.{binary, is_true}
+use Rattle.sqlite_tied.proofs.RuleLemmas.{and_true}
 use Rattle.sql_rows.specs.Rows.{number_value, flag_value}
 use Rattle.sql_rows.proofs.Appends.{is_kept}
 use Rattle.sql_rows.proofs.Queries.{equal_numbers, truth_of}
@@ -51,11 +52,6 @@ pub before_tested : (s t : List ℕ) → is_true (binary (Compare Lt Binary) (Te
 unfolding binary
 before_tested s t = truth_of _ ∙ ap is_lt (value_cmp-Text s t)
 
--- a list of tests ends with `true`
-pub and_true : (b : Bool) → (b && true) ≡ b
-and_true true = refl
-and_true false = refl
-
 -- a key of one column, and keys of two
 pub one_tested : {a : Bool} (x : Bool) → x ≡ a → (x && true) ≡ a
 one_tested x h = and_true x ∙ h
@@ -71,6 +67,9 @@ three_tested {a} {b} {c} x y z g h k = (λ i. g i && two_tested y z h k i) ∙ n
     nested false b c = refl
 
 -- ---- a column has one value
+
+pub same_number : (m n : ℕ) → number_value m ≡ number_value n → m ≡ n
+same_number m n h = cc
 
 pub same_flag : (a b : Bool) → flag_value a ≡ flag_value b → a ≡ b
 same_flag true true h = refl

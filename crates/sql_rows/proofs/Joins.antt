@@ -15,12 +15,12 @@ use Rattle.sqlite_sql.specs.Ops.{binary, is_true}
 use Rattle.sqlite_sql.specs.Term.{Term, Env, lit, op2, holds}
 use Rattle.sqlite_sql.specs.Query.{Query, Join, inner, left, end, counted, made, folded, first, matches, or_nulls, IsAnswer, Output, output, output_cmp, page}
 use Rattle.sqlite_sql.specs.Program.{overlay}
+use Rattle.sqlite_sql.proofs.QueryLemmas.{output_cmp_total}
 use Rattle.sqlite_keyed.specs.Lists.{sort_by}
 use Rattle.sqlite_keyed.proofs.ListLemmas.{map-flat_map, flat_map-map, flat_map_same_on, IsPermutation-flat_map, IsPermutation-flat_map_each, ascending_weaker}
 use Rattle.sqlite_keyed.proofs.SortLemmas.{sorted_is-sort_by}
 use Rattle.sql_rows.specs.Rows.{HasRows, columns_of, PicksOne, number_value}
 use Rattle.sql_rows.proofs.Bags.{bag_filter, short_bag, length-map}
-use Rattle.sql_rows.proofs.Queries.{output_total}
 use Rattle.sql_rows.proofs.ColumnTests.{one_tested, two_tested, number_tested}
 
 -- SELECT terms FROM tables WHERE terms ORDER BY terms
@@ -218,7 +218,7 @@ module _ {X : Type 0} (tree : ℕ) (more : Join) (tests shown : List Term) (orde
         let ties : IsAscending (λ a b. is_eq (output_cmp asked a b) ≡ false) target =
         ascending_weaker {A = Output} (λ a b. (is_eq (output_cmp asked a b) ≡ false) × (is_lt (output_cmp asked b a) ≡ false)) (λ a b. is_eq (output_cmp asked a b) ≡ false) (λ a b h. h.0) target up in
         let theirs : a.ordered ≡ sort_by (output_cmp asked) target =
-        sorted_is-sort_by (output_cmp asked) (output_total asked) target a.ordered ties (IsPermutation-trans _ _ _ (IsPermutation-sym _ _ same) (joined_bag rows a)) a.sorted in
+        sorted_is-sort_by (output_cmp asked) (output_cmp_total asked) target a.ordered ties (IsPermutation-trans _ _ _ (IsPermutation-sym _ _ same) (joined_bag rows a)) a.sorted in
         let ours : target ≡ sort_by (output_cmp asked) target =
-        sorted_is-sort_by (output_cmp asked) (output_total asked) target target ties (IsPermutation-refl target) (climbs_sorted asked target up) in
+        sorted_is-sort_by (output_cmp asked) (output_cmp_total asked) target target ties (IsPermutation-refl target) (climbs_sorted asked target up) in
         a.shown ∙ ap (λ os. page asked params (map (λ (o : Output). o.1) os)) (theirs ∙ sym ours)

@@ -2,7 +2,7 @@
 use Rattle.std.proofs.Common.{◌≡◌, ◌≢◌, ◌&&◌, ◌||◌, ℕ, ℤ, List, [], ◌∷◌, not, true, false, Bool, Some, slice_get, inl, inr, refl, sym, subst, Ordering, Less, Equal, Greater, is_eq, IsPermutation}
 use Rattle.std.specs.List.{AllByRecursion}
 use Rattle.std.specs.Ordering.{match_ordering}
-use Rattle.std.proofs.lemmas.Bool.{cases_eq}
+use Rattle.std.proofs.lemmas.Bool.{cases_eq, and_parts}
 use Rattle.std.proofs.lemmas.List.Sorted.{IsPermutation-refl, IsPermutation-cons, IsPermutation-trans, IsPermutation-middle}
 use Rattle.sqlite_value.specs.Order.{Row, value_cmp}
 use Rattle.sqlite_trees.specs.declared.store.Shape.TheVariants.{Table as TableShape}
@@ -15,7 +15,6 @@ use Rattle.sqlite_schema.specs.declared.schema.Keys.{Keys}
 use Rattle.sqlite_rules.specs.Edit.{Edit, Applies, edited, left_by, without_all, put_all, is_taken, are_fresh, have_rowids}
 use Rattle.sqlite_keyed.proofs.ListLemmas.{all-slice_get}
 use Rattle.sql_rows.specs.Rows.{AreKeyed}
-use Rattle.sql_rows.proofs.Appends.{both}
 
 -- ---- a row with a rowid of its own takes no other row's place, in whatever order the rows stand
 
@@ -44,7 +43,7 @@ without_shaped (id ∷ ids) rows h = without_shaped ids (without_rowid id rows) 
 
 put_shaped : (news rows : List Row) → have_rowids news ≡ true → IsShaped TableShape rows → IsShaped TableShape (put_all rows news)
 put_shaped [] rows keyed h = h
-put_shaped (new ∷ news) rows keyed h = let k = both (is_int (rowid new)) (have_rowids news) keyed in put_shaped news (put_row new rows) k.1 (IsShaped-put_row new rows k.0 h)
+put_shaped (new ∷ news) rows keyed h = let k = and_parts (is_int (rowid new)) (have_rowids news) keyed in put_shaped news (put_row new rows) k.1 (IsShaped-put_row new rows k.0 h)
 
 all_but : (at : ℕ) (old new : Trees) (tables : List Table) → AllByRecursion (λ t. t.tree ≢ at → new t.tree ≡ old t.tree) tables → IsShaped TableShape (new at)
     → AllByRecursion (λ t. IsShaped TableShape (old t.tree)) tables → AllByRecursion (λ t. IsShaped TableShape (new t.tree)) tables

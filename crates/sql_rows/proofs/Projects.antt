@@ -5,6 +5,7 @@ use Rattle.std.proofs.lemmas.List.Sorted.{IsPermutation-sym, length_permutation}
 use Rattle.sqlite_value.specs.Order.{Row, column}
 use Rattle.sqlite_value.specs.Keys.{ascending}
 use Rattle.sqlite_value.specs.declared.keys.Collation.TheVariants.{Binary}
+use Rattle.sqlite_value.proofs.OrderLemmas.{then-Equal}
 use Rattle.sqlite_trees.specs.Tree.{Trees}
 use Rattle.sqlite_sql.specs.Term.{Term, col, holds}
 use Rattle.sqlite_sql.specs.Query.{Query, Output, output}
@@ -20,7 +21,7 @@ use Rattle.sql_rows.specs.Books.{IsOf, Changes}
 use Rattle.sql_rows.specs.Calls.{Holds, Writes}
 use Rattle.sql_rows.proofs.Bags.{short_bag, length-map, no_ties}
 use Rattle.sql_rows.proofs.Inside.{shown_same}
-use Rattle.sql_rows.proofs.Queries.{Selects, plain_query, answers, reads_bag, reads_sorted, number_cmp, last_key}
+use Rattle.sql_rows.proofs.Queries.{Selects, plain_query, answers, reads_bag, reads_sorted, number_cmp}
 
 -- `seen` is the filter and `show` the columns that are shown, both written over the columns; `tests_are` says that of a value's columns the filter is `p`
 module _ {X : Type 0} (schema : Schema) (sql : List ℕ) (tree width : ℕ) (tests shown : List Term) (means : Selects schema sql (plain_query tree tests shown []))
@@ -62,7 +63,7 @@ module _ {X : Type 0} (schema : Schema) (sql : List ℕ) (tree width : ℕ) (tes
   projects_sorted only number numbers apart =
       reads_sorted tree tests shown ((col 1 (suc place), ascending Binary) ∷ []) params old.now.trees columns xs (columns_of width) s low (λ vs. cond (seen vs) ((column vs place ∷ [], show vs) ∷ []) []) only p
       (λ x. (number_value (number x) ∷ [], show (columns x))) (λ x. (λ i. cond (tests_are x i) ((numbers x i ∷ [], show (columns x)) ∷ []) [])) rows (answers schema sql sorted params old new has means rows h)
-      (by number) (λ x y. last_key _ ∙ number_cmp (number x) (number y)) (no_ties number (filter p xs) apart)
+      (by number) (λ x y. then-Equal _ ∙ number_cmp (number x) (number y)) (no_ties number (filter p xs) apart)
 
 module _ {B : Type 0} (schema : Schema) (Stands : Trees → B → Type 0) where
   -- a query leaves the tables as they were

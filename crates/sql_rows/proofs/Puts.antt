@@ -1,27 +1,22 @@
 -- What an INSERT of one row with values does, in any schema.
-use Rattle.std.proofs.Common.{◌≡◌, ◌+◌, ◌/◌, ◌&&◌, ℕ, ℤ, zero, suc, List, [], ◌∷◌, ◌++◌, length, take, slice_get, append-nil, true, false, Bool, Some, None, Option, Ok, Err, Result, ◌⊎◌, inl, inr, refl, sym, ap, subst, ◌∙◌, cond}
+use Rattle.std.proofs.Common.{◌≡◌, ◌/◌, ℕ, ℤ, List, [], ◌∷◌, length, slice_get, append-nil, false, Some, None, Option, Ok, Err, Result, ◌⊎◌, inl, inr, sym, ap, subst, ◌∙◌}
 use Rattle.std.specs.Prelude.{if◌then◌else◌}
-use Rattle.std.specs.List.{flat_map, filter_map}
 use Rattle.sqlite_value.specs.Order.{Row}
 use Rattle.sqlite_trees.specs.Tree.{Trees}
 use Rattle.sqlite_sql.specs.Term.{Term, eval_all}
 use Rattle.sqlite.specs.Schema.{Schema}
 use Rattle.sqlite.specs.Table.{Table}
-use Rattle.sqlite_schema.specs.declared.schema.Keys.{Keys}
 use Rattle.sqlite_schema.specs.declared.schema.Keys.TheVariants.{Enforced}
-use Rattle.sqlite_schema.specs.declared.schema.Reference.{Reference}
-use Rattle.sqlite_schema.specs.Rules.{ParentKey, parent_key}
 use Rattle.sqlite.specs.Source.TheVariants.{Values}
 use Rattle.sqlite.specs.Command.TheVariants.{Insert}
-use Rattle.sqlite_rules.specs.declared.action.Deed.{Deed}
 use Rattle.sqlite_rules.specs.declared.error.Rowids.TheVariants.{Chosen}
 use Rattle.sqlite_rules.specs.Edit.{edit_of, Applies}
-use Rattle.sqlite_rules.specs.Action.{works, work_for, work_by, deed_for}
 use Rattle.sqlite.specs.declared.run.Mode.{Mode}
 use Rattle.sqlite.specs.Effect.{Database, value_rows}
 use Rattle.sqlite.specs.Listing.{understood}
 use Rattle.sqlite.specs.Rows.{Task, Written, Inserts, Edited, stamped, rowids_for, count_of, Counts}
 use Rattle.sqlite_rules.specs.declared.error.Rowids.{Rowids}
+use Rattle.sqlite_rules.proofs.ActionLemmas.{no_works}
 use Rattle.sqlite.specs.Does.{Tally, Does, OnRows, Concludes}
 use Rattle.sqlite.specs.State.{State, mode_of, Shows, Executes}
 pub use Rattle.sql_rows.specs.Builds.{Means}
@@ -45,27 +40,6 @@ pub concluded : (task : Task) (mode : Mode) (w : Written) (tally : Tally) (after
 concluded task mode w tally after h = let shown = went (went h).2 in ap (λ (p : Tally × Database). p.1) (same_value shown.2)
 
 -- ---- the actions of foreign keys
-
-neither : {X : Type 0} (b : Bool) (x : Option X) → cond (b && false) x None ≡ None
-neither true x = refl
-neither false x = refl
-
-no_work : (depth tree : ℕ) (child : Table) (ref : Reference) (deed : Option Deed) (key : Option ParentKey) → work_by depth tree [] child ref deed key ≡ None
-no_work depth tree child ref None key = refl
-no_work depth tree child ref (Some deed) None = refl
-no_work depth tree child ref (Some deed) (Some key) = neither (Rattle.std.proofs.Common.eqb key.0 tree) _
-
--- where no row is taken out, nothing is set off
-pub no_works : (schema : Schema) (keys : Keys) (depth tree : ℕ) (news : List Row) → works schema keys depth tree [] news ≡ []
-no_works schema keys depth tree news = go schema.tables
-  where
-    each : (child : Table) (refs : List Reference) → filter_map (work_for schema keys depth tree [] news child) refs ≡ []
-    each child [] = refl
-    each child (ref ∷ refs) = rw (no_work depth tree child ref (deed_for keys (Rattle.std.proofs.Common.eqb (length news) 0) ref) (parent_key schema.tables ref)) (each child refs)
-
-    go : (tables : List Table) → flat_map (λ child. filter_map (work_for schema keys depth tree [] news child) child.references) tables ≡ []
-    go [] = refl
-    go (t ∷ ts) = rw (each t t.references) (go ts)
 
 -- ---- one row
 

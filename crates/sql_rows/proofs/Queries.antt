@@ -1,22 +1,21 @@
 -- What a query of one table with a filter and an order shows.
-use Rattle.std.proofs.Common.{◌≡◌, ◌+◌, ◌<◌, ◌==◌, ◌&&◌, ℕ, ℤ, pos, negsuc, eqb, List, [], ◌∷◌, ◌++◌, map, filter, true, false, Bool, cond, Some, None, refl, sym, ap, subst, subst₂, ◌∙◌, arith, Less, Equal, Greater, Ordering, is_eq, is_lt, IsPermutation, IsSorted, int_cmp}
+use Rattle.std.proofs.Common.{◌≡◌, ◌+◌, ◌==◌, ℕ, pos, negsuc, List, [], ◌∷◌, ◌++◌, map, filter, true, false, Bool, cond, Some, None, refl, sym, ap, subst, subst₂, ◌∙◌, arith, Ordering, is_eq, IsPermutation, int_cmp}
 use Rattle.std.specs.List.{flat_map, list_all}
-use Rattle.std.specs.Cmp.{IsTotalOrder, on_total, then_total}
 use Rattle.std.proofs.lemmas.Int.{ints}
 use Rattle.std.proofs.lemmas.Bool.Decides.{nat_tests}
 use Rattle.sqlite.specs.declared.types.Value.TheVariants.{Null, Int}
-use Rattle.sqlite_value.specs.Order.{Row, column, value_cmp}
+use Rattle.sqlite_value.specs.Order.{Row, value_cmp}
 use Rattle.sqlite_value.specs.declared.keys.Key.{Key}
 use Rattle.sqlite_value.specs.declared.keys.Collation.TheVariants.{Binary}
 use Rattle.sqlite_value.proofs.OrderLemmas.{value_cmp-Int}
-use Rattle.sqlite_value.proofs.KeyLemmas.{by_key_total}
 use Rattle.sqlite_trees.specs.Tree.{Trees, IsAscending}
 use Rattle.sqlite_sql.specs.declared.ops.BinaryOp.TheVariants.{Compare}
 use Rattle.sqlite_sql.specs.declared.ops.CompareOp.TheVariants.{Eq}
 use Rattle.sqlite_sql.specs.Ops.{binary, is_true, from_truth}
 use Rattle.sqlite_sql.specs.Term.{Term, lit, holds}
-use Rattle.sqlite_sql.specs.Query.{Query, inner, end, IsAnswer, Output, output, output_cmp, key_cmp, page}
+use Rattle.sqlite_sql.specs.Query.{Query, inner, end, IsAnswer, Output, output, output_cmp, page}
 use Rattle.sqlite_sql.specs.Program.{overlay}
+use Rattle.sqlite_sql.proofs.QueryLemmas.{output_cmp_total}
 use Rattle.sqlite.specs.Schema.{Schema}
 use Rattle.sqlite.specs.Command.TheVariants.{Select}
 use Rattle.sqlite.specs.Listing.{understood, reads_listing}
@@ -26,7 +25,7 @@ use Rattle.sqlite_keyed.proofs.ListLemmas.{map-map, map-flat_map, flat_map-map, 
 use Rattle.sqlite_keyed.proofs.ListLemmas.{ascending_weaker, IsPermutation-flat_map}
 use Rattle.sqlite_keyed.proofs.SortLemmas.{sorted_is-sort_by, sort_by-map}
 use Rattle.sqlite_keyed.specs.Lists.{sort_by}
-use Rattle.std.specs.Ordering.{nat_cmp, ordering_then}
+use Rattle.std.specs.Ordering.{nat_cmp}
 use Rattle.std.proofs.lemmas.List.Sorted.{IsPermutation-sym, IsPermutation-trans, IsPermutation-map}
 use mathlib.Core.Path.{fun_ext}
 
@@ -56,16 +55,9 @@ pub answers : (schema : Schema) (sql : List ℕ) (q : Query) (params : Row) (old
 answers schema sql q params old new has means rows h =
     (reads_as sql params old new schema has (Select (record { lets = []; body = q }) means.names) means.is means.plain means.unlisted rows h).answer Null
 
-pub key_cmp_total : (at : ℕ) (keys : List Key) → IsTotalOrder (key_cmp at keys)
-key_cmp_total at [] = record { antisymm = λ x y. refl; trans = λ x y z p q. p; congr = λ x y z p. refl }
-key_cmp_total at (k ∷ keys) = then_total (on_total (λ r. column r at) (by_key_total k)) (key_cmp_total (Rattle.std.proofs.Common.suc at) keys)
-
-pub output_total : (q : Query) → IsTotalOrder (output_cmp q)
-output_total q = on_total (λ (o : Output). o.0) (key_cmp_total 0 (map (λ k. k.1) q.order))
-
-picked : {X Y : Type 0} (p : X → Bool) (f : X → Y) (xs : List X) → flat_map (λ x. cond (p x) (f x ∷ []) []) xs ≡ map f (filter p xs)
-picked p f [] = refl
-picked p f (x ∷ xs) = go (p x) (picked p f xs)
+pub kept_as_map : {X Y : Type 0} (p : X → Bool) (f : X → Y) (xs : List X) → flat_map (λ x. cond (p x) (f x ∷ []) []) xs ≡ map f (filter p xs)
+kept_as_map p f [] = refl
+kept_as_map p f (x ∷ xs) = go (p x) (kept_as_map p f xs)
   where
     go : (b : Bool) → flat_map (λ x. cond (p x) (f x ∷ []) []) xs ≡ map f (filter p xs) → cond b (f x ∷ []) [] ++ flat_map (λ x. cond (p x) (f x ∷ []) []) xs ≡ map f (cond b (x ∷ filter p xs) (filter p xs))
     go true more = ap (λ l. f x ∷ l) more
@@ -91,7 +83,7 @@ module _ {X : Type 0} (tree : ℕ) (tests shown : List Term) (order : List (Term
         ∙ ap (flat_map (λ r. map (output q) (cond (list_all (holds (params ∷ r ∷ [])) tests) ((params ∷ r ∷ []) ∷ []) []))) low
         ∙ flat_map_same_on _ (λ r. sees (narrow r)) (λ r. one_output (output q) (list_all (holds (params ∷ r ∷ [])) tests) (params ∷ r ∷ []) ∙ only r) (db tree)
         ∙ sym (flat_map-map sees narrow (db tree)) ∙ ap (flat_map sees) has ∙ flat_map-map sees columns xs
-        ∙ flat_map_same_on _ (λ x. cond (p x) (out x ∷ []) []) picks xs ∙ picked p out xs
+        ∙ flat_map_same_on _ (λ x. cond (p x) (out x ∷ []) []) picks xs ∙ kept_as_map p out xs
 
 -- The same of rows as a bag. Nothing is asked of the rowids.
 module _ {X : Type 0} (tree : ℕ) (tests shown : List Term) (order : List (Term × Key)) (params : Row) (db : Trees) (columns : X → Row) (xs : List X)
@@ -111,7 +103,7 @@ module _ {X : Type 0} (tree : ℕ) (tests shown : List Term) (order : List (Term
         ∙ ap (flat_map (λ r. map (output asked) (cond (list_all (holds (params ∷ r ∷ [])) tests) ((params ∷ r ∷ []) ∷ []) []))) low
         ∙ flat_map_same_on _ (λ r. sees (narrow r)) (λ r. one_output (output asked) (list_all (holds (params ∷ r ∷ [])) tests) (params ∷ r ∷ []) ∙ only r) (db tree)
         ∙ sym (flat_map-map sees narrow (db tree)) in
-        let spec : flat_map sees (map columns xs) ≡ map out (filter p xs) = flat_map-map sees columns xs ∙ flat_map_same_on _ (λ x. cond (p x) (out x ∷ []) []) picks xs ∙ picked p out xs in
+        let spec : flat_map sees (map columns xs) ≡ map out (filter p xs) = flat_map-map sees columns xs ∙ flat_map_same_on _ (λ x. cond (p x) (out x ∷ []) []) picks xs ∙ kept_as_map p out xs in
         let same : IsPermutation (flat_map sees (map narrow (db tree))) (map out (filter p xs)) = subst (IsPermutation _) spec (IsPermutation-flat_map sees _ _ has) in
         IsPermutation-trans _ _ _ (IsPermutation-sym _ _ same) (subst (λ k. IsPermutation k a.ordered) seen a.same)
 
@@ -127,7 +119,7 @@ module _ {X : Type 0} (tree : ℕ) (tests shown : List Term) (order : List (Term
         let ys = filter p xs in
         let ties : IsAscending (λ a b. is_eq (output_cmp asked a b) ≡ false) (map out ys) =
         ascending-map (λ a b. is_eq (output_cmp asked a b) ≡ false) out ys (ascending_weaker {A = X} (λ x y. is_eq (cmp x y) ≡ false) (λ x y. is_eq (output_cmp asked (out x) (out y)) ≡ false) (λ x y h. ap is_eq (cmps x y) ∙ h) ys apart) in
-        let is = sorted_is-sort_by (output_cmp asked) (output_total asked) (map out ys) a.ordered ties (ordered_bag rows a) a.sorted in
+        let is = sorted_is-sort_by (output_cmp asked) (output_cmp_total asked) (map out ys) a.ordered ties (ordered_bag rows a) a.sorted in
         let same : sort_by (output_cmp asked) (map out ys) ≡ map out (sort_by cmp ys) =
         sort_by-map (output_cmp asked) out ys ∙ ap (λ (c : X → X → Ordering). map out (sort_by c ys)) (fun_ext (λ x. fun_ext (λ y. cmps x y))) in
         a.shown ∙ ap (λ os. page asked params (map (λ (o : Output). o.1) os)) (is ∙ same) ∙ map-map (λ (o : Output). o.1) out (sort_by cmp ys)
@@ -147,11 +139,6 @@ equal_numbers m n = truth_of _ ∙ ap is_eq (value_cmp-Int (pos m) (pos n)) ∙ 
 
 pub number_cmp : (m n : ℕ) → value_cmp (Int (pos m)) (Int (pos n)) ≡ nat_cmp m n
 number_cmp m n = value_cmp-Int (pos m) (pos n) ∙ grind (arith, ints, nat_tests)
-
-pub last_key : (o : Ordering) → ordering_then o Equal ≡ o
-last_key Less = refl
-last_key Equal = refl
-last_key Greater = refl
 
 -- lists of values with one spelling each
 pub unmapped : {X Y : Type 0} (f : X → Y) → ((a b : X) → f a ≡ f b → a ≡ b) → (xs ys : List X) → map f xs ≡ map f ys → xs ≡ ys

@@ -1,5 +1,5 @@
 -- A step that takes one row out and puts another in at its rowid.
-use Rattle.std.proofs.Common.{◌≡◌, ◌<ℤ◌, ℤ, List, [], ◌∷◌, filter, true, false, Bool, cond, refl, sym, ap, subst, ◌∙◌, arith, IsTrue, Less, Greater, is_eq, int_cmp}
+use Rattle.std.proofs.Common.{◌≡◌, ◌<ℤ◌, ℤ, List, [], ◌∷◌, filter, true, false, Bool, cond, refl, sym, ap, subst, ◌∙◌, arith, IsTrue, Greater, is_eq, int_cmp}
 use Rattle.std.specs.List.{AllByRecursion}
 use Rattle.std.proofs.lemmas.Int.{ints}
 use Rattle.sqlite.specs.declared.types.Value.TheVariants.{Int}
@@ -11,6 +11,7 @@ use Rattle.sqlite_trees.specs.View.{IsShaped, is_int}
 use Rattle.sqlite_keyed.specs.Keyed.{IsKeyedBy}
 use Rattle.sqlite_keyed.specs.Lists.{update_where}
 use Rattle.sqlite_keyed.proofs.ListLemmas.{all-filter}
+use Rattle.sqlite_keyed.proofs.KeyedLemmas.{Less-from_lt}
 use Rattle.sql_rows.proofs.Appends.{int_is, id_of, ids_rise}
 
 abbrev pub AreInts : List Row → Type 0
@@ -33,9 +34,6 @@ same_id a = grind (arith, ints)
 
 greater : (a b : ℤ) → a <ℤ b → int_cmp b a ≡ Greater
 greater a b h = grind (arith, ints)
-
-less : (a b : ℤ) → a <ℤ b → int_cmp a b ≡ Less
-less a b h = grind (arith, ints)
 
 -- none of the later rows has the id
 pub spared : (id : ℤ) (rows : List Row) → AreInts rows → AllByRecursion (λ r. id <ℤ id_of r) rows → without_rowid id rows ≡ rows
@@ -71,7 +69,7 @@ module _ (p : Row → Bool) (f : Row → Row) (keeps : (r : Row) → id_of (f r)
       go false h more =
           let lows : AllByRecursion (λ y. id_of r <ℤ id_of y) (x ∷ []) = subst (AllByRecursion (λ y. id_of r <ℤ id_of y)) h (all-filter (λ y. id_of r <ℤ id_of y) p rows up.0) in
           let low = lows.0 in
-          rw (has_id (id_of x) r all.0, apart_down (id_of r) (id_of x) low, cmp_ids r (f x) all.0 (ints_stay x), keeps x, less (id_of r) (id_of x) low) (ap (λ l. r ∷ l) (more h))
+          rw (has_id (id_of x) r all.0, apart_down (id_of r) (id_of x) low, cmp_ids r (f x) all.0 (ints_stay x), keeps x, Less-from_lt (id_of r) (id_of x) low) (ap (λ l. r ∷ l) (more h))
 
   pub sets_one : (rows : List Row) (x : Row) → IsShaped TableShape rows → filter p rows ≡ x ∷ [] → put_row (f x) (without_rowid (id_of x) rows) ≡ update_where p f rows
   sets_one rows x shaped one = set_one rows x shaped.1 (ids_rise rows shaped) one

@@ -1,25 +1,24 @@
 -- One call after another.
-use Rattle.std.proofs.Common.{arith, ◌≡◌, true, false, Ok, Err, Result, ◌∙◌, refl}
+use Rattle.std.proofs.Common.{arith, true, Ok, Err, Result, ◌∙◌, refl}
 use Rattle.std.specs.Borrow.{MutBor}
 use Rattle.std.specs.Prelude.{IsOk, IsErr, OnOk}
+use Rattle.std.proofs.lemmas.Bool.{false≢true}
 use Rattle.sqlite_trees.specs.declared.store.Store.{Ghosts}
 use Rattle.sqlite.specs.Held.{Held, state}
 use Rattle.sqlite.specs.State.{State, HasCleanDisk, Shows, Survives}
 use Rattle.sqlite.proofs.StateLemmas.{survives_then}
 use Rattle.sqlite.proofs.Callers.{unchanged_then}
+use Rattle.sqlite.proofs.InsideLemmas.{keeps_then}
 use Rattle.sql_rows.specs.Calls.{StaysInside, StaysSame, StaysWithin}
-use Rattle.sql_rows.proofs.Inside.{keeps_then, on_ok, on_ok_then, survives_nothing}
-
-apart : false ≡ true → ⊥
-apart e = cc
+use Rattle.sql_rows.proofs.Inside.{on_ok, on_ok_then, survives_nothing}
 
 not_both : {X E : Type 0} (r : Result X E) → IsOk r → IsErr r → ⊥
-not_both (Ok x) ok err = apart err
-not_both (Err e) ok err = apart ok
+not_both (Ok x) ok err = false≢true err
+not_both (Err e) ok err = false≢true ok
 
 ok_when : {X E Y F : Type 0} (r : Result X E) (s : Result Y F) (P : Type 0) → (IsOk s → IsOk r) → OnOk r P → OnOk s P
 ok_when (Ok x) s P ok p = on_ok s p
-ok_when (Err e) (Ok y) P ok p = absurd (apart (ok refl))
+ok_when (Err e) (Ok y) P ok p = absurd (false≢true (ok refl))
 ok_when (Err e) (Err f) P ok p = tt
 
 pub survives_more : (a b c : State) → Survives a b (λ _. ⊥) → Survives b c (λ _. ⊥) → Survives a c (λ _. ⊥)

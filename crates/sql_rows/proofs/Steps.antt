@@ -8,6 +8,7 @@ use Rattle.sqlite_value.specs.Order.{Row, column}
 use Rattle.sqlite_value.specs.Keys.{ascending}
 use Rattle.sqlite_value.specs.declared.keys.Key.{Key}
 use Rattle.sqlite_value.specs.declared.keys.Collation.TheVariants.{Binary}
+use Rattle.sqlite_value.proofs.OrderLemmas.{then-Equal}
 use Rattle.sqlite_trees.specs.declared.store.Shape.TheVariants.{Table as TableShape}
 use Rattle.sqlite_trees.specs.Tree.{Trees, rowid}
 use Rattle.sqlite_trees.specs.View.{IsShaped, is_int}
@@ -32,7 +33,7 @@ use Rattle.sql_rows.proofs.Appends.{id_of, int_is, cast_int, cast_all_kept, are_
 use Rattle.sql_rows.proofs.Keyed.{keyed_at, applies_keyed}
 use Rattle.sql_rows.proofs.Puts.{IsPlainTable, Puts, inserts}
 use Rattle.sql_rows.proofs.PutsRow.{puts_values}
-use Rattle.sql_rows.proofs.Queries.{Selects, plain_query, answers, reads_bag, reads_sorted, number_cmp, last_key}
+use Rattle.sql_rows.proofs.Queries.{Selects, plain_query, answers, reads_bag, reads_sorted, number_cmp}
 use Rattle.sql_rows.proofs.Bags.{as_many, bag_update, all_typed, no_ties, short_bag, length-map}
 use Rattle.sql_rows.proofs.Alters.{Moves, are_idle, updates, moved}
 
@@ -96,7 +97,7 @@ module _ {X : Type 0} (schema : Schema) (sql : List ℕ) (tree width : ℕ) (tes
   selects_sorted only number numbers apart =
       reads_sorted tree tests shown ((col 1 (suc place), ascending Binary) ∷ []) params old.now.trees columns xs (columns_of width) s low (λ vs. cond (seen vs) ((column vs place ∷ [], vs) ∷ []) []) only p
       (λ x. (number_value (number x) ∷ [], columns x)) (λ x. (λ i. cond (tests_are x i) ((numbers x i ∷ [], columns x) ∷ []) [])) rows (answers schema sql sorted params old new has means rows h)
-      (by number) (λ x y. last_key _ ∙ number_cmp (number x) (number y)) (no_ties number (filter p xs) apart)
+      (by number) (λ x y. then-Equal _ ∙ number_cmp (number x) (number y)) (no_ties number (filter p xs) apart)
 
 -- ---- UPDATE of at most one row
 

@@ -8,6 +8,7 @@ use Rattle.sqlite_value.specs.Order.{Row}
 use Rattle.sqlite_trees.specs.declared.store.Shape.TheVariants.{Table as TableShape}
 use Rattle.sqlite_trees.specs.Tree.{rowid}
 use Rattle.sqlite_trees.specs.View.{IsShaped, is_int}
+use Rattle.sqlite_trees.proofs.ListLemmas.{all-permutation}
 use Rattle.sqlite_schema.specs.declared.schema.Keys.TheVariants.{Enforced}
 use Rattle.sqlite_schema.specs.declared.schema.Kind.TheVariants as kind
 use Rattle.sqlite_schema.specs.declared.command.Returning.{Returning}
@@ -33,7 +34,7 @@ use Rattle.sql_rows.proofs.Appends.{id_of, int_is, cast_int, cast_all_kept, are_
 use Rattle.sql_rows.proofs.Keyed.{keyed_at, applies_keyed}
 use Rattle.sql_rows.proofs.Puts.{same_value}
 use Rattle.sql_rows.proofs.Queries.{plain_query}
-use Rattle.sql_rows.proofs.Bags.{as_many, bag_update, bag_filter, all_along, short_bag, length-map}
+use Rattle.sql_rows.proofs.Bags.{as_many, bag_update, bag_filter, short_bag, length-map}
 use Rattle.sql_rows.proofs.Alters.{Moves, are_idle, moved, sources}
 use Rattle.sql_rows.proofs.Showing.{MeansShowing, updates_showing, one_shown}
 
@@ -132,7 +133,7 @@ module _ {X : Type 0} (schema : Schema) (sql : List ℕ) (at : ℕ) (table : Tab
               let types : AllByRecursion (λ r. (c : X) × IsFit c × (columns_of width r ≡ columns c)) (x ∷ []) = subst (AllByRecursion (λ r. (c : X) × IsFit c × (columns_of width r ≡ columns c))) found
               (all-filter (λ r. (c : X) × IsFit c × (columns_of width r ≡ columns c)) test tree
               (all_unmap (λ (vs : Row). (c : X) × IsFit c × (vs ≡ columns c)) (columns_of width) tree
-              (all_along (λ (vs : Row). (c : X) × IsFit c × (vs ≡ columns c)) _ _ (IsPermutation-sym _ _ s) (fit_rows columns seen p set g IsFit tests_are sets_are xs all)))) in
+              (all-permutation (λ (vs : Row). (c : X) × IsFit c × (vs ≡ columns c)) _ _ (IsPermutation-sym _ _ s) (fit_rows columns seen p set g IsFit tests_are sets_are xs all)))) in
               let ints : AllByRecursion (λ r. IsTrue (is_int (rowid r))) (x ∷ []) = subst (AllByRecursion (λ r. IsTrue (is_int (rowid r)))) found (all-filter (λ r. IsTrue (is_int (rowid r))) test tree keyed.1) in
               let fits : are_kept table.columns (set (columns_of width x)) ≡ true = ap (λ vs. are_kept table.columns (set vs)) types.0.2 ∙ kept types.0.0 types.0.1 in
               ap (cast_row table) (sets_shown x) ∙ casts (rowid x) (set (columns_of width x))

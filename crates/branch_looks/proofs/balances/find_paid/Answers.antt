@@ -7,7 +7,7 @@ use Rattle.shop_types.specs.Seen.{seen_payment}
 use Rattle.shop_ledger.specs.declared.payments.PaymentRow.{PaymentRow}
 use Rattle.balance_rule.specs.declared.rows.Paid.{Paid}
 use Rattle.balance_rule.specs.Balance.{paid_of}
-use Rattle.branch_looks.proofs.Readings.{reads_as}
+use Rattle.shop_schema.proofs.Readings.{reads_as}
 use Rattle.branch_looks.proofs.balances.find_paid.Goals as goal
 
 abbrev paid : PaymentRow → Paid

@@ -7,7 +7,7 @@ use Rattle.shop_model.specs.Books.{shop_of}
 use Rattle.shop_types.specs.Seen.{seen_rental}
 use Rattle.shop_store.specs.declared.rentals.RentalRow.{RentalRow}
 use Rattle.balance_rule.specs.Balance.{terms_of}
-use Rattle.branch_looks.proofs.Readings.{reads_then, reads_as}
+use Rattle.shop_schema.proofs.Readings.{reads_then, reads_as}
 use Rattle.branch_looks.proofs.balances.find_terms.Goals as goal
 
 pub returns-clause-found : goal.returns-clause-found

@@ -1,7 +1,7 @@
 use Rattle.std.proofs.Common.{◌∙◌, sym, ap, option_map}
 use Rattle.sqlite.specs.Held.{state}
 use Rattle.shop_store.specs.SharedSeen.{seen_terms}
-use Rattle.branch_looks.proofs.Readings.{reads_as}
+use Rattle.shop_schema.proofs.Readings.{reads_as}
 use Rattle.branch_looks.proofs.TermLemmas.{known_more}
 use Rattle.branch_looks.proofs.balances.terms_once.Goals as goal
 

@@ -10,7 +10,7 @@ use Rattle.shop_types.specs.Seen.{seen_rental}
 use Rattle.shop_store.specs.declared.rentals.RentalRow.{RentalRow}
 use Rattle.balance_rule.specs.declared.rows.RentalTerms.{RentalTerms}
 use Rattle.balance_rule.specs.Balance.{terms_of}
-use Rattle.branch_looks.proofs.Readings.{reads_then, reads_as, reads_none}
+use Rattle.shop_schema.proofs.Readings.{reads_then, reads_as, reads_none}
 use Rattle.branch_looks.proofs.TermLemmas.{none_known}
 use Rattle.branch_looks.proofs.balances.with_terms.Goals as goal
 

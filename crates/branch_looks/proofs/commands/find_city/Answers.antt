@@ -1,7 +1,7 @@
 use Rattle.std.proofs.Common.{◌≡◌, sym, subst, ℕ, Option, IfSome, not}
 use Rattle.sqlite.specs.Held.{state}
 use Rattle.shop_model.specs.Rows.{lacks}
-use Rattle.branch_looks.proofs.Readings.{reads_as}
+use Rattle.shop_schema.proofs.Readings.{reads_as}
 use Rattle.branch_looks.proofs.commands.find_city.Goals as goal
 
 pub returns-in_ok-has_city-in-Some-clause-found : goal.returns-in_ok-has_city-in-Some-clause-found

@@ -5,8 +5,8 @@ use Rattle.sqlite.specs.State.{HasCleanDisk}
 use Rattle.sql_rows.proofs.Stays.{within_as, within_err, within_of, within_then}
 use Rattle.stock_csv.specs.declared.StockRow.{StockRow}
 use Rattle.branch_core.specs.declared.found.StockFound.{StockFound}
+use Rattle.shop_schema.proofs.Readings.{reads_then, reads_as}
 use Rattle.branch_looks.specs.Commands.{as_listed, found_row, told_row}
-use Rattle.branch_looks.proofs.Readings.{reads_then, reads_as}
 use Rattle.branch_looks.proofs.Stocks.{row_found, row_listed}
 use Rattle.branch_looks.proofs.commands.find_films.Goals as goal
 

@@ -8,8 +8,8 @@ use Rattle.shop_model.specs.Shop.{Shop}
 use Rattle.shop_model.specs.Books.{shop_of}
 use Rattle.shop_types.specs.Seen.{seen_act}
 use Rattle.branch_core.specs.Agreed.{active_at, copy_at, rental_at, seen_copy, seen_rental, IsOut, customer_in, copy_in, has_same_rental}
+use Rattle.shop_schema.proofs.Readings.{reads_as}
 use Rattle.branch_looks.specs.Commands.{has_same}
-use Rattle.branch_looks.proofs.Readings.{reads_as}
 use Rattle.branch_looks.proofs.Chained.{Calls, call_inside, call_within, calls_then}
 use Rattle.branch_looks.proofs.commands.find_for_command.Given.{Over}
 use Rattle.branch_looks.proofs.commands.find_for_command.Goals.{After-find_city, After-find_copy, After-find_import, After-find_same}

@@ -9,7 +9,7 @@ use Rattle.sql_rows.proofs.Stays.{within_as, within_err, within_of, within_then}
 use Rattle.shop_types.specs.declared.command.Act.{Act}
 use Rattle.shop_types.specs.Seen.{seen_act}
 use Rattle.branch_core.specs.Agreed.{ImportAgrees, import_in}
-use Rattle.branch_looks.proofs.Readings.{reads_then, reads_as}
+use Rattle.shop_schema.proofs.Readings.{reads_then, reads_as}
 use Rattle.branch_looks.proofs.commands.find_import.Goals as goal
 
 pub returns-clause-found : goal.returns-clause-found

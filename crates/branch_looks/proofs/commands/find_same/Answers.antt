@@ -1,8 +1,8 @@
 use Rattle.std.proofs.Common.{sym, ◌∙◌}
 use Rattle.sqlite.specs.Held.{state}
 use Rattle.shop_model.specs.Books.{shop_of}
+use Rattle.shop_schema.proofs.Readings.{reads_as}
 use Rattle.branch_looks.specs.Commands.{has_same}
-use Rattle.branch_looks.proofs.Readings.{reads_as}
 use Rattle.branch_looks.proofs.commands.find_same.Goals as goal
 
 pub returns-in_ok-has_rental-in-Some-Some-clause-found : goal.returns-in_ok-has_rental-in-Some-Some-clause-found

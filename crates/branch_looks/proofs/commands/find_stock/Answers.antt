@@ -7,8 +7,8 @@ use Rattle.stock_csv.specs.Rows.{stock_rows_of}
 use Rattle.stock_csv.specs.Stock.{stock_from, films_of}
 use Rattle.branch_core.specs.declared.found.StockFound.{StockFound}
 use Rattle.branch_core.specs.Agreed.{RowAgrees}
+use Rattle.shop_schema.proofs.Readings.{reads_as}
 use Rattle.branch_looks.specs.Commands.{found_row}
-use Rattle.branch_looks.proofs.Readings.{reads_as}
 use Rattle.branch_looks.proofs.Stocks.{same_films, rows_agree, few_copies}
 use Rattle.branch_looks.proofs.commands.find_stock.Goals as goal
 

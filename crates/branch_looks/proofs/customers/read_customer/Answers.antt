@@ -1,8 +1,8 @@
 use Rattle.std.proofs.Common.{◌∷◌, [], sym, ap, ◌∙◌}
 use Rattle.sqlite_value.specs.Order.{column}
 use Rattle.sql_rows.specs.Rows.{flag_value}
-use Rattle.sql_rows.proofs.ColumnTests.{same_flag}
-use Rattle.branch_looks.proofs.PersonLines.{same_number, numbered_person}
+use Rattle.sql_rows.proofs.ColumnTests.{same_flag, same_number}
+use Rattle.branch_looks.proofs.PersonLines.{numbered_person}
 use Rattle.branch_looks.proofs.customers.read_customer.Goals as goal
 
 pub returns : goal.returns

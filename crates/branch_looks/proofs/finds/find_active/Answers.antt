@@ -3,7 +3,7 @@ use Rattle.sqlite.specs.Held.{state}
 use Rattle.shop_model.specs.Values.{Customer}
 use Rattle.shop_types.specs.Seen.{seen_customer}
 use Rattle.shop_store.specs.declared.customers.CustomerRow.{CustomerRow}
-use Rattle.branch_looks.proofs.Readings.{reads_as}
+use Rattle.shop_schema.proofs.Readings.{reads_as}
 use Rattle.branch_looks.proofs.Lookings.{head_of}
 use Rattle.branch_looks.proofs.finds.find_active.Goals as goal
 

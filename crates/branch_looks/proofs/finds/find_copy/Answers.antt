@@ -9,7 +9,7 @@ use Rattle.shop_model.specs.Books.{shop_of, unmarked}
 use Rattle.shop_store.specs.Seen.{seen_copy_row}
 use Rattle.shop_store.specs.declared.copies.CopyRow.{CopyRow}
 use Rattle.branch_core.specs.Agreed.{copy_at}
-use Rattle.branch_looks.proofs.Readings.{reads_as, reads_then}
+use Rattle.shop_schema.proofs.Readings.{reads_then, reads_as}
 use Rattle.branch_looks.proofs.Lookings.{copy_in_shop, copy_told}
 use Rattle.branch_looks.proofs.finds.find_copy.Goals as goal
 

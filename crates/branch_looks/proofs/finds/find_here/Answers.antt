@@ -4,7 +4,7 @@ use Rattle.shop_model.specs.Stock.{is_here}
 use Rattle.shop_model.specs.Books.{unmarked}
 use Rattle.shop_store.specs.Seen.{seen_copy_row}
 use Rattle.shop_store.specs.declared.copies.CopyRow.{CopyRow}
-use Rattle.branch_looks.proofs.Readings.{reads_as}
+use Rattle.shop_schema.proofs.Readings.{reads_as}
 use Rattle.branch_looks.proofs.Lookings.{copy_in_shop}
 use Rattle.branch_looks.proofs.finds.find_here.Goals as goal
 

@@ -4,7 +4,7 @@ use Rattle.std.proofs.lemmas.Result.{IfOk-weaker}
 use Rattle.sqlite.specs.Held.{state}
 use Rattle.sqlite.specs.State.{HasCleanDisk}
 use Rattle.shop_model.specs.Books.{head, shop_of}
-use Rattle.branch_looks.proofs.Readings.{reads_as, reads_then}
+use Rattle.shop_schema.proofs.Readings.{reads_then, reads_as}
 use Rattle.branch_looks.proofs.Shows.{held_at, none_held}
 use Rattle.branch_looks.proofs.finds.find_holder.Goals as goal
 

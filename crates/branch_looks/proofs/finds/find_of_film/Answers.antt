@@ -3,8 +3,8 @@ use Rattle.sqlite.specs.Held.{state}
 use Rattle.sqlite.specs.State.{HasCleanDisk}
 use Rattle.std.proofs.lemmas.Result.{IfOk-weaker}
 use Rattle.shop_model.specs.Books.{shop_of}
+use Rattle.shop_schema.proofs.Readings.{reads_then, reads_as}
 use Rattle.branch_looks.specs.Finds.{copy_shown}
-use Rattle.branch_looks.proofs.Readings.{reads_then, reads_as}
 use Rattle.branch_looks.proofs.FilmLemmas.{of_film}
 use Rattle.branch_looks.proofs.finds.find_of_film.Goals as goal
 

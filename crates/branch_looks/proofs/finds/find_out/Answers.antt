@@ -2,7 +2,7 @@ use Rattle.std.proofs.Common.{sym, subst, ℕ, Option, IfSome}
 use Rattle.sqlite.specs.Held.{state}
 use Rattle.shop_model.specs.Books.{shop_of}
 use Rattle.branch_core.specs.Agreed.{IsOut}
-use Rattle.branch_looks.proofs.Readings.{reads_as}
+use Rattle.shop_schema.proofs.Readings.{reads_as}
 use Rattle.branch_looks.proofs.finds.find_out.Goals as goal
 
 pub returns-clause-found : goal.returns-clause-found

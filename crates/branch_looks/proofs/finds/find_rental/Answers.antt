@@ -6,7 +6,7 @@ use Rattle.shop_model.specs.Books.{shop_of}
 use Rattle.shop_types.specs.Seen.{seen_rental}
 use Rattle.shop_store.specs.declared.rentals.RentalRow.{RentalRow}
 use Rattle.branch_core.specs.Agreed.{rental_at}
-use Rattle.branch_looks.proofs.Readings.{reads_as}
+use Rattle.shop_schema.proofs.Readings.{reads_as}
 use Rattle.branch_looks.proofs.Lookings.{head_of}
 use Rattle.branch_looks.proofs.finds.find_rental.Goals as goal
 

@@ -3,7 +3,7 @@ use Rattle.sqlite.specs.Held.{state}
 use Rattle.shop_model.specs.Values.{Rental}
 use Rattle.shop_types.specs.Seen.{seen_rental}
 use Rattle.shop_store.specs.declared.rentals.RentalRow.{RentalRow}
-use Rattle.branch_looks.proofs.Readings.{reads_as}
+use Rattle.shop_schema.proofs.Readings.{reads_as}
 use Rattle.branch_looks.proofs.Lookings.{head_of}
 use Rattle.branch_looks.proofs.finds.find_renter.Goals as goal
 

@@ -1,7 +1,7 @@
 use Rattle.std.proofs.Common.{ℕ, Bool}
 use Rattle.sqlite.specs.Held.{state}
 use Rattle.shop_model.specs.Books.{shop_of}
-use Rattle.branch_looks.proofs.Readings.{reads_as}
+use Rattle.shop_schema.proofs.Readings.{reads_as}
 use Rattle.branch_looks.proofs.Shows.{stock_of_out}
 use Rattle.branch_looks.proofs.finds.with_its_stock.Goals as goal
 

@@ -6,8 +6,8 @@ use Rattle.sql_rows.proofs.Stays.{within_as, within_err, within_then}
 use Rattle.shop_model.specs.Books.{Books, shop_of}
 use Rattle.shop_store.specs.declared.copies.CopyRow.{CopyRow}
 use Rattle.branch_core.specs.Agreed.{seen_film_copy}
+use Rattle.shop_schema.proofs.Readings.{reads_then, reads_as}
 use Rattle.branch_looks.specs.Finds.{copy_shown}
-use Rattle.branch_looks.proofs.Readings.{reads_then, reads_as}
 use Rattle.branch_looks.proofs.finds.with_stock.Goals as goal
 
 pub loop-row-preserved : goal.loop-row-preserved

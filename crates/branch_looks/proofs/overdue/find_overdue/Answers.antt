@@ -7,8 +7,8 @@ use Rattle.shop_model.specs.Values.{Rental}
 use Rattle.shop_model.specs.Books.{shop_of}
 use Rattle.shop_model.specs.Stock.{is_overdue}
 use Rattle.shop_model.specs.Views.{overdue_row}
+use Rattle.shop_schema.proofs.Readings.{reads_then, reads_as}
 use Rattle.branch_looks.specs.Finds.{rentals_at}
-use Rattle.branch_looks.proofs.Readings.{reads_then, reads_as}
 use Rattle.branch_looks.proofs.TermLemmas.{chosen_by_number, overdue_of_open}
 use Rattle.branch_looks.proofs.overdue.find_overdue.Goals as goal
 

@@ -4,7 +4,7 @@ use Rattle.sqlite.specs.State.{HasCleanDisk}
 use Rattle.sql_rows.proofs.Stays.{within_as, within_err, within_of, within_then}
 use Rattle.shop_model.specs.Books.{shop_of}
 use Rattle.shop_types.specs.Seen.{seen_rental}
-use Rattle.branch_looks.proofs.Readings.{reads_then, reads_as}
+use Rattle.shop_schema.proofs.Readings.{reads_then, reads_as}
 use Rattle.branch_looks.proofs.TermLemmas.{listed_row}
 use Rattle.branch_looks.proofs.overdue.listed_as.Goals as goal
 

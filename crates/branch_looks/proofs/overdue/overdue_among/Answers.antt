@@ -8,8 +8,8 @@ use Rattle.shop_model.specs.Books.{shop_of}
 use Rattle.shop_model.specs.Stock.{is_overdue}
 use Rattle.shop_model.specs.Views as views
 use Rattle.reply_bodies.specs.Overdue.{seen_overdue}
+use Rattle.shop_schema.proofs.Readings.{reads_then, reads_as}
 use Rattle.branch_looks.specs.Finds.{rentals_at}
-use Rattle.branch_looks.proofs.Readings.{reads_then, reads_as}
 use Rattle.branch_looks.proofs.TermLemmas.{more_kept, seen_pushed}
 use Rattle.branch_looks.proofs.overdue.overdue_among.Goals as goal
 

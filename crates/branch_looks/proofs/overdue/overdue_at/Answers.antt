@@ -8,7 +8,7 @@ use Rattle.shop_model.specs.Views as views
 use Rattle.shop_types.specs.Seen.{seen_rental}
 use Rattle.shop_store.specs.declared.reads.FilmTerms.{FilmTerms}
 use Rattle.shop_store.specs.SharedSeen.{seen_terms}
-use Rattle.branch_looks.proofs.Readings.{reads_then, reads_as}
+use Rattle.shop_schema.proofs.Readings.{reads_then, reads_as}
 use Rattle.branch_looks.proofs.TermLemmas.{film_of_copy, kept_alone, kept_none, overdue_by}
 use Rattle.branch_looks.proofs.overdue.overdue_at.Goals as goal
 

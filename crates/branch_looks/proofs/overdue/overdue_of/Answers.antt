@@ -10,7 +10,7 @@ use Rattle.shop_model.specs.Stock.{is_overdue}
 use Rattle.shop_model.specs.Views.{overdue_row}
 use Rattle.shop_types.specs.Seen.{seen_rental}
 use Rattle.shop_store.specs.declared.rentals.RentalRow.{RentalRow}
-use Rattle.branch_looks.proofs.Readings.{reads_then, reads_as}
+use Rattle.shop_schema.proofs.Readings.{reads_then, reads_as}
 use Rattle.branch_looks.proofs.overdue.overdue_of.Goals as goal
 
 abbrev seen : Option RentalRow → List Rental

@@ -6,8 +6,8 @@ use Rattle.sql_rows.proofs.Stays.{within_of, within_none, within_as, within_err,
 use Rattle.shop_model.specs.Calendar.{month_before}
 use Rattle.shop_model.specs.Books.{shop_of}
 use Rattle.shop_ledger.specs.declared.payments.PaymentRow.{PaymentRow}
+use Rattle.shop_schema.proofs.Readings.{reads_then, reads_as, reads_none}
 use Rattle.branch_looks.specs.Finds.{payments_of}
-use Rattle.branch_looks.proofs.Readings.{reads_then, reads_as, reads_none}
 use Rattle.branch_looks.proofs.RewardLemmas.{found_are}
 use Rattle.branch_looks.proofs.MonthLemmas.{no_month, of_the_month}
 use Rattle.branch_looks.proofs.rewards.find_rewarded.Goals as goal

@@ -1,6 +1,7 @@
 use Rattle.std.proofs.Common.{[], sym, ap, ◌∙◌}
 use Rattle.sqlite_value.specs.Order.{column}
-use Rattle.branch_looks.proofs.PersonLines.{same_number, numbered_person}
+use Rattle.sql_rows.proofs.ColumnTests.{same_number}
+use Rattle.branch_looks.proofs.PersonLines.{numbered_person}
 use Rattle.branch_looks.proofs.staff.read_staff.Goals as goal
 
 pub returns : goal.returns

@@ -1,10 +1,10 @@
 use Rattle.std.proofs.Common.{◌∙◌, refl, ap, arith, Option, option_map}
+use Rattle.std.proofs.lemmas.Result.{IfOk-weaker}
 use Rattle.sqlite.specs.Held.{state}
 use Rattle.sqlite.specs.State.{HasCleanDisk}
 use Rattle.shop_types.specs.Seen.{seen_command}
 use Rattle.shop_ledger.specs.declared.kept.KeptRow.{KeptRow}
 use Rattle.shop_ledger.specs.Seen.{seen_kept, by_form}
-use Rattle.shop_ledger.proofs.CountLemmas.{ok_then}
 use Rattle.shop_ledger.proofs.KeptLemmas.{copied_told}
 use Rattle.branch_work.specs.Rules.{rules_of}
 use Rattle.sql_rows.proofs.Stays.{within_of, within_err, within_then}
@@ -12,7 +12,7 @@ use Rattle.branch_work.proofs.Kepts.{kept_told}
 use Rattle.branch_work.proofs.working.act.Goals as goal
 
 pub returns-clause-works : goal.returns-clause-works
-returns-clause-works g c = λ clean. ok_then c.carry_out.result _ _ (λ done works books holds held there last.
+returns-clause-works g c = λ clean. IfOk-weaker c.carry_out.result _ _ (λ done works books holds held there last.
     let b = c.args.branch in
     let command = seen_command c.args.command.now in
     let rules = rules_of c.args.limits in

@@ -1,10 +1,11 @@
 use Rattle.std.proofs.Common.{rules, ◌≡◌, ◌≢◌, ◌∙◌, ap, length, drop, arith, append-nil, length-append, length-drop, sym, true, false, List, [], ◌++◌, ℕ}
 use Rattle.std.specs.Prelude.{◌==◌}
+use Rattle.std.proofs.lemmas.List.{nil_from_length}
 use Rattle.http_messages.specs.Input.{IsCut}
 use Rattle.http_messages.specs.Input.{HasMessage}
 use Rattle.http_messages.specs.Shown.{message_of}
 use Rattle.counter_http.specs.Exchanges.{Exchange}
-use Rattle.counter_http.proofs.Serving.{serving_none, serving_more, serving_one, served_asked, served_failed, served_closed, served_limit, served_cut, served_refused, fault_read, fault_reply, fault_refusal, refused_is, nil_from_length}
+use Rattle.counter_http.proofs.Serving.{serving_none, serving_more, serving_one, served_asked, served_failed, served_closed, served_limit, served_cut, served_refused, fault_read, fault_reply, fault_refusal, refused_is}
 use Rattle.counter_http.proofs.Runs.{run_starts, run_grows}
 use Rattle.counter_http.proofs.connection.serve_requests.Goals as goal
 

@@ -1,6 +1,7 @@
 use Rattle.std.proofs.Common.{arith, ◌+◌}
 use Rattle.std.specs.Io.KnownBytes.{WriteAppends}
-use Rattle.counter_http.proofs.KnownBytes.{Appends-nil, Appends-more, Appends-kept, front_written}
+use Rattle.std.proofs.KnownBytes.{Appends-nil, Appends-kept}
+use Rattle.counter_http.proofs.KnownBytes.{Appends-more, front_written}
 use Rattle.counter_http.proofs.outbox.write_whole.Goals as goal
 use Rattle.counter_http.proofs.outbox.write_whole.Goals.{in-Ok, in-Err}
 

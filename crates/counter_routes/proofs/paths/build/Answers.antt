@@ -1,7 +1,8 @@
 use Rattle.std.proofs.Common.{◌+◌, ◌∙◌, ap, drop, refl}
 use Rattle.std.proofs.lemmas.List.{drop_all, drop_more}
+use Rattle.std.proofs.lemmas.Bool.{and_parts}
 use Rattle.counter_routes.specs.Routes.{Rows, table, is_table, with_routes, are_new, entries}
-use Rattle.counter_routes.proofs.RouteLemmas.{inserted, only_memory, first_true, second_true}
+use Rattle.counter_routes.proofs.RouteLemmas.{inserted, only_memory}
 use Rattle.counter_routes.proofs.paths.build.Goals as goal
 
 pub loop-pattern-init : goal.loop-pattern-init
@@ -17,14 +18,14 @@ loop-pattern-preserved c =
     let fits = rw e at at.invariant.fits in
     record {
       rest = ap (λ (rows : Rows). with_routes rows (entries (drop (at.pattern-index + 1) c.args.patterns.now))) new ∙ rest;
-      fits = ap (λ (rows : Rows). are_new rows (entries (drop (at.pattern-index + 1) c.args.patterns.now))) new ∙ second_true _ _ fits;
+      fits = ap (λ (rows : Rows). are_new rows (entries (drop (at.pattern-index + 1) c.args.patterns.now))) new ∙ (and_parts _ _ fits).1;
     }
 
 pub unreachable-requires : goal.unreachable-requires
 unreachable-requires c =
     let e = drop_more c.args.patterns.now c.loop-pattern.pattern-index _ c.loop-pattern-test.true in
     let fits = rw e at c.loop-pattern.invariant.fits in
-    c.in_default-e.not-OutOfMemory (only_memory _ _ _ _ _ c.in-Err.e c.in-Err.ensures refl (first_true _ _ fits))
+    c.in_default-e.not-OutOfMemory (only_memory _ _ _ _ _ c.in-Err.e c.in-Err.ensures refl (and_parts _ _ fits).0)
 
 pub returns : goal.returns
 unfolding table

@@ -1,7 +1,7 @@
 use Rattle.std.proofs.Common.{◌∙◌, arith}
 use Rattle.sqlite.specs.Held.{state}
 use Rattle.sqlite.specs.State.{HasCleanDisk}
-use Rattle.office_work.proofs.Readings.{reads_then, reads_as}
+use Rattle.shop_schema.proofs.Readings.{reads_then, reads_as}
 use Rattle.office_work.proofs.finding.for_staff.Goals as goal
 
 pub returns-clause-found : goal.returns-clause-found

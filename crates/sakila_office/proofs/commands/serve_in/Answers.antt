@@ -1,7 +1,7 @@
 use Rattle.std.proofs.Common.{◌∙◌}
+use Rattle.std.proofs.KnownBytes.{Keeps-refl}
 use Rattle.sakila_office.specs.Commands.{served}
 use Rattle.sakila_office.proofs.Books.{is_opened}
-use Rattle.sakila_office.proofs.Tasks.{keeps_same}
 use Rattle.sakila_office.proofs.commands.serve_in.Goals as goal
 
 pub returns-in-Ok : goal.returns-in-Ok
@@ -17,4 +17,4 @@ returns-in-Ok g c output =
           let at = found.found (c.serve_chain-status.ensures.honest honest) books holds in
           let told = ran.1 honest books books at in
           rw (← is_opened c.in-Ok.chain books (found.limits ∙ c.default.ensures) found.live) told;
-    }) c.serve_chain-status.ensures.status (keeps_same output)
+    }) c.serve_chain-status.ensures.status (Keeps-refl output)

@@ -1,10 +1,11 @@
 use Rattle.std.proofs.Common.{◌≡◌, subst, arith}
+use Rattle.std.proofs.KnownBytes.{Keeps-refl}
 use Rattle.shop_model.specs.Answers.{Answer}
 use Rattle.sakila_office.specs.Printed.{IsTold}
-use Rattle.sakila_office.proofs.Tasks.{keeps_same, not_begun}
+use Rattle.sakila_office.proofs.Tasks.{not_begun}
 use Rattle.sakila_office.proofs.program.run.Goals as goal
 
 pub returns-in-Err-Memory : goal.returns-in-Err-Memory
 returns-in-Err-Memory g c =
     let told = subst (λ (a : Answer). IsTold a c.tell.result (g.W.Write.contents c.args.out.now) (g.W.Write.contents c.tell.new.out)) c.refused.ensures c.tell.ensures in
-    not_begun _ _ _ _ _ _ _ (keeps_same _) (told.refused (λ e. let bad : 503 ≡ 200 = e in absurd (omega arith)))
+    not_begun _ _ _ _ _ _ _ (Keeps-refl _) (told.refused (λ e. let bad : 503 ≡ 200 = e in absurd (omega arith)))

@@ -1,7 +1,8 @@
-use Rattle.shop_ledger.proofs.CountLemmas.{ok_then, read_outs}
+use Rattle.std.proofs.lemmas.Result.{IfOk-weaker}
+use Rattle.shop_ledger.proofs.CountLemmas.{read_outs}
 use Rattle.shop_ledger.proofs.counts.rentals_out.Goals as goal
 
 pub returns-clause-found : goal.returns-clause-found
 returns-clause-found g c clean =
     let shown = rw (c.to_sql.ensures, c.get.ensures.value) at (c.in_ok-rows.ensures.shown clean) in
-    ok_then c.rentals_in.result _ _ (λ rentals is. read_outs _ _ c.args.branch _ _ rentals.items shown c.as_slice.ensures.value is) c.rentals_in.ensures
+    IfOk-weaker c.rentals_in.result _ _ (λ rentals is. read_outs _ _ c.args.branch _ _ rentals.items shown c.as_slice.ensures.value is) c.rentals_in.ensures

@@ -1,6 +1,6 @@
 use Rattle.std.proofs.Common.{refl, sym}
 use Rattle.shop_ledger.proofs.CountLemmas.{told_first}
-use Rattle.shop_ledger.proofs.OfficeKeptTexts.{read_owned}
+use Rattle.shop_ledger.proofs.KeptTexts.{read_owned}
 use Rattle.shop_ledger.proofs.kept.kept_at.Goals as goal
 
 pub returns-clause-found : goal.returns-clause-found

@@ -1,5 +1,5 @@
 use Rattle.sql_rows.proofs.Inside.{on_ok_then}
-use Rattle.shop_ledger.proofs.OfficeKeptTexts.{puts_owned}
+use Rattle.shop_ledger.proofs.KeptTexts.{puts_owned}
 use Rattle.shop_ledger.proofs.kept.put_kept.Goals as goal
 
 pub returns-clause-put : goal.returns-clause-put

@@ -1,11 +1,9 @@
-use Rattle.std.proofs.Common.{◌≡◌, refl, true, false}
+use Rattle.std.proofs.Common.{refl}
+use Rattle.std.proofs.lemmas.Bool.{false≢true}
 use Rattle.shop_model.proofs.Soundness.{opening_books_sound}
 use Rattle.chain_store.specs.Chains.{widest_rules}
 use Rattle.chain_engine.proofs.chain.Chain+MemStore.demo.Goals as goal
 
-apart : false ≡ true → ⊥
-apart e = cc
-
 pub returns-in-Ok-clause-made : goal.returns-in-Ok-clause-made
 returns-in-Ok-clause-made c =
-    (refl, refl, record { sound = opening_books_sound widest_rules; values = c.first_values.ensures; rests = λ _. c.in-Ok.ensures.made; alone = λ _. refl; left = λ failed. absurd (apart failed) })
+    (refl, refl, record { sound = opening_books_sound widest_rules; values = c.first_values.ensures; rests = λ _. c.in-Ok.ensures.made; alone = λ _. refl; left = λ failed. absurd (false≢true failed) })
