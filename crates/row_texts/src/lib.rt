@@ -1,16 +1,20 @@
-//! What the lines of a row say: names, bytes in quotes, a program's words, and the bytes of requests and replies.
+//! The player of rows: what their lines say, and the order in which they are played on a chain and a program that are handed in.
 #![tactic(auto)]
 
 mod exchange;
 mod fault;
 mod names;
+mod program;
 mod quoted;
+mod row;
+mod stage;
+mod talk;
 mod texts;
 mod words;
 
 pub use exchange::{Exchange, Told};
-pub use fault::{Complaint, Fault};
-pub use names::Names;
-pub use quoted::unquoted;
+pub use fault::Fault;
+pub use stage::{How, Ran, Stage, WHOLE};
+pub use talk::{Sum, Talk};
 pub use texts::request;
-pub use words::{remove_files, words_of};
+pub use words::remove_files;

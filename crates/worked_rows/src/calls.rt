@@ -1,5 +1,4 @@
 //! Calls that no request makes, each once: `call NAME`.
-use crate::failing::failing_log;
 use crate::sockets::peers;
 use crate::values::{NO_VALUE, is_so, rentals, rewards, routes, texts};
 use chain_engine::{Chain, OpenFault};
@@ -120,7 +119,6 @@ pub fn call(rt: &HostRuntime, name: &str) -> Result<(), Fault> {
         "new_chain" => new_chain(alloc),
         "fault_names" => fault_names(alloc),
         "first_customer" => first_customer(alloc),
-        "failing_log" => failing_log(alloc),
         "peers" => peers(rt),
         "rewards" => rewards(),
         "rentals" => rentals(),

@@ -2,27 +2,11 @@
 use chain_engine::Chain;
 use counter_http::{End, ServeFault, Served, serve};
 use office_words::ClapWords;
-use row_texts::{Fault, Told};
+use row_texts::{Fault, How, Told};
 use sqlite::FileStore;
 use sqlite_disk::Disk;
 use std::alloc::Global;
 use std::io::{self, Read, Write};
-
-/// How the bytes of the next connection come, how many requests it may have, and how many bytes of replies there is room for.
-#[derive(Clone, Copy)]
-pub struct How {
-    pub pieces: usize,
-    pub cut: usize,
-    pub most: u32,
-    pub room: usize,
-}
-
-pub const WHOLE: How = How {
-    pieces: usize::MAX,
-    cut: usize::MAX,
-    most: 1000,
-    room: usize::MAX,
-};
 
 /// Gives its bytes a few at a time.
 #[derive(Drop)]

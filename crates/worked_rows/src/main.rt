@@ -2,17 +2,16 @@
 #![tactic(auto)]
 
 mod calls;
+mod chains;
 mod connection;
-mod failing;
-mod program;
-mod row;
+mod fuses;
 mod shops;
 mod sockets;
 mod tables;
-mod talk;
 mod values;
 
-use crate::talk::{Sum, Talk};
+use crate::chains::Chains;
+use row_texts::{Sum, Talk};
 use std::process::ExitCode;
 use std::{env, fs, io};
 
@@ -24,7 +23,8 @@ fn play_lines<'t>(
     seen: &'t mut Vec<String>,
 ) -> Sum {
     let mut out = rt.stdout();
-    let mut talk = Talk::new(rt, path, seen);
+    let mut chains = Chains::new(rt);
+    let mut talk = Talk::new(rt.alloc(), &mut chains, path, seen);
     for (index, line) in text.lines().enumerate() {
         talk.takes(&mut out, index.saturating_add(1), line);
     }

@@ -1,8 +1,9 @@
 //! The chain that a row talks to, in two files on disks in memory.
-use crate::connection::{How, WHOLE, told_by};
+use crate::connection::told_by;
+use crate::fuses::{MOST_CALLS, calls_made, fused};
 use crate::tables::changed;
 use chain_engine::{Chain, OpenFault};
-use row_texts::{Fault, Told};
+use row_texts::{Fault, How, Told, WHOLE};
 use shop_types::Limits;
 use sqlite::{FileStore, Files};
 use sqlite_disk::{Fuse, Memory};
@@ -171,5 +172,20 @@ impl Shop {
     /// Closes the chain, and does a statement on the tables in its files.
     pub fn changed(self, alloc: Global, text: &str) -> Result<Shop, Fault> {
         Ok(Shop::Closed(changed(alloc, self.files(), Some(text))?))
+    }
+
+    /// The chain in copies of its files, whose log fails so many calls before the chain, opened in them, has answered these bytes.
+    pub fn failing(self, alloc: Global, input: &[u8], fewer: u64) -> Result<Shop, Fault> {
+        let files = self.files();
+        let mut trial = opened(alloc, fused(alloc, &files, MOST_CALLS)?, Limits::default())?;
+        drop(trial.tells(alloc, input, WHOLE)?);
+        let calls = calls_made(&mut trial.files().log)?;
+        let failing = fused(alloc, &files, calls.saturating_sub(fewer))?;
+        opened(alloc, failing, Limits::default())
+    }
+
+    /// Closes the chain, whose files fail no more.
+    pub fn mended(self, alloc: Global) -> Result<Shop, Fault> {
+        Ok(Shop::Closed(fused(alloc, &self.files(), u64::MAX)?))
     }
 }

@@ -1,15 +1,14 @@
-//! The whole program, run with some words on a standard input of its own.
+//! A run of the whole program, and what is wanted of it.
 ghost use Rattle.std.specs.Prelude.{◌≡◌, ◌≢◌, Some, true, false, [], OnOk};
 
-use row_texts::Fault;
-use sakila_office::run;
+use crate::fault::Fault;
+use crate::stage::Ran;
+use std::alloc::Global;
 
 /// A run whose status and outputs are being compared.
 #[derive(Drop)]
 pub struct Run {
-    status: u8,
-    out: Vec<u8>,
-    err: Vec<u8>,
+    ran: Ran,
     wanted_status: Option<u8>,
     wanted_out: Vec<u8>,
     wanted_err: Vec<u8>,
@@ -18,16 +17,9 @@ pub struct Run {
 }
 
 impl Run {
-    /// Runs the program with these words.
-    pub fn new(rt: &HostRuntime, words: &[String], mut input: &[u8]) -> Run {
-        let alloc = rt.alloc();
-        let mut out = Vec::new(alloc);
-        let mut err = Vec::new(alloc);
-        let status = run(rt, words, &mut input, &mut out, &mut err);
+    pub fn new(alloc: Global, ran: Ran) -> Run {
         Run {
-            status,
-            out,
-            err,
+            ran,
             wanted_status: None,
             wanted_out: Vec::new(alloc),
             wanted_err: Vec::new(alloc),
@@ -38,8 +30,8 @@ impl Run {
     /// What the program wrote where the fault says that something else is wanted.
     pub fn told(&self, fault: Fault) -> &[u8] {
         match fault {
-            Fault::Out => self.out.as_slice(),
-            Fault::Err => self.err.as_slice(),
+            Fault::Out => self.ran.out.as_slice(),
+            Fault::Err => self.ran.err.as_slice(),
             _ => &[],
         }
     }
@@ -86,26 +78,26 @@ impl Run {
 
     /// Whether standard error has what is wanted there.
     fn is_told(&self) -> bool
-        ensures usage { result ≡ true → self.now.is_usage ≡ true → self.now.err.items ≢ [] }
-        ensures err { result ≡ true → self.now.is_usage ≡ false → self.now.err.items ≡ self.now.wanted_err.items }
+        ensures usage { result ≡ true → self.now.is_usage ≡ true → self.now.ran.err.items ≢ [] }
+        ensures err { result ≡ true → self.now.is_usage ≡ false → self.now.ran.err.items ≡ self.now.wanted_err.items }
     {
         if self.is_usage {
-            return !self.err.is_empty() && self.wanted_err.is_empty();
+            return !self.ran.err.is_empty() && self.wanted_err.is_empty();
         }
-        self.err.as_slice() == self.wanted_err.as_slice()
+        self.ran.err.as_slice() == self.wanted_err.as_slice()
     }
 
     /// Whether the program ended so: its status, and what it wrote to both its outputs.
     pub fn settle(&self) -> Result<(), Fault>
-        ensures status { OnOk result (self.now.wanted_status ≡ Some self.now.status) }
-        ensures out { OnOk result (self.now.out.items ≡ self.now.wanted_out.items) }
-        ensures usage { OnOk result (self.now.is_usage ≡ true → self.now.err.items ≢ []) }
-        ensures err { OnOk result (self.now.is_usage ≡ false → self.now.err.items ≡ self.now.wanted_err.items) }
+        ensures status { OnOk result (self.now.wanted_status ≡ Some self.now.ran.status) }
+        ensures out { OnOk result (self.now.ran.out.items ≡ self.now.wanted_out.items) }
+        ensures usage { OnOk result (self.now.is_usage ≡ true → self.now.ran.err.items ≢ []) }
+        ensures err { OnOk result (self.now.is_usage ≡ false → self.now.ran.err.items ≡ self.now.wanted_err.items) }
     {
-        if self.wanted_status != Some(self.status) {
-            return Err(Fault::Status(self.status));
+        if self.wanted_status != Some(self.ran.status) {
+            return Err(Fault::Status(self.ran.status));
         }
-        if self.out.as_slice() != self.wanted_out.as_slice() {
+        if self.ran.out.as_slice() != self.wanted_out.as_slice() {
             return Err(Fault::Out);
         }
         if !self.is_told() {

@@ -1,9 +1,12 @@
 //! One row as it is played, line by line.
-use crate::calls::call;
-use crate::connection::{How, WHOLE};
+use crate::exchange::Exchange;
+use crate::fault::Fault;
+use crate::names::Names;
 use crate::program::Run;
-use crate::shops::{Shop, new_shop};
-use row_texts::{Exchange, Fault, Names, request, unquoted, words_of};
+use crate::quoted::unquoted;
+use crate::stage::{How, Stage, WHOLE};
+use crate::texts::request;
+use crate::words::words_of;
 use std::alloc::Global;
 
 /// What was asked last, and what is wanted of it.
@@ -44,12 +47,8 @@ pub fn says_more(word: &str) -> bool {
 }
 
 #[derive(Drop)]
-pub struct Row<'t> {
-    rt: &'t HostRuntime,
+pub struct Row {
     alloc: Global,
-    shop: Option<Shop>,
-    /// Whether the chain may be closed and its files opened again.
-    is_in_files: bool,
     asked: Option<Asked>,
     how: How,
     is_how_said: bool,
@@ -58,14 +57,10 @@ pub struct Row<'t> {
     count: u32,
 }
 
-impl<'t> Row<'t> {
-    pub fn new(rt: &'t HostRuntime) -> Row<'t> {
-        let alloc = rt.alloc();
+impl Row {
+    pub fn new(alloc: Global) -> Row {
         Row {
-            rt,
             alloc,
-            shop: None,
-            is_in_files: false,
             asked: None,
             how: WHOLE,
             is_how_said: false,
@@ -117,11 +112,8 @@ impl<'t> Row<'t> {
         self.counts();
     }
 
-    fn asks(&mut self, input: &[u8]) -> Result<(), Fault> {
-        let Some(shop) = &mut self.shop else {
-            return Err(Fault::Line("there is no chain yet"));
-        };
-        let told = shop.tells(self.alloc, input, self.how)?;
+    fn asks<S: Stage>(&mut self, stage: &mut S, input: &[u8]) -> Result<(), Fault> {
+        let told = stage.tell(input, self.how)?;
         let exchange = Exchange::new(self.alloc, told, self.how.room);
         self.how = WHOLE;
         self.is_how_said = false;
@@ -137,12 +129,18 @@ impl<'t> Row<'t> {
         names.filled(text)
     }
 
-    fn sends(&mut self, names: &Names, who: &str, line: &str) -> Result<(), Fault> {
+    fn sends<S: Stage>(
+        &mut self,
+        stage: &mut S,
+        names: &Names,
+        who: &str,
+        line: &str,
+    ) -> Result<(), Fault> {
         let Some((method, rest)) = line.split_once(' ') else {
             return Err(Fault::Line("a method and a path are wanted"));
         };
         let input = self.message(names, who, method, rest)?;
-        self.asks(input.as_slice())
+        self.asks(stage, input.as_slice())
     }
 
     /// The bytes of a request, by its path and its body.
@@ -201,47 +199,28 @@ impl<'t> Row<'t> {
     }
 
     /// Calls that no request makes are an exchange.
-    fn calls(&mut self, name: &str) -> Result<(), Fault> {
-        call(self.rt, name)?;
+    fn calls<S: Stage>(&mut self, stage: &mut S, name: &str) -> Result<(), Fault> {
+        stage.call(name)?;
         self.counts();
         Ok(())
     }
 
-    fn begins(&mut self, words: &str) -> Result<(), Fault> {
-        let shop = new_shop(self.alloc, words)?;
-        self.keeps(shop);
-        self.is_in_files = matches!(words, "files" | "empty");
+    /// The log fails so many calls before the next connection has been answered.
+    fn fails<S: Stage>(&mut self, stage: &mut S, fewer: &str) -> Result<(), Fault> {
+        let Ok(fewer) = fewer.parse::<u64>() else {
+            return Err(Fault::Line("a count is wanted"));
+        };
+        stage.fail(fewer);
+        self.is_how_said = true;
         Ok(())
-    }
-
-    fn keeps(&mut self, shop: Shop) {
-        drop(self.shop.replace(shop));
-    }
-
-    fn take_shop(&mut self) -> Result<Shop, Fault> {
-        match self.shop.take() {
-            Some(shop) if self.is_in_files => Ok(shop),
-            Some(shop) => {
-                drop(shop);
-                Err(Fault::Line("the chain isn't in files"))
-            }
-            None => Err(Fault::Line("there is no chain yet")),
-        }
     }
 
     /// An opening that has to be refused is an exchange: its fault is compared.
-    fn reopens(&mut self, fault: &str) -> Result<(), Fault> {
-        let shop = self.take_shop()?.reopened(self.alloc, fault)?;
-        self.keeps(shop);
+    fn reopens<S: Stage>(&mut self, stage: &mut S, fault: &str) -> Result<(), Fault> {
+        stage.reopen(fault)?;
         if !fault.is_empty() {
             self.counts();
         }
-        Ok(())
-    }
-
-    fn changes(&mut self, text: &str) -> Result<(), Fault> {
-        let shop = self.take_shop()?.changed(self.alloc, text)?;
-        self.keeps(shop);
         Ok(())
     }
 
@@ -253,9 +232,10 @@ impl<'t> Row<'t> {
         Ok(())
     }
 
-    fn runs(&mut self, names: &Names, line: &str) -> Result<(), Fault> {
+    fn runs<S: Stage>(&mut self, stage: &mut S, names: &Names, line: &str) -> Result<(), Fault> {
         let words = words_of(self.alloc, names.filled(line)?.as_slice())?;
-        let run = Run::new(self.rt, words.as_slice(), self.input.as_slice());
+        let ran = stage.run(words.as_slice(), self.input.as_slice());
+        let run = Run::new(self.alloc, ran);
         self.input.clear();
         self.is_input_said = false;
         self.has_asked(Asked::Program(run));
@@ -271,29 +251,42 @@ impl<'t> Row<'t> {
     }
 
     /// Plays a line, by its first word and what stands behind it.
-    pub fn plays(&mut self, names: &mut Names, word: &str, rest: &str) -> Result<(), Fault> {
+    pub fn plays<S: Stage>(
+        &mut self,
+        stage: &mut S,
+        names: &mut Names,
+        word: &str,
+        rest: &str,
+    ) -> Result<(), Fault> {
         match word {
             "let" => names.set(rest),
-            "chain" => self.begins(rest),
-            "reopen" => self.reopens(rest),
-            "sql" => self.changes(rest),
-            "call" => self.calls(rest),
+            "chain" => stage.begin(rest),
+            "fails" => self.fails(stage, rest),
+            "reopen" => self.reopens(stage, rest),
+            "sql" => stage.change(rest),
+            "call" => self.calls(stage, rest),
             "raw" => {
                 let input = unquoted(self.alloc, rest)?;
-                self.asks(input.as_slice())
+                self.asks(stage, input.as_slice())
             }
             "pieces" | "cut" | "most" | "room" => self.comes(word, rest),
             "end" => self.ends(rest),
             "stdin" => self.reads(names, rest),
-            "words" => self.runs(names, rest),
+            "words" => self.runs(stage, names, rest),
             "status" | "out" | "err" | "usage" => self.has_run(names, word, rest),
-            _ => self.plays_exchange(names, word, rest),
+            _ => self.plays_exchange(stage, names, word, rest),
         }
     }
 
-    fn plays_exchange(&mut self, names: &Names, word: &str, rest: &str) -> Result<(), Fault> {
+    fn plays_exchange<S: Stage>(
+        &mut self,
+        stage: &mut S,
+        names: &Names,
+        word: &str,
+        rest: &str,
+    ) -> Result<(), Fault> {
         if word.len() == 1 {
-            return self.sends(names, word, rest);
+            return self.sends(stage, names, word, rest);
         }
         if is_status(word) {
             return self.is_told(names, word, rest);

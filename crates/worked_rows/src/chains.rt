@@ -1,0 +1,121 @@
+//! What the rows are played on: a chain in files on disks in memory, and the whole program.
+use crate::calls::call;
+use crate::shops::{Shop, new_shop};
+use row_texts::{Fault, How, Ran, Stage, Told, remove_files};
+use sakila_office::run;
+use std::alloc::Global;
+
+/// The chain of the row that is played, where it has one.
+#[derive(Drop)]
+pub struct Chains<'t> {
+    rt: &'t HostRuntime,
+    alloc: Global,
+    shop: Option<Shop>,
+    /// Whether the chain may be closed and its files opened again.
+    is_in_files: bool,
+    /// How many calls before the next connection is answered the log fails.
+    fewer: Option<u64>,
+    /// Whether the log fails.
+    is_failing: bool,
+}
+
+impl<'t> Chains<'t> {
+    pub fn new(rt: &'t HostRuntime) -> Chains<'t> {
+        Chains {
+            rt,
+            alloc: rt.alloc(),
+            shop: None,
+            is_in_files: false,
+            fewer: None,
+            is_failing: false,
+        }
+    }
+
+    fn keeps(&mut self, shop: Shop) {
+        drop(self.shop.replace(shop));
+    }
+
+    fn take_shop(&mut self) -> Result<Shop, Fault> {
+        match self.shop.take() {
+            Some(shop) if self.is_in_files => Ok(shop),
+            Some(shop) => {
+                drop(shop);
+                Err(Fault::Line("the chain isn't in files"))
+            }
+            None => Err(Fault::Line("there is no chain yet")),
+        }
+    }
+}
+
+impl Chains<'_> {
+    /// Puts the chain on a log that fails, where it is to.
+    fn fail_at(&mut self, input: &[u8]) -> Result<(), Fault> {
+        if let Some(fewer) = self.fewer.take() {
+            let shop = self.take_shop()?.failing(self.alloc, input, fewer)?;
+            self.keeps(shop);
+            self.is_failing = true;
+        }
+        Ok(())
+    }
+
+    /// Takes the chain, whose log fails no more.
+    fn take_mended(&mut self) -> Result<Shop, Fault> {
+        let shop = self.take_shop()?;
+        if self.is_failing {
+            self.is_failing = false;
+            return shop.mended(self.alloc);
+        }
+        Ok(shop)
+    }
+}
+
+impl Stage for Chains<'_> {
+    fn begin(&mut self, words: &str) -> Result<(), Fault> {
+        let shop = new_shop(self.alloc, words)?;
+        self.keeps(shop);
+        self.is_in_files = matches!(words, "files" | "empty");
+        Ok(())
+    }
+
+    fn fail(&mut self, fewer: u64) {
+        self.fewer = Some(fewer);
+    }
+
+    fn tell(&mut self, input: &[u8], how: How) -> Result<Told, Fault> {
+        self.fail_at(input)?;
+        match &mut self.shop {
+            Some(shop) => shop.tells(self.alloc, input, how),
+            None => Err(Fault::Line("there is no chain yet")),
+        }
+    }
+
+    fn reopen(&mut self, fault: &str) -> Result<(), Fault> {
+        let shop = self.take_mended()?.reopened(self.alloc, fault)?;
+        self.keeps(shop);
+        Ok(())
+    }
+
+    fn change(&mut self, text: &str) -> Result<(), Fault> {
+        let shop = self.take_shop()?.changed(self.alloc, text)?;
+        self.keeps(shop);
+        Ok(())
+    }
+
+    fn call(&mut self, name: &str) -> Result<(), Fault> {
+        call(self.rt, name)
+    }
+
+    fn run(&mut self, words: &[String], mut input: &[u8]) -> Ran {
+        let mut out = Vec::new(self.alloc);
+        let mut err = Vec::new(self.alloc);
+        let status = run(self.rt, words, &mut input, &mut out, &mut err);
+        Ran { status, out, err }
+    }
+
+    fn clear(&mut self) {
+        drop(self.shop.take());
+        self.fewer = None;
+        self.is_failing = false;
+        remove_files(self.rt);
+    }
+}
