@@ -12,10 +12,8 @@ ghost use Rattle.shop_schema.specs.Forms.{office_command_form};
 ghost use Rattle.reply_bodies.specs.Bodies.{office_members};
 ghost use Rattle.office_work.specs.Added.{IsNumbered, IsKept, IsAdded};
 
-use office_rows::{
-    new_actor, new_branch, new_city, new_film, new_staff, set_gone, set_manager, set_rate,
-    set_withdrawn,
-};
+use crate::rows::{new_actor, new_branch, new_city, new_film, new_staff};
+use crate::sets::{set_gone, set_manager, set_rate, set_withdrawn};
 use reply_bodies::office_text;
 use shop_ledger::{Counter, Owner, put_kept, take_numbers};
 use shop_store::{

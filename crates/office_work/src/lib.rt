@@ -3,6 +3,8 @@
 
 mod adding;
 mod finding;
+mod rows;
+mod sets;
 mod working;
 
 pub use working::work;

@@ -1,7 +1,7 @@
 use Rattle.std.proofs.Common.{◌≤◌, arith}
 use Rattle.sql_rows.proofs.Inside.{on_ok_then}
-use Rattle.office_rows.proofs.SetTexts.{sets_rate}
-use Rattle.office_rows.proofs.sets.set_rate.Goals as goal
+use Rattle.office_work.proofs.SetTexts.{sets_rate}
+use Rattle.office_work.proofs.sets.set_rate.Goals as goal
 
 pub returns-clause-set : goal.returns-clause-set
 returns-clause-set g c clean =

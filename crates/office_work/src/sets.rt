@@ -12,7 +12,7 @@ use sqlite::types::ToSql;
 use sqlite::{Alter, Transaction};
 
 /// Sets what a rental of the film costs. After a fault the transaction may be rolled back.
-pub fn set_rate<S: Alter>(
+pub(crate) fn set_rate<S: Alter>(
     tx: &mut Transaction<'_, S>,
     film: FilmNo,
     rate: Rate,
@@ -29,7 +29,10 @@ pub fn set_rate<S: Alter>(
 }
 
 /// Takes the film out of the catalogue, where it stays as withdrawn. After a fault the transaction may be rolled back.
-pub fn set_withdrawn<S: Alter>(tx: &mut Transaction<'_, S>, film: FilmNo) -> Result<(), StoreFault>
+pub(crate) fn set_withdrawn<S: Alter>(
+    tx: &mut Transaction<'_, S>,
+    film: FilmNo,
+) -> Result<(), StoreFault>
     ensures inside { StaysInside S.Store tx.old.conn tx.new.conn result }
     ensures set { Stores (state S.Store tx.old.conn.now) (state S.Store tx.new.conn.now) result (λ _. ⊤)
         (λ books. record books { catalogue = record books.catalogue { films = set_at film (λ f. record f { withdrawn = true }) books.catalogue.films } }) }
@@ -42,7 +45,10 @@ pub fn set_withdrawn<S: Alter>(tx: &mut Transaction<'_, S>, film: FilmNo) -> Res
 }
 
 /// Sets that the member of staff left. After a fault the transaction may be rolled back.
-pub fn set_gone<S: Alter>(tx: &mut Transaction<'_, S>, staff: StaffNo) -> Result<(), StoreFault>
+pub(crate) fn set_gone<S: Alter>(
+    tx: &mut Transaction<'_, S>,
+    staff: StaffNo,
+) -> Result<(), StoreFault>
     ensures inside { StaysInside S.Store tx.old.conn tx.new.conn result }
     ensures set { Stores (state S.Store tx.old.conn.now) (state S.Store tx.new.conn.now) result (λ _. ⊤)
         (λ books. record books { catalogue = record books.catalogue { staff = set_at staff (λ r. record r { gone = true }) books.catalogue.staff } }) }
@@ -55,7 +61,7 @@ pub fn set_gone<S: Alter>(tx: &mut Transaction<'_, S>, staff: StaffNo) -> Result
 }
 
 /// Makes the member of staff the branch's manager. After a fault the transaction may be rolled back.
-pub fn set_manager<S: Alter>(
+pub(crate) fn set_manager<S: Alter>(
     tx: &mut Transaction<'_, S>,
     branch: BranchNo,
     staff: StaffNo,

@@ -10,7 +10,7 @@ use shop_types::{
 };
 
 /// The row of a new city.
-pub fn new_city(number: CityNo, city: &City) -> NewCity<'_>
+pub(crate) fn new_city(number: CityNo, city: &City) -> NewCity<'_>
     ensures row { seen_city_row result ≡ seen_city city.now }
     ensures number { result.number ≡ number }
 {
@@ -22,7 +22,7 @@ pub fn new_city(number: CityNo, city: &City) -> NewCity<'_>
 }
 
 /// The row of a new actor.
-pub fn new_actor(number: ActorNo, actor: &Actor) -> NewActor<'_>
+pub(crate) fn new_actor(number: ActorNo, actor: &Actor) -> NewActor<'_>
     ensures row { seen_actor_row result ≡ seen_actor actor.now }
     ensures number { result.number ≡ number }
 {
@@ -43,7 +43,7 @@ fn minutes_of(minutes: Option<Minutes>) -> Option<u32>
 }
 
 /// The row of a new film, which isn't withdrawn.
-pub fn new_film(number: FilmNo, film: &Film) -> NewFilm<'_>
+pub(crate) fn new_film(number: FilmNo, film: &Film) -> NewFilm<'_>
     ensures row { seen_film_row result ≡ seen_film film.now }
     ensures number { result.number ≡ number }
 {
@@ -64,7 +64,7 @@ pub fn new_film(number: FilmNo, film: &Film) -> NewFilm<'_>
 }
 
 /// The row of a new branch, which has no manager.
-pub fn new_branch(number: BranchNo, branch: &Branch) -> NewBranch<'_>
+pub(crate) fn new_branch(number: BranchNo, branch: &Branch) -> NewBranch<'_>
     ensures row { seen_branch_row result ≡ seen_branch branch.now }
     ensures number { result.number ≡ number }
 {
@@ -80,7 +80,7 @@ pub fn new_branch(number: BranchNo, branch: &Branch) -> NewBranch<'_>
 }
 
 /// The row of a new member of staff, who hasn't left.
-pub fn new_staff(number: StaffNo, staff: &Staff) -> NewStaff<'_>
+pub(crate) fn new_staff(number: StaffNo, staff: &Staff) -> NewStaff<'_>
     ensures row { seen_staff_row result ≡ seen_staff staff.now }
     ensures number { result.number ≡ number }
 {
