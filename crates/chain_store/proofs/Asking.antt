@@ -18,7 +18,7 @@ use Rattle.sql_rows.specs.declared.fault.StoreFault.TheVariants.{Failed}
 use Rattle.branch_work.specs.Rules.{rules_of}
 use Rattle.branch_work.specs.Works.{Works as WorksAtBranch}
 use Rattle.branch_work.specs.declared.working.Worked.TheVariants as worked
-use Rattle.office_work.specs.Works.{Works as WorksAtOffice}
+use Rattle.chain_store.specs.OfficeWorks.{Works as WorksAtOffice}
 use Rattle.chain_store.specs.declared.work.Work.TheVariants.{Done, Shows}
 use Rattle.chain_store.specs.declared.reports.Report.TheVariants.{OfBranch, OfOffice}
 use Rattle.chain_store.specs.Reports.{shown_by, ShowsReport}

@@ -7,3 +7,6 @@ pub mod Faults
 pub mod Files
 pub mod Openings
 pub mod Reports
+pub mod OfficeAdded
+pub mod OfficeFound
+pub mod OfficeWorks

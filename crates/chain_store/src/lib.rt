@@ -1,4 +1,5 @@
-//! What a chain of shops rests on: its books in the tables of a store, and what each call does to a connection between two requests.
+//! What a chain of shops rests on: its books in the tables of a store, what head office's commands do there, and what each call does to a connection
+//! between two requests.
 #![tactic(auto)]
 
 mod asked;
@@ -6,6 +7,11 @@ mod callers;
 mod creation;
 mod faults;
 mod files;
+mod office_adding;
+mod office_finding;
+mod office_rows;
+mod office_sets;
+mod office_working;
 mod paths;
 mod reports;
 mod work;

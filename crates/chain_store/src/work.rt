@@ -10,6 +10,7 @@ ghost use Rattle.sql_rows.specs.Calls.{StaysInside};
 ghost use Rattle.chain_store.specs.Steps.{Works, asker, asked_of};
 
 use crate::asked::Asked;
+use crate::office_working;
 use crate::reports::Report;
 use branch_work::Worked;
 use shop_types::{BranchNo, Limits, OfficeCommand, Reply, Request};
@@ -72,7 +73,7 @@ fn office_work_of<S: Alter>(
     ensures works { HasCleanDisk (state S.Store tx.new.conn.now)
         → IfOk result (λ work. Works limits HeadOffice (Office (seen_office command.now)) work (state S.Store tx.old.conn.now) (state S.Store tx.new.conn.now)) }
 {
-    let (reply, is_changed) = office_work::work(alloc, tx, limits, command)?;
+    let (reply, is_changed) = office_working::work(alloc, tx, limits, command)?;
     Ok(Work::Done(reply, is_changed))
 }
 

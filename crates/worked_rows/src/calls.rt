@@ -4,44 +4,12 @@ use crate::values::{NO_VALUE, is_so, rentals, rewards, routes, texts};
 use chain_engine::{Chain, OpenFault};
 use counter_http::reply_bytes;
 use row_texts::Fault;
-use shop_types::{
-    Act, Caller, CityNo, Command, Key, Limits, Moment, Person, Reply, Request, StaffNo, Text, Token,
-};
+use shop_types::{Ask, Caller, FilmNo, Limits, Reply, Request, Token};
 use std::alloc::Global;
 
 /// Branch 1's token.
 fn branch_token() -> Option<Token> {
     Token::read(b"11111111111111111111111111111111")
-}
-
-fn text<const LOW: usize, const HIGH: usize>(alloc: Global, text: &str) -> Option<Text<LOW, HIGH>> {
-    Text::read(String::from_str(alloc, text).ok()?)
-}
-
-fn mary_smith(alloc: Global) -> Option<Person> {
-    Some(Person {
-        first: text(alloc, "MARY")?,
-        last: text(alloc, "SMITH")?,
-        address: text(alloc, "1 Main")?,
-        postal: text(alloc, "")?,
-        phone: text(alloc, "555")?,
-        city: CityNo::new(1)?,
-    })
-}
-
-/// A command under a key, which makes a customer.
-fn new_customer(alloc: Global) -> Option<Command> {
-    Some(Command {
-        key: Key::read(String::from_str(alloc, "k1").ok()?)?,
-        staff: StaffNo::new(1)?,
-        at: Moment::read("2026-03-01T10:00:00")?,
-        act: Act::Customer(mary_smith(alloc)?),
-    })
-}
-
-/// Branch 1's request to make a customer.
-fn request(alloc: Global) -> Option<(Token, Request)> {
-    Some((branch_token()?, Request::Do(new_customer(alloc)?)))
 }
 
 /// A chain with no shared row knows head office alone.
@@ -76,8 +44,8 @@ fn fault_names(alloc: Global) -> Result<(), Fault> {
     Ok(())
 }
 
-const FIRST_CUSTOMER: &[u8] =
-    b"HTTP/1.1 200 OK\r\ncontent-type: application/json\r\ncontent-length: 14\r\n\r\n{\"customer\":1}";
+const FIRST_FILM: &[u8] =
+    b"HTTP/1.1 200 OK\r\ncontent-type: application/json\r\ncontent-length: 173\r\n\r\n{\"category\":1,\"description\":\"\",\"features\":\"\",\"film\":1,\"language\":1,\"length\":86,\"period\":3,\"rate\":499,\"rating\":\"PG\",\"replacement\":1999,\"title\":\"RIVER DAWN\",\"withdrawn\":false}";
 
 /// Whether the only reply has these bytes.
 fn is_told(alloc: Global, replies: &[Reply], wanted: &[u8]) -> Result<(), Fault> {
@@ -98,15 +66,15 @@ fn is_told_first(alloc: Global, requests: &[(Token, Request)]) -> Result<(), Fau
     let Ok(replies) = chain.replay(requests) else {
         return Err(Fault::Memory);
     };
-    is_told(alloc, replies.as_slice(), FIRST_CUSTOMER)
+    is_told(alloc, replies.as_slice(), FIRST_FILM)
 }
 
-/// The first customer's request as a value: its reply has the bytes that the connection sends.
-fn first_customer(alloc: Global) -> Result<(), Fault> {
-    let Some(asked) = request(alloc) else {
+/// A request for the first film as a value: its reply has the bytes that the connection sends.
+fn first_film(alloc: Global) -> Result<(), Fault> {
+    let (Some(token), Some(film)) = (branch_token(), FilmNo::new(1)) else {
         return Err(NO_VALUE);
     };
-    let requests = [asked];
+    let requests = [(token, Request::Look(Ask::Film(film)))];
     let told = is_told_first(alloc, &requests);
     drop(requests);
     told
@@ -118,7 +86,7 @@ pub fn call(rt: &HostRuntime, name: &str) -> Result<(), Fault> {
     match name {
         "new_chain" => new_chain(alloc),
         "fault_names" => fault_names(alloc),
-        "first_customer" => first_customer(alloc),
+        "first_film" => first_film(alloc),
         "peers" => peers(rt),
         "rewards" => rewards(),
         "rentals" => rentals(),

@@ -16,3 +16,6 @@ returns-in-Err-clause-inside g c = record {
   kept = λ clean inside. keeps_unqueried _ _ _ _ _ (c.in-Err.ensures.err clean);
   lives = λ clean inside. tt;
 }
+
+pub returns-in-Err-clause-told : goal.returns-in-Err-clause-told
+returns-in-Err-clause-told g c clean = (c.in-Err.error, c.fault_of.ensures, c.in-Err.ensures.err clean)

@@ -1,5 +1,0 @@
-pub mod Written
-pub mod Numbers
-pub mod Readings
-pub mod Doing
-pub mod SetTexts
