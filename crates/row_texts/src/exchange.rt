@@ -25,28 +25,28 @@ pub struct Exchange {
 }
 
 fn end_word(word: &str) -> Option<&'static str> {
-    [
-        "closed",
-        "cut",
-        "asked",
-        "limit",
-        "refused",
-        "store_failed",
-        "write",
-    ]
-    .iter()
-    .copied()
-    .find(|it| *it == word)
+    match word {
+        "closed" => Some("closed"),
+        "cut" => Some("cut"),
+        "asked" => Some("asked"),
+        "limit" => Some("limit"),
+        "refused" => Some("refused"),
+        "store_failed" => Some("store_failed"),
+        "write" => Some("write"),
+        _ => None,
+    }
 }
 
 /// The place of the first byte that differs, from 1 on.
 fn difference(told: &[u8], wanted: &[u8]) -> usize {
-    let same = told
-        .iter()
-        .zip(wanted)
-        .take_while(|(a, b)| **a == **b)
-        .count();
-    same.saturating_add(1)
+    let mut at = 1usize;
+    for (a, b) in told.iter().zip(wanted) {
+        if *a != *b {
+            return at;
+        }
+        at = at.saturating_add(1);
+    }
+    at
 }
 
 impl Exchange {

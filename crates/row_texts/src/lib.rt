@@ -12,9 +12,8 @@ mod talk;
 mod texts;
 mod words;
 
-pub use exchange::{Exchange, Told};
+pub use exchange::Told;
 pub use fault::Fault;
 pub use stage::{How, Ran, Stage, WHOLE};
 pub use talk::{Sum, Talk};
-pub use texts::request;
 pub use words::remove_files;

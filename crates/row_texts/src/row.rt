@@ -33,9 +33,6 @@ impl Asked {
     }
 }
 
-/// The first words of lines that say more of what was asked last, beside those of replies.
-const SAY_MORE: [&str; 6] = ["let", "end", "status", "out", "err", "usage"];
-
 /// Whether the word is a reply's status.
 fn is_status(word: &str) -> bool {
     matches!(word.as_bytes(), [b'1'..=b'9', b'0'..=b'9', b'0'..=b'9'])
@@ -43,7 +40,7 @@ fn is_status(word: &str) -> bool {
 
 /// Whether a line with this first word says more of what was asked last.
 pub fn says_more(word: &str) -> bool {
-    SAY_MORE.iter().any(|it| *it == word) || is_status(word)
+    matches!(word, "let" | "end" | "status" | "out" | "err" | "usage") || is_status(word)
 }
 
 #[derive(Drop)]
@@ -152,27 +149,28 @@ impl Row {
         rest: &str,
     ) -> Result<Vec<u8>, Fault> {
         let Some((path, body)) = rest.split_once(' ') else {
-            let path = names.filled(rest)?;
-            return request(self.alloc, who, method, path.as_slice(), None);
+            return self.request(names, who, method, rest, None);
         };
         let body = self.bytes_of(names, body)?;
-        let path = names.filled(path)?;
-        request(
-            self.alloc,
-            who,
-            method,
-            path.as_slice(),
-            Some(body.as_slice()),
-        )
+        self.request(names, who, method, path, Some(body.as_slice()))
     }
 
-    fn is_told(&mut self, names: &Names, status: &str, body: &str) -> Result<(), Fault> {
-        let body = self.bytes_of(names, body)?;
-        let alloc = self.alloc;
-        let Some(Asked::Connection(exchange)) = &mut self.asked else {
-            return Err(Fault::Line("a reply has no request"));
-        };
-        exchange.wants(alloc, status, body.as_slice())
+    fn request(
+        &self,
+        names: &Names,
+        who: &str,
+        method: &str,
+        path: &str,
+        body: Option<&[u8]>,
+    ) -> Result<Vec<u8>, Fault> {
+        let path = names.filled(path)?;
+        request(self.alloc, who, method, path.as_slice(), body)
+    }
+
+    /// Bytes that are sent as they are.
+    fn sends_raw<S: Stage>(&mut self, stage: &mut S, text: &str) -> Result<(), Fault> {
+        let input = unquoted(self.alloc, text)?;
+        self.asks(stage, input.as_slice())
     }
 
     fn ends(&mut self, line: &str) -> Result<(), Fault> {
@@ -200,9 +198,8 @@ impl Row {
 
     /// Calls that no request makes are an exchange.
     fn calls<S: Stage>(&mut self, stage: &mut S, name: &str) -> Result<(), Fault> {
-        stage.call(name)?;
         self.counts();
-        Ok(())
+        stage.call(name)
     }
 
     /// The log fails so many calls before the next connection has been answered.
@@ -217,23 +214,19 @@ impl Row {
 
     /// An opening that has to be refused is an exchange: its fault is compared.
     fn reopens<S: Stage>(&mut self, stage: &mut S, fault: &str) -> Result<(), Fault> {
-        stage.reopen(fault)?;
         if !fault.is_empty() {
             self.counts();
         }
-        Ok(())
+        stage.reopen(fault)
     }
 
-    /// Several lines of standard input stand one behind the other.
-    fn reads(&mut self, names: &Names, line: &str) -> Result<(), Fault> {
-        let bytes = self.bytes_of(names, line)?;
-        self.input.extend_from_slice(bytes.as_slice())?;
-        self.is_input_said = true;
-        Ok(())
+    fn words_of(&self, names: &Names, line: &str) -> Result<Vec<String>, Fault> {
+        let line = names.filled(line)?;
+        words_of(self.alloc, line.as_slice())
     }
 
     fn runs<S: Stage>(&mut self, stage: &mut S, names: &Names, line: &str) -> Result<(), Fault> {
-        let words = words_of(self.alloc, names.filled(line)?.as_slice())?;
+        let words = self.words_of(names, line)?;
         let ran = stage.run(words.as_slice(), self.input.as_slice());
         let run = Run::new(self.alloc, ran);
         self.input.clear();
@@ -242,12 +235,49 @@ impl Row {
         Ok(())
     }
 
-    fn has_run(&mut self, names: &Names, word: &str, line: &str) -> Result<(), Fault> {
-        let bytes = self.bytes_of(names, line)?;
+    /// Several lines of standard input stand one behind the other.
+    fn reads(&mut self, bytes: &[u8]) -> Result<(), Fault> {
+        self.input.extend_from_slice(bytes)?;
+        self.is_input_said = true;
+        Ok(())
+    }
+
+    fn has_run(&mut self, word: &str, line: &str, bytes: &[u8]) -> Result<(), Fault> {
         let Some(Asked::Program(run)) = &mut self.asked else {
             return Err(Fault::Line("no program was run"));
         };
-        run.wants(word, line, bytes.as_slice())
+        run.wants(word, line, bytes)
+    }
+
+    fn is_told(&mut self, status: &str, body: &[u8]) -> Result<(), Fault> {
+        let alloc = self.alloc;
+        let Some(Asked::Connection(exchange)) = &mut self.asked else {
+            return Err(Fault::Line("a reply has no request"));
+        };
+        exchange.wants(alloc, status, body)
+    }
+
+    /// Plays a line that says bytes.
+    fn says(&mut self, names: &Names, word: &str, line: &str) -> Result<(), Fault> {
+        let bytes = self.bytes_of(names, line)?;
+        if word == "stdin" {
+            return self.reads(bytes.as_slice());
+        }
+        if is_status(word) {
+            return self.is_told(word, bytes.as_slice());
+        }
+        self.has_run(word, line, bytes.as_slice())
+    }
+
+    /// Plays a line for which nothing is asked.
+    fn notes(&mut self, names: &mut Names, word: &str, rest: &str) -> Result<(), Fault> {
+        match word {
+            "let" => names.set(rest),
+            "pieces" | "cut" | "most" | "room" => self.comes(word, rest),
+            "end" => self.ends(rest),
+            _ if word == "stdin" || says_more(word) => self.says(names, word, rest),
+            _ => Err(Fault::Line("this line isn't read")),
+        }
     }
 
     /// Plays a line, by its first word and what stands behind it.
@@ -259,38 +289,15 @@ impl Row {
         rest: &str,
     ) -> Result<(), Fault> {
         match word {
-            "let" => names.set(rest),
             "chain" => stage.begin(rest),
             "fails" => self.fails(stage, rest),
             "reopen" => self.reopens(stage, rest),
             "sql" => stage.change(rest),
             "call" => self.calls(stage, rest),
-            "raw" => {
-                let input = unquoted(self.alloc, rest)?;
-                self.asks(stage, input.as_slice())
-            }
-            "pieces" | "cut" | "most" | "room" => self.comes(word, rest),
-            "end" => self.ends(rest),
-            "stdin" => self.reads(names, rest),
+            "raw" => self.sends_raw(stage, rest),
             "words" => self.runs(stage, names, rest),
-            "status" | "out" | "err" | "usage" => self.has_run(names, word, rest),
-            _ => self.plays_exchange(stage, names, word, rest),
+            _ if word.len() == 1 => self.sends(stage, names, word, rest),
+            _ => self.notes(names, word, rest),
         }
-    }
-
-    fn plays_exchange<S: Stage>(
-        &mut self,
-        stage: &mut S,
-        names: &Names,
-        word: &str,
-        rest: &str,
-    ) -> Result<(), Fault> {
-        if word.len() == 1 {
-            return self.sends(stage, names, word, rest);
-        }
-        if is_status(word) {
-            return self.is_told(names, word, rest);
-        }
-        Err(Fault::Line("this line isn't read"))
     }
 }

@@ -4,14 +4,16 @@ use crate::quoted::unquoted;
 use std::alloc::Global;
 use std::fs::remove_file;
 
-/// The file that the word `FILE` stands for, in the folder that the player runs in, and the log beside it.
-const PATHS: [&str; 2] = ["worked_rows.db", "worked_rows.db-wal"];
+/// The file that the word `FILE` stands for, in the folder that the player runs in.
+const FILE: &str = "worked_rows.db";
+
+/// The log beside it.
+const LOG: &str = "worked_rows.db-wal";
 
 /// Removes the file of the row before, where it made one.
 pub fn remove_files(rt: &HostRuntime) {
-    for path in PATHS {
-        let _ = remove_file(rt, path);
-    }
+    let _ = remove_file(rt, FILE);
+    let _ = remove_file(rt, LOG);
 }
 
 /// Where the reading of a line stands: between quotes, in them, or behind their backslash.
@@ -40,31 +42,42 @@ fn text_of(alloc: Global, bytes: &[u8]) -> Result<String, Fault> {
 
 /// A word as it is written: `FILE`, quoted bytes, or a word that stands for itself.
 fn word_of(alloc: Global, written: &[u8]) -> Result<String, Fault> {
-    let text = text_of(alloc, written)?;
-    if text.as_str() == "FILE" {
-        return Ok(String::from_str(alloc, PATHS[0])?);
+    match str::from_utf8(written) {
+        Ok("FILE") => text_of(alloc, FILE.as_bytes()),
+        Ok(text) if text.contains('"') => {
+            let bytes = unquoted(alloc, text)?;
+            text_of(alloc, bytes.as_slice())
+        }
+        _ => text_of(alloc, written),
     }
-    if !text.as_str().contains('"') {
-        return Ok(text);
-    }
-    text_of(alloc, unquoted(alloc, text.as_str())?.as_slice())
 }
 
 /// The words between the spaces of a line. A space in quotes is one of a word.
 pub fn words_of(alloc: Global, line: &[u8]) -> Result<Vec<String>, Fault> {
     let mut words = Vec::new(alloc);
     let mut written = Vec::new(alloc);
+    put_words(alloc, &mut words, &mut written, line)?;
+    Ok(words)
+}
+
+/// Puts the words of a line, of which the one that is being read is kept as it is written.
+fn put_words(
+    alloc: Global,
+    words: &mut Vec<String>,
+    written: &mut Vec<u8>,
+    line: &[u8],
+) -> Result<(), Fault> {
     let mut at = At::Outside;
-    for byte in line.iter().copied() {
+    for byte in line {
+        let byte = *byte;
         if byte == b' ' && matches!(at, At::Outside) {
-            put_word(alloc, &mut words, &mut written)?;
+            put_word(alloc, words, written)?;
         } else {
             at = behind(at, byte);
             written.push(byte)?;
         }
     }
-    put_word(alloc, &mut words, &mut written)?;
-    Ok(words)
+    put_word(alloc, words, written)
 }
 
 /// Puts the word behind those before it, where there is one.
