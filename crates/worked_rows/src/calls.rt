@@ -5,11 +5,24 @@ use chain_engine::{Chain, OpenFault};
 use counter_http::reply_bytes;
 use row_texts::Fault;
 use shop_types::{Ask, Caller, FilmNo, Limits, Reply, Request, Token};
+use sqlite::Alter;
 use std::alloc::Global;
 
 /// Branch 1's token.
 fn branch_token() -> Option<Token> {
     Token::read(b"11111111111111111111111111111111")
+}
+
+/// Whether the chain knows head office alone.
+fn knows_office_alone<S: Alter>(
+    chain: &mut Chain<S>,
+    office: &Token,
+    branch: &Token,
+) -> Result<(), Fault> {
+    let knows = matches!(chain.caller(office), Ok(Caller::Office));
+    is_so(knows, "head office isn't known")?;
+    let knows = matches!(chain.caller(branch), Ok(Caller::Nobody));
+    is_so(knows && !chain.is_failed(), "a branch is known")
 }
 
 /// A chain with no shared row knows head office alone.
@@ -23,10 +36,7 @@ fn new_chain(alloc: Global) -> Result<(), Fault> {
     let Ok(mut chain) = Chain::memory(alloc, &office, Limits::default()) else {
         return Err(Fault::Line("the chain isn't made"));
     };
-    let knows = matches!(chain.caller(&office), Ok(Caller::Office));
-    is_so(knows, "head office isn't known")?;
-    let knows = matches!(chain.caller(&branch), Ok(Caller::Nobody));
-    is_so(knows && !chain.is_failed(), "a branch is known")
+    knows_office_alone(&mut chain, &office, &branch)
 }
 
 /// The names of the faults by which there is no chain.
@@ -58,15 +68,24 @@ fn is_told(alloc: Global, replies: &[Reply], wanted: &[u8]) -> Result<(), Fault>
     }
 }
 
+/// Whether the chain tells the first film to the only request.
+fn tells_film<S: Alter>(
+    alloc: Global,
+    chain: &mut Chain<S>,
+    requests: &[(Token, Request)],
+) -> Result<(), Fault> {
+    match chain.replay(requests) {
+        Ok(replies) => is_told(alloc, replies.as_slice(), FIRST_FILM),
+        Err(_) => Err(Fault::Memory),
+    }
+}
+
 /// The reply of a new chain to the requests.
 fn is_told_first(alloc: Global, requests: &[(Token, Request)]) -> Result<(), Fault> {
-    let Ok(mut chain) = Chain::demo(alloc, Limits::default()) else {
-        return Err(Fault::Line("the chain isn't made"));
-    };
-    let Ok(replies) = chain.replay(requests) else {
-        return Err(Fault::Memory);
-    };
-    is_told(alloc, replies.as_slice(), FIRST_FILM)
+    match Chain::demo(alloc, Limits::default()) {
+        Ok(mut chain) => tells_film(alloc, &mut chain, requests),
+        Err(_) => Err(Fault::Line("the chain isn't made")),
+    }
 }
 
 /// A request for the first film as a value: its reply has the bytes that the connection sends.

@@ -1,8 +1,10 @@
 //! What the rows are played on: a chain in files on disks in memory, and the whole program.
 use crate::calls::call;
+use crate::fuses::new_files;
 use crate::shops::{Shop, new_shop};
 use row_texts::{Fault, How, Ran, Stage, Told, remove_files};
 use sakila_office::run;
+use sqlite_disk::{Fuse, Memory};
 use std::alloc::Global;
 
 /// The chain of the row that is played, where it has one.
@@ -10,7 +12,7 @@ use std::alloc::Global;
 pub struct Chains<'t> {
     rt: &'t HostRuntime,
     alloc: Global,
-    shop: Option<Shop>,
+    shop: Option<Shop<Fuse<Memory>>>,
     /// Whether the chain may be closed and its files opened again.
     is_in_files: bool,
     /// How many calls before the next connection is answered the log fails.
@@ -31,11 +33,11 @@ impl<'t> Chains<'t> {
         }
     }
 
-    fn keeps(&mut self, shop: Shop) {
+    fn keeps(&mut self, shop: Shop<Fuse<Memory>>) {
         drop(self.shop.replace(shop));
     }
 
-    fn take_shop(&mut self) -> Result<Shop, Fault> {
+    fn take_shop(&mut self) -> Result<Shop<Fuse<Memory>>, Fault> {
         match self.shop.take() {
             Some(shop) if self.is_in_files => Ok(shop),
             Some(shop) => {
@@ -59,7 +61,7 @@ impl Chains<'_> {
     }
 
     /// Takes the chain, whose log fails no more.
-    fn take_mended(&mut self) -> Result<Shop, Fault> {
+    fn take_mended(&mut self) -> Result<Shop<Fuse<Memory>>, Fault> {
         let shop = self.take_shop()?;
         if self.is_failing {
             self.is_failing = false;
@@ -71,7 +73,7 @@ impl Chains<'_> {
 
 impl Stage for Chains<'_> {
     fn begin(&mut self, words: &str) -> Result<(), Fault> {
-        let shop = new_shop(self.alloc, words)?;
+        let shop = new_shop(self.alloc, new_files(self.alloc), words)?;
         self.keeps(shop);
         self.is_in_files = matches!(words, "files" | "empty");
         Ok(())

@@ -1,12 +1,24 @@
-//! Copies of a chain's files, whose log fails at some call and at each one after it.
-use crate::shops::Disks;
-use row_texts::Fault;
+//! A chain's files on disks in memory, whose log fails at some call and at each one after it, where it is to.
+use crate::shops::{Shop, opened};
+use row_texts::{Fault, WHOLE};
+use shop_types::Limits;
 use sqlite::Files;
 use sqlite_disk::{Disk, Fuse, Memory};
 use std::alloc::Global;
 
+/// Two files, each of which fails behind so many calls; most never do.
+type Disks = Files<Fuse<Memory>>;
+
 /// More calls of the log than an opening and a connection take.
-pub const MOST_CALLS: u64 = 1000;
+const MOST_CALLS: u64 = 1000;
+
+/// Files with nothing in them.
+pub fn new_files(alloc: Global) -> Disks {
+    Files {
+        log: Fuse::new(Memory::new(alloc), u64::MAX),
+        db: Fuse::new(Memory::new(alloc), u64::MAX),
+    }
+}
 
 fn copied(alloc: Global, disk: &Memory) -> Result<Memory, Fault> {
     let mut copy = Memory::new(alloc);
@@ -17,7 +29,7 @@ fn copied(alloc: Global, disk: &Memory) -> Result<Memory, Fault> {
 }
 
 /// Copies of the files, whose log fails after so many calls.
-pub fn fused(alloc: Global, files: &Disks, calls: u64) -> Result<Disks, Fault> {
+fn fused(alloc: Global, files: &Disks, calls: u64) -> Result<Disks, Fault> {
     let log = copied(alloc, files.log.inner())?;
     let db = copied(alloc, files.db.inner())?;
     Ok(Files {
@@ -27,11 +39,33 @@ pub fn fused(alloc: Global, files: &Disks, calls: u64) -> Result<Disks, Fault> {
 }
 
 /// How many calls it had before it fails. What is left of many calls is told by using them up.
-pub fn calls_made(log: &mut Fuse<Memory>) -> Result<u64, Fault> {
+fn calls_made(log: &mut Fuse<Memory>) -> Result<u64, Fault> {
     for left in 0..MOST_CALLS {
         if !log.may_be_used() || log.len().is_err() {
             return Ok(MOST_CALLS.saturating_sub(left));
         }
     }
     Err(Fault::Line("no call was made"))
+}
+
+impl Shop<Fuse<Memory>> {
+    /// The chain in copies of its files, whose log fails so many calls before the chain, opened in them, has answered these bytes.
+    pub fn failing(
+        self,
+        alloc: Global,
+        input: &[u8],
+        fewer: u64,
+    ) -> Result<Shop<Fuse<Memory>>, Fault> {
+        let files = self.files();
+        let mut trial = opened(alloc, fused(alloc, &files, MOST_CALLS)?, Limits::default())?;
+        drop(trial.tells(alloc, input, WHOLE)?);
+        let calls = calls_made(&mut trial.files().log)?;
+        let failing = fused(alloc, &files, calls.saturating_sub(fewer))?;
+        opened(alloc, failing, Limits::default())
+    }
+
+    /// Closes the chain, whose files fail no more.
+    pub fn mended(self, alloc: Global) -> Result<Shop<Fuse<Memory>>, Fault> {
+        Ok(Shop::Closed(fused(alloc, &self.files(), u64::MAX)?))
+    }
 }

@@ -1,25 +1,22 @@
-//! The chain that a row talks to, in two files on disks in memory.
+//! The chain that a row talks to.
 use crate::connection::told_by;
-use crate::fuses::{MOST_CALLS, calls_made, fused};
 use crate::tables::changed;
 use chain_engine::{Chain, OpenFault};
 use row_texts::{Fault, How, Told, WHOLE};
 use shop_types::Limits;
 use sqlite::{FileStore, Files};
-use sqlite_disk::{Fuse, Memory};
+use sqlite_disk::Disk;
 use std::alloc::Global;
 
-/// Two files, each of which fails behind so many calls; most never do.
-pub type Disks = Files<Fuse<Memory>>;
-
-pub enum Shop {
-    Open(Chain<FileStore<Fuse<Memory>>>),
+/// The chain of a row, in two files on any disks.
+pub enum Shop<D: Disk + Drop> {
+    Open(Chain<FileStore<D>>),
     /// The files of a chain that is closed.
-    Closed(Disks),
+    Closed(Files<D>),
 }
 
 /// A chain is closed before its files go.
-impl Drop for Shop {
+impl<D: Disk + Drop> Drop for Shop<D> {
     fn drop(self) {
         match self {
             Shop::Open(chain) => drop(chain.close()),
@@ -41,9 +38,9 @@ fn name_of(fault: OpenFault) -> &'static str {
 }
 
 /// The chain that was opened.
-fn found(
-    opened: Result<Chain<FileStore<Fuse<Memory>>>, (OpenFault, Disks)>,
-) -> Result<Shop, Fault> {
+fn found<D: Disk + Drop>(
+    opened: Result<Chain<FileStore<D>>, (OpenFault, Files<D>)>,
+) -> Result<Shop<D>, Fault> {
     match opened {
         Ok(chain) => Ok(Shop::Open(chain)),
         Err((fault, files)) => {
@@ -54,12 +51,16 @@ fn found(
 }
 
 /// The chain that the files hold.
-pub fn opened(alloc: Global, files: Disks, limits: Limits) -> Result<Shop, Fault> {
+pub fn opened<D: Disk + Drop>(
+    alloc: Global,
+    files: Files<D>,
+    limits: Limits,
+) -> Result<Shop<D>, Fault> {
     found(Chain::open_files(alloc, files, limits))
 }
 
 /// Opens the files, which has to be refused with the fault of that name.
-fn refused(alloc: Global, files: Disks, name: &str) -> Result<Shop, Fault> {
+fn refused<D: Disk + Drop>(alloc: Global, files: Files<D>, name: &str) -> Result<Shop<D>, Fault> {
     match Chain::open_files(alloc, files, Limits::default()) {
         Ok(chain) => {
             drop(chain.close());
@@ -77,21 +78,13 @@ fn refused(alloc: Global, files: Disks, name: &str) -> Result<Shop, Fault> {
     }
 }
 
-fn new_files(alloc: Global) -> Disks {
-    Files {
-        log: Fuse::new(Memory::new(alloc), u64::MAX),
-        db: Fuse::new(Memory::new(alloc), u64::MAX),
-    }
-}
-
-/// New files with the opening rows.
-pub fn opening_files(alloc: Global) -> Result<Disks, Fault> {
-    changed(alloc, new_files(alloc), None)
-}
-
-/// A chain with the opening rows.
-fn opening(alloc: Global, limits: Limits) -> Result<Shop, Fault> {
-    opened(alloc, opening_files(alloc)?, limits)
+/// A chain with the opening rows in files with nothing in them.
+fn opening<D: Disk + Drop>(
+    alloc: Global,
+    files: Files<D>,
+    limits: Limits,
+) -> Result<Shop<D>, Fault> {
+    opened(alloc, changed(alloc, files, None)?, limits)
 }
 
 /// The first customer and the first lot, with the replies to them.
@@ -107,7 +100,7 @@ const STOCK: [(&str, &str); 2] = [
 ];
 
 /// Adds the first lot and the first customer.
-fn stock(alloc: Global, shop: &mut Shop) -> Result<(), Fault> {
+fn stock<D: Disk + Drop>(alloc: Global, shop: &mut Shop<D>) -> Result<(), Fault> {
     for (input, wanted) in STOCK {
         let told = shop.tells(alloc, input.as_bytes(), WHOLE)?;
         if told.bytes.as_slice() != wanted.as_bytes() {
@@ -117,8 +110,8 @@ fn stock(alloc: Global, shop: &mut Shop) -> Result<(), Fault> {
     Ok(())
 }
 
-fn stocked(alloc: Global) -> Result<Shop, Fault> {
-    let mut shop = opening(alloc, Limits::default())?;
+fn stocked<D: Disk + Drop>(alloc: Global, files: Files<D>) -> Result<Shop<D>, Fault> {
+    let mut shop = opening(alloc, files, Limits::default())?;
     stock(alloc, &mut shop)?;
     Ok(shop)
 }
@@ -128,20 +121,27 @@ fn limits_of(words: &str) -> Option<Limits> {
     Limits::new(commands.parse().ok()?, copies.parse().ok()?)
 }
 
-/// `demo` or `files`, `stocked`, `limits COMMANDS COPIES`, or `empty` for files with nothing in them.
-pub fn new_shop(alloc: Global, words: &str) -> Result<Shop, Fault> {
+/// The chain of a row in files with nothing in them: `demo` or `files`, `stocked`, `limits COMMANDS COPIES`, or `empty` for the files as they are.
+pub fn new_shop<D: Disk + Drop>(
+    alloc: Global,
+    files: Files<D>,
+    words: &str,
+) -> Result<Shop<D>, Fault> {
     match words {
-        "demo" | "files" => opening(alloc, Limits::default()),
-        "stocked" => stocked(alloc),
-        "empty" => Ok(Shop::Closed(new_files(alloc))),
+        "demo" | "files" => opening(alloc, files, Limits::default()),
+        "stocked" => stocked(alloc, files),
+        "empty" => Ok(Shop::Closed(files)),
         _ => match limits_of(words) {
-            Some(limits) => opening(alloc, limits),
-            None => Err(Fault::Line("there is no such chain")),
+            Some(limits) => opening(alloc, files, limits),
+            None => {
+                drop(files);
+                Err(Fault::Line("there is no such chain"))
+            }
         },
     }
 }
 
-impl Shop {
+impl<D: Disk + Drop> Shop<D> {
     /// What the chain sends over a connection of its own.
     pub fn tells(&mut self, alloc: Global, input: &[u8], how: How) -> Result<Told, Fault> {
         match self {
@@ -151,7 +151,7 @@ impl Shop {
     }
 
     /// Closes the chain, and gives its files back.
-    pub fn files(self) -> Disks {
+    pub fn files(self) -> Files<D> {
         match self {
             Shop::Open(chain) => chain.close(),
             Shop::Closed(files) => files,
@@ -159,7 +159,7 @@ impl Shop {
     }
 
     /// The chain that its files hold, or none where the opening has to be refused with the fault of a name.
-    pub fn reopened(self, alloc: Global, fault: &str) -> Result<Shop, Fault> {
+    pub fn reopened(self, alloc: Global, fault: &str) -> Result<Shop<D>, Fault> {
         if !fault.is_empty() {
             return refused(alloc, self.files(), fault);
         }
@@ -170,22 +170,7 @@ impl Shop {
     }
 
     /// Closes the chain, and does a statement on the tables in its files.
-    pub fn changed(self, alloc: Global, text: &str) -> Result<Shop, Fault> {
+    pub fn changed(self, alloc: Global, text: &str) -> Result<Shop<D>, Fault> {
         Ok(Shop::Closed(changed(alloc, self.files(), Some(text))?))
-    }
-
-    /// The chain in copies of its files, whose log fails so many calls before the chain, opened in them, has answered these bytes.
-    pub fn failing(self, alloc: Global, input: &[u8], fewer: u64) -> Result<Shop, Fault> {
-        let files = self.files();
-        let mut trial = opened(alloc, fused(alloc, &files, MOST_CALLS)?, Limits::default())?;
-        drop(trial.tells(alloc, input, WHOLE)?);
-        let calls = calls_made(&mut trial.files().log)?;
-        let failing = fused(alloc, &files, calls.saturating_sub(fewer))?;
-        opened(alloc, failing, Limits::default())
-    }
-
-    /// Closes the chain, whose files fail no more.
-    pub fn mended(self, alloc: Global) -> Result<Shop, Fault> {
-        Ok(Shop::Closed(fused(alloc, &self.files(), u64::MAX)?))
     }
 }

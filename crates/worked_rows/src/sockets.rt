@@ -4,7 +4,7 @@ use office_words::ClapWords;
 use row_texts::Fault;
 use sakila_office::{serve_listener, serve_patiently};
 use shop_types::Limits;
-use sqlite::MemStore;
+use sqlite::Alter;
 use std::alloc::Global;
 use std::io::{Read, Write};
 use std::net::{Shutdown, TcpListener, TcpStream};
@@ -50,10 +50,10 @@ fn is_told(alloc: Global, stream: &TcpStream, reply: &[u8]) -> Result<bool, Faul
 }
 
 /// A peer is answered.
-fn one_peer(
+fn one_peer<S: Alter>(
     rt: &HostRuntime,
     listener: &TcpListener,
-    chain: &mut Chain<MemStore>,
+    chain: &mut Chain<S>,
 ) -> Result<bool, Fault> {
     let alloc = rt.alloc();
     let peer = asking(rt, listener, ASKED, b"", 0)?;
@@ -62,10 +62,10 @@ fn one_peer(
 }
 
 /// A peer that is silent is left, and the next is answered; and one that sends more than is read has its reply too.
-fn later_peers(
+fn later_peers<S: Alter>(
     rt: &HostRuntime,
     listener: &TcpListener,
-    chain: &mut Chain<MemStore>,
+    chain: &mut Chain<S>,
 ) -> Result<bool, Fault> {
     let alloc = rt.alloc();
     let _silent = TcpStream::connect(rt, listener.local_addr()?)?;
@@ -78,16 +78,25 @@ fn later_peers(
 }
 
 /// One peer, and then several of which the first is silent.
-pub fn peers(rt: &HostRuntime) -> Result<(), Fault> {
-    let listener = TcpListener::bind(rt, "127.0.0.1:0")?;
-    let Ok(mut chain) = Chain::demo(rt.alloc(), Limits::default()) else {
-        return Err(Fault::Line("the chain isn't made"));
-    };
-    if !one_peer(rt, &listener, &mut chain)? {
+fn both<S: Alter>(
+    rt: &HostRuntime,
+    listener: &TcpListener,
+    chain: &mut Chain<S>,
+) -> Result<(), Fault> {
+    if !one_peer(rt, listener, chain)? {
         return Err(Fault::Line("a peer isn't answered"));
     }
-    if !later_peers(rt, &listener, &mut chain)? {
+    if !later_peers(rt, listener, chain)? {
         return Err(Fault::Line("a peer behind a silent one isn't answered"));
     }
     Ok(())
+}
+
+/// The same over a chain in memory.
+pub fn peers(rt: &HostRuntime) -> Result<(), Fault> {
+    let listener = TcpListener::bind(rt, "127.0.0.1:0")?;
+    match Chain::demo(rt.alloc(), Limits::default()) {
+        Ok(mut chain) => both(rt, &listener, &mut chain),
+        Err(_) => Err(Fault::Line("the chain isn't made")),
+    }
 }
