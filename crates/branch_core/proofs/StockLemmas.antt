@@ -10,7 +10,8 @@ use Rattle.shop_model.specs.Rows.{lacks}
 use Rattle.shop_model.specs.Shop.{Catalogue}
 use Rattle.shop_model.specs.Verdict.{is_film_withdrawn}
 use Rattle.branch_core.specs.declared.found.StockFound.{StockFound}
-use Rattle.branch_core.specs.Agreed.{RowAgrees, films_of, copies_of}
+use Rattle.branch_core.specs.StockLists.{films_of, copies_of}
+use Rattle.branch_core.specs.Agreed.{RowAgrees}
 
 any_more : (p : ℕ → Bool) (n x : ℕ) → (p x || list_any p (replicate n x)) ≡ p x
 any_more p zero x = or-false (p x)

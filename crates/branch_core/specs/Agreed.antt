@@ -1,14 +1,12 @@
 -- When what was found is what a catalogue and a shop have of the rows that a command names.
-use Rattle.std.specs.Prelude.{◌≡◌, ℕ, ◌==◌, ◌&&◌, ◌≤◌, Bool, false, Option, Some, None, option_to_list, is_some, not, List, map, filter, length, replicate, flat_map, sum_by, option_map, IfSome, Result, Ok, Err, IfOk}
+use Rattle.std.specs.Prelude.{◌≡◌, ⊤, ℕ, ◌==◌, ◌&&◌, ◌≤◌, Bool, Option, is_some, not, List, map, filter, length, option_map, IfSome, Result, Ok, Err, IfOk}
 use Rattle.std.specs.List.{All, list_any}
 use Rattle.std.specs.Str.{bytes_eq}
-use Rattle.std.specs.declared.alloc.Global.{Global}
-use Rattle.std.specs.declared.vec.Vec.{Vec}
 use Rattle.shop_model.specs.Calendar.{Moment, same_moment}
 use Rattle.shop_model.specs.Rows.{at, lacks, numbered}
 use Rattle.shop_model.specs.Values as model
-use Rattle.shop_model.specs.Values.{Text, Person, Customer, Copy, Act, Command, Stock, Copies, BadLine, Rules}
-use Rattle.shop_model.specs.Stock.{is_here, in_stock, keeps_out}
+use Rattle.shop_model.specs.Values.{Text, Customer, Copy, Act, Command, Stock, Copies, BadLine, Rules}
+use Rattle.shop_model.specs.Stock.{is_here, in_stock}
 use Rattle.shop_model.specs.Shop.{Kept, Catalogue, Shop, same_command, same_flag}
 use Rattle.shop_model.specs.Verdict.{is_film_withdrawn}
 use Rattle.shop_model.specs.Books.{head}
@@ -19,6 +17,8 @@ use Rattle.branch_core.specs.declared.found.StockFound.{StockFound}
 use Rattle.branch_core.specs.declared.found.CopyFound.{CopyFound}
 use Rattle.branch_core.specs.declared.found.RentalFound.{RentalFound}
 use Rattle.branch_core.specs.declared.found.Found.{Found}
+use Rattle.branch_core.specs.declared.found.RowsFound.{RowsFound}
+use Rattle.branch_core.specs.StockLists.{films_of}
 
 -- ---- the kept row
 
@@ -28,15 +28,8 @@ kept_for command kept = (same_command kept.command command, kept.reply)
 
 -- ---- the stock file
 
--- a film for each copy: each row's film, as often as the row has copies
-abbrev pub films_of : List StockFound → List ℕ
-films_of rows = flat_map (λ (row : StockFound). replicate row.copies row.film) rows
-
-abbrev pub copies_of : List StockFound → ℕ
-copies_of rows = sum_by (λ (row : StockFound). row.copies) rows
-
-abbrev pub seen_stock : Result (Vec StockFound Global) BadCsv → Stock
-seen_stock (Ok rows) = Copies (films_of rows.items)
+abbrev pub seen_stock : Result (List StockFound) BadCsv → Stock
+seen_stock (Ok rows) = Copies (films_of rows)
 seen_stock (Err fault) = BadLine fault.line
 
 -- a row has a copy at least, and its film is as the catalogue has it
@@ -45,58 +38,22 @@ pub record RowAgrees (catalogue : Catalogue) (row : StockFound) : Type 0 where
   pub there : row.is_there ≡ not (lacks catalogue.films row.film)
   pub withdrawn : row.is_withdrawn ≡ is_film_withdrawn catalogue row.film
 
--- ---- the rows that an act names
-
--- the city of a new customer
-abbrev pub city_in : Act → Option ℕ
-city_in (model.AddCustomer person) = Some person.city
-city_in act = None
-
-abbrev pub customer_in : Act → Option ℕ
-customer_in (model.SetActive c active) = Some c
-customer_in (model.Rent c x) = Some c
-customer_in (model.Pay c rental amount) = Some c
-customer_in act = None
-
-abbrev pub copy_in : Act → Option ℕ
-copy_in (model.Rent c x) = Some x
-copy_in (model.Scrap x) = Some x
-copy_in act = None
-
-abbrev pub rental_in : Act → Option ℕ
-rental_in (model.TakeBack r) = Some r
-rental_in (model.Pay c rental amount) = rental
-rental_in act = None
-
--- the lot and the stock file of an import
-abbrev pub import_in : Act → Option (Text × Text)
-import_in (model.Import lot file) = Some (lot, file)
-import_in act = None
-
--- ---- what a shop has of them
+-- ---- rows of a branch, where there is one of the number
 
 -- whether the customer of the number may rent
 abbrev pub active_at : ℕ → Shop → Option Bool
 active_at c shop = head (map (λ (it : Customer). it.active) (at c shop.customers))
 
-abbrev pub seen_copy : CopyFound → Bool × Bool
-seen_copy copy = (copy.is_here, copy.is_withdrawn)
+abbrev pub seen_copy : CopyFound → Bool × Bool × Bool
+seen_copy copy = (copy.is_here, copy.is_withdrawn, copy.is_out)
 
-abbrev pub copy_at : Catalogue → Shop → ℕ → Option (Bool × Bool)
-copy_at catalogue shop x = head (map (λ (it : Copy). (is_here it, is_film_withdrawn catalogue it.film)) (at x shop.copies))
+-- whether the copy is here, whether its film is withdrawn, and whether a customer has it
+abbrev pub copy_at : Catalogue → Shop → ℕ → Option (Bool × Bool × Bool)
+copy_at catalogue shop x = head (map (λ (it : Copy). (is_here it, is_film_withdrawn catalogue it.film, not (in_stock x shop.rentals))) (at x shop.copies))
 
--- the numbers of the copy's open rentals
-abbrev pub open_of : ℕ → List model.Rental → List ℕ
-open_of x rentals = map (λ (it : ℕ × model.Rental). it.0) (filter (λ (it : ℕ × model.Rental). keeps_out x it.1) (numbered rentals))
-
--- the copy's open rental, where it is out: there is no other
-abbrev pub IsOut : Shop → ℕ → Option ℕ → Type 0
-IsOut shop x out = option_to_list out ≡ open_of x shop.rentals
-
--- whether there is a rental of the moment, and of the copy and by the customer of the act
-abbrev pub has_same_rental : Moment → Act → Shop → Bool
-has_same_rental moment (model.Rent c x) shop = list_any (λ (it : model.Rental). same_moment it.rented moment && it.copy == x && it.customer == c) shop.rentals
-has_same_rental moment act shop = false
+-- whether there is a rental of the moment, of the copy and by the customer
+abbrev pub has_rental : Moment → ℕ → ℕ → Shop → Bool
+has_rental moment c x shop = list_any (λ (it : model.Rental). same_moment it.rented moment && it.copy == x && it.customer == c) shop.rentals
 
 -- whose rental it is, of which copy, and whether that is back
 abbrev pub seen_rental : RentalFound → ℕ × ℕ × Bool
@@ -105,26 +62,43 @@ seen_rental rental = (rental.customer, rental.copy, rental.is_returned)
 abbrev pub rental_at : Shop → ℕ → Option (ℕ × ℕ × Bool)
 rental_at shop r = head (map (λ (it : model.Rental). (it.customer, it.copy, is_some it.returned)) (at r shop.rentals))
 
--- so many copies, a lot of that name or none, and the rows of the stock file
-pub record ImportAgrees (rules : Rules) (catalogue : Catalogue) (shop : Shop) (copies : ℕ) (has_lot : Bool) (stock : Result (Vec StockFound Global) BadCsv) (named : Text × Text) : Type 0 where
-  pub count : copies ≡ length shop.copies
-  pub lot_in : has_lot ≡ list_any (bytes_eq named.0) shop.lots
-  pub reading : seen_stock stock ≡ rules.stock_of named.1
-  pub rows : IfOk stock (λ rows. All (RowAgrees catalogue) rows.items)
+-- ---- the act
 
--- All that was found is what the catalogue and the shop have. Of a kind of row that the act doesn't name, anything may be found.
+pub record RentAgrees (catalogue : Catalogue) (shop : Shop) (moment : Moment) (c x : ℕ) (it : RowsFound) : Type 0 where
+  pub customer : it.customer ≡ active_at c shop
+  pub copy : option_map seen_copy it.copy ≡ copy_at catalogue shop x
+  pub same : it.has_same ≡ has_rental moment c x shop
+
+pub record PayAgrees (shop : Shop) (c : ℕ) (rental : Option ℕ) (it : RowsFound) : Type 0 where
+  pub customer : it.customer ≡ active_at c shop
+  pub rental_is : IfSome rental (λ r. option_map seen_rental it.rental ≡ rental_at shop r)
+
+pub record ImportAgrees (rules : Rules) (catalogue : Catalogue) (shop : Shop) (lot file : Text) (it : RowsFound) : Type 0 where
+  pub count : it.copies ≡ length shop.copies
+  pub lot_in : it.has_lot ≡ list_any (bytes_eq lot) shop.lots
+  pub reading : seen_stock it.stock ≡ rules.stock_of file
+  pub rows : IfOk it.stock (All (RowAgrees catalogue))
+
+-- what was found of the kinds of rows that an act names is what the catalogue and the shop have; of an act that no counter sends yet nothing is found
+abbrev pub ActAgrees : Rules → Catalogue → Shop → Moment → Act → RowsFound → Type 0
+ActAgrees rules catalogue shop moment (model.AddCustomer person) it = it.has_city ≡ not (lacks catalogue.cities person.city)
+ActAgrees rules catalogue shop moment (model.SetActive c active) it = it.customer ≡ active_at c shop
+ActAgrees rules catalogue shop moment (model.Rent c x) it = RentAgrees catalogue shop moment c x it
+ActAgrees rules catalogue shop moment (model.TakeBack r) it = option_map seen_rental it.rental ≡ rental_at shop r
+ActAgrees rules catalogue shop moment (model.Pay c rental amount) it = PayAgrees shop c rental it
+ActAgrees rules catalogue shop moment (model.Import lot file) it = ImportAgrees rules catalogue shop lot file it
+ActAgrees rules catalogue shop moment (model.Scrap x) it = option_map seen_copy it.copy ≡ copy_at catalogue shop x
+ActAgrees rules catalogue shop moment act it = ⊤
+
+-- ---- all that was found
+
+-- all that was found is what the catalogue and the shop have
 pub record Agrees (rules : Rules) (catalogue : Catalogue) (shop : Shop) (command : Command) (found : Found) : Type 0 where
   pub kept : option_map seen_kept found.kept ≡ head (map (kept_for command) (filter (λ (k : Kept). bytes_eq k.command.key command.key) shop.kept))
   pub keys : found.keys ≡ length shop.kept
   pub last : found.last ≡ shop.last
   pub staff : option_map seen_post found.staff ≡ head (map post_of (at command.staff catalogue.staff))
-  pub city : IfSome (city_in command.act) (λ n. found.has_city ≡ not (lacks catalogue.cities n))
-  pub customer : IfSome (customer_in command.act) (λ c. found.customer ≡ active_at c shop)
-  pub copy : IfSome (copy_in command.act) (λ x. option_map seen_copy found.copy ≡ copy_at catalogue shop x)
-  pub out : IfSome (copy_in command.act) (λ x. IsOut shop x found.out)
-  pub same : found.has_same ≡ has_same_rental command.moment command.act shop
-  pub rental : IfSome (rental_in command.act) (λ r. option_map seen_rental found.rental ≡ rental_at shop r)
-  pub import : IfSome (import_in command.act) (ImportAgrees rules catalogue shop found.copies found.has_lot found.stock)
+  pub act : ActAgrees rules catalogue shop command.moment command.act found.rows
 
 -- ---- the copies of a film
 
@@ -141,10 +115,3 @@ AreOfFilm film shop copies =
 -- the copy is here, and in stock or not, as the flag says
 abbrev pub is_listed : Bool → ℕ × Bool × Bool → Bool
 is_listed is_in copy = copy.1 && same_flag copy.2 is_in
-
--- ---- what a caller sees to
-
--- a branch has at most a million copies, and a stock file lists at most a thousand, so that no number wraps
-pub record IsWithin (found : Found) : Type 0 where
-  pub copies : found.copies ≤ 1_000_000
-  pub stock : IfOk found.stock (λ rows. copies_of rows.items ≤ 1_000)

@@ -1,2 +1,3 @@
+pub mod StockLists
 pub mod Agreed
 pub mod Decided

@@ -1,139 +1,126 @@
-//! Whether a command's act may be done, by what was found of the customer, the copy or the rental that it names: the first refusal that holds, if any.
+//! The first refusal of a command by what it does, where its key is new, by what was found of the customer, the copy or the rental that it names.
 
-ghost use Rattle.std.specs.Prelude.{◌≡◌, ℕ, true, not, Some, IfOk, IfSome, map, option_map};
+ghost use Rattle.std.specs.Prelude.{◌≡◌, ℕ, not, Some, IfSome, option_map};
 ghost use Rattle.shop_model.specs.Calendar as calendar;
-ghost use Rattle.shop_model.specs.Rows.{at, lacks};
+ghost use Rattle.shop_model.specs.Rows.{lacks};
 ghost use Rattle.shop_model.specs.Values as model;
 ghost use Rattle.shop_model.specs.Shop.{Catalogue, Shop};
 ghost use Rattle.shop_model.specs.Verdict.{first, act_refusals};
-ghost use Rattle.shop_model.specs.Books.{head};
-ghost use Rattle.branch_core.specs.Agreed.{active_at, copy_at, rental_at, seen_copy, seen_rental, has_same_rental, IsOut};
-ghost use Rattle.branch_core.specs.Decided.{verdict_by};
+ghost use Rattle.shop_types.specs.Verdicts.{verdict_by};
+ghost use Rattle.branch_core.specs.Agreed.{active_at, copy_at, rental_at, seen_copy, seen_rental, has_rental};
+ghost use Rattle.branch_core.specs.Decided.{rent_tests};
 
 use crate::{CopyFound, RentalFound};
-use shop_types::{CopyNo, CustomerNo, Refusal, RentalNo};
+use shop_types::{CustomerNo, Refusal, RentalNo};
 
 /// Of a new customer in a city that may not be there.
-pub fn check_city(has_city: bool) -> Result<(), Refusal>
+pub fn city_refusal(has_city: bool) -> Option<Refusal>
     ensures { (rules : model.Rules) (b : ℕ) (catalogue : Catalogue) (shop : Shop) (moment : calendar.Moment) (person : model.Person)
         → has_city ≡ not (lacks catalogue.cities person.city)
         → verdict_by result ≡ Some (first (act_refusals rules b catalogue shop moment (model.AddCustomer person))) }
 {
     if has_city {
-        Ok(())
+        None
     } else {
-        Err(Refusal::NoSharedRow)
+        Some(Refusal::NoSharedRow)
     }
 }
 
 /// Of setting whether a customer may rent.
-pub fn check_active(is_active: Option<bool>, active: bool) -> Result<(), Refusal>
+pub fn active_refusal(is_active: Option<bool>, active: bool) -> Option<Refusal>
     ensures { (rules : model.Rules) (b : ℕ) (catalogue : Catalogue) (shop : Shop) (moment : calendar.Moment) (c : ℕ) → is_active ≡ active_at c shop
         → verdict_by result ≡ Some (first (act_refusals rules b catalogue shop moment (model.SetActive c active))) }
 {
     match is_active {
-        None => Err(Refusal::NoCustomer),
+        None => Some(Refusal::NoCustomer),
         Some(was) => {
             if was == active {
-                Err(Refusal::Already)
+                Some(Refusal::Already)
             } else {
-                Ok(())
+                None
             }
         }
     }
 }
 
 /// Of a rental of a copy to a customer.
-pub fn check_rent(
+pub fn rent_refusal(
     is_active: Option<bool>,
-    found: Option<CopyFound>,
-    out: Option<RentalNo>,
+    copy: Option<CopyFound>,
     has_same: bool,
-) -> Result<(), Refusal>
-    ensures { (rules : model.Rules) (b : ℕ) (catalogue : Catalogue) (shop : Shop) (moment : calendar.Moment) (customer copy : ℕ)
-        → is_active ≡ active_at customer shop → option_map seen_copy found ≡ copy_at catalogue shop copy
-        → IsOut shop copy out → has_same ≡ has_same_rental moment (model.Rent customer copy) shop
-        → verdict_by result ≡ Some (first (act_refusals rules b catalogue shop moment (model.Rent customer copy))) }
+) -> Option<Refusal>
+    ensures { (rules : model.Rules) (b : ℕ) (catalogue : Catalogue) (shop : Shop) (moment : calendar.Moment) (c x : ℕ)
+        → is_active ≡ active_at c shop → option_map seen_copy copy ≡ copy_at catalogue shop x → has_same ≡ has_rental moment c x shop
+        → verdict_by result ≡ Some (first (act_refusals rules b catalogue shop moment (model.Rent c x))) }
 {
     match is_active {
-        None => Err(Refusal::NoCustomer),
-        Some(false) => Err(Refusal::CustomerInactive),
-        Some(true) => check_copy(found, out, has_same),
+        None => Some(Refusal::NoCustomer),
+        Some(false) => Some(Refusal::CustomerInactive),
+        Some(true) => copy_refusal(copy, has_same),
     }
 }
 
 /// The same of a customer who may rent.
-fn check_copy(
-    found: Option<CopyFound>,
-    out: Option<RentalNo>,
-    has_same: bool,
-) -> Result<(), Refusal>
-    ensures { (rules : model.Rules) (b : ℕ) (catalogue : Catalogue) (shop : Shop) (moment : calendar.Moment) (customer copy : ℕ)
-        → Some true ≡ active_at customer shop → option_map seen_copy found ≡ copy_at catalogue shop copy
-        → IsOut shop copy out → has_same ≡ has_same_rental moment (model.Rent customer copy) shop
-        → verdict_by result ≡ Some (first (act_refusals rules b catalogue shop moment (model.Rent customer copy))) }
+fn copy_refusal(copy: Option<CopyFound>, has_same: bool) -> Option<Refusal>
+    ensures { verdict_by result ≡ Some (first (rent_tests copy has_same)) }
 {
-    let Some(found) = found else {
-        return Err(Refusal::NoCopy);
+    let Some(copy) = copy else {
+        return Some(Refusal::NoCopy);
     };
-    if !found.is_here {
-        return Err(Refusal::CopyNotHere);
+    if !copy.is_here {
+        Some(Refusal::CopyNotHere)
+    } else if copy.is_out {
+        Some(Refusal::CopyOut)
+    } else if copy.is_withdrawn {
+        Some(Refusal::FilmWithdrawn)
+    } else if has_same {
+        Some(Refusal::SameMoment)
+    } else {
+        None
     }
-    if out.is_some() {
-        return Err(Refusal::CopyOut);
-    }
-    if found.is_withdrawn {
-        return Err(Refusal::FilmWithdrawn);
-    }
-    if has_same {
-        return Err(Refusal::SameMoment);
-    }
-    Ok(())
 }
 
-/// Of taking a rental's copy back, and which copy that is.
-pub fn check_return(found: Option<RentalFound>) -> Result<CopyNo, Refusal>
-    ensures verdict { (rules : model.Rules) (b : ℕ) (catalogue : Catalogue) (shop : Shop) (moment : calendar.Moment) (r : ℕ)
-        → option_map seen_rental found ≡ rental_at shop r
+/// Of taking a rental's copy back.
+pub fn return_refusal(rental: Option<RentalFound>) -> Option<Refusal>
+    ensures { (rules : model.Rules) (b : ℕ) (catalogue : Catalogue) (shop : Shop) (moment : calendar.Moment) (r : ℕ)
+        → option_map seen_rental rental ≡ rental_at shop r
         → verdict_by result ≡ Some (first (act_refusals rules b catalogue shop moment (model.TakeBack r))) }
-    ensures copy { (shop : Shop) (r : ℕ) → option_map seen_rental found ≡ rental_at shop r
-        → IfOk result (λ copy. Some copy ≡ head (map (λ it. it.copy) (at r shop.rentals))) }
 {
-    match found {
-        None => Err(Refusal::NoRental),
-        Some(found) => {
-            if found.is_returned {
-                Err(Refusal::RentalReturned)
+    match rental {
+        None => Some(Refusal::NoRental),
+        Some(rental) => {
+            if rental.is_returned {
+                Some(Refusal::RentalReturned)
             } else {
-                Ok(found.copy)
+                None
             }
         }
     }
 }
 
 /// Of the customer's payment, of the rental where one is named.
-pub fn check_payment(
+pub fn payment_refusal(
     customer: CustomerNo,
-    rental: Option<RentalNo>,
+    named: Option<RentalNo>,
     is_active: Option<bool>,
-    found: Option<RentalFound>,
-) -> Result<(), Refusal>
+    rental: Option<RentalFound>,
+) -> Option<Refusal>
     ensures { (rules : model.Rules) (b : ℕ) (catalogue : Catalogue) (shop : Shop) (moment : calendar.Moment) (amount : ℕ) → is_active ≡ active_at customer shop
-        → IfSome rental (λ r. option_map seen_rental found ≡ rental_at shop r)
-        → verdict_by result ≡ Some (first (act_refusals rules b catalogue shop moment (model.Pay customer rental amount))) }
+        → IfSome named (λ r. option_map seen_rental rental ≡ rental_at shop r)
+        → verdict_by result ≡ Some (first (act_refusals rules b catalogue shop moment (model.Pay customer named amount))) }
 {
     if is_active.is_none() {
-        return Err(Refusal::NoCustomer);
+        return Some(Refusal::NoCustomer);
     }
-    match rental {
-        None => Ok(()),
-        Some(_) => match found {
-            None => Err(Refusal::NoRental),
-            Some(found) => {
-                if found.customer == customer {
-                    Ok(())
+    match named {
+        None => None,
+        Some(_) => match rental {
+            None => Some(Refusal::NoRental),
+            Some(rental) => {
+                if rental.customer == customer {
+                    None
                 } else {
-                    Err(Refusal::WrongCustomer)
+                    Some(Refusal::WrongCustomer)
                 }
             }
         },
@@ -141,19 +128,19 @@ pub fn check_payment(
 }
 
 /// Of scrapping a copy.
-pub fn check_scrap(found: Option<CopyFound>, out: Option<RentalNo>) -> Result<(), Refusal>
-    ensures { (rules : model.Rules) (b : ℕ) (catalogue : Catalogue) (shop : Shop) (moment : calendar.Moment) (copy : ℕ)
-        → option_map seen_copy found ≡ copy_at catalogue shop copy
-        → IsOut shop copy out → verdict_by result ≡ Some (first (act_refusals rules b catalogue shop moment (model.Scrap copy))) }
+pub fn scrap_refusal(copy: Option<CopyFound>) -> Option<Refusal>
+    ensures { (rules : model.Rules) (b : ℕ) (catalogue : Catalogue) (shop : Shop) (moment : calendar.Moment) (x : ℕ)
+        → option_map seen_copy copy ≡ copy_at catalogue shop x
+        → verdict_by result ≡ Some (first (act_refusals rules b catalogue shop moment (model.Scrap x))) }
 {
-    let Some(found) = found else {
-        return Err(Refusal::NoCopy);
+    let Some(copy) = copy else {
+        return Some(Refusal::NoCopy);
     };
-    if !found.is_here {
-        return Err(Refusal::CopyNotHere);
+    if !copy.is_here {
+        Some(Refusal::CopyNotHere)
+    } else if copy.is_out {
+        Some(Refusal::CopyOut)
+    } else {
+        None
     }
-    if out.is_some() {
-        return Err(Refusal::CopyOut);
-    }
-    Ok(())
 }

@@ -1,6 +1,8 @@
 //! What was found of the rows that a command names.
 
+use crate::StockRows;
 use shop_types::{BadCsv, CopyNo, CustomerNo, FilmNo, KeptFound, Moment, RentalNo, StaffFound};
+use std::alloc::Global;
 
 /// A row of the stock file, with what the catalogue says of its film.
 #[derive(Clone, Copy)]
@@ -21,6 +23,8 @@ pub struct CopyFound {
     pub is_here: bool,
     /// Whether its film is withdrawn.
     pub is_withdrawn: bool,
+    /// Whether a customer has it.
+    pub is_out: bool,
 }
 
 /// A rental that a command names.
@@ -32,7 +36,7 @@ pub struct RentalFound {
     pub is_returned: bool,
 }
 
-/// All that a decision reads. Where the command names no row of a kind, what is said of it is not looked at.
+/// All that a decision reads.
 #[derive(Drop)]
 pub struct Found<'a> {
     /// The branch's kept row of the command's key, where there is one.
@@ -43,14 +47,18 @@ pub struct Found<'a> {
     pub last: Option<Moment>,
     /// The member of staff of the command's number, where there is one.
     pub staff: Option<StaffFound>,
+    pub rows: RowsFound,
+}
+
+/// The rows that a command's act names, one field a kind. What is said of a kind that it doesn't name is never looked at.
+#[derive(Drop)]
+pub struct RowsFound {
     /// Whether the catalogue has the city of a new customer.
     pub has_city: bool,
     /// Whether the customer may rent, where the branch has one of the number.
     pub customer: Option<bool>,
     /// The copy, where the branch has one of the number.
     pub copy: Option<CopyFound>,
-    /// The copy's open rental, where it is out.
-    pub out: Option<RentalNo>,
     /// Whether the branch has a rental of the command's moment, copy and customer.
     pub has_same: bool,
     /// The rental, where the branch has one of the number.
@@ -60,5 +68,21 @@ pub struct Found<'a> {
     /// Whether the branch has a lot of the name.
     pub has_lot: bool,
     /// The rows of the stock file in their order, or its fault.
-    pub stock: Result<Vec<StockFound>, BadCsv>,
+    pub stock: Result<StockRows, BadCsv>,
+}
+
+impl RowsFound {
+    /// Of no row there is anything.
+    pub fn none(alloc: Global) -> RowsFound {
+        RowsFound {
+            has_city: false,
+            customer: None,
+            copy: None,
+            has_same: false,
+            rental: None,
+            copies: 0,
+            has_lot: false,
+            stock: Ok(StockRows::none(alloc)),
+        }
+    }
 }

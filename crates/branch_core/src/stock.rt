@@ -1,17 +1,81 @@
 //! What the rows of a stock file come to.
 
-ghost use Rattle.std.specs.Prelude.{◌≡◌, ◌≤◌, Some, not, IfOk};
+ghost use Rattle.std.specs.Prelude.{◌≡◌, ◌≤◌, nat_le, not, [], Some, None, IfOk, if◌then◌else◌};
 ghost use Rattle.std.specs.List.{All, list_any};
 ghost use Rattle.std.specs.Str.{bytes_eq};
 ghost use Rattle.shop_model.specs.Values.{Text, Copies};
 ghost use Rattle.shop_model.specs.Shop.{Catalogue, Shop};
 ghost use Rattle.shop_model.specs.Verdict.{first, import_refusals, new_in};
 ghost use Rattle.shop_model.specs.Machine.{films_in};
-ghost use Rattle.branch_core.specs.Agreed.{RowAgrees, films_of, copies_of, seen_stock};
-ghost use Rattle.branch_core.specs.Decided.{verdict_by};
+ghost use Rattle.shop_types.specs.Verdicts.{verdict_by};
+ghost use Rattle.branch_core.specs.StockLists.{films_of, copies_of};
+ghost use Rattle.branch_core.specs.Agreed.{RowAgrees, seen_stock};
 
 use crate::StockFound;
 use shop_types::{BadCsv, Refusal};
+use std::alloc::Global;
+use std::marker::Model;
+
+/// The rows of a stock file, with what the catalogue has of their films. They list at most 1,000 copies in all.
+#[derive(Drop)]
+pub struct StockRows {
+    rows: Vec<StockFound>,
+}
+
+impl Model for StockRows {
+    ghost use Rattle.std.specs.Prelude.{◌≤◌, List};
+    ghost use Rattle.branch_core.specs.declared.found.StockFound.{StockFound};
+    ghost use Rattle.branch_core.specs.StockLists.{copies_of};
+
+    ghost Value = { List StockFound };
+
+    ghost view = { λ it. it.rows.items };
+
+    ghost invariant = { λ it. copies_of it.rows.items ≤ 1_000 };
+}
+
+impl StockRows {
+    /// The rows, where they list no more than 1,000 copies. It takes the `Vec`, and so no memory.
+    pub fn new(rows: Vec<StockFound>) -> Option<StockRows>
+        ensures { result ≡ (if nat_le (copies_of rows.items) 1_000 then Some rows.items else None) }
+    {
+        if are_few(rows.as_slice()) {
+            Some(StockRows { rows })
+        } else {
+            None
+        }
+    }
+
+    /// No rows.
+    pub fn none(alloc: Global) -> StockRows
+        ensures { result ≡ [] }
+    {
+        StockRows {
+            rows: Vec::new(alloc),
+        }
+    }
+
+    pub fn as_slice(&self) -> &[StockFound]
+        ensures value { result.now ≡ self.now }
+        ensures few { copies_of result.now ≤ 1_000 }
+    {
+        self.rows.as_slice()
+    }
+}
+
+/// Whether the rows list no more than 1,000 copies.
+fn are_few(rows: &[StockFound]) -> bool
+    ensures { result ≡ nat_le (copies_of rows.now) 1_000 }
+{
+    let mut copies = 0;
+    for row in rows {
+        copies += u32::from(row.copies);
+        if 1_000 < copies {
+            return false;
+        }
+    }
+    true
+}
 
 /// How many copies the rows list.
 pub fn copies_in(rows: &[StockFound]) -> u32
@@ -25,9 +89,19 @@ pub fn copies_in(rows: &[StockFound]) -> u32
     copies
 }
 
+/// The rows of the stock file: none where it is at fault.
+pub fn rows_in(stock: &Result<StockRows, BadCsv>) -> &[StockFound]
+    ensures films { films_of result.now ≡ films_in (seen_stock stock.now) }
+    ensures few { copies_of result.now ≤ 1_000 }
+{
+    match stock {
+        Ok(rows) => rows.as_slice(),
+        Err(_) => &[],
+    }
+}
+
 /// How many copies the stock file makes: none where it is at fault.
-pub fn new_copies(stock: &Result<Vec<StockFound>, BadCsv>) -> u32
-    requires { IfOk stock.now (λ rows. copies_of rows.items ≤ 1_000) }
+pub fn new_copies(stock: &Result<StockRows, BadCsv>) -> u32
     ensures value { result ≡ new_in (seen_stock stock.now) }
     ensures bound { result ≤ 1_000 }
 {
@@ -37,40 +111,32 @@ pub fn new_copies(stock: &Result<Vec<StockFound>, BadCsv>) -> u32
     }
 }
 
-/// The rows of the stock file, or the first refusal of its import, by whether the branch has a lot of the name.
-pub fn check_stock(
-    stock: &Result<Vec<StockFound>, BadCsv>,
-    has_lot: bool,
-) -> Result<&[StockFound], Refusal>
-    ensures verdict { (catalogue : Catalogue) (shop : Shop) (lot : Text) → IfOk stock.now (λ rows. All (RowAgrees catalogue) rows.items)
+/// Of an import of the stock file, by whether the branch has a lot of the name.
+pub fn stock_refusal(stock: &Result<StockRows, BadCsv>, has_lot: bool) -> Option<Refusal>
+    ensures { (catalogue : Catalogue) (shop : Shop) (lot : Text) → IfOk stock.now (All (RowAgrees catalogue))
         → has_lot ≡ list_any (bytes_eq lot) shop.lots
         → verdict_by result ≡ Some (first (import_refusals catalogue shop lot (seen_stock stock.now))) }
-    ensures rows { IfOk result (λ rows. films_of rows.now ≡ films_in (seen_stock stock.now)) }
-    ensures few { IfOk stock.now (λ rows. copies_of rows.items ≤ 1_000) → IfOk result (λ rows. copies_of rows.now ≤ 1_000) }
 {
     match stock {
-        Ok(rows) => {
-            check_rows(rows.as_slice(), has_lot)?;
-            Ok(rows.as_slice())
-        }
-        Err(_) if has_lot => Err(Refusal::LotIn),
-        Err(fault) => Err(Refusal::BadCsv(*fault)),
+        Ok(rows) => rows_refusal(rows.as_slice(), has_lot),
+        Err(_) if has_lot => Some(Refusal::LotIn),
+        Err(fault) => Some(Refusal::BadCsv(*fault)),
     }
 }
 
-/// The first refusal of an import of the rows.
-fn check_rows(rows: &[StockFound], has_lot: bool) -> Result<(), Refusal>
+/// Of an import of the rows.
+fn rows_refusal(rows: &[StockFound], has_lot: bool) -> Option<Refusal>
     ensures { (catalogue : Catalogue) (shop : Shop) (lot : Text) → All (RowAgrees catalogue) rows.now → has_lot ≡ list_any (bytes_eq lot) shop.lots
         → verdict_by result ≡ Some (first (import_refusals catalogue shop lot (Copies (films_of rows.now)))) }
 {
     if has_withdrawn(rows) {
-        Err(Refusal::FilmWithdrawn)
+        Some(Refusal::FilmWithdrawn)
     } else if has_unknown(rows) {
-        Err(Refusal::NoFilm)
+        Some(Refusal::NoFilm)
     } else if has_lot {
-        Err(Refusal::LotIn)
+        Some(Refusal::LotIn)
     } else {
-        Ok(())
+        None
     }
 }
 

@@ -25,14 +25,17 @@ copy_in_shop g n o copies is =
     head_of (λ (x : CopyRow). (seen_copy_row x).it) (λ (it : BookCopy). g (unmarked it)) o (at n copies) is
     ∙ ap head (sym (map_map g unmarked (at n copies)) ∙ ap (map g) (map_at unmarked n copies))
 
+-- whether the copy is here, whether its film is withdrawn, and whether it is out as is said
+abbrev pub shown : Catalogue → Bool → Copy → Bool × Bool × Bool
+shown catalogue out it = (is_here it, is_film_withdrawn catalogue it.film, out)
+
 -- the copy, and whether its film is withdrawn
-pub copy_told : (catalogue : Catalogue) (n : ℕ) (o : Option CopyRow) (row : CopyRow) (copies : List BookCopy) (withdrawn : Option Bool) → o ≡ Some row
+pub copy_told : (catalogue : Catalogue) (n : ℕ) (o : Option CopyRow) (row : CopyRow) (copies : List BookCopy) (withdrawn : Option Bool) (out : Bool) → o ≡ Some row
     → option_to_list (option_map (λ (x : CopyRow). (seen_copy_row x).it) o) ≡ at n copies → withdrawn ≡ head (map withdrawn_of (at row.film catalogue.films))
-    → ◌≡◌ {A = Option (Bool × Bool)} (Some (is_here (unmarked (seen_copy_row row).it), is_yes withdrawn))
-    (head (map (λ (it : Copy). let p : Bool × Bool = (is_here it, is_film_withdrawn catalogue it.film) in p) (at n (map unmarked copies))))
-copy_told catalogue n o row copies withdrawn found is told =
-    let shows : CopyRow → Bool × Bool = λ x. (is_here (unmarked (seen_copy_row x).it), is_film_withdrawn catalogue x.film) in
+    → ◌≡◌ {A = Option (Bool × Bool × Bool)} (Some (is_here (unmarked (seen_copy_row row).it), is_yes withdrawn, out)) (head (map (shown catalogue out) (at n (map unmarked copies))))
+copy_told catalogue n o row copies withdrawn out found is told =
+    let shows : CopyRow → Bool × Bool × Bool = λ x. shown catalogue out (unmarked (seen_copy_row x).it) in
     let film : is_yes withdrawn ≡ is_film_withdrawn catalogue row.film = ap is_yes told ∙ sym (at_most_one row.film catalogue.films) in
-    ap (λ (b : Bool). let p : Option (Bool × Bool) = Some (is_here (unmarked (seen_copy_row row).it), b) in p) film
+    ap (λ (b : Bool). let p : Option (Bool × Bool × Bool) = Some (is_here (unmarked (seen_copy_row row).it), b, out) in p) film
     ∙ sym (ap (option_map shows) found)
-    ∙ copy_in_shop (λ (it : Copy). let p : Bool × Bool = (is_here it, is_film_withdrawn catalogue it.film) in p) n o copies is
+    ∙ copy_in_shop (shown catalogue out) n o copies is

@@ -2,16 +2,16 @@
 use Rattle.std.proofs.Common.{◌≡◌, ◌∙◌, refl, sym, ap, inl, inr, arith, ℕ, ◌+◌, ◌-◌, ◌≤◌, Bool, true, false, not, List, [], ◌∷◌, map, filter, Option, Some, None}
 use Rattle.std.specs.Prelude.{◌==◌, is_some}
 use Rattle.std.specs.Option.{option_to_list}
+use Rattle.std.specs.List.{list_any}
 use Rattle.std.proofs.lemmas.Bool.{cases_Bool}
 use Rattle.std.proofs.lemmas.Bool.Decides.{nat_tests}
-use Rattle.shop_model.specs.Rows.{at, numbered_from}
+use Rattle.shop_model.specs.Rows.{at, is_empty, numbered_from}
 use Rattle.shop_model.specs.Values.{Rental}
 use Rattle.shop_model.specs.Refusals.{Refusal}
 use Rattle.shop_model.specs.Stock.{keeps_out, in_stock, held_by}
 use Rattle.shop_model.specs.Machine.{Shown, Sorry, Shows, given}
 use Rattle.shop_model.specs.Answers.{holder_text}
 use Rattle.shop_model.specs.Books.{head}
-use Rattle.branch_core.proofs.ActLemmas.{out_stock}
 
 pub given_none : {A B : Type 0} (refusal : Refusal) (show : A → Shown) (f : A → B) (rows : List A) → None ≡ head (map f rows) → given refusal show rows ≡ Sorry refusal
 given_none refusal show f [] is = refl
@@ -59,13 +59,27 @@ held_from k n x (rental ∷ rentals) one = elim (cases_Bool (keeps_out x rental)
 pub held_at : (n x : ℕ) (rentals : List Rental) → n ∷ [] ≡ open_from 1 x rentals → held_by x rentals ≡ map (λ (it : Rental). it.customer) (at n rentals)
 held_at n x rentals one = let place : n + 1 - 1 ≡ n = omega arith in (held_from 1 n x rentals one).1 ∙ ap (λ (m : ℕ). map (λ (it : Rental). it.customer) (at m rentals)) place
 
--- a copy that is out by no rental is in stock
+-- a copy is out by a rental where it isn't in stock
+open_some : (k x : ℕ) (rentals : List Rental) → list_any (keeps_out x) rentals ≡ not (is_empty (open_from k x rentals))
+open_some k x [] = refl
+open_some k x (rental ∷ rentals) = elim (cases_Bool (keeps_out x rental)) [
+  | inl is ↦ rw is refl
+  | inr isnt ↦ rw isnt (open_some (k + 1) x rentals)
+]
+
+some_listed : (out : Option ℕ) → not (is_empty (option_to_list out)) ≡ is_some out
+some_listed None = refl
+some_listed (Some n) = refl
+
+twice : (b : Bool) → b ≡ not (not b)
+twice true = refl
+twice false = refl
+
+pub out_shown : (x : ℕ) (rentals : List Rental) (out : Option ℕ) → option_to_list out ≡ open_from 1 x rentals → is_some out ≡ not (in_stock x rentals)
+out_shown x rentals out is = sym (open_some 1 x rentals ∙ ap (λ (ns : List ℕ). not (is_empty ns)) (sym is) ∙ some_listed out) ∙ twice (list_any (keeps_out x) rentals)
+
 pub stock_of_out : (x : ℕ) (rentals : List Rental) (out : Option ℕ) (is_in : Bool) → is_some out ≡ not is_in → option_to_list out ≡ open_from 1 x rentals → is_in ≡ in_stock x rentals
-stock_of_out x rentals out is_in none is = twice is_in ∙ ap not (sym none) ∙ sym (out_stock x rentals out is)
-  where
-    twice : (b : Bool) → b ≡ not (not b)
-    twice true = refl
-    twice false = refl
+stock_of_out x rentals out is_in none is = twice is_in ∙ ap not (sym none ∙ out_shown x rentals out is) ∙ sym (twice (in_stock x rentals))
 
 pub first_holder : (holders : List ℕ) → holder_text (option_to_list (head holders)) ≡ holder_text holders
 first_holder [] = refl

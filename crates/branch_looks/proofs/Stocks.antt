@@ -1,5 +1,5 @@
 -- What is found of the films of a stock file.
-use Rattle.std.proofs.Common.{◌≡◌, ◌∙◌, refl, sym, ap, ℕ, ◌+◌, ◌<◌, ◌≤◌, List, [], ◌∷◌, ◌++◌, length, map, take, get_or, replicate, not, Bool, Option, arith}
+use Rattle.std.proofs.Common.{◌≡◌, ◌∙◌, refl, sym, ap, ℕ, ◌+◌, ◌<◌, List, [], ◌∷◌, ◌++◌, length, map, take, get_or, replicate, not, Bool, Option}
 use Rattle.std.specs.Prelude.{is_some}
 use Rattle.std.specs.List.{All}
 use Rattle.std.proofs.lemmas.List.{map_more, map_push, take_more}
@@ -11,8 +11,8 @@ use Rattle.shop_model.specs.Books.{head}
 use Rattle.stock_csv.specs.declared.StockRow.{StockRow}
 use Rattle.stock_csv.specs.Stock.{films_of, IsStockRow, IsStock}
 use Rattle.branch_core.specs.declared.found.StockFound.{StockFound}
-use Rattle.branch_core.specs.Agreed.{films_of as films_found, copies_of, RowAgrees}
-use Rattle.branch_core.proofs.StockLemmas.{length_films}
+use Rattle.branch_core.specs.StockLists.{films_of as films_found}
+use Rattle.branch_core.specs.Agreed.{RowAgrees}
 use Rattle.shop_store.specs.SharedSeen.{withdrawn_of}
 use Rattle.branch_looks.proofs.Readings.{at_most_one}
 use Rattle.branch_looks.specs.Commands.{as_listed, found_row, told_row}
@@ -54,9 +54,3 @@ row_agrees catalogue row is = record { some = is.copies_low; there = refl; withd
 pub rows_agree : (catalogue : Catalogue) (rows : List StockRow) → IsStock rows → All (RowAgrees catalogue) (map (found_row catalogue) rows)
 rows_agree catalogue rows is =
     All-map (RowAgrees catalogue) (found_row catalogue) rows (All-weaker IsStockRow (λ (row : StockRow). RowAgrees catalogue (found_row catalogue row)) (row_agrees catalogue) rows is.each)
-
-pub few_copies : (found : List StockFound) (rows : List StockRow) → map as_listed found ≡ rows → IsStock rows → copies_of found ≤ 1000
-few_copies found rows same is =
-    let films : length (films_found found) ≡ length (films_of rows) = ap length (same_films found) ∙ ap (λ (rs : List StockRow). length (films_of rs)) same in
-    let count = length_films found in
-    omega (arith, films, count, is.copies)

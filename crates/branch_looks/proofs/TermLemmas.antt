@@ -26,7 +26,7 @@ use Rattle.shop_store.specs.Seen.{seen_copy_row}
 use Rattle.shop_schema.proofs.Lists.{flat_map_push}
 use Rattle.sqlite_exec.proofs.SeenLemmas.{or_false}
 use Rattle.branch_looks.specs.Finds.{AreKnown, rentals_at}
-use Rattle.shop_store.specs.declared.reads.FilmTerms.{FilmTerms}
+use Rattle.shop_store.specs.declared.films.FilmTerms.{FilmTerms}
 use Rattle.shop_store.specs.SharedSeen.{seen_terms, title_of}
 use Rattle.reply_bodies.specs.declared.overdue_rows.OverdueRow.{OverdueRow}
 use Rattle.reply_bodies.specs.Overdue.{seen_overdue}

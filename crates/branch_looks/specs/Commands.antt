@@ -1,18 +1,19 @@
 -- What is found of the rows that a command names.
-use Rattle.std.specs.Prelude.{◌≡◌, ℕ, ◌==◌, ◌&&◌, Bool, false, not, is_some, map, filter, Option, Some, option_map}
+use Rattle.std.specs.Prelude.{◌≡◌, ℕ, Bool, not, is_some, map, filter, Option, option_map}
 use Rattle.std.specs.Str.{bytes_eq}
-use Rattle.std.specs.List.{list_any}
-use Rattle.shop_model.specs.Calendar.{Moment, same_moment}
+use Rattle.shop_model.specs.Calendar.{Moment}
 use Rattle.shop_model.specs.Rows.{lacks, owned_by}
-use Rattle.shop_model.specs.Values.{Command, Rental}
+use Rattle.shop_model.specs.Values.{Act, Command, Rules}
 use Rattle.shop_model.specs.Verdict.{is_film_withdrawn}
-use Rattle.shop_model.specs.Shop.{Catalogue, Shop}
-use Rattle.shop_model.specs.Books.{Books, head}
+use Rattle.shop_model.specs.Shop.{Catalogue}
+use Rattle.shop_model.specs.Books.{Books, head, shop_of}
 use Rattle.shop_types.specs.declared.found.KeptFound.{KeptFound}
 use Rattle.shop_types.specs.Verdicts.{seen_kept}
 use Rattle.stock_csv.specs.declared.StockRow.{StockRow}
+use Rattle.stock_csv.specs.Stock.{stock_of}
 use Rattle.branch_core.specs.declared.found.StockFound.{StockFound}
-use Rattle.branch_core.specs.Agreed.{kept_for}
+use Rattle.branch_core.specs.declared.found.RowsFound.{RowsFound}
+use Rattle.branch_core.specs.Agreed.{kept_for, ActAgrees}
 use Rattle.branch_looks.specs.Finds.{is_yes}
 
 -- the row, with whether the catalogue has its film, and whether that is withdrawn
@@ -36,7 +37,6 @@ as_listed found = record { film = found.film; copies = found.copies }
 abbrev pub IsKeptFor : ℕ → Command → Option KeptFound → Books → Type 0
 IsKeptFor b command kept books = option_map seen_kept kept ≡ head (map (kept_for command) (filter (λ it. bytes_eq it.command.key command.key) (owned_by b books.kept)))
 
--- whether there is a rental of the moment, the customer and the copy, where both are named
-abbrev pub has_same : Moment → Option ℕ → Option ℕ → Shop → Bool
-has_same moment (Some c) (Some x) shop = list_any (λ (it : Rental). same_moment it.rented moment && it.copy == x && it.customer == c) shop.rentals
-has_same moment c x shop = false
+-- what was found of the rows that the act names is what the books have
+abbrev pub AgreesAt : ℕ → Moment → Act → RowsFound → Books → Type 0
+AgreesAt b moment act rows books = (rules : Rules) → rules.stock_of ≡ stock_of → ActAgrees rules books.catalogue (shop_of b books) moment act rows

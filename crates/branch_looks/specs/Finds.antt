@@ -10,9 +10,9 @@ use Rattle.shop_model.specs.Stock.{is_here, in_stock, film_in_stock, film_not_in
 use Rattle.shop_model.specs.Books.{head, unmarked}
 use Rattle.shop_types.specs.Seen.{seen_payment}
 use Rattle.shop_store.specs.declared.copies.CopyRow.{CopyRow}
-use Rattle.shop_ledger.specs.declared.payments.PaymentRow.{PaymentRow}
+use Rattle.shop_store.specs.declared.payments.PaymentRow.{PaymentRow}
 use Rattle.shop_store.specs.Seen.{seen_copy_row}
-use Rattle.shop_store.specs.declared.reads.FilmTerms.{FilmTerms}
+use Rattle.shop_store.specs.declared.films.FilmTerms.{FilmTerms}
 use Rattle.shop_store.specs.SharedSeen.{seen_terms, terms_of}
 use Rattle.balance_rule.specs.declared.rows.Paid.{Paid}
 use Rattle.balance_rule.specs.Balance.{amount_of, paid_of}

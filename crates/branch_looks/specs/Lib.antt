@@ -1,10 +1,3 @@
-pub mod Shown
-pub mod Pages
-pub mod Films
-pub mod Payments
-pub mod Sales
-pub mod Actors
-pub mod CategorySums
 pub mod Finds
 pub mod Looks
 pub mod Commands

@@ -14,8 +14,9 @@ ghost use Rattle.balance_rule.specs.Balance.{AreTermsOf, ArePaidBy, paid_of, ter
 ghost use Rattle.branch_looks.specs.Finds.{AreKnown};
 
 use balance_rule::{Paid, RentalTerms};
-use shop_ledger::payments_of_customer;
-use shop_store::{FilmTerms, RentalRow, copy_at, film_terms, rentals_of_customer};
+use shop_store::{
+    FilmTerms, RentalRow, copy_at, film_terms, payments_of_customer, rentals_of_customer,
+};
 use shop_types::{BranchNo, CustomerNo, FilmNo, Payment, Rental};
 use sql_rows::StoreFault;
 use sqlite::{Alter, Transaction};
@@ -33,7 +34,7 @@ pub fn find_terms<S: Alter>(
     ensures found { Finds (state S.Store tx.old.conn.now) (state S.Store tx.new.conn.now) result
         (λ terms books. AreTermsOf books.catalogue (shop_of branch books) customer terms.items) }
 {
-    let rows = rentals_of_customer(tx, alloc, branch, customer)?;
+    let rows = rentals_of_customer(alloc, tx, branch, customer)?;
     with_terms(alloc, tx, branch, rows.as_slice())
 }
 
@@ -61,13 +62,10 @@ fn with_terms<S: Alter>(
 pub fn push_found<T: Drop>(list: &mut Vec<T>, found: Option<T>) -> Result<(), StoreFault>
     ensures { OnOk result (list.new.items ≡ list.old.items ++ option_to_list found) }
 {
-    match found {
-        Some(one) => match list.push(one) {
-            Ok(()) => Ok(()),
-            Err(_) => Err(StoreFault::Memory),
-        },
-        None => Ok(()),
+    if let Some(one) = found {
+        list.push(one)?;
     }
+    Ok(())
 }
 
 /// By what a rental of the film is charged: the store is asked where it isn't known yet.
@@ -92,10 +90,8 @@ fn terms_once<S: Alter>(
         rate: terms.rate,
         period: terms.period,
     };
-    match known.insert(number, kept) {
-        Ok(_) => Ok(Some(terms)),
-        Err(_) => Err(StoreFault::Memory),
-    }
+    known.insert(number, kept)?;
+    Ok(Some(terms))
 }
 
 /// The terms of one rental, where its copy and film are there.
@@ -135,12 +131,10 @@ pub fn find_paid<S: Alter>(
     ensures found { Finds (state S.Store tx.old.conn.now) (state S.Store tx.new.conn.now) result
         (λ paid books. ArePaidBy (shop_of branch books) customer paid.items) }
 {
-    let rows = payments_of_customer(tx, alloc, branch, customer)?;
+    let rows = payments_of_customer(alloc, tx, branch, customer)?;
     let mut payments = Vec::new(alloc);
     for row in &rows {
-        let Ok(()) = payments.push(paid_by(row.payment)) else {
-            return Err(StoreFault::Memory);
-        };
+        payments.push(paid_by(row.payment))?;
     }
     Ok(payments)
 }

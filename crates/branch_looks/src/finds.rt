@@ -1,6 +1,6 @@
 //! What is found of customers, copies and rentals.
 
-ghost use Rattle.std.specs.Prelude.{◌≡◌, ℕ, is_some, map, option_map, IfSome};
+ghost use Rattle.std.specs.Prelude.{◌≡◌, ℕ, is_some, map, option_map};
 ghost use Rattle.sqlite.specs.Held.{state};
 ghost use Rattle.sql_rows.specs.Calls.{StaysWithin};
 ghost use Rattle.shop_model.specs.Rows.{at};
@@ -9,11 +9,13 @@ ghost use Rattle.shop_model.specs.Books.{head, shop_of};
 ghost use Rattle.shop_schema.specs.Calls.{Finds};
 ghost use Rattle.shop_store.specs.Seen.{seen_state};
 ghost use Rattle.branch_looks.specs.Finds.{is_yes, copy_shown};
-ghost use Rattle.branch_core.specs.Agreed.{active_at, copy_at, rental_at, seen_copy, seen_rental, seen_film_copy, AreOfFilm, IsOut};
+ghost use Rattle.branch_core.specs.Agreed.{active_at, copy_at, rental_at, seen_copy, seen_rental, seen_film_copy, AreOfFilm};
 
 use branch_core::{CopyFound, FilmCopy, RentalFound};
 use shop_ledger::out_at;
-use shop_store::{CopyRow, CopyState, copies_of_film, copy_at, customer_at, film_at, rental_at};
+use shop_store::{
+    CopyRow, CopyState, copies_of_film, copy_at, customer_at, film_withdrawn, rental_at,
+};
 use shop_types::{BranchNo, CopyNo, CustomerNo, FilmNo, Rental, RentalNo};
 use sql_rows::StoreFault;
 use sqlite::{Alter, Transaction};
@@ -67,59 +69,39 @@ pub fn find_here<S: Alter>(
     }
 }
 
-/// Whether the copy is in the shop and its film withdrawn, where one is named and the branch has a copy of the number.
+/// Whether the copy is in the shop, its film withdrawn and a customer has it, where the branch has one of the number.
 pub fn find_copy<S: Alter>(
     tx: &mut Transaction<'_, S>,
     branch: BranchNo,
-    copy: Option<CopyNo>,
+    copy: CopyNo,
 ) -> Result<Option<CopyFound>, StoreFault>
     ensures inside { StaysWithin S.Store tx.old.conn tx.new.conn result }
     ensures found { Finds (state S.Store tx.old.conn.now) (state S.Store tx.new.conn.now) result
-        (λ found books. IfSome copy (λ x. option_map seen_copy found ≡ copy_at books.catalogue (shop_of branch books) x)) }
+        (λ found books. option_map seen_copy found ≡ copy_at books.catalogue (shop_of branch books) copy) }
 {
-    let Some(number) = copy else {
+    let Some(row) = copy_at(tx, branch, copy)? else {
         return Ok(None);
     };
-    let Some(row) = copy_at(tx, branch, number)? else {
-        return Ok(None);
-    };
-    let withdrawn = film_at(tx, row.film)?;
+    let withdrawn = film_withdrawn(tx, row.film)?;
+    let out = out_at(tx, branch, copy)?;
     Ok(Some(CopyFound {
         is_here: is_here(row.state),
         is_withdrawn: is_yes(withdrawn),
+        is_out: out.is_some(),
     }))
 }
 
-/// The copy's open rental, where a copy is named and is out.
-pub fn find_out<S: Alter>(
-    tx: &mut Transaction<'_, S>,
-    branch: BranchNo,
-    copy: Option<CopyNo>,
-) -> Result<Option<RentalNo>, StoreFault>
-    ensures inside { StaysWithin S.Store tx.old.conn tx.new.conn result }
-    ensures found { Finds (state S.Store tx.old.conn.now) (state S.Store tx.new.conn.now) result
-        (λ out books. IfSome copy (λ x. IsOut (shop_of branch books) x out)) }
-{
-    let Some(number) = copy else {
-        return Ok(None);
-    };
-    Ok(out_at(tx, branch, number)?)
-}
-
-/// The rental, where one is named and the branch has it.
+/// The rental, where the branch has one of the number.
 pub fn find_rental<S: Alter>(
     tx: &mut Transaction<'_, S>,
     branch: BranchNo,
-    rental: Option<RentalNo>,
+    rental: RentalNo,
 ) -> Result<Option<RentalFound>, StoreFault>
     ensures inside { StaysWithin S.Store tx.old.conn tx.new.conn result }
     ensures found { Finds (state S.Store tx.old.conn.now) (state S.Store tx.new.conn.now) result
-        (λ found books. IfSome rental (λ r. option_map seen_rental found ≡ rental_at (shop_of branch books) r)) }
+        (λ found books. option_map seen_rental found ≡ rental_at (shop_of branch books) rental) }
 {
-    let Some(number) = rental else {
-        return Ok(None);
-    };
-    match rental_at(tx, branch, number)? {
+    match rental_at(tx, branch, rental)? {
         Some(row) => Ok(Some(rental_found(row.rental))),
         None => Ok(None),
     }
@@ -180,7 +162,7 @@ pub fn find_of_film<S: Alter>(
     ensures found { Finds (state S.Store tx.old.conn.now) (state S.Store tx.new.conn.now) result
         (λ copies books. AreOfFilm film (shop_of branch books) copies.items) }
 {
-    let rows = copies_of_film(tx, alloc, branch, film)?;
+    let rows = copies_of_film(alloc, tx, branch, film)?;
     with_stock(alloc, tx, branch, rows.as_slice())
 }
 
@@ -198,9 +180,7 @@ fn with_stock<S: Alter>(
     let mut copies = Vec::new(alloc);
     for row in rows {
         let copy = with_its_stock(tx, branch, *row)?;
-        let Ok(()) = copies.push(copy) else {
-            return Err(StoreFault::Memory);
-        };
+        copies.push(copy)?;
     }
     Ok(copies)
 }

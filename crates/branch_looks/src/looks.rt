@@ -19,7 +19,7 @@ use crate::reports::{look_balance, look_overdue, look_rewards};
 use branch_core::{FilmCopy, film_in_stock, film_not_in_stock};
 use reply_bodies::{copies_text, customer_text, film_text, holder_text, in_stock_text};
 use shop_ledger::out_at;
-use shop_store::{customer_at, film_at, film_row};
+use shop_store::{customer_at, film_row, film_withdrawn};
 use shop_types::{Ask, BranchNo, CopyNo, CustomerNo, FilmNo, NoMemory, Refusal, Reply};
 use sql_rows::StoreFault;
 use sqlite::{Alter, Transaction};
@@ -65,10 +65,7 @@ fn look_customer<S: Alter>(
         (λ reply books. seen_reply reply ≡ looked branch (OneCustomer number) books) }
 {
     match customer_at(tx, branch, number)? {
-        Some(row) => match customer_text(alloc, number, &row.customer) {
-            Ok(text) => Ok(Reply::accepted(text)),
-            Err(_) => Err(StoreFault::Memory),
-        },
+        Some(row) => Ok(Reply::accepted(customer_text(alloc, number, &row.customer)?)),
         None => Ok(Reply::refused(Refusal::NoCustomer)),
     }
 }
@@ -85,10 +82,7 @@ fn look_film<S: Alter>(
         (λ reply books. seen_reply reply ≡ looked branch (OneFilm number) books) }
 {
     match film_row(tx, number)? {
-        Some(row) => match film_text(alloc, number, &row.film, row.withdrawn) {
-            Ok(text) => Ok(Reply::accepted(text)),
-            Err(_) => Err(StoreFault::Memory),
-        },
+        Some(row) => Ok(Reply::accepted(film_text(alloc, number, &row.film, row.withdrawn)?)),
         None => Ok(Reply::refused(Refusal::NoFilm)),
     }
 }
@@ -108,10 +102,7 @@ fn look_in_stock<S: Alter>(
         return Ok(Reply::refused(Refusal::NoCopy));
     };
     let out = out_at(tx, branch, copy)?;
-    match in_stock_text(alloc, out.is_none()) {
-        Ok(text) => Ok(Reply::accepted(text)),
-        Err(_) => Err(StoreFault::Memory),
-    }
+    Ok(Reply::accepted(in_stock_text(alloc, out.is_none())?))
 }
 
 /// Tells which customer has a copy.
@@ -129,10 +120,7 @@ fn look_holder<S: Alter>(
         return Ok(Reply::refused(Refusal::NoCopy));
     };
     let holder = find_holder(tx, branch, copy)?;
-    match holder_text(alloc, holder) {
-        Ok(text) => Ok(Reply::accepted(text)),
-        Err(_) => Err(StoreFault::Memory),
-    }
+    Ok(Reply::accepted(holder_text(alloc, holder)?))
 }
 
 /// Lists the copies of a film that are here and in stock, or here and not in stock.
@@ -147,7 +135,7 @@ fn look_film_copies<S: Alter>(
     ensures shown { Finds (state S.Store tx.old.conn.now) (state S.Store tx.new.conn.now) result
         (λ reply books. seen_reply reply ≡ looked branch (stock_asked is_in film) books) }
 {
-    let Some(_) = film_at(tx, film)? else {
+    let Some(_) = film_withdrawn(tx, film)? else {
         return Ok(Reply::refused(Refusal::NoFilm));
     };
     let copies = find_of_film(alloc, tx, branch, film)?;

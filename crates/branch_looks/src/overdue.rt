@@ -34,7 +34,7 @@ pub fn find_overdue<S: Alter>(
     ensures found { Finds (state S.Store tx.old.conn.now) (state S.Store tx.new.conn.now) result
         (λ rows books. map seen_overdue rows.items ≡ overdue_list books.catalogue (shop_of branch books) at) }
 {
-    let numbers = rentals_out(tx, alloc, branch)?;
+    let numbers = rentals_out(alloc, tx, branch)?;
     overdue_among(alloc, tx, branch, numbers.as_slice(), at)
 }
 

@@ -40,10 +40,7 @@ pub fn look_balance<S: Alter>(
     let rentals = find_terms(alloc, tx, branch, customer)?;
     let payments = find_paid(alloc, tx, branch, customer)?;
     let cents = owed(rentals.as_slice(), payments.as_slice(), at)?;
-    match balance_text(alloc, cents) {
-        Ok(text) => Ok(Reply::accepted(text)),
-        Err(_) => Err(StoreFault::Memory),
-    }
+    Ok(Reply::accepted(balance_text(alloc, cents)?))
 }
 
 /// The balance by those rows. No sound table has more than a million of them.
@@ -70,10 +67,7 @@ pub fn look_overdue<S: Alter>(
         (λ reply books. seen_reply reply ≡ looked branch (Overdue at) books) }
 {
     let rows = find_overdue(alloc, tx, branch, at)?;
-    match overdue_text(alloc, rows.as_slice()) {
-        Ok(text) => Ok(Reply::accepted(text)),
-        Err(_) => Err(StoreFault::Memory),
-    }
+    Ok(Reply::accepted(overdue_text(alloc, rows.as_slice())?))
 }
 
 /// Lists the customers who are rewarded for the month before a moment's.
@@ -93,8 +87,5 @@ pub fn look_rewards<S: Alter>(
         return Ok(Reply::refused(Refusal::BadThreshold));
     }
     let customers = find_rewarded(alloc, tx, branch, at, purchases, cents)?;
-    match rewards_text(alloc, customers.as_slice()) {
-        Ok(text) => Ok(Reply::accepted(text)),
-        Err(_) => Err(StoreFault::Memory),
-    }
+    Ok(Reply::accepted(rewards_text(alloc, customers.as_slice())?))
 }

@@ -14,7 +14,8 @@ ghost use Rattle.branch_looks.specs.Finds.{AreSmall, AreSummed, one_paid, passes
 
 use crate::balances::paid_by;
 use balance_rule::{is_on, last_month};
-use shop_ledger::{CountKind, Counter, PaymentRow, count_of, payments_between};
+use shop_ledger::{Count, CountKind, count_of};
+use shop_store::{PaymentRow, payments_between};
 use shop_types::{Amount, BranchNo, CustomerNo, Moment};
 use sql_rows::StoreFault;
 use sqlite::{Alter, Transaction};
@@ -46,9 +47,9 @@ pub fn find_rewarded<S: Alter>(
         return Ok(Vec::new(alloc));
     };
     let (start, end) = last_month_bounds(at);
-    let customers = count_of(tx, Counter::Of(branch, CountKind::Customers))?;
-    let rows = payments_between(tx, alloc, branch, start, end)?;
-    if 1_000_000 < customers || 1_000_000 < rows.len() {
+    let customers = count_of(tx, Count::Of(branch, CountKind::Customers))?;
+    let rows = payments_between(alloc, tx, branch, start, end)?;
+    if 1_000_000 < rows.len() {
         return Err(StoreFault::Failed);
     }
     rewarded_among(alloc, customers, rows.as_slice(), month, purchases, cents)
@@ -87,9 +88,7 @@ fn rewarded_among(
     for index in 0..customers {
         let customer = CustomerNo::new(index + 1).unwrap();
         if passes_for(&sums, customer, purchases, cents) {
-            let Ok(()) = numbers.push(customer) else {
-                return Err(StoreFault::Memory);
-            };
+            numbers.push(customer)?;
         }
     }
     Ok(numbers)
@@ -127,10 +126,8 @@ fn add_paid(
         purchases: before.purchases + 1,
         cents: before.cents + u64::from(amount.get()),
     };
-    match sums.insert(customer.get(), sum) {
-        Ok(_) => Ok(()),
-        Err(_) => Err(StoreFault::Memory),
-    }
+    sums.insert(customer.get(), sum)?;
+    Ok(())
 }
 
 /// What the customer paid.

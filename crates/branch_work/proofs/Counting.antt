@@ -1,24 +1,34 @@
 -- With the counts of its new rows, the tables stand for the books that have the rows.
-use Rattle.std.proofs.Common.{◌≡◌, ◌∙◌, refl, sym, ap, subst, ℕ, ◌≤◌, List, [], ◌∷◌, ◌++◌, length, map, None, arith}
+use Rattle.std.proofs.Common.{◌≡◌, ◌∙◌, refl, sym, ap, subst, ℕ, ◌≤◌, ◌<◌, ◌^◌, true, List, [], ◌∷◌, ◌++◌, length, map, Some, None, arith}
+use Rattle.std.specs.List.{AllByRecursion}
 use Rattle.sqlite.specs.State.{State}
-use Rattle.shop_model.specs.Rows.{Row, next, put, put_all}
+use Rattle.sql_rows.specs.Rows.{PicksOne}
+use Rattle.shop_values.specs.LimitValues.{Limits}
+use Rattle.shop_model.specs.Rows.{Row, next, put, put_all, set_row}
+use Rattle.shop_model.specs.Values as model
 use Rattle.shop_model.specs.Values.{Command, Text, Customer, Rental, Payment, Scrapped}
-use Rattle.shop_model.specs.Books.{Books, BookCopy, imported, put_state}
-use Rattle.shop_types.specs.Seen.{seen_customer, seen_rental, seen_payment}
+use Rattle.shop_model.specs.Machine.{films_in}
+use Rattle.shop_model.specs.Books.{Books, BookCopy, book_acted, imported, put_state}
+use Rattle.shop_types.specs.declared.command.Act.{Act}
+use Rattle.shop_types.specs.declared.command.Act.TheVariants as act
+use Rattle.shop_types.specs.Seen.{seen_act, seen_person}
+use Rattle.stock_csv.specs.Stock.{stock_of}
+use Rattle.stock_csv.proofs.ReadingLemmas.{stock_fits}
 use Rattle.shop_schema.specs.Held.{IsHeld}
-use Rattle.shop_schema.specs.Counts.{Counts, counts_of, raise, put_out}
+use Rattle.shop_schema.specs.Counts.{Count, Counts, counts_of, count_in, is_count, raise, put_out}
 use Rattle.shop_schema.specs.Shop.{Holds, HoldsWith}
+use Rattle.shop_ledger.specs.declared.counts.CountKind.{CountKind}
 use Rattle.shop_ledger.specs.declared.counts.CountKind.TheVariants as kind
-use Rattle.shop_ledger.specs.Counted.{CountsOnce}
+use Rattle.shop_ledger.specs.Counted.{kind_number, CountsOnce}
 use Rattle.shop_ledger.proofs.CountsOf.{agreed, held_once, held_million}
-use Rattle.shop_ledger.proofs.Agreeing.{kept_counted, customer_row_counted, payment_row_counted, rental_row_counted, copies_counted, active_counted, state_counted, returned_counted, its_rentals, raised_as_many, raised_small}
-use Rattle.branch_core.specs.Agreed.{films_of}
-use Rattle.branch_core.specs.Decided.{AreWithin}
-use Rattle.branch_core.specs.declared.change.Rows.{Rows}
-use Rattle.branch_core.specs.declared.change.Rows.TheVariants as rows
-use Rattle.branch_core.proofs.StockLemmas.{length_films}
-use Rattle.branch_work.specs.Added.{with_rows, with_kept, with_import, copies_from, AreReady}
+use Rattle.shop_ledger.proofs.Agreeing.{kept_counted, customer_row_counted, payment_row_counted, rental_row_counted, copies_counted, active_counted, state_counted, set_keeps, counters_still, raised_as_many, raised_small}
+use Rattle.branch_work.specs.Rules.{rules_of}
+use Rattle.branch_work.specs.Added.{with_kept, copies_from}
 use Rattle.branch_work.proofs.CopyLemmas.{copies_own, copies_put, length_copies}
+
+-- the books with copies of these films, as a lot of that name
+abbrev pub with_import : ℕ → List ℕ → Text → Books → Books
+with_import b films lot books = record books { copies = put_all b (map (imported b) films) books.copies; lots = books.lots ++ record { owner = b; it = lot } ∷ [] }
 
 -- ---- rows with the next numbers
 
@@ -72,7 +82,18 @@ module _ (s : State) (b : ℕ) (books : Books) (low : 1 ≤ b) where
 pub kept_added : (s : State) (b : ℕ) (command : Command) (reply : Text) (books : Books) → 1 ≤ b → HoldsWith (raise b 4 1 (counts_of books)) s (with_kept b command reply books) → Holds s (with_kept b command reply books)
 kept_added s b command reply books low holds = agreed s (with_kept b command reply books) (raise b 4 1 (counts_of books)) (kept_counted b (record { command = command; reply = reply }) books low) holds
 
--- ---- books with the rows of a command have counts of which one more may be taken
+-- ---- books in which an act was carried out have counts of which one more may be taken
+
+-- a rental that is set leaves the counters
+rentals_still : (b n : ℕ) (f : Rental → Rental) (books : Books) → (counts_of (record books { rentals = set_row b n f books.rentals })).counters ≡ (counts_of books).counters
+rentals_still b n f books = counters_still books (record books { rentals = set_row b n f books.rentals }) refl refl same
+  where
+    same : (a : ℕ) (kind : CountKind) → count_in (kind_number kind) a (record books { rentals = set_row b n f books.rentals }) ≡ count_in (kind_number kind) a books
+    same a kind.Customers = refl
+    same a kind.Copies = refl
+    same a kind.Rentals = set_keeps b n f books.rentals a
+    same a kind.Payments = refl
+    same a kind.Kept = refl
 
 raised_once : (b k m : ℕ) (books : Books) → 1 ≤ b → IsHeld books → m ≤ 1_000_000 → CountsOnce b kind.Kept (raise b k m (counts_of books))
 raised_once b k m books low held few = record {
@@ -80,23 +101,29 @@ raised_once b k m books low held few = record {
   small = raised_small b k m few (counts_of books).counters (held_million books held);
 }
 
-pub rows_once : (b : ℕ) (it : Rows) (books : Books) → 1 ≤ b → IsHeld books → AreWithin it → AreReady b it books → CountsOnce b kind.Kept (counts_of (with_rows b it books))
-rows_once b (rows.Customer customer) books low held within ready =
-    subst (CountsOnce b kind.Kept) (sym (customer_row_counted b (record { branch = b; number = next b books.customers; it = seen_customer customer }) books low refl)) (raised_once b 0 1 books low held (omega arith))
-rows_once b (rows.Active customer active) books low held within ready =
+still_once : (b : ℕ) (old new : Books) → (counts_of new).counters ≡ (counts_of old).counters → 1 ≤ b → IsHeld old → CountsOnce b kind.Kept (counts_of new)
+still_once b old new same low held =
+    let own = held_once old held kind.Kept b low in
+    record { once = subst (λ cs. PicksOne (is_count b 4) cs) (sym same) own.once; small = subst (λ cs. AllByRecursion (λ (it : Count). it.last < 2 ^ 32) cs) (sym same) own.small }
+
+pub acted_once : (limits : Limits) (b : ℕ) (command : Command) (act : Act) (books : Books) → 1 ≤ b → IsHeld books → CountsOnce b kind.Kept (counts_of (book_acted (rules_of limits) b command (seen_act act) books))
+acted_once limits b command (act.Customer person) books low held =
+    let it : Customer = record { person = seen_person person; active = true; created = command.moment } in
+    subst (CountsOnce b kind.Kept) (sym (customer_row_counted b (record { branch = b; number = next b books.customers; it = it }) books low refl)) (raised_once b 0 1 books low held (omega arith))
+acted_once limits b command (act.Active customer active) books low held =
     subst (CountsOnce b kind.Kept) (sym (active_counted b customer (λ it. record it { active = active }) books)) (held_once books held kind.Kept b low)
-rows_once b (rows.Rent rental) books low held within ready =
+acted_once limits b command (act.Rent customer copy) books low held =
+    let it : Rental = record { rented = command.moment; copy = copy; customer = customer; returned = None; staff = command.staff } in
     let raised = raised_once b 2 1 books low held (omega arith) in
-    subst (CountsOnce b kind.Kept) (sym (rental_row_counted b (record { branch = b; number = next b books.rentals; it = record (seen_rental rental) { returned = None } }) books low refl refl))
-    (record { once = raised.once; small = raised.small })
-rows_once b (rows.TakeBack rental copy returned) books low held within ready =
-    let own = held_once books held kind.Kept b low in
-    subst (CountsOnce b kind.Kept) (sym (returned_counted b rental copy returned books (its_rentals b rental copy books.rentals ready))) (record { once = own.once; small = own.small })
-rows_once b (rows.Pay payment) books low held within ready =
-    subst (CountsOnce b kind.Kept) (sym (payment_row_counted b (record { branch = b; number = next b books.payments; it = seen_payment payment }) books low refl)) (raised_once b 3 1 books low held (omega arith))
-rows_once b (rows.Scrap copy) books low held within ready =
+    subst (CountsOnce b kind.Kept) (sym (rental_row_counted b (record { branch = b; number = next b books.rentals; it = it }) books low refl refl)) (record { once = raised.once; small = raised.small })
+acted_once limits b command (act.TakeBack rental) books low held =
+    still_once b books (book_acted (rules_of limits) b command (model.TakeBack rental) books) (rentals_still b rental (λ it. record it { returned = Some command.moment }) books) low held
+acted_once limits b command (act.Pay customer rental amount) books low held =
+    let it : Payment = record { customer = customer; staff = command.staff; rental = rental; amount = amount; paid = command.moment } in
+    subst (CountsOnce b kind.Kept) (sym (payment_row_counted b (record { branch = b; number = next b books.payments; it = it }) books low refl)) (raised_once b 3 1 books low held (omega arith))
+acted_once limits b command (act.Import lot file) books low held =
+    let films = films_in (stock_of file) in
+    let few : length films ≤ 1_000_000 = let many : length films ≤ 1000 = (stock_fits file).1 in omega (arith, many) in
+    subst (CountsOnce b kind.Kept) (sym (import_counted b books low films lot)) (raised_once b 1 (length films) books low held few)
+acted_once limits b command (act.Scrap copy) books low held =
     subst (CountsOnce b kind.Kept) (sym (state_counted b copy (put_state Scrapped) books)) (held_once books held kind.Kept b low)
-rows_once b (rows.Import stock lot) books low held within ready =
-    let films = films_of stock.now in
-    let few : length films ≤ 1_000_000 = let many = length_films stock.now in omega (arith, many, within) in
-    subst (CountsOnce b kind.Kept) (sym (import_counted b books low films lot.now)) (raised_once b 1 (length films) books low held few)

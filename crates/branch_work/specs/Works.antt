@@ -1,43 +1,52 @@
--- What a branch's request does inside one transaction.
+-- What a request does inside one transaction, whoever asks it.
 use Rattle.std.specs.Prelude.{◌≡◌, ℕ, Bool, false, Option}
 use Rattle.sqlite.specs.State.{State}
 use Rattle.shop_values.specs.LimitValues.{Limits}
 use Rattle.shop_model.specs.Calendar.{Moment}
 use Rattle.shop_model.specs.Rows.{lacks, owned_by}
-use Rattle.shop_model.specs.Values.{Command, OneView}
-use Rattle.shop_model.specs.Machine.{Request, Do, Look, Done, reply_text}
+use Rattle.shop_model.specs.Values.{Text, Command}
+use Rattle.shop_model.specs.Verdict.{Verdict}
+use Rattle.shop_model.specs.Machine.{Request, Do, Done, Shows as Shown, reply_text, reply_by, if_accepted, view_rows}
 use Rattle.shop_model.specs.Answers.{Answer, answer_of}
-use Rattle.shop_model.specs.Books.{Books, Counter, head, shop_of, book_done, known_caller, reply_for, after_for}
+use Rattle.shop_model.specs.Books.{Books, Caller, Counter, head, shop_of, book_done, known_caller, reply_for, after_for}
 use Rattle.shop_model.specs.Office.{office_look}
 use Rattle.shop_types.specs.Seen.{seen_view}
 use Rattle.shop_types.specs.Replies.{seen_reply}
 use Rattle.shop_schema.specs.Held.{IsHeld}
 use Rattle.shop_schema.specs.Shop.{Holds}
-use Rattle.branch_core.specs.Agreed.{Agrees}
-use Rattle.branch_core.specs.Decided.{Adds}
+use Rattle.branch_core.specs.Agreed.{Agrees, ActAgrees}
 use Rattle.branch_core.specs.declared.found.Found.{Found}
-use Rattle.branch_core.specs.declared.change.Rows.{Rows}
+use Rattle.branch_core.specs.declared.found.RowsFound.{RowsFound}
 use Rattle.branch_work.specs.declared.working.Worked.{Worked}
 use Rattle.branch_work.specs.declared.working.Worked.TheVariants.{Answered, Shows}
 use Rattle.branch_work.specs.Rules.{rules_of}
 
--- the answer to a branch's request, and the books after it
-abbrev pub told_branch : Limits → ℕ → Request → Books → Answer
-told_branch limits b request books = answer_of (reply_for (rules_of limits) office_look (known_caller books.catalogue (Counter b)) request books)
+-- the answer to a caller's request, and the books after it
+abbrev pub told_to : Limits → Caller → Request → Books → Answer
+told_to limits caller request books = answer_of (reply_for (rules_of limits) office_look (known_caller books.catalogue caller) request books)
 
-abbrev pub after_branch : Limits → ℕ → Request → Books → Books
-after_branch limits b request books = after_for (rules_of limits) (known_caller books.catalogue (Counter b)) request books
+abbrev pub left_by : Limits → Caller → Request → Books → Books
+left_by limits caller request books = after_for (rules_of limits) (known_caller books.catalogue caller) request books
 
 -- the request is answered, the tables come to stand for the books after it, and it is told whether there is anything to commit
-pub record IsDone (limits : Limits) (b : ℕ) (request : Request) (answer : Answer) (is_changed : Bool) (new : State) (books : Books) : Type 0 where
-  pub reply : answer ≡ told_branch limits b request books
-  pub holds : Holds new (after_branch limits b request books)
-  pub same : is_changed ≡ false → after_branch limits b request books ≡ books
+pub record IsDone (limits : Limits) (caller : Caller) (request : Request) (answer : Answer) (is_changed : Bool) (new : State) (books : Books) : Type 0 where
+  pub reply : answer ≡ told_to limits caller request books
+  pub holds : Holds new (left_by limits caller request books)
+  pub same : is_changed ≡ false → left_by limits caller request books ≡ books
 
--- the request came to this: it is done, or it is a view of a branch that is there, which is still to be shown
+abbrev pub Does : Limits → Caller → Request → Answer → Bool → State → State → Type 0
+Does limits caller request answer is_changed old new = (books : Books) → Holds old books → IsHeld books → IsDone limits caller request answer is_changed new books
+
+-- the answer and the books go by the verdict: where it is accepted, to that text and those books
+pub record GoesBy (limits : Limits) (caller : Caller) (request : Request) (verdict : Verdict) (text : Text) (done books : Books) : Type 0 where
+  pub told : told_to limits caller request books ≡ answer_of (reply_by verdict text)
+  pub left : left_by limits caller request books ≡ if_accepted verdict done books
+
+-- a branch's request came to this: it is done, or it is a view, which is still to be shown
 abbrev pub IsWorked : Limits → ℕ → Request → Worked → State → Books → Type 0
-IsWorked limits b request (Answered reply is_changed) new books = IsDone limits b request (seen_reply reply) is_changed new books
-IsWorked limits b request (Shows view) new books = (request ≡ Look (OneView (seen_view view))) × (lacks books.catalogue.branches b ≡ false)
+IsWorked limits b request (Answered reply is_changed) new books = IsDone limits (Counter b) request (seen_reply reply) is_changed new books
+IsWorked limits b request (Shows view) new books =
+    (told_to limits (Counter b) request books ≡ answer_of (Shown (view_rows b books.catalogue (shop_of b books) (seen_view view)))) × (left_by limits (Counter b) request books ≡ books)
 
 abbrev pub Works : Limits → ℕ → Request → Worked → State → State → Type 0
 Works limits b request worked old new = (books : Books) → Holds old books → IsHeld books → IsWorked limits b request worked new books
@@ -45,16 +54,16 @@ Works limits b request worked old new = (books : Books) → Holds old books → 
 -- the same of a branch that is there and has that last moment
 abbrev pub WorksFor : Limits → ℕ → Option Moment → Request → Answer → Bool → State → State → Type 0
 WorksFor limits b last request answer is_changed old new =
-    (books : Books) → Holds old books → IsHeld books → lacks books.catalogue.branches b ≡ false → last ≡ head (owned_by b books.lasts) → IsDone limits b request answer is_changed new books
+    (books : Books) → Holds old books → IsHeld books → lacks books.catalogue.branches b ≡ false → last ≡ head (owned_by b books.lasts) → IsDone limits (Counter b) request answer is_changed new books
 
 -- the same of a branch that is there, where this was found for the decision
 abbrev pub WorksBy : Limits → ℕ → Command → Found → Answer → Bool → State → State → Type 0
 WorksBy limits b command found answer is_changed old new =
     (books : Books) → Holds old books → IsHeld books → lacks books.catalogue.branches b ≡ false → Agrees (rules_of limits) books.catalogue (shop_of b books) command found
-    → IsDone limits b (Do command) answer is_changed new books
+    → IsDone limits (Counter b) (Do command) answer is_changed new books
 
--- with the rows of an accepted command the tables come to stand for the books after it, and the reply is its own
-abbrev pub IsAdded : Limits → ℕ → Command → Rows → Answer → State → State → Type 0
+-- the tables come to stand for the books after an accepted command, and the reply is its own
+abbrev pub IsAdded : Limits → ℕ → Command → RowsFound → Answer → State → State → Type 0
 IsAdded limits b command rows answer old new =
-    (books : Books) → Holds old books → IsHeld books → Adds (rules_of limits) command command.act (shop_of b books) rows
+    (books : Books) → Holds old books → IsHeld books → ActAgrees (rules_of limits) books.catalogue (shop_of b books) command.moment command.act rows
     → Holds new (book_done (rules_of limits) b command books) × (answer ≡ answer_of (Done (reply_text (rules_of limits) command (shop_of b books))))

@@ -1,63 +1,61 @@
-//! How the rows of an accepted command are written and counted, and what is replied of them.
+//! How an accepted command's act is carried out as it stands: its rows, their counts, and what is replied of them; and how the command is kept.
 
-ghost use Rattle.std.specs.Prelude.{◌≡◌, ◌+◌, ◌∷◌, [], map, filter, string_bytes, IfOk, OnOk};
+ghost use Rattle.std.specs.Prelude.{◌≡◌, ◌+◌, ◌∷◌, [], true, map, filter, string_bytes, IfOk, OnOk};
 ghost use Rattle.sqlite.specs.Held.{state};
 ghost use Rattle.sqlite.specs.State.{HasCleanDisk};
 ghost use Rattle.sql_rows.specs.Calls.{StaysWithin};
+ghost use Rattle.shop_model.specs.Values as model;
 ghost use Rattle.shop_model.specs.Books as books;
-ghost use Rattle.shop_types.specs.Seen.{seen_command};
+ghost use Rattle.shop_types.specs.Seen.{seen_act, seen_command, seen_person};
 ghost use Rattle.shop_schema.specs.Counts.{counts_of, is_count, raise};
 ghost use Rattle.shop_schema.specs.Forms.{command_form};
 ghost use Rattle.shop_schema.specs.Shop.{Holds, Tallies};
 ghost use Rattle.shop_ledger.specs.Counted.{kind_number, CountsOnce};
-ghost use Rattle.branch_core.specs.Decided.{AreWithin};
-ghost use Rattle.branch_work.specs.Added.{AreAdded, with_kept};
+ghost use Rattle.branch_work.specs.Added.{IsActed, with_kept};
 
 use crate::importing::import;
-use branch_core::Rows;
-use branch_looks::fitting;
+use branch_core::{RentalFound, RowsFound, rows_in};
 use reply_bodies::{
     active_text, new_customer_text, payment_text, rental_text, returned_text, scrapped_text,
 };
-use shop_ledger::{
-    CountKind, Counter, Owner, PaymentRow, drop_out, put_kept, put_out, put_payment, set_last,
-    take_numbers,
-};
+use shop_ledger::{Count, CountKind, Owner, drop_out, put_kept, put_out, set_last, take_numbers};
 use shop_store::{
-    CopyState, CustomerRow, RentalRow, put_customer, put_rental, set_active, set_returned,
-    set_state,
+    CopyState, CustomerRow, PaymentRow, RentalRow, put_customer, put_payment, put_rental,
+    set_active, set_returned, set_state,
 };
 use shop_types::{
-    BranchNo, Command, CopyNo, Customer, CustomerNo, Moment, Payment, Rental, RentalNo, RowNumber,
+    Act, Amount, BranchNo, Command, CopyNo, Customer, CustomerNo, Moment, Payment, Person, Rental,
+    RentalNo, RowNumber,
 };
 use sql_rows::{Bytes, StoreFault};
 use sqlite::{Alter, Transaction};
-use std::alloc::Global;
+use std::alloc::{AllocError, Global};
 
-/// Adds or sets the rows of an accepted command, and gives the body of its reply.
-pub fn add_rows<S: Alter>(
+/// Carries out an accepted command's act, by what was found of the rows that it names, and gives the body of its reply.
+pub fn carry_out<S: Alter>(
     alloc: Global,
     tx: &mut Transaction<'_, S>,
     branch: BranchNo,
-    rows: Rows<'_>,
+    command: &Command,
+    found: &RowsFound,
 ) -> Result<String, StoreFault>
-    requires within { AreWithin rows }
     ensures inside { StaysWithin S.Store tx.old.conn tx.new.conn result }
-    ensures added { HasCleanDisk (state S.Store tx.new.conn.now)
-        → IfOk result (λ text. AreAdded branch rows.entry (string_bytes text) (state S.Store tx.old.conn.now) (state S.Store tx.new.conn.now)) }
+    ensures acted { HasCleanDisk (state S.Store tx.new.conn.now)
+        → IfOk result (λ text. (rules : model.Rules) → IsActed rules branch (seen_command command.now) (seen_act command.now.act) found.now (string_bytes text)
+        (state S.Store tx.old.conn.now) (state S.Store tx.new.conn.now)) }
 {
-    match rows {
-        Rows::Customer(customer) => add_customer(alloc, tx, branch, customer),
-        Rows::Active { customer, active } => put_active(alloc, tx, branch, customer, active),
-        Rows::Rent(rental) => add_rental(alloc, tx, branch, rental),
-        Rows::TakeBack {
+    match &command.act {
+        Act::Customer(person) => add_customer(alloc, tx, branch, command, person),
+        Act::Active { customer, active } => put_active(alloc, tx, branch, *customer, *active),
+        Act::Rent { customer, copy } => add_rental(alloc, tx, branch, command, *customer, *copy),
+        Act::TakeBack(rental) => take_back(alloc, tx, branch, command, *rental, found.rental),
+        Act::Pay {
+            customer,
             rental,
-            copy,
-            returned,
-        } => take_back(alloc, tx, branch, rental, copy, returned),
-        Rows::Pay(payment) => add_payment(alloc, tx, branch, payment),
-        Rows::Import { stock, lot } => import(alloc, tx, branch, stock, lot),
-        Rows::Scrap(copy) => scrap(alloc, tx, branch, copy),
+            amount,
+        } => add_payment(alloc, tx, branch, command, *customer, *rental, *amount),
+        Act::Import { lot, .. } => import(alloc, tx, branch, lot, rows_in(&found.stock)),
+        Act::Scrap(copy) => scrap(alloc, tx, branch, *copy),
     }
 }
 
@@ -75,7 +73,7 @@ pub fn keep<S: Alter>(
         → OnOk result ((books : books.Books) → Holds (state S.Store tx.old.conn.now) books → CountsOnce branch CountKind.Kept (counts_of books)
         → Holds (state S.Store tx.new.conn.now) (with_kept branch (seen_command command.now) reply.now books)) }
 {
-    take_numbers(tx, Counter::Of(branch, CountKind::Kept), 1)?;
+    take_numbers(tx, Count::Of(branch, CountKind::Kept), 1)?;
     put_kept(tx, Owner::Branch(branch), &command.key, form, reply)?;
     set_last(tx, branch, command.at)
 }
@@ -92,23 +90,37 @@ fn next_number<const KIND: u8, S: Alter>(
         (raise branch (kind_number kind) 1)
         (λ counts. map (λ it. it.last + 1) (filter (is_count branch (kind_number kind)) counts.counters) ≡ number ∷ [])) }
 {
-    let number = fitting(take_numbers(tx, Counter::Of(branch, kind), 1)?)?;
+    let number = take_numbers(tx, Count::Of(branch, kind), 1)?;
     match RowNumber::new(number) {
         Some(number) => Ok(number),
         None => Err(StoreFault::Failed),
     }
 }
 
+/// The customer that a command of that moment adds, who is active.
+fn new_customer(person: &Person, at: Moment) -> Result<Customer, AllocError>
+    ensures { IfOk result (λ customer. customer ≡ record { person = person.now; active = true; created = at }) }
+{
+    Ok(Customer {
+        person: person.clone()?,
+        active: true,
+        created: at,
+    })
+}
+
 fn add_customer<S: Alter>(
     alloc: Global,
     tx: &mut Transaction<'_, S>,
     branch: BranchNo,
-    customer: Customer,
+    command: &Command,
+    person: &Person,
 ) -> Result<String, StoreFault>
     ensures inside { StaysWithin S.Store tx.old.conn tx.new.conn result }
-    ensures added { HasCleanDisk (state S.Store tx.new.conn.now)
-        → IfOk result (λ text. AreAdded branch (Rows.Customer customer) (string_bytes text) (state S.Store tx.old.conn.now) (state S.Store tx.new.conn.now)) }
+    ensures acted { HasCleanDisk (state S.Store tx.new.conn.now)
+        → IfOk result (λ text. (rules : model.Rules) (found : RowsFound) → IsActed rules branch (seen_command command.now)
+        (model.AddCustomer (seen_person person.now)) found (string_bytes text) (state S.Store tx.old.conn.now) (state S.Store tx.new.conn.now)) }
 {
+    let customer = new_customer(person, command.at)?;
     let number = next_number(tx, branch, CountKind::Customers)?;
     let row = CustomerRow {
         branch,
@@ -116,10 +128,7 @@ fn add_customer<S: Alter>(
         customer,
     };
     put_customer(tx, &row)?;
-    match new_customer_text(alloc, number) {
-        Ok(text) => Ok(text),
-        Err(_) => Err(StoreFault::Memory),
-    }
+    Ok(new_customer_text(alloc, number)?)
 }
 
 fn put_active<S: Alter>(
@@ -130,29 +139,36 @@ fn put_active<S: Alter>(
     active: bool,
 ) -> Result<String, StoreFault>
     ensures inside { StaysWithin S.Store tx.old.conn tx.new.conn result }
-    ensures added { HasCleanDisk (state S.Store tx.new.conn.now)
-        → IfOk result (λ text. AreAdded branch (Rows.Active customer active) (string_bytes text) (state S.Store tx.old.conn.now)
-        (state S.Store tx.new.conn.now)) }
+    ensures acted { HasCleanDisk (state S.Store tx.new.conn.now)
+        → IfOk result (λ text. (rules : model.Rules) (command : model.Command) (found : RowsFound) → IsActed rules branch command (model.SetActive customer active) found
+        (string_bytes text) (state S.Store tx.old.conn.now) (state S.Store tx.new.conn.now)) }
 {
     set_active(tx, branch, customer, active)?;
-    match active_text(alloc, customer, active) {
-        Ok(text) => Ok(text),
-        Err(_) => Err(StoreFault::Memory),
-    }
+    Ok(active_text(alloc, customer, active)?)
 }
 
+/// Adds an open rental, and notes that its copy is out.
 fn add_rental<S: Alter>(
     alloc: Global,
     tx: &mut Transaction<'_, S>,
     branch: BranchNo,
-    rental: Rental,
+    command: &Command,
+    customer: CustomerNo,
+    copy: CopyNo,
 ) -> Result<String, StoreFault>
     ensures inside { StaysWithin S.Store tx.old.conn tx.new.conn result }
-    ensures added { HasCleanDisk (state S.Store tx.new.conn.now)
-        → IfOk result (λ text. AreAdded branch (Rows.Rent rental) (string_bytes text) (state S.Store tx.old.conn.now) (state S.Store tx.new.conn.now)) }
+    ensures acted { HasCleanDisk (state S.Store tx.new.conn.now)
+        → IfOk result (λ text. (rules : model.Rules) (found : RowsFound) → IsActed rules branch (seen_command command.now) (model.Rent customer copy) found
+        (string_bytes text) (state S.Store tx.old.conn.now) (state S.Store tx.new.conn.now)) }
 {
-    let copy = rental.copy;
     let number = next_number(tx, branch, CountKind::Rentals)?;
+    let rental = Rental {
+        rented: command.at,
+        copy,
+        customer,
+        returned: None,
+        staff: command.staff,
+    };
     let row = RentalRow {
         branch,
         number,
@@ -160,55 +176,60 @@ fn add_rental<S: Alter>(
     };
     put_rental(tx, &row)?;
     put_out(tx, branch, copy, number)?;
-    match rental_text(alloc, number) {
-        Ok(text) => Ok(text),
-        Err(_) => Err(StoreFault::Memory),
-    }
+    Ok(rental_text(alloc, number)?)
 }
 
-/// Sets when the rental's copy came back, and notes that it isn't out.
+/// Sets when the rental's copy came back, and notes that it isn't out. The rental was found.
 fn take_back<S: Alter>(
     alloc: Global,
     tx: &mut Transaction<'_, S>,
     branch: BranchNo,
+    command: &Command,
     rental: RentalNo,
-    copy: CopyNo,
-    returned: Moment,
+    found: Option<RentalFound>,
 ) -> Result<String, StoreFault>
     ensures inside { StaysWithin S.Store tx.old.conn tx.new.conn result }
-    ensures added { HasCleanDisk (state S.Store tx.new.conn.now)
-        → IfOk result (λ text. AreAdded branch (Rows.TakeBack rental copy returned) (string_bytes text) (state S.Store tx.old.conn.now)
-        (state S.Store tx.new.conn.now)) }
+    ensures acted { HasCleanDisk (state S.Store tx.new.conn.now)
+        → IfOk result (λ text. (rules : model.Rules) (rows : RowsFound) → rows.rental ≡ found → IsActed rules branch (seen_command command.now)
+        (model.TakeBack rental) rows (string_bytes text) (state S.Store tx.old.conn.now) (state S.Store tx.new.conn.now)) }
 {
-    set_returned(tx, branch, rental, returned)?;
-    drop_out(tx, branch, copy, rental)?;
-    match returned_text(alloc, rental) {
-        Ok(text) => Ok(text),
-        Err(_) => Err(StoreFault::Memory),
-    }
+    let Some(found) = found else {
+        return Err(StoreFault::Failed);
+    };
+    set_returned(tx, branch, rental, command.at)?;
+    drop_out(tx, branch, found.copy, rental)?;
+    Ok(returned_text(alloc, rental)?)
 }
 
 fn add_payment<S: Alter>(
     alloc: Global,
     tx: &mut Transaction<'_, S>,
     branch: BranchNo,
-    payment: Payment,
+    command: &Command,
+    customer: CustomerNo,
+    rental: Option<RentalNo>,
+    amount: Amount,
 ) -> Result<String, StoreFault>
     ensures inside { StaysWithin S.Store tx.old.conn tx.new.conn result }
-    ensures added { HasCleanDisk (state S.Store tx.new.conn.now)
-        → IfOk result (λ text. AreAdded branch (Rows.Pay payment) (string_bytes text) (state S.Store tx.old.conn.now) (state S.Store tx.new.conn.now)) }
+    ensures acted { HasCleanDisk (state S.Store tx.new.conn.now)
+        → IfOk result (λ text. (rules : model.Rules) (found : RowsFound) → IsActed rules branch (seen_command command.now) (model.Pay customer rental amount) found
+        (string_bytes text) (state S.Store tx.old.conn.now) (state S.Store tx.new.conn.now)) }
 {
     let number = next_number(tx, branch, CountKind::Payments)?;
+    let payment = Payment {
+        customer,
+        staff: command.staff,
+        rental,
+        amount,
+        paid: command.at,
+    };
     let row = PaymentRow {
         branch,
         number,
         payment,
     };
     put_payment(tx, &row)?;
-    match payment_text(alloc, number) {
-        Ok(text) => Ok(text),
-        Err(_) => Err(StoreFault::Memory),
-    }
+    Ok(payment_text(alloc, number)?)
 }
 
 fn scrap<S: Alter>(
@@ -218,12 +239,10 @@ fn scrap<S: Alter>(
     copy: CopyNo,
 ) -> Result<String, StoreFault>
     ensures inside { StaysWithin S.Store tx.old.conn tx.new.conn result }
-    ensures added { HasCleanDisk (state S.Store tx.new.conn.now)
-        → IfOk result (λ text. AreAdded branch (Rows.Scrap copy) (string_bytes text) (state S.Store tx.old.conn.now) (state S.Store tx.new.conn.now)) }
+    ensures acted { HasCleanDisk (state S.Store tx.new.conn.now)
+        → IfOk result (λ text. (rules : model.Rules) (command : model.Command) (found : RowsFound) → IsActed rules branch command (model.Scrap copy) found
+        (string_bytes text) (state S.Store tx.old.conn.now) (state S.Store tx.new.conn.now)) }
 {
     set_state(tx, branch, copy, CopyState::Scrapped)?;
-    match scrapped_text(alloc, copy) {
-        Ok(text) => Ok(text),
-        Err(_) => Err(StoreFault::Memory),
-    }
+    Ok(scrapped_text(alloc, copy)?)
 }

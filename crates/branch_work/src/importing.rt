@@ -1,53 +1,48 @@
 //! How the copies of an import are written and counted.
 
-ghost use Rattle.std.specs.Prelude.{◌≡◌, ⊤, ◌+◌, ◌≤◌, ◌++◌, map, length, replicate, string_bytes, vec_len, IfOk, OnOk};
+ghost use Rattle.std.specs.Prelude.{◌≡◌, ⊤, ◌+◌, ◌≤◌, ◌++◌, map, replicate, string_bytes, vec_len, IfOk, OnOk};
 ghost use Rattle.sqlite.specs.Held.{state};
 ghost use Rattle.sqlite.specs.State.{HasCleanDisk};
 ghost use Rattle.sql_rows.specs.Calls.{StaysWithin};
-ghost use Rattle.shop_model.specs.Rows.{next};
+ghost use Rattle.shop_model.specs.Values as model;
+ghost use Rattle.shop_model.specs.Machine.{films_in};
 ghost use Rattle.shop_model.specs.Books.{imported};
 ghost use Rattle.shop_schema.specs.Calls.{Stores};
 ghost use Rattle.shop_schema.specs.Shop.{Writes};
 ghost use Rattle.shop_store.specs.Seen.{seen_copy_row};
-ghost use Rattle.branch_core.specs.Agreed.{copies_of, films_of};
-ghost use Rattle.branch_work.specs.Added.{Makes, copies_from, import_text, with_import};
+ghost use Rattle.branch_core.specs.StockLists.{copies_of, films_of};
+ghost use Rattle.branch_work.specs.Added.{IsActed, copies_from};
 
-use branch_core::{StockFound, copies_in};
-use branch_looks::fitting;
+use branch_core::{RowsFound, StockFound, copies_in};
 use reply_bodies::new_copies_text;
-use shop_ledger::{CountKind, Counter, take_numbers};
+use shop_ledger::{Count, CountKind, take_numbers};
 use shop_store::{CopyRow, CopyState, Mark, put_copy, put_lot};
-use shop_types::{BranchNo, CopyNo, FilmNo, LotName, NoMemory};
+use shop_types::{BranchNo, CopyNo, FilmNo, LotName};
 use sql_rows::StoreFault;
 use sqlite::{Alter, Transaction};
-use std::alloc::Global;
+use std::alloc::{AllocError, Global};
 
 /// Adds the copies that the stock lists, and the lot, and gives the body of the reply.
 pub fn import<S: Alter>(
     alloc: Global,
     tx: &mut Transaction<'_, S>,
     branch: BranchNo,
-    stock: &[StockFound],
     lot: &LotName,
+    stock: &[StockFound],
 ) -> Result<String, StoreFault>
     requires few { copies_of stock.now ≤ 1_000 }
     ensures inside { StaysWithin S.Store tx.old.conn tx.new.conn result }
-    ensures added { HasCleanDisk (state S.Store tx.new.conn.now)
-        → IfOk result (λ text. Makes (state S.Store tx.old.conn.now) (state S.Store tx.new.conn.now) (λ _. ⊤) (with_import branch (films_of stock.now) lot.now)
-        (string_bytes text) (λ books. import_text (length (films_of stock.now)) (next branch books.copies))) }
+    ensures acted { HasCleanDisk (state S.Store tx.new.conn.now)
+        → IfOk result (λ text. (rules : model.Rules) (command : model.Command) (file : model.Text) (found : RowsFound) → films_of stock.now ≡ films_in (rules.stock_of file)
+        → IsActed rules branch command (model.Import lot.now file) found (string_bytes text) (state S.Store tx.old.conn.now) (state S.Store tx.new.conn.now)) }
 {
     let count = copies_in(stock);
-    let last = fitting(take_numbers(tx, Counter::Of(branch, CountKind::Copies), count)?)?;
+    let last = take_numbers(tx, Count::Of(branch, CountKind::Copies), count)?;
     let first = first_of(last, count)?;
-    let Ok(copies) = new_copies(alloc, branch, first, stock) else {
-        return Err(StoreFault::Memory);
-    };
+    let copies = new_copies(alloc, branch, first, stock)?;
     put_copies(tx, copies.as_slice())?;
     put_lot(tx, branch, lot)?;
-    match new_copies_text(alloc, count, first) {
-        Ok(text) => Ok(text),
-        Err(_) => Err(StoreFault::Memory),
-    }
+    Ok(new_copies_text(alloc, count, first)?)
 }
 
 /// The first of so many numbers that end with the last.
@@ -68,7 +63,7 @@ fn new_copies(
     branch: BranchNo,
     first: CopyNo,
     stock: &[StockFound],
-) -> Result<Vec<CopyRow>, NoMemory>
+) -> Result<Vec<CopyRow>, AllocError>
     requires first { first ≤ 1_000_001 }
     requires few { copies_of stock.now ≤ 1_000 }
     ensures { IfOk result (λ copies. map seen_copy_row copies.items ≡ copies_from branch first (films_of stock.now)) }
@@ -87,7 +82,7 @@ fn push_copies(
     first: CopyNo,
     film: FilmNo,
     count: u16,
-) -> Result<(), NoMemory>
+) -> Result<(), AllocError>
     requires { first + vec_len copies.old + count ≤ 2_000_000 }
     ensures rows { OnOk result (map seen_copy_row copies.new.items ≡ map seen_copy_row copies.old.items ++ copies_from branch (first + vec_len copies.old)
         (replicate count film)) }

@@ -1,28 +1,23 @@
 //! A branch's request inside one transaction.
 
-ghost use Rattle.std.specs.Prelude.{◌≡◌, IfOk};
+ghost use Rattle.std.specs.Prelude.{◌≡◌, true, IfOk};
 ghost use Rattle.sqlite.specs.Held.{state};
 ghost use Rattle.sqlite.specs.State.{HasCleanDisk};
 ghost use Rattle.sql_rows.specs.Calls.{StaysInside, StaysWithin};
 ghost use Rattle.shop_model.specs.Calendar.{IsMoment};
-ghost use Rattle.shop_model.specs.Values as model;
-ghost use Rattle.shop_model.specs.Refusals as named;
-ghost use Rattle.shop_model.specs.Verdict.{Verdict, Refused};
-ghost use Rattle.shop_model.specs.Machine.{Do, Sorry};
-ghost use Rattle.shop_model.specs.Answers.{answer_of};
-ghost use Rattle.shop_types.specs.Seen.{seen_command, seen_refusal, seen_request};
+ghost use Rattle.shop_model.specs.Machine.{Do};
+ghost use Rattle.shop_types.specs.Seen.{seen_command, seen_request};
 ghost use Rattle.shop_types.specs.Replies.{seen_reply};
 ghost use Rattle.shop_schema.specs.Forms.{command_form};
-ghost use Rattle.branch_core.specs.Agreed.{IsWithin};
-ghost use Rattle.branch_core.specs.Decided.{AreWithin, IsRefused};
 ghost use Rattle.branch_work.specs.Works.{Works, WorksFor, WorksBy, IsAdded};
 
-use crate::adding::{add_rows, keep};
-use branch_core::{Change, Found, Rows, decide};
+use crate::adding::{carry_out, keep};
+use crate::answering::{again, refuse};
+use branch_core::{Found, RowsFound, decide};
 use branch_looks::{find_for_command, look};
 use shop_ledger::{Owner, kept_at, kept_found, last_at};
 use shop_schema::{command_form, command_values};
-use shop_types::{BranchNo, Command, Limits, Moment, Refusal, Reply, Request, View};
+use shop_types::{BranchNo, Change, Command, Limits, Moment, Refusal, Reply, Request, View};
 use sql_rows::{Bytes, StoreFault};
 use sqlite::{Alter, Transaction};
 use std::alloc::Global;
@@ -95,11 +90,11 @@ fn act<S: Alter>(
         last,
         kept_found(kept.as_ref(), &form),
     )?;
-    carry_out(alloc, tx, limits, branch, command, &form, &found)
+    answer(alloc, tx, limits, branch, command, &form, &found)
 }
 
 /// Answers a command by what was found for its decision.
-fn carry_out<S: Alter>(
+fn answer<S: Alter>(
     alloc: Global,
     tx: &mut Transaction<'_, S>,
     limits: Limits,
@@ -109,22 +104,15 @@ fn carry_out<S: Alter>(
     found: &Found<'_>,
 ) -> Result<(Reply, bool), StoreFault>
     requires form { form.now ≡ command_form (seen_command command.now) }
-    requires within { IsWithin found.now }
     ensures inside { StaysWithin S.Store tx.old.conn tx.new.conn result }
     ensures works { HasCleanDisk (state S.Store tx.new.conn.now)
         → IfOk result (λ done. WorksBy limits branch (seen_command command.now) found.now (seen_reply done.0) done.1 (state S.Store tx.old.conn.now)
         (state S.Store tx.new.conn.now)) }
 {
     match decide(branch, command, found, limits) {
-        Ok(Change::Again(reply)) => match String::from_str(alloc, reply) {
-            Ok(text) => Ok((Reply::accepted(text), false)),
-            Err(_) => Err(StoreFault::Memory),
-        },
-        Ok(Change::Rows(rows)) => {
-            let reply = add(alloc, tx, branch, command, form, rows)?;
-            Ok((reply, true))
-        }
-        Err(refusal) => Ok((refuse(alloc, refusal)?, false)),
+        Ok(Change::Again(reply)) => again(alloc, reply),
+        Ok(Change::Accepted) => add(alloc, tx, branch, command, form, &found.rows),
+        Err(refusal) => refuse(alloc, refusal),
     }
 }
 
@@ -140,38 +128,22 @@ fn form_of(alloc: Global, command: &Command) -> Result<Bytes, StoreFault>
     }
 }
 
-/// Writes the rows of an accepted command, keeps it, and gives its reply.
+/// Carries out an accepted command, keeps it, and gives its reply, with `true`, since there is something to commit.
 fn add<S: Alter>(
     alloc: Global,
     tx: &mut Transaction<'_, S>,
     branch: BranchNo,
     command: &Command,
     form: &Bytes,
-    rows: Rows<'_>,
-) -> Result<Reply, StoreFault>
+    rows: &RowsFound,
+) -> Result<(Reply, bool), StoreFault>
     requires form { form.now ≡ command_form (seen_command command.now) }
-    requires within { AreWithin rows }
     ensures inside { StaysWithin S.Store tx.old.conn tx.new.conn result }
     ensures added { HasCleanDisk (state S.Store tx.new.conn.now)
-        → IfOk result (λ reply. (limits : _)
-        → IsAdded limits branch (seen_command command.now) rows.entry (seen_reply reply) (state S.Store tx.old.conn.now) (state S.Store tx.new.conn.now)) }
+        → IfOk result (λ done. (done.1 ≡ true) × ((limits : _) → IsAdded limits branch (seen_command command.now) rows.now (seen_reply done.0)
+        (state S.Store tx.old.conn.now) (state S.Store tx.new.conn.now))) }
 {
-    let text = add_rows(alloc, tx, branch, rows)?;
+    let text = carry_out(alloc, tx, branch, command, rows)?;
     keep(tx, branch, command, form, text.as_str())?;
-    Ok(Reply::accepted(text))
-}
-
-/// The reply to a command that is refused.
-fn refuse(alloc: Global, refusal: Refusal) -> Result<Reply, StoreFault>
-    ensures { IfOk result (λ reply. (verdict : Verdict) (act : model.Act) → IsRefused verdict act (seen_refusal refusal)
-        → (d : named.Refusal) × (verdict ≡ Refused d) × (seen_reply reply ≡ answer_of (Sorry d))) }
-{
-    match refusal {
-        Refusal::Memory => Err(StoreFault::Memory),
-        Refusal::BadCsv(fault) => match Reply::bad_csv(alloc, fault) {
-            Ok(reply) => Ok(reply),
-            Err(_) => Err(StoreFault::Memory),
-        },
-        other => Ok(Reply::refused(other)),
-    }
+    Ok((Reply::accepted(text), true))
 }

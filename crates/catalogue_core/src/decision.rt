@@ -3,48 +3,40 @@
 ghost use Rattle.std.specs.Prelude.{◌≡◌, Some};
 ghost use Rattle.shop_model.specs.Values as model;
 ghost use Rattle.shop_model.specs.Shop.{Catalogue};
-ghost use Rattle.shop_model.specs.Verdict.{first, office_refusals};
+ghost use Rattle.shop_model.specs.Verdict.{first, office_refusals, office_verdict};
 ghost use Rattle.shop_types.specs.Seen.{seen_office, seen_office_act};
 ghost use Rattle.shop_types.specs.Verdicts.{verdict_by};
+ghost use Rattle.shop_types.specs.Decisions.{IsVerdict};
 ghost use Rattle.catalogue_core.specs.Shares.{Shares, ActShares};
-ghost use Rattle.catalogue_core.specs.Decided.{IsDecided, fresh_refusals};
+ghost use Rattle.catalogue_core.specs.Decided.{fresh_refusals};
 
 use crate::acts::{
     branch_refusal, cast_refusal, leave_refusal, manager_refusal, name_refusal, price_refusal,
     row_refusal, staff_refusal, withdraw_refusal,
 };
 use crate::{Shared, SharedRows};
-use shop_types::{Limits, OfficeAct, OfficeCommand, Refusal, Token};
-
-/// What is decided of a command that isn't refused.
-#[derive(Clone, Copy)]
-pub enum OfficeChange<'a> {
-    /// It was sent before, and had the reply with this body: nothing changes.
-    Again(&'a str),
-    /// It is kept, and adds or sets the rows that its act names, as they stand in it.
-    Accepted,
-}
+use shop_types::{Change, Limits, OfficeAct, OfficeCommand, Refusal, Token};
 
 /// Whether head office's command is accepted, or the first refusal that holds of it. It takes no memory.
 pub fn decide_office<'a>(
     command: &OfficeCommand,
     shared: &Shared<'a>,
     limits: Limits,
-) -> Result<OfficeChange<'a>, Refusal>
+) -> Result<Change<'a>, Refusal>
     ensures { (rules : model.Rules) (catalogue : Catalogue) → rules.commands ≡ limits.commands → Shares catalogue (seen_office command.now) shared.now
-        → IsDecided rules catalogue (seen_office command.now) result }
+        → IsVerdict (office_verdict rules catalogue (seen_office command.now)) result }
 {
     match shared.kept {
         Some(kept) => {
             if kept.is_same {
-                Ok(OfficeChange::Again(kept.reply))
+                Ok(Change::Again(kept.reply))
             } else {
                 Err(Refusal::KeyUsed)
             }
         }
         None => match first_refusal(&command.act, shared, limits) {
             Some(refusal) => Err(refusal),
-            None => Ok(OfficeChange::Accepted),
+            None => Ok(Change::Accepted),
         },
     }
 }

@@ -5,5 +5,5 @@ mod acts;
 mod decision;
 mod shared;
 
-pub use decision::{OfficeChange, decide_office};
+pub use decision::decide_office;
 pub use shared::{BranchFound, Shared, SharedRows};

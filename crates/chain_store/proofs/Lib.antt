@@ -10,8 +10,6 @@ pub mod Requests
 pub mod Deciding
 pub mod Opening
 pub mod NewFiles
-pub mod OfficeDoing
 pub mod OfficeNumbers
 pub mod OfficeReadings
 pub mod OfficeWritten
-pub mod OfficeSetTexts

@@ -1,12 +1,11 @@
 -- What the transaction of a request leaves.
-use Rattle.std.specs.Prelude.{◌≡◌, ◌⊎◌, ⊤, ℕ, Bool, false, List, Some}
+use Rattle.std.specs.Prelude.{◌≡◌, ◌⊎◌, ⊤, ℕ, List, Some}
 use Rattle.sqlite_trees.specs.Tree.{Trees}
 use Rattle.sqlite.specs.State.{State}
 use Rattle.shop_values.specs.LimitValues.{Limits}
 use Rattle.shop_model.specs.Machine.{Request, Unread, Do, Look, Office, OfficeLook, Shows as Shown}
 use Rattle.shop_model.specs.Answers.{Answer, answer_of}
-use Rattle.shop_model.specs.Books.{Books, Caller, Counter, HeadOffice, Nobody, caller_of, known_caller, reply_for, after_for}
-use Rattle.shop_model.specs.Office.{office_look}
+use Rattle.shop_model.specs.Books.{Books, Caller, Counter, HeadOffice, Nobody, caller_of}
 use Rattle.shop_model.specs.Opening.{opening_books}
 use Rattle.shop_types.specs.Seen.{seen_request, seen_office}
 use Rattle.shop_types.specs.Replies.{seen_reply}
@@ -15,7 +14,7 @@ use Rattle.shop_schema.specs.Held.{IsHeld}
 use Rattle.shop_schema.specs.RowValues.{IsNumber, IsCommand, IsKey, IsOfficeAct}
 use Rattle.shop_schema.specs.Steps.{IsBuilt}
 use Rattle.shop_schema.specs.Shop.{StandsFor, Holds, first_books}
-use Rattle.branch_work.specs.Rules.{rules_of}
+pub use Rattle.branch_work.specs.Works.{told_to, left_by, IsDone, Does}
 use Rattle.chain_store.specs.declared.asked.Asked.{Asked}
 use Rattle.chain_store.specs.declared.asked.Asked.TheVariants.{OfBranch, OfOffice}
 use Rattle.chain_store.specs.declared.creation.FirstRows.{FirstRows}
@@ -52,23 +51,7 @@ IsAsked (OfficeLook ask) = ⊤
 
 -- ---- one request
 
--- the answer to a caller's request, and the books after it
-abbrev pub told_to : Limits → Caller → Request → Books → Answer
-told_to limits caller request books = answer_of (reply_for (rules_of limits) office_look (known_caller books.catalogue caller) request books)
-
-abbrev pub left_by : Limits → Caller → Request → Books → Books
-left_by limits caller request books = after_for (rules_of limits) (known_caller books.catalogue caller) request books
-
--- inside the transaction the request is answered, the tables come to stand for the books after it, and it is told whether there is anything to commit
-pub record IsDone (limits : Limits) (caller : Caller) (request : Request) (answer : Answer) (is_changed : Bool) (new : State) (books : Books) : Type 0 where
-  pub reply : answer ≡ told_to limits caller request books
-  pub holds : Holds new (left_by limits caller request books)
-  pub same : is_changed ≡ false → left_by limits caller request books ≡ books
-
-abbrev pub Does : Limits → Caller → Request → Answer → Bool → State → State → Type 0
-Does limits caller request answer is_changed old new = (books : Books) → Holds old books → IsHeld books → IsDone limits caller request answer is_changed new books
-
--- it has come to this: it is done, or it is a reading, which is to be shown
+-- inside the transaction it has come to this: it is done, or it is a reading, which is to be shown
 abbrev pub HasCome : Limits → Caller → Request → Work → State → Books → Type 0
 HasCome limits caller request (Done reply is_changed) new books = IsDone limits caller request (seen_reply reply) is_changed new books
 HasCome limits caller request (Shows report) new books = (told_to limits caller request books ≡ answer_of (Shown (shown_by report books))) × (left_by limits caller request books ≡ books)

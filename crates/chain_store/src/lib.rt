@@ -10,7 +10,6 @@ mod files;
 mod office_adding;
 mod office_finding;
 mod office_rows;
-mod office_sets;
 mod office_working;
 mod paths;
 mod reports;

@@ -13,13 +13,12 @@ ghost use Rattle.reply_bodies.specs.Bodies.{office_members};
 ghost use Rattle.chain_store.specs.OfficeAdded.{IsNumbered, IsKept, IsAdded};
 
 use crate::office_rows::{new_actor, new_branch, new_city, new_film, new_staff};
-use crate::office_sets::{set_gone, set_manager, set_rate, set_withdrawn};
 use reply_bodies::office_text;
-use shop_ledger::{Counter, Owner, put_kept, take_numbers};
+use shop_ledger::{Count, Owner, put_kept, take_numbers};
 use shop_store::{
     last_actor, last_branch, last_category, last_city, last_country, last_film, last_language,
     last_staff, put_actor, put_branch, put_cast, put_category, put_city, put_country, put_counts,
-    put_film, put_language, put_staff,
+    put_film, put_language, put_staff, set_gone, set_manager, set_rate, set_withdrawn,
 };
 use shop_types::{Branch, OfficeAct, OfficeCommand, Reply, RowNumber};
 use sql_rows::{Bytes, StoreFault};
@@ -40,19 +39,9 @@ pub(crate) fn add<S: Alter>(
         → IfOk result (λ done. (done.1 ≡ true) × IsAdded (seen_office command.now) (seen_reply done.0) (state S.Store tx.old.conn.now) (state S.Store tx.new.conn.now)) }
 {
     let number = write(tx, &command.act)?;
-    let text = text_of(alloc, &command.act, number)?;
+    let text = office_text(alloc, &command.act, number)?;
     keep(tx, command, form, text.as_str())?;
     Ok((Reply::accepted(text), true))
-}
-
-/// The body of the reply to an act, whose new row has the number.
-fn text_of(alloc: Global, act: &OfficeAct, number: u32) -> Result<String, StoreFault>
-    ensures { IfOk result (λ text. string_bytes text ≡ object (office_members (seen_office_act act.now) number)) }
-{
-    match office_text(alloc, act, number) {
-        Ok(text) => Ok(text),
-        Err(_) => Err(StoreFault::Memory),
-    }
 }
 
 /// Keeps an accepted command with its reply, and counts it.
@@ -68,7 +57,7 @@ fn keep<S: Alter>(
         → OnOk result (IsKept (seen_office command.now) reply.now (state S.Store tx.old.conn.now) (state S.Store tx.new.conn.now)) }
 {
     put_kept(tx, Owner::Office, &command.key, form, reply)?;
-    take_numbers(tx, Counter::OfficeKeys, 1)?;
+    take_numbers(tx, Count::OfficeKeys, 1)?;
     Ok(())
 }
 
@@ -120,10 +109,7 @@ fn write<S: Alter>(tx: &mut Transaction<'_, S>, act: &OfficeAct) -> Result<u32, 
 fn next<const KIND: u8>(last: Result<u32, StoreFault>) -> Result<RowNumber<KIND>, StoreFault>
     ensures { IfOk result (λ number. (n : ℕ) × (last ≡ Ok n) × (number ≡ n + 1)) }
 {
-    match last {
-        Ok(last) => after(last),
-        Err(fault) => Err(fault),
-    }
+    after(last?)
 }
 
 fn after<const KIND: u8>(last: u32) -> Result<RowNumber<KIND>, StoreFault>
@@ -145,20 +131,16 @@ fn numbered<const KIND: u8>(
 ) -> Result<u32, StoreFault>
     ensures { IfOk result (λ n. (n ≡ number.entry) × IsOk put) }
 {
-    match put {
-        Ok(()) => Ok(number.get()),
-        Err(fault) => Err(fault),
-    }
+    put?;
+    Ok(number.get())
 }
 
 /// 0, where a row was set that has its number already.
 fn without_number(set: Result<(), StoreFault>) -> Result<u32, StoreFault>
     ensures { IfOk result (λ n. (n ≡ 0) × IsOk set) }
 {
-    match set {
-        Ok(()) => Ok(0),
-        Err(fault) => Err(fault),
-    }
+    set?;
+    Ok(0)
 }
 
 /// Adds a branch, and begins its counts.

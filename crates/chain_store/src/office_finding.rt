@@ -11,10 +11,10 @@ ghost use Rattle.catalogue_core.specs.Shares.{Shares, seen_branch_found};
 ghost use Rattle.chain_store.specs.OfficeFound.{shared_of, IsKeptFor, FindsFor};
 
 use catalogue_core::{BranchFound, SharedRows};
-use shop_ledger::{Counter, count_of};
+use shop_ledger::{Count, count_of};
 use shop_store::{
-    branch_at, film_at, has_actor, has_cast, has_category, has_city, has_country, has_language,
-    has_token, is_category, is_country, is_language, office_token, staff_at,
+    branch_manager, film_withdrawn, has_actor, has_cast, has_category, has_city, has_country,
+    has_language, has_token, is_category, is_country, is_language, office_token, staff_at,
 };
 use shop_types::{
     ActorNo, Branch, BranchNo, Film, FilmNo, OfficeAct, OfficeCommand, Staff, StaffFound, StaffNo,
@@ -42,7 +42,7 @@ pub(crate) fn find<S: Alter>(
         (λ found books. (kept : _)
         → IsKeptFor (seen_office command.now) kept books → Shares books.catalogue (seen_office command.now) (shared_of kept found)) }
 {
-    let keys = count_of(tx, Counter::OfficeKeys)?;
+    let keys = count_of(tx, Count::OfficeKeys)?;
     let token = office_token(tx)?;
     let rows = find_rows(tx, &command.act)?;
     Ok(SharedFound {
@@ -68,8 +68,8 @@ fn find_rows<S: Alter>(
         OfficeAct::Category(name) => with_name(is_category(tx, name.as_str())),
         OfficeAct::Actor(_) => Ok(SharedRows::none()),
         OfficeAct::Film(film) => for_film(tx, film),
-        OfficeAct::Price { film, .. } => with_film(film_at(tx, *film)),
-        OfficeAct::Withdraw(film) => with_film(film_at(tx, *film)),
+        OfficeAct::Price { film, .. } => with_film(film_withdrawn(tx, *film)),
+        OfficeAct::Withdraw(film) => with_film(film_withdrawn(tx, *film)),
         OfficeAct::Cast { film, actor } => for_cast(tx, *film, *actor),
         OfficeAct::Branch(branch) => for_branch(tx, branch),
         OfficeAct::Staff(staff) => for_staff(tx, staff),
@@ -103,7 +103,7 @@ fn for_cast<S: Alter>(
     ensures found { HasCleanDisk (state S.Store tx.new.conn.now) → IfOk result (λ rows.
         FindsFor (model.AddCast (record { film = film; actor = actor })) rows (state S.Store tx.old.conn.now) (state S.Store tx.new.conn.now)) }
 {
-    let withdrawn = film_at(tx, film)?;
+    let withdrawn = film_withdrawn(tx, film)?;
     let has_actor = has_actor(tx, actor)?;
     let has_cast = has_cast(tx, film, actor)?;
     Ok(SharedRows {
@@ -138,7 +138,7 @@ fn for_staff<S: Alter>(tx: &mut Transaction<'_, S>, staff: &Staff) -> Result<Sha
     ensures found { HasCleanDisk (state S.Store tx.new.conn.now) → IfOk result (λ rows.
         FindsFor (model.AddStaff (seen_staff staff.now)) rows (state S.Store tx.old.conn.now) (state S.Store tx.new.conn.now)) }
 {
-    let branch = branch_of(branch_at(tx, staff.branch)?);
+    let branch = branch_of(branch_manager(tx, staff.branch)?);
     let has_city = has_city(tx, staff.person.city)?;
     Ok(SharedRows {
         branch,
@@ -157,7 +157,7 @@ fn for_manager<S: Alter>(
     ensures found { HasCleanDisk (state S.Store tx.new.conn.now) → IfOk result (λ rows.
         FindsFor (model.SetManager branch staff) rows (state S.Store tx.old.conn.now) (state S.Store tx.new.conn.now)) }
 {
-    let managed = branch_of(branch_at(tx, branch)?);
+    let managed = branch_of(branch_manager(tx, branch)?);
     let manager = staff_at(tx, staff)?;
     Ok(SharedRows {
         branch: managed,
@@ -170,52 +170,40 @@ fn for_manager<S: Alter>(
 fn with_name(is_named: Result<bool, StoreFault>) -> Result<SharedRows, StoreFault>
     ensures { IfOk result (λ rows. is_named ≡ Ok rows.is_named) }
 {
-    match is_named {
-        Ok(is_named) => Ok(SharedRows {
-            is_named,
-            ..SharedRows::none()
-        }),
-        Err(fault) => Err(fault),
-    }
+    Ok(SharedRows {
+        is_named: is_named?,
+        ..SharedRows::none()
+    })
 }
 
 /// Whether there is the country of a new city.
 fn with_country(has_country: Result<bool, StoreFault>) -> Result<SharedRows, StoreFault>
     ensures { IfOk result (λ rows. has_country ≡ Ok rows.has_country) }
 {
-    match has_country {
-        Ok(has_country) => Ok(SharedRows {
-            has_country,
-            ..SharedRows::none()
-        }),
-        Err(fault) => Err(fault),
-    }
+    Ok(SharedRows {
+        has_country: has_country?,
+        ..SharedRows::none()
+    })
 }
 
 /// Whether there is a film whose price is set, or that is withdrawn, and whether it is withdrawn already.
 fn with_film(film: Result<Option<bool>, StoreFault>) -> Result<SharedRows, StoreFault>
     ensures { IfOk result (λ rows. film ≡ Ok rows.film) }
 {
-    match film {
-        Ok(film) => Ok(SharedRows {
-            film,
-            ..SharedRows::none()
-        }),
-        Err(fault) => Err(fault),
-    }
+    Ok(SharedRows {
+        film: film?,
+        ..SharedRows::none()
+    })
 }
 
 /// Whether there is a member of staff who leaves, and whether the member left already.
 fn with_staff(staff: Result<Option<StaffFound>, StoreFault>) -> Result<SharedRows, StoreFault>
     ensures { IfOk result (λ rows. staff ≡ Ok rows.staff) }
 {
-    match staff {
-        Ok(staff) => Ok(SharedRows {
-            staff,
-            ..SharedRows::none()
-        }),
-        Err(fault) => Err(fault),
-    }
+    Ok(SharedRows {
+        staff: staff?,
+        ..SharedRows::none()
+    })
 }
 
 /// The branch with that manager, where there is one.

@@ -1,26 +1,24 @@
 //! A command of head office inside one transaction.
 
-ghost use Rattle.std.specs.Prelude.{◌≡◌, false, Some, IfOk};
+ghost use Rattle.std.specs.Prelude.{◌≡◌, IfOk};
 ghost use Rattle.sqlite.specs.Held.{state};
 ghost use Rattle.sqlite.specs.State.{HasCleanDisk};
 ghost use Rattle.sql_rows.specs.Calls.{StaysInside, StaysWithin};
-ghost use Rattle.shop_model.specs.Values as model;
-ghost use Rattle.shop_model.specs.Refusals as named;
-ghost use Rattle.shop_model.specs.Verdict.{Verdict, Refused};
-ghost use Rattle.shop_model.specs.Machine.{Sorry};
-ghost use Rattle.shop_model.specs.Answers.{answer_of, accepted_answer};
+ghost use Rattle.shop_model.specs.Machine.{Office};
+ghost use Rattle.shop_model.specs.Books.{HeadOffice};
 ghost use Rattle.shop_types.specs.Seen.{seen_office};
 ghost use Rattle.shop_types.specs.Replies.{seen_reply};
-ghost use Rattle.shop_types.specs.Verdicts.{verdict_by};
 ghost use Rattle.shop_schema.specs.Forms.{office_command_form};
-ghost use Rattle.chain_store.specs.OfficeWorks.{Works, WorksBeside};
+ghost use Rattle.branch_work.specs.Works.{Does};
+ghost use Rattle.chain_store.specs.OfficeWorks.{WorksBeside};
 
 use crate::office_adding::add;
 use crate::office_finding::find;
-use catalogue_core::{OfficeChange, Shared, decide_office};
+use branch_work::{again, refuse};
+use catalogue_core::{Shared, decide_office};
 use shop_ledger::{Owner, kept_at, kept_found};
 use shop_schema::office_form;
-use shop_types::{KeptFound, Limits, OfficeCommand, Refusal, Reply};
+use shop_types::{Change, KeptFound, Limits, OfficeCommand, Reply};
 use sql_rows::{Bytes, StoreFault};
 use sqlite::{Alter, Transaction};
 use std::alloc::Global;
@@ -33,8 +31,8 @@ pub(crate) fn work<S: Alter>(
     command: &OfficeCommand,
 ) -> Result<(Reply, bool), StoreFault>
     ensures inside { StaysInside S.Store tx.old.conn tx.new.conn result }
-    ensures works { HasCleanDisk (state S.Store tx.new.conn.now) → IfOk result (λ done. (rules : model.Rules) → rules.commands ≡ limits.commands
-        → Works rules (seen_office command.now) (seen_reply done.0) done.1 (state S.Store tx.old.conn.now) (state S.Store tx.new.conn.now)) }
+    ensures works { HasCleanDisk (state S.Store tx.new.conn.now) → IfOk result (λ done.
+        Does limits HeadOffice (Office (seen_office command.now)) (seen_reply done.0) done.1 (state S.Store tx.old.conn.now) (state S.Store tx.new.conn.now)) }
 {
     let kept = kept_at(tx, Owner::Office, &command.key)?;
     let form = form_of(alloc, command)?;
@@ -53,8 +51,8 @@ fn answer<S: Alter>(
 ) -> Result<(Reply, bool), StoreFault>
     requires { form.now ≡ office_command_form (seen_office command.now) }
     ensures inside { StaysWithin S.Store tx.old.conn tx.new.conn result }
-    ensures works { HasCleanDisk (state S.Store tx.new.conn.now) → IfOk result (λ done. (rules : model.Rules) → rules.commands ≡ limits.commands
-        → WorksBeside kept.entry rules (seen_office command.now) (seen_reply done.0) done.1 (state S.Store tx.old.conn.now) (state S.Store tx.new.conn.now)) }
+    ensures works { HasCleanDisk (state S.Store tx.new.conn.now) → IfOk result (λ done.
+        WorksBeside kept.entry limits (seen_office command.now) (seen_reply done.0) done.1 (state S.Store tx.old.conn.now) (state S.Store tx.new.conn.now)) }
 {
     let found = find(tx, command)?;
     let shared = Shared {
@@ -64,19 +62,9 @@ fn answer<S: Alter>(
         rows: found.rows,
     };
     match decide_office(command, &shared, limits) {
-        Ok(OfficeChange::Again(reply)) => again(alloc, reply),
-        Ok(OfficeChange::Accepted) => add(alloc, tx, command, form),
+        Ok(Change::Again(reply)) => again(alloc, reply),
+        Ok(Change::Accepted) => add(alloc, tx, command, form),
         Err(refusal) => refuse(alloc, refusal),
-    }
-}
-
-/// The reply to a command that comes again, which changes nothing.
-fn again(alloc: Global, reply: &str) -> Result<(Reply, bool), StoreFault>
-    ensures { IfOk result (λ done. (seen_reply done.0 ≡ accepted_answer reply.now) × (done.1 ≡ false)) }
-{
-    match String::from_str(alloc, reply) {
-        Ok(text) => Ok((Reply::accepted(text), false)),
-        Err(_) => Err(StoreFault::Memory),
     }
 }
 
@@ -87,20 +75,5 @@ fn form_of(alloc: Global, command: &OfficeCommand) -> Result<Bytes, StoreFault>
     match office_form(alloc, command) {
         Ok(form) => Ok(form),
         Err(_) => Err(StoreFault::Memory),
-    }
-}
-
-/// The reply to a command that is refused, which changes nothing.
-fn refuse(alloc: Global, refusal: Refusal) -> Result<(Reply, bool), StoreFault>
-    ensures { IfOk result (λ done. (done.1 ≡ false) × ((verdict : Verdict) → Some verdict ≡ verdict_by (Some refusal)
-        → (d : named.Refusal) × (verdict ≡ Refused d) × (seen_reply done.0 ≡ answer_of (Sorry d)))) }
-{
-    match refusal {
-        Refusal::Memory => Err(StoreFault::Memory),
-        Refusal::BadCsv(fault) => match Reply::bad_csv(alloc, fault) {
-            Ok(reply) => Ok((reply, false)),
-            Err(_) => Err(StoreFault::Memory),
-        },
-        other => Ok((Reply::refused(other), false)),
     }
 }

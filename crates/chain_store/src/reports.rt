@@ -38,8 +38,8 @@ fn report_text<S: Alter>(
     ensures same { StaysSame S.Store conn.old conn.new result }
 {
     match report {
-        Report::OfBranch(branch, view) => view_text(conn, alloc, branch, view),
-        Report::OfOffice(OfficeAsk::Sales) => sales(conn, alloc),
+        Report::OfBranch(branch, view) => view_text(alloc, conn, branch, view),
+        Report::OfOffice(OfficeAsk::Sales) => sales(alloc, conn),
     }
 }
 

@@ -191,28 +191,16 @@ fn serve_requests<R: Read, W: Write, O: OfficeWords, S: Alter>(
                 replies += 1;
                 match after {
                     After::Goes => {}
-                    After::Asks => return Ok(Served {
-                        replies,
-                        end: End::Asked,
-                    }),
-                    After::Fails => return Ok(Served {
-                        replies,
-                        end: End::StoreFailed,
-                    }),
+                    After::Asks => return ended(replies, End::Asked),
+                    After::Fails => return ended(replies, End::StoreFailed),
                 }
             }
             Reading::More => match inbox.fill(reader) {
                 Ok(0) => {
                     if inbox.bytes().is_empty() {
-                        return Ok(Served {
-                            replies,
-                            end: End::Closed,
-                        });
+                        return ended(replies, End::Closed);
                     }
-                    return Ok(Served {
-                        replies,
-                        end: End::Cut,
-                    });
+                    return ended(replies, End::Cut);
                 }
                 Ok(_) => {}
                 Err(_) => return Err(ServeFault::Read { replies }),
@@ -222,15 +210,16 @@ fn serve_requests<R: Read, W: Write, O: OfficeWords, S: Alter>(
                 let Ok(()) = write_reply(writer, &reply) else {
                     return Err(ServeFault::Write { replies });
                 };
-                return Ok(Served {
-                    replies: replies + 1,
-                    end: End::Refused,
-                });
+                return ended(replies + 1, End::Refused);
             }
         }
     }
-    Ok(Served {
-        replies,
-        end: End::Limit,
-    })
+    ended(replies, End::Limit)
+}
+
+/// A connection that ended after so many replies.
+fn ended(replies: u32, end: End) -> Result<Served, ServeFault>
+    ensures { result ≡ Ok (record { replies = replies; end = end }) }
+{
+    Ok(Served { replies, end })
 }

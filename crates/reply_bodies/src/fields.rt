@@ -17,7 +17,7 @@ pub enum Field<'a> {
 }
 
 /// Puts the member among the others.
-fn add(map: &mut Map<String, Value>, alloc: Global, field: Field) -> Result<(), AllocError>
+fn add(alloc: Global, map: &mut Map<String, Value>, field: Field) -> Result<(), AllocError>
     ensures { OnOk result (members_view map.new.entries ≡ with_field field.entry (members_view map.old.entries)) }
 {
     match field {
@@ -37,7 +37,7 @@ pub fn object_of(alloc: Global, fields: &[Field]) -> Result<Value, AllocError>
 {
     let mut map = Map::new(alloc);
     for field in fields {
-        add(&mut map, alloc, *field)?;
+        add(alloc, &mut map, *field)?;
     }
     Ok(Value::Object(map))
 }

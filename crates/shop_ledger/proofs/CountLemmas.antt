@@ -1,5 +1,5 @@
 -- What the texts on counts and on copies that are out say of them.
-use Rattle.std.proofs.Common.{◌≡◌, ◌+◌, ◌<◌, ◌≤◌, ◌^◌, ◌&&◌, ℕ, List, [], ◌∷◌, map, filter, length, true, Some, None, Ok, Err, Result, refl, sym, ap, ◌∙◌, arith}
+use Rattle.std.proofs.Common.{◌≡◌, ◌+◌, ◌<◌, ◌≤◌, ◌^◌, ◌&&◌, ℕ, List, [], ◌∷◌, map, filter, length, true, Some, None, Ok, Err, Result, refl, sym, ap, subst, ◌∙◌, arith}
 use Rattle.std.specs.Prelude.{⊤, slice_get, IfOk, Option}
 use Rattle.std.specs.List.{AllByRecursion}
 use Rattle.std.proofs.lemmas.Result.{IfOk-weaker}
@@ -22,14 +22,15 @@ use Rattle.shop_schema.specs.Counts.{Count, Out, Counts, is_count, is_open, is_o
 use Rattle.shop_schema.specs.Held.{IsHeld}
 use Rattle.shop_schema.specs.Shop.{StandsFor, IsShop, Holds, Reads, Tallies}
 use Rattle.shop_schema.proofs.Stands.{stands_but}
+use Rattle.shop_ledger.specs.declared.counts.TheConstants.{SELECT_COUNT, UPDATE_COUNT, SELECT_OUT, SELECT_OUTS, DELETE_OUT}
 use Rattle.shop_ledger.specs.declared.counts.CountKind.{CountKind}
 use Rattle.shop_ledger.specs.Counted.{kind_number, CountsOnce, IsOutBy}
-use Rattle.shop_ledger.specs.Seen.{TellsFirst}
-use Rattle.shop_ledger.proofs.BranchRows.{of_two}
+use Rattle.shop_schema.specs.First.{TellsFirst}
+use Rattle.shop_ledger.proofs.Equals.{of_two}
 use Rattle.shop_ledger.proofs.CountsOf.{told_count}
 use Rattle.shop_ledger.proofs.Outs.{open_of, outs_numbered, picks_out, opens_of, outs_rise, outs_are}
 use Rattle.shop_ledger.proofs.Rising.{rise_differ, rise_sorted}
-use Rattle.shop_ledger.proofs.CountTexts.{Beside, select_count, select_count_means, shows_counts, count_test, plus, plus_is, raise_text, raise_terms, raise_told, raise_means, count_more, count_more_is, more_kept, delete_out, drops_out, select_out, select_out_means, shows_out, select_outs, select_outs_means, shows_outs}
+use Rattle.shop_ledger.proofs.CountTexts.{Beside, select_count_means, shows_counts, count_test, plus, plus_is, raise_terms, raise_told, raise_means, count_more, count_more_is, more_kept, drops_out, select_out_means, shows_out, select_outs_means, shows_outs}
 
 -- a change of the two tables, beside any books
 tallies_by : (old new : State) (Given : Counts → Type 0) (change : Counts → Counts) → ((books : Books) → IsShop old → Changes shop_schema (Beside books) old new Given change) → Tallies old new Given change (λ _. ⊤)
@@ -37,12 +38,12 @@ tallies_by old new Given change changes counts books holds given =
     let done = writes_by shop_schema (Beside books) old new Given change (changes books) counts (record { schema_is = holds.schema_is; keyed = holds.keyed; stands = holds.stands }) given in
     (record { schema_is = done.schema_is; keyed = done.keyed; stands = done.stands }, tt)
 
-pub tallies_drop_out : (old new : State) (b x n : ℕ) (count : ℕ) → ExecutesInside 0 delete_out (number_value b ∷ number_value x ∷ number_value n ∷ []) old new (Ok count) → Tallies old new (IsOutBy b x n) (drop_out b x n) (λ _. ⊤)
+pub tallies_drop_out : (old new : State) (b x n : ℕ) (count : ℕ) → ExecutesInside 0 DELETE_OUT.now (number_value b ∷ number_value x ∷ number_value n ∷ []) old new (Ok count) → Tallies old new (IsOutBy b x n) (drop_out b x n) (λ _. ⊤)
 tallies_drop_out old new b x n count h = tallies_by old new _ _ (λ books shop. drops_out books old new b x n count shop h)
 
 -- ---- the copy that is out
 
-pub read_out : (old new : State) (b x : ℕ) (rows : List sql.Row) → Shown select_out (number_value b ∷ number_value x ∷ []) old new rows
+pub read_out : (old new : State) (b x : ℕ) (rows : List sql.Row) → Shown SELECT_OUT.now (number_value b ∷ number_value x ∷ []) old new rows
     → (slice_get rows 0 ≡ None → Reads old new (λ books. [] ≡ open_of x (of b books.rentals)))
     × ((row : sql.Row) (n : ℕ) → slice_get rows 0 ≡ Some row → column row 0 ≡ number_value n → Reads old new (λ books. n ∷ [] ≡ open_of x (of b books.rentals)))
 read_out old new b x rows h = (
@@ -57,7 +58,7 @@ read_out old new b x rows h = (
     outs books = filter (is_out b x) (counts_of books).outs
 
     still : (books : Books) → Holds old books → Holds new books
-    still = still_holds shop_schema StandsFor select_out (number_value b ∷ number_value x ∷ []) old new select_out_means.plain rows h
+    still = still_holds shop_schema StandsFor SELECT_OUT.now (number_value b ∷ number_value x ∷ []) old new select_out_means.plain rows h
 
     shown : (books : Books) → Holds old books → IsHeld books → rows ≡ map (λ (o : Out). number_value o.rental ∷ []) (outs books)
     shown books holds held = shows_out (counts_of books) old new b x rows books holds.schema_is h holds.stands (picks_out b x books held)
@@ -79,7 +80,7 @@ read_out old new b x rows h = (
 unmapped_numbers : (ms ns : List ℕ) → map number_value ms ≡ map number_value ns → ms ≡ ns
 unmapped_numbers = unmapped number_value same_number
 
-pub read_outs : (old new : State) (b : ℕ) (rows seen : List sql.Row) (numbers : List ℕ) → Shown select_outs (number_value b ∷ []) old new rows → seen ≡ rows
+pub read_outs : (old new : State) (b : ℕ) (rows seen : List sql.Row) (numbers : List ℕ) → Shown SELECT_OUTS.now (number_value b ∷ []) old new rows → seen ≡ rows
     → map number_value numbers ≡ map (λ row. column row 0) seen → Reads old new (λ books. numbers ≡ opens_of (of b books.rentals))
 read_outs old new b rows seen numbers h same read books holds held =
     let number : Row Rental → ℕ = λ row. row.number in
@@ -89,18 +90,18 @@ read_outs old new b rows seen numbers h same read books holds held =
     let shown : rows ≡ map (λ row. number_value (number row) ∷ []) outs = found ∙ ap (map (λ row. number_value (number row) ∷ [])) (rise_sorted outs rise) in
     let firsts : map number_value numbers ≡ map number_value (map number outs) =
     read ∙ ap (map (λ row. column row 0)) (same ∙ shown) ∙ map-map (λ row. column row 0) (λ row. number_value (number row) ∷ []) outs ∙ sym (map-map number_value number outs) in (
-      still_holds shop_schema StandsFor select_outs (number_value b ∷ []) old new select_outs_means.plain rows h books holds,
+      still_holds shop_schema StandsFor SELECT_OUTS.now (number_value b ∷ []) old new select_outs_means.plain rows h books holds,
       unmapped_numbers _ _ firsts ∙ outs_are b books held,
     )
 
 -- ---- numbers that are taken
 
-pub tallies_taken : (old new : State) (b : ℕ) (kind : CountKind) (m : ℕ) → m < 2 ^ 32 → (rows : List sql.Row) → Shown raise_text (number_value b ∷ number_value (kind_number kind) ∷ number_value m ∷ []) old new rows
+pub tallies_taken : (old new : State) (b : ℕ) (kind : CountKind) (m : ℕ) → m < 2 ^ 32 → (rows : List sql.Row) → Shown UPDATE_COUNT.now (number_value b ∷ number_value (kind_number kind) ∷ number_value m ∷ []) old new rows
     → (row : sql.Row) (n : ℕ) → slice_get rows 0 ≡ Some row → column row 0 ≡ number_value n
     → Tallies old new (CountsOnce b kind) (raise b (kind_number kind) m) (λ counts. map (λ (it : Count). it.last + m) (filter (is_count b (kind_number kind)) counts.counters) ≡ n ∷ [])
 tallies_taken old new b kind m few rows h row n some is counts books holds given =
     let k = kind_number kind in
-    let it = sets_and_tells shop_schema raise_text 18 counter_table 3 of_two raise_terms raise_told (number_value b ∷ number_value k ∷ number_value m ∷ []) counter_columns
+    let it = sets_and_tells shop_schema UPDATE_COUNT.now 18 counter_table 3 of_two raise_terms raise_told (number_value b ∷ number_value k ∷ number_value m ∷ []) counter_columns
     (λ vs. number_test 0 b vs && (number_test 1 k vs && true)) (is_count b k) (count_more m) (raised m) (λ vs. plus m (column vs 2) ∷ []) (λ c. c.last < 2 ^ 32)
     (count_test b k) (count_more_is m few) (more_kept m few) old new holds.schema_is
     raise_means refl refl rows h refl (λ r. refl) (λ r. refl) (λ r. refl) (λ r. refl) (λ v vs. refl) (λ r. refl) in
@@ -120,10 +121,10 @@ tallies_taken old new b kind m few rows h row n some is counts books holds given
 
 -- ---- how many rows there are
 
-pub read_count : (old new : State) (b k : ℕ) (rows : List sql.Row) → Shown select_count (number_value b ∷ number_value k ∷ []) old new rows → 1 ≤ b
+pub read_count : (old new : State) (b k : ℕ) (rows : List sql.Row) → Shown SELECT_COUNT.now (number_value b ∷ number_value k ∷ []) old new rows → 1 ≤ b
     → (row : sql.Row) (n : ℕ) → slice_get rows 0 ≡ Some row → column row 0 ≡ number_value n → Reads old new (λ books. n ≡ count_in k b books)
 read_count old new b k rows h low row n some is books holds held = (
-  still_holds shop_schema StandsFor select_count (number_value b ∷ number_value k ∷ []) old new select_count_means.plain rows h books holds,
+  still_holds shop_schema StandsFor SELECT_COUNT.now (number_value b ∷ number_value k ∷ []) old new select_count_means.plain rows h books holds,
   told_count b k books rows row n low (shows_counts (counts_of books) old new b k rows books holds.schema_is h holds.stands) some is,
 )
 
@@ -134,6 +135,9 @@ told_first rows slice P (Err e) same told none some = tt
 told_first rows slice P (Ok None) same told none some = none (ap (λ rs. slice_get rs 0) (sym same) ∙ sym told)
 told_first rows slice P (Ok (Some v)) same told none some = some told.0 v (ap (λ rs. slice_get rs 0) (sym same) ∙ sym told.1) told.2
 
-pub told_number : {E : Type 0} (rows slice : List sql.Row) (P : ℕ → Type 0) (r : Result ℕ E) → slice ≡ rows → IfOk r (λ n. TellsFirst (λ row m. column row 0 ≡ number_value m) slice (Some n))
-    → ((row : sql.Row) (n : ℕ) → slice_get rows 0 ≡ Some row → column row 0 ≡ number_value n → P n) → IfOk r P
-told_number rows slice P r same told some = IfOk-weaker r _ P (λ n it. some it.0 n (ap (λ rs. slice_get rs 0) (sym same) ∙ sym it.1) it.2) told
+-- what is told of a count, where there is one
+pub told_number : {E : Type 0} {Fits : sql.Row → ℕ → Type 0} (rows slice : List sql.Row) (P : ℕ → Type 0) (found : Option ℕ) (r : Result ℕ E) → slice ≡ rows → TellsFirst Fits slice found
+    → IfOk r (λ n. (found ≡ Some n) × (n ≤ 1_000_000)) → ((row : sql.Row) (n : ℕ) → slice_get rows 0 ≡ Some row → Fits row n → P n) → IfOk r P
+told_number {Fits = Fits} rows slice P found r same told fits some = IfOk-weaker r _ P (λ n is.
+    let it = subst (TellsFirst Fits slice) is.0 told in
+    some it.0 n (ap (λ rs. slice_get rs 0) (sym same) ∙ sym it.1) it.2) fits

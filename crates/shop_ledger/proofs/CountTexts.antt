@@ -1,5 +1,5 @@
 -- The texts on counts and on copies that are out, as SQL has them.
-use Rattle.std.proofs.Common.{◌≡◌, ◌+◌, ◌<◌, ◌^◌, ◌&&◌, ℕ, pos, List, [], ◌∷◌, codes, map, filter, true, cond, Some, None, Ok, refl, ap, arith, nat_lt, IsPermutation, subst}
+use Rattle.std.proofs.Common.{◌≡◌, ◌+◌, ◌<◌, ◌^◌, ◌&&◌, ℕ, pos, List, [], ◌∷◌, map, filter, true, cond, Some, None, Ok, refl, ap, arith, nat_lt, IsPermutation, subst}
 use Rattle.std.specs.Prelude.{⊤}
 use Rattle.std.proofs.lemmas.Bool.Decides.{nat_tests}
 use Rattle.std.proofs.lemmas.List.{map_push}
@@ -37,24 +37,22 @@ use Rattle.shop_schema.specs.Counts.{Count, Out, Counts, is_count, is_open, is_o
 use Rattle.shop_schema.specs.Shop.{StandsFor, StandsWith, IsShop, Tallies}
 use Rattle.shop_schema.proofs.Stands.{stands_but, rows_of, with_rows}
 use Rattle.shop_schema.proofs.Listed.{tallies_put}
-use Rattle.shop_ledger.proofs.BranchRows.{of_one, of_two, equals}
+use Rattle.shop_ledger.specs.declared.counts.TheConstants.{SELECT_COUNT, UPDATE_COUNT, SELECT_OUT, SELECT_OUTS, INSERT_OUT, DELETE_OUT}
+use Rattle.shop_ledger.proofs.Equals.{of_one, of_two, equals}
 
 -- ---- counts
 
-abbrev pub select_count : List ℕ
-select_count = codes "SELECT last FROM counter WHERE caller = ?1 AND kind = ?2"
-
-pub select_count_means : Selects shop_schema select_count (plain_query 41 of_two (col 1 3 ∷ []) [])
+pub select_count_means : Selects shop_schema SELECT_COUNT.now (plain_query 41 of_two (col 1 3 ∷ []) [])
 unfolding understood everything
 select_count_means = record { names = _; is = refl; plain = (refl, refl); unlisted = refl }
 
 pub count_test : (b k : ℕ) (c : Count) → (number_test 0 b (counter_columns c) && (number_test 1 k (counter_columns c) && true)) ≡ is_count b k c
 count_test b k c = two_tested _ _ (number_tested c.caller b) (number_tested c.kind k)
 
-pub shows_counts : (counts : Counts) (old new : State) (b k : ℕ) (rows : List sql.Row) (books : Books) → IsShop old → Shown select_count (number_value b ∷ number_value k ∷ []) old new rows
+pub shows_counts : (counts : Counts) (old new : State) (b k : ℕ) (rows : List sql.Row) (books : Books) → IsShop old → Shown SELECT_COUNT.now (number_value b ∷ number_value k ∷ []) old new rows
     → StandsWith counts old.now.trees books → IsPermutation (map (λ (c : Count). number_value c.last ∷ []) (filter (is_count b k) counts.counters)) rows
 shows_counts counts old new b k rows books has h s =
-    projects_bag shop_schema select_count 41 3 of_two (col 1 3 ∷ []) select_count_means (number_value b ∷ number_value k ∷ []) old new rows has h counter_columns counts.counters s.counters refl
+    projects_bag shop_schema SELECT_COUNT.now 41 3 of_two (col 1 3 ∷ []) select_count_means (number_value b ∷ number_value k ∷ []) old new rows has h counter_columns counts.counters s.counters refl
     (λ vs. number_test 0 b vs && (number_test 1 k vs && true)) (λ vs. column vs 2 ∷ []) (is_count b k) (count_test b k) (λ r. refl)
 
 -- so many more, as SQL adds them: a number where 64 bits hold it
@@ -67,9 +65,6 @@ plus_is n m small few =
     let fits : nat_lt (n + m) (2 ^ 63) ≡ true = grind (arith, nat_tests) in
     ap (λ b. int_or (cond b (Some (pos (n + m))) None) (real_arith Add (from_int (pos n)) (from_int (pos m)))) fits
 
-abbrev pub raise_text : List ℕ
-raise_text = codes "UPDATE counter SET last = last + ?3 WHERE caller = ?1 AND kind = ?2 RETURNING last"
-
 abbrev pub raise_terms : List Term
 raise_terms = col 1 0 ∷ col 1 0 ∷ col 1 1 ∷ col 1 2 ∷ op2 (Arith Add) (col 1 3) (col 0 2) ∷ []
 
@@ -77,7 +72,7 @@ raise_terms = col 1 0 ∷ col 1 0 ∷ col 1 1 ∷ col 1 2 ∷ op2 (Arith Add) (c
 abbrev pub raise_told : List Term
 raise_told = col 0 7 ∷ []
 
-pub raise_means : MeansShowing shop_schema raise_text (Update 18 (record { lets = []; body = plain_query 41 of_two raise_terms [] })) raise_told
+pub raise_means : MeansShowing shop_schema UPDATE_COUNT.now (Update 18 (record { lets = []; body = plain_query 41 of_two raise_terms [] })) raise_told
 unfolding understood everything
 raise_means = record { names = _; is = refl; shows = refl; untimed = refl }
 
@@ -97,49 +92,37 @@ Beside books trees counts = StandsWith counts trees books
 
 -- ---- copies that are out
 
-abbrev pub select_out : List ℕ
-select_out = codes "SELECT rental FROM out_copy WHERE branch = ?1 AND copy = ?2"
-
-pub select_out_means : Selects shop_schema select_out (plain_query 43 of_two (col 1 3 ∷ []) [])
+pub select_out_means : Selects shop_schema SELECT_OUT.now (plain_query 43 of_two (col 1 3 ∷ []) [])
 unfolding understood everything
 select_out_means = record { names = _; is = refl; plain = (refl, refl); unlisted = refl }
 
 pub out_test : (b x : ℕ) (o : Out) → (number_test 0 b (out_columns o) && (number_test 1 x (out_columns o) && true)) ≡ is_out b x o
 out_test b x o = two_tested _ _ (number_tested o.branch b) (number_tested o.copy x)
 
-pub shows_out : (counts : Counts) (old new : State) (b x : ℕ) (rows : List sql.Row) (books : Books) → IsShop old → Shown select_out (number_value b ∷ number_value x ∷ []) old new rows
+pub shows_out : (counts : Counts) (old new : State) (b x : ℕ) (rows : List sql.Row) (books : Books) → IsShop old → Shown SELECT_OUT.now (number_value b ∷ number_value x ∷ []) old new rows
     → StandsWith counts old.now.trees books → PicksOne (is_out b x) counts.outs → rows ≡ map (λ (o : Out). number_value o.rental ∷ []) (filter (is_out b x) counts.outs)
 shows_out counts old new b x rows books has h s few =
-    projects_one shop_schema select_out 43 3 of_two (col 1 3 ∷ []) select_out_means (number_value b ∷ number_value x ∷ []) old new rows has h out_columns counts.outs s.outs refl
+    projects_one shop_schema SELECT_OUT.now 43 3 of_two (col 1 3 ∷ []) select_out_means (number_value b ∷ number_value x ∷ []) old new rows has h out_columns counts.outs s.outs refl
     (λ vs. number_test 0 b vs && (number_test 1 x vs && true)) (λ vs. column vs 2 ∷ []) (is_out b x) (out_test b x) (λ r. refl) few
 
 -- all of a branch, in order of the rentals' numbers: of books' own counts these are the open rentals
-abbrev pub select_outs : List ℕ
-select_outs = codes "SELECT rental FROM out_copy WHERE branch = ?1 ORDER BY rental"
-
-pub select_outs_means : Selects shop_schema select_outs (plain_query 43 of_one (col 1 3 ∷ []) ((col 1 3, ascending Binary) ∷ []))
+pub select_outs_means : Selects shop_schema SELECT_OUTS.now (plain_query 43 of_one (col 1 3 ∷ []) ((col 1 3, ascending Binary) ∷ []))
 unfolding understood everything
 select_outs_means = record { names = _; is = refl; plain = (refl, refl); unlisted = refl }
 
-pub shows_outs : (old new : State) (b : ℕ) (rows : List sql.Row) (books : Books) → IsShop old → Shown select_outs (number_value b ∷ []) old new rows → StandsFor old.now.trees books
+pub shows_outs : (old new : State) (b : ℕ) (rows : List sql.Row) (books : Books) → IsShop old → Shown SELECT_OUTS.now (number_value b ∷ []) old new rows → StandsFor old.now.trees books
     → Differ (λ (row : Row Rental). row.number) (filter (is_of b) (filter is_open books.rentals))
     → rows ≡ map (λ (row : Row Rental). number_value row.number ∷ []) (sort_by (by (λ row. row.number)) (filter (is_of b) (filter is_open books.rentals)))
 shows_outs old new b rows books has h s apart =
-    projects_sorted shop_schema select_outs 43 3 of_one (col 1 3 ∷ []) 2 select_outs_means (number_value b ∷ []) old new rows has h (λ row. out_columns (out_of row)) (filter is_open books.rentals)
+    projects_sorted shop_schema SELECT_OUTS.now 43 3 of_one (col 1 3 ∷ []) 2 select_outs_means (number_value b ∷ []) old new rows has h (λ row. out_columns (out_of row)) (filter is_open books.rentals)
     (subst (HasRows 3 (old.now.trees 43)) (map-map out_columns out_of (filter is_open books.rentals)) s.outs) refl
     (λ vs. number_test 0 b vs && true) (λ vs. column vs 2 ∷ []) (is_of b) (λ c. one_tested _ (number_tested c.branch b)) (λ r. refl) (λ c. c.number) (λ c. refl) apart
 
-abbrev pub insert_out : List ℕ
-insert_out = codes "INSERT INTO out_copy (branch, copy, rental) VALUES (?1, ?2, ?3)"
-
-pub tallies_put_out : (old new : State) (o : Out) (count : ℕ) → ExecutesInside 0 insert_out (out_columns o) old new (Ok count) → Tallies old new (λ _. ⊤) (put_out o) (λ _. ⊤)
+pub tallies_put_out : (old new : State) (o : Out) (count : ℕ) → ExecutesInside 0 INSERT_OUT.now (out_columns o) old new (Ok count) → Tallies old new (λ _. ⊤) (put_out o) (λ _. ⊤)
 unfolding understood everything
 tallies_put_out old new o =
-    tallies_put 19 out_copy_table (record { place = refl; uncounted = refl; unstamped = refl }) refl insert_out (record { is = refl; plain = (refl, refl) }) (out_columns o) refl refl refl (λ id. refl) (put_out o)
+    tallies_put 19 out_copy_table (record { place = refl; uncounted = refl; unstamped = refl }) refl INSERT_OUT.now (record { is = refl; plain = (refl, refl) }) (out_columns o) refl refl refl (λ id. refl) (put_out o)
     (λ counts books. ap (λ rows. with_rows 19 rows (rows_of counts books)) (map_push out_columns counts.outs o)) old new
-
-abbrev pub delete_out : List ℕ
-delete_out = codes "DELETE FROM out_copy WHERE branch = ?1 AND copy = ?2 AND rental = ?3"
 
 abbrev pub of_three : List Term
 of_three = equals 0 (1 ∷ 2 ∷ 3 ∷ [])
@@ -147,13 +130,13 @@ of_three = equals 0 (1 ∷ 2 ∷ 3 ∷ [])
 pub out_by_test : (b x n : ℕ) (o : Out) → (number_test 0 b (out_columns o) && (number_test 1 x (out_columns o) && (number_test 2 n (out_columns o) && true))) ≡ is_out_by b x n o
 out_by_test b x n o = three_tested _ _ _ (number_tested o.branch b) (number_tested o.copy x) (number_tested o.rental n)
 
-pub delete_out_means : Means shop_schema delete_out (Delete 19 (record { lets = []; body = plain_query 43 of_three (col 1 0 ∷ []) [] }))
+pub delete_out_means : Means shop_schema DELETE_OUT.now (Delete 19 (record { lets = []; body = plain_query 43 of_three (col 1 0 ∷ []) [] }))
 unfolding understood everything
 delete_out_means = record { is = refl; plain = (refl, refl) }
 
-pub drops_out : (books : Books) (old new : State) (b x n : ℕ) (count : ℕ) → IsShop old → ExecutesInside 0 delete_out (number_value b ∷ number_value x ∷ number_value n ∷ []) old new (Ok count)
+pub drops_out : (books : Books) (old new : State) (b x n : ℕ) (count : ℕ) → IsShop old → ExecutesInside 0 DELETE_OUT.now (number_value b ∷ number_value x ∷ number_value n ∷ []) old new (Ok count)
     → Changes shop_schema (Beside books) old new (λ counts. PicksOne (is_out_by b x n) counts.outs) (drop_out b x n)
 drops_out books old new b x n count has h =
-    drops_row shop_schema (Beside books) delete_out 19 out_copy_table 3 of_three (col 1 0 ∷ []) (number_value b ∷ number_value x ∷ number_value n ∷ []) out_columns
+    drops_row shop_schema (Beside books) DELETE_OUT.now 19 out_copy_table 3 of_three (col 1 0 ∷ []) (number_value b ∷ number_value x ∷ number_value n ∷ []) out_columns
     (λ vs. number_test 0 b vs && (number_test 1 x vs && (number_test 2 n vs && true))) (is_out_by b x n) (out_by_test b x n) old new has delete_out_means refl refl count h refl (λ r. refl) (λ r. refl)
     (λ counts. PicksOne (is_out_by b x n) counts.outs) (drop_out b x n) (λ counts same s few drops. stands_but 19 out_copy_table refl refl counts _ books books _ refl _ _ same s (drops counts.outs s.outs few))

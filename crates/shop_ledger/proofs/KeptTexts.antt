@@ -1,5 +1,5 @@
 -- Kept commands, as SQL has them: those of a branch, and those of head office, whose caller is 0, which is no branch's number.
-use Rattle.std.proofs.Common.{◌≡◌, ◌≤◌, ◌==◌, ◌&&◌, ℕ, List, [], ◌∷◌, ◌++◌, codes, map, filter, length, append_assoc, Bool, true, false, cond, Some, None, Ok, refl, sym, ap, subst, ◌∙◌, arith, IsPermutation}
+use Rattle.std.proofs.Common.{◌≡◌, ◌≤◌, ◌==◌, ◌&&◌, ℕ, List, [], ◌∷◌, ◌++◌, map, filter, length, append_assoc, Bool, true, false, cond, Some, None, Ok, refl, sym, ap, subst, ◌∙◌, arith, IsPermutation}
 use Rattle.std.specs.Prelude.{⊤, slice_get}
 use Rattle.std.specs.List.{AllByRecursion}
 use Rattle.std.specs.Str.{bytes_eq}
@@ -41,14 +41,12 @@ use Rattle.shop_schema.proofs.Stands.{stands_but}
 use Rattle.shop_schema.proofs.FirstRows.{first_none, first_some}
 use Rattle.shop_schema.proofs.Listed.{values}
 use Rattle.shop_schema.proofs.Different.{different_once}
+use Rattle.shop_ledger.specs.declared.kept.TheConstants.{SELECT_KEPT, INSERT_KEPT}
 use Rattle.shop_ledger.specs.declared.kept.Owner.{Owner}
 use Rattle.shop_ledger.specs.declared.kept.Owner.TheVariants as owner
 use Rattle.shop_ledger.specs.Seen.{stored_kept, stored_office_kept, owner_number, IsOwner, kept_under, Keeps}
 
-abbrev insert_kept : List ℕ
-insert_kept = codes "INSERT INTO kept (caller, \"key\", command, reply) VALUES (?1, ?2, ?3, ?4)"
-
-insert_kept_means : Means shop_schema insert_kept (Insert 17 (Values (values 4) 5))
+insert_kept_means : Means shop_schema INSERT_KEPT.now (Insert 17 (Values (values 4) 5))
 unfolding understood everything
 insert_kept_means = record { is = refl; plain = (refl, refl) }
 
@@ -70,10 +68,10 @@ module _ (old new : State) (b : ℕ) (command : Command) (key form reply : List 
       subst (λ (first : List sql.Row). IsPermutation (map (columns_of 4) rows) (first ++ map office_kept_columns office)) (sym (map_push kept_columns kept kept_row))
       (IsPermutation-trans _ _ _ has (put_between (map kept_columns kept) (map office_kept_columns office) (kept_columns kept_row)))
 
-  puts_kept : (count : ℕ) → command.key ≡ key → command_form command ≡ form → ExecutesInside 0 insert_kept (number_value b ∷ Text key ∷ Blob form ∷ Text reply ∷ []) old new (Ok count) → Writes old new (λ _. ⊤) with_row
+  puts_kept : (count : ℕ) → command.key ≡ key → command_form command ≡ form → ExecutesInside 0 INSERT_KEPT.now (number_value b ∷ Text key ∷ Blob form ∷ Text reply ∷ []) old new (Ok count) → Writes old new (λ _. ⊤) with_row
   puts_kept count is_key is_form h counts books holds given =
-      let ran : ExecutesInside 0 insert_kept (kept_columns kept_row) old new (Ok count) = subst (λ (row : sql.Row). ExecutesInside 0 insert_kept row old new (Ok count)) (λ i. number_value b ∷ Text (sym is_key i) ∷ Blob (sym is_form i) ∷ Text reply ∷ []) h in
-      let done = has_put shop_schema insert_kept 17 kept_table (values 4) 4 insert_kept_means (record { place = refl; uncounted = refl; unstamped = refl }) (kept_columns kept_row) (kept_columns kept_row) old new count ran refl refl refl (λ id. refl) holds.schema_is in
+      let ran : ExecutesInside 0 INSERT_KEPT.now (kept_columns kept_row) old new (Ok count) = subst (λ (row : sql.Row). ExecutesInside 0 INSERT_KEPT.now row old new (Ok count)) (λ i. number_value b ∷ Text (sym is_key i) ∷ Blob (sym is_form i) ∷ Text reply ∷ []) h in
+      let done = has_put shop_schema INSERT_KEPT.now 17 kept_table (values 4) 4 insert_kept_means (record { place = refl; uncounted = refl; unstamped = refl }) (kept_columns kept_row) (kept_columns kept_row) old new count ran refl refl refl (λ id. refl) holds.schema_is in
       let rows = row_put _ books.kept books.catalogue.kept (done.rows _ holds.stands.kept) in
       record { schema_is = done.schema_is; keyed = done.keyed holds.keyed; stands = stands_but 17 kept_table refl refl counts counts books (with_row books) _ refl old.now.trees new.now.trees done.others holds.stands rows }
 
@@ -89,15 +87,15 @@ module _ (old new : State) (command : OfficeCommand) (key form reply : List ℕ)
       subst (λ (put : List sql.Row). HasRows 4 rows put)
       (append_assoc (map kept_columns kept) (map office_kept_columns office) (office_kept_columns office_row ∷ []) ∙ ap (λ l. map kept_columns kept ++ l) (sym (map_push office_kept_columns office office_row))) has
 
-  puts_office_kept : (count : ℕ) → command.key ≡ key → office_command_form command ≡ form → ExecutesInside 0 insert_kept (number_value 0 ∷ Text key ∷ Blob form ∷ Text reply ∷ []) old new (Ok count) → Writes old new (λ _. ⊤) with_office_row
+  puts_office_kept : (count : ℕ) → command.key ≡ key → office_command_form command ≡ form → ExecutesInside 0 INSERT_KEPT.now (number_value 0 ∷ Text key ∷ Blob form ∷ Text reply ∷ []) old new (Ok count) → Writes old new (λ _. ⊤) with_office_row
   puts_office_kept count is_key is_form h counts books holds given =
-      let ran : ExecutesInside 0 insert_kept (office_kept_columns office_row) old new (Ok count) = subst (λ (row : sql.Row). ExecutesInside 0 insert_kept row old new (Ok count)) (λ i. number_value 0 ∷ Text (sym is_key i) ∷ Blob (sym is_form i) ∷ Text reply ∷ []) h in
-      let done = has_put shop_schema insert_kept 17 kept_table (values 4) 4 insert_kept_means (record { place = refl; uncounted = refl; unstamped = refl }) (office_kept_columns office_row) (office_kept_columns office_row) old new count ran refl refl refl (λ id. refl) holds.schema_is in
+      let ran : ExecutesInside 0 INSERT_KEPT.now (office_kept_columns office_row) old new (Ok count) = subst (λ (row : sql.Row). ExecutesInside 0 INSERT_KEPT.now row old new (Ok count)) (λ i. number_value 0 ∷ Text (sym is_key i) ∷ Blob (sym is_form i) ∷ Text reply ∷ []) h in
+      let done = has_put shop_schema INSERT_KEPT.now 17 kept_table (values 4) 4 insert_kept_means (record { place = refl; uncounted = refl; unstamped = refl }) (office_kept_columns office_row) (office_kept_columns office_row) old new count ran refl refl refl (λ id. refl) holds.schema_is in
       let rows = office_row_put _ books.kept books.catalogue.kept (done.rows _ holds.stands.kept) in
       record { schema_is = done.schema_is; keyed = done.keyed holds.keyed; stands = stands_but 17 kept_table refl refl counts counts books (with_office_row books) _ refl old.now.trees new.now.trees done.others holds.stands rows }
 
 pub puts_owned : (owner : Owner) (old new : State) (key form reply : List ℕ) (count : ℕ)
-    → ExecutesInside 0 insert_kept (number_value (owner_number owner) ∷ Text key ∷ Blob form ∷ Text reply ∷ []) old new (Ok count) → Keeps owner key form reply old new
+    → ExecutesInside 0 INSERT_KEPT.now (number_value (owner_number owner) ∷ Text key ∷ Blob form ∷ Text reply ∷ []) old new (Ok count) → Keeps owner key form reply old new
 puts_owned owner.Office old new key form reply count h = λ command is_key is_form. puts_office_kept old new command key form reply count is_key is_form h
 puts_owned (owner.Branch b) old new key form reply count h = λ command is_key is_form. puts_kept old new b command key form reply count is_key is_form h
 
@@ -160,13 +158,10 @@ office_picked test p tests_are kept office all =
 
 -- ---- one, by its key
 
-abbrev select_kept : List ℕ
-select_kept = codes "SELECT command, reply FROM kept WHERE caller = ?1 AND \"key\" = ?2"
-
 abbrev of_key : List Term
 of_key = op2 (Compare Eq Binary) (col 1 1) (col 0 0) ∷ op2 (Compare Eq Binary) (col 1 2) (col 0 1) ∷ []
 
-select_kept_means : Selects shop_schema select_kept (plain_query 39 of_key (col 1 3 ∷ col 1 4 ∷ []) [])
+select_kept_means : Selects shop_schema SELECT_KEPT.now (plain_query 39 of_key (col 1 3 ∷ col 1 4 ∷ []) [])
 unfolding understood everything
 select_kept_means = record { names = _; is = refl; plain = (refl, refl); unlisted = refl }
 
@@ -214,10 +209,10 @@ once (owner.Branch b) key books held =
     subst (λ (n : ℕ). n ≤ 1) (sym (length-map stored_kept (filter (λ it. bytes_eq it.command.key key) (owned_by b books.kept))))
     (different_once (λ (it : Kept). it.command.key) key (owned_by b books.kept) (held.keys b))
 
-module _ (owner : Owner) (is : IsOwner owner) (old new : State) (key : List ℕ) (rows : List sql.Row) (h : Shown select_kept (number_value (owner_number owner) ∷ Text key ∷ []) old new rows) where
+module _ (owner : Owner) (is : IsOwner owner) (old new : State) (key : List ℕ) (rows : List sql.Row) (h : Shown SELECT_KEPT.now (number_value (owner_number owner) ∷ Text key ∷ []) old new rows) where
   shows_kept : (books : Books) → Holds old books → IsHeld books → rows ≡ map pair_columns (kept_under owner key books)
   shows_kept books holds held =
-      projects_one shop_schema select_kept 39 4 of_key (col 1 3 ∷ col 1 4 ∷ []) select_kept_means (number_value (owner_number owner) ∷ Text key ∷ []) old new rows holds.schema_is h
+      projects_one shop_schema SELECT_KEPT.now 39 4 of_key (col 1 3 ∷ col 1 4 ∷ []) select_kept_means (number_value (owner_number owner) ∷ Text key ∷ []) old new rows holds.schema_is h
       (λ vs. vs) all (subst (HasRows 4 (old.now.trees 39)) (sym (map-id all)) holds.stands.kept) refl
       (seen (owner_number owner) key) two_columns (seen (owner_number owner) key) (λ vs. refl) (λ r. refl) few
       ∙ picked owner is key books held
@@ -232,7 +227,7 @@ module _ (owner : Owner) (is : IsOwner owner) (old new : State) (key : List ℕ)
           (once owner key books held)
 
   still : (books : Books) → Holds old books → Holds new books
-  still = still_holds shop_schema StandsFor select_kept (number_value (owner_number owner) ∷ Text key ∷ []) old new select_kept_means.plain rows h
+  still = still_holds shop_schema StandsFor SELECT_KEPT.now (number_value (owner_number owner) ∷ Text key ∷ []) old new select_kept_means.plain rows h
 
   -- what the first row tells
   pub read_owned : (slice : List sql.Row) → slice ≡ rows

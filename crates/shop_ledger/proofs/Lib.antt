@@ -1,11 +1,8 @@
 pub mod Rising
-pub mod BranchRows
-pub mod PaymentTable
-pub mod Refused
+pub mod Equals
 pub mod BranchTexts
 pub mod KeptTexts
 pub mod KeptLemmas
-pub mod OnPayments
 pub mod CountTexts
 pub mod CountsOf
 pub mod Outs

@@ -27,11 +27,12 @@ use Rattle.shop_schema.specs.Tables.{shop_schema}
 use Rattle.shop_schema.specs.Shop.{StandsFor, Holds, HoldsWith, Reads}
 use Rattle.shop_schema.proofs.Lists.{numbered_push, flat_map_push}
 use Rattle.sqlite_trees.proofs.ListLemmas.{all-permutation}
+use Rattle.shop_ledger.specs.declared.counts.TheConstants.{SELECT_COUNT}
 use Rattle.shop_ledger.specs.declared.counts.CountKind.TheVariants as kind
-use Rattle.shop_ledger.specs.declared.counts.Counter.{Counter}
-use Rattle.shop_ledger.specs.declared.counts.Counter.TheVariants.{OfficeKeys, Of}
-use Rattle.shop_ledger.specs.Counted.{kind_number, caller_of, kind_of, counted, IsCounter, CountsOnce, office_grown, office_counted}
-use Rattle.shop_ledger.proofs.CountTexts.{select_count, select_count_means, shows_counts}
+use Rattle.shop_ledger.specs.declared.counts.Count.{Count as TheCount}
+use Rattle.shop_ledger.specs.declared.counts.Count.TheVariants.{OfficeKeys, Of}
+use Rattle.shop_ledger.specs.Counted.{kind_number, caller_of, kind_of, counted, IsCount, CountsOnce, office_grown, office_counted}
+use Rattle.shop_ledger.proofs.CountTexts.{select_count_means, shows_counts}
 use Rattle.shop_ledger.proofs.CountsOf.{held_once, agreed}
 use Rattle.shop_ledger.proofs.CountLemmas.{read_count}
 
@@ -63,19 +64,19 @@ none_raised (c ∷ cs) all = λ i. cond (apart 4 c all.0 i) (raised 1 c) c ∷ n
 own_counts : (books : Books) → filter (is_count 0 4) (counts_of books).counters ≡ office_count books ∷ []
 own_counts books = ap (λ l. office_count books ∷ l) (none_picked (flat_map (branch_counts books) (numbered books.catalogue.branches)) (callers books 1 (omega arith) books.catalogue.branches))
 
-read_office_count : (old new : State) (rows : List sql.Row) → Shown select_count (number_value 0 ∷ number_value 4 ∷ []) old new rows
+read_office_count : (old new : State) (rows : List sql.Row) → Shown SELECT_COUNT.now (number_value 0 ∷ number_value 4 ∷ []) old new rows
     → (row : sql.Row) (n : ℕ) → slice_get rows 0 ≡ Some row → column row 0 ≡ number_value n → Reads old new (λ books. n ≡ length books.catalogue.kept)
 read_office_count old new rows h row n some is books holds held =
     let P : sql.Row → Type 0 = λ vs. vs ≡ number_value (length books.catalogue.kept) ∷ [] in
     let same = subst (λ (cs : List Count). IsPermutation (map (λ (c : Count). number_value c.last ∷ []) cs) rows) (own_counts books) (shows_counts (counts_of books) old new 0 4 rows books holds.schema_is h holds.stands) in
     let all = all-permutation P _ rows same (refl, tt) in
     let one : row ≡ number_value (length books.catalogue.kept) ∷ [] = all-slice_get P rows 0 row some all in (
-      still_holds shop_schema StandsFor select_count (number_value 0 ∷ number_value 4 ∷ []) old new select_count_means.plain rows h books holds,
+      still_holds shop_schema StandsFor SELECT_COUNT.now (number_value 0 ∷ number_value 4 ∷ []) old new select_count_means.plain rows h books holds,
       same_number _ _ (sym is ∙ ap (λ r. column r 0) one),
     )
 
-pub read_counted : (counter : Counter) → IsCounter counter → (old new : State) (rows : List sql.Row)
-    → Shown select_count (number_value (caller_of counter) ∷ number_value (kind_number (kind_of counter)) ∷ []) old new rows
+pub read_counted : (counter : TheCount) → IsCount counter → (old new : State) (rows : List sql.Row)
+    → Shown SELECT_COUNT.now (number_value (caller_of counter) ∷ number_value (kind_number (kind_of counter)) ∷ []) old new rows
     → (row : sql.Row) (n : ℕ) → slice_get rows 0 ≡ Some row → column row 0 ≡ number_value n → Reads old new (λ books. n ≡ counted counter books)
 read_counted OfficeKeys is old new rows h = read_office_count old new rows h
 read_counted (Of b kind) low old new rows h = read_count old new b (kind_number kind) rows h low

@@ -7,8 +7,8 @@ use Rattle.shop_model.specs.Books.{Books}
 use Rattle.shop_schema.specs.Counts.{Counts, is_count, count_in, raise, with_branch, is_out_by, customers_kind, copies_kind, rentals_kind, payments_kind, kept_kind}
 use Rattle.shop_ledger.specs.declared.counts.CountKind.{CountKind}
 use Rattle.shop_ledger.specs.declared.counts.CountKind.TheVariants as kind
-use Rattle.shop_ledger.specs.declared.counts.Counter.{Counter}
-use Rattle.shop_ledger.specs.declared.counts.Counter.TheVariants.{OfficeKeys, Of}
+use Rattle.shop_ledger.specs.declared.counts.Count.{Count}
+use Rattle.shop_ledger.specs.declared.counts.Count.TheVariants.{OfficeKeys, Of}
 
 -- the number of the kind, as the table has it
 abbrev pub kind_number : CountKind → ℕ
@@ -19,20 +19,20 @@ kind_number kind.Payments = payments_kind
 kind_number kind.Kept = kept_kind
 
 -- whose the counter is, as the table has it: a branch's number, or 0 for head office
-abbrev pub caller_of : Counter → ℕ
+abbrev pub caller_of : Count → ℕ
 caller_of OfficeKeys = 0
 caller_of (Of b kind) = b
 
-abbrev pub kind_of : Counter → CountKind
+abbrev pub kind_of : Count → CountKind
 kind_of OfficeKeys = kind.Kept
 kind_of (Of b kind) = kind
 
-abbrev pub IsCounter : Counter → Type 0
-IsCounter OfficeKeys = ⊤
-IsCounter (Of b kind) = 1 ≤ b
+abbrev pub IsCount : Count → Type 0
+IsCount OfficeKeys = ⊤
+IsCount (Of b kind) = 1 ≤ b
 
 -- what it says of the books
-abbrev pub counted : Counter → Books → ℕ
+abbrev pub counted : Count → Books → ℕ
 counted OfficeKeys books = length books.catalogue.kept
 counted (Of b kind) books = count_in (kind_number kind) b books
 

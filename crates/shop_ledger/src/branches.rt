@@ -1,30 +1,17 @@
-ghost use Rattle.std.specs.Prelude.{◌≡◌, ⊤, if◌then◌else◌, Some, None, IfOk, IfSome};
+ghost use Rattle.std.specs.Prelude.{◌≡◌, ⊤, if◌then◌else◌, Some, None};
 ghost use Rattle.sqlite.specs.Held.{state};
-ghost use Rattle.sqlite.specs.Values.{or_null};
-ghost use Rattle.sqlite_value.specs.Order.{column};
 ghost use Rattle.sql_rows.specs.Calls.{StaysInside};
-ghost use Rattle.shop_model.specs.Calendar.{IsMoment};
 ghost use Rattle.shop_model.specs.Rows.{lacks, owned_by};
 ghost use Rattle.shop_model.specs.Books.{head, set_last};
 ghost use Rattle.shop_schema.specs.Calls.{Finds, Stores};
-ghost use Rattle.shop_schema.specs.Columns.{moment_value};
-ghost use Rattle.shop_ledger.specs.Seen.{TellsFirst};
 
-use shop_schema::{MomentText, moment_or_null_at};
+use shop_schema::{MomentText, first_of, moment_or_null_at};
 use shop_types::{BranchNo, Moment};
 use sql_rows::{StoreFault, execute, query};
 use sqlite::types::ToSql;
-use sqlite::{Alter, Row, Transaction};
+use sqlite::{Alter, Transaction};
 
-/// The moment in the first column of the first row or none where it is NULL, if there is a row.
-fn first_moment(rows: &[Row]) -> Result<Option<Option<Moment>>, StoreFault>
-    ensures { IfOk result (TellsFirst (λ row last. (column row 0 ≡ or_null moment_value last) × IfSome last IsMoment) rows.now) }
-{
-    match rows.first() {
-        None => Ok(None),
-        Some(row) => Ok(Some(moment_or_null_at(row, 0)?)),
-    }
-}
+const SELECT_LAST: &str = "SELECT last_moment FROM branch WHERE number = ?1";
 
 /// The moment of the branch's last accepted command, where there is one; nothing at all where there is no such branch.
 pub fn last_at<S: Alter>(
@@ -35,13 +22,11 @@ pub fn last_at<S: Alter>(
     ensures found { Finds (state S.Store tx.old.conn.now) (state S.Store tx.new.conn.now) result
         (λ last books. last ≡ (if lacks books.catalogue.branches branch then None else Some (head (owned_by branch books.lasts)))) }
 {
-    let rows = query(
-        tx,
-        "SELECT last_moment FROM branch WHERE number = ?1",
-        &[branch.get().to_sql()],
-    )?;
-    first_moment(rows.as_slice())
+    let rows = query(tx, SELECT_LAST, &[branch.get().to_sql()])?;
+    first_of(rows.as_slice(), |row| moment_or_null_at(row, 0))
 }
+
+const UPDATE_LAST: &str = "UPDATE branch SET last_moment = ?2 WHERE number = ?1";
 
 /// Makes the moment the last one of the branch. After a fault the transaction may be rolled back.
 pub fn set_last<S: Alter>(
@@ -56,7 +41,7 @@ pub fn set_last<S: Alter>(
     let last = MomentText::of(moment);
     execute(
         tx,
-        "UPDATE branch SET last_moment = ?2 WHERE number = ?1",
+        UPDATE_LAST,
         &[branch.get().to_sql(), last.as_str().to_sql()],
     )
 }

@@ -9,10 +9,9 @@ ghost use Rattle.shop_model.specs.Stock.{keeps_out};
 ghost use Rattle.shop_schema.specs.Calls.{Finds};
 ghost use Rattle.shop_schema.specs.Counts.{count_in, is_count, kept_kind, raise, put_out, drop_out};
 ghost use Rattle.shop_schema.specs.Shop.{Reads, Tallies};
-ghost use Rattle.shop_ledger.specs.Counted.{kind_number, caller_of, kind_of, counted, IsCounter, CountsOnce, IsOutBy};
-ghost use Rattle.shop_ledger.specs.Seen.{TellsFirst};
+ghost use Rattle.shop_ledger.specs.Counted.{kind_number, caller_of, kind_of, counted, IsCount, CountsOnce, IsOutBy};
 
-use shop_schema::row_number_at;
+use shop_schema::{first_of, row_number_at};
 use shop_types::{BranchNo, CopyNo, RentalNo};
 use sql_rows::{StoreFault, execute, number_at, query};
 use sqlite::types::ToSql;
@@ -46,22 +45,22 @@ impl CountKind {
 
 /// A row of the table `counter`.
 #[derive(Clone, Copy)]
-pub enum Counter {
+pub enum Count {
     /// How many commands of head office are kept.
     OfficeKeys,
     /// How many rows of the kind the branch has.
     Of(BranchNo, CountKind),
 }
 
-impl Counter {
+impl Count {
     /// Whose it is, as the table has it: a branch's number, or 0 for head office.
     fn caller(&self) -> u32
         ensures value { result ≡ caller_of self.now }
-        ensures real { IsCounter self.now }
+        ensures real { IsCount self.now }
     {
         match self {
-            Counter::OfficeKeys => 0,
-            Counter::Of(branch, _) => branch.get(),
+            Count::OfficeKeys => 0,
+            Count::Of(branch, _) => branch.get(),
         }
     }
 
@@ -70,68 +69,67 @@ impl Counter {
         ensures { result ≡ kind_number (kind_of self.now) }
     {
         match self {
-            Counter::OfficeKeys => CountKind::Kept.number(),
-            Counter::Of(_, kind) => kind.number(),
+            Count::OfficeKeys => CountKind::Kept.number(),
+            Count::Of(_, kind) => kind.number(),
         }
     }
 }
 
-/// The number in the first column of the first row. Where there is no row, the fault is `Failed`.
-fn first_number(rows: &[Row]) -> Result<u32, StoreFault>
-    ensures { IfOk result (λ n. TellsFirst (λ row m. column row 0 ≡ number_value m) rows.now (Some n)) }
+/// The count that was found. Where there is none, or more than a million, the fault is `Failed`: no sound table counts more.
+fn fitting(found: Option<u32>) -> Result<u32, StoreFault>
+    ensures { IfOk result (λ n. (found ≡ Some n) × (n ≤ 1_000_000)) }
 {
-    match rows.first() {
-        None => Err(StoreFault::Failed),
-        Some(row) => number_at(row, 0),
+    match found {
+        Some(count) if count <= 1_000_000 => Ok(count),
+        _ => Err(StoreFault::Failed),
     }
 }
 
+const SELECT_COUNT: &str = "SELECT last FROM counter WHERE caller = ?1 AND kind = ?2";
+
 /// What the counter says. One row is read, however many it counts.
-pub fn count_of<S: Alter>(tx: &mut Transaction<'_, S>, counter: Counter) -> Result<u32, StoreFault>
+pub fn count_of<S: Alter>(tx: &mut Transaction<'_, S>, count: Count) -> Result<u32, StoreFault>
     ensures inside { StaysInside S.Store tx.old.conn tx.new.conn result }
-    ensures count { Finds (state S.Store tx.old.conn.now) (state S.Store tx.new.conn.now) result (λ count books. count ≡ counted counter books) }
+    ensures count { Finds (state S.Store tx.old.conn.now) (state S.Store tx.new.conn.now) result (λ n books. n ≡ counted count books) }
+    ensures bound { IfOk result (λ n. n ≤ 1_000_000) }
 {
     let rows = query(
         tx,
-        "SELECT last FROM counter WHERE caller = ?1 AND kind = ?2",
-        &[counter.caller().to_sql(), counter.kind().to_sql()],
+        SELECT_COUNT,
+        &[count.caller().to_sql(), count.kind().to_sql()],
     )?;
-    first_number(rows.as_slice())
+    fitting(first_of(rows.as_slice(), |row| number_at(row, 0))?)
 }
+
+const UPDATE_COUNT: &str =
+    "UPDATE counter SET last = last + ?3 WHERE caller = ?1 AND kind = ?2 RETURNING last";
 
 /// Raises the counter by so many, and tells what it says then. A counter that isn't there is a fault. After a fault the transaction may be rolled back.
 pub fn take_numbers<S: Alter>(
     tx: &mut Transaction<'_, S>,
-    counter: Counter,
+    count: Count,
     more: u32,
 ) -> Result<u32, StoreFault>
     ensures inside { StaysInside S.Store tx.old.conn tx.new.conn result }
     ensures taken { HasCleanDisk (state S.Store tx.new.conn.now)
-        → IfOk result (λ last. Tallies (state S.Store tx.old.conn.now) (state S.Store tx.new.conn.now) (CountsOnce (caller_of counter) (kind_of counter))
-        (raise (caller_of counter) (kind_number (kind_of counter)) more)
-        (λ counts. map (λ it. it.last + more) (filter (is_count (caller_of counter) (kind_number (kind_of counter))) counts.counters) ≡ last ∷ [])) }
+        → IfOk result (λ last. Tallies (state S.Store tx.old.conn.now) (state S.Store tx.new.conn.now) (CountsOnce (caller_of count) (kind_of count))
+        (raise (caller_of count) (kind_number (kind_of count)) more)
+        (λ counts. map (λ it. it.last + more) (filter (is_count (caller_of count) (kind_number (kind_of count))) counts.counters) ≡ last ∷ [])) }
+    ensures bound { IfOk result (λ last. last ≤ 1_000_000) }
 {
     let rows = query(
         tx,
-        "UPDATE counter SET last = last + ?3 WHERE caller = ?1 AND kind = ?2 RETURNING last",
+        UPDATE_COUNT,
         &[
-            counter.caller().to_sql(),
-            counter.kind().to_sql(),
+            count.caller().to_sql(),
+            count.kind().to_sql(),
             more.to_sql(),
         ],
     )?;
-    first_number(rows.as_slice())
+    fitting(first_of(rows.as_slice(), |row| number_at(row, 0))?)
 }
 
-/// The number in the first column of the first row, if there is a row.
-fn first_rental(rows: &[Row]) -> Result<Option<RentalNo>, StoreFault>
-    ensures { IfOk result (TellsFirst (λ row n. column row 0 ≡ number_value n) rows.now) }
-{
-    match rows.first() {
-        None => Ok(None),
-        Some(row) => Ok(Some(row_number_at(row, 0)?)),
-    }
-}
+const SELECT_OUT: &str = "SELECT rental FROM out_copy WHERE branch = ?1 AND copy = ?2";
 
 /// The copy's open rental, where it is out: no copy has two. One row is read, however many rentals there are.
 pub fn out_at<S: Alter>(
@@ -145,27 +143,25 @@ pub fn out_at<S: Alter>(
 {
     let rows = query(
         tx,
-        "SELECT rental FROM out_copy WHERE branch = ?1 AND copy = ?2",
+        SELECT_OUT,
         &[branch.get().to_sql(), copy.get().to_sql()],
     )?;
-    first_rental(rows.as_slice())
+    first_of(rows.as_slice(), |row| row_number_at(row, 0))
 }
+
+const SELECT_OUTS: &str = "SELECT rental FROM out_copy WHERE branch = ?1 ORDER BY rental";
 
 /// The numbers of the branch's rentals whose copies are out, in order. As many rows are read, however many rentals there are.
 pub fn rentals_out<S: Alter>(
-    tx: &mut Transaction<'_, S>,
     alloc: Global,
+    tx: &mut Transaction<'_, S>,
     branch: BranchNo,
 ) -> Result<Vec<RentalNo>, StoreFault>
     ensures inside { StaysInside S.Store tx.old.conn tx.new.conn result }
     ensures found { Finds (state S.Store tx.old.conn.now) (state S.Store tx.new.conn.now) result
         (λ rentals books. rentals.items ≡ map (λ it. it.0) (filter (λ it. is_none it.1.returned) (numbered (of branch books.rentals)))) }
 {
-    let rows = query(
-        tx,
-        "SELECT rental FROM out_copy WHERE branch = ?1 ORDER BY rental",
-        &[branch.get().to_sql()],
-    )?;
+    let rows = query(tx, SELECT_OUTS, &[branch.get().to_sql()])?;
     rentals_in(alloc, rows.as_slice())
 }
 
@@ -182,6 +178,8 @@ fn rentals_in(alloc: Global, rows: &[Row]) -> Result<Vec<RentalNo>, StoreFault>
     Ok(rentals)
 }
 
+const INSERT_OUT: &str = "INSERT INTO out_copy (branch, copy, rental) VALUES (?1, ?2, ?3)";
+
 /// Notes that the branch's copy is out by the rental. After a fault the transaction may be rolled back.
 pub fn put_out<S: Alter>(
     tx: &mut Transaction<'_, S>,
@@ -196,7 +194,7 @@ pub fn put_out<S: Alter>(
 {
     execute(
         tx,
-        "INSERT INTO out_copy (branch, copy, rental) VALUES (?1, ?2, ?3)",
+        INSERT_OUT,
         &[
             branch.get().to_sql(),
             copy.get().to_sql(),
@@ -204,6 +202,8 @@ pub fn put_out<S: Alter>(
         ],
     )
 }
+
+const DELETE_OUT: &str = "DELETE FROM out_copy WHERE branch = ?1 AND copy = ?2 AND rental = ?3";
 
 /// Notes that the branch's copy is back, which was out by the rental. After a fault the transaction may be rolled back.
 pub fn drop_out<S: Alter>(
@@ -219,7 +219,7 @@ pub fn drop_out<S: Alter>(
 {
     execute(
         tx,
-        "DELETE FROM out_copy WHERE branch = ?1 AND copy = ?2 AND rental = ?3",
+        DELETE_OUT,
         &[
             branch.get().to_sql(),
             copy.get().to_sql(),

@@ -7,8 +7,9 @@ ghost use Rattle.sql_rows.specs.Calls.{StaysInside};
 ghost use Rattle.shop_model.specs.Books.{head};
 ghost use Rattle.shop_types.specs.Verdicts.{seen_kept as told};
 ghost use Rattle.shop_schema.specs.Calls.{Finds};
-ghost use Rattle.shop_ledger.specs.Seen.{seen_kept, by_form, owner_number, IsOwner, kept_under, Keeps, TellsFirst};
+ghost use Rattle.shop_ledger.specs.Seen.{seen_kept, by_form, owner_number, IsOwner, kept_under, Keeps};
 
+use shop_schema::first_of;
 use shop_types::{BranchNo, KeptFound, Key};
 use sql_rows::{Bytes, StoreFault, Words, bytes_at, execute, query, words_at};
 use sqlite::types::ToSql;
@@ -54,18 +55,17 @@ pub fn kept_found<'a>(kept: Option<&'a KeptRow>, form: &Bytes) -> Option<KeptFou
     }
 }
 
-/// The stored form and the reply in the first row, if there is a row.
-fn first_kept(rows: &[Row]) -> Result<Option<KeptRow>, StoreFault>
-    ensures { IfOk result (TellsFirst (λ row kept. (column row 0 ≡ Blob kept.form) × (column row 1 ≡ Text kept.reply)) rows.now) }
+/// The stored form and the reply in the row.
+fn kept_in(row: &Row) -> Result<KeptRow, StoreFault>
+    ensures { IfOk result (λ kept. (column row.now 0 ≡ Blob kept.form) × (column row.now 1 ≡ Text kept.reply)) }
 {
-    match rows.first() {
-        None => Ok(None),
-        Some(row) => Ok(Some(KeptRow {
-            form: bytes_at(row, 0)?,
-            reply: words_at(row, 1)?,
-        })),
-    }
+    Ok(KeptRow {
+        form: bytes_at(row, 0)?,
+        reply: words_at(row, 1)?,
+    })
 }
+
+const SELECT_KEPT: &str = "SELECT command, reply FROM kept WHERE caller = ?1 AND \"key\" = ?2";
 
 /// What its owner has kept under the key.
 pub fn kept_at<S: Alter>(
@@ -79,11 +79,14 @@ pub fn kept_at<S: Alter>(
 {
     let rows = query(
         tx,
-        "SELECT command, reply FROM kept WHERE caller = ?1 AND \"key\" = ?2",
+        SELECT_KEPT,
         &[owner.number().to_sql(), key.as_str().to_sql()],
     )?;
-    first_kept(rows.as_slice())
+    first_of(rows.as_slice(), kept_in)
 }
+
+const INSERT_KEPT: &str =
+    "INSERT INTO kept (caller, \"key\", command, reply) VALUES (?1, ?2, ?3, ?4)";
 
 /// Keeps a command of the owner, by its key and its stored form, with the body of its reply. After a fault the transaction may be rolled back.
 pub fn put_kept<S: Alter>(
@@ -99,7 +102,7 @@ pub fn put_kept<S: Alter>(
 {
     execute(
         tx,
-        "INSERT INTO kept (caller, \"key\", command, reply) VALUES (?1, ?2, ?3, ?4)",
+        INSERT_KEPT,
         &[
             owner.number().to_sql(),
             key.as_str().to_sql(),

@@ -1,15 +1,13 @@
-//! What the shop keeps account of beside its rows: payments, counts of rows, copies that are out, kept commands and last moments, one function a statement.
+//! What the shop keeps account of beside its rows: counts of rows, copies that are out, kept commands and last moments, one function a statement.
 //! Each works inside a transaction of the caller's, and tells what it found or made of the books that the tables stand for.
 #![tactic(auto)]
 
 mod branches;
 mod counts;
 mod kept;
-mod payments;
 
 pub use branches::{last_at, set_last};
 pub use counts::{
-    CountKind, Counter, count_of, drop_out, out_at, put_out, rentals_out, take_numbers,
+    Count, CountKind, count_of, drop_out, out_at, put_out, rentals_out, take_numbers,
 };
 pub use kept::{KeptRow, Owner, kept_at, kept_found, put_kept};
-pub use payments::{PaymentRow, payments_between, payments_of_customer, put_payment};

@@ -22,9 +22,7 @@ use std::alloc::Global;
 fn new_tables(alloc: Global) -> Result<Connection<MemStore>, StoreFault>
     ensures { IfOk result (λ conn. (state over_memory conn).now.schema ≡ shop_schema) }
 {
-    let Ok(mut conn) = Connection::open_in_memory(alloc) else {
-        return Err(StoreFault::Memory);
-    };
+    let mut conn = Connection::open_in_memory(alloc)?;
     create_shop(&mut conn)?;
     Ok(conn)
 }

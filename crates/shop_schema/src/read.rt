@@ -1,6 +1,7 @@
-//! Columns read as the shop's values. Where a column holds no such value, the fault is `Failed`.
+//! Columns read as the shop's values, and the first row of an answer. Where a column holds no such value, the fault is `Failed`.
 
-ghost use Rattle.std.specs.Prelude.{◌≡◌, ◌≢◌, ◌<◌, ℕ, List, Option, length, IfOk, IfErr, IfSome};
+ghost use Rattle.std.specs.Prelude.{◌≡◌, ◌≢◌, ◌<◌, ℕ, List, Option, Some, Ok, Err, length, slice_get, IfOk, IfErr, IfSome};
+ghost use Rattle.std.specs.Fn.{FnReturnsAt};
 ghost use Rattle.sqlite.specs.declared.types.Value.TheVariants.{Text as SqlText};
 ghost use Rattle.sqlite.specs.Values.{or_null};
 ghost use Rattle.sqlite_value.specs.Order.{column};
@@ -8,6 +9,7 @@ ghost use Rattle.sql_rows.specs.Rows.{number_value};
 ghost use Rattle.sql_rows.specs.declared.fault.StoreFault.TheVariants.{Failed};
 ghost use Rattle.shop_model.specs.Calendar.{Moment as Civil, IsMoment};
 ghost use Rattle.shop_schema.specs.Columns.{moment_value};
+ghost use Rattle.shop_schema.specs.First.{TellsFirst};
 ghost use Rattle.shop_schema.specs.RowValues.{IsNumber, IsText};
 
 use shop_types::{Moment, RowNumber, Text};
@@ -89,5 +91,20 @@ pub fn text_at<const LOW: usize, const HIGH: usize>(
     match Text::read(words_at(row, at)?.into_string()) {
         Some(text) => Ok(text),
         None => Err(StoreFault::Failed),
+    }
+}
+
+/// What the reader makes of the first row, if there is a row. A fault is its own.
+pub fn first_of<T, F: Fn(&Row) -> Result<T, StoreFault>>(
+    rows: &[Row],
+    read: F,
+) -> Result<Option<T>, StoreFault>
+    requires { F.IsAlwaysCallable read }
+    ensures found { IfOk result (TellsFirst (λ row it. FnReturnsAt F.Fn read row (Ok it)) rows.now) }
+    ensures failed { IfErr result (λ e. (row : _) × (Some row ≡ slice_get rows.now 0) × FnReturnsAt F.Fn read row (Err e)) }
+{
+    match rows.first() {
+        None => Ok(None),
+        Some(row) => Ok(Some(read(row)?)),
     }
 }

@@ -1,14 +1,14 @@
 -- The tables of the branches' rows, as lists of the books.
 use Rattle.std.proofs.Common.{refl}
 use Rattle.shop_model.specs.Rows.{Owned}
-use Rattle.shop_model.specs.Values.{Text, Customer, Rental}
+use Rattle.shop_model.specs.Values.{Text, Customer, Rental, Payment}
 use Rattle.shop_model.specs.Books.{BookCopy}
-use Rattle.shop_schema.specs.Tables.{customer_table, copy_table, rental_table, lot_table}
-use Rattle.shop_schema.specs.Columns.{customer_columns, copy_columns, rental_columns, lot_columns}
-use Rattle.shop_schema.specs.RowValues.{IsCustomer, IsCopy, IsRental}
+use Rattle.shop_schema.specs.Tables.{customer_table, copy_table, rental_table, payment_table, lot_table}
+use Rattle.shop_schema.specs.Columns.{customer_columns, copy_columns, rental_columns, payment_columns, lot_columns}
+use Rattle.shop_schema.specs.RowValues.{IsCustomer, IsCopy, IsRental, IsPayment}
 use Rattle.shop_schema.proofs.Listed.{Plain, listed}
-use Rattle.shop_schema.proofs.SameRows.{same_customer, same_copy, same_rental}
-use Rattle.shop_ledger.proofs.BranchRows.{BranchRows}
+use Rattle.shop_schema.proofs.SameRows.{same_customer, same_copy, same_rental, same_payment}
+use Rattle.shop_store.proofs.BranchRows.{BranchRows}
 
 abbrev pub customers : BranchRows Customer
 customers = record {
@@ -44,6 +44,18 @@ rentals = record {
   begins = λ row. (refl, refl);
   valued = λ books held. held.values.rentals;
   counted = λ books held. held.numbers.rentals;
+}
+
+abbrev pub payments : BranchRows Payment
+payments = record {
+  rows =
+      listed 13 payment_table payment_columns (λ books. books.payments) (λ xs books. record books { payments = xs })
+      (record { place = refl; uncounted = refl; unstamped = refl }) refl (λ counts books. refl) (λ counts xs books. refl) (λ xs books. refl) (λ xs ys books. refl);
+  Fits = IsPayment;
+  one = same_payment;
+  begins = λ row. (refl, refl);
+  valued = λ books held. held.values.payments;
+  counted = λ books held. held.numbers.payments;
 }
 
 abbrev pub lots : Plain (Owned Text)

@@ -1,5 +1,5 @@
 -- What is read of a film by its number, with all its columns.
-use Rattle.std.proofs.Common.{◌≡◌, ◌≢◌, ◌≤◌, ◌<◌, ◌-◌, ◌==◌, ℕ, List, [], ◌∷◌, Bool, true, false, cond, codes, map, length, refl, sym, ap, ◌∙◌, arith, Ok, Err, Result}
+use Rattle.std.proofs.Common.{◌≡◌, ◌≢◌, ◌≤◌, ◌<◌, ◌-◌, ◌==◌, ℕ, List, [], ◌∷◌, Bool, true, false, cond, map, length, refl, sym, ap, ◌∙◌, arith, Ok, Err, Result}
 use Rattle.std.specs.Prelude.{Option, Some, None, IfOk, IfErr, IsErrAnd, take, option_map}
 use Rattle.std.specs.Option.{option_to_list}
 use Rattle.sqlite.specs.declared.types.Value.{Value}
@@ -18,6 +18,7 @@ use Rattle.shop_schema.specs.RowValues.{IsNumber, IsFilm}
 use Rattle.shop_schema.specs.Shop.{Reads}
 use Rattle.shop_schema.proofs.Listed.{cols}
 use Rattle.shop_schema.proofs.SameRows.{same_film}
+use Rattle.shop_store.specs.declared.films.TheConstants.{SELECT_FILM}
 use Rattle.shop_store.specs.SharedSeen.{seen_film_row, IsNoFilm}
 use Rattle.shop_store.specs.declared.films.FilmRow.{FilmRow}
 use Rattle.shop_store.proofs.ByNumber.{films}
@@ -26,14 +27,11 @@ use Rattle.sql_rows.proofs.Queries.{Selects}
 use Rattle.shop_schema.specs.Tables.{shop_schema}
 use Rattle.shop_store.proofs.SharedReads.{asked, Shows, still, shows_shared}
 
-abbrev select_row : List ℕ
-select_row = codes "SELECT number, title, description, language, category, period, rate, replacement, length, rating, features, withdrawn FROM film WHERE number = ?1"
-
-select_row_means : Selects shop_schema select_row (asked films select_row (cols 1 1 12))
+select_row_means : Selects shop_schema SELECT_FILM.now (asked films SELECT_FILM.now (cols 1 1 12))
 unfolding understood everything
 select_row_means = record { names = _; is = refl; plain = (refl, refl); unlisted = refl }
 
-select_row_shows : Shows films select_row (cols 1 1 12) (λ vs. vs)
+select_row_shows : Shows films SELECT_FILM.now (cols 1 1 12) (λ vs. vs)
 unfolding understood everything
 select_row_shows m r = refl
 
@@ -60,13 +58,13 @@ film_of n (Some row) (x ∷ []) few is =
     ap (λ (it : ℕ × Film). it.1 ∷ []) (same_film (row.number, seen_film_row row) (n, x) columns)
 film_of n o (x ∷ y ∷ rows) few is = absurd (omega (arith, few))
 
-pub read_row : (old new : State) (n : ℕ) (rows slice : List sql.Row) (r : Result (Option FilmRow) StoreFault) → Shown select_row (number_value n ∷ []) old new rows → 1 ≤ n → slice ≡ rows
+pub read_row : (old new : State) (n : ℕ) (rows slice : List sql.Row) (r : Result (Option FilmRow) StoreFault) → Shown SELECT_FILM.now (number_value n ∷ []) old new rows → 1 ≤ n → slice ≡ rows
     → IfOk r (λ o. map columns_read (option_to_list o) ≡ take 1 slice)
     → IfOk r (λ o. Reads old new (λ books. option_to_list (option_map seen_film_row o) ≡ at n books.catalogue.films))
 read_row old new n rows slice (Err e) h low same read = tt
 read_row old new n rows slice (Ok o) h low same read = λ books holds held.
-    let found = shows_shared films select_row (cols 1 1 12) select_row_means (λ vs. vs) select_row_shows old new n rows h low books holds in (
-      still films select_row (cols 1 1 12) select_row_means (λ vs. vs) select_row_shows old new n rows h low books holds,
+    let found = shows_shared films SELECT_FILM.now (cols 1 1 12) select_row_means (λ vs. vs) select_row_shows old new n rows h low books holds in (
+      still films SELECT_FILM.now (cols 1 1 12) select_row_means (λ vs. vs) select_row_shows old new n rows h low books holds,
       film_of n o (at n books.catalogue.films) (at_short n books.catalogue.films) (read ∙ ap (take 1) (same ∙ found)),
     )
 

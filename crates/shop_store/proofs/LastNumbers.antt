@@ -1,6 +1,7 @@
 -- The greatest number of a table of shared rows is how many rows it has.
-use Rattle.std.proofs.Common.{◌≡◌, ◌<◌, ◌+◌, ℕ, List, [], ◌∷◌, codes, map, filter, length, true, Ok, Err, Result, refl, sym, ap, subst, ◌∙◌, arith}
-use Rattle.std.specs.Prelude.{IfOk}
+use Rattle.std.proofs.Common.{◌≡◌, ◌<◌, ◌+◌, ℕ, List, [], ◌∷◌, map, filter, length, true, Ok, Err, Result, refl, sym, ap, subst, ◌∙◌, arith}
+use Rattle.std.specs.Prelude.{IfOk, Option, Some, None}
+use Rattle.std.specs.Option.{unwrap_or}
 use Rattle.std.specs.List.{AllByRecursion}
 use Rattle.sqlite_value.specs.Order as sql
 use Rattle.sqlite_value.specs.Order.{column}
@@ -21,6 +22,8 @@ use Rattle.shop_schema.specs.Tables.{shop_schema}
 use Rattle.shop_schema.specs.Counts.{counts_of}
 use Rattle.shop_schema.specs.Shop.{StandsFor, Holds, Reads}
 use Rattle.shop_schema.proofs.Listed.{own_rows}
+use Rattle.shop_schema.specs.First.{TellsFirst}
+use Rattle.shop_store.specs.declared.lasts.TheConstants.{SELECT_LAST_COUNTRY, SELECT_LAST_LANGUAGE, SELECT_LAST_CATEGORY, SELECT_LAST_CITY, SELECT_LAST_ACTOR, SELECT_LAST_FILM, SELECT_LAST_BRANCH, SELECT_LAST_STAFF}
 use Rattle.shop_store.specs.SharedSeen.{IsFirstNumber}
 use Rattle.shop_store.proofs.ByNumber.{ByNumber, countries, languages, categories, cities, actors, films, branches, staff}
 use Rattle.shop_store.proofs.LastRow.{ending, first_query, descending, projects_last}
@@ -50,6 +53,14 @@ module _ {A : Type 0} where
       let told : number_value (1 + length xs) ≡ number_value n = subst (λ (l : List sql.Row). IsFirstNumber l n) (are ∙ last_number 1 x xs) first in
       let same : n ≡ 1 + length xs = sym (same_number (1 + length xs) n told) in
       omega (arith, same)
+
+-- the number of the first row, or 0
+pub first_number : {Fits : sql.Row → ℕ → Type 0} → ((row : sql.Row) (n : ℕ) → Fits row n → column row 0 ≡ number_value n) → (rows : List sql.Row) (found : Option ℕ) → TellsFirst Fits rows found
+    → IsFirstNumber rows (unwrap_or found 0)
+first_number fits [] None told = refl
+first_number fits [] (Some n) told = let none : ⊥ = cc (told.1) in absurd none
+first_number fits (row ∷ rows) None told = let none : ⊥ = cc in absurd none
+first_number fits (row ∷ rows) (Some n) told = let same : told.0 ≡ row = cc (told.1) in rw same at (fits told.0 n told.2)
 
 -- what the call tells of the rows that it is shown
 abbrev pub ReadsLast : {A : Type 0} → ByNumber A → List ℕ → Type 1
@@ -90,34 +101,34 @@ module _ {A : Type 0} (t : ByNumber A) (text : List ℕ) where
           shown [] = refl
           shown (it ∷ its) = λ i. (t.numbers books it i ∷ []) ∷ shown its i
 
-pub last_country : ReadsLast countries (codes "SELECT number FROM country ORDER BY number DESC LIMIT 1")
+pub last_country : ReadsLast countries SELECT_LAST_COUNTRY.now
 unfolding understood everything
 last_country = reads_last countries _ (record { names = _; is = refl; plain = (refl, refl); unlisted = refl }) (λ r. refl)
 
-pub last_language : ReadsLast languages (codes "SELECT number FROM language ORDER BY number DESC LIMIT 1")
+pub last_language : ReadsLast languages SELECT_LAST_LANGUAGE.now
 unfolding understood everything
 last_language = reads_last languages _ (record { names = _; is = refl; plain = (refl, refl); unlisted = refl }) (λ r. refl)
 
-pub last_category : ReadsLast categories (codes "SELECT number FROM category ORDER BY number DESC LIMIT 1")
+pub last_category : ReadsLast categories SELECT_LAST_CATEGORY.now
 unfolding understood everything
 last_category = reads_last categories _ (record { names = _; is = refl; plain = (refl, refl); unlisted = refl }) (λ r. refl)
 
-pub last_city : ReadsLast cities (codes "SELECT number FROM city ORDER BY number DESC LIMIT 1")
+pub last_city : ReadsLast cities SELECT_LAST_CITY.now
 unfolding understood everything
 last_city = reads_last cities _ (record { names = _; is = refl; plain = (refl, refl); unlisted = refl }) (λ r. refl)
 
-pub last_actor : ReadsLast actors (codes "SELECT number FROM actor ORDER BY number DESC LIMIT 1")
+pub last_actor : ReadsLast actors SELECT_LAST_ACTOR.now
 unfolding understood everything
 last_actor = reads_last actors _ (record { names = _; is = refl; plain = (refl, refl); unlisted = refl }) (λ r. refl)
 
-pub last_film : ReadsLast films (codes "SELECT number FROM film ORDER BY number DESC LIMIT 1")
+pub last_film : ReadsLast films SELECT_LAST_FILM.now
 unfolding understood everything
 last_film = reads_last films _ (record { names = _; is = refl; plain = (refl, refl); unlisted = refl }) (λ r. refl)
 
-pub last_branch : ReadsLast branches (codes "SELECT number FROM branch ORDER BY number DESC LIMIT 1")
+pub last_branch : ReadsLast branches SELECT_LAST_BRANCH.now
 unfolding understood everything
 last_branch = reads_last branches _ (record { names = _; is = refl; plain = (refl, refl); unlisted = refl }) (λ r. refl)
 
-pub last_staff : ReadsLast staff (codes "SELECT number FROM staff ORDER BY number DESC LIMIT 1")
+pub last_staff : ReadsLast staff SELECT_LAST_STAFF.now
 unfolding understood everything
 last_staff = reads_last staff _ (record { names = _; is = refl; plain = (refl, refl); unlisted = refl }) (λ r. refl)

@@ -6,13 +6,16 @@ pub mod LastRow
 pub mod LastNumbers
 pub mod TokenReads
 pub mod PutTexts
+pub mod SharedSets
 pub mod OpeningTexts
 pub mod CountPuts
 pub mod FilmColumns
 pub mod FilmRows
+pub mod BranchRows
 pub mod BranchTables
 pub mod OnCustomers
 pub mod OnCopies
 pub mod OnRentals
+pub mod OnPayments
 pub mod SameRentals
 pub mod Refused

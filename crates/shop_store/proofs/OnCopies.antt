@@ -1,5 +1,5 @@
 -- What the texts of copies and lots say and make of the books.
-use Rattle.std.proofs.Common.{◌≡◌, ◌==◌, ◌&&◌, ◌||◌, ℕ, suc, List, [], ◌∷◌, codes, map, filter, length, Bool, true, false, not, cond, Ok, Err, Result, refl, sym, ap, ◌∙◌, arith}
+use Rattle.std.proofs.Common.{◌≡◌, ◌==◌, ◌&&◌, ◌||◌, ℕ, suc, List, [], ◌∷◌, map, filter, length, Bool, true, false, not, cond, Ok, Err, Result, refl, sym, ap, ◌∙◌, arith}
 use Rattle.std.specs.Prelude.{Vec, IfOk}
 use Rattle.std.specs.List.{AllByRecursion, list_any}
 use Rattle.std.specs.Str.{bytes_eq}
@@ -29,10 +29,12 @@ use Rattle.shop_schema.specs.RowValues.{IsRow, IsCopy}
 use Rattle.shop_schema.specs.Held.{IsHeld}
 use Rattle.shop_schema.specs.Shop.{StandsFor, IsShop, Reads, Writes}
 use Rattle.shop_schema.proofs.Listed.{PutsLast, puts_last}
+use Rattle.shop_store.specs.declared.copies.TheConstants.{SELECT_COPY, SELECT_COPIES_OF_FILM, UPDATE_STATE, INSERT_COPY, SELECT_LOT, INSERT_LOT}
 use Rattle.shop_store.specs.Seen.{seen_copy_row}
 use Rattle.shop_store.specs.declared.copies.CopyRow.{CopyRow}
 use Rattle.shop_ledger.proofs.Rising.{which_rise}
-use Rattle.shop_ledger.proofs.BranchRows.{of_two, equals, ReadsOne, reads_one, reads_sorted, sets_column}
+use Rattle.shop_ledger.proofs.Equals.{of_two, equals}
+use Rattle.shop_store.proofs.BranchRows.{ReadsOne, reads_one, reads_sorted, sets_column}
 use Rattle.shop_store.proofs.BranchTables.{copies, lots}
 
 -- each column takes its value as it is
@@ -44,60 +46,51 @@ kept_copy c = go c.it.state
     go Sent = refl
     go Scrapped = refl
 
-pub write_copy : PutsLast copies.rows (codes "INSERT INTO copy (branch, number, film, state, origin_branch, origin_copy) VALUES (?1, ?2, ?3, ?4, ?5, ?6)")
+pub write_copy : PutsLast copies.rows INSERT_COPY.now
 unfolding understood everything
 write_copy = puts_last copies.rows _ (record { is = refl; plain = (refl, refl) }) (λ x. refl) (λ x. refl) kept_copy (λ x id. refl)
 
-pub read_copy : ReadsOne copies seen_copy_row (codes "SELECT branch, number, film, state, origin_branch, origin_copy FROM copy WHERE branch = ?1 AND number = ?2")
+pub read_copy : ReadsOne copies seen_copy_row SELECT_COPY.now
 unfolding understood everything
 read_copy = reads_one copies seen_copy_row _ (record { names = _; is = refl; plain = (refl, refl); unlisted = refl }) (λ b n r. refl)
 
 abbrev pub is_of_film : ℕ → ℕ → Row BookCopy → Bool
 is_of_film b film row = is_of b row && row.it.film == film
 
-abbrev select_of_film : List ℕ
-select_of_film = codes "SELECT branch, number, film, state, origin_branch, origin_copy FROM copy WHERE branch = ?1 AND film = ?2 ORDER BY number"
-
-pub read_of_film : (old new : State) (b film : ℕ) (rows slice : List sql.Row) (r : Result (Vec CopyRow Global) StoreFault) → Shown select_of_film (number_value b ∷ number_value film ∷ []) old new rows → slice ≡ rows
+pub read_of_film : (old new : State) (b film : ℕ) (rows slice : List sql.Row) (r : Result (Vec CopyRow Global) StoreFault) → Shown SELECT_COPIES_OF_FILM.now (number_value b ∷ number_value film ∷ []) old new rows → slice ≡ rows
     → IfOk r (λ all. map (λ x. copy_columns (seen_copy_row x)) all.items ≡ slice) → IfOk r (λ all. AllByRecursion (λ x. IsRow IsCopy (seen_copy_row x)) all.items)
     → IfOk r (λ all. Reads old new (λ books. map seen_copy_row all.items ≡ filter (is_of_film b film) books.copies))
 unfolding understood everything
 read_of_film old new b film rows slice (Err e) h same read kinds = tt
 read_of_film old new b film rows slice (Ok all) h same read kinds =
-    reads_sorted copies (equals 0 (1 ∷ 3 ∷ [])) seen_copy_row select_of_film (record { names = _; is = refl; plain = (refl, refl); unlisted = refl }) (number_value b ∷ number_value film ∷ [])
+    reads_sorted copies (equals 0 (1 ∷ 3 ∷ [])) seen_copy_row SELECT_COPIES_OF_FILM.now (record { names = _; is = refl; plain = (refl, refl); unlisted = refl }) (number_value b ∷ number_value film ∷ [])
     (λ vs. number_test 0 b vs && (number_test 2 film vs && true)) (is_of_film b film) (λ c. two_tested _ _ (number_tested c.branch b) (number_tested c.it.film film)) (λ r. refl)
     (λ books held. which_rise (λ (it : BookCopy). it.film == film) b books.copies (held.numbers.copies b)) old new rows slice all.items h same read kinds
 
-abbrev update_state : List ℕ
-update_state = codes "UPDATE copy SET state = ?3 WHERE branch = ?1 AND number = ?2"
-
-pub write_state : (old new : State) (b n : ℕ) (to : CopyState) (count : ℕ) → ExecutesInside 0 update_state (number_value b ∷ number_value n ∷ state_value to ∷ []) old new (Ok count)
+pub write_state : (old new : State) (b n : ℕ) (to : CopyState) (count : ℕ) → ExecutesInside 0 UPDATE_STATE.now (number_value b ∷ number_value n ∷ state_value to ∷ []) old new (Ok count)
     → Writes old new IsHeld (λ books. record books { copies = set_row b n (put_state to) books.copies })
 unfolding understood everything
 write_state old new b n to =
-    sets_column copies update_state 3 (state_value to) (put_state to) b n (record { is = refl; plain = (refl, refl) }) (λ row. refl) (λ row. kept_copy (record row { it = put_state to row.it }))
+    sets_column copies UPDATE_STATE.now 3 (state_value to) (put_state to) b n (record { is = refl; plain = (refl, refl) }) (λ row. refl) (λ row. kept_copy (record row { it = put_state to row.it }))
     (λ r. refl) (λ r. refl) (λ r. refl) (λ r. refl) (λ w vs. refl) old new
 
 -- ---- lots
 
-pub write_lot : PutsLast lots (codes "INSERT INTO lot (branch, name) VALUES (?1, ?2)")
+pub write_lot : PutsLast lots INSERT_LOT.now
 unfolding understood everything
 write_lot = puts_last lots _ (record { is = refl; plain = (refl, refl) }) (λ x. refl) (λ x. refl) (λ x. refl) (λ x id. refl)
 
-abbrev select_lot : List ℕ
-select_lot = codes "SELECT name FROM lot WHERE branch = ?1 AND name = ?2"
-
-select_lot_means : Selects shop_schema select_lot (plain_query 32 of_two (col 1 2 ∷ []) [])
+select_lot_means : Selects shop_schema SELECT_LOT.now (plain_query 32 of_two (col 1 2 ∷ []) [])
 unfolding understood everything
 select_lot_means = record { names = _; is = refl; plain = (refl, refl); unlisted = refl }
 
 abbrev is_lot : ℕ → model.Text → Owned model.Text → Bool
 is_lot b name row = row.owner == b && bytes_eq row.it name
 
-shows_lot : (old new : State) (b : ℕ) (name : model.Text) (rows : List sql.Row) (books : Books) → IsShop old → Shown select_lot (number_value b ∷ Text name ∷ []) old new rows → StandsFor old.now.trees books
+shows_lot : (old new : State) (b : ℕ) (name : model.Text) (rows : List sql.Row) (books : Books) → IsShop old → Shown SELECT_LOT.now (number_value b ∷ Text name ∷ []) old new rows → StandsFor old.now.trees books
     → length rows ≡ length (filter (is_lot b name) books.lots)
 shows_lot old new b name rows books has h s =
-    projects_count shop_schema select_lot 32 2 of_two (col 1 2 ∷ []) select_lot_means (number_value b ∷ Text name ∷ []) old new rows has h lot_columns books.lots s.lots refl
+    projects_count shop_schema SELECT_LOT.now 32 2 of_two (col 1 2 ∷ []) select_lot_means (number_value b ∷ Text name ∷ []) old new rows has h lot_columns books.lots s.lots refl
     (λ vs. number_test 0 b vs && (text_test 1 name vs && true)) (λ vs. column vs 1 ∷ []) (is_lot b name)
     (λ row. two_tested _ _ (number_tested row.owner b) (text_tested row.it name)) (λ r. refl)
 
@@ -118,9 +111,9 @@ any_lot b name (lot ∷ lots) = go (lot.owner == b) (bytes_eq lot.it name) (alik
     go true false e more = ap (λ t. t || list_any (bytes_eq name) (owned_by b lots)) e ∙ more
     go false same e more = more
 
-pub read_lot : (old new : State) (b : ℕ) (name : model.Text) (has : Bool) (rows : List sql.Row) → Shown select_lot (number_value b ∷ Text name ∷ []) old new rows → has ≡ not (length rows == 0)
+pub read_lot : (old new : State) (b : ℕ) (name : model.Text) (has : Bool) (rows : List sql.Row) → Shown SELECT_LOT.now (number_value b ∷ Text name ∷ []) old new rows → has ≡ not (length rows == 0)
     → Reads old new (λ books. has ≡ list_any (bytes_eq name) (owned_by b books.lots))
 read_lot old new b name has rows h is = λ books holds held. (
-  still_holds shop_schema StandsFor select_lot _ old new select_lot_means.plain rows h books holds,
+  still_holds shop_schema StandsFor SELECT_LOT.now _ old new select_lot_means.plain rows h books holds,
   is ∙ ap (λ n. not (n == 0)) (shows_lot old new b name rows books holds.schema_is h holds.stands) ∙ sym (any_lot b name books.lots),
 )

@@ -1,5 +1,5 @@
 -- What the texts of customers say and make of the books.
-use Rattle.std.proofs.Common.{ℕ, List, [], ◌∷◌, codes, Bool, Ok, refl}
+use Rattle.std.proofs.Common.{ℕ, [], ◌∷◌, Bool, Ok, refl}
 use Rattle.sqlite_tied.specs.Compute.{everything}
 use Rattle.sqlite.specs.Listing.{understood}
 use Rattle.sqlite.specs.State.{State, ExecutesInside}
@@ -8,24 +8,22 @@ use Rattle.shop_model.specs.Rows.{set_row}
 use Rattle.shop_schema.specs.Held.{IsHeld}
 use Rattle.shop_schema.specs.Shop.{Writes}
 use Rattle.shop_schema.proofs.Listed.{PutsLast, puts_last}
+use Rattle.shop_store.specs.declared.customers.TheConstants.{SELECT_CUSTOMER, INSERT_CUSTOMER, UPDATE_ACTIVE}
 use Rattle.shop_store.specs.Seen.{seen_row}
-use Rattle.shop_ledger.proofs.BranchRows.{ReadsOne, reads_one, sets_column}
+use Rattle.shop_store.proofs.BranchRows.{ReadsOne, reads_one, sets_column}
 use Rattle.shop_store.proofs.BranchTables.{customers}
 
-pub write_customer : PutsLast customers.rows (codes "INSERT INTO customer (branch, number, first, last, address, postal, phone, city, active, created) VALUES (?1, ?2, ?3, ?4, ?5, ?6, ?7, ?8, ?9, ?10)")
+pub write_customer : PutsLast customers.rows INSERT_CUSTOMER.now
 unfolding understood everything
 write_customer = puts_last customers.rows _ (record { is = refl; plain = (refl, refl) }) (λ x. refl) (λ x. refl) (λ x. refl) (λ x id. refl)
 
-pub read_customer : ReadsOne customers seen_row (codes "SELECT branch, number, first, last, address, postal, phone, city, active, created FROM customer WHERE branch = ?1 AND number = ?2")
+pub read_customer : ReadsOne customers seen_row SELECT_CUSTOMER.now
 unfolding understood everything
 read_customer = reads_one customers seen_row _ (record { names = _; is = refl; plain = (refl, refl); unlisted = refl }) (λ b n r. refl)
 
-abbrev update_active : List ℕ
-update_active = codes "UPDATE customer SET active = ?3 WHERE branch = ?1 AND number = ?2"
-
-pub write_active : (old new : State) (b n : ℕ) (active : Bool) (count : ℕ) → ExecutesInside 0 update_active (number_value b ∷ number_value n ∷ flag_value active ∷ []) old new (Ok count)
+pub write_active : (old new : State) (b n : ℕ) (active : Bool) (count : ℕ) → ExecutesInside 0 UPDATE_ACTIVE.now (number_value b ∷ number_value n ∷ flag_value active ∷ []) old new (Ok count)
     → Writes old new IsHeld (λ books. record books { customers = set_row b n (λ it. record it { active = active }) books.customers })
 unfolding understood everything
 write_active old new b n active =
-    sets_column customers update_active 8 (flag_value active) (λ it. record it { active = active }) b n (record { is = refl; plain = (refl, refl) }) (λ row. refl) (λ row. refl)
+    sets_column customers UPDATE_ACTIVE.now 8 (flag_value active) (λ it. record it { active = active }) b n (record { is = refl; plain = (refl, refl) }) (λ row. refl) (λ row. refl)
     (λ r. refl) (λ r. refl) (λ r. refl) (λ r. refl) (λ w vs. refl) old new

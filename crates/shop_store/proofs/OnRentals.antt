@@ -1,5 +1,5 @@
 -- What the texts of rentals say and make of the books.
-use Rattle.std.proofs.Common.{◌≡◌, ◌==◌, ◌&&◌, ℕ, List, [], ◌∷◌, codes, filter, Bool, true, Ok, None, Some, Option, refl}
+use Rattle.std.proofs.Common.{◌≡◌, ◌==◌, ◌&&◌, ℕ, List, [], ◌∷◌, filter, Bool, true, Ok, None, Some, Option, refl}
 use Rattle.std.specs.Prelude.{length}
 use Rattle.std.specs.Str.{bytes_eq}
 use Rattle.sqlite.specs.declared.types.Value.TheVariants.{Text}
@@ -23,8 +23,10 @@ use Rattle.shop_schema.specs.Columns.{rental_columns, moment_value}
 use Rattle.shop_schema.specs.Held.{IsHeld}
 use Rattle.shop_schema.specs.Shop.{StandsFor, IsShop, Writes}
 use Rattle.shop_schema.proofs.Listed.{PutsLast, puts_last}
+use Rattle.shop_store.specs.declared.rentals.TheConstants.{SELECT_RENTAL, SELECT_SAME_RENTAL, SELECT_RENTALS_OF_CUSTOMER, INSERT_RENTAL, UPDATE_RETURNED}
 use Rattle.shop_store.specs.Seen.{seen_rental_row}
-use Rattle.shop_ledger.proofs.BranchRows.{equals, ReadsOne, reads_one, ReadsWhich, reads_which, sets_column}
+use Rattle.shop_ledger.proofs.Equals.{equals}
+use Rattle.shop_store.proofs.BranchRows.{ReadsOne, reads_one, ReadsWhich, reads_which, sets_column}
 use Rattle.shop_store.proofs.BranchTables.{rentals}
 
 -- each column takes its value as it is
@@ -35,41 +37,32 @@ kept_rental c = go c.it.returned
     go None = refl
     go (Some moment) = refl
 
-pub write_rental : PutsLast rentals.rows (codes "INSERT INTO rental (branch, number, moment, copy, customer, returned, staff) VALUES (?1, ?2, ?3, ?4, ?5, ?6, ?7)")
+pub write_rental : PutsLast rentals.rows INSERT_RENTAL.now
 unfolding understood everything
 write_rental = puts_last rentals.rows _ (record { is = refl; plain = (refl, refl) }) (λ x. refl) (λ x. refl) kept_rental (λ x id. refl)
 
-pub read_rental : ReadsOne rentals seen_rental_row (codes "SELECT branch, number, moment, copy, customer, returned, staff FROM rental WHERE branch = ?1 AND number = ?2")
+pub read_rental : ReadsOne rentals seen_rental_row SELECT_RENTAL.now
 unfolding understood everything
 read_rental = reads_one rentals seen_rental_row _ (record { names = _; is = refl; plain = (refl, refl); unlisted = refl }) (λ b n r. refl)
 
-abbrev select_of_customer : List ℕ
-select_of_customer = codes "SELECT branch, number, moment, copy, customer, returned, staff FROM rental WHERE branch = ?1 AND customer = ?2 ORDER BY number"
-
-pub read_of_customer : (b n : ℕ) → ReadsWhich rentals seen_rental_row select_of_customer (number_value b ∷ number_value n ∷ []) b (λ it. it.customer == n)
+pub read_of_customer : (b n : ℕ) → ReadsWhich rentals seen_rental_row SELECT_RENTALS_OF_CUSTOMER.now (number_value b ∷ number_value n ∷ []) b (λ it. it.customer == n)
 unfolding understood everything
 read_of_customer b n =
-    reads_which rentals seen_rental_row select_of_customer (equals 0 (1 ∷ 5 ∷ [])) (record { names = _; is = refl; plain = (refl, refl); unlisted = refl }) (number_value b ∷ number_value n ∷ []) b
+    reads_which rentals seen_rental_row SELECT_RENTALS_OF_CUSTOMER.now (equals 0 (1 ∷ 5 ∷ [])) (record { names = _; is = refl; plain = (refl, refl); unlisted = refl }) (number_value b ∷ number_value n ∷ []) b
     (λ vs. number_test 0 b vs && (number_test 4 n vs && true)) (λ it. it.customer == n) (λ row. two_tested _ _ (number_tested row.branch b) (number_tested row.it.customer n)) (λ r. refl)
 
-abbrev update_returned : List ℕ
-update_returned = codes "UPDATE rental SET returned = ?3 WHERE branch = ?1 AND number = ?2"
-
-pub write_returned : (old new : State) (b n : ℕ) (moment : Moment) (count : ℕ) → ExecutesInside 0 update_returned (number_value b ∷ number_value n ∷ moment_value moment ∷ []) old new (Ok count)
+pub write_returned : (old new : State) (b n : ℕ) (moment : Moment) (count : ℕ) → ExecutesInside 0 UPDATE_RETURNED.now (number_value b ∷ number_value n ∷ moment_value moment ∷ []) old new (Ok count)
     → Writes old new IsHeld (λ books. record books { rentals = set_row b n (λ it. record it { returned = Some moment }) books.rentals })
 unfolding understood everything
 write_returned old new b n moment =
-    sets_column rentals update_returned 5 (moment_value moment) (λ it. record it { returned = Some moment }) b n (record { is = refl; plain = (refl, refl) }) (λ row. refl) (λ row. refl)
+    sets_column rentals UPDATE_RETURNED.now 5 (moment_value moment) (λ it. record it { returned = Some moment }) b n (record { is = refl; plain = (refl, refl) }) (λ row. refl) (λ row. refl)
     (λ r. refl) (λ r. refl) (λ r. refl) (λ r. refl) (λ w vs. refl) old new
 
 -- a rental by all that no two share
-abbrev pub select_same : List ℕ
-select_same = codes "SELECT number FROM rental WHERE branch = ?1 AND moment = ?2 AND copy = ?3 AND customer = ?4"
-
 abbrev pub of_same : List Term
 of_same = equals 0 (1 ∷ 3 ∷ 4 ∷ 5 ∷ [])
 
-pub same_means : Selects shop_schema select_same (plain_query 27 of_same (col 1 2 ∷ []) [])
+pub same_means : Selects shop_schema SELECT_SAME_RENTAL.now (plain_query 27 of_same (col 1 2 ∷ []) [])
 unfolding understood everything
 same_means = record { names = _; is = refl; plain = (refl, refl); unlisted = refl }
 
@@ -82,7 +75,7 @@ same_tested b t x c row =
     λ i. number_tested row.branch b i && (text_tested (moment_text row.it.rented) t i && two_tested _ _ (number_tested row.it.copy x) (number_tested row.it.customer c) i)
 
 pub shows_same : (old new : State) (b : ℕ) (t : List ℕ) (x c : ℕ) (rows : List sql.Row) (books : Books) → IsShop old
-    → Shown select_same (number_value b ∷ Text t ∷ number_value x ∷ number_value c ∷ []) old new rows → StandsFor old.now.trees books → length rows ≡ length (filter (is_same b t x c) books.rentals)
+    → Shown SELECT_SAME_RENTAL.now (number_value b ∷ Text t ∷ number_value x ∷ number_value c ∷ []) old new rows → StandsFor old.now.trees books → length rows ≡ length (filter (is_same b t x c) books.rentals)
 shows_same old new b t x c rows books has h s =
-    projects_count shop_schema select_same 27 7 of_same (col 1 2 ∷ []) same_means (number_value b ∷ Text t ∷ number_value x ∷ number_value c ∷ []) old new rows has h rental_columns books.rentals s.rentals refl
+    projects_count shop_schema SELECT_SAME_RENTAL.now 27 7 of_same (col 1 2 ∷ []) same_means (number_value b ∷ Text t ∷ number_value x ∷ number_value c ∷ []) old new rows has h rental_columns books.rentals s.rentals refl
     (λ vs. number_test 0 b vs && (text_test 2 t vs && (number_test 3 x vs && (number_test 4 c vs && true)))) (λ vs. column vs 1 ∷ []) (is_same b t x c) (same_tested b t x c) (λ r. refl)

@@ -1,5 +1,5 @@
 -- What each statement of the opening adds, and all of them in turn.
-use Rattle.std.proofs.Common.{◌≡◌, ◌/◌, ◌-◌, ℕ, suc, List, [], ◌∷◌, codes, map, length, take, true, Some, None, Ok, refl, sym, subst}
+use Rattle.std.proofs.Common.{◌≡◌, ◌/◌, ◌-◌, ℕ, suc, List, [], ◌∷◌, codes, map, length, take, get_or, true, Some, None, Ok, refl, sym, subst}
 use Rattle.std.specs.Prelude.{⊤}
 use Rattle.sqlite.specs.declared.types.Value.{Value}
 use Rattle.sqlite.specs.declared.types.Value.TheVariants.{Null}
@@ -29,6 +29,7 @@ use Rattle.shop_schema.specs.Shop.{HoldsWith, first_books}
 use Rattle.shop_schema.proofs.Stands.{stands_but}
 use Rattle.shop_schema.proofs.Listed.{Shared, Plain, width, puts, next_row, IsNext, push}
 use Rattle.shop_schema.proofs.SharedTables.{countries, languages, categories, cities, actors, films, casts, branches, staff}
+use Rattle.shop_store.specs.declared.opening.TheConstants.{ROWS}
 use Rattle.shop_store.specs.Runs.{Runs}
 use Rattle.shop_store.proofs.PutTexts.{one_more}
 
@@ -94,6 +95,12 @@ then {counts = counts} step rest = record { leads = λ g old new ran holds. rest
 
 -- ---- the statements
 
+abbrev pub texts : List (List ℕ)
+texts = map (λ t. t.now) ROWS
+
+abbrev text : ℕ → List ℕ
+text n = get_or texts n []
+
 -- the books after so many of them
 abbrev stage : ℕ → Books
 stage n = opening (record {
@@ -110,113 +117,89 @@ stage n = opening (record {
   staff = take (n - 18) opening_catalogue.staff;
 })
 
-adds_canada : Goes (codes "INSERT INTO country (number, name) VALUES (1, 'Canada')") (stage 0) (stage 1)
+adds_canada : Goes (text 0) (stage 0) (stage 1)
 unfolding understood everything
 adds_canada = adds countries _ 1 (codes "Canada") (record { is = refl; plain = (refl, refl) }) refl refl refl (λ id. refl) (stage 0) refl
 
-adds_australia : Goes (codes "INSERT INTO country (number, name) VALUES (2, 'Australia')") (stage 1) (stage 2)
+adds_australia : Goes (text 1) (stage 1) (stage 2)
 unfolding understood everything
 adds_australia = adds countries _ 2 (codes "Australia") (record { is = refl; plain = (refl, refl) }) refl refl refl (λ id. refl) (stage 1) refl
 
-adds_english : Goes (codes "INSERT INTO language (number, name) VALUES (1, 'English')") (stage 2) (stage 3)
+adds_english : Goes (text 2) (stage 2) (stage 3)
 unfolding understood everything
 adds_english = adds languages _ 1 (codes "English") (record { is = refl; plain = (refl, refl) }) refl refl refl (λ id. refl) (stage 2) refl
 
-adds_action : Goes (codes "INSERT INTO category (number, name) VALUES (1, 'Action')") (stage 3) (stage 4)
+adds_action : Goes (text 3) (stage 3) (stage 4)
 unfolding understood everything
 adds_action = adds categories _ 1 (codes "Action") (record { is = refl; plain = (refl, refl) }) refl refl refl (λ id. refl) (stage 3) refl
 
-adds_comedy : Goes (codes "INSERT INTO category (number, name) VALUES (2, 'Comedy')") (stage 4) (stage 5)
+adds_comedy : Goes (text 4) (stage 4) (stage 5)
 unfolding understood everything
 adds_comedy = adds categories _ 2 (codes "Comedy") (record { is = refl; plain = (refl, refl) }) refl refl refl (λ id. refl) (stage 4) refl
 
-adds_ann : Goes (codes "INSERT INTO actor (number, first, last) VALUES (1, 'ANN', 'HILL')") (stage 5) (stage 6)
+adds_ann : Goes (text 5) (stage 5) (stage 6)
 unfolding understood everything
 adds_ann = adds actors _ 1 (record { first = codes "ANN"; last = codes "HILL" }) (record { is = refl; plain = (refl, refl) }) refl refl refl (λ id. refl) (stage 5) refl
 
-adds_bo : Goes (codes "INSERT INTO actor (number, first, last) VALUES (2, 'BO', 'KERR')") (stage 6) (stage 7)
+adds_bo : Goes (text 6) (stage 6) (stage 7)
 unfolding understood everything
 adds_bo = adds actors _ 2 (record { first = codes "BO"; last = codes "KERR" }) (record { is = refl; plain = (refl, refl) }) refl refl refl (λ id. refl) (stage 6) refl
 
-adds_river : Goes (codes "INSERT INTO film (number, title, description, language, category, period, rate, replacement, length, rating, features, withdrawn) VALUES (1, 'RIVER DAWN', '', 1, 1, 3, 499, 1999, 86, 'PG', '', 0)") (stage 7) (stage 8)
+adds_river : Goes (text 7) (stage 7) (stage 8)
 unfolding understood everything
 adds_river = adds films _ 1 river_dawn (record { is = refl; plain = (refl, refl) }) refl refl refl (λ id. refl) (stage 7) refl
 
-adds_north : Goes (codes "INSERT INTO film (number, title, description, language, category, period, rate, replacement, length, rating, features, withdrawn) VALUES (2, 'NORTH LIGHT', '', 1, 2, 5, 299, 999, NULL, 'G', '', 0)") (stage 8) (stage 9)
+adds_north : Goes (text 8) (stage 8) (stage 9)
 unfolding understood everything
 adds_north = adds films _ 2 north_light (record { is = refl; plain = (refl, refl) }) refl refl refl (λ id. refl) (stage 8) refl
 
-adds_cast_1 : Goes (codes "INSERT INTO film_actor (film, actor) VALUES (1, 1)") (stage 9) (stage 10)
+adds_cast_1 : Goes (text 9) (stage 9) (stage 10)
 unfolding understood everything
 adds_cast_1 = adds_plain casts _ (record { film = 1; actor = 1 }) (record { is = refl; plain = (refl, refl) }) refl refl refl (λ id. refl) (stage 9)
 
-adds_cast_2 : Goes (codes "INSERT INTO film_actor (film, actor) VALUES (1, 2)") (stage 10) (stage 11)
+adds_cast_2 : Goes (text 10) (stage 10) (stage 11)
 unfolding understood everything
 adds_cast_2 = adds_plain casts _ (record { film = 1; actor = 2 }) (record { is = refl; plain = (refl, refl) }) refl refl refl (λ id. refl) (stage 10)
 
-adds_cast_3 : Goes (codes "INSERT INTO film_actor (film, actor) VALUES (2, 2)") (stage 11) (stage 12)
+adds_cast_3 : Goes (text 11) (stage 11) (stage 12)
 unfolding understood everything
 adds_cast_3 = adds_plain casts _ (record { film = 2; actor = 2 }) (record { is = refl; plain = (refl, refl) }) refl refl refl (λ id. refl) (stage 11)
 
-adds_lethbridge : Goes (codes "INSERT INTO city (number, name, country) VALUES (1, 'Lethbridge', 1)") (stage 12) (stage 13)
+adds_lethbridge : Goes (text 12) (stage 12) (stage 13)
 unfolding understood everything
 adds_lethbridge = adds cities _ 1 (record { name = codes "Lethbridge"; country = 1 }) (record { is = refl; plain = (refl, refl) }) refl refl refl (λ id. refl) (stage 12) refl
 
-adds_woodridge : Goes (codes "INSERT INTO city (number, name, country) VALUES (2, 'Woodridge', 2)") (stage 13) (stage 14)
+adds_woodridge : Goes (text 13) (stage 13) (stage 14)
 unfolding understood everything
 adds_woodridge = adds cities _ 2 (record { name = codes "Woodridge"; country = 2 }) (record { is = refl; plain = (refl, refl) }) refl refl refl (λ id. refl) (stage 13) refl
 
-adds_brisbane : Goes (codes "INSERT INTO city (number, name, country) VALUES (3, 'Brisbane', 2)") (stage 14) (stage 15)
+adds_brisbane : Goes (text 14) (stage 14) (stage 15)
 unfolding understood everything
 adds_brisbane = adds cities _ 3 (record { name = codes "Brisbane"; country = 2 }) (record { is = refl; plain = (refl, refl) }) refl refl refl (λ id. refl) (stage 14) refl
 
-adds_branch_1 : Goes (codes "INSERT INTO branch (number, token, address, postal, phone, city, manager, last_moment) VALUES (1, '11111111111111111111111111111111', '10 High', '', '', 1, 1, NULL)") (stage 15) (stage 16)
+adds_branch_1 : Goes (text 15) (stage 15) (stage 16)
 unfolding understood everything
 adds_branch_1 = adds_branch _ 1 (opening_branch 1 (codes "10 High") (Some 1)) (record { is = refl; plain = (refl, refl) }) refl refl refl (λ id. refl) (stage 15) refl refl
 
-adds_branch_2 : Goes (codes "INSERT INTO branch (number, token, address, postal, phone, city, manager, last_moment) VALUES (2, '22222222222222222222222222222222', '20 High', '', '', 2, 2, NULL)") (stage 16) (stage 17)
+adds_branch_2 : Goes (text 16) (stage 16) (stage 17)
 unfolding understood everything
 adds_branch_2 = adds_branch _ 2 (opening_branch 2 (codes "20 High") (Some 2)) (record { is = refl; plain = (refl, refl) }) refl refl refl (λ id. refl) (stage 16) refl refl
 
-adds_branch_3 : Goes (codes "INSERT INTO branch (number, token, address, postal, phone, city, manager, last_moment) VALUES (3, '33333333333333333333333333333333', '30 High', '', '', 3, NULL, NULL)") (stage 17) (stage 18)
+adds_branch_3 : Goes (text 17) (stage 17) (stage 18)
 unfolding understood everything
 adds_branch_3 = adds_branch _ 3 (opening_branch 3 (codes "30 High") None) (record { is = refl; plain = (refl, refl) }) refl refl refl (λ id. refl) (stage 17) refl refl
 
-adds_ida : Goes (codes "INSERT INTO staff (number, branch, first, last, address, postal, phone, city, gone) VALUES (1, 1, 'IDA', 'LUND', '2 Side', '', '', 1, 0)") (stage 18) (stage 19)
+adds_ida : Goes (text 18) (stage 18) (stage 19)
 unfolding understood everything
 adds_ida = adds staff _ 1 (opening_staff 1 (codes "IDA") (codes "LUND")) (record { is = refl; plain = (refl, refl) }) refl refl refl (λ id. refl) (stage 18) refl
 
-adds_jon : Goes (codes "INSERT INTO staff (number, branch, first, last, address, postal, phone, city, gone) VALUES (2, 2, 'JON', 'VEGA', '2 Side', '', '', 2, 0)") (stage 19) (stage 20)
+adds_jon : Goes (text 19) (stage 19) (stage 20)
 unfolding understood everything
 adds_jon = adds staff _ 2 (opening_staff 2 (codes "JON") (codes "VEGA")) (record { is = refl; plain = (refl, refl) }) refl refl refl (λ id. refl) (stage 19) refl
 
-adds_kim : Goes (codes "INSERT INTO staff (number, branch, first, last, address, postal, phone, city, gone) VALUES (3, 3, 'KIM', 'ROSS', '2 Side', '', '', 3, 0)") (stage 20) (stage 21)
+adds_kim : Goes (text 20) (stage 20) (stage 21)
 unfolding understood everything
 adds_kim = adds staff _ 3 (opening_staff 3 (codes "KIM") (codes "ROSS")) (record { is = refl; plain = (refl, refl) }) refl refl refl (λ id. refl) (stage 20) refl
-
-abbrev pub texts : List (List ℕ)
-texts = codes "INSERT INTO country (number, name) VALUES (1, 'Canada')"
-    ∷ codes "INSERT INTO country (number, name) VALUES (2, 'Australia')"
-    ∷ codes "INSERT INTO language (number, name) VALUES (1, 'English')"
-    ∷ codes "INSERT INTO category (number, name) VALUES (1, 'Action')"
-    ∷ codes "INSERT INTO category (number, name) VALUES (2, 'Comedy')"
-    ∷ codes "INSERT INTO actor (number, first, last) VALUES (1, 'ANN', 'HILL')"
-    ∷ codes "INSERT INTO actor (number, first, last) VALUES (2, 'BO', 'KERR')"
-    ∷ codes "INSERT INTO film (number, title, description, language, category, period, rate, replacement, length, rating, features, withdrawn) VALUES (1, 'RIVER DAWN', '', 1, 1, 3, 499, 1999, 86, 'PG', '', 0)"
-    ∷ codes "INSERT INTO film (number, title, description, language, category, period, rate, replacement, length, rating, features, withdrawn) VALUES (2, 'NORTH LIGHT', '', 1, 2, 5, 299, 999, NULL, 'G', '', 0)"
-    ∷ codes "INSERT INTO film_actor (film, actor) VALUES (1, 1)"
-    ∷ codes "INSERT INTO film_actor (film, actor) VALUES (1, 2)"
-    ∷ codes "INSERT INTO film_actor (film, actor) VALUES (2, 2)"
-    ∷ codes "INSERT INTO city (number, name, country) VALUES (1, 'Lethbridge', 1)"
-    ∷ codes "INSERT INTO city (number, name, country) VALUES (2, 'Woodridge', 2)"
-    ∷ codes "INSERT INTO city (number, name, country) VALUES (3, 'Brisbane', 2)"
-    ∷ codes "INSERT INTO branch (number, token, address, postal, phone, city, manager, last_moment) VALUES (1, '11111111111111111111111111111111', '10 High', '', '', 1, 1, NULL)"
-    ∷ codes "INSERT INTO branch (number, token, address, postal, phone, city, manager, last_moment) VALUES (2, '22222222222222222222222222222222', '20 High', '', '', 2, 2, NULL)"
-    ∷ codes "INSERT INTO branch (number, token, address, postal, phone, city, manager, last_moment) VALUES (3, '33333333333333333333333333333333', '30 High', '', '', 3, NULL, NULL)"
-    ∷ codes "INSERT INTO staff (number, branch, first, last, address, postal, phone, city, gone) VALUES (1, 1, 'IDA', 'LUND', '2 Side', '', '', 1, 0)"
-    ∷ codes "INSERT INTO staff (number, branch, first, last, address, postal, phone, city, gone) VALUES (2, 2, 'JON', 'VEGA', '2 Side', '', '', 2, 0)"
-    ∷ codes "INSERT INTO staff (number, branch, first, last, address, postal, phone, city, gone) VALUES (3, 3, 'KIM', 'ROSS', '2 Side', '', '', 3, 0)"
-    ∷ []
 
 pub opening_added : {S : Type 0} (g : Ghosts S) (counts : Counts) (old new : Held S) → Runs g texts old new → HoldsWith counts (state g old) (first_books (token_of 0)) → HoldsWith counts (state g new) opening_books
 opening_added g counts = added.leads g

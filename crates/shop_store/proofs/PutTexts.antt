@@ -1,5 +1,5 @@
 -- What the statements mean, and what they make of the books.
-use Rattle.std.proofs.Common.{◌≡◌, ◌&&◌, ℕ, pos, List, [], ◌∷◌, ◌++◌, codes, map, true, Option, Some, None, Ok, refl, sym, ap, subst, ◌∙◌}
+use Rattle.std.proofs.Common.{◌≡◌, ◌&&◌, ℕ, pos, List, [], ◌∷◌, ◌++◌, map, true, Option, Some, None, Ok, refl, sym, ap, subst, ◌∙◌}
 use Rattle.std.proofs.lemmas.List.Sorted.{IsPermutation-refl}
 use Rattle.std.proofs.lemmas.List.{map_push}
 use Rattle.sqlite.specs.declared.types.Value.TheVariants.{Null, Int, Text}
@@ -28,26 +28,25 @@ use Rattle.shop_schema.specs.Counts.{no_counts}
 use Rattle.shop_schema.proofs.Stands.{stands_first, stands_but}
 use Rattle.shop_schema.proofs.Listed.{PutsNext, PutsLast, puts_next, puts_last, next_row, IsNext, push, cols}
 use Rattle.shop_schema.proofs.SharedTables.{countries, languages, categories, cities, actors, films, casts, branches, staff}
+use Rattle.shop_store.specs.declared.opening.TheConstants.{INSERT_CHAIN}
+use Rattle.shop_store.specs.declared.puts.TheConstants.{INSERT_COUNTRY, INSERT_LANGUAGE, INSERT_CATEGORY, INSERT_CITY, INSERT_ACTOR, INSERT_FILM, INSERT_CAST, INSERT_BRANCH, INSERT_STAFF}
 use Rattle.shop_store.specs.New.{branch_params}
 
 -- ---- head office's token
 
-abbrev pub insert_token : List ℕ
-insert_token = codes "INSERT INTO chain (version, office_token) VALUES (1, ?1)"
-
 abbrev pub token_terms : List Term
 token_terms = lit Null ∷ lit (Int (pos 1)) ∷ col 0 0 ∷ []
 
-token_means : Means shop_schema insert_token (Insert 0 (Values token_terms 3))
+token_means : Means shop_schema INSERT_CHAIN.now (Insert 0 (Values token_terms 3))
 unfolding understood everything
 token_means = record { is = refl; plain = (refl, refl) }
 
 none_yet : (old : List sql.Row) → old ≡ [] → HasRows 2 old []
 none_yet old empty = rw empty (IsPermutation-refl [])
 
-pub holds_first : (old new : State) (token : model.Text) (count : ℕ) → ExecutesInside 0 insert_token (Text token ∷ []) old new (Ok count) → IsShop old → IsKeyed old → HaveNoRows old.now.trees → HoldsWith no_counts new (first_books token)
+pub holds_first : (old new : State) (token : model.Text) (count : ℕ) → ExecutesInside 0 INSERT_CHAIN.now (Text token ∷ []) old new (Ok count) → IsShop old → IsKeyed old → HaveNoRows old.now.trees → HoldsWith no_counts new (first_books token)
 holds_first old new token count h shop keyed empty =
-    let done = has_put shop_schema insert_token 0 chain_table token_terms 2 token_means (record { place = refl; uncounted = refl; unstamped = refl }) (Text token ∷ []) (chain_columns token) old new count h refl refl refl (λ id. refl) shop in
+    let done = has_put shop_schema INSERT_CHAIN.now 0 chain_table token_terms 2 token_means (record { place = refl; uncounted = refl; unstamped = refl }) (Text token ∷ []) (chain_columns token) old new count h refl refl refl (λ id. refl) shop in
     record { schema_is = done.schema_is; keyed = done.keyed keyed; stands = stands_first old.now.trees new.now.trees token empty done.others (done.rows [] (none_yet _ empty.0)) }
 
 -- ---- shared rows
@@ -56,35 +55,35 @@ pub kept_or_null : (o : Option ℕ) → (is_kept kind.Integer (or_null number_va
 kept_or_null None = refl
 kept_or_null (Some n) = refl
 
-pub puts_country : PutsNext countries (codes "INSERT INTO country (number, name) VALUES (?1, ?2)")
+pub puts_country : PutsNext countries INSERT_COUNTRY.now
 unfolding understood everything
 puts_country = puts_next countries _ (record { is = refl; plain = (refl, refl) }) (λ n x. refl) (λ n x. refl) (λ n x. refl) (λ n x id. refl)
 
-pub puts_language : PutsNext languages (codes "INSERT INTO language (number, name) VALUES (?1, ?2)")
+pub puts_language : PutsNext languages INSERT_LANGUAGE.now
 unfolding understood everything
 puts_language = puts_next languages _ (record { is = refl; plain = (refl, refl) }) (λ n x. refl) (λ n x. refl) (λ n x. refl) (λ n x id. refl)
 
-pub puts_category : PutsNext categories (codes "INSERT INTO category (number, name) VALUES (?1, ?2)")
+pub puts_category : PutsNext categories INSERT_CATEGORY.now
 unfolding understood everything
 puts_category = puts_next categories _ (record { is = refl; plain = (refl, refl) }) (λ n x. refl) (λ n x. refl) (λ n x. refl) (λ n x id. refl)
 
-pub puts_city : PutsNext cities (codes "INSERT INTO city (number, name, country) VALUES (?1, ?2, ?3)")
+pub puts_city : PutsNext cities INSERT_CITY.now
 unfolding understood everything
 puts_city = puts_next cities _ (record { is = refl; plain = (refl, refl) }) (λ n x. refl) (λ n x. refl) (λ n x. refl) (λ n x id. refl)
 
-pub puts_actor : PutsNext actors (codes "INSERT INTO actor (number, first, last) VALUES (?1, ?2, ?3)")
+pub puts_actor : PutsNext actors INSERT_ACTOR.now
 unfolding understood everything
 puts_actor = puts_next actors _ (record { is = refl; plain = (refl, refl) }) (λ n x. refl) (λ n x. refl) (λ n x. refl) (λ n x id. refl)
 
-pub puts_film : PutsNext films (codes "INSERT INTO film (number, title, description, language, category, period, rate, replacement, length, rating, features, withdrawn) VALUES (?1, ?2, ?3, ?4, ?5, ?6, ?7, ?8, ?9, ?10, ?11, ?12)")
+pub puts_film : PutsNext films INSERT_FILM.now
 unfolding understood everything
 puts_film = puts_next films _ (record { is = refl; plain = (refl, refl) }) (λ n x. refl) (λ n x. refl) (λ n x. kept_or_null x.minutes) (λ n x id. refl)
 
-pub puts_staff : PutsNext staff (codes "INSERT INTO staff (number, branch, first, last, address, postal, phone, city, gone) VALUES (?1, ?2, ?3, ?4, ?5, ?6, ?7, ?8, ?9)")
+pub puts_staff : PutsNext staff INSERT_STAFF.now
 unfolding understood everything
 puts_staff = puts_next staff _ (record { is = refl; plain = (refl, refl) }) (λ n x. refl) (λ n x. refl) (λ n x. refl) (λ n x id. refl)
 
-pub puts_cast : PutsLast casts (codes "INSERT INTO film_actor (film, actor) VALUES (?1, ?2)")
+pub puts_cast : PutsLast casts INSERT_CAST.now
 unfolding understood everything
 puts_cast = puts_last casts _ (record { is = refl; plain = (refl, refl) }) (λ x. refl) (λ x. refl) (λ x. refl) (λ x id. refl)
 
@@ -93,10 +92,7 @@ puts_cast = puts_last casts _ (record { is = refl; plain = (refl, refl) }) (λ x
 abbrev branch_terms : List Term
 branch_terms = lit Null ∷ (cols 0 0 7 ++ lit Null ∷ [])
 
-abbrev pub insert_branch : List ℕ
-insert_branch = codes "INSERT INTO branch (number, token, address, postal, phone, city, manager, last_moment) VALUES (?1, ?2, ?3, ?4, ?5, ?6, ?7, NULL)"
-
-branch_means : Means shop_schema insert_branch (Insert 8 (Values branch_terms 9))
+branch_means : Means shop_schema INSERT_BRANCH.now (Insert 8 (Values branch_terms 9))
 unfolding understood everything
 branch_means = record { is = refl; plain = (refl, refl) }
 
@@ -109,9 +105,9 @@ one_more books n x next none =
     ap (λ (row : sql.Row). map (branch_columns books.lasts) (numbered books.catalogue.branches) ++ row ∷ []) (new_branch books n x none)
     ∙ sym (ap (map (branch_columns books.lasts)) (next_row books.catalogue.branches x n next) ∙ map_push (branch_columns books.lasts) (numbered books.catalogue.branches) (n, x))
 
-pub puts_branch : (old new : State) (n : ℕ) (x : Branch) (count : ℕ) → ExecutesInside 0 insert_branch (branch_params n x) old new (Ok count)
+pub puts_branch : (old new : State) (n : ℕ) (x : Branch) (count : ℕ) → ExecutesInside 0 INSERT_BRANCH.now (branch_params n x) old new (Ok count)
     → Writes old new (λ books. IsNext branches n books × (owned_by n books.lasts ≡ [])) (push branches x)
 puts_branch old new n x count h counts books holds given =
-    let done = has_put shop_schema insert_branch 8 branch_table branch_terms 8 branch_means (record { place = refl; uncounted = refl; unstamped = refl }) (branch_params n x) (branch_columns [] (n, x)) old new count h refl refl (kept_or_null x.manager) (λ id. refl) holds.schema_is in
+    let done = has_put shop_schema INSERT_BRANCH.now 8 branch_table branch_terms 8 branch_means (record { place = refl; uncounted = refl; unstamped = refl }) (branch_params n x) (branch_columns [] (n, x)) old new count h refl refl (kept_or_null x.manager) (λ id. refl) holds.schema_is in
     let rows = subst (HasRows 8 (new.now.trees 18)) (one_more books n x given.0 given.1) (done.rows _ holds.stands.branches) in
     record { schema_is = done.schema_is; keyed = done.keyed holds.keyed; stands = stands_but 8 branch_table refl refl counts counts books (push branches x books) _ refl old.now.trees new.now.trees done.others holds.stands rows }

@@ -18,7 +18,8 @@ use Rattle.shop_schema.specs.Tables.{shop_schema}
 use Rattle.shop_schema.specs.RowValues.{IsRow, IsRental}
 use Rattle.shop_schema.specs.Shop.{StandsFor, Reads}
 use Rattle.shop_schema.proofs.OneToOne.{one_moment, moment_equal}
-use Rattle.shop_store.proofs.OnRentals.{select_same, same_means, is_same, shows_same}
+use Rattle.shop_store.specs.declared.rentals.TheConstants.{SELECT_SAME_RENTAL}
+use Rattle.shop_store.proofs.OnRentals.{same_means, is_same, shows_same}
 use Rattle.shop_store.proofs.OnCopies.{more_than_none}
 
 -- moments are the same where their texts are
@@ -64,9 +65,9 @@ module _ (b : ℕ) (m : Moment) (x c : ℕ) (real : IsMoment m) where
       go false true true e q more = absurd (true≢false (sym e))
 
 pub read_same : (old new : State) (b : ℕ) (m : Moment) (x c : ℕ) (has : Bool) (rows : List sql.Row) → IsMoment m
-    → Shown select_same (number_value b ∷ Text (moment_text m) ∷ number_value x ∷ number_value c ∷ []) old new rows → has ≡ not (length rows == 0)
+    → Shown SELECT_SAME_RENTAL.now (number_value b ∷ Text (moment_text m) ∷ number_value x ∷ number_value c ∷ []) old new rows → has ≡ not (length rows == 0)
     → Reads old new (λ books. has ≡ list_any (λ (it : Rental). same_moment it.rented m && it.copy == x && it.customer == c) (of b books.rentals))
 read_same old new b m x c has rows real h is = λ books holds held. (
-  still_holds shop_schema StandsFor select_same _ old new same_means.plain rows h books holds,
+  still_holds shop_schema StandsFor SELECT_SAME_RENTAL.now _ old new same_means.plain rows h books holds,
   is ∙ ap (λ n. not (n == 0)) (shows_same old new b (moment_text m) x c rows books holds.schema_is h holds.stands) ∙ any_same b m x c real books.rentals held.values.rentals,
 )

@@ -1,5 +1,5 @@
 -- What is read of a shared row by its number.
-use Rattle.std.proofs.Common.{◌≡◌, ◌≤◌, ◌==◌, ◌&&◌, ℕ, List, [], ◌∷◌, codes, map, length, cond, not, true, Some, None, Ok, Err, Result, refl, sym, ap, subst, ◌∙◌, arith}
+use Rattle.std.proofs.Common.{◌≡◌, ◌≤◌, ◌==◌, ◌&&◌, ℕ, List, [], ◌∷◌, map, length, cond, not, true, Some, None, Ok, Err, Result, refl, sym, ap, subst, ◌∙◌, arith}
 use Rattle.std.specs.Prelude.{slice_get, IfOk, Option}
 use Rattle.std.specs.List.{list_all}
 use Rattle.std.proofs.lemmas.Bool.Decides.{nat_tests}
@@ -31,9 +31,13 @@ use Rattle.shop_schema.proofs.FirstRows.{first_none, first_some}
 use Rattle.shop_schema.proofs.Lasts.{numbered_once}
 use Rattle.shop_schema.proofs.Listed.{own_rows}
 use Rattle.shop_schema.proofs.Numbered.{picked}
+use Rattle.shop_store.specs.declared.branches.TheConstants.{SELECT_MANAGER}
+use Rattle.shop_store.specs.declared.films.TheConstants.{SELECT_WITHDRAWN, SELECT_TERMS, SELECT_TITLE}
+use Rattle.shop_store.specs.declared.rows.TheConstants.{SELECT_COUNTRY, SELECT_LANGUAGE, SELECT_CATEGORY, SELECT_CITY, SELECT_ACTOR}
+use Rattle.shop_store.specs.declared.staff.TheConstants.{SELECT_POST}
 use Rattle.shop_store.proofs.ByNumber.{ByNumber, countries, languages, categories, cities, actors, films, staff, branches}
 use Rattle.shop_types.specs.Verdicts.{post_of}
-use Rattle.shop_ledger.specs.Seen.{TellsFirst}
+use Rattle.shop_schema.specs.First.{TellsFirst}
 use Rattle.shop_store.specs.SharedSeen.{withdrawn_of, terms_of, title_of, manager_of}
 
 abbrev pub of_number : List Term
@@ -106,80 +110,65 @@ abbrev pub ReadsWhether : {A : Type 0} → ByNumber A → List ℕ → Type 1
 ReadsWhether t text =
     (old new : State) (n : ℕ) (rows : List sql.Row) → Shown text (number_value n ∷ []) old new rows → 1 ≤ n → Reads old new (λ books. not (length rows == 0) ≡ not (lacks (t.part.items books) n))
 
-pub read_country : ReadsWhether countries (codes "SELECT number FROM country WHERE number = ?1")
+pub read_country : ReadsWhether countries SELECT_COUNTRY.now
 unfolding understood everything
 read_country = reads_whether countries _ (col 1 1 ∷ []) (record { names = _; is = refl; plain = (refl, refl); unlisted = refl }) (λ vs. column vs 0 ∷ []) (λ m r. refl)
 
-pub read_language : ReadsWhether languages (codes "SELECT number FROM language WHERE number = ?1")
+pub read_language : ReadsWhether languages SELECT_LANGUAGE.now
 unfolding understood everything
 read_language = reads_whether languages _ (col 1 1 ∷ []) (record { names = _; is = refl; plain = (refl, refl); unlisted = refl }) (λ vs. column vs 0 ∷ []) (λ m r. refl)
 
-pub read_category : ReadsWhether categories (codes "SELECT number FROM category WHERE number = ?1")
+pub read_category : ReadsWhether categories SELECT_CATEGORY.now
 unfolding understood everything
 read_category = reads_whether categories _ (col 1 1 ∷ []) (record { names = _; is = refl; plain = (refl, refl); unlisted = refl }) (λ vs. column vs 0 ∷ []) (λ m r. refl)
 
-pub read_city : ReadsWhether cities (codes "SELECT number FROM city WHERE number = ?1")
+pub read_city : ReadsWhether cities SELECT_CITY.now
 unfolding understood everything
 read_city = reads_whether cities _ (col 1 1 ∷ []) (record { names = _; is = refl; plain = (refl, refl); unlisted = refl }) (λ vs. column vs 0 ∷ []) (λ m r. refl)
 
-pub read_actor : ReadsWhether actors (codes "SELECT number FROM actor WHERE number = ?1")
+pub read_actor : ReadsWhether actors SELECT_ACTOR.now
 unfolding understood everything
 read_actor = reads_whether actors _ (col 1 1 ∷ []) (record { names = _; is = refl; plain = (refl, refl); unlisted = refl }) (λ vs. column vs 0 ∷ []) (λ m r. refl)
 
 -- ---- a film
 
-abbrev select_film : List ℕ
-select_film = codes "SELECT withdrawn FROM film WHERE number = ?1"
-
-pub read_film : ReadsFirst films select_film withdrawn_of (λ row v. column row 0 ≡ flag_value v)
+pub read_film : ReadsFirst films SELECT_WITHDRAWN.now withdrawn_of (λ row v. column row 0 ≡ flag_value v)
 unfolding understood everything
 read_film old new n rows slice h low =
-    reads_first films select_film (col 1 12 ∷ []) (record { names = _; is = refl; plain = (refl, refl); unlisted = refl }) (λ vs. column vs 11 ∷ []) (λ m r. refl) old new n rows h low
+    reads_first films SELECT_WITHDRAWN.now (col 1 12 ∷ []) (record { names = _; is = refl; plain = (refl, refl); unlisted = refl }) (λ vs. column vs 11 ∷ []) (λ m r. refl) old new n rows h low
     withdrawn_of (λ row v. column row 0 ≡ flag_value v) (λ books x v is. same_flag v x.withdrawn (sym is)) slice
 
 same_words : (s t : model.Text) → Text s ≡ Text t → t ≡ s
 same_words s t h = cc
 
 -- rate and period
-abbrev select_terms : List ℕ
-select_terms = codes "SELECT rate, period FROM film WHERE number = ?1"
-
-pub read_terms : ReadsFirst films select_terms terms_of (λ row v. (column row 0 ≡ number_value v.0) × (column row 1 ≡ number_value v.1))
+pub read_terms : ReadsFirst films SELECT_TERMS.now terms_of (λ row v. (column row 0 ≡ number_value v.0) × (column row 1 ≡ number_value v.1))
 unfolding understood everything
 read_terms old new n rows slice h low =
-    reads_first films select_terms (col 1 7 ∷ col 1 6 ∷ []) (record { names = _; is = refl; plain = (refl, refl); unlisted = refl }) (λ vs. column vs 6 ∷ column vs 5 ∷ []) (λ m r. refl) old new n rows h low
+    reads_first films SELECT_TERMS.now (col 1 7 ∷ col 1 6 ∷ []) (record { names = _; is = refl; plain = (refl, refl); unlisted = refl }) (λ vs. column vs 6 ∷ column vs 5 ∷ []) (λ m r. refl) old new n rows h low
     terms_of (λ row v. (column row 0 ≡ number_value v.0) × (column row 1 ≡ number_value v.1)) (λ books x v is. let cents = sym (same_number x.rate v.0 is.0) in let days = sym (same_number x.period v.1 is.1) in (λ i. (cents i, days i))) slice
 
-abbrev select_title : List ℕ
-select_title = codes "SELECT title FROM film WHERE number = ?1"
-
-pub read_title : ReadsFirst films select_title title_of (λ row v. column row 0 ≡ Text v)
+pub read_title : ReadsFirst films SELECT_TITLE.now title_of (λ row v. column row 0 ≡ Text v)
 unfolding understood everything
 read_title old new n rows slice h low =
-    reads_first films select_title (col 1 2 ∷ []) (record { names = _; is = refl; plain = (refl, refl); unlisted = refl }) (λ vs. column vs 1 ∷ []) (λ m r. refl) old new n rows h low
+    reads_first films SELECT_TITLE.now (col 1 2 ∷ []) (record { names = _; is = refl; plain = (refl, refl); unlisted = refl }) (λ vs. column vs 1 ∷ []) (λ m r. refl) old new n rows h low
     title_of (λ row v. column row 0 ≡ Text v) (λ books x v is. same_words x.title v is) slice
 
 -- ---- a member of staff
 
-abbrev select_staff : List ℕ
-select_staff = codes "SELECT branch, gone FROM staff WHERE number = ?1"
-
-pub read_staff : ReadsFirst staff select_staff post_of (λ row v. (column row 0 ≡ number_value v.0) × (column row 1 ≡ flag_value v.1))
+pub read_staff : ReadsFirst staff SELECT_POST.now post_of (λ row v. (column row 0 ≡ number_value v.0) × (column row 1 ≡ flag_value v.1))
 unfolding understood everything
 read_staff old new n rows slice h low =
-    reads_first staff select_staff (col 1 2 ∷ col 1 9 ∷ []) (record { names = _; is = refl; plain = (refl, refl); unlisted = refl }) (λ vs. column vs 1 ∷ column vs 8 ∷ []) (λ m r. refl) old new n rows h low
+    reads_first staff SELECT_POST.now (col 1 2 ∷ col 1 9 ∷ []) (record { names = _; is = refl; plain = (refl, refl); unlisted = refl }) (λ vs. column vs 1 ∷ column vs 8 ∷ []) (λ m r. refl) old new n rows h low
     post_of (λ row v. (column row 0 ≡ number_value v.0) × (column row 1 ≡ flag_value v.1)) (λ books x v is. let place = sym (same_number x.branch v.0 is.0) in let left = same_flag v.1 x.gone (sym is.1) in (λ i. (place i, left i))) slice
 
 -- ---- a branch
 
-abbrev select_manager : List ℕ
-select_manager = codes "SELECT manager FROM branch WHERE number = ?1"
-
 pub number_is_some : (n : ℕ) → number_value n ≡ Null → ⊥
 number_is_some n h = cc
 
-pub read_manager : ReadsFirst branches select_manager manager_of (λ row v. column row 0 ≡ or_null number_value v)
+pub read_manager : ReadsFirst branches SELECT_MANAGER.now manager_of (λ row v. column row 0 ≡ or_null number_value v)
 unfolding understood everything
 read_manager old new n rows slice h low =
-    reads_first branches select_manager (col 1 7 ∷ []) (record { names = _; is = refl; plain = (refl, refl); unlisted = refl }) (λ vs. column vs 6 ∷ []) (λ m r. refl) old new n rows h low
+    reads_first branches SELECT_MANAGER.now (col 1 7 ∷ []) (record { names = _; is = refl; plain = (refl, refl); unlisted = refl }) (λ vs. column vs 6 ∷ []) (λ m r. refl) old new n rows h low
     manager_of (λ row v. column row 0 ≡ or_null number_value v) (λ books x v is. same_or_null number_value number_is_some same_number v x.manager (sym is)) slice

@@ -1,6 +1,6 @@
 -- What is read by a token: head office's, or a branch's.
-use Rattle.std.proofs.Common.{◌≡◌, ◌≤◌, ◌+◌, ◌==◌, ◌&&◌, ℕ, suc, List, [], ◌∷◌, codes, map, filter, length, cond, not, Bool, true, false, Some, None, Ok, Err, Result, refl, sym, ap, subst, ◌∙◌, arith}
-use Rattle.std.specs.Prelude.{IfOk, slice_get}
+use Rattle.std.proofs.Common.{◌≡◌, ◌≤◌, ◌+◌, ◌==◌, ◌&&◌, ℕ, suc, List, [], ◌∷◌, map, filter, length, cond, not, Bool, true, false, Some, None, refl, sym, ap, subst, ◌∙◌, arith}
+use Rattle.std.specs.Prelude.{Option, slice_get}
 use Rattle.std.specs.Str.{bytes_eq}
 use Rattle.sqlite.specs.declared.types.Value.TheVariants.{Text}
 use Rattle.sqlite_value.specs.Order as sql
@@ -13,7 +13,6 @@ use Rattle.sqlite_tied.specs.Compute.{everything}
 use Rattle.sqlite.specs.Listing.{understood}
 use Rattle.sqlite.specs.State.{State, Shown}
 use Rattle.sql_rows.specs.Rows.{PicksOne, number_value}
-use Rattle.sql_rows.specs.declared.fault.StoreFault.{StoreFault}
 use Rattle.sql_rows.proofs.Queries.{Selects, plain_query}
 use Rattle.sql_rows.proofs.ColumnTests.{text_test, text_tested, one_tested}
 use Rattle.sql_rows.proofs.Projects.{projects_one, still_holds}
@@ -21,27 +20,27 @@ use Rattle.shop_model.specs.Rows.{numbered, numbered_from}
 use Rattle.shop_model.specs.Values as model
 use Rattle.shop_model.specs.Values.{Branch}
 use Rattle.shop_model.specs.Books.{Books, Counter, Nobody, branch_with}
+use Rattle.shop_schema.specs.First.{TellsFirst}
 use Rattle.shop_schema.specs.Tables.{shop_schema}
 use Rattle.shop_schema.specs.Columns.{chain_columns, branch_columns}
 use Rattle.shop_schema.specs.Held.{IsHeld}
 use Rattle.shop_schema.specs.Shop.{StandsFor, Holds, Reads}
 use Rattle.shop_schema.proofs.Different.{different_once, bytes_eq_turned}
+use Rattle.shop_store.specs.declared.branches.TheConstants.{SELECT_WITH_TOKEN}
+use Rattle.shop_store.specs.declared.chain.TheConstants.{SELECT_OFFICE, SELECT_OFFICE_TOKEN}
 
 -- ---- head office
-
-abbrev pub select_office : List ℕ
-select_office = codes "SELECT version FROM chain WHERE office_token = ?1"
 
 abbrev of_token : List Term
 of_token = op2 (Compare Eq Binary) (col 1 2) (col 0 0) ∷ []
 
-pub select_office_means : Selects shop_schema select_office (plain_query 0 of_token (col 1 1 ∷ []) [])
+pub select_office_means : Selects shop_schema SELECT_OFFICE.now (plain_query 0 of_token (col 1 1 ∷ []) [])
 unfolding understood everything
 select_office_means = record { names = _; is = refl; plain = (refl, refl); unlisted = refl }
 
-pub told_office : (old new : State) (token : List ℕ) (rows : List sql.Row) → Shown select_office (Text token ∷ []) old new rows → Reads old new (λ books. not (length rows == 0) ≡ bytes_eq token books.catalogue.office_token)
+pub told_office : (old new : State) (token : List ℕ) (rows : List sql.Row) → Shown SELECT_OFFICE.now (Text token ∷ []) old new rows → Reads old new (λ books. not (length rows == 0) ≡ bytes_eq token books.catalogue.office_token)
 told_office old new token rows h books holds held = (
-  still_holds shop_schema StandsFor select_office (Text token ∷ []) old new select_office_means.plain rows h books holds,
+  still_holds shop_schema StandsFor SELECT_OFFICE.now (Text token ∷ []) old new select_office_means.plain rows h books holds,
   ap (λ (rs : List sql.Row). not (length rs == 0)) shown ∙ there (bytes_eq office token) ∙ bytes_eq_turned office token,
 )
   where
@@ -54,7 +53,7 @@ told_office old new token rows h books holds held = (
 
     shown : rows ≡ map (λ t. column (chain_columns t) 0 ∷ []) (cond (bytes_eq office token) (office ∷ []) [])
     shown =
-        projects_one shop_schema select_office 0 2 of_token (col 1 1 ∷ []) select_office_means (Text token ∷ []) old new rows holds.schema_is h
+        projects_one shop_schema SELECT_OFFICE.now 0 2 of_token (col 1 1 ∷ []) select_office_means (Text token ∷ []) old new rows holds.schema_is h
         chain_columns (office ∷ []) holds.stands.chain refl (λ vs. text_test 1 token vs && true) (λ vs. column vs 0 ∷ []) (λ t. bytes_eq t token)
         (λ t. one_tested _ (text_tested t token)) (λ r. refl) (few (bytes_eq office token))
 
@@ -62,17 +61,14 @@ told_office old new token rows h books holds held = (
     there true = refl
     there false = refl
 
-abbrev pub select_office_token : List ℕ
-select_office_token = codes "SELECT office_token FROM chain"
-
-pub select_office_token_means : Selects shop_schema select_office_token (plain_query 0 [] (col 1 2 ∷ []) [])
+pub select_office_token_means : Selects shop_schema SELECT_OFFICE_TOKEN.now (plain_query 0 [] (col 1 2 ∷ []) [])
 unfolding understood everything
 select_office_token_means = record { names = _; is = refl; plain = (refl, refl); unlisted = refl }
 
-told_office_token : (old new : State) (rows slice : List sql.Row) (row : sql.Row) (token : List ℕ) → Shown select_office_token [] old new rows → slice ≡ rows → Some row ≡ slice_get slice 0 → column row 0 ≡ Text token
+told_office_token : (old new : State) (rows slice : List sql.Row) (row : sql.Row) (token : List ℕ) → Shown SELECT_OFFICE_TOKEN.now [] old new rows → slice ≡ rows → Some row ≡ slice_get slice 0 → column row 0 ≡ Text token
     → Reads old new (λ books. token ≡ books.catalogue.office_token)
 told_office_token old new rows slice row token h same some is books holds held = (
-  still_holds shop_schema StandsFor select_office_token [] old new select_office_token_means.plain rows h books holds,
+  still_holds shop_schema StandsFor SELECT_OFFICE_TOKEN.now [] old new select_office_token_means.plain rows h books holds,
   told (sym (some ∙ ap (λ (rs : List sql.Row). slice_get rs 0) (same ∙ shown))),
 )
   where
@@ -81,7 +77,7 @@ told_office_token old new rows slice row token h same some is books holds held =
 
     shown : rows ≡ (Text office ∷ []) ∷ []
     shown =
-        projects_one shop_schema select_office_token 0 2 [] (col 1 2 ∷ []) select_office_token_means [] old new rows holds.schema_is h chain_columns (office ∷ []) holds.stands.chain refl
+        projects_one shop_schema SELECT_OFFICE_TOKEN.now 0 2 [] (col 1 2 ∷ []) select_office_token_means [] old new rows holds.schema_is h chain_columns (office ∷ []) holds.stands.chain refl
         (λ vs. true) (λ vs. column vs 1 ∷ []) (λ t. true) (λ t. refl) (λ r. refl) (omega arith)
 
     same_text : (s t : List ℕ) → Text s ≡ Text t → t ≡ s
@@ -92,18 +88,17 @@ told_office_token old new rows slice row token h same some is books holds held =
         let one : (Text office ∷ []) ≡ row = cc in
         same_text office token (ap (λ (r : sql.Row). column r 0) one ∙ is)
 
--- what the call tells of it
-pub read_office_token : (old new : State) (rows slice : List sql.Row) (row : sql.Row) (r : Result (List ℕ) StoreFault) → Shown select_office_token [] old new rows → slice ≡ rows → Some row ≡ slice_get slice 0
-    → IfOk r (λ token. column row 0 ≡ Text token) → IfOk r (λ token. Reads old new (λ books. token ≡ books.catalogue.office_token))
-read_office_token old new rows slice row (Err e) h same some is = tt
-read_office_token old new rows slice row (Ok token) h same some is = told_office_token old new rows slice row token h same some is
+-- what the first row tells of it
+pub read_office_token : {Fits : sql.Row → List ℕ → Type 0} → ((row : sql.Row) (token : List ℕ) → Fits row token → column row 0 ≡ Text token) → (old new : State) (rows slice : List sql.Row)
+    → (found : Option (List ℕ)) (token : List ℕ) → Shown SELECT_OFFICE_TOKEN.now [] old new rows → slice ≡ rows → TellsFirst Fits slice found → found ≡ Some token → Reads old new (λ books. token ≡ books.catalogue.office_token)
+read_office_token fits old new rows slice None token h same told is = let none : ⊥ = cc in absurd none
+read_office_token fits old new rows slice (Some it) token h same told is =
+    let one : it ≡ token = cc in
+    told_office_token old new rows slice told.0 token h same told.1 (subst (λ (t : List ℕ). column told.0 0 ≡ Text t) one (fits told.0 it told.2))
 
 -- ---- a branch
 
-abbrev pub select_branch : List ℕ
-select_branch = codes "SELECT number FROM branch WHERE token = ?1"
-
-pub select_branch_means : Selects shop_schema select_branch (plain_query 18 of_token (col 1 1 ∷ []) [])
+pub select_branch_means : Selects shop_schema SELECT_WITH_TOKEN.now (plain_query 18 of_token (col 1 1 ∷ []) [])
 unfolding understood everything
 select_branch_means = record { names = _; is = refl; plain = (refl, refl); unlisted = refl }
 
@@ -149,13 +144,13 @@ counter_is token k (branch ∷ branches) row n is e = go (has_token token branch
         ap Counter number
     go false some more = more some
 
-module _ (old new : State) (token : List ℕ) (rows : List sql.Row) (h : Shown select_branch (Text token ∷ []) old new rows) where
+module _ (old new : State) (token : List ℕ) (rows : List sql.Row) (h : Shown SELECT_WITH_TOKEN.now (Text token ∷ []) old new rows) where
   stays : (books : Books) → Holds old books → Holds new books
-  stays = still_holds shop_schema StandsFor select_branch (Text token ∷ []) old new select_branch_means.plain rows h
+  stays = still_holds shop_schema StandsFor SELECT_WITH_TOKEN.now (Text token ∷ []) old new select_branch_means.plain rows h
 
   shown_branches : (books : Books) → Holds old books → IsHeld books → rows ≡ map (λ (it : ℕ × Branch). number_value it.0 ∷ []) (filter (numbered_has token) (numbered books.catalogue.branches))
   shown_branches books holds held =
-      projects_one shop_schema select_branch 18 8 of_token (col 1 1 ∷ []) select_branch_means (Text token ∷ []) old new rows holds.schema_is h
+      projects_one shop_schema SELECT_WITH_TOKEN.now 18 8 of_token (col 1 1 ∷ []) select_branch_means (Text token ∷ []) old new rows holds.schema_is h
       (branch_columns books.lasts) (numbered books.catalogue.branches) holds.stands.branches refl (λ vs. text_test 1 token vs && true) (λ vs. column vs 0 ∷ []) (numbered_has token)
       (λ it. one_tested _ (text_tested it.1.token token)) (λ r. refl) few
     where

@@ -1,5 +1,5 @@
 -- Whether a SELECT shows a row, as a call tells it.
-use Rattle.std.proofs.Common.{◌≡◌, ◌==◌, ◌+◌, ◌&&◌, ◌||◌, ℕ, suc, List, [], ◌∷◌, codes, map, filter, length, cond, not, Bool, true, false, Ok, Err, Result, refl, ap, ◌∙◌, arith}
+use Rattle.std.proofs.Common.{◌≡◌, ◌==◌, ◌+◌, ◌&&◌, ◌||◌, ℕ, suc, List, [], ◌∷◌, map, filter, length, cond, not, Bool, true, false, Ok, Err, Result, refl, ap, ◌∙◌, arith}
 use Rattle.std.specs.Prelude.{IfOk}
 use Rattle.std.specs.List.{list_all, list_any}
 use Rattle.std.specs.Str.{bytes_eq}
@@ -32,6 +32,8 @@ use Rattle.shop_schema.specs.Counts.{counts_of}
 use Rattle.shop_schema.specs.Shop.{StandsFor, Reads}
 use Rattle.shop_schema.proofs.Different.{bytes_eq_turned}
 use Rattle.shop_schema.proofs.Listed.{own_rows}
+use Rattle.shop_store.specs.declared.branches.TheConstants.{SELECT_WITH_TOKEN}
+use Rattle.shop_store.specs.declared.rows.TheConstants.{SELECT_COUNTRY_NAMED, SELECT_LANGUAGE_NAMED, SELECT_CATEGORY_NAMED, SELECT_CAST}
 use Rattle.shop_store.proofs.ByNumber.{ByNumber, countries, languages, categories, branches}
 
 -- the call tells it
@@ -105,41 +107,35 @@ turned_name : (t : ByNumber model.Text) (old new : State) (name : List ℕ) (fou
     → Reads old new (λ books. found ≡ list_any (λ x. bytes_eq x name) (t.part.items books)) → Reads old new (λ books. found ≡ list_any (bytes_eq name) (t.part.items books))
 turned_name t old new name found told books holds held = ((told books holds held).0, (told books holds held).1 ∙ any_turned name (t.part.items books))
 
-pub named_country : ReadsName countries (codes "SELECT number FROM country WHERE name = ?1")
+pub named_country : ReadsName countries SELECT_COUNTRY_NAMED.now
 unfolding understood everything
 named_country old new name rows h =
     turned_name countries old new name _ (reads_text countries _ 1 (record { names = _; is = refl; plain = (refl, refl); unlisted = refl }) (λ it. it) (λ books it. refl) (λ n r. refl) old new name rows h)
 
-pub named_language : ReadsName languages (codes "SELECT number FROM language WHERE name = ?1")
+pub named_language : ReadsName languages SELECT_LANGUAGE_NAMED.now
 unfolding understood everything
 named_language old new name rows h =
     turned_name languages old new name _ (reads_text languages _ 1 (record { names = _; is = refl; plain = (refl, refl); unlisted = refl }) (λ it. it) (λ books it. refl) (λ n r. refl) old new name rows h)
 
-pub named_category : ReadsName categories (codes "SELECT number FROM category WHERE name = ?1")
+pub named_category : ReadsName categories SELECT_CATEGORY_NAMED.now
 unfolding understood everything
 named_category old new name rows h =
     turned_name categories old new name _ (reads_text categories _ 1 (record { names = _; is = refl; plain = (refl, refl); unlisted = refl }) (λ it. it) (λ books it. refl) (λ n r. refl) old new name rows h)
 
-abbrev pub select_token : List ℕ
-select_token = codes "SELECT number FROM branch WHERE token = ?1"
-
-pub token_taken : (old new : State) (token : List ℕ) (rows : List sql.Row) → Shown select_token (Text token ∷ []) old new rows
+pub token_taken : (old new : State) (token : List ℕ) (rows : List sql.Row) → Shown SELECT_WITH_TOKEN.now (Text token ∷ []) old new rows
     → Reads old new (λ books. not (length rows == 0) ≡ list_any (λ (it : Branch). bytes_eq it.token token) books.catalogue.branches)
 unfolding understood everything
-token_taken = reads_text branches select_token 1 (record { names = _; is = refl; plain = (refl, refl); unlisted = refl }) (λ it. it.token) (λ books it. refl) (λ n r. refl)
+token_taken = reads_text branches SELECT_WITH_TOKEN.now 1 (record { names = _; is = refl; plain = (refl, refl); unlisted = refl }) (λ it. it.token) (λ books it. refl) (λ n r. refl)
 
 -- ---- who is cast
-
-abbrev pub select_cast : List ℕ
-select_cast = codes "SELECT film FROM film_actor WHERE film = ?1 AND actor = ?2"
 
 abbrev of_cast : List Term
 of_cast = op2 (Compare Eq Binary) (col 1 1) (col 0 0) ∷ op2 (Compare Eq Binary) (col 1 2) (col 0 1) ∷ []
 
-pub read_cast : (old new : State) (film actor : ℕ) (rows : List sql.Row) → Shown select_cast (number_value film ∷ number_value actor ∷ []) old new rows
+pub read_cast : (old new : State) (film actor : ℕ) (rows : List sql.Row) → Shown SELECT_CAST.now (number_value film ∷ number_value actor ∷ []) old new rows
     → Reads old new (λ books. not (length rows == 0) ≡ list_any (λ (it : Cast). it.film == film && it.actor == actor) books.catalogue.casts)
 unfolding understood everything
 read_cast old new film actor =
-    reads_any select_cast 16 2 of_cast (col 1 1 ∷ []) (record { names = _; is = refl; plain = (refl, refl); unlisted = refl }) (λ books. cast_columns) (λ books. books.catalogue.casts) (λ books trees s. s.casts)
+    reads_any SELECT_CAST.now 16 2 of_cast (col 1 1 ∷ []) (record { names = _; is = refl; plain = (refl, refl); unlisted = refl }) (λ books. cast_columns) (λ books. books.catalogue.casts) (λ books trees s. s.casts)
     (number_value film ∷ number_value actor ∷ []) (λ vs. number_test 0 film vs && (number_test 1 actor vs && true)) (λ vs. column vs 0 ∷ []) (λ it. it.film == film && it.actor == actor)
     (λ books it. two_tested _ _ (number_tested it.film film) (number_tested it.actor actor)) (λ r. refl) old new

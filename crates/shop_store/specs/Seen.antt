@@ -3,10 +3,10 @@ use Rattle.std.specs.Prelude.{◌≢◌, None}
 use Rattle.sqlite_value.specs.Order as sql
 use Rattle.shop_model.specs.Rows.{Row}
 use Rattle.shop_model.specs.Values as model
-use Rattle.shop_model.specs.Values.{Customer, Rental}
+use Rattle.shop_model.specs.Values.{Customer, Rental, Payment}
 use Rattle.shop_model.specs.Books as books
 use Rattle.shop_model.specs.Books.{BookCopy}
-use Rattle.shop_types.specs.Seen.{seen_customer, seen_rental}
+use Rattle.shop_types.specs.Seen.{seen_customer, seen_rental, seen_payment}
 use Rattle.shop_schema.specs.Columns.{customer_columns}
 use Rattle.shop_schema.specs.RowValues.{IsRow, IsCustomer}
 use Rattle.shop_store.specs.declared.customers.CustomerRow.{CustomerRow}
@@ -15,6 +15,7 @@ use Rattle.shop_store.specs.declared.copies.CopyState.TheVariants as state
 use Rattle.shop_store.specs.declared.copies.Mark.{Mark}
 use Rattle.shop_store.specs.declared.copies.CopyRow.{CopyRow}
 use Rattle.shop_store.specs.declared.rentals.RentalRow.{RentalRow}
+use Rattle.shop_store.specs.declared.payments.PaymentRow.{PaymentRow}
 
 -- a customer of a branch, with the number
 abbrev pub seen_row : CustomerRow → Row Customer
@@ -43,3 +44,7 @@ seen_rental_row row = record { branch = row.branch; number = row.number; it = se
 -- the same as an open one
 abbrev pub opened_row : RentalRow → Row Rental
 opened_row row = record { branch = row.branch; number = row.number; it = record (seen_rental row.rental) { returned = None } }
+
+-- a payment at a branch, with the number
+abbrev pub seen_payment_row : PaymentRow → Row Payment
+seen_payment_row row = record { branch = row.branch; number = row.number; it = seen_payment row.payment }

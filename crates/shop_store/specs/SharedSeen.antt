@@ -8,7 +8,7 @@ use Rattle.shop_model.specs.Books.{Caller, Counter, Nobody}
 use Rattle.shop_types.specs.Seen.{seen_film}
 use Rattle.shop_schema.specs.Columns.{film_columns}
 use Rattle.shop_schema.specs.RowValues.{IsNumber, IsFilm}
-use Rattle.shop_store.specs.declared.reads.FilmTerms.{FilmTerms}
+use Rattle.shop_store.specs.declared.films.FilmTerms.{FilmTerms}
 use Rattle.shop_store.specs.declared.films.FilmRow.{FilmRow}
 
 -- the branch as a caller, or nobody

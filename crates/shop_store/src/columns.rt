@@ -1,4 +1,4 @@
-//! Columns of films read as their values. Where a column holds no such value, the fault is `Failed`.
+//! Columns read as their values, and tokens as texts. Where a column holds no such value, the fault is `Failed`.
 
 ghost use Rattle.std.specs.Prelude.{◌≡◌, ◌≢◌, ◌≤◌, ◌<◌, ℕ, ◌&&◌, nat_lt, nat_le, if◌then◌else◌, length, Option, Some, None, IfOk, IfErr, IfSome, IsUtf8};
 ghost use Rattle.sqlite.specs.declared.types.Value.TheVariants.{Text as SqlText};
@@ -10,9 +10,26 @@ ghost use Rattle.shop_types.specs.Films.{rating_text, features_text};
 ghost use Rattle.shop_types.specs.declared.film.Rating.{Rating as TheRating};
 ghost use Rattle.shop_types.specs.declared.film.Features.{Features as TheFeatures};
 
-use shop_types::{Amount, Features, Minutes, Period, Rate, Rating};
+use shop_types::{Amount, Features, Minutes, Period, Rate, Rating, Token};
 use sql_rows::{StoreFault, number_at, number_or_null_at, words_at};
 use sqlite::Row;
+
+/// The token as a text.
+pub(crate) fn token_text(token: &Token) -> &str
+    ensures { result.now ≡ token.now }
+{
+    std::str::from_utf8(token.as_bytes().as_slice()).unwrap()
+}
+
+/// The token in the column.
+pub(crate) fn token_at(row: &Row, at: usize) -> Result<Token, StoreFault>
+    ensures { IfOk result (λ token. column row.now at ≡ SqlText token) }
+{
+    match Token::read(words_at(row, at)?.as_str().as_bytes()) {
+        Some(token) => Ok(token),
+        None => Err(StoreFault::Failed),
+    }
+}
 
 /// The rate in the column, in cents.
 pub(crate) fn rate_at(row: &Row, at: usize) -> Result<Rate, StoreFault>
@@ -29,8 +46,8 @@ pub(crate) fn rate_at(row: &Row, at: usize) -> Result<Rate, StoreFault>
     }
 }
 
-/// What is in the column, in cents, of a film's replacement.
-pub(crate) fn replacement_at(row: &Row, at: usize) -> Result<Amount, StoreFault>
+/// The amount in the column, in cents.
+pub(crate) fn amount_at(row: &Row, at: usize) -> Result<Amount, StoreFault>
     ensures ok { IfOk result (λ n. column row.now at ≡ number_value n) }
     ensures value { IfOk result (λ n. n ≤ 99_999) }
     ensures failed { IfErr result (λ e. e ≡ Failed → (n : ℕ) → n ≤ 99_999 → at < length row.now → column row.now at ≢ number_value n) }

@@ -111,6 +111,9 @@ impl CopyRow {
     }
 }
 
+const SELECT_COPY: &str =
+    "SELECT branch, number, film, state, origin_branch, origin_copy FROM copy WHERE branch = ?1 AND number = ?2";
+
 /// The copy of the number, in whatever state, if the branch has it.
 pub fn copy_at<S: Alter>(
     tx: &mut Transaction<'_, S>,
@@ -123,16 +126,19 @@ pub fn copy_at<S: Alter>(
 {
     let rows = query(
         tx,
-        "SELECT branch, number, film, state, origin_branch, origin_copy FROM copy WHERE branch = ?1 AND number = ?2",
+        SELECT_COPY,
         &[branch.get().to_sql(), number.get().to_sql()],
     )?;
     read_one(rows.as_slice())
 }
 
+const SELECT_COPIES_OF_FILM: &str =
+    "SELECT branch, number, film, state, origin_branch, origin_copy FROM copy WHERE branch = ?1 AND film = ?2 ORDER BY number";
+
 /// The copies of the film that the branch has, in whatever state, in order of number. After a fault the transaction may be rolled back.
 pub fn copies_of_film<S: Alter>(
-    tx: &mut Transaction<'_, S>,
     alloc: Global,
+    tx: &mut Transaction<'_, S>,
     branch: BranchNo,
     film: FilmNo,
 ) -> Result<Vec<CopyRow>, StoreFault>
@@ -142,11 +148,13 @@ pub fn copies_of_film<S: Alter>(
 {
     let rows = query(
         tx,
-        "SELECT branch, number, film, state, origin_branch, origin_copy FROM copy WHERE branch = ?1 AND film = ?2 ORDER BY number",
+        SELECT_COPIES_OF_FILM,
         &[branch.get().to_sql(), film.get().to_sql()],
     )?;
     read_all(alloc, rows.as_slice())
 }
+
+const UPDATE_STATE: &str = "UPDATE copy SET state = ?3 WHERE branch = ?1 AND number = ?2";
 
 /// Sets where the copy is. A copy that isn't there is not made. After a fault the transaction may be rolled back.
 pub fn set_state<S: Alter>(
@@ -161,7 +169,7 @@ pub fn set_state<S: Alter>(
 {
     execute(
         tx,
-        "UPDATE copy SET state = ?3 WHERE branch = ?1 AND number = ?2",
+        UPDATE_STATE,
         &[
             branch.get().to_sql(),
             number.get().to_sql(),
@@ -170,18 +178,19 @@ pub fn set_state<S: Alter>(
     )
 }
 
+const INSERT_COPY: &str =
+    "INSERT INTO copy (branch, number, film, state, origin_branch, origin_copy) VALUES (?1, ?2, ?3, ?4, ?5, ?6)";
+
 /// Adds the copy. After a fault the transaction may be rolled back.
 pub fn put_copy<S: Alter>(tx: &mut Transaction<'_, S>, row: CopyRow) -> Result<(), StoreFault>
     ensures inside { StaysInside S.Store tx.old.conn tx.new.conn result }
     ensures put { Stores (state S.Store tx.old.conn.now) (state S.Store tx.new.conn.now) result (λ _. ⊤)
         (λ books. record books { copies = books.copies ++ seen_copy_row row ∷ [] }) }
 {
-    execute(
-        tx,
-        "INSERT INTO copy (branch, number, film, state, origin_branch, origin_copy) VALUES (?1, ?2, ?3, ?4, ?5, ?6)",
-        &row.values(),
-    )
+    execute(tx, INSERT_COPY, &row.values())
 }
+
+const SELECT_LOT: &str = "SELECT name FROM lot WHERE branch = ?1 AND name = ?2";
 
 /// Whether the branch imported a lot of the name.
 pub fn has_lot<S: Alter>(
@@ -195,11 +204,13 @@ pub fn has_lot<S: Alter>(
 {
     let rows = query(
         tx,
-        "SELECT name FROM lot WHERE branch = ?1 AND name = ?2",
+        SELECT_LOT,
         &[branch.get().to_sql(), lot.as_str().to_sql()],
     )?;
     Ok(!rows.is_empty())
 }
+
+const INSERT_LOT: &str = "INSERT INTO lot (branch, name) VALUES (?1, ?2)";
 
 /// Adds the name of a lot that the branch imported. After a fault the transaction may be rolled back.
 pub fn put_lot<S: Alter>(
@@ -213,7 +224,7 @@ pub fn put_lot<S: Alter>(
 {
     execute(
         tx,
-        "INSERT INTO lot (branch, name) VALUES (?1, ?2)",
+        INSERT_LOT,
         &[branch.get().to_sql(), lot.as_str().to_sql()],
     )
 }

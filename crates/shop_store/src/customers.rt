@@ -110,6 +110,9 @@ impl CustomerRow {
     }
 }
 
+const SELECT_CUSTOMER: &str =
+    "SELECT branch, number, first, last, address, postal, phone, city, active, created FROM customer WHERE branch = ?1 AND number = ?2";
+
 /// The customer of the number, if the branch has it.
 pub fn customer_at<S: Alter>(
     tx: &mut Transaction<'_, S>,
@@ -122,11 +125,14 @@ pub fn customer_at<S: Alter>(
 {
     let rows = query(
         tx,
-        "SELECT branch, number, first, last, address, postal, phone, city, active, created FROM customer WHERE branch = ?1 AND number = ?2",
+        SELECT_CUSTOMER,
         &[branch.get().to_sql(), number.get().to_sql()],
     )?;
     read_one(rows.as_slice())
 }
+
+const INSERT_CUSTOMER: &str =
+    "INSERT INTO customer (branch, number, first, last, address, postal, phone, city, active, created) VALUES (?1, ?2, ?3, ?4, ?5, ?6, ?7, ?8, ?9, ?10)";
 
 /// Adds the customer. After a fault the transaction may be rolled back.
 pub fn put_customer<S: Alter>(
@@ -138,12 +144,10 @@ pub fn put_customer<S: Alter>(
         (λ books. record books { customers = books.customers ++ seen_row row.now ∷ [] }) }
 {
     let created = MomentText::of(row.customer.created);
-    execute(
-        tx,
-        "INSERT INTO customer (branch, number, first, last, address, postal, phone, city, active, created) VALUES (?1, ?2, ?3, ?4, ?5, ?6, ?7, ?8, ?9, ?10)",
-        &row.values(&created),
-    )
+    execute(tx, INSERT_CUSTOMER, &row.values(&created))
 }
+
+const UPDATE_ACTIVE: &str = "UPDATE customer SET active = ?3 WHERE branch = ?1 AND number = ?2";
 
 /// Sets whether the customer may rent. A customer who is not there is not made. After a fault the transaction may be rolled back.
 pub fn set_active<S: Alter>(
@@ -158,7 +162,7 @@ pub fn set_active<S: Alter>(
 {
     execute(
         tx,
-        "UPDATE customer SET active = ?3 WHERE branch = ?1 AND number = ?2",
+        UPDATE_ACTIVE,
         &[
             branch.get().to_sql(),
             number.get().to_sql(),

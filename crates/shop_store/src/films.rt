@@ -1,6 +1,6 @@
-//! A film with all its columns.
+//! Films: one with all its columns, what is asked of one, and what head office sets in it.
 
-ghost use Rattle.std.specs.Prelude.{◌≡◌, ◌≤◌, IfOk, IfErr, IfSome, IsUtf8, length, option_map};
+ghost use Rattle.std.specs.Prelude.{⊤, ◌≡◌, ◌≤◌, true, IfOk, IfErr, IfSome, IsUtf8, length, map, option_map};
 ghost use Rattle.std.specs.Option.{option_to_list};
 ghost use Rattle.sqlite.specs.Held.{state};
 ghost use Rattle.sqlite.specs.Values.{or_null};
@@ -9,22 +9,23 @@ ghost use Rattle.sqlite_value.specs.Order.{column};
 ghost use Rattle.sql_rows.specs.Calls.{StaysInside};
 ghost use Rattle.sql_rows.specs.Rows.{number_value, flag_value};
 ghost use Rattle.sql_rows.specs.declared.fault.StoreFault.TheVariants.{Failed};
-ghost use Rattle.shop_model.specs.Rows.{at};
-ghost use Rattle.shop_schema.specs.Calls.{Finds};
+ghost use Rattle.shop_model.specs.Rows.{at, set_at};
+ghost use Rattle.shop_model.specs.Books.{head};
+ghost use Rattle.shop_schema.specs.Calls.{Finds, Stores};
 ghost use Rattle.shop_schema.specs.Columns.{film_columns};
 ghost use Rattle.shop_schema.specs.RowValues.{IsNumber, IsText, IsFilm};
 ghost use Rattle.shop_types.specs.Films.{rating_text, features_text};
-ghost use Rattle.shop_store.specs.SharedSeen.{seen_film_row, IsNoFilm};
+ghost use Rattle.shop_store.specs.SharedSeen.{seen_film_row, IsNoFilm, withdrawn_of, seen_terms, terms_of, title_of};
 
 use crate::columns::{
-    features_at, minutes_or_null_at, period_at, rate_at, rating_at, replacement_at,
+    amount_at, days_at, features_at, minutes_or_null_at, period_at, rate_at, rating_at,
 };
-use shop_schema::{row_number_at, text_at};
+use shop_schema::{first_of, row_number_at, text_at};
 use shop_types::{
     Amount, CategoryNo, Features, Film, FilmNo, L500, LanguageNo, Minutes, Period, Rate, Rating,
     T128,
 };
-use sql_rows::{StoreFault, Stored, flag_at, query, read_one};
+use sql_rows::{StoreFault, Stored, execute, flag_at, query, read_one};
 use sqlite::types::ToSql;
 use sqlite::{Alter, Row, Transaction};
 
@@ -34,6 +35,14 @@ pub struct FilmRow {
     pub number: FilmNo,
     pub film: Film,
     pub withdrawn: bool,
+}
+
+/// By what a rental of a film is charged.
+#[derive(Clone, Copy)]
+pub struct FilmTerms {
+    pub rate: Rate,
+    /// For how many days it is rented.
+    pub period: u8,
 }
 
 /// The numbers of the film, of its language and of its category, and whether it is withdrawn.
@@ -59,11 +68,7 @@ fn terms_at(row: &Row) -> Result<(Period, Rate, Amount), StoreFault>
     ensures value { IfOk result (λ it. ((1 ≤ it.0) × (it.0 ≤ 255)) × (it.1 ≤ 9_999) × (it.2 ≤ 99_999)) }
     ensures failed { IfErr result (λ e. e ≡ Failed → IsNoFilm row.now) }
 {
-    Ok((
-        period_at(row, 5)?,
-        rate_at(row, 6)?,
-        replacement_at(row, 7)?,
-    ))
+    Ok((period_at(row, 5)?, rate_at(row, 6)?, amount_at(row, 7)?))
 }
 
 /// How long the film takes, its rating and its special features.
@@ -123,6 +128,9 @@ impl Stored for FilmRow {
     }
 }
 
+const SELECT_FILM: &str =
+    "SELECT number, title, description, language, category, period, rate, replacement, length, rating, features, withdrawn FROM film WHERE number = ?1";
+
 /// The film of the number, withdrawn or not, where there is such a film.
 pub fn film_row<S: Alter>(
     tx: &mut Transaction<'_, S>,
@@ -132,10 +140,91 @@ pub fn film_row<S: Alter>(
     ensures found { Finds (state S.Store tx.old.conn.now) (state S.Store tx.new.conn.now) result
         (λ row books. option_to_list (option_map seen_film_row row) ≡ at number books.catalogue.films) }
 {
-    let rows = query(
-        tx,
-        "SELECT number, title, description, language, category, period, rate, replacement, length, rating, features, withdrawn FROM film WHERE number = ?1",
-        &[number.get().to_sql()],
-    )?;
+    let rows = query(tx, SELECT_FILM, &[number.get().to_sql()])?;
     read_one(rows.as_slice())
+}
+
+const SELECT_WITHDRAWN: &str = "SELECT withdrawn FROM film WHERE number = ?1";
+
+/// Whether the film of the number is withdrawn, where there is such a film.
+pub fn film_withdrawn<S: Alter>(
+    tx: &mut Transaction<'_, S>,
+    film: FilmNo,
+) -> Result<Option<bool>, StoreFault>
+    ensures inside { StaysInside S.Store tx.old.conn tx.new.conn result }
+    ensures found { Finds (state S.Store tx.old.conn.now) (state S.Store tx.new.conn.now) result
+        (λ withdrawn books. withdrawn ≡ head (map withdrawn_of (at film books.catalogue.films))) }
+{
+    let rows = query(tx, SELECT_WITHDRAWN, &[film.get().to_sql()])?;
+    first_of(rows.as_slice(), |row| flag_at(row, 0))
+}
+
+/// By what a rental is charged by the row.
+fn rental_terms_in(row: &Row) -> Result<FilmTerms, StoreFault>
+    ensures { IfOk result (λ it. (column row.now 0 ≡ number_value it.rate) × (column row.now 1 ≡ number_value it.period)) }
+{
+    Ok(FilmTerms {
+        rate: rate_at(row, 0)?,
+        period: days_at(row, 1)?,
+    })
+}
+
+const SELECT_TERMS: &str = "SELECT rate, period FROM film WHERE number = ?1";
+
+/// By what a rental of the film of the number is charged, where there is such a film.
+pub fn film_terms<S: Alter>(
+    tx: &mut Transaction<'_, S>,
+    film: FilmNo,
+) -> Result<Option<FilmTerms>, StoreFault>
+    ensures inside { StaysInside S.Store tx.old.conn tx.new.conn result }
+    ensures found { Finds (state S.Store tx.old.conn.now) (state S.Store tx.new.conn.now) result
+        (λ terms books. option_map seen_terms terms ≡ head (map terms_of (at film books.catalogue.films))) }
+{
+    let rows = query(tx, SELECT_TERMS, &[film.get().to_sql()])?;
+    first_of(rows.as_slice(), rental_terms_in)
+}
+
+const SELECT_TITLE: &str = "SELECT title FROM film WHERE number = ?1";
+
+/// The title of the film of the number, where there is such a film.
+pub fn film_title<S: Alter>(
+    tx: &mut Transaction<'_, S>,
+    film: FilmNo,
+) -> Result<Option<T128>, StoreFault>
+    ensures inside { StaysInside S.Store tx.old.conn tx.new.conn result }
+    ensures found { Finds (state S.Store tx.old.conn.now) (state S.Store tx.new.conn.now) result
+        (λ title books. title ≡ head (map title_of (at film books.catalogue.films))) }
+{
+    let rows = query(tx, SELECT_TITLE, &[film.get().to_sql()])?;
+    first_of(rows.as_slice(), |row| text_at(row, 0))
+}
+
+const UPDATE_RATE: &str = "UPDATE film SET rate = ?2 WHERE number = ?1";
+
+/// Sets what a rental of the film costs. After a fault the transaction may be rolled back.
+pub fn set_rate<S: Alter>(
+    tx: &mut Transaction<'_, S>,
+    film: FilmNo,
+    rate: Rate,
+) -> Result<(), StoreFault>
+    ensures inside { StaysInside S.Store tx.old.conn tx.new.conn result }
+    ensures set { Stores (state S.Store tx.old.conn.now) (state S.Store tx.new.conn.now) result (λ _. ⊤)
+        (λ books. record books { catalogue = record books.catalogue { films = set_at film (λ f. record f { rate = rate }) books.catalogue.films } }) }
+{
+    execute(
+        tx,
+        UPDATE_RATE,
+        &[film.get().to_sql(), u32::from(rate.get()).to_sql()],
+    )
+}
+
+const UPDATE_WITHDRAWN: &str = "UPDATE film SET withdrawn = ?2 WHERE number = ?1";
+
+/// Takes the film out of the catalogue, where it stays as withdrawn. After a fault the transaction may be rolled back.
+pub fn set_withdrawn<S: Alter>(tx: &mut Transaction<'_, S>, film: FilmNo) -> Result<(), StoreFault>
+    ensures inside { StaysInside S.Store tx.old.conn tx.new.conn result }
+    ensures set { Stores (state S.Store tx.old.conn.now) (state S.Store tx.new.conn.now) result (λ _. ⊤)
+        (λ books. record books { catalogue = record books.catalogue { films = set_at film (λ f. record f { withdrawn = true }) books.catalogue.films } }) }
+{
+    execute(tx, UPDATE_WITHDRAWN, &[film.get().to_sql(), true.to_sql()])
 }

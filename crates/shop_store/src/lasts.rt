@@ -8,18 +8,9 @@ ghost use Rattle.sql_rows.specs.Calls.{StaysInside};
 ghost use Rattle.shop_schema.specs.Calls.{Finds};
 ghost use Rattle.shop_store.specs.SharedSeen.{IsFirstNumber};
 
+use shop_schema::first_of;
 use sql_rows::{StoreFault, number_at, query};
-use sqlite::{Alter, Row, Transaction};
-
-/// The number in the first row, or 0 where there is none.
-fn first_number(rows: &[Row]) -> Result<u32, StoreFault>
-    ensures { IfOk result (IsFirstNumber rows.now) }
-{
-    match rows.first() {
-        None => Ok(0),
-        Some(row) => number_at(row, 0),
-    }
-}
+use sqlite::{Alter, Transaction};
 
 /// The number in the first row that the query shows, or 0 where it shows none.
 fn number_shown<S: Alter>(tx: &mut Transaction<'_, S>, text: &str) -> Result<u32, StoreFault>
@@ -28,8 +19,10 @@ fn number_shown<S: Alter>(tx: &mut Transaction<'_, S>, text: &str) -> Result<u32
         × Shown text.now [] (state S.Store tx.old.conn.now) (state S.Store tx.new.conn.now) rows × IsFirstNumber rows n) }
 {
     let rows = query(tx, text, &[])?;
-    first_number(rows.as_slice())
+    Ok(first_of(rows.as_slice(), |row| number_at(row, 0))?.unwrap_or(0))
 }
+
+const SELECT_LAST_COUNTRY: &str = "SELECT number FROM country ORDER BY number DESC LIMIT 1";
 
 /// The number of the last country, or 0 where there is none.
 pub fn last_country<S: Alter>(tx: &mut Transaction<'_, S>) -> Result<u32, StoreFault>
@@ -37,11 +30,10 @@ pub fn last_country<S: Alter>(tx: &mut Transaction<'_, S>) -> Result<u32, StoreF
     ensures last { Finds (state S.Store tx.old.conn.now) (state S.Store tx.new.conn.now) result
         (λ last books. last ≡ length books.catalogue.countries) }
 {
-    number_shown(
-        tx,
-        "SELECT number FROM country ORDER BY number DESC LIMIT 1",
-    )
+    number_shown(tx, SELECT_LAST_COUNTRY)
 }
+
+const SELECT_LAST_LANGUAGE: &str = "SELECT number FROM language ORDER BY number DESC LIMIT 1";
 
 /// The number of the last language, or 0 where there is none.
 pub fn last_language<S: Alter>(tx: &mut Transaction<'_, S>) -> Result<u32, StoreFault>
@@ -49,11 +41,10 @@ pub fn last_language<S: Alter>(tx: &mut Transaction<'_, S>) -> Result<u32, Store
     ensures last { Finds (state S.Store tx.old.conn.now) (state S.Store tx.new.conn.now) result
         (λ last books. last ≡ length books.catalogue.languages) }
 {
-    number_shown(
-        tx,
-        "SELECT number FROM language ORDER BY number DESC LIMIT 1",
-    )
+    number_shown(tx, SELECT_LAST_LANGUAGE)
 }
+
+const SELECT_LAST_CATEGORY: &str = "SELECT number FROM category ORDER BY number DESC LIMIT 1";
 
 /// The number of the last category, or 0 where there is none.
 pub fn last_category<S: Alter>(tx: &mut Transaction<'_, S>) -> Result<u32, StoreFault>
@@ -61,11 +52,10 @@ pub fn last_category<S: Alter>(tx: &mut Transaction<'_, S>) -> Result<u32, Store
     ensures last { Finds (state S.Store tx.old.conn.now) (state S.Store tx.new.conn.now) result
         (λ last books. last ≡ length books.catalogue.categories) }
 {
-    number_shown(
-        tx,
-        "SELECT number FROM category ORDER BY number DESC LIMIT 1",
-    )
+    number_shown(tx, SELECT_LAST_CATEGORY)
 }
+
+const SELECT_LAST_CITY: &str = "SELECT number FROM city ORDER BY number DESC LIMIT 1";
 
 /// The number of the last city, or 0 where there is none.
 pub fn last_city<S: Alter>(tx: &mut Transaction<'_, S>) -> Result<u32, StoreFault>
@@ -73,8 +63,10 @@ pub fn last_city<S: Alter>(tx: &mut Transaction<'_, S>) -> Result<u32, StoreFaul
     ensures last { Finds (state S.Store tx.old.conn.now) (state S.Store tx.new.conn.now) result
         (λ last books. last ≡ length books.catalogue.cities) }
 {
-    number_shown(tx, "SELECT number FROM city ORDER BY number DESC LIMIT 1")
+    number_shown(tx, SELECT_LAST_CITY)
 }
+
+const SELECT_LAST_ACTOR: &str = "SELECT number FROM actor ORDER BY number DESC LIMIT 1";
 
 /// The number of the last actor, or 0 where there is none.
 pub fn last_actor<S: Alter>(tx: &mut Transaction<'_, S>) -> Result<u32, StoreFault>
@@ -82,8 +74,10 @@ pub fn last_actor<S: Alter>(tx: &mut Transaction<'_, S>) -> Result<u32, StoreFau
     ensures last { Finds (state S.Store tx.old.conn.now) (state S.Store tx.new.conn.now) result
         (λ last books. last ≡ length books.catalogue.actors) }
 {
-    number_shown(tx, "SELECT number FROM actor ORDER BY number DESC LIMIT 1")
+    number_shown(tx, SELECT_LAST_ACTOR)
 }
+
+const SELECT_LAST_FILM: &str = "SELECT number FROM film ORDER BY number DESC LIMIT 1";
 
 /// The number of the last film, or 0 where there is none.
 pub fn last_film<S: Alter>(tx: &mut Transaction<'_, S>) -> Result<u32, StoreFault>
@@ -91,8 +85,10 @@ pub fn last_film<S: Alter>(tx: &mut Transaction<'_, S>) -> Result<u32, StoreFaul
     ensures last { Finds (state S.Store tx.old.conn.now) (state S.Store tx.new.conn.now) result
         (λ last books. last ≡ length books.catalogue.films) }
 {
-    number_shown(tx, "SELECT number FROM film ORDER BY number DESC LIMIT 1")
+    number_shown(tx, SELECT_LAST_FILM)
 }
+
+const SELECT_LAST_BRANCH: &str = "SELECT number FROM branch ORDER BY number DESC LIMIT 1";
 
 /// The number of the last branch, or 0 where there is none.
 pub fn last_branch<S: Alter>(tx: &mut Transaction<'_, S>) -> Result<u32, StoreFault>
@@ -100,8 +96,10 @@ pub fn last_branch<S: Alter>(tx: &mut Transaction<'_, S>) -> Result<u32, StoreFa
     ensures last { Finds (state S.Store tx.old.conn.now) (state S.Store tx.new.conn.now) result
         (λ last books. last ≡ length books.catalogue.branches) }
 {
-    number_shown(tx, "SELECT number FROM branch ORDER BY number DESC LIMIT 1")
+    number_shown(tx, SELECT_LAST_BRANCH)
 }
+
+const SELECT_LAST_STAFF: &str = "SELECT number FROM staff ORDER BY number DESC LIMIT 1";
 
 /// The number of the last member of staff, or 0 where there is none.
 pub fn last_staff<S: Alter>(tx: &mut Transaction<'_, S>) -> Result<u32, StoreFault>
@@ -109,5 +107,5 @@ pub fn last_staff<S: Alter>(tx: &mut Transaction<'_, S>) -> Result<u32, StoreFau
     ensures last { Finds (state S.Store tx.old.conn.now) (state S.Store tx.new.conn.now) result
         (λ last books. last ≡ length books.catalogue.staff) }
 {
-    number_shown(tx, "SELECT number FROM staff ORDER BY number DESC LIMIT 1")
+    number_shown(tx, SELECT_LAST_STAFF)
 }

@@ -1,8 +1,10 @@
-//! Rows of a branch's tables, customers, copies, lots and rentals, and rows that all branches share: whose token it is, what there is of each table, how rows are
-//! added and what is set in them. One function a statement; each works inside a transaction of the caller's, and tells what it found or made of the books that the
-//! tables stand for.
+//! Rows of a branch's tables, customers, copies, lots, rentals and payments, and rows that all branches share: whose token it is, what there is of each
+//! table, how rows are added and what is set in them. One function a statement; each works inside a transaction of the caller's, and tells what it found or
+//! made of the books that the tables stand for.
 #![tactic(auto)]
 
+mod branches;
+mod chain;
 mod columns;
 mod copies;
 mod counts;
@@ -10,29 +12,31 @@ mod customers;
 mod films;
 mod lasts;
 mod opening;
+mod payments;
 mod puts;
-mod reads;
 mod rentals;
 mod rows;
+mod staff;
 
+pub use branches::{branch_manager, branch_with, set_manager};
+pub use chain::{is_office, office_token};
 pub use copies::{
     CopyRow, CopyState, Mark, copies_of_film, copy_at, has_lot, put_copy, put_lot, set_state,
 };
 pub use counts::{put_count, put_counts};
 pub use customers::{CustomerRow, customer_at, put_customer, set_active};
-pub use films::{FilmRow, film_row};
+pub use films::{
+    FilmRow, FilmTerms, film_row, film_terms, film_title, film_withdrawn, set_rate, set_withdrawn,
+};
 pub use lasts::{
     last_actor, last_branch, last_category, last_city, last_country, last_film, last_language,
     last_staff,
 };
 pub use opening::{put_opening, put_token};
+pub use payments::{PaymentRow, payments_between, payments_of_customer, put_payment};
 pub use puts::{
     NewActor, NewBranch, NewCity, NewFilm, NewStaff, put_actor, put_branch, put_cast, put_category,
     put_city, put_country, put_film, put_language, put_staff,
-};
-pub use reads::{
-    FilmTerms, branch_at, branch_with, film_at, film_terms, film_title, is_office, office_token,
-    staff_at,
 };
 pub use rentals::{
     RentalRow, has_rental, put_rental, rental_at, rentals_of_customer, set_returned,
@@ -41,3 +45,4 @@ pub use rows::{
     has_actor, has_cast, has_category, has_city, has_country, has_language, has_token, is_category,
     is_country, is_language,
 };
+pub use staff::{set_gone, staff_at};

@@ -40,6 +40,8 @@ const ROWS: [&str; 21] = [
     "INSERT INTO staff (number, branch, first, last, address, postal, phone, city, gone) VALUES (3, 3, 'KIM', 'ROSS', '2 Side', '', '', 3, 0)",
 ];
 
+const INSERT_CHAIN: &str = "INSERT INTO chain (version, office_token) VALUES (1, ?1)";
+
 /// Gives new tables their row of the table `chain`, and no count. After a fault the transaction may be rolled back.
 fn put_chain<S: Alter>(tx: &mut Transaction<'_, S>, token: &Token) -> Result<(), StoreFault>
     ensures inside { StaysInside S.Store tx.old.conn tx.new.conn result }
@@ -47,11 +49,7 @@ fn put_chain<S: Alter>(tx: &mut Transaction<'_, S>, token: &Token) -> Result<(),
         → OnOk result (IsShop (state S.Store tx.old.conn.now) → IsKeyed (state S.Store tx.old.conn.now) → HaveNoRows (state S.Store tx.old.conn.now).now.trees
         → HoldsWith no_counts (state S.Store tx.new.conn.now) (first_books token.now)) }
 {
-    execute(
-        tx,
-        "INSERT INTO chain (version, office_token) VALUES (1, ?1)",
-        &[ValueRef::Text(token.as_bytes())],
-    )
+    execute(tx, INSERT_CHAIN, &[ValueRef::Text(token.as_bytes())])
 }
 
 /// Gives new tables head office's token and its count, so that they are those of a chain with no shared row. After a fault the transaction may be rolled back.

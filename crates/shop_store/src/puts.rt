@@ -172,6 +172,8 @@ impl NewStaff<'_> {
     }
 }
 
+const INSERT_COUNTRY: &str = "INSERT INTO country (number, name) VALUES (?1, ?2)";
+
 /// Adds the country. After a fault the transaction may be rolled back.
 pub fn put_country<S: Alter>(
     tx: &mut Transaction<'_, S>,
@@ -182,12 +184,10 @@ pub fn put_country<S: Alter>(
     ensures put { Stores (state S.Store tx.old.conn.now) (state S.Store tx.new.conn.now) result (λ books. number ≡ length books.catalogue.countries + 1)
         (λ books. record books { catalogue = record books.catalogue { countries = books.catalogue.countries ++ name.now ∷ [] } }) }
 {
-    execute(
-        tx,
-        "INSERT INTO country (number, name) VALUES (?1, ?2)",
-        &[number.get().to_sql(), name.to_sql()],
-    )
+    execute(tx, INSERT_COUNTRY, &[number.get().to_sql(), name.to_sql()])
 }
+
+const INSERT_LANGUAGE: &str = "INSERT INTO language (number, name) VALUES (?1, ?2)";
 
 /// Adds the language. After a fault the transaction may be rolled back.
 pub fn put_language<S: Alter>(
@@ -199,12 +199,10 @@ pub fn put_language<S: Alter>(
     ensures put { Stores (state S.Store tx.old.conn.now) (state S.Store tx.new.conn.now) result (λ books. number ≡ length books.catalogue.languages + 1)
         (λ books. record books { catalogue = record books.catalogue { languages = books.catalogue.languages ++ name.now ∷ [] } }) }
 {
-    execute(
-        tx,
-        "INSERT INTO language (number, name) VALUES (?1, ?2)",
-        &[number.get().to_sql(), name.to_sql()],
-    )
+    execute(tx, INSERT_LANGUAGE, &[number.get().to_sql(), name.to_sql()])
 }
+
+const INSERT_CATEGORY: &str = "INSERT INTO category (number, name) VALUES (?1, ?2)";
 
 /// Adds the category. After a fault the transaction may be rolled back.
 pub fn put_category<S: Alter>(
@@ -216,12 +214,10 @@ pub fn put_category<S: Alter>(
     ensures put { Stores (state S.Store tx.old.conn.now) (state S.Store tx.new.conn.now) result (λ books. number ≡ length books.catalogue.categories + 1)
         (λ books. record books { catalogue = record books.catalogue { categories = books.catalogue.categories ++ name.now ∷ [] } }) }
 {
-    execute(
-        tx,
-        "INSERT INTO category (number, name) VALUES (?1, ?2)",
-        &[number.get().to_sql(), name.to_sql()],
-    )
+    execute(tx, INSERT_CATEGORY, &[number.get().to_sql(), name.to_sql()])
 }
+
+const INSERT_CITY: &str = "INSERT INTO city (number, name, country) VALUES (?1, ?2, ?3)";
 
 /// Adds the city. After a fault the transaction may be rolled back.
 pub fn put_city<S: Alter>(tx: &mut Transaction<'_, S>, city: &NewCity<'_>) -> Result<(), StoreFault>
@@ -229,12 +225,10 @@ pub fn put_city<S: Alter>(tx: &mut Transaction<'_, S>, city: &NewCity<'_>) -> Re
     ensures put { Stores (state S.Store tx.old.conn.now) (state S.Store tx.new.conn.now) result (λ books. city.now.number ≡ length books.catalogue.cities + 1)
         (λ books. record books { catalogue = record books.catalogue { cities = books.catalogue.cities ++ seen_city city.now ∷ [] } }) }
 {
-    execute(
-        tx,
-        "INSERT INTO city (number, name, country) VALUES (?1, ?2, ?3)",
-        &city.values(),
-    )
+    execute(tx, INSERT_CITY, &city.values())
 }
+
+const INSERT_ACTOR: &str = "INSERT INTO actor (number, first, last) VALUES (?1, ?2, ?3)";
 
 /// Adds the actor. After a fault the transaction may be rolled back.
 pub fn put_actor<S: Alter>(
@@ -245,12 +239,11 @@ pub fn put_actor<S: Alter>(
     ensures put { Stores (state S.Store tx.old.conn.now) (state S.Store tx.new.conn.now) result (λ books. actor.now.number ≡ length books.catalogue.actors + 1)
         (λ books. record books { catalogue = record books.catalogue { actors = books.catalogue.actors ++ seen_actor actor.now ∷ [] } }) }
 {
-    execute(
-        tx,
-        "INSERT INTO actor (number, first, last) VALUES (?1, ?2, ?3)",
-        &actor.values(),
-    )
+    execute(tx, INSERT_ACTOR, &actor.values())
 }
+
+const INSERT_FILM: &str =
+    "INSERT INTO film (number, title, description, language, category, period, rate, replacement, length, rating, features, withdrawn) VALUES (?1, ?2, ?3, ?4, ?5, ?6, ?7, ?8, ?9, ?10, ?11, ?12)";
 
 /// Adds the film. After a fault the transaction may be rolled back.
 pub fn put_film<S: Alter>(tx: &mut Transaction<'_, S>, film: &NewFilm<'_>) -> Result<(), StoreFault>
@@ -258,12 +251,10 @@ pub fn put_film<S: Alter>(tx: &mut Transaction<'_, S>, film: &NewFilm<'_>) -> Re
     ensures put { Stores (state S.Store tx.old.conn.now) (state S.Store tx.new.conn.now) result (λ books. film.now.number ≡ length books.catalogue.films + 1)
         (λ books. record books { catalogue = record books.catalogue { films = books.catalogue.films ++ seen_film film.now ∷ [] } }) }
 {
-    execute(
-        tx,
-        "INSERT INTO film (number, title, description, language, category, period, rate, replacement, length, rating, features, withdrawn) VALUES (?1, ?2, ?3, ?4, ?5, ?6, ?7, ?8, ?9, ?10, ?11, ?12)",
-        &film.values(),
-    )
+    execute(tx, INSERT_FILM, &film.values())
 }
+
+const INSERT_CAST: &str = "INSERT INTO film_actor (film, actor) VALUES (?1, ?2)";
 
 /// Adds that the actor is cast in the film. After a fault the transaction may be rolled back.
 pub fn put_cast<S: Alter>(
@@ -277,10 +268,13 @@ pub fn put_cast<S: Alter>(
 {
     execute(
         tx,
-        "INSERT INTO film_actor (film, actor) VALUES (?1, ?2)",
+        INSERT_CAST,
         &[film.get().to_sql(), actor.get().to_sql()],
     )
 }
+
+const INSERT_BRANCH: &str =
+    "INSERT INTO branch (number, token, address, postal, phone, city, manager, last_moment) VALUES (?1, ?2, ?3, ?4, ?5, ?6, ?7, NULL)";
 
 /// Adds the branch, which has no last moment. After a fault the transaction may be rolled back.
 pub fn put_branch<S: Alter>(
@@ -292,12 +286,11 @@ pub fn put_branch<S: Alter>(
         × (owned_by branch.now.number books.lasts ≡ []))
         (λ books. record books { catalogue = record books.catalogue { branches = books.catalogue.branches ++ seen_branch branch.now ∷ [] } }) }
 {
-    execute(
-        tx,
-        "INSERT INTO branch (number, token, address, postal, phone, city, manager, last_moment) VALUES (?1, ?2, ?3, ?4, ?5, ?6, ?7, NULL)",
-        &branch.values(),
-    )
+    execute(tx, INSERT_BRANCH, &branch.values())
 }
+
+const INSERT_STAFF: &str =
+    "INSERT INTO staff (number, branch, first, last, address, postal, phone, city, gone) VALUES (?1, ?2, ?3, ?4, ?5, ?6, ?7, ?8, ?9)";
 
 /// Adds the member of staff. After a fault the transaction may be rolled back.
 pub fn put_staff<S: Alter>(
@@ -308,9 +301,5 @@ pub fn put_staff<S: Alter>(
     ensures put { Stores (state S.Store tx.old.conn.now) (state S.Store tx.new.conn.now) result (λ books. staff.now.number ≡ length books.catalogue.staff + 1)
         (λ books. record books { catalogue = record books.catalogue { staff = books.catalogue.staff ++ seen_staff staff.now ∷ [] } }) }
 {
-    execute(
-        tx,
-        "INSERT INTO staff (number, branch, first, last, address, postal, phone, city, gone) VALUES (?1, ?2, ?3, ?4, ?5, ?6, ?7, ?8, ?9)",
-        &staff.values(),
-    )
+    execute(tx, INSERT_STAFF, &staff.values())
 }

@@ -66,6 +66,9 @@ fn values<'a>(row: &RentalRow, rented: &'a MomentText) -> [ValueRef<'a>; 7]
     ]
 }
 
+const SELECT_RENTAL: &str =
+    "SELECT branch, number, moment, copy, customer, returned, staff FROM rental WHERE branch = ?1 AND number = ?2";
+
 /// The rental of the number, if the branch has it.
 pub fn rental_at<S: Alter>(
     tx: &mut Transaction<'_, S>,
@@ -78,11 +81,14 @@ pub fn rental_at<S: Alter>(
 {
     let rows = query(
         tx,
-        "SELECT branch, number, moment, copy, customer, returned, staff FROM rental WHERE branch = ?1 AND number = ?2",
+        SELECT_RENTAL,
         &[branch.get().to_sql(), number.get().to_sql()],
     )?;
     read_one(rows.as_slice())
 }
+
+const SELECT_SAME_RENTAL: &str =
+    "SELECT number FROM rental WHERE branch = ?1 AND moment = ?2 AND copy = ?3 AND customer = ?4";
 
 /// Whether the branch has a rental of the moment, copy and customer. No two rentals share these, and one row is read.
 pub fn has_rental<S: Alter>(
@@ -100,7 +106,7 @@ pub fn has_rental<S: Alter>(
     let text = MomentText::of(rented);
     let rows = query(
         tx,
-        "SELECT number FROM rental WHERE branch = ?1 AND moment = ?2 AND copy = ?3 AND customer = ?4",
+        SELECT_SAME_RENTAL,
         &[
             branch.get().to_sql(),
             text.as_str().to_sql(),
@@ -111,10 +117,13 @@ pub fn has_rental<S: Alter>(
     Ok(!rows.is_empty())
 }
 
+const SELECT_RENTALS_OF_CUSTOMER: &str =
+    "SELECT branch, number, moment, copy, customer, returned, staff FROM rental WHERE branch = ?1 AND customer = ?2 ORDER BY number";
+
 /// All rentals of the branch's customer, in order of number. After a fault the transaction may be rolled back.
 pub fn rentals_of_customer<S: Alter>(
-    tx: &mut Transaction<'_, S>,
     alloc: Global,
+    tx: &mut Transaction<'_, S>,
     branch: BranchNo,
     customer: CustomerNo,
 ) -> Result<Vec<RentalRow>, StoreFault>
@@ -124,11 +133,14 @@ pub fn rentals_of_customer<S: Alter>(
 {
     let rows = query(
         tx,
-        "SELECT branch, number, moment, copy, customer, returned, staff FROM rental WHERE branch = ?1 AND customer = ?2 ORDER BY number",
+        SELECT_RENTALS_OF_CUSTOMER,
         &[branch.get().to_sql(), customer.get().to_sql()],
     )?;
     read_all(alloc, rows.as_slice())
 }
+
+const INSERT_RENTAL: &str =
+    "INSERT INTO rental (branch, number, moment, copy, customer, returned, staff) VALUES (?1, ?2, ?3, ?4, ?5, ?6, ?7)";
 
 /// Adds the rental as an open one: a moment of return isn't looked at. After a fault the transaction may be rolled back.
 pub fn put_rental<S: Alter>(tx: &mut Transaction<'_, S>, row: &RentalRow) -> Result<(), StoreFault>
@@ -137,12 +149,10 @@ pub fn put_rental<S: Alter>(tx: &mut Transaction<'_, S>, row: &RentalRow) -> Res
         (λ books. record books { rentals = books.rentals ++ opened_row row.now ∷ [] }) }
 {
     let rented = MomentText::of(row.rental.rented);
-    execute(
-        tx,
-        "INSERT INTO rental (branch, number, moment, copy, customer, returned, staff) VALUES (?1, ?2, ?3, ?4, ?5, ?6, ?7)",
-        &values(row, &rented),
-    )
+    execute(tx, INSERT_RENTAL, &values(row, &rented))
 }
+
+const UPDATE_RETURNED: &str = "UPDATE rental SET returned = ?3 WHERE branch = ?1 AND number = ?2";
 
 /// Sets when the rental's copy came back. A rental that isn't there is not made. After a fault the transaction may be rolled back.
 pub fn set_returned<S: Alter>(
@@ -158,7 +168,7 @@ pub fn set_returned<S: Alter>(
     let returned = MomentText::of(moment);
     execute(
         tx,
-        "UPDATE rental SET returned = ?3 WHERE branch = ?1 AND number = ?2",
+        UPDATE_RETURNED,
         &[
             branch.get().to_sql(),
             number.get().to_sql(),

@@ -11,7 +11,8 @@ ghost use Rattle.sql_rows.specs.Calls.{StaysInside};
 ghost use Rattle.shop_model.specs.Rows.{lacks};
 ghost use Rattle.shop_schema.specs.Calls.{Finds};
 
-use crate::reads::token_text;
+use crate::branches::SELECT_WITH_TOKEN;
+use crate::columns::token_text;
 use shop_types::{ActorNo, CategoryNo, CityNo, CountryNo, FilmNo, LanguageNo, Token};
 use sql_rows::{StoreFault, query};
 use sqlite::types::{ToSql, ValueRef};
@@ -31,6 +32,8 @@ pub(crate) fn shows_row<S: Alter>(
     Ok(!rows.is_empty())
 }
 
+const SELECT_COUNTRY: &str = "SELECT number FROM country WHERE number = ?1";
+
 /// Whether there is a country of the number.
 pub fn has_country<S: Alter>(
     tx: &mut Transaction<'_, S>,
@@ -40,12 +43,10 @@ pub fn has_country<S: Alter>(
     ensures found { Finds (state S.Store tx.old.conn.now) (state S.Store tx.new.conn.now) result
         (λ has books. has ≡ not (lacks books.catalogue.countries country)) }
 {
-    shows_row(
-        tx,
-        "SELECT number FROM country WHERE number = ?1",
-        &[country.get().to_sql()],
-    )
+    shows_row(tx, SELECT_COUNTRY, &[country.get().to_sql()])
 }
+
+const SELECT_LANGUAGE: &str = "SELECT number FROM language WHERE number = ?1";
 
 /// Whether there is a language of the number.
 pub fn has_language<S: Alter>(
@@ -56,12 +57,10 @@ pub fn has_language<S: Alter>(
     ensures found { Finds (state S.Store tx.old.conn.now) (state S.Store tx.new.conn.now) result
         (λ has books. has ≡ not (lacks books.catalogue.languages language)) }
 {
-    shows_row(
-        tx,
-        "SELECT number FROM language WHERE number = ?1",
-        &[language.get().to_sql()],
-    )
+    shows_row(tx, SELECT_LANGUAGE, &[language.get().to_sql()])
 }
+
+const SELECT_CATEGORY: &str = "SELECT number FROM category WHERE number = ?1";
 
 /// Whether there is a category of the number.
 pub fn has_category<S: Alter>(
@@ -72,12 +71,10 @@ pub fn has_category<S: Alter>(
     ensures found { Finds (state S.Store tx.old.conn.now) (state S.Store tx.new.conn.now) result
         (λ has books. has ≡ not (lacks books.catalogue.categories category)) }
 {
-    shows_row(
-        tx,
-        "SELECT number FROM category WHERE number = ?1",
-        &[category.get().to_sql()],
-    )
+    shows_row(tx, SELECT_CATEGORY, &[category.get().to_sql()])
 }
+
+const SELECT_CITY: &str = "SELECT number FROM city WHERE number = ?1";
 
 /// Whether there is a city of the number.
 pub fn has_city<S: Alter>(tx: &mut Transaction<'_, S>, city: CityNo) -> Result<bool, StoreFault>
@@ -85,12 +82,10 @@ pub fn has_city<S: Alter>(tx: &mut Transaction<'_, S>, city: CityNo) -> Result<b
     ensures found { Finds (state S.Store tx.old.conn.now) (state S.Store tx.new.conn.now) result
         (λ has books. has ≡ not (lacks books.catalogue.cities city)) }
 {
-    shows_row(
-        tx,
-        "SELECT number FROM city WHERE number = ?1",
-        &[city.get().to_sql()],
-    )
+    shows_row(tx, SELECT_CITY, &[city.get().to_sql()])
 }
+
+const SELECT_ACTOR: &str = "SELECT number FROM actor WHERE number = ?1";
 
 /// Whether there is an actor of the number.
 pub fn has_actor<S: Alter>(tx: &mut Transaction<'_, S>, actor: ActorNo) -> Result<bool, StoreFault>
@@ -98,12 +93,10 @@ pub fn has_actor<S: Alter>(tx: &mut Transaction<'_, S>, actor: ActorNo) -> Resul
     ensures found { Finds (state S.Store tx.old.conn.now) (state S.Store tx.new.conn.now) result
         (λ has books. has ≡ not (lacks books.catalogue.actors actor)) }
 {
-    shows_row(
-        tx,
-        "SELECT number FROM actor WHERE number = ?1",
-        &[actor.get().to_sql()],
-    )
+    shows_row(tx, SELECT_ACTOR, &[actor.get().to_sql()])
 }
+
+const SELECT_COUNTRY_NAMED: &str = "SELECT number FROM country WHERE name = ?1";
 
 /// Whether a country has the name, by its bytes.
 pub fn is_country<S: Alter>(tx: &mut Transaction<'_, S>, name: &str) -> Result<bool, StoreFault>
@@ -111,12 +104,10 @@ pub fn is_country<S: Alter>(tx: &mut Transaction<'_, S>, name: &str) -> Result<b
     ensures found { Finds (state S.Store tx.old.conn.now) (state S.Store tx.new.conn.now) result
         (λ is books. is ≡ list_any (bytes_eq name.now) books.catalogue.countries) }
 {
-    shows_row(
-        tx,
-        "SELECT number FROM country WHERE name = ?1",
-        &[name.to_sql()],
-    )
+    shows_row(tx, SELECT_COUNTRY_NAMED, &[name.to_sql()])
 }
+
+const SELECT_LANGUAGE_NAMED: &str = "SELECT number FROM language WHERE name = ?1";
 
 /// Whether a language has the name, by its bytes.
 pub fn is_language<S: Alter>(tx: &mut Transaction<'_, S>, name: &str) -> Result<bool, StoreFault>
@@ -124,12 +115,10 @@ pub fn is_language<S: Alter>(tx: &mut Transaction<'_, S>, name: &str) -> Result<
     ensures found { Finds (state S.Store tx.old.conn.now) (state S.Store tx.new.conn.now) result
         (λ is books. is ≡ list_any (bytes_eq name.now) books.catalogue.languages) }
 {
-    shows_row(
-        tx,
-        "SELECT number FROM language WHERE name = ?1",
-        &[name.to_sql()],
-    )
+    shows_row(tx, SELECT_LANGUAGE_NAMED, &[name.to_sql()])
 }
+
+const SELECT_CATEGORY_NAMED: &str = "SELECT number FROM category WHERE name = ?1";
 
 /// Whether a category has the name, by its bytes.
 pub fn is_category<S: Alter>(tx: &mut Transaction<'_, S>, name: &str) -> Result<bool, StoreFault>
@@ -137,11 +126,7 @@ pub fn is_category<S: Alter>(tx: &mut Transaction<'_, S>, name: &str) -> Result<
     ensures found { Finds (state S.Store tx.old.conn.now) (state S.Store tx.new.conn.now) result
         (λ is books. is ≡ list_any (bytes_eq name.now) books.catalogue.categories) }
 {
-    shows_row(
-        tx,
-        "SELECT number FROM category WHERE name = ?1",
-        &[name.to_sql()],
-    )
+    shows_row(tx, SELECT_CATEGORY_NAMED, &[name.to_sql()])
 }
 
 /// Whether a branch has the token. Head office's is another question.
@@ -150,12 +135,10 @@ pub fn has_token<S: Alter>(tx: &mut Transaction<'_, S>, token: &Token) -> Result
     ensures found { Finds (state S.Store tx.old.conn.now) (state S.Store tx.new.conn.now) result
         (λ has books. has ≡ list_any (λ it. bytes_eq it.token token.now) books.catalogue.branches) }
 {
-    shows_row(
-        tx,
-        "SELECT number FROM branch WHERE token = ?1",
-        &[token_text(token).to_sql()],
-    )
+    shows_row(tx, SELECT_WITH_TOKEN, &[token_text(token).to_sql()])
 }
+
+const SELECT_CAST: &str = "SELECT film FROM film_actor WHERE film = ?1 AND actor = ?2";
 
 /// Whether the actor is in the film's cast.
 pub fn has_cast<S: Alter>(
@@ -169,7 +152,7 @@ pub fn has_cast<S: Alter>(
 {
     shows_row(
         tx,
-        "SELECT film FROM film_actor WHERE film = ?1 AND actor = ?2",
+        SELECT_CAST,
         &[film.get().to_sql(), actor.get().to_sql()],
     )
 }

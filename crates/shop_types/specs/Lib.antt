@@ -4,3 +4,4 @@ pub mod Replies
 pub mod Lines
 pub mod StockFiles
 pub mod Verdicts
+pub mod Decisions

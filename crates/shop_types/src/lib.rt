@@ -2,6 +2,7 @@
 #![tactic(auto)]
 
 mod catalogue;
+mod change;
 mod command;
 mod film;
 mod found;
@@ -17,6 +18,7 @@ mod stock_file;
 mod words;
 
 pub use catalogue::{Actor, Branch, City, Staff};
+pub use change::Change;
 pub use command::{Act, Command};
 pub use film::{Features, Film, Minutes, Period, Rating};
 pub use found::{KeptFound, StaffFound};

@@ -2,7 +2,7 @@ ghost use Rattle.std.specs.Prelude.{◌≡◌};
 ghost use Rattle.sql_rows.specs.Fault.{fault_of};
 
 use sqlite::{Error, ErrorCode};
-use std::alloc::AllocError;
+use std::alloc::{AllocError, AllocFailed};
 
 /// Why a call of the store did nothing that counts.
 #[derive(Clone, Copy, Debug, Drop)]
@@ -33,6 +33,17 @@ impl From<AllocError> for StoreFault {
     ghost from_gives = { λ _ e. e ≡ Memory };
 
     fn from(_: AllocError) -> StoreFault {
+        StoreFault::Memory
+    }
+}
+
+impl<T: Drop> From<AllocFailed<T>> for StoreFault {
+    ghost use Rattle.std.specs.Prelude.{◌≡◌};
+    ghost use Rattle.sql_rows.specs.declared.fault.StoreFault.TheVariants.{Memory};
+
+    ghost from_gives = { λ _ e. e ≡ Memory };
+
+    fn from(_: AllocFailed<T>) -> StoreFault {
         StoreFault::Memory
     }
 }

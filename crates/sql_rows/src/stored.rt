@@ -38,9 +38,7 @@ pub fn read_all<T: Stored>(alloc: Global, rows: &[Row]) -> Result<Vec<T>, StoreF
 {
     let mut all = Vec::new(alloc);
     for row in rows {
-        if all.push(T::read(row)?).is_err() {
-            return Err(StoreFault::Memory);
-        }
+        all.push(T::read(row)?)?;
     }
     Ok(all)
 }

@@ -1,6 +1,7 @@
 //! The list of all actors, each with the films by category: neighbouring rows of one join belong to one actor, and in them to one category.
 
-ghost use Rattle.std.specs.Prelude.{◌≡◌, List, [], Some, None, IfOk, map, option_map, string_bytes};
+ghost use Rattle.std.specs.Prelude.{◌≡◌, List, [], ◌∷◌, ◌++◌, Option, Some, None, IfOk, OnOk, map, option_map, string_bytes};
+ghost use Rattle.serde_json.specs.Data.{Data};
 ghost use Rattle.sqlite.specs.Held.{state};
 ghost use Rattle.sqlite.specs.State.{HasCleanDisk};
 ghost use Rattle.sql_rows.specs.Calls.{StaysSame};
@@ -10,15 +11,231 @@ ghost use Rattle.shop_model.specs.Answers.{shown_text};
 ghost use Rattle.shop_model.specs.Views.{ActorRow as ModelActor, actor_info};
 ghost use Rattle.shop_schema.specs.Shop.{Holds};
 ghost use Rattle.shop_schema.specs.Held.{IsHeld};
-ghost use Rattle.reply_bodies.specs.Films.{actor_data};
+ghost use Rattle.reply_bodies.specs.Films.{seen_actor, actor_data};
 ghost use Rattle.reply_bodies.specs.Page.{HasValues};
-ghost use Rattle.branch_looks.specs.Actors.{seen_part, closed};
+ghost use Rattle.view_texts.specs.Actors.{ActorLine, shown_actor, told_film, take_film, take_any, every_group, seen_group, seen_open, seen_groups, seen_told, actor_alone, whole, seen_part, take_line, HasActors, closed};
 
-use branch_looks::{ActorPage, add_actor};
-use reply_bodies::ListPage;
-use sql_rows::{StoreFault, each_row};
-use sqlite::{Alter, Connection};
+use crate::people::person_name_at;
+use reply_bodies::{ActorRow, FilmGroup, ListPage, PersonName, actor_row};
+use shop_schema::{row_number_at, text_at};
+use shop_values::{ActorNo, CategoryNo, T45, T128};
+use sql_rows::{StoreFault, TakesRows, each_row, number_or_null_at};
+use sqlite::{Alter, Connection, Row};
 use std::alloc::{AllocError, Global};
+
+/// A film of an actor, by its category and title.
+#[derive(Drop)]
+pub(crate) struct CategoryFilm {
+    number: CategoryNo,
+    category: T45,
+    title: T128,
+}
+
+/// The films of a category that more rows may belong to.
+#[derive(Drop)]
+pub(crate) struct OpenGroup {
+    number: CategoryNo,
+    films: FilmGroup,
+}
+
+/// The films of an actor so far, by category.
+#[derive(Drop)]
+pub(crate) struct FilmGroups {
+    complete: Vec<FilmGroup>,
+    last: Option<OpenGroup>,
+}
+
+/// An actor with the films so far.
+#[derive(Drop)]
+pub(crate) struct StartedActor {
+    number: ActorNo,
+    name: PersonName,
+    groups: FilmGroups,
+}
+
+/// The film of the row, or none where it has none.
+fn film_at(row: &Row) -> Result<Option<CategoryFilm>, StoreFault>
+    ensures { IfOk result (λ film. (line : ActorLine) → row.now ≡ shown_actor line → option_map seen_told film ≡ option_map told_film line.1) }
+{
+    if number_or_null_at(row, 3)?.is_none() {
+        return Ok(None);
+    }
+    Ok(Some(CategoryFilm {
+        number: row_number_at(row, 3)?,
+        category: text_at(row, 4)?,
+        title: text_at(row, 5)?,
+    }))
+}
+
+/// The actor of the row, without the row's film.
+fn actor_at(alloc: Global, row: &Row) -> Result<StartedActor, StoreFault>
+    ensures { IfOk result (λ it. (line : ActorLine) → row.now ≡ shown_actor line → seen_part it ≡ (actor_alone line.0, ([], None))) }
+{
+    Ok(StartedActor {
+        number: row_number_at(row, 0)?,
+        name: person_name_at(row, 1, 2)?,
+        groups: FilmGroups {
+            complete: Vec::new(alloc),
+            last: None,
+        },
+    })
+}
+
+/// A category with its first film.
+fn opened(alloc: Global, film: CategoryFilm) -> Result<OpenGroup, AllocError>
+    ensures { IfOk result (λ it. seen_open it ≡ (film.number, (film.category, film.title ∷ []))) }
+{
+    let CategoryFilm {
+        number,
+        category,
+        title,
+    } = film;
+    let mut titles = Vec::new(alloc);
+    titles.push(title)?;
+    Ok(OpenGroup {
+        number,
+        films: FilmGroup { category, titles },
+    })
+}
+
+/// The category with one film more.
+fn with_title(group: OpenGroup, title: T128) -> Result<OpenGroup, AllocError>
+    ensures { IfOk result (λ it. seen_open it ≡ (group.number, (group.films.category, group.films.titles.items ++ title ∷ []))) }
+{
+    let mut group = group;
+    group.films.titles.push(title)?;
+    Ok(group)
+}
+
+/// The films with one more. It begins a category of its own unless the one before is of the same.
+fn with_film(
+    alloc: Global,
+    groups: FilmGroups,
+    film: CategoryFilm,
+) -> Result<FilmGroups, AllocError>
+    ensures { IfOk result (λ it. seen_groups it ≡ take_film (seen_groups groups) (seen_told film)) }
+{
+    let FilmGroups { complete, last } = groups;
+    let Some(group) = last else {
+        return Ok(FilmGroups {
+            complete,
+            last: Some(opened(alloc, film)?),
+        });
+    };
+    if film.number == group.number {
+        return Ok(FilmGroups {
+            complete,
+            last: Some(with_title(group, film.title)?),
+        });
+    }
+    let mut complete = complete;
+    complete.push(group.films)?;
+    Ok(FilmGroups {
+        complete,
+        last: Some(opened(alloc, film)?),
+    })
+}
+
+/// The actor with the row's film.
+fn with_row(alloc: Global, actor: StartedActor, row: &Row) -> Result<StartedActor, StoreFault>
+    ensures { IfOk result (λ it. (line : ActorLine) → row.now ≡ shown_actor line
+        → seen_part it ≡ ((seen_part actor).0, take_any (seen_part actor).1 (option_map told_film line.1))) }
+{
+    let StartedActor {
+        number,
+        name,
+        groups,
+    } = actor;
+    match film_at(row)? {
+        Some(film) => Ok(StartedActor {
+            number,
+            name,
+            groups: with_film(alloc, groups, film)?,
+        }),
+        None => Ok(StartedActor {
+            number,
+            name,
+            groups,
+        }),
+    }
+}
+
+/// The films of all categories.
+fn all_groups(groups: FilmGroups) -> Result<Vec<FilmGroup>, AllocError>
+    ensures { IfOk result (λ all. map seen_group all.items ≡ every_group (seen_groups groups)) }
+{
+    let FilmGroups { mut complete, last } = groups;
+    if let Some(group) = last {
+        complete.push(group.films)?;
+    }
+    Ok(complete)
+}
+
+/// The actor, of whom no more rows come.
+fn whole_actor(actor: StartedActor) -> Result<ActorRow, AllocError>
+    ensures { IfOk result (λ row. seen_actor row ≡ whole (seen_part actor)) }
+{
+    let StartedActor {
+        number,
+        name,
+        groups,
+    } = actor;
+    Ok(ActorRow {
+        number,
+        name,
+        groups: all_groups(groups)?,
+    })
+}
+
+/// Puts the actor last.
+fn add_actor(alloc: Global, actor: StartedActor, page: &mut ListPage) -> Result<(), AllocError>
+    ensures { OnOk result ((values : List Data) → HasValues page.old values
+        → HasValues page.new (values ++ actor_data (whole (seen_part actor)) ∷ [])) }
+{
+    let row = whole_actor(actor)?;
+    let value = actor_row(alloc, &row)?;
+    page.add(&value)
+}
+
+/// The actor of the row with the row's film. The actor of the rows before, if it is another one, goes on the page.
+fn next_actor(
+    alloc: Global,
+    actor: Option<StartedActor>,
+    row: &Row,
+    page: &mut ListPage,
+) -> Result<StartedActor, StoreFault>
+    ensures { IfOk result (λ it. (line : ActorLine) (actors : List ModelActor) → row.now ≡ shown_actor line
+        → HasValues page.old (map actor_data actors) → HasValues page.new (map actor_data (take_line (actors, option_map seen_part actor) line).0)
+        × (Some (seen_part it) ≡ (take_line (actors, option_map seen_part actor) line).1)) }
+{
+    let Some(actor) = actor else {
+        return with_row(alloc, actor_at(alloc, row)?, row);
+    };
+    if row_number_at(row, 0)? == actor.number {
+        with_row(alloc, actor, row)
+    } else {
+        add_actor(alloc, actor, page)?;
+        with_row(alloc, actor_at(alloc, row)?, row)
+    }
+}
+
+/// The list of actors, so far, and the actor that isn't on it yet.
+#[derive(Drop)]
+pub(crate) struct ActorPage {
+    page: ListPage,
+    alloc: Global,
+    actor: Option<StartedActor>,
+}
+
+impl TakesRows for ActorPage {
+    ghost took = { HasActors };
+
+    fn take(&mut self, row: &Row) -> Result<(), StoreFault> {
+        let actor = self.actor.take();
+        self.actor = Some(next_actor(self.alloc, actor, row, &mut self.page)?);
+        Ok(())
+    }
+}
 
 /// The text of the list with the last actor.
 fn finish(taker: ActorPage) -> Result<String, AllocError>
@@ -41,7 +258,7 @@ fn finish(taker: ActorPage) -> Result<String, AllocError>
 
 /// All actors, those without a film too, each with the films by category, as the text of a list. The database stays as it was, unless the store fails, which
 /// commits nothing.
-pub fn actor_info<S: Alter>(conn: &mut Connection<S>, alloc: Global) -> Result<String, StoreFault>
+pub fn actor_info<S: Alter>(alloc: Global, conn: &mut Connection<S>) -> Result<String, StoreFault>
     ensures text { HasCleanDisk (state S.Store conn.new) → IfOk result (λ s. (books : Books) → Holds (state S.Store conn.old) books → IsHeld books
         → string_bytes s ≡ shown_text (ActorsListed (actor_info books.catalogue))) }
     ensures same { StaysSame S.Store conn.old conn.new result }

@@ -12,9 +12,11 @@ ghost use Rattle.shop_schema.specs.Shop.{Holds};
 ghost use Rattle.shop_schema.specs.Held.{IsHeld};
 
 use crate::actors::actor_info;
+use crate::categories::sales_by_film_category;
+use crate::customers::customer_list;
+use crate::films::film_list;
 use crate::staff::staff_list;
 use crate::stores::sales_by_store;
-use branch_looks::{customer_list, film_list, sales_by_film_category};
 use shop_types::View;
 use shop_values::BranchNo;
 use sql_rows::StoreFault;
@@ -23,8 +25,8 @@ use std::alloc::Global;
 
 /// The view as the branch sees it, as the text of a list. The database stays as it was, unless the store fails, which commits nothing.
 pub fn view_text<S: Alter>(
-    conn: &mut Connection<S>,
     alloc: Global,
+    conn: &mut Connection<S>,
     branch: BranchNo,
     view: View,
 ) -> Result<String, StoreFault>
@@ -33,11 +35,11 @@ pub fn view_text<S: Alter>(
     ensures same { StaysSame S.Store conn.old conn.new result }
 {
     match view {
-        View::CustomerList => customer_list(conn, alloc, branch),
-        View::StaffList => staff_list(conn, alloc, branch),
-        View::FilmList => film_list(conn, alloc),
-        View::ActorInfo => actor_info(conn, alloc),
-        View::SalesByStore => sales_by_store(conn, alloc, branch),
-        View::SalesByFilmCategory => sales_by_film_category(conn, alloc, branch),
+        View::CustomerList => customer_list(alloc, conn, branch),
+        View::StaffList => staff_list(alloc, conn, branch),
+        View::FilmList => film_list(alloc, conn),
+        View::ActorInfo => actor_info(alloc, conn),
+        View::SalesByStore => sales_by_store(alloc, conn, branch),
+        View::SalesByFilmCategory => sales_by_film_category(alloc, conn, branch),
     }
 }

@@ -1,5 +1,5 @@
 use Rattle.std.proofs.Common.{◌≡◌, take}
-use Rattle.branch_core.specs.Agreed.{copies_of}
+use Rattle.branch_core.specs.StockLists.{copies_of}
 use Rattle.branch_core.proofs.stock.copies_in.Given as goal
 
 abbrev pub invariant-loop-row : goal.invariant-loop-row

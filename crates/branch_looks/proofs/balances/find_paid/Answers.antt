@@ -4,7 +4,7 @@ use Rattle.sqlite.specs.Held.{state}
 use Rattle.sqlite_keyed.proofs.ListLemmas.{map-map}
 use Rattle.shop_model.specs.Values.{Payment}
 use Rattle.shop_types.specs.Seen.{seen_payment}
-use Rattle.shop_ledger.specs.declared.payments.PaymentRow.{PaymentRow}
+use Rattle.shop_store.specs.declared.payments.PaymentRow.{PaymentRow}
 use Rattle.balance_rule.specs.declared.rows.Paid.{Paid}
 use Rattle.balance_rule.specs.Balance.{paid_of}
 use Rattle.shop_schema.proofs.Readings.{reads_as}
@@ -23,7 +23,7 @@ loop-row-preserved g c =
     let it = c.row-item.result in
     let more : map paid (take (i + 1) rows) ≡ map paid (take i rows) ++ paid it ∷ [] =
     ap (map paid) (take_more rows i it c.loop-row-test.true ∙ ap (λ (x : PaymentRow). take i rows ++ x ∷ []) (sym c.row-item.is)) ∙ map-append paid (take i rows) (it ∷ []) in
-    c.in-Ok.ensures.items ∙ ap (λ (p : Paid). c.loop-row.payments.items ++ p ∷ []) c.paid_by.ensures ∙ ap (λ (rs : List Paid). rs ++ paid it ∷ []) c.loop-row.invariant ∙ sym more
+    c.in_ok-push.ensures.items ∙ ap (λ (p : Paid). c.loop-row.payments.items ++ p ∷ []) c.paid_by.ensures ∙ ap (λ (rs : List Paid). rs ++ paid it ∷ []) c.loop-row.invariant ∙ sym more
 
 pub returns-clause-found : goal.returns-clause-found
 returns-clause-found g c = λ clean.

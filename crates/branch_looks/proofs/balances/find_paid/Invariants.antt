@@ -1,6 +1,6 @@
 use Rattle.std.proofs.Common.{◌≡◌, map, take}
 use Rattle.shop_types.specs.Seen.{seen_payment}
-use Rattle.shop_ledger.specs.declared.payments.PaymentRow.{PaymentRow}
+use Rattle.shop_store.specs.declared.payments.PaymentRow.{PaymentRow}
 use Rattle.balance_rule.specs.Balance.{paid_of}
 use Rattle.branch_looks.proofs.balances.find_paid.Given as goal
 

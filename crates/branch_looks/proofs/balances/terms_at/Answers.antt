@@ -4,7 +4,7 @@ use Rattle.sqlite.specs.Held.{state}
 use Rattle.sqlite.specs.State.{HasCleanDisk}
 use Rattle.sql_rows.proofs.Stays.{within_as, within_err, within_of, within_then}
 use Rattle.shop_types.specs.Seen.{seen_rental}
-use Rattle.shop_store.specs.declared.reads.FilmTerms.{FilmTerms}
+use Rattle.shop_store.specs.declared.films.FilmTerms.{FilmTerms}
 use Rattle.shop_schema.proofs.Readings.{reads_then, reads_as}
 use Rattle.branch_looks.proofs.TermLemmas.{priced, terms_found, terms_missing}
 use Rattle.branch_looks.proofs.balances.terms_at.Goals as goal

@@ -1,4 +1,4 @@
-use Rattle.std.proofs.Common.{◌≡◌, ◌∙◌, ◌++◌, ◌∷◌, [], refl, ap, arith, map, List}
+use Rattle.std.proofs.Common.{◌≡◌, ◌∙◌, ◌++◌, ◌∷◌, [], ap, arith, map, List}
 use Rattle.std.proofs.lemmas.List.{take_all}
 use Rattle.sqlite.specs.Held.{state}
 use Rattle.sqlite.specs.State.{HasCleanDisk}
@@ -14,11 +14,11 @@ pub loop-row-preserved : goal.loop-row-preserved
 loop-row-preserved g c =
     let s0 = state g.S.Store c.args.tx.now.conn.now in
     let s1 = state g.S.Store c.loop-row.tx.conn.now in
-    let s2 = state g.S.Store c.film_at.new.tx.conn.now in
+    let s2 = state g.S.Store c.film_withdrawn.new.tx.conn.now in
     let rows = c.args.rows.now in
     let inv = c.loop-row.invariant in
     let told = c.in_ok-withdrawn.ensures in
-    let pushed : c.push.new.self.items ≡ c.loop-row.found.items ++ told_row c.row-item.result c.in_ok-withdrawn.withdrawn ∷ [] = c.in-Ok.ensures.items ∙ ap (λ (r : StockFound). c.loop-row.found.items ++ r ∷ []) c.told_row.ensures in (
+    let pushed : c.push.new.self.items ≡ c.loop-row.found.items ++ told_row c.row-item.result c.in_ok-withdrawn.withdrawn ∷ [] = c.in_ok-push.ensures.items ∙ ap (λ (r : StockFound). c.loop-row.found.items ++ r ∷ []) c.told_row.ensures in (
       within_then inv.0 (within_as (within_of told.inside)),
       (λ clean.
           let before : HasCleanDisk s1 = omega (arith, clean, told.inside.survives.clean) in
@@ -33,10 +33,10 @@ returns-clause-found g c = λ clean.
     (λ books held is. is ∙ ap (λ (rs : List StockRow). map (found_row books.catalogue) rs) (take_all c.loop-row.row-index c.args.rows.now c.loop-row-test.false)) (c.loop-row.invariant.1 clean)
 
 pub returns-in_err-withdrawn-clause-inside : goal.returns-in_err-withdrawn-clause-inside
-returns-in_err-withdrawn-clause-inside g c = within_err (within_then c.loop-row.invariant.0 (within_of c.film_at.ensures.inside)) c.from_residual.ensures.0
+returns-in_err-withdrawn-clause-inside g c = within_err (within_then c.loop-row.invariant.0 (within_of c.film_withdrawn.ensures.inside)) c.from_residual.ensures.0
 
-pub returns-in_default-clause-inside : goal.returns-in_default-clause-inside
-returns-in_default-clause-inside g c = within_err (within_then c.loop-row.invariant.0 (within_of c.in_ok-withdrawn.ensures.inside)) refl
+pub returns-in_err-push-clause-inside : goal.returns-in_err-push-clause-inside
+returns-in_err-push-clause-inside g c = within_err (within_then c.loop-row.invariant.0 (within_of c.in_ok-withdrawn.ensures.inside)) c.from_residual-in_err-push.ensures.0
 
 pub returns-clause-inside : goal.returns-clause-inside
 returns-clause-inside g c = within_as c.loop-row.invariant.0

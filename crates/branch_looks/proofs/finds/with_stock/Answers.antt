@@ -1,4 +1,4 @@
-use Rattle.std.proofs.Common.{◌∙◌, ◌++◌, ◌∷◌, [], refl, sym, ap, arith, map, take, List, ℕ, Bool}
+use Rattle.std.proofs.Common.{◌∙◌, ◌++◌, ◌∷◌, [], sym, ap, arith, map, take, List, ℕ, Bool}
 use Rattle.std.proofs.lemmas.List.{take_all, map_push, map_more}
 use Rattle.sqlite.specs.Held.{state}
 use Rattle.sqlite.specs.State.{HasCleanDisk}
@@ -26,7 +26,7 @@ loop-row-preserved g c =
       (λ clean.
           let clean1 : HasCleanDisk s1 = omega (arith, clean, told.inside.survives.clean) in
           reads_as s0 s2 _ _ (λ books held is.
-          ap (map seen_film_copy) c.in-Ok.ensures.items ∙ map_push seen_film_copy before copy
+          ap (map seen_film_copy) c.in_ok-push.ensures.items ∙ map_push seen_film_copy before copy
           ∙ (λ j. is.0 j ++ is.1 j ∷ [])
           ∙ ap (λ (r : CopyRow). map (shown books) (take i rows) ++ shown books r ∷ []) c.row-item.is
           ∙ sym (map_more (shown books) rows i c.row-item.result c.loop-row-test.true))
@@ -41,8 +41,8 @@ returns-clause-found g c = λ clean.
 pub returns-in_err-copy-clause-inside : goal.returns-in_err-copy-clause-inside
 returns-in_err-copy-clause-inside g c = within_err (within_then c.loop-row.invariant.0 c.with_its_stock.ensures.inside) c.from_residual.ensures.0
 
-pub returns-in_default-clause-inside : goal.returns-in_default-clause-inside
-returns-in_default-clause-inside g c = within_err (within_then c.loop-row.invariant.0 c.in_ok-copy.ensures.inside) refl
+pub returns-in_err-push-clause-inside : goal.returns-in_err-push-clause-inside
+returns-in_err-push-clause-inside g c = within_err (within_then c.loop-row.invariant.0 c.in_ok-copy.ensures.inside) c.from_residual-in_err-push.ensures.0
 
 pub returns-clause-inside : goal.returns-clause-inside
 returns-clause-inside g c = within_as c.loop-row.invariant.0

@@ -8,16 +8,16 @@ use Rattle.shop_types.specs.Seen.{seen_customer}
 use Rattle.shop_store.specs.declared.customers.CustomerRow.{CustomerRow}
 use Rattle.branch_looks.proofs.looks.look_customer.Goals as goal
 
-pub returns-in-Ok-clause-shown : goal.returns-in-Ok-clause-shown
-returns-in-Ok-clause-shown g c = λ clean books holds held.
+pub returns-in_ok-customer_text-in-Some-clause-shown : goal.returns-in_ok-customer_text-in-Some-clause-shown
+returns-in_ok-customer_text-in-Some-clause-shown g c = λ clean books holds held.
     let found = c.in_ok-row.ensures.row clean books holds held in
     let shown = ap (λ (o : Option CustomerRow). option_to_list (option_map (λ row. seen_customer row.customer) o)) (sym c.in-Some.is) ∙ found.1 in (
       found.0,
-      c.accepted.ensures ∙ ap accepted_answer c.in-Ok.ensures ∙ ap (λ (rows : List Customer). answer_of (given NoCustomer (CustomerIs c.args.number) rows)) shown,
+      c.accepted.ensures ∙ ap accepted_answer c.in_ok-customer_text-in-Some.ensures ∙ ap (λ (rows : List Customer). answer_of (given NoCustomer (CustomerIs c.args.number) rows)) shown,
     )
 
-pub returns-clause-shown : goal.returns-clause-shown
-returns-clause-shown g c = λ clean books holds held.
+pub returns-in-None-clause-shown : goal.returns-in-None-clause-shown
+returns-in-None-clause-shown g c = λ clean books holds held.
     let found = c.in_ok-row.ensures.row clean books holds held in
     let shown = ap (λ (o : Option CustomerRow). option_to_list (option_map (λ row. seen_customer row.customer) o)) (sym c.in-None.is) ∙ found.1 in (
       found.0,

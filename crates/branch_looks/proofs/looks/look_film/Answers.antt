@@ -8,16 +8,16 @@ use Rattle.shop_store.specs.SharedSeen.{seen_film_row}
 use Rattle.shop_store.specs.declared.films.FilmRow.{FilmRow}
 use Rattle.branch_looks.proofs.looks.look_film.Goals as goal
 
-pub returns-in-Ok-clause-shown : goal.returns-in-Ok-clause-shown
-returns-in-Ok-clause-shown g c = λ clean books holds held.
+pub returns-in_ok-film_text-in-Some-clause-shown : goal.returns-in_ok-film_text-in-Some-clause-shown
+returns-in_ok-film_text-in-Some-clause-shown g c = λ clean books holds held.
     let found = c.in_ok-row.ensures.found clean books holds held in
     let shown = ap (λ (o : Option FilmRow). option_to_list (option_map seen_film_row o)) (sym c.in-Some.is) ∙ found.1 in (
       found.0,
-      c.accepted.ensures ∙ ap accepted_answer c.in-Ok.ensures ∙ ap (λ (rows : List Film). answer_of (given NoFilm (FilmIs c.args.number) rows)) shown,
+      c.accepted.ensures ∙ ap accepted_answer c.in_ok-film_text-in-Some.ensures ∙ ap (λ (rows : List Film). answer_of (given NoFilm (FilmIs c.args.number) rows)) shown,
     )
 
-pub returns-clause-shown : goal.returns-clause-shown
-returns-clause-shown g c = λ clean books holds held.
+pub returns-in-None-clause-shown : goal.returns-in-None-clause-shown
+returns-in-None-clause-shown g c = λ clean books holds held.
     let found = c.in_ok-row.ensures.found clean books holds held in
     let shown = ap (λ (o : Option FilmRow). option_to_list (option_map seen_film_row o)) (sym c.in-None.is) ∙ found.1 in (
       found.0,

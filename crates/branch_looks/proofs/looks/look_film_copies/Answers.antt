@@ -28,9 +28,9 @@ returns-in-Ok-clause-shown g c = λ clean books holds held.
     let b = c.args.branch in
     let film = c.args.film in
     let shop = shop_of b books in
-    let s1 = state g.S.Store c.film_at.new.tx.conn.now in
+    let s1 = state g.S.Store c.film_withdrawn.new.tx.conn.now in
     let before : HasCleanDisk s1 = omega (arith, clean, c.in_ok-copies.ensures.inside.survives.clean) in
-    let found = c.in_ok-film_at.ensures.found before books holds held in
+    let found = c.in_ok-film_withdrawn.ensures.found before books holds held in
     let copies = c.in_ok-copies.ensures.found clean books found.0 held in
     let are : AreOfFilm film shop c.as_slice.result.now = subst (AreOfFilm film shop) (sym c.as_slice.ensures.value) copies.1 in (
       copies.0,
@@ -40,16 +40,16 @@ returns-in-Ok-clause-shown g c = λ clean books holds held.
 pub returns-in_default-clause-shown : goal.returns-in_default-clause-shown
 returns-in_default-clause-shown g c = λ clean books holds held.
     let b = c.args.branch in
-    let found = c.in_ok-film_at.ensures.found clean books holds held in (
+    let found = c.in_ok-film_withdrawn.ensures.found clean books holds held in (
       found.0,
       c.refused.ensures ∙ ap answer_of (sym (no_film c.args.is_in b c.args.film books.catalogue (shop_of b books) (sym c.in_default.is ∙ found.1))),
     )
 
 pub returns-in_err-copies-clause-inside : goal.returns-in_err-copies-clause-inside
-returns-in_err-copies-clause-inside g c = within_err (within_then (within_of c.in_ok-film_at.ensures.inside) c.find_of_film.ensures.inside) c.from_residual-in_err-copies.ensures.0
+returns-in_err-copies-clause-inside g c = within_err (within_then (within_of c.in_ok-film_withdrawn.ensures.inside) c.find_of_film.ensures.inside) c.from_residual-in_err-copies.ensures.0
 
 pub returns-clause-inside : goal.returns-clause-inside
-returns-clause-inside g c = within_err (within_then (within_of c.in_ok-film_at.ensures.inside) c.in_ok-copies.ensures.inside) refl
+returns-clause-inside g c = within_err (within_then (within_of c.in_ok-film_withdrawn.ensures.inside) c.in_ok-copies.ensures.inside) refl
 
 pub returns-in-Ok-clause-inside : goal.returns-in-Ok-clause-inside
-returns-in-Ok-clause-inside g c = within_as (within_then (within_of c.in_ok-film_at.ensures.inside) c.in_ok-copies.ensures.inside)
+returns-in-Ok-clause-inside g c = within_as (within_then (within_of c.in_ok-film_withdrawn.ensures.inside) c.in_ok-copies.ensures.inside)

@@ -1,4 +1,4 @@
-use Rattle.std.proofs.Common.{◌∙◌, refl, sym, ap, arith, ℕ, [], ◌∷◌, codes, Option}
+use Rattle.std.proofs.Common.{◌∙◌, sym, ap, arith, ℕ, [], ◌∷◌, codes, Option}
 use Rattle.std.specs.Option.{option_to_list}
 use Rattle.sqlite.specs.Held.{state}
 use Rattle.sqlite.specs.State.{HasCleanDisk}
@@ -16,8 +16,8 @@ use Rattle.branch_looks.proofs.looks.look_holder.Goals as goal
 abbrev holder : Text → Text
 holder customer = object ((codes "customer", customer) ∷ [])
 
-pub returns-in-Ok-clause-shown : goal.returns-in-Ok-clause-shown
-returns-in-Ok-clause-shown g c = λ clean books holds held.
+pub returns-clause-shown : goal.returns-clause-shown
+returns-clause-shown g c = λ clean books holds held.
     let copy = c.args.copy in
     let shop = shop_of c.args.branch books in
     let s1 = state g.S.Store c.find_here.new.tx.conn.now in
@@ -25,7 +25,7 @@ returns-in-Ok-clause-shown g c = λ clean books holds held.
     let found = c.in_ok-find_here.ensures.found before books holds held in
     let has = c.in_ok-holder.ensures.found clean books found.0 held in (
       has.0,
-      c.accepted.ensures ∙ ap accepted_answer c.in-Ok.ensures ∙ ap (λ (o : Option ℕ). accepted_answer (holder (holder_text (option_to_list o)))) has.1
+      c.accepted.ensures ∙ ap accepted_answer c.in_ok-holder_text.ensures ∙ ap (λ (o : Option ℕ). accepted_answer (holder (holder_text (option_to_list o)))) has.1
           ∙ ap (λ (text : Text). accepted_answer (holder text)) (first_holder (held_by copy shop.rentals))
           ∙ ap answer_of (sym (given_some NoCopy (HolderIs (held_by copy shop.rentals)) is_here _ _ (sym c.in-Some.is ∙ found.1))),
     )
@@ -40,8 +40,8 @@ returns-in_default-clause-shown g c = λ clean books holds held.
 pub returns-in_err-holder-clause-inside : goal.returns-in_err-holder-clause-inside
 returns-in_err-holder-clause-inside g c = within_err (within_then c.in_ok-find_here.ensures.inside c.find_holder.ensures.inside) c.from_residual-in_err-holder.ensures.0
 
-pub returns-in-Err-clause-inside : goal.returns-in-Err-clause-inside
-returns-in-Err-clause-inside g c = within_err (within_then c.in_ok-find_here.ensures.inside c.in_ok-holder.ensures.inside) refl
+pub returns-in_err-holder_text-clause-inside : goal.returns-in_err-holder_text-clause-inside
+returns-in_err-holder_text-clause-inside g c = within_err (within_then c.in_ok-find_here.ensures.inside c.in_ok-holder.ensures.inside) c.from_residual-in_err-holder_text.ensures.0
 
-pub returns-in-Ok-clause-inside : goal.returns-in-Ok-clause-inside
-returns-in-Ok-clause-inside g c = within_as (within_then c.in_ok-find_here.ensures.inside c.in_ok-holder.ensures.inside)
+pub returns-clause-inside : goal.returns-clause-inside
+returns-clause-inside g c = within_as (within_then c.in_ok-find_here.ensures.inside c.in_ok-holder.ensures.inside)

@@ -1,4 +1,4 @@
-use Rattle.std.proofs.Common.{◌≡◌, ◌∙◌, refl, sym, ap, arith, Bool}
+use Rattle.std.proofs.Common.{◌≡◌, ◌∙◌, sym, ap, arith, Bool}
 use Rattle.sqlite.specs.Held.{state}
 use Rattle.sqlite.specs.State.{HasCleanDisk}
 use Rattle.sql_rows.proofs.Stays.{within_as, within_err, within_of, within_then}
@@ -10,8 +10,8 @@ use Rattle.shop_model.specs.Books.{shop_of}
 use Rattle.branch_looks.proofs.Shows.{given_none, given_some, stock_of_out}
 use Rattle.branch_looks.proofs.looks.look_in_stock.Goals as goal
 
-pub returns-in-Ok-clause-shown : goal.returns-in-Ok-clause-shown
-returns-in-Ok-clause-shown g c = λ clean books holds held.
+pub returns-clause-shown : goal.returns-clause-shown
+returns-clause-shown g c = λ clean books holds held.
     let copy = c.args.copy in
     let shop = shop_of c.args.branch books in
     let s1 = state g.S.Store c.find_here.new.tx.conn.now in
@@ -21,7 +21,7 @@ returns-in-Ok-clause-shown g c = λ clean books holds held.
     let is_in : c.is_none.result ≡ in_stock copy shop.rentals = stock_of_out copy shop.rentals c.in_ok-out.out _ c.is_none.ensures out.1 in
     let shows : Bool → Reply = λ b. Shows (InStockIs b) in (
       out.0,
-      c.accepted.ensures ∙ ap accepted_answer c.in-Ok.ensures ∙ ap (λ (b : Bool). answer_of (shows b)) is_in
+      c.accepted.ensures ∙ ap accepted_answer c.in_ok-in_stock_text.ensures ∙ ap (λ (b : Bool). answer_of (shows b)) is_in
           ∙ ap answer_of (sym (given_some NoCopy (InStockIs (in_stock copy shop.rentals)) is_here _ _ (sym c.in-Some.is ∙ found.1))),
     )
 
@@ -35,8 +35,8 @@ returns-in_default-clause-shown g c = λ clean books holds held.
 pub returns-in_err-out-clause-inside : goal.returns-in_err-out-clause-inside
 returns-in_err-out-clause-inside g c = within_err (within_then c.in_ok-find_here.ensures.inside (within_of c.out_at.ensures.inside)) c.from_residual-in_err-out.ensures.0
 
-pub returns-in-Err-clause-inside : goal.returns-in-Err-clause-inside
-returns-in-Err-clause-inside g c = within_err (within_then c.in_ok-find_here.ensures.inside (within_of c.in_ok-out.ensures.inside)) refl
+pub returns-in_err-in_stock_text-clause-inside : goal.returns-in_err-in_stock_text-clause-inside
+returns-in_err-in_stock_text-clause-inside g c = within_err (within_then c.in_ok-find_here.ensures.inside (within_of c.in_ok-out.ensures.inside)) c.from_residual-in_err-in_stock_text.ensures.0
 
-pub returns-in-Ok-clause-inside : goal.returns-in-Ok-clause-inside
-returns-in-Ok-clause-inside g c = within_as (within_then c.in_ok-find_here.ensures.inside (within_of c.in_ok-out.ensures.inside))
+pub returns-clause-inside : goal.returns-clause-inside
+returns-clause-inside g c = within_as (within_then c.in_ok-find_here.ensures.inside (within_of c.in_ok-out.ensures.inside))

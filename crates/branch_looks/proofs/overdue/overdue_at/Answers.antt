@@ -6,7 +6,7 @@ use Rattle.shop_model.specs.Books.{shop_of}
 use Rattle.shop_model.specs.Stock.{is_overdue}
 use Rattle.shop_model.specs.Views as views
 use Rattle.shop_types.specs.Seen.{seen_rental}
-use Rattle.shop_store.specs.declared.reads.FilmTerms.{FilmTerms}
+use Rattle.shop_store.specs.declared.films.FilmTerms.{FilmTerms}
 use Rattle.shop_store.specs.SharedSeen.{seen_terms}
 use Rattle.shop_schema.proofs.Readings.{reads_then, reads_as}
 use Rattle.branch_looks.proofs.TermLemmas.{film_of_copy, kept_alone, kept_none, overdue_by}

@@ -1,4 +1,4 @@
-use Rattle.std.proofs.Common.{◌∙◌, refl, sym, ap, subst, arith, ℤ}
+use Rattle.std.proofs.Common.{◌∙◌, sym, ap, subst, arith, ℤ}
 use Rattle.sqlite.specs.Held.{state}
 use Rattle.sqlite.specs.State.{HasCleanDisk}
 use Rattle.sql_rows.proofs.Stays.{within_as, within_err, within_then}
@@ -12,8 +12,8 @@ use Rattle.balance_rule.specs.Balance.{AreTermsOf, ArePaidBy}
 use Rattle.branch_looks.proofs.Shows.{given_none, given_some}
 use Rattle.branch_looks.proofs.reports.look_balance.Goals as goal
 
-pub returns-in-Ok-clause-shown : goal.returns-in-Ok-clause-shown
-returns-in-Ok-clause-shown g c = λ clean books holds held.
+pub returns-clause-shown : goal.returns-clause-shown
+returns-clause-shown g c = λ clean books holds held.
     let customer = c.args.customer in
     let shop = shop_of c.args.branch books in
     let s1 = state g.S.Store c.find_active.new.tx.conn.now in
@@ -28,7 +28,7 @@ returns-in-Ok-clause-shown g c = λ clean books holds held.
     let cents = c.in_ok-cents.ensures books.catalogue shop customer are_terms are_paid in
     let shows : ℤ → Reply = λ owed. Shows (BalanceIs owed) in (
       payments.0,
-      c.accepted.ensures ∙ ap accepted_answer c.in-Ok.ensures ∙ ap (λ (owed : ℤ). answer_of (shows owed)) cents
+      c.accepted.ensures ∙ ap accepted_answer c.in_ok-balance_text.ensures ∙ ap (λ (owed : ℤ). answer_of (shows owed)) cents
           ∙ ap answer_of (sym (given_some NoCustomer (BalanceIs (balance books.catalogue shop customer c.args.at)) (λ (it : Customer). it.active) _ _ (sym c.in-Some.is ∙ found.1))),
     )
 
@@ -48,8 +48,8 @@ returns-in_err-payments-clause-inside g c = within_err (within_then c.in_ok-find
 pub returns-in_err-cents-clause-inside : goal.returns-in_err-cents-clause-inside
 returns-in_err-cents-clause-inside g c = within_err (within_then c.in_ok-find_active.ensures.inside (within_then c.in_ok-rentals.ensures.inside c.in_ok-payments.ensures.inside)) c.from_residual-in_err-cents.ensures.0
 
-pub returns-clause-inside : goal.returns-clause-inside
-returns-clause-inside g c = within_err (within_then c.in_ok-find_active.ensures.inside (within_then c.in_ok-rentals.ensures.inside c.in_ok-payments.ensures.inside)) refl
+pub returns-in_err-balance_text-clause-inside : goal.returns-in_err-balance_text-clause-inside
+returns-in_err-balance_text-clause-inside g c = within_err (within_then c.in_ok-find_active.ensures.inside (within_then c.in_ok-rentals.ensures.inside c.in_ok-payments.ensures.inside)) c.from_residual-in_err-balance_text.ensures.0
 
-pub returns-in-Ok-clause-inside : goal.returns-in-Ok-clause-inside
-returns-in-Ok-clause-inside g c = within_as (within_then c.in_ok-find_active.ensures.inside (within_then c.in_ok-rentals.ensures.inside c.in_ok-payments.ensures.inside))
+pub returns-clause-inside : goal.returns-clause-inside
+returns-clause-inside g c = within_as (within_then c.in_ok-find_active.ensures.inside (within_then c.in_ok-rentals.ensures.inside c.in_ok-payments.ensures.inside))

@@ -6,11 +6,11 @@ use Rattle.reply_bodies.specs.declared.overdue_rows.OverdueRow.{OverdueRow}
 use Rattle.reply_bodies.specs.Overdue.{seen_overdue}
 use Rattle.branch_looks.proofs.reports.look_overdue.Goals as goal
 
-pub returns-in-Ok-clause-shown : goal.returns-in-Ok-clause-shown
-returns-in-Ok-clause-shown g c = λ clean books holds held.
+pub returns-clause-shown : goal.returns-clause-shown
+returns-clause-shown g c = λ clean books holds held.
     let found = c.in_ok-rows.ensures.found clean books holds held in (
       found.0,
-      c.accepted.ensures ∙ ap accepted_answer c.in-Ok.ensures
+      c.accepted.ensures ∙ ap accepted_answer c.in_ok-overdue_text.ensures
           ∙ ap (λ (rows : List OverdueRow). accepted_answer (array (map overdue_text (map seen_overdue rows)))) c.as_slice.ensures.value
           ∙ ap (λ (rows : List views.OverdueRow). accepted_answer (array (map overdue_text rows))) found.1,
     )

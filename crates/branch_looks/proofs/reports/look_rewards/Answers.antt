@@ -2,11 +2,11 @@ use Rattle.shop_model.specs.Books.{shop_of}
 use Rattle.branch_looks.proofs.RewardLemmas.{rewards_told}
 use Rattle.branch_looks.proofs.reports.look_rewards.Goals as goal
 
-pub returns-in-Ok-clause-shown : goal.returns-in-Ok-clause-shown
-returns-in-Ok-clause-shown g c = λ clean books holds held.
+pub returns-clause-shown : goal.returns-clause-shown
+returns-clause-shown g c = λ clean books holds held.
     let b = c.args.branch in
     let found = c.in_ok-customers.ensures.found clean books holds held in (
       found.0,
       rewards_told b books.catalogue (shop_of b books) c.args.at c.args.purchases c.args.cents c.in_ok-customers.customers.items c.as_slice.result.now _ _ c.if-purchases-eq0.false c.if-cents-eq0.false
-          c.as_slice.ensures.value found.1 c.in-Ok.ensures c.accepted.ensures,
+          c.as_slice.ensures.value found.1 c.in_ok-rewards_text.ensures c.accepted.ensures,
     )

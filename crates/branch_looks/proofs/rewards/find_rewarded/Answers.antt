@@ -5,7 +5,7 @@ use Rattle.sqlite.specs.State.{HasCleanDisk}
 use Rattle.sql_rows.proofs.Stays.{within_of, within_none, within_as, within_err, within_then}
 use Rattle.shop_model.specs.Calendar.{month_before}
 use Rattle.shop_model.specs.Books.{shop_of}
-use Rattle.shop_ledger.specs.declared.payments.PaymentRow.{PaymentRow}
+use Rattle.shop_store.specs.declared.payments.PaymentRow.{PaymentRow}
 use Rattle.shop_schema.proofs.Readings.{reads_then, reads_as, reads_none}
 use Rattle.branch_looks.specs.Finds.{payments_of}
 use Rattle.branch_looks.proofs.RewardLemmas.{found_are}
@@ -43,8 +43,8 @@ pub returns-in_err-rows-clause-inside : goal.returns-in_err-rows-clause-inside
 returns-in_err-rows-clause-inside g c =
     within_err (within_then (within_of c.in_ok-customers.ensures.inside) (within_of c.payments_between.ensures.inside)) c.from_residual-in_err-rows.ensures.0
 
-pub returns-then-customers-gt1000000-clause-inside : goal.returns-then-customers-gt1000000-clause-inside
-returns-then-customers-gt1000000-clause-inside g c =
+pub returns-then-len-gt1000000-clause-inside : goal.returns-then-len-gt1000000-clause-inside
+returns-then-len-gt1000000-clause-inside g c =
     within_as (within_then (within_of c.in_ok-customers.ensures.inside) (within_of c.in_ok-rows.ensures.inside))
 
 pub returns-clause-inside : goal.returns-clause-inside

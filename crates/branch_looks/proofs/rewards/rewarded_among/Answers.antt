@@ -2,7 +2,7 @@ use Rattle.std.proofs.Common.{◌≡◌, ◌∙◌, ◌+◌, sym, ap, arith, ℕ
 use Rattle.branch_looks.specs.Finds.{payments_of, rewarded_numbers}
 use Rattle.branch_looks.proofs.RewardLemmas.{number_is, rewarded_more, rewarded_same}
 use Rattle.branch_looks.proofs.rewards.rewarded_among.Goals as goal
-use Rattle.branch_looks.proofs.rewards.rewarded_among.Goals.{then-passes_for+in-Ok, else-passes_for}
+use Rattle.branch_looks.proofs.rewards.rewarded_among.Goals.{then-passes_for+in_ok-push, else-passes_for}
 
 pub loop-index-preserved : goal.loop-index-preserved
 loop-index-preserved c =
@@ -13,8 +13,8 @@ loop-index-preserved c =
     let number : customer ≡ i + 1 = number_is i customer c.new.result c.new.ensures c.unwrap-customer.ensures in
     let told = c.passes_for.ensures c.args.month payments c.in_ok-sums.ensures in
     elim c.if-passes_for.branch [
-      | then-passes_for+in-Ok w ↦
-          rw w.numbers-is (w.in-Ok.ensures.items ∙ ap (λ (ns : List ℕ). ns ++ customer ∷ []) before
+      | then-passes_for+in_ok-push w ↦
+          rw w.numbers-is (w.in_ok-push.ensures.items ∙ ap (λ (ns : List ℕ). ns ++ customer ∷ []) before
           ∙ sym (rewarded_more c.args.month c.args.purchases c.args.cents i customer payments number (sym told ∙ w.if-passes_for.true)))
       | else-passes_for w ↦
           rw w.numbers-is (before ∙ sym (rewarded_same c.args.month c.args.purchases c.args.cents i customer payments number (sym told ∙ w.if-passes_for.false)))

@@ -1,7 +1,7 @@
 use Rattle.std.proofs.Common.{rules, ◌≡◌, ◌∙◌, ◌≤◌, ◌+◌, sym, ap, subst, List, [], ◌∷◌, ◌++◌, take}
 use Rattle.shop_model.specs.Values.{Payment}
 use Rattle.shop_types.specs.Seen.{seen_payment}
-use Rattle.shop_ledger.specs.declared.payments.PaymentRow.{PaymentRow}
+use Rattle.shop_store.specs.declared.payments.PaymentRow.{PaymentRow}
 use Rattle.balance_rule.specs.Rewards.{is_on}
 use Rattle.branch_looks.specs.Finds.{AreSummed, payments_of}
 use Rattle.branch_looks.proofs.RewardLemmas.{small_more, sums_more, sums_same, taken}

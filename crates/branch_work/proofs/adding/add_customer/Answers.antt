@@ -1,18 +1,19 @@
-use Rattle.std.proofs.Common.{◌≡◌, ◌≤◌, ◌∙◌, ◌∷◌, [], ℕ, ap, arith, codes, decimal, refl}
+use Rattle.std.proofs.Common.{◌≡◌, ◌≤◌, ◌∙◌, ◌∷◌, ◌++◌, [], ℕ, true, ap, subst, arith, codes, decimal}
 use Rattle.sqlite.specs.Held.{state}
 use Rattle.sqlite.specs.State.{HasCleanDisk}
 use Rattle.shop_model.specs.Json.{object}
 use Rattle.shop_model.specs.Rows.{next}
-use Rattle.shop_types.specs.Seen.{seen_customer}
+use Rattle.shop_model.specs.Values.{Customer}
+use Rattle.shop_types.specs.Seen.{seen_customer, seen_person}
+use Rattle.shop_schema.specs.Shop.{HoldsWith}
 use Rattle.shop_schema.specs.Counts.{counts_of, raise}
 use Rattle.shop_ledger.specs.declared.counts.CountKind.TheVariants as kind
 use Rattle.shop_ledger.proofs.CountsOf.{beside, held_once, told_more}
 use Rattle.branch_work.proofs.Counting.{customer_added}
-use Rattle.sql_rows.proofs.Stays.{within_as, within_err, within_of, within_then}
 use Rattle.branch_work.proofs.adding.add_customer.Goals as goal
 
-pub returns-in-Ok-clause-added : goal.returns-in-Ok-clause-added
-returns-in-Ok-clause-added g c = λ clean books holds held ready.
+pub returns-clause-acted : goal.returns-clause-acted
+returns-clause-acted g c = λ clean rules found books holds held agrees.
     let b = c.args.branch in
     let low : 1 ≤ b = omega arith in
     let s0 = state g.S.Store c.args.tx.now.conn.now in
@@ -23,17 +24,6 @@ returns-in-Ok-clause-added g c = λ clean books holds held ready.
     let taken = c.in_ok-number.ensures.taken clean1 (counts_of books) books (beside s0 books holds) (held_once books held kind.Customers b low) in
     let is : n ≡ next b books.customers = told_more b 0 1 books n low taken.1 in
     let put = c.in_ok-put_customer.ensures.put clean (raise b 0 1 (counts_of books)) books taken.0 tt in
-    (customer_added s2 b books low n (seen_customer c.args.customer) is put, c.in-Ok.ensures ∙ ap (λ (m : ℕ). object ((codes "customer", decimal m) ∷ [])) is)
-
-pub returns-in_err-number-clause-inside : goal.returns-in_err-number-clause-inside
-returns-in_err-number-clause-inside g c = within_err c.next_number.ensures.inside c.from_residual.ensures.0
-
-pub returns-in_err-put_customer-clause-inside : goal.returns-in_err-put_customer-clause-inside
-returns-in_err-put_customer-clause-inside g c =
-    within_err (within_then c.in_ok-number.ensures.inside (within_of c.put_customer.ensures.inside)) c.from_residual-in_err-put_customer.ensures.0
-
-pub returns-in-Ok-clause-inside : goal.returns-in-Ok-clause-inside
-returns-in-Ok-clause-inside g c = within_as (within_then c.in_ok-number.ensures.inside (within_of c.in_ok-put_customer.ensures.inside))
-
-pub returns-clause-inside : goal.returns-clause-inside
-returns-clause-inside g c = within_err (within_then c.in_ok-number.ensures.inside (within_of c.in_ok-put_customer.ensures.inside)) refl
+    let row : Customer = record { person = seen_person c.args.person.now; active = true; created = c.args.command.now.at } in
+    let same : seen_customer c.in_ok-customer.customer ≡ row = ap seen_customer c.in_ok-customer.ensures in
+    (customer_added s2 b books low n row is (subst (λ (it : Customer). HoldsWith (raise b 0 1 (counts_of books)) s2 (record books { customers = books.customers ++ record { branch = b; number = n; it = it } ∷ [] })) same put), c.in_ok-new_customer_text.ensures ∙ ap (λ (m : ℕ). object ((codes "customer", decimal m) ∷ [])) is)

@@ -1,18 +1,16 @@
-use Rattle.std.proofs.Common.{◌≡◌, ◌≤◌, ◌∙◌, ◌∷◌, [], ℕ, ap, arith, codes, decimal, refl}
+use Rattle.std.proofs.Common.{◌≡◌, ◌≤◌, ◌∙◌, ◌∷◌, [], ℕ, ap, arith, codes, decimal}
 use Rattle.sqlite.specs.Held.{state}
 use Rattle.sqlite.specs.State.{HasCleanDisk}
 use Rattle.shop_model.specs.Json.{object}
 use Rattle.shop_model.specs.Rows.{next}
-use Rattle.shop_types.specs.Seen.{seen_payment}
 use Rattle.shop_schema.specs.Counts.{counts_of, raise}
 use Rattle.shop_ledger.specs.declared.counts.CountKind.TheVariants as kind
 use Rattle.shop_ledger.proofs.CountsOf.{beside, held_once, told_more}
 use Rattle.branch_work.proofs.Counting.{payment_added}
-use Rattle.sql_rows.proofs.Stays.{within_as, within_err, within_of, within_then}
 use Rattle.branch_work.proofs.adding.add_payment.Goals as goal
 
-pub returns-in-Ok-clause-added : goal.returns-in-Ok-clause-added
-returns-in-Ok-clause-added g c = λ clean books holds held ready.
+pub returns-clause-acted : goal.returns-clause-acted
+returns-clause-acted g c = λ clean rules found books holds held agrees.
     let b = c.args.branch in
     let low : 1 ≤ b = omega arith in
     let s0 = state g.S.Store c.args.tx.now.conn.now in
@@ -23,17 +21,4 @@ returns-in-Ok-clause-added g c = λ clean books holds held ready.
     let taken = c.in_ok-number.ensures.taken clean1 (counts_of books) books (beside s0 books holds) (held_once books held kind.Payments b low) in
     let is : n ≡ next b books.payments = told_more b 3 1 books n low taken.1 in
     let put = c.in_ok-put_payment.ensures.put clean (raise b 3 1 (counts_of books)) books taken.0 tt in
-    (payment_added s2 b books low n (seen_payment c.args.payment) is put, c.in-Ok.ensures ∙ ap (λ (m : ℕ). object ((codes "payment", decimal m) ∷ [])) is)
-
-pub returns-in_err-number-clause-inside : goal.returns-in_err-number-clause-inside
-returns-in_err-number-clause-inside g c = within_err c.next_number.ensures.inside c.from_residual.ensures.0
-
-pub returns-in_err-put_payment-clause-inside : goal.returns-in_err-put_payment-clause-inside
-returns-in_err-put_payment-clause-inside g c =
-    within_err (within_then c.in_ok-number.ensures.inside (within_of c.put_payment.ensures.inside)) c.from_residual-in_err-put_payment.ensures.0
-
-pub returns-in-Ok-clause-inside : goal.returns-in-Ok-clause-inside
-returns-in-Ok-clause-inside g c = within_as (within_then c.in_ok-number.ensures.inside (within_of c.in_ok-put_payment.ensures.inside))
-
-pub returns-in-Err-clause-inside : goal.returns-in-Err-clause-inside
-returns-in-Err-clause-inside g c = within_err (within_then c.in_ok-number.ensures.inside (within_of c.in_ok-put_payment.ensures.inside)) refl
+    (payment_added s2 b books low n (record { customer = c.args.customer; staff = c.args.command.now.staff; rental = c.args.rental; amount = c.args.amount; paid = c.args.command.now.at }) is put, c.in_ok-payment_text.ensures ∙ ap (λ (m : ℕ). object ((codes "payment", decimal m) ∷ [])) is)

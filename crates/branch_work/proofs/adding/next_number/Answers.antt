@@ -12,17 +12,14 @@ number_some x n is = go (n == 0) is
 
 pub returns-in-Some-clause-taken : goal.returns-in-Some-clause-taken
 returns-in-Some-clause-taken g c = λ clean counts books holds given.
-    let taken = c.in_ok-take_numbers.ensures.taken clean counts books holds given in
-    (taken.0, taken.1 ∙ ap (λ (m : ℕ). m ∷ []) (sym c.in_ok-number.ensures.0 ∙ sym (number_some c.in-Some.number c.in_ok-number.number c.in-Some.ensures)))
-
-pub returns-in_err-take_numbers-clause-inside : goal.returns-in_err-take_numbers-clause-inside
-returns-in_err-take_numbers-clause-inside g c = within_err (within_of c.take_numbers.ensures.inside) c.from_residual.ensures.0
+    let taken = c.in_ok-number.ensures.taken clean counts books holds given in
+    (taken.0, taken.1 ∙ ap (λ (m : ℕ). m ∷ []) (sym (number_some c.in-Some.number c.in_ok-number.number c.in-Some.ensures)))
 
 pub returns-in_err-number-clause-inside : goal.returns-in_err-number-clause-inside
-returns-in_err-number-clause-inside g c = within_err (within_of c.in_ok-take_numbers.ensures.inside) c.from_residual-in_err-number.ensures.0
+returns-in_err-number-clause-inside g c = within_err (within_of c.take_numbers.ensures.inside) c.from_residual.ensures.0
 
 pub returns-in-Some-clause-inside : goal.returns-in-Some-clause-inside
-returns-in-Some-clause-inside g c = within_as (within_of c.in_ok-take_numbers.ensures.inside)
+returns-in-Some-clause-inside g c = within_as (within_of c.in_ok-number.ensures.inside)
 
 pub returns-in-None-clause-inside : goal.returns-in-None-clause-inside
-returns-in-None-clause-inside g c = within_err (within_of c.in_ok-take_numbers.ensures.inside) refl
+returns-in-None-clause-inside g c = within_err (within_of c.in_ok-number.ensures.inside) refl

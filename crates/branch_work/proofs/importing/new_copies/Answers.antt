@@ -4,7 +4,7 @@ use Rattle.std.proofs.lemmas.List.Sums.{sum_by_push}
 use Rattle.shop_model.specs.Rows.{Row}
 use Rattle.shop_model.specs.Books.{BookCopy}
 use Rattle.branch_core.specs.declared.found.StockFound.{StockFound}
-use Rattle.branch_core.specs.Agreed.{copies_of, films_of}
+use Rattle.branch_core.specs.StockLists.{copies_of, films_of}
 use Rattle.shop_store.specs.Seen.{seen_copy_row}
 use Rattle.branch_work.specs.Added.{copies_from}
 use Rattle.branch_work.proofs.CopyLemmas.{row_more}

@@ -1,5 +1,5 @@
 use Rattle.std.proofs.Common.{◌≡◌, take, map, vec_len}
-use Rattle.branch_core.specs.Agreed.{copies_of, films_of}
+use Rattle.branch_core.specs.StockLists.{copies_of, films_of}
 use Rattle.shop_store.specs.Seen.{seen_copy_row}
 use Rattle.branch_work.specs.Added.{copies_from}
 use Rattle.branch_work.proofs.importing.new_copies.Given as goal

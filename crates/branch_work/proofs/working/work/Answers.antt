@@ -1,6 +1,7 @@
-use Rattle.std.proofs.Common.{◌∙◌, refl, sym, ap, subst, false, arith, inl, inr}
+use Rattle.std.proofs.Common.{◌∙◌, refl, sym, subst, false, arith, inl, inr}
 use Rattle.sqlite.specs.Held.{state}
 use Rattle.sqlite.specs.State.{HasCleanDisk}
+use Rattle.shop_model.specs.Books.{Counter}
 use Rattle.shop_types.specs.declared.request.Request.{Request}
 use Rattle.shop_types.specs.declared.request.Request.TheVariants as request
 use Rattle.shop_types.specs.Seen.{seen_request}
@@ -22,14 +23,14 @@ returns-in_ok-reply-in-Do-clause-works g c = λ clean books holds held.
     let before : HasCleanDisk s1 = omega (arith, clean, c.act.ensures.inside.survives.clean) in
     let found = c.in_ok-last.ensures.found before books holds held in
     let there = is_there _ _ _ (sym c.in-Some.is ∙ found.1) in
-    let P : Request → Type 0 = λ it. IsDone c.args.limits c.args.branch (seen_request it) (seen_reply c.in_ok-reply-in-Do.reply) c.in_ok-reply-in-Do.is_changed s2 books in
+    let P : Request → Type 0 = λ it. IsDone c.args.limits (Counter c.args.branch) (seen_request it) (seen_reply c.in_ok-reply-in-Do.reply) c.in_ok-reply-in-Do.is_changed s2 books in
     subst P (sym c.in-Do.is) (c.in_ok-reply-in-Do.ensures.works clean books found.0 held there.0 there.1)
 
 pub returns-in-View-clause-works : goal.returns-in-View-clause-works
 returns-in-View-clause-works g c = λ clean books holds held.
     let found = c.in_ok-last.ensures.found clean books holds held in
     let there = is_there _ _ _ (sym c.in-Some.is ∙ found.1) in
-    (ap seen_request c.in-View.is, there.0)
+    rw c.in-View.is (rw there.0 (refl, refl))
 
 pub returns-in_ok-look-in-Look-clause-works : goal.returns-in_ok-look-in-Look-clause-works
 returns-in_ok-look-in-Look-clause-works g c = λ clean books holds held.
@@ -41,14 +42,14 @@ returns-in_ok-look-in-Look-clause-works g c = λ clean books holds held.
     let there = is_there _ _ _ (sym c.in-Some.is ∙ found.1) in
     let shown = c.in_ok-look-in-Look.ensures.shown clean books found.0 held in
     let answer = seen_reply c.in_ok-look-in-Look.field-0 in
-    let P : Request → Type 0 = λ it. IsDone c.args.limits b (seen_request it) answer false s2 books in
+    let P : Request → Type 0 = λ it. IsDone c.args.limits (Counter b) (seen_request it) answer false s2 books in
     subst P (sym c.in-Look.is) (kept_done c.args.limits b books (seen_request (request.Look c.in-Look.ask)) answer false s2 there.0 refl shown.1 shown.0)
 
 pub returns-in-Office-clause-works : goal.returns-in-Office-clause-works
 returns-in-Office-clause-works g c = λ clean books holds held.
     let found = c.in_ok-last.ensures.found clean books holds held in
     let there = is_there _ _ _ (sym c.in-Some.is ∙ found.1) in
-    let P : Request → Type 0 = λ it. IsDone c.args.limits c.args.branch (seen_request it) (seen_reply c.refused-in-Office.result) false (state g.S.Store c.last_at.new.tx.conn.now) books in
+    let P : Request → Type 0 = λ it. IsDone c.args.limits (Counter c.args.branch) (seen_request it) (seen_reply c.refused-in-Office.result) false (state g.S.Store c.last_at.new.tx.conn.now) books in
     elim c.in-Office.is [
       | inl it ↦ subst P (sym it.1) (kept_done c.args.limits c.args.branch books (seen_request (request.Office it.0)) _ false _ there.0 refl c.refused-in-Office.ensures found.0)
       | inr it ↦ subst P (sym it.1) (kept_done c.args.limits c.args.branch books (seen_request (request.OfficeLook it.0)) _ false _ there.0 refl c.refused-in-Office.ensures found.0)

@@ -18,10 +18,10 @@ pub returns-in-City-clause-found : goal.returns-in-City-clause-found
 returns-in-City-clause-found g c = found_of (λ rows. rows.has_country) _ c.with_country.result (ap seen_office_act c.in-City.is) (λ rows books is. is) c.with_country.ensures c.has_country.ensures.inside c.has_country.ensures.found
 
 pub returns-in-Price-clause-found : goal.returns-in-Price-clause-found
-returns-in-Price-clause-found g c = found_of (λ rows. rows.film) _ c.with_film.result (ap seen_office_act c.in-Price.is) (λ rows books is. is) c.with_film.ensures c.film_at.ensures.inside c.film_at.ensures.found
+returns-in-Price-clause-found g c = found_of (λ rows. rows.film) _ c.with_film.result (ap seen_office_act c.in-Price.is) (λ rows books is. is) c.with_film.ensures c.film_withdrawn.ensures.inside c.film_withdrawn.ensures.found
 
 pub returns-in-Withdraw-clause-found : goal.returns-in-Withdraw-clause-found
-returns-in-Withdraw-clause-found g c = found_of (λ rows. rows.film) _ c.with_film-in-Withdraw.result (ap seen_office_act c.in-Withdraw.is) (λ rows books is. is) c.with_film-in-Withdraw.ensures c.film_at-in-Withdraw.ensures.inside c.film_at-in-Withdraw.ensures.found
+returns-in-Withdraw-clause-found g c = found_of (λ rows. rows.film) _ c.with_film-in-Withdraw.result (ap seen_office_act c.in-Withdraw.is) (λ rows books is. is) c.with_film-in-Withdraw.ensures c.film_withdrawn-in-Withdraw.ensures.inside c.film_withdrawn-in-Withdraw.ensures.found
 
 pub returns-in-Leave-clause-found : goal.returns-in-Leave-clause-found
 returns-in-Leave-clause-found g c = found_of (λ rows. rows.staff) _ c.with_staff.result (ap seen_office_act c.in-Leave.is) (λ rows books is. is) c.with_staff.ensures c.staff_at.ensures.inside c.staff_at.ensures.found
@@ -57,10 +57,10 @@ pub returns-in-City-clause-inside : goal.returns-in-City-clause-inside
 returns-in-City-clause-inside g c = made_within c.with_country.result (λ rows. rows.has_country) c.with_country.ensures c.has_country.ensures.inside
 
 pub returns-in-Price-clause-inside : goal.returns-in-Price-clause-inside
-returns-in-Price-clause-inside g c = made_within c.with_film.result (λ rows. rows.film) c.with_film.ensures c.film_at.ensures.inside
+returns-in-Price-clause-inside g c = made_within c.with_film.result (λ rows. rows.film) c.with_film.ensures c.film_withdrawn.ensures.inside
 
 pub returns-in-Withdraw-clause-inside : goal.returns-in-Withdraw-clause-inside
-returns-in-Withdraw-clause-inside g c = made_within c.with_film-in-Withdraw.result (λ rows. rows.film) c.with_film-in-Withdraw.ensures c.film_at-in-Withdraw.ensures.inside
+returns-in-Withdraw-clause-inside g c = made_within c.with_film-in-Withdraw.result (λ rows. rows.film) c.with_film-in-Withdraw.ensures c.film_withdrawn-in-Withdraw.ensures.inside
 
 pub returns-in-Leave-clause-inside : goal.returns-in-Leave-clause-inside
 returns-in-Leave-clause-inside g c = made_within c.with_staff.result (λ rows. rows.staff) c.with_staff.ensures c.staff_at.ensures.inside

@@ -7,7 +7,7 @@ use Rattle.chain_store.proofs.office_finding.for_cast.Goals as goal
 pub returns-clause-found : goal.returns-clause-found
 returns-clause-found g c = λ clean.
     let s0 = state g.S.Store c.args.tx.now.conn.now in
-    let s1 = state g.S.Store c.film_at.new.tx.conn.now in
+    let s1 = state g.S.Store c.film_withdrawn.new.tx.conn.now in
     let s2 = state g.S.Store c.has_actor.new.tx.conn.now in
     let s3 = state g.S.Store c.has_cast.new.tx.conn.now in
     let clean2 : HasCleanDisk s2 = omega (arith, clean, c.has_cast.ensures.inside.survives.clean) in

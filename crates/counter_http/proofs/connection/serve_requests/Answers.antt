@@ -35,14 +35,14 @@ returns-in-Asks-clause-served g c =
     let ok = c.in-Ok.ensures.ok in
     let has : HasMessage c.requests.inbox (message_of c.in-Whole.request) (drop c.in-Whole.len c.requests.inbox) = rw c.bytes.ensures.value at c.in-Whole.ensures.1 in
     let e : Exchange = record { message = message_of c.in-Whole.request; answer = ok.0 } in
-    served_asked c.requests.replies _ _ _ c.requests.inbox (drop c.in-Whole.len c.requests.inbox) _ _ _ _ _ e c.requests.invariant.serving has (run_grows e ok.1) c.requests-test.true ok.2 (rw c.in-Asks.is at ok.3)
+    rw c.ended.ensures (served_asked c.requests.replies _ _ _ c.requests.inbox (drop c.in-Whole.len c.requests.inbox) _ _ _ _ _ e c.requests.invariant.serving has (run_grows e ok.1) c.requests-test.true ok.2 (rw c.in-Asks.is at ok.3))
 
 pub returns-in-Fails-clause-served : goal.returns-in-Fails-clause-served
 returns-in-Fails-clause-served g c =
     let ok = c.in-Ok.ensures.ok in
     let has : HasMessage c.requests.inbox (message_of c.in-Whole.request) (drop c.in-Whole.len c.requests.inbox) = rw c.bytes.ensures.value at c.in-Whole.ensures.1 in
     let e : Exchange = record { message = message_of c.in-Whole.request; answer = ok.0 } in
-    served_failed c.requests.replies _ _ _ c.requests.inbox (drop c.in-Whole.len c.requests.inbox) _ _ _ _ _ e c.requests.invariant.serving has (run_grows e ok.1) c.requests-test.true ok.2 (rw c.in-Fails.is at ok.3)
+    rw c.ended-in-Fails.ensures (served_failed c.requests.replies _ _ _ c.requests.inbox (drop c.in-Whole.len c.requests.inbox) _ _ _ _ _ e c.requests.invariant.serving has (run_grows e ok.1) c.requests-test.true ok.2 (rw c.in-Fails.is at ok.3))
 
 pub returns-in_default-clause-fault : goal.returns-in_default-clause-fault
 returns-in_default-clause-fault g c =
@@ -55,8 +55,8 @@ pub returns-then-is_empty-clause-served : goal.returns-then-is_empty-clause-serv
 returns-then-is_empty-clause-served g c =
     let ok = c.in-Ok-eq0.ensures.ok in
     let none : length c.fill.new.self ≡ 0 = search rules in
-    served_closed _ _ _ _ _ _ _ _ (serving_more _ _ c.requests.inbox c.fill.new.self ok.0 _ _ _ _ _ c.requests.invariant.serving ok.1 ok.2)
-    c.requests-test.true (c.in-Ok-eq0.ensures.end c.in-Ok-eq0.field-0-test) (nil_from_length _ none)
+    rw c.ended-then-is_empty.ensures (served_closed _ _ _ _ _ _ _ _ (serving_more _ _ c.requests.inbox c.fill.new.self ok.0 _ _ _ _ _ c.requests.invariant.serving ok.1 ok.2)
+    c.requests-test.true (c.in-Ok-eq0.ensures.end c.in-Ok-eq0.field-0-test) (nil_from_length _ none))
 
 pub returns-in_default-write_reply-clause-fault : goal.returns-in_default-write_reply-clause-fault
 returns-in_default-write_reply-clause-fault g c =
@@ -68,7 +68,7 @@ pub returns-in-Refused-clause-served : goal.returns-in-Refused-clause-served
 returns-in-Refused-clause-served g c =
     let refused = rw c.bytes.ensures.value at (refused_is c.bytes.result.now c.in-Refused.fault c.in-Refused.ensures) in
     let ok = c.in-Ok-write_reply.ensures.ok in
-    served_refused _ _ _ _ _ _ _ _ _ c.in-Refused.fault c.requests.invariant.serving c.requests-test.true refused (rw c.fault_reply-reply.ensures at ok)
+    rw c.ended-in-Refused.ensures (served_refused _ _ _ _ _ _ _ _ _ c.in-Refused.fault c.requests.invariant.serving c.requests-test.true refused (rw c.fault_reply-reply.ensures at ok))
 
 pub requests-init : goal.requests-init
 requests-init g c = record {
@@ -84,8 +84,8 @@ returns-in-Ok-eq0-clause-served g c =
     let same : c.fill.new.self ≡ c.requests.inbox = ok.2 ∙ ap (λ (l : List ℕ). c.requests.inbox ++ l) none ∙ append-nil c.requests.inbox in
     let cut : IsCut c.fill.new.self = rw (same, ← c.bytes.ensures.value) c.in-More.ensures.1 in
     let some : c.fill.new.self ≢ [] = λ e. let bad : false ≡ true = sym c.if-is_empty.false ∙ c.is_empty.ensures ∙ ap (λ (l : List ℕ). length l == 0) (c.bytes-in-Ok-eq0.ensures.value ∙ e) in cc in
-    served_cut _ _ _ _ _ _ _ _ (serving_more _ _ c.requests.inbox c.fill.new.self ok.0 _ _ _ _ _ c.requests.invariant.serving ok.1 ok.2)
-    c.requests-test.true (c.in-Ok-eq0.ensures.end c.in-Ok-eq0.field-0-test) some cut
+    rw c.ended-in-Ok-eq0.ensures (served_cut _ _ _ _ _ _ _ _ (serving_more _ _ c.requests.inbox c.fill.new.self ok.0 _ _ _ _ _ c.requests.invariant.serving ok.1 ok.2)
+    c.requests-test.true (c.in-Ok-eq0.ensures.end c.in-Ok-eq0.field-0-test) some cut)
 
 pub returns-in-Err-clause-fault : goal.returns-in-Err-clause-fault
 returns-in-Err-clause-fault g c =
@@ -94,4 +94,4 @@ returns-in-Err-clause-fault g c =
 
 pub returns-clause-served : goal.returns-clause-served
 returns-clause-served g c =
-    served_limit _ _ _ c.requests.inbox _ _ _ _ c.requests.invariant.serving (omega arith)
+    rw c.ended-2.ensures (served_limit _ _ _ c.requests.inbox _ _ _ _ c.requests.invariant.serving (omega arith))

@@ -1,12 +1,12 @@
 use Rattle.std.proofs.Common.{◌∙◌, ap, [], None, Option}
 use Rattle.shop_model.specs.Machine.{ActorsListed}
 use Rattle.shop_model.specs.Answers.{shown_text}
-use Rattle.branch_looks.specs.Actors.{actor_lines, ActorPart, closed, runs}
-use Rattle.branch_looks.proofs.Casts.{apart_of}
-use Rattle.branch_looks.proofs.ActorQuery.{actors_ask}
-use Rattle.branch_looks.proofs.ActorOrder.{shows_actors}
-use Rattle.branch_looks.proofs.ActorRuns.{all_actors}
-use Rattle.branch_looks.proofs.ActorLines.{nothing_taken}
+use Rattle.view_texts.specs.Actors.{actor_lines, ActorPart, closed, runs}
+use Rattle.view_texts.proofs.Casts.{apart_of}
+use Rattle.view_texts.proofs.ActorQuery.{actors_ask}
+use Rattle.view_texts.proofs.ActorOrder.{shows_actors}
+use Rattle.view_texts.proofs.ActorRuns.{all_actors}
+use Rattle.view_texts.proofs.ActorLines.{nothing_taken}
 use Rattle.view_texts.proofs.actors.actor_info.Goals as goal
 
 pub each_row-requires : goal.each_row-requires

@@ -6,10 +6,10 @@ use Rattle.shop_model.specs.Machine.{StaffListed}
 use Rattle.shop_model.specs.Views.{staff_list}
 use Rattle.reply_bodies.specs.Page.{HasValues}
 use Rattle.reply_bodies.specs.People.{staff_data}
-use Rattle.branch_looks.specs.Shown.{shown_staff, listed_staff}
-use Rattle.branch_looks.proofs.PageLines.{listed_none}
-use Rattle.branch_looks.proofs.PeopleQueries.{staff_ask}
-use Rattle.branch_looks.proofs.PeopleJoins.{shows_staff}
+use Rattle.view_texts.specs.Shown.{shown_staff, listed_staff}
+use Rattle.view_texts.proofs.PageLines.{listed_none}
+use Rattle.view_texts.proofs.PeopleQueries.{staff_ask}
+use Rattle.view_texts.proofs.PeopleJoins.{shows_staff}
 use Rattle.view_texts.proofs.staff.staff_list.Goals as goal
 
 pub each_row-requires : goal.each_row-requires

@@ -2,8 +2,8 @@ use Rattle.std.proofs.Common.{◌∙◌, sym, ap, option_map}
 use Rattle.sqlite.specs.Held.{state}
 use Rattle.sql_rows.proofs.Stays.{same_as, same_err, same_then, was_clean}
 use Rattle.reply_bodies.specs.Sales.{seen_store}
-use Rattle.branch_looks.proofs.Unchanged.{holds_still}
-use Rattle.branch_looks.proofs.SalesLists.{absent_added, is_there}
+use Rattle.view_texts.proofs.Unchanged.{holds_still}
+use Rattle.view_texts.proofs.SalesLists.{absent_added, is_there}
 use Rattle.view_texts.proofs.stores.add_branch.Goals as goal
 
 pub returns-in_default-clause-added : goal.returns-in_default-clause-added

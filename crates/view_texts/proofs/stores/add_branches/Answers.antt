@@ -1,6 +1,6 @@
 use Rattle.std.proofs.Common.{sym, ◌∙◌}
-use Rattle.branch_looks.proofs.Unchanged.{known_next, looked_next}
-use Rattle.branch_looks.proofs.SalesLists.{listed_next, listed_last, same_branch}
+use Rattle.view_texts.proofs.Unchanged.{known_next, looked_next}
+use Rattle.view_texts.proofs.SalesLists.{listed_next, listed_last, same_branch}
 use Rattle.view_texts.proofs.stores.add_branches.Goals as goal
 
 pub branches-preserved : goal.branches-preserved

@@ -1,7 +1,7 @@
 use Rattle.std.proofs.Common.{[]}
 use Rattle.reply_bodies.specs.Page.{HasValues}
-use Rattle.branch_looks.proofs.Unchanged.{Looked}
-use Rattle.branch_looks.proofs.SalesLists.{IsListed}
+use Rattle.view_texts.proofs.Unchanged.{Looked}
+use Rattle.view_texts.proofs.SalesLists.{IsListed}
 use Rattle.view_texts.proofs.stores.add_branches.Given as goal
 
 -- the branches below the number are on the page, and nothing else was done

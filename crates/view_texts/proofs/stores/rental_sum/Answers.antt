@@ -1,8 +1,8 @@
 use Rattle.std.proofs.Common.{◌∙◌}
-use Rattle.branch_looks.specs.Payments.{paid_lines}
-use Rattle.branch_looks.proofs.PaymentQuery.{payments_ask}
-use Rattle.branch_looks.proofs.PaymentLines.{shows_lines}
-use Rattle.branch_looks.proofs.SalesLines.{sold_none, sum_is}
+use Rattle.view_texts.specs.Payments.{paid_lines}
+use Rattle.view_texts.proofs.PaymentQuery.{payments_ask}
+use Rattle.view_texts.proofs.PaymentLines.{shows_lines}
+use Rattle.view_texts.proofs.SalesLines.{sold_none, sum_is}
 use Rattle.view_texts.proofs.stores.rental_sum.Goals as goal
 
 pub each_row-requires : goal.each_row-requires

@@ -5,7 +5,7 @@ use Rattle.shop_model.specs.Calendar.{IsMoment}
 use Rattle.shop_schema.specs.Columns.{moment_value}
 use Rattle.shop_schema.specs.RowValues.{IsNumber}
 use Rattle.sql_rows.proofs.Wholes.{whole}
-use Rattle.shop_ledger.proofs.Refused.{still_refused}
+use Rattle.shop_store.proofs.Refused.{still_refused}
 use Rattle.shop_store.proofs.Refused.{no_customer}
 use Rattle.shop_store.proofs.customers.CustomerRowStored.read.Goals as goal
 

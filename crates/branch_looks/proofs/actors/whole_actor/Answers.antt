@@ -1,8 +1,0 @@
-use Rattle.std.proofs.Common.{ap}
-use Rattle.shop_model.specs.Values.{Text}
-use Rattle.branch_looks.specs.Actors.{seen_part}
-use Rattle.branch_looks.proofs.ActorLines.{whole_seen}
-use Rattle.branch_looks.proofs.actors.whole_actor.Goals as goal
-
-pub returns : goal.returns
-returns c = ap (λ (films : Text). record (seen_part c.args.actor).0 { films = films }) (whole_seen c.args.actor _ c.in_ok-all_groups.ensures)

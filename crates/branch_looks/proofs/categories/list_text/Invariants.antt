@@ -1,8 +1,0 @@
-use Rattle.std.proofs.Common.{map, take}
-use Rattle.reply_bodies.specs.Page.{HasValues}
-use Rattle.reply_bodies.specs.Sales.{seen_category, category_data}
-use Rattle.branch_looks.proofs.categories.list_text.Given as goal
-
--- the rows so far are on the page
-abbrev pub invariant-loop-row : goal.invariant-loop-row
-invariant-loop-row l = HasValues l.page (map category_data (map seen_category (take l.row-index l.rows)))

@@ -1,7 +1,0 @@
-use Rattle.reply_bodies.specs.Sales.{seen_category}
-use Rattle.branch_looks.proofs.CategoryOrder.{IsLater}
-use Rattle.branch_looks.proofs.categories.place_among.Given as goal
-
--- the row stands behind those before this place
-abbrev pub invariant-loop-place : goal.invariant-loop-place
-invariant-loop-place l = IsLater (seen_category l.row) l.place l.rows

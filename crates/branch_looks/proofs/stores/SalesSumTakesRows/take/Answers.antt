@@ -1,5 +1,0 @@
-use Rattle.branch_looks.proofs.SalesLines.{sold_more}
-use Rattle.branch_looks.proofs.stores.SalesSumTakesRows.take.Goals as goal
-
-pub returns : goal.returns
-returns c first given so_far = sold_more c.args.self.now.sum c.in_ok-self.field-0 given c.args.row.now c.in_ok-self.ensures so_far

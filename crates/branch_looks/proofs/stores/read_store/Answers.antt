@@ -1,5 +1,0 @@
-use Rattle.branch_looks.proofs.SalesLines.{store_is}
-use Rattle.branch_looks.proofs.stores.read_store.Goals as goal
-
-pub returns : goal.returns
-returns c = store_is c.args.row.now _ _ _ c.in_ok-city.ensures.0 c.in_ok-city.ensures.1 c.in_ok-person_name_or_null_at.ensures

@@ -1,0 +1,35 @@
+//! What a command is answered that changes nothing: a repeat, and one that is refused.
+
+ghost use Rattle.std.specs.Prelude.{◌≡◌, false, Some, IfOk};
+ghost use Rattle.shop_model.specs.Refusals as named;
+ghost use Rattle.shop_model.specs.Verdict.{Verdict, Refused};
+ghost use Rattle.shop_model.specs.Machine.{Sorry};
+ghost use Rattle.shop_model.specs.Answers.{answer_of, accepted_answer};
+ghost use Rattle.shop_types.specs.Replies.{seen_reply};
+ghost use Rattle.shop_types.specs.Verdicts.{verdict_by};
+
+use shop_types::{Refusal, Reply};
+use sql_rows::StoreFault;
+use std::alloc::Global;
+
+/// The reply to a command that comes again.
+pub fn again(alloc: Global, reply: &str) -> Result<(Reply, bool), StoreFault>
+    ensures { IfOk result (λ done. (seen_reply done.0 ≡ accepted_answer reply.now) × (done.1 ≡ false)) }
+{
+    let text = String::from_str(alloc, reply)?;
+    Ok((Reply::accepted(text), false))
+}
+
+/// The reply to a command that is refused.
+pub fn refuse(alloc: Global, refusal: Refusal) -> Result<(Reply, bool), StoreFault>
+    ensures { IfOk result (λ done. (done.1 ≡ false) × ((verdict : Verdict) → Some verdict ≡ verdict_by (Some refusal)
+        → (d : named.Refusal) × (verdict ≡ Refused d) × (seen_reply done.0 ≡ answer_of (Sorry d)))) }
+{
+    match refusal {
+        Refusal::BadCsv(fault) => match Reply::bad_csv(alloc, fault) {
+            Ok(reply) => Ok((reply, false)),
+            Err(_) => Err(StoreFault::Memory),
+        },
+        other => Ok((Reply::refused(other), false)),
+    }
+}

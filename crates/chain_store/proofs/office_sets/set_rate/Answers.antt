@@ -1,9 +1,0 @@
-use Rattle.std.proofs.Common.{◌≤◌, arith}
-use Rattle.sql_rows.proofs.Inside.{on_ok_then}
-use Rattle.chain_store.proofs.OfficeSetTexts.{sets_rate}
-use Rattle.chain_store.proofs.office_sets.set_rate.Goals as goal
-
-pub returns-clause-set : goal.returns-clause-set
-returns-clause-set g c clean =
-    let low : 1 ≤ c.args.film = omega arith in
-    on_ok_then c.execute.result (λ ran. sets_rate c.args.rate _ _ c.args.film ran.0 low ran.1) (rw (c.to_sql.ensures, c.get.ensures.value, c.to_sql-2.ensures, c.from.ensures, c.get-2.ensures.value) at (c.execute.ensures.ran clean))

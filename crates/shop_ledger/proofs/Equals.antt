@@ -1,0 +1,17 @@
+-- Columns that are parameters.
+use Rattle.std.proofs.Common.{ℕ, suc, List, [], ◌∷◌}
+use Rattle.sqlite_value.specs.declared.keys.Collation.TheVariants.{Binary}
+use Rattle.sqlite_sql.specs.Term.{Term, col, op2}
+use Rattle.sqlite_sql.specs.declared.ops.BinaryOp.TheVariants.{Compare}
+use Rattle.sqlite_sql.specs.declared.ops.CompareOp.TheVariants.{Eq}
+
+-- `column = parameter`, for the columns at these places and the parameters in order
+abbrev pub equals : ℕ → List ℕ → List Term
+equals k [] = []
+equals k (at ∷ places) = op2 (Compare Eq Binary) (col 1 at) (col 0 k) ∷ equals (suc k) places
+
+abbrev pub of_one : List Term
+of_one = equals 0 (1 ∷ [])
+
+abbrev pub of_two : List Term
+of_two = equals 0 (1 ∷ 2 ∷ [])

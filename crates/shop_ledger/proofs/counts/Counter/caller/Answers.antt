@@ -1,6 +1,0 @@
-use Rattle.std.proofs.Common.{sym, subst, arith}
-use Rattle.shop_ledger.specs.Counted.{IsCounter}
-use Rattle.shop_ledger.proofs.counts.Counter.caller.Goals as goal
-
-pub returns-in-Of-clause-real : goal.returns-in-Of-clause-real
-returns-in-Of-clause-real c = subst IsCounter (sym c.in-Of.is) (omega (arith, c.get.ensures.bound))

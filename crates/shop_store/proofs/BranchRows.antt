@@ -1,0 +1,193 @@
+-- A table of the branches' rows, each with its branch and its number there: what a SELECT says of it, and what an UPDATE of one row makes of it.
+use Rattle.std.proofs.Common.{◌≡◌, ◌≤◌, ◌&&◌, ℕ, zero, suc, List, [], ◌∷◌, map, filter, drop, length, Bool, true, cond, Ok, Err, Result, refl, sym, ap, subst, ◌∙◌, arith}
+use Rattle.std.specs.Prelude.{Vec, IfOk, IfSome, Option, Some, None, take, option_map}
+use Rattle.std.specs.Option.{option_to_list}
+use Rattle.std.specs.List.{AllByRecursion, list_all}
+use Rattle.std.specs.declared.alloc.Global.{Global}
+use Rattle.std.proofs.lemmas.List.{map-id}
+use Rattle.sqlite.specs.declared.types.Value.{Value}
+use Rattle.sqlite.specs.declared.types.Value.TheVariants.{Int}
+use Rattle.sqlite_value.specs.Order as sql
+use Rattle.sqlite_value.specs.Order.{column}
+use Rattle.sqlite_value.specs.Keys.{ascending}
+use Rattle.sqlite_value.specs.declared.keys.Collation.TheVariants.{Binary}
+use Rattle.sqlite_trees.specs.Tree.{rowid}
+use Rattle.sqlite_schema.specs.declared.schema.Kind.TheVariants as kind
+use Rattle.sqlite_sql.specs.Term.{Term, col, eval_all, holds}
+use Rattle.sqlite_sql.specs.Query.{Query, output}
+use Rattle.sqlite_rules.specs.Cast.{cast, cast_all, cast_row}
+use Rattle.sqlite.specs.Command.TheVariants.{Update}
+use Rattle.sqlite.specs.State.{State, ExecutesInside, Shown}
+use Rattle.sqlite_keyed.specs.Lists.{sort_by, update_where}
+use Rattle.sqlite_keyed.proofs.ListLemmas.{map-map, all-filter, all_map}
+use Rattle.sql_rows.specs.Builds.{Means}
+use Rattle.sql_rows.specs.Rows.{by, PicksOne, columns_from, columns_of, number_value}
+use Rattle.sql_rows.specs.declared.fault.StoreFault.{StoreFault}
+use Rattle.sql_rows.proofs.Appends.{are_kept, id_of}
+use Rattle.sql_rows.proofs.Bags.{length-map}
+use Rattle.sql_rows.proofs.ColumnTests.{number_test, two_tested, test_of}
+use Rattle.sql_rows.proofs.OfKind.{unmapped_kind}
+use Rattle.sql_rows.proofs.Projects.{still_holds, writes_by}
+use Rattle.sql_rows.proofs.Queries.{Selects, plain_query}
+use Rattle.sql_rows.proofs.Steps.{selects_one, selects_sorted, sets_row}
+use Rattle.shop_model.specs.Rows.{Row, is_of, is_row, of, at, set_row, AreNumbered}
+use Rattle.shop_model.specs.Books.{Books}
+use Rattle.shop_model.proofs.RowLemmas.{row_at}
+use Rattle.shop_schema.specs.Held.{IsHeld}
+use Rattle.shop_schema.specs.RowValues.{IsRow}
+use Rattle.shop_schema.specs.Tables.{shop_schema}
+use Rattle.shop_schema.specs.Shop.{StandsFor, StandsWith, Holds, Reads, Writes}
+use Rattle.shop_schema.specs.Counts.{counts_of}
+use Rattle.shop_schema.proofs.Lists.{picks_row}
+use Rattle.shop_schema.proofs.Listed.{Plain, cols, width, stood, changed, own_rows}
+use Rattle.shop_ledger.proofs.Equals.{of_two}
+use Rattle.shop_ledger.proofs.Rising.{Rise, of_which, which_rise, which_are, rise_differ, rise_sorted}
+
+-- `Fits` says which rows the program can hold: their columns are one to one
+pub record BranchRows (A : Type 0) : Type 1 where
+  pub rows : Plain (Row A)
+  pub Fits : A → Type 0
+  pub one : (a b : Row A) → IsRow Fits a → IsRow Fits b → rows.columns a ≡ rows.columns b → a ≡ b
+  pub begins : (row : Row A) → (column (rows.columns row) 0 ≡ number_value row.branch) × (column (rows.columns row) 1 ≡ number_value row.number)
+  pub valued : (books : Books) → IsHeld books → AllByRecursion (IsRow Fits) (rows.part.items books)
+  pub counted : (books : Books) → IsHeld books → (b : ℕ) → AreNumbered (is_of b) (λ row. row.number) (rows.part.items books)
+
+-- another item at the place
+abbrev pub replaced : {X : Type 0} → ℕ → X → List X → List X
+replaced n y [] = []
+replaced zero y (x ∷ xs) = y ∷ xs
+replaced (suc n) y (x ∷ xs) = x ∷ replaced n y xs
+
+-- what an UPDATE of the column at a place by the third parameter computes
+abbrev pub set_terms : ℕ → ℕ → List Term
+set_terms width at = col 1 0 ∷ col 1 0 ∷ replaced at (col 0 2) (cols 1 1 width)
+
+take_few : {X : Type 0} (xs : List X) → length xs ≤ 1 → take 1 xs ≡ xs
+take_few [] few = refl
+take_few (x ∷ []) few = refl
+take_few (x ∷ y ∷ xs) few = absurd (omega (arith, few))
+
+option_list : {X Y : Type 0} (f : X → Y) (o : Option X) → option_to_list (option_map f o) ≡ map f (option_to_list o)
+option_list f None = refl
+option_list f (Some x) = refl
+
+some_seen : {X Y : Type 0} (P : Y → Type 0) (f : X → Y) (o : Option X) → IfSome o (λ x. P (f x)) → AllByRecursion P (map f (option_to_list o))
+some_seen P f None h = tt
+some_seen P f (Some x) h = (h, tt)
+
+module _ {A : Type 0} (t : BranchRows A) where
+  abbrev items : Books → List (Row A)
+  items = t.rows.part.items
+
+  abbrev columns : Row A → sql.Row
+  columns = t.rows.columns
+
+  abbrev tree : ℕ
+  tree = t.rows.table.tree
+
+  abbrev pub wide : ℕ
+  wide = width t.rows
+
+  abbrev has_key : ℕ → ℕ → sql.Row → Bool
+  has_key b n vs = number_test 0 b vs && (number_test 1 n vs && true)
+
+  key_tested : (b n : ℕ) (row : Row A) → has_key b n (columns row) ≡ is_row b n row
+  key_tested b n row = two_tested _ _ (test_of (columns row) 0 row.branch b (t.begins row).0) (test_of (columns row) 1 row.number n (t.begins row).1)
+
+  -- ---- the row of a number
+
+  abbrev pub one_query : Query
+  one_query = plain_query tree of_two (cols 1 1 wide) []
+
+  module _ {R : Type 0} (seen : R → Row A) (text : List ℕ) where
+    abbrev pub ReadsOne : Type 1
+    ReadsOne = (old new : State) (b n : ℕ) (rows slice : List sql.Row) (r : Result (Option R) StoreFault) → Shown text (number_value b ∷ number_value n ∷ []) old new rows → slice ≡ rows
+        → IfOk r (λ o. map (λ x. columns (seen x)) (option_to_list o) ≡ take 1 slice) → IfOk r (λ o. IfSome o (λ x. IsRow t.Fits (seen x)))
+        → IfOk r (λ o. Reads old new (λ books. option_to_list (option_map (λ x. (seen x).it) o) ≡ at n (of b (items books))))
+
+    -- `only` is `refl`
+    pub reads_one : Selects shop_schema text one_query
+        → ((b n : ℕ) (r : sql.Row) → cond (list_all (holds ((number_value b ∷ number_value n ∷ []) ∷ r ∷ [])) of_two) (output one_query ((number_value b ∷ number_value n ∷ []) ∷ r ∷ []) ∷ []) []
+        ≡ cond (has_key b n (columns_of wide r)) (([], columns_of wide r) ∷ []) []) → ReadsOne
+    reads_one means only old new b n rows slice (Err e) h same read kind = tt
+    reads_one means only old new b n rows slice (Ok o) h same read kind = λ books holds held.
+        let counted = t.counted books held b in
+        let few : PicksOne (is_row b n) (items books) = picks_row b (items books) counted n in
+        let found : rows ≡ map columns (filter (is_row b n) (items books)) =
+        selects_one shop_schema text tree wide of_two (cols 1 1 wide) [] means (number_value b ∷ number_value n ∷ []) old new rows holds.schema_is h columns (items books)
+        (stood t.rows (counts_of books) books old.now.trees holds.stands) (own_rows old.now.trees tree) (has_key b n) (is_row b n) (key_tested b n) (only b n) few in
+        let short : length rows ≤ 1 = subst (λ (k : ℕ). k ≤ 1) (sym (ap length found ∙ length-map columns (filter (is_row b n) (items books)))) few in
+        let one : map seen (option_to_list o) ≡ filter (is_row b n) (items books) =
+        unmapped_kind columns (IsRow t.Fits) t.one _ _ (some_seen (IsRow t.Fits) seen o kind) (all-filter (IsRow t.Fits) (is_row b n) (items books) (t.valued books held))
+        (map-map columns seen (option_to_list o) ∙ read ∙ ap (take 1) same ∙ take_few rows short ∙ found) in (
+          still_holds shop_schema StandsFor text _ old new means.plain rows h books holds,
+          option_list (λ (x : R). (seen x).it) o ∙ sym (map-map (λ (row : Row A). row.it) seen (option_to_list o)) ∙ ap (map (λ (row : Row A). row.it)) one
+              ∙ row_at (λ (it : A). it) b n (items books) counted ∙ ap (at n) (map-id (of b (items books))),
+        )
+
+  -- ---- rows that pass a test, in order of number
+
+  module _ (tests : List Term) where
+    abbrev pub sorted_query : Query
+    sorted_query = plain_query tree tests (cols 1 1 wide) ((col 1 2, ascending Binary) ∷ [])
+
+    module _ {R : Type 0} (seen : R → Row A) (text : List ℕ) (means : Selects shop_schema text sorted_query) (params : sql.Row) (test : sql.Row → Bool) (p : Row A → Bool) where
+      pub reads_sorted : ((row : Row A) → test (columns row) ≡ p row)
+          → ((r : sql.Row) → cond (list_all (holds (params ∷ r ∷ [])) tests) (output sorted_query (params ∷ r ∷ []) ∷ []) [] ≡ cond (test (columns_of wide r)) ((column (columns_of wide r) 1 ∷ [], columns_of wide r) ∷ []) [])
+          → ((books : Books) → IsHeld books → Rise (filter p (items books)))
+          → (old new : State) (rows slice : List sql.Row) (all : List R) → Shown text params old new rows → slice ≡ rows → map (λ x. columns (seen x)) all ≡ slice → AllByRecursion (λ x. IsRow t.Fits (seen x)) all
+          → (books : Books) → Holds old books → IsHeld books → Holds new books × (map seen all ≡ filter p (items books))
+      reads_sorted tested only rises old new rows slice all h same read kinds books holds held =
+          let rise = rises books held in
+          let sorted : sort_by (by (λ (row : Row A). row.number)) (filter p (items books)) ≡ filter p (items books) = rise_sorted (filter p (items books)) rise in
+          let found : rows ≡ map columns (sort_by (by (λ (row : Row A). row.number)) (filter p (items books))) =
+          selects_sorted shop_schema text tree wide tests (cols 1 1 wide) 1 means params old new rows holds.schema_is h columns (items books)
+          (stood t.rows (counts_of books) books old.now.trees holds.stands) (own_rows old.now.trees tree) test p tested only (λ row. row.number) (λ row. (t.begins row).1) (rise_differ (filter p (items books)) rise) in (
+            still_holds shop_schema StandsFor text params old new means.plain rows h books holds,
+            unmapped_kind columns (IsRow t.Fits) t.one _ _ (all_map (IsRow t.Fits) seen all kinds) (all-filter (IsRow t.Fits) p (items books) (t.valued books held))
+                (map-map columns seen all ∙ read ∙ same ∙ found ∙ ap (map columns) sorted),
+          )
+
+  module _ {R : Type 0} (seen : R → Row A) (text : List ℕ) where
+    -- those of a branch whose rows pass a test
+    abbrev pub ReadsWhich : sql.Row → ℕ → (A → Bool) → Type 1
+    ReadsWhich params b which = (old new : State) (rows slice : List sql.Row) (r : Result (Vec R Global) StoreFault) → Shown text params old new rows → slice ≡ rows
+        → IfOk r (λ all. map (λ x. columns (seen x)) all.items ≡ slice) → IfOk r (λ all. AllByRecursion (λ x. IsRow t.Fits (seen x)) all.items)
+        → IfOk r (λ all. Reads old new (λ books. map (λ x. (seen x).it) all.items ≡ filter which (of b (items books))))
+
+    -- `tested` says that of a row's columns the filter is the test; `only` is `refl`
+    pub reads_which : (tests : List Term) → Selects shop_schema text (sorted_query tests) → (params : sql.Row) (b : ℕ) (test : sql.Row → Bool) (which : A → Bool) → ((row : Row A) → test (columns row) ≡ of_which which b row)
+        → ((r : sql.Row) → cond (list_all (holds (params ∷ r ∷ [])) tests) (output (sorted_query tests) (params ∷ r ∷ []) ∷ []) [] ≡ cond (test (columns_of wide r)) ((column (columns_of wide r) 1 ∷ [], columns_of wide r) ∷ []) [])
+        → ReadsWhich params b which
+    reads_which tests means params b test which tested only old new rows slice (Err e) h same read kinds = tt
+    reads_which tests means params b test which tested only old new rows slice (Ok all) h same read kinds = λ books holds held.
+        let found = reads_sorted tests seen text means params test (of_which which b) tested only (λ books held. which_rise which b (items books) (t.counted books held b)) old new rows slice all.items h same read kinds books holds held in
+        (found.0, sym (map-map (λ (row : Row A). row.it) seen all.items) ∙ ap (map (λ (row : Row A). row.it)) found.1 ∙ which_are which b (items books) (t.counted books held b))
+
+  -- ---- an UPDATE of one column of one row
+
+  -- The premises from `kept` on are `refl` where the text is known.
+  module _ (text : List ℕ) (place : ℕ) (v : Value) (f : A → A) (b n : ℕ) where
+    abbrev pub set_columns : sql.Row → sql.Row
+    set_columns vs = replaced place v (columns_from 0 wide vs)
+
+    abbrev pub set_item : Row A → Row A
+    set_item row = record row { it = f row.it }
+
+    abbrev pub set_params : sql.Row
+    set_params = number_value b ∷ number_value n ∷ v ∷ []
+
+    pub sets_column : Means shop_schema text (Update t.rows.place (record { lets = []; body = plain_query tree of_two (set_terms wide place) [] })) → ((row : Row A) → set_columns (columns row) ≡ columns (set_item row))
+        → ((row : Row A) → are_kept t.rows.table.columns (set_columns (columns row)) ≡ true) → ((r : sql.Row) → list_all (holds (set_params ∷ r ∷ [])) of_two ≡ has_key b n (columns_of wide r))
+        → ((r : sql.Row) → drop 1 (eval_all (set_terms wide place) (set_params ∷ r ∷ [])) ≡ rowid r ∷ set_columns (columns_of wide r))
+        → ((r : sql.Row) → id_of (eval_all (set_terms wide place) (set_params ∷ r ∷ [])) ≡ id_of r) → ((r : sql.Row) → columns_of wide (Int (id_of r) ∷ set_columns (columns_of wide r)) ≡ set_columns (columns_of wide r))
+        → ((w : Value) (vs : sql.Row) → cast_row t.rows.table (w ∷ vs) ≡ cast kind.Integer w ∷ cast_all t.rows.table.columns vs)
+        → (old new : State) (count : ℕ) → ExecutesInside 0 text set_params old new (Ok count) → Writes old new IsHeld (λ books. t.rows.part.filled (set_row b n f (items books)) books)
+    sets_column means sets_are kept sees shown ids whole casts old new count h counts books holds held =
+        let Given : Books → Type 0 = λ them. PicksOne (is_row b n) (items them) in
+        let change : Books → Books = λ them. t.rows.part.filled (update_where (is_row b n) set_item (items them)) them in
+        writes_by shop_schema (StandsWith counts) old new Given change (λ has.
+        sets_row shop_schema (StandsWith counts) text t.rows.place t.rows.table wide of_two (set_terms wide place) set_params columns (has_key b n) (is_row b n) set_columns set_item (key_tested b n) sets_are kept old new has
+        means t.rows.plain.place refl count h (own_rows old.now.trees t.rows.table.tree) sees shown ids whole casts Given change
+        (λ them same s few sets. changed t.rows counts them (update_where (is_row b n) set_item (items them)) old.now.trees new.now.trees same s (sets (items them) (stood t.rows counts them old.now.trees s) few)))
+        books holds (picks_row b (items books) (t.counted books held b) n)

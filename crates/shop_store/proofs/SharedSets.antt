@@ -1,0 +1,149 @@
+-- An UPDATE of one column of the shared row of a number.
+use Rattle.std.proofs.Common.{◌≡◌, ◌≤◌, ◌<◌, ◌+◌, ◌-◌, ◌==◌, ◌&&◌, ℕ, List, [], ◌∷◌, map, drop, length, Bool, true, false, cond, Some, Ok, refl, sym, ap, subst, arith}
+use Rattle.std.specs.Prelude.{⊤}
+use Rattle.std.specs.List.{list_all}
+use Rattle.std.proofs.lemmas.Bool.Decides.{nat_tests}
+use Rattle.sqlite.specs.declared.types.Value.{Value}
+use Rattle.sqlite.specs.declared.types.Value.TheVariants.{Int}
+use Rattle.sqlite_value.specs.Order as sql
+use Rattle.sqlite_trees.specs.Tree.{rowid}
+use Rattle.sqlite_schema.specs.declared.schema.Kind.TheVariants as kind
+use Rattle.sqlite_sql.specs.Term.{Term, col, eval_all, holds}
+use Rattle.sqlite_rules.specs.Cast.{cast, cast_all, cast_row}
+use Rattle.sqlite_tied.specs.Compute.{everything}
+use Rattle.sqlite.specs.Listing.{understood}
+use Rattle.sqlite.specs.Command.TheVariants.{Update}
+use Rattle.sqlite.specs.State.{State, ExecutesInside}
+use Rattle.sqlite_keyed.specs.Lists.{update_where}
+use Rattle.sql_rows.specs.Builds.{Means}
+use Rattle.sql_rows.specs.Rows.{HasRows, SameBut, PicksOne, columns_from, columns_of, number_value, flag_value}
+use Rattle.sql_rows.proofs.Appends.{are_kept, id_of}
+use Rattle.sql_rows.proofs.ColumnTests.{number_test, one_tested, test_of, kept_or_null}
+use Rattle.sql_rows.proofs.Projects.{writes_by}
+use Rattle.sql_rows.proofs.Queries.{plain_query}
+use Rattle.sql_rows.proofs.Steps.{sets_row}
+use Rattle.shop_model.specs.Rows.{numbered, numbered_from, set_at, owned_by}
+use Rattle.shop_model.specs.Books.{Books, head}
+use Rattle.shop_schema.specs.Tables.{shop_schema}
+use Rattle.shop_schema.specs.Columns.{moment_value}
+use Rattle.shop_schema.specs.Shop.{StandsWith, Writes}
+use Rattle.shop_schema.proofs.Lasts.{numbered_once}
+use Rattle.shop_schema.proofs.Listed.{cols, own_rows}
+use Rattle.shop_store.specs.declared.branches.TheConstants.{UPDATE_MANAGER}
+use Rattle.shop_store.specs.declared.films.TheConstants.{UPDATE_RATE, UPDATE_WITHDRAWN}
+use Rattle.shop_store.specs.declared.staff.TheConstants.{UPDATE_GONE}
+use Rattle.shop_store.proofs.BranchRows.{replaced}
+use Rattle.shop_store.proofs.ByNumber.{ByNumber, films, staff, branches}
+use Rattle.shop_store.proofs.SharedReads.{of_number}
+use Rattle.shop_store.proofs.PutTexts.{kept_or_null as minutes_kept}
+
+-- ---- the row of a number
+
+module _ {A : Type 0} (f : A → A) where
+  abbrev pub set_item : ℕ × A → ℕ × A
+  set_item it = (it.0, f it.1)
+
+  abbrev set_numbered : ℕ → ℕ → List A → List (ℕ × A)
+  set_numbered n k xs = update_where (λ (it : ℕ × A). it.0 == n) set_item (numbered_from k xs)
+
+  -- no later row has the number
+  none_after : (k n : ℕ) → n < k → (xs : List A) → set_numbered n k xs ≡ numbered_from k xs
+  none_after k n low [] = refl
+  none_after k n low (x ∷ xs) = let apart : (k == n) ≡ false = grind (arith, nat_tests) in λ i. cond (apart i) (k, f x) (k, x) ∷ none_after (k + 1) n (omega arith) xs i
+
+  set_from : (k m : ℕ) → 1 ≤ m → (xs : List A) (n : ℕ) → n + 1 ≡ k + m → set_numbered n k xs ≡ numbered_from k (set_at m f xs)
+  set_from k m low [] n is = refl
+  set_from k m low (x ∷ xs) n is = go (m == 1) refl (λ later. set_from (k + 1) (m - 1) (omega arith) xs n (omega arith))
+    where
+      go : (b : Bool) → (m == 1) ≡ b → (2 ≤ m → set_numbered n (k + 1) xs ≡ numbered_from (k + 1) (set_at (m - 1) f xs))
+          → cond (k == n) (k, f x) (k, x) ∷ set_numbered n (k + 1) xs ≡ numbered_from k (cond b (f x ∷ xs) (x ∷ set_at (m - 1) f xs))
+      go true one more =
+          let first : m ≡ 1 = grind (arith, nat_tests) in
+          let tested : (k == n) ≡ true = grind (arith, nat_tests) in
+          λ i. cond (tested i) (k, f x) (k, x) ∷ none_after (k + 1) n (omega arith) xs i
+      go false other more =
+          let later : 2 ≤ m = grind (arith, nat_tests) in
+          let tested : (k == n) ≡ false = grind (arith, nat_tests) in
+          λ i. cond (tested i) (k, f x) (k, x) ∷ more later i
+
+  pub numbered_set : (n : ℕ) → 1 ≤ n → (xs : List A) → set_numbered n 1 xs ≡ numbered (set_at n f xs)
+  numbered_set n low xs = set_from 1 n low xs n (omega arith)
+
+-- ---- the text
+
+-- the columns of a row, with the second parameter in the place of one
+abbrev pub set_terms : ℕ → ℕ → List Term
+set_terms width at = col 1 0 ∷ col 1 0 ∷ replaced at (col 0 1) (cols 1 1 width)
+
+module _ {A : Type 0} (t : ByNumber A) (text : List ℕ) (place : ℕ) (v : Value) (f : A → A) (n : ℕ) where
+  abbrev wide : ℕ
+  wide = length t.table.columns
+
+  abbrev terms : List Term
+  terms = set_terms wide place
+
+  abbrev set_columns : sql.Row → sql.Row
+  set_columns vs = replaced place v (columns_from 0 wide vs)
+
+  abbrev params : sql.Row
+  params = number_value n ∷ v ∷ []
+
+  abbrev change : Books → Books
+  change books = t.part.filled (set_at n f (t.part.items books)) books
+
+  -- The premises up to `low` are `refl` where the text is known, but `kept` where a column may be NULL.
+  pub sets_column : Means shop_schema text (Update t.place (record { lets = []; body = plain_query t.table.tree of_number terms [] }))
+      → ((books : Books) (it : ℕ × A) → set_columns (t.columns books it) ≡ t.columns books (set_item f it))
+      → ((books : Books) (it : ℕ × A) → are_kept t.table.columns (set_columns (t.columns books it)) ≡ true)
+      → ((r : sql.Row) → list_all (holds (params ∷ r ∷ [])) of_number ≡ (number_test 0 n (columns_of wide r) && true))
+      → ((r : sql.Row) → drop 1 (eval_all terms (params ∷ r ∷ [])) ≡ rowid r ∷ set_columns (columns_of wide r))
+      → ((r : sql.Row) → id_of (eval_all terms (params ∷ r ∷ [])) ≡ id_of r) → ((r : sql.Row) → columns_of wide (Int (id_of r) ∷ set_columns (columns_of wide r)) ≡ set_columns (columns_of wide r))
+      → ((w : Value) (vs : sql.Row) → cast_row t.table (w ∷ vs) ≡ cast kind.Integer w ∷ cast_all t.table.columns vs)
+      → 1 ≤ n → (old new : State) (count : ℕ) → ExecutesInside 0 text params old new (Ok count) → Writes old new (λ _. ⊤) change
+  sets_column means sets_are kept sees shown ids whole casts low old new count h counts books holds given =
+      writes_by shop_schema (StandsWith counts) old new (λ them. them ≡ books) change (λ has.
+      sets_row shop_schema (StandsWith counts) text t.place t.table wide of_number terms params (t.columns books) (λ vs. number_test 0 n vs && true) (λ it. it.0 == n) set_columns (set_item f)
+      (λ it. one_tested _ (test_of (t.columns books it) 0 it.0 n (t.numbers books it))) (sets_are books) (kept books) old new has
+      means t.plain.place refl count h (own_rows old.now.trees t.table.tree) sees shown ids whole casts (λ them. them ≡ books) change
+      (λ them same s is sets. subst (λ (b : Books). StandsWith counts old.now.trees b → StandsWith counts new.now.trees (change b)) (sym is) (λ stood. put same stood (sets (numbered (t.part.items books)) (t.stood counts books old.now.trees stood) few)) s))
+      books holds refl
+    where
+      few : PicksOne (λ (it : ℕ × A). it.0 == n) (numbered (t.part.items books))
+      few = numbered_once 1 (t.part.items books) n
+
+      put : SameBut shop_schema t.table.tree old.now.trees new.now.trees → StandsWith counts old.now.trees books
+          → HasRows wide (new.now.trees t.table.tree) (map (t.columns books) (update_where (λ (it : ℕ × A). it.0 == n) (set_item f) (numbered (t.part.items books)))) → StandsWith counts new.now.trees (change books)
+      put same stood rows =
+          t.changed counts books (set_at n f (t.part.items books)) old.now.trees new.now.trees same stood
+          (subst (λ (its : List (ℕ × A)). HasRows wide (new.now.trees t.table.tree) (map (t.columns books) its)) (numbered_set f n low (t.part.items books)) rows)
+
+-- ---- the sets of head office
+
+abbrev pub SetsColumn : {A : Type 0} → ByNumber A → List ℕ → Value → (A → A) → Type 1
+SetsColumn t text v f =
+    (old new : State) (n : ℕ) (count : ℕ) → 1 ≤ n → ExecutesInside 0 text (number_value n ∷ v ∷ []) old new (Ok count) → Writes old new (λ _. ⊤) (λ books. t.part.filled (set_at n f (t.part.items books)) books)
+
+pub sets_rate : (rate : ℕ) → SetsColumn films UPDATE_RATE.now (number_value rate) (λ f. record f { rate = rate })
+unfolding understood everything
+sets_rate rate old new n count low =
+    sets_column films _ 6 (number_value rate) (λ f. record f { rate = rate }) n (record { is = refl; plain = (refl, refl) }) (λ books it. refl) (λ books it. minutes_kept it.1.minutes)
+    (λ r. refl) (λ r. refl) (λ r. refl) (λ r. refl) (λ w vs. refl) low old new count
+
+pub sets_withdrawn : SetsColumn films UPDATE_WITHDRAWN.now (flag_value true) (λ f. record f { withdrawn = true })
+unfolding understood everything
+sets_withdrawn old new n count low =
+    sets_column films _ 11 (flag_value true) (λ f. record f { withdrawn = true }) n (record { is = refl; plain = (refl, refl) }) (λ books it. refl) (λ books it. minutes_kept it.1.minutes)
+    (λ r. refl) (λ r. refl) (λ r. refl) (λ r. refl) (λ w vs. refl) low old new count
+
+pub sets_gone : SetsColumn staff UPDATE_GONE.now (flag_value true) (λ r. record r { gone = true })
+unfolding understood everything
+sets_gone old new n count low =
+    sets_column staff _ 8 (flag_value true) (λ r. record r { gone = true }) n (record { is = refl; plain = (refl, refl) }) (λ books it. refl) (λ books it. refl)
+    (λ r. refl) (λ r. refl) (λ r. refl) (λ r. refl) (λ w vs. refl) low old new count
+
+pub sets_manager : (manager : ℕ) → SetsColumn branches UPDATE_MANAGER.now (number_value manager) (λ r. record r { manager = Some manager })
+unfolding understood everything
+sets_manager manager old new n count low =
+    sets_column branches _ 6 (number_value manager) (λ r. record r { manager = Some manager }) n (record { is = refl; plain = (refl, refl) }) (λ books it. refl)
+    (λ books it. ap (λ b. b && true) (kept_or_null moment_value (λ moment. refl) (head (owned_by it.0 books.lasts))))
+    (λ r. refl) (λ r. refl) (λ r. refl) (λ r. refl) (λ w vs. refl) low old new count

@@ -1,8 +1,0 @@
-use Rattle.std.proofs.Common.{arith}
-use Rattle.shop_store.proofs.SharedReads.{read_film, told_first}
-use Rattle.shop_store.proofs.reads.film_at.Goals as goal
-
-pub returns-clause-found : goal.returns-clause-found
-returns-clause-found g c clean =
-    let read = read_film _ _ c.args.film _ _ (rw (c.to_sql.ensures, c.get.ensures.value) at (c.in_ok-rows.ensures.shown clean)) (omega arith) c.as_slice.ensures.value in
-    told_first _ _ c.first_flag.result c.first_flag.ensures read.0 read.1

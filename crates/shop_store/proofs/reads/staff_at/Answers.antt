@@ -1,8 +1,0 @@
-use Rattle.std.proofs.Common.{arith}
-use Rattle.shop_store.proofs.SharedReads.{read_staff, told_first}
-use Rattle.shop_store.proofs.reads.staff_at.Goals as goal
-
-pub returns-clause-found : goal.returns-clause-found
-returns-clause-found g c clean =
-    let read = read_staff _ _ c.args.staff _ _ (rw (c.to_sql.ensures, c.get.ensures.value) at (c.in_ok-rows.ensures.shown clean)) (omega arith) c.as_slice.ensures.value in
-    told_first _ _ c.first_staff.result c.first_staff.ensures read.0 (λ row it. read.1 row (it.branch, it.gone))

@@ -1,0 +1,70 @@
+//! Branches by their tokens, and who manages them.
+
+ghost use Rattle.std.specs.Prelude.{⊤, ◌≡◌, Some, map};
+ghost use Rattle.sqlite.specs.Held.{state};
+ghost use Rattle.sql_rows.specs.Calls.{StaysInside};
+ghost use Rattle.shop_model.specs.Rows.{at, set_at};
+ghost use Rattle.shop_model.specs.Books.{head, branch_with};
+ghost use Rattle.shop_schema.specs.Calls.{Finds, Stores};
+ghost use Rattle.shop_store.specs.SharedSeen.{branch_caller, manager_of};
+
+use crate::columns::token_text;
+use shop_schema::{first_of, row_number_at, row_number_or_null_at};
+use shop_types::{BranchNo, StaffNo, Token};
+use sql_rows::{StoreFault, execute, query};
+use sqlite::types::ToSql;
+use sqlite::{Alter, Transaction};
+
+pub(crate) const SELECT_WITH_TOKEN: &str = "SELECT number FROM branch WHERE token = ?1";
+
+/// The branch whose token it is.
+pub fn branch_with<S: Alter>(
+    tx: &mut Transaction<'_, S>,
+    token: &Token,
+) -> Result<Option<BranchNo>, StoreFault>
+    ensures inside { StaysInside S.Store tx.old.conn tx.new.conn result }
+    ensures found { Finds (state S.Store tx.old.conn.now) (state S.Store tx.new.conn.now) result
+        (λ branch books. branch_caller branch ≡ branch_with token.now 1 books.catalogue.branches) }
+{
+    let rows = query(tx, SELECT_WITH_TOKEN, &[token_text(token).to_sql()])?;
+    first_of(rows.as_slice(), |row| row_number_at(row, 0))
+}
+
+const SELECT_MANAGER: &str = "SELECT manager FROM branch WHERE number = ?1";
+
+/// Who manages the branch of the number, if anyone; nothing at all where there is no such branch.
+pub fn branch_manager<S: Alter>(
+    tx: &mut Transaction<'_, S>,
+    branch: BranchNo,
+) -> Result<Option<Option<StaffNo>>, StoreFault>
+    ensures inside { StaysInside S.Store tx.old.conn tx.new.conn result }
+    ensures found { Finds (state S.Store tx.old.conn.now) (state S.Store tx.new.conn.now) result
+        (λ manager books. manager ≡ head (map manager_of (at branch books.catalogue.branches))) }
+{
+    let rows = query(tx, SELECT_MANAGER, &[branch.get().to_sql()])?;
+    first_of(rows.as_slice(), |row| row_number_or_null_at(row, 0))
+}
+
+const UPDATE_MANAGER: &str = "UPDATE branch SET manager = ?2 WHERE number = ?1";
+
+/// Makes the member of staff the branch's manager. After a fault the transaction may be rolled back.
+pub fn set_manager<S: Alter>(
+    tx: &mut Transaction<'_, S>,
+    branch: BranchNo,
+    staff: StaffNo,
+) -> Result<(), StoreFault>
+    ensures inside { StaysInside S.Store tx.old.conn tx.new.conn result }
+    ensures set { Stores (state S.Store tx.old.conn.now) (state S.Store tx.new.conn.now) result (λ _. ⊤)
+        (λ books. record books {
+          catalogue = record books.catalogue {
+            branches = set_at branch
+                (λ r. record r { manager = Some staff }) books.catalogue.branches;
+          };
+        }) }
+{
+    execute(
+        tx,
+        UPDATE_MANAGER,
+        &[branch.get().to_sql(), staff.get().to_sql()],
+    )
+}

@@ -1,0 +1,53 @@
+//! Where a member of staff works, or worked before leaving.
+
+ghost use Rattle.std.specs.Prelude.{⊤, ◌≡◌, true, IfOk, map, option_map};
+ghost use Rattle.sqlite.specs.Held.{state};
+ghost use Rattle.sqlite_value.specs.Order.{column};
+ghost use Rattle.sql_rows.specs.Rows.{number_value, flag_value};
+ghost use Rattle.sql_rows.specs.Calls.{StaysInside};
+ghost use Rattle.shop_model.specs.Rows.{at, set_at};
+ghost use Rattle.shop_model.specs.Books.{head};
+ghost use Rattle.shop_types.specs.Verdicts.{seen_post, post_of};
+ghost use Rattle.shop_schema.specs.Calls.{Finds, Stores};
+
+use shop_schema::{first_of, row_number_at};
+use shop_types::{StaffFound, StaffNo};
+use sql_rows::{StoreFault, execute, flag_at, query};
+use sqlite::types::ToSql;
+use sqlite::{Alter, Row, Transaction};
+
+/// Where the member of staff in the row works.
+fn post_in(row: &Row) -> Result<StaffFound, StoreFault>
+    ensures { IfOk result (λ it. (column row.now 0 ≡ number_value it.branch) × (column row.now 1 ≡ flag_value it.gone)) }
+{
+    Ok(StaffFound {
+        branch: row_number_at(row, 0)?,
+        gone: flag_at(row, 1)?,
+    })
+}
+
+const SELECT_POST: &str = "SELECT branch, gone FROM staff WHERE number = ?1";
+
+/// Where the member of staff of the number works, or worked before leaving.
+pub fn staff_at<S: Alter>(
+    tx: &mut Transaction<'_, S>,
+    staff: StaffNo,
+) -> Result<Option<StaffFound>, StoreFault>
+    ensures inside { StaysInside S.Store tx.old.conn tx.new.conn result }
+    ensures found { Finds (state S.Store tx.old.conn.now) (state S.Store tx.new.conn.now) result
+        (λ post books. option_map seen_post post ≡ head (map post_of (at staff books.catalogue.staff))) }
+{
+    let rows = query(tx, SELECT_POST, &[staff.get().to_sql()])?;
+    first_of(rows.as_slice(), post_in)
+}
+
+const UPDATE_GONE: &str = "UPDATE staff SET gone = ?2 WHERE number = ?1";
+
+/// Sets that the member of staff left. After a fault the transaction may be rolled back.
+pub fn set_gone<S: Alter>(tx: &mut Transaction<'_, S>, staff: StaffNo) -> Result<(), StoreFault>
+    ensures inside { StaysInside S.Store tx.old.conn tx.new.conn result }
+    ensures set { Stores (state S.Store tx.old.conn.now) (state S.Store tx.new.conn.now) result (λ _. ⊤)
+        (λ books. record books { catalogue = record books.catalogue { staff = set_at staff (λ r. record r { gone = true }) books.catalogue.staff } }) }
+{
+    execute(tx, UPDATE_GONE, &[staff.get().to_sql(), true.to_sql()])
+}

@@ -1,0 +1,195 @@
+-- What the films' join shows of the books.
+use Rattle.std.proofs.Common.{◌≡◌, ◌==◌, ◌&&◌, ◌<◌, ◌+◌, ℕ, List, [], ◌∷◌, ◌++◌, map, filter, true, false, Bool, cond, Option, Some, None, refl, sym, ap, subst, ◌∙◌, arith, is_eq, is_lt, append-nil, inl, inr, IsPermutation, Equal}
+use Rattle.std.specs.Prelude.{◌⊎◌}
+use Rattle.std.specs.List.{flat_map, AllByRecursion}
+use Rattle.std.specs.Ordering.{nat_cmp, ordering_then}
+use Rattle.std.proofs.lemmas.List.Sorted.{IsPermutation-trans, IsPermutation-map, length_permutation}
+use Rattle.sqlite.specs.declared.types.Value.{Value}
+use Rattle.sqlite.specs.declared.types.Value.TheVariants.{Null, Text}
+use Rattle.sqlite.specs.Values.{or_null}
+use Rattle.sqlite_value.specs.Order as sql
+use Rattle.sqlite_value.specs.Order.{column, value_cmp}
+use Rattle.sqlite_trees.specs.Tree.{Trees, IsAscending}
+use Rattle.sqlite_sql.specs.Query.{end, Output, output_cmp}
+use Rattle.sqlite.specs.State.{State, Shown}
+use Rattle.sqlite_sql.specs.Program.{overlay}
+use Rattle.sqlite_keyed.proofs.ListLemmas.{map-map, filter_same, map-flat_map, IsPermutation-same, ascending-map, ascending_weaker, ascending-append, ascending-filter, all-map, all-flat_map, all_weaker}
+use Rattle.sql_rows.specs.Rows.{HasRows, columns_of, number_value}
+use Rattle.sql_rows.proofs.Queries.{answers, number_cmp}
+use Rattle.sql_rows.proofs.ColumnTests.{one_tested, number_tested}
+use Rattle.sql_rows.proofs.Joins.{or_blank, shown_of, equals, left_bag, joined_rows, Climbs}
+use Rattle.shop_model.specs.Rows.{at, lacks, numbered, numbered_from}
+use Rattle.shop_model.specs.Values as model
+use Rattle.shop_model.specs.Values.{Actor, Film, Cast}
+use Rattle.shop_model.specs.Shop.{Catalogue}
+use Rattle.shop_model.specs.Books.{Books}
+use Rattle.shop_model.specs.Views.{is_cast}
+use Rattle.shop_model.proofs.FoundLemmas.{at_one}
+use Rattle.shop_schema.specs.Tables.{shop_schema}
+use Rattle.shop_schema.specs.Shop.{IsShop, StandsFor}
+use Rattle.shop_schema.specs.Columns.{named_columns, actor_columns, film_columns, cast_columns}
+use Rattle.shop_store.proofs.LastNumbers.{above_from, numbered_rise}
+use Rattle.view_texts.specs.Shown.{name_or_null, FilmLine, shown_film, actors_of, lines_of, film_lines}
+use Rattle.view_texts.proofs.Orders.{less, greater, equal}
+use Rattle.view_texts.proofs.Numbers.{left_number, left_null}
+use Rattle.view_texts.proofs.Casts.{casts_of, played_by, cast_bag, there_one, any_cast, differ_in, AreApart, AreThere}
+use Rattle.view_texts.proofs.FilmQuery.{select_films, films_query, films_mean, film_shows, film_order, with_actor, with_cast, with_category}
+
+abbrev pub film_output : Catalogue → FilmLine → Output
+film_output catalogue line = (number_value line.0.0 ∷ or_null (λ (it : ℕ × Actor). number_value it.0) line.1 ∷ [], shown_film catalogue line)
+
+module _ (catalogue : Catalogue) (db : Trees) (categories : HasRows 2 (db 7) (map named_columns (numbered catalogue.categories))) (casts : HasRows 2 (db 16) (map cast_columns catalogue.casts))
+    (actors : HasRows 3 (db 12) (map actor_columns (numbered catalogue.actors))) (apart : AreApart catalogue.casts) (there : AreThere catalogue catalogue.casts) (film : ℕ × Film) where
+  abbrev its : sql.Row
+  its = Null ∷ film_columns film
+
+  abbrev row_with : Value → Value → Value → sql.Row
+  row_with category first last =
+      number_value film.0 ∷ Text film.1.title ∷ Text film.1.description ∷ category ∷ number_value film.1.rate ∷ or_null number_value film.1.minutes ∷ Text film.1.rating ∷ first ∷ last ∷ []
+
+  abbrev out : Value → Option (ℕ × Actor) → Output
+  out category actor =
+      (number_value film.0 ∷ or_null (λ (it : ℕ × Actor). number_value it.0) actor ∷ [], row_with category (or_null (λ (it : ℕ × Actor). Text it.1.first) actor) (or_null (λ (it : ℕ × Actor). Text it.1.last) actor))
+
+  -- the outputs of some actors, one where there is none
+  abbrev outs : Value → List (ℕ × Actor) → List Output
+  outs category [] = out category None ∷ []
+  outs category (it ∷ its) = map (λ actor. out category (Some actor)) (it ∷ its)
+
+  module _ (c2 : sql.Row) where
+    abbrev after_cast : sql.Row → List Output
+    after_cast r3 = shown_of films_query (overlay db []) with_actor ([] ∷ its ∷ (Null ∷ c2) ∷ r3 ∷ [])
+
+    cast_there : (c : Cast) (x : Actor) → at c.actor catalogue.actors ≡ x ∷ [] → after_cast (Null ∷ cast_columns c) ≡ out (column c2 1) (Some (c.actor, x)) ∷ []
+    cast_there c x is =
+        left_number 3 actor_columns (db 12) catalogue.actors actors (λ it. refl) (λ r. refl)
+        (λ r4. shown_of films_query (overlay db []) end ([] ∷ its ∷ (Null ∷ c2) ∷ (Null ∷ cast_columns c) ∷ r4 ∷ [])) (λ r. refl) c.actor
+        ∙ ap (λ l. flat_map (λ c4. shown_of films_query (overlay db []) end ([] ∷ its ∷ (Null ∷ c2) ∷ (Null ∷ cast_columns c) ∷ (Null ∷ c4) ∷ [])) (or_blank 3 (map (λ y. actor_columns (c.actor, y)) l))) is
+
+    no_cast : after_cast (Null ∷ columns_of 2 []) ≡ out (column c2 1) None ∷ []
+    no_cast =
+        left_null 3 actor_columns (db 12) catalogue.actors actors (λ it. refl) (λ r. refl)
+        (λ r4. shown_of films_query (overlay db []) end ([] ∷ its ∷ (Null ∷ c2) ∷ (Null ∷ columns_of 2 []) ∷ r4 ∷ [])) (λ r. refl)
+
+    casts_there : (mine : List Cast) → AreThere catalogue mine
+        → flat_map (λ c3. after_cast (Null ∷ c3)) (map cast_columns mine) ≡ map (λ actor. out (column c2 1) (Some actor)) (played_by catalogue.actors mine)
+    casts_there [] there = refl
+    casts_there (c ∷ mine) there =
+        let one = there_one catalogue.actors c.actor there.0 in
+        (λ i. cast_there c one.0 one.1 i ++ casts_there mine there.1 i)
+        ∙ ap (λ l. map (λ actor. out (column c2 1) (Some actor)) (map (λ y. (c.actor, y)) l ++ played_by catalogue.actors mine)) (sym one.1)
+
+    -- the film's casts, whose actors are those of the list
+    abbrev mine : List Cast
+    mine = casts_of film.0 catalogue.casts
+
+    played : IsPermutation (played_by catalogue.actors mine) (actors_of catalogue film.0)
+    played =
+        subst (IsPermutation (played_by catalogue.actors mine)) (filter_same _ _ (λ it. sym (any_cast film.0 it.0 catalogue.casts)) (numbered catalogue.actors))
+        (cast_bag catalogue.actors mine (differ_in film.0 catalogue.casts apart))
+
+    all_kept : (p : Cast → Bool) (l : List Cast) → AllByRecursion (λ (c : Cast). lacks catalogue.actors c.actor ≡ false) l → AllByRecursion (λ (c : Cast). lacks catalogue.actors c.actor ≡ false) (filter p l)
+    all_kept p [] all = tt
+    all_kept p (c ∷ l) all = elim (p c) as (λ t. AllByRecursion (λ (c : Cast). lacks catalogue.actors c.actor ≡ false) (cond t (c ∷ filter p l) (filter p l))) [ true ↦ (all.0, all_kept p l all.1) | false ↦ all_kept p l all.1 ]
+
+    blank_or : (l : List Cast) (target : List (ℕ × Actor)) → AllByRecursion (λ (c : Cast). lacks catalogue.actors c.actor ≡ false) l → IsPermutation (played_by catalogue.actors l) target
+        → IsPermutation (flat_map (λ c3. after_cast (Null ∷ c3)) (or_blank 2 (map cast_columns l))) (outs (column c2 1) target)
+    blank_or [] [] there same = IsPermutation-same _ _ (append-nil _ ∙ no_cast)
+    blank_or [] (it ∷ target) there same = absurd (omega (arith, length_permutation _ _ same))
+    blank_or (c ∷ l) [] there same =
+        let one = there_one catalogue.actors c.actor there.0 in
+        absurd (omega (arith, length_permutation _ _ (subst (λ k. IsPermutation (map (λ y. (c.actor, y)) k ++ played_by catalogue.actors l) []) one.1 same)))
+    blank_or (c ∷ l) (it ∷ target) there same =
+        subst (λ k. IsPermutation k (map (λ actor. out (column c2 1) (Some actor)) (it ∷ target))) (sym (casts_there (c ∷ l) there)) (IsPermutation-map (λ actor. out (column c2 1) (Some actor)) _ _ same)
+
+    category_brings : IsPermutation (shown_of films_query (overlay db []) with_cast ([] ∷ its ∷ (Null ∷ c2) ∷ [])) (outs (column c2 1) (actors_of catalogue film.0))
+    category_brings =
+        IsPermutation-trans _ _ _
+        (left_bag 2 cast_columns (db 16) catalogue.casts casts (λ r. equals (column r 1) (number_value film.0) && true) (λ vs. equals (column vs 0) (number_value film.0) && true) (λ (c : Cast). c.film == film.0)
+        (λ r. refl) (λ c. one_tested _ (number_tested c.film film.0)) after_cast (λ r. refl))
+        (blank_or mine (actors_of catalogue film.0) (all_kept _ catalogue.casts there) played)
+
+  as_lines : (category : Value) (l : List (ℕ × Actor)) → category ≡ name_or_null (at film.1.category catalogue.categories) → outs category l ≡ map (film_output catalogue) (lines_of film l)
+  as_lines category [] is = ap (λ v. out v None ∷ []) is
+  as_lines category (it ∷ l) is = ap (λ v. map (λ actor. out v (Some actor)) (it ∷ l)) is ∙ sym (map-map (film_output catalogue) (λ actor. (film, Some actor)) (it ∷ l))
+
+  pub film_brings : IsPermutation (shown_of films_query (overlay db []) with_category ([] ∷ its ∷ [])) (map (film_output catalogue) (lines_of film (actors_of catalogue film.0)))
+  film_brings =
+      subst (λ l. IsPermutation l (map (film_output catalogue) (lines_of film (actors_of catalogue film.0))))
+      (sym (left_number 2 named_columns (db 7) catalogue.categories categories (λ it. refl) (λ r. refl) (λ r2. shown_of films_query (overlay db []) with_cast ([] ∷ its ∷ r2 ∷ [])) (λ r. refl) film.1.category))
+      (go (at film.1.category catalogue.categories) refl (at_one film.1.category catalogue.categories))
+    where
+      shows : sql.Row → List Output
+      shows c2 = shown_of films_query (overlay db []) with_cast ([] ∷ its ∷ (Null ∷ c2) ∷ [])
+
+      target : List Output
+      target = map (film_output catalogue) (lines_of film (actors_of catalogue film.0))
+
+      one_row : (c2 : sql.Row) → column c2 1 ≡ name_or_null (at film.1.category catalogue.categories) → IsPermutation (shows c2 ++ []) target
+      one_row c2 is =
+          subst (λ l. IsPermutation l target) (sym (append-nil (shows c2))) (subst (IsPermutation (shows c2)) (as_lines (column c2 1) (actors_of catalogue film.0) is) (category_brings c2))
+
+      go : (l : List model.Text) → at film.1.category catalogue.categories ≡ l → (l ≡ []) ⊎ ((name : model.Text) × (l ≡ name ∷ [])) → IsPermutation (flat_map shows (or_blank 2 (map (λ name. named_columns (film.1.category, name)) l))) target
+      go l e (inl none) = subst (λ k. IsPermutation (flat_map shows (or_blank 2 (map (λ name. named_columns (film.1.category, name)) k))) target) (sym none) (one_row (columns_of 2 []) (sym (ap name_or_null (e ∙ none))))
+      go l e (inr one) =
+          subst (λ k. IsPermutation (flat_map shows (or_blank 2 (map (λ name. named_columns (film.1.category, name)) k))) target) (sym one.1)
+          (one_row (named_columns (film.1.category, one.0)) (sym (ap name_or_null (e ∙ one.1))))
+
+-- ---- the order
+
+abbrev Later : FilmLine → FilmLine → Type 0
+Later a b = (a.0.0 < b.0.0) ⊎ ((a.0.0 ≡ b.0.0) × (x : ℕ × Actor) × (y : ℕ × Actor) × (a.1 ≡ Some x) × (b.1 ≡ Some y) × (x.0 < y.0))
+
+abbrev actor_key : FilmLine → Value
+actor_key line = or_null (λ (it : ℕ × Actor). number_value it.0) line.1
+
+compares : (catalogue : Catalogue) (a b : FilmLine) → output_cmp films_query (film_output catalogue a) (film_output catalogue b) ≡ ordering_then (nat_cmp a.0.0 b.0.0) (ordering_then (value_cmp (actor_key a) (actor_key b)) Equal)
+compares catalogue a b = ap (λ o. ordering_then o (ordering_then (value_cmp (actor_key a) (actor_key b)) Equal)) (number_cmp a.0.0 b.0.0)
+
+by_actor : (a b : FilmLine) (x y : ℕ × Actor) → a.1 ≡ Some x → b.1 ≡ Some y → value_cmp (actor_key a) (actor_key b) ≡ nat_cmp x.0 y.0
+by_actor a b x y is are = (λ i. value_cmp (or_null (λ (it : ℕ × Actor). number_value it.0) (is i)) (or_null (λ (it : ℕ × Actor). number_value it.0) (are i))) ∙ number_cmp x.0 y.0
+
+climbs : (catalogue : Catalogue) (a b : FilmLine) → Later a b
+    → (is_eq (output_cmp films_query (film_output catalogue a) (film_output catalogue b)) ≡ false) × (is_lt (output_cmp films_query (film_output catalogue b) (film_output catalogue a)) ≡ false)
+climbs catalogue a b (inl h) = (
+  ap is_eq (compares catalogue a b ∙ ap (λ o. ordering_then o (ordering_then (value_cmp (actor_key a) (actor_key b)) Equal)) (less a.0.0 b.0.0 h)),
+  ap is_lt (compares catalogue b a ∙ ap (λ o. ordering_then o (ordering_then (value_cmp (actor_key b) (actor_key a)) Equal)) (greater a.0.0 b.0.0 h)),
+)
+climbs catalogue a b (inr h) =
+    let x = h.1 in
+    let y = h.2 in (
+      ap is_eq (compares catalogue a b ∙ (λ i. ordering_then (equal a.0.0 b.0.0 h.0 i) (ordering_then ((by_actor a b x y h.3 h.4 ∙ less x.0 y.0 h.5) i) Equal))),
+      ap is_lt (compares catalogue b a ∙ (λ i. ordering_then (equal b.0.0 a.0.0 (sym h.0) i) (ordering_then ((by_actor b a y x h.4 h.3 ∙ greater x.0 y.0 h.5) i) Equal))),
+    )
+
+lines_up : (film : ℕ × Film) (l : List (ℕ × Actor)) → IsAscending (λ (a b : ℕ × Actor). a.0 < b.0) l → IsAscending Later (lines_of film l)
+lines_up film [] up = (tt, tt)
+lines_up film (it ∷ l) up =
+    ascending-map Later (λ actor. (film, Some actor)) (it ∷ l) (ascending_weaker (λ (a b : ℕ × Actor). a.0 < b.0) _ (λ a b h. inr (refl, a, b, refl, refl, h)) (it ∷ l) up)
+
+of_film : (film : ℕ × Film) (l : List (ℕ × Actor)) (P : FilmLine → Type 0) → ((actor : Option (ℕ × Actor)) → P (film, actor)) → AllByRecursion P (lines_of film l)
+of_film film [] P h = (h None, tt)
+of_film film (it ∷ l) P h = all-map P (λ actor. (film, Some actor)) (λ actor. h (Some actor)) (it ∷ l)
+
+films_up : (catalogue : Catalogue) (k : ℕ) (films : List Film) → IsAscending Later (flat_map (λ (film : ℕ × Film). lines_of film (actors_of catalogue film.0)) (numbered_from k films))
+films_up catalogue k [] = tt
+films_up catalogue k (film ∷ films) =
+    let actors = actors_of catalogue k in
+    ascending-append Later (lines_of (k, film) actors) _
+    (lines_up (k, film) actors (ascending-filter (λ (a b : ℕ × Actor). a.0 < b.0) (λ (it : ℕ × Actor). is_cast catalogue k it.0) (numbered catalogue.actors) (numbered_rise 1 catalogue.actors)))
+    (films_up catalogue (k + 1) films)
+    (of_film (k, film) actors _ (λ actor. all-flat_map (λ line. Later ((k, film), actor) line) (λ (it : ℕ × Film). lines_of it (actors_of catalogue it.0)) (numbered_from (k + 1) films)
+    (all_weaker (λ (it : ℕ × Film). k < it.0) _ (λ it h. of_film it (actors_of catalogue it.0) _ (λ other. inl h)) (numbered_from (k + 1) films) (above_from (k + 1) films k (omega arith)))))
+
+pub shows_films : (old new : State) (rows : List sql.Row) (books : Books) → IsShop old → Shown select_films [] old new rows → StandsFor old.now.trees books → AreApart books.catalogue.casts → AreThere books.catalogue books.catalogue.casts
+    → rows ≡ map (shown_film books.catalogue) (film_lines books.catalogue)
+shows_films old new rows books shop h s apart there =
+    let catalogue = books.catalogue in
+    let db = old.now.trees in
+    let up : Climbs films_query (map (film_output catalogue) (film_lines catalogue)) =
+    ascending-map _ (film_output catalogue) (film_lines catalogue) (ascending_weaker Later _ (climbs catalogue) (film_lines catalogue) (films_up catalogue 1 catalogue.films)) in
+    joined_rows 14 with_category [] film_shows film_order [] db 12 film_columns (numbered catalogue.films) s.films refl (λ r. refl)
+    (λ film. map (film_output catalogue) (lines_of film (actors_of catalogue film.0))) (λ film. film_brings catalogue db s.categories s.casts s.actors apart there film)
+    rows (answers shop_schema select_films films_query [] old new shop films_mean rows h)
+    (map (film_output catalogue) (film_lines catalogue)) (IsPermutation-same _ _ (sym (map-flat_map (film_output catalogue) (λ (film : ℕ × Film). lines_of film (actors_of catalogue film.0)) (numbered catalogue.films)))) up
+    ∙ map-map (λ (o : Output). o.1) (film_output catalogue) (film_lines catalogue)

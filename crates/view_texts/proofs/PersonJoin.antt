@@ -1,0 +1,74 @@
+-- The names of a row's city and country, as they are joined.
+use Rattle.std.proofs.Common.{◌≡◌, ◌&&◌, ℕ, List, [], ◌∷◌, map, filter, true, refl, sym, ap, subst, ◌∙◌, append-nil, inl, inr}
+use Rattle.std.specs.Prelude.{◌⊎◌}
+use Rattle.std.specs.List.{flat_map}
+use Rattle.sqlite.specs.declared.types.Value.{Value}
+use Rattle.sqlite.specs.declared.types.Value.TheVariants.{Null, Text}
+use Rattle.sqlite_value.specs.Order as sql
+use Rattle.sqlite_value.specs.Order.{column}
+use Rattle.sqlite_trees.specs.Tree.{Trees}
+use Rattle.sqlite_sql.specs.Query.{Query, Join, or_nulls, Output}
+use Rattle.sqlite_sql.specs.Program.{overlay}
+use Rattle.sqlite_keyed.proofs.ListLemmas.{flat_map_same_on}
+use Rattle.sql_rows.specs.Rows.{HasRows, columns_of, number_value}
+use Rattle.sql_rows.proofs.Joins.{or_blank, shown_of, equals}
+use Rattle.shop_model.specs.Rows.{at, numbered}
+use Rattle.shop_model.specs.Values as model
+use Rattle.shop_model.specs.Values.{City}
+use Rattle.shop_model.specs.Shop.{Catalogue}
+use Rattle.shop_model.proofs.FoundLemmas.{at_one}
+use Rattle.shop_schema.specs.Columns.{named_columns, city_columns}
+use Rattle.view_texts.specs.Shown.{name_or_null}
+use Rattle.view_texts.proofs.Numbers.{left_number, left_null}
+use Rattle.view_texts.proofs.PeopleQueries.{country_then, city_then}
+
+-- `its` is the row, with the city's number in the column `place`; `more` is joined behind; `out` is what the query shows with these two names
+module _ (place : ℕ) (more : Join) (q : Query) (catalogue : Catalogue) (db : Trees) (cities : HasRows 3 (db 10) (map city_columns (numbered catalogue.cities))) (countries : HasRows 2 (db 1) (map named_columns (numbered catalogue.countries)))
+    (params its : sql.Row) (n : ℕ) (city : column its place ≡ number_value n)
+    (out : Value → Value → List Output) (ends : (r2 r3 : sql.Row) → shown_of q (overlay db []) more (params ∷ its ∷ r2 ∷ r3 ∷ []) ≡ out (column r2 2) (column r3 2)) where
+  abbrev last : sql.Row → sql.Row → List Output
+  last r2 r3 = shown_of q (overlay db []) more (params ∷ its ∷ r2 ∷ r3 ∷ [])
+
+  abbrev shows : sql.Row → List Output
+  shows r2 = shown_of q (overlay db []) (country_then more) (params ∷ its ∷ r2 ∷ [])
+
+  only : (r2 r : sql.Row) → last r2 r ≡ last r2 (Null ∷ columns_of 2 r)
+  only r2 r = ends r2 r ∙ sym (ends r2 (Null ∷ columns_of 2 r))
+
+  same_city : (r : sql.Row) → shows r ≡ shows (Null ∷ columns_of 3 r)
+  same_city r =
+      flat_map_same_on (last r) (last (Null ∷ columns_of 3 r)) (λ r3. ends r r3 ∙ sym (ends (Null ∷ columns_of 3 r) r3))
+      (or_nulls (filter (λ r3. equals (column r3 1) (column r 3) && true) (db 1)))
+
+  city_there : (m : ℕ) (c : City) → shows (Null ∷ city_columns (m, c)) ≡ out (Text c.name) (name_or_null (at c.country catalogue.countries))
+  city_there m c =
+      left_number 2 named_columns (db 1) catalogue.countries countries (λ it. refl) (λ r. refl) (last (Null ∷ city_columns (m, c))) (only (Null ∷ city_columns (m, c))) c.country
+      ∙ go (at c.country catalogue.countries) (at_one c.country catalogue.countries)
+    where
+      P : List model.Text → Type 0
+      P l = flat_map (λ c3. last (Null ∷ city_columns (m, c)) (Null ∷ c3)) (or_blank 2 (map (λ name. named_columns (c.country, name)) l)) ≡ out (Text c.name) (name_or_null l)
+
+      go : (l : List model.Text) → (l ≡ []) ⊎ ((name : model.Text) × (l ≡ name ∷ [])) → P l
+      go l (inl none) = subst P (sym none) (append-nil _ ∙ ends (Null ∷ city_columns (m, c)) (Null ∷ columns_of 2 []))
+      go l (inr one) = subst P (sym one.1) (append-nil _ ∙ ends (Null ∷ city_columns (m, c)) (Null ∷ named_columns (c.country, one.0)))
+
+  city_missing : shows (Null ∷ columns_of 3 []) ≡ out Null Null
+  city_missing =
+      left_null 2 named_columns (db 1) catalogue.countries countries (λ it. refl) (λ r. refl) (last (Null ∷ columns_of 3 [])) (only (Null ∷ columns_of 3 []))
+      ∙ append-nil _ ∙ ends (Null ∷ columns_of 3 []) (Null ∷ columns_of 2 [])
+
+  pub person_brings : shown_of q (overlay db []) (city_then place more) (params ∷ its ∷ [])
+      ≡ out (name_or_null (map (λ (it : City). it.name) (at n catalogue.cities))) (name_or_null (flat_map (λ (it : City). at it.country catalogue.countries) (at n catalogue.cities)))
+  person_brings =
+      ap (λ v. flat_map shows (or_nulls (filter (λ r. equals (column r 1) v && true) (db 10)))) city
+      ∙ left_number 3 city_columns (db 10) catalogue.cities cities (λ it. refl) (λ r. refl) shows same_city n
+      ∙ go (at n catalogue.cities) (at_one n catalogue.cities)
+    where
+      P : List City → Type 0
+      P l = flat_map (λ c2. shows (Null ∷ c2)) (or_blank 3 (map (λ c. city_columns (n, c)) l))
+          ≡ out (name_or_null (map (λ (it : City). it.name) l)) (name_or_null (flat_map (λ (it : City). at it.country catalogue.countries) l))
+
+      go : (l : List City) → (l ≡ []) ⊎ ((c : City) × (l ≡ c ∷ [])) → P l
+      go l (inl none) = subst P (sym none) (append-nil _ ∙ city_missing)
+      go l (inr one) =
+          subst P (sym one.1) (append-nil _ ∙ city_there n one.0 ∙ ap (λ l. out (Text one.0.name) (name_or_null l)) (sym (append-nil (at one.0.country catalogue.countries))))

@@ -1,0 +1,7 @@
+use Rattle.reply_bodies.specs.Sales.{seen_category}
+use Rattle.view_texts.proofs.CategoryOrder.{IsLater}
+use Rattle.view_texts.proofs.categories.place_among.Given as goal
+
+-- the row stands behind those before this place
+abbrev pub invariant-loop-place : goal.invariant-loop-place
+invariant-loop-place l = IsLater (seen_category l.row) l.place l.rows

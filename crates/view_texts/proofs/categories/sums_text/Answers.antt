@@ -1,0 +1,11 @@
+use Rattle.std.proofs.Common.{◌∙◌, ap, map}
+use Rattle.std.proofs.lemmas.Result.{IfOk-weaker}
+use Rattle.shop_model.specs.Machine.{CategoriesListed}
+use Rattle.shop_model.specs.Answers.{shown_text}
+use Rattle.reply_bodies.specs.Sales.{seen_category}
+use Rattle.view_texts.proofs.categories.sums_text.Goals as goal
+
+pub returns : goal.returns
+returns c =
+    let rows = ap (map seen_category) c.as_slice.ensures.value ∙ c.in_ok-rows.ensures in
+    IfOk-weaker c.list_text.result _ _ (λ s is. is ∙ ap (λ rows. shown_text (CategoriesListed rows)) rows) c.list_text.ensures

@@ -1,0 +1,13 @@
+use Rattle.std.proofs.Common.{◌∷◌, [], sym, ap, ◌∙◌}
+use Rattle.sqlite_value.specs.Order.{column}
+use Rattle.sql_rows.specs.Rows.{flag_value}
+use Rattle.sql_rows.proofs.ColumnTests.{same_flag, same_number}
+use Rattle.view_texts.proofs.PersonLines.{numbered_person}
+use Rattle.view_texts.proofs.customers.read_customer.Goals as goal
+
+pub returns : goal.returns
+returns c catalogue x is =
+    let number = same_number _ _ (sym c.in_ok-row_number_at.ensures.ok ∙ ap (λ r. column r 0) is) in
+    let active = same_flag _ _ (sym c.in_ok-flag_at.ensures.ok ∙ ap (λ r. column r 8) is) in
+    let person = numbered_person _ _ _ _ number (c.in_ok-person_at.ensures catalogue x.number x.it.person (flag_value x.it.active ∷ []) is) in
+    (λ i. (person i, active i))

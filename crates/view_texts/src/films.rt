@@ -1,0 +1,189 @@
+//! The list of all films, each with its actors: neighbouring rows of one join belong to one film.
+
+ghost use Rattle.std.specs.Prelude.{◌≡◌, List, [], ◌∷◌, ◌++◌, Option, Some, IfOk, OnOk, map, option_map, string_bytes};
+ghost use Rattle.serde_json.specs.Data.{Data};
+ghost use Rattle.sqlite.specs.Held.{state};
+ghost use Rattle.sqlite.specs.State.{HasCleanDisk};
+ghost use Rattle.sql_rows.specs.Calls.{StaysSame};
+ghost use Rattle.sqlite.specs.Values.{or_null};
+ghost use Rattle.sqlite.specs.declared.types.Value.TheVariants.{Text as SqlText};
+ghost use Rattle.sqlite_value.specs.Order.{column};
+ghost use Rattle.sql_rows.specs.Rows.{number_value};
+ghost use Rattle.shop_model.specs.Shop.{Catalogue};
+ghost use Rattle.shop_model.specs.Books.{Books};
+ghost use Rattle.shop_model.specs.Machine.{FilmsListed};
+ghost use Rattle.shop_model.specs.Answers.{shown_text};
+ghost use Rattle.shop_model.specs.Views.{FilmRow as ModelFilm, film_list};
+ghost use Rattle.shop_types.specs.Films.{rating_text};
+ghost use Rattle.shop_schema.specs.Shop.{Holds};
+ghost use Rattle.shop_schema.specs.Held.{IsHeld};
+ghost use Rattle.reply_bodies.specs.Films.{film_with, seen_film, film_data};
+ghost use Rattle.reply_bodies.specs.Page.{HasValues};
+ghost use Rattle.view_texts.specs.Shown.{FilmLine, shown_film};
+ghost use Rattle.view_texts.specs.Films.{names_of, film_alone, seen_part, take_line, closed, HasFilms};
+
+use crate::people::{name_at, person_name_or_null_at};
+use reply_bodies::{FilmRow, ListPage, film_row};
+use shop_schema::{row_number_at, text_at};
+use shop_types::{Minutes, Rating};
+use shop_values::Rate;
+use sql_rows::{StoreFault, TakesRows, each_row, number_at, number_or_null_at, words_at};
+use sqlite::{Alter, Connection, Row};
+use std::alloc::{AllocError, Global};
+
+/// The rate in the column, in cents.
+fn rate_at(row: &Row, at: usize) -> Result<Rate, StoreFault>
+    ensures { IfOk result (λ n. column row.now at ≡ number_value n) }
+{
+    let Ok(cents) = u16::try_from(number_at(row, at)?) else {
+        return Err(StoreFault::Failed);
+    };
+    match Rate::new(cents) {
+        Some(rate) => Ok(rate),
+        None => Err(StoreFault::Failed),
+    }
+}
+
+/// The length in the column, or none where it is NULL.
+fn minutes_at(row: &Row, at: usize) -> Result<Option<Minutes>, StoreFault>
+    ensures { IfOk result (λ o. column row.now at ≡ or_null number_value o) }
+{
+    let Some(number) = number_or_null_at(row, at)? else {
+        return Ok(None);
+    };
+    let Ok(number) = u16::try_from(number) else {
+        return Err(StoreFault::Failed);
+    };
+    match Minutes::new(number) {
+        Some(minutes) => Ok(Some(minutes)),
+        None => Err(StoreFault::Failed),
+    }
+}
+
+/// The rating in the column.
+fn rating_at(row: &Row, at: usize) -> Result<Rating, StoreFault>
+    ensures { IfOk result (λ rating. column row.now at ≡ SqlText (rating_text rating)) }
+{
+    match Rating::read(words_at(row, at)?.as_str()) {
+        Some(rating) => Ok(rating),
+        None => Err(StoreFault::Failed),
+    }
+}
+
+/// The film of the row, without its actor.
+fn film_at(alloc: Global, row: &Row) -> Result<FilmRow, StoreFault>
+    ensures film { IfOk result (λ it. (catalogue : Catalogue) (line : FilmLine) → row.now ≡ shown_film catalogue line
+        → film_with [] it ≡ film_alone catalogue line.0) }
+    ensures none { IfOk result (λ it. it.actors.items ≡ []) }
+{
+    Ok(FilmRow {
+        number: row_number_at(row, 0)?,
+        rate: rate_at(row, 4)?,
+        minutes: minutes_at(row, 5)?,
+        rating: rating_at(row, 6)?,
+        title: text_at(row, 1)?,
+        description: text_at(row, 2)?,
+        category: name_at(alloc, row, 3)?,
+        actors: Vec::new(alloc),
+    })
+}
+
+/// The film with the row's actor.
+fn with_actor(film: FilmRow, row: &Row) -> Result<FilmRow, StoreFault>
+    ensures { IfOk result (λ it. (catalogue : Catalogue) (line : FilmLine) → row.now ≡ shown_film catalogue line
+        → seen_part it ≡ ((seen_part film).0, (seen_part film).1 ++ names_of line.1)) }
+{
+    let mut film = film;
+    if let Some(name) = person_name_or_null_at(row, 7, 8)? {
+        film.actors.push(name)?;
+    }
+    Ok(film)
+}
+
+/// Puts the film last.
+fn add_film(alloc: Global, film: FilmRow, page: &mut ListPage) -> Result<(), AllocError>
+    ensures { OnOk result ((values : List Data) → HasValues page.old values → HasValues page.new (values ++ film_data (seen_film film) ∷ [])) }
+{
+    let value = film_row(alloc, &film)?;
+    page.add(&value)
+}
+
+/// The film of the row with the row's actor. The film of the rows before, if it is another one, goes on the page.
+fn next_film(
+    alloc: Global,
+    film: Option<FilmRow>,
+    row: &Row,
+    page: &mut ListPage,
+) -> Result<FilmRow, StoreFault>
+    ensures { IfOk result (λ it. (catalogue : Catalogue) (line : FilmLine) (films : List ModelFilm) → row.now ≡ shown_film catalogue line
+        → HasValues page.old (map film_data films)
+        → HasValues page.new (map film_data (take_line catalogue (films, option_map seen_part film) line).0)
+        × (Some (seen_part it) ≡ (take_line catalogue (films, option_map seen_part film) line).1)) }
+{
+    let Some(film) = film else {
+        return with_actor(film_at(alloc, row)?, row);
+    };
+    if row_number_at(row, 0)? == film.number {
+        with_actor(film, row)
+    } else {
+        add_film(alloc, film, page)?;
+        with_actor(film_at(alloc, row)?, row)
+    }
+}
+
+/// The list of films, so far, and the film that isn't on it yet.
+#[derive(Drop)]
+pub(crate) struct FilmPage {
+    page: ListPage,
+    alloc: Global,
+    film: Option<FilmRow>,
+}
+
+impl TakesRows for FilmPage {
+    ghost took = { HasFilms };
+
+    fn take(&mut self, row: &Row) -> Result<(), StoreFault> {
+        let film = self.film.take();
+        self.film = Some(next_film(self.alloc, film, row, &mut self.page)?);
+        Ok(())
+    }
+}
+
+/// The text of the list with the last film.
+fn finish(taker: FilmPage) -> Result<String, AllocError>
+    ensures { IfOk result (λ s. (films : List ModelFilm) → HasValues taker.page (map film_data films)
+        → string_bytes s ≡ shown_text (FilmsListed (closed (films, option_map seen_part taker.film)))) }
+{
+    let FilmPage {
+        mut page,
+        alloc,
+        film,
+    } = taker;
+    match film {
+        Some(film) => {
+            add_film(alloc, film, &mut page)?;
+            page.finish()
+        }
+        None => page.finish(),
+    }
+}
+
+/// All films, withdrawn ones and those without actors too, as the text of a list. The database stays as it was, unless the store fails, which commits nothing.
+pub fn film_list<S: Alter>(alloc: Global, conn: &mut Connection<S>) -> Result<String, StoreFault>
+    ensures text { HasCleanDisk (state S.Store conn.new) → IfOk result (λ s. (books : Books) → Holds (state S.Store conn.old) books → IsHeld books
+        → string_bytes s ≡ shown_text (FilmsListed (film_list books.catalogue))) }
+    ensures same { StaysSame S.Store conn.old conn.new result }
+{
+    let mut taker = FilmPage {
+        page: ListPage::new(alloc),
+        alloc,
+        film: None,
+    };
+    each_row(
+        conn,
+        "SELECT f.number, f.title, f.description, k.name, f.rate, f.length, f.rating, a.first, a.last FROM film AS f LEFT JOIN category AS k ON k.number = f.category LEFT JOIN film_actor AS fa ON fa.film = f.number LEFT JOIN actor AS a ON a.number = fa.actor ORDER BY f.number, fa.actor",
+        &[],
+        &mut taker,
+    )?;
+    Ok(finish(taker)?)
+}
