@@ -3,3 +3,8 @@ pub mod Verdicts
 pub mod RentalLemmas
 pub mod ActLemmas
 pub mod FilmLemmas
+pub mod ConsignmentLemmas
+pub mod ReceiptLemmas
+pub mod MarkLemmas
+pub mod ConsignedBooks
+pub mod MadeRows

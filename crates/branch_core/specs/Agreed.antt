@@ -1,21 +1,24 @@
 -- When what was found is what a catalogue and a shop have of the rows that a command names.
-use Rattle.std.specs.Prelude.{◌≡◌, ⊤, ℕ, ◌==◌, ◌&&◌, ◌≤◌, Bool, Option, is_some, not, List, map, filter, length, option_map, IfSome, Result, Ok, Err, IfOk}
+use Rattle.std.specs.Prelude.{◌≡◌, ℕ, ◌==◌, ◌&&◌, ◌≤◌, Bool, false, Option, is_some, not, List, map, filter, length, option_map, IfSome, Result, Ok, Err, IfOk}
 use Rattle.std.specs.List.{All, list_any}
 use Rattle.std.specs.Str.{bytes_eq}
 use Rattle.shop_model.specs.Calendar.{Moment, same_moment}
 use Rattle.shop_model.specs.Rows.{at, lacks, numbered}
 use Rattle.shop_model.specs.Values as model
-use Rattle.shop_model.specs.Values.{Text, Customer, Copy, Act, Command, Stock, Copies, BadLine, Rules}
+use Rattle.shop_model.specs.Values.{Text, Customer, Copy, Arrival, Act, Command, Stock, Copies, BadLine, Rules}
 use Rattle.shop_model.specs.Stock.{is_here, in_stock}
 use Rattle.shop_model.specs.Shop.{Kept, Catalogue, Shop, same_command, same_flag}
-use Rattle.shop_model.specs.Verdict.{is_film_withdrawn}
+use Rattle.shop_model.specs.Verdict.{is_film_withdrawn, is_away, arrival}
 use Rattle.shop_model.specs.Books.{head}
 use Rattle.shop_types.specs.declared.refusal.BadCsv.{BadCsv}
+use Rattle.shop_types.specs.declared.parcel.ParcelLine.{ParcelLine}
 use Rattle.shop_types.specs.Verdicts.{seen_kept, seen_post, post_of}
 use Rattle.branch_core.specs.declared.film_copies.FilmCopy.{FilmCopy}
 use Rattle.branch_core.specs.declared.found.StockFound.{StockFound}
 use Rattle.branch_core.specs.declared.found.CopyFound.{CopyFound}
 use Rattle.branch_core.specs.declared.found.RentalFound.{RentalFound}
+use Rattle.branch_core.specs.declared.found.ListedFound.{ListedFound}
+use Rattle.branch_core.specs.declared.found.ArrivalFound.{ArrivalFound}
 use Rattle.branch_core.specs.declared.found.Found.{Found}
 use Rattle.branch_core.specs.declared.found.RowsFound.{RowsFound}
 use Rattle.branch_core.specs.StockLists.{films_of}
@@ -62,6 +65,21 @@ seen_rental rental = (rental.customer, rental.copy, rental.is_returned)
 abbrev pub rental_at : Shop → ℕ → Option (ℕ × ℕ × Bool)
 rental_at shop r = head (map (λ (it : model.Rental). (it.customer, it.copy, is_some it.returned)) (at r shop.rentals))
 
+-- ---- consignments
+
+-- Of listed copies a test is known only where no earlier one holds, so that not every copy of a long list need be read.
+pub record ListedAgrees (shop : Shop) (xs : List ℕ) (it : ListedFound) : Type 0 where
+  pub unknown : it.has_unknown ≡ list_any (lacks shop.copies) xs
+  pub away : it.has_unknown ≡ false → it.has_away ≡ list_any (is_away shop.copies) xs
+  pub out : it.has_unknown ≡ false → it.has_away ≡ false → it.has_out ≡ list_any (λ x. not (in_stock x shop.rentals)) xs
+
+-- whether it is received, and the films of its lines
+abbrev pub seen_arrival : ArrivalFound → Bool × List ℕ
+seen_arrival it = (it.is_received, map (λ (line : ParcelLine). line.film) it.lines)
+
+abbrev pub arrival_at : ℕ → ℕ → Shop → Option (Bool × List ℕ)
+arrival_at source number shop = head (map (λ (it : Arrival). (it.received, it.films)) (arrival source number shop))
+
 -- ---- the act
 
 pub record RentAgrees (catalogue : Catalogue) (shop : Shop) (moment : Moment) (c x : ℕ) (it : RowsFound) : Type 0 where
@@ -79,7 +97,15 @@ pub record ImportAgrees (rules : Rules) (catalogue : Catalogue) (shop : Shop) (l
   pub reading : seen_stock it.stock ≡ rules.stock_of file
   pub rows : IfOk it.stock (All (RowAgrees catalogue))
 
--- what was found of the kinds of rows that an act names is what the catalogue and the shop have; of an act that no counter sends yet nothing is found
+pub record DispatchAgrees (catalogue : Catalogue) (shop : Shop) (to : ℕ) (xs : List ℕ) (it : RowsFound) : Type 0 where
+  pub branch : it.has_branch ≡ not (lacks catalogue.branches to)
+  pub listed : ListedAgrees shop xs it.listed
+
+pub record ReceiveAgrees (shop : Shop) (source number : ℕ) (it : RowsFound) : Type 0 where
+  pub count : it.copies ≡ length shop.copies
+  pub arrival_is : option_map seen_arrival it.arrival ≡ arrival_at source number shop
+
+-- what was found of the kinds of rows that an act names is what the catalogue and the shop have
 abbrev pub ActAgrees : Rules → Catalogue → Shop → Moment → Act → RowsFound → Type 0
 ActAgrees rules catalogue shop moment (model.AddCustomer person) it = it.has_city ≡ not (lacks catalogue.cities person.city)
 ActAgrees rules catalogue shop moment (model.SetActive c active) it = it.customer ≡ active_at c shop
@@ -87,8 +113,9 @@ ActAgrees rules catalogue shop moment (model.Rent c x) it = RentAgrees catalogue
 ActAgrees rules catalogue shop moment (model.TakeBack r) it = option_map seen_rental it.rental ≡ rental_at shop r
 ActAgrees rules catalogue shop moment (model.Pay c rental amount) it = PayAgrees shop c rental it
 ActAgrees rules catalogue shop moment (model.Import lot file) it = ImportAgrees rules catalogue shop lot file it
+ActAgrees rules catalogue shop moment (model.Dispatch to xs) it = DispatchAgrees catalogue shop to xs it
+ActAgrees rules catalogue shop moment (model.Receive source number missing) it = ReceiveAgrees shop source number it
 ActAgrees rules catalogue shop moment (model.Scrap x) it = option_map seen_copy it.copy ≡ copy_at catalogue shop x
-ActAgrees rules catalogue shop moment act it = ⊤
 
 -- ---- all that was found
 

@@ -1,3 +1,5 @@
 pub mod StockLists
 pub mod Agreed
 pub mod Decided
+pub mod Marked
+pub mod Consigned

@@ -16,7 +16,8 @@ ghost use Rattle.branch_core.specs.Agreed.{Agrees, ActAgrees};
 use crate::acts::{
     active_refusal, city_refusal, payment_refusal, rent_refusal, return_refusal, scrap_refusal,
 };
-use crate::stock::{new_copies, stock_refusal};
+use crate::consignments::{dispatch_refusal, new_from, receive_refusal};
+use crate::stock::{self, stock_refusal};
 use crate::{Found, RowsFound};
 use shop_types::{Act, BranchNo, Change, Command, Limits, Moment, Refusal, StaffFound};
 
@@ -63,7 +64,7 @@ fn first_refusal(
     } else if !works_at(found.staff, branch) {
         Some(Refusal::NoStaff)
     } else {
-        act_refusal(&command.act, &found.rows)
+        act_refusal(branch, &command.act, &found.rows)
     }
 }
 
@@ -82,12 +83,19 @@ fn has_no_room(act: &Act, rows: &RowsFound, limits: Limits) -> bool
         → rules.copies ≡ limits.copies → ActAgrees rules catalogue shop moment (seen_act act.now) rows.now
         → result ≡ (nat_lt 0 (new_copies rules shop (seen_act act.now)) && nat_lt rules.copies (length shop.copies + new_copies rules shop (seen_act act.now))) }
 {
+    let new = new_copies(act, rows);
+    0 < new && u64::from(limits.copies()) < u64::from(rows.copies) + u64::from(new)
+}
+
+/// How many copies the act makes.
+fn new_copies(act: &Act, rows: &RowsFound) -> u32
+    ensures { (rules : model.Rules) (catalogue : Catalogue) (shop : Shop) (moment : calendar.Moment)
+        → ActAgrees rules catalogue shop moment (seen_act act.now) rows.now → result ≡ new_copies rules shop (seen_act act.now) }
+{
     match act {
-        Act::Import { .. } => {
-            let new = new_copies(&rows.stock);
-            0 < new && u64::from(limits.copies()) < u64::from(rows.copies) + u64::from(new)
-        }
-        _ => false,
+        Act::Import { .. } => stock::new_copies(&rows.stock),
+        Act::Receive { missing, .. } => new_from(&rows.arrival, missing.as_slice()),
+        _ => 0,
     }
 }
 
@@ -113,10 +121,10 @@ fn works_at(staff: Option<StaffFound>, branch: BranchNo) -> bool
 }
 
 /// The first refusal that goes by what the command does.
-fn act_refusal(act: &Act, rows: &RowsFound) -> Option<Refusal>
-    ensures { (rules : model.Rules) (b : ℕ) (catalogue : Catalogue) (shop : Shop) (moment : calendar.Moment)
+fn act_refusal(branch: BranchNo, act: &Act, rows: &RowsFound) -> Option<Refusal>
+    ensures { (rules : model.Rules) (catalogue : Catalogue) (shop : Shop) (moment : calendar.Moment)
         → ActAgrees rules catalogue shop moment (seen_act act.now) rows.now
-        → verdict_by result ≡ Some (first (act_refusals rules b catalogue shop moment (seen_act act.now))) }
+        → verdict_by result ≡ Some (first (act_refusals rules branch catalogue shop moment (seen_act act.now))) }
 {
     match act {
         Act::Customer(_) => city_refusal(rows.has_city),
@@ -129,6 +137,16 @@ fn act_refusal(act: &Act, rows: &RowsFound) -> Option<Refusal>
             ..
         } => payment_refusal(*customer, *rental, rows.customer, rows.rental),
         Act::Import { .. } => stock_refusal(&rows.stock, rows.has_lot),
+        Act::Dispatch { to, copies } => {
+            dispatch_refusal(
+                branch,
+                *to,
+                copies.as_slice(),
+                rows.has_branch,
+                &rows.listed,
+            )
+        }
+        Act::Receive { missing, .. } => receive_refusal(&rows.arrival, missing.as_slice()),
         Act::Scrap(_) => scrap_refusal(rows.copy),
     }
 }

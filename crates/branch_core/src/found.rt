@@ -1,7 +1,11 @@
 //! What was found of the rows that a command names.
 
+ghost use Rattle.std.specs.Prelude.{◌≡◌, false, None};
+
 use crate::StockRows;
-use shop_types::{BadCsv, CopyNo, CustomerNo, FilmNo, KeptFound, Moment, RentalNo, StaffFound};
+use shop_types::{
+    BadCsv, CopyNo, CustomerNo, FilmNo, KeptFound, Moment, ParcelLines, RentalNo, StaffFound,
+};
 use std::alloc::Global;
 
 /// A row of the stock file, with what the catalogue says of its film.
@@ -34,6 +38,27 @@ pub struct RentalFound {
     pub copy: CopyNo,
     /// Whether the copy came back already.
     pub is_returned: bool,
+}
+
+/// What was found of the copies that a command lists, to be sent to another branch.
+#[derive(Drop)]
+pub struct ListedFound {
+    /// Whether the branch has no copy of one of the numbers.
+    pub has_unknown: bool,
+    /// Whether one of the copies is sent or scrapped. It is looked at where the branch has them all.
+    pub has_away: bool,
+    /// Whether a customer has one of the copies. It is looked at where all are here.
+    pub has_out: bool,
+    /// The lines that they make, in their order. Of more than 100 copies there are none.
+    pub lines: Option<ParcelLines>,
+}
+
+/// A consignment to the branch, of which a command names the sender and the number.
+#[derive(Drop)]
+pub struct ArrivalFound {
+    /// Whether it was received already.
+    pub is_received: bool,
+    pub lines: ParcelLines,
 }
 
 /// All that a decision reads.
@@ -69,6 +94,26 @@ pub struct RowsFound {
     pub has_lot: bool,
     /// The rows of the stock file in their order, or its fault.
     pub stock: Result<StockRows, BadCsv>,
+    /// Whether there is a branch of the addressee's number.
+    pub has_branch: bool,
+    /// The copies that are listed.
+    pub listed: ListedFound,
+    /// The consignment that is to be received, where there is one.
+    pub arrival: Option<ArrivalFound>,
+}
+
+impl ListedFound {
+    /// No test holds of a copy, and no line was made.
+    pub fn none() -> ListedFound
+        ensures { result ≡ record { has_unknown = false; has_away = false; has_out = false; lines = None } }
+    {
+        ListedFound {
+            has_unknown: false,
+            has_away: false,
+            has_out: false,
+            lines: None,
+        }
+    }
 }
 
 impl RowsFound {
@@ -83,6 +128,9 @@ impl RowsFound {
             copies: 0,
             has_lot: false,
             stock: Ok(StockRows::none(alloc)),
+            has_branch: false,
+            listed: ListedFound::none(),
+            arrival: None,
         }
     }
 }

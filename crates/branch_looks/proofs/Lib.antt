@@ -7,3 +7,5 @@ pub mod TermLemmas
 pub mod RewardLemmas
 pub mod MonthLemmas
 pub mod Stocks
+pub mod Parcels
+pub mod Among

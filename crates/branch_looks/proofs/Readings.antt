@@ -1,8 +1,8 @@
 -- One read after another.
 use Rattle.std.proofs.Common.{◌≡◌, refl, ℕ, List, [], ◌∷◌, map, Bool, true, false}
-use Rattle.std.specs.Prelude.{◌-◌, ◌==◌, ◌||◌, if◌then◌else◌}
+use Rattle.std.specs.Prelude.{is_some, not, ◌-◌, ◌==◌, ◌||◌, if◌then◌else◌}
 use Rattle.std.specs.List.{list_any}
-use Rattle.shop_model.specs.Rows.{at}
+use Rattle.shop_model.specs.Rows.{at, is_empty}
 use Rattle.shop_model.specs.Values.{Film}
 use Rattle.shop_model.specs.Books.{head}
 use Rattle.shop_store.specs.SharedSeen.{withdrawn_of}
@@ -21,3 +21,8 @@ at_most_one n (f ∷ films) = go (n == 1) (at_most_one (n - 1) films)
         → list_any (λ (f : Film). f.withdrawn) (if b then f ∷ [] else at (n - 1) films) ≡ is_yes (head (map withdrawn_of (if b then f ∷ [] else at (n - 1) films)))
     go true more = or_false f.withdrawn
     go false more = more
+
+-- a row is there where something is told of it
+pub some_there : {A B : Type 0} (f : A → B) (xs : List A) → is_some (head (map f xs)) ≡ not (is_empty xs)
+some_there f [] = refl
+some_there f (x ∷ xs) = refl

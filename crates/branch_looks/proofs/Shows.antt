@@ -71,7 +71,7 @@ some_listed : (out : Option ℕ) → not (is_empty (option_to_list out)) ≡ is_
 some_listed None = refl
 some_listed (Some n) = refl
 
-twice : (b : Bool) → b ≡ not (not b)
+pub twice : (b : Bool) → b ≡ not (not b)
 twice true = refl
 twice false = refl
 

@@ -1,11 +1,9 @@
 -- What is found of the films of a stock file.
-use Rattle.std.proofs.Common.{◌≡◌, ◌∙◌, refl, sym, ap, ℕ, ◌+◌, ◌<◌, List, [], ◌∷◌, ◌++◌, length, map, take, get_or, replicate, not, Bool, Option}
-use Rattle.std.specs.Prelude.{is_some}
+use Rattle.std.proofs.Common.{◌≡◌, ◌∙◌, refl, sym, ap, ℕ, ◌+◌, ◌<◌, List, [], ◌∷◌, ◌++◌, length, map, take, get_or, replicate, Bool, Option}
 use Rattle.std.specs.List.{All}
 use Rattle.std.proofs.lemmas.List.{map_more, map_push, take_more}
 use Rattle.std.proofs.lemmas.List.Elements.{All-map, All-weaker}
-use Rattle.shop_model.specs.Rows.{at, is_empty}
-use Rattle.shop_model.specs.Values.{Film}
+use Rattle.shop_model.specs.Rows.{at}
 use Rattle.shop_model.specs.Shop.{Catalogue}
 use Rattle.shop_model.specs.Books.{head}
 use Rattle.stock_csv.specs.declared.StockRow.{StockRow}
@@ -14,19 +12,15 @@ use Rattle.branch_core.specs.declared.found.StockFound.{StockFound}
 use Rattle.branch_core.specs.StockLists.{films_of as films_found}
 use Rattle.branch_core.specs.Agreed.{RowAgrees}
 use Rattle.shop_store.specs.SharedSeen.{withdrawn_of}
-use Rattle.branch_looks.proofs.Readings.{at_most_one}
+use Rattle.branch_looks.proofs.Readings.{at_most_one, some_there}
 use Rattle.branch_looks.specs.Commands.{as_listed, found_row, told_row}
-
-same_there : (films : List Film) → is_some (head (map withdrawn_of films)) ≡ not (is_empty films)
-same_there [] = refl
-same_there (f ∷ films) = refl
 
 -- what the store told of a row's film is what the catalogue has of it
 pub film_found : (catalogue : Catalogue) (row : StockRow) (withdrawn : Option Bool) → withdrawn ≡ head (map withdrawn_of (at row.film catalogue.films))
     → told_row row withdrawn ≡ found_row catalogue row
 film_found catalogue row withdrawn told =
     (λ i. told_row row (told i))
-    ∙ (λ i. record { film = row.film; copies = row.copies; is_there = same_there (at row.film catalogue.films) i; is_withdrawn = sym (at_most_one row.film catalogue.films) i })
+    ∙ (λ i. record { film = row.film; copies = row.copies; is_there = some_there withdrawn_of (at row.film catalogue.films) i; is_withdrawn = sym (at_most_one row.film catalogue.films) i })
 
 -- one row of the file more
 pub row_found : (catalogue : Catalogue) (rows : List StockRow) (i : ℕ) (row : StockRow) (found : List StockFound) (withdrawn : Option Bool) → i < length rows → row ≡ get_or rows i row

@@ -11,8 +11,10 @@ ghost use Rattle.shop_types.specs.Seen.{seen_act, seen_command};
 ghost use Rattle.shop_schema.specs.Calls.{Finds};
 ghost use Rattle.stock_csv.specs.Stock.{stock_of};
 ghost use Rattle.branch_core.specs.Agreed.{Agrees, RowAgrees, seen_stock};
+ghost use Rattle.branch_core.specs.Marked.{AreMarked};
 ghost use Rattle.branch_looks.specs.Commands.{as_listed, found_row, told_row, AgreesAt, IsKeptFor};
 
+use crate::consignments::{find_for_dispatch, find_for_receipt};
 use crate::finds::{find_active, find_copy, find_rental};
 use branch_core::{Found, RowsFound, StockFound, StockRows};
 use shop_ledger::{Count, CountKind, count_of};
@@ -40,6 +42,8 @@ pub fn find_for_command<'a, S: Alter>(
         (λ found books. (rules : model.Rules)
         → rules.stock_of ≡ stock_of → IsKeptFor branch (seen_command command.now) kept.entry books → last ≡ head (owned_by branch books.lasts)
         → Agrees rules books.catalogue (shop_of branch books) (seen_command command.now) found) }
+    ensures marked { Finds (state S.Store tx.old.conn.now) (state S.Store tx.new.conn.now) result
+        (λ found books. AreMarked branch (seen_command command.now).act found.rows books) }
 {
     let keys = count_of(tx, Count::Of(branch, CountKind::Kept))?;
     let staff = staff_at(tx, command.staff)?;
@@ -86,6 +90,8 @@ fn find_rows<S: Alter>(
             ..
         } => find_for_payment(alloc, tx, branch, *customer, *rental),
         Act::Import { lot, file } => find_for_import(alloc, tx, branch, lot, file),
+        Act::Dispatch { to, copies } => find_for_dispatch(alloc, tx, branch, *to, copies),
+        Act::Receive { from, number, .. } => find_for_receipt(alloc, tx, branch, *from, *number),
         Act::Scrap(copy) => Ok(RowsFound {
             copy: find_copy(tx, branch, *copy)?,
             ..RowsFound::none(alloc)

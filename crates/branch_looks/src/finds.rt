@@ -38,7 +38,7 @@ pub fn find_active<S: Alter>(
 }
 
 /// Whether a copy of the state is in the shop.
-fn is_here(state: CopyState) -> bool
+pub fn is_here(state: CopyState) -> bool
     ensures { (film : ℕ) → result ≡ is_here (record { film = film; state = seen_state state }) }
 {
     match state {

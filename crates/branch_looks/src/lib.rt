@@ -2,13 +2,16 @@
 //! decision reads.
 #![tactic(auto)]
 
+mod asks;
 mod balances;
 mod commands;
+mod consignments;
 mod finds;
 mod looks;
 mod overdue;
 mod reports;
 mod rewards;
 
+pub use asks::{Look, Reading, reading_of};
 pub use commands::find_for_command;
 pub use looks::look;

@@ -7,20 +7,20 @@ ghost use Rattle.shop_model.specs.Values.{OneCustomer, OneFilm, InStock, HeldBy}
 ghost use Rattle.shop_model.specs.Shop.{Shop};
 ghost use Rattle.shop_model.specs.Machine.{CopiesAre};
 ghost use Rattle.shop_model.specs.Answers.{shown_text};
-ghost use Rattle.shop_types.specs.Seen.{seen_ask};
 ghost use Rattle.shop_types.specs.Replies.{seen_reply};
 ghost use Rattle.shop_schema.specs.Calls.{Finds};
 ghost use Rattle.branch_core.specs.Agreed.{AreOfFilm};
 ghost use Rattle.branch_looks.specs.Finds.{stock_asked, stock_listed};
-ghost use Rattle.branch_looks.specs.Looks.{looked};
+ghost use Rattle.branch_looks.specs.Looks.{looked, seen_look};
 
+use crate::asks::Look;
 use crate::finds::{find_here, find_holder, find_of_film};
 use crate::reports::{look_balance, look_overdue, look_rewards};
 use branch_core::{FilmCopy, film_in_stock, film_not_in_stock};
 use reply_bodies::{copies_text, customer_text, film_text, holder_text, in_stock_text};
 use shop_ledger::out_at;
 use shop_store::{customer_at, film_row, film_withdrawn};
-use shop_types::{Ask, BranchNo, CopyNo, CustomerNo, FilmNo, NoMemory, Refusal, Reply};
+use shop_types::{BranchNo, CopyNo, CustomerNo, FilmNo, NoMemory, Refusal, Reply};
 use sql_rows::StoreFault;
 use sqlite::{Alter, Transaction};
 use std::alloc::Global;
@@ -30,22 +30,22 @@ pub fn look<S: Alter>(
     alloc: Global,
     tx: &mut Transaction<'_, S>,
     branch: BranchNo,
-    ask: Ask,
+    ask: Look,
 ) -> Result<Reply, StoreFault>
     ensures inside { StaysWithin S.Store tx.old.conn tx.new.conn result }
     ensures shown { Finds (state S.Store tx.old.conn.now) (state S.Store tx.new.conn.now) result
-        (λ reply books. seen_reply reply ≡ looked branch (seen_ask ask) books) }
+        (λ reply books. seen_reply reply ≡ looked branch (seen_look ask) books) }
 {
     match ask {
-        Ask::Customer(number) => look_customer(alloc, tx, branch, number),
-        Ask::Film(number) => look_film(alloc, tx, branch, number),
-        Ask::InStock(copy) => look_in_stock(alloc, tx, branch, copy),
-        Ask::HeldBy(copy) => look_holder(alloc, tx, branch, copy),
-        Ask::FilmInStock(film) => look_film_copies(alloc, tx, branch, film, true),
-        Ask::FilmNotInStock(film) => look_film_copies(alloc, tx, branch, film, false),
-        Ask::Balance { customer, at } => look_balance(alloc, tx, branch, customer, at),
-        Ask::Overdue(at) => look_overdue(alloc, tx, branch, at),
-        Ask::Rewards {
+        Look::Customer(number) => look_customer(alloc, tx, branch, number),
+        Look::Film(number) => look_film(alloc, tx, branch, number),
+        Look::InStock(copy) => look_in_stock(alloc, tx, branch, copy),
+        Look::HeldBy(copy) => look_holder(alloc, tx, branch, copy),
+        Look::FilmInStock(film) => look_film_copies(alloc, tx, branch, film, true),
+        Look::FilmNotInStock(film) => look_film_copies(alloc, tx, branch, film, false),
+        Look::Balance { customer, at } => look_balance(alloc, tx, branch, customer, at),
+        Look::Overdue(at) => look_overdue(alloc, tx, branch, at),
+        Look::Rewards {
             at,
             purchases,
             cents,

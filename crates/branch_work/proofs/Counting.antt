@@ -6,9 +6,9 @@ use Rattle.sql_rows.specs.Rows.{PicksOne}
 use Rattle.shop_values.specs.LimitValues.{Limits}
 use Rattle.shop_model.specs.Rows.{Row, next, put, put_all, set_row}
 use Rattle.shop_model.specs.Values as model
-use Rattle.shop_model.specs.Values.{Command, Text, Customer, Rental, Payment, Scrapped}
+use Rattle.shop_model.specs.Values.{Command, Text, Customer, Rental, Payment, Scrapped, Sent}
 use Rattle.shop_model.specs.Machine.{films_in}
-use Rattle.shop_model.specs.Books.{Books, BookCopy, book_acted, imported, put_state}
+use Rattle.shop_model.specs.Books.{Books, BookCopy, book_acted, come, imported, is_consignment, put_state, unpacked}
 use Rattle.shop_types.specs.declared.command.Act.{Act}
 use Rattle.shop_types.specs.declared.command.Act.TheVariants as act
 use Rattle.shop_types.specs.Seen.{seen_act, seen_person}
@@ -23,7 +23,10 @@ use Rattle.shop_ledger.specs.Counted.{kind_number, CountsOnce}
 use Rattle.shop_ledger.proofs.CountsOf.{agreed, held_once, held_million}
 use Rattle.shop_ledger.proofs.Agreeing.{kept_counted, customer_row_counted, payment_row_counted, rental_row_counted, copies_counted, active_counted, state_counted, set_keeps, counters_still, raised_as_many, raised_small}
 use Rattle.branch_work.specs.Rules.{rules_of}
-use Rattle.branch_work.specs.Added.{with_kept, copies_from}
+use Rattle.branch_core.specs.declared.found.RowsFound.{RowsFound}
+use Rattle.branch_core.specs.Marked.{AreMarked}
+use Rattle.branch_work.specs.Added.{with_kept, copies_from, HasFewLines}
+use Rattle.branch_work.proofs.ConsignLemmas.{sets_counted, few_come, receiving_counted}
 use Rattle.branch_work.proofs.CopyLemmas.{copies_own, copies_put, length_copies}
 
 -- the books with copies of these films, as a lot of that name
@@ -106,24 +109,30 @@ still_once b old new same low held =
     let own = held_once old held kind.Kept b low in
     record { once = subst (λ cs. PicksOne (is_count b 4) cs) (sym same) own.once; small = subst (λ cs. AllByRecursion (λ (it : Count). it.last < 2 ^ 32) cs) (sym same) own.small }
 
-pub acted_once : (limits : Limits) (b : ℕ) (command : Command) (act : Act) (books : Books) → 1 ≤ b → IsHeld books → CountsOnce b kind.Kept (counts_of (book_acted (rules_of limits) b command (seen_act act) books))
-acted_once limits b command (act.Customer person) books low held =
+pub acted_once : (limits : Limits) (b : ℕ) (command : Command) (act : Act) (rows : RowsFound) (books : Books) → 1 ≤ b → IsHeld books → AreMarked b (seen_act act) rows books → HasFewLines (seen_act act) rows → CountsOnce b kind.Kept (counts_of (book_acted (rules_of limits) b command (seen_act act) books))
+acted_once limits b command (act.Customer person) rows books low held marked few_lines =
     let it : Customer = record { person = seen_person person; active = true; created = command.moment } in
     subst (CountsOnce b kind.Kept) (sym (customer_row_counted b (record { branch = b; number = next b books.customers; it = it }) books low refl)) (raised_once b 0 1 books low held (omega arith))
-acted_once limits b command (act.Active customer active) books low held =
+acted_once limits b command (act.Active customer active) rows books low held marked few_lines =
     subst (CountsOnce b kind.Kept) (sym (active_counted b customer (λ it. record it { active = active }) books)) (held_once books held kind.Kept b low)
-acted_once limits b command (act.Rent customer copy) books low held =
+acted_once limits b command (act.Rent customer copy) rows books low held marked few_lines =
     let it : Rental = record { rented = command.moment; copy = copy; customer = customer; returned = None; staff = command.staff } in
     let raised = raised_once b 2 1 books low held (omega arith) in
     subst (CountsOnce b kind.Kept) (sym (rental_row_counted b (record { branch = b; number = next b books.rentals; it = it }) books low refl refl)) (record { once = raised.once; small = raised.small })
-acted_once limits b command (act.TakeBack rental) books low held =
+acted_once limits b command (act.TakeBack rental) rows books low held marked few_lines =
     still_once b books (book_acted (rules_of limits) b command (model.TakeBack rental) books) (rentals_still b rental (λ it. record it { returned = Some command.moment }) books) low held
-acted_once limits b command (act.Pay customer rental amount) books low held =
+acted_once limits b command (act.Pay customer rental amount) rows books low held marked few_lines =
     let it : Payment = record { customer = customer; staff = command.staff; rental = rental; amount = amount; paid = command.moment } in
     subst (CountsOnce b kind.Kept) (sym (payment_row_counted b (record { branch = b; number = next b books.payments; it = it }) books low refl)) (raised_once b 3 1 books low held (omega arith))
-acted_once limits b command (act.Import lot file) books low held =
+acted_once limits b command (act.Import lot file) rows books low held marked few_lines =
     let films = films_in (stock_of file) in
     let few : length films ≤ 1_000_000 = let many : length films ≤ 1000 = (stock_fits file).1 in omega (arith, many) in
     subst (CountsOnce b kind.Kept) (sym (import_counted b books low films lot)) (raised_once b 1 (length films) books low held few)
-acted_once limits b command (act.Scrap copy) books low held =
+acted_once limits b command (act.Dispatch to copies) rows books low held marked few_lines =
+    still_once b books (book_acted (rules_of limits) b command (model.Dispatch to copies) books) (ap (λ (counts : Counts). counts.counters) (sets_counted b copies (put_state Sent) books)) low held
+acted_once limits b command (act.Receive from number missing) rows books low held marked few_lines =
+    let makes = map unpacked (come from b number missing books.consignments) in
+    let few : length makes ≤ 1_000_000 = let many : length makes ≤ 100 = few_come b from number missing rows.arrival books marked few_lines in omega (arith, many) in
+    subst (CountsOnce b kind.Kept) (sym (receiving_counted b books low makes (is_consignment from b number) missing)) (raised_once b 1 (length makes) books low held few)
+acted_once limits b command (act.Scrap copy) rows books low held marked few_lines =
     subst (CountsOnce b kind.Kept) (sym (state_counted b copy (put_state Scrapped) books)) (held_once books held kind.Kept b low)

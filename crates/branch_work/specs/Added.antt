@@ -1,8 +1,9 @@
 -- What an accepted act makes of the books, and what is replied of it.
-use Rattle.std.specs.Prelude.{◌≡◌, ℕ, ◌+◌, List, [], ◌∷◌, ◌++◌}
+use Rattle.std.specs.Prelude.{◌≡◌, ⊤, ℕ, ◌+◌, ◌≤◌, List, [], ◌∷◌, ◌++◌, length, IfSome}
 use Rattle.sqlite.specs.State.{State}
 use Rattle.shop_model.specs.Json.{object}
 use Rattle.shop_model.specs.Rows.{Row}
+use Rattle.shop_model.specs.Values as model
 use Rattle.shop_model.specs.Values.{Text, Act, Command, Rules}
 use Rattle.shop_model.specs.Machine.{told}
 use Rattle.shop_model.specs.Books.{BookCopy, Books, book_acted, imported, set_last, shop_of}
@@ -10,17 +11,24 @@ use Rattle.shop_schema.specs.Held.{IsHeld}
 use Rattle.shop_schema.specs.Shop.{Holds}
 use Rattle.branch_core.specs.declared.found.RowsFound.{RowsFound}
 use Rattle.branch_core.specs.Agreed.{ActAgrees}
+use Rattle.branch_core.specs.Marked.{AreMarked}
 
 -- imported copies of these films, with numbers from the first on
 abbrev pub copies_from : ℕ → ℕ → List ℕ → List (Row BookCopy)
 copies_from b first [] = []
 copies_from b first (film ∷ films) = record { branch = b; number = first; it = imported b film first } ∷ copies_from b (first + 1) films
 
--- from books that are held and have what was found of the rows that the act names, the tables come to stand for those in which it acted, and the text tells of it
+-- a consignment that is received has 100 lines at most
+abbrev pub HasFewLines : Act → RowsFound → Type 0
+HasFewLines (model.Receive source number missing) found = IfSome found.arrival (λ it. length it.lines ≤ 100)
+HasFewLines act found = ⊤
+
+-- From books that are held and have what was found of the rows that the act names, the tables come to stand for those in which it acted, and the text tells of it.
+-- Few lines make few copies, so that their count and that of the kept commands may still grow.
 abbrev pub IsActed : Rules → ℕ → Command → Act → RowsFound → Text → State → State → Type 0
 IsActed rules b command act found text old new =
-    (books : Books) → Holds old books → IsHeld books → ActAgrees rules books.catalogue (shop_of b books) command.moment act found
-    → Holds new (book_acted rules b command act books) × (text ≡ object (told rules act (shop_of b books)))
+    (books : Books) → Holds old books → IsHeld books → ActAgrees rules books.catalogue (shop_of b books) command.moment act found → AreMarked b act found books
+    → Holds new (book_acted rules b command act books) × (text ≡ object (told rules act (shop_of b books))) × HasFewLines act found
 
 -- the books with the command kept, and its moment as the branch's last
 abbrev pub with_kept : ℕ → Command → Text → Books → Books

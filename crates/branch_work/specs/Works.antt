@@ -6,7 +6,7 @@ use Rattle.shop_model.specs.Calendar.{Moment}
 use Rattle.shop_model.specs.Rows.{lacks, owned_by}
 use Rattle.shop_model.specs.Values.{Text, Command}
 use Rattle.shop_model.specs.Verdict.{Verdict}
-use Rattle.shop_model.specs.Machine.{Request, Do, Done, Shows as Shown, reply_text, reply_by, if_accepted, view_rows}
+use Rattle.shop_model.specs.Machine.{Request, Do, Done, Shown as Listed, Shows as Shown, ArrivalsAre, SentAre, reply_text, reply_by, if_accepted, view_rows}
 use Rattle.shop_model.specs.Answers.{Answer, answer_of}
 use Rattle.shop_model.specs.Books.{Books, Caller, Counter, head, shop_of, book_done, known_caller, reply_for, after_for}
 use Rattle.shop_model.specs.Office.{office_look}
@@ -15,8 +15,11 @@ use Rattle.shop_types.specs.Replies.{seen_reply}
 use Rattle.shop_schema.specs.Held.{IsHeld}
 use Rattle.shop_schema.specs.Shop.{Holds}
 use Rattle.branch_core.specs.Agreed.{Agrees, ActAgrees}
+use Rattle.branch_core.specs.Marked.{AreMarked}
 use Rattle.branch_core.specs.declared.found.Found.{Found}
 use Rattle.branch_core.specs.declared.found.RowsFound.{RowsFound}
+use Rattle.branch_work.specs.declared.working.Listing.{Listing}
+use Rattle.branch_work.specs.declared.working.Listing.TheVariants as list
 use Rattle.branch_work.specs.declared.working.Worked.{Worked}
 use Rattle.branch_work.specs.declared.working.Worked.TheVariants.{Answered, Shows}
 use Rattle.branch_work.specs.Rules.{rules_of}
@@ -42,11 +45,17 @@ pub record GoesBy (limits : Limits) (caller : Caller) (request : Request) (verdi
   pub told : told_to limits caller request books ≡ answer_of (reply_by verdict text)
   pub left : left_by limits caller request books ≡ if_accepted verdict done books
 
--- a branch's request came to this: it is done, or it is a view, which is still to be shown
+-- what the list shows of the books
+abbrev pub listed : ℕ → Listing → Books → Listed
+listed b (list.View view) books = view_rows b books.catalogue (shop_of b books) (seen_view view)
+listed b list.Arrivals books = ArrivalsAre (shop_of b books).arrivals
+listed b list.Sent books = SentAre (shop_of b books).sent
+
+-- a branch's request came to this: it is done, or it is a list, which is still to be shown
 abbrev pub IsWorked : Limits → ℕ → Request → Worked → State → Books → Type 0
 IsWorked limits b request (Answered reply is_changed) new books = IsDone limits (Counter b) request (seen_reply reply) is_changed new books
-IsWorked limits b request (Shows view) new books =
-    (told_to limits (Counter b) request books ≡ answer_of (Shown (view_rows b books.catalogue (shop_of b books) (seen_view view)))) × (left_by limits (Counter b) request books ≡ books)
+IsWorked limits b request (Shows it) new books =
+    (told_to limits (Counter b) request books ≡ answer_of (Shown (listed b it books))) × (left_by limits (Counter b) request books ≡ books)
 
 abbrev pub Works : Limits → ℕ → Request → Worked → State → State → Type 0
 Works limits b request worked old new = (books : Books) → Holds old books → IsHeld books → IsWorked limits b request worked new books
@@ -60,10 +69,10 @@ WorksFor limits b last request answer is_changed old new =
 abbrev pub WorksBy : Limits → ℕ → Command → Found → Answer → Bool → State → State → Type 0
 WorksBy limits b command found answer is_changed old new =
     (books : Books) → Holds old books → IsHeld books → lacks books.catalogue.branches b ≡ false → Agrees (rules_of limits) books.catalogue (shop_of b books) command found
-    → IsDone limits (Counter b) (Do command) answer is_changed new books
+    → AreMarked b command.act found.rows books → IsDone limits (Counter b) (Do command) answer is_changed new books
 
 -- the tables come to stand for the books after an accepted command, and the reply is its own
 abbrev pub IsAdded : Limits → ℕ → Command → RowsFound → Answer → State → State → Type 0
 IsAdded limits b command rows answer old new =
-    (books : Books) → Holds old books → IsHeld books → ActAgrees (rules_of limits) books.catalogue (shop_of b books) command.moment command.act rows
+    (books : Books) → Holds old books → IsHeld books → ActAgrees (rules_of limits) books.catalogue (shop_of b books) command.moment command.act rows → AreMarked b command.act rows books
     → Holds new (book_done (rules_of limits) b command books) × (answer ≡ answer_of (Done (reply_text (rules_of limits) command (shop_of b books))))

@@ -13,6 +13,7 @@ ghost use Rattle.shop_schema.specs.Shop.{Holds, Tallies};
 ghost use Rattle.shop_ledger.specs.Counted.{kind_number, CountsOnce};
 ghost use Rattle.branch_work.specs.Added.{IsActed, with_kept};
 
+use crate::consigning::{dispatch, receive};
 use crate::importing::import;
 use branch_core::{RentalFound, RowsFound, rows_in};
 use reply_bodies::{
@@ -55,6 +56,18 @@ pub fn carry_out<S: Alter>(
             amount,
         } => add_payment(alloc, tx, branch, command, *customer, *rental, *amount),
         Act::Import { lot, .. } => import(alloc, tx, branch, lot, rows_in(&found.stock)),
+        Act::Dispatch { to, copies } => {
+            let lines = &found.listed.lines;
+            dispatch(alloc, tx, branch, *to, copies.as_slice(), lines)
+        }
+        Act::Receive {
+            from,
+            number,
+            missing,
+        } => {
+            let missing = missing.as_slice();
+            receive(alloc, tx, branch, *from, *number, missing, &found.arrival)
+        }
         Act::Scrap(copy) => scrap(alloc, tx, branch, *copy),
     }
 }

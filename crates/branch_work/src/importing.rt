@@ -16,8 +16,8 @@ ghost use Rattle.branch_work.specs.Added.{IsActed, copies_from};
 use branch_core::{RowsFound, StockFound, copies_in};
 use reply_bodies::new_copies_text;
 use shop_ledger::{Count, CountKind, take_numbers};
-use shop_store::{CopyRow, CopyState, Mark, put_copy, put_lot};
-use shop_types::{BranchNo, CopyNo, FilmNo, LotName};
+use shop_store::{CopyRow, CopyState, put_copy, put_lot};
+use shop_types::{BranchNo, CopyNo, FilmNo, LotName, Mark};
 use sql_rows::StoreFault;
 use sqlite::{Alter, Transaction};
 use std::alloc::{AllocError, Global};
@@ -46,7 +46,7 @@ pub fn import<S: Alter>(
 }
 
 /// The first of so many numbers that end with the last.
-fn first_of(last: u32, count: u32) -> Result<CopyNo, StoreFault>
+pub fn first_of(last: u32, count: u32) -> Result<CopyNo, StoreFault>
     requires { last ≤ 1_000_000 }
     ensures first { IfOk result (λ first. first + count ≡ last + 1) }
     ensures bound { IfOk result (λ first. first ≤ 1_000_001) }

@@ -14,7 +14,7 @@ ghost use Rattle.branch_work.specs.Works.{Works, WorksFor, WorksBy, IsAdded};
 use crate::adding::{carry_out, keep};
 use crate::answering::{again, refuse};
 use branch_core::{Found, RowsFound, decide};
-use branch_looks::{find_for_command, look};
+use branch_looks::{Reading, find_for_command, look, reading_of};
 use shop_ledger::{Owner, kept_at, kept_found, last_at};
 use shop_schema::{command_form, command_values};
 use shop_types::{BranchNo, Change, Command, Limits, Moment, Refusal, Reply, Request, View};
@@ -22,16 +22,27 @@ use sql_rows::{Bytes, StoreFault};
 use sqlite::{Alter, Transaction};
 use std::alloc::Global;
 
+/// A list of rows that come one at a time, outside any transaction.
+#[derive(Clone, Copy)]
+pub enum Listing {
+    /// The rows of a view.
+    View(View),
+    /// The consignments that were sent to the branch.
+    Arrivals,
+    /// The consignments that the branch sent.
+    Sent,
+}
+
 /// What a branch's request came to inside a transaction.
 #[derive(Drop)]
 pub enum Worked {
     /// It is answered, and it is told whether there is anything to commit.
     Answered { reply: Reply, is_changed: bool },
-    /// It asks for a view, and the branch is there. A view is shown outside any transaction, since its rows come one at a time.
-    Shows(View),
+    /// It asks for a list, and the branch is there. The list is shown outside any transaction.
+    Shows(Listing),
 }
 
-/// What a branch's request comes to. A command is done, and a look is answered; a view is left to the caller.
+/// What a branch's request comes to. A command is done, and a look is answered; a list is left to the caller.
 pub fn work<S: Alter>(
     alloc: Global,
     tx: &mut Transaction<'_, S>,
@@ -54,11 +65,15 @@ pub fn work<S: Alter>(
             let (reply, is_changed) = act(alloc, tx, limits, branch, last, command)?;
             Ok(Worked::Answered { reply, is_changed })
         }
-        Request::Look(ask) => Ok(Worked::Answered {
-            reply: look(alloc, tx, branch, *ask)?,
-            is_changed: false,
-        }),
-        Request::View(view) => Ok(Worked::Shows(*view)),
+        Request::Look(ask) => match reading_of(*ask) {
+            Reading::Look(it) => Ok(Worked::Answered {
+                reply: look(alloc, tx, branch, it)?,
+                is_changed: false,
+            }),
+            Reading::Arrivals => Ok(Worked::Shows(Listing::Arrivals)),
+            Reading::Sent => Ok(Worked::Shows(Listing::Sent)),
+        },
+        Request::View(view) => Ok(Worked::Shows(Listing::View(*view))),
         Request::Office(_) | Request::OfficeLook(_) => Ok(Worked::Answered {
             reply: Reply::refused(Refusal::NoRoute),
             is_changed: false,

@@ -16,7 +16,7 @@ ghost use Rattle.shop_model.specs.Refusals.{StoreFailed};
 
 use chain_steps::{caller_unless_failed, step};
 use chain_store::{
-    Asked, FirstRows, OpenFault, Report, asked_values, first_values, in_memory, show,
+    Asked, FirstRows, OpenFault, asked_values, first_values, in_memory, read_office,
 };
 use shop_types::{Caller, Limits, NoMemory, OfficeAsk, Refusal, Reply, Request, Token};
 use sql_rows::StoreFault;
@@ -177,7 +177,7 @@ impl<S: Alter> Chain<S> {
         ensures { Takes S.Store self.old self.new (Answers HeadOffice (OfficeLook (seen_office_ask ask)) (seen_reply result)) }
     {
         limits_fit(self.limits);
-        match show(self.alloc, &mut self.conn, Report::OfOffice(ask)) {
+        match read_office(self.alloc, &mut self.conn, ask) {
             Ok(reply) => reply,
             Err(fault) => Reply::refused(self.refusal(fault)),
         }

@@ -1,23 +1,23 @@
 -- What head office asks, as a request of its caller.
-use Rattle.std.proofs.Common.{◌≡◌, ◌≢◌, ◌∙◌, refl, sym, subst, inl}
+use Rattle.std.proofs.Common.{◌≡◌, ◌≢◌, refl, inl}
 use Rattle.sqlite.specs.State.{State}
 use Rattle.shop_values.specs.LimitValues.{Limits}
 use Rattle.shop_model.specs.Values.{OfficeCommand}
 use Rattle.shop_model.specs.Verdict.{Verdict, Again, Refused, Accepted, office_verdict}
-use Rattle.shop_model.specs.Machine.{Office, OfficeLook, Shows as Shown, office_text, office_done, if_accepted}
-use Rattle.shop_model.specs.Answers.{Answer, answer_of}
+use Rattle.shop_model.specs.Machine.{Office, OfficeLook, office_text, office_done, if_accepted}
+use Rattle.shop_model.specs.Answers.{Answer}
 use Rattle.shop_model.specs.Books.{Books, HeadOffice}
+use Rattle.shop_model.specs.Sound.{HasCustody}
 use Rattle.shop_types.specs.declared.request.OfficeAsk.{OfficeAsk}
-use Rattle.shop_types.specs.declared.request.OfficeAsk.TheVariants.{Sales}
 use Rattle.shop_types.specs.Seen.{seen_office_ask}
+use Rattle.shop_schema.specs.Held.{IsHeld}
 use Rattle.sql_rows.specs.declared.fault.StoreFault.{StoreFault}
 use Rattle.sql_rows.specs.declared.fault.StoreFault.TheVariants.{Failed}
 use Rattle.branch_work.specs.Rules.{rules_of}
 use Rattle.branch_work.specs.Works.{GoesBy}
-use Rattle.chain_store.specs.declared.reports.Report.TheVariants.{OfOffice}
-use Rattle.chain_store.specs.Reports.{shown_by, ShowsReport}
+use Rattle.chain_store.specs.OfficeReads.{TellsOffice}
 use Rattle.chain_store.specs.Chains.{Rests}
-use Rattle.chain_store.specs.Steps.{told_to, left_by, IsMade, IsUndone, LeavesEitherOf}
+use Rattle.chain_store.specs.Steps.{told_to, left_by, IsUndone, LeavesEitherOf}
 
 -- head office's command goes by the verdict
 pub office_goes : (limits : Limits) (command : OfficeCommand) (books : Books)
@@ -29,17 +29,12 @@ office_goes limits command books = record { told = refl; left = by (office_verdi
     by (Refused refusal) = refl
     by Accepted = refl
 
--- a reading of head office
-pub office_shows : (limits : Limits) (ask : OfficeAsk) (books : Books)
-    → (told_to limits HeadOffice (OfficeLook (seen_office_ask ask)) books ≡ answer_of (Shown (shown_by (OfOffice ask) books))) × (left_by limits HeadOffice (OfficeLook (seen_office_ask ask)) books ≡ books)
-office_shows limits Sales books = (refl, refl)
+-- a reading of head office, of books in which nothing is twice
+pub office_read : (limits : Limits) (ask : OfficeAsk) (answer : Answer) (old new : State) → TellsOffice ask answer old → IsUndone old new
+    → (books : Books) → Rests old books → IsHeld books → HasCustody books
+    → (answer ≡ told_to limits HeadOffice (OfficeLook (seen_office_ask ask)) books) × Rests new (left_by limits HeadOffice (OfficeLook (seen_office_ask ask)) books)
+office_read limits ask answer old new told same books rests held custody = (told books rests held custody, same books rests held)
 
-pub office_made : (limits : Limits) (ask : OfficeAsk) (answer : Answer) (old new : State) → ShowsReport (OfOffice ask) answer old → IsUndone old new → IsMade limits HeadOffice (OfficeLook (seen_office_ask ask)) answer old new
-office_made limits ask answer old new shown same = record {
-  reply = λ books rests held. shown books rests held ∙ sym (office_shows limits ask books).0;
-  books = λ books rests held. subst (Rests new) (sym (office_shows limits ask books).1) (same books rests held);
-}
-
-pub office_unmade : (limits : Limits) (ask : OfficeAsk) (fault : StoreFault) (old new : State) → IsUndone old new
+pub office_unread : (limits : Limits) (ask : OfficeAsk) (fault : StoreFault) (old new : State) → IsUndone old new
     → (fault ≢ Failed → IsUndone old new) × LeavesEitherOf limits HeadOffice (OfficeLook (seen_office_ask ask)) old new
-office_unmade limits ask fault old new same = (λ other. same, λ books rests held db may. inl ((same books rests held).left db may))
+office_unread limits ask fault old new same = (λ other. same, λ books rests held db may. inl ((same books rests held).left db may))

@@ -136,4 +136,5 @@ stands_in_any counts trees books some = record {
   kept = in_any _ _ (λ s. s.kept) some;
   counters = in_any _ _ (λ s. s.counters) some;
   outs = in_any _ _ (λ s. s.outs) some;
+  pairs = in_any _ _ (λ s. s.pairs) some;
 }

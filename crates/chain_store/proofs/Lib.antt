@@ -1,6 +1,8 @@
 pub mod Failures
+pub mod ConsignValues
 pub mod Standing
 pub mod Asking
+pub mod Marks
 pub mod Taking
 pub mod Branches
 pub mod Running

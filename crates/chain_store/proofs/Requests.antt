@@ -8,9 +8,11 @@ use Rattle.shop_model.specs.Refusals as named
 use Rattle.shop_model.specs.Machine.{Request, Sorry}
 use Rattle.shop_model.specs.Answers.{Answer, answer_of, problem_answer}
 use Rattle.shop_model.specs.Books.{Books, Caller, known_caller, caller_of, reply_for, after_for}
+use Rattle.shop_model.specs.Sound.{HasCustody}
 use Rattle.shop_model.specs.Office.{office_look}
 use Rattle.shop_model.specs.Histories.{is_store_failure}
 use Rattle.shop_model.proofs.Histories.{memory_failure, size_failure, failed_failure}
+use Rattle.shop_schema.specs.Held.{IsHeld}
 use Rattle.shop_schema.specs.Shop.{StandsFor}
 use Rattle.shop_types.specs.declared.request.Request.{Request as Asked}
 use Rattle.shop_types.specs.declared.request.Caller.{Caller as Known}
@@ -21,8 +23,8 @@ use Rattle.sql_rows.specs.declared.fault.StoreFault.{StoreFault}
 use Rattle.sql_rows.specs.declared.fault.StoreFault.TheVariants as fault
 use Rattle.branch_work.specs.Rules.{rules_of}
 use Rattle.chain_store.specs.Holding.{Chained, Holding, holding}
-use Rattle.chain_store.specs.Chains.{IsAt, Takes, failed_at, Answers, AnswersEvent, event_of}
-use Rattle.chain_store.specs.Steps.{IsAsker, IsAsked, IsMade, IsUndone, LeavesEitherOf, HasCaller, left_by}
+use Rattle.chain_store.specs.Chains.{Rests, IsAt, Takes, failed_at, Answers, AnswersEvent, event_of}
+use Rattle.chain_store.specs.Steps.{IsAsker, IsAsked, IsMade, IsUndone, LeavesEitherOf, HasCaller, told_to, left_by}
 use Rattle.chain_store.specs.Decisions.{FindsCaller, IsStoreRefusal, IsStoreRefusalAt, refusal_for, is_final}
 use Rattle.chain_store.proofs.Failures.{decided_fine}
 use Rattle.chain_store.proofs.Standing.{are_held, values_after, sound_after}
@@ -175,16 +177,21 @@ module _ {S : Type 0} (g : Ghosts S) (old new : Chained S) (limits : new.limits 
   }
 
   module _ (caller : Caller) (request : Request) (who : IsAsker caller) (asked : IsAsked request) (most : old.limits.commands ≤ 1_000_000) (fit : old.limits.copies ≤ 1_000_000) where
+    -- what it came to, of books in which nothing is twice
+    abbrev CameTo : Answer → Type 0
+    CameTo answer = (books : Books) → Rests (state g old.conn) books → IsHeld books → HasCustody books
+        → (answer ≡ told_to old.limits caller request books) × Rests (state g new.conn) (left_by old.limits caller request books)
+
     -- the request was answered
-    pub made : (answer : Answer) → new.is_failed ≡ false → (HasCleanDisk (state g new.conn) → HasCleanDisk (state g old.conn))
-        → (HasCleanDisk (state g new.conn) → IsMade old.limits caller request answer (state g old.conn) (state g new.conn)) → Takes g old new (Answers caller request answer)
-    made answer still clean is = record {
+    pub came : (answer : Answer) → new.is_failed ≡ false → (HasCleanDisk (state g new.conn) → HasCleanDisk (state g old.conn))
+        → (HasCleanDisk (state g new.conn) → CameTo answer) → Takes g old new (Answers caller request answer)
+    came answer still clean is = record {
       clean = clean;
       goes = λ now books besides at.
           let held = are_held books at.sound at.values in
-          let it = is now in
-          let told = it.reply books (at.rests fine) held in
-          let rests = it.books books (at.rests fine) held in
+          let it = is now books (at.rests fine) held at.sound.custody in
+          let told = it.0 in
+          let rests = it.1 in
           let after = left_by old.limits caller request books in
           let sends : is_store_failure answer ≡ false = ap is_store_failure told ∙ decided_fine (reply_for (rules_of old.limits) office_look (known_caller books.catalogue caller) request books) in
           let P : Answers caller request answer (holding old books besides) (holding new after after) = record {
@@ -199,13 +206,17 @@ module _ {S : Type 0} (g : Ghosts S) (old new : Chained S) (limits : new.limits 
             P,
             record {
               sound = sound_after old.limits caller request books most fit at.sound;
-              values = values_after old.limits books held caller who request asked;
+              values = values_after old.limits books held at.sound caller who request asked most fit;
               rests = λ _. rests;
               alone = λ _. refl;
               left = λ was. never new.is_failed still was;
             },
           );
     }
+
+    pub made : (answer : Answer) → new.is_failed ≡ false → (HasCleanDisk (state g new.conn) → HasCleanDisk (state g old.conn))
+        → (HasCleanDisk (state g new.conn) → IsMade old.limits caller request answer (state g old.conn) (state g new.conn)) → Takes g old new (Answers caller request answer)
+    made answer still clean is = came answer still clean (λ now books rests held custody. ((is now).reply books rests held, (is now).books books rests held))
 
     -- it wasn't
     pub unmade : (it : StoreFault) → new.is_failed ≡ is_final it → (HasCleanDisk (state g new.conn) → HasCleanDisk (state g old.conn))
@@ -236,7 +247,7 @@ module _ {S : Type 0} (g : Ghosts S) (old new : Chained S) (limits : new.limits 
               alone = λ isnt. never new.is_failed isnt failed;
               left = λ _ db may. elim (either db may) [
                 | inl before ↦ inl before
-                | inr done ↦ inr (sound_after old.limits caller request books most fit at.sound, values_after old.limits books held caller who request asked, done)
+                | inr done ↦ inr (sound_after old.limits caller request books most fit at.sound, values_after old.limits books held at.sound caller who request asked most fit, done)
               ];
             },
           );

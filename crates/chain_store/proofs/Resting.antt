@@ -17,18 +17,22 @@ use Rattle.sql_rows.proofs.Whole.{crash_new, dropped}
 use Rattle.shop_values.specs.LimitValues.{Limits}
 use Rattle.shop_model.specs.Machine.{Request}
 use Rattle.shop_model.specs.Answers.{Answer}
-use Rattle.shop_model.specs.Books.{Books, Caller}
+use Rattle.shop_model.specs.Books.{Books, Caller, Mark}
+use Rattle.shop_model.specs.Sound.{HasCustody}
 use Rattle.sql_rows.specs.declared.fault.StoreFault.{StoreFault}
 use Rattle.sql_rows.specs.declared.fault.StoreFault.TheVariants.{Failed}
 use Rattle.shop_types.specs.declared.request.Caller.{Caller as Known}
 use Rattle.shop_types.specs.Seen.{seen_caller}
+use Rattle.shop_types.specs.declared.reply.Reply.{Reply}
+use Rattle.shop_types.specs.Replies.{seen_reply}
 use Rattle.shop_schema.specs.Tables.{shop_schema}
 use Rattle.shop_schema.specs.Held.{IsHeld}
-use Rattle.shop_schema.specs.Shop.{StandsFor, Holds}
+use Rattle.shop_schema.specs.Shop.{StandsFor, Holds, Reads}
 use Rattle.chain_store.specs.Chains.{Rests}
 use Rattle.chain_store.specs.declared.work.Work.TheVariants as work
 use Rattle.chain_store.specs.declared.reports.Report.{Report}
 use Rattle.chain_store.specs.Reports.{ShowsReport}
+use Rattle.chain_store.specs.OfficeReads.{custody_told, TellsCustody}
 use Rattle.chain_store.specs.Steps.{left_by, HasCome, IsDone, Does, Works, IsMade, IsUndone, LeavesAfter, LeavesEitherOf, LeavesMade, IsCallerOf, HasCaller}
 
 pub holds_as : (s t : State) (books : Books) → t.now ≡ s.now → Holds s books → Holds t books
@@ -101,6 +105,11 @@ module _ {S : Type 0} (g : Ghosts S) (old mid end : Held S) where
       → IfOk r (λ caller. IsCallerOf token (seen_caller caller) (state g begun)) → IfOk r (λ caller. HasCaller token (seen_caller caller) (state g old))
   caller_between token (Ok caller) live found = λ books rests held. found books (holds_as (state g old) (state g begun) books refl (rests.now live)) held
   caller_between token (Err e) live found = tt
+
+  pub custody_between : {E : Type 0} (mark : Mark) (r : Result Reply E) → OnOk r (IsTrue (state g old).is_open)
+      → IfOk r (λ reply. Reads (state g begun) (state g mid) (λ books. HasCustody books → seen_reply reply ≡ custody_told mark books)) → IfOk r (λ reply. TellsCustody mark (seen_reply reply) (state g old))
+  custody_between mark (Ok reply) live told = λ books rests held custody. (told books (holds_as (state g old) (state g begun) books refl (rests.now live)) held).1 custody
+  custody_between mark (Err e) live told = tt
 
 -- of a database that has tables nothing is made
 pub leaves_untouched : (s : State) (books : Books) → Survives s s (LeavesMade s books)

@@ -11,30 +11,35 @@ use Rattle.shop_model.specs.Sound.{IsSound}
 use Rattle.shop_model.proofs.Soundness.{after_sound}
 use Rattle.shop_schema.specs.Held.{IsHeld}
 use Rattle.shop_schema.specs.RowValues.{IsNumber, IsCommand, IsKey, IsOfficeAct, AreValues}
-use Rattle.shop_schema.specs.Steps.{IsBuilt}
-use Rattle.shop_schema.proofs.Values.{held_by_sound, acts_fit, values_done}
+use Rattle.shop_schema.proofs.Values.{held_by_sound, acts_fit}
 use Rattle.shop_schema.proofs.OfficeValues.{office_values_done}
 use Rattle.stock_csv.proofs.ReadingLemmas.{stock_fits}
 use Rattle.branch_work.specs.Rules.{rules_of}
 use Rattle.chain_store.specs.Chains.{widest_rules}
 use Rattle.chain_store.specs.Steps.{IsAsker, IsAsked, left_by}
+use Rattle.chain_store.proofs.ConsignValues.{accepted_values}
 
 pub are_held : (books : Books) → IsSound widest_rules books → AreValues books → IsHeld books
 are_held books sound values = held_by_sound widest_rules books refl refl sound values
 
-module _ (limits : Limits) (books : Books) (held : IsHeld books) where
-  done_values : (b : ℕ) → IsNumber b → (command : Command) → IsCommand command → IsBuilt command.act → (v : Verdict)
-      → AreValues (if_accepted v (book_done (rules_of limits) b command books) books)
-  done_values b branch command is built (Again text) = held.values
-  done_values b branch command is built (Refused refusal) = held.values
-  done_values b branch command is built Accepted = values_done (rules_of limits) b command books branch is held (acts_fit (rules_of limits) stock_fits command.act) built
+pub sound_after : (limits : Limits) (caller : Caller) (request : Request) (books : Books) → limits.commands ≤ 1_000_000 → limits.copies ≤ 1_000_000 → IsSound widest_rules books
+    → IsSound widest_rules (left_by limits caller request books)
+sound_after limits caller request books most fit sound = after_sound (rules_of limits) widest_rules (known_caller books.catalogue caller) request books most fit sound
 
-  branch_values : (b : ℕ) → IsNumber b → (request : Request) → IsAsked request → AreValues (branch_after (rules_of limits) b request books)
-  branch_values b branch (Do command) asked = done_values b branch command asked.0 asked.1 (verdict (rules_of limits) b books.catalogue (shop_of b books) command)
-  branch_values b branch (Unread refusal) asked = held.values
-  branch_values b branch (Look ask) asked = held.values
-  branch_values b branch (Office command) asked = held.values
-  branch_values b branch (OfficeLook ask) asked = held.values
+module _ (limits : Limits) (books : Books) (held : IsHeld books) (sound : IsSound widest_rules books) where
+  done_values : (b : ℕ) → IsNumber b → (command : Command) → IsCommand command → (v : Verdict)
+      → IsSound widest_rules (if_accepted v (book_done (rules_of limits) b command books) books) → AreValues (if_accepted v (book_done (rules_of limits) b command books) books)
+  done_values b branch command is (Again text) after = held.values
+  done_values b branch command is (Refused refusal) after = held.values
+  done_values b branch command is Accepted after = accepted_values (rules_of limits) b command books branch is held sound after (acts_fit (rules_of limits) stock_fits command.act)
+
+  branch_values : (b : ℕ) → IsNumber b → (request : Request) → IsAsked request → IsSound widest_rules (branch_after (rules_of limits) b request books)
+      → AreValues (branch_after (rules_of limits) b request books)
+  branch_values b branch (Do command) asked after = done_values b branch command asked (verdict (rules_of limits) b books.catalogue (shop_of b books) command) after
+  branch_values b branch (Unread refusal) asked after = held.values
+  branch_values b branch (Look ask) asked after = held.values
+  branch_values b branch (Office command) asked after = held.values
+  branch_values b branch (OfficeLook ask) asked after = held.values
 
   office_done_values : (command : OfficeCommand) → IsKey command.key → IsOfficeAct command.act → (v : Verdict)
       → AreValues (record books { catalogue = if_accepted v (office_done command books.catalogue) books.catalogue })
@@ -49,14 +54,13 @@ module _ (limits : Limits) (books : Books) (held : IsHeld books) where
   office_request_values (Look ask) asked = held.values
   office_request_values (OfficeLook ask) asked = held.values
 
-  pub values_after : (caller : Caller) → IsAsker caller → (request : Request) → IsAsked request → AreValues (left_by limits caller request books)
-  values_after (Counter b) branch request asked = elim (cases_Bool (lacks books.catalogue.branches b)) [
+  values_left : (caller : Caller) → IsAsker caller → (request : Request) → IsAsked request → IsSound widest_rules (left_by limits caller request books) → AreValues (left_by limits caller request books)
+  values_left (Counter b) branch request asked after = elim (cases_Bool (lacks books.catalogue.branches b)) [
     | inl none ↦ rw none held.values
-    | inr there ↦ rw there (branch_values b branch request asked)
+    | inr there ↦ rw there (branch_values b branch request asked (rw there at after))
   ]
-  values_after HeadOffice who request asked = office_request_values request asked
-  values_after Nobody who request asked = held.values
+  values_left HeadOffice who request asked after = office_request_values request asked
+  values_left Nobody who request asked after = held.values
 
-pub sound_after : (limits : Limits) (caller : Caller) (request : Request) (books : Books) → limits.commands ≤ 1_000_000 → limits.copies ≤ 1_000_000 → IsSound widest_rules books
-    → IsSound widest_rules (left_by limits caller request books)
-sound_after limits caller request books most fit sound = after_sound (rules_of limits) widest_rules (known_caller books.catalogue caller) request books most fit sound
+  pub values_after : (caller : Caller) → IsAsker caller → (request : Request) → IsAsked request → limits.commands ≤ 1_000_000 → limits.copies ≤ 1_000_000 → AreValues (left_by limits caller request books)
+  values_after caller who request asked most fit = values_left caller who request asked (sound_after limits caller request books most fit sound)

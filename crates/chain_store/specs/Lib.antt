@@ -9,4 +9,5 @@ pub mod Openings
 pub mod Reports
 pub mod OfficeAdded
 pub mod OfficeFound
+pub mod OfficeReads
 pub mod OfficeWorks

@@ -12,7 +12,6 @@ use Rattle.shop_types.specs.Replies.{seen_reply}
 use Rattle.sql_rows.specs.Books.{no_schema}
 use Rattle.shop_schema.specs.Held.{IsHeld}
 use Rattle.shop_schema.specs.RowValues.{IsNumber, IsCommand, IsKey, IsOfficeAct}
-use Rattle.shop_schema.specs.Steps.{IsBuilt}
 use Rattle.shop_schema.specs.Shop.{StandsFor, Holds, first_books}
 pub use Rattle.branch_work.specs.Works.{told_to, left_by, IsDone, Does}
 use Rattle.chain_store.specs.declared.asked.Asked.{Asked}
@@ -41,10 +40,10 @@ IsAsker (Counter b) = IsNumber b
 IsAsker HeadOffice = ⊤
 IsAsker Nobody = ⊤
 
--- a request whose values the tables can hold, of an act that the program takes
+-- a request whose values the tables can hold
 abbrev pub IsAsked : Request → Type 0
 IsAsked (Unread refusal) = ⊤
-IsAsked (Do command) = IsCommand command × IsBuilt command.act
+IsAsked (Do command) = IsCommand command
 IsAsked (Look ask) = ⊤
 IsAsked (Office command) = IsKey command.key × IsOfficeAct command.act
 IsAsked (OfficeLook ask) = ⊤

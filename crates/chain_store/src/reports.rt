@@ -9,10 +9,13 @@ ghost use Rattle.shop_model.specs.Answers.{shown_text};
 ghost use Rattle.shop_types.specs.Replies.{seen_reply};
 ghost use Rattle.shop_schema.specs.Shop.{Holds};
 ghost use Rattle.shop_schema.specs.Held.{IsHeld};
+ghost use Rattle.branch_work.specs.Works.{listed};
 ghost use Rattle.chain_store.specs.Steps.{IsUndone};
 ghost use Rattle.chain_store.specs.Reports.{shown_by, ShowsReport};
 
-use shop_types::{BranchNo, OfficeAsk, Reply, View};
+use branch_work::Listing;
+use consign_store::{arrivals, sent, transit};
+use shop_types::{BranchNo, Reply};
 use sql_rows::StoreFault;
 use sqlite::{Alter, Connection};
 use std::alloc::Global;
@@ -21,10 +24,30 @@ use view_texts::{sales, view_text};
 /// What is read.
 #[derive(Clone, Copy)]
 pub enum Report {
-    /// A view, for the branch.
-    OfBranch(BranchNo, View),
-    /// A reading of head office.
-    OfOffice(OfficeAsk),
+    /// A list, for the branch.
+    OfBranch(BranchNo, Listing),
+    /// What each branch has taken for rentals.
+    Sales,
+    /// The consignments that aren't received.
+    Transit,
+}
+
+/// The text of a branch's list.
+fn listed_text<S: Alter>(
+    alloc: Global,
+    conn: &mut Connection<S>,
+    branch: BranchNo,
+    list: Listing,
+) -> Result<String, StoreFault>
+    ensures text { HasCleanDisk (state S.Store conn.new)
+        → IfOk result (λ s. (books : Books) → Holds (state S.Store conn.old) books → IsHeld books → string_bytes s ≡ shown_text (listed branch list books)) }
+    ensures same { StaysSame S.Store conn.old conn.new result }
+{
+    match list {
+        Listing::View(view) => view_text(alloc, conn, branch, view),
+        Listing::Arrivals => arrivals(alloc, conn, branch),
+        Listing::Sent => sent(alloc, conn, branch),
+    }
 }
 
 /// The text of what is read.
@@ -38,8 +61,9 @@ fn report_text<S: Alter>(
     ensures same { StaysSame S.Store conn.old conn.new result }
 {
     match report {
-        Report::OfBranch(branch, view) => view_text(alloc, conn, branch, view),
-        Report::OfOffice(OfficeAsk::Sales) => sales(alloc, conn),
+        Report::OfBranch(branch, list) => listed_text(alloc, conn, branch, list),
+        Report::Sales => sales(alloc, conn),
+        Report::Transit => transit(alloc, conn),
     }
 }
 

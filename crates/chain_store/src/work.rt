@@ -58,7 +58,7 @@ fn branch_work_of<S: Alter>(
 {
     match branch_work::work(alloc, tx, limits, branch, request)? {
         Worked::Answered { reply, is_changed } => Ok(Work::Done(reply, is_changed)),
-        Worked::Shows(view) => Ok(Work::Shows(Report::OfBranch(branch, view))),
+        Worked::Shows(list) => Ok(Work::Shows(Report::OfBranch(branch, list))),
     }
 }
 

@@ -5,3 +5,4 @@ pub mod PartLemmas
 pub mod WordLemmas
 pub mod FoundLemmas
 pub mod PersonLemmas
+pub mod SizeLemmas

@@ -1,8 +1,8 @@
 -- What the body of a command must be: a JSON object with the command's members and no others, in any order.
-use Rattle.std.specs.Prelude.{ℕ, ◌==◌, nat_le, suc, Bool, false, List, Option, Some, None, is_some, option_map, option_and_then, unwrap_or, codes, if◌then◌else◌}
+use Rattle.std.specs.Prelude.{ℕ, ◌==◌, nat_le, suc, Bool, false, List, [], ◌∷◌, Option, Some, None, is_some, option_map, option_and_then, unwrap_or, codes, if◌then◌else◌}
 use Rattle.std.specs.Str.{is_utf8}
-use Rattle.serde_json.specs.Data.{Data, Members, no_members, member}
-use Rattle.serde_json.specs.Find.{get, as_null, as_bool, as_str, as_number, as_u64, as_object}
+use Rattle.serde_json.specs.Data.{Data, Items, no_items, item, Members, no_members, member}
+use Rattle.serde_json.specs.Find.{get, as_null, as_bool, as_str, as_number, as_u64, as_array, as_object}
 use Rattle.serde_json.specs.Read.{read}
 use Rattle.shop_values.specs.Texts.{is_text, is_key}
 use Rattle.shop_values.specs.Numbers.{is_row_number}
@@ -37,9 +37,29 @@ key_at d = option_and_then (passing is_key) (string_at (codes "key") d)
 abbrev pub moment_at : Data → Option Moment
 moment_at d = option_and_then moment_of (string_at (codes "at") d)
 
--- the number of a row that the member of that name is: a whole number, written without a sign
+-- the number of a row that a value is: a whole number, written without a sign
+abbrev pub row_number_in : Data → Option ℕ
+row_number_in d = option_and_then (passing is_row_number) (option_and_then as_u64 (as_number d))
+
+-- the number of a row that the member of that name is
 abbrev pub number_at : List ℕ → Data → Option ℕ
-number_at name d = option_and_then (passing is_row_number) (option_and_then as_u64 (option_and_then as_number (get name d)))
+number_at name d = option_and_then row_number_in (get name d)
+
+-- the numbers of rows that the items are; an item of another kind is none
+abbrev pub numbers_in : Items → Option (List ℕ)
+numbers_in no_items = Some []
+numbers_in (item d ds) = do
+  n ← row_number_in d
+  ns ← numbers_in ds
+  Some (n ∷ ns)
+
+-- the numbers that a value lists, where it is a list and has nothing else
+abbrev pub list_of_numbers : Data → Option (List ℕ)
+list_of_numbers d = option_and_then numbers_in (as_array d)
+
+-- the list of numbers of rows that the member of that name is, of any length, in any order and whatever stands in it twice
+abbrev pub numbers_at : List ℕ → Data → Option (List ℕ)
+numbers_at name d = option_and_then list_of_numbers (get name d)
 
 -- true or false, as the member of that name is
 abbrev pub bool_at : List ℕ → Data → Option Bool
@@ -96,6 +116,8 @@ member_count form.Active = 5
 member_count form.Rent = 5
 member_count form.Return = 4
 member_count form.Pay = 6
+member_count form.Dispatch = 5
+member_count form.Receive = 6
 member_count form.Scrap = 4
 
 -- what a command does, by the members that say it
@@ -115,6 +137,15 @@ act_at form.Pay d = do
   rental ← rental_at d
   amount ← amount_at d
   Some (model.Pay customer rental amount)
+act_at form.Dispatch d = do
+  to ← number_at (codes "to") d
+  copies ← numbers_at (codes "copies") d
+  Some (model.Dispatch to copies)
+act_at form.Receive d = do
+  from ← number_at (codes "from") d
+  number ← number_at (codes "number") d
+  missing ← numbers_at (codes "missing") d
+  Some (model.Receive from number missing)
 act_at form.Scrap d = option_map model.Scrap (number_at (codes "copy") d)
 
 -- the staff who gives the command and the moment, where the body has so many members and no others

@@ -1,5 +1,6 @@
 pub mod Moments
 pub mod Routes
+pub mod Sizes
 pub mod Bodies
 pub mod Imports
 pub mod Looks

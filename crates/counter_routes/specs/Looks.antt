@@ -3,7 +3,7 @@ use Rattle.std.specs.Prelude.{ℕ, List, slice_get, Option, Some, None, option_m
 use Rattle.std.specs.Str.{bytes_eq}
 use Rattle.http_messages.specs.Items.{parts}
 use Rattle.shop_values.specs.Numbers.{row_number_of}
-use Rattle.shop_model.specs.Values.{Ask, OneCustomer, OneFilm, InStock, HeldBy, FilmInStock, FilmNotInStock, Balance, Overdue, Rewards}
+use Rattle.shop_model.specs.Values.{Ask, OneCustomer, OneFilm, InStock, HeldBy, FilmInStock, FilmNotInStock, Balance, Overdue, Rewards, Arrivals, SentOff}
 use Rattle.shop_model.specs.Values.{View, CustomerList, StaffList, FilmList, ActorInfo, SalesByStore, SalesByCategory}
 use Rattle.counter_routes.specs.declared.looks.LookForm.{LookForm}
 use Rattle.counter_routes.specs.declared.looks.LookForm.TheVariants as look
@@ -56,6 +56,8 @@ look_in look.FilmNotInStock target = ask_in FilmNotInStock target
 look_in look.Balance target = balance_in target
 look_in look.Overdue target = overdue_in target
 look_in look.Rewards target = rewards_in target
+look_in look.Arrivals target = Some Arrivals
+look_in look.Sent target = Some SentOff
 
 -- the view of that name, which is compared byte by byte
 abbrev pub view_of : List ℕ → Option View

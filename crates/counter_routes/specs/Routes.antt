@@ -69,6 +69,8 @@ post_entries =
     ∷ (codes "/rent", Command command.Rent)
     ∷ (codes "/return", Command command.Return)
     ∷ (codes "/pay", Command command.Pay)
+    ∷ (codes "/dispatch", Command command.Dispatch)
+    ∷ (codes "/receive", Command command.Receive)
     ∷ (codes "/scrap", Command command.Scrap)
     ∷ []
 
@@ -84,6 +86,8 @@ get_entries =
     ∷ (codes "/balance/{customer}/{at}", Look look.Balance)
     ∷ (codes "/overdue/{at}", Look look.Overdue)
     ∷ (codes "/rewards/{at}/{purchases}/{cents}", Look look.Rewards)
+    ∷ (codes "/arrivals", Look look.Arrivals)
+    ∷ (codes "/sent", Look look.Sent)
     ∷ (codes "/views/{name}", View)
     ∷ []
 

@@ -1,16 +1,18 @@
 //! Bodies of commands, from JSON.
 
-ghost use Rattle.std.specs.Prelude.{◌≡◌, IfOk, IfErr, Some, None, option_map};
+ghost use Rattle.std.specs.Prelude.{◌≡◌, ◌≤◌, length, IfOk, IfErr, Some, None, option_map};
 ghost use Rattle.serde_json.specs.View.{view};
 ghost use Rattle.shop_types.specs.Seen.{seen_person, seen_act, seen_command};
-ghost use Rattle.counter_routes.specs.Bodies.{string_at, text_at, key_at, moment_at, number_at, bool_at, rental_at, amount_at, has_members as is_object_of, names_at, contact_at, person_at, member_count, act_at, giver_at, command_in, body_of};
+ghost use Rattle.counter_routes.specs.Bodies.{string_at, text_at, key_at, moment_at, number_at, row_number_in, list_of_numbers, numbers_at, bool_at, rental_at, amount_at, has_members as is_object_of, names_at, contact_at, person_at, member_count, act_at, giver_at, command_in, body_of};
 ghost use Rattle.counter_routes.specs.Readings.{written_in};
+ghost use Rattle.counter_routes.specs.Sizes.{size};
 ghost use Rattle.counter_routes.specs.declared.bodies.Fault.TheVariants.{BadBody, NoMemory as OutOfMemory};
-ghost use Rattle.counter_routes.specs.declared.bodies.CommandForm.TheVariants.{NewCustomer};
+ghost use Rattle.counter_routes.specs.declared.bodies.CommandForm.TheVariants.{NewCustomer, Dispatch, Receive};
 
 use serde_json::Value;
 use shop_types::{
-    Act, Amount, Command, Key, L45, Moment, Person, RentalNo, RowNumber, StaffNo, T45, T128, Text,
+    Act, Amount, Command, Key, L45, Moment, Numbers, Person, RentalNo, RowNumber, StaffNo, T45,
+    T128, Text,
 };
 use std::alloc::{AllocError, Global};
 
@@ -58,12 +60,47 @@ fn moment(value: &Value) -> Option<Moment>
     Moment::read(string(value, "at")?)
 }
 
+/// The number of a row that the value is.
+fn row_number<const KIND: u8>(value: &Value) -> Option<RowNumber<KIND>>
+    ensures { result ≡ row_number_in (view value.now) }
+{
+    match value.as_u64()? {
+        number @ 0..=0xffff_ffff => RowNumber::new(number as u32),
+        _ => None,
+    }
+}
+
 fn number<const KIND: u8>(value: &Value, name: &str) -> Option<RowNumber<KIND>>
     ensures { result ≡ number_at name.now (view value.now) }
 {
-    match value.get(name)?.as_u64()? {
-        number @ 0..=0xffff_ffff => RowNumber::new(number as u32),
-        _ => None,
+    row_number(value.get(name)?)
+}
+
+/// The numbers of rows that the value lists.
+fn listed<const KIND: u8>(alloc: Global, value: &Value) -> Result<Vec<RowNumber<KIND>>, Fault>
+    ensures ok { IfOk result (λ numbers. list_of_numbers (view value.now) ≡ Some numbers.items) }
+    ensures bad { IfErr result (λ fault. fault ≡ BadBody → list_of_numbers (view value.now) ≡ None) }
+{
+    let items = value.as_array().ok_or(Fault::BadBody)?;
+    let mut numbers = Vec::with_capacity(alloc, items.len())?;
+    for item in items {
+        let number = row_number(item).ok_or(Fault::BadBody)?;
+        numbers.push_reserved(number);
+    }
+    Ok(numbers)
+}
+
+/// The list of numbers of rows that the member of that name is.
+fn numbers<const KIND: u8>(alloc: Global, value: &Value, name: &str) -> Result<Numbers<KIND>, Fault>
+    requires { size (view value.now) ≤ 65_537 }
+    ensures ok { IfOk result (λ numbers. numbers_at name.now (view value.now) ≡ Some numbers) }
+    ensures bad { IfErr result (λ fault. fault ≡ BadBody → numbers_at name.now (view value.now) ≡ None) }
+{
+    let list = value.get(name).ok_or(Fault::BadBody)?;
+    match Numbers::new(listed(alloc, list)?) {
+        Some(numbers) => Ok(numbers),
+        // No list is longer than the body that has it.
+        None => unreachable!(),
     }
 }
 
@@ -149,6 +186,8 @@ pub(crate) enum CommandForm {
     Rent,
     Return,
     Pay,
+    Dispatch,
+    Receive,
     Scrap,
 }
 
@@ -158,18 +197,18 @@ fn member_count(form: CommandForm) -> usize
 {
     match form {
         CommandForm::NewCustomer => 9,
-        CommandForm::Pay => 6,
-        CommandForm::Active | CommandForm::Rent => 5,
+        CommandForm::Pay | CommandForm::Receive => 6,
+        CommandForm::Active | CommandForm::Rent | CommandForm::Dispatch => 5,
         CommandForm::Return | CommandForm::Scrap => 4,
     }
 }
 
-/// What a command does whose parts are numbers and flags: it adds no customer.
+/// What a command does whose parts are numbers and flags, one of each: it adds no customer, and lists nothing.
 fn plain_act(form: CommandForm, value: &Value) -> Option<Act>
-    ensures { ¬ (form ≡ NewCustomer) → option_map seen_act result ≡ act_at form (view value.now) }
+    ensures { ¬ (form ≡ NewCustomer) → ¬ (form ≡ Dispatch) → ¬ (form ≡ Receive) → option_map seen_act result ≡ act_at form (view value.now) }
 {
     match form {
-        CommandForm::NewCustomer => None,
+        CommandForm::NewCustomer | CommandForm::Dispatch | CommandForm::Receive => None,
         CommandForm::Active => Some(Act::Active {
             customer: number(value, "customer")?,
             active: flag(value, "active")?,
@@ -188,13 +227,41 @@ fn plain_act(form: CommandForm, value: &Value) -> Option<Act>
     }
 }
 
+fn dispatch(alloc: Global, value: &Value) -> Result<Act, Fault>
+    requires { size (view value.now) ≤ 65_537 }
+    ensures ok { IfOk result (λ act. act_at Dispatch (view value.now) ≡ Some (seen_act act)) }
+    ensures bad { IfErr result (λ fault. fault ≡ BadBody → act_at Dispatch (view value.now) ≡ None) }
+{
+    let to = number(value, "to").ok_or(Fault::BadBody)?;
+    let copies = numbers(alloc, value, "copies")?;
+    Ok(Act::Dispatch { to, copies })
+}
+
+fn receipt(alloc: Global, value: &Value) -> Result<Act, Fault>
+    requires { size (view value.now) ≤ 65_537 }
+    ensures ok { IfOk result (λ act. act_at Receive (view value.now) ≡ Some (seen_act act)) }
+    ensures bad { IfErr result (λ fault. fault ≡ BadBody → act_at Receive (view value.now) ≡ None) }
+{
+    let from = number(value, "from").ok_or(Fault::BadBody)?;
+    let number = number(value, "number").ok_or(Fault::BadBody)?;
+    let missing = numbers(alloc, value, "missing")?;
+    Ok(Act::Receive {
+        from,
+        number,
+        missing,
+    })
+}
+
 /// What a command of the form does.
 fn act(alloc: Global, form: CommandForm, value: &Value) -> Result<Act, Fault>
+    requires { size (view value.now) ≤ 65_537 }
     ensures ok { IfOk result (λ act. act_at form (view value.now) ≡ Some (seen_act act)) }
     ensures bad { IfErr result (λ fault. fault ≡ BadBody → act_at form (view value.now) ≡ None) }
 {
     match form {
         CommandForm::NewCustomer => Ok(Act::Customer(person(alloc, value)?)),
+        CommandForm::Dispatch => dispatch(alloc, value),
+        CommandForm::Receive => receipt(alloc, value),
         _ => plain_act(form, value).ok_or(Fault::BadBody),
     }
 }
@@ -212,6 +279,7 @@ fn giver(value: &Value, count: usize) -> Option<(StaffNo, Moment)>
 /// The command of the form that a value writes.
 #[tactic(auto, unfolding(crate::specs::Bodies::command_in))]
 fn command(alloc: Global, form: CommandForm, value: &Value) -> Result<Command, Fault>
+    requires { size (view value.now) ≤ 65_537 }
     ensures ok { IfOk result (λ command. command_in form (view value.now) ≡ Some (seen_command command)) }
     ensures bad { IfErr result (λ fault. fault ≡ BadBody → command_in form (view value.now) ≡ None) }
 {
@@ -232,6 +300,7 @@ fn command(alloc: Global, form: CommandForm, value: &Value) -> Result<Command, F
 pub(crate) fn value_of(alloc: Global, body: &[u8]) -> Result<Value, Fault>
     ensures ok { IfOk result (λ value. body_of body.now ≡ Some (view value)) }
     ensures bad { IfErr result (λ fault. fault ≡ BadBody → body_of body.now ≡ None) }
+    ensures small { length body.now ≤ 65_536 → IfOk result (λ value. size (view value) ≤ 65_537) }
 {
     match Value::from_slice(alloc, body) {
         Ok(value) => Ok(value),
@@ -242,6 +311,7 @@ pub(crate) fn value_of(alloc: Global, body: &[u8]) -> Result<Value, Fault>
 
 /// The command of the form that a body writes.
 pub(crate) fn body_command(alloc: Global, form: CommandForm, body: &[u8]) -> Result<Command, Fault>
+    requires { length body.now ≤ 65_536 }
     ensures ok { IfOk result (λ command. written_in (command_in form) body.now ≡ Some (seen_command command)) }
     ensures bad { IfErr result (λ fault. fault ≡ BadBody → written_in (command_in form) body.now ≡ None) }
 {

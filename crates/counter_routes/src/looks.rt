@@ -79,6 +79,8 @@ pub(crate) enum LookForm {
     Balance,
     Overdue,
     Rewards,
+    Arrivals,
+    Sent,
 }
 
 /// The look of the form that a path writes.
@@ -95,6 +97,8 @@ pub(crate) fn look_asked(form: LookForm, target: &[u8]) -> Option<Ask>
         LookForm::Balance => balance_ask(target),
         LookForm::Overdue => overdue_ask(target),
         LookForm::Rewards => rewards_ask(target),
+        LookForm::Arrivals => Some(Ask::Arrivals),
+        LookForm::Sent => Some(Ask::Sent),
     }
 }
 

@@ -27,7 +27,7 @@ pub(crate) struct Pattern {
     route: Route,
 }
 
-const POST_ROUTES: [Pattern; 7] = [
+const POST_ROUTES: [Pattern; 9] = [
     Pattern {
         text: "/customer",
         route: Route::Command(CommandForm::NewCustomer),
@@ -53,12 +53,20 @@ const POST_ROUTES: [Pattern; 7] = [
         route: Route::Command(CommandForm::Pay),
     },
     Pattern {
+        text: "/dispatch",
+        route: Route::Command(CommandForm::Dispatch),
+    },
+    Pattern {
+        text: "/receive",
+        route: Route::Command(CommandForm::Receive),
+    },
+    Pattern {
         text: "/scrap",
         route: Route::Command(CommandForm::Scrap),
     },
 ];
 
-const GET_ROUTES: [Pattern; 10] = [
+const GET_ROUTES: [Pattern; 12] = [
     Pattern {
         text: "/customer/{n}",
         route: Route::Look(LookForm::Customer),
@@ -94,6 +102,14 @@ const GET_ROUTES: [Pattern; 10] = [
     Pattern {
         text: "/rewards/{at}/{purchases}/{cents}",
         route: Route::Look(LookForm::Rewards),
+    },
+    Pattern {
+        text: "/arrivals",
+        route: Route::Look(LookForm::Arrivals),
+    },
+    Pattern {
+        text: "/sent",
+        route: Route::Look(LookForm::Sent),
     },
     Pattern {
         text: "/views/{name}",

@@ -4,7 +4,7 @@ use Rattle.clap.specs.Words.{Text}
 use Rattle.clap.proofs.OnLiterals.{clap_on_literals}
 use Rattle.shop_types.specs.declared.film.Rating.TheVariants as rating
 use Rattle.shop_types.specs.declared.office.OfficeAct.TheVariants as office
-use Rattle.shop_types.specs.declared.request.OfficeAsk.TheVariants.{Sales}
+use Rattle.shop_types.specs.declared.request.OfficeAsk.TheVariants.{Sales, Custody}
 use Rattle.shop_types.specs.declared.line.LineAct.TheVariants as act
 use Rattle.office_words.specs.Line.{line_of}
 
@@ -47,3 +47,21 @@ pub sales_of_a_file : line_of (codes "--db" ∷ codes "chain" ∷ codes "sales" 
     ≡ Some (record { db = Some (codes "chain"); act = act.OfficeLook Sales })
 unfolding clap_on_literals
 sales_of_a_file = refl
+
+pub custody_of_a_mark : line_of (codes "custody" ∷ codes "--copy" ∷ codes "2" ∷ codes "--branch" ∷ codes "1" ∷ [])
+    ≡ Some (record { db = None; act = act.OfficeLook (Custody (record { branch = 1; copy = 2 })) })
+unfolding clap_on_literals
+custody_of_a_mark = refl
+
+-- a copy has no mark without its branch, and none has the number 0
+pub custody_without_branch : line_of (codes "custody" ∷ codes "--copy" ∷ codes "2" ∷ []) ≡ None
+unfolding clap_on_literals
+custody_without_branch = refl
+
+pub custody_of_none : line_of (codes "custody" ∷ codes "--branch" ∷ codes "1" ∷ codes "--copy" ∷ codes "0" ∷ []) ≡ None
+unfolding clap_on_literals
+custody_of_none = refl
+
+pub transit_with_a_key : line_of (codes "transit" ∷ codes "--key" ∷ codes "k" ∷ []) ≡ None
+unfolding clap_on_literals
+transit_with_a_key = refl

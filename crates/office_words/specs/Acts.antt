@@ -10,7 +10,8 @@ use Rattle.shop_types.specs.declared.film.Film.{Film}
 use Rattle.shop_types.specs.declared.person.Person.{Person}
 use Rattle.shop_types.specs.declared.office.OfficeAct.{OfficeAct}
 use Rattle.shop_types.specs.declared.office.OfficeAct.TheVariants as office
-use Rattle.shop_types.specs.declared.request.OfficeAsk.TheVariants.{Sales}
+use Rattle.shop_types.specs.declared.request.OfficeAsk.{OfficeAsk}
+use Rattle.shop_types.specs.declared.request.OfficeAsk.TheVariants.{Sales, Custody, Transit}
 use Rattle.shop_types.specs.declared.line.LineAct.{LineAct}
 use Rattle.shop_types.specs.declared.line.LineAct.TheVariants as act
 use Rattle.office_words.specs.Given.{with_value, text_given, key_given, token_given, rating_given, features_given}
@@ -169,11 +170,24 @@ serve_of rows =
     with_value (number_given 32 (codes "connections") rows) (λ connections.
     Some (act.Serve port connections)))
 
+-- where the copy of a mark is: the branch that imported it, and its number there
+abbrev pub custody_of : List Row → Option OfficeAsk
+custody_of rows =
+    with_value (row_given (codes "branch") rows) (λ branch.
+    with_value (row_given (codes "copy") rows) (λ copy.
+    Some (Custody (record { branch = branch; copy = copy }))))
+
+-- a reading has no key; any other name is a command's
+abbrev pub reading_of : Text → List Row → Option LineAct
+reading_of name rows = if bytes_eq name (codes "sales") then Some (act.OfficeLook Sales)
+    else (if bytes_eq name (codes "custody") then option_map act.OfficeLook (custody_of rows)
+    else (if bytes_eq name (codes "transit") then Some (act.OfficeLook Transit)
+    else command_of name rows))
+
 -- what a subcommand of this name asks for
 abbrev pub act_of : Text → List Row → Option LineAct
 act_of name rows = if bytes_eq name (codes "init") then option_map act.Init (token_given rows)
     else (if bytes_eq name (codes "migrate") then Some act.Migrate
     else (if bytes_eq name (codes "serve") then serve_of rows
     else (if bytes_eq name (codes "replay") then Some act.Replay
-    else (if bytes_eq name (codes "sales") then Some (act.OfficeLook Sales)
-    else command_of name rows))))
+    else reading_of name rows)))

@@ -115,6 +115,12 @@ replay_shape = subcommand_shape (codes "replay") []
 abbrev pub sales_shape : Shape
 sales_shape = subcommand_shape (codes "sales") []
 
+abbrev pub custody_shape : Shape
+custody_shape = subcommand_shape (codes "custody") (row_rule (codes "branch") ∷ row_rule (codes "copy") ∷ [])
+
+abbrev pub transit_shape : Shape
+transit_shape = subcommand_shape (codes "transit") []
+
 -- ---- the whole line
 
 abbrev pub name_shapes : List Shape
@@ -139,7 +145,7 @@ abbrev pub request_shapes : List Shape
 request_shapes = serve_shape ∷ replay_shape ∷ []
 
 abbrev pub reading_shapes : List Shape
-reading_shapes = sales_shape ∷ []
+reading_shapes = sales_shape ∷ custody_shape ∷ transit_shape ∷ []
 
 -- the command line before its subcommands
 abbrev pub top_app : App

@@ -1,13 +1,13 @@
 ghost use Rattle.std.specs.Prelude.{◌≡◌};
 ghost use Rattle.office_words.specs.Given.{values_of, Reads};
 ghost use Rattle.office_words.specs.Acts.{city_of, actor_of, facts_of, film_of, contact_of, branch_of};
-ghost use Rattle.office_words.specs.Acts.{person_of, staff_of, plain_act_of, place_act_of, office_act_of, command_of, serve_of, act_of};
+ghost use Rattle.office_words.specs.Acts.{person_of, staff_of, plain_act_of, place_act_of, office_act_of, command_of, serve_of, custody_of, reading_of, act_of};
 
 use crate::given;
 use clap::ArgMatches;
 use shop_types::{
-    Actor, Amount, Branch, CategoryNo, City, Features, Film, L45, LanguageNo, LineAct, Minutes,
-    OfficeAct, OfficeAsk, OfficeCommand, Period, Person, Rate, Rating, Staff, T128, Usage,
+    Actor, Amount, Branch, CategoryNo, City, Features, Film, L45, LanguageNo, LineAct, Mark,
+    Minutes, OfficeAct, OfficeAsk, OfficeCommand, Period, Person, Rate, Rating, Staff, T128, Usage,
 };
 use std::alloc::Global;
 
@@ -202,6 +202,28 @@ fn serve(given: &ArgMatches<'_>) -> Option<LineAct>
     })
 }
 
+/// The reading of where the copy of a mark is.
+fn custody(given: &ArgMatches<'_>) -> Option<OfficeAsk>
+    ensures { result ≡ custody_of (values_of given.now) }
+{
+    Some(OfficeAsk::Custody(Mark {
+        branch: given::row(given, "branch")?,
+        copy: given::row(given, "copy")?,
+    }))
+}
+
+/// What a subcommand of this name reads, or does as a command.
+fn reading(alloc: Global, name: &str, given: &ArgMatches<'_>) -> Result<LineAct, Usage>
+    ensures { Reads result (reading_of name.now (values_of given.now)) }
+{
+    match name {
+        "sales" => Ok(LineAct::OfficeLook(OfficeAsk::Sales)),
+        "custody" => Ok(LineAct::OfficeLook(given::of_kind(alloc, custody(given))?)),
+        "transit" => Ok(LineAct::OfficeLook(OfficeAsk::Transit)),
+        _ => command(alloc, name, given),
+    }
+}
+
 /// What a subcommand of this name asks for.
 pub(crate) fn act(alloc: Global, name: &str, given: &ArgMatches<'_>) -> Result<LineAct, Usage>
     ensures { Reads result (act_of name.now (values_of given.now)) }
@@ -211,7 +233,6 @@ pub(crate) fn act(alloc: Global, name: &str, given: &ArgMatches<'_>) -> Result<L
         "migrate" => Ok(LineAct::Migrate),
         "serve" => given::of_kind(alloc, serve(given)),
         "replay" => Ok(LineAct::Replay),
-        "sales" => Ok(LineAct::OfficeLook(OfficeAsk::Sales)),
-        _ => command(alloc, name, given),
+        _ => reading(alloc, name, given),
     }
 }

@@ -18,7 +18,7 @@ struct Subcommand {
 }
 
 /// The subcommands, in the order in which help tells them.
-static SUBCOMMANDS: [Subcommand; 18] = [
+static SUBCOMMANDS: [Subcommand; 20] = [
     // ---- what changes the catalogue
     Subcommand {
         name: "country-add",
@@ -141,8 +141,17 @@ static SUBCOMMANDS: [Subcommand; 18] = [
         name: "replay",
         options: &[],
     },
+    // ---- what head office reads
     Subcommand {
         name: "sales",
+        options: &[],
+    },
+    Subcommand {
+        name: "custody",
+        options: &[("branch", Kind::Row), ("copy", Kind::Row)],
+    },
+    Subcommand {
+        name: "transit",
         options: &[],
     },
 ];

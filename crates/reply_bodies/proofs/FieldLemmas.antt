@@ -7,8 +7,10 @@ use Rattle.serde_json.specs.Data.{Data, Members, no_members, member, put}
 use Rattle.serde_json.specs.Written.{has_float, members_have_float}
 use Rattle.shop_model.specs.Values as model
 use Rattle.reply_bodies.specs.declared.fields.Field.{Field}
-use Rattle.reply_bodies.specs.declared.fields.Field.TheVariants.{Number, Flag, Text, Null}
+use Rattle.reply_bodies.specs.declared.fields.Field.TheVariants.{Number, Flag, Text, Null, Films}
 use Rattle.reply_bodies.specs.Fields.{with_field, with_fields, fields_value}
+use Rattle.reply_bodies.specs.Bodies.{numbers_value}
+use Rattle.reply_bodies.proofs.TextLemmas.{numbers_no_float}
 
 put_at : (o : Ordering) (k l : model.Text) (d e : Data) (ms put_ms : Members) → has_float d ≡ false → has_float e ≡ false → members_have_float ms ≡ false → members_have_float put_ms ≡ false
     → members_have_float (match_ordering o (member k d (member l e ms)) (member l d ms) (member l e put_ms)) ≡ false
@@ -27,6 +29,7 @@ field_no_float (Number name n) ms = put_no_float name.now _ ms refl
 field_no_float (Flag name b) ms = put_no_float name.now _ ms refl
 field_no_float (Text name text) ms = put_no_float name.now _ ms refl
 field_no_float (Null name) ms = put_no_float name.now _ ms refl
+field_no_float (Films name films) ms = put_no_float name.now (numbers_value films.now) ms (numbers_no_float films.now)
 
 with_fields_no_float : (fields : List Field) (ms : Members) → members_have_float ms ≡ false → members_have_float (with_fields fields ms) ≡ false
 with_fields_no_float [] ms h = h

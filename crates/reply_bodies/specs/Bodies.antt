@@ -13,6 +13,10 @@ numbers_value ns = array (items_of (map (λ n. number (unsigned n)) ns))
 abbrev pub listed_value : Text → List ℕ → Data
 listed_value name ns = object (put (codes "count") (number (unsigned (length ns))) (put name (numbers_value ns) no_members))
 
+-- numbers under that name alone
+abbrev pub named_value : Text → List ℕ → Data
+named_value name ns = object (put name (numbers_value ns) no_members)
+
 -- what a customer owes, in cents
 abbrev pub balance_value : ℤ → Data
 balance_value cents = object (member (codes "balance") (number (of_integer cents)) no_members)

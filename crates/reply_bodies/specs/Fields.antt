@@ -3,8 +3,9 @@ use Rattle.std.specs.Prelude.{List, [], ◌∷◌}
 use Rattle.serde_json.specs.Data.{Data, Members, null, boolean, number, unsigned, string, object, no_members, put}
 use Rattle.shop_model.specs.Values as model
 use Rattle.reply_bodies.specs.Texts.{json_text}
+use Rattle.reply_bodies.specs.Bodies.{numbers_value}
 use Rattle.reply_bodies.specs.declared.fields.Field.{Field}
-use Rattle.reply_bodies.specs.declared.fields.Field.TheVariants.{Number, Flag, Text, Null}
+use Rattle.reply_bodies.specs.declared.fields.Field.TheVariants.{Number, Flag, Text, Null, Films}
 
 -- a member among others, which stand in the byte order of their names
 abbrev pub with_field : Field → Members → Members
@@ -12,6 +13,7 @@ with_field (Number name n) ms = put name.now (number (unsigned n)) ms
 with_field (Flag name b) ms = put name.now (boolean b) ms
 with_field (Text name text) ms = put name.now (string text.now) ms
 with_field (Null name) ms = put name.now null ms
+with_field (Films name films) ms = put name.now (numbers_value films.now) ms
 
 abbrev pub with_fields : List Field → Members → Members
 with_fields [] ms = ms

@@ -3,6 +3,7 @@ pub mod Overdue
 pub mod People
 pub mod Films
 pub mod Sales
+pub mod Consignments
 pub mod Page
 pub mod Bodies
 pub mod Texts

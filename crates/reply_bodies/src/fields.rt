@@ -4,7 +4,9 @@ ghost use Rattle.std.specs.Prelude.{◌≡◌, IfOk, OnOk, string_bytes};
 ghost use Rattle.serde_json.specs.View.{view, members_view};
 ghost use Rattle.reply_bodies.specs.Fields.{with_field, fields_value, fields_text};
 
+use crate::numbers::numbers_value;
 use serde_json::{Map, Value, put};
+use shop_values::FilmNo;
 use std::alloc::{AllocError, Global};
 
 /// A member of an object: its name and what it holds.
@@ -14,6 +16,7 @@ pub enum Field<'a> {
     Flag(&'static str, bool),
     Text(&'static str, &'a str),
     Null(&'static str),
+    Films(&'static str, &'a [FilmNo]),
 }
 
 /// Puts the member among the others.
@@ -28,6 +31,10 @@ fn add(alloc: Global, map: &mut Map<String, Value>, field: Field) -> Result<(), 
             put(map, alloc, name, text)
         }
         Field::Null(name) => put(map, alloc, name, Value::Null),
+        Field::Films(name, films) => {
+            let films = numbers_value(alloc, films)?;
+            put(map, alloc, name, films)
+        }
     }
 }
 

@@ -3,6 +3,7 @@
 #![tactic(auto)]
 
 mod actors;
+mod consignments;
 mod customer;
 mod fields;
 mod film;
@@ -12,13 +13,16 @@ mod numbers;
 mod office;
 mod overdue_rows;
 mod page;
+mod parcels;
 mod payment;
 mod people;
+mod places;
 mod rental;
 mod sales;
 mod stock;
 
 pub use actors::{ActorRow, FilmGroup, actor_row};
+pub use consignments::{ListedConsignment, arrival_row, sent_row, transit_row};
 pub use customer::{customer_text, new_customer_text};
 pub use fields::{Field, object_of};
 pub use film::film_text;
@@ -27,8 +31,10 @@ pub use names::PersonName;
 pub use office::office_text;
 pub use overdue_rows::{OverdueRow, overdue, overdue_row, overdue_text};
 pub use page::ListPage;
+pub use parcels::{dispatch_text, receipt_text};
 pub use payment::{balance_text, payment_text, rewards_text};
 pub use people::{CustomerRow, ListedPerson, StaffRow, customer_row, staff_row};
+pub use places::custody_text;
 pub use rental::{
     active_text, copies_text, holder_text, in_stock_text, rental_text, returned_text, scrapped_text,
 };

@@ -61,7 +61,7 @@ one_kept b x rows a = go (a == b) refl
 
 -- a kept command
 pub kept_counted : (b : ℕ) (x : Kept) (books : Books) → 1 ≤ b → counts_of (record books { kept = books.kept ++ record { owner = b; it = x } ∷ [] }) ≡ raise b 4 1 (counts_of books)
-kept_counted b x books low = λ i. record { counters = counters_grown b 4 1 books (record books { kept = books.kept ++ record { owner = b; it = x } ∷ [] }) low refl refl grows i; outs = (counts_of books).outs }
+kept_counted b x books low = λ i. record { counters = counters_grown b 4 1 books (record books { kept = books.kept ++ record { owner = b; it = x } ∷ [] }) low refl refl grows i; outs = (counts_of books).outs; pairs = (counts_of books).pairs }
   where
     grows : GrowsBy b 4 1 books (record books { kept = books.kept ++ record { owner = b; it = x } ∷ [] })
     grows a kind.Customers = same_count (a == b) 1 _
@@ -101,7 +101,7 @@ many_put {A} b rows more a all = go (a == b) (of_all b more a all (a == b) refl)
 pub copies_counted : (b : ℕ) (more : List (Row BookCopy)) (lots : List (Owned Text)) (books : Books) → 1 ≤ b → AllByRecursion (λ (row : Row BookCopy). row.branch ≡ b) more
     → counts_of (record books { copies = books.copies ++ more; lots = lots }) ≡ raise b 1 (length more) (counts_of books)
 copies_counted b more lots books low all =
-    λ i. record { counters = counters_grown b 1 (length more) books (record books { copies = books.copies ++ more; lots = lots }) low refl refl grows i; outs = (counts_of books).outs }
+    λ i. record { counters = counters_grown b 1 (length more) books (record books { copies = books.copies ++ more; lots = lots }) low refl refl grows i; outs = (counts_of books).outs; pairs = (counts_of books).pairs }
   where
     grows : GrowsBy b 1 (length more) books (record books { copies = books.copies ++ more; lots = lots })
     grows a kind.Customers = same_count (a == b) (length more) _
@@ -112,7 +112,7 @@ copies_counted b more lots books low all =
 
 -- one row, whatever its number is
 pub customer_row_counted : (b : ℕ) (row : Row Customer) (books : Books) → 1 ≤ b → row.branch ≡ b → counts_of (record books { customers = books.customers ++ row ∷ [] }) ≡ raise b 0 1 (counts_of books)
-customer_row_counted b row books low own = λ i. record { counters = counters_grown b 0 1 books (record books { customers = books.customers ++ row ∷ [] }) low refl refl grows i; outs = (counts_of books).outs }
+customer_row_counted b row books low own = λ i. record { counters = counters_grown b 0 1 books (record books { customers = books.customers ++ row ∷ [] }) low refl refl grows i; outs = (counts_of books).outs; pairs = (counts_of books).pairs }
   where
     grows : GrowsBy b 0 1 books (record books { customers = books.customers ++ row ∷ [] })
     grows a kind.Customers = many_put b books.customers (row ∷ []) a (own, tt)
@@ -122,7 +122,7 @@ customer_row_counted b row books low own = λ i. record { counters = counters_gr
     grows a kind.Kept = same_count (a == b) 1 _
 
 pub payment_row_counted : (b : ℕ) (row : Row Payment) (books : Books) → 1 ≤ b → row.branch ≡ b → counts_of (record books { payments = books.payments ++ row ∷ [] }) ≡ raise b 3 1 (counts_of books)
-payment_row_counted b row books low own = λ i. record { counters = counters_grown b 3 1 books (record books { payments = books.payments ++ row ∷ [] }) low refl refl grows i; outs = (counts_of books).outs }
+payment_row_counted b row books low own = λ i. record { counters = counters_grown b 3 1 books (record books { payments = books.payments ++ row ∷ [] }) low refl refl grows i; outs = (counts_of books).outs; pairs = (counts_of books).pairs }
   where
     grows : GrowsBy b 3 1 books (record books { payments = books.payments ++ row ∷ [] })
     grows a kind.Customers = same_count (a == b) 1 _
@@ -133,7 +133,7 @@ payment_row_counted b row books low own = λ i. record { counters = counters_gro
 
 pub rental_row_counted : (b : ℕ) (row : Row Rental) (books : Books) → 1 ≤ b → row.branch ≡ b → row.it.returned ≡ None
     → counts_of (record books { rentals = books.rentals ++ row ∷ [] }) ≡ put_out (record { branch = b; copy = row.it.copy; rental = row.number }) (raise b 2 1 (counts_of books))
-rental_row_counted b row books low own not_back = λ i. record { counters = counters_grown b 2 1 books (record books { rentals = books.rentals ++ row ∷ [] }) low refl refl grows i; outs = outs_more i }
+rental_row_counted b row books low own not_back = λ i. record { counters = counters_grown b 2 1 books (record books { rentals = books.rentals ++ row ∷ [] }) low refl refl grows i; outs = outs_more i; pairs = (counts_of books).pairs }
   where
     grows : GrowsBy b 2 1 books (record books { rentals = books.rentals ++ row ∷ [] })
     grows a kind.Customers = same_count (a == b) 1 _
@@ -177,7 +177,7 @@ module _ (old new : Books) (branches : new.catalogue.branches ≡ old.catalogue.
 
 -- a customer who is set
 pub active_counted : (b n : ℕ) (f : Customer → Customer) (books : Books) → counts_of (record books { customers = set_row b n f books.customers }) ≡ counts_of books
-active_counted b n f books = λ i. record { counters = counters_still books (record books { customers = set_row b n f books.customers }) refl refl same i; outs = (counts_of books).outs }
+active_counted b n f books = λ i. record { counters = counters_still books (record books { customers = set_row b n f books.customers }) refl refl same i; outs = (counts_of books).outs; pairs = (counts_of books).pairs }
   where
     same : (a : ℕ) (kind : CountKind) → count_in (kind_number kind) a (record books { customers = set_row b n f books.customers }) ≡ count_in (kind_number kind) a books
     same a kind.Customers = set_keeps b n f books.customers a
@@ -188,7 +188,7 @@ active_counted b n f books = λ i. record { counters = counters_still books (rec
 
 -- a copy that is set
 pub state_counted : (b n : ℕ) (f : BookCopy → BookCopy) (books : Books) → counts_of (record books { copies = set_row b n f books.copies }) ≡ counts_of books
-state_counted b n f books = λ i. record { counters = counters_still books (record books { copies = set_row b n f books.copies }) refl refl same i; outs = (counts_of books).outs }
+state_counted b n f books = λ i. record { counters = counters_still books (record books { copies = set_row b n f books.copies }) refl refl same i; outs = (counts_of books).outs; pairs = (counts_of books).pairs }
   where
     same : (a : ℕ) (kind : CountKind) → count_in (kind_number kind) a (record books { copies = set_row b n f books.copies }) ≡ count_in (kind_number kind) a books
     same a kind.Customers = refl
@@ -225,7 +225,7 @@ outs_left b n x m (row ∷ rows) all = go (is_row b n row) refl (is_open row) re
 pub returned_counted : (b n x : ℕ) (m : Moment) (books : Books) → AllByRecursion (IsItsRental b n x) books.rentals
     → counts_of (record books { rentals = set_row b n (back m) books.rentals }) ≡ drop_out b x n (counts_of books)
 returned_counted b n x m books all =
-    λ i. record { counters = counters_still books (record books { rentals = set_row b n (back m) books.rentals }) refl refl same i; outs = outs_left b n x m books.rentals all i }
+    λ i. record { counters = counters_still books (record books { rentals = set_row b n (back m) books.rentals }) refl refl same i; outs = outs_left b n x m books.rentals all i; pairs = (counts_of books).pairs }
   where
     same : (a : ℕ) (kind : CountKind) → count_in (kind_number kind) a (record books { rentals = set_row b n (back m) books.rentals }) ≡ count_in (kind_number kind) a books
     same a kind.Customers = refl

@@ -37,7 +37,7 @@ use Rattle.shop_schema.specs.Counts.{Count, Out, Counts, is_count, is_open, is_o
 use Rattle.shop_schema.specs.Shop.{StandsFor, StandsWith, IsShop, Tallies}
 use Rattle.shop_schema.proofs.Stands.{stands_but, rows_of, with_rows}
 use Rattle.shop_schema.proofs.Listed.{tallies_put}
-use Rattle.shop_ledger.specs.declared.counts.TheConstants.{SELECT_COUNT, UPDATE_COUNT, SELECT_OUT, SELECT_OUTS, INSERT_OUT, DELETE_OUT}
+use Rattle.shop_ledger.specs.declared.counts.TheConstants.{SELECT_COUNT, UPDATE_COUNT, SELECT_OUT, SELECT_OUTS, SELECT_COPIES_OUT, INSERT_OUT, DELETE_OUT}
 use Rattle.shop_ledger.proofs.Equals.{of_one, of_two, equals}
 
 -- ---- counts
@@ -117,6 +117,19 @@ shows_outs old new b rows books has h s apart =
     projects_sorted shop_schema SELECT_OUTS.now 43 3 of_one (col 1 3 ∷ []) 2 select_outs_means (number_value b ∷ []) old new rows has h (λ row. out_columns (out_of row)) (filter is_open books.rentals)
     (subst (HasRows 3 (old.now.trees 43)) (map-map out_columns out_of (filter is_open books.rentals)) s.outs) refl
     (λ vs. number_test 0 b vs && true) (λ vs. column vs 2 ∷ []) (is_of b) (λ c. one_tested _ (number_tested c.branch b)) (λ r. refl) (λ c. c.number) (λ c. refl) apart
+
+-- the same of the copies' numbers
+pub select_copies_means : Selects shop_schema SELECT_COPIES_OUT.now (plain_query 43 of_one (col 1 2 ∷ []) ((col 1 3, ascending Binary) ∷ []))
+unfolding understood everything
+select_copies_means = record { names = _; is = refl; plain = (refl, refl); unlisted = refl }
+
+pub shows_copies : (old new : State) (b : ℕ) (rows : List sql.Row) (books : Books) → IsShop old → Shown SELECT_COPIES_OUT.now (number_value b ∷ []) old new rows → StandsFor old.now.trees books
+    → Differ (λ (row : Row Rental). row.number) (filter (is_of b) (filter is_open books.rentals))
+    → rows ≡ map (λ (row : Row Rental). number_value row.it.copy ∷ []) (sort_by (by (λ row. row.number)) (filter (is_of b) (filter is_open books.rentals)))
+shows_copies old new b rows books has h s apart =
+    projects_sorted shop_schema SELECT_COPIES_OUT.now 43 3 of_one (col 1 2 ∷ []) 2 select_copies_means (number_value b ∷ []) old new rows has h (λ row. out_columns (out_of row)) (filter is_open books.rentals)
+    (subst (HasRows 3 (old.now.trees 43)) (map-map out_columns out_of (filter is_open books.rentals)) s.outs) refl
+    (λ vs. number_test 0 b vs && true) (λ vs. column vs 1 ∷ []) (is_of b) (λ c. one_tested _ (number_tested c.branch b)) (λ r. refl) (λ c. c.number) (λ c. refl) apart
 
 pub tallies_put_out : (old new : State) (o : Out) (count : ℕ) → ExecutesInside 0 INSERT_OUT.now (out_columns o) old new (Ok count) → Tallies old new (λ _. ⊤) (put_out o) (λ _. ⊤)
 unfolding understood everything

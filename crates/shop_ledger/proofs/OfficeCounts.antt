@@ -175,10 +175,10 @@ office_rows_counted (AddFilm film) books owners = refl
 office_rows_counted (PriceFilm film rate) books owners = refl
 office_rows_counted (WithdrawFilm film) books owners = refl
 office_rows_counted (AddCast cast) books owners = refl
-office_rows_counted (AddBranch branch) books owners = λ i. record { counters = branch_put books (record branch { manager = None }) owners i; outs = (counts_of books).outs }
+office_rows_counted (AddBranch branch) books owners = λ i. record { counters = branch_put books (record branch { manager = None }) owners i; outs = (counts_of books).outs; pairs = (counts_of books).pairs }
 office_rows_counted (AddStaff staff) books owners = refl
 office_rows_counted (StaffLeaves staff) books owners = refl
-office_rows_counted (SetManager b staff) books owners = λ i. record { counters = office_count books ∷ branch_set books 1 b (λ r. record r { manager = Some staff }) books.catalogue.branches i; outs = (counts_of books).outs }
+office_rows_counted (SetManager b staff) books owners = λ i. record { counters = office_count books ∷ branch_set books 1 b (λ r. record r { manager = Some staff }) books.catalogue.branches i; outs = (counts_of books).outs; pairs = (counts_of books).pairs }
 
 pub kept_stays : (act : OfficeAct) (it : Catalogue) → (office_acted act it).kept ≡ it.kept
 kept_stays (AddCountry name) it = refl
@@ -203,7 +203,7 @@ office_counted_raised command books =
     let kept : OfficeKept = record { command = command; reply = office_text command books.catalogue } in
     let more : length (books.catalogue.kept ++ kept ∷ []) ≡ length it.kept + 1 = length_push books.catalogue.kept kept ∙ ap (λ (ks : List OfficeKept). length ks + 1) (sym (kept_stays command.act books.catalogue)) in
     let others = none_raised (flat_map (branch_counts books) (numbered it.branches)) (callers books 1 (omega arith) it.branches) in
-    λ i. record { counters = record { caller = 0; kind = 4; last = more i } ∷ sym others i; outs = (counts_of books).outs }
+    λ i. record { counters = record { caller = 0; kind = 4; last = more i } ∷ sym others i; outs = (counts_of books).outs; pairs = (counts_of books).pairs }
 
 -- so the counts of the books after a command are those that the command makes
 pub office_counts_done : (command : OfficeCommand) (books : Books) → HasOwners books.catalogue.branches books

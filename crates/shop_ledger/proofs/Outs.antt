@@ -7,10 +7,10 @@ use Rattle.shop_model.specs.Rows.{Row, is_of, of, numbered, numbered_from, IsCou
 use Rattle.shop_model.specs.Values.{Rental}
 use Rattle.shop_model.specs.Stock.{keeps_out}
 use Rattle.shop_model.specs.Books.{Books}
-use Rattle.shop_model.proofs.RowLemmas.{length_map}
+use Rattle.shop_model.proofs.RowLemmas.{length_map, map_map}
 use Rattle.shop_schema.specs.Held.{IsHeld}
 use Rattle.shop_schema.specs.Counts.{Out, is_out, is_open, out_of, counts_of}
-use Rattle.shop_ledger.proofs.Rising.{Rise, counted_rise, filter_rise}
+use Rattle.shop_ledger.proofs.Rising.{Rise, counted_rise, filter_rise, map_filter}
 
 -- the numbers of the copy's open rentals
 abbrev pub open_from : ℕ → ℕ → List Rental → List ℕ
@@ -100,3 +100,13 @@ outs_rise b books held =
 pub outs_are : (b : ℕ) (books : Books) → IsHeld books → map (λ (row : Row Rental). row.number) (filter (is_of b) (filter is_open books.rentals)) ≡ opens_of (of b books.rentals)
 outs_are b books held =
     ap (map (λ (row : Row Rental). row.number)) (swapped (is_of b) is_open books.rentals) ∙ own_opens 1 (filter (is_of b) books.rentals) (held.numbers.rentals b)
+
+-- the copies of the open rentals
+abbrev pub copies_of : List Rental → List ℕ
+copies_of rentals = map (λ (it : Rental). it.copy) (filter (λ (it : Rental). is_none it.returned) rentals)
+
+pub copies_are : (b : ℕ) (books : Books) → map (λ (row : Row Rental). row.it.copy) (filter (is_of b) (filter is_open books.rentals)) ≡ copies_of (of b books.rentals)
+copies_are b books =
+    ap (map (λ (row : Row Rental). row.it.copy)) (swapped (is_of b) is_open books.rentals)
+    ∙ sym (map_map (λ (it : Rental). it.copy) (λ (row : Row Rental). row.it) (filter is_open (filter (is_of b) books.rentals)))
+    ∙ ap (map (λ (it : Rental). it.copy)) (map_filter (λ (row : Row Rental). row.it) (λ (it : Rental). is_none it.returned) (filter (is_of b) books.rentals))

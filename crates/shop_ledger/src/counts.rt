@@ -11,7 +11,7 @@ ghost use Rattle.shop_schema.specs.Counts.{count_in, is_count, kept_kind, raise,
 ghost use Rattle.shop_schema.specs.Shop.{Reads, Tallies};
 ghost use Rattle.shop_ledger.specs.Counted.{kind_number, caller_of, kind_of, counted, IsCount, CountsOnce, IsOutBy};
 
-use shop_schema::{first_of, row_number_at};
+use shop_schema::{first_of, row_number_at, row_numbers_in};
 use shop_types::{BranchNo, CopyNo, RentalNo};
 use sql_rows::{StoreFault, execute, number_at, query};
 use sqlite::types::ToSql;
@@ -162,20 +162,23 @@ pub fn rentals_out<S: Alter>(
         (λ rentals books. rentals.items ≡ map (λ it. it.0) (filter (λ it. is_none it.1.returned) (numbered (of branch books.rentals)))) }
 {
     let rows = query(tx, SELECT_OUTS, &[branch.get().to_sql()])?;
-    rentals_in(alloc, rows.as_slice())
+    row_numbers_in(alloc, rows.as_slice())
 }
 
-/// The numbers in the first column of the rows, in their order.
-fn rentals_in(alloc: Global, rows: &[Row]) -> Result<Vec<RentalNo>, StoreFault>
-    ensures { IfOk result (λ rentals. map number_value rentals.items ≡ map (λ row. column row 0) rows.now) }
+const SELECT_COPIES_OUT: &str = "SELECT copy FROM out_copy WHERE branch = ?1 ORDER BY rental";
+
+/// The branch's copies that are out, in the order of their rentals. As many rows are read, however many copies there are.
+pub fn copies_out<S: Alter>(
+    alloc: Global,
+    tx: &mut Transaction<'_, S>,
+    branch: BranchNo,
+) -> Result<Vec<CopyNo>, StoreFault>
+    ensures inside { StaysInside S.Store tx.old.conn tx.new.conn result }
+    ensures found { Finds (state S.Store tx.old.conn.now) (state S.Store tx.new.conn.now) result
+        (λ copies books. copies.items ≡ map (λ it. it.copy) (filter (λ it. is_none it.returned) (of branch books.rentals))) }
 {
-    let mut rentals = Vec::new(alloc);
-    for row in rows {
-        if rentals.push(row_number_at(row, 0)?).is_err() {
-            return Err(StoreFault::Memory);
-        }
-    }
-    Ok(rentals)
+    let rows = query(tx, SELECT_COPIES_OUT, &[branch.get().to_sql()])?;
+    row_numbers_in(alloc, rows.as_slice())
 }
 
 const INSERT_OUT: &str = "INSERT INTO out_copy (branch, copy, rental) VALUES (?1, ?2, ?3)";

@@ -8,6 +8,6 @@ mod kept;
 
 pub use branches::{last_at, set_last};
 pub use counts::{
-    Count, CountKind, count_of, drop_out, out_at, put_out, rentals_out, take_numbers,
+    Count, CountKind, copies_out, count_of, drop_out, out_at, put_out, rentals_out, take_numbers,
 };
 pub use kept::{KeptRow, Owner, kept_at, kept_found, put_kept};

@@ -59,6 +59,7 @@ held_by_sound sizes books commands copies sound values = record {
   single = sound.catalogue.single;
   names = sound.catalogue.names;
   few_shared = few_by_good sizes books.catalogue commands sound.catalogue;
+  places = sound.places;
 }
 
 -- ---- lists of which all items are such

@@ -1,9 +1,10 @@
 -- What is known of all books that a chain holds, beside what its tables stand for.
-use Rattle.std.specs.Prelude.{◌≡◌, ℕ, ◌≤◌, true, length, filter}
+use Rattle.std.specs.Prelude.{◌≡◌, ℕ, ◌≤◌, true, length, map, filter}
 use Rattle.std.specs.Str.{bytes_eq}
 use Rattle.shop_model.specs.Values.{Branch}
 use Rattle.shop_model.specs.Shop.{Kept, OfficeKept, Catalogue}
-use Rattle.shop_model.specs.Books.{Books, shop_of}
+use Rattle.shop_model.specs.Rows.{IsCounted}
+use Rattle.shop_model.specs.Books.{Books, Consignment, shop_of}
 use Rattle.shop_model.specs.Stock.{keeps_out}
 use Rattle.shop_model.specs.Links.{are_different, HasNoDoubles, NamesRowsOf}
 use Rattle.shop_model.specs.Sound.{HasNumbers, HasOwners}
@@ -21,8 +22,8 @@ pub record HasFewShared (catalogue : Catalogue) : Type 0 where
   pub staff : length catalogue.staff ≤ 1_000_003
 
 -- Its rows are such as the program can hold, they are numbered, the branches that they name are there, no key of a caller and no token comes twice, no cast and no
--- name of a country, language or category does, no caller has more than a million rows of a kind, shared rows are few and name rows that are there, and a copy is
--- out at most once.
+-- name of a country, language or category does, no caller has more than a million rows of a kind, shared rows are few and name rows that are there, a copy is
+-- out at most once, and places count the consignments of the chain.
 pub record IsHeld (books : Books) : Type 0 where
   pub values : AreValues books
   pub numbers : HasNumbers books
@@ -40,3 +41,4 @@ pub record IsHeld (books : Books) : Type 0 where
   pub single : HasNoDoubles books.catalogue
   pub names : NamesRowsOf books.catalogue books.catalogue
   pub few_shared : HasFewShared books.catalogue
+  pub places : IsCounted 1 (map (λ (it : Consignment). it.place) books.consignments)

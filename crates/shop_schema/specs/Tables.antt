@@ -1,4 +1,4 @@
--- The tables of version 1 as data, in the order in which they are made, and then the indexes. A table's rows are in a tree of their own, and so are the
+-- The tables of version 1 as data, in the order in which they are made, and the indexes. A table's rows are in a tree of their own, and so are the
 -- entries of each key and of each index. Columns are counted from 1, since the hidden rowid comes first.
 use Rattle.std.specs.Prelude.{Bool, true, false, [], ◌∷◌, ◌++◌, None, codes, List, ℕ, map}
 use Rattle.sqlite.specs.declared.types.Value.TheVariants.{Null}
@@ -174,6 +174,12 @@ out_copy_table =
     (number (codes "branch") ∷ number (codes "copy") ∷ number (codes "rental") ∷ [])
     (reference_of (1 ∷ 2 ∷ []) (codes "copy") (codes "branch" ∷ codes "number" ∷ []) ∷ reference_of (1 ∷ 3 ∷ []) (codes "rental") (codes "branch" ∷ codes "number" ∷ []) ∷ [])
 
+abbrev pub pair_count_table : Table
+pair_count_table =
+    table_of (codes "pair_count") 50 (1 ∷ 2 ∷ []) ((1 ∷ 2 ∷ []) ∷ [])
+    (number (codes "source") ∷ number (codes "addressee") ∷ number (codes "last") ∷ [])
+    (reference_of (1 ∷ []) (codes "branch") (codes "number" ∷ []) ∷ reference_of (2 ∷ []) (codes "branch") (codes "number" ∷ []) ∷ [])
+
 abbrev pub shop_schema : Schema
 shop_schema = record {
   tables = chain_table
@@ -196,6 +202,7 @@ shop_schema = record {
       ∷ kept_table
       ∷ counter_table
       ∷ out_copy_table
+      ∷ pair_count_table
       ∷ [];
   indexes = automatic_of (codes "country") (codes "1") 2 1 (1 ∷ [])
       ∷ automatic_of (codes "country") (codes "2") 3 1 (2 ∷ [])
@@ -227,6 +234,12 @@ shop_schema = record {
       ∷ index_of (codes "payment_customer") 47 30 (1 ∷ 3 ∷ 2 ∷ [])
       ∷ index_of (codes "payment_moment") 48 30 (1 ∷ 7 ∷ 2 ∷ [])
       ∷ index_of (codes "film_actor_actor") 49 16 (2 ∷ 1 ∷ [])
+      ∷ automatic_of (codes "pair_count") (codes "1") 51 50 (1 ∷ 2 ∷ [])
+      ∷ index_of (codes "consignment_addressee") 52 34 (2 ∷ 4 ∷ [])
+      ∷ index_of (codes "consignment_source") 53 34 (1 ∷ 4 ∷ [])
+      ∷ index_of (codes "consignment_open") 54 34 (5 ∷ 1 ∷ 2 ∷ 3 ∷ [])
+      ∷ index_of (codes "copy_origin") 55 25 (5 ∷ 6 ∷ [])
+      ∷ index_of (codes "line_origin") 56 37 (6 ∷ 7 ∷ [])
       ∷ [];
   views = [];
 }

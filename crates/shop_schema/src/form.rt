@@ -1,10 +1,10 @@
 //! The stored form of commands.
 
-ghost use Rattle.std.specs.Prelude.{◌≡◌, ◌<◌, ◌^◌, ◌++◌, length, IfOk, OnOk};
-ghost use Rattle.shop_schema.specs.Forms.{number_form, text_form, option_form, person_form, act_form, command_form};
+ghost use Rattle.std.specs.Prelude.{◌≡◌, ◌<◌, ◌^◌, [], ◌∷◌, ◌++◌, length, IfOk, OnOk};
+ghost use Rattle.shop_schema.specs.Forms.{number_form, text_form, numbers_form, joined, option_form, person_form, act_form, command_form};
 ghost use Rattle.shop_types.specs.Seen.{seen_person, seen_act, seen_command};
 
-use shop_types::{Act, Command, NoMemory, Person, RentalNo};
+use shop_types::{Act, Command, ConsignmentNo, LineNos, NoMemory, Person, RentalNo, RowNumber};
 use sql_rows::Bytes;
 use std::alloc::Global;
 
@@ -62,6 +62,29 @@ fn add_rental(form: &mut Vec<u8>, rental: Option<RentalNo>) -> Result<(), NoMemo
     }
 }
 
+/// How many there are, and then each.
+fn add_numbers<const KIND: u8>(
+    form: &mut Vec<u8>,
+    numbers: &[RowNumber<KIND>],
+) -> Result<(), NoMemory>
+    requires { length numbers.now < 2 ^ 32 }
+    ensures { OnOk result (form.new.items ≡ form.old.items ++ numbers_form numbers.now) }
+{
+    add_number(form, numbers.len() as u32)?;
+    for number in numbers {
+        add_number(form, number.get())?;
+    }
+    Ok(())
+}
+
+/// The number of a consignment, and the lines that are missing.
+fn add_lines(form: &mut Vec<u8>, number: ConsignmentNo, missing: &LineNos) -> Result<(), NoMemory>
+    ensures { OnOk result (form.new.items ≡ form.old.items ++ joined (number_form number ∷ numbers_form missing.now ∷ [])) }
+{
+    add_number(form, number.get())?;
+    add_numbers(form, missing.as_slice())
+}
+
 fn add_act(form: &mut Vec<u8>, act: &Act) -> Result<(), NoMemory>
     ensures { OnOk result (form.new.items ≡ form.old.items ++ act_form (seen_act act.now)) }
 {
@@ -99,6 +122,20 @@ fn add_act(form: &mut Vec<u8>, act: &Act) -> Result<(), NoMemory>
             form.extend_from_slice(&[6])?;
             add_text(form, lot.as_str())?;
             add_bytes(form, file.as_slice())
+        }
+        Act::Dispatch { to, copies } => {
+            form.extend_from_slice(&[7])?;
+            add_number(form, to.get())?;
+            add_numbers(form, copies.as_slice())
+        }
+        Act::Receive {
+            from,
+            number,
+            missing,
+        } => {
+            form.extend_from_slice(&[8])?;
+            add_number(form, from.get())?;
+            add_lines(form, *number, missing)
         }
         Act::Scrap(copy) => {
             form.extend_from_slice(&[9])?;

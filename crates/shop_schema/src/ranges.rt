@@ -1,10 +1,10 @@
 //! The values of commands.
 
-ghost use Rattle.shop_schema.specs.RowValues.{IsKey, IsPerson, IsRating, IsFilm, IsBranch, AreBytes, IsAct, IsCommand, IsOfficeAct};
+ghost use Rattle.shop_schema.specs.RowValues.{IsKey, IsPerson, IsRating, IsFilm, IsBranch, AreBytes, AreNumbers, IsAct, IsCommand, IsOfficeAct};
 ghost use Rattle.shop_types.specs.Films.{rating_text};
 ghost use Rattle.shop_types.specs.Seen.{seen_person, seen_film, seen_branch, seen_act, seen_command, seen_office_act, seen_office};
 
-use shop_types::{Act, Branch, Command, Film, OfficeAct, OfficeCommand, Person, Rating};
+use shop_types::{Act, Branch, Command, Film, OfficeAct, OfficeCommand, Person, Rating, RowNumber};
 
 fn person_values(person: &Person)
     ensures { IsPerson (seen_person person.now) }
@@ -21,6 +21,15 @@ fn person_values(person: &Person)
 fn bytes_values(bytes: &[u8])
     ensures { AreBytes bytes.now }
 {}
+
+/// Each is the number of a row.
+fn numbers_values<const KIND: u8>(numbers: &[RowNumber<KIND>])
+    ensures { AreNumbers numbers.now }
+{
+    for number in numbers {
+        let _number = number.get();
+    }
+}
 
 fn act_values(act: &Act)
     ensures { IsAct (seen_act act.now) }
@@ -51,6 +60,19 @@ fn act_values(act: &Act)
         Act::Import { lot, file } => {
             let _lot = lot.as_str();
             bytes_values(file.as_slice());
+        }
+        Act::Dispatch { to, copies } => {
+            let _to = to.get();
+            numbers_values(copies.as_slice());
+        }
+        Act::Receive {
+            from,
+            number,
+            missing,
+        } => {
+            let _from = from.get();
+            let _number = number.get();
+            numbers_values(missing.as_slice());
         }
         Act::Scrap(copy) => {
             let _copy = copy.get();

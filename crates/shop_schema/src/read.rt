@@ -1,6 +1,6 @@
 //! Columns read as the shop's values, and the first row of an answer. Where a column holds no such value, the fault is `Failed`.
 
-ghost use Rattle.std.specs.Prelude.{◌≡◌, ◌≢◌, ◌<◌, ℕ, List, Option, Some, Ok, Err, length, slice_get, IfOk, IfErr, IfSome};
+ghost use Rattle.std.specs.Prelude.{◌≡◌, ◌≢◌, ◌<◌, ℕ, List, Option, Some, Ok, Err, length, map, slice_get, IfOk, IfErr, IfSome};
 ghost use Rattle.std.specs.Fn.{FnReturnsAt};
 ghost use Rattle.sqlite.specs.declared.types.Value.TheVariants.{Text as SqlText};
 ghost use Rattle.sqlite.specs.Values.{or_null};
@@ -15,6 +15,7 @@ ghost use Rattle.shop_schema.specs.RowValues.{IsNumber, IsText};
 use shop_types::{Moment, RowNumber, Text};
 use sql_rows::{StoreFault, number_at, number_or_null_at, words_at, words_or_null_at};
 use sqlite::Row;
+use std::alloc::Global;
 
 /// The number of a row in the column.
 pub fn row_number_at<const KIND: u8>(row: &Row, at: usize) -> Result<RowNumber<KIND>, StoreFault>
@@ -26,6 +27,22 @@ pub fn row_number_at<const KIND: u8>(row: &Row, at: usize) -> Result<RowNumber<K
         Some(number) => Ok(number),
         None => Err(StoreFault::Failed),
     }
+}
+
+/// The numbers of rows in the first columns, in the order of these.
+pub fn row_numbers_in<const KIND: u8>(
+    alloc: Global,
+    rows: &[Row],
+) -> Result<Vec<RowNumber<KIND>>, StoreFault>
+    ensures { IfOk result (λ numbers. map number_value numbers.items ≡ map (λ row. column row 0) rows.now) }
+{
+    let mut numbers = Vec::new(alloc);
+    for row in rows {
+        if numbers.push(row_number_at(row, 0)?).is_err() {
+            return Err(StoreFault::Memory);
+        }
+    }
+    Ok(numbers)
 }
 
 /// The moment in the column, by its text.

@@ -177,17 +177,23 @@ module _ {A : Type 0} (t : BranchRows A) where
     abbrev pub set_params : sql.Row
     set_params = number_value b ∷ number_value n ∷ v ∷ []
 
+    -- no two rows have the number
+    abbrev pub IsOne : Books → Type 0
+    IsOne books = PicksOne (is_row b n) (items books)
+
     pub sets_column : Means shop_schema text (Update t.rows.place (record { lets = []; body = plain_query tree of_two (set_terms wide place) [] })) → ((row : Row A) → set_columns (columns row) ≡ columns (set_item row))
         → ((row : Row A) → are_kept t.rows.table.columns (set_columns (columns row)) ≡ true) → ((r : sql.Row) → list_all (holds (set_params ∷ r ∷ [])) of_two ≡ has_key b n (columns_of wide r))
         → ((r : sql.Row) → drop 1 (eval_all (set_terms wide place) (set_params ∷ r ∷ [])) ≡ rowid r ∷ set_columns (columns_of wide r))
         → ((r : sql.Row) → id_of (eval_all (set_terms wide place) (set_params ∷ r ∷ [])) ≡ id_of r) → ((r : sql.Row) → columns_of wide (Int (id_of r) ∷ set_columns (columns_of wide r)) ≡ set_columns (columns_of wide r))
         → ((w : Value) (vs : sql.Row) → cast_row t.rows.table (w ∷ vs) ≡ cast kind.Integer w ∷ cast_all t.rows.table.columns vs)
-        → (old new : State) (count : ℕ) → ExecutesInside 0 text set_params old new (Ok count) → Writes old new IsHeld (λ books. t.rows.part.filled (set_row b n f (items books)) books)
-    sets_column means sets_are kept sees shown ids whole casts old new count h counts books holds held =
-        let Given : Books → Type 0 = λ them. PicksOne (is_row b n) (items them) in
+        → (old new : State) (count : ℕ) → ExecutesInside 0 text set_params old new (Ok count) → Writes old new IsOne (λ books. t.rows.part.filled (set_row b n f (items books)) books)
+    sets_column means sets_are kept sees shown ids whole casts old new count h counts =
         let change : Books → Books = λ them. t.rows.part.filled (update_where (is_row b n) set_item (items them)) them in
-        writes_by shop_schema (StandsWith counts) old new Given change (λ has.
+        writes_by shop_schema (StandsWith counts) old new IsOne change (λ has.
         sets_row shop_schema (StandsWith counts) text t.rows.place t.rows.table wide of_two (set_terms wide place) set_params columns (has_key b n) (is_row b n) set_columns set_item (key_tested b n) sets_are kept old new has
-        means t.rows.plain.place refl count h (own_rows old.now.trees t.rows.table.tree) sees shown ids whole casts Given change
+        means t.rows.plain.place refl count h (own_rows old.now.trees t.rows.table.tree) sees shown ids whole casts IsOne change
         (λ them same s few sets. changed t.rows counts them (update_where (is_row b n) set_item (items them)) old.now.trees new.now.trees same s (sets (items them) (stood t.rows counts them old.now.trees s) few)))
-        books holds (picks_row b (items books) (t.counted books held b) n)
+
+    -- which is so of all books of a chain
+    pub sets_held : {change : Books → Books} → (old new : State) → Writes old new IsOne change → Writes old new IsHeld change
+    sets_held old new write counts books holds held = write counts books holds (picks_row b (items books) (t.counted books held b) n)

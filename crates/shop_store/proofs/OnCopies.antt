@@ -9,30 +9,33 @@ use Rattle.std.proofs.lemmas.Slice.Eq.{bytes_eq-Decides}
 use Rattle.sqlite.specs.declared.types.Value.TheVariants.{Text}
 use Rattle.sqlite_value.specs.Order as sql
 use Rattle.sqlite_value.specs.Order.{column}
+use Rattle.sqlite_value.specs.Keys.{ascending}
+use Rattle.sqlite_value.specs.declared.keys.Collation.TheVariants.{Binary}
+use Rattle.sqlite_keyed.proofs.ListLemmas.{map-map}
 use Rattle.sqlite_sql.specs.Term.{col}
 use Rattle.sqlite_tied.specs.Compute.{everything}
 use Rattle.sqlite.specs.Listing.{understood}
 use Rattle.sqlite.specs.State.{State, ExecutesInside, Shown}
-use Rattle.sql_rows.specs.Rows.{number_value}
+use Rattle.sql_rows.specs.Rows.{PicksOne, number_value}
 use Rattle.sql_rows.specs.declared.fault.StoreFault.{StoreFault}
 use Rattle.sql_rows.proofs.Appends.{are_kept}
-use Rattle.sql_rows.proofs.Queries.{Selects, plain_query}
-use Rattle.sql_rows.proofs.ColumnTests.{number_test, number_tested, text_test, text_tested, two_tested}
-use Rattle.sql_rows.proofs.Projects.{projects_count, still_holds}
-use Rattle.shop_model.specs.Rows.{Row, Owned, is_of, owned_by, set_row}
+use Rattle.sql_rows.proofs.Queries.{Selects, plain_query, unmapped}
+use Rattle.sql_rows.proofs.ColumnTests.{number_test, number_tested, same_number, test_of, text_test, text_tested, two_tested}
+use Rattle.sql_rows.proofs.Projects.{projects_count, projects_sorted, still_holds}
+use Rattle.shop_model.specs.Rows.{Row, Owned, is_of, is_row, owned_by, set_row}
 use Rattle.shop_model.specs.Values as model
 use Rattle.shop_model.specs.Values.{CopyState, Here, Sent, Scrapped}
 use Rattle.shop_model.specs.Books.{Books, BookCopy, put_state}
+use Rattle.shop_model.specs.Sound.{copy_is}
 use Rattle.shop_schema.specs.Tables.{shop_schema, copy_table}
 use Rattle.shop_schema.specs.Columns.{copy_columns, lot_columns, state_value}
 use Rattle.shop_schema.specs.RowValues.{IsRow, IsCopy}
-use Rattle.shop_schema.specs.Held.{IsHeld}
 use Rattle.shop_schema.specs.Shop.{StandsFor, IsShop, Reads, Writes}
 use Rattle.shop_schema.proofs.Listed.{PutsLast, puts_last}
-use Rattle.shop_store.specs.declared.copies.TheConstants.{SELECT_COPY, SELECT_COPIES_OF_FILM, UPDATE_STATE, INSERT_COPY, SELECT_LOT, INSERT_LOT}
+use Rattle.shop_store.specs.declared.copies.TheConstants.{SELECT_COPY, SELECT_COPIES_OF_FILM, SELECT_IN_STATE, UPDATE_STATE, INSERT_COPY, SELECT_LOT, INSERT_LOT}
 use Rattle.shop_store.specs.Seen.{seen_copy_row}
 use Rattle.shop_store.specs.declared.copies.CopyRow.{CopyRow}
-use Rattle.shop_ledger.proofs.Rising.{which_rise}
+use Rattle.shop_ledger.proofs.Rising.{which_rise, rise_differ, rise_sorted}
 use Rattle.shop_ledger.proofs.Equals.{of_two, equals}
 use Rattle.shop_store.proofs.BranchRows.{ReadsOne, reads_one, reads_sorted, sets_column}
 use Rattle.shop_store.proofs.BranchTables.{copies, lots}
@@ -67,8 +70,60 @@ read_of_film old new b film rows slice (Ok all) h same read kinds =
     (λ vs. number_test 0 b vs && (number_test 2 film vs && true)) (is_of_film b film) (λ c. two_tested _ _ (number_tested c.branch b) (number_tested c.it.film film)) (λ r. refl)
     (λ books held. which_rise (λ (it : BookCopy). it.film == film) b books.copies (held.numbers.copies b)) old new rows slice all.items h same read kinds
 
+-- the numbers of those in a state
+in_state_means : Selects shop_schema SELECT_IN_STATE.now (plain_query 25 (equals 0 (1 ∷ 4 ∷ [])) (col 1 2 ∷ []) ((col 1 2, ascending Binary) ∷ []))
+unfolding understood everything
+in_state_means = record { names = _; is = refl; plain = (refl, refl); unlisted = refl }
+
+abbrev pub is_in_state : ℕ → CopyState → Row BookCopy → Bool
+is_in_state b s row = is_of b row && copy_is row.it.state s
+
+-- the number that stands for a state
+abbrev code_of : CopyState → ℕ
+code_of Here = 0
+code_of Sent = 1
+code_of Scrapped = 2
+
+coded : (s : CopyState) → state_value s ≡ number_value (code_of s)
+coded Here = refl
+coded Sent = refl
+coded Scrapped = refl
+
+same_code : (t s : CopyState) → (code_of t == code_of s) ≡ copy_is t s
+same_code Here Here = refl
+same_code Here Sent = refl
+same_code Here Scrapped = refl
+same_code Sent Here = refl
+same_code Sent Sent = refl
+same_code Sent Scrapped = refl
+same_code Scrapped Here = refl
+same_code Scrapped Sent = refl
+same_code Scrapped Scrapped = refl
+
+state_tested : (s : CopyState) (n : ℕ) (c : Row BookCopy) → number_value n ≡ state_value s → number_test 3 n (copy_columns c) ≡ copy_is c.it.state s
+state_tested s n c code =
+    test_of (copy_columns c) 3 (code_of c.it.state) n (coded c.it.state) ∙ ap (λ k. code_of c.it.state == k) (same_number _ _ (code ∙ coded s)) ∙ same_code c.it.state s
+
+pub read_in_state : (old new : State) (b : ℕ) (s : CopyState) (n : ℕ) → number_value n ≡ state_value s → (rows seen : List sql.Row) (numbers : List ℕ)
+    → Shown SELECT_IN_STATE.now (number_value b ∷ number_value n ∷ []) old new rows → seen ≡ rows → map number_value numbers ≡ map (λ row. column row 0) seen
+    → Reads old new (λ books. numbers ≡ map (λ (row : Row BookCopy). row.number) (filter (is_in_state b s) books.copies))
+read_in_state old new b s n code rows seen numbers h same read books holds held =
+    let number : Row BookCopy → ℕ = λ row. row.number in
+    let those : List (Row BookCopy) = filter (is_in_state b s) books.copies in
+    let rise = which_rise (λ (it : BookCopy). copy_is it.state s) b books.copies (held.numbers.copies b) in
+    let found =
+    projects_sorted shop_schema SELECT_IN_STATE.now 25 6 (equals 0 (1 ∷ 4 ∷ [])) (col 1 2 ∷ []) 1 in_state_means (number_value b ∷ number_value n ∷ []) old new rows holds.schema_is h copy_columns books.copies holds.stands.copies refl
+    (λ vs. number_test 0 b vs && (number_test 3 n vs && true)) (λ vs. column vs 1 ∷ []) (is_in_state b s)
+    (λ c. two_tested _ _ (number_tested c.branch b) (state_tested s n c code)) (λ r. refl) number (λ c. refl) (rise_differ those rise) in
+    let shown : rows ≡ map (λ row. number_value (number row) ∷ []) those = found ∙ ap (map (λ row. number_value (number row) ∷ [])) (rise_sorted those rise) in
+    let firsts : map number_value numbers ≡ map number_value (map number those) =
+    read ∙ ap (map (λ row. column row 0)) (same ∙ shown) ∙ map-map (λ row. column row 0) (λ row. number_value (number row) ∷ []) those ∙ sym (map-map number_value number those) in (
+      still_holds shop_schema StandsFor SELECT_IN_STATE.now (number_value b ∷ number_value n ∷ []) old new in_state_means.plain rows h books holds,
+      unmapped number_value same_number _ _ firsts,
+    )
+
 pub write_state : (old new : State) (b n : ℕ) (to : CopyState) (count : ℕ) → ExecutesInside 0 UPDATE_STATE.now (number_value b ∷ number_value n ∷ state_value to ∷ []) old new (Ok count)
-    → Writes old new IsHeld (λ books. record books { copies = set_row b n (put_state to) books.copies })
+    → Writes old new (λ books. PicksOne (is_row b n) books.copies) (λ books. record books { copies = set_row b n (put_state to) books.copies })
 unfolding understood everything
 write_state old new b n to =
     sets_column copies UPDATE_STATE.now 3 (state_value to) (put_state to) b n (record { is = refl; plain = (refl, refl) }) (λ row. refl) (λ row. kept_copy (record row { it = put_state to row.it }))

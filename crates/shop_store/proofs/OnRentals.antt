@@ -26,7 +26,7 @@ use Rattle.shop_schema.proofs.Listed.{PutsLast, puts_last}
 use Rattle.shop_store.specs.declared.rentals.TheConstants.{SELECT_RENTAL, SELECT_SAME_RENTAL, SELECT_RENTALS_OF_CUSTOMER, INSERT_RENTAL, UPDATE_RETURNED}
 use Rattle.shop_store.specs.Seen.{seen_rental_row}
 use Rattle.shop_ledger.proofs.Equals.{equals}
-use Rattle.shop_store.proofs.BranchRows.{ReadsOne, reads_one, ReadsWhich, reads_which, sets_column}
+use Rattle.shop_store.proofs.BranchRows.{ReadsOne, reads_one, ReadsWhich, reads_which, sets_column, sets_held}
 use Rattle.shop_store.proofs.BranchTables.{rentals}
 
 -- each column takes its value as it is
@@ -54,9 +54,10 @@ read_of_customer b n =
 pub write_returned : (old new : State) (b n : ℕ) (moment : Moment) (count : ℕ) → ExecutesInside 0 UPDATE_RETURNED.now (number_value b ∷ number_value n ∷ moment_value moment ∷ []) old new (Ok count)
     → Writes old new IsHeld (λ books. record books { rentals = set_row b n (λ it. record it { returned = Some moment }) books.rentals })
 unfolding understood everything
-write_returned old new b n moment =
-    sets_column rentals UPDATE_RETURNED.now 5 (moment_value moment) (λ it. record it { returned = Some moment }) b n (record { is = refl; plain = (refl, refl) }) (λ row. refl) (λ row. refl)
-    (λ r. refl) (λ r. refl) (λ r. refl) (λ r. refl) (λ w vs. refl) old new
+write_returned old new b n moment count h =
+    sets_held rentals UPDATE_RETURNED.now 5 (moment_value moment) (λ it. record it { returned = Some moment }) b n old new
+    (sets_column rentals UPDATE_RETURNED.now 5 (moment_value moment) (λ it. record it { returned = Some moment }) b n (record { is = refl; plain = (refl, refl) }) (λ row. refl) (λ row. refl)
+    (λ r. refl) (λ r. refl) (λ r. refl) (λ r. refl) (λ w vs. refl) old new count h)
 
 -- a rental by all that no two share
 abbrev pub of_same : List Term

@@ -4,15 +4,13 @@ use Rattle.sqlite_value.specs.Order as sql
 use Rattle.shop_model.specs.Rows.{Row}
 use Rattle.shop_model.specs.Values as model
 use Rattle.shop_model.specs.Values.{Customer, Rental, Payment}
-use Rattle.shop_model.specs.Books as books
 use Rattle.shop_model.specs.Books.{BookCopy}
-use Rattle.shop_types.specs.Seen.{seen_customer, seen_rental, seen_payment}
+use Rattle.shop_types.specs.Seen.{seen_customer, seen_rental, seen_payment, seen_mark}
 use Rattle.shop_schema.specs.Columns.{customer_columns}
 use Rattle.shop_schema.specs.RowValues.{IsRow, IsCustomer}
 use Rattle.shop_store.specs.declared.customers.CustomerRow.{CustomerRow}
 use Rattle.shop_store.specs.declared.copies.CopyState.{CopyState}
 use Rattle.shop_store.specs.declared.copies.CopyState.TheVariants as state
-use Rattle.shop_store.specs.declared.copies.Mark.{Mark}
 use Rattle.shop_store.specs.declared.copies.CopyRow.{CopyRow}
 use Rattle.shop_store.specs.declared.rentals.RentalRow.{RentalRow}
 use Rattle.shop_store.specs.declared.payments.PaymentRow.{PaymentRow}
@@ -29,9 +27,6 @@ abbrev pub seen_state : CopyState → model.CopyState
 seen_state state.Here = model.Here
 seen_state state.Sent = model.Sent
 seen_state state.Scrapped = model.Scrapped
-
-abbrev pub seen_mark : Mark → books.Mark
-seen_mark mark = record { branch = mark.branch; copy = mark.copy }
 
 -- a copy of a branch, with the number
 abbrev pub seen_copy_row : CopyRow → Row BookCopy

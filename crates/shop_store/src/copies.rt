@@ -4,19 +4,19 @@ ghost use Rattle.std.specs.List.{list_any};
 ghost use Rattle.std.specs.Str.{bytes_eq};
 ghost use Rattle.sqlite.specs.Held.{state};
 ghost use Rattle.sqlite.specs.Values.{bound};
-ghost use Rattle.sql_rows.specs.Rows.{number_value};
+ghost use Rattle.sql_rows.specs.Rows.{PicksOne, number_value};
 ghost use Rattle.sql_rows.specs.Calls.{StaysInside};
-ghost use Rattle.shop_model.specs.Rows.{at, is_of, of, owned_by, set_row};
+ghost use Rattle.shop_model.specs.Rows.{at, is_of, is_row, of, owned_by, set_row};
 ghost use Rattle.shop_model.specs.Values as model;
 ghost use Rattle.shop_model.specs.Books.{put_state};
+ghost use Rattle.shop_model.specs.Sound.{copy_is};
 ghost use Rattle.shop_schema.specs.Calls.{Finds, Stores};
-ghost use Rattle.shop_schema.specs.Held.{IsHeld};
 ghost use Rattle.shop_schema.specs.RowValues.{IsRow, IsCopy};
 ghost use Rattle.shop_schema.specs.Columns.{state_value, copy_columns};
 ghost use Rattle.shop_store.specs.Seen.{seen_state, seen_copy_row};
 
-use shop_schema::row_number_at;
-use shop_types::{BranchNo, CopyNo, FilmNo, LotName};
+use shop_schema::{row_number_at, row_numbers_in};
+use shop_types::{BranchNo, CopyNo, FilmNo, LotName, Mark};
 use sql_rows::{StoreFault, Stored, execute, number_at, query, read_all, read_one};
 use sqlite::types::{ToSql, ValueRef};
 use sqlite::{Alter, Row, Transaction};
@@ -28,13 +28,6 @@ pub enum CopyState {
     Here,
     Sent,
     Scrapped,
-}
-
-/// Where a copy was imported, and the number that it had there. It moves with the copy.
-#[derive(Clone, Copy)]
-pub struct Mark {
-    pub branch: BranchNo,
-    pub copy: CopyNo,
 }
 
 /// A copy of a branch, by the number that it has there.
@@ -154,9 +147,31 @@ pub fn copies_of_film<S: Alter>(
     read_all(alloc, rows.as_slice())
 }
 
+const SELECT_IN_STATE: &str =
+    "SELECT number FROM copy WHERE branch = ?1 AND state = ?2 ORDER BY number";
+
+/// The numbers of the branch's copies in that state, in order. After a fault the transaction may be rolled back.
+pub fn copies_in_state<S: Alter>(
+    alloc: Global,
+    tx: &mut Transaction<'_, S>,
+    branch: BranchNo,
+    which: CopyState,
+) -> Result<Vec<CopyNo>, StoreFault>
+    ensures inside { StaysInside S.Store tx.old.conn tx.new.conn result }
+    ensures numbers { Finds (state S.Store tx.old.conn.now) (state S.Store tx.new.conn.now) result
+        (λ numbers books. numbers.items ≡ map (λ row. row.number) (filter (λ row. is_of branch row && copy_is row.it.state (seen_state which)) books.copies)) }
+{
+    let rows = query(
+        tx,
+        SELECT_IN_STATE,
+        &[branch.get().to_sql(), which.code().to_sql()],
+    )?;
+    row_numbers_in(alloc, rows.as_slice())
+}
+
 const UPDATE_STATE: &str = "UPDATE copy SET state = ?3 WHERE branch = ?1 AND number = ?2";
 
-/// Sets where the copy is. A copy that isn't there is not made. After a fault the transaction may be rolled back.
+/// Sets where the copy is, of which there are no two. A copy that isn't there is not made. After a fault the transaction may be rolled back.
 pub fn set_state<S: Alter>(
     tx: &mut Transaction<'_, S>,
     branch: BranchNo,
@@ -164,7 +179,7 @@ pub fn set_state<S: Alter>(
     new: CopyState,
 ) -> Result<(), StoreFault>
     ensures inside { StaysInside S.Store tx.old.conn tx.new.conn result }
-    ensures set { Stores (state S.Store tx.old.conn.now) (state S.Store tx.new.conn.now) result IsHeld
+    ensures set { Stores (state S.Store tx.old.conn.now) (state S.Store tx.new.conn.now) result (λ books. PicksOne (is_row branch number) books.copies)
         (λ books. record books { copies = set_row branch number (put_state (seen_state new)) books.copies }) }
 {
     execute(

@@ -21,7 +21,8 @@ mod staff;
 pub use branches::{branch_manager, branch_with, set_manager};
 pub use chain::{is_office, office_token};
 pub use copies::{
-    CopyRow, CopyState, Mark, copies_of_film, copy_at, has_lot, put_copy, put_lot, set_state,
+    CopyRow, CopyState, copies_in_state, copies_of_film, copy_at, has_lot, put_copy, put_lot,
+    set_state,
 };
 pub use counts::{put_count, put_counts};
 pub use customers::{CustomerRow, customer_at, put_customer, set_active};

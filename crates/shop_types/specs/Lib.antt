@@ -3,5 +3,6 @@ pub mod Seen
 pub mod Replies
 pub mod Lines
 pub mod StockFiles
+pub mod NumberLists
 pub mod Verdicts
 pub mod Decisions

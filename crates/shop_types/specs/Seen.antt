@@ -1,5 +1,5 @@
 -- What the program's values mean in the definitions of the shop.
-use Rattle.std.specs.Prelude.{false, None}
+use Rattle.std.specs.Prelude.{ℕ, false, None}
 use Rattle.shop_model.specs.Values as model
 use Rattle.shop_model.specs.Machine as machine
 use Rattle.shop_model.specs.Books as books
@@ -8,6 +8,10 @@ use Rattle.shop_types.specs.declared.person.Person.{Person}
 use Rattle.shop_types.specs.declared.person.Customer.{Customer}
 use Rattle.shop_types.specs.declared.rental.Rental.{Rental}
 use Rattle.shop_types.specs.declared.payment.Payment.{Payment}
+use Rattle.shop_types.specs.declared.custody.Mark.{Mark}
+use Rattle.shop_types.specs.declared.custody.Place.{Place}
+use Rattle.shop_types.specs.declared.custody.Place.TheVariants as place
+use Rattle.shop_types.specs.declared.parcel.ParcelLine.{ParcelLine}
 use Rattle.shop_types.specs.declared.command.Act.{Act}
 use Rattle.shop_types.specs.declared.command.Act.TheVariants as act
 use Rattle.shop_types.specs.declared.command.Command.{Command}
@@ -77,6 +81,8 @@ seen_act (act.Rent customer copy) = model.Rent customer copy
 seen_act (act.TakeBack rental) = model.TakeBack rental
 seen_act (act.Pay customer rental amount) = model.Pay customer rental amount
 seen_act (act.Import lot file) = model.Import lot file
+seen_act (act.Dispatch to copies) = model.Dispatch to copies
+seen_act (act.Receive from number missing) = model.Receive from number missing
 seen_act (act.Scrap copy) = model.Scrap copy
 
 abbrev pub seen_command : Command → model.Command
@@ -97,6 +103,8 @@ seen_ask (ask.FilmNotInStock film) = model.FilmNotInStock film
 seen_ask (ask.Balance customer at) = model.Balance customer at
 seen_ask (ask.Overdue at) = model.Overdue at
 seen_ask (ask.Rewards at purchases cents) = model.Rewards at purchases cents
+seen_ask ask.Arrivals = model.Arrivals
+seen_ask ask.Sent = model.SentOff
 
 abbrev pub seen_caller : Caller → books.Caller
 seen_caller (caller.Branch number) = books.Counter number
@@ -172,6 +180,8 @@ seen_view view.SalesByFilmCategory = model.SalesByCategory
 
 abbrev pub seen_office_ask : OfficeAsk → model.OfficeAsk
 seen_office_ask office_ask.Sales = model.Sales
+seen_office_ask (office_ask.Custody mark) = model.Custody mark.branch mark.copy
+seen_office_ask office_ask.Transit = model.Transit
 
 abbrev pub seen_request : Request → machine.Request
 seen_request (request.Do command) = machine.Do (seen_command command)
@@ -179,6 +189,20 @@ seen_request (request.Look ask) = machine.Look (seen_ask ask)
 seen_request (request.View it) = machine.Look (model.OneView (seen_view it))
 seen_request (request.Office command) = machine.Office (seen_office command)
 seen_request (request.OfficeLook ask) = machine.OfficeLook (seen_office_ask ask)
+
+-- ---- marks and where their copies are
+
+abbrev pub seen_mark : Mark → books.Mark
+seen_mark mark = record { branch = mark.branch; copy = mark.copy }
+
+-- the film and the mark of a line's copy
+abbrev pub seen_parcel_line : ParcelLine → ℕ × books.Mark
+seen_parcel_line line = (line.film, seen_mark line.mark)
+
+abbrev pub seen_place : Place → machine.Shown
+seen_place (place.Here branch copy) = machine.HereAt branch copy
+seen_place (place.Transit from to number) = machine.UnderWayTo from to number
+seen_place place.Gone = machine.Gone
 
 -- ---- refusals
 

@@ -1,5 +1,7 @@
-use crate::{Person, StockFile};
-use shop_values::{Amount, CopyNo, CustomerNo, Key, LotName, Moment, RentalNo, StaffNo};
+use crate::{CopyNos, LineNos, Person, StockFile};
+use shop_values::{
+    Amount, BranchNo, ConsignmentNo, CopyNo, CustomerNo, Key, LotName, Moment, RentalNo, StaffNo,
+};
 
 /// What a counter's command does.
 #[derive(Drop)]
@@ -28,6 +30,18 @@ pub enum Act {
     Import {
         lot: LotName,
         file: StockFile,
+    },
+    /// Sends copies to another branch, as a consignment with a line for each, in the order given.
+    Dispatch {
+        to: BranchNo,
+        copies: CopyNos,
+    },
+    /// Takes a consignment in that another branch sent, with all of its lines but those that are missing.
+    Receive {
+        from: BranchNo,
+        /// Its number, among the consignments of that sender to this branch.
+        number: ConsignmentNo,
+        missing: LineNos,
     },
     /// Takes a copy out of the shop for good.
     Scrap(CopyNo),

@@ -1,4 +1,4 @@
-use crate::{Command, OfficeCommand};
+use crate::{Command, Mark, OfficeCommand};
 use shop_values::{BranchNo, CopyNo, CustomerNo, FilmNo, Moment};
 
 /// What a counter's reading shows.
@@ -29,6 +29,10 @@ pub enum Ask {
         purchases: u32,
         cents: u32,
     },
+    /// The consignments that were sent to the branch, in the order in which they were.
+    Arrivals,
+    /// The consignments that the branch sent, in the order in which it did.
+    Sent,
 }
 
 /// A view of the Sakila manual, over the catalogue and the shop of the branch that asks.
@@ -53,6 +57,10 @@ pub enum View {
 pub enum OfficeAsk {
     /// What each branch has taken for rentals, in order of the branches' numbers.
     Sales,
+    /// Where the copy of a mark is.
+    Custody(Mark),
+    /// The consignments that aren't received, by sender, addressee and number.
+    Transit,
 }
 
 /// What a caller asks.

@@ -16,8 +16,8 @@ pub use moment::{Moment, moment_texts_are_one_to_one};
 pub use money::{Amount, Cents, Rate};
 pub use no_memory::NoMemory;
 pub use row_number::{
-    ActorNo, BranchNo, CategoryNo, CityNo, CopyNo, CountryNo, CustomerNo, FilmNo, LanguageNo,
-    PaymentNo, RentalNo, RowNumber, StaffNo,
+    ActorNo, BranchNo, CategoryNo, CityNo, ConsignmentNo, CopyNo, CountryNo, CustomerNo, FilmNo,
+    LanguageNo, LineNo, PaymentNo, RentalNo, RowNumber, StaffNo,
 };
 pub use text::{L45, L500, T45, T128, Text};
 pub use token::Token;

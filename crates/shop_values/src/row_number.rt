@@ -31,6 +31,10 @@ pub type CategoryNo = RowNumber<11>;
 
 pub type ActorNo = RowNumber<12>;
 
+pub type ConsignmentNo = RowNumber<13>;
+
+pub type LineNo = RowNumber<14>;
+
 impl<const KIND: u8> Model for RowNumber<KIND> {
     ghost use Rattle.std.specs.Prelude.{ℕ, ◌≤◌};
 

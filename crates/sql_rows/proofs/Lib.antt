@@ -21,6 +21,8 @@ pub mod OfKind
 pub mod Projects
 pub mod Stays
 pub mod Tells
+pub mod Upserts
+pub mod SameBags
 pub mod Drops
 pub mod TextLemmas
 pub mod EachLemmas

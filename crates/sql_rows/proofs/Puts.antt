@@ -43,10 +43,10 @@ concluded task mode w tally after h = let shown = went (went h).2 in ap (λ (p :
 
 -- ---- one row
 
-chosen_if : (table : Table) (top : ℤ) → table.is_counted ≡ false → rowids_for table top ≡ Chosen
+pub chosen_if : (table : Table) (top : ℤ) → table.is_counted ≡ false → rowids_for table top ≡ Chosen
 chosen_if table top uncounted = rw uncounted
 
-counted_if : (task : Task) (mid next : Trees) (counter : Option Row) (top : ℤ) → task.table.is_counted ≡ false → Counts task mid counter top (Ok next) → next ≡ mid
+pub counted_if : (task : Task) (mid next : Trees) (counter : Option Row) (top : ℤ) → task.table.is_counted ≡ false → Counts task mid counter top (Ok next) → next ≡ mid
 counted_if task mid next counter top uncounted h = same_value (rw uncounted at h)
 
 module _ (task : Task) (terms : List Term) (width : ℕ) (db : Trees) (w : Written) (uncounted : task.table.is_counted ≡ false) (unstamped : task.table.stamps.terms ≡ []) where

@@ -17,7 +17,7 @@ use Rattle.sql_rows.proofs.Appends.{are_kept, cast_null, cast_all_kept}
 use Rattle.sql_rows.proofs.Keyed.{put_bag, fresh_one}
 use Rattle.sql_rows.proofs.Puts.{Puts}
 
-numbered_row : (rows : List Row) (id : Value) (values : Row) → id ≡ Null → with_rowid Chosen rows (id ∷ values) ≡ Int (next_rowid rows) ∷ values
+pub numbered_row : (rows : List Row) (id : Value) (values : Row) → id ≡ Null → with_rowid Chosen rows (id ∷ values) ≡ Int (next_rowid rows) ∷ values
 numbered_row rows id values none = rw none
 
 -- Nothing is asked of the rowids: the row that was written has one that no row had.

@@ -23,7 +23,7 @@ cmp_ids a b p q = (λ i. value_cmp (int_is (rowid a) p i) (int_is (rowid b) q i)
 pub has_id : (id : ℤ) (r : Row) → IsTrue (is_int (rowid r)) → has_rowid id r ≡ is_eq (int_cmp (id_of r) id)
 has_id id r p = ap is_eq ((λ i. value_cmp (int_is (rowid r) p i) (Int id)) ∙ value_cmp-Int (id_of r) id)
 
-apart_up : (a b : ℤ) → a <ℤ b → is_eq (int_cmp b a) ≡ false
+pub apart_up : (a b : ℤ) → a <ℤ b → is_eq (int_cmp b a) ≡ false
 apart_up a b h = grind (arith, ints)
 
 pub apart_down : (a b : ℤ) → a <ℤ b → is_eq (int_cmp a b) ≡ false

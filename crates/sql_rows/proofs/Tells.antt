@@ -48,7 +48,7 @@ pub record SetsAndTells (schema : Schema) (tree : ℕ) (old new : State) (Rows :
 -- an update of values is one of their columns, where it is so of each value that fits
 module _ {X : Type 0} (columns : X → Row) (seen : Row → Bool) (p : X → Bool) (set : Row → Row) (g : X → X) (IsFit : X → Type 0)
     (tests_are : (x : X) → seen (columns x) ≡ p x) (sets_are : (x : X) → IsFit x → set (columns x) ≡ columns (g x)) where
-  updated : (xs : List X) → AllByRecursion IsFit xs → update_where seen set (map columns xs) ≡ map columns (update_where p g xs)
+  pub updated : (xs : List X) → AllByRecursion IsFit xs → update_where seen set (map columns xs) ≡ map columns (update_where p g xs)
   updated [] all = refl
   updated (x ∷ xs) all = λ i. one i ∷ updated xs all.1 i
     where
@@ -59,11 +59,11 @@ module _ {X : Type 0} (columns : X → Row) (seen : Row → Bool) (p : X → Boo
       one : cond (seen (columns x)) (set (columns x)) (columns x) ≡ columns (cond (p x) (g x) x)
       one = ap (λ b. cond b (set (columns x)) (columns x)) (tests_are x) ∙ go (p x)
 
-  fit_rows : (xs : List X) → AllByRecursion IsFit xs → AllByRecursion (λ vs. (x : X) × IsFit x × (vs ≡ columns x)) (map columns xs)
+  pub fit_rows : (xs : List X) → AllByRecursion IsFit xs → AllByRecursion (λ vs. (x : X) × IsFit x × (vs ≡ columns x)) (map columns xs)
   fit_rows [] all = tt
   fit_rows (x ∷ xs) all = ((x, all.0, refl), fit_rows xs all.1)
 
-as_they_are : (rows : List Row) → map (λ vs. vs) rows ≡ rows
+pub as_they_are : (rows : List Row) → map (λ vs. vs) rows ≡ rows
 as_they_are [] = refl
 as_they_are (r ∷ rows) = ap (λ l. r ∷ l) (as_they_are rows)
 

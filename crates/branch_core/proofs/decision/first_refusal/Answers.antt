@@ -26,4 +26,4 @@ returns-else-not-works_at c = λ rules catalogue shop commands copies agree.
     let full = sym (c.is_full.ensures rules catalogue shop (seen_command c.args.command.now) refl commands copies agree) ∙ c.if-is_full.false in
     let before = ap (is_before c.args.command.now.at) (sym agree.last) ∙ sym c.is_before.ensures ∙ c.if-is_before.false in
     let works = sym (c.works_at.ensures catalogue.staff c.args.command.now.staff agree.staff) ∙ c.if-not-works_at.false in
-    rw (full, before, works) (c.act_refusal.ensures rules c.args.branch catalogue shop c.args.command.now.at agree.act)
+    rw (full, before, works) (c.act_refusal.ensures rules catalogue shop c.args.command.now.at agree.act)

@@ -10,7 +10,7 @@ use Rattle.branch_work.proofs.Counting.{rental_added}
 use Rattle.branch_work.proofs.adding.add_rental.Goals as goal
 
 pub returns-clause-acted : goal.returns-clause-acted
-returns-clause-acted g c = λ clean rules found books holds held agrees.
+returns-clause-acted g c = λ clean rules found books holds held agrees marked.
     let b = c.args.branch in
     let low : 1 ≤ b = omega arith in
     let s0 = state g.S.Store c.args.tx.now.conn.now in
@@ -24,4 +24,4 @@ returns-clause-acted g c = λ clean rules found books holds held agrees.
     let is : n ≡ next b books.rentals = told_more b 2 1 books n low taken.1 in
     let put = c.in_ok-put_rental.ensures.put clean2 (raise b 2 1 (counts_of books)) books taken.0 tt in
     let out = c.in_ok-put_out.ensures.put clean (raise b 2 1 (counts_of books)) _ put tt in
-    (rental_added s3 b books low n (record { rented = c.args.command.now.at; copy = c.args.copy; customer = c.args.customer; returned = None; staff = c.args.command.now.staff }) refl is out.0, c.in_ok-rental_text.ensures ∙ ap (λ (m : ℕ). object ((codes "rental", decimal m) ∷ [])) is)
+    (rental_added s3 b books low n (record { rented = c.args.command.now.at; copy = c.args.copy; customer = c.args.customer; returned = None; staff = c.args.command.now.staff }) refl is out.0, c.in_ok-rental_text.ensures ∙ ap (λ (m : ℕ). object ((codes "rental", decimal m) ∷ [])) is, tt)

@@ -9,7 +9,7 @@ use Rattle.branch_work.proofs.Acted.{copy_found}
 use Rattle.branch_work.proofs.adding.take_back.Goals as goal
 
 pub returns-clause-acted : goal.returns-clause-acted
-returns-clause-acted g c = λ clean rules rows same books holds held agrees.
+returns-clause-acted g c = λ clean rules rows same books holds held agrees marked.
     let b = c.args.branch in
     let r = c.args.rental in
     let x = c.in-Some.found.copy in
@@ -21,4 +21,4 @@ returns-clause-acted g c = λ clean rules rows same books holds held agrees.
     let set = c.in_ok-set_returned.ensures.set clean1 (counts_of books) books (beside s0 books holds) held in
     let copy = copy_found b r c.in-Some.found books held (ap (option_map seen_rental) (sym (same ∙ c.in-Some.is)) ∙ agrees) in
     let dropped = c.in_ok-drop_out.ensures.dropped clean (counts_of books) _ set (out_once b r x books copy) in
-    (agreed s2 _ (drop_out b x r (counts_of books)) (returned_counted b r x m books (its_rentals b r x books.rentals copy)) dropped.0, c.in_ok-returned_text.ensures)
+    (agreed s2 _ (drop_out b x r (counts_of books)) (returned_counted b r x m books (its_rentals b r x books.rentals copy)) dropped.0, c.in_ok-returned_text.ensures, tt)

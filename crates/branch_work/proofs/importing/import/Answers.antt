@@ -22,7 +22,7 @@ abbrev import_text : ℕ → ℕ → Text
 import_text count first = object ((codes "copies", decimal count) ∷ (codes "first", decimal first) ∷ [])
 
 pub returns-clause-acted : goal.returns-clause-acted
-returns-clause-acted g c = λ clean rules command file found same books holds held agrees.
+returns-clause-acted g c = λ clean rules command file found same books holds held agrees marked.
     let b = c.args.branch in
     let low : 1 ≤ b = omega arith in
     let s0 = state g.S.Store c.args.tx.now.conn.now in
@@ -47,4 +47,5 @@ returns-clause-acted g c = λ clean rules command file found same books holds he
           (import_added s3 b books low first m films c.args.lot.now is all
           (subst (λ (rs : List (Row BookCopy)). HoldsWith counts s3 (record books { copies = books.copies ++ rs; lots = books.lots ++ record { owner = b; it = c.args.lot.now } ∷ [] })) rows lot)),
       c.in_ok-new_copies_text.ensures ∙ (λ i. import_text ((all ∙ ap (λ (fs : List ℕ). length fs) same) i) ((is ∙ sym next_is) i)),
+      tt,
     )

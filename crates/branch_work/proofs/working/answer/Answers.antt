@@ -19,7 +19,7 @@ abbrev known : Change → Result Change Refusal
 known it = Ok it
 
 pub returns-in-Ok-Again-clause-works : goal.returns-in-Ok-Again-clause-works
-returns-in-Ok-Again-clause-works g c = λ clean. IfOk-weaker c.again.result _ _ (λ done told books holds held there agrees.
+returns-in-Ok-Again-clause-works g c = λ clean. IfOk-weaker c.again.result _ _ (λ done told books holds held there agrees marked.
     let b = c.args.branch in
     let command = seen_command c.args.command.now in
     let s = state g.S.Store c.args.tx.now.conn.now in
@@ -30,19 +30,19 @@ returns-in-Ok-Again-clause-works g c = λ clean. IfOk-weaker c.again.result _ _ 
     (again_done (branch_goes c.args.limits b books command there) _ s _ is told.0 holds)) c.again.ensures
 
 pub returns-in-Ok-Accepted-clause-works : goal.returns-in-Ok-Accepted-clause-works
-returns-in-Ok-Accepted-clause-works g c = λ clean. IfOk-weaker c.add.result _ _ (λ done told books holds held there agrees.
+returns-in-Ok-Accepted-clause-works g c = λ clean. IfOk-weaker c.add.result _ _ (λ done told books holds held there agrees marked.
     let b = c.args.branch in
     let command = seen_command c.args.command.now in
     let s = state g.S.Store c.add.new.tx.conn.now in
     let rules = rules_of c.args.limits in
     let P : Result Change Refusal → Type 0 = λ it. IsVerdict (verdict rules b books.catalogue (shop_of b books) command) it in
     let is : P (Ok change.Accepted) = subst P (c.in-Ok-Accepted.is ∙ ap known c.in-Ok-Accepted.field-0-is) (c.decide.ensures rules books.catalogue (shop_of b books) refl refl agrees) in
-    let added = told.1 c.args.limits books holds held agrees.act in
+    let added = told.1 c.args.limits books holds held agrees.act marked in
     subst (λ (changed : Bool). IsDone c.args.limits (Counter b) (Do command) (seen_reply done.0) changed s books) (sym told.0)
     (accepted_done (branch_goes c.args.limits b books command there) _ s is added.1 added.0)) (c.add.ensures.added clean)
 
 pub returns-in-Err-clause-works : goal.returns-in-Err-clause-works
-returns-in-Err-clause-works g c = λ clean. IfOk-weaker c.refuse.result _ _ (λ done told books holds held there agrees.
+returns-in-Err-clause-works g c = λ clean. IfOk-weaker c.refuse.result _ _ (λ done told books holds held there agrees marked.
     let b = c.args.branch in
     let command = seen_command c.args.command.now in
     let s = state g.S.Store c.args.tx.now.conn.now in

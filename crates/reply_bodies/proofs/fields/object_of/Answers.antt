@@ -4,7 +4,7 @@ use Rattle.serde_json.specs.Data.{object}
 use Rattle.serde_json.specs.View.{members_view}
 use Rattle.serde_json.proofs.Views.{view-Object}
 use Rattle.reply_bodies.specs.declared.fields.Field.{Field}
-use Rattle.reply_bodies.specs.Fields.{with_fields}
+use Rattle.reply_bodies.specs.Fields.{with_field, with_fields}
 use Rattle.reply_bodies.proofs.fields.object_of.Goals as goal
 
 pub loop-field-preserved : goal.loop-field-preserved
@@ -12,7 +12,7 @@ loop-field-preserved c =
     let fields = c.args.fields.now in
     let i = c.loop-field.field-index in
     let put = λ (fs : List Field). with_fields fs (members_view c.loop-field.map.entries) in
-    ap (with_fields (drop (i + 1) fields)) c.in_ok-add.ensures ∙ sym (at_drop_more put fields i _ c.loop-field-test.true) ∙ c.loop-field.invariant
+    ap (with_fields (drop (i + 1) fields)) (c.in_ok-add.ensures ∙ ap (λ (field : Field). with_field field (members_view c.loop-field.map.entries)) c.field-item.is) ∙ sym (at_drop_more put fields i _ c.loop-field-test.true) ∙ c.loop-field.invariant
 
 pub returns : goal.returns
 returns c =

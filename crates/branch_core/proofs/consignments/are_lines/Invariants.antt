@@ -1,0 +1,7 @@
+use Rattle.std.proofs.Common.{◌≡◌, drop}
+use Rattle.shop_model.specs.Verdict.{are_lines}
+use Rattle.branch_core.proofs.consignments.are_lines.Given as goal
+
+-- the numbers so far are lines, of which the last is the low one
+abbrev pub invariant-loop-number : goal.invariant-loop-number
+invariant-loop-number l = are_lines 0 l.lines l.numbers ≡ are_lines l.low l.lines (drop l.number-index l.numbers)

@@ -1,0 +1,213 @@
+-- What a dispatch and a receipt write, step by step, and with which counts the tables then stand for the books.
+use Rattle.std.proofs.Common.{◌≡◌, ◌∙◌, refl, sym, ap, subst, ℕ, ◌+◌, ◌<◌, ◌≤◌, Bool, true, false, cond, not, List, [], ◌∷◌, ◌++◌, length, take, map, filter, get_or, Option, Some, None, option_map, arith, append_assoc, append-nil, add-zero}
+use Rattle.std.specs.Prelude.{fold, flat_map, option_to_list, IfSome}
+use Rattle.std.proofs.lemmas.List.{map-append, take_more, take_all, length-take-le}
+use Rattle.sqlite.specs.State.{State}
+use Rattle.sql_rows.specs.Rows.{PicksOne}
+use Rattle.shop_model.specs.Rows.{Row, AreNumbered, arrived, is_of, is_row, mem, next, numbered_from, put_all, set_row, set_rows, update_where}
+use Rattle.shop_model.specs.Values as model
+use Rattle.shop_model.specs.Books.{Books, BookCopy, Mark, Consignment, between, checked, come, is_consignment, put_state, unpacked}
+use Rattle.shop_model.proofs.RowLemmas.{length_map, set_rows_counted}
+use Rattle.shop_types.specs.declared.parcel.ParcelLine.{ParcelLine}
+use Rattle.shop_types.specs.Seen.{seen_parcel_line}
+use Rattle.shop_schema.specs.Counts.{Pair, add_pair, count_pair, counts_of, raise}
+use Rattle.shop_schema.specs.Shop.{Holds, HoldsWith, Writes}
+use Rattle.shop_schema.proofs.Lists.{picks_row}
+use Rattle.shop_ledger.proofs.CountsOf.{agreed}
+use Rattle.shop_ledger.proofs.Agreeing.{copies_counted, state_counted}
+use Rattle.shop_store.specs.declared.copies.CopyRow.{CopyRow}
+use Rattle.shop_store.specs.Seen.{seen_copy_row}
+use Rattle.consign_store.specs.Parcels.{sent_off}
+use Rattle.consign_store.proofs.PairCounts.{pair_counted}
+use Rattle.branch_core.specs.declared.found.ArrivalFound.{ArrivalFound}
+use Rattle.branch_core.specs.Marked.{line_parts, arrival_parts, consignment_parts, IsArrival}
+use Rattle.branch_core.specs.Consigned.{come_copy, made_from, sent_line, with_dispatch, with_receipt}
+use Rattle.branch_core.proofs.MadeRows.{made_put, made_own, length_made}
+use Rattle.branch_work.proofs.Writings.{with_copies}
+
+-- ---- copies that are set one after another
+
+sets_more : {A : Type 0} (b : ℕ) (xs : List ℕ) (x : ℕ) (f : A → A) (rows : List (Row A)) → set_rows b (xs ++ x ∷ []) f rows ≡ set_row b x f (set_rows b xs f rows)
+sets_more b [] x f rows = refl
+sets_more b (y ∷ xs) x f rows = sets_more b xs x f (set_row b y f rows)
+
+abbrev pub AreCounted : ℕ → Books → Type 0
+AreCounted b books = AreNumbered (is_of b) (λ (row : Row BookCopy). row.number) books.copies
+
+-- the books with these copies set
+abbrev pub with_set : ℕ → (BookCopy → BookCopy) → List ℕ → Books → Books
+with_set b f xs books = record books { copies = set_rows b xs f books.copies }
+
+module _ (b : ℕ) (f : BookCopy → BookCopy) where
+  pub none_set : (s : State) → Writes s s (AreCounted b) (with_set b f [])
+  none_set s = λ counts books holds given. holds
+
+  pub one_set : (s0 s1 s2 : State) (xs : List ℕ) (i x : ℕ) → i < length xs → x ≡ get_or xs i x → Writes s0 s1 (AreCounted b) (with_set b f (take i xs))
+      → Writes s1 s2 (λ books. PicksOne (is_row b x) books.copies) (λ books. record books { copies = set_row b x f books.copies }) → Writes s0 s2 (AreCounted b) (with_set b f (take (i + 1) xs))
+  one_set s0 s1 s2 xs i x lt is so_far one = λ counts books holds given.
+      let done : List (Row BookCopy) = set_rows b (take i xs) f books.copies in
+      let taken : take (i + 1) xs ≡ take i xs ++ x ∷ [] = take_more xs i x lt ∙ ap (λ (y : ℕ). take i xs ++ y ∷ []) (sym is) in
+      let still : AreNumbered (is_of b) (λ (row : Row BookCopy). row.number) done = set_rows_counted b b (take i xs) f books.copies given in
+      let put = one counts (with_set b f (take i xs) books) (so_far counts books holds given) (picks_row b done still x) in
+      let same : set_row b x f done ≡ set_rows b (take (i + 1) xs) f books.copies =
+      sym (ap (λ (ns : List ℕ). set_rows b ns f books.copies) taken ∙ sets_more b (take i xs) x f books.copies) in
+      subst (λ (rs : List (Row BookCopy)). HoldsWith counts s2 (record books { copies = rs })) same put
+
+  pub all_set : (s0 s1 : State) (xs : List ℕ) (i : ℕ) → length xs ≤ i → Writes s0 s1 (AreCounted b) (with_set b f (take i xs)) → Writes s0 s1 (AreCounted b) (with_set b f xs)
+  all_set s0 s1 xs i le done = λ counts books holds given. subst (λ (ns : List ℕ). HoldsWith counts s1 (with_set b f ns books)) (take_all i xs le) (done counts books holds given)
+
+-- ---- a dispatch
+
+pub sets_counted : (b : ℕ) (xs : List ℕ) (f : BookCopy → BookCopy) (books : Books) → counts_of (record books { copies = set_rows b xs f books.copies }) ≡ counts_of books
+sets_counted b [] f books = refl
+sets_counted b (x ∷ xs) f books = sets_counted b xs f (record books { copies = set_row b x f books.copies }) ∙ state_counted b x f books
+
+-- the books with the copies sent, and a consignment of that number and place
+abbrev sending : ℕ → ℕ → List ℕ → List ParcelLine → ℕ → ℕ → Books → Books
+sending b to xs lines n place books = record books {
+  copies = set_rows b xs (put_state model.Sent) books.copies;
+  consignments = books.consignments ++ sent_off b to n place (map sent_line lines) ∷ [];
+}
+
+pub dispatch_counted : (b to : ℕ) (xs : List ℕ) (lines : List ParcelLine) (n place : ℕ) (books : Books) → counts_of (sending b to xs lines n place books) ≡ add_pair b to (counts_of books)
+dispatch_counted b to xs lines n place books =
+    let it : Consignment = sent_off b to n place (map sent_line lines) in
+    sets_counted b xs (put_state model.Sent) (record books { consignments = books.consignments ++ it ∷ [] }) ∙ pair_counted books it
+
+pub dispatch_added : (s : State) (b to : ℕ) (xs : List ℕ) (lines : List ParcelLine) (n place : ℕ) (books : Books) → n ≡ length (between b to books.consignments) + 1 → place ≡ length books.consignments + 1
+    → HoldsWith (add_pair b to (counts_of books)) s (sending b to xs lines n place books) → Holds s (with_dispatch b to xs lines books)
+dispatch_added s b to xs lines n place books next last holds =
+    subst (λ (k : ℕ). Holds s (sending b to xs lines k (length books.consignments + 1) books)) next
+    (subst (λ (k : ℕ). Holds s (sending b to xs lines n k books)) last
+    (agreed s (sending b to xs lines n place books) (add_pair b to (counts_of books)) (dispatch_counted b to xs lines n place books) holds))
+
+-- ---- copies that come one after another
+
+makes_more : {A : Type 0} (b n : ℕ) (makes : List (ℕ → A)) (make : ℕ → A) → made_from b n (makes ++ make ∷ []) ≡ made_from b n makes ++ record { branch = b; number = n + length makes; it = make (n + length makes) } ∷ []
+makes_more b n [] make = rw (add-zero n) refl
+makes_more {A} b n (m ∷ makes) make =
+    let row : Row A = record { branch = b; number = n; it = m n } in
+    let further : n + 1 + length makes ≡ n + length (m ∷ makes) = omega arith in
+    ap (λ (rows : List (Row A)). row ∷ rows)
+    (makes_more b (n + 1) makes make ∙ ap (λ (k : ℕ). made_from b (n + 1) makes ++ record { branch = b; number = k; it = make k } ∷ []) further)
+
+-- the rows of lines that came
+abbrev pub come_rows : ℕ → ℕ → List ParcelLine → List (Row BookCopy)
+come_rows b first lines = made_from b first (map come_copy lines)
+
+pub one_come : (b first i : ℕ) (lines : List ParcelLine) (line : ParcelLine) (row : CopyRow) (books : Books) → i < length lines → line ≡ get_or lines i line
+    → seen_copy_row row ≡ record { branch = b; number = first + i; it = come_copy line (first + i) }
+    → with_copies (seen_copy_row row ∷ []) (with_copies (come_rows b first (take i lines)) books) ≡ with_copies (come_rows b first (take (i + 1) lines)) books
+one_come b first i lines line row books lt is row_is =
+    let done : List ParcelLine = take i lines in
+    let front : List (Row BookCopy) = come_rows b first done in
+    let short : i ≤ length lines = omega (arith, lt) in
+    let many : length (map come_copy done) ≡ i = length_map come_copy done ∙ length-take-le i lines short in
+    let taken : take (i + 1) lines ≡ done ++ line ∷ [] = take_more lines i line lt ∙ ap (λ (it : ParcelLine). done ++ it ∷ []) (sym is) in
+    let whole : come_rows b first (take (i + 1) lines) ≡ front ++ record { branch = b; number = first + i; it = come_copy line (first + i) } ∷ [] =
+    ap (come_rows b first) taken ∙ ap (made_from b first) (map-append come_copy done (line ∷ [])) ∙ makes_more b first (map come_copy done) (come_copy line)
+    ∙ ap (λ (k : ℕ). front ++ record { branch = b; number = first + k; it = come_copy line (first + k) } ∷ []) many in
+    let all : (books.copies ++ front) ++ seen_copy_row row ∷ [] ≡ books.copies ++ come_rows b first (take (i + 1) lines) =
+    append_assoc books.copies front (seen_copy_row row ∷ [])
+    ∙ ap (λ (it : Row BookCopy). books.copies ++ (front ++ it ∷ [])) row_is
+    ∙ ap (λ (rs : List (Row BookCopy)). books.copies ++ rs) (sym whole) in
+    (λ i. record books { copies = all i })
+
+pub all_come : (b first i : ℕ) (lines : List ParcelLine) (books : Books) → length lines ≤ i → with_copies (come_rows b first (take i lines)) books ≡ with_copies (come_rows b first lines) books
+all_come b first i lines books le = ap (λ (ls : List ParcelLine). with_copies (come_rows b first ls) books) (take_all i lines le)
+
+pub none_come : (b first : ℕ) (lines : List ParcelLine) (books : Books) → with_copies (come_rows b first (take 0 lines)) books ≡ books
+none_come b first lines books = λ i. record books { copies = append-nil books.copies i }
+
+-- ---- how many lines come
+
+some_pass : {A : Type 0} (missing : List ℕ) (n : ℕ) (xs : List A) → length (filter (λ (it : ℕ × A). not (mem it.0 missing)) (numbered_from n xs)) ≤ length xs
+some_pass missing n [] = omega arith
+some_pass {A} missing n (x ∷ xs) = go (not (mem n missing)) (some_pass missing (n + 1) xs)
+  where
+    rest : List (ℕ × A)
+    rest = filter (λ (it : ℕ × A). not (mem it.0 missing)) (numbered_from (n + 1) xs)
+
+    go : (t : Bool) → length rest ≤ length xs → length (cond t ((n, x) ∷ rest) rest) ≤ length (x ∷ xs)
+    go true few = omega (arith, few)
+    go false few = omega (arith, few)
+
+pub few_arrive : {A : Type 0} (missing : List ℕ) (xs : List A) → length (arrived missing xs) ≤ length xs
+few_arrive {A} missing xs =
+    let same = length_map (λ (it : ℕ × A). it.1) (filter (λ (it : ℕ × A). not (mem it.0 missing)) (numbered_from 1 xs)) in
+    let few = some_pass missing 1 xs in
+    omega (arith, same, few)
+
+-- the one consignment has as many lines as were found
+same_many : (c : Consignment) (it : ArrivalFound) → arrival_parts it ≡ consignment_parts c → length c.lines ≡ length it.lines
+same_many c it is =
+    sym (length_map line_parts c.lines) ∙ sym (ap (λ (p : Bool × List (ℕ × Mark)). length p.1) is) ∙ length_map seen_parcel_line it.lines
+
+many_lines : (cs : List Consignment) (it : ArrivalFound) → arrival_parts it ∷ [] ≡ map consignment_parts cs → map (λ (c : Consignment). length c.lines) cs ≡ length it.lines ∷ []
+many_lines [] it is = absurd (let none = is in cc)
+many_lines (c ∷ []) it is = let same : arrival_parts it ≡ consignment_parts c = cc in ap (λ (n : ℕ). n ∷ []) (same_many c it same)
+many_lines (c ∷ d ∷ cs) it is = absurd (let two = is in cc)
+
+pub so_many : (b source n : ℕ) (it : ArrivalFound) (books : Books) → IsArrival b source n (Some it) books
+    → map (λ (c : Consignment). length c.lines) (filter (is_consignment source b n) books.consignments) ≡ length it.lines ∷ []
+so_many b source n it books is = many_lines (filter (is_consignment source b n) books.consignments) it is
+
+come_of : (missing : List ℕ) (cs : List Consignment) (found : Option ArrivalFound) → option_to_list (option_map arrival_parts found) ≡ map consignment_parts cs → IfSome found (λ (it : ArrivalFound). length it.lines ≤ 100)
+    → length (map unpacked (flat_map (λ (c : Consignment). arrived missing c.lines) cs)) ≤ 100
+come_of missing [] None is few = omega arith
+come_of missing (c ∷ cs) None is few = absurd (let some = is in cc)
+come_of missing [] (Some it) is few = absurd (let none = is in cc)
+come_of missing (c ∷ []) (Some it) is few =
+    let same : arrival_parts it ≡ consignment_parts c = cc in
+    let lines = same_many c it same in
+    let all = length_map unpacked (arrived missing c.lines ++ []) ∙ ap length (append-nil (arrived missing c.lines)) in
+    let less = few_arrive missing c.lines in
+    omega (arith, lines, all, less, few)
+come_of missing (c ∷ d ∷ cs) (Some it) is few = absurd (let two = is in cc)
+
+pub few_come : (b source n : ℕ) (missing : List ℕ) (found : Option ArrivalFound) (books : Books) → IsArrival b source n found books → IfSome found (λ (it : ArrivalFound). length it.lines ≤ 100)
+    → length (map unpacked (come source b n missing books.consignments)) ≤ 100
+few_come b source n missing found books is few = come_of missing (filter (is_consignment source b n) books.consignments) found is few
+
+-- ---- a receipt
+
+-- consignments that are checked keep their pairs
+pairs_stay : (p : Consignment → Bool) (missing : List ℕ) (pairs : List Pair) (cs : List Consignment) → fold (λ pairs it. count_pair it.source it.addressee pairs) pairs (update_where p (checked missing) cs) ≡ fold (λ pairs it. count_pair it.source it.addressee pairs) pairs cs
+pairs_stay p missing pairs [] = refl
+pairs_stay p missing pairs (c ∷ cs) = go (p c) (pairs_stay p missing (count_pair c.source c.addressee pairs) cs)
+  where
+    go : (t : Bool) → fold (λ pairs it. count_pair it.source it.addressee pairs) (count_pair c.source c.addressee pairs) (update_where p (checked missing) cs) ≡ fold (λ pairs it. count_pair it.source it.addressee pairs) (count_pair c.source c.addressee pairs) cs
+        → fold (λ pairs it. count_pair it.source it.addressee pairs) (count_pair (cond t (checked missing c) c).source (cond t (checked missing c) c).addressee pairs) (update_where p (checked missing) cs)
+        ≡ fold (λ pairs it. count_pair it.source it.addressee pairs) (count_pair c.source c.addressee pairs) cs
+    go true more = more
+    go false more = more
+
+-- the books with these copies, and the consignments checked
+abbrev receiving : ℕ → List (ℕ → BookCopy) → (Consignment → Bool) → List ℕ → Books → Books
+receiving b makes p missing books = record books {
+  copies = put_all b makes books.copies;
+  consignments = update_where p (checked missing) books.consignments;
+}
+
+module _ (b : ℕ) (books : Books) (low : 1 ≤ b) where
+  pub receiving_counted : (makes : List (ℕ → BookCopy)) (p : Consignment → Bool) (missing : List ℕ) → counts_of (receiving b makes p missing books) ≡ raise b 1 (length makes) (counts_of books)
+  receiving_counted makes p missing =
+      let grown : List (Row BookCopy) = made_from b (next b books.copies) makes in
+      let put : Books = record books { copies = put_all b makes books.copies } in
+      let same = pairs_stay p missing [] books.consignments in
+      (λ i. record { counters = (counts_of put).counters; outs = (counts_of books).outs; pairs = same i })
+      ∙ sym (ap (λ (rs : List (Row BookCopy)). counts_of (record books { copies = rs })) (made_put b makes books.copies))
+      ∙ copies_counted b grown books.lots books low (made_own b (next b books.copies) makes)
+      ∙ ap (λ (n : ℕ). raise b 1 n (counts_of books)) (length_made b (next b books.copies) makes)
+
+  pub receipt_added : (s : State) (source n first m : ℕ) (lines : List ParcelLine) (missing : List ℕ) → first ≡ next b books.copies → m ≡ length (arrived missing lines)
+      → HoldsWith (raise b 1 m (counts_of books)) s (record books { copies = books.copies ++ come_rows b first (arrived missing lines); consignments = update_where (is_consignment source b n) (checked missing) books.consignments })
+      → Holds s (with_receipt b source n lines missing books)
+  receipt_added s source n first m lines missing is all holds =
+      let makes : List (ℕ → BookCopy) = map come_copy (arrived missing lines) in
+      let received : List Consignment = update_where (is_consignment source b n) (checked missing) books.consignments in
+      let count : m ≡ length makes = all ∙ sym (length_map come_copy (arrived missing lines)) in
+      agreed s (receiving b makes (is_consignment source b n) missing books) (raise b 1 (length makes) (counts_of books)) (receiving_counted makes (is_consignment source b n) missing)
+      (subst (λ (rs : List (Row BookCopy)). HoldsWith (raise b 1 (length makes) (counts_of books)) s (record books { copies = rs; consignments = received })) (made_put b makes books.copies)
+      (subst (λ (k : ℕ). HoldsWith (raise b 1 k (counts_of books)) s (record books { copies = books.copies ++ made_from b (next b books.copies) makes; consignments = received })) count
+      (subst (λ (k : ℕ). HoldsWith (raise b 1 m (counts_of books)) s (record books { copies = books.copies ++ made_from b k makes; consignments = received })) is holds)))

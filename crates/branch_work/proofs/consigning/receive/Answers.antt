@@ -1,0 +1,75 @@
+use Rattle.std.proofs.Common.{◌≡◌, ◌∙◌, ◌≤◌, ◌++◌, ◌∷◌, [], ℕ, List, Option, Some, length, map, filter, ap, sym, subst, arith}
+use Rattle.std.specs.Prelude.{IfSome}
+use Rattle.sqlite.specs.Held.{state}
+use Rattle.sqlite.specs.State.{HasCleanDisk}
+use Rattle.shop_model.specs.Rows.{arrived, next, update_where}
+use Rattle.shop_model.specs.Books.{Consignment, checked, is_consignment}
+use Rattle.shop_model.proofs.RowLemmas.{length_map}
+use Rattle.shop_types.specs.declared.parcel.ParcelLine.{ParcelLine}
+use Rattle.shop_schema.specs.Counts.{counts_of, raise}
+use Rattle.shop_schema.specs.Shop.{Holds, HoldsWith}
+use Rattle.shop_ledger.specs.declared.counts.CountKind.TheVariants as kind
+use Rattle.shop_ledger.proofs.CountsOf.{beside, held_once, told_more}
+use Rattle.branch_core.specs.declared.found.ArrivalFound.{ArrivalFound}
+use Rattle.branch_core.specs.Marked.{IsArrival}
+use Rattle.branch_core.specs.Consigned.{receipt_text}
+use Rattle.branch_core.proofs.ConsignedBooks.{receipt_acted, receipt_told}
+use Rattle.branch_work.proofs.ConsignLemmas.{come_rows, few_arrive, receipt_added, so_many}
+use Rattle.branch_work.proofs.consigning.receive.Goals as goal
+
+-- as many lines as were read
+few_lines : (read lines : List ParcelLine) → read ≡ lines → length read ≤ 100 → length lines ≤ 100
+few_lines read lines is few = subst (λ (ls : List ParcelLine). length ls ≤ 100) is few
+
+-- the lines that come are no more than were found
+few_read : (missing : List ℕ) (read come lines : List ParcelLine) → come ≡ arrived missing lines → read ≡ lines → length read ≤ 100 → length come ≤ 100
+few_read missing read come lines come_is is few =
+    let less = few_arrive missing lines in
+    let same = ap (λ (ls : List ParcelLine). length ls) come_is in
+    let short = few_lines read lines is few in
+    omega (arith, less, same, short)
+
+pub returns-clause-acted : goal.returns-clause-acted
+returns-clause-acted g c = λ clean rules command found same books holds held agrees marked.
+    let b = c.args.branch in
+    let low : 1 ≤ b = omega arith in
+    let source = c.args.from in
+    let n = c.args.number in
+    let missing = c.args.missing.now in
+    let it = c.in-Some.arrival in
+    let come = arrived missing it.lines in
+    let first = c.in_ok-first.first in
+    let m = length c.as_slice-come.result.now in
+    let s0 = state g.S.Store c.args.tx.now.conn.now in
+    let s1 = state g.S.Store c.take_numbers.new.tx.conn.now in
+    let s2 = state g.S.Store c.put_come.new.tx.conn.now in
+    let s3 = state g.S.Store c.mark_received.new.tx.conn.now in
+    let clean2 : HasCleanDisk s2 = omega (arith, clean, c.mark_received.ensures.inside.survives.clean) in
+    let clean1 : HasCleanDisk s1 = omega (arith, clean2, c.put_come.ensures.inside.survives.clean) in
+    let counts = raise b 1 m (counts_of books) in
+    let slice : c.as_slice-come.result.now ≡ come = c.as_slice-come.ensures.value ∙ c.in-Ok.ensures in
+    let all : m ≡ length come = ap (λ (ls : List ParcelLine). length ls) slice in
+    let known : IsArrival b source n (Some it) books = subst (λ (o : Option ArrivalFound). IsArrival b source n o books) (same ∙ c.in-Some.is) marked in
+    let taken = c.in_ok-last.ensures.taken clean1 (counts_of books) books (beside s0 books holds) (held_once books held kind.Copies b low) in
+    let last = told_more b 1 m books c.in_ok-last.last low taken.1 in
+    let is : first ≡ next b books.copies = omega (arith, last, c.in_ok-first.ensures.first) in
+    let put = c.in_ok-put_come.ensures.put clean2 counts books taken.0 tt in
+    let many : map (λ (it : Consignment). length it.lines) (filter (is_consignment source b n) books.consignments) ≡ length c.as_slice-lines.result.now ∷ [] =
+    so_many b source n it books known ∙ ap (λ (ls : List ParcelLine). length ls ∷ []) (sym c.as_slice-lines.ensures.value) in
+    let received = c.in_ok-mark_received.ensures.set clean counts _ put many in
+    let rows = subst (λ (ls : List ParcelLine). HoldsWith counts s3 (record books { copies = books.copies ++ come_rows b first ls; consignments = update_where (is_consignment source b n) (checked missing) books.consignments })) slice received in
+    let films : List ℕ = map (λ (line : ParcelLine). line.film) come in
+    let films_many : length films ≡ length come = length_map (λ (line : ParcelLine). line.film) come in (
+      subst (Holds s3) (receipt_acted rules b source n missing books it known command) (receipt_added b books low s3 source n first m it.lines missing is all rows),
+      c.in_ok-receipt_text.ensures films (films_many ∙ sym all) ∙ ap (λ (k : ℕ). receipt_text k films) (c.get.ensures.value ∙ is) ∙ receipt_told rules b source n missing books it known held.numbers films films_many,
+      subst (λ (o : Option ArrivalFound). IfSome o (λ it. length it.lines ≤ 100)) (sym (same ∙ c.in-Some.is)) (few_lines c.as_slice-lines.result.now it.lines c.as_slice-lines.ensures.value c.as_slice-lines.ensures.few),
+    )
+
+pub overflow_cast-count : goal.overflow_cast-count
+overflow_cast-count g c =
+    let few = few_read c.args.missing.now c.as_slice-lines.result.now c.as_slice-come.result.now c.in-Some.arrival.lines (c.as_slice-come.ensures.value ∙ c.in-Ok.ensures) c.as_slice-lines.ensures.value c.as_slice-lines.ensures.few in
+    omega (arith, few)
+
+pub put_come-requires-clause-few : goal.put_come-requires-clause-few
+put_come-requires-clause-few g c =
+    few_read c.args.missing.now c.as_slice-lines.result.now c.as_slice-come.result.now c.in-Some.arrival.lines (c.as_slice-come.ensures.value ∙ c.in-Ok.ensures) c.as_slice-lines.ensures.value c.as_slice-lines.ensures.few

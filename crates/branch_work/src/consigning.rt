@@ -1,0 +1,161 @@
+//! How copies go from branch to branch: a dispatch sends listed copies off as the lines of a consignment, and a receipt makes copies of the lines that came.
+
+ghost use Rattle.std.specs.Prelude.{◌≡◌, ⊤, ◌+◌, ◌≤◌, ◌++◌, length, map, string_bytes, IfOk, OnOk};
+ghost use Rattle.sqlite.specs.Held.{state};
+ghost use Rattle.sqlite.specs.State.{HasCleanDisk};
+ghost use Rattle.sql_rows.specs.Calls.{StaysWithin};
+ghost use Rattle.shop_model.specs.Rows.{AreNumbered, is_of, set_rows};
+ghost use Rattle.shop_model.specs.Values as model;
+ghost use Rattle.shop_model.specs.Books.{put_state};
+ghost use Rattle.shop_schema.specs.Calls.{Stores};
+ghost use Rattle.shop_schema.specs.Shop.{Writes};
+ghost use Rattle.shop_store.specs.Seen.{seen_copy_row};
+ghost use Rattle.branch_core.specs.Consigned.{come_copy, made_from};
+ghost use Rattle.branch_work.specs.Added.{IsActed};
+
+use crate::importing::first_of;
+use branch_core::{ArrivalFound, RowsFound, arrived_lines};
+use consign_store::{
+    ConsignmentKey, DispatchPlace, last_place, mark_received, put_consignment, take_pair,
+};
+use reply_bodies::{dispatch_text, receipt_text};
+use shop_ledger::{Count, CountKind, take_numbers};
+use shop_store::{CopyRow, CopyState, put_copy, set_state};
+use shop_types::{BranchNo, ConsignmentNo, CopyNo, LineNo, ParcelLine, ParcelLines};
+use sql_rows::StoreFault;
+use sqlite::{Alter, Transaction};
+use std::alloc::Global;
+
+/// Sends the listed copies to the other branch, as a consignment of the lines that were made of them, and gives the body of the reply.
+pub fn dispatch<S: Alter>(
+    alloc: Global,
+    tx: &mut Transaction<'_, S>,
+    branch: BranchNo,
+    to: BranchNo,
+    copies: &[CopyNo],
+    lines: &Option<ParcelLines>,
+) -> Result<String, StoreFault>
+    ensures inside { StaysWithin S.Store tx.old.conn tx.new.conn result }
+    ensures acted { HasCleanDisk (state S.Store tx.new.conn.now)
+        → IfOk result (λ text. (rules : model.Rules) (command : model.Command) (found : RowsFound) → found.listed.lines ≡ lines.now
+        → IsActed rules branch command (model.Dispatch to copies.now) found (string_bytes text)
+        (state S.Store tx.old.conn.now) (state S.Store tx.new.conn.now)) }
+{
+    let Some(lines) = lines else {
+        return Err(StoreFault::Failed);
+    };
+    let last = last_place(tx)?;
+    let place = place_behind(last)?;
+    let number = take_pair(tx, branch, to)?;
+    let key = ConsignmentKey {
+        source: branch,
+        addressee: to,
+        number,
+    };
+    put_consignment(tx, &key, place, lines)?;
+    set_sent(tx, branch, copies)?;
+    Ok(dispatch_text(alloc, number, to)?)
+}
+
+/// The place behind that of the last consignment, which is 0 where there is none.
+fn place_behind(last: u64) -> Result<DispatchPlace, StoreFault>
+    ensures { IfOk result (λ place. place ≡ last + 1) }
+{
+    let Some(next) = last.checked_add(1) else {
+        return Err(StoreFault::Failed);
+    };
+    match DispatchPlace::new(next) {
+        Some(place) => Ok(place),
+        None => Err(StoreFault::Failed),
+    }
+}
+
+/// Notes of each of the copies that it is sent.
+fn set_sent<S: Alter>(
+    tx: &mut Transaction<'_, S>,
+    branch: BranchNo,
+    copies: &[CopyNo],
+) -> Result<(), StoreFault>
+    ensures inside { StaysWithin S.Store tx.old.conn tx.new.conn result }
+    ensures set { Stores (state S.Store tx.old.conn.now) (state S.Store tx.new.conn.now) result
+        (λ books. AreNumbered (is_of branch) (λ row. row.number) books.copies)
+        (λ books. record books { copies = set_rows branch copies.now (put_state model.Sent) books.copies }) }
+{
+    for copy in copies {
+        set_state(tx, branch, *copy, CopyState::Sent)?;
+    }
+    Ok(())
+}
+
+/// Takes the consignment in that was found, and gives the body of the reply: the lines that aren't missing become copies with the branch's next numbers, and keep
+/// their marks.
+pub fn receive<S: Alter>(
+    alloc: Global,
+    tx: &mut Transaction<'_, S>,
+    branch: BranchNo,
+    from: BranchNo,
+    number: ConsignmentNo,
+    missing: &[LineNo],
+    arrival: &Option<ArrivalFound>,
+) -> Result<String, StoreFault>
+    ensures inside { StaysWithin S.Store tx.old.conn tx.new.conn result }
+    ensures acted { HasCleanDisk (state S.Store tx.new.conn.now)
+        → IfOk result (λ text. (rules : model.Rules) (command : model.Command) (found : RowsFound) → found.arrival ≡ arrival.now
+        → IsActed rules branch command (model.Receive from number missing.now) found (string_bytes text)
+        (state S.Store tx.old.conn.now) (state S.Store tx.new.conn.now)) }
+{
+    let Some(arrival) = arrival else {
+        return Err(StoreFault::Failed);
+    };
+    let lines = arrival.lines.as_slice();
+    let Ok(arrived) = arrived_lines(alloc, &arrival.lines, missing) else {
+        return Err(StoreFault::Memory);
+    };
+    let come = arrived.as_slice();
+    let count = come.len() as u32;
+    let last = take_numbers(tx, Count::Of(branch, CountKind::Copies), count)?;
+    let first = first_of(last, count)?;
+    put_come(tx, branch, first, come)?;
+    let key = ConsignmentKey {
+        source: from,
+        addressee: branch,
+        number,
+    };
+    mark_received(tx, &key, lines.len() as u32, missing)?;
+    Ok(receipt_text(alloc, first.get(), count)?)
+}
+
+/// Writes a copy for each line that came, in their order, with numbers from the first on.
+fn put_come<S: Alter>(
+    tx: &mut Transaction<'_, S>,
+    branch: BranchNo,
+    first: CopyNo,
+    come: &[ParcelLine],
+) -> Result<(), StoreFault>
+    requires first { first ≤ 1_000_001 }
+    requires few { length come.now ≤ 100 }
+    ensures inside { StaysWithin S.Store tx.old.conn tx.new.conn result }
+    ensures put { Stores (state S.Store tx.old.conn.now) (state S.Store tx.new.conn.now) result (λ _. ⊤)
+        (λ books. record books { copies = books.copies ++ made_from branch first (map come_copy come.now) }) }
+{
+    let mut number = first.get();
+    for line in come {
+        put_copy(tx, come_copy(branch, number, *line))?;
+        number += 1;
+    }
+    Ok(())
+}
+
+/// A line that came, as a copy of that number. The mark is the line's own.
+fn come_copy(branch: BranchNo, number: u32, line: ParcelLine) -> CopyRow
+    requires { 1 ≤ number }
+    ensures { seen_copy_row result ≡ record { branch = branch; number = number; it = come_copy line number } }
+{
+    CopyRow {
+        branch,
+        number: CopyNo::new(number).unwrap(),
+        film: line.film,
+        state: CopyState::Here,
+        mark: line.mark,
+    }
+}

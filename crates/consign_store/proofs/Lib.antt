@@ -1,0 +1,16 @@
+pub mod ListLemmas
+pub mod Parts
+pub mod Tables
+pub mod PairCounts
+pub mod PairTexts
+pub mod Texts
+pub mod Refused
+pub mod ListRuns
+pub mod ListJoin
+pub mod ListTexts
+pub mod ListLines
+pub mod TransitOrder
+pub mod TransitTexts
+pub mod ParcelLemmas
+pub mod ParcelSteps
+pub mod Custody

@@ -1,0 +1,124 @@
+-- Lines of consignments, of which neighbours belong together, and the texts of the lists.
+use Rattle.std.proofs.Common.{◌≡◌, ◌==◌, ◌&&◌, ◌+◌, ◌≤◌, ℕ, suc, Bool, true, false, cond, List, [], ◌∷◌, ◌++◌, map, filter, length, codes, decimal, Option, Some, None, refl, sym, ap, subst, ◌∙◌, arith, append-nil}
+use Rattle.std.proofs.lemmas.Bool.Decides.{nat_tests}
+use Rattle.serde_json.specs.Written.{compact_text}
+use Rattle.shop_model.specs.Rows.{numbered, numbered_from, IsCounted, AreNumbered}
+use Rattle.shop_model.specs.Json.{object, numbers_text, flag_text}
+use Rattle.shop_model.specs.Values.{Arrival, Parcel}
+use Rattle.shop_model.specs.Books.{Line, Consignment, as_arrival, as_parcel}
+use Rattle.shop_model.specs.Answers.{arrivals_text, sent_text}
+use Rattle.shop_model.proofs.RowLemmas.{same_test}
+use Rattle.reply_bodies.specs.Consignments as bodies
+use Rattle.reply_bodies.specs.Consignments.{Listed, seen_listed, arrival_text}
+use Rattle.reply_bodies.proofs.RowTexts.{arrival_is, sent_is, transit_is}
+use Rattle.shop_schema.proofs.Lists.{filter_twice}
+use Rattle.shop_model.proofs.RowLemmas.{filter_filter}
+use Rattle.consign_store.specs.declared.lists.ListKind.{ListKind}
+use Rattle.consign_store.specs.declared.lists.ListKind.TheVariants as kind
+use Rattle.consign_store.specs.Listed.{ListLine, lines_of, list_lines, listed, is_first, films_of, begun, Grouped, closed, with_film, take_line, run_from, data_of, text_of}
+use Rattle.consign_store.proofs.ListLemmas.{grouped}
+
+pub run_push : (so_far : Grouped) (lines : List ListLine) (line : ListLine) → run_from so_far (lines ++ line ∷ []) ≡ take_line (run_from so_far lines) line
+run_push so_far [] line = refl
+run_push so_far (first ∷ lines) line = run_push (take_line so_far first) lines line
+
+run_append : (so_far : Grouped) (a b : List ListLine) → run_from so_far (a ++ b) ≡ run_from (run_from so_far a) b
+run_append so_far [] b = refl
+run_append so_far (line ∷ a) b = run_append (take_line so_far line) a b
+
+-- ---- the lines of one consignment
+
+module _ (it : Consignment) where
+  abbrev with_films : List ℕ → Listed
+  with_films films = record { source = it.source; addressee = it.addressee; number = it.number; received = it.received; films = films }
+
+  further : (done : List Listed) (films : List ℕ) (k : ℕ) → 2 ≤ k → (ls : List Line)
+      → run_from (done, Some (with_films films)) (map (λ (l : ℕ × Line). (it, Some l)) (numbered_from k ls)) ≡ (done, Some (with_films (films ++ map (λ (l : Line). l.film) ls)))
+  further done films k later [] = ap (λ fs. (done, Some (with_films fs))) (sym (append-nil films))
+  further done films k later (l ∷ ls) =
+      let other : (k == 1) ≡ false = grind (arith, nat_tests) in
+      let one : take_line (done, Some (with_films films)) (it, Some (k, l)) ≡ (done, Some (with_films (films ++ l.film ∷ []))) =
+      ap (λ b. cond {A = Grouped} b (done ++ with_films films ∷ [], Some (begun (it, Some (k, l)))) (done, Some (with_films (films ++ l.film ∷ [])))) other in
+      ap (λ (s : Grouped). run_from s (map (λ (l : ℕ × Line). (it, Some l)) (numbered_from (k + 1) ls))) one ∙ further done (films ++ l.film ∷ []) (k + 1) (omega (arith, later)) ls
+      ∙ ap (λ fs. (done, Some (with_films fs))) (grouped films (l.film ∷ []) (map (λ (l : Line). l.film) ls))
+
+  starts : (so_far : Grouped) (line : Option (ℕ × Line)) → is_first line ≡ true → take_line so_far (it, line) ≡ (closed so_far, Some (with_films (films_of line)))
+  starts (done, None) line first = refl
+  starts (done, Some open_one) line first = ap (λ b. cond {A = Grouped} b (done ++ open_one ∷ [], Some (begun (it, line))) (done, Some (with_film open_one line))) first
+
+  one_consignment : (so_far : Grouped) (ls : List Line) → run_from so_far (lines_of it (numbered ls)) ≡ (closed so_far, Some (with_films (map (λ (l : Line). l.film) ls)))
+  one_consignment so_far [] = starts so_far None refl
+  one_consignment so_far (l ∷ ls) =
+      ap (λ (s : Grouped). run_from s (map (λ (l : ℕ × Line). (it, Some l)) (numbered_from 2 ls))) (starts so_far (Some (1, l)) refl) ∙ further (closed so_far) (l.film ∷ []) 2 (omega arith) ls
+
+-- ---- all consignments
+
+pub all_listed : (cs : List Consignment) (so_far : Grouped) → closed (run_from so_far (list_lines cs)) ≡ closed so_far ++ map listed cs
+all_listed [] so_far = sym (append-nil (closed so_far))
+all_listed (it ∷ cs) so_far =
+    ap closed (run_append so_far (lines_of it (numbered it.lines)) (list_lines cs) ∙ ap (λ (s : Grouped). run_from s (list_lines cs)) (one_consignment it so_far it.lines))
+    ∙ all_listed cs (closed so_far, Some (listed it)) ∙ grouped (closed so_far) (listed it ∷ []) (map listed cs)
+
+-- ---- the texts of a list
+
+value_is : (k : ListKind) (it : Listed) → compact_text (data_of k it) ≡ text_of k it
+value_is kind.Arrivals it = arrival_is it
+value_is kind.Sent it = sent_is it
+value_is kind.Transit it = transit_is it
+
+pub values_are : (k : ListKind) (all : List Listed) → map compact_text (map (data_of k) all) ≡ map (text_of k) all
+values_are k [] = refl
+values_are k (it ∷ all) = λ i. value_is k it i ∷ values_are k all i
+
+-- ---- arrivals are numbered among those of one source
+
+pub arrivals_are : (earlier : List Arrival) (later : List Consignment)
+    → ((s : ℕ) → IsCounted (length (filter (λ (other : Arrival). other.source == s) earlier) + 1) (map (λ (it : Consignment). it.number) (filter (λ (it : Consignment). it.source == s) later)))
+    → map arrival_text (map listed later) ≡ arrivals_text earlier (map as_arrival later)
+arrivals_are earlier [] counted = refl
+arrivals_are earlier (it ∷ later) counted =
+    let first : IsCounted (length (filter (λ (other : Arrival). other.source == it.source) earlier) + 1) (it.number ∷ map (λ (it : Consignment). it.number) (filter (λ (other : Consignment). other.source == it.source) later)) =
+    rw (same_test it.source) at (counted it.source) in
+    λ i. object (
+    (codes "films", numbers_text (map (λ (l : Line). l.film) it.lines)) ∷ (codes "from", decimal it.source) ∷ (codes "number", decimal (first.0 i)) ∷ (codes "received", flag_text it.received) ∷ [])
+    ∷ arrivals_are (as_arrival it ∷ earlier) later (λ s. next s (it.source == s) refl) i
+  where
+    next : (s : ℕ) (b : Bool) → (it.source == s) ≡ b
+        → IsCounted (length (filter (λ (other : Arrival). other.source == s) (as_arrival it ∷ earlier)) + 1) (map (λ (it : Consignment). it.number) (filter (λ (it : Consignment). it.source == s) later))
+    next s true is =
+        let all : IsCounted (length (filter (λ (other : Arrival). other.source == s) earlier) + 1) (it.number ∷ map (λ (it : Consignment). it.number) (filter (λ (other : Consignment). other.source == s) later)) = rw is at (counted s) in
+        let same : length (filter (λ (other : Arrival). other.source == s) earlier) + 1 + 1 ≡ suc (length (filter (λ (other : Arrival). other.source == s) earlier)) + 1 = omega arith in
+        rw is (subst (λ (k : ℕ). IsCounted k (map (λ (it : Consignment). it.number) (filter (λ (it : Consignment). it.source == s) later))) same all.1)
+    next s false is = rw is (rw is at (counted s))
+
+-- those sent among those to one addressee
+pub parcels_are : (earlier : List Parcel) (later : List Consignment)
+    → ((a : ℕ) → IsCounted (length (filter (λ (other : Parcel). other.addressee == a) earlier) + 1) (map (λ (it : Consignment). it.number) (filter (λ (it : Consignment). it.addressee == a) later)))
+    → map bodies.sent_text (map listed later) ≡ sent_text earlier (map as_parcel later)
+parcels_are earlier [] counted = refl
+parcels_are earlier (it ∷ later) counted =
+    let first : IsCounted (length (filter (λ (other : Parcel). other.addressee == it.addressee) earlier) + 1) (it.number ∷ map (λ (it : Consignment). it.number) (filter (λ (other : Consignment). other.addressee == it.addressee) later)) =
+    rw (same_test it.addressee) at (counted it.addressee) in
+    λ i. object ((codes "films", numbers_text (map (λ (l : Line). l.film) it.lines)) ∷ (codes "number", decimal (first.0 i)) ∷ (codes "to", decimal it.addressee) ∷ [])
+    ∷ parcels_are (as_parcel it ∷ earlier) later (λ a. next a (it.addressee == a) refl) i
+  where
+    next : (a : ℕ) (b : Bool) → (it.addressee == a) ≡ b
+        → IsCounted (length (filter (λ (other : Parcel). other.addressee == a) (as_parcel it ∷ earlier)) + 1) (map (λ (it : Consignment). it.number) (filter (λ (it : Consignment). it.addressee == a) later))
+    next a true is =
+        let all : IsCounted (length (filter (λ (other : Parcel). other.addressee == a) earlier) + 1) (it.number ∷ map (λ (it : Consignment). it.number) (filter (λ (other : Consignment). other.addressee == a) later)) = rw is at (counted a) in
+        let same : length (filter (λ (other : Parcel). other.addressee == a) earlier) + 1 + 1 ≡ suc (length (filter (λ (other : Parcel). other.addressee == a) earlier)) + 1 = omega arith in
+        rw is (subst (λ (k : ℕ). IsCounted k (map (λ (it : Consignment). it.number) (filter (λ (it : Consignment). it.addressee == a) later))) same all.1)
+    next a false is = rw is (rw is at (counted a))
+
+-- the numbers of the books are these
+pub arrivals_text_is : (b : ℕ) (cs : List Consignment) → ((s a : ℕ) → AreNumbered (λ (it : Consignment). it.source == s && it.addressee == a) (λ it. it.number) cs)
+    → map arrival_text (map listed (filter (λ (it : Consignment). it.addressee == b) cs)) ≡ arrivals_text [] (map as_arrival (filter (λ (it : Consignment). it.addressee == b) cs))
+arrivals_text_is b cs counted =
+    arrivals_are [] (filter (λ (it : Consignment). it.addressee == b) cs)
+    (λ s. subst (λ (l : List Consignment). IsCounted 1 (map (λ (it : Consignment). it.number) l)) (sym (filter_filter (λ (it : Consignment). it.source == s) (λ (it : Consignment). it.addressee == b) cs)) (counted s b))
+
+pub parcels_text_is : (b : ℕ) (cs : List Consignment) → ((s a : ℕ) → AreNumbered (λ (it : Consignment). it.source == s && it.addressee == a) (λ it. it.number) cs)
+    → map bodies.sent_text (map listed (filter (λ (it : Consignment). it.source == b) cs)) ≡ sent_text [] (map as_parcel (filter (λ (it : Consignment). it.source == b) cs))
+parcels_text_is b cs counted =
+    parcels_are [] (filter (λ (it : Consignment). it.source == b) cs)
+    (λ a. subst (λ (l : List Consignment). IsCounted 1 (map (λ (it : Consignment). it.number) l)) (filter_twice (λ (it : Consignment). it.source == b) (λ (it : Consignment). it.addressee == a) cs) (counted b a))

@@ -1,0 +1,107 @@
+-- One step of a dispatch or of a receipt, and what the steps come to.
+use Rattle.std.proofs.Common.{◌≡◌, ◌+◌, ◌<◌, ◌≤◌, ◌==◌, ◌||◌, ℕ, Bool, true, false, List, [], ◌∷◌, ◌++◌, map, take, drop, length, get_or, Option, Some, None, refl, sym, ap, subst, ◌∙◌, arith}
+use Rattle.std.specs.Prelude.{⊤, if◌then◌else◌}
+use Rattle.std.proofs.lemmas.Bool.Decides.{nat_tests}
+use Rattle.std.proofs.lemmas.List.{take_more, take_all, map_more, take-append-drop, length-take-le, length-map}
+use Rattle.sqlite.specs.State.{State}
+use Rattle.shop_model.specs.Rows.{mem, update_where}
+use Rattle.shop_model.specs.Books.{Books, Line, LineState, is_consignment, checked}
+use Rattle.shop_schema.specs.Shop.{Writes}
+use Rattle.shop_types.specs.declared.parcel.ParcelLine.{ParcelLine}
+use Rattle.consign_store.specs.Parts.{Placed, with_line, IsNextLine, IsOnce, with_state, with_received}
+use Rattle.consign_store.specs.Parcels.{sent_line, IsNewKey, HasSoMany, HasNoLine, with_lines, sent_off, state_at, with_checked_to}
+use Rattle.consign_store.proofs.ParcelLemmas.{next_line, line_more, new_has_none, new_with_lines, once_still, line_checked, once_of_many, all_received, writes_given, writes_told}
+
+-- ---- numbers
+
+pub number_is : (n k : ℕ) (found : Option ℕ) → 1 ≤ n → found ≡ (if n == 0 then None else Some n) → found ≡ Some k → k ≡ n
+number_is n k found low made is =
+    let some : (n == 0) ≡ false = grind (arith, nat_tests) in
+    let told : Some k ≡ Some n = sym is ∙ made ∙ rw some refl in
+    cc
+
+push_in : (n x : ℕ) (ns : List ℕ) → (x == n) ≡ true → mem n (ns ++ x ∷ []) ≡ true
+push_in n x [] same = rw same refl
+push_in n x (m ∷ ms) same = go (m == n) (push_in n x ms same)
+  where
+    go : (b : Bool) → mem n (ms ++ x ∷ []) ≡ true → (b || mem n (ms ++ x ∷ [])) ≡ true
+    go true more = refl
+    go false more = more
+
+push_out : (n x : ℕ) (ns : List ℕ) → (x == n) ≡ false → mem n ns ≡ false → mem n (ns ++ x ∷ []) ≡ false
+push_out n x [] other out = rw other refl
+push_out n x (m ∷ ms) other out = go (m == n) out (push_out n x ms other)
+  where
+    go : (b : Bool) → (b || mem n ms) ≡ false → (mem n ms ≡ false → mem n (ms ++ x ∷ []) ≡ false) → (b || mem n (ms ++ x ∷ [])) ≡ false
+    go true none more = absurd cc
+    go false none more = more none
+
+in_front : (n : ℕ) (ns rest : List ℕ) → mem n ns ≡ true → mem n (ns ++ rest) ≡ true
+in_front n [] rest within = absurd cc
+in_front n (m ∷ ms) rest within = go (m == n) within (in_front n ms rest)
+  where
+    go : (b : Bool) → (b || mem n ms) ≡ true → (mem n ms ≡ true → mem n (ms ++ rest) ≡ true) → (b || mem n (ms ++ rest)) ≡ true
+    go true here more = refl
+    go false here more = more here
+
+taken_more : (x i : ℕ) (ns : List ℕ) → i < length ns → x ≡ get_or ns i x → take (i + 1) ns ≡ take i ns ++ x ∷ []
+taken_more x i ns lt is = take_more ns i x lt ∙ ap (λ (y : ℕ). take i ns ++ y ∷ []) (sym is)
+
+pub is_here : (n x i : ℕ) (ns : List ℕ) → i < length ns → x ≡ get_or ns i x → (x == n) ≡ true → mem n ns ≡ true
+is_here n x i ns lt is same =
+    subst (λ (l : List ℕ). mem n l ≡ true) (take-append-drop (i + 1) ns)
+    (in_front n (take (i + 1) ns) (drop (i + 1) ns) (subst (λ (l : List ℕ). mem n l ≡ true) (sym (taken_more x i ns lt is)) (push_in n x (take i ns) same)))
+
+pub not_yet : (n x i : ℕ) (ns : List ℕ) → i < length ns → x ≡ get_or ns i x → (x == n) ≡ false → mem n (take i ns) ≡ false → mem n (take (i + 1) ns) ≡ false
+not_yet n x i ns lt is other out = subst (λ (l : List ℕ). mem n l ≡ false) (sym (taken_more x i ns lt is)) (push_out n x (take i ns) other out)
+
+pub not_at_all : (n i : ℕ) (ns : List ℕ) → length ns ≤ i → mem n (take i ns) ≡ false → mem n ns ≡ false
+not_at_all n i ns le out = subst (λ (l : List ℕ). mem n l ≡ false) (take_all i ns le) out
+
+-- ---- calls
+
+module _ (s a n : ℕ) where
+  abbrev pub placed : ℕ → ParcelLine → Placed
+  placed k line = record { source = s; addressee = a; number = n; line = k; it = sent_line line }
+
+  pub one_line : (s0 s1 s2 : State) (lines : List ParcelLine) (i k : ℕ) (line : ParcelLine) → i < length lines → line ≡ get_or lines i line → k ≡ i + 1
+      → Writes s0 s1 (HasNoLine s a n) (with_lines s a n (map sent_line (take i lines))) → Writes s1 s2 (IsNextLine (placed k line)) (with_line (placed k line))
+      → Writes s0 s2 (HasNoLine s a n) (with_lines s a n (map sent_line (take (i + 1) lines)))
+  one_line s0 s1 s2 lines i k line lt is next one two =
+      let done = map sent_line (take i lines) in
+      let row = placed k line in
+      let count : length done ≡ i = length-map (take i lines) sent_line ∙ length-take-le i lines (omega (arith, lt)) in
+      let behind : k ≡ length done + 1 = omega (arith, next, count) in
+      let more : done ++ sent_line line ∷ [] ≡ map sent_line (take (i + 1) lines) = ap (λ (l : ParcelLine). done ++ sent_line l ∷ []) is ∙ sym (map_more sent_line lines i line lt) in
+      writes_told s0 s2 (HasNoLine s a n) (λ books. with_line row (with_lines s a n done books)) (with_lines s a n (map sent_line (take (i + 1) lines)))
+      (λ books none. line_more s a n books done row refl refl refl ∙ ap (λ (ls : List Line). with_lines s a n ls books) more)
+      (writes_given s0 s1 s2 (HasNoLine s a n) (IsNextLine row) (with_lines s a n done) (with_line row) (λ books none. next_line s a n books done row refl refl refl behind none) one two)
+
+  pub all_lines : (s0 s1 : State) (lines : List ParcelLine) (i : ℕ) → length lines ≤ i → Writes s0 s1 (HasNoLine s a n) (with_lines s a n (map sent_line (take i lines)))
+      → Writes s0 s1 (HasNoLine s a n) (with_lines s a n (map sent_line lines))
+  all_lines s0 s1 lines i le one = subst (λ (ls : List ParcelLine). Writes s0 s1 (HasNoLine s a n) (with_lines s a n (map sent_line ls))) (take_all i lines le) one
+
+  pub whole : (s0 s1 s2 : State) (place : ℕ) (lines : List Line) → Writes s0 s1 (λ _. ⊤) (λ books. record books { consignments = books.consignments ++ sent_off s a n place [] ∷ [] })
+      → Writes s1 s2 (HasNoLine s a n) (with_lines s a n lines) → Writes s0 s2 (IsNewKey s a n) (λ books. record books { consignments = books.consignments ++ sent_off s a n place lines ∷ [] })
+  whole s0 s1 s2 place lines one two =
+      let put = λ (books : Books). record books { consignments = books.consignments ++ sent_off s a n place [] ∷ [] } in
+      writes_told s0 s2 (IsNewKey s a n) (λ books. with_lines s a n lines (put books)) (λ books. record books { consignments = books.consignments ++ sent_off s a n place lines ∷ [] })
+      (λ books new. new_with_lines s a n place books lines new)
+      (λ counts books holds new. two counts (put books) (one counts books holds tt) (new_has_none s a n place books new))
+
+  pub one_state : (s0 s1 s2 : State) (missing : List ℕ) (done k : ℕ) (state : LineState) → k ≡ done + 1 → state ≡ state_at missing k → Writes s0 s1 (IsOnce s a n) (with_checked_to s a n missing done)
+      → Writes s1 s2 (IsOnce s a n) (with_state s a n k state) → Writes s0 s2 (IsOnce s a n) (with_checked_to s a n missing (done + 1))
+  one_state s0 s1 s2 missing done k state next is one two =
+      let same : (books : Books) → with_state s a n k state books ≡ with_state s a n (done + 1) (state_at missing (done + 1)) books =
+      λ books. ap (λ (new : LineState). with_state s a n k new books) is ∙ ap (λ (m : ℕ). with_state s a n m (state_at missing m) books) next in
+      writes_told s0 s2 (IsOnce s a n) (λ books. with_state s a n k state (with_checked_to s a n missing done books)) (with_checked_to s a n missing (done + 1))
+      (λ books few. same (with_checked_to s a n missing done books) ∙ line_checked missing s a n done books)
+      (writes_given s0 s1 s2 (IsOnce s a n) (IsOnce s a n) (with_checked_to s a n missing done) (with_state s a n k state) (λ books few. once_still missing s a n done books few) one two)
+
+  pub all_states : (s0 s1 s2 : State) (missing : List ℕ) (count : ℕ) → Writes s0 s1 (IsOnce s a n) (with_checked_to s a n missing count) → Writes s1 s2 (IsOnce s a n) (with_received s a n)
+      → Writes s0 s2 (HasSoMany s a n count) (λ books. record books { consignments = update_where (is_consignment s a n) (checked missing) books.consignments })
+  all_states s0 s1 s2 missing count one two =
+      let set = with_checked_to s a n missing count in
+      writes_told s0 s2 (HasSoMany s a n count) (λ books. with_received s a n (set books)) (λ books. record books { consignments = update_where (is_consignment s a n) (checked missing) books.consignments })
+      (λ books many. all_received missing s a n count books many)
+      (λ counts books holds many. let few = once_of_many missing s a n count books many in two counts (set books) (one counts books holds few) (once_still missing s a n count books few))

@@ -1,0 +1,8 @@
+use Rattle.std.proofs.Common.{◌++◌, ◌∷◌, [], subst}
+use Rattle.sql_rows.proofs.Inside.{on_ok_then}
+use Rattle.reply_bodies.specs.Page.{HasValues}
+use Rattle.consign_store.proofs.lists.add.Goals as goal
+
+pub returns : goal.returns
+returns c =
+    on_ok_then c.add.result (λ added values is. subst (λ d. HasValues c.add.new.self (values ++ d ∷ [])) c.in_ok-value.ensures.value (added values c.in_ok-value.ensures.no_float is)) c.add.ensures.added

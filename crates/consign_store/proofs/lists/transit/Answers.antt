@@ -1,0 +1,18 @@
+use Rattle.std.proofs.Common.{◌∙◌, ap, filter}
+use Rattle.shop_model.specs.Json.{array}
+use Rattle.shop_model.specs.Views.{sorted_by}
+use Rattle.shop_model.specs.Office.{goes_before}
+use Rattle.consign_store.specs.declared.lists.ListKind.TheVariants.{Transit}
+use Rattle.consign_store.proofs.TransitTexts.{transit_asks, shows_transit, is_open, transit_are}
+use Rattle.consign_store.proofs.ListLines.{list_ends}
+use Rattle.consign_store.proofs.lists.transit.Goals as goal
+
+pub each_row-requires : goal.each_row-requires
+each_row-requires g c = transit_asks
+
+pub returns-clause-text : goal.returns-clause-text
+returns-clause-text g c clean books holds held =
+    let told = c.in_ok-each_row.ensures.took clean in
+    let rows = shows_transit _ _ _ books holds.schema_is told.1 holds.stands held in
+    let open_ones = sorted_by goes_before (filter is_open books.consignments) in
+    list_ends _ _ _ _ Transit open_ones c.empty-taker.ensures told.2 rows c.in_ok-finish.ensures ∙ ap array (transit_are open_ones)

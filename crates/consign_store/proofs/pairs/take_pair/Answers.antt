@@ -1,0 +1,18 @@
+use Rattle.std.proofs.Common.{◌≡◌, ◌∙◌, ℕ, List, Option, Some, Result, sym, ap}
+use Rattle.std.specs.Prelude.{IfOk, slice_get}
+use Rattle.std.proofs.lemmas.Result.{IfOk-weaker}
+use Rattle.sqlite_value.specs.Order as sql
+use Rattle.sqlite_value.specs.Order.{column}
+use Rattle.sql_rows.specs.Rows.{number_value}
+use Rattle.shop_schema.specs.First.{TellsFirst}
+use Rattle.consign_store.proofs.PairTexts.{tallies_pair}
+use Rattle.consign_store.proofs.pairs.take_pair.Goals as goal
+
+told_number : {E : Type 0} (rows slice : List sql.Row) (P : ℕ → Type 0) (r : Result ℕ E) → slice ≡ rows → IfOk r (λ n. TellsFirst (λ row m. column row 0 ≡ number_value m) slice (Some n))
+    → ((row : sql.Row) (n : ℕ) → slice_get rows 0 ≡ Some row → column row 0 ≡ number_value n → P n) → IfOk r P
+told_number rows slice P r same told some = IfOk-weaker r _ P (λ n it. some it.0 n (ap (λ rs. slice_get rs 0) (sym same) ∙ sym it.1) it.2) told
+
+pub returns-clause-taken : goal.returns-clause-taken
+returns-clause-taken g c clean =
+    let shown = rw (c.to_sql.ensures, c.get.ensures.value, c.to_sql-2.ensures, c.get-2.ensures.value) at (c.in_ok-rows.ensures.shown clean) in
+    told_number _ _ _ c.first_number.result c.as_slice.ensures.value c.first_number.ensures (tallies_pair _ _ c.args.source c.args.addressee _ shown)

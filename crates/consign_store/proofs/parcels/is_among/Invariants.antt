@@ -1,0 +1,6 @@
+use Rattle.std.proofs.Common.{◌≡◌, false, take}
+use Rattle.shop_model.specs.Rows.{mem}
+use Rattle.consign_store.proofs.parcels.is_among.Given as goal
+
+abbrev pub invariant-loop-other : goal.invariant-loop-other
+invariant-loop-other l = mem l.line (take l.other-index l.lines) ≡ false

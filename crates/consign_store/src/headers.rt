@@ -1,0 +1,141 @@
+//! Consignments without their lines.
+
+ghost use Rattle.std.specs.Prelude.{◌≡◌, ◌<◌, ◌^◌, ⊤, [], ◌∷◌, ◌++◌, IfOk, filter, length, map, option_map, option_to_list};
+ghost use Rattle.sqlite.specs.Held.{state};
+ghost use Rattle.sqlite.specs.Values.{bound};
+ghost use Rattle.sql_rows.specs.Calls.{StaysInside};
+ghost use Rattle.shop_model.specs.Books.{is_consignment};
+ghost use Rattle.shop_schema.specs.Calls.{Finds, Stores};
+ghost use Rattle.shop_store.specs.SharedSeen.{IsFirstNumber};
+ghost use Rattle.consign_store.specs.Parts.{Header, header_of, header_columns, IsHeader, opened, with_received, IsOnce};
+ghost use Rattle.consign_store.specs.Seen.{seen_header};
+
+use crate::keys::{ConsignmentKey, DispatchPlace, place_at};
+use shop_schema::row_number_at;
+use sql_rows::{StoreFault, Stored, execute, fault_of, flag_at, query, read_one};
+use sqlite::types::{ToSql, ValueRef};
+use sqlite::{Alter, Row, Transaction};
+
+/// A consignment without its lines.
+#[derive(Clone, Copy, Drop)]
+pub struct HeaderRow {
+    pub key: ConsignmentKey,
+    pub place: DispatchPlace,
+    pub received: bool,
+}
+
+impl Stored for HeaderRow {
+    ghost columns = { λ row. header_columns (seen_header row) };
+
+    ghost fits = { λ row. IsHeader (seen_header row) };
+
+    fn read(row: &Row) -> Result<HeaderRow, StoreFault> {
+        if row.column_count() != 5 {
+            return Err(StoreFault::Failed);
+        }
+        Ok(HeaderRow {
+            key: ConsignmentKey {
+                source: row_number_at(row, 0)?,
+                addressee: row_number_at(row, 1)?,
+                number: row_number_at(row, 2)?,
+            },
+            place: place_at(row, 3)?,
+            received: flag_at(row, 4)?,
+        })
+    }
+}
+
+impl HeaderRow {
+    /// The columns in order, as parameters.
+    fn values(&self) -> [ValueRef<'static>; 5]
+        ensures { bound result ≡ header_columns (seen_header self.now) }
+    {
+        [
+            self.key.source.get().to_sql(),
+            self.key.addressee.get().to_sql(),
+            self.key.number.get().to_sql(),
+            self.place.value(),
+            self.received.to_sql(),
+        ]
+    }
+}
+
+/// The place in the first column of the first row, or 0 where there is no row.
+fn first_place(rows: &[Row]) -> Result<u64, StoreFault>
+    ensures { IfOk result (IsFirstNumber rows.now) }
+{
+    match rows.first() {
+        None => Ok(0),
+        Some(row) => match row.get(0) {
+            Ok(place) => Ok(place),
+            Err(error) => Err(fault_of(error)),
+        },
+    }
+}
+
+/// The place of the last consignment of the chain, or 0 where there is none. Places count from 1 without a gap, so it is how many there are.
+pub fn last_place<S: Alter>(tx: &mut Transaction<'_, S>) -> Result<u64, StoreFault>
+    ensures inside { StaysInside S.Store tx.old.conn tx.new.conn result }
+    ensures last { Finds (state S.Store tx.old.conn.now) (state S.Store tx.new.conn.now) result (λ last books. last ≡ length books.consignments) }
+{
+    let rows = query(
+        tx,
+        "SELECT place FROM consignment ORDER BY place DESC LIMIT 1",
+        &[],
+    )?;
+    first_place(rows.as_slice())
+}
+
+/// The consignment, without its lines, if there is one of the key.
+pub fn header_at<S: Alter>(
+    tx: &mut Transaction<'_, S>,
+    key: &ConsignmentKey,
+) -> Result<Option<HeaderRow>, StoreFault>
+    ensures inside { StaysInside S.Store tx.old.conn tx.new.conn result }
+    ensures row { Finds (state S.Store tx.old.conn.now) (state S.Store tx.new.conn.now) result
+        (λ row books. option_to_list (option_map (λ it. seen_header it) row) ≡ map header_of (filter (is_consignment key.now.source key.now.addressee key.now.number) books.consignments)) }
+{
+    let rows = query(
+        tx,
+        "SELECT source, addressee, number, place, received FROM consignment WHERE source = ?1 AND addressee = ?2 AND number = ?3",
+        &[
+            key.source.get().to_sql(),
+            key.addressee.get().to_sql(),
+            key.number.get().to_sql(),
+        ],
+    )?;
+    read_one(rows.as_slice())
+}
+
+/// Adds the consignment, with no line yet. After a fault the transaction may be rolled back.
+pub fn put_header<S: Alter>(tx: &mut Transaction<'_, S>, row: &HeaderRow) -> Result<(), StoreFault>
+    ensures inside { StaysInside S.Store tx.old.conn tx.new.conn result }
+    ensures put { Stores (state S.Store tx.old.conn.now) (state S.Store tx.new.conn.now) result (λ _. ⊤)
+        (λ books. record books { consignments = books.consignments ++ opened (seen_header row.now) ∷ [] }) }
+{
+    execute(
+        tx,
+        "INSERT INTO consignment (source, addressee, number, place, received) VALUES (?1, ?2, ?3, ?4, ?5)",
+        &row.values(),
+    )
+}
+
+/// Sets that the consignment is received. One that isn't there is not made. After a fault the transaction may be rolled back.
+pub fn set_received<S: Alter>(
+    tx: &mut Transaction<'_, S>,
+    key: &ConsignmentKey,
+) -> Result<(), StoreFault>
+    ensures inside { StaysInside S.Store tx.old.conn tx.new.conn result }
+    ensures set { Stores (state S.Store tx.old.conn.now) (state S.Store tx.new.conn.now) result (IsOnce key.now.source key.now.addressee key.now.number)
+        (with_received key.now.source key.now.addressee key.now.number) }
+{
+    execute(
+        tx,
+        "UPDATE consignment SET received = 1 WHERE source = ?1 AND addressee = ?2 AND number = ?3",
+        &[
+            key.source.get().to_sql(),
+            key.addressee.get().to_sql(),
+            key.number.get().to_sql(),
+        ],
+    )
+}

@@ -1,0 +1,168 @@
+//! The lines of consignments, each with its number there.
+
+ghost use Rattle.std.specs.Prelude.{◌≡◌, ◌≢◌, ◌<◌, ⊤, [], ◌∷◌, IfOk, IfErr, filter, flat_map, length, map};
+ghost use Rattle.sqlite.specs.Held.{state};
+ghost use Rattle.sqlite.specs.Values.{bound};
+ghost use Rattle.sqlite_value.specs.Order.{column};
+ghost use Rattle.sql_rows.specs.Rows.{number_value};
+ghost use Rattle.sql_rows.specs.Calls.{StaysInside};
+ghost use Rattle.shop_model.specs.Books as model;
+ghost use Rattle.shop_model.specs.Books.{is_consignment};
+ghost use Rattle.shop_schema.specs.Calls.{Finds, Stores};
+ghost use Rattle.shop_schema.specs.Columns.{line_value};
+ghost use Rattle.consign_store.specs.Parts.{placed_columns, IsPlaced, placed_in, with_line, with_state, IsNextLine, IsOnce};
+ghost use Rattle.consign_store.specs.Seen.{seen_line_state, seen_line};
+
+use crate::keys::ConsignmentKey;
+use shop_schema::row_number_at;
+use shop_types::{FilmNo, LineNo, Mark};
+use sql_rows::{StoreFault, Stored, execute, number_at, query, read_all};
+use sqlite::types::{ToSql, ValueRef};
+use sqlite::{Alter, Row, Transaction};
+use std::alloc::Global;
+
+/// What became of a line: it is under way, or the consignment was received, with its copy or without.
+#[derive(Clone, Copy)]
+pub enum LineState {
+    UnderWay,
+    Arrived,
+    Missing,
+}
+
+impl LineState {
+    /// The number that stands for it in the column.
+    fn code(self) -> u32
+        ensures { number_value result ≡ line_value (seen_line_state self) }
+    {
+        match self {
+            LineState::UnderWay => 0,
+            LineState::Arrived => 1,
+            LineState::Missing => 2,
+        }
+    }
+}
+
+/// The state for which the number in the column stands.
+fn line_state_at(row: &Row, at: usize) -> Result<LineState, StoreFault>
+    ensures ok { IfOk result (λ s. column row.now at ≡ line_value (seen_line_state s)) }
+    ensures failed { IfErr result (λ e. e ≡ StoreFault.Failed → (s : model.LineState) → at < length row.now → column row.now at ≢ line_value s) }
+{
+    match number_at(row, at)? {
+        0 => Ok(LineState::UnderWay),
+        1 => Ok(LineState::Arrived),
+        2 => Ok(LineState::Missing),
+        _ => Err(StoreFault::Failed),
+    }
+}
+
+/// A line of a consignment, by its number there.
+#[derive(Clone, Copy, Drop)]
+pub struct LineRow {
+    pub key: ConsignmentKey,
+    pub line: LineNo,
+    pub film: FilmNo,
+    pub mark: Mark,
+    pub state: LineState,
+}
+
+impl Stored for LineRow {
+    ghost columns = { λ row. placed_columns (seen_line row) };
+
+    ghost fits = { λ row. IsPlaced (seen_line row) };
+
+    fn read(row: &Row) -> Result<LineRow, StoreFault> {
+        if row.column_count() != 8 {
+            return Err(StoreFault::Failed);
+        }
+        Ok(LineRow {
+            key: ConsignmentKey {
+                source: row_number_at(row, 0)?,
+                addressee: row_number_at(row, 1)?,
+                number: row_number_at(row, 2)?,
+            },
+            line: row_number_at(row, 3)?,
+            film: row_number_at(row, 4)?,
+            mark: Mark {
+                branch: row_number_at(row, 5)?,
+                copy: row_number_at(row, 6)?,
+            },
+            state: line_state_at(row, 7)?,
+        })
+    }
+}
+
+impl LineRow {
+    /// The columns in order, as parameters.
+    fn values(&self) -> [ValueRef<'static>; 8]
+        ensures { bound result ≡ placed_columns (seen_line self.now) }
+    {
+        [
+            self.key.source.get().to_sql(),
+            self.key.addressee.get().to_sql(),
+            self.key.number.get().to_sql(),
+            self.line.get().to_sql(),
+            self.film.get().to_sql(),
+            self.mark.branch.get().to_sql(),
+            self.mark.copy.get().to_sql(),
+            self.state.code().to_sql(),
+        ]
+    }
+}
+
+/// The lines of the consignment, in their order. After a fault the transaction may be rolled back.
+pub fn lines_of<S: Alter>(
+    alloc: Global,
+    tx: &mut Transaction<'_, S>,
+    key: &ConsignmentKey,
+) -> Result<Vec<LineRow>, StoreFault>
+    ensures inside { StaysInside S.Store tx.old.conn tx.new.conn result }
+    ensures rows { Finds (state S.Store tx.old.conn.now) (state S.Store tx.new.conn.now) result
+        (λ rows books. map (λ row. seen_line row) rows.items ≡ flat_map placed_in (filter (is_consignment key.now.source key.now.addressee key.now.number) books.consignments)) }
+{
+    let rows = query(
+        tx,
+        "SELECT source, addressee, number, line, film, origin_branch, origin_copy, state FROM consignment_line WHERE source = ?1 AND addressee = ?2 AND number = ?3 ORDER BY line",
+        &[
+            key.source.get().to_sql(),
+            key.addressee.get().to_sql(),
+            key.number.get().to_sql(),
+        ],
+    )?;
+    read_all(alloc, rows.as_slice())
+}
+
+/// Adds the line behind those that its consignment has. After a fault the transaction may be rolled back.
+pub fn put_line<S: Alter>(tx: &mut Transaction<'_, S>, row: &LineRow) -> Result<(), StoreFault>
+    ensures inside { StaysInside S.Store tx.old.conn tx.new.conn result }
+    ensures put { Stores (state S.Store tx.old.conn.now) (state S.Store tx.new.conn.now) result (IsNextLine (seen_line row.now)) (with_line (seen_line row.now)) }
+{
+    execute(
+        tx,
+        "INSERT INTO consignment_line (source, addressee, number, line, film, origin_branch, origin_copy, state) VALUES (?1, ?2, ?3, ?4, ?5, ?6, ?7, ?8)",
+        &row.values(),
+    )
+}
+
+/// Sets what became of the line. One that isn't there is not made. After a fault the transaction may be rolled back.
+pub fn set_line<S: Alter>(
+    tx: &mut Transaction<'_, S>,
+    key: &ConsignmentKey,
+    line: LineNo,
+    new: LineState,
+) -> Result<(), StoreFault>
+    ensures inside { StaysInside S.Store tx.old.conn tx.new.conn result }
+    ensures set { Stores (state S.Store tx.old.conn.now) (state S.Store tx.new.conn.now) result (IsOnce key.now.source key.now.addressee key.now.number)
+        (with_state key.now.source key.now.addressee key.now.number line (seen_line_state new)) }
+{
+    execute(
+        tx,
+        "UPDATE consignment_line SET state = ?5 WHERE source = ?1 AND addressee = ?2 AND number = ?3 AND line = ?4",
+        &[
+            key.source.get().to_sql(),
+            key.addressee.get().to_sql(),
+            key.number.get().to_sql(),
+            line.get().to_sql(),
+            new.code().to_sql(),
+        ],
+    )
+}

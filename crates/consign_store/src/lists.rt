@@ -1,0 +1,232 @@
+//! The lists of consignments, row by row, outside any transaction: neighbouring rows of one join belong to one consignment, and a first line begins the next.
+
+ghost use Rattle.std.specs.Prelude.{◌≡◌, false, List, [], ◌∷◌, ◌++◌, Option, Some, IfOk, OnOk, map, option_map, string_bytes};
+ghost use Rattle.serde_json.specs.Data.{Data};
+ghost use Rattle.serde_json.specs.View.{view};
+ghost use Rattle.serde_json.specs.Written.{has_float};
+ghost use Rattle.sqlite.specs.Held.{state};
+ghost use Rattle.sqlite.specs.State.{HasCleanDisk};
+ghost use Rattle.sql_rows.specs.Calls.{StaysSame};
+ghost use Rattle.shop_model.specs.Json.{array};
+ghost use Rattle.shop_model.specs.Books.{Books, shop_of};
+ghost use Rattle.shop_model.specs.Machine.{ArrivalsAre, SentAre, TransitIs};
+ghost use Rattle.shop_model.specs.Answers.{shown_text};
+ghost use Rattle.shop_schema.specs.Shop.{Holds};
+ghost use Rattle.shop_schema.specs.Held.{IsHeld};
+ghost use Rattle.reply_bodies.specs.Consignments.{Listed, seen_listed};
+ghost use Rattle.reply_bodies.specs.Page.{HasValues};
+ghost use Rattle.consign_store.specs.Listed.{under_way, ListLine, shown_line, is_first, films_of, begun, with_film, take_line, closed, data_of, text_of, HasConsignments};
+
+use reply_bodies::{ListPage, ListedConsignment, arrival_row, sent_row, transit_row};
+use serde_json::Value;
+use shop_schema::{row_number_at, row_number_or_null_at};
+use shop_types::{BranchNo, FilmNo, LineNo};
+use sql_rows::{StoreFault, TakesRows, each_row, flag_at};
+use sqlite::types::ToSql;
+use sqlite::{Alter, Connection, Row};
+use std::alloc::{AllocError, Global};
+
+/// Which list of consignments is made.
+#[derive(Clone, Copy)]
+pub(crate) enum ListKind {
+    Arrivals,
+    Sent,
+    Transit,
+}
+
+/// Whether the row begins a consignment: it has the first line or none.
+fn is_first(row: &Row) -> Result<bool, StoreFault>
+    ensures { IfOk result (λ is. (line : ListLine) → row.now ≡ shown_line line → is ≡ is_first line.1) }
+{
+    let line: Option<LineNo> = row_number_or_null_at(row, 4)?;
+    match line {
+        Some(number) => Ok(number.get() == 1),
+        None => Ok(true),
+    }
+}
+
+/// The consignment of the row, with no film.
+fn bare(alloc: Global, row: &Row) -> Result<ListedConsignment, StoreFault>
+    ensures bare { IfOk result (λ it. (line : ListLine) → row.now ≡ shown_line line → record (seen_listed it) { films = films_of line.1 } ≡ begun line) }
+    ensures none { IfOk result (λ it. it.films.items ≡ []) }
+{
+    Ok(ListedConsignment {
+        source: row_number_at(row, 0)?,
+        addressee: row_number_at(row, 1)?,
+        number: row_number_at(row, 2)?,
+        received: flag_at(row, 3)?,
+        films: Vec::new(alloc),
+    })
+}
+
+/// The consignment with the row's film.
+fn with_film(it: ListedConsignment, row: &Row) -> Result<ListedConsignment, StoreFault>
+    ensures { IfOk result (λ now. (line : ListLine) → row.now ≡ shown_line line → seen_listed now ≡ with_film (seen_listed it) line.1) }
+{
+    let mut it = it;
+    let film: Option<FilmNo> = row_number_or_null_at(row, 5)?;
+    if let Some(film) = film
+        && it.films.push(film).is_err()
+    {
+        return Err(StoreFault::Memory);
+    }
+    Ok(it)
+}
+
+/// The consignment as the list has it.
+fn value_of(alloc: Global, kind: ListKind, it: &ListedConsignment) -> Result<Value, AllocError>
+    ensures value { IfOk result (λ v. view v ≡ data_of kind (seen_listed it.now)) }
+    ensures no_float { IfOk result (λ v. has_float (view v) ≡ false) }
+{
+    match kind {
+        ListKind::Arrivals => arrival_row(alloc, it),
+        ListKind::Sent => sent_row(alloc, it),
+        ListKind::Transit => transit_row(alloc, it),
+    }
+}
+
+/// Puts the consignment last.
+fn add(
+    alloc: Global,
+    kind: ListKind,
+    it: ListedConsignment,
+    page: &mut ListPage,
+) -> Result<(), AllocError>
+    ensures { OnOk result ((values : List Data) → HasValues page.old values → HasValues page.new (values ++ data_of kind (seen_listed it) ∷ [])) }
+{
+    let value = value_of(alloc, kind, &it)?;
+    page.add(&value)
+}
+
+/// The consignment of the row with the row's film. The one of the rows before, if the row begins another, goes on the page.
+fn next(
+    alloc: Global,
+    kind: ListKind,
+    it: Option<ListedConsignment>,
+    row: &Row,
+    page: &mut ListPage,
+) -> Result<ListedConsignment, StoreFault>
+    ensures { IfOk result (λ now. (line : ListLine) (done : List Listed) → row.now ≡ shown_line line
+        → HasValues page.old (map (data_of kind) done)
+        → HasValues page.new (map (data_of kind) (take_line (done, option_map seen_listed it) line).0)
+        × (Some (seen_listed now) ≡ (take_line (done, option_map seen_listed it) line).1)) }
+{
+    let Some(it) = it else {
+        return with_film(bare(alloc, row)?, row);
+    };
+    if is_first(row)? {
+        add(alloc, kind, it, page)?;
+        with_film(bare(alloc, row)?, row)
+    } else {
+        with_film(it, row)
+    }
+}
+
+/// The list of consignments, so far, and the one that isn't on it yet.
+#[derive(Drop)]
+pub(crate) struct ConsignmentPage {
+    page: ListPage,
+    alloc: Global,
+    kind: ListKind,
+    consignment: Option<ListedConsignment>,
+}
+
+impl TakesRows for ConsignmentPage {
+    ghost took = { HasConsignments };
+
+    fn take(&mut self, row: &Row) -> Result<(), StoreFault> {
+        let it = self.consignment.take();
+        self.consignment = Some(next(self.alloc, self.kind, it, row, &mut self.page)?);
+        Ok(())
+    }
+}
+
+/// The text of the list with the last consignment.
+fn finish(taker: ConsignmentPage) -> Result<String, AllocError>
+    ensures { IfOk result (λ s. (done : List Listed) → HasValues taker.page (map (data_of taker.kind) done)
+        → string_bytes s ≡ array (map (text_of taker.kind) (closed (done, option_map seen_listed taker.consignment)))) }
+{
+    let ConsignmentPage {
+        mut page,
+        alloc,
+        kind,
+        consignment,
+    } = taker;
+    match consignment {
+        Some(it) => {
+            add(alloc, kind, it, &mut page)?;
+            page.finish()
+        }
+        None => page.finish(),
+    }
+}
+
+/// The page of the kind with no consignment.
+fn empty(alloc: Global, kind: ListKind) -> ConsignmentPage
+    ensures { (result.kind ≡ kind) × HasConsignments result result [] }
+{
+    ConsignmentPage {
+        page: ListPage::new(alloc),
+        alloc,
+        kind,
+        consignment: None,
+    }
+}
+
+/// The arrivals of the branch in the order of their dispatch, received ones too, as the text of a list. The database stays as it was, unless the store fails, which
+/// commits nothing.
+pub fn arrivals<S: Alter>(
+    alloc: Global,
+    conn: &mut Connection<S>,
+    branch: BranchNo,
+) -> Result<String, StoreFault>
+    ensures text { HasCleanDisk (state S.Store conn.new) → IfOk result (λ s. (books : Books) → Holds (state S.Store conn.old) books → IsHeld books
+        → string_bytes s ≡ shown_text (ArrivalsAre (shop_of branch books).arrivals)) }
+    ensures same { StaysSame S.Store conn.old conn.new result }
+{
+    let mut taker = empty(alloc, ListKind::Arrivals);
+    each_row(
+        conn,
+        "SELECT c.source, c.addressee, c.number, c.received, l.line, l.film FROM consignment AS c LEFT JOIN consignment_line AS l ON l.source = c.source AND l.addressee = c.addressee AND l.number = c.number WHERE c.addressee = ?1 ORDER BY c.place, l.line",
+        &[branch.get().to_sql()],
+        &mut taker,
+    )?;
+    Ok(finish(taker)?)
+}
+
+/// What the branch sent, in the order of dispatch, as the text of a list. The database stays as it was, unless the store fails, which commits nothing.
+pub fn sent<S: Alter>(
+    alloc: Global,
+    conn: &mut Connection<S>,
+    branch: BranchNo,
+) -> Result<String, StoreFault>
+    ensures text { HasCleanDisk (state S.Store conn.new) → IfOk result (λ s. (books : Books) → Holds (state S.Store conn.old) books → IsHeld books
+        → string_bytes s ≡ shown_text (SentAre (shop_of branch books).sent)) }
+    ensures same { StaysSame S.Store conn.old conn.new result }
+{
+    let mut taker = empty(alloc, ListKind::Sent);
+    each_row(
+        conn,
+        "SELECT c.source, c.addressee, c.number, c.received, l.line, l.film FROM consignment AS c LEFT JOIN consignment_line AS l ON l.source = c.source AND l.addressee = c.addressee AND l.number = c.number WHERE c.source = ?1 ORDER BY c.place, l.line",
+        &[branch.get().to_sql()],
+        &mut taker,
+    )?;
+    Ok(finish(taker)?)
+}
+
+/// All consignments of the chain that aren't received, by sender, addressee and number, as the text of a list. The database stays as it was, unless the store
+/// fails, which commits nothing.
+pub fn transit<S: Alter>(alloc: Global, conn: &mut Connection<S>) -> Result<String, StoreFault>
+    ensures text { HasCleanDisk (state S.Store conn.new) → IfOk result (λ s. (books : Books) → Holds (state S.Store conn.old) books → IsHeld books
+        → string_bytes s ≡ shown_text (TransitIs (under_way books))) }
+    ensures same { StaysSame S.Store conn.old conn.new result }
+{
+    let mut taker = empty(alloc, ListKind::Transit);
+    each_row(
+        conn,
+        "SELECT c.source, c.addressee, c.number, c.received, l.line, l.film FROM consignment AS c LEFT JOIN consignment_line AS l ON l.source = c.source AND l.addressee = c.addressee AND l.number = c.number WHERE c.received = 0 ORDER BY c.source, c.addressee, c.number, l.line",
+        &[],
+        &mut taker,
+    )?;
+    Ok(finish(taker)?)
+}

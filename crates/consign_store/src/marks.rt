@@ -1,0 +1,56 @@
+//! Where the copies of a mark are.
+
+ghost use Rattle.std.specs.Prelude.{filter, map};
+ghost use Rattle.std.specs.List.Sorted.{IsPermutation};
+ghost use Rattle.sqlite.specs.Held.{state};
+ghost use Rattle.sql_rows.specs.Calls.{StaysInside};
+ghost use Rattle.shop_model.specs.Sound.{is_mark};
+ghost use Rattle.shop_schema.specs.Calls.{Finds};
+ghost use Rattle.shop_types.specs.Seen.{seen_mark};
+ghost use Rattle.shop_store.specs.Seen.{seen_copy_row};
+ghost use Rattle.consign_store.specs.Parts.{all_placed};
+ghost use Rattle.consign_store.specs.Seen.{seen_line};
+
+use crate::lines::LineRow;
+use shop_store::CopyRow;
+use shop_types::Mark;
+use sql_rows::{StoreFault, query, read_all};
+use sqlite::types::ToSql;
+use sqlite::{Alter, Transaction};
+use std::alloc::Global;
+
+/// The copies of all branches that have the mark, in any order. After a fault the transaction may be rolled back.
+pub fn copies_marked<S: Alter>(
+    alloc: Global,
+    tx: &mut Transaction<'_, S>,
+    mark: &Mark,
+) -> Result<Vec<CopyRow>, StoreFault>
+    ensures inside { StaysInside S.Store tx.old.conn tx.new.conn result }
+    ensures rows { Finds (state S.Store tx.old.conn.now) (state S.Store tx.new.conn.now) result
+        (λ rows books. IsPermutation (filter (λ row. is_mark (seen_mark mark.now) row.it.mark) books.copies) (map (λ row. seen_copy_row row) rows.items)) }
+{
+    let rows = query(
+        tx,
+        "SELECT branch, number, film, state, origin_branch, origin_copy FROM copy WHERE origin_branch = ?1 AND origin_copy = ?2",
+        &[mark.branch.get().to_sql(), mark.copy.get().to_sql()],
+    )?;
+    read_all(alloc, rows.as_slice())
+}
+
+/// The lines of all consignments that have the mark, in any order. After a fault the transaction may be rolled back.
+pub fn lines_marked<S: Alter>(
+    alloc: Global,
+    tx: &mut Transaction<'_, S>,
+    mark: &Mark,
+) -> Result<Vec<LineRow>, StoreFault>
+    ensures inside { StaysInside S.Store tx.old.conn tx.new.conn result }
+    ensures rows { Finds (state S.Store tx.old.conn.now) (state S.Store tx.new.conn.now) result
+        (λ rows books. IsPermutation (filter (λ row. is_mark (seen_mark mark.now) row.it.mark) (all_placed books.consignments)) (map (λ row. seen_line row) rows.items)) }
+{
+    let rows = query(
+        tx,
+        "SELECT source, addressee, number, line, film, origin_branch, origin_copy, state FROM consignment_line WHERE origin_branch = ?1 AND origin_copy = ?2",
+        &[mark.branch.get().to_sql(), mark.copy.get().to_sql()],
+    )?;
+    read_all(alloc, rows.as_slice())
+}

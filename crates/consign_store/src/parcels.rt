@@ -1,0 +1,121 @@
+//! Whole consignments: what a dispatch adds, and what a receipt sets.
+
+ghost use Rattle.std.specs.Prelude.{◌≡◌, ◌≤◌, [], ◌∷◌, ◌++◌, filter, length, map};
+ghost use Rattle.sqlite.specs.Held.{state};
+ghost use Rattle.sql_rows.specs.Calls.{StaysInside, StaysWithin};
+ghost use Rattle.shop_model.specs.Rows.{mem, update_where};
+ghost use Rattle.shop_model.specs.Books.{is_consignment, checked};
+ghost use Rattle.shop_schema.specs.Calls.{Stores};
+ghost use Rattle.consign_store.specs.Parts.{IsOnce};
+ghost use Rattle.consign_store.specs.Parcels.{IsNewKey, HasSoMany, HasNoLine, sent_off, with_lines, sent_line, state_at, with_checked_to};
+ghost use Rattle.consign_store.specs.Seen.{seen_line_state};
+
+use crate::headers::{HeaderRow, put_header, set_received};
+use crate::keys::{ConsignmentKey, DispatchPlace};
+use crate::lines::{LineRow, LineState, put_line, set_line};
+use shop_types::{LineNo, ParcelLine, ParcelLines};
+use sql_rows::StoreFault;
+use sqlite::{Alter, Transaction};
+
+/// Adds the lines, under way, to a consignment that has none. After a fault the transaction may be rolled back.
+fn put_lines<S: Alter>(
+    tx: &mut Transaction<'_, S>,
+    key: &ConsignmentKey,
+    lines: &[ParcelLine],
+) -> Result<(), StoreFault>
+    requires few { length lines.now ≤ 100 }
+    ensures inside { StaysWithin S.Store tx.old.conn tx.new.conn result }
+    ensures put { Stores (state S.Store tx.old.conn.now) (state S.Store tx.new.conn.now) result (HasNoLine key.now.source key.now.addressee key.now.number)
+        (with_lines key.now.source key.now.addressee key.now.number (map sent_line lines.now)) }
+{
+    let mut number = 1u32;
+    for line in lines {
+        let row = LineRow {
+            key: *key,
+            line: LineNo::new(number).unwrap(),
+            film: line.film,
+            mark: line.mark,
+            state: LineState::UnderWay,
+        };
+        put_line(tx, &row)?;
+        number += 1;
+    }
+    Ok(())
+}
+
+/// Adds the consignment with its lines, which are under way. After a fault the transaction may be rolled back.
+pub fn put_consignment<S: Alter>(
+    tx: &mut Transaction<'_, S>,
+    key: &ConsignmentKey,
+    place: DispatchPlace,
+    lines: &ParcelLines,
+) -> Result<(), StoreFault>
+    ensures inside { StaysInside S.Store tx.old.conn tx.new.conn result }
+    ensures put { Stores (state S.Store tx.old.conn.now) (state S.Store tx.new.conn.now) result (IsNewKey key.now.source key.now.addressee key.now.number)
+        (λ books. record books { consignments = books.consignments ++ sent_off key.now.source key.now.addressee key.now.number place (map sent_line lines.now) ∷ [] }) }
+{
+    let header = HeaderRow {
+        key: *key,
+        place,
+        received: false,
+    };
+    put_header(tx, &header)?;
+    put_lines(tx, key, lines.as_slice())
+}
+
+/// Whether the line is among them.
+fn is_among(lines: &[LineNo], line: LineNo) -> bool
+    ensures { result ≡ mem line lines.now }
+{
+    for other in lines {
+        if other.get() == line.get() {
+            return true;
+        }
+    }
+    false
+}
+
+/// What becomes of the line at the receipt.
+fn state_after(missing: &[LineNo], line: LineNo) -> LineState
+    ensures { seen_line_state result ≡ state_at missing.now line }
+{
+    if is_among(missing, line) {
+        LineState::Missing
+    } else {
+        LineState::Arrived
+    }
+}
+
+/// Sets the first so many lines of the consignment: those that are missing, and the others, which arrived. After a fault the transaction may be rolled back.
+fn check_lines<S: Alter>(
+    tx: &mut Transaction<'_, S>,
+    key: &ConsignmentKey,
+    count: u32,
+    missing: &[LineNo],
+) -> Result<(), StoreFault>
+    ensures inside { StaysWithin S.Store tx.old.conn tx.new.conn result }
+    ensures set { Stores (state S.Store tx.old.conn.now) (state S.Store tx.new.conn.now) result (IsOnce key.now.source key.now.addressee key.now.number)
+        (with_checked_to key.now.source key.now.addressee key.now.number missing.now count) }
+{
+    for done in 0..count {
+        let line = LineNo::new(done + 1).unwrap();
+        set_line(tx, key, line, state_after(missing, line))?;
+    }
+    Ok(())
+}
+
+/// Sets that the consignment, which has so many lines, is received, and which of its lines are missing: the others arrived. After a fault the transaction may be
+/// rolled back.
+pub fn mark_received<S: Alter>(
+    tx: &mut Transaction<'_, S>,
+    key: &ConsignmentKey,
+    count: u32,
+    missing: &[LineNo],
+) -> Result<(), StoreFault>
+    ensures inside { StaysWithin S.Store tx.old.conn tx.new.conn result }
+    ensures set { Stores (state S.Store tx.old.conn.now) (state S.Store tx.new.conn.now) result (HasSoMany key.now.source key.now.addressee key.now.number count)
+        (λ books. record books { consignments = update_where (is_consignment key.now.source key.now.addressee key.now.number) (checked missing.now) books.consignments }) }
+{
+    check_lines(tx, key, count, missing)?;
+    set_received(tx, key)
+}

@@ -1,0 +1,70 @@
+//! Where a mark is.
+
+ghost use Rattle.std.specs.Prelude.{◌≡◌, filter, slice_get};
+ghost use Rattle.sqlite.specs.Held.{state};
+ghost use Rattle.sql_rows.specs.Calls.{StaysInside};
+ghost use Rattle.shop_model.specs.Machine.{Shows};
+ghost use Rattle.shop_model.specs.Office.{place_of};
+ghost use Rattle.shop_schema.specs.Calls.{Finds};
+ghost use Rattle.shop_types.specs.Seen.{seen_mark, seen_place};
+ghost use Rattle.consign_store.specs.Custody.{is_here, is_under_way, HasOnePlace};
+
+use crate::lines::{LineRow, LineState};
+use crate::marks::{copies_marked, lines_marked};
+use shop_store::{CopyRow, CopyState};
+use shop_types::{Mark, Place};
+use sql_rows::StoreFault;
+use sqlite::{Alter, Transaction};
+use std::alloc::Global;
+
+/// The first copy that is here.
+fn first_here(rows: &[CopyRow]) -> Option<CopyRow>
+    ensures { slice_get (filter is_here rows.now) 0 ≡ result }
+{
+    for row in rows {
+        if let CopyState::Here = row.state {
+            return Some(*row);
+        }
+    }
+    None
+}
+
+/// The first line that is under way.
+fn first_under_way(rows: &[LineRow]) -> Option<LineRow>
+    ensures { slice_get (filter is_under_way rows.now) 0 ≡ result }
+{
+    for row in rows {
+        if let LineState::UnderWay = row.state {
+            return Some(*row);
+        }
+    }
+    None
+}
+
+/// Where the mark is, of which there is at most one copy that is here, and one line that is under way. After a fault the transaction may be rolled back.
+pub fn place_of<S: Alter>(
+    alloc: Global,
+    tx: &mut Transaction<'_, S>,
+    mark: &Mark,
+) -> Result<Place, StoreFault>
+    ensures inside { StaysInside S.Store tx.old.conn tx.new.conn result }
+    ensures place { Finds (state S.Store tx.old.conn.now) (state S.Store tx.new.conn.now) result
+        (λ place books. HasOnePlace (seen_mark mark.now) books → Shows (seen_place place) ≡ place_of (seen_mark mark.now) books) }
+{
+    let copies = copies_marked(alloc, tx, mark)?;
+    if let Some(row) = first_here(copies.as_slice()) {
+        return Ok(Place::Here {
+            branch: row.branch,
+            copy: row.number,
+        });
+    }
+    let lines = lines_marked(alloc, tx, mark)?;
+    match first_under_way(lines.as_slice()) {
+        Some(line) => Ok(Place::Transit {
+            from: line.key.source,
+            to: line.key.addressee,
+            number: line.key.number,
+        }),
+        None => Ok(Place::Gone),
+    }
+}

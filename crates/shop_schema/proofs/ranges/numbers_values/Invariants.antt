@@ -1,0 +1,6 @@
+use Rattle.std.proofs.Common.{take}
+use Rattle.shop_schema.specs.RowValues.{AreNumbers}
+use Rattle.shop_schema.proofs.ranges.numbers_values.Given as goal
+
+abbrev pub invariant-loop-number : goal.invariant-loop-number
+invariant-loop-number g l = AreNumbers (take l.number-index l.numbers)
