@@ -16,6 +16,7 @@ pub mod OfficeResent
 pub mod Histories
 pub mod Repeats
 pub mod Resends
+pub mod Stops
 pub mod Callers
 pub mod RowScripts
 pub mod RowsOfFirstCustomers

@@ -137,7 +137,7 @@ grows_by rules b HeadOffice (Look ask) books = grows_not b books
 grows_by rules b HeadOffice (OfficeLook ask) books = grows_not b books
 grows_by rules b Nobody request books = grows_not b books
 
-never_again : (cs : List (Refusal × Bool)) (text : Text) → first cs ≡ Again text → ⊥
+pub never_again : (cs : List (Refusal × Bool)) (text : Text) → first cs ≡ Again text → ⊥
 never_again [] text e = cc
 never_again (c ∷ cs) text e = elim (cases_Bool c.1) [
   | inl is ↦ let no : Refused c.0 ≡ Again text = rw is at e in cc
@@ -204,7 +204,7 @@ done_caller rules c command books token (Again text) = refl
 done_caller rules c command books token (Refused refusal) = refl
 done_caller rules c command books token Accepted = ap (caller_of token) (catalogue_stays rules c command command.act books)
 
-caller_after : (rules : Rules) (caller : Caller) (request : Request) (token : Option Text) (c : Caller) (books : Books) → is_nobody c ≡ false → caller_of token books.catalogue ≡ c
+pub caller_after : (rules : Rules) (caller : Caller) (request : Request) (token : Option Text) (c : Caller) (books : Books) → is_nobody c ≡ false → caller_of token books.catalogue ≡ c
     → caller_of token (after_for rules caller request books).catalogue ≡ c
 caller_after rules (Counter b) (Do command) token c books known e = done_caller rules b command books token (verdict rules b books.catalogue (shop_of b books) command) ∙ e
 caller_after rules (Counter b) (Unread refusal) token c books known e = e
@@ -282,13 +282,13 @@ finds_counted rules (e ∷ events) (a ∷ answers) books good (suc n) = elim (ca
 
 -- ---- commands, each of its caller
 
-by_command : (P : Caller → Request → Type 0) → ((b : ℕ) (command : Command) → P (Counter b) (Do command)) → ((command : OfficeCommand) → P HeadOffice (Office command))
+pub by_command : (P : Caller → Request → Type 0) → ((b : ℕ) (command : Command) → P (Counter b) (Do command)) → ((command : OfficeCommand) → P HeadOffice (Office command))
     → (caller : Caller) (request : Request) → is_command caller request ≡ true → P caller request
 by_command P mine theirs (Counter b) (Do command) is = mine b command
 by_command P mine theirs HeadOffice (Office command) is = theirs command
 by_command P mine theirs caller request is = absurd (false≢true is)
 
-abbrev verdict_of : Rules → Caller → Request → Books → Verdict
+abbrev pub verdict_of : Rules → Caller → Request → Books → Verdict
 verdict_of rules (Counter b) (Do command) books = verdict rules b books.catalogue (shop_of b books) command
 verdict_of rules HeadOffice (Office command) books = office_verdict rules books.catalogue command
 verdict_of rules caller request books = Refused NoRoute
@@ -305,14 +305,14 @@ office_stays rules command text caller request books e =
     ap (λ ks. office_resent command ks w) is ∙ office_begins command (filter mine books.catalogue.kept) (filter mine grows.0) (first tests) w text (never_again tests text) e
 
 -- a command that its caller gave before is one whatever comes next
-stays : (rules : Rules) (text : Text) (who : Caller) (what : Request) (books : Books) (caller : Caller) (request : Request) → is_command caller request ≡ true
+pub stays : (rules : Rules) (text : Text) (who : Caller) (what : Request) (books : Books) (caller : Caller) (request : Request) → is_command caller request ≡ true
     → verdict_of rules caller request books ≡ Again text → verdict_of rules caller request (after_for rules who what books) ≡ Again text
 stays rules text who what books = by_command (λ caller request. verdict_of rules caller request books ≡ Again text → verdict_of rules caller request (after_for rules who what books) ≡ Again text)
     (λ b command e. stays_again rules b command text books (after_for rules who what books) (grows_by rules b who what books) e)
     (λ command e. office_stays rules command text who what books e)
 
 -- it gets its kept reply, and leaves the books
-again_told : (rules : Rules) (look : OfficeAsk → Books → Reply) (text : Text) (books : Books) (caller : Caller) (request : Request) → is_command caller request ≡ true
+pub again_told : (rules : Rules) (look : OfficeAsk → Books → Reply) (text : Text) (books : Books) (caller : Caller) (request : Request) → is_command caller request ≡ true
     → verdict_of rules caller request books ≡ Again text → (reply_for rules look caller request books ≡ Done text) × (after_for rules caller request books ≡ books)
 again_told rules look text books = by_command (λ caller request. verdict_of rules caller request books ≡ Again text → (reply_for rules look caller request books ≡ Done text) × (after_for rules caller request books ≡ books))
     (λ b command e. (ap (λ v. reply_by v (reply_text rules command (shop_of b books))) e, ap (λ v. if_accepted v (book_done rules b command books) books) e))
@@ -327,7 +327,7 @@ kept_again rules text books = by_command (λ caller request. Keeps caller reques
 -- ---- a run, step by step
 
 -- a decision is the step's reply, and the rest goes on behind it; without one the rest goes on from the same books, or nothing more is decided
-abbrev Steps : Rules → (OfficeAsk → Books → Reply) → List Event → List Answer → Books → Type 0
+abbrev pub Steps : Rules → (OfficeAsk → Books → Reply) → List Event → List Answer → Books → Type 0
 Steps rules look [] answers books = ⊤
 Steps rules look (event ∷ events) [] books = ⊤
 Steps rules look (event ∷ events) (answer ∷ answers) books =
@@ -344,7 +344,7 @@ same_head x y xs ys e = cc
 same_tail : {A : Type 0} (x y : A) (xs ys : List A) → x ∷ xs ≡ y ∷ ys → xs ≡ ys
 same_tail x y xs ys e = cc
 
-steps_of : (rules : Rules) (look : OfficeAsk → Books → Reply) (events : List Event) (answers : List Answer) (books : Books) → length answers ≡ length events
+pub steps_of : (rules : Rules) (look : OfficeAsk → Books → Reply) (events : List Event) (answers : List Answer) (books : Books) → length answers ≡ length events
     → fails_for_good answers ≡ true → filter is_decided answers ≡ answers_in rules look (counted_in events answers) books → Steps rules look events answers books
 steps_of rules look [] answers books each good is = tt
 steps_of rules look (event ∷ events) [] books each good is = tt
@@ -397,7 +397,7 @@ sorry_status NoSharedRow e = omega (arith, e)
 sorry_status Already e = omega (arith, e)
 sorry_status Usage e = omega (arith, e)
 
-good_decided : (answer : Answer) → answer.status ≡ 200 → is_decided answer ≡ true
+pub good_decided : (answer : Answer) → answer.status ≡ 200 → is_decided answer ≡ true
 good_decided answer is = rw is refl
 
 all_at : (p : Answer → Bool) (answers : List Answer) (i : ℕ) (x : Answer) → list_all p answers ≡ true → slice_get answers i ≡ Some x → p x ≡ true
@@ -416,14 +416,14 @@ all_at p (a ∷ answers) (suc i) x all e = all_at p answers i x (and_right (p a)
     and_right true b e = e
     and_right false b e = absurd (false≢true e)
 
-same_some : {A : Type 0} (a x : A) → ◌≡◌ {A = Option A} (Some a) (Some x) → a ≡ x
+pub same_some : {A : Type 0} (a x : A) → ◌≡◌ {A = Option A} (Some a) (Some x) → a ≡ x
 same_some a x e = cc
 
-same_none : {A : Type 0} (x : A) → ◌≡◌ {A = Option A} None (Some x) → ⊥
+pub same_none : {A : Type 0} (x : A) → ◌≡◌ {A = Option A} None (Some x) → ⊥
 same_none x e = cc
 
 -- where the store can do its part, the rest goes on behind the event
-steps_next : (rules : Rules) (look : OfficeAsk → Books → Reply) (e : Event) (events : List Event) (a : Answer) (answers : List Answer) (books : Books) → Steps rules look (e ∷ events) (a ∷ answers) books
+pub steps_next : (rules : Rules) (look : OfficeAsk → Books → Reply) (e : Event) (events : List Event) (a : Answer) (answers : List Answer) (books : Books) → Steps rules look (e ∷ events) (a ∷ answers) books
     → is_store_failure a ≡ false → Steps rules look events answers (books_next rules e a books)
 steps_next rules look e events a answers books steps sound = elim (cases_Bool (is_decided a)) [
   | inl fine ↦ rw fine (steps.0 fine).1
@@ -431,7 +431,7 @@ steps_next rules look e events a answers books steps sound = elim (cases_Bool (i
 ]
 
 -- it can where a later event is decided
-sound_before : (rules : Rules) (look : OfficeAsk → Books → Reply) (e : Event) (events : List Event) (a : Answer) (answers : List Answer) (books : Books) → Steps rules look (e ∷ events) (a ∷ answers) books
+pub sound_before : (rules : Rules) (look : OfficeAsk → Books → Reply) (e : Event) (events : List Event) (a : Answer) (answers : List Answer) (books : Books) → Steps rules look (e ∷ events) (a ∷ answers) books
     → (j : ℕ) (x : Answer) → slice_get answers j ≡ Some x → is_decided x ≡ true → is_store_failure a ≡ false
 sound_before rules look e events a answers books steps j x there decided = elim (cases_Bool (is_store_failure a)) [
   | inr sound ↦ sound
@@ -456,7 +456,7 @@ got_office rules command x books (Refused refusal) is reply good = absurd (sorry
 got_office rules command x books (Again text) is reply good = (text, reply, sym is)
 got_office rules command x books Accepted is reply good = (office_text command books.catalogue, reply, office_resent_again rules command books [] (sym is))
 
-got : (rules : Rules) (look : OfficeAsk → Books → Reply) (x : Answer) (books : Books) (caller : Caller) (request : Request) → is_command caller request ≡ true
+pub got : (rules : Rules) (look : OfficeAsk → Books → Reply) (x : Answer) (books : Books) (caller : Caller) (request : Request) → is_command caller request ≡ true
     → x ≡ answer_of (reply_for rules look caller request books) → x.status ≡ 200
     → (text : Text) × (x ≡ answer_of (Done text)) × (verdict_of rules caller request (after_for rules caller request books) ≡ Again text)
 got rules look x books = by_command (λ caller request. x ≡ answer_of (reply_for rules look caller request books) → x.status ≡ 200
@@ -570,7 +570,7 @@ turned a b isnt = elim (cases_Bool (bytes_eq b a)) [
   | inl is ↦ let same : bytes_eq a b ≡ true = (bytes_eq-Decides a b).1 (sym ((bytes_eq-Decides b a).0 is)) in absurd (false≢true (sym isnt ∙ same))
 ]
 
-none_under : {A : Type 0} (key : A → Text) (x : A) (xs : List A) → list_any (λ y. bytes_eq (key x) (key y)) xs ≡ false → filter (λ y. bytes_eq (key y) (key x)) xs ≡ []
+pub none_under : {A : Type 0} (key : A → Text) (x : A) (xs : List A) → list_any (λ y. bytes_eq (key x) (key y)) xs ≡ false → filter (λ y. bytes_eq (key y) (key x)) xs ≡ []
 none_under key x [] none = refl
 none_under key x (y ∷ ys) none = let h = or_parts (bytes_eq (key x) (key y)) (list_any (λ y. bytes_eq (key x) (key y)) ys) none in rw (turned (key x) (key y) h.0) (none_under key x ys h.1)
 

@@ -19,3 +19,4 @@ pub mod Histories
 pub mod Repeats
 pub mod Resends
 pub mod Laws
+pub mod Stops

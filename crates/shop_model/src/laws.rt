@@ -1,6 +1,7 @@
 //! Laws, each on a function with nothing to do.
 
 ghost use Rattle.shop_model.specs.Resends.{KeptRowsAreKept, RunsResend};
+ghost use Rattle.shop_model.specs.Stops.{EachActsOnce, LivesAreOneHistory, LivesFollow, ResentFirst};
 ghost use Rattle.shop_model.specs.Laws.{
   BranchesAreAlone,
   BranchesAreIsolated,
@@ -105,4 +106,28 @@ pub fn runs_resend()
 #[tactic(auto, using(crate::proofs::Resends::kept_rows_kept))]
 pub fn kept_rows_are_kept()
     ensures { KeptRowsAreKept }
+{}
+
+/// However often a chain is stopped and opened again, what it answers is one history, that of the requests that acted.
+#[tactic(auto, using(crate::proofs::Stops::one_history))]
+pub fn lives_are_one_history()
+    ensures { LivesAreOneHistory }
+{}
+
+/// A request that comes again at once is answered alike, and acts once.
+#[tactic(auto, using(crate::proofs::Stops::acts_once))]
+pub fn each_acts_once()
+    ensures { EachActsOnce }
+{}
+
+/// A request in flight at a stop that is sent again first is answered as though it had not come before, and acts once.
+#[tactic(auto, using(crate::proofs::Stops::resent_first))]
+pub fn a_resent_request_acts_once()
+    ensures { ResentFirst }
+{}
+
+/// Lives of a chain that go on from the books that others left are one list of lives with them.
+#[tactic(auto, using(crate::proofs::Stops::lives_follow))]
+pub fn lives_that_follow()
+    ensures { LivesFollow }
 {}
