@@ -26,3 +26,4 @@ pub mod RowsOfHeadOffice
 pub mod RowsOfViews
 pub mod RowsOfConsignments
 pub mod RowsOfHistories
+pub mod Refusing

@@ -1,7 +1,10 @@
 -- The laws of a chain.
-use Rattle.std.specs.Prelude.{◌≡◌, ℕ, ◌≤◌, List, length, filter, true, Option}
+use Rattle.std.specs.Prelude.{◌≡◌, ℕ, ◌≤◌, ◌++◌, Bool, List, [], ◌∷◌, length, filter, true, false, Option, nat_le, nat_lt, ◌&&◌}
+use Rattle.std.specs.List.{AllByRecursion}
 use Rattle.shop_model.specs.Values.{Text, OfficeAsk, OfficeCommand, Rules, Command}
-use Rattle.shop_model.specs.Verdict.{verdict, office_verdict, Again, Accepted}
+use Rattle.shop_model.specs.Refusals.{Refusal, Full, KeyUsed, refusal_number}
+use Rattle.shop_model.specs.Shop.{Shop}
+use Rattle.shop_model.specs.Verdict.{Verdict, verdict, office_verdict, Again, Refused, Accepted, first, refusals, office_refusals}
 use Rattle.shop_model.specs.Machine.{reply_text, office_text, office_done, Reply, replies, state_after}
 use Rattle.shop_model.specs.Books.{book_done, Books, Mark, Event, shop_of, run, last_books, replies_to, view, state_of, caller_of, known_caller}
 use Rattle.shop_model.specs.Sound.{is_mark, HasNumbers, HasOrigins, HasOneHolder, IsInCustody, IsSound, opening, made, places}
@@ -89,3 +92,28 @@ pub record IsWithoutRepeats (rules : Rules) (look : OfficeAsk → Books → Repl
 
 abbrev pub RepeatsChangeNothing : Type 0
 RepeatsChangeNothing = (rules : Rules) (look : OfficeAsk → Books → Reply) (events : List Event) (books : Books) → IsWithoutRepeats rules look events books
+
+-- ---- the order of refusals
+
+-- the numbers rise strictly, from above n
+abbrev pub rise_from : ℕ → List (Refusal × Bool) → Bool
+rise_from n [] = true
+rise_from n (test ∷ tests) = nat_lt n (refusal_number test.0) && rise_from (refusal_number test.0) tests
+
+-- a refusal that is told is one of those that hold, and none of these has a lower number; where none is told, none holds
+abbrev pub IsLowest : List (Refusal × Bool) → Verdict → Type 0
+IsLowest tests (Again reply) = ⊥
+IsLowest tests (Refused refusal) =
+    ((front back : List (Refusal × Bool)) × (tests ≡ front ++ (refusal, true) ∷ back))
+    × AllByRecursion (λ test. test.1 ≡ true → refusal_number refusal ≤ refusal_number test.0) tests
+IsLowest tests Accepted = AllByRecursion (λ test. test.1 ≡ false) tests
+
+-- what the tests of a command tell, each behind that of its key, which is looked for before them
+pub record AreInOrder (tests : List (Refusal × Bool)) : Type 0 where
+  pub rise : rise_from (refusal_number KeyUsed) tests ≡ true
+  pub lowest : IsLowest tests (first tests)
+
+pub record RefusalsAreInOrder : Type 0 where
+  pub branch : (rules : Rules) (b : ℕ) (catalogue : Catalogue) (shop : Shop) (command : Command) → AreInOrder (refusals rules b catalogue shop command)
+  pub office : (rules : Rules) (catalogue : Catalogue) (command : OfficeCommand) →
+      AreInOrder ((Full, nat_le rules.commands (length catalogue.kept)) ∷ office_refusals catalogue command.act)

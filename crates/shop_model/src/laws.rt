@@ -10,6 +10,7 @@ ghost use Rattle.shop_model.specs.Laws.{
   OfficeResentIsAgain,
   OpeningBooksAreSound,
   OpeningIsSound,
+  RefusalsAreInOrder,
   RepeatsChangeNothing,
   ResentIsAgain,
   SoundBooksAreInCustody,
@@ -130,4 +131,10 @@ pub fn a_resent_request_acts_once()
 #[tactic(auto, using(crate::proofs::Stops::lives_follow))]
 pub fn lives_that_follow()
     ensures { LivesFollow }
+{}
+
+/// A command is refused for the lowest of the refusals that hold, by their numbers.
+#[tactic(auto, using(crate::proofs::Refusing::in_order))]
+pub fn refusals_are_in_order()
+    ensures { RefusalsAreInOrder }
 {}
