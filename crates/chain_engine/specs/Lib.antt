@@ -7,3 +7,6 @@ pub use Rattle.chain_store.specs.Faults
 pub use Rattle.chain_store.specs.Files
 pub use Rattle.chain_store.specs.Openings
 pub use Rattle.chain_store.specs.Reports
+pub use Rattle.chain_store.specs.Audits
+pub mod Leaving
+pub mod Laws

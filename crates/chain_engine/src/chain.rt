@@ -1,6 +1,8 @@
 //! The chain of shops over a store.
 
 ghost use Rattle.std.specs.Prelude.{◌≡◌, ◌≢◌, ◌≤◌, ◌||◌, true, false, Err, IfOk, IfErr, OnErr, map};
+ghost use Rattle.sqlite.specs.Held.{state};
+ghost use Rattle.sqlite.specs.State.{HasCleanDisk};
 ghost use Rattle.sqlite.specs.Steps.{over_memory};
 ghost use Rattle.shop_model.specs.Opening.{opening_books};
 ghost use Rattle.shop_schema.specs.Shop.{first_books};
@@ -8,17 +10,21 @@ ghost use Rattle.shop_model.specs.Machine.{OfficeLook};
 ghost use Rattle.shop_model.specs.Books.{HeadOffice};
 ghost use Rattle.shop_types.specs.Seen.{seen_caller, seen_office_ask, seen_request};
 ghost use Rattle.shop_types.specs.Replies.{seen_reply};
+ghost use Rattle.sqlite.specs.Held.{state};
 ghost use Rattle.chain_store.specs.Chains.{IsAt, Takes, Answers, AnswersEvent, Runs, event_of};
+ghost use Rattle.chain_engine.specs.Leaving.{LeavesNoMore};
 ghost use Rattle.chain_store.specs.Steps.{asker, asked_of};
-ghost use Rattle.chain_store.specs.Decisions.{FindsCaller, IsOfStore, refusal_for, is_final};
+ghost use Rattle.chain_store.specs.Audits.{AuditsState};
+ghost use Rattle.chain_store.specs.Decisions.{FindsAudit, FindsCaller, IsOfStore, refusal_for, is_final};
+ghost use Rattle.chain_engine.specs.Leaving.{LeavesNoMore};
 ghost use Rattle.shop_model.specs.Answers.{problem_answer};
 ghost use Rattle.shop_model.specs.Refusals.{StoreFailed};
 
-use chain_steps::{caller_unless_failed, step};
+use chain_steps::{audit_unless_failed, caller_unless_failed, step};
 use chain_store::{
     Asked, FirstRows, OpenFault, asked_values, first_values, in_memory, read_office,
 };
-use shop_types::{Caller, Limits, NoMemory, OfficeAsk, Refusal, Reply, Request, Token};
+use shop_types::{Audit, Caller, Limits, NoMemory, OfficeAsk, Refusal, Reply, Request, Token};
 use sql_rows::StoreFault;
 use sqlite::{Alter, Connection, MemStore};
 use std::alloc::Global;
@@ -98,14 +104,31 @@ impl<S: Alter> Chain<S> {
         self.is_failed
     }
 
-    /// The caller whose token it is, or the refusal that the store gives instead: `Memory`, `Size` or `StoreFailed`.
+    /// The caller whose token it is, or the refusal that the store gives instead: `Memory`, `Size` or `StoreFailed`. What a crash may find stays as it was,
+    /// whatever the tables are.
     pub fn caller(&mut self, token: &Token) -> Result<Caller, Refusal>
         ensures taken { Takes S.Store self.old self.new (FindsCaller token.now result) }
         ensures refused { IfErr result IsOfStore }
+        ensures left { LeavesNoMore (state S.Store self.old.conn) (state S.Store self.new.conn) }
         ensures failed { self.old.is_failed ≡ true → (self.new ≡ self.old) × (result ≡ Err Refusal.StoreFailed) }
     {
         match caller_unless_failed(self.is_failed, &mut self.conn, token) {
             Ok(caller) => Ok(caller),
+            Err(fault) => Err(self.refusal(fault)),
+        }
+    }
+
+    /// What an audit says of the tables, whatever they hold, or the refusal that the store gives instead: `Memory`, `Size` or `StoreFailed`. What a crash may
+    /// find stays as it was. It reads all tables: its time is that of sorting their rows, and its memory that of keeping them.
+    pub fn audit(&mut self) -> Result<Audit, Refusal>
+        ensures told { HasCleanDisk (state S.Store self.new.conn) → IfOk result (AuditsState (state S.Store self.old.conn)) }
+        ensures taken { Takes S.Store self.old self.new (FindsAudit result) }
+        ensures refused { IfErr result IsOfStore }
+        ensures left { LeavesNoMore (state S.Store self.old.conn) (state S.Store self.new.conn) }
+        ensures failed { self.old.is_failed ≡ true → (self.new ≡ self.old) × (result ≡ Err Refusal.StoreFailed) }
+    {
+        match audit_unless_failed(self.alloc, self.is_failed, &mut self.conn) {
+            Ok(audit) => Ok(audit),
             Err(fault) => Err(self.refusal(fault)),
         }
     }

@@ -4,7 +4,9 @@
 mod chain;
 mod creating;
 mod files;
+mod laws;
 mod paths;
 
 pub use chain::Chain;
 pub use chain_store::OpenFault;
+pub use laws::runs_follow;

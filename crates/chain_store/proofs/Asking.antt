@@ -7,7 +7,7 @@ use Rattle.shop_model.specs.Verdict.{Verdict, Again, Refused, Accepted, office_v
 use Rattle.shop_model.specs.Machine.{Office, OfficeLook, office_text, office_done, if_accepted}
 use Rattle.shop_model.specs.Answers.{Answer}
 use Rattle.shop_model.specs.Books.{Books, HeadOffice}
-use Rattle.shop_model.specs.Sound.{HasCustody}
+use Rattle.shop_model.specs.Sound.{IsSound}
 use Rattle.shop_types.specs.declared.request.OfficeAsk.{OfficeAsk}
 use Rattle.shop_types.specs.Seen.{seen_office_ask}
 use Rattle.shop_schema.specs.Held.{IsHeld}
@@ -16,7 +16,7 @@ use Rattle.sql_rows.specs.declared.fault.StoreFault.TheVariants.{Failed}
 use Rattle.branch_work.specs.Rules.{rules_of}
 use Rattle.branch_work.specs.Works.{GoesBy}
 use Rattle.chain_store.specs.OfficeReads.{TellsOffice}
-use Rattle.chain_store.specs.Chains.{Rests}
+use Rattle.chain_store.specs.Chains.{Rests, widest_rules}
 use Rattle.chain_store.specs.Steps.{told_to, left_by, IsUndone, LeavesEitherOf}
 
 -- head office's command goes by the verdict
@@ -29,11 +29,11 @@ office_goes limits command books = record { told = refl; left = by (office_verdi
     by (Refused refusal) = refl
     by Accepted = refl
 
--- a reading of head office, of books in which nothing is twice
+-- a reading of head office, of sound books
 pub office_read : (limits : Limits) (ask : OfficeAsk) (answer : Answer) (old new : State) → TellsOffice ask answer old → IsUndone old new
-    → (books : Books) → Rests old books → IsHeld books → HasCustody books
+    → (books : Books) → Rests old books → IsHeld books → IsSound widest_rules books
     → (answer ≡ told_to limits HeadOffice (OfficeLook (seen_office_ask ask)) books) × Rests new (left_by limits HeadOffice (OfficeLook (seen_office_ask ask)) books)
-office_read limits ask answer old new told same books rests held custody = (told books rests held custody, same books rests held)
+office_read limits ask answer old new told same books rests held sound = (told books rests held sound, same books rests held)
 
 pub office_unread : (limits : Limits) (ask : OfficeAsk) (fault : StoreFault) (old new : State) → IsUndone old new
     → (fault ≢ Failed → IsUndone old new) × LeavesEitherOf limits HeadOffice (OfficeLook (seen_office_ask ask)) old new

@@ -1,8 +1,8 @@
 -- The rows of consignments stay such as the program can hold, where one is sent off and where one is received; and what is replied of them is a text.
 use Rattle.std.proofs.Common.{◌≡◌, ◌≤◌, ◌<◌, ◌+◌, ◌*◌, ◌^◌, ◌==◌, ◌&&◌, ℕ, zero, suc, List, [], ◌∷◌, ◌++◌, map, filter, not, cond, length, Bool, true, false, inl, inr, refl, sym, ap, subst, ◌∙◌, arith, codes, decimal, IsUtf8, IsAscii, length-append}
-use Rattle.std.specs.Prelude.{nat_lt, if◌then◌else◌}
-use Rattle.std.specs.List.{AllByRecursion, flat_map}
-use Rattle.std.proofs.lemmas.Bool.{cases_Bool, ltb-true}
+use Rattle.std.specs.Prelude.{nat_le, nat_lt, if◌then◌else◌}
+use Rattle.std.specs.List.{AllByRecursion, flat_map, list_all}
+use Rattle.std.proofs.lemmas.Bool.{and_parts, cases_Bool, leb-true, ltb-true}
 use Rattle.std.proofs.lemmas.Bool.Decides.{nat_tests}
 use Rattle.std.proofs.lemmas.Fmt.{IsAscii-decimal}
 use Rattle.std.proofs.lemmas.Str.{IsUtf8-from_ascii, IsAscii-append}
@@ -17,13 +17,14 @@ use Rattle.shop_model.specs.Verdict.{arrival}
 use Rattle.shop_model.specs.Shop.{Shop}
 use Rattle.shop_model.specs.Machine.{here, incoming, numbers_from, parcels_to, told, reply_text}
 use Rattle.shop_model.specs.Books.{Books, BookCopy, Line, Consignment, as_parcel, between, book_acted, book_done, checked, checked_line, come, is_consignment, new_consignment, put_state, rows_at, shop_of, under_way, unmarked, unpacked}
+use Rattle.shop_model.specs.Links.{is_parcel}
 use Rattle.shop_model.specs.Sound.{IsSound, one}
-use Rattle.shop_model.proofs.RowLemmas.{differ_if, differ_test, length_map, put_all_own, put_own, same_if}
+use Rattle.shop_model.proofs.RowLemmas.{differ_if, differ_test, length_map, put_all_own, put_own, same_if, same_test}
 use Rattle.shop_model.proofs.ShopLemmas.{acted_own}
 use Rattle.shop_schema.specs.Held.{IsHeld}
 use Rattle.shop_schema.specs.RowValues.{IsNumber, IsRow, IsCopy, IsLine, IsConsignment, IsKept, IsLast, IsAct, IsCommand, AreValues}
-use Rattle.shop_schema.specs.Steps.{FitsTables, IsBuilt}
-use Rattle.shop_schema.proofs.Values.{ascii_bytes, number_fits, small, values_done}
+use Rattle.shop_schema.specs.Steps.{FitsTables}
+use Rattle.shop_schema.proofs.Values.{IfConsigns, ascii_bytes, number_fits, small, values_done}
 use Rattle.chain_store.specs.Chains.{widest_rules}
 
 -- ---- rows that are changed
@@ -80,6 +81,13 @@ come_lines missing p (c ∷ cs) all = by (p c) (come_lines missing p cs all.1)
 checked_lines : (missing : List ℕ) (k : ℕ) (ls : List Line) → AllByRecursion IsLine ls → AllByRecursion IsLine (map (checked_line missing) (numbered_from k ls))
 checked_lines missing k [] all = tt
 checked_lines missing k (l ∷ ls) all = (all.0, checked_lines missing (k + 1) ls all.1)
+
+so_many : {A : Type 0} (k : ℕ) (xs : List A) → length (numbered_from k xs) ≡ length xs
+so_many k [] = refl
+so_many k (x ∷ xs) = ap suc (so_many (k + 1) xs)
+
+few_checked : (missing : List ℕ) (k : ℕ) (ls : List Line) → length ls < 2 ^ 32 → length (map (checked_line missing) (numbered_from k ls)) < 2 ^ 32
+few_checked missing k ls few = let same = length_map (checked_line missing) (numbered_from k ls) in let numbered = so_many k ls in omega (arith, few, same, numbered)
 
 unpacked_rows : (b : ℕ) (ls : List Line) (rows : List (Row BookCopy)) → IsNumber b → AllByRecursion IsLine ls → length (of b rows) + length ls ≤ 1_001_000
     → AllByRecursion (IsRow IsCopy) rows → AllByRecursion (IsRow IsCopy) (put_all b (map unpacked ls) rows)
@@ -162,6 +170,26 @@ both_few p q (x ∷ xs) = by (p x) (q x) (both_few p q xs)
     by true false more = omega (arith, more)
     by false b more = more
 
+-- where each parcel of a branch is one, the last consignment has few lines
+last_few : (b : ℕ) (cs : List Consignment) (c : Consignment) → (c.source == b) ≡ true
+    → list_all is_parcel (map as_parcel (filter (λ (it : Consignment). it.source == b) (cs ++ c ∷ []))) ≡ true → length c.lines ≤ 100
+last_few b [] c own all =
+    let sent : list_all is_parcel (map as_parcel (cond (c.source == b) (c ∷ []) [])) ≡ true = all in
+    let parcel = and_parts _ true (subst (λ (hit : Bool). list_all is_parcel (map as_parcel (cond hit (c ∷ []) [])) ≡ true) own sent) in
+    let films = and_parts (nat_lt 0 (length (as_parcel c).films)) (nat_le (length (as_parcel c).films) 100) parcel.0 in
+    let same = length_map (λ (line : Line). line.film) c.lines in
+    let few = leb-true (length (as_parcel c).films) 100 films.1 in
+    omega (arith, few, same)
+last_few b (d ∷ cs) c own all = by (d.source == b) (last_few b cs c own) all
+  where
+    rest : List Consignment
+    rest = filter (λ (it : Consignment). it.source == b) (cs ++ c ∷ [])
+
+    by : (hit : Bool) → (list_all is_parcel (map as_parcel rest) ≡ true → length c.lines ≤ 100) → list_all is_parcel (map as_parcel (cond hit (d ∷ rest) rest)) ≡ true
+        → length c.lines ≤ 100
+    by true more parcels = more (and_parts (is_parcel (as_parcel d)) (list_all is_parcel (map as_parcel rest)) parcels).1
+    by false more parcels = more parcels
+
 module _ (books : Books) (sound : IsSound widest_rules books) where
   sent_few : (b : ℕ) → length (filter (λ (it : Consignment). it.source == b) books.consignments) ≤ 1_000_000
   sent_few b =
@@ -212,8 +240,8 @@ new_numbers k (x ∷ xs) few = (omega (arith, few), new_numbers (k + 1) xs (omeg
 -- ---- a dispatch and a receipt
 
 module _ (rules : Rules) (b : ℕ) (command : Command) (books : Books) (branch : IsNumber b) (held : IsHeld books) (sound : IsSound widest_rules books) where
-  dispatch_values : (to : ℕ) (xs : List ℕ) → IsNumber to → AreValues (book_acted rules b command (model.Dispatch to xs) books)
-  dispatch_values to xs addressee =
+  dispatch_values : (to : ℕ) (xs : List ℕ) → IsNumber to → length (new_consignment b to xs books).lines ≤ 100 → AreValues (book_acted rules b command (model.Dispatch to xs) books)
+  dispatch_values to xs addressee lines =
       let v = held.values in
       let own = both_few (λ (it : Consignment). it.source == b) (λ (it : Consignment). it.addressee == to) books.consignments in
       let few = sent_few books sound b in
@@ -223,6 +251,7 @@ module _ (rules : Rules) (b : ℕ) (command : Command) (books : Books) (branch :
         addressee = addressee;
         number = number_fits (length (between b to books.consignments) + 1) (omega arith) (omega (arith, own, few));
         place = (omega arith, omega (arith, all));
+        few = omega (arith, lines);
         lines = sent_lines b xs books.copies v.copies;
       } in
       record {
@@ -264,7 +293,7 @@ module _ (rules : Rules) (b : ℕ) (command : Command) (books : Books) (branch :
           payments = v.payments;
           lots = v.lots;
           consignments = updated IsConsignment (is_consignment source b number) (checked missing)
-              (λ it such. record { source = such.source; addressee = such.addressee; number = such.number; place = such.place; lines = checked_lines missing 1 it.lines such.lines }) books.consignments v.consignments;
+              (λ it such. record { source = such.source; addressee = such.addressee; number = such.number; place = such.place; few = few_checked missing 1 it.lines such.few; lines = checked_lines missing 1 it.lines such.lines }) books.consignments v.consignments;
           kept = v.kept;
           lasts = v.lasts;
         }
@@ -284,38 +313,22 @@ module _ (rules : Rules) (b : ℕ) (command : Command) (books : Books) (branch :
 -- what an accepted command makes of books that are sound
 module _ (rules : Rules) (b : ℕ) (command : Command) (books : Books) (branch : IsNumber b) (is : IsCommand command) (held : IsHeld books) (sound : IsSound widest_rules books)
     (after : IsSound widest_rules (book_done rules b command books)) (fits : FitsTables rules command.act) where
-  with_reply : AreValues (book_acted rules b command command.act books) → IsUtf8 (object (told rules command.act (shop_of b books))) → AreValues (book_done rules b command books)
-  with_reply v reply = record {
-    catalogue = v.catalogue;
-    customers = v.customers;
-    copies = v.copies;
-    rentals = v.rentals;
-    payments = v.payments;
-    lots = v.lots;
-    consignments = v.consignments;
-    kept = All-push IsKept books.kept (record { owner = b; it = record { command = command; reply = reply_text rules command (shop_of b books) } }) held.values.kept (branch, is, reply);
-    lasts = (is.moment, all-filter IsLast (λ row. not (row.owner == b)) books.lasts held.values.lasts);
-  }
+  few_come : (source number : ℕ) (missing : List ℕ) → command.act ≡ model.Receive source number missing
+      → length (shop_of b (book_acted rules b command (model.Receive source number missing) books)).copies ≤ 1_000_000
+  few_come source number missing same = subst (λ (a : Act). length (shop_of b (book_acted rules b command a books)).copies ≤ 1_000_000) same (after.shops b).copies
 
-  other : (act : Act) → command.act ≡ act → IsBuilt act → AreValues (book_done rules b command books)
-  other act same built = values_done rules b command books branch is held fits (subst IsBuilt (sym same) built)
-
-  by_act : (act : Act) → command.act ≡ act → AreValues (book_done rules b command books)
-  by_act (model.AddCustomer person) same = other (model.AddCustomer person) same tt
-  by_act (model.SetActive customer active) same = other (model.SetActive customer active) same tt
-  by_act (model.Rent customer copy) same = other (model.Rent customer copy) same tt
-  by_act (model.TakeBack rental) same = other (model.TakeBack rental) same tt
-  by_act (model.Pay customer rental amount) same = other (model.Pay customer rental amount) same tt
-  by_act (model.Import lot file) same = other (model.Import lot file) same tt
-  by_act (model.Scrap copy) same = other (model.Scrap copy) same tt
-  by_act (model.Dispatch to xs) same =
+  rows : (act : Act) → command.act ≡ act → IfConsigns act (AreValues (book_acted rules b command act books))
+  rows (model.Dispatch to xs) same =
       let act : IsAct (model.Dispatch to xs) = subst IsAct same is.act in
-      with_reply (subst (λ (a : Act). AreValues (book_acted rules b command a books)) (sym same) (dispatch_values rules b command books branch held sound to xs act.0))
-      (subst (λ (a : Act). IsUtf8 (object (told rules a (shop_of b books)))) (sym same) (dispatch_reply rules b command books branch held sound to xs act.0))
-  by_act (model.Receive source number missing) same =
-      let few = subst (λ (a : Act). length (shop_of b (book_acted rules b command a books)).copies ≤ 1_000_000) same (after.shops b).copies in
-      with_reply (subst (λ (a : Act). AreValues (book_acted rules b command a books)) (sym same) (receipt_values rules b command books branch held sound source number missing few))
-      (subst (λ (a : Act). IsUtf8 (object (told rules a (shop_of b books)))) (sym same) (receipt_reply rules b command books branch held sound source number missing few))
+      let parcels = subst (λ (a : Act). list_all is_parcel (shop_of b (book_acted rules b command a books)).sent ≡ true) same (after.links b).parcels in
+      dispatch_values rules b command books branch held sound to xs act.0 (last_few b books.consignments (new_consignment b to xs books) (same_test b) parcels)
+  rows (model.Receive source number missing) same = receipt_values rules b command books branch held sound source number missing (few_come source number missing same)
+  rows act same = tt
+
+  replies : (act : Act) → command.act ≡ act → IfConsigns act (IsUtf8 (object (told rules act (shop_of b books))))
+  replies (model.Dispatch to xs) same = let act : IsAct (model.Dispatch to xs) = subst IsAct same is.act in dispatch_reply rules b command books branch held sound to xs act.0
+  replies (model.Receive source number missing) same = receipt_reply rules b command books branch held sound source number missing (few_come source number missing same)
+  replies act same = tt
 
   pub accepted_values : AreValues (book_done rules b command books)
-  accepted_values = by_act command.act refl
+  accepted_values = values_done rules b command books branch is held fits (rows command.act refl) (replies command.act refl)

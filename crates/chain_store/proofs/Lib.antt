@@ -3,6 +3,7 @@ pub mod ConsignValues
 pub mod Standing
 pub mod Asking
 pub mod Marks
+pub mod Audits
 pub mod Taking
 pub mod Branches
 pub mod Running

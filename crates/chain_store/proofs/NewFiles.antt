@@ -10,16 +10,16 @@ use Rattle.sqlite_catalog.specs.Listing.{IsSound as IsDatabaseOf}
 use Rattle.sqlite.specs.Effect.{Database}
 use Rattle.sqlite.specs.State.{State, HasCleanDisk, Survives}
 use Rattle.sqlite.specs.Held.{Held}
-use Rattle.sqlite.specs.Files.{HoldsDatabase, Finds, IsOpened, file_state, image_of}
+use Rattle.sqlite.specs.Files.{Finds, IsOpened, file_state, image_of}
 use Rattle.sql_rows.specs.Books.{no_schema}
 use Rattle.sql_rows.proofs.Unique.{one_schema}
 use Rattle.shop_model.specs.Books.{Books}
 use Rattle.chain_store.specs.declared.faults.OpenFault.{OpenFault}
 use Rattle.chain_store.specs.declared.faults.OpenFault.TheVariants as fault
 use Rattle.chain_store.specs.Steps.{LeavesMade}
-use Rattle.chain_store.specs.Files.{HoldsOne, OpenFailed}
-use Rattle.chain_store.specs.Openings.{HoldsNoTable, HoldsATable, IsNoneOrNew, IsNotCreated}
-use Rattle.chain_store.proofs.Opening.{kept_one, only_committed}
+use Rattle.chain_store.specs.Files.{HoldsOne, IsHeldIn, OpenFailed}
+use Rattle.chain_store.specs.Openings.{HoldsNoTable, IsNoneOrNew, IsNotCreated}
+use Rattle.chain_store.proofs.Opening.{kept_one, only_committed, shows_what_is_found, shows_what_is_held}
 
 pub store_is_not_a_chain : fault.Store ≢ fault.NotAChain
 store_is_not_a_chain e = cc
@@ -32,11 +32,10 @@ store_is_not_already e = cc
 
 -- a fault of the store, and what is left of the files
 pub stopped_by : {D : Type 0} (g : Ghosts D) (files : Files D) (books : Books) (why : OpenFault) (left : Files D) → why ≢ fault.NotAChain → why ≢ fault.OtherVersion → why ≢ fault.Already
-    → (AreClean g left.log left.db → OpenFailed g files left ⊎ HoldsOne g left (IsNoneOrNew books)) → IsNotCreated g files books why left
-stopped_by g files books why left chain version already holds = record {
+    → (AreClean g left.log left.db → OpenFailed g files left) → IsNotCreated g files books why left
+stopped_by g files books why left chain version already failed = record {
   already = λ honest is. absurd (already is);
-  kept = λ honest is. absurd (already is);
-  stopped = λ honest _. holds honest;
+  stopped = λ honest _. inl (failed honest);
   chain = chain;
   version = version;
 }
@@ -51,19 +50,18 @@ module _ {D : Type 0} {g : Ghosts D} (c : Held (FileStore D g)) (files : Files D
   is_sound : IsDatabaseOf opened_state.now.schema opened_state.committed.trees
   is_sound = subst (IsDatabaseOf opened_state.now.schema) same_trees (opened.1 opened.0.is_open).0
 
-  -- the database of the files has the tables that the connection shows
-  found_sound : Finds files c → (db : Trees) → HoldsDatabase (image_of g files) db → IsDatabaseOf opened_state.now.schema db
-  found_sound found db held = subst (IsDatabaseOf opened_state.now.schema) (found.holds db held) is_sound
-
   pub holds_no_table : Finds files c → opened_state.now.schema ≡ no_schema → HoldsNoTable (image_of g files)
-  holds_no_table found none db held = subst (λ schema. IsDatabaseOf schema db) none (found_sound found db held)
+  holds_no_table found none = (opened_state.committed.trees, shows_what_is_found c files opened found, subst (λ schema. IsDatabaseOf schema opened_state.committed.trees) none is_sound)
 
-  pub holds_a_table : Finds files c → (opened_state.now.schema ≢ no_schema) → HoldsATable (image_of g files)
-  holds_a_table found some db held none = some (one_schema opened_state.now.schema no_schema db (found_sound found db held) none refl)
-
-  -- a store that is closed at once leaves the same database
-  pub closed_as_found : Finds files c → (now : Files D) → HoldsOne g now opened_state.may_leave → (db : Trees) → HoldsDatabase (image_of g files) db → HoldsOne g now (λ left. left ≡ db)
-  closed_as_found found now holds db held = kept_one g now _ _ holds (λ left may. only_committed c stays opened.0.is_open left may ∙ found.holds db held)
+  -- a store with a table that is closed at once leaves the same database
+  pub holds_a_table : Finds files c → (opened_state.now.schema ≢ no_schema) → (now : Files D) → HoldsOne g now opened_state.may_leave
+      → (db : Trees) × IsHeldIn (image_of g files) db × (¬ IsDatabaseOf no_schema db) × HoldsOne g now (λ left. left ≡ db)
+  holds_a_table found some now holds = (
+    opened_state.committed.trees,
+    shows_what_is_held c files opened found some,
+    λ none. some (one_schema opened_state.now.schema no_schema opened_state.committed.trees is_sound none refl),
+    kept_one g now _ _ holds (λ left may. only_committed c stays opened.0.is_open left may),
+  )
 
   -- a creation that stopped leaves no table or all of them
   pub none_or_new : opened_state.now.schema ≡ no_schema → (books : Books) (new : Held (FileStore D g)) (now : Files D) → Survives opened_state (file_state new) (LeavesMade opened_state books)

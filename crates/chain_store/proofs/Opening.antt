@@ -1,6 +1,7 @@
 -- What an open of files finds, and what files hold after the store is closed.
 use Rattle.std.proofs.Common.{◌≡◌, ◌≢◌, ◌⊎◌, ◌∙◌, inl, inr, refl, sym, ap, subst, true, false, IsTrue, arith, map, List, [], ◌∷◌, pos, negsuc}
 use Rattle.std.specs.Prelude.{◌==◌}
+use Rattle.std.specs.List.{AllZip}
 use Rattle.std.proofs.lemmas.Bool.{cases_Bool}
 use Rattle.std.proofs.lemmas.List.Sorted.{length_permutation}
 use Rattle.std.proofs.Math.Logic.{∥∥₁_elim, ∥∥₁_map}
@@ -20,12 +21,13 @@ use Rattle.sqlite_pool.proofs.StateLemmas.{clean_is, may_leave_is}
 use Rattle.sqlite_store.specs.declared.store.FileStore.{FileStore}
 use Rattle.sqlite_store.specs.FileStore.{view, recovers, files as store_files}
 use Rattle.sqlite_store.specs.Laws.{settled_at}
-use Rattle.sqlite_catalog.specs.Listing.{IsSound as IsDatabaseOf}
+use Rattle.sqlite_catalog.specs.Listing.{IsSound as IsDatabaseOf, AreListed, IsTableRow, IsIndexRow, IsViewRow}
 use Rattle.sqlite.specs.Effect.{Database}
 use Rattle.sqlite.specs.State.{State, HasCleanDisk, Survives}
 use Rattle.sqlite.specs.Held.{Held, AreDatabases}
-use Rattle.sqlite.specs.Files.{HoldsDatabase, Finds, IsOpened, over_files, file_state, image_of}
+use Rattle.sqlite.specs.Files.{HoldsDatabase, Finds, IsOpened, IsEmpty, over_files, file_state, image_of}
 use Rattle.sqlite.proofs.Theorems.{opens_again}
+use Rattle.sql_rows.specs.Books.{no_schema}
 use Rattle.sql_rows.specs.Rows.{columns_of, HasRows}
 use Rattle.sql_rows.proofs.Opened.{opened_keyed}
 use Rattle.sql_rows.proofs.Unique.{one_schema}
@@ -43,7 +45,7 @@ use Rattle.chain_store.specs.Holding.{Chained}
 use Rattle.chain_store.proofs.Deciding.{stands_in_any}
 use Rattle.chain_store.specs.declared.faults.OpenFault.{OpenFault}
 use Rattle.chain_store.specs.declared.faults.OpenFault.TheVariants as fault
-use Rattle.chain_store.specs.Files.{HoldsBooks, HoldsOne, KeepsBooks, KeepsEither, HoldsNoChain, HasThisVersion, HasNoVersion, HasOtherVersion, OpenFailed, Knows}
+use Rattle.chain_store.specs.Files.{HoldsBooks, HoldsOne, IsHeldIn, IsFoundIn, KeepsBooks, KeepsEither, HoldsNoChain, HasThisVersion, HasNoVersion, HasOtherVersion, OpenFailed, Knows}
 use Rattle.chain_store.specs.Openings.{IsNotOpened}
 
 pub clean_store : {D : Type 0} {g : Ghosts D} (it : FileStore D g) (files : Files D) → (files.log, files.db) ≡ store_files it → AreClean g files.log files.db → IsClean (view it)
@@ -96,6 +98,25 @@ opened_at chain books live sound values rests = record {
 -- while a connection is open, a crash leaves the last commit alone
 pub only_committed : {D : Type 0} {g : Ghosts D} (c : Held (FileStore D g)) → SeenMayStay g → IsTrue (file_state c).is_open → (db : Trees) → (file_state c).may_leave db → db ≡ (file_state c).committed.trees
 only_committed c stays live db may = settled_at c.store stays db live may
+
+-- ---- tables
+
+nothing_listed : {A B : Type 0} (P : A → B → Type 0) (ys : List B) → AllZip P [] ys → ys ≡ []
+nothing_listed P [] h = refl
+nothing_listed P (y ∷ ys) h = elim h [ ]
+
+-- an empty database has no table
+empty_has_none : (schema : Schema) (db : Trees) → IsEmpty db → IsDatabaseOf schema db → schema ≡ no_schema
+empty_has_none schema db empty sound =
+    let listed : AreListed [] schema = subst (λ (rows : List Row). AreListed rows schema) empty.1 sound.lists.listed in
+    let tables : schema.tables ≡ [] = nothing_listed IsTableRow schema.tables listed.tables in
+    let indexes : schema.indexes ≡ [] = nothing_listed (IsIndexRow schema.tables) schema.indexes listed.indexes in
+    let views : schema.views ≡ [] = nothing_listed IsViewRow schema.views listed.views in
+    λ i. record { tables = tables i; indexes = indexes i; views = views i }
+
+-- one that begins with the table that has the version has some
+begins_with_some : (schema : Schema) → HasVersion schema → schema ≢ no_schema
+begins_with_some schema begins none = subst HasVersion none begins
 
 -- ---- the version
 
@@ -157,6 +178,23 @@ module _ {D : Type 0} {g : Ghosts D} (c : Held (FileStore D g)) (files : Files D
         | inr other ↦ inr (other.0, other.1, rests_on stays schema besides other.2)
       ])
 
+  committed_database : IsDatabaseOf opened_state.now.schema opened_state.committed.trees
+  committed_database = subst (IsDatabaseOf opened_state.now.schema) same_trees (opened.1 opened.0.is_open).0
+
+  -- what is found in the files is what the connection shows
+  pub shows_what_is_found : IsFoundIn (image_of g files) opened_state.committed.trees
+  shows_what_is_found = elim found.reads [
+    | inl it ↦ inl (record { recovers = it; only = found.holds })
+    | inr none ↦ inr (none.0, none.1, found.holds)
+  ]
+
+  -- and where it has a table, they hold it
+  pub shows_what_is_held : opened_state.now.schema ≢ no_schema → IsHeldIn (image_of g files) opened_state.committed.trees
+  shows_what_is_held some = elim found.reads [
+    | inl it ↦ record { recovers = it; only = found.holds }
+    | inr none ↦ absurd (some (empty_has_none opened_state.now.schema opened_state.committed.trees none.1 committed_database))
+  ]
+
   is_database : (db : Trees) → HoldsDatabase (image_of g files) db → IsDatabaseOf opened_state.now.schema db
   is_database db held = subst (IsDatabaseOf opened_state.now.schema) (shows_found db held) (opened.1 opened.0.is_open).0
 
@@ -171,9 +209,11 @@ module _ {D : Type 0} {g : Ghosts D} (c : Held (FileStore D g)) (files : Files D
       other (one_schema opened_state.now.schema shop_schema db (is_database db held) sound refl)
 
   pub has_this_version : Knows This opened_state → HasThisVersion (image_of g files)
-  has_this_version it db held = (
-    subst (λ (schema : Schema). IsDatabaseOf schema db) it.0 (is_database db held),
-    subst (λ (t : Trees). version_of (map (columns_of 1) (t 0)) ≡ This) (shows_found db held) it.1,
+  has_this_version it = (
+    opened_state.committed.trees,
+    shows_what_is_held (begins_with_some opened_state.now.schema (subst HasVersion (sym it.0) refl)),
+    subst (λ (schema : Schema). IsDatabaseOf schema opened_state.committed.trees) it.0 committed_database,
+    subst (λ (t : Trees). version_of (map (columns_of 1) (t 0)) ≡ This) same_trees it.1,
   )
 
   pub has_no_version : Knows Missing opened_state → HasNoVersion (image_of g files)
@@ -184,15 +224,21 @@ module _ {D : Type 0} {g : Ghosts D} (c : Held (FileStore D g)) (files : Files D
       (opened_state.now.schema, is_database db held, inr (inr (subst (λ (t : Trees). version_of (map (columns_of 1) (t 0)) ≡ This) (shows_found db held) told, other)))
 
   pub has_other_version : Knows Other opened_state → HasOtherVersion (image_of g files)
-  has_other_version it db held =
-      (opened_state.now.schema, is_database db held, it.0, subst (λ (t : Trees). version_of (map (columns_of 1) (t 0)) ≡ Other) (shows_found db held) it.1)
+  has_other_version it = (
+    opened_state.committed.trees,
+    shows_what_is_held (begins_with_some opened_state.now.schema it.0),
+    opened_state.now.schema,
+    committed_database,
+    it.0,
+    subst (λ (t : Trees). version_of (map (columns_of 1) (t 0)) ≡ Other) same_trees it.1,
+  )
 
   -- calls that commit nothing leave it so
   pub left_as_found : SeenMayStay g → (new : Held (FileStore D g)) (now : Files D) → Survives (file_state c) (file_state new) (λ _. ⊥) → HasCleanDisk (file_state new)
-      → HoldsOne g now (file_state new).may_leave → (db : Trees) → HoldsDatabase (image_of g files) db → HoldsOne g now (λ left. left ≡ db)
-  left_as_found stays new now survives clean holds db held =
+      → HoldsOne g now (file_state new).may_leave → HoldsOne g now (λ left. left ≡ opened_state.committed.trees)
+  left_as_found stays new now survives clean holds =
       kept_one g now _ _ holds (λ left may. elim (survives.crash clean left may) [
-        | inl before ↦ only_committed c stays opened.0.is_open left before ∙ found.holds db held
+        | inl before ↦ only_committed c stays opened.0.is_open left before
         | inr none ↦ absurd none
       ])
 
@@ -200,7 +246,7 @@ module _ {D : Type 0} {g : Ghosts D} (c : Held (FileStore D g)) (files : Files D
 
 -- a fault of the store, and what is left of the files
 pub unopened_by : {D : Type 0} (g : Ghosts D) (files : Files D) (why : OpenFault) (left : Files D) → why ≢ fault.NotAChain → why ≢ fault.OtherVersion → why ≢ fault.Already
-    → (AreClean g left.log left.db → OpenFailed g files left ⊎ ((db : Trees) → HoldsDatabase (image_of g files) db → HoldsOne g left (λ found. found ≡ db)))
+    → (AreClean g left.log left.db → OpenFailed g files left ⊎ ((db : Trees) × IsFoundIn (image_of g files) db × HoldsOne g left (λ found. found ≡ db)))
     → IsNotOpened g files why left
 unopened_by g files why left chain version already kept = record {
   no_chain = λ honest is. absurd (chain is);

@@ -8,12 +8,13 @@ use Rattle.shop_model.specs.Refusals as named
 use Rattle.shop_model.specs.Machine.{Request, Sorry}
 use Rattle.shop_model.specs.Answers.{Answer, answer_of, problem_answer}
 use Rattle.shop_model.specs.Books.{Books, Caller, known_caller, caller_of, reply_for, after_for}
-use Rattle.shop_model.specs.Sound.{HasCustody}
+use Rattle.shop_model.specs.Sound.{IsSound}
 use Rattle.shop_model.specs.Office.{office_look}
 use Rattle.shop_model.specs.Histories.{is_store_failure}
 use Rattle.shop_model.proofs.Histories.{memory_failure, size_failure, failed_failure}
 use Rattle.shop_schema.specs.Held.{IsHeld}
 use Rattle.shop_schema.specs.Shop.{StandsFor}
+use Rattle.shop_types.specs.declared.audit.Audit.{Audit}
 use Rattle.shop_types.specs.declared.request.Request.{Request as Asked}
 use Rattle.shop_types.specs.declared.request.Caller.{Caller as Known}
 use Rattle.shop_types.specs.declared.refusal.Refusal.{Refusal}
@@ -23,10 +24,12 @@ use Rattle.sql_rows.specs.declared.fault.StoreFault.{StoreFault}
 use Rattle.sql_rows.specs.declared.fault.StoreFault.TheVariants as fault
 use Rattle.branch_work.specs.Rules.{rules_of}
 use Rattle.chain_store.specs.Holding.{Chained, Holding, holding}
-use Rattle.chain_store.specs.Chains.{Rests, IsAt, Takes, failed_at, Answers, AnswersEvent, event_of}
+use Rattle.chain_store.specs.Chains.{Rests, IsAt, Takes, failed_at, Answers, AnswersEvent, event_of, widest_rules}
 use Rattle.chain_store.specs.Steps.{IsAsker, IsAsked, IsMade, IsUndone, LeavesEitherOf, HasCaller, told_to, left_by}
-use Rattle.chain_store.specs.Decisions.{FindsCaller, IsStoreRefusal, IsStoreRefusalAt, refusal_for, is_final}
+use Rattle.chain_store.specs.Audits.{AuditsState}
+use Rattle.chain_store.specs.Decisions.{FindsCaller, FindsAudit, IsStoreRefusal, IsStoreRefusalAt, refusal_for, is_final}
 use Rattle.chain_store.proofs.Failures.{decided_fine}
+use Rattle.chain_store.proofs.Audits.{audit_of_books}
 use Rattle.chain_store.proofs.Standing.{are_held, values_after, sound_after}
 
 pub no_failure : (b : Bool) (p : Bool) → b ≡ false → b ≡ true → p ≡ true
@@ -177,9 +180,9 @@ module _ {S : Type 0} (g : Ghosts S) (old new : Chained S) (limits : new.limits 
   }
 
   module _ (caller : Caller) (request : Request) (who : IsAsker caller) (asked : IsAsked request) (most : old.limits.commands ≤ 1_000_000) (fit : old.limits.copies ≤ 1_000_000) where
-    -- what it came to, of books in which nothing is twice
+    -- what it came to, of sound books
     abbrev CameTo : Answer → Type 0
-    CameTo answer = (books : Books) → Rests (state g old.conn) books → IsHeld books → HasCustody books
+    CameTo answer = (books : Books) → Rests (state g old.conn) books → IsHeld books → IsSound widest_rules books
         → (answer ≡ told_to old.limits caller request books) × Rests (state g new.conn) (left_by old.limits caller request books)
 
     -- the request was answered
@@ -189,7 +192,7 @@ module _ {S : Type 0} (g : Ghosts S) (old new : Chained S) (limits : new.limits 
       clean = clean;
       goes = λ now books besides at.
           let held = are_held books at.sound at.values in
-          let it = is now books (at.rests fine) held at.sound.custody in
+          let it = is now books (at.rests fine) held at.sound in
           let told = it.0 in
           let rests = it.1 in
           let after = left_by old.limits caller request books in
@@ -216,7 +219,7 @@ module _ {S : Type 0} (g : Ghosts S) (old new : Chained S) (limits : new.limits 
 
     pub made : (answer : Answer) → new.is_failed ≡ false → (HasCleanDisk (state g new.conn) → HasCleanDisk (state g old.conn))
         → (HasCleanDisk (state g new.conn) → IsMade old.limits caller request answer (state g old.conn) (state g new.conn)) → Takes g old new (Answers caller request answer)
-    made answer still clean is = came answer still clean (λ now books rests held custody. ((is now).reply books rests held, (is now).books books rests held))
+    made answer still clean is = came answer still clean (λ now books rests held sound. ((is now).reply books rests held, (is now).books books rests held))
 
     -- it wasn't
     pub unmade : (it : StoreFault) → new.is_failed ≡ is_final it → (HasCleanDisk (state g new.conn) → HasCleanDisk (state g old.conn))
@@ -253,18 +256,32 @@ module _ {S : Type 0} (g : Ghosts S) (old new : Chained S) (limits : new.limits 
           );
     }
 
+  -- a look has answered, and changed nothing
+  pub looked : (P : Holding → Holding → Type 0) → new.is_failed ≡ false → (HasCleanDisk (state g new.conn) → HasCleanDisk (state g old.conn))
+      → (HasCleanDisk (state g new.conn) → IsUndone (state g old.conn) (state g new.conn))
+      → (HasCleanDisk (state g new.conn) → (books besides : Books) → IsAt g old books besides → (after : Holding) → after ≡ holding old books besides → P (holding old books besides) after)
+      → Takes g old new P
+  looked P still clean undone tell = record {
+    clean = clean;
+    goes = λ now books besides at.
+        let rests = undone now books (at.rests fine) (are_held books at.sound at.values) in
+        let same : holding new books besides ≡ holding old books besides = rw (limits, still, fine) refl in
+        (books, besides, tell now books besides at (holding new books besides) same, record { sound = at.sound; values = at.values; rests = λ _. rests; alone = λ _. at.alone fine; left = λ was. never new.is_failed still was });
+  }
+
   -- the caller was found
   pub found : (token : List ℕ) (caller : Known) → new.is_failed ≡ false → (HasCleanDisk (state g new.conn) → HasCleanDisk (state g old.conn))
       → (HasCleanDisk (state g new.conn) → HasCaller token (seen_caller caller) (state g old.conn)) → (HasCleanDisk (state g new.conn) → IsUndone (state g old.conn) (state g new.conn))
       → Takes g old new (FindsCaller token (Ok caller))
-  found token caller still clean has undone = record {
-    clean = clean;
-    goes = λ now books besides at.
-        let held = are_held books at.sound at.values in
-        let rests = undone now books (at.rests fine) held in
-        let same : holding new books besides ≡ holding old books besides = rw (limits, still, fine) refl in
-        (books, besides, (has now books (at.rests fine) held, same, fine), record { sound = at.sound; values = at.values; rests = λ _. rests; alone = λ _. at.alone fine; left = λ was. never new.is_failed still was });
-  }
+  found token caller still clean has undone = looked (FindsCaller token (Ok caller)) still clean undone
+      (λ now books besides at after same. (has now books (at.rests fine) (are_held books at.sound at.values), same, fine))
+
+  -- the audit was read
+  pub audited : (audit : Audit) → new.is_failed ≡ false → (HasCleanDisk (state g new.conn) → HasCleanDisk (state g old.conn))
+      → (HasCleanDisk (state g new.conn) → AuditsState (state g old.conn) audit) → (HasCleanDisk (state g new.conn) → IsUndone (state g old.conn) (state g new.conn))
+      → Takes g old new (FindsAudit (Ok audit))
+  audited audit still clean told undone = looked (FindsAudit (Ok audit)) still clean undone
+      (λ now books besides at after same. (audit_of_books (state g old.conn) audit (told now) books (at.rests fine) at.values at.sound, same, fine))
 
 -- ---- an event
 

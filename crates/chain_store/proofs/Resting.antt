@@ -19,6 +19,7 @@ use Rattle.shop_model.specs.Machine.{Request}
 use Rattle.shop_model.specs.Answers.{Answer}
 use Rattle.shop_model.specs.Books.{Books, Caller, Mark}
 use Rattle.shop_model.specs.Sound.{HasCustody}
+use Rattle.shop_types.specs.declared.audit.Audit.{Audit}
 use Rattle.sql_rows.specs.declared.fault.StoreFault.{StoreFault}
 use Rattle.sql_rows.specs.declared.fault.StoreFault.TheVariants.{Failed}
 use Rattle.shop_types.specs.declared.request.Caller.{Caller as Known}
@@ -27,11 +28,12 @@ use Rattle.shop_types.specs.declared.reply.Reply.{Reply}
 use Rattle.shop_types.specs.Replies.{seen_reply}
 use Rattle.shop_schema.specs.Tables.{shop_schema}
 use Rattle.shop_schema.specs.Held.{IsHeld}
-use Rattle.shop_schema.specs.Shop.{StandsFor, Holds, Reads}
+use Rattle.shop_schema.specs.Shop.{StandsFor, Holds, Reads, IsShop}
 use Rattle.chain_store.specs.Chains.{Rests}
 use Rattle.chain_store.specs.declared.work.Work.TheVariants as work
 use Rattle.chain_store.specs.declared.reports.Report.{Report}
 use Rattle.chain_store.specs.Reports.{ShowsReport}
+use Rattle.chain_store.specs.Audits.{AuditsTables, AuditsState}
 use Rattle.chain_store.specs.OfficeReads.{custody_told, TellsCustody}
 use Rattle.chain_store.specs.Steps.{left_by, HasCome, IsDone, Does, Works, IsMade, IsUndone, LeavesAfter, LeavesEitherOf, LeavesMade, IsCallerOf, HasCaller}
 
@@ -108,8 +110,13 @@ module _ {S : Type 0} (g : Ghosts S) (old mid end : Held S) where
 
   pub custody_between : {E : Type 0} (mark : Mark) (r : Result Reply E) → OnOk r (IsTrue (state g old).is_open)
       → IfOk r (λ reply. Reads (state g begun) (state g mid) (λ books. HasCustody books → seen_reply reply ≡ custody_told mark books)) → IfOk r (λ reply. TellsCustody mark (seen_reply reply) (state g old))
-  custody_between mark (Ok reply) live told = λ books rests held custody. (told books (holds_as (state g old) (state g begun) books refl (rests.now live)) held).1 custody
+  custody_between mark (Ok reply) live told = λ books rests held sound. (told books (holds_as (state g old) (state g begun) books refl (rests.now live)) held).1 sound.custody
   custody_between mark (Err e) live told = tt
+
+  pub audit_between : {E : Type 0} (r : Result Audit E) → OnOk r (IsTrue (state g old).is_open)
+      → (IsShop (state g begun) → IfOk r (AuditsTables (state g begun).now.trees)) → IfOk r (AuditsState (state g old))
+  audit_between (Ok audit) live told = record { is_open = live; audits = told }
+  audit_between (Err e) live told = tt
 
 -- of a database that has tables nothing is made
 pub leaves_untouched : (s : State) (books : Books) → Survives s s (LeavesMade s books)

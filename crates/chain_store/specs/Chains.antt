@@ -1,5 +1,5 @@
 -- What a chain promises of one request, and of a list of them.
-use Rattle.std.specs.Prelude.{◌≡◌, ◌⊎◌, ◌||◌, ℕ, true, false, if◌then◌else◌, IsTrue, List, [], ◌∷◌, Option, Some, None}
+use Rattle.std.specs.Prelude.{◌≡◌, ◌⊎◌, ◌||◌, ℕ, true, false, if◌then◌else◌, IsTrue, List, Some}
 use Rattle.std.specs.List.{list_all}
 use Rattle.sqlite_trees.specs.declared.store.Store.{Ghosts}
 use Rattle.sqlite_trees.specs.Tree.{Trees}
@@ -13,6 +13,7 @@ use Rattle.shop_model.specs.Sound.{IsSound}
 use Rattle.shop_model.specs.Office.{office_look}
 use Rattle.shop_model.specs.Histories.{IsStep, IsRun, is_store_failure, has_failed}
 use Rattle.shop_model.specs.Resends.{Resends}
+pub use Rattle.shop_model.specs.Stops.{failing}
 use Rattle.chain_store.specs.Branches.{KeepsBranches}
 use Rattle.shop_types.specs.declared.request.Request.{Request as Asked}
 use Rattle.shop_types.specs.Seen.{seen_request}
@@ -75,12 +76,6 @@ pub record Answers (caller : Caller) (request : Request) (answer : Answer) (old 
 -- an event, whoever asks
 abbrev pub AnswersEvent : Event → Answer → Holding → Holding → Type 0
 AnswersEvent event answer old new = Answers (caller_in event old.books) (event.request (caller_in event old.books)) answer old new
-
--- the event at which the store failed first
-abbrev pub failing : List Event → List Answer → Option Event
-failing [] answers = None
-failing (event ∷ events) [] = None
-failing (event ∷ events) (answer ∷ answers) = if is_store_failure answer then Some event else failing events answers
 
 -- a list of events, answered one after another: the run's replies over the counted history, and its books; a command that comes again gets its first reply and changes nothing
 pub record Runs (events : List Event) (answers : List Answer) (old new : Holding) : Type 0 where

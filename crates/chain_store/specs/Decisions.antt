@@ -2,6 +2,7 @@
 use Rattle.std.specs.Prelude.{◌≡◌, ◌⊎◌, true, false, Some, Bool, Result, Ok, Err, List, ℕ}
 use Rattle.shop_model.specs.Machine.{Request}
 use Rattle.shop_model.specs.Books.{Caller, caller_of}
+use Rattle.shop_types.specs.declared.audit.Audit.{Audit}
 use Rattle.shop_types.specs.declared.request.Caller.{Caller as Known}
 use Rattle.shop_types.specs.declared.refusal.Refusal.{Refusal}
 use Rattle.shop_types.specs.declared.refusal.Refusal.TheVariants.{Memory, Size, StoreFailed}
@@ -10,6 +11,7 @@ use Rattle.sql_rows.specs.declared.fault.StoreFault.{StoreFault}
 use Rattle.sql_rows.specs.declared.fault.StoreFault.TheVariants as fault
 use Rattle.chain_store.specs.Holding.{Holding}
 use Rattle.chain_store.specs.Chains.{failed_at}
+use Rattle.chain_store.specs.Audits.{IsAuditOfBooks}
 
 -- want of memory or room leaves the chain as it was; once the store has failed, it goes on to fail
 abbrev pub IsStoreRefusal : Refusal → Holding → Holding → Type 0
@@ -24,6 +26,11 @@ IsStoreRefusalAt caller request refusal old new =
 abbrev pub FindsCaller : List ℕ → Result Known Refusal → Holding → Holding → Type 0
 FindsCaller token (Ok caller) old new = (seen_caller caller ≡ caller_of (Some token) old.books.catalogue) × (new ≡ old) × (old.is_failed ≡ false)
 FindsCaller token (Err refusal) old new = IsStoreRefusal refusal old new
+
+-- the audit says that the chain's books are sound, and counts them, and nothing changes; or the store refuses
+abbrev pub FindsAudit : Result Audit Refusal → Holding → Holding → Type 0
+FindsAudit (Ok audit) old new = IsAuditOfBooks audit old.books × (new ≡ old) × (old.is_failed ≡ false)
+FindsAudit (Err refusal) old new = IsStoreRefusal refusal old new
 
 -- a refusal that the store gives
 abbrev pub IsOfStore : Refusal → Type 0

@@ -1,15 +1,19 @@
 -- The books that two files hold.
-use Rattle.std.specs.Prelude.{◌≡◌, ◌⊎◌, map}
+use Rattle.std.specs.Prelude.{◌≡◌, ◌⊎◌, ℕ, true, List, map}
 use Rattle.sqlite_disk.specs.declared.Disk.{Ghosts}
 use Rattle.sqlite_disk.specs.declared.Files.{Files}
 use Rattle.sqlite_wal.specs.Files.{outcomes}
 use Rattle.sqlite_wal.specs.Reads.{AreClean}
 use Rattle.sqlite_wal.specs.Recovery.{Image}
+use Rattle.sqlite_pages.specs.PageMap.{PageMap}
+use Rattle.sqlite_pool.specs.Stored.{Adopts}
+use Rattle.sqlite_store.specs.declared.catalog.Wanted.{Wanted}
+use Rattle.sqlite_store.specs.Listing.{IsOurs, file_trees}
 use Rattle.sqlite_trees.specs.Tree.{Trees}
 use Rattle.sqlite_catalog.specs.Listing.{IsSound as IsDatabaseOf}
 use Rattle.sqlite.specs.Schema.{Schema}
 use Rattle.sqlite.specs.State.{State}
-use Rattle.sqlite.specs.Files.{HoldsDatabase, IsCleanLeft, LeavesFiles}
+use Rattle.sqlite.specs.Files.{HoldsDatabase, IsNothing, IsEmpty, IsCleanLeft, LeavesFiles}
 use Rattle.sqlite.specs.Closing.{files_left}
 use Rattle.sqlite.specs.declared.file.Leftover.{Leftover}
 use Rattle.sql_rows.specs.Rows.{columns_of}
@@ -29,6 +33,15 @@ abbrev pub Knows : KnownVersion → State → Type 0
 Knows This s = (s.now.schema ≡ shop_schema) × (version_of (map (columns_of 1) (s.now.trees 0)) ≡ This)
 Knows Missing s = (¬ HasVersion s.now.schema) ⊎ ((version_of (map (columns_of 1) (s.now.trees 0)) ≡ Missing) ⊎ ((version_of (map (columns_of 1) (s.now.trees 0)) ≡ This) × (¬ (s.now.schema ≡ shop_schema))))
 Knows Other s = HasVersion s.now.schema × (version_of (map (columns_of 1) (s.now.trees 0)) ≡ Other)
+
+-- The files hold this database: recovery finds pages in them that are a whole and sound file, which reads as these trees; and no other is read there.
+pub record IsHeldIn (image : Image) (db : Trees) : Type 0 where
+  pub recovers : (size : ℕ) × (pages : PageMap) × (wanted : List Wanted) × Adopts size image pages × ∥ IsOurs size true wanted pages ∥₁ × (db ≡ file_trees size wanted pages)
+  pub only : (other : Trees) → HoldsDatabase image other → db ≡ other
+
+-- the same, or they were no database yet, and it is the empty one
+abbrev pub IsFoundIn : Image → Trees → Type 0
+IsFoundIn image db = IsHeldIn image db ⊎ (IsNothing image × IsEmpty db × ((other : Trees) → HoldsDatabase image other → db ≡ other))
 
 -- an image of the two files, as it is read or as a crash left it, holds a database whose tables stand for these books
 pub record HoldsBooks (image : Image) (books : Books) : Type 0 where
@@ -59,18 +72,19 @@ pub record KeepsEither {D : Type 0} (g : Ghosts D) (files : Files D) (books besi
 abbrev pub HoldsNoChain : Image → Type 0
 HoldsNoChain image = (db : Trees) → HoldsDatabase image db → IsDatabaseOf shop_schema db → (books : Books) → ¬ StandsFor db books
 
--- the database in the files has the tables of a chain, and the one row of the first tells this version
+-- the files hold a database that has the tables of a chain, and the one row of the first tells this version
 abbrev pub HasThisVersion : Image → Type 0
-HasThisVersion image = (db : Trees) → HoldsDatabase image db → IsDatabaseOf shop_schema db × (version_of (map (columns_of 1) (db 0)) ≡ This)
+HasThisVersion image = (db : Trees) × IsHeldIn image db × IsDatabaseOf shop_schema db × (version_of (map (columns_of 1) (db 0)) ≡ This)
 
--- the database in the files doesn't begin with the table that has the version, or that hasn't its one row, or tells this version of other tables
+-- no database in the files tells a version: it doesn't begin with the table that has it, or that hasn't its one row, or tells this version of other tables
 abbrev pub HasNoVersion : Image → Type 0
 HasNoVersion image = (db : Trees) → HoldsDatabase image db → (schema : Schema) × IsDatabaseOf schema db
     × ((¬ HasVersion schema) ⊎ ((version_of (map (columns_of 1) (db 0)) ≡ Missing) ⊎ ((version_of (map (columns_of 1) (db 0)) ≡ This) × (¬ (schema ≡ shop_schema)))))
 
--- the database in the files begins with the table that has the version, and its one row has another
+-- the files hold a database that begins with the table that has the version, and its one row has another
 abbrev pub HasOtherVersion : Image → Type 0
-HasOtherVersion image = (db : Trees) → HoldsDatabase image db → (schema : Schema) × IsDatabaseOf schema db × HasVersion schema × (version_of (map (columns_of 1) (db 0)) ≡ Other)
+HasOtherVersion image =
+    (db : Trees) × IsHeldIn image db × (schema : Schema) × IsDatabaseOf schema db × HasVersion schema × (version_of (map (columns_of 1) (db 0)) ≡ Other)
 
 -- the files that an open of these left as it failed
 abbrev pub OpenFailed : {D : Type 0} → Ghosts D → Files D → Files D → Type 0

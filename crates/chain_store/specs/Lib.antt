@@ -7,6 +7,7 @@ pub mod Faults
 pub mod Files
 pub mod Openings
 pub mod Reports
+pub mod Audits
 pub mod OfficeAdded
 pub mod OfficeFound
 pub mod OfficeReads

@@ -8,7 +8,7 @@ use Rattle.sqlite_trees.specs.Tree.{Trees}
 use Rattle.sqlite_store.specs.declared.store.FileStore.{FileStore}
 use Rattle.sqlite_catalog.specs.Listing.{IsSound as IsDatabaseOf}
 use Rattle.sqlite.specs.State.{HasCleanDisk}
-use Rattle.sqlite.specs.Files.{HoldsDatabase, over_files, file_state, image_of}
+use Rattle.sqlite.specs.Files.{over_files, file_state, image_of}
 use Rattle.sql_rows.specs.Books.{no_schema}
 use Rattle.shop_values.specs.LimitValues.{Limits}
 use Rattle.shop_model.specs.Books.{Books}
@@ -17,17 +17,13 @@ use Rattle.chain_store.specs.declared.faults.OpenFault.{OpenFault}
 use Rattle.chain_store.specs.declared.faults.OpenFault.TheVariants as fault
 use Rattle.chain_store.specs.Holding.{Chained}
 use Rattle.chain_store.specs.Chains.{IsAt}
-use Rattle.chain_store.specs.Files.{HoldsBooks, HoldsOne, KeepsBooks, KeepsEither, HoldsNoChain, HasThisVersion, HasNoVersion, HasOtherVersion, OpenFailed}
+use Rattle.chain_store.specs.Files.{HoldsBooks, HoldsOne, IsHeldIn, IsFoundIn, KeepsBooks, KeepsEither, HoldsNoChain, HasThisVersion, HasNoVersion, HasOtherVersion, OpenFailed}
 
 -- ---- making
 
--- the database in the files has no table
+-- what is found in the files has no table: they hold a database without one, or were no database yet
 abbrev pub HoldsNoTable : Image → Type 0
-HoldsNoTable image = (db : Trees) → HoldsDatabase image db → IsDatabaseOf no_schema db
-
--- the database in the files has a table
-abbrev pub HoldsATable : Image → Type 0
-HoldsATable image = (db : Trees) → HoldsDatabase image db → ¬ IsDatabaseOf no_schema db
+HoldsNoTable image = (db : Trees) × IsFoundIn image db × IsDatabaseOf no_schema db
 
 -- a database with no table, or the tables that stand for the books
 abbrev pub IsNoneOrNew : Books → Trees → Type 0
@@ -41,17 +37,17 @@ pub record IsCreated {D : Type 0} {g : Ghosts D} (files : Files D) (given : Limi
   pub honest : HasCleanDisk (file_state chain.conn) → AreClean g files.log files.db
   -- the chain has the books
   pub made : HasCleanDisk (file_state chain.conn) → IsAt over_files chain books books
-  -- where the files held a database, it had no table
+  -- the files held no table
   pub none : HasCleanDisk (file_state chain.conn) → HoldsNoTable (image_of g files)
 
 -- the fault for which no chain with these books was made in the files, and what is left of them
 pub record IsNotCreated {D : Type 0} (g : Ghosts D) (files : Files D) (books : Books) (why : OpenFault) (left : Files D) : Type 0 where
-  -- Already: the files hold a table,
-  pub already : AreClean g left.log left.db → why ≡ fault.Already → HoldsATable (image_of g files)
-  -- and go on to hold the same database
-  pub kept : AreClean g left.log left.db → why ≡ fault.Already → (db : Trees) → HoldsDatabase (image_of g files) db → HoldsOne g left (λ found. found ≡ db)
-  -- any other: the files are as the opening left them that failed; or what is found in them, or a crash leaves of them, has no table, or is the whole chain
-  pub stopped : AreClean g left.log left.db → why ≢ fault.Already → OpenFailed g files left ⊎ HoldsOne g left (IsNoneOrNew books)
+  -- Already: the files hold a database that has a table, and go on to hold it
+  pub already : AreClean g left.log left.db → why ≡ fault.Already
+      → (db : Trees) × IsHeldIn (image_of g files) db × (¬ IsDatabaseOf no_schema db) × HoldsOne g left (λ found. found ≡ db)
+  -- Any other: the files are as the opening left them that failed. Or they held no table, and what is found in them, or a crash leaves of them, has no table, or is
+  -- the whole chain.
+  pub stopped : AreClean g left.log left.db → why ≢ fault.Already → OpenFailed g files left ⊎ (HoldsNoTable (image_of g files) × HoldsOne g left (IsNoneOrNew books))
   -- what only an opening tells isn't told
   pub chain : why ≢ fault.NotAChain
   pub version : why ≢ fault.OtherVersion
@@ -81,7 +77,7 @@ pub record IsNotOpened {D : Type 0} (g : Ghosts D) (files : Files D) (why : Open
   pub no_version : AreClean g left.log left.db → why ≡ fault.NotAChain → HasNoVersion (image_of g files)
   -- OtherVersion: they tell another one
   pub other : AreClean g left.log left.db → why ≡ fault.OtherVersion → HasOtherVersion (image_of g files)
-  -- whatever the fault is, the files are as the opening of their database left them that failed, or go on to hold the same database
-  pub kept : AreClean g left.log left.db → OpenFailed g files left ⊎ ((db : Trees) → HoldsDatabase (image_of g files) db → HoldsOne g left (λ found. found ≡ db))
+  -- whatever the fault is, the files are as the opening of their database left them that failed; or they go on to hold what was found in them
+  pub kept : AreClean g left.log left.db → OpenFailed g files left ⊎ ((db : Trees) × IsFoundIn (image_of g files) db × HoldsOne g left (λ found. found ≡ db))
   -- what only making a chain tells isn't told
   pub already : why ≢ fault.Already

@@ -3,6 +3,7 @@
 #![tactic(auto)]
 
 mod asked;
+mod auditing;
 mod callers;
 mod creation;
 mod faults;
@@ -17,6 +18,7 @@ mod reports;
 mod work;
 
 pub use asked::{Asked, asked_values};
+pub use auditing::read_audit;
 pub use callers::find_caller;
 pub use creation::{FirstRows, create, first_values, in_memory};
 pub use faults::{OpenFault, named};

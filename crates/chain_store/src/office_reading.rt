@@ -1,4 +1,4 @@
-//! A reading of head office: lists, row by row outside any transaction, and where the copy of a mark is, by a look inside one.
+//! A reading of head office: lists, row by row outside any transaction, and where the copy of a mark is and what an audit says, each by a look inside one.
 
 ghost use Rattle.std.specs.Prelude.{◌≡◌, nat_lt, false, IfOk};
 ghost use Rattle.sqlite.specs.Held.{state};
@@ -9,11 +9,12 @@ ghost use Rattle.shop_types.specs.Seen.{seen_mark};
 ghost use Rattle.shop_types.specs.Replies.{seen_reply};
 ghost use Rattle.shop_schema.specs.Calls.{Finds};
 ghost use Rattle.chain_store.specs.Steps.{IsUndone};
-ghost use Rattle.chain_store.specs.OfficeReads.{custody_told, TellsCustody, TellsOffice};
+ghost use Rattle.chain_store.specs.OfficeReads.{custody_told, TellsAudit, TellsCustody, TellsOffice};
 
+use crate::auditing::read_audit;
 use crate::reports::{Report, show};
 use consign_store::place_of;
-use reply_bodies::custody_text;
+use reply_bodies::{audit_text, custody_text};
 use shop_ledger::last_at;
 use shop_store::copy_at;
 use shop_types::{Mark, OfficeAsk, Refusal, Reply};
@@ -37,6 +38,22 @@ pub fn read_office<S: Alter>(
         OfficeAsk::Sales => show(alloc, conn, Report::Sales),
         OfficeAsk::Transit => show(alloc, conn, Report::Transit),
         OfficeAsk::Custody(mark) => find_place(alloc, conn, &mark),
+        OfficeAsk::Audit => tell_audit(alloc, conn),
+    }
+}
+
+/// What an audit says.
+fn tell_audit<S: Alter>(alloc: Global, conn: &mut Connection<S>) -> Result<Reply, StoreFault>
+    requires { conn.old.in_transaction ≡ false }
+    ensures ended { conn.new.in_transaction ≡ false }
+    ensures told { HasCleanDisk (state S.Store conn.new) → IfOk result (λ reply. TellsAudit (seen_reply reply) (state S.Store conn.old)) }
+    ensures same { HasCleanDisk (state S.Store conn.new) → IsUndone (state S.Store conn.old) (state S.Store conn.new) }
+    ensures crash { Survives (state S.Store conn.old) (state S.Store conn.new) (λ _. ⊥) }
+{
+    let audit = read_audit(alloc, conn)?;
+    match audit_text(alloc, audit) {
+        Ok(text) => Ok(Reply::accepted(text)),
+        Err(_) => Err(StoreFault::Memory),
     }
 }
 

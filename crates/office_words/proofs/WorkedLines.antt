@@ -4,7 +4,7 @@ use Rattle.clap.specs.Words.{Text}
 use Rattle.clap.proofs.OnLiterals.{clap_on_literals}
 use Rattle.shop_types.specs.declared.film.Rating.TheVariants as rating
 use Rattle.shop_types.specs.declared.office.OfficeAct.TheVariants as office
-use Rattle.shop_types.specs.declared.request.OfficeAsk.TheVariants.{Sales, Custody}
+use Rattle.shop_types.specs.declared.request.OfficeAsk.TheVariants.{Sales, Custody, Audit}
 use Rattle.shop_types.specs.declared.line.LineAct.TheVariants as act
 use Rattle.office_words.specs.Line.{line_of}
 
@@ -65,3 +65,12 @@ custody_of_none = refl
 pub transit_with_a_key : line_of (codes "transit" ∷ codes "--key" ∷ codes "k" ∷ []) ≡ None
 unfolding clap_on_literals
 transit_with_a_key = refl
+
+pub audit_of_a_file : line_of (codes "--db" ∷ codes "chain" ∷ codes "audit" ∷ [])
+    ≡ Some (record { db = Some (codes "chain"); act = act.OfficeLook Audit })
+unfolding clap_on_literals
+audit_of_a_file = refl
+
+pub audit_with_a_key : line_of (codes "audit" ∷ codes "--key" ∷ codes "k" ∷ []) ≡ None
+unfolding clap_on_literals
+audit_with_a_key = refl

@@ -11,7 +11,7 @@ use Rattle.shop_types.specs.declared.person.Person.{Person}
 use Rattle.shop_types.specs.declared.office.OfficeAct.{OfficeAct}
 use Rattle.shop_types.specs.declared.office.OfficeAct.TheVariants as office
 use Rattle.shop_types.specs.declared.request.OfficeAsk.{OfficeAsk}
-use Rattle.shop_types.specs.declared.request.OfficeAsk.TheVariants.{Sales, Custody, Transit}
+use Rattle.shop_types.specs.declared.request.OfficeAsk.TheVariants.{Sales, Custody, Transit, Audit}
 use Rattle.shop_types.specs.declared.line.LineAct.{LineAct}
 use Rattle.shop_types.specs.declared.line.LineAct.TheVariants as act
 use Rattle.office_words.specs.Given.{with_value, text_given, key_given, token_given, rating_given, features_given}
@@ -182,7 +182,8 @@ abbrev pub reading_of : Text → List Row → Option LineAct
 reading_of name rows = if bytes_eq name (codes "sales") then Some (act.OfficeLook Sales)
     else (if bytes_eq name (codes "custody") then option_map act.OfficeLook (custody_of rows)
     else (if bytes_eq name (codes "transit") then Some (act.OfficeLook Transit)
-    else command_of name rows))
+    else (if bytes_eq name (codes "audit") then Some (act.OfficeLook Audit)
+    else command_of name rows)))
 
 -- what a subcommand of this name asks for
 abbrev pub act_of : Text → List Row → Option LineAct

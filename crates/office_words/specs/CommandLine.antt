@@ -121,6 +121,9 @@ custody_shape = subcommand_shape (codes "custody") (row_rule (codes "branch") �
 abbrev pub transit_shape : Shape
 transit_shape = subcommand_shape (codes "transit") []
 
+abbrev pub audit_shape : Shape
+audit_shape = subcommand_shape (codes "audit") []
+
 -- ---- the whole line
 
 abbrev pub name_shapes : List Shape
@@ -145,7 +148,7 @@ abbrev pub request_shapes : List Shape
 request_shapes = serve_shape ∷ replay_shape ∷ []
 
 abbrev pub reading_shapes : List Shape
-reading_shapes = sales_shape ∷ custody_shape ∷ transit_shape ∷ []
+reading_shapes = sales_shape ∷ custody_shape ∷ transit_shape ∷ audit_shape ∷ []
 
 -- the command line before its subcommands
 abbrev pub top_app : App

@@ -220,6 +220,7 @@ fn reading(alloc: Global, name: &str, given: &ArgMatches<'_>) -> Result<LineAct,
         "sales" => Ok(LineAct::OfficeLook(OfficeAsk::Sales)),
         "custody" => Ok(LineAct::OfficeLook(given::of_kind(alloc, custody(given))?)),
         "transit" => Ok(LineAct::OfficeLook(OfficeAsk::Transit)),
+        "audit" => Ok(LineAct::OfficeLook(OfficeAsk::Audit)),
         _ => command(alloc, name, given),
     }
 }

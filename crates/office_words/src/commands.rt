@@ -18,7 +18,7 @@ struct Subcommand {
 }
 
 /// The subcommands, in the order in which help tells them.
-static SUBCOMMANDS: [Subcommand; 20] = [
+static SUBCOMMANDS: [Subcommand; 21] = [
     // ---- what changes the catalogue
     Subcommand {
         name: "country-add",
@@ -152,6 +152,10 @@ static SUBCOMMANDS: [Subcommand; 20] = [
     },
     Subcommand {
         name: "transit",
+        options: &[],
+    },
+    Subcommand {
+        name: "audit",
         options: &[],
     },
 ];

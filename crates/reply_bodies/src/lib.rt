@@ -3,6 +3,7 @@
 #![tactic(auto)]
 
 mod actors;
+mod audit;
 mod consignments;
 mod customer;
 mod fields;
@@ -22,6 +23,7 @@ mod sales;
 mod stock;
 
 pub use actors::{ActorRow, FilmGroup, actor_row};
+pub use audit::audit_text;
 pub use consignments::{ListedConsignment, arrival_row, sent_row, transit_row};
 pub use customer::{customer_text, new_customer_text};
 pub use fields::{Field, object_of};

@@ -40,7 +40,10 @@ fn is_status(word: &str) -> bool {
 
 /// Whether a line with this first word says more of what was asked last.
 pub fn says_more(word: &str) -> bool {
-    matches!(word, "let" | "end" | "status" | "out" | "err" | "usage") || is_status(word)
+    matches!(
+        word,
+        "let" | "next" | "end" | "status" | "out" | "err" | "usage"
+    ) || is_status(word)
 }
 
 #[derive(Drop)]
@@ -212,6 +215,13 @@ impl Row {
         Ok(())
     }
 
+    /// The next connection is stopped at each call of the chain's disks in turn.
+    fn stops<S: Stage>(&mut self, stage: &mut S) -> Result<(), Fault> {
+        stage.stop();
+        self.is_how_said = true;
+        Ok(())
+    }
+
     /// An opening that has to be refused is an exchange: its fault is compared.
     fn reopens<S: Stage>(&mut self, stage: &mut S, fault: &str) -> Result<(), Fault> {
         if !fault.is_empty() {
@@ -273,6 +283,7 @@ impl Row {
     fn notes(&mut self, names: &mut Names, word: &str, rest: &str) -> Result<(), Fault> {
         match word {
             "let" => names.set(rest),
+            "next" => names.raise(rest),
             "pieces" | "cut" | "most" | "room" => self.comes(word, rest),
             "end" => self.ends(rest),
             _ if word == "stdin" || says_more(word) => self.says(names, word, rest),
@@ -291,6 +302,7 @@ impl Row {
         match word {
             "chain" => stage.begin(rest),
             "fails" => self.fails(stage, rest),
+            "stops" => self.stops(stage),
             "reopen" => self.reopens(stage, rest),
             "sql" => stage.change(rest),
             "call" => self.calls(stage, rest),

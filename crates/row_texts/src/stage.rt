@@ -37,6 +37,9 @@ pub trait Stage {
     /// The log of the chain's files fails at the next connection, so many calls before the chain, opened in them, has answered it.
     fn fail(&mut self, fewer: u64);
 
+    /// At the next connection copies of the chain's files fail at each call in turn, and each such chain, opened again, sends the same when all comes again.
+    fn stop(&mut self);
+
     /// Opens the chain's files again, which has to be refused where a fault is named.
     fn reopen(&mut self, fault: &str) -> Result<(), Fault>;
 

@@ -1,9 +1,8 @@
 -- The rows with which a chain begins are such as the program can hold.
-use Rattle.std.proofs.Common.{◌≡◌, ℕ, [], true, Option, Some, None, IfSome, refl, arith, codes}
+use Rattle.std.proofs.Common.{◌≡◌, ℕ, [], true, false, Option, Some, None, IfSome, refl, arith, codes}
 use Rattle.std.specs.Prelude.{nat_lt}
 use Rattle.std.specs.List.{list_all}
 use Rattle.std.proofs.lemmas.Str.{IsUtf8-from_ascii}
-use Rattle.std.proofs.lemmas.Str.Ascii.{IsAscii-nil}
 use Rattle.shop_values.specs.Texts.{is_text}
 use Rattle.shop_model.specs.Values.{Text}
 use Rattle.shop_model.specs.Opening.{token_of, river_dawn, north_light, opening_branch, opening_staff, opening_books}
@@ -74,7 +73,7 @@ river_dawn_values = record {
   replacement = omega arith;
   minutes = (omega arith, omega arith);
   rating = refl;
-  features = IsUtf8-from_ascii [] IsAscii-nil;
+  features = (record { trailers = false; commentaries = false; deleted_scenes = false; behind_the_scenes = false }, refl);
 }
 
 north_light_values : IsFilm north_light
@@ -88,7 +87,7 @@ north_light_values = record {
   replacement = omega arith;
   minutes = tt;
   rating = refl;
-  features = IsUtf8-from_ascii [] IsAscii-nil;
+  features = (record { trailers = false; commentaries = false; deleted_scenes = false; behind_the_scenes = false }, refl);
 }
 
 pub opening_values : AreValues opening_books

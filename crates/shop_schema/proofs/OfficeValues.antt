@@ -13,8 +13,9 @@ use Rattle.shop_model.specs.Shop.{Catalogue}
 use Rattle.shop_model.specs.Books.{Books}
 use Rattle.shop_model.proofs.GoodShops.{length_set}
 use Rattle.shop_schema.specs.Held.{HasFewShared}
-use Rattle.shop_schema.specs.RowValues.{IsToken, IsNumber, IsName, IsCity, IsActor, IsRating, IsFilm, IsCast, IsBranch, IsStaff, IsKey, IsOfficeAct, IsOfficeKept, AreShared, AreCatalogueValues, AreValues}
-use Rattle.shop_types.specs.Films.{rating_text}
+use Rattle.shop_schema.specs.RowValues.{IsToken, IsNumber, IsName, IsCity, IsActor, IsRating, IsFeatures, IsFilm, IsCast, IsBranch, IsStaff, IsKey, IsOfficeAct, IsOfficeKept, AreShared, AreCatalogueValues, AreValues}
+use Rattle.shop_types.specs.Films.{rating_text, features_text}
+use Rattle.shop_types.specs.declared.film.Features.{Features}
 use Rattle.shop_types.specs.declared.film.Rating.{Rating}
 use Rattle.shop_types.specs.declared.film.Rating.TheVariants as rating
 use Rattle.shop_schema.proofs.Values.{ascii_bytes, number_reply, small}
@@ -26,6 +27,33 @@ rating_is rating.Pg = refl
 rating_is rating.Pg13 = refl
 rating_is rating.R = refl
 rating_is rating.Nc17 = refl
+
+-- so are a film's features
+pub features_are : (it : Features) → IsFeatures (features_text it)
+features_are it = (it, refl)
+
+-- the sixteen texts have no byte above 127
+all_plain : (trailers commentaries deleted behind : Bool)
+    → list_all (λ b. nat_lt b 128) (features_text (record { trailers = trailers; commentaries = commentaries; deleted_scenes = deleted; behind_the_scenes = behind })) ≡ true
+all_plain false false false false = refl
+all_plain true false false false = refl
+all_plain false true false false = refl
+all_plain true true false false = refl
+all_plain false false true false = refl
+all_plain true false true false = refl
+all_plain false true true false = refl
+all_plain true true true false = refl
+all_plain false false false true = refl
+all_plain true false false true = refl
+all_plain false true false true = refl
+all_plain true true false true = refl
+all_plain false false true true = refl
+all_plain true false true true = refl
+all_plain false true true true = refl
+all_plain true true true true = refl
+
+pub features_utf8 : (it : Features) → IsUtf8 (features_text it)
+features_utf8 it = IsUtf8-from_ascii (features_text it) (ascii_bytes (features_text it) (all_plain it.trailers it.commentaries it.deleted_scenes it.behind_the_scenes))
 
 -- ---- lists of shared rows
 

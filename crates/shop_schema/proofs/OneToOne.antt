@@ -98,7 +98,7 @@ person_equal p q h =
       city = same_if p.city q.city city.1 i;
     }
 
-act_equal : (a b : Act) → same_act a b ≡ true → a ≡ b
+pub act_equal : (a b : Act) → same_act a b ≡ true → a ≡ b
 act_equal (model.AddCustomer p) (model.AddCustomer q) h = ap model.AddCustomer (person_equal p q h)
 act_equal (model.SetActive c x) (model.SetActive d y) h = let k = and_parts (c == d) (same_flag x y) h in λ i. model.SetActive (same_if c d k.0 i) (flag_equal x y k.1 i)
 act_equal (model.Rent c x) (model.Rent d y) h = let k = and_parts (c == d) (x == y) h in λ i. model.Rent (same_if c d k.0 i) (same_if x y k.1 i)
@@ -116,7 +116,7 @@ act_equal (model.Receive s n xs) (model.Receive t m ys) h =
 act_equal (model.Scrap x) (model.Scrap y) h = ap model.Scrap (same_if x y h)
 act_equal a b h = cc
 
-command_equal : (a b : Command) → same_command a b ≡ true → a ≡ b
+pub command_equal : (a b : Command) → same_command a b ≡ true → a ≡ b
 command_equal a b h =
     let act = and_parts (bytes_eq a.key b.key && a.staff == b.staff && same_moment a.moment b.moment) (same_act a.act b.act) h in
     let moment = and_parts (bytes_eq a.key b.key && a.staff == b.staff) (same_moment a.moment b.moment) act.0 in

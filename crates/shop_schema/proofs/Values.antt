@@ -1,6 +1,6 @@
 -- The rows of the books stay such as the program can hold.
 use Rattle.std.proofs.Common.{◌≡◌, ◌≤◌, ◌<◌, ◌+◌, ◌^◌, ◌==◌, ℕ, suc, get_or, List, [], ◌∷◌, ◌++◌, map, not, length, Bool, true, false, refl, ap, subst, ◌∙◌, arith, codes, decimal, IsUtf8, IsAscii, length-append}
-use Rattle.std.specs.Prelude.{nat_lt, if◌then◌else◌, None, Some}
+use Rattle.std.specs.Prelude.{⊤, nat_lt, if◌then◌else◌, None, Some}
 use Rattle.std.specs.List.{AllByRecursion, list_all}
 use Rattle.std.proofs.lemmas.Bool.{and_parts, ltb-true}
 use Rattle.std.proofs.lemmas.Bool.Decides.{nat_tests}
@@ -22,7 +22,7 @@ use Rattle.shop_model.proofs.RowLemmas.{put_own, length_map}
 use Rattle.sqlite_keyed.proofs.ListLemmas.{all-filter}
 use Rattle.shop_schema.specs.Held.{HasFewShared, IsHeld}
 use Rattle.shop_schema.specs.RowValues.{IsNumber, IsRow, IsCustomer, IsCopy, IsRental, IsPayment, IsLot, IsKept, IsLast, AreBytes, IsAct, IsCommand, AreValues}
-use Rattle.shop_schema.specs.Steps.{FilmsFit, FitsTables, IsBuilt}
+use Rattle.shop_schema.specs.Steps.{FilmsFit, FitsTables}
 
 -- a good catalogue by a size of a million has few shared rows
 few_by_good : (sizes : Rules) (catalogue : Catalogue) → sizes.commands ≡ 1_000_000 → IsGoodCatalogue sizes catalogue → HasFewShared catalogue
@@ -61,8 +61,6 @@ held_by_sound sizes books commands copies sound values = record {
   few_shared = few_by_good sizes books.catalogue commands sound.catalogue;
   places = sound.places;
 }
-
--- ---- lists of which all items are such
 
 -- ---- numbers of new rows
 
@@ -147,17 +145,23 @@ active_reply false n fits = number_reply (codes "{\"active\":false,\"customer\":
 pub small : (n : ℕ) → IsNumber n → n < 2 ^ 64
 small n is = grind (arith, nat_tests)
 
-reply_utf8 : (rules : Rules) (act : Act) (shop : Shop) → length shop.customers ≤ 1_000_000 → length shop.rentals ≤ 1_000_000 → length shop.payments ≤ 1_000_000 → length shop.copies ≤ 1_000_000 → IsAct act → FitsTables rules act → IsBuilt act
+-- What is asked of a dispatch or a receipt besides: their rows and replies need sound books.
+abbrev pub IfConsigns : Act → Type 0 → Type 0
+IfConsigns (model.Dispatch addressee copies) P = P
+IfConsigns (model.Receive source number missing) P = P
+IfConsigns act P = ⊤
+
+reply_utf8 : (rules : Rules) (act : Act) (shop : Shop) → length shop.customers ≤ 1_000_000 → length shop.rentals ≤ 1_000_000 → length shop.payments ≤ 1_000_000 → length shop.copies ≤ 1_000_000 → IsAct act → FitsTables rules act → IfConsigns act (IsUtf8 (object (told rules act shop)))
     → IsUtf8 (object (told rules act shop))
-reply_utf8 rules (model.AddCustomer person) shop customers rentals payments copies is fits built = customer_reply (length shop.customers + 1) (omega arith)
-reply_utf8 rules (model.Import lot file) shop customers rentals payments copies is fits built = import_reply (length (films_in (rules.stock_of file))) (length shop.copies + 1) (omega (arith, fits.1)) (omega arith)
-reply_utf8 rules (model.SetActive c active) shop customers rentals payments copies is fits built = active_reply active c (small c is)
-reply_utf8 rules (model.Rent c x) shop customers rentals payments copies is fits built = rental_reply (length shop.rentals + 1) (omega arith)
-reply_utf8 rules (model.TakeBack r) shop customers rentals payments copies is fits built = returned_reply r (small r is)
-reply_utf8 rules (model.Pay c rental amount) shop customers rentals payments copies is fits built = payment_reply (length shop.payments + 1) (omega arith)
-reply_utf8 rules (model.Dispatch to xs) shop customers rentals payments copies is fits built = absurd built
-reply_utf8 rules (model.Receive source number missing) shop customers rentals payments copies is fits built = absurd built
-reply_utf8 rules (model.Scrap x) shop customers rentals payments copies is fits built = scrapped_reply x (small x is)
+reply_utf8 rules (model.AddCustomer person) shop customers rentals payments copies is fits consigned = customer_reply (length shop.customers + 1) (omega arith)
+reply_utf8 rules (model.Import lot file) shop customers rentals payments copies is fits consigned = import_reply (length (films_in (rules.stock_of file))) (length shop.copies + 1) (omega (arith, fits.1)) (omega arith)
+reply_utf8 rules (model.SetActive c active) shop customers rentals payments copies is fits consigned = active_reply active c (small c is)
+reply_utf8 rules (model.Rent c x) shop customers rentals payments copies is fits consigned = rental_reply (length shop.rentals + 1) (omega arith)
+reply_utf8 rules (model.TakeBack r) shop customers rentals payments copies is fits consigned = returned_reply r (small r is)
+reply_utf8 rules (model.Pay c rental amount) shop customers rentals payments copies is fits consigned = payment_reply (length shop.payments + 1) (omega arith)
+reply_utf8 rules (model.Dispatch to xs) shop customers rentals payments copies is fits consigned = consigned
+reply_utf8 rules (model.Receive source number missing) shop customers rentals payments copies is fits consigned = consigned
+reply_utf8 rules (model.Scrap x) shop customers rentals payments copies is fits consigned = scrapped_reply x (small x is)
 
 -- ---- what a step is given
 
@@ -168,9 +172,10 @@ acts_fit rules files act = tt
 
 -- ---- a step
 
-acted_values : (rules : Rules) (b : ℕ) (command : Command) (act : Act) (books : Books) → IsNumber b → IsNumber command.staff → IsMoment command.moment → IsAct act → IsHeld books → FitsTables rules act → IsBuilt act
+acted_values : (rules : Rules) (b : ℕ) (command : Command) (act : Act) (books : Books) → IsNumber b → IsNumber command.staff → IsMoment command.moment → IsAct act → IsHeld books → FitsTables rules act
+    → IfConsigns act (AreValues (book_acted rules b command act books))
     → AreValues (book_acted rules b command act books)
-acted_values rules b command (model.AddCustomer person) books branch staff moment is held fits built =
+acted_values rules b command (model.AddCustomer person) books branch staff moment is held fits consigned =
     let v = held.values in
     let few = held.most_customers b in
     record {
@@ -184,7 +189,7 @@ acted_values rules b command (model.AddCustomer person) books branch staff momen
       kept = v.kept;
       lasts = v.lasts;
     }
-acted_values rules b command (model.Import lot file) books branch staff moment is held fits built =
+acted_values rules b command (model.Import lot file) books branch staff moment is held fits consigned =
     let v = held.values in
     let few : length (of b books.copies) ≤ 1_000_000 = subst (λ n. n ≤ 1_000_000) (length_map unmarked (of b books.copies)) (held.most_copies b) in
     record {
@@ -198,7 +203,7 @@ acted_values rules b command (model.Import lot file) books branch staff moment i
       kept = v.kept;
       lasts = v.lasts;
     }
-acted_values rules b command (model.SetActive c active) books branch staff moment is held fits built =
+acted_values rules b command (model.SetActive c active) books branch staff moment is held fits consigned =
     let v = held.values in
     record {
       catalogue = v.catalogue;
@@ -211,7 +216,7 @@ acted_values rules b command (model.SetActive c active) books branch staff momen
       kept = v.kept;
       lasts = v.lasts;
     }
-acted_values rules b command (model.Rent c x) books branch staff moment is held fits built =
+acted_values rules b command (model.Rent c x) books branch staff moment is held fits consigned =
     let v = held.values in
     let few = held.most_rentals b in
     record {
@@ -226,7 +231,7 @@ acted_values rules b command (model.Rent c x) books branch staff moment is held 
       kept = v.kept;
       lasts = v.lasts;
     }
-acted_values rules b command (model.TakeBack r) books branch staff moment is held fits built =
+acted_values rules b command (model.TakeBack r) books branch staff moment is held fits consigned =
     let v = held.values in
     record {
       catalogue = v.catalogue;
@@ -239,7 +244,7 @@ acted_values rules b command (model.TakeBack r) books branch staff moment is hel
       kept = v.kept;
       lasts = v.lasts;
     }
-acted_values rules b command (model.Pay c rental amount) books branch staff moment is held fits built =
+acted_values rules b command (model.Pay c rental amount) books branch staff moment is held fits consigned =
     let v = held.values in
     let few = held.most_payments b in
     record {
@@ -254,9 +259,9 @@ acted_values rules b command (model.Pay c rental amount) books branch staff mome
       kept = v.kept;
       lasts = v.lasts;
     }
-acted_values rules b command (model.Dispatch to xs) books branch staff moment is held fits built = absurd built
-acted_values rules b command (model.Receive source number missing) books branch staff moment is held fits built = absurd built
-acted_values rules b command (model.Scrap x) books branch staff moment is held fits built =
+acted_values rules b command (model.Dispatch to xs) books branch staff moment is held fits consigned = consigned
+acted_values rules b command (model.Receive source number missing) books branch staff moment is held fits consigned = consigned
+acted_values rules b command (model.Scrap x) books branch staff moment is held fits consigned =
     let v = held.values in
     record {
       catalogue = v.catalogue;
@@ -271,11 +276,12 @@ acted_values rules b command (model.Scrap x) books branch staff moment is held f
     }
 
 -- what an accepted command makes of books that are held
-pub values_done : (rules : Rules) (b : ℕ) (command : Command) (books : Books) → IsNumber b → IsCommand command → IsHeld books → FitsTables rules command.act → IsBuilt command.act
+pub values_done : (rules : Rules) (b : ℕ) (command : Command) (books : Books) → IsNumber b → IsCommand command → IsHeld books → FitsTables rules command.act
+    → IfConsigns command.act (AreValues (book_acted rules b command command.act books)) → IfConsigns command.act (IsUtf8 (object (told rules command.act (shop_of b books))))
     → AreValues (book_done rules b command books)
-values_done rules b command books branch is held fits built =
-    let v = acted_values rules b command command.act books branch is.staff is.moment is.act held fits built in
-    let reply = reply_utf8 rules command.act (shop_of b books) (held.most_customers b) (held.most_rentals b) (held.most_payments b) (held.most_copies b) is.act fits built in
+values_done rules b command books branch is held fits rows replies =
+    let v = acted_values rules b command command.act books branch is.staff is.moment is.act held fits rows in
+    let reply = reply_utf8 rules command.act (shop_of b books) (held.most_customers b) (held.most_rentals b) (held.most_payments b) (held.most_copies b) is.act fits replies in
     record {
       catalogue = v.catalogue;
       customers = v.customers;

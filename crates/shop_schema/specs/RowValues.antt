@@ -10,6 +10,8 @@ use Rattle.shop_model.specs.Values.{Text, Person, City, Actor, Film, Cast, Branc
 use Rattle.shop_model.specs.Values as model
 use Rattle.shop_model.specs.Shop.{Kept, OfficeKept, Catalogue}
 use Rattle.shop_model.specs.Books.{Books, Mark, BookCopy, Line, Consignment}
+use Rattle.shop_types.specs.Films.{features_text}
+use Rattle.shop_types.specs.declared.film.Features.{Features}
 
 -- the number of a row, from 1 to 4,294,967,295
 abbrev pub IsNumber : ℕ → Type 0
@@ -49,6 +51,10 @@ IsActor it = IsName it.first × IsName it.last
 abbrev pub IsRating : Text → Type 0
 IsRating t = (bytes_eq t (codes "G") || bytes_eq t (codes "PG") || bytes_eq t (codes "PG-13") || bytes_eq t (codes "R") || bytes_eq t (codes "NC-17")) ≡ true
 
+-- special features of the sample database, in its order, with commas between
+abbrev pub IsFeatures : Text → Type 0
+IsFeatures t = (features : Features) × (features_text features ≡ t)
+
 -- the period in days, money in cents, the length in minutes
 pub record IsFilm (it : Film) : Type 0 where
   pub title : IsText 1 128 it.title
@@ -60,7 +66,7 @@ pub record IsFilm (it : Film) : Type 0 where
   pub replacement : it.replacement ≤ 99_999
   pub minutes : IfSome it.minutes (λ n. (1 ≤ n) × (n ≤ 65_535))
   pub rating : IsRating it.rating
-  pub features : IsUtf8 it.features
+  pub features : IsFeatures it.features
 
 abbrev pub IsCast : Cast → Type 0
 IsCast it = IsNumber it.film × IsNumber it.actor
@@ -112,12 +118,13 @@ IsLot row = IsNumber row.owner × IsKey row.it
 abbrev pub IsLine : Line → Type 0
 IsLine it = IsNumber it.film × IsMark it.mark
 
--- the place is no row's number, since it counts the consignments of the whole chain
+-- The place is no row's number, since it counts the consignments of the whole chain. The number of each line is one.
 pub record IsConsignment (it : Consignment) : Type 0 where
   pub source : IsNumber it.source
   pub addressee : IsNumber it.addressee
   pub number : IsNumber it.number
   pub place : (1 ≤ it.place) × (it.place < 2 ^ 63)
+  pub few : length it.lines < 2 ^ 32
   pub lines : AllByRecursion IsLine it.lines
 
 abbrev pub IsLast : Owned Moment → Type 0

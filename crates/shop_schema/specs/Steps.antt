@@ -14,9 +14,3 @@ FilmsFit stock = AllByRecursion IsNumber (films_in stock) × (length (films_in s
 abbrev pub FitsTables : Rules → Act → Type 0
 FitsTables rules (model.Import lot file) = FilmsFit (rules.stock_of file)
 FitsTables rules act = ⊤
-
--- the acts that the program takes so far
-abbrev pub IsBuilt : Act → Type 0
-IsBuilt (model.Dispatch addressee copies) = ⊥
-IsBuilt (model.Receive source number missing) = ⊥
-IsBuilt act = ⊤

@@ -1,10 +1,13 @@
 //! The stored form of commands.
 
 ghost use Rattle.std.specs.Prelude.{◌≡◌, ◌<◌, ◌^◌, [], ◌∷◌, ◌++◌, length, IfOk, OnOk};
+ghost use Rattle.shop_model.specs.Values.{Pay};
 ghost use Rattle.shop_schema.specs.Forms.{number_form, text_form, numbers_form, joined, option_form, person_form, act_form, command_form};
 ghost use Rattle.shop_types.specs.Seen.{seen_person, seen_act, seen_command};
 
-use shop_types::{Act, Command, ConsignmentNo, LineNos, NoMemory, Person, RentalNo, RowNumber};
+use shop_types::{
+    Act, Amount, Command, ConsignmentNo, CustomerNo, LineNos, NoMemory, Person, RentalNo, RowNumber,
+};
 use sql_rows::Bytes;
 use std::alloc::Global;
 
@@ -77,6 +80,36 @@ fn add_numbers<const KIND: u8>(
     Ok(())
 }
 
+/// The byte that tells the act, and a number.
+pub fn add_one(form: &mut Vec<u8>, act: u8, number: u32) -> Result<(), NoMemory>
+    ensures { OnOk result (form.new.items ≡ form.old.items ++ act ∷ number_form number) }
+{
+    form.extend_from_slice(&[act])?;
+    add_number(form, number)
+}
+
+/// The byte that tells the act, and two numbers.
+pub fn add_pair(form: &mut Vec<u8>, act: u8, one: u32, other: u32) -> Result<(), NoMemory>
+    ensures { OnOk result (form.new.items ≡ form.old.items ++ act ∷ joined (number_form one ∷ number_form other ∷ [])) }
+{
+    add_one(form, act, one)?;
+    add_number(form, other)
+}
+
+/// By which rental is paid, if by one, and how much.
+fn add_payment(
+    form: &mut Vec<u8>,
+    customer: CustomerNo,
+    rental: Option<RentalNo>,
+    amount: Amount,
+) -> Result<(), NoMemory>
+    ensures { OnOk result (form.new.items ≡ form.old.items ++ act_form (Pay customer rental amount)) }
+{
+    add_one(form, 5, customer.get())?;
+    add_rental(form, rental)?;
+    add_number(form, amount.get())
+}
+
 /// The number of a consignment, and the lines that are missing.
 fn add_lines(form: &mut Vec<u8>, number: ConsignmentNo, missing: &LineNos) -> Result<(), NoMemory>
     ensures { OnOk result (form.new.items ≡ form.old.items ++ joined (number_form number ∷ numbers_form missing.now ∷ [])) }
@@ -94,38 +127,24 @@ fn add_act(form: &mut Vec<u8>, act: &Act) -> Result<(), NoMemory>
             add_person(form, person)
         }
         Act::Active { customer, active } => {
-            form.extend_from_slice(&[2])?;
-            add_number(form, customer.get())?;
+            add_one(form, 2, customer.get())?;
             form.extend_from_slice(&[u8::from(*active)])?;
             Ok(())
         }
-        Act::Rent { customer, copy } => {
-            form.extend_from_slice(&[3])?;
-            add_number(form, customer.get())?;
-            add_number(form, copy.get())
-        }
-        Act::TakeBack(rental) => {
-            form.extend_from_slice(&[4])?;
-            add_number(form, rental.get())
-        }
+        Act::Rent { customer, copy } => add_pair(form, 3, customer.get(), copy.get()),
+        Act::TakeBack(rental) => add_one(form, 4, rental.get()),
         Act::Pay {
             customer,
             rental,
             amount,
-        } => {
-            form.extend_from_slice(&[5])?;
-            add_number(form, customer.get())?;
-            add_rental(form, *rental)?;
-            add_number(form, amount.get())
-        }
+        } => add_payment(form, *customer, *rental, *amount),
         Act::Import { lot, file } => {
             form.extend_from_slice(&[6])?;
             add_text(form, lot.as_str())?;
             add_bytes(form, file.as_slice())
         }
         Act::Dispatch { to, copies } => {
-            form.extend_from_slice(&[7])?;
-            add_number(form, to.get())?;
+            add_one(form, 7, to.get())?;
             add_numbers(form, copies.as_slice())
         }
         Act::Receive {
@@ -133,14 +152,10 @@ fn add_act(form: &mut Vec<u8>, act: &Act) -> Result<(), NoMemory>
             number,
             missing,
         } => {
-            form.extend_from_slice(&[8])?;
-            add_number(form, from.get())?;
+            add_one(form, 8, from.get())?;
             add_lines(form, *number, missing)
         }
-        Act::Scrap(copy) => {
-            form.extend_from_slice(&[9])?;
-            add_number(form, copy.get())
-        }
+        Act::Scrap(copy) => add_one(form, 9, copy.get()),
     }
 }
 

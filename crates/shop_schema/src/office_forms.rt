@@ -5,7 +5,7 @@ ghost use Rattle.shop_schema.specs.Forms.{number_form, text_form, option_form, f
 ghost use Rattle.shop_types.specs.Films.{rating_text, features_text};
 ghost use Rattle.shop_types.specs.Seen.{seen_film, seen_branch, seen_office_act, seen_office};
 
-use crate::form::{add_bytes, add_number, add_person, add_text};
+use crate::form::{add_bytes, add_number, add_one, add_pair, add_person, add_text};
 use shop_types::{Branch, Film, Minutes, NoMemory, OfficeAct, OfficeCommand, T45};
 use sql_rows::Bytes;
 use std::alloc::Global;
@@ -119,22 +119,6 @@ fn add_named(form: &mut Vec<u8>, act: u8, name: &T45) -> Result<(), NoMemory>
 {
     form.extend_from_slice(&[act])?;
     add_text(form, name.as_str())
-}
-
-/// The byte that tells the act, and a number.
-fn add_one(form: &mut Vec<u8>, act: u8, number: u32) -> Result<(), NoMemory>
-    ensures { OnOk result (form.new.items ≡ form.old.items ++ act ∷ number_form number) }
-{
-    form.extend_from_slice(&[act])?;
-    add_number(form, number)
-}
-
-/// The byte that tells the act, and two numbers.
-fn add_pair(form: &mut Vec<u8>, act: u8, one: u32, other: u32) -> Result<(), NoMemory>
-    ensures { OnOk result (form.new.items ≡ form.old.items ++ act ∷ joined (number_form one ∷ number_form other ∷ [])) }
-{
-    add_one(form, act, one)?;
-    add_number(form, other)
 }
 
 /// The bytes by which a command of head office is kept: all of it but its key. Under one key, two commands have the same bytes exactly where they are one

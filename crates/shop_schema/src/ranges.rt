@@ -1,10 +1,14 @@
 //! The values of commands.
 
-ghost use Rattle.shop_schema.specs.RowValues.{IsKey, IsPerson, IsRating, IsFilm, IsBranch, AreBytes, AreNumbers, IsAct, IsCommand, IsOfficeAct};
-ghost use Rattle.shop_types.specs.Films.{rating_text};
-ghost use Rattle.shop_types.specs.Seen.{seen_person, seen_film, seen_branch, seen_act, seen_command, seen_office_act, seen_office};
+ghost use Rattle.shop_model.specs.Values.{Pay, Receive};
+ghost use Rattle.shop_schema.specs.RowValues.{IsKey, IsPerson, IsRating, IsFeatures, IsFilm, IsBranch, IsStaff, AreBytes, AreNumbers, IsAct, IsCommand, IsOfficeAct};
+ghost use Rattle.shop_types.specs.Films.{rating_text, features_text};
+ghost use Rattle.shop_types.specs.Seen.{seen_person, seen_film, seen_branch, seen_staff, seen_act, seen_command, seen_office_act, seen_office};
 
-use shop_types::{Act, Branch, Command, Film, OfficeAct, OfficeCommand, Person, Rating, RowNumber};
+use shop_types::{
+    Act, Amount, Branch, BranchNo, Command, ConsignmentNo, CustomerNo, Features, Film, LineNos,
+    OfficeAct, OfficeCommand, Person, Rating, RentalNo, RowNumber, Staff,
+};
 
 fn person_values(person: &Person)
     ensures { IsPerson (seen_person person.now) }
@@ -31,6 +35,24 @@ fn numbers_values<const KIND: u8>(numbers: &[RowNumber<KIND>])
     }
 }
 
+fn payment_values(customer: CustomerNo, rental: Option<RentalNo>, amount: Amount)
+    ensures { IsAct (Pay customer rental amount) }
+{
+    let _customer = customer.get();
+    if let Some(number) = rental {
+        let _rental = number.get();
+    }
+    let _amount = amount.get();
+}
+
+fn receipt_values(from: BranchNo, number: ConsignmentNo, missing: &LineNos)
+    ensures { IsAct (Receive from number missing.now) }
+{
+    let _from = from.get();
+    let _number = number.get();
+    numbers_values(missing.as_slice());
+}
+
 fn act_values(act: &Act)
     ensures { IsAct (seen_act act.now) }
 {
@@ -50,13 +72,7 @@ fn act_values(act: &Act)
             customer,
             rental,
             amount,
-        } => {
-            let _customer = customer.get();
-            if let Some(number) = rental {
-                let _rental = number.get();
-            }
-            let _amount = amount.get();
-        }
+        } => payment_values(*customer, *rental, *amount),
         Act::Import { lot, file } => {
             let _lot = lot.as_str();
             bytes_values(file.as_slice());
@@ -69,11 +85,7 @@ fn act_values(act: &Act)
             from,
             number,
             missing,
-        } => {
-            let _from = from.get();
-            let _number = number.get();
-            numbers_values(missing.as_slice());
-        }
+        } => receipt_values(*from, *number, missing),
         Act::Scrap(copy) => {
             let _copy = copy.get();
         }
@@ -95,6 +107,11 @@ fn rating_values(rating: Rating)
     ensures { IsRating (rating_text rating) }
 {}
 
+#[tactic(auto, using(crate::proofs::OfficeValues::features_are))]
+fn features_values(features: Features)
+    ensures { IsFeatures (features_text features) }
+{}
+
 fn film_values(film: &Film)
     ensures { IsFilm (seen_film film.now) }
 {
@@ -109,7 +126,7 @@ fn film_values(film: &Film)
         let _minutes = minutes.get();
     }
     rating_values(film.rating);
-    let _features = film.features.text();
+    features_values(film.features);
 }
 
 fn branch_values(branch: &Branch)
@@ -120,6 +137,13 @@ fn branch_values(branch: &Branch)
     let _postal = branch.postal.as_str();
     let _phone = branch.phone.as_str();
     let _city = branch.city.get();
+}
+
+fn staff_values(staff: &Staff)
+    ensures { IsStaff (seen_staff staff.now) }
+{
+    let _branch = staff.branch.get();
+    person_values(&staff.person);
 }
 
 fn office_act_values(act: &OfficeAct)
@@ -150,10 +174,7 @@ fn office_act_values(act: &OfficeAct)
             let _actor = actor.get();
         }
         OfficeAct::Branch(branch) => branch_values(branch),
-        OfficeAct::Staff(staff) => {
-            let _branch = staff.branch.get();
-            person_values(&staff.person);
-        }
+        OfficeAct::Staff(staff) => staff_values(staff),
         OfficeAct::Leave(staff) => {
             let _staff = staff.get();
         }

@@ -1,11 +1,13 @@
--- The texts of ratings, as columns have them.
+-- The texts of ratings and of special features, as columns have them.
 use Rattle.std.proofs.Common.{◌≢◌, ℕ, List, refl, IsUtf8}
 use Rattle.std.proofs.lemmas.Str.{IsUtf8-from_ascii}
 use Rattle.sqlite.specs.declared.types.Value.{Value}
 use Rattle.sqlite.specs.declared.types.Value.TheVariants.{Text}
-use Rattle.shop_types.specs.Films.{rating_text}
+use Rattle.shop_types.specs.Films.{rating_text, features_text}
+use Rattle.shop_types.specs.declared.film.Features.{Features}
 use Rattle.shop_types.specs.declared.film.Rating.{Rating}
 use Rattle.shop_types.specs.declared.film.Rating.TheVariants as rating
+use Rattle.shop_schema.proofs.OfficeValues.{features_utf8}
 use Rattle.shop_schema.proofs.Values.{ascii_bytes}
 
 rating_utf8 : (it : Rating) → IsUtf8 (rating_text it)
@@ -17,3 +19,6 @@ rating_utf8 rating.Nc17 = IsUtf8-from_ascii _ (ascii_bytes (rating_text rating.N
 
 pub no_rating : (v : Value) → ((t : List ℕ) → IsUtf8 t → v ≢ Text t) → (it : Rating) → v ≢ Text (rating_text it)
 no_rating v none it = none (rating_text it) (rating_utf8 it)
+
+pub no_features : (v : Value) → ((t : List ℕ) → IsUtf8 t → v ≢ Text t) → (it : Features) → v ≢ Text (features_text it)
+no_features v none it = none (features_text it) (features_utf8 it)

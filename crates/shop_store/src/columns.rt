@@ -1,6 +1,6 @@
 //! Columns read as their values, and tokens as texts. Where a column holds no such value, the fault is `Failed`.
 
-ghost use Rattle.std.specs.Prelude.{◌≡◌, ◌≢◌, ◌≤◌, ◌<◌, ℕ, ◌&&◌, nat_lt, nat_le, if◌then◌else◌, length, Option, Some, None, IfOk, IfErr, IfSome, IsUtf8};
+ghost use Rattle.std.specs.Prelude.{◌≡◌, ◌≢◌, ◌≤◌, ◌<◌, ℕ, ◌&&◌, nat_lt, nat_le, if◌then◌else◌, length, Option, Some, None, IfOk, IfErr, IfSome};
 ghost use Rattle.sqlite.specs.declared.types.Value.TheVariants.{Text as SqlText};
 ghost use Rattle.sqlite.specs.Values.{or_null};
 ghost use Rattle.sqlite_value.specs.Order.{column};
@@ -125,9 +125,7 @@ pub(crate) fn rating_at(row: &Row, at: usize) -> Result<Rating, StoreFault>
 /// The special features in the column, by their text.
 pub(crate) fn features_at(row: &Row, at: usize) -> Result<Features, StoreFault>
     ensures ok { IfOk result (λ it. column row.now at ≡ SqlText (features_text it)) }
-    ensures value { IfOk result (λ it. IsUtf8 (features_text it)) }
-    ensures failed { IfErr result (λ e. e ≡ Failed → (it : TheFeatures) → IsUtf8 (features_text it) → at < length row.now
-        → column row.now at ≢ SqlText (features_text it)) }
+    ensures failed { IfErr result (λ e. e ≡ Failed → (it : TheFeatures) → at < length row.now → column row.now at ≢ SqlText (features_text it)) }
 {
     let words = match words_at(row, at) {
         Ok(words) => words,

@@ -1,6 +1,6 @@
 //! Films: one with all its columns, what is asked of one, and what head office sets in it.
 
-ghost use Rattle.std.specs.Prelude.{⊤, ◌≡◌, ◌≤◌, true, IfOk, IfErr, IfSome, IsUtf8, length, map, option_map};
+ghost use Rattle.std.specs.Prelude.{⊤, ◌≡◌, ◌≤◌, true, IfOk, IfErr, IfSome, length, map, option_map};
 ghost use Rattle.std.specs.Option.{option_to_list};
 ghost use Rattle.sqlite.specs.Held.{state};
 ghost use Rattle.sqlite.specs.Values.{or_null};
@@ -13,7 +13,7 @@ ghost use Rattle.shop_model.specs.Rows.{at, set_at};
 ghost use Rattle.shop_model.specs.Books.{head};
 ghost use Rattle.shop_schema.specs.Calls.{Finds, Stores};
 ghost use Rattle.shop_schema.specs.Columns.{film_columns};
-ghost use Rattle.shop_schema.specs.RowValues.{IsNumber, IsText, IsFilm};
+ghost use Rattle.shop_schema.specs.RowValues.{IsNumber, IsText, IsFeatures, IsFilm};
 ghost use Rattle.shop_types.specs.Films.{rating_text, features_text};
 ghost use Rattle.shop_store.specs.SharedSeen.{seen_film_row, IsNoFilm, withdrawn_of, seen_terms, terms_of, title_of};
 
@@ -76,7 +76,7 @@ fn details_at(row: &Row) -> Result<(Option<Minutes>, Rating, Features), StoreFau
     requires { length row.now ≡ 12 }
     ensures ok { IfOk result (λ it. (column row.now 8 ≡ or_null number_value it.0) × (column row.now 9 ≡ Text (rating_text it.1))
         × (column row.now 10 ≡ Text (features_text it.2))) }
-    ensures value { IfOk result (λ it. IfSome it.0 (λ n. (1 ≤ n) × (n ≤ 65_535)) × IsUtf8 (features_text it.2)) }
+    ensures value { IfOk result (λ it. IfSome it.0 (λ n. (1 ≤ n) × (n ≤ 65_535)) × IsFeatures (features_text it.2)) }
     ensures failed { IfErr result (λ e. e ≡ Failed → IsNoFilm row.now) }
 {
     Ok((

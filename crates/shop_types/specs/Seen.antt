@@ -4,6 +4,7 @@ use Rattle.shop_model.specs.Values as model
 use Rattle.shop_model.specs.Machine as machine
 use Rattle.shop_model.specs.Books as books
 use Rattle.shop_model.specs.Refusals as named
+use Rattle.shop_types.specs.declared.audit.Audit.{Audit}
 use Rattle.shop_types.specs.declared.person.Person.{Person}
 use Rattle.shop_types.specs.declared.person.Customer.{Customer}
 use Rattle.shop_types.specs.declared.rental.Rental.{Rental}
@@ -182,6 +183,7 @@ abbrev pub seen_office_ask : OfficeAsk → model.OfficeAsk
 seen_office_ask office_ask.Sales = model.Sales
 seen_office_ask (office_ask.Custody mark) = model.Custody mark.branch mark.copy
 seen_office_ask office_ask.Transit = model.Transit
+seen_office_ask office_ask.Audit = model.Audit
 
 abbrev pub seen_request : Request → machine.Request
 seen_request (request.Do command) = machine.Do (seen_command command)
@@ -203,6 +205,9 @@ abbrev pub seen_place : Place → machine.Shown
 seen_place (place.Here branch copy) = machine.HereAt branch copy
 seen_place (place.Transit from to number) = machine.UnderWayTo from to number
 seen_place place.Gone = machine.Gone
+
+abbrev pub seen_audit : Audit → machine.Shown
+seen_audit audit = machine.AuditIs audit.sound audit.made audit.here audit.transit audit.gone
 
 -- ---- refusals
 

@@ -1,6 +1,7 @@
 //! What callers ask of the shop and are told: commands, readings, refusals and replies, each with its meaning in the definitions.
 #![tactic(auto)]
 
+mod audit;
 mod catalogue;
 mod change;
 mod command;
@@ -20,6 +21,7 @@ mod request;
 mod stock_file;
 mod words;
 
+pub use audit::Audit;
 pub use catalogue::{Actor, Branch, City, Staff};
 pub use change::Change;
 pub use command::{Act, Command};

@@ -61,6 +61,8 @@ pub enum OfficeAsk {
     Custody(Mark),
     /// The consignments that aren't received, by sender, addressee and number.
     Transit,
+    /// Whether the books are sound, and how many copies are where.
+    Audit,
 }
 
 /// What a caller asks.

@@ -1,12 +1,13 @@
-use Rattle.std.proofs.Common.{◌≡◌, ◌∙◌, true, inl, inr, refl, sym, ap, subst, arith, Ok, Err}
+use Rattle.std.proofs.Common.{◌≡◌, ◌∙◌, true, refl, ap, subst, arith, Ok, Err}
 use Rattle.std.specs.Prelude.{◌||◌}
-use Rattle.std.proofs.lemmas.Bool.{cases_Bool}
 use Rattle.sql_rows.specs.declared.fault.StoreFault.TheVariants.{Failed}
 use Rattle.chain_store.specs.Holding.{Chained}
+use Rattle.sqlite.specs.Held.{state}
 use Rattle.chain_store.specs.Chains.{Takes}
-use Rattle.chain_store.specs.Decisions.{FindsCaller, refusal_for, is_final}
-use Rattle.chain_store.proofs.Requests.{found, kept}
-use Rattle.chain_engine.proofs.Failing.{is_live, stays_failed, finds_failed}
+use Rattle.chain_store.specs.Decisions.{FindsCaller, IsStoreRefusal, refusal_for, is_final}
+use Rattle.chain_store.proofs.Requests.{found}
+use Rattle.chain_engine.proofs.Failing.{is_live, stays_refused, look_refused, leaves_no_more}
+use Rattle.chain_engine.specs.Leaving.{LeavesNoMore}
 use Rattle.chain_engine.proofs.chain.Chain.caller.Goals as goal
 
 pub returns-in-Ok-clause-taken : goal.returns-in-Ok-clause-taken
@@ -24,24 +25,10 @@ returns-in-Err-clause-taken g c =
     let inside = c.self.inside in
     let old : Chained _ = record { limits = inside.limits; is_failed = inside.is_failed; conn = inside.conn } in
     let is : old ≡ c.args.self.now = c.self.view_is in
-    elim (cases_Bool inside.is_failed) [
-      | inl was ↦
-          let told = c.in-Err.ensures.failed was in
-          let fault : c.in-Err.fault ≡ Failed = cc in
-          let new : Chained _ = record { limits = inside.limits; is_failed = inside.is_failed || is_final c.in-Err.fault; conn = c.caller_unless_failed.new.conn } in
-          let told_so : c.refusal.new.self ≡ new = c.refusal.ensures.failed in
-          let still : new ≡ old = stays_failed old c.caller_unless_failed.new.conn c.in-Err.fault was told.0 in
-          let stays : c.refusal.new.self ≡ old = told_so ∙ still in
-          let refusal : c.refusal.result ≡ refusal_for Failed = c.refusal.ensures.told ∙ ap refusal_for fault in
-          rw refusal (subst (λ x. Takes g.S.Store x c.refusal.new.self (FindsCaller c.args.token.now (Err (refusal_for Failed)))) is
-          (subst (λ x. Takes g.S.Store old x (FindsCaller c.args.token.now (Err (refusal_for Failed)))) (sym stays) (finds_failed g.S.Store old c.args.token.now was)))
-      | inr live ↦
-          let new : Chained _ = record { limits = inside.limits; is_failed = is_final c.in-Err.fault; conn = c.caller_unless_failed.new.conn } in
-          let so : new ≡ c.refusal.new.self = sym (rw live at c.refusal.ensures.failed) in
-          let taken = kept g.S.Store old new refl live c.in-Err.fault (FindsCaller c.args.token.now (Err (refusal_for c.in-Err.fault))) refl (λ now. omega (arith, now, c.in-Err.ensures.crash.clean)) c.in-Err.ensures.same (λ before after x. x) in
-          rw c.refusal.ensures.told (subst (λ x. Takes g.S.Store c.args.self.now x (FindsCaller c.args.token.now (Err (refusal_for c.in-Err.fault)))) so
-          (subst (λ x. Takes g.S.Store x new (FindsCaller c.args.token.now (Err (refusal_for c.in-Err.fault)))) is taken))
-    ]
+    let taken = look_refused g.S.Store old c.refusal.new.self c.caller_unless_failed.new.conn c.in-Err.fault c.refusal.ensures.failed
+    (λ was. let told = c.in-Err.ensures.failed was in let fault : c.in-Err.fault ≡ Failed = cc in (told.0, fault))
+    (λ now. omega (arith, now, c.in-Err.ensures.crash.clean)) c.in-Err.ensures.same in
+    rw c.refusal.ensures.told (subst (λ x. Takes g.S.Store x c.refusal.new.self (IsStoreRefusal (refusal_for c.in-Err.fault))) is taken)
 
 pub returns-in-Err-clause-failed : goal.returns-in-Err-clause-failed
 returns-in-Err-clause-failed g c failed =
@@ -49,10 +36,25 @@ returns-in-Err-clause-failed g c failed =
     let old : Chained _ = record { limits = inside.limits; is_failed = inside.is_failed; conn = inside.conn } in
     let is : old ≡ c.args.self.now = c.self.view_is in
     let was : inside.is_failed ≡ true = ap (λ (x : Chained _). x.is_failed) is ∙ failed in
-    let told = c.in-Err.ensures.failed was in
-    let fault : c.in-Err.fault ≡ Failed = cc in
-    let new : Chained _ = record { limits = inside.limits; is_failed = inside.is_failed || is_final c.in-Err.fault; conn = c.caller_unless_failed.new.conn } in
+    let stays = stays_refused g.S.Store old c.refusal.new.self c.caller_unless_failed.new.conn c.in-Err.fault c.refusal.ensures.failed
+    (λ was. let told = c.in-Err.ensures.failed was in let fault : c.in-Err.fault ≡ Failed = cc in (told.0, fault)) was in
+    (stays.0 ∙ is, ap Err (c.refusal.ensures.told ∙ stays.1))
+
+pub returns-in-Ok-clause-left : goal.returns-in-Ok-clause-left
+returns-in-Ok-clause-left g c =
+    let inside = c.self.inside in
+    let old : Chained _ = record { limits = inside.limits; is_failed = inside.is_failed; conn = inside.conn } in
+    let conn = c.caller_unless_failed.new.conn in
+    let is : old ≡ c.args.self.now = c.self.view_is in
+    subst (λ (x : Chained _). LeavesNoMore (state g.S.Store x.conn) (state g.S.Store conn)) is (leaves_no_more g.S.Store old conn conn c.in-Ok.ensures.crash refl)
+
+pub returns-in-Err-clause-left : goal.returns-in-Err-clause-left
+returns-in-Err-clause-left g c =
+    let inside = c.self.inside in
+    let old : Chained _ = record { limits = inside.limits; is_failed = inside.is_failed; conn = inside.conn } in
+    let conn = c.caller_unless_failed.new.conn in
+    let is : old ≡ c.args.self.now = c.self.view_is in
+    let new : Chained _ = record { limits = inside.limits; is_failed = inside.is_failed || is_final c.in-Err.fault; conn = conn } in
     let told_so : c.refusal.new.self ≡ new = c.refusal.ensures.failed in
-    let still : new ≡ old = stays_failed old c.caller_unless_failed.new.conn c.in-Err.fault was told.0 in
-    let refusal : c.refusal.result ≡ refusal_for Failed = c.refusal.ensures.told ∙ ap refusal_for fault in
-    (told_so ∙ (still ∙ is), ap Err refusal)
+    subst (λ (x : Chained _). LeavesNoMore (state g.S.Store x.conn) (state g.S.Store c.refusal.new.self.conn)) is
+    (leaves_no_more g.S.Store old conn c.refusal.new.self.conn c.in-Err.ensures.crash (ap (λ (x : Chained _). x.conn) told_so))

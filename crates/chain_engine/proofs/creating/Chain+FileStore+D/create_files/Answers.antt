@@ -6,14 +6,14 @@ use Rattle.shop_schema.specs.Shop.{first_books}
 use Rattle.chain_store.specs.Chains.{widest_rules}
 use Rattle.chain_store.specs.Files.{HoldsOne}
 use Rattle.chain_store.proofs.Opening.{opened_at}
-use Rattle.chain_store.proofs.NewFiles.{stopped_by, holds_no_table, holds_a_table, closed_as_found, none_or_new}
+use Rattle.chain_store.proofs.NewFiles.{stopped_by, holds_no_table, holds_a_table, none_or_new}
 use Rattle.chain_engine.proofs.Refusing.{refused_by}
 use Rattle.chain_engine.proofs.creating.Chain+FileStore+D.create_files.Goals as goal
 
 pub returns-in_err-conn-clause-refused : goal.returns-in_err-conn-clause-refused
 returns-in_err-conn-clause-refused g c =
     refused_by c.from_residual.result _ _
-    (stopped_by g.D.Disk c.args.files _ _ _ c.in_err-conn.ensures.chain c.in_err-conn.ensures.version c.in_err-conn.ensures.already (λ honest. inl c.in_err-conn.ensures.left))
+    (stopped_by g.D.Disk c.args.files _ _ _ c.in_err-conn.ensures.chain c.in_err-conn.ensures.version c.in_err-conn.ensures.already (λ honest. c.in_err-conn.ensures.left))
     c.from_residual.ensures.1
 
 pub returns-in-Ok-clause-made : goal.returns-in-Ok-clause-made
@@ -35,15 +35,16 @@ returns-in-Err-clause-refused g c =
     record {
       already = λ honest is.
           let clean = first (c.give_back.ensures.clean honest) in
-          holds_a_table conn c.args.files (c.in_ok-conn.ensures.opened clean) stays (c.in_ok-conn.ensures.found clean) (c.in-Err.ensures.there is).0;
-      kept = λ honest is.
-          let clean = first (c.give_back.ensures.clean honest) in
-          closed_as_found conn c.args.files (c.in_ok-conn.ensures.opened clean) stays (c.in_ok-conn.ensures.found clean) c.give_back.result
+          holds_a_table conn c.args.files (c.in_ok-conn.ensures.opened clean) stays (c.in_ok-conn.ensures.found clean) (c.in-Err.ensures.there is).0 c.give_back.result
           (subst (λ h. HoldsOne g.D.Disk c.give_back.result (file_state h).may_leave) (c.in-Err.ensures.there is).1 (c.give_back.ensures.left honest));
       stopped = λ honest other.
           let clean = c.give_back.ensures.clean honest in
-          inr (none_or_new conn c.args.files (c.in_ok-conn.ensures.opened (first clean)) stays (c.in-Err.ensures.stopped other) (first_books c.args.office.now) c.create.new.conn c.give_back.result
-          c.create.ensures.crash clean (c.give_back.ensures.left honest));
+          let opened = c.in_ok-conn.ensures.opened (first clean) in
+          let none = c.in-Err.ensures.stopped other in
+          inr (
+            holds_no_table conn c.args.files opened stays (c.in_ok-conn.ensures.found (first clean)) none,
+            none_or_new conn c.args.files opened stays none (first_books c.args.office.now) c.create.new.conn c.give_back.result c.create.ensures.crash clean (c.give_back.ensures.left honest),
+          );
       chain = c.in-Err.ensures.chain;
       version = c.in-Err.ensures.version;
     }

@@ -2,7 +2,7 @@ use Rattle.std.proofs.Common.{inl, inr, refl, arith}
 use Rattle.std.proofs.Math.Logic.{∥∥₁_map}
 use Rattle.sqlite.specs.Files.{file_state}
 use Rattle.sqlite.specs.State.{HasCleanDisk}
-use Rattle.chain_store.proofs.Opening.{found_rests, kept_rests, either_rests, opened_at, holds_no_chain, has_this_version, has_no_version, has_other_version, left_as_found, unopened_by}
+use Rattle.chain_store.proofs.Opening.{found_rests, kept_rests, either_rests, opened_at, shows_what_is_found, holds_no_chain, has_this_version, has_no_version, has_other_version, left_as_found, unopened_by}
 use Rattle.chain_engine.proofs.Refusing.{refused_by}
 use Rattle.chain_engine.proofs.files.Chain+FileStore+D.open_files.Goals as goal
 
@@ -53,7 +53,11 @@ returns-in-Err-clause-refused g c =
           has_other_version conn c.args.files (c.in_ok-conn.ensures.opened (first clean)) (c.in_ok-conn.ensures.found (first clean)) (rw (c.in-Err.ensures.other is) at (c.chain_version.ensures.told clean));
       kept = λ honest.
           let clean = back.ensures.clean honest in
-          inr (left_as_found conn c.args.files (c.in_ok-conn.ensures.opened (first clean)) (c.in_ok-conn.ensures.found (first clean)) g.met.D.Disk.seen_may_stay c.chain_version.new.conn back.result c.chain_version.ensures.crash clean
-          (back.ensures.left honest));
+          inr (
+            _,
+            shows_what_is_found conn c.args.files (c.in_ok-conn.ensures.opened (first clean)) (c.in_ok-conn.ensures.found (first clean)),
+            left_as_found conn c.args.files (c.in_ok-conn.ensures.opened (first clean)) (c.in_ok-conn.ensures.found (first clean)) g.met.D.Disk.seen_may_stay c.chain_version.new.conn back.result c.chain_version.ensures.crash clean
+                (back.ensures.left honest),
+          );
       already = c.in-Err.ensures.already;
     }

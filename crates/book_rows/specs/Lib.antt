@@ -1,0 +1,5 @@
+pub mod Listed
+pub mod Placed
+pub mod Rows
+pub mod Kinds
+pub mod Forms

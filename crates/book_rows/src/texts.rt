@@ -1,0 +1,53 @@
+//! Texts judged by their bytes.
+
+ghost use Rattle.std.specs.Prelude.{◌≡◌, ◌↔◌, IsTrue, IsUtf8};
+ghost use Rattle.std.specs.List.{list_all};
+ghost use Rattle.shop_values.specs.Texts.{is_text, is_printed, is_key, is_key_byte};
+
+fn is_printed_byte(b: u8) -> bool
+    ensures { result ≡ is_printed b }
+{
+    b >= 32 && b != 127
+}
+
+fn all_printed(bytes: &[u8]) -> bool
+    ensures { result ≡ list_all is_printed bytes.now }
+{
+    bytes.iter().all(|b| is_printed_byte(*b))
+}
+
+/// Whether the bytes are so many, from the one to the other, without control bytes.
+pub(crate) fn is_text(low: usize, high: usize, bytes: &[u8]) -> bool
+    ensures { result ≡ is_text low high bytes.now }
+{
+    low <= bytes.len() && bytes.len() <= high && all_printed(bytes)
+}
+
+/// Whether the bytes are a text.
+pub(crate) fn is_utf8(bytes: &[u8]) -> bool
+    ensures { IsTrue result ↔ IsUtf8 bytes.now }
+{
+    match std::str::from_utf8(bytes) {
+        Ok(_) => true,
+        Err(_) => false,
+    }
+}
+
+fn is_byte_of_key(b: u8) -> bool
+    ensures { result ≡ is_key_byte b }
+{
+    b.is_ascii_alphanumeric() || b == b'-'
+}
+
+fn all_of_key(bytes: &[u8]) -> bool
+    ensures { result ≡ list_all is_key_byte bytes.now }
+{
+    bytes.iter().all(|b| is_byte_of_key(*b))
+}
+
+/// Whether the bytes are a key, or the name of a lot.
+pub(crate) fn is_key(bytes: &[u8]) -> bool
+    ensures { result ≡ is_key bytes.now }
+{
+    1 <= bytes.len() && bytes.len() <= 40 && all_of_key(bytes)
+}

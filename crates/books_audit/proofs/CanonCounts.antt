@@ -1,0 +1,83 @@
+-- The tables of counts say the same of rows in order, of the books that have these rows, and of all others for which the tables stand.
+use Rattle.std.proofs.Common.{◌≡◌, ◌==◌, ℕ, List, [], ◌∷◌, ◌++◌, map, filter, length, sym, ap, subst, ◌∙◌, Bool, IsPermutation}
+use Rattle.std.specs.List.{flat_map}
+use Rattle.std.proofs.lemmas.List.Sorted.{IsPermutation-map, IsPermutation-sym, IsPermutation-trans, length_permutation}
+use Rattle.sqlite_keyed.proofs.ListLemmas.{IsPermutation-filter}
+use Rattle.shop_model.specs.Rows.{Row, Owned, is_of, numbered}
+use Rattle.shop_model.specs.Values.{Branch, Customer, Rental, Payment}
+use Rattle.shop_model.specs.Shop.{Kept}
+use Rattle.shop_model.specs.Books.{Books, BookCopy}
+use Rattle.shop_schema.specs.Columns.{counter_columns, out_columns, pair_columns}
+use Rattle.shop_schema.specs.Counts.{Count, branch_counts, counts_of, is_open, out_of}
+use Rattle.book_checks.specs.Canons.{IsCanonOf, office_key}
+use Rattle.book_checks.specs.Ordered.{AreOrdered, HaveOrderedRows}
+use Rattle.book_checks.specs.declared.books.OrderedBooks.{OrderedBooks}
+use Rattle.book_checks.proofs.Maps.{length-map}
+use Rattle.books_audit.specs.Audits.{HaveCountsOf, StandsForBooks}
+use Rattle.books_audit.specs.Read.{HaveCounts, AreRowsRead, AreJoined}
+use Rattle.books_audit.specs.declared.tables.TableRows.{TableRows}
+use Rattle.books_audit.proofs.CountRows.{counters_same, outs_same, pairs_same}
+use Rattle.books_audit.proofs.PairLemmas.{pairs_along}
+use Rattle.books_audit.proofs.SameCanon.{one_canon}
+use Rattle.books_audit.proofs.Exhibited.{canonical, stands, have_rows, order as in_order_of}
+
+-- ---- rows in order, and the books that have them
+
+module _ (tables : TableRows) (rows : OrderedBooks) (c : Books) (has : HaveOrderedRows rows c) where
+  pub counts_in_rows : HaveCounts tables rows → HaveCountsOf tables c
+  counts_in_rows h = record {
+    counters = subst (λ l. IsPermutation tables.counters.items (map counter_columns l)) (sym (counters_same rows c has)) h.counters;
+    outs = subst (λ l. IsPermutation tables.outs.items (map out_columns l)) (sym (outs_same rows c has)) h.outs;
+    pairs = IsPermutation-trans _ _ _ h.pairs (IsPermutation-map pair_columns _ _ (pairs_same rows c has));
+  }
+
+  rows_have_counts : HaveCountsOf tables c → HaveCounts tables rows
+  rows_have_counts h = record {
+    counters = subst (λ l. IsPermutation tables.counters.items (map counter_columns l)) (counters_same rows c has) h.counters;
+    outs = subst (λ l. IsPermutation tables.outs.items (map out_columns l)) (outs_same rows c has) h.outs;
+    pairs = IsPermutation-trans _ _ _ h.pairs (IsPermutation-sym _ _ (IsPermutation-map pair_columns _ _ (pairs_same rows c has)));
+  }
+
+-- ---- books, and the same in the order of their keys
+
+same_many : {X A : Type 0} (g : X → A) (p : X → Bool) (xs ys : List X) → IsPermutation xs ys → length (map g (filter p ys)) ≡ length (map g (filter p xs))
+same_many g p xs ys h = length_permutation _ _ (IsPermutation-map g _ _ (IsPermutation-filter p xs ys h))
+
+flat_same : {X C : Type 0} (f g : X → List C) → ((x : X) → f x ≡ g x) → (xs : List X) → flat_map f xs ≡ flat_map g xs
+flat_same f g h [] = λ i. []
+flat_same f g h (x ∷ xs) = λ i. h x i ++ flat_same f g h xs i
+
+module _ (c b : Books) (canon : IsCanonOf c b) where
+  one_branch : (it : ℕ × Branch) → branch_counts c it ≡ branch_counts b it
+  one_branch it = λ i.
+      record { caller = it.0; kind = 0; last = same_many (λ (row : Row Customer). row.it) (is_of it.0) b.customers c.customers canon.customers i }
+      ∷ record { caller = it.0; kind = 1; last = same_many (λ (row : Row BookCopy). row.it) (is_of it.0) b.copies c.copies canon.copies i }
+      ∷ record { caller = it.0; kind = 2; last = same_many (λ (row : Row Rental). row.it) (is_of it.0) b.rentals c.rentals canon.rentals i }
+      ∷ record { caller = it.0; kind = 3; last = same_many (λ (row : Row Payment). row.it) (is_of it.0) b.payments c.payments canon.payments i }
+      ∷ record { caller = it.0; kind = 4; last = same_many (λ (row : Owned Kept). row.it) (λ row. row.owner == it.0) b.kept c.kept canon.kept i }
+      ∷ []
+
+  office_many : length c.catalogue.kept ≡ length b.catalogue.kept
+  office_many = sym (length-map office_key c.catalogue.kept) ∙ length_permutation _ _ canon.office_kept ∙ length-map office_key b.catalogue.kept
+
+  counters : (counts_of c).counters ≡ (counts_of b).counters
+  counters = λ i.
+      record { caller = 0; kind = 4; last = office_many i }
+      ∷ (flat_same (branch_counts c) (branch_counts b) one_branch (numbered c.catalogue.branches) ∙ ap (λ bs. flat_map (branch_counts b) (numbered bs)) (λ j. (canon.shared j).branches)) i
+
+  outs : IsPermutation (counts_of b).outs (counts_of c).outs
+  outs = IsPermutation-map out_of _ _ (IsPermutation-filter is_open b.rentals c.rentals canon.rentals)
+
+  counts_move : (tables : TableRows) → HaveCountsOf tables b → HaveCountsOf tables c
+  counts_move tables h = record {
+    counters = subst (λ (l : List Count). IsPermutation tables.counters.items (map counter_columns l)) (sym counters) h.counters;
+    outs = IsPermutation-trans _ _ _ h.outs (IsPermutation-map out_columns _ _ outs);
+    pairs = IsPermutation-trans _ _ _ h.pairs (IsPermutation-map pair_columns _ _ (pairs_along b.consignments c.consignments canon.consignments));
+  }
+
+-- what tables that stand for any books say of the counts is what the rows have
+pub must_have_counts : (tables : TableRows) (rows : OrderedBooks) → AreRowsRead tables rows → AreOrdered rows → AreJoined rows → (b : Books) → StandsForBooks tables b → HaveCounts tables rows
+must_have_counts tables rows read ordered joined b t =
+    let c = canonical tables rows read ordered joined.0 joined.1 in
+    let canon = one_canon tables c b (stands tables rows read ordered joined.0 joined.1) t.without_counts (in_order_of tables rows read ordered joined.0 joined.1) in
+    rows_have_counts tables rows c (have_rows tables rows read ordered joined.0 joined.1) (counts_move c b canon tables t.counts)

@@ -1,0 +1,50 @@
+-- Numbers that count, as a test and as a fact; and what was read of shared rows, with the number of those that were kept.
+use Rattle.std.proofs.Common.{◌≡◌, ◌+◌, ◌==◌, ◌&&◌, ◌<◌, ◌^◌, ℕ, List, [], ◌∷◌, length, true, refl, sym, ap, subst, ◌∙◌, arith, IsPermutation}
+use Rattle.std.proofs.lemmas.Bool.Decides.{nat_tests}
+use Rattle.sqlite_value.specs.Order as sql
+use Rattle.sqlite_keyed.proofs.ListLemmas.{along_permutation}
+use Rattle.shop_model.specs.Rows.{IsCounted}
+use Rattle.book_rows.specs.declared.kinds.Kind.{Kind}
+use Rattle.book_rows.specs.Kinds.{HaveKinds}
+use Rattle.book_checks.specs.Lists.{counts_from}
+use Rattle.book_checks.proofs.Keys.{both}
+use Rattle.book_checks.proofs.Maps.{length-map}
+use Rattle.book_rows.specs.Listed.{AreRows}
+use Rattle.books_audit.specs.Read.{SharedRead}
+use Rattle.books_audit.specs.ReadLists.{PlacesRead}
+
+pub counted_is : (k : ℕ) (ns : List ℕ) → counts_from k ns ≡ true → IsCounted k ns
+counted_is k [] h = tt
+counted_is k (n ∷ ns) h = let parts = both (n == k) (counts_from (k + 1) ns) h in (equal n k parts.0, counted_is (k + 1) ns parts.1)
+  where
+    equal : (m n : ℕ) → (m == n) ≡ true → m ≡ n
+    equal m n e = grind (arith, nat_tests)
+
+pub is_counted : (k : ℕ) (ns : List ℕ) → IsCounted k ns → counts_from k ns ≡ true
+is_counted k [] h = refl
+is_counted k (n ∷ ns) h = let first = same n k h.0 in let rest = is_counted (k + 1) ns h.1 in (λ i. first i && rest i)
+  where
+    same : (m n : ℕ) → m ≡ n → (m == n) ≡ true
+    same m n e = grind (arith, nat_tests)
+
+pub as_many : {X : Type 0} (xs ys : List X) → IsPermutation xs ys → length xs ≡ length ys
+as_many {X} = along_permutation (λ (xs ys : List X). length xs ≡ length ys) (λ xs. refl) (λ x us vs h. omega (arith, h)) (λ x y us. refl) (λ us vs ws h k. h ∙ k)
+
+pub kept_of_each : {X : Type 0} (Is : X → sql.Row → Type 0) (xs : List X) (rows : List sql.Row) → AreRows Is xs rows → length xs ≡ length rows
+kept_of_each Is [] [] h = refl
+kept_of_each Is [] (r ∷ rows) h = absurd h
+kept_of_each Is (x ∷ xs) [] h = absurd h
+kept_of_each Is (x ∷ xs) (r ∷ rows) h = let more = kept_of_each Is xs rows h.1 in omega (arith, more)
+
+pub shared_read : {X S : Type 0} (Is : X → sql.Row → Type 0) (kinds : List Kind) (number : X → ℕ) (keep : X → S) (table : List sql.Row) (kept : List S) → PlacesRead Is (HaveKinds kinds) number keep table kept → SharedRead Is kinds number keep table kept
+shared_read Is kinds number keep table kept r =
+    let size : length kept ≡ length table = ap length (sym r.keeps) ∙ length-map keep r.sorted ∙ sym (as_many r.found r.sorted r.same) ∙ kept_of_each Is r.found table r.are_rows in record {
+      found = r.found;
+      are_rows = r.are_rows;
+      ones = r.ones;
+      sorted = r.sorted;
+      same = r.same;
+      counted = r.counted;
+      keeps = r.keeps;
+      few = subst (λ n. n < 2 ^ 32) (sym size) r.few;
+    }

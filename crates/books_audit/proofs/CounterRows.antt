@@ -1,0 +1,32 @@
+-- The rows of counts of branches, one branch after another.
+use Rattle.std.proofs.Common.{◌≡◌, ◌∙◌, ◌+◌, ◌<◌, ◌++◌, ℕ, zero, suc, List, [], ◌∷◌, map, length, drop, add-one, refl, sym, ap, arith}
+use Rattle.std.specs.List.{flat_map}
+use Rattle.sqlite_value.specs.Order as sql
+use Rattle.shop_model.specs.Rows.{numbered_from}
+use Rattle.shop_schema.specs.Columns.{counter_columns}
+use Rattle.shop_schema.specs.Counts.{Count}
+
+once_more : (xs ys zs : List sql.Row) → (xs ++ ys) ++ zs ≡ xs ++ (ys ++ zs)
+once_more [] ys zs = refl
+once_more (x ∷ xs) ys zs = ap (λ l. x ∷ l) (once_more xs ys zs)
+
+both_parts : (xs ys : List Count) → map counter_columns (xs ++ ys) ≡ map counter_columns xs ++ map counter_columns ys
+both_parts [] ys = refl
+both_parts (x ∷ xs) ys = ap (λ l. counter_columns x ∷ l) (both_parts xs ys)
+
+one_after : {X : Type 0} (xs : List X) (i : ℕ) → i < length xs → (x : X) × (drop i xs ≡ x ∷ drop (suc i) xs)
+one_after [] i low = absurd (omega (arith, low))
+one_after (x ∷ xs) zero low = (x, refl)
+one_after (x ∷ xs) (suc i) low = one_after xs i (omega (arith, low))
+
+one_behind : {X : Type 0} (xs : List X) (i : ℕ) → i < length xs → (x : X) × (drop i xs ≡ x ∷ drop (i + 1) xs)
+one_behind xs i low = let it = one_after xs i low in (it.0, rw add-one it.1)
+
+pub next_branch : {X : Type 0} (rows_of : ℕ → List Count) (xs : List X) (i : ℕ) → i < length xs → (olds news all : List sql.Row) → news ≡ olds ++ map counter_columns (rows_of (i + 1))
+    → olds ++ map counter_columns (flat_map (λ it. rows_of it.0) (numbered_from (i + 1) (drop i xs))) ≡ all
+    → news ++ map counter_columns (flat_map (λ it. rows_of it.0) (numbered_from (i + 1 + 1) (drop (i + 1) xs))) ≡ all
+next_branch {X} rows_of xs i low olds news all g h =
+    let cut = one_behind xs i low in
+    let rest = flat_map (λ (it : ℕ × X). rows_of it.0) (numbered_from (i + 1 + 1) (drop (i + 1) xs)) in
+    ap (λ l. l ++ map counter_columns rest) g ∙ once_more olds (map counter_columns (rows_of (i + 1))) (map counter_columns rest) ∙ ap (λ l. olds ++ l) (sym (both_parts (rows_of (i + 1)) rest))
+    ∙ ap (λ (l : List X). olds ++ map counter_columns (flat_map (λ it. rows_of it.0) (numbered_from (i + 1) l))) (sym cut.1) ∙ h

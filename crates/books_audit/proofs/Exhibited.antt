@@ -1,0 +1,271 @@
+-- Tables that were read, and whose rows are in order, stand for books that have these rows.
+use Rattle.std.proofs.Common.{◌≡◌, ◌==◌, ◌&&◌, ◌<◌, ◌^◌, ℕ, List, [], ◌∷◌, map, length, Some, None, Option, refl, sym, ap, subst, ◌∙◌, IsPermutation}
+use Rattle.std.specs.List.{AllByRecursion, flat_map}
+use Rattle.std.specs.Str.{bytes_eq}
+use Rattle.std.proofs.lemmas.List.Sorted.{IsPermutation-map, IsPermutation-trans, IsPermutation-sym}
+use Rattle.sqlite_keyed.proofs.ListLemmas.{map-map, IsPermutation-flat_map}
+use Rattle.shop_model.specs.Calendar.{Moment}
+use Rattle.shop_model.specs.Rows.{Owned, owned_by}
+use Rattle.shop_model.specs.Values.{Text, Cast, Branch}
+use Rattle.shop_model.specs.Shop.{Kept, OfficeKept}
+use Rattle.shop_model.specs.Books.{Books, Consignment, head}
+use Rattle.shop_schema.specs.Columns.{chain_columns, named_columns, city_columns, actor_columns, film_columns, cast_columns, staff_columns, customer_columns, copy_columns, rental_columns, payment_columns, lot_columns, consignment_columns, line_rows}
+use Rattle.shop_schema.specs.RowValues.{IsName, IsToken, IsCity, IsActor, IsFilm, IsCast, IsStaff, IsRow, IsCustomer, IsCopy, IsRental, IsPayment, IsLot, IsConsignment, IsLast}
+use Rattle.book_rows.specs.Kinds.{HaveKinds}
+use Rattle.book_checks.specs.Lists.{climbs}
+use Rattle.book_checks.specs.Canons.{row_key, office_key}
+use Rattle.book_checks.specs.Joins.{header, placed, join}
+use Rattle.book_checks.specs.Seen.{seen_copy, seen_rental_row, seen_payment_row, seen_header, seen_placed}
+use Rattle.book_checks.specs.Ordered.{AreOrdered, HaveOrderedRows, HaveSharedRows, city_row, film_row, cast_row, branch_row, without_last, staff_row, customer_row, lot_row, kept_row, lasts_from}
+use Rattle.book_checks.specs.declared.books.OrderedBooks.{OrderedBooks}
+use Rattle.book_checks.specs.declared.rows.BranchRow.{BranchRow}
+use Rattle.book_checks.specs.declared.rows.CastRow.{CastRow}
+use Rattle.book_checks.specs.declared.rows.LotRow.{LotRow}
+use Rattle.book_checks.specs.declared.rows.KeptRow.{KeptRow}
+use Rattle.book_checks.proofs.JoinLemmas.{join_sound}
+use Rattle.book_checks.proofs.Maps.{length-map}
+use Rattle.book_checks.proofs.Standing.{all_moved}
+use Rattle.book_rows.specs.Placed.{placed_columns, IsPlaced}
+use Rattle.book_rows.specs.Rows.{chain_kinds, IsChainRow, named_kinds, IsNamedRow, city_kinds, IsCityRow, actor_kinds, IsActorRow, film_kinds, IsFilmRow, cast_kinds, IsCastRow, branch_kinds, IsBranchRow, staff_kinds, IsStaffRow, customer_kinds, IsCustomerRow, rental_kinds, IsRentalRow, payment_kinds, IsPaymentRow, lot_kinds, IsLotRow, header_kinds, IsHeaderRow}
+use Rattle.books_audit.proofs.CustodyAudits.{columns_read, values_read}
+use Rattle.books_audit.specs.declared.tables.TableRows.{TableRows}
+use Rattle.books_audit.specs.Audits.{HaveRowsOf, HaveKeys, HaveBooks, AreInOrder, same_row}
+use Rattle.books_audit.specs.Read.{AreRowsRead}
+use Rattle.books_audit.proofs.FullRows as full
+use Rattle.books_audit.proofs.FullRows.{IsShared, IsTold, IsHeader, told_columns, header_columns, header_row, chain_row, named_row, numbered_city, numbered_actor, numbered_film, numbered_branch, numbered_staff, rental_row, payment_row}
+use Rattle.books_audit.proofs.FullLists.{Fulls, fulls}
+use Rattle.books_audit.proofs.SharedLists.{SharedOf, shared_of, told_row, tell, lasts_fit, branches_fit}
+use Rattle.books_audit.proofs.KeptRows.{KeptOf, kept_of}
+use Rattle.books_audit.proofs.Canonical.{apart, row_test, consignments_apart, consignments_fit, by_place, same_by_place, sorted_by_place}
+use Rattle.books_audit.proofs.InOrder.{in_order}
+use Rattle.books_audit.proofs.SameConsignments.{as_placed}
+
+itself : {X : Type 0} (f : X → X) → ((x : X) → f x ≡ x) → (xs : List X) → map f xs ≡ xs
+itself f h [] = refl
+itself f h (x ∷ xs) = λ i. h x i ∷ itself f h xs i
+
+one_token : (its : List Text) (t : List ℕ) → map chain_row its ≡ record { office_token = t } ∷ [] → its ≡ t ∷ []
+one_token [] t h = cc
+one_token (u ∷ []) t h = let first : chain_row u ≡ record { office_token = t } = cc in (λ i. (first i).office_token ∷ [])
+one_token (u ∷ v ∷ its) t h = cc
+
+module _ (tables : TableRows) (rows : OrderedBooks) (read : AreRowsRead tables rows) (ordered : AreOrdered rows) (by_key : List Consignment) (joined : join (map seen_header rows.headers.items) (map seen_placed rows.lines.items) ≡ Some by_key) where
+  countries : SharedOf named_columns IsName (λ (t : Text). t) tables.countries.items rows.countries.items
+  countries = shared_of named_columns IsName named_row IsNamedRow named_kinds full.named_full (λ x. x.number) (λ x. x.name) (λ t. t) (λ it. refl) (λ it. refl) tables.countries.items rows.countries.items read.countries
+
+  languages : SharedOf named_columns IsName (λ (t : Text). t) tables.languages.items rows.languages.items
+  languages = shared_of named_columns IsName named_row IsNamedRow named_kinds full.named_full (λ x. x.number) (λ x. x.name) (λ t. t) (λ it. refl) (λ it. refl) tables.languages.items rows.languages.items read.languages
+
+  categories : SharedOf named_columns IsName (λ (t : Text). t) tables.categories.items rows.categories.items
+  categories = shared_of named_columns IsName named_row IsNamedRow named_kinds full.named_full (λ x. x.number) (λ x. x.name) (λ t. t) (λ it. refl) (λ it. refl) tables.categories.items rows.categories.items read.categories
+
+  cities : SharedOf city_columns IsCity city_row tables.cities.items rows.cities.items
+  cities = shared_of city_columns IsCity numbered_city IsCityRow city_kinds full.city_full (λ x. x.number) (λ x. x.city) city_row (λ it. refl) (λ it. refl) tables.cities.items rows.cities.items read.cities
+
+  actors : SharedOf actor_columns IsActor (λ it. tt) tables.actors.items read.actor_marks
+  actors = shared_of actor_columns IsActor numbered_actor IsActorRow actor_kinds full.actor_full (λ x. x.number) (λ x. tt) (λ it. tt) (λ it. refl) (λ it. refl) tables.actors.items read.actor_marks read.actors
+
+  films : SharedOf film_columns IsFilm film_row tables.films.items rows.films.items
+  films = shared_of film_columns IsFilm numbered_film IsFilmRow film_kinds full.film_full (λ x. x.number) (λ x. x.film) film_row (λ it. refl) (λ it. refl) tables.films.items rows.films.items read.films
+
+  branches : SharedOf told_columns IsTold told_row tables.branches.items rows.branches.items
+  branches = shared_of told_columns IsTold numbered_branch IsBranchRow branch_kinds full.branch_full (λ x. x.number) (λ x. x.branch) told_row (λ it. refl) (λ it. refl) tables.branches.items rows.branches.items read.branches
+
+  staff : SharedOf staff_columns IsStaff staff_row tables.staff.items rows.staff.items
+  staff = shared_of staff_columns IsStaff numbered_staff IsStaffRow staff_kinds full.staff_full (λ x. x.number) (λ x. x.staff) staff_row (λ it. refl) (λ it. refl) tables.staff.items rows.staff.items read.staff
+
+  chain : Fulls chain_columns IsToken chain_row (record { office_token = rows.office_token } ∷ []) tables.chain.items
+  chain = let r = read.chain in fulls chain_columns IsToken chain_row IsChainRow (HaveKinds chain_kinds) full.chain_full r.found _ tables.chain.items r.are_rows r.ones r.same
+
+  casts : Fulls cast_columns IsCast cast_row rows.casts.items tables.casts.items
+  casts = let r = read.casts in fulls cast_columns IsCast cast_row IsCastRow (HaveKinds cast_kinds) full.cast_full r.found rows.casts.items tables.casts.items r.are_rows r.ones r.same
+
+  customers : Fulls customer_columns (IsRow IsCustomer) customer_row rows.customers.items tables.customers.items
+  customers = let r = read.customers in fulls customer_columns (IsRow IsCustomer) customer_row IsCustomerRow (HaveKinds customer_kinds) full.customer_full r.found rows.customers.items tables.customers.items r.are_rows r.ones r.same
+
+  rentals : Fulls rental_columns (IsRow IsRental) rental_row rows.rentals.items tables.rentals.items
+  rentals = let r = read.rentals in fulls rental_columns (IsRow IsRental) rental_row IsRentalRow (HaveKinds rental_kinds) full.rental_full r.found rows.rentals.items tables.rentals.items r.are_rows r.ones r.same
+
+  payments : Fulls payment_columns (IsRow IsPayment) payment_row rows.payments.items tables.payments.items
+  payments = let r = read.payments in fulls payment_columns (IsRow IsPayment) payment_row IsPaymentRow (HaveKinds payment_kinds) full.payment_full r.found rows.payments.items tables.payments.items r.are_rows r.ones r.same
+
+  lots : Fulls lot_columns IsLot lot_row rows.lots.items tables.lots.items
+  lots = let r = read.lots in fulls lot_columns IsLot lot_row IsLotRow (HaveKinds lot_kinds) full.lot_full r.found rows.lots.items tables.lots.items r.are_rows r.ones r.same
+
+  headers : Fulls header_columns IsHeader header_row rows.headers.items tables.consignments.items
+  headers = let r = read.headers in fulls header_columns IsHeader header_row IsHeaderRow (HaveKinds header_kinds) full.header_full r.found rows.headers.items tables.consignments.items r.are_rows r.ones r.same
+
+  kept : KeptOf tables.kept.items rows.office_keys.items rows.kept.items
+  kept = kept_of tables.kept.items rows.office_keys.items rows.kept.items read.kept_branches read.kept
+
+  bs : List Branch
+  bs = map (λ (it : Branch × Option Moment). it.0) branches.items
+
+  -- the books
+  pub canonical : Books
+  canonical = record {
+    catalogue = record {
+      office_token = rows.office_token;
+      kept = kept.office;
+      casts = casts.its;
+      countries = countries.items;
+      cities = cities.items;
+      languages = languages.items;
+      categories = categories.items;
+      actors = actors.items;
+      films = films.items;
+      branches = map (λ (it : Branch × Option Moment). it.0) branches.items;
+      staff = staff.items;
+    };
+    customers = customers.its;
+    copies = map seen_copy rows.copies.items;
+    rentals = rentals.its;
+    payments = payments.its;
+    lots = lots.its;
+    consignments = by_place by_key;
+    kept = kept.kept;
+    lasts = lasts_from 1 rows.branches.items;
+  }
+
+  pub consignments_are : canonical.consignments ≡ by_place by_key
+  unfolding canonical
+  consignments_are = refl
+
+  named : (xs ys : List Text) → map (λ (t : Text). t) xs ≡ ys → xs ≡ ys
+  named xs ys h = sym (itself (λ t. t) (λ t. refl) xs) ∙ h
+
+  have_shared : HaveSharedRows rows canonical
+  unfolding canonical
+  have_shared = record {
+    office_token = refl;
+    office_keys = kept.office_keys;
+    countries = named _ _ countries.keeps;
+    languages = named _ _ languages.keeps;
+    categories = named _ _ categories.keeps;
+    cities = cities.keeps;
+    actors = sym (length-map (λ it. tt {0}) actors.items) ∙ ap length actors.keeps ∙ read.actor_count;
+    films = films.keeps;
+    casts = casts.keeps;
+    branches = map-map (branch_row None) (λ (it : Branch × Option Moment). it.0) branches.items ∙ sym (map-map without_last told_row branches.items) ∙ ap (map without_last) branches.keeps;
+    staff = staff.keeps;
+  }
+
+  pub have_rows : HaveOrderedRows rows canonical
+  unfolding canonical
+  have_rows = record {
+    shared = have_shared;
+    customers = customers.keeps;
+    copies = refl;
+    rentals = sym (itself (λ it. seen_rental_row (rental_row it)) (λ it. refl) rentals.its) ∙ sym (map-map seen_rental_row rental_row rentals.its) ∙ ap (map seen_rental_row) rentals.keeps;
+    payments = sym (itself (λ it. seen_payment_row (payment_row it)) (λ it. refl) payments.its) ∙ sym (map-map seen_payment_row payment_row payments.its) ∙ ap (map seen_payment_row) payments.keeps;
+    lots = lots.keeps;
+    kept = kept.kept_keys;
+    consignments = record { by_key = by_key; joined = joined; all = same_by_place by_key; in_order = sorted_by_place by_key };
+    lasts = refl;
+  }
+
+  pub order : AreInOrder canonical
+  order = in_order rows canonical have_rows ordered read.lines_climb
+
+  -- ---- its consignments
+
+  header_list : headers.its ≡ map header by_key
+  header_list =
+      sym (itself (λ it. seen_header (header_row it)) (λ it. refl) headers.its) ∙ sym (map-map seen_header header_row headers.its) ∙ ap (map seen_header) headers.keeps
+      ∙ sym (join_sound (map seen_header rows.headers.items) (map seen_placed rows.lines.items) by_key joined).0
+
+  placed_list : flat_map placed by_key ≡ map seen_placed rows.lines.items
+  placed_list = (join_sound (map seen_header rows.headers.items) (map seen_placed rows.lines.items) by_key joined).1
+
+  placed_rows : IsPermutation tables.lines.items (map placed_columns (map seen_placed rows.lines.items))
+  placed_rows =
+      let r = read.lines in
+      subst (λ l. IsPermutation l (map placed_columns (map seen_placed rows.lines.items))) (columns_read seen_placed placed_columns IsPlaced r.found tables.lines.items r.are_rows)
+      (IsPermutation-map placed_columns _ _ (IsPermutation-map seen_placed _ _ r.same))
+
+  copy_rows : IsPermutation tables.copies.items (map copy_columns (map seen_copy rows.copies.items))
+  copy_rows =
+      let r = read.copies in
+      subst (λ l. IsPermutation l (map copy_columns (map seen_copy rows.copies.items))) (columns_read seen_copy copy_columns (IsRow IsCopy) r.found tables.copies.items r.are_rows)
+      (IsPermutation-map copy_columns _ _ (IsPermutation-map seen_copy _ _ r.same))
+
+  fitting : AllByRecursion IsConsignment by_key
+  fitting =
+      let r = read.lines in
+      consignments_fit by_key (subst (AllByRecursion IsHeader) header_list headers.fit)
+      (subst (AllByRecursion IsPlaced) (sym placed_list) (all_moved IsPlaced _ _ (IsPermutation-map seen_placed _ _ r.same) (values_read seen_placed placed_columns IsPlaced r.found tables.lines.items r.are_rows)))
+
+  -- ---- it stands
+
+  have_all : HaveRowsOf tables canonical
+  unfolding canonical
+  have_all = record {
+    chain = subst (λ l. IsPermutation tables.chain.items (map chain_columns l)) (one_token chain.its rows.office_token chain.keeps) chain.has;
+    countries = countries.has;
+    languages = languages.has;
+    categories = categories.has;
+    cities = cities.has;
+    actors = actors.has;
+    films = films.has;
+    casts = casts.has;
+    branches = subst (IsPermutation tables.branches.items) (sym (tell 1 branches.items (lasts_from 1 rows.branches.items) (λ m low. ap (λ (l : List BranchRow). head (owned_by m (lasts_from 1 l))) (sym branches.keeps)))) branches.has;
+    staff = staff.has;
+    customers = customers.has;
+    copies = copy_rows;
+    rentals = rentals.has;
+    payments = payments.has;
+    lots = lots.has;
+    consignments = IsPermutation-trans _ _ _ (subst (IsPermutation tables.consignments.items) (ap (map header_columns) header_list ∙ map-map header_columns header by_key) headers.has) (IsPermutation-map consignment_columns _ _ (same_by_place by_key));
+    lines = IsPermutation-trans _ _ _ (subst (IsPermutation tables.lines.items) (ap (map placed_columns) (sym placed_list) ∙ as_placed by_key) placed_rows) (IsPermutation-flat_map line_rows _ _ (same_by_place by_key));
+    kept = kept.has;
+  }
+
+  have_keys : HaveKeys canonical
+  unfolding canonical
+  have_keys = record {
+    casts = apart (λ (a b : Cast). a.film == b.film && a.actor == b.actor) (λ x. x.film ∷ x.actor ∷ []) (λ x y. cast_test x y) casts.its
+        (ap climbs (sym (map-map (λ (x : CastRow). x.film ∷ x.actor ∷ []) cast_row casts.its) ∙ ap (map (λ (x : CastRow). x.film ∷ x.actor ∷ [])) casts.keeps) ∙ ordered.casts);
+    customers = apart same_row row_key row_test customers.its order.customers;
+    copies = apart same_row row_key row_test (map seen_copy rows.copies.items) order.copies;
+    rentals = apart same_row row_key row_test rentals.its order.rentals;
+    payments = apart same_row row_key row_test payments.its order.payments;
+    lots = apart (λ (a b : Owned Text). a.owner == b.owner && bytes_eq a.it b.it) (λ x. x.owner ∷ x.it) (λ x y. refl) lots.its
+        (ap climbs (sym (map-map (λ (x : LotRow). x.branch ∷ x.name) lot_row lots.its) ∙ ap (map (λ (x : LotRow). x.branch ∷ x.name)) lots.keeps) ∙ ordered.lots);
+    consignments = consignments_apart order.by_key (by_place by_key) (IsPermutation-sym _ _ order.joined) order.headers;
+    kept = apart (λ (a b : Owned Kept). a.owner == b.owner && bytes_eq a.it.command.key b.it.command.key) (λ x. x.owner ∷ x.it.command.key) (λ x y. refl) kept.kept
+        (ap climbs (sym (map-map (λ (x : KeptRow). x.branch ∷ x.key) kept_row kept.kept) ∙ ap (map (λ (x : KeptRow). x.branch ∷ x.key)) kept.kept_keys) ∙ ordered.kept);
+    office_kept = apart (λ (a b : OfficeKept). bytes_eq a.command.key b.command.key) office_key (λ x y. refl) kept.office (ap climbs kept.office_keys ∙ ordered.office_keys);
+  }
+    where
+      cast_test : (x y : Cast) → (x.film == y.film && x.actor == y.actor) ≡ bytes_eq (x.film ∷ x.actor ∷ []) (y.film ∷ y.actor ∷ [])
+      cast_test x y = row_test {A = Cast} (record { branch = x.film; number = x.actor; it = x }) (record { branch = y.film; number = y.actor; it = y })
+
+  pub stands : HaveBooks tables canonical
+  unfolding canonical
+  stands = record {
+    rows = have_all;
+    values = record {
+      catalogue = record {
+        office_token = (subst (AllByRecursion IsToken) (one_token chain.its rows.office_token chain.keeps) chain.fit).0;
+        kept = kept.office_fit;
+        casts = casts.fit;
+        countries = countries.fit;
+        cities = cities.fit;
+        languages = languages.fit;
+        categories = categories.fit;
+        actors = actors.fit;
+        films = films.fit;
+        branches = (subst (λ n. n < 2 ^ 32) (sym (length-map (λ (it : Branch × Option Moment). it.0) branches.items)) branches.fit.0, branches_fit branches.items branches.fit.1);
+        staff = staff.fit;
+      };
+      customers = customers.fit;
+      copies = let r = read.copies in all_moved (IsRow IsCopy) _ _ (IsPermutation-map seen_copy _ _ r.same) (values_read seen_copy copy_columns (IsRow IsCopy) r.found tables.copies.items r.are_rows);
+      rentals = rentals.fit;
+      payments = payments.fit;
+      lots = lots.fit;
+      consignments = all_moved IsConsignment _ _ (same_by_place by_key) fitting;
+      kept = kept.kept_fit;
+      lasts = subst (λ (l : List BranchRow). AllByRecursion IsLast (lasts_from 1 l)) branches.keeps (lasts_fit 1 branches.items branches.fit.1);
+    };
+    keys = have_keys;
+  }

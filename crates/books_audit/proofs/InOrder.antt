@@ -1,0 +1,62 @@
+-- Books that have rows in order are in order.
+use Rattle.std.proofs.Common.{◌≡◌, ◌==◌, [], ◌∷◌, map, length, true, sym, ap, ◌∙◌, arith, None}
+use Rattle.std.specs.List.{list_all}
+use Rattle.std.proofs.lemmas.List.Sorted.{IsPermutation-sym}
+use Rattle.sqlite_keyed.proofs.ListLemmas.{map-map}
+use Rattle.shop_model.specs.Calendar.{Moment}
+use Rattle.shop_model.specs.Rows.{Owned}
+use Rattle.shop_model.specs.Links.{has_row, are_different}
+use Rattle.shop_model.specs.Books.{Books}
+use Rattle.book_checks.specs.Lists.{climbs}
+use Rattle.book_checks.specs.Canons.{row_key}
+use Rattle.book_checks.specs.Joins.{header_key, placed_key}
+use Rattle.book_checks.specs.Seen.{seen_copy, seen_rental_row, seen_payment_row, seen_header, seen_placed}
+use Rattle.book_checks.specs.Shops.{is_among}
+use Rattle.book_checks.specs.Ordered.{AreOrdered, HaveOrderedRows, customer_row, branch_row, without_last}
+use Rattle.book_checks.specs.declared.books.OrderedBooks.{OrderedBooks}
+use Rattle.book_checks.specs.declared.rows.CustomerRow.{CustomerRow}
+use Rattle.book_checks.proofs.JoinLemmas.{join_sound}
+use Rattle.book_checks.proofs.LastLemmas.{lasts_owned, lasts_apart}
+use Rattle.book_checks.proofs.Maps.{length-map}
+use Rattle.book_checks.proofs.ShopLemmas.{has_row_is}
+use Rattle.book_checks.proofs.Tests.{all_congr}
+use Rattle.books_audit.specs.Audits.{AreInOrder}
+
+module _ (rows : OrderedBooks) (c : Books) (has : HaveOrderedRows rows c) (ordered : AreOrdered rows) (lines : climbs (map placed_key (map seen_placed rows.lines.items)) ≡ true) where
+  customers : climbs (map row_key c.customers) ≡ true
+  customers =
+      ap climbs (sym (map-map (λ (x : CustomerRow). x.branch ∷ x.number ∷ []) customer_row c.customers) ∙ ap (map (λ (x : CustomerRow). x.branch ∷ x.number ∷ [])) has.customers) ∙ ordered.customers
+
+  copies : climbs (map row_key c.copies) ≡ true
+  copies = ap climbs (ap (map row_key) has.copies ∙ map-map row_key seen_copy rows.copies.items) ∙ ordered.copies
+
+  rentals : climbs (map row_key c.rentals) ≡ true
+  rentals = ap climbs (ap (map row_key) has.rentals ∙ map-map row_key seen_rental_row rows.rentals.items) ∙ ordered.rentals
+
+  payments : climbs (map row_key c.payments) ≡ true
+  payments = ap climbs (ap (map row_key) has.payments ∙ map-map row_key seen_payment_row rows.payments.items) ∙ ordered.payments
+
+  branch_count : length c.catalogue.branches ≡ length rows.branches.items
+  branch_count = sym (length-map (branch_row None) c.catalogue.branches) ∙ ap length has.shared.branches ∙ length-map without_last rows.branches.items
+
+  lasts : list_all (λ (row : Owned Moment). has_row c.catalogue.branches row.owner) c.lasts ≡ true
+  lasts =
+      all_congr _ _ (λ (row : Owned Moment). has_row_is c.catalogue.branches row.owner) c.lasts
+      ∙ ap (list_all (λ (row : Owned Moment). is_among (length c.catalogue.branches) row.owner)) has.lasts
+      ∙ lasts_owned (length c.catalogue.branches) 1 (omega arith) rows.branches.items (omega (arith, branch_count))
+
+  pub in_order : AreInOrder c
+  in_order =
+      let sound = join_sound (map seen_header rows.headers.items) (map seen_placed rows.lines.items) has.consignments.by_key has.consignments.joined in record {
+        customers = customers;
+        copies = copies;
+        rentals = rentals;
+        payments = payments;
+        by_key = has.consignments.by_key;
+        joined = IsPermutation-sym _ _ has.consignments.all;
+        headers = ap (λ hs. climbs (map header_key hs)) sound.0 ∙ ap climbs (map-map header_key seen_header rows.headers.items) ∙ ordered.headers;
+        lines = ap (λ ps. climbs (map placed_key ps)) sound.1 ∙ lines;
+        places = has.consignments.in_order;
+        lasts = lasts;
+        lasts_apart = ap (are_different (λ (earlier later : Owned Moment). earlier.owner == later.owner)) has.lasts ∙ lasts_apart 1 rows.branches.items;
+      }

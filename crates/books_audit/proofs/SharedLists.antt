@@ -1,0 +1,90 @@
+-- Tables of shared rows stand for lists.
+use Rattle.std.proofs.Common.{◌≡◌, ◌<◌, ◌≤◌, ◌+◌, ◌-◌, ◌==◌, ◌^◌, ◌++◌, ℕ, List, [], ◌∷◌, map, length, false, Option, Some, None, refl, sym, ap, subst, ◌∙◌, arith, IsPermutation}
+use Rattle.std.specs.Prelude.{IfSome, if◌then◌else◌}
+use Rattle.std.specs.List.{AllByRecursion}
+use Rattle.std.proofs.lemmas.Bool.Decides.{nat_tests}
+use Rattle.sqlite_value.specs.Order as sql
+use Rattle.sqlite_keyed.proofs.ListLemmas.{map-map}
+use Rattle.shop_model.specs.Calendar.{Moment, IsMoment}
+use Rattle.shop_model.specs.Rows.{Owned, IsCounted, numbered, numbered_from, at, owned_by}
+use Rattle.shop_model.specs.Values.{Branch}
+use Rattle.shop_model.specs.Books.{head}
+use Rattle.shop_schema.specs.Columns.{branch_columns}
+use Rattle.shop_schema.specs.RowValues.{AreShared, IsLast, IsBranch}
+use Rattle.book_rows.specs.declared.kinds.Kind.{Kind}
+use Rattle.book_rows.specs.Kinds.{HaveKinds}
+use Rattle.book_checks.specs.Ordered.{branch_row, last_of, lasts_from}
+use Rattle.book_checks.specs.declared.rows.BranchRow.{BranchRow}
+use Rattle.book_checks.proofs.LastLemmas.{last_at, last_in}
+use Rattle.books_audit.specs.Read.{SharedRead}
+use Rattle.books_audit.proofs.FullRows.{FullOf, IsShared, told_columns, IsTold}
+use Rattle.books_audit.proofs.FullLists.{fulls, shared_rows, shared_fit}
+
+pub record SharedOf {A S : Type 0} (columns : ℕ × A → sql.Row) (P : A → Type 0) (seen : A → S) (table : List sql.Row) (kept : List S) : Type 0 where
+  pub items : List A
+  pub has : IsPermutation table (map columns (numbered items))
+  pub fit : AreShared P items
+  pub keeps : map seen items ≡ kept
+
+many : {X Y : Type 0} (f : X → Y) (xs : List X) → length (map f xs) ≡ length xs
+many f [] = refl
+many f (x ∷ xs) = let more = many f xs in omega (arith, more)
+
+same_map : {X Y : Type 0} (f g : X → Y) → ((x : X) → f x ≡ g x) → (xs : List X) → map f xs ≡ map g xs
+same_map f g h [] = refl
+same_map f g h (x ∷ xs) = λ i. h x i ∷ same_map f g h xs i
+
+module _ {A X S : Type 0} (columns : ℕ × A → sql.Row) (P : A → Type 0) (small : ℕ × A → X) (Is : X → sql.Row → Type 0) (kinds : List Kind)
+    (full : (r : sql.Row) (x : X) → HaveKinds kinds r → Is x r → FullOf columns (IsShared P) small x r) (number : X → ℕ) (keep : X → S) (seen : A → S)
+    (numbers : (it : ℕ × A) → number (small it) ≡ it.0) (keeps_are : (it : ℕ × A) → keep (small it) ≡ seen it.1) where
+  pub shared_of : (table : List sql.Row) (kept : List S) → SharedRead Is kinds number keep table kept → SharedOf columns P seen table kept
+  shared_of table kept r =
+      let f = fulls columns (IsShared P) small Is (HaveKinds kinds) full r.found r.sorted table r.are_rows r.ones r.same in
+      let firsts : map (λ (it : ℕ × A). it.0) f.its ≡ map number r.sorted = sym (same_map _ _ numbers f.its) ∙ sym (map-map number small f.its) ∙ ap (map number) f.keeps in
+      let items = map (λ (it : ℕ × A). it.1) f.its in
+      let are : map seen items ≡ kept = map-map seen (λ (it : ℕ × A). it.1) f.its ∙ sym (same_map _ _ keeps_are f.its) ∙ sym (map-map keep small f.its) ∙ ap (map keep) f.keeps ∙ r.keeps in
+      let size : length items ≡ length kept = sym (many seen items) ∙ ap length are in record {
+        items = items;
+        has = shared_rows columns table f.its (subst (IsCounted 1) (sym firsts) r.counted) f.has;
+        fit = (subst (λ n. n < 2 ^ 32) (sym size) r.few, shared_fit P f.its f.fit);
+        keeps = are;
+      }
+
+-- ---- branches, whose last moments stand in a list of their own
+
+abbrev Told : Type 0
+Told = Branch × Option Moment
+
+abbrev pub told_row : Told → BranchRow
+told_row it = branch_row it.1 it.0
+
+not_first : (n : ℕ) → 1 ≤ n → (n + 1 == 1) ≡ false
+not_first n h = grind (arith, nat_tests)
+
+behind : (k m n : ℕ) (x : BranchRow) (xs : List BranchRow) → m ≡ n + k → 1 ≤ n → head (owned_by m (lasts_from k (x ∷ xs))) ≡ head (owned_by m (lasts_from (k + 1) xs))
+behind k m n x xs e low =
+    last_at k (x ∷ xs) (n + 1) m (omega (arith, e)) (omega arith)
+    ∙ ap (λ b. last_in (if b then x ∷ [] else at (n + 1 - 1) xs)) (not_first n low) ∙ ap (λ (j : ℕ). last_in (at j xs)) less
+    ∙ sym (last_at (k + 1) xs n m (omega (arith, e)) low)
+  where
+    less : n + 1 - 1 ≡ n
+    less = omega arith
+
+pub tell : (k : ℕ) (items : List Told) (l : List (Owned Moment)) → ((m : ℕ) → k ≤ m → head (owned_by m l) ≡ head (owned_by m (lasts_from k (map told_row items))))
+    → map (branch_columns l) (numbered_from k (map (λ (it : Told). it.0) items)) ≡ map told_columns (numbered_from k items)
+tell k [] l h = refl
+tell k (it ∷ items) l h =
+    let own : head (owned_by k l) ≡ it.1 = h k (omega arith) ∙ last_at k (told_row it ∷ map told_row items) 1 k (omega arith) (omega arith) in
+    (λ i. told_columns (k, (it.0, own i)) ∷ tell (k + 1) items l (λ m low. h m (omega (arith, low)) ∙ behind k m (m - k) (told_row it) (map told_row items) (omega (arith, low)) (omega (arith, low))) i)
+
+pub lasts_fit : (k : ℕ) (items : List Told) → AllByRecursion IsTold items → AllByRecursion IsLast (lasts_from k (map told_row items))
+lasts_fit k [] h = tt
+lasts_fit k (it ∷ items) h = go it.1 h.0.1 (lasts_fit (k + 1) items h.1)
+  where
+    go : (o : Option Moment) → IfSome o IsMoment → AllByRecursion IsLast (lasts_from (k + 1) (map told_row items)) → AllByRecursion IsLast (last_of k o ++ lasts_from (k + 1) (map told_row items))
+    go None is more = more
+    go (Some m) is more = (is, more)
+
+pub branches_fit : (items : List Told) → AllByRecursion IsTold items → AllByRecursion IsBranch (map (λ (it : Told). it.0) items)
+branches_fit [] h = tt
+branches_fit (it ∷ items) h = (h.0.0, branches_fit items h.1)

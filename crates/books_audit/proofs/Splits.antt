@@ -1,0 +1,94 @@
+-- Rows moved one by one into one of two lists.
+use Rattle.std.proofs.Common.{◌≡◌, ◌≤◌, ◌==◌, ◌++◌, ℕ, Bool, true, false, List, [], ◌∷◌, length, map, Some, None, refl, sym, ap, subst, arith, IsPermutation}
+use Rattle.std.specs.Prelude.{if◌then◌else◌}
+use Rattle.std.proofs.lemmas.Bool.Decides.{nat_tests}
+use Rattle.std.specs.List.{AllByRecursion}
+use Rattle.sqlite_value.specs.Order as sql
+use Rattle.book_rows.specs.Listed.{AreRows}
+use Rattle.books_audit.proofs.Counted.{kept_of_each}
+use Rattle.std.proofs.lemmas.List.{append-nil}
+use Rattle.shop_schema.specs.RowValues.{IsNumber}
+use Rattle.book_rows.proofs.KindLemmas.{ranged}
+use Rattle.book_checks.specs.Lists.{Key}
+use Rattle.book_checks.specs.declared.rows.KeptRow.{KeptRow}
+use Rattle.book_rows.specs.declared.kept.CallerRow.{CallerRow}
+use Rattle.books_audit.specs.Read.{office_caller, branch_caller}
+use Rattle.std.proofs.lemmas.List.Sorted.{IsPermutation-refl, IsPermutation-trans, IsPermutation-sym, IsPermutation-append, IsPermutation-middle}
+
+module _ {X : Type 0} where
+  pub one_moved : (all rest old new : List X) (x : X) → IsPermutation all ((x ∷ rest) ++ old) → IsPermutation new (x ∷ old) → IsPermutation all (rest ++ new)
+  one_moved all rest old new x p q =
+      IsPermutation-trans all _ _ p (IsPermutation-sym _ _ (IsPermutation-trans _ _ _ (IsPermutation-append rest rest new (x ∷ old) (IsPermutation-refl rest) q) (IsPermutation-middle rest x old)))
+
+  map_last : {K : Type 0} (f : K → X) (ks : List K) (k : K) → map f (ks ++ k ∷ []) ≡ map f ks ++ f k ∷ []
+  map_last f [] k = refl
+  map_last f (j ∷ ks) k = λ i. f j ∷ map_last f ks k i
+
+  pub first_grows : {K : Type 0} (f : K → X) (ks : List K) (k : K) (others : List X) → IsPermutation (map f (ks ++ k ∷ []) ++ others) (f k ∷ (map f ks ++ others))
+  first_grows f ks k others =
+      subst (λ l. IsPermutation (l ++ others) (f k ∷ (map f ks ++ others))) (sym (map_last f ks k))
+      (subst (λ l. IsPermutation l (f k ∷ (map f ks ++ others))) (sym (once_more (map f ks) (f k) others)) (IsPermutation-middle (map f ks) (f k) others))
+    where
+      once_more : (kept : List X) (x : X) (xs : List X) → (kept ++ x ∷ []) ++ xs ≡ kept ++ x ∷ xs
+      once_more [] x xs = refl
+      once_more (k ∷ kept) x xs = λ i. k ∷ once_more kept x xs i
+
+  pub second_grows : {K : Type 0} (f : K → X) (ks : List K) (k : K) (others : List X) → IsPermutation (others ++ map f (ks ++ k ∷ [])) (f k ∷ (others ++ map f ks))
+  second_grows f ks k others =
+      IsPermutation-trans _ _ _ (IsPermutation-append others others _ _ (IsPermutation-refl others) (last (map f ks) (f k))) (IsPermutation-middle others (f k) (map f ks))
+    where
+      last : (xs : List X) (x : X) → IsPermutation (map f (ks ++ k ∷ [])) (f k ∷ map f ks)
+      last xs x = subst (λ l. IsPermutation l (f k ∷ map f ks)) (sym (map_last f ks k)) (subst (λ l. IsPermutation (map f ks ++ f k ∷ []) (f k ∷ l)) (append-nil (map f ks)) (IsPermutation-middle (map f ks) (f k) []))
+
+pub zero_is : (n : ℕ) → (if n == 0 then None else Some n) ≡ None → n ≡ 0
+zero_is n = go (n == 0) refl
+  where
+    go : (b : Bool) → (n == 0) ≡ b → (if b then None else Some n) ≡ None → n ≡ 0
+    go true e h = grind (arith, nat_tests)
+    go false e h = cc
+
+pub some_is : (n m : ℕ) → (if n == 0 then None else Some n) ≡ Some m → n ≡ m
+some_is n m = go (n == 0)
+  where
+    go : (b : Bool) → (if b then None else Some n) ≡ Some m → n ≡ m
+    go true h = cc
+    go false h = cc
+
+pub all_more : {X : Type 0} (P : X → Type 0) (xs : List X) (x : X) → AllByRecursion P xs → P x → AllByRecursion P (xs ++ x ∷ [])
+all_more P [] x h p = (p, tt)
+all_more P (y ∷ xs) x h p = (h.0, all_more P xs x h.1 p)
+
+-- ---- callers
+
+pub office_step : (all rest before : List CallerRow) (row : CallerRow) (office new : List Key) (kept : List KeptRow) → IsPermutation all (before ++ (map office_caller office ++ map branch_caller kept)) → before ≡ row ∷ rest → row.caller ≡ 0 → new ≡ office ++ row.key ∷ []
+    → IsPermutation all (rest ++ (map office_caller new ++ map branch_caller kept))
+office_step all rest before row office new kept p e none g =
+    let old = map office_caller office ++ map branch_caller kept in
+    let same : row ≡ office_caller row.key = (λ i. record { caller = none i; key = row.key }) in
+    subst (λ l. IsPermutation all (rest ++ (map office_caller l ++ map branch_caller kept))) (sym g)
+    (one_moved all rest old _ (office_caller row.key) (subst (λ x. IsPermutation all ((x ∷ rest) ++ old)) same (subst (λ l. IsPermutation all (l ++ old)) e p)) (first_grows office_caller office row.key (map branch_caller kept)))
+
+pub branch_step : (all rest before : List CallerRow) (row : CallerRow) (office : List Key) (kept new : List KeptRow) (branch : ℕ) → IsPermutation all (before ++ (map office_caller office ++ map branch_caller kept)) → before ≡ row ∷ rest → row.caller ≡ branch → new ≡ kept ++ record { branch = branch; key = row.key } ∷ []
+    → IsPermutation all (rest ++ (map office_caller office ++ map branch_caller new))
+branch_step all rest before row office kept new branch p e is g =
+    let old = map office_caller office ++ map branch_caller kept in
+    let it : KeptRow = record { branch = branch; key = row.key } in
+    let same : row ≡ branch_caller it = (λ i. record { caller = is i; key = row.key }) in
+    subst (λ l. IsPermutation all (rest ++ (map office_caller office ++ map branch_caller l))) (sym g)
+    (one_moved all rest old _ (branch_caller it) (subst (λ x. IsPermutation all ((x ∷ rest) ++ old)) same (subst (λ l. IsPermutation all (l ++ old)) e p)) (second_grows branch_caller kept it (map office_caller office)))
+
+pub number_is : (n m : ℕ) → (if n == 0 then None else Some n) ≡ Some m → n ≤ 4_294_967_295 → IsNumber m
+number_is n m h high = subst IsNumber (some_is n m h) (ranged n (positive (n == 0) refl h, high))
+  where
+    positive : (b : Bool) → (n == 0) ≡ b → (if b then None else Some n) ≡ Some m → 1 ≤ n
+    positive true e k = cc
+    positive false e k = grind (arith, nat_tests)
+
+pub keys_same : (ks : List Key) → map (λ (k : Key). k) ks ≡ ks
+keys_same [] = refl
+keys_same (k ∷ ks) = ap (λ l. k ∷ l) (keys_same ks)
+
+-- ---- one row
+
+pub two_rows : {X : Type 0} (Is : X → sql.Row → Type 0) (first : X) (rest : List X) (rows : List sql.Row) → AreRows Is (first ∷ rest) rows → length rows ≡ 1 → length rest ≡ 0
+two_rows Is first rest rows h e = let many = kept_of_each Is (first ∷ rest) rows h in omega (arith, many, e)

@@ -1,0 +1,90 @@
+-- The table of kept commands, where it stands for books, can be read.
+use Rattle.std.proofs.Common.{◌≡◌, ◌∙◌, ℕ, List, [], ◌∷◌, ◌++◌, map, true, refl, sym, ap, arith, IsPermutation}
+use Rattle.std.specs.List.{AllByRecursion}
+use Rattle.std.specs.Str.{bytes_eq}
+use Rattle.std.proofs.lemmas.List.Sorted.{IsPermutation-sym, IsPermutation-trans}
+use Rattle.sql_rows.specs.Rows.{number_value}
+use Rattle.shop_model.specs.Rows.{Owned}
+use Rattle.shop_model.specs.Links.{are_different}
+use Rattle.shop_model.specs.Shop.{Kept, OfficeKept}
+use Rattle.shop_model.specs.Books.{Books}
+use Rattle.shop_schema.specs.Columns.{kept_columns, office_kept_columns, kept_rows}
+use Rattle.shop_schema.specs.Forms.{command_form, office_command_form}
+use Rattle.shop_schema.specs.RowValues.{IsNumber, IsKept, IsOfficeKept}
+use Rattle.book_rows.specs.Listed.{AreRows}
+use Rattle.book_rows.specs.Rows.{IsOneKept, IsCallerRow}
+use Rattle.book_rows.specs.declared.kept.CallerRow.{CallerRow}
+use Rattle.book_rows.proofs.KindLemmas.{in_range}
+use Rattle.book_checks.specs.Lists.{Key}
+use Rattle.book_checks.specs.Canons.{office_key}
+use Rattle.book_checks.specs.Ordered.{kept_row}
+use Rattle.book_checks.specs.declared.rows.KeptRow.{KeptRow}
+use Rattle.book_checks.proofs.Keys.{different_along, different-map, bytes_eq_symm}
+use Rattle.book_checks.proofs.Standing.{all_moved}
+use Rattle.books_audit.specs.declared.tables.TableRows.{TableRows}
+use Rattle.books_audit.specs.Audits.{HaveBooks}
+use Rattle.books_audit.specs.Read.{office_caller, branch_caller}
+use Rattle.books_audit.specs.Keys.{KeptCanBeRead}
+use Rattle.books_audit.proofs.KeptRows.{KeptOf, kept_of}
+use Rattle.books_audit.proofs.SameKept.{same_kept, same_office_keys}
+
+-- ---- each row is a kept command's
+
+not_office : (n : ℕ) → IsNumber n → number_value n ≡ number_value 0 → ⊥
+not_office n h e = let same : n ≡ 0 = cc in let low = (in_range n h).0 in absurd (omega (arith, low, same))
+
+kept_one : (row : Owned Kept) → IsKept row → IsOneKept (kept_columns row)
+kept_one row h = (
+  ((row.owner, (omega arith, (in_range row.owner h.0).1), refl), ((row.it.command.key, h.1.key, refl), ((command_form row.it.command, refl), ((row.it.reply, h.2, refl), tt)))),
+  record {
+    form = command_form row.it.command;
+    is = refl;
+    office = λ e. absurd (not_office row.owner h.0 e);
+    branch = λ e. (row.it.command, h.1.staff, h.1.moment, h.1.act, refl);
+  },
+)
+
+office_one : (it : OfficeKept) → IsOfficeKept it → IsOneKept (office_kept_columns it)
+office_one it h = (
+  ((0, (omega arith, omega arith), refl), ((it.command.key, h.0, refl), ((office_command_form it.command, refl), ((it.reply, h.2, refl), tt)))),
+  record {
+    form = office_command_form it.command;
+    is = refl;
+    office = λ e. (it.command.act, h.1, refl);
+    branch = λ e. absurd (e refl);
+  },
+)
+
+all_ones : (kept : List (Owned Kept)) (office : List OfficeKept) → AllByRecursion IsKept kept → AllByRecursion IsOfficeKept office → AllByRecursion IsOneKept (kept_rows kept office)
+all_ones [] [] h k = tt
+all_ones [] (it ∷ office) h k = (office_one it k.0, all_ones [] office h k.1)
+all_ones (row ∷ kept) office h k = (kept_one row h.0, all_ones kept office h.1 k)
+
+-- ---- no two have one key
+
+module _ (tables : TableRows) (b : Books) (t : HaveBooks tables b) where
+  ones : AllByRecursion IsOneKept tables.kept.items
+  ones = all_moved IsOneKept _ _ (IsPermutation-sym _ _ t.rows.kept) (all_ones b.kept b.catalogue.kept t.values.kept t.values.catalogue.kept)
+
+  module _ (found : List CallerRow) (office : List Key) (kept : List KeptRow) (rows : AreRows IsCallerRow found tables.kept.items) (branches : AllByRecursion (λ (x : KeptRow). IsNumber x.branch) kept)
+      (same : IsPermutation found (map office_caller office ++ map branch_caller kept)) where
+    of : KeptOf tables.kept.items office kept
+    of = kept_of tables.kept.items office kept branches (record { found = found; are_rows = rows; ones = ones; same = same })
+
+    both : IsPermutation (kept_rows of.kept of.office) (kept_rows b.kept b.catalogue.kept)
+    both = IsPermutation-trans _ _ _ (IsPermutation-sym _ _ of.has) t.rows.kept
+
+    office_differ : are_different bytes_eq office ≡ true
+    office_differ =
+        let keys = same_office_keys of.kept b.kept of.office b.catalogue.kept of.kept_fit t.values.kept both in
+        ap (are_different bytes_eq) (sym of.office_keys) ∙ different_along bytes_eq bytes_eq_symm _ _ keys ∙ different-map bytes_eq office_key b.catalogue.kept ∙ t.keys.office_kept
+
+    kept_differ : are_different (λ (x y : KeptRow). bytes_eq (x.branch ∷ x.key) (y.branch ∷ y.key)) kept ≡ true
+    kept_differ =
+        let bag = same_kept of.kept b.kept of.office b.catalogue.kept of.kept_fit t.values.kept both in
+        let same = λ (x y : KeptRow). bytes_eq (x.branch ∷ x.key) (y.branch ∷ y.key) in
+        ap (are_different same) (sym of.kept_keys) ∙ different-map same kept_row of.kept
+        ∙ different_along (λ x y. same (kept_row x) (kept_row y)) (λ x y. bytes_eq_symm (x.owner ∷ x.it.command.key) (y.owner ∷ y.it.command.key)) of.kept b.kept bag ∙ t.keys.kept
+
+  pub kept_can_be_read : KeptCanBeRead tables
+  kept_can_be_read = record { ones = ones; office = office_differ; kept = kept_differ }

@@ -1,0 +1,183 @@
+-- The tables of consignments, where they stand for books, can be read in the order of their keys and joined.
+use Rattle.std.proofs.Common.{◌≡◌, ◌∙◌, ◌+◌, ◌<◌, ◌≤◌, ◌==◌, ◌&&◌, ◌||◌, ℕ, List, [], ◌∷◌, ◌++◌, map, length, not, Bool, true, false, Some, refl, sym, ap, subst, arith, IsPermutation}
+use Rattle.std.specs.List.{AllByRecursion, flat_map, list_any}
+use Rattle.std.specs.Str.{bytes_eq}
+use Rattle.std.proofs.lemmas.Bool.Decides.{nat_tests}
+use Rattle.std.proofs.lemmas.List.Sorted.{IsPermutation-refl, IsPermutation-map, IsPermutation-sym, IsPermutation-trans}
+use Rattle.sqlite_keyed.proofs.ListLemmas.{map-map}
+use Rattle.shop_model.specs.Rows.{numbered_from}
+use Rattle.shop_model.specs.Links.{are_different}
+use Rattle.shop_model.specs.Books.{Books, Line, Consignment}
+use Rattle.shop_schema.specs.RowValues.{IsLine, IsConsignment, IsNumber}
+use Rattle.book_rows.specs.Kinds.{HaveKinds}
+use Rattle.book_rows.specs.Listed.{AreRows}
+use Rattle.book_rows.specs.Placed.{placed_columns, IsPlaced, IsLineRow, IsOneLine}
+use Rattle.book_rows.specs.Rows.{header_kinds, IsHeaderRow}
+use Rattle.book_rows.proofs.KindLemmas.{ranged}
+use Rattle.book_rows.proofs.RowLists.{all_are}
+use Rattle.book_checks.specs.Lists.{climbs}
+use Rattle.book_checks.specs.Joins.{Header, Placed, header, placed, put_line, header_key, placed_key, join}
+use Rattle.book_checks.specs.Seen.{seen_header, seen_placed}
+use Rattle.book_checks.specs.declared.rows.HeaderRow.{HeaderRow}
+use Rattle.book_checks.specs.declared.rows.LineRow.{LineRow}
+use Rattle.book_checks.proofs.JoinLemmas.{join_complete}
+use Rattle.book_checks.proofs.Keys.{both, different_along, different-map, bytes_eq_symm}
+use Rattle.book_checks.proofs.Standing.{same_rows}
+use Rattle.books_audit.specs.declared.tables.TableRows.{TableRows}
+use Rattle.books_audit.specs.Audits.{HaveBooks}
+use Rattle.books_audit.specs.Read.{RowsRead}
+use Rattle.books_audit.specs.TableGroups.{SentCanBeRead}
+use Rattle.books_audit.proofs.CustodyAudits.{columns_read, unread, unseen_placed, placed_again, one_placed}
+use Rattle.books_audit.proofs.Canonical.{same_consignment}
+use Rattle.books_audit.proofs.FullRows as full
+use Rattle.books_audit.proofs.FullRows.{IsHeader, header_columns, header_row}
+use Rattle.books_audit.proofs.SameConsignments.{one_header, as_placed}
+use Rattle.books_audit.proofs.StandKeyed.{read_bag}
+use Rattle.books_audit.proofs.StandPlaces.{anything}
+use Rattle.books_audit.proofs.StandStock.{headers_can_be_read, headers_fit}
+
+-- ---- lines of one consignment, and of two
+
+all_joined : {X : Type 0} (P : X → Type 0) (xs ys : List X) → AllByRecursion P xs → AllByRecursion P ys → AllByRecursion P (xs ++ ys)
+all_joined P [] ys h k = k
+all_joined P (x ∷ xs) ys h k = (h.0, all_joined P xs ys h.1 k)
+
+lines_of_one : (h : Header) (k : ℕ) (ls : List Line) → IsNumber h.source → IsNumber h.addressee → IsNumber h.number → 1 ≤ k → k + length ls ≤ 4_294_967_296 → AllByRecursion IsLine ls
+    → AllByRecursion IsPlaced (map (put_line h) (numbered_from k ls))
+lines_of_one h k [] s a n low high all = tt
+lines_of_one h k (l ∷ ls) s a n low high all =
+    (record { source = s; addressee = a; number = n; at = ranged k (low, omega (arith, high)); line = all.0 }, lines_of_one h (k + 1) ls s a n (omega (arith, low)) (omega (arith, high)) all.1)
+
+lines_fit : (its : List Consignment) → AllByRecursion IsConsignment its → AllByRecursion IsPlaced (flat_map placed its)
+lines_fit [] h = tt
+lines_fit (it ∷ its) h =
+    all_joined IsPlaced (placed it) (flat_map placed its) (lines_of_one (header it) 1 it.lines h.0.source h.0.addressee h.0.number (omega arith) (let few = h.0.few in omega (arith, few)) h.0.lines) (lines_fit its h.1)
+
+-- ---- their keys differ
+
+abbrev same_place : Placed → Placed → Bool
+same_place x y = bytes_eq (placed_key x) (placed_key y)
+
+none_joined : {X : Type 0} (p : X → Bool) (xs ys : List X) → list_any p xs ≡ false → list_any p ys ≡ false → list_any p (xs ++ ys) ≡ false
+none_joined p [] ys h k = k
+none_joined p (x ∷ xs) ys h k = go (p x) h (λ e. none_joined p xs ys e k)
+  where
+    go : (b : Bool) → (b || list_any p xs) ≡ false → (list_any p xs ≡ false → list_any p (xs ++ ys) ≡ false) → (b || list_any p (xs ++ ys)) ≡ false
+    go true e more = cc
+    go false e more = more e
+
+different_joined : {X : Type 0} (same : X → X → Bool) (xs ys : List X) → are_different same xs ≡ true → are_different same ys ≡ true → AllByRecursion (λ x. list_any (same x) ys ≡ false) xs → are_different same (xs ++ ys) ≡ true
+different_joined same [] ys h k none = k
+different_joined same (x ∷ xs) ys h k none =
+    let parts = both (not (list_any (same x) xs)) (are_different same xs) h in
+    let here = none_joined (same x) xs ys (unnot (list_any (same x) xs) parts.0) none.0 in
+    (λ i. not (here i) && different_joined same xs ys parts.1 k none.1 i)
+  where
+    unnot : (b : Bool) → not b ≡ true → b ≡ false
+    unnot true e = cc
+    unnot false e = refl
+
+last_differs : (a b c : Bool) → (a && (b && (c && (false && true)))) ≡ false
+last_differs true true true = refl
+last_differs true true false = refl
+last_differs true false c = refl
+last_differs false b c = refl
+
+header_differs : (a b c d : Bool) → (a && b && c) ≡ false → (a && (b && (c && (d && true)))) ≡ false
+header_differs true true true d h = cc
+header_differs true true false d h = refl
+header_differs true false c d h = refl
+header_differs false b c d h = refl
+
+none_later : (h : Header) (n k : ℕ) (l : Line) (ls : List Line) → n < k → list_any (same_place (put_line h (n, l))) (map (put_line h) (numbered_from k ls)) ≡ false
+none_later h n k l [] low = refl
+none_later h n k l (m ∷ ls) low =
+    let apart : (n == k) ≡ false = grind (arith, nat_tests) in
+    let here : same_place (put_line h (n, l)) (put_line h (k, m)) ≡ false
+    = ap (λ t. (h.source == h.source) && ((h.addressee == h.addressee) && ((h.number == h.number) && (t && true)))) apart ∙ last_differs (h.source == h.source) (h.addressee == h.addressee) (h.number == h.number) in
+    (λ i. here i || none_later h n (k + 1) l ls (omega (arith, low)) i)
+
+one_apart : (h : Header) (k : ℕ) (ls : List Line) → are_different same_place (map (put_line h) (numbered_from k ls)) ≡ true
+one_apart h k [] = refl
+one_apart h k (l ∷ ls) = λ i. not (none_later h k (k + 1) l ls (omega arith) i) && one_apart h (k + 1) ls i
+
+none_of_one : (it : Consignment) (n : ℕ) (l : Line) (h : Header) (k : ℕ) (ls : List Line) → (it.source == h.source && it.addressee == h.addressee && it.number == h.number) ≡ false
+    → list_any (same_place (put_line (header it) (n, l))) (map (put_line h) (numbered_from k ls)) ≡ false
+none_of_one it n l h k [] apart = refl
+none_of_one it n l h k (m ∷ ls) apart =
+    let here = header_differs (it.source == h.source) (it.addressee == h.addressee) (it.number == h.number) (n == k) apart in
+    (λ i. here i || none_of_one it n l h (k + 1) ls apart i)
+
+none_of_others : (it : Consignment) (n : ℕ) (l : Line) (its : List Consignment) → list_any (same_consignment it) its ≡ false → list_any (same_place (put_line (header it) (n, l))) (flat_map placed its) ≡ false
+none_of_others it n l [] none = refl
+none_of_others it n l (other ∷ its) none = go (same_consignment it other) refl none (λ h. none_of_others it n l its h)
+  where
+    go : (b : Bool) → same_consignment it other ≡ b → (b || list_any (same_consignment it) its) ≡ false
+        → (list_any (same_consignment it) its ≡ false → list_any (same_place (put_line (header it) (n, l))) (flat_map placed its) ≡ false) → list_any (same_place (put_line (header it) (n, l))) (placed other ++ flat_map placed its) ≡ false
+    go true e h more = cc
+    go false e h more = none_joined _ (placed other) (flat_map placed its) (none_of_one it n l (header other) 1 other.lines e) (more h)
+
+all_apart : (it : Consignment) (k : ℕ) (ls : List Line) (its : List Consignment) → list_any (same_consignment it) its ≡ false → AllByRecursion (λ x. list_any (same_place x) (flat_map placed its) ≡ false) (map (put_line (header it)) (numbered_from k ls))
+all_apart it k [] its none = tt
+all_apart it k (l ∷ ls) its none = (none_of_others it k l its none, all_apart it (k + 1) ls its none)
+
+lines_apart : (its : List Consignment) → are_different same_consignment its ≡ true → are_different same_place (flat_map placed its) ≡ true
+lines_apart [] h = refl
+lines_apart (it ∷ its) h =
+    let parts = both (not (list_any (same_consignment it) its)) (are_different same_consignment its) h in
+    different_joined same_place (placed it) (flat_map placed its) (one_apart (header it) 1 it.lines) (lines_apart its parts.1) (all_apart it 1 it.lines its (unnot (list_any (same_consignment it) its) parts.0))
+  where
+    unnot : (b : Bool) → not b ≡ true → b ≡ false
+    unnot true e = cc
+    unnot false e = refl
+
+-- ---- from books that stand
+
+module _ (tables : TableRows) (b : Books) (t : HaveBooks tables b) where
+  rows_placed : IsPermutation tables.lines.items (map placed_columns (flat_map placed b.consignments))
+  rows_placed = subst (IsPermutation tables.lines.items) (sym (as_placed b.consignments)) t.rows.lines
+
+  lines_bag : (found : List LineRow) → AreRows IsLineRow found tables.lines.items → IsPermutation (map seen_placed found) (flat_map placed b.consignments)
+  lines_bag found h =
+      let ys = map seen_placed found in
+      let has : IsPermutation tables.lines.items (map placed_columns ys) =
+      subst (λ l. IsPermutation l (map placed_columns ys)) (columns_read seen_placed placed_columns IsPlaced found tables.lines.items h) (IsPermutation-refl (map placed_columns ys)) in
+      same_rows placed_columns (λ it. Unit {0}) (λ x y _ _ e. one_placed x y e) tables.lines.items ys (flat_map placed b.consignments) (anything ys) (anything (flat_map placed b.consignments)) has rows_placed
+
+  lines_differ : (found : List LineRow) → AreRows IsLineRow found tables.lines.items → are_different (λ (x y : LineRow). same_place (seen_placed x) (seen_placed y)) found ≡ true
+  lines_differ found h =
+      sym (different-map same_place seen_placed found)
+      ∙ different_along same_place (λ x y. bytes_eq_symm (placed_key x) (placed_key y)) (map seen_placed found) (flat_map placed b.consignments) (lines_bag found h)
+      ∙ lines_apart b.consignments t.keys.consignments
+
+  pub sent_can_be_read : SentCanBeRead tables
+  sent_can_be_read = record {
+    headers = headers_can_be_read tables b t;
+    lines = record {
+      ones =
+          let it = unread seen_placed placed_columns IsPlaced unseen_placed placed_again (flat_map placed b.consignments) tables.lines.items (lines_fit b.consignments t.values.consignments) rows_placed in
+          all_are IsLineRow it.0 tables.lines.items it.1;
+      different = lines_differ;
+    };
+  }
+
+  headers_bag : (found : List HeaderRow) → AreRows IsHeaderRow found tables.consignments.items → IsPermutation (map seen_header found) (map header b.consignments)
+  headers_bag found h =
+      let it = read_bag header_columns IsHeader header_row IsHeaderRow (HaveKinds header_kinds) full.header_full full.header_one (λ x y _ _ e. one_header x y e) tables.consignments.items (map header b.consignments)
+      (headers_fit b.consignments t.values.consignments) (subst (IsPermutation tables.consignments.items) (sym (map-map header_columns header b.consignments)) t.rows.consignments) found h in
+      let same : map seen_header found ≡ it.0 = ap (map seen_header) (sym it.2) ∙ map-map seen_header header_row it.0 ∙ itself it.0 in
+      subst (λ l. IsPermutation l (map header b.consignments)) (sym same) it.1
+    where
+      itself : (hs : List Header) → map (λ h. seen_header (header_row h)) hs ≡ hs
+      itself [] = refl
+      itself (h ∷ hs) = ap (λ l. h ∷ l) (itself hs)
+
+  pub can_be_joined : (headers : List HeaderRow) (lines : List LineRow) → RowsRead IsHeaderRow (HaveKinds header_kinds) tables.consignments.items headers → RowsRead IsLineRow IsOneLine tables.lines.items lines
+      → climbs (map (λ (row : HeaderRow). row.source ∷ row.addressee ∷ row.number ∷ []) headers) ≡ true → climbs (map (λ (row : LineRow). row.source ∷ row.addressee ∷ row.number ∷ row.line ∷ []) lines) ≡ true
+      → (by_key : List Consignment) × (join (map seen_header headers) (map seen_placed lines) ≡ Some by_key)
+  can_be_joined headers lines h l up down =
+      let found = join_complete b.consignments (map seen_header headers) (map seen_placed lines)
+      (IsPermutation-trans _ _ _ (IsPermutation-sym _ _ (headers_bag h.found h.are_rows)) (IsPermutation-map seen_header _ _ h.same))
+      (IsPermutation-trans _ _ _ (IsPermutation-sym _ _ (lines_bag l.found l.are_rows)) (IsPermutation-map seen_placed _ _ l.same))
+      (ap climbs (map-map header_key seen_header headers) ∙ up) (ap climbs (map-map placed_key seen_placed lines) ∙ down) in
+      (found.0, found.2)

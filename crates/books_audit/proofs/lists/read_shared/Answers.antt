@@ -1,0 +1,23 @@
+use Rattle.std.proofs.Common.{◌∙◌, arith, ap, sym, map, true≢false}
+use Rattle.book_checks.specs.Lists.{counts_from}
+use Rattle.books_audit.proofs.Counted.{counted_is, is_counted}
+use Rattle.books_audit.proofs.lists.read_shared.Goals as goal
+
+pub returns-then-not-are_placed-clause-none : goal.returns-then-not-are_placed-clause-none
+returns-then-not-are_placed-clause-none g c h =
+    let is = c.are_placed.ensures ∙ ap (λ xs. counts_from 1 (map g.T.Shared.place xs)) c.as_slice.ensures.value in
+    true≢false (sym (is_counted 1 _ (h.counted c.in-Some.all.items _ (rw c.in-Some.is at c.in_ok-all.ensures.found) c.sort_places.ensures.permutation c.sort_places.ensures.sorted)) ∙ sym is ∙ c.if-not-are_placed.true)
+
+pub returns-clause-found : goal.returns-clause-found
+returns-clause-found g c =
+    let is = c.are_placed.ensures ∙ ap (λ xs. counts_from 1 (map g.T.Shared.place xs)) c.as_slice.ensures.value in
+    let low = c.if-rows-gt4294967295.false in record {
+      found = c.in-Some.all.items;
+      are_rows = rw c.in-Some.is at c.in_ok-all.ensures.found;
+      ones = rw c.in-Some.is at c.in_ok-all.ensures.ones;
+      few = omega (arith, low);
+      sorted = c.sort_places.new.rows.items;
+      same = c.sort_places.ensures.permutation;
+      counted = counted_is 1 _ (sym is ∙ c.if-not-are_placed.false);
+      keeps = c.in_ok-keep_all.ensures;
+    }

@@ -1,0 +1,27 @@
+-- What reading all tables in order makes sure of, and what it needs.
+use Rattle.std.specs.Prelude.{◌≡◌, List, [], ◌∷◌, map, Some, true}
+use Rattle.shop_model.specs.Books.{Consignment}
+use Rattle.book_rows.specs.Kinds.{HaveKinds}
+use Rattle.book_checks.specs.Lists.{climbs}
+use Rattle.book_checks.specs.Joins.{join}
+use Rattle.book_checks.specs.Ordered.{AreOrdered}
+use Rattle.book_checks.specs.Seen.{seen_header, seen_placed}
+use Rattle.book_checks.specs.declared.books.OrderedBooks.{OrderedBooks}
+use Rattle.book_checks.specs.declared.rows.HeaderRow.{HeaderRow}
+use Rattle.book_checks.specs.declared.rows.LineRow.{LineRow}
+use Rattle.book_rows.specs.Placed.{IsLineRow, IsOneLine}
+use Rattle.book_rows.specs.Rows.{header_kinds, IsHeaderRow}
+use Rattle.books_audit.specs.Read.{RowsRead, AreRowsRead, AreJoined}
+use Rattle.books_audit.specs.declared.tables.TableRows.{TableRows}
+use Rattle.books_audit.specs.Parts.{PartsCanBeRead}
+
+pub record AreReadInOrder (tables : TableRows) (rows : OrderedBooks) : Type 0 where
+  pub read : AreRowsRead tables rows
+  pub ordered : AreOrdered rows
+  pub joined : AreJoined rows
+
+pub record CanBeRead (tables : TableRows) : Type 0 where
+  pub parts : PartsCanBeRead tables
+  pub joined : (headers : List HeaderRow) (lines : List LineRow) → RowsRead IsHeaderRow (HaveKinds header_kinds) tables.consignments.items headers → RowsRead IsLineRow IsOneLine tables.lines.items lines
+      → climbs (map (λ (row : HeaderRow). row.source ∷ row.addressee ∷ row.number ∷ []) headers) ≡ true → climbs (map (λ (row : LineRow). row.source ∷ row.addressee ∷ row.number ∷ row.line ∷ []) lines) ≡ true
+      → (by_key : List Consignment) × (join (map seen_header headers) (map seen_placed lines) ≡ Some by_key)

@@ -1,0 +1,33 @@
+-- What a table has to be for its rows to be read in order: what every table that stands for books is.
+use Rattle.std.specs.Prelude.{◌≡◌, ◌<◌, ◌^◌, ℕ, List, map, length, true, IsPermutation}
+use Rattle.std.specs.List.{AllByRecursion}
+use Rattle.std.specs.List.Sorted.{IsSortedByKey}
+use Rattle.std.specs.Ordering.{nat_cmp}
+use Rattle.std.specs.Str.{bytes_eq}
+use Rattle.sqlite_value.specs.Order as sql
+use Rattle.shop_model.specs.Links.{are_different}
+use Rattle.shop_model.specs.Rows.{IsCounted}
+use Rattle.book_checks.specs.Lists.{Key}
+use Rattle.book_rows.specs.Listed.{AreRows}
+
+-- each row is one of the table, and no two have one key
+pub record AreKeyed {X : Type 0} (Is : X → sql.Row → Type 0) (One : sql.Row → Type 0) (key : X → Key) (table : List sql.Row) : Type 0 where
+  pub ones : AllByRecursion One table
+  pub different : (found : List X) → AreRows Is found table → are_different (λ a b. bytes_eq (key a) (key b)) found ≡ true
+
+-- each row is one of the table, and their numbers are 1, 2, ..
+pub record AreInPlaces {X : Type 0} (Is : X → sql.Row → Type 0) (One : sql.Row → Type 0) (number : X → ℕ) (table : List sql.Row) : Type 0 where
+  pub ones : AllByRecursion One table
+  pub few : length table < 2 ^ 32
+  pub counted : (found sorted : List X) → AreRows Is found table → IsPermutation found sorted → IsSortedByKey number nat_cmp sorted → IsCounted 1 (map number sorted)
+
+-- what was read of rows that are numbered 1, 2, .., in the order of their numbers, and what was kept of it
+pub record PlacesRead {X S : Type 0} (Is : X → sql.Row → Type 0) (One : sql.Row → Type 0) (number : X → ℕ) (keep : X → S) (table : List sql.Row) (kept : List S) : Type 0 where
+  pub found : List X
+  pub are_rows : AreRows Is found table
+  pub ones : AllByRecursion One table
+  pub few : length table < 2 ^ 32
+  pub sorted : List X
+  pub same : IsPermutation found sorted
+  pub counted : IsCounted 1 (map number sorted)
+  pub keeps : map keep sorted ≡ kept

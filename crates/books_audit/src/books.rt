@@ -1,0 +1,54 @@
+//! The audit of all tables.
+
+ghost use Rattle.std.specs.Prelude.{IfOk};
+ghost use Rattle.sqlite.specs.Held.{state};
+ghost use Rattle.sqlite.specs.State.{HasCleanDisk};
+ghost use Rattle.sql_rows.specs.Calls.{StaysInside};
+ghost use Rattle.shop_schema.specs.Shop.{IsShop};
+ghost use Rattle.books_audit.specs.declared.tables.TableRows.{TableRows};
+ghost use Rattle.books_audit.specs.Audits.{IsAuditOf};
+ghost use Rattle.books_audit.specs.Shops.{HaveTables, IsAuditOfShop};
+
+use crate::counts::have_counts;
+use crate::custody::NOTHING;
+use crate::ordered::audit_ordered;
+use crate::reading::read_ordered;
+use crate::shop_tables::read_tables;
+use crate::tables::TableRows;
+use shop_types::{Audit, NoMemory};
+use sql_rows::StoreFault;
+use sqlite::{Alter, Transaction};
+use std::alloc::Global;
+
+/// Whether the tables stand for sound books, by the widest limits that a chain can have, and how many copies those books have where. Tables that stand for no
+/// books aren't sound and count nothing: where a row is none of its table's, a number of a shared row or of a line is missing, a key is there twice, a line is
+/// of no consignment, or a table of counts says anything but what the books have. It takes time n log n in the rows.
+pub fn check_books(alloc: Global, tables: &TableRows) -> Result<Audit, NoMemory>
+    ensures { IfOk result (IsAuditOf tables.now) }
+{
+    let Some(rows) = read_ordered(alloc, tables)? else {
+        return Ok(NOTHING);
+    };
+    if !have_counts(alloc, tables, &rows)? {
+        return Ok(NOTHING);
+    }
+    audit_ordered(alloc, &rows)
+}
+
+/// The audit of a shop's tables, whatever they hold, which reads each once and changes none. `shop` says the same of the books for which the tables stand.
+pub fn audit_books<S: Alter>(
+    alloc: Global,
+    tx: &mut Transaction<'_, S>,
+) -> Result<Audit, StoreFault>
+    ensures inside { StaysInside S.Store tx.old.conn tx.new.conn result }
+    ensures audit { HasCleanDisk (state S.Store tx.new.conn.now) → IsShop (state S.Store tx.old.conn.now)
+        → IfOk result (λ audit. (tables : TableRows) → HaveTables (state S.Store tx.old.conn.now).now.trees tables → IsAuditOf tables audit) }
+    ensures shop { HasCleanDisk (state S.Store tx.new.conn.now) → IsShop (state S.Store tx.old.conn.now)
+        → IfOk result (IsAuditOfShop (state S.Store tx.old.conn.now).now.trees) }
+{
+    let tables = read_tables(tx)?;
+    match check_books(alloc, &tables) {
+        Ok(audit) => Ok(audit),
+        Err(NoMemory) => Err(StoreFault::Memory),
+    }
+}

@@ -1,0 +1,81 @@
+//! The audit of custody.
+
+ghost use Rattle.std.specs.Prelude.{◌≡◌, IfOk, map};
+ghost use Rattle.sqlite.specs.Held.{state};
+ghost use Rattle.sqlite.specs.State.{HasCleanDisk};
+ghost use Rattle.sql_rows.specs.Calls.{StaysInside};
+ghost use Rattle.sql_rows.specs.Rows.{columns_of};
+ghost use Rattle.shop_schema.specs.Shop.{IsShop};
+ghost use Rattle.book_checks.specs.Seen.{seen_copy, seen_line};
+ghost use Rattle.books_audit.specs.Audited.{AuditsRows, CountsCustody, IsCustodyAudit};
+
+use crate::selects::{copy_rows, line_rows};
+use book_checks::{
+    CopyRow, CopyState, LineRow, LineState, are_in_custody, copies_made, copies_under, lines_under,
+};
+use book_rows::read_rows;
+use shop_types::{Audit, NoMemory};
+use sql_rows::StoreFault;
+use sqlite::{Alter, Row, Transaction};
+use std::alloc::Global;
+
+/// Nothing is sound, and nothing counts.
+pub(crate) const NOTHING: Audit = Audit {
+    sound: false,
+    made: 0,
+    here: 0,
+    transit: 0,
+    gone: 0,
+};
+
+/// How many copies are where, beside whether all is sound.
+pub(crate) fn counted(sound: bool, copies: &[CopyRow], lines: &[LineRow]) -> Audit
+    ensures sound { result.sound ≡ sound }
+    ensures counts { CountsCustody result (map seen_copy copies.now) (map seen_line lines.now) }
+{
+    Audit {
+        sound,
+        made: copies_made(copies),
+        here: copies_under(CopyState::Here, copies),
+        transit: lines_under(LineState::UnderWay, lines),
+        gone: copies_under(CopyState::Scrapped, copies) + lines_under(LineState::Missing, lines),
+    }
+}
+
+/// The audit of copies and lines that could be read.
+fn audit_rows(alloc: Global, copies: &[CopyRow], lines: &[LineRow]) -> Result<Audit, NoMemory>
+    ensures { IfOk result (λ audit. AuditsRows audit (map seen_copy copies.now) (map seen_line lines.now)) }
+{
+    let sound = are_in_custody(alloc, copies, lines)?;
+    Ok(counted(sound, copies, lines))
+}
+
+/// The audit of custody over the rows of the two tables, as they were read.
+pub fn check_custody(alloc: Global, copies: &[Row], lines: &[Row]) -> Result<Audit, NoMemory>
+    ensures { IfOk result (IsCustodyAudit copies.now lines.now) }
+{
+    let Some(copies) = read_rows::<CopyRow>(alloc, copies)? else {
+        return Ok(NOTHING);
+    };
+    let Some(lines) = read_rows::<LineRow>(alloc, lines)? else {
+        return Ok(NOTHING);
+    };
+    audit_rows(alloc, copies.as_slice(), lines.as_slice())
+}
+
+/// Whether each mark of a copy or a line is made, has one place and goes with one film, and how many there are, whatever the two tables hold.
+pub fn audit_custody<S: Alter>(
+    alloc: Global,
+    tx: &mut Transaction<'_, S>,
+) -> Result<Audit, StoreFault>
+    ensures inside { StaysInside S.Store tx.old.conn tx.new.conn result }
+    ensures audit { HasCleanDisk (state S.Store tx.new.conn.now) → IsShop (state S.Store tx.old.conn.now)
+        → IfOk result (IsCustodyAudit (map (columns_of 6) ((state S.Store tx.old.conn.now).now.trees 25)) (map (columns_of 8) ((state S.Store tx.old.conn.now).now.trees 37))) }
+{
+    let copies = copy_rows(tx)?;
+    let lines = line_rows(tx)?;
+    match check_custody(alloc, copies.as_slice(), lines.as_slice()) {
+        Ok(audit) => Ok(audit),
+        Err(NoMemory) => Err(StoreFault::Memory),
+    }
+}

@@ -1,0 +1,105 @@
+//! What was read of a table, in the order of keys or of numbers.
+
+ghost use Rattle.std.specs.Prelude.{◌≡◌, ◌<◌, ◌^◌, ℕ, true, map, length, IsPermutation, IfOk, IfSome, IfNone};
+ghost use Rattle.std.specs.List.Sorted.{IsSortedByKey};
+ghost use Rattle.std.specs.Ordering.{nat_cmp};
+ghost use Rattle.book_checks.specs.Lists.{climbs, counts_from};
+ghost use Rattle.books_audit.specs.Read.{RowsRead};
+ghost use Rattle.books_audit.specs.ReadLists.{AreKeyed, AreInPlaces, PlacesRead};
+
+use book_checks::{Keyed, climbs, sort_rows};
+use book_rows::{Listed, read_rows};
+use shop_types::NoMemory;
+use sqlite::Row;
+use std::alloc::Global;
+
+/// What is kept of a table's rows in the order of their keys, or nothing where a row is none of the table's or two have one key.
+pub(crate) fn read_keyed<T: Listed + Keyed>(
+    alloc: Global,
+    rows: &[Row],
+) -> Result<Option<Vec<T>>, NoMemory>
+    ensures found { IfOk result (λ o. IfSome o (λ all. RowsRead T.Listed.is_row T.Listed.is_one rows.now all.items)) }
+    ensures climbs { IfOk result (λ o. IfSome o (λ all. climbs (map T.Keyed.key all.items) ≡ true)) }
+    ensures none { IfOk result (λ o. IfNone o (¬ AreKeyed T.Listed.is_row T.Listed.is_one T.Keyed.key rows.now)) }
+{
+    let Some(mut all) = read_rows::<T>(alloc, rows)? else {
+        return Ok(None);
+    };
+    sort_rows(&mut all);
+    if !climbs(all.as_slice()) {
+        return Ok(None);
+    }
+    Ok(Some(all))
+}
+
+/// What is kept of a shared row has its number, which is its place.
+pub(crate) trait Shared: Listed {
+    type Kept: Drop;
+
+    ghost place: { Self → ℕ };
+
+    // what stands in its place
+    ghost keep: { Self → Self.Kept };
+
+    fn place(&self) -> u32
+        ensures { result ≡ place self.now };
+
+    fn keep(self) -> Self::Kept
+        ensures { result ≡ keep self };
+}
+
+/// Puts the rows in the order of their numbers.
+fn sort_places<T: Shared>(rows: &mut Vec<T>)
+    ensures permutation { IsPermutation rows.old.items rows.new.items }
+    ensures sorted { IsSortedByKey T.Shared.place nat_cmp rows.new.items }
+{
+    rows.sort_unstable_by(|a, b| a.place().cmp(&b.place()));
+}
+
+/// Whether the rows are numbered 1, 2, ..
+fn are_placed<T: Shared>(rows: &[T]) -> bool
+    ensures { result ≡ counts_from 1 (map T.Shared.place rows.now) }
+{
+    let mut next = 1u64;
+    for row in rows {
+        if u64::from(row.place()) != next {
+            return false;
+        }
+        next += 1;
+    }
+    true
+}
+
+/// What stands in the places of the rows.
+fn keep_all<T: Shared>(alloc: Global, rows: Vec<T>) -> Result<Vec<T::Kept>, NoMemory>
+    ensures { IfOk result (λ all. map T.Shared.keep rows.items ≡ all.items) }
+{
+    let mut all = Vec::new(alloc);
+    for row in rows {
+        if all.push(row.keep()).is_err() {
+            return Err(NoMemory);
+        }
+    }
+    Ok(all)
+}
+
+/// What stands in the places of a table's rows, or nothing where a row is none of the table's or they aren't numbered 1, 2, ..
+pub(crate) fn read_shared<T: Shared>(
+    alloc: Global,
+    rows: &[Row],
+) -> Result<Option<Vec<T::Kept>>, NoMemory>
+    ensures found { IfOk result (λ o. IfSome o (λ all. PlacesRead T.Listed.is_row T.Listed.is_one T.Shared.place T.Shared.keep rows.now all.items)) }
+    ensures none { IfOk result (λ o. IfNone o (¬ AreInPlaces T.Listed.is_row T.Listed.is_one T.Shared.place rows.now)) }
+{
+    if rows.len() > 4_294_967_295 {
+        return Ok(None);
+    }
+    let Some(mut all) = read_rows::<T>(alloc, rows)? else {
+        return Ok(None);
+    };
+    sort_places(&mut all);
+    if !are_placed(all.as_slice()) {
+        return Ok(None);
+    }
+    Ok(Some(keep_all(alloc, all)?))
+}

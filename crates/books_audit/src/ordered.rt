@@ -1,0 +1,22 @@
+//! The audit of rows that were read and put in order.
+
+ghost use Rattle.std.specs.Prelude.{IfOk};
+ghost use Rattle.book_checks.specs.Ordered.{AreOrdered};
+ghost use Rattle.books_audit.specs.Read.{AuditsOrdered};
+
+use crate::custody::counted;
+use book_checks::OrderedBooks;
+use shop_types::{Audit, NoMemory};
+use sound_books::is_sound;
+use std::alloc::Global;
+
+/// What an audit says of books that have these rows.
+pub(crate) fn audit_ordered(alloc: Global, rows: &OrderedBooks) -> Result<Audit, NoMemory>
+    requires { AreOrdered rows.now }
+    ensures { IfOk result (AuditsOrdered rows.now) }
+{
+    let copies = rows.copies.as_slice();
+    let lines = rows.lines.as_slice();
+    let sound = is_sound(alloc, rows)?;
+    Ok(counted(sound, copies, lines))
+}

@@ -1,0 +1,18 @@
+-- What an audit says of sound books.
+use Rattle.std.proofs.Common.{◌≡◌, ◌∙◌, refl, ap, true, IsTrue}
+use Rattle.sqlite.specs.State.{State}
+use Rattle.shop_model.specs.Books.{Books}
+use Rattle.shop_model.specs.Sound.{IsSound}
+use Rattle.shop_types.specs.declared.audit.Audit.{Audit}
+use Rattle.shop_schema.specs.RowValues.{AreValues}
+use Rattle.chain_store.specs.Chains.{Rests, widest_rules}
+use Rattle.chain_store.specs.Audits.{AuditsState, IsAuditOfBooks}
+
+-- an audit of the tables that stand for sound books says that they are, and counts them
+pub audit_of_books : (s : State) (audit : Audit) → AuditsState s audit → (books : Books) → Rests s books → AreValues books → IsSound widest_rules books → IsAuditOfBooks audit books
+audit_of_books s audit says books rests values sound =
+    let holds = rests.now says.is_open in
+    let audits = (says.audits holds.schema_is).books in
+    let counts = audits.counts widest_rules books holds.stands values sound in
+    let is : IsTrue audit.sound = (audits.sound widest_rules).1 (books, holds.stands, values, sound) in
+    rw (is, counts.made, counts.here, counts.transit, counts.gone) refl

@@ -1,0 +1,6 @@
+mod BranchLemmas
+mod CatalogueLemmas
+mod ConsignmentLemmas
+mod PartLemmas
+mod PlaceLemmas
+mod SoundLemmas

@@ -1,0 +1,4 @@
+pub mod Parts
+pub mod Catalogues
+pub mod Consignments
+pub mod Checked
