@@ -1,0 +1,18 @@
+use Rattle.std.proofs.Common.{Ok, Err, Result, IfOk}
+use Rattle.chain_stops.proofs.Resuming.{crashed_keeps, crashed_either}
+use Rattle.chain_stops.proofs.restarting.restart.Goals as goal
+
+ok_then : {A E : Type 0} (r : Result A E) {P Q : A → Type 0} → IfOk r P → ((x : A) → P x → Q x) → IfOk r Q
+ok_then (Ok x) h f = f x h
+ok_then (Err e) h f = tt
+
+pub returns-clause-honest : goal.returns-clause-honest
+returns-clause-honest g c = ok_then c.open_files.result c.open_files.ensures.opened (λ again it clean. c.close.ensures.clean (c.crashed.ensures.clean (it.honest clean)))
+
+pub returns-clause-same : goal.returns-clause-same
+returns-clause-same g c = ok_then c.open_files.result c.open_files.ensures.opened (λ again it clean live books besides at.
+    it.again clean books (crashed_keeps g.D.Disk c.close.result c.crashed.result books c.crashed.ensures.left c.crashed.ensures.clean (c.close.ensures.keeps live books besides at)))
+
+pub returns-clause-either : goal.returns-clause-either
+returns-clause-either g c = ok_then c.open_files.result c.open_files.ensures.opened (λ again it clean books besides at.
+    it.either clean books besides (crashed_either g.D.Disk c.close.result c.crashed.result books besides c.crashed.ensures.left c.crashed.ensures.clean (c.close.ensures.either books besides at)))
