@@ -16,7 +16,7 @@ use Rattle.counter_http.specs.declared.connection.ServeFault.{ServeFault}
 use Rattle.counter_http.specs.declared.connection.ServeFault.TheVariants as kind
 use Rattle.counter_http.proofs.Runs.{run_starts}
 
-both_run : (meaning : Meaning) (old mid new : Holding) (es more : List Exchange)
+pub both_run : (meaning : Meaning) (old mid new : Holding) (es more : List Exchange)
     → Runs (events_of meaning es) (answers_of es) old mid → Runs (events_of meaning more) (answers_of more) mid new
     → Runs (events_of meaning (es ++ more)) (answers_of (es ++ more)) old new
 both_run meaning old mid new es more first second =

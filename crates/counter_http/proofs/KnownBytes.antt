@@ -1,19 +1,13 @@
 -- What reads and writes do, one after another.
-use Rattle.std.proofs.Common.{◌≡◌, ℕ, ◌+◌, ◌-◌, ◌≤◌, ◌<◌, length-append, arith, zero-add, List, ◌++◌, Option, sym, ap, ◌∙◌, append_assoc, length, take, drop, subst}
-use Rattle.std.proofs.lemmas.List.{take-append-drop, take_rest, drop-take, length-drop}
+use Rattle.std.proofs.Common.{◌≡◌, ℕ, ◌+◌, ◌-◌, ◌≤◌, ◌<◌, length-append, arith, zero-add, List, [], ◌++◌, Option, refl, sym, ap, ◌∙◌, append_assoc, append-nil, length, take, drop, subst}
+use Rattle.std.proofs.lemmas.List.{take-append-drop, take_rest, drop-take, drop-drop, length-drop}
 use Rattle.std.proofs.lemmas.List.Edits.{take-paste}
 use Rattle.std.specs.List.{copy_within}
-use Rattle.std.proofs.Math.Seq.{take-add, paste, take-append-add}
+use Rattle.std.proofs.Math.Seq.{paste, take-append-add}
 use Rattle.std.proofs.lemmas.List.{take-append-le, length-take-le}
 use Rattle.std.specs.Prelude.{Result, Ok, Err, OnErr}
-use Rattle.std.specs.Io.KnownBytes.{Appends}
-use Rattle.std.proofs.KnownBytes.{Appends-trans}
-
-pub Appends-more : (a b c : Option (List ℕ)) (i n : ℕ) (xs : List ℕ)
-    → Appends a b (take i xs) → Appends b c (take n (take (length xs - i) (drop i xs))) → Appends a c (take (i + n) xs)
-Appends-more a b c i n xs p q =
-    let q' = rw (take_rest xs i) at q in
-    rw (take-add i n xs) (Appends-trans a b c (take i xs) (take n (drop i xs)) p q')
+use Rattle.std.specs.Io.KnownBytes.{Appends, Keeps}
+use Rattle.std.proofs.KnownBytes.{Appends-nil, Appends-kept, Appends-trans}
 
 pub consumed : (xs : List ℕ) (n k : ℕ) → n ≤ k → k ≤ length xs → take (k - n) (copy_within xs n k 0) ≡ drop n (take k xs)
 consumed xs n k le fits =
@@ -24,11 +18,6 @@ consumed xs n k le fits =
     let sum : n + m ≡ k = omega arith in
     let part = rw sum at (drop-take n m xs) in
     short ∙ sym part
-
--- a front of the bytes was written
-pub front_written : (a b : Option (List ℕ)) (i : ℕ) (xs : List ℕ) → Appends a b (take i xs) → i < length xs
-    → (x : List ℕ) × (y : List ℕ) × (xs ≡ x ++ y) × (0 < length y) × Appends a b x
-front_written a b i xs p lt = (take i xs, drop i xs, sym (take-append-drop i xs), omega (arith, length-drop i xs), p)
 
 pub filled_more : (xs buf after : List ℕ) (f n : ℕ) → f ≤ length xs → n ≤ length buf
     → take (f + n) (take f xs ++ (buf ++ after)) ≡ take f xs ++ take n buf
@@ -51,3 +40,42 @@ first_front a b head body (x, y, e, l, w) = (x, y ++ body, ap (λ l. l ++ body) 
 -- the first part was written, and a front of the second
 pub second_front : (a b c : Option (List ℕ)) (head body : List ℕ) → Appends a b head → IsFrontWritten b c body → IsFrontWritten a c (head ++ body)
 second_front a b c head body p (x, y, e, l, w) = (head ++ x, y, ap (λ l. head ++ l) e ∙ sym (append_assoc head x y), l, Appends-trans a b c head x p w)
+
+-- ---- what is left to write
+
+-- so much was written, from what was left before to what is left after
+abbrev pub IsWritten : Option (List ℕ) → Option (List ℕ) → List ℕ → List ℕ → Type 0
+IsWritten output written before after = (sent : List ℕ) × Appends output written sent × (before ≡ sent ++ after)
+
+pub written_none : (output : Option (List ℕ)) (before : List ℕ) → IsWritten output output before before
+written_none output before = ([], Appends-nil output, refl)
+
+pub written_kept : (output mid written : Option (List ℕ)) (before after : List ℕ) → IsWritten output mid before after → Keeps mid written → IsWritten output written before after
+written_kept output mid written before after (sent, appends, parts) keeps = (sent, Appends-kept output mid written sent appends keeps, parts)
+
+pub written_more : (output mid written : Option (List ℕ)) (bytes before : List ℕ) (at n : ℕ) → IsWritten output mid before (drop at bytes)
+    → Appends mid written (take n (take (length bytes - at) (drop at bytes))) → IsWritten output written before (drop (at + n) bytes)
+written_more output mid written bytes before at n (sent, appends, parts) more =
+    let more' = rw (take_rest bytes at) at more in
+    let rest : drop at bytes ≡ take n (drop at bytes) ++ drop (at + n) bytes = sym (take-append-drop n (drop at bytes)) ∙ ap (λ (l : List ℕ). take n (drop at bytes) ++ l) (drop-drop n at bytes) in (
+      sent ++ take n (drop at bytes),
+      Appends-trans output mid written sent (take n (drop at bytes)) appends more',
+      parts ∙ ap (λ (l : List ℕ). sent ++ l) rest ∙ sym (append_assoc sent (take n (drop at bytes)) (drop (at + n) bytes)),
+    )
+
+-- a part, and behind it the next
+pub written_two : (output mid written : Option (List ℕ)) (head after body rest : List ℕ) → IsWritten output mid head after → after ≡ [] → IsWritten mid written body rest
+    → IsWritten output written (head ++ body) (after ++ rest)
+written_two output mid written head after body rest (sent, appends, parts) none (sent_too, appends_too, parts_too) = (
+  sent ++ sent_too,
+  Appends-trans output mid written sent sent_too appends appends_too,
+  rw (none) (ap (λ (l : List ℕ). l ++ body) (parts ∙ ap (λ (l : List ℕ). sent ++ l) none ∙ append-nil sent) ∙ ap (λ (l : List ℕ). sent ++ l) parts_too ∙ sym (append_assoc sent sent_too rest)),
+)
+
+-- all of it was written
+pub written_all : (output written : Option (List ℕ)) (before after : List ℕ) → IsWritten output written before after → after ≡ [] → Appends output written before
+written_all output written before after (sent, appends, parts) none = rw (parts, none, append-nil sent) appends
+
+-- not all of it was
+pub written_front : (output written : Option (List ℕ)) (before after : List ℕ) → IsWritten output written before after → 0 < length after → IsFrontWritten output written before
+written_front output written before after (sent, appends, parts) some = (sent, after, parts, some, appends)

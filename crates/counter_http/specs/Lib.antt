@@ -1,5 +1,9 @@
 pub mod Events
 pub mod Exchanges
 pub mod Branches
+pub mod Connections
 pub mod Served
 pub mod Reads
+pub mod Unsent
+pub mod Standings
+pub mod Together

@@ -58,7 +58,7 @@ pub enum ServeFault {
 
 /// What a reply means for the connection.
 #[derive(Clone, Copy)]
-enum After {
+pub(crate) enum After {
     Goes,
     Asks,
     Fails,
@@ -70,6 +70,19 @@ fn is_failure(reply: &Reply) -> bool
     ensures { result ≡ is_store_failure (seen_reply reply.now) }
 {
     reply.status == 503 && reply.body_bytes() == b"{\"refused\":\"store_failed\"}".as_slice()
+}
+
+/// What the reply to the request means for the connection.
+pub(crate) fn after_reply(reply: &Reply, request: &Request<'_>) -> After
+    ensures { IsAfter result (record { message = message_of request.now; answer = seen_reply reply.now }) }
+{
+    if is_failure(reply) {
+        After::Fails
+    } else if request.closes {
+        After::Asks
+    } else {
+        After::Goes
+    }
 }
 
 fn write_reply<W: Write>(writer: &mut W, reply: &Reply) -> io::Result<()>
@@ -84,7 +97,7 @@ fn write_reply<W: Write>(writer: &mut W, reply: &Reply) -> io::Result<()>
 }
 
 /// The reply to a text that is no message.
-fn fault_reply(fault: Fault) -> Reply
+pub(crate) fn fault_reply(fault: Fault) -> Reply
     ensures { text_of (seen_reply result) ≡ fault_text fault }
 {
     match fault {
@@ -110,15 +123,9 @@ fn respond<W: Write, O: OfficeWords, S: Alter>(
         × Appends (W.contents writer.old) (W.contents writer.new) front)) }
 {
     let reply = answer(alloc, chain, routes, words, request);
-    let failed = is_failure(&reply);
+    let after = after_reply(&reply, request);
     write_reply(writer, &reply)?;
-    Ok(if failed {
-        After::Fails
-    } else if request.closes {
-        After::Asks
-    } else {
-        After::Goes
-    })
+    Ok(after)
 }
 
 /// Reads requests and writes the replies to them, until the input or the connection ends, or `max_requests` are answered; with 0 nothing is read.

@@ -1,5 +1,5 @@
 -- What the program prints, and the status that it ends with.
-use Rattle.std.specs.Prelude.{◌≡◌, ◌≢◌, ◌⊎◌, ◌==◌, ℕ, List, [], ◌∷◌, ◌++◌, Option, if◌then◌else◌}
+use Rattle.std.specs.Prelude.{◌≡◌, ◌≢◌, ◌⊎◌, ◌==◌, ◌<◌, ℕ, List, [], ◌∷◌, ◌++◌, length, Option, if◌then◌else◌}
 use Rattle.std.specs.Io.KnownBytes.{Appends, Keeps}
 use Rattle.shop_model.specs.Answers.{Answer}
 
@@ -7,9 +7,13 @@ use Rattle.shop_model.specs.Answers.{Answer}
 abbrev pub line_bytes : List ℕ → List ℕ
 line_bytes text = text ++ 10 ∷ []
 
--- the text is printed as a line, with status 0; where standard output fails the status is 3
+-- a front of the bytes is printed, and not all of them
+abbrev pub IsCutOff : List ℕ → Option (List ℕ) → Option (List ℕ) → Type 0
+IsCutOff bytes output written = (front : List ℕ) × (rest : List ℕ) × (bytes ≡ front ++ rest) × (0 < length rest) × Appends output written front
+
+-- the text is printed as a line, with status 0; where standard output fails before the line's end the status is 3
 abbrev pub IsPrinted : List ℕ → ℕ → Option (List ℕ) → Option (List ℕ) → Type 0
-IsPrinted text status output written = ((status ≡ 0) × Appends output written (line_bytes text)) ⊎ (status ≡ 3)
+IsPrinted text status output written = ((status ≡ 0) × Appends output written (line_bytes text)) ⊎ ((status ≡ 3) × IsCutOff (line_bytes text) output written)
 
 -- nothing is printed on standard output, with that status
 abbrev pub IsSilent : ℕ → ℕ → Option (List ℕ) → Option (List ℕ) → Type 0

@@ -23,6 +23,10 @@ use sqlite_disk::Disk;
 use sqlite_std_file::File;
 use std::io::Write;
 use std::net::{Ipv4Addr, TcpListener};
+use std::time::Duration;
+
+/// For how many seconds a peer that sends no whole request, or takes nothing of a reply, is waited for.
+const PATIENCE: u64 = 30;
 
 /// Makes a chain in the file, and tells its version.
 pub(crate) fn make<W: Write, E: Write>(
@@ -84,8 +88,14 @@ fn serve_port<S: Alter>(rt: &HostRuntime, chain: &mut Chain<S>, port: u16, conne
     let Ok(listener) = TcpListener::bind(rt, (Ipv4Addr::LOCALHOST, port)) else {
         return 3;
     };
-    let alloc = rt.alloc();
-    serve_listener(alloc, &listener, chain, &ClapWords { alloc }, connections)
+    serve_listener(
+        rt,
+        &listener,
+        chain,
+        &ClapWords { alloc: rt.alloc() },
+        connections,
+        Duration::from_secs(PATIENCE),
+    )
 }
 
 /// The status after so many connections, and the chain's files, closed.

@@ -2,10 +2,11 @@
 #![tactic(auto)]
 
 mod commands;
+mod peers;
 mod printing;
 mod program;
 mod replays;
 mod serving;
 
 pub use program::run;
-pub use serving::{serve_listener, serve_patiently};
+pub use serving::serve_listener;

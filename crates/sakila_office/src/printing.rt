@@ -1,21 +1,23 @@
 //! What is printed, and the status that goes with it.
-ghost use Rattle.std.specs.Prelude.{◌≡◌, OnOk};
+ghost use Rattle.std.specs.Prelude.{◌≡◌, OnOk, OnErr};
 ghost use Rattle.std.specs.Io.KnownBytes.{Appends};
 ghost use Rattle.shop_types.specs.Replies.{seen_reply};
-ghost use Rattle.sakila_office.specs.Printed.{line_bytes, IsPrinted, IsTold};
+ghost use Rattle.sakila_office.specs.Printed.{line_bytes, IsCutOff, IsPrinted, IsTold};
 
 use chain_engine::OpenFault;
+use counter_http::write_whole;
 use shop_types::Reply;
 use std::io::{self, Write};
 
 fn write_line<W: Write>(writer: &mut W, text: &[u8]) -> io::Result<()>
-    ensures { OnOk result (Appends (W.contents writer.old) (W.contents writer.new) (line_bytes text.now)) }
+    ensures ok { OnOk result (Appends (W.contents writer.old) (W.contents writer.new) (line_bytes text.now)) }
+    ensures err { OnErr result (IsCutOff (line_bytes text.now) (W.contents writer.old) (W.contents writer.new)) }
 {
-    writer.write_all(text)?;
-    writer.write_all(b"\n")
+    write_whole(writer, text)?;
+    write_whole(writer, b"\n")
 }
 
-/// Prints a line on standard output, with status 0.
+/// Prints a line on standard output, with status 0; with 3 where standard output fails before the line's end.
 pub(crate) fn print<W: Write>(out: &mut W, text: &[u8]) -> u8
     ensures { IsPrinted text.now result (W.contents out.old) (W.contents out.new) }
 {

@@ -1,5 +1,7 @@
 //! Calls that no request makes, each once: `call NAME`.
+use crate::side_by_side::tills;
 use crate::sockets::peers;
+use crate::stops::{creations, stopped};
 use crate::values::{NO_VALUE, is_so, rentals, rewards, routes, texts};
 use chain_engine::{Chain, OpenFault};
 use counter_http::reply_bytes;
@@ -110,7 +112,12 @@ pub fn call(rt: &HostRuntime, name: &str) -> Result<(), Fault> {
         "rewards" => rewards(),
         "rentals" => rentals(),
         "routes" => routes(),
+        "stopped" => stopped(alloc),
+        "creations" => creations(alloc),
         "texts" => texts(alloc),
-        _ => Err(Fault::Line("there is no such call")),
+        _ => match name.strip_prefix("tills ") {
+            Some(name) => tills(rt, name),
+            None => Err(Fault::Line("there is no such call")),
+        },
     }
 }

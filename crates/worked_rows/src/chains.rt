@@ -1,9 +1,11 @@
 //! What the rows are played on: a chain in files on disks in memory, and the whole program.
 use crate::calls::call;
 use crate::fuses::new_files;
-use crate::shops::{Shop, new_shop};
+use crate::shops::{Shop, new_shop, opened};
+use crate::sweeps::swept;
 use row_texts::{Fault, How, Ran, Stage, Told, remove_files};
 use sakila_office::run;
+use shop_types::Limits;
 use sqlite_disk::{Fuse, Memory};
 use std::alloc::Global;
 
@@ -19,6 +21,8 @@ pub struct Chains<'t> {
     fewer: Option<u64>,
     /// Whether the log fails.
     is_failing: bool,
+    /// Whether the next connection is stopped at each call in turn.
+    is_swept: bool,
 }
 
 impl<'t> Chains<'t> {
@@ -30,6 +34,7 @@ impl<'t> Chains<'t> {
             is_in_files: false,
             fewer: None,
             is_failing: false,
+            is_swept: false,
         }
     }
 
@@ -60,6 +65,17 @@ impl Chains<'_> {
         Ok(())
     }
 
+    /// Stops the connection at each call of copies of the disks, where it is to.
+    fn stop_at_each(&mut self, input: &[u8]) -> Result<(), Fault> {
+        if self.is_swept {
+            self.is_swept = false;
+            let files = swept(self.alloc, self.take_shop()?.files(), input)?;
+            let shop = opened(self.alloc, files, Limits::default())?;
+            self.keeps(shop);
+        }
+        Ok(())
+    }
+
     /// Takes the chain, whose log fails no more.
     fn take_mended(&mut self) -> Result<Shop<Fuse<Memory>>, Fault> {
         let shop = self.take_shop()?;
@@ -83,8 +99,13 @@ impl Stage for Chains<'_> {
         self.fewer = Some(fewer);
     }
 
+    fn stop(&mut self) {
+        self.is_swept = true;
+    }
+
     fn tell(&mut self, input: &[u8], how: How) -> Result<Told, Fault> {
         self.fail_at(input)?;
+        self.stop_at_each(input)?;
         match &mut self.shop {
             Some(shop) => shop.tells(self.alloc, input, how),
             None => Err(Fault::Line("there is no chain yet")),
@@ -118,6 +139,7 @@ impl Stage for Chains<'_> {
         drop(self.shop.take());
         self.fewer = None;
         self.is_failing = false;
+        self.is_swept = false;
         remove_files(self.rt);
     }
 }

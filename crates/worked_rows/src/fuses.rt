@@ -7,10 +7,10 @@ use sqlite_disk::{Disk, Fuse, Memory};
 use std::alloc::Global;
 
 /// Two files, each of which fails behind so many calls; most never do.
-type Disks = Files<Fuse<Memory>>;
+pub type Disks = Files<Fuse<Memory>>;
 
-/// More calls of the log than an opening and a connection take.
-const MOST_CALLS: u64 = 1000;
+/// More calls of a disk than an opening and a connection take.
+pub const MOST_CALLS: u64 = 1000;
 
 /// Files with nothing in them.
 pub fn new_files(alloc: Global) -> Disks {
@@ -22,19 +22,53 @@ pub fn new_files(alloc: Global) -> Disks {
 
 fn copied(alloc: Global, disk: &Memory) -> Result<Memory, Fault> {
     let mut copy = Memory::new(alloc);
-    if copy.write_at(0, disk.bytes()).is_err() {
+    if copy.write_at(0, disk.bytes()).is_err() || copy.sync().is_err() {
         return Err(Fault::Memory);
     }
     Ok(copy)
 }
 
-/// Copies of the files, whose log fails after so many calls.
-fn fused(alloc: Global, files: &Disks, calls: u64) -> Result<Disks, Fault> {
+/// After how many calls each of two disks fails.
+#[derive(Clone, Copy)]
+pub struct Calls {
+    pub log: u64,
+    pub db: u64,
+}
+
+/// The disks never fail.
+pub const NEVER: Calls = Calls {
+    log: u64::MAX,
+    db: u64::MAX,
+};
+
+/// Which of the two files' disks fails.
+#[derive(Clone, Copy)]
+pub enum Failing {
+    Log,
+    Database,
+}
+
+/// The disk fails after so many calls, and the other one never.
+pub fn stops_behind(which: Failing, calls: u64) -> Calls {
+    match which {
+        Failing::Log => Calls {
+            log: calls,
+            db: u64::MAX,
+        },
+        Failing::Database => Calls {
+            log: u64::MAX,
+            db: calls,
+        },
+    }
+}
+
+/// Copies of the files, which fail after so many calls.
+pub fn fused(alloc: Global, files: &Disks, calls: Calls) -> Result<Disks, Fault> {
     let log = copied(alloc, files.log.inner())?;
     let db = copied(alloc, files.db.inner())?;
     Ok(Files {
-        log: Fuse::new(log, calls),
-        db: Fuse::new(db, u64::MAX),
+        log: Fuse::new(log, calls.log),
+        db: Fuse::new(db, calls.db),
     })
 }
 
@@ -57,15 +91,23 @@ impl Shop<Fuse<Memory>> {
         fewer: u64,
     ) -> Result<Shop<Fuse<Memory>>, Fault> {
         let files = self.files();
-        let mut trial = opened(alloc, fused(alloc, &files, MOST_CALLS)?, Limits::default())?;
+        let mut trial = opened(
+            alloc,
+            fused(alloc, &files, stops_behind(Failing::Log, MOST_CALLS))?,
+            Limits::default(),
+        )?;
         drop(trial.tells(alloc, input, WHOLE)?);
         let calls = calls_made(&mut trial.files().log)?;
-        let failing = fused(alloc, &files, calls.saturating_sub(fewer))?;
+        let failing = fused(
+            alloc,
+            &files,
+            stops_behind(Failing::Log, calls.saturating_sub(fewer)),
+        )?;
         opened(alloc, failing, Limits::default())
     }
 
     /// Closes the chain, whose files fail no more.
     pub fn mended(self, alloc: Global) -> Result<Shop<Fuse<Memory>>, Fault> {
-        Ok(Shop::Closed(fused(alloc, &self.files(), u64::MAX)?))
+        Ok(Shop::Closed(fused(alloc, &self.files(), NEVER)?))
     }
 }

@@ -6,8 +6,12 @@ mod chains;
 mod connection;
 mod fuses;
 mod shops;
+mod side_by_side;
 mod sockets;
+mod stops;
+mod sweeps;
 mod tables;
+mod tills;
 mod values;
 
 use crate::chains::Chains;

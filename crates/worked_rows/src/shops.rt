@@ -26,7 +26,7 @@ impl<D: Disk + Drop> Drop for Shop<D> {
 }
 
 /// The fault's name.
-fn name_of(fault: OpenFault) -> &'static str {
+pub fn name_of(fault: OpenFault) -> &'static str {
     match fault {
         OpenFault::Memory => "memory",
         OpenFault::Size => "size",

@@ -2,7 +2,7 @@
 use chain_engine::Chain;
 use office_words::ClapWords;
 use row_texts::Fault;
-use sakila_office::{serve_listener, serve_patiently};
+use sakila_office::serve_listener;
 use shop_types::Limits;
 use sqlite::Alter;
 use std::alloc::Global;
@@ -57,7 +57,8 @@ fn one_peer<S: Alter>(
 ) -> Result<bool, Fault> {
     let alloc = rt.alloc();
     let peer = asking(rt, listener, ASKED, b"", 0)?;
-    let status = serve_listener(alloc, listener, chain, &ClapWords { alloc }, 1);
+    let patience = Duration::from_secs(30);
+    let status = serve_listener(rt, listener, chain, &ClapWords { alloc }, 1, patience);
     Ok(is_told(alloc, &peer, TOLD)? && status == 0)
 }
 
@@ -72,7 +73,7 @@ fn later_peers<S: Alter>(
     let peer = asking(rt, listener, ASKED, b"", 0)?;
     let longest = asking(rt, listener, TOO_LONG, &[b' '; 8192], 10)?;
     let patience = Duration::from_millis(50);
-    let status = serve_patiently(alloc, listener, chain, &ClapWords { alloc }, 3, patience);
+    let status = serve_listener(rt, listener, chain, &ClapWords { alloc }, 3, patience);
     let are_told = is_told(alloc, &peer, TOLD)? && is_told(alloc, &longest, REFUSED)?;
     Ok(are_told && status == 0)
 }

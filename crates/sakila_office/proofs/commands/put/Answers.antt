@@ -12,6 +12,7 @@ returns-in-Ok g c =
     answered (seen_reply c.answer-reply.result.0) (record {
       files = files;
       left = c.answer-reply.result.1;
+      this = λ honest. found.this (c.answer-reply.ensures.honest honest);
       answers = λ honest books holds.
           let at = found.found (c.answer-reply.ensures.honest honest) books holds in
           let told = c.answer-reply.ensures.answers honest books books at in

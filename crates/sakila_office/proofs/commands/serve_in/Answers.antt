@@ -13,6 +13,7 @@ returns-in-Ok g c output =
       files = opened.0;
       left = c.serve_chain-status.result.1;
       exchanges = ran.0;
+      this = λ honest. found.this (c.serve_chain-status.ensures.honest honest);
       runs = λ honest books holds.
           let at = found.found (c.serve_chain-status.ensures.honest honest) books holds in
           let told = ran.1 honest books books at in

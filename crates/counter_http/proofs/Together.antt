@@ -1,0 +1,112 @@
+-- Several connections, and one more turn of one of them.
+use Rattle.std.proofs.Common.{◌≡◌, ℕ, ◌+◌, ◌-◌, ◌<◌, ◌==◌, Bool, true, false, List, [], ◌∷◌, ◌++◌, refl, sym, ap, ◌∙◌, map, append-nil, eqb-true, arith, Option, Some, None}
+use Rattle.std.specs.Prelude.{All, if◌then◌else◌}
+use Rattle.std.proofs.lemmas.List.{map-append}
+use Rattle.std.proofs.lemmas.List.Elements.{All-nil, All-cons, All-head, All-tail, All-push}
+use Rattle.std.proofs.lemmas.Bool.Decides.{nat_tests}
+use Rattle.sqlite_trees.specs.declared.store.Store.{Ghosts}
+use Rattle.counter_routes.specs.Words.{Meaning}
+use Rattle.chain_engine.specs.Holding.{Chained}
+use Rattle.counter_http.specs.Exchanges.{Exchange, GoesOn, texts, RunsOver}
+use Rattle.counter_http.specs.Served.{IsEnd, IsServed, fault_replies}
+use Rattle.counter_http.specs.Standings.{Line, opened, IsTurn}
+use Rattle.counter_http.specs.Together.{Till, IsTill, Mixes, comes, goes, nothing, AreServed, AreServedTogether, TurnsServe, till_opened, till_then}
+use Rattle.counter_http.specs.declared.connection.End.{End}
+use Rattle.counter_http.specs.declared.connection.End.TheVariants.{Limit}
+use Rattle.counter_http.proofs.Turns.{MayAnswer, turn_none, turn_then, turn_as}
+use Rattle.counter_http.proofs.Runs.{run_starts}
+use Rattle.counter_http.proofs.Following.{run_follows}
+
+all_at : {X : Type 0} (P : X → Type 0) (front : List X) (x : X) (back : List X) → All P (front ++ x ∷ back) → P x
+all_at P [] x back all = All-head P x back all
+all_at P (y ∷ front) x back all = all_at P front x back (All-tail P y (front ++ x ∷ back) all)
+
+all_replaced : {X : Type 0} (P : X → Type 0) (front : List X) (x y : X) (back : List X) → All P (front ++ x ∷ back) → P y → All P (front ++ y ∷ back)
+all_replaced P [] x y back all p = All-cons P y back p (All-tail P x back all)
+all_replaced P (z ∷ front) x y back all p =
+    All-cons P z (front ++ y ∷ back) (All-head P z (front ++ x ∷ back) all) (all_replaced P front x y back (All-tail P z (front ++ x ∷ back) all) p)
+
+opened_may_answer : (most : ℕ) → MayAnswer (opened most)
+opened_may_answer most live = grind (arith, nat_tests)
+
+joined : (es more one two : List Exchange) → one ≡ es → two ≡ more → one ++ two ≡ es ++ more
+joined es more one two p q = ap (λ (l : List Exchange). l ++ two) p ∙ ap (λ (l : List Exchange). es ++ l) q
+
+till_turn : (till : Till) (line : Line) (Ran : List Exchange → Type 0) (left written : Option (List ℕ))
+    → IsTill till → (x : IsTurn till.line line Ran till.left left till.written written) → IsTill (till_then till x.exchanges line left written)
+till_turn till line Ran left written is x =
+    turn_then is (turn_as {Ran' = λ es. es ≡ x.exchanges} x refl) (λ one two p q. joined till.exchanges x.exchanges one two p q)
+
+served_comes : {S : Type 0} {g : Ghosts S} {meaning : Meaning} {old new : Chained S} (tills : List Till) (most : ℕ) (input output : Option (List ℕ))
+    → AreServed g meaning old new tills → AreServed g meaning old new (tills ++ till_opened most input output ∷ [])
+served_comes {S} {g} {meaning} {old} {new} tills most input output served =
+    let of : Till → List Exchange = λ t. t.exchanges in
+    let till = till_opened most input output in
+    record {
+      whole = served.whole;
+      mixed = rw (map-append of tills (till ∷ [])) (comes (map of tills) served.whole served.mixed);
+      ran = served.ran;
+      each = All-push IsTill tills till served.each (turn_none (opened most) (λ es. es ≡ []) input output (opened_may_answer most) refl);
+    }
+
+pub served_then : {S : Type 0} {g : Ghosts S} {meaning : Meaning} {old mid new : Chained S} (front : List Till) (till : Till) (back : List Till)
+    (line : Line) (left written : Option (List ℕ))
+    → AreServed g meaning old mid (front ++ till ∷ back)
+    → (x : IsTurn till.line line (RunsOver g meaning mid new) till.left left till.written written)
+    → AreServed g meaning old new (front ++ till_then till x.exchanges line left written ∷ back)
+served_then {S} {g} {meaning} {old} {mid} {new} front till back line left written served x =
+    let of : Till → List Exchange = λ t. t.exchanges in
+    let next = till_then till x.exchanges line left written in
+    let first : Mixes (map of front ++ till.exchanges ∷ map of back) served.whole = rw (map-append of front (till ∷ back)) at served.mixed in
+    record {
+      whole = served.whole ++ x.exchanges;
+      mixed = rw (map-append of front (next ∷ back)) (goes (map of front) (map of back) till.exchanges x.exchanges served.whole first);
+      ran = run_follows served.whole x.exchanges served.ran x.ran.ran;
+      each = all_replaced IsTill front till next back served.each
+          (till_turn till line (RunsOver g meaning mid new) left written (all_at IsTill front till back served.each) x);
+    }
+
+pub served_together : {S : Type 0} (g : Ghosts S) → AreServedTogether g
+served_together {S} g = record {
+  none = λ meaning chain. record { whole = []; mixed = nothing; ran = run_starts; each = All-nil IsTill };
+  comes = λ meaning old new tills most input output served. served_comes tills most input output served;
+  goes = λ meaning old mid new front till back line left written served turn. served_then front till back line left written served turn;
+}
+
+-- ---- a connection alone
+
+-- why a connection that comes ends, where it does
+opened_ends : (most : ℕ) (end : End) → (opened most).ending ≡ Some end → (end ≡ Limit) × (most ≡ 0)
+opened_ends most end is = by_test (most == 0) refl is
+  where
+    by_test : (none : Bool) → (most == 0) ≡ none → (if none then Some Limit else None) ≡ Some end → (end ≡ Limit) × (most ≡ 0)
+    by_test true e is = (cc, eqb-true most 0 e)
+    by_test false e is = absurd cc
+
+ended : (most : ℕ) (line : Line) (end first : End) (Ran : List Exchange → Type 0) (input left output written : Option (List ℕ))
+    → (x : IsTurn (opened most) line Ran input left output written) → line.ending ≡ Some end → (opened most).ending ≡ Some first
+    → IsEnd end most x.exchanges left line.inbox x.last
+ended most line end first Ran input left output written x ends is =
+    let stop = x.stopped first is in
+    let limit = opened_ends most first is in
+    let same : end ≡ Limit = let e : Some end ≡ Some first = sym ends ∙ stop.4 in cc in
+    rw (same, stop.2, stop.3, limit.1) (All-nil GoesOn, refl, refl)
+
+pub turns_serve : {S : Type 0} (g : Ghosts S) → TurnsServe g
+turns_serve {S} g meaning old new most line end input left output written x empty ends = record {
+  read = x.read;
+  exchanges = x.exchanges;
+  rest = line.inbox;
+  last = x.last;
+  consumed = x.consumed;
+  ran = x.ran;
+  writes = let all : texts x.exchanges ++ x.last ≡ x.sent = x.splits ∙ ap (λ (l : List ℕ). x.sent ++ l) empty ∙ append-nil x.sent in rw all x.writes;
+  count = let e = x.count in omega arith;
+  ends = ends_by (opened most).ending refl;
+}
+  where
+    ends_by : (first : Option End) → (opened most).ending ≡ first → IsEnd end most x.exchanges left line.inbox x.last
+    ends_by None is =
+        let all : most - 0 ≡ most = omega arith in
+        rw (ends, all) at (x.goes is)
+    ends_by (Some first) is = ended most line end first (RunsOver g meaning old new) input left output written x ends is

@@ -1,0 +1,265 @@
+-- Turns of a connection, one after another.
+use Rattle.std.proofs.Common.{◌≡◌, ◌⊎◌, inl, inr, ℕ, ◌+◌, ◌-◌, ◌<◌, List, [], ◌∷◌, ◌++◌, length, arith, length-append, refl, sym, subst, ap, ◌∙◌, append_assoc, append-nil, Option, Some, None}
+use Rattle.std.specs.Prelude.{All}
+use Rattle.std.proofs.lemmas.List.{map-append}
+use Rattle.std.proofs.lemmas.List.Elements.{All-nil, All-append}
+use Rattle.std.proofs.lemmas.Grind.{flat_map-append}
+use Rattle.std.specs.Io.KnownBytes.{Appends, Consumes}
+use Rattle.std.proofs.KnownBytes.{Consumes-nil, Appends-nil, Appends-trans, Consumes-trans}
+use Rattle.http_messages.specs.Message.{Message}
+use Rattle.http_messages.specs.Input.{HasMessage, HasMessages}
+use Rattle.http_messages.specs.declared.messages.Fault.{Fault}
+use Rattle.http_messages.proofs.StreamLemmas.{HasMessages-append}
+use Rattle.counter_http.specs.Exchanges.{Exchange, text_of, texts, messages_of, GoesOn, HasRun}
+use Rattle.counter_http.specs.Served.{EndsWith, IsRefused, fault_text}
+use Rattle.counter_http.specs.Standings.{Line, GoesOrEnds, IsTurn}
+use Rattle.counter_http.specs.declared.connection.After.{After}
+use Rattle.counter_http.specs.declared.connection.After.TheVariants.{Asks, Fails}
+use Rattle.counter_http.specs.declared.connection.End.{End}
+use Rattle.counter_http.specs.declared.connection.End.TheVariants.{Closed, Cut, Asked, Limit, Refused, StoreFailed}
+
+-- a connection that goes on may answer another request
+abbrev pub MayAnswer : Line → Type 0
+MayAnswer line = line.ending ≡ None → line.replies < line.most
+
+none_some : {A : Type 0} (end : End) (ending : Option End) → ending ≡ None → ending ≡ Some end → A
+none_some end ending goes is = absurd (clash (sym goes ∙ is))
+  where
+    clash : None ≡ Some end → ⊥
+    clash e = cc
+
+-- ---- one step
+
+-- bytes were written, or nothing was done
+pub turn_sent : (old : Line) (unsent : List ℕ) (Ran : List Exchange → Type 0) (input output written : Option (List ℕ)) (sent : List ℕ)
+    → MayAnswer old → Appends output written sent → old.unsent ≡ sent ++ unsent → Ran []
+    → IsTurn old (record old { unsent = unsent }) Ran input input output written
+turn_sent old unsent Ran input output written sent may appends parts start = record {
+  read = [];
+  exchanges = [];
+  last = [];
+  sent = sent;
+  consumed = Consumes-nil input;
+  ran = record { splits = sym (append-nil old.inbox); ran = start };
+  writes = appends;
+  splits = append-nil old.unsent ∙ parts;
+  refused = inl refl;
+  stopped = λ end is. (refl, refl, refl, refl, is);
+  goes = λ live. let lt = may live in rw live (All-nil GoesOn, omega arith, refl);
+  count = omega arith;
+  kept = refl;
+}
+
+pub turn_none : (line : Line) (Ran : List Exchange → Type 0) (input output : Option (List ℕ)) → MayAnswer line → Ran [] → IsTurn line line Ran input input output output
+turn_none line Ran input output may start = turn_sent line line.unsent Ran input output output [] may (Appends-nil output) refl start
+
+-- bytes were read, and they may be the last
+pub turn_read : (old : Line) (inbox : List ℕ) (ending : Option End) (Ran : List Exchange → Type 0) (input left output : Option (List ℕ)) (more : List ℕ)
+    → old.ending ≡ None → Consumes input left more → inbox ≡ old.inbox ++ more
+    → GoesOrEnds ending (old.most - old.replies) [] left inbox [] → Ran []
+    → IsTurn old (record old { inbox = inbox; ending = ending }) Ran input left output output
+turn_read old inbox ending Ran input left output more live consumes grown goes start = record {
+  read = more;
+  exchanges = [];
+  last = [];
+  sent = [];
+  consumed = consumes;
+  ran = record { splits = grown; ran = start };
+  writes = Appends-nil output;
+  splits = append-nil old.unsent;
+  refused = inl refl;
+  stopped = λ end is. none_some end old.ending live is;
+  goes = λ none. goes;
+  count = omega arith;
+  kept = refl;
+}
+
+-- bytes were read, and more may come
+pub turn_grown : (old : Line) (inbox : List ℕ) (Ran : List Exchange → Type 0) (input left output : Option (List ℕ)) (more : List ℕ)
+    → MayAnswer old → old.ending ≡ None → Consumes input left more → inbox ≡ old.inbox ++ more → Ran []
+    → IsTurn old (record old { inbox = inbox }) Ran input left output output
+turn_grown old inbox Ran input left output more may live consumes grown start =
+    turn_read old inbox old.ending Ran input left output more live consumes grown (let lt = may live in rw live (All-nil GoesOn, omega arith, refl)) start
+
+-- one more message was answered, and nothing was left to write before
+pub turn_answer : (old new : Line) (Ran : List Exchange → Type 0) (input output : Option (List ℕ)) (e : Exchange)
+    → old.unsent ≡ [] → old.ending ≡ None → HasMessage old.inbox e.message new.inbox → new.unsent ≡ text_of e.answer
+    → new.replies ≡ old.replies + 1 → new.most ≡ old.most → GoesOrEnds new.ending (old.most - old.replies) (e ∷ []) input new.inbox [] → Ran (e ∷ [])
+    → IsTurn old new Ran input input output output
+turn_answer old new Ran input output e empty live has told one same goes ran = record {
+  read = [];
+  exchanges = e ∷ [];
+  last = [];
+  sent = [];
+  consumed = Consumes-nil input;
+  ran = record { splits = (new.inbox, rw (append-nil old.inbox) has, refl); ran = ran };
+  writes = Appends-nil output;
+  splits = rw (empty, append-nil (text_of e.answer ++ []), append-nil (text_of e.answer)) (sym told);
+  refused = inl refl;
+  stopped = λ end is. none_some end old.ending live is;
+  goes = λ none. goes;
+  count = one;
+  kept = same;
+}
+
+-- a text that is no message was told so
+pub turn_refusal : (old : Line) (Ran : List Exchange → Type 0) (input output : Option (List ℕ)) (fault : Fault)
+    → MayAnswer old → old.unsent ≡ [] → old.ending ≡ None → IsRefused fault old.inbox → Ran []
+    → IsTurn old (record old { unsent = fault_text fault; ending = Some Refused }) Ran input input output output
+turn_refusal old Ran input output fault may empty live refused start = record {
+  read = [];
+  exchanges = [];
+  last = fault_text fault;
+  sent = [];
+  consumed = Consumes-nil input;
+  ran = record { splits = sym (append-nil old.inbox); ran = start };
+  writes = Appends-nil output;
+  splits = ap (λ (l : List ℕ). l ++ fault_text fault) empty;
+  refused = inr refl;
+  stopped = λ end is. none_some end old.ending live is;
+  goes = λ none. let lt = may live in (All-nil GoesOn, omega arith, fault, refused, refl);
+  count = omega arith;
+  kept = refl;
+}
+
+-- ---- one turn after another
+
+HasMessages-join : (input mid rest : List ℕ) (ms ns : List Message) → HasMessages input ms mid → HasMessages mid ns rest → HasMessages input (ms ++ ns) rest
+HasMessages-join input mid rest [] ns none second = subst (λ (l : List ℕ). HasMessages l ns rest) none second
+HasMessages-join input mid rest (m ∷ ms) ns (after, has, first) second = (after, has, HasMessages-join after mid rest ms ns first second)
+
+-- what was run of two stretches is run of both, where `Both` follows
+ran_then : (First Second Both : List Exchange → Type 0) (inbox one two mid rest : List ℕ) (es more : List Exchange)
+    → HasRun First (inbox ++ one) es mid → HasRun Second (mid ++ two) more rest → (First es → Second more → Both (es ++ more))
+    → HasRun Both (inbox ++ (one ++ two)) (es ++ more) rest
+ran_then First Second Both inbox one two mid rest es more x y joins = record {
+  splits = rw (map-append (λ (e : Exchange). e.message) es more, ← append_assoc inbox one two)
+      (HasMessages-join ((inbox ++ one) ++ two) (mid ++ two) rest (messages_of es) (messages_of more)
+      (HasMessages-append (inbox ++ one) two (messages_of es) mid x.splits) y.splits);
+  ran = joins x.ran y.ran;
+}
+
+ends_behind : (after : After) (es more : List Exchange) → All GoesOn es → EndsWith after more → EndsWith after (es ++ more)
+ends_behind after es more goes ends = (
+  es ++ ends.0,
+  ends.1,
+  ap (λ (l : List Exchange). es ++ l) ends.2 ∙ sym (append_assoc es ends.0 (ends.1 ∷ [])),
+  All-append GoesOn es ends.0 goes ends.3,
+  ends.4,
+)
+
+-- behind exchanges after which the connection goes on, more of them
+goes_behind : (ending : Option End) (most n : ℕ) (es more : List Exchange) (left : Option (List ℕ)) (rest last : List ℕ)
+    → All GoesOn es → length es < most → n ≡ most - length es → GoesOrEnds ending n more left rest last
+    → GoesOrEnds ending most (es ++ more) left rest last
+goes_behind None most n es more left rest last goes few is (all, lt, none) = (All-append GoesOn es more goes all, omega (arith, length-append es more), none)
+goes_behind (Some Closed) most n es more left rest last goes few is (all, lt, at_end, nothing, none) =
+    (All-append GoesOn es more goes all, omega (arith, length-append es more), at_end, nothing, none)
+goes_behind (Some Cut) most n es more left rest last goes few is (all, lt, at_end, some, cut, none) =
+    (All-append GoesOn es more goes all, omega (arith, length-append es more), at_end, some, cut, none)
+goes_behind (Some Refused) most n es more left rest last goes few is (all, lt, fault, refused, told) =
+    (All-append GoesOn es more goes all, omega (arith, length-append es more), fault, refused, told)
+goes_behind (Some Limit) most n es more left rest last goes few is (all, eq, none) = (All-append GoesOn es more goes all, omega (arith, length-append es more), none)
+goes_behind (Some Asked) most n es more left rest last goes few is (ends, le, none) = (ends_behind Asks es more goes ends, omega (arith, length-append es more), none)
+goes_behind (Some StoreFailed) most n es more left rest last goes few is (ends, le, none) = (ends_behind Fails es more goes ends, omega (arith, length-append es more), none)
+
+-- one after another: what both read, answered and wrote
+pub turn_then : {old mid new : Line} {First Second Both : List Exchange → Type 0} {input left after output written later : Option (List ℕ)}
+    → IsTurn old mid First input left output written → IsTurn mid new Second left after written later
+    → ((es more : List Exchange) → First es → Second more → Both (es ++ more))
+    → IsTurn old new Both input after output later
+turn_then {old} {mid} {new} {First} {Second} {Both} {input} {left} {after} {output} {written} {later} x y joins = record {
+  read = x.read ++ y.read;
+  exchanges = x.exchanges ++ y.exchanges;
+  last = x.last ++ y.last;
+  sent = x.sent ++ y.sent;
+  consumed = Consumes-trans input left after x.read y.read x.consumed y.consumed;
+  ran = ran_then First Second Both old.inbox x.read y.read mid.inbox new.inbox x.exchanges y.exchanges x.ran y.ran (joins x.exchanges y.exchanges);
+  writes = Appends-trans output written later x.sent y.sent x.writes y.writes;
+  splits = joined old.unsent mid.unsent new.unsent x.sent y.sent x.exchanges y.exchanges x.last y.last x.splits y.splits (order x.refused);
+  refused = last_of x.refused y.refused;
+  stopped = λ end is. both (x.stopped end is) (y.stopped end ((x.stopped end is).4));
+  goes = λ none. goes_by mid.ending refl (x.goes none);
+  count = let e = x.count in let f = y.count in omega (arith, length-append x.exchanges y.exchanges);
+  kept = y.kept ∙ x.kept;
+}
+  where
+    -- behind the reply to a text that is no message nothing is answered
+    order : (x.last ≡ []) ⊎ (mid.ending ≡ Some Refused) → (x.last ≡ []) ⊎ ((y.exchanges ≡ []) × (y.last ≡ []))
+    order (inl none) = inl none
+    order (inr ends) = let stop = y.stopped Refused ends in inr (stop.2, stop.3)
+
+    last_of : (x.last ≡ []) ⊎ (mid.ending ≡ Some Refused) → (y.last ≡ []) ⊎ (new.ending ≡ Some Refused) → (x.last ++ y.last ≡ []) ⊎ (new.ending ≡ Some Refused)
+    last_of (inr ends) any = inr ((y.stopped Refused ends).4)
+    last_of (inl none) (inr ends) = inr ends
+    last_of (inl none) (inl none_too) = inl (ap (λ (l : List ℕ). l ++ y.last) none ∙ none_too)
+
+    both : {end : End}
+        → (x.read ≡ []) × (left ≡ input) × (x.exchanges ≡ []) × (x.last ≡ []) × (mid.ending ≡ Some end)
+        → (y.read ≡ []) × (after ≡ left) × (y.exchanges ≡ []) × (y.last ≡ []) × (new.ending ≡ Some end)
+        → (x.read ++ y.read ≡ []) × (after ≡ input) × (x.exchanges ++ y.exchanges ≡ []) × (x.last ++ y.last ≡ []) × (new.ending ≡ Some end)
+    both {end} (a, b, c, d, e) (f, g, h, i, j) = (
+      ap (λ (l : List ℕ). l ++ y.read) a ∙ f,
+      g ∙ b,
+      ap (λ (l : List Exchange). l ++ y.exchanges) c ∙ h,
+      ap (λ (l : List ℕ). l ++ y.last) d ∙ i,
+      j,
+    )
+
+    kept_inbox : (read : List ℕ) (es : List Exchange) → read ≡ [] → es ≡ [] → HasMessages (mid.inbox ++ read) (messages_of es) new.inbox → new.inbox ≡ mid.inbox
+    kept_inbox read es none nobody has =
+        let has' = rw (none, nobody) at has in
+        has' ∙ append-nil mid.inbox
+
+    -- where the first stretch ended the connection, the second does nothing; else its exchanges come behind those of the first
+    goes_by : (ending : Option End) → mid.ending ≡ ending → GoesOrEnds ending (old.most - old.replies) x.exchanges left mid.inbox x.last
+        → GoesOrEnds new.ending (old.most - old.replies) (x.exchanges ++ y.exchanges) after new.inbox (x.last ++ y.last)
+    goes_by None is (all, few, none) =
+        let e = x.count in let f = x.kept in
+        rw none (goes_behind new.ending (old.most - old.replies) (mid.most - mid.replies) x.exchanges y.exchanges after new.inbox y.last all few (omega arith) (y.goes is))
+    goes_by (Some end) is ends =
+        let stop = y.stopped end is in
+        let inbox : new.inbox ≡ mid.inbox = kept_inbox y.read y.exchanges stop.0 stop.2 y.ran.splits in
+        rw (stop.4, stop.1, stop.2, stop.3, inbox, append-nil x.exchanges, append-nil x.last) ends
+
+    chained : (u v w s t m n : List ℕ) → u ++ m ≡ s ++ v → v ++ n ≡ t ++ w → u ++ (m ++ n) ≡ (s ++ t) ++ w
+    chained u v w s t m n p q =
+        sym (append_assoc u m n) ∙ ap (λ (l : List ℕ). l ++ n) p ∙ append_assoc s v n ∙ ap (λ (l : List ℕ). s ++ l) q ∙ sym (append_assoc s t w)
+
+    same_text : (es more : List Exchange) (last behind : List ℕ) → (last ≡ []) ⊎ ((more ≡ []) × (behind ≡ []))
+        → texts (es ++ more) ++ (last ++ behind) ≡ (texts es ++ last) ++ (texts more ++ behind)
+    same_text es more last behind (inl none) =
+        rw (none, append-nil (texts es), flat_map-append (λ (e : Exchange). text_of e.answer) es more) (append_assoc (texts es) (texts more) behind)
+    same_text es more last behind (inr (none, none_too)) =
+        rw (none, none_too, append-nil es, append-nil last, append-nil (texts es ++ last)) refl
+
+    joined : (u v w s t : List ℕ) (es more : List Exchange) (last behind : List ℕ)
+        → u ++ (texts es ++ last) ≡ s ++ v → v ++ (texts more ++ behind) ≡ t ++ w → (last ≡ []) ⊎ ((more ≡ []) × (behind ≡ []))
+        → u ++ (texts (es ++ more) ++ (last ++ behind)) ≡ (s ++ t) ++ w
+    joined u v w s t es more last behind p q order =
+        ap (λ (l : List ℕ). u ++ l) (same_text es more last behind order) ∙ chained u v w s t (texts es ++ last) (texts more ++ behind) p q
+
+-- a turn, told otherwise of its exchanges
+pub turn_as : {old new : Line} {Ran Ran' : List Exchange → Type 0} {input left output written : Option (List ℕ)} (x : IsTurn old new Ran input left output written)
+    → Ran' x.exchanges → IsTurn old new Ran' input left output written
+turn_as {old} {new} {Ran} {Ran'} {input} {left} {output} {written} x ran = record {
+  read = x.read;
+  exchanges = x.exchanges;
+  last = x.last;
+  sent = x.sent;
+  consumed = x.consumed;
+  ran = record { splits = x.ran.splits; ran = ran };
+  writes = x.writes;
+  splits = x.splits;
+  refused = x.refused;
+  stopped = x.stopped;
+  goes = x.goes;
+  count = x.count;
+  kept = x.kept;
+}
+
+-- a turn in which nothing was answered, behind another
+pub turn_on : {old mid new : Line} {Ran : List Exchange → Type 0} {input left after output written later : Option (List ℕ)}
+    → IsTurn old mid Ran input left output written → IsTurn mid new (λ es. es ≡ []) left after written later → IsTurn old new Ran input after output later
+turn_on {old} {mid} {new} {Ran} x y =
+    turn_then x y (λ es more ran none. subst Ran (sym (append-nil es) ∙ ap (λ (l : List Exchange). es ++ l) (sym none)) ran)

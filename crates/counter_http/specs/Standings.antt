@@ -1,0 +1,54 @@
+-- A connection that goes on as far as its bytes reach: what some turns of it read, answer and write.
+use Rattle.std.specs.Prelude.{◌≡◌, ◌⊎◌, ℕ, ◌+◌, ◌-◌, ◌<◌, ◌==◌, if◌then◌else◌, List, [], ◌++◌, length, All, Option, Some, None}
+use Rattle.std.specs.Io.KnownBytes.{Consumes, Appends}
+use Rattle.http_messages.specs.Input.{IsCut}
+use Rattle.counter_http.specs.Exchanges.{Exchange, texts, GoesOn, HasRun}
+use Rattle.counter_http.specs.Served.{IsEnd}
+use Rattle.counter_http.specs.declared.connection.End.{End}
+use Rattle.counter_http.specs.declared.connection.End.TheVariants.{Refused, Limit}
+use Rattle.counter_http.specs.declared.machine.Standing.{Standing}
+use Rattle.counter_http.specs.declared.machine.Standing.TheVariants.{Reads, Writes, Ready, Ended}
+
+-- what a connection has of its own: the bytes that were read and not answered, those that are to be written yet, how many requests were answered,
+-- how many may be, and why it ends behind what is to be written, where it does
+pub record Line : Type 0 where
+  pub inbox : List ℕ
+  pub unsent : List ℕ
+  pub replies : ℕ
+  pub most : ℕ
+  pub ending : Option End
+
+-- a connection of which nothing is read yet; where no request may be answered, it ends before the first
+abbrev pub opened : ℕ → Line
+opened most = record { inbox = []; unsent = []; replies = 0; most = most; ending = if most == 0 then Some Limit else None }
+
+-- behind these exchanges, of at most so many, the connection goes on, or ends as it says
+abbrev pub GoesOrEnds : Option End → ℕ → List Exchange → Option (List ℕ) → List ℕ → List ℕ → Type 0
+GoesOrEnds None most exchanges left rest last = All GoesOn exchanges × (length exchanges < most) × (last ≡ [])
+GoesOrEnds (Some end) most exchanges left rest last = IsEnd end most exchanges left rest last
+
+-- Some turns of a connection. They read some bytes; what was left of the earlier ones and these are the messages of the exchanges and a rest. `Ran` is so of
+-- the exchanges. What was left to write, the texts of the answers and `last` (the reply to a text that is no message) are what they wrote and what is left now.
+-- Where the connection was to end, nothing more is read or answered.
+pub record IsTurn (old new : Line) (Ran : List Exchange → Type 0) (input left output written : Option (List ℕ)) : Type 0 where
+  pub read : List ℕ
+  pub exchanges : List Exchange
+  pub last : List ℕ
+  pub sent : List ℕ
+  pub consumed : Consumes input left read
+  pub ran : HasRun Ran (old.inbox ++ read) exchanges new.inbox
+  pub writes : Appends output written sent
+  pub splits : old.unsent ++ (texts exchanges ++ last) ≡ sent ++ new.unsent
+  pub refused : (last ≡ []) ⊎ (new.ending ≡ Some Refused)
+  pub stopped : (end : End) → old.ending ≡ Some end → (read ≡ []) × (left ≡ input) × (exchanges ≡ []) × (last ≡ []) × (new.ending ≡ Some end)
+  pub goes : old.ending ≡ None → GoesOrEnds new.ending (old.most - old.replies) exchanges left new.inbox last
+  pub count : new.replies ≡ old.replies + length exchanges
+  pub kept : new.most ≡ old.most
+
+-- What the connection waits for behind a turn of at most so many requests. It waits for bytes only where no whole message is left, for its peer only where
+-- something is to be written, and for its next turn only behind that many requests.
+abbrev pub IsStanding : Standing → ℕ → Line → Line → Type 0
+IsStanding Reads most old new = (new.unsent ≡ []) × (new.ending ≡ None) × IsCut new.inbox
+IsStanding Writes most old new = 0 < length new.unsent
+IsStanding Ready most old new = (new.unsent ≡ []) × (new.ending ≡ None) × (new.replies ≡ old.replies + most)
+IsStanding (Ended end) most old new = (new.unsent ≡ []) × (new.ending ≡ Some end)

@@ -1,0 +1,233 @@
+//! A connection that goes on as far as its bytes reach, so that one that waits holds no other.
+ghost use Rattle.std.specs.Prelude.{◌≡◌, ℕ, ◌+◌, ◌<◌, ◌≤◌, true, false, List, [], ◌∷◌, length, Option, None, Some, IfOk};
+ghost use Rattle.std.specs.Io.KnownBytes.{IsAtEnd};
+ghost use Rattle.http_messages.specs.Input.{IsCut};
+ghost use Rattle.counter_http.specs.Exchanges.{Exchange, RunsOver};
+ghost use Rattle.counter_http.specs.Served.{IsAfter};
+ghost use Rattle.counter_http.specs.Standings.{Line, opened, GoesOrEnds, IsTurn, IsStanding};
+
+use crate::answer::answer;
+use crate::connection::{After, End, after_reply, fault_reply};
+use crate::inbox::Inbox;
+use crate::unsent::Unsent;
+use chain_engine::Chain;
+use counter_routes::Routes;
+use http_messages::{Reading, read_request};
+use shop_types::OfficeWords;
+use sqlite::Alter;
+use std::alloc::{AllocError, Global};
+use std::io::{self, ErrorKind, Read, Write};
+use std::marker::Model;
+
+/// What a connection waits for behind a turn.
+#[derive(Clone, Copy)]
+pub enum Standing {
+    /// More bytes: there is no whole request, each reply is written, and the reader would wait.
+    Reads,
+    /// Its peer: the writer would wait with bytes of a reply left. No further request is answered before.
+    Writes,
+    /// Its next turn: as many requests were answered as one turn may, and each reply is written.
+    Ready,
+    /// Nothing: it has ended, and each reply is written.
+    Ended(End),
+}
+
+/// What went wrong in a turn. What was read, answered and written until then is told as ever; the connection is of no more use.
+#[derive(Clone, Copy, Debug)]
+pub enum TurnFault {
+    /// The reader failed, or was interrupted without an end.
+    Read,
+    /// The writer failed, or took nothing. The request whose reply failed has acted.
+    Write,
+}
+
+/// What all connections share: the routes.
+#[derive(Drop)]
+pub struct Switchboard {
+    routes: Routes,
+}
+
+impl Switchboard {
+    /// Takes the memory for the routes.
+    pub fn new(alloc: Global) -> Result<Switchboard, AllocError> {
+        match Routes::new(alloc) {
+            Ok(routes) => Ok(Switchboard { routes }),
+            Err(_) => Err(AllocError),
+        }
+    }
+}
+
+/// A connection between two turns.
+#[derive(Drop)]
+pub struct Connection {
+    inbox: Inbox,
+    unsent: Unsent,
+    replies: u32,
+    most: u32,
+    ending: Option<End>,
+}
+
+impl Model for Connection {
+    ghost Value = { Line };
+
+    ghost view = { λ c. record { inbox = c.inbox; unsent = c.unsent; replies = c.replies; most = c.most; ending = c.ending } };
+
+    ghost invariant = { λ c. c.ending ≡ None → c.replies < c.most };
+}
+
+/// Why a connection of which so many requests may still be answered ends behind the next of them, where it does.
+fn ending_of(after: After, left: u32) -> Option<End>
+    requires { 0 < left }
+    ensures { (e : Exchange) (input : Option (List ℕ)) (rest : List ℕ) → IsAfter after e → GoesOrEnds result left (e ∷ []) input rest [] }
+{
+    match after {
+        After::Fails => Some(End::StoreFailed),
+        After::Asks => Some(End::Asked),
+        After::Goes if left == 1 => Some(End::Limit),
+        After::Goes => None,
+    }
+}
+
+/// Why a connection ends at the end of its input, of which this rest isn't answered.
+fn end_at(rest: &[u8]) -> End
+    requires { IsCut rest.now }
+    ensures { (most : ℕ) (left : Option (List ℕ)) → 0 < most → IsAtEnd left → GoesOrEnds (Some result) most [] left rest.now [] }
+{
+    if rest.is_empty() {
+        End::Closed
+    } else {
+        End::Cut
+    }
+}
+
+impl Connection {
+    /// Nothing is read yet, and so many requests may be answered; with 0 the connection ends before the first. The memory for its bytes is taken here.
+    pub fn new(alloc: Global, most: u32) -> Result<Connection, AllocError>
+        ensures { IfOk result (λ connection. connection ≡ opened most) }
+    {
+        Ok(Connection {
+            inbox: Inbox::new(alloc)?,
+            unsent: Unsent::new(),
+            replies: 0,
+            most,
+            ending: if most == 0 { Some(End::Limit) } else { None },
+        })
+    }
+
+    /// How many requests were answered. The reply to a text that is no message doesn't count.
+    pub fn replies(&self) -> u32
+        ensures { result ≡ self.now.replies }
+    {
+        self.replies
+    }
+
+    /// Writes what is left of a reply, as far as the writer takes it. Whether nothing is left.
+    fn send<W: Write>(&mut self, writer: &mut W) -> io::Result<bool>
+        ensures turn { (input : Option (List ℕ)) → IsTurn self.old self.new (λ es. es ≡ []) input input (W.contents writer.old) (W.contents writer.new) }
+        ensures same { self.new.replies ≡ self.old.replies }
+        ensures all { IfOk result (λ all. all ≡ true → self.new.unsent ≡ []) }
+        ensures part { IfOk result (λ all. all ≡ false → 0 < length self.new.unsent) }
+    {
+        self.unsent.flush(writer)
+    }
+
+    /// Answers the next request, if it has come whole, or a text that is no message. Whether it did.
+    fn answer_next<O: OfficeWords, S: Alter>(
+        &mut self,
+        alloc: Global,
+        chain: &mut Chain<S>,
+        board: &Switchboard,
+        words: &O,
+    ) -> bool
+        requires empty { self.old.unsent ≡ [] }
+        requires goes { self.old.ending ≡ None }
+        ensures turn { (input output : Option (List ℕ)) → IsTurn self.old self.new (RunsOver S.Store (O.meaning words.now) chain.old chain.new) input input output output }
+        ensures one { self.new.replies ≤ self.old.replies + 1 }
+        ensures waits { result ≡ false → (self.new ≡ self.old) × (length self.new.inbox < 73728) × IsCut self.new.inbox }
+    {
+        match read_request(self.inbox.bytes()) {
+            Reading::Whole(request, len) => {
+                let reply = answer(alloc, chain, &board.routes, words, &request);
+                let after = after_reply(&reply, &request);
+                self.inbox.consume(len);
+                self.unsent.put(reply);
+                self.ending = ending_of(after, self.most - self.replies);
+                self.replies += 1;
+                true
+            }
+            Reading::More => false,
+            Reading::Refused(fault) => {
+                self.unsent.put(fault_reply(fault));
+                self.ending = Some(End::Refused);
+                true
+            }
+        }
+    }
+
+    /// Reads some more bytes; none comes only at the end, which ends the connection. Whether the reader wouldn't wait.
+    fn read_more<R: Read>(&mut self, reader: &mut R) -> io::Result<bool>
+        requires room { length self.old.inbox < 73728 }
+        requires cut { IsCut self.old.inbox }
+        requires goes { self.old.ending ≡ None }
+        ensures turn { (output : Option (List ℕ)) → IsTurn self.old self.new (λ es. es ≡ []) (R.remaining reader.old) (R.remaining reader.new) output output }
+        ensures same { (self.new.unsent ≡ self.old.unsent) × (self.new.replies ≡ self.old.replies) }
+        ensures waits { IfOk result (λ more. more ≡ false → self.new ≡ self.old) }
+    {
+        match self.inbox.fill(reader) {
+            Ok(0) => {
+                self.ending = Some(end_at(self.inbox.bytes()));
+                Ok(true)
+            }
+            Ok(_) => Ok(true),
+            Err(e) => match e.kind() {
+                ErrorKind::Interrupted => Ok(true),
+                ErrorKind::WouldBlock => Ok(false),
+                _ => Err(e),
+            },
+        }
+    }
+
+    /// A turn: goes on as far as the bytes reach. Writes what is left of a reply, answers what has come whole, at most `most` requests, and reads, until the
+    /// reader or the writer would wait (`ErrorKind::WouldBlock`) or the connection ends. While a reply isn't wholly written, no further request is answered.
+    /// `words` reads the words that head office sends. Other connections may have their turns between two of this one.
+    pub fn advance<R: Read, W: Write, O: OfficeWords, S: Alter>(
+        &mut self,
+        alloc: Global,
+        reader: &mut R,
+        writer: &mut W,
+        chain: &mut Chain<S>,
+        board: &Switchboard,
+        words: &O,
+        most: u32,
+    ) -> Result<Standing, TurnFault>
+        ensures turn { IsTurn self.old self.new (RunsOver S.Store (O.meaning words.now) chain.old chain.new)
+            (R.remaining reader.old) (R.remaining reader.new) (W.contents writer.old) (W.contents writer.new) }
+        ensures few { self.new.replies ≤ self.old.replies + most }
+        ensures standing { IfOk result (λ standing. IsStanding standing most self.old self.new) }
+    {
+        let first = self.replies;
+        'turn: for _ in 0..u64::MAX {
+            let Ok(all) = self.send(writer) else {
+                return Err(TurnFault::Write);
+            };
+            if !all {
+                return Ok(Standing::Writes);
+            }
+            if let Some(end) = self.ending {
+                return Ok(Standing::Ended(end));
+            }
+            if self.replies - first >= most {
+                return Ok(Standing::Ready);
+            }
+            if !self.answer_next(alloc, chain, board, words) {
+                let Ok(more) = self.read_more(reader) else {
+                    return Err(TurnFault::Read);
+                };
+                if !more {
+                    return Ok(Standing::Reads);
+                }
+            }
+        }
+        Err(TurnFault::Read)
+    }
+}
