@@ -61,7 +61,7 @@ impl Chain<MemStore> {
     ) -> Result<Chain<MemStore>, OpenFault>
         ensures made { IfOk result (λ chain. (chain.limits ≡ limits) × (chain.is_failed ≡ false)
             × IsAt over_memory chain (first_books office.now) (first_books office.now)) }
-        ensures fault { IfErr result (λ e. (e ≢ OpenFault.NotAChain) × (e ≢ OpenFault.OtherVersion) × (e ≢ OpenFault.Already)) }
+        ensures fault { IfErr result (λ e. (e ≢ OpenFault.NotAChain) × (e ≢ OpenFault.OtherVersion) × (e ≢ OpenFault.Damaged) × (e ≢ OpenFault.Already)) }
     {
         let first = FirstRows::OfOffice(office);
         first_values(&first);
@@ -80,7 +80,7 @@ impl Chain<MemStore> {
     /// failed.
     pub fn demo(alloc: Global, limits: Limits) -> Result<Chain<MemStore>, OpenFault>
         ensures made { IfOk result (λ chain. (chain.limits ≡ limits) × (chain.is_failed ≡ false) × IsAt over_memory chain opening_books opening_books) }
-        ensures fault { IfErr result (λ e. (e ≢ OpenFault.NotAChain) × (e ≢ OpenFault.OtherVersion) × (e ≢ OpenFault.Already)) }
+        ensures fault { IfErr result (λ e. (e ≢ OpenFault.NotAChain) × (e ≢ OpenFault.OtherVersion) × (e ≢ OpenFault.Damaged) × (e ≢ OpenFault.Already)) }
     {
         let first = FirstRows::OfOpening;
         first_values(&first);

@@ -1,6 +1,6 @@
 //! A chain in two files: how it is opened, and how it is closed.
 
-ghost use Rattle.std.specs.Prelude.{◌≡◌, ◌⊎◌, false, IfOk, IfErr};
+ghost use Rattle.std.specs.Prelude.{◌≡◌, ◌≢◌, ◌⊎◌, false, IfOk, IfErr};
 ghost use Rattle.sqlite.specs.State.{HasCleanDisk};
 ghost use Rattle.sqlite.specs.Files.{over_files, file_state, image_of};
 ghost use Rattle.sqlite_wal.specs.Files.{outcomes};
@@ -11,8 +11,8 @@ ghost use Rattle.chain_store.specs.Files.{HoldsOne, KeepsBooks, KeepsEither};
 ghost use Rattle.chain_store.specs.Openings.{IsOpenedIn, IsNotOpened};
 
 use crate::chain::Chain;
-use chain_steps::chain_version;
-use chain_store::{OpenFault, connect, give_back, verdict};
+use chain_steps::examine;
+use chain_store::{OpenFault, connect, give_back};
 use shop_types::Limits;
 use sqlite::{FileStore, Files};
 use sqlite_disk::Disk;
@@ -20,7 +20,7 @@ use std::alloc::Global;
 
 impl<D: Disk + Drop> Chain<FileStore<D>> {
     /// Opens the chain that the files hold; the limits are those of this opening. A fault gives the files back: `NotAChain` where they hold none,
-    /// `OtherVersion` where its version isn't the program's, and `Memory`, `Size` or `Store` where the store can't do its part.
+    /// `OtherVersion` where its version isn't the program's, `Damaged` where its tables stand for no sound books, and `Memory`, `Size` or `Store` where the store can't do its part.
     pub fn open_files(
         alloc: Global,
         files: Files<D>,
@@ -30,7 +30,7 @@ impl<D: Disk + Drop> Chain<FileStore<D>> {
         ensures refused { IfErr result (λ e. IsNotOpened D.Disk files e.0 e.1) }
     {
         let mut conn = connect(alloc, files)?;
-        match verdict(chain_version(alloc, &mut conn)) {
+        match examine(alloc, &mut conn) {
             Ok(()) => Ok(Chain {
                 limits,
                 is_failed: false,
@@ -60,7 +60,7 @@ impl<D: Disk + Drop> Chain<FileStore<D>> {
     }
 
     /// Closes the chain and opens its files again, with the limits that it had: the new chain has the same books, or, where the store had failed, those
-    /// before the request at which it failed or those after it. A fault gives the files back, as `open_files` does.
+    /// before the request at which it failed or those after it. A fault gives the files back, as `open_files` does, but is never `Damaged`.
     pub fn reopen(self) -> Result<Chain<FileStore<D>>, (OpenFault, Files<D>)>
         ensures live { IfOk result (λ chain. (chain.limits ≡ self.limits) × (chain.is_failed ≡ false)) }
         ensures honest { IfOk result (λ chain. HasCleanDisk (file_state chain.conn) → HasCleanDisk (file_state self.conn)) }
@@ -68,6 +68,8 @@ impl<D: Disk + Drop> Chain<FileStore<D>> {
             → IsAt over_files self books besides → IsAt over_files chain books books) }
         ensures either { IfOk result (λ chain. HasCleanDisk (file_state chain.conn) → (books besides : Books) → IsAt over_files self books besides
             → ∥ IsAt over_files chain books books ⊎ IsAt over_files chain besides besides ∥₁) }
+        ensures undamaged { (books besides : Books) → IsAt over_files self books besides
+            → IfErr result (λ e. AreClean D.Disk e.1.log e.1.db → e.0 ≢ OpenFault.Damaged) }
         ensures kept { IfErr result (λ e. (closed : _)
             × (self.is_failed ≡ false → (books besides : Books) → IsAt over_files self books besides → KeepsBooks D.Disk closed books)
             × IsNotOpened D.Disk closed e.0 e.1) }

@@ -25,6 +25,7 @@ impl Chain<FileStore<File>> {
             × IsCreated files limits (first_books office.now) chain) }
         ensures chain { IfErr result (λ e. e ≢ OpenFault.NotAChain) }
         ensures version { IfErr result (λ e. e ≢ OpenFault.OtherVersion) }
+        ensures damaged { IfErr result (λ e. e ≢ OpenFault.Damaged) }
         ensures there { IfErr result (λ e. e ≡ OpenFault.Already → (files left : _) × IsFresh true files.log × IsFresh false files.db
             × IsNotCreated ⟦<File as Disk>⟧ files (first_books office.now) e left) }
     {
@@ -43,6 +44,8 @@ impl Chain<FileStore<File>> {
     ) -> Result<Chain<FileStore<File>>, OpenFault>
         ensures opened { IfOk result (λ chain. (files : _) × IsFresh true files.log × IsFresh false files.db × IsOpenedIn files limits chain) }
         ensures already { IfErr result (λ e. e ≢ OpenFault.Already) }
+        ensures damaged { IfErr result (λ e. e ≡ OpenFault.Damaged → (files left : _) × IsFresh true files.log × IsFresh false files.db
+            × IsNotOpened ⟦<File as Disk>⟧ files e left) }
         ensures version { IfErr result (λ e. e ≡ OpenFault.OtherVersion → (files left : _) × IsFresh true files.log × IsFresh false files.db
             × IsNotOpened ⟦<File as Disk>⟧ files e left) }
     {

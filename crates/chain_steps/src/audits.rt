@@ -1,10 +1,12 @@
-//! What an audit says, where the chain hasn't failed.
+//! What an audit says, where the chain hasn't failed, and whether it finds the tables sound.
 
 ghost use Rattle.std.specs.Prelude.{◌≡◌, true, false, Err, IfOk};
 ghost use Rattle.sqlite.specs.Held.{state};
 ghost use Rattle.sqlite.specs.State.{HasCleanDisk, Survives};
+ghost use Rattle.shop_model.specs.Books.{Books};
+ghost use Rattle.chain_store.specs.Chains.{Rests};
 ghost use Rattle.chain_store.specs.Steps.{IsUndone};
-ghost use Rattle.chain_store.specs.Audits.{AuditsState};
+ghost use Rattle.chain_store.specs.Audits.{AuditsState, TellsSoundness};
 
 use chain_store::read_audit;
 use shop_types::Audit;
@@ -29,4 +31,19 @@ pub fn audit_unless_failed<S: Alter>(
         return Err(StoreFault::Failed);
     }
     read_audit(alloc, conn)
+}
+
+/// Whether the tables, which are those of a chain, stand for sound books: exactly where an audit of them says so. Nothing is written.
+pub fn tables_are_sound<S: Alter>(
+    alloc: Global,
+    conn: &mut Connection<S>,
+) -> Result<bool, StoreFault>
+    requires { conn.old.in_transaction ≡ false }
+    ensures ended { conn.new.in_transaction ≡ false }
+    ensures told { HasCleanDisk (state S.Store conn.new) → IfOk result (λ it. TellsSoundness it (state S.Store conn.old)) }
+    ensures same { HasCleanDisk (state S.Store conn.new) → (books : Books) → Rests (state S.Store conn.old) books → Rests (state S.Store conn.new) books }
+    ensures crash { Survives (state S.Store conn.old) (state S.Store conn.new) (λ _. ⊥) }
+{
+    let audit = read_audit(alloc, conn)?;
+    Ok(audit.sound)
 }

@@ -10,4 +10,4 @@ mod versions;
 pub use audits::audit_unless_failed;
 pub use callers::caller_unless_failed;
 pub use steps::step;
-pub use versions::chain_version;
+pub use versions::{chain_version, examine};

@@ -1,12 +1,14 @@
 //! Whether a database has the tables of a chain, and of which version.
 
-ghost use Rattle.std.specs.Prelude.{◌≡◌, false, IfOk};
+ghost use Rattle.std.specs.Prelude.{◌≡◌, ◌≢◌, false, IfOk, IfErr, OnOk};
 ghost use Rattle.sqlite.specs.Held.{state};
 ghost use Rattle.sqlite.specs.State.{HasCleanDisk, Survives};
 ghost use Rattle.shop_model.specs.Books.{Books};
-ghost use Rattle.chain_store.specs.Chains.{Rests};
+ghost use Rattle.chain_store.specs.Chains.{Rests, StaysAsFound, StandsSoundly};
 ghost use Rattle.chain_store.specs.Files.{Knows};
 
+use crate::audits::tables_are_sound;
+use chain_store::{OpenFault, named, verdict};
 use shop_schema::{KnownVersion, has_version, is_shop};
 use sql_rows::StoreFault;
 use sqlite::{Alter, Connection};
@@ -20,6 +22,7 @@ pub fn chain_version<S: Alter>(
     requires { conn.old.in_transaction ≡ false }
     ensures ended { conn.new.in_transaction ≡ false }
     ensures told { HasCleanDisk (state S.Store conn.new) → IfOk result (λ it. Knows it (state S.Store conn.old)) }
+    ensures stays { HasCleanDisk (state S.Store conn.new) → StaysAsFound (state S.Store conn.old) (state S.Store conn.new) }
     ensures same { HasCleanDisk (state S.Store conn.new) → (books : Books) → Rests (state S.Store conn.old) books → Rests (state S.Store conn.new) books }
     ensures crash { Survives (state S.Store conn.old) (state S.Store conn.new) (λ _. ⊥) }
 {
@@ -32,4 +35,30 @@ pub fn chain_version<S: Alter>(
         return Ok(KnownVersion::Missing);
     }
     Ok(found)
+}
+
+/// Whether the tables are a chain's of this version and stand for sound books, or why there is no chain. Nothing is written.
+pub fn examine<S: Alter>(alloc: Global, conn: &mut Connection<S>) -> Result<(), OpenFault>
+    requires { conn.old.in_transaction ≡ false }
+    ensures ended { conn.new.in_transaction ≡ false }
+    ensures this { HasCleanDisk (state S.Store conn.new) → OnOk result (Knows KnownVersion.This (state S.Store conn.old)) }
+    ensures sound { HasCleanDisk (state S.Store conn.new) → (state S.Store conn.old).now ≡ (state S.Store conn.old).committed
+        → OnOk result (StandsSoundly (state S.Store conn.old).now.trees) }
+    ensures none { HasCleanDisk (state S.Store conn.new) → IfErr result (λ e. e ≡ OpenFault.NotAChain → Knows KnownVersion.Missing (state S.Store conn.old)) }
+    ensures other { HasCleanDisk (state S.Store conn.new) → IfErr result (λ e. e ≡ OpenFault.OtherVersion → Knows KnownVersion.Other (state S.Store conn.old)) }
+    ensures damaged { HasCleanDisk (state S.Store conn.new) → (state S.Store conn.old).now ≡ (state S.Store conn.old).committed
+        → IfErr result (λ e. e ≡ OpenFault.Damaged → Knows KnownVersion.This (state S.Store conn.old) × (¬ StandsSoundly (state S.Store conn.old).now.trees)) }
+    ensures already { IfErr result (λ e. e ≢ OpenFault.Already) }
+    ensures same { HasCleanDisk (state S.Store conn.new) → (books : Books) → Rests (state S.Store conn.old) books → Rests (state S.Store conn.new) books }
+    ensures crash { Survives (state S.Store conn.old) (state S.Store conn.new) (λ _. ⊥) }
+{
+    let known = chain_version(alloc, conn);
+    if let Err(fault) = verdict(known) {
+        return Err(fault);
+    }
+    match tables_are_sound(alloc, conn) {
+        Ok(true) => Ok(()),
+        Ok(false) => Err(OpenFault::Damaged),
+        Err(fault) => Err(named(fault)),
+    }
 }

@@ -1,6 +1,6 @@
 //! How a chain is stopped, its disks crash, and it is opened again.
 
-ghost use Rattle.std.specs.Prelude.{◌≡◌, ◌⊎◌, false, IfOk};
+ghost use Rattle.std.specs.Prelude.{◌≡◌, ◌≢◌, ◌⊎◌, false, IfOk, IfErr};
 ghost use Rattle.sqlite.specs.State.{HasCleanDisk};
 ghost use Rattle.sqlite.specs.Files.{over_files, file_state};
 ghost use Rattle.sqlite_wal.specs.Files.{outcomes};
@@ -27,7 +27,7 @@ fn crashed<D: Crash + Drop>(files: Files<D>) -> Files<D>
 }
 
 /// Stops a chain, lets its disks crash, and opens the files that are left, with the given limits: the new chain has the books of the old one, or, where the
-/// store had failed, those before the request at which it failed or those after it. A fault gives the files back, as `open_files` does.
+/// store had failed, those before the request at which it failed or those after it. A fault gives the files back, as `open_files` does, but is never `Damaged`.
 pub fn restart<D: Crash + Drop>(
     alloc: Global,
     chain: Chain<FileStore<D>>,
@@ -40,6 +40,7 @@ pub fn restart<D: Crash + Drop>(
         → IsAt over_files chain books besides → IsAt over_files again books books) }
     ensures either { IfOk result (λ again. HasCleanDisk (file_state again.conn) → (books besides : Books) → IsAt over_files chain books besides
         → ∥ IsAt over_files again books books ⊎ IsAt over_files again besides besides ∥₁) }
+    ensures undamaged { (books besides : Books) → IsAt over_files chain books besides → IfErr result (λ e. AreClean D.Disk e.1.log e.1.db → e.0 ≢ OpenFault.Damaged) }
 {
     Chain::open_files(alloc, crashed(chain.close()), limits)
 }

@@ -27,17 +27,21 @@ store_is_not_a_chain e = cc
 pub store_is_no_version : fault.Store ≢ fault.OtherVersion
 store_is_no_version e = cc
 
+pub store_is_no_damage : fault.Store ≢ fault.Damaged
+store_is_no_damage e = cc
+
 pub store_is_not_already : fault.Store ≢ fault.Already
 store_is_not_already e = cc
 
 -- a fault of the store, and what is left of the files
-pub stopped_by : {D : Type 0} (g : Ghosts D) (files : Files D) (books : Books) (why : OpenFault) (left : Files D) → why ≢ fault.NotAChain → why ≢ fault.OtherVersion → why ≢ fault.Already
+pub stopped_by : {D : Type 0} (g : Ghosts D) (files : Files D) (books : Books) (why : OpenFault) (left : Files D) → why ≢ fault.NotAChain → why ≢ fault.OtherVersion → why ≢ fault.Damaged → why ≢ fault.Already
     → (AreClean g left.log left.db → OpenFailed g files left) → IsNotCreated g files books why left
-stopped_by g files books why left chain version already failed = record {
+stopped_by g files books why left chain version damaged already failed = record {
   already = λ honest is. absurd (already is);
   stopped = λ honest _. inl (failed honest);
   chain = chain;
   version = version;
+  damaged = damaged;
 }
 
 module _ {D : Type 0} {g : Ghosts D} (c : Held (FileStore D g)) (files : Files D) (opened : IsOpened c) (stays : SeenMayStay g) where

@@ -5,6 +5,7 @@ use Rattle.std.specs.List.{AllZip}
 use Rattle.std.proofs.lemmas.Bool.{cases_Bool}
 use Rattle.std.proofs.lemmas.List.Sorted.{length_permutation}
 use Rattle.std.proofs.Math.Logic.{∥∥₁_elim, ∥∥₁_map}
+use mathlib.Core.HLevel.{⊥_prop}
 use Rattle.sqlite_disk.specs.declared.Disk.{Ghosts}
 use Rattle.sqlite_disk.specs.declared.Files.{Files}
 use Rattle.sqlite_value.specs.Order.{Row, column}
@@ -40,12 +41,12 @@ use Rattle.shop_schema.specs.Columns.{this_version}
 use Rattle.sqlite.specs.Schema.{Schema}
 use Rattle.shop_schema.specs.Versions.{version_of, version_told}
 use Rattle.shop_schema.specs.declared.known.KnownVersion.TheVariants.{This, Missing, Other}
-use Rattle.chain_store.specs.Chains.{Rests, IsAt, StandsForEither, widest_rules}
+use Rattle.chain_store.specs.Chains.{Rests, IsAt, StandsForEither, StandsSoundly, widest_rules}
 use Rattle.chain_store.specs.Holding.{Chained}
 use Rattle.chain_store.proofs.Deciding.{stands_in_any}
 use Rattle.chain_store.specs.declared.faults.OpenFault.{OpenFault}
 use Rattle.chain_store.specs.declared.faults.OpenFault.TheVariants as fault
-use Rattle.chain_store.specs.Files.{HoldsBooks, HoldsOne, IsHeldIn, IsFoundIn, KeepsBooks, KeepsEither, HoldsNoChain, HasThisVersion, HasNoVersion, HasOtherVersion, OpenFailed, Knows}
+use Rattle.chain_store.specs.Files.{HoldsBooks, HoldsOne, IsHeldIn, IsFoundIn, KeepsBooks, KeepsEither, HoldsNoChain, HoldsSoundly, HoldsDamage, HasThisVersion, HasNoVersion, HasOtherVersion, OpenFailed, Knows}
 use Rattle.chain_store.specs.Openings.{IsNotOpened}
 
 pub clean_store : {D : Type 0} {g : Ghosts D} (it : FileStore D g) (files : Files D) → (files.log, files.db) ≡ store_files it → AreClean g files.log files.db → IsClean (view it)
@@ -161,6 +162,10 @@ module _ {D : Type 0} {g : Ghosts D} (c : Held (FileStore D g)) (files : Files D
       let is : opened_state.committed.trees ≡ held.db = ∥∥₁_elim held.holds (Trees-set _ _) (found.holds held.db) in
       rests_on stays schema books (subst (λ t. StandsFor t books) (sym is) held.stands)
 
+  -- the books that an audit found
+  pub sound_rests : SeenMayStay g → opened_state.now.schema ≡ shop_schema → (books : Books) → StandsFor opened_state.now.trees books → Rests opened_state books
+  sound_rests stays schema books stands = rests_on stays schema books (subst (λ (t : Trees). StandsFor t books) same_trees stands)
+
   -- the books that were closed
   pub kept_rests : SeenMayStay g → opened_state.now.schema ≡ shop_schema → (books : Books) → KeepsBooks g files books → Rests opened_state books
   kept_rests stays schema books keeps =
@@ -195,6 +200,21 @@ module _ {D : Type 0} {g : Ghosts D} (c : Held (FileStore D g)) (files : Files D
     | inr none ↦ absurd (some (empty_has_none opened_state.now.schema opened_state.committed.trees none.1 committed_database))
   ]
 
+  held_of_shop : opened_state.now.schema ≡ shop_schema → IsHeldIn (image_of g files) opened_state.committed.trees
+  held_of_shop schema = shows_what_is_held (begins_with_some opened_state.now.schema (subst HasVersion (sym schema) refl))
+
+  pub holds_sound : opened_state.now.schema ≡ shop_schema → (books : Books) → StandsFor opened_state.now.trees books → HoldsSoundly (image_of g files) books
+  holds_sound schema books stands = (opened_state.committed.trees, held_of_shop schema, subst (λ (t : Trees). StandsFor t books) same_trees stands)
+
+  pub holds_damage : Knows This opened_state → ¬ StandsSoundly opened_state.now.trees → HoldsDamage (image_of g files)
+  holds_damage it none = (
+    opened_state.committed.trees,
+    held_of_shop it.0,
+    subst (λ (schema : Schema). IsDatabaseOf schema opened_state.committed.trees) it.0 committed_database,
+    subst (λ (t : Trees). version_of (map (columns_of 1) (t 0)) ≡ This) same_trees it.1,
+    λ sound. none (subst StandsSoundly (sym same_trees) sound),
+  )
+
   is_database : (db : Trees) → HoldsDatabase (image_of g files) db → IsDatabaseOf opened_state.now.schema db
   is_database db held = subst (IsDatabaseOf opened_state.now.schema) (shows_found db held) (opened.1 opened.0.is_open).0
 
@@ -211,7 +231,7 @@ module _ {D : Type 0} {g : Ghosts D} (c : Held (FileStore D g)) (files : Files D
   pub has_this_version : Knows This opened_state → HasThisVersion (image_of g files)
   has_this_version it = (
     opened_state.committed.trees,
-    shows_what_is_held (begins_with_some opened_state.now.schema (subst HasVersion (sym it.0) refl)),
+    held_of_shop it.0,
     subst (λ (schema : Schema). IsDatabaseOf schema opened_state.committed.trees) it.0 committed_database,
     subst (λ (t : Trees). version_of (map (columns_of 1) (t 0)) ≡ This) same_trees it.1,
   )
@@ -242,16 +262,24 @@ module _ {D : Type 0} {g : Ghosts D} (c : Held (FileStore D g)) (files : Files D
         | inr none ↦ absurd none
       ])
 
+-- the files of a chain that was closed hold no damage, also where its store had failed
+pub undamaged : {D : Type 0} (g : Ghosts D) (files : Files D) (books besides : Books) → SeenMayStay g → AreClean g files.log files.db → KeepsEither g files books besides → ¬ HoldsDamage (image_of g files)
+undamaged g files books besides stays honest keeps damage =
+    ∥∥₁_elim (keeps.left honest (image_of g files) (stays _, stays _)) ⊥_prop (λ it.
+    let held : StandsSoundly it.0 = elim it.1 [ inl first ↦ (books, first, keeps.values, keeps.sound) | inr other ↦ (besides, other.2, other.1, other.0) ] in
+    damage.4 (subst StandsSoundly (sym (damage.1.only it.0 it.2)) held))
+
 -- ---- faults
 
 -- a fault of the store, and what is left of the files
-pub unopened_by : {D : Type 0} (g : Ghosts D) (files : Files D) (why : OpenFault) (left : Files D) → why ≢ fault.NotAChain → why ≢ fault.OtherVersion → why ≢ fault.Already
+pub unopened_by : {D : Type 0} (g : Ghosts D) (files : Files D) (why : OpenFault) (left : Files D) → why ≢ fault.NotAChain → why ≢ fault.OtherVersion → why ≢ fault.Damaged → why ≢ fault.Already
     → (AreClean g left.log left.db → OpenFailed g files left ⊎ ((db : Trees) × IsFoundIn (image_of g files) db × HoldsOne g left (λ found. found ≡ db)))
     → IsNotOpened g files why left
-unopened_by g files why left chain version already kept = record {
+unopened_by g files why left chain version damaged already kept = record {
   no_chain = λ honest is. absurd (chain is);
   no_version = λ honest is. absurd (chain is);
   other = λ honest is. absurd (version is);
+  damaged = λ honest is. absurd (damaged is);
   kept = kept;
   already = already;
 }

@@ -29,7 +29,7 @@ use Rattle.shop_types.specs.Replies.{seen_reply}
 use Rattle.shop_schema.specs.Tables.{shop_schema}
 use Rattle.shop_schema.specs.Held.{IsHeld}
 use Rattle.shop_schema.specs.Shop.{StandsFor, Holds, Reads, IsShop}
-use Rattle.chain_store.specs.Chains.{Rests}
+use Rattle.chain_store.specs.Chains.{Rests, StaysAsFound}
 use Rattle.chain_store.specs.declared.work.Work.TheVariants as work
 use Rattle.chain_store.specs.declared.reports.Report.{Report}
 use Rattle.chain_store.specs.Reports.{ShowsReport}
@@ -72,6 +72,11 @@ module _ {S : Type 0} (g : Ghosts S) (old mid end : Held S) where
           | inr none ↦ absurd none
         ];
       }
+
+  pub found_back : KeepsCommit (state g begun) (state g mid) → IsRolledBack (state g mid) (state g end) → StaysAsFound (state g old) (state g end)
+  found_back kept back clean live =
+      let undone = dropped (state g begun) (state g mid) (state g end) kept back live in
+      (kept.was_open (back.was_open live), undone.0 ∙ sym clean, undone.1)
 
   -- a call that commits nothing, and then a transaction with nothing in it, which is rolled back
   pub rests_settled : (books : Books) → Survives (state g old) (state g mid) (λ _. ⊥) → KeepsCommit (state g old) (state g mid) → IsRolledBack (state g (record mid { in_transaction = true })) (state g end)

@@ -43,6 +43,14 @@ StandsForEither books besides db = StandsFor db books ⊎ (IsSound widest_rules 
 abbrev pub LeavesEither : State → Books → Books → Type 0
 LeavesEither s books besides = (db : Trees) → s.may_leave db → StandsForEither books besides db
 
+-- behind a call that changes nothing the connection, where it is open, shows what it showed
+abbrev pub StaysAsFound : State → State → Type 0
+StaysAsFound old new = old.now ≡ old.committed → IsTrue new.is_open → IsTrue old.is_open × (new.now ≡ old.now) × (new.committed ≡ old.committed)
+
+-- the tables stand for sound books, with values in their ranges
+abbrev pub StandsSoundly : Trees → Type 0
+StandsSoundly db = (books : Books) × StandsFor db books × AreValues books × IsSound widest_rules books
+
 -- the chain has these books: they are sound, and its tables stand for them until the store fails; a crash may then leave those besides
 pub record IsAt {S : Type 0} (g : Ghosts S) (chain : Chained S) (books besides : Books) : Type 0 where
   pub sound : IsSound widest_rules books

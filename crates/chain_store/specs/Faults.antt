@@ -11,6 +11,7 @@ fault_name fault.Size = codes "size"
 fault_name fault.Store = codes "store_failed"
 fault_name fault.NotAChain = codes "not_a_chain"
 fault_name fault.OtherVersion = codes "other_version"
+fault_name fault.Damaged = codes "damaged"
 fault_name fault.Already = codes "already"
 
 abbrev pub open_fault_for : StoreFault → OpenFault

@@ -25,7 +25,7 @@ use Rattle.shop_schema.specs.Tables.{shop_schema}
 use Rattle.shop_schema.specs.Versions.{version_of}
 use Rattle.shop_schema.specs.declared.known.KnownVersion.{KnownVersion}
 use Rattle.shop_schema.specs.declared.known.KnownVersion.TheVariants.{This, Missing, Other}
-use Rattle.chain_store.specs.Chains.{widest_rules, StandsForEither}
+use Rattle.chain_store.specs.Chains.{widest_rules, StandsForEither, StandsSoundly}
 
 -- What is known of the tables. They are a chain's of this version; or they aren't a chain's: the first isn't the one that has the version, or hasn't its one row, or tells
 -- this version of other tables; or that table tells another version, whatever the others are.
@@ -85,6 +85,14 @@ HasNoVersion image = (db : Trees) → HoldsDatabase image db → (schema : Schem
 abbrev pub HasOtherVersion : Image → Type 0
 HasOtherVersion image =
     (db : Trees) × IsHeldIn image db × (schema : Schema) × IsDatabaseOf schema db × HasVersion schema × (version_of (map (columns_of 1) (db 0)) ≡ Other)
+
+-- the files hold a database whose tables stand for these books
+abbrev pub HoldsSoundly : Image → Books → Type 0
+HoldsSoundly image books = (db : Trees) × IsHeldIn image db × StandsFor db books
+
+-- the files hold a database that has the tables of a chain and tells this version, and its tables stand for no sound books
+abbrev pub HoldsDamage : Image → Type 0
+HoldsDamage image = (db : Trees) × IsHeldIn image db × IsDatabaseOf shop_schema db × (version_of (map (columns_of 1) (db 0)) ≡ This) × (¬ StandsSoundly db)
 
 -- the files that an open of these left as it failed
 abbrev pub OpenFailed : {D : Type 0} → Ghosts D → Files D → Files D → Type 0

@@ -17,7 +17,7 @@ use Rattle.chain_store.specs.declared.faults.OpenFault.{OpenFault}
 use Rattle.chain_store.specs.declared.faults.OpenFault.TheVariants as fault
 use Rattle.chain_store.specs.Holding.{Chained}
 use Rattle.chain_store.specs.Chains.{IsAt}
-use Rattle.chain_store.specs.Files.{HoldsBooks, HoldsOne, IsHeldIn, IsFoundIn, KeepsBooks, KeepsEither, HoldsNoChain, HasThisVersion, HasNoVersion, HasOtherVersion, OpenFailed}
+use Rattle.chain_store.specs.Files.{HoldsBooks, HoldsOne, IsHeldIn, IsFoundIn, KeepsBooks, KeepsEither, HoldsNoChain, HoldsSoundly, HoldsDamage, HasThisVersion, HasNoVersion, HasOtherVersion, OpenFailed}
 
 -- ---- making
 
@@ -51,6 +51,7 @@ pub record IsNotCreated {D : Type 0} (g : Ghosts D) (files : Files D) (books : B
   -- what only an opening tells isn't told
   pub chain : why ≢ fault.NotAChain
   pub version : why ≢ fault.OtherVersion
+  pub damaged : why ≢ fault.Damaged
 
 -- ---- opening
 
@@ -60,6 +61,8 @@ pub record IsOpenedIn {D : Type 0} {g : Ghosts D} (files : Files D) (given : Lim
   pub live : chain.is_failed ≡ false
   -- no wrong answer of the disk was taken as true before
   pub honest : HasCleanDisk (file_state chain.conn) → AreClean g files.log files.db
+  -- whatever was known of the files, they hold sound books, which the chain has
+  pub sound : HasCleanDisk (file_state chain.conn) → (books : Books) × HoldsSoundly (image_of g files) books × IsAt over_files chain books books
   -- the chain has the books that are found in the files,
   pub found : HasCleanDisk (file_state chain.conn) → (books : Books) → HoldsBooks (image_of g files) books → IsAt over_files chain books books
   -- and those that were closed
@@ -77,6 +80,8 @@ pub record IsNotOpened {D : Type 0} (g : Ghosts D) (files : Files D) (why : Open
   pub no_version : AreClean g left.log left.db → why ≡ fault.NotAChain → HasNoVersion (image_of g files)
   -- OtherVersion: they tell another one
   pub other : AreClean g left.log left.db → why ≡ fault.OtherVersion → HasOtherVersion (image_of g files)
+  -- Damaged: they hold a chain of this version, whose tables stand for no sound books
+  pub damaged : AreClean g left.log left.db → why ≡ fault.Damaged → AreClean g files.log files.db × HoldsDamage (image_of g files)
   -- whatever the fault is, the files are as the opening of their database left them that failed; or they go on to hold what was found in them
   pub kept : AreClean g left.log left.db → OpenFailed g files left ⊎ ((db : Trees) × IsFoundIn (image_of g files) db × HoldsOne g left (λ found. found ≡ db))
   -- what only making a chain tells isn't told

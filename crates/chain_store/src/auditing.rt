@@ -5,7 +5,8 @@ ghost use Rattle.sqlite.specs.Held.{state};
 ghost use Rattle.sqlite.specs.State.{HasCleanDisk, Survives};
 ghost use Rattle.sql_rows.specs.Calls.{StaysInside};
 ghost use Rattle.shop_schema.specs.Shop.{IsShop};
-ghost use Rattle.chain_store.specs.Steps.{IsUndone};
+ghost use Rattle.shop_model.specs.Books.{Books};
+ghost use Rattle.chain_store.specs.Chains.{Rests};
 ghost use Rattle.chain_store.specs.Audits.{AuditsState, AuditsTables};
 
 use books_audit::audit_books;
@@ -19,7 +20,7 @@ pub fn read_audit<S: Alter>(alloc: Global, conn: &mut Connection<S>) -> Result<A
     requires { conn.old.in_transaction ≡ false }
     ensures ended { conn.new.in_transaction ≡ false }
     ensures told { HasCleanDisk (state S.Store conn.new) → IfOk result (AuditsState (state S.Store conn.old)) }
-    ensures same { HasCleanDisk (state S.Store conn.new) → IsUndone (state S.Store conn.old) (state S.Store conn.new) }
+    ensures same { HasCleanDisk (state S.Store conn.new) → (books : Books) → Rests (state S.Store conn.old) books → Rests (state S.Store conn.new) books }
     ensures crash { Survives (state S.Store conn.old) (state S.Store conn.new) (λ _. ⊥) }
 {
     let mut tx = conn.transaction();

@@ -87,6 +87,7 @@ pub fn create<S: Alter>(conn: &mut Connection<S>, first: &FirstRows<'_>) -> Resu
     ensures crash { Survives (state S.Store conn.old) (state S.Store conn.new) (LeavesMade (state S.Store conn.old) (books_with first.now)) }
     ensures chain { IfErr result (λ e. e ≢ OpenFault.NotAChain) }
     ensures version { IfErr result (λ e. e ≢ OpenFault.OtherVersion) }
+    ensures damaged { IfErr result (λ e. e ≢ OpenFault.Damaged) }
 {
     if !is_empty(conn.schema()) {
         return Err(OpenFault::Already);
@@ -101,7 +102,7 @@ pub fn create<S: Alter>(conn: &mut Connection<S>, first: &FirstRows<'_>) -> Resu
 pub fn in_memory(alloc: Global, first: &FirstRows<'_>) -> Result<Connection<MemStore>, OpenFault>
     ensures ended { IfOk result (λ conn. conn.in_transaction ≡ false) }
     ensures made { IfOk result (λ conn. Rests (state over_memory conn) (books_with first.now)) }
-    ensures fault { IfErr result (λ e. (e ≢ OpenFault.NotAChain) × (e ≢ OpenFault.OtherVersion) × (e ≢ OpenFault.Already)) }
+    ensures fault { IfErr result (λ e. (e ≢ OpenFault.NotAChain) × (e ≢ OpenFault.OtherVersion) × (e ≢ OpenFault.Damaged) × (e ≢ OpenFault.Already)) }
 {
     let Ok(mut conn) = Connection::open_in_memory(alloc) else {
         return Err(OpenFault::Memory);

@@ -19,6 +19,8 @@ pub enum OpenFault {
     NotAChain,
     /// The files hold a chain of another version.
     OtherVersion,
+    /// The files hold a chain of this version, whose tables stand for no sound books.
+    Damaged,
     /// The files hold tables already, where a chain was to be made.
     Already,
 }
@@ -33,6 +35,7 @@ impl fmt::Display for OpenFault {
             OpenFault::Store => "store_failed",
             OpenFault::NotAChain => "not_a_chain",
             OpenFault::OtherVersion => "other_version",
+            OpenFault::Damaged => "damaged",
             OpenFault::Already => "already",
         })
     }
@@ -43,6 +46,7 @@ pub fn named(fault: StoreFault) -> OpenFault
     ensures told { result ≡ open_fault_for fault }
     ensures chain { result ≢ OpenFault.NotAChain }
     ensures version { result ≢ OpenFault.OtherVersion }
+    ensures damaged { result ≢ OpenFault.Damaged }
     ensures already { result ≢ OpenFault.Already }
 {
     match fault {

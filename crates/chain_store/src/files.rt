@@ -10,7 +10,7 @@ ghost use Rattle.sql_rows.specs.Rows.{columns_of};
 ghost use Rattle.shop_model.specs.Books.{Books};
 ghost use Rattle.shop_schema.specs.Shop.{HasVersion};
 ghost use Rattle.shop_schema.specs.Versions.{version_of};
-ghost use Rattle.chain_store.specs.Chains.{Rests};
+ghost use Rattle.chain_store.specs.Chains.{Rests, StaysAsFound};
 ghost use Rattle.chain_store.specs.Files.{HoldsOne, OpenFailed};
 
 use crate::faults::{OpenFault, named};
@@ -31,6 +31,7 @@ pub fn connect<D: Disk + Drop>(
     ensures left { IfErr result (λ e. OpenFailed D.Disk files e.1) }
     ensures chain { IfErr result (λ e. e.0 ≢ OpenFault.NotAChain) }
     ensures version { IfErr result (λ e. e.0 ≢ OpenFault.OtherVersion) }
+    ensures damaged { IfErr result (λ e. e.0 ≢ OpenFault.Damaged) }
     ensures already { IfErr result (λ e. e.0 ≢ OpenFault.Already) }
 {
     if !files.may_be_used() {
@@ -57,6 +58,7 @@ pub fn version_in<S: Alter>(conn: &mut Connection<S>) -> Result<KnownVersion, St
     ensures ended { conn.new.in_transaction ≡ false }
     ensures read { HasCleanDisk (state S.Store conn.new) → HasVersion (state S.Store conn.old).now.schema
         → IfOk result (λ it. it ≡ version_of (map (columns_of 1) ((state S.Store conn.old).now.trees 0))) }
+    ensures stays { HasCleanDisk (state S.Store conn.new) → StaysAsFound (state S.Store conn.old) (state S.Store conn.new) }
     ensures same { HasCleanDisk (state S.Store conn.new) → (books : Books) → Rests (state S.Store conn.old) books → Rests (state S.Store conn.new) books }
     ensures crash { Survives (state S.Store conn.old) (state S.Store conn.new) (λ _. ⊥) }
 {
@@ -71,6 +73,7 @@ pub fn verdict(known: Result<KnownVersion, StoreFault>) -> Result<(), OpenFault>
     ensures this { OnOk result (known ≡ Ok KnownVersion.This) }
     ensures none { IfErr result (λ e. e ≡ OpenFault.NotAChain → known ≡ Ok KnownVersion.Missing) }
     ensures other { IfErr result (λ e. e ≡ OpenFault.OtherVersion → known ≡ Ok KnownVersion.Other) }
+    ensures damaged { IfErr result (λ e. e ≢ OpenFault.Damaged) }
     ensures already { IfErr result (λ e. e ≢ OpenFault.Already) }
 {
     match known {

@@ -14,6 +14,7 @@ pub fn files_at(rt: &HostRuntime, path: &str) -> Result<Files<File>, OpenFault>
     ensures fresh { IfOk result (λ files. IsFresh true files.log × IsFresh false files.db) }
     ensures chain { IfErr result (λ e. e ≢ OpenFault.NotAChain) }
     ensures version { IfErr result (λ e. e ≢ OpenFault.OtherVersion) }
+    ensures damaged { IfErr result (λ e. e ≢ OpenFault.Damaged) }
     ensures already { IfErr result (λ e. e ≢ OpenFault.Already) }
 {
     match sqlite_std_file::open(rt, path, Unknown) {

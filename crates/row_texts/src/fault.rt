@@ -14,6 +14,8 @@ pub enum Fault {
     Replies(usize),
     /// The files aren't opened, for the fault of that name.
     Opening(&'static str),
+    /// The audit says something else.
+    Audit,
     /// The program ended with that status.
     Status(u8),
     /// The program wrote something else to its standard output.
@@ -69,6 +71,7 @@ impl fmt::Display for Complaint<'_> {
             Fault::End(end, replies) => write!(f, "the end is {end} {replies}"),
             Fault::Replies(at) => write!(f, "byte {at} differs in {told}"),
             Fault::Opening(name) => write!(f, "the files aren't opened: {name}"),
+            Fault::Audit => write!(f, "the audit is {told}"),
             Fault::Status(status) => write!(f, "the status is {status}"),
             Fault::Out => write!(f, "out is {told}"),
             Fault::Err => write!(f, "err is {told}"),

@@ -1,6 +1,7 @@
 //! The player of rows: what their lines say, and the order in which they are played on a chain and a program that are handed in.
 #![tactic(auto)]
 
+mod audited;
 mod exchange;
 mod fault;
 mod names;

@@ -1,4 +1,5 @@
 //! One row as it is played, line by line.
+use crate::audited::Audited;
 use crate::exchange::Exchange;
 use crate::fault::Fault;
 use crate::names::Names;
@@ -13,6 +14,7 @@ use std::alloc::Global;
 #[derive(Drop)]
 enum Asked {
     Connection(Exchange),
+    Tables(Audited),
     Program(Run),
 }
 
@@ -20,6 +22,7 @@ impl Asked {
     fn settle(&self) -> Result<(), Fault> {
         match self {
             Asked::Connection(exchange) => exchange.settle(),
+            Asked::Tables(audited) => audited.settle(),
             Asked::Program(run) => run.settle(),
         }
     }
@@ -28,6 +31,7 @@ impl Asked {
     fn told(&self, fault: Fault) -> &[u8] {
         match self {
             Asked::Connection(exchange) => exchange.told(),
+            Asked::Tables(audited) => audited.told.as_slice(),
             Asked::Program(run) => run.told(fault),
         }
     }
@@ -52,6 +56,8 @@ pub struct Row {
     asked: Option<Asked>,
     how: How,
     is_how_said: bool,
+    /// Whether a stop is said of what comes next.
+    is_stop_said: bool,
     input: Vec<u8>,
     is_input_said: bool,
     count: u32,
@@ -64,6 +70,7 @@ impl Row {
             asked: None,
             how: WHOLE,
             is_how_said: false,
+            is_stop_said: false,
             input: Vec::new(alloc),
             is_input_said: false,
             count: 0,
@@ -93,7 +100,7 @@ impl Row {
         if self.count == 0 {
             return Err(Fault::Line("the row is empty"));
         }
-        if self.is_how_said {
+        if self.is_how_said || self.is_stop_said {
             return Err(Fault::Line("no request comes so"));
         }
         if self.is_input_said {
@@ -117,6 +124,7 @@ impl Row {
         let exchange = Exchange::new(self.alloc, told, self.how.room);
         self.how = WHOLE;
         self.is_how_said = false;
+        self.is_stop_said = false;
         self.has_asked(Asked::Connection(exchange));
         Ok(())
     }
@@ -215,10 +223,10 @@ impl Row {
         Ok(())
     }
 
-    /// The next connection is stopped at each call of the chain's disks in turn.
+    /// The next connection or opening is stopped at each call of the chain's disks in turn.
     fn stops<S: Stage>(&mut self, stage: &mut S) -> Result<(), Fault> {
         stage.stop();
-        self.is_how_said = true;
+        self.is_stop_said = true;
         Ok(())
     }
 
@@ -227,7 +235,25 @@ impl Row {
         if !fault.is_empty() {
             self.counts();
         }
+        self.is_stop_said = false;
         stage.reopen(fault)
+    }
+
+    /// What an audit of the tables says is an exchange: its text is compared.
+    fn audits<S: Stage>(
+        &mut self,
+        stage: &mut S,
+        names: &Names,
+        word: &str,
+        body: &str,
+    ) -> Result<(), Fault> {
+        let wanted = self.bytes_of(names, body)?;
+        let told = match word {
+            "audit" => stage.audit()?,
+            _ => stage.audit_custody()?,
+        };
+        self.has_asked(Asked::Tables(Audited { told, wanted }));
+        Ok(())
     }
 
     fn words_of(&self, names: &Names, line: &str) -> Result<Vec<String>, Fault> {
@@ -305,6 +331,7 @@ impl Row {
             "stops" => self.stops(stage),
             "reopen" => self.reopens(stage, rest),
             "sql" => stage.change(rest),
+            "audit" | "custody" => self.audits(stage, names, word, rest),
             "call" => self.calls(stage, rest),
             "raw" => self.sends_raw(stage, rest),
             "words" => self.runs(stage, names, rest),

@@ -37,7 +37,8 @@ pub trait Stage {
     /// The log of the chain's files fails at the next connection, so many calls before the chain, opened in them, has answered it.
     fn fail(&mut self, fewer: u64);
 
-    /// At the next connection copies of the chain's files fail at each call in turn, and each such chain, opened again, sends the same when all comes again.
+    /// At the next connection copies of the chain's files fail at each call in turn, and each such chain, opened again, sends the same when all comes again;
+    /// or at the next opening, behind which an audit says the same.
     fn stop(&mut self);
 
     /// Opens the chain's files again, which has to be refused where a fault is named.
@@ -45,6 +46,12 @@ pub trait Stage {
 
     /// Closes the chain, and does a statement on the tables in its files.
     fn change(&mut self, text: &str) -> Result<(), Fault>;
+
+    /// Closes the chain, and has the tables in its files audited: the text that head office would be told.
+    fn audit(&mut self) -> Result<Vec<u8>, Fault>;
+
+    /// The same of an audit of custody alone.
+    fn audit_custody(&mut self) -> Result<Vec<u8>, Fault>;
 
     /// Makes the calls of that name.
     fn call(&mut self, name: &str) -> Result<(), Fault>;

@@ -14,7 +14,7 @@ use Rattle.shop_schema.specs.Shop.{first_books}
 use Rattle.chain_engine.specs.Holding.{Holding}
 use Rattle.office_words.specs.Line.{line_of}
 use Rattle.chain_engine.specs.Chains.{Answers, Runs}
-use Rattle.chain_engine.specs.Files.{HoldsBooks, HasThisVersion, KeepsBooks}
+use Rattle.chain_engine.specs.Files.{HoldsBooks, HoldsSoundly, HasThisVersion, KeepsBooks}
 use Rattle.chain_engine.specs.Openings.{HoldsNoTable}
 use Rattle.counter_http.specs.Exchanges.{Exchange, events_of, answers_of}
 use Rattle.sakila_office.specs.Printed.{IsPrinted, IsSilent, IsTold}
@@ -32,25 +32,35 @@ pub record IsMade {D : Type 0} (g : Ghosts D) (token : List ℕ) : Type 0 where
   pub none : AreClean g left.log left.db → HoldsNoTable (image_of g files)
   pub kept : AreClean g left.log left.db → KeepsBooks g left (first_books token)
 
--- The files hold a chain of this version. It was opened in them, got the request and answered so, and was closed. Whatever books the files held, the answer is
--- theirs; and unless the store failed, the files then keep the books after it.
+-- from these books on, the request gets this answer, and unless the store fails, these files then keep the books after it
+abbrev pub AnswersFrom : {D : Type 0} → Ghosts D → Files D → Request → Answer → Books → Type 0
+AnswersFrom g left request answer books =
+    (after : Holding) × Answers HeadOffice (seen_request request) answer (opened_holding books) after × (after.is_failed ≡ false → KeepsBooks g left after.books)
+
+-- The files hold a chain of this version. It was opened in them, got the request and answered so, and was closed. The answer is that of the sound books which
+-- the files hold, and of whatever books they are known to hold.
 pub record IsAnswered {D : Type 0} (g : Ghosts D) (request : Request) (answer : Answer) : Type 0 where
   pub files : Files D
   pub left : Files D
   pub this : AreClean g left.log left.db → HasThisVersion (image_of g files)
-  pub answers : AreClean g left.log left.db → (books : Books) → HoldsBooks (image_of g files) books
-      → (after : Holding) × Answers HeadOffice (seen_request request) answer (opened_holding books) after × (after.is_failed ≡ false → KeepsBooks g left after.books)
+  pub sound : AreClean g left.log left.db → (books : Books) × HoldsSoundly (image_of g files) books × AnswersFrom g left request answer books
+  pub answers : AreClean g left.log left.db → (books : Books) → HoldsBooks (image_of g files) books → AnswersFrom g left request answer books
 
--- The files hold a chain of this version. It was opened in them, ran over some exchanges, and was closed. Whatever books the files held, the run begins at them; and unless the
--- store failed, the files then keep the books after it. With status 0 it didn't fail.
+-- From these books on, the chain runs over the exchanges, and unless the store fails, these files then keep the books after it. With status 0 it didn't fail.
+abbrev pub RunsFrom : {D : Type 0} → Ghosts D → Files D → ℕ → List Exchange → Books → Type 0
+RunsFrom g left status exchanges books =
+    (after : Holding) × Runs (events_of line_of exchanges) (answers_of exchanges) (opened_holding books) after
+    × (after.is_failed ≡ false → KeepsBooks g left after.books) × (status ≡ 0 → after.is_failed ≡ false)
+
+-- The files hold a chain of this version. It was opened in them, ran over some exchanges, and was closed. The run begins at the sound books which the files hold,
+-- and at whatever books they are known to hold.
 pub record IsServedIn {D : Type 0} (g : Ghosts D) (status : ℕ) : Type 0 where
   pub files : Files D
   pub left : Files D
   pub exchanges : List Exchange
   pub this : AreClean g left.log left.db → HasThisVersion (image_of g files)
-  pub runs : AreClean g left.log left.db → (books : Books) → HoldsBooks (image_of g files) books
-      → (after : Holding) × Runs (events_of line_of exchanges) (answers_of exchanges) (opened_holding books) after
-      × (after.is_failed ≡ false → KeepsBooks g left after.books) × (status ≡ 0 → after.is_failed ≡ false)
+  pub sound : AreClean g left.log left.db → (books : Books) × HoldsSoundly (image_of g files) books × RunsFrom g left status exchanges books
+  pub runs : AreClean g left.log left.db → (books : Books) → HoldsBooks (image_of g files) books → RunsFrom g left status exchanges books
 
 -- ---- the three tasks, over such files
 

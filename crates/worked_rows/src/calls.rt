@@ -49,6 +49,7 @@ fn fault_names(alloc: Global) -> Result<(), Fault> {
         (OpenFault::Store, "store_failed"),
         (OpenFault::NotAChain, "not_a_chain"),
         (OpenFault::OtherVersion, "other_version"),
+        (OpenFault::Damaged, "damaged"),
         (OpenFault::Already, "already"),
     ] {
         is_so(fault.to_string(alloc)?.as_str() == name, "another name")?;

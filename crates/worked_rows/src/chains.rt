@@ -2,7 +2,8 @@
 use crate::calls::call;
 use crate::fuses::new_files;
 use crate::shops::{Shop, new_shop, opened};
-use crate::sweeps::swept;
+use crate::sweeps::{swept, swept_opening};
+use crate::tables::Auditing;
 use row_texts::{Fault, How, Ran, Stage, Told, remove_files};
 use sakila_office::run;
 use shop_types::Limits;
@@ -21,7 +22,7 @@ pub struct Chains<'t> {
     fewer: Option<u64>,
     /// Whether the log fails.
     is_failing: bool,
-    /// Whether the next connection is stopped at each call in turn.
+    /// Whether the next connection or opening is stopped at each call in turn.
     is_swept: bool,
 }
 
@@ -76,6 +77,26 @@ impl Chains<'_> {
         Ok(())
     }
 
+    /// Stops the opening at each call of copies of the disks, where it is to.
+    fn stop_opening(&mut self, fault: &str) -> Result<(), Fault> {
+        if self.is_swept {
+            self.is_swept = false;
+            if !fault.is_empty() {
+                return Err(Fault::Line("no opening that is refused is stopped"));
+            }
+            let files = swept_opening(self.alloc, self.take_mended()?.files())?;
+            self.keeps(Shop::Closed(files));
+        }
+        Ok(())
+    }
+
+    /// Closes the chain, and has its tables audited.
+    fn tells_audit(&mut self, which: Auditing) -> Result<Vec<u8>, Fault> {
+        let (text, shop) = self.take_mended()?.audited(self.alloc, which)?;
+        self.keeps(shop);
+        Ok(text)
+    }
+
     /// Takes the chain, whose log fails no more.
     fn take_mended(&mut self) -> Result<Shop<Fuse<Memory>>, Fault> {
         let shop = self.take_shop()?;
@@ -113,6 +134,7 @@ impl Stage for Chains<'_> {
     }
 
     fn reopen(&mut self, fault: &str) -> Result<(), Fault> {
+        self.stop_opening(fault)?;
         let shop = self.take_mended()?.reopened(self.alloc, fault)?;
         self.keeps(shop);
         Ok(())
@@ -122,6 +144,14 @@ impl Stage for Chains<'_> {
         let shop = self.take_shop()?.changed(self.alloc, text)?;
         self.keeps(shop);
         Ok(())
+    }
+
+    fn audit(&mut self) -> Result<Vec<u8>, Fault> {
+        self.tells_audit(Auditing::Books)
+    }
+
+    fn audit_custody(&mut self) -> Result<Vec<u8>, Fault> {
+        self.tells_audit(Auditing::Custody)
     }
 
     fn call(&mut self, name: &str) -> Result<(), Fault> {

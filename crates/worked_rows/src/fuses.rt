@@ -3,14 +3,14 @@ use crate::shops::{Shop, opened};
 use row_texts::{Fault, WHOLE};
 use shop_types::Limits;
 use sqlite::Files;
-use sqlite_disk::{Disk, Fuse, Memory};
+use sqlite_disk::{Crash, Disk, Fuse, Memory};
 use std::alloc::Global;
 
 /// Two files, each of which fails behind so many calls; most never do.
 pub type Disks = Files<Fuse<Memory>>;
 
 /// More calls of a disk than an opening and a connection take.
-pub const MOST_CALLS: u64 = 1000;
+pub const MOST_CALLS: u64 = 4000;
 
 /// Files with nothing in them.
 pub fn new_files(alloc: Global) -> Disks {
@@ -41,6 +41,12 @@ pub const NEVER: Calls = Calls {
     db: u64::MAX,
 };
 
+/// The disks fail behind more calls than are made.
+pub const MANY: Calls = Calls {
+    log: MOST_CALLS,
+    db: MOST_CALLS,
+};
+
 /// Which of the two files' disks fails.
 #[derive(Clone, Copy)]
 pub enum Failing {
@@ -62,6 +68,14 @@ pub fn stops_behind(which: Failing, calls: u64) -> Calls {
     }
 }
 
+/// The files behind a crash of their disks.
+pub fn crashed(files: Disks) -> Disks {
+    let Files { mut log, mut db } = files;
+    log.crash();
+    db.crash();
+    Files { log, db }
+}
+
 /// Copies of the files, which fail after so many calls.
 pub fn fused(alloc: Global, files: &Disks, calls: Calls) -> Result<Disks, Fault> {
     let log = copied(alloc, files.log.inner())?;
@@ -72,14 +86,27 @@ pub fn fused(alloc: Global, files: &Disks, calls: Calls) -> Result<Disks, Fault>
     })
 }
 
-/// How many calls it had before it fails. What is left of many calls is told by using them up.
-fn calls_made(log: &mut Fuse<Memory>) -> Result<u64, Fault> {
+/// Whether the files have the same bytes.
+pub fn are_same(files: &Disks, others: &Disks) -> bool {
+    files.log.inner().bytes() == others.log.inner().bytes()
+        && files.db.inner().bytes() == others.db.inner().bytes()
+}
+
+/// How many of many calls a disk had. What is left of them is told by using them up.
+fn calls_of(disk: &mut Fuse<Memory>) -> Result<u64, Fault> {
     for left in 0..MOST_CALLS {
-        if !log.may_be_used() || log.len().is_err() {
+        if !disk.may_be_used() || disk.len().is_err() {
             return Ok(MOST_CALLS.saturating_sub(left));
         }
     }
     Err(Fault::Line("no call was made"))
+}
+
+/// How many calls disks had that fail behind many.
+pub fn calls_made(files: &mut Disks) -> Result<Calls, Fault> {
+    let log = calls_of(&mut files.log)?;
+    let db = calls_of(&mut files.db)?;
+    Ok(Calls { log, db })
 }
 
 impl Shop<Fuse<Memory>> {
@@ -91,17 +118,13 @@ impl Shop<Fuse<Memory>> {
         fewer: u64,
     ) -> Result<Shop<Fuse<Memory>>, Fault> {
         let files = self.files();
-        let mut trial = opened(
-            alloc,
-            fused(alloc, &files, stops_behind(Failing::Log, MOST_CALLS))?,
-            Limits::default(),
-        )?;
+        let mut trial = opened(alloc, fused(alloc, &files, MANY)?, Limits::default())?;
         drop(trial.tells(alloc, input, WHOLE)?);
-        let calls = calls_made(&mut trial.files().log)?;
+        let made = calls_made(&mut trial.files())?;
         let failing = fused(
             alloc,
             &files,
-            stops_behind(Failing::Log, calls.saturating_sub(fewer)),
+            stops_behind(Failing::Log, made.log.saturating_sub(fewer)),
         )?;
         opened(alloc, failing, Limits::default())
     }

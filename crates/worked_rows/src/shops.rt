@@ -1,6 +1,6 @@
 //! The chain that a row talks to.
 use crate::connection::told_by;
-use crate::tables::changed;
+use crate::tables::{Auditing, audited, changed};
 use chain_engine::{Chain, OpenFault};
 use row_texts::{Fault, How, Told, WHOLE};
 use shop_types::Limits;
@@ -33,6 +33,7 @@ pub fn name_of(fault: OpenFault) -> &'static str {
         OpenFault::Store => "store_failed",
         OpenFault::NotAChain => "not_a_chain",
         OpenFault::OtherVersion => "other_version",
+        OpenFault::Damaged => "damaged",
         OpenFault::Already => "already",
     }
 }
@@ -172,5 +173,11 @@ impl<D: Disk + Drop> Shop<D> {
     /// Closes the chain, and does a statement on the tables in its files.
     pub fn changed(self, alloc: Global, text: &str) -> Result<Shop<D>, Fault> {
         Ok(Shop::Closed(changed(alloc, self.files(), Some(text))?))
+    }
+
+    /// Closes the chain, and has the tables in its files audited.
+    pub fn audited(self, alloc: Global, which: Auditing) -> Result<(Vec<u8>, Shop<D>), Fault> {
+        let (text, files) = audited(alloc, self.files(), which)?;
+        Ok((text.into_bytes(), Shop::Closed(files)))
     }
 }

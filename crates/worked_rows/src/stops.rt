@@ -1,6 +1,9 @@
 //! Chains that are stopped at each call of their disks in turn, by calls that no row makes.
-use crate::fuses::{Calls, Disks, Failing, MOST_CALLS, NEVER, fused, new_files, stops_behind};
-use crate::shops::{Shop, new_shop};
+use crate::fuses::{
+    Calls, Disks, Failing, MANY, MOST_CALLS, NEVER, are_same, calls_made, crashed, fused,
+    new_files, stops_behind,
+};
+use crate::shops::new_shop;
 use crate::values::{NO_VALUE, is_so};
 use chain_engine::{Chain, OpenFault};
 use chain_stops::{NotResumed, Resumed, over_a_stop};
@@ -9,8 +12,6 @@ use row_texts::Fault;
 use shop_types::{
     Act, Amount, Ask, Command, CustomerNo, Key, Limits, Moment, Reply, Request, StaffNo, Token,
 };
-use sqlite::Files;
-use sqlite_disk::{Crash, Fuse, Memory};
 use std::alloc::Global;
 
 type Asked = (Token, Request);
@@ -100,7 +101,40 @@ fn is_answered(alloc: Global, replies: &[Reply]) -> Result<(), Fault> {
     Ok(())
 }
 
-/// Has the script asked, stops where the disks fail, and has it asked again. Says whether nothing stopped it.
+const FAILED: &str = "{\"refused\":\"store_failed\"}";
+
+/// Whether the script has been answered so up to some request, and from there on that the store has failed.
+fn is_answered_to(alloc: Global, replies: &[Reply]) -> Result<(), Fault> {
+    is_so(replies.len() == REPLIES.len(), "another count of replies")?;
+    let mut has_failed = false;
+    for (reply, wanted) in replies.iter().zip(REPLIES) {
+        has_failed = has_failed || !ends_with(alloc, reply, wanted)?;
+        let is_told = !has_failed || ends_with(alloc, reply, FAILED)?;
+        is_so(is_told, "another reply before a stop")?;
+    }
+    Ok(())
+}
+
+/// How many calls of each disk the opening of the chain and the script take.
+fn calls_of(alloc: Global, files: &Disks, asked: &[Asked]) -> Result<Calls, Fault> {
+    match Chain::open_files(alloc, fused(alloc, files, MANY)?, Limits::default()) {
+        Ok(mut chain) => {
+            let replies = chain.replay(asked);
+            let mut left = chain.close();
+            match replies {
+                Ok(replies) => is_answered(alloc, replies.as_slice())?,
+                Err(_) => return Err(Fault::Memory),
+            }
+            calls_made(&mut left)
+        }
+        Err((_, files)) => {
+            drop(files);
+            Err(Fault::Line("the chain isn't opened"))
+        }
+    }
+}
+
+/// Has the script asked, stops where the disks fail, and has it asked again. Says whether the chain was opened.
 fn asked_twice(alloc: Global, files: Disks, asked: &[Asked]) -> Result<bool, Fault> {
     let limits = Limits::default();
     let chain = match Chain::open_files(alloc, files, limits) {
@@ -117,43 +151,40 @@ fn asked_twice(alloc: Global, files: Disks, asked: &[Asked]) -> Result<bool, Fau
                 behind,
                 chain,
             } = it;
-            let is_whole = !chain.is_failed() && is_answered(alloc, before.as_slice()).is_ok();
             drop(chain.close());
+            is_answered_to(alloc, before.as_slice())?;
             is_answered(alloc, behind.as_slice())?;
-            Ok(is_whole)
+            Ok(true)
         }
         Err(NotResumed::Memory) => Err(Fault::Memory),
         Err(NotResumed::Closed(_)) => Err(Fault::Line("the chain isn't opened again")),
     }
 }
 
-/// Stops the script at each call that these are, until none stops it.
+/// Stops the script at each call of a disk, from the last of so many back to those of the opening.
 fn asked_at_each(
     alloc: Global,
     files: &Disks,
     asked: &[Asked],
     which: Failing,
+    made: u64,
 ) -> Result<(), Fault> {
-    for calls in 0..MOST_CALLS {
-        if asked_twice(
-            alloc,
-            fused(alloc, files, stops_behind(which, calls))?,
-            asked,
-        )? {
+    for behind in 1..=made {
+        let calls = stops_behind(which, made.saturating_sub(behind));
+        if !asked_twice(alloc, fused(alloc, files, calls)?, asked)? {
             return Ok(());
         }
     }
-    Err(Fault::Line("no call is the last"))
+    Err(Fault::Line("no call is the opening's"))
 }
 
 /// At whatever call a chain is stopped, it answers behind the stop what it would have answered.
 pub fn stopped(alloc: Global) -> Result<(), Fault> {
     let asked = script(alloc)?;
     let files = new_shop(alloc, new_files(alloc), "stocked")?.files();
-    asked_at_each(alloc, &files, asked.as_slice(), Failing::Log)?;
-    asked_at_each(alloc, &files, asked.as_slice(), Failing::Database)?;
-    drop(files);
-    Ok(())
+    let made = calls_of(alloc, &files, asked.as_slice())?;
+    asked_at_each(alloc, &files, asked.as_slice(), Failing::Log, made.log)?;
+    asked_at_each(alloc, &files, asked.as_slice(), Failing::Database, made.db)
 }
 
 /// Whether the files hold no chain, or a new one that knows head office.
@@ -186,11 +217,13 @@ fn made_in(alloc: Global, calls: Calls, office: &Token) -> Result<bool, Fault> {
             Ok(true)
         }
         Err((_, files)) => {
-            is_none_or_new(alloc, fused(alloc, &files, NEVER)?, office)?;
-            let Files { mut log, mut db } = files;
-            log.crash();
-            db.crash();
-            is_none_or_new(alloc, Files { log, db }, office)?;
+            let left = fused(alloc, &files, NEVER)?;
+            let files = crashed(files);
+            let is_done = are_same(&files, &left);
+            is_none_or_new(alloc, left, office)?;
+            if !is_done {
+                is_none_or_new(alloc, files, office)?;
+            }
             Ok(false)
         }
     }

@@ -1,11 +1,13 @@
-//! A connection that is stopped at each call of the disks in turn, and comes again once the chain is opened again.
-use crate::fuses::{Disks, Failing, MOST_CALLS, NEVER, fused, stops_behind};
+//! A connection that is stopped at each call of the disks in turn, and comes again once the chain is opened again; and an opening that is stopped so.
+ghost use Rattle.std.specs.Prelude.{◌<◌};
+
+use crate::fuses::{
+    Calls, Disks, Failing, MANY, NEVER, are_same, calls_made, crashed, fused, stops_behind,
+};
 use crate::shops::{Shop, name_of};
 use chain_engine::{Chain, OpenFault};
 use row_texts::{Fault, WHOLE};
 use shop_types::Limits;
-use sqlite::Files;
-use sqlite_disk::Crash;
 use std::alloc::Global;
 
 /// What the chain in these files sends, or nothing where the store fails as it is opened, and the files as they are left.
@@ -24,64 +26,143 @@ fn sent_by(alloc: Global, files: Disks, input: &[u8]) -> Result<(Option<Vec<u8>>
     }
 }
 
-/// Whether the chain in these files sends this.
-fn sends(alloc: Global, files: Disks, input: &[u8], wanted: &[u8]) -> Result<(), Fault> {
-    let (sent, files) = sent_by(alloc, files, input)?;
-    drop(files);
-    match sent {
-        Some(bytes) if bytes.as_slice() == wanted => Ok(()),
-        _ => Err(Fault::Line("a chain that was stopped sends something else")),
-    }
-}
-
-/// The files behind a crash of their disks.
-fn crashed(files: Disks) -> Disks {
-    let Files { mut log, mut db } = files;
-    log.crash();
-    db.crash();
-    Files { log, db }
-}
-
-/// Whether what comes again is sent the same, in the files as they are, and as a crash leaves them.
-fn goes_on(alloc: Global, files: Disks, input: &[u8], wanted: &[u8]) -> Result<(), Fault> {
-    sends(alloc, fused(alloc, &files, NEVER)?, input, wanted)?;
-    let files = crashed(files);
-    sends(alloc, fused(alloc, &files, NEVER)?, input, wanted)
-}
-
-/// Stops the connection at each call that these are, until none stops it.
-fn sweep_of(
+/// Files, what comes to the chain that they hold, and what that sends where nothing stops it.
+#[derive(Clone, Copy)]
+struct Trial<'t> {
     alloc: Global,
-    files: &Disks,
-    input: &[u8],
-    wanted: &[u8],
-    which: Failing,
-) -> Result<(), Fault> {
-    for calls in 0..MOST_CALLS {
-        let (sent, left) = sent_by(
-            alloc,
-            fused(alloc, files, stops_behind(which, calls))?,
-            input,
-        )?;
-        if let Some(bytes) = sent {
-            if bytes.as_slice() == wanted {
+    files: &'t Disks,
+    input: &'t [u8],
+    wanted: &'t [u8],
+}
+
+impl Trial<'_> {
+    /// Whether the chain in copies of these files sends what is wanted. In files with the same bytes as those that weren't touched it did.
+    fn sends(&self, files: &Disks) -> Result<(), Fault> {
+        if are_same(files, self.files) {
+            return Ok(());
+        }
+        let (sent, left) = sent_by(self.alloc, fused(self.alloc, files, NEVER)?, self.input)?;
+        drop(left);
+        match sent {
+            Some(bytes) if bytes.as_slice() == self.wanted => Ok(()),
+            _ => Err(Fault::Line("a chain that was stopped sends something else")),
+        }
+    }
+
+    /// Whether what comes again is sent the same, in the files that a stop left as they are, and as a crash leaves them.
+    fn goes_on(&self, left: Disks) -> Result<(), Fault> {
+        self.sends(&left)?;
+        let left = crashed(left);
+        self.sends(&left)
+    }
+
+    /// Whether this is what is wanted, or that the store has failed.
+    fn may_send(&self, bytes: &[u8]) -> bool {
+        bytes == self.wanted || bytes.ends_with(b"{\"refused\":\"store_failed\"}")
+    }
+
+    /// Whether so many calls suffice, so that the connection makes none behind them.
+    fn is_sent_within(&self, made: Calls) -> Result<(), Fault> {
+        let (sent, left) = sent_by(self.alloc, fused(self.alloc, self.files, made)?, self.input)?;
+        drop(left);
+        match sent {
+            Some(bytes) if bytes.as_slice() == self.wanted => Ok(()),
+            _ => Err(Fault::Line("more calls are made")),
+        }
+    }
+
+    /// Stops the connection at each call of a disk, from the last of so many back to those of the opening.
+    fn stops_at_each(&self, which: Failing, made: u64) -> Result<(), Fault> {
+        for behind in 1..=made {
+            let calls = stops_behind(which, made.saturating_sub(behind));
+            let files = fused(self.alloc, self.files, calls)?;
+            let (sent, left) = sent_by(self.alloc, files, self.input)?;
+            let Some(bytes) = sent else {
                 drop(left);
                 return Ok(());
+            };
+            if !self.may_send(bytes.as_slice()) {
+                drop(left);
+                return Err(Fault::Line("a chain that is stopped sends something else"));
+            }
+            self.goes_on(left)?;
+        }
+        Err(Fault::Line("no call is the opening's"))
+    }
+
+    /// Stops the opening at its last call of a disk, of so many, and at each one that is a stride before.
+    fn opens_behind_each(&self, which: Failing, made: u64, stride: u64) -> Result<(), Fault>
+        requires { 0 < stride }
+    {
+        for behind in 1..=made {
+            if behind.saturating_sub(1) % stride == 0 {
+                self.opens_behind(stops_behind(which, made.saturating_sub(behind)))?;
             }
         }
-        goes_on(alloc, left, input, wanted)?;
+        Ok(())
     }
-    Err(Fault::Line("no call is the last"))
+
+    /// Stops the opening behind so many calls.
+    fn opens_behind(&self, calls: Calls) -> Result<(), Fault> {
+        let files = fused(self.alloc, self.files, calls)?;
+        let (sent, left) = sent_by(self.alloc, files, b"")?;
+        drop(sent);
+        self.goes_on(left)
+    }
 }
 
-/// Whether a connection that is stopped at any call is sent the same when it comes again. Gives the files back as they were.
-pub fn swept(alloc: Global, files: Disks, input: &[u8]) -> Result<Disks, Fault> {
-    let (sent, left) = sent_by(alloc, fused(alloc, &files, NEVER)?, input)?;
+/// What is sent where nothing stops it, and how many calls of each disk the opening and the connection take.
+fn undisturbed(alloc: Global, files: &Disks, input: &[u8]) -> Result<(Vec<u8>, Calls), Fault> {
+    let (sent, mut left) = sent_by(alloc, fused(alloc, files, MANY)?, input)?;
+    let made = calls_made(&mut left);
     drop(left);
-    let Some(wanted) = sent else {
-        return Err(Fault::Line("the chain isn't opened"));
+    match sent {
+        Some(bytes) => Ok((bytes, made?)),
+        None => Err(Fault::Line("the chain isn't opened")),
+    }
+}
+
+fn sweep(alloc: Global, files: &Disks, input: &[u8]) -> Result<(), Fault> {
+    let (wanted, made) = undisturbed(alloc, files, input)?;
+    let swept = Trial {
+        alloc,
+        files,
+        input,
+        wanted: wanted.as_slice(),
     };
-    sweep_of(alloc, &files, input, wanted.as_slice(), Failing::Log)?;
-    sweep_of(alloc, &files, input, wanted.as_slice(), Failing::Database)?;
+    swept.is_sent_within(made)?;
+    swept.stops_at_each(Failing::Log, made.log)?;
+    swept.stops_at_each(Failing::Database, made.db)
+}
+
+/// Whether a connection that is stopped at any call behind the opening is sent the same when it comes again. Gives the files back as they were.
+pub fn swept(alloc: Global, files: Disks, input: &[u8]) -> Result<Disks, Fault> {
+    sweep(alloc, &files, input)?;
+    Ok(files)
+}
+
+/// Head office asks for the audit.
+const AUDIT: &[u8] =
+    b"POST /office HTTP/1.1\r\ncounter-token: 00000000000000000000000000000000\r\ncontent-length: 9\r\n\r\n[\"audit\"]";
+
+/// An opening makes three calls of the log for each page there, and is stopped at each seventh call.
+const LOG_STRIDE: u64 = 7;
+
+fn sweep_opening(alloc: Global, files: &Disks) -> Result<(), Fault> {
+    let (wanted, _) = undisturbed(alloc, files, AUDIT)?;
+    let swept = Trial {
+        alloc,
+        files,
+        input: AUDIT,
+        wanted: wanted.as_slice(),
+    };
+    let (_, made) = undisturbed(alloc, files, b"")?;
+    swept.opens_behind_each(Failing::Log, made.log, LOG_STRIDE)?;
+    swept.opens_behind_each(Failing::Database, made.db, 1)
+}
+
+/// Whether the chain is opened behind an opening that is stopped at any call of the database's file, or at one of many of the log, and an audit says the same of it. Gives the files back as they were.
+pub fn swept_opening(alloc: Global, files: Disks) -> Result<Disks, Fault> {
+    sweep_opening(alloc, &files)?;
     Ok(files)
 }

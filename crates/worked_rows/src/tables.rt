@@ -1,7 +1,10 @@
-//! Statements on a database of its own, beside the chain.
-use chain_store::{FirstRows, connect, create, give_back};
+//! The tables in a chain's files, over a connection of its own beside the chain: statements on them, and audits of them.
+use books_audit::audit_custody;
+use chain_store::{FirstRows, connect, create, give_back, read_audit};
+use reply_bodies::audit_text;
 use row_texts::Fault;
-use sqlite::{Alter, Connection, Files};
+use shop_types::Audit;
+use sqlite::{Alter, Connection, FileStore, Files};
 use sqlite_disk::Disk;
 use std::alloc::Global;
 
@@ -26,19 +29,27 @@ fn change<S: Alter>(conn: &mut Connection<S>, text: Option<&str>) -> Result<(), 
     }
 }
 
+/// A connection to the database in the files.
+fn connected<D: Disk + Drop>(
+    alloc: Global,
+    files: Files<D>,
+) -> Result<Connection<FileStore<D>>, Fault> {
+    match connect(alloc, files) {
+        Ok(conn) => Ok(conn),
+        Err((_, files)) => {
+            drop(files);
+            Err(Fault::Line("the database isn't opened"))
+        }
+    }
+}
+
 /// The files, with what a statement or the opening rows, where there is none, make of their tables.
 pub fn changed<D: Disk + Drop>(
     alloc: Global,
     files: Files<D>,
     text: Option<&str>,
 ) -> Result<Files<D>, Fault> {
-    let mut conn = match connect(alloc, files) {
-        Ok(conn) => conn,
-        Err((_, files)) => {
-            drop(files);
-            return Err(Fault::Line("the chain isn't made"));
-        }
-    };
+    let mut conn = connected(alloc, files)?;
     let done = change(&mut conn, text);
     let files = give_back(conn);
     match done {
@@ -46,6 +57,51 @@ pub fn changed<D: Disk + Drop>(
         Err(text) => {
             drop(files);
             Err(Fault::Line(text))
+        }
+    }
+}
+
+/// Which audit is asked for: that of all tables, or that of custody alone.
+#[derive(Clone, Copy)]
+pub enum Auditing {
+    Books,
+    Custody,
+}
+
+/// What an audit says of the tables, which stay as they are.
+fn audit<S: Alter>(alloc: Global, conn: &mut Connection<S>, which: Auditing) -> Option<Audit> {
+    if !conn.is_autocommit() {
+        return None;
+    }
+    match which {
+        Auditing::Books => read_audit(alloc, conn).ok(),
+        Auditing::Custody => {
+            let mut tx = conn.transaction();
+            let audit = audit_custody(alloc, &mut tx);
+            tx.rollback();
+            audit.ok()
+        }
+    }
+}
+
+/// The text of an audit of the tables in the files, and the files as they were.
+pub fn audited<D: Disk + Drop>(
+    alloc: Global,
+    files: Files<D>,
+    which: Auditing,
+) -> Result<(String, Files<D>), Fault> {
+    let mut conn = connected(alloc, files)?;
+    let audit = audit(alloc, &mut conn, which);
+    let files = give_back(conn);
+    let Some(audit) = audit else {
+        drop(files);
+        return Err(Fault::Line("the tables aren't audited"));
+    };
+    match audit_text(alloc, audit) {
+        Ok(text) => Ok((text, files)),
+        Err(_) => {
+            drop(files);
+            Err(Fault::Memory)
         }
     }
 }

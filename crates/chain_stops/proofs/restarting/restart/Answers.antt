@@ -1,10 +1,15 @@
-use Rattle.std.proofs.Common.{Ok, Err, Result, IfOk}
+use Rattle.std.proofs.Common.{Ok, Err, Result, IfOk, IfErr}
+use Rattle.chain_store.proofs.Opening.{undamaged}
 use Rattle.chain_stops.proofs.Resuming.{crashed_keeps, crashed_either}
 use Rattle.chain_stops.proofs.restarting.restart.Goals as goal
 
 ok_then : {A E : Type 0} (r : Result A E) {P Q : A → Type 0} → IfOk r P → ((x : A) → P x → Q x) → IfOk r Q
 ok_then (Ok x) h f = f x h
 ok_then (Err e) h f = tt
+
+err_then : {A E : Type 0} (r : Result A E) {P Q : E → Type 0} → IfErr r P → ((e : E) → P e → Q e) → IfErr r Q
+err_then (Ok x) h f = tt
+err_then (Err e) h f = f e h
 
 pub returns-clause-honest : goal.returns-clause-honest
 returns-clause-honest g c = ok_then c.open_files.result c.open_files.ensures.opened (λ again it clean. c.close.ensures.clean (c.crashed.ensures.clean (it.honest clean)))
@@ -16,3 +21,9 @@ returns-clause-same g c = ok_then c.open_files.result c.open_files.ensures.opene
 pub returns-clause-either : goal.returns-clause-either
 returns-clause-either g c = ok_then c.open_files.result c.open_files.ensures.opened (λ again it clean books besides at.
     it.either clean books besides (crashed_either g.D.Disk c.close.result c.crashed.result books besides c.crashed.ensures.left c.crashed.ensures.clean (c.close.ensures.either books besides at)))
+
+pub returns-clause-undamaged : goal.returns-clause-undamaged
+returns-clause-undamaged g c books besides at = err_then c.open_files.result c.open_files.ensures.refused (λ e it honest is.
+    let damage = it.damaged honest is in
+    undamaged g.D.Disk c.crashed.result books besides g.met.D.Disk.seen_may_stay damage.0
+    (crashed_either g.D.Disk c.close.result c.crashed.result books besides c.crashed.ensures.left c.crashed.ensures.clean (c.close.ensures.either books besides at)) damage.1)

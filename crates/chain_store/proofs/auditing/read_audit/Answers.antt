@@ -19,7 +19,7 @@ returns-clause-told g c clean =
     (rw c.transaction-tx.ensures.begun at (c.audit_tables-audit.ensures.audit clean_mid))
 
 pub returns-clause-same : goal.returns-clause-same
-returns-clause-same g c clean books rests held =
+returns-clause-same g c clean books rests =
     let old = c.args.conn.now in
     let mid = c.audit_tables-audit.new.tx.conn.now in
     let end = c.rollback.new.self.0 in

@@ -13,6 +13,10 @@ returns-in-Ok g c =
       files = files;
       left = c.answer-reply.result.1;
       this = λ honest. found.this (c.answer-reply.ensures.honest honest);
+      sound = λ honest.
+          let it = found.sound (c.answer-reply.ensures.honest honest) in
+          let told = c.answer-reply.ensures.answers honest it.0 it.0 it.2 in
+          (it.0, it.1, rw (← is_opened c.in-Ok.chain it.0 (found.limits ∙ c.default.ensures) found.live) told);
       answers = λ honest books holds.
           let at = found.found (c.answer-reply.ensures.honest honest) books holds in
           let told = c.answer-reply.ensures.answers honest books books at in

@@ -14,6 +14,10 @@ returns-in-Ok g c output =
       left = c.serve_chain-status.result.1;
       exchanges = ran.0;
       this = λ honest. found.this (c.serve_chain-status.ensures.honest honest);
+      sound = λ honest.
+          let it = found.sound (c.serve_chain-status.ensures.honest honest) in
+          let told = ran.1 honest it.0 it.0 it.2 in
+          (it.0, it.1, rw (← is_opened c.in-Ok.chain it.0 (found.limits ∙ c.default.ensures) found.live) told);
       runs = λ honest books holds.
           let at = found.found (c.serve_chain-status.ensures.honest honest) books holds in
           let told = ran.1 honest books books at in

@@ -13,7 +13,7 @@ use Rattle.chain_engine.proofs.creating.Chain+FileStore+D.create_files.Goals as 
 pub returns-in_err-conn-clause-refused : goal.returns-in_err-conn-clause-refused
 returns-in_err-conn-clause-refused g c =
     refused_by c.from_residual.result _ _
-    (stopped_by g.D.Disk c.args.files _ _ _ c.in_err-conn.ensures.chain c.in_err-conn.ensures.version c.in_err-conn.ensures.already (λ honest. c.in_err-conn.ensures.left))
+    (stopped_by g.D.Disk c.args.files _ _ _ c.in_err-conn.ensures.chain c.in_err-conn.ensures.version c.in_err-conn.ensures.damaged c.in_err-conn.ensures.already (λ honest. c.in_err-conn.ensures.left))
     c.from_residual.ensures.1
 
 pub returns-in-Ok-clause-made : goal.returns-in-Ok-clause-made
@@ -47,4 +47,5 @@ returns-in-Err-clause-refused g c =
           );
       chain = c.in-Err.ensures.chain;
       version = c.in-Err.ensures.version;
+      damaged = c.in-Err.ensures.damaged;
     }

@@ -1,4 +1,5 @@
 use Rattle.std.proofs.Common.{◌≡◌, subst, Ok, Err, Result, IfOk, IfErr}
+use Rattle.chain_store.proofs.Opening.{undamaged}
 use Rattle.chain_engine.proofs.files.Chain+FileStore+D.reopen.Goals as goal
 
 ok_then : {A E : Type 0} (r : Result A E) {P Q : A → Type 0} → IfOk r P → ((x : A) → P x → Q x) → IfOk r Q
@@ -21,6 +22,11 @@ returns-clause-same g c =
 
 pub returns-clause-either : goal.returns-clause-either
 returns-clause-either g c = ok_then c.open_files.result c.open_files.ensures.opened (λ chain it clean books besides at. it.either clean books besides (c.close.ensures.either books besides at))
+
+pub returns-clause-undamaged : goal.returns-clause-undamaged
+returns-clause-undamaged g c books besides at = err_then c.open_files.result c.open_files.ensures.refused (λ e it honest is.
+    let damage = it.damaged honest is in
+    undamaged g.D.Disk c.close.result books besides g.met.D.Disk.seen_may_stay damage.0 (c.close.ensures.either books besides at) damage.1)
 
 pub returns-clause-kept : goal.returns-clause-kept
 returns-clause-kept g c = err_then c.open_files.result c.open_files.ensures.refused (λ e it. (c.close.result, c.close.ensures.keeps, it))
