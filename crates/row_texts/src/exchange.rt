@@ -32,6 +32,7 @@ fn end_word(word: &str) -> Option<&'static str> {
         "limit" => Some("limit"),
         "refused" => Some("refused"),
         "store_failed" => Some("store_failed"),
+        "read" => Some("read"),
         "write" => Some("write"),
         _ => None,
     }

@@ -50,6 +50,16 @@ pub fn says_more(word: &str) -> bool {
     ) || is_status(word)
 }
 
+/// A count, for which a name may stand.
+fn count_of(names: &Names, text: &str) -> Result<u32, Fault> {
+    let text = names.filled(text)?;
+    let text = str::from_utf8(text.as_slice()).unwrap_or("");
+    match text.parse::<u32>() {
+        Ok(count) => Ok(count),
+        Err(_) => Err(Fault::Line("a count is wanted")),
+    }
+}
+
 #[derive(Drop)]
 pub struct Row {
     alloc: Global,
@@ -192,16 +202,19 @@ impl Row {
     }
 
     /// How the bytes of the next connection come.
-    fn comes(&mut self, word: &str, count: &str) -> Result<(), Fault> {
-        let Ok(count) = count.parse::<u32>() else {
-            return Err(Fault::Line("a count is wanted"));
-        };
+    fn comes(&mut self, names: &Names, word: &str, count: &str) -> Result<(), Fault> {
+        let count = count_of(names, count)?;
         match word {
             "pieces" if count > 0 => self.how.pieces = count as usize,
             "cut" => self.how.cut = count as usize,
+            "breaks" => {
+                self.how.cut = count as usize;
+                self.how.breaks = true;
+            }
             "most" => self.how.most = count,
             "room" => self.how.room = count as usize,
-            _ => return Err(Fault::Line("a piece has no bytes")),
+            "turns" if count > 0 => self.how.turns = Some(count),
+            _ => return Err(Fault::Line("a piece or a turn has nothing")),
         }
         self.is_how_said = true;
         Ok(())
@@ -310,7 +323,9 @@ impl Row {
         match word {
             "let" => names.set(rest),
             "next" => names.raise(rest),
-            "pieces" | "cut" | "most" | "room" => self.comes(word, rest),
+            "pieces" | "cut" | "breaks" | "most" | "room" | "turns" => self.comes(
+                names, word, rest,
+            ),
             "end" => self.ends(rest),
             _ if word == "stdin" || says_more(word) => self.says(names, word, rest),
             _ => Err(Fault::Line("this line isn't read")),

@@ -7,15 +7,21 @@ use crate::fault::Fault;
 pub struct How {
     pub pieces: usize,
     pub cut: usize,
+    /// Whether the reader fails where its input is cut.
+    pub breaks: bool,
     pub most: u32,
     pub room: usize,
+    /// How many requests are answered in a turn, where the connection is served by turns.
+    pub turns: Option<u32>,
 }
 
 pub const WHOLE: How = How {
     pieces: usize::MAX,
     cut: usize::MAX,
+    breaks: false,
     most: 1000,
     room: usize::MAX,
+    turns: None,
 };
 
 /// What came of a run of the program.

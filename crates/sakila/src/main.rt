@@ -1,20 +1,44 @@
 //! The shop system of a film rental chain.
 #![tactic(auto)]
 
+use std::env;
+use std::io::{self, ErrorKind};
 use std::process::ExitCode;
-use std::{env, io};
 
-fn main(rt: HostRuntime) -> io::Result<ExitCode> {
+/// The program's words, without its own name.
+fn words_of(rt: &HostRuntime) -> io::Result<Vec<String>> {
     let mut words = Vec::new(rt.alloc());
-    for word in env::args(&rt)?.skip(1) {
+    for word in env::args(rt)?.skip(1) {
         words.push(word)?;
     }
-    let status = sakila_office::run(
-        &rt,
-        &words,
+    Ok(words)
+}
+
+/// What the program does for these words.
+fn run(rt: &HostRuntime, words: &[String]) -> u8 {
+    sakila_office::run(
+        rt,
+        words,
         &mut rt.stdin(),
         &mut rt.stdout(),
         &mut rt.stderr(),
-    );
-    Ok(ExitCode::from(status))
+    )
+}
+
+/// Says why there are no words: one of them isn't UTF-8, which is answered with the usage, as no words are, or there is no memory for them.
+fn run_unread(rt: &HostRuntime, kind: ErrorKind) -> u8 {
+    if kind == ErrorKind::InvalidData {
+        let _ = eprintln!(rt; "error: a word isn't UTF-8");
+        return run(rt, &[]);
+    }
+    let _ = eprintln!(rt; "{{\"refused\":\"memory\"}}");
+    3
+}
+
+fn main(rt: HostRuntime) -> ExitCode {
+    let status = match words_of(&rt) {
+        Ok(words) => run(&rt, &words),
+        Err(e) => run_unread(&rt, e.kind()),
+    };
+    ExitCode::from(status)
 }
