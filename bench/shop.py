@@ -1,4 +1,5 @@
 """A chain in a file, made by head office's words and served by `sakila serve` on a port of 127.0.0.1: what the scripts beside this one share."""
+import datetime
 import os
 import socket
 import subprocess
@@ -7,6 +8,7 @@ import time
 PROGRAM = os.path.join(os.path.dirname(os.path.abspath(__file__)), "../crates/sakila/out/sakila")
 OFFICE, TOKEN = "0" * 32, "1" * 32
 AT = "2026-03-01T10:00:00"
+BEGIN = datetime.datetime.fromisoformat(AT)
 MARY = {"key": "k1", "staff": 1, "at": AT, "first": "MARY", "last": "SMITH", "address": "1 Main", "postal": "", "phone": "555", "city": 1}
 WORDS = [
     ["init", "--token", OFFICE],
@@ -24,6 +26,43 @@ def make(file):
     """Makes the chain, with one branch, one of its staff, one city and one film."""
     for it in WORDS:
         subprocess.run([PROGRAM, "--db", file, *it], check=True, stdout=subprocess.DEVNULL)
+
+
+class Counter:
+    """Writes the requests of branch 1, each command a second after the one before it."""
+
+    def __init__(self):
+        self.commands = 0
+
+    def post(self, path, members):
+        at = (BEGIN + datetime.timedelta(seconds=self.commands)).isoformat()
+        body = f'{{"key":"k{self.commands}","staff":1,"at":"{at}",{members}}}'
+        self.commands += 1
+        return f"POST {path} HTTP/1.1\r\ncounter-token: {TOKEN}\r\ncontent-length: {len(body)}\r\n\r\n{body}"
+
+    def lot(self, film, copies):
+        at = (BEGIN + datetime.timedelta(seconds=self.commands)).isoformat()
+        rows = "".join(f"{film},{min(99, copies - done)}\n" for done in range(0, copies, 99))
+        path = f"/import/k{self.commands}/1/{at}/l{self.commands}"
+        body = f"film_id,copies\n{rows}"
+        self.commands += 1
+        return f"POST {path} HTTP/1.1\r\ncounter-token: {TOKEN}\r\ncontent-length: {len(body)}\r\n\r\n{body}"
+
+    def customer(self):
+        return self.post("/customer", '"first":"MARY","last":"SMITH","address":"1 Main","postal":"","phone":"555","city":1')
+
+    def rent(self, customer, copy):
+        return self.post("/rent", f'"customer":{customer},"copy":{copy}')
+
+    def give_back(self, rental):
+        return self.post("/return", f'"rental":{rental}')
+
+    def pay(self, customer, rental):
+        return self.post("/pay", f'"customer":{customer},"rental":{rental},"amount":499')
+
+
+def get(path):
+    return f"GET {path} HTTP/1.1\r\ncounter-token: {TOKEN}\r\n\r\n"
 
 
 class Shop:

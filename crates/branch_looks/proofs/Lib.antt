@@ -4,6 +4,7 @@ pub mod Lookings
 pub mod FilmLemmas
 pub mod Shows
 pub mod TermLemmas
+pub mod Knowing
 pub mod RewardLemmas
 pub mod MonthLemmas
 pub mod Stocks

@@ -1,5 +1,5 @@
 -- Who is rewarded: one payment or customer more, the payments of the month alone, and the customers by number.
-use Rattle.std.proofs.Common.{◌≡◌, ◌≢◌, ◌∙◌, refl, sym, ap, inl, inr, arith, ℕ, ℤ, suc, ◌+◌, ◌<◌, ◌≤◌, List, [], ◌∷◌, ◌++◌, length, map, filter, take, get_or, subst, cond, Ordering, Equal, append_assoc, append-nil, Bool, true, false, Option, Some, None, option_map, codes, decimal}
+use Rattle.std.proofs.Common.{◌≡◌, ◌≢◌, ◌∙◌, refl, sym, ap, inl, inr, arith, ℕ, ℤ, suc, ◌+◌, ◌<◌, ◌≤◌, List, [], ◌∷◌, ◌++◌, length, map, filter, take, get_or, subst, cond, Ordering, Less, Equal, Greater, append_assoc, append-nil, Bool, true, false, Option, Some, None, option_map, codes, decimal}
 use Rattle.std.specs.Prelude.{◌==◌, ◌&&◌, ◌*◌, nat_lt, sum_by, if◌then◌else◌}
 use Rattle.std.proofs.lemmas.Bool.{cases_Bool}
 use Rattle.std.proofs.lemmas.Bool.Decides.{nat_tests}
@@ -25,7 +25,11 @@ use Rattle.balance_rule.specs.Rewards.{seen_days, is_on}
 use Rattle.balance_rule.proofs.SumLemmas.{passes_are}
 use Rattle.branch_looks.specs.declared.rewards.PaidSum.{PaidSum}
 use Rattle.branch_looks.specs.Finds.{AreSmall, AreSummed, is_paid_in, numbers_to, one_paid, paid_in, passes_for, rewarded_numbers, sum_or_none}
-use Rattle.branch_looks.proofs.TermLemmas.{is_equal}
+
+is_equal : (o : Ordering) → is_eq o ≡ true → o ≡ Equal
+is_equal Less is = cc
+is_equal Equal is = refl
+is_equal Greater is = cc
 
 -- ---- one row more of a list that is filtered row by row
 

@@ -5,12 +5,7 @@ use Rattle.std.proofs.lemmas.List.{map-append, take_more, length-append}
 use Rattle.std.proofs.lemmas.List.Elements.{filter-append}
 use Rattle.std.specs.Prelude.{◌-◌, ◌==◌, ◌&&◌, if◌then◌else◌, nat_lt, is_none, is_some}
 use Rattle.std.specs.List.{list_any}
-use Rattle.std.specs.Option.{option_to_list, IfSome}
-use Rattle.std.proofs.Common.{Ordering, Less, Equal, Greater}
-use Rattle.std.specs.Ordering.{is_eq, nat_cmp}
-use Rattle.std.specs.BTreeMap.{BTreeMap, Updates, get, is_at}
-use Rattle.std.specs.Map.{lookup}
-use Rattle.std.proofs.lemmas.Map.Lookups.{exact_unsigned}
+use Rattle.std.specs.Option.{option_to_list}
 use Rattle.shop_model.specs.Rows.{at, numbered, numbered_from, of}
 use Rattle.shop_model.specs.Calendar.{Moment, day_of}
 use Rattle.shop_model.specs.Values.{Text, Copy, Customer, Film, Rental}
@@ -25,9 +20,10 @@ use Rattle.shop_store.specs.declared.customers.CustomerRow.{CustomerRow}
 use Rattle.shop_store.specs.Seen.{seen_copy_row}
 use Rattle.shop_schema.proofs.Lists.{flat_map_push}
 use Rattle.sqlite_exec.proofs.SeenLemmas.{or_false}
-use Rattle.branch_looks.specs.Finds.{AreKnown, rentals_at}
-use Rattle.shop_store.specs.declared.films.FilmTerms.{FilmTerms}
-use Rattle.shop_store.specs.SharedSeen.{seen_terms, title_of}
+use Rattle.branch_looks.specs.Finds.{rentals_at}
+use Rattle.film_cache.specs.declared.cache.KnownFilm.{KnownFilm}
+use Rattle.film_cache.specs.Cached.{known_of, seen_known}
+use Rattle.shop_store.specs.SharedSeen.{title_of, withdrawn_of}
 use Rattle.reply_bodies.specs.declared.overdue_rows.OverdueRow.{OverdueRow}
 use Rattle.reply_bodies.specs.Overdue.{seen_overdue}
 use Rattle.balance_rule.specs.declared.rows.RentalTerms.{RentalTerms}
@@ -54,6 +50,30 @@ told_terms : (rental : Rental) (films : List Film) (o : Option (ℕ × ℕ)) →
 told_terms rental [] o is one = ap (λ (p : Option (ℕ × ℕ)). option_to_list (option_map (priced rental) p)) is
 told_terms rental (film ∷ []) o is one = ap (λ (p : Option (ℕ × ℕ)). option_to_list (option_map (priced rental) p)) is
 told_terms rental (film ∷ other ∷ films) o is one = cc
+
+-- the rate and the period of what is known of a film
+abbrev pub pair_told : Option KnownFilm → Option (ℕ × ℕ)
+pair_told o = option_map (λ (it : KnownFilm). let p : ℕ × ℕ = (it.rate, it.period) in p) o
+
+pair_of : ℕ × ℕ × Bool → ℕ × ℕ
+pair_of it = (it.0, it.1)
+
+pub terms_told : (o : Option KnownFilm) (films : List Film) → option_map seen_known o ≡ head (map known_of films) → pair_told o ≡ head (map price films)
+unfolding pair_of
+terms_told None [] is = refl
+terms_told None (film ∷ films) is = cc
+terms_told (Some it) [] is = cc
+terms_told (Some it) (film ∷ films) is = ap (option_map pair_of) is
+
+third_of : ℕ × ℕ × Bool → Bool
+third_of it = it.2
+
+pub withdrawn_told : (o : Option KnownFilm) (films : List Film) → option_map seen_known o ≡ head (map known_of films) → option_map (λ (it : KnownFilm). it.withdrawn) o ≡ head (map withdrawn_of films)
+unfolding third_of
+withdrawn_told None [] is = refl
+withdrawn_told None (film ∷ films) is = cc
+withdrawn_told (Some it) [] is = cc
+withdrawn_told (Some it) (film ∷ films) is = ap (option_map third_of) is
 
 -- the films of the copies
 abbrev films_at : List Film → List Copy → List Film
@@ -206,27 +226,3 @@ listed_row catalogue shop rental film title row found listed told there is same 
     let film_title : title ≡ flat_map (λ (it : Film). it.title) (film_of catalogue shop rental) =
     title_is title (at film catalogue.films) told (picks_one film catalogue.films) ∙ ap (flat_map (λ (it : Film). it.title)) (sym same) in
     ap seen_overdue made ∙ (λ i. record { customer = name_is i; phone = phone_is i; title = film_title i })
-
--- ---- films whose terms are known
-
-pub is_equal : (o : Ordering) → is_eq o ≡ true → o ≡ Equal
-is_equal Less is = cc
-is_equal Equal is = refl
-is_equal Greater is = cc
-
--- what is read of a film is known beside the others
-pub known_more : (catalogue : Catalogue) (old new : BTreeMap ℕ FilmTerms) (film number : ℕ) (terms : FilmTerms) → AreKnown old catalogue → number ≡ film
-    → Some (seen_terms terms) ≡ head (map price (at film catalogue.films)) → Updates nat_cmp old new number (Some terms) → AreKnown new catalogue
-known_more catalogue old new film number terms known same told updates = λ other.
-    let holds : Option FilmTerms → Type 0 = λ found. IfSome found (λ it. Some (seen_terms it) ≡ head (map price (at other catalogue.films))) in
-    elim (cases_Bool (is_at (nat_cmp number) other)) [
-      | inl at_it ↦
-          let one : film ≡ other = sym same ∙ exact_unsigned number other (is_equal (nat_cmp number other) at_it) in
-          let there : get nat_cmp new other ≡ Some terms = updates.0 other ∙ ap (λ (b : Bool). cond b (Some terms) (get nat_cmp old other)) at_it in
-          subst holds (sym there) (told ∙ ap (λ (n : ℕ). head (map price (at n catalogue.films))) one)
-      | inr isnt ↦ subst holds (sym (updates.2 other isnt)) (known other)
-    ]
-
-pub none_known : (catalogue : Catalogue) (known : BTreeMap ℕ FilmTerms) → known.entries ≡ [] → AreKnown known catalogue
-none_known catalogue known none = λ film.
-    subst (λ (entries : List (ℕ × FilmTerms)). IfSome (lookup (is_at (nat_cmp film)) entries) (λ it. Some (seen_terms it) ≡ head (map price (at film catalogue.films)))) (sym none) tt

@@ -5,15 +5,15 @@ use Rattle.std.specs.Ordering.{nat_cmp}
 use Rattle.std.specs.BTreeMap.{BTreeMap, get}
 use Rattle.shop_model.specs.Rows.{at}
 use Rattle.shop_model.specs.Values.{Rental, Payment, Ask, FilmInStock, FilmNotInStock}
-use Rattle.shop_model.specs.Shop.{Catalogue, Shop}
+use Rattle.shop_model.specs.Shop.{Shop}
 use Rattle.shop_model.specs.Stock.{is_here, in_stock, film_in_stock, film_not_in_stock}
-use Rattle.shop_model.specs.Books.{head, unmarked}
+use Rattle.shop_model.specs.Books.{Books, unmarked}
+use Rattle.film_cache.specs.declared.cache.CachedFilm.{CachedFilm}
+use Rattle.film_cache.specs.Cached.{AreRows}
 use Rattle.shop_types.specs.Seen.{seen_payment}
 use Rattle.shop_store.specs.declared.copies.CopyRow.{CopyRow}
 use Rattle.shop_store.specs.declared.payments.PaymentRow.{PaymentRow}
 use Rattle.shop_store.specs.Seen.{seen_copy_row}
-use Rattle.shop_store.specs.declared.films.FilmTerms.{FilmTerms}
-use Rattle.shop_store.specs.SharedSeen.{seen_terms, terms_of}
 use Rattle.balance_rule.specs.declared.rows.Paid.{Paid}
 use Rattle.balance_rule.specs.Balance.{amount_of, paid_of}
 use Rattle.balance_rule.specs.Rewards.{is_on, passes}
@@ -39,11 +39,11 @@ abbrev pub stock_listed : Bool → ℕ → Shop → List ℕ
 stock_listed true film shop = film_in_stock film shop
 stock_listed false film shop = film_not_in_stock film shop
 
--- ---- balances
+-- ---- films
 
--- what is known of films is what the catalogue has of them
-abbrev pub AreKnown : BTreeMap ℕ FilmTerms → Catalogue → Type 0
-AreKnown known catalogue = (film : ℕ) → IfSome (get nat_cmp known film) (λ terms. Some (seen_terms terms) ≡ head (map terms_of (at film catalogue.films)))
+-- where the films that were known are rows of the books, this is so, and those that are known then are rows too
+abbrev pub Knows : {X : Type 0} → List (ℕ × CachedFilm) → List (ℕ × CachedFilm) → (X → Books → Type 0) → X → Books → Type 0
+Knows before after Says found books = AreRows before books.catalogue.films → Says found books × AreRows after books.catalogue.films
 
 -- ---- overdue rentals
 

@@ -1,58 +1,56 @@
 //! What a customer owes, by the customer's rentals and payments.
 
-ghost use Rattle.std.specs.Prelude.{◌≡◌, ◌++◌, map, flat_map, option_map, OnOk};
+ghost use Rattle.std.specs.Prelude.{◌≡◌, ◌++◌, map, flat_map, OnOk};
 ghost use Rattle.std.specs.Option.{option_to_list};
 ghost use Rattle.sqlite.specs.Held.{state};
 ghost use Rattle.sql_rows.specs.Calls.{StaysWithin};
 ghost use Rattle.shop_model.specs.Books.{shop_of};
 ghost use Rattle.shop_types.specs.Seen.{seen_payment, seen_rental};
 ghost use Rattle.shop_schema.specs.Calls.{Finds};
-ghost use Rattle.shop_model.specs.Rows.{at};
-ghost use Rattle.shop_model.specs.Books.{head};
-ghost use Rattle.shop_store.specs.SharedSeen.{seen_terms, terms_of as price};
 ghost use Rattle.balance_rule.specs.Balance.{AreTermsOf, ArePaidBy, paid_of, terms_of};
-ghost use Rattle.branch_looks.specs.Finds.{AreKnown};
+ghost use Rattle.branch_looks.specs.Finds.{Knows};
 
+use crate::known::find_film;
 use balance_rule::{Paid, RentalTerms};
-use shop_store::{
-    FilmTerms, RentalRow, copy_at, film_terms, payments_of_customer, rentals_of_customer,
-};
-use shop_types::{BranchNo, CustomerNo, FilmNo, Payment, Rental};
+use film_cache::FilmCache;
+use shop_store::{RentalRow, copy_at, payments_of_customer, rentals_of_customer};
+use shop_types::{BranchNo, CustomerNo, Payment, Rental};
 use sql_rows::StoreFault;
 use sqlite::{Alter, Transaction};
 use std::alloc::Global;
-use std::collections::BTreeMap;
 
 /// The customer's rentals, in order of number, each with its film's rate and period as they are now.
 pub fn find_terms<S: Alter>(
     alloc: Global,
     tx: &mut Transaction<'_, S>,
+    films: &mut FilmCache,
     branch: BranchNo,
     customer: CustomerNo,
 ) -> Result<Vec<RentalTerms>, StoreFault>
     ensures inside { StaysWithin S.Store tx.old.conn tx.new.conn result }
     ensures found { Finds (state S.Store tx.old.conn.now) (state S.Store tx.new.conn.now) result
-        (λ terms books. AreTermsOf books.catalogue (shop_of branch books) customer terms.items) }
+        (Knows films.old films.new (λ terms books. AreTermsOf books.catalogue (shop_of branch books) customer terms.items)) }
 {
     let rows = rentals_of_customer(alloc, tx, branch, customer)?;
-    with_terms(alloc, tx, branch, rows.as_slice())
+    with_terms(alloc, tx, films, branch, rows.as_slice())
 }
 
-/// The terms of those rentals, each film's read once. A rental whose film isn't there has none.
+/// The terms of those rentals. A rental whose film isn't there has none.
 fn with_terms<S: Alter>(
     alloc: Global,
     tx: &mut Transaction<'_, S>,
+    films: &mut FilmCache,
     branch: BranchNo,
     rows: &[RentalRow],
 ) -> Result<Vec<RentalTerms>, StoreFault>
     ensures inside { StaysWithin S.Store tx.old.conn tx.new.conn result }
     ensures found { Finds (state S.Store tx.old.conn.now) (state S.Store tx.new.conn.now) result
-        (λ terms books. terms.items ≡ flat_map (terms_of books.catalogue (shop_of branch books)) (map (λ row. seen_rental row.rental) rows.now)) }
+        (Knows films.old films.new
+        (λ terms books. terms.items ≡ flat_map (terms_of books.catalogue (shop_of branch books)) (map (λ row. seen_rental row.rental) rows.now))) }
 {
-    let mut known = BTreeMap::new(alloc);
     let mut terms = Vec::new(alloc);
     for row in rows {
-        let found = terms_at(tx, &mut known, branch, row.rental)?;
+        let found = terms_at(tx, films, branch, row.rental)?;
         push_found(&mut terms, found)?;
     }
     Ok(terms)
@@ -68,48 +66,21 @@ pub fn push_found<T: Drop>(list: &mut Vec<T>, found: Option<T>) -> Result<(), St
     Ok(())
 }
 
-/// By what a rental of the film is charged: the store is asked where it isn't known yet.
-fn terms_once<S: Alter>(
-    tx: &mut Transaction<'_, S>,
-    known: &mut BTreeMap<u32, FilmTerms>,
-    film: FilmNo,
-) -> Result<Option<FilmTerms>, StoreFault>
-    ensures inside { StaysWithin S.Store tx.old.conn tx.new.conn result }
-    ensures found { Finds (state S.Store tx.old.conn.now) (state S.Store tx.new.conn.now) result
-        (λ terms books. AreKnown known.old books.catalogue → (option_map seen_terms terms ≡ head (map price (at film books.catalogue.films)))
-        × AreKnown known.new books.catalogue) }
-{
-    let number = film.get();
-    if let Some(terms) = known.get(&number).copied() {
-        return Ok(Some(terms));
-    }
-    let Some(terms) = film_terms(tx, film)? else {
-        return Ok(None);
-    };
-    let kept = FilmTerms {
-        rate: terms.rate,
-        period: terms.period,
-    };
-    known.insert(number, kept)?;
-    Ok(Some(terms))
-}
-
 /// The terms of one rental, where its copy and film are there.
 fn terms_at<S: Alter>(
     tx: &mut Transaction<'_, S>,
-    known: &mut BTreeMap<u32, FilmTerms>,
+    films: &mut FilmCache,
     branch: BranchNo,
     rental: Rental,
 ) -> Result<Option<RentalTerms>, StoreFault>
     ensures inside { StaysWithin S.Store tx.old.conn tx.new.conn result }
     ensures found { Finds (state S.Store tx.old.conn.now) (state S.Store tx.new.conn.now) result
-        (λ terms books. AreKnown known.old books.catalogue
-        → (option_to_list terms ≡ terms_of books.catalogue (shop_of branch books) (seen_rental rental)) × AreKnown known.new books.catalogue) }
+        (Knows films.old films.new (λ terms books. option_to_list terms ≡ terms_of books.catalogue (shop_of branch books) (seen_rental rental))) }
 {
     let Some(copy) = copy_at(tx, branch, rental.copy)? else {
         return Ok(None);
     };
-    match terms_once(tx, known, copy.film)? {
+    match find_film(tx, films, copy.film)? {
         Some(film) => Ok(Some(RentalTerms {
             rented: rental.rented,
             returned: rental.returned,

@@ -12,13 +12,16 @@ ghost use Rattle.shop_schema.specs.Calls.{Finds};
 ghost use Rattle.stock_csv.specs.Stock.{stock_of};
 ghost use Rattle.branch_core.specs.Agreed.{Agrees, RowAgrees, seen_stock};
 ghost use Rattle.branch_core.specs.Marked.{AreMarked};
+ghost use Rattle.branch_looks.specs.Finds.{Knows};
 ghost use Rattle.branch_looks.specs.Commands.{as_listed, found_row, told_row, AgreesAt, IsKeptFor};
 
 use crate::consignments::{find_for_dispatch, find_for_receipt};
 use crate::finds::{find_active, find_copy, find_rental};
+use crate::known::find_withdrawn;
 use branch_core::{Found, RowsFound, StockFound, StockRows};
+use film_cache::FilmCache;
 use shop_ledger::{Count, CountKind, count_of};
-use shop_store::{film_withdrawn, has_city, has_lot, has_rental, staff_at};
+use shop_store::{has_city, has_lot, has_rental, staff_at};
 use shop_types::{
     Act, BadCsv, BranchNo, Command, CopyNo, CustomerNo, KeptFound, LotName, Moment, RentalNo,
     StockFile,
@@ -32,6 +35,7 @@ use stock_csv::{StockFault, StockRow, read_stock};
 pub fn find_for_command<'a, S: Alter>(
     alloc: Global,
     tx: &mut Transaction<'_, S>,
+    films: &mut FilmCache,
     branch: BranchNo,
     command: &Command,
     last: Option<Moment>,
@@ -39,15 +43,14 @@ pub fn find_for_command<'a, S: Alter>(
 ) -> Result<Found<'a>, StoreFault>
     ensures inside { StaysWithin S.Store tx.old.conn tx.new.conn result }
     ensures found { Finds (state S.Store tx.old.conn.now) (state S.Store tx.new.conn.now) result
-        (λ found books. (rules : model.Rules)
+        (Knows films.old films.new (λ found books. ((rules : model.Rules)
         → rules.stock_of ≡ stock_of → IsKeptFor branch (seen_command command.now) kept.entry books → last ≡ head (owned_by branch books.lasts)
-        → Agrees rules books.catalogue (shop_of branch books) (seen_command command.now) found) }
-    ensures marked { Finds (state S.Store tx.old.conn.now) (state S.Store tx.new.conn.now) result
-        (λ found books. AreMarked branch (seen_command command.now).act found.rows books) }
+        → Agrees rules books.catalogue (shop_of branch books) (seen_command command.now) found)
+        × AreMarked branch (seen_command command.now).act found.rows books)) }
 {
     let keys = count_of(tx, Count::Of(branch, CountKind::Kept))?;
     let staff = staff_at(tx, command.staff)?;
-    let rows = find_rows(alloc, tx, branch, command)?;
+    let rows = find_rows(alloc, tx, films, branch, command)?;
     Ok(Found {
         kept,
         keys,
@@ -61,12 +64,13 @@ pub fn find_for_command<'a, S: Alter>(
 fn find_rows<S: Alter>(
     alloc: Global,
     tx: &mut Transaction<'_, S>,
+    films: &mut FilmCache,
     branch: BranchNo,
     command: &Command,
 ) -> Result<RowsFound, StoreFault>
     ensures inside { StaysWithin S.Store tx.old.conn tx.new.conn result }
     ensures found { Finds (state S.Store tx.old.conn.now) (state S.Store tx.new.conn.now) result
-        (AgreesAt branch command.now.at (seen_act command.now.act)) }
+        (Knows films.old films.new (AgreesAt branch command.now.at (seen_act command.now.act))) }
 {
     match &command.act {
         Act::Customer(person) => Ok(RowsFound {
@@ -78,7 +82,7 @@ fn find_rows<S: Alter>(
             ..RowsFound::none(alloc)
         }),
         Act::Rent { customer, copy } => {
-            find_for_rental(alloc, tx, branch, command.at, *customer, *copy)
+            find_for_rental(alloc, tx, films, branch, command.at, *customer, *copy)
         }
         Act::TakeBack(rental) => Ok(RowsFound {
             rental: find_rental(tx, branch, *rental)?,
@@ -89,11 +93,11 @@ fn find_rows<S: Alter>(
             rental,
             ..
         } => find_for_payment(alloc, tx, branch, *customer, *rental),
-        Act::Import { lot, file } => find_for_import(alloc, tx, branch, lot, file),
+        Act::Import { lot, file } => find_for_import(alloc, tx, films, branch, lot, file),
         Act::Dispatch { to, copies } => find_for_dispatch(alloc, tx, branch, *to, copies),
         Act::Receive { from, number, .. } => find_for_receipt(alloc, tx, branch, *from, *number),
         Act::Scrap(copy) => Ok(RowsFound {
-            copy: find_copy(tx, branch, *copy)?,
+            copy: find_copy(tx, films, branch, *copy)?,
             ..RowsFound::none(alloc)
         }),
     }
@@ -103,16 +107,18 @@ fn find_rows<S: Alter>(
 fn find_for_rental<S: Alter>(
     alloc: Global,
     tx: &mut Transaction<'_, S>,
+    films: &mut FilmCache,
     branch: BranchNo,
     at: Moment,
     customer: CustomerNo,
     copy: CopyNo,
 ) -> Result<RowsFound, StoreFault>
     ensures inside { StaysWithin S.Store tx.old.conn tx.new.conn result }
-    ensures found { Finds (state S.Store tx.old.conn.now) (state S.Store tx.new.conn.now) result (AgreesAt branch at (model.Rent customer copy)) }
+    ensures found { Finds (state S.Store tx.old.conn.now) (state S.Store tx.new.conn.now) result
+        (Knows films.old films.new (AgreesAt branch at (model.Rent customer copy))) }
 {
     let is_active = find_active(tx, branch, customer)?;
-    let found = find_copy(tx, branch, copy)?;
+    let found = find_copy(tx, films, branch, copy)?;
     let has_same = has_rental(tx, branch, at, copy, customer)?;
     Ok(RowsFound {
         customer: is_active,
@@ -153,17 +159,19 @@ fn find_for_payment<S: Alter>(
 fn find_for_import<S: Alter>(
     alloc: Global,
     tx: &mut Transaction<'_, S>,
+    films: &mut FilmCache,
     branch: BranchNo,
     lot: &LotName,
     file: &StockFile,
 ) -> Result<RowsFound, StoreFault>
     ensures inside { StaysWithin S.Store tx.old.conn tx.new.conn result }
     ensures found { (at : _)
-        → Finds (state S.Store tx.old.conn.now) (state S.Store tx.new.conn.now) result (AgreesAt branch at (model.Import lot.now file.now)) }
+        → Finds (state S.Store tx.old.conn.now) (state S.Store tx.new.conn.now) result
+        (Knows films.old films.new (AgreesAt branch at (model.Import lot.now file.now))) }
 {
     let copies = count_of(tx, Count::Of(branch, CountKind::Copies))?;
     let has_lot = has_lot(tx, branch, lot)?;
-    let stock = find_stock(alloc, tx, file)?;
+    let stock = find_stock(alloc, tx, films, file)?;
     Ok(RowsFound {
         copies,
         has_lot,
@@ -176,15 +184,16 @@ fn find_for_import<S: Alter>(
 fn find_stock<S: Alter>(
     alloc: Global,
     tx: &mut Transaction<'_, S>,
+    films: &mut FilmCache,
     file: &StockFile,
 ) -> Result<Result<StockRows, BadCsv>, StoreFault>
     ensures inside { StaysWithin S.Store tx.old.conn tx.new.conn result }
     ensures found { Finds (state S.Store tx.old.conn.now) (state S.Store tx.new.conn.now) result
-        (λ stock books. IfOk stock (All (RowAgrees books.catalogue))) }
+        (Knows films.old films.new (λ stock books. IfOk stock (All (RowAgrees books.catalogue)))) }
     ensures value { IfOk result (λ stock. seen_stock stock ≡ stock_of file.now) }
 {
     match read_stock(alloc, file.as_slice()) {
-        Ok(rows) => match StockRows::new(find_films(alloc, tx, rows.as_slice())?) {
+        Ok(rows) => match StockRows::new(find_films(alloc, tx, films, rows.as_slice())?) {
             Some(found) => Ok(Ok(found)),
             None => Err(StoreFault::Failed),
         },
@@ -197,16 +206,17 @@ fn find_stock<S: Alter>(
 fn find_films<S: Alter>(
     alloc: Global,
     tx: &mut Transaction<'_, S>,
+    films: &mut FilmCache,
     rows: &[StockRow],
 ) -> Result<Vec<StockFound>, StoreFault>
     ensures inside { StaysWithin S.Store tx.old.conn tx.new.conn result }
     ensures found { Finds (state S.Store tx.old.conn.now) (state S.Store tx.new.conn.now) result
-        (λ found books. found.items ≡ map (found_row books.catalogue) rows.now) }
+        (Knows films.old films.new (λ found books. found.items ≡ map (found_row books.catalogue) rows.now)) }
     ensures same { IfOk result (λ found. map as_listed found.items ≡ rows.now) }
 {
     let mut found = Vec::new(alloc);
     for row in rows {
-        let withdrawn = film_withdrawn(tx, row.film)?;
+        let withdrawn = find_withdrawn(tx, films, row.film)?;
         found.push(told_row(*row, withdrawn))?;
     }
     Ok(found)

@@ -8,14 +8,14 @@ ghost use Rattle.shop_model.specs.Stock.{is_here, held_by};
 ghost use Rattle.shop_model.specs.Books.{head, shop_of};
 ghost use Rattle.shop_schema.specs.Calls.{Finds};
 ghost use Rattle.shop_store.specs.Seen.{seen_state};
-ghost use Rattle.branch_looks.specs.Finds.{is_yes, copy_shown};
+ghost use Rattle.branch_looks.specs.Finds.{Knows, is_yes, copy_shown};
 ghost use Rattle.branch_core.specs.Agreed.{active_at, copy_at, rental_at, seen_copy, seen_rental, seen_film_copy, AreOfFilm};
 
+use crate::known::find_withdrawn;
 use branch_core::{CopyFound, FilmCopy, RentalFound};
+use film_cache::FilmCache;
 use shop_ledger::out_at;
-use shop_store::{
-    CopyRow, CopyState, copies_of_film, copy_at, customer_at, film_withdrawn, rental_at,
-};
+use shop_store::{CopyRow, CopyState, copies_of_film, copy_at, customer_at, rental_at};
 use shop_types::{BranchNo, CopyNo, CustomerNo, FilmNo, Rental, RentalNo};
 use sql_rows::StoreFault;
 use sqlite::{Alter, Transaction};
@@ -72,17 +72,18 @@ pub fn find_here<S: Alter>(
 /// Whether the copy is in the shop, its film withdrawn and a customer has it, where the branch has one of the number.
 pub fn find_copy<S: Alter>(
     tx: &mut Transaction<'_, S>,
+    films: &mut FilmCache,
     branch: BranchNo,
     copy: CopyNo,
 ) -> Result<Option<CopyFound>, StoreFault>
     ensures inside { StaysWithin S.Store tx.old.conn tx.new.conn result }
     ensures found { Finds (state S.Store tx.old.conn.now) (state S.Store tx.new.conn.now) result
-        (λ found books. option_map seen_copy found ≡ copy_at books.catalogue (shop_of branch books) copy) }
+        (Knows films.old films.new (λ found books. option_map seen_copy found ≡ copy_at books.catalogue (shop_of branch books) copy)) }
 {
     let Some(row) = copy_at(tx, branch, copy)? else {
         return Ok(None);
     };
-    let withdrawn = film_withdrawn(tx, row.film)?;
+    let withdrawn = find_withdrawn(tx, films, row.film)?;
     let out = out_at(tx, branch, copy)?;
     Ok(Some(CopyFound {
         is_here: is_here(row.state),

@@ -7,6 +7,7 @@ mod balances;
 mod commands;
 mod consignments;
 mod finds;
+mod known;
 mod looks;
 mod overdue;
 mod reports;

@@ -9,6 +9,7 @@ ghost use Rattle.shop_model.specs.Stock.{balance};
 ghost use Rattle.shop_types.specs.Replies.{seen_reply};
 ghost use Rattle.shop_schema.specs.Calls.{Finds};
 ghost use Rattle.balance_rule.specs.Balance.{AreTermsOf, ArePaidBy};
+ghost use Rattle.branch_looks.specs.Finds.{Knows};
 ghost use Rattle.branch_looks.specs.Looks.{looked};
 
 use crate::balances::{find_paid, find_terms};
@@ -16,6 +17,7 @@ use crate::finds::find_active;
 use crate::overdue::find_overdue;
 use crate::rewards::find_rewarded;
 use balance_rule::{Paid, RentalTerms, balance};
+use film_cache::FilmCache;
 use reply_bodies::{balance_text, overdue_text, rewards_text};
 use shop_types::{BranchNo, Cents, CustomerNo, Moment, Refusal, Reply};
 use sql_rows::StoreFault;
@@ -26,18 +28,19 @@ use std::alloc::Global;
 pub fn look_balance<S: Alter>(
     alloc: Global,
     tx: &mut Transaction<'_, S>,
+    films: &mut FilmCache,
     branch: BranchNo,
     customer: CustomerNo,
     at: Moment,
 ) -> Result<Reply, StoreFault>
     ensures inside { StaysWithin S.Store tx.old.conn tx.new.conn result }
     ensures shown { Finds (state S.Store tx.old.conn.now) (state S.Store tx.new.conn.now) result
-        (λ reply books. seen_reply reply ≡ looked branch (Balance customer at) books) }
+        (Knows films.old films.new (λ reply books. seen_reply reply ≡ looked branch (Balance customer at) books)) }
 {
     let Some(_) = find_active(tx, branch, customer)? else {
         return Ok(Reply::refused(Refusal::NoCustomer));
     };
-    let rentals = find_terms(alloc, tx, branch, customer)?;
+    let rentals = find_terms(alloc, tx, films, branch, customer)?;
     let payments = find_paid(alloc, tx, branch, customer)?;
     let cents = owed(rentals.as_slice(), payments.as_slice(), at)?;
     Ok(Reply::accepted(balance_text(alloc, cents)?))

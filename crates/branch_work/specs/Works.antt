@@ -1,5 +1,5 @@
 -- What a request does inside one transaction, whoever asks it.
-use Rattle.std.specs.Prelude.{◌≡◌, ℕ, Bool, false, Option}
+use Rattle.std.specs.Prelude.{◌≡◌, ℕ, Bool, false, List, Option}
 use Rattle.sqlite.specs.State.{State}
 use Rattle.shop_values.specs.LimitValues.{Limits}
 use Rattle.shop_model.specs.Calendar.{Moment}
@@ -12,6 +12,8 @@ use Rattle.shop_model.specs.Books.{Books, Caller, Counter, head, shop_of, book_d
 use Rattle.shop_model.specs.Office.{office_look}
 use Rattle.shop_types.specs.Seen.{seen_view}
 use Rattle.shop_types.specs.Replies.{seen_reply}
+use Rattle.film_cache.specs.declared.cache.CachedFilm.{CachedFilm}
+use Rattle.film_cache.specs.Cached.{AreRows}
 use Rattle.shop_schema.specs.Held.{IsHeld}
 use Rattle.shop_schema.specs.Shop.{Holds}
 use Rattle.branch_core.specs.Agreed.{Agrees, ActAgrees}
@@ -30,6 +32,10 @@ told_to limits caller request books = answer_of (reply_for (rules_of limits) off
 
 abbrev pub left_by : Limits → Caller → Request → Books → Books
 left_by limits caller request books = after_for (rules_of limits) (known_caller books.catalogue caller) request books
+
+-- books that the tables can hold, of whose films these are known
+abbrev pub IsHeldWith : List (ℕ × CachedFilm) → Books → Type 0
+IsHeldWith films books = IsHeld books × AreRows films books.catalogue.films
 
 -- the request is answered, the tables come to stand for the books after it, and it is told whether there is anything to commit
 pub record IsDone (limits : Limits) (caller : Caller) (request : Request) (answer : Answer) (is_changed : Bool) (new : State) (books : Books) : Type 0 where
@@ -57,13 +63,16 @@ IsWorked limits b request (Answered reply is_changed) new books = IsDone limits 
 IsWorked limits b request (Shows it) new books =
     (told_to limits (Counter b) request books ≡ answer_of (Shown (listed b it books))) × (left_by limits (Counter b) request books ≡ books)
 
-abbrev pub Works : Limits → ℕ → Request → Worked → State → State → Type 0
-Works limits b request worked old new = (books : Books) → Holds old books → IsHeld books → IsWorked limits b request worked new books
+-- and the films that are known then are rows of the same books
+abbrev pub Works : Limits → ℕ → Request → Worked → List (ℕ × CachedFilm) → List (ℕ × CachedFilm) → State → State → Type 0
+Works limits b request worked before after old new =
+    (books : Books) → Holds old books → IsHeldWith before books → IsWorked limits b request worked new books × AreRows after books.catalogue.films
 
 -- the same of a branch that is there and has that last moment
-abbrev pub WorksFor : Limits → ℕ → Option Moment → Request → Answer → Bool → State → State → Type 0
-WorksFor limits b last request answer is_changed old new =
-    (books : Books) → Holds old books → IsHeld books → lacks books.catalogue.branches b ≡ false → last ≡ head (owned_by b books.lasts) → IsDone limits (Counter b) request answer is_changed new books
+abbrev pub WorksFor : Limits → ℕ → Option Moment → Request → Answer → Bool → List (ℕ × CachedFilm) → List (ℕ × CachedFilm) → State → State → Type 0
+WorksFor limits b last request answer is_changed before after old new =
+    (books : Books) → Holds old books → IsHeldWith before books → lacks books.catalogue.branches b ≡ false → last ≡ head (owned_by b books.lasts)
+    → IsDone limits (Counter b) request answer is_changed new books × AreRows after books.catalogue.films
 
 -- the same of a branch that is there, where this was found for the decision
 abbrev pub WorksBy : Limits → ℕ → Command → Found → Answer → Bool → State → State → Type 0

@@ -15,6 +15,7 @@ use crate::adding::{carry_out, keep};
 use crate::answering::{again, refuse};
 use branch_core::{Found, RowsFound, decide};
 use branch_looks::{Reading, find_for_command, look, reading_of};
+use film_cache::FilmCache;
 use shop_ledger::{Owner, kept_at, kept_found, last_at};
 use shop_schema::{command_form, command_values};
 use shop_types::{BranchNo, Change, Command, Limits, Moment, Refusal, Reply, Request, View};
@@ -46,13 +47,15 @@ pub enum Worked {
 pub fn work<S: Alter>(
     alloc: Global,
     tx: &mut Transaction<'_, S>,
+    films: &mut FilmCache,
     limits: Limits,
     branch: BranchNo,
     request: &Request,
 ) -> Result<Worked, StoreFault>
     ensures inside { StaysInside S.Store tx.old.conn tx.new.conn result }
     ensures works { HasCleanDisk (state S.Store tx.new.conn.now)
-        → IfOk result (λ worked. Works limits branch (seen_request request.now) worked (state S.Store tx.old.conn.now) (state S.Store tx.new.conn.now)) }
+        → IfOk result (λ worked. Works limits branch (seen_request request.now) worked films.old films.new (state S.Store tx.old.conn.now)
+        (state S.Store tx.new.conn.now)) }
 {
     let Some(last) = last_at(tx, branch)? else {
         return Ok(Worked::Answered {
@@ -62,12 +65,12 @@ pub fn work<S: Alter>(
     };
     match request {
         Request::Do(command) => {
-            let (reply, is_changed) = act(alloc, tx, limits, branch, last, command)?;
+            let (reply, is_changed) = act(alloc, tx, films, limits, branch, last, command)?;
             Ok(Worked::Answered { reply, is_changed })
         }
         Request::Look(ask) => match reading_of(*ask) {
             Reading::Look(it) => Ok(Worked::Answered {
-                reply: look(alloc, tx, branch, it)?,
+                reply: look(alloc, tx, films, branch, it)?,
                 is_changed: false,
             }),
             Reading::Arrivals => Ok(Worked::Shows(Listing::Arrivals)),
@@ -85,6 +88,7 @@ pub fn work<S: Alter>(
 fn act<S: Alter>(
     alloc: Global,
     tx: &mut Transaction<'_, S>,
+    films: &mut FilmCache,
     limits: Limits,
     branch: BranchNo,
     last: Option<Moment>,
@@ -92,14 +96,15 @@ fn act<S: Alter>(
 ) -> Result<(Reply, bool), StoreFault>
     ensures inside { StaysWithin S.Store tx.old.conn tx.new.conn result }
     ensures works { HasCleanDisk (state S.Store tx.new.conn.now)
-        → IfOk result (λ done. WorksFor limits branch last (Do (seen_command command.now)) (seen_reply done.0) done.1 (state S.Store tx.old.conn.now)
-        (state S.Store tx.new.conn.now)) }
+        → IfOk result (λ done. WorksFor limits branch last (Do (seen_command command.now)) (seen_reply done.0) done.1 films.old films.new
+        (state S.Store tx.old.conn.now) (state S.Store tx.new.conn.now)) }
 {
     let form = form_of(alloc, command)?;
     let kept = kept_at(tx, Owner::Branch(branch), &command.key)?;
     let found = find_for_command(
         alloc,
         tx,
+        films,
         branch,
         command,
         last,

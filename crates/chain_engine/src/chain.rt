@@ -1,6 +1,6 @@
 //! The chain of shops over a store.
 
-ghost use Rattle.std.specs.Prelude.{◌≡◌, ◌≢◌, ◌≤◌, ◌||◌, true, false, Err, IfOk, IfErr, OnErr, map};
+ghost use Rattle.std.specs.Prelude.{◌≡◌, ◌≢◌, ◌≤◌, ◌||◌, true, false, Err, IfOk, IfErr, OnErr, length, map};
 ghost use Rattle.sqlite.specs.Held.{state};
 ghost use Rattle.sqlite.specs.State.{HasCleanDisk};
 ghost use Rattle.sqlite.specs.Steps.{over_memory};
@@ -24,17 +24,19 @@ use chain_steps::{audit_unless_failed, caller_unless_failed, step};
 use chain_store::{
     Asked, FirstRows, OpenFault, asked_values, first_values, in_memory, read_office,
 };
+use film_cache::FilmCache;
 use shop_types::{Audit, Caller, Limits, NoMemory, OfficeAsk, Refusal, Reply, Request, Token};
 use sql_rows::StoreFault;
 use sqlite::{Alter, Connection, MemStore};
 use std::alloc::Global;
 use std::marker::Model;
 
-/// A chain of shops: its limits, and the books of all branches in the tables of a store.
+/// A chain of shops: its limits, the books of all branches in the tables of a store, and what is known of films, for all branches.
 #[derive(Drop)]
 pub struct Chain<S: Alter> {
     pub(crate) limits: Limits,
     pub(crate) is_failed: bool,
+    pub(crate) films: FilmCache,
     pub(crate) conn: Connection<S>,
     pub(crate) alloc: Global,
 }
@@ -47,7 +49,7 @@ impl<S: Alter> Model for Chain<S> {
 
     ghost coded = { chained_code S.code };
 
-    ghost view = { λ c. record { limits = c.limits; is_failed = c.is_failed; conn = c.conn } };
+    ghost view = { λ c. record { limits = c.limits; is_failed = c.is_failed; films = c.films; conn = c.conn } };
 
     ghost invariant = { λ c. c.conn.in_transaction ≡ false };
 }
@@ -69,6 +71,7 @@ impl Chain<MemStore> {
             Ok(conn) => Ok(Chain {
                 limits,
                 is_failed: false,
+                films: FilmCache::new(alloc),
                 conn,
                 alloc,
             }),
@@ -88,6 +91,7 @@ impl Chain<MemStore> {
             Ok(conn) => Ok(Chain {
                 limits,
                 is_failed: false,
+                films: FilmCache::new(alloc),
                 conn,
                 alloc,
             }),
@@ -102,6 +106,14 @@ impl<S: Alter> Chain<S> {
         ensures { result ≡ self.now.is_failed }
     {
         self.is_failed
+    }
+
+    /// Of how many films the chain knows what they are, so that they needn't be read again. It takes no memory.
+    pub fn cached_films(&self) -> usize
+        ensures value { result ≡ length self.now.films }
+        ensures most { result ≤ 256 }
+    {
+        self.films.len()
     }
 
     /// The caller whose token it is, or the refusal that the store gives instead: `Memory`, `Size` or `StoreFailed`. What a crash may find stays as it was,
@@ -188,9 +200,19 @@ impl<S: Alter> Chain<S> {
     {
         asked_values(asked);
         limits_fit(self.limits);
-        match step(self.alloc, &mut self.conn, self.limits, asked) {
+        match step(
+            self.alloc,
+            &mut self.conn,
+            &mut self.films,
+            self.limits,
+            asked,
+        ) {
             Ok(reply) => reply,
-            Err(fault) => Reply::refused(self.refusal(fault)),
+            Err(fault) => {
+                // What was read before the fault is read again.
+                self.films.clear();
+                Reply::refused(self.refusal(fault))
+            }
         }
     }
 

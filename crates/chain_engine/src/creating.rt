@@ -6,6 +6,7 @@ ghost use Rattle.chain_store.specs.Openings.{IsCreated, IsNotCreated};
 
 use crate::chain::Chain;
 use chain_store::{FirstRows, OpenFault, connect, create, first_values, give_back};
+use film_cache::FilmCache;
 use shop_types::{Limits, Token};
 use sqlite::{FileStore, Files};
 use sqlite_disk::Disk;
@@ -30,6 +31,7 @@ impl<D: Disk + Drop> Chain<FileStore<D>> {
             Ok(()) => Ok(Chain {
                 limits,
                 is_failed: false,
+                films: FilmCache::new(alloc),
                 conn,
                 alloc,
             }),

@@ -13,6 +13,7 @@ ghost use Rattle.chain_store.specs.Openings.{IsOpenedIn, IsNotOpened};
 use crate::chain::Chain;
 use chain_steps::examine;
 use chain_store::{OpenFault, connect, give_back};
+use film_cache::FilmCache;
 use shop_types::Limits;
 use sqlite::{FileStore, Files};
 use sqlite_disk::Disk;
@@ -34,6 +35,7 @@ impl<D: Disk + Drop> Chain<FileStore<D>> {
             Ok(()) => Ok(Chain {
                 limits,
                 is_failed: false,
+                films: FilmCache::new(alloc),
                 conn,
                 alloc,
             }),
@@ -53,6 +55,7 @@ impl<D: Disk + Drop> Chain<FileStore<D>> {
         let Chain {
             limits: _,
             is_failed: _,
+            films: _,
             conn,
             alloc: _,
         } = self;

@@ -7,6 +7,7 @@ ghost use Rattle.shop_types.specs.Replies.{seen_reply};
 ghost use Rattle.chain_store.specs.Steps.{IsMade, IsUndone, LeavesAfter, LeavesEitherOf, asker, asked_of};
 
 use chain_store::{Asked, Work, is_open, show, work_of};
+use film_cache::FilmCache;
 use shop_types::{Limits, Reply};
 use sql_rows::{StoreFault, fault_of};
 use sqlite::{Alter, Connection};
@@ -16,21 +17,23 @@ use std::alloc::Global;
 pub fn step<S: Alter>(
     alloc: Global,
     conn: &mut Connection<S>,
+    films: &mut FilmCache,
     limits: Limits,
     asked: &Asked<'_>,
 ) -> Result<Reply, StoreFault>
     requires { conn.old.in_transaction ≡ false }
     ensures ended { conn.new.in_transaction ≡ false }
     ensures made { HasCleanDisk (state S.Store conn.new)
-        → IfOk result (λ reply. IsMade limits (asker asked.now) (asked_of asked.now) (seen_reply reply) (state S.Store conn.old) (state S.Store conn.new)) }
+        → IfOk result (λ reply. IsMade limits (asker asked.now) (asked_of asked.now) (seen_reply reply) films.old films.new (state S.Store conn.old)
+        (state S.Store conn.new)) }
     ensures undone { HasCleanDisk (state S.Store conn.new)
         → IfErr result (λ fault. (fault ≢ StoreFault.Failed → IsUndone (state S.Store conn.old) (state S.Store conn.new))
-        × LeavesEitherOf limits (asker asked.now) (asked_of asked.now) (state S.Store conn.old) (state S.Store conn.new)) }
+        × LeavesEitherOf limits (asker asked.now) (asked_of asked.now) films.old (state S.Store conn.old) (state S.Store conn.new)) }
     ensures crash { Survives (state S.Store conn.old) (state S.Store conn.new)
-        (LeavesAfter limits (asker asked.now) (asked_of asked.now) (state S.Store conn.old)) }
+        (LeavesAfter limits (asker asked.now) (asked_of asked.now) films.old (state S.Store conn.old)) }
 {
     let mut tx = conn.transaction();
-    let fault = match work_of(alloc, &mut tx, limits, asked) {
+    let fault = match work_of(alloc, &mut tx, films, limits, asked) {
         Ok(Work::Done(reply, true)) => match tx.commit() {
             Ok(()) => return Ok(reply),
             Err(error) => fault_of(error),

@@ -1,5 +1,5 @@
 -- What an audit says of sound books.
-use Rattle.std.proofs.Common.{◌≡◌, ◌∙◌, refl, ap, true, IsTrue}
+use Rattle.std.proofs.Common.{refl, IsTrue}
 use Rattle.sqlite.specs.State.{State}
 use Rattle.shop_model.specs.Books.{Books}
 use Rattle.shop_model.specs.Sound.{IsSound}

@@ -42,6 +42,7 @@ use Rattle.sqlite.specs.Schema.{Schema}
 use Rattle.shop_schema.specs.Versions.{version_of, version_told}
 use Rattle.shop_schema.specs.declared.known.KnownVersion.TheVariants.{This, Missing, Other}
 use Rattle.chain_store.specs.Chains.{Rests, IsAt, StandsForEither, StandsSoundly, widest_rules}
+use Rattle.film_cache.proofs.Rows.{no_rows}
 use Rattle.chain_store.specs.Holding.{Chained}
 use Rattle.chain_store.proofs.Deciding.{stands_in_any}
 use Rattle.chain_store.specs.declared.faults.OpenFault.{OpenFault}
@@ -83,11 +84,12 @@ keeps_either {D} {g} chain files left books besides at = record {
 }
 
 -- a chain that rests on books, and whose store hasn't failed, is at them
-pub opened_at : {D : Type 0} {g : Ghosts D} (chain : Chained (FileStore D g)) (books : Books) → chain.is_failed ≡ false → IsSound widest_rules books → AreValues books
+pub opened_at : {D : Type 0} {g : Ghosts D} (chain : Chained (FileStore D g)) (books : Books) → chain.is_failed ≡ false → chain.films ≡ [] → IsSound widest_rules books → AreValues books
     → Rests (file_state chain.conn) books → IsAt over_files chain books books
-opened_at chain books live sound values rests = record {
+opened_at chain books live none sound values rests = record {
   sound = sound;
   values = values;
+  films = no_rows _ _ none;
   rests = λ _. rests;
   alone = λ _. refl;
   left = λ failed. absurd (apart (sym live ∙ failed));

@@ -4,6 +4,7 @@ use Rattle.std.proofs.lemmas.Bool.{cases_Bool}
 use Rattle.sqlite_trees.specs.declared.store.Store.{Ghosts}
 use Rattle.sqlite.specs.Held.{state}
 use Rattle.sqlite.specs.State.{HasCleanDisk}
+use Rattle.shop_model.specs.Values.{Film}
 use Rattle.shop_model.specs.Refusals as named
 use Rattle.shop_model.specs.Machine.{Request, Sorry}
 use Rattle.shop_model.specs.Answers.{Answer, answer_of, problem_answer}
@@ -12,7 +13,7 @@ use Rattle.shop_model.specs.Sound.{IsSound}
 use Rattle.shop_model.specs.Office.{office_look}
 use Rattle.shop_model.specs.Histories.{is_store_failure}
 use Rattle.shop_model.proofs.Histories.{memory_failure, size_failure, failed_failure}
-use Rattle.shop_schema.specs.Held.{IsHeld}
+use Rattle.film_cache.specs.Cached.{AreRows}
 use Rattle.shop_schema.specs.Shop.{StandsFor}
 use Rattle.shop_types.specs.declared.audit.Audit.{Audit}
 use Rattle.shop_types.specs.declared.request.Request.{Request as Asked}
@@ -25,7 +26,7 @@ use Rattle.sql_rows.specs.declared.fault.StoreFault.TheVariants as fault
 use Rattle.branch_work.specs.Rules.{rules_of}
 use Rattle.chain_store.specs.Holding.{Chained, Holding, holding}
 use Rattle.chain_store.specs.Chains.{Rests, IsAt, Takes, failed_at, Answers, AnswersEvent, event_of, widest_rules}
-use Rattle.chain_store.specs.Steps.{IsAsker, IsAsked, IsMade, IsUndone, LeavesEitherOf, HasCaller, told_to, left_by}
+use Rattle.chain_store.specs.Steps.{IsAsker, IsAsked, IsHeldWith, IsMade, IsUndone, LeavesEitherOf, HasCaller, told_to, left_by}
 use Rattle.chain_store.specs.Audits.{AuditsState}
 use Rattle.chain_store.specs.Decisions.{FindsCaller, FindsAudit, IsStoreRefusal, IsStoreRefusalAt, refusal_for, is_final}
 use Rattle.chain_store.proofs.Failures.{decided_fine}
@@ -125,6 +126,7 @@ refused_takes {S} {g} {old} {new} {Q} it who what taken tell = record {
             record {
               sound = then.sound;
               values = then.values;
+              films = then.films;
               rests = λ isnt. never new.is_failed isnt is;
               alone = λ isnt. never new.is_failed isnt is;
               left = λ _ db may. elim (then.left is db may) [ inl first ↦ inl first | inr other ↦ inl (subst (λ (l : Books). StandsFor db l) one other.2) ];
@@ -153,37 +155,42 @@ room_at caller request it before after other (inr (failed, same)) = absurd (othe
 -- ---- a request
 
 module _ {S : Type 0} (g : Ghosts S) (old new : Chained S) (limits : new.limits ≡ old.limits) (fine : old.is_failed ≡ false) where
+  -- what is known of films is what was, or less
+  abbrev KnowsNoMore : Type 0
+  KnowsNoMore = (films : List Film) → AreRows old.films films → AreRows new.films films
+
   -- with the same books, by what the store answered
-  pub kept : (it : StoreFault) (P : Holding → Holding → Type 0) → new.is_failed ≡ is_final it
+  pub kept : (it : StoreFault) (P : Holding → Holding → Type 0) → KnowsNoMore → new.is_failed ≡ is_final it
       → (HasCleanDisk (state g new.conn) → HasCleanDisk (state g old.conn)) → (HasCleanDisk (state g new.conn) → IsUndone (state g old.conn) (state g new.conn))
       → ((before after : Holding) → IsStoreRefusal (refusal_for it) before after → P before after) → Takes g old new P
-  kept fault.Memory P failed clean undone tell = record {
+  kept fault.Memory P rows failed clean undone tell = record {
     clean = clean;
     goes = λ now books besides at.
         let rests = undone now books (at.rests fine) (are_held books at.sound at.values) in
         let same : holding new books besides ≡ holding old books besides = rw (limits, failed, fine) refl in
-        (books, besides, tell (holding old books besides) (holding new books besides) (inl (inl refl, same, fine)), record { sound = at.sound; values = at.values; rests = λ _. rests; alone = λ _. at.alone fine; left = λ was. never new.is_failed failed was });
+        (books, besides, tell (holding old books besides) (holding new books besides) (inl (inl refl, same, fine)), record { sound = at.sound; values = at.values; films = rows books.catalogue.films at.films; rests = λ _. rests; alone = λ _. at.alone fine; left = λ was. never new.is_failed failed was });
   }
-  kept fault.Size P failed clean undone tell = record {
+  kept fault.Size P rows failed clean undone tell = record {
     clean = clean;
     goes = λ now books besides at.
         let rests = undone now books (at.rests fine) (are_held books at.sound at.values) in
         let same : holding new books besides ≡ holding old books besides = rw (limits, failed, fine) refl in
-        (books, besides, tell (holding old books besides) (holding new books besides) (inl (inr refl, same, fine)), record { sound = at.sound; values = at.values; rests = λ _. rests; alone = λ _. at.alone fine; left = λ was. never new.is_failed failed was });
+        (books, besides, tell (holding old books besides) (holding new books besides) (inl (inr refl, same, fine)), record { sound = at.sound; values = at.values; films = rows books.catalogue.films at.films; rests = λ _. rests; alone = λ _. at.alone fine; left = λ was. never new.is_failed failed was });
   }
-  kept fault.Failed P failed clean undone tell = record {
+  kept fault.Failed P rows failed clean undone tell = record {
     clean = clean;
     goes = λ now books besides at.
         let rests = undone now books (at.rests fine) (are_held books at.sound at.values) in
         let same : holding new books besides ≡ record (holding old books besides) { is_failed = true } = rw (limits, failed) refl in
-        (books, besides, tell (holding old books besides) (holding new books besides) (inr (refl, same)), record { sound = at.sound; values = at.values; rests = λ isnt. never new.is_failed isnt failed; alone = λ isnt. never new.is_failed isnt failed; left = λ _ db may. inl (rests.left db may) });
+        (books, besides, tell (holding old books besides) (holding new books besides) (inr (refl, same)), record { sound = at.sound; values = at.values; films = rows books.catalogue.films at.films; rests = λ isnt. never new.is_failed isnt failed; alone = λ isnt. never new.is_failed isnt failed; left = λ _ db may. inl (rests.left db may) });
   }
 
   module _ (caller : Caller) (request : Request) (who : IsAsker caller) (asked : IsAsked request) (most : old.limits.commands ≤ 1_000_000) (fit : old.limits.copies ≤ 1_000_000) where
     -- what it came to, of sound books
     abbrev CameTo : Answer → Type 0
-    CameTo answer = (books : Books) → Rests (state g old.conn) books → IsHeld books → IsSound widest_rules books
+    CameTo answer = (books : Books) → Rests (state g old.conn) books → IsHeldWith old.films books → IsSound widest_rules books
         → (answer ≡ told_to old.limits caller request books) × Rests (state g new.conn) (left_by old.limits caller request books)
+        × AreRows new.films (left_by old.limits caller request books).catalogue.films
 
     -- the request was answered
     pub came : (answer : Answer) → new.is_failed ≡ false → (HasCleanDisk (state g new.conn) → HasCleanDisk (state g old.conn))
@@ -192,7 +199,7 @@ module _ {S : Type 0} (g : Ghosts S) (old new : Chained S) (limits : new.limits 
       clean = clean;
       goes = λ now books besides at.
           let held = are_held books at.sound at.values in
-          let it = is now books (at.rests fine) held at.sound in
+          let it = is now books (at.rests fine) (held, at.films) at.sound in
           let told = it.0 in
           let rests = it.1 in
           let after = left_by old.limits caller request books in
@@ -210,6 +217,7 @@ module _ {S : Type 0} (g : Ghosts S) (old new : Chained S) (limits : new.limits 
             record {
               sound = sound_after old.limits caller request books most fit at.sound;
               values = values_after old.limits books held at.sound caller who request asked most fit;
+              films = it.2;
               rests = λ _. rests;
               alone = λ _. refl;
               left = λ was. never new.is_failed still was;
@@ -218,26 +226,26 @@ module _ {S : Type 0} (g : Ghosts S) (old new : Chained S) (limits : new.limits 
     }
 
     pub made : (answer : Answer) → new.is_failed ≡ false → (HasCleanDisk (state g new.conn) → HasCleanDisk (state g old.conn))
-        → (HasCleanDisk (state g new.conn) → IsMade old.limits caller request answer (state g old.conn) (state g new.conn)) → Takes g old new (Answers caller request answer)
-    made answer still clean is = came answer still clean (λ now books rests held sound. ((is now).reply books rests held, (is now).books books rests held))
+        → (HasCleanDisk (state g new.conn) → IsMade old.limits caller request answer old.films new.films (state g old.conn) (state g new.conn)) → Takes g old new (Answers caller request answer)
+    made answer still clean is = came answer still clean (λ now books rests held sound. ((is now).reply books rests held, (is now).books books rests held, (is now).films books rests held))
 
     -- it wasn't
-    pub unmade : (it : StoreFault) → new.is_failed ≡ is_final it → (HasCleanDisk (state g new.conn) → HasCleanDisk (state g old.conn))
-        → (HasCleanDisk (state g new.conn) → (it ≢ fault.Failed → IsUndone (state g old.conn) (state g new.conn)) × LeavesEitherOf old.limits caller request (state g old.conn) (state g new.conn))
+    pub unmade : (it : StoreFault) → KnowsNoMore → new.is_failed ≡ is_final it → (HasCleanDisk (state g new.conn) → HasCleanDisk (state g old.conn))
+        → (HasCleanDisk (state g new.conn) → (it ≢ fault.Failed → IsUndone (state g old.conn) (state g new.conn)) × LeavesEitherOf old.limits caller request old.films (state g old.conn) (state g new.conn))
         → Takes g old new (Answers caller request (problem_answer (seen_refusal (refusal_for it))))
-    unmade fault.Memory failed clean is = kept fault.Memory _ failed clean (λ now. (is now).0 (λ e. other e)) (λ before after refused. store_refuses caller request _ before after (room_at caller request _ before after (λ e. let no : _ = e in cc) refused))
+    unmade fault.Memory rows failed clean is = kept fault.Memory _ rows failed clean (λ now. (is now).0 (λ e. other e)) (λ before after refused. store_refuses caller request _ before after (room_at caller request _ before after (λ e. let no : _ = e in cc) refused))
       where
         other : fault.Memory ≡ fault.Failed → ⊥
         other e = cc
-    unmade fault.Size failed clean is = kept fault.Size _ failed clean (λ now. (is now).0 (λ e. other e)) (λ before after refused. store_refuses caller request _ before after (room_at caller request _ before after (λ e. let no : _ = e in cc) refused))
+    unmade fault.Size rows failed clean is = kept fault.Size _ rows failed clean (λ now. (is now).0 (λ e. other e)) (λ before after refused. store_refuses caller request _ before after (room_at caller request _ before after (λ e. let no : _ = e in cc) refused))
       where
         other : fault.Size ≡ fault.Failed → ⊥
         other e = cc
-    unmade fault.Failed failed clean is = record {
+    unmade fault.Failed rows failed clean is = record {
       clean = clean;
       goes = λ now books besides at.
           let held = are_held books at.sound at.values in
-          let either = (is now).1 books (at.rests fine) held in
+          let either = (is now).1 books (at.rests fine) (held, at.films) in
           let after = left_by old.limits caller request books in
           let same : holding new books after ≡ failed_at caller request (holding old books besides) = rw (limits, failed, fine) refl in (
             books,
@@ -246,6 +254,7 @@ module _ {S : Type 0} (g : Ghosts S) (old new : Chained S) (limits : new.limits 
             record {
               sound = at.sound;
               values = at.values;
+              films = rows books.catalogue.films at.films;
               rests = λ isnt. never new.is_failed isnt failed;
               alone = λ isnt. never new.is_failed isnt failed;
               left = λ _ db may. elim (either db may) [
@@ -257,30 +266,30 @@ module _ {S : Type 0} (g : Ghosts S) (old new : Chained S) (limits : new.limits 
     }
 
   -- a look has answered, and changed nothing
-  pub looked : (P : Holding → Holding → Type 0) → new.is_failed ≡ false → (HasCleanDisk (state g new.conn) → HasCleanDisk (state g old.conn))
+  pub looked : (P : Holding → Holding → Type 0) → KnowsNoMore → new.is_failed ≡ false → (HasCleanDisk (state g new.conn) → HasCleanDisk (state g old.conn))
       → (HasCleanDisk (state g new.conn) → IsUndone (state g old.conn) (state g new.conn))
       → (HasCleanDisk (state g new.conn) → (books besides : Books) → IsAt g old books besides → (after : Holding) → after ≡ holding old books besides → P (holding old books besides) after)
       → Takes g old new P
-  looked P still clean undone tell = record {
+  looked P rows still clean undone tell = record {
     clean = clean;
     goes = λ now books besides at.
         let rests = undone now books (at.rests fine) (are_held books at.sound at.values) in
         let same : holding new books besides ≡ holding old books besides = rw (limits, still, fine) refl in
-        (books, besides, tell now books besides at (holding new books besides) same, record { sound = at.sound; values = at.values; rests = λ _. rests; alone = λ _. at.alone fine; left = λ was. never new.is_failed still was });
+        (books, besides, tell now books besides at (holding new books besides) same, record { sound = at.sound; values = at.values; films = rows books.catalogue.films at.films; rests = λ _. rests; alone = λ _. at.alone fine; left = λ was. never new.is_failed still was });
   }
 
   -- the caller was found
-  pub found : (token : List ℕ) (caller : Known) → new.is_failed ≡ false → (HasCleanDisk (state g new.conn) → HasCleanDisk (state g old.conn))
+  pub found : (token : List ℕ) (caller : Known) → KnowsNoMore → new.is_failed ≡ false → (HasCleanDisk (state g new.conn) → HasCleanDisk (state g old.conn))
       → (HasCleanDisk (state g new.conn) → HasCaller token (seen_caller caller) (state g old.conn)) → (HasCleanDisk (state g new.conn) → IsUndone (state g old.conn) (state g new.conn))
       → Takes g old new (FindsCaller token (Ok caller))
-  found token caller still clean has undone = looked (FindsCaller token (Ok caller)) still clean undone
+  found token caller rows still clean has undone = looked (FindsCaller token (Ok caller)) rows still clean undone
       (λ now books besides at after same. (has now books (at.rests fine) (are_held books at.sound at.values), same, fine))
 
   -- the audit was read
-  pub audited : (audit : Audit) → new.is_failed ≡ false → (HasCleanDisk (state g new.conn) → HasCleanDisk (state g old.conn))
+  pub audited : (audit : Audit) → KnowsNoMore → new.is_failed ≡ false → (HasCleanDisk (state g new.conn) → HasCleanDisk (state g old.conn))
       → (HasCleanDisk (state g new.conn) → AuditsState (state g old.conn) audit) → (HasCleanDisk (state g new.conn) → IsUndone (state g old.conn) (state g new.conn))
       → Takes g old new (FindsAudit (Ok audit))
-  audited audit still clean told undone = looked (FindsAudit (Ok audit)) still clean undone
+  audited audit rows still clean told undone = looked (FindsAudit (Ok audit)) rows still clean undone
       (λ now books besides at after same. (audit_of_books (state g old.conn) audit (told now) books (at.rests fine) at.values at.sound, same, fine))
 
 -- ---- an event

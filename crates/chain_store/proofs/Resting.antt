@@ -26,8 +26,9 @@ use Rattle.shop_types.specs.declared.request.Caller.{Caller as Known}
 use Rattle.shop_types.specs.Seen.{seen_caller}
 use Rattle.shop_types.specs.declared.reply.Reply.{Reply}
 use Rattle.shop_types.specs.Replies.{seen_reply}
+use Rattle.film_cache.specs.declared.cache.CachedFilm.{CachedFilm}
+use Rattle.film_cache.specs.Cached.{AreRows}
 use Rattle.shop_schema.specs.Tables.{shop_schema}
-use Rattle.shop_schema.specs.Held.{IsHeld}
 use Rattle.shop_schema.specs.Shop.{StandsFor, Holds, Reads, IsShop}
 use Rattle.chain_store.specs.Chains.{Rests, StaysAsFound}
 use Rattle.chain_store.specs.declared.work.Work.TheVariants as work
@@ -35,7 +36,7 @@ use Rattle.chain_store.specs.declared.reports.Report.{Report}
 use Rattle.chain_store.specs.Reports.{ShowsReport}
 use Rattle.chain_store.specs.Audits.{AuditsTables, AuditsState}
 use Rattle.chain_store.specs.OfficeReads.{custody_told, TellsCustody}
-use Rattle.chain_store.specs.Steps.{left_by, HasCome, IsDone, Does, Works, IsMade, IsUndone, LeavesAfter, LeavesEitherOf, LeavesMade, IsCallerOf, HasCaller}
+use Rattle.chain_store.specs.Steps.{left_by, HasCome, IsDone, IsHeldWith, Works, IsMade, IsUndone, LeavesAfter, LeavesEitherOf, LeavesMade, IsCallerOf, HasCaller}
 
 pub holds_as : (s t : State) (books : Books) → t.now ≡ s.now → Holds s books → Holds t books
 holds_as s t books same h = record {
@@ -128,38 +129,44 @@ pub leaves_untouched : (s : State) (books : Books) → Survives s s (LeavesMade 
 leaves_untouched s books = survives_weaker s s (λ _. ⊥) (LeavesMade s books) (λ _ db none. absurd none) (survives_nothing s)
 
 -- a crash leaves the books before the request or those after it
-pub either_of : (limits : Limits) (caller : Caller) (request : Request) (old end : State) → Survives old end (LeavesAfter limits caller request old) → HasCleanDisk end → LeavesEitherOf limits caller request old end
-either_of limits caller request old end survives clean books rests held db may = elim (survives.crash clean db may) [
+pub either_of : (limits : Limits) (caller : Caller) (request : Request) (films : List (ℕ × CachedFilm)) (old end : State) → Survives old end (LeavesAfter limits caller request films old) → HasCleanDisk end
+    → LeavesEitherOf limits caller request films old end
+either_of limits caller request films old end survives clean books rests held db may = elim (survives.crash clean db may) [
   | inl before ↦ inl (rests.left db before)
   | inr after ↦ inr (after books rests held)
 ]
 
-module _ {S : Type 0} (g : Ghosts S) (old mid end : Held S) (limits : Limits) (caller : Caller) (request : Request) (answer : Answer) (is_changed : Bool)
-    (works : HasCleanDisk (state g mid) → Does limits caller request answer is_changed (state g (record old { in_transaction = true })) (state g mid))
+module _ {S : Type 0} (g : Ghosts S) (old mid end : Held S) (limits : Limits) (caller : Caller) (request : Request) (answer : Answer) (is_changed : Bool) (before after : List (ℕ × CachedFilm))
+    (works : HasCleanDisk (state g mid) → (books : Books) → Holds (state g (record old { in_transaction = true })) books → IsHeldWith before books
+    → IsDone limits caller request answer is_changed (state g mid) books × AreRows after (left_by limits caller request books).catalogue.films)
     (live : HasCleanDisk (state g mid) → IsTrue (state g old).is_open) where
-  done : HasCleanDisk (state g mid) → (books : Books) → Rests (state g old) books → IsHeld books → IsDone limits caller request answer is_changed (state g mid) books
+  done : HasCleanDisk (state g mid) → (books : Books) → Rests (state g old) books → IsHeldWith before books
+      → IsDone limits caller request answer is_changed (state g mid) books × AreRows after (left_by limits caller request books).catalogue.films
   done clean books rests held = works clean books (holds_as (state g old) (state g (record old { in_transaction = true })) books refl (rests.now (live clean))) held
 
-  pub made_commit : HasCleanDisk (state g mid) → Settled g → Shows (state g mid) (state g end) (state g mid).now (state g mid).now false → IsMade limits caller request answer (state g old) (state g end)
+  pub made_commit : HasCleanDisk (state g mid) → Settled g → Shows (state g mid) (state g end) (state g mid).now (state g mid).now false → IsMade limits caller request answer before after (state g old) (state g end)
   made_commit clean settled shows = record {
-    reply = λ books rests held. (done clean books rests held).reply;
-    books = λ books rests held. rests_after g old mid end (left_by limits caller request books) settled (done clean books rests held).holds shows;
+    reply = λ books rests held. (done clean books rests held).0.reply;
+    books = λ books rests held. rests_after g old mid end (left_by limits caller request books) settled (done clean books rests held).0.holds shows;
+    films = λ books rests held. (done clean books rests held).1;
   }
 
-  pub made_nothing : HasCleanDisk (state g mid) → is_changed ≡ false → ((books : Books) → Rests (state g old) books → Rests (state g end) books) → IsMade limits caller request answer (state g old) (state g end)
+  pub made_nothing : HasCleanDisk (state g mid) → is_changed ≡ false → ((books : Books) → Rests (state g old) books → Rests (state g end) books) → IsMade limits caller request answer before after (state g old) (state g end)
   made_nothing clean same back = record {
-    reply = λ books rests held. (done clean books rests held).reply;
-    books = λ books rests held. subst (λ (after : Books). Rests (state g end) after) (sym ((done clean books rests held).same same)) (back books rests);
+    reply = λ books rests held. (done clean books rests held).0.reply;
+    books = λ books rests held. subst (λ (after : Books). Rests (state g end) after) (sym ((done clean books rests held).0.same same)) (back books rests);
+    films = λ books rests held. (done clean books rests held).1;
   }
 
   -- what the commit leaves, whether or not it answers so
   pub leaves_after : Survives (state g (record old { in_transaction = true })) (state g mid) (λ _. ⊥) → Survives (state g mid) (state g end) (λ db. db ≡ (state g mid).now.trees)
-      → Survives (state g old) (state g end) (LeavesAfter limits caller request (state g old))
-  leaves_after inside ending = crash_new g old mid end (LeavesAfter limits caller request (state g old)) (λ clean books rests held. (done clean books rests held).holds.stands) inside ending
+      → Survives (state g old) (state g end) (LeavesAfter limits caller request before (state g old))
+  leaves_after inside ending = crash_new g old mid end (LeavesAfter limits caller request before (state g old)) (λ clean books rests held. (done clean books rests held).0.holds.stands) inside ending
 
 -- and then a call that commits nothing
-pub leaves_then : (limits : Limits) (caller : Caller) (request : Request) (old fin end : State) → Survives old fin (LeavesAfter limits caller request old) → Survives fin end (λ _. ⊥) → Survives old end (LeavesAfter limits caller request old)
-leaves_then limits caller request old fin end one two = survives_then old fin end _ _ (LeavesAfter limits caller request old) (λ _ db after. after) (λ _ db none. absurd none) one two
+pub leaves_then : (limits : Limits) (caller : Caller) (request : Request) (films : List (ℕ × CachedFilm)) (old fin end : State) → Survives old fin (LeavesAfter limits caller request films old)
+    → Survives fin end (λ _. ⊥) → Survives old end (LeavesAfter limits caller request films old)
+leaves_then limits caller request films old fin end one two = survives_then old fin end _ _ (LeavesAfter limits caller request films old) (λ _ db after. after) (λ _ db none. absurd none) one two
 
 -- a commit that failed, of a store that was still open at a later call, has done nothing
 module _ {S : Type 0} (g : Ghosts S) (old mid fin end : Held S) where
@@ -186,20 +193,22 @@ module _ {S : Type 0} (g : Ghosts S) (old mid fin end : Held S) where
       apart e = cc
 
 -- a reading was looked at in a transaction, which was rolled back, and then it was shown
-module _ {S : Type 0} (g : Ghosts S) (old mid back end : Held S) (limits : Limits) (caller : Caller) (request : Request) (report : Report)
-    (works : HasCleanDisk (state g mid) → Works limits caller request (work.Shows report) (state g (record old { in_transaction = true })) (state g mid))
+module _ {S : Type 0} (g : Ghosts S) (old mid back end : Held S) (limits : Limits) (caller : Caller) (request : Request) (report : Report) (before after : List (ℕ × CachedFilm))
+    (works : HasCleanDisk (state g mid) → Works limits caller request (work.Shows report) before after (state g (record old { in_transaction = true })) (state g mid))
     (live : HasCleanDisk (state g mid) → IsTrue (state g old).is_open) (returned : (books : Books) → Rests (state g old) books → Rests (state g back) books) (stays : IsUndone (state g back) (state g end)) where
-  pub shows_made : HasCleanDisk (state g mid) → (answer : Answer) → ShowsReport report answer (state g back) → IsMade limits caller request answer (state g old) (state g end)
+  pub shows_made : HasCleanDisk (state g mid) → (answer : Answer) → ShowsReport report answer (state g back) → IsMade limits caller request answer before after (state g old) (state g end)
   shows_made clean answer shown = record {
-    reply = λ books rests held. shown books (returned books rests) held ∙ sym (came books rests held).0;
-    books = λ books rests held. subst (λ (after : Books). Rests (state g end) after) (sym (came books rests held).1) (stays books (returned books rests) held);
+    reply = λ books rests held. shown books (returned books rests) held.0 ∙ sym (came books rests held).0.0;
+    books = λ books rests held. subst (λ (after : Books). Rests (state g end) after) (sym (came books rests held).0.1) (stays books (returned books rests) held.0);
+    films = λ books rests held. (came books rests held).1;
   }
     where
-      came : (books : Books) → Rests (state g old) books → IsHeld books → HasCome limits caller request (work.Shows report) (state g mid) books
+      came : (books : Books) → Rests (state g old) books → IsHeldWith before books
+          → HasCome limits caller request (work.Shows report) (state g mid) books × AreRows after (left_by limits caller request books).catalogue.films
       came books rests held = works clean books (holds_as (state g old) (state g (record old { in_transaction = true })) books refl (rests.now (live clean))) held
 
-  pub shows_nothing : (fault : StoreFault) → (fault ≢ Failed → IsUndone (state g old) (state g end)) × LeavesEitherOf limits caller request (state g old) (state g end)
-  shows_nothing fault = (λ other. undone, λ books rests held db may. inl ((undone books rests held).left db may))
+  pub shows_nothing : (fault : StoreFault) → (fault ≢ Failed → IsUndone (state g old) (state g end)) × LeavesEitherOf limits caller request before (state g old) (state g end)
+  shows_nothing fault = (λ other. undone, λ books rests held db may. inl ((undone books rests held.0).left db may))
     where
       undone : IsUndone (state g old) (state g end)
       undone books rests held = stays books (returned books rests) held

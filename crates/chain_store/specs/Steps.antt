@@ -9,11 +9,13 @@ use Rattle.shop_model.specs.Books.{Books, Caller, Counter, HeadOffice, Nobody, c
 use Rattle.shop_model.specs.Opening.{opening_books}
 use Rattle.shop_types.specs.Seen.{seen_request, seen_office}
 use Rattle.shop_types.specs.Replies.{seen_reply}
+use Rattle.film_cache.specs.declared.cache.CachedFilm.{CachedFilm}
+use Rattle.film_cache.specs.Cached.{AreRows}
 use Rattle.sql_rows.specs.Books.{no_schema}
 use Rattle.shop_schema.specs.Held.{IsHeld}
 use Rattle.shop_schema.specs.RowValues.{IsNumber, IsCommand, IsKey, IsOfficeAct}
 use Rattle.shop_schema.specs.Shop.{StandsFor, Holds, first_books}
-pub use Rattle.branch_work.specs.Works.{told_to, left_by, IsDone, Does}
+pub use Rattle.branch_work.specs.Works.{told_to, left_by, IsDone, IsHeldWith}
 use Rattle.chain_store.specs.declared.asked.Asked.{Asked}
 use Rattle.chain_store.specs.declared.asked.Asked.TheVariants.{OfBranch, OfOffice}
 use Rattle.chain_store.specs.declared.creation.FirstRows.{FirstRows}
@@ -55,26 +57,29 @@ abbrev pub HasCome : Limits → Caller → Request → Work → State → Books 
 HasCome limits caller request (Done reply is_changed) new books = IsDone limits caller request (seen_reply reply) is_changed new books
 HasCome limits caller request (Shows report) new books = (told_to limits caller request books ≡ answer_of (Shown (shown_by report books))) × (left_by limits caller request books ≡ books)
 
-abbrev pub Works : Limits → Caller → Request → Work → State → State → Type 0
-Works limits caller request work old new = (books : Books) → Holds old books → IsHeld books → HasCome limits caller request work new books
+-- and the films that are known then are rows of the books after it
+abbrev pub Works : Limits → Caller → Request → Work → List (ℕ × CachedFilm) → List (ℕ × CachedFilm) → State → State → Type 0
+Works limits caller request work before after old new =
+    (books : Books) → Holds old books → IsHeldWith before books → HasCome limits caller request work new books × AreRows after (left_by limits caller request books).catalogue.films
 
 -- the step is made
-pub record IsMade (limits : Limits) (caller : Caller) (request : Request) (answer : Answer) (old new : State) : Type 0 where
-  pub reply : (books : Books) → Rests old books → IsHeld books → answer ≡ told_to limits caller request books
-  pub books : (books : Books) → Rests old books → IsHeld books → Rests new (left_by limits caller request books)
+pub record IsMade (limits : Limits) (caller : Caller) (request : Request) (answer : Answer) (before after : List (ℕ × CachedFilm)) (old new : State) : Type 0 where
+  pub reply : (books : Books) → Rests old books → IsHeldWith before books → answer ≡ told_to limits caller request books
+  pub books : (books : Books) → Rests old books → IsHeldWith before books → Rests new (left_by limits caller request books)
+  pub films : (books : Books) → Rests old books → IsHeldWith before books → AreRows after (left_by limits caller request books).catalogue.films
 
 -- nothing is done
 abbrev pub IsUndone : State → State → Type 0
 IsUndone old new = (books : Books) → Rests old books → IsHeld books → Rests new books
 
 -- a crash leaves the books before the request or those after it
-abbrev pub LeavesEitherOf : Limits → Caller → Request → State → State → Type 0
-LeavesEitherOf limits caller request old new =
-    (books : Books) → Rests old books → IsHeld books → (db : Trees) → new.may_leave db → StandsFor db books ⊎ StandsFor db (left_by limits caller request books)
+abbrev pub LeavesEitherOf : Limits → Caller → Request → List (ℕ × CachedFilm) → State → State → Type 0
+LeavesEitherOf limits caller request films old new =
+    (books : Books) → Rests old books → IsHeldWith films books → (db : Trees) → new.may_leave db → StandsFor db books ⊎ StandsFor db (left_by limits caller request books)
 
 -- what the commit of a request may leave on the disk
-abbrev pub LeavesAfter : Limits → Caller → Request → State → Trees → Type 0
-LeavesAfter limits caller request old db = (books : Books) → Rests old books → IsHeld books → StandsFor db (left_by limits caller request books)
+abbrev pub LeavesAfter : Limits → Caller → Request → List (ℕ × CachedFilm) → State → Trees → Type 0
+LeavesAfter limits caller request films old db = (books : Books) → Rests old books → IsHeldWith films books → StandsFor db (left_by limits caller request books)
 
 -- the books that the first rows of a chain stand for
 abbrev pub books_with : FirstRows → Books

@@ -13,6 +13,7 @@ use crate::asked::Asked;
 use crate::office_working;
 use crate::reports::Report;
 use branch_work::Worked;
+use film_cache::FilmCache;
 use shop_types::{BranchNo, Limits, OfficeCommand, Reply, Request};
 use sql_rows::{StoreFault, query};
 use sqlite::{Alter, Connection, Transaction};
@@ -31,16 +32,20 @@ pub enum Work {
 pub fn work_of<S: Alter>(
     alloc: Global,
     tx: &mut Transaction<'_, S>,
+    films: &mut FilmCache,
     limits: Limits,
     asked: &Asked<'_>,
 ) -> Result<Work, StoreFault>
     ensures inside { StaysInside S.Store tx.old.conn tx.new.conn result }
     ensures works { HasCleanDisk (state S.Store tx.new.conn.now)
-        → IfOk result (λ work. Works limits (asker asked.now) (asked_of asked.now) work (state S.Store tx.old.conn.now) (state S.Store tx.new.conn.now)) }
+        → IfOk result (λ work. Works limits (asker asked.now) (asked_of asked.now) work films.old films.new (state S.Store tx.old.conn.now)
+        (state S.Store tx.new.conn.now)) }
 {
     match *asked {
-        Asked::OfBranch(branch, request) => branch_work_of(alloc, tx, limits, branch, request),
-        Asked::OfOffice(command) => office_work_of(alloc, tx, limits, command),
+        Asked::OfBranch(branch, request) => branch_work_of(
+            alloc, tx, films, limits, branch, request,
+        ),
+        Asked::OfOffice(command) => office_work_of(alloc, tx, films, limits, command),
     }
 }
 
@@ -48,15 +53,17 @@ pub fn work_of<S: Alter>(
 fn branch_work_of<S: Alter>(
     alloc: Global,
     tx: &mut Transaction<'_, S>,
+    films: &mut FilmCache,
     limits: Limits,
     branch: BranchNo,
     request: &Request,
 ) -> Result<Work, StoreFault>
     ensures inside { StaysInside S.Store tx.old.conn tx.new.conn result }
     ensures works { HasCleanDisk (state S.Store tx.new.conn.now)
-        → IfOk result (λ work. Works limits (Counter branch) (seen_request request.now) work (state S.Store tx.old.conn.now) (state S.Store tx.new.conn.now)) }
+        → IfOk result (λ work. Works limits (Counter branch) (seen_request request.now) work films.old films.new (state S.Store tx.old.conn.now)
+        (state S.Store tx.new.conn.now)) }
 {
-    match branch_work::work(alloc, tx, limits, branch, request)? {
+    match branch_work::work(alloc, tx, films, limits, branch, request)? {
         Worked::Answered { reply, is_changed } => Ok(Work::Done(reply, is_changed)),
         Worked::Shows(list) => Ok(Work::Shows(Report::OfBranch(branch, list))),
     }
@@ -66,13 +73,17 @@ fn branch_work_of<S: Alter>(
 fn office_work_of<S: Alter>(
     alloc: Global,
     tx: &mut Transaction<'_, S>,
+    films: &mut FilmCache,
     limits: Limits,
     command: &OfficeCommand,
 ) -> Result<Work, StoreFault>
     ensures inside { StaysInside S.Store tx.old.conn tx.new.conn result }
     ensures works { HasCleanDisk (state S.Store tx.new.conn.now)
-        → IfOk result (λ work. Works limits HeadOffice (Office (seen_office command.now)) work (state S.Store tx.old.conn.now) (state S.Store tx.new.conn.now)) }
+        → IfOk result (λ work. Works limits HeadOffice (Office (seen_office command.now)) work films.old films.new (state S.Store tx.old.conn.now)
+        (state S.Store tx.new.conn.now)) }
 {
+    // Before anything is written: what is left stays true whether or not the command is done.
+    films.take_out_changed(&command.act);
     let (reply, is_changed) = office_working::work(alloc, tx, limits, command)?;
     Ok(Work::Done(reply, is_changed))
 }

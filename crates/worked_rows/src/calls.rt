@@ -1,4 +1,5 @@
 //! Calls that no request makes, each once: `call NAME`.
+use crate::films::three_hundred;
 use crate::side_by_side::tills;
 use crate::sockets::peers;
 use crate::stops::{creations, stopped};
@@ -108,6 +109,7 @@ pub fn call(rt: &HostRuntime, name: &str) -> Result<(), Fault> {
     match name {
         "new_chain" => new_chain(alloc),
         "fault_names" => fault_names(alloc),
+        "films" => three_hundred(alloc),
         "first_film" => first_film(alloc),
         "peers" => peers(rt),
         "rewards" => rewards(),

@@ -4,6 +4,7 @@
 mod calls;
 mod chains;
 mod connection;
+mod films;
 mod fuses;
 mod shops;
 mod side_by_side;

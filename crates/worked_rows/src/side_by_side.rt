@@ -5,7 +5,8 @@ use row_texts::Fault;
 use shop_types::Limits;
 use std::alloc::Global;
 
-const TOKEN: &str = "11111111111111111111111111111111";
+/// Branch 1's token.
+pub const TOKEN: &str = "11111111111111111111111111111111";
 
 /// How many connections are open at once.
 const MOST_OPEN: usize = 256;
@@ -23,7 +24,7 @@ struct Steps {
 }
 
 /// A request that makes a customer.
-fn customer(alloc: Global, key: u32, first: &str, address: &str) -> Result<String, Fault> {
+pub fn customer(alloc: Global, key: u32, first: &str, address: &str) -> Result<String, Fault> {
     let body = format!(in alloc;
         "{{\"key\":\"k{key}\",\"staff\":1,\"at\":\"2026-03-01T10:00:00\",\"first\":\"{first}\",\"last\":\"SMITH\",\"address\":\"{address}\",\"postal\":\"\",\"phone\":\"555\",\"city\":1}}"
     )?;
@@ -33,11 +34,13 @@ fn customer(alloc: Global, key: u32, first: &str, address: &str) -> Result<Strin
     )?)
 }
 
-fn look(alloc: Global, path: &str) -> Result<String, Fault> {
+/// A request that looks at something.
+pub fn look(alloc: Global, path: &str) -> Result<String, Fault> {
     Ok(format!(in alloc; "GET {path} HTTP/1.1\r\ncounter-token: {TOKEN}\r\n\r\n")?)
 }
 
-fn reply(alloc: Global, body: &str) -> Result<String, Fault> {
+/// The reply with that body.
+pub fn reply(alloc: Global, body: &str) -> Result<String, Fault> {
     let length = body.len();
     Ok(format!(in alloc;
         "HTTP/1.1 200 OK\r\ncontent-type: application/json\r\ncontent-length: {length}\r\n\r\n{body}"

@@ -18,6 +18,9 @@ returns-clause-found g c = λ clean.
     let s2 = state g.S.Store c.with_terms.new.tx.conn.now in
     let before : HasCleanDisk s1 = omega (arith, clean, c.with_terms.ensures.inside.survives.clean) in
     IfOk-weaker c.with_terms.result _ _ (λ terms reads. reads_as s0 s2 _ _
-    (λ books held is. is.1 ∙ ap (λ (rows : List RentalRow). flat_map (terms_of books.catalogue (shop_of b books)) (map (λ (row : RentalRow). seen_rental row.rental) rows)) c.as_slice.ensures.value
-    ∙ ap (λ (rentals : List Rental). flat_map (terms_of books.catalogue (shop_of b books)) rentals) is.0)
+    (λ books held is. λ known. let it = is.1 known in (
+      it.0 ∙ ap (λ (rows : List RentalRow). flat_map (terms_of books.catalogue (shop_of b books)) (map (λ (row : RentalRow). seen_rental row.rental) rows)) c.as_slice.ensures.value
+          ∙ ap (λ (rentals : List Rental). flat_map (terms_of books.catalogue (shop_of b books)) rentals) is.0,
+      it.1,
+    ))
     (reads_then s0 s1 s2 _ _ (c.in_ok-rows.ensures.rows before) reads)) (c.with_terms.ensures.found clean)

@@ -6,10 +6,6 @@ pub returns-clause-found : goal.returns-clause-found
 returns-clause-found g c = λ clean.
     let first = calls_then (call_inside c.in_ok-keys.ensures.inside c.in_ok-keys.ensures.count) (call_inside c.in_ok-staff.ensures.inside c.in_ok-staff.ensures.found) in
     let calls = calls_then first (call_within c.in_ok-rows.ensures.inside c.in_ok-rows.ensures.found) in
-    reads_as _ _ _ _ (λ books held is. λ rules reads kept last. record { kept = kept; keys = is.0.0; last = last; staff = is.0.1; act = is.1.0 rules reads }) (calls.found clean)
-
-pub returns-clause-marked : goal.returns-clause-marked
-returns-clause-marked g c = λ clean.
-    let first = calls_then (call_inside c.in_ok-keys.ensures.inside c.in_ok-keys.ensures.count) (call_inside c.in_ok-staff.ensures.inside c.in_ok-staff.ensures.found) in
-    let calls = calls_then first (call_within c.in_ok-rows.ensures.inside c.in_ok-rows.ensures.found) in
-    reads_as _ _ _ _ (λ books held is. is.1.1) (calls.found clean)
+    reads_as _ _ _ _ (λ books held is. λ known.
+    let it = is.1 known in
+    (((λ rules reads kept last. record { kept = kept; keys = is.0.0; last = last; staff = is.0.1; act = it.0.0 rules reads }), it.0.1), it.1)) (calls.found clean)

@@ -11,13 +11,16 @@ pub returns-clause-found : goal.returns-clause-found
 returns-clause-found g c = λ at clean.
     let first = calls_then (call_inside c.in_ok-copies.ensures.inside c.in_ok-copies.ensures.count) (call_inside c.in_ok-has_lot.ensures.inside c.in_ok-has_lot.ensures.found) in
     let calls = calls_then first (call_within c.in_ok-stock.ensures.inside c.in_ok-stock.ensures.found) in
-    reads_as _ _ _ _ (λ books held is. (
-      λ rules reads. record {
-        count = is.0.0 ∙ sym (length_map unmarked (of c.args.branch books.copies));
-        lot_in = is.0.1;
-        reading = c.in_ok-stock.ensures.value ∙ ap (λ (read : Text → Stock). read c.args.file.now) (sym reads);
-        rows = is.1;
-      },
-      tt,
+    reads_as _ _ _ _ (λ books held is. λ known. let it = is.1 known in (
+      (
+        λ rules reads. record {
+          count = is.0.0 ∙ sym (length_map unmarked (of c.args.branch books.copies));
+          lot_in = is.0.1;
+          reading = c.in_ok-stock.ensures.value ∙ ap (λ (read : Text → Stock). read c.args.file.now) (sym reads);
+          rows = it.0;
+        },
+        tt,
+      ),
+      it.1,
     ))
     (calls.found clean)

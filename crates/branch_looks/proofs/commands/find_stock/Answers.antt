@@ -17,7 +17,7 @@ pub returns-in-Some-clause-found : goal.returns-in-Some-clause-found
 returns-in-Some-clause-found g c = λ clean.
     let found : c.in_ok-find_films-in-Ok.field-0.items ≡ c.in-Some.found = (cond_some _ _ _ (sym c.in-Some.ensures)).1 in
     reads_as (state g.S.Store c.args.tx.now.conn.now) (state g.S.Store c.find_films.new.tx.conn.now) _ _
-    (λ books held is. subst (λ (items : List StockFound). All (RowAgrees books.catalogue) items) (sym (sym found ∙ is ∙ ap (λ (rs : List StockRow). map (found_row books.catalogue) rs) c.as_slice-in-Ok.ensures.value)) (rows_agree books.catalogue c.in-Ok.rows.items c.in-Ok.ensures.limits))
+    (λ books held is. λ known. let it = is known in (subst (λ (items : List StockFound). All (RowAgrees books.catalogue) items) (sym (sym found ∙ it.0 ∙ ap (λ (rs : List StockRow). map (found_row books.catalogue) rs) c.as_slice-in-Ok.ensures.value)) (rows_agree books.catalogue c.in-Ok.rows.items c.in-Ok.ensures.limits), it.1))
     (c.in_ok-find_films-in-Ok.ensures.found clean)
 
 pub returns-in-Some-clause-value : goal.returns-in-Some-clause-value

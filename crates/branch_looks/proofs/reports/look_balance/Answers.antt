@@ -23,20 +23,24 @@ returns-clause-shown g c = λ clean books holds held.
     let found = c.in_ok-find_active.ensures.found first books holds held in
     let rentals = c.in_ok-rentals.ensures.found second books found.0 held in
     let payments = c.in_ok-payments.ensures.found clean books rentals.0 held in
-    let are_terms : AreTermsOf books.catalogue shop customer c.as_slice.result.now = subst (AreTermsOf books.catalogue shop customer) (sym c.as_slice.ensures.value) rentals.1 in
     let are_paid : ArePaidBy shop customer c.as_slice-2.result.now = subst (ArePaidBy shop customer) (sym c.as_slice-2.ensures.value) payments.1 in
-    let cents = c.in_ok-cents.ensures books.catalogue shop customer are_terms are_paid in
     let shows : ℤ → Reply = λ owed. Shows (BalanceIs owed) in (
       payments.0,
-      c.accepted.ensures ∙ ap accepted_answer c.in_ok-balance_text.ensures ∙ ap (λ (owed : ℤ). answer_of (shows owed)) cents
-          ∙ ap answer_of (sym (given_some NoCustomer (BalanceIs (balance books.catalogue shop customer c.args.at)) (λ (it : Customer). it.active) _ _ (sym c.in-Some.is ∙ found.1))),
+      λ known.
+          let terms = rentals.1 known in
+          let are_terms : AreTermsOf books.catalogue shop customer c.as_slice.result.now = subst (AreTermsOf books.catalogue shop customer) (sym c.as_slice.ensures.value) terms.0 in
+          let cents = c.in_ok-cents.ensures books.catalogue shop customer are_terms are_paid in (
+            c.accepted.ensures ∙ ap accepted_answer c.in_ok-balance_text.ensures ∙ ap (λ (owed : ℤ). answer_of (shows owed)) cents
+                ∙ ap answer_of (sym (given_some NoCustomer (BalanceIs (balance books.catalogue shop customer c.args.at)) (λ (it : Customer). it.active) _ _ (sym c.in-Some.is ∙ found.1))),
+            terms.1,
+          ),
     )
 
 pub returns-in_default-clause-shown : goal.returns-in_default-clause-shown
 returns-in_default-clause-shown g c = λ clean books holds held.
     let found = c.in_ok-find_active.ensures.found clean books holds held in (
       found.0,
-      c.refused.ensures ∙ ap answer_of (sym (given_none NoCustomer _ (λ (it : Customer). it.active) _ (sym c.in_default.is ∙ found.1))),
+      λ known. (c.refused.ensures ∙ ap answer_of (sym (given_none NoCustomer _ (λ (it : Customer). it.active) _ (sym c.in_default.is ∙ found.1))), known),
     )
 
 pub returns-in_err-rentals-clause-inside : goal.returns-in_err-rentals-clause-inside

@@ -20,12 +20,12 @@ returns-clause-works g c = λ clean. IfOk-weaker c.answer.result _ _ (λ done wo
     let s2 = state g.S.Store c.find_for_command.new.tx.conn.now in
     let clean2 : HasCleanDisk s2 = omega (arith, clean, c.answer.ensures.inside.survives.clean) in
     let clean1 : HasCleanDisk s1 = omega (arith, clean2, c.find_for_command.ensures.inside.survives.clean) in
-    let kept = c.in_ok-kept.ensures.found clean1 books holds held in
+    let kept = c.in_ok-kept.ensures.found clean1 books holds held.0 in
     let told = c.kept_found.ensures ∙ copied_told c.in_ok-form.form c.as_ref.result ∙ ap (λ (o : Option KeptRow). option_map (by_form c.in_ok-form.form) (option_map seen_kept o)) c.as_ref.ensures.value
-    ∙ kept_told b command c.in_ok-form.form (option_map seen_kept c.in_ok-kept.kept) books.kept c.in_ok-form.ensures.form c.form_of.ensures.moment held.values.kept kept.1 in
-    let found = c.in_ok-found.ensures.found clean2 books kept.0 held in
-    let marked = c.in_ok-found.ensures.marked clean2 books kept.0 held in
-    works books found.0 held there (found.1 rules refl told last) marked.1)
+    ∙ kept_told b command c.in_ok-form.form (option_map seen_kept c.in_ok-kept.kept) books.kept c.in_ok-form.ensures.form c.form_of.ensures.moment held.0.values.kept kept.1 in
+    let found = c.in_ok-found.ensures.found clean2 books kept.0 held.0 in
+    let it = found.1 held.1 in
+    (works books found.0 held.0 there (it.0.0 rules refl told last) it.0.1, it.1))
     (c.answer.ensures.works clean)
 
 pub returns-in_err-found-clause-inside : goal.returns-in_err-found-clause-inside
