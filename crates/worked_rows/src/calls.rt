@@ -1,5 +1,6 @@
 //! Calls that no request makes, each once: `call NAME`.
 use crate::films::three_hundred;
+use crate::flips::flipped;
 use crate::side_by_side::tills;
 use crate::sockets::peers;
 use crate::stops::{creations, stopped};
@@ -117,6 +118,7 @@ pub fn call(rt: &HostRuntime, name: &str) -> Result<(), Fault> {
         "routes" => routes(),
         "stopped" => stopped(alloc),
         "creations" => creations(alloc),
+        "flipped" => flipped(alloc),
         "texts" => texts(alloc),
         _ => match name.strip_prefix("tills ") {
             Some(name) => tills(rt, name),

@@ -5,6 +5,7 @@ mod calls;
 mod chains;
 mod connection;
 mod films;
+mod flips;
 mod fuses;
 mod shops;
 mod side_by_side;

@@ -90,14 +90,10 @@ impl Trial<'_> {
         Err(Fault::Line("no call is the opening's"))
     }
 
-    /// Stops the opening at its last call of a disk, of so many, and at each one that is a stride before.
-    fn opens_behind_each(&self, which: Failing, made: u64, stride: u64) -> Result<(), Fault>
-        requires { 0 < stride }
-    {
+    /// Stops the opening at each call of a disk, from the last of so many.
+    fn opens_behind_each(&self, which: Failing, made: u64) -> Result<(), Fault> {
         for behind in 1..=made {
-            if behind.saturating_sub(1) % stride == 0 {
-                self.opens_behind(stops_behind(which, made.saturating_sub(behind)))?;
-            }
+            self.opens_behind(stops_behind(which, made.saturating_sub(behind)))?;
         }
         Ok(())
     }
@@ -142,11 +138,8 @@ pub fn swept(alloc: Global, files: Disks, input: &[u8]) -> Result<Disks, Fault> 
 }
 
 /// Head office asks for the audit.
-const AUDIT: &[u8] =
+pub const AUDIT: &[u8] =
     b"POST /office HTTP/1.1\r\ncounter-token: 00000000000000000000000000000000\r\ncontent-length: 9\r\n\r\n[\"audit\"]";
-
-/// An opening makes three calls of the log for each page there, and is stopped at each seventh call.
-const LOG_STRIDE: u64 = 7;
 
 fn sweep_opening(alloc: Global, files: &Disks) -> Result<(), Fault> {
     let (wanted, _) = undisturbed(alloc, files, AUDIT)?;
@@ -157,11 +150,11 @@ fn sweep_opening(alloc: Global, files: &Disks) -> Result<(), Fault> {
         wanted: wanted.as_slice(),
     };
     let (_, made) = undisturbed(alloc, files, b"")?;
-    swept.opens_behind_each(Failing::Log, made.log, LOG_STRIDE)?;
-    swept.opens_behind_each(Failing::Database, made.db, 1)
+    swept.opens_behind_each(Failing::Log, made.log)?;
+    swept.opens_behind_each(Failing::Database, made.db)
 }
 
-/// Whether the chain is opened behind an opening that is stopped at any call of the database's file, or at one of many of the log, and an audit says the same of it. Gives the files back as they were.
+/// Whether the chain is opened behind an opening that is stopped at any call, and an audit says the same of it. Gives the files back as they were.
 pub fn swept_opening(alloc: Global, files: Disks) -> Result<Disks, Fault> {
     sweep_opening(alloc, &files)?;
     Ok(files)

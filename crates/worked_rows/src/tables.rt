@@ -1,4 +1,5 @@
-//! The tables in a chain's files, over a connection of its own beside the chain: statements on them, and audits of them.
+//! The tables in a chain's files, over a connection of its own beside the chain: statements on them, audits of them, and their log copied into the database's
+//! file.
 use books_audit::audit_custody;
 use chain_store::{FirstRows, connect, create, give_back, read_audit};
 use reply_bodies::audit_text;
@@ -102,6 +103,17 @@ pub fn audited<D: Disk + Drop>(
         Err(_) => {
             drop(files);
             Err(Fault::Memory)
+        }
+    }
+}
+
+/// The files with all that stood in the log alone copied into the database's file.
+pub fn copied_in<D: Disk + Drop>(alloc: Global, files: Files<D>) -> Result<Files<D>, Fault> {
+    match connected(alloc, files)?.close_files() {
+        Ok(files) => Ok(files),
+        Err((_, store)) => {
+            drop(store);
+            Err(Fault::Line("the log isn't copied"))
         }
     }
 }
