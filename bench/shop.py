@@ -1,8 +1,11 @@
 """A chain in a file, made by head office's words and served by `sakila serve` on a port of 127.0.0.1: what the scripts beside this one share."""
 import datetime
+import json
 import os
 import socket
+import sqlite3
 import subprocess
+import sys
 import time
 
 PROGRAM = os.path.join(os.path.dirname(os.path.abspath(__file__)), "../crates/sakila/out/sakila")
@@ -95,3 +98,40 @@ class Shop:
 
 def request(body, path="/customer", more=""):
     return f"POST {path} HTTP/1.1\r\ncounter-token: {TOKEN}\r\n{more}content-length: {len(body)}\r\n\r\n{body}".encode()
+
+
+def one_customer(file):
+    """The first customer comes by a request, so that a command is kept as the program keeps one."""
+    served = Shop(file, 1)
+    with served.connect() as it:
+        it.sendall(request(json.dumps(MARY)))
+        it.recv(4096)
+    served.ends()
+
+
+def fill(file, count):
+    """Writes so many rows of branch 1 into the tables: a fifth of them rentals, as many terms of rentals, as many payments, customers, copies and kept commands."""
+    rentals, people = count // 5, count // 20
+    moment = lambda at: (BEGIN + datetime.timedelta(seconds=at)).isoformat()
+    with sqlite3.connect(file) as it:
+        command, reply = it.execute("SELECT command, reply FROM kept WHERE caller = 1").fetchone()
+        kept = count - 3 * rentals - 2 * people + 1
+        it.executemany("INSERT INTO customer SELECT 1, ?, first, last, address, postal, phone, city, active, created FROM customer WHERE number = 1", ((n,) for n in range(2, people + 1)))
+        it.executemany("INSERT INTO copy VALUES (1, ?, 1, 0, 1, ?)", ((n, n) for n in range(1, people + 1)))
+        it.executemany("INSERT INTO rental VALUES (1, ?, ?, ?, ?, ?, 1)", ((n, moment(n), n % people + 1, n % people + 1, moment(n)) for n in range(1, rentals + 1)))
+        it.executemany("INSERT INTO rental_terms VALUES (1, ?, 499, 3, 1999)", ((n,) for n in range(1, rentals + 1)))
+        it.executemany("INSERT INTO payment VALUES (1, ?, ?, 1, ?, 499, ?)", ((n, n % people + 1, n, moment(n)) for n in range(1, rentals + 1)))
+        it.executemany("INSERT INTO kept VALUES (1, ?, ?, ?)", ((f"n{n}", command, reply) for n in range(2, kept + 1)))
+        it.executemany("UPDATE counter SET last = ? WHERE caller = 1 AND kind = ?", ((people, 0), (people, 1), (rentals, 2), (rentals, 3), (kept, 4)))
+        it.execute("UPDATE branch SET last_moment = ?", (moment(rentals),))
+    it.close()
+
+
+def run(file, word):
+    """Returns what the word prints, the seconds that it had a processor, and the mebibytes that the program had at most."""
+    program = subprocess.Popen([PROGRAM, "--db", file, word], stdout=subprocess.PIPE)
+    told = program.stdout.read()
+    _, status, used = os.wait4(program.pid, 0)
+    if status:
+        sys.exit(f"bench: {word} ends with {status}: {told!r:.200}")
+    return told, used.ru_utime + used.ru_stime, used.ru_maxrss / 1024

@@ -1,19 +1,18 @@
 -- The sums over a customer's rows are the model's sums over the shop.
-use Rattle.std.proofs.Common.{◌≡◌, ◌∙◌, refl, sym, ap, ℕ, ℤ, pos, ◌+◌, ◌*◌, List, [], ◌∷◌, ◌++◌, Bool, true, false, length, map, filter, inl, inr, zero-add}
-use Rattle.std.specs.Prelude.{◌==◌, ◌&&◌, ◌-ℤ◌, nat_lt, nat_le, flat_map, sum_by}
+use Rattle.std.proofs.Common.{◌≡◌, ◌∙◌, refl, sym, ap, ℕ, ℤ, pos, ◌+◌, List, [], ◌∷◌, Bool, length, map, filter, inl, inr}
+use Rattle.std.specs.Prelude.{◌==◌, ◌&&◌, ◌-ℤ◌, nat_lt, nat_le, sum_by}
 use Rattle.std.proofs.Math.Bool.{and_assoc}
 use Rattle.std.proofs.lemmas.List.{length-map}
 use Rattle.std.proofs.lemmas.Bool.{cases_Bool}
-use Rattle.std.proofs.lemmas.List.Sums.{sum_by-append, sum_by-cons}
-use Rattle.std.proofs.lemmas.List.Elements.{filter-append}
+use Rattle.std.proofs.lemmas.List.Sums.{sum_by-cons}
 use Rattle.shop_model.specs.Rows.{total}
 use Rattle.shop_model.specs.Calendar.{Moment, is_by, day_of}
-use Rattle.shop_model.specs.Values.{Film, Rental, Payment}
-use Rattle.shop_model.specs.Shop.{Catalogue, Shop}
-use Rattle.shop_model.specs.Stock.{film_of, late_days, fee, balance, paid_within}
+use Rattle.shop_model.specs.Values.{Rental, Terms, Payment, Rule, ByCode, ByComment}
+use Rattle.shop_model.specs.Shop.{Shop}
+use Rattle.shop_model.specs.Stock.{termed, fee_by, balance, paid_within}
 use Rattle.balance_rule.specs.declared.rows.RentalTerms.{RentalTerms}
 use Rattle.balance_rule.specs.declared.rows.Paid.{Paid}
-use Rattle.balance_rule.specs.Balance.{fee_of, amount_of, fees_by, paid_by, owed_at, terms, terms_of, paid_of, AreTermsOf, ArePaidBy}
+use Rattle.balance_rule.specs.Balance.{fee_of, amount_of, fees_by, paid_by, owed_at, terms_of, paid_of, AreTermsOf, ArePaidBy}
 use Rattle.balance_rule.specs.Rewards.{seen_days, is_on, passes, is_rewarded}
 
 -- a sum of std over rows that are made is the model's sum over those that they are made of
@@ -35,35 +34,22 @@ filter_made p q g (x ∷ xs) = elim (cases_Bool (p x)) [
 
 -- ---- fees
 
--- the rows of one rental, by whether it is up to the moment
-one_fee : (at : Moment) (rental : Rental) (films : List Film) → is_by rental.rented at ≡ true
-    → fees_by at (map (terms rental) films) ≡ total (λ (film : Film). film.rate + 100 * late_days rental.rented rental.returned film.period) films
-one_fee at rental [] is = refl
-one_fee at rental (film ∷ films) is = rw is (sum_by-cons fee_of (terms rental film) (filter (λ (it : RentalTerms). is_by it.rented at) (map (terms rental) films)) ∙ ap (λ n. fee_of (terms rental film) + n) (one_fee at rental films is))
+-- a rental's row costs what the rental does
+fee_is : (rule : Rule) (at : Moment) (it : Rental × Terms) → fee_of rule at (terms_of it) ≡ fee_by rule at it
+fee_is ByCode at it = refl
+fee_is ByComment at it = refl
 
-no_fee : (at : Moment) (rental : Rental) (films : List Film) → is_by rental.rented at ≡ false → fees_by at (map (terms rental) films) ≡ 0
-no_fee at rental [] isnt = refl
-no_fee at rental (film ∷ films) isnt = rw isnt (no_fee at rental films isnt)
+total_same : {A : Type 0} (v w : A → ℕ) (xs : List A) → ((x : A) → v x ≡ w x) → total v xs ≡ total w xs
+total_same v w [] same = refl
+total_same v w (x ∷ xs) same = λ i. same x i + total_same v w xs same i
 
-fees_by-append : (at : Moment) (xs ys : List RentalTerms) → fees_by at (xs ++ ys) ≡ fees_by at xs + fees_by at ys
-fees_by-append at xs ys = ap (λ zs. sum_by fee_of zs) (filter-append (λ (it : RentalTerms). is_by it.rented at) xs ys) ∙ sum_by-append fee_of (filter (λ (it : RentalTerms). is_by it.rented at) xs) (filter (λ (it : RentalTerms). is_by it.rented at) ys)
-
--- the fees of a customer's rentals
-fees_are : (catalogue : Catalogue) (shop : Shop) (customer : ℕ) (at : Moment) (rentals : List Rental)
-    → fees_by at (flat_map (terms_of catalogue shop) (filter (λ (rental : Rental). rental.customer == customer) rentals))
-    ≡ total (fee catalogue shop) (filter (λ (rental : Rental). rental.customer == customer && is_by rental.rented at) rentals)
-fees_are catalogue shop customer at [] = refl
-fees_are catalogue shop customer at (rental ∷ rentals) =
-    let rest = fees_are catalogue shop customer at rentals in
-    let others = flat_map (terms_of catalogue shop) (filter (λ (it : Rental). it.customer == customer) rentals) in
-    let parts = fees_by-append at (terms_of catalogue shop rental) others in
-    elim (cases_Bool (rental.customer == customer)) [
-      | inl is ↦ rw is (parts ∙ elim (cases_Bool (is_by rental.rented at)) [
-        | inl by ↦ rw (by, one_fee at rental (film_of catalogue shop rental) by, rest) refl
-        | inr late ↦ rw (late, no_fee at rental (film_of catalogue shop rental) late, rest) (zero-add _)
-      ])
-      | inr isnt ↦ rw isnt rest
-    ]
+fees_are : (rule : Rule) (customer : ℕ) (at : Moment) (rentals : List (Rental × Terms))
+    → fees_by rule at (map terms_of (filter (λ (it : Rental × Terms). it.0.customer == customer) rentals))
+    ≡ total (fee_by rule at) (filter (λ (it : Rental × Terms). it.0.customer == customer && is_by it.0.rented at) rentals)
+fees_are rule customer at rentals =
+    ap (λ rows. sum_by (fee_of rule at) rows) (filter_made (λ (it : Rental × Terms). it.0.customer == customer) (λ (it : RentalTerms). is_by it.rented at) terms_of rentals)
+    ∙ sum_by-map (fee_of rule at) terms_of (filter (λ (it : Rental × Terms). it.0.customer == customer && is_by it.0.rented at) rentals)
+    ∙ total_same (λ (it : Rental × Terms). fee_of rule at (terms_of it)) (fee_by rule at) (filter (λ (it : Rental × Terms). it.0.customer == customer && is_by it.0.rented at) rentals) (fee_is rule at)
 
 -- ---- payments
 
@@ -75,10 +61,10 @@ paid_are customer at payments =
     ∙ sum_by-map amount_of paid_of (filter (λ (payment : Payment). payment.customer == customer && is_by payment.paid at) payments)
 
 -- what is owed by a customer's rows is the model's balance
-pub owed_is : (catalogue : Catalogue) (shop : Shop) (customer : ℕ) (at : Moment) (rentals : List RentalTerms) (payments : List Paid)
-    → AreTermsOf catalogue shop customer rentals → ArePaidBy shop customer payments → owed_at rentals payments at ≡ balance catalogue shop customer at
-owed_is catalogue shop customer at rentals payments of by =
-    let fees = ap (fees_by at) of ∙ fees_are catalogue shop customer at shop.rentals in
+pub owed_is : (rule : Rule) (shop : Shop) (customer : ℕ) (at : Moment) (rentals : List RentalTerms) (payments : List Paid)
+    → AreTermsOf shop customer rentals → ArePaidBy shop customer payments → owed_at rule rentals payments at ≡ balance rule shop customer at
+owed_is rule shop customer at rentals payments of by =
+    let fees = ap (fees_by rule at) of ∙ fees_are rule customer at (termed shop) in
     let paid = ap (paid_by at) by ∙ paid_are customer at shop.payments in
     λ i. pos (fees i) -ℤ pos (paid i)
 

@@ -3,11 +3,12 @@
 ghost use Rattle.std.specs.Prelude.{◌≡◌, ℕ, ◌+◌, ◌≤◌, length, nat_lt};
 ghost use Rattle.shop_model.specs.Calendar.{day_of, is_by};
 ghost use Rattle.shop_model.specs.Stock.{late_days, balance};
-ghost use Rattle.shop_model.specs.Shop.{Catalogue, Shop};
-ghost use Rattle.balance_rule.specs.Balance.{fee_of, fees_by, paid_by, owed_at, AreTermsOf, ArePaidBy};
+ghost use Rattle.shop_model.specs.Shop.{Shop};
+ghost use Rattle.shop_types.specs.Seen.{seen_rule};
+ghost use Rattle.balance_rule.specs.Balance.{days_past_of, code_fee_of, comment_fee_of, fee_of, fees_by, paid_by, owed_at, AreTermsOf, ArePaidBy};
 
 use crate::rows::{Paid, RentalTerms};
-use shop_types::{Cents, Moment};
+use shop_types::{Cents, Moment, Rule};
 
 /// Whether the first moment is not after the second.
 fn is_by(moment: Moment, at: Moment) -> bool
@@ -37,24 +38,63 @@ pub fn is_overdue(rented: Moment, period: u8, at: Moment) -> bool
     rented.day() as u32 + u32::from(period) < at.day() as u32
 }
 
-/// What a rental costs, in cents: the film's rate, and a dollar for each late day.
-fn fee(rental: &RentalTerms) -> u32
-    ensures value { result ≡ fee_of rental.now }
+/// The days by which a rental is past its period at a moment, which is its end where it wasn't returned by then.
+fn days_past(rental: &RentalTerms, at: Moment) -> u32
+    ensures value { result ≡ days_past_of at rental.now }
+    ensures bound { result ≤ 2_932_896 }
+{
+    let end = match rental.returned {
+        Some(returned) if is_by(returned, at) => returned,
+        _ => at,
+    };
+    late_days(rental.rented, Some(end), rental.period)
+}
+
+/// What a rental costs by the manual's code, in cents: its rate, and a dollar for each late day.
+fn code_fee(rental: &RentalTerms) -> u32
+    ensures value { result ≡ code_fee_of rental.now }
     ensures bound { result ≤ 293_299_599 }
 {
     u32::from(rental.rate.get()) + 100 * late_days(rental.rented, rental.returned, rental.period)
 }
 
-/// The cents that the rentals up to a moment cost. When they were returned isn't compared with it.
-fn fees(rentals: &[RentalTerms], at: Moment) -> u64
+/// What it costs by the comment: its rate, a dollar for each day past its period, and its replacement cost once where these are more than twice its
+/// period.
+fn comment_fee(rental: &RentalTerms, at: Moment) -> u32
+    ensures value { result ≡ comment_fee_of at rental.now }
+    ensures bound { result ≤ 293_399_598 }
+{
+    let past = days_past(rental, at);
+    let period = rental.period;
+    let charge = u32::from(rental.rate.get()) + 100 * past;
+    if past > 2 * u32::from(period) {
+        charge + rental.replacement.get()
+    } else {
+        charge
+    }
+}
+
+/// What a rental costs by the rule, as it is seen at a moment.
+fn fee(rental: &RentalTerms, at: Moment, rule: Rule) -> u32
+    ensures value { result ≡ fee_of (seen_rule rule) at rental.now }
+    ensures bound { result ≤ 293_399_598 }
+{
+    match rule {
+        Rule::ByCode => code_fee(rental),
+        Rule::ByComment => comment_fee(rental, at),
+    }
+}
+
+/// The cents that the rentals up to a moment cost.
+fn fees(rentals: &[RentalTerms], at: Moment, rule: Rule) -> u64
     requires { length rentals.now ≤ 1_000_000 }
-    ensures value { result ≡ fees_by at rentals.now }
-    ensures bound { result ≤ 293_299_599_000_000 }
+    ensures value { result ≡ fees_by (seen_rule rule) at rentals.now }
+    ensures bound { result ≤ 293_399_598_000_000 }
 {
     let mut total = 0u64;
     for rental in rentals {
         if is_by(rental.rented, at) {
-            total += u64::from(fee(rental));
+            total += u64::from(fee(rental, at, rule));
         }
     }
     total
@@ -75,14 +115,14 @@ fn paid(payments: &[Paid], at: Moment) -> u64
     total
 }
 
-/// The manual's `get_customer_balance`: what the rentals up to a moment cost, less the payments up to it. It is below zero where more was paid.
-pub fn balance(rentals: &[RentalTerms], payments: &[Paid], at: Moment) -> Cents
+/// The manual's `get_customer_balance` by either rule: what the rentals up to a moment cost, less the payments up to it. It is below zero where more was paid.
+pub fn balance(rentals: &[RentalTerms], payments: &[Paid], at: Moment, rule: Rule) -> Cents
     requires rentals { length rentals.now ≤ 1_000_000 }
     requires payments { length payments.now ≤ 1_000_000 }
-    ensures sum { result ≡ owed_at rentals.now payments.now at }
-    ensures balance { (catalogue : Catalogue) (shop : Shop) (customer : ℕ) → AreTermsOf catalogue shop customer rentals.now
-        → ArePaidBy shop customer payments.now → result ≡ balance catalogue shop customer at }
+    ensures sum { result ≡ owed_at (seen_rule rule) rentals.now payments.now at }
+    ensures balance { (shop : Shop) (customer : ℕ) → AreTermsOf shop customer rentals.now → ArePaidBy shop customer payments.now
+        → result ≡ balance (seen_rule rule) shop customer at }
 {
-    let owed = fees(rentals, at) as i64;
+    let owed = fees(rentals, at, rule) as i64;
     Cents::new(owed - paid(payments, at) as i64)
 }

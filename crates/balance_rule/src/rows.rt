@@ -2,16 +2,17 @@
 
 use shop_types::{Amount, Moment, Rate};
 
-/// What a balance reads of a rental, and of the row of its film as it is now.
+/// What a balance reads of a rental, and of its terms.
 #[derive(Clone, Copy)]
 pub struct RentalTerms {
     pub rented: Moment,
     /// When the copy came back. A rental without it is open.
     pub returned: Option<Moment>,
-    /// The film's rate.
     pub rate: Rate,
-    /// The film's period, in days.
+    /// For how many days it was rented.
     pub period: u8,
+    /// What the film cost to replace when the rental began.
+    pub replacement: Amount,
 }
 
 /// What a balance reads of a payment.

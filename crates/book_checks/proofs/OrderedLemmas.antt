@@ -8,12 +8,13 @@ use Rattle.shop_model.specs.Links.{has_row, are_different}
 use Rattle.shop_model.specs.Books.{Books}
 use Rattle.book_checks.specs.declared.books.OrderedBooks.{OrderedBooks}
 use Rattle.book_checks.specs.declared.rows.CustomerRow.{CustomerRow}
+use Rattle.book_checks.specs.declared.rows.TermsRow.{TermsRow}
 use Rattle.book_checks.specs.Lists.{climbs}
 use Rattle.book_checks.specs.Shops.{is_among}
 use Rattle.book_checks.specs.Canons.{row_key}
 use Rattle.book_checks.specs.Joins.{header, placed, header_key, placed_key}
 use Rattle.book_checks.specs.Seen.{seen_copy, seen_rental_row, seen_payment_row, seen_header, seen_placed}
-use Rattle.book_checks.specs.Ordered.{AreOrdered, HaveOrderedRows, customer_row, branch_row, without_last, lasts_from}
+use Rattle.book_checks.specs.Ordered.{AreOrdered, HaveOrderedRows, customer_row, terms_row, branch_row, without_last, lasts_from}
 use Rattle.book_checks.proofs.Maps.{map-twice, length-map}
 use Rattle.book_checks.proofs.Tests.{all_congr}
 use Rattle.book_checks.proofs.ShopLemmas.{has_row_is}
@@ -31,6 +32,11 @@ module _ (rows : OrderedBooks) (c : Books) (o : AreOrdered rows) (s : HaveOrdere
 
   pub rentals_climb : climbs (map row_key c.rentals) ≡ true
   rentals_climb = ap climbs (ap (map row_key) s.rentals ∙ map-twice row_key seen_rental_row rows.rentals.items) ∙ o.rentals
+
+  pub terms_climb : climbs (map row_key c.terms) ≡ true
+  terms_climb =
+      ap climbs (sym (map-twice (λ (row : TermsRow). row.branch ∷ row.number ∷ []) terms_row c.terms) ∙ ap (map (λ (row : TermsRow). row.branch ∷ row.number ∷ [])) s.terms)
+      ∙ o.terms
 
   pub payments_climb : climbs (map row_key c.payments) ≡ true
   payments_climb = ap climbs (ap (map row_key) s.payments ∙ map-twice row_key seen_payment_row rows.payments.items) ∙ o.payments

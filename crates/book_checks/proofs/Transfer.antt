@@ -15,7 +15,7 @@ use Rattle.shop_model.specs.Shop.{Kept, OfficeKept, Catalogue, Shop}
 use Rattle.shop_model.specs.GoodShop.{IsGoodShop}
 use Rattle.shop_model.specs.Links.{has_row, IsLinkedShop, IsGoodCatalogue}
 use Rattle.shop_model.specs.Books.{Books, BookCopy, Mark, Line, UnderWay, Missing, Consignment, shop_of, head, unmarked, as_arrival, as_parcel}
-use Rattle.shop_model.specs.Sound.{HasOneHolder, HasOwners, IsSound, is_made_as, is_origin, is_settled, one, copy_is, lines_in, all_lines}
+use Rattle.shop_model.specs.Sound.{HasOneHolder, HasOwners, HasTerms, IsSound, is_made_as, is_origin, is_settled, one, copy_is, lines_in, all_lines}
 use Rattle.book_checks.specs.Canons.{IsCanonOf, office_key}
 use Rattle.book_checks.proofs.Keys.{both, different_along, different-map, bytes_eq_symm}
 use Rattle.book_checks.proofs.Tests.{all_congr}
@@ -153,6 +153,7 @@ module _ (c b : Books) (canon : IsCanonOf c b) (rules : Rules) (sound : IsSound 
     customers = same_items n c.customers b.customers canon.customers_climb canon.customers (sound.numbers.customers n) i;
     copies = map unmarked (same_items n c.copies b.copies canon.copies_climb canon.copies (sound.numbers.copies n) i);
     rentals = same_items n c.rentals b.rentals canon.rentals_climb canon.rentals (sound.numbers.rentals n) i;
+    terms = same_items n c.terms b.terms canon.terms_climb canon.terms (sound.numbers.terms n) i;
     payments = same_items n c.payments b.payments canon.payments_climb canon.payments (sound.numbers.payments n) i;
     lots = owned_by n c.lots;
     arrivals = map as_arrival (filter (λ (it : Consignment). it.addressee == n) (consignments_same i));
@@ -200,6 +201,7 @@ module _ (c b : Books) (canon : IsCanonOf c b) (rules : Rules) (sound : IsSound 
     customers = sym (all_along _ b.customers c.customers canon.customers) ∙ sound.owners.customers;
     copies = sym (all_along _ b.copies c.copies canon.copies) ∙ sound.owners.copies;
     rentals = sym (all_along _ b.rentals c.rentals canon.rentals) ∙ sound.owners.rentals;
+    terms = sym (all_along _ b.terms c.terms canon.terms) ∙ sound.owners.terms;
     payments = sym (all_along _ b.payments c.payments canon.payments) ∙ sound.owners.payments;
     lots = sym (all_along _ b.lots c.lots canon.lots) ∙ sound.owners.lots;
     kept = sym (all_along _ b.kept c.kept canon.kept) ∙ sound.owners.kept;
@@ -220,6 +222,7 @@ module _ (c b : Books) (canon : IsCanonOf c b) (rules : Rules) (sound : IsSound 
       customers = λ n. counted n c.customers b.customers (same_branch n c.customers b.customers canon.customers_climb canon.customers (sound.numbers.customers n)) (sound.numbers.customers n);
       copies = λ n. counted n c.copies b.copies (same_branch n c.copies b.copies canon.copies_climb canon.copies (sound.numbers.copies n)) (sound.numbers.copies n);
       rentals = λ n. counted n c.rentals b.rentals (same_branch n c.rentals b.rentals canon.rentals_climb canon.rentals (sound.numbers.rentals n)) (sound.numbers.rentals n);
+      terms = λ n. counted n c.terms b.terms (same_branch n c.terms b.terms canon.terms_climb canon.terms (sound.numbers.terms n)) (sound.numbers.terms n);
       payments = λ n. counted n c.payments b.payments (same_branch n c.payments b.payments canon.payments_climb canon.payments (sound.numbers.payments n)) (sound.numbers.payments n);
       consignments = λ source addressee. subst (λ (its : List Consignment). AreNumbered (λ (it : Consignment). it.source == source && it.addressee == addressee) (λ (it : Consignment). it.number) its) (sym consignments_same) (sound.numbers.consignments source addressee);
     };
@@ -240,4 +243,5 @@ module _ (c b : Books) (canon : IsCanonOf c b) (rules : Rules) (sound : IsSound 
         subst (λ (k : Catalogue). IsLinkedShop n k (shop_of n c)) (sym canon.shared)
         (subst (IsLinkedShop n (record b.catalogue { kept = c.catalogue.kept; casts = c.catalogue.casts })) (sym (shop_is n))
         (linked_shop (shop_of n b) _ _ (owned_along n b.lots c.lots canon.lots) (owned_along n b.kept c.kept canon.kept) n b.catalogue c.catalogue.kept c.catalogue.casts (sound.links n)));
+    terms = λ n. subst HasTerms (sym (shop_is n)) (sound.terms n);
   }

@@ -29,6 +29,8 @@ pub record IsCanonOf (c b : Books) : Type 0 where
   pub copies_climb : climbs (map row_key c.copies) ≡ true
   pub rentals : IsPermutation b.rentals c.rentals
   pub rentals_climb : climbs (map row_key c.rentals) ≡ true
+  pub terms : IsPermutation b.terms c.terms
+  pub terms_climb : climbs (map row_key c.terms) ≡ true
   pub payments : IsPermutation b.payments c.payments
   pub payments_climb : climbs (map row_key c.payments) ≡ true
   pub lots : IsPermutation b.lots c.lots

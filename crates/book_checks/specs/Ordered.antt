@@ -5,7 +5,7 @@ use Rattle.std.specs.List.Sorted.{IsSorted}
 use Rattle.std.specs.Ordering.{nat_cmp}
 use Rattle.shop_model.specs.Calendar.{Moment}
 use Rattle.shop_model.specs.Rows.{Row, Owned}
-use Rattle.shop_model.specs.Values.{Text, City, Film, Cast, Branch, Staff, Customer}
+use Rattle.shop_model.specs.Values.{Text, City, Film, Cast, Branch, Staff, Customer, Terms}
 use Rattle.shop_model.specs.Shop.{Kept, OfficeKept}
 use Rattle.shop_model.specs.Books.{Books, Consignment}
 use Rattle.book_checks.specs.declared.books.OrderedBooks.{OrderedBooks}
@@ -19,6 +19,7 @@ use Rattle.book_checks.specs.declared.rows.HeaderRow.{HeaderRow}
 use Rattle.book_checks.specs.declared.rows.LineRow.{LineRow}
 use Rattle.book_checks.specs.declared.rows.PaymentRow.{PaymentRow}
 use Rattle.book_checks.specs.declared.rows.RentalRow.{RentalRow}
+use Rattle.book_checks.specs.declared.rows.TermsRow.{TermsRow}
 use Rattle.book_checks.specs.declared.rows.CopyRow.{CopyRow}
 use Rattle.book_checks.specs.declared.rows.LotRow.{LotRow}
 use Rattle.book_checks.specs.declared.rows.KeptRow.{KeptRow}
@@ -50,6 +51,9 @@ staff_row it = record { branch = it.branch; city = it.person.city }
 abbrev pub customer_row : Row Customer → CustomerRow
 customer_row row = record { branch = row.branch; number = row.number; city = row.it.person.city; created = row.it.created }
 
+abbrev pub terms_row : Row Terms → TermsRow
+terms_row row = record { branch = row.branch; number = row.number }
+
 abbrev pub lot_row : Owned Text → LotRow
 lot_row row = record { branch = row.owner; name = row.it }
 
@@ -77,6 +81,7 @@ pub record AreOrdered (rows : OrderedBooks) : Type 0 where
   pub customers : climbs (map (λ row. row.branch ∷ row.number ∷ []) rows.customers.items) ≡ true
   pub copies : climbs (map (λ row. row.branch ∷ row.number ∷ []) rows.copies.items) ≡ true
   pub rentals : climbs (map (λ row. row.branch ∷ row.number ∷ []) rows.rentals.items) ≡ true
+  pub terms : climbs (map (λ row. row.branch ∷ row.number ∷ []) rows.terms.items) ≡ true
   pub payments : climbs (map (λ row. row.branch ∷ row.number ∷ []) rows.payments.items) ≡ true
   pub lots : climbs (map (λ row. row.branch ∷ row.name) rows.lots.items) ≡ true
   pub kept : climbs (map (λ row. row.branch ∷ row.key) rows.kept.items) ≡ true
@@ -105,6 +110,9 @@ abbrev pub are_deals_ordered : OrderedBooks → Bool
 are_deals_ordered rows =
     climbs (map (λ (row : RentalRow). row.branch ∷ row.number ∷ []) rows.rentals.items) && climbs (map (λ (row : PaymentRow). row.branch ∷ row.number ∷ []) rows.payments.items)
 
+abbrev pub are_terms_ordered : OrderedBooks → Bool
+are_terms_ordered rows = climbs (map (λ (row : TermsRow). row.branch ∷ row.number ∷ []) rows.terms.items)
+
 -- ---- the books that have these rows
 
 -- the consignments stand in the order of their places, of which nothing else is known
@@ -132,6 +140,7 @@ pub record HaveOrderedRows (rows : OrderedBooks) (books : Books) : Type 0 where
   pub customers : map customer_row books.customers ≡ rows.customers.items
   pub copies : books.copies ≡ map seen_copy rows.copies.items
   pub rentals : books.rentals ≡ map seen_rental_row rows.rentals.items
+  pub terms : map terms_row books.terms ≡ rows.terms.items
   pub payments : books.payments ≡ map seen_payment_row rows.payments.items
   pub lots : map lot_row books.lots ≡ rows.lots.items
   pub kept : map kept_row books.kept ≡ rows.kept.items

@@ -2,12 +2,12 @@
 
 ghost use Rattle.std.specs.Prelude.{◌≡◌, ◌↔◌, ◌&&◌, [], ◌∷◌, IsTrue, map};
 ghost use Rattle.book_checks.specs.Lists.{climbs};
-ghost use Rattle.book_checks.specs.Ordered.{AreOrdered, are_shared_ordered, are_callers_ordered, is_stock_ordered, are_consignments_ordered, are_deals_ordered};
+ghost use Rattle.book_checks.specs.Ordered.{AreOrdered, are_shared_ordered, are_callers_ordered, is_stock_ordered, are_consignments_ordered, are_deals_ordered, are_terms_ordered};
 
 use crate::order::climbs;
 use crate::rows::{
     BranchRow, CastRow, CityRow, CopyRow, CustomerRow, FilmRow, HeaderRow, KeptRow, LineRow,
-    LotRow, PaymentRow, RentalRow, StaffRow,
+    LotRow, PaymentRow, RentalRow, StaffRow, TermsRow,
 };
 use shop_types::{Key, T45, Token};
 
@@ -31,6 +31,8 @@ pub struct OrderedBooks {
     pub customers: Vec<CustomerRow>,
     pub copies: Vec<CopyRow>,
     pub rentals: Vec<RentalRow>,
+    /// The terms of rentals.
+    pub terms: Vec<TermsRow>,
     pub payments: Vec<PaymentRow>,
     pub lots: Vec<LotRow>,
     pub kept: Vec<KeptRow>,
@@ -85,6 +87,13 @@ fn are_deals_ordered(books: &OrderedBooks) -> bool
     climbs(rentals) && climbs(payments)
 }
 
+/// Whether those of the terms of rentals do.
+fn are_terms_ordered(books: &OrderedBooks) -> bool
+    ensures { result ≡ are_terms_ordered books.now }
+{
+    climbs(books.terms.as_slice())
+}
+
 /// Whether the rows of each table stand in the order of their keys, of which no two are the same.
 pub fn are_ordered(books: &OrderedBooks) -> bool
     ensures { IsTrue result ↔ AreOrdered books.now }
@@ -94,4 +103,5 @@ pub fn are_ordered(books: &OrderedBooks) -> bool
         && is_stock_ordered(books)
         && are_consignments_ordered(books)
         && are_deals_ordered(books)
+        && are_terms_ordered(books)
 }

@@ -19,5 +19,5 @@ pub use order::{Keyed, Numbered, are_counted, are_distinct, climbs, counts, same
 pub use places::are_in_custody;
 pub use rows::{
     BranchRow, CastRow, CityRow, CopyRow, CopyState, CustomerRow, FilmRow, HeaderRow, KeptRow,
-    LineRow, LineState, LotRow, Mark, PaymentRow, RentalRow, StaffRow,
+    LineRow, LineState, LotRow, Mark, PaymentRow, RentalRow, StaffRow, TermsRow,
 };

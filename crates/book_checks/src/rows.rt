@@ -94,6 +94,13 @@ pub struct RentalRow {
     pub rental: Rental,
 }
 
+/// That there are terms of a rental of a branch, with the rental's number.
+#[derive(Clone, Copy, Drop)]
+pub struct TermsRow {
+    pub branch: BranchNo,
+    pub number: RentalNo,
+}
+
 /// A payment at a branch, with its number there.
 #[derive(Clone, Copy, Drop)]
 pub struct PaymentRow {
@@ -196,6 +203,15 @@ impl Keyed for RentalRow {
     }
 }
 
+impl Keyed for TermsRow {
+    ghost key = { λ row. row.branch ∷ row.number ∷ [] };
+
+    fn compare(&self, other: &TermsRow) -> Ordering {
+        let first = self.branch.get().cmp(&other.branch.get());
+        first.then(self.number.get().cmp(&other.number.get()))
+    }
+}
+
 impl Keyed for PaymentRow {
     ghost key = { λ row. row.branch ∷ row.number ∷ [] };
 
@@ -266,6 +282,14 @@ impl Numbered for CopyRow {
 }
 
 impl Numbered for RentalRow {
+    ghost number = { λ row. row.number };
+
+    fn number(&self) -> u32 {
+        self.number.get()
+    }
+}
+
+impl Numbered for TermsRow {
     ghost number = { λ row. row.number };
 
     fn number(&self) -> u32 {

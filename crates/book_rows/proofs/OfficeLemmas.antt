@@ -1,9 +1,9 @@
 -- Which parts the form of an act of head office has, both ways.
-use Rattle.std.proofs.Common.{◌≡◌, ◌↔◌, ◌≤◌, ℕ, List, [], ◌∷◌, ◌++◌, Option, Some, None, false, refl, sym, ap, ◌∙◌, arith}
+use Rattle.std.proofs.Common.{◌≡◌, ◌↔◌, ◌≤◌, ℕ, List, [], ◌∷◌, ◌++◌, Option, Some, None, Bool, true, false, refl, sym, ap, ◌∙◌, arith}
 use Rattle.std.specs.Prelude.{IfSome}
 use Rattle.std.proofs.lemmas.List.{append-nil}
-use Rattle.shop_model.specs.Values.{OfficeAct, AddCountry, AddCity, AddLanguage, AddCategory, AddActor, AddFilm, PriceFilm, WithdrawFilm, AddCast, AddBranch, AddStaff, StaffLeaves, SetManager}
-use Rattle.shop_schema.specs.Forms.{number_form, text_form, option_form, flag_form, person_form, office_form}
+use Rattle.shop_model.specs.Values.{Rule, ByCode, ByComment, OfficeAct, AddCountry, AddCity, AddLanguage, AddCategory, AddActor, AddFilm, PriceFilm, WithdrawFilm, AddCast, AddBranch, AddStaff, StaffLeaves, SetManager, ChooseRule}
+use Rattle.shop_schema.specs.Forms.{number_form, text_form, option_form, flag_form, rule_form, person_form, office_form}
 use Rattle.shop_schema.specs.RowValues.{IsNumber, IsName, IsOfficeAct}
 use Rattle.book_rows.specs.declared.parts.Part.{Part}
 use Rattle.book_rows.specs.declared.parts.Part.TheVariants as part
@@ -267,12 +267,40 @@ manager_to rest act is e = absurd (omega (arith, ap first e))
 pub manager : (rest : List ℕ) → IsForm (row ∷ row ∷ []) rest ↔ IsOfficeForm (13 ∷ rest)
 manager rest = (manager_from rest, λ f. manager_to rest f.0 f.1 f.2)
 
+-- ---- the rule
+
+abbrev rule_of : Bool → Rule
+rule_of true = ByComment
+rule_of false = ByCode
+
+abbrev is_comment : Rule → Bool
+is_comment ByCode = false
+is_comment ByComment = true
+
+flag_rule : (b : Bool) → flag_form b ≡ rule_form (rule_of b)
+flag_rule true = refl
+flag_rule false = refl
+
+rule_flag : (rule : Rule) → rule_form rule ≡ flag_form (is_comment rule)
+rule_flag ByCode = refl
+rule_flag ByComment = refl
+
+choose_from : (rest : List ℕ) → IsForm (part.Flag ∷ []) rest → IsOfficeForm (14 ∷ rest)
+choose_from rest (p, r, (b, e), z, h) = (ChooseRule (rule_of b), tt, ap (λ (l : List ℕ). 14 ∷ l) (h ∙ (λ i. e i ++ z i) ∙ append-nil (flag_form b) ∙ flag_rule b))
+
+choose_to : (rest : List ℕ) (act : OfficeAct) → IsOfficeAct act → 14 ∷ rest ≡ office_form act → IsForm (part.Flag ∷ []) rest
+choose_to rest (ChooseRule rule) x e = let g : rest ≡ flag_form (is_comment rule) = ap behind e ∙ rule_flag rule in (flag_form (is_comment rule), [], (is_comment rule, refl), refl, g)
+choose_to rest act is e = absurd (omega (arith, ap first e))
+
+pub choose : (rest : List ℕ) → IsForm (part.Flag ∷ []) rest ↔ IsOfficeForm (14 ∷ rest)
+choose rest = (choose_from rest, λ f. choose_to rest f.0 f.1 f.2)
+
 -- ---- no act
 
-pub no_office : (t : ℕ) (rest : List ℕ) → (act : OfficeAct) → t ∷ rest ≡ office_form act → (1 ≤ t) × (t ≤ 13)
+pub no_office : (t : ℕ) (rest : List ℕ) → (act : OfficeAct) → t ∷ rest ≡ office_form act → (1 ≤ t) × (t ≤ 14)
 no_office t rest act e = let is = tagged act in let h = ap first e in (omega (arith, is.0, h), omega (arith, is.1, h))
   where
-    tagged : (act : OfficeAct) → (1 ≤ first (office_form act)) × (first (office_form act) ≤ 13)
+    tagged : (act : OfficeAct) → (1 ≤ first (office_form act)) × (first (office_form act) ≤ 14)
     tagged (AddCountry t) = (omega arith, omega arith)
     tagged (AddCity c) = (omega arith, omega arith)
     tagged (AddLanguage t) = (omega arith, omega arith)
@@ -286,3 +314,4 @@ no_office t rest act e = let is = tagged act in let h = ap first e in (omega (ar
     tagged (AddStaff s) = (omega arith, omega arith)
     tagged (StaffLeaves s) = (omega arith, omega arith)
     tagged (SetManager b s) = (omega arith, omega arith)
+    tagged (ChooseRule r) = (omega arith, omega arith)

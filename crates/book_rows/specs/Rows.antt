@@ -14,10 +14,12 @@ use Rattle.book_rows.specs.Forms.{IsCommandForm, IsOfficeForm}
 use Rattle.book_checks.specs.declared.rows.CastRow.{CastRow}
 use Rattle.book_checks.specs.declared.rows.CustomerRow.{CustomerRow}
 use Rattle.book_checks.specs.declared.rows.RentalRow.{RentalRow}
+use Rattle.book_checks.specs.declared.rows.TermsRow.{TermsRow}
 use Rattle.book_checks.specs.declared.rows.PaymentRow.{PaymentRow}
 use Rattle.book_checks.specs.declared.rows.LotRow.{LotRow}
 use Rattle.book_checks.specs.declared.rows.HeaderRow.{HeaderRow}
 use Rattle.book_rows.specs.declared.shared.ChainRow.{ChainRow}
+use Rattle.book_rows.specs.declared.shared.RuleRow.{RuleRow}
 use Rattle.book_rows.specs.declared.shared.NamedRow.{NamedRow}
 use Rattle.book_rows.specs.declared.shared.NumberedCity.{NumberedCity}
 use Rattle.book_rows.specs.declared.shared.NumberedActor.{NumberedActor}
@@ -39,10 +41,16 @@ name = kind.Text 1 45
 -- ---- shared rows
 
 abbrev pub chain_kinds : List Kind
-chain_kinds = kind.Whole 1 1 ∷ kind.Token ∷ []
+chain_kinds = kind.Whole 2 2 ∷ kind.Token ∷ []
 
 abbrev pub IsChainRow : ChainRow → sql.Row → Type 0
 IsChainRow x r = column r 1 ≡ Text x.office_token
+
+abbrev pub rule_kinds : List Kind
+rule_kinds = kind.Flag ∷ []
+
+abbrev pub IsRuleRow : RuleRow → sql.Row → Type 0
+IsRuleRow x r = column r 0 ≡ flag_value x.by_comment
 
 abbrev pub named_kinds : List Kind
 named_kinds = row ∷ name ∷ []
@@ -123,6 +131,14 @@ pub record IsRentalRow (x : RentalRow) (r : sql.Row) : Type 0 where
   pub returned : column r 5 ≡ or_null moment_value x.rental.returned
   pub is_returned : IfSome x.rental.returned IsMoment
   pub staff : column r 6 ≡ number_value x.rental.staff
+
+-- those of a film's columns: rate, period and replacement cost
+abbrev pub terms_kinds : List Kind
+terms_kinds = row ∷ row ∷ kind.Whole 0 9_999 ∷ kind.Whole 1 255 ∷ kind.Whole 0 99_999 ∷ []
+
+pub record IsTermsRow (x : TermsRow) (r : sql.Row) : Type 0 where
+  pub branch : column r 0 ≡ number_value x.branch
+  pub number : column r 1 ≡ number_value x.number
 
 abbrev pub payment_kinds : List Kind
 payment_kinds = row ∷ row ∷ row ∷ row ∷ row_or_null ∷ kind.Whole 0 99_999 ∷ kind.Moment ∷ []

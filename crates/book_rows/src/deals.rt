@@ -4,12 +4,12 @@ ghost use Rattle.std.specs.Prelude.{◌≡◌, IfOk};
 ghost use Rattle.sqlite_value.specs.Order.{column};
 ghost use Rattle.sql_rows.specs.Rows.{number_value};
 ghost use Rattle.book_rows.specs.Kinds.{HaveKinds};
-ghost use Rattle.book_rows.specs.Rows.{customer_kinds, IsCustomerRow, rental_kinds, IsRentalRow, payment_kinds, IsPaymentRow, lot_kinds, IsLotRow, header_kinds, IsHeaderRow};
+ghost use Rattle.book_rows.specs.Rows.{customer_kinds, IsCustomerRow, rental_kinds, IsRentalRow, terms_kinds, IsTermsRow, payment_kinds, IsPaymentRow, lot_kinds, IsLotRow, header_kinds, IsHeaderRow};
 
 use crate::columns::{NAME, NUMBER, NUMBER_OR_NULL, name_at, wide_at};
 use crate::listed::Listed;
 use crate::{Kind, have_kinds};
-use book_checks::{CustomerRow, HeaderRow, LotRow, PaymentRow, RentalRow};
+use book_checks::{CustomerRow, HeaderRow, LotRow, PaymentRow, RentalRow, TermsRow};
 use shop_schema::{moment_at, moment_or_null_at, row_number_at, row_number_or_null_at};
 use shop_types::{Amount, Payment, Rental};
 use sql_rows::{StoreFault, flag_at, number_at};
@@ -89,6 +89,32 @@ impl Listed for RentalRow {
                 returned: moment_or_null_at(row, 5)?,
                 staff: row_number_at(row, 6)?,
             },
+        })
+    }
+}
+
+impl Listed for TermsRow {
+    ghost is_one = { HaveKinds terms_kinds };
+
+    ghost is_row = { IsTermsRow };
+
+    fn fits(row: &Row) -> bool {
+        have_kinds(
+            row,
+            &[
+                NUMBER,
+                NUMBER,
+                Kind::Whole(0, 9_999),
+                Kind::Whole(1, 255),
+                Kind::Whole(0, 99_999),
+            ],
+        )
+    }
+
+    fn take(row: &Row) -> Result<TermsRow, StoreFault> {
+        Ok(TermsRow {
+            branch: row_number_at(row, 0)?,
+            number: row_number_at(row, 1)?,
         })
     }
 }

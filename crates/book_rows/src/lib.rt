@@ -19,4 +19,5 @@ pub use kinds::{Kind, have_kinds};
 pub use listed::{Listed, read_rows};
 pub use shared::{
     ChainRow, NamedRow, NumberedActor, NumberedBranch, NumberedCity, NumberedFilm, NumberedStaff,
+    RuleRow,
 };

@@ -66,6 +66,7 @@ pub(crate) fn is_office_command(bytes: &[u8]) -> bool
         11 => is_form(&STAFF, rest),
         12 => is_form(&[NUMBER], rest),
         13 => is_form(&[NUMBER, NUMBER], rest),
+        14 => is_form(&[Part::Flag], rest),
         _ => false,
     }
 }

@@ -1,7 +1,7 @@
 //! Shared rows, each with its number.
 
 ghost use Rattle.book_rows.specs.Kinds.{HaveKinds};
-ghost use Rattle.book_rows.specs.Rows.{chain_kinds, IsChainRow, named_kinds, IsNamedRow, city_kinds, IsCityRow, actor_kinds, IsActorRow, film_kinds, IsFilmRow, cast_kinds, IsCastRow, branch_kinds, IsBranchRow, staff_kinds, IsStaffRow};
+ghost use Rattle.book_rows.specs.Rows.{chain_kinds, IsChainRow, rule_kinds, IsRuleRow, named_kinds, IsNamedRow, city_kinds, IsCityRow, actor_kinds, IsActorRow, film_kinds, IsFilmRow, cast_kinds, IsCastRow, branch_kinds, IsBranchRow, staff_kinds, IsStaffRow};
 
 use crate::columns::{NAME, NUMBER, NUMBER_OR_NULL, token_at};
 use crate::listed::Listed;
@@ -9,13 +9,19 @@ use crate::{Kind, have_kinds};
 use book_checks::{BranchRow, CastRow, CityRow, FilmRow, StaffRow};
 use shop_schema::{moment_or_null_at, row_number_at, row_number_or_null_at, text_at};
 use shop_types::{T45, Token};
-use sql_rows::{StoreFault, number_at};
+use sql_rows::{StoreFault, flag_at, number_at};
 use sqlite::Row;
 
 /// The row of the table `chain`.
 #[derive(Drop)]
 pub struct ChainRow {
     pub office_token: Token,
+}
+
+/// The row of the table `chain_rule`: whether balances go by the manual's comment.
+#[derive(Clone, Copy, Drop)]
+pub struct RuleRow {
+    pub by_comment: bool,
 }
 
 /// A country, a language or a category.
@@ -65,12 +71,28 @@ impl Listed for ChainRow {
     ghost is_row = { IsChainRow };
 
     fn fits(row: &Row) -> bool {
-        have_kinds(row, &[Kind::Whole(1, 1), Kind::Token])
+        have_kinds(row, &[Kind::Whole(2, 2), Kind::Token])
     }
 
     fn take(row: &Row) -> Result<ChainRow, StoreFault> {
         Ok(ChainRow {
             office_token: token_at(row, 1)?,
+        })
+    }
+}
+
+impl Listed for RuleRow {
+    ghost is_one = { HaveKinds rule_kinds };
+
+    ghost is_row = { IsRuleRow };
+
+    fn fits(row: &Row) -> bool {
+        have_kinds(row, &[Kind::Flag])
+    }
+
+    fn take(row: &Row) -> Result<RuleRow, StoreFault> {
+        Ok(RuleRow {
+            by_comment: flag_at(row, 0)?,
         })
     }
 }

@@ -13,6 +13,7 @@ use Rattle.book_checks.specs.declared.rows.CastRow.{CastRow}
 use Rattle.book_checks.specs.declared.rows.CustomerRow.{CustomerRow}
 use Rattle.book_checks.specs.declared.rows.CopyRow.{CopyRow}
 use Rattle.book_checks.specs.declared.rows.RentalRow.{RentalRow}
+use Rattle.book_checks.specs.declared.rows.TermsRow.{TermsRow}
 use Rattle.book_checks.specs.declared.rows.PaymentRow.{PaymentRow}
 use Rattle.book_checks.specs.declared.rows.LotRow.{LotRow}
 use Rattle.book_checks.specs.declared.rows.KeptRow.{KeptRow}
@@ -25,7 +26,7 @@ use Rattle.book_rows.specs.declared.shared.NumberedFilm.{NumberedFilm}
 use Rattle.book_rows.specs.declared.shared.NumberedBranch.{NumberedBranch}
 use Rattle.book_rows.specs.declared.shared.NumberedStaff.{NumberedStaff}
 use Rattle.book_rows.specs.Placed.{IsCopyRow, IsLineRow, IsOneLine}
-use Rattle.book_rows.specs.Rows.{chain_kinds, IsChainRow, named_kinds, IsNamedRow, city_kinds, IsCityRow, film_kinds, IsFilmRow, cast_kinds, IsCastRow, branch_kinds, IsBranchRow, staff_kinds, IsStaffRow, customer_kinds, IsCustomerRow, rental_kinds, IsRentalRow, payment_kinds, IsPaymentRow, lot_kinds, IsLotRow, header_kinds, IsHeaderRow, IsOneKept, IsCallerRow}
+use Rattle.book_rows.specs.Rows.{chain_kinds, IsChainRow, named_kinds, IsNamedRow, city_kinds, IsCityRow, film_kinds, IsFilmRow, cast_kinds, IsCastRow, branch_kinds, IsBranchRow, staff_kinds, IsStaffRow, customer_kinds, IsCustomerRow, rental_kinds, IsRentalRow, terms_kinds, IsTermsRow, payment_kinds, IsPaymentRow, lot_kinds, IsLotRow, header_kinds, IsHeaderRow, IsOneKept, IsCallerRow}
 use Rattle.books_audit.specs.Read.{SharedRead, RowsRead, AreRowsRead, office_caller, branch_caller}
 use Rattle.books_audit.specs.declared.tables.TableRows.{TableRows}
 use Rattle.books_audit.specs.Parts.{PartsAreRead, IsOf}
@@ -48,6 +49,7 @@ module _ (tables : TableRows) (parts : Parts) (rows : OrderedBooks) (p : PartsAr
     casts = subst (λ l. climbs (map (λ (row : CastRow). row.film ∷ row.actor ∷ []) l) ≡ true) e.casts p.filmed.casts_climb;
     customers = subst (λ l. climbs (map (λ (row : CustomerRow). row.branch ∷ row.number ∷ []) l) ≡ true) e.customers p.deals.customers_climb;
     rentals = subst (λ l. climbs (map (λ (row : RentalRow). row.branch ∷ row.number ∷ []) l) ≡ true) e.rentals p.deals.rentals_climb;
+    terms = subst (λ l. climbs (map (λ (row : TermsRow). row.branch ∷ row.number ∷ []) l) ≡ true) e.terms p.deals.terms_climb;
     payments = subst (λ l. climbs (map (λ (row : PaymentRow). row.branch ∷ row.number ∷ []) l) ≡ true) e.payments p.deals.payments_climb;
     lots = subst (λ l. climbs (map (λ (row : LotRow). row.branch ∷ row.name) l) ≡ true) e.lots p.stock.lots_climb;
     headers = subst (λ l. climbs (map (λ (row : HeaderRow). row.source ∷ row.addressee ∷ row.number ∷ []) l) ≡ true) e.headers p.sent.headers_climb;
@@ -58,6 +60,8 @@ module _ (tables : TableRows) (parts : Parts) (rows : OrderedBooks) (p : PartsAr
   pub are_read : AreRowsRead tables rows
   are_read = record {
     chain = subst (λ t. RowsRead IsChainRow (HaveKinds chain_kinds) tables.chain.items (record { office_token = t } ∷ [])) e.office_token p.chain;
+    rule_row = parts.rule;
+    rule = p.rule;
     countries = subst (SharedRead IsNamedRow named_kinds (λ (x : NamedRow). x.number) (λ (x : NamedRow). x.name) tables.countries.items) e.countries (shared_read _ _ _ _ _ _ p.named.countries);
     languages = subst (SharedRead IsNamedRow named_kinds (λ (x : NamedRow). x.number) (λ (x : NamedRow). x.name) tables.languages.items) e.languages (shared_read _ _ _ _ _ _ p.named.languages);
     categories = subst (SharedRead IsNamedRow named_kinds (λ (x : NamedRow). x.number) (λ (x : NamedRow). x.name) tables.categories.items) e.categories (shared_read _ _ _ _ _ _ p.named.categories);
@@ -71,6 +75,7 @@ module _ (tables : TableRows) (parts : Parts) (rows : OrderedBooks) (p : PartsAr
     casts = subst (RowsRead IsCastRow (HaveKinds cast_kinds) tables.casts.items) e.casts p.filmed.casts;
     customers = subst (RowsRead IsCustomerRow (HaveKinds customer_kinds) tables.customers.items) e.customers p.deals.customers;
     rentals = subst (RowsRead IsRentalRow (HaveKinds rental_kinds) tables.rentals.items) e.rentals p.deals.rentals;
+    terms = subst (RowsRead IsTermsRow (HaveKinds terms_kinds) tables.terms.items) e.terms p.deals.terms;
     payments = subst (RowsRead IsPaymentRow (HaveKinds payment_kinds) tables.payments.items) e.payments p.deals.payments;
     lots = subst (RowsRead IsLotRow (HaveKinds lot_kinds) tables.lots.items) e.lots p.stock.lots;
     headers = subst (RowsRead IsHeaderRow (HaveKinds header_kinds) tables.consignments.items) e.headers p.sent.headers;

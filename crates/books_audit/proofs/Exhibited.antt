@@ -6,17 +6,17 @@ use Rattle.std.proofs.lemmas.List.Sorted.{IsPermutation-map, IsPermutation-trans
 use Rattle.sqlite_keyed.proofs.ListLemmas.{map-map, IsPermutation-flat_map}
 use Rattle.shop_model.specs.Calendar.{Moment}
 use Rattle.shop_model.specs.Rows.{Owned, owned_by}
-use Rattle.shop_model.specs.Values.{Text, Cast, Branch}
+use Rattle.shop_model.specs.Values.{Text, Cast, Branch, Rule}
 use Rattle.shop_model.specs.Shop.{Kept, OfficeKept}
 use Rattle.shop_model.specs.Books.{Books, Consignment, head}
-use Rattle.shop_schema.specs.Columns.{chain_columns, named_columns, city_columns, actor_columns, film_columns, cast_columns, staff_columns, customer_columns, copy_columns, rental_columns, payment_columns, lot_columns, consignment_columns, line_rows}
-use Rattle.shop_schema.specs.RowValues.{IsName, IsToken, IsCity, IsActor, IsFilm, IsCast, IsStaff, IsRow, IsCustomer, IsCopy, IsRental, IsPayment, IsLot, IsConsignment, IsLast}
+use Rattle.shop_schema.specs.Columns.{chain_columns, named_columns, city_columns, actor_columns, film_columns, cast_columns, staff_columns, customer_columns, copy_columns, rental_columns, terms_columns, rule_columns, payment_columns, lot_columns, consignment_columns, line_rows}
+use Rattle.shop_schema.specs.RowValues.{IsName, IsToken, IsCity, IsActor, IsFilm, IsCast, IsStaff, IsRow, IsCustomer, IsCopy, IsRental, IsTerms, IsPayment, IsLot, IsConsignment, IsLast}
 use Rattle.book_rows.specs.Kinds.{HaveKinds}
 use Rattle.book_checks.specs.Lists.{climbs}
 use Rattle.book_checks.specs.Canons.{row_key, office_key}
 use Rattle.book_checks.specs.Joins.{header, placed, join}
 use Rattle.book_checks.specs.Seen.{seen_copy, seen_rental_row, seen_payment_row, seen_header, seen_placed}
-use Rattle.book_checks.specs.Ordered.{AreOrdered, HaveOrderedRows, HaveSharedRows, city_row, film_row, cast_row, branch_row, without_last, staff_row, customer_row, lot_row, kept_row, lasts_from}
+use Rattle.book_checks.specs.Ordered.{AreOrdered, HaveOrderedRows, HaveSharedRows, city_row, film_row, cast_row, branch_row, without_last, staff_row, customer_row, terms_row, lot_row, kept_row, lasts_from}
 use Rattle.book_checks.specs.declared.books.OrderedBooks.{OrderedBooks}
 use Rattle.book_checks.specs.declared.rows.BranchRow.{BranchRow}
 use Rattle.book_checks.specs.declared.rows.CastRow.{CastRow}
@@ -26,13 +26,14 @@ use Rattle.book_checks.proofs.JoinLemmas.{join_sound}
 use Rattle.book_checks.proofs.Maps.{length-map}
 use Rattle.book_checks.proofs.Standing.{all_moved}
 use Rattle.book_rows.specs.Placed.{placed_columns, IsPlaced}
-use Rattle.book_rows.specs.Rows.{chain_kinds, IsChainRow, named_kinds, IsNamedRow, city_kinds, IsCityRow, actor_kinds, IsActorRow, film_kinds, IsFilmRow, cast_kinds, IsCastRow, branch_kinds, IsBranchRow, staff_kinds, IsStaffRow, customer_kinds, IsCustomerRow, rental_kinds, IsRentalRow, payment_kinds, IsPaymentRow, lot_kinds, IsLotRow, header_kinds, IsHeaderRow}
+use Rattle.book_rows.specs.Rows.{chain_kinds, IsChainRow, rule_kinds, IsRuleRow, named_kinds, IsNamedRow, city_kinds, IsCityRow, actor_kinds, IsActorRow, film_kinds, IsFilmRow, cast_kinds, IsCastRow, branch_kinds, IsBranchRow, staff_kinds, IsStaffRow, customer_kinds, IsCustomerRow, rental_kinds, IsRentalRow, terms_kinds, IsTermsRow, payment_kinds, IsPaymentRow, lot_kinds, IsLotRow, header_kinds, IsHeaderRow}
 use Rattle.books_audit.proofs.CustodyAudits.{columns_read, values_read}
+use Rattle.book_rows.specs.declared.shared.RuleRow.{RuleRow}
 use Rattle.books_audit.specs.declared.tables.TableRows.{TableRows}
 use Rattle.books_audit.specs.Audits.{HaveRowsOf, HaveKeys, HaveBooks, AreInOrder, same_row}
 use Rattle.books_audit.specs.Read.{AreRowsRead}
 use Rattle.books_audit.proofs.FullRows as full
-use Rattle.books_audit.proofs.FullRows.{IsShared, IsTold, IsHeader, told_columns, header_columns, header_row, chain_row, named_row, numbered_city, numbered_actor, numbered_film, numbered_branch, numbered_staff, rental_row, payment_row}
+use Rattle.books_audit.proofs.FullRows.{IsShared, IsTold, IsHeader, told_columns, header_columns, header_row, chain_row, rule_row, named_row, numbered_city, numbered_actor, numbered_film, numbered_branch, numbered_staff, rental_row, payment_row}
 use Rattle.books_audit.proofs.FullLists.{Fulls, fulls}
 use Rattle.books_audit.proofs.SharedLists.{SharedOf, shared_of, told_row, tell, lasts_fit, branches_fit}
 use Rattle.books_audit.proofs.KeptRows.{KeptOf, kept_of}
@@ -48,6 +49,11 @@ one_token : (its : List Text) (t : List ℕ) → map chain_row its ≡ record { 
 one_token [] t h = cc
 one_token (u ∷ []) t h = let first : chain_row u ≡ record { office_token = t } = cc in (λ i. (first i).office_token ∷ [])
 one_token (u ∷ v ∷ its) t h = cc
+
+one_rule : (its : List Rule) (x : RuleRow) → map rule_row its ≡ x ∷ [] → (it : Rule) × (its ≡ it ∷ [])
+one_rule [] x h = cc
+one_rule (it ∷ []) x h = (it, refl)
+one_rule (it ∷ other ∷ its) x h = cc
 
 module _ (tables : TableRows) (rows : OrderedBooks) (read : AreRowsRead tables rows) (ordered : AreOrdered rows) (by_key : List Consignment) (joined : join (map seen_header rows.headers.items) (map seen_placed rows.lines.items) ≡ Some by_key) where
   countries : SharedOf named_columns IsName (λ (t : Text). t) tables.countries.items rows.countries.items
@@ -77,6 +83,12 @@ module _ (tables : TableRows) (rows : OrderedBooks) (read : AreRowsRead tables r
   chain : Fulls chain_columns IsToken chain_row (record { office_token = rows.office_token } ∷ []) tables.chain.items
   chain = let r = read.chain in fulls chain_columns IsToken chain_row IsChainRow (HaveKinds chain_kinds) full.chain_full r.found _ tables.chain.items r.are_rows r.ones r.same
 
+  rules : Fulls rule_columns (λ it. Unit {0}) rule_row (read.rule_row ∷ []) tables.rule.items
+  rules = let r = read.rule in fulls rule_columns (λ it. Unit {0}) rule_row IsRuleRow (HaveKinds rule_kinds) full.rule_full r.found _ tables.rule.items r.are_rows r.ones r.same
+
+  rule : (it : Rule) × (rules.its ≡ it ∷ [])
+  rule = one_rule rules.its read.rule_row rules.keeps
+
   casts : Fulls cast_columns IsCast cast_row rows.casts.items tables.casts.items
   casts = let r = read.casts in fulls cast_columns IsCast cast_row IsCastRow (HaveKinds cast_kinds) full.cast_full r.found rows.casts.items tables.casts.items r.are_rows r.ones r.same
 
@@ -85,6 +97,9 @@ module _ (tables : TableRows) (rows : OrderedBooks) (read : AreRowsRead tables r
 
   rentals : Fulls rental_columns (IsRow IsRental) rental_row rows.rentals.items tables.rentals.items
   rentals = let r = read.rentals in fulls rental_columns (IsRow IsRental) rental_row IsRentalRow (HaveKinds rental_kinds) full.rental_full r.found rows.rentals.items tables.rentals.items r.are_rows r.ones r.same
+
+  terms : Fulls terms_columns (IsRow IsTerms) terms_row rows.terms.items tables.terms.items
+  terms = let r = read.terms in fulls terms_columns (IsRow IsTerms) terms_row IsTermsRow (HaveKinds terms_kinds) full.terms_full r.found rows.terms.items tables.terms.items r.are_rows r.ones r.same
 
   payments : Fulls payment_columns (IsRow IsPayment) payment_row rows.payments.items tables.payments.items
   payments = let r = read.payments in fulls payment_columns (IsRow IsPayment) payment_row IsPaymentRow (HaveKinds payment_kinds) full.payment_full r.found rows.payments.items tables.payments.items r.are_rows r.ones r.same
@@ -116,10 +131,12 @@ module _ (tables : TableRows) (rows : OrderedBooks) (read : AreRowsRead tables r
       films = films.items;
       branches = map (λ (it : Branch × Option Moment). it.0) branches.items;
       staff = staff.items;
+      rule = rule.0;
     };
     customers = customers.its;
     copies = map seen_copy rows.copies.items;
     rentals = rentals.its;
+    terms = terms.its;
     payments = payments.its;
     lots = lots.its;
     consignments = by_place by_key;
@@ -157,6 +174,7 @@ module _ (tables : TableRows) (rows : OrderedBooks) (read : AreRowsRead tables r
     customers = customers.keeps;
     copies = refl;
     rentals = sym (itself (λ it. seen_rental_row (rental_row it)) (λ it. refl) rentals.its) ∙ sym (map-map seen_rental_row rental_row rentals.its) ∙ ap (map seen_rental_row) rentals.keeps;
+    terms = terms.keeps;
     payments = sym (itself (λ it. seen_payment_row (payment_row it)) (λ it. refl) payments.its) ∙ sym (map-map seen_payment_row payment_row payments.its) ∙ ap (map seen_payment_row) payments.keeps;
     lots = lots.keeps;
     kept = kept.kept_keys;
@@ -213,11 +231,13 @@ module _ (tables : TableRows) (rows : OrderedBooks) (read : AreRowsRead tables r
     customers = customers.has;
     copies = copy_rows;
     rentals = rentals.has;
+    terms = terms.has;
     payments = payments.has;
     lots = lots.has;
     consignments = IsPermutation-trans _ _ _ (subst (IsPermutation tables.consignments.items) (ap (map header_columns) header_list ∙ map-map header_columns header by_key) headers.has) (IsPermutation-map consignment_columns _ _ (same_by_place by_key));
     lines = IsPermutation-trans _ _ _ (subst (IsPermutation tables.lines.items) (ap (map placed_columns) (sym placed_list) ∙ as_placed by_key) placed_rows) (IsPermutation-flat_map line_rows _ _ (same_by_place by_key));
     kept = kept.has;
+    rule = subst (λ l. IsPermutation tables.rule.items (map rule_columns l)) rule.1 rules.has;
   }
 
   have_keys : HaveKeys canonical
@@ -228,6 +248,7 @@ module _ (tables : TableRows) (rows : OrderedBooks) (read : AreRowsRead tables r
     customers = apart same_row row_key row_test customers.its order.customers;
     copies = apart same_row row_key row_test (map seen_copy rows.copies.items) order.copies;
     rentals = apart same_row row_key row_test rentals.its order.rentals;
+    terms = apart same_row row_key row_test terms.its order.terms;
     payments = apart same_row row_key row_test payments.its order.payments;
     lots = apart (λ (a b : Owned Text). a.owner == b.owner && bytes_eq a.it b.it) (λ x. x.owner ∷ x.it) (λ x y. refl) lots.its
         (ap climbs (sym (map-map (λ (x : LotRow). x.branch ∷ x.name) lot_row lots.its) ∙ ap (map (λ (x : LotRow). x.branch ∷ x.name)) lots.keeps) ∙ ordered.lots);
@@ -261,6 +282,7 @@ module _ (tables : TableRows) (rows : OrderedBooks) (read : AreRowsRead tables r
       customers = customers.fit;
       copies = let r = read.copies in all_moved (IsRow IsCopy) _ _ (IsPermutation-map seen_copy _ _ r.same) (values_read seen_copy copy_columns (IsRow IsCopy) r.found tables.copies.items r.are_rows);
       rentals = rentals.fit;
+      terms = terms.fit;
       payments = payments.fit;
       lots = lots.fit;
       consignments = all_moved IsConsignment _ _ (same_by_place by_key) fitting;

@@ -1,5 +1,5 @@
 -- What was kept of a table's row is kept of a value of the books that has the row's columns, and no row of the table has others.
-use Rattle.std.proofs.Common.{◌≡◌, ◌≤◌, ◌<◌, ◌^◌, ℕ, List, [], ◌∷◌, Option, Some, None, Bool, refl, sym, ap, ◌∙◌, arith}
+use Rattle.std.proofs.Common.{◌≡◌, ◌≤◌, ◌<◌, ◌^◌, ℕ, List, [], ◌∷◌, Option, Some, None, Bool, true, false, refl, sym, ap, ◌∙◌, arith}
 use Rattle.std.specs.Prelude.{IfSome}
 use Rattle.sqlite.specs.declared.types.Value.TheVariants.{Text}
 use Rattle.sqlite.specs.Values.{or_null}
@@ -10,23 +10,25 @@ use Rattle.sql_rows.proofs.ColumnTests.{same_flag}
 use Rattle.shop_model.specs.Calendar.{Moment, IsMoment}
 use Rattle.shop_model.specs.Rows.{Row, Owned}
 use Rattle.shop_model.specs.Values as model
-use Rattle.shop_model.specs.Values.{City, Actor, Film, Cast, Branch, Staff, Customer, Rental, Payment}
-use Rattle.shop_schema.specs.Columns.{moment_value, chain_columns, named_columns, city_columns, actor_columns, film_columns, cast_columns, staff_columns, customer_columns, rental_columns, payment_columns, lot_columns}
-use Rattle.shop_schema.specs.RowValues.{IsNumber, IsName, IsToken, IsCity, IsActor, IsFilm, IsCast, IsBranch, IsStaff, IsRow, IsCustomer, IsRental, IsPayment, IsLot}
+use Rattle.shop_model.specs.Values.{City, Actor, Film, Cast, Branch, Staff, Customer, Rental, Terms, Payment, Rule, ByCode, ByComment}
+use Rattle.shop_schema.specs.Columns.{moment_value, chain_columns, named_columns, city_columns, actor_columns, film_columns, cast_columns, staff_columns, customer_columns, rental_columns, terms_columns, rule_columns, payment_columns, lot_columns}
+use Rattle.shop_schema.specs.RowValues.{IsNumber, IsName, IsToken, IsCity, IsActor, IsFilm, IsCast, IsBranch, IsStaff, IsRow, IsCustomer, IsRental, IsTerms, IsPayment, IsLot}
 use Rattle.shop_schema.proofs.SameRows.{same_moment_value, same_last, same_number_or_null}
 use Rattle.book_rows.specs.Kinds.{HaveKinds, IsOfKind}
 use Rattle.book_rows.specs.declared.kinds.Kind.TheVariants as kind
 use Rattle.book_rows.proofs.KindLemmas.{Spelled, spelled, next, in_range, ranged, equal_numbers}
 use Rattle.book_checks.specs.Joins.{Header}
-use Rattle.book_checks.specs.Ordered.{city_row, film_row, cast_row, branch_row, staff_row, customer_row, lot_row}
+use Rattle.book_checks.specs.Ordered.{city_row, film_row, cast_row, branch_row, staff_row, customer_row, terms_row, lot_row}
 use Rattle.book_checks.specs.declared.rows.CastRow.{CastRow}
 use Rattle.book_checks.specs.declared.rows.CustomerRow.{CustomerRow}
 use Rattle.book_checks.specs.declared.rows.RentalRow.{RentalRow}
+use Rattle.book_checks.specs.declared.rows.TermsRow.{TermsRow}
 use Rattle.book_checks.specs.declared.rows.PaymentRow.{PaymentRow}
 use Rattle.book_checks.specs.declared.rows.LotRow.{LotRow}
 use Rattle.book_checks.specs.declared.rows.HeaderRow.{HeaderRow}
-use Rattle.book_rows.specs.Rows.{row, row_or_null, chain_kinds, IsChainRow, named_kinds, IsNamedRow, city_kinds, IsCityRow, actor_kinds, IsActorRow, film_kinds, IsFilmRow, cast_kinds, IsCastRow, branch_kinds, IsBranchRow, staff_kinds, IsStaffRow, customer_kinds, IsCustomerRow, rental_kinds, IsRentalRow, payment_kinds, IsPaymentRow, lot_kinds, IsLotRow, header_kinds, IsHeaderRow}
+use Rattle.book_rows.specs.Rows.{row, row_or_null, chain_kinds, IsChainRow, rule_kinds, IsRuleRow, named_kinds, IsNamedRow, city_kinds, IsCityRow, actor_kinds, IsActorRow, film_kinds, IsFilmRow, cast_kinds, IsCastRow, branch_kinds, IsBranchRow, staff_kinds, IsStaffRow, customer_kinds, IsCustomerRow, rental_kinds, IsRentalRow, terms_kinds, IsTermsRow, payment_kinds, IsPaymentRow, lot_kinds, IsLotRow, header_kinds, IsHeaderRow}
 use Rattle.book_rows.specs.declared.shared.ChainRow.{ChainRow}
+use Rattle.book_rows.specs.declared.shared.RuleRow.{RuleRow}
 use Rattle.book_rows.specs.declared.shared.NamedRow.{NamedRow}
 use Rattle.book_rows.specs.declared.shared.NumberedCity.{NumberedCity}
 use Rattle.book_rows.specs.declared.shared.NumberedActor.{NumberedActor}
@@ -125,7 +127,7 @@ rental_row it = record { branch = it.branch; number = it.number; rental = record
 abbrev pub payment_row : Row Payment → PaymentRow
 payment_row it = record { branch = it.branch; number = it.number; payment = record { customer = it.it.customer; staff = it.it.staff; rental = it.it.rental; amount = it.it.amount; paid = it.it.paid } }
 
-only : (n : ℕ) → (1 ≤ n) × (n ≤ 1) → n ≡ 1
+only : (n : ℕ) → (2 ≤ n) × (n ≤ 2) → n ≡ 2
 only n h = omega (arith, h.0, h.1)
 
 -- ---- chain
@@ -140,7 +142,41 @@ chain_full r x h is = go (spelled chain_kinds r h)
         record { it = it; has = e; fits = k2; keeps = λ i. record { office_token = equal_texts r (chain_columns it) 1 x2 x.office_token e refl is i } }
 
 pub chain_one : (it : model.Text) → IsToken it → HaveKinds chain_kinds (chain_columns it)
-chain_one it h = ((1, (omega arith, omega arith), refl), ((it, h, refl), tt))
+chain_one it h = ((2, (omega arith, omega arith), refl), ((it, h, refl), tt))
+
+-- ---- rule
+
+abbrev is_comment : Rule → Bool
+is_comment ByCode = false
+is_comment ByComment = true
+
+abbrev pub rule_row : Rule → RuleRow
+rule_row it = record { by_comment = is_comment it }
+
+abbrev rule_of : Bool → Rule
+rule_of true = ByComment
+rule_of false = ByCode
+
+flagged : (b : Bool) → rule_columns (rule_of b) ≡ flag_value b ∷ []
+flagged true = refl
+flagged false = refl
+
+ruled : (it : Rule) → column (rule_columns it) 0 ≡ flag_value (is_comment it)
+ruled ByCode = refl
+ruled ByComment = refl
+
+pub rule_full : (r : sql.Row) (x : RuleRow) → HaveKinds rule_kinds r → IsRuleRow x r → FullOf rule_columns (λ it. Unit {0}) rule_row x r
+rule_full r x h is = go (spelled rule_kinds r h)
+  where
+    go : Spelled rule_kinds r → FullOf rule_columns (λ it. Unit {0}) rule_row x r
+    go (v1, r1, (x1, e1), z, g1) =
+        let it : Rule = rule_of x1 in
+        let e : rule_columns it ≡ r = flagged x1 ∙ next r r1 [] v1 _ g1 e1 z in
+        record { it = it; has = e; fits = tt; keeps = λ i. record { by_comment = equal_flags r (rule_columns it) 0 (is_comment it) x.by_comment e (ruled it) is i } }
+
+pub rule_one : (it : Rule) → Unit {0} → HaveKinds rule_kinds (rule_columns it)
+rule_one ByCode h = ((false, refl), tt)
+rule_one ByComment h = ((true, refl), tt)
 
 -- ---- named
 
@@ -267,6 +303,20 @@ rental_full r x h is = go (spelled rental_kinds r h)
 
 pub rental_one : (it : Row Rental) → (IsRow IsRental) it → HaveKinds rental_kinds (rental_columns it)
 rental_one it h = (number it.branch h.0, (number it.number h.1, ((it.it.rented, h.2.rented, refl), (number it.it.copy h.2.copy, (number it.it.customer h.2.customer, ((it.it.returned, h.2.returned, refl), (number it.it.staff h.2.staff, tt)))))))
+
+-- ---- terms
+
+pub terms_full : (r : sql.Row) (x : TermsRow) → HaveKinds terms_kinds r → IsTermsRow x r → FullOf terms_columns (IsRow IsTerms) terms_row x r
+terms_full r x h is = go (spelled terms_kinds r h)
+  where
+    go : Spelled terms_kinds r → FullOf terms_columns (IsRow IsTerms) terms_row x r
+    go (v1, r1, (x1, k1, e1), (v2, r2, (x2, k2, e2), (v3, r3, (x3, k3, e3), (v4, r4, (x4, k4, e4), (v5, r5, (x5, k5, e5), z, g5), g4), g3), g2), g1) =
+        let it : Row Terms = record { branch = x1; number = x2; it = record { rate = x3; period = x4; replacement = x5 } } in
+        let e : terms_columns it ≡ r = next r r1 _ v1 _ g1 e1 (sym (next r1 r2 _ v2 _ g2 e2 (sym (next r2 r3 _ v3 _ g3 e3 (sym (next r3 r4 _ v4 _ g4 e4 (sym (next r4 r5 [] v5 _ g5 e5 z)))))))) in
+        record { it = it; has = e; fits = (ranged x1 k1, ranged x2 k2, record { rate = k3.1; period = k4; replacement = k5.1 }); keeps = λ i. record { branch = equal_numbers r (terms_columns it) 0 x1 x.branch e refl is.branch i; number = equal_numbers r (terms_columns it) 1 x2 x.number e refl is.number i } }
+
+pub terms_one : (it : Row Terms) → (IsRow IsTerms) it → HaveKinds terms_kinds (terms_columns it)
+terms_one it h = (number it.branch h.0, (number it.number h.1, ((it.it.rate, (omega arith, h.2.rate), refl), ((it.it.period, h.2.period, refl), ((it.it.replacement, (omega arith, h.2.replacement), refl), tt)))))
 
 -- ---- payment
 

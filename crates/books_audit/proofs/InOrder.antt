@@ -12,9 +12,10 @@ use Rattle.book_checks.specs.Canons.{row_key}
 use Rattle.book_checks.specs.Joins.{header_key, placed_key}
 use Rattle.book_checks.specs.Seen.{seen_copy, seen_rental_row, seen_payment_row, seen_header, seen_placed}
 use Rattle.book_checks.specs.Shops.{is_among}
-use Rattle.book_checks.specs.Ordered.{AreOrdered, HaveOrderedRows, customer_row, branch_row, without_last}
+use Rattle.book_checks.specs.Ordered.{AreOrdered, HaveOrderedRows, customer_row, terms_row, branch_row, without_last}
 use Rattle.book_checks.specs.declared.books.OrderedBooks.{OrderedBooks}
 use Rattle.book_checks.specs.declared.rows.CustomerRow.{CustomerRow}
+use Rattle.book_checks.specs.declared.rows.TermsRow.{TermsRow}
 use Rattle.book_checks.proofs.JoinLemmas.{join_sound}
 use Rattle.book_checks.proofs.LastLemmas.{lasts_owned, lasts_apart}
 use Rattle.book_checks.proofs.Maps.{length-map}
@@ -32,6 +33,9 @@ module _ (rows : OrderedBooks) (c : Books) (has : HaveOrderedRows rows c) (order
 
   rentals : climbs (map row_key c.rentals) ≡ true
   rentals = ap climbs (ap (map row_key) has.rentals ∙ map-map row_key seen_rental_row rows.rentals.items) ∙ ordered.rentals
+
+  terms : climbs (map row_key c.terms) ≡ true
+  terms = ap climbs (sym (map-map (λ (x : TermsRow). x.branch ∷ x.number ∷ []) terms_row c.terms) ∙ ap (map (λ (x : TermsRow). x.branch ∷ x.number ∷ [])) has.terms) ∙ ordered.terms
 
   payments : climbs (map row_key c.payments) ≡ true
   payments = ap climbs (ap (map row_key) has.payments ∙ map-map row_key seen_payment_row rows.payments.items) ∙ ordered.payments
@@ -51,6 +55,7 @@ module _ (rows : OrderedBooks) (c : Books) (has : HaveOrderedRows rows c) (order
         customers = customers;
         copies = copies;
         rentals = rentals;
+        terms = terms;
         payments = payments;
         by_key = has.consignments.by_key;
         joined = IsPermutation-sym _ _ has.consignments.all;

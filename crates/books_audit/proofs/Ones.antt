@@ -4,13 +4,13 @@ use Rattle.std.specs.List.{AllByRecursion}
 use Rattle.sqlite_value.specs.Order as sql
 use Rattle.shop_model.specs.Rows.{numbered, numbered_from}
 use Rattle.shop_model.specs.Books.{Books, Consignment}
-use Rattle.shop_schema.specs.Columns.{chain_columns, named_columns, city_columns, actor_columns, film_columns, cast_columns, staff_columns, customer_columns, rental_columns, payment_columns, lot_columns, consignment_columns}
-use Rattle.shop_schema.specs.RowValues.{IsName, IsToken, IsCity, IsActor, IsFilm, IsCast, IsStaff, IsRow, IsCustomer, IsRental, IsPayment, IsLot, AreShared, IsConsignment}
+use Rattle.shop_schema.specs.Columns.{chain_columns, named_columns, city_columns, actor_columns, film_columns, cast_columns, staff_columns, customer_columns, rental_columns, terms_columns, rule_columns, payment_columns, lot_columns, consignment_columns}
+use Rattle.shop_schema.specs.RowValues.{IsName, IsToken, IsCity, IsActor, IsFilm, IsCast, IsStaff, IsRow, IsCustomer, IsRental, IsTerms, IsPayment, IsLot, AreShared, IsConsignment}
 use Rattle.book_rows.specs.declared.kinds.Kind.{Kind}
 use Rattle.book_rows.specs.Kinds.{HaveKinds}
 use Rattle.book_rows.proofs.KindLemmas.{ranged}
 use Rattle.book_checks.specs.Joins.{header}
-use Rattle.book_rows.specs.Rows.{chain_kinds, named_kinds, city_kinds, actor_kinds, film_kinds, cast_kinds, branch_kinds, staff_kinds, customer_kinds, rental_kinds, payment_kinds, lot_kinds, header_kinds}
+use Rattle.book_rows.specs.Rows.{chain_kinds, named_kinds, city_kinds, actor_kinds, film_kinds, cast_kinds, branch_kinds, staff_kinds, customer_kinds, rental_kinds, terms_kinds, rule_kinds, payment_kinds, lot_kinds, header_kinds}
 use Rattle.books_audit.specs.declared.tables.TableRows.{TableRows}
 use Rattle.books_audit.specs.Audits.{HaveBooks}
 use Rattle.books_audit.specs.Read.{HaveOnes}
@@ -42,6 +42,7 @@ ones_of tables b t =
     let v = t.values.catalogue in
     let r = t.rows in record {
       chain = other_ones chain_columns IsToken chain_kinds full.chain_one tables.chain.items (b.catalogue.office_token ∷ []) (v.office_token, tt) r.chain;
+      rule = other_ones rule_columns (λ it. Unit {0}) rule_kinds full.rule_one tables.rule.items (b.catalogue.rule ∷ []) (tt, tt) r.rule;
       countries = shared_ones named_columns IsName named_kinds full.named_one tables.countries.items b.catalogue.countries v.countries r.countries;
       languages = shared_ones named_columns IsName named_kinds full.named_one tables.languages.items b.catalogue.languages v.languages r.languages;
       categories = shared_ones named_columns IsName named_kinds full.named_one tables.categories.items b.catalogue.categories v.categories r.categories;
@@ -55,6 +56,7 @@ ones_of tables b t =
       staff = shared_ones staff_columns IsStaff staff_kinds full.staff_one tables.staff.items b.catalogue.staff v.staff r.staff;
       customers = other_ones customer_columns (IsRow IsCustomer) customer_kinds full.customer_one tables.customers.items b.customers t.values.customers r.customers;
       rentals = other_ones rental_columns (IsRow IsRental) rental_kinds full.rental_one tables.rentals.items b.rentals t.values.rentals r.rentals;
+      terms = other_ones terms_columns (IsRow IsTerms) terms_kinds full.terms_one tables.terms.items b.terms t.values.terms r.terms;
       payments = other_ones payment_columns (IsRow IsPayment) payment_kinds full.payment_one tables.payments.items b.payments t.values.payments r.payments;
       lots = other_ones lot_columns IsLot lot_kinds full.lot_one tables.lots.items b.lots t.values.lots r.lots;
       headers = other_ones consignment_columns IsConsignment header_kinds header_one tables.consignments.items b.consignments t.values.consignments r.consignments;

@@ -1,12 +1,15 @@
 -- Two books for which the same tables stand have the same rows.
-use Rattle.std.proofs.Common.{◌≡◌, ℕ, List, [], ◌∷◌, map, IsPermutation}
+use Rattle.std.proofs.Common.{◌≡◌, ℕ, List, [], ◌∷◌, map, arith, IsPermutation}
 use Rattle.std.specs.List.{AllByRecursion}
+use Rattle.std.proofs.lemmas.List.Sorted.{IsPermutation-trans, IsPermutation-sym}
+use Rattle.sql_rows.proofs.Bags.{short_bag}
 use Rattle.shop_model.specs.Rows.{numbered}
+use Rattle.shop_model.specs.Values.{Rule}
 use Rattle.shop_model.specs.Books.{Books}
-use Rattle.shop_schema.specs.Columns.{named_columns, city_columns, actor_columns, film_columns, cast_columns, staff_columns, customer_columns, copy_columns, rental_columns, payment_columns, lot_columns}
-use Rattle.shop_schema.specs.RowValues.{IsRow, IsCustomer, IsCopy, IsRental, IsPayment, IsLot, IsCast}
-use Rattle.shop_schema.proofs.SameRows.{same_film, same_customer, same_copy, same_rental, same_payment}
-use Rattle.books_audit.proofs.SameColumns.{same_named, same_city, same_actor, same_cast, same_staff, same_lot}
+use Rattle.shop_schema.specs.Columns.{named_columns, city_columns, actor_columns, film_columns, cast_columns, staff_columns, customer_columns, copy_columns, rental_columns, terms_columns, rule_columns, payment_columns, lot_columns}
+use Rattle.shop_schema.specs.RowValues.{IsRow, IsCustomer, IsCopy, IsRental, IsTerms, IsPayment, IsLot, IsCast}
+use Rattle.shop_schema.proofs.SameRows.{same_film, same_customer, same_copy, same_rental, same_terms, same_payment}
+use Rattle.books_audit.proofs.SameColumns.{same_rule, same_named, same_city, same_actor, same_cast, same_staff, same_lot}
 use Rattle.sqlite_value.specs.Order as sql
 use Rattle.book_checks.proofs.Standing.{same_rows, one_numbered}
 use Rattle.books_audit.specs.declared.tables.TableRows.{TableRows}
@@ -42,6 +45,14 @@ module _ (tables : TableRows) (c b : Books) (s : HaveBooks tables c) (t : HaveBo
   pub staff : c.catalogue.staff ≡ b.catalogue.staff
   staff = one_shared staff_columns same_staff tables.staff.items _ _ s.rows.staff t.rows.staff
 
+  pub rule : c.catalogue.rule ≡ b.catalogue.rule
+  rule =
+      let one = short_bag _ _ (IsPermutation-trans _ _ _ (IsPermutation-sym _ _ s.rows.rule) t.rows.rule) (omega arith) in
+      told c.catalogue.rule b.catalogue.rule one
+    where
+      told : (u v : Rule) → ◌≡◌ {A = List sql.Row} (rule_columns u ∷ []) (rule_columns v ∷ []) → u ≡ v
+      told u v h = let e : rule_columns u ≡ rule_columns v = cc in same_rule u v e
+
   pub casts : IsPermutation b.catalogue.casts c.catalogue.casts
   casts = same_rows cast_columns IsCast (λ x y _ _ e. same_cast x y e) tables.casts.items b.catalogue.casts c.catalogue.casts t.values.catalogue.casts s.values.catalogue.casts t.rows.casts s.rows.casts
 
@@ -53,6 +64,9 @@ module _ (tables : TableRows) (c b : Books) (s : HaveBooks tables c) (t : HaveBo
 
   pub rentals : IsPermutation b.rentals c.rentals
   rentals = same_rows rental_columns (IsRow IsRental) same_rental tables.rentals.items b.rentals c.rentals t.values.rentals s.values.rentals t.rows.rentals s.rows.rentals
+
+  pub terms : IsPermutation b.terms c.terms
+  terms = same_rows terms_columns (IsRow IsTerms) (λ x y _ _ e. same_terms x y e) tables.terms.items b.terms c.terms t.values.terms s.values.terms t.rows.terms s.rows.terms
 
   pub payments : IsPermutation b.payments c.payments
   payments = same_rows payment_columns (IsRow IsPayment) same_payment tables.payments.items b.payments c.payments t.values.payments s.values.payments t.rows.payments s.rows.payments

@@ -29,6 +29,7 @@ one_canon tables c b s t o =
         films = same.films tables c b s t i;
         branches = branches i;
         staff = same.staff tables c b s t i;
+        rule = same.rule tables c b s t i;
       };
       office_kept = kept.office_keys tables c b s t;
       casts = same.casts tables c b s t;
@@ -38,6 +39,8 @@ one_canon tables c b s t o =
       copies_climb = o.copies;
       rentals = same.rentals tables c b s t;
       rentals_climb = o.rentals;
+      terms = same.terms tables c b s t;
+      terms_climb = o.terms;
       payments = same.payments tables c b s t;
       payments_climb = o.payments;
       lots = same.lots tables c b s t;

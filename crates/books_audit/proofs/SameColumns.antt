@@ -1,9 +1,9 @@
--- Columns of shared rows, casts and lots are one to one.
-use Rattle.std.proofs.Common.{◌≡◌, ℕ}
+-- Columns of shared rows, casts, lots and the rule are one to one.
+use Rattle.std.proofs.Common.{◌≡◌, ℕ, refl, arith}
 use Rattle.sql_rows.proofs.ColumnTests.{same_flag}
 use Rattle.shop_model.specs.Rows.{Owned}
-use Rattle.shop_model.specs.Values.{Text, City, Actor, Cast, Staff}
-use Rattle.shop_schema.specs.Columns.{named_columns, city_columns, actor_columns, cast_columns, staff_columns, lot_columns}
+use Rattle.shop_model.specs.Values.{Text, City, Actor, Cast, Staff, Rule, ByCode, ByComment}
+use Rattle.shop_schema.specs.Columns.{named_columns, city_columns, actor_columns, cast_columns, staff_columns, lot_columns, rule_columns}
 
 pub same_named : (a b : ℕ × Text) → named_columns a ≡ named_columns b → a ≡ b
 same_named a b h = let number : a.0 ≡ b.0 = cc in let name : a.1 ≡ b.1 = cc in (λ i. (number i, name i))
@@ -40,3 +40,9 @@ same_staff a b h =
     let city : a.1.person.city ≡ b.1.person.city = cc in
     let gone : a.1.gone ≡ b.1.gone = same_flag a.1.gone b.1.gone cc in
     (λ i. (number i, record { branch = branch i; person = record { first = first i; last = last i; address = address i; postal = postal i; phone = phone i; city = city i }; gone = gone i }))
+
+pub same_rule : (a b : Rule) → rule_columns a ≡ rule_columns b → a ≡ b
+same_rule ByCode ByCode h = refl
+same_rule ByCode ByComment h = let e : ◌≡◌ {A = ℕ} 0 1 = cc in absurd (omega (arith, e))
+same_rule ByComment ByCode h = let e : ◌≡◌ {A = ℕ} 1 0 = cc in absurd (omega (arith, e))
+same_rule ByComment ByComment h = refl

@@ -218,3 +218,23 @@ pair_means = record { names = _; is = refl; plain = (refl, refl); unlisted = ref
 
 pub pair_shows : (r : Row) → (output (plain_query 50 [] (cols 1 1 3) []) ([] ∷ r ∷ [])).1 ≡ columns_of 3 r
 pair_shows r = refl
+
+abbrev pub terms_text : List ℕ
+terms_text = codes "SELECT branch, rental, rate, period, replacement FROM rental_terms"
+
+pub terms_means : Selects shop_schema terms_text (plain_query 57 [] (cols 1 1 5) [])
+unfolding understood everything
+terms_means = record { names = _; is = refl; plain = (refl, refl); unlisted = refl }
+
+pub terms_shows : (r : Row) → (output (plain_query 57 [] (cols 1 1 5) []) ([] ∷ r ∷ [])).1 ≡ columns_of 5 r
+terms_shows r = refl
+
+abbrev pub rule_text : List ℕ
+rule_text = codes "SELECT comment_rule FROM chain_rule"
+
+pub rule_means : Selects shop_schema rule_text (plain_query 59 [] (cols 1 1 1) [])
+unfolding understood everything
+rule_means = record { names = _; is = refl; plain = (refl, refl); unlisted = refl }
+
+pub rule_shows : (r : Row) → (output (plain_query 59 [] (cols 1 1 1) []) ([] ∷ r ∷ [])).1 ≡ columns_of 1 r
+rule_shows r = refl

@@ -36,6 +36,10 @@ module _ (trees : Trees) (tables : TableRows) (has : HaveTables trees tables) wh
     counters = IsPermutation-trans _ _ _ has.counters t.counts.counters;
     outs = IsPermutation-trans _ _ _ has.outs t.counts.outs;
     pairs = IsPermutation-trans _ _ _ has.pairs t.counts.pairs;
+    more = record {
+      terms_are = IsPermutation-trans _ _ _ has.terms t.without_counts.rows.terms;
+      rule_is = IsPermutation-trans _ _ _ has.rule t.without_counts.rows.rule;
+    };
   }
 
   tables_stand : (books : Books) → StandsFor trees books → AreValues books → HaveKeys books → StandsForBooks tables books
@@ -55,11 +59,13 @@ module _ (trees : Trees) (tables : TableRows) (has : HaveTables trees tables) wh
         customers = IsPermutation-trans _ _ _ (IsPermutation-sym _ _ has.customers) s.customers;
         copies = IsPermutation-trans _ _ _ (IsPermutation-sym _ _ has.copies) s.copies;
         rentals = IsPermutation-trans _ _ _ (IsPermutation-sym _ _ has.rentals) s.rentals;
+        terms = IsPermutation-trans _ _ _ (IsPermutation-sym _ _ has.terms) s.more.terms_are;
         payments = IsPermutation-trans _ _ _ (IsPermutation-sym _ _ has.payments) s.payments;
         lots = IsPermutation-trans _ _ _ (IsPermutation-sym _ _ has.lots) s.lots;
         consignments = IsPermutation-trans _ _ _ (IsPermutation-sym _ _ has.consignments) s.consignments;
         lines = IsPermutation-trans _ _ _ (IsPermutation-sym _ _ has.lines) s.lines;
         kept = IsPermutation-trans _ _ _ (IsPermutation-sym _ _ has.kept) s.kept;
+        rule = IsPermutation-trans _ _ _ (IsPermutation-sym _ _ has.rule) s.more.rule_is;
       };
       values = values;
       keys = keys;

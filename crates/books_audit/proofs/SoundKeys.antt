@@ -87,6 +87,7 @@ keys_of_sound rules books sound = record {
   customers = rows_apart books.customers sound.numbers.customers;
   copies = rows_apart books.copies sound.numbers.copies;
   rentals = rows_apart books.rentals sound.numbers.rentals;
+  terms = rows_apart books.terms sound.numbers.terms;
   payments = rows_apart books.payments sound.numbers.payments;
   lots = owned_apart (λ (x y : Text). bytes_eq x y) books.lots (λ b. different_congr _ _ (λ x y. bytes_eq_symm x y) (owned_by b books.lots) ∙ (sound.links b).lots);
   consignments = consignments_apart;

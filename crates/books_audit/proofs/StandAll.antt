@@ -3,7 +3,7 @@ use Rattle.shop_model.specs.Books.{Books}
 use Rattle.books_audit.specs.declared.tables.TableRows.{TableRows}
 use Rattle.books_audit.specs.Audits.{HaveBooks}
 use Rattle.books_audit.specs.ReadInOrder.{CanBeRead}
-use Rattle.books_audit.proofs.StandChain.{chain_can_be_read}
+use Rattle.books_audit.proofs.StandChain.{chain_can_be_read, rule_can_be_read}
 use Rattle.books_audit.proofs.StandKept.{kept_can_be_read}
 use Rattle.books_audit.proofs.StandShared.{named_can_be_read, filmed_can_be_read}
 use Rattle.books_audit.proofs.StandBranches.{placed_can_be_read}
@@ -15,6 +15,7 @@ pub can_be_read : (tables : TableRows) (b : Books) → HaveBooks tables b → Ca
 can_be_read tables b t = record {
   parts = record {
     chain = chain_can_be_read tables b t;
+    rule = rule_can_be_read tables b t;
     keys = kept_can_be_read tables b t;
     named = named_can_be_read tables b t;
     filmed = filmed_can_be_read tables b t;

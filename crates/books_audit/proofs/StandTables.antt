@@ -4,15 +4,15 @@ use Rattle.std.specs.Str.{bytes_eq}
 use Rattle.shop_model.specs.Rows.{Owned}
 use Rattle.shop_model.specs.Values.{Text, Cast}
 use Rattle.shop_model.specs.Books.{Books}
-use Rattle.shop_schema.specs.Columns.{cast_columns, customer_columns, rental_columns, payment_columns, lot_columns}
-use Rattle.shop_schema.specs.RowValues.{IsRow, IsCast, IsCustomer, IsRental, IsPayment, IsLot}
-use Rattle.shop_schema.proofs.SameRows.{same_customer, same_rental, same_payment}
+use Rattle.shop_schema.specs.Columns.{cast_columns, customer_columns, rental_columns, terms_columns, payment_columns, lot_columns}
+use Rattle.shop_schema.specs.RowValues.{IsRow, IsCast, IsCustomer, IsRental, IsTerms, IsPayment, IsLot}
+use Rattle.shop_schema.proofs.SameRows.{same_customer, same_rental, same_terms, same_payment}
 use Rattle.book_rows.specs.Kinds.{HaveKinds}
-use Rattle.book_checks.specs.Ordered.{cast_row, customer_row, lot_row}
+use Rattle.book_checks.specs.Ordered.{cast_row, customer_row, terms_row, lot_row}
 use Rattle.book_checks.specs.declared.rows.CastRow.{CastRow}
 use Rattle.book_checks.specs.declared.rows.LotRow.{LotRow}
 use Rattle.book_checks.proofs.Tests.{different_congr}
-use Rattle.book_rows.specs.Rows.{cast_kinds, IsCastRow, customer_kinds, IsCustomerRow, rental_kinds, IsRentalRow, payment_kinds, IsPaymentRow, lot_kinds, IsLotRow}
+use Rattle.book_rows.specs.Rows.{cast_kinds, IsCastRow, customer_kinds, IsCustomerRow, rental_kinds, IsRentalRow, terms_kinds, IsTermsRow, payment_kinds, IsPaymentRow, lot_kinds, IsLotRow}
 use Rattle.books_audit.specs.declared.tables.TableRows.{TableRows}
 use Rattle.books_audit.specs.Audits.{HaveBooks, same_row}
 use Rattle.books_audit.proofs.FullRows as full
@@ -37,6 +37,9 @@ module _ (tables : TableRows) (b : Books) (t : HaveBooks tables b) where
     rentals =
         stands_keyed rental_columns (IsRow IsRental) rental_row IsRentalRow (HaveKinds rental_kinds) full.rental_full full.rental_one same_rental tables.rentals.items b.rentals t.values.rentals t.rows.rentals
         (λ row. row.branch ∷ row.number ∷ []) (sym (different_congr same_row _ row_test b.rentals) ∙ t.keys.rentals);
+    terms =
+        stands_keyed terms_columns (IsRow IsTerms) terms_row IsTermsRow (HaveKinds terms_kinds) full.terms_full full.terms_one (λ x y _ _ e. same_terms x y e) tables.terms.items b.terms t.values.terms t.rows.terms
+        (λ row. row.branch ∷ row.number ∷ []) (sym (different_congr same_row _ row_test b.terms) ∙ t.keys.terms);
     payments =
         stands_keyed payment_columns (IsRow IsPayment) payment_row IsPaymentRow (HaveKinds payment_kinds) full.payment_full full.payment_one same_payment tables.payments.items b.payments t.values.payments t.rows.payments
         (λ row. row.branch ∷ row.number ∷ []) (sym (different_congr same_row _ row_test b.payments) ∙ t.keys.payments);

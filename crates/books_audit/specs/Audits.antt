@@ -14,7 +14,7 @@ use Rattle.book_checks.specs.Canons.{row_key}
 use Rattle.book_checks.specs.Joins.{header, placed, header_key, placed_key}
 use Rattle.shop_model.specs.Books.{Books, Consignment}
 use Rattle.shop_model.specs.Sound.{IsSound, widest, made, here, transit, gone}
-use Rattle.shop_schema.specs.Columns.{chain_columns, named_columns, city_columns, actor_columns, film_columns, cast_columns, branch_columns, staff_columns, customer_columns, copy_columns, rental_columns, payment_columns, lot_columns, consignment_columns, line_rows, kept_rows, counter_columns, out_columns, pair_columns}
+use Rattle.shop_schema.specs.Columns.{chain_columns, named_columns, city_columns, actor_columns, film_columns, cast_columns, branch_columns, staff_columns, customer_columns, copy_columns, rental_columns, terms_columns, payment_columns, lot_columns, consignment_columns, line_rows, kept_rows, counter_columns, out_columns, pair_columns, rule_columns}
 use Rattle.shop_schema.specs.Counts.{counts_of}
 use Rattle.shop_schema.specs.RowValues.{AreValues}
 use Rattle.books_audit.specs.declared.tables.TableRows.{TableRows}
@@ -39,11 +39,13 @@ pub record HaveRowsOf (tables : TableRows) (books : Books) : Type 0 where
   pub customers : IsPermutation tables.customers.items (map customer_columns books.customers)
   pub copies : IsPermutation tables.copies.items (map copy_columns books.copies)
   pub rentals : IsPermutation tables.rentals.items (map rental_columns books.rentals)
+  pub terms : IsPermutation tables.terms.items (map terms_columns books.terms)
   pub payments : IsPermutation tables.payments.items (map payment_columns books.payments)
   pub lots : IsPermutation tables.lots.items (map lot_columns books.lots)
   pub consignments : IsPermutation tables.consignments.items (map consignment_columns books.consignments)
   pub lines : IsPermutation tables.lines.items (flat_map line_rows books.consignments)
   pub kept : IsPermutation tables.kept.items (kept_rows books.kept books.catalogue.kept)
+  pub rule : IsPermutation tables.rule.items (rule_columns books.catalogue.rule ∷ [])
 
 -- the tables of counts say what the books have
 pub record HaveCountsOf (tables : TableRows) (books : Books) : Type 0 where
@@ -60,6 +62,7 @@ pub record HaveKeys (books : Books) : Type 0 where
   pub customers : are_different same_row books.customers ≡ true
   pub copies : are_different same_row books.copies ≡ true
   pub rentals : are_different same_row books.rentals ≡ true
+  pub terms : are_different same_row books.terms ≡ true
   pub payments : are_different same_row books.payments ≡ true
   pub lots : are_different (λ (a b : Owned Text). a.owner == b.owner && bytes_eq a.it b.it) books.lots ≡ true
   pub consignments : are_different (λ (a b : Consignment). a.source == b.source && a.addressee == b.addressee && a.number == b.number) books.consignments ≡ true
@@ -100,6 +103,7 @@ pub record AreInOrder (c : Books) : Type 0 where
   pub customers : climbs (map row_key c.customers) ≡ true
   pub copies : climbs (map row_key c.copies) ≡ true
   pub rentals : climbs (map row_key c.rentals) ≡ true
+  pub terms : climbs (map row_key c.terms) ≡ true
   pub payments : climbs (map row_key c.payments) ≡ true
   pub by_key : List Consignment  -- the consignments as they were joined, before they are put in the order of their places
   pub joined : IsPermutation c.consignments by_key

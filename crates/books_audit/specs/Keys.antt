@@ -8,7 +8,7 @@ use Rattle.book_rows.specs.Kinds.{HaveKinds}
 use Rattle.book_checks.specs.Lists.{Key, climbs}
 use Rattle.book_checks.specs.declared.rows.KeptRow.{KeptRow}
 use Rattle.book_rows.specs.Listed.{AreRows}
-use Rattle.book_rows.specs.Rows.{chain_kinds, IsOneKept, IsCallerRow}
+use Rattle.book_rows.specs.Rows.{chain_kinds, rule_kinds, IsOneKept, IsCallerRow}
 use Rattle.book_rows.specs.declared.kept.CallerRow.{CallerRow}
 use Rattle.books_audit.specs.Read.{RowsRead, office_caller, branch_caller}
 use Rattle.books_audit.specs.declared.tables.TableRows.{TableRows}
@@ -32,3 +32,8 @@ pub record KeptCanBeRead (tables : TableRows) : Type 0 where
 pub record ChainCanBeRead (tables : TableRows) : Type 0 where
   pub ones : AllByRecursion (HaveKinds chain_kinds) tables.chain.items
   pub one : length tables.chain.items ≡ 1
+
+-- there is one row
+pub record RuleCanBeRead (tables : TableRows) : Type 0 where
+  pub ones : AllByRecursion (HaveKinds rule_kinds) tables.rule.items
+  pub one : length tables.rule.items ≡ 1

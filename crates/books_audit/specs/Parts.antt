@@ -1,16 +1,17 @@
 -- What was read of all tables but those of counts.
 use Rattle.std.specs.Prelude.{◌≡◌, [], ◌∷◌, length}
 use Rattle.book_rows.specs.Kinds.{HaveKinds}
-use Rattle.book_rows.specs.Rows.{chain_kinds, IsChainRow}
+use Rattle.book_rows.specs.Rows.{chain_kinds, IsChainRow, rule_kinds, IsRuleRow}
 use Rattle.book_checks.specs.declared.books.OrderedBooks.{OrderedBooks}
 use Rattle.books_audit.specs.Read.{RowsRead}
 use Rattle.books_audit.specs.declared.tables.TableRows.{TableRows}
 use Rattle.books_audit.specs.declared.parts.Parts.{Parts}
 use Rattle.books_audit.specs.TableGroups.{NamedAreRead, NamedCanBeRead, FilmedAreRead, FilmedCanBeRead, PlacedAreRead, PlacedCanBeRead, StockIsRead, StockCanBeRead, DealsAreRead, DealsCanBeRead, SentAreRead, SentCanBeRead}
-use Rattle.books_audit.specs.Keys.{KeptAreRead, KeptCanBeRead, ChainCanBeRead}
+use Rattle.books_audit.specs.Keys.{KeptAreRead, KeptCanBeRead, ChainCanBeRead, RuleCanBeRead}
 
 pub record PartsAreRead (tables : TableRows) (parts : Parts) : Type 0 where
   pub chain : RowsRead IsChainRow (HaveKinds chain_kinds) tables.chain.items (record { office_token = parts.office_token } ∷ [])
+  pub rule : RowsRead IsRuleRow (HaveKinds rule_kinds) tables.rule.items (parts.rule ∷ [])
   pub keys : KeptAreRead tables parts.keys
   pub named : NamedAreRead tables parts.named
   pub filmed : FilmedAreRead tables parts.filmed
@@ -21,6 +22,7 @@ pub record PartsAreRead (tables : TableRows) (parts : Parts) : Type 0 where
 
 pub record PartsCanBeRead (tables : TableRows) : Type 0 where
   pub chain : ChainCanBeRead tables
+  pub rule : RuleCanBeRead tables
   pub keys : KeptCanBeRead tables
   pub named : NamedCanBeRead tables
   pub filmed : FilmedCanBeRead tables
@@ -45,6 +47,7 @@ pub record IsOf (parts : Parts) (rows : OrderedBooks) : Type 0 where
   pub customers : parts.deals.customers.items ≡ rows.customers.items
   pub copies : parts.stock.copies.items ≡ rows.copies.items
   pub rentals : parts.deals.rentals.items ≡ rows.rentals.items
+  pub terms : parts.deals.terms.items ≡ rows.terms.items
   pub payments : parts.deals.payments.items ≡ rows.payments.items
   pub lots : parts.stock.lots.items ≡ rows.lots.items
   pub kept : parts.keys.kept.items ≡ rows.kept.items

@@ -23,8 +23,9 @@ use Rattle.book_checks.specs.declared.rows.RentalRow.{RentalRow}
 use Rattle.book_checks.specs.declared.rows.HeaderRow.{HeaderRow}
 use Rattle.book_rows.specs.Listed.{AreRows}
 use Rattle.book_rows.specs.Placed.{IsCopyRow, IsLineRow}
-use Rattle.book_rows.specs.Rows.{chain_kinds, IsChainRow, named_kinds, IsNamedRow, city_kinds, IsCityRow, actor_kinds, IsActorRow, film_kinds, IsFilmRow, cast_kinds, IsCastRow, branch_kinds, IsBranchRow, staff_kinds, IsStaffRow, customer_kinds, IsCustomerRow, rental_kinds, IsRentalRow, payment_kinds, IsPaymentRow, lot_kinds, IsLotRow, header_kinds, IsHeaderRow, IsOneKept, IsCallerRow}
+use Rattle.book_rows.specs.Rows.{chain_kinds, IsChainRow, rule_kinds, IsRuleRow, named_kinds, IsNamedRow, city_kinds, IsCityRow, actor_kinds, IsActorRow, film_kinds, IsFilmRow, cast_kinds, IsCastRow, branch_kinds, IsBranchRow, staff_kinds, IsStaffRow, customer_kinds, IsCustomerRow, rental_kinds, IsRentalRow, terms_kinds, IsTermsRow, payment_kinds, IsPaymentRow, lot_kinds, IsLotRow, header_kinds, IsHeaderRow, IsOneKept, IsCallerRow}
 use Rattle.book_rows.specs.declared.kept.CallerRow.{CallerRow}
+use Rattle.book_rows.specs.declared.shared.RuleRow.{RuleRow}
 use Rattle.books_audit.specs.declared.tables.TableRows.{TableRows}
 
 -- A table of shared rows: what was kept of them, in the order of their numbers, which are 1, 2, ..
@@ -91,6 +92,8 @@ pub record HaveCounts (tables : TableRows) (rows : OrderedBooks) : Type 0 where
 -- all other tables are read
 pub record AreRowsRead (tables : TableRows) (rows : OrderedBooks) : Type 0 where
   pub chain : RowsRead IsChainRow (HaveKinds chain_kinds) tables.chain.items (record { office_token = rows.office_token } ∷ [])
+  pub rule_row : RuleRow
+  pub rule : RowsRead IsRuleRow (HaveKinds rule_kinds) tables.rule.items (rule_row ∷ [])
   pub countries : SharedRead IsNamedRow named_kinds (λ x. x.number) (λ x. x.name) tables.countries.items rows.countries.items
   pub languages : SharedRead IsNamedRow named_kinds (λ x. x.number) (λ x. x.name) tables.languages.items rows.languages.items
   pub categories : SharedRead IsNamedRow named_kinds (λ x. x.number) (λ x. x.name) tables.categories.items rows.categories.items
@@ -105,6 +108,7 @@ pub record AreRowsRead (tables : TableRows) (rows : OrderedBooks) : Type 0 where
   pub customers : RowsRead IsCustomerRow (HaveKinds customer_kinds) tables.customers.items rows.customers.items
   pub copies : RowsRead IsCopyRow (λ r. Unit {0}) tables.copies.items rows.copies.items
   pub rentals : RowsRead IsRentalRow (HaveKinds rental_kinds) tables.rentals.items rows.rentals.items
+  pub terms : RowsRead IsTermsRow (HaveKinds terms_kinds) tables.terms.items rows.terms.items
   pub payments : RowsRead IsPaymentRow (HaveKinds payment_kinds) tables.payments.items rows.payments.items
   pub lots : RowsRead IsLotRow (HaveKinds lot_kinds) tables.lots.items rows.lots.items
   pub headers : RowsRead IsHeaderRow (HaveKinds header_kinds) tables.consignments.items rows.headers.items
@@ -129,6 +133,7 @@ AreJoined rows = (by_key : List Consignment) × (join (map seen_header rows.head
 -- each row is one of its table
 pub record HaveOnes (tables : TableRows) : Type 0 where
   pub chain : AllByRecursion (HaveKinds chain_kinds) tables.chain.items
+  pub rule : AllByRecursion (HaveKinds rule_kinds) tables.rule.items
   pub countries : AllByRecursion (HaveKinds named_kinds) tables.countries.items
   pub languages : AllByRecursion (HaveKinds named_kinds) tables.languages.items
   pub categories : AllByRecursion (HaveKinds named_kinds) tables.categories.items
@@ -140,6 +145,7 @@ pub record HaveOnes (tables : TableRows) : Type 0 where
   pub staff : AllByRecursion (HaveKinds staff_kinds) tables.staff.items
   pub customers : AllByRecursion (HaveKinds customer_kinds) tables.customers.items
   pub rentals : AllByRecursion (HaveKinds rental_kinds) tables.rentals.items
+  pub terms : AllByRecursion (HaveKinds terms_kinds) tables.terms.items
   pub payments : AllByRecursion (HaveKinds payment_kinds) tables.payments.items
   pub lots : AllByRecursion (HaveKinds lot_kinds) tables.lots.items
   pub headers : AllByRecursion (HaveKinds header_kinds) tables.consignments.items

@@ -7,6 +7,7 @@ use Rattle.books_audit.specs.declared.shop_tables.FilmTables.{FilmTables}
 use Rattle.books_audit.specs.declared.shop_tables.BranchTables.{BranchTables}
 use Rattle.books_audit.specs.declared.shop_tables.SentTables.{SentTables}
 use Rattle.books_audit.specs.declared.shop_tables.CountTables.{CountTables}
+use Rattle.books_audit.specs.declared.shop_tables.TermTables.{TermTables}
 
 pub record HaveSharedTables (trees : Trees) (tables : SharedTables) : Type 0 where
   pub chain : IsPermutation (map (columns_of 2) (trees 0)) tables.chain.items
@@ -38,3 +39,7 @@ pub record HaveCountTables (trees : Trees) (tables : CountTables) : Type 0 where
   pub counters : IsPermutation (map (columns_of 3) (trees 41)) tables.counters.items
   pub outs : IsPermutation (map (columns_of 3) (trees 43)) tables.outs.items
   pub pairs : IsPermutation (map (columns_of 3) (trees 50)) tables.pairs.items
+
+pub record HaveTermTables (trees : Trees) (tables : TermTables) : Type 0 where
+  pub terms : IsPermutation (map (columns_of 5) (trees 57)) tables.terms.items
+  pub rule : IsPermutation (map (columns_of 1) (trees 59)) tables.rule.items

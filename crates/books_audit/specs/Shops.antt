@@ -26,6 +26,7 @@ pub record HaveTables (trees : Trees) (tables : TableRows) : Type 0 where
   pub customers : IsPermutation (map (columns_of 10) (trees 23)) tables.customers.items
   pub copies : IsPermutation (map (columns_of 6) (trees 25)) tables.copies.items
   pub rentals : IsPermutation (map (columns_of 7) (trees 27)) tables.rentals.items
+  pub terms : IsPermutation (map (columns_of 5) (trees 57)) tables.terms.items
   pub payments : IsPermutation (map (columns_of 7) (trees 30)) tables.payments.items
   pub lots : IsPermutation (map (columns_of 2) (trees 32)) tables.lots.items
   pub consignments : IsPermutation (map (columns_of 5) (trees 34)) tables.consignments.items
@@ -34,6 +35,7 @@ pub record HaveTables (trees : Trees) (tables : TableRows) : Type 0 where
   pub counters : IsPermutation (map (columns_of 3) (trees 41)) tables.counters.items
   pub outs : IsPermutation (map (columns_of 3) (trees 43)) tables.outs.items
   pub pairs : IsPermutation (map (columns_of 3) (trees 50)) tables.pairs.items
+  pub rule : IsPermutation (map (columns_of 1) (trees 59)) tables.rule.items
 
 -- Sound is true exactly where the tables stand for sound books of rows that the program can hold, and of such books the marks are counted.
 pub record IsAuditOfShop (trees : Trees) (audit : Audit) : Type 0 where

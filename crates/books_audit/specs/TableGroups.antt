@@ -6,12 +6,13 @@ use Rattle.book_checks.specs.declared.rows.CastRow.{CastRow}
 use Rattle.book_checks.specs.declared.rows.CustomerRow.{CustomerRow}
 use Rattle.book_checks.specs.declared.rows.CopyRow.{CopyRow}
 use Rattle.book_checks.specs.declared.rows.RentalRow.{RentalRow}
+use Rattle.book_checks.specs.declared.rows.TermsRow.{TermsRow}
 use Rattle.book_checks.specs.declared.rows.PaymentRow.{PaymentRow}
 use Rattle.book_checks.specs.declared.rows.LotRow.{LotRow}
 use Rattle.book_checks.specs.declared.rows.HeaderRow.{HeaderRow}
 use Rattle.book_checks.specs.declared.rows.LineRow.{LineRow}
 use Rattle.book_rows.specs.Placed.{IsCopyRow, IsLineRow, IsOneCopy, IsOneLine}
-use Rattle.book_rows.specs.Rows.{named_kinds, IsNamedRow, city_kinds, IsCityRow, actor_kinds, IsActorRow, film_kinds, IsFilmRow, cast_kinds, IsCastRow, branch_kinds, IsBranchRow, staff_kinds, IsStaffRow, customer_kinds, IsCustomerRow, rental_kinds, IsRentalRow, payment_kinds, IsPaymentRow, lot_kinds, IsLotRow, header_kinds, IsHeaderRow}
+use Rattle.book_rows.specs.Rows.{named_kinds, IsNamedRow, city_kinds, IsCityRow, actor_kinds, IsActorRow, film_kinds, IsFilmRow, cast_kinds, IsCastRow, branch_kinds, IsBranchRow, staff_kinds, IsStaffRow, customer_kinds, IsCustomerRow, rental_kinds, IsRentalRow, terms_kinds, IsTermsRow, payment_kinds, IsPaymentRow, lot_kinds, IsLotRow, header_kinds, IsHeaderRow}
 use Rattle.books_audit.specs.Read.{RowsRead}
 use Rattle.books_audit.specs.declared.tables.TableRows.{TableRows}
 use Rattle.books_audit.specs.ReadLists.{AreKeyed, AreInPlaces, PlacesRead}
@@ -72,12 +73,15 @@ pub record DealsAreRead (tables : TableRows) (deals : Deals) : Type 0 where
   pub customers_climb : climbs (map (λ (row : CustomerRow). row.branch ∷ row.number ∷ []) deals.customers.items) ≡ true
   pub rentals : RowsRead IsRentalRow (HaveKinds rental_kinds) tables.rentals.items deals.rentals.items
   pub rentals_climb : climbs (map (λ (row : RentalRow). row.branch ∷ row.number ∷ []) deals.rentals.items) ≡ true
+  pub terms : RowsRead IsTermsRow (HaveKinds terms_kinds) tables.terms.items deals.terms.items
+  pub terms_climb : climbs (map (λ (row : TermsRow). row.branch ∷ row.number ∷ []) deals.terms.items) ≡ true
   pub payments : RowsRead IsPaymentRow (HaveKinds payment_kinds) tables.payments.items deals.payments.items
   pub payments_climb : climbs (map (λ (row : PaymentRow). row.branch ∷ row.number ∷ []) deals.payments.items) ≡ true
 
 pub record DealsCanBeRead (tables : TableRows) : Type 0 where
   pub customers : AreKeyed IsCustomerRow (HaveKinds customer_kinds) (λ (row : CustomerRow). row.branch ∷ row.number ∷ []) tables.customers.items
   pub rentals : AreKeyed IsRentalRow (HaveKinds rental_kinds) (λ (row : RentalRow). row.branch ∷ row.number ∷ []) tables.rentals.items
+  pub terms : AreKeyed IsTermsRow (HaveKinds terms_kinds) (λ (row : TermsRow). row.branch ∷ row.number ∷ []) tables.terms.items
   pub payments : AreKeyed IsPaymentRow (HaveKinds payment_kinds) (λ (row : PaymentRow). row.branch ∷ row.number ∷ []) tables.payments.items
 
 pub record SentAreRead (tables : TableRows) (sent : Sent) : Type 0 where

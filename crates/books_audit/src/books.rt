@@ -1,6 +1,6 @@
 //! The audit of all tables.
 
-ghost use Rattle.std.specs.Prelude.{IfOk};
+ghost use Rattle.std.specs.Prelude.{◌≡◌, IfOk, OnOk};
 ghost use Rattle.sqlite.specs.Held.{state};
 ghost use Rattle.sqlite.specs.State.{HasCleanDisk};
 ghost use Rattle.sql_rows.specs.Calls.{StaysInside};
@@ -35,7 +35,8 @@ pub fn check_books(alloc: Global, tables: &TableRows) -> Result<Audit, NoMemory>
     audit_ordered(alloc, &rows)
 }
 
-/// The audit of a shop's tables, whatever they hold, which reads each once and changes none. `shop` says the same of the books for which the tables stand.
+/// The audit of a shop's tables, whatever they hold, which reads each once and changes none (`same`), also where the transaction has written. `shop` says what
+/// `audit` does of the books for which the tables stand.
 pub fn audit_books<S: Alter>(
     alloc: Global,
     tx: &mut Transaction<'_, S>,
@@ -43,6 +44,8 @@ pub fn audit_books<S: Alter>(
     ensures inside { StaysInside S.Store tx.old.conn tx.new.conn result }
     ensures audit { HasCleanDisk (state S.Store tx.new.conn.now) → IsShop (state S.Store tx.old.conn.now)
         → IfOk result (λ audit. (tables : TableRows) → HaveTables (state S.Store tx.old.conn.now).now.trees tables → IsAuditOf tables audit) }
+    ensures same { HasCleanDisk (state S.Store tx.new.conn.now) → IsShop (state S.Store tx.old.conn.now)
+        → OnOk result ((state S.Store tx.new.conn.now).now ≡ (state S.Store tx.old.conn.now).now) }
     ensures shop { HasCleanDisk (state S.Store tx.new.conn.now) → IsShop (state S.Store tx.old.conn.now)
         → IfOk result (IsAuditOfShop (state S.Store tx.old.conn.now).now.trees) }
 {

@@ -1,17 +1,17 @@
-//! Keys of kept commands, and the one row of the chain.
+//! Keys of kept commands, and the one row of the chain and of its rule.
 
 ghost use Rattle.std.specs.Prelude.{[], ◌∷◌, ◌++◌, map, IsPermutation, IfOk, IfSome, IfNone};
 ghost use Rattle.std.specs.List.{AllByRecursion};
 ghost use Rattle.book_rows.specs.Kinds.{HaveKinds};
 ghost use Rattle.shop_schema.specs.RowValues.{IsNumber};
 ghost use Rattle.book_checks.specs.declared.rows.KeptRow.{KeptRow};
-ghost use Rattle.book_rows.specs.Rows.{chain_kinds, IsChainRow};
+ghost use Rattle.book_rows.specs.Rows.{chain_kinds, IsChainRow, rule_kinds, IsRuleRow};
 ghost use Rattle.books_audit.specs.Read.{RowsRead, office_caller, branch_caller};
-ghost use Rattle.books_audit.specs.Keys.{KeptAreRead, KeptCanBeRead, ChainCanBeRead};
+ghost use Rattle.books_audit.specs.Keys.{KeptAreRead, KeptCanBeRead, ChainCanBeRead, RuleCanBeRead};
 
 use crate::tables::TableRows;
 use book_checks::{KeptRow, climbs, sort_rows};
-use book_rows::{CallerRow, ChainRow, read_rows};
+use book_rows::{CallerRow, ChainRow, RuleRow, read_rows};
 use shop_types::{BranchNo, Key, NoMemory, Token};
 use std::alloc::Global;
 
@@ -84,4 +84,21 @@ pub(crate) fn read_chain(alloc: Global, tables: &TableRows) -> Result<Option<Tok
         return Ok(None);
     }
     Ok(Some(first.office_token))
+}
+
+/// What is kept of the one row that has the rule of balances.
+pub(crate) fn read_rule(alloc: Global, tables: &TableRows) -> Result<Option<RuleRow>, NoMemory>
+    ensures read { IfOk result (λ o. IfSome o (λ row. RowsRead IsRuleRow (HaveKinds rule_kinds) tables.now.rule.items (row ∷ []))) }
+    ensures none { IfOk result (λ o. IfNone o (¬ RuleCanBeRead tables.now)) }
+{
+    let Some(rows) = read_rows::<RuleRow>(alloc, tables.rule.as_slice())? else {
+        return Ok(None);
+    };
+    let Some((first, rest)) = rows.as_slice().split_first() else {
+        return Ok(None);
+    };
+    if !rest.is_empty() {
+        return Ok(None);
+    }
+    Ok(Some(*first))
 }

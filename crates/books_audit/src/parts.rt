@@ -3,13 +3,14 @@
 ghost use Rattle.std.specs.Prelude.{◌≡◌, true, length, IfOk, IfSome, IfNone};
 ghost use Rattle.books_audit.specs.Parts.{PartsAreRead, PartsCanBeRead, IsOf};
 
-use crate::kept::{Keys, read_chain, read_kept};
+use crate::kept::{Keys, read_chain, read_kept, read_rule};
 use crate::table_groups::{
     Deals, Filmed, Named, Placed, Sent, Stock, read_deals, read_filmed, read_named, read_placed,
     read_sent, read_stock,
 };
 use crate::tables::TableRows;
 use book_checks::OrderedBooks;
+use book_rows::RuleRow;
 use shop_types::{NoMemory, Token};
 use std::alloc::Global;
 
@@ -17,6 +18,7 @@ use std::alloc::Global;
 #[derive(Drop)]
 pub(crate) struct Parts {
     pub(crate) office_token: Token,
+    pub(crate) rule: RuleRow,
     pub(crate) keys: Keys,
     pub(crate) named: Named,
     pub(crate) filmed: Filmed,
@@ -32,6 +34,9 @@ pub(crate) fn read_parts(alloc: Global, tables: &TableRows) -> Result<Option<Par
     ensures none { IfOk result (λ o. IfNone o (¬ PartsCanBeRead tables.now)) }
 {
     let Some(office_token) = read_chain(alloc, tables)? else {
+        return Ok(None);
+    };
+    let Some(rule) = read_rule(alloc, tables)? else {
         return Ok(None);
     };
     let Some(keys) = read_kept(alloc, tables)? else {
@@ -57,6 +62,7 @@ pub(crate) fn read_parts(alloc: Global, tables: &TableRows) -> Result<Option<Par
     };
     Ok(Some(Parts {
         office_token,
+        rule,
         keys,
         named,
         filmed,
@@ -80,6 +86,7 @@ pub(crate) fn in_order(parts: Parts) -> OrderedBooks
         stock,
         deals,
         sent,
+        ..
     } = parts;
     OrderedBooks {
         office_token,
@@ -96,6 +103,7 @@ pub(crate) fn in_order(parts: Parts) -> OrderedBooks
         customers: deals.customers,
         copies: stock.copies,
         rentals: deals.rentals,
+        terms: deals.terms,
         payments: deals.payments,
         lots: stock.lots,
         kept: keys.kept,

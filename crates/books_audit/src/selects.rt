@@ -236,3 +236,25 @@ pub(crate) fn pair_rows<S: Alter>(tx: &mut Transaction<'_, S>) -> Result<Vec<Row
 {
     query(tx, "SELECT source, addressee, last FROM pair_count", &[])
 }
+
+/// The rows of the table of rentals' terms.
+pub(crate) fn terms_rows<S: Alter>(tx: &mut Transaction<'_, S>) -> Result<Vec<Row>, StoreFault>
+    ensures inside { StaysInside S.Store tx.old.conn tx.new.conn result }
+    ensures rows { HasCleanDisk (state S.Store tx.new.conn.now) → IsShop (state S.Store tx.old.conn.now)
+        → IfOk result (λ rows. TellsTable 57 5 (state S.Store tx.old.conn.now) (state S.Store tx.new.conn.now) rows.items) }
+{
+    query(
+        tx,
+        "SELECT branch, rental, rate, period, replacement FROM rental_terms",
+        &[],
+    )
+}
+
+/// The rows of the table that has the rule of balances.
+pub(crate) fn rule_rows<S: Alter>(tx: &mut Transaction<'_, S>) -> Result<Vec<Row>, StoreFault>
+    ensures inside { StaysInside S.Store tx.old.conn tx.new.conn result }
+    ensures rows { HasCleanDisk (state S.Store tx.new.conn.now) → IsShop (state S.Store tx.old.conn.now)
+        → IfOk result (λ rows. TellsTable 59 1 (state S.Store tx.old.conn.now) (state S.Store tx.new.conn.now) rows.items) }
+{
+    query(tx, "SELECT comment_rule FROM chain_rule", &[])
+}

@@ -6,12 +6,13 @@ ghost use Rattle.sqlite.specs.State.{HasCleanDisk};
 ghost use Rattle.sql_rows.specs.Calls.{StaysInside};
 ghost use Rattle.shop_schema.specs.Shop.{IsShop};
 ghost use Rattle.books_audit.specs.Shops.{HaveTables};
-ghost use Rattle.books_audit.specs.ShopTables.{HaveSharedTables, HaveFilmTables, HaveBranchTables, HaveSentTables, HaveCountTables};
+ghost use Rattle.books_audit.specs.ShopTables.{HaveSharedTables, HaveFilmTables, HaveBranchTables, HaveSentTables, HaveCountTables, HaveTermTables};
 
 use crate::selects::{
     actor_rows, branch_rows, cast_rows, category_rows, chain_rows, city_rows, consignment_rows,
     copy_rows, counter_rows, country_rows, customer_rows, film_rows, kept_rows, language_rows,
-    line_rows, lot_rows, out_rows, pair_rows, payment_rows, rental_rows, staff_rows,
+    line_rows, lot_rows, out_rows, pair_rows, payment_rows, rental_rows, rule_rows, staff_rows,
+    terms_rows,
 };
 use crate::tables::TableRows;
 use sql_rows::StoreFault;
@@ -150,17 +151,35 @@ fn count_tables<S: Alter>(tx: &mut Transaction<'_, S>) -> Result<CountTables, St
     })
 }
 
+/// The terms of rentals, and the row that has the rule of balances.
+#[derive(Drop)]
+pub(crate) struct TermTables {
+    pub(crate) terms: Vec<Row>,
+    pub(crate) rule: Vec<Row>,
+}
+
+fn term_tables<S: Alter>(tx: &mut Transaction<'_, S>) -> Result<TermTables, StoreFault>
+    ensures inside { StaysInside S.Store tx.old.conn tx.new.conn result }
+    ensures rows { HasCleanDisk (state S.Store tx.new.conn.now) → IsShop (state S.Store tx.old.conn.now)
+        → IfOk result (λ tables. HaveTermTables (state S.Store tx.old.conn.now).now.trees tables × ((state S.Store tx.new.conn.now).now ≡ (state S.Store tx.old.conn.now).now)) }
+{
+    let terms = terms_rows(tx)?;
+    let rule = rule_rows(tx)?;
+    Ok(TermTables { terms, rule })
+}
+
 /// The rows of all tables, which stay as they are.
 pub(crate) fn read_tables<S: Alter>(tx: &mut Transaction<'_, S>) -> Result<TableRows, StoreFault>
     ensures inside { StaysInside S.Store tx.old.conn tx.new.conn result }
     ensures rows { HasCleanDisk (state S.Store tx.new.conn.now) → IsShop (state S.Store tx.old.conn.now)
-        → IfOk result (HaveTables (state S.Store tx.old.conn.now).now.trees) }
+        → IfOk result (λ tables. HaveTables (state S.Store tx.old.conn.now).now.trees tables × ((state S.Store tx.new.conn.now).now ≡ (state S.Store tx.old.conn.now).now)) }
 {
     let shared = shared_tables(tx)?;
     let films = film_tables(tx)?;
     let branches = branch_tables(tx)?;
     let sent = sent_tables(tx)?;
     let counts = count_tables(tx)?;
+    let terms = term_tables(tx)?;
     Ok(TableRows {
         chain: shared.chain,
         countries: shared.countries,
@@ -175,6 +194,7 @@ pub(crate) fn read_tables<S: Alter>(tx: &mut Transaction<'_, S>) -> Result<Table
         customers: branches.customers,
         copies: branches.copies,
         rentals: branches.rentals,
+        terms: terms.terms,
         payments: branches.payments,
         lots: branches.lots,
         consignments: sent.consignments,
@@ -183,5 +203,6 @@ pub(crate) fn read_tables<S: Alter>(tx: &mut Transaction<'_, S>) -> Result<Table
         counters: counts.counters,
         outs: counts.outs,
         pairs: counts.pairs,
+        rule: terms.rule,
     })
 }

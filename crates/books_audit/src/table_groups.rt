@@ -7,7 +7,7 @@ use crate::lists::{read_keyed, read_shared};
 use crate::tables::TableRows;
 use book_checks::{
     BranchRow, CastRow, CityRow, CopyRow, CustomerRow, FilmRow, HeaderRow, LineRow, LotRow,
-    PaymentRow, RentalRow, StaffRow,
+    PaymentRow, RentalRow, StaffRow, TermsRow,
 };
 use book_rows::{
     NamedRow, NumberedActor, NumberedBranch, NumberedCity, NumberedFilm, NumberedStaff,
@@ -119,11 +119,12 @@ pub(crate) fn read_stock(alloc: Global, tables: &TableRows) -> Result<Option<Sto
     Ok(Some(Stock { copies, lots }))
 }
 
-/// Customers, with their rentals and payments.
+/// Customers, with their rentals, the terms of these, and payments.
 #[derive(Drop)]
 pub(crate) struct Deals {
     pub(crate) customers: Vec<CustomerRow>,
     pub(crate) rentals: Vec<RentalRow>,
+    pub(crate) terms: Vec<TermsRow>,
     pub(crate) payments: Vec<PaymentRow>,
 }
 
@@ -137,12 +138,16 @@ pub(crate) fn read_deals(alloc: Global, tables: &TableRows) -> Result<Option<Dea
     let Some(rentals) = read_keyed::<RentalRow>(alloc, tables.rentals.as_slice())? else {
         return Ok(None);
     };
+    let Some(terms) = read_keyed::<TermsRow>(alloc, tables.terms.as_slice())? else {
+        return Ok(None);
+    };
     let Some(payments) = read_keyed::<PaymentRow>(alloc, tables.payments.as_slice())? else {
         return Ok(None);
     };
     Ok(Some(Deals {
         customers,
         rentals,
+        terms,
         payments,
     }))
 }

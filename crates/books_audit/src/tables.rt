@@ -18,6 +18,7 @@ pub struct TableRows {
     pub customers: Vec<Row>,
     pub copies: Vec<Row>,
     pub rentals: Vec<Row>,
+    pub terms: Vec<Row>,
     pub payments: Vec<Row>,
     pub lots: Vec<Row>,
     pub consignments: Vec<Row>,
@@ -26,4 +27,5 @@ pub struct TableRows {
     pub counters: Vec<Row>,
     pub outs: Vec<Row>,
     pub pairs: Vec<Row>,
+    pub rule: Vec<Row>,
 }

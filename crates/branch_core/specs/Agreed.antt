@@ -1,17 +1,18 @@
 -- When what was found is what a catalogue and a shop have of the rows that a command names.
-use Rattle.std.specs.Prelude.{◌≡◌, ℕ, ◌==◌, ◌&&◌, ◌≤◌, Bool, false, Option, is_some, not, List, map, filter, length, option_map, IfSome, Result, Ok, Err, IfOk}
+use Rattle.std.specs.Prelude.{◌≡◌, ℕ, ◌==◌, ◌&&◌, ◌≤◌, Bool, false, Option, is_some, not, List, [], ◌∷◌, map, filter, length, option_map, IfSome, Result, Ok, Err, IfOk}
 use Rattle.std.specs.List.{All, list_any}
 use Rattle.std.specs.Str.{bytes_eq}
 use Rattle.shop_model.specs.Calendar.{Moment, same_moment}
 use Rattle.shop_model.specs.Rows.{at, lacks, numbered}
 use Rattle.shop_model.specs.Values as model
 use Rattle.shop_model.specs.Values.{Text, Customer, Copy, Arrival, Act, Command, Stock, Copies, BadLine, Rules}
-use Rattle.shop_model.specs.Stock.{is_here, in_stock}
+use Rattle.shop_model.specs.Stock.{is_here, in_stock, terms_now}
 use Rattle.shop_model.specs.Shop.{Kept, Catalogue, Shop, same_command, same_flag}
 use Rattle.shop_model.specs.Verdict.{is_film_withdrawn, is_away, arrival}
 use Rattle.shop_model.specs.Books.{head}
 use Rattle.shop_types.specs.declared.refusal.BadCsv.{BadCsv}
 use Rattle.shop_types.specs.declared.parcel.ParcelLine.{ParcelLine}
+use Rattle.shop_types.specs.Seen.{seen_terms}
 use Rattle.shop_types.specs.Verdicts.{seen_kept, seen_post, post_of}
 use Rattle.branch_core.specs.declared.film_copies.FilmCopy.{FilmCopy}
 use Rattle.branch_core.specs.declared.found.StockFound.{StockFound}
@@ -54,6 +55,10 @@ seen_copy copy = (copy.is_here, copy.is_withdrawn, copy.is_out)
 abbrev pub copy_at : Catalogue → Shop → ℕ → Option (Bool × Bool × Bool)
 copy_at catalogue shop x = head (map (λ (it : Copy). (is_here it, is_film_withdrawn catalogue it.film, not (in_stock x shop.rentals))) (at x shop.copies))
 
+-- the terms of a copy that was found are those of its film as it stands
+abbrev pub HasTermsNow : Catalogue → Shop → ℕ → Option CopyFound → Type 0
+HasTermsNow catalogue shop x found = IfSome found (λ copy. terms_now catalogue shop x ≡ seen_terms copy.terms ∷ [])
+
 -- whether there is a rental of the moment, of the copy and by the customer
 abbrev pub has_rental : Moment → ℕ → ℕ → Shop → Bool
 has_rental moment c x shop = list_any (λ (it : model.Rental). same_moment it.rented moment && it.copy == x && it.customer == c) shop.rentals
@@ -85,6 +90,7 @@ arrival_at source number shop = head (map (λ (it : Arrival). (it.received, it.f
 pub record RentAgrees (catalogue : Catalogue) (shop : Shop) (moment : Moment) (c x : ℕ) (it : RowsFound) : Type 0 where
   pub customer : it.customer ≡ active_at c shop
   pub copy : option_map seen_copy it.copy ≡ copy_at catalogue shop x
+  pub terms : HasTermsNow catalogue shop x it.copy
   pub same : it.has_same ≡ has_rental moment c x shop
 
 pub record PayAgrees (shop : Shop) (c : ℕ) (rental : Option ℕ) (it : RowsFound) : Type 0 where

@@ -4,7 +4,7 @@ ghost use Rattle.std.specs.Prelude.{◌≡◌, false, None};
 
 use crate::StockRows;
 use shop_types::{
-    BadCsv, CopyNo, CustomerNo, FilmNo, KeptFound, Moment, ParcelLines, RentalNo, StaffFound,
+    BadCsv, CopyNo, CustomerNo, FilmNo, KeptFound, Moment, ParcelLines, RentalNo, StaffFound, Terms,
 };
 use std::alloc::Global;
 
@@ -29,6 +29,8 @@ pub struct CopyFound {
     pub is_withdrawn: bool,
     /// Whether a customer has it.
     pub is_out: bool,
+    /// What a rental of its film is charged by now.
+    pub terms: Terms,
 }
 
 /// A rental that a command names.

@@ -3,10 +3,11 @@ use Rattle.std.specs.Prelude.{◌≡◌, ◌≤◌, ℕ, ◌+◌, ◌*◌, zero,
 use Rattle.std.specs.Option.{IfSome}
 use Rattle.std.specs.Ordering.{nat_cmp}
 use Rattle.std.specs.BTreeMap.{BTreeMap, get}
-use Rattle.shop_model.specs.Rows.{at}
-use Rattle.shop_model.specs.Values.{Rental, Payment, Ask, FilmInStock, FilmNotInStock}
-use Rattle.shop_model.specs.Shop.{Shop}
+use Rattle.shop_model.specs.Rows.{Row, at}
+use Rattle.shop_model.specs.Values.{Rental, Terms, Payment, Ask, FilmInStock, FilmNotInStock}
+use Rattle.shop_model.specs.Shop.{Catalogue, Shop}
 use Rattle.shop_model.specs.Stock.{is_here, in_stock, film_in_stock, film_not_in_stock}
+use Rattle.shop_model.specs.Views.{OverdueRow, overdue_row}
 use Rattle.shop_model.specs.Books.{Books, unmarked}
 use Rattle.film_cache.specs.declared.cache.CachedFilm.{CachedFilm}
 use Rattle.film_cache.specs.Cached.{AreRows}
@@ -15,7 +16,8 @@ use Rattle.shop_store.specs.declared.copies.CopyRow.{CopyRow}
 use Rattle.shop_store.specs.declared.payments.PaymentRow.{PaymentRow}
 use Rattle.shop_store.specs.Seen.{seen_copy_row}
 use Rattle.balance_rule.specs.declared.rows.Paid.{Paid}
-use Rattle.balance_rule.specs.Balance.{amount_of, paid_of}
+use Rattle.balance_rule.specs.declared.rows.RentalTerms.{RentalTerms}
+use Rattle.balance_rule.specs.Balance.{amount_of, paid_of, terms_of}
 use Rattle.balance_rule.specs.Rewards.{is_on, passes}
 use Rattle.branch_looks.specs.declared.rewards.PaidSum.{PaidSum}
 
@@ -45,11 +47,21 @@ stock_listed false film shop = film_not_in_stock film shop
 abbrev pub Knows : {X : Type 0} → List (ℕ × CachedFilm) → List (ℕ × CachedFilm) → (X → Books → Type 0) → X → Books → Type 0
 Knows before after Says found books = AreRows before books.catalogue.films → Says found books × AreRows after books.catalogue.films
 
+-- ---- balances
+
+-- what a balance reads of a branch's rental, by the terms under its number
+abbrev pub charged : List Terms → Row Rental → List RentalTerms
+charged terms row = map (λ (it : Terms). terms_of (row.it, it)) (at row.number terms)
+
 -- ---- overdue rentals
 
--- the rentals of the numbers, in the order of these
-abbrev pub rentals_at : List ℕ → List Rental → List Rental
-rentals_at numbers rentals = flat_map (λ n. at n rentals) numbers
+-- those of the numbers, in the order of these
+abbrev pub all_at : {A : Type 0} → List ℕ → List A → List A
+all_at numbers xs = flat_map (λ n. at n xs) numbers
+
+-- a rental as it is listed
+abbrev pub listed : Catalogue → Shop → Rental × Terms → OverdueRow
+listed catalogue shop it = overdue_row catalogue shop it.0
 
 -- ---- rewards
 

@@ -4,53 +4,50 @@ ghost use Rattle.std.specs.Prelude.{◌≡◌, ◌++◌, map, flat_map, OnOk};
 ghost use Rattle.std.specs.Option.{option_to_list};
 ghost use Rattle.sqlite.specs.Held.{state};
 ghost use Rattle.sql_rows.specs.Calls.{StaysWithin};
+ghost use Rattle.shop_model.specs.Rows.{of};
 ghost use Rattle.shop_model.specs.Books.{shop_of};
-ghost use Rattle.shop_types.specs.Seen.{seen_payment, seen_rental};
+ghost use Rattle.shop_types.specs.Seen.{seen_payment};
 ghost use Rattle.shop_schema.specs.Calls.{Finds};
-ghost use Rattle.balance_rule.specs.Balance.{AreTermsOf, ArePaidBy, paid_of, terms_of};
-ghost use Rattle.branch_looks.specs.Finds.{Knows};
+ghost use Rattle.shop_store.specs.Seen.{seen_rental_row};
+ghost use Rattle.balance_rule.specs.Balance.{AreTermsOf, ArePaidBy, paid_of};
+ghost use Rattle.branch_looks.specs.Finds.{charged};
 
-use crate::known::find_film;
 use balance_rule::{Paid, RentalTerms};
-use film_cache::FilmCache;
-use shop_store::{RentalRow, copy_at, payments_of_customer, rentals_of_customer};
-use shop_types::{BranchNo, CustomerNo, Payment, Rental};
+use shop_store::{RentalRow, payments_of_customer, rentals_of_customer, terms_at};
+use shop_types::{BranchNo, CustomerNo, Payment};
 use sql_rows::StoreFault;
 use sqlite::{Alter, Transaction};
 use std::alloc::Global;
 
-/// The customer's rentals, in order of number, each with its film's rate and period as they are now.
+/// The customer's rentals, in order of number, each with its terms.
 pub fn find_terms<S: Alter>(
     alloc: Global,
     tx: &mut Transaction<'_, S>,
-    films: &mut FilmCache,
     branch: BranchNo,
     customer: CustomerNo,
 ) -> Result<Vec<RentalTerms>, StoreFault>
     ensures inside { StaysWithin S.Store tx.old.conn tx.new.conn result }
     ensures found { Finds (state S.Store tx.old.conn.now) (state S.Store tx.new.conn.now) result
-        (Knows films.old films.new (λ terms books. AreTermsOf books.catalogue (shop_of branch books) customer terms.items)) }
+        (λ terms books. AreTermsOf (shop_of branch books) customer terms.items) }
 {
     let rows = rentals_of_customer(alloc, tx, branch, customer)?;
-    with_terms(alloc, tx, films, branch, rows.as_slice())
+    with_terms(alloc, tx, branch, rows.as_slice())
 }
 
-/// The terms of those rentals. A rental whose film isn't there has none.
+/// The terms of those rentals. No sound table lacks a rental's.
 fn with_terms<S: Alter>(
     alloc: Global,
     tx: &mut Transaction<'_, S>,
-    films: &mut FilmCache,
     branch: BranchNo,
     rows: &[RentalRow],
 ) -> Result<Vec<RentalTerms>, StoreFault>
     ensures inside { StaysWithin S.Store tx.old.conn tx.new.conn result }
     ensures found { Finds (state S.Store tx.old.conn.now) (state S.Store tx.new.conn.now) result
-        (Knows films.old films.new
-        (λ terms books. terms.items ≡ flat_map (terms_of books.catalogue (shop_of branch books)) (map (λ row. seen_rental row.rental) rows.now))) }
+        (λ terms books. terms.items ≡ flat_map (charged (of branch books.terms)) (map (λ row. seen_rental_row row) rows.now)) }
 {
     let mut terms = Vec::new(alloc);
     for row in rows {
-        let found = terms_at(tx, films, branch, row.rental)?;
+        let found = terms_of_rental(tx, branch, *row)?;
         push_found(&mut terms, found)?;
     }
     Ok(terms)
@@ -66,26 +63,23 @@ pub fn push_found<T: Drop>(list: &mut Vec<T>, found: Option<T>) -> Result<(), St
     Ok(())
 }
 
-/// The terms of one rental, where its copy and film are there.
-fn terms_at<S: Alter>(
+/// The terms of one rental of the branch, where they are there.
+fn terms_of_rental<S: Alter>(
     tx: &mut Transaction<'_, S>,
-    films: &mut FilmCache,
     branch: BranchNo,
-    rental: Rental,
+    row: RentalRow,
 ) -> Result<Option<RentalTerms>, StoreFault>
     ensures inside { StaysWithin S.Store tx.old.conn tx.new.conn result }
     ensures found { Finds (state S.Store tx.old.conn.now) (state S.Store tx.new.conn.now) result
-        (Knows films.old films.new (λ terms books. option_to_list terms ≡ terms_of books.catalogue (shop_of branch books) (seen_rental rental))) }
+        (λ terms books. option_to_list terms ≡ charged (of branch books.terms) (seen_rental_row row)) }
 {
-    let Some(copy) = copy_at(tx, branch, rental.copy)? else {
-        return Ok(None);
-    };
-    match find_film(tx, films, copy.film)? {
-        Some(film) => Ok(Some(RentalTerms {
-            rented: rental.rented,
-            returned: rental.returned,
-            rate: film.rate,
-            period: film.period,
+    match terms_at(tx, branch, row.number)? {
+        Some(found) => Ok(Some(RentalTerms {
+            rented: row.rental.rented,
+            returned: row.rental.returned,
+            rate: found.terms.rate,
+            period: found.terms.period.get(),
+            replacement: found.terms.replacement,
         })),
         None => Ok(None),
     }

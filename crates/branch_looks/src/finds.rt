@@ -8,10 +8,10 @@ ghost use Rattle.shop_model.specs.Stock.{is_here, held_by};
 ghost use Rattle.shop_model.specs.Books.{head, shop_of};
 ghost use Rattle.shop_schema.specs.Calls.{Finds};
 ghost use Rattle.shop_store.specs.Seen.{seen_state};
-ghost use Rattle.branch_looks.specs.Finds.{Knows, is_yes, copy_shown};
-ghost use Rattle.branch_core.specs.Agreed.{active_at, copy_at, rental_at, seen_copy, seen_rental, seen_film_copy, AreOfFilm};
+ghost use Rattle.branch_looks.specs.Finds.{Knows, copy_shown};
+ghost use Rattle.branch_core.specs.Agreed.{active_at, copy_at, rental_at, seen_copy, seen_rental, seen_film_copy, AreOfFilm, HasTermsNow};
 
-use crate::known::find_withdrawn;
+use crate::known::find_film;
 use branch_core::{CopyFound, FilmCopy, RentalFound};
 use film_cache::FilmCache;
 use shop_ledger::out_at;
@@ -47,12 +47,6 @@ pub fn is_here(state: CopyState) -> bool
     }
 }
 
-fn is_yes(answer: Option<bool>) -> bool
-    ensures { result ≡ is_yes answer }
-{
-    matches!(answer, Some(true))
-}
-
 /// Whether the copy is in the shop, where the branch has one of the number.
 pub fn find_here<S: Alter>(
     tx: &mut Transaction<'_, S>,
@@ -69,7 +63,8 @@ pub fn find_here<S: Alter>(
     }
 }
 
-/// Whether the copy is in the shop, its film withdrawn and a customer has it, where the branch has one of the number.
+/// Whether the copy is in the shop, its film withdrawn and a customer has it, and its film's terms as they are now, where the branch has one of the number.
+/// No sound table lacks the film.
 pub fn find_copy<S: Alter>(
     tx: &mut Transaction<'_, S>,
     films: &mut FilmCache,
@@ -78,17 +73,21 @@ pub fn find_copy<S: Alter>(
 ) -> Result<Option<CopyFound>, StoreFault>
     ensures inside { StaysWithin S.Store tx.old.conn tx.new.conn result }
     ensures found { Finds (state S.Store tx.old.conn.now) (state S.Store tx.new.conn.now) result
-        (Knows films.old films.new (λ found books. option_map seen_copy found ≡ copy_at books.catalogue (shop_of branch books) copy)) }
+        (Knows films.old films.new (λ found books. (option_map seen_copy found ≡ copy_at books.catalogue (shop_of branch books) copy)
+        × HasTermsNow books.catalogue (shop_of branch books) copy found)) }
 {
     let Some(row) = copy_at(tx, branch, copy)? else {
         return Ok(None);
     };
-    let withdrawn = find_withdrawn(tx, films, row.film)?;
+    let Some(film) = find_film(tx, films, row.film)? else {
+        return Err(StoreFault::Failed);
+    };
     let out = out_at(tx, branch, copy)?;
     Ok(Some(CopyFound {
         is_here: is_here(row.state),
-        is_withdrawn: is_yes(withdrawn),
+        is_withdrawn: film.withdrawn,
         is_out: out.is_some(),
+        terms: film.terms,
     }))
 }
 

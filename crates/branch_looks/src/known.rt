@@ -13,11 +13,11 @@ ghost use Rattle.branch_looks.specs.Finds.{Knows};
 
 use film_cache::{CachedFilm, FilmCache, KnownFilm};
 use shop_store::{FilmRow, film_row};
-use shop_types::FilmNo;
+use shop_types::{FilmNo, Terms};
 use sql_rows::StoreFault;
 use sqlite::{Alter, Transaction};
 
-/// By what a rental of the film is charged, and whether it is withdrawn, where there is such a film.
+/// By what a rental of the film is charged now, and whether it is withdrawn, where there is such a film.
 pub fn find_film<S: Alter>(
     tx: &mut Transaction<'_, S>,
     films: &mut FilmCache,
@@ -59,9 +59,13 @@ fn keep_film(films: &mut FilmCache, number: FilmNo, row: FilmRow) -> KnownFilm
 {
     let withdrawn = row.withdrawn;
     let read = row.film;
-    let film = CachedFilm {
+    let terms = Terms {
         rate: read.rate,
         period: read.period,
+        replacement: read.replacement,
+    };
+    let film = CachedFilm {
+        terms,
         title: read.title,
         category: read.category,
         withdrawn,

@@ -10,14 +10,13 @@ ghost use Rattle.shop_model.specs.Answers.{shown_text};
 ghost use Rattle.shop_types.specs.Replies.{seen_reply};
 ghost use Rattle.shop_schema.specs.Calls.{Finds};
 ghost use Rattle.branch_core.specs.Agreed.{AreOfFilm};
-ghost use Rattle.branch_looks.specs.Finds.{Knows, stock_asked, stock_listed};
+ghost use Rattle.branch_looks.specs.Finds.{stock_asked, stock_listed};
 ghost use Rattle.branch_looks.specs.Looks.{looked, seen_look};
 
 use crate::asks::Look;
 use crate::finds::{find_here, find_holder, find_of_film};
 use crate::reports::{look_balance, look_overdue, look_rewards};
 use branch_core::{FilmCopy, film_in_stock, film_not_in_stock};
-use film_cache::FilmCache;
 use reply_bodies::{copies_text, customer_text, film_text, holder_text, in_stock_text};
 use shop_ledger::out_at;
 use shop_store::{customer_at, film_row, film_withdrawn};
@@ -30,13 +29,12 @@ use std::alloc::Global;
 pub fn look<S: Alter>(
     alloc: Global,
     tx: &mut Transaction<'_, S>,
-    films: &mut FilmCache,
     branch: BranchNo,
     ask: Look,
 ) -> Result<Reply, StoreFault>
     ensures inside { StaysWithin S.Store tx.old.conn tx.new.conn result }
     ensures shown { Finds (state S.Store tx.old.conn.now) (state S.Store tx.new.conn.now) result
-        (Knows films.old films.new (λ reply books. seen_reply reply ≡ looked branch (seen_look ask) books)) }
+        (λ reply books. seen_reply reply ≡ looked branch (seen_look ask) books) }
 {
     match ask {
         Look::Customer(number) => look_customer(alloc, tx, branch, number),
@@ -45,7 +43,7 @@ pub fn look<S: Alter>(
         Look::HeldBy(copy) => look_holder(alloc, tx, branch, copy),
         Look::FilmInStock(film) => look_film_copies(alloc, tx, branch, film, true),
         Look::FilmNotInStock(film) => look_film_copies(alloc, tx, branch, film, false),
-        Look::Balance { customer, at } => look_balance(alloc, tx, films, branch, customer, at),
+        Look::Balance { customer, at } => look_balance(alloc, tx, branch, customer, at),
         Look::Overdue(at) => look_overdue(alloc, tx, branch, at),
         Look::Rewards {
             at,

@@ -6,19 +6,19 @@ ghost use Rattle.sqlite.specs.Held.{state};
 ghost use Rattle.sql_rows.specs.Calls.{StaysWithin};
 ghost use Rattle.shop_model.specs.Rows.{at, at as at_number};
 ghost use Rattle.shop_model.specs.Books.{shop_of};
-ghost use Rattle.shop_model.specs.Stock.{film_of, is_overdue};
+ghost use Rattle.shop_model.specs.Stock.{film_of, is_overdue, termed};
 ghost use Rattle.shop_model.specs.Views.{overdue_row, overdue_list};
-ghost use Rattle.shop_types.specs.Seen.{seen_rental};
+ghost use Rattle.shop_types.specs.Seen.{seen_rental, seen_terms};
 ghost use Rattle.shop_schema.specs.Calls.{Finds};
 ghost use Rattle.reply_bodies.specs.Overdue.{seen_overdue};
-ghost use Rattle.branch_looks.specs.Finds.{rentals_at};
+ghost use Rattle.branch_looks.specs.Finds.{all_at, listed};
 
 use crate::balances::push_found;
 use balance_rule::is_overdue;
 use reply_bodies::OverdueRow;
 use shop_ledger::rentals_out;
-use shop_store::{copy_at, customer_at, film_terms, film_title, rental_at};
-use shop_types::{BranchNo, FilmNo, Moment, Rental, RentalNo};
+use shop_store::{copy_at, customer_at, film_title, rental_at, terms_at};
+use shop_types::{BranchNo, FilmNo, Moment, Rental, RentalNo, Terms};
 use sql_rows::StoreFault;
 use sqlite::{Alter, Transaction};
 use std::alloc::Global;
@@ -48,8 +48,8 @@ fn overdue_among<S: Alter>(
 ) -> Result<Vec<OverdueRow>, StoreFault>
     ensures inside { StaysWithin S.Store tx.old.conn tx.new.conn result }
     ensures found { Finds (state S.Store tx.old.conn.now) (state S.Store tx.new.conn.now) result
-        (λ overdue books. map seen_overdue overdue.items ≡ map (overdue_row books.catalogue (shop_of branch books))
-        (filter (is_overdue books.catalogue (shop_of branch books) at) (rentals_at numbers.now (shop_of branch books).rentals))) }
+        (λ overdue books. map seen_overdue overdue.items ≡ map (listed books.catalogue (shop_of branch books))
+        (filter (is_overdue at) (all_at numbers.now (termed (shop_of branch books))))) }
 {
     let mut overdue = Vec::new(alloc);
     for number in numbers {
@@ -59,7 +59,7 @@ fn overdue_among<S: Alter>(
     Ok(overdue)
 }
 
-/// The rental of the number as it is listed, where it is overdue at the moment. No sound table lacks one whose copy is out.
+/// The rental of the number as it is listed, where it is overdue at the moment. No sound table lacks one whose copy is out, or its terms.
 fn overdue_of<S: Alter>(
     tx: &mut Transaction<'_, S>,
     branch: BranchNo,
@@ -68,39 +68,40 @@ fn overdue_of<S: Alter>(
 ) -> Result<Option<OverdueRow>, StoreFault>
     ensures inside { StaysWithin S.Store tx.old.conn tx.new.conn result }
     ensures found { Finds (state S.Store tx.old.conn.now) (state S.Store tx.new.conn.now) result
-        (λ row books. option_to_list (option_map seen_overdue row) ≡ map (overdue_row books.catalogue (shop_of branch books))
-        (filter (is_overdue books.catalogue (shop_of branch books) at) (at_number number (shop_of branch books).rentals))) }
+        (λ row books. option_to_list (option_map seen_overdue row) ≡ map (listed books.catalogue (shop_of branch books))
+        (filter (is_overdue at) (at_number number (termed (shop_of branch books))))) }
 {
     let Some(row) = rental_at(tx, branch, number)? else {
         return Err(StoreFault::Failed);
     };
-    overdue_at(tx, branch, row.rental, at)
+    let Some(found) = terms_at(tx, branch, number)? else {
+        return Err(StoreFault::Failed);
+    };
+    overdue_at(tx, branch, row.rental, found.terms, at)
 }
 
-/// The rental as it is listed, where it is overdue at the moment. No sound table lacks its copy, its film or its customer.
+/// The rental as it is listed, where it is overdue at the moment by its terms. No sound table lacks its copy, its film or its customer.
 fn overdue_at<S: Alter>(
     tx: &mut Transaction<'_, S>,
     branch: BranchNo,
     rental: Rental,
+    terms: Terms,
     at: Moment,
 ) -> Result<Option<OverdueRow>, StoreFault>
     ensures inside { StaysWithin S.Store tx.old.conn tx.new.conn result }
     ensures found { Finds (state S.Store tx.old.conn.now) (state S.Store tx.new.conn.now) result
-        (λ row books. option_to_list (option_map seen_overdue row) ≡ map (overdue_row books.catalogue (shop_of branch books))
-        (filter (is_overdue books.catalogue (shop_of branch books) at) (seen_rental rental ∷ []))) }
+        (λ row books. option_to_list (option_map seen_overdue row) ≡ map (listed books.catalogue (shop_of branch books))
+        (filter (is_overdue at) ((seen_rental rental, seen_terms terms) ∷ []))) }
 {
     if rental.returned.is_some() {
+        return Ok(None);
+    }
+    if !is_overdue(rental.rented, terms.period.get(), at) {
         return Ok(None);
     }
     let Some(copy) = copy_at(tx, branch, rental.copy)? else {
         return Err(StoreFault::Failed);
     };
-    let Some(terms) = film_terms(tx, copy.film)? else {
-        return Err(StoreFault::Failed);
-    };
-    if !is_overdue(rental.rented, terms.period, at) {
-        return Ok(None);
-    }
     Ok(Some(listed_as(tx, branch, rental, copy.film)?))
 }
 

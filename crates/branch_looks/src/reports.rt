@@ -4,12 +4,12 @@ ghost use Rattle.std.specs.Prelude.{◌≡◌, ℕ, IfOk};
 ghost use Rattle.sqlite.specs.Held.{state};
 ghost use Rattle.sql_rows.specs.Calls.{StaysWithin};
 ghost use Rattle.shop_model.specs.Values.{Balance, Overdue, Rewards};
-ghost use Rattle.shop_model.specs.Shop.{Catalogue, Shop};
+ghost use Rattle.shop_model.specs.Shop.{Shop};
 ghost use Rattle.shop_model.specs.Stock.{balance};
+ghost use Rattle.shop_types.specs.Seen.{seen_rule};
 ghost use Rattle.shop_types.specs.Replies.{seen_reply};
 ghost use Rattle.shop_schema.specs.Calls.{Finds};
 ghost use Rattle.balance_rule.specs.Balance.{AreTermsOf, ArePaidBy};
-ghost use Rattle.branch_looks.specs.Finds.{Knows};
 ghost use Rattle.branch_looks.specs.Looks.{looked};
 
 use crate::balances::{find_paid, find_terms};
@@ -17,45 +17,50 @@ use crate::finds::find_active;
 use crate::overdue::find_overdue;
 use crate::rewards::find_rewarded;
 use balance_rule::{Paid, RentalTerms, balance};
-use film_cache::FilmCache;
 use reply_bodies::{balance_text, overdue_text, rewards_text};
-use shop_types::{BranchNo, Cents, CustomerNo, Moment, Refusal, Reply};
+use shop_store::rule_at;
+use shop_types::{BranchNo, Cents, CustomerNo, Moment, Refusal, Reply, Rule};
 use sql_rows::StoreFault;
 use sqlite::{Alter, Transaction};
 use std::alloc::Global;
 
-/// Tells what a customer owes at a moment.
+/// Tells what a customer owes at a moment, by the rule of the chain.
 pub fn look_balance<S: Alter>(
     alloc: Global,
     tx: &mut Transaction<'_, S>,
-    films: &mut FilmCache,
     branch: BranchNo,
     customer: CustomerNo,
     at: Moment,
 ) -> Result<Reply, StoreFault>
     ensures inside { StaysWithin S.Store tx.old.conn tx.new.conn result }
     ensures shown { Finds (state S.Store tx.old.conn.now) (state S.Store tx.new.conn.now) result
-        (Knows films.old films.new (λ reply books. seen_reply reply ≡ looked branch (Balance customer at) books)) }
+        (λ reply books. seen_reply reply ≡ looked branch (Balance customer at) books) }
 {
     let Some(_) = find_active(tx, branch, customer)? else {
         return Ok(Reply::refused(Refusal::NoCustomer));
     };
-    let rentals = find_terms(alloc, tx, films, branch, customer)?;
+    let rule = rule_at(tx)?;
+    let rentals = find_terms(alloc, tx, branch, customer)?;
     let payments = find_paid(alloc, tx, branch, customer)?;
-    let cents = owed(rentals.as_slice(), payments.as_slice(), at)?;
+    let cents = owed(rentals.as_slice(), payments.as_slice(), at, rule)?;
     Ok(Reply::accepted(balance_text(alloc, cents)?))
 }
 
-/// The balance by those rows. No sound table has more than a million of them.
-fn owed(rentals: &[RentalTerms], payments: &[Paid], at: Moment) -> Result<Cents, StoreFault>
-    ensures { IfOk result (λ cents. (catalogue : Catalogue) (shop : Shop) (customer : ℕ) → AreTermsOf catalogue shop customer rentals.now
+/// The balance by those rows and the rule. No sound table has more than a million of them.
+fn owed(
+    rentals: &[RentalTerms],
+    payments: &[Paid],
+    at: Moment,
+    rule: Rule,
+) -> Result<Cents, StoreFault>
+    ensures { IfOk result (λ cents. (shop : Shop) (customer : ℕ) → AreTermsOf shop customer rentals.now
         → ArePaidBy shop customer payments.now
-        → cents ≡ balance catalogue shop customer at) }
+        → cents ≡ balance (seen_rule rule) shop customer at) }
 {
     if 1_000_000 < rentals.len() || 1_000_000 < payments.len() {
         return Err(StoreFault::Failed);
     }
-    Ok(balance(rentals, payments, at))
+    Ok(balance(rentals, payments, at, rule))
 }
 
 /// Lists the rentals that are overdue at a moment.

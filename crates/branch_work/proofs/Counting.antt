@@ -6,7 +6,7 @@ use Rattle.sql_rows.specs.Rows.{PicksOne}
 use Rattle.shop_values.specs.LimitValues.{Limits}
 use Rattle.shop_model.specs.Rows.{Row, next, put, put_all, set_row}
 use Rattle.shop_model.specs.Values as model
-use Rattle.shop_model.specs.Values.{Command, Text, Customer, Rental, Payment, Scrapped, Sent}
+use Rattle.shop_model.specs.Values.{Command, Text, Customer, Rental, Terms, Payment, Scrapped, Sent}
 use Rattle.shop_model.specs.Machine.{films_in}
 use Rattle.shop_model.specs.Books.{Books, BookCopy, book_acted, come, imported, is_consignment, put_state, unpacked}
 use Rattle.shop_types.specs.declared.command.Act.{Act}
@@ -61,12 +61,27 @@ module _ (s : State) (b : ℕ) (books : Books) (low : 1 ≤ b) where
   abbrev rented : ℕ → ℕ → Counts
   rented n copy = put_out (record { branch = b; copy = copy; rental = n }) (raise b 2 1 (counts_of books))
 
-  pub rental_added : (n : ℕ) (it : Rental) → it.returned ≡ None → n ≡ next b books.rentals
-      → HoldsWith (put_out (record { branch = b; copy = it.copy; rental = n }) (raise b 2 1 (counts_of books))) s (record books { rentals = books.rentals ++ record { branch = b; number = n; it = it } ∷ [] })
-      → Holds s (record books { rentals = put b (λ _. it) books.rentals })
-  rental_added n it is_open is holds =
-      agreed s _ (rented (next b books.rentals) it.copy) (rental_row_counted b (record { branch = b; number = next b books.rentals; it = it }) books low refl is_open)
-      (subst (λ (m : ℕ). HoldsWith (rented m it.copy) s (record books { rentals = books.rentals ++ record { branch = b; number = m; it = it } ∷ [] })) is holds)
+  -- the books with a rental and its terms more, under those numbers
+  abbrev with_rental : ℕ → ℕ → Rental → Terms → Books
+  with_rental n m it terms = record books {
+    rentals = books.rentals ++ record { branch = b; number = n; it = it } ∷ [];
+    terms = books.terms ++ record { branch = b; number = m; it = terms } ∷ [];
+  }
+
+  -- the books with it and what its terms are said to be
+  abbrev renting : Rental → List Terms → Books
+  renting it now = record books { rentals = put b (λ _. it) books.rentals; terms = put_all b (map (λ (terms : Terms). λ _. terms) now) books.terms }
+
+  pub rental_added : (n : ℕ) (it : Rental) (terms : Terms) (now : List Terms) → it.returned ≡ None → n ≡ next b books.rentals → next b books.terms ≡ next b books.rentals
+      → now ≡ terms ∷ [] → HoldsWith (put_out (record { branch = b; copy = it.copy; rental = n }) (raise b 2 1 (counts_of books))) s (with_rental n n it terms)
+      → Holds s (renting it now)
+  rental_added n it terms now is_open is termed one holds =
+      let k = next b books.rentals in
+      let grown : List (Row Terms) = books.terms ++ record { branch = b; number = next b books.terms; it = terms } ∷ [] in
+      subst (λ (its : List Terms). Holds s (renting it its)) (sym one)
+      (agreed s _ (rented k it.copy) (rental_row_counted b (record { branch = b; number = k; it = it }) (record books { terms = grown }) low refl is_open)
+      (subst (λ (m : ℕ). HoldsWith (rented k it.copy) s (with_rental k m it terms)) (sym termed)
+      (subst (λ (m : ℕ). HoldsWith (rented m it.copy) s (with_rental m m it terms)) is holds)))
 
   pub import_added : (first m : ℕ) (films : List ℕ) (lot : Text) → first ≡ next b books.copies → m ≡ length films
       → HoldsWith (raise b 1 m (counts_of books)) s (record books { copies = books.copies ++ copies_from b first films; lots = books.lots ++ record { owner = b; it = lot } ∷ [] })
@@ -118,7 +133,8 @@ acted_once limits b command (act.Active customer active) rows books low held mar
 acted_once limits b command (act.Rent customer copy) rows books low held marked few_lines =
     let it : Rental = record { rented = command.moment; copy = copy; customer = customer; returned = None; staff = command.staff } in
     let raised = raised_once b 2 1 books low held (omega arith) in
-    subst (CountsOnce b kind.Kept) (sym (rental_row_counted b (record { branch = b; number = next b books.rentals; it = it }) books low refl refl)) (record { once = raised.once; small = raised.small })
+    let grown = (book_acted (rules_of limits) b command (model.Rent customer copy) books).terms in
+    subst (CountsOnce b kind.Kept) (sym (rental_row_counted b (record { branch = b; number = next b books.rentals; it = it }) (record books { terms = grown }) low refl refl)) (record { once = raised.once; small = raised.small })
 acted_once limits b command (act.TakeBack rental) rows books low held marked few_lines =
     still_once b books (book_acted (rules_of limits) b command (model.TakeBack rental) books) (rentals_still b rental (λ it. record it { returned = Some command.moment }) books) low held
 acted_once limits b command (act.Pay customer rental amount) rows books low held marked few_lines =

@@ -15,14 +15,14 @@ ghost use Rattle.branch_work.specs.Added.{IsActed, with_kept};
 
 use crate::consigning::{dispatch, receive};
 use crate::importing::import;
-use branch_core::{RentalFound, RowsFound, rows_in};
+use branch_core::{CopyFound, RentalFound, RowsFound, rows_in};
 use reply_bodies::{
     active_text, new_customer_text, payment_text, rental_text, returned_text, scrapped_text,
 };
 use shop_ledger::{Count, CountKind, Owner, drop_out, put_kept, put_out, set_last, take_numbers};
 use shop_store::{
-    CopyState, CustomerRow, PaymentRow, RentalRow, put_customer, put_payment, put_rental,
-    set_active, set_returned, set_state,
+    CopyState, CustomerRow, PaymentRow, RentalRow, TermsRow, put_customer, put_payment, put_rental,
+    put_terms, set_active, set_returned, set_state,
 };
 use shop_types::{
     Act, Amount, BranchNo, Command, CopyNo, Customer, CustomerNo, Moment, Payment, Person, Rental,
@@ -48,7 +48,9 @@ pub fn carry_out<S: Alter>(
     match &command.act {
         Act::Customer(person) => add_customer(alloc, tx, branch, command, person),
         Act::Active { customer, active } => put_active(alloc, tx, branch, *customer, *active),
-        Act::Rent { customer, copy } => add_rental(alloc, tx, branch, command, *customer, *copy),
+        Act::Rent { customer, copy } => {
+            add_rental(alloc, tx, branch, command, *customer, *copy, found.copy)
+        }
         Act::TakeBack(rental) => take_back(alloc, tx, branch, command, *rental, found.rental),
         Act::Pay {
             customer,
@@ -160,7 +162,7 @@ fn put_active<S: Alter>(
     Ok(active_text(alloc, customer, active)?)
 }
 
-/// Adds an open rental, and notes that its copy is out.
+/// Adds an open rental, with the terms of its copy's film under the same number, and notes that the copy is out. The copy was found.
 fn add_rental<S: Alter>(
     alloc: Global,
     tx: &mut Transaction<'_, S>,
@@ -168,12 +170,16 @@ fn add_rental<S: Alter>(
     command: &Command,
     customer: CustomerNo,
     copy: CopyNo,
+    found: Option<CopyFound>,
 ) -> Result<String, StoreFault>
     ensures inside { StaysWithin S.Store tx.old.conn tx.new.conn result }
     ensures acted { HasCleanDisk (state S.Store tx.new.conn.now)
-        → IfOk result (λ text. (rules : model.Rules) (found : RowsFound) → IsActed rules branch (seen_command command.now) (model.Rent customer copy) found
-        (string_bytes text) (state S.Store tx.old.conn.now) (state S.Store tx.new.conn.now)) }
+        → IfOk result (λ text. (rules : model.Rules) (rows : RowsFound) → rows.copy ≡ found → IsActed rules branch (seen_command command.now)
+        (model.Rent customer copy) rows (string_bytes text) (state S.Store tx.old.conn.now) (state S.Store tx.new.conn.now)) }
 {
+    let Some(found) = found else {
+        return Err(StoreFault::Failed);
+    };
     let number = next_number(tx, branch, CountKind::Rentals)?;
     let rental = Rental {
         rented: command.at,
@@ -188,6 +194,12 @@ fn add_rental<S: Alter>(
         rental,
     };
     put_rental(tx, &row)?;
+    let terms = TermsRow {
+        branch,
+        rental: number,
+        terms: found.terms,
+    };
+    put_terms(tx, &terms)?;
     put_out(tx, branch, copy, number)?;
     Ok(rental_text(alloc, number)?)
 }

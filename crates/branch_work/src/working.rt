@@ -70,7 +70,7 @@ pub fn work<S: Alter>(
         }
         Request::Look(ask) => match reading_of(*ask) {
             Reading::Look(it) => Ok(Worked::Answered {
-                reply: look(alloc, tx, films, branch, it)?,
+                reply: look(alloc, tx, branch, it)?,
                 is_changed: false,
             }),
             Reading::Arrivals => Ok(Worked::Shows(Listing::Arrivals)),

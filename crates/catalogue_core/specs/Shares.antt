@@ -3,8 +3,8 @@ use Rattle.std.specs.Prelude.{◌≡◌, ⊤, ℕ, ◌==◌, ◌&&◌, Bool, fal
 use Rattle.std.specs.List.{list_any}
 use Rattle.std.specs.Str.{bytes_eq}
 use Rattle.shop_model.specs.Rows.{at, lacks}
-use Rattle.shop_model.specs.Values.{Text, Film, Cast, Branch, Staff, OfficeAct, AddCountry, AddCity, AddLanguage, AddCategory, AddActor, AddFilm, PriceFilm, WithdrawFilm, AddCast, AddBranch, AddStaff, StaffLeaves, SetManager, OfficeCommand}
-use Rattle.shop_model.specs.Shop.{OfficeKept, Catalogue, same_office}
+use Rattle.shop_model.specs.Values.{Text, Film, Cast, Branch, Staff, OfficeAct, AddCountry, AddCity, AddLanguage, AddCategory, AddActor, AddFilm, PriceFilm, WithdrawFilm, AddCast, AddBranch, AddStaff, StaffLeaves, SetManager, ChooseRule, OfficeCommand}
+use Rattle.shop_model.specs.Shop.{OfficeKept, Catalogue, same_rule, same_office}
 use Rattle.shop_model.specs.Books.{head}
 use Rattle.shop_types.specs.Verdicts.{seen_kept, seen_post, post_of}
 use Rattle.catalogue_core.specs.declared.shared.BranchFound.{BranchFound}
@@ -48,6 +48,7 @@ no_rows = record {
   has_category = false;
   has_actor = false;
   has_cast = false;
+  is_chosen = false;
   film = None;
   branch = None;
   staff = None;
@@ -88,6 +89,7 @@ ActShares catalogue (AddBranch branch) it = BranchShares catalogue branch it
 ActShares catalogue (AddStaff staff) it = StaffShares catalogue staff it
 ActShares catalogue (StaffLeaves s) it = option_map seen_post it.staff ≡ staff_at catalogue s
 ActShares catalogue (SetManager b s) it = ManagerShares catalogue b s it
+ActShares catalogue (ChooseRule rule) it = it.is_chosen ≡ same_rule catalogue.rule rule
 
 -- ---- all that was found
 

@@ -24,6 +24,17 @@ pub fn name_refusal(is_named: bool) -> Option<Refusal>
     }
 }
 
+/// Of the rule by which balances are to go.
+pub fn rule_refusal(is_chosen: bool) -> Option<Refusal>
+    ensures { verdict_by result ≡ Some (first ((Already, is_chosen) ∷ [])) }
+{
+    if is_chosen {
+        Some(Refusal::Already)
+    } else {
+        None
+    }
+}
+
 /// Of a new row that names another, which may not be there.
 pub fn row_refusal(is_there: bool) -> Option<Refusal>
     ensures { verdict_by result ≡ Some (first ((NoSharedRow, not is_there) ∷ [])) }

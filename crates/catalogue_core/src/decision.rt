@@ -12,7 +12,7 @@ ghost use Rattle.catalogue_core.specs.Decided.{fresh_refusals};
 
 use crate::acts::{
     branch_refusal, cast_refusal, leave_refusal, manager_refusal, name_refusal, price_refusal,
-    row_refusal, staff_refusal, withdraw_refusal,
+    row_refusal, rule_refusal, staff_refusal, withdraw_refusal,
 };
 use crate::{Shared, SharedRows};
 use shop_types::{Change, Limits, OfficeAct, OfficeCommand, Refusal, Token};
@@ -77,5 +77,6 @@ fn act_refusal(act: &OfficeAct, office_token: &Token, rows: &SharedRows) -> Opti
         OfficeAct::Manager { branch, staff } => {
             manager_refusal(*branch, *staff, rows.branch, rows.staff)
         }
+        OfficeAct::Rule(_) => rule_refusal(rows.is_chosen),
     }
 }

@@ -37,6 +37,8 @@ pub struct SharedRows {
     pub has_actor: bool,
     /// Whether the actor is in the film's cast already.
     pub has_cast: bool,
+    /// Whether the rule is the one that is chosen already.
+    pub is_chosen: bool,
     /// Whether the film is withdrawn, where there is such a film.
     pub film: Option<bool>,
     /// The branch, where there is one of the number.
@@ -59,6 +61,7 @@ impl SharedRows {
             has_category: false,
             has_actor: false,
             has_cast: false,
+            is_chosen: false,
             film: None,
             branch: None,
             staff: None,

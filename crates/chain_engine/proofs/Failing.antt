@@ -25,11 +25,11 @@ is_live was told fault failed = elim (cases_Bool was) [
 
 -- with the connection as it was, whatever the fault is
 pub stays_failed : {S : Type 0} (old : Chained S) (conn : Held S) (fault : StoreFault) → old.is_failed ≡ true → conn ≡ old.conn
-    → record { limits = old.limits; is_failed = old.is_failed || is_final fault; films = old.films; conn = conn } ≡ old
+    → record { limits = old.limits; is_failed = old.is_failed || is_final fault; films = old.films; callers = old.callers; conn = conn } ≡ old
 stays_failed {S} old conn fault was same =
     let still : old.is_failed ≡ (old.is_failed || is_final fault) = was ∙ sym (rw was refl) in
-    let first : old ≡ record { limits = old.limits; is_failed = old.is_failed || is_final fault; films = old.films; conn = old.conn } = subst (λ (b : Bool). old ≡ record { limits = old.limits; is_failed = b; films = old.films; conn = old.conn }) still refl in
-    subst (λ (h : Held S). record { limits = old.limits; is_failed = old.is_failed || is_final fault; films = old.films; conn = h } ≡ old) (sym same) (sym first)
+    let first : old ≡ record { limits = old.limits; is_failed = old.is_failed || is_final fault; films = old.films; callers = old.callers; conn = old.conn } = subst (λ (b : Bool). old ≡ record { limits = old.limits; is_failed = b; films = old.films; callers = old.callers; conn = old.conn }) still refl in
+    subst (λ (h : Held S). record { limits = old.limits; is_failed = old.is_failed || is_final fault; films = old.films; callers = old.callers; conn = h } ≡ old) (sym same) (sym first)
 
 -- and it goes on to answer that it has failed
 refuses_failed : {S : Type 0} (g : Ghosts S) (chain : Chained S) → chain.is_failed ≡ true → Takes g chain chain (IsStoreRefusal StoreFailed)
@@ -37,7 +37,7 @@ refuses_failed g chain was = takes_still (λ books besides. inr (refl, subst (λ
 
 -- a look that the store refuses, of a chain that had failed or of one that hadn't
 module _ {S : Type 0} (g : Ghosts S) (old new : Chained S) (conn : Held S) (fault : StoreFault)
-    (told : new ≡ record { limits = old.limits; is_failed = old.is_failed || is_final fault; films = old.films; conn = conn })
+    (told : new ≡ record { limits = old.limits; is_failed = old.is_failed || is_final fault; films = old.films; callers = old.callers; conn = conn })
     (failed : old.is_failed ≡ true → (conn ≡ old.conn) × (fault ≡ Failed)) where
   pub stays_refused : old.is_failed ≡ true → (new ≡ old) × (refusal_for fault ≡ StoreFailed)
   stays_refused was = let it = failed was in (told ∙ stays_failed old conn fault was it.0, ap refusal_for it.1)
@@ -50,10 +50,10 @@ module _ {S : Type 0} (g : Ghosts S) (old new : Chained S) (conn : Held S) (faul
         let first : Takes g old old (IsStoreRefusal (refusal_for fault)) = rw it.1 (refuses_failed g old was) in
         subst (λ (x : Chained S). Takes g old x (IsStoreRefusal (refusal_for fault))) (sym it.0) first
     | inr live ↦
-        let next : Chained S = record { limits = old.limits; is_failed = is_final fault; films = old.films; conn = conn } in
+        let next : Chained S = record { limits = old.limits; is_failed = is_final fault; films = old.films; callers = old.callers; conn = conn } in
         let so : next ≡ new = sym (rw live at told) in
         subst (λ (x : Chained S). Takes g old x (IsStoreRefusal (refusal_for fault))) so
-        (kept g old next refl live fault (IsStoreRefusal (refusal_for fault)) (λ films are. are) refl clean same (λ before after refused. refused))
+        (kept g old next refl refl live fault (IsStoreRefusal (refusal_for fault)) (λ films are. are) refl clean same (λ before after refused. refused))
   ]
 
 -- a call that commits nothing leaves a crash no more

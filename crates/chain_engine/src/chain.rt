@@ -1,16 +1,18 @@
 //! The chain of shops over a store.
 
-ghost use Rattle.std.specs.Prelude.{◌≡◌, ◌≢◌, ◌≤◌, ◌||◌, true, false, Err, IfOk, IfErr, OnErr, length, map};
+ghost use Rattle.std.specs.Prelude.{◌≡◌, ◌≢◌, ◌≤◌, ◌||◌, true, false, Err, Some, IfOk, IfErr, IfSome, OnErr, length, map};
 ghost use Rattle.sqlite.specs.Held.{state};
 ghost use Rattle.sqlite.specs.State.{HasCleanDisk};
 ghost use Rattle.sqlite.specs.Steps.{over_memory};
 ghost use Rattle.shop_model.specs.Opening.{opening_books};
 ghost use Rattle.shop_schema.specs.Shop.{first_books};
 ghost use Rattle.shop_model.specs.Machine.{OfficeLook};
-ghost use Rattle.shop_model.specs.Books.{HeadOffice};
+ghost use Rattle.shop_model.specs.Shop.{Catalogue};
+ghost use Rattle.shop_model.specs.Books.{HeadOffice, caller_of};
 ghost use Rattle.shop_types.specs.Seen.{seen_caller, seen_office_ask, seen_request};
 ghost use Rattle.shop_types.specs.Replies.{seen_reply};
 ghost use Rattle.sqlite.specs.Held.{state};
+ghost use Rattle.caller_cache.specs.Known.{AreCallers};
 ghost use Rattle.chain_store.specs.Chains.{IsAt, Takes, Answers, AnswersEvent, Runs, event_of};
 ghost use Rattle.chain_engine.specs.Leaving.{LeavesNoMore};
 ghost use Rattle.chain_store.specs.Steps.{asker, asked_of};
@@ -20,6 +22,7 @@ ghost use Rattle.chain_engine.specs.Leaving.{LeavesNoMore};
 ghost use Rattle.shop_model.specs.Answers.{problem_answer};
 ghost use Rattle.shop_model.specs.Refusals.{StoreFailed};
 
+use caller_cache::CallerCache;
 use chain_steps::{audit_unless_failed, caller_unless_failed, step};
 use chain_store::{
     Asked, FirstRows, OpenFault, asked_values, first_values, in_memory, read_office,
@@ -31,12 +34,13 @@ use sqlite::{Alter, Connection, MemStore};
 use std::alloc::Global;
 use std::marker::Model;
 
-/// A chain of shops: its limits, the books of all branches in the tables of a store, and what is known of films, for all branches.
+/// A chain of shops: its limits, the books of all branches in the tables of a store, and what is known of films, for all branches, and of callers.
 #[derive(Drop)]
 pub struct Chain<S: Alter> {
     pub(crate) limits: Limits,
     pub(crate) is_failed: bool,
     pub(crate) films: FilmCache,
+    pub(crate) callers: CallerCache,
     pub(crate) conn: Connection<S>,
     pub(crate) alloc: Global,
 }
@@ -49,7 +53,7 @@ impl<S: Alter> Model for Chain<S> {
 
     ghost coded = { chained_code S.code };
 
-    ghost view = { λ c. record { limits = c.limits; is_failed = c.is_failed; films = c.films; conn = c.conn } };
+    ghost view = { λ c. record { limits = c.limits; is_failed = c.is_failed; films = c.films; callers = c.callers; conn = c.conn } };
 
     ghost invariant = { λ c. c.conn.in_transaction ≡ false };
 }
@@ -72,6 +76,7 @@ impl Chain<MemStore> {
                 limits,
                 is_failed: false,
                 films: FilmCache::new(alloc),
+                callers: CallerCache::new(alloc),
                 conn,
                 alloc,
             }),
@@ -92,6 +97,7 @@ impl Chain<MemStore> {
                 limits,
                 is_failed: false,
                 films: FilmCache::new(alloc),
+                callers: CallerCache::new(alloc),
                 conn,
                 alloc,
             }),
@@ -124,10 +130,27 @@ impl<S: Alter> Chain<S> {
         ensures left { LeavesNoMore (state S.Store self.old.conn) (state S.Store self.new.conn) }
         ensures failed { self.old.is_failed ≡ true → (self.new ≡ self.old) × (result ≡ Err Refusal.StoreFailed) }
     {
+        if let Some(caller) = self.remembered(token) {
+            return Ok(caller);
+        }
         match caller_unless_failed(self.is_failed, &mut self.conn, token) {
-            Ok(caller) => Ok(caller),
+            Ok(caller) => {
+                self.callers.put(token, &caller);
+                Ok(caller)
+            }
             Err(fault) => Err(self.refusal(fault)),
         }
+    }
+
+    /// The caller whose token it is, where the chain hasn't failed and has found it before. The store isn't asked.
+    fn remembered(&self, token: &Token) -> Option<Caller>
+        ensures { IfSome result (λ caller. (self.now.is_failed ≡ false)
+            × ((catalogue : Catalogue) → AreCallers self.now.callers catalogue → seen_caller caller ≡ caller_of (Some token.now) catalogue)) }
+    {
+        if self.is_failed {
+            return None;
+        }
+        self.callers.known(token)
     }
 
     /// What an audit says of the tables, whatever they hold, or the refusal that the store gives instead: `Memory`, `Size` or `StoreFailed`. What a crash may

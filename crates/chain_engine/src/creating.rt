@@ -5,6 +5,7 @@ ghost use Rattle.shop_schema.specs.Shop.{first_books};
 ghost use Rattle.chain_store.specs.Openings.{IsCreated, IsNotCreated};
 
 use crate::chain::Chain;
+use caller_cache::CallerCache;
 use chain_store::{FirstRows, OpenFault, connect, create, first_values, give_back};
 use film_cache::FilmCache;
 use shop_types::{Limits, Token};
@@ -32,6 +33,7 @@ impl<D: Disk + Drop> Chain<FileStore<D>> {
                 limits,
                 is_failed: false,
                 films: FilmCache::new(alloc),
+                callers: CallerCache::new(alloc),
                 conn,
                 alloc,
             }),

@@ -11,6 +11,7 @@ ghost use Rattle.chain_store.specs.Files.{HoldsOne, KeepsBooks, KeepsEither};
 ghost use Rattle.chain_store.specs.Openings.{IsOpenedIn, IsNotOpened};
 
 use crate::chain::Chain;
+use caller_cache::CallerCache;
 use chain_steps::examine;
 use chain_store::{OpenFault, connect, give_back};
 use film_cache::FilmCache;
@@ -36,6 +37,7 @@ impl<D: Disk + Drop> Chain<FileStore<D>> {
                 limits,
                 is_failed: false,
                 films: FilmCache::new(alloc),
+                callers: CallerCache::new(alloc),
                 conn,
                 alloc,
             }),
@@ -56,6 +58,7 @@ impl<D: Disk + Drop> Chain<FileStore<D>> {
             limits: _,
             is_failed: _,
             films: _,
+            callers: _,
             conn,
             alloc: _,
         } = self;

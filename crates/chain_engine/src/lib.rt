@@ -5,6 +5,7 @@ mod chain;
 mod creating;
 mod files;
 mod laws;
+mod migrating;
 mod paths;
 
 pub use chain::Chain;

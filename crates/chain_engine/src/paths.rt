@@ -3,7 +3,7 @@
 ghost use Rattle.std.specs.Prelude.{◌≡◌, ◌≢◌, true, false, IfOk, IfErr};
 ghost use Rattle.sqlite_std_file.specs.File.{IsFresh};
 ghost use Rattle.shop_schema.specs.Shop.{first_books};
-ghost use Rattle.chain_store.specs.Openings.{IsCreated, IsNotCreated, IsOpenedIn, IsNotOpened};
+ghost use Rattle.chain_store.specs.Openings.{IsCreated, IsNotCreated, IsOpenedIn, IsNotOpened, IsMigratedIn, IsNotMigrated};
 
 use crate::chain::Chain;
 use chain_store::{OpenFault, files_at, is_missing};
@@ -54,6 +54,31 @@ impl Chain<FileStore<File>> {
         }
         let files = files_at(rt, path)?;
         match Chain::open_files(rt.alloc(), files, limits) {
+            Ok(chain) => Ok(chain),
+            Err((fault, _)) => Err(fault),
+        }
+    }
+
+    /// Makes the chain of version 1 that the file holds one of this version, and opens it; the limits are those of this opening. `NotAChain` also where there is
+    /// no file, and then none is made.
+    pub fn migrate(
+        rt: &HostRuntime,
+        path: &str,
+        limits: Limits,
+    ) -> Result<Chain<FileStore<File>>, OpenFault>
+        ensures migrated { IfOk result (λ chain. (files : _) × IsFresh true files.log × IsFresh false files.db × IsMigratedIn files limits chain) }
+        ensures already { IfErr result (λ e. e ≡ OpenFault.Already → (files left : _) × IsFresh true files.log × IsFresh false files.db
+            × IsNotMigrated ⟦<File as Disk>⟧ files e left) }
+        ensures damaged { IfErr result (λ e. e ≡ OpenFault.Damaged → (files left : _) × IsFresh true files.log × IsFresh false files.db
+            × IsNotMigrated ⟦<File as Disk>⟧ files e left) }
+        ensures version { IfErr result (λ e. e ≡ OpenFault.OtherVersion → (files left : _) × IsFresh true files.log × IsFresh false files.db
+            × IsNotMigrated ⟦<File as Disk>⟧ files e left) }
+    {
+        if is_missing(rt, path) {
+            return Err(OpenFault::NotAChain);
+        }
+        let files = files_at(rt, path)?;
+        match Chain::migrate_files(rt.alloc(), files, limits) {
             Ok(chain) => Ok(chain),
             Err((fault, _)) => Err(fault),
         }

@@ -1,6 +1,6 @@
 //! Whether a database has the tables of a chain, and of which version.
 
-ghost use Rattle.std.specs.Prelude.{◌≡◌, ◌≢◌, false, IfOk, IfErr, OnOk};
+ghost use Rattle.std.specs.Prelude.{◌≡◌, ◌≢◌, ◌⊎◌, false, IfOk, IfErr, OnOk};
 ghost use Rattle.sqlite.specs.Held.{state};
 ghost use Rattle.sqlite.specs.State.{HasCleanDisk, Survives};
 ghost use Rattle.shop_model.specs.Books.{Books};
@@ -45,7 +45,8 @@ pub fn examine<S: Alter>(alloc: Global, conn: &mut Connection<S>) -> Result<(), 
     ensures sound { HasCleanDisk (state S.Store conn.new) → (state S.Store conn.old).now ≡ (state S.Store conn.old).committed
         → OnOk result (StandsSoundly (state S.Store conn.old).now.trees) }
     ensures none { HasCleanDisk (state S.Store conn.new) → IfErr result (λ e. e ≡ OpenFault.NotAChain → Knows KnownVersion.Missing (state S.Store conn.old)) }
-    ensures other { HasCleanDisk (state S.Store conn.new) → IfErr result (λ e. e ≡ OpenFault.OtherVersion → Knows KnownVersion.Other (state S.Store conn.old)) }
+    ensures other { HasCleanDisk (state S.Store conn.new) → IfErr result (λ e. e ≡ OpenFault.OtherVersion
+        → Knows KnownVersion.First (state S.Store conn.old) ⊎ Knows KnownVersion.Other (state S.Store conn.old)) }
     ensures damaged { HasCleanDisk (state S.Store conn.new) → (state S.Store conn.old).now ≡ (state S.Store conn.old).committed
         → IfErr result (λ e. e ≡ OpenFault.Damaged → Knows KnownVersion.This (state S.Store conn.old) × (¬ StandsSoundly (state S.Store conn.old).now.trees)) }
     ensures already { IfErr result (λ e. e ≢ OpenFault.Already) }

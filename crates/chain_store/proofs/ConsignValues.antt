@@ -259,6 +259,7 @@ module _ (rules : Rules) (b : ℕ) (command : Command) (books : Books) (branch :
         customers = v.customers;
         copies = sent_rows b xs books.copies v.copies;
         rentals = v.rentals;
+        terms = v.terms;
         payments = v.payments;
         lots = v.lots;
         consignments = All-push IsConsignment books.consignments (new_consignment b to xs books) v.consignments sent;
@@ -290,6 +291,7 @@ module _ (rules : Rules) (b : ℕ) (command : Command) (books : Books) (branch :
           customers = v.customers;
           copies = unpacked_rows b lines books.copies branch (come_lines missing (is_consignment source b number) books.consignments v.consignments) fit v.copies;
           rentals = v.rentals;
+          terms = v.terms;
           payments = v.payments;
           lots = v.lots;
           consignments = updated IsConsignment (is_consignment source b number) (checked missing)

@@ -137,4 +137,5 @@ stands_in_any counts trees books some = record {
   counters = in_any _ _ (λ s. s.counters) some;
   outs = in_any _ _ (λ s. s.outs) some;
   pairs = in_any _ _ (λ s. s.pairs) some;
+  more = record { terms_are = in_any _ _ (λ s. s.more.terms_are) some; rule_is = in_any _ _ (λ s. s.more.rule_is) some };
 }

@@ -13,6 +13,8 @@ pub mod Requests
 pub mod Deciding
 pub mod Opening
 pub mod NewFiles
+pub mod Migrated
+pub mod OldFiles
 pub mod OfficeNumbers
 pub mod OfficeReadings
 pub mod OfficeWritten

@@ -1,5 +1,5 @@
 -- What an open of files finds, and what files hold after the store is closed.
-use Rattle.std.proofs.Common.{◌≡◌, ◌≢◌, ◌⊎◌, ◌∙◌, inl, inr, refl, sym, ap, subst, true, false, IsTrue, arith, map, List, [], ◌∷◌, pos, negsuc}
+use Rattle.std.proofs.Common.{◌≡◌, ◌≢◌, ◌⊎◌, ◌∙◌, inl, inr, refl, sym, ap, subst, true, false, IsTrue, arith, map, take, ℕ, List, [], ◌∷◌, pos, negsuc}
 use Rattle.std.specs.Prelude.{◌==◌}
 use Rattle.std.specs.List.{AllZip}
 use Rattle.std.proofs.lemmas.Bool.{cases_Bool}
@@ -27,9 +27,10 @@ use Rattle.sqlite.specs.Effect.{Database}
 use Rattle.sqlite.specs.State.{State, HasCleanDisk, Survives}
 use Rattle.sqlite.specs.Held.{Held, AreDatabases}
 use Rattle.sqlite.specs.Files.{HoldsDatabase, Finds, IsOpened, IsEmpty, over_files, file_state, image_of}
+use Rattle.sqlite.proofs.Callers.{one_permutation}
 use Rattle.sqlite.proofs.Theorems.{opens_again}
 use Rattle.sql_rows.specs.Books.{no_schema}
-use Rattle.sql_rows.specs.Rows.{columns_of, HasRows}
+use Rattle.sql_rows.specs.Rows.{columns_of, HasRows, number_value}
 use Rattle.sql_rows.proofs.Opened.{opened_keyed}
 use Rattle.sql_rows.proofs.Unique.{one_schema}
 use Rattle.shop_model.specs.Books.{Books}
@@ -37,17 +38,19 @@ use Rattle.shop_model.specs.Sound.{IsSound}
 use Rattle.shop_schema.specs.RowValues.{AreValues}
 use Rattle.shop_schema.specs.Tables.{shop_schema}
 use Rattle.shop_schema.specs.Shop.{HasVersion, StandsFor}
-use Rattle.shop_schema.specs.Columns.{this_version}
+use Rattle.shop_schema.specs.Columns.{this_version, first_version, versioned_columns}
 use Rattle.sqlite.specs.Schema.{Schema}
 use Rattle.shop_schema.specs.Versions.{version_of, version_told}
-use Rattle.shop_schema.specs.declared.known.KnownVersion.TheVariants.{This, Missing, Other}
+use Rattle.shop_schema.specs.declared.known.KnownVersion.{KnownVersion}
+use Rattle.shop_schema.specs.declared.known.KnownVersion.TheVariants.{This, Missing, First, Other}
 use Rattle.chain_store.specs.Chains.{Rests, IsAt, StandsForEither, StandsSoundly, widest_rules}
 use Rattle.film_cache.proofs.Rows.{no_rows}
+use Rattle.caller_cache.proofs.Steps.{no_callers}
 use Rattle.chain_store.specs.Holding.{Chained}
 use Rattle.chain_store.proofs.Deciding.{stands_in_any}
 use Rattle.chain_store.specs.declared.faults.OpenFault.{OpenFault}
 use Rattle.chain_store.specs.declared.faults.OpenFault.TheVariants as fault
-use Rattle.chain_store.specs.Files.{HoldsBooks, HoldsOne, IsHeldIn, IsFoundIn, KeepsBooks, KeepsEither, HoldsNoChain, HoldsSoundly, HoldsDamage, HasThisVersion, HasNoVersion, HasOtherVersion, OpenFailed, Knows}
+use Rattle.chain_store.specs.Files.{HoldsBooks, HoldsOne, IsHeldIn, IsFoundIn, KeepsBooks, KeepsEither, HoldsNoChain, HoldsSoundly, HoldsDamage, HasThisVersion, HasNoVersion, HasOtherVersion, TellsVersion, OpenFailed, Knows}
 use Rattle.chain_store.specs.Openings.{IsNotOpened}
 
 pub clean_store : {D : Type 0} {g : Ghosts D} (it : FileStore D g) (files : Files D) → (files.log, files.db) ≡ store_files it → AreClean g files.log files.db → IsClean (view it)
@@ -84,12 +87,13 @@ keeps_either {D} {g} chain files left books besides at = record {
 }
 
 -- a chain that rests on books, and whose store hasn't failed, is at them
-pub opened_at : {D : Type 0} {g : Ghosts D} (chain : Chained (FileStore D g)) (books : Books) → chain.is_failed ≡ false → chain.films ≡ [] → IsSound widest_rules books → AreValues books
+pub opened_at : {D : Type 0} {g : Ghosts D} (chain : Chained (FileStore D g)) (books : Books) → chain.is_failed ≡ false → chain.films ≡ [] → chain.callers ≡ [] → IsSound widest_rules books → AreValues books
     → Rests (file_state chain.conn) books → IsAt over_files chain books books
-opened_at chain books live none sound values rests = record {
+opened_at chain books live none nobody sound values rests = record {
   sound = sound;
   values = values;
   films = no_rows _ _ none;
+  callers = no_callers _ _ nobody;
   rests = λ _. rests;
   alone = λ _. refl;
   left = λ failed. absurd (apart (sym live ∙ failed));
@@ -118,7 +122,7 @@ empty_has_none schema db empty sound =
     λ i. record { tables = tables i; indexes = indexes i; views = views i }
 
 -- one that begins with the table that has the version has some
-begins_with_some : (schema : Schema) → HasVersion schema → schema ≢ no_schema
+pub begins_with_some : (schema : Schema) → HasVersion schema → schema ≢ no_schema
 begins_with_some schema begins none = subst HasVersion none begins
 
 -- ---- the version
@@ -126,7 +130,10 @@ begins_with_some schema begins none = subst HasVersion none begins
 told_some : (v : Value) → version_told v ≡ Missing → ⊥
 told_some (Int (pos n)) e = elim (cases_Bool (n == this_version)) [
   | inl is ↦ let no : This ≡ Missing = rw is at e in cc
-  | inr isnt ↦ let no : Other ≡ Missing = rw isnt at e in cc
+  | inr isnt ↦ elim (cases_Bool (n == first_version)) [
+    | inl was ↦ let no : First ≡ Missing = rw (isnt, was) at e in cc
+    | inr wasnt ↦ let no : Other ≡ Missing = rw (isnt, wasnt) at e in cc
+  ]
 ]
 told_some (Int (negsuc n)) e = let no : Other ≡ Missing = e in cc
 told_some Null e = let no : Other ≡ Missing = e in cc
@@ -134,21 +141,28 @@ told_some (Real x) e = let no : Other ≡ Missing = e in cc
 told_some (Text t) e = let no : Other ≡ Missing = e in cc
 told_some (Blob b) e = let no : Other ≡ Missing = e in cc
 
--- a chain's table has one row
-one_version : (rows : List Row) (row : Row) → HasRows 2 rows (row ∷ []) → version_of (map (columns_of 1) rows) ≡ Missing → ⊥
+-- the one row of a chain's table
+pub one_version : (rows : List Row) (row : Row) → HasRows 2 rows (row ∷ []) → version_of (map (columns_of 1) rows) ≡ Missing → ⊥
 one_version [] row has e = omega (arith, length_permutation _ _ has)
 one_version (r ∷ []) row has e = told_some (column (columns_of 1 r) 0) e
 one_version (r ∷ s ∷ rows) row has e = omega (arith, length_permutation _ _ has)
+
+pub version_there : (version : ℕ) (token : List ℕ) (rows : List Row) → HasRows 2 rows (versioned_columns version token ∷ []) → version_of (map (columns_of 1) rows) ≡ version_told (number_value version)
+version_there version token [] has = absurd (omega (arith, length_permutation _ _ has))
+version_there version token (r ∷ []) has =
+    let same : versioned_columns version token ∷ [] ≡ columns_of 2 r ∷ [] = one_permutation _ _ has in
+    ap (λ (rows : List Row). version_of rows) (sym (ap (map (take 1)) same))
+version_there version token (r ∷ s ∷ rows) has = absurd (omega (arith, length_permutation _ _ has))
 
 module _ {D : Type 0} {g : Ghosts D} (c : Held (FileStore D g)) (files : Files D) (opened : IsOpened c) (found : Finds files c) where
   abbrev opened_state : State
   opened_state = file_state c
 
-  same_trees : opened_state.now.trees ≡ opened_state.committed.trees
+  pub same_trees : opened_state.now.trees ≡ opened_state.committed.trees
   same_trees = ap (λ (d : Database). d.trees) opened.0.clean
 
   -- the database of the files is what the connection shows
-  shows_found : (db : Trees) → HoldsDatabase (image_of g files) db → opened_state.now.trees ≡ db
+  pub shows_found : (db : Trees) → HoldsDatabase (image_of g files) db → opened_state.now.trees ≡ db
   shows_found db held = same_trees ∙ found.holds db held
 
   rests_on : SeenMayStay g → opened_state.now.schema ≡ shop_schema → (books : Books) → StandsFor opened_state.committed.trees books → Rests opened_state books
@@ -185,7 +199,7 @@ module _ {D : Type 0} {g : Ghosts D} (c : Held (FileStore D g)) (files : Files D
         | inr other ↦ inr (other.0, other.1, rests_on stays schema besides other.2)
       ])
 
-  committed_database : IsDatabaseOf opened_state.now.schema opened_state.committed.trees
+  pub committed_database : IsDatabaseOf opened_state.now.schema opened_state.committed.trees
   committed_database = subst (IsDatabaseOf opened_state.now.schema) same_trees (opened.1 opened.0.is_open).0
 
   -- what is found in the files is what the connection shows
@@ -217,7 +231,7 @@ module _ {D : Type 0} {g : Ghosts D} (c : Held (FileStore D g)) (files : Files D
     λ sound. none (subst StandsSoundly (sym same_trees) sound),
   )
 
-  is_database : (db : Trees) → HoldsDatabase (image_of g files) db → IsDatabaseOf opened_state.now.schema db
+  pub is_database : (db : Trees) → HoldsDatabase (image_of g files) db → IsDatabaseOf opened_state.now.schema db
   is_database db held = subst (IsDatabaseOf opened_state.now.schema) (shows_found db held) (opened.1 opened.0.is_open).0
 
   pub holds_no_chain : Knows Missing opened_state → HoldsNoChain (image_of g files)
@@ -245,15 +259,19 @@ module _ {D : Type 0} {g : Ghosts D} (c : Held (FileStore D g)) (files : Files D
   has_no_version (inr (inr (told, other))) db held =
       (opened_state.now.schema, is_database db held, inr (inr (subst (λ (t : Trees). version_of (map (columns_of 1) (t 0)) ≡ This) (shows_found db held) told, other)))
 
-  pub has_other_version : Knows Other opened_state → HasOtherVersion (image_of g files)
-  has_other_version it = (
+  pub tells_version : (known : KnownVersion) → HasVersion opened_state.now.schema → version_of (map (columns_of 1) (opened_state.now.trees 0)) ≡ known → TellsVersion known (image_of g files)
+  tells_version known begins told = (
     opened_state.committed.trees,
-    shows_what_is_held (begins_with_some opened_state.now.schema it.0),
+    shows_what_is_held (begins_with_some opened_state.now.schema begins),
     opened_state.now.schema,
     committed_database,
-    it.0,
-    subst (λ (t : Trees). version_of (map (columns_of 1) (t 0)) ≡ Other) same_trees it.1,
+    begins,
+    subst (λ (t : Trees). version_of (map (columns_of 1) (t 0)) ≡ known) same_trees told,
   )
+
+  pub has_other_version : Knows First opened_state ⊎ Knows Other opened_state → HasOtherVersion (image_of g files)
+  has_other_version (inl it) = inl (tells_version First it.0 it.1)
+  has_other_version (inr it) = inr (tells_version Other it.0 it.1)
 
   -- calls that commit nothing leave it so
   pub left_as_found : SeenMayStay g → (new : Held (FileStore D g)) (now : Files D) → Survives (file_state c) (file_state new) (λ _. ⊥) → HasCleanDisk (file_state new)

@@ -5,6 +5,7 @@ use Rattle.sqlite_trees.specs.declared.store.Store.{Ghosts}
 use Rattle.sqlite.specs.Held.{state}
 use Rattle.sqlite.specs.State.{HasCleanDisk}
 use Rattle.shop_model.specs.Values.{Film}
+use Rattle.shop_model.specs.Shop.{Catalogue}
 use Rattle.shop_model.specs.Refusals as named
 use Rattle.shop_model.specs.Machine.{Request, Sorry}
 use Rattle.shop_model.specs.Answers.{Answer, answer_of, problem_answer}
@@ -14,6 +15,9 @@ use Rattle.shop_model.specs.Office.{office_look}
 use Rattle.shop_model.specs.Histories.{is_store_failure}
 use Rattle.shop_model.proofs.Histories.{memory_failure, size_failure, failed_failure}
 use Rattle.film_cache.specs.Cached.{AreRows}
+use Rattle.caller_cache.specs.Entries.{Entries}
+use Rattle.caller_cache.specs.Known.{AreCallers}
+use Rattle.caller_cache.proofs.Steps.{callers_after}
 use Rattle.shop_schema.specs.Shop.{StandsFor}
 use Rattle.shop_types.specs.declared.audit.Audit.{Audit}
 use Rattle.shop_types.specs.declared.request.Request.{Request as Asked}
@@ -127,6 +131,7 @@ refused_takes {S} {g} {old} {new} {Q} it who what taken tell = record {
               sound = then.sound;
               values = then.values;
               films = then.films;
+              callers = then.callers;
               rests = λ isnt. never new.is_failed isnt is;
               alone = λ isnt. never new.is_failed isnt is;
               left = λ _ db may. elim (then.left is db may) [ inl first ↦ inl first | inr other ↦ inl (subst (λ (l : Books). StandsFor db l) one other.2) ];
@@ -154,10 +159,14 @@ room_at caller request it before after other (inr (failed, same)) = absurd (othe
 
 -- ---- a request
 
-module _ {S : Type 0} (g : Ghosts S) (old new : Chained S) (limits : new.limits ≡ old.limits) (fine : old.is_failed ≡ false) where
+module _ {S : Type 0} (g : Ghosts S) (old new : Chained S) (limits : new.limits ≡ old.limits) (same_callers : new.callers ≡ old.callers) (fine : old.is_failed ≡ false) where
   -- what is known of films is what was, or less
   abbrev KnowsNoMore : Type 0
   KnowsNoMore = (films : List Film) → AreRows old.films films → AreRows new.films films
+
+  -- and of callers what was
+  callers_stay : (catalogue : Catalogue) → AreCallers old.callers catalogue → AreCallers new.callers catalogue
+  callers_stay catalogue known = subst (λ (es : Entries). AreCallers es catalogue) (sym same_callers) known
 
   -- with the same books, by what the store answered
   pub kept : (it : StoreFault) (P : Holding → Holding → Type 0) → KnowsNoMore → new.is_failed ≡ is_final it
@@ -168,21 +177,21 @@ module _ {S : Type 0} (g : Ghosts S) (old new : Chained S) (limits : new.limits 
     goes = λ now books besides at.
         let rests = undone now books (at.rests fine) (are_held books at.sound at.values) in
         let same : holding new books besides ≡ holding old books besides = rw (limits, failed, fine) refl in
-        (books, besides, tell (holding old books besides) (holding new books besides) (inl (inl refl, same, fine)), record { sound = at.sound; values = at.values; films = rows books.catalogue.films at.films; rests = λ _. rests; alone = λ _. at.alone fine; left = λ was. never new.is_failed failed was });
+        (books, besides, tell (holding old books besides) (holding new books besides) (inl (inl refl, same, fine)), record { sound = at.sound; values = at.values; films = rows books.catalogue.films at.films; callers = callers_stay books.catalogue at.callers; rests = λ _. rests; alone = λ _. at.alone fine; left = λ was. never new.is_failed failed was });
   }
   kept fault.Size P rows failed clean undone tell = record {
     clean = clean;
     goes = λ now books besides at.
         let rests = undone now books (at.rests fine) (are_held books at.sound at.values) in
         let same : holding new books besides ≡ holding old books besides = rw (limits, failed, fine) refl in
-        (books, besides, tell (holding old books besides) (holding new books besides) (inl (inr refl, same, fine)), record { sound = at.sound; values = at.values; films = rows books.catalogue.films at.films; rests = λ _. rests; alone = λ _. at.alone fine; left = λ was. never new.is_failed failed was });
+        (books, besides, tell (holding old books besides) (holding new books besides) (inl (inr refl, same, fine)), record { sound = at.sound; values = at.values; films = rows books.catalogue.films at.films; callers = callers_stay books.catalogue at.callers; rests = λ _. rests; alone = λ _. at.alone fine; left = λ was. never new.is_failed failed was });
   }
   kept fault.Failed P rows failed clean undone tell = record {
     clean = clean;
     goes = λ now books besides at.
         let rests = undone now books (at.rests fine) (are_held books at.sound at.values) in
         let same : holding new books besides ≡ record (holding old books besides) { is_failed = true } = rw (limits, failed) refl in
-        (books, besides, tell (holding old books besides) (holding new books besides) (inr (refl, same)), record { sound = at.sound; values = at.values; films = rows books.catalogue.films at.films; rests = λ isnt. never new.is_failed isnt failed; alone = λ isnt. never new.is_failed isnt failed; left = λ _ db may. inl (rests.left db may) });
+        (books, besides, tell (holding old books besides) (holding new books besides) (inr (refl, same)), record { sound = at.sound; values = at.values; films = rows books.catalogue.films at.films; callers = callers_stay books.catalogue at.callers; rests = λ isnt. never new.is_failed isnt failed; alone = λ isnt. never new.is_failed isnt failed; left = λ _ db may. inl (rests.left db may) });
   }
 
   module _ (caller : Caller) (request : Request) (who : IsAsker caller) (asked : IsAsked request) (most : old.limits.commands ≤ 1_000_000) (fit : old.limits.copies ≤ 1_000_000) where
@@ -218,6 +227,7 @@ module _ {S : Type 0} (g : Ghosts S) (old new : Chained S) (limits : new.limits 
               sound = sound_after old.limits caller request books most fit at.sound;
               values = values_after old.limits books held at.sound caller who request asked most fit;
               films = it.2;
+              callers = callers_stay after.catalogue (callers_after old.callers (rules_of old.limits) (known_caller books.catalogue caller) request books at.callers);
               rests = λ _. rests;
               alone = λ _. refl;
               left = λ was. never new.is_failed still was;
@@ -255,6 +265,7 @@ module _ {S : Type 0} (g : Ghosts S) (old new : Chained S) (limits : new.limits 
               sound = at.sound;
               values = at.values;
               films = rows books.catalogue.films at.films;
+              callers = callers_stay books.catalogue at.callers;
               rests = λ isnt. never new.is_failed isnt failed;
               alone = λ isnt. never new.is_failed isnt failed;
               left = λ _ db may. elim (either db may) [
@@ -275,7 +286,7 @@ module _ {S : Type 0} (g : Ghosts S) (old new : Chained S) (limits : new.limits 
     goes = λ now books besides at.
         let rests = undone now books (at.rests fine) (are_held books at.sound at.values) in
         let same : holding new books besides ≡ holding old books besides = rw (limits, still, fine) refl in
-        (books, besides, tell now books besides at (holding new books besides) same, record { sound = at.sound; values = at.values; films = rows books.catalogue.films at.films; rests = λ _. rests; alone = λ _. at.alone fine; left = λ was. never new.is_failed still was });
+        (books, besides, tell now books besides at (holding new books besides) same, record { sound = at.sound; values = at.values; films = rows books.catalogue.films at.films; callers = callers_stay books.catalogue at.callers; rests = λ _. rests; alone = λ _. at.alone fine; left = λ was. never new.is_failed still was });
   }
 
   -- the caller was found
@@ -291,6 +302,42 @@ module _ {S : Type 0} (g : Ghosts S) (old new : Chained S) (limits : new.limits 
       → Takes g old new (FindsAudit (Ok audit))
   audited audit rows still clean told undone = looked (FindsAudit (Ok audit)) rows still clean undone
       (λ now books besides at after same. (audit_of_books (state g old.conn) audit (told now) books (at.rests fine) at.values at.sound, same, fine))
+
+-- ---- a caller who is kept in mind
+
+-- of a chain that hasn't failed
+pub known_already : {S : Type 0} (g : Ghosts S) (chain : Chained S) (token : List ℕ) (caller : Known) → chain.is_failed ≡ false
+    → ((catalogue : Catalogue) → AreCallers chain.callers catalogue → seen_caller caller ≡ caller_of (Some token) catalogue) → Takes g chain chain (FindsCaller token (Ok caller))
+known_already g chain token caller fine known = record {
+  clean = λ now. now;
+  goes = λ now books besides at. (books, besides, (known books.catalogue at.callers, refl, fine), at);
+}
+
+-- once the caller was found
+pub found_and_kept : {S : Type 0} (g : Ghosts S) (old new : Chained S) (callers : Entries) (token : List ℕ) (caller : Known)
+    → ((catalogue : Catalogue) → AreCallers new.callers catalogue → seen_caller caller ≡ caller_of (Some token) catalogue → AreCallers callers catalogue)
+    → Takes g old new (FindsCaller token (Ok caller)) → Takes g old (record new { callers = callers }) (FindsCaller token (Ok caller))
+found_and_kept g old new callers token caller keeps taken = record {
+  clean = taken.clean;
+  goes = λ now books besides at.
+      let it = taken.goes now books besides at in
+      let then = it.3 in
+      let same : it.0 ≡ books = ap (λ (h : Holding). h.books) it.2.1 in
+      let who : seen_caller caller ≡ caller_of (Some token) it.0.catalogue = subst (λ (b : Books). seen_caller caller ≡ caller_of (Some token) b.catalogue) (sym same) it.2.0 in (
+        it.0,
+        it.1,
+        it.2,
+        record {
+          sound = then.sound;
+          values = then.values;
+          films = then.films;
+          callers = keeps it.0.catalogue then.callers who;
+          rests = then.rests;
+          alone = then.alone;
+          left = then.left;
+        },
+      );
+}
 
 -- ---- an event
 

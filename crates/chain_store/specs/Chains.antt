@@ -16,6 +16,7 @@ use Rattle.shop_model.specs.Resends.{Resends}
 pub use Rattle.shop_model.specs.Stops.{failing}
 use Rattle.chain_store.specs.Branches.{KeepsBranches}
 use Rattle.film_cache.specs.Cached.{AreRows}
+use Rattle.caller_cache.specs.Known.{AreCallers}
 use Rattle.shop_types.specs.declared.request.Request.{Request as Asked}
 use Rattle.shop_types.specs.Seen.{seen_request}
 use Rattle.shop_schema.specs.RowValues.{AreValues}
@@ -52,12 +53,13 @@ StaysAsFound old new = old.now ≡ old.committed → IsTrue new.is_open → IsTr
 abbrev pub StandsSoundly : Trees → Type 0
 StandsSoundly db = (books : Books) × StandsFor db books × AreValues books × IsSound widest_rules books
 
--- the chain has these books: they are sound, the films that it knows are their rows, and its tables stand for them until the store fails; a crash may then
--- leave those besides
+-- the chain has these books: they are sound, the films that it knows are their rows, the callers that it knows have their tokens in them, and its tables
+-- stand for them until the store fails; a crash may then leave those besides
 pub record IsAt {S : Type 0} (g : Ghosts S) (chain : Chained S) (books besides : Books) : Type 0 where
   pub sound : IsSound widest_rules books
   pub values : AreValues books
   pub films : AreRows chain.films books.catalogue.films
+  pub callers : AreCallers chain.callers books.catalogue
   pub rests : chain.is_failed ≡ false → Rests (state g chain.conn) books
   pub alone : chain.is_failed ≡ false → besides ≡ books
   pub left : chain.is_failed ≡ true → LeavesEither (state g chain.conn) books besides

@@ -1,5 +1,5 @@
 -- The faults by which there is no chain: their names, and which one tells a fault of the store.
-use Rattle.std.specs.Prelude.{ℕ, List, codes}
+use Rattle.std.specs.Prelude.{ℕ, Bool, true, false, List, codes}
 use Rattle.chain_store.specs.declared.faults.OpenFault.{OpenFault}
 use Rattle.chain_store.specs.declared.faults.OpenFault.TheVariants as fault
 use Rattle.sql_rows.specs.declared.fault.StoreFault.{StoreFault}
@@ -18,3 +18,10 @@ abbrev pub open_fault_for : StoreFault → OpenFault
 open_fault_for stored.Memory = fault.Memory
 open_fault_for stored.Size = fault.Size
 open_fault_for stored.Failed = fault.Store
+
+-- the store couldn't do its part
+abbrev pub is_store_fault : OpenFault → Bool
+is_store_fault fault.Memory = true
+is_store_fault fault.Size = true
+is_store_fault fault.Store = true
+is_store_fault _ = false

@@ -4,6 +4,7 @@ pub mod Chains
 pub mod Steps
 pub mod Decisions
 pub mod Faults
+pub mod Migrations
 pub mod Files
 pub mod Openings
 pub mod Reports

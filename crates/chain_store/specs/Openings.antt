@@ -1,5 +1,5 @@
--- What making and opening a chain in two files promise.
-use Rattle.std.specs.Prelude.{◌≡◌, ◌≢◌, ◌⊎◌, false}
+-- What making, opening and migrating a chain in two files promise.
+use Rattle.std.specs.Prelude.{◌≡◌, ◌≢◌, ◌⊎◌, true, false}
 use Rattle.sqlite_disk.specs.declared.Disk.{Ghosts}
 use Rattle.sqlite_disk.specs.declared.Files.{Files}
 use Rattle.sqlite_wal.specs.Reads.{AreClean}
@@ -12,12 +12,16 @@ use Rattle.sqlite.specs.Files.{over_files, file_state, image_of}
 use Rattle.sql_rows.specs.Books.{no_schema}
 use Rattle.shop_values.specs.LimitValues.{Limits}
 use Rattle.shop_model.specs.Books.{Books}
+use Rattle.shop_model.specs.Migration.{migrated}
 use Rattle.shop_schema.specs.Shop.{StandsFor}
+use Rattle.shop_schema.specs.declared.known.KnownVersion.TheVariants.{Other}
 use Rattle.chain_store.specs.declared.faults.OpenFault.{OpenFault}
 use Rattle.chain_store.specs.declared.faults.OpenFault.TheVariants as fault
 use Rattle.chain_store.specs.Holding.{Chained}
 use Rattle.chain_store.specs.Chains.{IsAt}
-use Rattle.chain_store.specs.Files.{HoldsBooks, HoldsOne, IsHeldIn, IsFoundIn, KeepsBooks, KeepsEither, HoldsNoChain, HoldsSoundly, HoldsDamage, HasThisVersion, HasNoVersion, HasOtherVersion, OpenFailed}
+use Rattle.chain_store.specs.Faults.{is_store_fault}
+use Rattle.chain_store.specs.Migrations.{AreMigrated}
+use Rattle.chain_store.specs.Files.{HoldsBooks, HoldsOne, IsHeldIn, IsFoundIn, KeepsBooks, KeepsEither, HoldsNoChain, HoldsSoundly, HoldsDamage, HasThisVersion, HasNoVersion, HasOtherVersion, TellsVersion, OpenFailed, HoldsVersion1Books, KeepsVersion1Books, KeepsInEither, StandsInEither, HoldsNoVersion1, HasVersion1, HasNeitherVersion, HoldsVersion1Damage}
 
 -- ---- making
 
@@ -86,3 +90,41 @@ pub record IsNotOpened {D : Type 0} (g : Ghosts D) (files : Files D) (why : Open
   pub kept : AreClean g left.log left.db → OpenFailed g files left ⊎ ((db : Trees) × IsFoundIn (image_of g files) db × HoldsOne g left (λ found. found ≡ db))
   -- what only making a chain tells isn't told
   pub already : why ≢ fault.Already
+
+-- ---- migrating
+
+-- a chain of version 1 in the files became one of this version, with these limits
+pub record IsMigratedIn {D : Type 0} {g : Ghosts D} (files : Files D) (given : Limits) (chain : Chained (FileStore D g)) : Type 0 where
+  pub limits : chain.limits ≡ given
+  pub live : chain.is_failed ≡ false
+  -- no wrong answer of the disk was taken as true before
+  pub honest : HasCleanDisk (file_state chain.conn) → AreClean g files.log files.db
+  -- the files held the tables of version 1
+  pub first : HasCleanDisk (file_state chain.conn) → HasVersion1 (image_of g files)
+  -- whatever was known of the files, the chain has sound books
+  pub sound : HasCleanDisk (file_state chain.conn) → (books : Books) × IsAt over_files chain books books
+  -- the chain has the books of version 1 that were found in the files, with the terms of each rental,
+  pub found : HasCleanDisk (file_state chain.conn) → (books : Books) → HoldsVersion1Books (image_of g files) books → IsAt over_files chain (migrated books) (migrated books)
+  -- or those that were closed,
+  pub again : HasCleanDisk (file_state chain.conn) → (books : Books) → KeepsVersion1Books g files books → IsAt over_files chain (migrated books) (migrated books)
+  -- also where a migration had been stopped before
+  pub resumed : HasCleanDisk (file_state chain.conn) → (books : Books) → KeepsInEither g files books → IsAt over_files chain (migrated books) (migrated books)
+
+-- the fault for which nothing was migrated in the files, or not for certain, and what is left of them
+pub record IsNotMigrated {D : Type 0} (g : Ghosts D) (files : Files D) (why : OpenFault) (left : Files D) : Type 0 where
+  -- Already: the files hold a chain of this version
+  pub already : AreClean g left.log left.db → why ≡ fault.Already → HasThisVersion (image_of g files)
+  -- NotAChain: no tables in the files, of this version or of version 1, stand for books,
+  pub no_chain : AreClean g left.log left.db → why ≡ fault.NotAChain → HoldsNoChain (image_of g files) × HoldsNoVersion1 (image_of g files)
+  -- and they don't tell either version
+  pub no_version : AreClean g left.log left.db → why ≡ fault.NotAChain → HasNeitherVersion (image_of g files)
+  -- OtherVersion: they tell one that is neither
+  pub other : AreClean g left.log left.db → why ≡ fault.OtherVersion → TellsVersion Other (image_of g files)
+  -- Damaged: they hold tables of version 1 that stand for no sound books
+  pub damaged : AreClean g left.log left.db → why ≡ fault.Damaged → AreClean g files.log files.db × HoldsVersion1Damage (image_of g files)
+  -- Whatever the fault is, the files are as the opening of their database left them that failed, or they go on to hold what was found in them; or, where the
+  -- store couldn't do its part, what that became.
+  pub kept : AreClean g left.log left.db → OpenFailed g files left
+      ⊎ ((db : Trees) × IsFoundIn (image_of g files) db × HoldsOne g left (λ found. (found ≡ db) ⊎ ((is_store_fault why ≡ true) × AreMigrated db found)))
+  -- So the books that the files kept are in what is left of them, in the one version or the other.
+  pub books : AreClean g left.log left.db → (books : Books) → KeepsInEither g files books → OpenFailed g files left ⊎ KeepsInEither g left books

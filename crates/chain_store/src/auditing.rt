@@ -1,6 +1,6 @@
 //! What an audit says of a chain's tables, in a transaction that changes nothing.
 
-ghost use Rattle.std.specs.Prelude.{◌≡◌, false, IfOk};
+ghost use Rattle.std.specs.Prelude.{◌≡◌, false, IfOk, OnOk};
 ghost use Rattle.sqlite.specs.Held.{state};
 ghost use Rattle.sqlite.specs.State.{HasCleanDisk, Survives};
 ghost use Rattle.sql_rows.specs.Calls.{StaysInside};
@@ -29,11 +29,16 @@ pub fn read_audit<S: Alter>(alloc: Global, conn: &mut Connection<S>) -> Result<A
     audit
 }
 
-/// The audit of the tables and of the books for which they stand, in one clause.
-fn audit_tables<S: Alter>(alloc: Global, tx: &mut Transaction<'_, S>) -> Result<Audit, StoreFault>
+/// The audit of the tables, which stay as they are, and of the books for which they stand, in one clause.
+pub(crate) fn audit_tables<S: Alter>(
+    alloc: Global,
+    tx: &mut Transaction<'_, S>,
+) -> Result<Audit, StoreFault>
     ensures inside { StaysInside S.Store tx.old.conn tx.new.conn result }
     ensures audit { HasCleanDisk (state S.Store tx.new.conn.now) → IsShop (state S.Store tx.old.conn.now)
         → IfOk result (AuditsTables (state S.Store tx.old.conn.now).now.trees) }
+    ensures same { HasCleanDisk (state S.Store tx.new.conn.now) → IsShop (state S.Store tx.old.conn.now)
+        → OnOk result ((state S.Store tx.new.conn.now).now ≡ (state S.Store tx.old.conn.now).now) }
 {
     audit_books(alloc, tx)
 }

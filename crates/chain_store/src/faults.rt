@@ -1,7 +1,7 @@
 //! Why there is no chain.
 
-ghost use Rattle.std.specs.Prelude.{◌≡◌, ◌≢◌, Some};
-ghost use Rattle.chain_store.specs.Faults.{fault_name, open_fault_for};
+ghost use Rattle.std.specs.Prelude.{◌≡◌, ◌≢◌, true, Some};
+ghost use Rattle.chain_store.specs.Faults.{fault_name, is_store_fault, open_fault_for};
 
 use sql_rows::StoreFault;
 use std::fmt;
@@ -21,7 +21,7 @@ pub enum OpenFault {
     OtherVersion,
     /// The files hold a chain of this version, whose tables stand for no sound books.
     Damaged,
-    /// The files hold tables already, where a chain was to be made.
+    /// The files hold tables already, where a chain was to be made, or a chain of this version, where one of version 1 was to be migrated.
     Already,
 }
 
@@ -44,6 +44,7 @@ impl fmt::Display for OpenFault {
 /// Why there is no chain, by what the store answered.
 pub fn named(fault: StoreFault) -> OpenFault
     ensures told { result ≡ open_fault_for fault }
+    ensures store { is_store_fault result ≡ true }
     ensures chain { result ≢ OpenFault.NotAChain }
     ensures version { result ≢ OpenFault.OtherVersion }
     ensures damaged { result ≢ OpenFault.Damaged }

@@ -1,6 +1,6 @@
 //! The database in two files: how it is opened, what it tells of its version, and how the files are given back.
 
-ghost use Rattle.std.specs.Prelude.{◌≡◌, ◌≢◌, false, Ok, IfOk, OnOk, IfErr, map};
+ghost use Rattle.std.specs.Prelude.{◌≡◌, ◌≢◌, ◌⊎◌, true, false, Ok, IfOk, OnOk, IfErr, map};
 ghost use Rattle.sqlite.specs.Held.{IsNew, state};
 ghost use Rattle.sqlite.specs.State.{HasCleanDisk, Survives};
 ghost use Rattle.sqlite.specs.Files.{Finds, IsOpened, file_state, image_of};
@@ -72,12 +72,36 @@ pub fn version_in<S: Alter>(conn: &mut Connection<S>) -> Result<KnownVersion, St
 pub fn verdict(known: Result<KnownVersion, StoreFault>) -> Result<(), OpenFault>
     ensures this { OnOk result (known ≡ Ok KnownVersion.This) }
     ensures none { IfErr result (λ e. e ≡ OpenFault.NotAChain → known ≡ Ok KnownVersion.Missing) }
-    ensures other { IfErr result (λ e. e ≡ OpenFault.OtherVersion → known ≡ Ok KnownVersion.Other) }
+    ensures other { IfErr result (λ e. e ≡ OpenFault.OtherVersion → (known ≡ Ok KnownVersion.First) ⊎ (known ≡ Ok KnownVersion.Other)) }
     ensures damaged { IfErr result (λ e. e ≢ OpenFault.Damaged) }
     ensures already { IfErr result (λ e. e ≢ OpenFault.Already) }
 {
     match known {
         Ok(KnownVersion::This) => Ok(()),
+        Ok(KnownVersion::Missing) => Err(OpenFault::NotAChain),
+        Ok(KnownVersion::First) | Ok(KnownVersion::Other) => Err(OpenFault::OtherVersion),
+        Err(fault) => Err(named(fault)),
+    }
+}
+
+/// Why the tables can't be migrated, where they aren't a chain's of version 1; `is_first` is whether they are those of version 1.
+pub fn first_verdict(
+    known: Result<KnownVersion, StoreFault>,
+    is_first: Result<bool, StoreFault>,
+) -> Result<(), OpenFault>
+    ensures first { OnOk result ((known ≡ Ok KnownVersion.First) × (is_first ≡ Ok true)) }
+    ensures none { IfErr result (λ e. e ≡ OpenFault.NotAChain → (known ≡ Ok KnownVersion.Missing) ⊎ ((known ≡ Ok KnownVersion.First) × (is_first ≡ Ok false))) }
+    ensures other { IfErr result (λ e. e ≡ OpenFault.OtherVersion → known ≡ Ok KnownVersion.Other) }
+    ensures already { IfErr result (λ e. e ≡ OpenFault.Already → known ≡ Ok KnownVersion.This) }
+    ensures damaged { IfErr result (λ e. e ≢ OpenFault.Damaged) }
+{
+    match known {
+        Ok(KnownVersion::First) => match is_first {
+            Ok(true) => Ok(()),
+            Ok(false) => Err(OpenFault::NotAChain),
+            Err(fault) => Err(named(fault)),
+        },
+        Ok(KnownVersion::This) => Err(OpenFault::Already),
         Ok(KnownVersion::Missing) => Err(OpenFault::NotAChain),
         Ok(KnownVersion::Other) => Err(OpenFault::OtherVersion),
         Err(fault) => Err(named(fault)),

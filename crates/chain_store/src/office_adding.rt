@@ -18,7 +18,7 @@ use shop_ledger::{Count, Owner, put_kept, take_numbers};
 use shop_store::{
     last_actor, last_branch, last_category, last_city, last_country, last_film, last_language,
     last_staff, put_actor, put_branch, put_cast, put_category, put_city, put_country, put_counts,
-    put_film, put_language, put_staff, set_gone, set_manager, set_rate, set_withdrawn,
+    put_film, put_language, put_staff, set_gone, set_manager, set_rate, set_rule, set_withdrawn,
 };
 use shop_types::{Branch, OfficeAct, OfficeCommand, Reply, RowNumber};
 use sql_rows::{Bytes, StoreFault};
@@ -102,6 +102,7 @@ fn write<S: Alter>(tx: &mut Transaction<'_, S>, act: &OfficeAct) -> Result<u32, 
         }
         OfficeAct::Leave(staff) => without_number(set_gone(tx, *staff)),
         OfficeAct::Manager { branch, staff } => without_number(set_manager(tx, *branch, *staff)),
+        OfficeAct::Rule(rule) => without_number(set_rule(tx, *rule)),
     }
 }
 

@@ -4,8 +4,9 @@ ghost use Rattle.std.specs.Prelude.{◌≡◌, option_map, Ok, IfOk};
 ghost use Rattle.sqlite.specs.Held.{state};
 ghost use Rattle.sqlite.specs.State.{HasCleanDisk};
 ghost use Rattle.sql_rows.specs.Calls.{StaysWithin};
+ghost use Rattle.shop_model.specs.Shop.{same_rule};
 ghost use Rattle.shop_model.specs.Values as model;
-ghost use Rattle.shop_types.specs.Seen.{seen_film, seen_branch, seen_staff, seen_office_act, seen_office};
+ghost use Rattle.shop_types.specs.Seen.{seen_film, seen_branch, seen_staff, seen_rule, seen_office_act, seen_office};
 ghost use Rattle.shop_schema.specs.Calls.{Finds};
 ghost use Rattle.catalogue_core.specs.Shares.{Shares, seen_branch_found};
 ghost use Rattle.chain_store.specs.OfficeFound.{shared_of, IsKeptFor, FindsFor};
@@ -14,11 +15,11 @@ use catalogue_core::{BranchFound, SharedRows};
 use shop_ledger::{Count, count_of};
 use shop_store::{
     branch_manager, film_withdrawn, has_actor, has_cast, has_category, has_city, has_country,
-    has_language, has_token, is_category, is_country, is_language, office_token, staff_at,
+    has_language, has_token, is_category, is_country, is_language, office_token, rule_at, staff_at,
 };
 use shop_types::{
-    ActorNo, Branch, BranchNo, Film, FilmNo, OfficeAct, OfficeCommand, Staff, StaffFound, StaffNo,
-    Token,
+    ActorNo, Branch, BranchNo, Film, FilmNo, OfficeAct, OfficeCommand, Rule, Staff, StaffFound,
+    StaffNo, Token,
 };
 use sql_rows::StoreFault;
 use sqlite::{Alter, Transaction};
@@ -75,6 +76,7 @@ fn find_rows<S: Alter>(
         OfficeAct::Staff(staff) => for_staff(tx, staff),
         OfficeAct::Leave(staff) => with_staff(staff_at(tx, *staff)),
         OfficeAct::Manager { branch, staff } => for_manager(tx, *branch, *staff),
+        OfficeAct::Rule(rule) => for_rule(tx, *rule),
     }
 }
 
@@ -164,6 +166,29 @@ fn for_manager<S: Alter>(
         staff: manager,
         ..SharedRows::none()
     })
+}
+
+/// Whether a rule is the one that is chosen already.
+fn for_rule<S: Alter>(tx: &mut Transaction<'_, S>, rule: Rule) -> Result<SharedRows, StoreFault>
+    ensures inside { StaysWithin S.Store tx.old.conn tx.new.conn result }
+    ensures found { HasCleanDisk (state S.Store tx.new.conn.now) → IfOk result (λ rows.
+        FindsFor (model.ChooseRule (seen_rule rule)) rows (state S.Store tx.old.conn.now) (state S.Store tx.new.conn.now)) }
+{
+    let chosen = rule_at(tx)?;
+    Ok(SharedRows {
+        is_chosen: is_same(chosen, rule),
+        ..SharedRows::none()
+    })
+}
+
+fn is_same(first: Rule, second: Rule) -> bool
+    ensures { result ≡ same_rule (seen_rule first) (seen_rule second) }
+{
+    match (first, second) {
+        (Rule::ByCode, Rule::ByCode) => true,
+        (Rule::ByComment, Rule::ByComment) => true,
+        _ => false,
+    }
 }
 
 /// Whether a country, language or category has the name of a new one.

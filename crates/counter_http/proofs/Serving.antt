@@ -1,5 +1,5 @@
 -- A connection goes on: by more bytes, or by an exchange.
-use Rattle.std.proofs.Common.{◌≡◌, ◌≢◌, ℕ, ◌+◌, ◌<◌, inl, inr, List, [], ◌∷◌, ◌++◌, refl, ap, ◌∙◌, arith, append-nil, length-append, Option}
+use Rattle.std.proofs.Common.{◌≡◌, ◌≢◌, ℕ, ◌+◌, ◌<◌, ◌≤◌, inl, inr, List, [], ◌∷◌, ◌++◌, length, drop, length-drop, refl, ap, ◌∙◌, arith, append-nil, length-append, Option}
 use Rattle.std.proofs.lemmas.List.Elements.{All-push}
 use Rattle.std.proofs.lemmas.Grind.{flat_map-append}
 use Rattle.std.specs.Io.KnownBytes.{Appends, Consumes, Keeps, IsAtEnd}
@@ -16,6 +16,7 @@ use Rattle.counter_http.specs.declared.connection.ServeFault.{ServeFault}
 use Rattle.counter_http.specs.declared.connection.ServeFault.TheVariants as kind
 use Rattle.counter_http.specs.declared.connection.After.TheVariants.{Asks, Fails}
 use Rattle.counter_http.specs.declared.connection.End.TheVariants.{Closed, Cut, Asked, Limit, Refused, StoreFailed}
+use Rattle.counter_http.specs.declared.inbox.TheConstants.{ROOM}
 use Rattle.counter_http.proofs.KnownBytes.{IsFrontWritten}
 use Rattle.counter_http.proofs.Runs.{ran_none, ran_more, ran_one, ran_as}
 
@@ -26,6 +27,10 @@ texts-snoc es e =
 pub refused_is : (input : List ℕ) (fault : Fault) → IsReading input (NoMessage fault) → IsRefused fault input
 refused_is input BadHead x = x
 refused_is input TooLong x = x
+
+-- what is left behind a message has room too
+pub drop_near : (n : ℕ) (xs : List ℕ) → length xs ≤ ROOM → length (drop n xs) ≤ ROOM
+drop_near n xs near = omega (arith, length-drop n xs)
 
 -- a read
 pub serving_more : (n : ℕ) (Ran : List Exchange → Type 0) (inbox longer more : List ℕ) (input mid left output written : Option (List ℕ))
@@ -61,10 +66,11 @@ serving_one n Ran Ran' inbox rest input left output written later e x has grows 
 -- an exchange, which is the last
 pub served_asked : (n max : ℕ) (Ran Ran' : List Exchange → Type 0) (inbox rest : List ℕ) (input left output written later : Option (List ℕ)) (e : Exchange)
     → IsServing n Ran inbox input left output written
-    → HasMessage inbox e.message rest → ((es : List Exchange) → Ran es → Ran' (es ++ e ∷ []))
+    → HasMessage inbox e.message rest → length rest ≤ ROOM → ((es : List Exchange) → Ran es → Ran' (es ++ e ∷ []))
     → n < max → Appends written later (text_of e.answer) → IsAfter Asks e
     → IsServed (record { replies = n + 1; end = Asked }) max Ran' input left output later
-served_asked n max Ran Ran' inbox rest input left output written later e x has grows lt appends asks = record {
+served_asked n max Ran Ran' inbox rest input left output written later e x has near grows lt appends asks = record {
+  near = near;
   read = x.read;
   exchanges = x.exchanges ++ e ∷ [];
   rest = rest;
@@ -78,10 +84,11 @@ served_asked n max Ran Ran' inbox rest input left output written later e x has g
 
 pub served_failed : (n max : ℕ) (Ran Ran' : List Exchange → Type 0) (inbox rest : List ℕ) (input left output written later : Option (List ℕ)) (e : Exchange)
     → IsServing n Ran inbox input left output written
-    → HasMessage inbox e.message rest → ((es : List Exchange) → Ran es → Ran' (es ++ e ∷ []))
+    → HasMessage inbox e.message rest → length rest ≤ ROOM → ((es : List Exchange) → Ran es → Ran' (es ++ e ∷ []))
     → n < max → Appends written later (text_of e.answer) → IsAfter Fails e
     → IsServed (record { replies = n + 1; end = StoreFailed }) max Ran' input left output later
-served_failed n max Ran Ran' inbox rest input left output written later e x has grows lt appends fails = record {
+served_failed n max Ran Ran' inbox rest input left output written later e x has near grows lt appends fails = record {
+  near = near;
   read = x.read;
   exchanges = x.exchanges ++ e ∷ [];
   rest = rest;
@@ -95,9 +102,10 @@ served_failed n max Ran Ran' inbox rest input left output written later e x has 
 
 -- the end of what there is to read
 pub served_closed : (n max : ℕ) (Ran : List Exchange → Type 0) (inbox : List ℕ) (input left output written : Option (List ℕ))
-    → IsServing n Ran inbox input left output written → n < max → IsAtEnd left → inbox ≡ []
+    → IsServing n Ran inbox input left output written → length inbox ≤ ROOM → n < max → IsAtEnd left → inbox ≡ []
     → IsServed (record { replies = n; end = Closed }) max Ran input left output written
-served_closed n max Ran inbox input left output written x lt at_end none = record {
+served_closed n max Ran inbox input left output written x near lt at_end none = record {
+  near = near;
   read = x.read;
   exchanges = x.exchanges;
   rest = inbox;
@@ -110,9 +118,10 @@ served_closed n max Ran inbox input left output written x lt at_end none = recor
 }
 
 pub served_limit : (n max : ℕ) (Ran : List Exchange → Type 0) (inbox : List ℕ) (input left output written : Option (List ℕ))
-    → IsServing n Ran inbox input left output written → n ≡ max
+    → IsServing n Ran inbox input left output written → length inbox ≤ ROOM → n ≡ max
     → IsServed (record { replies = n; end = Limit }) max Ran input left output written
-served_limit n max Ran inbox input left output written x most = record {
+served_limit n max Ran inbox input left output written x near most = record {
+  near = near;
   read = x.read;
   exchanges = x.exchanges;
   rest = inbox;
@@ -125,9 +134,10 @@ served_limit n max Ran inbox input left output written x most = record {
 }
 
 pub served_cut : (n max : ℕ) (Ran : List Exchange → Type 0) (inbox : List ℕ) (input left output written : Option (List ℕ))
-    → IsServing n Ran inbox input left output written → n < max → IsAtEnd left → inbox ≢ [] → IsCut inbox
+    → IsServing n Ran inbox input left output written → length inbox ≤ ROOM → n < max → IsAtEnd left → inbox ≢ [] → IsCut inbox
     → IsServed (record { replies = n; end = Cut }) max Ran input left output written
-served_cut n max Ran inbox input left output written x lt at_end some cut = record {
+served_cut n max Ran inbox input left output written x near lt at_end some cut = record {
+  near = near;
   read = x.read;
   exchanges = x.exchanges;
   rest = inbox;
@@ -140,10 +150,11 @@ served_cut n max Ran inbox input left output written x lt at_end some cut = reco
 }
 
 pub served_refused : (n max : ℕ) (Ran : List Exchange → Type 0) (inbox : List ℕ) (input left output written later : Option (List ℕ)) (fault : Fault)
-    → IsServing n Ran inbox input left output written → n < max → IsRefused fault inbox
+    → IsServing n Ran inbox input left output written → length inbox ≤ ROOM → n < max → IsRefused fault inbox
     → Appends written later (fault_text fault)
     → IsServed (record { replies = n + 1; end = Refused }) max Ran input left output later
-served_refused n max Ran inbox input left output written later fault x lt refused appends = record {
+served_refused n max Ran inbox input left output written later fault x near lt refused appends = record {
+  near = near;
   read = x.read;
   exchanges = x.exchanges;
   rest = inbox;
@@ -157,9 +168,10 @@ served_refused n max Ran inbox input left output written later fault x lt refuse
 
 -- a read that failed
 pub fault_read : (n most : ℕ) (Ran : List Exchange → Type 0) (inbox : List ℕ) (input left after output written : Option (List ℕ))
-    → IsServing n Ran inbox input left output written → Keeps left after → n < most → IsCut inbox
+    → IsServing n Ran inbox input left output written → length inbox ≤ ROOM → Keeps left after → n < most → IsCut inbox
     → IsReadFault n most Ran input after output written
-fault_read n most Ran inbox input left after output written x keeps few waits = record {
+fault_read n most Ran inbox input left after output written x near keeps few waits = record {
+  near = near;
   few = few;
   waits = waits;
   read = x.read;
@@ -175,10 +187,11 @@ fault_read n most Ran inbox input left after output written x keeps few waits = 
 -- a write that failed
 pub fault_reply : (n most : ℕ) (Ran Ran' : List Exchange → Type 0) (inbox rest : List ℕ) (input left output written later : Option (List ℕ)) (e : Exchange)
     → IsServing n Ran inbox input left output written
-    → HasMessage inbox e.message rest → ((es : List Exchange) → Ran es → Ran' (es ++ e ∷ []))
+    → HasMessage inbox e.message rest → length rest ≤ ROOM → ((es : List Exchange) → Ran es → Ran' (es ++ e ∷ []))
     → IsFrontWritten written later (text_of e.answer) → n < most
     → IsWriteFault n most Ran' input left output later
-fault_reply n most Ran Ran' inbox rest input left output written later e x has grows (part, more, is, unfinished, appends) few = record {
+fault_reply n most Ran Ran' inbox rest input left output written later e x has near grows (part, more, is, unfinished, appends) few = record {
+  near = near;
   few = few;
   unfinished = unfinished;
   read = x.read;
@@ -196,10 +209,11 @@ fault_reply n most Ran Ran' inbox rest input left output written later e x has g
 }
 
 pub fault_refusal : (n most : ℕ) (Ran : List Exchange → Type 0) (inbox : List ℕ) (input left output written later : Option (List ℕ)) (fault : Fault)
-    → IsServing n Ran inbox input left output written → IsRefused fault inbox
+    → IsServing n Ran inbox input left output written → length inbox ≤ ROOM → IsRefused fault inbox
     → IsFrontWritten written later (fault_text fault) → n < most
     → IsWriteFault n most Ran input left output later
-fault_refusal n most Ran inbox input left output written later fault x refused (part, more, is, unfinished, appends) few = record {
+fault_refusal n most Ran inbox input left output written later fault x near refused (part, more, is, unfinished, appends) few = record {
+  near = near;
   few = few;
   unfinished = unfinished;
   read = x.read;
@@ -240,6 +254,7 @@ served_as served most Ran Ran' input left output written x tell = record {
   consumed = x.consumed;
   ran = ran_as Ran Ran' x.read x.exchanges x.rest x.ran tell;
   writes = x.writes;
+  near = x.near;
   count = x.count;
   ends = x.ends;
 }
@@ -254,6 +269,7 @@ fault_as (kind.Read replies) most Ran Ran' input left output written x tell = re
   exchanges = x.exchanges;
   rest = x.rest;
   consumed = x.consumed;
+  near = x.near;
   ran = ran_as Ran Ran' x.read x.exchanges x.rest x.ran tell;
   writes = x.writes;
   count = x.count;
@@ -268,6 +284,7 @@ fault_as (kind.Write replies) most Ran Ran' input left output written x tell = r
   part = x.part;
   more = x.more;
   consumed = x.consumed;
+  near = x.near;
   ran = ran_as Ran Ran' x.read (x.exchanges ++ x.failed) x.rest x.ran tell;
   writes = x.writes;
   unfinished = x.unfinished;

@@ -1,5 +1,5 @@
 -- Several connections, and one more turn of one of them.
-use Rattle.std.proofs.Common.{◌≡◌, ℕ, ◌+◌, ◌-◌, ◌<◌, ◌==◌, Bool, true, false, List, [], ◌∷◌, ◌++◌, refl, sym, ap, ◌∙◌, map, append-nil, eqb-true, arith, Option, Some, None}
+use Rattle.std.proofs.Common.{◌≡◌, ℕ, ◌-◌, ◌==◌, Bool, true, false, List, [], ◌∷◌, ◌++◌, refl, sym, ap, ◌∙◌, map, append-nil, eqb-true, arith, Option, Some, None}
 use Rattle.std.specs.Prelude.{All, if◌then◌else◌}
 use Rattle.std.proofs.lemmas.List.{map-append}
 use Rattle.std.proofs.lemmas.List.Elements.{All-nil, All-cons, All-head, All-tail, All-push}
@@ -8,7 +8,7 @@ use Rattle.sqlite_trees.specs.declared.store.Store.{Ghosts}
 use Rattle.counter_routes.specs.Words.{Meaning}
 use Rattle.chain_engine.specs.Holding.{Chained}
 use Rattle.counter_http.specs.Exchanges.{Exchange, GoesOn, texts, RunsOver}
-use Rattle.counter_http.specs.Served.{IsEnd, IsServed, fault_replies}
+use Rattle.counter_http.specs.Served.{IsEnd}
 use Rattle.counter_http.specs.Standings.{Line, opened, IsTurn}
 use Rattle.counter_http.specs.Together.{Till, IsTill, Mixes, comes, goes, nothing, AreServed, AreServedTogether, TurnsServe, till_opened, till_then}
 use Rattle.counter_http.specs.declared.connection.End.{End}
@@ -27,7 +27,7 @@ all_replaced P (z ∷ front) x y back all p =
     All-cons P z (front ++ y ∷ back) (All-head P z (front ++ x ∷ back) all) (all_replaced P front x y back (All-tail P z (front ++ x ∷ back) all) p)
 
 opened_may_answer : (most : ℕ) → MayAnswer (opened most)
-opened_may_answer most live = grind (arith, nat_tests)
+opened_may_answer most = ((λ live. grind (arith, nat_tests)), omega arith)
 
 joined : (es more one two : List Exchange) → one ≡ es → two ≡ more → one ++ two ≡ es ++ more
 joined es more one two p q = ap (λ (l : List Exchange). l ++ two) p ∙ ap (λ (l : List Exchange). es ++ l) q
@@ -100,6 +100,7 @@ turns_serve {S} g meaning old new most line end input left output written x empt
   last = x.last;
   consumed = x.consumed;
   ran = x.ran;
+  near = x.near;
   writes = let all : texts x.exchanges ++ x.last ≡ x.sent = x.splits ∙ ap (λ (l : List ℕ). x.sent ++ l) empty ∙ append-nil x.sent in rw all x.writes;
   count = let e = x.count in omega arith;
   ends = ends_by (opened most).ending refl;

@@ -1,5 +1,5 @@
 -- Turns of a connection, one after another.
-use Rattle.std.proofs.Common.{◌≡◌, ◌⊎◌, inl, inr, ℕ, ◌+◌, ◌-◌, ◌<◌, List, [], ◌∷◌, ◌++◌, length, arith, length-append, refl, sym, subst, ap, ◌∙◌, append_assoc, append-nil, Option, Some, None}
+use Rattle.std.proofs.Common.{◌≡◌, ◌⊎◌, inl, inr, ℕ, ◌+◌, ◌-◌, ◌<◌, ◌≤◌, List, [], ◌∷◌, ◌++◌, length, arith, length-append, refl, sym, subst, ap, ◌∙◌, append_assoc, append-nil, Option, Some, None}
 use Rattle.std.specs.Prelude.{All}
 use Rattle.std.proofs.lemmas.List.{map-append}
 use Rattle.std.proofs.lemmas.List.Elements.{All-nil, All-append}
@@ -13,14 +13,20 @@ use Rattle.http_messages.proofs.StreamLemmas.{HasMessages-append}
 use Rattle.counter_http.specs.Exchanges.{Exchange, text_of, texts, messages_of, GoesOn, HasRun}
 use Rattle.counter_http.specs.Served.{EndsWith, IsRefused, fault_text}
 use Rattle.counter_http.specs.Standings.{Line, GoesOrEnds, IsTurn}
+use Rattle.counter_http.specs.declared.inbox.TheConstants.{ROOM}
 use Rattle.counter_http.specs.declared.connection.After.{After}
 use Rattle.counter_http.specs.declared.connection.After.TheVariants.{Asks, Fails}
 use Rattle.counter_http.specs.declared.connection.End.{End}
 use Rattle.counter_http.specs.declared.connection.End.TheVariants.{Closed, Cut, Asked, Limit, Refused, StoreFailed}
 
--- a connection that goes on may answer another request
+-- a connection that goes on may answer another request, and what it has read has room
 abbrev pub MayAnswer : Line → Type 0
-MayAnswer line = line.ending ≡ None → line.replies < line.most
+MayAnswer line = (line.ending ≡ None → line.replies < line.most) × (length line.inbox ≤ ROOM)
+
+-- 1 where the connection goes on
+abbrev pub live : Option End → ℕ
+live None = 1
+live (Some end) = 0
 
 none_some : {A : Type 0} (end : End) (ending : Option End) → ending ≡ None → ending ≡ Some end → A
 none_some end ending goes is = absurd (clash (sym goes ∙ is))
@@ -44,8 +50,9 @@ turn_sent old unsent Ran input output written sent may appends parts start = rec
   writes = appends;
   splits = append-nil old.unsent ∙ parts;
   refused = inl refl;
+  near = may.1;
   stopped = λ end is. (refl, refl, refl, refl, is);
-  goes = λ live. let lt = may live in rw live (All-nil GoesOn, omega arith, refl);
+  goes = λ live. let lt = may.0 live in rw live (All-nil GoesOn, omega arith, refl);
   count = omega arith;
   kept = refl;
 }
@@ -55,10 +62,11 @@ turn_none line Ran input output may start = turn_sent line line.unsent Ran input
 
 -- bytes were read, and they may be the last
 pub turn_read : (old : Line) (inbox : List ℕ) (ending : Option End) (Ran : List Exchange → Type 0) (input left output : Option (List ℕ)) (more : List ℕ)
-    → old.ending ≡ None → Consumes input left more → inbox ≡ old.inbox ++ more
+    → old.ending ≡ None → Consumes input left more → inbox ≡ old.inbox ++ more → length inbox ≤ ROOM
     → GoesOrEnds ending (old.most - old.replies) [] left inbox [] → Ran []
     → IsTurn old (record old { inbox = inbox; ending = ending }) Ran input left output output
-turn_read old inbox ending Ran input left output more live consumes grown goes start = record {
+turn_read old inbox ending Ran input left output more live consumes grown near goes start = record {
+  near = near;
   read = more;
   exchanges = [];
   last = [];
@@ -76,17 +84,18 @@ turn_read old inbox ending Ran input left output more live consumes grown goes s
 
 -- bytes were read, and more may come
 pub turn_grown : (old : Line) (inbox : List ℕ) (Ran : List Exchange → Type 0) (input left output : Option (List ℕ)) (more : List ℕ)
-    → MayAnswer old → old.ending ≡ None → Consumes input left more → inbox ≡ old.inbox ++ more → Ran []
+    → MayAnswer old → old.ending ≡ None → Consumes input left more → inbox ≡ old.inbox ++ more → length inbox ≤ ROOM → Ran []
     → IsTurn old (record old { inbox = inbox }) Ran input left output output
-turn_grown old inbox Ran input left output more may live consumes grown start =
-    turn_read old inbox old.ending Ran input left output more live consumes grown (let lt = may live in rw live (All-nil GoesOn, omega arith, refl)) start
+turn_grown old inbox Ran input left output more may live consumes grown near start =
+    turn_read old inbox old.ending Ran input left output more live consumes grown near (let lt = may.0 live in rw live (All-nil GoesOn, omega arith, refl)) start
 
 -- one more message was answered, and nothing was left to write before
 pub turn_answer : (old new : Line) (Ran : List Exchange → Type 0) (input output : Option (List ℕ)) (e : Exchange)
-    → old.unsent ≡ [] → old.ending ≡ None → HasMessage old.inbox e.message new.inbox → new.unsent ≡ text_of e.answer
+    → old.unsent ≡ [] → old.ending ≡ None → HasMessage old.inbox e.message new.inbox → length new.inbox ≤ ROOM → new.unsent ≡ text_of e.answer
     → new.replies ≡ old.replies + 1 → new.most ≡ old.most → GoesOrEnds new.ending (old.most - old.replies) (e ∷ []) input new.inbox [] → Ran (e ∷ [])
     → IsTurn old new Ran input input output output
-turn_answer old new Ran input output e empty live has told one same goes ran = record {
+turn_answer old new Ran input output e empty live has near told one same goes ran = record {
+  near = near;
   read = [];
   exchanges = e ∷ [];
   last = [];
@@ -117,7 +126,8 @@ turn_refusal old Ran input output fault may empty live refused start = record {
   splits = ap (λ (l : List ℕ). l ++ fault_text fault) empty;
   refused = inr refl;
   stopped = λ end is. none_some end old.ending live is;
-  goes = λ none. let lt = may live in (All-nil GoesOn, omega arith, fault, refused, refl);
+  near = may.1;
+  goes = λ none. let lt = may.0 live in (All-nil GoesOn, omega arith, fault, refused, refl);
   count = omega arith;
   kept = refl;
 }
@@ -178,6 +188,7 @@ turn_then {old} {mid} {new} {First} {Second} {Both} {input} {left} {after} {outp
   writes = Appends-trans output written later x.sent y.sent x.writes y.writes;
   splits = joined old.unsent mid.unsent new.unsent x.sent y.sent x.exchanges y.exchanges x.last y.last x.splits y.splits (order x.refused);
   refused = last_of x.refused y.refused;
+  near = y.near;
   stopped = λ end is. both (x.stopped end is) (y.stopped end ((x.stopped end is).4));
   goes = λ none. goes_by mid.ending refl (x.goes none);
   count = let e = x.count in let f = y.count in omega (arith, length-append x.exchanges y.exchanges);
@@ -252,6 +263,7 @@ turn_as {old} {new} {Ran} {Ran'} {input} {left} {output} {written} x ran = recor
   writes = x.writes;
   splits = x.splits;
   refused = x.refused;
+  near = x.near;
   stopped = x.stopped;
   goes = x.goes;
   count = x.count;

@@ -8,6 +8,7 @@ use Rattle.shop_model.specs.Refusals as named
 use Rattle.shop_model.specs.Answers.{problem_answer}
 use Rattle.shop_model.specs.Histories.{is_store_failure}
 use Rattle.counter_http.specs.Exchanges.{Exchange, text_of, texts, GoesOn, HasRun}
+use Rattle.counter_http.specs.declared.inbox.TheConstants.{ROOM}
 use Rattle.counter_http.specs.declared.connection.End.{End}
 use Rattle.counter_http.specs.declared.connection.End.TheVariants.{Closed, Cut, Asked, Limit, Refused, StoreFailed}
 use Rattle.counter_http.specs.declared.connection.Served.{Served}
@@ -56,8 +57,8 @@ fault_replies Limit = 0
 fault_replies Asked = 0
 fault_replies StoreFailed = 0
 
--- What was read is some messages and a rest. The chain ran over the messages, of which `Ran` tells, and the bytes of its answers were written, in order,
--- and behind them those for a text that is no message, where there was one.
+-- What was read is some messages and a rest, of no more bytes than a connection has room for. The chain ran over the messages, of which `Ran` tells, and the bytes
+-- of its answers were written, in order, and behind them those for a text that is no message, where there was one.
 pub record IsServed (served : Served) (most : ℕ) (Ran : List Exchange → Type 0) (input left output written : Option (List ℕ)) : Type 0 where
   pub read : List ℕ
   pub exchanges : List Exchange
@@ -66,6 +67,7 @@ pub record IsServed (served : Served) (most : ℕ) (Ran : List Exchange → Type
   pub consumed : Consumes input left read
   pub ran : HasRun Ran read exchanges rest
   pub writes : Appends output written (texts exchanges ++ last)
+  pub near : length rest ≤ ROOM
   pub count : served.replies ≡ length exchanges + fault_replies served.end
   pub ends : IsEnd served.end most exchanges left rest last
 
@@ -77,6 +79,7 @@ pub record IsReadFault (replies most : ℕ) (Ran : List Exchange → Type 0) (in
   pub consumed : Consumes input left read
   pub ran : HasRun Ran read exchanges rest
   pub writes : Appends output written (texts exchanges)
+  pub near : length rest ≤ ROOM
   pub count : replies ≡ length exchanges
   pub few : replies < most
   pub waits : IsCut rest
@@ -94,6 +97,7 @@ pub record IsWriteFault (replies most : ℕ) (Ran : List Exchange → Type 0) (i
   pub consumed : Consumes input left read
   pub ran : HasRun Ran read (exchanges ++ failed) rest
   pub writes : Appends output written (texts exchanges ++ part)
+  pub near : length rest ≤ ROOM
   pub unfinished : 0 < length more
   pub cut : ((exchange : Exchange) × (failed ≡ exchange ∷ []) × (text_of exchange.answer ≡ part ++ more))
       ⊎ ((failed ≡ []) × ((fault : Fault) × IsRefused fault rest × (fault_text fault ≡ part ++ more)))

@@ -1,13 +1,16 @@
 -- A connection that goes on as far as its bytes reach: what some turns of it read, answer and write.
-use Rattle.std.specs.Prelude.{◌≡◌, ◌⊎◌, ℕ, ◌+◌, ◌-◌, ◌<◌, ◌==◌, if◌then◌else◌, List, [], ◌++◌, length, All, Option, Some, None}
+use Rattle.std.specs.Prelude.{◌≡◌, ◌⊎◌, ℕ, ◌+◌, ◌-◌, ◌<◌, ◌≤◌, ◌==◌, if◌then◌else◌, List, [], ◌++◌, length, All, Option, Some, None}
 use Rattle.std.specs.Io.KnownBytes.{Consumes, Appends}
 use Rattle.http_messages.specs.Input.{IsCut}
 use Rattle.counter_http.specs.Exchanges.{Exchange, texts, GoesOn, HasRun}
 use Rattle.counter_http.specs.Served.{IsEnd}
 use Rattle.counter_http.specs.declared.connection.End.{End}
 use Rattle.counter_http.specs.declared.connection.End.TheVariants.{Refused, Limit}
+use Rattle.counter_http.specs.declared.inbox.TheConstants.{ROOM}
 use Rattle.counter_http.specs.declared.machine.Standing.{Standing}
 use Rattle.counter_http.specs.declared.machine.Standing.TheVariants.{Reads, Writes, Ready, Ended}
+use Rattle.counter_http.specs.declared.machine.TurnFault.{TurnFault}
+use Rattle.counter_http.specs.declared.machine.TurnFault.TheVariants.{Read, Write}
 
 -- what a connection has of its own: the bytes that were read and not answered, those that are to be written yet, how many requests were answered,
 -- how many may be, and why it ends behind what is to be written, where it does
@@ -29,7 +32,7 @@ GoesOrEnds (Some end) most exchanges left rest last = IsEnd end most exchanges l
 
 -- Some turns of a connection. They read some bytes; what was left of the earlier ones and these are the messages of the exchanges and a rest. `Ran` is so of
 -- the exchanges. What was left to write, the texts of the answers and `last` (the reply to a text that is no message) are what they wrote and what is left now.
--- Where the connection was to end, nothing more is read or answered.
+-- Where the connection was to end, nothing more is read or answered. The rest is of no more bytes than a connection has room for.
 pub record IsTurn (old new : Line) (Ran : List Exchange → Type 0) (input left output written : Option (List ℕ)) : Type 0 where
   pub read : List ℕ
   pub exchanges : List Exchange
@@ -42,6 +45,7 @@ pub record IsTurn (old new : Line) (Ran : List Exchange → Type 0) (input left 
   pub refused : (last ≡ []) ⊎ (new.ending ≡ Some Refused)
   pub stopped : (end : End) → old.ending ≡ Some end → (read ≡ []) × (left ≡ input) × (exchanges ≡ []) × (last ≡ []) × (new.ending ≡ Some end)
   pub goes : old.ending ≡ None → GoesOrEnds new.ending (old.most - old.replies) exchanges left new.inbox last
+  pub near : length new.inbox ≤ ROOM
   pub count : new.replies ≡ old.replies + length exchanges
   pub kept : new.most ≡ old.most
 
@@ -52,3 +56,8 @@ IsStanding Reads most old new = (new.unsent ≡ []) × (new.ending ≡ None) × 
 IsStanding Writes most old new = 0 < length new.unsent
 IsStanding Ready most old new = (new.unsent ≡ []) × (new.ending ≡ None) × (new.replies ≡ old.replies + most)
 IsStanding (Ended end) most old new = (new.unsent ≡ []) × (new.ending ≡ Some end)
+
+-- Where a turn fails. Writing fails only with something left to write, and reading only where each reply is written and no whole message is left.
+abbrev pub IsTurnFault : TurnFault → Line → Type 0
+IsTurnFault Write new = 0 < length new.unsent
+IsTurnFault Read new = (new.unsent ≡ []) × (new.ending ≡ None) × IsCut new.inbox

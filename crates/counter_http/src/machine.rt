@@ -1,14 +1,15 @@
 //! A connection that goes on as far as its bytes reach, so that one that waits holds no other.
-ghost use Rattle.std.specs.Prelude.{◌≡◌, ℕ, ◌+◌, ◌<◌, ◌≤◌, true, false, List, [], ◌∷◌, length, Option, None, Some, IfOk};
+ghost use Rattle.std.specs.Prelude.{◌≡◌, ◌⊎◌, ℕ, ◌+◌, ◌<◌, ◌≤◌, true, false, List, [], ◌∷◌, length, Option, None, Some, IfOk, IfErr, OnErr};
 ghost use Rattle.std.specs.Io.KnownBytes.{IsAtEnd};
 ghost use Rattle.http_messages.specs.Input.{IsCut};
+ghost use Rattle.counter_http.specs.declared.inbox.TheConstants.{ROOM};
 ghost use Rattle.counter_http.specs.Exchanges.{Exchange, RunsOver};
 ghost use Rattle.counter_http.specs.Served.{IsAfter};
-ghost use Rattle.counter_http.specs.Standings.{Line, opened, GoesOrEnds, IsTurn, IsStanding};
+ghost use Rattle.counter_http.specs.Standings.{Line, opened, GoesOrEnds, IsTurn, IsStanding, IsTurnFault};
 
 use crate::answer::answer;
 use crate::connection::{After, End, after_reply, fault_reply};
-use crate::inbox::Inbox;
+use crate::inbox::{Inbox, ROOM};
 use crate::unsent::Unsent;
 use chain_engine::Chain;
 use counter_routes::Routes;
@@ -35,9 +36,9 @@ pub enum Standing {
 /// What went wrong in a turn. What was read, answered and written until then is told as ever; the connection is of no more use.
 #[derive(Clone, Copy, Debug)]
 pub enum TurnFault {
-    /// The reader failed, or was interrupted without an end.
+    /// The reader failed, or was interrupted without an end. Each whole request that was read is answered, and its reply written.
     Read,
-    /// The writer failed, or took nothing. The request whose reply failed has acted.
+    /// The writer failed, or took nothing, with bytes of a reply left. The request whose reply failed has acted.
     Write,
 }
 
@@ -72,7 +73,7 @@ impl Model for Connection {
 
     ghost view = { λ c. record { inbox = c.inbox; unsent = c.unsent; replies = c.replies; most = c.most; ending = c.ending } };
 
-    ghost invariant = { λ c. c.ending ≡ None → c.replies < c.most };
+    ghost invariant = { λ c. (c.ending ≡ None → c.replies < c.most) × (length c.inbox ≤ ROOM) };
 }
 
 /// Why a connection of which so many requests may still be answered ends behind the next of them, where it does.
@@ -125,8 +126,10 @@ impl Connection {
     fn send<W: Write>(&mut self, writer: &mut W) -> io::Result<bool>
         ensures turn { (input : Option (List ℕ)) → IsTurn self.old self.new (λ es. es ≡ []) input input (W.contents writer.old) (W.contents writer.new) }
         ensures same { self.new.replies ≡ self.old.replies }
+        ensures still { (self.new.inbox ≡ self.old.inbox) × (self.new.ending ≡ self.old.ending) }
         ensures all { IfOk result (λ all. all ≡ true → self.new.unsent ≡ []) }
         ensures part { IfOk result (λ all. all ≡ false → 0 < length self.new.unsent) }
+        ensures err { OnErr result (0 < length self.new.unsent) }
     {
         self.unsent.flush(writer)
     }
@@ -143,7 +146,9 @@ impl Connection {
         requires goes { self.old.ending ≡ None }
         ensures turn { (input output : Option (List ℕ)) → IsTurn self.old self.new (RunsOver S.Store (O.meaning words.now) chain.old chain.new) input input output output }
         ensures one { self.new.replies ≤ self.old.replies + 1 }
-        ensures waits { result ≡ false → (self.new ≡ self.old) × (length self.new.inbox < 73728) × IsCut self.new.inbox }
+        ensures onward { result ≡ true → (self.new.replies ≡ self.old.replies + 1)
+            ⊎ ((self.new.replies ≡ self.old.replies) × (self.new.inbox ≡ self.old.inbox) × (self.new.ending ≡ Some End.Refused)) }
+        ensures waits { result ≡ false → (self.new ≡ self.old) × (length self.new.inbox < ROOM) × IsCut self.new.inbox }
     {
         match read_request(self.inbox.bytes()) {
             Reading::Whole(request, len) => {
@@ -166,12 +171,15 @@ impl Connection {
 
     /// Reads some more bytes; none comes only at the end, which ends the connection. Whether the reader wouldn't wait.
     fn read_more<R: Read>(&mut self, reader: &mut R) -> io::Result<bool>
-        requires room { length self.old.inbox < 73728 }
+        requires room { length self.old.inbox < ROOM }
         requires cut { IsCut self.old.inbox }
         requires goes { self.old.ending ≡ None }
         ensures turn { (output : Option (List ℕ)) → IsTurn self.old self.new (λ es. es ≡ []) (R.remaining reader.old) (R.remaining reader.new) output output }
         ensures same { (self.new.unsent ≡ self.old.unsent) × (self.new.replies ≡ self.old.replies) }
         ensures waits { IfOk result (λ more. more ≡ false → self.new ≡ self.old) }
+        ensures onward { IfOk result (λ more. more ≡ true → (length self.old.inbox < length self.new.inbox)
+            ⊎ ((self.new.inbox ≡ self.old.inbox) × ((end : End) × (self.new.ending ≡ Some end)))) }
+        ensures err { OnErr result (self.new ≡ self.old) }
     {
         match self.inbox.fill(reader) {
             Ok(0) => {
@@ -180,7 +188,6 @@ impl Connection {
             }
             Ok(_) => Ok(true),
             Err(e) => match e.kind() {
-                ErrorKind::Interrupted => Ok(true),
                 ErrorKind::WouldBlock => Ok(false),
                 _ => Err(e),
             },
@@ -204,9 +211,10 @@ impl Connection {
             (R.remaining reader.old) (R.remaining reader.new) (W.contents writer.old) (W.contents writer.new) }
         ensures few { self.new.replies ≤ self.old.replies + most }
         ensures standing { IfOk result (λ standing. IsStanding standing most self.old self.new) }
+        ensures fault { IfErr result (λ fault. IsTurnFault fault self.new) }
     {
         let first = self.replies;
-        'turn: for _ in 0..u64::MAX {
+        'turn: loop {
             let Ok(all) = self.send(writer) else {
                 return Err(TurnFault::Write);
             };
@@ -228,6 +236,5 @@ impl Connection {
                 }
             }
         }
-        Err(TurnFault::Read)
     }
 }

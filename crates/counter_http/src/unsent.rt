@@ -1,5 +1,5 @@
 //! What is left to write of a reply.
-ghost use Rattle.std.specs.Prelude.{◌≡◌, ℕ, ◌<◌, true, false, List, [], ◌++◌, length, IfOk};
+ghost use Rattle.std.specs.Prelude.{◌≡◌, ℕ, ◌<◌, true, false, List, [], ◌++◌, length, IfOk, OnErr};
 ghost use Rattle.std.specs.Io.KnownBytes.{Appends};
 ghost use Rattle.shop_types.specs.Replies.{seen_reply};
 ghost use Rattle.counter_http.specs.Exchanges.{text_of};
@@ -46,11 +46,13 @@ impl Unsent {
         self.body_at = 0;
     }
 
-    /// Writes as far as the writer takes it, and lets go of a reply that is wholly written. Whether nothing is left; where something is, the writer would wait.
+    /// Writes as far as the writer takes it, and lets go of a reply that is wholly written. Whether nothing is left; where something is,
+    /// the writer would wait. At an error something is left too.
     pub fn flush<W: Write>(&mut self, writer: &mut W) -> io::Result<bool>
         ensures sent { (sent : List ℕ) × Appends (W.contents writer.old) (W.contents writer.new) sent × (self.old ≡ sent ++ self.new) }
         ensures all { IfOk result (λ all. all ≡ true → self.new ≡ []) }
         ensures part { IfOk result (λ all. all ≡ false → 0 < length self.new) }
+        ensures err { OnErr result (0 < length self.new) }
     {
         let all = self.write_on(writer)?;
         if all {
@@ -64,6 +66,7 @@ impl Unsent {
         ensures sent { (sent : List ℕ) × Appends (W.contents writer.old) (W.contents writer.new) sent × (self.old ≡ sent ++ self.new) }
         ensures all { IfOk result (λ all. all ≡ true → self.new ≡ []) }
         ensures part { IfOk result (λ all. all ≡ false → 0 < length self.new) }
+        ensures err { OnErr result (0 < length self.new) }
     {
         let Some(reply) = &self.reply else {
             return Ok(true);

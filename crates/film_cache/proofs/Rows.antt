@@ -7,7 +7,7 @@ use Rattle.lru.specs.LruCache.{LruCache, lru_cache, put_entries}
 use Rattle.lru.proofs.Splits.{Contains-cons, Contains-nil}
 use Rattle.lru.proofs.CallerLemmas.{Contains-lookup, Contains-put_entries, Contains-remove_entry}
 use Rattle.shop_model.specs.Rows.{at, set_at}
-use Rattle.shop_model.specs.Values.{Film, Text}
+use Rattle.shop_model.specs.Values.{Film, Terms, Text}
 use Rattle.shop_model.specs.Books.{head}
 use Rattle.shop_model.proofs.RowLemmas.{same_if, same_test}
 use Rattle.shop_model.proofs.LinkLemmas.{at_set_other}
@@ -26,8 +26,8 @@ pub no_rows : (entries : Entries) (films : List Film) → entries ≡ [] → Are
 no_rows entries films none = record { row = λ number film there. absurd (Contains-nil (number, film) (subst (λ (es : Entries). Contains es (number, film)) none there)) }
 
 -- what an entry's row tells of its known part
-part : ℕ × ℕ × Text × ℕ × Bool → ℕ × ℕ × Bool
-part it = (it.0, it.1, it.4)
+part : Terms × Text × ℕ × Bool → Terms × Bool
+part it = (it.0, it.3)
 
 part_of : (film : CachedFilm) (films : List Film) → Some (seen_cached film) ≡ head (map kept_of films) → Some (seen_known (known_part film)) ≡ head (map known_of films)
 unfolding part

@@ -3,7 +3,7 @@ use Rattle.std.proofs.Common.{◌≡◌, ℕ, ◌-◌, true, false, List, [], �
 use Rattle.std.specs.Prelude.{◌==◌}
 use Rattle.std.proofs.lemmas.Bool.{cases_Bool}
 use Rattle.shop_model.specs.Rows.{at, set_at, lacks}
-use Rattle.shop_model.specs.Values.{Film, OfficeAct, AddCountry, AddCity, AddLanguage, AddCategory, AddActor, AddFilm, PriceFilm, WithdrawFilm, AddCast, AddBranch, AddStaff, StaffLeaves, SetManager, OfficeCommand, Rules}
+use Rattle.shop_model.specs.Values.{Film, OfficeAct, AddCountry, AddCity, AddLanguage, AddCategory, AddActor, AddFilm, PriceFilm, WithdrawFilm, AddCast, AddBranch, AddStaff, StaffLeaves, SetManager, ChooseRule, OfficeCommand, Rules}
 use Rattle.shop_model.specs.Shop.{Catalogue}
 use Rattle.shop_model.specs.Verdict.{Verdict, Again, Refused, Accepted, verdict, office_verdict}
 use Rattle.shop_model.specs.Machine.{Request, Unread, Do, Look, Office, OfficeLook, office_acted, office_done, if_accepted}
@@ -42,6 +42,7 @@ module _ (entries : Entries) (catalogue : Catalogue) where
   no_film_changed (AddStaff staff) is rows = rows
   no_film_changed (StaffLeaves staff) is rows = rows
   no_film_changed (SetManager branch staff) is rows = rows
+  no_film_changed (ChooseRule rule) is rows = rows
 
   -- one that does, once nothing is known of that film
   pub one_film_changed : (act : OfficeAct) (number : ℕ) → Some number ≡ film_changed act → ((change : Film → Film) → AreRows entries (set_at number change catalogue.films))
@@ -63,6 +64,7 @@ module _ (entries : Entries) (catalogue : Catalogue) where
   one_film_changed (AddStaff staff) number is free = cc
   one_film_changed (StaffLeaves staff) number is free = cc
   one_film_changed (SetManager branch staff) number is free = cc
+  one_film_changed (ChooseRule rule) number is free = cc
 
 -- a branch's request leaves the catalogue
 branch_catalogue : (rules : Rules) (b : ℕ) (request : Request) (books : Books) → (branch_after rules b request books).catalogue ≡ books.catalogue

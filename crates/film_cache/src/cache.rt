@@ -11,7 +11,7 @@ ghost use Rattle.shop_types.specs.Seen.{seen_office_act};
 ghost use Rattle.film_cache.specs.Cached.{AreRows, IsRow, film_changed, known_of, seen_known, known_part};
 
 use lru::LruCache;
-use shop_types::{CategoryNo, FilmNo, OfficeAct, Period, Rate, T128};
+use shop_types::{CategoryNo, FilmNo, OfficeAct, T128, Terms};
 use std::alloc::Global;
 use std::marker::Model;
 use std::num::NonZeroUsize;
@@ -19,19 +19,17 @@ use std::num::NonZeroUsize;
 /// What is kept of a film.
 #[derive(Drop)]
 pub struct CachedFilm {
-    pub rate: Rate,
-    pub period: Period,
+    /// What a rental of it is charged by now.
+    pub terms: Terms,
     pub title: T128,
     pub category: CategoryNo,
     pub withdrawn: bool,
 }
 
-/// By what a rental of a film is charged, and whether it is withdrawn.
+/// By what a rental of a film is charged now, and whether it is withdrawn.
 #[derive(Clone, Copy)]
 pub struct KnownFilm {
-    pub rate: Rate,
-    /// For how many days it is rented.
-    pub period: u8,
+    pub terms: Terms,
     pub withdrawn: bool,
 }
 
@@ -41,8 +39,7 @@ impl CachedFilm {
         ensures { result ≡ known_part self.now }
     {
         KnownFilm {
-            rate: self.rate,
-            period: self.period.get(),
+            terms: self.terms,
             withdrawn: self.withdrawn,
         }
     }
@@ -178,6 +175,7 @@ fn changed_film(act: &OfficeAct) -> Option<FilmNo>
         | OfficeAct::Branch(_)
         | OfficeAct::Staff(_)
         | OfficeAct::Leave(_)
-        | OfficeAct::Manager { .. } => None,
+        | OfficeAct::Manager { .. }
+        | OfficeAct::Rule(_) => None,
     }
 }

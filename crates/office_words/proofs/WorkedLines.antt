@@ -3,6 +3,7 @@ use Rattle.std.proofs.Common.{◌≡◌, refl, List, [], ◌∷◌, Some, None, 
 use Rattle.clap.specs.Words.{Text}
 use Rattle.clap.proofs.OnLiterals.{clap_on_literals}
 use Rattle.shop_types.specs.declared.film.Rating.TheVariants as rating
+use Rattle.shop_types.specs.declared.rule.Rule.TheVariants as rule
 use Rattle.shop_types.specs.declared.office.OfficeAct.TheVariants as office
 use Rattle.shop_types.specs.declared.request.OfficeAsk.TheVariants.{Sales, Custody, Audit}
 use Rattle.shop_types.specs.declared.line.LineAct.TheVariants as act
@@ -37,6 +38,23 @@ film_with_defaults = refl
 pub film_without_key : line_of (codes "film-add" ∷ title_and_kinds) ≡ None
 unfolding clap_on_literals
 film_without_key = refl
+
+-- a rule is told by its name
+pub rule_of_the_comment : line_of (codes "balance-rule" ∷ codes "--key" ∷ codes "r1" ∷ codes "--rule" ∷ codes "comment" ∷ []) ≡ Some (record {
+  db = None;
+  act = act.Office (record { key = codes "r1"; act = office.Rule rule.ByComment });
+})
+unfolding clap_on_literals
+rule_of_the_comment = refl
+
+pub rule_of_another_name : line_of (codes "balance-rule" ∷ codes "--key" ∷ codes "r1" ∷ codes "--rule" ∷ codes "comments" ∷ []) ≡ None
+unfolding clap_on_literals
+rule_of_another_name = refl
+
+-- what brings a chain's file to this program's form has no options
+pub migrate_of_a_file : line_of (codes "--db" ∷ codes "chain" ∷ codes "migrate" ∷ []) ≡ Some (record { db = Some (codes "chain"); act = act.Migrate })
+unfolding clap_on_literals
+migrate_of_a_file = refl
 
 -- a reading has neither a key nor options
 pub sales_of_no_file : line_of (codes "sales" ∷ []) ≡ Some (record { db = None; act = act.OfficeLook Sales })

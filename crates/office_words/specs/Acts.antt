@@ -14,7 +14,7 @@ use Rattle.shop_types.specs.declared.request.OfficeAsk.{OfficeAsk}
 use Rattle.shop_types.specs.declared.request.OfficeAsk.TheVariants.{Sales, Custody, Transit, Audit}
 use Rattle.shop_types.specs.declared.line.LineAct.{LineAct}
 use Rattle.shop_types.specs.declared.line.LineAct.TheVariants as act
-use Rattle.office_words.specs.Given.{with_value, text_given, key_given, token_given, rating_given, features_given}
+use Rattle.office_words.specs.Given.{with_value, text_given, key_given, token_given, rating_given, features_given, rule_given}
 use Rattle.office_words.specs.declared.acts.FilmFacts.{FilmFacts}
 use Rattle.office_words.specs.declared.acts.Contact.{Contact}
 use Rattle.office_words.specs.Given.{number_given, row_given, rate_given, replacement_given, period_given, minutes_given}
@@ -132,16 +132,17 @@ manager_of rows =
     with_value (row_given (codes "staff") rows) (λ staff.
     Some (office.Manager branch staff)))
 
--- what a command of this name does that takes numbers alone
+-- what a command of this name does that takes numbers alone, or a rule
 abbrev pub plain_act_of : Text → List Row → Option OfficeAct
 plain_act_of name rows = if bytes_eq name (codes "film-price") then price_of rows
     else (if bytes_eq name (codes "film-withdraw") then option_map office.Withdraw (row_given (codes "film") rows)
     else (if bytes_eq name (codes "cast-add") then cast_of rows
     else (if bytes_eq name (codes "staff-leave") then option_map office.Leave (row_given (codes "staff") rows)
     else (if bytes_eq name (codes "manager-set") then manager_of rows
-    else None))))
+    else (if bytes_eq name (codes "balance-rule") then option_map office.Rule (rule_given rows)
+    else None)))))
 
--- what a command of this name does that adds a branch or staff, or takes numbers alone
+-- what a command of this name does that adds a branch or staff, or takes numbers alone or a rule
 abbrev pub place_act_of : Text → List Row → Option OfficeAct
 place_act_of name rows = if bytes_eq name (codes "branch-add") then option_map office.Branch (branch_of rows)
     else (if bytes_eq name (codes "staff-add") then option_map office.Staff (staff_of rows)

@@ -99,6 +99,9 @@ staff_leave_shape = keyed_shape (codes "staff-leave") (row_rule (codes "staff") 
 abbrev pub manager_set_shape : Shape
 manager_set_shape = keyed_shape (codes "manager-set") (row_rule (codes "branch") ∷ row_rule (codes "staff") ∷ [])
 
+abbrev pub balance_rule_shape : Shape
+balance_rule_shape = keyed_shape (codes "balance-rule") (text_rule (codes "rule") ∷ [])
+
 abbrev pub init_shape : Shape
 init_shape = subcommand_shape (codes "init") (text_rule (codes "token") ∷ [])
 
@@ -141,6 +144,9 @@ place_shapes = branch_add_shape ∷ staff_add_shape ∷ []
 abbrev pub post_shapes : List Shape
 post_shapes = staff_leave_shape ∷ manager_set_shape ∷ []
 
+abbrev pub rule_shapes : List Shape
+rule_shapes = balance_rule_shape ∷ []
+
 abbrev pub file_shapes : List Shape
 file_shapes = init_shape ∷ migrate_shape ∷ []
 
@@ -167,6 +173,9 @@ with_catalogue app = fold with_subcommand (fold with_subcommand (fold with_subco
 abbrev pub with_places : App → App
 with_places app = fold with_subcommand (fold with_subcommand app place_shapes) post_shapes
 
+abbrev pub with_rules : App → App
+with_rules app = fold with_subcommand app rule_shapes
+
 abbrev pub with_program : App → App
 with_program app = fold with_subcommand (fold with_subcommand app file_shapes) request_shapes
 
@@ -174,4 +183,4 @@ abbrev pub with_readings : App → App
 with_readings app = fold with_subcommand app reading_shapes
 
 abbrev pub office_app : App
-office_app = with_readings (with_program (with_places (with_catalogue top_app)))
+office_app = with_readings (with_program (with_rules (with_places (with_catalogue top_app))))

@@ -1,16 +1,21 @@
 -- What the options of a subcommand say, each as a value of its kind: none where it isn't there or isn't of its kind.
 use Rattle.std.specs.Prelude.{◌≡◌, ℕ, ◌^◌, ◌&&◌, ◌==◌, List, Option, Some, None}
-use Rattle.std.specs.Prelude.{Result, Ok, Err, option_and_then, option_map, codes, if◌then◌else◌, nat_lt, nat_le}
+use Rattle.std.specs.Prelude.{Result, Ok, Err, option_and_then, option_map, codes, find, [], ◌∷◌, if◌then◌else◌, nat_lt, nat_le}
+use Rattle.std.specs.Str.{bytes_eq}
 use Rattle.std.specs.Str.Parse.{digits_value, without_leading_plus}
 use Rattle.clap.specs.ValueTests.{is_numeral}
 use Rattle.clap.specs.Words.{Row, Text, first_of, one_of, found_of, rows_of}
 use Rattle.clap.specs.declared.parser.matches.ArgMatches.{ArgMatches}
+use Rattle.shop_model.specs.Machine.{rule_name}
 use Rattle.shop_values.specs.Texts.{is_text, is_key, is_token}
 use Rattle.shop_types.specs.declared.film.Rating.{Rating}
 use Rattle.shop_types.specs.declared.film.Features.{Features}
+use Rattle.shop_types.specs.declared.rule.Rule.{Rule}
+use Rattle.shop_types.specs.declared.rule.Rule.TheVariants as rule
 use Rattle.shop_types.specs.declared.line.Usage.{Usage}
 use Rattle.shop_types.specs.declared.line.Usage.TheVariants as usage
 use Rattle.shop_types.specs.Films.{rating_of, features_of}
+use Rattle.shop_types.specs.Seen.{seen_rule}
 
 -- the values of the options
 abbrev pub values_of : ArgMatches → List Row
@@ -41,6 +46,13 @@ rating_given rows = with_value (first_of (codes "rating") rows) rating_of
 
 abbrev pub features_given : List Row → Option Features
 features_given rows = with_value (first_of (codes "features") rows) features_of
+
+-- the rule that has this name
+abbrev pub rule_of : Text → Option Rule
+rule_of text = find (λ it. bytes_eq text (rule_name (seen_rule it))) (rule.ByCode ∷ rule.ByComment ∷ [])
+
+abbrev pub rule_given : List Row → Option Rule
+rule_given rows = with_value (first_of (codes "rule") rows) rule_of
 
 -- ---- numbers
 

@@ -135,7 +135,7 @@ fn staff(alloc: Global, given: &ArgMatches<'_>) -> Result<Staff, Usage>
     })
 }
 
-/// What a command of this name does that takes numbers alone.
+/// What a command of this name does that takes numbers alone, or a rule.
 fn plain_act(name: &str, given: &ArgMatches<'_>) -> Option<OfficeAct>
     ensures { result ≡ plain_act_of name.now (values_of given.now) }
 {
@@ -154,11 +154,12 @@ fn plain_act(name: &str, given: &ArgMatches<'_>) -> Option<OfficeAct>
             branch: given::row(given, "branch")?,
             staff: given::row(given, "staff")?,
         }),
+        "balance-rule" => Some(OfficeAct::Rule(given::rule(given)?)),
         _ => None,
     }
 }
 
-/// What a command of this name does that adds a branch or staff, or takes numbers alone.
+/// What a command of this name does that adds a branch or staff, or takes numbers alone or a rule.
 fn place_act(alloc: Global, name: &str, given: &ArgMatches<'_>) -> Result<OfficeAct, Usage>
     ensures { Reads result (place_act_of name.now (values_of given.now)) }
 {

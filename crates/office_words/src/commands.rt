@@ -18,7 +18,7 @@ struct Subcommand {
 }
 
 /// The subcommands, in the order in which help tells them.
-static SUBCOMMANDS: [Subcommand; 21] = [
+static SUBCOMMANDS: [Subcommand; 22] = [
     // ---- what changes the catalogue
     Subcommand {
         name: "country-add",
@@ -120,6 +120,11 @@ static SUBCOMMANDS: [Subcommand; 21] = [
             ("branch", Kind::Row),
             ("staff", Kind::Row),
         ],
+    },
+    // ---- by which rule balances go
+    Subcommand {
+        name: "balance-rule",
+        options: &[("key", Kind::Text), ("rule", Kind::Text)],
     },
     // ---- the program itself
     Subcommand {

@@ -1,12 +1,12 @@
 ghost use Rattle.std.specs.Prelude.{◌≡◌, Some, None, IfOk, IfErr, option_map, string_bytes, codes};
 ghost use Rattle.clap.specs.Words.{first_of};
 ghost use Rattle.shop_types.specs.declared.line.Usage.TheVariants as usage;
-ghost use Rattle.office_words.specs.Given.{values_of, Reads, text_given, key_given, token_given, rating_given, features_given};
+ghost use Rattle.office_words.specs.Given.{values_of, Reads, text_given, key_given, token_given, rating_given, features_given, rule_of, rule_given};
 ghost use Rattle.office_words.specs.Given.{number_given, row_given, rate_given, replacement_given, period_given, minutes_given};
 
 use clap::ArgMatches;
 use shop_types::{
-    Amount, Features, Key, Minutes, Period, Rate, Rating, RowNumber, Text, Token, Usage,
+    Amount, Features, Key, Minutes, Period, Rate, Rating, RowNumber, Rule, Text, Token, Usage,
 };
 use std::alloc::Global;
 
@@ -104,6 +104,23 @@ pub(crate) fn features(given: &ArgMatches<'_>) -> Option<Features>
     ensures { result ≡ features_given (values_of given.now) }
 {
     Features::read(str_of(given, "features")?)
+}
+
+/// The rule of this name.
+fn rule_of(name: &str) -> Option<Rule>
+    ensures { result ≡ rule_of name.now }
+{
+    match name {
+        "code" => Some(Rule::ByCode),
+        "comment" => Some(Rule::ByComment),
+        _ => None,
+    }
+}
+
+pub(crate) fn rule(given: &ArgMatches<'_>) -> Option<Rule>
+    ensures { result ≡ rule_given (values_of given.now) }
+{
+    rule_of(str_of(given, "rule")?)
 }
 
 // ---- numbers

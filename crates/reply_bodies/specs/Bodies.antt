@@ -3,7 +3,9 @@ use Rattle.std.specs.Prelude.{ℕ, ℤ, List, [], ◌∷◌, codes, decimal, len
 use Rattle.serde_json.specs.Data.{Data, number, unsigned, array, object, member, no_members, put}
 use Rattle.serde_json.specs.Find.{of_integer}
 use Rattle.serde_json.specs.View.{items_of}
-use Rattle.shop_model.specs.Values.{Text, OfficeAct, AddCountry, AddCity, AddLanguage, AddCategory, AddActor, AddFilm, PriceFilm, WithdrawFilm, AddCast, AddBranch, AddStaff, StaffLeaves, SetManager}
+use Rattle.shop_model.specs.Values.{Text, OfficeAct, AddCountry, AddCity, AddLanguage, AddCategory, AddActor, AddFilm, PriceFilm, WithdrawFilm, AddCast, AddBranch, AddStaff, StaffLeaves, SetManager, ChooseRule}
+use Rattle.shop_model.specs.Json.{quoted}
+use Rattle.shop_model.specs.Machine.{rule_name}
 
 -- a list of numbers
 abbrev pub numbers_value : List ℕ → Data
@@ -21,7 +23,7 @@ named_value name ns = object (put name (numbers_value ns) no_members)
 abbrev pub balance_value : ℤ → Data
 balance_value cents = object (member (codes "balance") (number (of_integer cents)) no_members)
 
--- what a command of head office is told: the number of its new row, which is the next one of its kind, or the rows that it names
+-- what a command of head office is told: the number of its new row, which is the next one of its kind, or the rows or the rule that it names
 abbrev pub office_members : OfficeAct → ℕ → List (Text × Text)
 office_members (AddCountry name) next = (codes "country", decimal next) ∷ []
 office_members (AddCity city) next = (codes "city", decimal next) ∷ []
@@ -36,3 +38,4 @@ office_members (AddBranch branch) next = (codes "branch", decimal next) ∷ []
 office_members (AddStaff staff) next = (codes "staff", decimal next) ∷ []
 office_members (StaffLeaves staff) next = (codes "staff", decimal staff) ∷ []
 office_members (SetManager branch staff) next = (codes "branch", decimal branch) ∷ (codes "staff", decimal staff) ∷ []
+office_members (ChooseRule rule) next = (codes "rule", quoted (rule_name rule)) ∷ []

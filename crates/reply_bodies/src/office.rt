@@ -1,12 +1,22 @@
 ghost use Rattle.std.specs.Prelude.{◌≡◌, ◌∷◌, option_to_list, IfOk, string_bytes};
 ghost use Rattle.shop_model.specs.Json.{object};
-ghost use Rattle.shop_types.specs.Seen.{seen_office_act};
+ghost use Rattle.shop_model.specs.Machine.{rule_name};
+ghost use Rattle.shop_types.specs.Seen.{seen_office_act, seen_rule};
 ghost use Rattle.reply_bodies.specs.Fields.{fields_text};
 ghost use Rattle.reply_bodies.specs.Bodies.{office_members};
 
 use crate::fields::{Field, object_text};
-use shop_types::OfficeAct;
+use shop_types::{OfficeAct, Rule};
 use std::alloc::{AllocError, Global};
+
+fn rule_name(rule: Rule) -> &'static str
+    ensures { result.now ≡ rule_name (seen_rule rule) }
+{
+    match rule {
+        Rule::ByCode => "code",
+        Rule::ByComment => "comment",
+    }
+}
 
 /// The members of the body, one or two: a new row's number is the next one of its kind.
 fn office_fields(act: &OfficeAct, next: u32) -> (Field<'static>, Option<Field<'static>>)
@@ -36,10 +46,11 @@ fn office_fields(act: &OfficeAct, next: u32) -> (Field<'static>, Option<Field<'s
             Field::Number("branch", branch.get() as u64),
             Some(Field::Number("staff", staff.get() as u64)),
         ),
+        OfficeAct::Rule(rule) => (Field::Text("rule", rule_name(*rule)), None),
     }
 }
 
-/// The body that tells head office what its command did: a new row has the next number of its kind.
+/// The body that tells head office what its command did: a new row has the next number of its kind, and a rule is told by its name.
 pub fn office_text(alloc: Global, act: &OfficeAct, next: u32) -> Result<String, AllocError>
     ensures { IfOk result (λ s. string_bytes s ≡ object (office_members (seen_office_act act.now) next)) }
 {

@@ -17,4 +17,4 @@ pub use exchange::Told;
 pub use fault::Fault;
 pub use stage::{How, Ran, Stage, WHOLE};
 pub use talk::{Sum, Talk};
-pub use words::remove_files;
+pub use words::{remove_files, write_file};

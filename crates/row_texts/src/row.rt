@@ -236,7 +236,7 @@ impl Row {
         Ok(())
     }
 
-    /// The next connection or opening is stopped at each call of the chain's disks in turn.
+    /// The next connection, opening or migration is stopped at each call of the chain's disks in turn.
     fn stops<S: Stage>(&mut self, stage: &mut S) -> Result<(), Fault> {
         stage.stop();
         self.is_stop_said = true;
@@ -250,6 +250,13 @@ impl Row {
         }
         self.is_stop_said = false;
         stage.reopen(fault)
+    }
+
+    /// A migration is an exchange: it succeeds, or is refused with the fault that is named.
+    fn migrates<S: Stage>(&mut self, stage: &mut S, fault: &str) -> Result<(), Fault> {
+        self.counts();
+        self.is_stop_said = false;
+        stage.migrate(fault)
     }
 
     /// What an audit of the tables says is an exchange: its text is compared.
@@ -345,6 +352,8 @@ impl Row {
             "fails" => self.fails(stage, rest),
             "stops" => self.stops(stage),
             "reopen" => self.reopens(stage, rest),
+            "migrate" => self.migrates(stage, rest),
+            "save" => stage.save(),
             "sql" => stage.change(rest),
             "audit" | "custody" => self.audits(stage, names, word, rest),
             "call" => self.calls(stage, rest),

@@ -44,11 +44,17 @@ pub trait Stage {
     fn fail(&mut self, fewer: u64);
 
     /// At the next connection copies of the chain's files fail at each call in turn, and each such chain, opened again, sends the same when all comes again;
-    /// or at the next opening, behind which an audit says the same.
+    /// or at the next opening or migration, behind which an audit and a balance say the same.
     fn stop(&mut self);
 
     /// Opens the chain's files again, which has to be refused where a fault is named.
     fn reopen(&mut self, fault: &str) -> Result<(), Fault>;
+
+    /// Closes the chain, and migrates its files, which has to be refused where a fault is named.
+    fn migrate(&mut self, fault: &str) -> Result<(), Fault>;
+
+    /// Closes the chain, and writes what its files hold into the row's own file.
+    fn save(&mut self) -> Result<(), Fault>;
 
     /// Closes the chain, and does a statement on the tables in its files.
     fn change(&mut self, text: &str) -> Result<(), Fault>;

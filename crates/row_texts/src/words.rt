@@ -2,7 +2,7 @@
 use crate::fault::Fault;
 use crate::quoted::unquoted;
 use std::alloc::Global;
-use std::fs::remove_file;
+use std::fs::{remove_file, write};
 
 /// The file that the word `FILE` stands for, in the folder that the player runs in.
 const FILE: &str = "worked_rows.db";
@@ -14,6 +14,14 @@ const LOG: &str = "worked_rows.db-wal";
 pub fn remove_files(rt: &HostRuntime) {
     let _ = remove_file(rt, FILE);
     let _ = remove_file(rt, LOG);
+}
+
+/// Writes the bytes of a database into the row's own file.
+pub fn write_file(rt: &HostRuntime, bytes: &[u8]) -> Result<(), Fault> {
+    match write(rt, FILE, bytes) {
+        Ok(()) => Ok(()),
+        Err(_) => Err(Fault::Line("the row's file isn't written")),
+    }
 }
 
 /// Where the reading of a line stands: between quotes, in them, or behind their backslash.

@@ -19,11 +19,19 @@ IsPrinted text status output written = ((status ≡ 0) × Appends output written
 abbrev pub IsSilent : ℕ → ℕ → Option (List ℕ) → Option (List ℕ) → Type 0
 IsSilent wanted status output written = (status ≡ wanted) × Keeps output written
 
+-- with status 0 nothing is written on standard error
+abbrev pub IsQuiet : ℕ → Option (List ℕ) → Option (List ℕ) → Type 0
+IsQuiet status errors told = status ≡ 0 → Keeps errors told
+
+-- the text is written as a line on standard error, or a front of it where standard error fails, and nothing else is
+abbrev pub IsComplaint : List ℕ → Option (List ℕ) → Option (List ℕ) → Type 0
+IsComplaint text errors told = (front : List ℕ) × (rest : List ℕ) × (line_bytes text ≡ front ++ rest) × Appends errors told front
+
 -- 3 where the chain couldn't do its part, for want of memory or room or because its store failed, and 1 for any other refusal
 abbrev pub refused_status : ℕ → ℕ
 refused_status status = if status == 503 then 3 else 1
 
--- the body of an accepted answer is printed on standard output, and of a refusal nothing
-pub record IsTold (answer : Answer) (status : ℕ) (output written : Option (List ℕ)) : Type 0 where
-  pub accepted : answer.status ≡ 200 → IsPrinted answer.body status output written
-  pub refused : answer.status ≢ 200 → IsSilent (refused_status answer.status) status output written
+-- The body of an accepted answer is printed on standard output, and nothing on standard error. Of a refusal nothing is printed there, and its body is the complaint.
+pub record IsTold (answer : Answer) (status : ℕ) (output written errors told : Option (List ℕ)) : Type 0 where
+  pub accepted : answer.status ≡ 200 → IsPrinted answer.body status output written × Keeps errors told
+  pub refused : answer.status ≢ 200 → IsSilent (refused_status answer.status) status output written × IsComplaint answer.body errors told

@@ -30,8 +30,11 @@ opening_holding = opened_holding opening_books
 abbrev pub RunsFromOpening : List Exchange → Type 0
 RunsFromOpening exchanges = (after : Holding) × Runs (events_of line_of exchanges) (answers_of exchanges) opening_holding after
 
--- an input was replayed: 1,000 requests at most were answered by a chain with the opening rows, or reading or writing failed, or there was no memory or room
-pub data Replays (status : ℕ) (input left output written : Option (List ℕ)) : Type 0 where
-  replayed : (served : Served) → IsServed served 1000 RunsFromOpening input left output written → status ≡ status_of served.end → Replays status input left output written
-  broke_off : (fault : ServeFault) → IsFault fault 1000 RunsFromOpening input left output written → status ≡ 3 → Replays status input left output written
-  no_chain : Keeps input left → Keeps output written → status ≡ 3 → Replays status input left output written
+-- An input was replayed: 1,000 requests at most were answered by a chain with the opening rows, or reading or writing failed, or there was no memory or room. On
+-- standard error it is told only that there is no chain.
+pub data Replays (status : ℕ) (input left output written errors told : Option (List ℕ)) : Type 0 where
+  replayed : (served : Served) → IsServed served 1000 RunsFromOpening input left output written → status ≡ status_of served.end → Keeps errors told
+      → Replays status input left output written errors told
+  broke_off : (fault : ServeFault) → IsFault fault 1000 RunsFromOpening input left output written → status ≡ 3 → Keeps errors told
+      → Replays status input left output written errors told
+  no_chain : Keeps input left → Keeps output written → status ≡ 3 → Replays status input left output written errors told

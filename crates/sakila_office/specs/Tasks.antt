@@ -11,11 +11,13 @@ pub data Task : Type 0 where
   Replay : Task
   -- to make a chain with this token in the file
   Make : (file token : List ℕ) → Task
+  -- to make the chain of version 1 in the file one of this version
+  Migrate : (file : List ℕ) → Task
   -- to put a request of head office to the chain in the file
   Put : (file : List ℕ) → Request → Task
   -- to serve so many connections at the port by the chain in the file
   Serve : (file : List ℕ) → (port connections : ℕ) → Task
-  -- nothing that it does: the words are no line, or a line that isn't built, or `--db` is missing, or is there with `replay`
+  -- nothing that it does: the words are no line, or `--db` is missing, or is there with `replay`
   Nothing : Task
 
 -- a chain stands in a file, but the one that replays
@@ -30,7 +32,8 @@ task_with (act.OfficeLook ask) (Some file) = Put file (request.OfficeLook ask)
 task_with (act.OfficeLook ask) None = Nothing
 task_with (act.Serve port connections) (Some file) = Serve file port connections
 task_with (act.Serve port connections) None = Nothing
-task_with act.Migrate db = Nothing
+task_with act.Migrate (Some file) = Migrate file
+task_with act.Migrate None = Nothing
 
 abbrev pub task_of : Option LineValue → Task
 task_of None = Nothing

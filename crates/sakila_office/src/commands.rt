@@ -1,4 +1,4 @@
-//! A chain in a file: it is made, gets one request of head office, or serves connections.
+//! A chain in a file: it is made, becomes one of this version, gets one request of head office, or serves connections.
 ghost use Rattle.std.specs.Prelude.{◌≡◌, ◌⊎◌, ℕ, true, false, List, Option};
 ghost use Rattle.sqlite.specs.State.{HasCleanDisk};
 ghost use Rattle.sqlite.specs.Files.{over_files, file_state};
@@ -11,7 +11,8 @@ ghost use Rattle.chain_engine.specs.Holding.{Holding, holding};
 ghost use Rattle.chain_engine.specs.Chains.{IsAt, Answers, Runs};
 ghost use Rattle.chain_engine.specs.Files.{KeepsBooks};
 ghost use Rattle.counter_http.specs.Exchanges.{Exchange, events_of, answers_of, RunsOver};
-ghost use Rattle.sakila_office.specs.Commands.{Makes, Puts, Serves};
+ghost use Rattle.sakila_office.specs.Printed.{IsQuiet};
+ghost use Rattle.sakila_office.specs.Commands.{Makes, Migrates, Puts, Serves};
 
 use crate::printing::{print, tell, tell_fault};
 use crate::serving::serve_listener;
@@ -36,12 +37,33 @@ pub(crate) fn make<W: Write, E: Write>(
     out: &mut W,
     err: &mut E,
 ) -> u8
-    ensures { Makes ⟦<File as Disk>⟧ token.now result (W.contents out.old) (W.contents out.new) }
+    ensures makes { Makes ⟦<File as Disk>⟧ token.now result (W.contents out.old) (W.contents out.new) (E.contents err.old) (E.contents err.new) }
+    ensures quiet { IsQuiet result (E.contents err.old) (E.contents err.new) }
 {
     match Chain::create(rt, file, Limits::default(), token) {
         Ok(chain) => {
             drop(chain.close());
-            print(out, b"{\"version\":1}")
+            print(out, b"{\"version\":2}")
+        }
+        Err(OpenFault::Already) => tell(&Reply::refused(Refusal::Already), out, err),
+        Err(fault) => tell_fault(fault, err),
+    }
+}
+
+/// Makes the chain of version 1 in the file one of this version, and tells that.
+pub(crate) fn migrate<W: Write, E: Write>(
+    rt: &HostRuntime,
+    file: &str,
+    out: &mut W,
+    err: &mut E,
+) -> u8
+    ensures migrates { Migrates ⟦<File as Disk>⟧ result (W.contents out.old) (W.contents out.new) (E.contents err.old) (E.contents err.new) }
+    ensures quiet { IsQuiet result (E.contents err.old) (E.contents err.new) }
+{
+    match Chain::migrate(rt, file, Limits::default()) {
+        Ok(chain) => {
+            drop(chain.close());
+            print(out, b"{\"version\":2}")
         }
         Err(OpenFault::Already) => tell(&Reply::refused(Refusal::Already), out, err),
         Err(fault) => tell_fault(fault, err),
@@ -67,7 +89,8 @@ pub(crate) fn put<W: Write, E: Write>(
     out: &mut W,
     err: &mut E,
 ) -> u8
-    ensures { Puts ⟦<File as Disk>⟧ request.now result (W.contents out.old) (W.contents out.new) }
+    ensures puts { Puts ⟦<File as Disk>⟧ request.now result (W.contents out.old) (W.contents out.new) (E.contents err.old) (E.contents err.new) }
+    ensures quiet { IsQuiet result (E.contents err.old) (E.contents err.new) }
 {
     match Chain::open(rt, file, Limits::default()) {
         Ok(chain) => {
@@ -123,7 +146,8 @@ pub(crate) fn serve_in<E: Write>(
     connections: u32,
     err: &mut E,
 ) -> u8
-    ensures { (output : Option (List ℕ)) → Serves ⟦<File as Disk>⟧ result output output }
+    ensures serves { (output : Option (List ℕ)) → Serves ⟦<File as Disk>⟧ result output output (E.contents err.old) (E.contents err.new) }
+    ensures quiet { IsQuiet result (E.contents err.old) (E.contents err.new) }
 {
     match Chain::open(rt, file, Limits::default()) {
         Ok(chain) => {

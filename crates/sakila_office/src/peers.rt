@@ -3,7 +3,7 @@ ghost use Rattle.std.specs.Prelude.{List};
 ghost use Rattle.counter_http.specs.Exchanges.{Exchange, RunsOver};
 
 use chain_engine::Chain;
-use counter_http::{Connection, Standing, Switchboard};
+use counter_http::{Connection, Standing, Switchboard, TurnFault};
 use shop_types::OfficeWords;
 use sqlite::Alter;
 use std::alloc::AllocGlobal;
@@ -13,6 +13,9 @@ use std::time::{Clock, Duration};
 
 /// How many requests of a connection are answered before the others have their turn.
 const MOST_IN_A_TURN: u32 = 16;
+
+/// Behind how many milliseconds of its turn no further request of a connection is answered before the others have theirs.
+const LONGEST_TURN: u64 = 1;
 
 /// How many pieces that a peer still sends behind its last reply are dropped.
 const MOST_DROPPED: u32 = 64;
@@ -148,7 +151,41 @@ impl Peer {
         self.phase = Phase::Gone;
     }
 
-    /// Answers what has come.
+    /// Answers what has come, up to the end of a turn. What the connection waits for then, and whether its peer has taken something.
+    fn answer_some<R: Clock + AllocGlobal, O: OfficeWords, S: Alter>(
+        &mut self,
+        rt: &R,
+        chain: &mut Chain<S>,
+        board: &Switchboard,
+        words: &O,
+    ) -> (Result<Standing, TurnFault>, bool)
+        ensures { (exchanges : List Exchange) × RunsOver S.Store (O.meaning words.now) chain.old chain.new exchanges }
+    {
+        let mut outlet = Outlet {
+            stream: &self.stream,
+            has_taken: false,
+        };
+        let begun = time(rt, self.since);
+        let end = begun.saturating_add(Duration::from_millis(LONGEST_TURN));
+        let mut standing = Ok(Standing::Ready);
+        'requests: for _ in 0..MOST_IN_A_TURN {
+            standing = self.connection.advance(
+                rt.alloc(),
+                &mut &self.stream,
+                &mut outlet,
+                chain,
+                board,
+                words,
+                1,
+            );
+            if !matches!(standing, Ok(Standing::Ready)) || time(rt, begun) >= end {
+                break;
+            }
+        }
+        (standing, outlet.has_taken)
+    }
+
+    /// Answers what has come, and notes how it stands then.
     fn answer<R: Clock + AllocGlobal, O: OfficeWords, S: Alter>(
         &mut self,
         rt: &R,
@@ -159,21 +196,9 @@ impl Peer {
         ensures { (exchanges : List Exchange) × RunsOver S.Store (O.meaning words.now) chain.old chain.new exchanges }
     {
         let before = self.connection.replies();
-        let mut outlet = Outlet {
-            stream: &self.stream,
-            has_taken: false,
-        };
-        let standing = self.connection.advance(
-            rt.alloc(),
-            &mut &self.stream,
-            &mut outlet,
-            chain,
-            board,
-            words,
-            MOST_IN_A_TURN,
-        );
+        let (standing, has_taken) = self.answer_some(rt, chain, board, words);
         let now = time(rt, self.since);
-        if outlet.has_taken || self.connection.replies() != before {
+        if has_taken || self.connection.replies() != before {
             self.since = now;
         }
         match standing {
@@ -183,7 +208,7 @@ impl Peer {
         }
     }
 
-    /// One turn: it goes on as far as its bytes reach.
+    /// One turn: it goes on as far as its bytes reach and a turn goes.
     pub(crate) fn turn<R: Clock + AllocGlobal, O: OfficeWords, S: Alter>(
         &mut self,
         rt: &R,

@@ -2,7 +2,7 @@
 ghost use Rattle.std.specs.Prelude.{◌≡◌, OnOk, OnErr};
 ghost use Rattle.std.specs.Io.KnownBytes.{Appends};
 ghost use Rattle.shop_types.specs.Replies.{seen_reply};
-ghost use Rattle.sakila_office.specs.Printed.{line_bytes, IsCutOff, IsPrinted, IsTold};
+ghost use Rattle.sakila_office.specs.Printed.{line_bytes, IsCutOff, IsPrinted, IsQuiet, IsTold};
 
 use chain_engine::OpenFault;
 use counter_http::write_whole;
@@ -29,7 +29,8 @@ pub(crate) fn print<W: Write>(out: &mut W, text: &[u8]) -> u8
 
 /// Prints what a chain replied: an accepted answer on standard output, a refusal on standard error.
 pub(crate) fn tell<W: Write, E: Write>(reply: &Reply, out: &mut W, err: &mut E) -> u8
-    ensures { IsTold (seen_reply reply.now) result (W.contents out.old) (W.contents out.new) }
+    ensures told { IsTold (seen_reply reply.now) result (W.contents out.old) (W.contents out.new) (E.contents err.old) (E.contents err.new) }
+    ensures quiet { IsQuiet result (E.contents err.old) (E.contents err.new) }
 {
     if reply.status == 200 {
         return print(out, reply.body_bytes());
@@ -59,13 +60,5 @@ pub(crate) fn tell_misplaced<E: Write>(err: &mut E) -> u8
     ensures { result ≡ 2 }
 {
     let _ = write_line(err, b"usage: --db");
-    2
-}
-
-/// Prints that the subcommand isn't one of this program's yet.
-pub(crate) fn tell_unbuilt<E: Write>(err: &mut E) -> u8
-    ensures { result ≡ 2 }
-{
-    let _ = write_line(err, b"error: this subcommand isn't built yet");
     2
 }

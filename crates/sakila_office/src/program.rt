@@ -3,11 +3,12 @@ ghost use Rattle.std.specs.Prelude.{ℕ, List, Option, Some, None, map, string_b
 ghost use Rattle.shop_types.specs.Lines.{seen_line};
 ghost use Rattle.office_words.specs.Line.{line_of};
 ghost use Rattle.sakila_office.specs.Tasks.{task_of, task_with};
+ghost use Rattle.sakila_office.specs.Printed.{IsQuiet};
 ghost use Rattle.sakila_office.specs.Commands.{Puts};
 ghost use Rattle.sakila_office.specs.Program.{Performs};
 
-use crate::commands::{make, put, serve_in};
-use crate::printing::{tell, tell_misplaced, tell_unbuilt, tell_usage};
+use crate::commands::{make, migrate, put, serve_in};
+use crate::printing::{tell, tell_misplaced, tell_usage};
 use crate::replays::replay;
 use office_words::ClapWords;
 use shop_types::{Line, LineAct, OfficeWords, Refusal, Reply, Request, Usage};
@@ -23,7 +24,8 @@ fn put_request<W: Write, E: Write>(
     out: &mut W,
     err: &mut E,
 ) -> u8
-    ensures { Puts ⟦<File as Disk>⟧ request result (W.contents out.old) (W.contents out.new) }
+    ensures puts { Puts ⟦<File as Disk>⟧ request result (W.contents out.old) (W.contents out.new) (E.contents err.old) (E.contents err.new) }
+    ensures quiet { IsQuiet result (E.contents err.old) (E.contents err.new) }
 {
     let status = put(rt, file, &request, out, err);
     drop(request);
@@ -38,15 +40,16 @@ fn perform_in<W: Write, E: Write>(
     out: &mut W,
     err: &mut E,
 ) -> u8
-    ensures { (input : Option (List ℕ)) → Performs ⟦<File as Disk>⟧ (task_with act (Some file.now)) result
-        input input (W.contents out.old) (W.contents out.new) }
+    ensures performs { (input : Option (List ℕ)) → Performs ⟦<File as Disk>⟧ (task_with act (Some file.now)) result
+        input input (W.contents out.old) (W.contents out.new) (E.contents err.old) (E.contents err.new) }
+    ensures quiet { IsQuiet result (E.contents err.old) (E.contents err.new) }
 {
     match act {
         LineAct::Init(token) => make(rt, file, &token, out, err),
         LineAct::Office(command) => put_request(rt, file, Request::Office(command), out, err),
         LineAct::OfficeLook(ask) => put_request(rt, file, Request::OfficeLook(ask), out, err),
         LineAct::Serve { port, connections } => serve_in(rt, file, port, connections, err),
-        LineAct::Migrate => tell_unbuilt(err),
+        LineAct::Migrate => migrate(rt, file, out, err),
         LineAct::Replay => tell_misplaced(err),
     }
 }
@@ -59,14 +62,17 @@ fn perform_alone<R: Read, W: Write, E: Write>(
     out: &mut W,
     err: &mut E,
 ) -> u8
-    ensures { Performs ⟦<File as Disk>⟧ (task_with act.now None) result
-        (R.remaining reader.old) (R.remaining reader.new) (W.contents out.old) (W.contents out.new) }
+    ensures performs { Performs ⟦<File as Disk>⟧ (task_with act.now None) result
+        (R.remaining reader.old) (R.remaining reader.new) (W.contents out.old) (W.contents out.new) (E.contents err.old) (E.contents err.new) }
+    ensures quiet { IsQuiet result (E.contents err.old) (E.contents err.new) }
 {
     match act {
         LineAct::Replay => replay(rt.alloc(), reader, out, err),
-        LineAct::Init(_) | LineAct::Office(_) | LineAct::OfficeLook(_) | LineAct::Serve { .. } =>
-            tell_misplaced(err),
-        LineAct::Migrate => tell_unbuilt(err),
+        LineAct::Init(_)
+        | LineAct::Migrate
+        | LineAct::Office(_)
+        | LineAct::OfficeLook(_)
+        | LineAct::Serve { .. } => tell_misplaced(err),
     }
 }
 
@@ -78,8 +84,9 @@ fn perform<R: Read, W: Write, E: Write>(
     out: &mut W,
     err: &mut E,
 ) -> u8
-    ensures { Performs ⟦<File as Disk>⟧ (task_of (Some (seen_line line))) result
-        (R.remaining reader.old) (R.remaining reader.new) (W.contents out.old) (W.contents out.new) }
+    ensures performs { Performs ⟦<File as Disk>⟧ (task_of (Some (seen_line line))) result
+        (R.remaining reader.old) (R.remaining reader.new) (W.contents out.old) (W.contents out.new) (E.contents err.old) (E.contents err.new) }
+    ensures quiet { IsQuiet result (E.contents err.old) (E.contents err.new) }
 {
     let Line { db, act } = line;
     match db {
@@ -101,8 +108,9 @@ pub fn run<R: Read, W: Write, E: Write>(
     out: &mut W,
     err: &mut E,
 ) -> u8
-    ensures { Performs ⟦<File as Disk>⟧ (task_of (line_of (map string_bytes words.now))) result
-        (R.remaining reader.old) (R.remaining reader.new) (W.contents out.old) (W.contents out.new) }
+    ensures performs { Performs ⟦<File as Disk>⟧ (task_of (line_of (map string_bytes words.now))) result
+        (R.remaining reader.old) (R.remaining reader.new) (W.contents out.old) (W.contents out.new) (E.contents err.old) (E.contents err.new) }
+    ensures quiet { IsQuiet result (E.contents err.old) (E.contents err.new) }
 {
     let reader_of_words = ClapWords { alloc: rt.alloc() };
     match reader_of_words.read(words) {

@@ -1,5 +1,6 @@
 //! The requests of an input, answered by a chain in memory.
 ghost use Rattle.std.specs.Prelude.{◌≡◌};
+ghost use Rattle.sakila_office.specs.Printed.{IsQuiet};
 ghost use Rattle.sakila_office.specs.Replays.{status_of, Replays};
 
 use crate::printing::tell_fault;
@@ -29,7 +30,8 @@ pub(crate) fn replay<R: Read, W: Write, E: Write>(
     out: &mut W,
     err: &mut E,
 ) -> u8
-    ensures { Replays result (R.remaining reader.old) (R.remaining reader.new) (W.contents out.old) (W.contents out.new) }
+    ensures replays { Replays result (R.remaining reader.old) (R.remaining reader.new) (W.contents out.old) (W.contents out.new) (E.contents err.old) (E.contents err.new) }
+    ensures quiet { IsQuiet result (E.contents err.old) (E.contents err.new) }
 {
     let mut chain = match Chain::demo(alloc, Limits::default()) {
         Ok(chain) => chain,

@@ -41,6 +41,8 @@ struct Server {
     connections: u32,
     /// Whether the listener may have a connection without waiting.
     may_accept: bool,
+    /// Whether all connections that had come before the serving began were answered as far as their bytes reached.
+    has_caught_up: bool,
     /// When it was last looked who is ready.
     now: Duration,
     patience: Duration,
@@ -70,6 +72,7 @@ impl Server {
             accepted: 0,
             connections,
             may_accept: true,
+            has_caught_up: false,
             now: rt.monotonic()?,
             patience,
         })
@@ -94,13 +97,18 @@ impl Server {
         self.may_accept && self.accepted < self.connections && self.peers.len() < MOST_OPEN
     }
 
-    /// Accepts one connection, where one waits, there is room, and those that came before have gone as far as their bytes reach. Whether it did.
+    /// Whether the next connection waits for one that came before it: so it is with those that had come before the serving began.
+    fn is_held(&self) -> bool {
+        !self.has_caught_up && self.peers.iter().any(|peer| peer.is_busy())
+    }
+
+    /// Accepts one connection, where one waits, there is room, and none holds it. Whether it did.
     fn accept<R: Clock + AllocGlobal>(
         &mut self,
         rt: &R,
         listener: &TcpListener,
     ) -> io::Result<bool> {
-        if !self.has_room() || self.peers.iter().any(|peer| peer.is_busy()) {
+        if !self.has_room() || self.is_held() {
             return Ok(false);
         }
         match listener.accept() {
@@ -112,6 +120,7 @@ impl Server {
             Err(e) => match e.kind() {
                 ErrorKind::WouldBlock => {
                     self.may_accept = false;
+                    self.has_caught_up = true;
                     Ok(false)
                 }
                 ErrorKind::Interrupted | ErrorKind::ConnectionAborted => Ok(false),
@@ -197,7 +206,7 @@ impl Server {
         self.peers.retain(|peer| !peer.is_gone());
     }
 
-    /// Accepts some connections, each of which has its first turn before the next is accepted. Whether the listener is sound.
+    /// Accepts some connections. Of those that had come before the serving began each has its first turn before the next is accepted. Whether the listener is sound.
     fn arrivals<R: Clock + AllocGlobal, O: OfficeWords, S: Alter>(
         &mut self,
         rt: &R,
@@ -209,6 +218,7 @@ impl Server {
     {
         'arrivals: for _ in 0..MOST_ARRIVALS {
             match self.accept(rt, listener) {
+                Ok(true) if self.has_caught_up => {}
                 Ok(true) => self.turns(rt, chain, words),
                 Ok(false) => return true,
                 Err(_) => return false,
@@ -246,10 +256,10 @@ impl Server {
 }
 
 /// Serves so many connections by the chain, at most 256 of them side by side, each with at most 1,000 requests. A request is answered when it has come whole, one
-/// after another, and at most 16 of a connection before the others have their turn; where the bytes of all have come before, each connection is answered to its
-/// end, in the order in which they came. A fault of a connection ends that connection alone. A peer of which no whole request has come for as long as `patience`,
-/// by the clock of `rt`, is left, and so is one that took nothing of a reply for as long. The answer is 0 where all were served, and 3 where serving couldn't
-/// begin, none could be accepted any more or the store failed.
+/// after another. The others have their turn behind at most 16 requests of a connection, and behind the one at which its turn has taken a millisecond by the clock
+/// of `rt`; where the bytes of all have come before, each connection is answered to its end, in the order in which they came. A fault of a connection ends that
+/// connection alone. A peer of which no whole request has come for as long as `patience`, by that clock, is left, and so is one that took nothing of a reply for as
+/// long. The answer is 0 where all were served, and 3 where serving couldn't begin, none could be accepted any more or the store failed.
 pub fn serve_listener<R: Net + Clock + AllocGlobal, O: OfficeWords, S: Alter>(
     rt: &R,
     listener: &TcpListener,

@@ -14,7 +14,7 @@ use Rattle.sql_rows.specs.Rows.{number_value}
 use Rattle.sql_rows.proofs.Projects.{still_holds}
 use Rattle.sql_rows.proofs.ColumnTests.{same_number}
 use Rattle.shop_model.specs.Rows.{Row, Owned, at, lacks, is_empty, set_at, numbered, numbered_from}
-use Rattle.shop_model.specs.Values.{Branch, Customer, Rental, Payment, OfficeAct, AddCountry, AddCity, AddLanguage, AddCategory, AddActor, AddFilm, PriceFilm, WithdrawFilm, AddCast, AddBranch, AddStaff, StaffLeaves, SetManager, OfficeCommand}
+use Rattle.shop_model.specs.Values.{Branch, Customer, Rental, Payment, OfficeAct, AddCountry, AddCity, AddLanguage, AddCategory, AddActor, AddFilm, PriceFilm, WithdrawFilm, AddCast, AddBranch, AddStaff, StaffLeaves, SetManager, ChooseRule, OfficeCommand}
 use Rattle.shop_model.specs.Shop.{Kept, OfficeKept, Catalogue}
 use Rattle.shop_model.specs.Machine.{office_acted, office_text, office_done}
 use Rattle.shop_model.specs.Links.{has_row}
@@ -179,6 +179,7 @@ office_rows_counted (AddBranch branch) books owners = λ i. record { counters = 
 office_rows_counted (AddStaff staff) books owners = refl
 office_rows_counted (StaffLeaves staff) books owners = refl
 office_rows_counted (SetManager b staff) books owners = λ i. record { counters = office_count books ∷ branch_set books 1 b (λ r. record r { manager = Some staff }) books.catalogue.branches i; outs = (counts_of books).outs; pairs = (counts_of books).pairs }
+office_rows_counted (ChooseRule rule) books owners = refl
 
 pub kept_stays : (act : OfficeAct) (it : Catalogue) → (office_acted act it).kept ≡ it.kept
 kept_stays (AddCountry name) it = refl
@@ -194,6 +195,7 @@ kept_stays (AddBranch branch) it = refl
 kept_stays (AddStaff staff) it = refl
 kept_stays (StaffLeaves staff) it = refl
 kept_stays (SetManager b staff) it = refl
+kept_stays (ChooseRule rule) it = refl
 
 -- with the key that is kept, head office's count is one more than with the rows alone
 pub office_counted_raised : (command : OfficeCommand) (books : Books)
@@ -231,3 +233,4 @@ office_grown_once (AddBranch branch) b books low held = branch_once b books low 
 office_grown_once (AddStaff staff) b books low held = office_once books held
 office_grown_once (StaffLeaves staff) b books low held = office_once books held
 office_grown_once (SetManager place staff) b books low held = office_once books held
+office_grown_once (ChooseRule rule) b books low held = office_once books held

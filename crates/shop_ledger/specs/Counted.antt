@@ -2,7 +2,7 @@
 use Rattle.std.specs.Prelude.{ℕ, ◌≤◌, ◌<◌, ◌^◌, ⊤, length}
 use Rattle.std.specs.List.{AllByRecursion}
 use Rattle.sql_rows.specs.Rows.{PicksOne}
-use Rattle.shop_model.specs.Values.{OfficeAct, AddCountry, AddCity, AddLanguage, AddCategory, AddActor, AddFilm, PriceFilm, WithdrawFilm, AddCast, AddBranch, AddStaff, StaffLeaves, SetManager}
+use Rattle.shop_model.specs.Values.{OfficeAct, AddCountry, AddCity, AddLanguage, AddCategory, AddActor, AddFilm, PriceFilm, WithdrawFilm, AddCast, AddBranch, AddStaff, StaffLeaves, SetManager, ChooseRule}
 use Rattle.shop_model.specs.Books.{Books}
 use Rattle.shop_schema.specs.Counts.{Counts, is_count, count_in, raise, with_branch, is_out_by, customers_kind, copies_kind, rentals_kind, payments_kind, kept_kind}
 use Rattle.shop_ledger.specs.declared.counts.CountKind.{CountKind}
@@ -60,6 +60,7 @@ office_grown (AddBranch branch) b counts = with_branch b counts
 office_grown (AddStaff staff) b counts = counts
 office_grown (StaffLeaves staff) b counts = counts
 office_grown (SetManager branch staff) b counts = counts
+office_grown (ChooseRule rule) b counts = counts
 
 -- how the command does: there is a kept key more
 abbrev pub office_counted : OfficeAct → ℕ → Counts → Counts

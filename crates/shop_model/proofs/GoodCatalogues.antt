@@ -6,7 +6,7 @@ use Rattle.std.specs.List.{list_any, list_all}
 use Rattle.std.specs.Str.{bytes_eq}
 use Rattle.std.proofs.lemmas.Bool.{cases_Bool, or_parts, not-false}
 use Rattle.shop_model.specs.Rows.{at, lacks, is_empty, set_at}
-use Rattle.shop_model.specs.Values.{Text, City, Film, Cast, Branch, Staff, Customer, Copy, Rental, Payment, Arrival, OfficeAct, AddCountry, AddCity, AddLanguage, AddCategory, AddActor, AddFilm, PriceFilm, WithdrawFilm, AddCast, AddBranch, AddStaff, StaffLeaves, SetManager, OfficeCommand, Rules}
+use Rattle.shop_model.specs.Values.{Text, City, Film, Cast, Branch, Staff, Customer, Copy, Rental, Payment, Arrival, OfficeAct, AddCountry, AddCity, AddLanguage, AddCategory, AddActor, AddFilm, PriceFilm, WithdrawFilm, AddCast, AddBranch, AddStaff, StaffLeaves, SetManager, ChooseRule, OfficeCommand, Rules}
 use Rattle.shop_model.specs.Refusals.{Refusal, Full}
 use Rattle.shop_model.specs.Shop.{OfficeKept, Catalogue, Shop, same_office}
 use Rattle.shop_model.specs.Verdict.{Verdict, Again, Refused, Accepted, first, office_refusals, office_resent, office_verdict}
@@ -42,6 +42,7 @@ office_grows (AddBranch branch) it = record { countries = λ n h. h; cities = λ
 office_grows (AddStaff staff) it = record { countries = λ n h. h; cities = λ n h. h; languages = λ n h. h; categories = λ n h. h; actors = λ n h. h; films = λ n h. h; branches = λ n h. h; staff = λ c n h. any_at_more (λ (x : Staff). x.branch == c) n it.staff ((record staff { gone = false }) ∷ []) h }
 office_grows (StaffLeaves s) it = record { countries = λ n h. h; cities = λ n h. h; languages = λ n h. h; categories = λ n h. h; actors = λ n h. h; films = λ n h. h; branches = λ n h. h; staff = λ c n h. any_at_set (λ (x : Staff). x.branch == c) n s (λ (x : Staff). record x { gone = true }) it.staff (λ x. refl) ∙ h }
 office_grows (SetManager b s) it = record { countries = λ n h. h; cities = λ n h. h; languages = λ n h. h; categories = λ n h. h; actors = λ n h. h; films = λ n h. h; branches = λ n h. has_set n b (λ (x : Branch). record x { manager = Some s }) it.branches ∙ h; staff = λ c n h. h }
+office_grows (ChooseRule rule) it = record { countries = λ n h. h; cities = λ n h. h; languages = λ n h. h; categories = λ n h. h; actors = λ n h. h; films = λ n h. h; branches = λ n h. h; staff = λ c n h. h }
 
 -- ---- names
 
@@ -136,6 +137,7 @@ names_acted (SetManager b s) it old none = let h = names_grow it (office_acted (
     (all_set (λ (x : Branch). has_row it.cities x.city) b (λ (x : Branch). record x { manager = Some s }) it.branches h.branch_cities (λ x is. is))
     (λ c. all_at_set (λ (x : Branch). list_all (is_staff_of c it.staff) (option_to_list x.manager)) c b (λ (x : Branch). record x { manager = Some s }) it.branches (h.managers c) (λ same x is. let of : is_staff_of b it.staff s ≡ true = is_of_branch b (at s it.staff) (or_parts (lacks it.staff s) _ none.0).0 (or_parts (lacks it.branches b) _ none.1.0).1 in rw (same, of)))
     h.staff_branches h.staff_cities
+names_acted (ChooseRule rule) it old none = names_of _ _ old.city_countries old.film_languages old.film_categories old.cast_films old.cast_actors old.branch_cities old.managers old.staff_branches old.staff_cities
 
 -- ---- sizes, with one key more
 
@@ -162,6 +164,7 @@ sizes_acted (AddBranch branch) it k h = let l = length-append it.kept (k ∷ [])
 sizes_acted (AddStaff staff) it k h = let l = length-append it.kept (k ∷ []) in record { casts = stays_fit _ _ _ l h.casts; countries = stays_fit _ _ _ l h.countries; cities = stays_fit _ _ _ l h.cities; languages = stays_fit _ _ _ l h.languages; categories = stays_fit _ _ _ l h.categories; actors = stays_fit _ _ _ l h.actors; films = stays_fit _ _ _ l h.films; branches = stays_fit _ _ _ l h.branches; staff = grown_fits it.staff (record staff { gone = false }) _ _ l h.staff }
 sizes_acted (StaffLeaves s) it k h = let l = length-append it.kept (k ∷ []) in record { casts = stays_fit _ _ _ l h.casts; countries = stays_fit _ _ _ l h.countries; cities = stays_fit _ _ _ l h.cities; languages = stays_fit _ _ _ l h.languages; categories = stays_fit _ _ _ l h.categories; actors = stays_fit _ _ _ l h.actors; films = stays_fit _ _ _ l h.films; branches = stays_fit _ _ _ l h.branches; staff = set_fits s (λ (x : Staff). record x { gone = true }) it.staff _ _ l h.staff }
 sizes_acted (SetManager b s) it k h = let l = length-append it.kept (k ∷ []) in record { casts = stays_fit _ _ _ l h.casts; countries = stays_fit _ _ _ l h.countries; cities = stays_fit _ _ _ l h.cities; languages = stays_fit _ _ _ l h.languages; categories = stays_fit _ _ _ l h.categories; actors = stays_fit _ _ _ l h.actors; films = stays_fit _ _ _ l h.films; branches = set_fits b (λ (x : Branch). record x { manager = Some s }) it.branches _ _ l h.branches; staff = stays_fit _ _ _ l h.staff }
+sizes_acted (ChooseRule rule) it k h = let l = length-append it.kept (k ∷ []) in record { casts = stays_fit _ _ _ l h.casts; countries = stays_fit _ _ _ l h.countries; cities = stays_fit _ _ _ l h.cities; languages = stays_fit _ _ _ l h.languages; categories = stays_fit _ _ _ l h.categories; actors = stays_fit _ _ _ l h.actors; films = stays_fit _ _ _ l h.films; branches = stays_fit _ _ _ l h.branches; staff = stays_fit _ _ _ l h.staff }
 
 -- ---- doubles
 
@@ -179,6 +182,7 @@ single_acted (AddBranch branch) it h none = record { casts = h.casts; countries 
 single_acted (AddStaff staff) it h none = record { casts = h.casts; countries = h.countries; languages = h.languages; categories = h.categories }
 single_acted (StaffLeaves s) it h none = record { casts = h.casts; countries = h.countries; languages = h.languages; categories = h.categories }
 single_acted (SetManager b s) it h none = record { casts = h.casts; countries = h.countries; languages = h.languages; categories = h.categories }
+single_acted (ChooseRule rule) it h none = record { casts = h.casts; countries = h.countries; languages = h.languages; categories = h.categories }
 
 -- ---- tokens
 
@@ -208,6 +212,7 @@ tokens_acted (SetManager b s) it h none = record {
   tokens = different_set (λ (earlier later : Branch). bytes_eq earlier.token later.token) b (λ (x : Branch). record x { manager = Some s }) it.branches (λ x y. refl) (λ x y. refl) ∙ h.tokens;
   office_token = all_set (λ (x : Branch). not (bytes_eq x.token it.office_token)) b (λ (x : Branch). record x { manager = Some s }) it.branches h.office_token (λ x is. is);
 }
+tokens_acted (ChooseRule rule) it h none = record { tokens = h.tokens; office_token = h.office_token }
 
 -- ---- one command
 

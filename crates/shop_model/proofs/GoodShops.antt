@@ -162,7 +162,7 @@ taken moment it by = let h = and_parts (is_by it.rented moment) _ by in rw (h.0,
 
 pub good_acted : (rules sizes : Rules) (b : ℕ) (catalogue : Catalogue) (command : Command) (k : Kept) (act : Act) (shop : Shop) → rules.commands ≤ sizes.commands → rules.copies ≤ sizes.copies → IsGoodShop sizes shop
     → is_full rules shop act ≡ false → is_before command.moment shop.last ≡ false → NoneHold (act_refusals rules b catalogue shop command.moment act)
-    → IsGoodShop sizes (record (acted rules command act shop) { kept = shop.kept ++ k ∷ []; last = Some command.moment })
+    → IsGoodShop sizes (record (acted rules catalogue command act shop) { kept = shop.kept ++ k ∷ []; last = Some command.moment })
 good_acted rules sizes b catalogue command k (AddCustomer person) shop most fit good full on act =
     let base = base_good rules sizes command k shop most good (or_parts (nat_le rules.commands (length shop.kept)) _ full).0 on in
     record {

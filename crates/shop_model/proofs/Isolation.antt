@@ -129,7 +129,7 @@ own_state rules b (Do command) books has =
           let e : v ≡ Accepted = accepted_is v is in
           let away = not_self rules b books.catalogue (shop_of b books) command.moment command.act (act_holds rules b books.catalogue (shop_of b books) command e) in
           rw e (state_is _ _ _ _ (catalogue_stays rules b command command.act books) (done_own rules b command books has away))
-      | inr isnt ↦ rw (not_accepted v (book_done rules b command books) books isnt, not_accepted v (done rules command (shop_of b books)) (shop_of b books) isnt)
+      | inr isnt ↦ rw (not_accepted v (book_done rules b command books) books isnt, not_accepted v (done rules books.catalogue command (shop_of b books)) (shop_of b books) isnt)
     ]
 own_state rules b (Unread refusal) books has = refl
 own_state rules b (Look ask) books has = refl

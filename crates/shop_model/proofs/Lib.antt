@@ -11,6 +11,7 @@ pub mod LinkedShops
 pub mod GoodCatalogues
 pub mod Owners
 pub mod Soundness
+pub mod Migration
 pub mod Resent
 pub mod OfficeResent
 pub mod Histories

@@ -124,7 +124,7 @@ base_linked b catalogue k last shop h new = record {
 }
 
 pub linked_acted : (rules : Rules) (b : ℕ) (catalogue : Catalogue) (command : Command) (act : Act) (shop : Shop) → IsLinkedShop b catalogue shop → is_staff_of b catalogue.staff command.staff ≡ true
-    → NoneHold (act_refusals rules b catalogue shop command.moment act) → IsLinkedShop b catalogue (acted rules command act shop)
+    → NoneHold (act_refusals rules b catalogue shop command.moment act) → IsLinkedShop b catalogue (acted rules catalogue command act shop)
 linked_acted rules b catalogue command (AddCustomer person) shop h works none = record {
   customer_cities = all_more (λ (it : Customer). has_row catalogue.cities it.person.city) shop.customers (record { person = person; active = true; created = command.moment }) h.customer_cities (is_there catalogue.cities person.city none.0);
   copy_films = h.copy_films;

@@ -4,7 +4,7 @@ use Rattle.std.specs.Prelude.{nat_le, length}
 use Rattle.std.specs.Str.{bytes_eq}
 use Rattle.std.proofs.lemmas.Bool.{cases_Bool}
 use Rattle.std.proofs.lemmas.Slice.Eq.{bytes_eq-Decides}
-use Rattle.shop_model.specs.Values.{Text, Film, Branch, OfficeAct, AddCountry, AddCity, AddLanguage, AddCategory, AddActor, AddFilm, PriceFilm, WithdrawFilm, AddCast, AddBranch, AddStaff, StaffLeaves, SetManager, OfficeCommand, Rules}
+use Rattle.shop_model.specs.Values.{Text, Film, Branch, ByCode, ByComment, OfficeAct, AddCountry, AddCity, AddLanguage, AddCategory, AddActor, AddFilm, PriceFilm, WithdrawFilm, AddCast, AddBranch, AddStaff, StaffLeaves, SetManager, ChooseRule, OfficeCommand, Rules}
 use Rattle.shop_model.specs.Refusals.{Full}
 use Rattle.shop_model.specs.Shop.{OfficeKept, Catalogue, same_film, same_branch, same_office_act, same_office}
 use Rattle.shop_model.specs.Verdict.{Accepted, verdict, office_resent, office_verdict, first, office_refusals}
@@ -36,6 +36,8 @@ act_same (AddBranch b) = branch_same b
 act_same (AddStaff s) = rw (same_test s.branch, person_same s.person)
 act_same (StaffLeaves s) = same_test s
 act_same (SetManager b s) = simp same_test
+act_same (ChooseRule ByCode) = cc
+act_same (ChooseRule ByComment) = cc
 
 pub command_same : (c : OfficeCommand) → same_office c c ≡ true
 command_same c = rw (bytes_same c.key, act_same c.act)

@@ -6,8 +6,9 @@ use Rattle.std.proofs.lemmas.Bool.{cases_Bool, and_parts}
 use Rattle.std.proofs.lemmas.List.{map_push}
 use Rattle.shop_model.specs.Rows.{Row, Owned, at, next, put, put_all, set_row, set_rows, update_where, is_row, IsCounted}
 use Rattle.shop_model.specs.Calendar.{Moment}
-use Rattle.shop_model.specs.Values.{Text, Branch, Staff, Customer, Rental, Payment, Act, AddCustomer, SetActive, Rent, TakeBack, Pay, Import, Dispatch, Receive, Scrap, Command, Rules}
+use Rattle.shop_model.specs.Values.{Text, Branch, Staff, Customer, Rental, Terms, Payment, Act, AddCustomer, SetActive, Rent, TakeBack, Pay, Import, Dispatch, Receive, Scrap, Command, Rules}
 use Rattle.shop_model.specs.Shop.{Kept, Catalogue}
+use Rattle.shop_model.specs.Stock.{terms_now}
 use Rattle.shop_model.specs.Verdict.{act_refusals, staff_is}
 use Rattle.shop_model.specs.Machine.{films_in, reply_text}
 use Rattle.shop_model.specs.Books.{Books, BookCopy, Consignment, shop_of, book_acted, book_done, is_consignment, imported, unpacked, checked, come, new_consignment}
@@ -74,6 +75,7 @@ owners_acted rules b catalogue command (AddCustomer person) books h there none =
   customers = put_owned catalogue.branches b (λ _. record { person = person; active = true; created = command.moment }) books.customers there h.customers;
   copies = h.copies;
   rentals = h.rentals;
+  terms = h.terms;
   payments = h.payments;
   lots = h.lots;
   kept = h.kept;
@@ -85,6 +87,7 @@ owners_acted rules b catalogue command (SetActive n active) books h there none =
   customers = set_owned catalogue.branches b n _ books.customers h.customers;
   copies = h.copies;
   rentals = h.rentals;
+  terms = h.terms;
   payments = h.payments;
   lots = h.lots;
   kept = h.kept;
@@ -96,6 +99,7 @@ owners_acted rules b catalogue command (Rent n x) books h there none = record {
   customers = h.customers;
   copies = h.copies;
   rentals = put_owned catalogue.branches b (λ _. record { rented = command.moment; copy = x; customer = n; returned = None; staff = command.staff }) books.rentals there h.rentals;
+  terms = put_all_owned catalogue.branches b (map (λ it _. it) (terms_now books.catalogue (shop_of b books) x)) books.terms there h.terms;
   payments = h.payments;
   lots = h.lots;
   kept = h.kept;
@@ -107,6 +111,7 @@ owners_acted rules b catalogue command (TakeBack r) books h there none = record 
   customers = h.customers;
   copies = h.copies;
   rentals = set_owned catalogue.branches b r _ books.rentals h.rentals;
+  terms = h.terms;
   payments = h.payments;
   lots = h.lots;
   kept = h.kept;
@@ -118,6 +123,7 @@ owners_acted rules b catalogue command (Pay n rental amount) books h there none 
   customers = h.customers;
   copies = h.copies;
   rentals = h.rentals;
+  terms = h.terms;
   payments = put_owned catalogue.branches b (λ _. record { customer = n; staff = command.staff; rental = rental; amount = amount; paid = command.moment }) books.payments there h.payments;
   lots = h.lots;
   kept = h.kept;
@@ -129,6 +135,7 @@ owners_acted rules b catalogue command (Import lot file) books h there none = re
   customers = h.customers;
   copies = put_all_owned catalogue.branches b (map (imported b) (films_in (rules.stock_of file))) books.copies there h.copies;
   rentals = h.rentals;
+  terms = h.terms;
   payments = h.payments;
   lots = all_more (λ (row : Owned Text). has_row catalogue.branches row.owner) books.lots (record { owner = b; it = lot }) h.lots there;
   kept = h.kept;
@@ -140,6 +147,7 @@ owners_acted rules b catalogue command (Dispatch to xs) books h there none = rec
   customers = h.customers;
   copies = set_all_owned catalogue.branches b xs _ books.copies h.copies;
   rentals = h.rentals;
+  terms = h.terms;
   payments = h.payments;
   lots = h.lots;
   kept = h.kept;
@@ -151,6 +159,7 @@ owners_acted rules b catalogue command (Receive source number missing) books h t
   customers = h.customers;
   copies = put_all_owned catalogue.branches b (map unpacked (come source b number missing books.consignments)) books.copies there h.copies;
   rentals = h.rentals;
+  terms = h.terms;
   payments = h.payments;
   lots = h.lots;
   kept = h.kept;
@@ -162,6 +171,7 @@ owners_acted rules b catalogue command (Scrap x) books h there none = record {
   customers = h.customers;
   copies = set_owned catalogue.branches b x _ books.copies h.copies;
   rentals = h.rentals;
+  terms = h.terms;
   payments = h.payments;
   lots = h.lots;
   kept = h.kept;
@@ -176,6 +186,7 @@ owners_done rules b catalogue command books h there none = let g = owners_acted 
   customers = g.customers;
   copies = g.copies;
   rentals = g.rentals;
+  terms = g.terms;
   payments = g.payments;
   lots = g.lots;
   kept = all_more (λ (row : Owned Kept). has_row catalogue.branches row.owner) books.kept (record { owner = b; it = record { command = command; reply = reply_text rules command (shop_of b books) } }) h.kept there;
@@ -189,6 +200,7 @@ owners_grow old new books more h = record {
   customers = all_weaker (λ (row : Row Customer). has_row old row.branch) _ books.customers (λ (row : Row Customer) is. more row.branch is) h.customers;
   copies = all_weaker (λ (row : Row BookCopy). has_row old row.branch) _ books.copies (λ (row : Row BookCopy) is. more row.branch is) h.copies;
   rentals = all_weaker (λ (row : Row Rental). has_row old row.branch) _ books.rentals (λ (row : Row Rental) is. more row.branch is) h.rentals;
+  terms = all_weaker (λ (row : Row Terms). has_row old row.branch) _ books.terms (λ (row : Row Terms) is. more row.branch is) h.terms;
   payments = all_weaker (λ (row : Row Payment). has_row old row.branch) _ books.payments (λ (row : Row Payment) is. more row.branch is) h.payments;
   lots = all_weaker (λ (row : Owned Text). has_row old row.owner) _ books.lots (λ (row : Owned Text) is. more row.owner is) h.lots;
   kept = all_weaker (λ (row : Owned Kept). has_row old row.owner) _ books.kept (λ (row : Owned Kept) is. more row.owner is) h.kept;

@@ -5,7 +5,7 @@ use Rattle.std.specs.List.{AllByRecursion}
 use Rattle.std.proofs.Math.Nat.{le_refl}
 use Rattle.std.proofs.lemmas.Bool.{and_parts, leb-true, false≢true}
 use Rattle.shop_model.specs.Refusals.{Refusal, Full, refusal_number}
-use Rattle.shop_model.specs.Values.{Text, Rules, Act, AddCustomer, SetActive, Rent, TakeBack, Pay, Import, Dispatch, Receive, Scrap, OfficeAct, AddCountry, AddCity, AddLanguage, AddCategory, AddActor, AddFilm, PriceFilm, WithdrawFilm, AddCast, AddBranch, AddStaff, StaffLeaves, SetManager, Stock, Copies, BadLine}
+use Rattle.shop_model.specs.Values.{Text, Rules, Act, AddCustomer, SetActive, Rent, TakeBack, Pay, Import, Dispatch, Receive, Scrap, OfficeAct, AddCountry, AddCity, AddLanguage, AddCategory, AddActor, AddFilm, PriceFilm, WithdrawFilm, AddCast, AddBranch, AddStaff, StaffLeaves, SetManager, ChooseRule, Stock, Copies, BadLine}
 use Rattle.shop_model.specs.Calendar.{Moment}
 use Rattle.shop_model.specs.Shop.{Catalogue, Shop}
 use Rattle.shop_model.specs.Verdict.{Verdict, Again, Refused, Accepted, first, import_refusals, act_refusals, refusals, office_refusals}
@@ -67,6 +67,7 @@ office_rises catalogue (AddBranch branch) = refl
 office_rises catalogue (AddStaff staff) = refl
 office_rises catalogue (StaffLeaves s) = refl
 office_rises catalogue (SetManager b s) = refl
+office_rises catalogue (ChooseRule rule) = refl
 
 pub in_order : RefusalsAreInOrder
 in_order = record {

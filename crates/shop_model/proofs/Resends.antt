@@ -5,7 +5,7 @@ use Rattle.std.specs.List.{list_any, list_all}
 use Rattle.std.specs.Str.{bytes_eq}
 use Rattle.std.proofs.lemmas.Bool.{cases_Bool, or_parts, and_parts, not-true, false≢true}
 use Rattle.shop_model.specs.Rows.{Owned, set_at, owned_by}
-use Rattle.shop_model.specs.Values.{Text, Branch, Command, OfficeAct, AddCountry, AddCity, AddLanguage, AddCategory, AddActor, AddFilm, PriceFilm, WithdrawFilm, AddCast, AddBranch, AddStaff, StaffLeaves, SetManager, OfficeCommand, OfficeAsk, Rules}
+use Rattle.shop_model.specs.Values.{Text, Branch, Command, OfficeAct, AddCountry, AddCity, AddLanguage, AddCategory, AddActor, AddFilm, PriceFilm, WithdrawFilm, AddCast, AddBranch, AddStaff, StaffLeaves, SetManager, ChooseRule, OfficeCommand, OfficeAsk, Rules}
 use Rattle.shop_model.specs.Refusals.{Refusal, TooLong, NoCounter, NoRoute, BadBody, KeyUsed, Full, MomentBack, NoStaff, NoCustomer, CustomerInactive, NoCopy, CopyNotHere, CopyOut, FilmWithdrawn, SameMoment, NoRental, RentalReturned, WrongCustomer, NoFilm, LotIn, BadCsv, NoBranch, OwnBranch, NoArrival, ArrivalReceived, BadLines, BadThreshold, TokenTaken, NoSharedRow, Already, Usage}
 use Rattle.shop_model.specs.Shop.{Kept, OfficeKept, Catalogue, same_command, same_office}
 use Rattle.shop_model.specs.Verdict.{Verdict, Again, Refused, Accepted, resent, verdict, first, refusals, office_refusals, office_resent, office_verdict}
@@ -63,6 +63,7 @@ office_found (WithdrawFilm film) catalogue token c known e = e
 office_found (AddCast cast) catalogue token c known e = e
 office_found (AddStaff staff) catalogue token c known e = e
 office_found (StaffLeaves s) catalogue token c known e = e
+office_found (ChooseRule rule) catalogue token c known e = e
 
 office_token : (act : OfficeAct) (catalogue : Catalogue) → (office_acted act catalogue).office_token ≡ catalogue.office_token
 office_token (AddBranch branch) catalogue = refl
@@ -78,6 +79,7 @@ office_token (WithdrawFilm film) catalogue = refl
 office_token (AddCast cast) catalogue = refl
 office_token (AddStaff staff) catalogue = refl
 office_token (StaffLeaves s) catalogue = refl
+office_token (ChooseRule rule) catalogue = refl
 
 acted_caller : (act : OfficeAct) (catalogue : Catalogue) (token : Option Text) (c : Caller) → is_nobody c ≡ false → caller_of token catalogue ≡ c → caller_of token (office_acted act catalogue) ≡ c
 acted_caller act catalogue None c known e = absurd (nobody_known c e known)

@@ -4,7 +4,7 @@ use Rattle.std.specs.Prelude.{codes}
 use Rattle.std.specs.Fmt.{digits}
 use Rattle.shop_model.specs.Json.{escape_byte}
 use Rattle.shop_model.specs.Calendar.{day_of, day_number, days_of_years, days_of_months, seconds_of}
-use Rattle.shop_model.specs.Values.{Film, Branch, AddCustomer, Import, AddCountry, AddCity, AddLanguage, AddCategory, AddActor, AddFilm, PriceFilm, WithdrawFilm, AddCast, AddBranch, AddStaff, StaffLeaves, SetManager, OneFilm, Sales}
+use Rattle.shop_model.specs.Values.{Film, Branch, ByCode, ByComment, AddCustomer, Import, AddCountry, AddCity, AddLanguage, AddCategory, AddActor, AddFilm, PriceFilm, WithdrawFilm, AddCast, AddBranch, AddStaff, StaffLeaves, SetManager, ChooseRule, OneFilm, Sales}
 use Rattle.shop_model.specs.Refusals.{Usage}
 use Rattle.shop_model.specs.Machine.{Unread}
 use Rattle.shop_model.specs.Opening.{token_of}
@@ -19,7 +19,7 @@ abbrev high_street : ℕ → Branch
 high_street digit = record { token = token_of digit; address = codes "40 High"; postal = codes "P4"; phone = codes "4"; city = 1; manager = None }
 
 abbrev nowhere : Catalogue
-nowhere = record { office_token = token_of 0; kept = []; casts = []; countries = []; cities = []; languages = []; categories = []; actors = []; films = []; branches = []; staff = [] }
+nowhere = record { office_token = token_of 0; kept = []; rule = ByCode; casts = []; countries = []; cities = []; languages = []; categories = []; actors = []; films = []; branches = []; staff = [] }
 
 film_added : Plays rules [] (
     (orders (codes "f1") (AddFilm stone), ok (codes "{\"film\":3}"))
@@ -77,6 +77,17 @@ shared_rows : Plays rules [] (
     ∷ [])
 unfolding digits escape_byte day_of day_number days_of_years days_of_months seconds_of
 shared_rows = refl
+
+-- the rule that is chosen already
+already_by_code : Plays rules [] (
+    (orders (codes "r1") (ChooseRule ByCode), no (codes "{\"refused\":\"already\"}"))
+    ∷ (orders (codes "r1") (ChooseRule ByComment), ok (codes "{\"rule\":\"comment\"}"))
+    ∷ (orders (codes "r1") (ChooseRule ByComment), ok (codes "{\"rule\":\"comment\"}"))
+    ∷ (orders (codes "r1") (ChooseRule ByCode), no (codes "{\"refused\":\"key_used\"}"))
+    ∷ (orders (codes "r2") (ChooseRule ByComment), no (codes "{\"refused\":\"already\"}"))
+    ∷ [])
+unfolding digits escape_byte day_of day_number days_of_years days_of_months seconds_of
+already_by_code = refl
 
 -- with one kept key allowed the second command finds no room, and a reading is answered
 office_limit : Plays (limited 1 1000000) [] (

@@ -4,7 +4,7 @@ use Rattle.std.specs.Prelude.{codes}
 use Rattle.std.specs.Fmt.{digits}
 use Rattle.shop_model.specs.Json.{escape_byte}
 use Rattle.shop_model.specs.Calendar.{day_of, day_number, days_of_years, days_of_months, seconds_of, days_in_month}
-use Rattle.shop_model.specs.Values.{AddCustomer, Rent, TakeBack, Pay, Import, PriceFilm, Balance, Overdue, Rewards}
+use Rattle.shop_model.specs.Values.{ByCode, ByComment, AddCustomer, Rent, TakeBack, Pay, Import, PriceFilm, ChooseRule, Balance, Overdue, Rewards}
 use Rattle.shop_model.proofs.RowScripts.{moment, ten, march, one_copy, rules, does, asks, orders, mary, ok, no, Script, Plays}
 
 -- one copy of the first film, at 499 cents for three days, and one customer
@@ -56,10 +56,10 @@ open_rental_overdue : Plays rules copy_and_customer (
 unfolding digits escape_byte day_of day_number days_of_years days_of_months seconds_of
 open_rental_overdue = refl
 
--- a balance goes by the price that stands
+-- a balance goes by the price for which it was rented
 price_lowered : Plays rules (copy_and_customer ++ five_days_out) (
     (orders (codes "p1") (PriceFilm 1 299), ok (codes "{\"film\":1,\"rate\":299}"))
-    ∷ (asks 1 (Balance 1 (march 10)), ok (codes "{\"balance\":0}"))
+    ∷ (asks 1 (Balance 1 (march 10)), ok (codes "{\"balance\":200}"))
     ∷ [])
 unfolding digits escape_byte day_of day_number days_of_years days_of_months seconds_of
 price_lowered = refl
@@ -67,12 +67,37 @@ price_lowered = refl
 price_and_back : Plays rules (copy_and_customer ++ (does 1 (codes "a") ten (Rent 1 1), ok (codes "{\"rental\":1}")) ∷ []) (
     (asks 1 (Balance 1 (march 2)), ok (codes "{\"balance\":499}"))
     ∷ (orders (codes "p1") (PriceFilm 1 299), ok (codes "{\"film\":1,\"rate\":299}"))
-    ∷ (asks 1 (Balance 1 (march 2)), ok (codes "{\"balance\":299}"))
+    ∷ (asks 1 (Balance 1 (march 2)), ok (codes "{\"balance\":499}"))
     ∷ (orders (codes "p2") (PriceFilm 1 499), ok (codes "{\"film\":1,\"rate\":499}"))
     ∷ (asks 1 (Balance 1 (march 2)), ok (codes "{\"balance\":499}"))
     ∷ [])
 unfolding digits escape_byte day_of day_number days_of_years days_of_months seconds_of
 price_and_back = refl
+
+-- by the comment's rule a rental counts as it was seen at the moment: back on the fifth day, out on the third, and one day late on the fourth after
+rule_by_comment : Plays rules (copy_and_customer ++ five_days_out) (
+    (orders (codes "r1") (ChooseRule ByComment), ok (codes "{\"rule\":\"comment\"}"))
+    ∷ (asks 1 (Balance 1 (march 10)), ok (codes "{\"balance\":200}"))
+    ∷ (asks 1 (Balance 1 (march 3)), ok (codes "{\"balance\":0}"))
+    ∷ (asks 1 (Balance 1 (moment 2026 3 5 12 0 0)), ok (codes "{\"balance\":100}"))
+    ∷ (orders (codes "r2") (ChooseRule ByCode), ok (codes "{\"rule\":\"code\"}"))
+    ∷ (asks 1 (Balance 1 (march 3)), ok (codes "{\"balance\":200}"))
+    ∷ [])
+unfolding digits escape_byte day_of day_number days_of_years days_of_months seconds_of
+rule_by_comment = refl
+
+-- an open rental is charged each day past, and its replacement cost once these are more than twice its period, which six days past three aren't
+replacement_charged : Plays rules (copy_and_customer ++ (does 1 (codes "a") ten (Rent 1 1), ok (codes "{\"rental\":1}")) ∷ []) (
+    (asks 1 (Balance 1 (march 10)), ok (codes "{\"balance\":499}"))
+    ∷ (asks 1 (Balance 1 (march 11)), ok (codes "{\"balance\":499}"))
+    ∷ (asks 1 (Balance 1 (moment 2026 12 31 0 0 0)), ok (codes "{\"balance\":499}"))
+    ∷ (orders (codes "r1") (ChooseRule ByComment), ok (codes "{\"rule\":\"comment\"}"))
+    ∷ (asks 1 (Balance 1 (march 10)), ok (codes "{\"balance\":1099}"))
+    ∷ (asks 1 (Balance 1 (march 11)), ok (codes "{\"balance\":3198}"))
+    ∷ (asks 1 (Balance 1 (moment 2026 12 31 0 0 0)), ok (codes "{\"balance\":32698}"))
+    ∷ [])
+unfolding digits escape_byte day_of day_number days_of_years days_of_months seconds_of
+replacement_charged = refl
 
 -- both thresholds have to be passed
 rewards_in_leap_month : Plays rules copy_and_customer (

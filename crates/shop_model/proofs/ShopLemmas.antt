@@ -1,12 +1,13 @@
 -- What an accepted command of one branch does to the shop of each.
-use Rattle.std.proofs.Common.{◌≡◌, inl, inr, ℕ, ◌+◌, ◌-◌, List, [], ◌∷◌, ◌++◌, filter, map, Bool, true, false, not, refl, sym, ap, ◌∙◌, arith}
+use Rattle.std.proofs.Common.{◌≡◌, inl, inr, ℕ, ◌+◌, ◌-◌, List, [], ◌∷◌, ◌++◌, filter, map, Bool, true, false, not, refl, sym, ap, ◌∙◌, arith, append_assoc, append-nil}
 use Rattle.std.specs.Prelude.{if◌then◌else◌, ◌==◌, ◌&&◌, flat_map, Option, Some, None}
 use Rattle.std.proofs.lemmas.Bool.{cases_Bool}
 use Rattle.std.proofs.lemmas.List.{map-append}
-use Rattle.shop_model.specs.Rows.{arrived, at, Row, Owned, owned_by, is_of, is_row, of, IsCounted, numbered_from, mem}
+use Rattle.shop_model.specs.Rows.{arrived, at, Row, Owned, owned_by, is_of, is_row, of, IsCounted, numbered_from, mem, put, put_all}
 use Rattle.shop_model.specs.Calendar.{Moment}
-use Rattle.shop_model.specs.Values.{Text, Customer, Copy, Rental, Payment, Arrival, Parcel, Sent, Scrapped, Act, AddCustomer, SetActive, Rent, TakeBack, Pay, Import, Dispatch, Receive, Scrap, Command, Rules}
+use Rattle.shop_model.specs.Values.{Text, Customer, Copy, Rental, Terms, Payment, Arrival, Parcel, Sent, Scrapped, Act, AddCustomer, SetActive, Rent, TakeBack, Pay, Import, Dispatch, Receive, Scrap, Command, Rules}
 use Rattle.shop_model.specs.Shop.{Kept, Shop}
+use Rattle.shop_model.specs.Stock.{terms_now}
 use Rattle.shop_model.specs.Verdict.{arrival}
 use Rattle.shop_model.specs.Machine.{acted, done, reply_text, here, with_state, films_in, films_at, incoming}
 use Rattle.shop_model.specs.Books.{Books, BookCopy, Line, Consignment, shop_of, unmarked, as_arrival, as_parcel, head, book_acted, book_done, is_consignment, imported, unpacked, put_state, rows_at, under_way, checked, checked_line, come, set_last, new_consignment}
@@ -89,31 +90,36 @@ last_other b c moment lasts differ =
 
 -- ---- shops
 
-shop_parts : (a a2 : List Customer) (b b2 : List Copy) (c c2 : List Rental) (d d2 : List Payment) (e e2 : List Text) (f f2 : List Arrival) (g g2 : List Parcel) (h h2 : List Kept) (i i2 : Option Moment)
-    → a ≡ a2 → b ≡ b2 → c ≡ c2 → d ≡ d2 → e ≡ e2 → f ≡ f2 → g ≡ g2 → h ≡ h2 → i ≡ i2
-    → ◌≡◌ {A = Shop} (record { customers = a; copies = b; rentals = c; payments = d; lots = e; arrivals = f; sent = g; kept = h; last = i })
-    (record { customers = a2; copies = b2; rentals = c2; payments = d2; lots = e2; arrivals = f2; sent = g2; kept = h2; last = i2 })
-shop_parts a a2 b b2 c c2 d d2 e e2 f f2 g g2 h h2 i i2 ea eb ec ed ee ef eg eh ei = rw (ea, eb, ec, ed, ee, ef, eg, eh, ei)
+shop_parts : (a a2 : List Customer) (b b2 : List Copy) (c c2 : List Rental) (t t2 : List Terms) (d d2 : List Payment) (e e2 : List Text) (f f2 : List Arrival) (g g2 : List Parcel) (h h2 : List Kept) (i i2 : Option Moment)
+    → a ≡ a2 → b ≡ b2 → c ≡ c2 → t ≡ t2 → d ≡ d2 → e ≡ e2 → f ≡ f2 → g ≡ g2 → h ≡ h2 → i ≡ i2
+    → ◌≡◌ {A = Shop} (record { customers = a; copies = b; rentals = c; terms = t; payments = d; lots = e; arrivals = f; sent = g; kept = h; last = i })
+    (record { customers = a2; copies = b2; rentals = c2; terms = t2; payments = d2; lots = e2; arrivals = f2; sent = g2; kept = h2; last = i2 })
+shop_parts a a2 b b2 c c2 t t2 d d2 e e2 f f2 g g2 h h2 i i2 ea eb ec et ed ee ef eg eh ei = rw (ea, eb, ec, et, ed, ee, ef, eg, eh, ei)
 
-pub shop_is : (s t : Shop) → s.customers ≡ t.customers → s.copies ≡ t.copies → s.rentals ≡ t.rentals → s.payments ≡ t.payments → s.lots ≡ t.lots → s.arrivals ≡ t.arrivals → s.sent ≡ t.sent → s.kept ≡ t.kept → s.last ≡ t.last → s ≡ t
-shop_is s t ea eb ec ed ee ef eg eh ei = shop_parts _ _ _ _ _ _ _ _ _ _ _ _ _ _ _ _ _ _ ea eb ec ed ee ef eg eh ei
+pub shop_is : (s t : Shop) → s.customers ≡ t.customers → s.copies ≡ t.copies → s.rentals ≡ t.rentals → s.terms ≡ t.terms → s.payments ≡ t.payments → s.lots ≡ t.lots → s.arrivals ≡ t.arrivals → s.sent ≡ t.sent → s.kept ≡ t.kept → s.last ≡ t.last → s ≡ t
+shop_is s t ea eb ec et ed ee ef eg eh ei = shop_parts _ _ _ _ _ _ _ _ _ _ _ _ _ _ _ _ _ _ _ _ ea eb ec et ed ee ef eg eh ei
+
+put_terms_own : (b : ℕ) (more : List Terms) (rows : List (Row Terms)) → of b (put_all b (map (λ it _. it) more) rows) ≡ of b rows ++ more
+put_terms_own b [] rows = sym (append-nil (of b rows))
+put_terms_own b (it ∷ more) rows =
+    put_terms_own b more (put b (λ _. it) rows) ∙ rw (put_own b (λ _. it) rows) (append_assoc (of b rows) (it ∷ []) more)
 
 -- with all but the kept rows and the last moment
 pub acted_own : (rules : Rules) (b : ℕ) (command : Command) (act : Act) (books : Books) → HasNumbers books
     → ((xs : List ℕ) → act ≡ Dispatch b xs → ⊥)
-    → shop_of b (book_acted rules b command act books) ≡ acted rules command act (shop_of b books)
-acted_own rules b command (AddCustomer person) books has away = shop_is _ _ (put_own b (λ _. record { person = person; active = true; created = command.moment }) books.customers) refl refl refl refl refl refl refl refl
-acted_own rules b command (SetActive c active) books has away = shop_is _ _ (set_own b c _ books.customers (has.customers b)) refl refl refl refl refl refl refl refl
-acted_own rules b command (Rent c x) books has away = shop_is _ _ refl refl (put_own b (λ _. record { rented = command.moment; copy = x; customer = c; returned = None; staff = command.staff }) books.rentals) refl refl refl refl refl refl
-acted_own rules b command (TakeBack r) books has away = shop_is _ _ refl refl (set_own b r _ books.rentals (has.rentals b)) refl refl refl refl refl refl
-acted_own rules b command (Pay c rental amount) books has away = shop_is _ _ refl refl refl (put_own b (λ _. record { customer = c; staff = command.staff; rental = rental; amount = amount; paid = command.moment }) books.payments) refl refl refl refl refl
+    → shop_of b (book_acted rules b command act books) ≡ acted rules books.catalogue command act (shop_of b books)
+acted_own rules b command (AddCustomer person) books has away = shop_is _ _ (put_own b (λ _. record { person = person; active = true; created = command.moment }) books.customers) refl refl refl refl refl refl refl refl refl
+acted_own rules b command (SetActive c active) books has away = shop_is _ _ (set_own b c _ books.customers (has.customers b)) refl refl refl refl refl refl refl refl refl
+acted_own rules b command (Rent c x) books has away = shop_is _ _ refl refl (put_own b (λ _. record { rented = command.moment; copy = x; customer = c; returned = None; staff = command.staff }) books.rentals) (put_terms_own b (terms_now books.catalogue (shop_of b books) x) books.terms) refl refl refl refl refl refl
+acted_own rules b command (TakeBack r) books has away = shop_is _ _ refl refl (set_own b r _ books.rentals (has.rentals b)) refl refl refl refl refl refl refl
+acted_own rules b command (Pay c rental amount) books has away = shop_is _ _ refl refl refl refl (put_own b (λ _. record { customer = c; staff = command.staff; rental = rental; amount = amount; paid = command.moment }) books.payments) refl refl refl refl refl
 acted_own rules b command (Import lot file) books has away =
-    shop_is _ _ refl (put_all_own unmarked (imported b) here b (films_in (rules.stock_of file)) books.copies (λ c n. refl)) refl refl
+    shop_is _ _ refl (put_all_own unmarked (imported b) here b (films_in (rules.stock_of file)) books.copies (λ c n. refl)) refl refl refl
     (more_yes (λ (row : Owned Text). row.it) (λ row. row.owner == b) books.lots (record { owner = b; it = lot }) (same_test b)) refl refl refl refl
 acted_own rules b command (Dispatch to xs) books has away = elim (cases_Bool (to == b)) [
   | inl is ↦ absurd (away xs (rw (same_if to b is)))
   | inr isnt ↦
-      shop_is _ _ refl (rw (set_rows_own b xs (put_state Sent) books.copies (has.copies b)) (map_set_all unmarked (put_state Sent) (with_state Sent) xs (of b books.copies) (λ x. refl))) refl refl refl
+      shop_is _ _ refl (rw (set_rows_own b xs (put_state Sent) books.copies (has.copies b)) (map_set_all unmarked (put_state Sent) (with_state Sent) xs (of b books.copies) (λ x. refl))) refl refl refl refl
       (more_no as_arrival (λ (it : Consignment). it.addressee == b) books.consignments (new_consignment b to xs books) isnt)
       (more_yes as_parcel (λ (it : Consignment). it.source == b) books.consignments (new_consignment b to xs books) (same_test b)
       ∙ ap (λ fs. map as_parcel (filter (λ it. it.source == b) books.consignments) ++ record { addressee = to; films = fs } ∷ []) (films_sent b xs books.copies (has.copies b)))
@@ -127,24 +133,24 @@ acted_own rules b command (Receive source number missing) books has away =
     shop_is _ _ refl
     (put_all_own unmarked unpacked (λ line. here line.film) b (come source b number missing books.consignments) books.copies (λ c n. refl)
     ∙ ap (λ cs. map unmarked (of b books.copies) ++ cs) (sym (map_map here (λ (line : Line). line.film) (come source b number missing books.consignments)) ∙ ap (map here) films))
-    refl refl refl
+    refl refl refl refl
     (set_numbered_among (λ (it : Consignment). it.addressee == b) (λ it. it.source == source) (is_consignment source b number) (λ it. it.source == source) (λ it. it.number) (checked missing) as_arrival (λ it. record it { received = true }) number 1 books.consignments
     (λ x. refl) (λ x. refl) (λ x. refl) (checked_arrival missing) counted ∙ rw back)
     (set_same (λ (it : Consignment). it.source == b) (is_consignment source b number) (checked missing) as_parcel books.consignments (λ x. refl) (checked_parcel missing))
     refl refl
 acted_own rules b command (Scrap x) books has away =
-    shop_is _ _ refl (rw (set_own b x (put_state Scrapped) books.copies (has.copies b)) (map_set_at unmarked (put_state Scrapped) (with_state Scrapped) x (of b books.copies) (λ x. refl))) refl refl refl refl refl refl refl
+    shop_is _ _ refl (rw (set_own b x (put_state Scrapped) books.copies (has.copies b)) (map_set_at unmarked (put_state Scrapped) (with_state Scrapped) x (of b books.copies) (λ x. refl))) refl refl refl refl refl refl refl refl
 
 kept_own : (rules : Rules) (b : ℕ) (command : Command) (books : Books) → (t : Shop) → shop_of b (book_acted rules b command command.act books) ≡ t
     → shop_of b (book_done rules b command books) ≡ record t { kept = (shop_of b books).kept ++ record { command = command; reply = reply_text rules command (shop_of b books) } ∷ []; last = Some command.moment }
 kept_own rules b command books t e =
-    shop_is _ _ (ap (λ (s : Shop). s.customers) e) (ap (λ (s : Shop). s.copies) e) (ap (λ (s : Shop). s.rentals) e) (ap (λ (s : Shop). s.payments) e) (ap (λ (s : Shop). s.lots) e) (ap (λ (s : Shop). s.arrivals) e) (ap (λ (s : Shop). s.sent) e)
+    shop_is _ _ (ap (λ (s : Shop). s.customers) e) (ap (λ (s : Shop). s.copies) e) (ap (λ (s : Shop). s.rentals) e) (ap (λ (s : Shop). s.terms) e) (ap (λ (s : Shop). s.payments) e) (ap (λ (s : Shop). s.lots) e) (ap (λ (s : Shop). s.arrivals) e) (ap (λ (s : Shop). s.sent) e)
     (more_yes (λ (row : Owned Kept). row.it) (λ row. row.owner == b) books.kept (record { owner = b; it = record { command = command; reply = reply_text rules command (shop_of b books) } }) (same_test b))
     (last_own b command.moment books.lasts)
 
 pub done_own : (rules : Rules) (b : ℕ) (command : Command) (books : Books) → HasNumbers books → ((xs : List ℕ) → command.act ≡ Dispatch b xs → ⊥)
-    → shop_of b (book_done rules b command books) ≡ done rules command (shop_of b books)
-done_own rules b command books has away = kept_own rules b command books (acted rules command command.act (shop_of b books)) (acted_own rules b command command.act books has away)
+    → shop_of b (book_done rules b command books) ≡ done rules books.catalogue command (shop_of b books)
+done_own rules b command books has away = kept_own rules b command books (acted rules books.catalogue command command.act (shop_of b books)) (acted_own rules b command command.act books has away)
 
 -- ---- another branch's shop
 
@@ -154,28 +160,28 @@ with_arrivals b c act books = shop_of b books
 
 pub acted_other : (rules : Rules) (b c : ℕ) (command : Command) (act : Act) (books : Books) → HasNumbers books → (c == b) ≡ false
     → shop_of b (book_acted rules c command act books) ≡ with_arrivals b c act books
-acted_other rules b c command (AddCustomer person) books has differ = shop_is _ _ (put_other b c (λ _. record { person = person; active = true; created = command.moment }) books.customers differ) refl refl refl refl refl refl refl refl
-acted_other rules b c command (SetActive n active) books has differ = shop_is _ _ (set_row_other b c n (λ it. record it { active = active }) books.customers differ) refl refl refl refl refl refl refl refl
-acted_other rules b c command (Rent n x) books has differ = shop_is _ _ refl refl (put_other b c (λ _. record { rented = command.moment; copy = x; customer = n; returned = None; staff = command.staff }) books.rentals differ) refl refl refl refl refl refl
-acted_other rules b c command (TakeBack r) books has differ = shop_is _ _ refl refl (set_row_other b c r (λ it. record it { returned = Some command.moment }) books.rentals differ) refl refl refl refl refl refl
-acted_other rules b c command (Pay n rental amount) books has differ = shop_is _ _ refl refl refl (put_other b c (λ _. record { customer = n; staff = command.staff; rental = rental; amount = amount; paid = command.moment }) books.payments differ) refl refl refl refl refl
+acted_other rules b c command (AddCustomer person) books has differ = shop_is _ _ (put_other b c (λ _. record { person = person; active = true; created = command.moment }) books.customers differ) refl refl refl refl refl refl refl refl refl
+acted_other rules b c command (SetActive n active) books has differ = shop_is _ _ (set_row_other b c n (λ it. record it { active = active }) books.customers differ) refl refl refl refl refl refl refl refl refl
+acted_other rules b c command (Rent n x) books has differ = shop_is _ _ refl refl (put_other b c (λ _. record { rented = command.moment; copy = x; customer = n; returned = None; staff = command.staff }) books.rentals differ) (put_all_other b c (map (λ it _. it) (terms_now books.catalogue (shop_of c books) x)) books.terms differ) refl refl refl refl refl refl
+acted_other rules b c command (TakeBack r) books has differ = shop_is _ _ refl refl (set_row_other b c r (λ it. record it { returned = Some command.moment }) books.rentals differ) refl refl refl refl refl refl refl
+acted_other rules b c command (Pay n rental amount) books has differ = shop_is _ _ refl refl refl refl (put_other b c (λ _. record { customer = n; staff = command.staff; rental = rental; amount = amount; paid = command.moment }) books.payments differ) refl refl refl refl refl
 acted_other rules b c command (Import lot file) books has differ =
-    shop_is _ _ refl (ap (map unmarked) (put_all_other b c (map (imported c) (films_in (rules.stock_of file))) books.copies differ)) refl refl
+    shop_is _ _ refl (ap (map unmarked) (put_all_other b c (map (imported c) (films_in (rules.stock_of file))) books.copies differ)) refl refl refl
     (more_no (λ (row : Owned Text). row.it) (λ row. row.owner == b) books.lots (record { owner = c; it = lot }) differ) refl refl refl refl
 acted_other rules b c command (Dispatch to xs) books has differ =
     let copies = ap (map unmarked) (set_rows_other b c xs (put_state Sent) books.copies differ) in
     let sent = more_no as_parcel (λ (it : Consignment). it.source == b) books.consignments (new_consignment c to xs books) differ in
     elim (cases_Bool (to == b)) [
-      | inl is ↦ rw is (shop_is _ _ refl copies refl refl refl
+      | inl is ↦ rw is (shop_is _ _ refl copies refl refl refl refl
           (more_yes as_arrival (λ (it : Consignment). it.addressee == b) books.consignments (new_consignment c to xs books) is
           ∙ ap (λ fs. map as_arrival (filter (λ it. it.addressee == b) books.consignments) ++ record { source = c; films = fs; received = false } ∷ []) (films_sent c xs books.copies (has.copies c)))
           sent refl refl)
-      | inr isnt ↦ rw isnt (shop_is _ _ refl copies refl refl refl
+      | inr isnt ↦ rw isnt (shop_is _ _ refl copies refl refl refl refl
           (more_no as_arrival (λ (it : Consignment). it.addressee == b) books.consignments (new_consignment c to xs books) isnt)
           sent refl refl)
     ]
 acted_other rules b c command (Receive source number missing) books has differ =
-    shop_is _ _ refl (ap (map unmarked) (put_all_other b c (map unpacked (come source c number missing books.consignments)) books.copies differ)) refl refl refl
+    shop_is _ _ refl (ap (map unmarked) (put_all_other b c (map unpacked (come source c number missing books.consignments)) books.copies differ)) refl refl refl refl
     (set_other (λ (it : Consignment). it.addressee == b) (is_consignment source c number) (checked missing) as_arrival books.consignments (λ x. refl) (λ x is. no_arrival x is))
     (set_same (λ (it : Consignment). it.source == b) (is_consignment source c number) (checked missing) as_parcel books.consignments (λ x. refl) (checked_parcel missing))
     refl refl where
@@ -184,7 +190,7 @@ acted_other rules b c command (Receive source number missing) books has differ =
         | inl from ↦ rw (from, differ_test x.addressee c (λ e. differ_if c b differ (sym e ∙ same_if x.addressee b is)))
         | inr other ↦ rw other
       ]
-acted_other rules b c command (Scrap x) books has differ = shop_is _ _ refl (ap (map unmarked) (set_row_other b c x (put_state Scrapped) books.copies differ)) refl refl refl refl refl refl refl
+acted_other rules b c command (Scrap x) books has differ = shop_is _ _ refl (ap (map unmarked) (set_row_other b c x (put_state Scrapped) books.copies differ)) refl refl refl refl refl refl refl refl
 
 pub done_other : (rules : Rules) (b c : ℕ) (command : Command) (books : Books) → HasNumbers books → (c == b) ≡ false
     → shop_of b (book_done rules c command books) ≡ with_arrivals b c command.act books
@@ -192,7 +198,7 @@ done_other rules b c command books has differ =
     let e = acted_other rules b c command command.act books has differ in
     let kept = more_no (λ (row : Owned Kept). row.it) (λ row. row.owner == b) books.kept (record { owner = c; it = record { command = command; reply = reply_text rules command (shop_of c books) } }) differ in
     let last = ap head (last_other b c command.moment books.lasts differ) in
-    shop_is _ (shop_of b (book_acted rules c command command.act books)) refl refl refl refl refl refl refl
+    shop_is _ (shop_of b (book_acted rules c command command.act books)) refl refl refl refl refl refl refl refl
     (kept ∙ sym (acted_kept rules c b command command.act books)) (last ∙ sym (acted_last rules c b command command.act books)) ∙ e where
       acted_kept : (rules : Rules) (c b : ℕ) (command : Command) (act : Act) (books : Books) → (shop_of b (book_acted rules c command act books)).kept ≡ (shop_of b books).kept
       acted_kept rules c b command (AddCustomer person) books = refl

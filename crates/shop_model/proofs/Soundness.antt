@@ -1,5 +1,5 @@
 -- Each step keeps the books sound.
-use Rattle.std.proofs.Common.{◌≡◌, inl, inr, ℕ, ◌+◌, ◌-◌, ◌≤◌, List, [], ◌∷◌, ◌++◌, suc, length, filter, map, Bool, true, false, not, None, Some, refl, sym, subst, ap, ◌∙◌, arith, append-nil}
+use Rattle.std.proofs.Common.{◌≡◌, inl, inr, ℕ, ◌+◌, ◌-◌, ◌≤◌, List, [], ◌∷◌, ◌++◌, suc, length, filter, map, Bool, true, false, not, None, Some, refl, sym, subst, ap, ◌∙◌, arith, append-nil, length-append}
 use Rattle.std.specs.Prelude.{◌==◌, ◌&&◌, ◌||◌, nat_lt, flat_map, is_none}
 use Rattle.std.specs.List.{list_any, list_all}
 use Rattle.std.proofs.lemmas.Bool.{cases_Bool, or_parts, and_parts, not-true, not-false, true≢false}
@@ -7,23 +7,23 @@ use Rattle.shop_model.specs.Rows.{Row, Owned, at, lacks, set_at, set_all, is_emp
 use Rattle.shop_model.specs.Calendar.{Moment}
 use Rattle.shop_model.specs.Values.{Branch, OfficeCommand, Copy, CopyState, Here, Sent, Scrapped, Rental, Arrival, Act, AddCustomer, SetActive, Rent, TakeBack, Pay, Import, Dispatch, Receive, Scrap, Command, Rules}
 use Rattle.shop_model.specs.Shop.{Kept, Shop, Catalogue}
-use Rattle.shop_model.specs.Stock.{is_here, in_stock, keeps_out}
+use Rattle.shop_model.specs.Stock.{is_here, in_stock, keeps_out, film_terms, terms_now}
 use Rattle.shop_model.specs.Verdict.{Accepted, first, refusals, verdict, office_verdict, act_refusals, is_away, arrival}
 use Rattle.shop_model.specs.Machine.{Request, Unread, Do, Look, Office, OfficeLook, acted, done, reply_text, catalogue_after, office_done, here, with_state, films_in, incoming}
 use Rattle.shop_model.specs.Books.{Books, BookCopy, Mark, Line, UnderWay, Missing, Consignment, Caller, Counter, HeadOffice, Nobody, shop_of, unmarked, as_arrival, book_acted, book_done, is_consignment, imported, unpacked, rows_at, come, new_consignment, set_last, branch_after, after_for, after, caller_in, last_books}
-use Rattle.shop_model.specs.Sound.{one, copy_is, line_is, is_origin, rows_made, is_mark, places, is_made_as, marked_films, HasNumbers, HasOwners, HasCustody, HasOneHolder, IsSound, all_lines, lines_in, is_settled}
+use Rattle.shop_model.specs.Sound.{one, copy_is, line_is, is_origin, rows_made, is_mark, places, is_made_as, marked_films, HasNumbers, HasOwners, HasCustody, HasOneHolder, HasTerms, IsSound, all_lines, lines_in, is_settled}
 use Rattle.shop_model.specs.Laws.{StaySound, StaySoundWithin, CopiesAreInOnePlace, SoundBooksAreInCustody, OpeningIsSound, EmptyIsSound, OpeningBooksAreSound}
 use Rattle.shop_model.specs.Opening.{empty_catalogue, opening_catalogue}
-use Rattle.shop_model.specs.Links.{are_different, is_staff_of, IsLinkedShop, IsGoodCatalogue}
+use Rattle.shop_model.specs.Links.{has_row, are_different, is_staff_of, IsLinkedShop, IsGoodCatalogue}
 use Rattle.std.specs.Option.{option_to_list}
 use Rattle.std.specs.Str.{bytes_eq}
 use Rattle.std.proofs.lemmas.Bool.Decides.{nat_tests}
-use Rattle.shop_model.proofs.RowLemmas.{same_if, same_test, differ_if, differ_test, row_at, one_more}
+use Rattle.shop_model.proofs.RowLemmas.{same_if, same_test, differ_if, differ_test, row_at, one_more, length_map}
 use Rattle.shop_model.proofs.ShopLemmas.{arrival_of, done_own, done_other, with_arrivals}
 use Rattle.shop_model.proofs.NumberLemmas.{acted_numbers}
 use Rattle.shop_model.proofs.Isolation.{is_accepted, accepted_is, not_accepted, NoneHold, accepted_holds, act_holds, not_self, catalogue_stays}
-use Rattle.shop_model.proofs.GoodShops.{all_weaker, good_acted}
-use Rattle.shop_model.proofs.LinkLemmas.{at_set_other, none_left, all_mapped, any_at_more}
+use Rattle.shop_model.proofs.GoodShops.{all_weaker, good_acted, length_set}
+use Rattle.shop_model.proofs.LinkLemmas.{at_set_other, none_left, all_mapped, any_at_more, all_at, one_at}
 use Rattle.shop_model.proofs.LinkedShops.{linked_acted, linked_kept, linked_other}
 use Rattle.shop_model.proofs.GoodCatalogues.{Grows, done_grows, good_done, linked_grows}
 use Rattle.shop_model.proofs.Owners.{staff_works, branch_there, owners_done, owners_grow, places_kept}
@@ -170,7 +170,7 @@ fewer_open x r moment (it ∷ rentals) = elim (cases_Bool (r == 1)) [
 
 -- ---- what a shop's command keeps
 
-holder_same : (s t : Shop) → s.rentals ≡ t.rentals → s.copies ≡ t.copies → HasOneHolder s → HasOneHolder t
+pub holder_same : (s t : Shop) → s.rentals ≡ t.rentals → s.copies ≡ t.copies → HasOneHolder s → HasOneHolder t
 holder_same s t e f h = record {
   one = λ x. rw (← e) (h.one x);
   here = λ x out. rw (← f) (h.here x (rw (← e) at out));
@@ -180,7 +180,7 @@ out_now : (x : ℕ) (rentals : List Rental) → in_stock x rentals ≡ false →
 out_now x rentals e = not-false (list_any (keeps_out x) rentals) e
 
 holder_kept : (rules : Rules) (b : ℕ) (catalogue : Catalogue) (command : Command) (act : Act) (shop : Shop) → HasOneHolder shop
-    → NoneHold (act_refusals rules b catalogue shop command.moment act) → HasOneHolder (acted rules command act shop)
+    → NoneHold (act_refusals rules b catalogue shop command.moment act) → HasOneHolder (acted rules catalogue command act shop)
 holder_kept rules b catalogue command (AddCustomer person) shop h none = record { one = h.one; here = h.here }
 holder_kept rules b catalogue command (SetActive c active) shop h none = record { one = h.one; here = h.here }
 holder_kept rules b catalogue command (Rent c x) shop h none = record {
@@ -378,26 +378,67 @@ in_custody rules books sound = record {
         rw (same, film, same_test it.0) refl
   ]
 
+-- ---- terms
+
+-- a copy that is there has a film that is there
+pub one_film_now : (b : ℕ) (catalogue : Catalogue) (shop : Shop) (x : ℕ) → IsLinkedShop b catalogue shop → lacks shop.copies x ≡ false → length (terms_now catalogue shop x) ≡ 1
+one_film_now b catalogue shop x linked there =
+    length_map film_terms (flat_map (λ (copy : Copy). at copy.film catalogue.films) (at x shop.copies))
+    ∙ by_rows (at x shop.copies) (one_at x shop.copies there) (all_at (λ (it : Copy). has_row catalogue.films it.film) x shop.copies linked.copy_films) where
+      by_rows : (rows : List Copy) → length rows ≡ 1 → list_all (λ (it : Copy). has_row catalogue.films it.film) rows ≡ true → length (flat_map (λ (copy : Copy). at copy.film catalogue.films) rows) ≡ 1
+      by_rows [] single all = cc
+      by_rows (copy ∷ []) single all =
+          let h = and_parts (has_row catalogue.films copy.film) true all in
+          ap length (append-nil (at copy.film catalogue.films)) ∙ one_at copy.film catalogue.films (not-true (lacks catalogue.films copy.film) h.0)
+      by_rows (copy ∷ other ∷ rows) single all = absurd (omega (arith, single))
+
+terms_kept : (rules : Rules) (b : ℕ) (catalogue : Catalogue) (command : Command) (act : Act) (shop : Shop) → IsLinkedShop b catalogue shop
+    → NoneHold (act_refusals rules b catalogue shop command.moment act) → HasTerms shop → HasTerms (acted rules catalogue command act shop)
+terms_kept rules b catalogue command (Rent c x) shop linked none same =
+    let new = one_film_now b catalogue shop x linked none.1.1.0 in
+    let terms = length-append shop.terms (terms_now catalogue shop x) in
+    let rentals = length-append shop.rentals (record { rented = command.moment; copy = x; customer = c; returned = None; staff = command.staff } ∷ []) in
+    omega (arith, new, terms, rentals, same)
+terms_kept rules b catalogue command (TakeBack r) shop linked none same = same ∙ sym (length_set r (λ (it : Rental). record it { returned = Some command.moment }) shop.rentals)
+terms_kept rules b catalogue command (AddCustomer person) shop linked none same = same
+terms_kept rules b catalogue command (SetActive c active) shop linked none same = same
+terms_kept rules b catalogue command (Pay c rental amount) shop linked none same = same
+terms_kept rules b catalogue command (Import lot file) shop linked none same = same
+terms_kept rules b catalogue command (Dispatch to xs) shop linked none same = same
+terms_kept rules b catalogue command (Receive source number missing) shop linked none same = same
+terms_kept rules b catalogue command (Scrap x) shop linked none same = same
+
+terms_other : (b c : ℕ) (act : Act) (books : Books) → HasTerms (shop_of b books) → HasTerms (with_arrivals b c act books)
+terms_other b c (Dispatch to xs) books same = elim (cases_Bool (to == b)) [ inl is ↦ rw is same | inr isnt ↦ rw isnt same ]
+terms_other b c (AddCustomer person) books same = same
+terms_other b c (SetActive n active) books same = same
+terms_other b c (Rent n x) books same = same
+terms_other b c (TakeBack r) books same = same
+terms_other b c (Pay n rental amount) books same = same
+terms_other b c (Import lot file) books same = same
+terms_other b c (Receive source number missing) books same = same
+terms_other b c (Scrap x) books same = same
+
 -- ---- a step and a run
 
-kept_same : (rules : Rules) (command : Command) (act : Act) (shop : Shop) → shop.kept ≡ (acted rules command act shop).kept
-kept_same rules command (AddCustomer person) shop = refl
-kept_same rules command (SetActive n active) shop = refl
-kept_same rules command (Rent n x) shop = refl
-kept_same rules command (TakeBack r) shop = refl
-kept_same rules command (Pay n rental amount) shop = refl
-kept_same rules command (Import lot file) shop = refl
-kept_same rules command (Dispatch to xs) shop = refl
-kept_same rules command (Receive source number missing) shop = refl
-kept_same rules command (Scrap x) shop = refl
+kept_same : (rules : Rules) (catalogue : Catalogue) (command : Command) (act : Act) (shop : Shop) → shop.kept ≡ (acted rules catalogue command act shop).kept
+kept_same rules catalogue command (AddCustomer person) shop = refl
+kept_same rules catalogue command (SetActive n active) shop = refl
+kept_same rules catalogue command (Rent n x) shop = refl
+kept_same rules catalogue command (TakeBack r) shop = refl
+kept_same rules catalogue command (Pay n rental amount) shop = refl
+kept_same rules catalogue command (Import lot file) shop = refl
+kept_same rules catalogue command (Dispatch to xs) shop = refl
+kept_same rules catalogue command (Receive source number missing) shop = refl
+kept_same rules catalogue command (Scrap x) shop = refl
 
 links_own : (rules : Rules) (b : ℕ) (catalogue : Catalogue) (command : Command) (shop : Shop) → IsLinkedShop b catalogue shop → verdict rules b catalogue shop command ≡ Accepted → is_staff_of b catalogue.staff command.staff ≡ true
-    → IsLinkedShop b catalogue (done rules command shop)
+    → IsLinkedShop b catalogue (done rules catalogue command shop)
 links_own rules b catalogue command shop linked e works =
     let none = act_holds rules b catalogue shop command e in
     let k : Kept = record { command = command; reply = reply_text rules command shop } in
     let fresh = none_kept command (filter (λ (k : Kept). bytes_eq k.command.key command.key) shop.kept) (first (refusals rules b catalogue shop command)) e in
-    linked_kept b catalogue k (Some command.moment) (acted rules command command.act shop) (linked_acted rules b catalogue command command.act shop linked works none) shop.kept (kept_same rules command command.act shop)
+    linked_kept b catalogue k (Some command.moment) (acted rules catalogue command command.act shop) (linked_acted rules b catalogue command command.act shop linked works none) shop.kept (kept_same rules catalogue command command.act shop)
     (none_left (λ (it : Kept). bytes_eq it.command.key command.key) shop.kept fresh)
 
 done_sound : (rules sizes : Rules) (b : ℕ) (command : Command) (books : Books) → rules.commands ≤ sizes.commands → rules.copies ≤ sizes.copies → IsSound sizes books
@@ -413,7 +454,7 @@ done_sound rules sizes b command books most fit sound e =
     record {
       catalogue = rw same sound.catalogue;
       owners = subst (λ (it : Catalogue). HasOwners it.branches (book_done rules b command books)) (sym same) (owners_done rules b books.catalogue command books sound.owners there none);
-      numbers = record { customers = numbers.customers; copies = numbers.copies; rentals = numbers.rentals; payments = numbers.payments; consignments = numbers.consignments };
+      numbers = record { customers = numbers.customers; copies = numbers.copies; rentals = numbers.rentals; terms = numbers.terms; payments = numbers.payments; consignments = numbers.consignments };
       places = places_kept rules b command command.act books sound.places;
       custody = custody_kept rules sizes b books.catalogue command command.act books sound none;
       origins = let o = origins_kept rules b command command.act books sound.origins in record { rows = o.rows; lines = o.lines };
@@ -444,6 +485,14 @@ done_sound rules sizes b command books most fit sound e =
             subst P (same_if b c is) own
         | inr isnt ↦ rw (same, done_other rules c b command books sound.numbers isnt) (linked_other c b command.act books (sound.links c) (sound.links b))
       ];
+      terms = λ c. elim (cases_Bool (b == c)) [
+        | inl is ↦
+            let P : ℕ → Type 0 = λ n. HasTerms (shop_of n (book_done rules b command books)) in
+            let own : HasTerms (shop_of b (book_done rules b command books)) =
+            subst HasTerms (sym (done_own rules b command books sound.numbers away)) (terms_kept rules b books.catalogue command command.act (shop_of b books) (sound.links b) none (sound.terms b)) in
+            subst P (same_if b c is) own
+        | inr isnt ↦ subst HasTerms (sym (done_other rules c b command books sound.numbers isnt)) (terms_other c b command.act books (sound.terms c))
+      ];
     }
 
 branch_sound : (rules sizes : Rules) (b : ℕ) (request : Request) (books : Books) → rules.commands ≤ sizes.commands → rules.copies ≤ sizes.copies → IsSound sizes books → IsSound sizes (branch_after rules b request books)
@@ -463,8 +512,8 @@ grown_sound : (sizes : Rules) (catalogue : Catalogue) (books : Books) → IsSoun
 grown_sound sizes catalogue books sound good grows = record {
   catalogue = good;
   owners = let h = owners_grow books.catalogue.branches catalogue.branches books grows.branches sound.owners in
-      record { customers = h.customers; copies = h.copies; rentals = h.rentals; payments = h.payments; lots = h.lots; kept = h.kept; lasts = h.lasts; sources = h.sources; addressees = h.addressees };
-  numbers = let n = sound.numbers in record { customers = n.customers; copies = n.copies; rentals = n.rentals; payments = n.payments; consignments = n.consignments };
+      record { customers = h.customers; copies = h.copies; rentals = h.rentals; terms = h.terms; payments = h.payments; lots = h.lots; kept = h.kept; lasts = h.lasts; sources = h.sources; addressees = h.addressees };
+  numbers = let n = sound.numbers in record { customers = n.customers; copies = n.copies; rentals = n.rentals; terms = n.terms; payments = n.payments; consignments = n.consignments };
   places = sound.places;
   custody = sound.custody;
   origins = record { rows = sound.origins.rows; lines = sound.origins.lines };
@@ -473,6 +522,7 @@ grown_sound sizes catalogue books sound good grows = record {
   held = λ b. holder_same (shop_of b books) _ refl refl (sound.held b);
   shops = sound.shops;
   links = λ b. linked_grows b books.catalogue catalogue (shop_of b books) grows (sound.links b);
+  terms = sound.terms;
 }
 
 office_sound : (rules sizes : Rules) (command : OfficeCommand) (books : Books) → rules.commands ≤ sizes.commands → IsSound sizes books → IsSound sizes (record books { catalogue = catalogue_after rules command books.catalogue })
@@ -518,9 +568,9 @@ in_one_place rules events books sound =
 pub opening_sound : OpeningIsSound
 opening_sound rules catalogue good = record {
   catalogue = good;
-  owners = record { customers = refl; copies = refl; rentals = refl; payments = refl; lots = refl; kept = refl; lasts = refl; sources = refl; addressees = refl };
+  owners = record { customers = refl; copies = refl; rentals = refl; terms = refl; payments = refl; lots = refl; kept = refl; lasts = refl; sources = refl; addressees = refl };
   places = tt;
-  numbers = record { customers = λ b. tt; copies = λ b. tt; rentals = λ b. tt; payments = λ b. tt; consignments = λ s a. tt };
+  numbers = record { customers = λ b. tt; copies = λ b. tt; rentals = λ b. tt; terms = λ b. tt; payments = λ b. tt; consignments = λ s a. tt };
   custody = λ test. refl;
   origins = record { rows = refl; lines = refl };
   settled = refl;
@@ -528,6 +578,7 @@ opening_sound rules catalogue good = record {
   held = λ b. record { one = λ x. omega arith; here = λ x out. absurd (true≢false out) };
   shops = λ b. record { apart = refl; created = refl; rented = refl; paid = refl; rentals_rise = refl; payments_rise = refl; keys = omega arith; copies = omega arith; customers_fit = omega arith; rentals_fit = omega arith; payments_fit = omega arith; lots_fit = omega arith; sent_fit = omega arith };
   links = λ b. record { customer_cities = refl; copy_films = refl; rental_copies = refl; rental_customers = refl; rental_staff = refl; payment_customers = refl; payment_staff = refl; payment_rentals = refl; arrival_films = refl; parcels = refl; lots = refl; keys = refl };
+  terms = λ b. refl;
 }
 
 pub empty_sound : EmptyIsSound

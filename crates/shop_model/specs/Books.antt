@@ -3,9 +3,10 @@ use Rattle.std.specs.Prelude.{ℕ, ◌+◌, ◌==◌, ◌&&◌, Bool, true, fals
 use Rattle.std.specs.Str.{bytes_eq}
 use Rattle.shop_model.specs.Rows.{arrived, lacks, Row, Owned, of, owned_by, is_row, put, put_all, set_row, set_rows, update_where, numbered, mem}
 use Rattle.shop_model.specs.Calendar.{Moment}
-use Rattle.shop_model.specs.Values.{Text, Branch, Customer, CopyState, Here, Sent, Scrapped, Copy, Rental, Payment, Arrival, Parcel, Act, AddCustomer, SetActive, Rent, TakeBack, Pay, Import, Dispatch, Receive, Scrap, Command, OfficeAsk, Rules}
+use Rattle.shop_model.specs.Values.{Text, Branch, Customer, CopyState, Here, Sent, Scrapped, Copy, Rental, Terms, Payment, Arrival, Parcel, Act, AddCustomer, SetActive, Rent, TakeBack, Pay, Import, Dispatch, Receive, Scrap, Command, OfficeAsk, Rules}
 use Rattle.shop_model.specs.Refusals.{NoCounter, NoRoute}
 use Rattle.shop_model.specs.Shop.{Kept, Catalogue, Shop}
+use Rattle.shop_model.specs.Stock.{terms_now}
 use Rattle.shop_model.specs.Verdict.{verdict, office_verdict}
 use Rattle.shop_model.specs.Machine.{films_in, films_at, reply_text, office_text, Request, Unread, Do, Look, Office, OfficeLook, Reply, Sorry, reply_by, reply_to, if_accepted, catalogue_after, Input, FromOffice, Arrive, Own, State}
 
@@ -44,6 +45,7 @@ pub record Books : Type 0 where
   pub customers : List (Row Customer)
   pub copies : List (Row BookCopy)
   pub rentals : List (Row Rental)
+  pub terms : List (Row Terms)  -- those of each rental, under the rental's number
   pub payments : List (Row Payment)
   pub lots : List (Owned Text)
   pub consignments : List Consignment
@@ -71,6 +73,7 @@ shop_of b books = record {
   customers = of b books.customers;
   copies = map unmarked (of b books.copies);
   rentals = of b books.rentals;
+  terms = of b books.terms;
   payments = of b books.payments;
   lots = owned_by b books.lots;
   arrivals = map as_arrival (filter (λ it. it.addressee == b) books.consignments);
@@ -133,7 +136,10 @@ book_acted rules b command (AddCustomer person) books =
 book_acted rules b command (SetActive c active) books =
     record books { customers = set_row b c (λ it. record it { active = active }) books.customers }
 book_acted rules b command (Rent c x) books =
-    record books { rentals = put b (λ _. record { rented = command.moment; copy = x; customer = c; returned = None; staff = command.staff }) books.rentals }
+    record books {
+      rentals = put b (λ _. record { rented = command.moment; copy = x; customer = c; returned = None; staff = command.staff }) books.rentals;
+      terms = put_all b (map (λ it _. it) (terms_now books.catalogue (shop_of b books) x)) books.terms;
+    }
 book_acted rules b command (TakeBack r) books =
     record books { rentals = set_row b r (λ it. record it { returned = Some command.moment }) books.rentals }
 book_acted rules b command (Pay c rental amount) books =

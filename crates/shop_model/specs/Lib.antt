@@ -20,3 +20,4 @@ pub mod Repeats
 pub mod Resends
 pub mod Laws
 pub mod Stops
+pub mod Migration

@@ -1,11 +1,11 @@
 -- The machine of one branch: a catalogue and a shop, to which only arrivals come from other branches.
 use Rattle.std.specs.Prelude.{ℕ, ◌+◌, ◌==◌, nat_lt, ℤ, Bool, true, false, if◌then◌else◌, List, [], ◌∷◌, ◌++◌, length, map, filter, flat_map, codes, decimal, Some, None}
 use Rattle.shop_model.specs.Rows.{at, set_at, set_all, set_among, arrived}
-use Rattle.shop_model.specs.Values.{Text, Film, Customer, CopyState, Here, Sent, Scrapped, Copy, Arrival, Parcel, Act, AddCustomer, SetActive, Rent, TakeBack, Pay, Import, Dispatch, Receive, Scrap, Command, OfficeAct, AddCountry, AddCity, AddLanguage, AddCategory, AddActor, AddFilm, PriceFilm, WithdrawFilm, AddCast, AddBranch, AddStaff, StaffLeaves, SetManager, OfficeCommand, OfficeAsk, View, CustomerList, StaffList, FilmList, ActorInfo, SalesByStore, SalesByCategory, Ask, OneCustomer, OneFilm, InStock, HeldBy, FilmInStock, FilmNotInStock, Balance, Overdue, Rewards, Arrivals, SentOff, OneView, Stock, Copies, BadLine, Rules}
+use Rattle.shop_model.specs.Values.{Text, Film, Customer, CopyState, Here, Sent, Scrapped, Copy, Arrival, Parcel, Rule, ByCode, ByComment, Act, AddCustomer, SetActive, Rent, TakeBack, Pay, Import, Dispatch, Receive, Scrap, Command, OfficeAct, AddCountry, AddCity, AddLanguage, AddCategory, AddActor, AddFilm, PriceFilm, WithdrawFilm, AddCast, AddBranch, AddStaff, StaffLeaves, SetManager, ChooseRule, OfficeCommand, OfficeAsk, View, CustomerList, StaffList, FilmList, ActorInfo, SalesByStore, SalesByCategory, Ask, OneCustomer, OneFilm, InStock, HeldBy, FilmInStock, FilmNotInStock, Balance, Overdue, Rewards, Arrivals, SentOff, OneView, Stock, Copies, BadLine, Rules}
 use Rattle.shop_model.specs.Refusals.{Refusal, NoRoute, NoCustomer, NoCopy, NoFilm, BadThreshold}
-use Rattle.shop_model.specs.Json.{flag_text, numbers_text, object}
+use Rattle.shop_model.specs.Json.{quoted, flag_text, numbers_text, object}
 use Rattle.shop_model.specs.Shop.{Catalogue, Shop}
-use Rattle.shop_model.specs.Stock.{in_stock, held_by, film_in_stock, film_not_in_stock, balance, rewarded}
+use Rattle.shop_model.specs.Stock.{in_stock, held_by, film_in_stock, film_not_in_stock, terms_now, balance, rewarded}
 use Rattle.shop_model.specs.Views.{PersonRow, OverdueRow, overdue_list, FilmRow, ActorRow, StoreRow, customer_list, staff_list, film_list, actor_info, sales_by_store, sales_by_category}
 use Rattle.shop_model.specs.Verdict.{Verdict, Again, Refused, Accepted, verdict, office_verdict, arrival}
 
@@ -29,28 +29,32 @@ films_at xs copies = flat_map (λ x. map (λ copy. copy.film) (at x copies)) xs
 abbrev pub incoming : List ℕ → List Arrival → List ℕ
 incoming missing arrivals = flat_map (λ (it : Arrival). arrived missing it.films) arrivals
 
--- what an accepted command changes: rows go last, so that their number is the next; films of a consignment stand in the order of the command
-abbrev pub acted : Rules → Command → Act → Shop → Shop
-acted rules command (AddCustomer person) shop =
+-- what an accepted command changes: rows go last, so that their number is the next; a rental's terms are those of its film now; films of a consignment
+-- stand in the order of the command
+abbrev pub acted : Rules → Catalogue → Command → Act → Shop → Shop
+acted rules catalogue command (AddCustomer person) shop =
     record shop { customers = shop.customers ++ record { person = person; active = true; created = command.moment } ∷ [] }
-acted rules command (SetActive c active) shop =
+acted rules catalogue command (SetActive c active) shop =
     record shop { customers = set_at c (λ it. record it { active = active }) shop.customers }
-acted rules command (Rent c x) shop =
-    record shop { rentals = shop.rentals ++ record { rented = command.moment; copy = x; customer = c; returned = None; staff = command.staff } ∷ [] }
-acted rules command (TakeBack r) shop =
+acted rules catalogue command (Rent c x) shop =
+    record shop {
+      rentals = shop.rentals ++ record { rented = command.moment; copy = x; customer = c; returned = None; staff = command.staff } ∷ [];
+      terms = shop.terms ++ terms_now catalogue shop x;
+    }
+acted rules catalogue command (TakeBack r) shop =
     record shop { rentals = set_at r (λ it. record it { returned = Some command.moment }) shop.rentals }
-acted rules command (Pay c rental amount) shop =
+acted rules catalogue command (Pay c rental amount) shop =
     record shop { payments = shop.payments ++ record { customer = c; staff = command.staff; rental = rental; amount = amount; paid = command.moment } ∷ [] }
-acted rules command (Import lot file) shop =
+acted rules catalogue command (Import lot file) shop =
     record shop { copies = shop.copies ++ map here (films_in (rules.stock_of file)); lots = shop.lots ++ lot ∷ [] }
-acted rules command (Dispatch to xs) shop =
+acted rules catalogue command (Dispatch to xs) shop =
     record shop { copies = set_all xs (with_state Sent) shop.copies; sent = shop.sent ++ record { addressee = to; films = films_at xs shop.copies } ∷ [] }
-acted rules command (Receive source number missing) shop =
+acted rules catalogue command (Receive source number missing) shop =
     record shop {
       copies = shop.copies ++ map here (incoming missing (arrival source number shop));
       arrivals = set_among (λ it. it.source == source) number (λ it. record it { received = true }) shop.arrivals;
     }
-acted rules command (Scrap x) shop =
+acted rules catalogue command (Scrap x) shop =
     record shop { copies = set_at x (with_state Scrapped) shop.copies }
 
 -- a consignment's number counts those of the same sender to the same addressee
@@ -77,9 +81,9 @@ abbrev pub reply_text : Rules → Command → Shop → Text
 reply_text rules command shop = object (told rules command.act shop)
 
 -- an accepted command acts, is the last, and is kept with its reply
-abbrev pub done : Rules → Command → Shop → Shop
-done rules command shop =
-    record (acted rules command command.act shop) {
+abbrev pub done : Rules → Catalogue → Command → Shop → Shop
+done rules catalogue command shop =
+    record (acted rules catalogue command command.act shop) {
       kept = shop.kept ++ record { command = command; reply = reply_text rules command shop } ∷ [];
       last = Some command.moment;
     }
@@ -101,6 +105,11 @@ office_acted (AddBranch branch) it = record it { branches = it.branches ++ recor
 office_acted (AddStaff staff) it = record it { staff = it.staff ++ record staff { gone = false } ∷ [] }
 office_acted (StaffLeaves s) it = record it { staff = set_at s (λ r. record r { gone = true }) it.staff }
 office_acted (SetManager b s) it = record it { branches = set_at b (λ r. record r { manager = Some s }) it.branches }
+office_acted (ChooseRule rule) it = record it { rule = rule }
+
+abbrev pub rule_name : Rule → Text
+rule_name ByCode = codes "code"
+rule_name ByComment = codes "comment"
 
 -- what it replies
 abbrev pub office_told : OfficeAct → Catalogue → List (Text × Text)
@@ -117,6 +126,7 @@ office_told (AddBranch branch) it = (codes "branch", decimal (length it.branches
 office_told (AddStaff staff) it = (codes "staff", decimal (length it.staff + 1)) ∷ []
 office_told (StaffLeaves s) it = (codes "staff", decimal s) ∷ []
 office_told (SetManager b s) it = (codes "branch", decimal b) ∷ (codes "staff", decimal s) ∷ []
+office_told (ChooseRule rule) it = (codes "rule", quoted (rule_name rule)) ∷ []
 
 abbrev pub office_text : OfficeCommand → Catalogue → Text
 office_text command catalogue = object (office_told command.act catalogue)
@@ -184,7 +194,7 @@ look b catalogue shop (InStock x) = given NoCopy (λ _. InStockIs (in_stock x sh
 look b catalogue shop (HeldBy x) = given NoCopy (λ _. HolderIs (held_by x shop.rentals)) (at x shop.copies)
 look b catalogue shop (FilmInStock f) = given NoFilm (λ _. CopiesAre (film_in_stock f shop)) (at f catalogue.films)
 look b catalogue shop (FilmNotInStock f) = given NoFilm (λ _. CopiesAre (film_not_in_stock f shop)) (at f catalogue.films)
-look b catalogue shop (Balance c moment) = given NoCustomer (λ _. BalanceIs (balance catalogue shop c moment)) (at c shop.customers)
+look b catalogue shop (Balance c moment) = given NoCustomer (λ _. BalanceIs (balance catalogue.rule shop c moment)) (at c shop.customers)
 look b catalogue shop (Overdue moment) = Shows (OverdueAre (overdue_list catalogue shop moment))
 look b catalogue shop (Rewards moment purchases cents) = if nat_lt 0 purchases then (if nat_lt 0 cents then Shows (CustomersAre (rewarded shop moment purchases cents)) else Sorry BadThreshold) else Sorry BadThreshold
 look b catalogue shop Arrivals = Shows (ArrivalsAre shop.arrivals)
@@ -224,7 +234,7 @@ pub data Input : Type 0 where
   Own : Request → Input
 
 abbrev pub shop_after : Rules → ℕ → Catalogue → Shop → Request → Shop
-shop_after rules b catalogue shop (Do command) = if_accepted (verdict rules b catalogue shop command) (done rules command shop) shop
+shop_after rules b catalogue shop (Do command) = if_accepted (verdict rules b catalogue shop command) (done rules catalogue command shop) shop
 shop_after rules b catalogue shop request = shop
 
 abbrev pub catalogue_after : Rules → OfficeCommand → Catalogue → Catalogue

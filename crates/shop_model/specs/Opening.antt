@@ -1,7 +1,7 @@
 -- The rows with which a chain begins: none, or those of the chain that is shown and tested, with three branches in two countries, two films, and
 -- nothing asked yet. They are our own.
 use Rattle.std.specs.Prelude.{ℕ, ◌+◌, false, [], ◌∷◌, codes, replicate, Option, Some, None}
-use Rattle.shop_model.specs.Values.{Text, Film, Branch, Staff}
+use Rattle.shop_model.specs.Values.{Text, Film, Branch, Staff, ByCode}
 use Rattle.shop_model.specs.Shop.{Catalogue}
 use Rattle.shop_model.specs.Books.{Books}
 use Rattle.shop_model.specs.Sound.{opening}
@@ -54,6 +54,7 @@ abbrev pub opening_catalogue : Catalogue
 opening_catalogue = record {
   office_token = token_of 0;
   kept = [];
+  rule = ByCode;
   casts = record { film = 1; actor = 1 } ∷ record { film = 1; actor = 2 } ∷ record { film = 2; actor = 2 } ∷ [];
   countries = codes "Canada" ∷ codes "Australia" ∷ [];
   cities = record { name = codes "Lethbridge"; country = 1 } ∷ record { name = codes "Woodridge"; country = 2 } ∷ record { name = codes "Brisbane"; country = 2 } ∷ [];
@@ -65,9 +66,9 @@ opening_catalogue = record {
   staff = opening_staff 1 (codes "IDA") (codes "LUND") ∷ opening_staff 2 (codes "JON") (codes "VEGA") ∷ opening_staff 3 (codes "KIM") (codes "ROSS") ∷ [];
 }
 
--- that of a new chain: head office's token, and no shared row
+-- that of a new chain: head office's token, the manual's rule, and no shared row
 abbrev pub empty_catalogue : Text → Catalogue
-empty_catalogue token = record { office_token = token; kept = []; casts = []; countries = []; cities = []; languages = []; categories = []; actors = []; films = []; branches = []; staff = [] }
+empty_catalogue token = record { office_token = token; kept = []; rule = ByCode; casts = []; countries = []; cities = []; languages = []; categories = []; actors = []; films = []; branches = []; staff = [] }
 
 abbrev pub opening_books : Books
 opening_books = opening opening_catalogue

@@ -2,7 +2,7 @@
 use Rattle.std.specs.Prelude.{ℕ, ◌==◌, ◌&&◌, Bool, true, false, List, Option, Some, None}
 use Rattle.std.specs.Str.{bytes_eq}
 use Rattle.shop_model.specs.Calendar.{Moment, same_moment}
-use Rattle.shop_model.specs.Values.{Text, Person, City, Actor, Film, Cast, Branch, Staff, Customer, Copy, Rental, Payment, Arrival, Parcel, Act, AddCustomer, SetActive, Rent, TakeBack, Pay, Import, Dispatch, Receive, Scrap, Command, OfficeAct, AddCountry, AddCity, AddLanguage, AddCategory, AddActor, AddFilm, PriceFilm, WithdrawFilm, AddCast, AddBranch, AddStaff, StaffLeaves, SetManager, OfficeCommand}
+use Rattle.shop_model.specs.Values.{Text, Person, City, Actor, Film, Cast, Branch, Staff, Customer, Copy, Rental, Terms, Payment, Arrival, Parcel, Rule, ByCode, ByComment, Act, AddCustomer, SetActive, Rent, TakeBack, Pay, Import, Dispatch, Receive, Scrap, Command, OfficeAct, AddCountry, AddCity, AddLanguage, AddCategory, AddActor, AddFilm, PriceFilm, WithdrawFilm, AddCast, AddBranch, AddStaff, StaffLeaves, SetManager, ChooseRule, OfficeCommand}
 
 -- a kept command and the bytes of its reply: it is kept for good, under its key, with those of the same caller
 pub record Kept : Type 0 where
@@ -13,10 +13,11 @@ pub record OfficeKept : Type 0 where
   pub command : OfficeCommand
   pub reply : Text
 
--- what all branches share: head office's token and kept commands, who is cast in which film, and the lists of shared rows
+-- what all branches share: head office's token and kept commands, by which rule balances go, who is cast in which film, and the lists of shared rows
 pub record Catalogue : Type 0 where
   pub office_token : Text
   pub kept : List OfficeKept
+  pub rule : Rule
   pub casts : List Cast
   pub countries : List Text
   pub cities : List City
@@ -32,6 +33,7 @@ pub record Shop : Type 0 where
   pub customers : List Customer
   pub copies : List Copy
   pub rentals : List Rental
+  pub terms : List Terms  -- those of each rental, in the order of the rentals
   pub payments : List Payment
   pub lots : List Text
   pub arrivals : List Arrival
@@ -54,6 +56,11 @@ same_flag true true = true
 same_flag true false = false
 same_flag false true = false
 same_flag false false = true
+
+abbrev pub same_rule : Rule → Rule → Bool
+same_rule ByCode ByCode = true
+same_rule ByComment ByComment = true
+same_rule a b = false
 
 abbrev pub same_person : Person → Person → Bool
 same_person a b = bytes_eq a.first b.first && bytes_eq a.last b.last && bytes_eq a.address b.address && bytes_eq a.postal b.postal && bytes_eq a.phone b.phone && a.city == b.city
@@ -95,6 +102,7 @@ same_office_act (AddBranch b) (AddBranch b') = same_branch b b'
 same_office_act (AddStaff s) (AddStaff s') = s.branch == s'.branch && same_person s.person s'.person
 same_office_act (StaffLeaves s) (StaffLeaves s') = s == s'
 same_office_act (SetManager b s) (SetManager b' s') = b == b' && s == s'
+same_office_act (ChooseRule rule) (ChooseRule rule') = same_rule rule rule'
 same_office_act a b = false
 
 abbrev pub same_office : OfficeCommand → OfficeCommand → Bool

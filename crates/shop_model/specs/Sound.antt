@@ -3,7 +3,7 @@ use Rattle.std.specs.Prelude.{◌≡◌, ℕ, map, ◌+◌, ◌≤◌, ◌==◌,
 use Rattle.std.specs.List.{list_any, list_all}
 use Rattle.shop_model.specs.Rows.{Row, Owned, at, is_of, IsCounted, AreNumbered, total}
 use Rattle.shop_model.specs.Calendar.{Moment}
-use Rattle.shop_model.specs.Values.{Text, Branch, Customer, Rental, Payment, CopyState, Here, Sent, Scrapped, Rules}
+use Rattle.shop_model.specs.Values.{Text, Branch, Customer, Rental, Terms, Payment, CopyState, Here, Sent, Scrapped, Rules}
 use Rattle.shop_model.specs.Shop.{Kept, Shop, Catalogue}
 use Rattle.shop_model.specs.Stock.{is_here, in_stock, keeps_out}
 use Rattle.shop_model.specs.GoodShop.{IsGoodShop}
@@ -17,6 +17,7 @@ pub record HasNumbers (books : Books) : Type 0 where
   pub customers : (b : ℕ) → AreNumbered (is_of b) (λ row. row.number) books.customers
   pub copies : (b : ℕ) → AreNumbered (is_of b) (λ row. row.number) books.copies
   pub rentals : (b : ℕ) → AreNumbered (is_of b) (λ row. row.number) books.rentals
+  pub terms : (b : ℕ) → AreNumbered (is_of b) (λ row. row.number) books.terms
   pub payments : (b : ℕ) → AreNumbered (is_of b) (λ row. row.number) books.payments
   pub consignments : (source addressee : ℕ) → AreNumbered (λ (it : Consignment). it.source == source && it.addressee == addressee) (λ it. it.number) books.consignments
 
@@ -120,6 +121,7 @@ pub record HasOwners (branches : List Branch) (books : Books) : Type 0 where
   pub customers : list_all (λ (row : Row Customer). has_row branches row.branch) books.customers ≡ true
   pub copies : list_all (λ (row : Row BookCopy). has_row branches row.branch) books.copies ≡ true
   pub rentals : list_all (λ (row : Row Rental). has_row branches row.branch) books.rentals ≡ true
+  pub terms : list_all (λ (row : Row Terms). has_row branches row.branch) books.terms ≡ true
   pub payments : list_all (λ (row : Row Payment). has_row branches row.branch) books.payments ≡ true
   pub lots : list_all (λ (row : Owned Text). has_row branches row.owner) books.lots ≡ true
   pub kept : list_all (λ (row : Owned Kept). has_row branches row.owner) books.kept ≡ true
@@ -129,8 +131,13 @@ pub record HasOwners (branches : List Branch) (books : Books) : Type 0 where
 
 -- ---- all of it
 
--- of the rules the sizes alone are read: the most kept keys of a caller, and the most copies of a branch
-pub record IsSound (rules : Rules) (books : Books) : Type 0 where
+-- each rental has its terms, and there are no others
+abbrev pub HasTerms : Shop → Type 0
+HasTerms shop = length shop.terms ≡ length shop.rentals
+
+-- All that holds of books, where this is what holds of the terms in each branch's shop. Of the rules the sizes alone are read: the most kept keys of a
+-- caller, and the most copies of a branch
+pub record IsSoundBy (AreTermed : Shop → Type 0) (rules : Rules) (books : Books) : Type 0 where
   pub catalogue : IsGoodCatalogue rules books.catalogue
   pub owners : HasOwners books.catalogue.branches books
   pub numbers : HasNumbers books
@@ -142,6 +149,10 @@ pub record IsSound (rules : Rules) (books : Books) : Type 0 where
   pub held : (b : ℕ) → HasOneHolder (shop_of b books)
   pub shops : (b : ℕ) → IsGoodShop rules (shop_of b books)
   pub links : (b : ℕ) → IsLinkedShop b books.catalogue (shop_of b books)
+  pub terms : (b : ℕ) → AreTermed (shop_of b books)
+
+abbrev pub IsSound : Rules → Books → Type 0
+IsSound = IsSoundBy HasTerms
 
 -- the greatest limits that a chain may have: by these an audit goes, whatever limits the chain was opened with
 abbrev pub widest : Rules → Rules
@@ -149,4 +160,4 @@ widest rules = record rules { commands = 1000000; copies = 1000000 }
 
 -- the books of a chain in which no branch has asked anything
 abbrev pub opening : Catalogue → Books
-opening catalogue = record { catalogue = catalogue; customers = []; copies = []; rentals = []; payments = []; lots = []; consignments = []; kept = []; lasts = [] }
+opening catalogue = record { catalogue = catalogue; customers = []; copies = []; rentals = []; terms = []; payments = []; lots = []; consignments = []; kept = []; lasts = [] }

@@ -1,9 +1,9 @@
 -- The manual's functions and procedures over one shop and the shared rows. Money is in cents.
-use Rattle.std.specs.Prelude.{ℕ, ◌+◌, ◌-◌, ◌*◌, ◌==◌, ◌&&◌, nat_lt, nat_le, ℤ, pos, ◌-ℤ◌, Bool, true, false, not, List, [], length, map, filter, flat_map, is_none, Option, Some, None}
+use Rattle.std.specs.Prelude.{if◌then◌else◌, ℕ, ◌+◌, ◌-◌, ◌*◌, ◌==◌, ◌&&◌, nat_lt, nat_le, ℤ, pos, ◌-ℤ◌, Bool, true, false, not, List, [], length, map, filter, flat_map, zip, is_none, Option, Some, None}
 use Rattle.std.specs.List.{list_any}
 use Rattle.shop_model.specs.Rows.{at, numbered, total}
 use Rattle.shop_model.specs.Calendar.{Moment, day_of, is_by, month_before}
-use Rattle.shop_model.specs.Values.{Here, Sent, Scrapped, Copy, Film, Rental, Payment}
+use Rattle.shop_model.specs.Values.{Here, Sent, Scrapped, Copy, Film, Rental, Terms, Payment, Rule, ByCode, ByComment}
 use Rattle.shop_model.specs.Shop.{Catalogue, Shop}
 
 abbrev pub is_here : Copy → Bool
@@ -33,29 +33,63 @@ film_not_in_stock film shop = map (λ (it : ℕ × Copy). it.0) (filter (λ (it 
 abbrev pub film_of : Catalogue → Shop → Rental → List Film
 film_of catalogue shop rental = flat_map (λ (copy : Copy). at copy.film catalogue.films) (at rental.copy shop.copies)
 
+-- ---- terms
+
+-- what a film is rented for
+abbrev pub film_terms : Film → Terms
+film_terms film = record { rate = film.rate; period = film.period; replacement = film.replacement }
+
+-- the terms of a rental of that copy that begins now: those of its film's row as it stands
+abbrev pub terms_now : Catalogue → Shop → ℕ → List Terms
+terms_now catalogue shop x = map film_terms (flat_map (λ (copy : Copy). at copy.film catalogue.films) (at x shop.copies))
+
+-- each rental with its terms
+abbrev pub termed : Shop → List (Rental × Terms)
+termed shop = zip shop.rentals shop.terms
+
+-- ---- what is owed
+
 -- the days by which a rental was returned after its period, by day numbers and not by hours; none where it isn't returned
 abbrev pub late_days : Moment → Option Moment → ℕ → ℕ
 late_days rented None period = 0
 late_days rented (Some returned) period = day_of returned - day_of rented - period
 
--- what a rental adds to a balance: the film's rate and a dollar for each late day, by the film's row as it is now (the manual's code)
-abbrev pub fee : Catalogue → Shop → Rental → ℕ
-fee catalogue shop rental = total (λ (film : Film). film.rate + 100 * late_days rental.rented rental.returned film.period) (film_of catalogue shop rental)
+-- what a rental adds to a balance by the manual's code: its rate, and a dollar for each late day. The return moment isn't compared with the moment that
+-- is asked for
+abbrev pub fee : Rental × Terms → ℕ
+fee it = it.1.rate + 100 * late_days it.0.rented it.0.returned it.1.period
 
--- `get_customer_balance` of the manual: the fees of the customer's rentals up to that moment, less the payments up to it. The return moment isn't
--- compared with it. The replacement cost that the manual names in a comment isn't charged, as its code doesn't
-abbrev pub balance : Catalogue → Shop → ℕ → Moment → ℤ
-balance catalogue shop customer moment =
-    pos (total (fee catalogue shop) (filter (λ rental. rental.customer == customer && is_by rental.rented moment) shop.rentals))
+-- until when a rental lasted, as it is seen at a moment
+abbrev pub end_at : Moment → Option Moment → Moment
+end_at moment None = moment
+end_at moment (Some returned) = if is_by returned moment then returned else moment
+
+-- the days by which it had passed its period then, whether it was returned or not
+abbrev pub days_past : Moment → Rental × Terms → ℕ
+days_past moment it = late_days it.0.rented (Some (end_at moment it.0.returned)) it.1.period
+
+-- what it adds by the comment of the manual's script: its rate, a dollar for each day past, and its replacement cost once where these are more than twice
+-- its period (as the comment says; that what is past is seen at the moment that is asked for is our own)
+abbrev pub comment_fee : Moment → Rental × Terms → ℕ
+comment_fee moment it = it.1.rate + 100 * days_past moment it + (if nat_lt (2 * it.1.period) (days_past moment it) then it.1.replacement else 0)
+
+abbrev pub fee_by : Rule → Moment → Rental × Terms → ℕ
+fee_by ByCode moment it = fee it
+fee_by ByComment moment it = comment_fee moment it
+
+-- `get_customer_balance` of the manual, by either rule: the fees of the customer's rentals up to that moment, less the payments up to it
+abbrev pub balance : Rule → Shop → ℕ → Moment → ℤ
+balance rule shop customer moment =
+    pos (total (fee_by rule moment) (filter (λ (it : Rental × Terms). it.0.customer == customer && is_by it.0.rented moment) (termed shop)))
     -ℤ pos (total (λ payment. payment.amount) (filter (λ payment. payment.customer == customer && is_by payment.paid moment) shop.payments))
 
 -- overdue, as in the manual's example: not returned, and its period ended before that day
-abbrev pub is_overdue : Catalogue → Shop → Moment → Rental → Bool
-is_overdue catalogue shop moment rental = is_none rental.returned && list_any (λ (film : Film). nat_lt (day_of rental.rented + film.period) (day_of moment)) (film_of catalogue shop rental)
+abbrev pub is_overdue : Moment → Rental × Terms → Bool
+is_overdue moment it = is_none it.0.returned && nat_lt (day_of it.0.rented + it.1.period) (day_of moment)
 
 -- all of them, in order of their numbers (our own)
-abbrev pub overdue : Catalogue → Shop → Moment → List Rental
-overdue catalogue shop moment = filter (is_overdue catalogue shop moment) shop.rentals
+abbrev pub overdue : Shop → Moment → List Rental
+overdue shop moment = map (λ (it : Rental × Terms). it.0) (filter (is_overdue moment) (termed shop))
 
 -- the payments of a customer on the days from the first to the last
 abbrev pub paid_within : ℕ × ℕ → ℕ → List Payment → List Payment

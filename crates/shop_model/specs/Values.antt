@@ -86,6 +86,12 @@ pub record Rental : Type 0 where
   pub returned : Option Moment
   pub staff : ℕ
 
+-- by what a rental is charged: its film's rate, period and replacement cost, as they were when it began (that they are fixed then is our own)
+pub record Terms : Type 0 where
+  pub rate : ℕ
+  pub period : ℕ
+  pub replacement : ℕ
+
 -- a payment, for a rental or for none (the manual)
 pub record Payment : Type 0 where
   pub customer : ℕ
@@ -125,6 +131,11 @@ pub record Command : Type 0 where
   pub moment : Moment
   pub act : Act
 
+-- by which rule balances go: the manual's code, or the charge that its script names in a comment beside it. That there is a choice is our own
+pub data Rule : Type 0 where
+  ByCode : Rule
+  ByComment : Rule
+
 pub data OfficeAct : Type 0 where
   AddCountry : Text → OfficeAct
   AddCity : City → OfficeAct
@@ -139,6 +150,7 @@ pub data OfficeAct : Type 0 where
   AddStaff : Staff → OfficeAct
   StaffLeaves : ℕ → OfficeAct
   SetManager : ℕ → ℕ → OfficeAct  -- branch, staff
+  ChooseRule : Rule → OfficeAct
 
 pub record OfficeCommand : Type 0 where
   pub key : Text

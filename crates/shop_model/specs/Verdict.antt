@@ -6,9 +6,9 @@ use Rattle.std.specs.Str.{bytes_eq}
 use Rattle.std.specs.List.{list_any}
 use Rattle.shop_model.specs.Rows.{at, lacks, is_empty, has_double, arrived, total}
 use Rattle.shop_model.specs.Calendar.{Moment, is_earlier, same_moment}
-use Rattle.shop_model.specs.Values.{Text, Film, Cast, Branch, Staff, Customer, Copy, Rental, Arrival, Act, AddCustomer, SetActive, Rent, TakeBack, Pay, Import, Dispatch, Receive, Scrap, Command, OfficeAct, AddCountry, AddCity, AddLanguage, AddCategory, AddActor, AddFilm, PriceFilm, WithdrawFilm, AddCast, AddBranch, AddStaff, StaffLeaves, SetManager, OfficeCommand, Stock, Copies, BadLine, Rules}
+use Rattle.shop_model.specs.Values.{Text, Film, Cast, Branch, Staff, Customer, Copy, Rental, Arrival, Act, AddCustomer, SetActive, Rent, TakeBack, Pay, Import, Dispatch, Receive, Scrap, Command, OfficeAct, AddCountry, AddCity, AddLanguage, AddCategory, AddActor, AddFilm, PriceFilm, WithdrawFilm, AddCast, AddBranch, AddStaff, StaffLeaves, SetManager, ChooseRule, OfficeCommand, Stock, Copies, BadLine, Rules}
 use Rattle.shop_model.specs.Refusals.{Refusal, KeyUsed, Full, MomentBack, NoStaff, NoCustomer, CustomerInactive, NoCopy, CopyNotHere, CopyOut, FilmWithdrawn, SameMoment, NoRental, RentalReturned, WrongCustomer, NoFilm, LotIn, BadCsv, NoBranch, OwnBranch, NoArrival, ArrivalReceived, BadLines, TokenTaken, NoSharedRow, Already}
-use Rattle.shop_model.specs.Shop.{Kept, OfficeKept, Catalogue, Shop, same_flag, same_option, same_command, same_office}
+use Rattle.shop_model.specs.Shop.{Kept, OfficeKept, Catalogue, Shop, same_flag, same_option, same_rule, same_command, same_office}
 use Rattle.shop_model.specs.Stock.{is_here, in_stock}
 
 pub data Verdict : Type 0 where
@@ -167,6 +167,7 @@ office_refusals catalogue (SetManager b s) =
     ∷ (NoBranch, lacks catalogue.branches b || list_any (λ (it : Staff). not (it.branch == b)) (at s catalogue.staff))
     ∷ (Already, list_any (λ (it : Branch). same_option it.manager (Some s)) (at b catalogue.branches))
     ∷ []
+office_refusals catalogue (ChooseRule rule) = (Already, same_rule catalogue.rule rule) ∷ []
 
 abbrev pub office_resent : OfficeCommand → List OfficeKept → Verdict → Verdict
 office_resent command [] fresh = fresh

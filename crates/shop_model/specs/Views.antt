@@ -87,7 +87,7 @@ overdue_row catalogue shop rental = record {
 
 -- the manual's example of overdue rentals, with the members that it shows
 abbrev pub overdue_list : Catalogue → Shop → Moment → List OverdueRow
-overdue_list catalogue shop moment = map (overdue_row catalogue shop) (overdue catalogue shop moment)
+overdue_list catalogue shop moment = map (overdue_row catalogue shop) (overdue shop moment)
 
 -- ---- films
 

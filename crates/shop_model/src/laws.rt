@@ -2,6 +2,7 @@
 
 ghost use Rattle.shop_model.specs.Resends.{KeptRowsAreKept, RunsResend};
 ghost use Rattle.shop_model.specs.Stops.{EachActsOnce, LivesAreOneHistory, LivesFollow, ResentFirst};
+ghost use Rattle.shop_model.specs.Migration.{MigratedIsSound, MigratedKeepsBalances};
 ghost use Rattle.shop_model.specs.Laws.{
   BranchesAreAlone,
   BranchesAreIsolated,
@@ -137,4 +138,16 @@ pub fn lives_that_follow()
 #[tactic(auto, using(crate::proofs::Refusing::in_order))]
 pub fn refusals_are_in_order()
     ensures { RefusalsAreInOrder }
+{}
+
+/// Books of version 1 that are sound become sound books, in which each rental has its terms.
+#[tactic(auto, using(crate::proofs::Migration::migrated_sound))]
+pub fn migrated_is_sound()
+    ensures { MigratedIsSound }
+{}
+
+/// In books of version 1 that are sound a balance, and which rentals are overdue, stay as they were when each rental gets its terms.
+#[tactic(auto, using(crate::proofs::Migration::keeps_balances))]
+pub fn migrated_keeps_balances()
+    ensures { MigratedKeepsBalances }
 {}

@@ -20,3 +20,5 @@ pub mod Different
 pub mod FormSteps
 pub mod Days
 pub mod MomentOrder
+pub mod Numbers
+pub mod MigrateTexts

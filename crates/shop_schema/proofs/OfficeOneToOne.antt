@@ -3,12 +3,12 @@ use Rattle.std.proofs.Common.{◌≡◌, ℕ, ◌==◌, ◌&&◌, List, [], ◌�
 use Rattle.std.proofs.lemmas.Slice.Eq.{bytes_eq-Decides}
 use Rattle.std.specs.Str.{bytes_eq}
 use Rattle.std.proofs.lemmas.Bool.{and_parts}
-use Rattle.shop_model.specs.Values.{Text, Person, Film, Branch, OfficeAct, AddCountry, AddCity, AddLanguage, AddCategory, AddActor, AddFilm, PriceFilm, WithdrawFilm, AddCast, AddBranch, AddStaff, StaffLeaves, SetManager, OfficeCommand}
-use Rattle.shop_model.specs.Shop.{OfficeKept, same_option, same_flag, same_person, same_film, same_branch, same_office_act, same_office}
+use Rattle.shop_model.specs.Values.{Text, Person, Film, Branch, OfficeAct, AddCountry, AddCity, AddLanguage, AddCategory, AddActor, AddFilm, PriceFilm, WithdrawFilm, AddCast, AddBranch, AddStaff, StaffLeaves, SetManager, Rule, ByCode, ByComment, ChooseRule, OfficeCommand}
+use Rattle.shop_model.specs.Shop.{OfficeKept, same_option, same_flag, same_person, same_film, same_branch, same_rule, same_office_act, same_office}
 use Rattle.shop_model.specs.Books.{head}
 use Rattle.shop_model.proofs.RowLemmas.{same_if, equal_test}
 use Rattle.shop_model.proofs.Resent.{bytes_same, option_same, flag_same, person_same}
-use Rattle.shop_schema.specs.Forms.{joined, number_form, text_form, person_form, film_form, branch_form, office_form, office_command_form, OfficeFormsAreOneToOne}
+use Rattle.shop_schema.specs.Forms.{joined, number_form, text_form, person_form, film_form, branch_form, rule_form, office_form, office_command_form, OfficeFormsAreOneToOne}
 use Rattle.shop_schema.proofs.FormLemmas.{number_ends, number_is, text_ends, text_is, option_ends, flag_ends, person_is}
 use Rattle.shop_schema.proofs.OneToOne.{text_equal, option_equal, flag_equal, person_equal, alone}
 
@@ -64,6 +64,11 @@ two_numbers a b c d h =
     let second = number_ends b d [] [] first.1 in
     also (equal_test a c first.0) (equal_test b d second.0)
 
+rule_is : (a b : Rule) → rule_form a ≡ rule_form b → same_rule a b ≡ true
+rule_is ByCode ByCode h = refl
+rule_is ByComment ByComment h = refl
+rule_is a b h = cc
+
 office_is : (a b : OfficeAct) → office_form a ≡ office_form b → same_office_act a b ≡ true
 office_is (AddCountry x) (AddCountry y) h = let text : text_form x ≡ text_form y = cc in same_text x y (text_is x y text)
 office_is (AddCity x) (AddCity y) h =
@@ -92,6 +97,7 @@ office_is (AddStaff x) (AddStaff y) h =
     also (equal_test x.branch y.branch branch.0) (person_holds x.person y.person person)
 office_is (StaffLeaves x) (StaffLeaves y) h = let number : number_form x ≡ number_form y = cc in equal_test x y (number_is x y number)
 office_is (SetManager b s) (SetManager c t) h = let rest : joined (number_form b ∷ number_form s ∷ []) ≡ joined (number_form c ∷ number_form t ∷ []) = cc in two_numbers b s c t rest
+office_is (ChooseRule x) (ChooseRule y) h = let rule : rule_form x ≡ rule_form y = cc in rule_is x y rule
 office_is a b h = cc
 
 -- ---- acts that are the same have one form
@@ -138,6 +144,11 @@ branch_equal b c h =
       manager = option_equal b.manager c.manager fifth.1 i;
     }
 
+rule_equal : (a b : Rule) → same_rule a b ≡ true → a ≡ b
+rule_equal ByCode ByCode h = refl
+rule_equal ByComment ByComment h = refl
+rule_equal a b h = cc
+
 form_equal : (a b : OfficeAct) → same_office_act a b ≡ true → office_form a ≡ office_form b
 form_equal (AddCountry x) (AddCountry y) h = ap (λ (t : Text). office_form (AddCountry t)) (text_equal x y h)
 form_equal (AddCity x) (AddCity y) h =
@@ -160,6 +171,7 @@ form_equal (AddStaff x) (AddStaff y) h =
     λ i. 11 ∷ joined (number_form (same_if x.branch y.branch k.0 i) ∷ person_form (person_equal x.person y.person k.1 i) ∷ [])
 form_equal (StaffLeaves x) (StaffLeaves y) h = ap (λ n. office_form (StaffLeaves n)) (same_if x y h)
 form_equal (SetManager b s) (SetManager c t) h = let k = and_parts (b == c) (s == t) h in λ i. office_form (SetManager (same_if b c k.0 i) (same_if s t k.1 i))
+form_equal (ChooseRule x) (ChooseRule y) h = ap (λ (rule : Rule). office_form (ChooseRule rule)) (rule_equal x y h)
 form_equal a b h = cc
 
 pub office_forms_are_one_to_one : OfficeFormsAreOneToOne

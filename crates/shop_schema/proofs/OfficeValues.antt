@@ -7,7 +7,7 @@ use Rattle.std.proofs.lemmas.Str.{IsUtf8-from_ascii, IsAscii-append}
 use Rattle.std.proofs.ByRecursion.{All-push}
 use Rattle.shop_model.specs.Json.{escape_byte, object}
 use Rattle.shop_model.specs.Rows.{set_at}
-use Rattle.shop_model.specs.Values.{Film, Branch, Staff, OfficeAct, AddCountry, AddCity, AddLanguage, AddCategory, AddActor, AddFilm, PriceFilm, WithdrawFilm, AddCast, AddBranch, AddStaff, StaffLeaves, SetManager, OfficeCommand}
+use Rattle.shop_model.specs.Values.{Film, Branch, Staff, OfficeAct, AddCountry, AddCity, AddLanguage, AddCategory, AddActor, AddFilm, PriceFilm, WithdrawFilm, AddCast, AddBranch, AddStaff, StaffLeaves, SetManager, ByCode, ByComment, ChooseRule, OfficeCommand}
 use Rattle.shop_model.specs.Machine.{office_acted, office_told, office_text, office_done}
 use Rattle.shop_model.specs.Shop.{Catalogue}
 use Rattle.shop_model.specs.Books.{Books}
@@ -128,6 +128,8 @@ office_reply (AddBranch branch) it is few = number_reply (codes "{\"branch\":") 
 office_reply (AddStaff staff) it is few = number_reply (codes "{\"staff\":") refl (length it.staff + 1) (next _ few.staff)
 office_reply (StaffLeaves s) it is few = number_reply (codes "{\"staff\":") refl s (small s is)
 office_reply (SetManager b s) it is few = two_reply (codes "{\"branch\":") (codes ",\"staff\":") refl refl b s (small b is.0) (small s is.1)
+office_reply (ChooseRule ByCode) it is few = IsUtf8-from_ascii _ (ascii_bytes (codes "{\"rule\":\"code\"}") refl)
+office_reply (ChooseRule ByComment) it is few = IsUtf8-from_ascii _ (ascii_bytes (codes "{\"rule\":\"comment\"}") refl)
 
 -- ---- a step
 
@@ -189,6 +191,8 @@ acted_values (StaffLeaves s) it is v few =
 acted_values (SetManager b s) it is v few =
     values_of _ v.office_token v.kept v.casts v.countries v.cities v.languages v.categories v.actors v.films
     (shared_set IsBranch b (λ (x : Branch). record x { manager = Some s }) it.branches (λ x such. managed x (Some s) such is.1) v.branches) v.staff
+acted_values (ChooseRule rule) it is v few =
+    values_of _ v.office_token v.kept v.casts v.countries v.cities v.languages v.categories v.actors v.films v.branches v.staff
 
 -- what an accepted command of head office makes of the books
 pub office_values_done : (command : OfficeCommand) (books : Books) → IsOfficeAct command.act → IsKey command.key → AreValues books → HasFewShared books.catalogue
@@ -213,6 +217,7 @@ office_values_done command books is key values few =
       customers = values.customers;
       copies = values.copies;
       rentals = values.rentals;
+      terms = values.terms;
       payments = values.payments;
       lots = values.lots;
       consignments = values.consignments;

@@ -6,10 +6,9 @@ use Rattle.sql_rows.specs.Rows.{number_value}
 use Rattle.sql_rows.proofs.ColumnTests.{same_flag}
 use Rattle.shop_model.specs.Calendar.{Moment, IsMoment, moment_text}
 use Rattle.shop_model.specs.Rows.{Row}
-use Rattle.shop_model.specs.Values as model
-use Rattle.shop_model.specs.Values.{Person, City, Film, Customer, CopyState, Here, Sent, Scrapped, Rental, Payment}
+use Rattle.shop_model.specs.Values.{Person, Film, Customer, CopyState, Here, Sent, Scrapped, Rental, Terms, Payment}
 use Rattle.shop_model.specs.Books.{BookCopy}
-use Rattle.shop_schema.specs.Columns.{moment_value, named_columns, city_columns, film_columns, customer_columns, state_value, copy_columns, rental_columns, payment_columns}
+use Rattle.shop_schema.specs.Columns.{moment_value, film_columns, customer_columns, state_value, copy_columns, rental_columns, terms_columns, payment_columns}
 use Rattle.shop_schema.specs.RowValues.{IsRow, IsCustomer, IsRental, IsPayment}
 use Rattle.shop_schema.proofs.OneToOne.{one_moment}
 
@@ -101,6 +100,15 @@ same_rental a b p q h =
     let returned : a.it.returned ≡ b.it.returned = same_last a.it.returned b.it.returned p.2.returned q.2.returned cc in
     let staff : a.it.staff ≡ b.it.staff = cc in
     (λ i. record { branch = branch i; number = number i; it = record { rented = rented i; copy = copy i; customer = customer i; returned = returned i; staff = staff i } })
+
+pub same_terms : (a b : Row Terms) → terms_columns a ≡ terms_columns b → a ≡ b
+same_terms a b h =
+    let branch : a.branch ≡ b.branch = cc in
+    let number : a.number ≡ b.number = cc in
+    let rate : a.it.rate ≡ b.it.rate = cc in
+    let period : a.it.period ≡ b.it.period = cc in
+    let replacement : a.it.replacement ≡ b.it.replacement = cc in
+    (λ i. record { branch = branch i; number = number i; it = record { rate = rate i; period = period i; replacement = replacement i } })
 
 pub same_payment : (a b : Row Payment) → IsRow IsPayment a → IsRow IsPayment b → payment_columns a ≡ payment_columns b → a ≡ b
 same_payment a b p q h =

@@ -1,6 +1,6 @@
 -- The rows of the books stay such as the program can hold.
-use Rattle.std.proofs.Common.{◌≡◌, ◌≤◌, ◌<◌, ◌+◌, ◌^◌, ◌==◌, ℕ, suc, get_or, List, [], ◌∷◌, ◌++◌, map, not, length, Bool, true, false, refl, ap, subst, ◌∙◌, arith, codes, decimal, IsUtf8, IsAscii, length-append}
-use Rattle.std.specs.Prelude.{⊤, nat_lt, if◌then◌else◌, None, Some}
+use Rattle.std.proofs.Common.{◌≡◌, ◌≤◌, ◌<◌, ◌+◌, ◌^◌, ◌==◌, ℕ, suc, get_or, List, [], ◌∷◌, ◌++◌, map, not, length, Bool, true, false, refl, sym, ap, subst, ◌∙◌, arith, inl, inr, append-nil, ◌-◌, codes, decimal, IsUtf8, IsAscii, length-append}
+use Rattle.std.specs.Prelude.{⊤, ◌⊎◌, nat_lt, if◌then◌else◌, None, Some, flat_map}
 use Rattle.std.specs.List.{AllByRecursion, list_all}
 use Rattle.std.proofs.lemmas.Bool.{and_parts, ltb-true}
 use Rattle.std.proofs.lemmas.Bool.Decides.{nat_tests}
@@ -10,18 +10,21 @@ use Rattle.std.proofs.lemmas.Str.Ascii.{IsAscii-nil, IsAscii-cons}
 use Rattle.std.proofs.ByRecursion.{All-push}
 use Rattle.shop_model.specs.Calendar.{IsMoment}
 use Rattle.shop_model.specs.Json.{escape_byte, flag_text, object}
-use Rattle.shop_model.specs.Rows.{Row, of, is_row, next, put, put_all, set_row}
-use Rattle.shop_model.specs.Values.{Text, Customer, Rental, Scrapped, Act, Command, Rules}
+use Rattle.shop_model.specs.Rows.{Row, at, of, is_row, next, put, put_all, set_row}
+use Rattle.shop_model.specs.Values.{Text, Film, Customer, Copy, Rental, Terms, Scrapped, Act, Command, Rules}
 use Rattle.shop_model.specs.Values as model
+use Rattle.shop_model.specs.Stock.{film_terms, terms_now}
 use Rattle.shop_model.specs.Machine.{films_in, told, reply_text}
 use Rattle.shop_model.specs.Shop.{Shop, Catalogue}
 use Rattle.shop_model.specs.Links.{IsGoodCatalogue}
 use Rattle.shop_model.specs.Books.{Books, BookCopy, put_state, book_acted, book_done, imported, unmarked, shop_of}
 use Rattle.shop_model.specs.Sound.{IsSound}
+use Rattle.shop_model.specs.Migration.{row_terms, migrated}
 use Rattle.shop_model.proofs.RowLemmas.{put_own, length_map}
-use Rattle.sqlite_keyed.proofs.ListLemmas.{all-filter}
+use Rattle.shop_model.proofs.FoundLemmas.{at_one}
+use Rattle.sqlite_keyed.proofs.ListLemmas.{all-append, all-filter}
 use Rattle.shop_schema.specs.Held.{HasFewShared, IsHeld}
-use Rattle.shop_schema.specs.RowValues.{IsNumber, IsRow, IsCustomer, IsCopy, IsRental, IsPayment, IsLot, IsKept, IsLast, AreBytes, IsAct, IsCommand, AreValues}
+use Rattle.shop_schema.specs.RowValues.{IsNumber, IsFilm, IsRow, IsCustomer, IsCopy, IsRental, IsTerms, IsPayment, IsLot, IsKept, IsLast, AreBytes, IsAct, IsCommand, AreValues}
 use Rattle.shop_schema.specs.Steps.{FilmsFit, FitsTables}
 
 -- a good catalogue by a size of a million has few shared rows
@@ -49,6 +52,7 @@ held_by_sound sizes books commands copies sound values = record {
   tokens = sound.catalogue.tokens;
   most_kept = λ b. let few = (sound.shops b).keys in omega arith;
   most_customers = λ b. let few = (sound.shops b).keys in let fit = (sound.shops b).customers_fit in omega arith;
+  termed = sound.terms;
   most_rentals = λ b. let few = (sound.shops b).keys in let fit = (sound.shops b).rentals_fit in omega arith;
   most_payments = λ b. let few = (sound.shops b).keys in let fit = (sound.shops b).payments_fit in omega arith;
   most_copies = λ b. let few = (sound.shops b).copies in omega arith;
@@ -93,6 +97,72 @@ import_values b (film ∷ films) rows branch numbers few all =
     let row = next_fits b rows (omega arith) in
     import_values b films (put b (imported b film) rows) branch numbers.1 (omega arith)
     (put_values IsCopy b (imported b film) rows branch (omega arith) (numbers.0, (branch, row)) all)
+
+-- ---- terms
+
+all_at : {A : Type 0} (P : A → Type 0) (n : ℕ) (xs : List A) → AllByRecursion P xs → AllByRecursion P (at n xs)
+all_at P n [] all = tt
+all_at P n (x ∷ xs) all = go (n == 1) (all_at P (n - 1) xs all.1)
+  where
+    go : (hit : Bool) → AllByRecursion P (at (n - 1) xs) → AllByRecursion P (if hit then x ∷ [] else at (n - 1) xs)
+    go true rest = (all.0, tt)
+    go false rest = rest
+
+-- the films of some copies
+all_found : (films : List Film) → AllByRecursion IsFilm films → (copies : List Copy) → AllByRecursion IsFilm (flat_map (λ (copy : Copy). at copy.film films) copies)
+all_found films all [] = tt
+all_found films all (copy ∷ copies) = all-append IsFilm (at copy.film films) _ (all_at IsFilm copy.film films all) (all_found films all copies)
+
+film_terms_values : (films : List Film) → AllByRecursion IsFilm films → AllByRecursion IsTerms (map film_terms films)
+film_terms_values [] all = tt
+film_terms_values (film ∷ films) all = (record { rate = all.0.rate; period = all.0.period; replacement = all.0.replacement }, film_terms_values films all.1)
+
+few_terms : (catalogue : Catalogue) (shop : Shop) (x : ℕ) → length (terms_now catalogue shop x) ≤ 1
+few_terms catalogue shop x = subst (λ (n : ℕ). n ≤ 1) (sym (length_map film_terms (flat_map (λ (copy : Copy). at copy.film catalogue.films) (at x shop.copies)))) (go (at x shop.copies) (at_one x shop.copies))
+  where
+    one : (n : ℕ) (films : List Film) → (at n films ≡ []) ⊎ ((film : Film) × (at n films ≡ film ∷ [])) → length (at n films) ≤ 1
+    one n films (inl none) = subst (λ (l : List Film). length l ≤ 1) (sym none) (omega arith)
+    one n films (inr found) = subst (λ (l : List Film). length l ≤ 1) (sym found.1) (omega arith)
+
+    go : (copies : List Copy) → (copies ≡ []) ⊎ ((copy : Copy) × (copies ≡ copy ∷ [])) → length (flat_map (λ (copy : Copy). at copy.film catalogue.films) copies) ≤ 1
+    go copies (inl none) = subst (λ (l : List Copy). length (flat_map (λ (copy : Copy). at copy.film catalogue.films) l) ≤ 1) (sym none) (omega arith)
+    go copies (inr found) =
+        subst (λ (l : List Copy). length (flat_map (λ (copy : Copy). at copy.film catalogue.films) l) ≤ 1) (sym found.1)
+        (subst (λ (l : List Film). length l ≤ 1) (sym (append-nil (at found.0.film catalogue.films))) (one found.0.film catalogue.films (at_one found.0.film catalogue.films)))
+
+terms_values : (b : ℕ) (its : List Terms) (rows : List (Row Terms)) → IsNumber b → length (of b rows) + length its ≤ 1_001_000 → AllByRecursion IsTerms its
+    → AllByRecursion (IsRow IsTerms) rows → AllByRecursion (IsRow IsTerms) (put_all b (map (λ it _. it) its) rows)
+terms_values b [] rows branch few such all = all
+terms_values b (it ∷ its) rows branch few such all =
+    let own : length (of b (put b (λ _. it) rows)) ≡ length (of b rows) + 1 = ap length (put_own b (λ _. it) rows) ∙ length-append (of b rows) (it ∷ []) in
+    terms_values b its (put b (λ _. it) rows) branch (omega arith) such.1 (put_values IsTerms b (λ _. it) rows branch (omega arith) such.0 all)
+
+-- so are the terms that the books get where they become those of version 2
+row_values : (b n : ℕ) (its : List Terms) → IsNumber b → IsNumber n → AllByRecursion IsTerms its → AllByRecursion (IsRow IsTerms) (map (λ (it : Terms). record { branch = b; number = n; it = it }) its)
+row_values b n [] branch number all = tt
+row_values b n (it ∷ its) branch number all = ((branch, number, all.0), row_values b n its branch number all.1)
+
+all_migrated : (books : Books) → AllByRecursion IsFilm books.catalogue.films → (rows : List (Row Rental)) → AllByRecursion (IsRow IsRental) rows → AllByRecursion (IsRow IsTerms) (flat_map (row_terms books) rows)
+all_migrated books films [] all = tt
+all_migrated books films (row ∷ rows) all =
+    let found = all_found books.catalogue.films films (at row.it.copy (shop_of row.branch books).copies) in
+    all-append (IsRow IsTerms) (row_terms books row) (flat_map (row_terms books) rows)
+    (row_values row.branch row.number (terms_now books.catalogue (shop_of row.branch books) row.it.copy) all.0.0 all.0.1 (film_terms_values (flat_map (λ (copy : Copy). at copy.film books.catalogue.films) (at row.it.copy (shop_of row.branch books).copies)) found))
+    (all_migrated books films rows all.1)
+
+pub migrated_values : (books : Books) → AreValues books → AreValues (migrated books)
+migrated_values books v = record {
+  catalogue = v.catalogue;
+  customers = v.customers;
+  copies = v.copies;
+  rentals = v.rentals;
+  terms = all_migrated books v.catalogue.films.1 books.rentals v.rentals;
+  payments = v.payments;
+  lots = v.lots;
+  consignments = v.consignments;
+  kept = v.kept;
+  lasts = v.lasts;
+}
 
 -- ---- kept replies
 
@@ -183,6 +253,7 @@ acted_values rules b command (model.AddCustomer person) books branch staff momen
       customers = put_values IsCustomer b (λ _. record { person = person; active = true; created = command.moment }) books.customers branch (omega arith) (is, moment) v.customers;
       copies = v.copies;
       rentals = v.rentals;
+      terms = v.terms;
       payments = v.payments;
       lots = v.lots;
       consignments = v.consignments;
@@ -197,6 +268,7 @@ acted_values rules b command (model.Import lot file) books branch staff moment i
       customers = v.customers;
       copies = import_values b (films_in (rules.stock_of file)) books.copies branch fits.0 (omega (arith, fits.1)) v.copies;
       rentals = v.rentals;
+      terms = v.terms;
       payments = v.payments;
       lots = All-push IsLot books.lots (record { owner = b; it = lot }) v.lots (branch, is.0);
       consignments = v.consignments;
@@ -210,6 +282,7 @@ acted_values rules b command (model.SetActive c active) books branch staff momen
       customers = set_values IsCustomer b c (λ (it : Customer). record it { active = active }) books.customers (λ it such. such) v.customers;
       copies = v.copies;
       rentals = v.rentals;
+      terms = v.terms;
       payments = v.payments;
       lots = v.lots;
       consignments = v.consignments;
@@ -225,6 +298,8 @@ acted_values rules b command (model.Rent c x) books branch staff moment is held 
       copies = v.copies;
       rentals = put_values IsRental b (λ _. record { rented = command.moment; copy = x; customer = c; returned = None; staff = command.staff }) books.rentals branch (omega arith)
           (record { rented = moment; copy = is.1; customer = is.0; returned = tt; staff = staff }) v.rentals;
+      terms = terms_values b (terms_now books.catalogue (shop_of b books) x) books.terms branch (omega (arith, few, held.termed b, few_terms books.catalogue (shop_of b books) x))
+          (film_terms_values (flat_map (λ (copy : Copy). at copy.film books.catalogue.films) (at x (shop_of b books).copies)) (all_found books.catalogue.films v.catalogue.films.1 (at x (shop_of b books).copies))) v.terms;
       payments = v.payments;
       lots = v.lots;
       consignments = v.consignments;
@@ -238,6 +313,7 @@ acted_values rules b command (model.TakeBack r) books branch staff moment is hel
       customers = v.customers;
       copies = v.copies;
       rentals = set_values IsRental b r (λ (it : Rental). record it { returned = Some command.moment }) books.rentals (λ it such. record { rented = such.rented; copy = such.copy; customer = such.customer; returned = moment; staff = such.staff }) v.rentals;
+      terms = v.terms;
       payments = v.payments;
       lots = v.lots;
       consignments = v.consignments;
@@ -252,6 +328,7 @@ acted_values rules b command (model.Pay c rental amount) books branch staff mome
       customers = v.customers;
       copies = v.copies;
       rentals = v.rentals;
+      terms = v.terms;
       payments = put_values IsPayment b (λ _. record { customer = c; staff = command.staff; rental = rental; amount = amount; paid = command.moment }) books.payments branch (omega arith)
           (record { customer = is.0; staff = staff; rental = is.1; amount = is.2; paid = moment }) v.payments;
       lots = v.lots;
@@ -268,6 +345,7 @@ acted_values rules b command (model.Scrap x) books branch staff moment is held f
       customers = v.customers;
       copies = set_values IsCopy b x (put_state Scrapped) books.copies (λ it such. such) v.copies;
       rentals = v.rentals;
+      terms = v.terms;
       payments = v.payments;
       lots = v.lots;
       consignments = v.consignments;
@@ -287,6 +365,7 @@ values_done rules b command books branch is held fits rows replies =
       customers = v.customers;
       copies = v.copies;
       rentals = v.rentals;
+      terms = v.terms;
       payments = v.payments;
       lots = v.lots;
       consignments = v.consignments;

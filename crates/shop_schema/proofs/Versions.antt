@@ -1,5 +1,5 @@
 -- The version of a database of which only the first table is known.
-use Rattle.std.proofs.Common.{◌≡◌, ◌≢◌, ◌<◌, ℕ, pos, negsuc, List, [], ◌∷◌, codes, refl, map, cond, true, length, get_or, ap, sym, subst, ◌∙◌, arith, Ok, Err, Result, IfOk}
+use Rattle.std.proofs.Common.{◌≡◌, ◌≢◌, ◌<◌, ◌^◌, ◌==◌, ℕ, pos, negsuc, List, [], ◌∷◌, codes, refl, map, cond, true, length, get_or, ap, sym, subst, ◌∙◌, arith, Ok, Err, Result, IfOk}
 use Rattle.std.specs.List.{flat_map}
 use Rattle.std.specs.List.Sorted.{IsPermutation}
 use Rattle.std.proofs.lemmas.List.Sorted.{IsPermutation-map, IsPermutation-sym, length_permutation}
@@ -11,8 +11,8 @@ use Rattle.sqlite_sql.specs.Query.{Output, output}
 use Rattle.sqlite.specs.State.{State, Shown}
 use Rattle.sql_rows.specs.Rows.{columns_of, number_value}
 use Rattle.shop_schema.specs.declared.known.KnownVersion.{KnownVersion}
-use Rattle.shop_schema.specs.declared.known.KnownVersion.TheVariants.{Missing, This, Other}
-use Rattle.shop_schema.specs.Columns.{this_version}
+use Rattle.shop_schema.specs.declared.known.KnownVersion.TheVariants.{Missing, First, This, Other}
+use Rattle.shop_schema.specs.Columns.{this_version, first_version}
 use Rattle.shop_schema.specs.Versions.{version_of, version_told}
 use Rattle.shop_schema.specs.Shop.{begins_so}
 use Rattle.sqlite.specs.Term.{col}
@@ -68,12 +68,13 @@ told_one row [] found v one at told same = absurd (omega arith)
 told_one row (r ∷ []) found v one at told same = told ∙ ap (λ (x : Row). version_told (column x 0)) at ∙ ap version_of (sym (one_permutation r found (IsPermutation-sym _ _ same)))
 told_one row (r ∷ s ∷ rows) found v one at told same = absurd (omega arith)
 
-pub other_number : (n : ℕ) → n ≢ 1 → Other ≡ version_told (Int (pos n))
-other_number n other = ap (λ b. cond b This Other) (sym (ne_eqb n 1 other))
+pub other_number : (n : ℕ) → n ≢ this_version → n ≢ first_version → Other ≡ version_told (Int (pos n))
+other_number n other later = ap (λ b. cond b This Other) (sym (ne_eqb n this_version other)) ∙ ap (λ b. cond (n == this_version) This (cond b First Other)) (sym (ne_eqb n first_version later))
 
-pub told_other : (row : Row) → (0 < length row → column row 0 ≢ number_value this_version) → Other ≡ version_told (column row 0)
+pub told_other : (row : Row) → ((n : ℕ) → n < 2 ^ 32 → 0 < length row → column row 0 ≢ number_value n) → Other ≡ version_told (column row 0)
 told_other [] other = refl
-told_other (Int (pos n) ∷ row) other = other_number n (λ is. other (omega arith) (ap number_value is))
+told_other (Int (pos n) ∷ row) other =
+    other_number n (λ is. other this_version (omega arith) (omega arith) (ap number_value is)) (λ is. other first_version (omega arith) (omega arith) (ap number_value is))
 told_other (Int (negsuc n) ∷ row) other = refl
 told_other (Null ∷ row) other = refl
 told_other (Real x ∷ row) other = refl

@@ -2,7 +2,7 @@
 use Rattle.std.specs.Prelude.{◌≡◌, ◌↔◌, IsTrue, ℕ, ◌/◌, ◌%◌, Bool, if◌then◌else◌, List, [], ◌∷◌, ◌++◌, length, flat_map, Option}
 use Rattle.std.specs.Option.{option_to_list}
 use Rattle.shop_model.specs.Calendar.{IsMoment, moment_text}
-use Rattle.shop_model.specs.Values.{Text, Person, Film, Branch, Act, Command, OfficeAct, AddCountry, AddCity, AddLanguage, AddCategory, AddActor, AddFilm, PriceFilm, WithdrawFilm, AddCast, AddBranch, AddStaff, StaffLeaves, SetManager, OfficeCommand}
+use Rattle.shop_model.specs.Values.{Text, Person, Film, Branch, Act, Command, OfficeAct, AddCountry, AddCity, AddLanguage, AddCategory, AddActor, AddFilm, PriceFilm, WithdrawFilm, AddCast, AddBranch, AddStaff, StaffLeaves, SetManager, Rule, ByCode, ByComment, ChooseRule, OfficeCommand}
 use Rattle.shop_model.specs.Values as model
 use Rattle.shop_model.specs.Shop.{same_command, same_office}
 
@@ -60,6 +60,10 @@ film_form f =
 abbrev pub branch_form : Branch → List ℕ
 branch_form b = joined (text_form b.token ∷ text_form b.address ∷ text_form b.postal ∷ text_form b.phone ∷ number_form b.city ∷ option_form b.manager ∷ [])
 
+abbrev pub rule_form : Rule → List ℕ
+rule_form ByCode = 0 ∷ []
+rule_form ByComment = 1 ∷ []
+
 -- staff who are added work there, so that the flag isn't stored
 abbrev pub office_form : OfficeAct → List ℕ
 office_form (AddCountry name) = 1 ∷ text_form name
@@ -75,6 +79,7 @@ office_form (AddBranch branch) = 10 ∷ branch_form branch
 office_form (AddStaff staff) = 11 ∷ joined (number_form staff.branch ∷ person_form staff.person ∷ [])
 office_form (StaffLeaves staff) = 12 ∷ number_form staff
 office_form (SetManager branch staff) = 13 ∷ joined (number_form branch ∷ number_form staff ∷ [])
+office_form (ChooseRule rule) = 14 ∷ rule_form rule
 
 abbrev pub office_command_form : OfficeCommand → List ℕ
 office_command_form command = office_form command.act

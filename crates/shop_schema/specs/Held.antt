@@ -7,7 +7,7 @@ use Rattle.shop_model.specs.Rows.{IsCounted}
 use Rattle.shop_model.specs.Books.{Books, Consignment, shop_of}
 use Rattle.shop_model.specs.Stock.{keeps_out}
 use Rattle.shop_model.specs.Links.{are_different, HasNoDoubles, NamesRowsOf}
-use Rattle.shop_model.specs.Sound.{HasNumbers, HasOwners}
+use Rattle.shop_model.specs.Sound.{HasNumbers, HasOwners, HasTerms}
 use Rattle.shop_schema.specs.RowValues.{AreValues}
 
 -- no numbered list of shared rows is more than three longer than the most keys that head office may have
@@ -22,8 +22,8 @@ pub record HasFewShared (catalogue : Catalogue) : Type 0 where
   pub staff : length catalogue.staff ≤ 1_000_003
 
 -- Its rows are such as the program can hold, they are numbered, the branches that they name are there, no key of a caller and no token comes twice, no cast and no
--- name of a country, language or category does, no caller has more than a million rows of a kind, shared rows are few and name rows that are there, a copy is
--- out at most once, and places count the consignments of the chain.
+-- name of a country, language or category does, each rental has its terms, no caller has more than a million rows of a kind, shared rows are few and name rows
+-- that are there, a copy is out at most once, and places count the consignments of the chain.
 pub record IsHeld (books : Books) : Type 0 where
   pub values : AreValues books
   pub numbers : HasNumbers books
@@ -32,6 +32,7 @@ pub record IsHeld (books : Books) : Type 0 where
   pub most_kept : (b : ℕ) → length (shop_of b books).kept ≤ 1_000_000
   pub most_customers : (b : ℕ) → length (shop_of b books).customers ≤ 1_000_000
   pub most_rentals : (b : ℕ) → length (shop_of b books).rentals ≤ 1_000_000
+  pub termed : (b : ℕ) → HasTerms (shop_of b books)
   pub most_payments : (b : ℕ) → length (shop_of b books).payments ≤ 1_000_000
   pub most_copies : (b : ℕ) → length (shop_of b books).copies ≤ 1_000_000
   pub most_office_kept : length books.catalogue.kept ≤ 1_000_000

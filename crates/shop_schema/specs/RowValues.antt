@@ -1,12 +1,12 @@
 -- Which rows the program can hold: the ranges and forms of their values, as the shop's profile sets them.
-use Rattle.std.specs.Prelude.{◌≡◌, ◌≤◌, ◌<◌, ◌^◌, ℕ, ◌||◌, true, List, length, codes, IsUtf8, IfSome}
+use Rattle.std.specs.Prelude.{⊤, ◌≡◌, ◌≤◌, ◌<◌, ◌^◌, ℕ, ◌||◌, true, List, length, codes, IsUtf8, IfSome}
 use Rattle.std.specs.List.{AllByRecursion}
 use Rattle.std.specs.Str.{bytes_eq}
 use Rattle.shop_values.specs.Numbers.{is_row_number}
 use Rattle.shop_values.specs.Texts.{is_text, is_key, is_token}
 use Rattle.shop_model.specs.Calendar.{Moment, IsMoment}
 use Rattle.shop_model.specs.Rows.{Row, Owned}
-use Rattle.shop_model.specs.Values.{Text, Person, City, Actor, Film, Cast, Branch, Staff, Customer, Rental, Payment, Act, Command, OfficeAct, AddCountry, AddCity, AddLanguage, AddCategory, AddActor, AddFilm, PriceFilm, WithdrawFilm, AddCast, AddBranch, AddStaff, StaffLeaves, SetManager}
+use Rattle.shop_model.specs.Values.{Text, Person, City, Actor, Film, Cast, Branch, Staff, Customer, Rental, Terms, Payment, Act, Command, OfficeAct, AddCountry, AddCity, AddLanguage, AddCategory, AddActor, AddFilm, PriceFilm, WithdrawFilm, AddCast, AddBranch, AddStaff, StaffLeaves, SetManager, ChooseRule}
 use Rattle.shop_model.specs.Values as model
 use Rattle.shop_model.specs.Shop.{Kept, OfficeKept, Catalogue}
 use Rattle.shop_model.specs.Books.{Books, Mark, BookCopy, Line, Consignment}
@@ -103,6 +103,12 @@ pub record IsRental (it : Rental) : Type 0 where
   pub returned : IfSome it.returned IsMoment
   pub staff : IsNumber it.staff
 
+-- what a film's row may have of them
+pub record IsTerms (it : Terms) : Type 0 where
+  pub rate : it.rate ≤ 9_999
+  pub period : (1 ≤ it.period) × (it.period ≤ 255)
+  pub replacement : it.replacement ≤ 99_999
+
 -- an amount in cents
 pub record IsPayment (it : Payment) : Type 0 where
   pub customer : IsNumber it.customer
@@ -172,6 +178,7 @@ IsOfficeAct (AddBranch branch) = IsBranch branch
 IsOfficeAct (AddStaff staff) = IsStaff staff
 IsOfficeAct (StaffLeaves staff) = IsNumber staff
 IsOfficeAct (SetManager branch staff) = IsNumber branch × IsNumber staff
+IsOfficeAct (ChooseRule rule) = ⊤
 
 abbrev pub IsOfficeKept : OfficeKept → Type 0
 IsOfficeKept it = IsKey it.command.key × IsOfficeAct it.command.act × IsUtf8 it.reply
@@ -201,6 +208,7 @@ pub record AreValues (books : Books) : Type 0 where
   pub customers : AllByRecursion (IsRow IsCustomer) books.customers
   pub copies : AllByRecursion (IsRow IsCopy) books.copies
   pub rentals : AllByRecursion (IsRow IsRental) books.rentals
+  pub terms : AllByRecursion (IsRow IsTerms) books.terms
   pub payments : AllByRecursion (IsRow IsPayment) books.payments
   pub lots : AllByRecursion IsLot books.lots
   pub consignments : AllByRecursion IsConsignment books.consignments

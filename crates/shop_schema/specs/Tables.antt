@@ -1,6 +1,6 @@
--- The tables of version 1 as data, in the order in which they are made, and the indexes. A table's rows are in a tree of their own, and so are the
+-- The tables of version 2 as data, in the order in which they are made, and the indexes. A table's rows are in a tree of their own, and so are the
 -- entries of each key and of each index. Columns are counted from 1, since the hidden rowid comes first.
-use Rattle.std.specs.Prelude.{Bool, true, false, [], ◌∷◌, ◌++◌, None, codes, List, ℕ, map}
+use Rattle.std.specs.Prelude.{Bool, true, false, [], ◌∷◌, ◌++◌, None, codes, List, ℕ, map, take}
 use Rattle.sqlite.specs.declared.types.Value.TheVariants.{Null}
 use Rattle.sqlite_value.specs.declared.keys.Collation.TheVariants.{Binary}
 use Rattle.sqlite_value.specs.Keys.{plain}
@@ -180,6 +180,17 @@ pair_count_table =
     (number (codes "source") ∷ number (codes "addressee") ∷ number (codes "last") ∷ [])
     (reference_of (1 ∷ []) (codes "branch") (codes "number" ∷ []) ∷ reference_of (2 ∷ []) (codes "branch") (codes "number" ∷ []) ∷ [])
 
+-- what version 2 has beside: the terms of each rental, and the one row by which rule balances go
+abbrev pub rental_terms_table : Table
+rental_terms_table =
+    table_of (codes "rental_terms") 57 (1 ∷ 2 ∷ []) ((1 ∷ 2 ∷ []) ∷ [])
+    (number (codes "branch") ∷ number (codes "rental") ∷ number (codes "rate") ∷ number (codes "period") ∷ number (codes "replacement") ∷ [])
+    (reference_of (1 ∷ 2 ∷ []) (codes "rental") (codes "branch" ∷ codes "number" ∷ []) ∷ [])
+
+abbrev pub chain_rule_table : Table
+chain_rule_table =
+    table_of (codes "chain_rule") 59 [] [] (number (codes "comment_rule") ∷ []) []
+
 abbrev pub shop_schema : Schema
 shop_schema = record {
   tables = chain_table
@@ -203,6 +214,8 @@ shop_schema = record {
       ∷ counter_table
       ∷ out_copy_table
       ∷ pair_count_table
+      ∷ rental_terms_table
+      ∷ chain_rule_table
       ∷ [];
   indexes = automatic_of (codes "country") (codes "1") 2 1 (1 ∷ [])
       ∷ automatic_of (codes "country") (codes "2") 3 1 (2 ∷ [])
@@ -240,6 +253,15 @@ shop_schema = record {
       ∷ index_of (codes "consignment_open") 54 34 (5 ∷ 1 ∷ 2 ∷ 3 ∷ [])
       ∷ index_of (codes "copy_origin") 55 25 (5 ∷ 6 ∷ [])
       ∷ index_of (codes "line_origin") 56 37 (6 ∷ 7 ∷ [])
+      ∷ automatic_of (codes "rental_terms") (codes "1") 58 57 (1 ∷ 2 ∷ [])
       ∷ [];
   views = [];
 }
+
+-- the two that version 2 has more
+abbrev pub later_tables : List Table
+later_tables = rental_terms_table ∷ chain_rule_table ∷ []
+
+-- the tables of version 1, which are the first of these
+abbrev pub version_1_schema : Schema
+version_1_schema = record { tables = take 21 shop_schema.tables; indexes = take 36 shop_schema.indexes; views = [] }

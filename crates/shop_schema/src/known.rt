@@ -7,12 +7,12 @@ ghost use Rattle.sqlite.specs.Steps.{over_memory};
 ghost use Rattle.sqlite.specs.State.{HasCleanDisk};
 ghost use Rattle.sql_rows.specs.Calls.{StaysInside};
 ghost use Rattle.sql_rows.specs.Rows.{columns_of};
-ghost use Rattle.shop_schema.specs.Tables.{shop_schema};
+ghost use Rattle.shop_schema.specs.Tables.{shop_schema, version_1_schema};
 ghost use Rattle.shop_schema.specs.Shop.{HasVersion};
 ghost use Rattle.shop_schema.specs.Versions.{version_of};
 
 use crate::create::create_shop;
-use crate::same_tables::{same_first, same_schema};
+use crate::same_tables::{same_begun, same_first, same_schema};
 use sql_rows::{StoreFault, number_at, query};
 use sqlite::{Alter, Connection, MemStore, Row, Transaction};
 use sqlite_schema::schema::Schema;
@@ -33,6 +33,14 @@ pub fn is_shop(alloc: Global, schema: &Schema) -> Result<bool, StoreFault>
 {
     let conn = new_tables(alloc)?;
     Ok(same_schema(schema, conn.schema()))
+}
+
+/// Whether the schema of a database is that of version 1. Its store isn't called.
+pub fn is_first_shop(alloc: Global, schema: &Schema) -> Result<bool, StoreFault>
+    ensures { IfOk result (λ is. IsTrue is ↔ (schema.now ≡ version_1_schema)) }
+{
+    let conn = new_tables(alloc)?;
+    Ok(same_begun(schema, conn.schema(), 21, 36))
 }
 
 /// Whether the first table of a database is the one that has the version, whatever the others are. Its store isn't called.
@@ -57,6 +65,8 @@ fn versions<S: Alter>(tx: &mut Transaction<'_, S>) -> Result<Vec<Row>, StoreFaul
 pub enum KnownVersion {
     /// The table that has the version doesn't have one row, so that this is no chain.
     Missing,
+    /// Version 1, of which this program makes its own (`migrate_tables`), and which it doesn't open.
+    First,
     /// The version that this program reads and writes.
     This,
     /// Another one.
@@ -71,7 +81,8 @@ fn told_by(rows: &[Row]) -> Result<KnownVersion, StoreFault>
         return Ok(KnownVersion::Missing);
     }
     match number_at(&rows[0], 0) {
-        Ok(1) => Ok(KnownVersion::This),
+        Ok(1) => Ok(KnownVersion::First),
+        Ok(2) => Ok(KnownVersion::This),
         Ok(_) => Ok(KnownVersion::Other),
         Err(StoreFault::Failed) => Ok(KnownVersion::Other),
         Err(fault) => Err(fault),

@@ -1,12 +1,12 @@
 //! The stored form of head office's commands.
 
 ghost use Rattle.std.specs.Prelude.{◌≡◌, false, [], ◌∷◌, ◌++◌, IfOk, OnOk};
-ghost use Rattle.shop_schema.specs.Forms.{number_form, text_form, option_form, flag_form, joined, film_form, branch_form, office_form, office_command_form};
+ghost use Rattle.shop_schema.specs.Forms.{number_form, text_form, option_form, flag_form, joined, film_form, branch_form, rule_form, office_form, office_command_form};
 ghost use Rattle.shop_types.specs.Films.{rating_text, features_text};
-ghost use Rattle.shop_types.specs.Seen.{seen_film, seen_branch, seen_office_act, seen_office};
+ghost use Rattle.shop_types.specs.Seen.{seen_film, seen_branch, seen_rule, seen_office_act, seen_office};
 
 use crate::form::{add_bytes, add_number, add_one, add_pair, add_person, add_text};
-use shop_types::{Branch, Film, Minutes, NoMemory, OfficeAct, OfficeCommand, T45};
+use shop_types::{Branch, Film, Minutes, NoMemory, OfficeAct, OfficeCommand, Rule, T45};
 use sql_rows::Bytes;
 use std::alloc::Global;
 
@@ -110,7 +110,19 @@ fn add_office_act(form: &mut Vec<u8>, act: &OfficeAct) -> Result<(), NoMemory>
         }
         OfficeAct::Leave(staff) => add_one(form, 12, staff.get()),
         OfficeAct::Manager { branch, staff } => add_pair(form, 13, branch.get(), staff.get()),
+        OfficeAct::Rule(rule) => add_rule(form, *rule),
     }
+}
+
+/// The byte that tells the act, and the rule.
+fn add_rule(form: &mut Vec<u8>, rule: Rule) -> Result<(), NoMemory>
+    ensures { OnOk result (form.new.items ≡ form.old.items ++ 14 ∷ rule_form (seen_rule rule)) }
+{
+    match rule {
+        Rule::ByCode => form.extend_from_slice(&[14, 0])?,
+        Rule::ByComment => form.extend_from_slice(&[14, 1])?,
+    }
+    Ok(())
 }
 
 /// The byte that tells the act, and a name.

@@ -182,6 +182,7 @@ fn office_act_values(act: &OfficeAct)
             let _branch = branch.get();
             let _staff = staff.get();
         }
+        OfficeAct::Rule(_) => {}
     }
 }
 

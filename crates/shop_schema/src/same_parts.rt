@@ -34,7 +34,7 @@ impl Same for Bytes {
     }
 }
 
-fn same_slices<T: Same>(first: &[T], second: &[T]) -> bool
+pub(crate) fn same_slices<T: Same>(first: &[T], second: &[T]) -> bool
     ensures { IsTrue result ↔ (first.now ≡ second.now) }
 {
     let [a, more @ ..] = first else {

@@ -1,10 +1,10 @@
 //! Whether two tables, and two schemas, are the same.
 
-ghost use Rattle.std.specs.Prelude.{◌≡◌, ◌↔◌, IsTrue, [], true};
+ghost use Rattle.std.specs.Prelude.{◌≡◌, ◌↔◌, ◌≤◌, IsTrue, [], true, length};
 ghost use Rattle.std.specs.List.{list_all};
-ghost use Rattle.shop_schema.specs.Bare.{is_bare, IsPlain, HaveFirst};
+ghost use Rattle.shop_schema.specs.Bare.{is_bare, IsPlain, HaveFirst, begun};
 
-use crate::same_parts::Same;
+use crate::same_parts::{Same, same_slices};
 use sqlite_schema::code::Terms;
 use sqlite_schema::schema::{Schema, Stamps, Table};
 
@@ -96,6 +96,20 @@ pub(crate) fn same_schema(first: &Schema, second: &Schema) -> bool
         && first.indexes.same(&second.indexes)
         && first.views.is_empty()
         && second.views.is_empty()
+}
+
+/// Whether the first schema has just so many of the tables and indexes with which the second begins, of which none has a CHECK or a default that is computed.
+pub(crate) fn same_begun(first: &Schema, second: &Schema, tables: usize, indexes: usize) -> bool
+    requires tables { tables ≤ length second.now.tables }
+    requires indexes { indexes ≤ length second.now.indexes }
+    ensures { IsTrue result ↔ ((first.now ≡ begun tables indexes second.now) × IsPlain (begun tables indexes second.now)) }
+{
+    same_tables(first.tables.as_slice(), &second.tables.as_slice()[..tables])
+        && same_slices(
+            first.indexes.as_slice(),
+            &second.indexes.as_slice()[..indexes],
+        )
+        && first.views.is_empty()
 }
 
 /// Whether the first tables of the two are the same, whatever else the schemas have, and no term stands in that table.

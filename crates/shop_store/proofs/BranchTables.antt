@@ -1,13 +1,13 @@
 -- The tables of the branches' rows, as lists of the books.
 use Rattle.std.proofs.Common.{refl}
 use Rattle.shop_model.specs.Rows.{Owned}
-use Rattle.shop_model.specs.Values.{Text, Customer, Rental, Payment}
+use Rattle.shop_model.specs.Values.{Text, Customer, Rental, Terms, Payment}
 use Rattle.shop_model.specs.Books.{BookCopy}
-use Rattle.shop_schema.specs.Tables.{customer_table, copy_table, rental_table, payment_table, lot_table}
-use Rattle.shop_schema.specs.Columns.{customer_columns, copy_columns, rental_columns, payment_columns, lot_columns}
-use Rattle.shop_schema.specs.RowValues.{IsCustomer, IsCopy, IsRental, IsPayment}
+use Rattle.shop_schema.specs.Tables.{customer_table, copy_table, rental_table, rental_terms_table, payment_table, lot_table}
+use Rattle.shop_schema.specs.Columns.{customer_columns, copy_columns, rental_columns, terms_columns, payment_columns, lot_columns}
+use Rattle.shop_schema.specs.RowValues.{IsCustomer, IsCopy, IsRental, IsTerms, IsPayment}
 use Rattle.shop_schema.proofs.Listed.{Plain, listed}
-use Rattle.shop_schema.proofs.SameRows.{same_customer, same_copy, same_rental, same_payment}
+use Rattle.shop_schema.proofs.SameRows.{same_customer, same_copy, same_rental, same_terms, same_payment}
 use Rattle.shop_store.proofs.BranchRows.{BranchRows}
 
 abbrev pub customers : BranchRows Customer
@@ -44,6 +44,18 @@ rentals = record {
   begins = λ row. (refl, refl);
   valued = λ books held. held.values.rentals;
   counted = λ books held. held.numbers.rentals;
+}
+
+abbrev pub terms : BranchRows Terms
+terms = record {
+  rows =
+      listed 21 rental_terms_table terms_columns (λ books. books.terms) (λ xs books. record books { terms = xs })
+      (record { place = refl; uncounted = refl; unstamped = refl }) refl (λ counts books. refl) (λ counts xs books. refl) (λ xs books. refl) (λ xs ys books. refl);
+  Fits = IsTerms;
+  one = λ a b p q. same_terms a b;
+  begins = λ row. (refl, refl);
+  valued = λ books held. held.values.terms;
+  counted = λ books held. held.numbers.terms;
 }
 
 abbrev pub payments : BranchRows Payment

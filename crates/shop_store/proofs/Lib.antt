@@ -16,6 +16,8 @@ pub mod BranchTables
 pub mod OnCustomers
 pub mod OnCopies
 pub mod OnRentals
+pub mod OnRule
+pub mod OnTerms
 pub mod OnPayments
 pub mod SameRentals
 pub mod Refused

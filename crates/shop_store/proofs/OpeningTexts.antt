@@ -106,6 +106,7 @@ abbrev stage : ℕ → Books
 stage n = opening (record {
   office_token = token_of 0;
   kept = [];
+  rule = opening_catalogue.rule;
   countries = take n opening_catalogue.countries;
   languages = take (n - 2) opening_catalogue.languages;
   categories = take (n - 3) opening_catalogue.categories;

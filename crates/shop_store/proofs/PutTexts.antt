@@ -1,5 +1,5 @@
 -- What the statements mean, and what they make of the books.
-use Rattle.std.proofs.Common.{◌≡◌, ◌&&◌, ℕ, pos, List, [], ◌∷◌, ◌++◌, map, true, Option, Some, None, Ok, refl, sym, ap, subst, ◌∙◌}
+use Rattle.std.proofs.Common.{◌≡◌, ◌&&◌, ℕ, pos, List, [], ◌∷◌, ◌++◌, map, true, Option, Some, None, Ok, refl, sym, ap, subst, ◌∙◌, arith}
 use Rattle.std.proofs.lemmas.List.Sorted.{IsPermutation-refl}
 use Rattle.std.proofs.lemmas.List.{map_push}
 use Rattle.sqlite.specs.declared.types.Value.TheVariants.{Null, Int, Text}
@@ -21,33 +21,60 @@ use Rattle.shop_model.specs.Rows.{owned_by, numbered}
 use Rattle.shop_model.specs.Values as model
 use Rattle.shop_model.specs.Values.{Branch}
 use Rattle.shop_model.specs.Books.{Books, head}
-use Rattle.shop_schema.specs.Tables.{shop_schema, chain_table, branch_table}
-use Rattle.shop_schema.specs.Columns.{chain_columns, branch_columns, moment_value}
+use Rattle.shop_schema.specs.Tables.{shop_schema, chain_table, branch_table, chain_rule_table}
+use Rattle.shop_schema.specs.Columns.{chain_columns, branch_columns, moment_value, rule_columns}
 use Rattle.shop_schema.specs.Shop.{IsShop, IsKeyed, HaveNoRows, HoldsWith, Writes, first_books}
 use Rattle.shop_schema.specs.Counts.{no_counts}
 use Rattle.shop_schema.proofs.Stands.{stands_first, stands_but}
 use Rattle.shop_schema.proofs.Listed.{PutsNext, PutsLast, puts_next, puts_last, next_row, IsNext, push, cols}
 use Rattle.shop_schema.proofs.SharedTables.{countries, languages, categories, cities, actors, films, casts, branches, staff}
-use Rattle.shop_store.specs.declared.opening.TheConstants.{INSERT_CHAIN}
+use Rattle.shop_store.specs.declared.opening.TheConstants.{INSERT_RULE, INSERT_CHAIN}
 use Rattle.shop_store.specs.declared.puts.TheConstants.{INSERT_COUNTRY, INSERT_LANGUAGE, INSERT_CATEGORY, INSERT_CITY, INSERT_ACTOR, INSERT_FILM, INSERT_CAST, INSERT_BRANCH, INSERT_STAFF}
-use Rattle.shop_store.specs.New.{branch_params}
+use Rattle.shop_store.specs.New.{branch_params, IsRuled}
 
--- ---- head office's token
+-- ---- the rule, and head office's token
+
+abbrev pub rule_terms : List Term
+rule_terms = lit Null ∷ lit (Int (pos 0)) ∷ []
+
+rule_means : Means shop_schema INSERT_RULE.now (Insert 22 (Values rule_terms 2))
+unfolding understood everything
+rule_means = record { is = refl; plain = (refl, refl) }
+
+none_yet : (width : ℕ) (old : List sql.Row) → old ≡ [] → HasRows width old []
+none_yet width old empty = rw empty (IsPermutation-refl [])
+
+pub ruled_first : (old new : State) (count : ℕ) → ExecutesInside 0 INSERT_RULE.now [] old new (Ok count) → IsShop old → IsKeyed old → HaveNoRows old.now.trees → IsRuled new
+ruled_first old new count h shop keyed empty =
+    let done = has_put shop_schema INSERT_RULE.now 22 chain_rule_table rule_terms 1 rule_means (record { place = refl; uncounted = refl; unstamped = refl }) [] (rule_columns model.ByCode) old new count h refl refl refl (λ id. refl) shop in
+    record {
+      shop = done.schema_is;
+      keyed = done.keyed keyed;
+      before = old.now.trees;
+      empty = empty;
+      same = done.others;
+      rule = done.rows [] (none_yet 1 (old.now.trees 59) empty.1.1.1.1.1.1.1.1.1.1.1.1.1.1.1.1.1.1.1.1.1.1.0);
+    }
 
 abbrev pub token_terms : List Term
-token_terms = lit Null ∷ lit (Int (pos 1)) ∷ col 0 0 ∷ []
+token_terms = lit Null ∷ lit (Int (pos 2)) ∷ col 0 0 ∷ []
 
 token_means : Means shop_schema INSERT_CHAIN.now (Insert 0 (Values token_terms 3))
 unfolding understood everything
 token_means = record { is = refl; plain = (refl, refl) }
 
-none_yet : (old : List sql.Row) → old ≡ [] → HasRows 2 old []
-none_yet old empty = rw empty (IsPermutation-refl [])
+not_rule : ◌≡◌ {A = ℕ} 0 59 → ⊥
+not_rule e = omega (arith, e)
 
-pub holds_first : (old new : State) (token : model.Text) (count : ℕ) → ExecutesInside 0 INSERT_CHAIN.now (Text token ∷ []) old new (Ok count) → IsShop old → IsKeyed old → HaveNoRows old.now.trees → HoldsWith no_counts new (first_books token)
-holds_first old new token count h shop keyed empty =
-    let done = has_put shop_schema INSERT_CHAIN.now 0 chain_table token_terms 2 token_means (record { place = refl; uncounted = refl; unstamped = refl }) (Text token ∷ []) (chain_columns token) old new count h refl refl refl (λ id. refl) shop in
-    record { schema_is = done.schema_is; keyed = done.keyed keyed; stands = stands_first old.now.trees new.now.trees token empty done.others (done.rows [] (none_yet _ empty.0)) }
+pub holds_first : (old new : State) (token : model.Text) (count : ℕ) → ExecutesInside 0 INSERT_CHAIN.now (Text token ∷ []) old new (Ok count) → IsRuled old → HoldsWith no_counts new (first_books token)
+holds_first old new token count h ruled =
+    let done = has_put shop_schema INSERT_CHAIN.now 0 chain_table token_terms 2 token_means (record { place = refl; uncounted = refl; unstamped = refl }) (Text token ∷ []) (chain_columns token) old new count h refl refl refl (λ id. refl) ruled.shop in
+    let none : old.now.trees 0 ≡ [] = ruled.same.0 not_rule ∙ ruled.empty.0 in
+    record {
+      schema_is = done.schema_is;
+      keyed = done.keyed ruled.keyed;
+      stands = stands_first ruled.before old.now.trees new.now.trees token ruled.empty ruled.same ruled.rule done.others (done.rows [] (none_yet 2 (old.now.trees 0) none));
+    }
 
 -- ---- shared rows
 

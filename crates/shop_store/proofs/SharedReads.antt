@@ -32,13 +32,13 @@ use Rattle.shop_schema.proofs.Lasts.{numbered_once}
 use Rattle.shop_schema.proofs.Listed.{own_rows}
 use Rattle.shop_schema.proofs.Numbered.{picked}
 use Rattle.shop_store.specs.declared.branches.TheConstants.{SELECT_MANAGER}
-use Rattle.shop_store.specs.declared.films.TheConstants.{SELECT_WITHDRAWN, SELECT_TERMS, SELECT_TITLE}
+use Rattle.shop_store.specs.declared.films.TheConstants.{SELECT_WITHDRAWN, SELECT_TITLE}
 use Rattle.shop_store.specs.declared.rows.TheConstants.{SELECT_COUNTRY, SELECT_LANGUAGE, SELECT_CATEGORY, SELECT_CITY, SELECT_ACTOR}
 use Rattle.shop_store.specs.declared.staff.TheConstants.{SELECT_POST}
 use Rattle.shop_store.proofs.ByNumber.{ByNumber, countries, languages, categories, cities, actors, films, staff, branches}
 use Rattle.shop_types.specs.Verdicts.{post_of}
 use Rattle.shop_schema.specs.First.{TellsFirst}
-use Rattle.shop_store.specs.SharedSeen.{withdrawn_of, terms_of, title_of, manager_of}
+use Rattle.shop_store.specs.SharedSeen.{withdrawn_of, title_of, manager_of}
 
 abbrev pub of_number : List Term
 of_number = op2 (Compare Eq Binary) (col 1 1) (col 0 0) ∷ []
@@ -140,13 +140,6 @@ read_film old new n rows slice h low =
 
 same_words : (s t : model.Text) → Text s ≡ Text t → t ≡ s
 same_words s t h = cc
-
--- rate and period
-pub read_terms : ReadsFirst films SELECT_TERMS.now terms_of (λ row v. (column row 0 ≡ number_value v.0) × (column row 1 ≡ number_value v.1))
-unfolding understood everything
-read_terms old new n rows slice h low =
-    reads_first films SELECT_TERMS.now (col 1 7 ∷ col 1 6 ∷ []) (record { names = _; is = refl; plain = (refl, refl); unlisted = refl }) (λ vs. column vs 6 ∷ column vs 5 ∷ []) (λ m r. refl) old new n rows h low
-    terms_of (λ row v. (column row 0 ≡ number_value v.0) × (column row 1 ≡ number_value v.1)) (λ books x v is. let cents = sym (same_number x.rate v.0 is.0) in let days = sym (same_number x.period v.1 is.1) in (λ i. (cents i, days i))) slice
 
 pub read_title : ReadsFirst films SELECT_TITLE.now title_of (λ row v. column row 0 ≡ Text v)
 unfolding understood everything

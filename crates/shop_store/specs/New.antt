@@ -1,10 +1,15 @@
--- What new shared rows mean. The number of each stands apart from it.
+-- What new shared rows mean, the number of each standing apart from it, and new tables that have the row of their rule.
 use Rattle.std.specs.Prelude.{ℕ, [], ◌∷◌}
+use Rattle.sqlite_trees.specs.Tree.{Trees}
+use Rattle.sqlite.specs.State.{State}
 use Rattle.sqlite.specs.declared.types.Value.TheVariants.{Text}
 use Rattle.sqlite.specs.Values.{or_null}
 use Rattle.sqlite_value.specs.Order as sql
-use Rattle.sql_rows.specs.Rows.{number_value}
-use Rattle.shop_model.specs.Values.{City, Actor, Film, Branch, Staff}
+use Rattle.sql_rows.specs.Rows.{HasRows, SameBut, number_value}
+use Rattle.shop_schema.specs.Tables.{shop_schema}
+use Rattle.shop_schema.specs.Columns.{rule_columns}
+use Rattle.shop_schema.specs.Shop.{IsShop, IsKeyed, HaveNoRows}
+use Rattle.shop_model.specs.Values.{City, Actor, Film, Branch, Staff, ByCode}
 use Rattle.shop_store.specs.declared.puts.NewCity.{NewCity}
 use Rattle.shop_store.specs.declared.puts.NewActor.{NewActor}
 use Rattle.shop_store.specs.declared.puts.NewFilm.{NewFilm}
@@ -45,3 +50,12 @@ seen_staff it = record {
   person = record { first = it.first.now; last = it.last.now; address = it.address.now; postal = it.postal.now; phone = it.phone.now; city = it.city };
   gone = it.gone;
 }
+
+-- new tables, with no row but that of the rule, which is the manual's code
+pub record IsRuled (s : State) : Type 0 where
+  pub shop : IsShop s
+  pub keyed : IsKeyed s
+  pub before : Trees
+  pub empty : HaveNoRows before
+  pub same : SameBut shop_schema 59 before s.now.trees
+  pub rule : HasRows 1 (s.now.trees 59) (rule_columns ByCode ∷ [])

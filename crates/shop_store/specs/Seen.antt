@@ -3,9 +3,9 @@ use Rattle.std.specs.Prelude.{◌≢◌, None}
 use Rattle.sqlite_value.specs.Order as sql
 use Rattle.shop_model.specs.Rows.{Row}
 use Rattle.shop_model.specs.Values as model
-use Rattle.shop_model.specs.Values.{Customer, Rental, Payment}
+use Rattle.shop_model.specs.Values.{Customer, Rental, Terms, Payment}
 use Rattle.shop_model.specs.Books.{BookCopy}
-use Rattle.shop_types.specs.Seen.{seen_customer, seen_rental, seen_payment, seen_mark}
+use Rattle.shop_types.specs.Seen.{seen_customer, seen_rental, seen_terms, seen_payment, seen_mark}
 use Rattle.shop_schema.specs.Columns.{customer_columns}
 use Rattle.shop_schema.specs.RowValues.{IsRow, IsCustomer}
 use Rattle.shop_store.specs.declared.customers.CustomerRow.{CustomerRow}
@@ -14,6 +14,7 @@ use Rattle.shop_store.specs.declared.copies.CopyState.TheVariants as state
 use Rattle.shop_store.specs.declared.copies.CopyRow.{CopyRow}
 use Rattle.shop_store.specs.declared.rentals.RentalRow.{RentalRow}
 use Rattle.shop_store.specs.declared.payments.PaymentRow.{PaymentRow}
+use Rattle.shop_store.specs.declared.terms.TermsRow.{TermsRow}
 
 -- a customer of a branch, with the number
 abbrev pub seen_row : CustomerRow → Row Customer
@@ -39,6 +40,10 @@ seen_rental_row row = record { branch = row.branch; number = row.number; it = se
 -- the same as an open one
 abbrev pub opened_row : RentalRow → Row Rental
 opened_row row = record { branch = row.branch; number = row.number; it = record (seen_rental row.rental) { returned = None } }
+
+-- the terms of a rental of a branch, with its number
+abbrev pub seen_terms_row : TermsRow → Row Terms
+seen_terms_row row = record { branch = row.branch; number = row.rental; it = seen_terms row.terms }
 
 -- a payment at a branch, with the number
 abbrev pub seen_payment_row : PaymentRow → Row Payment

@@ -8,7 +8,6 @@ use Rattle.shop_model.specs.Books.{Caller, Counter, Nobody}
 use Rattle.shop_types.specs.Seen.{seen_film}
 use Rattle.shop_schema.specs.Columns.{film_columns}
 use Rattle.shop_schema.specs.RowValues.{IsNumber, IsFilm}
-use Rattle.shop_store.specs.declared.films.FilmTerms.{FilmTerms}
 use Rattle.shop_store.specs.declared.films.FilmRow.{FilmRow}
 
 -- the branch as a caller, or nobody
@@ -18,13 +17,6 @@ branch_caller (Some branch) = Counter branch
 
 abbrev pub withdrawn_of : Film → Bool
 withdrawn_of film = film.withdrawn
-
--- the rate in cents, and the period in days
-abbrev pub seen_terms : FilmTerms → ℕ × ℕ
-seen_terms terms = (terms.rate, terms.period)
-
-abbrev pub terms_of : Film → ℕ × ℕ
-terms_of film = (film.rate, film.period)
 
 -- a film that was found, withdrawn or not
 abbrev pub seen_film_row : FilmRow → Film

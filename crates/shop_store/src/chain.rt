@@ -1,18 +1,22 @@
-//! What the chain has of itself: head office's token.
+//! What the chain has of itself: head office's token, and the rule by which balances go.
 
-ghost use Rattle.std.specs.Prelude.{◌≡◌};
+ghost use Rattle.std.specs.Prelude.{⊤, ◌≡◌, IfOk};
 ghost use Rattle.std.specs.Str.{bytes_eq};
 ghost use Rattle.sqlite.specs.Held.{state};
+ghost use Rattle.sqlite_value.specs.Order.{column};
 ghost use Rattle.sql_rows.specs.Calls.{StaysInside};
-ghost use Rattle.shop_schema.specs.Calls.{Finds};
+ghost use Rattle.sql_rows.specs.Rows.{number_value};
+ghost use Rattle.shop_types.specs.Seen.{seen_rule};
+ghost use Rattle.shop_schema.specs.Calls.{Finds, Stores};
+ghost use Rattle.shop_schema.specs.Columns.{rule_value};
 
 use crate::columns::{token_at, token_text};
 use crate::rows::shows_row;
 use shop_schema::first_of;
-use shop_types::Token;
-use sql_rows::{StoreFault, query};
+use shop_types::{Rule, Token};
+use sql_rows::{StoreFault, execute, number_at, query};
 use sqlite::types::ToSql;
-use sqlite::{Alter, Transaction};
+use sqlite::{Alter, Row, Transaction};
 
 const SELECT_OFFICE: &str = "SELECT version FROM chain WHERE office_token = ?1";
 
@@ -38,4 +42,51 @@ pub fn office_token<S: Alter>(tx: &mut Transaction<'_, S>) -> Result<Token, Stor
         None => Err(StoreFault::Failed),
         Some(token) => Ok(token),
     }
+}
+
+/// The rule in the row.
+fn rule_in(row: &Row) -> Result<Rule, StoreFault>
+    ensures { IfOk result (λ rule. column row.now 0 ≡ rule_value (seen_rule rule)) }
+{
+    match number_at(row, 0)? {
+        0 => Ok(Rule::ByCode),
+        1 => Ok(Rule::ByComment),
+        _ => Err(StoreFault::Failed),
+    }
+}
+
+/// The number of the rule, as the table has it.
+fn rule_code(rule: Rule) -> u32
+    ensures { number_value result ≡ rule_value (seen_rule rule) }
+{
+    match rule {
+        Rule::ByCode => 0,
+        Rule::ByComment => 1,
+    }
+}
+
+const SELECT_RULE: &str = "SELECT comment_rule FROM chain_rule";
+
+/// By which rule balances go.
+pub fn rule_at<S: Alter>(tx: &mut Transaction<'_, S>) -> Result<Rule, StoreFault>
+    ensures inside { StaysInside S.Store tx.old.conn tx.new.conn result }
+    ensures found { Finds (state S.Store tx.old.conn.now) (state S.Store tx.new.conn.now) result
+        (λ rule books. seen_rule rule ≡ books.catalogue.rule) }
+{
+    let rows = query(tx, SELECT_RULE, &[])?;
+    match first_of(rows.as_slice(), rule_in)? {
+        None => Err(StoreFault::Failed),
+        Some(rule) => Ok(rule),
+    }
+}
+
+const UPDATE_RULE: &str = "UPDATE chain_rule SET comment_rule = ?1";
+
+/// Sets by which rule balances go. After a fault the transaction may be rolled back.
+pub fn set_rule<S: Alter>(tx: &mut Transaction<'_, S>, rule: Rule) -> Result<(), StoreFault>
+    ensures inside { StaysInside S.Store tx.old.conn tx.new.conn result }
+    ensures set { Stores (state S.Store tx.old.conn.now) (state S.Store tx.new.conn.now) result (λ _. ⊤)
+        (λ books. record books { catalogue = record books.catalogue { rule = seen_rule rule } }) }
+{
+    execute(tx, UPDATE_RULE, &[rule_code(rule).to_sql()])
 }

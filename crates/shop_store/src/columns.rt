@@ -59,7 +59,7 @@ pub(crate) fn amount_at(row: &Row, at: usize) -> Result<Amount, StoreFault>
 }
 
 /// The days in the column.
-pub(crate) fn days_at(row: &Row, at: usize) -> Result<u8, StoreFault>
+fn days_at(row: &Row, at: usize) -> Result<u8, StoreFault>
     ensures ok { IfOk result (λ n. column row.now at ≡ number_value n) }
     ensures failed { IfErr result (λ e. e ≡ Failed → (n : ℕ) → n ≤ 255 → at < length row.now → column row.now at ≢ number_value n) }
 {

@@ -15,11 +15,9 @@ ghost use Rattle.shop_schema.specs.Calls.{Finds, Stores};
 ghost use Rattle.shop_schema.specs.Columns.{film_columns};
 ghost use Rattle.shop_schema.specs.RowValues.{IsNumber, IsText, IsFeatures, IsFilm};
 ghost use Rattle.shop_types.specs.Films.{rating_text, features_text};
-ghost use Rattle.shop_store.specs.SharedSeen.{seen_film_row, IsNoFilm, withdrawn_of, seen_terms, terms_of, title_of};
+ghost use Rattle.shop_store.specs.SharedSeen.{seen_film_row, IsNoFilm, withdrawn_of, title_of};
 
-use crate::columns::{
-    amount_at, days_at, features_at, minutes_or_null_at, period_at, rate_at, rating_at,
-};
+use crate::columns::{amount_at, features_at, minutes_or_null_at, period_at, rate_at, rating_at};
 use shop_schema::{first_of, row_number_at, text_at};
 use shop_types::{
     Amount, CategoryNo, Features, Film, FilmNo, L500, LanguageNo, Minutes, Period, Rate, Rating,
@@ -35,14 +33,6 @@ pub struct FilmRow {
     pub number: FilmNo,
     pub film: Film,
     pub withdrawn: bool,
-}
-
-/// By what a rental of a film is charged.
-#[derive(Clone, Copy)]
-pub struct FilmTerms {
-    pub rate: Rate,
-    /// For how many days it is rented.
-    pub period: u8,
 }
 
 /// The numbers of the film, of its language and of its category, and whether it is withdrawn.
@@ -157,31 +147,6 @@ pub fn film_withdrawn<S: Alter>(
 {
     let rows = query(tx, SELECT_WITHDRAWN, &[film.get().to_sql()])?;
     first_of(rows.as_slice(), |row| flag_at(row, 0))
-}
-
-/// By what a rental is charged by the row.
-fn rental_terms_in(row: &Row) -> Result<FilmTerms, StoreFault>
-    ensures { IfOk result (λ it. (column row.now 0 ≡ number_value it.rate) × (column row.now 1 ≡ number_value it.period)) }
-{
-    Ok(FilmTerms {
-        rate: rate_at(row, 0)?,
-        period: days_at(row, 1)?,
-    })
-}
-
-const SELECT_TERMS: &str = "SELECT rate, period FROM film WHERE number = ?1";
-
-/// By what a rental of the film of the number is charged, where there is such a film.
-pub fn film_terms<S: Alter>(
-    tx: &mut Transaction<'_, S>,
-    film: FilmNo,
-) -> Result<Option<FilmTerms>, StoreFault>
-    ensures inside { StaysInside S.Store tx.old.conn tx.new.conn result }
-    ensures found { Finds (state S.Store tx.old.conn.now) (state S.Store tx.new.conn.now) result
-        (λ terms books. option_map seen_terms terms ≡ head (map terms_of (at film books.catalogue.films))) }
-{
-    let rows = query(tx, SELECT_TERMS, &[film.get().to_sql()])?;
-    first_of(rows.as_slice(), rental_terms_in)
 }
 
 const SELECT_TITLE: &str = "SELECT title FROM film WHERE number = ?1";

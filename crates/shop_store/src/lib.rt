@@ -1,6 +1,6 @@
-//! Rows of a branch's tables, customers, copies, lots, rentals and payments, and rows that all branches share: whose token it is, what there is of each
-//! table, how rows are added and what is set in them. One function a statement; each works inside a transaction of the caller's, and tells what it found or
-//! made of the books that the tables stand for.
+//! Rows of a branch's tables, customers, copies, lots, rentals with their terms and payments, and rows that all branches share: whose token it is, what
+//! there is of each table, how rows are added and what is set in them; and the chain's rule. One function a statement; each works inside a transaction of the
+//! caller's, and tells what it found or made of the books that the tables stand for.
 #![tactic(auto)]
 
 mod branches;
@@ -17,18 +17,17 @@ mod puts;
 mod rentals;
 mod rows;
 mod staff;
+mod terms;
 
 pub use branches::{branch_manager, branch_with, set_manager};
-pub use chain::{is_office, office_token};
+pub use chain::{is_office, office_token, rule_at, set_rule};
 pub use copies::{
     CopyRow, CopyState, copies_in_state, copies_of_film, copy_at, has_lot, put_copy, put_lot,
     set_state,
 };
 pub use counts::{put_count, put_counts};
 pub use customers::{CustomerRow, customer_at, put_customer, set_active};
-pub use films::{
-    FilmRow, FilmTerms, film_row, film_terms, film_title, film_withdrawn, set_rate, set_withdrawn,
-};
+pub use films::{FilmRow, film_row, film_title, film_withdrawn, set_rate, set_withdrawn};
 pub use lasts::{
     last_actor, last_branch, last_category, last_city, last_country, last_film, last_language,
     last_staff,
@@ -47,3 +46,4 @@ pub use rows::{
     is_country, is_language,
 };
 pub use staff::{set_gone, staff_at};
+pub use terms::{TermsRow, put_terms, terms_at};

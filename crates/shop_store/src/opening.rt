@@ -7,6 +7,7 @@ ghost use Rattle.sql_rows.specs.Calls.{StaysInside, StaysWithin};
 ghost use Rattle.shop_model.specs.Opening.{token_of, opening_books};
 ghost use Rattle.shop_schema.specs.Counts.{no_counts};
 ghost use Rattle.shop_schema.specs.Shop.{IsShop, IsKeyed, HaveNoRows, Holds, HoldsWith, first_books};
+ghost use Rattle.shop_store.specs.New.{IsRuled};
 ghost use Rattle.shop_store.specs.Runs.{Runs};
 
 use crate::counts::{put_count, put_counts};
@@ -40,25 +41,37 @@ const ROWS: [&str; 21] = [
     "INSERT INTO staff (number, branch, first, last, address, postal, phone, city, gone) VALUES (3, 3, 'KIM', 'ROSS', '2 Side', '', '', 3, 0)",
 ];
 
-const INSERT_CHAIN: &str = "INSERT INTO chain (version, office_token) VALUES (1, ?1)";
+const INSERT_RULE: &str = "INSERT INTO chain_rule (comment_rule) VALUES (0)";
 
-/// Gives new tables their row of the table `chain`, and no count. After a fault the transaction may be rolled back.
-fn put_chain<S: Alter>(tx: &mut Transaction<'_, S>, token: &Token) -> Result<(), StoreFault>
+/// Gives new tables the row of their rule: the manual's code. After a fault the transaction may be rolled back.
+fn put_rule<S: Alter>(tx: &mut Transaction<'_, S>) -> Result<(), StoreFault>
     ensures inside { StaysInside S.Store tx.old.conn tx.new.conn result }
     ensures put { HasCleanDisk (state S.Store tx.new.conn.now)
         → OnOk result (IsShop (state S.Store tx.old.conn.now) → IsKeyed (state S.Store tx.old.conn.now) → HaveNoRows (state S.Store tx.old.conn.now).now.trees
-        → HoldsWith no_counts (state S.Store tx.new.conn.now) (first_books token.now)) }
+        → IsRuled (state S.Store tx.new.conn.now)) }
+{
+    execute(tx, INSERT_RULE, &[])
+}
+
+const INSERT_CHAIN: &str = "INSERT INTO chain (version, office_token) VALUES (2, ?1)";
+
+/// Gives new tables that have their rule their row of the table `chain`, and no count. After a fault the transaction may be rolled back.
+fn put_chain<S: Alter>(tx: &mut Transaction<'_, S>, token: &Token) -> Result<(), StoreFault>
+    ensures inside { StaysInside S.Store tx.old.conn tx.new.conn result }
+    ensures put { HasCleanDisk (state S.Store tx.new.conn.now)
+        → OnOk result (IsRuled (state S.Store tx.old.conn.now) → HoldsWith no_counts (state S.Store tx.new.conn.now) (first_books token.now)) }
 {
     execute(tx, INSERT_CHAIN, &[ValueRef::Text(token.as_bytes())])
 }
 
-/// Gives new tables head office's token and its count, so that they are those of a chain with no shared row. After a fault the transaction may be rolled back.
+/// Gives new tables their rule, head office's token and its count, so that they are those of a chain with no shared row. After a fault the transaction may be rolled back.
 pub fn put_token<S: Alter>(tx: &mut Transaction<'_, S>, token: &Token) -> Result<(), StoreFault>
     ensures inside { StaysInside S.Store tx.old.conn tx.new.conn result }
     ensures put { HasCleanDisk (state S.Store tx.new.conn.now)
         → OnOk result (IsShop (state S.Store tx.old.conn.now) → IsKeyed (state S.Store tx.old.conn.now) → HaveNoRows (state S.Store tx.old.conn.now).now.trees
         → Holds (state S.Store tx.new.conn.now) (first_books token.now)) }
 {
+    put_rule(tx)?;
     put_chain(tx, token)?;
     put_count(tx, 0, 4, 0)
 }

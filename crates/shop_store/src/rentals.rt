@@ -4,7 +4,7 @@ ghost use Rattle.sqlite.specs.Values.{bound};
 ghost use Rattle.sql_rows.specs.Calls.{StaysInside};
 ghost use Rattle.std.specs.List.{list_any};
 ghost use Rattle.shop_model.specs.Calendar.{moment_text, same_moment};
-ghost use Rattle.shop_model.specs.Rows.{at, of, set_row};
+ghost use Rattle.shop_model.specs.Rows.{at, is_of, of, set_row};
 ghost use Rattle.shop_types.specs.Seen.{seen_rental};
 ghost use Rattle.shop_schema.specs.Calls.{Finds, Stores};
 ghost use Rattle.shop_schema.specs.Columns.{rental_columns};
@@ -130,6 +130,8 @@ pub fn rentals_of_customer<S: Alter>(
     ensures inside { StaysInside S.Store tx.old.conn tx.new.conn result }
     ensures rows { Finds (state S.Store tx.old.conn.now) (state S.Store tx.new.conn.now) result
         (λ rows books. map (λ row. seen_rental row.rental) rows.items ≡ filter (λ it. it.customer == customer) (of branch books.rentals)) }
+    ensures numbered { Finds (state S.Store tx.old.conn.now) (state S.Store tx.new.conn.now) result
+        (λ rows books. map (λ row. seen_rental_row row) rows.items ≡ filter (λ row. is_of branch row && row.it.customer == customer) books.rentals) }
 {
     let rows = query(
         tx,

@@ -8,6 +8,7 @@ use Rattle.shop_types.specs.declared.audit.Audit.{Audit}
 use Rattle.shop_types.specs.declared.person.Person.{Person}
 use Rattle.shop_types.specs.declared.person.Customer.{Customer}
 use Rattle.shop_types.specs.declared.rental.Rental.{Rental}
+use Rattle.shop_types.specs.declared.rental.Terms.{Terms}
 use Rattle.shop_types.specs.declared.payment.Payment.{Payment}
 use Rattle.shop_types.specs.declared.custody.Mark.{Mark}
 use Rattle.shop_types.specs.declared.custody.Place.{Place}
@@ -21,6 +22,8 @@ use Rattle.shop_types.specs.declared.catalogue.Actor.{Actor}
 use Rattle.shop_types.specs.declared.catalogue.Branch.{Branch}
 use Rattle.shop_types.specs.declared.catalogue.Staff.{Staff}
 use Rattle.shop_types.specs.declared.film.Film.{Film}
+use Rattle.shop_types.specs.declared.rule.Rule.{Rule}
+use Rattle.shop_types.specs.declared.rule.Rule.TheVariants as rule
 use Rattle.shop_types.specs.declared.office.OfficeAct.{OfficeAct}
 use Rattle.shop_types.specs.declared.office.OfficeAct.TheVariants as office
 use Rattle.shop_types.specs.declared.office.OfficeCommand.{OfficeCommand}
@@ -63,6 +66,9 @@ seen_rental rental = record {
   returned = rental.returned;
   staff = rental.staff;
 }
+
+abbrev pub seen_terms : Terms → model.Terms
+seen_terms terms = record { rate = terms.rate; period = terms.period; replacement = terms.replacement }
 
 abbrev pub seen_payment : Payment → model.Payment
 seen_payment payment = record {
@@ -151,6 +157,10 @@ seen_branch branch = record {
 abbrev pub seen_staff : Staff → model.Staff
 seen_staff staff = record { branch = staff.branch; person = seen_person staff.person; gone = false }
 
+abbrev pub seen_rule : Rule → model.Rule
+seen_rule rule.ByCode = model.ByCode
+seen_rule rule.ByComment = model.ByComment
+
 abbrev pub seen_office_act : OfficeAct → model.OfficeAct
 seen_office_act (office.Country name) = model.AddCountry name
 seen_office_act (office.City city) = model.AddCity (seen_city city)
@@ -165,6 +175,7 @@ seen_office_act (office.Branch branch) = model.AddBranch (seen_branch branch)
 seen_office_act (office.Staff staff) = model.AddStaff (seen_staff staff)
 seen_office_act (office.Leave staff) = model.StaffLeaves staff
 seen_office_act (office.Manager branch staff) = model.SetManager branch staff
+seen_office_act (office.Rule it) = model.ChooseRule (seen_rule it)
 
 abbrev pub seen_office : OfficeCommand → model.OfficeCommand
 seen_office command = record { key = command.key; act = seen_office_act command.act }

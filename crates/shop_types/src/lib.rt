@@ -18,6 +18,7 @@ mod refusal;
 mod rental;
 mod reply;
 mod request;
+mod rule;
 mod stock_file;
 mod words;
 
@@ -35,9 +36,10 @@ pub use parcel::{ParcelLine, ParcelLines};
 pub use payment::Payment;
 pub use person::{Customer, Person};
 pub use refusal::{BadCsv, Refusal};
-pub use rental::Rental;
+pub use rental::{Rental, Terms};
 pub use reply::{Body, Reply};
 pub use request::{Ask, Caller, OfficeAsk, Request, View};
+pub use rule::Rule;
 pub use shop_values::{
     ActorNo, Amount, BranchNo, CategoryNo, Cents, CityNo, ConsignmentNo, CopyNo, CountryNo,
     CustomerNo, FilmNo, Key, L45, L500, LanguageNo, Limits, LineNo, LotName, Moment, Name,

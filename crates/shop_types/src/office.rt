@@ -1,4 +1,4 @@
-use crate::{Actor, Branch, City, Film, Staff};
+use crate::{Actor, Branch, City, Film, Rule, Staff};
 use shop_values::{ActorNo, BranchNo, FilmNo, Key, Rate, StaffNo, T45};
 
 /// What a command of head office does to the catalogue.
@@ -22,6 +22,8 @@ pub enum OfficeAct {
     Leave(StaffNo),
     /// Makes a member of staff of the branch its manager.
     Manager { branch: BranchNo, staff: StaffNo },
+    /// Chooses by which rule balances go, for the whole chain.
+    Rule(Rule),
 }
 
 /// A command of head office.

@@ -1,4 +1,5 @@
-use shop_values::{CopyNo, CustomerNo, Moment, StaffNo};
+use crate::Period;
+use shop_values::{Amount, CopyNo, CustomerNo, Moment, Rate, StaffNo};
 
 /// A rental of a branch. Its number is that of its row. A copy has one open rental at most.
 #[derive(Clone, Copy)]
@@ -10,4 +11,12 @@ pub struct Rental {
     pub returned: Option<Moment>,
     /// Who gave the command by which it was rented.
     pub staff: StaffNo,
+}
+
+/// By what a rental is charged: its film's rate, period and replacement cost, as they were when it began.
+#[derive(Clone, Copy)]
+pub struct Terms {
+    pub rate: Rate,
+    pub period: Period,
+    pub replacement: Amount,
 }

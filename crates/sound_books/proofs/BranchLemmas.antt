@@ -2,21 +2,23 @@
 use Rattle.std.proofs.Common.{◌≡◌, ◌&&◌, ◌==◌, ℕ, List, map, filter, length, Bool, true, sym, ap, subst, ◌∙◌, arith, nat_le, Option}
 use Rattle.std.specs.List.{list_all}
 use Rattle.std.specs.Str.{bytes_eq}
+use Rattle.std.proofs.lemmas.Bool.Decides.{nat_tests}
 use Rattle.std.proofs.lemmas.List.Sorted.{length_permutation}
 use Rattle.sqlite_keyed.proofs.ListLemmas.{IsPermutation-filter}
 use Rattle.shop_model.specs.Calendar.{Moment, seconds_of}
 use Rattle.shop_model.specs.Rows.{Row, Owned, is_of, IsCounted, AreNumbered}
-use Rattle.shop_model.specs.Values.{Text, Customer, Copy, Rental, Payment, Rules}
+use Rattle.shop_model.specs.Values.{Text, Customer, Copy, Rental, Terms, Payment, Rules}
 use Rattle.shop_model.specs.Shop.{Kept, Shop}
 use Rattle.shop_model.specs.GoodShop.{is_within, rental_by, are_apart, rises, IsGoodShop}
 use Rattle.shop_model.specs.Links.{has_row, are_different, is_staff_of, pays_for}
 use Rattle.shop_model.specs.Books.{Books, BookCopy, Consignment, shop_of, unmarked, as_parcel}
-use Rattle.shop_model.specs.Sound.{HasOneHolder, widest}
+use Rattle.shop_model.specs.Sound.{HasOneHolder, HasTerms, widest}
 use Rattle.shop_types.specs.Seen.{seen_rental, seen_payment}
 use Rattle.book_checks.specs.declared.books.OrderedBooks.{OrderedBooks}
 use Rattle.book_checks.specs.declared.rows.CustomerRow.{CustomerRow}
 use Rattle.book_checks.specs.declared.rows.CopyRow.{CopyRow}
 use Rattle.book_checks.specs.declared.rows.RentalRow.{RentalRow}
+use Rattle.book_checks.specs.declared.rows.TermsRow.{TermsRow}
 use Rattle.book_checks.specs.declared.rows.PaymentRow.{PaymentRow}
 use Rattle.book_checks.specs.declared.rows.LotRow.{LotRow}
 use Rattle.book_checks.specs.declared.rows.KeptRow.{KeptRow}
@@ -25,8 +27,8 @@ use Rattle.book_checks.specs.Lists.{counts_from, rises_from}
 use Rattle.book_checks.specs.Joins.{Header, header}
 use Rattle.book_checks.specs.Seen.{seen_copy, seen_rental_row, seen_payment_row, seen_header, shop_copy}
 use Rattle.book_checks.specs.Shops.{is_among, open_keys, is_held_here}
-use Rattle.sound_books.specs.Parts.{PartRows, branch_rows, is_numbered, is_sized, is_timely, has_places, has_people, has_payers, is_held, is_good_part}
-use Rattle.book_checks.specs.Ordered.{AreOrdered, HaveOrderedRows, customer_row, lot_row, kept_row}
+use Rattle.sound_books.specs.Parts.{PartRows, branch_rows, is_numbered, is_termed, is_sized, is_timely, has_places, has_people, has_payers, is_held, is_good_part}
+use Rattle.book_checks.specs.Ordered.{AreOrdered, HaveOrderedRows, customer_row, terms_row, lot_row, kept_row}
 use Rattle.book_checks.proofs.Keys.{both}
 use Rattle.book_checks.proofs.Maps.{map-twice, all-map, filter-map, length-map}
 use Rattle.book_checks.proofs.Tests.{all_congr, all_and, moved, le_from, le_to}
@@ -35,12 +37,20 @@ use Rattle.sound_books.proofs.ConsignmentLemmas.{counted_is, is_counted}
 use Rattle.sound_books.proofs.CatalogueLemmas.{city_named, film_named, staff_is}
 use Rattle.sound_books.proofs.PlaceLemmas.{headers_are}
 
+same_number : (n m : ℕ) → (n == m) ≡ true → n ≡ m
+same_number n m h = grind (arith, nat_tests)
+
+one_number : (n m : ℕ) → n ≡ m → (n == m) ≡ true
+one_number n m h = grind (arith, nat_tests)
+
 -- what soundness says of one branch, as far as its own rows and the shared ones show it
 pub record BranchFacts (rules : Rules) (b : ℕ) (books : Books) : Type 0 where
   pub customers : AreNumbered (is_of b) (λ row. row.number) books.customers
   pub copies : AreNumbered (is_of b) (λ row. row.number) books.copies
   pub rentals : AreNumbered (is_of b) (λ row. row.number) books.rentals
+  pub terms : AreNumbered (is_of b) (λ row. row.number) books.terms
   pub payments : AreNumbered (is_of b) (λ row. row.number) books.payments
+  pub termed : HasTerms (shop_of b books)
   pub held : HasOneHolder (shop_of b books)
   pub shop : IsGoodShop (widest rules) (shop_of b books)
   pub customer_cities : list_all (λ (it : Customer). has_row books.catalogue.cities it.person.city) (shop_of b books).customers ≡ true
@@ -69,6 +79,9 @@ module _ (rows : OrderedBooks) (books : Books) (o : AreOrdered rows) (s : HaveOr
 
   own_rentals : filter (is_of b) books.rentals ≡ map seen_rental_row part.rentals
   own_rentals = ap (filter (is_of b)) s.rentals ∙ filter-map (is_of b) seen_rental_row rows.rentals.items
+
+  own_terms : map terms_row (filter (is_of b) books.terms) ≡ part.terms
+  own_terms = sym (filter-map (λ (row : TermsRow). row.branch == b) terms_row books.terms) ∙ ap (filter (λ (row : TermsRow). row.branch == b)) s.terms
 
   own_payments : filter (is_of b) books.payments ≡ map seen_payment_row part.payments
   own_payments = ap (filter (is_of b)) s.payments ∙ filter-map (is_of b) seen_payment_row rows.payments.items
@@ -107,6 +120,9 @@ module _ (rows : OrderedBooks) (books : Books) (o : AreOrdered rows) (s : HaveOr
   rentals_length : length part.rentals ≡ length shop.rentals
   rentals_length = sym (length-map (λ (row : RentalRow). seen_rental row.rental) part.rentals) ∙ sym (ap length rentals_are)
 
+  terms_length : length part.terms ≡ length shop.terms
+  terms_length = sym (ap length own_terms) ∙ length-map terms_row (filter (is_of b) books.terms) ∙ sym (length-map (λ (row : Row Terms). row.it) (filter (is_of b) books.terms))
+
   payments_length : length part.payments ≡ length shop.payments
   payments_length = sym (length-map (λ (row : PaymentRow). seen_payment row.payment) part.payments) ∙ sym (ap length payments_are)
 
@@ -144,6 +160,9 @@ module _ (rows : OrderedBooks) (books : Books) (o : AreOrdered rows) (s : HaveOr
 
   rental_numbers : map (λ (row : Row Rental). row.number) (filter (is_of b) books.rentals) ≡ map (λ (row : RentalRow). row.number) part.rentals
   rental_numbers = ap (map (λ (row : Row Rental). row.number)) own_rentals ∙ map-twice (λ (row : Row Rental). row.number) seen_rental_row part.rentals
+
+  terms_numbers : map (λ (row : TermsRow). row.number) part.terms ≡ map (λ (row : Row Terms). row.number) (filter (is_of b) books.terms)
+  terms_numbers = ap (map (λ (row : TermsRow). row.number)) (sym own_terms) ∙ map-twice (λ (row : TermsRow). row.number) terms_row (filter (is_of b) books.terms)
 
   payment_numbers : map (λ (row : Row Payment). row.number) (filter (is_of b) books.payments) ≡ map (λ (row : PaymentRow). row.number) part.payments
   payment_numbers = ap (map (λ (row : Row Payment). row.number)) own_payments ∙ map-twice (λ (row : Row Payment). row.number) seen_payment_row part.payments
@@ -210,13 +229,15 @@ module _ (rows : OrderedBooks) (books : Books) (o : AreOrdered rows) (s : HaveOr
 
     pub facts_from_part : (rules : Rules) → is_good_part rows b last part ≡ true → BranchFacts rules b books
     facts_from_part rules h =
-        let a6 = both (is_numbered part && is_sized part && is_timely last part && has_places rows part && has_people b rows.staff.items part && has_payers b rows.staff.items part) (is_held part) h in
-        let a5 = both (is_numbered part && is_sized part && is_timely last part && has_places rows part && has_people b rows.staff.items part) (has_payers b rows.staff.items part) a6.0 in
-        let a4 = both (is_numbered part && is_sized part && is_timely last part && has_places rows part) (has_people b rows.staff.items part) a5.0 in
-        let a3 = both (is_numbered part && is_sized part && is_timely last part) (has_places rows part) a4.0 in
-        let a2 = both (is_numbered part && is_sized part) (is_timely last part) a3.0 in
-        let a1 = both (is_numbered part) (is_sized part) a2.0 in
-        let n3 = both (counts_from 1 (map (λ (row : CustomerRow). row.number) part.customers) && counts_from 1 (map (λ (row : CopyRow). row.number) part.copies) && counts_from 1 (map (λ (row : RentalRow). row.number) part.rentals)) (counts_from 1 (map (λ (row : PaymentRow). row.number) part.payments)) a1.0 in
+        let a6 = both (is_numbered part && is_termed part && is_sized part && is_timely last part && has_places rows part && has_people b rows.staff.items part && has_payers b rows.staff.items part) (is_held part) h in
+        let a5 = both (is_numbered part && is_termed part && is_sized part && is_timely last part && has_places rows part && has_people b rows.staff.items part) (has_payers b rows.staff.items part) a6.0 in
+        let a4 = both (is_numbered part && is_termed part && is_sized part && is_timely last part && has_places rows part) (has_people b rows.staff.items part) a5.0 in
+        let a3 = both (is_numbered part && is_termed part && is_sized part && is_timely last part) (has_places rows part) a4.0 in
+        let a2 = both (is_numbered part && is_termed part && is_sized part) (is_timely last part) a3.0 in
+        let a1 = both (is_numbered part && is_termed part) (is_sized part) a2.0 in
+        let a0 = both (is_numbered part) (is_termed part) a1.0 in
+        let m1 = both (counts_from 1 (map (λ (row : TermsRow). row.number) part.terms)) (length part.terms == length part.rentals) a0.1 in
+        let n3 = both (counts_from 1 (map (λ (row : CustomerRow). row.number) part.customers) && counts_from 1 (map (λ (row : CopyRow). row.number) part.copies) && counts_from 1 (map (λ (row : RentalRow). row.number) part.rentals)) (counts_from 1 (map (λ (row : PaymentRow). row.number) part.payments)) a0.0 in
         let n2 = both (counts_from 1 (map (λ (row : CustomerRow). row.number) part.customers) && counts_from 1 (map (λ (row : CopyRow). row.number) part.copies)) (counts_from 1 (map (λ (row : RentalRow). row.number) part.rentals)) n3.0 in
         let n1 = both (counts_from 1 (map (λ (row : CustomerRow). row.number) part.customers)) (counts_from 1 (map (λ (row : CopyRow). row.number) part.copies)) n2.0 in
         let z6 = both (nat_le part.kept 1000000 && nat_le (length part.copies) 1000000 && nat_le (length part.customers) part.kept && nat_le (length part.rentals) part.kept && nat_le (length part.payments) part.kept && nat_le part.lots part.kept) (nat_le part.sent part.kept) a1.1 in
@@ -240,7 +261,9 @@ module _ (rows : OrderedBooks) (books : Books) (o : AreOrdered rows) (s : HaveOr
           customers = subst (IsCounted 1) (customer_numbers) (counted_is 1 _ n1.0);
           copies = subst (IsCounted 1) (sym copy_numbers) (counted_is 1 _ n1.1);
           rentals = subst (IsCounted 1) (sym rental_numbers) (counted_is 1 _ n2.1);
+          terms = subst (IsCounted 1) terms_numbers (counted_is 1 _ m1.0);
           payments = subst (IsCounted 1) (sym payment_numbers) (counted_is 1 _ n3.1);
+          termed = sym terms_length ∙ same_number (length part.terms) (length part.rentals) m1.1 ∙ rentals_length;
           held = record {
             one = held_from_different shop.rentals (held_once ∙ h1.1);
             here = here_from_all shop.copies shop.rentals (held_here ∙ h1.0);
@@ -276,6 +299,8 @@ module _ (rows : OrderedBooks) (books : Books) (o : AreOrdered rows) (s : HaveOr
         let n1 : counts_from 1 (map (λ (row : CopyRow). row.number) part.copies) ≡ true = is_counted 1 _ (subst (IsCounted 1) (copy_numbers) f.copies) in
         let n2 : counts_from 1 (map (λ (row : RentalRow). row.number) part.rentals) ≡ true = is_counted 1 _ (subst (IsCounted 1) (rental_numbers) f.rentals) in
         let n3 : counts_from 1 (map (λ (row : PaymentRow). row.number) part.payments) ≡ true = is_counted 1 _ (subst (IsCounted 1) (payment_numbers) f.payments) in
+        let m0 : counts_from 1 (map (λ (row : TermsRow). row.number) part.terms) ≡ true = is_counted 1 _ (subst (IsCounted 1) (sym terms_numbers) f.terms) in
+        let m1 : (length part.terms == length part.rentals) ≡ true = one_number (length part.terms) (length part.rentals) (terms_length ∙ f.termed ∙ sym rentals_length) in
         let z0 : nat_le part.kept 1000000 ≡ true = le_to part.kept 1000000 (let e = kept_length in let g = kept_length in let l = f.shop.keys in omega (arith, e, g, l)) in
         let z1 : nat_le (length part.copies) 1000000 ≡ true = le_to (length part.copies) 1000000 (let e = kept_length in let g = copies_length in let l = f.shop.copies in omega (arith, e, g, l)) in
         let z2 : nat_le (length part.customers) part.kept ≡ true = le_to (length part.customers) part.kept (let e = kept_length in let g = customers_length in let l = f.shop.customers_fit in omega (arith, e, g, l)) in
@@ -295,4 +320,4 @@ module _ (rows : OrderedBooks) (books : Books) (o : AreOrdered rows) (s : HaveOr
         let h0 : list_all (λ (row : RentalRow). is_held_here (map shop_copy part.copies) (seen_rental row.rental)) part.rentals ≡ true = sym held_here ∙ all_from_here shop.copies shop.rentals f.held.here in
         let h1 : are_different bytes_eq (open_keys (map (λ (row : RentalRow). seen_rental row.rental) part.rentals)) ≡ true = sym held_once ∙ different_from_held shop.rentals f.held.one in
         let h2 : are_apart (map (λ (row : RentalRow). seen_rental row.rental) part.rentals) ≡ true = sym (ap are_apart rentals_are) ∙ f.shop.apart in
-        (λ i. (n0 i && n1 i && n2 i && n3 i) && (z0 i && z1 i && z2 i && z3 i && z4 i && z5 i && z6 i) && (t0 i && t1 i && t2 i && t3 i && t4 i) && (p0 i && p1 i) && r i && y i && (h0 i && h1 i && h2 i))
+        (λ i. (n0 i && n1 i && n2 i && n3 i) && (m0 i && m1 i) && (z0 i && z1 i && z2 i && z3 i && z4 i && z5 i && z6 i) && (t0 i && t1 i && t2 i && t3 i && t4 i) && (p0 i && p1 i) && r i && y i && (h0 i && h1 i && h2 i))

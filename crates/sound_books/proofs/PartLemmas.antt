@@ -9,6 +9,7 @@ use Rattle.book_checks.specs.declared.rows.BranchRow.{BranchRow}
 use Rattle.book_checks.specs.declared.rows.CustomerRow.{CustomerRow}
 use Rattle.book_checks.specs.declared.rows.CopyRow.{CopyRow}
 use Rattle.book_checks.specs.declared.rows.RentalRow.{RentalRow}
+use Rattle.book_checks.specs.declared.rows.TermsRow.{TermsRow}
 use Rattle.book_checks.specs.declared.rows.PaymentRow.{PaymentRow}
 use Rattle.book_checks.specs.declared.rows.LotRow.{LotRow}
 use Rattle.book_checks.specs.declared.rows.KeptRow.{KeptRow}
@@ -25,6 +26,7 @@ pub record AreRests (books : OrderedBooks) (rest : Rest) (b : ℕ) : Type 0 wher
   pub customers : IsRest (λ (row : CustomerRow). row.branch) books.customers.items rest.customers.now b
   pub copies : IsRest (λ (row : CopyRow). row.branch) books.copies.items rest.copies.now b
   pub rentals : IsRest (λ (row : RentalRow). row.branch) books.rentals.items rest.rentals.now b
+  pub terms : IsRest (λ (row : TermsRow). row.branch) books.terms.items rest.terms.now b
   pub payments : IsRest (λ (row : PaymentRow). row.branch) books.payments.items rest.payments.now b
   pub lots : IsRest (λ (row : LotRow). row.branch) books.lots.items rest.lots.now b
   pub kept : IsRest (λ (row : KeptRow). row.branch) books.kept.items rest.kept.now b
@@ -57,14 +59,17 @@ module _ {X : Type 0} (key : X → Key) (owner : X → ℕ) (low : (x y : X) →
   whole_rest n xs rest up all e = subst (λ (ys : List X). IsRest owner xs ys 0) (sym e) (rest_begins owner xs (owners_from xs (ascending_from_climbs key xs up)) (from_one n xs all))
 
 pub rests_begin : (books : OrderedBooks) (rest : Rest) → AreOrdered books → is_owned books ≡ true → rest.customers.now ≡ books.customers.items → rest.copies.now ≡ books.copies.items
-    → rest.rentals.now ≡ books.rentals.items → rest.payments.now ≡ books.payments.items → rest.lots.now ≡ books.lots.items → rest.kept.now ≡ books.kept.items
+    → rest.rentals.now ≡ books.rentals.items → rest.terms.now ≡ books.terms.items → rest.payments.now ≡ books.payments.items → rest.lots.now ≡ books.lots.items → rest.kept.now ≡ books.kept.items
     → rest.headers.now ≡ books.headers.items → AreRests books rest 0
-rests_begin books rest o owned a b c d e f g =
+rests_begin books rest o owned a b c t d e f g =
     let n = length books.branches.items in
     let sides = both (are_rows_owned books && are_others_owned books) (are_consignments_owned books) owned in
     let two = both (are_rows_owned books) (are_others_owned books) sides.0 in
+    let last = both (list_all (λ (row : CustomerRow). is_among n row.branch) books.customers.items && list_all (λ (row : CopyRow). is_among n row.branch) books.copies.items
+    && list_all (λ (row : RentalRow). is_among n row.branch) books.rentals.items && list_all (λ (row : PaymentRow). is_among n row.branch) books.payments.items)
+    (list_all (λ (row : TermsRow). is_among n row.branch) books.terms.items) two.0 in
     let three = both (list_all (λ (row : CustomerRow). is_among n row.branch) books.customers.items && list_all (λ (row : CopyRow). is_among n row.branch) books.copies.items
-    && list_all (λ (row : RentalRow). is_among n row.branch) books.rentals.items) (list_all (λ (row : PaymentRow). is_among n row.branch) books.payments.items) two.0 in
+    && list_all (λ (row : RentalRow). is_among n row.branch) books.rentals.items) (list_all (λ (row : PaymentRow). is_among n row.branch) books.payments.items) last.0 in
     let four = both (list_all (λ (row : CustomerRow). is_among n row.branch) books.customers.items && list_all (λ (row : CopyRow). is_among n row.branch) books.copies.items)
     (list_all (λ (row : RentalRow). is_among n row.branch) books.rentals.items) three.0 in
     let five = both (list_all (λ (row : CustomerRow). is_among n row.branch) books.customers.items) (list_all (λ (row : CopyRow). is_among n row.branch) books.copies.items) four.0 in
@@ -74,6 +79,7 @@ rests_begin books rest o owned a b c d e f g =
       customers = whole_rest (λ (row : CustomerRow). row.branch ∷ row.number ∷ []) (λ row. row.branch) (λ x y h. first_low x.branch y.branch (x.number ∷ []) (y.number ∷ []) h) n books.customers.items rest.customers.now o.customers five.0 a;
       copies = whole_rest (λ (row : CopyRow). row.branch ∷ row.number ∷ []) (λ row. row.branch) (λ x y h. first_low x.branch y.branch (x.number ∷ []) (y.number ∷ []) h) n books.copies.items rest.copies.now o.copies five.1 b;
       rentals = whole_rest (λ (row : RentalRow). row.branch ∷ row.number ∷ []) (λ row. row.branch) (λ x y h. first_low x.branch y.branch (x.number ∷ []) (y.number ∷ []) h) n books.rentals.items rest.rentals.now o.rentals four.1 c;
+      terms = whole_rest (λ (row : TermsRow). row.branch ∷ row.number ∷ []) (λ row. row.branch) (λ x y h. first_low x.branch y.branch (x.number ∷ []) (y.number ∷ []) h) n books.terms.items rest.terms.now o.terms last.1 t;
       payments = whole_rest (λ (row : PaymentRow). row.branch ∷ row.number ∷ []) (λ row. row.branch) (λ x y h. first_low x.branch y.branch (x.number ∷ []) (y.number ∷ []) h) n books.payments.items rest.payments.now o.payments three.1 d;
       lots = whole_rest (λ (row : LotRow). row.branch ∷ row.name) (λ row. row.branch) (λ x y h. first_low x.branch y.branch x.name y.name h) n books.lots.items rest.lots.now o.lots six.0 e;
       kept = whole_rest (λ (row : KeptRow). row.branch ∷ row.key) (λ row. row.branch) (λ x y h. first_low x.branch y.branch x.key y.key h) n books.kept.items rest.kept.now o.kept six.1 f;

@@ -7,7 +7,7 @@ use Rattle.std.proofs.lemmas.List.Sorted.{IsPermutation-map, IsPermutation-refl,
 use Rattle.sqlite_keyed.proofs.ListLemmas.{IsPermutation-flat_map}
 use Rattle.shop_model.specs.Calendar.{Moment}
 use Rattle.shop_model.specs.Rows.{Row, Owned, at, is_empty, owned_by, numbered_from, IsCounted, AreNumbered}
-use Rattle.shop_model.specs.Values.{Text, Customer, Rental, Payment, Arrival, Rules}
+use Rattle.shop_model.specs.Values.{Text, Customer, Rental, Terms, Payment, Arrival, Rules}
 use Rattle.shop_model.specs.Shop.{Kept}
 use Rattle.shop_model.specs.Links.{has_row, are_different, is_parcel}
 use Rattle.shop_model.specs.Books.{Books, BookCopy, Line, UnderWay, Consignment, shop_of, as_arrival, as_parcel, head}
@@ -17,6 +17,7 @@ use Rattle.book_checks.specs.declared.rows.BranchRow.{BranchRow}
 use Rattle.book_checks.specs.declared.rows.CustomerRow.{CustomerRow}
 use Rattle.book_checks.specs.declared.rows.CopyRow.{CopyRow}
 use Rattle.book_checks.specs.declared.rows.RentalRow.{RentalRow}
+use Rattle.book_checks.specs.declared.rows.TermsRow.{TermsRow}
 use Rattle.book_checks.specs.declared.rows.PaymentRow.{PaymentRow}
 use Rattle.book_checks.specs.declared.rows.LotRow.{LotRow}
 use Rattle.book_checks.specs.declared.rows.KeptRow.{KeptRow}
@@ -28,7 +29,7 @@ use Rattle.book_checks.specs.Shops.{is_among}
 use Rattle.book_checks.specs.Marked.{AreInCustody}
 use Rattle.sound_books.specs.Consignments.{is_good_consignment, are_settled, is_pair, pairs_follow}
 use Rattle.sound_books.specs.Parts.{PartRows, branch_rows, is_good_part, are_good_from, is_owned, are_rows_owned, are_others_owned, are_consignments_owned}
-use Rattle.book_checks.specs.Ordered.{AreOrdered, HaveOrderedRows, customer_row, lot_row, kept_row, lasts_from}
+use Rattle.book_checks.specs.Ordered.{AreOrdered, HaveOrderedRows, customer_row, terms_row, lot_row, kept_row, lasts_from}
 use Rattle.sound_books.specs.Checked.{AreChecked}
 use Rattle.book_checks.proofs.Keys.{both, bytes_eq_symm, different-map, different_from_climbs}
 use Rattle.book_checks.proofs.Maps.{map-twice, all-map, filter-map, length-map}
@@ -101,6 +102,9 @@ module _ (rows : OrderedBooks) (books : Books) (o : AreOrdered rows) (s : HaveOr
   own_rentals : list_all (λ (row : Row Rental). has_row books.catalogue.branches row.branch) books.rentals ≡ list_all (λ (row : RentalRow). is_among count row.branch) rows.rentals.items
   own_rentals = ap (list_all (λ (row : Row Rental). has_row books.catalogue.branches row.branch)) s.rentals ∙ all-map _ seen_rental_row rows.rentals.items ∙ all_congr _ _ (λ row. branch_is row.branch) rows.rentals.items
 
+  own_terms : list_all (λ (row : Row Terms). has_row books.catalogue.branches row.branch) books.terms ≡ list_all (λ (row : TermsRow). is_among count row.branch) rows.terms.items
+  own_terms = moved terms_row books.terms rows.terms.items s.terms _ _ (λ row. branch_is row.branch)
+
   own_payments : list_all (λ (row : Row Payment). has_row books.catalogue.branches row.branch) books.payments ≡ list_all (λ (row : PaymentRow). is_among count row.branch) rows.payments.items
   own_payments = ap (list_all (λ (row : Row Payment). has_row books.catalogue.branches row.branch)) s.payments ∙ all-map _ seen_payment_row rows.payments.items ∙ all_congr _ _ (λ row. branch_is row.branch) rows.payments.items
 
@@ -130,6 +134,7 @@ module _ (rows : OrderedBooks) (books : Books) (o : AreOrdered rows) (s : HaveOr
     pub customers : list_all (λ (row : CustomerRow). is_among count row.branch) rows.customers.items ≡ true
     pub copies : list_all (λ (row : CopyRow). is_among count row.branch) rows.copies.items ≡ true
     pub rentals : list_all (λ (row : RentalRow). is_among count row.branch) rows.rentals.items ≡ true
+    pub terms : list_all (λ (row : TermsRow). is_among count row.branch) rows.terms.items ≡ true
     pub payments : list_all (λ (row : PaymentRow). is_among count row.branch) rows.payments.items ≡ true
     pub lots : list_all (λ (row : LotRow). is_among count row.branch) rows.lots.items ≡ true
     pub kept : list_all (λ (row : KeptRow). is_among count row.branch) rows.kept.items ≡ true
@@ -140,17 +145,18 @@ module _ (rows : OrderedBooks) (books : Books) (o : AreOrdered rows) (s : HaveOr
   owners_open h =
       let a2 = both (are_rows_owned rows && are_others_owned rows) (are_consignments_owned rows) h in
       let a1 = both (are_rows_owned rows) (are_others_owned rows) a2.0 in
-      let r3 = both (list_all (λ (row : CustomerRow). is_among count row.branch) rows.customers.items && list_all (λ (row : CopyRow). is_among count row.branch) rows.copies.items && list_all (λ (row : RentalRow). is_among count row.branch) rows.rentals.items) (list_all (λ (row : PaymentRow). is_among count row.branch) rows.payments.items) a1.0 in
+      let r4 = both (list_all (λ (row : CustomerRow). is_among count row.branch) rows.customers.items && list_all (λ (row : CopyRow). is_among count row.branch) rows.copies.items && list_all (λ (row : RentalRow). is_among count row.branch) rows.rentals.items && list_all (λ (row : PaymentRow). is_among count row.branch) rows.payments.items) (list_all (λ (row : TermsRow). is_among count row.branch) rows.terms.items) a1.0 in
+      let r3 = both (list_all (λ (row : CustomerRow). is_among count row.branch) rows.customers.items && list_all (λ (row : CopyRow). is_among count row.branch) rows.copies.items && list_all (λ (row : RentalRow). is_among count row.branch) rows.rentals.items) (list_all (λ (row : PaymentRow). is_among count row.branch) rows.payments.items) r4.0 in
       let r2 = both (list_all (λ (row : CustomerRow). is_among count row.branch) rows.customers.items && list_all (λ (row : CopyRow). is_among count row.branch) rows.copies.items) (list_all (λ (row : RentalRow). is_among count row.branch) rows.rentals.items) r3.0 in
       let r1 = both (list_all (λ (row : CustomerRow). is_among count row.branch) rows.customers.items) (list_all (λ (row : CopyRow). is_among count row.branch) rows.copies.items) r2.0 in
       let q1 = both (list_all (λ (row : LotRow). is_among count row.branch) rows.lots.items) (list_all (λ (row : KeptRow). is_among count row.branch) rows.kept.items) a1.1 in
       let c1 = both (list_all (λ (row : HeaderRow). is_among count row.source) rows.headers.items) (list_all (λ (row : HeaderRow). is_among count row.addressee) rows.headers.items) a2.1 in
-      record { customers = r1.0; copies = r1.1; rentals = r2.1; payments = r3.1; lots = q1.0; kept = q1.1; sources = c1.0; addressees = c1.1 }
+      record { customers = r1.0; copies = r1.1; rentals = r2.1; terms = r4.1; payments = r3.1; lots = q1.0; kept = q1.1; sources = c1.0; addressees = c1.1 }
 
   owners_from_rows : is_owned rows ≡ true → HasOwners books.catalogue.branches books
   owners_from_rows h =
       let p = owners_open h in
-      record { customers = own_customers ∙ p.customers; copies = own_copies ∙ p.copies; rentals = own_rentals ∙ p.rentals; payments = own_payments ∙ p.payments; lots = own_lots ∙ p.lots; kept = own_kept ∙ p.kept; sources = own_sources ∙ p.sources; addressees = own_addressees ∙ p.addressees; lasts = own_lasts }
+      record { customers = own_customers ∙ p.customers; copies = own_copies ∙ p.copies; rentals = own_rentals ∙ p.rentals; terms = own_terms ∙ p.terms; payments = own_payments ∙ p.payments; lots = own_lots ∙ p.lots; kept = own_kept ∙ p.kept; sources = own_sources ∙ p.sources; addressees = own_addressees ∙ p.addressees; lasts = own_lasts }
 
   rows_from_owners : HasOwners books.catalogue.branches books → is_owned rows ≡ true
   rows_from_owners g =
@@ -158,11 +164,12 @@ module _ (rows : OrderedBooks) (books : Books) (o : AreOrdered rows) (s : HaveOr
       let p1 : list_all (λ (row : CopyRow). is_among count row.branch) rows.copies.items ≡ true = sym own_copies ∙ g.copies in
       let p2 : list_all (λ (row : RentalRow). is_among count row.branch) rows.rentals.items ≡ true = sym own_rentals ∙ g.rentals in
       let p3 : list_all (λ (row : PaymentRow). is_among count row.branch) rows.payments.items ≡ true = sym own_payments ∙ g.payments in
+      let t : list_all (λ (row : TermsRow). is_among count row.branch) rows.terms.items ≡ true = sym own_terms ∙ g.terms in
       let p4 : list_all (λ (row : LotRow). is_among count row.branch) rows.lots.items ≡ true = sym own_lots ∙ g.lots in
       let p5 : list_all (λ (row : KeptRow). is_among count row.branch) rows.kept.items ≡ true = sym own_kept ∙ g.kept in
       let p6 : list_all (λ (row : HeaderRow). is_among count row.source) rows.headers.items ≡ true = sym own_sources ∙ g.sources in
       let p7 : list_all (λ (row : HeaderRow). is_among count row.addressee) rows.headers.items ≡ true = sym own_addressees ∙ g.addressees in
-      (λ i. (p0 i && p1 i && p2 i && p3 i) && (p4 i && p5 i) && (p6 i && p7 i))
+      (λ i. (p0 i && p1 i && p2 i && p3 i && t i) && (p4 i && p5 i) && (p6 i && p7 i))
 
   -- ---- custody
 
@@ -257,7 +264,7 @@ module _ (rows : OrderedBooks) (books : Books) (o : AreOrdered rows) (s : HaveOr
   parts_are k (x ∷ xs) = ap (λ t. good_at k x && t) (parts_are (k + 1) xs)
 
   abbrev empty_part : PartRows
-  empty_part = record { customers = []; copies = []; rentals = []; payments = []; lots = 0; kept = 0; sent = 0 }
+  empty_part = record { customers = []; copies = []; rentals = []; terms = []; payments = []; lots = 0; kept = 0; sent = 0 }
 
   nothing_owned : is_owned rows ≡ true → (b : ℕ) → is_among count b ≡ false → branch_rows rows b ≡ empty_part
   nothing_owned h b none =
@@ -266,6 +273,7 @@ module _ (rows : OrderedBooks) (books : Books) (o : AreOrdered rows) (s : HaveOr
         customers = none_owned (λ (row : CustomerRow). row.branch) count b none rows.customers.items p.customers i;
         copies = none_owned (λ (row : CopyRow). row.branch) count b none rows.copies.items p.copies i;
         rentals = none_owned (λ (row : RentalRow). row.branch) count b none rows.rentals.items p.rentals i;
+        terms = none_owned (λ (row : TermsRow). row.branch) count b none rows.terms.items p.terms i;
         payments = none_owned (λ (row : PaymentRow). row.branch) count b none rows.payments.items p.payments i;
         lots = length (none_owned (λ (row : LotRow). row.branch) count b none rows.lots.items p.lots i);
         kept = length (none_owned (λ (row : KeptRow). row.branch) count b none rows.kept.items p.kept i);
@@ -340,6 +348,7 @@ module _ (rows : OrderedBooks) (books : Books) (o : AreOrdered rows) (s : HaveOr
           customers = λ b. (each b).customers;
           copies = λ b. (each b).copies;
           rentals = λ b. (each b).rentals;
+          terms = λ b. (each b).terms;
           payments = λ b. (each b).payments;
           consignments = numbers_from_rows places c1.1;
         };
@@ -364,6 +373,7 @@ module _ (rows : OrderedBooks) (books : Books) (o : AreOrdered rows) (s : HaveOr
           lots = lots_differ b;
           keys = keys_differ b;
         };
+        terms = λ b. (each b).termed;
       }
 
   pub checks_from_sound : IsSound (widest rules) books → AreChecked rows books.consignments
@@ -382,7 +392,9 @@ module _ (rows : OrderedBooks) (books : Books) (o : AreOrdered rows) (s : HaveOr
           customers = g.numbers.customers b;
           copies = g.numbers.copies b;
           rentals = g.numbers.rentals b;
+          terms = g.numbers.terms b;
           payments = g.numbers.payments b;
+          termed = g.terms b;
           held = g.held b;
           shop = g.shops b;
           customer_cities = (g.links b).customer_cities;

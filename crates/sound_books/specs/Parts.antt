@@ -12,6 +12,7 @@ use Rattle.sound_books.specs.declared.branches.Part.{Part}
 use Rattle.book_checks.specs.declared.rows.CustomerRow.{CustomerRow}
 use Rattle.book_checks.specs.declared.rows.CopyRow.{CopyRow}
 use Rattle.book_checks.specs.declared.rows.RentalRow.{RentalRow}
+use Rattle.book_checks.specs.declared.rows.TermsRow.{TermsRow}
 use Rattle.book_checks.specs.declared.rows.PaymentRow.{PaymentRow}
 use Rattle.book_checks.specs.declared.rows.StaffRow.{StaffRow}
 use Rattle.book_checks.specs.declared.rows.BranchRow.{BranchRow}
@@ -27,6 +28,7 @@ pub record PartRows : Type 0 where
   pub customers : List CustomerRow
   pub copies : List CopyRow
   pub rentals : List RentalRow
+  pub terms : List TermsRow
   pub payments : List PaymentRow
   pub lots : ℕ
   pub kept : ℕ
@@ -37,6 +39,7 @@ rows_of part = record {
   customers = part.customers.now;
   copies = part.copies.now;
   rentals = part.rentals.now;
+  terms = part.terms.now;
   payments = part.payments.now;
   lots = part.lots;
   kept = part.kept;
@@ -49,6 +52,10 @@ abbrev pub is_numbered : PartRows → Bool
 is_numbered part =
     counts_from 1 (map (λ (row : CustomerRow). row.number) part.customers) && counts_from 1 (map (λ (row : CopyRow). row.number) part.copies)
     && counts_from 1 (map (λ (row : RentalRow). row.number) part.rentals) && counts_from 1 (map (λ (row : PaymentRow). row.number) part.payments)
+
+-- each rental has its terms, under its number, and there are no others
+abbrev pub is_termed : PartRows → Bool
+is_termed part = counts_from 1 (map (λ (row : TermsRow). row.number) part.terms) && length part.terms == length part.rentals
 
 abbrev pub is_sized : PartRows → Bool
 is_sized part =
@@ -93,7 +100,7 @@ is_held part =
 
 abbrev pub is_good_part : OrderedBooks → ℕ → Option Moment → PartRows → Bool
 is_good_part books b last part =
-    is_numbered part && is_sized part && is_timely last part && has_places books part && has_people b books.staff.items part && has_payers b books.staff.items part && is_held part
+    is_numbered part && is_termed part && is_sized part && is_timely last part && has_places books part && has_people b books.staff.items part && has_payers b books.staff.items part && is_held part
 
 -- ---- one branch after another
 
@@ -103,6 +110,7 @@ branch_rows books b = record {
   customers = filter (λ (row : CustomerRow). row.branch == b) books.customers.items;
   copies = filter (λ (row : CopyRow). row.branch == b) books.copies.items;
   rentals = filter (λ (row : RentalRow). row.branch == b) books.rentals.items;
+  terms = filter (λ (row : TermsRow). row.branch == b) books.terms.items;
   payments = filter (λ (row : PaymentRow). row.branch == b) books.payments.items;
   lots = length (filter (λ (row : LotRow). row.branch == b) books.lots.items);
   kept = length (filter (λ (row : KeptRow). row.branch == b) books.kept.items);
@@ -122,6 +130,7 @@ are_rows_owned books =
     && list_all (λ (row : CopyRow). is_among (length books.branches.items) row.branch) books.copies.items
     && list_all (λ (row : RentalRow). is_among (length books.branches.items) row.branch) books.rentals.items
     && list_all (λ (row : PaymentRow). is_among (length books.branches.items) row.branch) books.payments.items
+    && list_all (λ (row : TermsRow). is_among (length books.branches.items) row.branch) books.terms.items
 
 abbrev pub are_others_owned : OrderedBooks → Bool
 are_others_owned books =

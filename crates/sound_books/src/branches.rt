@@ -3,7 +3,9 @@
 ghost use Rattle.std.specs.Prelude.{◌≡◌, ◌==◌, ℕ, length};
 ghost use Rattle.book_checks.specs.Lists.{front_of, back_of};
 
-use book_checks::{CopyRow, CustomerRow, HeaderRow, KeptRow, LotRow, PaymentRow, RentalRow};
+use book_checks::{
+    CopyRow, CustomerRow, HeaderRow, KeptRow, LotRow, PaymentRow, RentalRow, TermsRow,
+};
 
 /// A row of a branch.
 pub trait Owned: Sized + Drop {
@@ -31,6 +33,14 @@ impl Owned for CopyRow {
 }
 
 impl Owned for RentalRow {
+    ghost owner = { λ row. row.branch };
+
+    fn owner(&self) -> u32 {
+        self.branch.get()
+    }
+}
+
+impl Owned for TermsRow {
     ghost owner = { λ row. row.branch };
 
     fn owner(&self) -> u32 {
@@ -90,6 +100,7 @@ pub struct Part<'a> {
     pub customers: &'a [CustomerRow],
     pub copies: &'a [CopyRow],
     pub rentals: &'a [RentalRow],
+    pub terms: &'a [TermsRow],
     pub payments: &'a [PaymentRow],
     pub lots: usize,
     pub kept: usize,
@@ -102,6 +113,7 @@ pub struct Rest<'a> {
     pub customers: &'a [CustomerRow],
     pub copies: &'a [CopyRow],
     pub rentals: &'a [RentalRow],
+    pub terms: &'a [TermsRow],
     pub payments: &'a [PaymentRow],
     pub lots: &'a [LotRow],
     pub kept: &'a [KeptRow],
@@ -113,6 +125,7 @@ pub fn take_branch<'a>(rest: Rest<'a>, branch: u32) -> (Part<'a>, Rest<'a>)
     ensures customers { result.0.customers.now ≡ front_of (λ row. row.branch == branch) rest.entry.customers.now }
     ensures copies { result.0.copies.now ≡ front_of (λ row. row.branch == branch) rest.entry.copies.now }
     ensures rentals { result.0.rentals.now ≡ front_of (λ row. row.branch == branch) rest.entry.rentals.now }
+    ensures terms { result.0.terms.now ≡ front_of (λ row. row.branch == branch) rest.entry.terms.now }
     ensures payments { result.0.payments.now ≡ front_of (λ row. row.branch == branch) rest.entry.payments.now }
     ensures lots { result.0.lots ≡ length (front_of (λ row. row.branch == branch) rest.entry.lots.now) }
     ensures kept { result.0.kept ≡ length (front_of (λ row. row.branch == branch) rest.entry.kept.now) }
@@ -120,6 +133,7 @@ pub fn take_branch<'a>(rest: Rest<'a>, branch: u32) -> (Part<'a>, Rest<'a>)
     ensures more_customers { result.1.customers.now ≡ back_of (λ row. row.branch == branch) rest.entry.customers.now }
     ensures more_copies { result.1.copies.now ≡ back_of (λ row. row.branch == branch) rest.entry.copies.now }
     ensures more_rentals { result.1.rentals.now ≡ back_of (λ row. row.branch == branch) rest.entry.rentals.now }
+    ensures more_terms { result.1.terms.now ≡ back_of (λ row. row.branch == branch) rest.entry.terms.now }
     ensures more_payments { result.1.payments.now ≡ back_of (λ row. row.branch == branch) rest.entry.payments.now }
     ensures more_lots { result.1.lots.now ≡ back_of (λ row. row.branch == branch) rest.entry.lots.now }
     ensures more_kept { result.1.kept.now ≡ back_of (λ row. row.branch == branch) rest.entry.kept.now }
@@ -128,6 +142,7 @@ pub fn take_branch<'a>(rest: Rest<'a>, branch: u32) -> (Part<'a>, Rest<'a>)
     let (customers, more_customers) = split_branch(rest.customers, branch);
     let (copies, more_copies) = split_branch(rest.copies, branch);
     let (rentals, more_rentals) = split_branch(rest.rentals, branch);
+    let (terms, more_terms) = split_branch(rest.terms, branch);
     let (payments, more_payments) = split_branch(rest.payments, branch);
     let (lots, more_lots) = split_branch(rest.lots, branch);
     let (kept, more_kept) = split_branch(rest.kept, branch);
@@ -136,6 +151,7 @@ pub fn take_branch<'a>(rest: Rest<'a>, branch: u32) -> (Part<'a>, Rest<'a>)
         customers,
         copies,
         rentals,
+        terms,
         payments,
         lots: lots.len(),
         kept: kept.len(),
@@ -145,6 +161,7 @@ pub fn take_branch<'a>(rest: Rest<'a>, branch: u32) -> (Part<'a>, Rest<'a>)
         customers: more_customers,
         copies: more_copies,
         rentals: more_rentals,
+        terms: more_terms,
         payments: more_payments,
         lots: more_lots,
         kept: more_kept,

@@ -1,7 +1,7 @@
 //! Whether what one branch has is sound.
 
-ghost use Rattle.std.specs.Prelude.{◌≡◌, ◌&&◌, ◌≤◌, true, nat_le, IfOk, map, length};
-ghost use Rattle.sound_books.specs.Parts.{is_numbered, is_sized, is_timely, is_held, is_good_part, rows_of};
+ghost use Rattle.std.specs.Prelude.{◌≡◌, ◌&&◌, ◌==◌, ◌≤◌, true, nat_le, IfOk, map, length};
+ghost use Rattle.sound_books.specs.Parts.{is_numbered, is_termed, is_sized, is_timely, is_held, is_good_part, rows_of};
 
 use crate::branches::Part;
 use crate::held::are_held_here;
@@ -25,6 +25,13 @@ fn are_numbered(part: &Part<'_>) -> bool
         && are_counted(part.copies)
         && are_counted(part.rentals)
         && are_counted(part.payments)
+}
+
+/// Whether each rental has its terms, and there are no others.
+fn are_termed(part: &Part<'_>) -> bool
+    ensures { result ≡ is_termed (rows_of part.now) }
+{
+    are_counted(part.terms) && part.terms.len() == part.rentals.len()
 }
 
 /// Whether there are no more of anything than there may be.
@@ -76,6 +83,7 @@ pub fn is_good(
 {
     let staff = books.staff.as_slice();
     if are_numbered(part)
+        && are_termed(part)
         && are_few(part)
         && are_timely(row, part)
         && have_places(books, part)

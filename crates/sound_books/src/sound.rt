@@ -47,7 +47,7 @@ fn have_addressees(headers: &[HeaderRow], branches: usize) -> bool
         .all(|row| is_among(branches, row.addressee.get()))
 }
 
-/// Whether the branches of customers, copies, rentals and payments are there.
+/// Whether the branches of customers, copies, rentals, payments and terms are there.
 fn are_rows_owned(books: &OrderedBooks) -> bool
     ensures { result ≡ are_rows_owned books.now }
 {
@@ -56,10 +56,12 @@ fn are_rows_owned(books: &OrderedBooks) -> bool
     let copies = books.copies.as_slice();
     let rentals = books.rentals.as_slice();
     let payments = books.payments.as_slice();
+    let terms = books.terms.as_slice();
     have_owners(customers, branches)
         && have_owners(copies, branches)
         && have_owners(rentals, branches)
         && have_owners(payments, branches)
+        && have_owners(terms, branches)
 }
 
 /// Whether those of lots and kept commands are there.
@@ -95,6 +97,7 @@ fn whole(books: &OrderedBooks) -> Rest<'_>
     ensures customers { result.customers.now ≡ books.now.customers.items }
     ensures copies { result.copies.now ≡ books.now.copies.items }
     ensures rentals { result.rentals.now ≡ books.now.rentals.items }
+    ensures terms { result.terms.now ≡ books.now.terms.items }
     ensures payments { result.payments.now ≡ books.now.payments.items }
     ensures lots { result.lots.now ≡ books.now.lots.items }
     ensures kept { result.kept.now ≡ books.now.kept.items }
@@ -104,6 +107,7 @@ fn whole(books: &OrderedBooks) -> Rest<'_>
         customers: books.customers.as_slice(),
         copies: books.copies.as_slice(),
         rentals: books.rentals.as_slice(),
+        terms: books.terms.as_slice(),
         payments: books.payments.as_slice(),
         lots: books.lots.as_slice(),
         kept: books.kept.as_slice(),

@@ -27,3 +27,4 @@ pub mod Drops
 pub mod TextLemmas
 pub mod EachLemmas
 pub mod Joins
+pub mod Fills

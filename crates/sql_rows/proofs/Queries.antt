@@ -1,5 +1,5 @@
 -- What a query of one table with a filter and an order shows.
-use Rattle.std.proofs.Common.{◌≡◌, ◌+◌, ◌==◌, ℕ, pos, negsuc, List, [], ◌∷◌, ◌++◌, map, filter, true, false, Bool, cond, Some, None, refl, sym, ap, subst, subst₂, ◌∙◌, arith, Ordering, is_eq, IsPermutation, int_cmp}
+use Rattle.std.proofs.Common.{◌≡◌, ◌==◌, ℕ, pos, negsuc, List, [], ◌∷◌, ◌++◌, map, filter, true, false, Bool, cond, Some, None, refl, sym, ap, subst, subst₂, ◌∙◌, arith, Ordering, is_eq, IsPermutation, int_cmp}
 use Rattle.std.specs.List.{flat_map, list_all}
 use Rattle.std.proofs.lemmas.Int.{ints}
 use Rattle.std.proofs.lemmas.Bool.Decides.{nat_tests}

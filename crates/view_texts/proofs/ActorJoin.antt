@@ -25,7 +25,7 @@ use Rattle.shop_model.proofs.LinkLemmas.{all_at}
 use Rattle.shop_schema.specs.Columns.{named_columns, actor_columns, film_columns, cast_columns}
 use Rattle.sqlite_tied.proofs.RuleLemmas.{and_true}
 use Rattle.view_texts.specs.Actors.{FilmIn, ActorLine, shown_actor, films_by_category, lines_with}
-use Rattle.view_texts.proofs.Numbers.{left_number, left_null}
+use Rattle.shop_schema.proofs.Numbers.{left_number, left_null}
 use Rattle.view_texts.proofs.Casts.{casts_of, played_by, cast_bag, there_one, any_cast, differ_in, AreApart}
 use Rattle.view_texts.proofs.ByText.{sorted_bag}
 use Rattle.view_texts.proofs.Parted.{part, parted}

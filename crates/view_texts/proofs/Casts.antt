@@ -11,7 +11,7 @@ use Rattle.shop_model.specs.Values.{Cast}
 use Rattle.shop_model.specs.Shop.{Catalogue}
 use Rattle.shop_model.specs.Links.{has_row, are_different}
 use Rattle.shop_model.proofs.FoundLemmas.{at_one}
-use Rattle.view_texts.proofs.Numbers.{numbered_at}
+use Rattle.shop_schema.proofs.Numbers.{numbered_at}
 
 -- those that pass either of two tests that never both hold
 filter_or : {X : Type 0} (p q : X → Bool) → ((x : X) → p x ≡ true → q x ≡ false) → (xs : List X) → IsPermutation (filter p xs ++ filter q xs) (filter (λ x. p x || q x) xs)

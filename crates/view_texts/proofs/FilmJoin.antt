@@ -31,7 +31,7 @@ use Rattle.shop_schema.specs.Columns.{named_columns, actor_columns, film_columns
 use Rattle.shop_store.proofs.LastNumbers.{above_from, numbered_rise}
 use Rattle.view_texts.specs.Shown.{name_or_null, FilmLine, shown_film, actors_of, lines_of, film_lines}
 use Rattle.view_texts.proofs.Orders.{less, greater, equal}
-use Rattle.view_texts.proofs.Numbers.{left_number, left_null}
+use Rattle.shop_schema.proofs.Numbers.{left_number, left_null}
 use Rattle.view_texts.proofs.Casts.{casts_of, played_by, cast_bag, there_one, any_cast, differ_in, AreApart, AreThere}
 use Rattle.view_texts.proofs.FilmQuery.{select_films, films_query, films_mean, film_shows, film_order, with_actor, with_cast, with_category}
 

@@ -1,4 +1,3 @@
-pub mod Numbers
 pub mod Orders
 pub mod PageLines
 pub mod PeopleQueries

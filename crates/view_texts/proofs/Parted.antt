@@ -5,7 +5,7 @@ use Rattle.std.proofs.lemmas.List.Sorted.{IsPermutation-refl, IsPermutation-tran
 use Rattle.sqlite_keyed.proofs.ListLemmas.{map-map, filter_same, flat_map_none, flat_map_same_on, IsPermutation-same}
 use Rattle.shop_model.specs.Rows.{at, numbered}
 use Rattle.sql_rows.proofs.Queries.{kept_as_map}
-use Rattle.view_texts.proofs.Numbers.{numbered_at}
+use Rattle.shop_schema.proofs.Numbers.{numbered_at}
 use Rattle.view_texts.proofs.Casts.{turned}
 
 -- what each value brings of two kinds

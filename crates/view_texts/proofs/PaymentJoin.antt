@@ -28,7 +28,7 @@ use Rattle.shop_schema.specs.Columns.{film_columns, copy_columns, rental_columns
 use Rattle.shop_schema.specs.Shop.{IsShop, StandsFor}
 use Rattle.shop_schema.proofs.Lists.{picks_row}
 use Rattle.view_texts.specs.Payments.{category_in}
-use Rattle.view_texts.proofs.Numbers.{left_number, left_null}
+use Rattle.shop_schema.proofs.Numbers.{left_number, left_null}
 use Rattle.view_texts.proofs.Orders.{counted_rise, not_equal, not_less}
 use Rattle.view_texts.proofs.PaymentQuery.{select_payments, payments_query, payments_mean, payment_tests, payment_shows, payment_order, with_film, with_copy, with_rental}
 

@@ -19,7 +19,7 @@ use Rattle.shop_model.specs.Shop.{Catalogue}
 use Rattle.shop_model.proofs.FoundLemmas.{at_one}
 use Rattle.shop_schema.specs.Columns.{named_columns, city_columns}
 use Rattle.view_texts.specs.Shown.{name_or_null}
-use Rattle.view_texts.proofs.Numbers.{left_number, left_null}
+use Rattle.shop_schema.proofs.Numbers.{left_number, left_null}
 use Rattle.view_texts.proofs.PeopleQueries.{country_then, city_then}
 
 -- `its` is the row, with the city's number in the column `place`; `more` is joined behind; `out` is what the query shows with these two names

@@ -27,7 +27,7 @@ use Rattle.shop_schema.specs.Columns.{branch_columns, staff_columns}
 use Rattle.shop_schema.specs.Shop.{IsShop, StandsFor}
 use Rattle.shop_schema.proofs.Lasts.{numbered_counted}
 use Rattle.view_texts.specs.Sales.{manager_of, shown_store}
-use Rattle.view_texts.proofs.Numbers.{left_number, left_null, numbered_at}
+use Rattle.shop_schema.proofs.Numbers.{left_number, left_null, numbered_at}
 use Rattle.view_texts.proofs.Orders.{counted_rise, not_equal, not_less}
 use Rattle.view_texts.proofs.PersonJoin.{person_brings}
 use Rattle.view_texts.proofs.StoreQuery.{select_store, store_query, store_means, store_tests, store_shows, store_order, with_manager, with_names}

@@ -2,9 +2,9 @@
 use crate::calls::call;
 use crate::fuses::new_files;
 use crate::shops::{Shop, new_shop, opened};
-use crate::sweeps::{swept, swept_opening};
-use crate::tables::Auditing;
-use row_texts::{Fault, How, Ran, Stage, Told, remove_files};
+use crate::sweeps::{swept, swept_migration, swept_opening};
+use crate::tables::{Auditing, copied_in};
+use row_texts::{Fault, How, Ran, Stage, Told, remove_files, write_file};
 use sakila_office::run;
 use shop_types::Limits;
 use sqlite_disk::{Fuse, Memory};
@@ -22,7 +22,7 @@ pub struct Chains<'t> {
     fewer: Option<u64>,
     /// Whether the log fails.
     is_failing: bool,
-    /// Whether the next connection or opening is stopped at each call in turn.
+    /// Whether the next connection, opening or migration is stopped at each call in turn.
     is_swept: bool,
 }
 
@@ -77,14 +77,19 @@ impl Chains<'_> {
         Ok(())
     }
 
-    /// Stops the opening at each call of copies of the disks, where it is to.
-    fn stop_opening(&mut self, fault: &str) -> Result<(), Fault> {
+    /// Stops the opening or the migration at each call of copies of the disks, where it is to.
+    fn stop_opening(&mut self, fault: &str, is_migrated: bool) -> Result<(), Fault> {
         if self.is_swept {
             self.is_swept = false;
             if !fault.is_empty() {
-                return Err(Fault::Line("no opening that is refused is stopped"));
+                return Err(Fault::Line("nothing that is refused is stopped"));
             }
-            let files = swept_opening(self.alloc, self.take_mended()?.files())?;
+            let files = self.take_mended()?.files();
+            let files = if is_migrated {
+                swept_migration(self.alloc, files)?
+            } else {
+                swept_opening(self.alloc, files)?
+            };
             self.keeps(Shop::Closed(files));
         }
         Ok(())
@@ -134,10 +139,24 @@ impl Stage for Chains<'_> {
     }
 
     fn reopen(&mut self, fault: &str) -> Result<(), Fault> {
-        self.stop_opening(fault)?;
+        self.stop_opening(fault, false)?;
         let shop = self.take_mended()?.reopened(self.alloc, fault)?;
         self.keeps(shop);
         Ok(())
+    }
+
+    fn migrate(&mut self, fault: &str) -> Result<(), Fault> {
+        self.stop_opening(fault, true)?;
+        let shop = self.take_mended()?.migrated(self.alloc, fault)?;
+        self.keeps(shop);
+        Ok(())
+    }
+
+    fn save(&mut self) -> Result<(), Fault> {
+        let files = copied_in(self.alloc, self.take_mended()?.files())?;
+        let written = write_file(self.rt, files.db.inner().bytes());
+        self.keeps(Shop::Closed(files));
+        written
     }
 
     fn change(&mut self, text: &str) -> Result<(), Fault> {

@@ -60,9 +60,12 @@ pub fn opened<D: Disk + Drop>(
     found(Chain::open_files(alloc, files, limits))
 }
 
-/// Opens the files, which has to be refused with the fault of that name.
-fn refused<D: Disk + Drop>(alloc: Global, files: Files<D>, name: &str) -> Result<Shop<D>, Fault> {
-    match Chain::open_files(alloc, files, Limits::default()) {
+/// The files in which no chain was opened, which has to be refused with the fault of that name.
+fn refused<D: Disk + Drop>(
+    opened: Result<Chain<FileStore<D>>, (OpenFault, Files<D>)>,
+    name: &str,
+) -> Result<Shop<D>, Fault> {
+    match opened {
         Ok(chain) => {
             drop(chain.close());
             Err(Fault::Line("the files are opened"))
@@ -162,11 +165,22 @@ impl<D: Disk + Drop> Shop<D> {
     /// The chain that its files hold, or none where the opening has to be refused with the fault of a name.
     pub fn reopened(self, alloc: Global, fault: &str) -> Result<Shop<D>, Fault> {
         if !fault.is_empty() {
-            return refused(alloc, self.files(), fault);
+            let opened = Chain::open_files(alloc, self.files(), Limits::default());
+            return refused(opened, fault);
         }
         match self {
             Shop::Open(chain) => found(chain.reopen()),
             Shop::Closed(files) => opened(alloc, files, Limits::default()),
+        }
+    }
+
+    /// The chain that a migration makes of its files, or none where that has to be refused with the fault of a name.
+    pub fn migrated(self, alloc: Global, fault: &str) -> Result<Shop<D>, Fault> {
+        let migrated = Chain::migrate_files(alloc, self.files(), Limits::default());
+        if fault.is_empty() {
+            found(migrated)
+        } else {
+            refused(migrated, fault)
         }
     }
 

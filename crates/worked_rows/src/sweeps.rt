@@ -1,4 +1,5 @@
-//! A connection that is stopped at each call of the disks in turn, and comes again once the chain is opened again; and an opening that is stopped so.
+//! A connection that is stopped at each call of the disks in turn, and comes again once the chain is opened again; and an opening or a migration that is
+//! stopped so.
 ghost use Rattle.std.specs.Prelude.{◌<◌};
 
 use crate::fuses::{
@@ -157,5 +158,89 @@ fn sweep_opening(alloc: Global, files: &Disks) -> Result<(), Fault> {
 /// Whether the chain is opened behind an opening that is stopped at any call, and an audit says the same of it. Gives the files back as they were.
 pub fn swept_opening(alloc: Global, files: Disks) -> Result<Disks, Fault> {
     sweep_opening(alloc, &files)?;
+    Ok(files)
+}
+
+/// Head office asks for the audit, and branch 1 for the balance of its first customer.
+const AUDIT_AND_BALANCE: &[u8] =
+    b"POST /office HTTP/1.1\r\ncounter-token: 00000000000000000000000000000000\r\ncontent-length: 9\r\n\r\n[\"audit\"]GET /balance/1/9999-01-01T00:00:00 HTTP/1.1\r\ncounter-token: 11111111111111111111111111111111\r\n\r\n";
+
+/// The files of a chain of the version before, and what a chain sends into which they are migrated.
+#[derive(Clone, Copy)]
+struct Migration<'t> {
+    alloc: Global,
+    files: &'t Disks,
+    wanted: &'t [u8],
+}
+
+/// The files behind a migration, whatever becomes of it.
+fn migrated(alloc: Global, files: Disks) -> Disks {
+    match Chain::migrate_files(alloc, files, Limits::default()) {
+        Ok(chain) => chain.close(),
+        Err((_, files)) => files,
+    }
+}
+
+impl Migration<'_> {
+    /// Whether a chain is opened in these files that sends what is wanted.
+    fn sends(&self, files: Disks) -> Result<(), Fault> {
+        let (sent, left) = sent_by(self.alloc, files, AUDIT_AND_BALANCE)?;
+        drop(left);
+        match sent {
+            Some(bytes) if bytes.as_slice() == self.wanted => Ok(()),
+            _ => Err(Fault::Line("a migration that was stopped leaves something else")),
+        }
+    }
+
+    /// Whether copies of these files hold a chain that sends what is wanted, or one of the version before, which can be migrated. Files with the same bytes as those
+    /// that weren't touched can.
+    fn goes_on(&self, files: &Disks) -> Result<(), Fault> {
+        if are_same(files, self.files) {
+            return Ok(());
+        }
+        let copies = fused(self.alloc, files, NEVER)?;
+        match Chain::open_files(self.alloc, copies, Limits::default()) {
+            Ok(chain) => self.sends(chain.close()),
+            Err((OpenFault::OtherVersion, left)) => self.sends(migrated(self.alloc, left)),
+            Err((fault, left)) => {
+                drop(left);
+                Err(Fault::Opening(name_of(fault)))
+            }
+        }
+    }
+
+    /// Stops the migration at each call of a disk, from the first of so many.
+    fn stops_at_each(&self, which: Failing, made: u64) -> Result<(), Fault> {
+        for calls in 0..made {
+            let copies = fused(self.alloc, self.files, stops_behind(which, calls))?;
+            let left = migrated(self.alloc, copies);
+            self.goes_on(&left)?;
+            self.goes_on(&crashed(left))?;
+        }
+        Ok(())
+    }
+}
+
+fn sweep_migration(alloc: Global, files: &Disks) -> Result<(), Fault> {
+    let mut left = migrated(alloc, fused(alloc, files, MANY)?);
+    let made = calls_made(&mut left);
+    drop(left);
+    let made = made?;
+    let whole = migrated(alloc, fused(alloc, files, NEVER)?);
+    let (wanted, _) = undisturbed(alloc, &whole, AUDIT_AND_BALANCE)?;
+    drop(whole);
+    let swept = Migration {
+        alloc,
+        files,
+        wanted: wanted.as_slice(),
+    };
+    swept.stops_at_each(Failing::Log, made.log)?;
+    swept.stops_at_each(Failing::Database, made.db)
+}
+
+/// Whether a migration that is stopped at any call leaves the version before, which can be migrated again, or a chain that says what an undisturbed one says. Gives
+/// the files back as they were.
+pub fn swept_migration(alloc: Global, files: Disks) -> Result<Disks, Fault> {
+    sweep_migration(alloc, &files)?;
     Ok(files)
 }

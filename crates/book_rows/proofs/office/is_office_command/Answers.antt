@@ -1,6 +1,6 @@
 use Rattle.book_rows.specs.Forms.{IsOfficeForm}
 use Rattle.book_rows.proofs.ActLemmas.{chosen}
-use Rattle.book_rows.proofs.OfficeLemmas.{country, city, language, category, actor, film, price, withdraw, cast, branch, staff, leave, manager}
+use Rattle.book_rows.proofs.OfficeLemmas.{country, city, language, category, actor, film, price, withdraw, cast, branch, staff, leave, manager, choose}
 use Rattle.book_rows.proofs.office.is_office_command.Goals as goal
 
 pub returns-in-1 : goal.returns-in-1
@@ -41,3 +41,6 @@ returns-in-12 c = chosen IsOfficeForm c.args.bytes.now c.in-Some.rest.now c.in-S
 
 pub returns-in-13 : goal.returns-in-13
 returns-in-13 c = chosen IsOfficeForm c.args.bytes.now c.in-Some.rest.now c.in-Some.tag.now 13 c.is_form-in-13.result c.in-Some.ensures.cases.0 c.in-13.is c.is_form-in-13.ensures (manager c.in-Some.rest.now)
+
+pub returns-in-14 : goal.returns-in-14
+returns-in-14 c = chosen IsOfficeForm c.args.bytes.now c.in-Some.rest.now c.in-Some.tag.now 14 c.is_form-in-14.result c.in-Some.ensures.cases.0 c.in-14.is c.is_form-in-14.ensures (choose c.in-Some.rest.now)

@@ -12,7 +12,7 @@ pub returns-in_ok-find_rental-in-TakeBack-clause-found : goal.returns-in_ok-find
 returns-in_ok-find_rental-in-TakeBack-clause-found g c = λ clean. reads_as _ _ _ _ (λ books held is. λ known. rw c.in-TakeBack.is ((λ rules reads. is, tt), known)) (c.in_ok-find_rental-in-TakeBack.ensures.found clean)
 
 pub returns-in_ok-find_copy-in-Scrap-clause-found : goal.returns-in_ok-find_copy-in-Scrap-clause-found
-returns-in_ok-find_copy-in-Scrap-clause-found g c = λ clean. reads_as _ _ _ _ (λ books held is. λ known. rw c.in-Scrap.is ((λ rules reads. (is known).0, tt), (is known).1)) (c.in_ok-find_copy-in-Scrap.ensures.found clean)
+returns-in_ok-find_copy-in-Scrap-clause-found g c = λ clean. reads_as _ _ _ _ (λ books held is. λ known. rw c.in-Scrap.is ((λ rules reads. (is known).0.0, tt), (is known).1)) (c.in_ok-find_copy-in-Scrap.ensures.found clean)
 
 pub returns-in-Pay-clause-found : goal.returns-in-Pay-clause-found
 returns-in-Pay-clause-found g c = rw c.in-Pay.is (finds_beside _ _ _ c.args.films.now _ (c.find_for_payment.ensures.found c.args.command.now.at c.in-Pay.amount))

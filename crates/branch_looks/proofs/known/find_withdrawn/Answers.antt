@@ -1,4 +1,4 @@
-use Rattle.std.proofs.Common.{◌∙◌, sym, ap, Bool, Option, option_map}
+use Rattle.std.proofs.Common.{◌∙◌, sym, ap, option_map}
 use Rattle.sqlite.specs.Held.{state}
 use Rattle.film_cache.specs.declared.cache.KnownFilm.{KnownFilm}
 use Rattle.shop_schema.proofs.Readings.{reads_as}

@@ -16,7 +16,7 @@ pub returns-in-Active-clause-acted : goal.returns-in-Active-clause-acted
 returns-in-Active-clause-acted g c = λ clean. acted_as c.put_active.result (λ text. string_bytes text) c.args.branch (seen_command c.args.command.now) _ _ c.args.found.now _ _ (ap seen_act c.in-Active.is) (IfOk-weaker c.put_active.result _ _ (λ text acted rules. acted rules (seen_command c.args.command.now) c.args.found.now) (c.put_active.ensures.acted clean))
 
 pub returns-in-Rent-clause-acted : goal.returns-in-Rent-clause-acted
-returns-in-Rent-clause-acted g c = λ clean. acted_as c.add_rental.result (λ text. string_bytes text) c.args.branch (seen_command c.args.command.now) _ _ c.args.found.now _ _ (ap seen_act c.in-Rent.is) (IfOk-weaker c.add_rental.result _ _ (λ text acted rules. acted rules c.args.found.now) (c.add_rental.ensures.acted clean))
+returns-in-Rent-clause-acted g c = λ clean. acted_as c.add_rental.result (λ text. string_bytes text) c.args.branch (seen_command c.args.command.now) _ _ c.args.found.now _ _ (ap seen_act c.in-Rent.is) (IfOk-weaker c.add_rental.result _ _ (λ text acted rules. acted rules c.args.found.now refl) (c.add_rental.ensures.acted clean))
 
 pub returns-in-TakeBack-clause-acted : goal.returns-in-TakeBack-clause-acted
 returns-in-TakeBack-clause-acted g c = λ clean. acted_as c.take_back.result (λ text. string_bytes text) c.args.branch (seen_command c.args.command.now) _ _ c.args.found.now _ _ (ap seen_act c.in-TakeBack.is) (IfOk-weaker c.take_back.result _ _ (λ text acted rules. acted rules c.args.found.now refl) (c.take_back.ensures.acted clean))

@@ -48,10 +48,7 @@ returns-in_ok-look-in-Look-reading_of-clause-works g c = λ clean books holds he
     let answer = seen_reply c.in_ok-look-in-Look-reading_of.field-0 in
     let asked : seen_look c.in-Look-reading_of.it ≡ seen_ask c.in-Look.ask = sym (ap seen_reading c.in-Look-reading_of.is) ∙ c.reading_of.ensures in
     let P : Request → Type 0 = λ it. IsDone c.args.limits (Counter b) (seen_request it) answer false s2 books in
-    let told = shown.1 held.1 in (
-      subst P (sym c.in-Look.is) (kept_done c.args.limits b books (seen_request (request.Look c.in-Look.ask)) answer false s2 there.0 refl (told.0 ∙ ap (λ (a : Ask). looked b a books) asked) shown.0),
-      told.1,
-    )
+    (subst P (sym c.in-Look.is) (kept_done c.args.limits b books (seen_request (request.Look c.in-Look.ask)) answer false s2 there.0 refl (shown.1 ∙ ap (λ (a : Ask). looked b a books) asked) shown.0), held.1)
 
 pub returns-in-Arrivals-clause-works : goal.returns-in-Arrivals-clause-works
 returns-in-Arrivals-clause-works g c = λ clean books holds held.

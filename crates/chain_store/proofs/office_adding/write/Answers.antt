@@ -47,6 +47,9 @@ returns-in-Leave-clause-numbered g c = row_changed c.without_number-in-Leave.res
 pub returns-in-Manager-clause-numbered : goal.returns-in-Manager-clause-numbered
 returns-in-Manager-clause-numbered g c = row_changed c.without_number-in-Manager.result (ap seen_office_act c.in-Manager.is) (λ books. refl) c.without_number-in-Manager.ensures c.set_manager.ensures.inside c.set_manager.ensures.set
 
+pub returns-in-Rule-clause-numbered : goal.returns-in-Rule-clause-numbered
+returns-in-Rule-clause-numbered g c = row_changed c.without_number-in-Rule.result (ap seen_office_act c.in-Rule.is) (λ books. refl) c.without_number-in-Rule.ensures c.set_rule.ensures.inside c.set_rule.ensures.set
+
 pub returns-in-Branch-clause-numbered : goal.returns-in-Branch-clause-numbered
 returns-in-Branch-clause-numbered g c = of_act _ _ c.add_branch.result (ap seen_office_act c.in-Branch.is) c.add_branch.ensures.numbered
 
@@ -64,6 +67,9 @@ returns-in-Leave-clause-inside g c = put_inside c.without_number-in-Leave.result
 
 pub returns-in-Manager-clause-inside : goal.returns-in-Manager-clause-inside
 returns-in-Manager-clause-inside g c = put_inside c.without_number-in-Manager.result _ c.without_number-in-Manager.ensures c.set_manager.ensures.inside
+
+pub returns-in-Rule-clause-inside : goal.returns-in-Rule-clause-inside
+returns-in-Rule-clause-inside g c = put_inside c.without_number-in-Rule.result _ c.without_number-in-Rule.ensures c.set_rule.ensures.inside
 
 pub returns-in_ok-number-in-Country-clause-inside : goal.returns-in_ok-number-in-Country-clause-inside
 returns-in_ok-number-in-Country-clause-inside g c = added_inside c.numbered.result c.in_ok-number-in-Country.ensures c.numbered.ensures c.last_country.ensures.inside c.put_country.ensures.inside

@@ -41,6 +41,9 @@ returns-in-Staff-clause-found g c = of_act _ _ c.for_staff.result (ap seen_offic
 pub returns-in-Manager-clause-found : goal.returns-in-Manager-clause-found
 returns-in-Manager-clause-found g c = of_act _ _ c.for_manager.result (ap seen_office_act c.in-Manager.is) c.for_manager.ensures.found
 
+pub returns-in-Rule-clause-found : goal.returns-in-Rule-clause-found
+returns-in-Rule-clause-found g c = of_act _ _ c.for_rule.result (ap seen_office_act c.in-Rule.is) c.for_rule.ensures.found
+
 pub returns-in-Actor-clause-found : goal.returns-in-Actor-clause-found
 returns-in-Actor-clause-found g c = of_act {F = StoreFault} _ _ (Ok c.none.result) (ap seen_office_act c.in-Actor.is) (λ clean books holds held. (holds, tt))
 

@@ -1,6 +1,7 @@
 use Rattle.std.proofs.Common.{◌≤◌, ◌-◌, ◌*◌, length}
 use Rattle.counter_http.specs.Exchanges.{RunsOver}
 use Rattle.counter_http.specs.Served.{IsServing}
+use Rattle.counter_http.specs.declared.inbox.TheConstants.{ROOM}
 use Rattle.counter_http.proofs.connection.serve_requests.Given as goal
 
 abbrev pub invariant-requests : goal.invariant-requests
@@ -9,7 +10,7 @@ invariant-requests g l = record {
       (g.R.Read.remaining l.fn.reader) (g.R.Read.remaining l.reader)
       (g.W.Write.contents l.fn.writer) (g.W.Write.contents l.writer);
   within : l.replies ≤ l.max_requests;
-  fits : length l.inbox ≤ 73728;
+  fits : length l.inbox ≤ ROOM;
 }
 
 abbrev pub decreases-requests : goal.decreases-requests

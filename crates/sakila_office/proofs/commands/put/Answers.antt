@@ -4,8 +4,8 @@ use Rattle.sakila_office.specs.Commands.{answered}
 use Rattle.sakila_office.proofs.Books.{is_opened}
 use Rattle.sakila_office.proofs.commands.put.Goals as goal
 
-pub returns-in-Ok : goal.returns-in-Ok
-returns-in-Ok g c =
+pub returns-in-Ok-clause-puts : goal.returns-in-Ok-clause-puts
+returns-in-Ok-clause-puts g c =
     let opened = c.in-Ok.ensures.opened in
     let files = opened.0 in
     let found = opened.3 in
@@ -21,4 +21,4 @@ returns-in-Ok g c =
           let at = found.found (c.answer-reply.ensures.honest honest) books holds in
           let told = c.answer-reply.ensures.answers honest books books at in
           rw (← is_opened c.in-Ok.chain books (found.limits ∙ c.default.ensures) found.live) told;
-    }) c.tell.ensures
+    }) c.tell.ensures.told

@@ -4,8 +4,8 @@ use Rattle.sakila_office.specs.Commands.{served}
 use Rattle.sakila_office.proofs.Books.{is_opened}
 use Rattle.sakila_office.proofs.commands.serve_in.Goals as goal
 
-pub returns-in-Ok : goal.returns-in-Ok
-returns-in-Ok g c output =
+pub returns-in-Ok-clause-serves : goal.returns-in-Ok-clause-serves
+returns-in-Ok-clause-serves g c output =
     let opened = c.in-Ok.ensures.opened in
     let found = opened.3 in
     let ran = c.serve_chain-status.ensures.runs in
@@ -22,4 +22,4 @@ returns-in-Ok g c output =
           let at = found.found (c.serve_chain-status.ensures.honest honest) books holds in
           let told = ran.1 honest books books at in
           rw (← is_opened c.in-Ok.chain books (found.limits ∙ c.default.ensures) found.live) told;
-    }) c.serve_chain-status.ensures.status (Keeps-refl output)
+    }) c.serve_chain-status.ensures.status (Keeps-refl output) (Keeps-refl _)

@@ -1,4 +1,4 @@
-use Rattle.std.proofs.Common.{ap, ◌∙◌, arith, sym}
+use Rattle.std.proofs.Common.{ap, ◌∙◌, sym}
 use Rattle.sql_rows.specs.Rows.{number_value}
 use Rattle.shop_schema.specs.Versions.{version_told}
 use Rattle.shop_schema.proofs.Versions.{told_none, told_one, told_other, told_number, other_number}
@@ -12,12 +12,17 @@ returns-in-Ok-eq1 c found same =
     told_one c.index-rows-0.result c.args.rows.now found _ c.if-rows-ne1.false c.index-rows-0.is
     (ap (λ n. version_told (number_value n)) (sym c.in-Ok-eq1.field-0-test) ∙ told_number c.index-rows-0.result c.in-Ok-eq1.field-0 c.in-Ok-eq1.ensures.ok) same
 
+pub returns-in-Ok-eq2 : goal.returns-in-Ok-eq2
+returns-in-Ok-eq2 c found same =
+    told_one c.index-rows-0.result c.args.rows.now found _ c.if-rows-ne1.false c.index-rows-0.is
+    (ap (λ n. version_told (number_value n)) (sym c.in-Ok-eq2.field-0-test) ∙ told_number c.index-rows-0.result c.in-Ok-eq2.field-0 c.in-Ok-eq2.ensures.ok) same
+
 pub returns-in-Ok : goal.returns-in-Ok
 returns-in-Ok c found same =
     told_one c.index-rows-0.result c.args.rows.now found _ c.if-rows-ne1.false c.index-rows-0.is
-    (other_number c.in-Ok.field-0 c.in-Ok.field-0-test.1 ∙ told_number c.index-rows-0.result c.in-Ok.field-0 c.in-Ok.ensures.ok) same
+    (other_number c.in-Ok.field-0 c.in-Ok.field-0-test.1 c.in-Ok.field-0-test.0.1 ∙ told_number c.index-rows-0.result c.in-Ok.field-0 c.in-Ok.ensures.ok) same
 
 pub returns-in-Err-Failed : goal.returns-in-Err-Failed
 returns-in-Err-Failed c found same =
     told_one c.index-rows-0.result c.args.rows.now found _ c.if-rows-ne1.false c.index-rows-0.is
-    (told_other c.index-rows-0.result (λ some. c.in-Err-Failed.ensures.failed c.in-Err-Failed.field-0-is 1 (omega arith) some)) same
+    (told_other c.index-rows-0.result (λ n fits some. c.in-Err-Failed.ensures.failed c.in-Err-Failed.field-0-is n fits some)) same

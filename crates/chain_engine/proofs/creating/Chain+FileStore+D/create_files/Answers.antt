@@ -23,7 +23,7 @@ returns-in-Ok-clause-made g c =
       limits = refl;
       live = refl;
       honest = λ clean. (c.in_ok-conn.ensures.found (first clean)).honest;
-      made = λ clean. opened_at _ (first_books c.args.office.now) refl c.new.ensures (empty_sound widest_rules c.args.office.now) c.first_values.ensures (c.in-Ok.ensures.made clean);
+      made = λ clean. opened_at _ (first_books c.args.office.now) refl c.new.ensures c.new-in-Ok.ensures (empty_sound widest_rules c.args.office.now) c.first_values.ensures (c.in-Ok.ensures.made clean);
       none = λ clean. holds_no_table c.in_ok-conn.conn c.args.files (c.in_ok-conn.ensures.opened (first clean)) g.met.D.Disk.seen_may_stay (c.in_ok-conn.ensures.found (first clean)) c.in-Ok.ensures.none;
     }
 

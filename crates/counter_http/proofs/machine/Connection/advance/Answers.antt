@@ -1,10 +1,9 @@
-use Rattle.std.proofs.Common.{◌≡◌, [], ap, arith}
+use Rattle.std.proofs.Common.{ap, arith}
 use Rattle.counter_http.specs.Standings.{Line}
 use Rattle.counter_http.proofs.Following.{run_follows}
 use Rattle.counter_http.proofs.Runs.{run_starts}
 use Rattle.counter_http.proofs.Turns.{turn_none, turn_then, turn_on}
 use Rattle.counter_http.proofs.machine.Connection.advance.Goals as goal
-use Rattle.counter_http.proofs.machine.Connection.advance.Goals.{then-not-answer_next+in-Ok-read_more+else-not-more, else-not-answer_next}
 
 pub turn-init : goal.turn-init
 turn-init g c = record {
@@ -12,22 +11,24 @@ turn-init g c = record {
   few = omega arith;
 }
 
+pub turn-preserved-else-not-more : goal.turn-preserved-else-not-more
+turn-preserved-else-not-more g c =
+    let first = ap (λ (l : Line). l.replies) c.self.view_is in
+    let before = ap (λ (l : Line). l.replies) c.self-in-turn.view_is in
+    record {
+      turns = turn_on (turn_then (turn_on c.turn.invariant.turns (c.send.ensures.turn _)) (c.answer_next.ensures.turn _ _) (λ es more x y. run_follows es more x y))
+          (c.read_more.ensures.turn _);
+      few = omega (arith, c.send.ensures.same, c.answer_next.ensures.one, c.read_more.ensures.same.1);
+    }
+
 pub turn-preserved : goal.turn-preserved
 turn-preserved g c =
     let first = ap (λ (l : Line). l.replies) c.self.view_is in
     let before = ap (λ (l : Line). l.replies) c.self-in-turn.view_is in
-    elim c.if-not-answer_next.branch [
-      | then-not-answer_next+in-Ok-read_more+else-not-more w ↦ record {
-        turns = rw (w.self-is, w.reader-is) (turn_on (turn_then (turn_on c.turn.invariant.turns (c.send.ensures.turn _)) (c.answer_next.ensures.turn _ _)
-            (λ es more x y. run_follows es more x y)) (w.read_more.ensures.turn _));
-        few = let now = ap (λ (l : Line). l.replies) w.self-is in omega (arith, c.send.ensures.same, c.answer_next.ensures.one, w.read_more.ensures.same.1);
-      }
-      | else-not-answer_next w ↦ record {
-        turns = rw (w.self-is, w.reader-is) (turn_then (turn_on c.turn.invariant.turns (c.send.ensures.turn _)) (c.answer_next.ensures.turn _ _)
-            (λ es more x y. run_follows es more x y));
-        few = let now = ap (λ (l : Line). l.replies) w.self-is in omega (arith, c.send.ensures.same, c.answer_next.ensures.one);
-      }
-    ]
+    record {
+      turns = turn_then (turn_on c.turn.invariant.turns (c.send.ensures.turn _)) (c.answer_next.ensures.turn _ _) (λ es more x y. run_follows es more x y);
+      few = omega (arith, c.send.ensures.same, c.answer_next.ensures.one);
+    }
 
 pub returns-in_default-clause-turn : goal.returns-in_default-clause-turn
 returns-in_default-clause-turn g c = turn_on c.turn.invariant.turns (c.send.ensures.turn _)

@@ -1,11 +1,11 @@
-use Rattle.std.proofs.Common.{◌≡◌, ◌<◌, drop, [], None, refl, arith}
+use Rattle.std.proofs.Common.{drop, [], None, refl, arith}
 use Rattle.http_messages.specs.Input.{HasMessage}
 use Rattle.http_messages.specs.Shown.{message_of}
 use Rattle.shop_types.specs.Replies.{seen_reply}
 use Rattle.counter_http.specs.Exchanges.{Exchange}
 use Rattle.counter_http.specs.Served.{IsRefused}
 use Rattle.counter_http.proofs.Runs.{run_starts, run_grows}
-use Rattle.counter_http.proofs.Serving.{refused_is}
+use Rattle.counter_http.proofs.Serving.{refused_is, drop_near}
 use Rattle.counter_http.proofs.Turns.{turn_none, turn_answer, turn_refusal}
 use Rattle.counter_http.proofs.machine.Connection.answer_next.Goals as goal
 
@@ -15,7 +15,8 @@ returns-in-Whole-clause-turn g c = λ input output.
     let empty = rw (← c.self.view_is) at c.requires.empty in
     let has : HasMessage c.self.inside.inbox (message_of c.in-Whole.request) (drop c.in-Whole.len c.self.inside.inbox) = rw c.bytes.ensures.value at c.in-Whole.ensures.1 in
     let e : Exchange = record { message = message_of c.in-Whole.request; answer = seen_reply c.answer-reply.result } in
-    rw (← c.self.view_is) (turn_answer _ _ _ input output e empty live (rw c.consume.ensures has) c.put.ensures refl refl
+    let near = drop_near c.in-Whole.len c.self.inside.inbox c.self.invariant.1 in
+    rw (← c.self.view_is) (turn_answer _ _ _ input output e empty live (rw c.consume.ensures has) (rw c.consume.ensures near) c.put.ensures refl refl
     (c.ending_of-self-inside.ensures e input _ c.after_reply-after.ensures) (run_grows e c.answer-reply.ensures [] run_starts))
 
 pub returns-in-More-clause-turn : goal.returns-in-More-clause-turn
@@ -31,11 +32,14 @@ returns-in-Refused-clause-turn g c = λ input output.
 
 pub ending_of-self-inside-requires : goal.ending_of-self-inside-requires
 ending_of-self-inside-requires g c =
-    let lt = c.self.invariant (rw (← c.self.view_is) at c.requires.goes) in
+    let lt = c.self.invariant.0 (rw (← c.self.view_is) at c.requires.goes) in
     omega arith
 
 pub invariant_of-self : goal.invariant_of-self
-invariant_of-self g c = λ none.
-    let e : Exchange = record { message = message_of c.in-Whole.request; answer = seen_reply c.answer-reply.result } in
-    let goes = rw none at (c.ending_of-self-inside.ensures e None [] c.after_reply-after.ensures) in
-    omega (arith, goes.1)
+invariant_of-self g c = (
+  (λ none.
+      let e : Exchange = record { message = message_of c.in-Whole.request; answer = seen_reply c.answer-reply.result } in
+      let goes = rw none at (c.ending_of-self-inside.ensures e None [] c.after_reply-after.ensures) in
+      omega (arith, goes.1)),
+  rw c.consume.ensures (drop_near c.in-Whole.len c.self.inside.inbox c.self.invariant.1),
+)

@@ -2,7 +2,7 @@ use Rattle.std.proofs.Common.{rules, ◌≡◌, ◌≤◌, length, take, arith, 
 use Rattle.std.proofs.lemmas.List.{with_items_is, places}
 use borrow.Rule.Slice.PartMut.{put_mid}
 use Rattle.counter_http.proofs.KnownBytes.{filled_more}
-use Rattle.counter_http.proofs.inbox.Inbox.fill.Goals as goal
+use Rattle.counter_http.proofs.inbox.Inbox.read_once.Goals as goal
 
 pub returns-clause-ok : goal.returns-clause-ok
 returns-clause-ok g c =
