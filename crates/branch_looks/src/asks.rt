@@ -15,23 +15,21 @@ pub enum Look {
     HeldBy(CopyNo),
     FilmInStock(FilmNo),
     FilmNotInStock(FilmNo),
-    Balance {
-        customer: CustomerNo,
-        at: Moment,
-    },
+    Balance { customer: CustomerNo, at: Moment },
     Overdue(Moment),
-    Rewards {
-        at: Moment,
-        purchases: u32,
-        cents: u32,
-    },
 }
 
 /// How a reading is answered.
 #[derive(Clone, Copy)]
 pub enum Reading {
-    /// By a look inside a transaction.
+    /// By a look inside a transaction, which reads a row at least.
     Look(Look),
+    /// By the list of the customers who are rewarded, inside a transaction too. No row is read where a threshold is 0 or there is no month before the moment's.
+    Rewards {
+        at: Moment,
+        purchases: u32,
+        cents: u32,
+    },
     /// By the list of the consignments that were sent to the branch, outside any transaction.
     Arrivals,
     /// By the list of those that the branch sent, likewise.
@@ -55,11 +53,11 @@ pub fn reading_of(ask: Ask) -> Reading
             at,
             purchases,
             cents,
-        } => Reading::Look(Look::Rewards {
+        } => Reading::Rewards {
             at,
             purchases,
             cents,
-        }),
+        },
         Ask::Arrivals => Reading::Arrivals,
         Ask::Sent => Reading::Sent,
     }

@@ -2,7 +2,7 @@
 
 ghost use Rattle.std.specs.Prelude.{◌≡◌, ℕ, is_some, map, option_map};
 ghost use Rattle.sqlite.specs.Held.{state};
-ghost use Rattle.sql_rows.specs.Calls.{StaysWithin};
+ghost use Rattle.sql_rows.specs.Calls.{StaysInside, StaysWithin};
 ghost use Rattle.shop_model.specs.Rows.{at};
 ghost use Rattle.shop_model.specs.Stock.{is_here, held_by};
 ghost use Rattle.shop_model.specs.Books.{head, shop_of};
@@ -27,7 +27,7 @@ pub fn find_active<S: Alter>(
     branch: BranchNo,
     customer: CustomerNo,
 ) -> Result<Option<bool>, StoreFault>
-    ensures inside { StaysWithin S.Store tx.old.conn tx.new.conn result }
+    ensures inside { StaysInside S.Store tx.old.conn tx.new.conn result }
     ensures found { Finds (state S.Store tx.old.conn.now) (state S.Store tx.new.conn.now) result
         (λ found books. found ≡ active_at customer (shop_of branch books)) }
 {
@@ -53,7 +53,7 @@ pub fn find_here<S: Alter>(
     branch: BranchNo,
     copy: CopyNo,
 ) -> Result<Option<bool>, StoreFault>
-    ensures inside { StaysWithin S.Store tx.old.conn tx.new.conn result }
+    ensures inside { StaysInside S.Store tx.old.conn tx.new.conn result }
     ensures found { Finds (state S.Store tx.old.conn.now) (state S.Store tx.new.conn.now) result
         (λ found books. found ≡ head (map is_here (at copy (shop_of branch books).copies))) }
 {

@@ -16,3 +16,4 @@ mod rewards;
 pub use asks::{Look, Reading, reading_of};
 pub use commands::find_for_command;
 pub use looks::look;
+pub use reports::look_rewards;

@@ -2,7 +2,7 @@
 
 ghost use Rattle.std.specs.Prelude.{◌≡◌, ℕ, IfOk, string_bytes};
 ghost use Rattle.sqlite.specs.Held.{state};
-ghost use Rattle.sql_rows.specs.Calls.{StaysWithin};
+ghost use Rattle.sql_rows.specs.Calls.{StaysInside};
 ghost use Rattle.shop_model.specs.Values.{OneCustomer, OneFilm, InStock, HeldBy};
 ghost use Rattle.shop_model.specs.Shop.{Shop};
 ghost use Rattle.shop_model.specs.Machine.{CopiesAre};
@@ -15,7 +15,7 @@ ghost use Rattle.branch_looks.specs.Looks.{looked, seen_look};
 
 use crate::asks::Look;
 use crate::finds::{find_here, find_holder, find_of_film};
-use crate::reports::{look_balance, look_overdue, look_rewards};
+use crate::reports::{look_balance, look_overdue};
 use branch_core::{FilmCopy, film_in_stock, film_not_in_stock};
 use reply_bodies::{copies_text, customer_text, film_text, holder_text, in_stock_text};
 use shop_ledger::out_at;
@@ -25,14 +25,14 @@ use sql_rows::StoreFault;
 use sqlite::{Alter, Transaction};
 use std::alloc::Global;
 
-/// Answers a reading of a branch.
+/// Answers a reading of a branch. A row is read at least, so an answer shows that the transaction was open.
 pub fn look<S: Alter>(
     alloc: Global,
     tx: &mut Transaction<'_, S>,
     branch: BranchNo,
     ask: Look,
 ) -> Result<Reply, StoreFault>
-    ensures inside { StaysWithin S.Store tx.old.conn tx.new.conn result }
+    ensures inside { StaysInside S.Store tx.old.conn tx.new.conn result }
     ensures shown { Finds (state S.Store tx.old.conn.now) (state S.Store tx.new.conn.now) result
         (λ reply books. seen_reply reply ≡ looked branch (seen_look ask) books) }
 {
@@ -45,11 +45,6 @@ pub fn look<S: Alter>(
         Look::FilmNotInStock(film) => look_film_copies(alloc, tx, branch, film, false),
         Look::Balance { customer, at } => look_balance(alloc, tx, branch, customer, at),
         Look::Overdue(at) => look_overdue(alloc, tx, branch, at),
-        Look::Rewards {
-            at,
-            purchases,
-            cents,
-        } => look_rewards(alloc, tx, branch, at, purchases, cents),
     }
 }
 
@@ -60,7 +55,7 @@ fn look_customer<S: Alter>(
     branch: BranchNo,
     number: CustomerNo,
 ) -> Result<Reply, StoreFault>
-    ensures inside { StaysWithin S.Store tx.old.conn tx.new.conn result }
+    ensures inside { StaysInside S.Store tx.old.conn tx.new.conn result }
     ensures shown { Finds (state S.Store tx.old.conn.now) (state S.Store tx.new.conn.now) result
         (λ reply books. seen_reply reply ≡ looked branch (OneCustomer number) books) }
 {
@@ -77,7 +72,7 @@ fn look_film<S: Alter>(
     branch: BranchNo,
     number: FilmNo,
 ) -> Result<Reply, StoreFault>
-    ensures inside { StaysWithin S.Store tx.old.conn tx.new.conn result }
+    ensures inside { StaysInside S.Store tx.old.conn tx.new.conn result }
     ensures shown { Finds (state S.Store tx.old.conn.now) (state S.Store tx.new.conn.now) result
         (λ reply books. seen_reply reply ≡ looked branch (OneFilm number) books) }
 {
@@ -94,7 +89,7 @@ fn look_in_stock<S: Alter>(
     branch: BranchNo,
     copy: CopyNo,
 ) -> Result<Reply, StoreFault>
-    ensures inside { StaysWithin S.Store tx.old.conn tx.new.conn result }
+    ensures inside { StaysInside S.Store tx.old.conn tx.new.conn result }
     ensures shown { Finds (state S.Store tx.old.conn.now) (state S.Store tx.new.conn.now) result
         (λ reply books. seen_reply reply ≡ looked branch (InStock copy) books) }
 {
@@ -112,7 +107,7 @@ fn look_holder<S: Alter>(
     branch: BranchNo,
     copy: CopyNo,
 ) -> Result<Reply, StoreFault>
-    ensures inside { StaysWithin S.Store tx.old.conn tx.new.conn result }
+    ensures inside { StaysInside S.Store tx.old.conn tx.new.conn result }
     ensures shown { Finds (state S.Store tx.old.conn.now) (state S.Store tx.new.conn.now) result
         (λ reply books. seen_reply reply ≡ looked branch (HeldBy copy) books) }
 {
@@ -131,7 +126,7 @@ fn look_film_copies<S: Alter>(
     film: FilmNo,
     is_in: bool,
 ) -> Result<Reply, StoreFault>
-    ensures inside { StaysWithin S.Store tx.old.conn tx.new.conn result }
+    ensures inside { StaysInside S.Store tx.old.conn tx.new.conn result }
     ensures shown { Finds (state S.Store tx.old.conn.now) (state S.Store tx.new.conn.now) result
         (λ reply books. seen_reply reply ≡ looked branch (stock_asked is_in film) books) }
 {

@@ -3,7 +3,7 @@
 ghost use Rattle.std.specs.Prelude.{◌≡◌, [], ◌∷◌, filter, map, option_map};
 ghost use Rattle.std.specs.Option.{option_to_list};
 ghost use Rattle.sqlite.specs.Held.{state};
-ghost use Rattle.sql_rows.specs.Calls.{StaysWithin};
+ghost use Rattle.sql_rows.specs.Calls.{StaysInside, StaysWithin};
 ghost use Rattle.shop_model.specs.Rows.{at, at as at_number};
 ghost use Rattle.shop_model.specs.Books.{shop_of};
 ghost use Rattle.shop_model.specs.Stock.{film_of, is_overdue, termed};
@@ -30,7 +30,7 @@ pub fn find_overdue<S: Alter>(
     branch: BranchNo,
     at: Moment,
 ) -> Result<Vec<OverdueRow>, StoreFault>
-    ensures inside { StaysWithin S.Store tx.old.conn tx.new.conn result }
+    ensures inside { StaysInside S.Store tx.old.conn tx.new.conn result }
     ensures found { Finds (state S.Store tx.old.conn.now) (state S.Store tx.new.conn.now) result
         (λ rows books. map seen_overdue rows.items ≡ overdue_list books.catalogue (shop_of branch books) at) }
 {

@@ -2,7 +2,7 @@
 
 ghost use Rattle.std.specs.Prelude.{◌≡◌, ℕ, IfOk};
 ghost use Rattle.sqlite.specs.Held.{state};
-ghost use Rattle.sql_rows.specs.Calls.{StaysWithin};
+ghost use Rattle.sql_rows.specs.Calls.{StaysInside, StaysWithin};
 ghost use Rattle.shop_model.specs.Values.{Balance, Overdue, Rewards};
 ghost use Rattle.shop_model.specs.Shop.{Shop};
 ghost use Rattle.shop_model.specs.Stock.{balance};
@@ -32,7 +32,7 @@ pub fn look_balance<S: Alter>(
     customer: CustomerNo,
     at: Moment,
 ) -> Result<Reply, StoreFault>
-    ensures inside { StaysWithin S.Store tx.old.conn tx.new.conn result }
+    ensures inside { StaysInside S.Store tx.old.conn tx.new.conn result }
     ensures shown { Finds (state S.Store tx.old.conn.now) (state S.Store tx.new.conn.now) result
         (λ reply books. seen_reply reply ≡ looked branch (Balance customer at) books) }
 {
@@ -70,7 +70,7 @@ pub fn look_overdue<S: Alter>(
     branch: BranchNo,
     at: Moment,
 ) -> Result<Reply, StoreFault>
-    ensures inside { StaysWithin S.Store tx.old.conn tx.new.conn result }
+    ensures inside { StaysInside S.Store tx.old.conn tx.new.conn result }
     ensures shown { Finds (state S.Store tx.old.conn.now) (state S.Store tx.new.conn.now) result
         (λ reply books. seen_reply reply ≡ looked branch (Overdue at) books) }
 {

@@ -1,10 +1,11 @@
 -- What a request does inside one transaction, whoever asks it.
-use Rattle.std.specs.Prelude.{◌≡◌, ℕ, Bool, false, List, Option}
+use Rattle.std.specs.Prelude.{◌≡◌, ℕ, Bool, false, IsTrue, List, Option}
 use Rattle.sqlite.specs.State.{State}
 use Rattle.shop_values.specs.LimitValues.{Limits}
 use Rattle.shop_model.specs.Calendar.{Moment}
 use Rattle.shop_model.specs.Rows.{lacks, owned_by}
 use Rattle.shop_model.specs.Values.{Text, Command}
+use Rattle.shop_model.specs.Shop.{Catalogue}
 use Rattle.shop_model.specs.Verdict.{Verdict}
 use Rattle.shop_model.specs.Machine.{Request, Do, Done, Shown as Listed, Shows as Shown, ArrivalsAre, SentAre, reply_text, reply_by, if_accepted, view_rows}
 use Rattle.shop_model.specs.Answers.{Answer, answer_of}
@@ -63,10 +64,15 @@ IsWorked limits b request (Answered reply is_changed) new books = IsDone limits 
 IsWorked limits b request (Shows it) new books =
     (told_to limits (Counter b) request books ≡ answer_of (Shown (listed b it books))) × (left_by limits (Counter b) request books ≡ books)
 
--- and the films that are known then are rows of the same books
-abbrev pub Works : Limits → ℕ → Request → Worked → List (ℕ × CachedFilm) → List (ℕ × CachedFilm) → State → State → Type 0
-Works limits b request worked before after old new =
-    (books : Books) → Holds old books → IsHeldWith before books → IsWorked limits b request worked new books × AreRows after books.catalogue.films
+-- where it is known that the branch is there, it is
+abbrev pub IsKnown : Bool → ℕ → Catalogue → Type 0
+IsKnown is_known b catalogue = IsTrue is_known → lacks catalogue.branches b ≡ false
+
+-- where that is so, and the films that are known then are rows of the same books
+abbrev pub Works : Limits → ℕ → Bool → Request → Worked → List (ℕ × CachedFilm) → List (ℕ × CachedFilm) → State → State → Type 0
+Works limits b is_known request worked before after old new =
+    (books : Books) → Holds old books → IsHeldWith before books → IsKnown is_known b books.catalogue
+    → IsWorked limits b request worked new books × AreRows after books.catalogue.films
 
 -- the same of a branch that is there and has that last moment
 abbrev pub WorksFor : Limits → ℕ → Option Moment → Request → Answer → Bool → List (ℕ × CachedFilm) → List (ℕ × CachedFilm) → State → State → Type 0

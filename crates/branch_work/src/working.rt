@@ -1,20 +1,22 @@
 //! A branch's request inside one transaction.
 
-ghost use Rattle.std.specs.Prelude.{◌≡◌, true, IfOk};
+ghost use Rattle.std.specs.Prelude.{◌≡◌, false, true, IfOk, IfSome};
 ghost use Rattle.sqlite.specs.Held.{state};
 ghost use Rattle.sqlite.specs.State.{HasCleanDisk};
 ghost use Rattle.sql_rows.specs.Calls.{StaysInside, StaysWithin};
 ghost use Rattle.shop_model.specs.Calendar.{IsMoment};
+ghost use Rattle.shop_model.specs.Machine as model;
 ghost use Rattle.shop_model.specs.Machine.{Do};
 ghost use Rattle.shop_types.specs.Seen.{seen_command, seen_request};
 ghost use Rattle.shop_types.specs.Replies.{seen_reply};
 ghost use Rattle.shop_schema.specs.Forms.{command_form};
+ghost use Rattle.branch_looks.specs.Looks.{seen_look};
 ghost use Rattle.branch_work.specs.Works.{Works, WorksFor, WorksBy, IsAdded};
 
 use crate::adding::{carry_out, keep};
 use crate::answering::{again, refuse};
 use branch_core::{Found, RowsFound, decide};
-use branch_looks::{Reading, find_for_command, look, reading_of};
+use branch_looks::{Look, Reading, find_for_command, look, look_rewards, reading_of};
 use film_cache::FilmCache;
 use shop_ledger::{Owner, kept_at, kept_found, last_at};
 use shop_schema::{command_form, command_values};
@@ -43,8 +45,48 @@ pub enum Worked {
     Shows(Listing),
 }
 
-/// What a branch's request comes to. A command is done, and a look is answered; a list is left to the caller.
+/// What a branch's request comes to, where it is told whether the branch is known to be there. A command is done, and a look is answered; a list is left to the
+/// caller.
 pub fn work<S: Alter>(
+    alloc: Global,
+    tx: &mut Transaction<'_, S>,
+    films: &mut FilmCache,
+    limits: Limits,
+    branch: BranchNo,
+    is_known: bool,
+    request: &Request,
+) -> Result<Worked, StoreFault>
+    ensures inside { StaysInside S.Store tx.old.conn tx.new.conn result }
+    ensures works { HasCleanDisk (state S.Store tx.new.conn.now)
+        → IfOk result (λ worked. Works limits branch is_known (seen_request request.now) worked films.old films.new (state S.Store tx.old.conn.now)
+        (state S.Store tx.new.conn.now)) }
+{
+    if is_known {
+        if let Some(it) = look_of(request) {
+            return Ok(Worked::Answered {
+                reply: look(alloc, tx, branch, it)?,
+                is_changed: false,
+            });
+        }
+    }
+    work_where_found(alloc, tx, films, limits, branch, request)
+}
+
+/// The look that the request is, if it is one.
+fn look_of(request: &Request) -> Option<Look>
+    ensures { IfSome result (λ it. seen_request request.now ≡ model.Look (seen_look it)) }
+{
+    let Request::Look(ask) = request else {
+        return None;
+    };
+    match reading_of(*ask) {
+        Reading::Look(it) => Some(it),
+        Reading::Rewards { .. } | Reading::Arrivals | Reading::Sent => None,
+    }
+}
+
+/// What the request comes to, where first of all the branch is looked for.
+fn work_where_found<S: Alter>(
     alloc: Global,
     tx: &mut Transaction<'_, S>,
     films: &mut FilmCache,
@@ -54,7 +96,7 @@ pub fn work<S: Alter>(
 ) -> Result<Worked, StoreFault>
     ensures inside { StaysInside S.Store tx.old.conn tx.new.conn result }
     ensures works { HasCleanDisk (state S.Store tx.new.conn.now)
-        → IfOk result (λ worked. Works limits branch (seen_request request.now) worked films.old films.new (state S.Store tx.old.conn.now)
+        → IfOk result (λ worked. Works limits branch false (seen_request request.now) worked films.old films.new (state S.Store tx.old.conn.now)
         (state S.Store tx.new.conn.now)) }
 {
     let Some(last) = last_at(tx, branch)? else {
@@ -71,6 +113,14 @@ pub fn work<S: Alter>(
         Request::Look(ask) => match reading_of(*ask) {
             Reading::Look(it) => Ok(Worked::Answered {
                 reply: look(alloc, tx, branch, it)?,
+                is_changed: false,
+            }),
+            Reading::Rewards {
+                at,
+                purchases,
+                cents,
+            } => Ok(Worked::Answered {
+                reply: look_rewards(alloc, tx, branch, at, purchases, cents)?,
                 is_changed: false,
             }),
             Reading::Arrivals => Ok(Worked::Shows(Listing::Arrivals)),

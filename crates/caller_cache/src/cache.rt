@@ -1,12 +1,13 @@
 //! The cache of callers.
 
-ghost use Rattle.std.specs.Prelude.{◌≡◌, ◌⊎◌, ◌≤◌, [], ◌∷◌, ◌++◌, Some, length, IfSome};
+ghost use Rattle.std.specs.Prelude.{◌≡◌, ◌⊎◌, [], ◌∷◌, ◌++◌, Some, IfSome, IsTrue, false};
+ghost use Rattle.shop_model.specs.Rows.{lacks};
 ghost use Rattle.shop_model.specs.Shop.{Catalogue};
 ghost use Rattle.shop_model.specs.Books.{caller_of};
 ghost use Rattle.shop_types.specs.Seen.{seen_caller};
 ghost use Rattle.caller_cache.specs.Known.{AreCallers};
 
-use shop_types::{Caller, Token};
+use shop_types::{BranchNo, Caller, Token};
 use std::alloc::Global;
 use std::marker::Model;
 
@@ -37,14 +38,6 @@ impl CallerCache {
         }
     }
 
-    /// How many callers it has. It takes no memory.
-    pub fn len(&self) -> usize
-        ensures value { result ≡ length self.now }
-        ensures most { result ≤ 256 }
-    {
-        self.callers.len()
-    }
-
     /// The caller whose token it is, where that is known.
     pub fn known(&self, token: &Token) -> Option<Caller>
         ensures { (catalogue : Catalogue) → AreCallers self.now catalogue → IfSome result (λ caller. seen_caller caller ≡ caller_of (Some token.now) catalogue) }
@@ -55,6 +48,20 @@ impl CallerCache {
             }
         }
         None
+    }
+
+    /// Whether the branch is among them: then it is there.
+    pub fn has_branch(&self, branch: BranchNo) -> bool
+        ensures { (catalogue : Catalogue) → AreCallers self.now catalogue → IsTrue result → lacks catalogue.branches branch ≡ false }
+    {
+        for (_, caller) in &self.callers {
+            if let Caller::Branch(known) = caller {
+                if known.get() == branch.get() {
+                    return true;
+                }
+            }
+        }
+        false
     }
 
     /// Keeps whose the token is, where it is somebody's and there is room and memory for it. Where there is none, the cache stays as it is, and nobody is told.

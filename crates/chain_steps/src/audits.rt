@@ -4,11 +4,11 @@ ghost use Rattle.std.specs.Prelude.{◌≡◌, true, false, Err, IfOk};
 ghost use Rattle.sqlite.specs.Held.{state};
 ghost use Rattle.sqlite.specs.State.{HasCleanDisk, Survives};
 ghost use Rattle.shop_model.specs.Books.{Books};
-ghost use Rattle.chain_store.specs.Chains.{Rests};
-ghost use Rattle.chain_store.specs.Steps.{IsUndone};
-ghost use Rattle.chain_store.specs.Audits.{AuditsState, TellsSoundness};
+ghost use Rattle.chain_calls.specs.Chains.{Rests};
+ghost use Rattle.chain_calls.specs.Steps.{IsUndone};
+ghost use Rattle.chain_calls.specs.Audits.{AuditsState, TellsSoundness};
 
-use chain_store::read_audit;
+use chain_calls::read_audit;
 use shop_types::Audit;
 use sql_rows::StoreFault;
 use sqlite::{Alter, Connection};

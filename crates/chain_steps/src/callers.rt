@@ -4,9 +4,9 @@ ghost use Rattle.std.specs.Prelude.{◌≡◌, true, false, Err, IfOk};
 ghost use Rattle.sqlite.specs.Held.{state};
 ghost use Rattle.sqlite.specs.State.{HasCleanDisk, Survives};
 ghost use Rattle.shop_types.specs.Seen.{seen_caller};
-ghost use Rattle.chain_store.specs.Steps.{IsUndone, HasCaller};
+ghost use Rattle.chain_calls.specs.Steps.{IsUndone, HasCaller};
 
-use chain_store::find_caller;
+use chain_calls::find_caller;
 use shop_types::{Caller, Token};
 use sql_rows::StoreFault;
 use sqlite::{Alter, Connection};

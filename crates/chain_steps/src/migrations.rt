@@ -3,13 +3,13 @@
 ghost use Rattle.std.specs.Prelude.{◌≡◌, ◌≢◌, false, IfErr, OnOk};
 ghost use Rattle.sqlite.specs.Held.{state};
 ghost use Rattle.sqlite.specs.State.{HasCleanDisk, Survives};
-ghost use Rattle.chain_store.specs.Chains.{StaysAsFound};
-ghost use Rattle.chain_store.specs.Faults.{is_store_fault};
-ghost use Rattle.chain_store.specs.Files.{IsFirst, IsNeither, Knows};
-ghost use Rattle.chain_store.specs.Migrations.{IsMigration, IsUnsoundVersion1, LeavesMigrated};
+ghost use Rattle.chain_calls.specs.Chains.{StaysAsFound};
+ghost use Rattle.chain_calls.specs.Faults.{is_store_fault};
+ghost use Rattle.chain_calls.specs.Files.{IsFirst, IsNeither, Knows};
+ghost use Rattle.chain_calls.specs.Migrations.{IsMigration, IsUnsoundVersion1, LeavesMigrated};
 
 use crate::versions::chain_version;
-use chain_store::{OpenFault, first_verdict, migrate};
+use chain_calls::{OpenFault, first_verdict, migrate};
 use shop_schema::{KnownVersion, is_first_shop};
 use sqlite::{Alter, Connection};
 use std::alloc::Global;

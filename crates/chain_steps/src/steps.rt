@@ -4,9 +4,9 @@ ghost use Rattle.std.specs.Prelude.{◌≡◌, ◌≢◌, false, IfOk, IfErr};
 ghost use Rattle.sqlite.specs.Held.{state};
 ghost use Rattle.sqlite.specs.State.{HasCleanDisk, Survives};
 ghost use Rattle.shop_types.specs.Replies.{seen_reply};
-ghost use Rattle.chain_store.specs.Steps.{IsMade, IsUndone, LeavesAfter, LeavesEitherOf, asker, asked_of};
+ghost use Rattle.chain_calls.specs.Steps.{IsHeldBy, IsKnownFor, IsMade, IsUndone, LeavesAfter, LeavesEitherOf, asker, asked_of};
 
-use chain_store::{Asked, Work, is_open, show, work_of};
+use chain_calls::{Asked, Work, is_open, show, work_of};
 use film_cache::FilmCache;
 use shop_types::{Limits, Reply};
 use sql_rows::{StoreFault, fault_of};
@@ -24,13 +24,14 @@ pub fn step<S: Alter>(
     requires { conn.old.in_transaction ≡ false }
     ensures ended { conn.new.in_transaction ≡ false }
     ensures made { HasCleanDisk (state S.Store conn.new)
-        → IfOk result (λ reply. IsMade limits (asker asked.now) (asked_of asked.now) (seen_reply reply) films.old films.new (state S.Store conn.old)
-        (state S.Store conn.new)) }
+        → IfOk result (λ reply. IsMade limits (asker asked.now) (asked_of asked.now) (seen_reply reply) (IsHeldBy (IsKnownFor asked.now) films.old) films.new
+        (state S.Store conn.old) (state S.Store conn.new)) }
     ensures undone { HasCleanDisk (state S.Store conn.new)
         → IfErr result (λ fault. (fault ≢ StoreFault.Failed → IsUndone (state S.Store conn.old) (state S.Store conn.new))
-        × LeavesEitherOf limits (asker asked.now) (asked_of asked.now) films.old (state S.Store conn.old) (state S.Store conn.new)) }
+        × LeavesEitherOf limits (asker asked.now) (asked_of asked.now) (IsHeldBy (IsKnownFor asked.now) films.old) (state S.Store conn.old)
+        (state S.Store conn.new)) }
     ensures crash { Survives (state S.Store conn.old) (state S.Store conn.new)
-        (LeavesAfter limits (asker asked.now) (asked_of asked.now) films.old (state S.Store conn.old)) }
+        (LeavesAfter limits (asker asked.now) (asked_of asked.now) (IsHeldBy (IsKnownFor asked.now) films.old) (state S.Store conn.old)) }
 {
     let mut tx = conn.transaction();
     let fault = match work_of(alloc, &mut tx, films, limits, asked) {

@@ -4,11 +4,11 @@ ghost use Rattle.std.specs.Prelude.{◌≡◌, ◌≢◌, ◌⊎◌, false, IfOk
 ghost use Rattle.sqlite.specs.Held.{state};
 ghost use Rattle.sqlite.specs.State.{HasCleanDisk, Survives};
 ghost use Rattle.shop_model.specs.Books.{Books};
-ghost use Rattle.chain_store.specs.Chains.{Rests, StaysAsFound, StandsSoundly};
-ghost use Rattle.chain_store.specs.Files.{Knows};
+ghost use Rattle.chain_calls.specs.Chains.{Rests, StaysAsFound, StandsSoundly};
+ghost use Rattle.chain_calls.specs.Files.{Knows};
 
 use crate::audits::tables_are_sound;
-use chain_store::{OpenFault, named, verdict};
+use chain_calls::{OpenFault, named, verdict};
 use shop_schema::{KnownVersion, has_version, is_shop};
 use sql_rows::StoreFault;
 use sqlite::{Alter, Connection};
@@ -30,7 +30,7 @@ pub fn chain_version<S: Alter>(
         return Ok(KnownVersion::Missing);
     }
     let is_this = is_shop(alloc, conn.schema())?;
-    let found = chain_store::version_in(conn)?;
+    let found = chain_calls::version_in(conn)?;
     if found == KnownVersion::This && !is_this {
         return Ok(KnownVersion::Missing);
     }

@@ -7,9 +7,9 @@ ghost use Rattle.sqlite_wal.specs.Files.{outcomes};
 ghost use Rattle.sqlite_wal.specs.Reads.{AreClean};
 ghost use Rattle.sqlite_wal.specs.Recovery.{Image};
 ghost use Rattle.shop_model.specs.Books.{Books};
-ghost use Rattle.chain_store.specs.Chains.{IsAt};
+ghost use Rattle.chain_calls.specs.Chains.{IsAt};
 
-use chain_engine::{Chain, OpenFault};
+use shop_chain::{Chain, OpenFault};
 use shop_types::Limits;
 use sqlite::{FileStore, Files};
 use sqlite_disk::Crash;

@@ -4,10 +4,10 @@ use Rattle.std.specs.Prelude.{Result, IfOk, IfErr}
 use Rattle.std.proofs.lemmas.List.{map-append}
 use Rattle.sqlite_trees.specs.declared.store.Store.{Ghosts}
 use Rattle.counter_routes.specs.Words.{Meaning}
-use Rattle.chain_engine.specs.Holding.{Chained, Holding}
-use Rattle.chain_engine.specs.Chains.{Runs}
-use Rattle.chain_engine.proofs.Taking.{takes_then}
-use Rattle.chain_engine.proofs.Following.{runs_follow}
+use Rattle.shop_chain.specs.Holding.{Chained, Holding}
+use Rattle.shop_chain.specs.Chains.{Runs}
+use Rattle.shop_chain.proofs.Taking.{takes_then}
+use Rattle.shop_chain.proofs.Following.{runs_follow}
 use Rattle.counter_http.specs.Events.{event_of}
 use Rattle.counter_http.specs.Exchanges.{Exchange, events_of, answers_of, RunsOver}
 use Rattle.counter_http.specs.Served.{IsServed, IsFault}

@@ -5,10 +5,10 @@ use Rattle.http_messages.specs.Input.{HasMessage}
 use Rattle.http_messages.proofs.StreamLemmas.{HasMessages-append, HasMessages-snoc}
 use Rattle.sqlite_trees.specs.declared.store.Store.{Ghosts}
 use Rattle.counter_routes.specs.Words.{Meaning}
-use Rattle.chain_engine.specs.Holding.{Chained, Holding}
-use Rattle.chain_engine.specs.Chains.{Takes, Runs}
-use Rattle.chain_engine.proofs.Taking.{takes_same, takes_then}
-use Rattle.chain_engine.proofs.Running.{runs_none, runs_more}
+use Rattle.shop_chain.specs.Holding.{Chained, Holding}
+use Rattle.shop_chain.specs.Chains.{Takes, Runs}
+use Rattle.shop_chain.proofs.Taking.{takes_same, takes_then}
+use Rattle.shop_chain.proofs.Running.{runs_none, runs_more}
 use Rattle.counter_http.specs.Events.{event_of, AnswersMessage}
 use Rattle.counter_http.specs.Exchanges.{Exchange, events_of, answers_of, messages_of, HasRun, RunsOver}
 

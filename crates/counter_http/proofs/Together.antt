@@ -6,7 +6,7 @@ use Rattle.std.proofs.lemmas.List.Elements.{All-nil, All-cons, All-head, All-tai
 use Rattle.std.proofs.lemmas.Bool.Decides.{nat_tests}
 use Rattle.sqlite_trees.specs.declared.store.Store.{Ghosts}
 use Rattle.counter_routes.specs.Words.{Meaning}
-use Rattle.chain_engine.specs.Holding.{Chained}
+use Rattle.shop_chain.specs.Holding.{Chained}
 use Rattle.counter_http.specs.Exchanges.{Exchange, GoesOn, texts, RunsOver}
 use Rattle.counter_http.specs.Served.{IsEnd}
 use Rattle.counter_http.specs.Standings.{Line, opened, IsTurn}

@@ -3,15 +3,15 @@ ghost use Rattle.std.specs.Prelude.{◌≡◌};
 ghost use Rattle.http_messages.specs.Shown.{message_of};
 ghost use Rattle.shop_types.specs.Replies.{seen_reply};
 ghost use Rattle.shop_model.specs.Books.{Books};
-ghost use Rattle.chain_engine.specs.Holding.{holding};
-ghost use Rattle.chain_engine.specs.Chains.{Takes};
+ghost use Rattle.shop_chain.specs.Holding.{holding};
+ghost use Rattle.shop_chain.specs.Chains.{Takes};
 ghost use Rattle.shop_types.specs.Seen.{seen_caller};
 ghost use Rattle.counter_http.specs.Events.{known_token, AnswersNobody, AnswersMessage};
 ghost use Rattle.counter_http.specs.Reads.{HasFixedBody, AnswersRead};
 
-use chain_engine::Chain;
 use counter_routes::{Reading, Routes};
 use http_messages::Request;
+use shop_chain::Chain;
 use shop_types::{Caller, NoMemory, OfficeWords, Refusal, Reply, Token};
 use sqlite::Alter;
 use std::alloc::Global;

@@ -13,7 +13,7 @@ mod read;
 mod same_parts;
 mod same_tables;
 
-pub use create::{create_first_tables, create_shop, create_tables};
+pub use create::{create_shop, create_tables};
 pub use form::command_form;
 pub use known::{KnownVersion, has_version, is_first_shop, is_shop, version};
 pub use laws::{forms_are_one_to_one, office_forms_are_one_to_one};

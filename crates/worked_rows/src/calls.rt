@@ -5,10 +5,10 @@ use crate::side_by_side::tills;
 use crate::sockets::peers;
 use crate::stops::{creations, stopped};
 use crate::values::{NO_VALUE, is_so, rentals, rewards, routes, texts};
-use chain_engine::{Chain, OpenFault};
 use counter_http::reply_bytes;
-use row_texts::Fault;
-use shop_types::{Ask, Caller, FilmNo, Limits, Reply, Request, Token};
+use row_player::Fault;
+use shop_chain::{Chain, OpenFault};
+use shop_types::{Ask, BranchNo, Caller, FilmNo, Limits, Reply, Request, Token};
 use sqlite::Alter;
 use std::alloc::Global;
 
@@ -104,6 +104,37 @@ fn first_film(alloc: Global) -> Result<(), Fault> {
     told
 }
 
+const NO_COUNTER: &[u8] =
+    b"HTTP/1.1 403 Forbidden\r\ncontent-type: application/json\r\ncontent-length: 24\r\n\r\n{\"refused\":\"no_counter\"}";
+
+/// Whether the chain answers a branch's request so, by the branch's number.
+fn tells_branch<S: Alter>(
+    alloc: Global,
+    chain: &mut Chain<S>,
+    number: u32,
+    request: &Request,
+    wanted: &[u8],
+) -> Result<(), Fault> {
+    let Some(branch) = BranchNo::new(number) else {
+        return Err(NO_VALUE);
+    };
+    let reply = chain.answer(&Caller::Branch(branch), request);
+    is_told(alloc, &[reply], wanted)
+}
+
+/// A branch is answered though its token was never asked for, and one that isn't there is no counter.
+fn branches_by_number(alloc: Global) -> Result<(), Fault> {
+    let Some(film) = FilmNo::new(1) else {
+        return Err(NO_VALUE);
+    };
+    let Ok(mut chain) = Chain::demo(alloc, Limits::default()) else {
+        return Err(Fault::Line("the chain isn't made"));
+    };
+    let request = Request::Look(Ask::Film(film));
+    tells_branch(alloc, &mut chain, 2, &request, FIRST_FILM)?;
+    tells_branch(alloc, &mut chain, 9, &request, NO_COUNTER)
+}
+
 /// Makes the calls of that name.
 pub fn call(rt: &HostRuntime, name: &str) -> Result<(), Fault> {
     let alloc = rt.alloc();
@@ -112,6 +143,7 @@ pub fn call(rt: &HostRuntime, name: &str) -> Result<(), Fault> {
         "fault_names" => fault_names(alloc),
         "films" => three_hundred(alloc),
         "first_film" => first_film(alloc),
+        "branches" => branches_by_number(alloc),
         "peers" => peers(rt),
         "rewards" => rewards(),
         "rentals" => rentals(),

@@ -1,8 +1,8 @@
 //! A connection to a chain in files: how its bytes come, how many there is room for, and whether it is served by turns.
-use chain_engine::Chain;
 use counter_http::{Connection, End, ServeFault, Served, Standing, Switchboard, TurnFault, serve};
 use office_words::ClapWords;
-use row_texts::{Fault, How, Told};
+use row_player::{Fault, How, Told};
+use shop_chain::Chain;
 use sqlite::FileStore;
 use sqlite_disk::Disk;
 use std::alloc::Global;

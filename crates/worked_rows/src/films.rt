@@ -3,7 +3,7 @@ use crate::fuses::new_files;
 use crate::shops::{Shop, new_shop};
 use crate::side_by_side::{TOKEN, customer, look, reply};
 use crate::values::is_so;
-use row_texts::{Fault, WHOLE};
+use row_player::{Fault, WHOLE};
 use sqlite_disk::{Fuse, Memory};
 use std::alloc::Global;
 

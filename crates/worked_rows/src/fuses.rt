@@ -1,6 +1,6 @@
 //! A chain's files on disks in memory, whose log fails at some call and at each one after it, where it is to.
 use crate::shops::{Shop, opened};
-use row_texts::{Fault, WHOLE};
+use row_player::{Fault, WHOLE};
 use shop_types::Limits;
 use sqlite::Files;
 use sqlite_disk::{Crash, Disk, Fuse, Memory};

@@ -17,7 +17,7 @@ mod tills;
 mod values;
 
 use crate::chains::Chains;
-use row_texts::{Sum, Talk};
+use row_player::{Sum, Talk};
 use std::process::ExitCode;
 use std::{env, fs, io};
 

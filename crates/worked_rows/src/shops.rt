@@ -1,8 +1,8 @@
 //! The chain that a row talks to.
 use crate::connection::told_by;
 use crate::tables::{Auditing, audited, changed};
-use chain_engine::{Chain, OpenFault};
-use row_texts::{Fault, How, Told, WHOLE};
+use row_player::{Fault, How, Told, WHOLE};
+use shop_chain::{Chain, OpenFault};
 use shop_types::Limits;
 use sqlite::{FileStore, Files};
 use sqlite_disk::Disk;

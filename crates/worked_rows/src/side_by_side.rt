@@ -1,7 +1,7 @@
 //! What tills that are served side by side do, and are told.
 use crate::tills::{PATIENCE, Step, are_served};
-use chain_engine::Chain;
-use row_texts::Fault;
+use row_player::Fault;
+use shop_chain::Chain;
 use shop_types::Limits;
 use std::alloc::Global;
 

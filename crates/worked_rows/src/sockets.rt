@@ -1,8 +1,8 @@
 //! Connections over loopback.
-use chain_engine::Chain;
 use office_words::ClapWords;
-use row_texts::Fault;
-use sakila_office::serve_listener;
+use row_player::Fault;
+use sakila_program::serve_listener;
+use shop_chain::Chain;
 use shop_types::Limits;
 use sqlite::Alter;
 use std::alloc::Global;

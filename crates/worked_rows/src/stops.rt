@@ -5,10 +5,10 @@ use crate::fuses::{
 };
 use crate::shops::new_shop;
 use crate::values::{NO_VALUE, is_so};
-use chain_engine::{Chain, OpenFault};
 use chain_stops::{NotResumed, Resumed, over_a_stop};
 use counter_http::reply_bytes;
-use row_texts::Fault;
+use row_player::Fault;
+use shop_chain::{Chain, OpenFault};
 use shop_types::{
     Act, Amount, Ask, Command, CustomerNo, Key, Limits, Moment, Reply, Request, StaffNo, Token,
 };

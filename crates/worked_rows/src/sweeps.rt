@@ -6,8 +6,8 @@ use crate::fuses::{
     Calls, Disks, Failing, MANY, NEVER, are_same, calls_made, crashed, fused, stops_behind,
 };
 use crate::shops::{Shop, name_of};
-use chain_engine::{Chain, OpenFault};
-use row_texts::{Fault, WHOLE};
+use row_player::{Fault, WHOLE};
+use shop_chain::{Chain, OpenFault};
 use shop_types::Limits;
 use std::alloc::Global;
 

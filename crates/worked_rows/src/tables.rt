@@ -1,9 +1,9 @@
 //! The tables in a chain's files, over a connection of its own beside the chain: statements on them, audits of them, and their log copied into the database's
 //! file.
 use books_audit::audit_custody;
-use chain_store::{FirstRows, connect, create, give_back, read_audit};
+use chain_calls::{FirstRows, connect, create, give_back, read_audit};
 use reply_bodies::audit_text;
-use row_texts::Fault;
+use row_player::Fault;
 use shop_types::Audit;
 use sqlite::{Alter, Connection, FileStore, Files};
 use sqlite_disk::Disk;

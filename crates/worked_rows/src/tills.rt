@@ -1,8 +1,8 @@
 //! Tills over loopback, served side by side: what they do is a list of steps, and time passes by steps alone.
-use chain_engine::Chain;
 use office_words::ClapWords;
-use row_texts::Fault;
-use sakila_office::serve_listener;
+use row_player::Fault;
+use sakila_program::serve_listener;
+use shop_chain::Chain;
 use sqlite::Alter;
 use std::alloc::{Alloc, Global};
 use std::cell::{Cell, RefCell};

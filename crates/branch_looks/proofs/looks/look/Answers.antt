@@ -23,6 +23,3 @@ returns-in-Balance-clause-shown g c = rw c.in-Balance.is c.look_balance.ensures.
 
 pub returns-in-Overdue-clause-shown : goal.returns-in-Overdue-clause-shown
 returns-in-Overdue-clause-shown g c = rw c.in-Overdue.is c.look_overdue.ensures.shown
-
-pub returns-in-Rewards-clause-shown : goal.returns-in-Rewards-clause-shown
-returns-in-Rewards-clause-shown g c = rw c.in-Rewards.is c.look_rewards.ensures.shown

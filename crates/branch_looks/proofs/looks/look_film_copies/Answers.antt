@@ -1,7 +1,7 @@
 use Rattle.std.proofs.Common.{◌≡◌, ◌∙◌, refl, sym, ap, subst, arith, ℕ, true, false, Bool, map, Some, None}
 use Rattle.sqlite.specs.Held.{state}
 use Rattle.sqlite.specs.State.{HasCleanDisk}
-use Rattle.sql_rows.proofs.Stays.{within_as, within_err, within_of, within_then}
+use Rattle.sql_rows.proofs.Stays.{inside_as, inside_err, inside_then}
 use Rattle.shop_store.specs.SharedSeen.{withdrawn_of}
 use Rattle.shop_model.specs.Refusals.{NoFilm}
 use Rattle.shop_model.specs.Shop.{Catalogue, Shop}
@@ -46,10 +46,10 @@ returns-in_default-clause-shown g c = λ clean books holds held.
     )
 
 pub returns-in_err-copies-clause-inside : goal.returns-in_err-copies-clause-inside
-returns-in_err-copies-clause-inside g c = within_err (within_then (within_of c.in_ok-film_withdrawn.ensures.inside) c.find_of_film.ensures.inside) c.from_residual-in_err-copies.ensures.0
+returns-in_err-copies-clause-inside g c = inside_err (inside_then c.in_ok-film_withdrawn.ensures.inside c.find_of_film.ensures.inside) c.from_residual-in_err-copies.ensures.0
 
 pub returns-clause-inside : goal.returns-clause-inside
-returns-clause-inside g c = within_err (within_then (within_of c.in_ok-film_withdrawn.ensures.inside) c.in_ok-copies.ensures.inside) refl
+returns-clause-inside g c = inside_err (inside_then c.in_ok-film_withdrawn.ensures.inside c.in_ok-copies.ensures.inside) refl
 
 pub returns-in-Ok-clause-inside : goal.returns-in-Ok-clause-inside
-returns-in-Ok-clause-inside g c = within_as (within_then (within_of c.in_ok-film_withdrawn.ensures.inside) c.in_ok-copies.ensures.inside)
+returns-in-Ok-clause-inside g c = inside_as (inside_then c.in_ok-film_withdrawn.ensures.inside c.in_ok-copies.ensures.inside)

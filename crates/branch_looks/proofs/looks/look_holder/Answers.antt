@@ -2,7 +2,7 @@ use Rattle.std.proofs.Common.{◌∙◌, sym, ap, arith, ℕ, [], ◌∷◌, cod
 use Rattle.std.specs.Option.{option_to_list}
 use Rattle.sqlite.specs.Held.{state}
 use Rattle.sqlite.specs.State.{HasCleanDisk}
-use Rattle.sql_rows.proofs.Stays.{within_as, within_err, within_then}
+use Rattle.sql_rows.proofs.Stays.{inside_as, inside_err, inside_then}
 use Rattle.shop_model.specs.Values.{Text}
 use Rattle.shop_model.specs.Refusals.{NoCopy}
 use Rattle.shop_model.specs.Stock.{is_here, held_by}
@@ -38,10 +38,10 @@ returns-in_default-clause-shown g c = λ clean books holds held.
     )
 
 pub returns-in_err-holder-clause-inside : goal.returns-in_err-holder-clause-inside
-returns-in_err-holder-clause-inside g c = within_err (within_then c.in_ok-find_here.ensures.inside c.find_holder.ensures.inside) c.from_residual-in_err-holder.ensures.0
+returns-in_err-holder-clause-inside g c = inside_err (inside_then c.in_ok-find_here.ensures.inside c.find_holder.ensures.inside) c.from_residual-in_err-holder.ensures.0
 
 pub returns-in_err-holder_text-clause-inside : goal.returns-in_err-holder_text-clause-inside
-returns-in_err-holder_text-clause-inside g c = within_err (within_then c.in_ok-find_here.ensures.inside c.in_ok-holder.ensures.inside) c.from_residual-in_err-holder_text.ensures.0
+returns-in_err-holder_text-clause-inside g c = inside_err (inside_then c.in_ok-find_here.ensures.inside c.in_ok-holder.ensures.inside) c.from_residual-in_err-holder_text.ensures.0
 
 pub returns-clause-inside : goal.returns-clause-inside
-returns-clause-inside g c = within_as (within_then c.in_ok-find_here.ensures.inside c.in_ok-holder.ensures.inside)
+returns-clause-inside g c = inside_as (inside_then c.in_ok-find_here.ensures.inside c.in_ok-holder.ensures.inside)

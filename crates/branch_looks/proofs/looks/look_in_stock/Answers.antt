@@ -1,7 +1,7 @@
 use Rattle.std.proofs.Common.{◌≡◌, ◌∙◌, sym, ap, arith, Bool}
 use Rattle.sqlite.specs.Held.{state}
 use Rattle.sqlite.specs.State.{HasCleanDisk}
-use Rattle.sql_rows.proofs.Stays.{within_as, within_err, within_of, within_then}
+use Rattle.sql_rows.proofs.Stays.{inside_as, inside_err, inside_then, within_of}
 use Rattle.shop_model.specs.Refusals.{NoCopy}
 use Rattle.shop_model.specs.Stock.{is_here, in_stock}
 use Rattle.shop_model.specs.Machine.{Reply, Shows, InStockIs}
@@ -33,10 +33,10 @@ returns-in_default-clause-shown g c = λ clean books holds held.
     )
 
 pub returns-in_err-out-clause-inside : goal.returns-in_err-out-clause-inside
-returns-in_err-out-clause-inside g c = within_err (within_then c.in_ok-find_here.ensures.inside (within_of c.out_at.ensures.inside)) c.from_residual-in_err-out.ensures.0
+returns-in_err-out-clause-inside g c = inside_err (inside_then c.in_ok-find_here.ensures.inside (within_of c.out_at.ensures.inside)) c.from_residual-in_err-out.ensures.0
 
 pub returns-in_err-in_stock_text-clause-inside : goal.returns-in_err-in_stock_text-clause-inside
-returns-in_err-in_stock_text-clause-inside g c = within_err (within_then c.in_ok-find_here.ensures.inside (within_of c.in_ok-out.ensures.inside)) c.from_residual-in_err-in_stock_text.ensures.0
+returns-in_err-in_stock_text-clause-inside g c = inside_err (inside_then c.in_ok-find_here.ensures.inside (within_of c.in_ok-out.ensures.inside)) c.from_residual-in_err-in_stock_text.ensures.0
 
 pub returns-clause-inside : goal.returns-clause-inside
-returns-clause-inside g c = within_as (within_then c.in_ok-find_here.ensures.inside (within_of c.in_ok-out.ensures.inside))
+returns-clause-inside g c = inside_as (inside_then c.in_ok-find_here.ensures.inside (within_of c.in_ok-out.ensures.inside))

@@ -1,7 +1,7 @@
 use Rattle.std.proofs.Common.{◌∙◌, sym, ap, subst, arith, ℤ}
 use Rattle.sqlite.specs.Held.{state}
 use Rattle.sqlite.specs.State.{HasCleanDisk}
-use Rattle.sql_rows.proofs.Stays.{within_as, within_err, within_of, within_then}
+use Rattle.sql_rows.proofs.Stays.{inside_as, inside_err, inside_then, within_of, within_then}
 use Rattle.shop_model.specs.Values.{Customer, Rule}
 use Rattle.shop_model.specs.Refusals.{NoCustomer}
 use Rattle.shop_model.specs.Stock.{balance}
@@ -43,19 +43,19 @@ returns-in_default-clause-shown g c = λ clean books holds held.
     )
 
 pub returns-in_err-rule-clause-inside : goal.returns-in_err-rule-clause-inside
-returns-in_err-rule-clause-inside g c = within_err (within_then c.in_ok-find_active.ensures.inside (within_of c.rule_at.ensures.inside)) c.from_residual-in_err-rule.ensures.0
+returns-in_err-rule-clause-inside g c = inside_err (inside_then c.in_ok-find_active.ensures.inside (within_of c.rule_at.ensures.inside)) c.from_residual-in_err-rule.ensures.0
 
 pub returns-in_err-rentals-clause-inside : goal.returns-in_err-rentals-clause-inside
-returns-in_err-rentals-clause-inside g c = within_err (within_then (within_then c.in_ok-find_active.ensures.inside (within_of c.in_ok-rule.ensures.inside)) c.find_terms.ensures.inside) c.from_residual-in_err-rentals.ensures.0
+returns-in_err-rentals-clause-inside g c = inside_err (inside_then c.in_ok-find_active.ensures.inside (within_then (within_of c.in_ok-rule.ensures.inside) c.find_terms.ensures.inside)) c.from_residual-in_err-rentals.ensures.0
 
 pub returns-in_err-payments-clause-inside : goal.returns-in_err-payments-clause-inside
-returns-in_err-payments-clause-inside g c = within_err (within_then (within_then c.in_ok-find_active.ensures.inside (within_of c.in_ok-rule.ensures.inside)) (within_then c.in_ok-rentals.ensures.inside c.find_paid.ensures.inside)) c.from_residual-in_err-payments.ensures.0
+returns-in_err-payments-clause-inside g c = inside_err (inside_then c.in_ok-find_active.ensures.inside (within_then (within_of c.in_ok-rule.ensures.inside) (within_then c.in_ok-rentals.ensures.inside c.find_paid.ensures.inside))) c.from_residual-in_err-payments.ensures.0
 
 pub returns-in_err-cents-clause-inside : goal.returns-in_err-cents-clause-inside
-returns-in_err-cents-clause-inside g c = within_err (within_then (within_then c.in_ok-find_active.ensures.inside (within_of c.in_ok-rule.ensures.inside)) (within_then c.in_ok-rentals.ensures.inside c.in_ok-payments.ensures.inside)) c.from_residual-in_err-cents.ensures.0
+returns-in_err-cents-clause-inside g c = inside_err (inside_then c.in_ok-find_active.ensures.inside (within_then (within_of c.in_ok-rule.ensures.inside) (within_then c.in_ok-rentals.ensures.inside c.in_ok-payments.ensures.inside))) c.from_residual-in_err-cents.ensures.0
 
 pub returns-in_err-balance_text-clause-inside : goal.returns-in_err-balance_text-clause-inside
-returns-in_err-balance_text-clause-inside g c = within_err (within_then (within_then c.in_ok-find_active.ensures.inside (within_of c.in_ok-rule.ensures.inside)) (within_then c.in_ok-rentals.ensures.inside c.in_ok-payments.ensures.inside)) c.from_residual-in_err-balance_text.ensures.0
+returns-in_err-balance_text-clause-inside g c = inside_err (inside_then c.in_ok-find_active.ensures.inside (within_then (within_of c.in_ok-rule.ensures.inside) (within_then c.in_ok-rentals.ensures.inside c.in_ok-payments.ensures.inside))) c.from_residual-in_err-balance_text.ensures.0
 
 pub returns-clause-inside : goal.returns-clause-inside
-returns-clause-inside g c = within_as (within_then (within_then c.in_ok-find_active.ensures.inside (within_of c.in_ok-rule.ensures.inside)) (within_then c.in_ok-rentals.ensures.inside c.in_ok-payments.ensures.inside))
+returns-clause-inside g c = inside_as (inside_then c.in_ok-find_active.ensures.inside (within_then (within_of c.in_ok-rule.ensures.inside) (within_then c.in_ok-rentals.ensures.inside c.in_ok-payments.ensures.inside)))

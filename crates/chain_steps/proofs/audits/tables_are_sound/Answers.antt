@@ -1,5 +1,5 @@
 use Rattle.sqlite.specs.Held.{state}
-use Rattle.chain_store.proofs.Audits.{tells_soundness}
+use Rattle.chain_calls.proofs.Audits.{tells_soundness}
 use Rattle.chain_steps.proofs.audits.tables_are_sound.Goals as goal
 
 pub returns-clause-told : goal.returns-clause-told

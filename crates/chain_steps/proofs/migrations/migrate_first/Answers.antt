@@ -3,7 +3,7 @@ use Rattle.sql_rows.proofs.Inside.{on_ok_then}
 use Rattle.sqlite.specs.Held.{state}
 use Rattle.sqlite.specs.State.{HasCleanDisk}
 use Rattle.sqlite.proofs.StateLemmas.{survives_then}
-use Rattle.chain_store.proofs.Migrated.{migration_from, unsound_from, leaves_from, leaves_less}
+use Rattle.chain_calls.proofs.Migrated.{migration_from, leaves_from, leaves_less}
 use Rattle.chain_steps.proofs.migrations.migrate_first.Goals as goal
 
 pub returns-in-Ok-clause-migrated : goal.returns-in-Ok-clause-migrated

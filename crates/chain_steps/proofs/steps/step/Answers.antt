@@ -1,4 +1,4 @@
-use Rattle.std.proofs.Common.{◌≡◌, ◌∙◌, ℕ, List, inl, refl, sym, subst, arith, IsTrue}
+use Rattle.std.proofs.Common.{◌≡◌, ◌∙◌, inl, refl, sym, subst, arith, IsTrue}
 use Rattle.std.proofs.lemmas.Result.{IfOk-weaker}
 use Rattle.sqlite.specs.Held.{state}
 use Rattle.sqlite.specs.State.{State, HasCleanDisk, Survives}
@@ -9,17 +9,16 @@ use Rattle.shop_model.specs.Answers.{Answer}
 use Rattle.shop_model.specs.Books.{Books, Caller}
 use Rattle.shop_model.specs.Machine.{Request}
 use Rattle.shop_types.specs.Replies.{seen_reply}
-use Rattle.film_cache.specs.declared.cache.CachedFilm.{CachedFilm}
-use Rattle.chain_store.specs.Chains.{Rests}
-use Rattle.chain_store.specs.Reports.{ShowsReport}
-use Rattle.chain_store.specs.Steps.{IsMade, IsUndone, LeavesAfter, asker, asked_of}
-use Rattle.chain_store.proofs.Resting.{begun_inside, rests_back, either_of, made_commit, made_nothing, leaves_after, leaves_then, undone_after, shows_made, shows_nothing, of_any_error}
+use Rattle.chain_calls.specs.Chains.{Rests}
+use Rattle.chain_calls.specs.Reports.{ShowsReport}
+use Rattle.chain_calls.specs.Steps.{IsHeldBy, IsKnownFor, IsMade, IsUndone, LeavesAfter, asker, asked_of}
+use Rattle.chain_calls.proofs.Resting.{begun_inside, rests_back, either_of, made_commit, made_nothing, leaves_after, leaves_then, undone_after, shows_made, shows_nothing, of_any_error}
 use Rattle.chain_steps.proofs.steps.step.Goals as goal
 
 -- calls of which none commits anything
-leaves_nothing : (limits : Limits) (caller : Caller) (request : Request) (films : List (ℕ × CachedFilm)) (old mid end : State) → Survives old mid (λ _. ⊥) → Survives mid end (λ _. ⊥)
-    → Survives old end (LeavesAfter limits caller request films old)
-leaves_nothing limits caller request films old mid end one two = survives_then old mid end _ _ (LeavesAfter limits caller request films old) (λ _ db none. absurd none) (λ _ db none. absurd none) one two
+leaves_nothing : (limits : Limits) (caller : Caller) (request : Request) (Given : Books → Type 0) (old mid end : State) → Survives old mid (λ _. ⊥) → Survives mid end (λ _. ⊥)
+    → Survives old end (LeavesAfter limits caller request Given old)
+leaves_nothing limits caller request Given old mid end one two = survives_then old mid end _ _ (LeavesAfter limits caller request Given old) (λ _ db none. absurd none) (λ _ db none. absurd none) one two
 
 pub returns-in-Ok-clause-made : goal.returns-in-Ok-clause-made
 returns-in-Ok-clause-made g c clean =
@@ -34,8 +33,8 @@ returns-in-Ok-clause-made g c clean =
     let clean_mid : HasCleanDisk (state g.S.Store mid) = omega (arith, clean_end, c.commit.ensures.survives.clean) in
     let inside = begun_inside g.S.Store c.args.conn.now c.transaction-tx.ensures.begun c.in-Ok-Done-default-true.ensures.inside in
     let works = rw c.in-Ok-Done-default-true.field-0-is at (rw c.transaction-tx.ensures.begun at c.in-Ok-Done-default-true.ensures.works) in
-    subst (λ h. IsMade c.args.limits caller request answer c.args.films.now c.work_of.new.films (state g.S.Store old) (state g.S.Store h)) same
-    (made_commit g.S.Store old mid end c.args.limits caller request answer c.in-Ok-Done-default-true.field-0-1 c.args.films.now c.work_of.new.films works (λ k. (inside.lives k refl).was_open) clean_mid g.met.S.Store.settled (c.in-Ok.ensures.ok clean_end).1)
+    subst (λ h. IsMade c.args.limits caller request answer (IsHeldBy (IsKnownFor c.args.asked.now) c.args.films.now) c.work_of.new.films (state g.S.Store old) (state g.S.Store h)) same
+    (made_commit g.S.Store old mid end c.args.limits caller request answer c.in-Ok-Done-default-true.field-0-1 (IsHeldBy (IsKnownFor c.args.asked.now) c.args.films.now) c.work_of.new.films works (λ k. (inside.lives k refl).was_open) clean_mid g.met.S.Store.settled (c.in-Ok.ensures.ok clean_end).1)
 
 pub returns-in-Ok-clause-crash : goal.returns-in-Ok-clause-crash
 returns-in-Ok-clause-crash g c =
@@ -48,8 +47,8 @@ returns-in-Ok-clause-crash g c =
     let same : end ≡ c.conn-1.given.0 = sym (c.conn-1.given.1 (sym (c.in-Ok-Done-default-true.ensures.inside.same_reference ∙ c.transaction-tx.ensures.same_reference))) in
     let inside = begun_inside g.S.Store c.args.conn.now c.transaction-tx.ensures.begun c.in-Ok-Done-default-true.ensures.inside in
     let works = rw c.in-Ok-Done-default-true.field-0-is at (rw c.transaction-tx.ensures.begun at c.in-Ok-Done-default-true.ensures.works) in
-    subst (λ h. Survives (state g.S.Store old) (state g.S.Store h) (LeavesAfter c.args.limits caller request c.args.films.now (state g.S.Store old))) same
-    (leaves_after g.S.Store old mid end c.args.limits caller request answer c.in-Ok-Done-default-true.field-0-1 c.args.films.now c.work_of.new.films works (λ k. (inside.lives k refl).was_open) inside.survives c.commit.ensures.survives)
+    subst (λ h. Survives (state g.S.Store old) (state g.S.Store h) (LeavesAfter c.args.limits caller request (IsHeldBy (IsKnownFor c.args.asked.now) c.args.films.now) (state g.S.Store old))) same
+    (leaves_after g.S.Store old mid end c.args.limits caller request answer c.in-Ok-Done-default-true.field-0-1 (IsHeldBy (IsKnownFor c.args.asked.now) c.args.films.now) c.work_of.new.films works (λ k. (inside.lives k refl).was_open) inside.survives c.commit.ensures.survives)
 
 pub returns-in-Ok-Done-default-false-clause-made : goal.returns-in-Ok-Done-default-false-clause-made
 returns-in-Ok-Done-default-false-clause-made g c clean =
@@ -64,8 +63,8 @@ returns-in-Ok-Done-default-false-clause-made g c clean =
     let clean_mid : HasCleanDisk (state g.S.Store mid) = omega (arith, clean_end, c.rollback.ensures.survives.clean) in
     let inside = begun_inside g.S.Store c.args.conn.now c.transaction-tx.ensures.begun c.in-Ok-Done-default-false.ensures.inside in
     let works = rw c.in-Ok-Done-default-false.field-0-is at (rw c.transaction-tx.ensures.begun at c.in-Ok-Done-default-false.ensures.works) in
-    subst (λ h. IsMade c.args.limits caller request answer c.args.films.now c.work_of.new.films (state g.S.Store old) (state g.S.Store h)) same
-    (made_nothing g.S.Store old mid end c.args.limits caller request answer c.in-Ok-Done-default-false.field-0-1 c.args.films.now c.work_of.new.films works (λ k. (inside.lives k refl).was_open) clean_mid c.in-Ok-Done-default-false.field-0-1-test
+    subst (λ h. IsMade c.args.limits caller request answer (IsHeldBy (IsKnownFor c.args.asked.now) c.args.films.now) c.work_of.new.films (state g.S.Store old) (state g.S.Store h)) same
+    (made_nothing g.S.Store old mid end c.args.limits caller request answer c.in-Ok-Done-default-false.field-0-1 (IsHeldBy (IsKnownFor c.args.asked.now) c.args.films.now) c.work_of.new.films works (λ k. (inside.lives k refl).was_open) clean_mid c.in-Ok-Done-default-false.field-0-1-test
     (λ books rests. rests_back g.S.Store old mid end books inside.survives (inside.kept clean_mid refl) (c.rollback.ensures.undone clean_end) c.rollback.ensures.survives clean_end rests))
 
 pub returns-in-Err-clause-undone : goal.returns-in-Err-clause-undone
@@ -94,8 +93,8 @@ returns-then-is_open-clause-crash g c =
     let same : fin ≡ c.conn-1.given.0 = sym (c.conn-1.given.1 (sym (c.in-Ok-Done-default-true.ensures.inside.same_reference ∙ c.transaction-tx.ensures.same_reference))) in
     let inside = begun_inside g.S.Store c.args.conn.now c.transaction-tx.ensures.begun c.in-Ok-Done-default-true.ensures.inside in
     let works = rw c.in-Ok-Done-default-true.field-0-is at (rw c.transaction-tx.ensures.begun at c.in-Ok-Done-default-true.ensures.works) in
-    let first = leaves_after g.S.Store old mid fin c.args.limits caller request answer c.in-Ok-Done-default-true.field-0-1 c.args.films.now c.work_of.new.films works (λ k. (inside.lives k refl).was_open) inside.survives c.commit.ensures.survives in
-    leaves_then c.args.limits caller request c.args.films.now (state g.S.Store old) (state g.S.Store fin) (state g.S.Store c.is_open.new.conn) first
+    let first = leaves_after g.S.Store old mid fin c.args.limits caller request answer c.in-Ok-Done-default-true.field-0-1 (IsHeldBy (IsKnownFor c.args.asked.now) c.args.films.now) c.work_of.new.films works (λ k. (inside.lives k refl).was_open) inside.survives c.commit.ensures.survives in
+    leaves_then c.args.limits caller request (IsHeldBy (IsKnownFor c.args.asked.now) c.args.films.now) (state g.S.Store old) (state g.S.Store fin) (state g.S.Store c.is_open.new.conn) first
     (subst (λ h. Survives (state g.S.Store h) (state g.S.Store c.is_open.new.conn) (λ _. ⊥)) (sym same) c.is_open.ensures.crash)
 
 pub returns-else-is_open-clause-crash : goal.returns-else-is_open-clause-crash
@@ -109,8 +108,8 @@ returns-else-is_open-clause-crash g c =
     let same : fin ≡ c.conn-1.given.0 = sym (c.conn-1.given.1 (sym (c.in-Ok-Done-default-true.ensures.inside.same_reference ∙ c.transaction-tx.ensures.same_reference))) in
     let inside = begun_inside g.S.Store c.args.conn.now c.transaction-tx.ensures.begun c.in-Ok-Done-default-true.ensures.inside in
     let works = rw c.in-Ok-Done-default-true.field-0-is at (rw c.transaction-tx.ensures.begun at c.in-Ok-Done-default-true.ensures.works) in
-    let first = leaves_after g.S.Store old mid fin c.args.limits caller request answer c.in-Ok-Done-default-true.field-0-1 c.args.films.now c.work_of.new.films works (λ k. (inside.lives k refl).was_open) inside.survives c.commit.ensures.survives in
-    leaves_then c.args.limits caller request c.args.films.now (state g.S.Store old) (state g.S.Store fin) (state g.S.Store c.is_open.new.conn) first
+    let first = leaves_after g.S.Store old mid fin c.args.limits caller request answer c.in-Ok-Done-default-true.field-0-1 (IsHeldBy (IsKnownFor c.args.asked.now) c.args.films.now) c.work_of.new.films works (λ k. (inside.lives k refl).was_open) inside.survives c.commit.ensures.survives in
+    leaves_then c.args.limits caller request (IsHeldBy (IsKnownFor c.args.asked.now) c.args.films.now) (state g.S.Store old) (state g.S.Store fin) (state g.S.Store c.is_open.new.conn) first
     (subst (λ h. Survives (state g.S.Store h) (state g.S.Store c.is_open.new.conn) (λ _. ⊥)) (sym same) c.is_open.ensures.crash)
 
 pub returns-then-is_open-clause-undone : goal.returns-then-is_open-clause-undone
@@ -141,10 +140,10 @@ returns-else-is_open-clause-undone g c clean =
     let same : fin ≡ c.conn-1.given.0 = sym (c.conn-1.given.1 (sym (c.in-Ok-Done-default-true.ensures.inside.same_reference ∙ c.transaction-tx.ensures.same_reference))) in
     let inside = begun_inside g.S.Store c.args.conn.now c.transaction-tx.ensures.begun c.in-Ok-Done-default-true.ensures.inside in
     let works = rw c.in-Ok-Done-default-true.field-0-is at (rw c.transaction-tx.ensures.begun at c.in-Ok-Done-default-true.ensures.works) in
-    let first = leaves_after g.S.Store old mid fin c.args.limits caller request answer c.in-Ok-Done-default-true.field-0-1 c.args.films.now c.work_of.new.films works (λ k. (inside.lives k refl).was_open) inside.survives c.commit.ensures.survives in
-    let whole = leaves_then c.args.limits caller request c.args.films.now (state g.S.Store old) (state g.S.Store fin) (state g.S.Store c.is_open.new.conn) first
+    let first = leaves_after g.S.Store old mid fin c.args.limits caller request answer c.in-Ok-Done-default-true.field-0-1 (IsHeldBy (IsKnownFor c.args.asked.now) c.args.films.now) c.work_of.new.films works (λ k. (inside.lives k refl).was_open) inside.survives c.commit.ensures.survives in
+    let whole = leaves_then c.args.limits caller request (IsHeldBy (IsKnownFor c.args.asked.now) c.args.films.now) (state g.S.Store old) (state g.S.Store fin) (state g.S.Store c.is_open.new.conn) first
     (subst (λ h. Survives (state g.S.Store h) (state g.S.Store c.is_open.new.conn) (λ _. ⊥)) (sym same) c.is_open.ensures.crash) in
-    (λ other. absurd (other refl), either_of c.args.limits caller request c.args.films.now (state g.S.Store old) (state g.S.Store c.is_open.new.conn) whole clean)
+    (λ other. absurd (other refl), either_of c.args.limits caller request (IsHeldBy (IsKnownFor c.args.asked.now) c.args.films.now) (state g.S.Store old) (state g.S.Store c.is_open.new.conn) whole clean)
 
 pub returns-in-Ok-Shows-clause-made : goal.returns-in-Ok-Shows-clause-made
 returns-in-Ok-Shows-clause-made g c clean =
@@ -164,7 +163,7 @@ returns-in-Ok-Shows-clause-made g c clean =
     rests_back g.S.Store old mid back books inside.survives (inside.kept clean_mid refl) (c.rollback-in-Ok-Shows.ensures.undone clean_back) c.rollback-in-Ok-Shows.ensures.survives clean_back rests in
     let stays = subst (λ h. IsUndone (state g.S.Store h) (state g.S.Store end)) (sym same) (c.show.ensures.same clean) in
     IfOk-weaker c.show.result _ _
-    (λ reply shown. shows_made g.S.Store old mid back end c.args.limits caller request c.in-Ok-Shows.report c.args.films.now c.work_of.new.films works (λ k. (inside.lives k refl).was_open) returned stays clean_mid (seen_reply reply)
+    (λ reply shown. shows_made g.S.Store old mid back end c.args.limits caller request c.in-Ok-Shows.report (IsHeldBy (IsKnownFor c.args.asked.now) c.args.films.now) c.work_of.new.films works (λ k. (inside.lives k refl).was_open) returned stays (λ books it. it.0) clean_mid (seen_reply reply)
     (subst (λ h. ShowsReport c.in-Ok-Shows.report (seen_reply reply) (state g.S.Store h)) (sym same) shown)) (c.show.ensures.shown clean)
 
 pub returns-in-Ok-Shows-clause-undone : goal.returns-in-Ok-Shows-clause-undone
@@ -184,7 +183,7 @@ returns-in-Ok-Shows-clause-undone g c clean =
     let returned = λ (books : Books) (rests : Rests (state g.S.Store old) books).
     rests_back g.S.Store old mid back books inside.survives (inside.kept clean_mid refl) (c.rollback-in-Ok-Shows.ensures.undone clean_back) c.rollback-in-Ok-Shows.ensures.survives clean_back rests in
     let stays = subst (λ h. IsUndone (state g.S.Store h) (state g.S.Store end)) (sym same) (c.show.ensures.same clean) in
-    of_any_error c.show.result _ (shows_nothing g.S.Store old mid back end c.args.limits caller request c.in-Ok-Shows.report c.args.films.now c.work_of.new.films works (λ k. (inside.lives k refl).was_open) returned stays)
+    of_any_error c.show.result _ (shows_nothing g.S.Store old mid back end c.args.limits caller request c.in-Ok-Shows.report (IsHeldBy (IsKnownFor c.args.asked.now) c.args.films.now) c.work_of.new.films works (λ k. (inside.lives k refl).was_open) returned stays (λ books it. it.0))
 
 pub returns-in-Ok-Done-default-false-clause-crash : goal.returns-in-Ok-Done-default-false-clause-crash
 returns-in-Ok-Done-default-false-clause-crash g c =
@@ -193,8 +192,8 @@ returns-in-Ok-Done-default-false-clause-crash g c =
     let end = c.rollback.new.self.0 in
     let same : end ≡ c.conn-in-Ok-Done-default-false-1.given.0 = sym (c.conn-in-Ok-Done-default-false-1.given.1 (sym (c.in-Ok-Done-default-false.ensures.inside.same_reference ∙ c.transaction-tx.ensures.same_reference))) in
     let inside = begun_inside g.S.Store c.args.conn.now c.transaction-tx.ensures.begun c.in-Ok-Done-default-false.ensures.inside in
-    subst (λ h. Survives (state g.S.Store old) (state g.S.Store h) (LeavesAfter c.args.limits (asker c.args.asked.now) (asked_of c.args.asked.now) c.args.films.now (state g.S.Store old))) same
-    (leaves_nothing c.args.limits (asker c.args.asked.now) (asked_of c.args.asked.now) c.args.films.now (state g.S.Store old) (state g.S.Store mid) (state g.S.Store end) (survives_begin g.S.Store old (state g.S.Store mid) _ inside.survives) c.rollback.ensures.survives)
+    subst (λ h. Survives (state g.S.Store old) (state g.S.Store h) (LeavesAfter c.args.limits (asker c.args.asked.now) (asked_of c.args.asked.now) (IsHeldBy (IsKnownFor c.args.asked.now) c.args.films.now) (state g.S.Store old))) same
+    (leaves_nothing c.args.limits (asker c.args.asked.now) (asked_of c.args.asked.now) (IsHeldBy (IsKnownFor c.args.asked.now) c.args.films.now) (state g.S.Store old) (state g.S.Store mid) (state g.S.Store end) (survives_begin g.S.Store old (state g.S.Store mid) _ inside.survives) c.rollback.ensures.survives)
 
 pub returns-in-Err-clause-crash : goal.returns-in-Err-clause-crash
 returns-in-Err-clause-crash g c =
@@ -203,8 +202,8 @@ returns-in-Err-clause-crash g c =
     let end = c.rollback-in-Err.new.self.0 in
     let same : end ≡ c.conn-in-Err-1.given.0 = sym (c.conn-in-Err-1.given.1 (sym (c.in-Err.ensures.inside.same_reference ∙ c.transaction-tx.ensures.same_reference))) in
     let inside = begun_inside g.S.Store c.args.conn.now c.transaction-tx.ensures.begun c.in-Err.ensures.inside in
-    subst (λ h. Survives (state g.S.Store old) (state g.S.Store h) (LeavesAfter c.args.limits (asker c.args.asked.now) (asked_of c.args.asked.now) c.args.films.now (state g.S.Store old))) same
-    (leaves_nothing c.args.limits (asker c.args.asked.now) (asked_of c.args.asked.now) c.args.films.now (state g.S.Store old) (state g.S.Store mid) (state g.S.Store end) (survives_begin g.S.Store old (state g.S.Store mid) _ inside.survives) c.rollback-in-Err.ensures.survives)
+    subst (λ h. Survives (state g.S.Store old) (state g.S.Store h) (LeavesAfter c.args.limits (asker c.args.asked.now) (asked_of c.args.asked.now) (IsHeldBy (IsKnownFor c.args.asked.now) c.args.films.now) (state g.S.Store old))) same
+    (leaves_nothing c.args.limits (asker c.args.asked.now) (asked_of c.args.asked.now) (IsHeldBy (IsKnownFor c.args.asked.now) c.args.films.now) (state g.S.Store old) (state g.S.Store mid) (state g.S.Store end) (survives_begin g.S.Store old (state g.S.Store mid) _ inside.survives) c.rollback-in-Err.ensures.survives)
 
 pub returns-in-Ok-Shows-clause-crash : goal.returns-in-Ok-Shows-clause-crash
 returns-in-Ok-Shows-clause-crash g c =
@@ -214,6 +213,6 @@ returns-in-Ok-Shows-clause-crash g c =
     let end = c.show.new.conn in
     let same : back ≡ c.conn-in-Ok-Shows-1.given.0 = sym (c.conn-in-Ok-Shows-1.given.1 (sym (c.in-Ok-Shows.ensures.inside.same_reference ∙ c.transaction-tx.ensures.same_reference))) in
     let inside = begun_inside g.S.Store c.args.conn.now c.transaction-tx.ensures.begun c.in-Ok-Shows.ensures.inside in
-    leaves_then c.args.limits (asker c.args.asked.now) (asked_of c.args.asked.now) c.args.films.now (state g.S.Store old) (state g.S.Store back) (state g.S.Store end)
-    (leaves_nothing c.args.limits (asker c.args.asked.now) (asked_of c.args.asked.now) c.args.films.now (state g.S.Store old) (state g.S.Store mid) (state g.S.Store back) (survives_begin g.S.Store old (state g.S.Store mid) _ inside.survives) c.rollback-in-Ok-Shows.ensures.survives)
+    leaves_then c.args.limits (asker c.args.asked.now) (asked_of c.args.asked.now) (IsHeldBy (IsKnownFor c.args.asked.now) c.args.films.now) (state g.S.Store old) (state g.S.Store back) (state g.S.Store end)
+    (leaves_nothing c.args.limits (asker c.args.asked.now) (asked_of c.args.asked.now) (IsHeldBy (IsKnownFor c.args.asked.now) c.args.films.now) (state g.S.Store old) (state g.S.Store mid) (state g.S.Store back) (survives_begin g.S.Store old (state g.S.Store mid) _ inside.survives) c.rollback-in-Ok-Shows.ensures.survives)
     (subst (λ h. Survives (state g.S.Store h) (state g.S.Store end) (λ _. ⊥)) (sym same) c.show.ensures.crash)

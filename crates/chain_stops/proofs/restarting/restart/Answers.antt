@@ -1,5 +1,5 @@
 use Rattle.std.proofs.Common.{Ok, Err, Result, IfOk, IfErr}
-use Rattle.chain_store.proofs.Opening.{undamaged}
+use Rattle.chain_calls.proofs.Opening.{undamaged}
 use Rattle.chain_stops.proofs.Resuming.{crashed_keeps, crashed_either}
 use Rattle.chain_stops.proofs.restarting.restart.Goals as goal
 

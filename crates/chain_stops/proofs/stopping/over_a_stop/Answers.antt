@@ -1,7 +1,7 @@
 use Rattle.std.proofs.Common.{map}
 use Rattle.sqlite.specs.Files.{over_files}
 use Rattle.shop_types.specs.Replies.{seen_reply}
-use Rattle.chain_store.specs.Chains.{event_of}
+use Rattle.chain_calls.specs.Chains.{event_of}
 use Rattle.chain_stops.proofs.Resuming.{resumes}
 use Rattle.chain_stops.proofs.stopping.over_a_stop.Goals as goal
 

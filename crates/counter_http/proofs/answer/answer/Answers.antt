@@ -4,11 +4,11 @@ use Rattle.http_messages.specs.Shown.{message_of}
 use Rattle.shop_types.specs.Seen.{seen_caller}
 use Rattle.counter_routes.specs.Words.{Meaning}
 use Rattle.counter_routes.specs.Readings.{reading_of}
-use Rattle.chain_engine.specs.Holding.{holding}
+use Rattle.shop_chain.specs.Holding.{holding}
 use Rattle.counter_http.specs.Events.{sender_of}
 use Rattle.counter_http.proofs.AnswerLemmas.{nobody_answers, sent_by, store_answers, read_answers}
-use Rattle.chain_engine.proofs.Taking.{takes_still, takes_then}
-use Rattle.chain_engine.proofs.Requests.{refused_takes}
+use Rattle.shop_chain.proofs.Taking.{takes_still, takes_then}
+use Rattle.shop_chain.proofs.Requests.{refused_takes}
 use Rattle.counter_http.proofs.answer.answer.Goals as goal
 
 pub returns-in_default : goal.returns-in_default

@@ -1,0 +1,336 @@
+-- The rows of consignments stay such as the program can hold, where one is sent off and where one is received; and what is replied of them is a text.
+use Rattle.std.proofs.Common.{◌≡◌, ◌≤◌, ◌<◌, ◌+◌, ◌*◌, ◌^◌, ◌==◌, ◌&&◌, ℕ, zero, suc, List, [], ◌∷◌, ◌++◌, map, filter, not, cond, length, Bool, true, false, inl, inr, refl, ap, subst, ◌∙◌, arith, codes, decimal, IsUtf8, IsAscii, length-append}
+use Rattle.std.specs.Prelude.{nat_le, nat_lt, if◌then◌else◌}
+use Rattle.std.specs.List.{AllByRecursion, flat_map, list_all}
+use Rattle.std.proofs.lemmas.Bool.{and_parts, cases_Bool, leb-true, ltb-true}
+use Rattle.std.proofs.lemmas.Bool.Decides.{nat_tests}
+use Rattle.std.proofs.lemmas.Fmt.{IsAscii-decimal}
+use Rattle.std.proofs.lemmas.Str.{IsUtf8-from_ascii, IsAscii-append}
+use Rattle.std.proofs.lemmas.Str.Ascii.{IsAscii-nil, IsAscii-cons}
+use Rattle.std.proofs.ByRecursion.{All-append, All-map, All-push, All-weaker}
+use Rattle.sqlite_keyed.proofs.ListLemmas.{all-filter}
+use Rattle.shop_model.specs.Json.{escape_byte, comma_if, items_text, numbers_text, object}
+use Rattle.shop_model.specs.Rows.{Row, arrived, mem, numbered_from, of, is_row, next, put, put_all, set_row, set_rows, total, update_where}
+use Rattle.shop_model.specs.Values as model
+use Rattle.shop_model.specs.Values.{Act, Command, Rules}
+use Rattle.shop_model.specs.Verdict.{arrival}
+use Rattle.shop_model.specs.Shop.{Shop}
+use Rattle.shop_model.specs.Machine.{here, incoming, numbers_from, parcels_to, told}
+use Rattle.shop_model.specs.Books.{Books, BookCopy, Line, Consignment, as_parcel, between, book_acted, book_done, checked, checked_line, come, is_consignment, new_consignment, put_state, rows_at, shop_of, under_way, unmarked, unpacked}
+use Rattle.shop_model.specs.Links.{is_parcel}
+use Rattle.shop_model.specs.Sound.{IsSound, one}
+use Rattle.shop_model.proofs.RowLemmas.{differ_if, differ_test, length_map, put_all_own, put_own, same_if, same_test}
+use Rattle.shop_model.proofs.ShopLemmas.{acted_own}
+use Rattle.shop_schema.specs.Held.{IsHeld}
+use Rattle.shop_schema.specs.RowValues.{IsNumber, IsRow, IsCopy, IsLine, IsConsignment, IsAct, IsCommand, AreValues}
+use Rattle.shop_schema.specs.Steps.{FitsTables}
+use Rattle.shop_schema.proofs.Values.{IfConsigns, ascii_bytes, number_fits, small, values_done}
+use Rattle.chain_calls.specs.Chains.{widest_rules}
+
+-- ---- rows that are changed
+
+updated : {A : Type 0} (P : A → Type 0) (p : A → Bool) (f : A → A) → ((it : A) → P it → P (f it)) → (xs : List A) → AllByRecursion P xs → AllByRecursion P (update_where p f xs)
+updated P p f stays [] all = tt
+updated P p f stays (x ∷ xs) all = (by (p x), updated P p f stays xs all.1)
+  where
+    by : (hit : Bool) → P (if hit then f x else x)
+    by true = stays x all.0
+    by false = all.0
+
+sent_rows : (b : ℕ) (xs : List ℕ) (rows : List (Row BookCopy)) → AllByRecursion (IsRow IsCopy) rows → AllByRecursion (IsRow IsCopy) (set_rows b xs (put_state model.Sent) rows)
+sent_rows b [] rows all = all
+sent_rows b (x ∷ xs) rows all =
+    sent_rows b xs (set_row b x (put_state model.Sent) rows) (updated (IsRow IsCopy) (is_row b x) (λ row. record row { it = put_state model.Sent row.it }) (λ row such. such) rows all)
+
+found_rows : (b : ℕ) (xs : List ℕ) (rows : List (Row BookCopy)) → AllByRecursion (IsRow IsCopy) rows → AllByRecursion (IsRow IsCopy) (rows_at b xs rows)
+found_rows b [] rows all = tt
+found_rows b (x ∷ xs) rows all = All-append (IsRow IsCopy) (filter (is_row b x) rows) (rows_at b xs rows) (all-filter (IsRow IsCopy) (is_row b x) rows all) (found_rows b xs rows all)
+
+sent_lines : (b : ℕ) (xs : List ℕ) (rows : List (Row BookCopy)) → AllByRecursion (IsRow IsCopy) rows → AllByRecursion IsLine (map (λ (row : Row BookCopy). under_way row.it) (rows_at b xs rows))
+sent_lines b xs rows all =
+    All-map IsLine (λ (row : Row BookCopy). under_way row.it) (rows_at b xs rows)
+    (All-weaker (IsRow IsCopy) (λ (row : Row BookCopy). IsLine (under_way row.it)) (λ row such. such.2) (rows_at b xs rows) (found_rows b xs rows all))
+
+-- ---- lines that came
+
+arrived_lines : (missing : List ℕ) (k : ℕ) (ls : List Line) → AllByRecursion IsLine ls
+    → AllByRecursion IsLine (map (λ (it : ℕ × Line). it.1) (filter (λ (it : ℕ × Line). not (mem it.0 missing)) (numbered_from k ls)))
+arrived_lines missing k [] all = tt
+arrived_lines missing k (l ∷ ls) all = by (not (mem k missing)) (arrived_lines missing (k + 1) ls all.1)
+  where
+    rest : List (ℕ × Line)
+    rest = filter (λ (it : ℕ × Line). not (mem it.0 missing)) (numbered_from (k + 1) ls)
+
+    by : (came : Bool) → AllByRecursion IsLine (map (λ (it : ℕ × Line). it.1) rest) → AllByRecursion IsLine (map (λ (it : ℕ × Line). it.1) (cond came ((k, l) ∷ rest) rest))
+    by true more = (all.0, more)
+    by false more = more
+
+come_lines : (missing : List ℕ) (p : Consignment → Bool) (cs : List Consignment) → AllByRecursion IsConsignment cs
+    → AllByRecursion IsLine (flat_map (λ (it : Consignment). arrived missing it.lines) (filter p cs))
+come_lines missing p [] all = tt
+come_lines missing p (c ∷ cs) all = by (p c) (come_lines missing p cs all.1)
+  where
+    rest : List Consignment
+    rest = filter p cs
+
+    by : (is : Bool) → AllByRecursion IsLine (flat_map (λ (it : Consignment). arrived missing it.lines) rest)
+        → AllByRecursion IsLine (flat_map (λ (it : Consignment). arrived missing it.lines) (cond is (c ∷ rest) rest))
+    by true more = All-append IsLine (arrived missing c.lines) (flat_map (λ (it : Consignment). arrived missing it.lines) rest) (arrived_lines missing 1 c.lines all.0.lines) more
+    by false more = more
+
+checked_lines : (missing : List ℕ) (k : ℕ) (ls : List Line) → AllByRecursion IsLine ls → AllByRecursion IsLine (map (checked_line missing) (numbered_from k ls))
+checked_lines missing k [] all = tt
+checked_lines missing k (l ∷ ls) all = (all.0, checked_lines missing (k + 1) ls all.1)
+
+so_many : {A : Type 0} (k : ℕ) (xs : List A) → length (numbered_from k xs) ≡ length xs
+so_many k [] = refl
+so_many k (x ∷ xs) = ap suc (so_many (k + 1) xs)
+
+few_checked : (missing : List ℕ) (k : ℕ) (ls : List Line) → length ls < 2 ^ 32 → length (map (checked_line missing) (numbered_from k ls)) < 2 ^ 32
+few_checked missing k ls few = let same = length_map (checked_line missing) (numbered_from k ls) in let numbered = so_many k ls in omega (arith, few, same, numbered)
+
+unpacked_rows : (b : ℕ) (ls : List Line) (rows : List (Row BookCopy)) → IsNumber b → AllByRecursion IsLine ls → length (of b rows) + length ls ≤ 1_001_000
+    → AllByRecursion (IsRow IsCopy) rows → AllByRecursion (IsRow IsCopy) (put_all b (map unpacked ls) rows)
+unpacked_rows b [] rows branch lines few all = all
+unpacked_rows b (l ∷ ls) rows branch lines few all =
+    let own : length (of b (put b (unpacked l) rows)) ≡ length (of b rows) + 1 = ap length (put_own b (unpacked l) rows) ∙ length-append (of b rows) (unpacked l (next b rows) ∷ []) in
+    let row : IsNumber (next b rows) = number_fits (next b rows) (omega arith) (omega (arith, few)) in
+    unpacked_rows b ls (put b (unpacked l) rows) branch lines.1 (omega (arith, own, few)) (All-push (IsRow IsCopy) rows (record { branch = b; number = next b rows; it = unpacked l (next b rows) }) all (branch, row, lines.0))
+
+-- ---- how many consignments there are
+
+lt_true : (s n : ℕ) → s < n → nat_lt s n ≡ true
+lt_true s n lt = grind (arith, nat_tests)
+
+lt_false : (s n : ℕ) → n ≤ s → nat_lt s n ≡ false
+lt_false s n ge = grind (arith, nat_tests)
+
+lt_isnt : (s n : ℕ) → nat_lt s n ≡ false → n ≤ s
+lt_isnt s n isnt = grind (arith, nat_tests)
+
+number_low : (n : ℕ) → IsNumber n → n < 4_294_967_296
+number_low n is = grind (arith, nat_tests)
+
+below : (s n : ℕ) → one (nat_lt s (suc n)) ≡ one (nat_lt s n) + one (s == n)
+below s n = elim (cases_Bool (nat_lt s n)) [
+  | inl low ↦
+      let lt = ltb-true s n low in
+      rw (low, lt_true s (suc n) (omega (arith, lt)), differ_test s n (λ e. omega (arith, e, lt))) refl
+  | inr high ↦
+      let ge = lt_isnt s n high in
+      elim (cases_Bool (s == n)) [
+        | inl is ↦ let e = same_if s n is in rw (high, is, lt_true s (suc n) (omega (arith, e))) refl
+        | inr isnt ↦ let d = differ_if s n isnt in rw (high, isnt, lt_false s (suc n) (omega (arith, ge, d))) refl
+      ]
+]
+
+below_none : (cs : List Consignment) → total (λ (it : Consignment). one (nat_lt it.source 0)) cs ≡ 0
+below_none [] = refl
+below_none (c ∷ cs) = let more = below_none cs in rw (lt_false c.source 0 (omega arith)) (omega (arith, more))
+
+below_more : (n : ℕ) (cs : List Consignment) → total (λ (it : Consignment). one (nat_lt it.source (suc n))) cs ≡ total (λ (it : Consignment). one (nat_lt it.source n)) cs + total (λ (it : Consignment). one (it.source == n)) cs
+below_more n [] = refl
+below_more n (c ∷ cs) = let first = below c.source n in let more = below_more n cs in omega (arith, first, more)
+
+below_all : (cs : List Consignment) → AllByRecursion IsConsignment cs → total (λ (it : Consignment). one (nat_lt it.source 4_294_967_296)) cs ≡ length cs
+below_all [] all = refl
+below_all (c ∷ cs) all = let more = below_all cs all.1 in rw (lt_true c.source 4_294_967_296 (number_low c.source all.0.source)) (omega (arith, more))
+
+below_few : (cs : List Consignment) → ((b : ℕ) → total (λ (it : Consignment). one (it.source == b)) cs ≤ 1_000_000) → (n : ℕ) → total (λ (it : Consignment). one (nat_lt it.source n)) cs ≤ n * 1_000_000
+below_few cs few zero = let none = below_none cs in omega (arith, none)
+below_few cs few (suc n) =
+    let first = below_few cs few n in
+    let own = few n in
+    let more = below_more n cs in
+    omega (arith, first, own, more)
+
+counted : {A : Type 0} (p : A → Bool) (xs : List A) → total (λ x. one (p x)) xs ≡ length (filter p xs)
+counted p [] = refl
+counted p (x ∷ xs) = by (p x) (counted p xs)
+  where
+    by : (hit : Bool) → total (λ x. one (p x)) xs ≡ length (filter p xs) → one hit + total (λ x. one (p x)) xs ≡ length (cond hit (x ∷ filter p xs) (filter p xs))
+    by true more = omega (arith, more)
+    by false more = omega (arith, more)
+
+filter_few : {A : Type 0} (p : A → Bool) (xs : List A) → length (filter p xs) ≤ length xs
+filter_few p [] = omega arith
+filter_few p (x ∷ xs) = by (p x) (filter_few p xs)
+  where
+    by : (hit : Bool) → length (filter p xs) ≤ length xs → length (cond hit (x ∷ filter p xs) (filter p xs)) ≤ suc (length xs)
+    by true more = omega (arith, more)
+    by false more = omega (arith, more)
+
+both_few : {A : Type 0} (p q : A → Bool) (xs : List A) → length (filter (λ x. p x && q x) xs) ≤ length (filter p xs)
+both_few p q [] = omega arith
+both_few p q (x ∷ xs) = by (p x) (q x) (both_few p q xs)
+  where
+    by : (a b : Bool) → length (filter (λ x. p x && q x) xs) ≤ length (filter p xs)
+        → length (cond (a && b) (x ∷ filter (λ x. p x && q x) xs) (filter (λ x. p x && q x) xs)) ≤ length (cond a (x ∷ filter p xs) (filter p xs))
+    by true true more = omega (arith, more)
+    by true false more = omega (arith, more)
+    by false b more = more
+
+-- where each parcel of a branch is one, the last consignment has few lines
+last_few : (b : ℕ) (cs : List Consignment) (c : Consignment) → (c.source == b) ≡ true
+    → list_all is_parcel (map as_parcel (filter (λ (it : Consignment). it.source == b) (cs ++ c ∷ []))) ≡ true → length c.lines ≤ 100
+last_few b [] c own all =
+    let sent : list_all is_parcel (map as_parcel (cond (c.source == b) (c ∷ []) [])) ≡ true = all in
+    let parcel = and_parts _ true (subst (λ (hit : Bool). list_all is_parcel (map as_parcel (cond hit (c ∷ []) [])) ≡ true) own sent) in
+    let films = and_parts (nat_lt 0 (length (as_parcel c).films)) (nat_le (length (as_parcel c).films) 100) parcel.0 in
+    let same = length_map (λ (line : Line). line.film) c.lines in
+    let few = leb-true (length (as_parcel c).films) 100 films.1 in
+    omega (arith, few, same)
+last_few b (d ∷ cs) c own all = by (d.source == b) (last_few b cs c own) all
+  where
+    rest : List Consignment
+    rest = filter (λ (it : Consignment). it.source == b) (cs ++ c ∷ [])
+
+    by : (hit : Bool) → (list_all is_parcel (map as_parcel rest) ≡ true → length c.lines ≤ 100) → list_all is_parcel (map as_parcel (cond hit (d ∷ rest) rest)) ≡ true
+        → length c.lines ≤ 100
+    by true more parcels = more (and_parts (is_parcel (as_parcel d)) (list_all is_parcel (map as_parcel rest)) parcels).1
+    by false more parcels = more parcels
+
+module _ (books : Books) (sound : IsSound widest_rules books) where
+  sent_few : (b : ℕ) → length (filter (λ (it : Consignment). it.source == b) books.consignments) ≤ 1_000_000
+  sent_few b =
+      let fit = (sound.shops b).sent_fit in
+      let keys = (sound.shops b).keys in
+      let same = length_map as_parcel (filter (λ (it : Consignment). it.source == b) books.consignments) in
+      omega (arith, fit, keys, same)
+
+  all_few : AllByRecursion IsConsignment books.consignments → length books.consignments ≤ 4_294_967_296 * 1_000_000
+  all_few all =
+      let each : (b : ℕ) → total (λ (it : Consignment). one (it.source == b)) books.consignments ≤ 1_000_000 =
+      λ b. let same = counted (λ (it : Consignment). it.source == b) books.consignments in let few = sent_few b in omega (arith, same, few) in
+      subst (λ n. n ≤ 4_294_967_296 * 1_000_000) (below_all books.consignments all) (below_few books.consignments each 4_294_967_296)
+
+-- ---- replies
+
+sent_reply : (n to : ℕ) → n < 2 ^ 64 → to < 2 ^ 64 → IsUtf8 (object ((codes "consignment", decimal n) ∷ (codes "to", decimal to) ∷ []))
+unfolding escape_byte
+sent_reply n to a b = IsUtf8-from_ascii _
+    (IsAscii-append (codes "{\"consignment\":") (decimal n ++ (codes ",\"to\":" ++ (decimal to ++ codes "}"))) (ascii_bytes (codes "{\"consignment\":") refl)
+    (IsAscii-append (decimal n) (codes ",\"to\":" ++ (decimal to ++ codes "}")) (IsAscii-decimal n a)
+    (IsAscii-append (codes ",\"to\":") (decimal to ++ codes "}") (ascii_bytes (codes ",\"to\":") refl)
+    (IsAscii-append (decimal to) (codes "}") (IsAscii-decimal to b) (ascii_bytes (codes "}") refl)))))
+
+abbrev AreSmall : List ℕ → Type 0
+AreSmall ns = AllByRecursion (λ n. n < 2 ^ 64) ns
+
+comma_ascii : (later : Bool) → IsAscii (comma_if later)
+comma_ascii true = ascii_bytes (44 ∷ []) refl
+comma_ascii false = IsAscii-nil
+
+items_ascii : (later : Bool) (ns : List ℕ) → AreSmall ns → IsAscii (items_text later (map decimal ns))
+items_ascii later [] all = ascii_bytes (93 ∷ []) refl
+items_ascii later (n ∷ ns) all =
+    IsAscii-append (comma_if later) (decimal n ++ items_text true (map decimal ns)) (comma_ascii later)
+    (IsAscii-append (decimal n) (items_text true (map decimal ns)) (IsAscii-decimal n all.0) (items_ascii true ns all.1))
+
+received_reply : (ns : List ℕ) → AreSmall ns → IsUtf8 (object ((codes "copies", numbers_text ns) ∷ []))
+unfolding escape_byte
+received_reply ns all = IsUtf8-from_ascii _
+    (IsAscii-append (codes "{\"copies\":") (numbers_text ns ++ codes "}") (ascii_bytes (codes "{\"copies\":") refl)
+    (IsAscii-append (numbers_text ns) (codes "}") (IsAscii-cons 91 (items_text false (map decimal ns)) (omega arith) (items_ascii false ns all)) (ascii_bytes (codes "}") refl)))
+
+new_numbers : {A : Type 0} (k : ℕ) (xs : List A) → k + length xs ≤ 2_000_000 → AreSmall (numbers_from k xs)
+new_numbers k [] few = tt
+new_numbers k (x ∷ xs) few = (omega (arith, few), new_numbers (k + 1) xs (omega (arith, few)))
+
+-- ---- a dispatch and a receipt
+
+module _ (rules : Rules) (b : ℕ) (command : Command) (books : Books) (branch : IsNumber b) (held : IsHeld books) (sound : IsSound widest_rules books) where
+  dispatch_values : (to : ℕ) (xs : List ℕ) → IsNumber to → length (new_consignment b to xs books).lines ≤ 100 → AreValues (book_acted rules b command (model.Dispatch to xs) books)
+  dispatch_values to xs addressee lines =
+      let v = held.values in
+      let own = both_few (λ (it : Consignment). it.source == b) (λ (it : Consignment). it.addressee == to) books.consignments in
+      let few = sent_few books sound b in
+      let all = all_few books sound v.consignments in
+      let sent : IsConsignment (new_consignment b to xs books) = record {
+        source = branch;
+        addressee = addressee;
+        number = number_fits (length (between b to books.consignments) + 1) (omega arith) (omega (arith, own, few));
+        place = (omega arith, omega (arith, all));
+        few = omega (arith, lines);
+        lines = sent_lines b xs books.copies v.copies;
+      } in
+      record {
+        catalogue = v.catalogue;
+        customers = v.customers;
+        copies = sent_rows b xs books.copies v.copies;
+        rentals = v.rentals;
+        terms = v.terms;
+        payments = v.payments;
+        lots = v.lots;
+        consignments = All-push IsConsignment books.consignments (new_consignment b to xs books) v.consignments sent;
+        kept = v.kept;
+        lasts = v.lasts;
+      }
+
+  dispatch_reply : (to : ℕ) (xs : List ℕ) → IsNumber to → IsUtf8 (object (told rules (model.Dispatch to xs) (shop_of b books)))
+  dispatch_reply to xs addressee =
+      let few = filter_few (λ (it : model.Parcel). it.addressee == to) (shop_of b books).sent in
+      let fit = (sound.shops b).sent_fit in
+      let keys = (sound.shops b).keys in
+      sent_reply (length (parcels_to to (shop_of b books)) + 1) to (omega (arith, few, fit, keys)) (small to addressee)
+
+  module _ (source number : ℕ) (missing : List ℕ) (few : length (shop_of b (book_acted rules b command (model.Receive source number missing) books)).copies ≤ 1_000_000) where
+    abbrev lines : List Line
+    lines = come source b number missing books.consignments
+
+    receipt_values : AreValues (book_acted rules b command (model.Receive source number missing) books)
+    receipt_values =
+        let v = held.values in
+        let whole = ap length (put_all_own unmarked unpacked (λ (line : Line). here line.film) b lines books.copies (λ c n. refl)) in
+        let parts = length-append (map unmarked (of b books.copies)) (map (λ (line : Line). here line.film) lines) in
+        let were = length_map unmarked (of b books.copies) in
+        let come = length_map (λ (line : Line). here line.film) lines in
+        let fit : length (of b books.copies) + length lines ≤ 1_001_000 = omega (arith, few, whole, parts, were, come) in
+        record {
+          catalogue = v.catalogue;
+          customers = v.customers;
+          copies = unpacked_rows b lines books.copies branch (come_lines missing (is_consignment source b number) books.consignments v.consignments) fit v.copies;
+          rentals = v.rentals;
+          terms = v.terms;
+          payments = v.payments;
+          lots = v.lots;
+          consignments = updated IsConsignment (is_consignment source b number) (checked missing)
+              (λ it such. record { source = such.source; addressee = such.addressee; number = such.number; place = such.place; few = few_checked missing 1 it.lines such.few; lines = checked_lines missing 1 it.lines such.lines }) books.consignments v.consignments;
+          kept = v.kept;
+          lasts = v.lasts;
+        }
+
+    receipt_reply : IsUtf8 (object (told rules (model.Receive source number missing) (shop_of b books)))
+    receipt_reply =
+        let shop : Shop = shop_of b books in
+        let films : List ℕ = incoming missing (arrival source number shop) in
+        let own = ap (λ (s : Shop). length s.copies) (acted_own rules b command (model.Receive source number missing) books sound.numbers (λ xs e. apart xs e)) in
+        let parts = length-append shop.copies (map here films) in
+        let came = length_map here films in
+        received_reply (numbers_from (length shop.copies + 1) films) (new_numbers (length shop.copies + 1) films (omega (arith, few, own, parts, came)))
+      where
+        apart : (xs : List ℕ) → ◌≡◌ {A = Act} (model.Receive source number missing) (model.Dispatch b xs) → ⊥
+        apart xs e = cc
+
+-- what an accepted command makes of books that are sound
+module _ (rules : Rules) (b : ℕ) (command : Command) (books : Books) (branch : IsNumber b) (is : IsCommand command) (held : IsHeld books) (sound : IsSound widest_rules books)
+    (after : IsSound widest_rules (book_done rules b command books)) (fits : FitsTables rules command.act) where
+  few_come : (source number : ℕ) (missing : List ℕ) → command.act ≡ model.Receive source number missing
+      → length (shop_of b (book_acted rules b command (model.Receive source number missing) books)).copies ≤ 1_000_000
+  few_come source number missing same = subst (λ (a : Act). length (shop_of b (book_acted rules b command a books)).copies ≤ 1_000_000) same (after.shops b).copies
+
+  rows : (act : Act) → command.act ≡ act → IfConsigns act (AreValues (book_acted rules b command act books))
+  rows (model.Dispatch to xs) same =
+      let act : IsAct (model.Dispatch to xs) = subst IsAct same is.act in
+      let parcels = subst (λ (a : Act). list_all is_parcel (shop_of b (book_acted rules b command a books)).sent ≡ true) same (after.links b).parcels in
+      dispatch_values rules b command books branch held sound to xs act.0 (last_few b books.consignments (new_consignment b to xs books) (same_test b) parcels)
+  rows (model.Receive source number missing) same = receipt_values rules b command books branch held sound source number missing (few_come source number missing same)
+  rows act same = tt
+
+  replies : (act : Act) → command.act ≡ act → IfConsigns act (IsUtf8 (object (told rules act (shop_of b books))))
+  replies (model.Dispatch to xs) same = let act : IsAct (model.Dispatch to xs) = subst IsAct same is.act in dispatch_reply rules b command books branch held sound to xs act.0
+  replies (model.Receive source number missing) same = receipt_reply rules b command books branch held sound source number missing (few_come source number missing same)
+  replies act same = tt
+
+  pub accepted_values : AreValues (book_done rules b command books)
+  accepted_values = values_done rules b command books branch is held fits (rows command.act refl) (replies command.act refl)

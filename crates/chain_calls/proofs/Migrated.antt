@@ -1,0 +1,102 @@
+-- What a transaction leaves in which tables of version 1 become those of this version.
+use Rattle.std.proofs.Common.{◌≡◌, ◌∙◌, true, false, IsTrue, refl, sym, ap, subst}
+use Rattle.std.specs.Prelude.{◌↔◌}
+use Rattle.std.proofs.lemmas.Bool.{false≢true}
+use Rattle.sqlite_trees.specs.declared.store.Store.{Ghosts}
+use Rattle.sqlite_trees.specs.Tree.{Trees}
+use Rattle.sqlite.specs.Effect.{Database}
+use Rattle.sqlite.specs.Held.{Held, state}
+use Rattle.sqlite.specs.State.{State, HasCleanDisk, Shows, Survives}
+use Rattle.sqlite.proofs.Callers.{survives_begin}
+use Rattle.sqlite.proofs.StateLemmas.{survives_weaker}
+use Rattle.sql_rows.specs.Rows.{AreKeyed}
+use Rattle.sql_rows.proofs.Stays.{survives_more}
+use Rattle.sql_rows.proofs.Whole.{crash_new}
+use Rattle.shop_model.specs.Books.{Books}
+use Rattle.shop_model.specs.Migration.{migrated}
+use Rattle.shop_model.proofs.Migration.{migrated_sound}
+use Rattle.shop_types.specs.declared.audit.Audit.{Audit}
+use Rattle.shop_schema.specs.Migrating as tables
+use Rattle.shop_schema.specs.Shop.{StandsFor, IsShop, IsKeyed}
+use Rattle.shop_schema.specs.Tables.{shop_schema, version_1_schema}
+use Rattle.shop_schema.proofs.Values.{migrated_values}
+use Rattle.chain_calls.specs.Audits.{AuditsTables}
+use Rattle.chain_calls.specs.Chains.{StandsSoundly, StaysAsFound, widest_rules}
+use Rattle.chain_calls.specs.Migrations.{StandsSoundlyForVersion1, AreMigrated, IsVersion1, MigratesInside, IsMigration, IsUnsoundVersion1, LeavesMigrated}
+use Rattle.chain_calls.proofs.Resting.{Settled, rests_after}
+
+-- ---- inside
+
+-- the tables were made anew, and an audit of them changed nothing
+pub migrated_inside : (old mid new : State) (audit : Audit) → tables.Migrates old mid → (IsVersion1 old → IsShop mid × IsKeyed mid) → (IsShop mid → AuditsTables mid.now.trees audit)
+    → (IsShop mid → new.now ≡ mid.now) → MigratesInside old new audit.sound
+migrated_inside old mid new audit moved made audits same = record {
+  shop = λ is.
+      let it = made is in
+      (ap (λ (d : Database). d.schema) (same it.0) ∙ it.0, subst (λ (d : Database). AreKeyed shop_schema d.trees) (sym (same it.0)) it.1);
+  sound = λ is.
+      let it = made is in
+      subst (λ (d : Database). IsTrue audit.sound ↔ StandsSoundly d.trees) (sym (same it.0)) ((audits it.0).books.sound widest_rules);
+  books = λ is books sound.
+      let it = made is in
+      subst (λ (d : Database). StandsFor d.trees (migrated books)) (sym (same it.0)) (moved widest_rules books sound.2 (record { schema_is = is.0; keyed = is.1; stands = sound.0 })).stands;
+}
+
+pub are_migrated : (old new : State) → MigratesInside old new true → IsVersion1 old → AreMigrated old.now.trees new.now.trees
+are_migrated old new it is = record { sound = (it.sound is).0 refl; books = it.books is }
+
+-- sound books of version 1 become sound books, so an audit that finds none was of no sound ones
+pub were_unsound : (old new : State) → MigratesInside old new false → IsVersion1 old → (books : Books) → ¬ StandsSoundlyForVersion1 old.now.trees books
+were_unsound old new it is books sound =
+    false≢true ((it.sound is).1 (migrated books, it.books is books sound, migrated_values books sound.1, migrated_sound widest_rules books sound.2))
+
+-- ---- outside
+
+module _ {S : Type 0} (g : Ghosts S) (old mid end : Held S) where
+  abbrev begun : Held S
+  begun = record old { in_transaction = true }
+
+  pub migration_made : MigratesInside (state g begun) (state g mid) true → IsTrue (state g old).is_open → Settled g
+      → Shows (state g mid) (state g end) (state g mid).now (state g mid).now false → IsMigration (state g old) (state g end)
+  migration_made it live settled shows = record {
+    was_open = live;
+    tables = λ is. subst (λ (d : Database). AreMigrated (state g old).now.trees d.trees) (sym shows.now_is) (are_migrated (state g begun) (state g mid) it is);
+    rests = λ is books stands.
+        let made = it.shop is in
+        rests_after g old mid end books settled (record { schema_is = made.0; keyed = made.1; stands = subst (λ (d : Database). StandsFor d.trees books) shows.now_is stands }) shows;
+  }
+
+  -- what the commit leaves, whether or not it answers so
+  pub leaves_migration : (HasCleanDisk (state g mid) → IsTrue (state g old).is_open × MigratesInside (state g begun) (state g mid) true) → Survives (state g begun) (state g mid) (λ _. ⊥)
+      → Survives (state g mid) (state g end) (λ db. db ≡ (state g mid).now.trees) → Survives (state g old) (state g end) (LeavesMigrated (state g old))
+  leaves_migration works inside ending =
+      crash_new g old mid end (LeavesMigrated (state g old)) (λ clean. let it = works clean in (it.0, λ is. are_migrated (state g begun) (state g mid) it.1 is)) inside ending
+
+  -- and what a rollback leaves
+  pub leaves_nothing : Survives (state g begun) (state g mid) (λ _. ⊥) → Survives (state g mid) (state g end) (λ _. ⊥) → Survives (state g old) (state g end) (λ _. ⊥)
+  leaves_nothing inside ending = survives_more (state g old) (state g mid) (state g end) (survives_begin g old (state g mid) _ inside) ending
+
+pub leaves_less : (old new : State) (P : Trees → Type 0) → Survives old new (λ _. ⊥) → Survives old new P
+leaves_less old new P survives = survives_weaker old new (λ _. ⊥) P (λ _ db none. absurd none) survives
+
+-- ---- behind a call that changes nothing
+
+module _ (first old new : State) (clean : first.now ≡ first.committed) (stays : StaysAsFound first old) where
+  still : IsTrue old.is_open → IsVersion1 first → IsVersion1 old
+  still live is = subst (λ (d : Database). (d.schema ≡ version_1_schema) × AreKeyed version_1_schema d.trees) (sym (stays clean live).1) is
+
+  pub migration_from : IsMigration old new → IsMigration first new
+  migration_from it = record {
+    was_open = (stays clean it.was_open).0;
+    tables = λ is. subst (λ (d : Database). AreMigrated d.trees new.now.trees) (stays clean it.was_open).1 (it.tables (still it.was_open is));
+    rests = λ is. it.rests (still it.was_open is);
+  }
+
+  pub unsound_from : IsUnsoundVersion1 old → IsUnsoundVersion1 first
+  unsound_from it = (
+    (stays clean it.0).0,
+    λ is books sound. it.1 (still it.0 is) books (subst (λ (d : Database). StandsSoundlyForVersion1 d.trees books) (sym (stays clean it.0).1) sound),
+  )
+
+  pub leaves_from : (db : Trees) → LeavesMigrated old db → LeavesMigrated first db
+  leaves_from db it = ((stays clean it.0).0, λ is. subst (λ (d : Database). AreMigrated d.trees db) (stays clean it.0).1 (it.1 (still it.0 is)))

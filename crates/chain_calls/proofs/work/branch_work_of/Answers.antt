@@ -1,0 +1,14 @@
+use Rattle.shop_types.specs.Seen.{seen_request}
+use Rattle.film_cache.proofs.Steps.{rows_by_branch}
+use Rattle.branch_work.specs.Rules.{rules_of}
+use Rattle.chain_calls.proofs.work.branch_work_of.Goals as goal
+
+pub returns-in-Answered-clause-works : goal.returns-in-Answered-clause-works
+returns-in-Answered-clause-works g c clean = λ books holds held.
+    let it = (rw c.in-Answered.is at (c.in_ok-reply.ensures.works clean)) books holds (held.0, held.1) held.2 in
+    (it.0, rows_by_branch _ (rules_of c.args.limits) c.args.branch (seen_request c.args.request.now) books it.1)
+
+pub returns-in-Shows-clause-works : goal.returns-in-Shows-clause-works
+returns-in-Shows-clause-works g c clean = λ books holds held.
+    let it = (rw c.in-Shows.is at (c.in_ok-reply.ensures.works clean)) books holds (held.0, held.1) held.2 in
+    (it.0, rows_by_branch _ (rules_of c.args.limits) c.args.branch (seen_request c.args.request.now) books it.1)

@@ -1,0 +1,111 @@
+-- What the transaction of a request leaves.
+use Rattle.std.specs.Prelude.{◌≡◌, ◌⊎◌, ⊤, ℕ, List, Some}
+use Rattle.sqlite_trees.specs.Tree.{Trees}
+use Rattle.sqlite.specs.State.{State}
+use Rattle.shop_values.specs.LimitValues.{Limits}
+use Rattle.shop_model.specs.Machine.{Request, Unread, Do, Look, Office, OfficeLook, Shows as Shown}
+use Rattle.shop_model.specs.Shop.{Catalogue}
+use Rattle.shop_model.specs.Answers.{Answer, answer_of}
+use Rattle.shop_model.specs.Books.{Books, Caller, Counter, HeadOffice, Nobody, caller_of}
+use Rattle.shop_model.specs.Opening.{opening_books}
+use Rattle.shop_types.specs.Seen.{seen_request, seen_office}
+use Rattle.shop_types.specs.Replies.{seen_reply}
+use Rattle.film_cache.specs.declared.cache.CachedFilm.{CachedFilm}
+use Rattle.film_cache.specs.Cached.{AreRows}
+use Rattle.sql_rows.specs.Books.{no_schema}
+use Rattle.shop_schema.specs.Held.{IsHeld}
+use Rattle.shop_schema.specs.RowValues.{IsNumber, IsCommand, IsKey, IsOfficeAct}
+use Rattle.shop_schema.specs.Shop.{StandsFor, Holds, first_books}
+pub use Rattle.branch_work.specs.Works.{told_to, left_by, IsDone, IsHeldWith, IsKnown}
+use Rattle.chain_calls.specs.declared.asked.Asked.{Asked}
+use Rattle.chain_calls.specs.declared.asked.Asked.TheVariants.{OfBranch, OfOffice}
+use Rattle.chain_calls.specs.declared.creation.FirstRows.{FirstRows}
+use Rattle.chain_calls.specs.declared.creation.FirstRows.TheVariants.{OfOffice as WithToken, OfOpening as WithOpening}
+use Rattle.chain_calls.specs.declared.work.Work.{Work}
+use Rattle.chain_calls.specs.declared.work.Work.TheVariants.{Done, Shows}
+use Rattle.chain_calls.specs.Reports.{shown_by}
+use Rattle.chain_calls.specs.Chains.{Rests}
+
+-- ---- what is asked
+
+-- who asks, and the request
+abbrev pub asker : Asked → Caller
+asker (OfBranch b is_known request) = Counter b
+asker (OfOffice command) = HeadOffice
+
+abbrev pub asked_of : Asked → Request
+asked_of (OfBranch b is_known request) = seen_request request.now
+asked_of (OfOffice command) = Office (seen_office command.now)
+
+-- a caller whose number the tables can hold
+abbrev pub IsAsker : Caller → Type 0
+IsAsker (Counter b) = IsNumber b
+IsAsker HeadOffice = ⊤
+IsAsker Nobody = ⊤
+
+-- a request whose values the tables can hold
+abbrev pub IsAsked : Request → Type 0
+IsAsked (Unread refusal) = ⊤
+IsAsked (Do command) = IsCommand command
+IsAsked (Look ask) = ⊤
+IsAsked (Office command) = IsKey command.key × IsOfficeAct command.act
+IsAsked (OfficeLook ask) = ⊤
+
+-- ---- what is known before it
+
+-- of the asker: a branch that is said to be known is there
+abbrev pub IsKnownFor : Asked → Catalogue → Type 0
+IsKnownFor (OfBranch b is_known request) catalogue = IsKnown is_known b catalogue
+IsKnownFor (OfOffice command) catalogue = ⊤
+
+-- books that the tables can hold, of whose films these are known, and of whose catalogue this is
+abbrev pub IsHeldBy : (Catalogue → Type 0) → List (ℕ × CachedFilm) → Books → Type 0
+IsHeldBy Known films books = IsHeld books × AreRows films books.catalogue.films × Known books.catalogue
+
+-- ---- one request
+
+-- inside the transaction it has come to this: it is done, or it is a reading, which is to be shown
+abbrev pub HasCome : Limits → Caller → Request → Work → State → Books → Type 0
+HasCome limits caller request (Done reply is_changed) new books = IsDone limits caller request (seen_reply reply) is_changed new books
+HasCome limits caller request (Shows report) new books = (told_to limits caller request books ≡ answer_of (Shown (shown_by report books))) × (left_by limits caller request books ≡ books)
+
+-- and the films that are known then are rows of the books after it, where of the books before it this was given
+abbrev pub Works : Limits → Caller → Request → Work → (Books → Type 0) → List (ℕ × CachedFilm) → State → State → Type 0
+Works limits caller request work Given after old new =
+    (books : Books) → Holds old books → Given books → HasCome limits caller request work new books × AreRows after (left_by limits caller request books).catalogue.films
+
+-- the step is made
+pub record IsMade (limits : Limits) (caller : Caller) (request : Request) (answer : Answer) (Given : Books → Type 0) (after : List (ℕ × CachedFilm)) (old new : State) : Type 0 where
+  pub reply : (books : Books) → Rests old books → Given books → answer ≡ told_to limits caller request books
+  pub books : (books : Books) → Rests old books → Given books → Rests new (left_by limits caller request books)
+  pub films : (books : Books) → Rests old books → Given books → AreRows after (left_by limits caller request books).catalogue.films
+
+-- nothing is done
+abbrev pub IsUndone : State → State → Type 0
+IsUndone old new = (books : Books) → Rests old books → IsHeld books → Rests new books
+
+-- a crash leaves the books before the request or those after it
+abbrev pub LeavesEitherOf : Limits → Caller → Request → (Books → Type 0) → State → State → Type 0
+LeavesEitherOf limits caller request Given old new =
+    (books : Books) → Rests old books → Given books → (db : Trees) → new.may_leave db → StandsFor db books ⊎ StandsFor db (left_by limits caller request books)
+
+-- what the commit of a request may leave on the disk
+abbrev pub LeavesAfter : Limits → Caller → Request → (Books → Type 0) → State → Trees → Type 0
+LeavesAfter limits caller request Given old db = (books : Books) → Rests old books → Given books → StandsFor db (left_by limits caller request books)
+
+-- the books that the first rows of a chain stand for
+abbrev pub books_with : FirstRows → Books
+books_with (WithToken office) = first_books office.now
+books_with WithOpening = opening_books
+
+-- what the commit of a new chain may leave, in a database that had no table
+abbrev pub LeavesMade : State → Books → Trees → Type 0
+LeavesMade old books db = old.now.schema ≡ no_schema → StandsFor db books
+
+-- the caller has the token, in whatever books the tables stand for
+abbrev pub IsCallerOf : List ℕ → Caller → State → Type 0
+IsCallerOf token caller s = (books : Books) → Holds s books → IsHeld books → caller ≡ caller_of (Some token) books.catalogue
+
+-- the same between two requests
+abbrev pub HasCaller : List ℕ → Caller → State → Type 0
+HasCaller token caller s = (books : Books) → Rests s books → IsHeld books → caller ≡ caller_of (Some token) books.catalogue

@@ -1,0 +1,41 @@
+//! Whose token it is, in a transaction that changes nothing.
+
+ghost use Rattle.std.specs.Prelude.{◌≡◌, false, IfOk};
+ghost use Rattle.sqlite.specs.Held.{state};
+ghost use Rattle.sqlite.specs.State.{HasCleanDisk, Survives};
+ghost use Rattle.sql_rows.specs.Calls.{StaysInside};
+ghost use Rattle.shop_types.specs.Seen.{seen_caller};
+ghost use Rattle.chain_calls.specs.Steps.{IsUndone, IsCallerOf, HasCaller};
+
+use shop_store::{branch_with, is_office};
+use shop_types::{Caller, Token};
+use sql_rows::StoreFault;
+use sqlite::{Alter, Connection, Transaction};
+
+/// The caller whose token it is.
+pub fn find_caller<S: Alter>(conn: &mut Connection<S>, token: &Token) -> Result<Caller, StoreFault>
+    requires { conn.old.in_transaction ≡ false }
+    ensures ended { conn.new.in_transaction ≡ false }
+    ensures found { HasCleanDisk (state S.Store conn.new) → IfOk result (λ caller. HasCaller token.now (seen_caller caller) (state S.Store conn.old)) }
+    ensures same { HasCleanDisk (state S.Store conn.new) → IsUndone (state S.Store conn.old) (state S.Store conn.new) }
+    ensures crash { Survives (state S.Store conn.old) (state S.Store conn.new) (λ _. ⊥) }
+{
+    let mut tx = conn.transaction();
+    let caller = caller_in(&mut tx, token);
+    tx.rollback();
+    caller
+}
+
+fn caller_in<S: Alter>(tx: &mut Transaction<'_, S>, token: &Token) -> Result<Caller, StoreFault>
+    ensures inside { StaysInside S.Store tx.old.conn tx.new.conn result }
+    ensures found { HasCleanDisk (state S.Store tx.new.conn.now)
+        → IfOk result (λ caller. IsCallerOf token.now (seen_caller caller) (state S.Store tx.old.conn.now)) }
+{
+    if is_office(tx, token)? {
+        return Ok(Caller::Office);
+    }
+    match branch_with(tx, token)? {
+        Some(branch) => Ok(Caller::Branch(branch)),
+        None => Ok(Caller::Nobody),
+    }
+}

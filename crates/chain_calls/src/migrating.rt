@@ -1,0 +1,56 @@
+//! How tables of version 1 become those of this version, all of it in one transaction.
+
+ghost use Rattle.std.specs.Prelude.{◌≡◌, ◌≢◌, false, IfOk, OnOk, IfErr};
+ghost use Rattle.sqlite.specs.Held.{state};
+ghost use Rattle.sqlite.specs.State.{HasCleanDisk, Survives};
+ghost use Rattle.sql_rows.specs.Calls.{StaysInside};
+ghost use Rattle.chain_calls.specs.Faults.{is_store_fault};
+ghost use Rattle.chain_calls.specs.Migrations.{MigratesInside, IsMigration, IsUnsoundVersion1, LeavesMigrated};
+
+use crate::auditing::audit_tables;
+use crate::faults::{OpenFault, named};
+use shop_schema::migrate_tables;
+use sql_rows::{StoreFault, fault_of};
+use sqlite::{Alter, Connection, Transaction};
+use std::alloc::Global;
+
+/// Makes the tables of version 1 those of this version, inside a transaction, and tells whether an audit finds these sound.
+fn migrate_inside<S: Alter>(alloc: Global, tx: &mut Transaction<'_, S>) -> Result<bool, StoreFault>
+    ensures inside { StaysInside S.Store tx.old.conn tx.new.conn result }
+    ensures migrated { HasCleanDisk (state S.Store tx.new.conn.now)
+        → IfOk result (MigratesInside (state S.Store tx.old.conn.now) (state S.Store tx.new.conn.now)) }
+{
+    migrate_tables(tx)?;
+    let audit = audit_tables(alloc, tx)?;
+    Ok(audit.sound)
+}
+
+/// Makes the tables of version 1 those of this version, each rental with the terms of its film as they stand: all of it or nothing. `Damaged` where an audit
+/// finds that they stand for no sound books; then nothing is changed.
+pub fn migrate<S: Alter>(alloc: Global, conn: &mut Connection<S>) -> Result<(), OpenFault>
+    requires { conn.old.in_transaction ≡ false }
+    ensures ended { conn.new.in_transaction ≡ false }
+    ensures migrated { HasCleanDisk (state S.Store conn.new) → OnOk result (IsMigration (state S.Store conn.old) (state S.Store conn.new)) }
+    ensures damaged { HasCleanDisk (state S.Store conn.new) → IfErr result (λ e. e ≡ OpenFault.Damaged → IsUnsoundVersion1 (state S.Store conn.old)) }
+    ensures undone { IfErr result (λ e. is_store_fault e ≡ false → Survives (state S.Store conn.old) (state S.Store conn.new) (λ _. ⊥)) }
+    ensures crash { Survives (state S.Store conn.old) (state S.Store conn.new) (LeavesMigrated (state S.Store conn.old)) }
+    ensures chain { IfErr result (λ e. e ≢ OpenFault.NotAChain) }
+    ensures version { IfErr result (λ e. e ≢ OpenFault.OtherVersion) }
+    ensures already { IfErr result (λ e. e ≢ OpenFault.Already) }
+{
+    let mut tx = conn.transaction();
+    match migrate_inside(alloc, &mut tx) {
+        Ok(true) => match tx.commit() {
+            Ok(()) => Ok(()),
+            Err(error) => Err(named(fault_of(error))),
+        },
+        Ok(false) => {
+            tx.rollback();
+            Err(OpenFault::Damaged)
+        }
+        Err(fault) => {
+            tx.rollback();
+            Err(named(fault))
+        }
+    }
+}

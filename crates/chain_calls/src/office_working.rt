@@ -1,0 +1,79 @@
+//! A command of head office inside one transaction.
+
+ghost use Rattle.std.specs.Prelude.{◌≡◌, IfOk};
+ghost use Rattle.sqlite.specs.Held.{state};
+ghost use Rattle.sqlite.specs.State.{HasCleanDisk};
+ghost use Rattle.sql_rows.specs.Calls.{StaysInside, StaysWithin};
+ghost use Rattle.shop_model.specs.Machine.{Office};
+ghost use Rattle.shop_model.specs.Books.{HeadOffice};
+ghost use Rattle.shop_types.specs.Seen.{seen_office};
+ghost use Rattle.shop_types.specs.Replies.{seen_reply};
+ghost use Rattle.shop_schema.specs.Forms.{office_command_form};
+ghost use Rattle.branch_work.specs.Works.{Does};
+ghost use Rattle.chain_calls.specs.OfficeWorks.{WorksBeside};
+
+use crate::office_adding::add;
+use crate::office_finding::find;
+use branch_work::{again, refuse};
+use catalogue_core::{Shared, decide_office};
+use shop_ledger::{Owner, kept_at, kept_found};
+use shop_schema::office_form;
+use shop_types::{Change, KeptFound, Limits, OfficeCommand, Reply};
+use sql_rows::{Bytes, StoreFault};
+use sqlite::{Alter, Transaction};
+use std::alloc::Global;
+
+/// Answers a command of head office, and tells whether there is anything to commit.
+pub(crate) fn work<S: Alter>(
+    alloc: Global,
+    tx: &mut Transaction<'_, S>,
+    limits: Limits,
+    command: &OfficeCommand,
+) -> Result<(Reply, bool), StoreFault>
+    ensures inside { StaysInside S.Store tx.old.conn tx.new.conn result }
+    ensures works { HasCleanDisk (state S.Store tx.new.conn.now) → IfOk result (λ done.
+        Does limits HeadOffice (Office (seen_office command.now)) (seen_reply done.0) done.1 (state S.Store tx.old.conn.now) (state S.Store tx.new.conn.now)) }
+{
+    let kept = kept_at(tx, Owner::Office, &command.key)?;
+    let form = form_of(alloc, command)?;
+    let kept = kept_found(kept.as_ref(), &form);
+    answer(alloc, tx, limits, command, kept, &form)
+}
+
+/// The same, beside what head office has under the command's key, and with the command's stored form.
+fn answer<S: Alter>(
+    alloc: Global,
+    tx: &mut Transaction<'_, S>,
+    limits: Limits,
+    command: &OfficeCommand,
+    kept: Option<KeptFound<'_>>,
+    form: &Bytes,
+) -> Result<(Reply, bool), StoreFault>
+    requires { form.now ≡ office_command_form (seen_office command.now) }
+    ensures inside { StaysWithin S.Store tx.old.conn tx.new.conn result }
+    ensures works { HasCleanDisk (state S.Store tx.new.conn.now) → IfOk result (λ done.
+        WorksBeside kept.entry limits (seen_office command.now) (seen_reply done.0) done.1 (state S.Store tx.old.conn.now) (state S.Store tx.new.conn.now)) }
+{
+    let found = find(tx, command)?;
+    let shared = Shared {
+        kept,
+        keys: found.keys,
+        office_token: found.office_token,
+        rows: found.rows,
+    };
+    match decide_office(command, &shared, limits) {
+        Ok(Change::Again(reply)) => again(alloc, reply),
+        Ok(Change::Accepted) => add(alloc, tx, command, form),
+        Err(refusal) => refuse(alloc, refusal),
+    }
+}
+
+/// The stored form of a command.
+fn form_of(alloc: Global, command: &OfficeCommand) -> Result<Bytes, StoreFault>
+    ensures { IfOk result (λ form. form ≡ office_command_form (seen_office command.now)) }
+{
+    match office_form(alloc, command) {
+        Ok(form) => Ok(form),
+        Err(_) => Err(StoreFault::Memory),
+    }
+}

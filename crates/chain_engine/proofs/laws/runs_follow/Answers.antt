@@ -1,5 +1,0 @@
-use Rattle.chain_store.proofs.Following.{runs_follow}
-use Rattle.chain_engine.proofs.laws.runs_follow.Goals as goal
-
-pub returns : goal.returns
-returns c = runs_follow

@@ -1,0 +1,11 @@
+-- A law of what a chain answers.
+use Rattle.std.specs.Prelude.{◌++◌, List}
+use Rattle.shop_model.specs.Answers.{Answer}
+use Rattle.shop_model.specs.Books.{Event}
+use Rattle.chain_calls.specs.Holding.{Holding}
+use Rattle.chain_calls.specs.Chains.{Runs}
+
+-- what was answered in two parts, one after the other, was answered as one list
+abbrev pub RunsFollow : Type 0
+RunsFollow = (old mid new : Holding) (events more : List Event) (answers others : List Answer) → Runs events answers old mid → Runs more others mid new
+    → Runs (events ++ more) (answers ++ others) old new

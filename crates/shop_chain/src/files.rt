@@ -1,0 +1,87 @@
+//! A chain in two files: how it is opened, and how it is closed.
+
+ghost use Rattle.std.specs.Prelude.{◌≡◌, ◌≢◌, ◌⊎◌, false, IfOk, IfErr};
+ghost use Rattle.sqlite.specs.State.{HasCleanDisk};
+ghost use Rattle.sqlite.specs.Files.{over_files, file_state, image_of};
+ghost use Rattle.sqlite_wal.specs.Files.{outcomes};
+ghost use Rattle.sqlite_wal.specs.Reads.{AreClean};
+ghost use Rattle.shop_model.specs.Books.{Books};
+ghost use Rattle.chain_calls.specs.Chains.{IsAt};
+ghost use Rattle.chain_calls.specs.Files.{HoldsOne, KeepsBooks, KeepsEither};
+ghost use Rattle.chain_calls.specs.Openings.{IsOpenedIn, IsNotOpened};
+
+use crate::chain::Chain;
+use caller_cache::CallerCache;
+use chain_calls::{OpenFault, connect, give_back};
+use chain_steps::examine;
+use film_cache::FilmCache;
+use shop_types::Limits;
+use sqlite::{FileStore, Files};
+use sqlite_disk::Disk;
+use std::alloc::Global;
+
+impl<D: Disk + Drop> Chain<FileStore<D>> {
+    /// Opens the chain that the files hold; the limits are those of this opening. A fault gives the files back: `NotAChain` where they hold none,
+    /// `OtherVersion` where its version isn't the program's, `Damaged` where its tables stand for no sound books, and `Memory`, `Size` or `Store` where the store can't do its part.
+    pub fn open_files(
+        alloc: Global,
+        files: Files<D>,
+        limits: Limits,
+    ) -> Result<Chain<FileStore<D>>, (OpenFault, Files<D>)>
+        ensures opened { IfOk result (λ chain. IsOpenedIn files limits chain) }
+        ensures refused { IfErr result (λ e. IsNotOpened D.Disk files e.0 e.1) }
+    {
+        let mut conn = connect(alloc, files)?;
+        match examine(alloc, &mut conn) {
+            Ok(()) => Ok(Chain {
+                limits,
+                is_failed: false,
+                films: FilmCache::new(alloc),
+                callers: CallerCache::new(alloc),
+                conn,
+                alloc,
+            }),
+            Err(fault) => Err((fault, give_back(conn))),
+        }
+    }
+
+    /// Gives the files back, which hold what a crash of the chain may leave. Unless the store has failed, they keep the chain's books; else they keep the
+    /// books before the request at which it failed, or those after it.
+    pub fn close(self) -> Files<D>
+        ensures keeps { self.is_failed ≡ false → (books besides : Books) → IsAt over_files self books besides → KeepsBooks D.Disk result books }
+        ensures either { (books besides : Books) → IsAt over_files self books besides → KeepsEither D.Disk result books besides }
+        ensures left { AreClean D.Disk result.log result.db → HoldsOne D.Disk result (file_state self.conn).may_leave }
+        ensures clean { AreClean D.Disk result.log result.db → HasCleanDisk (file_state self.conn) }
+        ensures seen { outcomes D.Disk result.log result.db (image_of D.Disk result) }
+    {
+        let Chain {
+            limits: _,
+            is_failed: _,
+            films: _,
+            callers: _,
+            conn,
+            alloc: _,
+        } = self;
+        give_back(conn)
+    }
+
+    /// Closes the chain and opens its files again, with the limits that it had: the new chain has the same books, or, where the store had failed, those
+    /// before the request at which it failed or those after it. A fault gives the files back, as `open_files` does, but is never `Damaged`.
+    pub fn reopen(self) -> Result<Chain<FileStore<D>>, (OpenFault, Files<D>)>
+        ensures live { IfOk result (λ chain. (chain.limits ≡ self.limits) × (chain.is_failed ≡ false)) }
+        ensures honest { IfOk result (λ chain. HasCleanDisk (file_state chain.conn) → HasCleanDisk (file_state self.conn)) }
+        ensures same { IfOk result (λ chain. HasCleanDisk (file_state chain.conn) → self.is_failed ≡ false → (books besides : Books)
+            → IsAt over_files self books besides → IsAt over_files chain books books) }
+        ensures either { IfOk result (λ chain. HasCleanDisk (file_state chain.conn) → (books besides : Books) → IsAt over_files self books besides
+            → ∥ IsAt over_files chain books books ⊎ IsAt over_files chain besides besides ∥₁) }
+        ensures undamaged { (books besides : Books) → IsAt over_files self books besides
+            → IfErr result (λ e. AreClean D.Disk e.1.log e.1.db → e.0 ≢ OpenFault.Damaged) }
+        ensures kept { IfErr result (λ e. (closed : _)
+            × (self.is_failed ≡ false → (books besides : Books) → IsAt over_files self books besides → KeepsBooks D.Disk closed books)
+            × IsNotOpened D.Disk closed e.0 e.1) }
+    {
+        let alloc = self.alloc;
+        let limits = self.limits;
+        Chain::open_files(alloc, self.close(), limits)
+    }
+}
