@@ -123,16 +123,27 @@ fn tells_branch<S: Alter>(
 }
 
 /// A branch is answered though its token was never asked for, and one that isn't there is no counter.
+fn tells_branches<S: Alter>(
+    alloc: Global,
+    chain: &mut Chain<S>,
+    request: &Request,
+) -> Result<(), Fault> {
+    tells_branch(alloc, chain, 2, request, FIRST_FILM)?;
+    tells_branch(alloc, chain, 9, request, NO_COUNTER)
+}
+
+/// The same of a new chain, by a request for the first film.
 fn branches_by_number(alloc: Global) -> Result<(), Fault> {
     let Some(film) = FilmNo::new(1) else {
         return Err(NO_VALUE);
     };
-    let Ok(mut chain) = Chain::demo(alloc, Limits::default()) else {
-        return Err(Fault::Line("the chain isn't made"));
-    };
-    let request = Request::Look(Ask::Film(film));
-    tells_branch(alloc, &mut chain, 2, &request, FIRST_FILM)?;
-    tells_branch(alloc, &mut chain, 9, &request, NO_COUNTER)
+    match Chain::demo(alloc, Limits::default()) {
+        Ok(mut chain) => {
+            let request = Request::Look(Ask::Film(film));
+            tells_branches(alloc, &mut chain, &request)
+        }
+        Err(_) => Err(Fault::Line("the chain isn't made")),
+    }
 }
 
 /// Makes the calls of that name.
