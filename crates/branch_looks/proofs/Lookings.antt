@@ -1,5 +1,5 @@
 -- What is found of one row tells what the books have of it.
-use Rattle.std.proofs.Common.{◌≡◌, ◌∙◌, ap, sym, ℕ, Bool, List, map, Option, Some, None, option_map}
+use Rattle.std.proofs.Common.{◌≡◌, ◌∙◌, ap, sym, ℕ, Bool, List, [], ◌∷◌, map, Option, Some, None, option_map}
 use Rattle.std.specs.Option.{option_to_list}
 use Rattle.shop_model.specs.Rows.{at}
 use Rattle.shop_model.specs.Values.{Copy}
@@ -30,12 +30,8 @@ abbrev pub shown : Catalogue → Bool → Copy → Bool × Bool × Bool
 shown catalogue out it = (is_here it, is_film_withdrawn catalogue it.film, out)
 
 -- the copy, and whether its film is withdrawn
-pub copy_told : (catalogue : Catalogue) (n : ℕ) (o : Option CopyRow) (row : CopyRow) (copies : List BookCopy) (withdrawn : Option Bool) (out : Bool) → o ≡ Some row
-    → option_to_list (option_map (λ (x : CopyRow). (seen_copy_row x).it) o) ≡ at n copies → withdrawn ≡ head (map withdrawn_of (at row.film catalogue.films))
-    → ◌≡◌ {A = Option (Bool × Bool × Bool)} (Some (is_here (unmarked (seen_copy_row row).it), is_yes withdrawn, out)) (head (map (shown catalogue out) (at n (map unmarked copies))))
-copy_told catalogue n o row copies withdrawn out found is told =
-    let shows : CopyRow → Bool × Bool × Bool = λ x. shown catalogue out (unmarked (seen_copy_row x).it) in
-    let film : is_yes withdrawn ≡ is_film_withdrawn catalogue row.film = ap is_yes told ∙ sym (at_most_one row.film catalogue.films) in
-    ap (λ (b : Bool). let p : Option (Bool × Bool × Bool) = Some (is_here (unmarked (seen_copy_row row).it), b, out) in p) film
-    ∙ sym (ap (option_map shows) found)
-    ∙ copy_in_shop (shown catalogue out) n o copies is
+pub copy_told : (catalogue : Catalogue) (copy : Copy) (copies : List Copy) (withdrawn : Option Bool) (out : Bool) → copy ∷ [] ≡ copies → withdrawn ≡ head (map withdrawn_of (at copy.film catalogue.films))
+    → ◌≡◌ {A = Option (Bool × Bool × Bool)} (Some (is_here copy, is_yes withdrawn, out)) (head (map (shown catalogue out) copies))
+copy_told catalogue copy copies withdrawn out found told =
+    let film : is_yes withdrawn ≡ is_film_withdrawn catalogue copy.film = ap is_yes told ∙ sym (at_most_one copy.film catalogue.films) in
+    ap (λ (b : Bool). let p : Option (Bool × Bool × Bool) = Some (is_here copy, b, out) in p) film ∙ ap (λ (l : List Copy). head (map (shown catalogue out) l)) found

@@ -84,12 +84,12 @@ one_told t [] is one = cc
 one_told t (film ∷ []) is one = ap option_to_list (sym is)
 one_told t (film ∷ other ∷ films) is one = cc
 
--- the terms of a rental of that copy, by those of its film
-pub copy_terms : (b : ℕ) (books : Books) (x : ℕ) (found : Option CopyRow) (row : CopyRow) (t : Terms) → found ≡ Some row
-    → option_to_list (option_map (λ (x : CopyRow). (seen_copy_row x).it) found) ≡ at x (of b books.copies) → Some t ≡ head (map film_terms (at row.film books.catalogue.films))
-    → terms_now books.catalogue (shop_of b books) x ≡ t ∷ []
-copy_terms b books x found row t there is told =
-    ap (map film_terms) (film_of_copy b books x found row there is) ∙ one_told t (at row.film books.catalogue.films) told (picks_one row.film books.catalogue.films)
+-- the terms of a rental of the copy, by those of its film
+pub copy_terms : (catalogue : Catalogue) (shop : Shop) (x : ℕ) (copy : Copy) (t : Terms) → copy ∷ [] ≡ at x shop.copies → Some t ≡ head (map film_terms (at copy.film catalogue.films))
+    → terms_now catalogue shop x ≡ t ∷ []
+copy_terms catalogue shop x copy t found told =
+    ap (λ (copies : List Copy). map film_terms (films_at catalogue.films copies)) (sym found)
+    ∙ ap (map film_terms) (append-nil (at copy.film catalogue.films)) ∙ one_told t (at copy.film catalogue.films) told (picks_one copy.film catalogue.films)
 
 pub at_behind : {A : Type 0} (before after : List A) (x : A) → at (length before + 1) (before ++ x ∷ after) ≡ x ∷ []
 at_behind [] after x = refl

@@ -4,11 +4,11 @@ ghost use Rattle.std.specs.Prelude.{◌≡◌, ◌≤◌, ℕ, map, IfOk};
 ghost use Rattle.std.specs.List.{All};
 ghost use Rattle.sqlite.specs.Held.{state};
 ghost use Rattle.sql_rows.specs.Calls.{StaysWithin};
-ghost use Rattle.shop_model.specs.Rows.{owned_by};
 ghost use Rattle.shop_model.specs.Values as model;
-ghost use Rattle.shop_model.specs.Books.{head, shop_of};
+ghost use Rattle.shop_model.specs.Books.{shop_of};
 ghost use Rattle.shop_types.specs.Seen.{seen_act, seen_command};
 ghost use Rattle.shop_schema.specs.Calls.{Finds};
+ghost use Rattle.shop_ledger.specs.Standings.{HasStanding};
 ghost use Rattle.stock_csv.specs.Stock.{stock_of};
 ghost use Rattle.branch_core.specs.Agreed.{Agrees, RowAgrees, seen_stock};
 ghost use Rattle.branch_core.specs.Marked.{AreMarked};
@@ -16,12 +16,12 @@ ghost use Rattle.branch_looks.specs.Finds.{Knows};
 ghost use Rattle.branch_looks.specs.Commands.{as_listed, found_row, told_row, AgreesAt, IsKeptFor};
 
 use crate::consignments::{find_for_dispatch, find_for_receipt};
-use crate::finds::{find_active, find_copy, find_rental};
+use crate::finds::{find_copy, find_rental};
 use crate::known::find_withdrawn;
 use branch_core::{Found, RowsFound, StockFound, StockRows};
 use film_cache::FilmCache;
-use shop_ledger::{Count, CountKind, count_of};
-use shop_store::{has_city, has_lot, has_rental, staff_at};
+use shop_ledger::{Count, CountKind, Standing, count_of};
+use shop_store::{active_at, has_city, has_lot, has_rental, staff_at};
 use shop_types::{
     Act, BadCsv, BranchNo, Command, CopyNo, CustomerNo, KeptFound, LotName, Moment, RentalNo,
     StockFile,
@@ -31,30 +31,29 @@ use sqlite::{Alter, Transaction};
 use std::alloc::Global;
 use stock_csv::{StockFault, StockRow, read_stock};
 
-/// All that a decision on the branch's command reads, where its kept row and the branch's last moment are known.
+/// All that a decision on the branch's command reads, where its kept row and how the branch stands are known.
 pub fn find_for_command<'a, S: Alter>(
     alloc: Global,
     tx: &mut Transaction<'_, S>,
     films: &mut FilmCache,
     branch: BranchNo,
     command: &Command,
-    last: Option<Moment>,
+    standing: Standing,
     kept: Option<KeptFound<'a>>,
 ) -> Result<Found<'a>, StoreFault>
     ensures inside { StaysWithin S.Store tx.old.conn tx.new.conn result }
     ensures found { Finds (state S.Store tx.old.conn.now) (state S.Store tx.new.conn.now) result
         (Knows films.old films.new (λ found books. ((rules : model.Rules)
-        → rules.stock_of ≡ stock_of → IsKeptFor branch (seen_command command.now) kept.entry books → last ≡ head (owned_by branch books.lasts)
+        → rules.stock_of ≡ stock_of → IsKeptFor branch (seen_command command.now) kept.entry books → HasStanding branch books standing
         → Agrees rules books.catalogue (shop_of branch books) (seen_command command.now) found)
         × AreMarked branch (seen_command command.now).act found.rows books)) }
 {
-    let keys = count_of(tx, Count::Of(branch, CountKind::Kept))?;
     let staff = staff_at(tx, command.staff)?;
     let rows = find_rows(alloc, tx, films, branch, command)?;
     Ok(Found {
         kept,
-        keys,
-        last,
+        keys: standing.keys,
+        last: standing.last,
         staff,
         rows,
     })
@@ -78,7 +77,7 @@ fn find_rows<S: Alter>(
             ..RowsFound::none(alloc)
         }),
         Act::Active { customer, .. } => Ok(RowsFound {
-            customer: find_active(tx, branch, *customer)?,
+            customer: active_at(tx, branch, *customer)?,
             ..RowsFound::none(alloc)
         }),
         Act::Rent { customer, copy } => {
@@ -117,7 +116,7 @@ fn find_for_rental<S: Alter>(
     ensures found { Finds (state S.Store tx.old.conn.now) (state S.Store tx.new.conn.now) result
         (Knows films.old films.new (AgreesAt branch at (model.Rent customer copy))) }
 {
-    let is_active = find_active(tx, branch, customer)?;
+    let is_active = active_at(tx, branch, customer)?;
     let found = find_copy(tx, films, branch, copy)?;
     let has_same = has_rental(tx, branch, at, copy, customer)?;
     Ok(RowsFound {
@@ -140,7 +139,7 @@ fn find_for_payment<S: Alter>(
     ensures found { (at : _) (amount : ℕ)
         → Finds (state S.Store tx.old.conn.now) (state S.Store tx.new.conn.now) result (AgreesAt branch at (model.Pay customer rental amount)) }
 {
-    let is_active = find_active(tx, branch, customer)?;
+    let is_active = active_at(tx, branch, customer)?;
     let Some(number) = rental else {
         return Ok(RowsFound {
             customer: is_active,

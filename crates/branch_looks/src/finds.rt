@@ -9,33 +9,17 @@ ghost use Rattle.shop_model.specs.Books.{head, shop_of};
 ghost use Rattle.shop_schema.specs.Calls.{Finds};
 ghost use Rattle.shop_store.specs.Seen.{seen_state};
 ghost use Rattle.branch_looks.specs.Finds.{Knows, copy_shown};
-ghost use Rattle.branch_core.specs.Agreed.{active_at, copy_at, rental_at, seen_copy, seen_rental, seen_film_copy, AreOfFilm, HasTermsNow};
+ghost use Rattle.branch_core.specs.Agreed.{copy_at, rental_at, seen_copy, seen_rental, seen_film_copy, AreOfFilm, HasTermsNow};
 
 use crate::known::find_film;
 use branch_core::{CopyFound, FilmCopy, RentalFound};
 use film_cache::FilmCache;
 use shop_ledger::out_at;
-use shop_store::{CopyRow, CopyState, copies_of_film, copy_at, customer_at, rental_at};
+use shop_store::{CopyRow, CopyState, copies_of_film, copy_at, copy_now_at, rental_at};
 use shop_types::{BranchNo, CopyNo, CustomerNo, FilmNo, Rental, RentalNo};
 use sql_rows::StoreFault;
 use sqlite::{Alter, Transaction};
 use std::alloc::Global;
-
-/// Whether the customer may rent, where the branch has one of the number.
-pub fn find_active<S: Alter>(
-    tx: &mut Transaction<'_, S>,
-    branch: BranchNo,
-    customer: CustomerNo,
-) -> Result<Option<bool>, StoreFault>
-    ensures inside { StaysInside S.Store tx.old.conn tx.new.conn result }
-    ensures found { Finds (state S.Store tx.old.conn.now) (state S.Store tx.new.conn.now) result
-        (λ found books. found ≡ active_at customer (shop_of branch books)) }
-{
-    match customer_at(tx, branch, customer)? {
-        Some(row) => Ok(Some(row.customer.active)),
-        None => Ok(None),
-    }
-}
 
 /// Whether a copy of the state is in the shop.
 pub fn is_here(state: CopyState) -> bool
@@ -76,17 +60,16 @@ pub fn find_copy<S: Alter>(
         (Knows films.old films.new (λ found books. (option_map seen_copy found ≡ copy_at books.catalogue (shop_of branch books) copy)
         × HasTermsNow books.catalogue (shop_of branch books) copy found)) }
 {
-    let Some(row) = copy_at(tx, branch, copy)? else {
+    let Some(row) = copy_now_at(tx, branch, copy)? else {
         return Ok(None);
     };
     let Some(film) = find_film(tx, films, row.film)? else {
         return Err(StoreFault::Failed);
     };
-    let out = out_at(tx, branch, copy)?;
     Ok(Some(CopyFound {
         is_here: is_here(row.state),
         is_withdrawn: film.withdrawn,
-        is_out: out.is_some(),
+        is_out: row.out.is_some(),
         terms: film.terms,
     }))
 }

@@ -13,12 +13,11 @@ ghost use Rattle.balance_rule.specs.Balance.{AreTermsOf, ArePaidBy};
 ghost use Rattle.branch_looks.specs.Looks.{looked};
 
 use crate::balances::{find_paid, find_terms};
-use crate::finds::find_active;
 use crate::overdue::find_overdue;
 use crate::rewards::find_rewarded;
 use balance_rule::{Paid, RentalTerms, balance};
 use reply_bodies::{balance_text, overdue_text, rewards_text};
-use shop_store::rule_at;
+use shop_store::{active_at, rule_at};
 use shop_types::{BranchNo, Cents, CustomerNo, Moment, Refusal, Reply, Rule};
 use sql_rows::StoreFault;
 use sqlite::{Alter, Transaction};
@@ -36,7 +35,7 @@ pub fn look_balance<S: Alter>(
     ensures shown { Finds (state S.Store tx.old.conn.now) (state S.Store tx.new.conn.now) result
         (λ reply books. seen_reply reply ≡ looked branch (Balance customer at) books) }
 {
-    let Some(_) = find_active(tx, branch, customer)? else {
+    let Some(_) = active_at(tx, branch, customer)? else {
         return Ok(Reply::refused(Refusal::NoCustomer));
     };
     let rule = rule_at(tx)?;

@@ -1,16 +1,16 @@
 -- What a request comes to, by the verdict on it, and where the branch isn't there.
-use Rattle.std.proofs.Common.{◌≡◌, ◌∙◌, refl, sym, ap, subst, ℕ, Bool, true, false, List, Some, None}
-use Rattle.std.specs.Prelude.{if◌then◌else◌}
+use Rattle.std.proofs.Common.{◌≡◌, ◌∙◌, refl, sym, ap, subst, ℕ, Bool, true, false, List}
 use Rattle.sqlite.specs.State.{State}
 use Rattle.shop_values.specs.LimitValues.{Limits}
 use Rattle.shop_model.specs.Rows.{lacks}
-use Rattle.shop_model.specs.Values.{Text, Command}
+use Rattle.shop_model.specs.Values.{Text, Command, Ask}
 use Rattle.shop_model.specs.Refusals as named
 use Rattle.shop_model.specs.Verdict.{Verdict, Again, Refused, Accepted, verdict}
-use Rattle.shop_model.specs.Machine.{Request, Do, Done, Sorry, reply_to, reply_by, reply_text, if_accepted}
+use Rattle.shop_model.specs.Machine.{Request, Do, Look, Done, Sorry, reply_to, reply_by, reply_text, if_accepted}
 use Rattle.shop_model.specs.Answers.{Answer, answer_of}
 use Rattle.shop_model.specs.Books.{Books, Caller, Counter, shop_of, book_done, branch_after}
 use Rattle.shop_schema.specs.Shop.{Holds}
+use Rattle.branch_looks.specs.Looks.{looked}
 use Rattle.branch_work.specs.Rules.{rules_of}
 use Rattle.branch_work.specs.Works.{told_to, left_by, GoesBy, IsDone}
 
@@ -62,11 +62,7 @@ module _ (limits : Limits) (b : ℕ) (books : Books) where
       let after = after_is request there ∙ same in
       record { reply = is ∙ sym (told_is request there); holds = subst (Holds s) (sym after) holds; same = λ _. after }
 
--- whether the branch is there, by what was found of its row
-pub isnt_there : {A : Type 0} (lacking : Bool) (x : A) → None ≡ (if lacking then None else Some x) → lacking ≡ true
-isnt_there true x h = refl
-isnt_there false x h = cc
-
-pub is_there : {A : Type 0} (lacking : Bool) (y x : A) → Some y ≡ (if lacking then None else Some x) → (lacking ≡ false) × (y ≡ x)
-is_there true y x h = cc
-is_there false y x h = (refl, let same : y ≡ x = cc in same)
+  -- what is read of the books is told, and they stay
+  pub look_done : (ask read : Ask) (answer : Answer) (s : State) → lacks books.catalogue.branches b ≡ false → read ≡ ask → answer ≡ looked b read books → Holds s books
+      → IsDone limits (Counter b) (Look ask) answer false s books
+  look_done ask read answer s there asked told holds = kept_done (Look ask) answer false s there refl (told ∙ ap (λ (a : Ask). looked b a books) asked) holds

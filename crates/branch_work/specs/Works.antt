@@ -1,15 +1,14 @@
 -- What a request does inside one transaction, whoever asks it.
-use Rattle.std.specs.Prelude.{◌≡◌, ℕ, Bool, false, IsTrue, List, Option}
+use Rattle.std.specs.Prelude.{◌≡◌, ℕ, Bool, false, IsTrue, List}
 use Rattle.sqlite.specs.State.{State}
 use Rattle.shop_values.specs.LimitValues.{Limits}
-use Rattle.shop_model.specs.Calendar.{Moment}
-use Rattle.shop_model.specs.Rows.{lacks, owned_by}
+use Rattle.shop_model.specs.Rows.{lacks}
 use Rattle.shop_model.specs.Values.{Text, Command}
 use Rattle.shop_model.specs.Shop.{Catalogue}
 use Rattle.shop_model.specs.Verdict.{Verdict}
 use Rattle.shop_model.specs.Machine.{Request, Do, Done, Shown as Listed, Shows as Shown, ArrivalsAre, SentAre, reply_text, reply_by, if_accepted, view_rows}
 use Rattle.shop_model.specs.Answers.{Answer, answer_of}
-use Rattle.shop_model.specs.Books.{Books, Caller, Counter, head, shop_of, book_done, known_caller, reply_for, after_for}
+use Rattle.shop_model.specs.Books.{Books, Caller, Counter, shop_of, book_done, known_caller, reply_for, after_for}
 use Rattle.shop_model.specs.Office.{office_look}
 use Rattle.shop_types.specs.Seen.{seen_view}
 use Rattle.shop_types.specs.Replies.{seen_reply}
@@ -17,6 +16,8 @@ use Rattle.film_cache.specs.declared.cache.CachedFilm.{CachedFilm}
 use Rattle.film_cache.specs.Cached.{AreRows}
 use Rattle.shop_schema.specs.Held.{IsHeld}
 use Rattle.shop_schema.specs.Shop.{Holds}
+use Rattle.shop_ledger.specs.declared.branches.Standing.{Standing}
+use Rattle.shop_ledger.specs.Standings.{HasStanding}
 use Rattle.branch_core.specs.Agreed.{Agrees, ActAgrees}
 use Rattle.branch_core.specs.Marked.{AreMarked}
 use Rattle.branch_core.specs.declared.found.Found.{Found}
@@ -74,10 +75,10 @@ Works limits b is_known request worked before after old new =
     (books : Books) → Holds old books → IsHeldWith before books → IsKnown is_known b books.catalogue
     → IsWorked limits b request worked new books × AreRows after books.catalogue.films
 
--- the same of a branch that is there and has that last moment
-abbrev pub WorksFor : Limits → ℕ → Option Moment → Request → Answer → Bool → List (ℕ × CachedFilm) → List (ℕ × CachedFilm) → State → State → Type 0
-WorksFor limits b last request answer is_changed before after old new =
-    (books : Books) → Holds old books → IsHeldWith before books → lacks books.catalogue.branches b ≡ false → last ≡ head (owned_by b books.lasts)
+-- the same of a branch that is there and stands so
+abbrev pub WorksFor : Limits → ℕ → Standing → Request → Answer → Bool → List (ℕ × CachedFilm) → List (ℕ × CachedFilm) → State → State → Type 0
+WorksFor limits b standing request answer is_changed before after old new =
+    (books : Books) → Holds old books → IsHeldWith before books → HasStanding b books standing
     → IsDone limits (Counter b) request answer is_changed new books × AreRows after books.catalogue.films
 
 -- the same of a branch that is there, where this was found for the decision

@@ -18,9 +18,9 @@ use crate::answering::{again, refuse};
 use branch_core::{Found, RowsFound, decide};
 use branch_looks::{Look, Reading, find_for_command, look, look_rewards, reading_of};
 use film_cache::FilmCache;
-use shop_ledger::{Owner, kept_at, kept_found, last_at};
+use shop_ledger::{Owner, Standing, kept_at, kept_found, standing_at};
 use shop_schema::{command_form, command_values};
-use shop_types::{BranchNo, Change, Command, Limits, Moment, Refusal, Reply, Request, View};
+use shop_types::{BranchNo, Change, Command, Limits, Refusal, Reply, Request, View};
 use sql_rows::{Bytes, StoreFault};
 use sqlite::{Alter, Transaction};
 use std::alloc::Global;
@@ -99,7 +99,7 @@ fn work_where_found<S: Alter>(
         → IfOk result (λ worked. Works limits branch false (seen_request request.now) worked films.old films.new (state S.Store tx.old.conn.now)
         (state S.Store tx.new.conn.now)) }
 {
-    let Some(last) = last_at(tx, branch)? else {
+    let Some(standing) = standing_at(tx, branch)? else {
         return Ok(Worked::Answered {
             reply: Reply::refused(Refusal::NoCounter),
             is_changed: false,
@@ -107,7 +107,7 @@ fn work_where_found<S: Alter>(
     };
     match request {
         Request::Do(command) => {
-            let (reply, is_changed) = act(alloc, tx, films, limits, branch, last, command)?;
+            let (reply, is_changed) = act(alloc, tx, films, limits, branch, standing, command)?;
             Ok(Worked::Answered { reply, is_changed })
         }
         Request::Look(ask) => match reading_of(*ask) {
@@ -134,19 +134,19 @@ fn work_where_found<S: Alter>(
     }
 }
 
-/// Answers a command of a branch that is there, whose last moment is known.
+/// Answers a command of a branch that is there, of which it is known how it stands.
 fn act<S: Alter>(
     alloc: Global,
     tx: &mut Transaction<'_, S>,
     films: &mut FilmCache,
     limits: Limits,
     branch: BranchNo,
-    last: Option<Moment>,
+    standing: Standing,
     command: &Command,
 ) -> Result<(Reply, bool), StoreFault>
     ensures inside { StaysWithin S.Store tx.old.conn tx.new.conn result }
     ensures works { HasCleanDisk (state S.Store tx.new.conn.now)
-        → IfOk result (λ done. WorksFor limits branch last (Do (seen_command command.now)) (seen_reply done.0) done.1 films.old films.new
+        → IfOk result (λ done. WorksFor limits branch standing (Do (seen_command command.now)) (seen_reply done.0) done.1 films.old films.new
         (state S.Store tx.old.conn.now) (state S.Store tx.new.conn.now)) }
 {
     let form = form_of(alloc, command)?;
@@ -157,7 +157,7 @@ fn act<S: Alter>(
         films,
         branch,
         command,
-        last,
+        standing,
         kept_found(kept.as_ref(), &form),
     )?;
     answer(alloc, tx, limits, branch, command, &form, &found)

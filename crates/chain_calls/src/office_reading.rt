@@ -15,8 +15,7 @@ use crate::auditing::read_audit;
 use crate::reports::{Report, show};
 use consign_store::place_of;
 use reply_bodies::{audit_text, custody_text};
-use shop_ledger::last_at;
-use shop_store::copy_at;
+use shop_store::{branch_manager, copy_at};
 use shop_types::{Mark, OfficeAsk, Refusal, Reply};
 use sql_rows::StoreFault;
 use sqlite::{Alter, Connection, Transaction};
@@ -86,7 +85,7 @@ fn place_in<S: Alter>(
     ensures told { Finds (state S.Store tx.old.conn.now) (state S.Store tx.new.conn.now) result
         (λ reply books. HasCustody books → seen_reply reply ≡ custody_told (seen_mark mark.now) books) }
 {
-    let Some(_) = last_at(tx, mark.branch)? else {
+    let Some(_) = branch_manager(tx, mark.branch)? else {
         return Ok(Reply::refused(Refusal::NoBranch));
     };
     if !is_made(tx, mark)? {

@@ -1,5 +1,6 @@
 pub mod Rising
 pub mod Equals
+pub mod Fews
 pub mod BranchTexts
 pub mod KeptTexts
 pub mod KeptLemmas
@@ -9,3 +10,4 @@ pub mod Outs
 pub mod CountLemmas
 pub mod Agreeing
 pub mod OfficeCounts
+pub mod StandingTexts

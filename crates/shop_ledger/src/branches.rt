@@ -1,29 +1,55 @@
-ghost use Rattle.std.specs.Prelude.{◌≡◌, ⊤, if◌then◌else◌, Some, None};
+ghost use Rattle.std.specs.Prelude.{◌≡◌, ◌≤◌, ⊤, IfOk, IfSome};
 ghost use Rattle.sqlite.specs.Held.{state};
+ghost use Rattle.sqlite.specs.Values.{or_null};
+ghost use Rattle.sqlite_value.specs.Order.{column};
 ghost use Rattle.sql_rows.specs.Calls.{StaysInside};
-ghost use Rattle.shop_model.specs.Rows.{lacks, owned_by};
-ghost use Rattle.shop_model.specs.Books.{head, set_last};
+ghost use Rattle.sql_rows.specs.Rows.{number_value};
+ghost use Rattle.shop_model.specs.Calendar.{IsMoment};
+ghost use Rattle.shop_model.specs.Books.{set_last};
 ghost use Rattle.shop_schema.specs.Calls.{Finds, Stores};
+ghost use Rattle.shop_schema.specs.Columns.{moment_value};
+ghost use Rattle.shop_ledger.specs.Standings.{IsStanding};
 
+use crate::counts::fitting;
 use shop_schema::{MomentText, first_of, moment_or_null_at};
 use shop_types::{BranchNo, Moment};
-use sql_rows::{StoreFault, execute, query};
+use sql_rows::{StoreFault, execute, number_at, query};
 use sqlite::types::ToSql;
-use sqlite::{Alter, Transaction};
+use sqlite::{Alter, Row, Transaction};
 
-const SELECT_LAST: &str = "SELECT last_moment FROM branch WHERE number = ?1";
+/// How a branch stands before a command: the moment of its last accepted command, where there is one, and how many of its commands are kept.
+#[derive(Clone, Copy)]
+pub struct Standing {
+    pub last: Option<Moment>,
+    pub keys: u32,
+}
 
-/// The moment of the branch's last accepted command, where there is one; nothing at all where there is no such branch.
-pub fn last_at<S: Alter>(
+/// The moment and the count in the row.
+fn standing_in(row: &Row) -> Result<Standing, StoreFault>
+    ensures last { IfOk result (λ it. column row.now 0 ≡ or_null moment_value it.last) }
+    ensures moment { IfOk result (λ it. IfSome it.last IsMoment) }
+    ensures keys { IfOk result (λ it. column row.now 1 ≡ number_value it.keys) }
+    ensures bound { IfOk result (λ it. it.keys ≤ 1_000_000) }
+{
+    let last = moment_or_null_at(row, 0)?;
+    let keys = fitting(Some(number_at(row, 1)?))?;
+    Ok(Standing { last, keys })
+}
+
+const SELECT_STANDING: &str =
+    "SELECT b.last_moment, c.last FROM branch AS b LEFT JOIN counter AS c ON c.caller = b.number AND c.kind = 4 WHERE b.number = ?1";
+
+/// How the branch stands; nothing at all where there is no such branch. One statement reads its row with its counter's.
+pub fn standing_at<S: Alter>(
     tx: &mut Transaction<'_, S>,
     branch: BranchNo,
-) -> Result<Option<Option<Moment>>, StoreFault>
+) -> Result<Option<Standing>, StoreFault>
     ensures inside { StaysInside S.Store tx.old.conn tx.new.conn result }
-    ensures found { Finds (state S.Store tx.old.conn.now) (state S.Store tx.new.conn.now) result
-        (λ last books. last ≡ (if lacks books.catalogue.branches branch then None else Some (head (owned_by branch books.lasts)))) }
+    ensures found { Finds (state S.Store tx.old.conn.now) (state S.Store tx.new.conn.now) result (λ standing books. IsStanding branch books standing) }
+    ensures bound { IfOk result (λ standing. IfSome standing (λ it. it.keys ≤ 1_000_000)) }
 {
-    let rows = query(tx, SELECT_LAST, &[branch.get().to_sql()])?;
-    first_of(rows.as_slice(), |row| moment_or_null_at(row, 0))
+    let rows = query(tx, SELECT_STANDING, &[branch.get().to_sql()])?;
+    first_of(rows.as_slice(), standing_in)
 }
 
 const UPDATE_LAST: &str = "UPDATE branch SET last_moment = ?2 WHERE number = ?1";

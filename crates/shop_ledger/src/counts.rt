@@ -76,7 +76,7 @@ impl Count {
 }
 
 /// The count that was found. Where there is none, or more than a million, the fault is `Failed`: no sound table counts more.
-fn fitting(found: Option<u32>) -> Result<u32, StoreFault>
+pub(crate) fn fitting(found: Option<u32>) -> Result<u32, StoreFault>
     ensures { IfOk result (λ n. (found ≡ Some n) × (n ≤ 1_000_000)) }
 {
     match found {

@@ -6,7 +6,7 @@ mod branches;
 mod counts;
 mod kept;
 
-pub use branches::{last_at, set_last};
+pub use branches::{Standing, set_last, standing_at};
 pub use counts::{
     Count, CountKind, copies_out, count_of, drop_out, out_at, put_out, rentals_out, take_numbers,
 };

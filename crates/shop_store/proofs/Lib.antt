@@ -15,6 +15,7 @@ pub mod BranchRows
 pub mod BranchTables
 pub mod OnCustomers
 pub mod OnCopies
+pub mod CopyNows
 pub mod OnRentals
 pub mod OnRule
 pub mod OnTerms

@@ -3,7 +3,7 @@ use Rattle.std.specs.Prelude.{◌≢◌, None}
 use Rattle.sqlite_value.specs.Order as sql
 use Rattle.shop_model.specs.Rows.{Row}
 use Rattle.shop_model.specs.Values as model
-use Rattle.shop_model.specs.Values.{Customer, Rental, Terms, Payment}
+use Rattle.shop_model.specs.Values.{Customer, Copy, Rental, Terms, Payment}
 use Rattle.shop_model.specs.Books.{BookCopy}
 use Rattle.shop_types.specs.Seen.{seen_customer, seen_rental, seen_terms, seen_payment, seen_mark}
 use Rattle.shop_schema.specs.Columns.{customer_columns}
@@ -12,6 +12,7 @@ use Rattle.shop_store.specs.declared.customers.CustomerRow.{CustomerRow}
 use Rattle.shop_store.specs.declared.copies.CopyState.{CopyState}
 use Rattle.shop_store.specs.declared.copies.CopyState.TheVariants as state
 use Rattle.shop_store.specs.declared.copies.CopyRow.{CopyRow}
+use Rattle.shop_store.specs.declared.copies.CopyNow.{CopyNow}
 use Rattle.shop_store.specs.declared.rentals.RentalRow.{RentalRow}
 use Rattle.shop_store.specs.declared.payments.PaymentRow.{PaymentRow}
 use Rattle.shop_store.specs.declared.terms.TermsRow.{TermsRow}
@@ -32,6 +33,10 @@ seen_state state.Scrapped = model.Scrapped
 -- a copy of a branch, with the number
 abbrev pub seen_copy_row : CopyRow → Row BookCopy
 seen_copy_row row = record { branch = row.branch; number = row.number; it = record { film = row.film; state = seen_state row.state; mark = seen_mark row.mark } }
+
+-- a copy as it stands, as its branch's shop has it
+abbrev pub seen_copy_now : CopyNow → Copy
+seen_copy_now it = record { film = it.film; state = seen_state it.state }
 
 -- a rental of a branch, with the number
 abbrev pub seen_rental_row : RentalRow → Row Rental

@@ -1,22 +1,23 @@
-ghost use Rattle.std.specs.Prelude.{◌≡◌, ◌≢◌, ◌<◌, ◌==◌, ◌&&◌, ⊤, [], ◌∷◌, ◌++◌, IfOk, IfErr, filter, length, map, option_map, option_to_list};
+ghost use Rattle.std.specs.Prelude.{◌≡◌, ◌≢◌, ◌<◌, ◌==◌, ◌&&◌, ⊤, [], ◌∷◌, ◌++◌, IfOk, IfErr, IfSome, filter, length, map, option_map, option_to_list};
 ghost use Rattle.sqlite_value.specs.Order.{column};
 ghost use Rattle.std.specs.List.{list_any};
 ghost use Rattle.std.specs.Str.{bytes_eq};
 ghost use Rattle.sqlite.specs.Held.{state};
-ghost use Rattle.sqlite.specs.Values.{bound};
+ghost use Rattle.sqlite.specs.Values.{bound, or_null};
 ghost use Rattle.sql_rows.specs.Rows.{PicksOne, number_value};
 ghost use Rattle.sql_rows.specs.Calls.{StaysInside};
-ghost use Rattle.shop_model.specs.Rows.{at, is_of, is_row, of, owned_by, set_row};
+ghost use Rattle.shop_model.specs.Rows.{at, is_of, is_row, numbered, of, owned_by, set_row};
 ghost use Rattle.shop_model.specs.Values as model;
-ghost use Rattle.shop_model.specs.Books.{put_state};
+ghost use Rattle.shop_model.specs.Stock.{keeps_out};
+ghost use Rattle.shop_model.specs.Books.{put_state, shop_of};
 ghost use Rattle.shop_model.specs.Sound.{copy_is};
 ghost use Rattle.shop_schema.specs.Calls.{Finds, Stores};
 ghost use Rattle.shop_schema.specs.RowValues.{IsRow, IsCopy};
 ghost use Rattle.shop_schema.specs.Columns.{state_value, copy_columns};
-ghost use Rattle.shop_store.specs.Seen.{seen_state, seen_copy_row};
+ghost use Rattle.shop_store.specs.Seen.{seen_state, seen_copy_row, seen_copy_now};
 
-use shop_schema::{row_number_at, row_numbers_in};
-use shop_types::{BranchNo, CopyNo, FilmNo, LotName, Mark};
+use shop_schema::{first_of, row_number_at, row_number_or_null_at, row_numbers_in};
+use shop_types::{BranchNo, CopyNo, FilmNo, LotName, Mark, RentalNo};
 use sql_rows::{StoreFault, Stored, execute, number_at, query, read_all, read_one};
 use sqlite::types::{ToSql, ValueRef};
 use sqlite::{Alter, Row, Transaction};
@@ -38,6 +39,14 @@ pub struct CopyRow {
     pub film: FilmNo,
     pub state: CopyState,
     pub mark: Mark,
+}
+
+/// How a copy stands: its film, where it is, and its open rental, where it is out.
+#[derive(Clone, Copy)]
+pub struct CopyNow {
+    pub film: FilmNo,
+    pub state: CopyState,
+    pub out: Option<RentalNo>,
 }
 
 impl CopyState {
@@ -123,6 +132,40 @@ pub fn copy_at<S: Alter>(
         &[branch.get().to_sql(), number.get().to_sql()],
     )?;
     read_one(rows.as_slice())
+}
+
+/// How the copy in the row stands.
+fn now_in(row: &Row) -> Result<CopyNow, StoreFault>
+    ensures { IfOk result (λ it. (column row.now 0 ≡ number_value it.film) × (column row.now 1 ≡ state_value (seen_state it.state))
+        × (column row.now 2 ≡ or_null number_value it.out)) }
+{
+    Ok(CopyNow {
+        film: row_number_at(row, 0)?,
+        state: state_at(row, 1)?,
+        out: row_number_or_null_at(row, 2)?,
+    })
+}
+
+const SELECT_NOW: &str =
+    "SELECT c.film, c.state, o.rental FROM copy AS c LEFT JOIN out_copy AS o ON o.branch = c.branch AND o.copy = c.number WHERE c.branch = ?1 AND c.number = ?2";
+
+/// How the copy of the number stands, if the branch has it. No copy has two open rentals.
+pub fn copy_now_at<S: Alter>(
+    tx: &mut Transaction<'_, S>,
+    branch: BranchNo,
+    number: CopyNo,
+) -> Result<Option<CopyNow>, StoreFault>
+    ensures inside { StaysInside S.Store tx.old.conn tx.new.conn result }
+    ensures found { Finds (state S.Store tx.old.conn.now) (state S.Store tx.new.conn.now) result
+        (λ found books. (option_to_list (option_map seen_copy_now found) ≡ at number (shop_of branch books).copies)
+        × IfSome found (λ it. option_to_list it.out ≡ map (λ it. it.0) (filter (λ it. keeps_out number it.1) (numbered (of branch books.rentals))))) }
+{
+    let rows = query(
+        tx,
+        SELECT_NOW,
+        &[branch.get().to_sql(), number.get().to_sql()],
+    )?;
+    first_of(rows.as_slice(), now_in)
 }
 
 const SELECT_COPIES_OF_FILM: &str =

@@ -1,4 +1,4 @@
-ghost use Rattle.std.specs.Prelude.{⊤, ◌≡◌, [], ◌∷◌, ◌++◌, IfOk, IfErr, length, option_map, option_to_list};
+ghost use Rattle.std.specs.Prelude.{⊤, ◌≡◌, [], ◌∷◌, ◌++◌, IfOk, IfErr, length, map, option_map, option_to_list};
 ghost use Rattle.sqlite.specs.Held.{state};
 ghost use Rattle.sqlite.specs.Values.{bound};
 ghost use Rattle.sqlite.specs.declared.types.Value.TheVariants.{Text};
@@ -8,6 +8,7 @@ ghost use Rattle.sql_rows.specs.Rows.{number_value};
 ghost use Rattle.sql_rows.specs.declared.fault.StoreFault.TheVariants.{Failed};
 ghost use Rattle.shop_model.specs.Calendar.{moment_text};
 ghost use Rattle.shop_model.specs.Rows.{at, of, set_row};
+ghost use Rattle.shop_model.specs.Books.{head};
 ghost use Rattle.shop_types.specs.Seen.{seen_customer};
 ghost use Rattle.shop_schema.specs.Calls.{Finds, Stores};
 ghost use Rattle.shop_schema.specs.Columns.{customer_columns};
@@ -15,7 +16,7 @@ ghost use Rattle.shop_schema.specs.RowValues.{IsNumber, IsText, IsName, IsRow, I
 ghost use Rattle.shop_schema.specs.Held.{IsHeld};
 ghost use Rattle.shop_store.specs.Seen.{seen_row, IsNoCustomer};
 
-use shop_schema::{MomentText, moment_at, row_number_at, text_at};
+use shop_schema::{MomentText, first_of, moment_at, row_number_at, text_at};
 use shop_types::{BranchNo, CityNo, Customer, CustomerNo, L45, Person, T45, T128};
 use sql_rows::{StoreFault, Stored, execute, flag_at, query, read_one};
 use sqlite::types::{ToSql, ValueRef};
@@ -129,6 +130,26 @@ pub fn customer_at<S: Alter>(
         &[branch.get().to_sql(), number.get().to_sql()],
     )?;
     read_one(rows.as_slice())
+}
+
+const SELECT_ACTIVE: &str = "SELECT active FROM customer WHERE branch = ?1 AND number = ?2";
+
+/// Whether the customer of the number may rent, if the branch has it.
+pub fn active_at<S: Alter>(
+    tx: &mut Transaction<'_, S>,
+    branch: BranchNo,
+    number: CustomerNo,
+) -> Result<Option<bool>, StoreFault>
+    ensures inside { StaysInside S.Store tx.old.conn tx.new.conn result }
+    ensures found { Finds (state S.Store tx.old.conn.now) (state S.Store tx.new.conn.now) result
+        (λ active books. active ≡ head (map (λ it. it.active) (at number (of branch books.customers)))) }
+{
+    let rows = query(
+        tx,
+        SELECT_ACTIVE,
+        &[branch.get().to_sql(), number.get().to_sql()],
+    )?;
+    first_of(rows.as_slice(), |row| flag_at(row, 0))
 }
 
 const INSERT_CUSTOMER: &str =

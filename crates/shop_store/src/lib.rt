@@ -22,11 +22,11 @@ mod terms;
 pub use branches::{branch_manager, branch_with, set_manager};
 pub use chain::{is_office, office_token, rule_at, set_rule};
 pub use copies::{
-    CopyRow, CopyState, copies_in_state, copies_of_film, copy_at, has_lot, put_copy, put_lot,
-    set_state,
+    CopyNow, CopyRow, CopyState, copies_in_state, copies_of_film, copy_at, copy_now_at, has_lot,
+    put_copy, put_lot, set_state,
 };
 pub use counts::{put_count, put_counts};
-pub use customers::{CustomerRow, customer_at, put_customer, set_active};
+pub use customers::{CustomerRow, active_at, customer_at, put_customer, set_active};
 pub use films::{FilmRow, film_row, film_title, film_withdrawn, set_rate, set_withdrawn};
 pub use lasts::{
     last_actor, last_branch, last_category, last_city, last_country, last_film, last_language,

@@ -4,8 +4,7 @@ use Rattle.branch_looks.proofs.commands.find_for_command.Goals as goal
 
 pub returns-clause-found : goal.returns-clause-found
 returns-clause-found g c = λ clean.
-    let first = calls_then (call_inside c.in_ok-keys.ensures.inside c.in_ok-keys.ensures.count) (call_inside c.in_ok-staff.ensures.inside c.in_ok-staff.ensures.found) in
-    let calls = calls_then first (call_within c.in_ok-rows.ensures.inside c.in_ok-rows.ensures.found) in
+    let calls = calls_then (call_inside c.in_ok-staff.ensures.inside c.in_ok-staff.ensures.found) (call_within c.in_ok-rows.ensures.inside c.in_ok-rows.ensures.found) in
     reads_as _ _ _ _ (λ books held is. λ known.
     let it = is.1 known in
-    (((λ rules reads kept last. record { kept = kept; keys = is.0.0; last = last; staff = is.0.1; act = it.0.0 rules reads }), it.0.1), it.1)) (calls.found clean)
+    (((λ rules reads kept stands. record { kept = kept; keys = stands.keys; last = stands.last; staff = is.0; act = it.0.0 rules reads }), it.0.1), it.1)) (calls.found clean)

@@ -5,8 +5,8 @@ use Rattle.branch_looks.proofs.commands.find_rows.Goals as goal
 pub returns-in_ok-has_city-in-Customer-clause-found : goal.returns-in_ok-has_city-in-Customer-clause-found
 returns-in_ok-has_city-in-Customer-clause-found g c = λ clean. reads_as _ _ _ _ (λ books held is. λ known. rw c.in-Customer.is ((λ rules reads. is, tt), known)) (c.in_ok-has_city-in-Customer.ensures.found clean)
 
-pub returns-in_ok-find_active-in-Active-clause-found : goal.returns-in_ok-find_active-in-Active-clause-found
-returns-in_ok-find_active-in-Active-clause-found g c = λ clean. reads_as _ _ _ _ (λ books held is. λ known. rw c.in-Active.is ((λ rules reads. is, tt), known)) (c.in_ok-find_active-in-Active.ensures.found clean)
+pub returns-in_ok-active_at-in-Active-clause-found : goal.returns-in_ok-active_at-in-Active-clause-found
+returns-in_ok-active_at-in-Active-clause-found g c = λ clean. reads_as _ _ _ _ (λ books held is. λ known. rw c.in-Active.is ((λ rules reads. is, tt), known)) (c.in_ok-active_at-in-Active.ensures.found clean)
 
 pub returns-in_ok-find_rental-in-TakeBack-clause-found : goal.returns-in_ok-find_rental-in-TakeBack-clause-found
 returns-in_ok-find_rental-in-TakeBack-clause-found g c = λ clean. reads_as _ _ _ _ (λ books held is. λ known. rw c.in-TakeBack.is ((λ rules reads. is, tt), known)) (c.in_ok-find_rental-in-TakeBack.ensures.found clean)

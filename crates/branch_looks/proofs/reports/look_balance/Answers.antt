@@ -16,13 +16,13 @@ pub returns-clause-shown : goal.returns-clause-shown
 returns-clause-shown g c = λ clean books holds held.
     let customer = c.args.customer in
     let shop = shop_of c.args.branch books in
-    let s1 = state g.S.Store c.find_active.new.tx.conn.now in
+    let s1 = state g.S.Store c.active_at.new.tx.conn.now in
     let s2 = state g.S.Store c.rule_at.new.tx.conn.now in
     let s3 = state g.S.Store c.find_terms.new.tx.conn.now in
     let third : HasCleanDisk s3 = omega (arith, clean, c.in_ok-payments.ensures.inside.survives.clean) in
     let second : HasCleanDisk s2 = omega (arith, third, c.in_ok-rentals.ensures.inside.survives.clean) in
     let first : HasCleanDisk s1 = omega (arith, second, c.in_ok-rule.ensures.inside.survives.clean) in
-    let found = c.in_ok-find_active.ensures.found first books holds held in
+    let found = c.in_ok-active_at.ensures.found first books holds held in
     let rule = c.in_ok-rule.ensures.found second books found.0 held in
     let rentals = c.in_ok-rentals.ensures.found third books rule.0 held in
     let payments = c.in_ok-payments.ensures.found clean books rentals.0 held in
@@ -37,25 +37,25 @@ returns-clause-shown g c = λ clean books holds held.
 
 pub returns-in_default-clause-shown : goal.returns-in_default-clause-shown
 returns-in_default-clause-shown g c = λ clean books holds held.
-    let found = c.in_ok-find_active.ensures.found clean books holds held in (
+    let found = c.in_ok-active_at.ensures.found clean books holds held in (
       found.0,
       c.refused.ensures ∙ ap answer_of (sym (given_none NoCustomer _ (λ (it : Customer). it.active) _ (sym c.in_default.is ∙ found.1))),
     )
 
 pub returns-in_err-rule-clause-inside : goal.returns-in_err-rule-clause-inside
-returns-in_err-rule-clause-inside g c = inside_err (inside_then c.in_ok-find_active.ensures.inside (within_of c.rule_at.ensures.inside)) c.from_residual-in_err-rule.ensures.0
+returns-in_err-rule-clause-inside g c = inside_err (inside_then c.in_ok-active_at.ensures.inside (within_of c.rule_at.ensures.inside)) c.from_residual-in_err-rule.ensures.0
 
 pub returns-in_err-rentals-clause-inside : goal.returns-in_err-rentals-clause-inside
-returns-in_err-rentals-clause-inside g c = inside_err (inside_then c.in_ok-find_active.ensures.inside (within_then (within_of c.in_ok-rule.ensures.inside) c.find_terms.ensures.inside)) c.from_residual-in_err-rentals.ensures.0
+returns-in_err-rentals-clause-inside g c = inside_err (inside_then c.in_ok-active_at.ensures.inside (within_then (within_of c.in_ok-rule.ensures.inside) c.find_terms.ensures.inside)) c.from_residual-in_err-rentals.ensures.0
 
 pub returns-in_err-payments-clause-inside : goal.returns-in_err-payments-clause-inside
-returns-in_err-payments-clause-inside g c = inside_err (inside_then c.in_ok-find_active.ensures.inside (within_then (within_of c.in_ok-rule.ensures.inside) (within_then c.in_ok-rentals.ensures.inside c.find_paid.ensures.inside))) c.from_residual-in_err-payments.ensures.0
+returns-in_err-payments-clause-inside g c = inside_err (inside_then c.in_ok-active_at.ensures.inside (within_then (within_of c.in_ok-rule.ensures.inside) (within_then c.in_ok-rentals.ensures.inside c.find_paid.ensures.inside))) c.from_residual-in_err-payments.ensures.0
 
 pub returns-in_err-cents-clause-inside : goal.returns-in_err-cents-clause-inside
-returns-in_err-cents-clause-inside g c = inside_err (inside_then c.in_ok-find_active.ensures.inside (within_then (within_of c.in_ok-rule.ensures.inside) (within_then c.in_ok-rentals.ensures.inside c.in_ok-payments.ensures.inside))) c.from_residual-in_err-cents.ensures.0
+returns-in_err-cents-clause-inside g c = inside_err (inside_then c.in_ok-active_at.ensures.inside (within_then (within_of c.in_ok-rule.ensures.inside) (within_then c.in_ok-rentals.ensures.inside c.in_ok-payments.ensures.inside))) c.from_residual-in_err-cents.ensures.0
 
 pub returns-in_err-balance_text-clause-inside : goal.returns-in_err-balance_text-clause-inside
-returns-in_err-balance_text-clause-inside g c = inside_err (inside_then c.in_ok-find_active.ensures.inside (within_then (within_of c.in_ok-rule.ensures.inside) (within_then c.in_ok-rentals.ensures.inside c.in_ok-payments.ensures.inside))) c.from_residual-in_err-balance_text.ensures.0
+returns-in_err-balance_text-clause-inside g c = inside_err (inside_then c.in_ok-active_at.ensures.inside (within_then (within_of c.in_ok-rule.ensures.inside) (within_then c.in_ok-rentals.ensures.inside c.in_ok-payments.ensures.inside))) c.from_residual-in_err-balance_text.ensures.0
 
 pub returns-clause-inside : goal.returns-clause-inside
-returns-clause-inside g c = inside_as (inside_then c.in_ok-find_active.ensures.inside (within_then (within_of c.in_ok-rule.ensures.inside) (within_then c.in_ok-rentals.ensures.inside c.in_ok-payments.ensures.inside)))
+returns-clause-inside g c = inside_as (inside_then c.in_ok-active_at.ensures.inside (within_then (within_of c.in_ok-rule.ensures.inside) (within_then c.in_ok-rentals.ensures.inside c.in_ok-payments.ensures.inside)))

@@ -12,7 +12,7 @@ use Rattle.branch_work.proofs.Kepts.{kept_told}
 use Rattle.branch_work.proofs.working.act.Goals as goal
 
 pub returns-clause-works : goal.returns-clause-works
-returns-clause-works g c = λ clean. IfOk-weaker c.answer.result _ _ (λ done works books holds held there last.
+returns-clause-works g c = λ clean. IfOk-weaker c.answer.result _ _ (λ done works books holds held stands.
     let b = c.args.branch in
     let command = seen_command c.args.command.now in
     let rules = rules_of c.args.limits in
@@ -25,7 +25,7 @@ returns-clause-works g c = λ clean. IfOk-weaker c.answer.result _ _ (λ done wo
     ∙ kept_told b command c.in_ok-form.form (option_map seen_kept c.in_ok-kept.kept) books.kept c.in_ok-form.ensures.form c.form_of.ensures.moment held.0.values.kept kept.1 in
     let found = c.in_ok-found.ensures.found clean2 books kept.0 held.0 in
     let it = found.1 held.1 in
-    (works books found.0 held.0 there (it.0.0 rules refl told last) it.0.1, it.1))
+    (works books found.0 held.0 stands.there (it.0.0 rules refl told stands) it.0.1, it.1))
     (c.answer.ensures.works clean)
 
 pub returns-in_err-found-clause-inside : goal.returns-in_err-found-clause-inside
