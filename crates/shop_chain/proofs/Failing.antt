@@ -1,5 +1,5 @@
 -- A chain that has failed stays as it is, and a look at one that hasn't may be refused by the store.
-use Rattle.std.proofs.Common.{◌≡◌, ◌∙◌, Bool, true, false, inl, inr, refl, sym, ap, subst, Ok, Err}
+use Rattle.std.proofs.Common.{◌≡◌, ◌∙◌, Bool, true, false, inl, inr, refl, sym, ap, subst, Result, Ok, Err}
 use Rattle.std.specs.Prelude.{◌||◌}
 use Rattle.std.proofs.lemmas.Bool.{cases_Bool}
 use Rattle.sqlite_trees.specs.declared.store.Store.{Ghosts}
@@ -35,18 +35,34 @@ stays_failed {S} old conn fault was same =
 refuses_failed : {S : Type 0} (g : Ghosts S) (chain : Chained S) → chain.is_failed ≡ true → Takes g chain chain (IsStoreRefusal StoreFailed)
 refuses_failed g chain was = takes_still (λ books besides. inr (refl, subst (λ (b : Bool). holding chain books besides ≡ record (holding chain books besides) { is_failed = b }) was refl))
 
--- a look that the store refuses, of a chain that had failed or of one that hadn't
-module _ {S : Type 0} (g : Ghosts S) (old new : Chained S) (conn : Held S) (fault : StoreFault)
+-- a call that commits nothing leaves a crash no more
+pub leaves_no_more : {S : Type 0} (g : Ghosts S) (old self : Chained S) (conn new : Held S) → old ≡ self → Survives (state g old.conn) (state g conn) (λ _. ⊥) → new ≡ conn
+    → LeavesNoMore (state g self.conn) (state g new)
+leaves_no_more {S} g old self conn new is survives same = subst (λ (x : Chained S). LeavesNoMore (state g x.conn) (state g new)) is (λ clean db may.
+    let moved : Survives (state g old.conn) (state g new) (λ _. ⊥) = subst (λ (h : Held S). Survives (state g old.conn) (state g h) (λ _. ⊥)) (sym same) survives in
+    elim (moved.crash clean db may) [ inl before ↦ before | inr none ↦ absurd none ])
+
+abbrev refusing : (A : Type 0) → StoreFault → Result A StoreFault
+refusing A fault = Err fault
+
+-- a look that the store refuses, of a chain that had failed or of one that hadn't: what it is made of, and what it is
+module _ {S A : Type 0} (g : Ghosts S) (old self new : Chained S) (conn : Held S) (fault : StoreFault) (is : old ≡ self)
     (told : new ≡ record { limits = old.limits; is_failed = old.is_failed || is_final fault; films = old.films; callers = old.callers; conn = conn })
-    (failed : old.is_failed ≡ true → (conn ≡ old.conn) × (fault ≡ Failed)) where
-  pub stays_refused : old.is_failed ≡ true → (new ≡ old) × (refusal_for fault ≡ StoreFailed)
-  stays_refused was = let it = failed was in (told ∙ stays_failed old conn fault was it.0, ap refusal_for it.1)
+    (refused : old.is_failed ≡ true → (conn ≡ old.conn) × (refusing A fault ≡ refusing A Failed)) where
+  failed : old.is_failed ≡ true → (conn ≡ old.conn) × (fault ≡ Failed)
+  failed was = let it = refused was in let final : fault ≡ Failed = cc in (it.0, final)
+
+  old_refused : old.is_failed ≡ true → (new ≡ old) × (refusal_for fault ≡ StoreFailed)
+  old_refused was = let it = failed was in (told ∙ stays_failed old conn fault was it.0, ap refusal_for it.1)
+
+  pub stays_refused : self.is_failed ≡ true → (new ≡ self) × (refusal_for fault ≡ StoreFailed)
+  stays_refused was = let it = old_refused (ap (λ (x : Chained S). x.is_failed) is ∙ was) in (it.0 ∙ is, it.1)
 
   pub look_refused : (HasCleanDisk (state g conn) → HasCleanDisk (state g old.conn)) → (HasCleanDisk (state g conn) → IsUndone (state g old.conn) (state g conn))
-      → Takes g old new (IsStoreRefusal (refusal_for fault))
-  look_refused clean same = elim (cases_Bool old.is_failed) [
+      → Takes g self new (IsStoreRefusal (refusal_for fault))
+  look_refused clean same = subst (λ (x : Chained S). Takes g x new (IsStoreRefusal (refusal_for fault))) is (elim (cases_Bool old.is_failed) [
     | inl was ↦
-        let it = stays_refused was in
+        let it = old_refused was in
         let first : Takes g old old (IsStoreRefusal (refusal_for fault)) = rw it.1 (refuses_failed g old was) in
         subst (λ (x : Chained S). Takes g old x (IsStoreRefusal (refusal_for fault))) (sym it.0) first
     | inr live ↦
@@ -54,11 +70,7 @@ module _ {S : Type 0} (g : Ghosts S) (old new : Chained S) (conn : Held S) (faul
         let so : next ≡ new = sym (rw live at told) in
         subst (λ (x : Chained S). Takes g old x (IsStoreRefusal (refusal_for fault))) so
         (kept g old next refl refl live fault (IsStoreRefusal (refusal_for fault)) (λ films are. are) refl clean same (λ before after refused. refused))
-  ]
+  ])
 
--- a call that commits nothing leaves a crash no more
-pub leaves_no_more : {S : Type 0} (g : Ghosts S) (old : Chained S) (conn new : Held S) → Survives (state g old.conn) (state g conn) (λ _. ⊥) → new ≡ conn
-    → LeavesNoMore (state g old.conn) (state g new)
-leaves_no_more {S} g old conn new survives same clean db may =
-    let moved : Survives (state g old.conn) (state g new) (λ _. ⊥) = subst (λ (h : Held S). Survives (state g old.conn) (state g h) (λ _. ⊥)) (sym same) survives in
-    elim (moved.crash clean db may) [ inl before ↦ before | inr none ↦ absurd none ]
+  pub refused_leaves : Survives (state g old.conn) (state g conn) (λ _. ⊥) → LeavesNoMore (state g self.conn) (state g new.conn)
+  refused_leaves survives = leaves_no_more g old self conn new.conn is survives (ap (λ (x : Chained S). x.conn) told)

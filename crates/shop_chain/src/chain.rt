@@ -1,6 +1,6 @@
 //! The chain of shops over a store.
 
-ghost use Rattle.std.specs.Prelude.{◌≡◌, ◌≢◌, ◌≤◌, ◌||◌, true, false, Err, Some, IfOk, IfErr, IfSome, OnErr, length, map};
+ghost use Rattle.std.specs.Prelude.{◌≡◌, ◌≢◌, ◌≤◌, ◌||◌, [], true, false, Err, Some, IfOk, IfErr, IfSome, OnErr, length, map};
 ghost use Rattle.sqlite.specs.Held.{state};
 ghost use Rattle.sqlite.specs.State.{HasCleanDisk};
 ghost use Rattle.sqlite.specs.Steps.{over_memory};
@@ -70,14 +70,7 @@ impl Chain<MemStore> {
         let first = FirstRows::OfOffice(office);
         first_values(&first);
         match in_memory(alloc, &first) {
-            Ok(conn) => Ok(Chain {
-                limits,
-                is_failed: false,
-                films: FilmCache::new(alloc),
-                callers: CallerCache::new(alloc),
-                conn,
-                alloc,
-            }),
+            Ok(conn) => Ok(Chain::over(alloc, conn, limits)),
             Err(fault) => Err(fault),
         }
     }
@@ -91,20 +84,28 @@ impl Chain<MemStore> {
         let first = FirstRows::OfOpening;
         first_values(&first);
         match in_memory(alloc, &first) {
-            Ok(conn) => Ok(Chain {
-                limits,
-                is_failed: false,
-                films: FilmCache::new(alloc),
-                callers: CallerCache::new(alloc),
-                conn,
-                alloc,
-            }),
+            Ok(conn) => Ok(Chain::over(alloc, conn, limits)),
             Err(fault) => Err(fault),
         }
     }
 }
 
 impl<S: Alter> Chain<S> {
+    /// The chain whose tables are the connection's, of which nothing is kept yet.
+    pub(crate) fn over(alloc: Global, conn: Connection<S>, limits: Limits) -> Chain<S>
+        requires { conn.in_transaction ≡ false }
+        ensures { result ≡ record { limits = limits; is_failed = false; films = []; callers = []; conn = conn } }
+    {
+        Chain {
+            limits,
+            is_failed: false,
+            films: FilmCache::new(alloc),
+            callers: CallerCache::new(alloc),
+            conn,
+            alloc,
+        }
+    }
+
     /// Whether the store has failed: then every request is answered `StoreFailed`.
     pub fn is_failed(&self) -> bool
         ensures { result ≡ self.now.is_failed }

@@ -5,9 +5,7 @@ ghost use Rattle.shop_schema.specs.Shop.{first_books};
 ghost use Rattle.chain_calls.specs.Openings.{IsCreated, IsNotCreated};
 
 use crate::chain::Chain;
-use caller_cache::CallerCache;
 use chain_calls::{FirstRows, OpenFault, connect, create, first_values, give_back};
-use film_cache::FilmCache;
 use shop_types::{Limits, Token};
 use sqlite::{FileStore, Files};
 use sqlite_disk::Disk;
@@ -29,14 +27,7 @@ impl<D: Disk + Drop> Chain<FileStore<D>> {
         first_values(&first);
         let mut conn = connect(alloc, files)?;
         match create(&mut conn, &first) {
-            Ok(()) => Ok(Chain {
-                limits,
-                is_failed: false,
-                films: FilmCache::new(alloc),
-                callers: CallerCache::new(alloc),
-                conn,
-                alloc,
-            }),
+            Ok(()) => Ok(Chain::over(alloc, conn, limits)),
             Err(fault) => Err((fault, give_back(conn))),
         }
     }

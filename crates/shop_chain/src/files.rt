@@ -11,10 +11,8 @@ ghost use Rattle.chain_calls.specs.Files.{HoldsOne, KeepsBooks, KeepsEither};
 ghost use Rattle.chain_calls.specs.Openings.{IsOpenedIn, IsNotOpened};
 
 use crate::chain::Chain;
-use caller_cache::CallerCache;
 use chain_calls::{OpenFault, connect, give_back};
 use chain_steps::examine;
-use film_cache::FilmCache;
 use shop_types::Limits;
 use sqlite::{FileStore, Files};
 use sqlite_disk::Disk;
@@ -33,14 +31,7 @@ impl<D: Disk + Drop> Chain<FileStore<D>> {
     {
         let mut conn = connect(alloc, files)?;
         match examine(alloc, &mut conn) {
-            Ok(()) => Ok(Chain {
-                limits,
-                is_failed: false,
-                films: FilmCache::new(alloc),
-                callers: CallerCache::new(alloc),
-                conn,
-                alloc,
-            }),
+            Ok(()) => Ok(Chain::over(alloc, conn, limits)),
             Err(fault) => Err((fault, give_back(conn))),
         }
     }

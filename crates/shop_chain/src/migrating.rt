@@ -4,10 +4,8 @@ ghost use Rattle.std.specs.Prelude.{◌≡◌, IfOk, IfErr};
 ghost use Rattle.chain_calls.specs.Openings.{IsMigratedIn, IsNotMigrated};
 
 use crate::chain::Chain;
-use caller_cache::CallerCache;
 use chain_calls::{OpenFault, connect, give_back};
 use chain_steps::migrate_first;
-use film_cache::FilmCache;
 use shop_types::Limits;
 use sqlite::{FileStore, Files};
 use sqlite_disk::Disk;
@@ -28,14 +26,7 @@ impl<D: Disk + Drop> Chain<FileStore<D>> {
     {
         let mut conn = connect(alloc, files)?;
         match migrate_first(alloc, &mut conn) {
-            Ok(()) => Ok(Chain {
-                limits,
-                is_failed: false,
-                films: FilmCache::new(alloc),
-                callers: CallerCache::new(alloc),
-                conn,
-                alloc,
-            }),
+            Ok(()) => Ok(Chain::over(alloc, conn, limits)),
             Err(fault) => Err((fault, give_back(conn))),
         }
     }

@@ -19,13 +19,13 @@ returns-in_err-conn-clause-refused g c =
 pub returns-in-Ok-clause-made : goal.returns-in-Ok-clause-made
 returns-in-Ok-clause-made g c =
     let first = λ (clean : HasCleanDisk (file_state c.create.new.conn)). let r : HasCleanDisk (file_state c.in_ok-conn.conn) = omega (arith, clean, c.create.ensures.crash.clean) in r in
-    record {
+    rw c.over.ensures (record {
       limits = refl;
       live = refl;
       honest = λ clean. (c.in_ok-conn.ensures.found (first clean)).honest;
-      made = λ clean. opened_at _ (first_books c.args.office.now) refl c.new.ensures c.new-in-Ok.ensures (empty_sound widest_rules c.args.office.now) c.first_values.ensures (c.in-Ok.ensures.made clean);
+      made = λ clean. opened_at _ (first_books c.args.office.now) refl refl refl (empty_sound widest_rules c.args.office.now) c.first_values.ensures (c.in-Ok.ensures.made clean);
       none = λ clean. holds_no_table c.in_ok-conn.conn c.args.files (c.in_ok-conn.ensures.opened (first clean)) g.met.D.Disk.seen_may_stay (c.in_ok-conn.ensures.found (first clean)) c.in-Ok.ensures.none;
-    }
+    })
 
 pub returns-in-Err-clause-refused : goal.returns-in-Err-clause-refused
 returns-in-Err-clause-refused g c =

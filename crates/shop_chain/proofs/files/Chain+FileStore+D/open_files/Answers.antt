@@ -20,7 +20,7 @@ returns-in-Ok-clause-opened g c =
     let found = λ (clean : HasCleanDisk (file_state c.examine.new.conn)). c.in_ok-conn.ensures.found (first clean) in
     let this = λ (clean : HasCleanDisk (file_state c.examine.new.conn)). c.in-Ok.ensures.this clean in
     let stays = g.met.D.Disk.seen_may_stay in
-    record {
+    rw c.over.ensures (record {
       limits = refl;
       live = refl;
       honest = λ clean. (found clean).honest;
@@ -28,19 +28,19 @@ returns-in-Ok-clause-opened g c =
           let it = c.in-Ok.ensures.sound clean (opened clean).0.clean in (
             it.0,
             holds_sound conn c.args.files (opened clean) (found clean) (this clean).0 it.0 it.1,
-            opened_at _ it.0 refl c.new.ensures c.new-in-Ok.ensures it.3 it.2 (c.examine.ensures.same clean it.0 (sound_rests conn c.args.files (opened clean) (found clean) stays (this clean).0 it.0 it.1)),
+            opened_at _ it.0 refl refl refl it.3 it.2 (c.examine.ensures.same clean it.0 (sound_rests conn c.args.files (opened clean) (found clean) stays (this clean).0 it.0 it.1)),
           );
       found = λ clean books held.
-          opened_at _ books refl c.new.ensures c.new-in-Ok.ensures held.sound held.values (c.examine.ensures.same clean books (found_rests conn c.args.files (opened clean) (found clean) stays (this clean).0 books held));
+          opened_at _ books refl refl refl held.sound held.values (c.examine.ensures.same clean books (found_rests conn c.args.files (opened clean) (found clean) stays (this clean).0 books held));
       again = λ clean books keeps.
-          opened_at _ books refl c.new.ensures c.new-in-Ok.ensures keeps.sound keeps.values (c.examine.ensures.same clean books (kept_rests conn c.args.files (opened clean) (found clean) stays (this clean).0 books keeps));
+          opened_at _ books refl refl refl keeps.sound keeps.values (c.examine.ensures.same clean books (kept_rests conn c.args.files (opened clean) (found clean) stays (this clean).0 books keeps));
       either = λ clean books besides keeps.
           ∥∥₁_map (either_rests conn c.args.files (opened clean) (found clean) stays (this clean).0 books besides keeps) (λ it. elim it [
-            | inl first ↦ inl (opened_at _ books refl c.new.ensures c.new-in-Ok.ensures keeps.sound keeps.values (c.examine.ensures.same clean books first))
-            | inr other ↦ inr (opened_at _ besides refl c.new.ensures c.new-in-Ok.ensures other.0 other.1 (c.examine.ensures.same clean besides other.2))
+            | inl first ↦ inl (opened_at _ books refl refl refl keeps.sound keeps.values (c.examine.ensures.same clean books first))
+            | inr other ↦ inr (opened_at _ besides refl refl refl other.0 other.1 (c.examine.ensures.same clean besides other.2))
           ]);
       this = λ clean. has_this_version conn c.args.files (opened clean) (found clean) (this clean);
-    }
+    })
 
 pub returns-in-Err-clause-refused : goal.returns-in-Err-clause-refused
 returns-in-Err-clause-refused g c =

@@ -27,25 +27,25 @@ returns-in-Ok-clause-migrated g c =
     let first = λ (clean : HasCleanDisk (file_state c.migrate_first.new.conn)). c.in-Ok.ensures.first clean in
     let made = λ (clean : HasCleanDisk (file_state c.migrate_first.new.conn)). c.in-Ok.ensures.migrated clean (opened clean).0.clean in
     let was = λ (clean : HasCleanDisk (file_state c.migrate_first.new.conn)). is_version_1 conn files (opened clean) (found clean) (first clean).0 in
-    record {
+    rw c.over.ensures (record {
       limits = refl;
       live = refl;
       honest = λ clean. (found clean).honest;
       first = λ clean. has_version_1 conn files (opened clean) (found clean) (first clean);
       sound = λ clean.
           let it = ((made clean).tables (was clean)).sound in
-          (it.0, opened_at _ it.0 refl c.new.ensures c.new-in-Ok.ensures it.3 it.2 ((made clean).rests (was clean) it.0 it.1));
+          (it.0, opened_at _ it.0 refl refl refl it.3 it.2 ((made clean).rests (was clean) it.0 it.1));
       found = λ clean books held.
           let stands = ((made clean).tables (was clean)).books books (stands_as_found conn files (opened clean) (found clean) books held) in
-          opened_at _ (migrated books) refl c.new.ensures c.new-in-Ok.ensures (migrated_sound widest_rules books held.sound) (migrated_values books held.values) ((made clean).rests (was clean) (migrated books) stands);
+          opened_at _ (migrated books) refl refl refl (migrated_sound widest_rules books held.sound) (migrated_values books held.values) ((made clean).rests (was clean) (migrated books) stands);
       again = λ clean books keeps.
           let either = keeps_in_either g.D.Disk files books keeps in
           let stands = stands_as_kept conn files (opened clean) (found clean) stays books either (first clean) _ ((made clean).tables (was clean)) in
-          opened_at _ (migrated books) refl c.new.ensures c.new-in-Ok.ensures (migrated_sound widest_rules books keeps.sound) (migrated_values books keeps.values) ((made clean).rests (was clean) (migrated books) stands);
+          opened_at _ (migrated books) refl refl refl (migrated_sound widest_rules books keeps.sound) (migrated_values books keeps.values) ((made clean).rests (was clean) (migrated books) stands);
       resumed = λ clean books keeps.
           let stands = stands_as_kept conn files (opened clean) (found clean) stays books keeps (first clean) _ ((made clean).tables (was clean)) in
-          opened_at _ (migrated books) refl c.new.ensures c.new-in-Ok.ensures (migrated_sound widest_rules books keeps.sound) (migrated_values books keeps.values) ((made clean).rests (was clean) (migrated books) stands);
-    }
+          opened_at _ (migrated books) refl refl refl (migrated_sound widest_rules books keeps.sound) (migrated_values books keeps.values) ((made clean).rests (was clean) (migrated books) stands);
+    })
 
 pub returns-in-Err-clause-refused : goal.returns-in-Err-clause-refused
 returns-in-Err-clause-refused g c =
