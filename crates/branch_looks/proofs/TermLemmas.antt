@@ -1,30 +1,25 @@
--- What is found of a rental's row of terms, or of a copy's film, tells the terms.
-use Rattle.std.proofs.Common.{◌≡◌, ◌∙◌, inl, inr, refl, sym, ap, subst, arith, ℕ, ◌+◌, ◌<◌, List, [], ◌∷◌, ◌++◌, length, map, filter, flat_map, take, get_or, codes, append_assoc, append-nil, Bool, true, false, Option, Some, None, option_map}
-use Rattle.std.proofs.lemmas.Bool.{cases_Bool, and_parts}
-use Rattle.std.proofs.lemmas.List.{map-append, take_more, length-append}
+-- What is found of a copy's film tells the terms of a rental, and what is found of an overdue one tells its row.
+use Rattle.std.proofs.Common.{◌≡◌, ◌∙◌, refl, sym, ap, ℕ, ◌+◌, ◌<◌, List, [], ◌∷◌, ◌++◌, length, map, filter, flat_map, take, get_or, codes, append-nil, Bool, true, false, Option, Some, None, option_map}
+use Rattle.std.proofs.lemmas.List.{map-append, take_more}
 use Rattle.std.proofs.lemmas.List.Elements.{filter-append}
-use Rattle.std.specs.Prelude.{◌-◌, ◌==◌, ◌&&◌, if◌then◌else◌, nat_lt, is_none, is_some, zip}
+use Rattle.std.specs.Prelude.{◌-◌, ◌==◌, if◌then◌else◌}
 use Rattle.std.specs.Option.{option_to_list}
-use Rattle.shop_model.specs.Rows.{Row, IsCounted, at, is_of, numbered, numbered_from, of}
-use Rattle.shop_model.specs.Calendar.{Moment, day_of}
+use Rattle.shop_model.specs.Rows.{at, of}
 use Rattle.shop_model.specs.Values.{Text, Copy, Customer, Film, Rental, Terms}
 use Rattle.shop_model.specs.Shop.{Catalogue, Shop}
 use Rattle.shop_model.specs.Books.{BookCopy, Books, head, shop_of, unmarked}
-use Rattle.shop_model.specs.Stock.{film_of, film_terms, is_overdue, terms_now}
+use Rattle.shop_model.specs.Stock.{film_of, film_terms, terms_now}
 use Rattle.shop_model.specs.Views.{overdue_row}
-use Rattle.shop_model.proofs.RowLemmas.{differ_test, filter_away, map_at}
+use Rattle.shop_model.proofs.RowLemmas.{map_at}
 use Rattle.shop_types.specs.Seen.{seen_customer, seen_terms}
 use Rattle.shop_store.specs.declared.copies.CopyRow.{CopyRow}
 use Rattle.shop_store.specs.declared.customers.CustomerRow.{CustomerRow}
 use Rattle.shop_store.specs.Seen.{seen_copy_row}
-use Rattle.shop_schema.proofs.Lists.{flat_map_push}
-use Rattle.branch_looks.specs.Finds.{all_at, charged}
 use Rattle.film_cache.specs.declared.cache.KnownFilm.{KnownFilm}
 use Rattle.film_cache.specs.Cached.{known_of, seen_known}
 use Rattle.shop_store.specs.SharedSeen.{title_of, withdrawn_of}
 use Rattle.reply_bodies.specs.declared.overdue_rows.OverdueRow.{OverdueRow}
 use Rattle.reply_bodies.specs.Overdue.{seen_overdue}
-use Rattle.balance_rule.specs.Balance.{terms_of}
 
 -- a number picks one row at most
 pub picks_one : {A : Type 0} (n : ℕ) (rows : List A) → option_to_list (head (at n rows)) ≡ at n rows
@@ -91,98 +86,7 @@ copy_terms catalogue shop x copy t found told =
     ap (λ (copies : List Copy). map film_terms (films_at catalogue.films copies)) (sym found)
     ∙ ap (map film_terms) (append-nil (at copy.film catalogue.films)) ∙ one_told t (at copy.film catalogue.films) told (picks_one copy.film catalogue.films)
 
-pub at_behind : {A : Type 0} (before after : List A) (x : A) → at (length before + 1) (before ++ x ∷ after) ≡ x ∷ []
-at_behind [] after x = refl
-at_behind (first ∷ before) after x =
-    let later : (length (first ∷ before) + 1 == 1) ≡ false = differ_test (length (first ∷ before) + 1) 1 (omega arith) in
-    let less : length (first ∷ before) + 1 - 1 ≡ length before + 1 = omega arith in
-    rw later (ap (λ (n : ℕ). at n (before ++ x ∷ after)) less ∙ at_behind before after x)
-
--- the rentals of a branch that pass a test, each with the terms under its number
-module _ (b : ℕ) (q : Rental → Bool) where
-  abbrev chosen : List (Row Rental) → List (Row Rental)
-  chosen rows = filter (λ (row : Row Rental). is_of b row && q row.it) rows
-
-  abbrev numbers_of : List (Row Rental) → List ℕ
-  numbers_of rows = map (λ (row : Row Rental). row.number) (filter (is_of b) rows)
-
-  pub charged_rows : (rows : List (Row Rental)) (before after : List Terms) → IsCounted (length before + 1) (numbers_of rows) → length after ≡ length (of b rows)
-      → flat_map (charged (before ++ after)) (chosen rows) ≡ map terms_of (filter (λ (it : Rental × Terms). q it.0) (zip (of b rows) after))
-  charged_rows [] before [] counted same = refl
-  charged_rows [] before (t ∷ after) counted same = refl
-  charged_rows (row ∷ rows) before [] counted same = elim (cases_Bool (is_of b row)) [
-    | inl ours ↦ absurd (omega (arith, rw ours at same))
-    | inr other ↦ rw other (charged_rows rows before [] (rw other at counted) (rw other at same))
-  ]
-  charged_rows (row ∷ rows) before (t ∷ after) counted same = elim (cases_Bool (is_of b row)) [
-    | inl ours ↦
-        let all = before ++ t ∷ after in
-        let count = rw ours at counted in
-        let lengths = rw ours at same in
-        let next : length before + 1 + 1 ≡ length (before ++ t ∷ []) + 1 = ap (λ (n : ℕ). n + 1) (sym (length-append before (t ∷ []))) in
-        let rest : flat_map (charged all) (chosen rows) ≡ map terms_of (filter (λ (it : Rental × Terms). q it.0) (zip (of b rows) after)) =
-        ap (λ (ts : List Terms). flat_map (charged ts) (chosen rows)) (sym (append_assoc before (t ∷ []) after))
-        ∙ charged_rows rows (before ++ t ∷ []) after (subst (λ (n : ℕ). IsCounted n (numbers_of rows)) next count.1) (omega (arith, lengths)) in
-        let own : charged all row ≡ terms_of (row.it, t) ∷ [] =
-        ap (map (λ (it : Terms). terms_of (row.it, it))) (ap (λ (n : ℕ). at n all) count.0 ∙ at_behind before after t) in
-        elim (cases_Bool (q row.it)) [
-          | inl passes ↦ rw (ours, passes) (λ i. own i ++ rest i)
-          | inr fails ↦ rw (ours, fails) rest
-        ]
-    | inr other ↦ rw other (charged_rows rows before (t ∷ after) (rw other at counted) (rw other at same))
-  ]
-
 -- ---- overdue rentals
-
-none_given : {A : Type 0} (o : Option A) → is_some o ≡ false → is_none o ≡ true
-none_given None isnt = refl
-none_given (Some x) isnt = cc
-
--- an open rental is overdue by the period of its terms
-pub overdue_by : (moment : Moment) (rental : Rental) (terms : Terms) → is_some rental.returned ≡ false
-    → is_overdue moment (rental, terms) ≡ nat_lt (day_of rental.rented + terms.period) (day_of moment)
-overdue_by moment rental terms unreturned = ap (λ (o : Bool). o && nat_lt (day_of rental.rented + terms.period) (day_of moment)) (none_given rental.returned unreturned)
-
--- a rental that is back isn't
-pub back_in_time : (moment : Moment) (rental : Rental) (terms : Terms) → is_some rental.returned ≡ true → is_overdue moment (rental, terms) ≡ false
-back_in_time moment rental terms returned = ap (λ (o : Bool). o && nat_lt (day_of rental.rented + terms.period) (day_of moment)) (given rental.returned returned)
-  where
-    given : {A : Type 0} (o : Option A) → is_some o ≡ true → is_none o ≡ false
-    given None is = cc
-    given (Some x) is = refl
-
--- among the open rentals are all that are overdue
-pub overdue_of_open : (moment : Moment) (all : List (Rental × Terms)) → filter (is_overdue moment) (filter (λ (it : Rental × Terms). is_none it.0.returned) all) ≡ filter (is_overdue moment) all
-overdue_of_open moment all =
-    filter_away (is_overdue moment) (λ (it : Rental × Terms). is_none it.0.returned) all
-    (λ it is. (and_parts (is_none it.0.returned) (nat_lt (day_of it.0.rented + it.1.period) (day_of moment)) is).0)
-
-zip_none : {A B : Type 0} (xs : List A) (ys : List B) → ys ≡ [] → zip xs ys ≡ []
-zip_none [] ys none = refl
-zip_none (x ∷ xs) [] none = refl
-zip_none (x ∷ xs) (y ∷ ys) none = cc
-
--- what two lists have at a number
-pub at_both : {A B : Type 0} (n : ℕ) (xs : List A) (ys : List B) → at n (zip xs ys) ≡ zip (at n xs) (at n ys)
-at_both n [] [] = refl
-at_both n [] (y ∷ ys) = refl
-at_both n (x ∷ xs) [] = sym (zip_none (at n (x ∷ xs)) [] refl)
-at_both n (x ∷ xs) (y ∷ ys) = elim (cases_Bool (n == 1)) [
-  | inl is ↦ rw is refl
-  | inr isnt ↦ rw isnt (at_both (n - 1) xs ys)
-]
-
--- the numbers of the rentals that pass a test are those of the rentals with their terms
-pub numbers_termed : (p : Rental → Bool) (k : ℕ) (rentals : List Rental) (terms : List Terms) → length terms ≡ length rentals
-    → map (λ (it : ℕ × Rental). it.0) (filter (λ (it : ℕ × Rental). p it.1) (numbered_from k rentals))
-    ≡ map (λ (it : ℕ × (Rental × Terms)). it.0) (filter (λ (it : ℕ × (Rental × Terms)). p it.1.0) (numbered_from k (zip rentals terms)))
-numbers_termed p k [] [] same = refl
-numbers_termed p k [] (t ∷ terms) same = refl
-numbers_termed p k (rental ∷ rentals) [] same = absurd (omega (arith, same))
-numbers_termed p k (rental ∷ rentals) (t ∷ terms) same = elim (cases_Bool (p rental)) [
-  | inl passes ↦ rw passes (ap (λ (ns : List ℕ). k ∷ ns) (numbers_termed p (k + 1) rentals terms (omega (arith, same))))
-  | inr fails ↦ rw fails (numbers_termed p (k + 1) rentals terms (omega (arith, same)))
-]
 
 -- one that passes the test, and one that doesn't
 pub kept_alone : {A B : Type 0} (g : A → B) (p : A → Bool) (x : A) → p x ≡ true → g x ∷ [] ≡ map g (filter p (x ∷ []))
@@ -191,34 +95,14 @@ kept_alone g p x is = rw is refl
 pub kept_none : {A B : Type 0} (g : A → B) (p : A → Bool) (x : A) → p x ≡ false → [] ≡ map g (filter p (x ∷ []))
 kept_none g p x isnt = rw isnt refl
 
--- one number more of a list that is chosen number by number
-pub more_kept : {A B : Type 0} (g : A → B) (p : A → Bool) (all : List A) (numbers : List ℕ) (i n : ℕ) → i < length numbers → n ≡ get_or numbers i n
-    → map g (filter p (all_at (take i numbers) all)) ++ map g (filter p (at n all)) ≡ map g (filter p (all_at (take (i + 1) numbers) all))
-more_kept {A = A} {B = B} g p all numbers i n lt is =
-    let f : ℕ → List A = λ m. at m all in
-    let taken : take (i + 1) numbers ≡ take i numbers ++ n ∷ [] = take_more numbers i n lt ∙ ap (λ (m : ℕ). take i numbers ++ m ∷ []) (sym is) in
-    sym (map-append g (filter p (flat_map f (take i numbers))) (filter p (f n)))
-    ∙ ap (map g) (sym (filter-append p (flat_map f (take i numbers)) (f n)))
-    ∙ ap (λ (rs : List A). map g (filter p rs)) (sym (flat_map_push f (take i numbers) n) ∙ ap (flat_map f) (sym taken))
-
--- ---- the open rentals by their numbers
-
-chosen_after : {A : Type 0} (p : A → Bool) (before after : List A)
-    → all_at (map (λ (it : ℕ × A). it.0) (filter (λ (it : ℕ × A). p it.1) (numbered_from (length before + 1) after))) (before ++ after) ≡ filter p after
-chosen_after p before [] = refl
-chosen_after {A = A} p before (x ∷ after) =
-    let numbers : ℕ → List ℕ = λ k. map (λ (it : ℕ × A). it.0) (filter (λ (it : ℕ × A). p it.1) (numbered_from k after)) in
-    let next : length (before ++ x ∷ []) + 1 ≡ length before + 1 + 1 = ap (λ (n : ℕ). n + 1) (length-append before (x ∷ [])) in
-    let rest : all_at (numbers (length before + 1 + 1)) (before ++ x ∷ after) ≡ filter p after =
-    (λ i. all_at (numbers (sym next i)) (sym (append_assoc before (x ∷ []) after) i)) ∙ chosen_after p (before ++ x ∷ []) after in
-    elim (cases_Bool (p x)) [
-      | inl passes ↦ rw passes (λ i. at_behind before after x i ++ rest i)
-      | inr fails ↦ rw fails rest
-    ]
-
--- those that pass, by their numbers
-pub chosen_by_number : {A : Type 0} (p : A → Bool) (all : List A) → all_at (map (λ (it : ℕ × A). it.0) (filter (λ (it : ℕ × A). p it.1) (numbered all))) all ≡ filter p all
-chosen_by_number p all = chosen_after p [] all
+-- one more of a list whose values are tested
+pub more_kept : {X A B : Type 0} (f : X → A) (g : A → B) (p : A → Bool) (xs : List X) (i : ℕ) (x : X) → i < length xs → x ≡ get_or xs i x
+    → map g (filter p (map f (take i xs))) ++ map g (filter p (f x ∷ [])) ≡ map g (filter p (map f (take (i + 1) xs)))
+more_kept {A = A} f g p xs i x lt is =
+    let taken : take (i + 1) xs ≡ take i xs ++ x ∷ [] = take_more xs i x lt ∙ ap (λ y. take i xs ++ y ∷ []) (sym is) in
+    sym (map-append g (filter p (map f (take i xs))) (filter p (f x ∷ [])))
+    ∙ ap (map g) (sym (filter-append p (map f (take i xs)) (f x ∷ [])))
+    ∙ ap (λ (all : List A). map g (filter p all)) (sym (map-append f (take i xs) (x ∷ [])) ∙ ap (map f) (sym taken))
 
 pub seen_pushed : {A B : Type 0} (f : A → B) (before after : List A) (found : Option A) → after ≡ before ++ option_to_list found → map f after ≡ map f before ++ option_to_list (option_map f found)
 seen_pushed {A = A} {B = B} f before after found is = ap (map f) is ∙ map-append f before (option_to_list found) ∙ ap (λ (xs : List B). map f before ++ xs) (same found)

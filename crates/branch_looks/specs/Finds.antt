@@ -1,9 +1,9 @@
 -- What is found of rows.
-use Rattle.std.specs.Prelude.{◌≡◌, ◌≤◌, ℕ, ◌+◌, ◌*◌, zero, suc, ℤ, [], ◌∷◌, ◌++◌, ◌==◌, Bool, true, false, List, length, sum_by, map, filter, flat_map, Option, Some, None}
+use Rattle.std.specs.Prelude.{◌≡◌, ◌≤◌, ℕ, ◌+◌, ◌*◌, zero, suc, ℤ, [], ◌∷◌, ◌++◌, ◌==◌, nat_lt, Bool, true, false, List, length, sum_by, map, filter, Option, Some, None}
 use Rattle.std.specs.Option.{IfSome}
 use Rattle.std.specs.Ordering.{nat_cmp}
 use Rattle.std.specs.BTreeMap.{BTreeMap, get}
-use Rattle.shop_model.specs.Rows.{Row, at}
+use Rattle.shop_model.specs.Calendar.{Moment, day_of}
 use Rattle.shop_model.specs.Values.{Rental, Terms, Payment, Ask, FilmInStock, FilmNotInStock}
 use Rattle.shop_model.specs.Shop.{Catalogue, Shop}
 use Rattle.shop_model.specs.Stock.{is_here, in_stock, film_in_stock, film_not_in_stock}
@@ -16,8 +16,7 @@ use Rattle.shop_store.specs.declared.copies.CopyRow.{CopyRow}
 use Rattle.shop_store.specs.declared.payments.PaymentRow.{PaymentRow}
 use Rattle.shop_store.specs.Seen.{seen_copy_row}
 use Rattle.balance_rule.specs.declared.rows.Paid.{Paid}
-use Rattle.balance_rule.specs.declared.rows.RentalTerms.{RentalTerms}
-use Rattle.balance_rule.specs.Balance.{amount_of, paid_of, terms_of}
+use Rattle.balance_rule.specs.Balance.{amount_of, paid_of}
 use Rattle.balance_rule.specs.Rewards.{is_on, passes}
 use Rattle.branch_looks.specs.declared.rewards.PaidSum.{PaidSum}
 
@@ -47,17 +46,11 @@ stock_listed false film shop = film_not_in_stock film shop
 abbrev pub Knows : {X : Type 0} → List (ℕ × CachedFilm) → List (ℕ × CachedFilm) → (X → Books → Type 0) → X → Books → Type 0
 Knows before after Says found books = AreRows before books.catalogue.films → Says found books × AreRows after books.catalogue.films
 
--- ---- balances
-
--- what a balance reads of a branch's rental, by the terms under its number
-abbrev pub charged : List Terms → Row Rental → List RentalTerms
-charged terms row = map (λ (it : Terms). terms_of (row.it, it)) (at row.number terms)
-
 -- ---- overdue rentals
 
--- those of the numbers, in the order of these
-abbrev pub all_at : {A : Type 0} → List ℕ → List A → List A
-all_at numbers xs = flat_map (λ n. at n xs) numbers
+-- the period of the rental ended before that day: where it isn't returned, it is overdue
+abbrev pub is_late : Moment → Rental × Terms → Bool
+is_late moment it = nat_lt (day_of it.0.rented + it.1.period) (day_of moment)
 
 -- a rental as it is listed
 abbrev pub listed : Catalogue → Shop → Rental × Terms → OverdueRow

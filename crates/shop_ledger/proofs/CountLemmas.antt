@@ -22,15 +22,15 @@ use Rattle.shop_schema.specs.Counts.{Count, Out, Counts, is_count, is_open, is_o
 use Rattle.shop_schema.specs.Held.{IsHeld}
 use Rattle.shop_schema.specs.Shop.{StandsFor, IsShop, Holds, Reads, Tallies}
 use Rattle.shop_schema.proofs.Stands.{stands_but}
-use Rattle.shop_ledger.specs.declared.counts.TheConstants.{SELECT_COUNT, UPDATE_COUNT, SELECT_OUT, SELECT_OUTS, SELECT_COPIES_OUT, DELETE_OUT}
+use Rattle.shop_ledger.specs.declared.counts.TheConstants.{SELECT_COUNT, UPDATE_COUNT, SELECT_OUT, SELECT_COPIES_OUT, DELETE_OUT}
 use Rattle.shop_ledger.specs.declared.counts.CountKind.{CountKind}
 use Rattle.shop_ledger.specs.Counted.{kind_number, CountsOnce, IsOutBy}
 use Rattle.shop_schema.specs.First.{TellsFirst}
 use Rattle.shop_ledger.proofs.Equals.{of_two}
 use Rattle.shop_ledger.proofs.CountsOf.{told_count}
-use Rattle.shop_ledger.proofs.Outs.{open_of, outs_numbered, picks_out, opens_of, outs_rise, outs_are, copies_of, copies_are}
+use Rattle.shop_ledger.proofs.Outs.{open_of, outs_numbered, picks_out, outs_rise, copies_of, copies_are}
 use Rattle.shop_ledger.proofs.Rising.{rise_differ, rise_sorted}
-use Rattle.shop_ledger.proofs.CountTexts.{Beside, select_count_means, shows_counts, count_test, plus, plus_is, raise_terms, raise_told, raise_means, count_more, count_more_is, more_kept, drops_out, select_out_means, shows_out, select_outs_means, shows_outs, select_copies_means, shows_copies}
+use Rattle.shop_ledger.proofs.CountTexts.{Beside, select_count_means, shows_counts, count_test, plus, plus_is, raise_terms, raise_told, raise_means, count_more, count_more_is, more_kept, drops_out, select_out_means, shows_out, select_copies_means, shows_copies}
 
 -- a change of the two tables, beside any books
 tallies_by : (old new : State) (Given : Counts → Type 0) (change : Counts → Counts) → ((books : Books) → IsShop old → Changes shop_schema (Beside books) old new Given change) → Tallies old new Given change (λ _. ⊤)
@@ -79,20 +79,6 @@ read_out old new b x rows h = (
 
 unmapped_numbers : (ms ns : List ℕ) → map number_value ms ≡ map number_value ns → ms ≡ ns
 unmapped_numbers = unmapped number_value same_number
-
-pub read_outs : (old new : State) (b : ℕ) (rows seen : List sql.Row) (numbers : List ℕ) → Shown SELECT_OUTS.now (number_value b ∷ []) old new rows → seen ≡ rows
-    → map number_value numbers ≡ map (λ row. column row 0) seen → Reads old new (λ books. numbers ≡ opens_of (of b books.rentals))
-read_outs old new b rows seen numbers h same read books holds held =
-    let number : Row Rental → ℕ = λ row. row.number in
-    let outs : List (Row Rental) = filter (is_of b) (filter is_open books.rentals) in
-    let rise = outs_rise b books held in
-    let found = shows_outs old new b rows books holds.schema_is h holds.stands (rise_differ outs rise) in
-    let shown : rows ≡ map (λ row. number_value (number row) ∷ []) outs = found ∙ ap (map (λ row. number_value (number row) ∷ [])) (rise_sorted outs rise) in
-    let firsts : map number_value numbers ≡ map number_value (map number outs) =
-    read ∙ ap (map (λ row. column row 0)) (same ∙ shown) ∙ map-map (λ row. column row 0) (λ row. number_value (number row) ∷ []) outs ∙ sym (map-map number_value number outs) in (
-      still_holds shop_schema StandsFor SELECT_OUTS.now (number_value b ∷ []) old new select_outs_means.plain rows h books holds,
-      unmapped_numbers _ _ firsts ∙ outs_are b books held,
-    )
 
 pub read_copies : (old new : State) (b : ℕ) (rows seen : List sql.Row) (numbers : List ℕ) → Shown SELECT_COPIES_OUT.now (number_value b ∷ []) old new rows → seen ≡ rows
     → map number_value numbers ≡ map (λ row. column row 0) seen → Reads old new (λ books. numbers ≡ copies_of (of b books.rentals))

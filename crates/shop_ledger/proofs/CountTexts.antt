@@ -37,7 +37,7 @@ use Rattle.shop_schema.specs.Counts.{Count, Out, Counts, is_count, is_open, is_o
 use Rattle.shop_schema.specs.Shop.{StandsFor, StandsWith, IsShop, Tallies}
 use Rattle.shop_schema.proofs.Stands.{stands_but, rows_of, with_rows}
 use Rattle.shop_schema.proofs.Listed.{tallies_put}
-use Rattle.shop_ledger.specs.declared.counts.TheConstants.{SELECT_COUNT, UPDATE_COUNT, SELECT_OUT, SELECT_OUTS, SELECT_COPIES_OUT, INSERT_OUT, DELETE_OUT}
+use Rattle.shop_ledger.specs.declared.counts.TheConstants.{SELECT_COUNT, UPDATE_COUNT, SELECT_OUT, SELECT_COPIES_OUT, INSERT_OUT, DELETE_OUT}
 use Rattle.shop_ledger.proofs.Equals.{of_one, of_two, equals}
 
 -- ---- counts
@@ -105,20 +105,7 @@ shows_out counts old new b x rows books has h s few =
     projects_one shop_schema SELECT_OUT.now 43 3 of_two (col 1 3 ∷ []) select_out_means (number_value b ∷ number_value x ∷ []) old new rows has h out_columns counts.outs s.outs refl
     (λ vs. number_test 0 b vs && (number_test 1 x vs && true)) (λ vs. column vs 2 ∷ []) (is_out b x) (out_test b x) (λ r. refl) few
 
--- all of a branch, in order of the rentals' numbers: of books' own counts these are the open rentals
-pub select_outs_means : Selects shop_schema SELECT_OUTS.now (plain_query 43 of_one (col 1 3 ∷ []) ((col 1 3, ascending Binary) ∷ []))
-unfolding understood everything
-select_outs_means = record { names = _; is = refl; plain = (refl, refl); unlisted = refl }
-
-pub shows_outs : (old new : State) (b : ℕ) (rows : List sql.Row) (books : Books) → IsShop old → Shown SELECT_OUTS.now (number_value b ∷ []) old new rows → StandsFor old.now.trees books
-    → Differ (λ (row : Row Rental). row.number) (filter (is_of b) (filter is_open books.rentals))
-    → rows ≡ map (λ (row : Row Rental). number_value row.number ∷ []) (sort_by (by (λ row. row.number)) (filter (is_of b) (filter is_open books.rentals)))
-shows_outs old new b rows books has h s apart =
-    projects_sorted shop_schema SELECT_OUTS.now 43 3 of_one (col 1 3 ∷ []) 2 select_outs_means (number_value b ∷ []) old new rows has h (λ row. out_columns (out_of row)) (filter is_open books.rentals)
-    (subst (HasRows 3 (old.now.trees 43)) (map-map out_columns out_of (filter is_open books.rentals)) s.outs) refl
-    (λ vs. number_test 0 b vs && true) (λ vs. column vs 2 ∷ []) (is_of b) (λ c. one_tested _ (number_tested c.branch b)) (λ r. refl) (λ c. c.number) (λ c. refl) apart
-
--- the same of the copies' numbers
+-- the copies of a branch, in order of the rentals' numbers: of books' own counts these are those of the open rentals
 pub select_copies_means : Selects shop_schema SELECT_COPIES_OUT.now (plain_query 43 of_one (col 1 2 ∷ []) ((col 1 3, ascending Binary) ∷ []))
 unfolding understood everything
 select_copies_means = record { names = _; is = refl; plain = (refl, refl); unlisted = refl }

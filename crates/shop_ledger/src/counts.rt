@@ -149,22 +149,6 @@ pub fn out_at<S: Alter>(
     first_of(rows.as_slice(), |row| row_number_at(row, 0))
 }
 
-const SELECT_OUTS: &str = "SELECT rental FROM out_copy WHERE branch = ?1 ORDER BY rental";
-
-/// The numbers of the branch's rentals whose copies are out, in order. As many rows are read, however many rentals there are.
-pub fn rentals_out<S: Alter>(
-    alloc: Global,
-    tx: &mut Transaction<'_, S>,
-    branch: BranchNo,
-) -> Result<Vec<RentalNo>, StoreFault>
-    ensures inside { StaysInside S.Store tx.old.conn tx.new.conn result }
-    ensures found { Finds (state S.Store tx.old.conn.now) (state S.Store tx.new.conn.now) result
-        (λ rentals books. rentals.items ≡ map (λ it. it.0) (filter (λ it. is_none it.1.returned) (numbered (of branch books.rentals)))) }
-{
-    let rows = query(tx, SELECT_OUTS, &[branch.get().to_sql()])?;
-    row_numbers_in(alloc, rows.as_slice())
-}
-
 const SELECT_COPIES_OUT: &str = "SELECT copy FROM out_copy WHERE branch = ?1 ORDER BY rental";
 
 /// The branch's copies that are out, in the order of their rentals. As many rows are read, however many copies there are.

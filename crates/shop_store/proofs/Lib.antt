@@ -16,9 +16,13 @@ pub mod BranchTables
 pub mod OnCustomers
 pub mod OnCopies
 pub mod CopyNows
+pub mod Ascending
 pub mod OnRentals
 pub mod OnRule
 pub mod OnTerms
+pub mod WithTerms
+pub mod OnTermed
+pub mod OutRentals
 pub mod OnPayments
 pub mod SameRentals
 pub mod Refused

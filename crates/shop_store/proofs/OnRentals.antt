@@ -1,9 +1,7 @@
 -- What the texts of rentals say and make of the books.
-use Rattle.std.proofs.Common.{◌≡◌, ◌==◌, ◌&&◌, ℕ, List, [], ◌∷◌, map, filter, Bool, true, Ok, Err, Result, None, Some, Option, refl}
-use Rattle.std.specs.Prelude.{length, Vec, IfOk}
-use Rattle.std.specs.List.{AllByRecursion}
+use Rattle.std.proofs.Common.{◌≡◌, ◌==◌, ◌&&◌, ℕ, List, [], ◌∷◌, filter, Bool, true, Ok, None, Some, Option, refl}
+use Rattle.std.specs.Prelude.{length}
 use Rattle.std.specs.Str.{bytes_eq}
-use Rattle.std.specs.declared.alloc.Global.{Global}
 use Rattle.sqlite.specs.declared.types.Value.TheVariants.{Text}
 use Rattle.sqlite_value.specs.Order as sql
 use Rattle.sqlite_value.specs.Order.{column}
@@ -12,27 +10,23 @@ use Rattle.sqlite_tied.specs.Compute.{everything}
 use Rattle.sqlite.specs.Listing.{understood}
 use Rattle.sqlite.specs.State.{State, ExecutesInside, Shown}
 use Rattle.sql_rows.specs.Rows.{number_value}
-use Rattle.sql_rows.specs.declared.fault.StoreFault.{StoreFault}
 use Rattle.sql_rows.proofs.Appends.{are_kept}
 use Rattle.sql_rows.proofs.Queries.{Selects, plain_query}
 use Rattle.sql_rows.proofs.ColumnTests.{number_test, number_tested, text_test, text_tested, two_tested}
 use Rattle.sql_rows.proofs.Projects.{projects_count}
 use Rattle.shop_model.specs.Calendar.{Moment, moment_text}
-use Rattle.shop_model.specs.Rows.{Row, is_of, set_row}
+use Rattle.shop_model.specs.Rows.{Row, set_row}
 use Rattle.shop_model.specs.Values.{Rental}
 use Rattle.shop_model.specs.Books.{Books}
 use Rattle.shop_schema.specs.Tables.{shop_schema, rental_table}
 use Rattle.shop_schema.specs.Columns.{rental_columns, moment_value}
-use Rattle.shop_schema.specs.RowValues.{IsRow, IsRental}
 use Rattle.shop_schema.specs.Held.{IsHeld}
-use Rattle.shop_schema.specs.Shop.{StandsFor, IsShop, Reads, Writes}
+use Rattle.shop_schema.specs.Shop.{StandsFor, IsShop, Writes}
 use Rattle.shop_schema.proofs.Listed.{PutsLast, puts_last}
-use Rattle.shop_store.specs.declared.rentals.TheConstants.{SELECT_RENTAL, SELECT_SAME_RENTAL, SELECT_RENTALS_OF_CUSTOMER, INSERT_RENTAL, UPDATE_RETURNED}
+use Rattle.shop_store.specs.declared.rentals.TheConstants.{SELECT_RENTAL, SELECT_SAME_RENTAL, INSERT_RENTAL, UPDATE_RETURNED}
 use Rattle.shop_store.specs.Seen.{seen_rental_row}
-use Rattle.shop_store.specs.declared.rentals.RentalRow.{RentalRow}
 use Rattle.shop_ledger.proofs.Equals.{equals}
-use Rattle.shop_ledger.proofs.Rising.{which_rise}
-use Rattle.shop_store.proofs.BranchRows.{ReadsOne, reads_one, ReadsWhich, reads_which, reads_sorted, sets_column, sets_held}
+use Rattle.shop_store.proofs.BranchRows.{ReadsOne, reads_one, sets_column, sets_held}
 use Rattle.shop_store.proofs.BranchTables.{rentals}
 
 -- each column takes its value as it is
@@ -50,24 +44,6 @@ write_rental = puts_last rentals.rows _ (record { is = refl; plain = (refl, refl
 pub read_rental : ReadsOne rentals seen_rental_row SELECT_RENTAL.now
 unfolding understood everything
 read_rental = reads_one rentals seen_rental_row _ (record { names = _; is = refl; plain = (refl, refl); unlisted = refl }) (λ b n r. refl)
-
-pub read_of_customer : (b n : ℕ) → ReadsWhich rentals seen_rental_row SELECT_RENTALS_OF_CUSTOMER.now (number_value b ∷ number_value n ∷ []) b (λ it. it.customer == n)
-unfolding understood everything
-read_of_customer b n =
-    reads_which rentals seen_rental_row SELECT_RENTALS_OF_CUSTOMER.now (equals 0 (1 ∷ 5 ∷ [])) (record { names = _; is = refl; plain = (refl, refl); unlisted = refl }) (number_value b ∷ number_value n ∷ []) b
-    (λ vs. number_test 0 b vs && (number_test 4 n vs && true)) (λ it. it.customer == n) (λ row. two_tested _ _ (number_tested row.branch b) (number_tested row.it.customer n)) (λ r. refl)
-
--- the same rows with their numbers
-pub numbered_of_customer : (old new : State) (b n : ℕ) (rows slice : List sql.Row) (r : Result (Vec RentalRow Global) StoreFault)
-    → Shown SELECT_RENTALS_OF_CUSTOMER.now (number_value b ∷ number_value n ∷ []) old new rows → slice ≡ rows
-    → IfOk r (λ all. map (λ x. rental_columns (seen_rental_row x)) all.items ≡ slice) → IfOk r (λ all. AllByRecursion (λ x. IsRow IsRental (seen_rental_row x)) all.items)
-    → IfOk r (λ all. Reads old new (λ books. map seen_rental_row all.items ≡ filter (λ row. is_of b row && row.it.customer == n) books.rentals))
-unfolding understood everything
-numbered_of_customer old new b n rows slice (Err e) h same read kinds = tt
-numbered_of_customer old new b n rows slice (Ok all) h same read kinds =
-    reads_sorted rentals (equals 0 (1 ∷ 5 ∷ [])) seen_rental_row SELECT_RENTALS_OF_CUSTOMER.now (record { names = _; is = refl; plain = (refl, refl); unlisted = refl }) (number_value b ∷ number_value n ∷ [])
-    (λ vs. number_test 0 b vs && (number_test 4 n vs && true)) (λ row. is_of b row && row.it.customer == n) (λ row. two_tested _ _ (number_tested row.branch b) (number_tested row.it.customer n)) (λ r. refl)
-    (λ books held. which_rise (λ (it : Rental). it.customer == n) b books.rentals (held.numbers.rentals b)) old new rows slice all.items h same read kinds
 
 pub write_returned : (old new : State) (b n : ℕ) (moment : Moment) (count : ℕ) → ExecutesInside 0 UPDATE_RETURNED.now (number_value b ∷ number_value n ∷ moment_value moment ∷ []) old new (Ok count)
     → Writes old new IsHeld (λ books. record books { rentals = set_row b n (λ it. record it { returned = Some moment }) books.rentals })

@@ -5,14 +5,14 @@ use Rattle.sqlite.specs.declared.types.Value.{Value}
 use Rattle.sqlite_value.specs.Order.{Row, column}
 use Rattle.sql_rows.specs.declared.fault.StoreFault.{StoreFault}
 use Rattle.sql_rows.specs.declared.fault.StoreFault.TheVariants.{Failed}
-use Rattle.shop_schema.specs.Columns.{customer_columns, copy_columns, rental_columns, terms_columns, payment_columns}
-use Rattle.shop_schema.specs.RowValues.{IsRow, IsCustomer, IsCopy, IsRental, IsTerms, IsPayment}
-use Rattle.shop_store.specs.Seen.{seen_row, seen_copy_row, seen_rental_row, seen_terms_row, seen_payment_row}
+use Rattle.shop_schema.specs.Columns.{customer_columns, copy_columns, rental_columns, payment_columns}
+use Rattle.shop_schema.specs.RowValues.{IsRow, IsCustomer, IsCopy, IsRental, IsPayment}
+use Rattle.shop_store.specs.Seen.{seen_row, seen_copy_row, seen_rental_row, seen_payment_row, seen_termed, termed_columns, IsTermed}
 use Rattle.shop_store.specs.declared.customers.CustomerRow.{CustomerRow}
 use Rattle.shop_store.specs.declared.copies.CopyRow.{CopyRow}
 use Rattle.shop_store.specs.declared.rentals.RentalRow.{RentalRow}
 use Rattle.shop_store.specs.declared.payments.PaymentRow.{PaymentRow}
-use Rattle.shop_store.specs.declared.terms.TermsRow.{TermsRow}
+use Rattle.shop_store.specs.declared.termed.TermedRental.{TermedRental}
 
 -- `part` is the value of that column
 abbrev pub Refuses : (T V W : Type 0) → (T → Row) → (T → Type 0) → ℕ → Type 1
@@ -40,8 +40,8 @@ no_copy = refused _ _ 6
 pub no_rental : {V W : Type 0} → Refuses RentalRow V W (λ row. rental_columns (seen_rental_row row)) (λ row. IsRow IsRental (seen_rental_row row)) 7
 no_rental = refused _ _ 7
 
-pub no_terms : {V W : Type 0} → Refuses TermsRow V W (λ row. terms_columns (seen_terms_row row)) (λ row. IsRow IsTerms (seen_terms_row row)) 5
-no_terms = refused _ _ 5
-
 pub no_payment : {V W : Type 0} → Refuses PaymentRow V W (λ row. payment_columns (seen_payment_row row)) (λ row. IsRow IsPayment (seen_payment_row row)) 7
 no_payment = refused _ _ 7
+
+pub no_termed : {V W : Type 0} → Refuses TermedRental V W (λ it. termed_columns (seen_termed it)) (λ it. IsTermed (seen_termed it)) 8
+no_termed = refused _ _ 8

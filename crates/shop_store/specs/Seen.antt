@@ -1,13 +1,15 @@
 -- What a row means.
-use Rattle.std.specs.Prelude.{◌≢◌, None}
+use Rattle.std.specs.Prelude.{◌≢◌, [], ◌∷◌, None}
+use Rattle.sqlite.specs.Values.{or_null}
 use Rattle.sqlite_value.specs.Order as sql
+use Rattle.sql_rows.specs.Rows.{number_value}
 use Rattle.shop_model.specs.Rows.{Row}
 use Rattle.shop_model.specs.Values as model
 use Rattle.shop_model.specs.Values.{Customer, Copy, Rental, Terms, Payment}
 use Rattle.shop_model.specs.Books.{BookCopy}
 use Rattle.shop_types.specs.Seen.{seen_customer, seen_rental, seen_terms, seen_payment, seen_mark}
-use Rattle.shop_schema.specs.Columns.{customer_columns}
-use Rattle.shop_schema.specs.RowValues.{IsRow, IsCustomer}
+use Rattle.shop_schema.specs.Columns.{moment_value, customer_columns}
+use Rattle.shop_schema.specs.RowValues.{IsRow, IsCustomer, IsRental, IsTerms}
 use Rattle.shop_store.specs.declared.customers.CustomerRow.{CustomerRow}
 use Rattle.shop_store.specs.declared.copies.CopyState.{CopyState}
 use Rattle.shop_store.specs.declared.copies.CopyState.TheVariants as state
@@ -16,6 +18,7 @@ use Rattle.shop_store.specs.declared.copies.CopyNow.{CopyNow}
 use Rattle.shop_store.specs.declared.rentals.RentalRow.{RentalRow}
 use Rattle.shop_store.specs.declared.payments.PaymentRow.{PaymentRow}
 use Rattle.shop_store.specs.declared.terms.TermsRow.{TermsRow}
+use Rattle.shop_store.specs.declared.termed.TermedRental.{TermedRental}
 
 -- a customer of a branch, with the number
 abbrev pub seen_row : CustomerRow → Row Customer
@@ -53,3 +56,17 @@ seen_terms_row row = record { branch = row.branch; number = row.rental; it = see
 -- a payment at a branch, with the number
 abbrev pub seen_payment_row : PaymentRow → Row Payment
 seen_payment_row row = record { branch = row.branch; number = row.number; it = seen_payment row.payment }
+
+-- ---- a rental with its terms
+
+abbrev pub seen_termed : TermedRental → Rental × Terms
+seen_termed it = (seen_rental it.rental, seen_terms it.terms)
+
+-- the columns that are read of them
+abbrev pub termed_columns : Rental × Terms → sql.Row
+termed_columns it =
+    moment_value it.0.rented ∷ number_value it.0.copy ∷ number_value it.0.customer ∷ or_null moment_value it.0.returned ∷ number_value it.0.staff
+    ∷ number_value it.1.rate ∷ number_value it.1.period ∷ number_value it.1.replacement ∷ []
+
+abbrev pub IsTermed : Rental × Terms → Type 0
+IsTermed it = IsRental it.0 × IsTerms it.1

@@ -17,6 +17,7 @@ mod puts;
 mod rentals;
 mod rows;
 mod staff;
+mod termed;
 mod terms;
 
 pub use branches::{branch_manager, branch_with, set_manager};
@@ -38,12 +39,11 @@ pub use puts::{
     NewActor, NewBranch, NewCity, NewFilm, NewStaff, put_actor, put_branch, put_cast, put_category,
     put_city, put_country, put_film, put_language, put_staff,
 };
-pub use rentals::{
-    RentalRow, has_rental, put_rental, rental_at, rentals_of_customer, set_returned,
-};
+pub use rentals::{RentalRow, has_rental, put_rental, rental_at, set_returned};
 pub use rows::{
     has_actor, has_cast, has_category, has_city, has_country, has_language, has_token, is_category,
     is_country, is_language,
 };
 pub use staff::{set_gone, staff_at};
-pub use terms::{TermsRow, put_terms, terms_at};
+pub use termed::{TermedRental, rentals_out, termed_of_customer};
+pub use terms::{TermsRow, put_terms};

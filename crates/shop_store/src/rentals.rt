@@ -1,10 +1,10 @@
-ghost use Rattle.std.specs.Prelude.{⊤, ◌≡◌, ◌==◌, ◌&&◌, [], ◌∷◌, ◌++◌, Some, filter, map, option_map, option_to_list};
+ghost use Rattle.std.specs.Prelude.{⊤, ◌≡◌, ◌==◌, ◌&&◌, [], ◌∷◌, ◌++◌, Some, option_map, option_to_list};
 ghost use Rattle.sqlite.specs.Held.{state};
 ghost use Rattle.sqlite.specs.Values.{bound};
 ghost use Rattle.sql_rows.specs.Calls.{StaysInside};
 ghost use Rattle.std.specs.List.{list_any};
 ghost use Rattle.shop_model.specs.Calendar.{moment_text, same_moment};
-ghost use Rattle.shop_model.specs.Rows.{at, is_of, of, set_row};
+ghost use Rattle.shop_model.specs.Rows.{at, of, set_row};
 ghost use Rattle.shop_types.specs.Seen.{seen_rental};
 ghost use Rattle.shop_schema.specs.Calls.{Finds, Stores};
 ghost use Rattle.shop_schema.specs.Columns.{rental_columns};
@@ -14,10 +14,9 @@ ghost use Rattle.shop_store.specs.Seen.{seen_rental_row, opened_row};
 
 use shop_schema::{MomentText, moment_at, moment_or_null_at, row_number_at};
 use shop_types::{BranchNo, CopyNo, CustomerNo, Moment, Rental, RentalNo};
-use sql_rows::{StoreFault, Stored, execute, query, read_all, read_one};
+use sql_rows::{StoreFault, Stored, execute, query, read_one};
 use sqlite::types::{ToSql, ValueRef};
 use sqlite::{Alter, Row, Transaction};
-use std::alloc::Global;
 
 /// A rental of a branch, with its number there.
 #[derive(Clone, Copy, Drop)]
@@ -115,30 +114,6 @@ pub fn has_rental<S: Alter>(
         ],
     )?;
     Ok(!rows.is_empty())
-}
-
-const SELECT_RENTALS_OF_CUSTOMER: &str =
-    "SELECT branch, number, moment, copy, customer, returned, staff FROM rental WHERE branch = ?1 AND customer = ?2 ORDER BY number";
-
-/// All rentals of the branch's customer, in order of number. After a fault the transaction may be rolled back.
-pub fn rentals_of_customer<S: Alter>(
-    alloc: Global,
-    tx: &mut Transaction<'_, S>,
-    branch: BranchNo,
-    customer: CustomerNo,
-) -> Result<Vec<RentalRow>, StoreFault>
-    ensures inside { StaysInside S.Store tx.old.conn tx.new.conn result }
-    ensures rows { Finds (state S.Store tx.old.conn.now) (state S.Store tx.new.conn.now) result
-        (λ rows books. map (λ row. seen_rental row.rental) rows.items ≡ filter (λ it. it.customer == customer) (of branch books.rentals)) }
-    ensures numbered { Finds (state S.Store tx.old.conn.now) (state S.Store tx.new.conn.now) result
-        (λ rows books. map (λ row. seen_rental_row row) rows.items ≡ filter (λ row. is_of branch row && row.it.customer == customer) books.rentals) }
-{
-    let rows = query(
-        tx,
-        SELECT_RENTALS_OF_CUSTOMER,
-        &[branch.get().to_sql(), customer.get().to_sql()],
-    )?;
-    read_all(alloc, rows.as_slice())
 }
 
 const INSERT_RENTAL: &str =

@@ -1,4 +1,4 @@
-use Rattle.std.proofs.Common.{◌∙◌, sym, ap, arith, ℕ, List, map, filter}
+use Rattle.std.proofs.Common.{◌∙◌, sym, ap, arith, List, map, filter}
 use Rattle.std.specs.Prelude.{is_none}
 use Rattle.sqlite.specs.Held.{state}
 use Rattle.sqlite.specs.State.{HasCleanDisk}
@@ -8,9 +8,11 @@ use Rattle.shop_model.specs.Books.{shop_of}
 use Rattle.shop_model.specs.Stock.{is_overdue, termed}
 use Rattle.shop_model.specs.Views.{OverdueRow, overdue_row}
 use Rattle.shop_model.proofs.RowLemmas.{map_map}
+use Rattle.shop_store.specs.declared.termed.TermedRental.{TermedRental}
+use Rattle.shop_store.specs.Seen.{seen_termed}
+use Rattle.shop_schema.proofs.Lists.{filter_twice}
 use Rattle.shop_schema.proofs.Readings.{reads_then, reads_as}
-use Rattle.branch_looks.specs.Finds.{all_at, listed}
-use Rattle.branch_looks.proofs.TermLemmas.{chosen_by_number, numbers_termed, overdue_of_open}
+use Rattle.branch_looks.specs.Finds.{is_late, listed}
 use Rattle.branch_looks.proofs.overdue.find_overdue.Goals as goal
 
 pub returns-clause-found : goal.returns-clause-found
@@ -24,9 +26,8 @@ returns-clause-found g c = λ clean.
     (λ books held is.
     let shop = shop_of b books in
     let row : Rental × Terms → OverdueRow = listed books.catalogue shop in
-    let late : List (Rental × Terms) → List (Rental × Terms) = filter (is_overdue c.args.at) in
-    is.1 ∙ ap (λ (numbers : List ℕ). map row (late (all_at numbers (termed shop)))) (c.as_slice.ensures.value ∙ is.0 ∙ numbers_termed (λ (it : Rental). is_none it.returned) 1 shop.rentals shop.terms (held.termed b))
-    ∙ ap (λ (all : List (Rental × Terms)). map row (late all)) (chosen_by_number (λ (it : Rental × Terms). is_none it.0.returned) (termed shop))
-    ∙ ap (map row) (overdue_of_open c.args.at (termed shop))
-    ∙ sym (map_map (overdue_row books.catalogue shop) (λ (it : Rental × Terms). it.0) (late (termed shop))))
-    (reads_then s0 s1 s2 _ _ (c.in_ok-numbers.ensures.found before) reads)) (c.overdue_among.ensures.found clean)
+    let late : List (Rental × Terms) → List (Rental × Terms) = filter (is_late c.args.at) in
+    is.1 ∙ ap (λ (outs : List TermedRental). map row (late (map seen_termed outs))) c.as_slice.ensures.value ∙ ap (λ (all : List (Rental × Terms)). map row (late all)) is.0
+    ∙ ap (map row) (sym (filter_twice (λ (it : Rental × Terms). is_none it.0.returned) (is_late c.args.at) (termed shop)))
+    ∙ sym (map_map (overdue_row books.catalogue shop) (λ (it : Rental × Terms). it.0) (filter (is_overdue c.args.at) (termed shop))))
+    (reads_then s0 s1 s2 _ _ (c.in_ok-outs.ensures.found before) reads)) (c.overdue_among.ensures.found clean)

@@ -1,8 +1,0 @@
-use Rattle.std.proofs.lemmas.Result.{IfOk-weaker}
-use Rattle.shop_ledger.proofs.CountLemmas.{read_outs}
-use Rattle.shop_ledger.proofs.counts.rentals_out.Goals as goal
-
-pub returns-clause-found : goal.returns-clause-found
-returns-clause-found g c clean =
-    let shown = rw (c.to_sql.ensures, c.get.ensures.value) at (c.in_ok-rows.ensures.shown clean) in
-    IfOk-weaker c.row_numbers_in.result _ _ (λ rentals is. read_outs _ _ c.args.branch _ _ rentals.items shown c.as_slice.ensures.value is) c.row_numbers_in.ensures

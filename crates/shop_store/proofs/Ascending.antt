@@ -1,0 +1,36 @@
+-- Rows of a branch, in the order of their numbers and by these.
+use Rattle.std.proofs.Common.{◌≡◌, ◌<◌, ◌==◌, ◌+◌, ◌-◌, ℕ, List, [], ◌∷◌, ◌++◌, length, false, ap, refl, ◌∙◌, arith, is_eq, is_lt, inl, inr}
+use Rattle.std.specs.List.{AllByRecursion}
+use Rattle.std.specs.Ordering.{nat_cmp}
+use Rattle.std.proofs.lemmas.Bool.{cases_Bool}
+use Rattle.std.proofs.lemmas.Bool.Decides.{nat_tests}
+use Rattle.sqlite_trees.specs.Tree.{IsAscending}
+use Rattle.shop_model.specs.Rows.{Row, at, is_of, of}
+use Rattle.shop_model.proofs.RowLemmas.{differ_test}
+use Rattle.shop_schema.specs.RowValues.{IsRow}
+use Rattle.shop_ledger.proofs.Rising.{Rise}
+
+pub not_equal : (m n : ℕ) → m < n → is_eq (nat_cmp m n) ≡ false
+not_equal m n h = grind (arith, nat_tests)
+
+pub not_less : (m n : ℕ) → m < n → is_lt (nat_cmp n m) ≡ false
+not_less m n h = grind (arith, nat_tests)
+
+pub ascend : {A : Type 0} (xs : List (Row A)) → Rise xs → IsAscending (λ (x y : Row A). x.number < y.number) xs
+ascend [] r = tt
+ascend (x ∷ xs) r = (r.0, ascend xs r.1)
+
+pub at_behind : {A : Type 0} (before after : List A) (x : A) → at (length before + 1) (before ++ x ∷ after) ≡ x ∷ []
+at_behind [] after x = refl
+at_behind (first ∷ before) after x =
+    let later : (length (first ∷ before) + 1 == 1) ≡ false = differ_test (length (first ∷ before) + 1) 1 (omega arith) in
+    let less : length (first ∷ before) + 1 - 1 ≡ length before + 1 = omega arith in
+    rw later (ap (λ (n : ℕ). at n (before ++ x ∷ after)) less ∙ at_behind before after x)
+
+-- what holds of all rows holds of a branch's
+pub all_of : {A : Type 0} (P : A → Type 0) (b : ℕ) (rows : List (Row A)) → AllByRecursion (IsRow P) rows → AllByRecursion P (of b rows)
+all_of P b [] all = tt
+all_of P b (row ∷ rows) all = elim (cases_Bool (is_of b row)) [
+  | inl ours ↦ rw ours (all.0.2, all_of P b rows all.1)
+  | inr other ↦ rw other (all_of P b rows all.1)
+]

@@ -1,0 +1,168 @@
+-- What the text of a customer's rentals with their terms shows of the books: the rentals' rows, each joined with that of its terms.
+use Rattle.std.proofs.Common.{◌≡◌, ◌≤◌, ◌==◌, ◌+◌, ℕ, List, [], ◌∷◌, ◌++◌, map, filter, length, Bool, cond, Ok, Err, Result, inl, inr, refl, sym, ap, subst, ◌∙◌, arith, append-nil, append_assoc}
+use Rattle.std.specs.Prelude.{Vec, IfOk, zip}
+use Rattle.std.specs.List.{flat_map, AllByRecursion}
+use Rattle.std.specs.declared.alloc.Global.{Global}
+use Rattle.std.proofs.lemmas.Bool.{cases_Bool}
+use Rattle.std.proofs.lemmas.List.{map-id, length-append}
+use Rattle.sqlite.specs.declared.types.Value.TheVariants.{Null}
+use Rattle.sqlite_value.specs.Order as sql
+use Rattle.sqlite_value.specs.Order.{column}
+use Rattle.sqlite_value.specs.Keys.{ascending}
+use Rattle.sqlite_value.specs.declared.keys.Key.{Key}
+use Rattle.sqlite_value.specs.declared.keys.Collation.TheVariants.{Binary}
+use Rattle.sqlite_trees.specs.Tree.{Trees}
+use Rattle.sqlite_sql.specs.Term.{Term, col}
+use Rattle.sqlite_sql.specs.Query.{Query, Join, inner, left, end, Output}
+use Rattle.sqlite_sql.specs.Program.{overlay}
+use Rattle.sqlite_tied.specs.Compute.{everything}
+use Rattle.sqlite.specs.Listing.{understood}
+use Rattle.sqlite.specs.State.{State, Shown}
+use Rattle.sqlite_keyed.proofs.ListLemmas.{map-map, IsPermutation-same}
+use Rattle.sql_rows.specs.Rows.{columns_of, number_value}
+use Rattle.sql_rows.specs.declared.fault.StoreFault.{StoreFault}
+use Rattle.sql_rows.proofs.ColumnTests.{number_tested, two_tested}
+use Rattle.sql_rows.proofs.Joins.{joined_query, are_equal, or_blank, shown_of, left_pair, joined_rows}
+use Rattle.sql_rows.proofs.Projects.{still_holds}
+use Rattle.sql_rows.proofs.Queries.{Selects, answers, kept_as_map}
+use Rattle.shop_model.specs.Rows.{Row, IsCounted, at, is_of, is_row, of}
+use Rattle.shop_model.specs.Values.{Rental, Terms}
+use Rattle.shop_model.specs.Books.{Books, shop_of}
+use Rattle.shop_model.specs.Stock.{termed}
+use Rattle.shop_model.proofs.RowLemmas.{row_at, same_if}
+use Rattle.shop_schema.specs.Tables.{shop_schema}
+use Rattle.shop_schema.specs.Columns.{rental_columns, terms_columns}
+use Rattle.shop_schema.specs.Held.{IsHeld}
+use Rattle.shop_schema.specs.Shop.{StandsFor, Holds, Reads}
+use Rattle.shop_schema.proofs.Lists.{picks_row}
+use Rattle.shop_ledger.proofs.Equals.{equals}
+use Rattle.shop_ledger.proofs.Rising.{of_which, which_rise}
+use Rattle.shop_store.specs.declared.termed.TheConstants.{SELECT_TERMED}
+use Rattle.shop_store.specs.declared.termed.TermedRental.{TermedRental}
+use Rattle.shop_store.specs.Seen.{seen_termed, termed_columns, IsTermed}
+use Rattle.shop_store.proofs.Ascending.{at_behind}
+use Rattle.shop_store.proofs.WithTerms.{rental_shown, shown_first, rentals_climb, termed_told}
+
+abbrev with_terms : Join
+with_terms = left 57 (are_equal (col 2 1) (col 1 1) ∷ are_equal (col 2 2) (col 1 2) ∷ []) end
+
+abbrev termed_tests : List Term
+termed_tests = equals 0 (1 ∷ 5 ∷ [])
+
+abbrev termed_shows : List Term
+termed_shows = col 1 3 ∷ col 1 4 ∷ col 1 5 ∷ col 1 6 ∷ col 1 7 ∷ col 2 3 ∷ col 2 4 ∷ col 2 5 ∷ []
+
+abbrev termed_order : List (Term × Key)
+termed_order = (col 1 2, ascending Binary) ∷ []
+
+abbrev termed_query : Query
+termed_query = joined_query (inner 27 with_terms) termed_tests termed_shows termed_order
+
+termed_means : Selects shop_schema SELECT_TERMED.now termed_query
+unfolding understood everything
+termed_means = record { names = _; is = refl; plain = (refl, refl); unlisted = refl }
+
+-- what is shown of a rental among terms
+abbrev shown_of_row : List (Row Terms) → Row Rental → sql.Row
+shown_of_row terms x = shown_first (x.it ∷ []) (at x.number (of x.branch terms))
+
+abbrev termed_output : List (Row Terms) → Row Rental → Output
+termed_output terms x = (number_value x.number ∷ [], shown_of_row terms x)
+
+-- ---- one rental
+
+module _ (b n : ℕ) (books : Books) (held : IsHeld books) (db : Trees) (s : StandsFor db books) (x : Row Rental) where
+  abbrev params : sql.Row
+  params = number_value b ∷ number_value n ∷ []
+
+  abbrev passes : Bool
+  passes = of_which (λ (it : Rental). it.customer == n) b x
+
+  abbrev gives : sql.Row → List Output
+  gives r2 = shown_of termed_query (overlay db []) end (params ∷ (Null ∷ rental_columns x) ∷ r2 ∷ [])
+
+  abbrev given : sql.Row → Output
+  given r2 = (number_value x.number ∷ [], rental_shown (x.it ∷ []) ++ column r2 3 ∷ column r2 4 ∷ column r2 5 ∷ [])
+
+  ends_are : (r2 : sql.Row) → gives r2 ≡ cond passes (given r2 ∷ []) []
+  ends_are r2 = ap (λ t. cond t (given r2 ∷ []) []) (two_tested _ _ (number_tested x.branch b) (number_tested x.it.customer n))
+
+  abbrev out_with : List Terms → List Output
+  out_with ts = cond passes ((number_value x.number ∷ [], shown_first (x.it ∷ []) ts) ∷ []) []
+
+  one_brings : (l : List (Row Terms)) → length l ≤ 1 → flat_map (λ vs. gives (Null ∷ vs)) (or_blank 5 (map terms_columns l)) ≡ out_with (map (λ (t : Row Terms). t.it) l)
+  one_brings [] few = append-nil _ ∙ ends_are (Null ∷ columns_of 5 [])
+  one_brings (t ∷ []) few = append-nil _ ∙ ends_are (Null ∷ terms_columns t)
+  one_brings (t ∷ u ∷ l) few = absurd (omega (arith, few))
+
+  termed_brings : shown_of termed_query (overlay db []) with_terms (params ∷ (Null ∷ rental_columns x) ∷ []) ≡ cond passes (termed_output books.terms x ∷ []) []
+  termed_brings =
+      let counted = held.numbers.terms x.branch in
+      let few = picks_row x.branch books.terms counted x.number in
+      left_pair 5 terms_columns (db 57) books.terms s.more.terms_are gives (λ r. refl) (λ t. t.branch) (λ t. t.number) (λ t. refl) (λ t. refl) (λ r. refl) (λ r. refl) x.branch x.number few
+      ∙ one_brings (filter (is_row x.branch x.number) books.terms) few
+      ∙ ap out_with (row_at (λ (t : Terms). t) x.branch x.number books.terms counted ∙ ap (at x.number) (map-id (of x.branch books.terms)))
+
+-- ---- the customer's rentals
+
+shows_termed : (old new : State) (b n : ℕ) (rows : List sql.Row) (books : Books) → Holds old books → IsHeld books → Shown SELECT_TERMED.now (number_value b ∷ number_value n ∷ []) old new rows
+    → rows ≡ map (shown_of_row books.terms) (filter (of_which (λ (it : Rental). it.customer == n) b) books.rentals)
+shows_termed old new b n rows books holds held h =
+    let which : Row Rental → Bool = of_which (λ (it : Rental). it.customer == n) b in
+    let mine = filter which books.rentals in
+    let out : Row Rental → Output = termed_output books.terms in
+    joined_rows 27 with_terms termed_tests termed_shows termed_order (number_value b ∷ number_value n ∷ []) old.now.trees 7 rental_columns books.rentals holds.stands.rentals refl (λ r. refl)
+    (λ x. cond (which x) (out x ∷ []) []) (λ x. IsPermutation-same _ _ (termed_brings b n books held old.now.trees holds.stands x))
+    rows (answers shop_schema SELECT_TERMED.now termed_query _ old new holds.schema_is termed_means rows h)
+    (map out mine) (IsPermutation-same _ _ (kept_as_map which out books.rentals))
+    (rentals_climb (inner 27 with_terms) termed_tests termed_shows (col 1 2) (shown_of_row books.terms) mine (which_rise (λ (it : Rental). it.customer == n) b books.rentals (held.numbers.rentals b)))
+    ∙ map-map (λ (o : Output). o.1) out mine
+
+-- ---- each with the terms under its number
+
+module _ (b : ℕ) (q : Rental → Bool) (terms : List (Row Terms)) where
+  abbrev chosen : List (Row Rental) → List (Row Rental)
+  chosen rows = filter (of_which q b) rows
+
+  abbrev pairs : List (Row Rental) → List Terms → List (Rental × Terms)
+  pairs rows after = filter (λ (it : Rental × Terms). q it.0) (zip (of b rows) after)
+
+  termed_rows : (rows : List (Row Rental)) (before after : List Terms) → of b terms ≡ before ++ after → IsCounted (length before + 1) (map (λ (row : Row Rental). row.number) (filter (is_of b) rows))
+      → length after ≡ length (of b rows) → map (shown_of_row terms) (chosen rows) ≡ map termed_columns (pairs rows after)
+  termed_rows [] before [] all counted same = refl
+  termed_rows [] before (t ∷ after) all counted same = refl
+  termed_rows (row ∷ rows) before [] all counted same = elim (cases_Bool (is_of b row)) [
+    | inl ours ↦ absurd (omega (arith, rw ours at same))
+    | inr other ↦ rw other (termed_rows rows before [] all (rw other at counted) (rw other at same))
+  ]
+  termed_rows (row ∷ rows) before (t ∷ after) all counted same = elim (cases_Bool (is_of b row)) [
+    | inl ours ↦
+        let count = rw ours at counted in
+        let lengths = rw ours at same in
+        let next : length before + 1 + 1 ≡ length (before ++ t ∷ []) + 1 = ap (λ (n : ℕ). n + 1) (sym (length-append before (t ∷ []))) in
+        let rest : map (shown_of_row terms) (chosen rows) ≡ map termed_columns (pairs rows after) =
+        termed_rows rows (before ++ t ∷ []) after (all ∙ sym (append_assoc before (t ∷ []) after)) (subst (λ (n : ℕ). IsCounted n (map (λ (row : Row Rental). row.number) (filter (is_of b) rows))) next count.1)
+        (omega (arith, lengths)) in
+        let its : at row.number (of row.branch terms) ≡ t ∷ [] =
+        (λ i. at (count.0 i) (of (same_if row.branch b ours i) terms)) ∙ ap (at (length before + 1)) all ∙ at_behind before after t in
+        let own : shown_of_row terms row ≡ termed_columns (row.it, t) = ap (shown_first (row.it ∷ [])) its in
+        elim (cases_Bool (q row.it)) [
+          | inl passes ↦ rw (ours, passes) (λ i. own i ∷ rest i)
+          | inr fails ↦ rw (ours, fails) rest
+        ]
+    | inr other ↦ rw other (termed_rows rows before (t ∷ after) all (rw other at counted) (rw other at same))
+  ]
+
+-- ---- what is read of the rows
+
+-- the customer's rentals, each with its terms
+pub read_termed : (old new : State) (b n : ℕ) (rows slice : List sql.Row) (r : Result (Vec TermedRental Global) StoreFault) → Shown SELECT_TERMED.now (number_value b ∷ number_value n ∷ []) old new rows
+    → slice ≡ rows → IfOk r (λ all. map (λ x. termed_columns (seen_termed x)) all.items ≡ slice) → IfOk r (λ all. AllByRecursion (λ x. IsTermed (seen_termed x)) all.items)
+    → IfOk r (λ all. Reads old new (λ books. map seen_termed all.items ≡ filter (λ (it : Rental × Terms). it.0.customer == n) (termed (shop_of b books))))
+read_termed old new b n rows slice (Err e) h same read kinds = tt
+read_termed old new b n rows slice (Ok all) h same read kinds = λ books holds held. (
+  still_holds shop_schema StandsFor SELECT_TERMED.now _ old new termed_means.plain rows h books holds,
+  termed_told b (λ (it : Rental × Terms). it.0.customer == n) books held all.items kinds
+      (read ∙ same ∙ shows_termed old new b n rows books holds held h
+      ∙ termed_rows b (λ (it : Rental). it.customer == n) books.terms books.rentals [] (of b books.terms) refl (held.numbers.rentals b) (held.termed b)),
+)

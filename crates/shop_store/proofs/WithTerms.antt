@@ -1,0 +1,93 @@
+-- What is shown of rentals with their terms, and what is read of it.
+use Rattle.std.proofs.Common.{◌≡◌, ◌<◌, ℕ, List, [], ◌∷◌, ◌++◌, map, filter, Bool, false, ap, ◌∙◌, is_eq, is_lt}
+use Rattle.std.specs.Prelude.{zip}
+use Rattle.std.specs.List.{AllByRecursion}
+use Rattle.sqlite.specs.declared.types.Value.TheVariants.{Null}
+use Rattle.sqlite.specs.Values.{or_null}
+use Rattle.sqlite_value.specs.Order as sql
+use Rattle.sqlite_value.specs.Keys.{ascending}
+use Rattle.sqlite_value.specs.declared.keys.Collation.TheVariants.{Binary}
+use Rattle.sqlite_value.proofs.OrderLemmas.{then-Equal}
+use Rattle.sqlite_sql.specs.Term.{Term}
+use Rattle.sqlite_sql.specs.Query.{Query, Join, Output, output_cmp}
+use Rattle.sqlite_keyed.proofs.ListLemmas.{map-map, ascending-map, ascending_weaker, all-filter, all_map}
+use Rattle.sql_rows.specs.Rows.{number_value}
+use Rattle.sql_rows.proofs.Joins.{joined_query, Climbs}
+use Rattle.sql_rows.proofs.OfKind.{unmapped_kind}
+use Rattle.sql_rows.proofs.Queries.{number_cmp}
+use Rattle.shop_model.specs.Rows.{Row, of}
+use Rattle.shop_model.specs.Values.{Rental, Terms}
+use Rattle.shop_model.specs.Books.{Books, shop_of}
+use Rattle.shop_model.specs.Stock.{termed}
+use Rattle.shop_schema.specs.Columns.{moment_value}
+use Rattle.shop_schema.specs.RowValues.{IsRental, IsTerms}
+use Rattle.shop_schema.specs.Held.{IsHeld}
+use Rattle.shop_schema.proofs.SameRows.{same_moment_value, same_last}
+use Rattle.shop_ledger.proofs.Rising.{Rise}
+use Rattle.shop_store.specs.declared.termed.TermedRental.{TermedRental}
+use Rattle.shop_store.specs.Seen.{seen_termed, termed_columns, IsTermed}
+use Rattle.shop_store.proofs.Ascending.{all_of, ascend, not_equal, not_less}
+
+-- ---- what is shown
+
+-- the columns of the first of these, NULLs where there is none
+abbrev pub rental_shown : List Rental → sql.Row
+rental_shown [] = Null ∷ Null ∷ Null ∷ Null ∷ Null ∷ []
+rental_shown (it ∷ rentals) = moment_value it.rented ∷ number_value it.copy ∷ number_value it.customer ∷ or_null moment_value it.returned ∷ number_value it.staff ∷ []
+
+abbrev pub terms_shown : List Terms → sql.Row
+terms_shown [] = Null ∷ Null ∷ Null ∷ []
+terms_shown (it ∷ terms) = number_value it.rate ∷ number_value it.period ∷ number_value it.replacement ∷ []
+
+abbrev pub shown_first : List Rental → List Terms → sql.Row
+shown_first rentals terms = rental_shown rentals ++ terms_shown terms
+
+-- ---- in the order of their numbers
+
+module _ (from : Join) (tests shows : List Term) (number : Term) (show : Row Rental → sql.Row) where
+  abbrev asked : Query
+  asked = joined_query from tests shows ((number, ascending Binary) ∷ [])
+
+  abbrev output : Row Rental → Output
+  output x = (number_value x.number ∷ [], show x)
+
+  one_climbs : (x y : Row Rental) → x.number < y.number → (is_eq (output_cmp asked (output x) (output y)) ≡ false) × (is_lt (output_cmp asked (output y) (output x)) ≡ false)
+  one_climbs x y h = (
+    ap is_eq (then-Equal _ ∙ number_cmp x.number y.number) ∙ not_equal x.number y.number h,
+    ap is_lt (then-Equal _ ∙ number_cmp y.number x.number) ∙ not_less x.number y.number h,
+  )
+
+  pub rentals_climb : (xs : List (Row Rental)) → Rise xs → Climbs asked (map output xs)
+  rentals_climb xs r = ascending-map _ output xs (ascending_weaker (λ (x y : Row Rental). x.number < y.number) _ one_climbs xs (ascend xs r))
+
+-- ---- what is read
+
+same_termed : (x y : Rental × Terms) → IsTermed x → IsTermed y → termed_columns x ≡ termed_columns y → x ≡ y
+same_termed x y p q h =
+    let rented : x.0.rented ≡ y.0.rented = same_moment_value x.0.rented y.0.rented p.0.rented q.0.rented cc in
+    let copy : x.0.copy ≡ y.0.copy = cc in
+    let customer : x.0.customer ≡ y.0.customer = cc in
+    let returned : x.0.returned ≡ y.0.returned = same_last x.0.returned y.0.returned p.0.returned q.0.returned cc in
+    let staff : x.0.staff ≡ y.0.staff = cc in
+    let rate : x.1.rate ≡ y.1.rate = cc in
+    let period : x.1.period ≡ y.1.period = cc in
+    let replacement : x.1.replacement ≡ y.1.replacement = cc in
+    (λ i. (
+      record { rented = rented i; copy = copy i; customer = customer i; returned = returned i; staff = staff i },
+      record { rate = rate i; period = period i; replacement = replacement i },
+    ))
+
+all_termed : (rentals : List Rental) (terms : List Terms) → AllByRecursion IsRental rentals → AllByRecursion IsTerms terms → AllByRecursion IsTermed (zip rentals terms)
+all_termed [] [] p q = tt
+all_termed [] (t ∷ terms) p q = tt
+all_termed (rental ∷ rentals) [] p q = tt
+all_termed (rental ∷ rentals) (t ∷ terms) p q = ((p.0, q.0), all_termed rentals terms p.1 q.1)
+
+-- rows with the columns of some of the branch's rentals are these
+pub termed_told : (b : ℕ) (q : Rental × Terms → Bool) (books : Books) → IsHeld books → (items : List TermedRental) → AllByRecursion (λ (it : TermedRental). IsTermed (seen_termed it)) items
+    → map (λ (it : TermedRental). termed_columns (seen_termed it)) items ≡ map termed_columns (filter q (termed (shop_of b books))) → map seen_termed items ≡ filter q (termed (shop_of b books))
+termed_told b q books held items kinds is =
+    unmapped_kind termed_columns IsTermed same_termed (map seen_termed items) (filter q (termed (shop_of b books))) (all_map IsTermed seen_termed items kinds)
+    (all-filter IsTermed q (termed (shop_of b books))
+    (all_termed (of b books.rentals) (of b books.terms) (all_of IsRental b books.rentals held.values.rentals) (all_of IsTerms b books.terms held.values.terms)))
+    (map-map termed_columns seen_termed items ∙ is)

@@ -1,0 +1,91 @@
+//! Rentals, each with its terms.
+
+ghost use Rattle.std.specs.Prelude.{◌≡◌, ◌==◌, filter, is_none, map};
+ghost use Rattle.sqlite.specs.Held.{state};
+ghost use Rattle.sql_rows.specs.Calls.{StaysInside};
+ghost use Rattle.shop_model.specs.Books.{shop_of};
+ghost use Rattle.shop_model.specs.Stock.{termed};
+ghost use Rattle.shop_schema.specs.Calls.{Finds};
+ghost use Rattle.shop_store.specs.Seen.{seen_termed, termed_columns, IsTermed};
+
+use crate::columns::{amount_at, period_at, rate_at};
+use shop_schema::{moment_at, moment_or_null_at, row_number_at};
+use shop_types::{BranchNo, CustomerNo, Rental, Terms};
+use sql_rows::{StoreFault, Stored, query, read_all};
+use sqlite::types::ToSql;
+use sqlite::{Alter, Row, Transaction};
+use std::alloc::Global;
+
+/// A rental with its terms.
+#[derive(Clone, Copy, Drop)]
+pub struct TermedRental {
+    pub rental: Rental,
+    pub terms: Terms,
+}
+
+impl Stored for TermedRental {
+    ghost columns = { λ it. termed_columns (seen_termed it) };
+
+    ghost fits = { λ it. IsTermed (seen_termed it) };
+
+    fn read(row: &Row) -> Result<TermedRental, StoreFault> {
+        if row.column_count() != 8 {
+            return Err(StoreFault::Failed);
+        }
+        Ok(TermedRental {
+            rental: Rental {
+                rented: moment_at(row, 0)?,
+                copy: row_number_at(row, 1)?,
+                customer: row_number_at(row, 2)?,
+                returned: moment_or_null_at(row, 3)?,
+                staff: row_number_at(row, 4)?,
+            },
+            terms: Terms {
+                rate: rate_at(row, 5)?,
+                period: period_at(row, 6)?,
+                replacement: amount_at(row, 7)?,
+            },
+        })
+    }
+}
+
+const SELECT_TERMED: &str =
+    "SELECT r.moment, r.copy, r.customer, r.returned, r.staff, t.rate, t.period, t.replacement FROM rental AS r LEFT JOIN rental_terms AS t ON t.branch = r.branch AND t.rental = r.number WHERE r.branch = ?1 AND r.customer = ?2 ORDER BY r.number";
+
+/// The rentals of the branch's customer, in order of number, each with its terms. A rental without terms is the fault `Failed`; no sound table has one.
+/// After a fault the transaction may be rolled back.
+pub fn termed_of_customer<S: Alter>(
+    alloc: Global,
+    tx: &mut Transaction<'_, S>,
+    branch: BranchNo,
+    customer: CustomerNo,
+) -> Result<Vec<TermedRental>, StoreFault>
+    ensures inside { StaysInside S.Store tx.old.conn tx.new.conn result }
+    ensures found { Finds (state S.Store tx.old.conn.now) (state S.Store tx.new.conn.now) result
+        (λ rows books. map (λ row. seen_termed row) rows.items ≡ filter (λ it. it.0.customer == customer) (termed (shop_of branch books))) }
+{
+    let rows = query(
+        tx,
+        SELECT_TERMED,
+        &[branch.get().to_sql(), customer.get().to_sql()],
+    )?;
+    read_all(alloc, rows.as_slice())
+}
+
+const SELECT_OUT_RENTALS: &str =
+    "SELECT r.moment, r.copy, r.customer, r.returned, r.staff, t.rate, t.period, t.replacement FROM out_copy AS o LEFT JOIN rental AS r ON r.branch = o.branch AND r.number = o.rental LEFT JOIN rental_terms AS t ON t.branch = o.branch AND t.rental = o.rental WHERE o.branch = ?1 ORDER BY o.rental";
+
+/// The branch's rentals whose copies are out, in order of number, each with its terms. One statement reads them, and as many rows of each table as copies are
+/// out. One without its rental or terms is the fault `Failed`; no sound table has one. After a fault the transaction may be rolled back.
+pub fn rentals_out<S: Alter>(
+    alloc: Global,
+    tx: &mut Transaction<'_, S>,
+    branch: BranchNo,
+) -> Result<Vec<TermedRental>, StoreFault>
+    ensures inside { StaysInside S.Store tx.old.conn tx.new.conn result }
+    ensures found { Finds (state S.Store tx.old.conn.now) (state S.Store tx.new.conn.now) result
+        (λ rows books. map (λ row. seen_termed row) rows.items ≡ filter (λ it. is_none it.0.returned) (termed (shop_of branch books))) }
+{
+    let rows = query(tx, SELECT_OUT_RENTALS, &[branch.get().to_sql()])?;
+    read_all(alloc, rows.as_slice())
+}
