@@ -2,7 +2,6 @@
 use Rattle.std.proofs.Common.{◌≡◌, ◌&&◌, ◌||◌, ◌+◌, ◌==◌, ◌≤◌, ℕ, nat_lt, List, [], ◌∷◌, ◌++◌, map, not, Bool, true, false, cond, refl, sym, ap, ◌∙◌, arith, true≢false, IsPermutation}
 use Rattle.std.specs.List.{list_any, list_all}
 use Rattle.std.specs.Str.{bytes_eq}
-use Rattle.std.proofs.lemmas.Bool.Decides.{nat_tests}
 use Rattle.std.proofs.lemmas.List.Sorted.{IsPermutation-map, IsPermutation-append}
 use Rattle.shop_model.specs.Rows.{Row}
 use Rattle.shop_model.specs.Values.{Here, Scrapped}
@@ -16,7 +15,7 @@ use Rattle.book_checks.proofs.Keys.{both, different-map, different_from_climbs}
 use Rattle.book_checks.proofs.Maps.{all-map}
 use Rattle.book_checks.proofs.Tests.{all_congr, any_congr, different_congr}
 use Rattle.book_checks.proofs.Transfer.{all_along, total_along}
-use Rattle.book_checks.proofs.MarkLemmas.{Looked, all_from, all_both, all_append, some_counted, both_found, not_true, same_marks, mark_itself, mark_test, made_of, placed_of, lines_of, count_made, count_places, looked_of_asked, is_asked, within_all}
+use Rattle.book_checks.proofs.MarkLemmas.{Looked, all_from, all_both, all_append, some_counted, both_found, not_true, same_marks, mark_itself, mark_test, made_of, placed_of, lines_of, count_made, count_places, looked_of_asked, is_asked, within_all, one_some}
 
 -- ---- of two lists of marks, the one has no more than the other where it has each once, and the other has them all
 
@@ -157,11 +156,8 @@ module _ (copies : List (Row BookCopy)) (lines : List Line) (up : climbs (map ro
   looked : Looked (made_of copies) places (marked copies lines) (within_all copies lines)
   looked = looked_of_asked (made_of copies) places (marked copies lines) (within_all copies lines) (is_asked copies lines a)
 
-  some : (n : ℕ) → (n == 1) ≡ true → nat_lt 0 n ≡ true
-  some n h = grind (arith, nat_tests)
-
   all_placed : list_all (λ (it : Marked). has (λ (q : Marked). q.1) it.1 places) (marked copies lines) ≡ true
-  all_placed = all_from _ _ (marked copies lines) (is_asked copies lines a).place (λ it e. some_counted (λ (q : Marked). is_mark it.1 q.1) places ∙ some _ e)
+  all_placed = all_from _ _ (marked copies lines) (is_asked copies lines a).place (λ it e. some_counted (λ (q : Marked). is_mark it.1 q.1) places ∙ one_some _ e)
 
   made_placed : list_all (λ m. has (λ (q : Marked). q.1) m places) (made_of copies) ≡ true
   made_placed =

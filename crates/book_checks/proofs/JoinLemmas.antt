@@ -3,7 +3,6 @@ use Rattle.std.proofs.Common.{◌≡◌, ◌&&◌, ◌+◌, ◌<◌, ◌==◌, �
 use Rattle.std.specs.Ordering.{nat_cmp, ordering_then, ordering_reverse}
 use Rattle.std.specs.Cmp.{IsTotalOrder}
 use Rattle.std.specs.Cmp.Lexicographic.{slice_cmp}
-use Rattle.std.specs.Str.{bytes_eq}
 use Rattle.std.specs.List.{AllByRecursion, flat_map}
 use Rattle.std.proofs.lemmas.Cmp.{on_total}
 use Rattle.std.proofs.lemmas.Bool.Decides.{nat_tests}
@@ -14,9 +13,9 @@ use Rattle.sqlite_keyed.proofs.ListLemmas.{along_permutation, IsPermutation-flat
 use Rattle.sqlite_keyed.proofs.SortLemmas.{sorted_unique}
 use Rattle.shop_model.specs.Rows.{numbered, numbered_from}
 use Rattle.shop_model.specs.Books.{Line, Consignment}
-use Rattle.book_checks.specs.Lists.{Key, is_below, climbs, counts_from, front_of, back_of}
+use Rattle.book_checks.specs.Lists.{is_below, climbs, counts_from, front_of, back_of}
 use Rattle.book_checks.specs.Joins.{Header, Placed, header_key, group_key, placed_key, header, put_line, placed, whole, is_line_of, with_first, join}
-use Rattle.book_checks.proofs.Keys.{both, key_total, below_apart, bytes_eq_symm, below_less}
+use Rattle.book_checks.proofs.Keys.{both, key_total, below_apart, bytes_eq_symm, below_less, same_bytes}
 use Rattle.book_checks.proofs.Canon.{ascending_from_climbs}
 use Rattle.book_checks.proofs.GroupLemmas.{parts}
 use Rattle.book_checks.proofs.Maps.{map-twice}
@@ -77,12 +76,9 @@ front_whole p (x ∷ xs) ys all none =
     let more = front_whole p xs ys all.1 none in
     ((λ i. cond (all.0 i) (x ∷ front_of p (xs ++ ys)) []) ∙ ap (λ l. x ∷ l) more.0, (λ i. cond (all.0 i) (back_of p (xs ++ ys)) (x ∷ (xs ++ ys))) ∙ more.1)
 
-itself : (k : Key) → bytes_eq k k ≡ true
-itself k = (bytes_eq-Decides k k).1 refl
-
 all_own : (h : Header) (its : List (ℕ × Line)) → AllByRecursion (λ p. is_line_of h p ≡ true) (map (put_line h) its)
 all_own h [] = tt
-all_own h (it ∷ its) = (itself (header_key h), all_own h its)
+all_own h (it ∷ its) = (same_bytes (header_key h), all_own h its)
 
 abbrev Above : Consignment → List Consignment → Type 0
 Above it = AllByRecursion (λ c. is_below (header_key (header it)) (header_key (header c)) ≡ true)

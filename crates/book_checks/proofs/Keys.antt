@@ -18,6 +18,9 @@ pub both : (a b : Bool) → (a && b) ≡ true → (a ≡ true) × (b ≡ true)
 both true b h = (refl, h)
 both false b h = absurd (true≢false (sym h))
 
+pub same_bytes : (k : Key) → bytes_eq k k ≡ true
+same_bytes k = (bytes_eq-Decides k k).1 refl
+
 -- ---- whether any two are the same doesn't depend on the order
 
 or_comm : (a b c : Bool) → (a || (b || c)) ≡ (b || (a || c))

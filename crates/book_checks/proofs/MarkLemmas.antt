@@ -46,6 +46,9 @@ count_append : {X : Type 0} (test : X → Bool) (xs ys : List X) → count test 
 count_append test [] ys = omega arith
 count_append test (x ∷ xs) ys = let more = count_append test xs ys in omega (arith, more)
 
+pub one_some : (n : ℕ) → (n == 1) ≡ true → nat_lt 0 n ≡ true
+one_some n h = grind (arith, nat_tests)
+
 pub some_counted : {X : Type 0} (p : X → Bool) (xs : List X) → list_any p xs ≡ nat_lt 0 (count p xs)
 some_counted p [] = refl
 some_counted p (x ∷ xs) = go (p x) (some_counted p xs)
@@ -195,13 +198,10 @@ module _ (made : List Mark) (qs all : List Marked) (within : (p : Marked → Boo
   at_most : (n : ℕ) → (n == 1) ≡ true → nat_le n 1 ≡ true
   at_most n h = grind (arith, nat_tests)
 
-  some : (n : ℕ) → (n == 1) ≡ true → nat_lt 0 n ≡ true
-  some n h = grind (arith, nat_tests)
-
   looked_found : Asked → (it : Marked) → ((count (same it) qs == 1) && list_all (λ (other : Marked). not (is_mark it.1 other.1) || other.0 == it.0) all) ≡ true → list_any (with_film it.1 it.0) qs ≡ true
   looked_found a it h =
       let parts = both (count (same it) qs == 1) (list_all (λ (other : Marked). not (is_mark it.1 other.1) || other.0 == it.0) all) h in
-      both_found (same it) (λ (q : Marked). q.0 == it.0) qs (some_counted (same it) qs ∙ some (count (same it) qs) parts.0) (within (λ (other : Marked). not (is_mark it.1 other.1) || other.0 == it.0) parts.1)
+      both_found (same it) (λ (q : Marked). q.0 == it.0) qs (some_counted (same it) qs ∙ one_some (count (same it) qs) parts.0) (within (λ (other : Marked). not (is_mark it.1 other.1) || other.0 == it.0) parts.1)
 
   pub looked_of_asked : Asked → Looked
   looked_of_asked a = record {

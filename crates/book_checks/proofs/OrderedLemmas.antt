@@ -1,10 +1,7 @@
 -- The books that have rows in order are in order themselves.
-use Rattle.std.proofs.Common.{◌≡◌, ◌==◌, ℕ, [], ◌∷◌, map, length, true, sym, ap, ◌∙◌, arith, IsPermutation, None}
-use Rattle.std.specs.List.{list_all, flat_map}
-use Rattle.std.proofs.lemmas.List.Sorted.{IsPermutation-sym}
-use Rattle.shop_model.specs.Calendar.{Moment}
-use Rattle.shop_model.specs.Rows.{Owned}
-use Rattle.shop_model.specs.Links.{has_row, are_different}
+use Rattle.std.proofs.Common.{◌≡◌, ℕ, [], ◌∷◌, map, length, true, sym, ap, ◌∙◌, None}
+use Rattle.std.specs.List.{flat_map}
+use Rattle.shop_model.specs.Links.{has_row}
 use Rattle.shop_model.specs.Books.{Books}
 use Rattle.book_checks.specs.declared.books.OrderedBooks.{OrderedBooks}
 use Rattle.book_checks.specs.declared.rows.CustomerRow.{CustomerRow}
@@ -14,12 +11,10 @@ use Rattle.book_checks.specs.Shops.{is_among}
 use Rattle.book_checks.specs.Canons.{row_key}
 use Rattle.book_checks.specs.Joins.{header, placed, header_key, placed_key}
 use Rattle.book_checks.specs.Seen.{seen_copy, seen_rental_row, seen_payment_row, seen_header, seen_placed}
-use Rattle.book_checks.specs.Ordered.{AreOrdered, HaveOrderedRows, customer_row, terms_row, branch_row, without_last, lasts_from}
+use Rattle.book_checks.specs.Ordered.{AreOrdered, HaveOrderedRows, customer_row, terms_row, branch_row, without_last}
 use Rattle.book_checks.proofs.Maps.{map-twice, length-map}
-use Rattle.book_checks.proofs.Tests.{all_congr}
 use Rattle.book_checks.proofs.ShopLemmas.{has_row_is}
 use Rattle.book_checks.proofs.JoinLemmas.{join_sound}
-use Rattle.book_checks.proofs.LastLemmas.{lasts_owned, lasts_apart}
 
 module _ (rows : OrderedBooks) (c : Books) (o : AreOrdered rows) (s : HaveOrderedRows rows c) where
   pub customers_climb : climbs (map row_key c.customers) ≡ true
@@ -41,9 +36,6 @@ module _ (rows : OrderedBooks) (c : Books) (o : AreOrdered rows) (s : HaveOrdere
   pub payments_climb : climbs (map row_key c.payments) ≡ true
   payments_climb = ap climbs (ap (map row_key) s.payments ∙ map-twice row_key seen_payment_row rows.payments.items) ∙ o.payments
 
-  pub by_key_bag : IsPermutation c.consignments s.consignments.by_key
-  by_key_bag = IsPermutation-sym _ _ s.consignments.all
-
   pub headers_climb : climbs (map header_key (map header s.consignments.by_key)) ≡ true
   headers_climb =
       ap climbs (ap (map header_key) (join_sound _ _ s.consignments.by_key s.consignments.joined).0 ∙ map-twice header_key seen_header rows.headers.items) ∙ o.headers
@@ -58,11 +50,3 @@ module _ (rows : OrderedBooks) (c : Books) (o : AreOrdered rows) (s : HaveOrdere
 
   branch_is : (n : ℕ) → has_row c.catalogue.branches n ≡ is_among (length rows.branches.items) n
   branch_is n = has_row_is c.catalogue.branches n ∙ ap (λ m. is_among m n) (sym branches_length)
-
-  pub lasts_there : list_all (λ (row : Owned Moment). has_row c.catalogue.branches row.owner) c.lasts ≡ true
-  lasts_there =
-      ap (list_all (λ (row : Owned Moment). has_row c.catalogue.branches row.owner)) s.lasts ∙ all_congr _ _ (λ row. branch_is row.owner) (lasts_from 1 rows.branches.items)
-      ∙ lasts_owned (length rows.branches.items) 1 (omega arith) rows.branches.items (omega arith)
-
-  pub lasts_differ : are_different (λ (earlier later : Owned Moment). earlier.owner == later.owner) c.lasts ≡ true
-  lasts_differ = ap (are_different (λ (earlier later : Owned Moment). earlier.owner == later.owner)) s.lasts ∙ lasts_apart 1 rows.branches.items

@@ -14,8 +14,9 @@ use Rattle.shop_model.specs.Links.{has_row, are_different}
 use Rattle.shop_model.specs.Sound.{one}
 use Rattle.book_checks.specs.Lists.{Key, rises_from, count}
 use Rattle.book_checks.specs.Shops.{is_among, rental_key, open_keys, is_held_here}
-use Rattle.book_checks.proofs.Keys.{both}
+use Rattle.book_checks.proofs.Keys.{both, same_bytes}
 use Rattle.book_checks.proofs.Maps.{map-twice, all-map}
+use Rattle.shop_model.proofs.RowLemmas.{same_if, same_test}
 
 -- ---- moments that rise
 
@@ -79,9 +80,6 @@ has_row_is (x ∷ xs) n = go (n == 1) refl (has_row_is xs (n - 1))
 
 -- ---- keys of which each comes once
 
-itself : (k : Key) → bytes_eq k k ≡ true
-itself k = (bytes_eq-Decides k k).1 refl
-
 any_counts : (k : Key) (ks : List Key) → list_any (bytes_eq k) ks ≡ true → 1 ≤ count (bytes_eq k) ks
 any_counts k [] h = absurd (true≢false (sym h))
 any_counts k (j ∷ ks) h = go (bytes_eq k j) h (any_counts k ks)
@@ -121,7 +119,7 @@ different_from_once (j ∷ ks) h = go (list_any (bytes_eq j) ks) refl (different
   where
     go : (b : Bool) → list_any (bytes_eq j) ks ≡ b → are_different bytes_eq ks ≡ true → (not b && are_different bytes_eq ks) ≡ true
     go true e more =
-        absurd (let few = h j in let here : one (bytes_eq j j) ≡ 1 = ap one (itself j) in let again = any_counts j ks e in omega (arith, few, here, again))
+        absurd (let few = h j in let here : one (bytes_eq j j) ≡ 1 = ap one (same_bytes j) in let again = any_counts j ks e in omega (arith, few, here, again))
     go false e more = more
 
 -- ---- open rentals
@@ -218,14 +216,8 @@ module _ (copies : List Copy) where
 
 -- ---- rentals that are apart
 
-number_same : (n : ℕ) → (n == n) ≡ true
-number_same n = grind (arith, nat_tests)
-
-number_equal : (m n : ℕ) → (m == n) ≡ true → m ≡ n
-number_equal m n h = grind (arith, nat_tests)
-
 moment_same : (m : Moment) → same_moment m m ≡ true
-moment_same m = λ i. number_same m.year i && number_same m.month i && number_same m.day i && number_same m.hour i && number_same m.minute i && number_same m.second i
+moment_same m = λ i. same_test m.year i && same_test m.month i && same_test m.day i && same_test m.hour i && same_test m.minute i && same_test m.second i
 
 moment_equal : (a b : Moment) → same_moment a b ≡ true → a ≡ b
 moment_equal a b h =
@@ -235,12 +227,12 @@ moment_equal a b h =
     let day = both (a.year == b.year && a.month == b.month) (a.day == b.day) hour.0 in
     let month = both (a.year == b.year) (a.month == b.month) day.0 in
     λ i. record {
-      year = number_equal a.year b.year month.0 i;
-      month = number_equal a.month b.month month.1 i;
-      day = number_equal a.day b.day day.1 i;
-      hour = number_equal a.hour b.hour hour.1 i;
-      minute = number_equal a.minute b.minute minute.1 i;
-      second = number_equal a.second b.second second.1 i;
+      year = same_if a.year b.year month.0 i;
+      month = same_if a.month b.month month.1 i;
+      day = same_if a.day b.day day.1 i;
+      hour = same_if a.hour b.hour hour.1 i;
+      minute = same_if a.minute b.minute minute.1 i;
+      second = same_if a.second b.second second.1 i;
     }
 
 tails : (a b c d : ℕ) (k l : Key) → a ∷ b ∷ k ≡ c ∷ d ∷ l → (a ≡ c) × (b ≡ d) × (k ≡ l)
@@ -256,14 +248,14 @@ module _ (one_text : (a b : Moment) → IsMoment a → IsMoment b → moment_tex
       let parts = tails r.copy r.customer s.copy s.customer (moment_text r.rented) (moment_text s.rented) (sym (opened_key r) ∙ h ∙ opened_key s) in
       let rented = one_text r.rented s.rented p q parts.2 in
       (λ i. subst (λ (m : Moment). same_moment m r.rented ≡ true) rented (moment_same r.rented) i
-      && subst (λ n. (n == r.copy) ≡ true) parts.0 (number_same r.copy) i && subst (λ n. (n == r.customer) ≡ true) parts.1 (number_same r.customer) i)
+      && subst (λ n. (n == r.copy) ≡ true) parts.0 (same_test r.copy) i && subst (λ n. (n == r.customer) ≡ true) parts.1 (same_test r.customer) i)
 
   is_key : (r s : Rental) → same_rental r s ≡ true → rental_key r ≡ rental_key s
   is_key r s h =
       let customer = both (same_moment s.rented r.rented && s.copy == r.copy) (s.customer == r.customer) h in
       let copy = both (same_moment s.rented r.rented) (s.copy == r.copy) customer.0 in
       opened_key r
-      ∙ (λ i. sym (number_equal s.copy r.copy copy.1) i ∷ sym (number_equal s.customer r.customer customer.1) i ∷ moment_text (sym (moment_equal s.rented r.rented copy.0) i))
+      ∙ (λ i. sym (same_if s.copy r.copy copy.1) i ∷ sym (same_if s.customer r.customer customer.1) i ∷ moment_text (sym (moment_equal s.rented r.rented copy.0) i))
       ∙ sym (opened_key s)
 
   same_key : (r s : Rental) → IsMoment r.rented → IsMoment s.rented → bytes_eq (rental_key r) (rental_key s) ≡ same_rental r s

@@ -2,10 +2,12 @@
 use Rattle.std.proofs.Common.{◌≡◌, ◌&&◌, ◌||◌, ◌+◌, ◌-◌, ◌≤◌, ◌==◌, ℕ, List, [], ◌∷◌, map, not, Bool, true, false, cond, refl, sym, ap, subst, ◌∙◌, arith, true≢false, nat_le}
 use Rattle.std.specs.List.{list_any, list_all}
 use Rattle.std.proofs.lemmas.Bool.Decides.{nat_tests}
-use Rattle.shop_model.specs.Rows.{at}
+use Rattle.shop_model.specs.Rows.{at, IsCounted}
 use Rattle.shop_model.specs.Links.{are_different}
 use Rattle.book_checks.proofs.Keys.{both}
 use Rattle.book_checks.proofs.Maps.{all-map}
+use Rattle.book_checks.specs.Lists.{counts_from}
+use Rattle.shop_model.proofs.RowLemmas.{same_if, equal_test}
 
 pub all_congr : {X : Type 0} (p q : X → Bool) → ((x : X) → p x ≡ q x) → (xs : List X) → list_all p xs ≡ list_all q xs
 all_congr p q h [] = refl
@@ -39,6 +41,20 @@ le_from m n h = grind (arith, nat_tests)
 pub le_to : (m n : ℕ) → m ≤ n → nat_le m n ≡ true
 le_to m n h = grind (arith, nat_tests)
 
+pub alone : (b : Bool) → b ≡ true → (b && true) ≡ true
+alone true h = refl
+alone false h = absurd (true≢false (sym h))
+
+-- ---- numbers that count
+
+pub counted_is : (k : ℕ) (ns : List ℕ) → counts_from k ns ≡ true → IsCounted k ns
+counted_is k [] h = tt
+counted_is k (n ∷ ns) h = let parts = both (n == k) (counts_from (k + 1) ns) h in (same_if n k parts.0, counted_is (k + 1) ns parts.1)
+
+pub is_counted : (k : ℕ) (ns : List ℕ) → IsCounted k ns → counts_from k ns ≡ true
+is_counted k [] h = refl
+is_counted k (n ∷ ns) h = let first = equal_test n k h.0 in let rest = is_counted (k + 1) ns h.1 in (λ i. first i && rest i)
+
 -- ---- each at its place, from place k on
 
 abbrev pub all_from : {A : Type 0} → (ℕ → A → Bool) → ℕ → List A → Bool
@@ -51,10 +67,6 @@ module _ {A : Type 0} (P : ℕ → A → Bool) where
 
   later_place : (n : ℕ) → (n == 1) ≡ false → 1 ≤ n → 1 ≤ n - 1
   later_place n h low = grind (arith, nat_tests)
-
-  alone : (b : Bool) → b ≡ true → (b && true) ≡ true
-  alone true h = refl
-  alone false h = absurd (true≢false (sym h))
 
   pub all_from_at : (k : ℕ) (xs : List A) → all_from P k xs ≡ true → (n m : ℕ) → m + 1 ≡ n + k → 1 ≤ n → list_all (P m) (at n xs) ≡ true
   all_from_at k [] h n m e low = refl

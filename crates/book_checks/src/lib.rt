@@ -12,7 +12,7 @@ mod rows;
 
 pub use books::{OrderedBooks, are_ordered};
 pub use custody_counts::{copies_made, copies_under, lines_under};
-pub use groups::{Grouped, split_group};
+pub use groups::{Grouped, Owned, split_group};
 pub use join::are_joined;
 pub use laws::{custody_is_of_rows, join_is_exact, sound_books_stay_sound};
 pub use order::{Keyed, Numbered, are_counted, are_distinct, climbs, counts, same_bag, sort_rows};

@@ -2,6 +2,7 @@
 
 ghost use Rattle.std.specs.Prelude.{◌≡◌, [], ◌∷◌};
 
+use crate::groups::Owned;
 use crate::order::{Keyed, Numbered};
 use shop_types::{
     ActorNo, BranchNo, CategoryNo, CityNo, CopyNo, CountryNo, CustomerNo, FilmNo, Key, LanguageNo,
@@ -311,5 +312,72 @@ impl Numbered for LineRow {
 
     fn number(&self) -> u32 {
         self.line
+    }
+}
+
+// ---- their branches
+
+impl Owned for CustomerRow {
+    ghost owner = { λ row. row.branch };
+
+    fn owner(&self) -> u32 {
+        self.branch.get()
+    }
+}
+
+impl Owned for CopyRow {
+    ghost owner = { λ row. row.branch };
+
+    fn owner(&self) -> u32 {
+        self.branch.get()
+    }
+}
+
+impl Owned for RentalRow {
+    ghost owner = { λ row. row.branch };
+
+    fn owner(&self) -> u32 {
+        self.branch.get()
+    }
+}
+
+impl Owned for TermsRow {
+    ghost owner = { λ row. row.branch };
+
+    fn owner(&self) -> u32 {
+        self.branch.get()
+    }
+}
+
+impl Owned for PaymentRow {
+    ghost owner = { λ row. row.branch };
+
+    fn owner(&self) -> u32 {
+        self.branch.get()
+    }
+}
+
+impl Owned for LotRow {
+    ghost owner = { λ row. row.branch };
+
+    fn owner(&self) -> u32 {
+        self.branch.get()
+    }
+}
+
+impl Owned for KeptRow {
+    ghost owner = { λ row. row.branch };
+
+    fn owner(&self) -> u32 {
+        self.branch.get()
+    }
+}
+
+/// A consignment is its sender's.
+impl Owned for HeaderRow {
+    ghost owner = { λ row. row.source };
+
+    fn owner(&self) -> u32 {
+        self.source.get()
     }
 }

@@ -213,20 +213,6 @@ receive rest fits = (receive_from rest, λ f. receive_to rest fits f.0 f.1 f.2)
 
 -- ---- no act
 
-pub no_act : (t : ℕ) (rest : List ℕ) → (act : Act) → t ∷ rest ≡ act_form act → (1 ≤ t) × (t ≤ 9)
-no_act t rest act e = let is = tagged act in let h = ap first e in (omega (arith, is.0, h), omega (arith, is.1, h))
-  where
-    tagged : (act : Act) → (1 ≤ first (act_form act)) × (first (act_form act) ≤ 9)
-    tagged (AddCustomer p) = (omega arith, omega arith)
-    tagged (SetActive c a) = (omega arith, omega arith)
-    tagged (Rent c x) = (omega arith, omega arith)
-    tagged (TakeBack r) = (omega arith, omega arith)
-    tagged (Pay c r m) = (omega arith, omega arith)
-    tagged (Import l f) = (omega arith, omega arith)
-    tagged (Dispatch a xs) = (omega arith, omega arith)
-    tagged (Receive s n m) = (omega arith, omega arith)
-    tagged (Scrap x) = (omega arith, omega arith)
-
 -- ---- the act that a first byte tells
 
 module _ (Form : List ℕ → Type 0) {P : Type 0} (bytes rest : List ℕ) (t n : ℕ) (r : Bool) (e : bytes ≡ t ∷ rest) (f : t ≡ n) (h : IsTrue r ↔ P) where

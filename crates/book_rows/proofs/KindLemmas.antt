@@ -1,5 +1,5 @@
 -- Kinds, column by column.
-use Rattle.std.proofs.Common.{◌≡◌, ◌≢◌, ◌↔◌, ◌<◌, ℕ, zero, suc, List, [], ◌∷◌, length, get_or, drop, arith, Bool, true, false, refl, sym, ap, ◌∙◌, subst, IsTrue, Some, None}
+use Rattle.std.proofs.Common.{◌≡◌, ◌≢◌, ◌↔◌, ◌<◌, ℕ, zero, suc, List, [], ◌∷◌, length, get_or, drop, arith, Bool, true, false, refl, sym, ap, ◌∙◌, subst, IsTrue, Some, None, Option}
 use Rattle.std.proofs.lemmas.Bool.Decides.{nat_tests}
 use Rattle.sql_rows.specs.Rows.{number_value}
 use Rattle.shop_schema.specs.RowValues.{IsNumber}
@@ -13,13 +13,7 @@ use Rattle.sqlite_value.specs.Order as sql
 use Rattle.sqlite_value.specs.Order.{column}
 use Rattle.book_rows.specs.declared.kinds.Kind.{Kind}
 use Rattle.book_rows.specs.Kinds.{IsWithin, IsOfKind, HaveKinds}
-
-pub kinds_step : (ks : List Kind) (row : sql.Row) (i : ℕ) (d : Kind) → i < length ks → length row ≡ length ks → IsOfKind (get_or ks i d) (column row i)
-    → HaveKinds (drop (suc i) ks) (drop (suc i) row) ↔ HaveKinds (drop i ks) (drop i row)
-kinds_step [] row i d low same is = absurd (omega (arith, low))
-kinds_step (k ∷ ks) [] i d low same is = absurd (omega (arith, same))
-kinds_step (k ∷ ks) (v ∷ row) zero d low same is = (λ h. (is, h), λ h. h.1)
-kinds_step (k ∷ ks) (v ∷ row) (suc i) d low same is = kinds_step ks row i d (omega (arith, low)) (omega (arith, same)) is
+use Rattle.std.specs.Prelude.{IfSome}
 
 pub as_wide : (ks : List Kind) (row : sql.Row) → HaveKinds ks row → length row ≡ length ks
 as_wide [] [] h = refl
@@ -81,6 +75,10 @@ in_range n h = (grind (arith, nat_tests), grind (arith, nat_tests))
 
 pub ranged : (n : ℕ) → IsWithin 1 4_294_967_295 n → IsNumber n
 ranged n (a, b) = grind (arith, nat_tests)
+
+pub or_ranged : (o : Option ℕ) → IfSome o (IsWithin 1 4_294_967_295) → IfSome o IsNumber
+or_ranged None h = tt
+or_ranged (Some n) h = ranged n h
 
 -- ---- a row column by column
 

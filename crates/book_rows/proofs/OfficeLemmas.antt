@@ -8,7 +8,7 @@ use Rattle.shop_schema.specs.RowValues.{IsNumber, IsName, IsOfficeAct}
 use Rattle.book_rows.specs.declared.parts.Part.{Part}
 use Rattle.book_rows.specs.declared.parts.Part.TheVariants as part
 use Rattle.book_rows.specs.Forms.{IsPartForm, IsForm, IsOfficeForm}
-use Rattle.book_rows.proofs.KindLemmas.{in_range, ranged}
+use Rattle.book_rows.proofs.KindLemmas.{in_range, ranged, or_ranged}
 use Rattle.book_rows.proofs.ActLemmas.{put, number, first, behind, row, one_number}
 
 abbrev name : Part
@@ -162,10 +162,6 @@ cast rest = (cast_from rest, λ f. cast_to rest f.0 f.1 f.2)
 abbrev pub branch_parts : List Part
 branch_parts = part.Token ∷ part.Text 1 128 ∷ part.Text 0 45 ∷ part.Text 0 45 ∷ row ∷ part.Optional 1 4_294_967_295 ∷ []
 
-number_or_none : (o : Option ℕ) → IfSome o (λ n. (1 ≤ n) × (n ≤ 4_294_967_295)) → IfSome o IsNumber
-number_or_none None h = tt
-number_or_none (Some n) h = ranged n h
-
 none_or_number : (o : Option ℕ) → IfSome o IsNumber → IfSome o (λ n. (1 ≤ n) × (n ≤ 4_294_967_295))
 none_or_number None h = tt
 none_or_number (Some n) h = in_range n h
@@ -173,7 +169,7 @@ none_or_number (Some n) h = in_range n h
 branch_from : (rest : List ℕ) → IsForm branch_parts rest → IsOfficeForm (10 ∷ rest)
 branch_from rest (p1, r1, (t1, k1, e1), (p2, r2, (t2, k2, e2), (p3, r3, (t3, k3, e3), (p4, r4, (t4, k4, e4), (p5, r5, (n5, a5, b5, e5), (p6, r6, (o, k6, e6), z, g6), g5), g4), g3), g2), g1) = (
   AddBranch (record { token = t1; address = t2; postal = t3; phone = t4; city = n5; manager = o }),
-  record { token = k1; address = k2; postal = k3; phone = k4; city = ranged n5 (a5, b5); manager = number_or_none o k6 },
+  record { token = k1; address = k2; postal = k3; phone = k4; city = ranged n5 (a5, b5); manager = or_ranged o k6 },
   ap (λ (l : List ℕ). 10 ∷ l) (put rest p1 r1 _ _ g1 e1 (put r1 p2 r2 _ _ g2 e2 (put r2 p3 r3 _ _ g3 e3 (put r3 p4 r4 _ _ g4 e4 (put r4 p5 r5 _ _ g5 e5 (put r5 p6 r6 _ _ g6 e6 z)))))),
 )
 
@@ -296,22 +292,3 @@ pub choose : (rest : List ℕ) → IsForm (part.Flag ∷ []) rest ↔ IsOfficeFo
 choose rest = (choose_from rest, λ f. choose_to rest f.0 f.1 f.2)
 
 -- ---- no act
-
-pub no_office : (t : ℕ) (rest : List ℕ) → (act : OfficeAct) → t ∷ rest ≡ office_form act → (1 ≤ t) × (t ≤ 14)
-no_office t rest act e = let is = tagged act in let h = ap first e in (omega (arith, is.0, h), omega (arith, is.1, h))
-  where
-    tagged : (act : OfficeAct) → (1 ≤ first (office_form act)) × (first (office_form act) ≤ 14)
-    tagged (AddCountry t) = (omega arith, omega arith)
-    tagged (AddCity c) = (omega arith, omega arith)
-    tagged (AddLanguage t) = (omega arith, omega arith)
-    tagged (AddCategory t) = (omega arith, omega arith)
-    tagged (AddActor a) = (omega arith, omega arith)
-    tagged (AddFilm f) = (omega arith, omega arith)
-    tagged (PriceFilm f r) = (omega arith, omega arith)
-    tagged (WithdrawFilm f) = (omega arith, omega arith)
-    tagged (AddCast c) = (omega arith, omega arith)
-    tagged (AddBranch b) = (omega arith, omega arith)
-    tagged (AddStaff s) = (omega arith, omega arith)
-    tagged (StaffLeaves s) = (omega arith, omega arith)
-    tagged (SetManager b s) = (omega arith, omega arith)
-    tagged (ChooseRule r) = (omega arith, omega arith)

@@ -27,11 +27,6 @@ module _ {X : Type 0} (Is : X → Row → Type 0) where
   pub all_kept : (kept : List X) (rows : List Row) (i : ℕ) → length rows ≤ i → Continues kept (drop i rows) rows → AreRows Is kept rows
   all_kept kept rows i end so = subst (λ l. AreRows Is l rows) (append-nil kept) (so [] (subst (AreRows Is []) (sym (dropped rows i end)) tt))
 
-pub one_fits : (One : Row → Type 0) (rows : List Row) (i : ℕ) (d : Row) → i < length rows → One (get_or rows i d) → AllByRecursion One (drop (suc i) rows) → AllByRecursion One (drop i rows)
-one_fits One [] i d low is h = absurd (omega (arith, low))
-one_fits One (r ∷ rows) zero d low is h = (is, h)
-one_fits One (r ∷ rows) (suc i) d low is h = one_fits One rows i d (omega (arith, low)) is h
-
 pub one_at : (One : Row → Type 0) (rows : List Row) (i : ℕ) (d : Row) → i < length rows → AllByRecursion One rows → One (get_or rows i d)
 one_at One [] i d low h = absurd (omega (arith, low))
 one_at One (r ∷ rows) zero d low h = h.0

@@ -35,12 +35,12 @@ module _ {X : Type 0} (test : X → X → Bool) (key : X → Key) (is : (x y : X
   pub apart : (xs : List X) → climbs (map key xs) ≡ true → are_different test xs ≡ true
   apart xs h = ascending_apart xs (ascending_from_climbs key xs h)
 
-two : (a b : Bool) → (a && b) ≡ (a && (b && true))
+pub two : (a b : Bool) → (a && b) ≡ (a && (b && true))
 two true true = refl
 two true false = refl
 two false b = refl
 
-three : (a b c : Bool) → (a && b && c) ≡ (a && (b && (c && true)))
+pub three : (a b c : Bool) → (a && b && c) ≡ (a && (b && (c && true)))
 three true true true = refl
 three true true false = refl
 three true false c = refl

@@ -55,7 +55,7 @@ module _ (rows : OrderedBooks) (c : Books) (has : HaveOrderedRows rows c) where
       ∷ record { caller = b; kind = 4; last = many_kept kept_row (λ (row : Owned Kept). row.it) (λ x. x.branch == b) c.kept rows.kept.items has.kept i }
       ∷ []
 
-  branch_count : length c.catalogue.branches ≡ length rows.branches.items
+  pub branch_count : length c.catalogue.branches ≡ length rows.branches.items
   branch_count = sym (length-map (branch_row None) c.catalogue.branches) ∙ ap length has.shared.branches ∙ length-map without_last rows.branches.items
 
   office_many : length c.catalogue.kept ≡ length rows.office_keys.items

@@ -13,20 +13,6 @@ use Rattle.book_rows.specs.Listed.{AreRows}
 use Rattle.books_audit.specs.Read.{SharedRead}
 use Rattle.books_audit.specs.ReadLists.{PlacesRead}
 
-pub counted_is : (k : ℕ) (ns : List ℕ) → counts_from k ns ≡ true → IsCounted k ns
-counted_is k [] h = tt
-counted_is k (n ∷ ns) h = let parts = both (n == k) (counts_from (k + 1) ns) h in (equal n k parts.0, counted_is (k + 1) ns parts.1)
-  where
-    equal : (m n : ℕ) → (m == n) ≡ true → m ≡ n
-    equal m n e = grind (arith, nat_tests)
-
-pub is_counted : (k : ℕ) (ns : List ℕ) → IsCounted k ns → counts_from k ns ≡ true
-is_counted k [] h = refl
-is_counted k (n ∷ ns) h = let first = same n k h.0 in let rest = is_counted (k + 1) ns h.1 in (λ i. first i && rest i)
-  where
-    same : (m n : ℕ) → m ≡ n → (m == n) ≡ true
-    same m n e = grind (arith, nat_tests)
-
 pub as_many : {X : Type 0} (xs ys : List X) → IsPermutation xs ys → length xs ≡ length ys
 as_many {X} = along_permutation (λ (xs ys : List X). length xs ≡ length ys) (λ xs. refl) (λ x us vs h. omega (arith, h)) (λ x y us. refl) (λ us vs ws h k. h ∙ k)
 

@@ -16,7 +16,7 @@ use Rattle.shop_schema.specs.RowValues.{IsNumber, IsName, IsToken, IsCity, IsAct
 use Rattle.shop_schema.proofs.SameRows.{same_moment_value, same_last, same_number_or_null}
 use Rattle.book_rows.specs.Kinds.{HaveKinds, IsOfKind}
 use Rattle.book_rows.specs.declared.kinds.Kind.TheVariants as kind
-use Rattle.book_rows.proofs.KindLemmas.{Spelled, spelled, next, in_range, ranged, equal_numbers}
+use Rattle.book_rows.proofs.KindLemmas.{Spelled, spelled, next, in_range, ranged, equal_numbers, or_ranged}
 use Rattle.book_checks.specs.Joins.{Header}
 use Rattle.book_checks.specs.Ordered.{city_row, film_row, cast_row, branch_row, staff_row, customer_row, terms_row, lot_row}
 use Rattle.book_checks.specs.declared.rows.CastRow.{CastRow}
@@ -35,6 +35,7 @@ use Rattle.book_rows.specs.declared.shared.NumberedActor.{NumberedActor}
 use Rattle.book_rows.specs.declared.shared.NumberedFilm.{NumberedFilm}
 use Rattle.book_rows.specs.declared.shared.NumberedBranch.{NumberedBranch}
 use Rattle.book_rows.specs.declared.shared.NumberedStaff.{NumberedStaff}
+use Rattle.book_rows.proofs.CustodyRows.{number}
 
 -- the value of which this is kept, and whose columns the row has
 pub record FullOf {X F : Type 0} (columns : F → sql.Row) (Fits : F → Type 0) (small : F → X) (x : X) (r : sql.Row) : Type 0 where
@@ -43,16 +44,9 @@ pub record FullOf {X F : Type 0} (columns : F → sql.Row) (Fits : F → Type 0)
   pub fits : Fits it
   pub keeps : small it ≡ x
 
-number : (n : ℕ) → IsNumber n → IsOfKind row (number_value n)
-number n h = (n, in_range n h, refl)
-
 number_or_null : (o : Option ℕ) → IfSome o IsNumber → IsOfKind row_or_null (or_null number_value o)
 number_or_null None h = (None, tt, refl)
 number_or_null (Some n) h = (Some n, in_range n h, refl)
-
-or_ranged : (o : Option ℕ) → IfSome o (λ n. (1 ≤ n) × (n ≤ 4_294_967_295)) → IfSome o IsNumber
-or_ranged None h = tt
-or_ranged (Some n) h = ranged n h
 
 equal_texts : (r s : sql.Row) (at : ℕ) (t u : List ℕ) → s ≡ r → column s at ≡ Text t → column r at ≡ Text u → t ≡ u
 equal_texts r s at t u e a b = let h : Text t ≡ Text u = sym a ∙ ap (λ (x : sql.Row). column x at) e ∙ b in cc

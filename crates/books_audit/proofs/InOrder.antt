@@ -22,6 +22,7 @@ use Rattle.book_checks.proofs.Maps.{length-map}
 use Rattle.book_checks.proofs.ShopLemmas.{has_row_is}
 use Rattle.book_checks.proofs.Tests.{all_congr}
 use Rattle.books_audit.specs.Audits.{AreInOrder}
+use Rattle.books_audit.proofs.CountRows.{branch_count}
 
 module _ (rows : OrderedBooks) (c : Books) (has : HaveOrderedRows rows c) (ordered : AreOrdered rows) (lines : climbs (map placed_key (map seen_placed rows.lines.items)) ≡ true) where
   customers : climbs (map row_key c.customers) ≡ true
@@ -40,14 +41,11 @@ module _ (rows : OrderedBooks) (c : Books) (has : HaveOrderedRows rows c) (order
   payments : climbs (map row_key c.payments) ≡ true
   payments = ap climbs (ap (map row_key) has.payments ∙ map-map row_key seen_payment_row rows.payments.items) ∙ ordered.payments
 
-  branch_count : length c.catalogue.branches ≡ length rows.branches.items
-  branch_count = sym (length-map (branch_row None) c.catalogue.branches) ∙ ap length has.shared.branches ∙ length-map without_last rows.branches.items
-
   lasts : list_all (λ (row : Owned Moment). has_row c.catalogue.branches row.owner) c.lasts ≡ true
   lasts =
       all_congr _ _ (λ (row : Owned Moment). has_row_is c.catalogue.branches row.owner) c.lasts
       ∙ ap (list_all (λ (row : Owned Moment). is_among (length c.catalogue.branches) row.owner)) has.lasts
-      ∙ lasts_owned (length c.catalogue.branches) 1 (omega arith) rows.branches.items (omega (arith, branch_count))
+      ∙ lasts_owned (length c.catalogue.branches) 1 (omega arith) rows.branches.items (let many = branch_count rows c has in omega (arith, many))
 
   pub in_order : AreInOrder c
   in_order =

@@ -15,7 +15,7 @@ pub mod InOrder
 pub mod Exhibited
 pub mod CanonCounts
 pub mod OneAudit
-pub mod SelectTexts
+pub mod WholeTexts
 pub mod Ones
 pub mod Told
 pub mod CustodyAudits

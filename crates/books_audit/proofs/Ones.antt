@@ -19,7 +19,7 @@ use Rattle.books_audit.proofs.FullRows.{IsShared, IsTold, told_columns}
 use Rattle.books_audit.proofs.FullLists.{ones}
 use Rattle.books_audit.proofs.SameBranches.{told, as_told, told_shared}
 
-numbered_fit : {A : Type 0} (P : A → Type 0) (k : ℕ) (xs : List A) → 1 ≤ k → k + length xs ≤ 4_294_967_296 → AllByRecursion P xs → AllByRecursion (IsShared P) (numbered_from k xs)
+pub numbered_fit : {A : Type 0} (P : A → Type 0) (k : ℕ) (xs : List A) → 1 ≤ k → k + length xs ≤ 4_294_967_296 → AllByRecursion P xs → AllByRecursion (IsShared P) (numbered_from k xs)
 numbered_fit P k [] low few all = tt
 numbered_fit P k (x ∷ xs) low few all = ((ranged k (low, omega (arith, few)), all.0), numbered_fit P (k + 1) xs (omega (arith, low)) (omega (arith, few)) all.1)
 

@@ -2,7 +2,7 @@
 use Rattle.std.proofs.Common.{◌≡◌, ◌∙◌, ◌+◌, ◌<◌, ◌==◌, ◌&&◌, ℕ, List, [], ◌∷◌, ◌++◌, map, length, drop, get_or, drop-cons, add-one, suc, Bool, true, false, refl, sym, ap, subst, arith}
 use Rattle.std.specs.List.{AllByRecursion}
 use Rattle.std.proofs.lemmas.Bool.{and_parts}
-use Rattle.shop_model.proofs.RowLemmas.{same_if}
+use Rattle.shop_model.proofs.RowLemmas.{same_if, same_test}
 use Rattle.std.proofs.lemmas.Bool.Decides.{nat_tests}
 use Rattle.shop_schema.specs.Counts.{Pair, is_pair, count_pair}
 use Rattle.book_checks.specs.Lists.{Key, is_below, climbs_above}
@@ -12,14 +12,10 @@ use Rattle.books_audit.specs.declared.counts.Triple.{Triple}
 use Rattle.books_audit.specs.Read.{pairs_among}
 use Rattle.books_audit.specs.Triples.{seen_pair}
 use Rattle.books_audit.proofs.PairLemmas.{counted_here, counted_later}
+use Rattle.books_audit.proofs.Canonical.{two}
 
 abbrev pub Below : ℕ → ℕ → List Pair → Type 0
 Below s a = AllByRecursion (λ (p : Pair). is_below (p.source ∷ p.addressee ∷ []) (s ∷ a ∷ []) ≡ true)
-
-two : (a b : Bool) → (a && b) ≡ (a && (b && true))
-two true true = refl
-two true false = refl
-two false b = refl
 
 apart : (s a : ℕ) (p : Pair) → is_below (p.source ∷ p.addressee ∷ []) (s ∷ a ∷ []) ≡ true → is_pair s a p ≡ false
 apart s a p h = two (p.source == s) (p.addressee == a) ∙ below_apart (p.source ∷ p.addressee ∷ []) (s ∷ a ∷ []) h
@@ -29,14 +25,11 @@ past : (s a : ℕ) (ps rest : List Pair) → Below s a ps → count_pair s a (ps
 past s a [] rest h = refl
 past s a (p ∷ ps) rest h = counted_later s a p (ps ++ rest) (apart s a p h.0) ∙ ap (λ l. p ∷ l) (past s a ps rest h.1)
 
-itself : (n : ℕ) → (n == n) ≡ true
-itself n = grind (arith, nat_tests)
-
 -- one more of the last pair
 pub last_again : (s a n : ℕ) (ps : List Pair) → Below s a ps → count_pair s a (ps ++ record { source = s; addressee = a; last = n } ∷ []) ≡ ps ++ record { source = s; addressee = a; last = n + 1 } ∷ []
 last_again s a n ps h =
     past s a ps (record { source = s; addressee = a; last = n } ∷ []) h
-    ∙ ap (λ l. ps ++ l) (counted_here s a (record { source = s; addressee = a; last = n }) [] (λ i. itself s i && itself a i))
+    ∙ ap (λ l. ps ++ l) (counted_here s a (record { source = s; addressee = a; last = n }) [] (λ i. same_test s i && same_test a i))
 
 lower : (s a t b : ℕ) (ps : List Pair) → is_below (s ∷ a ∷ []) (t ∷ b ∷ []) ≡ true → Below s a ps → Below t b ps
 lower s a t b [] up h = tt

@@ -20,16 +20,12 @@ use Rattle.book_checks.proofs.ShopLemmas.{has_row_is}
 use Rattle.book_checks.proofs.Standing.{same_rows, one_numbered}
 use Rattle.books_audit.specs.declared.tables.TableRows.{TableRows}
 use Rattle.books_audit.specs.Audits.{HaveBooks}
+use Rattle.books_audit.proofs.FullRows.{told_columns}
 
 -- each branch with its last moment
 pub told : List (Owned Moment) → ℕ → List Branch → List (Branch × Option Moment)
 told lasts k [] = []
 told lasts k (b ∷ bs) = (b, head (owned_by k lasts)) ∷ told lasts (k + 1) bs
-
-abbrev told_columns : ℕ × (Branch × Option Moment) → sql.Row
-told_columns it =
-    number_value it.0 ∷ Text it.1.0.token ∷ Text it.1.0.address ∷ Text it.1.0.postal ∷ Text it.1.0.phone ∷ number_value it.1.0.city ∷ or_null number_value it.1.0.manager
-    ∷ or_null moment_value it.1.1 ∷ []
 
 abbrev Fits : ℕ × (Branch × Option Moment) → Type 0
 Fits it = IfSome it.1.1 IsMoment
@@ -39,8 +35,8 @@ unfolding told
 as_told lasts k [] = refl
 as_told lasts k (b ∷ bs) = ap (λ l. branch_columns lasts (k, b) ∷ l) (as_told lasts (k + 1) bs)
 
-one_told : (a b : ℕ × (Branch × Option Moment)) → Fits a → Fits b → told_columns a ≡ told_columns b → a ≡ b
-one_told a b p q h =
+pub same_told : (a b : ℕ × (Branch × Option Moment)) → Fits a → Fits b → told_columns a ≡ told_columns b → a ≡ b
+same_told a b p q h =
     let number : a.0 ≡ b.0 = cc in
     let token : a.1.0.token ≡ b.1.0.token = cc in
     let address : a.1.0.address ≡ b.1.0.address = cc in
@@ -111,7 +107,7 @@ heads l m k (b ∷ bs) (c ∷ cs) e n low high = go (n == k) refl (heads l m (k 
 module _ (tables : TableRows) (c b : Books) (s : HaveBooks tables c) (t : HaveBooks tables b) where
   told_same : told c.lasts 1 c.catalogue.branches ≡ told b.lasts 1 b.catalogue.branches
   told_same =
-      one_numbered _ _ (same_rows told_columns Fits one_told tables.branches.items (numbered (told b.lasts 1 b.catalogue.branches)) (numbered (told c.lasts 1 c.catalogue.branches))
+      one_numbered _ _ (same_rows told_columns Fits same_told tables.branches.items (numbered (told b.lasts 1 b.catalogue.branches)) (numbered (told c.lasts 1 c.catalogue.branches))
       (told_fits b.lasts t.values.lasts 1 b.catalogue.branches) (told_fits c.lasts s.values.lasts 1 c.catalogue.branches)
       (subst (IsPermutation tables.branches.items) (as_told b.lasts 1 b.catalogue.branches) t.rows.branches) (subst (IsPermutation tables.branches.items) (as_told c.lasts 1 c.catalogue.branches) s.rows.branches))
 

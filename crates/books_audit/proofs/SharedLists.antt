@@ -19,16 +19,13 @@ use Rattle.book_checks.proofs.LastLemmas.{last_at, last_in}
 use Rattle.books_audit.specs.Read.{SharedRead}
 use Rattle.books_audit.proofs.FullRows.{FullOf, IsShared, told_columns, IsTold}
 use Rattle.books_audit.proofs.FullLists.{fulls, shared_rows, shared_fit}
+use Rattle.book_checks.proofs.Maps.{length-map}
 
 pub record SharedOf {A S : Type 0} (columns : ℕ × A → sql.Row) (P : A → Type 0) (seen : A → S) (table : List sql.Row) (kept : List S) : Type 0 where
   pub items : List A
   pub has : IsPermutation table (map columns (numbered items))
   pub fit : AreShared P items
   pub keeps : map seen items ≡ kept
-
-many : {X Y : Type 0} (f : X → Y) (xs : List X) → length (map f xs) ≡ length xs
-many f [] = refl
-many f (x ∷ xs) = let more = many f xs in omega (arith, more)
 
 same_map : {X Y : Type 0} (f g : X → Y) → ((x : X) → f x ≡ g x) → (xs : List X) → map f xs ≡ map g xs
 same_map f g h [] = refl
@@ -43,7 +40,7 @@ module _ {A X S : Type 0} (columns : ℕ × A → sql.Row) (P : A → Type 0) (s
       let firsts : map (λ (it : ℕ × A). it.0) f.its ≡ map number r.sorted = sym (same_map _ _ numbers f.its) ∙ sym (map-map number small f.its) ∙ ap (map number) f.keeps in
       let items = map (λ (it : ℕ × A). it.1) f.its in
       let are : map seen items ≡ kept = map-map seen (λ (it : ℕ × A). it.1) f.its ∙ sym (same_map _ _ keeps_are f.its) ∙ sym (map-map keep small f.its) ∙ ap (map keep) f.keeps ∙ r.keeps in
-      let size : length items ≡ length kept = sym (many seen items) ∙ ap length are in record {
+      let size : length items ≡ length kept = sym (length-map seen items) ∙ ap length are in record {
         items = items;
         has = shared_rows columns table f.its (subst (IsCounted 1) (sym firsts) r.counted) f.has;
         fit = (subst (λ n. n < 2 ^ 32) (sym size) r.few, shared_fit P f.its f.fit);

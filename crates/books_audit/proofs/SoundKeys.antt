@@ -13,13 +13,11 @@ use Rattle.shop_model.specs.Sound.{IsSound, widest}
 use Rattle.book_checks.proofs.Keys.{both, different-map, bytes_eq_symm}
 use Rattle.book_checks.proofs.Tests.{different_congr}
 use Rattle.books_audit.specs.Audits.{HaveKeys, same_row}
+use Rattle.shop_model.proofs.RowLemmas.{same_test}
 
 unnot : (b : Bool) → not b ≡ true → b ≡ false
 unnot true e = cc
 unnot false e = refl
-
-itself : (n : ℕ) → (n == n) ≡ true
-itself n = grind (arith, nat_tests)
 
 -- rows that differ within each group are different
 module _ {X : Type 0} (own num : X → X → Bool) (self : (x : X) → own x x ≡ true) where
@@ -68,13 +66,13 @@ module _ {X : Type 0} (number : X → ℕ) where
 rows_apart : {A : Type 0} (rows : List (Row A)) → ((b : ℕ) → IsCounted 1 (map (λ (row : Row A). row.number) (filter (is_of b) rows))) → are_different same_row rows ≡ true
 rows_apart {A} rows h =
     different_congr same_row _ (λ x y i. nat_eq_equiv.symm x.branch y.branch i && (x.number == y.number)) rows
-    ∙ groups_apart (λ (x y : Row A). y.branch == x.branch) (λ x y. x.number == y.number) (λ x. itself x.branch) rows (λ x. counted_apart (λ (row : Row A). row.number) 1 (filter (is_of x.branch) rows) (h x.branch))
+    ∙ groups_apart (λ (x y : Row A). y.branch == x.branch) (λ x y. x.number == y.number) (λ x. same_test x.branch) rows (λ x. counted_apart (λ (row : Row A). row.number) 1 (filter (is_of x.branch) rows) (h x.branch))
 
 owned_apart : {A : Type 0} (same : A → A → Bool) (rows : List (Owned A)) → ((b : ℕ) → are_different same (map (λ (row : Owned A). row.it) (filter (λ row. row.owner == b) rows)) ≡ true)
     → are_different (λ (x y : Owned A). x.owner == y.owner && same x.it y.it) rows ≡ true
 owned_apart {A} same rows h =
     different_congr _ (λ (x y : Owned A). y.owner == x.owner && same x.it y.it) (λ x y i. nat_eq_equiv.symm x.owner y.owner i && same x.it y.it) rows
-    ∙ groups_apart (λ (x y : Owned A). y.owner == x.owner) (λ x y. same x.it y.it) (λ x. itself x.owner) rows
+    ∙ groups_apart (λ (x y : Owned A). y.owner == x.owner) (λ x y. same x.it y.it) (λ x. same_test x.owner) rows
     (λ x. sym (different-map same (λ (row : Owned A). row.it) (filter (λ row. row.owner == x.owner) rows)) ∙ h x.owner)
 
 regrouped : (a b c d e : Bool) → a ≡ d → b ≡ e → (a && b && c) ≡ ((d && e) && c)
@@ -101,5 +99,5 @@ keys_of_sound rules books sound = record {
     consignments_apart : are_different (λ (a b : Consignment). a.source == b.source && a.addressee == b.addressee && a.number == b.number) books.consignments ≡ true
     consignments_apart =
         different_congr _ (λ (x y : Consignment). own x y && (x.number == y.number)) (λ x y. regrouped _ _ (x.number == y.number) _ _ (nat_eq_equiv.symm x.source y.source) (nat_eq_equiv.symm x.addressee y.addressee)) books.consignments
-        ∙ groups_apart own (λ x y. x.number == y.number) (λ x i. itself x.source i && itself x.addressee i) books.consignments
+        ∙ groups_apart own (λ x y. x.number == y.number) (λ x i. same_test x.source i && same_test x.addressee i) books.consignments
         (λ x. counted_apart (λ (it : Consignment). it.number) 1 (filter (own x) books.consignments) (sound.numbers.consignments x.source x.addressee))

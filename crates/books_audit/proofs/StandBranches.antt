@@ -14,27 +14,11 @@ use Rattle.books_audit.specs.declared.tables.TableRows.{TableRows}
 use Rattle.books_audit.specs.Audits.{HaveBooks}
 use Rattle.books_audit.proofs.FullRows as full
 use Rattle.books_audit.proofs.FullRows.{IsShared, IsTold, told_columns, numbered_branch}
-use Rattle.books_audit.proofs.SameBranches.{told, as_told, told_shared}
-use Rattle.books_audit.proofs.Ones.{ones_of}
+use Rattle.books_audit.proofs.SameBranches.{told, as_told, told_shared, same_told}
+use Rattle.books_audit.proofs.Ones.{ones_of, numbered_fit}
 use Rattle.books_audit.specs.TableGroups.{PlacedCanBeRead}
 use Rattle.books_audit.proofs.StandPlaces.{stands_by_bag}
 use Rattle.books_audit.proofs.StandShared.{cities_can_be_read, staff_can_be_read}
-
-same_told : (a b : ℕ × (Branch × Option Moment)) → IsShared IsTold a → IsShared IsTold b → told_columns a ≡ told_columns b → a ≡ b
-same_told a b p q h =
-    let number : a.0 ≡ b.0 = cc in
-    let token : a.1.0.token ≡ b.1.0.token = cc in
-    let address : a.1.0.address ≡ b.1.0.address = cc in
-    let postal : a.1.0.postal ≡ b.1.0.postal = cc in
-    let phone : a.1.0.phone ≡ b.1.0.phone = cc in
-    let city : a.1.0.city ≡ b.1.0.city = cc in
-    let manager : a.1.0.manager ≡ b.1.0.manager = same_number_or_null a.1.0.manager b.1.0.manager cc in
-    let last : a.1.1 ≡ b.1.1 = same_last a.1.1 b.1.1 p.1.1 q.1.1 cc in
-    (λ i. (number i, (record { token = token i; address = address i; postal = postal i; phone = phone i; city = city i; manager = manager i }, last i)))
-
-numbered_fit : {A : Type 0} (P : A → Type 0) (k : ℕ) (xs : List A) → 1 ≤ k → k + length xs ≤ 4_294_967_296 → AllByRecursion P xs → AllByRecursion (IsShared P) (numbered_from k xs)
-numbered_fit P k [] low few all = tt
-numbered_fit P k (x ∷ xs) low few all = ((ranged k (low, omega (arith, few)), all.0), numbered_fit P (k + 1) xs (omega (arith, low)) (omega (arith, few)) all.1)
 
 module _ (tables : TableRows) (b : Books) (t : HaveBooks tables b) where
   pub placed_can_be_read : PlacedCanBeRead tables
@@ -47,6 +31,6 @@ module _ (tables : TableRows) (b : Books) (t : HaveBooks tables b) where
         cities = cities_can_be_read tables b t;
         branches =
             stands_by_bag told_columns IsTold numbered_branch IsBranchRow branch_kinds full.branch_full (λ (x : NumberedBranch). x.number) (λ it. refl) tables.branches.items xs ones.branches fit.0 p
-            (λ its f has. same_rows told_columns (IsShared IsTold) same_told tables.branches.items its (numbered xs) f all has p);
+            (λ its f has. same_rows told_columns (IsShared IsTold) (λ x y p q. same_told x y p.1.1 q.1.1) tables.branches.items its (numbered xs) f all has p);
         staff = staff_can_be_read tables b t;
       }

@@ -29,7 +29,7 @@ use Rattle.books_audit.specs.declared.tables.TableRows.{TableRows}
 use Rattle.books_audit.specs.Audits.{HaveBooks, same_row}
 use Rattle.books_audit.proofs.FullRows as full
 use Rattle.books_audit.proofs.FullRows.{IsHeader, header_columns, header_row}
-use Rattle.books_audit.proofs.Canonical.{row_test, same_consignment}
+use Rattle.books_audit.proofs.Canonical.{row_test, same_consignment, three}
 use Rattle.books_audit.specs.ReadLists.{AreKeyed}
 use Rattle.books_audit.specs.TableGroups.{StockCanBeRead}
 use Rattle.books_audit.proofs.StandKeyed.{stands_keyed}
@@ -45,12 +45,6 @@ copy_key row = row.branch ∷ row.number ∷ []
 pub headers_fit : (its : List Consignment) → AllByRecursion IsConsignment its → AllByRecursion IsHeader (map header its)
 headers_fit [] h = tt
 headers_fit (it ∷ its) h = (record { source = h.0.source; addressee = h.0.addressee; number = h.0.number; place = h.0.place }, headers_fit its h.1)
-
-pub three : (a b c : Bool) → (a && b && c) ≡ (a && (b && (c && true)))
-three true true true = refl
-three true true false = refl
-three true false c = refl
-three false b c = refl
 
 module _ (tables : TableRows) (b : Books) (t : HaveBooks tables b) where
   copies_differ : (found : List CopyRow) → AreRows IsCopyRow found tables.copies.items → are_different (λ x y. bytes_eq (copy_key x) (copy_key y)) found ≡ true

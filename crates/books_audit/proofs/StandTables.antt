@@ -18,15 +18,10 @@ use Rattle.books_audit.specs.Audits.{HaveBooks, same_row}
 use Rattle.books_audit.proofs.FullRows as full
 use Rattle.books_audit.proofs.FullRows.{rental_row, payment_row}
 use Rattle.books_audit.proofs.SameColumns.{same_cast, same_lot}
-use Rattle.books_audit.proofs.Canonical.{row_test}
+use Rattle.books_audit.proofs.Canonical.{row_test, two}
 use Rattle.books_audit.specs.ReadLists.{AreKeyed}
 use Rattle.books_audit.specs.TableGroups.{DealsCanBeRead}
 use Rattle.books_audit.proofs.StandKeyed.{stands_keyed}
-
-two : (a b : Bool) → (a && b) ≡ (a && (b && true))
-two true true = refl
-two true false = refl
-two false b = refl
 
 module _ (tables : TableRows) (b : Books) (t : HaveBooks tables b) where
   pub deals_can_be_read : DealsCanBeRead tables

@@ -1,37 +1,87 @@
 -- A query of a whole table tells its rows.
-use Rattle.std.proofs.Common.{◌≡◌, ℕ, List, [], ◌∷◌, refl, map, cond, true, ap, sym, subst, ◌∙◌, Ok, Err, Result, IfOk, IsPermutation}
-use Rattle.std.specs.List.{flat_map}
+use Rattle.std.proofs.Common.{◌≡◌, ◌<◌, ℕ, zero, suc, length, get_or, arith, ◌++◌, append-nil, append_assoc, List, [], ◌∷◌, refl, map, cond, true, ap, sym, subst, ◌∙◌, Ok, Err, Result, IfOk, IsPermutation}
+use Rattle.std.specs.List.{flat_map, remove}
 use Rattle.std.proofs.lemmas.List.Sorted.{IsPermutation-map}
-use Rattle.sqlite_value.specs.Order.{Row}
+use Rattle.sqlite_value.specs.Order.{Row, column}
 use Rattle.sqlite_trees.specs.Tree.{Trees}
 use Rattle.sqlite_sql.specs.Query.{Output, output}
 use Rattle.sqlite_sql.specs.Program.{overlay}
 use Rattle.sqlite.specs.State.{State, Shown}
-use Rattle.sql_rows.specs.Rows.{columns_of}
+use Rattle.sql_rows.specs.Rows.{columns_of, columns_from}
+use Rattle.sqlite_sql.specs.Term.{eval_all}
+use Rattle.sqlite.specs.Table.{Table}
 use Rattle.sql_rows.proofs.Inside.{shown_same}
-use Rattle.sql_rows.proofs.Queries.{Selects, plain_query, answers}
+use Rattle.sql_rows.proofs.Queries.{plain_query, answers}
 use Rattle.shop_schema.specs.Tables.{shop_schema}
 use Rattle.shop_schema.specs.Shop.{IsShop}
-use Rattle.shop_schema.proofs.Listed.{cols}
-use Rattle.books_audit.specs.Selected.{TellsTable}
+use Rattle.shop_schema.proofs.Listed.{cols, own_rows}
+use Rattle.books_audit.specs.Whole.{SelectsWhole, AreRowsOf, SelectEach, HaveEach}
 
-module _ (tree width : ℕ) (text : List ℕ) (means : Selects shop_schema text (plain_query tree [] (cols 1 1 width) [])) (shows : (r : Row) → (output (plain_query tree [] (cols 1 1 width) []) ([] ∷ r ∷ [])).1 ≡ columns_of width r)
-    (low : (db : Trees) → overlay db [] tree ≡ db tree) where
-  matching : (rows : List Row) → map (λ (o : Output). o.1) (map (output (plain_query tree [] (cols 1 1 width) [])) (flat_map (λ r. cond true (([] ∷ r ∷ []) ∷ []) []) rows)) ≡ map (columns_of width) rows
+module _ (t : Table) (text : List ℕ) (means : SelectsWhole t text) where
+  abbrev width : ℕ
+  width = length t.columns
+
+  shown : (at more : ℕ) (r : Row) → eval_all (cols 1 at more) ([] ∷ r ∷ []) ≡ columns_from at more r
+  shown at zero r = refl
+  shown at (suc more) r = ap (λ vs. column r at ∷ vs) (shown (suc at) more r)
+
+  matching : (rows : List Row) → map (λ (o : Output). o.1) (map (output (plain_query t.tree [] (cols 1 1 width) [])) (flat_map (λ r. cond true (([] ∷ r ∷ []) ∷ []) []) rows)) ≡ map (columns_of width) rows
   matching [] = refl
-  matching (r ∷ rows) = λ i. shows r i ∷ matching rows i
+  matching (r ∷ rows) = λ i. shown 1 width r i ∷ matching rows i
 
-  told : (old new : State) (found : List Row) → IsShop old → Shown text [] old new found → TellsTable tree width old new found
+  told : (old new : State) (found : List Row) → IsShop old → Shown text [] old new found → AreRowsOf t old.now.trees found × (new.now ≡ old.now)
   told old new found has h =
-      let q = plain_query tree [] (cols 1 1 width) [] in
+      let q = plain_query t.tree [] (cols 1 1 width) [] in
       let a = answers shop_schema text q [] old new has means found h in
       let all = IsPermutation-map (λ (o : Output). o.1) a.kept a.ordered a.same in
-      let kept : map (λ (o : Output). o.1) a.kept ≡ map (columns_of width) (old.now.trees tree) =
-      ap (λ (k : List Output). map (λ (o : Output). o.1) k) (a.distinct ∙ ap (map (output q)) a.grouped) ∙ matching (overlay old.now.trees [] tree) ∙ ap (map (columns_of width)) (low old.now.trees) in (
+      let kept : map (λ (o : Output). o.1) a.kept ≡ map (columns_of width) (old.now.trees t.tree) =
+      ap (λ (k : List Output). map (λ (o : Output). o.1) k) (a.distinct ∙ ap (map (output q)) a.grouped) ∙ matching (overlay old.now.trees [] t.tree) ∙ ap (map (columns_of width)) (own_rows old.now.trees t.tree) in (
         subst (λ l. IsPermutation l found) kept (subst (IsPermutation (map (λ (o : Output). o.1) a.kept)) (sym a.shown) all),
         (shown_same shop_schema text [] old new has means.plain found h).0.now_is,
       )
 
-  pub told_if : {R E : Type 0} (items : R → List Row) (r : Result R E) (old new : State) → IfOk r (λ rows. Shown text [] old new (items rows)) → IsShop old → IfOk r (λ rows. TellsTable tree width old new (items rows))
+  pub told_if : {R E : Type 0} (items : R → List Row) (r : Result R E) (old new : State) → IfOk r (λ rows. Shown text [] old new (items rows)) → IsShop old → IfOk r (λ rows. AreRowsOf t old.now.trees (items rows) × (new.now ≡ old.now))
   told_if items (Ok rows) old new shown has = told old new (items rows) has shown
   told_if items (Err e) old new shown has = tt
+
+-- ---- one text after another
+
+-- the tables that are left, and what their rows make with those that were read
+pub record SoFar (trees : Trees) (left : List (List ℕ)) (all : List (List Row)) (ts : List Table) : Type 0 where
+  pub us : List Table
+  pub select : SelectEach us left
+  pub have : (more : List (List Row)) → HaveEach us trees more → HaveEach ts trees (all ++ more)
+
+pub next_table : {trees : Trees} {text : List ℕ} {left : List (List ℕ)} {all : List (List Row)} {ts : List Table} → SoFar trees (text ∷ left) all ts → (t : Table) × SelectsWhole t text
+next_table {text = text} {left = left} so = go so.us so.select
+  where
+    go : (us : List Table) → SelectEach us (text ∷ left) → (t : Table) × SelectsWhole t text
+    go [] h = absurd h
+    go (u ∷ us) h = (u, h.0)
+
+pub one_more : (trees : Trees) (text : List ℕ) (left : List (List ℕ)) (all : List (List Row)) (ts : List Table) (rows : List Row) → SoFar trees (text ∷ left) all ts
+    → ((t : Table) → SelectsWhole t text → AreRowsOf t trees rows) → SoFar trees left (all ++ rows ∷ []) ts
+one_more trees text left all ts rows so told = go so.us so.select so.have
+  where
+    go : (us : List Table) → SelectEach us (text ∷ left) → ((more : List (List Row)) → HaveEach us trees more → HaveEach ts trees (all ++ more)) → SoFar trees left (all ++ rows ∷ []) ts
+    go [] h have = absurd h
+    go (u ∷ us) h have = record { us = us; select = h.1; have = λ more it. subst (HaveEach ts trees) (sym (append_assoc all (rows ∷ []) more)) (have (rows ∷ more) (told u h.0, it)) }
+
+pub all_read : (trees : Trees) (all : List (List Row)) (ts : List Table) → SoFar trees [] all ts → HaveEach ts trees all
+all_read trees all ts so = go so.us so.select so.have
+  where
+    go : (us : List Table) → SelectEach us [] → ((more : List (List Row)) → HaveEach us trees more → HaveEach ts trees (all ++ more)) → HaveEach ts trees all
+    go [] h have = subst (HaveEach ts trees) (append-nil all) (have [] tt)
+    go (u ∷ us) h have = absurd h
+
+-- ---- one table's rows after another's
+
+pub next_have : {V : Type 0} (items : V → List Row) (trees : Trees) (t : Table) (ts : List Table) (all left : List V) (first : V) → 0 < length all → first ≡ get_or all 0 first → left ≡ remove all 0
+    → HaveEach (t ∷ ts) trees (map items all) → AreRowsOf t trees (items first) × HaveEach ts trees (map items left)
+next_have items trees t ts [] left first low e f h = absurd (omega (arith, low))
+next_have items trees t ts (rows ∷ more) left first low e f h =
+    (subst (λ it. AreRowsOf t trees (items it)) (sym e) h.0, subst (λ l. HaveEach ts trees (map items l)) (sym f) h.1)
+
+pub none_have : {V : Type 0} (items : V → List Row) (trees : Trees) (t : Table) (ts : List Table) (all : List V) → length all ≡ 0 → ¬ HaveEach (t ∷ ts) trees (map items all)
+none_have items trees t ts [] e h = h
+none_have items trees t ts (rows ∷ more) e h = absurd (omega (arith, e))

@@ -70,10 +70,6 @@ whole_second r it = (it.0.second, ap (λ (s : sql.Row). column s 1) (sym it.1))
 pub whole_third : (r : sql.Row) → OneTriple r → IsWhole (column r 2)
 whole_third r it = (it.0.third, ap (λ (s : sql.Row). column s 2) (sym it.1))
 
--- what was read of a row that is one has its columns
-pub triple_taken : (r : sql.Row) (x : Triple) → OneTriple r → column r 0 ≡ number_value x.first → column r 1 ≡ number_value x.second → column r 2 ≡ number_value x.third → IsTriple x r
-triple_taken r x it p q s = triple_row r x.first x.second x.third (ap length (sym it.1)) p q s
-
 pub columns_of_triples : (xs : List Triple) (rows : List sql.Row) → AreRows IsTriple xs rows → map triple_columns xs ≡ rows
 columns_of_triples [] [] h = refl
 columns_of_triples [] (r ∷ rows) h = absurd h

@@ -1,6 +1,5 @@
 pub mod Audits
 pub mod Read
-pub mod Selected
 pub mod Audited
 pub mod ReadLists
 pub mod TableGroups
@@ -9,4 +8,4 @@ pub mod Parts
 pub mod ReadInOrder
 pub mod Triples
 pub mod Shops
-pub mod ShopTables
+pub mod Whole

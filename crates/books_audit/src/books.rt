@@ -13,8 +13,8 @@ use crate::counts::have_counts;
 use crate::custody::NOTHING;
 use crate::ordered::audit_ordered;
 use crate::reading::read_ordered;
-use crate::shop_tables::read_tables;
 use crate::tables::TableRows;
+use crate::whole::read_tables;
 use shop_types::{Audit, NoMemory};
 use sql_rows::StoreFault;
 use sqlite::{Alter, Transaction};
@@ -49,7 +49,7 @@ pub fn audit_books<S: Alter>(
     ensures shop { HasCleanDisk (state S.Store tx.new.conn.now) → IsShop (state S.Store tx.old.conn.now)
         → IfOk result (IsAuditOfShop (state S.Store tx.old.conn.now).now.trees) }
 {
-    let tables = read_tables(tx)?;
+    let tables = read_tables(alloc, tx)?;
     match check_books(alloc, &tables) {
         Ok(audit) => Ok(audit),
         Err(NoMemory) => Err(StoreFault::Memory),

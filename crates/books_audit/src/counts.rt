@@ -1,6 +1,6 @@
 //! What the tables of counts have to say of rows in order.
 
-ghost use Rattle.std.specs.Prelude.{◌≡◌, ◌↔◌, ◌+◌, ◌≤◌, ◌==◌, ◌&&◌, ℕ, [], ◌∷◌, ◌++◌, IsTrue, true, map, length, get_or, IsPermutation, IfOk, OnOk};
+ghost use Rattle.std.specs.Prelude.{◌≡◌, ◌↔◌, ◌+◌, ◌≤◌, ◌==◌, ◌&&◌, [], ◌∷◌, ◌++◌, IsTrue, true, map, length, get_or, IsPermutation, IfOk, OnOk};
 ghost use Rattle.sql_rows.specs.Rows.{number_value};
 ghost use Rattle.sqlite_value.specs.Order.{column};
 ghost use Rattle.sqlite_value.specs.Value.{owned};
@@ -12,9 +12,7 @@ ghost use Rattle.books_audit.specs.Read.{HaveCounts, counters_in, counts_of_bran
 ghost use Rattle.books_audit.specs.Triples.{IsWhole, IsTriple, OneTriple, triple_columns, seen_pair, AreMany, AreTallies};
 
 use crate::tables::TableRows;
-use book_checks::{
-    CopyRow, CustomerRow, HeaderRow, KeptRow, Keyed, OrderedBooks, PaymentRow, RentalRow, same_bag,
-};
+use book_checks::{HeaderRow, Keyed, OrderedBooks, Owned, RentalRow, same_bag};
 use book_rows::{Listed, read_rows};
 use shop_types::NoMemory;
 use sql_rows::{StoreFault, fault_of};
@@ -179,61 +177,13 @@ fn pairs(alloc: Global, headers: &[HeaderRow]) -> Result<Vec<Triple>, NoMemory>
     Ok(all)
 }
 
-/// A row of a branch.
-pub(crate) trait Branched: Sized + Drop {
-    ghost branch: { Self → ℕ };
-
-    fn branch(&self) -> u32
-        ensures { result ≡ branch self.now };
-}
-
-impl Branched for CustomerRow {
-    ghost branch = { λ row. row.branch };
-
-    fn branch(&self) -> u32 {
-        self.branch.get()
-    }
-}
-
-impl Branched for CopyRow {
-    ghost branch = { λ row. row.branch };
-
-    fn branch(&self) -> u32 {
-        self.branch.get()
-    }
-}
-
-impl Branched for RentalRow {
-    ghost branch = { λ row. row.branch };
-
-    fn branch(&self) -> u32 {
-        self.branch.get()
-    }
-}
-
-impl Branched for PaymentRow {
-    ghost branch = { λ row. row.branch };
-
-    fn branch(&self) -> u32 {
-        self.branch.get()
-    }
-}
-
-impl Branched for KeptRow {
-    ghost branch = { λ row. row.branch };
-
-    fn branch(&self) -> u32 {
-        self.branch.get()
-    }
-}
-
 /// How many of the rows each branch has, in the place of its number, where the places are counted from 0.
-fn count_each<T: Branched>(alloc: Global, rows: &[T], places: usize) -> Result<Vec<u64>, NoMemory>
-    ensures { IfOk result (λ counts. AreMany T.Branched.branch rows.now places counts.items) }
+fn count_each<T: Owned>(alloc: Global, rows: &[T], places: usize) -> Result<Vec<u64>, NoMemory>
+    ensures { IfOk result (λ counts. AreMany T.owner rows.now places counts.items) }
 {
     let mut counts = vec![in alloc; 0u64; places]?;
     for row in rows {
-        if let Some(count) = counts.get_mut(row.branch() as usize) {
+        if let Some(count) = counts.get_mut(row.owner() as usize) {
             *count += 1;
         }
     }

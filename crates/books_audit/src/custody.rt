@@ -9,7 +9,7 @@ ghost use Rattle.shop_schema.specs.Shop.{IsShop};
 ghost use Rattle.book_checks.specs.Seen.{seen_copy, seen_line};
 ghost use Rattle.books_audit.specs.Audited.{AuditsRows, CountsCustody, IsCustodyAudit};
 
-use crate::selects::{copy_rows, line_rows};
+use crate::whole::{COPIES, LINES, read_whole};
 use book_checks::{
     CopyRow, CopyState, LineRow, LineState, are_in_custody, copies_made, copies_under, lines_under,
 };
@@ -72,8 +72,8 @@ pub fn audit_custody<S: Alter>(
     ensures audit { HasCleanDisk (state S.Store tx.new.conn.now) → IsShop (state S.Store tx.old.conn.now)
         → IfOk result (IsCustodyAudit (map (columns_of 6) ((state S.Store tx.old.conn.now).now.trees 25)) (map (columns_of 8) ((state S.Store tx.old.conn.now).now.trees 37))) }
 {
-    let copies = copy_rows(tx)?;
-    let lines = line_rows(tx)?;
+    let copies = read_whole(tx, COPIES)?;
+    let lines = read_whole(tx, LINES)?;
     match check_custody(alloc, copies.as_slice(), lines.as_slice()) {
         Ok(audit) => Ok(audit),
         Err(NoMemory) => Err(StoreFault::Memory),

@@ -10,11 +10,10 @@ mod lists;
 mod ordered;
 mod parts;
 mod reading;
-mod selects;
 mod shared;
-mod shop_tables;
 mod table_groups;
 mod tables;
+mod whole;
 
 pub use books::{audit_books, check_books};
 pub use custody::{audit_custody, check_custody};

@@ -1,5 +1,5 @@
 -- Copies that are listed, none twice and none unknown, and lines of which some are missing.
-use Rattle.std.proofs.Common.{lt-ltb, ◌≡◌, refl, sym, ap, ◌∙◌, subst, inl, inr, ℕ, zero, suc, ◌+◌, ◌-◌, ◌≤◌, ◌<◌, Bool, true, false, not, List, [], ◌∷◌, ◌++◌, map, filter, length, take, drop, slice_index_or, arith}
+use Rattle.std.proofs.Common.{append-nil, lt-ltb, ◌≡◌, refl, sym, ap, ◌∙◌, subst, inl, inr, ℕ, zero, suc, ◌+◌, ◌-◌, ◌≤◌, ◌<◌, Bool, true, false, not, List, [], ◌∷◌, ◌++◌, map, filter, length, take, drop, slice_index_or, arith}
 use Rattle.std.specs.Prelude.{◌==◌, ◌&&◌, ◌||◌, nat_lt, nat_le}
 use Rattle.std.specs.List.{list_any}
 use Rattle.std.proofs.Math.Bool.{or-true}
@@ -91,12 +91,8 @@ arrived_push {A} missing xs x =
 pub arrived_one : {A : Type 0} (missing : List ℕ) (xs : List A) (x : A) → mem (1 + length xs) missing ≡ false → arrived missing (xs ++ x ∷ []) ≡ arrived missing xs ++ x ∷ []
 arrived_one missing xs x comes = arrived_push missing xs x ∙ (rw comes refl)
 
-nothing_more : {A : Type 0} (xs : List A) → xs ++ [] ≡ xs
-nothing_more [] = refl
-nothing_more (x ∷ xs) = ap (λ ys. x ∷ ys) (nothing_more xs)
-
 pub arrived_none : {A : Type 0} (missing : List ℕ) (xs : List A) (x : A) → mem (1 + length xs) missing ≡ true → arrived missing (xs ++ x ∷ []) ≡ arrived missing xs
-arrived_none missing xs x gone = arrived_push missing xs x ∙ (rw gone (nothing_more (arrived missing xs)))
+arrived_none missing xs x gone = arrived_push missing xs x ∙ (rw gone (append-nil (arrived missing xs)))
 
 -- ---- how many come
 

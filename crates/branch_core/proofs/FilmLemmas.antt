@@ -1,5 +1,5 @@
 -- The copies of a film that are listed, of copies as the program has them.
-use Rattle.std.proofs.Common.{◌≡◌, refl, ap, ◌∙◌, inl, inr, ℕ, Bool, true, false, not, List, [], ◌∷◌, ◌++◌, map, filter}
+use Rattle.std.proofs.Common.{append-nil, ◌≡◌, refl, ap, ◌∙◌, inl, inr, ℕ, Bool, true, false, not, List, [], ◌∷◌, ◌++◌, map, filter}
 use Rattle.std.specs.Prelude.{◌==◌, ◌&&◌}
 use Rattle.std.proofs.lemmas.Bool.{cases_Bool}
 use Rattle.std.proofs.lemmas.List.{map-append}
@@ -31,14 +31,10 @@ more_listed is_in copies copy is =
     let one : numbers_of is_in (copy ∷ []) ≡ copy.number ∷ [] = rw is refl in
     more is_in copies copy ∙ ap (λ (ns : List ℕ). numbers_of is_in copies ++ ns) one
 
-nothing_more : (ns : List ℕ) → ns ++ [] ≡ ns
-nothing_more [] = refl
-nothing_more (n ∷ ns) = ap (λ (ms : List ℕ). n ∷ ms) (nothing_more ns)
-
 pub more_unlisted : (is_in : Bool) (copies : List FilmCopy) (copy : FilmCopy) → is_listed is_in (seen_film_copy copy) ≡ false → numbers_of is_in (copies ++ copy ∷ []) ≡ numbers_of is_in copies
 more_unlisted is_in copies copy isnt =
     let none : numbers_of is_in (copy ∷ []) ≡ [] = rw isnt refl in
-    more is_in copies copy ∙ ap (λ (ns : List ℕ). numbers_of is_in copies ++ ns) none ∙ nothing_more (numbers_of is_in copies)
+    more is_in copies copy ∙ ap (λ (ns : List ℕ). numbers_of is_in copies ++ ns) none ∙ append-nil (numbers_of is_in copies)
 
 -- ---- all copies of a film
 

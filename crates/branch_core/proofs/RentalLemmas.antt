@@ -6,6 +6,7 @@ use Rattle.shop_model.specs.Books.{head}
 use Rattle.shop_types.specs.declared.rental.Rental.{Rental}
 use Rattle.shop_types.specs.Seen.{seen_rental}
 use Rattle.std.specs.List.{list_any}
+use Rattle.std.proofs.lemmas.Bool.{true≢false}
 
 pub any_map : {A B : Type 0} (p : B → Bool) (f : A → B) (xs : List A) → list_any (λ x. p (f x)) xs ≡ list_any p (map f xs)
 any_map p f [] = refl
@@ -18,10 +19,7 @@ false_left true b e = e
 false_left false b e = refl
 
 false_right : (a b : Bool) → (a || b) ≡ false → b ≡ false
-false_right true b e = let no : true ≡ false = e in absurd (apart no)
-  where
-    apart : true ≡ false → ⊥
-    apart e = cc
+false_right true b e = let no : true ≡ false = e in absurd (true≢false no)
 false_right false b e = e
 
 none_yet : {A : Type 0} (p : A → Bool) (xs : List A) (i : ℕ) (x : A) → i < length xs → x ≡ slice_index_or xs i x → list_any p (take i xs) ≡ false → p x ≡ false

@@ -1,17 +1,18 @@
 -- What a look shows of a row that is there, and of one that isn't.
-use Rattle.std.proofs.Common.{◌≡◌, ◌∙◌, refl, sym, ap, inl, inr, arith, ℕ, ◌+◌, ◌-◌, ◌≤◌, Bool, true, false, not, List, [], ◌∷◌, map, filter, Option, Some, None}
+use Rattle.std.proofs.Common.{◌≡◌, ◌∙◌, refl, sym, ap, inl, inr, arith, ℕ, ◌+◌, ◌-◌, ◌≤◌, Bool, true, false, not, List, [], ◌∷◌, map, Option, Some, None}
 use Rattle.std.specs.Prelude.{◌==◌, is_some}
 use Rattle.std.specs.Option.{option_to_list}
 use Rattle.std.specs.List.{list_any}
 use Rattle.std.proofs.lemmas.Bool.{cases_Bool}
 use Rattle.std.proofs.lemmas.Bool.Decides.{nat_tests}
-use Rattle.shop_model.specs.Rows.{at, is_empty, numbered_from}
+use Rattle.shop_model.specs.Rows.{at, is_empty}
 use Rattle.shop_model.specs.Values.{Rental}
 use Rattle.shop_model.specs.Refusals.{Refusal}
 use Rattle.shop_model.specs.Stock.{keeps_out, in_stock, held_by}
 use Rattle.shop_model.specs.Machine.{Shown, Sorry, Shows, given}
 use Rattle.shop_model.specs.Answers.{holder_text}
 use Rattle.shop_model.specs.Books.{head}
+use Rattle.branch_looks.specs.Finds.{open_from}
 
 pub given_none : {A B : Type 0} (refusal : Refusal) (show : A → Shown) (f : A → B) (rows : List A) → None ≡ head (map f rows) → given refusal show rows ≡ Sorry refusal
 given_none refusal show f [] is = refl
@@ -22,10 +23,6 @@ given_some refusal shown f [] y is = cc
 given_some refusal shown f (x ∷ rows) y is = refl
 
 -- ---- who has a copy
-
--- the numbers of the copy's open rentals, where the first rental has that number
-abbrev open_from : ℕ → ℕ → List Rental → List ℕ
-open_from k x rentals = map (λ (it : ℕ × Rental). it.0) (filter (λ (it : ℕ × Rental). keeps_out x it.1) (numbered_from k rentals))
 
 pub none_held : (k x : ℕ) (rentals : List Rental) → [] ≡ open_from k x rentals → held_by x rentals ≡ []
 none_held k x [] none = refl

@@ -15,11 +15,11 @@ use Rattle.shop_types.specs.Seen.{seen_customer, seen_terms}
 use Rattle.shop_store.specs.declared.copies.CopyRow.{CopyRow}
 use Rattle.shop_store.specs.declared.customers.CustomerRow.{CustomerRow}
 use Rattle.shop_store.specs.Seen.{seen_copy_row}
-use Rattle.film_cache.specs.declared.cache.KnownFilm.{KnownFilm}
-use Rattle.film_cache.specs.Cached.{known_of, seen_known}
+use Rattle.chain_caches.specs.declared.films.KnownFilm.{KnownFilm}
+use Rattle.chain_caches.specs.Films.{known_of, seen_known}
 use Rattle.shop_store.specs.SharedSeen.{title_of, withdrawn_of}
-use Rattle.reply_bodies.specs.declared.overdue_rows.OverdueRow.{OverdueRow}
-use Rattle.reply_bodies.specs.Overdue.{seen_overdue}
+use Rattle.shop_views.specs.declared.overdue_rows.OverdueRow.{OverdueRow}
+use Rattle.shop_views.specs.Overdue.{seen_overdue}
 
 -- a number picks one row at most
 pub picks_one : {A : Type 0} (n : ℕ) (rows : List A) → option_to_list (head (at n rows)) ≡ at n rows

@@ -4,13 +4,13 @@ use Rattle.std.specs.Option.{IfSome}
 use Rattle.std.specs.Ordering.{nat_cmp}
 use Rattle.std.specs.BTreeMap.{BTreeMap, get}
 use Rattle.shop_model.specs.Calendar.{Moment, day_of}
+use Rattle.shop_model.specs.Rows.{numbered_from}
 use Rattle.shop_model.specs.Values.{Rental, Terms, Payment, Ask, FilmInStock, FilmNotInStock}
 use Rattle.shop_model.specs.Shop.{Catalogue, Shop}
-use Rattle.shop_model.specs.Stock.{is_here, in_stock, film_in_stock, film_not_in_stock}
+use Rattle.shop_model.specs.Stock.{is_here, in_stock, keeps_out, film_in_stock, film_not_in_stock}
 use Rattle.shop_model.specs.Views.{OverdueRow, overdue_row}
 use Rattle.shop_model.specs.Books.{Books, unmarked}
-use Rattle.film_cache.specs.declared.cache.CachedFilm.{CachedFilm}
-use Rattle.film_cache.specs.Cached.{AreRows}
+use Rattle.chain_caches.specs.Films.{AreRows, KnownFilms}
 use Rattle.shop_types.specs.Seen.{seen_payment}
 use Rattle.shop_store.specs.declared.copies.CopyRow.{CopyRow}
 use Rattle.shop_store.specs.declared.payments.PaymentRow.{PaymentRow}
@@ -31,6 +31,10 @@ is_yes (Some b) = b
 abbrev pub copy_shown : List Rental → CopyRow → ℕ × Bool × Bool
 copy_shown rentals row = (row.number, is_here (unmarked (seen_copy_row row).it), in_stock row.number rentals)
 
+-- the numbers of the copy's open rentals, where the first rental has that number
+abbrev pub open_from : ℕ → ℕ → List Rental → List ℕ
+open_from k copy rentals = map (λ (it : ℕ × Rental). it.0) (filter (λ (it : ℕ × Rental). keeps_out copy it.1) (numbered_from k rentals))
+
 -- the copies that are asked for: those in stock, or those that aren't
 abbrev pub stock_asked : Bool → ℕ → Ask
 stock_asked true film = FilmInStock film
@@ -43,7 +47,7 @@ stock_listed false film shop = film_not_in_stock film shop
 -- ---- films
 
 -- where the films that were known are rows of the books, this is so, and those that are known then are rows too
-abbrev pub Knows : {X : Type 0} → List (ℕ × CachedFilm) → List (ℕ × CachedFilm) → (X → Books → Type 0) → X → Books → Type 0
+abbrev pub Knows : {X : Type 0} → KnownFilms → KnownFilms → (X → Books → Type 0) → X → Books → Type 0
 Knows before after Says found books = AreRows before books.catalogue.films → Says found books × AreRows after books.catalogue.films
 
 -- ---- overdue rentals

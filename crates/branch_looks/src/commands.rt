@@ -19,7 +19,7 @@ use crate::consignments::{find_for_dispatch, find_for_receipt};
 use crate::finds::{find_copy, find_rental};
 use crate::known::find_withdrawn;
 use branch_core::{Found, RowsFound, StockFound, StockRows};
-use film_cache::FilmCache;
+use chain_caches::FilmCache;
 use shop_ledger::{Count, CountKind, Standing, count_of};
 use shop_store::{active_at, has_city, has_lot, has_rental, staff_at};
 use shop_types::{

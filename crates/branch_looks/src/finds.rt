@@ -1,6 +1,6 @@
 //! What is found of customers, copies and rentals.
 
-ghost use Rattle.std.specs.Prelude.{◌≡◌, ℕ, is_some, map, option_map};
+ghost use Rattle.std.specs.Prelude.{◌≡◌, ℕ, is_some, map, option_map, option_to_list};
 ghost use Rattle.sqlite.specs.Held.{state};
 ghost use Rattle.sql_rows.specs.Calls.{StaysInside, StaysWithin};
 ghost use Rattle.shop_model.specs.Rows.{at};
@@ -8,14 +8,14 @@ ghost use Rattle.shop_model.specs.Stock.{is_here, held_by};
 ghost use Rattle.shop_model.specs.Books.{head, shop_of};
 ghost use Rattle.shop_schema.specs.Calls.{Finds};
 ghost use Rattle.shop_store.specs.Seen.{seen_state};
-ghost use Rattle.branch_looks.specs.Finds.{Knows, copy_shown};
+ghost use Rattle.branch_looks.specs.Finds.{Knows, copy_shown, open_from};
 ghost use Rattle.branch_core.specs.Agreed.{copy_at, rental_at, seen_copy, seen_rental, seen_film_copy, AreOfFilm, HasTermsNow};
 
 use crate::known::find_film;
 use branch_core::{CopyFound, FilmCopy, RentalFound};
-use film_cache::FilmCache;
+use chain_caches::FilmCache;
 use shop_ledger::out_at;
-use shop_store::{CopyRow, CopyState, copies_of_film, copy_at, copy_now_at, rental_at};
+use shop_store::{CopyRow, CopyState, copies_of_film, copy_now_at, rental_at};
 use shop_types::{BranchNo, CopyNo, CustomerNo, FilmNo, Rental, RentalNo};
 use sql_rows::StoreFault;
 use sqlite::{Alter, Transaction};
@@ -28,22 +28,6 @@ pub fn is_here(state: CopyState) -> bool
     match state {
         CopyState::Here => true,
         CopyState::Sent | CopyState::Scrapped => false,
-    }
-}
-
-/// Whether the copy is in the shop, where the branch has one of the number.
-pub fn find_here<S: Alter>(
-    tx: &mut Transaction<'_, S>,
-    branch: BranchNo,
-    copy: CopyNo,
-) -> Result<Option<bool>, StoreFault>
-    ensures inside { StaysInside S.Store tx.old.conn tx.new.conn result }
-    ensures found { Finds (state S.Store tx.old.conn.now) (state S.Store tx.new.conn.now) result
-        (λ found books. found ≡ head (map is_here (at copy (shop_of branch books).copies))) }
-{
-    match copy_at(tx, branch, copy)? {
-        Some(row) => Ok(Some(is_here(row.state))),
-        None => Ok(None),
     }
 }
 
@@ -118,17 +102,18 @@ fn find_renter<S: Alter>(
     }
 }
 
-/// The customer who has the copy, where it is out.
+/// The customer who has a copy that is out by the rental, if by any.
 pub fn find_holder<S: Alter>(
     tx: &mut Transaction<'_, S>,
     branch: BranchNo,
-    copy: CopyNo,
+    out: Option<RentalNo>,
 ) -> Result<Option<CustomerNo>, StoreFault>
     ensures inside { StaysWithin S.Store tx.old.conn tx.new.conn result }
-    ensures found { Finds (state S.Store tx.old.conn.now) (state S.Store tx.new.conn.now) result
-        (λ holder books. holder ≡ head (held_by copy (shop_of branch books).rentals)) }
+    ensures found { (copy : ℕ)
+        → Finds (state S.Store tx.old.conn.now) (state S.Store tx.new.conn.now) result
+        (λ holder books. option_to_list out ≡ open_from 1 copy (shop_of branch books).rentals → holder ≡ head (held_by copy (shop_of branch books).rentals)) }
 {
-    match out_at(tx, branch, copy)? {
+    match out {
         Some(rental) => find_renter(tx, branch, rental),
         None => Ok(None),
     }

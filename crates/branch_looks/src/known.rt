@@ -1,17 +1,16 @@
 //! What is known of a film as it is now: the store is asked where the chain's cache of films doesn't know.
 
-ghost use Rattle.std.specs.Prelude.{◌≡◌, ◌∷◌, [], List, map, option_map};
+ghost use Rattle.std.specs.Prelude.{◌≡◌, map, option_map};
 ghost use Rattle.sqlite.specs.Held.{state};
 ghost use Rattle.sql_rows.specs.Calls.{StaysWithin};
 ghost use Rattle.shop_model.specs.Rows.{at};
-ghost use Rattle.shop_model.specs.Values as model;
 ghost use Rattle.shop_model.specs.Books.{head};
-ghost use Rattle.film_cache.specs.Cached.{AreRows, known_of, seen_known};
+ghost use Rattle.chain_caches.specs.Films.{known_of, seen_known};
 ghost use Rattle.shop_schema.specs.Calls.{Finds};
 ghost use Rattle.shop_store.specs.SharedSeen.{seen_film_row, withdrawn_of};
 ghost use Rattle.branch_looks.specs.Finds.{Knows};
 
-use film_cache::{CachedFilm, FilmCache, KnownFilm};
+use chain_caches::{FilmCache, KnownFilm};
 use shop_store::{FilmRow, film_row};
 use shop_types::{FilmNo, Terms};
 use sql_rows::StoreFault;
@@ -33,7 +32,9 @@ pub fn find_film<S: Alter>(
     let Some(row) = film_row(tx, number)? else {
         return Ok(None);
     };
-    Ok(Some(keep_film(films, number, row)))
+    let film = known_in(&row);
+    films.put(number, &film);
+    Ok(Some(film))
 }
 
 /// Whether the film is withdrawn, where there is such a film.
@@ -52,25 +53,16 @@ pub fn find_withdrawn<S: Alter>(
     }
 }
 
-/// Keeps what was read of the film, and tells what is known of it.
-fn keep_film(films: &mut FilmCache, number: FilmNo, row: FilmRow) -> KnownFilm
-    ensures known { seen_known result ≡ known_of (seen_film_row row) }
-    ensures kept { (rows : List model.Film) → seen_film_row row ∷ [] ≡ at number rows → AreRows films.old rows → AreRows films.new rows }
+/// What is known of the film in the row.
+fn known_in(row: &FilmRow) -> KnownFilm
+    ensures { seen_known result ≡ known_of (seen_film_row row.now) }
 {
-    let withdrawn = row.withdrawn;
-    let read = row.film;
-    let terms = Terms {
-        rate: read.rate,
-        period: read.period,
-        replacement: read.replacement,
-    };
-    let film = CachedFilm {
-        terms,
-        title: read.title,
-        category: read.category,
-        withdrawn,
-    };
-    let known = film.known();
-    films.put(number, film);
-    known
+    KnownFilm {
+        terms: Terms {
+            rate: row.film.rate,
+            period: row.film.period,
+            replacement: row.film.replacement,
+        },
+        withdrawn: row.withdrawn,
+    }
 }

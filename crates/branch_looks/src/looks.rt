@@ -14,13 +14,12 @@ ghost use Rattle.branch_looks.specs.Finds.{stock_asked, stock_listed};
 ghost use Rattle.branch_looks.specs.Looks.{looked, seen_look};
 
 use crate::asks::Look;
-use crate::finds::{find_here, find_holder, find_of_film};
+use crate::finds::{find_holder, find_of_film};
 use crate::reports::{look_balance, look_overdue};
 use branch_core::{FilmCopy, film_in_stock, film_not_in_stock};
-use reply_bodies::{copies_text, customer_text, film_text, holder_text, in_stock_text};
-use shop_ledger::out_at;
-use shop_store::{customer_at, film_row, film_withdrawn};
+use shop_store::{copy_now_at, customer_at, film_row, film_withdrawn};
 use shop_types::{BranchNo, CopyNo, CustomerNo, FilmNo, NoMemory, Refusal, Reply};
+use shop_views::{copies_text, customer_text, film_text, holder_text, in_stock_text};
 use sql_rows::StoreFault;
 use sqlite::{Alter, Transaction};
 use std::alloc::Global;
@@ -93,11 +92,10 @@ fn look_in_stock<S: Alter>(
     ensures shown { Finds (state S.Store tx.old.conn.now) (state S.Store tx.new.conn.now) result
         (λ reply books. seen_reply reply ≡ looked branch (InStock copy) books) }
 {
-    let Some(_) = find_here(tx, branch, copy)? else {
-        return Ok(Reply::refused(Refusal::NoCopy));
-    };
-    let out = out_at(tx, branch, copy)?;
-    Ok(Reply::accepted(in_stock_text(alloc, out.is_none())?))
+    match copy_now_at(tx, branch, copy)? {
+        Some(found) => Ok(Reply::accepted(in_stock_text(alloc, found.out.is_none())?)),
+        None => Ok(Reply::refused(Refusal::NoCopy)),
+    }
 }
 
 /// Tells which customer has a copy.
@@ -111,10 +109,10 @@ fn look_holder<S: Alter>(
     ensures shown { Finds (state S.Store tx.old.conn.now) (state S.Store tx.new.conn.now) result
         (λ reply books. seen_reply reply ≡ looked branch (HeldBy copy) books) }
 {
-    let Some(_) = find_here(tx, branch, copy)? else {
+    let Some(found) = copy_now_at(tx, branch, copy)? else {
         return Ok(Reply::refused(Refusal::NoCopy));
     };
-    let holder = find_holder(tx, branch, copy)?;
+    let holder = find_holder(tx, branch, found.out)?;
     Ok(Reply::accepted(holder_text(alloc, holder)?))
 }
 

@@ -10,13 +10,13 @@ ghost use Rattle.shop_model.specs.Stock.{film_of};
 ghost use Rattle.shop_model.specs.Views.{overdue_row, overdue_list};
 ghost use Rattle.shop_schema.specs.Calls.{Finds};
 ghost use Rattle.shop_store.specs.Seen.{seen_termed};
-ghost use Rattle.reply_bodies.specs.Overdue.{seen_overdue};
+ghost use Rattle.shop_views.specs.Overdue.{seen_overdue};
 ghost use Rattle.branch_looks.specs.Finds.{is_late, listed};
 
 use balance_rule::is_overdue;
-use reply_bodies::OverdueRow;
 use shop_store::{TermedRental, copy_at, customer_at, film_title, rentals_out};
 use shop_types::{BranchNo, FilmNo, Moment};
+use shop_views::OverdueRow;
 use sql_rows::StoreFault;
 use sqlite::{Alter, Transaction};
 use std::alloc::Global;

@@ -1,5 +1,5 @@
 -- What a request does inside one transaction, whoever asks it.
-use Rattle.std.specs.Prelude.{◌≡◌, ℕ, Bool, false, IsTrue, List}
+use Rattle.std.specs.Prelude.{◌≡◌, ℕ, Bool, false, IsTrue}
 use Rattle.sqlite.specs.State.{State}
 use Rattle.shop_values.specs.LimitValues.{Limits}
 use Rattle.shop_model.specs.Rows.{lacks}
@@ -12,8 +12,7 @@ use Rattle.shop_model.specs.Books.{Books, Caller, Counter, shop_of, book_done, k
 use Rattle.shop_model.specs.Office.{office_look}
 use Rattle.shop_types.specs.Seen.{seen_view}
 use Rattle.shop_types.specs.Replies.{seen_reply}
-use Rattle.film_cache.specs.declared.cache.CachedFilm.{CachedFilm}
-use Rattle.film_cache.specs.Cached.{AreRows}
+use Rattle.chain_caches.specs.Films.{AreRows, KnownFilms}
 use Rattle.shop_schema.specs.Held.{IsHeld}
 use Rattle.shop_schema.specs.Shop.{Holds}
 use Rattle.shop_ledger.specs.declared.branches.Standing.{Standing}
@@ -36,7 +35,7 @@ abbrev pub left_by : Limits → Caller → Request → Books → Books
 left_by limits caller request books = after_for (rules_of limits) (known_caller books.catalogue caller) request books
 
 -- books that the tables can hold, of whose films these are known
-abbrev pub IsHeldWith : List (ℕ × CachedFilm) → Books → Type 0
+abbrev pub IsHeldWith : KnownFilms → Books → Type 0
 IsHeldWith films books = IsHeld books × AreRows films books.catalogue.films
 
 -- the request is answered, the tables come to stand for the books after it, and it is told whether there is anything to commit
@@ -70,13 +69,13 @@ abbrev pub IsKnown : Bool → ℕ → Catalogue → Type 0
 IsKnown is_known b catalogue = IsTrue is_known → lacks catalogue.branches b ≡ false
 
 -- where that is so, and the films that are known then are rows of the same books
-abbrev pub Works : Limits → ℕ → Bool → Request → Worked → List (ℕ × CachedFilm) → List (ℕ × CachedFilm) → State → State → Type 0
+abbrev pub Works : Limits → ℕ → Bool → Request → Worked → KnownFilms → KnownFilms → State → State → Type 0
 Works limits b is_known request worked before after old new =
     (books : Books) → Holds old books → IsHeldWith before books → IsKnown is_known b books.catalogue
     → IsWorked limits b request worked new books × AreRows after books.catalogue.films
 
 -- the same of a branch that is there and stands so
-abbrev pub WorksFor : Limits → ℕ → Standing → Request → Answer → Bool → List (ℕ × CachedFilm) → List (ℕ × CachedFilm) → State → State → Type 0
+abbrev pub WorksFor : Limits → ℕ → Standing → Request → Answer → Bool → KnownFilms → KnownFilms → State → State → Type 0
 WorksFor limits b standing request answer is_changed before after old new =
     (books : Books) → Holds old books → IsHeldWith before books → HasStanding b books standing
     → IsDone limits (Counter b) request answer is_changed new books × AreRows after books.catalogue.films

@@ -16,9 +16,6 @@ ghost use Rattle.branch_work.specs.Added.{IsActed, with_kept};
 use crate::consigning::{dispatch, receive};
 use crate::importing::import;
 use branch_core::{CopyFound, RentalFound, RowsFound, rows_in};
-use reply_bodies::{
-    active_text, new_customer_text, payment_text, rental_text, returned_text, scrapped_text,
-};
 use shop_ledger::{Count, CountKind, Owner, drop_out, put_kept, put_out, set_last, take_numbers};
 use shop_store::{
     CopyState, CustomerRow, PaymentRow, RentalRow, TermsRow, put_customer, put_payment, put_rental,
@@ -27,6 +24,9 @@ use shop_store::{
 use shop_types::{
     Act, Amount, BranchNo, Command, CopyNo, Customer, CustomerNo, Moment, Payment, Person, Rental,
     RentalNo, RowNumber,
+};
+use shop_views::{
+    active_text, new_customer_text, payment_text, rental_text, returned_text, scrapped_text,
 };
 use sql_rows::{Bytes, StoreFault};
 use sqlite::{Alter, Transaction};

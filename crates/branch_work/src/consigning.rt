@@ -18,10 +18,10 @@ use branch_core::{ArrivalFound, RowsFound, arrived_lines};
 use consign_store::{
     ConsignmentKey, DispatchPlace, last_place, mark_received, put_consignment, take_pair,
 };
-use reply_bodies::{dispatch_text, receipt_text};
 use shop_ledger::{Count, CountKind, take_numbers};
 use shop_store::{CopyRow, CopyState, put_copy, set_state};
 use shop_types::{BranchNo, ConsignmentNo, CopyNo, LineNo, ParcelLine, ParcelLines};
+use shop_views::{dispatch_text, receipt_text};
 use sql_rows::StoreFault;
 use sqlite::{Alter, Transaction};
 use std::alloc::Global;

@@ -14,10 +14,10 @@ ghost use Rattle.branch_core.specs.StockLists.{copies_of, films_of};
 ghost use Rattle.branch_work.specs.Added.{IsActed, copies_from};
 
 use branch_core::{RowsFound, StockFound, copies_in};
-use reply_bodies::new_copies_text;
 use shop_ledger::{Count, CountKind, take_numbers};
 use shop_store::{CopyRow, CopyState, put_copy, put_lot};
 use shop_types::{BranchNo, CopyNo, FilmNo, LotName, Mark};
+use shop_views::new_copies_text;
 use sql_rows::StoreFault;
 use sqlite::{Alter, Transaction};
 use std::alloc::{AllocError, Global};

@@ -17,7 +17,7 @@ use crate::adding::{carry_out, keep};
 use crate::answering::{again, refuse};
 use branch_core::{Found, RowsFound, decide};
 use branch_looks::{Look, Reading, find_for_command, look, look_rewards, reading_of};
-use film_cache::FilmCache;
+use chain_caches::FilmCache;
 use shop_ledger::{Owner, Standing, kept_at, kept_found, standing_at};
 use shop_schema::{command_form, command_values};
 use shop_types::{BranchNo, Change, Command, Limits, Refusal, Reply, Request, View};

@@ -1,5 +1,5 @@
 -- What head office asks, as a request of its caller.
-use Rattle.std.proofs.Common.{◌≡◌, ◌≢◌, ℕ, List, refl, inl}
+use Rattle.std.proofs.Common.{◌≡◌, ◌≢◌, refl, inl}
 use Rattle.sqlite.specs.State.{State}
 use Rattle.shop_values.specs.LimitValues.{Limits}
 use Rattle.shop_model.specs.Values.{OfficeCommand}
@@ -10,8 +10,7 @@ use Rattle.shop_model.specs.Books.{Books, HeadOffice}
 use Rattle.shop_model.specs.Sound.{IsSound}
 use Rattle.shop_types.specs.declared.request.OfficeAsk.{OfficeAsk}
 use Rattle.shop_types.specs.Seen.{seen_office_ask}
-use Rattle.film_cache.specs.declared.cache.CachedFilm.{CachedFilm}
-use Rattle.film_cache.specs.Cached.{AreRows}
+use Rattle.chain_caches.specs.Films.{AreRows, KnownFilms}
 use Rattle.sql_rows.specs.declared.fault.StoreFault.{StoreFault}
 use Rattle.sql_rows.specs.declared.fault.StoreFault.TheVariants.{Failed}
 use Rattle.branch_work.specs.Rules.{rules_of}
@@ -31,12 +30,12 @@ office_goes limits command books = record { told = refl; left = by (office_verdi
     by Accepted = refl
 
 -- a reading of head office, of sound books
-pub office_read : (limits : Limits) (ask : OfficeAsk) (answer : Answer) (films : List (ℕ × CachedFilm)) (old new : State) → TellsOffice ask answer old → IsUndone old new
+pub office_read : (limits : Limits) (ask : OfficeAsk) (answer : Answer) (films : KnownFilms) (old new : State) → TellsOffice ask answer old → IsUndone old new
     → (books : Books) → Rests old books → IsHeldWith films books → IsSound widest_rules books
     → (answer ≡ told_to limits HeadOffice (OfficeLook (seen_office_ask ask)) books) × Rests new (left_by limits HeadOffice (OfficeLook (seen_office_ask ask)) books)
     × AreRows films (left_by limits HeadOffice (OfficeLook (seen_office_ask ask)) books).catalogue.films
 office_read limits ask answer films old new told same books rests held sound = (told books rests held.0 sound, same books rests held.0, held.1)
 
-pub office_unread : (limits : Limits) (ask : OfficeAsk) (fault : StoreFault) (films : List (ℕ × CachedFilm)) (old new : State) → IsUndone old new
+pub office_unread : (limits : Limits) (ask : OfficeAsk) (fault : StoreFault) (films : KnownFilms) (old new : State) → IsUndone old new
     → (fault ≢ Failed → IsUndone old new) × LeavesEitherOf limits HeadOffice (OfficeLook (seen_office_ask ask)) (IsHeldWith films) old new
 office_unread limits ask fault films old new same = (λ other. same, λ books rests held db may. inl ((same books rests held.0).left db may))

@@ -15,6 +15,3 @@ pub mod Opening
 pub mod NewFiles
 pub mod Migrated
 pub mod OldFiles
-pub mod OfficeNumbers
-pub mod OfficeReadings
-pub mod OfficeWritten

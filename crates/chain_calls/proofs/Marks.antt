@@ -1,12 +1,12 @@
 -- Which marks were made, by the copies of the branches that imported them, and how many places each has.
-use Rattle.std.proofs.Common.{◌≡◌, ◌≢◌, ◌∙◌, ◌+◌, ◌-◌, ◌<◌, ◌≤◌, ◌==◌, ◌&&◌, ℕ, Bool, true, false, List, [], ◌∷◌, map, filter, inl, inr, refl, sym, ap, arith}
+use Rattle.std.proofs.Common.{◌≡◌, ◌∙◌, ◌+◌, ◌-◌, ◌<◌, ◌≤◌, ◌==◌, ◌&&◌, ℕ, Bool, true, false, List, [], ◌∷◌, map, filter, inl, inr, refl, sym, ap, arith}
 use Rattle.std.specs.Prelude.{nat_lt}
 use Rattle.std.proofs.lemmas.Bool.{cases_Bool}
 use Rattle.shop_model.specs.Rows.{Row, at, of, is_of, IsCounted, total}
 use Rattle.shop_model.specs.Books.{Books, BookCopy, Mark}
 use Rattle.shop_model.specs.Sound.{HasNumbers, HasCustody, one, is_mark, rows_made, made}
 use Rattle.shop_model.proofs.RowLemmas.{same_if, differ_if}
-use Rattle.shop_model.proofs.CustodyLemmas.{made_once}
+use Rattle.shop_model.proofs.CustodyLemmas.{apart_weight, low_none, made_once}
 use Rattle.consign_store.specs.Custody.{HasOnePlace}
 use Rattle.consign_store.proofs.Custody.{one_place}
 
@@ -19,44 +19,14 @@ held_once mark books numbers custody =
 
 -- ---- the row of an import
 
--- a row's own mark, against a mark of another number, and of its own
-apart_weight : (mb rb mc rn b n : ℕ) → (rb ≡ b → rn ≢ n) → one ((mb == rb && mc == rn) && (mb == b && mc == n)) ≡ 0
-apart_weight mb rb mc rn b n differ = elim (cases_Bool (mb == rb)) [
-  | inr f ↦ rw f
-  | inl t1 ↦ elim (cases_Bool (mc == rn)) [
-    | inr f ↦ rw (t1, f)
-    | inl t2 ↦ elim (cases_Bool (mb == b)) [
-      | inr f ↦ rw (t1, t2, f)
-      | inl t3 ↦ elim (cases_Bool (mc == n)) [
-        | inr f ↦ rw (t1, t2, t3, f)
-        | inl t4 ↦ absurd (differ (sym (same_if mb rb t1) ∙ same_if mb b t3) (sym (same_if mc rn t2) ∙ same_if mc n t4))
-      ]
-    ]
-  ]
-]
-
 twice : (a b : Bool) → one ((a && b) && (a && b)) ≡ one (a && b)
 twice true true = refl
 twice true false = refl
 twice false b = refl
 
+-- a row's own mark, against a mark of its number
 own_weight : (mb rb mc rn b n : ℕ) → rb ≡ b → rn ≡ n → one ((mb == rb && mc == rn) && (mb == b && mc == n)) ≡ one (mb == b && mc == n)
 own_weight mb rb mc rn b n branch number = rw (branch, number) (twice (mb == b) (mc == n))
-
-low_none : (mark : Mark) (k : ℕ) (rows : List (Row BookCopy)) → IsCounted k (map (λ row. row.number) (filter (is_of mark.branch) rows)) → mark.copy < k → rows_made (is_mark mark) rows ≡ 0
-low_none mark k [] counted low = refl
-low_none mark k (row ∷ rows) counted low = elim (cases_Bool (row.branch == mark.branch)) [
-  | inl is ↦
-      let counts = rw is at counted in
-      let number : row.number ≡ k = counts.0 in
-      let z = apart_weight row.it.mark.branch row.branch row.it.mark.copy row.number mark.branch mark.copy (λ e n. omega (arith, n, number, low)) in
-      let more = low_none mark (k + 1) rows counts.1 (omega (arith, low)) in
-      omega (arith, z, more)
-  | inr isnt ↦
-      let z = apart_weight row.it.mark.branch row.branch row.it.mark.copy row.number mark.branch mark.copy (λ e n. differ_if row.branch mark.branch isnt e) in
-      let more = low_none mark k rows (rw isnt at counted) low in
-      omega (arith, z, more)
-]
 
 made_from : (mark : Mark) (k n : ℕ) (rows : List (Row BookCopy)) → IsCounted k (map (λ row. row.number) (filter (is_of mark.branch) rows)) → n + k ≡ mark.copy + 1 → 1 ≤ n
     → rows_made (is_mark mark) rows ≡ total (λ (it : BookCopy). one (is_mark mark it.mark)) (at n (of mark.branch rows))

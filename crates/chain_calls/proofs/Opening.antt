@@ -44,8 +44,8 @@ use Rattle.shop_schema.specs.Versions.{version_of, version_told}
 use Rattle.shop_schema.specs.declared.known.KnownVersion.{KnownVersion}
 use Rattle.shop_schema.specs.declared.known.KnownVersion.TheVariants.{This, Missing, First, Other}
 use Rattle.chain_calls.specs.Chains.{Rests, IsAt, StandsForEither, StandsSoundly, widest_rules}
-use Rattle.film_cache.proofs.Rows.{no_rows}
-use Rattle.caller_cache.proofs.Steps.{no_callers}
+use Rattle.chain_caches.proofs.FilmRows.{no_rows}
+use Rattle.chain_caches.proofs.CallerSteps.{no_callers}
 use Rattle.chain_calls.specs.Holding.{Chained}
 use Rattle.chain_calls.proofs.Deciding.{stands_in_any}
 use Rattle.chain_calls.specs.declared.faults.OpenFault.{OpenFault}

@@ -14,10 +14,9 @@ use Rattle.shop_model.specs.Sound.{IsSound}
 use Rattle.shop_model.specs.Office.{office_look}
 use Rattle.shop_model.specs.Histories.{is_store_failure}
 use Rattle.shop_model.proofs.Histories.{memory_failure, size_failure, failed_failure}
-use Rattle.film_cache.specs.Cached.{AreRows}
-use Rattle.caller_cache.specs.Entries.{Entries}
-use Rattle.caller_cache.specs.Known.{AreCallers}
-use Rattle.caller_cache.proofs.Steps.{callers_after}
+use Rattle.chain_caches.specs.Films.{AreRows}
+use Rattle.chain_caches.specs.Callers.{AreCallers, KnownCallers}
+use Rattle.chain_caches.proofs.CallerSteps.{callers_after}
 use Rattle.shop_schema.specs.Held.{IsHeld}
 use Rattle.shop_schema.specs.Shop.{StandsFor}
 use Rattle.shop_types.specs.declared.audit.Audit.{Audit}
@@ -167,7 +166,7 @@ module _ {S : Type 0} (g : Ghosts S) (old new : Chained S) (limits : new.limits 
 
   -- and of callers what was
   callers_stay : (catalogue : Catalogue) → AreCallers old.callers catalogue → AreCallers new.callers catalogue
-  callers_stay catalogue known = subst (λ (es : Entries). AreCallers es catalogue) (sym same_callers) known
+  callers_stay catalogue known = subst (λ (es : KnownCallers). AreCallers es catalogue) (sym same_callers) known
 
   -- with the same books, by what the store answered
   pub kept : (it : StoreFault) (P : Holding → Holding → Type 0) → KnowsNoMore → new.is_failed ≡ is_final it
@@ -316,7 +315,7 @@ known_already g chain token caller fine known = record {
 }
 
 -- once the caller was found
-pub found_and_kept : {S : Type 0} (g : Ghosts S) (old new : Chained S) (callers : Entries) (token : List ℕ) (caller : Known)
+pub found_and_kept : {S : Type 0} (g : Ghosts S) (old new : Chained S) (callers : KnownCallers) (token : List ℕ) (caller : Known)
     → ((catalogue : Catalogue) → AreCallers new.callers catalogue → seen_caller caller ≡ caller_of (Some token) catalogue → AreCallers callers catalogue)
     → Takes g old new (FindsCaller token (Ok caller)) → Takes g old (record new { callers = callers }) (FindsCaller token (Ok caller))
 found_and_kept g old new callers token caller keeps taken = record {

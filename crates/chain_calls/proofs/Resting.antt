@@ -26,8 +26,7 @@ use Rattle.shop_types.specs.declared.request.Caller.{Caller as Known}
 use Rattle.shop_types.specs.Seen.{seen_caller}
 use Rattle.shop_types.specs.declared.reply.Reply.{Reply}
 use Rattle.shop_types.specs.Replies.{seen_reply}
-use Rattle.film_cache.specs.declared.cache.CachedFilm.{CachedFilm}
-use Rattle.film_cache.specs.Cached.{AreRows}
+use Rattle.chain_caches.specs.Films.{AreRows, KnownFilms}
 use Rattle.shop_schema.specs.Held.{IsHeld}
 use Rattle.shop_schema.specs.Tables.{shop_schema}
 use Rattle.shop_schema.specs.Shop.{StandsFor, Holds, Reads, IsShop}
@@ -137,7 +136,7 @@ either_of limits caller request Given old end survives clean books rests held db
   | inr after ↦ inr (after books rests held)
 ]
 
-module _ {S : Type 0} (g : Ghosts S) (old mid end : Held S) (limits : Limits) (caller : Caller) (request : Request) (answer : Answer) (is_changed : Bool) (Given : Books → Type 0) (after : List (ℕ × CachedFilm))
+module _ {S : Type 0} (g : Ghosts S) (old mid end : Held S) (limits : Limits) (caller : Caller) (request : Request) (answer : Answer) (is_changed : Bool) (Given : Books → Type 0) (after : KnownFilms)
     (works : HasCleanDisk (state g mid) → (books : Books) → Holds (state g (record old { in_transaction = true })) books → Given books
     → IsDone limits caller request answer is_changed (state g mid) books × AreRows after (left_by limits caller request books).catalogue.films)
     (live : HasCleanDisk (state g mid) → IsTrue (state g old).is_open) where
@@ -194,7 +193,7 @@ module _ {S : Type 0} (g : Ghosts S) (old mid fin end : Held S) where
       apart e = cc
 
 -- a reading was looked at in a transaction, which was rolled back, and then it was shown
-module _ {S : Type 0} (g : Ghosts S) (old mid back end : Held S) (limits : Limits) (caller : Caller) (request : Request) (report : Report) (Given : Books → Type 0) (after : List (ℕ × CachedFilm))
+module _ {S : Type 0} (g : Ghosts S) (old mid back end : Held S) (limits : Limits) (caller : Caller) (request : Request) (report : Report) (Given : Books → Type 0) (after : KnownFilms)
     (works : HasCleanDisk (state g mid) → Works limits caller request (work.Shows report) Given after (state g (record old { in_transaction = true })) (state g mid))
     (live : HasCleanDisk (state g mid) → IsTrue (state g old).is_open) (returned : (books : Books) → Rests (state g old) books → Rests (state g back) books) (stays : IsUndone (state g back) (state g end)) (holds_in : (books : Books) → Given books → IsHeld books) where
   pub shows_made : HasCleanDisk (state g mid) → (answer : Answer) → ShowsReport report answer (state g back) → IsMade limits caller request answer Given after (state g old) (state g end)

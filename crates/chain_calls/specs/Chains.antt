@@ -15,8 +15,8 @@ use Rattle.shop_model.specs.Histories.{IsStep, IsRun, is_store_failure, has_fail
 use Rattle.shop_model.specs.Resends.{Resends}
 pub use Rattle.shop_model.specs.Stops.{failing}
 use Rattle.chain_calls.specs.Branches.{KeepsBranches}
-use Rattle.film_cache.specs.Cached.{AreRows}
-use Rattle.caller_cache.specs.Known.{AreCallers}
+use Rattle.chain_caches.specs.Films.{AreRows}
+use Rattle.chain_caches.specs.Callers.{AreCallers}
 use Rattle.shop_types.specs.declared.request.Request.{Request as Asked}
 use Rattle.shop_types.specs.Seen.{seen_request}
 use Rattle.shop_schema.specs.RowValues.{AreValues}

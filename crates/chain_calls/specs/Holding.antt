@@ -1,10 +1,9 @@
 -- What a chain holds, as its callers see it.
-use Rattle.std.specs.Prelude.{ℕ, Bool, List, refl}
+use Rattle.std.specs.Prelude.{ℕ, Bool, refl}
 use Rattle.std.specs.Coded.{Coded, code_by, coded×, coded_ℕ, coded_bool}
 use Rattle.sqlite.specs.Held.{Held, held_code}
-use Rattle.film_cache.specs.declared.cache.CachedFilm.{CachedFilm}
-use Rattle.film_cache.specs.Entries.{entries_code}
-use Rattle.caller_cache.specs.Entries.{Entries, callers_code}
+use Rattle.chain_caches.specs.Films.{KnownFilms, entries_code}
+use Rattle.chain_caches.specs.Callers.{KnownCallers, callers_code}
 use Rattle.shop_values.specs.LimitValues.{Limits}
 use Rattle.shop_model.specs.Books.{Books}
 
@@ -12,14 +11,14 @@ use Rattle.shop_model.specs.Books.{Books}
 pub record Chained (S : Type 0) : Type 0 where
   pub limits : Limits
   pub is_failed : Bool
-  pub films : List (ℕ × CachedFilm)
-  pub callers : Entries
+  pub films : KnownFilms
+  pub callers : KnownCallers
   pub conn : Held S
 
 -- its values are told apart by their parts
 abbrev pub chained_code : {S : Type 0} → Coded S → Coded (Chained S)
 chained_code {S} store =
-    code_by ((ℕ × ℕ) × (Bool × (List (ℕ × CachedFilm) × (Entries × Held S)))) (coded× (coded× coded_ℕ coded_ℕ) (coded× coded_bool (coded× entries_code (coded× callers_code (held_code store)))))
+    code_by ((ℕ × ℕ) × (Bool × (KnownFilms × (KnownCallers × Held S)))) (coded× (coded× coded_ℕ coded_ℕ) (coded× coded_bool (coded× entries_code (coded× callers_code (held_code store)))))
     (λ c. ((c.limits.commands, c.limits.copies), (c.is_failed, (c.films, (c.callers, c.conn)))))
     (λ p. record { limits = record { commands = p.0.0; copies = p.0.1 }; is_failed = p.1.0; films = p.1.1.0; callers = p.1.1.1.0; conn = p.1.1.1.1 })
     (λ _. refl)

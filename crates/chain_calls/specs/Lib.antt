@@ -1,3 +1,4 @@
+pub use Rattle.branch_work.specs.Rules
 pub mod Holding
 pub mod Branches
 pub mod Chains
@@ -9,7 +10,5 @@ pub mod Files
 pub mod Openings
 pub mod Reports
 pub mod Audits
-pub mod OfficeAdded
-pub mod OfficeFound
 pub mod OfficeReads
 pub mod OfficeWorks

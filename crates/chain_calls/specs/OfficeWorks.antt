@@ -10,7 +10,7 @@ use Rattle.shop_types.specs.declared.found.KeptFound.{KeptFound}
 use Rattle.shop_schema.specs.Held.{IsHeld}
 use Rattle.shop_schema.specs.Shop.{Holds}
 use Rattle.branch_work.specs.Works.{IsDone}
-use Rattle.chain_calls.specs.OfficeFound.{IsKeptFor}
+use Rattle.catalogue_rows.specs.Found.{IsKeptFor}
 
 -- it is done, beside what was found under the command's key
 abbrev pub WorksBeside : Option KeptFound → Limits → OfficeCommand → Answer → Bool → State → State → Type 0

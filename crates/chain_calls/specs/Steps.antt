@@ -10,8 +10,7 @@ use Rattle.shop_model.specs.Books.{Books, Caller, Counter, HeadOffice, Nobody, c
 use Rattle.shop_model.specs.Opening.{opening_books}
 use Rattle.shop_types.specs.Seen.{seen_request, seen_office}
 use Rattle.shop_types.specs.Replies.{seen_reply}
-use Rattle.film_cache.specs.declared.cache.CachedFilm.{CachedFilm}
-use Rattle.film_cache.specs.Cached.{AreRows}
+use Rattle.chain_caches.specs.Films.{AreRows, KnownFilms}
 use Rattle.sql_rows.specs.Books.{no_schema}
 use Rattle.shop_schema.specs.Held.{IsHeld}
 use Rattle.shop_schema.specs.RowValues.{IsNumber, IsCommand, IsKey, IsOfficeAct}
@@ -59,7 +58,7 @@ IsKnownFor (OfBranch b is_known request) catalogue = IsKnown is_known b catalogu
 IsKnownFor (OfOffice command) catalogue = ⊤
 
 -- books that the tables can hold, of whose films these are known, and of whose catalogue this is
-abbrev pub IsHeldBy : (Catalogue → Type 0) → List (ℕ × CachedFilm) → Books → Type 0
+abbrev pub IsHeldBy : (Catalogue → Type 0) → KnownFilms → Books → Type 0
 IsHeldBy Known films books = IsHeld books × AreRows films books.catalogue.films × Known books.catalogue
 
 -- ---- one request
@@ -70,12 +69,12 @@ HasCome limits caller request (Done reply is_changed) new books = IsDone limits 
 HasCome limits caller request (Shows report) new books = (told_to limits caller request books ≡ answer_of (Shown (shown_by report books))) × (left_by limits caller request books ≡ books)
 
 -- and the films that are known then are rows of the books after it, where of the books before it this was given
-abbrev pub Works : Limits → Caller → Request → Work → (Books → Type 0) → List (ℕ × CachedFilm) → State → State → Type 0
+abbrev pub Works : Limits → Caller → Request → Work → (Books → Type 0) → KnownFilms → State → State → Type 0
 Works limits caller request work Given after old new =
     (books : Books) → Holds old books → Given books → HasCome limits caller request work new books × AreRows after (left_by limits caller request books).catalogue.films
 
 -- the step is made
-pub record IsMade (limits : Limits) (caller : Caller) (request : Request) (answer : Answer) (Given : Books → Type 0) (after : List (ℕ × CachedFilm)) (old new : State) : Type 0 where
+pub record IsMade (limits : Limits) (caller : Caller) (request : Request) (answer : Answer) (Given : Books → Type 0) (after : KnownFilms) (old new : State) : Type 0 where
   pub reply : (books : Books) → Rests old books → Given books → answer ≡ told_to limits caller request books
   pub books : (books : Books) → Rests old books → Given books → Rests new (left_by limits caller request books)
   pub films : (books : Books) → Rests old books → Given books → AreRows after (left_by limits caller request books).catalogue.films

@@ -1,5 +1,5 @@
-//! What a chain of shops rests on: its books in the tables of a store, what head office's commands do there, and what each call does to a connection
-//! between two requests.
+//! What a chain of shops rests on: its books in the tables of a store, what is asked done there, and what each call does to a connection between two
+//! requests.
 #![tactic(auto)]
 
 mod asked;
@@ -9,10 +9,7 @@ mod creation;
 mod faults;
 mod files;
 mod migrating;
-mod office_adding;
-mod office_finding;
 mod office_reading;
-mod office_rows;
 mod office_working;
 mod paths;
 mod reports;

@@ -14,9 +14,9 @@ ghost use Rattle.chain_calls.specs.OfficeReads.{custody_told, TellsAudit, TellsC
 use crate::auditing::read_audit;
 use crate::reports::{Report, show};
 use consign_store::place_of;
-use reply_bodies::{audit_text, custody_text};
 use shop_store::{branch_manager, copy_at};
 use shop_types::{Mark, OfficeAsk, Refusal, Reply};
+use shop_views::{audit_text, custody_text};
 use sql_rows::StoreFault;
 use sqlite::{Alter, Connection, Transaction};
 use std::alloc::Global;

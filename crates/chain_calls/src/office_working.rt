@@ -12,10 +12,9 @@ ghost use Rattle.shop_schema.specs.Forms.{office_command_form};
 ghost use Rattle.branch_work.specs.Works.{Does};
 ghost use Rattle.chain_calls.specs.OfficeWorks.{WorksBeside};
 
-use crate::office_adding::add;
-use crate::office_finding::find;
 use branch_work::{again, refuse};
 use catalogue_core::{Shared, decide_office};
+use catalogue_rows::{add, find};
 use shop_ledger::{Owner, kept_at, kept_found};
 use shop_schema::office_form;
 use shop_types::{Change, KeptFound, Limits, OfficeCommand, Reply};

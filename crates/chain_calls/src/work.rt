@@ -13,7 +13,7 @@ use crate::asked::Asked;
 use crate::office_working;
 use crate::reports::Report;
 use branch_work::Worked;
-use film_cache::FilmCache;
+use chain_caches::FilmCache;
 use shop_types::{BranchNo, Limits, OfficeCommand, Reply, Request};
 use sql_rows::{StoreFault, query};
 use sqlite::{Alter, Connection, Transaction};

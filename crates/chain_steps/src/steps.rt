@@ -6,8 +6,8 @@ ghost use Rattle.sqlite.specs.State.{HasCleanDisk, Survives};
 ghost use Rattle.shop_types.specs.Replies.{seen_reply};
 ghost use Rattle.chain_calls.specs.Steps.{IsHeldBy, IsKnownFor, IsMade, IsUndone, LeavesAfter, LeavesEitherOf, asker, asked_of};
 
+use chain_caches::FilmCache;
 use chain_calls::{Asked, Work, is_open, show, work_of};
-use film_cache::FilmCache;
 use shop_types::{Limits, Reply};
 use sql_rows::{StoreFault, fault_of};
 use sqlite::{Alter, Connection};

@@ -2,7 +2,7 @@
 use Rattle.std.proofs.Common.{◌≡◌, ◌+◌, ◌<◌, ◌≤◌, ◌&&◌, ◌||◌, ℕ, Bool, true, false, cond, List, [], ◌∷◌, ◌++◌, map, filter, take, drop, length, get_or, Some, None, IsPermutation, refl, sym, ap, subst, ◌∙◌, arith}
 use Rattle.std.specs.Prelude.{slice_get}
 use Rattle.std.specs.List.{list_any, flat_map}
-use Rattle.std.proofs.lemmas.List.{take_all, take-append-drop}
+use Rattle.std.proofs.lemmas.List.{take-append-drop}
 use Rattle.std.proofs.lemmas.List.Elements.{filter-append, filter_more}
 use Rattle.std.proofs.lemmas.List.Sorted.{IsPermutation-sym}
 use Rattle.sqlite_trees.proofs.ListLemmas.{IsPermutation-filter}
@@ -34,12 +34,6 @@ module _ {X : Type 0} (p : X → Bool) where
       let whole : filter p xs ≡ x ∷ filter p (drop (i + 1) xs) =
       ap (filter p) (sym (take-append-drop (i + 1) xs)) ∙ filter-append p (take (i + 1) xs) (drop (i + 1) xs) ∙ ap (λ (l : List X). l ++ filter p (drop (i + 1) xs)) front in
       ap (λ (l : List X). slice_get l 0) whole
-
-  pub none_passing : (xs : List X) (i : ℕ) (x : X) → i < length xs → x ≡ get_or xs i x → p x ≡ false → filter p (take i xs) ≡ [] → filter p (take (i + 1) xs) ≡ []
-  none_passing xs i x lt is miss none = shown_at xs i x lt is ∙ (λ k. none k ++ cond (miss k) (x ∷ []) [])
-
-  pub none_at_all : (xs : List X) (i : ℕ) → length xs ≤ i → filter p (take i xs) ≡ [] → slice_get (filter p xs) 0 ≡ None
-  none_at_all xs i le none = ap (λ (l : List X). slice_get l 0) (ap (filter p) (sym (take_all i xs le)) ∙ none)
 
 -- ---- both tests
 

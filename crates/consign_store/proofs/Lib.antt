@@ -4,7 +4,6 @@ pub mod Tables
 pub mod PairCounts
 pub mod PairTexts
 pub mod Texts
-pub mod Refused
 pub mod ListRuns
 pub mod ListJoin
 pub mod ListTexts

@@ -8,9 +8,9 @@ use Rattle.shop_model.specs.Values.{Arrival, Parcel}
 use Rattle.shop_model.specs.Books.{Line, Consignment, as_arrival, as_parcel}
 use Rattle.shop_model.specs.Answers.{arrivals_text, sent_text}
 use Rattle.shop_model.proofs.RowLemmas.{same_test}
-use Rattle.reply_bodies.specs.Consignments as bodies
-use Rattle.reply_bodies.specs.Consignments.{Listed, seen_listed, arrival_text}
-use Rattle.reply_bodies.proofs.RowTexts.{arrival_is, sent_is, transit_is}
+use Rattle.shop_views.specs.Consignments as bodies
+use Rattle.shop_views.specs.Consignments.{Listed, seen_listed, arrival_text}
+use Rattle.shop_views.proofs.RowTexts.{arrival_is, sent_is, transit_is}
 use Rattle.shop_schema.proofs.Lists.{filter_twice}
 use Rattle.shop_model.proofs.RowLemmas.{filter_filter}
 use Rattle.consign_store.specs.declared.lists.ListKind.{ListKind}

@@ -1,5 +1,5 @@
 -- The pairs of the books' own counts: their numbers are those of the consignments.
-use Rattle.std.proofs.Common.{◌≡◌, ◌≤◌, ◌<◌, ◌+◌, ◌^◌, ◌==◌, ◌&&◌, ◌⊎◌, inl, inr, ℕ, suc, List, [], ◌∷◌, ◌++◌, map, filter, length, Bool, true, false, cond, refl, sym, ap, subst, ◌∙◌, arith}
+use Rattle.std.proofs.Common.{◌≡◌, ◌≤◌, ◌<◌, ◌+◌, ◌^◌, ◌==◌, ◌&&◌, ℕ, suc, List, [], ◌∷◌, ◌++◌, map, filter, length, Bool, true, false, cond, refl, sym, ap, subst, ◌∙◌, arith}
 use Rattle.std.specs.Prelude.{fold}
 use Rattle.std.specs.List.{AllByRecursion}
 use Rattle.std.proofs.lemmas.Bool.{and_parts}
@@ -212,29 +212,6 @@ none_said s a (pair ∷ pairs) none = go (is_pair s a pair) none (none_said s a 
     go : (b : Bool) → cond b (pair ∷ filter (is_pair s a) pairs) (filter (is_pair s a) pairs) ≡ [] → (filter (is_pair s a) pairs ≡ [] → last_of s a pairs ≡ 0) → cond b pair.last (last_of s a pairs) ≡ 0
     go true e more = absurd cc
     go false e more = more e
-
-first_said : (s a : ℕ) (pairs : List Pair) (x : Pair) (rest : List Pair) → filter (is_pair s a) pairs ≡ x ∷ rest → last_of s a pairs ≡ x.last
-first_said s a [] x rest is = absurd cc
-first_said s a (pair ∷ pairs) x rest is = go (is_pair s a pair) is (first_said s a pairs x rest)
-  where
-    go : (b : Bool) → cond b (pair ∷ filter (is_pair s a) pairs) (filter (is_pair s a) pairs) ≡ x ∷ rest → (filter (is_pair s a) pairs ≡ x ∷ rest → last_of s a pairs ≡ x.last) → cond b pair.last (last_of s a pairs) ≡ x.last
-    go true e more = let first : pair ≡ x = cc in ap (λ (it : Pair). it.last) first
-    go false e more = more e
-
--- a row for exactly the pairs that have a consignment, and it says how many
-pub pair_rows : (s a : ℕ) (cs : List Consignment)
-    → ((filter (is_pair s a) (pairs_of cs) ≡ []) × (length (between s a cs) ≡ 0))
-    ⊎ ((x : Pair) × (filter (is_pair s a) (pairs_of cs) ≡ x ∷ []) × (x.last ≡ length (between s a cs)) × (1 ≤ length (between s a cs)))
-pair_rows s a cs = go (filter (is_pair s a) (pairs_of cs)) refl (all.once s a) (all-filter (λ (pair : Pair). 1 ≤ pair.last) (is_pair s a) (pairs_of cs) all.some)
-  where
-    all : Counted cs (pairs_of cs)
-    all = counted_all cs
-
-    go : (found : List Pair) → filter (is_pair s a) (pairs_of cs) ≡ found → length found ≤ 1 → AllByRecursion (λ (pair : Pair). 1 ≤ pair.last) found
-        → ((found ≡ []) × (length (between s a cs) ≡ 0)) ⊎ ((x : Pair) × (found ≡ x ∷ []) × (x.last ≡ length (between s a cs)) × (1 ≤ length (between s a cs)))
-    go [] is few some = inl (refl, sym (all.last s a) ∙ none_said s a (pairs_of cs) is)
-    go (x ∷ []) is few some = let last : x.last ≡ length (between s a cs) = sym (first_said s a (pairs_of cs) x [] is) ∙ all.last s a in inr (x, refl, last, subst (λ (n : ℕ). 1 ≤ n) last some.0)
-    go (x ∷ y ∷ more) is few some = absurd (omega (arith, few))
 
 -- ---- the next number is new
 

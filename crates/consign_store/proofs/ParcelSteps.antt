@@ -55,9 +55,6 @@ is_here n x i ns lt is same =
 pub not_yet : (n x i : ℕ) (ns : List ℕ) → i < length ns → x ≡ get_or ns i x → (x == n) ≡ false → mem n (take i ns) ≡ false → mem n (take (i + 1) ns) ≡ false
 not_yet n x i ns lt is other out = subst (λ (l : List ℕ). mem n l ≡ false) (sym (taken_more x i ns lt is)) (push_out n x (take i ns) other out)
 
-pub not_at_all : (n i : ℕ) (ns : List ℕ) → length ns ≤ i → mem n (take i ns) ≡ false → mem n ns ≡ false
-not_at_all n i ns le out = subst (λ (l : List ℕ). mem n l ≡ false) (take_all i ns le) out
-
 -- ---- calls
 
 module _ (s a n : ℕ) where

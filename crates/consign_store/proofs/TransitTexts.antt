@@ -32,7 +32,7 @@ use Rattle.shop_model.specs.Answers.{transit_text}
 use Rattle.shop_schema.specs.Tables.{shop_schema}
 use Rattle.shop_schema.specs.Held.{IsHeld}
 use Rattle.shop_schema.specs.Shop.{IsShop, StandsFor}
-use Rattle.reply_bodies.specs.Consignments as bodies
+use Rattle.shop_views.specs.Consignments as bodies
 use Rattle.consign_store.specs.Listed.{ListLine, shown_line, list_lines, listed}
 use Rattle.consign_store.proofs.ListJoin.{list_query, list_output, Ends, shows_list}
 use Rattle.consign_store.proofs.ListTexts.{less, greater, equal}

@@ -9,8 +9,8 @@ use Rattle.shop_model.specs.Values.{Text}
 use Rattle.shop_model.specs.Views.{sorted_by}
 use Rattle.shop_model.specs.Office.{goes_before}
 use Rattle.shop_model.specs.Books.{Books, Line, Consignment}
-use Rattle.reply_bodies.specs.Consignments.{Listed, seen_listed, arrival_data, arrival_text, sent_data, sent_text, transit_data, transit_text}
-use Rattle.reply_bodies.specs.Page.{HasValues}
+use Rattle.shop_views.specs.Consignments.{Listed, seen_listed, arrival_data, arrival_text, sent_data, sent_text, transit_data, transit_text}
+use Rattle.shop_views.specs.Page.{HasValues}
 use Rattle.consign_store.specs.declared.lists.ListKind.{ListKind}
 use Rattle.consign_store.specs.declared.lists.ListKind.TheVariants as kind
 use Rattle.consign_store.specs.declared.lists.ConsignmentPage.{ConsignmentPage}

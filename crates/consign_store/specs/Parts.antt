@@ -2,13 +2,11 @@
 use Rattle.std.specs.Prelude.{◌≡◌, ◌≤◌, ◌<◌, ◌==◌, ◌&&◌, ◌+◌, ◌^◌, ℕ, Bool, true, List, [], ◌∷◌, ◌++◌, map, filter, flat_map, length}
 use Rattle.std.specs.List.{AllByRecursion}
 use Rattle.sqlite_value.specs.Order as sql
-use Rattle.sqlite_value.specs.Order.{column}
 use Rattle.sql_rows.specs.Rows.{PicksOne, number_value, flag_value}
 use Rattle.shop_model.specs.Rows.{update_where, set_at, numbered}
 use Rattle.shop_model.specs.Books.{Books, Line, LineState, Consignment, is_consignment}
 use Rattle.shop_schema.specs.Columns.{line_value}
 use Rattle.shop_schema.specs.Counts.{Counts, is_pair}
-use Rattle.shop_schema.specs.RowValues.{IsNumber, IsLine}
 
 -- ---- a consignment without its lines
 
@@ -33,12 +31,6 @@ opened it = record { source = it.source; addressee = it.addressee; number = it.n
 abbrev pub IsPlace : ℕ → Type 0
 IsPlace n = (1 ≤ n) × (n < 2 ^ 63)
 
-pub record IsHeader (it : Header) : Type 0 where
-  pub source : IsNumber it.source
-  pub addressee : IsNumber it.addressee
-  pub number : IsNumber it.number
-  pub place : IsPlace it.place
-
 -- ---- a line with its number in its consignment, and the consignment's key
 
 pub record Placed : Type 0 where
@@ -61,13 +53,6 @@ abbrev pub placed_columns : Placed → sql.Row
 placed_columns it =
     number_value it.source ∷ number_value it.addressee ∷ number_value it.number ∷ number_value it.line ∷ number_value it.it.film ∷ number_value it.it.mark.branch
     ∷ number_value it.it.mark.copy ∷ line_value it.it.state ∷ []
-
-pub record IsPlaced (row : Placed) : Type 0 where
-  pub source : IsNumber row.source
-  pub addressee : IsNumber row.addressee
-  pub number : IsNumber row.number
-  pub line : IsNumber row.line
-  pub it : IsLine row.it
 
 -- ---- tests
 

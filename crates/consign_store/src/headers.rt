@@ -1,18 +1,18 @@
 //! Consignments without their lines.
 
-ghost use Rattle.std.specs.Prelude.{◌≡◌, ◌<◌, ◌^◌, ⊤, [], ◌∷◌, ◌++◌, IfOk, filter, length, map, option_map, option_to_list};
+ghost use Rattle.std.specs.Prelude.{◌≡◌, ◌<◌, ⊤, [], ◌∷◌, ◌++◌, IfOk, filter, length, map, option_map, option_to_list};
 ghost use Rattle.sqlite.specs.Held.{state};
 ghost use Rattle.sqlite.specs.Values.{bound};
 ghost use Rattle.sql_rows.specs.Calls.{StaysInside};
 ghost use Rattle.shop_model.specs.Books.{is_consignment};
 ghost use Rattle.shop_schema.specs.Calls.{Finds, Stores};
 ghost use Rattle.shop_store.specs.SharedSeen.{IsFirstNumber};
-ghost use Rattle.consign_store.specs.Parts.{Header, header_of, header_columns, IsHeader, opened, with_received, IsOnce};
+ghost use Rattle.consign_store.specs.Parts.{header_of, header_columns, opened, with_received, IsOnce};
 ghost use Rattle.consign_store.specs.Seen.{seen_header};
 
 use crate::keys::{ConsignmentKey, DispatchPlace, place_at};
 use shop_schema::row_number_at;
-use sql_rows::{StoreFault, Stored, execute, fault_of, flag_at, query, read_one};
+use sql_rows::{StoreFault, Stored, execute, fault_of, flag_at, query, query_one};
 use sqlite::types::{ToSql, ValueRef};
 use sqlite::{Alter, Row, Transaction};
 
@@ -27,7 +27,7 @@ pub struct HeaderRow {
 impl Stored for HeaderRow {
     ghost columns = { λ row. header_columns (seen_header row) };
 
-    ghost fits = { λ row. IsHeader (seen_header row) };
+    ghost fits = { λ _. ⊤ };
 
     fn read(row: &Row) -> Result<HeaderRow, StoreFault> {
         if row.column_count() != 5 {
@@ -95,7 +95,7 @@ pub fn header_at<S: Alter>(
     ensures row { Finds (state S.Store tx.old.conn.now) (state S.Store tx.new.conn.now) result
         (λ row books. option_to_list (option_map (λ it. seen_header it) row) ≡ map header_of (filter (is_consignment key.now.source key.now.addressee key.now.number) books.consignments)) }
 {
-    let rows = query(
+    query_one(
         tx,
         "SELECT source, addressee, number, place, received FROM consignment WHERE source = ?1 AND addressee = ?2 AND number = ?3",
         &[
@@ -103,8 +103,7 @@ pub fn header_at<S: Alter>(
             key.addressee.get().to_sql(),
             key.number.get().to_sql(),
         ],
-    )?;
-    read_one(rows.as_slice())
+    )
 }
 
 /// Adds the consignment, with no line yet. After a fault the transaction may be rolled back.

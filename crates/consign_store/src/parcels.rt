@@ -1,6 +1,6 @@
 //! Whole consignments: what a dispatch adds, and what a receipt sets.
 
-ghost use Rattle.std.specs.Prelude.{◌≡◌, ◌≤◌, [], ◌∷◌, ◌++◌, filter, length, map};
+ghost use Rattle.std.specs.Prelude.{◌≡◌, ◌≤◌, [], ◌∷◌, ◌++◌, length, map};
 ghost use Rattle.sqlite.specs.Held.{state};
 ghost use Rattle.sql_rows.specs.Calls.{StaysInside, StaysWithin};
 ghost use Rattle.shop_model.specs.Rows.{mem, update_where};

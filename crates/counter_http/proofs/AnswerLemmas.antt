@@ -16,12 +16,12 @@ use Rattle.counter_routes.specs.Words.{Meaning}
 use Rattle.counter_routes.specs.Readings.{Reads, reading_of}
 use Rattle.counter_routes.specs.declared.asked.Reading.{Reading}
 use Rattle.counter_routes.specs.declared.asked.Reading.TheVariants.{Asked, Refused}
-use Rattle.shop_chain.specs.Holding.{Holding}
-use Rattle.branch_work.specs.Rules.{rules_of}
-use Rattle.shop_chain.specs.Chains.{Answers}
-use Rattle.shop_chain.specs.Decisions.{IsStoreRefusalAt}
-use Rattle.shop_chain.proofs.Failures.{decided_fine}
-use Rattle.shop_chain.proofs.Requests.{no_failure, never, lacks_memory, store_refuses, fails, failed_same}
+use Rattle.chain_engine.specs.Holding.{Holding}
+use Rattle.chain_engine.specs.Rules.{rules_of}
+use Rattle.chain_engine.specs.Chains.{Answers}
+use Rattle.chain_engine.specs.Decisions.{IsStoreRefusalAt}
+use Rattle.chain_engine.proofs.Failures.{decided_fine}
+use Rattle.chain_engine.proofs.Requests.{no_failure, never, lacks_memory, store_refuses, fails, failed_same}
 use Rattle.counter_http.specs.Events.{known_token, sender_of, AnswersMessage, AnswersNobody}
 use Rattle.counter_http.specs.Reads.{AnswersRead}
 

@@ -1,19 +1,14 @@
 -- One connection after another: what the chain ran over in each, it ran over in all.
-use Rattle.std.proofs.Common.{◌≡◌, ◌∙◌, List, [], ◌∷◌, ◌++◌, refl, Option, Ok, Err, ℕ}
-use Rattle.std.specs.Prelude.{Result, IfOk, IfErr}
+use Rattle.std.proofs.Common.{◌≡◌, ◌∙◌, List, [], ◌∷◌, ◌++◌, refl}
 use Rattle.std.proofs.lemmas.List.{map-append}
 use Rattle.sqlite_trees.specs.declared.store.Store.{Ghosts}
 use Rattle.counter_routes.specs.Words.{Meaning}
-use Rattle.shop_chain.specs.Holding.{Chained, Holding}
-use Rattle.shop_chain.specs.Chains.{Runs}
-use Rattle.shop_chain.proofs.Taking.{takes_then}
-use Rattle.shop_chain.proofs.Following.{runs_follow}
+use Rattle.chain_engine.specs.Holding.{Chained, Holding}
+use Rattle.chain_engine.specs.Chains.{Runs}
+use Rattle.chain_engine.proofs.Taking.{takes_then}
+use Rattle.chain_engine.proofs.Following.{runs_follow}
 use Rattle.counter_http.specs.Events.{event_of}
 use Rattle.counter_http.specs.Exchanges.{Exchange, events_of, answers_of, RunsOver}
-use Rattle.counter_http.specs.Served.{IsServed, IsFault}
-use Rattle.counter_http.specs.declared.connection.Served.{Served}
-use Rattle.counter_http.specs.declared.connection.ServeFault.{ServeFault}
-use Rattle.counter_http.specs.declared.connection.ServeFault.TheVariants as kind
 use Rattle.counter_http.proofs.Runs.{run_starts}
 
 pub both_run : (meaning : Meaning) (old mid new : Holding) (es more : List Exchange)
@@ -43,12 +38,3 @@ some_start {S} {g} {meaning} {chain} = ([], run_starts)
 
 pub some_follow : {S : Type 0} {g : Ghosts S} {meaning : Meaning} {old mid new : Chained S} → RunsOverSome g meaning old mid → RunsOverSome g meaning mid new → RunsOverSome g meaning old new
 some_follow {S} {g} {meaning} {old} {mid} {new} first second = (first.0 ++ second.0, run_follows first.0 second.0 first.1 second.1)
-
--- however a connection ended
-pub some_ran : (result : Result Served ServeFault) (most : ℕ) (Ran : List Exchange → Type 0) (input left output written : Option (List ℕ))
-    → IfOk result (λ served. IsServed served most Ran input left output written) → IfErr result (λ fault. IsFault fault most Ran input left output written)
-    → (exchanges : List Exchange) × Ran exchanges
-some_ran (Ok served) most Ran input left output written ok err = (ok.exchanges, ok.ran.ran)
-some_ran (Err kind.Memory) most Ran input left output written ok err = ([], err.0)
-some_ran (Err (kind.Read replies)) most Ran input left output written ok err = (err.exchanges, err.ran.ran)
-some_ran (Err (kind.Write replies)) most Ran input left output written ok err = (err.exchanges ++ err.failed, err.ran.ran)

@@ -1,5 +1,5 @@
 -- What reads and writes do, one after another.
-use Rattle.std.proofs.Common.{◌≡◌, ℕ, ◌+◌, ◌-◌, ◌≤◌, ◌<◌, length-append, arith, zero-add, List, [], ◌++◌, Option, refl, sym, ap, ◌∙◌, append_assoc, append-nil, length, take, drop, subst}
+use Rattle.std.proofs.Common.{◌≡◌, ℕ, ◌+◌, ◌-◌, ◌≤◌, ◌<◌, length-append, arith, zero-add, List, [], ◌++◌, Option, sym, ap, ◌∙◌, append_assoc, append-nil, length, take, drop, subst}
 use Rattle.std.proofs.lemmas.List.{take-append-drop, take_rest, drop-take, drop-drop, length-drop}
 use Rattle.std.proofs.lemmas.List.Edits.{take-paste}
 use Rattle.std.specs.List.{copy_within}
@@ -7,7 +7,7 @@ use Rattle.std.proofs.Math.Seq.{paste, take-append-add}
 use Rattle.std.proofs.lemmas.List.{take-append-le, length-take-le}
 use Rattle.std.specs.Prelude.{Result, Ok, Err, OnErr}
 use Rattle.std.specs.Io.KnownBytes.{Appends, Keeps}
-use Rattle.std.proofs.KnownBytes.{Appends-nil, Appends-kept, Appends-trans}
+use Rattle.std.proofs.KnownBytes.{Appends-kept, Appends-trans}
 
 pub consumed : (xs : List ℕ) (n k : ℕ) → n ≤ k → k ≤ length xs → take (k - n) (copy_within xs n k 0) ≡ drop n (take k xs)
 consumed xs n k le fits =
@@ -47,9 +47,6 @@ second_front a b c head body p (x, y, e, l, w) = (head ++ x, y, ap (λ l. head +
 abbrev pub IsWritten : Option (List ℕ) → Option (List ℕ) → List ℕ → List ℕ → Type 0
 IsWritten output written before after = (sent : List ℕ) × Appends output written sent × (before ≡ sent ++ after)
 
-pub written_none : (output : Option (List ℕ)) (before : List ℕ) → IsWritten output output before before
-written_none output before = ([], Appends-nil output, refl)
-
 pub written_kept : (output mid written : Option (List ℕ)) (before after : List ℕ) → IsWritten output mid before after → Keeps mid written → IsWritten output written before after
 written_kept output mid written before after (sent, appends, parts) keeps = (sent, Appends-kept output mid written sent appends keeps, parts)
 
@@ -71,11 +68,3 @@ written_two output mid written head after body rest (sent, appends, parts) none 
   Appends-trans output mid written sent sent_too appends appends_too,
   rw (none) (ap (λ (l : List ℕ). l ++ body) (parts ∙ ap (λ (l : List ℕ). sent ++ l) none ∙ append-nil sent) ∙ ap (λ (l : List ℕ). sent ++ l) parts_too ∙ sym (append_assoc sent sent_too rest)),
 )
-
--- all of it was written
-pub written_all : (output written : Option (List ℕ)) (before after : List ℕ) → IsWritten output written before after → after ≡ [] → Appends output written before
-written_all output written before after (sent, appends, parts) none = rw (parts, none, append-nil sent) appends
-
--- not all of it was
-pub written_front : (output written : Option (List ℕ)) (before after : List ℕ) → IsWritten output written before after → 0 < length after → IsFrontWritten output written before
-written_front output written before after (sent, appends, parts) some = (sent, after, parts, some, appends)

@@ -1,16 +1,14 @@
 -- The run of a connection grows by one exchange at a time.
 use Rattle.std.proofs.Common.{◌≡◌, List, [], ◌∷◌, ◌++◌, refl, ℕ}
 use Rattle.std.proofs.lemmas.List.{map-append}
-use Rattle.http_messages.specs.Input.{HasMessage}
-use Rattle.http_messages.proofs.StreamLemmas.{HasMessages-append, HasMessages-snoc}
 use Rattle.sqlite_trees.specs.declared.store.Store.{Ghosts}
 use Rattle.counter_routes.specs.Words.{Meaning}
-use Rattle.shop_chain.specs.Holding.{Chained, Holding}
-use Rattle.shop_chain.specs.Chains.{Takes, Runs}
-use Rattle.shop_chain.proofs.Taking.{takes_same, takes_then}
-use Rattle.shop_chain.proofs.Running.{runs_none, runs_more}
+use Rattle.chain_engine.specs.Holding.{Chained, Holding}
+use Rattle.chain_engine.specs.Chains.{Takes, Runs}
+use Rattle.chain_engine.proofs.Taking.{takes_same, takes_then}
+use Rattle.chain_engine.proofs.Running.{runs_none, runs_more}
 use Rattle.counter_http.specs.Events.{event_of, AnswersMessage}
-use Rattle.counter_http.specs.Exchanges.{Exchange, events_of, answers_of, messages_of, HasRun, RunsOver}
+use Rattle.counter_http.specs.Exchanges.{Exchange, events_of, answers_of, HasRun, RunsOver}
 
 run_one : (meaning : Meaning) (old mid new : Holding) (es : List Exchange) (e : Exchange)
     → Runs (events_of meaning es) (answers_of es) old mid → AnswersMessage meaning e.message e.answer mid new
@@ -34,30 +32,6 @@ run_grows {S} {g} {meaning} e step es ran = record {
     some : (es : List Exchange) → es ++ e ∷ [] ≡ [] → ⊥
     some [] none = cc
     some (x ∷ es) none = cc
-
--- nothing is read yet
-pub ran_none : (Ran : List Exchange → Type 0) → Ran [] → HasRun Ran [] [] []
-ran_none Ran start = record {
-  splits = refl;
-  ran = start;
-}
-
--- more is read
-pub ran_more : (Ran : List Exchange → Type 0) (read more : List ℕ) (es : List Exchange) (rest : List ℕ)
-    → HasRun Ran read es rest → HasRun Ran (read ++ more) es (rest ++ more)
-ran_more Ran read more es rest x = record {
-  splits = HasMessages-append read more (messages_of es) rest x.splits;
-  ran = x.ran;
-}
-
--- one more message is answered
-pub ran_one : (Ran Ran' : List Exchange → Type 0) (read : List ℕ) (es : List Exchange) (e : Exchange) (inbox rest : List ℕ)
-    → HasRun Ran read es inbox → HasMessage inbox e.message rest → ((es : List Exchange) → Ran es → Ran' (es ++ e ∷ []))
-    → HasRun Ran' read (es ++ e ∷ []) rest
-ran_one Ran Ran' read es e inbox rest x has grows = record {
-  splits = rw (map-append (λ (x : Exchange). x.message) es (e ∷ [])) (HasMessages-snoc read inbox rest (messages_of es) e.message x.splits has);
-  ran = grows es x.ran;
-}
 
 -- the same told otherwise of the run
 pub ran_as : (Ran Ran' : List Exchange → Type 0) (read : List ℕ) (es : List Exchange) (rest : List ℕ) → HasRun Ran read es rest → ((es : List Exchange) → Ran es → Ran' es) → HasRun Ran' read es rest

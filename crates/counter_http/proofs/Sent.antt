@@ -5,7 +5,7 @@ use Rattle.shop_values.specs.LimitValues.{Limits}
 use Rattle.shop_model.specs.Machine.{State, Input, replies}
 use Rattle.shop_model.specs.Answers.{Answer, answer_of}
 use Rattle.shop_model.specs.Books.{state_of}
-use Rattle.branch_work.specs.Rules.{rules_of}
+use Rattle.chain_engine.specs.Rules.{rules_of}
 use Rattle.counter_http.specs.Exchanges.{text_of}
 use Rattle.counter_http.specs.Branches.{BranchesAreSentTheSame, seen_of}
 

@@ -1,246 +1,224 @@
--- A connection goes on: by more bytes, or by an exchange.
-use Rattle.std.proofs.Common.{◌≡◌, ◌≢◌, ℕ, ◌+◌, ◌<◌, ◌≤◌, inl, inr, List, [], ◌∷◌, ◌++◌, length, drop, length-drop, refl, ap, ◌∙◌, arith, append-nil, length-append, Option}
-use Rattle.std.proofs.lemmas.List.Elements.{All-push}
+-- A connection that is served alone.
+use Rattle.std.proofs.Common.{◌≡◌, ◌⊎◌, ℕ, ◌+◌, ◌-◌, ◌==◌, ◌<◌, Bool, true, false, inl, inr, List, [], ◌∷◌, ◌++◌, length, refl, sym, ap, ◌∙◌, arith, append-nil, append_assoc, length-append, eqb-true, Option, Some, None}
+use Rattle.std.specs.Prelude.{All, if◌then◌else◌}
+use Rattle.std.proofs.lemmas.List.{same_from_push, append_cancel_right}
+use Rattle.std.proofs.lemmas.List.Elements.{All-nil, All-pop}
 use Rattle.std.proofs.lemmas.Grind.{flat_map-append}
-use Rattle.std.specs.Io.KnownBytes.{Appends, Consumes, Keeps, IsAtEnd}
-use Rattle.std.proofs.KnownBytes.{Consumes-nil, Appends-nil, Appends-trans, Consumes-trans, Consumes-kept}
-use Rattle.http_messages.specs.Input.{HasMessage, IsCut}
+use Rattle.sqlite_trees.specs.declared.store.Store.{Ghosts}
+use Rattle.http_messages.specs.Text.{head_text}
 use Rattle.http_messages.specs.declared.messages.Fault.{Fault}
 use Rattle.http_messages.specs.declared.messages.Fault.TheVariants.{BadHead, TooLong}
-use Rattle.http_messages.specs.declared.messages.Reading.TheVariants.{Refused as NoMessage}
-use Rattle.http_messages.specs.Shown.{IsReading}
+use Rattle.shop_model.specs.Refusals as named
+use Rattle.shop_model.specs.Answers.{Answer, problem_answer}
 use Rattle.counter_http.specs.Exchanges.{Exchange, text_of, texts, GoesOn}
-use Rattle.counter_http.specs.Served.{IsAfter, IsServing, IsServed, IsReadFault, IsWriteFault, IsFault, IsRefused, fault_text}
+use Rattle.counter_http.specs.Served.{IsEnd, IsServed, IsReadFault, IsWriteFault, IsFault, fault_text, fault_replies}
+use Rattle.counter_http.specs.Standings.{Line, opened, told_of, IsOfLast, GoesOrEnds, IsTurn, IsTurnFault}
+use Rattle.counter_http.specs.Together.{TurnsServe}
 use Rattle.counter_http.specs.declared.connection.Served.{Served}
 use Rattle.counter_http.specs.declared.connection.ServeFault.{ServeFault}
 use Rattle.counter_http.specs.declared.connection.ServeFault.TheVariants as kind
-use Rattle.counter_http.specs.declared.connection.After.TheVariants.{Asks, Fails}
+use Rattle.counter_http.specs.declared.connection.End.{End}
 use Rattle.counter_http.specs.declared.connection.End.TheVariants.{Closed, Cut, Asked, Limit, Refused, StoreFailed}
-use Rattle.counter_http.specs.declared.inbox.TheConstants.{ROOM}
-use Rattle.counter_http.proofs.KnownBytes.{IsFrontWritten}
-use Rattle.counter_http.proofs.Runs.{ran_none, ran_more, ran_one, ran_as}
+use Rattle.counter_http.specs.declared.machine.TurnFault.TheVariants as turn
+use Rattle.counter_http.proofs.Runs.{ran_as}
+use Rattle.counter_http.proofs.Turns.{opened_may_answer, turn_none}
 
-pub texts-snoc : (es : List Exchange) (e : Exchange) → texts (es ++ e ∷ []) ≡ texts es ++ text_of e.answer
+-- ---- where the turns end it
+
+-- why a connection that comes ends, where it does
+opened_ends : (most : ℕ) (end : End) → (opened most).ending ≡ Some end → (end ≡ Limit) × (most ≡ 0)
+opened_ends most end is = by_test (most == 0) refl is
+  where
+    by_test : (none : Bool) → (most == 0) ≡ none → (if none then Some Limit else None) ≡ Some end → (end ≡ Limit) × (most ≡ 0)
+    by_test true e is = (cc, eqb-true most 0 e)
+    by_test false e is = absurd cc
+
+ended : (most : ℕ) (line : Line) (end first : End) (Ran : List Exchange → Type 0) (input left output written : Option (List ℕ))
+    → (x : IsTurn (opened most) line Ran input left output written) → line.ending ≡ Some end → (opened most).ending ≡ Some first
+    → IsEnd end most x.exchanges left line.inbox x.last
+ended most line end first Ran input left output written x ends is =
+    let stop = x.stopped first is in
+    let limit = opened_ends most first is in
+    let same : end ≡ Limit = let e : Some end ≡ Some first = sym ends ∙ stop.4 in cc in
+    rw (same, stop.2, stop.3, limit.1) (All-nil GoesOn, refl, refl)
+
+pub served_by : (most : ℕ) (line : Line) (end : End) (Ran : List Exchange → Type 0) (input left output written : Option (List ℕ))
+    → IsTurn (opened most) line Ran input left output written → (line.unsent ≡ []) × (line.ending ≡ Some end)
+    → IsServed (record { replies = line.replies + fault_replies end; end = end }) most Ran input left output written
+served_by most line end Ran input left output written x (empty, ends) = record {
+  read = x.read;
+  exchanges = x.exchanges;
+  rest = line.inbox;
+  last = x.last;
+  consumed = x.consumed;
+  ran = x.ran;
+  near = x.near;
+  writes = let all : texts x.exchanges ++ x.last ≡ x.sent = x.splits ∙ ap (λ (l : List ℕ). x.sent ++ l) empty ∙ append-nil x.sent in rw all x.writes;
+  count = let e = x.count in omega arith;
+  ends = ends_by (opened most).ending refl;
+}
+  where
+    ends_by : (first : Option End) → (opened most).ending ≡ first → IsEnd end most x.exchanges left line.inbox x.last
+    ends_by None is =
+        let all : most - 0 ≡ most = omega arith in
+        rw (ends, all) at (x.goes is)
+    ends_by (Some first) is = ended most line end first Ran input left output written x ends is
+
+pub turns_serve : {S : Type 0} (g : Ghosts S) → TurnsServe g
+turns_serve {S} g meaning old new most line end input left output written x empty ends = served_by most line end _ input left output written x (empty, ends)
+
+-- where none is allowed
+pub served_none : (Ran : List Exchange → Type 0) (input output : Option (List ℕ)) → Ran [] → IsServed (record { replies = 0; end = Limit }) 0 Ran input input output output
+served_none Ran input output start = served_by 0 (opened 0) Limit Ran input input output output (turn_none (opened 0) Ran input output (opened_may_answer 0) start) (refl, refl)
+
+-- ---- where a read or a write fails
+
+opened_lives : (most : ℕ) → 0 < most → (opened most).ending ≡ None
+opened_lives most some = by_test (most == 0) refl
+  where
+    by_test : (none : Bool) → (most == 0) ≡ none → (if none then Some Limit else None) ≡ None
+    by_test true e = let none : most ≡ 0 = eqb-true most 0 e in absurd (omega arith)
+    by_test false e = refl
+
+goes_by : (most : ℕ) (line : Line) (Ran : List Exchange → Type 0) (input left output written : Option (List ℕ)) → 0 < most
+    → (x : IsTurn (opened most) line Ran input left output written) → GoesOrEnds line.ending most x.exchanges left line.inbox x.last
+goes_by most line Ran input left output written some x =
+    let all : most - 0 ≡ most = omega arith in
+    rw all at (x.goes (opened_lives most some))
+
+pub read_fails : (most : ℕ) (line : Line) (Ran : List Exchange → Type 0) (input left output written : Option (List ℕ)) → 0 < most
+    → IsTurn (opened most) line Ran input left output written → IsTurnFault turn.Read line
+    → IsReadFault line.replies most Ran input left output written
+read_fails most line Ran input left output written some x (empty, live, cut) =
+    let goes = rw live at (goes_by most line Ran input left output written some x) in
+    let all : texts x.exchanges ≡ x.sent =
+    sym (append-nil (texts x.exchanges)) ∙ ap (λ (l : List ℕ). texts x.exchanges ++ l) (sym goes.2) ∙ x.splits ∙ ap (λ (l : List ℕ). x.sent ++ l) empty ∙ append-nil x.sent in
+    record {
+      read = x.read;
+      exchanges = x.exchanges;
+      rest = line.inbox;
+      consumed = x.consumed;
+      ran = x.ran;
+      writes = rw all x.writes;
+      near = x.near;
+      count = let e = x.count in omega arith;
+      few = let e = x.count in omega (arith, goes.1);
+      waits = cut;
+      goes = goes.0;
+    }
+
+texts-snoc : (es : List Exchange) (e : Exchange) → texts (es ++ e ∷ []) ≡ texts es ++ text_of e.answer
 texts-snoc es e =
-    flat_map-append (λ (x : Exchange). text_of x.answer) es (e ∷ []) ∙ ap (λ l. texts es ++ l) (append-nil (text_of e.answer))
+    flat_map-append (λ (x : Exchange). text_of x.answer) es (e ∷ []) ∙ ap (λ (l : List ℕ). texts es ++ l) (append-nil (text_of e.answer))
 
-pub refused_is : (input : List ℕ) (fault : Fault) → IsReading input (NoMessage fault) → IsRefused fault input
-refused_is input BadHead x = x
-refused_is input TooLong x = x
+-- behind the exchanges before the last the connection goes on
+goes_before : (ending : Option End) (most : ℕ) (front : List Exchange) (e : Exchange) (left : Option (List ℕ)) (rest last : List ℕ)
+    → GoesOrEnds ending most (front ++ e ∷ []) left rest last → All GoesOn front × (length front < most)
+goes_before ending most front e left rest last is = by ending is
+  where
+    long : length (front ++ e ∷ []) ≡ length front + 1
+    long = length-append front (e ∷ [])
 
--- what is left behind a message has room too
-pub drop_near : (n : ℕ) (xs : List ℕ) → length xs ≤ ROOM → length (drop n xs) ≤ ROOM
-drop_near n xs near = omega (arith, length-drop n xs)
+    before : All GoesOn (front ++ e ∷ []) → All GoesOn front
+    before all = (All-pop GoesOn (front ++ e ∷ []) front (Some e) refl all).0
 
--- a read
-pub serving_more : (n : ℕ) (Ran : List Exchange → Type 0) (inbox longer more : List ℕ) (input mid left output written : Option (List ℕ))
-    → IsServing n Ran inbox input mid output written
-    → Consumes mid left more → longer ≡ inbox ++ more
-    → IsServing n Ran longer input left output written
-serving_more n Ran inbox longer more input mid left output written x consumes e = record {
-  read = x.read ++ more;
-  exchanges = x.exchanges;
-  consumed = Consumes-trans input mid left x.read more x.consumed consumes;
-  ran = rw e (ran_more Ran x.read more x.exchanges inbox x.ran);
-  writes = x.writes;
-  count = x.count;
-  goes = x.goes;
-}
+    same : (front' : List Exchange) (e' : Exchange) → front ++ e ∷ [] ≡ front' ++ e' ∷ [] → All GoesOn front' → All GoesOn front
+    same front' e' is all = let it = same_from_push front front' e e' is in rw it.0 all
 
--- an exchange, behind which the connection goes on
-pub serving_one : (n : ℕ) (Ran Ran' : List Exchange → Type 0) (inbox rest : List ℕ) (input left output written later : Option (List ℕ)) (e : Exchange)
-    → IsServing n Ran inbox input left output written
-    → HasMessage inbox e.message rest → ((es : List Exchange) → Ran es → Ran' (es ++ e ∷ []))
-    → Appends written later (text_of e.answer) → GoesOn e
-    → IsServing (n + 1) Ran' rest input left output later
-serving_one n Ran Ran' inbox rest input left output written later e x has grows appends goes = record {
-  read = x.read;
-  exchanges = x.exchanges ++ e ∷ [];
-  consumed = x.consumed;
-  ran = ran_one Ran Ran' x.read x.exchanges e inbox rest x.ran has grows;
-  writes = rw (texts-snoc x.exchanges e) (Appends-trans output written later (texts x.exchanges) (text_of e.answer) x.writes appends);
-  count = let l = length-append x.exchanges (e ∷ []) in let c = x.count in omega arith;
-  goes = All-push GoesOn x.exchanges e x.goes goes;
-}
+    by : (ending : Option End) → GoesOrEnds ending most (front ++ e ∷ []) left rest last → All GoesOn front × (length front < most)
+    by None is = (before is.0, omega (arith, long, is.1))
+    by (Some Closed) is = (before is.0, omega (arith, long, is.1))
+    by (Some Cut) is = (before is.0, omega (arith, long, is.1))
+    by (Some Refused) is = (before is.0, omega (arith, long, is.1))
+    by (Some Limit) is = (before is.0, omega (arith, long, is.1))
+    by (Some Asked) is = (same is.0.0 is.0.1 is.0.2 is.0.3, omega (arith, long, is.1))
+    by (Some StoreFailed) is = (same is.0.0 is.0.1 is.0.2 is.0.3, omega (arith, long, is.1))
 
--- an exchange, which is the last
-pub served_asked : (n max : ℕ) (Ran Ran' : List Exchange → Type 0) (inbox rest : List ℕ) (input left output written later : Option (List ℕ)) (e : Exchange)
-    → IsServing n Ran inbox input left output written
-    → HasMessage inbox e.message rest → length rest ≤ ROOM → ((es : List Exchange) → Ran es → Ran' (es ++ e ∷ []))
-    → n < max → Appends written later (text_of e.answer) → IsAfter Asks e
-    → IsServed (record { replies = n + 1; end = Asked }) max Ran' input left output later
-served_asked n max Ran Ran' inbox rest input left output written later e x has near grows lt appends asks = record {
-  near = near;
-  read = x.read;
-  exchanges = x.exchanges ++ e ∷ [];
-  rest = rest;
-  last = [];
-  consumed = x.consumed;
-  ran = ran_one Ran Ran' x.read x.exchanges e inbox rest x.ran has grows;
-  writes = rw (append-nil (texts (x.exchanges ++ e ∷ [])), texts-snoc x.exchanges e) (Appends-trans output written later (texts x.exchanges) (text_of e.answer) x.writes appends);
-  count = let l = length-append x.exchanges (e ∷ []) in let c = x.count in omega arith;
-  ends = ((x.exchanges, e, refl, x.goes, asks), (let l = length-append x.exchanges (e ∷ []) in let c = x.count in omega arith), refl);
-}
+some_text : (answer : Answer) → text_of answer ≡ [] → ⊥
+unfolding head_text
+some_text answer e = cc
 
-pub served_failed : (n max : ℕ) (Ran Ran' : List Exchange → Type 0) (inbox rest : List ℕ) (input left output written later : Option (List ℕ)) (e : Exchange)
-    → IsServing n Ran inbox input left output written
-    → HasMessage inbox e.message rest → length rest ≤ ROOM → ((es : List Exchange) → Ran es → Ran' (es ++ e ∷ []))
-    → n < max → Appends written later (text_of e.answer) → IsAfter Fails e
-    → IsServed (record { replies = n + 1; end = StoreFailed }) max Ran' input left output later
-served_failed n max Ran Ran' inbox rest input left output written later e x has near grows lt appends fails = record {
-  near = near;
-  read = x.read;
-  exchanges = x.exchanges ++ e ∷ [];
-  rest = rest;
-  last = [];
-  consumed = x.consumed;
-  ran = ran_one Ran Ran' x.read x.exchanges e inbox rest x.ran has grows;
-  writes = rw (append-nil (texts (x.exchanges ++ e ∷ [])), texts-snoc x.exchanges e) (Appends-trans output written later (texts x.exchanges) (text_of e.answer) x.writes appends);
-  count = let l = length-append x.exchanges (e ∷ []) in let c = x.count in omega arith;
-  ends = ((x.exchanges, e, refl, x.goes, fails), (let l = length-append x.exchanges (e ∷ []) in let c = x.count in omega arith), refl);
-}
+some_refusal : (fault : Fault) → fault_text fault ≡ [] → ⊥
+some_refusal BadHead e = some_text (problem_answer named.BadHead) e
+some_refusal TooLong e = some_text (problem_answer (named.Decision named.TooLong)) e
 
--- the end of what there is to read
-pub served_closed : (n max : ℕ) (Ran : List Exchange → Type 0) (inbox : List ℕ) (input left output written : Option (List ℕ))
-    → IsServing n Ran inbox input left output written → length inbox ≤ ROOM → n < max → IsAtEnd left → inbox ≡ []
-    → IsServed (record { replies = n; end = Closed }) max Ran input left output written
-served_closed n max Ran inbox input left output written x near lt at_end none = record {
-  near = near;
-  read = x.read;
-  exchanges = x.exchanges;
-  rest = inbox;
-  last = [];
-  consumed = x.consumed;
-  ran = x.ran;
-  writes = rw (append-nil (texts x.exchanges)) x.writes;
-  count = let c = x.count in omega arith;
-  ends = (x.goes, (let c = x.count in omega arith), at_end, none, refl);
-}
+-- behind the reply to a text that is no message there is none to an exchange
+told_before : (ending : Option End) (most : ℕ) (es : List Exchange) (left : Option (List ℕ)) (rest last : List ℕ) → GoesOrEnds ending most es left rest last
+    → last ≡ [] → (replies : ℕ) → told_of ending replies ≡ replies - 1
+told_before None most es left rest last is none replies = refl
+told_before (Some Closed) most es left rest last is none replies = refl
+told_before (Some Cut) most es left rest last is none replies = refl
+told_before (Some Refused) most es left rest last (all, few, fault, refused, told) none replies = absurd (some_refusal fault (sym told ∙ none))
+told_before (Some Limit) most es left rest last is none replies = refl
+told_before (Some Asked) most es left rest last is none replies = refl
+told_before (Some StoreFailed) most es left rest last is none replies = refl
 
-pub served_limit : (n max : ℕ) (Ran : List Exchange → Type 0) (inbox : List ℕ) (input left output written : Option (List ℕ))
-    → IsServing n Ran inbox input left output written → length inbox ≤ ROOM → n ≡ max
-    → IsServed (record { replies = n; end = Limit }) max Ran input left output written
-served_limit n max Ran inbox input left output written x near most = record {
-  near = near;
-  read = x.read;
-  exchanges = x.exchanges;
-  rest = inbox;
-  last = [];
-  consumed = x.consumed;
-  ran = x.ran;
-  writes = rw (append-nil (texts x.exchanges)) x.writes;
-  count = let c = x.count in omega arith;
-  ends = (x.goes, (let c = x.count in omega arith), refl);
-}
+pub write_fails : (most : ℕ) (line : Line) (Ran : List Exchange → Type 0) (input left output written : Option (List ℕ)) → 0 < most
+    → IsTurn (opened most) line Ran input left output written → IsTurnFault turn.Write line
+    → IsWriteFault (told_of line.ending line.replies) most Ran input left output written
+write_fails most line Ran input left output written some x unfinished = by x.alone
+  where
+    goes : GoesOrEnds line.ending most x.exchanges left line.inbox x.last
+    goes = goes_by most line Ran input left output written some x
 
-pub served_cut : (n max : ℕ) (Ran : List Exchange → Type 0) (inbox : List ℕ) (input left output written : Option (List ℕ))
-    → IsServing n Ran inbox input left output written → length inbox ≤ ROOM → n < max → IsAtEnd left → inbox ≢ [] → IsCut inbox
-    → IsServed (record { replies = n; end = Cut }) max Ran input left output written
-served_cut n max Ran inbox input left output written x near lt at_end some cut = record {
-  near = near;
-  read = x.read;
-  exchanges = x.exchanges;
-  rest = inbox;
-  last = [];
-  consumed = x.consumed;
-  ran = x.ran;
-  writes = rw (append-nil (texts x.exchanges)) x.writes;
-  count = let c = x.count in omega arith;
-  ends = (x.goes, (let c = x.count in omega arith), at_end, some, cut, refl);
-}
+    -- what is left to write, taken away
+    sent_is : (front : List ℕ) → texts x.exchanges ++ x.last ≡ front ++ line.unsent → x.sent ≡ front
+    sent_is front is = append_cancel_right x.sent front line.unsent (sym x.splits ∙ is)
 
-pub served_refused : (n max : ℕ) (Ran : List Exchange → Type 0) (inbox : List ℕ) (input left output written later : Option (List ℕ)) (fault : Fault)
-    → IsServing n Ran inbox input left output written → length inbox ≤ ROOM → n < max → IsRefused fault inbox
-    → Appends written later (fault_text fault)
-    → IsServed (record { replies = n + 1; end = Refused }) max Ran input left output later
-served_refused n max Ran inbox input left output written later fault x near lt refused appends = record {
-  near = near;
-  read = x.read;
-  exchanges = x.exchanges;
-  rest = inbox;
-  last = fault_text fault;
-  consumed = x.consumed;
-  ran = x.ran;
-  writes = Appends-trans output written later (texts x.exchanges) (fault_text fault) x.writes appends;
-  count = let c = x.count in omega arith;
-  ends = (x.goes, (let c = x.count in omega arith), fault, refused, refl);
-}
+    refused : (part : List ℕ) → x.last ≡ part ++ line.unsent → (x.last ≡ []) ⊎ (line.ending ≡ Some Refused)
+        → IsWriteFault (told_of line.ending line.replies) most Ran input left output written
+    refused part is (inl nothing) = absurd (omega (arith, ap length (sym nothing ∙ is), length-append part line.unsent))
+    refused part is (inr ends) =
+        let ended = rw ends at goes in
+        let sent = sent_is (texts x.exchanges ++ part) (ap (λ (l : List ℕ). texts x.exchanges ++ l) is ∙ sym (append_assoc (texts x.exchanges) part line.unsent)) in
+        record {
+          read = x.read;
+          exchanges = x.exchanges;
+          failed = [];
+          rest = line.inbox;
+          part = part;
+          more = line.unsent;
+          consumed = x.consumed;
+          ran = rw (append-nil x.exchanges) x.ran;
+          writes = rw (← sent) x.writes;
+          near = x.near;
+          unfinished = unfinished;
+          cut = inr (refl, (ended.2, ended.3, sym ended.4 ∙ is));
+          count = rw ends (let e = x.count in omega arith);
+          few = rw ends (let e = x.count in omega (arith, ended.1));
+          goes = ended.0;
+        }
 
--- a read that failed
-pub fault_read : (n most : ℕ) (Ran : List Exchange → Type 0) (inbox : List ℕ) (input left after output written : Option (List ℕ))
-    → IsServing n Ran inbox input left output written → length inbox ≤ ROOM → Keeps left after → n < most → IsCut inbox
-    → IsReadFault n most Ran input after output written
-fault_read n most Ran inbox input left after output written x near keeps few waits = record {
-  near = near;
-  few = few;
-  waits = waits;
-  read = x.read;
-  exchanges = x.exchanges;
-  rest = inbox;
-  consumed = Consumes-kept input left after x.read x.consumed keeps;
-  ran = x.ran;
-  writes = x.writes;
-  count = x.count;
-  goes = x.goes;
-}
-
--- a write that failed
-pub fault_reply : (n most : ℕ) (Ran Ran' : List Exchange → Type 0) (inbox rest : List ℕ) (input left output written later : Option (List ℕ)) (e : Exchange)
-    → IsServing n Ran inbox input left output written
-    → HasMessage inbox e.message rest → length rest ≤ ROOM → ((es : List Exchange) → Ran es → Ran' (es ++ e ∷ []))
-    → IsFrontWritten written later (text_of e.answer) → n < most
-    → IsWriteFault n most Ran' input left output later
-fault_reply n most Ran Ran' inbox rest input left output written later e x has near grows (part, more, is, unfinished, appends) few = record {
-  near = near;
-  few = few;
-  unfinished = unfinished;
-  read = x.read;
-  exchanges = x.exchanges;
-  failed = e ∷ [];
-  rest = rest;
-  part = part;
-  more = more;
-  consumed = x.consumed;
-  ran = ran_one Ran Ran' x.read x.exchanges e inbox rest x.ran has grows;
-  writes = Appends-trans output written later (texts x.exchanges) part x.writes appends;
-  cut = inl (e, refl, is);
-  count = x.count;
-  goes = x.goes;
-}
-
-pub fault_refusal : (n most : ℕ) (Ran : List Exchange → Type 0) (inbox : List ℕ) (input left output written later : Option (List ℕ)) (fault : Fault)
-    → IsServing n Ran inbox input left output written → length inbox ≤ ROOM → IsRefused fault inbox
-    → IsFrontWritten written later (fault_text fault) → n < most
-    → IsWriteFault n most Ran input left output later
-fault_refusal n most Ran inbox input left output written later fault x near refused (part, more, is, unfinished, appends) few = record {
-  near = near;
-  few = few;
-  unfinished = unfinished;
-  read = x.read;
-  exchanges = x.exchanges;
-  failed = [];
-  rest = inbox;
-  part = part;
-  more = more;
-  consumed = x.consumed;
-  ran = rw (append-nil x.exchanges) x.ran;
-  writes = Appends-trans output written later (texts x.exchanges) part x.writes appends;
-  cut = inr (refl, (fault, refused, is));
-  count = x.count;
-  goes = x.goes;
-}
-
--- nothing is read or written yet
-pub serving_none : (Ran : List Exchange → Type 0) (inbox : List ℕ) (input output : Option (List ℕ)) → Ran [] → inbox ≡ [] → IsServing 0 Ran inbox input input output output
-serving_none Ran inbox input output start none = record {
-  read = [];
-  exchanges = [];
-  consumed = Consumes-nil input;
-  ran = rw none (ran_none Ran start);
-  writes = Appends-nil output;
-  count = refl;
-  goes = λ k d lt. absurd (omega arith);
-}
+    by : IsOfLast x.exchanges x.last line.unsent → IsWriteFault (told_of line.ending line.replies) most Ran input left output written
+    by (inl (nobody, nothing)) =
+        let none : [] ≡ x.sent ++ line.unsent = rw (nobody, nothing) at x.splits in
+        absurd (omega (arith, ap length none, length-append x.sent line.unsent))
+    by (inr (inl (front, e, part, is, nothing, told))) =
+        let goes' = goes_before line.ending most front e left line.inbox x.last (rw is at goes) in
+        let all : texts x.exchanges ++ x.last ≡ (texts front ++ part) ++ line.unsent =
+        ap (λ (l : List ℕ). texts x.exchanges ++ l) nothing ∙ append-nil (texts x.exchanges) ∙ ap (λ (es : List Exchange). texts es) is ∙ texts-snoc front e
+        ∙ ap (λ (l : List ℕ). texts front ++ l) told ∙ sym (append_assoc (texts front) part line.unsent) in
+        let sent = sent_is (texts front ++ part) all in
+        let before : told_of line.ending line.replies ≡ line.replies - 1 = told_before line.ending most x.exchanges left line.inbox x.last goes nothing line.replies in
+        let count = x.count in
+        record {
+          read = x.read;
+          exchanges = front;
+          failed = e ∷ [];
+          rest = line.inbox;
+          part = part;
+          more = line.unsent;
+          consumed = x.consumed;
+          ran = rw (← is) x.ran;
+          writes = rw (← sent) x.writes;
+          near = x.near;
+          unfinished = unfinished;
+          cut = inl (e, refl, told);
+          count = omega (arith, ap length is, length-append front (e ∷ []));
+          few = omega (arith, ap length is, length-append front (e ∷ []), goes'.1);
+          goes = goes'.0;
+        }
+    by (inr (inr (part, is))) = refused part is x.refused
 
 -- ---- the same told otherwise of the run
 

@@ -1,19 +1,15 @@
 -- Several connections, and one more turn of one of them.
-use Rattle.std.proofs.Common.{◌≡◌, ℕ, ◌-◌, ◌==◌, Bool, true, false, List, [], ◌∷◌, ◌++◌, refl, sym, ap, ◌∙◌, map, append-nil, eqb-true, arith, Option, Some, None}
-use Rattle.std.specs.Prelude.{All, if◌then◌else◌}
+use Rattle.std.proofs.Common.{◌≡◌, ℕ, ◌-◌, List, [], ◌∷◌, ◌++◌, refl, ap, ◌∙◌, map, Option}
+use Rattle.std.specs.Prelude.{All}
 use Rattle.std.proofs.lemmas.List.{map-append}
 use Rattle.std.proofs.lemmas.List.Elements.{All-nil, All-cons, All-head, All-tail, All-push}
-use Rattle.std.proofs.lemmas.Bool.Decides.{nat_tests}
 use Rattle.sqlite_trees.specs.declared.store.Store.{Ghosts}
 use Rattle.counter_routes.specs.Words.{Meaning}
-use Rattle.shop_chain.specs.Holding.{Chained}
-use Rattle.counter_http.specs.Exchanges.{Exchange, GoesOn, texts, RunsOver}
-use Rattle.counter_http.specs.Served.{IsEnd}
+use Rattle.chain_engine.specs.Holding.{Chained}
+use Rattle.counter_http.specs.Exchanges.{Exchange, RunsOver}
 use Rattle.counter_http.specs.Standings.{Line, opened, IsTurn}
-use Rattle.counter_http.specs.Together.{Till, IsTill, Mixes, comes, goes, nothing, AreServed, AreServedTogether, TurnsServe, till_opened, till_then}
-use Rattle.counter_http.specs.declared.connection.End.{End}
-use Rattle.counter_http.specs.declared.connection.End.TheVariants.{Limit}
-use Rattle.counter_http.proofs.Turns.{MayAnswer, turn_none, turn_then, turn_as}
+use Rattle.counter_http.specs.Together.{Till, IsTill, Mixes, comes, goes, nothing, AreServed, AreServedTogether, till_opened, till_then}
+use Rattle.counter_http.proofs.Turns.{opened_may_answer, turn_none, turn_then, turn_as}
 use Rattle.counter_http.proofs.Runs.{run_starts}
 use Rattle.counter_http.proofs.Following.{run_follows}
 
@@ -25,9 +21,6 @@ all_replaced : {X : Type 0} (P : X → Type 0) (front : List X) (x y : X) (back 
 all_replaced P [] x y back all p = All-cons P y back p (All-tail P x back all)
 all_replaced P (z ∷ front) x y back all p =
     All-cons P z (front ++ y ∷ back) (All-head P z (front ++ x ∷ back) all) (all_replaced P front x y back (All-tail P z (front ++ x ∷ back) all) p)
-
-opened_may_answer : (most : ℕ) → MayAnswer (opened most)
-opened_may_answer most = ((λ live. grind (arith, nat_tests)), omega arith)
 
 joined : (es more one two : List Exchange) → one ≡ es → two ≡ more → one ++ two ≡ es ++ more
 joined es more one two p q = ap (λ (l : List Exchange). l ++ two) p ∙ ap (λ (l : List Exchange). es ++ l) q
@@ -72,42 +65,3 @@ served_together {S} g = record {
   comes = λ meaning old new tills most input output served. served_comes tills most input output served;
   goes = λ meaning old mid new front till back line left written served turn. served_then front till back line left written served turn;
 }
-
--- ---- a connection alone
-
--- why a connection that comes ends, where it does
-opened_ends : (most : ℕ) (end : End) → (opened most).ending ≡ Some end → (end ≡ Limit) × (most ≡ 0)
-opened_ends most end is = by_test (most == 0) refl is
-  where
-    by_test : (none : Bool) → (most == 0) ≡ none → (if none then Some Limit else None) ≡ Some end → (end ≡ Limit) × (most ≡ 0)
-    by_test true e is = (cc, eqb-true most 0 e)
-    by_test false e is = absurd cc
-
-ended : (most : ℕ) (line : Line) (end first : End) (Ran : List Exchange → Type 0) (input left output written : Option (List ℕ))
-    → (x : IsTurn (opened most) line Ran input left output written) → line.ending ≡ Some end → (opened most).ending ≡ Some first
-    → IsEnd end most x.exchanges left line.inbox x.last
-ended most line end first Ran input left output written x ends is =
-    let stop = x.stopped first is in
-    let limit = opened_ends most first is in
-    let same : end ≡ Limit = let e : Some end ≡ Some first = sym ends ∙ stop.4 in cc in
-    rw (same, stop.2, stop.3, limit.1) (All-nil GoesOn, refl, refl)
-
-pub turns_serve : {S : Type 0} (g : Ghosts S) → TurnsServe g
-turns_serve {S} g meaning old new most line end input left output written x empty ends = record {
-  read = x.read;
-  exchanges = x.exchanges;
-  rest = line.inbox;
-  last = x.last;
-  consumed = x.consumed;
-  ran = x.ran;
-  near = x.near;
-  writes = let all : texts x.exchanges ++ x.last ≡ x.sent = x.splits ∙ ap (λ (l : List ℕ). x.sent ++ l) empty ∙ append-nil x.sent in rw all x.writes;
-  count = let e = x.count in omega arith;
-  ends = ends_by (opened most).ending refl;
-}
-  where
-    ends_by : (first : Option End) → (opened most).ending ≡ first → IsEnd end most x.exchanges left line.inbox x.last
-    ends_by None is =
-        let all : most - 0 ≡ most = omega arith in
-        rw (ends, all) at (x.goes is)
-    ends_by (Some first) is = ended most line end first (RunsOver g meaning old new) input left output written x ends is

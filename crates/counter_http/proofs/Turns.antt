@@ -1,27 +1,34 @@
 -- Turns of a connection, one after another.
-use Rattle.std.proofs.Common.{◌≡◌, ◌⊎◌, inl, inr, ℕ, ◌+◌, ◌-◌, ◌<◌, ◌≤◌, List, [], ◌∷◌, ◌++◌, length, arith, length-append, refl, sym, subst, ap, ◌∙◌, append_assoc, append-nil, Option, Some, None}
+use Rattle.std.proofs.Common.{◌≡◌, ◌⊎◌, inl, inr, ℕ, ◌+◌, ◌-◌, ◌<◌, ◌≤◌, List, [], ◌∷◌, ◌++◌, length, drop, length-drop, arith, length-append, refl, sym, subst, ap, ◌∙◌, append_assoc, append-nil, Option, Some, None}
 use Rattle.std.specs.Prelude.{All}
 use Rattle.std.proofs.lemmas.List.{map-append}
 use Rattle.std.proofs.lemmas.List.Elements.{All-nil, All-append}
 use Rattle.std.proofs.lemmas.Grind.{flat_map-append}
+use Rattle.std.proofs.lemmas.Bool.Decides.{nat_tests}
 use Rattle.std.specs.Io.KnownBytes.{Appends, Consumes}
 use Rattle.std.proofs.KnownBytes.{Consumes-nil, Appends-nil, Appends-trans, Consumes-trans}
 use Rattle.http_messages.specs.Message.{Message}
 use Rattle.http_messages.specs.Input.{HasMessage, HasMessages}
+use Rattle.http_messages.specs.Shown.{IsReading}
 use Rattle.http_messages.specs.declared.messages.Fault.{Fault}
+use Rattle.http_messages.specs.declared.messages.Fault.TheVariants.{BadHead, TooLong}
+use Rattle.http_messages.specs.declared.messages.Reading.TheVariants.{Refused as NoMessage}
 use Rattle.http_messages.proofs.StreamLemmas.{HasMessages-append}
 use Rattle.counter_http.specs.Exchanges.{Exchange, text_of, texts, messages_of, GoesOn, HasRun}
 use Rattle.counter_http.specs.Served.{EndsWith, IsRefused, fault_text}
-use Rattle.counter_http.specs.Standings.{Line, GoesOrEnds, IsTurn}
+use Rattle.counter_http.specs.Standings.{Line, opened, IsOfLast, GoesOrEnds, IsTurn}
 use Rattle.counter_http.specs.declared.inbox.TheConstants.{ROOM}
-use Rattle.counter_http.specs.declared.connection.After.{After}
-use Rattle.counter_http.specs.declared.connection.After.TheVariants.{Asks, Fails}
+use Rattle.counter_http.specs.declared.machine.After.{After}
+use Rattle.counter_http.specs.declared.machine.After.TheVariants.{Asks, Fails}
 use Rattle.counter_http.specs.declared.connection.End.{End}
 use Rattle.counter_http.specs.declared.connection.End.TheVariants.{Closed, Cut, Asked, Limit, Refused, StoreFailed}
 
 -- a connection that goes on may answer another request, and what it has read has room
 abbrev pub MayAnswer : Line → Type 0
 MayAnswer line = (line.ending ≡ None → line.replies < line.most) × (length line.inbox ≤ ROOM)
+
+pub opened_may_answer : (most : ℕ) → MayAnswer (opened most)
+opened_may_answer most = ((λ live. grind (arith, nat_tests)), omega arith)
 
 -- 1 where the connection goes on
 abbrev pub live : Option End → ℕ
@@ -33,6 +40,14 @@ none_some end ending goes is = absurd (clash (sym goes ∙ is))
   where
     clash : None ≡ Some end → ⊥
     clash e = cc
+
+pub refused_is : (input : List ℕ) (fault : Fault) → IsReading input (NoMessage fault) → IsRefused fault input
+refused_is input BadHead x = x
+refused_is input TooLong x = x
+
+-- what is left behind a message has room too
+pub drop_near : (n : ℕ) (xs : List ℕ) → length xs ≤ ROOM → length (drop n xs) ≤ ROOM
+drop_near n xs near = omega (arith, length-drop n xs)
 
 -- ---- one step
 
@@ -50,6 +65,7 @@ turn_sent old unsent Ran input output written sent may appends parts start = rec
   writes = appends;
   splits = append-nil old.unsent ∙ parts;
   refused = inl refl;
+  alone = inl (refl, refl);
   near = may.1;
   stopped = λ end is. (refl, refl, refl, refl, is);
   goes = λ live. let lt = may.0 live in rw live (All-nil GoesOn, omega arith, refl);
@@ -76,6 +92,7 @@ turn_read old inbox ending Ran input left output more live consumes grown near g
   writes = Appends-nil output;
   splits = append-nil old.unsent;
   refused = inl refl;
+  alone = inl (refl, refl);
   stopped = λ end is. none_some end old.ending live is;
   goes = λ none. goes;
   count = omega arith;
@@ -105,6 +122,7 @@ turn_answer old new Ran input output e empty live has near told one same goes ra
   writes = Appends-nil output;
   splits = rw (empty, append-nil (text_of e.answer ++ []), append-nil (text_of e.answer)) (sym told);
   refused = inl refl;
+  alone = inr (inl ([], e, [], refl, refl, sym told));
   stopped = λ end is. none_some end old.ending live is;
   goes = λ none. goes;
   count = one;
@@ -125,6 +143,7 @@ turn_refusal old Ran input output fault may empty live refused start = record {
   writes = Appends-nil output;
   splits = ap (λ (l : List ℕ). l ++ fault_text fault) empty;
   refused = inr refl;
+  alone = inr (inr ([], refl));
   stopped = λ end is. none_some end old.ending live is;
   near = may.1;
   goes = λ none. let lt = may.0 live in (All-nil GoesOn, omega arith, fault, refused, refl);
@@ -173,6 +192,30 @@ goes_behind (Some Limit) most n es more left rest last goes few is (all, eq, non
 goes_behind (Some Asked) most n es more left rest last goes few is (ends, le, none) = (ends_behind Asks es more goes ends, omega (arith, length-append es more), none)
 goes_behind (Some StoreFailed) most n es more left rest last goes few is (ends, le, none) = (ends_behind Fails es more goes ends, omega (arith, length-append es more), none)
 
+-- more of what was left is written
+alone_still : (es : List Exchange) (last mid sent unsent : List ℕ) → mid ≡ sent ++ unsent → IsOfLast es last mid → IsOfLast es last unsent
+alone_still es last mid sent unsent parts (inl none) = inl none
+alone_still es last mid sent unsent parts (inr (inl (front, e, part, is, none, told))) =
+    inr (inl (front, e, part ++ sent, is, none, told ∙ ap (λ (l : List ℕ). part ++ l) parts ∙ sym (append_assoc part sent unsent)))
+alone_still es last mid sent unsent parts (inr (inr (part, is))) = inr (inr (part ++ sent, is ∙ ap (λ (l : List ℕ). part ++ l) parts ∙ sym (append_assoc part sent unsent)))
+
+-- and more is answered
+alone_then : (es more : List Exchange) (last behind mid sent unsent : List ℕ) → mid ++ (texts more ++ behind) ≡ sent ++ unsent
+    → (last ≡ []) ⊎ ((more ≡ []) × (behind ≡ [])) → IsOfLast es last mid → IsOfLast more behind unsent → IsOfLast (es ++ more) (last ++ behind) unsent
+alone_then es more last behind mid sent unsent parts order x y = by order y
+  where
+    nothing_more : more ≡ [] → behind ≡ [] → IsOfLast (es ++ more) (last ++ behind) unsent
+    nothing_more none none_too =
+        let parts' : mid ≡ sent ++ unsent = sym (append-nil mid) ∙ (rw (none, none_too) at parts) in
+        rw (none, none_too, append-nil es, append-nil last) (alone_still es last mid sent unsent parts' x)
+
+    by : (last ≡ []) ⊎ ((more ≡ []) × (behind ≡ [])) → IsOfLast more behind unsent → IsOfLast (es ++ more) (last ++ behind) unsent
+    by (inr (none, none_too)) any = nothing_more none none_too
+    by (inl none) (inl (none_more, none_too)) = nothing_more none_more none_too
+    by (inl none) (inr (inl (front, e, part, is, none_too, told))) =
+        inr (inl (es ++ front, e, part, ap (λ (l : List Exchange). es ++ l) is ∙ sym (append_assoc es front (e ∷ [])), ap (λ (l : List ℕ). l ++ behind) none ∙ none_too, told))
+    by (inl none) (inr (inr (part, is))) = inr (inr (part, ap (λ (l : List ℕ). l ++ behind) none ∙ is))
+
 -- one after another: what both read, answered and wrote
 pub turn_then : {old mid new : Line} {First Second Both : List Exchange → Type 0} {input left after output written later : Option (List ℕ)}
     → IsTurn old mid First input left output written → IsTurn mid new Second left after written later
@@ -188,6 +231,7 @@ turn_then {old} {mid} {new} {First} {Second} {Both} {input} {left} {after} {outp
   writes = Appends-trans output written later x.sent y.sent x.writes y.writes;
   splits = joined old.unsent mid.unsent new.unsent x.sent y.sent x.exchanges y.exchanges x.last y.last x.splits y.splits (order x.refused);
   refused = last_of x.refused y.refused;
+  alone = alone_then x.exchanges y.exchanges x.last y.last mid.unsent y.sent new.unsent y.splits (order x.refused) x.alone y.alone;
   near = y.near;
   stopped = λ end is. both (x.stopped end is) (y.stopped end ((x.stopped end is).4));
   goes = λ none. goes_by mid.ending refl (x.goes none);
@@ -263,6 +307,7 @@ turn_as {old} {new} {Ran} {Ran'} {input} {left} {output} {written} x ran = recor
   writes = x.writes;
   splits = x.splits;
   refused = x.refused;
+  alone = x.alone;
   near = x.near;
   stopped = x.stopped;
   goes = x.goes;

@@ -9,8 +9,8 @@ use Rattle.shop_model.specs.Books.{Event}
 use Rattle.shop_model.specs.Histories.{is_store_failure}
 use Rattle.sqlite_trees.specs.declared.store.Store.{Ghosts}
 use Rattle.counter_routes.specs.Words.{Meaning}
-use Rattle.shop_chain.specs.Holding.{Chained}
-use Rattle.shop_chain.specs.Chains.{Takes, Runs}
+use Rattle.chain_engine.specs.Holding.{Chained}
+use Rattle.chain_engine.specs.Chains.{Takes, Runs}
 use Rattle.counter_http.specs.Events.{event_of}
 
 -- a message and the answer to it

@@ -14,8 +14,8 @@ use Rattle.counter_http.specs.declared.connection.End.TheVariants.{Closed, Cut, 
 use Rattle.counter_http.specs.declared.connection.Served.{Served}
 use Rattle.counter_http.specs.declared.connection.ServeFault.{ServeFault}
 use Rattle.counter_http.specs.declared.connection.ServeFault.TheVariants.{Read, Write, Memory}
-use Rattle.counter_http.specs.declared.connection.After.{After}
-use Rattle.counter_http.specs.declared.connection.After.TheVariants.{Goes, Asks, Fails}
+use Rattle.counter_http.specs.declared.machine.After.{After}
+use Rattle.counter_http.specs.declared.machine.After.TheVariants.{Goes, Asks, Fails}
 
 -- what an exchange means for the connection; where the store failed, that is what ends it
 abbrev pub IsAfter : After → Exchange → Type 0
@@ -110,13 +110,3 @@ abbrev pub IsFault : ServeFault → ℕ → (List Exchange → Type 0) → Optio
 IsFault Memory most Ran input left output written = Ran [] × Keeps input left × Keeps output written
 IsFault (Read replies) most Ran input left output written = IsReadFault replies most Ran input left output written
 IsFault (Write replies) most Ran input left output written = IsWriteFault replies most Ran input left output written
-
--- where a connection stands between two requests
-pub record IsServing (replies : ℕ) (Ran : List Exchange → Type 0) (inbox : List ℕ) (input left output written : Option (List ℕ)) : Type 0 where
-  pub read : List ℕ
-  pub exchanges : List Exchange
-  pub consumed : Consumes input left read
-  pub ran : HasRun Ran read exchanges inbox
-  pub writes : Appends output written (texts exchanges)
-  pub count : replies ≡ length exchanges
-  pub goes : All GoesOn exchanges

@@ -1,8 +1,8 @@
 -- A connection that goes on as far as its bytes reach: what some turns of it read, answer and write.
-use Rattle.std.specs.Prelude.{◌≡◌, ◌⊎◌, ℕ, ◌+◌, ◌-◌, ◌<◌, ◌≤◌, ◌==◌, if◌then◌else◌, List, [], ◌++◌, length, All, Option, Some, None}
+use Rattle.std.specs.Prelude.{◌≡◌, ◌⊎◌, ℕ, ◌+◌, ◌-◌, ◌<◌, ◌≤◌, ◌==◌, if◌then◌else◌, List, [], ◌∷◌, ◌++◌, length, All, Option, Some, None}
 use Rattle.std.specs.Io.KnownBytes.{Consumes, Appends}
 use Rattle.http_messages.specs.Input.{IsCut}
-use Rattle.counter_http.specs.Exchanges.{Exchange, texts, GoesOn, HasRun}
+use Rattle.counter_http.specs.Exchanges.{Exchange, text_of, texts, GoesOn, HasRun}
 use Rattle.counter_http.specs.Served.{IsEnd}
 use Rattle.counter_http.specs.declared.connection.End.{End}
 use Rattle.counter_http.specs.declared.connection.End.TheVariants.{Refused, Limit}
@@ -30,9 +30,22 @@ abbrev pub GoesOrEnds : Option End → ℕ → List Exchange → Option (List �
 GoesOrEnds None most exchanges left rest last = All GoesOn exchanges × (length exchanges < most) × (last ≡ [])
 GoesOrEnds (Some end) most exchanges left rest last = IsEnd end most exchanges left rest last
 
+-- behind which of so many requests there is a reply, where something is left to write: of the reply to a text that is no message, or of the last one
+abbrev pub told_of : Option End → ℕ → ℕ
+told_of (Some Refused) replies = replies
+told_of ending replies = replies - 1
+
+-- what is left to write is of the last reply alone: the bytes of those before are written
+abbrev pub IsOfLast : List Exchange → List ℕ → List ℕ → Type 0
+IsOfLast exchanges last unsent =
+    ((exchanges ≡ []) × (last ≡ []))
+    ⊎ (((front : List Exchange) × (e : Exchange) × (part : List ℕ) × (exchanges ≡ front ++ e ∷ []) × (last ≡ []) × (text_of e.answer ≡ part ++ unsent))
+    ⊎ ((part : List ℕ) × (last ≡ part ++ unsent)))
+
 -- Some turns of a connection. They read some bytes; what was left of the earlier ones and these are the messages of the exchanges and a rest. `Ran` is so of
 -- the exchanges. What was left to write, the texts of the answers and `last` (the reply to a text that is no message) are what they wrote and what is left now.
--- Where the connection was to end, nothing more is read or answered. The rest is of no more bytes than a connection has room for.
+-- What is left is of the last reply, behind the others. Where the connection was to end, nothing more is read or answered. The rest is of no more bytes than a
+-- connection has room for.
 pub record IsTurn (old new : Line) (Ran : List Exchange → Type 0) (input left output written : Option (List ℕ)) : Type 0 where
   pub read : List ℕ
   pub exchanges : List Exchange
@@ -43,6 +56,7 @@ pub record IsTurn (old new : Line) (Ran : List Exchange → Type 0) (input left 
   pub writes : Appends output written sent
   pub splits : old.unsent ++ (texts exchanges ++ last) ≡ sent ++ new.unsent
   pub refused : (last ≡ []) ⊎ (new.ending ≡ Some Refused)
+  pub alone : IsOfLast exchanges last new.unsent
   pub stopped : (end : End) → old.ending ≡ Some end → (read ≡ []) × (left ≡ input) × (exchanges ≡ []) × (last ≡ []) × (new.ending ≡ Some end)
   pub goes : old.ending ≡ None → GoesOrEnds new.ending (old.most - old.replies) exchanges left new.inbox last
   pub near : length new.inbox ≤ ROOM

@@ -3,15 +3,15 @@ ghost use Rattle.std.specs.Prelude.{◌≡◌};
 ghost use Rattle.http_messages.specs.Shown.{message_of};
 ghost use Rattle.shop_types.specs.Replies.{seen_reply};
 ghost use Rattle.shop_model.specs.Books.{Books};
-ghost use Rattle.shop_chain.specs.Holding.{holding};
-ghost use Rattle.shop_chain.specs.Chains.{Takes};
+ghost use Rattle.chain_engine.specs.Holding.{holding};
+ghost use Rattle.chain_engine.specs.Chains.{Takes};
 ghost use Rattle.shop_types.specs.Seen.{seen_caller};
 ghost use Rattle.counter_http.specs.Events.{known_token, AnswersNobody, AnswersMessage};
 ghost use Rattle.counter_http.specs.Reads.{HasFixedBody, AnswersRead};
 
+use chain_engine::Chain;
 use counter_routes::{Reading, Routes};
 use http_messages::Request;
-use shop_chain::Chain;
 use shop_types::{Caller, NoMemory, OfficeWords, Refusal, Reply, Token};
 use sqlite::Alter;
 use std::alloc::Global;
@@ -41,18 +41,14 @@ fn answer_nobody<S: Alter>(chain: &Chain<S>) -> Reply
 fn answer_read<S: Alter>(
     chain: &mut Chain<S>,
     caller: &Caller,
-    read: Result<Reading, NoMemory>,
+    read: &Result<Reading, NoMemory>,
 ) -> Reply
-    requires { HasFixedBody read }
-    ensures { Takes S.Store chain.old chain.new (AnswersRead (seen_caller caller.now) read (seen_reply result)) }
+    requires { HasFixedBody read.now }
+    ensures { Takes S.Store chain.old chain.new (AnswersRead (seen_caller caller.now) read.now (seen_reply result)) }
 {
     match read {
-        Ok(Reading::Asked(request)) => {
-            let reply = chain.answer(caller, &request);
-            drop(request);
-            reply
-        }
-        Ok(Reading::Refused(refusal)) => Reply::refused(refusal),
+        Ok(Reading::Asked(request)) => chain.answer(caller, request),
+        Ok(Reading::Refused(refusal)) => Reply::refused(*refusal),
         Err(_) => Reply::refused(Refusal::Memory),
     }
 }
@@ -73,7 +69,9 @@ pub fn answer<O: OfficeWords, S: Alter>(
     match chain.caller(&token) {
         Ok(caller) => {
             let read = routes.read(alloc, words, message, caller);
-            answer_read(chain, &caller, read)
+            let reply = answer_read(chain, &caller, &read);
+            drop(read);
+            reply
         }
         Err(refusal) => Reply::refused(refusal),
     }

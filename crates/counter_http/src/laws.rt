@@ -22,7 +22,7 @@ pub fn connections_are_served_together<S: Alter>()
 {}
 
 /// A connection that came to its end by turns, with nothing left to write, was served as `serve` says of one that is served alone.
-#[tactic(auto, using(crate::proofs::Together::turns_serve))]
+#[tactic(auto, using(crate::proofs::Serving::turns_serve))]
 pub fn turns_serve_alike<S: Alter>()
     ensures { TurnsServe S.Store }
 {}

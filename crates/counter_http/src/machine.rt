@@ -1,20 +1,23 @@
 //! A connection that goes on as far as its bytes reach, so that one that waits holds no other.
 ghost use Rattle.std.specs.Prelude.{◌≡◌, ◌⊎◌, ℕ, ◌+◌, ◌<◌, ◌≤◌, true, false, List, [], ◌∷◌, length, Option, None, Some, IfOk, IfErr, OnErr};
 ghost use Rattle.std.specs.Io.KnownBytes.{IsAtEnd};
+ghost use Rattle.http_messages.specs.Shown.{message_of};
 ghost use Rattle.http_messages.specs.Input.{IsCut};
+ghost use Rattle.shop_model.specs.Histories.{is_store_failure};
+ghost use Rattle.shop_types.specs.Replies.{seen_reply};
 ghost use Rattle.counter_http.specs.declared.inbox.TheConstants.{ROOM};
-ghost use Rattle.counter_http.specs.Exchanges.{Exchange, RunsOver};
-ghost use Rattle.counter_http.specs.Served.{IsAfter};
-ghost use Rattle.counter_http.specs.Standings.{Line, opened, GoesOrEnds, IsTurn, IsStanding, IsTurnFault};
+ghost use Rattle.counter_http.specs.Exchanges.{Exchange, text_of, RunsOver};
+ghost use Rattle.counter_http.specs.Served.{IsAfter, fault_text};
+ghost use Rattle.counter_http.specs.Standings.{Line, opened, told_of, GoesOrEnds, IsTurn, IsStanding, IsTurnFault};
 
 use crate::answer::answer;
-use crate::connection::{After, End, after_reply, fault_reply};
+use crate::connection::End;
 use crate::inbox::{Inbox, ROOM};
 use crate::unsent::Unsent;
+use chain_engine::Chain;
 use counter_routes::Routes;
-use http_messages::{Reading, read_request};
-use shop_chain::Chain;
-use shop_types::OfficeWords;
+use http_messages::{Fault, Reading, Request, read_request};
+use shop_types::{OfficeWords, Refusal, Reply};
 use sqlite::Alter;
 use std::alloc::{AllocError, Global};
 use std::io::{self, ErrorKind, Read, Write};
@@ -76,6 +79,45 @@ impl Model for Connection {
     ghost invariant = { λ c. (c.ending ≡ None → c.replies < c.most) × (length c.inbox ≤ ROOM) };
 }
 
+/// What a reply means for the connection.
+#[derive(Clone, Copy)]
+pub(crate) enum After {
+    Goes,
+    Asks,
+    Fails,
+}
+
+/// Whether the reply says that the store failed.
+#[tactic(auto, unfolding(shop_model::specs::Json::escape_byte))]
+fn is_failure(reply: &Reply) -> bool
+    ensures { result ≡ is_store_failure (seen_reply reply.now) }
+{
+    reply.status == 503 && reply.body_bytes() == b"{\"refused\":\"store_failed\"}".as_slice()
+}
+
+/// What the reply to the request means for the connection.
+fn after_reply(reply: &Reply, request: &Request<'_>) -> After
+    ensures { IsAfter result (record { message = message_of request.now; answer = seen_reply reply.now }) }
+{
+    if is_failure(reply) {
+        After::Fails
+    } else if request.closes {
+        After::Asks
+    } else {
+        After::Goes
+    }
+}
+
+/// The reply to a text that is no message.
+fn fault_reply(fault: Fault) -> Reply
+    ensures { text_of (seen_reply result) ≡ fault_text fault }
+{
+    match fault {
+        Fault::BadHead => Reply::refused(Refusal::BadHead),
+        Fault::TooLong => Reply::refused(Refusal::TooLong),
+    }
+}
+
 /// Why a connection of which so many requests may still be answered ends behind the next of them, where it does.
 fn ending_of(after: After, left: u32) -> Option<End>
     requires { 0 < left }
@@ -120,6 +162,17 @@ impl Connection {
         ensures { result ≡ self.now.replies }
     {
         self.replies
+    }
+
+    /// How many requests have their replies, where something is left to write.
+    pub(crate) fn told(&self) -> u32
+        ensures { result ≡ told_of self.now.ending self.now.replies }
+    {
+        match self.ending {
+            // What is left is of the reply to a text that is no message.
+            Some(End::Refused) => self.replies,
+            Some(_) | None => self.replies.saturating_sub(1),
+        }
     }
 
     /// Writes what is left of a reply, as far as the writer takes it. Whether nothing is left.

@@ -1,14 +1,23 @@
 -- Values that are read one after the other: what reads some of them together reads the same.
 use Rattle.std.proofs.Common.{◌≡◌, ◌∙◌, refl, ℕ, List, Option, Some, None, codes}
+use Rattle.std.specs.Prelude.{Result, Ok, Err}
+use Rattle.std.specs.Result.{IsErrAnd}
 use Rattle.clap.specs.Words.{Row, Text}
 use Rattle.shop_types.specs.declared.catalogue.Actor.{Actor}
 use Rattle.shop_types.specs.declared.catalogue.Branch.{Branch}
 use Rattle.shop_types.specs.declared.film.Film.{Film}
 use Rattle.shop_types.specs.declared.person.Person.{Person}
+use Rattle.shop_types.specs.declared.line.Usage.{Usage}
+use Rattle.shop_types.specs.declared.line.Usage.TheVariants.{Memory}
 use Rattle.office_words.specs.declared.acts.Contact.{Contact}
 use Rattle.office_words.specs.declared.acts.FilmFacts.{FilmFacts}
-use Rattle.office_words.specs.Given.{with_value, text_given, token_given, row_given, period_given, rate_given, replacement_given, minutes_given, rating_given, features_given}
+use Rattle.office_words.specs.Given.{Reads, with_value, text_given, token_given, row_given, period_given, rate_given, replacement_given, minutes_given, rating_given, features_given}
 use Rattle.office_words.specs.Acts.{actor_of, contact_of, facts_of, branch_of, person_of, film_of}
+
+-- an error that is handed on
+pub handed_on : {A : Type 0} (e : Usage) (r : Result A Usage) (found : Option A) → IsErrAnd r (λ x. x ≡ e) → (¬ (e ≡ Memory) → found ≡ None) → Reads r found
+handed_on e (Ok x) found is h = absurd is
+handed_on e (Err y) found is h = λ other. h (λ memory. other (is ∙ memory))
 
 -- nothing is made where each value leads to nothing
 pub inside : {A B : Type 0} (o : Option A) (f : A → Option B) → ((x : A) → f x ≡ None) → with_value o f ≡ None

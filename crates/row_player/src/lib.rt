@@ -2,19 +2,26 @@
 #![tactic(auto)]
 
 mod audited;
+mod calls;
+mod chains;
 mod exchange;
 mod fault;
+mod files;
+mod films;
+mod flips;
 mod names;
 mod program;
 mod quoted;
 mod row;
+mod side_by_side;
+mod sockets;
 mod stage;
+mod stops;
 mod talk;
 mod texts;
+mod tills;
 mod words;
 
-pub use exchange::Told;
 pub use fault::Fault;
-pub use stage::{How, Ran, Stage, WHOLE};
-pub use talk::{Sum, Talk};
-pub use words::{remove_files, write_file};
+pub use files::play_all;
+pub use stage::{Calls, Image, Left, MOST_CALLS, NEVER, Opening, Pieces, Ran, Room, Stage};

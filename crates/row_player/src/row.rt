@@ -1,5 +1,7 @@
 //! One row as it is played, line by line.
 use crate::audited::Audited;
+use crate::calls::call;
+use crate::chains::Chains;
 use crate::exchange::Exchange;
 use crate::fault::Fault;
 use crate::names::Names;
@@ -129,8 +131,8 @@ impl Row {
         self.counts();
     }
 
-    fn asks<S: Stage>(&mut self, stage: &mut S, input: &[u8]) -> Result<(), Fault> {
-        let told = stage.tell(input, self.how)?;
+    fn asks<S: Stage>(&mut self, chains: &mut Chains<'_, S>, input: &[u8]) -> Result<(), Fault> {
+        let told = chains.tell(input, self.how)?;
         let exchange = Exchange::new(self.alloc, told, self.how.room);
         self.how = WHOLE;
         self.is_how_said = false;
@@ -147,9 +149,10 @@ impl Row {
         names.filled(text)
     }
 
+    /// Sends a request: its method, its path, and its body if it has one.
     fn sends<S: Stage>(
         &mut self,
-        stage: &mut S,
+        chains: &mut Chains<'_, S>,
         names: &Names,
         who: &str,
         line: &str,
@@ -157,41 +160,20 @@ impl Row {
         let Some((method, rest)) = line.split_once(' ') else {
             return Err(Fault::Line("a method and a path are wanted"));
         };
-        let input = self.message(names, who, method, rest)?;
-        self.asks(stage, input.as_slice())
-    }
-
-    /// The bytes of a request, by its path and its body.
-    fn message(
-        &self,
-        names: &Names,
-        who: &str,
-        method: &str,
-        rest: &str,
-    ) -> Result<Vec<u8>, Fault> {
-        let Some((path, body)) = rest.split_once(' ') else {
-            return self.request(names, who, method, rest, None);
+        let (path, body) = match rest.split_once(' ') {
+            Some((path, body)) => (path, Some(self.bytes_of(names, body)?)),
+            None => (rest, None),
         };
-        let body = self.bytes_of(names, body)?;
-        self.request(names, who, method, path, Some(body.as_slice()))
-    }
-
-    fn request(
-        &self,
-        names: &Names,
-        who: &str,
-        method: &str,
-        path: &str,
-        body: Option<&[u8]>,
-    ) -> Result<Vec<u8>, Fault> {
         let path = names.filled(path)?;
-        request(self.alloc, who, method, path.as_slice(), body)
+        let body = body.as_ref().map(|body| body.as_slice());
+        let input = request(self.alloc, who, method, path.as_slice(), body)?;
+        self.asks(chains, input.as_slice())
     }
 
     /// Bytes that are sent as they are.
-    fn sends_raw<S: Stage>(&mut self, stage: &mut S, text: &str) -> Result<(), Fault> {
+    fn sends_raw<S: Stage>(&mut self, chains: &mut Chains<'_, S>, text: &str) -> Result<(), Fault> {
         let input = unquoted(self.alloc, text)?;
-        self.asks(stage, input.as_slice())
+        self.asks(chains, input.as_slice())
     }
 
     fn ends(&mut self, line: &str) -> Result<(), Fault> {
@@ -220,70 +202,57 @@ impl Row {
         Ok(())
     }
 
-    /// Calls that no request makes are an exchange.
-    fn calls<S: Stage>(&mut self, stage: &mut S, name: &str) -> Result<(), Fault> {
-        self.counts();
-        stage.call(name)
-    }
-
     /// The log fails so many calls before the next connection has been answered.
-    fn fails<S: Stage>(&mut self, stage: &mut S, fewer: &str) -> Result<(), Fault> {
+    fn fails<S: Stage>(&mut self, chains: &mut Chains<'_, S>, fewer: &str) -> Result<(), Fault> {
         let Ok(fewer) = fewer.parse::<u64>() else {
             return Err(Fault::Line("a count is wanted"));
         };
-        stage.fail(fewer);
+        chains.fewer = Some(fewer);
         self.is_how_said = true;
         Ok(())
     }
 
-    /// The next connection, opening or migration is stopped at each call of the chain's disks in turn.
-    fn stops<S: Stage>(&mut self, stage: &mut S) -> Result<(), Fault> {
-        stage.stop();
-        self.is_stop_said = true;
-        Ok(())
-    }
-
-    /// An opening that has to be refused is an exchange: its fault is compared.
-    fn reopens<S: Stage>(&mut self, stage: &mut S, fault: &str) -> Result<(), Fault> {
+    /// An opening that has to be refused is an exchange: its fault is compared. So is any migration.
+    fn reopens<S: Stage>(
+        &mut self,
+        chains: &mut Chains<'_, S>,
+        word: &str,
+        fault: &str,
+    ) -> Result<(), Fault> {
+        self.is_stop_said = false;
+        if word == "migrate" {
+            self.counts();
+            return chains.migrate(fault);
+        }
         if !fault.is_empty() {
             self.counts();
         }
-        self.is_stop_said = false;
-        stage.reopen(fault)
-    }
-
-    /// A migration is an exchange: it succeeds, or is refused with the fault that is named.
-    fn migrates<S: Stage>(&mut self, stage: &mut S, fault: &str) -> Result<(), Fault> {
-        self.counts();
-        self.is_stop_said = false;
-        stage.migrate(fault)
+        chains.reopen(fault)
     }
 
     /// What an audit of the tables says is an exchange: its text is compared.
     fn audits<S: Stage>(
         &mut self,
-        stage: &mut S,
+        chains: &mut Chains<'_, S>,
         names: &Names,
         word: &str,
         body: &str,
     ) -> Result<(), Fault> {
         let wanted = self.bytes_of(names, body)?;
-        let told = match word {
-            "audit" => stage.audit()?,
-            _ => stage.audit_custody()?,
-        };
+        let told = chains.audit(word == "custody")?;
         self.has_asked(Asked::Tables(Audited { told, wanted }));
         Ok(())
     }
 
-    fn words_of(&self, names: &Names, line: &str) -> Result<Vec<String>, Fault> {
+    fn runs<S: Stage>(
+        &mut self,
+        chains: &mut Chains<'_, S>,
+        names: &Names,
+        line: &str,
+    ) -> Result<(), Fault> {
         let line = names.filled(line)?;
-        words_of(self.alloc, line.as_slice())
-    }
-
-    fn runs<S: Stage>(&mut self, stage: &mut S, names: &Names, line: &str) -> Result<(), Fault> {
-        let words = self.words_of(names, line)?;
-        let ran = stage.run(words.as_slice(), self.input.as_slice());
+        let words = words_of(self.alloc, line.as_slice())?;
+        let ran = chains.stage.run(words.as_slice(), self.input.as_slice());
         let run = Run::new(self.alloc, ran);
         self.input.clear();
         self.is_input_said = false;
@@ -342,24 +311,30 @@ impl Row {
     /// Plays a line, by its first word and what stands behind it.
     pub fn plays<S: Stage>(
         &mut self,
-        stage: &mut S,
+        chains: &mut Chains<'_, S>,
         names: &mut Names,
         word: &str,
         rest: &str,
     ) -> Result<(), Fault> {
         match word {
-            "chain" => stage.begin(rest),
-            "fails" => self.fails(stage, rest),
-            "stops" => self.stops(stage),
-            "reopen" => self.reopens(stage, rest),
-            "migrate" => self.migrates(stage, rest),
-            "save" => stage.save(),
-            "sql" => stage.change(rest),
-            "audit" | "custody" => self.audits(stage, names, word, rest),
-            "call" => self.calls(stage, rest),
-            "raw" => self.sends_raw(stage, rest),
-            "words" => self.runs(stage, names, rest),
-            _ if word.len() == 1 => self.sends(stage, names, word, rest),
+            "chain" => chains.begin(rest),
+            "fails" => self.fails(chains, rest),
+            "stops" => {
+                chains.is_swept = true;
+                self.is_stop_said = true;
+                Ok(())
+            }
+            "reopen" | "migrate" => self.reopens(chains, word, rest),
+            "save" => chains.save(),
+            "sql" => chains.change(rest),
+            "audit" | "custody" => self.audits(chains, names, word, rest),
+            "call" => {
+                self.counts();
+                call(chains, rest)
+            }
+            "raw" => self.sends_raw(chains, rest),
+            "words" => self.runs(chains, names, rest),
+            _ if word.len() == 1 => self.sends(chains, names, word, rest),
             _ => self.notes(names, word, rest),
         }
     }

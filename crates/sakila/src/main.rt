@@ -16,7 +16,7 @@ fn words_of(rt: &HostRuntime) -> io::Result<Vec<String>> {
 
 /// What the program does for these words.
 fn run(rt: &HostRuntime, words: &[String]) -> u8 {
-    sakila_program::run(
+    sakila_office::run(
         rt,
         words,
         &mut rt.stdin(),

@@ -2,7 +2,6 @@
 use Rattle.std.proofs.Common.{◌≡◌, ◌+◌, ◌<◌, ◌≤◌, ◌^◌, ◌&&◌, ℕ, List, [], ◌∷◌, map, filter, length, true, Some, None, Ok, Err, Result, refl, sym, ap, subst, ◌∙◌, arith}
 use Rattle.std.specs.Prelude.{⊤, slice_get, IfOk, Option}
 use Rattle.std.specs.List.{AllByRecursion}
-use Rattle.std.proofs.lemmas.Result.{IfOk-weaker}
 use Rattle.sqlite_value.specs.Order as sql
 use Rattle.sqlite_value.specs.Order.{column}
 use Rattle.sqlite.specs.State.{State, Shown, ExecutesInside}
@@ -135,9 +134,7 @@ told_first rows slice P (Err e) same told none some = tt
 told_first rows slice P (Ok None) same told none some = none (ap (λ rs. slice_get rs 0) (sym same) ∙ sym told)
 told_first rows slice P (Ok (Some v)) same told none some = some told.0 v (ap (λ rs. slice_get rs 0) (sym same) ∙ sym told.1) told.2
 
--- what is told of a count, where there is one
-pub told_number : {E : Type 0} {Fits : sql.Row → ℕ → Type 0} (rows slice : List sql.Row) (P : ℕ → Type 0) (found : Option ℕ) (r : Result ℕ E) → slice ≡ rows → TellsFirst Fits slice found
-    → IfOk r (λ n. (found ≡ Some n) × (n ≤ 1_000_000)) → ((row : sql.Row) (n : ℕ) → slice_get rows 0 ≡ Some row → Fits row n → P n) → IfOk r P
-told_number {Fits = Fits} rows slice P found r same told fits some = IfOk-weaker r _ P (λ n is.
-    let it = subst (TellsFirst Fits slice) is.0 told in
-    some it.0 n (ap (λ rs. slice_get rs 0) (sym same) ∙ sym it.1) it.2) fits
+-- the number of the first row, where that is a count
+pub first_count : {Fits : sql.Row → ℕ → Type 0} → ((row : sql.Row) (n : ℕ) → Fits row n → column row 0 ≡ number_value n) → (rows : List sql.Row) (found : Option ℕ) (n : ℕ) → TellsFirst Fits rows found → found ≡ Some n
+    → (row : sql.Row) × (Some row ≡ slice_get rows 0) × (column row 0 ≡ number_value n)
+first_count {Fits = Fits} fits rows found n told is = let it = subst (TellsFirst Fits rows) is told in (it.0, it.1, fits it.0 n it.2)

@@ -1,7 +1,8 @@
-ghost use Rattle.std.specs.Prelude.{◌≡◌, ◌≤◌, ◌+◌, ⊤, [], ◌∷◌, Some, IfOk, OnOk, is_none, map, filter, length, option_to_list};
+ghost use Rattle.std.specs.Prelude.{◌≡◌, ◌≤◌, ◌+◌, ⊤, [], ◌∷◌, List, Some, IfOk, OnOk, is_none, map, filter, option_to_list, slice_get};
 ghost use Rattle.sqlite.specs.Held.{state};
-ghost use Rattle.sqlite.specs.State.{HasCleanDisk};
-ghost use Rattle.sqlite_value.specs.Order.{column};
+ghost use Rattle.sqlite.specs.State.{HasCleanDisk, Shown};
+ghost use Rattle.sqlite.specs.Values.{bound};
+ghost use Rattle.sqlite_value.specs.Order.{Row as SqlRow, column};
 ghost use Rattle.sql_rows.specs.Calls.{StaysInside};
 ghost use Rattle.sql_rows.specs.Rows.{number_value};
 ghost use Rattle.shop_model.specs.Rows.{numbered, of};
@@ -11,11 +12,11 @@ ghost use Rattle.shop_schema.specs.Counts.{count_in, is_count, kept_kind, raise,
 ghost use Rattle.shop_schema.specs.Shop.{Reads, Tallies};
 ghost use Rattle.shop_ledger.specs.Counted.{kind_number, caller_of, kind_of, counted, IsCount, CountsOnce, IsOutBy};
 
-use shop_schema::{first_of, row_number_at, row_numbers_in};
+use shop_schema::{query_first, row_number_at, row_numbers_in};
 use shop_types::{BranchNo, CopyNo, RentalNo};
 use sql_rows::{StoreFault, execute, number_at, query};
-use sqlite::types::ToSql;
-use sqlite::{Alter, Row, Transaction};
+use sqlite::types::{ToSql, ValueRef};
+use sqlite::{Alter, Transaction};
 use std::alloc::Global;
 
 /// The kinds of rows that are counted for each branch.
@@ -85,6 +86,21 @@ pub(crate) fn fitting(found: Option<u32>) -> Result<u32, StoreFault>
     }
 }
 
+/// The count in the first row that a query shows. Where there is none, or more than a million, the fault is `Failed`.
+fn count_shown<S: Alter>(
+    tx: &mut Transaction<'_, S>,
+    text: &str,
+    params: &[ValueRef<'_>],
+) -> Result<u32, StoreFault>
+    ensures inside { StaysInside S.Store tx.old.conn tx.new.conn result }
+    ensures shown { HasCleanDisk (state S.Store tx.new.conn.now) → IfOk result (λ n. (rows : List SqlRow)
+        × Shown text.now (bound params.now) (state S.Store tx.old.conn.now) (state S.Store tx.new.conn.now) rows
+        × (row : SqlRow) × (Some row ≡ slice_get rows 0) × (column row 0 ≡ number_value n)) }
+    ensures bound { IfOk result (λ n. n ≤ 1_000_000) }
+{
+    fitting(query_first(tx, text, params, |row| number_at(row, 0))?)
+}
+
 const SELECT_COUNT: &str = "SELECT last FROM counter WHERE caller = ?1 AND kind = ?2";
 
 /// What the counter says. One row is read, however many it counts.
@@ -93,12 +109,11 @@ pub fn count_of<S: Alter>(tx: &mut Transaction<'_, S>, count: Count) -> Result<u
     ensures count { Finds (state S.Store tx.old.conn.now) (state S.Store tx.new.conn.now) result (λ n books. n ≡ counted count books) }
     ensures bound { IfOk result (λ n. n ≤ 1_000_000) }
 {
-    let rows = query(
+    count_shown(
         tx,
         SELECT_COUNT,
         &[count.caller().to_sql(), count.kind().to_sql()],
-    )?;
-    fitting(first_of(rows.as_slice(), |row| number_at(row, 0))?)
+    )
 }
 
 const UPDATE_COUNT: &str =
@@ -117,7 +132,7 @@ pub fn take_numbers<S: Alter>(
         (λ counts. map (λ it. it.last + more) (filter (is_count (caller_of count) (kind_number (kind_of count))) counts.counters) ≡ last ∷ [])) }
     ensures bound { IfOk result (λ last. last ≤ 1_000_000) }
 {
-    let rows = query(
+    count_shown(
         tx,
         UPDATE_COUNT,
         &[
@@ -125,8 +140,7 @@ pub fn take_numbers<S: Alter>(
             count.kind().to_sql(),
             more.to_sql(),
         ],
-    )?;
-    fitting(first_of(rows.as_slice(), |row| number_at(row, 0))?)
+    )
 }
 
 const SELECT_OUT: &str = "SELECT rental FROM out_copy WHERE branch = ?1 AND copy = ?2";
@@ -141,12 +155,12 @@ pub fn out_at<S: Alter>(
     ensures found { Finds (state S.Store tx.old.conn.now) (state S.Store tx.new.conn.now) result
         (λ out books. option_to_list out ≡ map (λ it. it.0) (filter (λ it. keeps_out copy it.1) (numbered (of branch books.rentals)))) }
 {
-    let rows = query(
+    query_first(
         tx,
         SELECT_OUT,
         &[branch.get().to_sql(), copy.get().to_sql()],
-    )?;
-    first_of(rows.as_slice(), |row| row_number_at(row, 0))
+        |row| row_number_at(row, 0),
+    )
 }
 
 const SELECT_COPIES_OUT: &str = "SELECT copy FROM out_copy WHERE branch = ?1 ORDER BY rental";

@@ -9,9 +9,9 @@ ghost use Rattle.shop_types.specs.Verdicts.{seen_kept as told};
 ghost use Rattle.shop_schema.specs.Calls.{Finds};
 ghost use Rattle.shop_ledger.specs.Seen.{seen_kept, by_form, owner_number, IsOwner, kept_under, Keeps};
 
-use shop_schema::first_of;
+use shop_schema::query_first;
 use shop_types::{BranchNo, KeptFound, Key};
-use sql_rows::{Bytes, StoreFault, Words, bytes_at, execute, query, words_at};
+use sql_rows::{Bytes, StoreFault, Words, bytes_at, execute, words_at};
 use sqlite::types::ToSql;
 use sqlite::{Alter, Row, Transaction};
 
@@ -77,12 +77,12 @@ pub fn kept_at<S: Alter>(
     ensures found { Finds (state S.Store tx.old.conn.now) (state S.Store tx.new.conn.now) result
         (λ kept books. option_map seen_kept kept ≡ head (kept_under owner key.now books)) }
 {
-    let rows = query(
+    query_first(
         tx,
         SELECT_KEPT,
         &[owner.number().to_sql(), key.as_str().to_sql()],
-    )?;
-    first_of(rows.as_slice(), kept_in)
+        kept_in,
+    )
 }
 
 const INSERT_KEPT: &str =

@@ -1,18 +1,18 @@
 -- Each command of head office keeps what holds of the catalogue.
-use Rattle.std.proofs.Common.{◌≡◌, inl, inr, ℕ, ◌+◌, ◌≤◌, List, [], ◌∷◌, ◌++◌, filter, length, true, false, not, None, Some, refl, ◌∙◌, arith, length-append}
+use Rattle.std.proofs.Common.{◌≡◌, ap, inl, inr, ℕ, ◌+◌, ◌≤◌, List, [], ◌∷◌, ◌++◌, filter, length, true, false, not, None, Some, refl, ◌∙◌, arith, length-append}
 use Rattle.std.specs.Prelude.{◌==◌, ◌&&◌, nat_le}
 use Rattle.std.specs.Option.{option_to_list}
 use Rattle.std.specs.List.{list_any, list_all}
 use Rattle.std.specs.Str.{bytes_eq}
-use Rattle.std.proofs.lemmas.Bool.{cases_Bool, or_parts, not-false}
+use Rattle.std.proofs.lemmas.Bool.{cases_Bool, or_parts, not-false, true≢false, false≢true}
 use Rattle.shop_model.specs.Rows.{at, lacks, is_empty, set_at}
 use Rattle.shop_model.specs.Values.{Text, City, Film, Cast, Branch, Staff, Customer, Copy, Rental, Payment, Arrival, OfficeAct, AddCountry, AddCity, AddLanguage, AddCategory, AddActor, AddFilm, PriceFilm, WithdrawFilm, AddCast, AddBranch, AddStaff, StaffLeaves, SetManager, ChooseRule, OfficeCommand, Rules}
-use Rattle.shop_model.specs.Refusals.{Refusal, Full}
+use Rattle.shop_model.specs.Refusals.{Full}
 use Rattle.shop_model.specs.Shop.{OfficeKept, Catalogue, Shop, same_office}
 use Rattle.shop_model.specs.Verdict.{Verdict, Again, Refused, Accepted, first, office_refusals, office_resent, office_verdict}
 use Rattle.shop_model.specs.Machine.{office_acted, office_done, office_text}
 use Rattle.shop_model.specs.Links.{has_row, are_different, is_staff_of, IsLinkedShop, NamesRowsOf, HasSharedSizes, HasNoDoubles, IsGoodCatalogue}
-use Rattle.shop_model.proofs.Isolation.{NoneHold, none_hold}
+use Rattle.shop_model.proofs.Isolation.{is_accepted, NoneHold, none_hold}
 use Rattle.shop_model.proofs.GoodShops.{all_more, all_weaker, all_set, length_set, key_room}
 use Rattle.shop_model.proofs.LinkLemmas.{has_more, has_set, any_at_more, any_at_set, all_at_more, all_at_set, different_more, different_set, none_left}
 use Rattle.shop_model.proofs.LinkedShops.{is_there}
@@ -37,12 +37,11 @@ office_grows (AddActor actor) it = record { countries = λ n h. h; cities = λ n
 office_grows (AddFilm film) it = record { countries = λ n h. h; cities = λ n h. h; languages = λ n h. h; categories = λ n h. h; actors = λ n h. h; films = λ n h. has_more n it.films ((record film { withdrawn = false }) ∷ []) h; branches = λ n h. h; staff = λ c n h. h }
 office_grows (PriceFilm f rate) it = record { countries = λ n h. h; cities = λ n h. h; languages = λ n h. h; categories = λ n h. h; actors = λ n h. h; films = λ n h. has_set n f (λ (x : Film). record x { rate = rate }) it.films ∙ h; branches = λ n h. h; staff = λ c n h. h }
 office_grows (WithdrawFilm f) it = record { countries = λ n h. h; cities = λ n h. h; languages = λ n h. h; categories = λ n h. h; actors = λ n h. h; films = λ n h. has_set n f (λ (x : Film). record x { withdrawn = true }) it.films ∙ h; branches = λ n h. h; staff = λ c n h. h }
-office_grows (AddCast cast) it = record { countries = λ n h. h; cities = λ n h. h; languages = λ n h. h; categories = λ n h. h; actors = λ n h. h; films = λ n h. h; branches = λ n h. h; staff = λ c n h. h }
 office_grows (AddBranch branch) it = record { countries = λ n h. h; cities = λ n h. h; languages = λ n h. h; categories = λ n h. h; actors = λ n h. h; films = λ n h. h; branches = λ n h. has_more n it.branches ((record branch { manager = None }) ∷ []) h; staff = λ c n h. h }
 office_grows (AddStaff staff) it = record { countries = λ n h. h; cities = λ n h. h; languages = λ n h. h; categories = λ n h. h; actors = λ n h. h; films = λ n h. h; branches = λ n h. h; staff = λ c n h. any_at_more (λ (x : Staff). x.branch == c) n it.staff ((record staff { gone = false }) ∷ []) h }
 office_grows (StaffLeaves s) it = record { countries = λ n h. h; cities = λ n h. h; languages = λ n h. h; categories = λ n h. h; actors = λ n h. h; films = λ n h. h; branches = λ n h. h; staff = λ c n h. any_at_set (λ (x : Staff). x.branch == c) n s (λ (x : Staff). record x { gone = true }) it.staff (λ x. refl) ∙ h }
 office_grows (SetManager b s) it = record { countries = λ n h. h; cities = λ n h. h; languages = λ n h. h; categories = λ n h. h; actors = λ n h. h; films = λ n h. h; branches = λ n h. has_set n b (λ (x : Branch). record x { manager = Some s }) it.branches ∙ h; staff = λ c n h. h }
-office_grows (ChooseRule rule) it = record { countries = λ n h. h; cities = λ n h. h; languages = λ n h. h; categories = λ n h. h; actors = λ n h. h; films = λ n h. h; branches = λ n h. h; staff = λ c n h. h }
+office_grows act it = record { countries = λ n h. h; cities = λ n h. h; languages = λ n h. h; categories = λ n h. h; actors = λ n h. h; films = λ n h. h; branches = λ n h. h; staff = λ c n h. h }
 
 -- ---- names
 
@@ -62,9 +61,7 @@ names_grow old new rows g h = record {
 
 -- who isn't missing, and isn't of another branch, is of that one
 is_of_branch : (b : ℕ) (rows : List Staff) → is_empty rows ≡ false → list_any (λ (x : Staff). not (x.branch == b)) rows ≡ false → list_any (λ (x : Staff). x.branch == b) rows ≡ true
-is_of_branch b [] e f = absurd (apart e) where
-  apart : true ≡ false → ⊥
-  apart e = cc
+is_of_branch b [] e f = absurd (true≢false e)
 is_of_branch b (row ∷ rows) e f = rw (not-false (row.branch == b) (or_parts (not (row.branch == b)) _ f).0)
 
 -- what each list of rows names, one after another
@@ -88,17 +85,9 @@ names_of named rows countries languages categories films actors cities managers 
 }
 
 names_acted : (act : OfficeAct) (it : Catalogue) → NamesRowsOf it it → NoneHold (office_refusals it act) → NamesRowsOf (office_acted act it) (office_acted act it)
-names_acted (AddCountry name) it old none = let h = names_grow it (office_acted (AddCountry name) it) it (office_grows (AddCountry name) it) old in
-    names_of _ _ h.city_countries h.film_languages h.film_categories h.cast_films h.cast_actors h.branch_cities h.managers h.staff_branches h.staff_cities
 names_acted (AddCity city) it old none = let h = names_grow it (office_acted (AddCity city) it) it (office_grows (AddCity city) it) old in
     names_of _ _ (all_more (λ (x : City). has_row it.countries x.country) it.cities city h.city_countries (is_there it.countries city.country none.0))
     h.film_languages h.film_categories h.cast_films h.cast_actors h.branch_cities h.managers h.staff_branches h.staff_cities
-names_acted (AddLanguage name) it old none = let h = names_grow it (office_acted (AddLanguage name) it) it (office_grows (AddLanguage name) it) old in
-    names_of _ _ h.city_countries h.film_languages h.film_categories h.cast_films h.cast_actors h.branch_cities h.managers h.staff_branches h.staff_cities
-names_acted (AddCategory name) it old none = let h = names_grow it (office_acted (AddCategory name) it) it (office_grows (AddCategory name) it) old in
-    names_of _ _ h.city_countries h.film_languages h.film_categories h.cast_films h.cast_actors h.branch_cities h.managers h.staff_branches h.staff_cities
-names_acted (AddActor actor) it old none = let h = names_grow it (office_acted (AddActor actor) it) it (office_grows (AddActor actor) it) old in
-    names_of _ _ h.city_countries h.film_languages h.film_categories h.cast_films h.cast_actors h.branch_cities h.managers h.staff_branches h.staff_cities
 names_acted (AddFilm film) it old none = let h = names_grow it (office_acted (AddFilm film) it) it (office_grows (AddFilm film) it) old in
     names_of _ _ h.city_countries
     (all_more (λ (x : Film). has_row it.languages x.language) it.films (record film { withdrawn = false }) h.film_languages (is_there it.languages film.language (or_parts (lacks it.languages film.language) (lacks it.categories film.category) none.0).0))
@@ -137,7 +126,8 @@ names_acted (SetManager b s) it old none = let h = names_grow it (office_acted (
     (all_set (λ (x : Branch). has_row it.cities x.city) b (λ (x : Branch). record x { manager = Some s }) it.branches h.branch_cities (λ x is. is))
     (λ c. all_at_set (λ (x : Branch). list_all (is_staff_of c it.staff) (option_to_list x.manager)) c b (λ (x : Branch). record x { manager = Some s }) it.branches (h.managers c) (λ same x is. let of : is_staff_of b it.staff s ≡ true = is_of_branch b (at s it.staff) (or_parts (lacks it.staff s) _ none.0).0 (or_parts (lacks it.branches b) _ none.1.0).1 in rw (same, of)))
     h.staff_branches h.staff_cities
-names_acted (ChooseRule rule) it old none = names_of _ _ old.city_countries old.film_languages old.film_categories old.cast_films old.cast_actors old.branch_cities old.managers old.staff_branches old.staff_cities
+names_acted act it old none = let h = names_grow it (office_acted act it) it (office_grows act it) old in
+    names_of _ _ h.city_countries h.film_languages h.film_categories h.cast_films h.cast_actors h.branch_cities h.managers h.staff_branches h.staff_cities
 
 -- ---- sizes, with one key more
 
@@ -170,19 +160,10 @@ sizes_acted (ChooseRule rule) it k h = let l = length-append it.kept (k ∷ []) 
 
 single_acted : (act : OfficeAct) (it : Catalogue) → HasNoDoubles it → NoneHold (office_refusals it act) → HasNoDoubles (office_acted act it)
 single_acted (AddCountry name) it h none = record { casts = h.casts; countries = different_more (λ (earlier later : Text). bytes_eq later earlier) it.countries name h.countries none.0; languages = h.languages; categories = h.categories }
-single_acted (AddCity city) it h none = record { casts = h.casts; countries = h.countries; languages = h.languages; categories = h.categories }
 single_acted (AddLanguage name) it h none = record { casts = h.casts; countries = h.countries; languages = different_more (λ (earlier later : Text). bytes_eq later earlier) it.languages name h.languages none.0; categories = h.categories }
 single_acted (AddCategory name) it h none = record { casts = h.casts; countries = h.countries; languages = h.languages; categories = different_more (λ (earlier later : Text). bytes_eq later earlier) it.categories name h.categories none.0 }
-single_acted (AddActor actor) it h none = record { casts = h.casts; countries = h.countries; languages = h.languages; categories = h.categories }
-single_acted (AddFilm film) it h none = record { casts = h.casts; countries = h.countries; languages = h.languages; categories = h.categories }
-single_acted (PriceFilm f rate) it h none = record { casts = h.casts; countries = h.countries; languages = h.languages; categories = h.categories }
-single_acted (WithdrawFilm f) it h none = record { casts = h.casts; countries = h.countries; languages = h.languages; categories = h.categories }
 single_acted (AddCast cast) it h none = record { casts = different_more (λ (earlier later : Cast). earlier.film == later.film && earlier.actor == later.actor) it.casts cast h.casts none.1.1.0; countries = h.countries; languages = h.languages; categories = h.categories }
-single_acted (AddBranch branch) it h none = record { casts = h.casts; countries = h.countries; languages = h.languages; categories = h.categories }
-single_acted (AddStaff staff) it h none = record { casts = h.casts; countries = h.countries; languages = h.languages; categories = h.categories }
-single_acted (StaffLeaves s) it h none = record { casts = h.casts; countries = h.countries; languages = h.languages; categories = h.categories }
-single_acted (SetManager b s) it h none = record { casts = h.casts; countries = h.countries; languages = h.languages; categories = h.categories }
-single_acted (ChooseRule rule) it h none = record { casts = h.casts; countries = h.countries; languages = h.languages; categories = h.categories }
+single_acted act it h none = record { casts = h.casts; countries = h.countries; languages = h.languages; categories = h.categories }
 
 -- ---- tokens
 
@@ -191,42 +172,26 @@ record HasTokens (it : Catalogue) : Type 0 where
   office_token : list_all (λ (x : Branch). not (bytes_eq x.token it.office_token)) it.branches ≡ true
 
 tokens_acted : (act : OfficeAct) (it : Catalogue) → HasTokens it → NoneHold (office_refusals it act) → HasTokens (office_acted act it)
-tokens_acted (AddCountry name) it h none = record { tokens = h.tokens; office_token = h.office_token }
-tokens_acted (AddCity city) it h none = record { tokens = h.tokens; office_token = h.office_token }
-tokens_acted (AddLanguage name) it h none = record { tokens = h.tokens; office_token = h.office_token }
-tokens_acted (AddCategory name) it h none = record { tokens = h.tokens; office_token = h.office_token }
-tokens_acted (AddActor actor) it h none = record { tokens = h.tokens; office_token = h.office_token }
-tokens_acted (AddFilm film) it h none = record { tokens = h.tokens; office_token = h.office_token }
-tokens_acted (PriceFilm f rate) it h none = record { tokens = h.tokens; office_token = h.office_token }
-tokens_acted (WithdrawFilm f) it h none = record { tokens = h.tokens; office_token = h.office_token }
-tokens_acted (AddCast cast) it h none = record { tokens = h.tokens; office_token = h.office_token }
 tokens_acted (AddBranch branch) it h none =
     let new = or_parts (bytes_eq branch.token it.office_token) (list_any (λ (x : Branch). bytes_eq x.token branch.token) it.branches) none.0 in
     record {
       tokens = different_more (λ (earlier later : Branch). bytes_eq earlier.token later.token) it.branches (record branch { manager = None }) h.tokens new.1;
       office_token = all_more (λ (x : Branch). not (bytes_eq x.token it.office_token)) it.branches (record branch { manager = None }) h.office_token (rw new.0);
     }
-tokens_acted (AddStaff staff) it h none = record { tokens = h.tokens; office_token = h.office_token }
-tokens_acted (StaffLeaves s) it h none = record { tokens = h.tokens; office_token = h.office_token }
 tokens_acted (SetManager b s) it h none = record {
   tokens = different_set (λ (earlier later : Branch). bytes_eq earlier.token later.token) b (λ (x : Branch). record x { manager = Some s }) it.branches (λ x y. refl) (λ x y. refl) ∙ h.tokens;
   office_token = all_set (λ (x : Branch). not (bytes_eq x.token it.office_token)) b (λ (x : Branch). record x { manager = Some s }) it.branches h.office_token (λ x is. is);
 }
-tokens_acted (ChooseRule rule) it h none = record { tokens = h.tokens; office_token = h.office_token }
+tokens_acted act it h none = record { tokens = h.tokens; office_token = h.office_token }
 
 -- ---- one command
 
 pub none_kept : (command : OfficeCommand) (ks : List OfficeKept) (v : Verdict) → office_resent command ks v ≡ Accepted → (ks ≡ []) × (v ≡ Accepted)
 none_kept command [] v e = (refl, e)
 none_kept command (k ∷ ks) v e = elim (cases_Bool (same_office k.command command)) [
-  | inl is ↦ let no : Again k.reply ≡ Accepted = rw is at e in absurd (again no)
-  | inr isnt ↦ let no : Refused _ ≡ Accepted = rw isnt at e in absurd (refused _ no)
-] where
-  again : Again k.reply ≡ Accepted → ⊥
-  again e = cc
-
-  refused : (r : Refusal) → Refused r ≡ Accepted → ⊥
-  refused r e = cc
+  | inl is ↦ let no : Again k.reply ≡ Accepted = rw is at e in absurd (false≢true (ap is_accepted no))
+  | inr isnt ↦ let no : Refused _ ≡ Accepted = rw isnt at e in absurd (false≢true (ap is_accepted no))
+]
 
 pub done_grows : (command : OfficeCommand) (it : Catalogue) → Grows it (office_done command it)
 done_grows command it = let g = office_grows command.act it in record { countries = g.countries; cities = g.cities; languages = g.languages; categories = g.categories; actors = g.actors; films = g.films; branches = g.branches; staff = g.staff }

@@ -2,7 +2,7 @@
 use Rattle.std.proofs.Common.{◌≡◌, inl, inr, ℕ, ◌+◌, ◌-◌, ◌≤◌, ◌<◌, List, [], ◌∷◌, ◌++◌, suc, length, map, Bool, true, false, not, None, Some, refl, sym, ap, ◌∙◌, arith, length-append}
 use Rattle.std.specs.Prelude.{Option, ◌==◌, ◌&&◌, ◌||◌, nat_le, nat_lt}
 use Rattle.std.specs.List.{list_any, list_all}
-use Rattle.std.proofs.lemmas.Bool.{cases_Bool, or_parts, and_parts, true≢false}
+use Rattle.std.proofs.lemmas.Bool.{cases_Bool, or_parts, and_parts, not-true, true≢false}
 use Rattle.std.proofs.lemmas.Bool.Decides.{nat_tests}
 use Rattle.std.proofs.lemmas.List.{map_push}
 use Rattle.shop_model.specs.Rows.{set_at, set_all, arrived, total}
@@ -81,11 +81,7 @@ apart_more (s ∷ rs) r is none =
     let h = and_parts (not (list_any (same_rental s) rs)) (are_apart rs) is in
     let n = or_parts (same_moment s.rented r.rented && s.copy == r.copy && s.customer == r.customer) _ none in
     let turned : same_rental s r ≡ false = sym (same_turned s.rented r.rented s.copy r.copy s.customer r.customer) ∙ n.0 in
-    rw (any_more (same_rental s) rs r (not_true _ h.0) turned) (apart_more rs r h.1 n.1) where
-      not_true : (a : Bool) → not a ≡ true → a ≡ false
-      not_true true e = sym e
-      not_true false e = refl
-
+    rw (any_more (same_rental s) rs r (not-true _ h.0) turned) (apart_more rs r h.1 n.1) where
       any_more : (p : Rental → Bool) (xs : List Rental) (x : Rental) → list_any p xs ≡ false → p x ≡ false → list_any p (xs ++ x ∷ []) ≡ false
       any_more p [] x none isnt = rw isnt
       any_more p (y ∷ ys) x none isnt = let h = or_parts (p y) (list_any p ys) none in rw h.0 (any_more p ys x h.1 isnt)

@@ -2,7 +2,8 @@
 use Rattle.std.proofs.Common.{◌≡◌, inl, inr, List, [], ◌∷◌, ◌++◌, length, map, filter, Bool, true, false, not, refl, sym, ap, ap₂, ◌∙◌, arith, append-nil, length-append}
 use Rattle.std.specs.Prelude.{◌==◌, ◌&&◌, ◌⊎◌, ◌||◌, if◌then◌else◌}
 use Rattle.std.specs.List.{list_all}
-use Rattle.std.proofs.lemmas.Bool.{cases_Bool, and_parts}
+use Rattle.std.proofs.Math.Bool.{or-false}
+use Rattle.std.proofs.lemmas.Bool.{not-true, cases_Bool, and_parts, false≢true, true≢false}
 use Rattle.std.proofs.lemmas.List.{map-append}
 use Rattle.std.proofs.lemmas.List.Elements.{filter-append}
 use Rattle.shop_model.specs.Values.{OfficeAsk, Rules}
@@ -91,11 +92,9 @@ room_decided answer (inr is) = rw is refl
 
 pub decided_failure : (answer : Answer) → is_decided answer ≡ true → is_store_failure answer ≡ false
 decided_failure answer is = elim (cases_Bool (answer.status == 503)) [
-  | inl bad ↦ let no : false ≡ true = rw bad at is in absurd (apart no)
+  | inl bad ↦ let no : false ≡ true = rw bad at is in absurd (false≢true no)
   | inr good ↦ rw good
-] where
-  apart : false ≡ true → ⊥
-  apart e = cc
+]
 
 -- ---- one more
 
@@ -114,11 +113,8 @@ one_counted event answer = counted_one event (outcome_of answer) []
 one_more : (event : Event) (answer : Answer) (xs ys : List Event) → not (is_store_failure answer) ≡ true → counted_one event (outcome_of answer) (xs ++ ys) ≡ counted_one event (outcome_of answer) xs ++ ys
 one_more event answer xs ys fine = elim (cases_Bool (is_decided answer)) [
   | inl is ↦ rw is refl
-  | inr isnt ↦ rw (isnt, not_true (is_store_failure answer) fine) refl
-] where
-  not_true : (b : Bool) → not b ≡ true → b ≡ false
-  not_true true e = sym e
-  not_true false e = refl
+  | inr isnt ↦ rw (isnt, not-true (is_store_failure answer) fine) refl
+]
 
 counted_more : (events : List Event) (answers : List Answer) (event : Event) (answer : Answer) → length answers ≡ length events
     → list_all (λ (a : Answer). not (is_store_failure a)) answers ≡ true
@@ -154,11 +150,7 @@ none_failed (a ∷ answers) h = go (is_store_failure a) h (none_failed answers)
     go false h more = more h
 
 pub failed_more : (answers : List Answer) (answer : Answer) → has_failed (answers ++ answer ∷ []) ≡ (has_failed answers || is_store_failure answer)
-failed_more [] answer = or_false (is_store_failure answer)
-  where
-    or_false : (b : Bool) → (b || false) ≡ b
-    or_false true = refl
-    or_false false = refl
+failed_more [] answer = or-false (is_store_failure answer)
 failed_more (a ∷ answers) answer = go (is_store_failure a) (failed_more answers answer)
   where
     go : (b : Bool) → has_failed (answers ++ answer ∷ []) ≡ (has_failed answers || is_store_failure answer) → (b || has_failed (answers ++ answer ∷ [])) ≡ ((b || has_failed answers) || is_store_failure answer)
@@ -184,11 +176,9 @@ stays_more (a ∷ answers) answer good later = go (is_store_failure a) good late
 
 never_failed : (answers : List Answer) (answer : Answer) → (has_failed answers ≡ true → is_store_failure answer ≡ true) → is_store_failure answer ≡ false → has_failed answers ≡ false
 never_failed answers answer later isnt = elim (cases_Bool (has_failed answers)) [
-  | inl did ↦ let it = later did in let no : true ≡ false = sym it ∙ isnt in absurd (apart no)
+  | inl did ↦ let it = later did in let no : true ≡ false = sym it ∙ isnt in absurd (true≢false no)
   | inr not ↦ not
-] where
-  apart : true ≡ false → ⊥
-  apart e = cc
+]
 
 -- the run goes on by one event that isn't decided and leaves the books
 run_idle : (rules : Rules) (look : OfficeAsk → Books → Reply) (events : List Event) (answers : List Answer) (event : Event) (answer : Answer) (old mid new : Books)

@@ -1,14 +1,14 @@
 -- What a branch is told depends on its own shop, the catalogue and its view alone.
-use Rattle.std.proofs.Common.{◌≡◌, inl, inr, ℕ, List, [], ◌∷◌, ◌++◌, filter, Bool, true, false, refl, sym, subst, ◌∙◌, append_assoc}
+use Rattle.std.proofs.Common.{◌≡◌, inl, inr, ℕ, List, [], ◌∷◌, ◌++◌, filter, Bool, true, false, refl, sym, ap, subst, ◌∙◌, append_assoc}
 use Rattle.std.specs.Prelude.{⊤, ◌==◌}
 use Rattle.std.specs.Str.{bytes_eq}
-use Rattle.std.proofs.lemmas.Bool.{cases_Bool}
+use Rattle.std.proofs.lemmas.Bool.{cases_Bool, true≢false, false≢true}
 use Rattle.shop_model.specs.Calendar.{Moment}
-use Rattle.shop_model.specs.Values.{Act, AddCustomer, SetActive, Rent, TakeBack, Pay, Import, Dispatch, Receive, Scrap, Command, OfficeAsk, Rules}
+use Rattle.shop_model.specs.Values.{Act, AddCustomer, Dispatch, Command, OfficeAsk, Rules}
 use Rattle.shop_model.specs.Refusals.{Refusal}
 use Rattle.shop_model.specs.Shop.{Kept, Shop, Catalogue, same_command}
 use Rattle.shop_model.specs.Verdict.{Verdict, Again, Refused, Accepted, first, resent, refusals, act_refusals, verdict, office_verdict}
-use Rattle.shop_model.specs.Machine.{Reply, State, Request, Unread, Do, Look, Office, OfficeLook, Input, FromOffice, Own, done, office_done, if_accepted, moved, answers, replies, state_after}
+use Rattle.shop_model.specs.Machine.{Reply, State, Request, Do, Office, Input, FromOffice, Own, done, office_done, if_accepted, moved, answers, replies, state_after}
 use Rattle.shop_model.specs.Books.{Books, Caller, Counter, HeadOffice, Nobody, shop_of, state_of, book_acted, book_done, branch_after, after_for, after, reply_for, reply_in, caller_in, is_counter, replies_to, run, parcel_seen, other_seen, office_seen, seen_of, view}
 use Rattle.shop_model.specs.Sound.{HasNumbers}
 use Rattle.shop_model.specs.Laws.{BranchesAreAlone, BranchesAreIsolated}
@@ -31,30 +31,22 @@ accepted_is Accepted e = refl
 pub not_accepted : {A : Type 0} (v : Verdict) (x y : A) → is_accepted v ≡ false → if_accepted v x y ≡ y
 not_accepted (Again text) x y e = refl
 not_accepted (Refused refusal) x y e = refl
-not_accepted Accepted x y e = elim (apart e) [ ] where
-  apart : true ≡ false → ⊥
-  apart e = cc
+not_accepted Accepted x y e = absurd (true≢false e)
 
 -- of an accepted command no refusal holds
 pub first_holds : (c : Refusal × Bool) (cs : List (Refusal × Bool)) → first (c ∷ cs) ≡ Accepted → (c.1 ≡ false) × (first cs ≡ Accepted)
 first_holds c cs e = elim (cases_Bool c.1) [
-  | inl is ↦ let no : Refused c.0 ≡ Accepted = rw is at e in absurd (apart no)
+  | inl is ↦ let no : Refused c.0 ≡ Accepted = rw is at e in absurd (false≢true (ap is_accepted no))
   | inr isnt ↦ (isnt, rw isnt at e)
-] where
-  apart : Refused c.0 ≡ Accepted → ⊥
-  apart e = cc
+]
 
-pub fresh_holds : (command : Command) (kept : List Kept) (v : Verdict) → resent command kept v ≡ Accepted → v ≡ Accepted
-fresh_holds command [] v e = e
-fresh_holds command (k ∷ kept) v e = elim (cases_Bool (same_command k.command command)) [
-  | inl is ↦ let no : Again k.reply ≡ Accepted = rw is at e in absurd (again no)
-  | inr isnt ↦ let no : Refused _ ≡ Accepted = rw isnt at e in absurd (refused _ no)
-] where
-  again : Again k.reply ≡ Accepted → ⊥
-  again e = cc
-
-  refused : (r : Refusal) → Refused r ≡ Accepted → ⊥
-  refused r e = cc
+-- and nothing was kept under its key
+pub none_kept : (command : Command) (kept : List Kept) (v : Verdict) → resent command kept v ≡ Accepted → (kept ≡ []) × (v ≡ Accepted)
+none_kept command [] v e = (refl, e)
+none_kept command (k ∷ kept) v e = elim (cases_Bool (same_command k.command command)) [
+  | inl is ↦ let no : Again k.reply ≡ Accepted = rw is at e in absurd (false≢true (ap is_accepted no))
+  | inr isnt ↦ let no : Refused _ ≡ Accepted = rw isnt at e in absurd (false≢true (ap is_accepted no))
+]
 
 abbrev pub NoneHold : List (Refusal × Bool) → Type 0
 NoneHold [] = ⊤
@@ -68,7 +60,7 @@ none_hold (c ∷ cs) e = let h = first_holds c cs e in (h.0, none_hold cs h.1)
 pub accepted_holds : (rules : Rules) (b : ℕ) (catalogue : Catalogue) (shop : Shop) (command : Command) → verdict rules b catalogue shop command ≡ Accepted
     → NoneHold (refusals rules b catalogue shop command)
 accepted_holds rules b catalogue shop command e =
-    none_hold (refusals rules b catalogue shop command) (fresh_holds command (filter (λ (k : Kept). bytes_eq k.command.key command.key) shop.kept) (first (refusals rules b catalogue shop command)) e)
+    none_hold (refusals rules b catalogue shop command) (none_kept command (filter (λ (k : Kept). bytes_eq k.command.key command.key) shop.kept) (first (refusals rules b catalogue shop command)) e).1
 
 pub act_holds : (rules : Rules) (b : ℕ) (catalogue : Catalogue) (shop : Shop) (command : Command) → verdict rules b catalogue shop command ≡ Accepted
     → NoneHold (act_refusals rules b catalogue shop command.moment command.act)
@@ -78,9 +70,7 @@ pub not_self : (rules : Rules) (b : ℕ) (catalogue : Catalogue) (shop : Shop) (
 not_self rules b catalogue shop moment act none xs is =
     let P : Act → Type 0 = λ a. NoneHold (act_refusals rules b catalogue shop moment a) in
     let all : NoneHold (act_refusals rules b catalogue shop moment (Dispatch b xs)) = subst P is none in
-    apart (sym (same_test b) ∙ all.1.1.1.1.0) where
-      apart : true ≡ false → ⊥
-      apart e = cc
+    true≢false (sym (same_test b) ∙ all.1.1.1.1.0)
 
 -- ---- one event
 
@@ -89,36 +79,15 @@ state_is c d s t e f = rw (e, f)
 
 pub catalogue_stays : (rules : Rules) (b : ℕ) (command : Command) (act : Act) (books : Books) → (book_acted rules b command act books).catalogue ≡ books.catalogue
 catalogue_stays rules b command (AddCustomer person) books = refl
-catalogue_stays rules b command (SetActive n active) books = refl
-catalogue_stays rules b command (Rent n x) books = refl
-catalogue_stays rules b command (TakeBack r) books = refl
-catalogue_stays rules b command (Pay n rental amount) books = refl
-catalogue_stays rules b command (Import lot file) books = refl
-catalogue_stays rules b command (Dispatch to xs) books = refl
-catalogue_stays rules b command (Receive source number missing) books = refl
-catalogue_stays rules b command (Scrap x) books = refl
+catalogue_stays rules b command act books = refl
 
 parcel_state : (rules : Rules) (b c : ℕ) (act : Act) (books : Books) → ◌≡◌ {A = State} (record { catalogue = books.catalogue; shop = with_arrivals b c act books }) (state_after rules b (parcel_seen b c act books) (state_of b books))
 parcel_state rules b c (Dispatch to xs) books = elim (cases_Bool (to == b)) [ inl is ↦ rw is | inr isnt ↦ rw isnt ]
-parcel_state rules b c (AddCustomer person) books = refl
-parcel_state rules b c (SetActive n active) books = refl
-parcel_state rules b c (Rent n x) books = refl
-parcel_state rules b c (TakeBack r) books = refl
-parcel_state rules b c (Pay n rental amount) books = refl
-parcel_state rules b c (Import lot file) books = refl
-parcel_state rules b c (Receive source number missing) books = refl
-parcel_state rules b c (Scrap x) books = refl
+parcel_state rules b c act books = refl
 
 parcel_replies : (rules : Rules) (b c : ℕ) (act : Act) (books : Books) → replies rules b (parcel_seen b c act books) (state_of b books) ≡ []
 parcel_replies rules b c (Dispatch to xs) books = elim (cases_Bool (to == b)) [ inl is ↦ rw is | inr isnt ↦ rw isnt ]
-parcel_replies rules b c (AddCustomer person) books = refl
-parcel_replies rules b c (SetActive n active) books = refl
-parcel_replies rules b c (Rent n x) books = refl
-parcel_replies rules b c (TakeBack r) books = refl
-parcel_replies rules b c (Pay n rental amount) books = refl
-parcel_replies rules b c (Import lot file) books = refl
-parcel_replies rules b c (Receive source number missing) books = refl
-parcel_replies rules b c (Scrap x) books = refl
+parcel_replies rules b c act books = refl
 
 -- the books after b's own request, as b's machine
 own_state : (rules : Rules) (b : ℕ) (request : Request) (books : Books) → HasNumbers books → state_of b (branch_after rules b request books) ≡ moved rules b (Own request) (state_of b books)
@@ -131,10 +100,7 @@ own_state rules b (Do command) books has =
           rw e (state_is _ _ _ _ (catalogue_stays rules b command command.act books) (done_own rules b command books has away))
       | inr isnt ↦ rw (not_accepted v (book_done rules b command books) books isnt, not_accepted v (done rules books.catalogue command (shop_of b books)) (shop_of b books) isnt)
     ]
-own_state rules b (Unread refusal) books has = refl
-own_state rules b (Look ask) books has = refl
-own_state rules b (Office command) books has = refl
-own_state rules b (OfficeLook ask) books has = refl
+own_state rules b request books has = refl
 
 -- after another's request
 other_state : (rules : Rules) (b c : ℕ) (request : Request) (books : Books) → HasNumbers books → (c == b) ≡ false
@@ -147,10 +113,7 @@ other_state rules b c (Do command) books has differ =
           rw e (state_is _ _ _ _ (catalogue_stays rules c command command.act books) (done_other rules b c command books has differ) ∙ parcel_state rules b c command.act books)
       | inr isnt ↦ rw (not_accepted v (book_done rules c command books) books isnt, not_accepted v (parcel_seen b c command.act books) [] isnt)
     ]
-other_state rules b c (Unread refusal) books has differ = refl
-other_state rules b c (Look ask) books has differ = refl
-other_state rules b c (Office command) books has differ = refl
-other_state rules b c (OfficeLook ask) books has differ = refl
+other_state rules b c request books has differ = refl
 
 other_replies : (rules : Rules) (b c : ℕ) (request : Request) (books : Books) → replies rules b (other_seen rules b c request books) (state_of b books) ≡ []
 other_replies rules b c (Do command) books =
@@ -159,10 +122,7 @@ other_replies rules b c (Do command) books =
       | inl is ↦ let e : v ≡ Accepted = accepted_is v is in rw e (parcel_replies rules b c command.act books)
       | inr isnt ↦ rw (not_accepted v (parcel_seen b c command.act books) [] isnt)
     ]
-other_replies rules b c (Unread refusal) books = refl
-other_replies rules b c (Look ask) books = refl
-other_replies rules b c (Office command) books = refl
-other_replies rules b c (OfficeLook ask) books = refl
+other_replies rules b c request books = refl
 
 office_state : (rules : Rules) (b : ℕ) (request : Request) (books : Books) → state_of b (after_for rules HeadOffice request books) ≡ state_after rules b (office_seen rules request books) (state_of b books)
 office_state rules b (Office command) books =
@@ -171,10 +131,7 @@ office_state rules b (Office command) books =
       | inl is ↦ let e : v ≡ Accepted = accepted_is v is in rw e (rw e)
       | inr isnt ↦ rw (not_accepted v (office_done command books.catalogue) books.catalogue isnt, not_accepted v (FromOffice command ∷ []) [] isnt)
     ]
-office_state rules b (Unread refusal) books = refl
-office_state rules b (Do command) books = refl
-office_state rules b (Look ask) books = refl
-office_state rules b (OfficeLook ask) books = refl
+office_state rules b request books = refl
 
 office_replies : (rules : Rules) (b : ℕ) (request : Request) (books : Books) → replies rules b (office_seen rules request books) (state_of b books) ≡ []
 office_replies rules b (Office command) books =
@@ -183,10 +140,7 @@ office_replies rules b (Office command) books =
       | inl is ↦ let e : v ≡ Accepted = accepted_is v is in rw e
       | inr isnt ↦ rw (not_accepted v (FromOffice command ∷ []) [] isnt)
     ]
-office_replies rules b (Unread refusal) books = refl
-office_replies rules b (Do command) books = refl
-office_replies rules b (Look ask) books = refl
-office_replies rules b (OfficeLook ask) books = refl
+office_replies rules b request books = refl
 
 one_state : (rules : Rules) (b : ℕ) (caller : Caller) (request : Request) (books : Books) → HasNumbers books
     → state_of b (after_for rules caller request books) ≡ state_after rules b (seen_of rules b caller request books) (state_of b books)

@@ -4,7 +4,7 @@ use Rattle.std.specs.Prelude.{Option, ◌==◌, ◌||◌, nat_lt, nat_le}
 use Rattle.std.specs.Option.{option_to_list}
 use Rattle.std.specs.List.{list_any, list_all}
 use Rattle.std.specs.Str.{bytes_eq}
-use Rattle.std.proofs.lemmas.Bool.{cases_Bool, or_parts, not-false}
+use Rattle.std.proofs.lemmas.Bool.{cases_Bool, or_parts, not-false, true≢false}
 use Rattle.std.proofs.lemmas.Bool.Decides.{nat_tests}
 use Rattle.shop_model.specs.Rows.{at, lacks, is_empty, set_at, arrived, has_double}
 use Rattle.shop_model.specs.Calendar.{Moment}
@@ -40,9 +40,7 @@ pays_new : (rentals : List Rental) (payment : Payment) → list_any (lacks renta
     → list_any (λ r. list_any (λ (it : Rental). not (it.customer == payment.customer)) (at r rentals)) (option_to_list payment.rental) ≡ false → pays_for rentals payment ≡ true
 pays_new rentals payment there same = by_list (option_to_list payment.rental) there same where
   by_row : (rows : List Rental) → is_empty rows ≡ false → list_any (λ (it : Rental). not (it.customer == payment.customer)) rows ≡ false → list_any (λ (it : Rental). it.customer == payment.customer) rows ≡ true
-  by_row [] e f = absurd (apart e) where
-    apart : true ≡ false → ⊥
-    apart e = cc
+  by_row [] e f = absurd (true≢false e)
   by_row (row ∷ rows) e f = rw (not-false (row.customer == payment.customer) (or_parts (not (row.customer == payment.customer)) _ f).0)
 
   by_list : (rs : List ℕ) → list_any (lacks rentals) rs ≡ false → list_any (λ r. list_any (λ (it : Rental). not (it.customer == payment.customer)) (at r rentals)) rs ≡ false
@@ -282,11 +280,4 @@ linked_other b c (Dispatch to xs) books h from = elim (cases_Bool (to == b)) [
   | inl is ↦ rw is (arrives b c books.catalogue (shop_of b books) (shop_of c books) xs h from)
   | inr isnt ↦ rw isnt h
 ]
-linked_other b c (AddCustomer person) books h from = h
-linked_other b c (SetActive n active) books h from = h
-linked_other b c (Rent n x) books h from = h
-linked_other b c (TakeBack r) books h from = h
-linked_other b c (Pay n rental amount) books h from = h
-linked_other b c (Import lot file) books h from = h
-linked_other b c (Receive source number missing) books h from = h
-linked_other b c (Scrap x) books h from = h
+linked_other b c act books h from = h

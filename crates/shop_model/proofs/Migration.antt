@@ -1,7 +1,8 @@
 -- Books of version 1 become sound books, in which balances and overdue rentals are the same.
 use Rattle.std.proofs.Common.{◌≡◌, inl, inr, ℕ, ◌+◌, ◌*◌, List, [], ◌∷◌, ◌++◌, length, filter, map, Bool, true, false, refl, sym, ap, ap₂, subst, ◌∙◌, arith}
-use Rattle.std.specs.Prelude.{◌==◌, ◌&&◌, ◌||◌, ◌-ℤ◌, pos, nat_lt, flat_map, zip, is_none}
+use Rattle.std.specs.Prelude.{◌==◌, ◌&&◌, ◌-ℤ◌, pos, nat_lt, flat_map, zip, is_none}
 use Rattle.std.specs.List.{AllByRecursion, list_any, list_all}
+use Rattle.std.proofs.Math.Bool.{or-false}
 use Rattle.std.proofs.lemmas.Bool.{cases_Bool, and_parts, not-true}
 use Rattle.std.proofs.lemmas.List.{map-append, length-append}
 use Rattle.std.proofs.lemmas.List.Elements.{filter-append}
@@ -129,10 +130,6 @@ fee_step q g rental (film ∷ []) rentals terms one is rest = elim (cases_Bool (
 ]
 fee_step q g rental (film ∷ other ∷ films) rentals terms one is rest = absurd (omega (arith, one))
 
-or_none : (a : Bool) → (a || false) ≡ a
-or_none true = refl
-or_none false = refl
-
 overdue_step : (moment : Moment) (p : Rental → Bool) (rental : Rental) (films : List Film) (rentals : List Rental) (terms : List Terms) → length films ≡ 1
     → p rental ≡ (is_none rental.returned && list_any (λ (film : Film). nat_lt (day_of rental.rented + film.period) (day_of moment)) films)
     → map (λ (it : Rental × Terms). it.0) (filter (is_overdue moment) (zip rentals terms)) ≡ filter p rentals
@@ -140,7 +137,7 @@ overdue_step : (moment : Moment) (p : Rental → Bool) (rental : Rental) (films 
 overdue_step moment p rental [] rentals terms one is rest = cc
 overdue_step moment p rental (film ∷ []) rentals terms one is rest =
     let late = nat_lt (day_of rental.rented + film.period) (day_of moment) in
-    let same : p rental ≡ is_overdue moment (rental, film_terms film) = is ∙ ap (λ (a : Bool). is_none rental.returned && a) (or_none late) in
+    let same : p rental ≡ is_overdue moment (rental, film_terms film) = is ∙ ap (λ (a : Bool). is_none rental.returned && a) (or-false late) in
     elim (cases_Bool (is_overdue moment (rental, film_terms film))) [
       | inl hit ↦ rw (hit, same ∙ hit) (ap (λ (more : List Rental). rental ∷ more) rest)
       | inr miss ↦ rw (miss, same ∙ miss) rest

@@ -8,8 +8,8 @@ use Rattle.shop_model.specs.Values.{Text, Film, Branch, ByCode, ByComment, Offic
 use Rattle.shop_model.specs.Refusals.{Full}
 use Rattle.shop_model.specs.Shop.{OfficeKept, Catalogue, same_film, same_branch, same_office_act, same_office}
 use Rattle.shop_model.specs.Verdict.{Accepted, verdict, office_resent, office_verdict, first, office_refusals}
-use Rattle.shop_model.specs.Machine.{Request, Unread, Do, Look, Office, OfficeLook, office_done, office_text}
-use Rattle.shop_model.specs.Books.{Books, Event, Caller, Counter, HeadOffice, Nobody, shop_of, book_done, after_for, after, caller_in, last_books}
+use Rattle.shop_model.specs.Machine.{Request, Do, Office, office_done, office_text}
+use Rattle.shop_model.specs.Books.{Books, Event, Caller, Counter, HeadOffice, shop_of, book_done, after_for, after, caller_in, last_books}
 use Rattle.shop_model.specs.Laws.{OfficeResentIsAgain}
 use Rattle.shop_model.proofs.RowLemmas.{same_test, one_more}
 use Rattle.shop_model.proofs.Isolation.{is_accepted, accepted_is, not_accepted, catalogue_stays}
@@ -77,21 +77,13 @@ stays_in rules key k (Counter c) (Do command) books has =
       | inr isnt ↦ rw (not_accepted v (book_done rules c command books) books isnt) has
       | inl is ↦ let e : v ≡ Accepted = accepted_is v is in rw e (ap (under key) (catalogue_stays rules c command command.act books) ∙ has)
     ]
-stays_in rules key k (Counter c) (Unread refusal) books has = has
-stays_in rules key k (Counter c) (Look ask) books has = has
-stays_in rules key k (Counter c) (Office command) books has = has
-stays_in rules key k (Counter c) (OfficeLook ask) books has = has
 stays_in rules key k HeadOffice (Office command) books has =
     let v = office_verdict rules books.catalogue command in
     elim (cases_Bool (is_accepted v)) [
       | inr isnt ↦ rw (not_accepted v (office_done command books.catalogue) books.catalogue isnt) has
       | inl is ↦ let e : v ≡ Accepted = accepted_is v is in rw e (stays_own rules key k command books.catalogue has e)
     ]
-stays_in rules key k HeadOffice (Do command) books has = has
-stays_in rules key k HeadOffice (Unread refusal) books has = has
-stays_in rules key k HeadOffice (Look ask) books has = has
-stays_in rules key k HeadOffice (OfficeLook ask) books has = has
-stays_in rules key k Nobody request books has = has
+stays_in rules key k caller request books has = has
 
 stays_through : (rules : Rules) (key : Text) (k : OfficeKept) (events : List Event) (books : Books) → under key books.catalogue ≡ k ∷ [] → under key (last_books rules events books).catalogue ≡ k ∷ []
 stays_through rules key k [] books has = has

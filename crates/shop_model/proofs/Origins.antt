@@ -1,10 +1,11 @@
 -- Each step keeps that every mark was made, with its film.
-use Rattle.std.proofs.Common.{◌≡◌, inl, inr, ℕ, ◌+◌, List, [], ◌∷◌, ◌++◌, filter, map, Bool, true, false, not, refl, sym, ap, ◌∙◌, append-nil, append_assoc}
-use Rattle.std.specs.Prelude.{◌&&◌, ◌||◌, flat_map}
+use Rattle.std.proofs.Common.{◌≡◌, inl, inr, ℕ, ◌+◌, List, [], ◌∷◌, ◌++◌, filter, map, Bool, true, not, refl, sym, ap, ◌∙◌, append-nil, append_assoc}
+use Rattle.std.specs.Prelude.{◌&&◌, flat_map}
 use Rattle.std.specs.List.{list_any, list_all}
-use Rattle.std.proofs.lemmas.Bool.{cases_Bool, and_parts}
+use Rattle.std.proofs.Math.Bool.{or-true}
+use Rattle.std.proofs.lemmas.Bool.{cases_Bool, and_parts, false≢true}
 use Rattle.shop_model.specs.Rows.{arrived, Row, update_where, is_row, next, put, put_all, set_row, set_rows, mem, numbered_from}
-use Rattle.shop_model.specs.Values.{CopyState, Sent, Scrapped, Act, AddCustomer, SetActive, Rent, TakeBack, Pay, Import, Dispatch, Receive, Scrap, Command, Rules}
+use Rattle.shop_model.specs.Values.{CopyState, Sent, Scrapped, Act, Import, Dispatch, Receive, Scrap, Command, Rules}
 use Rattle.shop_model.specs.Machine.{films_in}
 use Rattle.shop_model.specs.Books.{Books, BookCopy, Mark, Line, Consignment, book_acted, is_consignment, imported, unpacked, put_state, rows_at, under_way, checked, checked_line, come, new_consignment}
 use Rattle.shop_model.specs.Sound.{is_made_as, all_lines, HasOrigins}
@@ -12,9 +13,7 @@ use Rattle.shop_model.proofs.RowLemmas.{same_test}
 use Rattle.shop_model.proofs.GoodShops.{all_weaker}
 
 any_left : {A : Type 0} (p : A → Bool) (xs ys : List A) → list_any p xs ≡ true → list_any p (xs ++ ys) ≡ true
-any_left p [] ys some = absurd (apart some) where
-  apart : false ≡ true → ⊥
-  apart e = cc
+any_left p [] ys some = absurd (false≢true some)
 any_left p (x ∷ xs) ys some = elim (cases_Bool (p x)) [
   | inl is ↦ rw is
   | inr isnt ↦ rw isnt (any_left p xs ys (rw isnt at some))
@@ -22,10 +21,7 @@ any_left p (x ∷ xs) ys some = elim (cases_Bool (p x)) [
 
 any_last : {A : Type 0} (p : A → Bool) (xs : List A) (x : A) → p x ≡ true → list_any p (xs ++ x ∷ []) ≡ true
 any_last p [] x is = rw is
-any_last p (y ∷ ys) x is = rw (any_last p ys x is) (or_true (p y)) where
-  or_true : (a : Bool) → (a || true) ≡ true
-  or_true true = refl
-  or_true false = refl
+any_last p (y ∷ ys) x is = rw (any_last p ys x is) (or-true (p y))
 
 pub all_append : {A : Type 0} (p : A → Bool) (xs ys : List A) → list_all p xs ≡ true → list_all p ys ≡ true → list_all p (xs ++ ys) ≡ true
 all_append p [] ys a c = c
@@ -148,11 +144,6 @@ come_all p missing q (c ∷ cs) all =
     ]
 
 pub origins_kept : (rules : Rules) (b : ℕ) (command : Command) (act : Act) (books : Books) → HasOrigins books → HasOrigins (book_acted rules b command act books)
-origins_kept rules b command (AddCustomer person) books has = record { rows = has.rows; lines = has.lines }
-origins_kept rules b command (SetActive n active) books has = record { rows = has.rows; lines = has.lines }
-origins_kept rules b command (Rent n x) books has = record { rows = has.rows; lines = has.lines }
-origins_kept rules b command (TakeBack r) books has = record { rows = has.rows; lines = has.lines }
-origins_kept rules b command (Pay n rental amount) books has = record { rows = has.rows; lines = has.lines }
 origins_kept rules b command (Import lot file) books has = record { rows = imported_rows b (films_in (rules.stock_of file)) books.copies has.rows; lines = put_lines b (map (imported b) (films_in (rules.stock_of file))) books.copies (all_lines books) has.lines }
 origins_kept rules b command (Dispatch to xs) books has = record {
   rows = states_rows b xs Sent books.copies has.rows;
@@ -165,3 +156,4 @@ origins_kept rules b command (Receive source number missing) books has =
       lines = put_lines b (map unpacked lines) books.copies _ (received_lines (is_made_as books.copies) missing (is_consignment source b number) books.consignments has.lines);
     }
 origins_kept rules b command (Scrap x) books has = record { rows = state_rows b x Scrapped books.copies has.rows; lines = state_lines b x Scrapped books.copies (all_lines books) has.lines }
+origins_kept rules b command act books has = record { rows = has.rows; lines = has.lines }

@@ -1,8 +1,8 @@
 -- Each step keeps that the branches of rows are there, and the places of consignments.
-use Rattle.std.proofs.Common.{◌≡◌, inl, inr, ℕ, ◌+◌, List, [], ◌∷◌, map, length, Bool, true, false, not, None, refl, subst, ◌∙◌, arith}
+use Rattle.std.proofs.Common.{◌≡◌, inl, inr, ℕ, ◌+◌, List, [], ◌∷◌, map, length, Bool, true, not, None, refl, subst, ◌∙◌, arith}
 use Rattle.std.specs.Prelude.{◌==◌}
 use Rattle.std.specs.List.{list_any, list_all}
-use Rattle.std.proofs.lemmas.Bool.{cases_Bool, and_parts}
+use Rattle.std.proofs.lemmas.Bool.{cases_Bool, and_parts, false≢true}
 use Rattle.std.proofs.lemmas.List.{map_push}
 use Rattle.shop_model.specs.Rows.{Row, Owned, at, next, put, put_all, set_row, set_rows, update_where, is_row, IsCounted}
 use Rattle.shop_model.specs.Calendar.{Moment}
@@ -34,9 +34,7 @@ staff_works b staff s some = by_rows (at s staff) some where
 pub branch_there : (b : ℕ) (branches : List Branch) (staff : List Staff) (s : ℕ) → list_all (λ (it : Staff). has_row branches it.branch) staff ≡ true → is_staff_of b staff s ≡ true → has_row branches b ≡ true
 branch_there b branches staff s all some = by_rows (at s staff) (all_at (λ (it : Staff). has_row branches it.branch) s staff all) some where
   by_rows : (rows : List Staff) → list_all (λ (it : Staff). has_row branches it.branch) rows ≡ true → list_any (λ (it : Staff). it.branch == b) rows ≡ true → has_row branches b ≡ true
-  by_rows [] all some = absurd (apart some) where
-    apart : false ≡ true → ⊥
-    apart e = cc
+  by_rows [] all some = absurd (false≢true some)
   by_rows (row ∷ rows) all some = let h = and_parts (has_row branches row.branch) _ all in elim (cases_Bool (row.branch == b)) [
     | inl is ↦ let P : ℕ → Type 0 = λ n. has_row branches n ≡ true in subst P (same_if row.branch b is) h.0
     | inr isnt ↦ by_rows rows h.1 (rw isnt at some)
@@ -224,10 +222,4 @@ places_kept rules b command (Dispatch to xs) books counted =
     let n = length_map (λ (it : Consignment). it.place) books.consignments in
     rw (map_push (λ (it : Consignment). it.place) books.consignments (new_consignment b to xs books)) (counted_more 1 (map (λ (it : Consignment). it.place) books.consignments) (length books.consignments + 1) counted (omega (arith, n)))
 places_kept rules b command (Receive source number missing) books counted = rw (places_checked missing (is_consignment source b number) books.consignments) counted
-places_kept rules b command (AddCustomer person) books counted = counted
-places_kept rules b command (SetActive n active) books counted = counted
-places_kept rules b command (Rent n x) books counted = counted
-places_kept rules b command (TakeBack r) books counted = counted
-places_kept rules b command (Pay n rental amount) books counted = counted
-places_kept rules b command (Import lot file) books counted = counted
-places_kept rules b command (Scrap x) books counted = counted
+places_kept rules b command act books counted = counted

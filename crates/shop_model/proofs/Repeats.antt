@@ -3,8 +3,8 @@ use Rattle.std.proofs.Common.{◌≡◌, inl, inr, [], ◌∷◌, true, refl, ap
 use Rattle.std.proofs.lemmas.Bool.{cases_Bool, false≢true}
 use Rattle.shop_model.specs.Values.{Rules}
 use Rattle.shop_model.specs.Verdict.{Verdict, Again, Refused, Accepted, verdict, office_verdict}
-use Rattle.shop_model.specs.Machine.{Request, Unread, Do, Look, Office, OfficeLook, if_accepted, office_done}
-use Rattle.shop_model.specs.Books.{Books, Caller, Counter, HeadOffice, Nobody, shop_of, book_done, after_for, after, caller_in, reply_in}
+use Rattle.shop_model.specs.Machine.{Request, Do, Office, if_accepted, office_done}
+use Rattle.shop_model.specs.Books.{Books, Caller, Counter, HeadOffice, shop_of, book_done, after_for, after, caller_in, reply_in}
 use Rattle.shop_model.specs.Repeats.{is_again, repeats}
 use Rattle.shop_model.specs.Laws.{RepeatsChangeNothing}
 
@@ -15,16 +15,8 @@ again_leaves Accepted x y e = absurd (false≢true e)
 
 repeat_leaves : (rules : Rules) (caller : Caller) (request : Request) (books : Books) → repeats rules caller request books ≡ true → after_for rules caller request books ≡ books
 repeat_leaves rules (Counter b) (Do command) books e = again_leaves (verdict rules b books.catalogue (shop_of b books) command) (book_done rules b command books) books e
-repeat_leaves rules (Counter b) (Unread refusal) books e = absurd (false≢true e)
-repeat_leaves rules (Counter b) (Look ask) books e = absurd (false≢true e)
-repeat_leaves rules (Counter b) (Office command) books e = absurd (false≢true e)
-repeat_leaves rules (Counter b) (OfficeLook ask) books e = absurd (false≢true e)
 repeat_leaves rules HeadOffice (Office command) books e = rw (again_leaves (office_verdict rules books.catalogue command) (office_done command books.catalogue) books.catalogue e)
-repeat_leaves rules HeadOffice (Unread refusal) books e = absurd (false≢true e)
-repeat_leaves rules HeadOffice (Do command) books e = absurd (false≢true e)
-repeat_leaves rules HeadOffice (Look ask) books e = absurd (false≢true e)
-repeat_leaves rules HeadOffice (OfficeLook ask) books e = absurd (false≢true e)
-repeat_leaves rules Nobody request books e = absurd (false≢true e)
+repeat_leaves rules caller request books e = absurd (false≢true e)
 
 pub without_repeats : RepeatsChangeNothing
 without_repeats rules look [] books = record { replies = refl; leaves = refl }

@@ -5,11 +5,11 @@ use Rattle.std.specs.List.{list_any, list_all}
 use Rattle.std.specs.Str.{bytes_eq}
 use Rattle.std.proofs.lemmas.Bool.{cases_Bool, or_parts, and_parts, not-true, false≢true}
 use Rattle.shop_model.specs.Rows.{Owned, set_at, owned_by}
-use Rattle.shop_model.specs.Values.{Text, Branch, Command, OfficeAct, AddCountry, AddCity, AddLanguage, AddCategory, AddActor, AddFilm, PriceFilm, WithdrawFilm, AddCast, AddBranch, AddStaff, StaffLeaves, SetManager, ChooseRule, OfficeCommand, OfficeAsk, Rules}
+use Rattle.shop_model.specs.Values.{Text, Branch, Command, OfficeAct, AddBranch, SetManager, OfficeCommand, OfficeAsk, Rules}
 use Rattle.shop_model.specs.Refusals.{Refusal, TooLong, NoCounter, NoRoute, BadBody, KeyUsed, Full, MomentBack, NoStaff, NoCustomer, CustomerInactive, NoCopy, CopyNotHere, CopyOut, FilmWithdrawn, SameMoment, NoRental, RentalReturned, WrongCustomer, NoFilm, LotIn, BadCsv, NoBranch, OwnBranch, NoArrival, ArrivalReceived, BadLines, BadThreshold, TokenTaken, NoSharedRow, Already, Usage}
 use Rattle.shop_model.specs.Shop.{Kept, OfficeKept, Catalogue, same_command, same_office}
 use Rattle.shop_model.specs.Verdict.{Verdict, Again, Refused, Accepted, resent, verdict, first, refusals, office_refusals, office_resent, office_verdict}
-use Rattle.shop_model.specs.Machine.{Request, Unread, Do, Look, Office, OfficeLook, Reply, Sorry, Done, reply_text, office_text, reply_by, if_accepted, office_acted, office_done, catalogue_after}
+use Rattle.shop_model.specs.Machine.{Request, Do, Office, Reply, Sorry, Done, reply_text, office_text, reply_by, if_accepted, office_acted, office_done, catalogue_after}
 use Rattle.shop_model.specs.Answers.{Answer, answer_of}
 use Rattle.shop_model.specs.Books.{Books, Event, Caller, Counter, HeadOffice, Nobody, shop_of, book_done, branch_with, caller_of, reply_for, after_for, after, caller_in, reply_in, run}
 use Rattle.shop_model.specs.Histories.{is_decided, is_store_failure, fails_for_good, counted_in}
@@ -52,34 +52,11 @@ office_found : (act : OfficeAct) (catalogue : Catalogue) (token : Text) (c : Cal
     → branch_with token 1 (office_acted act catalogue).branches ≡ c
 office_found (AddBranch branch) catalogue token c known e = found_before token 1 c catalogue.branches (record branch { manager = None } ∷ []) known e
 office_found (SetManager k s) catalogue token c known e = found_same token 1 k (λ (r : Branch). record r { manager = Some s }) catalogue.branches (λ _. refl) ∙ e
-office_found (AddCountry name) catalogue token c known e = e
-office_found (AddCity city) catalogue token c known e = e
-office_found (AddLanguage name) catalogue token c known e = e
-office_found (AddCategory name) catalogue token c known e = e
-office_found (AddActor actor) catalogue token c known e = e
-office_found (AddFilm film) catalogue token c known e = e
-office_found (PriceFilm film rate) catalogue token c known e = e
-office_found (WithdrawFilm film) catalogue token c known e = e
-office_found (AddCast cast) catalogue token c known e = e
-office_found (AddStaff staff) catalogue token c known e = e
-office_found (StaffLeaves s) catalogue token c known e = e
-office_found (ChooseRule rule) catalogue token c known e = e
+office_found act catalogue token c known e = e
 
 office_token : (act : OfficeAct) (catalogue : Catalogue) → (office_acted act catalogue).office_token ≡ catalogue.office_token
 office_token (AddBranch branch) catalogue = refl
-office_token (SetManager k s) catalogue = refl
-office_token (AddCountry name) catalogue = refl
-office_token (AddCity city) catalogue = refl
-office_token (AddLanguage name) catalogue = refl
-office_token (AddCategory name) catalogue = refl
-office_token (AddActor actor) catalogue = refl
-office_token (AddFilm film) catalogue = refl
-office_token (PriceFilm film rate) catalogue = refl
-office_token (WithdrawFilm film) catalogue = refl
-office_token (AddCast cast) catalogue = refl
-office_token (AddStaff staff) catalogue = refl
-office_token (StaffLeaves s) catalogue = refl
-office_token (ChooseRule rule) catalogue = refl
+office_token act catalogue = refl
 
 acted_caller : (act : OfficeAct) (catalogue : Catalogue) (token : Option Text) (c : Caller) → is_nobody c ≡ false → caller_of token catalogue ≡ c → caller_of token (office_acted act catalogue) ≡ c
 acted_caller act catalogue None c known e = absurd (nobody_known c e known)
@@ -128,16 +105,8 @@ grows_done rules b c command books Accepted = owned_more b books.kept (record { 
 
 grows_by : (rules : Rules) (b : ℕ) (caller : Caller) (request : Request) (books : Books) → Grows b books (after_for rules caller request books)
 grows_by rules b (Counter c) (Do command) books = grows_done rules b c command books (verdict rules c books.catalogue (shop_of c books) command)
-grows_by rules b (Counter c) (Unread refusal) books = grows_not b books
-grows_by rules b (Counter c) (Look ask) books = grows_not b books
-grows_by rules b (Counter c) (Office command) books = grows_not b books
-grows_by rules b (Counter c) (OfficeLook ask) books = grows_not b books
 grows_by rules b HeadOffice (Office command) books = grows_not b books
-grows_by rules b HeadOffice (Do command) books = grows_not b books
-grows_by rules b HeadOffice (Unread refusal) books = grows_not b books
-grows_by rules b HeadOffice (Look ask) books = grows_not b books
-grows_by rules b HeadOffice (OfficeLook ask) books = grows_not b books
-grows_by rules b Nobody request books = grows_not b books
+grows_by rules b caller request books = grows_not b books
 
 pub never_again : (cs : List (Refusal × Bool)) (text : Text) → first cs ≡ Again text → ⊥
 never_again [] text e = cc
@@ -173,21 +142,13 @@ office_grows rules (Counter b) (Do command) books = by_verdict (verdict rules b 
     by_verdict (Again text) = office_grows_not books
     by_verdict (Refused refusal) = office_grows_not books
     by_verdict Accepted = ([], ap (λ (it : Catalogue). it.kept) (catalogue_stays rules b command command.act books) ∙ sym (append-nil books.catalogue.kept))
-office_grows rules (Counter b) (Unread refusal) books = office_grows_not books
-office_grows rules (Counter b) (Look ask) books = office_grows_not books
-office_grows rules (Counter b) (Office command) books = office_grows_not books
-office_grows rules (Counter b) (OfficeLook ask) books = office_grows_not books
 office_grows rules HeadOffice (Office command) books = by_verdict (office_verdict rules books.catalogue command)
   where
     by_verdict : (v : Verdict) → OfficeGrows books (record books { catalogue = if_accepted v (office_done command books.catalogue) books.catalogue })
     by_verdict (Again text) = ([], sym (append-nil books.catalogue.kept))
     by_verdict (Refused refusal) = ([], sym (append-nil books.catalogue.kept))
     by_verdict Accepted = (record { command = command; reply = office_text command books.catalogue } ∷ [], refl)
-office_grows rules HeadOffice (Do command) books = office_grows_not books
-office_grows rules HeadOffice (Unread refusal) books = office_grows_not books
-office_grows rules HeadOffice (Look ask) books = office_grows_not books
-office_grows rules HeadOffice (OfficeLook ask) books = office_grows_not books
-office_grows rules Nobody request books = office_grows_not books
+office_grows rules caller request books = office_grows_not books
 
 stays_again : (rules : Rules) (b : ℕ) (command : Command) (text : Text) (old new : Books) → Grows b old new → verdict rules b old.catalogue (shop_of b old) command ≡ Again text
     → verdict rules b new.catalogue (shop_of b new) command ≡ Again text
@@ -209,16 +170,8 @@ done_caller rules c command books token Accepted = ap (caller_of token) (catalog
 pub caller_after : (rules : Rules) (caller : Caller) (request : Request) (token : Option Text) (c : Caller) (books : Books) → is_nobody c ≡ false → caller_of token books.catalogue ≡ c
     → caller_of token (after_for rules caller request books).catalogue ≡ c
 caller_after rules (Counter b) (Do command) token c books known e = done_caller rules b command books token (verdict rules b books.catalogue (shop_of b books) command) ∙ e
-caller_after rules (Counter b) (Unread refusal) token c books known e = e
-caller_after rules (Counter b) (Look ask) token c books known e = e
-caller_after rules (Counter b) (Office command) token c books known e = e
-caller_after rules (Counter b) (OfficeLook ask) token c books known e = e
 caller_after rules HeadOffice (Office command) token c books known e = office_caller rules command books.catalogue token c known e
-caller_after rules HeadOffice (Do command) token c books known e = e
-caller_after rules HeadOffice (Unread refusal) token c books known e = e
-caller_after rules HeadOffice (Look ask) token c books known e = e
-caller_after rules HeadOffice (OfficeLook ask) token c books known e = e
-caller_after rules Nobody request token c books known e = e
+caller_after rules caller request token c books known e = e
 
 caller_next : (rules : Rules) (e : Event) (a : Answer) (event : Event) (c : Caller) (books : Books) → is_nobody c ≡ false → caller_in event books ≡ c → caller_in event (books_next rules e a books) ≡ c
 caller_next rules e a event c books known is = elim (cases_Bool (is_decided a)) [

@@ -7,14 +7,13 @@ use Rattle.std.proofs.lemmas.Slice.Eq.{bytes_eq-Decides}
 use Rattle.shop_model.specs.Rows.{Owned}
 use Rattle.shop_model.specs.Calendar.{Moment, same_moment}
 use Rattle.shop_model.specs.Values.{Text, Person, Act, AddCustomer, SetActive, Rent, TakeBack, Pay, Import, Dispatch, Receive, Scrap, Command, Rules}
-use Rattle.shop_model.specs.Refusals.{Refusal}
 use Rattle.shop_model.specs.Shop.{Kept, Shop, same_option, same_flag, same_person, same_act, same_command}
-use Rattle.shop_model.specs.Verdict.{Verdict, Again, Refused, Accepted, resent, verdict, first, refusals}
-use Rattle.shop_model.specs.Machine.{Request, Unread, Do, Look, Office, OfficeLook, reply_text}
-use Rattle.shop_model.specs.Books.{Books, Event, Caller, Counter, HeadOffice, Nobody, shop_of, book_done, after_for, after, caller_in, last_books}
+use Rattle.shop_model.specs.Verdict.{Accepted, resent, verdict, first, refusals}
+use Rattle.shop_model.specs.Machine.{Request, Do, Office, reply_text}
+use Rattle.shop_model.specs.Books.{Books, Event, Caller, Counter, HeadOffice, shop_of, book_done, after_for, after, caller_in, last_books}
 use Rattle.shop_model.specs.Laws.{ResentIsAgain}
 use Rattle.shop_model.proofs.RowLemmas.{same_test, same_if, one_more, more_yes, more_no}
-use Rattle.shop_model.proofs.Isolation.{is_accepted, accepted_is, not_accepted}
+use Rattle.shop_model.proofs.Isolation.{is_accepted, accepted_is, not_accepted, none_kept}
 
 pub bytes_same : (x : Text) → bytes_eq x x ≡ true
 bytes_same x = (bytes_eq-Decides x x).1 refl
@@ -52,18 +51,6 @@ command_same c = rw (bytes_same c.key, same_test c.staff, moment_same c.moment, 
 abbrev under : Text → Shop → List Kept
 under key shop = filter (λ (k : Kept). bytes_eq k.command.key key) shop.kept
 
-pub none_kept : (command : Command) (ks : List Kept) (v : Verdict) → resent command ks v ≡ Accepted → ks ≡ []
-none_kept command [] v e = refl
-none_kept command (k ∷ ks) v e = elim (cases_Bool (same_command k.command command)) [
-  | inl is ↦ let no : Again k.reply ≡ Accepted = rw is at e in absurd (again no)
-  | inr isnt ↦ let no : Refused _ ≡ Accepted = rw isnt at e in absurd (refused _ no)
-] where
-  again : Again k.reply ≡ Accepted → ⊥
-  again e = cc
-
-  refused : (r : Refusal) → Refused r ≡ Accepted → ⊥
-  refused r e = cc
-
 new_kept : (rules : Rules) (b : ℕ) (command : Command) (books : Books) → (shop_of b (book_done rules b command books)).kept ≡ (shop_of b books).kept ++ record { command = command; reply = reply_text rules command (shop_of b books) } ∷ []
 new_kept rules b command books = more_yes (λ (row : Owned Kept). row.it) (λ row. row.owner == b) books.kept (record { owner = b; it = record { command = command; reply = reply_text rules command (shop_of b books) } }) (same_test b)
 
@@ -72,7 +59,7 @@ first_kept : (rules : Rules) (b : ℕ) (command : Command) (books : Books) → v
     → under command.key (shop_of b (book_done rules b command books)) ≡ record { command = command; reply = reply_text rules command (shop_of b books) } ∷ []
 first_kept rules b command books e =
     let k : Kept = record { command = command; reply = reply_text rules command (shop_of b books) } in
-    let none = none_kept command (under command.key (shop_of b books)) (first (refusals rules b books.catalogue (shop_of b books) command)) e in
+    let none = (none_kept command (under command.key (shop_of b books)) (first (refusals rules b books.catalogue (shop_of b books) command)) e).0 in
     ap (filter (λ (k : Kept). bytes_eq k.command.key command.key)) (new_kept rules b command books)
     ∙ (one_more (λ (k : Kept). bytes_eq k.command.key command.key) (shop_of b books).kept k ∙ rw (bytes_same command.key, none))
 
@@ -85,7 +72,7 @@ stays_own rules b key k command books has e =
     elim (cases_Bool (bytes_eq command.key key)) [
       | inl is ↦
           let same : command.key ≡ key = (bytes_eq-Decides command.key key).0 is in
-          let none = none_kept command (under command.key (shop_of b books)) (first (refusals rules b books.catalogue (shop_of b books) command)) e in
+          let none = (none_kept command (under command.key (shop_of b books)) (first (refusals rules b books.catalogue (shop_of b books) command)) e).0 in
           absurd (clash (sym has ∙ (ap (λ t. under t (shop_of b books)) (sym same) ∙ none)))
       | inr isnt ↦ more ∙ rw isnt has
     ] where
@@ -107,16 +94,8 @@ stays_in rules b key k (Counter c) (Do command) books has =
     ] where
       own : (c : ℕ) → c ≡ b → verdict rules c books.catalogue (shop_of c books) command ≡ Accepted → under key (shop_of b (book_done rules c command books)) ≡ k ∷ []
       own c s e = let P : ℕ → Type 0 = λ n. verdict rules n books.catalogue (shop_of n books) command ≡ Accepted → under key (shop_of b (book_done rules n command books)) ≡ k ∷ [] in subst P (sym s) (stays_own rules b key k command books has) e
-stays_in rules b key k (Counter c) (Unread refusal) books has = has
-stays_in rules b key k (Counter c) (Look ask) books has = has
-stays_in rules b key k (Counter c) (Office command) books has = has
-stays_in rules b key k (Counter c) (OfficeLook ask) books has = has
-stays_in rules b key k HeadOffice (Do command) books has = has
-stays_in rules b key k HeadOffice (Unread refusal) books has = has
-stays_in rules b key k HeadOffice (Look ask) books has = has
 stays_in rules b key k HeadOffice (Office command) books has = has
-stays_in rules b key k HeadOffice (OfficeLook ask) books has = has
-stays_in rules b key k Nobody request books has = has
+stays_in rules b key k caller request books has = has
 
 stays_through : (rules : Rules) (b : ℕ) (key : Text) (k : Kept) (events : List Event) (books : Books) → under key (shop_of b books) ≡ k ∷ [] → under key (shop_of b (last_books rules events books)) ≡ k ∷ []
 stays_through rules b key k [] books has = has

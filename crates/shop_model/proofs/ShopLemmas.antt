@@ -202,22 +202,8 @@ done_other rules b c command books has differ =
     (kept ∙ sym (acted_kept rules c b command command.act books)) (last ∙ sym (acted_last rules c b command command.act books)) ∙ e where
       acted_kept : (rules : Rules) (c b : ℕ) (command : Command) (act : Act) (books : Books) → (shop_of b (book_acted rules c command act books)).kept ≡ (shop_of b books).kept
       acted_kept rules c b command (AddCustomer person) books = refl
-      acted_kept rules c b command (SetActive n active) books = refl
-      acted_kept rules c b command (Rent n x) books = refl
-      acted_kept rules c b command (TakeBack r) books = refl
-      acted_kept rules c b command (Pay n rental amount) books = refl
-      acted_kept rules c b command (Import lot file) books = refl
-      acted_kept rules c b command (Dispatch to xs) books = refl
-      acted_kept rules c b command (Receive source number missing) books = refl
-      acted_kept rules c b command (Scrap x) books = refl
+      acted_kept rules c b command act books = refl
 
       acted_last : (rules : Rules) (c b : ℕ) (command : Command) (act : Act) (books : Books) → (shop_of b (book_acted rules c command act books)).last ≡ (shop_of b books).last
       acted_last rules c b command (AddCustomer person) books = refl
-      acted_last rules c b command (SetActive n active) books = refl
-      acted_last rules c b command (Rent n x) books = refl
-      acted_last rules c b command (TakeBack r) books = refl
-      acted_last rules c b command (Pay n rental amount) books = refl
-      acted_last rules c b command (Import lot file) books = refl
-      acted_last rules c b command (Dispatch to xs) books = refl
-      acted_last rules c b command (Receive source number missing) books = refl
-      acted_last rules c b command (Scrap x) books = refl
+      acted_last rules c b command act books = refl

@@ -2,14 +2,15 @@
 use Rattle.std.proofs.Common.{◌≡◌, inl, inr, ℕ, ◌+◌, ◌-◌, ◌≤◌, List, [], ◌∷◌, ◌++◌, suc, length, filter, map, Bool, true, false, not, None, Some, refl, sym, subst, ap, ◌∙◌, arith, append-nil, length-append}
 use Rattle.std.specs.Prelude.{◌==◌, ◌&&◌, ◌||◌, nat_lt, flat_map, is_none}
 use Rattle.std.specs.List.{list_any, list_all}
+use Rattle.std.proofs.Math.Bool.{or-false}
 use Rattle.std.proofs.lemmas.Bool.{cases_Bool, or_parts, and_parts, not-true, not-false, true≢false}
 use Rattle.shop_model.specs.Rows.{Row, Owned, at, lacks, set_at, set_all, is_empty, is_row, next, mem, has_double}
 use Rattle.shop_model.specs.Calendar.{Moment}
-use Rattle.shop_model.specs.Values.{Branch, OfficeCommand, Copy, CopyState, Here, Sent, Scrapped, Rental, Arrival, Act, AddCustomer, SetActive, Rent, TakeBack, Pay, Import, Dispatch, Receive, Scrap, Command, Rules}
+use Rattle.shop_model.specs.Values.{Branch, OfficeCommand, Copy, CopyState, Here, Sent, Scrapped, Rental, Arrival, Act, AddCustomer, Rent, TakeBack, Import, Dispatch, Receive, Scrap, Command, Rules}
 use Rattle.shop_model.specs.Shop.{Kept, Shop, Catalogue}
 use Rattle.shop_model.specs.Stock.{is_here, in_stock, keeps_out, film_terms, terms_now}
 use Rattle.shop_model.specs.Verdict.{Accepted, first, refusals, verdict, office_verdict, act_refusals, is_away, arrival}
-use Rattle.shop_model.specs.Machine.{Request, Unread, Do, Look, Office, OfficeLook, acted, done, reply_text, catalogue_after, office_done, here, with_state, films_in, incoming}
+use Rattle.shop_model.specs.Machine.{Request, Do, Office, acted, done, reply_text, catalogue_after, office_done, here, with_state, films_in, incoming}
 use Rattle.shop_model.specs.Books.{Books, BookCopy, Mark, Line, UnderWay, Missing, Consignment, Caller, Counter, HeadOffice, Nobody, shop_of, unmarked, as_arrival, book_acted, book_done, is_consignment, imported, unpacked, rows_at, come, new_consignment, set_last, branch_after, after_for, after, caller_in, last_books}
 use Rattle.shop_model.specs.Sound.{one, copy_is, line_is, is_origin, rows_made, is_mark, places, is_made_as, marked_films, HasNumbers, HasOwners, HasCustody, HasOneHolder, HasTerms, IsSound, all_lines, lines_in, is_settled}
 use Rattle.shop_model.specs.Laws.{StaySound, StaySoundWithin, CopiesAreInOnePlace, SoundBooksAreInCustody, OpeningIsSound, EmptyIsSound, OpeningBooksAreSound}
@@ -21,13 +22,12 @@ use Rattle.std.proofs.lemmas.Bool.Decides.{nat_tests}
 use Rattle.shop_model.proofs.RowLemmas.{same_if, same_test, differ_if, differ_test, row_at, one_more, length_map}
 use Rattle.shop_model.proofs.ShopLemmas.{arrival_of, done_own, done_other, with_arrivals}
 use Rattle.shop_model.proofs.NumberLemmas.{acted_numbers}
-use Rattle.shop_model.proofs.Isolation.{is_accepted, accepted_is, not_accepted, NoneHold, accepted_holds, act_holds, not_self, catalogue_stays}
+use Rattle.shop_model.proofs.Isolation.{is_accepted, accepted_is, not_accepted, none_kept, NoneHold, accepted_holds, act_holds, not_self, catalogue_stays}
 use Rattle.shop_model.proofs.GoodShops.{all_weaker, good_acted, length_set}
 use Rattle.shop_model.proofs.LinkLemmas.{at_set_other, none_left, all_mapped, any_at_more, all_at, one_at}
 use Rattle.shop_model.proofs.LinkedShops.{linked_acted, linked_kept, linked_other}
 use Rattle.shop_model.proofs.GoodCatalogues.{Grows, done_grows, good_done, linked_grows}
 use Rattle.shop_model.proofs.Owners.{staff_works, branch_there, owners_done, owners_grow, places_kept}
-use Rattle.shop_model.proofs.Resent.{none_kept}
 use Rattle.shop_model.proofs.Origins.{all_append, origins_kept}
 use Rattle.shop_model.specs.GoodShop.{IsGoodShop}
 use Rattle.shop_model.proofs.CustodyLemmas.{total-append, AreHere, AllHere, scrapped_total, sent_total, sent_unscrapped, state_made, states_made, lines_sent, lines_unlost, import_total, put_unscrapped, unpacked_total, unpacked_made, UnderWayOld, under_way_old, made_old, made_once, AreOpen, come_old, received_total, settled_checked, settled_new, settled_sent}
@@ -66,11 +66,6 @@ open_same (c ∷ cs) = ap (λ r. c.received || r) (open_same cs)
 
 custody_kept : (rules sizes : Rules) (b : ℕ) (catalogue : Catalogue) (command : Command) (act : Act) (books : Books) → IsSound sizes books
     → NoneHold (act_refusals rules b catalogue (shop_of b books) command.moment act) → HasCustody (book_acted rules b command act books)
-custody_kept rules sizes b catalogue command (AddCustomer person) books sound none = sound.custody
-custody_kept rules sizes b catalogue command (SetActive c active) books sound none = sound.custody
-custody_kept rules sizes b catalogue command (Rent c x) books sound none = sound.custody
-custody_kept rules sizes b catalogue command (TakeBack r) books sound none = sound.custody
-custody_kept rules sizes b catalogue command (Pay c rental amount) books sound none = sound.custody
 custody_kept rules sizes b catalogue command (Import lot file) books sound none = λ test.
     let films = films_in (rules.stock_of file) in
     let before = sound.custody test in
@@ -117,17 +112,12 @@ custody_kept rules sizes b catalogue command (Scrap x) books sound none = λ tes
     let h = scrapped_total test b x books.copies (are_here b x books sound.numbers none.1.0) in
     let m = state_made test b x Scrapped books.copies in
     omega (arith, before, h, m)
+custody_kept rules sizes b catalogue command act books sound none = sound.custody
 
 settled_kept : (rules : Rules) (b : ℕ) (command : Command) (act : Act) (books : Books) → list_all is_settled books.consignments ≡ true → list_all is_settled (book_acted rules b command act books).consignments ≡ true
-settled_kept rules b command (AddCustomer person) books settled = settled
-settled_kept rules b command (SetActive c active) books settled = settled
-settled_kept rules b command (Rent c x) books settled = settled
-settled_kept rules b command (TakeBack r) books settled = settled
-settled_kept rules b command (Pay c rental amount) books settled = settled
-settled_kept rules b command (Import lot file) books settled = settled
 settled_kept rules b command (Dispatch to xs) books settled = settled_sent books.consignments (new_consignment b to xs books) settled (settled_new (rows_at b xs books.copies))
 settled_kept rules b command (Receive source number missing) books settled = settled_checked missing (is_consignment source b number) books.consignments settled
-settled_kept rules b command (Scrap x) books settled = settled
+settled_kept rules b command act books settled = settled
 
 -- ---- one holder
 
@@ -181,8 +171,6 @@ out_now x rentals e = not-false (list_any (keeps_out x) rentals) e
 
 holder_kept : (rules : Rules) (b : ℕ) (catalogue : Catalogue) (command : Command) (act : Act) (shop : Shop) → HasOneHolder shop
     → NoneHold (act_refusals rules b catalogue shop command.moment act) → HasOneHolder (acted rules catalogue command act shop)
-holder_kept rules b catalogue command (AddCustomer person) shop h none = record { one = h.one; here = h.here }
-holder_kept rules b catalogue command (SetActive c active) shop h none = record { one = h.one; here = h.here }
 holder_kept rules b catalogue command (Rent c x) shop h none = record {
   one = λ y. elim (cases_Bool (x == y)) [
     | inl is ↦
@@ -203,12 +191,9 @@ holder_kept rules b catalogue command (Rent c x) shop h none = record {
 
   still : (y : ℕ) → (x == y) ≡ false → in_stock y (shop.rentals ++ record { rented = command.moment; copy = x; customer = c; returned = None; staff = command.staff } ∷ []) ≡ false → in_stock y shop.rentals ≡ false
   still y isnt out =
-      let plain : (list_any (keeps_out y) shop.rentals || (x == y && true)) ≡ list_any (keeps_out y) shop.rentals = rw isnt (or_false (list_any (keeps_out y) shop.rentals)) in
+      let plain : (list_any (keeps_out y) shop.rentals || (x == y && true)) ≡ list_any (keeps_out y) shop.rentals = rw isnt (or-false (list_any (keeps_out y) shop.rentals)) in
       let e : list_any (keeps_out y) (shop.rentals ++ record { rented = command.moment; copy = x; customer = c; returned = None; staff = command.staff } ∷ []) ≡ list_any (keeps_out y) shop.rentals = some_more (keeps_out y) shop.rentals (record { rented = command.moment; copy = x; customer = c; returned = None; staff = command.staff }) ∙ plain in
-      sym (ap not e) ∙ out where
-        or_false : (a : Bool) → (a || false) ≡ a
-        or_false true = refl
-        or_false false = refl
+      sym (ap not e) ∙ out
 
   present : (copies : List Copy) (x : ℕ) → lacks copies x ≡ false → is_away copies x ≡ false → list_any is_here (at x copies) ≡ true
   present copies x has isnt = by_row (at x copies) has isnt where
@@ -219,7 +204,6 @@ holder_kept rules b catalogue command (TakeBack r) shop h none = record {
   one = λ x. let fewer = (fewer_open x r command.moment shop.rentals).0 in let before = h.one x in omega (arith, fewer, before);
   here = λ x out. let some = (fewer_open x r command.moment shop.rentals).1 (out_now x (set_at r (λ it. record it { returned = Some command.moment }) shop.rentals) out) in h.here x (rw some);
 }
-holder_kept rules b catalogue command (Pay c rental amount) shop h none = record { one = h.one; here = h.here }
 holder_kept rules b catalogue command (Import lot file) shop h none = record { one = h.one; here = λ x out. any_at_more is_here x shop.copies (map here (films_in (rules.stock_of file))) (h.here x out) }
 holder_kept rules b catalogue command (Dispatch to xs) shop h none = record {
   one = h.one;
@@ -236,20 +220,14 @@ holder_kept rules b catalogue command (Scrap x) shop h none = record {
     | inr isnt ↦ rw (at_set_other x y (with_state Scrapped) shop.copies (differ_if x y isnt)) (h.here y out)
   ];
 }
+holder_kept rules b catalogue command act shop h none = record { one = h.one; here = h.here }
 
 holder_other : (b c : ℕ) (act : Act) (books : Books) → HasOneHolder (shop_of b books) → HasOneHolder (with_arrivals b c act books)
 holder_other b c (Dispatch to xs) books h = elim (cases_Bool (to == b)) [
   | inl is ↦ rw is (holder_same (shop_of b books) _ refl refl h)
   | inr isnt ↦ rw isnt h
 ]
-holder_other b c (AddCustomer person) books h = h
-holder_other b c (SetActive n active) books h = h
-holder_other b c (Rent n x) books h = h
-holder_other b c (TakeBack r) books h = h
-holder_other b c (Pay n rental amount) books h = h
-holder_other b c (Import lot file) books h = h
-holder_other b c (Receive source number missing) books h = h
-holder_other b c (Scrap x) books h = h
+holder_other b c act books h = h
 
 good_same : (rules : Rules) (shop : Shop) (arrivals : List Arrival) → IsGoodShop rules shop → IsGoodShop rules (record shop { arrivals = arrivals })
 good_same rules shop arrivals h = record { apart = h.apart; created = h.created; rented = h.rented; paid = h.paid; rentals_rise = h.rentals_rise; payments_rise = h.payments_rise; keys = h.keys; copies = h.copies; customers_fit = h.customers_fit; rentals_fit = h.rentals_fit; payments_fit = h.payments_fit; lots_fit = h.lots_fit; sent_fit = h.sent_fit }
@@ -259,14 +237,7 @@ good_other rules b c (Dispatch to xs) books h = elim (cases_Bool (to == b)) [
   | inl is ↦ rw is (good_same rules (shop_of b books) _ h)
   | inr isnt ↦ rw isnt h
 ]
-good_other rules b c (AddCustomer person) books h = h
-good_other rules b c (SetActive n active) books h = h
-good_other rules b c (Rent n x) books h = h
-good_other rules b c (TakeBack r) books h = h
-good_other rules b c (Pay n rental amount) books h = h
-good_other rules b c (Import lot file) books h = h
-good_other rules b c (Receive source number missing) books h = h
-good_other rules b c (Scrap x) books h = h
+good_other rules b c act books h = h
 
 -- ---- last moments
 
@@ -400,44 +371,24 @@ terms_kept rules b catalogue command (Rent c x) shop linked none same =
     let rentals = length-append shop.rentals (record { rented = command.moment; copy = x; customer = c; returned = None; staff = command.staff } ∷ []) in
     omega (arith, new, terms, rentals, same)
 terms_kept rules b catalogue command (TakeBack r) shop linked none same = same ∙ sym (length_set r (λ (it : Rental). record it { returned = Some command.moment }) shop.rentals)
-terms_kept rules b catalogue command (AddCustomer person) shop linked none same = same
-terms_kept rules b catalogue command (SetActive c active) shop linked none same = same
-terms_kept rules b catalogue command (Pay c rental amount) shop linked none same = same
-terms_kept rules b catalogue command (Import lot file) shop linked none same = same
-terms_kept rules b catalogue command (Dispatch to xs) shop linked none same = same
-terms_kept rules b catalogue command (Receive source number missing) shop linked none same = same
-terms_kept rules b catalogue command (Scrap x) shop linked none same = same
+terms_kept rules b catalogue command act shop linked none same = same
 
 terms_other : (b c : ℕ) (act : Act) (books : Books) → HasTerms (shop_of b books) → HasTerms (with_arrivals b c act books)
 terms_other b c (Dispatch to xs) books same = elim (cases_Bool (to == b)) [ inl is ↦ rw is same | inr isnt ↦ rw isnt same ]
-terms_other b c (AddCustomer person) books same = same
-terms_other b c (SetActive n active) books same = same
-terms_other b c (Rent n x) books same = same
-terms_other b c (TakeBack r) books same = same
-terms_other b c (Pay n rental amount) books same = same
-terms_other b c (Import lot file) books same = same
-terms_other b c (Receive source number missing) books same = same
-terms_other b c (Scrap x) books same = same
+terms_other b c act books same = same
 
 -- ---- a step and a run
 
 kept_same : (rules : Rules) (catalogue : Catalogue) (command : Command) (act : Act) (shop : Shop) → shop.kept ≡ (acted rules catalogue command act shop).kept
 kept_same rules catalogue command (AddCustomer person) shop = refl
-kept_same rules catalogue command (SetActive n active) shop = refl
-kept_same rules catalogue command (Rent n x) shop = refl
-kept_same rules catalogue command (TakeBack r) shop = refl
-kept_same rules catalogue command (Pay n rental amount) shop = refl
-kept_same rules catalogue command (Import lot file) shop = refl
-kept_same rules catalogue command (Dispatch to xs) shop = refl
-kept_same rules catalogue command (Receive source number missing) shop = refl
-kept_same rules catalogue command (Scrap x) shop = refl
+kept_same rules catalogue command act shop = refl
 
 links_own : (rules : Rules) (b : ℕ) (catalogue : Catalogue) (command : Command) (shop : Shop) → IsLinkedShop b catalogue shop → verdict rules b catalogue shop command ≡ Accepted → is_staff_of b catalogue.staff command.staff ≡ true
     → IsLinkedShop b catalogue (done rules catalogue command shop)
 links_own rules b catalogue command shop linked e works =
     let none = act_holds rules b catalogue shop command e in
     let k : Kept = record { command = command; reply = reply_text rules command shop } in
-    let fresh = none_kept command (filter (λ (k : Kept). bytes_eq k.command.key command.key) shop.kept) (first (refusals rules b catalogue shop command)) e in
+    let fresh = (none_kept command (filter (λ (k : Kept). bytes_eq k.command.key command.key) shop.kept) (first (refusals rules b catalogue shop command)) e).0 in
     linked_kept b catalogue k (Some command.moment) (acted rules catalogue command command.act shop) (linked_acted rules b catalogue command command.act shop linked works none) shop.kept (kept_same rules catalogue command command.act shop)
     (none_left (λ (it : Kept). bytes_eq it.command.key command.key) shop.kept fresh)
 
@@ -502,10 +453,7 @@ branch_sound rules sizes b (Do command) books most fit sound =
       | inl is ↦ let e : v ≡ Accepted = accepted_is v is in rw e (done_sound rules sizes b command books most fit sound e)
       | inr isnt ↦ rw (not_accepted v (book_done rules b command books) books isnt) sound
     ]
-branch_sound rules sizes b (Unread refusal) books most fit sound = sound
-branch_sound rules sizes b (Look ask) books most fit sound = sound
-branch_sound rules sizes b (Office command) books most fit sound = sound
-branch_sound rules sizes b (OfficeLook ask) books most fit sound = sound
+branch_sound rules sizes b request books most fit sound = sound
 
 -- another catalogue, which is sound and has grown
 grown_sound : (sizes : Rules) (catalogue : Catalogue) (books : Books) → IsSound sizes books → IsGoodCatalogue sizes catalogue → Grows books.catalogue catalogue → IsSound sizes (record books { catalogue = catalogue })
@@ -538,11 +486,7 @@ office_sound rules sizes command books most sound =
 pub after_sound : (rules sizes : Rules) (caller : Caller) (request : Request) (books : Books) → rules.commands ≤ sizes.commands → rules.copies ≤ sizes.copies → IsSound sizes books → IsSound sizes (after_for rules caller request books)
 after_sound rules sizes (Counter b) request books most fit sound = branch_sound rules sizes b request books most fit sound
 after_sound rules sizes HeadOffice (Office command) books most fit sound = office_sound rules sizes command books most sound
-after_sound rules sizes HeadOffice (Unread refusal) books most fit sound = sound
-after_sound rules sizes HeadOffice (Do command) books most fit sound = sound
-after_sound rules sizes HeadOffice (Look ask) books most fit sound = sound
-after_sound rules sizes HeadOffice (OfficeLook ask) books most fit sound = sound
-after_sound rules sizes Nobody request books most fit sound = sound
+after_sound rules sizes caller request books most fit sound = sound
 
 pub stays_sound_within : StaySoundWithin
 stays_sound_within rules sizes [] books most fit sound = sound

@@ -12,7 +12,7 @@ use Rattle.shop_model.specs.Shop.{Catalogue, Kept, OfficeKept, same_command, sam
 use Rattle.shop_model.specs.Refusals.{KeyUsed, Full}
 use Rattle.shop_model.specs.Verdict.{Verdict, Again, Refused, Accepted, resent, office_resent, verdict, office_verdict, first, refusals, office_refusals}
 use Rattle.shop_model.specs.Links.{are_different}
-use Rattle.shop_model.specs.Machine.{Request, Unread, Do, Look, Office, OfficeLook, Reply, Done, if_accepted, reply_by, reply_text, office_text, office_done}
+use Rattle.shop_model.specs.Machine.{Request, Do, Office, Reply, Done, if_accepted, reply_by, reply_text, office_text, office_done}
 use Rattle.shop_model.specs.Answers.{Answer, answer_of}
 use Rattle.shop_model.specs.Books.{Books, Event, Caller, Counter, HeadOffice, Nobody, shop_of, book_done, caller_in, reply_for, after_for, reply_in, after, run, last_books}
 use Rattle.shop_model.specs.Sound.{IsSound}
@@ -239,19 +239,11 @@ once rules look (Counter b) (Do command) books = elim (once_branch rules b comma
   | inl same ↦ inl same
   | inr done ↦ inr (done.0, refl, done.1, done.2)
 ]
-once rules look (Counter b) (Unread refusal) books = inl refl
-once rules look (Counter b) (Look ask) books = inl refl
-once rules look (Counter b) (Office command) books = inl refl
-once rules look (Counter b) (OfficeLook ask) books = inl refl
 once rules look HeadOffice (Office command) books = elim (once_office rules command books (office_verdict rules books.catalogue command) refl) [
   | inl same ↦ inl (ap (λ (it : Catalogue). record books { catalogue = it }) same)
   | inr done ↦ inr (done.0, refl, done.1, done.2)
 ]
-once rules look HeadOffice (Do command) books = inl refl
-once rules look HeadOffice (Unread refusal) books = inl refl
-once rules look HeadOffice (Look ask) books = inl refl
-once rules look HeadOffice (OfficeLook ask) books = inl refl
-once rules look Nobody request books = inl refl
+once rules look caller request books = inl refl
 
 command_known : (caller : Caller) (request : Request) → is_command caller request ≡ true → is_nobody caller ≡ false
 command_known (Counter b) request is = refl

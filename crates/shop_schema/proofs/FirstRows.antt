@@ -1,7 +1,10 @@
 -- What the first of the rows that a SELECT shows tells of the values that it was to show.
-use Rattle.std.proofs.Common.{◌≡◌, List, [], ◌∷◌, map, Option, Some, None, refl, sym, ap, ◌∙◌}
-use Rattle.std.specs.Prelude.{slice_get}
+use Rattle.std.proofs.Common.{◌≡◌, ℕ, List, [], ◌∷◌, map, Option, Some, None, Ok, Err, Result, refl, sym, ap, ◌∙◌}
+use Rattle.std.specs.Prelude.{slice_get, IfOk}
 use Rattle.sqlite_value.specs.Order.{Row}
+use Rattle.sqlite.specs.State.{State, Shown}
+use Rattle.sql_rows.specs.declared.fault.StoreFault.{StoreFault}
+use Rattle.shop_schema.specs.First.{TellsFirst}
 use Rattle.shop_model.specs.Books.{head}
 
 -- `show` says which columns are shown of a value, and `told` what is to be told of it
@@ -23,3 +26,17 @@ module _ {X V : Type 0} (show : X → Row) (told : X → V) where
       go : (found : List X) → slice_get (map show found) 0 ≡ Some row → Some v ≡ head (map told found)
       go [] e = cc
       go (x ∷ more) e = let one : show x ≡ row = cc in ap Some (means x one)
+
+-- what a reader of the first row answers
+told_first : {V E : Type 0} {Fits : Row → V → Type 0} (rows : List Row) (P : Option V → Type 0) (r : Result (Option V) E) → IfOk r (TellsFirst Fits rows)
+    → (None ≡ slice_get rows 0 → P None) × ((row : Row) (v : V) → Some row ≡ slice_get rows 0 → Fits row v → P (Some v)) → IfOk r P
+told_first rows P (Err e) told read = tt
+told_first rows P (Ok None) told read = read.0 told
+told_first rows P (Ok (Some v)) told read = read.1 told.0 v told.1 told.2
+
+-- the same of the first row that a query shows
+pub first_then : {V : Type 0} {Fits : Row → V → Type 0} (old new : State) (text : List ℕ) (params : Row) (P : Option V → Type 0) (r : Result (Option V) StoreFault)
+    → IfOk r (λ o. (rows : List Row) × Shown text params old new rows × TellsFirst Fits rows o)
+    → ((rows : List Row) → Shown text params old new rows → (None ≡ slice_get rows 0 → P None) × ((row : Row) (v : V) → Some row ≡ slice_get rows 0 → Fits row v → P (Some v))) → IfOk r P
+first_then old new text params P (Err e) told read = tt
+first_then old new text params P (Ok o) told read = told_first {E = StoreFault} told.0 P (Ok o) told.2 (read told.0 told.1)

@@ -77,10 +77,6 @@ with_rule : created half_schema rule_placeless ≡ shop_schema
 unfolding everything
 with_rule = refl
 
--- the tables that are made last are those that version 2 has more
-pub version_2_is_made : created (created version_1_schema terms_placeless) rule_placeless ≡ shop_schema
-version_2_is_made = ap (λ (schema : Schema). created schema rule_placeless) with_terms ∙ with_rule
-
 terms_tree : next_tree version_1_schema ≡ 57
 unfolding everything
 terms_tree = refl

@@ -22,6 +22,6 @@ pub use moment_text::MomentText;
 pub use office_forms::office_form;
 pub use ranges::{command_values, office_values};
 pub use read::{
-    first_of, moment_at, moment_or_null_at, row_number_at, row_number_or_null_at, row_numbers_in,
-    text_at,
+    first_of, moment_at, moment_or_null_at, query_first, row_number_at, row_number_or_null_at,
+    row_numbers_in, text_at,
 };

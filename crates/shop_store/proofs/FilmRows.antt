@@ -1,28 +1,23 @@
 -- What is read of a film by its number, with all its columns.
-use Rattle.std.proofs.Common.{◌≡◌, ◌≢◌, ◌≤◌, ◌<◌, ◌-◌, ◌==◌, ℕ, List, [], ◌∷◌, Bool, true, false, cond, map, length, refl, sym, ap, ◌∙◌, arith, Ok, Err, Result}
-use Rattle.std.specs.Prelude.{Option, Some, None, IfOk, IfErr, IsErrAnd, take, option_map}
+use Rattle.std.proofs.Common.{◌≡◌, ◌≤◌, ◌-◌, ◌==◌, ℕ, List, [], ◌∷◌, Bool, true, false, cond, map, length, refl, ap, ◌∙◌, arith, Ok, Err, Result}
+use Rattle.std.specs.Prelude.{Option, Some, None, IfOk, take, option_map}
 use Rattle.std.specs.Option.{option_to_list}
-use Rattle.sqlite.specs.declared.types.Value.{Value}
 use Rattle.sqlite_value.specs.Order as sql
-use Rattle.sqlite_value.specs.Order.{column}
 use Rattle.sqlite_tied.specs.Compute.{everything}
 use Rattle.sqlite.specs.Listing.{understood}
 use Rattle.sqlite.specs.State.{State, Shown}
 use Rattle.sql_rows.specs.Rows.{number_value}
 use Rattle.sql_rows.specs.declared.fault.StoreFault.{StoreFault}
-use Rattle.sql_rows.specs.declared.fault.StoreFault.TheVariants.{Failed}
 use Rattle.shop_model.specs.Rows.{at}
 use Rattle.shop_model.specs.Values.{Film}
 use Rattle.shop_schema.specs.Columns.{film_columns}
-use Rattle.shop_schema.specs.RowValues.{IsNumber, IsFilm}
 use Rattle.shop_schema.specs.Shop.{Reads}
 use Rattle.shop_schema.proofs.Listed.{cols}
 use Rattle.shop_schema.proofs.SameRows.{same_film}
 use Rattle.shop_store.specs.declared.films.TheConstants.{SELECT_FILM}
-use Rattle.shop_store.specs.SharedSeen.{seen_film_row, IsNoFilm}
+use Rattle.shop_store.specs.SharedSeen.{seen_film_row}
 use Rattle.shop_store.specs.declared.films.FilmRow.{FilmRow}
 use Rattle.shop_store.proofs.ByNumber.{films}
-use Rattle.sql_rows.proofs.Faults.{err_and}
 use Rattle.sql_rows.proofs.Queries.{Selects}
 use Rattle.shop_schema.specs.Tables.{shop_schema}
 use Rattle.shop_store.proofs.SharedReads.{asked, Shows, still, shows_shared}
@@ -67,15 +62,3 @@ read_row old new n rows slice (Ok o) h low same read = λ books holds held.
       still films SELECT_FILM.now (cols 1 1 12) select_row_means (λ vs. vs) select_row_shows old new n rows h low books holds,
       film_of n o (at n books.catalogue.films) (at_short n books.catalogue.films) (read ∙ ap (take 1) (same ∙ found)),
     )
-
--- a row of which a column holds no value of its kind is no film's
-pub no_film : {V W : Type 0} (at : ℕ) (value : V → Value) (Is : V → Type 0) (part : FilmRow → V) → at < 12
-    → ((x : FilmRow) → IsNumber x.number × IsFilm (seen_film_row x) → Is (part x)) → ((x : FilmRow) → column (columns_read x) at ≡ value (part x))
-    → (r : Result W StoreFault) (e : StoreFault) (row : sql.Row) → length row ≡ 12 → IsErrAnd r (λ y. y ≡ e) → (e ≡ Failed → (v : V) → Is v → at < length row → column row at ≢ value v)
-    → IfErr r (λ y. y ≡ Failed → IsNoFilm row)
-no_film at value Is part within is shown r e row wide same none =
-    err_and r same (λ y is_e failed x fits columns. none (sym is_e ∙ failed) (part x) (is x fits) (omega (arith, wide, within)) (ap (λ (r : sql.Row). column r at) (sym columns) ∙ shown x))
-
--- nor is a row of which several columns hold none
-pub still_no_film : {W : Type 0} (r : Result W StoreFault) (e : StoreFault) (row : sql.Row) → IsErrAnd r (λ y. y ≡ e) → (e ≡ Failed → IsNoFilm row) → IfErr r (λ y. y ≡ Failed → IsNoFilm row)
-still_no_film r e row same none = err_and r same (λ y is_e failed. none (sym is_e ∙ failed))

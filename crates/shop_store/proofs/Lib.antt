@@ -9,7 +9,6 @@ pub mod PutTexts
 pub mod SharedSets
 pub mod OpeningTexts
 pub mod CountPuts
-pub mod FilmColumns
 pub mod FilmRows
 pub mod BranchRows
 pub mod BranchTables
@@ -25,4 +24,3 @@ pub mod OnTermed
 pub mod OutRentals
 pub mod OnPayments
 pub mod SameRentals
-pub mod Refused

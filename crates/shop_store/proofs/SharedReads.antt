@@ -1,6 +1,6 @@
 -- What is read of a shared row by its number.
-use Rattle.std.proofs.Common.{◌≡◌, ◌≤◌, ◌==◌, ◌&&◌, ℕ, List, [], ◌∷◌, map, length, cond, not, true, Some, None, Ok, Err, Result, refl, sym, ap, subst, ◌∙◌, arith}
-use Rattle.std.specs.Prelude.{slice_get, IfOk, Option}
+use Rattle.std.proofs.Common.{◌≡◌, ◌≤◌, ◌==◌, ◌&&◌, ℕ, List, [], ◌∷◌, map, length, cond, not, true, Some, None, refl, sym, ap, subst, ◌∙◌, arith}
+use Rattle.std.specs.Prelude.{slice_get}
 use Rattle.std.specs.List.{list_all}
 use Rattle.std.proofs.lemmas.Bool.Decides.{nat_tests}
 use Rattle.sqlite.specs.declared.types.Value.TheVariants.{Null, Text}
@@ -37,7 +37,6 @@ use Rattle.shop_store.specs.declared.rows.TheConstants.{SELECT_COUNTRY, SELECT_L
 use Rattle.shop_store.specs.declared.staff.TheConstants.{SELECT_POST}
 use Rattle.shop_store.proofs.ByNumber.{ByNumber, countries, languages, categories, cities, actors, films, staff, branches}
 use Rattle.shop_types.specs.Verdicts.{post_of}
-use Rattle.shop_schema.specs.First.{TellsFirst}
 use Rattle.shop_store.specs.SharedSeen.{withdrawn_of, title_of, manager_of}
 
 abbrev pub of_number : List Term
@@ -96,13 +95,6 @@ ReadsFirst {A} {V} t text told Fits =
     (old new : State) (n : ℕ) (rows slice : List sql.Row) → Shown text (number_value n ∷ []) old new rows → 1 ≤ n → slice ≡ rows
     → (None ≡ slice_get slice 0 → Reads old new (λ books. None ≡ head (map told (at n (t.part.items books)))))
     × ((row : sql.Row) (v : V) → Some row ≡ slice_get slice 0 → Fits row v → Reads old new (λ books. Some v ≡ head (map told (at n (t.part.items books)))))
-
--- what a reader of the first row answers
-pub told_first : {V E : Type 0} {Fits : sql.Row → V → Type 0} (slice : List sql.Row) (P : Option V → Type 0) (r : Result (Option V) E) → IfOk r (TellsFirst Fits slice)
-    → (None ≡ slice_get slice 0 → P None) → ((row : sql.Row) (v : V) → Some row ≡ slice_get slice 0 → Fits row v → P (Some v)) → IfOk r P
-told_first slice P (Err e) told none some = tt
-told_first slice P (Ok None) told none some = none told
-told_first slice P (Ok (Some v)) told none some = some told.0 v told.1 told.2
 
 -- ---- whether there is a row of the number
 

@@ -1,5 +1,5 @@
 -- What a row means.
-use Rattle.std.specs.Prelude.{◌≢◌, [], ◌∷◌, None}
+use Rattle.std.specs.Prelude.{[], ◌∷◌, None}
 use Rattle.sqlite.specs.Values.{or_null}
 use Rattle.sqlite_value.specs.Order as sql
 use Rattle.sql_rows.specs.Rows.{number_value}
@@ -8,8 +8,8 @@ use Rattle.shop_model.specs.Values as model
 use Rattle.shop_model.specs.Values.{Customer, Copy, Rental, Terms, Payment}
 use Rattle.shop_model.specs.Books.{BookCopy}
 use Rattle.shop_types.specs.Seen.{seen_customer, seen_rental, seen_terms, seen_payment, seen_mark}
-use Rattle.shop_schema.specs.Columns.{moment_value, customer_columns}
-use Rattle.shop_schema.specs.RowValues.{IsRow, IsCustomer, IsRental, IsTerms}
+use Rattle.shop_schema.specs.Columns.{moment_value}
+use Rattle.shop_schema.specs.RowValues.{IsRental, IsTerms}
 use Rattle.shop_store.specs.declared.customers.CustomerRow.{CustomerRow}
 use Rattle.shop_store.specs.declared.copies.CopyState.{CopyState}
 use Rattle.shop_store.specs.declared.copies.CopyState.TheVariants as state
@@ -23,10 +23,6 @@ use Rattle.shop_store.specs.declared.termed.TermedRental.{TermedRental}
 -- a customer of a branch, with the number
 abbrev pub seen_row : CustomerRow → Row Customer
 seen_row row = record { branch = row.branch; number = row.number; it = seen_customer row.customer }
-
--- the row is that of no customer that the program can hold
-abbrev pub IsNoCustomer : sql.Row → Type 0
-IsNoCustomer row = (x : CustomerRow) → IsRow IsCustomer (seen_row x) → customer_columns (seen_row x) ≢ row
 
 abbrev pub seen_state : CopyState → model.CopyState
 seen_state state.Here = model.Here

@@ -1,13 +1,11 @@
 -- What is found of shared rows, as the model has it.
-use Rattle.std.specs.Prelude.{◌≡◌, ◌≢◌, ℕ, Bool, List, [], ◌∷◌, Option, Some, None}
+use Rattle.std.specs.Prelude.{◌≡◌, ℕ, Bool, List, [], ◌∷◌, Option, Some, None}
 use Rattle.sqlite_value.specs.Order as sql
 use Rattle.sqlite_value.specs.Order.{column}
 use Rattle.sql_rows.specs.Rows.{number_value}
 use Rattle.shop_model.specs.Values.{Text, Film, Branch}
 use Rattle.shop_model.specs.Books.{Caller, Counter, Nobody}
 use Rattle.shop_types.specs.Seen.{seen_film}
-use Rattle.shop_schema.specs.Columns.{film_columns}
-use Rattle.shop_schema.specs.RowValues.{IsNumber, IsFilm}
 use Rattle.shop_store.specs.declared.films.FilmRow.{FilmRow}
 
 -- the branch as a caller, or nobody
@@ -21,10 +19,6 @@ withdrawn_of film = film.withdrawn
 -- a film that was found, withdrawn or not
 abbrev pub seen_film_row : FilmRow → Film
 seen_film_row row = record (seen_film row.film) { withdrawn = row.withdrawn }
-
--- the row is that of no film that the program can hold
-abbrev pub IsNoFilm : sql.Row → Type 0
-IsNoFilm row = (x : FilmRow) → IsNumber x.number × IsFilm (seen_film_row x) → film_columns (x.number, seen_film_row x) ≢ row
 
 abbrev pub title_of : Film → Text
 title_of film = film.title

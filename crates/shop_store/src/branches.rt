@@ -9,9 +9,9 @@ ghost use Rattle.shop_schema.specs.Calls.{Finds, Stores};
 ghost use Rattle.shop_store.specs.SharedSeen.{branch_caller, manager_of};
 
 use crate::columns::token_text;
-use shop_schema::{first_of, row_number_at, row_number_or_null_at};
+use shop_schema::{query_first, row_number_at, row_number_or_null_at};
 use shop_types::{BranchNo, StaffNo, Token};
-use sql_rows::{StoreFault, execute, query};
+use sql_rows::{StoreFault, execute};
 use sqlite::types::ToSql;
 use sqlite::{Alter, Transaction};
 
@@ -26,8 +26,12 @@ pub fn branch_with<S: Alter>(
     ensures found { Finds (state S.Store tx.old.conn.now) (state S.Store tx.new.conn.now) result
         (λ branch books. branch_caller branch ≡ branch_with token.now 1 books.catalogue.branches) }
 {
-    let rows = query(tx, SELECT_WITH_TOKEN, &[token_text(token).to_sql()])?;
-    first_of(rows.as_slice(), |row| row_number_at(row, 0))
+    query_first(
+        tx,
+        SELECT_WITH_TOKEN,
+        &[token_text(token).to_sql()],
+        |row| row_number_at(row, 0),
+    )
 }
 
 const SELECT_MANAGER: &str = "SELECT manager FROM branch WHERE number = ?1";
@@ -41,8 +45,12 @@ pub fn branch_manager<S: Alter>(
     ensures found { Finds (state S.Store tx.old.conn.now) (state S.Store tx.new.conn.now) result
         (λ manager books. manager ≡ head (map manager_of (at branch books.catalogue.branches))) }
 {
-    let rows = query(tx, SELECT_MANAGER, &[branch.get().to_sql()])?;
-    first_of(rows.as_slice(), |row| row_number_or_null_at(row, 0))
+    query_first(
+        tx,
+        SELECT_MANAGER,
+        &[branch.get().to_sql()],
+        |row| row_number_or_null_at(row, 0),
+    )
 }
 
 const UPDATE_MANAGER: &str = "UPDATE branch SET manager = ?2 WHERE number = ?1";

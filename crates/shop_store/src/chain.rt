@@ -12,9 +12,9 @@ ghost use Rattle.shop_schema.specs.Columns.{rule_value};
 
 use crate::columns::{token_at, token_text};
 use crate::rows::shows_row;
-use shop_schema::first_of;
+use shop_schema::query_first;
 use shop_types::{Rule, Token};
-use sql_rows::{StoreFault, execute, number_at, query};
+use sql_rows::{StoreFault, execute, number_at};
 use sqlite::types::ToSql;
 use sqlite::{Alter, Row, Transaction};
 
@@ -37,8 +37,7 @@ pub fn office_token<S: Alter>(tx: &mut Transaction<'_, S>) -> Result<Token, Stor
     ensures found { Finds (state S.Store tx.old.conn.now) (state S.Store tx.new.conn.now) result
         (λ token books. token ≡ books.catalogue.office_token) }
 {
-    let rows = query(tx, SELECT_OFFICE_TOKEN, &[])?;
-    match first_of(rows.as_slice(), |row| token_at(row, 0))? {
+    match query_first(tx, SELECT_OFFICE_TOKEN, &[], |row| token_at(row, 0))? {
         None => Err(StoreFault::Failed),
         Some(token) => Ok(token),
     }
@@ -73,8 +72,7 @@ pub fn rule_at<S: Alter>(tx: &mut Transaction<'_, S>) -> Result<Rule, StoreFault
     ensures found { Finds (state S.Store tx.old.conn.now) (state S.Store tx.new.conn.now) result
         (λ rule books. seen_rule rule ≡ books.catalogue.rule) }
 {
-    let rows = query(tx, SELECT_RULE, &[])?;
-    match first_of(rows.as_slice(), rule_in)? {
+    match query_first(tx, SELECT_RULE, &[], rule_in)? {
         None => Err(StoreFault::Failed),
         Some(rule) => Ok(rule),
     }

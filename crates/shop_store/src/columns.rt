@@ -1,14 +1,11 @@
 //! Columns read as their values, and tokens as texts. Where a column holds no such value, the fault is `Failed`.
 
-ghost use Rattle.std.specs.Prelude.{◌≡◌, ◌≢◌, ◌≤◌, ◌<◌, ℕ, ◌&&◌, nat_lt, nat_le, if◌then◌else◌, length, Option, Some, None, IfOk, IfErr, IfSome};
+ghost use Rattle.std.specs.Prelude.{◌≡◌, ◌≤◌, ◌&&◌, nat_lt, nat_le, if◌then◌else◌, Some, None, IfOk};
 ghost use Rattle.sqlite.specs.declared.types.Value.TheVariants.{Text as SqlText};
 ghost use Rattle.sqlite.specs.Values.{or_null};
 ghost use Rattle.sqlite_value.specs.Order.{column};
 ghost use Rattle.sql_rows.specs.Rows.{number_value};
-ghost use Rattle.sql_rows.specs.declared.fault.StoreFault.TheVariants.{Failed};
 ghost use Rattle.shop_types.specs.Films.{rating_text, features_text};
-ghost use Rattle.shop_types.specs.declared.film.Rating.{Rating as TheRating};
-ghost use Rattle.shop_types.specs.declared.film.Features.{Features as TheFeatures};
 
 use shop_types::{Amount, Features, Minutes, Period, Rate, Rating, Token};
 use sql_rows::{StoreFault, number_at, number_or_null_at, words_at};
@@ -35,7 +32,6 @@ pub(crate) fn token_at(row: &Row, at: usize) -> Result<Token, StoreFault>
 pub(crate) fn rate_at(row: &Row, at: usize) -> Result<Rate, StoreFault>
     ensures ok { IfOk result (λ n. column row.now at ≡ number_value n) }
     ensures value { IfOk result (λ n. n ≤ 9_999) }
-    ensures failed { IfErr result (λ e. e ≡ Failed → (n : ℕ) → n ≤ 9_999 → at < length row.now → column row.now at ≢ number_value n) }
 {
     let Ok(cents) = u16::try_from(number_at(row, at)?) else {
         return Err(StoreFault::Failed);
@@ -50,7 +46,6 @@ pub(crate) fn rate_at(row: &Row, at: usize) -> Result<Rate, StoreFault>
 pub(crate) fn amount_at(row: &Row, at: usize) -> Result<Amount, StoreFault>
     ensures ok { IfOk result (λ n. column row.now at ≡ number_value n) }
     ensures value { IfOk result (λ n. n ≤ 99_999) }
-    ensures failed { IfErr result (λ e. e ≡ Failed → (n : ℕ) → n ≤ 99_999 → at < length row.now → column row.now at ≢ number_value n) }
 {
     match Amount::new(number_at(row, at)?) {
         Some(amount) => Ok(amount),
@@ -60,8 +55,7 @@ pub(crate) fn amount_at(row: &Row, at: usize) -> Result<Amount, StoreFault>
 
 /// The days in the column.
 fn days_at(row: &Row, at: usize) -> Result<u8, StoreFault>
-    ensures ok { IfOk result (λ n. column row.now at ≡ number_value n) }
-    ensures failed { IfErr result (λ e. e ≡ Failed → (n : ℕ) → n ≤ 255 → at < length row.now → column row.now at ≢ number_value n) }
+    ensures { IfOk result (λ n. column row.now at ≡ number_value n) }
 {
     match u8::try_from(number_at(row, at)?) {
         Ok(days) => Ok(days),
@@ -73,7 +67,6 @@ fn days_at(row: &Row, at: usize) -> Result<u8, StoreFault>
 pub(crate) fn period_at(row: &Row, at: usize) -> Result<Period, StoreFault>
     ensures ok { IfOk result (λ n. column row.now at ≡ number_value n) }
     ensures value { IfOk result (λ n. (1 ≤ n) × (n ≤ 255)) }
-    ensures failed { IfErr result (λ e. e ≡ Failed → (n : ℕ) → (1 ≤ n) × (n ≤ 255) → at < length row.now → column row.now at ≢ number_value n) }
 {
     match Period::new(days_at(row, at)?) {
         Some(period) => Ok(period),
@@ -93,10 +86,7 @@ fn minutes_of(number: u32) -> Option<Minutes>
 
 /// The length in the column, in minutes, or none where it is NULL.
 pub(crate) fn minutes_or_null_at(row: &Row, at: usize) -> Result<Option<Minutes>, StoreFault>
-    ensures ok { IfOk result (λ o. column row.now at ≡ or_null number_value o) }
-    ensures value { IfOk result (λ o. IfSome o (λ n. (1 ≤ n) × (n ≤ 65_535))) }
-    ensures failed { IfErr result (λ e. e ≡ Failed → (o : Option ℕ) → IfSome o (λ n. (1 ≤ n) × (n ≤ 65_535)) → at < length row.now
-        → column row.now at ≢ or_null number_value o) }
+    ensures { IfOk result (λ o. column row.now at ≡ or_null number_value o) }
 {
     let Some(number) = number_or_null_at(row, at)? else {
         return Ok(None);
@@ -109,14 +99,9 @@ pub(crate) fn minutes_or_null_at(row: &Row, at: usize) -> Result<Option<Minutes>
 
 /// The rating in the column, by its text.
 pub(crate) fn rating_at(row: &Row, at: usize) -> Result<Rating, StoreFault>
-    ensures ok { IfOk result (λ it. column row.now at ≡ SqlText (rating_text it)) }
-    ensures failed { IfErr result (λ e. e ≡ Failed → (it : TheRating) → at < length row.now → column row.now at ≢ SqlText (rating_text it)) }
+    ensures { IfOk result (λ it. column row.now at ≡ SqlText (rating_text it)) }
 {
-    let words = match words_at(row, at) {
-        Ok(words) => words,
-        Err(fault) => return Err(fault),
-    };
-    match Rating::read(words.as_str()) {
+    match Rating::read(words_at(row, at)?.as_str()) {
         Some(rating) => Ok(rating),
         None => Err(StoreFault::Failed),
     }
@@ -124,14 +109,9 @@ pub(crate) fn rating_at(row: &Row, at: usize) -> Result<Rating, StoreFault>
 
 /// The special features in the column, by their text.
 pub(crate) fn features_at(row: &Row, at: usize) -> Result<Features, StoreFault>
-    ensures ok { IfOk result (λ it. column row.now at ≡ SqlText (features_text it)) }
-    ensures failed { IfErr result (λ e. e ≡ Failed → (it : TheFeatures) → at < length row.now → column row.now at ≢ SqlText (features_text it)) }
+    ensures { IfOk result (λ it. column row.now at ≡ SqlText (features_text it)) }
 {
-    let words = match words_at(row, at) {
-        Ok(words) => words,
-        Err(fault) => return Err(fault),
-    };
-    match Features::read(words.as_str()) {
+    match Features::read(words_at(row, at)?.as_str()) {
         Some(features) => Ok(features),
         None => Err(StoreFault::Failed),
     }

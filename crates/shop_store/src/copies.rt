@@ -1,4 +1,4 @@
-ghost use Rattle.std.specs.Prelude.{◌≡◌, ◌≢◌, ◌<◌, ◌==◌, ◌&&◌, ⊤, [], ◌∷◌, ◌++◌, IfOk, IfErr, IfSome, filter, length, map, option_map, option_to_list};
+ghost use Rattle.std.specs.Prelude.{◌≡◌, ◌<◌, ◌==◌, ◌&&◌, ⊤, [], ◌∷◌, ◌++◌, IfOk, IfSome, filter, map, option_map, option_to_list};
 ghost use Rattle.sqlite_value.specs.Order.{column};
 ghost use Rattle.std.specs.List.{list_any};
 ghost use Rattle.std.specs.Str.{bytes_eq};
@@ -16,9 +16,10 @@ ghost use Rattle.shop_schema.specs.RowValues.{IsRow, IsCopy};
 ghost use Rattle.shop_schema.specs.Columns.{state_value, copy_columns};
 ghost use Rattle.shop_store.specs.Seen.{seen_state, seen_copy_row, seen_copy_now};
 
-use shop_schema::{first_of, row_number_at, row_number_or_null_at, row_numbers_in};
+use crate::rows::shows_row;
+use shop_schema::{query_first, row_number_at, row_number_or_null_at, row_numbers_in};
 use shop_types::{BranchNo, CopyNo, FilmNo, LotName, Mark, RentalNo};
-use sql_rows::{StoreFault, Stored, execute, number_at, query, read_all, read_one};
+use sql_rows::{StoreFault, Stored, execute, number_at, query, query_all, query_one};
 use sqlite::types::{ToSql, ValueRef};
 use sqlite::{Alter, Row, Transaction};
 use std::alloc::Global;
@@ -64,8 +65,7 @@ impl CopyState {
 
 /// The state for which the number in the column stands.
 fn state_at(row: &Row, at: usize) -> Result<CopyState, StoreFault>
-    ensures ok { IfOk result (λ s. column row.now at ≡ state_value (seen_state s)) }
-    ensures failed { IfErr result (λ e. e ≡ StoreFault.Failed → (s : model.CopyState) → at < length row.now → column row.now at ≢ state_value s) }
+    ensures { IfOk result (λ s. column row.now at ≡ state_value (seen_state s)) }
 {
     match number_at(row, at)? {
         0 => Ok(CopyState::Here),
@@ -126,12 +126,11 @@ pub fn copy_at<S: Alter>(
     ensures row { Finds (state S.Store tx.old.conn.now) (state S.Store tx.new.conn.now) result
         (λ row books. option_to_list (option_map (λ it. (seen_copy_row it).it) row) ≡ at number (of branch books.copies)) }
 {
-    let rows = query(
+    query_one(
         tx,
         SELECT_COPY,
         &[branch.get().to_sql(), number.get().to_sql()],
-    )?;
-    read_one(rows.as_slice())
+    )
 }
 
 /// How the copy in the row stands.
@@ -160,12 +159,12 @@ pub fn copy_now_at<S: Alter>(
         (λ found books. (option_to_list (option_map seen_copy_now found) ≡ at number (shop_of branch books).copies)
         × IfSome found (λ it. option_to_list it.out ≡ map (λ it. it.0) (filter (λ it. keeps_out number it.1) (numbered (of branch books.rentals))))) }
 {
-    let rows = query(
+    query_first(
         tx,
         SELECT_NOW,
         &[branch.get().to_sql(), number.get().to_sql()],
-    )?;
-    first_of(rows.as_slice(), now_in)
+        now_in,
+    )
 }
 
 const SELECT_COPIES_OF_FILM: &str =
@@ -182,12 +181,12 @@ pub fn copies_of_film<S: Alter>(
     ensures rows { Finds (state S.Store tx.old.conn.now) (state S.Store tx.new.conn.now) result
         (λ rows books. map (λ row. seen_copy_row row) rows.items ≡ filter (λ row. is_of branch row && row.it.film == film) books.copies) }
 {
-    let rows = query(
+    query_all(
+        alloc,
         tx,
         SELECT_COPIES_OF_FILM,
         &[branch.get().to_sql(), film.get().to_sql()],
-    )?;
-    read_all(alloc, rows.as_slice())
+    )
 }
 
 const SELECT_IN_STATE: &str =
@@ -260,12 +259,11 @@ pub fn has_lot<S: Alter>(
     ensures found { Finds (state S.Store tx.old.conn.now) (state S.Store tx.new.conn.now) result
         (λ has books. has ≡ list_any (bytes_eq lot.now) (owned_by branch books.lots)) }
 {
-    let rows = query(
+    shows_row(
         tx,
         SELECT_LOT,
         &[branch.get().to_sql(), lot.as_str().to_sql()],
-    )?;
-    Ok(!rows.is_empty())
+    )
 }
 
 const INSERT_LOT: &str = "INSERT INTO lot (branch, name) VALUES (?1, ?2)";

@@ -1,24 +1,20 @@
-ghost use Rattle.std.specs.Prelude.{⊤, ◌≡◌, [], ◌∷◌, ◌++◌, IfOk, IfErr, length, map, option_map, option_to_list};
+ghost use Rattle.std.specs.Prelude.{⊤, ◌≡◌, [], ◌∷◌, ◌++◌, map, option_map, option_to_list};
 ghost use Rattle.sqlite.specs.Held.{state};
 ghost use Rattle.sqlite.specs.Values.{bound};
-ghost use Rattle.sqlite.specs.declared.types.Value.TheVariants.{Text};
-ghost use Rattle.sqlite_value.specs.Order.{column};
 ghost use Rattle.sql_rows.specs.Calls.{StaysInside};
-ghost use Rattle.sql_rows.specs.Rows.{number_value};
-ghost use Rattle.sql_rows.specs.declared.fault.StoreFault.TheVariants.{Failed};
 ghost use Rattle.shop_model.specs.Calendar.{moment_text};
 ghost use Rattle.shop_model.specs.Rows.{at, of, set_row};
 ghost use Rattle.shop_model.specs.Books.{head};
 ghost use Rattle.shop_types.specs.Seen.{seen_customer};
 ghost use Rattle.shop_schema.specs.Calls.{Finds, Stores};
 ghost use Rattle.shop_schema.specs.Columns.{customer_columns};
-ghost use Rattle.shop_schema.specs.RowValues.{IsNumber, IsText, IsName, IsRow, IsCustomer};
+ghost use Rattle.shop_schema.specs.RowValues.{IsRow, IsCustomer};
 ghost use Rattle.shop_schema.specs.Held.{IsHeld};
-ghost use Rattle.shop_store.specs.Seen.{seen_row, IsNoCustomer};
+ghost use Rattle.shop_store.specs.Seen.{seen_row};
 
-use shop_schema::{MomentText, first_of, moment_at, row_number_at, text_at};
-use shop_types::{BranchNo, CityNo, Customer, CustomerNo, L45, Person, T45, T128};
-use sql_rows::{StoreFault, Stored, execute, flag_at, query, read_one};
+use shop_schema::{MomentText, moment_at, query_first, row_number_at, text_at};
+use shop_types::{BranchNo, Customer, CustomerNo, Person};
+use sql_rows::{StoreFault, Stored, execute, flag_at, query_one};
 use sqlite::types::{ToSql, ValueRef};
 use sqlite::{Alter, Row, Transaction};
 
@@ -28,32 +24,6 @@ pub struct CustomerRow {
     pub branch: BranchNo,
     pub number: CustomerNo,
     pub customer: Customer,
-}
-
-/// The customer's first and last name.
-fn names_at(row: &Row) -> Result<(T45, T45), StoreFault>
-    requires { length row.now ≡ 10 }
-    ensures ok { IfOk result (λ it. (column row.now 2 ≡ Text it.0) × (column row.now 3 ≡ Text it.1)) }
-    ensures value { IfOk result (λ it. IsName it.0 × IsName it.1) }
-    ensures failed { IfErr result (λ e. e ≡ Failed → IsNoCustomer row.now) }
-{
-    Ok((text_at(row, 2)?, text_at(row, 3)?))
-}
-
-/// Where the customer lives, by city, address and postal code, and the telephone number.
-fn home_at(row: &Row) -> Result<(CityNo, T128, L45, L45), StoreFault>
-    requires { length row.now ≡ 10 }
-    ensures ok { IfOk result (λ it. (column row.now 7 ≡ number_value it.0) × (column row.now 4 ≡ Text it.1)
-        × (column row.now 5 ≡ Text it.2) × (column row.now 6 ≡ Text it.3)) }
-    ensures value { IfOk result (λ it. IsNumber it.0 × IsText 1 128 it.1 × IsText 0 45 it.2 × IsText 0 45 it.3) }
-    ensures failed { IfErr result (λ e. e ≡ Failed → IsNoCustomer row.now) }
-{
-    Ok((
-        row_number_at(row, 7)?,
-        text_at(row, 4)?,
-        text_at(row, 5)?,
-        text_at(row, 6)?,
-    ))
 }
 
 impl Stored for CustomerRow {
@@ -67,10 +37,14 @@ impl Stored for CustomerRow {
         }
         let branch = row_number_at(row, 0)?;
         let number = row_number_at(row, 1)?;
+        let city = row_number_at(row, 7)?;
         let active = flag_at(row, 8)?;
         let created = moment_at(row, 9)?;
-        let (first, last) = names_at(row)?;
-        let (city, address, postal, phone) = home_at(row)?;
+        let first = text_at(row, 2)?;
+        let last = text_at(row, 3)?;
+        let address = text_at(row, 4)?;
+        let postal = text_at(row, 5)?;
+        let phone = text_at(row, 6)?;
         Ok(CustomerRow {
             branch,
             number,
@@ -124,12 +98,11 @@ pub fn customer_at<S: Alter>(
     ensures row { Finds (state S.Store tx.old.conn.now) (state S.Store tx.new.conn.now) result
         (λ row books. option_to_list (option_map (λ it. seen_customer it.customer) row) ≡ at number (of branch books.customers)) }
 {
-    let rows = query(
+    query_one(
         tx,
         SELECT_CUSTOMER,
         &[branch.get().to_sql(), number.get().to_sql()],
-    )?;
-    read_one(rows.as_slice())
+    )
 }
 
 const SELECT_ACTIVE: &str = "SELECT active FROM customer WHERE branch = ?1 AND number = ?2";
@@ -144,12 +117,12 @@ pub fn active_at<S: Alter>(
     ensures found { Finds (state S.Store tx.old.conn.now) (state S.Store tx.new.conn.now) result
         (λ active books. active ≡ head (map (λ it. it.active) (at number (of branch books.customers)))) }
 {
-    let rows = query(
+    query_first(
         tx,
         SELECT_ACTIVE,
         &[branch.get().to_sql(), number.get().to_sql()],
-    )?;
-    first_of(rows.as_slice(), |row| flag_at(row, 0))
+        |row| flag_at(row, 0),
+    )
 }
 
 const INSERT_CUSTOMER: &str =

@@ -8,8 +8,8 @@ ghost use Rattle.sql_rows.specs.Calls.{StaysInside};
 ghost use Rattle.shop_schema.specs.Calls.{Finds};
 ghost use Rattle.shop_store.specs.SharedSeen.{IsFirstNumber};
 
-use shop_schema::first_of;
-use sql_rows::{StoreFault, number_at, query};
+use shop_schema::query_first;
+use sql_rows::{StoreFault, number_at};
 use sqlite::{Alter, Transaction};
 
 /// The number in the first row that the query shows, or 0 where it shows none.
@@ -18,8 +18,7 @@ fn number_shown<S: Alter>(tx: &mut Transaction<'_, S>, text: &str) -> Result<u32
     ensures shown { HasCleanDisk (state S.Store tx.new.conn.now) → IfOk result (λ n. (rows : List SqlRow)
         × Shown text.now [] (state S.Store tx.old.conn.now) (state S.Store tx.new.conn.now) rows × IsFirstNumber rows n) }
 {
-    let rows = query(tx, text, &[])?;
-    Ok(first_of(rows.as_slice(), |row| number_at(row, 0))?.unwrap_or(0))
+    Ok(query_first(tx, text, &[], |row| number_at(row, 0))?.unwrap_or(0))
 }
 
 const SELECT_LAST_COUNTRY: &str = "SELECT number FROM country ORDER BY number DESC LIMIT 1";

@@ -15,7 +15,7 @@ ghost use Rattle.shop_store.specs.Seen.{seen_payment_row};
 use crate::columns::amount_at;
 use shop_schema::{MomentText, moment_at, row_number_at, row_number_or_null_at};
 use shop_types::{BranchNo, CustomerNo, Moment, Payment, PaymentNo, RentalNo};
-use sql_rows::{StoreFault, Stored, execute, query, read_all};
+use sql_rows::{StoreFault, Stored, execute, query_all};
 use sqlite::types::{ToSql, ValueRef};
 use sqlite::{Alter, Row, Transaction};
 use std::alloc::Global;
@@ -91,12 +91,12 @@ pub fn payments_of_customer<S: Alter>(
     ensures rows { Finds (state S.Store tx.old.conn.now) (state S.Store tx.new.conn.now) result
         (λ rows books. map (λ row. seen_payment row.payment) rows.items ≡ filter (λ it. it.customer == customer) (of branch books.payments)) }
 {
-    let rows = query(
+    query_all(
+        alloc,
         tx,
         SELECT_PAYMENTS_OF_CUSTOMER,
         &[branch.get().to_sql(), customer.get().to_sql()],
-    )?;
-    read_all(alloc, rows.as_slice())
+    )
 }
 
 const SELECT_PAYMENTS_BETWEEN: &str =
@@ -118,7 +118,8 @@ pub fn payments_between<S: Alter>(
     let _also = end.text();
     let first = MomentText::of(start);
     let past = MomentText::of(end);
-    let rows = query(
+    query_all(
+        alloc,
         tx,
         SELECT_PAYMENTS_BETWEEN,
         &[
@@ -126,8 +127,7 @@ pub fn payments_between<S: Alter>(
             first.as_str().to_sql(),
             past.as_str().to_sql(),
         ],
-    )?;
-    read_all(alloc, rows.as_slice())
+    )
 }
 
 const INSERT_PAYMENT: &str =

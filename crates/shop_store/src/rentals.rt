@@ -12,9 +12,10 @@ ghost use Rattle.shop_schema.specs.RowValues.{IsRow, IsRental};
 ghost use Rattle.shop_schema.specs.Held.{IsHeld};
 ghost use Rattle.shop_store.specs.Seen.{seen_rental_row, opened_row};
 
+use crate::rows::shows_row;
 use shop_schema::{MomentText, moment_at, moment_or_null_at, row_number_at};
 use shop_types::{BranchNo, CopyNo, CustomerNo, Moment, Rental, RentalNo};
-use sql_rows::{StoreFault, Stored, execute, query, read_one};
+use sql_rows::{StoreFault, Stored, execute, query_one};
 use sqlite::types::{ToSql, ValueRef};
 use sqlite::{Alter, Row, Transaction};
 
@@ -78,12 +79,11 @@ pub fn rental_at<S: Alter>(
     ensures row { Finds (state S.Store tx.old.conn.now) (state S.Store tx.new.conn.now) result
         (λ row books. option_to_list (option_map (λ it. seen_rental it.rental) row) ≡ at number (of branch books.rentals)) }
 {
-    let rows = query(
+    query_one(
         tx,
         SELECT_RENTAL,
         &[branch.get().to_sql(), number.get().to_sql()],
-    )?;
-    read_one(rows.as_slice())
+    )
 }
 
 const SELECT_SAME_RENTAL: &str =
@@ -103,7 +103,7 @@ pub fn has_rental<S: Alter>(
 {
     let _real = rented.text();
     let text = MomentText::of(rented);
-    let rows = query(
+    shows_row(
         tx,
         SELECT_SAME_RENTAL,
         &[
@@ -112,8 +112,7 @@ pub fn has_rental<S: Alter>(
             copy.get().to_sql(),
             customer.get().to_sql(),
         ],
-    )?;
-    Ok(!rows.is_empty())
+    )
 }
 
 const INSERT_RENTAL: &str =

@@ -10,9 +10,9 @@ ghost use Rattle.shop_model.specs.Books.{head};
 ghost use Rattle.shop_types.specs.Verdicts.{seen_post, post_of};
 ghost use Rattle.shop_schema.specs.Calls.{Finds, Stores};
 
-use shop_schema::{first_of, row_number_at};
+use shop_schema::{query_first, row_number_at};
 use shop_types::{StaffFound, StaffNo};
-use sql_rows::{StoreFault, execute, flag_at, query};
+use sql_rows::{StoreFault, execute, flag_at};
 use sqlite::types::ToSql;
 use sqlite::{Alter, Row, Transaction};
 
@@ -37,8 +37,7 @@ pub fn staff_at<S: Alter>(
     ensures found { Finds (state S.Store tx.old.conn.now) (state S.Store tx.new.conn.now) result
         (λ post books. option_map seen_post post ≡ head (map post_of (at staff books.catalogue.staff))) }
 {
-    let rows = query(tx, SELECT_POST, &[staff.get().to_sql()])?;
-    first_of(rows.as_slice(), post_in)
+    query_first(tx, SELECT_POST, &[staff.get().to_sql()], post_in)
 }
 
 const UPDATE_GONE: &str = "UPDATE staff SET gone = ?2 WHERE number = ?1";

@@ -11,7 +11,7 @@ ghost use Rattle.shop_store.specs.Seen.{seen_termed, termed_columns, IsTermed};
 use crate::columns::{amount_at, period_at, rate_at};
 use shop_schema::{moment_at, moment_or_null_at, row_number_at};
 use shop_types::{BranchNo, CustomerNo, Rental, Terms};
-use sql_rows::{StoreFault, Stored, query, read_all};
+use sql_rows::{StoreFault, Stored, query_all};
 use sqlite::types::ToSql;
 use sqlite::{Alter, Row, Transaction};
 use std::alloc::Global;
@@ -64,12 +64,12 @@ pub fn termed_of_customer<S: Alter>(
     ensures found { Finds (state S.Store tx.old.conn.now) (state S.Store tx.new.conn.now) result
         (λ rows books. map (λ row. seen_termed row) rows.items ≡ filter (λ it. it.0.customer == customer) (termed (shop_of branch books))) }
 {
-    let rows = query(
+    query_all(
+        alloc,
         tx,
         SELECT_TERMED,
         &[branch.get().to_sql(), customer.get().to_sql()],
-    )?;
-    read_all(alloc, rows.as_slice())
+    )
 }
 
 const SELECT_OUT_RENTALS: &str =
@@ -86,6 +86,5 @@ pub fn rentals_out<S: Alter>(
     ensures found { Finds (state S.Store tx.old.conn.now) (state S.Store tx.new.conn.now) result
         (λ rows books. map (λ row. seen_termed row) rows.items ≡ filter (λ it. is_none it.0.returned) (termed (shop_of branch books))) }
 {
-    let rows = query(tx, SELECT_OUT_RENTALS, &[branch.get().to_sql()])?;
-    read_all(alloc, rows.as_slice())
+    query_all(alloc, tx, SELECT_OUT_RENTALS, &[branch.get().to_sql()])
 }

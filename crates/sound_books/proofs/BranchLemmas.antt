@@ -2,7 +2,6 @@
 use Rattle.std.proofs.Common.{◌≡◌, ◌&&◌, ◌==◌, ℕ, List, map, filter, length, Bool, true, sym, ap, subst, ◌∙◌, arith, nat_le, Option}
 use Rattle.std.specs.List.{list_all}
 use Rattle.std.specs.Str.{bytes_eq}
-use Rattle.std.proofs.lemmas.Bool.Decides.{nat_tests}
 use Rattle.std.proofs.lemmas.List.Sorted.{length_permutation}
 use Rattle.sqlite_keyed.proofs.ListLemmas.{IsPermutation-filter}
 use Rattle.shop_model.specs.Calendar.{Moment, seconds_of}
@@ -31,17 +30,11 @@ use Rattle.sound_books.specs.Parts.{PartRows, branch_rows, is_numbered, is_terme
 use Rattle.book_checks.specs.Ordered.{AreOrdered, HaveOrderedRows, customer_row, terms_row, lot_row, kept_row}
 use Rattle.book_checks.proofs.Keys.{both}
 use Rattle.book_checks.proofs.Maps.{map-twice, all-map, filter-map, length-map}
-use Rattle.book_checks.proofs.Tests.{all_congr, all_and, moved, le_from, le_to}
+use Rattle.book_checks.proofs.Tests.{all_congr, all_and, moved, le_from, le_to, counted_is, is_counted}
 use Rattle.book_checks.proofs.ShopLemmas.{has_row_is, rises_is, held_from_different, different_from_held, here_from_all, all_from_here}
-use Rattle.sound_books.proofs.ConsignmentLemmas.{counted_is, is_counted}
 use Rattle.sound_books.proofs.CatalogueLemmas.{city_named, film_named, staff_is}
 use Rattle.sound_books.proofs.PlaceLemmas.{headers_are}
-
-same_number : (n m : ℕ) → (n == m) ≡ true → n ≡ m
-same_number n m h = grind (arith, nat_tests)
-
-one_number : (n m : ℕ) → n ≡ m → (n == m) ≡ true
-one_number n m h = grind (arith, nat_tests)
+use Rattle.shop_model.proofs.RowLemmas.{same_if, equal_test}
 
 -- what soundness says of one branch, as far as its own rows and the shared ones show it
 pub record BranchFacts (rules : Rules) (b : ℕ) (books : Books) : Type 0 where
@@ -263,7 +256,7 @@ module _ (rows : OrderedBooks) (books : Books) (o : AreOrdered rows) (s : HaveOr
           rentals = subst (IsCounted 1) (sym rental_numbers) (counted_is 1 _ n2.1);
           terms = subst (IsCounted 1) terms_numbers (counted_is 1 _ m1.0);
           payments = subst (IsCounted 1) (sym payment_numbers) (counted_is 1 _ n3.1);
-          termed = sym terms_length ∙ same_number (length part.terms) (length part.rentals) m1.1 ∙ rentals_length;
+          termed = sym terms_length ∙ same_if (length part.terms) (length part.rentals) m1.1 ∙ rentals_length;
           held = record {
             one = held_from_different shop.rentals (held_once ∙ h1.1);
             here = here_from_all shop.copies shop.rentals (held_here ∙ h1.0);
@@ -300,7 +293,7 @@ module _ (rows : OrderedBooks) (books : Books) (o : AreOrdered rows) (s : HaveOr
         let n2 : counts_from 1 (map (λ (row : RentalRow). row.number) part.rentals) ≡ true = is_counted 1 _ (subst (IsCounted 1) (rental_numbers) f.rentals) in
         let n3 : counts_from 1 (map (λ (row : PaymentRow). row.number) part.payments) ≡ true = is_counted 1 _ (subst (IsCounted 1) (payment_numbers) f.payments) in
         let m0 : counts_from 1 (map (λ (row : TermsRow). row.number) part.terms) ≡ true = is_counted 1 _ (subst (IsCounted 1) (sym terms_numbers) f.terms) in
-        let m1 : (length part.terms == length part.rentals) ≡ true = one_number (length part.terms) (length part.rentals) (terms_length ∙ f.termed ∙ sym rentals_length) in
+        let m1 : (length part.terms == length part.rentals) ≡ true = equal_test (length part.terms) (length part.rentals) (terms_length ∙ f.termed ∙ sym rentals_length) in
         let z0 : nat_le part.kept 1000000 ≡ true = le_to part.kept 1000000 (let e = kept_length in let g = kept_length in let l = f.shop.keys in omega (arith, e, g, l)) in
         let z1 : nat_le (length part.copies) 1000000 ≡ true = le_to (length part.copies) 1000000 (let e = kept_length in let g = copies_length in let l = f.shop.copies in omega (arith, e, g, l)) in
         let z2 : nat_le (length part.customers) part.kept ≡ true = le_to (length part.customers) part.kept (let e = kept_length in let g = customers_length in let l = f.shop.customers_fit in omega (arith, e, g, l)) in

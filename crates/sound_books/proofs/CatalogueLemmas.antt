@@ -1,5 +1,5 @@
 -- The checks of shared rows are what the definitions say of the catalogues that have them.
-use Rattle.std.proofs.Common.{◌≡◌, ◌&&◌, ◌+◌, ◌≤◌, ◌==◌, ℕ, zero, suc, List, [], ◌∷◌, map, length, not, Bool, true, false, refl, sym, ap, subst, ◌∙◌, arith, nat_le, None}
+use Rattle.std.proofs.Common.{◌≡◌, ◌&&◌, ◌+◌, ◌==◌, ℕ, zero, suc, List, [], ◌∷◌, map, length, not, Bool, true, false, refl, sym, ap, subst, ◌∙◌, arith, nat_le, None}
 use Rattle.std.specs.Option.{option_to_list}
 use Rattle.std.specs.List.{list_any, list_all}
 use Rattle.std.specs.Str.{bytes_eq}
@@ -23,6 +23,7 @@ use Rattle.book_checks.proofs.Keys.{both, bytes_eq_symm, any-map, different-map,
 use Rattle.book_checks.proofs.Maps.{all-map, length-map}
 use Rattle.book_checks.proofs.Tests.{all_congr, all_and, moved, different_congr, le_from, le_to, all_from, all_from_at, at_all_from}
 use Rattle.book_checks.proofs.ShopLemmas.{has_row_is, at-map}
+use Rattle.shop_model.proofs.RowLemmas.{at_zero}
 
 module _ (rows : OrderedBooks) (books : Books) (o : AreOrdered rows) (s : HaveSharedRows rows books) where
   abbrev cat : Catalogue
@@ -114,12 +115,8 @@ module _ (rows : OrderedBooks) (books : Books) (o : AreOrdered rows) (s : HaveSh
   managers_are k [] = refl
   managers_are k (x ∷ xs) = ap (λ t. is_managed k x && t) (managers_are (k + 1) xs)
 
-  nobody : {A : Type 0} (xs : List A) → at 0 xs ≡ []
-  nobody [] = refl
-  nobody (x ∷ xs) = nobody xs
-
   managers_of : managers_from 1 rows.staff.items rows.branches.items ≡ true → (b : ℕ) → list_all (λ (it : Branch). list_all (is_staff_of b cat.staff) (option_to_list it.manager)) (at b cat.branches) ≡ true
-  managers_of h zero = ap (list_all (λ (it : Branch). list_all (is_staff_of 0 cat.staff) (option_to_list it.manager))) (nobody cat.branches)
+  managers_of h zero = ap (list_all (λ (it : Branch). list_all (is_staff_of 0 cat.staff) (option_to_list it.manager))) (at_zero cat.branches)
   managers_of h (suc b) = managed_at (suc b) ∙ all_from_at is_managed 1 rows.branches.items (sym (managers_are 1 rows.branches.items) ∙ h) (suc b) (suc b) refl (omega arith)
 
   of_managers : ((b : ℕ) → list_all (λ (it : Branch). list_all (is_staff_of b cat.staff) (option_to_list it.manager)) (at b cat.branches) ≡ true) → managers_from 1 rows.staff.items rows.branches.items ≡ true
@@ -160,23 +157,6 @@ module _ (rows : OrderedBooks) (books : Books) (o : AreOrdered rows) (s : HaveSh
       different_congr _ _ pair_key cat.casts ∙ sym (different-map (λ (x y : CastRow). bytes_eq (x.film ∷ x.actor ∷ []) (y.film ∷ y.actor ∷ [])) cast_row cat.casts)
       ∙ ap (are_different (λ (x y : CastRow). bytes_eq (x.film ∷ x.actor ∷ []) (y.film ∷ y.actor ∷ []))) s.casts
       ∙ sym (different-map bytes_eq (λ (x : CastRow). x.film ∷ x.actor ∷ []) rows.casts.items) ∙ different_from_climbs (map (λ (x : CastRow). x.film ∷ x.actor ∷ []) rows.casts.items) o.casts
-
-  pub few_branches : is_good_catalogue rows ≡ true → length rows.branches.items ≤ 1000003
-  few_branches h =
-      let a3 = both (nat_le (length rows.office_keys.items) 1000000 && is_shared_sized rows && is_named rows) (is_single rows) h in
-      let a2 = both (nat_le (length rows.office_keys.items) 1000000 && is_shared_sized rows) (is_named rows) a3.0 in
-      let a1 = both (nat_le (length rows.office_keys.items) 1000000) (is_shared_sized rows) a2.0 in
-      let z8 = both (nat_le (length rows.casts.items) (length rows.office_keys.items + 3) && nat_le (length rows.countries.items) (length rows.office_keys.items + 3) && nat_le (length rows.cities.items) (length rows.office_keys.items + 3) && nat_le (length rows.languages.items) (length rows.office_keys.items + 3) && nat_le (length rows.categories.items) (length rows.office_keys.items + 3) && nat_le (rows.actors) (length rows.office_keys.items + 3) && nat_le (length rows.films.items) (length rows.office_keys.items + 3) && nat_le (length rows.branches.items) (length rows.office_keys.items + 3)) (nat_le (length rows.staff.items) (length rows.office_keys.items + 3)) a1.1 in
-      let z7 = both (nat_le (length rows.casts.items) (length rows.office_keys.items + 3) && nat_le (length rows.countries.items) (length rows.office_keys.items + 3) && nat_le (length rows.cities.items) (length rows.office_keys.items + 3) && nat_le (length rows.languages.items) (length rows.office_keys.items + 3) && nat_le (length rows.categories.items) (length rows.office_keys.items + 3) && nat_le (rows.actors) (length rows.office_keys.items + 3) && nat_le (length rows.films.items) (length rows.office_keys.items + 3)) (nat_le (length rows.branches.items) (length rows.office_keys.items + 3)) z8.0 in
-      let z6 = both (nat_le (length rows.casts.items) (length rows.office_keys.items + 3) && nat_le (length rows.countries.items) (length rows.office_keys.items + 3) && nat_le (length rows.cities.items) (length rows.office_keys.items + 3) && nat_le (length rows.languages.items) (length rows.office_keys.items + 3) && nat_le (length rows.categories.items) (length rows.office_keys.items + 3) && nat_le (rows.actors) (length rows.office_keys.items + 3)) (nat_le (length rows.films.items) (length rows.office_keys.items + 3)) z7.0 in
-      let z5 = both (nat_le (length rows.casts.items) (length rows.office_keys.items + 3) && nat_le (length rows.countries.items) (length rows.office_keys.items + 3) && nat_le (length rows.cities.items) (length rows.office_keys.items + 3) && nat_le (length rows.languages.items) (length rows.office_keys.items + 3) && nat_le (length rows.categories.items) (length rows.office_keys.items + 3)) (nat_le (rows.actors) (length rows.office_keys.items + 3)) z6.0 in
-      let z4 = both (nat_le (length rows.casts.items) (length rows.office_keys.items + 3) && nat_le (length rows.countries.items) (length rows.office_keys.items + 3) && nat_le (length rows.cities.items) (length rows.office_keys.items + 3) && nat_le (length rows.languages.items) (length rows.office_keys.items + 3)) (nat_le (length rows.categories.items) (length rows.office_keys.items + 3)) z5.0 in
-      let z3 = both (nat_le (length rows.casts.items) (length rows.office_keys.items + 3) && nat_le (length rows.countries.items) (length rows.office_keys.items + 3) && nat_le (length rows.cities.items) (length rows.office_keys.items + 3)) (nat_le (length rows.languages.items) (length rows.office_keys.items + 3)) z4.0 in
-      let z2 = both (nat_le (length rows.casts.items) (length rows.office_keys.items + 3) && nat_le (length rows.countries.items) (length rows.office_keys.items + 3)) (nat_le (length rows.cities.items) (length rows.office_keys.items + 3)) z3.0 in
-      let z1 = both (nat_le (length rows.casts.items) (length rows.office_keys.items + 3)) (nat_le (length rows.countries.items) (length rows.office_keys.items + 3)) z2.0 in
-      let k = le_from (length rows.office_keys.items) 1000000 a1.0 in
-      let n = le_from (length rows.branches.items) (length rows.office_keys.items + 3) z7.1 in
-      omega (arith, k, n)
 
   pub catalogue_from_rows : (rules : Rules) → is_good_catalogue rows ≡ true → IsGoodCatalogue (widest rules) cat
   catalogue_from_rows rules h =

@@ -17,6 +17,8 @@ use Rattle.book_checks.proofs.Keys.{both}
 use Rattle.book_checks.proofs.Maps.{map-twice}
 use Rattle.book_checks.proofs.JoinLemmas.{front-map, back-map}
 use Rattle.book_checks.proofs.Canon.{above_all, counted_above, all_less, counted_ascends, ascending_from_climbs, one_rising, sorted_from_rising}
+use Rattle.book_checks.proofs.Tests.{counted_is}
+use Rattle.shop_model.proofs.RowLemmas.{same_if, equal_test}
 
 -- ---- lines
 
@@ -49,20 +51,6 @@ settled_join films (h ∷ hs) ps its e = go (counts_from 1 (map (λ p. p.at) (fr
         (λ i. is_good_consignment films (first i) && known i)
 
 -- ---- numbers that count
-
-pub counted_is : (k : ℕ) (ns : List ℕ) → counts_from k ns ≡ true → IsCounted k ns
-counted_is k [] h = tt
-counted_is k (n ∷ ns) h = let parts = both (n == k) (counts_from (k + 1) ns) h in (equal n k parts.0, counted_is (k + 1) ns parts.1)
-  where
-    equal : (m n : ℕ) → (m == n) ≡ true → m ≡ n
-    equal m n e = grind (arith, nat_tests)
-
-pub is_counted : (k : ℕ) (ns : List ℕ) → IsCounted k ns → counts_from k ns ≡ true
-is_counted k [] h = refl
-is_counted k (n ∷ ns) h = let first = same n k h.0 in let rest = is_counted (k + 1) ns h.1 in (λ i. first i && rest i)
-  where
-    same : (m n : ℕ) → m ≡ n → (m == n) ≡ true
-    same m n e = grind (arith, nat_tests)
 
 itself : (ns : List ℕ) → map (λ (n : ℕ). n) ns ≡ ns
 itself [] = refl
@@ -210,9 +198,6 @@ hold_pairs (h ∷ hs) up all =
 abbrev PlacesRise : List Header → Type 0
 PlacesRise = IsAscending (λ x y. x.place < y.place)
 
-is_suc : (m n : ℕ) → (m == n) ≡ true → m ≡ n
-is_suc m n h = grind (arith, nat_tests)
-
 is_less : (m n : ℕ) → nat_lt m n ≡ true → m < n
 is_less m n h = grind (arith, nat_tests)
 
@@ -225,7 +210,7 @@ goes_counts n p [] g = (tt, tt, tt)
 goes_counts n p (h ∷ hs) g =
     let rest = both (h.number == n + 1 && nat_lt p h.place) (goes_on h.number h.place hs) g in
     let first = both (h.number == n + 1) (nat_lt p h.place) rest.0 in
-    let number = is_suc h.number (n + 1) first.0 in
+    let number = same_if h.number (n + 1) first.0 in
     let place = is_less p h.place first.1 in
     let more = goes_counts h.number h.place hs rest.1 in
     ((number, subst (λ m. IsCounted (m + 1) (map (λ x. x.number) hs)) number more.0), (more.2, more.1), (place, lower p h.place place hs more.2))
@@ -234,12 +219,9 @@ begins_counts : (hs : List Header) → begins hs ≡ true → IsCounted 1 (map (
 begins_counts [] g = (tt, tt)
 begins_counts (h ∷ hs) g =
     let rest = both (h.number == 1) (goes_on h.number h.place hs) g in
-    let number = is_suc h.number 1 rest.0 in
+    let number = same_if h.number 1 rest.0 in
     let more = goes_counts h.number h.place hs rest.1 in
     ((number, subst (λ m. IsCounted (m + 1) (map (λ x. x.number) hs)) number more.0), (more.2, more.1))
-
-same_suc : (m n : ℕ) → m ≡ n → (m == n) ≡ true
-same_suc m n h = grind (arith, nat_tests)
 
 less_is : (m n : ℕ) → m < n → nat_lt m n ≡ true
 less_is m n h = grind (arith, nat_tests)
@@ -247,7 +229,7 @@ less_is m n h = grind (arith, nat_tests)
 counts_go : (n p : ℕ) (hs : List Header) → IsCounted (n + 1) (map (λ h. h.number) hs) → PlacesRise hs → AllByRecursion (λ x. p < x.place) hs → goes_on n p hs ≡ true
 counts_go n p [] c up low = refl
 counts_go n p (h ∷ hs) c up low =
-    let number = same_suc h.number (n + 1) c.0 in
+    let number = equal_test h.number (n + 1) c.0 in
     let place = less_is p h.place low.0 in
     let rest = counts_go h.number h.place hs (subst (λ m. IsCounted (m + 1) (map (λ x. x.number) hs)) (sym c.0) c.1) up.1 up.0 in
     (λ i. number i && place i && rest i)
@@ -255,7 +237,7 @@ counts_go n p (h ∷ hs) c up low =
 counts_begin : (hs : List Header) → IsCounted 1 (map (λ h. h.number) hs) → PlacesRise hs → begins hs ≡ true
 counts_begin [] c up = refl
 counts_begin (h ∷ hs) c up =
-    let number = same_suc h.number 1 c.0 in
+    let number = equal_test h.number 1 c.0 in
     let rest = counts_go h.number h.place hs (subst (λ m. IsCounted (m + 1) (map (λ x. x.number) hs)) (sym c.0) c.1) up.1 up.0 in
     (λ i. number i && rest i)
 

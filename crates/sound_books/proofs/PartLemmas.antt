@@ -1,5 +1,5 @@
 -- One branch after another: what each has is what the tables have of it.
-use Rattle.std.proofs.Common.{◌≡◌, ◌&&◌, ◌+◌, ◌<◌, ◌≤◌, ◌==◌, ℕ, suc, List, [], ◌∷◌, map, filter, length, Bool, true, sym, ap, subst, ◌∙◌, arith, get_or, drop, drop-cons, add-one}
+use Rattle.std.proofs.Common.{◌≡◌, ◌&&◌, ◌+◌, ◌<◌, ◌≤◌, ◌==◌, ℕ, suc, List, [], ◌∷◌, map, filter, length, Bool, true, refl, sym, ap, subst, ◌∙◌, arith, get_or, drop, drop-cons, add-one}
 use Rattle.std.specs.List.{AllByRecursion, list_all}
 use Rattle.std.proofs.lemmas.Bool.Decides.{nat_tests}
 use Rattle.sqlite_trees.specs.Tree.{IsAscending}
@@ -16,7 +16,7 @@ use Rattle.book_checks.specs.declared.rows.KeptRow.{KeptRow}
 use Rattle.book_checks.specs.declared.rows.HeaderRow.{HeaderRow}
 use Rattle.book_checks.specs.Lists.{Key, is_below, climbs, front_of, back_of}
 use Rattle.book_checks.specs.Shops.{is_among}
-use Rattle.sound_books.specs.Parts.{PartRows, branch_rows, is_good_part, are_good_from, is_owned, are_rows_owned, are_others_owned, are_consignments_owned}
+use Rattle.sound_books.specs.Parts.{PartRows, branch_rows, front_rows, AreBehind, is_good_part, are_good_from, is_owned, are_rows_owned, are_others_owned, are_consignments_owned}
 use Rattle.book_checks.specs.Ordered.{AreOrdered}
 use Rattle.book_checks.proofs.Keys.{both}
 use Rattle.book_checks.proofs.Canon.{ascending_from_climbs}
@@ -89,12 +89,37 @@ rests_begin books rest o owned a b c t d e f g =
 -- ---- the next branch
 
 module _ {X : Type 0} (owner : X → ℕ) (all : List X) where
-  pub next_own : (b branch : ℕ) (rest front : List X) → branch ≡ b + 1 → IsRest owner all rest b → front ≡ front_of (λ x. owner x == branch) rest → front ≡ filter (λ x. owner x == branch) all
+  next_own : (b branch : ℕ) (rest front : List X) → branch ≡ b + 1 → IsRest owner all rest b → front ≡ front_of (λ x. owner x == branch) rest → front ≡ filter (λ x. owner x == branch) all
   next_own b branch rest front is r e =
       subst (λ n. front ≡ filter (λ x. owner x == n) all) (sym is) (rest_own owner all b rest front r (e ∙ ap (λ n. front_of (λ x. owner x == n) rest) is))
 
-  pub next_rest : (b branch : ℕ) (rest back : List X) → branch ≡ b + 1 → IsRest owner all rest b → back ≡ back_of (λ x. owner x == branch) rest → IsRest owner all back (b + 1)
+  next_rest : (b branch : ℕ) (rest back : List X) → branch ≡ b + 1 → IsRest owner all rest b → back ≡ back_of (λ x. owner x == branch) rest → IsRest owner all back (b + 1)
   next_rest b branch rest back is r e = rest_step owner all b rest back r (e ∙ ap (λ n. back_of (λ x. owner x == n) rest) is)
+
+module _ (books : OrderedBooks) (b branch : ℕ) (is : branch ≡ b + 1) (rest : Rest) (r : AreRests books rest b) where
+  pub next_part : (part : PartRows) → part ≡ front_rows rest branch → part ≡ branch_rows books branch
+  next_part part e = e ∙ (λ i. record {
+    customers = next_own (λ (row : CustomerRow). row.branch) books.customers.items b branch rest.customers.now _ is r.customers refl i;
+    copies = next_own (λ (row : CopyRow). row.branch) books.copies.items b branch rest.copies.now _ is r.copies refl i;
+    rentals = next_own (λ (row : RentalRow). row.branch) books.rentals.items b branch rest.rentals.now _ is r.rentals refl i;
+    terms = next_own (λ (row : TermsRow). row.branch) books.terms.items b branch rest.terms.now _ is r.terms refl i;
+    payments = next_own (λ (row : PaymentRow). row.branch) books.payments.items b branch rest.payments.now _ is r.payments refl i;
+    lots = length (next_own (λ (row : LotRow). row.branch) books.lots.items b branch rest.lots.now _ is r.lots refl i);
+    kept = length (next_own (λ (row : KeptRow). row.branch) books.kept.items b branch rest.kept.now _ is r.kept refl i);
+    sent = length (next_own (λ (row : HeaderRow). row.source) books.headers.items b branch rest.headers.now _ is r.headers refl i);
+  })
+
+  pub next_rests : (more : Rest) → AreBehind rest more branch → AreRests books more (b + 1)
+  next_rests more h = record {
+    customers = next_rest (λ (row : CustomerRow). row.branch) books.customers.items b branch rest.customers.now more.customers.now is r.customers h.customers;
+    copies = next_rest (λ (row : CopyRow). row.branch) books.copies.items b branch rest.copies.now more.copies.now is r.copies h.copies;
+    rentals = next_rest (λ (row : RentalRow). row.branch) books.rentals.items b branch rest.rentals.now more.rentals.now is r.rentals h.rentals;
+    terms = next_rest (λ (row : TermsRow). row.branch) books.terms.items b branch rest.terms.now more.terms.now is r.terms h.terms;
+    payments = next_rest (λ (row : PaymentRow). row.branch) books.payments.items b branch rest.payments.now more.payments.now is r.payments h.payments;
+    lots = next_rest (λ (row : LotRow). row.branch) books.lots.items b branch rest.lots.now more.lots.now is r.lots h.lots;
+    kept = next_rest (λ (row : KeptRow). row.branch) books.kept.items b branch rest.kept.now more.kept.now is r.kept h.kept;
+    headers = next_rest (λ (row : HeaderRow). row.source) books.headers.items b branch rest.headers.now more.headers.now is r.headers h.headers;
+  }
 
 pub good_step : (books : OrderedBooks) (b i : ℕ) (rows : List BranchRow) (row : BranchRow) (part : PartRows) (t : Bool) → i < length rows → row ≡ get_or rows i row → part ≡ branch_rows books b
     → t ≡ is_good_part books b row.last part → are_good_from books b (drop i rows) ≡ (t && are_good_from books (b + 1) (drop (i + 1) rows))

@@ -1,5 +1,5 @@
 -- What is checked of rows in order is the soundness of the books that have them.
-use Rattle.std.proofs.Common.{◌≡◌, ◌&&◌, ◌+◌, ◌≤◌, ◌==◌, ◌++◌, inl, inr, ℕ, suc, zero, List, [], ◌∷◌, map, filter, length, not, Bool, true, false, cond, refl, sym, ap, subst, ◌∙◌, arith, true≢false, nat_lt, nat_le, IsPermutation, None}
+use Rattle.std.proofs.Common.{◌≡◌, ◌&&◌, ◌+◌, ◌≤◌, ◌==◌, ◌++◌, inl, inr, ℕ, suc, zero, List, [], ◌∷◌, map, filter, length, not, Bool, true, false, cond, refl, sym, ap, subst, ◌∙◌, arith, nat_lt, nat_le, IsPermutation, None}
 use Rattle.std.specs.List.{list_all, flat_map}
 use Rattle.std.specs.Str.{bytes_eq}
 use Rattle.std.proofs.lemmas.Bool.Decides.{nat_tests}
@@ -33,7 +33,7 @@ use Rattle.book_checks.specs.Ordered.{AreOrdered, HaveOrderedRows, customer_row,
 use Rattle.sound_books.specs.Checked.{AreChecked}
 use Rattle.book_checks.proofs.Keys.{both, bytes_eq_symm, different-map, different_from_climbs}
 use Rattle.book_checks.proofs.Maps.{map-twice, all-map, filter-map, length-map}
-use Rattle.book_checks.proofs.Tests.{all_congr, all_and, moved, different_congr, all_from, all_from_at, at_all_from}
+use Rattle.book_checks.proofs.Tests.{all_congr, all_and, moved, different_congr, all_from, all_from_at, at_all_from, counted_is, is_counted, alone}
 use Rattle.book_checks.proofs.Transfer.{all_along}
 use Rattle.book_checks.proofs.CustodyLemmas.{custody_of_all, origins_of_rows, origins_of_lines, custody_moved}
 use Rattle.book_checks.proofs.OfBooks.{of_books}
@@ -41,12 +41,13 @@ use Rattle.book_checks.proofs.OrderedLemmas.{copies_climb}
 use Rattle.shop_model.proofs.Soundness.{in_custody}
 use Rattle.book_checks.proofs.ShopLemmas.{has_row_is}
 use Rattle.book_checks.proofs.JoinLemmas.{join_sound}
-use Rattle.sound_books.proofs.ConsignmentLemmas.{settled_join, counted_is, is_counted, numbered_from_pairs, pairs_from_numbered}
+use Rattle.sound_books.proofs.ConsignmentLemmas.{settled_join, numbered_from_pairs, pairs_from_numbered}
 use Rattle.sound_books.proofs.PlaceLemmas.{headers_are}
 use Rattle.sound_books.proofs.CatalogueLemmas.{branch_named, film_named, catalogue_from_rows, rows_from_catalogue}
 use Rattle.book_checks.proofs.LastLemmas.{last_in, none_before, last_at, lasts_owned, lasts_apart}
 use Rattle.book_checks.proofs.OwnLemmas.{at_case, none_owned, all_filter, all_from_owners, own_different}
 use Rattle.sound_books.proofs.BranchLemmas.{BranchFacts, facts_from_part, part_from_facts}
+use Rattle.shop_model.proofs.RowLemmas.{at_zero}
 
 -- ---- lines
 
@@ -286,12 +287,8 @@ module _ (rows : OrderedBooks) (books : Books) (o : AreOrdered rows) (s : HaveOr
   last_is : (b : ℕ) → (shop_of b books).last ≡ last_in (at b rows.branches.items)
   last_is zero = ap (λ (ls : List (Owned Moment)). head (owned_by 0 ls)) s.lasts ∙ no_last
     where
-      nobody : {A : Type 0} (xs : List A) → at 0 xs ≡ []
-      nobody [] = refl
-      nobody (x ∷ xs) = nobody xs
-
       no_last : head (owned_by 0 (lasts_from 1 rows.branches.items)) ≡ last_in (at 0 rows.branches.items)
-      no_last = ap head (none_before 0 1 (omega arith) rows.branches.items) ∙ sym (ap last_in (nobody rows.branches.items))
+      no_last = ap head (none_before 0 1 (omega arith) rows.branches.items) ∙ sym (ap last_in (at_zero rows.branches.items))
   last_is (suc b) = ap (λ (ls : List (Owned Moment)). head (owned_by (suc b) ls)) s.lasts ∙ last_at 1 rows.branches.items (suc b) (suc b) refl (omega arith)
 
   not_there : (b : ℕ) → at b rows.branches.items ≡ [] → is_among count b ≡ false
@@ -318,10 +315,6 @@ module _ (rows : OrderedBooks) (books : Books) (o : AreOrdered rows) (s : HaveOr
     where
       same : (n m : ℕ) → m + 1 ≡ n + 1 → n ≡ m
       same n m e = omega (arith, e)
-
-      alone : (b : Bool) → b ≡ true → (b && true) ≡ true
-      alone true h = refl
-      alone false h = absurd (true≢false (sym h))
 
       here : (n : ℕ) → list_all (good_at n) (at n rows.branches.items) ≡ true
       here n = elim (at_case n rows.branches.items) [

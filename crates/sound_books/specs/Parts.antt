@@ -1,5 +1,5 @@
 -- Tests of what one branch has.
-use Rattle.std.specs.Prelude.{ℕ, ◌+◌, ◌==◌, ◌&&◌, nat_le, Bool, true, List, [], ◌∷◌, map, filter, length, Option}
+use Rattle.std.specs.Prelude.{◌≡◌, ℕ, ◌+◌, ◌==◌, ◌&&◌, nat_le, Bool, true, List, [], ◌∷◌, map, filter, length, Option}
 use Rattle.std.specs.List.{list_any, list_all}
 use Rattle.std.specs.Str.{bytes_eq}
 use Rattle.shop_model.specs.Calendar.{Moment, seconds_of}
@@ -9,6 +9,7 @@ use Rattle.shop_model.specs.Links.{are_different, pays_for}
 use Rattle.shop_types.specs.Seen.{seen_rental, seen_payment}
 use Rattle.book_checks.specs.declared.books.OrderedBooks.{OrderedBooks}
 use Rattle.sound_books.specs.declared.branches.Part.{Part}
+use Rattle.sound_books.specs.declared.branches.Rest.{Rest}
 use Rattle.book_checks.specs.declared.rows.CustomerRow.{CustomerRow}
 use Rattle.book_checks.specs.declared.rows.CopyRow.{CopyRow}
 use Rattle.book_checks.specs.declared.rows.RentalRow.{RentalRow}
@@ -19,7 +20,7 @@ use Rattle.book_checks.specs.declared.rows.BranchRow.{BranchRow}
 use Rattle.book_checks.specs.declared.rows.LotRow.{LotRow}
 use Rattle.book_checks.specs.declared.rows.KeptRow.{KeptRow}
 use Rattle.book_checks.specs.declared.rows.HeaderRow.{HeaderRow}
-use Rattle.book_checks.specs.Lists.{counts_from, rises_from}
+use Rattle.book_checks.specs.Lists.{counts_from, rises_from, front_of, back_of}
 use Rattle.book_checks.specs.Seen.{shop_copy}
 use Rattle.book_checks.specs.Shops.{is_among, open_keys, is_held_here}
 
@@ -116,6 +117,30 @@ branch_rows books b = record {
   kept = length (filter (λ (row : KeptRow). row.branch == b) books.kept.items);
   sent = length (filter (λ (row : HeaderRow). row.source == b) books.headers.items);
 }
+
+-- what a branch has in front
+abbrev pub front_rows : Rest → ℕ → PartRows
+front_rows rest b = record {
+  customers = front_of (λ (row : CustomerRow). row.branch == b) rest.customers.now;
+  copies = front_of (λ (row : CopyRow). row.branch == b) rest.copies.now;
+  rentals = front_of (λ (row : RentalRow). row.branch == b) rest.rentals.now;
+  terms = front_of (λ (row : TermsRow). row.branch == b) rest.terms.now;
+  payments = front_of (λ (row : PaymentRow). row.branch == b) rest.payments.now;
+  lots = length (front_of (λ (row : LotRow). row.branch == b) rest.lots.now);
+  kept = length (front_of (λ (row : KeptRow). row.branch == b) rest.kept.now);
+  sent = length (front_of (λ (row : HeaderRow). row.source == b) rest.headers.now);
+}
+
+-- the rows behind those of a branch
+pub record AreBehind (rest more : Rest) (b : ℕ) : Type 0 where
+  pub customers : more.customers.now ≡ back_of (λ (row : CustomerRow). row.branch == b) rest.customers.now
+  pub copies : more.copies.now ≡ back_of (λ (row : CopyRow). row.branch == b) rest.copies.now
+  pub rentals : more.rentals.now ≡ back_of (λ (row : RentalRow). row.branch == b) rest.rentals.now
+  pub terms : more.terms.now ≡ back_of (λ (row : TermsRow). row.branch == b) rest.terms.now
+  pub payments : more.payments.now ≡ back_of (λ (row : PaymentRow). row.branch == b) rest.payments.now
+  pub lots : more.lots.now ≡ back_of (λ (row : LotRow). row.branch == b) rest.lots.now
+  pub kept : more.kept.now ≡ back_of (λ (row : KeptRow). row.branch == b) rest.kept.now
+  pub headers : more.headers.now ≡ back_of (λ (row : HeaderRow). row.source == b) rest.headers.now
 
 -- branch b and those behind it
 abbrev pub are_good_from : OrderedBooks → ℕ → List BranchRow → Bool

@@ -15,12 +15,12 @@ ghost use Rattle.sound_books.specs.Catalogues.{is_good_catalogue};
 ghost use Rattle.sound_books.specs.Parts.{rows_of, branch_rows, is_good_part, are_good_from, is_owned, are_rows_owned, are_others_owned, are_consignments_owned};
 ghost use Rattle.book_checks.specs.Ordered.{AreOrdered, AreConsignmentsOf, HaveOrderedRows};
 
-use crate::branches::{Owned, Rest, take_branch};
+use crate::branches::{Rest, take_branch};
 use crate::catalogue::is_good_catalogue;
 use crate::consignments::{are_settled, pairs_follow, places_count};
 use crate::links::is_among;
 use crate::part::is_good;
-use book_checks::{HeaderRow, OrderedBooks, are_in_custody};
+use book_checks::{HeaderRow, OrderedBooks, Owned, are_in_custody};
 use shop_types::NoMemory;
 use std::alloc::Global;
 

@@ -1,11 +1,10 @@
--- Which fault a row that cannot be read gives, and for which values a tree stands.
-use Rattle.std.proofs.Common.{refl, ◌≡◌, ◌≢◌, ◌<◌, inl, inr, ℕ, zero, suc, List, [], ◌∷◌, length, get_or, map, sym, ◌∙◌, arith, false, IsTrue, Bor}
+-- Which error a statement is given.
+use Rattle.std.proofs.Common.{refl, ◌≡◌, ◌<◌, inl, inr, ℕ, zero, suc, List, [], ◌∷◌, length, get_or, map, arith, false, IsTrue, Bor}
 use Rattle.std.proofs.lemmas.Bool.{cases_Bool}
 use Rattle.sqlite_rules.specs.Lists.{Has}
 use Rattle.sqlite_trees.specs.declared.store.Store.{Ghosts}
 use Rattle.sqlite.specs.Held.{Held, state}
 use Rattle.sqlite.specs.State.{ExecutesInside, Survives}
-use Rattle.std.specs.List.{AllByRecursion}
 use Rattle.sqlite_value.specs.Order.{Row}
 use Rattle.std.specs.Prelude.{IfErr, IsErrAnd, Result, Ok, Err}
 use Rattle.sql_rows.specs.declared.fault.StoreFault.{StoreFault}
@@ -13,16 +12,6 @@ use Rattle.sqlite.specs.declared.error.Error.{Error}
 use Rattle.sqlite.specs.declared.error.Error.TheVariants.{SqliteFailure}
 use Rattle.sqlite.specs.declared.error.ErrorCode.TheVariants.{TransactionState}
 use Rattle.sql_rows.specs.Fault.{IsToldOf, StatementGave, OneGave}
-
--- Where a row is of no value, the rows are of no values.
-pub no_values : {X : Type 0} (f : X → Row) (P : X → Type 0) (xs : List X) (rows : List Row) (i : ℕ) (row : Row) → i < length rows → row ≡ get_or rows i row → ((x : X) → P x → f x ≢ row) → AllByRecursion P xs → map f xs ≢ rows
-no_values f P [] [] i row low at failed all same = absurd (omega arith)
-no_values f P [] (r ∷ rows) i row low at failed all same = cc
-no_values f P (x ∷ xs) [] i row low at failed all same = cc
-no_values f P (x ∷ xs) (r ∷ rows) zero row low at failed all same = let head : f x ≡ r = cc in failed x all.0 (head ∙ sym at)
-no_values f P (x ∷ xs) (r ∷ rows) (suc i) row low at failed all same = let tail : map f xs ≡ rows = cc in no_values f P xs rows i row (omega arith) at failed all.1 tail
-
--- ---- which error a statement is given
 
 module _ {S : Type 0} (g : Ghosts S) (old new : Held S) (sql : List ℕ) (params : Row) (r : Result ℕ Error)
     (ended : (state g old).in_transaction ≡ false → (r ≡ Err (SqliteFailure TransactionState)) × (new ≡ old))

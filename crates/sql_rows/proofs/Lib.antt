@@ -13,6 +13,7 @@ pub mod Inside
 pub mod Whole
 pub mod Wholes
 pub mod Faults
+pub mod Found
 pub mod Opened
 pub mod Unique
 pub mod ColumnTests

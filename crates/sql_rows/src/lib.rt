@@ -13,7 +13,7 @@ pub use each::{TakesRows, each_row};
 pub use fault::{StoreFault, fault_of};
 pub use make::make_tables;
 pub use stored::{
-    Stored, bytes_at, flag_at, number_at, number_or_null_at, read_all, read_one, words_at,
+    Stored, bytes_at, flag_at, number_at, number_or_null_at, query_all, query_one, words_at,
     words_or_null_at,
 };
 pub use text::{Bytes, Words, value_or_null};

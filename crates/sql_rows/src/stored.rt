@@ -1,17 +1,22 @@
 //! Rows of an answer as values.
 
-ghost use Rattle.std.specs.Prelude.{◌≡◌, ◌≢◌, ◌<◌, ◌^◌, ℕ, IsUtf8, length, IfErr, IfSome, map, take, IfOk};
+ghost use Rattle.std.specs.Prelude.{List, ◌≡◌, ◌≢◌, ◌<◌, ◌^◌, ℕ, IsUtf8, length, IfErr, IfSome, map, take, IfOk};
 ghost use Rattle.std.specs.List.{AllByRecursion};
 ghost use Rattle.std.specs.Option.{option_to_list};
 ghost use Rattle.sqlite_value.specs.declared.value.Value.TheVariants.{Text, Blob};
-ghost use Rattle.sqlite.specs.Values.{or_null};
 ghost use Rattle.sql_rows.specs.Rows.{number_value, flag_value};
 ghost use Rattle.sql_rows.specs.declared.fault.StoreFault.TheVariants.{Failed};
 ghost use Rattle.sqlite_value.specs.Order.{Row as SqlRow, column};
+ghost use Rattle.sqlite.specs.Held.{state};
+ghost use Rattle.sqlite.specs.State.{HasCleanDisk, Shown};
+ghost use Rattle.sqlite.specs.Values.{bound, or_null};
+ghost use Rattle.sql_rows.specs.Calls.{StaysInside};
 
+use crate::call::query;
 use crate::fault::{StoreFault, fault_of};
 use crate::text::{Bytes, Words};
-use sqlite::Row;
+use sqlite::types::ValueRef;
+use sqlite::{Alter, Row, Transaction};
 use std::alloc::Global;
 
 /// What a row of some table is read as.
@@ -22,19 +27,16 @@ pub trait Stored: Sized + Drop {
     // its numbers and texts are such as the program can hold
     ghost fits: { Self → Type 0 };
 
-    /// The value of which these are the columns. But for memory, it fails only where they are those of no value that the program can hold.
+    /// The value of which these are the columns, where the program can hold it.
     fn read(row: &Row) -> Result<Self, StoreFault>
         ensures ok { IfOk result (λ x. columns x ≡ row.now) }
-        ensures value { IfOk result (λ x. fits x) }
-        ensures failed { IfErr result (λ e. e ≡ Failed → (x : _) → fits x → columns x ≢ row.now) };
+        ensures value { IfOk result (λ x. fits x) };
 }
 
 /// The values of the rows, in their order.
-#[tactic(auto, using(crate::proofs::Faults::no_values))]
-pub fn read_all<T: Stored>(alloc: Global, rows: &[Row]) -> Result<Vec<T>, StoreFault>
+fn read_all<T: Stored>(alloc: Global, rows: &[Row]) -> Result<Vec<T>, StoreFault>
     ensures ok { IfOk result (λ all. map T.Stored.columns all.items ≡ rows.now) }
     ensures values { IfOk result (λ all. AllByRecursion T.Stored.fits all.items) }
-    ensures failed { IfErr result (λ e. e ≡ Failed → (xs : _) → AllByRecursion T.Stored.fits xs → map T.Stored.columns xs ≢ rows.now) }
 {
     let mut all = Vec::new(alloc);
     for row in rows {
@@ -44,15 +46,45 @@ pub fn read_all<T: Stored>(alloc: Global, rows: &[Row]) -> Result<Vec<T>, StoreF
 }
 
 /// The value of the first row, if there is a row.
-pub fn read_one<T: Stored>(rows: &[Row]) -> Result<Option<T>, StoreFault>
+fn read_one<T: Stored>(rows: &[Row]) -> Result<Option<T>, StoreFault>
     ensures ok { IfOk result (λ o. map T.Stored.columns (option_to_list o) ≡ take 1 rows.now) }
     ensures value { IfOk result (λ o. IfSome o T.Stored.fits) }
-    ensures failed { IfErr result (λ e. e ≡ Failed → (o : _) → IfSome o T.Stored.fits → map T.Stored.columns (option_to_list o) ≢ take 1 rows.now) }
 {
     match rows.first() {
         None => Ok(None),
         Some(row) => Ok(Some(T::read(row)?)),
     }
+}
+
+/// The values of the rows that a query shows, in their order. After a fault the transaction may be rolled back.
+pub fn query_all<S: Alter, T: Stored>(
+    alloc: Global,
+    tx: &mut Transaction<'_, S>,
+    text: &str,
+    params: &[ValueRef<'_>],
+) -> Result<Vec<T>, StoreFault>
+    ensures inside { StaysInside S.Store tx.old.conn tx.new.conn result }
+    ensures shown { HasCleanDisk (state S.Store tx.new.conn.now) → IfOk result (λ all. (rows : List SqlRow)
+        × Shown text.now (bound params.now) (state S.Store tx.old.conn.now) (state S.Store tx.new.conn.now) rows
+        × (map T.Stored.columns all.items ≡ rows) × AllByRecursion T.Stored.fits all.items) }
+{
+    let rows = query(tx, text, params)?;
+    read_all(alloc, rows.as_slice())
+}
+
+/// The value of the first row that a query shows, if it shows a row. After a fault the transaction may be rolled back.
+pub fn query_one<S: Alter, T: Stored>(
+    tx: &mut Transaction<'_, S>,
+    text: &str,
+    params: &[ValueRef<'_>],
+) -> Result<Option<T>, StoreFault>
+    ensures inside { StaysInside S.Store tx.old.conn tx.new.conn result }
+    ensures shown { HasCleanDisk (state S.Store tx.new.conn.now) → IfOk result (λ o. (rows : List SqlRow)
+        × Shown text.now (bound params.now) (state S.Store tx.old.conn.now) (state S.Store tx.new.conn.now) rows
+        × (map T.Stored.columns (option_to_list o) ≡ take 1 rows) × IfSome o T.Stored.fits) }
+{
+    let rows = query(tx, text, params)?;
+    read_one(rows.as_slice())
 }
 
 /// The number below 4,294,967,296 in the column, where columns are counted from 0.
@@ -70,7 +102,6 @@ pub fn number_at(row: &Row, at: usize) -> Result<u32, StoreFault>
 pub fn words_at(row: &Row, at: usize) -> Result<Words, StoreFault>
     ensures ok { IfOk result (λ w. column row.now at ≡ Text w) }
     ensures utf8 { IfOk result (λ w. IsUtf8 w) }
-    ensures failed { IfErr result (λ e. e ≡ Failed → (t : _) → IsUtf8 t → at < length row.now → column row.now at ≢ Text t) }
 {
     match row.get(at) {
         Ok(text) => Ok(Words::new(text)),
@@ -81,7 +112,6 @@ pub fn words_at(row: &Row, at: usize) -> Result<Words, StoreFault>
 /// The truth value in the column: 0 or 1.
 pub fn flag_at(row: &Row, at: usize) -> Result<bool, StoreFault>
     ensures ok { IfOk result (λ b. column row.now at ≡ flag_value b) }
-    ensures failed { IfErr result (λ e. e ≡ Failed → (b : _) → at < length row.now → column row.now at ≢ flag_value b) }
 {
     match number_at(row, at)? {
         0 => Ok(false),
@@ -93,7 +123,6 @@ pub fn flag_at(row: &Row, at: usize) -> Result<bool, StoreFault>
 /// The bytes in the column.
 pub fn bytes_at(row: &Row, at: usize) -> Result<Bytes, StoreFault>
     ensures ok { IfOk result (λ b. column row.now at ≡ Blob b) }
-    ensures failed { IfErr result (λ e. e ≡ Failed → (b : _) → at < length row.now → column row.now at ≢ Blob b) }
 {
     match row.get(at) {
         Ok(bytes) => Ok(Bytes::new(bytes)),
@@ -105,7 +134,6 @@ pub fn bytes_at(row: &Row, at: usize) -> Result<Bytes, StoreFault>
 pub fn words_or_null_at(row: &Row, at: usize) -> Result<Option<Words>, StoreFault>
     ensures ok { IfOk result (λ o. column row.now at ≡ or_null Text o) }
     ensures utf8 { IfOk result (λ o. IfSome o (λ w. IsUtf8 w)) }
-    ensures failed { IfErr result (λ e. e ≡ Failed → (o : _) → IfSome o IsUtf8 → at < length row.now → column row.now at ≢ or_null Text o) }
 {
     let text: Result<Option<String>, _> = row.get(at);
     match text {
@@ -118,7 +146,6 @@ pub fn words_or_null_at(row: &Row, at: usize) -> Result<Option<Words>, StoreFaul
 /// The number below 4,294,967,296 in the column, or none where it is NULL.
 pub fn number_or_null_at(row: &Row, at: usize) -> Result<Option<u32>, StoreFault>
     ensures ok { IfOk result (λ o. column row.now at ≡ or_null number_value o) }
-    ensures failed { IfErr result (λ e. e ≡ Failed → (o : _) → IfSome o (λ n. n < 2 ^ 32) → at < length row.now → column row.now at ≢ or_null number_value o) }
 {
     let found: Result<Option<u32>, _> = row.get(at);
     match found {

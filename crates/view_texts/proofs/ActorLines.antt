@@ -10,9 +10,9 @@ use Rattle.sql_rows.specs.Rows.{number_value}
 use Rattle.sql_rows.proofs.ColumnTests.{same_number}
 use Rattle.shop_model.specs.Values as model
 use Rattle.shop_model.specs.Views.{ActorRow}
-use Rattle.reply_bodies.specs.Films.{films_text, actor_data}
-use Rattle.reply_bodies.specs.Page.{Page, HasValues}
-use Rattle.reply_bodies.specs.declared.actors.FilmGroup.{FilmGroup}
+use Rattle.shop_views.specs.Films.{films_text, actor_data}
+use Rattle.shop_views.specs.Page.{Page, HasValues}
+use Rattle.shop_views.specs.declared.actors.FilmGroup.{FilmGroup}
 use Rattle.view_texts.specs.declared.actors.OpenGroup.{OpenGroup}
 use Rattle.view_texts.specs.declared.actors.StartedActor.{StartedActor}
 use Rattle.view_texts.specs.Actors.{ActorLine, Group, Groups, ToldFilm, shown_actor, text_of, told_film, take_film, take_any, every_group, seen_group, seen_open, ActorPart, actor_alone, whole, seen_part, Grouped, closed, take_line, runs}

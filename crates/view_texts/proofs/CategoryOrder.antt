@@ -4,8 +4,8 @@ use Rattle.std.specs.Option.{option_to_list}
 use Rattle.std.proofs.lemmas.List.{map-append}
 use Rattle.shop_model.specs.Values.{Text}
 use Rattle.shop_model.specs.Views.{sells_more, insert_by, sorted_by}
-use Rattle.reply_bodies.specs.Sales.{seen_category}
-use Rattle.reply_bodies.specs.declared.sales.CategoryRow.{CategoryRow}
+use Rattle.shop_views.specs.Sales.{seen_category}
+use Rattle.shop_views.specs.declared.sales.CategoryRow.{CategoryRow}
 use Rattle.shop_schema.proofs.Lists.{flat_map_push}
 use Rattle.view_texts.specs.CategorySums.{seen_sum, sold}
 use Rattle.view_texts.specs.declared.categories.CategorySum.{CategorySum}

@@ -15,10 +15,10 @@ use Rattle.shop_model.specs.Views.{FilmRow, category_name}
 use Rattle.shop_model.proofs.FoundLemmas.{at_one}
 use Rattle.shop_types.specs.Films.{rating_text}
 use Rattle.shop_types.specs.declared.film.Rating.{Rating}
-use Rattle.reply_bodies.specs.Names.{name_text}
-use Rattle.reply_bodies.specs.Films.{film_with, seen_film, film_data}
-use Rattle.reply_bodies.specs.Page.{Page, HasValues}
-use Rattle.reply_bodies.specs.declared.films.FilmRow as rows
+use Rattle.shop_views.specs.Names.{name_text}
+use Rattle.shop_views.specs.Films.{film_with, seen_film, film_data}
+use Rattle.shop_views.specs.Page.{Page, HasValues}
+use Rattle.shop_views.specs.declared.films.FilmRow as rows
 use Rattle.shop_store.proofs.SharedReads.{number_is_some}
 use Rattle.view_texts.specs.Shown.{text_or_empty, FilmLine, shown_film}
 use Rattle.view_texts.specs.Films.{names_of, film_alone, FilmPart, whole, seen_part, Grouped, closed, take_line, runs}

@@ -9,9 +9,9 @@ use Rattle.shop_model.specs.Values.{Actor, Film}
 use Rattle.shop_model.specs.Shop.{Catalogue}
 use Rattle.shop_model.specs.Views.{FilmRow, film_row}
 use Rattle.shop_model.proofs.RowLemmas.{same_test}
-use Rattle.reply_bodies.specs.Names.{name_text}
-use Rattle.reply_bodies.specs.Films.{film_with, seen_film}
-use Rattle.reply_bodies.specs.declared.films.FilmRow as rows
+use Rattle.shop_views.specs.Names.{name_text}
+use Rattle.shop_views.specs.Films.{film_with, seen_film}
+use Rattle.shop_views.specs.declared.films.FilmRow as rows
 use Rattle.view_texts.specs.Shown.{FilmLine, actors_of, lines_of}
 use Rattle.view_texts.specs.Films.{actor_name, names_of, film_alone, FilmPart, whole, seen_part, Grouped, closed, take_line, run_from}
 

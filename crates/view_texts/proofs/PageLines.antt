@@ -3,7 +3,7 @@ use Rattle.std.proofs.Common.{◌≡◌, List, [], ◌∷◌, ◌++◌, map, ref
 use Rattle.std.proofs.lemmas.List.{map-append}
 use Rattle.serde_json.specs.Data.{Data}
 use Rattle.sqlite_value.specs.Order as sql
-use Rattle.reply_bodies.specs.Page.{Page, HasValues}
+use Rattle.shop_views.specs.Page.{Page, HasValues}
 
 -- a list of images that has one more is of a list that has one more
 pub split_last : {X Y : Type 0} (f : X → Y) (given : List Y) (row : Y) (xs : List X) → given ++ row ∷ [] ≡ map f xs → (before : List X) × (x : X) × (given ≡ map f before) × (row ≡ f x) × (xs ≡ before ++ x ∷ [])

@@ -11,8 +11,8 @@ use Rattle.shop_model.specs.Values.{Person, City, Customer}
 use Rattle.shop_model.specs.Shop.{Catalogue}
 use Rattle.shop_model.specs.Views.{PersonRow, full_name, city_name, country_name, person_row}
 use Rattle.shop_model.proofs.FoundLemmas.{at_one}
-use Rattle.reply_bodies.specs.People.{seen_person}
-use Rattle.reply_bodies.specs.declared.people.ListedPerson.{ListedPerson}
+use Rattle.shop_views.specs.People.{seen_person}
+use Rattle.shop_views.specs.declared.people.ListedPerson.{ListedPerson}
 use Rattle.view_texts.specs.Shown.{name_or_null, text_or_empty, shown_person, listed_customer}
 
 -- ---- names that may be missing

@@ -17,8 +17,8 @@ use Rattle.shop_model.specs.Books.{Books, head, shop_of}
 use Rattle.shop_model.specs.Views.{full_name, person_name, manager_name, city_name, country_name, paid_rentals, takings}
 use Rattle.shop_model.proofs.FoundLemmas.{at_one}
 use Rattle.shop_schema.proofs.Lists.{flat_map_push}
-use Rattle.reply_bodies.specs.Sales.{manager_text}
-use Rattle.reply_bodies.specs.declared.names.PersonName.{PersonName}
+use Rattle.shop_views.specs.Sales.{manager_text}
+use Rattle.shop_views.specs.declared.names.PersonName.{PersonName}
 use Rattle.view_texts.specs.Shown.{text_or_empty, IsNameIn}
 use Rattle.view_texts.specs.Payments.{PaidLine, shown_line, paid_lines, Sale, sale, sale_in}
 use Rattle.view_texts.specs.Sales.{sum_of, rental_sum, manager_of, shown_store, store_with}

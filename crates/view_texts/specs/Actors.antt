@@ -10,9 +10,9 @@ use Rattle.shop_model.specs.Values as model
 use Rattle.shop_model.specs.Values.{Actor, Film}
 use Rattle.shop_model.specs.Shop.{Catalogue}
 use Rattle.shop_model.specs.Views.{ActorRow, films_of, categories_by_name}
-use Rattle.reply_bodies.specs.Films.{actor_data}
-use Rattle.reply_bodies.specs.Page.{HasValues}
-use Rattle.reply_bodies.specs.declared.actors.FilmGroup.{FilmGroup}
+use Rattle.shop_views.specs.Films.{actor_data}
+use Rattle.shop_views.specs.Page.{HasValues}
+use Rattle.shop_views.specs.declared.actors.FilmGroup.{FilmGroup}
 use Rattle.view_texts.specs.declared.actors.ActorPage.{ActorPage}
 use Rattle.view_texts.specs.declared.actors.CategoryFilm.{CategoryFilm}
 use Rattle.view_texts.specs.declared.actors.OpenGroup.{OpenGroup}

@@ -6,10 +6,10 @@ use Rattle.shop_model.specs.Values as model
 use Rattle.shop_model.specs.Values.{Actor, Film}
 use Rattle.shop_model.specs.Shop.{Catalogue}
 use Rattle.shop_model.specs.Views.{FilmRow, full_name, category_name}
-use Rattle.reply_bodies.specs.Names.{name_text}
-use Rattle.reply_bodies.specs.Films.{film_with, film_data}
-use Rattle.reply_bodies.specs.Page.{HasValues}
-use Rattle.reply_bodies.specs.declared.films.FilmRow as rows
+use Rattle.shop_views.specs.Names.{name_text}
+use Rattle.shop_views.specs.Films.{film_with, film_data}
+use Rattle.shop_views.specs.Page.{HasValues}
+use Rattle.shop_views.specs.declared.films.FilmRow as rows
 use Rattle.view_texts.specs.Shown.{FilmLine, shown_film}
 use Rattle.view_texts.specs.declared.films.FilmPage.{FilmPage}
 

@@ -4,8 +4,8 @@ use Rattle.sqlite_value.specs.Order as sql
 use Rattle.shop_model.specs.Rows.{Row}
 use Rattle.shop_model.specs.Values.{Staff, Customer}
 use Rattle.shop_model.specs.Shop.{Catalogue}
-use Rattle.reply_bodies.specs.People.{customer_data, staff_data}
-use Rattle.reply_bodies.specs.Page.{HasValues}
+use Rattle.shop_views.specs.People.{customer_data, staff_data}
+use Rattle.shop_views.specs.Page.{HasValues}
 use Rattle.view_texts.specs.Shown.{shown_customer, shown_staff, listed_customer, listed_staff}
 use Rattle.view_texts.specs.declared.customers.CustomerPage.{CustomerPage}
 use Rattle.view_texts.specs.declared.staff.StaffPage.{StaffPage}

@@ -10,7 +10,7 @@ use Rattle.shop_model.specs.Values.{City, Branch, Staff}
 use Rattle.shop_model.specs.Shop.{Catalogue, Shop}
 use Rattle.shop_model.specs.Books.{Books, head, shop_of}
 use Rattle.shop_model.specs.Views.{StoreRow, city_name, country_name, manager_name, paid_rentals, takings, sales_by_store}
-use Rattle.reply_bodies.specs.Sales.{seen_store}
+use Rattle.shop_views.specs.Sales.{seen_store}
 use Rattle.view_texts.specs.Shown.{name_or_null}
 use Rattle.view_texts.specs.Payments.{PaidLine, shown_line, Sale, sale_in}
 use Rattle.view_texts.specs.declared.stores.SalesSum.{SalesSum}

@@ -10,7 +10,7 @@ use Rattle.shop_model.specs.Values as model
 use Rattle.shop_model.specs.Values.{Person, City, Actor, Film, Staff, Customer}
 use Rattle.shop_model.specs.Shop.{Catalogue}
 use Rattle.shop_model.specs.Views.{PersonRow, person_row, is_cast}
-use Rattle.reply_bodies.specs.declared.names.PersonName.{PersonName}
+use Rattle.shop_views.specs.declared.names.PersonName.{PersonName}
 
 -- the name of a row that may be missing
 abbrev pub name_or_null : List model.Text → Value

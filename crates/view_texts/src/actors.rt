@@ -11,14 +11,14 @@ ghost use Rattle.shop_model.specs.Answers.{shown_text};
 ghost use Rattle.shop_model.specs.Views.{ActorRow as ModelActor, actor_info};
 ghost use Rattle.shop_schema.specs.Shop.{Holds};
 ghost use Rattle.shop_schema.specs.Held.{IsHeld};
-ghost use Rattle.reply_bodies.specs.Films.{seen_actor, actor_data};
-ghost use Rattle.reply_bodies.specs.Page.{HasValues};
+ghost use Rattle.shop_views.specs.Films.{seen_actor, actor_data};
+ghost use Rattle.shop_views.specs.Page.{HasValues};
 ghost use Rattle.view_texts.specs.Actors.{ActorLine, shown_actor, told_film, take_film, take_any, every_group, seen_group, seen_open, seen_groups, seen_told, actor_alone, whole, seen_part, take_line, HasActors, closed};
 
 use crate::people::person_name_at;
-use reply_bodies::{ActorRow, FilmGroup, ListPage, PersonName, actor_row};
 use shop_schema::{row_number_at, text_at};
 use shop_values::{ActorNo, CategoryNo, T45, T128};
+use shop_views::{ActorRow, FilmGroup, ListPage, PersonName, actor_row};
 use sql_rows::{StoreFault, TakesRows, each_row, number_or_null_at};
 use sqlite::{Alter, Connection, Row};
 use std::alloc::{AllocError, Global};

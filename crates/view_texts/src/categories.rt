@@ -14,14 +14,14 @@ ghost use Rattle.shop_model.specs.Answers.{shown_text};
 ghost use Rattle.shop_model.specs.Views.{sells_more, insert_by, sorted_by, sales_by_category};
 ghost use Rattle.shop_schema.specs.Shop.{Holds};
 ghost use Rattle.shop_schema.specs.Held.{IsHeld};
-ghost use Rattle.reply_bodies.specs.Page.{HasValues};
-ghost use Rattle.reply_bodies.specs.Sales.{seen_category, category_data};
+ghost use Rattle.shop_views.specs.Page.{HasValues};
+ghost use Rattle.shop_views.specs.Sales.{seen_category, category_data};
 ghost use Rattle.view_texts.specs.Payments.{PaidLine, shown_line, Sale, sale_in};
 ghost use Rattle.view_texts.specs.CategorySums.{seen_sum, with_amount, summed, sold, sales_of_branch, HasNames, HasSums};
 
-use reply_bodies::{CategoryRow, ListPage, category_row};
 use shop_schema::text_at;
 use shop_values::{BranchNo, T45};
+use shop_views::{CategoryRow, ListPage, category_row};
 use sql_rows::{StoreFault, TakesRows, each_row, number_at, number_or_null_at};
 use sqlite::types::ToSql;
 use sqlite::{Alter, Connection, Row};

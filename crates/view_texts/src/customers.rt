@@ -14,15 +14,15 @@ ghost use Rattle.shop_model.specs.Answers.{shown_text};
 ghost use Rattle.shop_model.specs.Views.{customer_list};
 ghost use Rattle.shop_schema.specs.Shop.{Holds};
 ghost use Rattle.shop_schema.specs.Held.{IsHeld};
-ghost use Rattle.reply_bodies.specs.Page.{HasValues};
-ghost use Rattle.reply_bodies.specs.People.{seen_customer, customer_data};
+ghost use Rattle.shop_views.specs.Page.{HasValues};
+ghost use Rattle.shop_views.specs.People.{seen_customer, customer_data};
 ghost use Rattle.view_texts.specs.Shown.{shown_customer, listed_customer};
 ghost use Rattle.view_texts.specs.Pages.{HasCustomers};
 
 use crate::people::person_at;
-use reply_bodies::{CustomerRow, ListPage, customer_row};
 use shop_schema::row_number_at;
 use shop_values::BranchNo;
+use shop_views::{CustomerRow, ListPage, customer_row};
 use sql_rows::{StoreFault, TakesRows, each_row, flag_at};
 use sqlite::types::ToSql;
 use sqlite::{Alter, Connection, Row};

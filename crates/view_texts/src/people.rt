@@ -6,12 +6,12 @@ ghost use Rattle.sqlite_value.specs.Order.{Row as SqlRow, column};
 ghost use Rattle.shop_model.specs.Values.{Person};
 ghost use Rattle.shop_model.specs.Shop.{Catalogue};
 ghost use Rattle.shop_model.specs.Views.{person_row};
-ghost use Rattle.reply_bodies.specs.People.{seen_person};
+ghost use Rattle.shop_views.specs.People.{seen_person};
 ghost use Rattle.view_texts.specs.Shown.{text_or_empty, IsNameIn, shown_person};
 
-use reply_bodies::{ListedPerson, PersonName};
 use shop_schema::text_at;
 use shop_values::{BranchNo, L45, T128};
+use shop_views::{ListedPerson, PersonName};
 use sql_rows::{StoreFault, words_or_null_at};
 use sqlite::Row;
 use std::alloc::Global;

@@ -12,15 +12,15 @@ ghost use Rattle.shop_model.specs.Machine.{StaffListed};
 ghost use Rattle.shop_model.specs.Answers.{shown_text};
 ghost use Rattle.shop_model.specs.Views.{staff_list};
 ghost use Rattle.shop_schema.specs.Shop.{Holds};
-ghost use Rattle.reply_bodies.specs.Page.{HasValues};
-ghost use Rattle.reply_bodies.specs.People.{seen_staff, staff_data};
+ghost use Rattle.shop_views.specs.Page.{HasValues};
+ghost use Rattle.shop_views.specs.People.{seen_staff, staff_data};
 ghost use Rattle.view_texts.specs.Shown.{shown_staff, listed_staff};
 ghost use Rattle.view_texts.specs.Pages.{HasStaff};
 
 use crate::people::person_at;
-use reply_bodies::{ListPage, StaffRow, staff_row};
 use shop_schema::row_number_at;
 use shop_values::BranchNo;
+use shop_views::{ListPage, StaffRow, staff_row};
 use sql_rows::{StoreFault, TakesRows, each_row};
 use sqlite::types::ToSql;
 use sqlite::{Alter, Connection, Row};

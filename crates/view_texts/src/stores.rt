@@ -14,14 +14,14 @@ ghost use Rattle.shop_model.specs.Answers.{shown_text};
 ghost use Rattle.shop_model.specs.Views.{sales_by_store};
 ghost use Rattle.shop_schema.specs.Shop.{Holds};
 ghost use Rattle.shop_schema.specs.Held.{IsHeld};
-ghost use Rattle.reply_bodies.specs.Page.{HasValues};
-ghost use Rattle.reply_bodies.specs.Sales.{seen_store, store_data};
+ghost use Rattle.shop_views.specs.Page.{HasValues};
+ghost use Rattle.shop_views.specs.Sales.{seen_store, store_data};
 ghost use Rattle.view_texts.specs.Payments.{PaidLine, shown_line, Sale, sale_in};
 ghost use Rattle.view_texts.specs.Sales.{sum_of, HasSold, shown_store, store_with, HasFound, rental_sum, sales_of_branch, sales_of_first};
 
 use crate::people::{city_at, person_name_or_null_at};
-use reply_bodies::{ListPage, StoreRow, store_row};
 use shop_values::BranchNo;
+use shop_views::{ListPage, StoreRow, store_row};
 use sql_rows::{StoreFault, TakesRows, each_row, number_at, number_or_null_at};
 use sqlite::types::ToSql;
 use sqlite::{Alter, Connection, Row};

@@ -1,13 +1,8 @@
 //! Calls that no request makes, each once: `call NAME`.
-use crate::films::three_hundred;
-use crate::flips::flipped;
-use crate::side_by_side::tills;
-use crate::sockets::peers;
-use crate::stops::{creations, stopped};
 use crate::values::{NO_VALUE, is_so, rentals, rewards, routes, texts};
+use chain_engine::{Chain, OpenFault};
 use counter_http::reply_bytes;
 use row_player::Fault;
-use shop_chain::{Chain, OpenFault};
 use shop_types::{Ask, BranchNo, Caller, FilmNo, Limits, Reply, Request, Token};
 use sqlite::Alter;
 use std::alloc::Global;
@@ -147,25 +142,16 @@ fn branches_by_number(alloc: Global) -> Result<(), Fault> {
 }
 
 /// Makes the calls of that name.
-pub fn call(rt: &HostRuntime, name: &str) -> Result<(), Fault> {
-    let alloc = rt.alloc();
+pub fn call(alloc: Global, name: &str) -> Result<(), Fault> {
     match name {
         "new_chain" => new_chain(alloc),
         "fault_names" => fault_names(alloc),
-        "films" => three_hundred(alloc),
         "first_film" => first_film(alloc),
         "branches" => branches_by_number(alloc),
-        "peers" => peers(rt),
         "rewards" => rewards(),
         "rentals" => rentals(),
         "routes" => routes(),
-        "stopped" => stopped(alloc),
-        "creations" => creations(alloc),
-        "flipped" => flipped(alloc),
         "texts" => texts(alloc),
-        _ => match name.strip_prefix("tills ") {
-            Some(name) => tills(rt, name),
-            None => Err(Fault::Line("there is no such call")),
-        },
+        _ => Err(Fault::Line("there is no such call")),
     }
 }

@@ -2,12 +2,26 @@
 //! file.
 use books_audit::audit_custody;
 use chain_calls::{FirstRows, connect, create, give_back, read_audit};
-use reply_bodies::audit_text;
 use row_player::Fault;
 use shop_types::Audit;
+use shop_views::audit_text;
 use sqlite::{Alter, Connection, FileStore, Files};
 use sqlite_disk::Disk;
 use std::alloc::Global;
+
+/// A connection to the database in the files.
+fn connected<D: Disk + Drop>(
+    alloc: Global,
+    files: Files<D>,
+) -> Result<Connection<FileStore<D>>, Fault> {
+    match connect(alloc, files) {
+        Ok(conn) => Ok(conn),
+        Err((_, files)) => {
+            drop(files);
+            Err(Fault::Line("the database isn't opened"))
+        }
+    }
+}
 
 /// Does a statement, or makes the tables with the opening rows where there is none.
 fn change<S: Alter>(conn: &mut Connection<S>, text: Option<&str>) -> Result<(), &'static str> {
@@ -30,20 +44,6 @@ fn change<S: Alter>(conn: &mut Connection<S>, text: Option<&str>) -> Result<(), 
     }
 }
 
-/// A connection to the database in the files.
-fn connected<D: Disk + Drop>(
-    alloc: Global,
-    files: Files<D>,
-) -> Result<Connection<FileStore<D>>, Fault> {
-    match connect(alloc, files) {
-        Ok(conn) => Ok(conn),
-        Err((_, files)) => {
-            drop(files);
-            Err(Fault::Line("the database isn't opened"))
-        }
-    }
-}
-
 /// The files, with what a statement or the opening rows, where there is none, make of their tables.
 pub fn changed<D: Disk + Drop>(
     alloc: Global,
@@ -62,48 +62,35 @@ pub fn changed<D: Disk + Drop>(
     }
 }
 
-/// Which audit is asked for: that of all tables, or that of custody alone.
-#[derive(Clone, Copy)]
-pub enum Auditing {
-    Books,
-    Custody,
-}
-
-/// What an audit says of the tables, which stay as they are.
-fn audit<S: Alter>(alloc: Global, conn: &mut Connection<S>, which: Auditing) -> Option<Audit> {
+/// What an audit says of the tables, or one of custody alone. They stay as they are.
+fn audit<S: Alter>(alloc: Global, conn: &mut Connection<S>, of_custody: bool) -> Option<Audit> {
     if !conn.is_autocommit() {
         return None;
     }
-    match which {
-        Auditing::Books => read_audit(alloc, conn).ok(),
-        Auditing::Custody => {
-            let mut tx = conn.transaction();
-            let audit = audit_custody(alloc, &mut tx);
-            tx.rollback();
-            audit.ok()
-        }
+    if !of_custody {
+        return read_audit(alloc, conn).ok();
     }
+    let mut tx = conn.transaction();
+    let audit = audit_custody(alloc, &mut tx);
+    tx.rollback();
+    audit.ok()
 }
 
-/// The text of an audit of the tables in the files, and the files as they were.
+/// The text of an audit of the tables in the files.
 pub fn audited<D: Disk + Drop>(
     alloc: Global,
     files: Files<D>,
-    which: Auditing,
-) -> Result<(String, Files<D>), Fault> {
+    of_custody: bool,
+) -> Result<Vec<u8>, Fault> {
     let mut conn = connected(alloc, files)?;
-    let audit = audit(alloc, &mut conn, which);
-    let files = give_back(conn);
+    let audit = audit(alloc, &mut conn, of_custody);
+    drop(give_back(conn));
     let Some(audit) = audit else {
-        drop(files);
         return Err(Fault::Line("the tables aren't audited"));
     };
     match audit_text(alloc, audit) {
-        Ok(text) => Ok((text, files)),
-        Err(_) => {
-            drop(files);
-            Err(Fault::Memory)
-        }
+        Ok(text) => Ok(text.into_bytes()),
+        Err(_) => Err(Fault::Memory),
     }
 }
 

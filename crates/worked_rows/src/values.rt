@@ -3,8 +3,10 @@ use balance_rule::{Paid, last_month, rewarded};
 use branch_core::{held_by, in_stock};
 use http_messages::part;
 use row_player::Fault;
-use shop_types::{Amount, BadCsv, CopyNo, CustomerNo, Moment, Refusal, Rental, StaffNo};
-use shop_values::{NoMemory, moment_texts_are_one_to_one};
+use shop_types::{
+    Amount, BadCsv, CopyNo, CustomerNo, Moment, NoMemory, Refusal, Rental, StaffNo,
+    moment_texts_are_one_to_one,
+};
 use std::alloc::{AllocError, Global};
 
 pub const NO_VALUE: Fault = Fault::Line("a value isn't read");

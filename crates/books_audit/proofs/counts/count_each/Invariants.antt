@@ -5,6 +5,6 @@ use Rattle.books_audit.proofs.counts.count_each.Given as goal
 abbrev pub invariant-loop-row : goal.invariant-loop-row
 invariant-loop-row g l = record {
   many : length l.counts.items ≡ l.places;
-  each : (b : ℕ) → b < l.places → get_or l.counts.items b 0 + how_many g.T.Branched.branch b (drop l.row-index l.rows) ≡ how_many g.T.Branched.branch b l.rows;
+  each : (b : ℕ) → b < l.places → get_or l.counts.items b 0 + how_many g.T.Owned.owner b (drop l.row-index l.rows) ≡ how_many g.T.Owned.owner b l.rows;
   fits : (b : ℕ) → get_or l.counts.items b 0 ≤ l.row-index;
 }

@@ -5,7 +5,7 @@ use Rattle.sqlite.specs.State.{HasCleanDisk}
 use Rattle.sql_rows.specs.Calls.{StaysWithin}
 use Rattle.sql_rows.specs.declared.fault.StoreFault.{StoreFault}
 use Rattle.shop_schema.specs.Shop.{Reads}
-use Rattle.film_cache.specs.Cached.{AreRows}
+use Rattle.chain_caches.specs.Films.{AreRows}
 use Rattle.branch_looks.specs.Commands.{as_listed, found_row}
 use Rattle.branch_looks.proofs.commands.find_films.Given as goal
 

@@ -6,7 +6,7 @@ use Rattle.shop_model.specs.Values.{Copy, Terms}
 use Rattle.shop_model.specs.Stock.{in_stock}
 use Rattle.shop_model.specs.Books.{shop_of}
 use Rattle.shop_types.specs.Seen.{seen_terms}
-use Rattle.film_cache.specs.declared.cache.KnownFilm.{KnownFilm}
+use Rattle.chain_caches.specs.declared.films.KnownFilm.{KnownFilm}
 use Rattle.shop_store.specs.Seen.{seen_copy_now}
 use Rattle.shop_store.specs.declared.copies.CopyNow.{CopyNow}
 use Rattle.shop_schema.proofs.Readings.{reads_as}

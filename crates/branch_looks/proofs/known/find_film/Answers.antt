@@ -1,8 +1,7 @@
-use Rattle.std.proofs.Common.{◌∙◌, sym, ap, Option, Some, option_map}
-use Rattle.std.specs.Option.{option_to_list}
+use Rattle.std.proofs.Common.{◌∙◌, sym, ap, Some, option_map}
 use Rattle.sqlite.specs.Held.{state}
 use Rattle.sql_rows.proofs.Stays.{within_none}
-use Rattle.film_cache.specs.Cached.{known_of}
+use Rattle.chain_caches.specs.Films.{known_of}
 use Rattle.shop_store.specs.declared.films.FilmRow.{FilmRow}
 use Rattle.shop_store.specs.SharedSeen.{seen_film_row}
 use Rattle.shop_schema.proofs.Readings.{reads_as, reads_none}
@@ -27,8 +26,5 @@ pub returns-clause-found : goal.returns-clause-found
 returns-clause-found g c = λ clean.
     reads_as (state g.S.Store c.args.tx.now.conn.now) (state g.S.Store c.film_row.new.tx.conn.now) _ _
     (λ books held is. λ rows.
-    let there = ap (λ (o : Option FilmRow). option_to_list (option_map seen_film_row o)) (sym c.in-Some-2.is) ∙ is in (
-      ap Some c.keep_film.ensures.known ∙ ap (option_map (λ (it : FilmRow). known_of (seen_film_row it))) (sym c.in-Some-2.is) ∙ head_of seen_film_row known_of _ _ is,
-      c.keep_film.ensures.kept books.catalogue.films there (c.known.ensures.kept books.catalogue.films rows),
-    ))
-    (c.in_ok-row.ensures.found clean)
+    let told = ap Some c.known_in-film.ensures ∙ ap (option_map (λ (it : FilmRow). known_of (seen_film_row it))) (sym c.in-Some-2.is) ∙ head_of seen_film_row known_of _ _ is in
+    (told, c.put.ensures books.catalogue.films (c.known.ensures.kept books.catalogue.films rows) told)) (c.in_ok-row.ensures.found clean)

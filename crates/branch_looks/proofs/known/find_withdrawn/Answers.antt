@@ -1,6 +1,6 @@
 use Rattle.std.proofs.Common.{◌∙◌, sym, ap, option_map}
 use Rattle.sqlite.specs.Held.{state}
-use Rattle.film_cache.specs.declared.cache.KnownFilm.{KnownFilm}
+use Rattle.chain_caches.specs.declared.films.KnownFilm.{KnownFilm}
 use Rattle.shop_schema.proofs.Readings.{reads_as}
 use Rattle.branch_looks.proofs.TermLemmas.{withdrawn_told}
 use Rattle.branch_looks.proofs.known.find_withdrawn.Goals as goal

@@ -8,7 +8,7 @@ use Rattle.shop_model.specs.Books.{shop_of}
 use Rattle.shop_model.specs.Views as views
 use Rattle.shop_store.specs.declared.termed.TermedRental.{TermedRental}
 use Rattle.shop_store.specs.Seen.{seen_termed}
-use Rattle.reply_bodies.specs.Overdue.{seen_overdue}
+use Rattle.shop_views.specs.Overdue.{seen_overdue}
 use Rattle.shop_schema.proofs.Readings.{reads_then, reads_as}
 use Rattle.branch_looks.specs.Finds.{is_late, listed}
 use Rattle.branch_looks.proofs.TermLemmas.{more_kept, seen_pushed}

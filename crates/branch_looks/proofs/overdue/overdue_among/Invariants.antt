@@ -7,7 +7,7 @@ use Rattle.sql_rows.specs.declared.fault.StoreFault.{StoreFault}
 use Rattle.shop_model.specs.Books.{shop_of}
 use Rattle.shop_schema.specs.Shop.{Reads}
 use Rattle.shop_store.specs.Seen.{seen_termed}
-use Rattle.reply_bodies.specs.Overdue.{seen_overdue}
+use Rattle.shop_views.specs.Overdue.{seen_overdue}
 use Rattle.branch_looks.specs.Finds.{is_late, listed}
 use Rattle.branch_looks.proofs.overdue.overdue_among.Given as goal
 

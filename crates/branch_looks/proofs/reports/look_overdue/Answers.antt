@@ -2,8 +2,8 @@ use Rattle.std.proofs.Common.{◌∙◌, ap, List, map}
 use Rattle.shop_model.specs.Json.{array}
 use Rattle.shop_model.specs.Views as views
 use Rattle.shop_model.specs.Answers.{accepted_answer, overdue_text}
-use Rattle.reply_bodies.specs.declared.overdue_rows.OverdueRow.{OverdueRow}
-use Rattle.reply_bodies.specs.Overdue.{seen_overdue}
+use Rattle.shop_views.specs.declared.overdue_rows.OverdueRow.{OverdueRow}
+use Rattle.shop_views.specs.Overdue.{seen_overdue}
 use Rattle.branch_looks.proofs.reports.look_overdue.Goals as goal
 
 pub returns-clause-shown : goal.returns-clause-shown

@@ -1,5 +1,5 @@
 use Rattle.shop_types.specs.Seen.{seen_office}
-use Rattle.film_cache.proofs.Steps.{rows_by_office}
+use Rattle.chain_caches.proofs.FilmSteps.{rows_by_office}
 use Rattle.branch_work.specs.Rules.{rules_of}
 use Rattle.chain_calls.proofs.work.office_work_of.Goals as goal
 

@@ -1,6 +1,6 @@
 use Rattle.std.proofs.Common.{◌++◌, ◌∷◌, [], subst}
 use Rattle.sql_rows.proofs.Inside.{on_ok_then}
-use Rattle.reply_bodies.specs.Page.{HasValues}
+use Rattle.shop_views.specs.Page.{HasValues}
 use Rattle.consign_store.proofs.lists.add.Goals as goal
 
 pub returns : goal.returns

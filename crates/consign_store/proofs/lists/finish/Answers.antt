@@ -1,6 +1,6 @@
 use Rattle.std.proofs.Common.{ap, map, option_map, string_bytes}
 use Rattle.std.proofs.lemmas.Result.{IfOk-weaker}
-use Rattle.reply_bodies.specs.Consignments.{seen_listed}
+use Rattle.shop_views.specs.Consignments.{seen_listed}
 use Rattle.consign_store.specs.Listed.{data_of}
 use Rattle.consign_store.proofs.ListLines.{ends_some, ends_none}
 use Rattle.consign_store.proofs.lists.finish.Goals as goal

@@ -1,3 +1,5 @@
+use Rattle.std.proofs.Common.{Ok, refl}
+use Rattle.sql_rows.proofs.Found.{found_then}
 use Rattle.shop_types.specs.Seen.{seen_mark}
 use Rattle.shop_store.specs.Seen.{seen_copy_row}
 use Rattle.consign_store.proofs.Texts.{read_copies}
@@ -5,5 +7,5 @@ use Rattle.consign_store.proofs.marks.copies_marked.Goals as goal
 
 pub returns-clause-rows : goal.returns-clause-rows
 returns-clause-rows g c clean =
-    let shown = rw (c.to_sql.ensures, c.get.ensures.value, c.to_sql-2.ensures, c.get-2.ensures.value) at (c.in_ok-rows.ensures.shown clean) in
-    read_copies seen_copy_row _ _ (seen_mark c.args.mark.now) _ _ c.read_all.result shown c.as_slice.ensures.value c.read_all.ensures.ok
+    let shown = rw (c.to_sql.ensures, c.get.ensures.value, c.to_sql-2.ensures, c.get-2.ensures.value) at (c.query_all.ensures.shown clean) in
+    found_then _ _ c.query_all.result shown (λ x it. read_copies seen_copy_row _ _ (seen_mark c.args.mark.now) it.0 it.0 (Ok x) it.1 refl it.2)

@@ -4,11 +4,11 @@ use Rattle.http_messages.specs.Shown.{message_of}
 use Rattle.shop_types.specs.Seen.{seen_caller}
 use Rattle.counter_routes.specs.Words.{Meaning}
 use Rattle.counter_routes.specs.Readings.{reading_of}
-use Rattle.shop_chain.specs.Holding.{holding}
+use Rattle.chain_engine.specs.Holding.{holding}
 use Rattle.counter_http.specs.Events.{sender_of}
 use Rattle.counter_http.proofs.AnswerLemmas.{nobody_answers, sent_by, store_answers, read_answers}
-use Rattle.shop_chain.proofs.Taking.{takes_still, takes_then}
-use Rattle.shop_chain.proofs.Requests.{refused_takes}
+use Rattle.chain_engine.proofs.Taking.{takes_still, takes_then}
+use Rattle.chain_engine.proofs.Requests.{refused_takes}
 use Rattle.counter_http.proofs.answer.answer.Goals as goal
 
 pub returns-in_default : goal.returns-in_default
@@ -30,5 +30,5 @@ pub returns-in-Ok : goal.returns-in-Ok
 returns-in-Ok g c =
     let meaning : Meaning = g.O.OfficeWords.meaning c.args.words.now in
     let message : Message = message_of c.args.message.now in
-    takes_then c.in-Ok.ensures.taken c.answer_read.ensures (λ old mid new x y.
+    takes_then c.in-Ok.ensures.taken c.answer_read-reply.ensures (λ old mid new x y.
     read_answers meaning message (seen_caller c.in-Ok.caller) c.read-read.result _ old mid new c.read-read.ensures.reading (sent_by message _ _ old (sym c.in-Some.ensures) x.0) x.1 x.2 y)

@@ -1,5 +1,5 @@
 use Rattle.std.proofs.Common.{sym, ◌∙◌}
-use Rattle.shop_chain.specs.Holding.{holding}
+use Rattle.chain_engine.specs.Holding.{holding}
 use Rattle.counter_http.proofs.AnswerLemmas.{nobody_refused, nobody_failed}
 use Rattle.counter_http.proofs.answer.answer_nobody.Goals as goal
 

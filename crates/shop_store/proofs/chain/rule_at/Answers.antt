@@ -1,7 +1,8 @@
-use Rattle.std.proofs.Common.{rules}
+use Rattle.std.proofs.Common.{refl, rules}
 use Rattle.shop_store.proofs.OnRule.{read_rule}
 use Rattle.shop_store.proofs.chain.rule_at.Goals as goal
 
-pub returns-clause-found : goal.returns-clause-found
-returns-clause-found g c clean =
-    read_rule (λ row rule says. search rules) _ _ _ _ _ c.in-Some.rule (c.in_ok-rows.ensures.shown clean) c.as_slice.ensures.value c.in_ok-first_of.ensures.found c.in-Some.is
+pub returns-in-Some-clause-found : goal.returns-in-Some-clause-found
+returns-in-Some-clause-found g c clean =
+    let these = c.in_ok-query_first.ensures.shown clean in
+    read_rule (λ row rule says. search rules) _ _ _ _ _ c.in-Some.rule these.1 refl these.2 c.in-Some.is

@@ -1,7 +1,9 @@
+use Rattle.std.proofs.Common.{Ok, refl}
+use Rattle.sql_rows.proofs.Found.{found_then}
 use Rattle.shop_store.proofs.OnCopies.{read_of_film}
 use Rattle.shop_store.proofs.copies.copies_of_film.Goals as goal
 
 pub returns-clause-rows : goal.returns-clause-rows
 returns-clause-rows g c clean =
-    let shown = rw (c.to_sql.ensures, c.get.ensures.value, c.to_sql-2.ensures, c.get-2.ensures.value) at (c.in_ok-rows.ensures.shown clean) in
-    read_of_film _ _ c.args.branch c.args.film _ _ c.read_all.result shown c.as_slice.ensures.value c.read_all.ensures.ok c.read_all.ensures.values
+    let shown = rw (c.to_sql.ensures, c.get.ensures.value, c.to_sql-2.ensures, c.get-2.ensures.value) at (c.query_all.ensures.shown clean) in
+    found_then _ _ c.query_all.result shown (λ x it. read_of_film _ _ c.args.branch c.args.film it.0 it.0 (Ok x) it.1 refl it.2 it.3)

@@ -1,8 +1,9 @@
-use Rattle.std.proofs.Common.{arith}
+use Rattle.std.proofs.Common.{Ok, refl, arith}
+use Rattle.sql_rows.proofs.Found.{found_then}
 use Rattle.shop_store.proofs.FilmRows.{read_row}
 use Rattle.shop_store.proofs.films.film_row.Goals as goal
 
 pub returns-clause-found : goal.returns-clause-found
 returns-clause-found g c clean =
-    let shown = rw (c.to_sql.ensures, c.get.ensures.value) at (c.in_ok-rows.ensures.shown clean) in
-    read_row _ _ c.args.number _ _ c.read_one.result shown (omega arith) c.as_slice.ensures.value c.read_one.ensures.ok
+    let shown = rw (c.to_sql.ensures, c.get.ensures.value) at (c.query_one.ensures.shown clean) in
+    found_then _ _ c.query_one.result shown (λ x it. read_row _ _ c.args.number it.0 it.0 (Ok x) it.1 (omega arith) refl it.2)

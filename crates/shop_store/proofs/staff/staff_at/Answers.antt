@@ -1,8 +1,13 @@
-use Rattle.std.proofs.Common.{rules, arith}
-use Rattle.shop_store.proofs.SharedReads.{read_staff, told_first}
+use Rattle.std.proofs.Common.{◌≤◌, refl, rules, arith}
+use Rattle.shop_schema.proofs.FirstRows.{first_then}
+use Rattle.shop_store.proofs.SharedReads.{read_staff}
 use Rattle.shop_store.proofs.staff.staff_at.Goals as goal
 
 pub returns-clause-found : goal.returns-clause-found
 returns-clause-found g c clean =
-    let read = read_staff _ _ c.args.staff _ _ (rw (c.to_sql.ensures, c.get.ensures.value) at (c.in_ok-rows.ensures.shown clean)) (omega arith) c.as_slice.ensures.value in
-    told_first _ _ c.first_of.result c.first_of.ensures.found read.0 (λ row it some says. read.1 row (it.branch, it.gone) some (search rules))
+    let shown = rw (c.to_sql.ensures, c.get.ensures.value) at (c.query_first.ensures.shown clean) in
+    let low : 1 ≤ c.args.staff = omega arith in
+    first_then _ _ _ _ _ c.query_first.result shown
+    (λ rows these.
+    let read = read_staff _ _ c.args.staff rows rows these low refl in
+    (read.0, λ row it some says. read.1 row (it.branch, it.gone) some (search rules)))

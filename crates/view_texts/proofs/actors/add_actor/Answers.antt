@@ -1,7 +1,7 @@
 use Rattle.std.proofs.Common.{◌++◌, ◌∷◌, [], ◌∙◌, ap, subst}
 use Rattle.sql_rows.proofs.Inside.{on_ok_then}
-use Rattle.reply_bodies.specs.Films.{actor_data}
-use Rattle.reply_bodies.specs.Page.{HasValues}
+use Rattle.shop_views.specs.Films.{actor_data}
+use Rattle.shop_views.specs.Page.{HasValues}
 use Rattle.view_texts.proofs.actors.add_actor.Goals as goal
 
 pub returns : goal.returns

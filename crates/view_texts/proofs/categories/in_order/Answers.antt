@@ -1,6 +1,6 @@
 use Rattle.std.proofs.Common.{◌∙◌, ap, sym, map}
 use Rattle.shop_model.specs.Views.{sells_more, sorted_by}
-use Rattle.reply_bodies.specs.Sales.{seen_category}
+use Rattle.shop_views.specs.Sales.{seen_category}
 use Rattle.view_texts.specs.CategorySums.{seen_sum, sold}
 use Rattle.view_texts.proofs.CategoryOrder.{all_put, all_sorted, popped_put}
 use Rattle.view_texts.proofs.categories.in_order.Goals as goal

@@ -2,8 +2,8 @@ use Rattle.std.proofs.Common.{refl, map, subst}
 use Rattle.std.proofs.lemmas.List.{take_all}
 use Rattle.std.proofs.lemmas.Result.{IfOk-weaker}
 use Rattle.shop_model.specs.Machine.{CategoriesListed}
-use Rattle.reply_bodies.specs.Page.{HasValues}
-use Rattle.reply_bodies.specs.Sales.{seen_category, category_data}
+use Rattle.shop_views.specs.Page.{HasValues}
+use Rattle.shop_views.specs.Sales.{seen_category, category_data}
 use Rattle.view_texts.proofs.categories.list_text.Goals as goal
 
 pub returns : goal.returns

@@ -1,6 +1,6 @@
 use Rattle.std.proofs.Common.{map, take}
-use Rattle.reply_bodies.specs.Page.{HasValues}
-use Rattle.reply_bodies.specs.Sales.{seen_category, category_data}
+use Rattle.shop_views.specs.Page.{HasValues}
+use Rattle.shop_views.specs.Sales.{seen_category, category_data}
 use Rattle.view_texts.proofs.categories.list_text.Given as goal
 
 -- the rows so far are on the page

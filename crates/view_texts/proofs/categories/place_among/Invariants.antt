@@ -1,4 +1,4 @@
-use Rattle.reply_bodies.specs.Sales.{seen_category}
+use Rattle.shop_views.specs.Sales.{seen_category}
 use Rattle.view_texts.proofs.CategoryOrder.{IsLater}
 use Rattle.view_texts.proofs.categories.place_among.Given as goal
 

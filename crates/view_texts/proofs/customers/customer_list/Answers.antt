@@ -4,8 +4,8 @@ use Rattle.shop_model.specs.Rows.{is_of}
 use Rattle.shop_model.specs.Books.{shop_of}
 use Rattle.shop_model.specs.Machine.{CustomersListed}
 use Rattle.shop_model.specs.Views.{customer_list}
-use Rattle.reply_bodies.specs.Page.{HasValues}
-use Rattle.reply_bodies.specs.People.{customer_data}
+use Rattle.shop_views.specs.Page.{HasValues}
+use Rattle.shop_views.specs.People.{customer_data}
 use Rattle.view_texts.specs.Shown.{shown_customer, listed_customer}
 use Rattle.view_texts.proofs.PageLines.{listed_none}
 use Rattle.view_texts.proofs.PeopleQueries.{customers_ask}

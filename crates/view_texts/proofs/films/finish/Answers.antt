@@ -1,7 +1,7 @@
 use Rattle.std.proofs.Common.{refl, map, option_map}
 use Rattle.std.proofs.lemmas.Result.{IfOk-weaker}
 use Rattle.shop_model.specs.Machine.{FilmsListed}
-use Rattle.reply_bodies.specs.Films.{film_data}
+use Rattle.shop_views.specs.Films.{film_data}
 use Rattle.view_texts.specs.Films.{seen_part, closed}
 use Rattle.view_texts.proofs.FilmLines.{last_film, no_last_film}
 use Rattle.view_texts.proofs.films.finish.Goals as goal

@@ -1,5 +1,5 @@
 use Rattle.std.proofs.Common.{◌++◌, ◌∷◌, [], subst}
-use Rattle.reply_bodies.specs.Page.{HasValues}
+use Rattle.shop_views.specs.Page.{HasValues}
 use Rattle.view_texts.proofs.staff.add_staff.Goals as goal
 
 pub returns : goal.returns

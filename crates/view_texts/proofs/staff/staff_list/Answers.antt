@@ -4,8 +4,8 @@ use Rattle.shop_model.specs.Rows.{numbered}
 use Rattle.shop_model.specs.Values.{Staff}
 use Rattle.shop_model.specs.Machine.{StaffListed}
 use Rattle.shop_model.specs.Views.{staff_list}
-use Rattle.reply_bodies.specs.Page.{HasValues}
-use Rattle.reply_bodies.specs.People.{staff_data}
+use Rattle.shop_views.specs.Page.{HasValues}
+use Rattle.shop_views.specs.People.{staff_data}
 use Rattle.view_texts.specs.Shown.{shown_staff, listed_staff}
 use Rattle.view_texts.proofs.PageLines.{listed_none}
 use Rattle.view_texts.proofs.PeopleQueries.{staff_ask}

@@ -1,5 +1,5 @@
 use Rattle.std.proofs.Common.{[]}
-use Rattle.reply_bodies.specs.Page.{HasValues}
+use Rattle.shop_views.specs.Page.{HasValues}
 use Rattle.view_texts.proofs.Unchanged.{Looked}
 use Rattle.view_texts.proofs.SalesLists.{IsListed}
 use Rattle.view_texts.proofs.stores.add_branches.Given as goal

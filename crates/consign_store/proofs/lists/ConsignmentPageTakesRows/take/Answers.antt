@@ -1,5 +1,5 @@
 use Rattle.std.proofs.Common.{◌≡◌, option_map, List, ap, subst}
-use Rattle.reply_bodies.specs.Consignments.{Listed, seen_listed}
+use Rattle.shop_views.specs.Consignments.{Listed, seen_listed}
 use Rattle.consign_store.specs.Listed.{ListLine, shown_line}
 use Rattle.consign_store.specs.declared.lists.ListKind.{ListKind}
 use Rattle.consign_store.proofs.ListLines.{taken, Takes}

@@ -5,8 +5,7 @@ use Rattle.shop_types.specs.Replies.{seen_reply}
 use Rattle.counter_http.specs.Exchanges.{Exchange}
 use Rattle.counter_http.specs.Served.{IsRefused}
 use Rattle.counter_http.proofs.Runs.{run_starts, run_grows}
-use Rattle.counter_http.proofs.Serving.{refused_is, drop_near}
-use Rattle.counter_http.proofs.Turns.{turn_none, turn_answer, turn_refusal}
+use Rattle.counter_http.proofs.Turns.{refused_is, drop_near, turn_none, turn_answer, turn_refusal}
 use Rattle.counter_http.proofs.machine.Connection.answer_next.Goals as goal
 
 pub returns-in-Whole-clause-turn : goal.returns-in-Whole-clause-turn

@@ -1,12 +1,5 @@
-use Rattle.std.proofs.Common.{◌≡◌, ◌∷◌, [], length, refl, sym, ◌∙◌, arith}
-use Rattle.std.specs.Prelude.{IfSome}
-use Rattle.sqlite.specs.Values.{or_null}
-use Rattle.sql_rows.specs.Rows.{number_value}
-use Rattle.shop_model.specs.Calendar.{IsMoment}
-use Rattle.shop_schema.specs.Columns.{moment_value}
-use Rattle.shop_schema.specs.RowValues.{IsNumber}
+use Rattle.std.proofs.Common.{◌≡◌, ◌∷◌, [], length, sym, ◌∙◌, arith}
 use Rattle.sql_rows.proofs.Wholes.{whole}
-use Rattle.shop_store.proofs.Refused.{no_rental}
 use Rattle.shop_store.proofs.rentals.RentalRowStored.read.Goals as goal
 
 pub returns-clause-ok : goal.returns-clause-ok
@@ -28,31 +21,3 @@ returns-clause-value c = (
     staff = c.in_ok-row_number_at-5.ensures.value;
   },
 )
-
-pub returns-in_err-row_number_at-clause-failed : goal.returns-in_err-row_number_at-clause-failed
-returns-in_err-row_number_at-clause-failed c =
-    no_rental 0 number_value IsNumber (λ x. x.branch) (omega arith) (λ x fits. fits.0) (λ x. refl) _ _ c.args.row.now (omega (arith, c.column_count.ensures, c.if-column_count-ne7.false)) c.from_residual.ensures.1 c.in_err-row_number_at.ensures.failed
-
-pub returns-in_err-row_number_at-2-clause-failed : goal.returns-in_err-row_number_at-2-clause-failed
-returns-in_err-row_number_at-2-clause-failed c =
-    no_rental 1 number_value IsNumber (λ x. x.number) (omega arith) (λ x fits. fits.1) (λ x. refl) _ _ c.args.row.now (omega (arith, c.column_count.ensures, c.if-column_count-ne7.false)) c.from_residual-in_err-row_number_at-2.ensures.1 c.in_err-row_number_at-2.ensures.failed
-
-pub returns-in_err-moment_at-clause-failed : goal.returns-in_err-moment_at-clause-failed
-returns-in_err-moment_at-clause-failed c =
-    no_rental 2 moment_value IsMoment (λ x. x.rental.rented) (omega arith) (λ x fits. fits.2.rented) (λ x. refl) _ _ c.args.row.now (omega (arith, c.column_count.ensures, c.if-column_count-ne7.false)) c.from_residual-in_err-moment_at.ensures.1 c.in_err-moment_at.ensures.failed
-
-pub returns-in_err-row_number_at-3-clause-failed : goal.returns-in_err-row_number_at-3-clause-failed
-returns-in_err-row_number_at-3-clause-failed c =
-    no_rental 3 number_value IsNumber (λ x. x.rental.copy) (omega arith) (λ x fits. fits.2.copy) (λ x. refl) _ _ c.args.row.now (omega (arith, c.column_count.ensures, c.if-column_count-ne7.false)) c.from_residual-in_err-row_number_at-3.ensures.1 c.in_err-row_number_at-3.ensures.failed
-
-pub returns-in_err-row_number_at-4-clause-failed : goal.returns-in_err-row_number_at-4-clause-failed
-returns-in_err-row_number_at-4-clause-failed c =
-    no_rental 4 number_value IsNumber (λ x. x.rental.customer) (omega arith) (λ x fits. fits.2.customer) (λ x. refl) _ _ c.args.row.now (omega (arith, c.column_count.ensures, c.if-column_count-ne7.false)) c.from_residual-in_err-row_number_at-4.ensures.1 c.in_err-row_number_at-4.ensures.failed
-
-pub returns-in_err-moment_or_null_at-clause-failed : goal.returns-in_err-moment_or_null_at-clause-failed
-returns-in_err-moment_or_null_at-clause-failed c =
-    no_rental 5 (or_null moment_value) (λ o. IfSome o IsMoment) (λ x. x.rental.returned) (omega arith) (λ x fits. fits.2.returned) (λ x. refl) _ _ c.args.row.now (omega (arith, c.column_count.ensures, c.if-column_count-ne7.false)) c.from_residual-in_err-moment_or_null_at.ensures.1 c.in_err-moment_or_null_at.ensures.failed
-
-pub returns-in_err-row_number_at-5-clause-failed : goal.returns-in_err-row_number_at-5-clause-failed
-returns-in_err-row_number_at-5-clause-failed c =
-    no_rental 6 number_value IsNumber (λ x. x.rental.staff) (omega arith) (λ x fits. fits.2.staff) (λ x. refl) _ _ c.args.row.now (omega (arith, c.column_count.ensures, c.if-column_count-ne7.false)) c.from_residual-in_err-row_number_at-5.ensures.1 c.in_err-row_number_at-5.ensures.failed

@@ -1,6 +1,6 @@
 use Rattle.std.proofs.Common.{ap, ◌∙◌}
 use Rattle.sql_rows.proofs.Inside.{on_ok_then}
-use Rattle.reply_bodies.specs.People.{seen_staff, staff_data}
+use Rattle.shop_views.specs.People.{seen_staff, staff_data}
 use Rattle.view_texts.specs.Shown.{shown_staff, listed_staff}
 use Rattle.view_texts.proofs.PageLines.{listed_more}
 use Rattle.view_texts.proofs.staff.StaffPageTakesRows.take.Goals as goal

@@ -1,7 +1,0 @@
-use Rattle.std.proofs.Common.{refl}
-use Rattle.books_audit.proofs.Told.{told_if}
-use Rattle.books_audit.proofs.SelectTexts.{payment_text, payment_means, payment_shows}
-use Rattle.books_audit.proofs.selects.payment_rows.Goals as goal
-
-pub returns-clause-rows : goal.returns-clause-rows
-returns-clause-rows g c clean has = told_if 30 7 payment_text payment_means payment_shows (λ db. refl) (λ rows. rows.items) c.query.result _ _ (c.query.ensures.shown clean) has

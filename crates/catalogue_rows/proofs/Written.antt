@@ -1,0 +1,96 @@
+-- What the rows of head office's commands make of the books, and that a new branch has no last moment.
+use Rattle.std.proofs.Common.{◌≡◌, ◌+◌, IfOk, Result, ℕ, List, [], ◌∷◌, ◌++◌, map, length, sym, ap, subst, ◌∙◌, arith}
+use Rattle.std.specs.Prelude.{⊤, IsOk}
+use Rattle.std.specs.Borrow.{MutBor}
+use Rattle.sqlite_trees.specs.declared.store.Store.{Ghosts}
+use Rattle.sqlite.specs.Held.{Held, state}
+use Rattle.sqlite.specs.State.{State, HasCleanDisk}
+use Rattle.sql_rows.specs.Calls.{StaysInside}
+use Rattle.sql_rows.proofs.Stays.{clean_before}
+use Rattle.shop_model.specs.Calendar.{Moment}
+use Rattle.shop_model.specs.Rows.{Owned, owned_by}
+use Rattle.shop_model.specs.Values.{Text, Branch, OfficeAct, OfficeCommand}
+use Rattle.shop_model.specs.Shop.{Catalogue}
+use Rattle.shop_model.specs.Machine.{office_acted, office_told, office_text, office_done}
+use Rattle.shop_model.specs.Books.{Books}
+use Rattle.shop_schema.specs.Counts.{Counts, counts_of, with_branch}
+use Rattle.shop_schema.specs.Calls.{Finds, Stores}
+use Rattle.shop_schema.specs.Held.{IsHeld}
+use Rattle.shop_schema.specs.Shop.{HoldsWith}
+use Rattle.shop_ledger.proofs.CountsOf.{beside}
+use Rattle.shop_ledger.proofs.OfficeCounts.{lacks_next, kept_stays, none_of}
+use Rattle.shop_views.specs.Bodies.{office_members}
+use Rattle.catalogue_rows.specs.Added.{with_act, with_counts, with_kept, IsActed, IsNumbered}
+use Rattle.catalogue_rows.proofs.Numbers.{was_ok, numbered_as, IsNext}
+
+-- ---- a branch that isn't there has no last moment
+
+pub no_last : (books : Books) → IsHeld books → owned_by (length books.catalogue.branches + 1) books.lasts ≡ []
+no_last books held =
+    let branches = books.catalogue.branches in
+    let b = length branches + 1 in
+    ap (map (λ (row : Owned Moment). row.it)) (none_of (λ (row : Owned Moment). row.owner) branches b (lacks_next b branches (omega arith)) books.lasts held.owners.lasts)
+
+-- ---- rows
+
+-- a new branch with its counts
+pub branch_added : (s : State) (books : Books) (n : ℕ) (row branch : Branch) → n ≡ length books.catalogue.branches + 1 → row ≡ branch
+    → HoldsWith (with_branch n (counts_of books)) s (record books { catalogue = record books.catalogue { branches = books.catalogue.branches ++ row ∷ [] } })
+    → HoldsWith (with_branch (length books.catalogue.branches + 1) (counts_of books)) s (record books { catalogue = record books.catalogue { branches = books.catalogue.branches ++ branch ∷ [] } })
+branch_added s books n row branch is same holds =
+    subst (λ (it : Branch). HoldsWith (with_branch (length books.catalogue.branches + 1) (counts_of books)) s (record books { catalogue = record books.catalogue { branches = books.catalogue.branches ++ it ∷ [] } })) same
+    (subst (λ (m : ℕ). HoldsWith (with_branch m (counts_of books)) s (record books { catalogue = record books.catalogue { branches = books.catalogue.branches ++ row ∷ [] } })) is holds)
+
+-- an act makes these books, beside counts that stay, and its reply is that of the number
+abbrev pub Makes : OfficeAct → ℕ → Books → Books → Type 0
+Makes act number books made =
+    ◌≡◌ {A = Counts × Books × List (Text × Text)} (counts_of books, made, office_members act number) (with_counts act books, with_act act books, office_told act books.catalogue)
+
+made_so : (act : OfficeAct) (number : ℕ) (books made : Books) {s : State} → Makes act number books made → HoldsWith (counts_of books) s made
+    → IsActed act s books × (office_members act number ≡ office_told act books.catalogue)
+made_so act number books made {s = s} makes holds = (subst (λ (it : Counts × Books × List (Text × Text)). HoldsWith it.0 s it.1) makes holds, ap (λ (it : Counts × Books × List (Text × Text)). it.2) makes)
+
+-- the books with these rows in the place of a list of the catalogue
+abbrev pub with_rows : {W : Type 0} → (Catalogue → List W → Catalogue) → List W → Books → Books
+with_rows set rows books = record books { catalogue = set books.catalogue rows }
+
+-- the number of an act, as that of the act by another name
+pub of_act : {F : Type 0} {was act : OfficeAct} (a b : State) (r : Result ℕ F) → was ≡ act → (HasCleanDisk b → IfOk r (λ n. IsNumbered act n a b))
+    → HasCleanDisk b → IfOk r (λ n. IsNumbered was n a b)
+of_act a b r is numbered clean = subst (λ (it : OfficeAct). IfOk r (λ n. IsNumbered it n a b)) (sym is) (numbered clean)
+
+module _ {S X E F : Type 0} {g : Ghosts S} {b c : MutBor (Held S)} {put : Result X E} {was act : OfficeAct} where
+  -- a row is put after the last of its list, whose number was told before
+  pub row_added : {W : Type 0} {last : Result ℕ E} {number n : ℕ} {row new : W} (get : Catalogue → List W) (set : Catalogue → List W → Catalogue) (a : State) (r : Result ℕ F)
+      → was ≡ act → ((books : Books) → Makes act (length (get books.catalogue) + 1) books (with_rows set (get books.catalogue ++ new ∷ []) books))
+      → row ≡ new → n ≡ number → IsNext last number → IfOk r (λ it. (it ≡ number) × IsOk put) → StaysInside g b c put
+      → Finds a (state g b.now) last (λ last books. last ≡ length (get books.catalogue))
+      → Stores (state g b.now) (state g c.now) put (λ books. n ≡ length (get books.catalogue) + 1) (λ books. with_rows set (get books.catalogue ++ row ∷ []) books)
+      → HasCleanDisk (state g c.now) → IfOk r (λ it. IsNumbered was it a (state g c.now))
+  row_added {W} {last = last} {number = number} get set a r is_act makes same own next is inside found stored =
+      let to = state g c.now in
+      of_act a to r is_act (λ clean. numbered_as put r number _ (λ it. IsNumbered act it a to) is (stored clean) (λ written. λ books holds held.
+      let told = was_ok last next.0 _ next.1 (found (clean_before inside clean)) books holds held in
+      let comes : number ≡ length (get books.catalogue) + 1 = next.2 ∙ ap (λ (it : ℕ). it + 1) told.1 in
+      let holds_new = written (counts_of books) books (beside (state g b.now) books told.0) (own ∙ comes) in
+      let its = made_so act _ books _ (makes books) (subst (λ (it : W). HoldsWith (counts_of books) to (with_rows set (get books.catalogue ++ it ∷ []) books)) same holds_new) in
+      (its.0, ap (office_members act) comes ∙ its.1)))
+
+  -- a row is put that has no number, or changed
+  pub row_changed : {change : Books → Books} (r : Result ℕ F) → was ≡ act → ((books : Books) → Makes act 0 books (change books)) → IfOk r (λ it. (it ≡ 0) × IsOk put)
+      → StaysInside g b c put → Stores (state g b.now) (state g c.now) put (λ _. ⊤) change → HasCleanDisk (state g c.now) → IfOk r (λ it. IsNumbered was it (state g b.now) (state g c.now))
+  row_changed {change = change} r is_act makes is inside stored =
+      let from = state g b.now in
+      let to = state g c.now in
+      of_act from to r is_act (λ clean. numbered_as put r 0 _ (λ it. IsNumbered act it from to) is (stored clean)
+      (λ written. λ books holds held. made_so act 0 books (change books) (makes books) (written (counts_of books) books (beside from books holds) tt)))
+
+-- ---- the command itself
+
+-- with its rows and itself kept, a command's books are those after it
+pub act_kept : (command : OfficeCommand) (reply : Text) (books : Books) → reply ≡ office_text command books.catalogue
+    → with_kept command reply (with_act command.act books) ≡ record books { catalogue = office_done command books.catalogue }
+act_kept command reply books is =
+    let it = office_acted command.act books.catalogue in
+    let stays : it.kept ≡ books.catalogue.kept = kept_stays command.act books.catalogue in
+    λ i. record books { catalogue = record it { kept = stays i ++ record { command = command; reply = is i } ∷ [] } }

@@ -1,0 +1,32 @@
+use Rattle.std.proofs.Common.{◌≡◌, ◌+◌, ◌∙◌, ap, refl, subst, arith, length}
+use Rattle.std.specs.Prelude.{string_bytes}
+use Rattle.sqlite.specs.Held.{state}
+use Rattle.sqlite.specs.State.{HasCleanDisk}
+use Rattle.shop_model.specs.Json.{object}
+use Rattle.shop_model.specs.Machine.{office_told}
+use Rattle.shop_model.specs.Answers.{accepted_answer}
+use Rattle.shop_model.specs.Books.{Books}
+use Rattle.shop_types.specs.Seen.{seen_office}
+use Rattle.shop_schema.specs.Counts.{counts_of}
+use Rattle.shop_schema.specs.Shop.{HoldsWith}
+use Rattle.shop_ledger.specs.Counted.{office_counted}
+use Rattle.shop_ledger.proofs.OfficeCounts.{office_counts_agreed, office_grown_once}
+use Rattle.catalogue_rows.proofs.Written.{act_kept}
+use Rattle.catalogue_rows.proofs.adding.add.Goals as goal
+
+pub returns-clause-added : goal.returns-clause-added
+returns-clause-added g c = λ clean. (
+  refl,
+  λ books holds held.
+      let command = seen_office c.args.command.now in
+      let b = length books.catalogue.branches + 1 in
+      let s1 = state g.S.Store c.write.new.tx.conn.now in
+      let s2 = state g.S.Store c.keep.new.tx.conn.now in
+      let clean1 : HasCleanDisk s1 = omega (arith, clean, c.keep.ensures.inside.survives.clean) in
+      let written = c.in_ok-number.ensures.numbered clean1 books holds held in
+      let told : string_bytes c.in_ok-text.text ≡ object (office_told command.act books.catalogue) = c.in_ok-text.ensures ∙ ap object written.1 in
+      let kept = c.in_ok-keep.ensures.kept clean _ _ written.0 (office_grown_once command.act b books (omega arith) held) in
+      let reply : c.as_str.result.now ≡ string_bytes c.in_ok-text.text = c.as_str.ensures.value in
+      let done = subst (λ (it : Books). HoldsWith (office_counted command.act b (counts_of books)) s2 it) (act_kept command c.as_str.result.now books (reply ∙ told)) kept in
+      (office_counts_agreed s2 command books held.owners done, c.accepted.ensures ∙ ap accepted_answer told),
+)

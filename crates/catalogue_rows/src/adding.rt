@@ -1,0 +1,156 @@
+//! How the rows of an accepted command of head office are written and counted, how it is kept, and what is replied of it.
+
+ghost use Rattle.std.specs.Prelude.{◌≡◌, ℕ, ◌+◌, true, string_bytes, Ok, IsOk, IfOk, OnOk};
+ghost use Rattle.sqlite.specs.Held.{state};
+ghost use Rattle.sqlite.specs.State.{HasCleanDisk};
+ghost use Rattle.sql_rows.specs.Calls.{StaysInside};
+ghost use Rattle.shop_model.specs.Json.{object};
+ghost use Rattle.shop_model.specs.Values as model;
+ghost use Rattle.shop_types.specs.Seen.{seen_branch, seen_office_act, seen_office};
+ghost use Rattle.shop_types.specs.Replies.{seen_reply};
+ghost use Rattle.shop_schema.specs.Forms.{office_command_form};
+ghost use Rattle.shop_views.specs.Bodies.{office_members};
+ghost use Rattle.catalogue_rows.specs.Added.{IsNumbered, IsKept, IsAdded};
+
+use crate::rows::{new_actor, new_branch, new_city, new_film, new_staff};
+use shop_ledger::{Count, Owner, put_kept, take_numbers};
+use shop_store::{
+    last_actor, last_branch, last_category, last_city, last_country, last_film, last_language,
+    last_staff, put_actor, put_branch, put_cast, put_category, put_city, put_country, put_counts,
+    put_film, put_language, put_staff, set_gone, set_manager, set_rate, set_rule, set_withdrawn,
+};
+use shop_types::{Branch, OfficeAct, OfficeCommand, Reply, RowNumber};
+use shop_views::office_text;
+use sql_rows::{Bytes, StoreFault};
+use sqlite::{Alter, Transaction};
+use std::alloc::Global;
+
+/// Writes the rows of an accepted command, keeps it, and gives its reply, with `true`, since there is something to commit. The form is the command's stored
+/// form.
+pub fn add<S: Alter>(
+    alloc: Global,
+    tx: &mut Transaction<'_, S>,
+    command: &OfficeCommand,
+    form: &Bytes,
+) -> Result<(Reply, bool), StoreFault>
+    requires { form.now ≡ office_command_form (seen_office command.now) }
+    ensures inside { StaysInside S.Store tx.old.conn tx.new.conn result }
+    ensures added { HasCleanDisk (state S.Store tx.new.conn.now)
+        → IfOk result (λ done. (done.1 ≡ true) × IsAdded (seen_office command.now) (seen_reply done.0) (state S.Store tx.old.conn.now) (state S.Store tx.new.conn.now)) }
+{
+    let number = write(tx, &command.act)?;
+    let text = office_text(alloc, &command.act, number)?;
+    keep(tx, command, form, text.as_str())?;
+    Ok((Reply::accepted(text), true))
+}
+
+/// Keeps an accepted command with its reply, and counts it.
+fn keep<S: Alter>(
+    tx: &mut Transaction<'_, S>,
+    command: &OfficeCommand,
+    form: &Bytes,
+    reply: &str,
+) -> Result<(), StoreFault>
+    requires { form.now ≡ office_command_form (seen_office command.now) }
+    ensures inside { StaysInside S.Store tx.old.conn tx.new.conn result }
+    ensures kept { HasCleanDisk (state S.Store tx.new.conn.now)
+        → OnOk result (IsKept (seen_office command.now) reply.now (state S.Store tx.old.conn.now) (state S.Store tx.new.conn.now)) }
+{
+    put_kept(tx, Owner::Office, &command.key, form, reply)?;
+    take_numbers(tx, Count::OfficeKeys, 1)?;
+    Ok(())
+}
+
+/// Writes the rows of an act, and gives the number of its new row, or 0 where it has none.
+fn write<S: Alter>(tx: &mut Transaction<'_, S>, act: &OfficeAct) -> Result<u32, StoreFault>
+    ensures inside { StaysInside S.Store tx.old.conn tx.new.conn result }
+    ensures numbered { HasCleanDisk (state S.Store tx.new.conn.now)
+        → IfOk result (λ number. IsNumbered (seen_office_act act.now) number (state S.Store tx.old.conn.now) (state S.Store tx.new.conn.now)) }
+{
+    match act {
+        OfficeAct::Country(name) => {
+            let number = next(last_country(tx))?;
+            numbered(number, put_country(tx, number, name.as_str()))
+        }
+        OfficeAct::City(city) => {
+            let number = next(last_city(tx))?;
+            numbered(number, put_city(tx, &new_city(number, city)))
+        }
+        OfficeAct::Language(name) => {
+            let number = next(last_language(tx))?;
+            numbered(number, put_language(tx, number, name.as_str()))
+        }
+        OfficeAct::Category(name) => {
+            let number = next(last_category(tx))?;
+            numbered(number, put_category(tx, number, name.as_str()))
+        }
+        OfficeAct::Actor(actor) => {
+            let number = next(last_actor(tx))?;
+            numbered(number, put_actor(tx, &new_actor(number, actor)))
+        }
+        OfficeAct::Film(film) => {
+            let number = next(last_film(tx))?;
+            numbered(number, put_film(tx, &new_film(number, film)))
+        }
+        OfficeAct::Price { film, rate } => without_number(set_rate(tx, *film, *rate)),
+        OfficeAct::Withdraw(film) => without_number(set_withdrawn(tx, *film)),
+        OfficeAct::Cast { film, actor } => without_number(put_cast(tx, *film, *actor)),
+        OfficeAct::Branch(branch) => add_branch(tx, branch),
+        OfficeAct::Staff(staff) => {
+            let number = next(last_staff(tx))?;
+            numbered(number, put_staff(tx, &new_staff(number, staff)))
+        }
+        OfficeAct::Leave(staff) => without_number(set_gone(tx, *staff)),
+        OfficeAct::Manager { branch, staff } => without_number(set_manager(tx, *branch, *staff)),
+        OfficeAct::Rule(rule) => without_number(set_rule(tx, *rule)),
+    }
+}
+
+/// The number that comes after the last one.
+fn next<const KIND: u8>(last: Result<u32, StoreFault>) -> Result<RowNumber<KIND>, StoreFault>
+    ensures { IfOk result (λ number. (n : ℕ) × (last ≡ Ok n) × (number ≡ n + 1)) }
+{
+    after(last?)
+}
+
+fn after<const KIND: u8>(last: u32) -> Result<RowNumber<KIND>, StoreFault>
+    ensures { IfOk result (λ number. number ≡ last + 1) }
+{
+    let Some(next) = last.checked_add(1) else {
+        return Err(StoreFault::Size);
+    };
+    match RowNumber::new(next) {
+        Some(number) => Ok(number),
+        None => Err(StoreFault::Size),
+    }
+}
+
+/// The number of a new row that was put.
+fn numbered<const KIND: u8>(
+    number: RowNumber<KIND>,
+    put: Result<(), StoreFault>,
+) -> Result<u32, StoreFault>
+    ensures { IfOk result (λ n. (n ≡ number.entry) × IsOk put) }
+{
+    put?;
+    Ok(number.get())
+}
+
+/// 0, where a row was set that has its number already.
+fn without_number(set: Result<(), StoreFault>) -> Result<u32, StoreFault>
+    ensures { IfOk result (λ n. (n ≡ 0) × IsOk set) }
+{
+    set?;
+    Ok(0)
+}
+
+/// Adds a branch, and begins its counts.
+fn add_branch<S: Alter>(tx: &mut Transaction<'_, S>, branch: &Branch) -> Result<u32, StoreFault>
+    ensures inside { StaysInside S.Store tx.old.conn tx.new.conn result }
+    ensures numbered { HasCleanDisk (state S.Store tx.new.conn.now)
+        → IfOk result (λ number. IsNumbered (model.AddBranch (seen_branch branch.now)) number (state S.Store tx.old.conn.now) (state S.Store tx.new.conn.now)) }
+{
+    let number = next(last_branch(tx))?;
+    put_branch(tx, &new_branch(number, branch))?;
+    numbered(number, put_counts(tx, number.get()))
+}

@@ -1,0 +1,72 @@
+-- KnownFilms that are their films' rows are so after a request.
+use Rattle.std.proofs.Common.{◌≡◌, ℕ, ◌-◌, true, false, List, [], ◌∷◌, ◌++◌, map, Some, None, inl, inr, sym, subst, refl}
+use Rattle.std.specs.Prelude.{◌==◌}
+use Rattle.std.proofs.lemmas.Bool.{cases_Bool}
+use Rattle.shop_model.specs.Rows.{at, set_at, lacks}
+use Rattle.shop_model.specs.Values.{Film, OfficeAct, AddFilm, PriceFilm, WithdrawFilm, OfficeCommand, Rules}
+use Rattle.shop_model.specs.Shop.{Catalogue}
+use Rattle.shop_model.specs.Verdict.{Verdict, Again, Refused, Accepted, verdict, office_verdict}
+use Rattle.shop_model.specs.Machine.{Request, Unread, Do, Look, Office, OfficeLook, office_acted, office_done, if_accepted}
+use Rattle.shop_model.specs.Books.{Books, Counter, HeadOffice, head, shop_of, book_done, branch_after, known_caller, after_for}
+use Rattle.shop_model.proofs.Isolation.{catalogue_stays}
+use Rattle.chain_caches.specs.Films.{AreRows, KnownFilms, film_changed, known_of, seen_known}
+
+-- a row that is there stays where another goes last
+at_longer : {A B : Type 0} (g : A → B) (x : B) (n : ℕ) (xs ys : List A) → Some x ≡ head (map g (at n xs)) → Some x ≡ head (map g (at n (xs ++ ys)))
+at_longer g x n [] ys is = cc
+at_longer g x n (y ∷ xs) ys is = elim (cases_Bool (n == 1)) [
+  | inl one ↦ rw one (rw one at is)
+  | inr other ↦ rw other (at_longer g x (n - 1) xs ys (rw other at is))
+]
+
+longer_rows : (entries : KnownFilms) (films more : List Film) → AreRows entries films → AreRows entries (films ++ more)
+longer_rows entries films more rows = record { row = λ number film there. at_longer known_of (seen_known film) number films more (rows.row number film there) }
+
+module _ (entries : KnownFilms) (catalogue : Catalogue) where
+  -- an act that changes no film's row
+  pub no_film_changed : (act : OfficeAct) → None ≡ film_changed act → AreRows entries catalogue.films → AreRows entries (office_acted act catalogue).films
+  no_film_changed (AddFilm film) is rows = longer_rows entries catalogue.films (record film { withdrawn = false } ∷ []) rows
+  no_film_changed (PriceFilm film rate) is rows = cc
+  no_film_changed (WithdrawFilm film) is rows = cc
+  no_film_changed act is rows = rows
+
+  -- one that does, once nothing is known of that film
+  pub one_film_changed : (act : OfficeAct) (number : ℕ) → Some number ≡ film_changed act → ((change : Film → Film) → AreRows entries (set_at number change catalogue.films))
+      → AreRows entries (office_acted act catalogue).films
+  one_film_changed (PriceFilm film rate) number is free =
+      let same : number ≡ film = cc in
+      subst (λ (n : ℕ). AreRows entries (set_at n (λ f. record f { rate = rate }) catalogue.films)) same (free (λ f. record f { rate = rate }))
+  one_film_changed (WithdrawFilm film) number is free =
+      let same : number ≡ film = cc in
+      subst (λ (n : ℕ). AreRows entries (set_at n (λ f. record f { withdrawn = true }) catalogue.films)) same (free (λ f. record f { withdrawn = true }))
+  one_film_changed act number is free = cc
+
+-- a branch's request leaves the catalogue
+branch_catalogue : (rules : Rules) (b : ℕ) (request : Request) (books : Books) → (branch_after rules b request books).catalogue ≡ books.catalogue
+branch_catalogue rules b (Unread refusal) books = refl
+branch_catalogue rules b (Look ask) books = refl
+branch_catalogue rules b (Office command) books = refl
+branch_catalogue rules b (OfficeLook ask) books = refl
+branch_catalogue rules b (Do command) books = by (verdict rules b books.catalogue (shop_of b books) command)
+  where
+    by : (v : Verdict) → (if_accepted v (book_done rules b command books) books).catalogue ≡ books.catalogue
+    by (Again text) = refl
+    by (Refused refusal) = refl
+    by Accepted = catalogue_stays rules b command command.act books
+
+pub rows_by_branch : (entries : KnownFilms) (rules : Rules) (b : ℕ) (request : Request) (books : Books) → AreRows entries books.catalogue.films
+    → AreRows entries (after_for rules (known_caller books.catalogue (Counter b)) request books).catalogue.films
+rows_by_branch entries rules b request books rows = elim (cases_Bool (lacks books.catalogue.branches b)) [
+  | inl none ↦ rw none rows
+  | inr there ↦ rw there (subst (λ (c : Catalogue). AreRows entries c.films) (sym (branch_catalogue rules b request books)) rows)
+]
+
+-- a command of head office, whether or not it is accepted
+pub rows_by_office : (entries : KnownFilms) (rules : Rules) (command : OfficeCommand) (books : Books) → AreRows entries books.catalogue.films
+    → AreRows entries (office_acted command.act books.catalogue).films → AreRows entries (after_for rules HeadOffice (Office command) books).catalogue.films
+rows_by_office entries rules command books before after = by (office_verdict rules books.catalogue command)
+  where
+    by : (v : Verdict) → AreRows entries (if_accepted v (office_done command books.catalogue) books.catalogue).films
+    by (Again text) = before
+    by (Refused refusal) = before
+    by Accepted = after

@@ -1,0 +1,3 @@
+pub mod CallerSteps
+pub mod FilmRows
+pub mod FilmSteps

@@ -1,0 +1,2 @@
+pub mod Films
+pub mod Callers

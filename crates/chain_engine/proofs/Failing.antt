@@ -1,0 +1,76 @@
+-- A chain that has failed stays as it is, and a look at one that hasn't may be refused by the store.
+use Rattle.std.proofs.Common.{◌≡◌, ◌∙◌, Bool, true, false, inl, inr, refl, sym, ap, subst, Result, Ok, Err}
+use Rattle.std.specs.Prelude.{◌||◌}
+use Rattle.std.proofs.lemmas.Bool.{cases_Bool}
+use Rattle.sqlite_trees.specs.declared.store.Store.{Ghosts}
+use Rattle.sqlite.specs.Held.{Held, state}
+use Rattle.sqlite.specs.State.{HasCleanDisk, Survives}
+use Rattle.sql_rows.specs.declared.fault.StoreFault.{StoreFault}
+use Rattle.sql_rows.specs.declared.fault.StoreFault.TheVariants.{Failed}
+use Rattle.shop_types.specs.declared.refusal.Refusal.TheVariants.{StoreFailed}
+use Rattle.chain_calls.specs.Holding.{Chained, holding}
+use Rattle.chain_calls.specs.Chains.{Takes}
+use Rattle.chain_calls.specs.Steps.{IsUndone}
+use Rattle.chain_calls.specs.Decisions.{IsStoreRefusal, refusal_for, is_final}
+use Rattle.chain_calls.proofs.Requests.{kept}
+use Rattle.chain_calls.proofs.Taking.{takes_still}
+use Rattle.chain_engine.specs.Leaving.{LeavesNoMore}
+
+-- what a look answers is of a chain that hasn't failed
+pub is_live : {P : Type 0} {A E : Type 0} (was : Bool) (told : A) (fault : E) → (was ≡ true → P × (Ok told ≡ Err fault)) → was ≡ false
+is_live was told fault failed = elim (cases_Bool was) [
+  | inl is ↦ let no : Ok told ≡ Err fault = (failed is).1 in cc
+  | inr live ↦ live
+]
+
+-- with the connection as it was, whatever the fault is
+pub stays_failed : {S : Type 0} (old : Chained S) (conn : Held S) (fault : StoreFault) → old.is_failed ≡ true → conn ≡ old.conn
+    → record { limits = old.limits; is_failed = old.is_failed || is_final fault; films = old.films; callers = old.callers; conn = conn } ≡ old
+stays_failed {S} old conn fault was same =
+    let still : old.is_failed ≡ (old.is_failed || is_final fault) = was ∙ sym (rw was refl) in
+    let first : old ≡ record { limits = old.limits; is_failed = old.is_failed || is_final fault; films = old.films; callers = old.callers; conn = old.conn } = subst (λ (b : Bool). old ≡ record { limits = old.limits; is_failed = b; films = old.films; callers = old.callers; conn = old.conn }) still refl in
+    subst (λ (h : Held S). record { limits = old.limits; is_failed = old.is_failed || is_final fault; films = old.films; callers = old.callers; conn = h } ≡ old) (sym same) (sym first)
+
+-- and it goes on to answer that it has failed
+refuses_failed : {S : Type 0} (g : Ghosts S) (chain : Chained S) → chain.is_failed ≡ true → Takes g chain chain (IsStoreRefusal StoreFailed)
+refuses_failed g chain was = takes_still (λ books besides. inr (refl, subst (λ (b : Bool). holding chain books besides ≡ record (holding chain books besides) { is_failed = b }) was refl))
+
+-- a call that commits nothing leaves a crash no more
+pub leaves_no_more : {S : Type 0} (g : Ghosts S) (old self : Chained S) (conn new : Held S) → old ≡ self → Survives (state g old.conn) (state g conn) (λ _. ⊥) → new ≡ conn
+    → LeavesNoMore (state g self.conn) (state g new)
+leaves_no_more {S} g old self conn new is survives same = subst (λ (x : Chained S). LeavesNoMore (state g x.conn) (state g new)) is (λ clean db may.
+    let moved : Survives (state g old.conn) (state g new) (λ _. ⊥) = subst (λ (h : Held S). Survives (state g old.conn) (state g h) (λ _. ⊥)) (sym same) survives in
+    elim (moved.crash clean db may) [ inl before ↦ before | inr none ↦ absurd none ])
+
+abbrev refusing : (A : Type 0) → StoreFault → Result A StoreFault
+refusing A fault = Err fault
+
+-- a look that the store refuses, of a chain that had failed or of one that hadn't: what it is made of, and what it is
+module _ {S A : Type 0} (g : Ghosts S) (old self new : Chained S) (conn : Held S) (fault : StoreFault) (is : old ≡ self)
+    (told : new ≡ record { limits = old.limits; is_failed = old.is_failed || is_final fault; films = old.films; callers = old.callers; conn = conn })
+    (refused : old.is_failed ≡ true → (conn ≡ old.conn) × (refusing A fault ≡ refusing A Failed)) where
+  failed : old.is_failed ≡ true → (conn ≡ old.conn) × (fault ≡ Failed)
+  failed was = let it = refused was in let final : fault ≡ Failed = cc in (it.0, final)
+
+  old_refused : old.is_failed ≡ true → (new ≡ old) × (refusal_for fault ≡ StoreFailed)
+  old_refused was = let it = failed was in (told ∙ stays_failed old conn fault was it.0, ap refusal_for it.1)
+
+  pub stays_refused : self.is_failed ≡ true → (new ≡ self) × (refusal_for fault ≡ StoreFailed)
+  stays_refused was = let it = old_refused (ap (λ (x : Chained S). x.is_failed) is ∙ was) in (it.0 ∙ is, it.1)
+
+  pub look_refused : (HasCleanDisk (state g conn) → HasCleanDisk (state g old.conn)) → (HasCleanDisk (state g conn) → IsUndone (state g old.conn) (state g conn))
+      → Takes g self new (IsStoreRefusal (refusal_for fault))
+  look_refused clean same = subst (λ (x : Chained S). Takes g x new (IsStoreRefusal (refusal_for fault))) is (elim (cases_Bool old.is_failed) [
+    | inl was ↦
+        let it = old_refused was in
+        let first : Takes g old old (IsStoreRefusal (refusal_for fault)) = rw it.1 (refuses_failed g old was) in
+        subst (λ (x : Chained S). Takes g old x (IsStoreRefusal (refusal_for fault))) (sym it.0) first
+    | inr live ↦
+        let next : Chained S = record { limits = old.limits; is_failed = is_final fault; films = old.films; callers = old.callers; conn = conn } in
+        let so : next ≡ new = sym (rw live at told) in
+        subst (λ (x : Chained S). Takes g old x (IsStoreRefusal (refusal_for fault))) so
+        (kept g old next refl refl live fault (IsStoreRefusal (refusal_for fault)) (λ films are. are) refl clean same (λ before after refused. refused))
+  ])
+
+  pub refused_leaves : Survives (state g old.conn) (state g conn) (λ _. ⊥) → LeavesNoMore (state g self.conn) (state g new.conn)
+  refused_leaves survives = leaves_no_more g old self conn new.conn is survives (ap (λ (x : Chained S). x.conn) told)

@@ -1,0 +1,48 @@
+use Rattle.std.proofs.Common.{◌≡◌, ◌∙◌, refl, sym, ap, subst, arith, false}
+use Rattle.chain_caches.specs.Callers.{AreCallers}
+use Rattle.shop_model.specs.Shop.{Catalogue}
+use Rattle.shop_model.specs.Answers.{problem_answer}
+use Rattle.shop_model.specs.Books.{Caller}
+use Rattle.shop_model.specs.Machine.{Request}
+use Rattle.shop_types.specs.Seen.{seen_refusal}
+use Rattle.shop_types.specs.Replies.{seen_reply}
+use Rattle.chain_caches.proofs.FilmRows.{no_rows}
+use Rattle.chain_calls.specs.Holding.{Chained}
+use Rattle.chain_calls.specs.Chains.{Takes, Answers}
+use Rattle.chain_calls.specs.Steps.{IsHeldBy, IsKnownFor, asker, asked_of}
+use Rattle.chain_calls.specs.Decisions.{refusal_for, is_final}
+use Rattle.chain_calls.proofs.Requests.{made, unmade}
+use Rattle.chain_engine.proofs.chain.Chain.answer_asked.Goals as goal
+
+pub returns-in-Ok : goal.returns-in-Ok
+returns-in-Ok g c =
+    let inside = c.self.inside in
+    let old : Chained _ = record { limits = inside.limits; is_failed = inside.is_failed; films = inside.films; callers = inside.callers; conn = inside.conn } in
+    let new : Chained _ = record { limits = inside.limits; is_failed = inside.is_failed; films = c.step.new.films; callers = inside.callers; conn = c.step.new.conn } in
+    let is : old ≡ c.args.self.now = c.self.view_is in
+    let fine : inside.is_failed ≡ false = ap (λ (x : Chained _). x.is_failed) is ∙ c.requires.fine in
+    let known : (catalogue : Catalogue) → AreCallers inside.callers catalogue → IsKnownFor c.args.asked.now catalogue =
+    λ catalogue callers. c.requires.known catalogue (subst (λ (x : Chained _). AreCallers x.callers catalogue) is callers) in
+    let caller : Caller = asker c.args.asked.now in
+    let request : Request = asked_of c.args.asked.now in
+    subst (λ x. Takes g.S.Store x new (Answers caller request (seen_reply c.in-Ok.reply))) is
+    (made g.S.Store old new refl refl fine caller request (IsHeldBy (IsKnownFor c.args.asked.now) inside.films) (λ books held films callers. (held, films, known books.catalogue callers)) c.asked_values.ensures.caller c.asked_values.ensures.request c.limits_fit.ensures.commands c.limits_fit.ensures.copies (seen_reply c.in-Ok.reply) fine
+    (λ now. omega (arith, now, c.in-Ok.ensures.crash.clean)) c.in-Ok.ensures.made)
+
+pub returns-in-Err : goal.returns-in-Err
+returns-in-Err g c =
+    let inside = c.self.inside in
+    let old : Chained _ = record { limits = inside.limits; is_failed = inside.is_failed; films = inside.films; callers = inside.callers; conn = inside.conn } in
+    let is : old ≡ c.args.self.now = c.self.view_is in
+    let fine : inside.is_failed ≡ false = ap (λ (x : Chained _). x.is_failed) is ∙ c.requires.fine in
+    let known : (catalogue : Catalogue) → AreCallers inside.callers catalogue → IsKnownFor c.args.asked.now catalogue =
+    λ catalogue callers. c.requires.known catalogue (subst (λ (x : Chained _). AreCallers x.callers catalogue) is callers) in
+    let caller : Caller = asker c.args.asked.now in
+    let request : Request = asked_of c.args.asked.now in
+    let new : Chained _ = record { limits = inside.limits; is_failed = is_final c.in-Err.fault; films = c.clear.new.self; callers = inside.callers; conn = c.step.new.conn } in
+    let so : new ≡ c.refusal.new.self = sym (rw fine at c.refusal.ensures.failed) in
+    let tells = c.refused.ensures ∙ ap (λ r. problem_answer (seen_refusal r)) c.refusal.ensures.told in
+    let taken = unmade g.S.Store old new refl refl fine caller request (IsHeldBy (IsKnownFor c.args.asked.now) inside.films) (λ books held films callers. (held, films, known books.catalogue callers)) c.asked_values.ensures.caller c.asked_values.ensures.request c.limits_fit.ensures.commands c.limits_fit.ensures.copies c.in-Err.fault (λ films are. no_rows _ films c.clear.ensures) refl
+    (λ now. omega (arith, now, c.in-Err.ensures.crash.clean)) c.in-Err.ensures.undone in
+    rw tells (subst (λ x. Takes g.S.Store c.args.self.now x (Answers caller request (problem_answer (seen_refusal (refusal_for c.in-Err.fault))))) so
+    (subst (λ x. Takes g.S.Store x new (Answers caller request (problem_answer (seen_refusal (refusal_for c.in-Err.fault))))) is taken))

@@ -1,0 +1,14 @@
+use Rattle.shop_model.specs.Books.{caller_in}
+use Rattle.shop_types.specs.Seen.{seen_request}
+use Rattle.chain_calls.specs.Chains.{event_of}
+use Rattle.chain_calls.proofs.Requests.{event_answered, store_refuses, refused_takes}
+use Rattle.chain_calls.proofs.Taking.{takes_then}
+use Rattle.chain_engine.proofs.chain.Chain.answer_with.Goals as goal
+
+pub returns-in-Ok-clause-taken : goal.returns-in-Ok-clause-taken
+returns-in-Ok-clause-taken g c = takes_then c.in-Ok.ensures.taken c.answer.ensures.taken (λ old mid new x y. event_answered c.args.token.now c.args.request.now c.in-Ok.caller _ old mid new x y)
+
+pub returns-in-Err-clause-taken : goal.returns-in-Err-clause-taken
+returns-in-Err-clause-taken g c = refused_takes c.in-Err.refusal
+    (λ old. caller_in (event_of (c.args.token.now, c.args.request.now)) old.books) (λ _. seen_request c.args.request.now) c.in-Err.ensures.taken (λ old new x.
+    rw c.refused.ensures (store_refuses (caller_in (event_of (c.args.token.now, c.args.request.now)) old.books) (seen_request c.args.request.now) c.in-Err.refusal old new x))

@@ -1,0 +1,17 @@
+use Rattle.std.proofs.Common.{◌≡◌, refl, List, ℕ, false}
+use Rattle.std.specs.Str.{bytes_eq}
+use Rattle.std.proofs.lemmas.Bool.{false_from_ne_true}
+use Rattle.std.proofs.lemmas.Slice.Eq.{bytes_eq-Decides}
+use Rattle.office_words.proofs.given.rule_of.Goals as goal
+
+differ : (xs ys : List ℕ) → ¬ (xs ≡ ys) → bytes_eq xs ys ≡ false
+differ xs ys h = false_from_ne_true (bytes_eq xs ys) (λ e. h ((bytes_eq-Decides xs ys).0 e))
+
+pub returns-in-code : goal.returns-in-code
+returns-in-code c = rw c.in-code.is refl
+
+pub returns-in-comment : goal.returns-in-comment
+returns-in-comment c = rw c.in-comment.is refl
+
+pub returns-in_default : goal.returns-in_default
+returns-in_default c = rw (differ _ _ c.in_default.not-code, differ _ _ c.in_default.not-comment) refl

@@ -1,0 +1,123 @@
+//! A chain in a file: it is made, becomes one of this version, gets one request of head office, or serves connections.
+ghost use Rattle.std.specs.Prelude.{◌≡◌, ◌⊎◌, ℕ, true, List, Option};
+ghost use Rattle.office_words.specs.Line.{line_of};
+ghost use Rattle.counter_http.specs.Exchanges.{Exchange, RunsOver};
+ghost use Rattle.sakila_office.specs.Printed.{IsQuiet};
+ghost use Rattle.sakila_office.specs.Commands.{Makes, Migrates, Puts, Serves};
+
+use crate::printing::{print, tell, tell_fault};
+use crate::serving::serve_listener;
+use chain_engine::{Chain, OpenFault};
+use office_words::ClapWords;
+use shop_types::{Caller, Limits, Refusal, Reply, Request, Token};
+use sqlite::Alter;
+use sqlite_disk::Disk;
+use sqlite_std_file::File;
+use std::io::Write;
+use std::net::{Ipv4Addr, TcpListener};
+use std::time::Duration;
+
+/// For how many seconds a peer that sends no whole request, or takes nothing of a reply, is waited for.
+const PATIENCE: u64 = 30;
+
+/// Makes a chain in the file, and tells its version.
+pub(crate) fn make<W: Write, E: Write>(
+    rt: &HostRuntime,
+    file: &str,
+    token: &Token,
+    out: &mut W,
+    err: &mut E,
+) -> u8
+    ensures makes { Makes ⟦<File as Disk>⟧ token.now result (W.contents out.old) (W.contents out.new) (E.contents err.old) (E.contents err.new) }
+    ensures quiet { IsQuiet result (E.contents err.old) (E.contents err.new) }
+{
+    match Chain::create(rt, file, Limits::default(), token) {
+        Ok(chain) => {
+            drop(chain.close());
+            print(out, b"{\"version\":2}")
+        }
+        Err(OpenFault::Already) => tell(&Reply::refused(Refusal::Already), out, err),
+        Err(fault) => tell_fault(fault, err),
+    }
+}
+
+/// Makes the chain of version 1 in the file one of this version, and tells that.
+pub(crate) fn migrate<W: Write, E: Write>(
+    rt: &HostRuntime,
+    file: &str,
+    out: &mut W,
+    err: &mut E,
+) -> u8
+    ensures migrates { Migrates ⟦<File as Disk>⟧ result (W.contents out.old) (W.contents out.new) (E.contents err.old) (E.contents err.new) }
+    ensures quiet { IsQuiet result (E.contents err.old) (E.contents err.new) }
+{
+    match Chain::migrate(rt, file, Limits::default()) {
+        Ok(chain) => {
+            drop(chain.close());
+            print(out, b"{\"version\":2}")
+        }
+        Err(OpenFault::Already) => tell(&Reply::refused(Refusal::Already), out, err),
+        Err(fault) => tell_fault(fault, err),
+    }
+}
+
+/// Puts the request of head office to the chain in the file, and tells the answer.
+pub(crate) fn put<W: Write, E: Write>(
+    rt: &HostRuntime,
+    file: &str,
+    request: &Request,
+    out: &mut W,
+    err: &mut E,
+) -> u8
+    ensures puts { Puts ⟦<File as Disk>⟧ request.now result (W.contents out.old) (W.contents out.new) (E.contents err.old) (E.contents err.new) }
+    ensures quiet { IsQuiet result (E.contents err.old) (E.contents err.new) }
+{
+    match Chain::open(rt, file, Limits::default()) {
+        Ok(mut chain) => {
+            let reply = chain.answer(&Caller::Office, request);
+            drop(chain.close());
+            tell(&reply, out, err)
+        }
+        Err(fault) => tell_fault(fault, err),
+    }
+}
+
+/// Serves so many connections at the port by the chain. Where the port can't be had, it answers 3.
+fn serve_port<S: Alter>(rt: &HostRuntime, chain: &mut Chain<S>, port: u16, connections: u32) -> u8
+    ensures ran { (exchanges : List Exchange) × RunsOver S.Store line_of chain.old chain.new exchanges }
+    ensures status { (result ≡ 0) ⊎ (result ≡ 3) }
+    ensures failed { chain.new.is_failed ≡ true → result ≡ 3 }
+{
+    let Ok(listener) = TcpListener::bind(rt, (Ipv4Addr::LOCALHOST, port)) else {
+        return 3;
+    };
+    serve_listener(
+        rt,
+        &listener,
+        chain,
+        &ClapWords { alloc: rt.alloc() },
+        connections,
+        Duration::from_secs(PATIENCE),
+    )
+}
+
+/// Serves so many connections at the port by the chain in the file.
+pub(crate) fn serve_in<E: Write>(
+    rt: &HostRuntime,
+    file: &str,
+    port: u16,
+    connections: u32,
+    err: &mut E,
+) -> u8
+    ensures serves { (output : Option (List ℕ)) → Serves ⟦<File as Disk>⟧ result output output (E.contents err.old) (E.contents err.new) }
+    ensures quiet { IsQuiet result (E.contents err.old) (E.contents err.new) }
+{
+    match Chain::open(rt, file, Limits::default()) {
+        Ok(mut chain) => {
+            let status = serve_port(rt, &mut chain, port, connections);
+            drop(chain.close());
+            status
+        }
+        Err(fault) => tell_fault(fault, err),
+    }
+}

@@ -1,0 +1,227 @@
+//! A connection that is open, and how long its peer is waited for.
+ghost use Rattle.std.specs.Prelude.{List};
+ghost use Rattle.counter_http.specs.Exchanges.{Exchange, RunsOver};
+
+use chain_engine::Chain;
+use counter_http::{Connection, Standing, Switchboard, TurnFault};
+use shop_types::OfficeWords;
+use sqlite::Alter;
+use std::alloc::AllocGlobal;
+use std::io::{self, ErrorKind, Read, Write};
+use std::net::{Shutdown, TcpStream};
+use std::time::{Clock, Duration};
+
+/// How many requests of a connection are answered before the others have their turn.
+const MOST_IN_A_TURN: u32 = 16;
+
+/// Behind how many milliseconds of its turn no further request of a connection is answered before the others have theirs.
+const LONGEST_TURN: u64 = 1;
+
+/// How many pieces that a peer still sends behind its last reply are dropped.
+const MOST_DROPPED: u32 = 64;
+
+/// Where a peer stands.
+#[derive(Clone, Copy)]
+enum Phase {
+    /// It is answered.
+    Served,
+    /// It has its last reply. What it still sends is read and dropped, so many pieces: a socket that is closed over bytes that nobody read is reset, and then
+    /// the reply may be lost.
+    Leaving(u32),
+    Gone,
+}
+
+/// A socket that is written to, and whether its peer has taken something.
+#[derive(Drop)]
+struct Outlet<'s> {
+    stream: &'s TcpStream,
+    has_taken: bool,
+}
+
+impl Write for Outlet<'_> {
+    fn write(&mut self, buf: &[u8]) -> io::Result<usize> {
+        let mut writer = self.stream;
+        let taken = writer.write(buf)?;
+        self.has_taken = true;
+        Ok(taken)
+    }
+
+    fn flush(&mut self) -> io::Result<()> {
+        Ok(())
+    }
+}
+
+/// The time by the clock, or the one that was told before where the clock fails.
+pub(crate) fn time<R: Clock>(rt: &R, before: Duration) -> Duration {
+    rt.monotonic().unwrap_or(before)
+}
+
+/// An open connection.
+#[derive(Drop)]
+pub(crate) struct Peer {
+    /// Its number among all that were accepted.
+    pub(crate) token: usize,
+    stream: TcpStream,
+    connection: Connection,
+    phase: Phase,
+    /// Whether it can go on without waiting, as far as is known.
+    pub(crate) is_ready: bool,
+    /// When it came, was last answered, last took bytes of a reply, or began to leave.
+    since: Duration,
+}
+
+impl Peer {
+    pub(crate) fn new(
+        token: usize,
+        stream: TcpStream,
+        connection: Connection,
+        now: Duration,
+    ) -> Peer {
+        Peer {
+            token,
+            stream,
+            connection,
+            phase: Phase::Served,
+            is_ready: true,
+            since: now,
+        }
+    }
+
+    pub(crate) fn is_gone(&self) -> bool {
+        matches!(self.phase, Phase::Gone)
+    }
+
+    /// Whether it can go on without waiting and is still answered.
+    pub(crate) fn is_busy(&self) -> bool {
+        self.is_ready && matches!(self.phase, Phase::Served)
+    }
+
+    /// When it is left, where so long is waited for a peer that is answered.
+    pub(crate) fn deadline(&self, patience: Duration) -> Duration {
+        let wait = match self.phase {
+            Phase::Served => patience,
+            Phase::Leaving(_) => Duration::from_secs(1).min(patience),
+            Phase::Gone => Duration::ZERO,
+        };
+        self.since.saturating_add(wait)
+    }
+
+    /// Leaves it, where it can't go on and its time is up. One that was answered is told that no more comes.
+    pub(crate) fn expire(&mut self, now: Duration, patience: Duration) {
+        if !self.is_ready && now >= self.deadline(patience) {
+            match self.phase {
+                Phase::Served => self.begin_to_leave(now),
+                Phase::Leaving(_) | Phase::Gone => self.phase = Phase::Gone,
+            }
+        }
+    }
+
+    /// Answers it no more.
+    pub(crate) fn dismiss(&mut self, now: Duration) {
+        if matches!(self.phase, Phase::Served) {
+            self.begin_to_leave(now);
+        }
+    }
+
+    fn begin_to_leave(&mut self, now: Duration) {
+        self.since = now;
+        self.is_ready = true;
+        self.phase = match self.stream.shutdown(Shutdown::Write) {
+            Ok(()) => Phase::Leaving(MOST_DROPPED),
+            Err(_) => Phase::Gone,
+        };
+    }
+
+    /// Reads and drops what the peer still sends.
+    fn leave(&mut self, pieces: u32) {
+        let mut reader = &self.stream;
+        let mut rest = [0u8; 4096];
+        for dropped in 0..pieces {
+            match reader.read(&mut rest) {
+                Ok(0) => break,
+                Ok(_) => {}
+                Err(e) if e.kind() == ErrorKind::WouldBlock => {
+                    self.phase = Phase::Leaving(pieces - dropped);
+                    self.is_ready = false;
+                    return;
+                }
+                Err(_) => break,
+            }
+        }
+        self.phase = Phase::Gone;
+    }
+
+    /// Answers what has come, up to the end of a turn. What the connection waits for then, and whether its peer has taken something.
+    fn answer_some<R: Clock + AllocGlobal, O: OfficeWords, S: Alter>(
+        &mut self,
+        rt: &R,
+        chain: &mut Chain<S>,
+        board: &Switchboard,
+        words: &O,
+    ) -> (Result<Standing, TurnFault>, bool)
+        ensures { (exchanges : List Exchange) × RunsOver S.Store (O.meaning words.now) chain.old chain.new exchanges }
+    {
+        let mut outlet = Outlet {
+            stream: &self.stream,
+            has_taken: false,
+        };
+        let begun = time(rt, self.since);
+        let end = begun.saturating_add(Duration::from_millis(LONGEST_TURN));
+        let mut standing = Ok(Standing::Ready);
+        'requests: for _ in 0..MOST_IN_A_TURN {
+            standing = self.connection.advance(
+                rt.alloc(),
+                &mut &self.stream,
+                &mut outlet,
+                chain,
+                board,
+                words,
+                1,
+            );
+            if !matches!(standing, Ok(Standing::Ready)) || time(rt, begun) >= end {
+                break;
+            }
+        }
+        (standing, outlet.has_taken)
+    }
+
+    /// Answers what has come, and notes how it stands then.
+    fn answer<R: Clock + AllocGlobal, O: OfficeWords, S: Alter>(
+        &mut self,
+        rt: &R,
+        chain: &mut Chain<S>,
+        board: &Switchboard,
+        words: &O,
+    )
+        ensures { (exchanges : List Exchange) × RunsOver S.Store (O.meaning words.now) chain.old chain.new exchanges }
+    {
+        let before = self.connection.replies();
+        let (standing, has_taken) = self.answer_some(rt, chain, board, words);
+        let now = time(rt, self.since);
+        if has_taken || self.connection.replies() != before {
+            self.since = now;
+        }
+        match standing {
+            Ok(Standing::Reads | Standing::Writes) => self.is_ready = false,
+            Ok(Standing::Ready) => {}
+            Ok(Standing::Ended(_)) | Err(_) => self.begin_to_leave(now),
+        }
+    }
+
+    /// One turn: it goes on as far as its bytes reach and a turn goes.
+    pub(crate) fn turn<R: Clock + AllocGlobal, O: OfficeWords, S: Alter>(
+        &mut self,
+        rt: &R,
+        chain: &mut Chain<S>,
+        board: &Switchboard,
+        words: &O,
+    )
+        ensures { (exchanges : List Exchange) × RunsOver S.Store (O.meaning words.now) chain.old chain.new exchanges }
+    {
+        match self.phase {
+            Phase::Served => self.answer(rt, chain, board, words),
+            Phase::Leaving(pieces) => self.leave(pieces),
+            Phase::Gone => {}
+        }
+    }
+}

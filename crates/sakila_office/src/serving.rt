@@ -1,0 +1,285 @@
+//! Connections over a socket, which a chain serves side by side, each request when it has come whole.
+ghost use Rattle.std.specs.Prelude.{◌≡◌, ◌⊎◌, true, List};
+ghost use Rattle.counter_http.specs.Exchanges.{Exchange, RunsOver};
+
+use crate::peers::{Peer, time};
+use chain_engine::Chain;
+use counter_http::{Connection, Switchboard};
+use mio::unix::SourceFd;
+use mio::{Events, Interest, Poll, Token};
+use shop_types::OfficeWords;
+use sqlite::Alter;
+use std::alloc::AllocGlobal;
+use std::io::{self, ErrorKind};
+use std::net::{Net, TcpListener, TcpStream};
+use std::os::fd::AsRawFd;
+use std::time::{Clock, Duration};
+
+/// How many requests are answered of one connection, or of one input.
+pub(crate) const MOST_REQUESTS: u32 = 1000;
+
+/// How many connections are open at once; the rest wait in the system's queue.
+const MOST_OPEN: usize = 256;
+
+/// How many connections are accepted before the others have their turn.
+const MOST_ARRIVALS: u32 = 16;
+
+/// The listener's own token. The connections have those behind it, in the order in which they come.
+const LISTENER: usize = 0;
+
+/// What serving needs beside the chain.
+#[derive(Drop)]
+struct Server {
+    poll: Poll,
+    events: Events,
+    board: Switchboard,
+    /// The connections that are open, in the order in which they came.
+    peers: Vec<Peer>,
+    /// How many connections were accepted.
+    accepted: u32,
+    /// How many are to be.
+    connections: u32,
+    /// Whether the listener may have a connection without waiting.
+    may_accept: bool,
+    /// Whether all connections that had come before the serving began were answered as far as their bytes reached.
+    has_caught_up: bool,
+    /// When it was last looked who is ready.
+    now: Duration,
+    patience: Duration,
+}
+
+fn register(poll: &Poll, fd: i32, token: usize, interests: Interest) -> io::Result<()> {
+    poll.registry()
+        .register(&mut SourceFd(&fd), Token(token), interests)
+}
+
+impl Server {
+    fn new<R: Net + Clock + AllocGlobal>(
+        rt: &R,
+        listener: &TcpListener,
+        connections: u32,
+        patience: Duration,
+    ) -> io::Result<Server> {
+        let alloc = rt.alloc();
+        let poll = Poll::new(rt)?;
+        listener.set_nonblocking(true)?;
+        register(&poll, listener.as_raw_fd(), LISTENER, Interest::READABLE)?;
+        let now = rt.monotonic()?;
+        let events = Events::with_capacity(alloc, MOST_OPEN)?;
+        let board = Switchboard::new(alloc)?;
+        Ok(Server {
+            poll,
+            events,
+            board,
+            peers: Vec::new(alloc),
+            accepted: 0,
+            connections,
+            may_accept: true,
+            has_caught_up: false,
+            now,
+            patience,
+        })
+    }
+
+    /// Opens a connection. One that there is no memory for, or that is gone already, is let go.
+    fn open<R: Clock + AllocGlobal>(&mut self, rt: &R, stream: TcpStream) -> io::Result<()> {
+        stream.set_nonblocking(true)?;
+        // A reply goes out in two pieces, and the second isn't to wait until the peer has told that it has the first.
+        stream.set_nodelay(true)?;
+        let token = self.accepted as usize;
+        let both = Interest::READABLE | Interest::WRITABLE;
+        register(&self.poll, stream.as_raw_fd(), token, both)?;
+        let connection = Connection::new(rt.alloc(), MOST_REQUESTS)?;
+        let now = time(rt, self.now);
+        self.peers.push(Peer::new(token, stream, connection, now))?;
+        Ok(())
+    }
+
+    /// Whether one more connection may be opened, if one waits.
+    fn has_room(&self) -> bool {
+        self.may_accept && self.accepted < self.connections && self.peers.len() < MOST_OPEN
+    }
+
+    /// Whether the next connection waits for one that came before it: so it is with those that had come before the serving began.
+    fn is_held(&self) -> bool {
+        !self.has_caught_up && self.peers.iter().any(|peer| peer.is_busy())
+    }
+
+    /// Accepts one connection, where one waits, there is room, and none holds it. Whether it did.
+    fn accept<R: Clock + AllocGlobal>(
+        &mut self,
+        rt: &R,
+        listener: &TcpListener,
+    ) -> io::Result<bool> {
+        if !self.has_room() || self.is_held() {
+            return Ok(false);
+        }
+        match listener.accept() {
+            Ok((stream, _)) => {
+                self.accepted = self.accepted.saturating_add(1);
+                let _ = self.open(rt, stream);
+                Ok(true)
+            }
+            Err(e) => match e.kind() {
+                ErrorKind::WouldBlock => {
+                    self.may_accept = false;
+                    self.has_caught_up = true;
+                    Ok(false)
+                }
+                ErrorKind::Interrupted | ErrorKind::ConnectionAborted => Ok(false),
+                _ => Err(e),
+            },
+        }
+    }
+
+    /// Whether something can be done without waiting.
+    fn is_busy(&self) -> bool {
+        self.has_room() || self.peers.iter().any(|peer| peer.is_ready)
+    }
+
+    /// Whether all are served.
+    fn is_done(&self) -> bool {
+        self.accepted >= self.connections && self.peers.is_empty()
+    }
+
+    /// Accepts no more connections, and answers those that are open no more.
+    fn close<R: Clock>(&mut self, rt: &R) {
+        self.connections = self.accepted;
+        for peer in &mut self.peers {
+            peer.dismiss(time(rt, self.now));
+        }
+    }
+
+    /// For how long nothing need happen: until the first peer is left.
+    fn longest_wait(&self) -> Duration {
+        let mut wait = self.patience;
+        for peer in &self.peers {
+            wait = wait.min(peer.deadline(self.patience).saturating_sub(self.now));
+        }
+        wait
+    }
+
+    /// Notes who is ready.
+    fn note(&mut self) {
+        for event in &self.events {
+            let Token(token) = event.token();
+            if token == LISTENER {
+                self.may_accept = true;
+            }
+            for peer in &mut self.peers {
+                if peer.token == token {
+                    peer.is_ready = true;
+                }
+            }
+        }
+    }
+
+    /// Waits until something is ready, unless something is. Whether that could be told.
+    fn wait<R: Clock>(&mut self, rt: &R) -> bool {
+        let wait = if self.is_busy() {
+            Duration::ZERO
+        } else {
+            self.longest_wait()
+        };
+        if self.poll.poll(&mut self.events, Some(wait)).is_err() {
+            return false;
+        }
+        self.now = time(rt, self.now);
+        self.note();
+        true
+    }
+
+    /// Each peer that is ready has its turn. Whoever can't go on and has had its time is left, and those that are gone are forgotten.
+    fn turns<R: Clock + AllocGlobal, O: OfficeWords, S: Alter>(
+        &mut self,
+        rt: &R,
+        chain: &mut Chain<S>,
+        words: &O,
+    )
+        ensures { (exchanges : List Exchange) × RunsOver S.Store (O.meaning words.now) chain.old chain.new exchanges }
+    {
+        'peers: for peer in &mut self.peers {
+            if peer.is_ready {
+                peer.turn(rt, chain, &self.board, words);
+                peer.expire(time(rt, self.now), self.patience);
+            } else {
+                peer.expire(self.now, self.patience);
+            }
+        }
+        self.peers.retain(|peer| !peer.is_gone());
+    }
+
+    /// Accepts some connections. Of those that had come before the serving began each has its first turn before the next is accepted. Whether the listener is sound.
+    fn arrivals<R: Clock + AllocGlobal, O: OfficeWords, S: Alter>(
+        &mut self,
+        rt: &R,
+        listener: &TcpListener,
+        chain: &mut Chain<S>,
+        words: &O,
+    ) -> bool
+        ensures { (exchanges : List Exchange) × RunsOver S.Store (O.meaning words.now) chain.old chain.new exchanges }
+    {
+        'arrivals: for _ in 0..MOST_ARRIVALS {
+            match self.accept(rt, listener) {
+                Ok(true) if self.has_caught_up => {}
+                Ok(true) => self.turns(rt, chain, words),
+                Ok(false) => return true,
+                Err(_) => return false,
+            }
+        }
+        true
+    }
+
+    /// Serves until all are served, the listener fails, or the store does.
+    fn serve<R: Clock + AllocGlobal, O: OfficeWords, S: Alter>(
+        &mut self,
+        rt: &R,
+        listener: &TcpListener,
+        chain: &mut Chain<S>,
+        words: &O,
+    ) -> u8
+        ensures ran { (exchanges : List Exchange) × RunsOver S.Store (O.meaning words.now) chain.old chain.new exchanges }
+        ensures status { (result ≡ 0) ⊎ (result ≡ 3) }
+        ensures failed { chain.new.is_failed ≡ true → result ≡ 3 }
+    {
+        'rounds: for _ in 0..u64::MAX {
+            if chain.is_failed() {
+                self.close(rt);
+            }
+            if self.is_done() {
+                return if chain.is_failed() { 3 } else { 0 };
+            }
+            if !self.arrivals(rt, listener, chain, words) || !self.wait(rt) {
+                return 3;
+            }
+            self.turns(rt, chain, words);
+        }
+        3
+    }
+}
+
+/// Serves so many connections by the chain, at most 256 of them side by side, each with at most 1,000 requests. A request is answered when it has come whole, one
+/// after another. The others have their turn behind at most 16 requests of a connection, and behind the one at which its turn has taken a millisecond by the clock
+/// of `rt`; where the bytes of all have come before, each connection is answered to its end, in the order in which they came. A fault of a connection ends that
+/// connection alone. A peer of which no whole request has come for as long as `patience`, by that clock, is left, and so is one that took nothing of a reply for as
+/// long. The answer is 0 where all were served, and 3 where serving couldn't begin, none could be accepted any more or the store failed.
+pub fn serve_listener<R: Net + Clock + AllocGlobal, O: OfficeWords, S: Alter>(
+    rt: &R,
+    listener: &TcpListener,
+    chain: &mut Chain<S>,
+    words: &O,
+    connections: u32,
+    patience: Duration,
+) -> u8
+    ensures ran { (exchanges : List Exchange) × RunsOver S.Store (O.meaning words.now) chain.old chain.new exchanges }
+    ensures status { (result ≡ 0) ⊎ (result ≡ 3) }
+    ensures failed { chain.new.is_failed ≡ true → result ≡ 3 }
+{
+    let Ok(mut server) = Server::new(rt, listener, connections, patience) else {
+        return 3;
+    };
+    let status = server.serve(rt, listener, chain, words);
+    drop(server);
+    let _ = listener.set_nonblocking(false);
+    status
+}

@@ -1,5 +1,0 @@
-use Rattle.chain_calls.proofs.Following.{runs_follow}
-use Rattle.shop_chain.proofs.laws.runs_follow.Goals as goal
-
-pub returns : goal.returns
-returns c = runs_follow

@@ -1,0 +1,14 @@
+use Rattle.std.proofs.Common.{◌≡◌, ◌∙◌, ap, List, ℕ, [], ◌∷◌, codes, decimal, length}
+use Rattle.std.proofs.lemmas.Result.{IfOk-weaker}
+use Rattle.shop_model.specs.Json.{array, object, numbers_text}
+use Rattle.shop_model.specs.Values.{Text}
+use Rattle.shop_views.specs.Bodies.{listed_value}
+use Rattle.shop_views.specs.Texts.{json_text}
+use Rattle.shop_views.proofs.TextLemmas.{numbers_texts}
+use Rattle.shop_views.proofs.rental.copies_text.Goals as goal
+
+text_is : (ns : List ℕ) → json_text (listed_value (codes "copies") ns) ≡ object ((codes "copies", numbers_text ns) ∷ (codes "count", decimal (length ns)) ∷ [])
+text_is ns = ap (λ (ts : List Text). object ((codes "copies", array ts) ∷ (codes "count", decimal (length ns)) ∷ [])) (numbers_texts ns)
+
+pub returns : goal.returns
+returns c = IfOk-weaker c.listed_text.result _ _ (λ s is. is ∙ text_is c.args.copies.now) c.listed_text.ensures

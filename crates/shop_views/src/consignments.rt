@@ -1,0 +1,91 @@
+//! Consignments as the lists of a branch and of head office show them.
+
+ghost use Rattle.std.specs.Prelude.{◌≡◌, false, IfOk};
+ghost use Rattle.serde_json.specs.View.{view};
+ghost use Rattle.serde_json.specs.Written.{compact_text, has_float};
+ghost use Rattle.shop_views.specs.Consignments.{seen_listed, arrival_data, arrival_text, sent_data, sent_text, transit_data, transit_text};
+
+use crate::{Field, object_of};
+use serde_json::Value;
+use shop_values::{BranchNo, ConsignmentNo, FilmNo};
+use std::alloc::{AllocError, Global};
+
+/// A consignment with the films of its lines.
+#[derive(Drop)]
+pub struct ListedConsignment {
+    pub source: BranchNo,
+    pub addressee: BranchNo,
+    /// Its number among those of the two.
+    pub number: ConsignmentNo,
+    pub received: bool,
+    /// The films of its lines, in their order.
+    pub films: Vec<FilmNo>,
+}
+
+fn arrival_value(alloc: Global, it: &ListedConsignment) -> Result<Value, AllocError>
+    ensures { IfOk result (λ v. view v ≡ arrival_data (seen_listed it.now)) }
+{
+    object_of(
+        alloc,
+        &[
+            Field::Films("films", it.films.as_slice()),
+            Field::Number("from", it.source.get() as u64),
+            Field::Number("number", it.number.get() as u64),
+            Field::Flag("received", it.received),
+        ],
+    )
+}
+
+fn sent_value(alloc: Global, it: &ListedConsignment) -> Result<Value, AllocError>
+    ensures { IfOk result (λ v. view v ≡ sent_data (seen_listed it.now)) }
+{
+    object_of(
+        alloc,
+        &[
+            Field::Films("films", it.films.as_slice()),
+            Field::Number("number", it.number.get() as u64),
+            Field::Number("to", it.addressee.get() as u64),
+        ],
+    )
+}
+
+fn transit_value(alloc: Global, it: &ListedConsignment) -> Result<Value, AllocError>
+    ensures { IfOk result (λ v. view v ≡ transit_data (seen_listed it.now)) }
+{
+    object_of(
+        alloc,
+        &[
+            Field::Films("films", it.films.as_slice()),
+            Field::Number("from", it.source.get() as u64),
+            Field::Number("number", it.number.get() as u64),
+            Field::Number("to", it.addressee.get() as u64),
+        ],
+    )
+}
+
+/// The consignment in the list of its addressee's arrivals, as an object.
+pub fn arrival_row(alloc: Global, it: &ListedConsignment) -> Result<Value, AllocError>
+    ensures value { IfOk result (λ v. view v ≡ arrival_data (seen_listed it.now)) }
+    ensures text { IfOk result (λ v. compact_text (view v) ≡ arrival_text (seen_listed it.now)) }
+    ensures no_float { IfOk result (λ v. has_float (view v) ≡ false) }
+{
+    arrival_value(alloc, it)
+}
+
+/// The consignment in the list of what its sender sent, as an object: whether it is received isn't shown.
+pub fn sent_row(alloc: Global, it: &ListedConsignment) -> Result<Value, AllocError>
+    ensures value { IfOk result (λ v. view v ≡ sent_data (seen_listed it.now)) }
+    ensures text { IfOk result (λ v. compact_text (view v) ≡ sent_text (seen_listed it.now)) }
+    ensures no_float { IfOk result (λ v. has_float (view v) ≡ false) }
+{
+    sent_value(alloc, it)
+}
+
+/// The consignment in the list of all that are under way, as an object.
+pub fn transit_row(alloc: Global, it: &ListedConsignment) -> Result<Value, AllocError>
+    ensures value { IfOk result (λ v. view v ≡ transit_data (seen_listed it.now)) }
+    ensures text { IfOk result (λ v. compact_text (view v) ≡ transit_text (seen_listed it.now)) }
+    ensures no_float { IfOk result (λ v. has_float (view v) ≡ false) }
+{
+    transit_value(alloc, it)
+}

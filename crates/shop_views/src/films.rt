@@ -1,0 +1,69 @@
+//! Films as the list of films shows them, each with its actors.
+
+ghost use Rattle.std.specs.Prelude.{◌≡◌, false, IfOk};
+ghost use Rattle.serde_json.specs.View.{view};
+ghost use Rattle.serde_json.specs.Written.{compact_text, has_float};
+ghost use Rattle.shop_model.specs.Answers.{listed_film};
+ghost use Rattle.shop_views.specs.Films.{film_with, seen_film, film_data};
+
+use crate::names::{PersonName, joined_names};
+use crate::{Field, object_of};
+use serde_json::Value;
+use shop_types::{Minutes, Rating};
+use shop_values::{FilmNo, L45, L500, Rate, T128};
+use std::alloc::{AllocError, Global};
+
+/// A film with the name of its category and those who play in it.
+#[derive(Drop)]
+pub struct FilmRow {
+    pub number: FilmNo,
+    pub title: T128,
+    pub description: L500,
+    /// The category's name, empty where there is no such category.
+    pub category: L45,
+    /// What a rental of it costs.
+    pub rate: Rate,
+    pub minutes: Option<Minutes>,
+    pub rating: Rating,
+    /// The actors, in order of their numbers.
+    pub actors: Vec<PersonName>,
+}
+
+/// The film with that text of its actors.
+fn film_object<'a>(alloc: Global, row: &'a FilmRow, actors: &'a str) -> Result<Value, AllocError>
+    ensures { IfOk result (λ v. view v ≡ film_data (film_with actors.now row.now)) }
+{
+    let length = match row.minutes {
+        Some(minutes) => Field::Number("length", minutes.get() as u64),
+        None => Field::Null("length"),
+    };
+    object_of(
+        alloc,
+        &[
+            Field::Text("actors", actors),
+            Field::Text("category", row.category.as_str()),
+            Field::Text("description", row.description.as_str()),
+            Field::Number("film", row.number.get() as u64),
+            length,
+            Field::Number("price", row.rate.get() as u64),
+            Field::Text("rating", row.rating.text()),
+            Field::Text("title", row.title.as_str()),
+        ],
+    )
+}
+
+fn film_value(alloc: Global, row: &FilmRow) -> Result<Value, AllocError>
+    ensures { IfOk result (λ v. view v ≡ film_data (seen_film row.now)) }
+{
+    let actors = joined_names(alloc, row.actors.as_slice())?;
+    film_object(alloc, row, actors.as_str())
+}
+
+/// A film of `film_list`, as an object: `length` is `null` where it isn't known.
+pub fn film_row(alloc: Global, row: &FilmRow) -> Result<Value, AllocError>
+    ensures value { IfOk result (λ v. view v ≡ film_data (seen_film row.now)) }
+    ensures text { IfOk result (λ v. compact_text (view v) ≡ listed_film (seen_film row.now)) }
+    ensures no_float { IfOk result (λ v. has_float (view v) ≡ false) }
+{
+    film_value(alloc, row)
+}

@@ -1,0 +1,82 @@
+ghost use Rattle.std.specs.Prelude.{◌≡◌, false, map, IfOk, string_bytes};
+ghost use Rattle.serde_json.specs.View.{view};
+ghost use Rattle.serde_json.specs.Written.{compact_text, has_float};
+ghost use Rattle.shop_model.specs.Json.{array};
+ghost use Rattle.shop_model.specs.Answers.{overdue_text};
+ghost use Rattle.shop_views.specs.Overdue.{overdue_data, overdue_value, seen_overdue};
+
+use crate::names::with_between;
+use crate::{Field, object_of};
+use serde_json::Value;
+use shop_values::{L45, T45, T128};
+use std::alloc::{AllocError, Global};
+
+/// A rental that is overdue: its customer's names and telephone number, and its film's title.
+#[derive(Drop)]
+pub struct OverdueRow {
+    pub first: T45,
+    pub last: T45,
+    /// The telephone number, which may be empty.
+    pub phone: L45,
+    pub title: T128,
+}
+
+/// The rental by that name of the customer.
+fn overdue_object<'a>(
+    alloc: Global,
+    row: &'a OverdueRow,
+    customer: &'a str,
+) -> Result<Value, AllocError>
+    ensures { IfOk result (λ v. view v ≡ overdue_data (record (seen_overdue row.now) { customer = customer.now })) }
+{
+    object_of(
+        alloc,
+        &[
+            Field::Text("customer", customer),
+            Field::Text("phone", row.phone.as_str()),
+            Field::Text("title", row.title.as_str()),
+        ],
+    )
+}
+
+fn overdue_value(alloc: Global, row: &OverdueRow) -> Result<Value, AllocError>
+    ensures { IfOk result (λ v. view v ≡ overdue_data (seen_overdue row.now)) }
+{
+    let customer = with_between(alloc, row.last.as_str(), ", ", row.first.as_str())?;
+    overdue_object(alloc, row, customer.as_str())
+}
+
+/// One rental, as an object.
+pub fn overdue_row(alloc: Global, row: &OverdueRow) -> Result<Value, AllocError>
+    ensures value { IfOk result (λ v. view v ≡ overdue_data (seen_overdue row.now)) }
+    ensures text { IfOk result (λ v. compact_text (view v) ≡ overdue_text (seen_overdue row.now)) }
+    ensures no_float { IfOk result (λ v. has_float (view v) ≡ false) }
+{
+    overdue_value(alloc, row)
+}
+
+/// The rentals in their order, as a list of objects.
+pub fn overdue(alloc: Global, rows: &[OverdueRow]) -> Result<Value, AllocError>
+    ensures value { IfOk result (λ v. view v ≡ overdue_value (map seen_overdue rows.now)) }
+    ensures text { IfOk result (λ v. compact_text (view v) ≡ array (map overdue_text (map seen_overdue rows.now))) }
+    ensures no_float { IfOk result (λ v. has_float (view v) ≡ false) }
+{
+    overdue_list(alloc, rows)
+}
+
+fn overdue_list(alloc: Global, rows: &[OverdueRow]) -> Result<Value, AllocError>
+    ensures { IfOk result (λ v. view v ≡ overdue_value (map seen_overdue rows.now)) }
+{
+    let mut items = Vec::with_capacity(alloc, rows.len())?;
+    for row in rows {
+        items.push_reserved(overdue_value(alloc, row)?);
+    }
+    Ok(Value::Array(items))
+}
+
+/// The text of that list: the body that shows a counter the rentals that are overdue.
+pub fn overdue_text(alloc: Global, rows: &[OverdueRow]) -> Result<String, AllocError>
+    ensures { IfOk result (λ s. string_bytes s ≡ array (map overdue_text (map seen_overdue rows.now))) }
+{
+    overdue(alloc, rows)?.to_string(alloc)
+}

@@ -1,0 +1,132 @@
+//! Customers and staff as the lists of people show them.
+
+ghost use Rattle.std.specs.Prelude.{◌≡◌, [], codes, false, if◌then◌else◌, IfOk};
+ghost use Rattle.serde_json.specs.View.{view};
+ghost use Rattle.serde_json.specs.Written.{compact_text, has_float};
+ghost use Rattle.shop_model.specs.Answers.{listed_customer, person_text};
+ghost use Rattle.shop_views.specs.People.{person_as, seen_customer, seen_staff, customer_data, staff_data};
+
+use crate::names::{PersonName, full_name};
+use crate::{Field, object_of};
+use serde_json::Value;
+use shop_values::{BranchNo, CustomerNo, L45, StaffNo, T128};
+use std::alloc::{AllocError, Global};
+
+/// A person of a branch, with the names of the city and of its country.
+#[derive(Drop)]
+pub struct ListedPerson {
+    pub branch: BranchNo,
+    pub name: PersonName,
+    pub address: T128,
+    /// The postal code, which may be empty.
+    pub postal: L45,
+    /// The telephone number, which may be empty.
+    pub phone: L45,
+    /// The city's name, empty where there is no such city.
+    pub city: L45,
+    /// The name of the city's country, empty where there is none.
+    pub country: L45,
+}
+
+/// A customer and its number.
+#[derive(Drop)]
+pub struct CustomerRow {
+    pub number: CustomerNo,
+    pub person: ListedPerson,
+    /// Whether the customer may rent.
+    pub active: bool,
+}
+
+/// A member of staff and its number.
+#[derive(Drop)]
+pub struct StaffRow {
+    pub number: StaffNo,
+    pub person: ListedPerson,
+}
+
+/// What the list notes of a customer.
+fn note_of(active: bool) -> &'static str
+    ensures { result.now ≡ (if active then codes "active" else []) }
+{
+    if active { "active" } else { "" }
+}
+
+/// The customer by that whole name.
+fn customer_object<'a>(
+    alloc: Global,
+    row: &'a CustomerRow,
+    name: &'a str,
+) -> Result<Value, AllocError>
+    ensures { IfOk result (λ v. view v ≡ customer_data (person_as row.now.number name.now row.now.person, row.now.active)) }
+{
+    let person = &row.person;
+    let note = note_of(row.active);
+    object_of(
+        alloc,
+        &[
+            Field::Text("address", person.address.as_str()),
+            Field::Number("branch", person.branch.get() as u64),
+            Field::Text("city", person.city.as_str()),
+            Field::Text("country", person.country.as_str()),
+            Field::Number("id", row.number.get() as u64),
+            Field::Text("name", name),
+            Field::Text("note", note),
+            Field::Text("phone", person.phone.as_str()),
+            Field::Text("postal", person.postal.as_str()),
+        ],
+    )
+}
+
+fn customer_value(alloc: Global, row: &CustomerRow) -> Result<Value, AllocError>
+    ensures { IfOk result (λ v. view v ≡ customer_data (seen_customer row.now)) }
+{
+    let names = &row.person.name;
+    let name = full_name(alloc, names.first.as_str(), names.last.as_str())?;
+    customer_object(alloc, row, name.as_str())
+}
+
+/// A customer of `customer_list`, as an object: `id` is the customer's number, and who may not rent has an empty note.
+pub fn customer_row(alloc: Global, row: &CustomerRow) -> Result<Value, AllocError>
+    ensures value { IfOk result (λ v. view v ≡ customer_data (seen_customer row.now)) }
+    ensures text { IfOk result (λ v. compact_text (view v) ≡ listed_customer (seen_customer row.now)) }
+    ensures no_float { IfOk result (λ v. has_float (view v) ≡ false) }
+{
+    customer_value(alloc, row)
+}
+
+/// The member of staff by that whole name.
+fn staff_object<'a>(alloc: Global, row: &'a StaffRow, name: &'a str) -> Result<Value, AllocError>
+    ensures { IfOk result (λ v. view v ≡ staff_data (person_as row.now.number name.now row.now.person)) }
+{
+    let person = &row.person;
+    object_of(
+        alloc,
+        &[
+            Field::Text("address", person.address.as_str()),
+            Field::Number("branch", person.branch.get() as u64),
+            Field::Text("city", person.city.as_str()),
+            Field::Text("country", person.country.as_str()),
+            Field::Number("id", row.number.get() as u64),
+            Field::Text("name", name),
+            Field::Text("phone", person.phone.as_str()),
+            Field::Text("postal", person.postal.as_str()),
+        ],
+    )
+}
+
+fn staff_value(alloc: Global, row: &StaffRow) -> Result<Value, AllocError>
+    ensures { IfOk result (λ v. view v ≡ staff_data (seen_staff row.now)) }
+{
+    let names = &row.person.name;
+    let name = full_name(alloc, names.first.as_str(), names.last.as_str())?;
+    staff_object(alloc, row, name.as_str())
+}
+
+/// A member of staff of `staff_list`, as an object: `id` is the number of the member of staff.
+pub fn staff_row(alloc: Global, row: &StaffRow) -> Result<Value, AllocError>
+    ensures value { IfOk result (λ v. view v ≡ staff_data (seen_staff row.now)) }
+    ensures text { IfOk result (λ v. compact_text (view v) ≡ person_text [] (seen_staff row.now)) }
+    ensures no_float { IfOk result (λ v. has_float (view v) ≡ false) }
+{
+    staff_value(alloc, row)
+}

@@ -1,0 +1,102 @@
+//! The rows of the two views of sales.
+
+ghost use Rattle.std.specs.Prelude.{◌≡◌, false, IfOk, string_bytes};
+ghost use Rattle.serde_json.specs.View.{view};
+ghost use Rattle.serde_json.specs.Written.{compact_text, has_float};
+ghost use Rattle.shop_model.specs.Answers.{listed_store, listed_category};
+ghost use Rattle.shop_views.specs.Sales.{manager_text, seen_store, seen_category, store_data, category_data};
+
+use crate::names::{PersonName, full_name, with_between};
+use crate::{Field, object_of};
+use serde_json::Value;
+use shop_values::{L45, T45};
+use std::alloc::{AllocError, Global};
+
+/// What a branch has taken for rentals.
+#[derive(Drop)]
+pub struct StoreRow {
+    /// The name of the branch's city, empty where there is no such city.
+    pub city: L45,
+    /// The name of the city's country, empty where there is none.
+    pub country: L45,
+    /// The manager's names, where one is set.
+    pub manager: Option<PersonName>,
+    /// The sum of the payments that name a rental, in cents.
+    pub total: u64,
+}
+
+/// What a branch has taken for rentals of a category's films.
+#[derive(Drop)]
+pub struct CategoryRow {
+    /// The category's name.
+    pub category: T45,
+    /// The sum of the payments for rentals of its films, in cents.
+    pub total: u64,
+}
+
+/// The manager's whole name, empty where none is set.
+fn manager_name(alloc: Global, manager: &Option<PersonName>) -> Result<String, AllocError>
+    ensures { IfOk result (λ s. string_bytes s ≡ manager_text manager.now) }
+{
+    match manager {
+        Some(name) => full_name(alloc, name.first.as_str(), name.last.as_str()),
+        None => Ok(String::new(alloc)),
+    }
+}
+
+/// The branch by that text of the place and the manager's whole name.
+fn store_object<'a>(
+    alloc: Global,
+    store: &'a str,
+    manager: &'a str,
+    total: u64,
+) -> Result<Value, AllocError>
+    ensures { IfOk result (λ v. view v ≡ store_data (record { store = store.now; manager = manager.now; total = total })) }
+{
+    object_of(
+        alloc,
+        &[
+            Field::Text("manager", manager),
+            Field::Text("store", store),
+            Field::Number("total", total),
+        ],
+    )
+}
+
+fn store_value(alloc: Global, row: &StoreRow) -> Result<Value, AllocError>
+    ensures { IfOk result (λ v. view v ≡ store_data (seen_store row.now)) }
+{
+    let store = with_between(alloc, row.city.as_str(), ",", row.country.as_str())?;
+    let manager = manager_name(alloc, &row.manager)?;
+    store_object(alloc, store.as_str(), manager.as_str(), row.total)
+}
+
+/// The row of `sales_by_store`, as an object.
+pub fn store_row(alloc: Global, row: &StoreRow) -> Result<Value, AllocError>
+    ensures value { IfOk result (λ v. view v ≡ store_data (seen_store row.now)) }
+    ensures text { IfOk result (λ v. compact_text (view v) ≡ listed_store (seen_store row.now)) }
+    ensures no_float { IfOk result (λ v. has_float (view v) ≡ false) }
+{
+    store_value(alloc, row)
+}
+
+fn category_value(alloc: Global, row: &CategoryRow) -> Result<Value, AllocError>
+    ensures { IfOk result (λ v. view v ≡ category_data (seen_category row.now)) }
+{
+    object_of(
+        alloc,
+        &[
+            Field::Text("category", row.category.as_str()),
+            Field::Number("total", row.total),
+        ],
+    )
+}
+
+/// A row of `sales_by_film_category`, as an object.
+pub fn category_row(alloc: Global, row: &CategoryRow) -> Result<Value, AllocError>
+    ensures value { IfOk result (λ v. view v ≡ category_data (seen_category row.now)) }
+    ensures text { IfOk result (λ v. compact_text (view v) ≡ listed_category (seen_category row.now)) }
+    ensures no_float { IfOk result (λ v. has_float (view v) ≡ false) }
+{
+    category_value(alloc, row)
+}
