@@ -67,18 +67,26 @@ fn line(
     Ok(Line { db, act })
 }
 
+/// The line that the words are, without the program's name. Where they are none it is `Usage::Words`, with the text that tells how they are to be given, and
+/// where memory is wanting `Usage::Memory`. `docs/REQUESTS.md` has the words.
+pub fn read_words(alloc: Global, words: &[String]) -> Result<Line, Usage>
+    ensures ok { IfOk result (λ line. line_of (map string_bytes words.now) ≡ Some (seen_line line)) }
+    ensures refused { IfErr result (λ e. ¬ (e ≡ usage.Memory) → line_of (map string_bytes words.now) ≡ None) }
+{
+    let matches = match matches(alloc, words) {
+        Ok(matches) => matches,
+        Err(error) => return Err(refused(alloc, &error)),
+    };
+    let Some((name, inner)) = matches.subcommand() else {
+        return Err(given::unread(alloc));
+    };
+    line(alloc, &matches, name, inner)
+}
+
 impl OfficeWords for ClapWords {
     ghost meaning = { λ _ words. line_of words };
 
     fn read(&self, words: &[String]) -> Result<Line, Usage> {
-        let alloc = self.alloc;
-        let matches = match matches(alloc, words) {
-            Ok(matches) => matches,
-            Err(error) => return Err(refused(alloc, &error)),
-        };
-        let Some((name, inner)) = matches.subcommand() else {
-            return Err(given::unread(alloc));
-        };
-        line(alloc, &matches, name, inner)
+        read_words(self.alloc, words)
     }
 }

@@ -7,4 +7,4 @@ mod commands;
 mod given;
 mod options;
 
-pub use clap_words::ClapWords;
+pub use clap_words::{ClapWords, read_words};

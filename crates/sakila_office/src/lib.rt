@@ -8,5 +8,6 @@ mod program;
 mod replays;
 mod serving;
 
+pub use office_words::{ClapWords, read_words};
 pub use program::run;
 pub use serving::serve_listener;

@@ -10,8 +10,8 @@ ghost use Rattle.sakila_office.specs.Program.{Performs};
 use crate::commands::{make, migrate, put, serve_in};
 use crate::printing::{tell, tell_misplaced, tell_usage};
 use crate::replays::replay;
-use office_words::ClapWords;
-use shop_types::{Line, LineAct, OfficeWords, Refusal, Reply, Request, Usage};
+use office_words::read_words;
+use shop_types::{Line, LineAct, Refusal, Reply, Request, Usage};
 use sqlite_disk::Disk;
 use sqlite_std_file::File;
 use std::io::{Read, Write};
@@ -112,8 +112,7 @@ pub fn run<R: Read, W: Write, E: Write>(
         (R.remaining reader.old) (R.remaining reader.new) (W.contents out.old) (W.contents out.new) (E.contents err.old) (E.contents err.new) }
     ensures quiet { IsQuiet result (E.contents err.old) (E.contents err.new) }
 {
-    let reader_of_words = ClapWords { alloc: rt.alloc() };
-    match reader_of_words.read(words) {
+    match read_words(rt.alloc(), words) {
         Ok(line) => perform(rt, line, reader, out, err),
         Err(Usage::Words(text)) => tell_usage(text.as_str(), err),
         Err(Usage::Memory) => tell(&Reply::refused(Refusal::Memory), out, err),

@@ -3,7 +3,7 @@ use Rattle.std.proofs.lemmas.Result.{IfOk-weaker, IfErr-weaker}
 use Rattle.office_words.specs.Given.{values_of}
 use Rattle.office_words.specs.Line.{line_of, line_from}
 use Rattle.office_words.proofs.LineLemmas.{faulty, taken, entered, not_entered}
-use Rattle.office_words.proofs.clap_words.ClapWordsOfficeWords.read.Goals as goal
+use Rattle.office_words.proofs.clap_words.read_words.Goals as goal
 
 pub returns-in-Err-clause-refused : goal.returns-in-Err-clause-refused
 returns-in-Err-clause-refused c = λ told. elim c.in-Err.ensures.fails [
