@@ -6,8 +6,12 @@ use Rattle.sqlite_trees.specs.declared.store.Store.{Ghosts}
 use Rattle.sqlite.specs.Held.{Held, state}
 use Rattle.sqlite.specs.State.{HasCleanDisk, Survives}
 use Rattle.sql_rows.specs.declared.fault.StoreFault.{StoreFault}
-use Rattle.sql_rows.specs.declared.fault.StoreFault.TheVariants.{Failed}
+use Rattle.sql_rows.specs.declared.fault.StoreFault.TheVariants.{Memory, Size, Failed}
+use Rattle.shop_model.specs.Answers.{problem_answer}
+use Rattle.shop_model.specs.Histories.{is_store_failure}
+use Rattle.shop_model.proofs.Histories.{memory_failure, size_failure, failed_failure}
 use Rattle.shop_types.specs.declared.refusal.Refusal.TheVariants.{StoreFailed}
+use Rattle.shop_types.specs.Seen.{seen_refusal}
 use Rattle.chain_calls.specs.Holding.{Chained, holding}
 use Rattle.chain_calls.specs.Chains.{Takes}
 use Rattle.chain_calls.specs.Steps.{IsUndone}
@@ -30,6 +34,20 @@ stays_failed {S} old conn fault was same =
     let still : old.is_failed ≡ (old.is_failed || is_final fault) = was ∙ sym (rw was refl) in
     let first : old ≡ record { limits = old.limits; is_failed = old.is_failed || is_final fault; films = old.films; callers = old.callers; conn = old.conn } = subst (λ (b : Bool). old ≡ record { limits = old.limits; is_failed = b; films = old.films; callers = old.callers; conn = old.conn }) still refl in
     subst (λ (h : Held S). record { limits = old.limits; is_failed = old.is_failed || is_final fault; films = old.films; callers = old.callers; conn = h } ≡ old) (sym same) (sym first)
+
+was_none : (b : Bool) → (b ≡ true → ⊥) → (b || false) ≡ false
+was_none true isnt = absurd (isnt refl)
+was_none false isnt = refl
+
+is_either : (b : Bool) → (b || true) ≡ true
+is_either true = refl
+is_either false = refl
+
+-- a chain has failed behind a fault exactly where that is told as the store's failure
+pub fails_by : (was : Bool) (fault : StoreFault) → (was ≡ true → fault ≡ Failed) → (was || is_final fault) ≡ is_store_failure (problem_answer (seen_refusal (refusal_for fault)))
+fails_by was Memory only = was_none was (λ is. let no : Memory ≡ Failed = only is in cc) ∙ sym memory_failure
+fails_by was Size only = was_none was (λ is. let no : Size ≡ Failed = only is in cc) ∙ sym size_failure
+fails_by was Failed only = is_either was ∙ sym failed_failure
 
 -- and it goes on to answer that it has failed
 refuses_failed : {S : Type 0} (g : Ghosts S) (chain : Chained S) → chain.is_failed ≡ true → Takes g chain chain (IsStoreRefusal StoreFailed)
@@ -57,6 +75,9 @@ module _ {S A : Type 0} (g : Ghosts S) (old self new : Chained S) (conn : Held S
 
   pub stays_refused : self.is_failed ≡ true → (new ≡ self) × (refusal_for fault ≡ StoreFailed)
   stays_refused was = let it = old_refused (ap (λ (x : Chained S). x.is_failed) is ∙ was) in (it.0 ∙ is, it.1)
+
+  pub refused_fails : new.is_failed ≡ is_store_failure (problem_answer (seen_refusal (refusal_for fault)))
+  refused_fails = ap (λ (x : Chained S). x.is_failed) told ∙ fails_by old.is_failed fault (λ was. (failed was).1)
 
   pub look_refused : (HasCleanDisk (state g conn) → HasCleanDisk (state g old.conn)) → (HasCleanDisk (state g conn) → IsUndone (state g old.conn) (state g conn))
       → Takes g self new (IsStoreRefusal (refusal_for fault))

@@ -10,5 +10,6 @@ pub use Rattle.chain_calls.specs.Openings
 pub use Rattle.chain_calls.specs.Reports
 pub use Rattle.chain_calls.specs.Audits
 pub mod Leaving
+pub mod Failing
 pub mod Laws
 pub mod Resumes

@@ -13,11 +13,13 @@ ghost use Rattle.shop_types.specs.Seen.{seen_caller, seen_office_ask, seen_reque
 ghost use Rattle.shop_types.specs.Replies.{seen_reply};
 ghost use Rattle.chain_caches.specs.Callers.{AreCallers};
 ghost use Rattle.chain_calls.specs.Chains.{IsAt, Takes, Answers, AnswersEvent, Runs, event_of};
+ghost use Rattle.chain_engine.specs.Failing.{is_failure};
 ghost use Rattle.chain_engine.specs.Leaving.{LeavesNoMore};
 ghost use Rattle.chain_calls.specs.Steps.{IsKnownFor, asker, asked_of};
 ghost use Rattle.chain_calls.specs.Audits.{AuditsState};
 ghost use Rattle.chain_calls.specs.Decisions.{FindsAudit, FindsCaller, IsOfStore, refusal_for, is_final};
 ghost use Rattle.shop_model.specs.Answers.{problem_answer};
+ghost use Rattle.shop_model.specs.Histories.{is_store_failure};
 ghost use Rattle.shop_model.specs.Refusals.{StoreFailed};
 
 use chain_caches::{CallerCache, FilmCache};
@@ -59,8 +61,8 @@ impl Chain<MemStore> {
     /// A chain in memory with head office's token and no shared row. Where there is none, memory or room is wanting, or the store has failed.
     pub fn memory(
         alloc: Global,
-        office: &Token,
         limits: Limits,
+        office: &Token,
     ) -> Result<Chain<MemStore>, OpenFault>
         ensures made { IfOk result (λ chain. (chain.limits ≡ limits) × (chain.is_failed ≡ false)
             × IsAt over_memory chain (first_books office.now) (first_books office.now)) }
@@ -120,12 +122,13 @@ impl<S: Alter> Chain<S> {
         self.films.len()
     }
 
-    /// The caller whose token it is, or the refusal that the store gives instead: `Memory`, `Size` or `StoreFailed`. What a crash may find stays as it was,
-    /// whatever the tables are.
+    /// The caller whose token it is, or the refusal that the store gives instead: `Memory`, `Size` or `StoreFailed`, the last exactly where the chain has failed
+    /// then. What a crash may find stays as it was, whatever the tables are.
     pub fn caller(&mut self, token: &Token) -> Result<Caller, Refusal>
         ensures taken { Takes S.Store self.old self.new (FindsCaller token.now result) }
         ensures refused { IfErr result IsOfStore }
         ensures left { LeavesNoMore (state S.Store self.old.conn) (state S.Store self.new.conn) }
+        ensures fails { self.new.is_failed ≡ is_failure result }
         ensures failed { self.old.is_failed ≡ true → (self.new ≡ self.old) × (result ≡ Err Refusal.StoreFailed) }
     {
         if let Some(caller) = self.remembered(token) {
@@ -151,13 +154,14 @@ impl<S: Alter> Chain<S> {
         self.callers.known(token)
     }
 
-    /// What an audit says of the tables, whatever they hold, or the refusal that the store gives instead: `Memory`, `Size` or `StoreFailed`. What a crash may
-    /// find stays as it was. It reads all tables: its time is that of sorting their rows, and its memory that of keeping them.
+    /// What an audit says of the tables, whatever they hold, or the refusal that the store gives instead: `Memory`, `Size` or `StoreFailed`, the last exactly where
+    /// the chain has failed then. What a crash may find stays as it was. It reads all tables: its time is that of sorting their rows, and its memory that of keeping them.
     pub fn audit(&mut self) -> Result<Audit, Refusal>
         ensures told { HasCleanDisk (state S.Store self.new.conn) → IfOk result (AuditsState (state S.Store self.old.conn)) }
         ensures taken { Takes S.Store self.old self.new (FindsAudit result) }
         ensures refused { IfErr result IsOfStore }
         ensures left { LeavesNoMore (state S.Store self.old.conn) (state S.Store self.new.conn) }
+        ensures fails { self.new.is_failed ≡ is_failure result }
         ensures failed { self.old.is_failed ≡ true → (self.new ≡ self.old) × (result ≡ Err Refusal.StoreFailed) }
     {
         match audit_unless_failed(self.alloc, self.is_failed, &mut self.conn) {
@@ -170,6 +174,7 @@ impl<S: Alter> Chain<S> {
     /// it was. Once the answer is `StoreFailed`, it is that for good: the chain is to be closed and opened again.
     pub fn answer(&mut self, caller: &Caller, request: &Request) -> Reply
         ensures taken { Takes S.Store self.old self.new (Answers (seen_caller caller.now) (seen_request request.now) (seen_reply result)) }
+        ensures fails { self.new.is_failed ≡ true → is_store_failure (seen_reply result) ≡ true }
         ensures failed { self.old.is_failed ≡ true → (self.new ≡ self.old) × (seen_reply result ≡ problem_answer StoreFailed) }
     {
         if self.is_failed {
@@ -213,6 +218,7 @@ impl<S: Alter> Chain<S> {
     /// Answers a request that comes with a token.
     fn answer_with(&mut self, token: &Token, request: &Request) -> Reply
         ensures taken { Takes S.Store self.old self.new (AnswersEvent (event_of (token.now, request.now)) (seen_reply result)) }
+        ensures fails { self.new.is_failed ≡ true → is_store_failure (seen_reply result) ≡ true }
         ensures failed { self.old.is_failed ≡ true → (self.new ≡ self.old) × (seen_reply result ≡ problem_answer StoreFailed) }
     {
         match self.caller(token) {
@@ -225,7 +231,8 @@ impl<S: Alter> Chain<S> {
     fn answer_asked(&mut self, asked: &Asked<'_>) -> Reply
         requires fine { self.old.is_failed ≡ false }
         requires known { (catalogue : Catalogue) → AreCallers self.old.callers catalogue → IsKnownFor asked.now catalogue }
-        ensures { Takes S.Store self.old self.new (Answers (asker asked.now) (asked_of asked.now) (seen_reply result)) }
+        ensures taken { Takes S.Store self.old self.new (Answers (asker asked.now) (asked_of asked.now) (seen_reply result)) }
+        ensures fails { self.new.is_failed ≡ true → is_store_failure (seen_reply result) ≡ true }
     {
         asked_values(asked);
         limits_fit(self.limits);
@@ -248,7 +255,8 @@ impl<S: Alter> Chain<S> {
     /// Answers a reading of head office, where the store hasn't failed.
     fn answer_office(&mut self, ask: OfficeAsk) -> Reply
         requires { self.old.is_failed ≡ false }
-        ensures { Takes S.Store self.old self.new (Answers HeadOffice (OfficeLook (seen_office_ask ask)) (seen_reply result)) }
+        ensures taken { Takes S.Store self.old self.new (Answers HeadOffice (OfficeLook (seen_office_ask ask)) (seen_reply result)) }
+        ensures fails { self.new.is_failed ≡ true → is_store_failure (seen_reply result) ≡ true }
     {
         limits_fit(self.limits);
         match read_office(self.alloc, &mut self.conn, ask) {

@@ -1,7 +1,9 @@
 -- One connection after another: what the chain ran over in each, it ran over in all.
-use Rattle.std.proofs.Common.{◌≡◌, ◌∙◌, List, [], ◌∷◌, ◌++◌, refl}
+use Rattle.std.proofs.Common.{◌≡◌, ◌∙◌, List, [], ◌∷◌, ◌++◌, refl, ap}
 use Rattle.std.proofs.lemmas.List.{map-append}
 use Rattle.sqlite_trees.specs.declared.store.Store.{Ghosts}
+use Rattle.shop_model.specs.Histories.{is_store_failure}
+use Rattle.shop_model.proofs.Origins.{all_append}
 use Rattle.counter_routes.specs.Words.{Meaning}
 use Rattle.chain_engine.specs.Holding.{Chained, Holding}
 use Rattle.chain_engine.specs.Chains.{Runs}
@@ -23,8 +25,15 @@ pub run_follows : {S : Type 0} {g : Ghosts S} {meaning : Meaning} {old mid new :
 run_follows {S} {g} {meaning} {old} {mid} {new} es more first second = record {
   takes = takes_then first.takes second.takes (λ old mid new x y. both_run meaning old mid new es more x y);
   same = same es more first second;
+  failed = λ was.
+      let one = first.failed was in
+      let two = second.failed (ap (λ (x : Chained S). x.is_failed) one.0 ∙ was) in
+      (two.0 ∙ one.0, rw both (all_append is_store_failure (answers_of es) (answers_of more) one.1 two.1));
 }
   where
+    both : answers_of (es ++ more) ≡ answers_of es ++ answers_of more
+    both = map-append (λ (x : Exchange). x.answer) es more
+
     same : (es more : List Exchange) → RunsOver g meaning old mid es → RunsOver g meaning mid new more → es ++ more ≡ [] → new ≡ old
     same [] more first second none = second.same none ∙ first.same refl
     same (e ∷ es) more first second none = cc

@@ -1,6 +1,6 @@
 -- The messages of a connection and the answers to them.
-use Rattle.std.specs.Prelude.{◌≡◌, ℕ, false, List, [], map}
-use Rattle.std.specs.List.{flat_map}
+use Rattle.std.specs.Prelude.{◌≡◌, ℕ, true, false, List, [], map}
+use Rattle.std.specs.List.{flat_map, list_all}
 use Rattle.http_messages.specs.Message.{Message}
 use Rattle.http_messages.specs.Input.{HasMessages}
 use Rattle.http_messages.specs.Text.{reply_text}
@@ -41,10 +41,12 @@ pub record GoesOn (exchange : Exchange) : Type 0 where
   pub stays : exchange.message.closes ≡ false
   pub sound : is_store_failure exchange.answer ≡ false
 
--- the chain answers the messages, one after another; where none came, it is as it was, whatever its store is
+-- The chain answers the messages, one after another; where none came, it is as it was, whatever its store is. One that had failed is as it was, its connection
+-- to the store too, and each answer is the store's failure, whatever the disk does.
 pub record RunsOver {S : Type 0} (g : Ghosts S) (meaning : Meaning) (old new : Chained S) (exchanges : List Exchange) : Type 0 where
   pub takes : Takes g old new (Runs (events_of meaning exchanges) (answers_of exchanges))
   pub same : exchanges ≡ [] → new ≡ old
+  pub failed : old.is_failed ≡ true → (new ≡ old) × (list_all is_store_failure (answers_of exchanges) ≡ true)
 
 -- What was read begins with the messages of the exchanges, and then a rest that isn't answered; and `Ran` is so of the exchanges. What is said of the bytes
 -- doesn't wait for a disk that gives back what was written.

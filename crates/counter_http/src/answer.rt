@@ -1,8 +1,9 @@
 //! One message and its answer.
-ghost use Rattle.std.specs.Prelude.{◌≡◌};
+ghost use Rattle.std.specs.Prelude.{◌≡◌, true};
 ghost use Rattle.http_messages.specs.Shown.{message_of};
 ghost use Rattle.shop_types.specs.Replies.{seen_reply};
 ghost use Rattle.shop_model.specs.Books.{Books};
+ghost use Rattle.shop_model.specs.Histories.{is_store_failure};
 ghost use Rattle.chain_engine.specs.Holding.{holding};
 ghost use Rattle.chain_engine.specs.Chains.{Takes};
 ghost use Rattle.shop_types.specs.Seen.{seen_caller};
@@ -28,7 +29,8 @@ fn token_of(message: &Request<'_>) -> Option<Token>
 
 /// The chain's reply to somebody who sent no token, whatever is asked.
 fn answer_nobody<S: Alter>(chain: &Chain<S>) -> Reply
-    ensures { (books besides : Books) → AnswersNobody (seen_reply result) (holding chain.now books besides) (holding chain.now books besides) }
+    ensures answered { (books besides : Books) → AnswersNobody (seen_reply result) (holding chain.now books besides) (holding chain.now books besides) }
+    ensures failed { chain.now.is_failed ≡ true → is_store_failure (seen_reply result) ≡ true }
 {
     if chain.is_failed() {
         Reply::refused(Refusal::StoreFailed)
@@ -53,7 +55,8 @@ fn answer_read<S: Alter>(
     }
 }
 
-/// The chain's reply to a message. Who sent it is looked for before what it asks, and what the store lacks is answered as such.
+/// The chain's reply to a message. Who sent it is looked for before what it asks, and what the store lacks is answered as such. A chain that has failed stays as
+/// it is: its store isn't asked.
 pub fn answer<O: OfficeWords, S: Alter>(
     alloc: Global,
     chain: &mut Chain<S>,
@@ -61,7 +64,8 @@ pub fn answer<O: OfficeWords, S: Alter>(
     words: &O,
     message: &Request<'_>,
 ) -> Reply
-    ensures { Takes S.Store chain.old chain.new (AnswersMessage (O.meaning words.now) (message_of message.now) (seen_reply result)) }
+    ensures taken { Takes S.Store chain.old chain.new (AnswersMessage (O.meaning words.now) (message_of message.now) (seen_reply result)) }
+    ensures failed { chain.old.is_failed ≡ true → (chain.new ≡ chain.old) × (is_store_failure (seen_reply result) ≡ true) }
 {
     let Some(token) = token_of(message) else {
         return answer_nobody(chain);

@@ -49,6 +49,7 @@ pub enum ServeFault {
 /// Reads requests and writes the replies to them, until the input or the connection ends, or `max_requests` are answered; with 0 nothing is read.
 /// However the reader cuts its bytes, the replies are those to the messages of what it gives, in order.
 /// The memory for the connection is taken before the first byte is read. `words` reads the words that head office sends.
+/// Over a chain that has failed each reply is `store_failed`, and its store isn't asked.
 pub fn serve<R: Read, W: Write, O: OfficeWords, S: Alter>(
     alloc: Global,
     reader: &mut R,

@@ -32,7 +32,7 @@ fn new_chain(alloc: Global) -> Result<(), Fault> {
     ) else {
         return Err(NO_VALUE);
     };
-    let Ok(mut chain) = Chain::memory(alloc, &office, Limits::default()) else {
+    let Ok(mut chain) = Chain::memory(alloc, Limits::default(), &office) else {
         return Err(Fault::Line("the chain isn't made"));
     };
     knows_office_alone(&mut chain, &office, &branch)

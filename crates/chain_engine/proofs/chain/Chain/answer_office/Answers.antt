@@ -1,6 +1,8 @@
 use Rattle.std.proofs.Common.{◌≡◌, ◌∙◌, refl, sym, ap, subst, arith, false}
+use Rattle.std.proofs.lemmas.Bool.{false≢true}
 use Rattle.sqlite.specs.Held.{state}
 use Rattle.shop_model.specs.Answers.{problem_answer}
+use Rattle.shop_model.specs.Histories.{is_store_failure}
 use Rattle.shop_model.specs.Books.{HeadOffice}
 use Rattle.shop_model.specs.Machine.{Request, OfficeLook}
 use Rattle.shop_types.specs.Seen.{seen_office_ask, seen_refusal}
@@ -11,10 +13,11 @@ use Rattle.chain_calls.specs.Steps.{IsHeldWith}
 use Rattle.chain_calls.specs.Decisions.{refusal_for, is_final}
 use Rattle.chain_calls.proofs.Requests.{came, unmade}
 use Rattle.chain_calls.proofs.Asking.{office_read, office_unread}
+use Rattle.chain_engine.proofs.Failing.{fails_by}
 use Rattle.chain_engine.proofs.chain.Chain.answer_office.Goals as goal
 
-pub returns-in-Ok : goal.returns-in-Ok
-returns-in-Ok g c =
+pub returns-in-Ok-clause-taken : goal.returns-in-Ok-clause-taken
+returns-in-Ok-clause-taken g c =
     let inside = c.self.inside in
     let old : Chained _ = record { limits = inside.limits; is_failed = inside.is_failed; films = inside.films; callers = inside.callers; conn = inside.conn } in
     let new : Chained _ = record { limits = inside.limits; is_failed = inside.is_failed; films = inside.films; callers = inside.callers; conn = c.read_office.new.conn } in
@@ -25,8 +28,8 @@ returns-in-Ok g c =
     (came g.S.Store old new refl refl fine HeadOffice request (IsHeldWith inside.films) (λ books held films callers. (held, films)) tt tt c.limits_fit.ensures.commands c.limits_fit.ensures.copies (seen_reply c.in-Ok.reply) fine (λ now. omega (arith, now, c.in-Ok.ensures.crash.clean))
     (λ now. office_read inside.limits c.args.ask (seen_reply c.in-Ok.reply) inside.films (state g.S.Store inside.conn) (state g.S.Store c.read_office.new.conn) (c.in-Ok.ensures.told now) (c.in-Ok.ensures.same now)))
 
-pub returns-in-Err : goal.returns-in-Err
-returns-in-Err g c =
+pub returns-in-Err-clause-taken : goal.returns-in-Err-clause-taken
+returns-in-Err-clause-taken g c =
     let inside = c.self.inside in
     let old : Chained _ = record { limits = inside.limits; is_failed = inside.is_failed; films = inside.films; callers = inside.callers; conn = inside.conn } in
     let is : old ≡ c.args.self.now = c.self.view_is in
@@ -39,3 +42,19 @@ returns-in-Err g c =
     (λ now. office_unread inside.limits c.args.ask c.in-Err.fault inside.films (state g.S.Store inside.conn) (state g.S.Store c.read_office.new.conn) (c.in-Err.ensures.same now)) in
     rw tells (subst (λ x. Takes g.S.Store c.args.self.now x (Answers HeadOffice request (problem_answer (seen_refusal (refusal_for c.in-Err.fault))))) so
     (subst (λ x. Takes g.S.Store x new (Answers HeadOffice request (problem_answer (seen_refusal (refusal_for c.in-Err.fault))))) is taken))
+
+pub returns-in-Ok-clause-fails : goal.returns-in-Ok-clause-fails
+returns-in-Ok-clause-fails g c now =
+    let inside = c.self.inside in
+    let is : record { limits = inside.limits; is_failed = inside.is_failed; films = inside.films; callers = inside.callers; conn = inside.conn } ≡ c.args.self.now = c.self.view_is in
+    let fine : inside.is_failed ≡ false = ap (λ (x : Chained _). x.is_failed) is ∙ c.requires in
+    absurd (false≢true (sym fine ∙ now))
+
+pub returns-in-Err-clause-fails : goal.returns-in-Err-clause-fails
+returns-in-Err-clause-fails g c now =
+    let inside = c.self.inside in
+    let is : record { limits = inside.limits; is_failed = inside.is_failed; films = inside.films; callers = inside.callers; conn = inside.conn } ≡ c.args.self.now = c.self.view_is in
+    let fine : inside.is_failed ≡ false = ap (λ (x : Chained _). x.is_failed) is ∙ c.requires in
+    let tells = c.refused.ensures ∙ ap (λ r. problem_answer (seen_refusal r)) c.refusal.ensures.told in
+    let says : c.refusal.new.self.is_failed ≡ is_store_failure (seen_reply c.refused.result) = ap (λ (x : Chained _). x.is_failed) c.refusal.ensures.failed ∙ fails_by inside.is_failed c.in-Err.fault (λ was. absurd (false≢true (sym fine ∙ was))) ∙ sym (ap is_store_failure tells) in
+    sym says ∙ now

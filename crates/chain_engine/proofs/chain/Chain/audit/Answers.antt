@@ -6,7 +6,7 @@ use Rattle.chain_calls.specs.Chains.{Takes}
 use Rattle.chain_calls.specs.Audits.{AuditsState}
 use Rattle.chain_calls.specs.Decisions.{FindsAudit}
 use Rattle.chain_calls.proofs.Requests.{audited}
-use Rattle.chain_engine.proofs.Failing.{is_live, leaves_no_more, stays_refused, look_refused, refused_leaves}
+use Rattle.chain_engine.proofs.Failing.{is_live, leaves_no_more, stays_refused, look_refused, refused_fails, refused_leaves}
 use Rattle.chain_engine.proofs.chain.Chain.audit.Goals as goal
 
 pub returns-in-Ok-clause-told : goal.returns-in-Ok-clause-told
@@ -39,3 +39,10 @@ returns-in-Ok-clause-left g c = leaves_no_more g.S.Store _ _ c.audit_unless_fail
 
 pub returns-in-Err-clause-left : goal.returns-in-Err-clause-left
 returns-in-Err-clause-left g c = refused_leaves g.S.Store _ _ _ c.audit_unless_failed.new.conn _ c.self.view_is c.refusal.ensures.failed c.in-Err.ensures.failed c.in-Err.ensures.crash
+
+pub returns-in-Ok-clause-fails : goal.returns-in-Ok-clause-fails
+returns-in-Ok-clause-fails g c = is_live c.self.inside.is_failed c.in-Ok.audit Failed c.in-Ok.ensures.failed
+
+pub returns-in-Err-clause-fails : goal.returns-in-Err-clause-fails
+returns-in-Err-clause-fails g c =
+    rw c.refusal.ensures.told (refused_fails g.S.Store _ _ _ c.audit_unless_failed.new.conn _ c.self.view_is c.refusal.ensures.failed c.in-Err.ensures.failed)

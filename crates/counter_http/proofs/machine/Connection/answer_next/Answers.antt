@@ -4,7 +4,7 @@ use Rattle.http_messages.specs.Shown.{message_of}
 use Rattle.shop_types.specs.Replies.{seen_reply}
 use Rattle.counter_http.specs.Exchanges.{Exchange}
 use Rattle.counter_http.specs.Served.{IsRefused}
-use Rattle.counter_http.proofs.Runs.{run_starts, run_grows}
+use Rattle.counter_http.proofs.Runs.{run_starts, run_one}
 use Rattle.counter_http.proofs.Turns.{refused_is, drop_near, turn_none, turn_answer, turn_refusal}
 use Rattle.counter_http.proofs.machine.Connection.answer_next.Goals as goal
 
@@ -16,7 +16,7 @@ returns-in-Whole-clause-turn g c = λ input output.
     let e : Exchange = record { message = message_of c.in-Whole.request; answer = seen_reply c.answer-reply.result } in
     let near = drop_near c.in-Whole.len c.self.inside.inbox c.self.invariant.1 in
     rw (← c.self.view_is) (turn_answer _ _ _ input output e empty live (rw c.consume.ensures has) (rw c.consume.ensures near) c.put.ensures refl refl
-    (c.ending_of-self-inside.ensures e input _ c.after_reply-after.ensures) (run_grows e c.answer-reply.ensures [] run_starts))
+    (c.ending_of-self-inside.ensures e input _ c.after_reply-after.ensures) (run_one e c.answer-reply.ensures.taken c.answer-reply.ensures.failed))
 
 pub returns-in-More-clause-turn : goal.returns-in-More-clause-turn
 returns-in-More-clause-turn g c = λ input output.
