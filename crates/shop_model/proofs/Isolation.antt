@@ -15,6 +15,7 @@ use Rattle.shop_model.specs.Laws.{BranchesAreAlone, BranchesAreIsolated}
 use Rattle.shop_model.proofs.RowLemmas.{same_if, same_test}
 use Rattle.shop_model.proofs.ShopLemmas.{done_own, done_other, with_arrivals}
 use Rattle.shop_model.proofs.NumberLemmas.{after_numbers}
+use Rattle.shop_model.proofs.SameStates.{told_same}
 
 -- ---- verdicts
 
@@ -191,5 +192,9 @@ alone rules look (event ∷ events) books b has =
     }
 
 pub isolated : BranchesAreIsolated
-isolated rules look look' events events' books books' b has has' state views =
-    (alone rules look events books b has).replies ∙ rw (state, views) (sym (alone rules look' events' books' b has').replies)
+isolated rules look look' events events' books books' b has has' same views =
+    let seen = view rules b events' books' in
+    (alone rules look events books b has).replies
+    ∙ ap (λ (inputs : List Input). replies rules b inputs (state_of b books)) views
+    ∙ (told_same rules b seen (state_of b books) (state_of b books') same).replies
+    ∙ sym (alone rules look' events' books' b has').replies

@@ -2,6 +2,8 @@ pub mod RowLemmas
 pub mod FoundLemmas
 pub mod ShopLemmas
 pub mod NumberLemmas
+pub mod Reordered
+pub mod SameStates
 pub mod Isolation
 pub mod CustodyLemmas
 pub mod GoodShops

@@ -5,13 +5,14 @@ use Rattle.shop_model.specs.Values.{Text, OfficeAsk, OfficeCommand, Rules, Comma
 use Rattle.shop_model.specs.Refusals.{Refusal, Full, KeyUsed, refusal_number}
 use Rattle.shop_model.specs.Shop.{Shop}
 use Rattle.shop_model.specs.Verdict.{Verdict, verdict, office_verdict, Again, Refused, Accepted, first, refusals, office_refusals}
-use Rattle.shop_model.specs.Machine.{reply_text, office_text, office_done, Reply, replies, state_after}
+use Rattle.shop_model.specs.Machine.{reply_text, office_text, office_done, Reply, Input, State, replies, state_after}
 use Rattle.shop_model.specs.Books.{book_done, Books, Mark, Event, shop_of, run, last_books, replies_to, view, state_of, caller_of, known_caller}
 use Rattle.shop_model.specs.Sound.{is_mark, HasNumbers, HasOrigins, HasOneHolder, IsInCustody, IsSound, opening, made, places}
 use Rattle.shop_model.specs.Shop.{Catalogue}
 use Rattle.shop_model.specs.Repeats.{are_new, marked_ones}
 use Rattle.shop_model.specs.Stock.{keeps_out}
 use Rattle.shop_model.specs.Links.{IsGoodCatalogue}
+use Rattle.shop_model.specs.SameStates.{SameState, IsReordered}
 use Rattle.shop_model.specs.Opening.{empty_catalogue, opening_books}
 
 -- each branch is told what its own machine says on its view, and is left in that machine's state
@@ -22,11 +23,23 @@ pub record IsAlone (rules : Rules) (look : OfficeAsk → Books → Reply) (event
 abbrev pub BranchesAreAlone : Type 0
 BranchesAreAlone = (rules : Rules) (look : OfficeAsk → Books → Reply) (events : List Event) (books : Books) (b : ℕ) → HasNumbers books → IsAlone rules look events books b
 
--- two histories of which a branch sees the same, from books that agree on the catalogue and on its shop, send it the same
+-- whatever reaches a branch in the one state and in the other, it is told the same, and the states stay the same
+pub record IsToldTheSame (rules : Rules) (b : ℕ) (inputs : List Input) (one other : State) : Type 0 where
+  pub replies : replies rules b inputs one ≡ replies rules b inputs other
+  pub state : SameState (state_after rules b inputs one) (state_after rules b inputs other)
+
+-- The order of maps and sets tells a branch nothing. Equal states are the same, and so are those of which the one has its kept commands, lots and casts in
+-- another order.
+pub record OrderTellsNothing : Type 0 where
+  pub told : (rules : Rules) (b : ℕ) (inputs : List Input) (one other : State) → SameState one other → IsToldTheSame rules b inputs one other
+  pub equal : (one other : State) → one ≡ other → SameState one other
+  pub reordered : (one other : State) → IsReordered one other → SameState one other
+
+-- two histories of which a branch sees the same, from books in which the catalogue and its shop are the same to it, send it the same
 abbrev pub BranchesAreIsolated : Type 0
 BranchesAreIsolated =
     (rules : Rules) (look look' : OfficeAsk → Books → Reply) (events events' : List Event) (books books' : Books) (b : ℕ) → HasNumbers books → HasNumbers books'
-    → state_of b books ≡ state_of b books' → view rules b events books ≡ view rules b events' books'
+    → SameState (state_of b books) (state_of b books') → view rules b events books ≡ view rules b events' books'
     → replies_to b (run rules look events books) ≡ replies_to b (run rules look' events' books')
 
 -- books that are sound stay sound, whatever is asked

@@ -18,6 +18,7 @@ pub mod Opening
 pub mod Histories
 pub mod Repeats
 pub mod Resends
+pub mod SameStates
 pub mod Laws
 pub mod Stops
 pub mod Migration

@@ -11,6 +11,7 @@ ghost use Rattle.shop_model.specs.Laws.{
   OfficeResentIsAgain,
   OpeningBooksAreSound,
   OpeningIsSound,
+  OrderTellsNothing,
   RefusalsAreInOrder,
   RepeatsChangeNothing,
   ResentIsAgain,
@@ -26,7 +27,14 @@ pub fn branches_are_alone()
     ensures { BranchesAreAlone }
 {}
 
-/// Two histories of which a branch sees the same, from books in which it has the same, send it the same.
+/// In which order commands were kept, lots came and actors were cast tells a branch nothing: where it finds the same under each key, the same lots and the same
+/// casts, and all else is equal, it is told the same, whatever reaches it.
+#[tactic(auto, using(crate::proofs::SameStates::order_tells_nothing))]
+pub fn order_tells_nothing()
+    ensures { OrderTellsNothing }
+{}
+
+/// Two histories of which a branch sees the same, from books in which it has the same, in whatever order, send it the same.
 #[tactic(auto, using(crate::proofs::Isolation::isolated))]
 pub fn branches_are_isolated()
     ensures { BranchesAreIsolated }

@@ -1,0 +1,287 @@
+-- In states that are the same but for the order of maps and sets a branch is told the same, and each step leaves such states.
+use Rattle.std.proofs.Common.{◌≡◌, inl, inr, ℕ, ◌+◌, List, [], ◌∷◌, ◌++◌, length, filter, find, Bool, true, false, Option, None, Some, refl, sym, ap, ap₂, subst, ◌∙◌, arith, length-append}
+use mathlib.Core.Path.{fun_ext}
+use Rattle.std.specs.Prelude.{◌==◌, ◌&&◌, ◌||◌, nat_lt, nat_le, not, if◌then◌else◌, codes, map}
+use Rattle.std.specs.Option.{option_or}
+use Rattle.std.specs.Str.{bytes_eq}
+use Rattle.std.specs.List.{list_any, join_by}
+use Rattle.std.proofs.lemmas.Bool.{cases_Bool}
+use Rattle.std.proofs.lemmas.List.Folds.{find-append, list_any-append}
+use Rattle.shop_model.specs.Rows.{at, is_empty, lacks, numbered}
+use Rattle.shop_model.specs.Calendar.{Moment, month_before}
+use Rattle.shop_model.specs.Values.{Text, Actor, Film, Cast, Act, AddCustomer, Import, Command, OfficeAct, AddCountry, AddCast, OfficeCommand, View, FilmList, ActorInfo, Ask, Rewards, OneView, Stock, Copies, BadLine, Rules}
+use Rattle.shop_model.specs.Refusals.{Refusal, KeyUsed, Full, MomentBack, NoStaff, NoFilm, FilmWithdrawn, LotIn, BadCsv, NoSharedRow, Already, BadThreshold}
+use Rattle.shop_model.specs.Shop.{Kept, OfficeKept, Catalogue, Shop, same_command, same_office}
+use Rattle.shop_model.specs.Stock.{rewarded_in}
+use Rattle.shop_model.specs.Views.{sorted_by, is_before_text, full_name, is_cast, FilmRow, film_row, film_list, categories_by_name, ActorRow, actor_row, actor_info}
+use Rattle.shop_model.specs.Verdict.{Verdict, Again, Refused, Accepted, first, staff_is, is_film_withdrawn, new_copies, is_full, import_refusals, act_refusals, is_before, refusals, resent, verdict, office_refusals, office_resent, office_verdict}
+use Rattle.shop_model.specs.Json.{object}
+use Rattle.shop_model.specs.Machine.{acted, told, reply_text, done, office_acted, office_told, office_text, office_done, Request, Do, Look, Shown, CustomersAre, FilmsListed, ActorsListed, Reply, Sorry, Shows, view_rows, look, reply_by, reply_to, if_accepted, State, Input, FromOffice, Arrive, Own, shop_after, catalogue_after, moved, answers}
+use Rattle.shop_model.specs.SameStates.{rest_of_shop, rest_of_catalogue, SameShop, SameCatalogue, SameState}
+use Rattle.shop_model.specs.Laws.{IsToldTheSame, OrderTellsNothing}
+use Rattle.shop_model.proofs.Reordered.{reordered_same}
+
+-- ---- maps and sets that grow
+
+-- what is found of a row more
+found_more : {A : Type 0} (p : A → Bool) (xs ys : List A) (x y : A) → x ≡ y → find p xs ≡ find p ys → find p (xs ++ x ∷ []) ≡ find p (ys ++ y ∷ [])
+found_more {A} p xs ys x y same e =
+    find-append p xs (x ∷ []) ∙ ap₂ (λ (o : Option A) (z : A). option_or o (find p (z ∷ []))) e same ∙ sym (find-append p ys (y ∷ []))
+
+any_more : {A : Type 0} (p : A → Bool) (xs ys : List A) (x : A) → list_any p xs ≡ list_any p ys → list_any p (xs ++ x ∷ []) ≡ list_any p (ys ++ x ∷ [])
+any_more p xs ys x e = list_any-append p xs (x ∷ []) ∙ ap (λ (b : Bool). b || list_any p (x ∷ [])) e ∙ sym (list_any-append p ys (x ∷ []))
+
+as_many : {A : Type 0} (xs ys : List A) (x y : A) → length xs ≡ length ys → length (xs ++ x ∷ []) ≡ length (ys ++ y ∷ [])
+as_many xs ys x y e = let one = length-append xs (x ∷ []) in let other = length-append ys (y ∷ []) in omega (arith, e, one, other)
+
+-- ---- a branch's verdicts
+
+abbrev resent_found : Command → Option Kept → Verdict → Verdict
+resent_found command None fresh = fresh
+resent_found command (Some k) fresh = if same_command k.command command then Again k.reply else Refused KeyUsed
+
+resent_is : (command : Command) (p : Kept → Bool) (kept : List Kept) (fresh : Verdict) → resent command (filter p kept) fresh ≡ resent_found command (find p kept) fresh
+resent_is command p [] fresh = refl
+resent_is command p (k ∷ kept) fresh = elim (cases_Bool (p k)) [
+  | inl is ↦ rw is
+  | inr isnt ↦ rw isnt (resent_is command p kept fresh)
+]
+
+copies_same : (rules : Rules) (act : Act) (s t : Shop) → rest_of_shop s ≡ rest_of_shop t → new_copies rules s act ≡ new_copies rules t act
+copies_same rules (AddCustomer person) s t e = refl
+copies_same rules act s t e = ap (λ (r : Shop). new_copies rules r act) e
+
+full_same : (rules : Rules) (act : Act) (s t : Shop) → SameShop s t → is_full rules s act ≡ is_full rules t act
+full_same rules act s t own =
+    let full : ℕ → ℕ → Shop → Bool = λ keys new r. nat_le rules.commands keys || nat_lt 0 new && nat_lt rules.copies (length r.copies + new) in
+    ap₂ (λ (keys new : ℕ). full keys new s) own.size (copies_same rules act s t own.rest) ∙ ap (λ (r : Shop). full (length t.kept) (new_copies rules t act) r) own.rest
+
+import_same : (lot : Text) (stock : Stock) (c d : Catalogue) (s t : Shop) → SameCatalogue c d → SameShop s t → import_refusals c s lot stock ≡ import_refusals d t lot stock
+import_same lot (Copies films) c d s t shared own =
+    let tests : Catalogue → Bool → List (Refusal × Bool) = λ r is. (FilmWithdrawn, list_any (is_film_withdrawn r) films) ∷ (NoFilm, list_any (lacks r.films) films) ∷ (LotIn, is) ∷ [] in
+    ap₂ tests shared.rest (own.lots lot)
+import_same lot (BadLine line) c d s t shared own =
+    let tests : Bool → List (Refusal × Bool) = λ is. (LotIn, is) ∷ (BadCsv line, true) ∷ [] in
+    ap tests (own.lots lot)
+
+acts_same : (rules : Rules) (b : ℕ) (moment : Moment) (act : Act) (c d : Catalogue) (s t : Shop) → SameCatalogue c d → SameShop s t
+    → act_refusals rules b c s moment act ≡ act_refusals rules b d t moment act
+acts_same rules b moment (Import lot file) c d s t shared own = import_same lot (rules.stock_of file) c d s t shared own
+acts_same rules b moment act c d s t shared own = ap₂ (λ (q : Catalogue) (r : Shop). act_refusals rules b q r moment act) shared.rest own.rest
+
+refusals_same : (rules : Rules) (b : ℕ) (command : Command) (c d : Catalogue) (s t : Shop) → SameCatalogue c d → SameShop s t
+    → refusals rules b c s command ≡ refusals rules b d t command
+refusals_same rules b command c d s t shared own =
+    let tests : Bool → List (Refusal × Bool) → Catalogue → Shop → List (Refusal × Bool) =
+    λ full more q r. (Full, full) ∷ (MomentBack, is_before command.moment r.last) ∷ (NoStaff, not (list_any (staff_is b) (at command.staff q.staff))) ∷ more in
+    ap₂ (λ (full : Bool) (more : List (Refusal × Bool)). tests full more c s) (full_same rules command.act s t own) (acts_same rules b command.moment command.act c d s t shared own)
+    ∙ ap₂ (tests (is_full rules t command.act) (act_refusals rules b d t command.moment command.act)) shared.rest own.rest
+
+verdict_same : (rules : Rules) (b : ℕ) (command : Command) (c d : Catalogue) (s t : Shop) → SameCatalogue c d → SameShop s t
+    → verdict rules b c s command ≡ verdict rules b d t command
+verdict_same rules b command c d s t shared own =
+    let under : Kept → Bool = λ k. bytes_eq k.command.key command.key in
+    resent_is command under s.kept (first (refusals rules b c s command))
+    ∙ ap₂ (λ (found : Option Kept) (tests : List (Refusal × Bool)). resent_found command found (first tests)) (own.kept command.key) (refusals_same rules b command c d s t shared own)
+    ∙ sym (resent_is command under t.kept (first (refusals rules b d t command)))
+
+-- ---- what it does and replies
+
+text_same : (rules : Rules) (act : Act) (s t : Shop) → rest_of_shop s ≡ rest_of_shop t → object (told rules act s) ≡ object (told rules act t)
+text_same rules (AddCustomer person) s t e = ap (λ (r : Shop). object (told rules (AddCustomer person) r)) e
+text_same rules act s t e = ap (λ (r : Shop). object (told rules act r)) e
+
+rest_acted : (rules : Rules) (command : Command) (act : Act) (c d : Catalogue) (s t : Shop) → rest_of_catalogue c ≡ rest_of_catalogue d → rest_of_shop s ≡ rest_of_shop t
+    → rest_of_shop (acted rules c command act s) ≡ rest_of_shop (acted rules d command act t)
+rest_acted rules command (AddCustomer person) c d s t e f = ap₂ (λ (q : Catalogue) (r : Shop). rest_of_shop (acted rules q command (AddCustomer person) r)) e f
+rest_acted rules command act c d s t e f = ap₂ (λ (q : Catalogue) (r : Shop). rest_of_shop (acted rules q command act r)) e f
+
+lots_acted : (rules : Rules) (command : Command) (act : Act) (c d : Catalogue) (s t : Shop) → ((lot : Text) → list_any (bytes_eq lot) s.lots ≡ list_any (bytes_eq lot) t.lots)
+    → (lot : Text) → list_any (bytes_eq lot) (acted rules c command act s).lots ≡ list_any (bytes_eq lot) (acted rules d command act t).lots
+lots_acted rules command (Import new file) c d s t same lot = any_more (bytes_eq lot) s.lots t.lots new (same lot)
+lots_acted rules command act c d s t same lot = same lot
+
+kept_is : (command : Command) (a b : Text) → a ≡ b → ◌≡◌ {A = Kept} (record { command = command; reply = a }) (record { command = command; reply = b })
+kept_is command a b e = rw e
+
+done_same : (rules : Rules) (command : Command) (c d : Catalogue) (s t : Shop) → SameCatalogue c d → SameShop s t → SameShop (done rules c command s) (done rules d command t)
+done_same rules command c d s t shared own =
+    let new = kept_is command (reply_text rules command s) (reply_text rules command t) (text_same rules command.act s t own.rest) in
+    record {
+      rest = ap (λ (r : Shop). record r { last = Some command.moment }) (rest_acted rules command command.act c d s t shared.rest own.rest);
+      kept = λ key. found_more (λ (k : Kept). bytes_eq k.command.key key) s.kept t.kept _ _ new (own.kept key);
+      size = as_many s.kept t.kept _ _ own.size;
+      lots = lots_acted rules command command.act c d s t own.lots;
+    }
+
+own_same : (rules : Rules) (b : ℕ) (request : Request) (c d : Catalogue) (s t : Shop) → SameCatalogue c d → SameShop s t
+    → SameShop (shop_after rules b c s request) (shop_after rules b d t request)
+own_same rules b (Do command) c d s t shared own =
+    let Same : Verdict → Type 0 = λ v. SameShop (if_accepted (verdict rules b c s command) (done rules c command s) s) (if_accepted v (done rules d command t) t) in
+    subst Same (verdict_same rules b command c d s t shared own) (by (verdict rules b c s command))
+  where
+    by : (v : Verdict) → SameShop (if_accepted v (done rules c command s) s) (if_accepted v (done rules d command t) t)
+    by (Again text) = own
+    by (Refused refusal) = own
+    by Accepted = done_same rules command c d s t shared own
+own_same rules b request c d s t shared own = own
+
+-- ---- what it is shown
+
+-- the two views that tell casts, by who is said to be cast
+abbrev films_by : (ℕ → ℕ → Bool) → Catalogue → List FilmRow
+films_by plays rest =
+    map (λ (it : ℕ × Film). record (film_row rest it) {
+      actors = join_by (λ (a : ℕ × Actor). full_name a.1.first a.1.last) (codes ", ") (filter (λ (a : ℕ × Actor). plays it.0 a.0) (numbered rest.actors));
+    }) (numbered rest.films)
+
+abbrev played_by : (ℕ → ℕ → Bool) → Catalogue → ℕ → ℕ → List (ℕ × Film)
+played_by plays rest actor category =
+    sorted_by (λ (a b : ℕ × Film). is_before_text a.1.title b.1.title) (filter (λ (it : ℕ × Film). it.1.category == category && plays it.0 actor) (numbered rest.films))
+
+abbrev actors_by : (ℕ → ℕ → Bool) → Catalogue → List ActorRow
+actors_by plays rest =
+    map (λ (it : ℕ × Actor). record (actor_row rest it) {
+      films = join_by (λ (c : ℕ × Text). c.1 ++ codes ": " ++ join_by (λ (f : ℕ × Film). f.1.title) (codes ", ") (played_by plays rest it.0 c.0)) (codes "; ")
+          (filter (λ (c : ℕ × Text). not (is_empty (played_by plays rest it.0 c.0))) (categories_by_name rest));
+    }) (numbered rest.actors)
+
+cast_same : (c d : Catalogue) → SameCatalogue c d → is_cast c ≡ is_cast d
+cast_same c d shared = fun_ext (λ film. fun_ext (λ actor. shared.casts film actor))
+
+film_list_same : (c d : Catalogue) → SameCatalogue c d → film_list c ≡ film_list d
+film_list_same c d shared = ap₂ films_by (cast_same c d shared) shared.rest
+
+actor_info_same : (c d : Catalogue) → SameCatalogue c d → actor_info c ≡ actor_info d
+actor_info_same c d shared = ap₂ actors_by (cast_same c d shared) shared.rest
+
+views_same : (b : ℕ) (view : View) (c d : Catalogue) (s t : Shop) → SameCatalogue c d → SameShop s t → view_rows b c s view ≡ view_rows b d t view
+views_same b FilmList c d s t shared own = ap (λ (rows : List FilmRow). FilmsListed rows) (film_list_same c d shared)
+views_same b ActorInfo c d s t shared own = ap (λ (rows : List ActorRow). ActorsListed rows) (actor_info_same c d shared)
+views_same b view c d s t shared own = ap₂ (λ (q : Catalogue) (r : Shop). view_rows b q r view) shared.rest own.rest
+
+rewarded_same : (days : Option (ℕ × ℕ)) (purchases cents : ℕ) (s t : Shop) → rest_of_shop s ≡ rest_of_shop t → rewarded_in days s purchases cents ≡ rewarded_in days t purchases cents
+rewarded_same None purchases cents s t e = refl
+rewarded_same (Some days) purchases cents s t e = ap (λ (r : Shop). rewarded_in (Some days) r purchases cents) e
+
+looks_same : (b : ℕ) (ask : Ask) (c d : Catalogue) (s t : Shop) → SameCatalogue c d → SameShop s t → look b c s ask ≡ look b d t ask
+looks_same b (OneView view) c d s t shared own = ap (λ (shown : Shown). Shows shown) (views_same b view c d s t shared own)
+looks_same b (Rewards moment purchases cents) c d s t shared own =
+    let told : List ℕ → Reply = λ customers. if nat_lt 0 purchases then (if nat_lt 0 cents then Shows (CustomersAre customers) else Sorry BadThreshold) else Sorry BadThreshold in
+    ap told (rewarded_same (month_before moment) purchases cents s t own.rest)
+looks_same b ask c d s t shared own = ap₂ (λ (q : Catalogue) (r : Shop). look b q r ask) shared.rest own.rest
+
+reply_same : (rules : Rules) (b : ℕ) (request : Request) (c d : Catalogue) (s t : Shop) → SameCatalogue c d → SameShop s t
+    → reply_to rules b c s request ≡ reply_to rules b d t request
+reply_same rules b (Do command) c d s t shared own =
+    ap₂ (λ (v : Verdict) (text : Text). reply_by v text) (verdict_same rules b command c d s t shared own) (text_same rules command.act s t own.rest)
+reply_same rules b (Look ask) c d s t shared own = looks_same b ask c d s t shared own
+reply_same rules b request c d s t shared own = refl
+
+-- ---- head office's commands
+
+abbrev office_found : OfficeCommand → Option OfficeKept → Verdict → Verdict
+office_found command None fresh = fresh
+office_found command (Some k) fresh = if same_office k.command command then Again k.reply else Refused KeyUsed
+
+office_resent_is : (command : OfficeCommand) (p : OfficeKept → Bool) (kept : List OfficeKept) (fresh : Verdict)
+    → office_resent command (filter p kept) fresh ≡ office_found command (find p kept) fresh
+office_resent_is command p [] fresh = refl
+office_resent_is command p (k ∷ kept) fresh = elim (cases_Bool (p k)) [
+  | inl is ↦ rw is
+  | inr isnt ↦ rw isnt (office_resent_is command p kept fresh)
+]
+
+office_acts_same : (act : OfficeAct) (c d : Catalogue) → SameCatalogue c d → office_refusals c act ≡ office_refusals d act
+office_acts_same (AddCast cast) c d shared =
+    let tests : Catalogue → Bool → List (Refusal × Bool) = λ q is. (NoFilm, lacks q.films cast.film) ∷ (NoSharedRow, lacks q.actors cast.actor) ∷ (Already, is) ∷ [] in
+    ap₂ tests shared.rest (shared.casts cast.film cast.actor)
+office_acts_same act c d shared = ap (λ (q : Catalogue). office_refusals q act) shared.rest
+
+office_verdict_same : (rules : Rules) (command : OfficeCommand) (c d : Catalogue) → SameCatalogue c d → office_verdict rules c command ≡ office_verdict rules d command
+office_verdict_same rules command c d shared =
+    let under : OfficeKept → Bool = λ k. bytes_eq k.command.key command.key in
+    let tests : ℕ → List (Refusal × Bool) → List (Refusal × Bool) = λ size more. (Full, nat_le rules.commands size) ∷ more in
+    let same = ap₂ tests shared.size (office_acts_same command.act c d shared) in
+    office_resent_is command under c.kept (first (tests (length c.kept) (office_refusals c command.act)))
+    ∙ ap₂ (λ (found : Option OfficeKept) (list : List (Refusal × Bool)). office_found command found (first list)) (shared.kept command.key) same
+    ∙ sym (office_resent_is command under d.kept (first (tests (length d.kept) (office_refusals d command.act))))
+
+office_text_same : (act : OfficeAct) (c d : Catalogue) → rest_of_catalogue c ≡ rest_of_catalogue d → object (office_told act c) ≡ object (office_told act d)
+office_text_same (AddCountry name) c d e = ap (λ (q : Catalogue). object (office_told (AddCountry name) q)) e
+office_text_same act c d e = ap (λ (q : Catalogue). object (office_told act q)) e
+
+office_rest : (act : OfficeAct) (c d : Catalogue) → rest_of_catalogue c ≡ rest_of_catalogue d → rest_of_catalogue (office_acted act c) ≡ rest_of_catalogue (office_acted act d)
+office_rest (AddCountry name) c d e = ap (λ (q : Catalogue). rest_of_catalogue (office_acted (AddCountry name) q)) e
+office_rest act c d e = ap (λ (q : Catalogue). rest_of_catalogue (office_acted act q)) e
+
+office_casts : (act : OfficeAct) (c d : Catalogue) → ((film actor : ℕ) → is_cast c film actor ≡ is_cast d film actor)
+    → (film actor : ℕ) → is_cast (office_acted act c) film actor ≡ is_cast (office_acted act d) film actor
+office_casts (AddCast cast) c d same film actor = any_more (λ (it : Cast). it.film == film && it.actor == actor) c.casts d.casts cast (same film actor)
+office_casts act c d same film actor = same film actor
+
+office_kept_is : (command : OfficeCommand) (a b : Text) → a ≡ b → ◌≡◌ {A = OfficeKept} (record { command = command; reply = a }) (record { command = command; reply = b })
+office_kept_is command a b e = rw e
+
+office_done_same : (command : OfficeCommand) (c d : Catalogue) → SameCatalogue c d → SameCatalogue (office_done command c) (office_done command d)
+office_done_same command c d shared =
+    let new = office_kept_is command (office_text command c) (office_text command d) (office_text_same command.act c d shared.rest) in
+    record {
+      rest = office_rest command.act c d shared.rest;
+      kept = λ key. found_more (λ (k : OfficeKept). bytes_eq k.command.key key) c.kept d.kept _ _ new (shared.kept key);
+      size = as_many c.kept d.kept _ _ shared.size;
+      casts = office_casts command.act c d shared.casts;
+    }
+
+office_same : (rules : Rules) (command : OfficeCommand) (c d : Catalogue) → SameCatalogue c d → SameCatalogue (catalogue_after rules command c) (catalogue_after rules command d)
+office_same rules command c d shared =
+    let Same : Verdict → Type 0 = λ v. SameCatalogue (if_accepted (office_verdict rules c command) (office_done command c) c) (if_accepted v (office_done command d) d) in
+    subst Same (office_verdict_same rules command c d shared) (by (office_verdict rules c command))
+  where
+    by : (v : Verdict) → SameCatalogue (if_accepted v (office_done command c) c) (if_accepted v (office_done command d) d)
+    by (Again text) = shared
+    by (Refused refusal) = shared
+    by Accepted = office_done_same command c d shared
+
+-- ---- all that reaches a branch
+
+abbrev moved_shop : ℕ → List ℕ → Shop → Shop
+moved_shop source films s = record s { arrivals = s.arrivals ++ record { source = source; films = films; received = false } ∷ [] }
+
+arrived_same : (source : ℕ) (films : List ℕ) (s t : Shop) → SameShop s t → SameShop (moved_shop source films s) (moved_shop source films t)
+arrived_same source films s t own = record {
+  rest = ap (moved_shop source films) own.rest;
+  kept = own.kept;
+  size = own.size;
+  lots = own.lots;
+}
+
+moved_same : (rules : Rules) (b : ℕ) (input : Input) (one other : State) → SameState one other → SameState (moved rules b input one) (moved rules b input other)
+moved_same rules b (FromOffice command) one other same = record { catalogue = office_same rules command one.catalogue other.catalogue same.catalogue; shop = same.shop }
+moved_same rules b (Arrive source films) one other same = record { catalogue = same.catalogue; shop = arrived_same source films one.shop other.shop same.shop }
+moved_same rules b (Own request) one other same =
+    record { catalogue = same.catalogue; shop = own_same rules b request one.catalogue other.catalogue one.shop other.shop same.catalogue same.shop }
+
+answers_same : (rules : Rules) (b : ℕ) (input : Input) (one other : State) → SameState one other → answers rules b input one ≡ answers rules b input other
+answers_same rules b (Own request) one other same =
+    ap (λ (reply : Reply). reply ∷ []) (reply_same rules b request one.catalogue other.catalogue one.shop other.shop same.catalogue same.shop)
+answers_same rules b input one other same = refl
+
+pub told_same : (rules : Rules) (b : ℕ) (inputs : List Input) (one other : State) → SameState one other → IsToldTheSame rules b inputs one other
+told_same rules b [] one other same = record { replies = refl; state = same }
+told_same rules b (input ∷ inputs) one other same =
+    let later = told_same rules b inputs (moved rules b input one) (moved rules b input other) (moved_same rules b input one other same) in
+    record { replies = ap₂ (λ (now next : List Reply). now ++ next) (answers_same rules b input one other same) later.replies; state = later.state }
+
+itself : (s : State) → SameState s s
+itself s = record {
+  catalogue = record { rest = refl; kept = λ key. refl; size = refl; casts = λ film actor. refl };
+  shop = record { rest = refl; kept = λ key. refl; size = refl; lots = λ lot. refl };
+}
+
+pub order_tells_nothing : OrderTellsNothing
+order_tells_nothing = record {
+  told = told_same;
+  equal = λ one other e. let Same : State → Type 0 = λ s. SameState one s in subst Same e (itself one);
+  reordered = reordered_same;
+}
