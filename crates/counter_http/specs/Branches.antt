@@ -5,6 +5,7 @@ use Rattle.shop_model.specs.Values.{Rules}
 use Rattle.shop_model.specs.Machine.{Input}
 use Rattle.shop_model.specs.Books.{Books, state_of}
 use Rattle.shop_model.specs.Sound.{HasNumbers}
+use Rattle.shop_model.specs.SameStates.{SameState}
 use Rattle.chain_engine.specs.Rules.{rules_of}
 use Rattle.counter_routes.specs.Words.{Meaning}
 use Rattle.chain_engine.specs.Holding.{Holding}
@@ -20,10 +21,11 @@ sent_to meaning rules b exchanges books = flat_map text_of (answered_to rules b 
 abbrev pub seen_of : Meaning → Rules → ℕ → List Exchange → Books → List Input
 seen_of meaning rules b exchanges books = seen_by rules b (events_of meaning exchanges) (answers_of exchanges) books
 
--- two chains agree on what concerns the branch: the limits, the catalogue and the branch's shop; the rows of both are numbered, as those of sound books are
+-- Two chains agree on what concerns the branch: the limits, the catalogue and the branch's shop, in whatever order commands were kept, lots came and actors were
+-- cast in each. The rows of both are numbered, as those of sound books are.
 pub record AgreeOn (b : ℕ) (one other : Holding) : Type 0 where
   pub limits : one.limits ≡ other.limits
-  pub shop : state_of b one.books ≡ state_of b other.books
+  pub shop : SameState (state_of b one.books) (state_of b other.books)
   pub numbers : HasNumbers one.books
   pub numbers_too : HasNumbers other.books
 

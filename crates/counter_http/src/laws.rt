@@ -7,8 +7,8 @@ ghost use Rattle.counter_http.specs.Together.{AreServedTogether, TurnsServe};
 use sqlite::Alter;
 
 /// In any two histories of messages, of any lengths, in which a branch sees the same, from books that agree on the catalogue and on the branch's shop, the
-/// branch is sent the same bytes. `serve` says of its messages that they were run so.
-#[tactic(auto, using(crate::proofs::Sent::sent_the_same))]
+/// branch is sent the same bytes, in whatever order commands were kept, lots came and actors were cast in either. `serve` says of its messages that they were
+/// run so.
 pub fn branches_are_sent_the_same()
     ensures { BranchesAreSentTheSame }
 {}
