@@ -169,7 +169,7 @@ acted_values (AddActor actor) it is v few =
     v.films v.branches v.staff
 acted_values (AddFilm film) it is v few =
     values_of _ v.office_token v.kept v.casts v.countries v.cities v.languages v.categories v.actors
-    (shared_push IsFilm it.films (record film { withdrawn = false }) few.films (rated film film.rate false is is.rate) v.films) v.branches v.staff
+    (shared_push IsFilm it.films (record film { withdrawn = false }) few.films (rated film film.rate false is.0 is.0.rate) v.films) v.branches v.staff
 acted_values (PriceFilm f rate) it is v few =
     values_of _ v.office_token v.kept v.casts v.countries v.cities v.languages v.categories v.actors
     (shared_set IsFilm f (λ (x : Film). record x { rate = rate }) it.films (λ x such. rated x rate x.withdrawn such is.1) v.films) v.branches v.staff
@@ -181,7 +181,7 @@ acted_values (AddCast cast) it is v few =
     v.staff
 acted_values (AddBranch branch) it is v few =
     values_of _ v.office_token v.kept v.casts v.countries v.cities v.languages v.categories v.actors v.films
-    (shared_push IsBranch it.branches (record branch { manager = None }) few.branches (managed branch None is tt) v.branches) v.staff
+    (shared_push IsBranch it.branches (record branch { manager = None }) few.branches (managed branch None is.0 tt) v.branches) v.staff
 acted_values (AddStaff staff) it is v few =
     values_of _ v.office_token v.kept v.casts v.countries v.cities v.languages v.categories v.actors v.films v.branches
     (shared_push IsStaff it.staff (record staff { gone = false }) few.staff is v.staff)

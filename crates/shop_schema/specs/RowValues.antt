@@ -1,5 +1,5 @@
 -- Which rows the program can hold: the ranges and forms of their values, as the shop's profile sets them.
-use Rattle.std.specs.Prelude.{⊤, ◌≡◌, ◌≤◌, ◌<◌, ◌^◌, ℕ, ◌||◌, true, List, length, codes, IsUtf8, IfSome}
+use Rattle.std.specs.Prelude.{⊤, ◌≡◌, ◌≤◌, ◌<◌, ◌^◌, ℕ, ◌||◌, true, false, None, List, length, codes, IsUtf8, IfSome}
 use Rattle.std.specs.List.{AllByRecursion}
 use Rattle.std.specs.Str.{bytes_eq}
 use Rattle.shop_values.specs.Numbers.{is_row_number}
@@ -11,6 +11,8 @@ use Rattle.shop_model.specs.Values as model
 use Rattle.shop_model.specs.Shop.{Kept, OfficeKept, Catalogue}
 use Rattle.shop_model.specs.Books.{Books, Mark, BookCopy, Line, Consignment}
 use Rattle.shop_types.specs.Films.{features_text}
+use Rattle.shop_types.specs.NumberLists.{is_number_list}
+use Rattle.shop_types.specs.StockFiles.{is_stock_file}
 use Rattle.shop_types.specs.declared.film.Features.{Features}
 
 -- the number of a row, from 1 to 4,294,967,295
@@ -144,15 +146,24 @@ AreNumbers ns = AllByRecursion IsNumber ns
 abbrev pub AreBytes : List ℕ → Type 0
 AreBytes bytes = AllByRecursion (λ b. b < 256) bytes
 
+-- what a command lists, so many numbers at most
+abbrev pub IsNumberList : List ℕ → Type 0
+IsNumberList ns = (is_number_list ns ≡ true) × AreNumbers ns
+
+-- what a stock file may have, so many bytes at most
+abbrev pub IsStockFile : List ℕ → Type 0
+IsStockFile file = (is_stock_file file ≡ true) × AreBytes file
+
+-- an act that somebody can ask of a branch
 abbrev pub IsAct : Act → Type 0
 IsAct (model.AddCustomer person) = IsPerson person
 IsAct (model.SetActive customer active) = IsNumber customer
 IsAct (model.Rent customer copy) = IsNumber customer × IsNumber copy
 IsAct (model.TakeBack rental) = IsNumber rental
 IsAct (model.Pay customer rental amount) = IsNumber customer × IfSome rental IsNumber × (amount ≤ 99_999)
-IsAct (model.Import lot file) = IsKey lot × AreBytes file
-IsAct (model.Dispatch addressee copies) = IsNumber addressee × AreNumbers copies
-IsAct (model.Receive source number missing) = IsNumber source × IsNumber number × AreNumbers missing
+IsAct (model.Import lot file) = IsKey lot × IsStockFile file
+IsAct (model.Dispatch addressee copies) = IsNumber addressee × IsNumberList copies
+IsAct (model.Receive source number missing) = IsNumber source × IsNumber number × IsNumberList missing
 IsAct (model.Scrap copy) = IsNumber copy
 
 pub record IsCommand (it : Command) : Type 0 where
@@ -164,17 +175,18 @@ pub record IsCommand (it : Command) : Type 0 where
 abbrev pub IsKept : Owned Kept → Type 0
 IsKept row = IsNumber row.owner × IsCommand row.it.command × IsUtf8 row.it.reply
 
+-- an act that head office can ask for: a film that it adds isn't withdrawn, and a branch that it adds has no manager
 abbrev pub IsOfficeAct : OfficeAct → Type 0
 IsOfficeAct (AddCountry name) = IsName name
 IsOfficeAct (AddCity city) = IsCity city
 IsOfficeAct (AddLanguage name) = IsName name
 IsOfficeAct (AddCategory name) = IsName name
 IsOfficeAct (AddActor actor) = IsActor actor
-IsOfficeAct (AddFilm film) = IsFilm film
+IsOfficeAct (AddFilm film) = IsFilm film × (film.withdrawn ≡ false)
 IsOfficeAct (PriceFilm film rate) = IsNumber film × (rate ≤ 9_999)
 IsOfficeAct (WithdrawFilm film) = IsNumber film
 IsOfficeAct (AddCast cast) = IsCast cast
-IsOfficeAct (AddBranch branch) = IsBranch branch
+IsOfficeAct (AddBranch branch) = IsBranch branch × (branch.manager ≡ None)
 IsOfficeAct (AddStaff staff) = IsStaff staff
 IsOfficeAct (StaffLeaves staff) = IsNumber staff
 IsOfficeAct (SetManager branch staff) = IsNumber branch × IsNumber staff

@@ -1,7 +1,8 @@
 //! The values of commands.
 
+ghost use Rattle.std.specs.Prelude.{◌≤◌, length};
 ghost use Rattle.shop_model.specs.Values.{Pay, Receive};
-ghost use Rattle.shop_schema.specs.RowValues.{IsKey, IsPerson, IsRating, IsFeatures, IsFilm, IsBranch, IsStaff, AreBytes, AreNumbers, IsAct, IsCommand, IsOfficeAct};
+ghost use Rattle.shop_schema.specs.RowValues.{IsKey, IsPerson, IsRating, IsFeatures, IsFilm, IsBranch, IsStaff, IsStockFile, IsNumberList, IsAct, IsCommand, IsOfficeAct};
 ghost use Rattle.shop_types.specs.Films.{rating_text, features_text};
 ghost use Rattle.shop_types.specs.Seen.{seen_person, seen_film, seen_branch, seen_staff, seen_act, seen_command, seen_office_act, seen_office};
 
@@ -21,14 +22,16 @@ fn person_values(person: &Person)
     let _city = person.city.get();
 }
 
-/// A byte is below 256, and no more is said.
+/// So many bytes are a stock file, whatever they are.
 fn bytes_values(bytes: &[u8])
-    ensures { AreBytes bytes.now }
+    requires { length bytes.now ≤ 65_536 }
+    ensures { IsStockFile bytes.now }
 {}
 
-/// Each is the number of a row.
+/// So many a command may list, and each is the number of a row.
 fn numbers_values<const KIND: u8>(numbers: &[RowNumber<KIND>])
-    ensures { AreNumbers numbers.now }
+    requires { length numbers.now ≤ 65_536 }
+    ensures { IsNumberList numbers.now }
 {
     for number in numbers {
         let _number = number.get();

@@ -1,6 +1,7 @@
-use Rattle.std.proofs.Common.{arith}
+use Rattle.std.proofs.Common.{length, arith}
+use Rattle.std.proofs.lemmas.Bool.{le-leb}
 use Rattle.shop_schema.proofs.Values.{bytes_fit}
 use Rattle.shop_schema.proofs.ranges.bytes_values.Goals as goal
 
 pub returns : goal.returns
-returns c = bytes_fit c.args.bytes.now (λ k. omega (arith, c.type_inv.bytes k))
+returns c = (le-leb (length c.args.bytes.now) 65_536 c.requires, bytes_fit c.args.bytes.now (λ k. omega (arith, c.type_inv.bytes k)))
