@@ -1,10 +1,10 @@
 -- Which parts an act's form has, both ways.
-use Rattle.std.proofs.Common.{◌≡◌, ◌↔◌, ◌≤◌, ◌<◌, ◌/◌, ℕ, List, [], ◌∷◌, ◌++◌, length, Bool, Option, Some, None, refl, sym, ap, subst, ◌∙◌, arith, get_or}
+use Rattle.std.proofs.Common.{◌≡◌, ◌↔◌, ◌≤◌, ℕ, List, [], ◌∷◌, ◌++◌, length, Bool, Option, Some, None, refl, sym, ap, subst, ◌∙◌, arith}
+use Rattle.std.proofs.lemmas.Bool.{leb-true, le-leb}
 use Rattle.std.specs.Prelude.{IfSome, IsTrue}
-use Rattle.std.specs.List.{flat_map}
 use Rattle.shop_model.specs.Values.{Act, AddCustomer, SetActive, Rent, TakeBack, Pay, Import, Dispatch, Receive, Scrap}
 use Rattle.shop_schema.specs.Forms.{number_form, text_form, numbers_form, option_form, flag_form, act_form}
-use Rattle.shop_schema.specs.RowValues.{IsNumber, IsAct, AreNumbers}
+use Rattle.shop_schema.specs.RowValues.{IsNumber, IsNumberList, IsAct, AreNumbers}
 use Rattle.book_rows.specs.declared.parts.Part.{Part}
 use Rattle.book_rows.specs.declared.parts.Part.TheVariants as part
 use Rattle.book_rows.specs.Forms.{IsPartForm, IsForm, IsActForm}
@@ -14,10 +14,7 @@ abbrev pub row : Part
 row = part.Number 1 4_294_967_295
 
 abbrev rows : Part
-rows = part.Numbers 4_294_967_295
-
-abbrev pub IsBytes : List ℕ → Type 0
-IsBytes bytes = (i : ℕ) → get_or bytes i 0 < 256
+rows = part.Numbers 65_536
 
 pub put : (rest p r f s : List ℕ) → rest ≡ p ++ r → p ≡ f → r ≡ s → rest ≡ f ++ s
 put rest p r f s g e z = g ∙ (λ i. e i ++ z i)
@@ -34,11 +31,8 @@ abbrev pub behind : List ℕ → List ℕ
 behind [] = []
 behind (x ∷ xs) = xs
 
-short : (n : ℕ) → n / 16_777_216 < 256 → n ≤ 4_294_967_295
-short n h = omega (arith, h)
-
-few : (ns : List ℕ) → length ns / 16_777_216 < 256 → AreNumbers ns → IsPartForm rows (numbers_form ns)
-few ns h all = (ns, short (length ns) h, all, refl)
+few : (ns : List ℕ) → IsNumberList ns → IsPartForm rows (numbers_form ns)
+few ns (h, all) = (ns, leb-true (length ns) 65_536 h, all, refl)
 
 flag : (b : Bool) → IsPartForm part.Flag (flag_form b)
 flag b = (b, refl)
@@ -97,36 +91,36 @@ scrap rest = (λ f. let it = one_number rest f in (Scrap it.0, it.1, ap (λ (l :
 
 -- ---- 6: Import
 
-import_from : (rest : List ℕ) → IsForm (part.Key ∷ part.Bytes ∷ []) rest → IsActForm (6 ∷ rest)
-import_from rest (p, r, (t, k, e), (q, s, (u, b, f), z, g), h) = (Import t u, (k, b), ap (λ (l : List ℕ). 6 ∷ l) (put rest p r _ _ h e (put r q s _ _ g f z)))
+abbrev file : Part
+file = part.Bytes 65_536
 
-import_to : (rest : List ℕ) (act : Act) → IsAct act → 6 ∷ rest ≡ act_form act → IsForm (part.Key ∷ part.Bytes ∷ []) rest
-import_to rest (Import t u) (x, y) e =
+import_from : (rest : List ℕ) → IsForm (part.Key ∷ file ∷ []) rest → IsActForm (6 ∷ rest)
+import_from rest (p, r, (t, k, e), (q, s, (u, n, b, f), z, g), h) =
+    (Import t u, (k, (le-leb (length u) 65_536 n, b)), ap (λ (l : List ℕ). 6 ∷ l) (put rest p r _ _ h e (put r q s _ _ g f z)))
+
+import_to : (rest : List ℕ) (act : Act) → IsAct act → 6 ∷ rest ≡ act_form act → IsForm (part.Key ∷ file ∷ []) rest
+import_to rest (Import t u) (x, (n, y)) e =
     let g : rest ≡ text_form t ++ (text_form u ++ []) = ap behind e in
-    (text_form t, text_form u ++ [], (t, x, refl), (text_form u, [], (u, y, refl), refl, refl), g)
+    (text_form t, text_form u ++ [], (t, x, refl), (text_form u, [], (u, leb-true (length u) 65_536 n, y, refl), refl, refl), g)
 import_to rest act is e = absurd (omega (arith, ap first e))
 
-pub import_act : (rest : List ℕ) → IsForm (part.Key ∷ part.Bytes ∷ []) rest ↔ IsActForm (6 ∷ rest)
+pub import_act : (rest : List ℕ) → IsForm (part.Key ∷ file ∷ []) rest ↔ IsActForm (6 ∷ rest)
 import_act rest = (import_from rest, λ f. import_to rest f.0 f.1 f.2)
 
 -- ---- 7: Dispatch
 
 dispatch_from : (rest : List ℕ) → IsForm (row ∷ rows ∷ []) rest → IsActForm (7 ∷ rest)
-dispatch_from rest (p, r, (n, a, b, e), (q, s, (ns, c, d, f), z, g), h) = (Dispatch n ns, (ranged n (a, b), d), ap (λ (l : List ℕ). 7 ∷ l) (put rest p r _ _ h e (put r q s _ _ g f z)))
+dispatch_from rest (p, r, (n, a, b, e), (q, s, (ns, c, d, f), z, g), h) =
+    (Dispatch n ns, (ranged n (a, b), (le-leb (length ns) 65_536 c, d)), ap (λ (l : List ℕ). 7 ∷ l) (put rest p r _ _ h e (put r q s _ _ g f z)))
 
--- the byte behind a form of four bytes and three more
-eighth : (n m : ℕ) (more : List ℕ) → get_or (7 ∷ (number_form n ++ (number_form m ++ more))) 8 0 < 256 → m / 16_777_216 < 256
-eighth n m more h = h
-
-dispatch_to : (rest : List ℕ) → IsBytes (7 ∷ rest) → (act : Act) → IsAct act → 7 ∷ rest ≡ act_form act → IsForm (row ∷ rows ∷ []) rest
-dispatch_to rest fits (Dispatch n ns) (x, y) e =
+dispatch_to : (rest : List ℕ) (act : Act) → IsAct act → 7 ∷ rest ≡ act_form act → IsForm (row ∷ rows ∷ []) rest
+dispatch_to rest (Dispatch n ns) (x, y) e =
     let g : rest ≡ number_form n ++ (numbers_form ns ++ []) = ap behind e in
-    let high : length ns / 16_777_216 < 256 = eighth n (length ns) (flat_map number_form ns ++ []) (subst (λ (l : List ℕ). get_or (7 ∷ l) 8 0 < 256) g (fits 8)) in
-    (number_form n, numbers_form ns ++ [], number n x, (numbers_form ns, [], few ns high y, refl, refl), g)
-dispatch_to rest fits act is e = absurd (omega (arith, ap first e))
+    (number_form n, numbers_form ns ++ [], number n x, (numbers_form ns, [], few ns y, refl, refl), g)
+dispatch_to rest act is e = absurd (omega (arith, ap first e))
 
-pub dispatch : (rest : List ℕ) → IsBytes (7 ∷ rest) → IsForm (row ∷ rows ∷ []) rest ↔ IsActForm (7 ∷ rest)
-dispatch rest fits = (dispatch_from rest, λ f. dispatch_to rest fits f.0 f.1 f.2)
+pub dispatch : (rest : List ℕ) → IsForm (row ∷ rows ∷ []) rest ↔ IsActForm (7 ∷ rest)
+dispatch rest = (dispatch_from rest, λ f. dispatch_to rest f.0 f.1 f.2)
 
 -- ---- 1: AddCustomer
 
@@ -196,22 +190,16 @@ pay rest = (pay_from rest, λ f. pay_to rest f.0 f.1 f.2)
 
 receive_from : (rest : List ℕ) → IsForm (row ∷ row ∷ rows ∷ []) rest → IsActForm (8 ∷ rest)
 receive_from rest (p, r, (n, a, b, e), (q, s, (m, c, d, f), (u, v, (ns, len, all, e3), z, g3), g2), g1) =
-    (Receive n m ns, (ranged n (a, b), ranged m (c, d), all), ap (λ (l : List ℕ). 8 ∷ l) (put rest p r _ _ g1 e (put r q s _ _ g2 f (put s u v _ _ g3 e3 z))))
+    (Receive n m ns, (ranged n (a, b), ranged m (c, d), (le-leb (length ns) 65_536 len, all)), ap (λ (l : List ℕ). 8 ∷ l) (put rest p r _ _ g1 e (put r q s _ _ g2 f (put s u v _ _ g3 e3 z))))
 
-twelfth : (n m k : ℕ) (more : List ℕ) → get_or (8 ∷ (number_form n ++ (number_form m ++ (number_form k ++ more)))) 12 0 < 256 → k / 16_777_216 < 256
-twelfth n m k more h = h
-
-receive_to : (rest : List ℕ) → IsBytes (8 ∷ rest) → (act : Act) → IsAct act → 8 ∷ rest ≡ act_form act → IsForm (row ∷ row ∷ rows ∷ []) rest
-receive_to rest fits (Receive n m ns) x e =
+receive_to : (rest : List ℕ) (act : Act) → IsAct act → 8 ∷ rest ≡ act_form act → IsForm (row ∷ row ∷ rows ∷ []) rest
+receive_to rest (Receive n m ns) (x, y, list) e =
     let g : rest ≡ number_form n ++ (number_form m ++ (numbers_form ns ++ [])) = ap behind e in
-    let high : length ns / 16_777_216 < 256 = twelfth n m (length ns) (flat_map number_form ns ++ []) (subst (λ (l : List ℕ). get_or (8 ∷ l) 12 0 < 256) g (fits 12)) in
-    (number_form n, _, number n x.0, (number_form m, _, number m x.1, (numbers_form ns, [], few ns high x.2, refl, refl), refl), g)
-receive_to rest fits act is e = absurd (omega (arith, ap first e))
+    (number_form n, _, number n x, (number_form m, _, number m y, (numbers_form ns, [], few ns list, refl, refl), refl), g)
+receive_to rest act is e = absurd (omega (arith, ap first e))
 
-pub receive : (rest : List ℕ) → IsBytes (8 ∷ rest) → IsForm (row ∷ row ∷ rows ∷ []) rest ↔ IsActForm (8 ∷ rest)
-receive rest fits = (receive_from rest, λ f. receive_to rest fits f.0 f.1 f.2)
-
--- ---- no act
+pub receive : (rest : List ℕ) → IsForm (row ∷ row ∷ rows ∷ []) rest ↔ IsActForm (8 ∷ rest)
+receive rest = (receive_from rest, λ f. receive_to rest f.0 f.1 f.2)
 
 -- ---- the act that a first byte tells
 
@@ -221,6 +209,3 @@ module _ (Form : List ℕ → Type 0) {P : Type 0} (bytes rest : List ℕ) (t n 
 
   pub chosen : (P ↔ Form (n ∷ rest)) → IsTrue r ↔ Form bytes
   chosen g = (λ x. subst Form (sym whole) (g.0 (h.0 x)), λ x. h.1 (g.1 (subst Form whole x)))
-
-  pub chosen_in : IsBytes bytes → (IsBytes (n ∷ rest) → P ↔ Form (n ∷ rest)) → IsTrue r ↔ Form bytes
-  chosen_in fits g = chosen (g (subst IsBytes whole fits))

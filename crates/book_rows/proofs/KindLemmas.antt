@@ -1,5 +1,5 @@
 -- Kinds, column by column.
-use Rattle.std.proofs.Common.{◌≡◌, ◌≢◌, ◌↔◌, ◌<◌, ℕ, zero, suc, List, [], ◌∷◌, length, get_or, drop, arith, Bool, true, false, refl, sym, ap, ◌∙◌, subst, IsTrue, Some, None, Option}
+use Rattle.std.proofs.Common.{◌≡◌, ◌≢◌, ◌↔◌, ℕ, zero, suc, List, [], ◌∷◌, length, arith, Bool, true, false, refl, sym, ap, ◌∙◌, subst, IsTrue, Some, None, Option}
 use Rattle.std.proofs.lemmas.Bool.Decides.{nat_tests}
 use Rattle.sql_rows.specs.Rows.{number_value}
 use Rattle.shop_schema.specs.RowValues.{IsNumber}

@@ -1,14 +1,13 @@
 -- Which parts the form of an act of head office has, both ways.
-use Rattle.std.proofs.Common.{◌≡◌, ◌↔◌, ◌≤◌, ℕ, List, [], ◌∷◌, ◌++◌, Option, Some, None, Bool, true, false, refl, sym, ap, ◌∙◌, arith}
-use Rattle.std.specs.Prelude.{IfSome}
+use Rattle.std.proofs.Common.{◌≡◌, ◌↔◌, ◌≤◌, ℕ, List, [], ◌∷◌, ◌++◌, length, Option, None, Bool, true, false, refl, sym, ap, ◌∙◌, arith}
 use Rattle.std.proofs.lemmas.List.{append-nil}
 use Rattle.shop_model.specs.Values.{Rule, ByCode, ByComment, OfficeAct, AddCountry, AddCity, AddLanguage, AddCategory, AddActor, AddFilm, PriceFilm, WithdrawFilm, AddCast, AddBranch, AddStaff, StaffLeaves, SetManager, ChooseRule}
-use Rattle.shop_schema.specs.Forms.{number_form, text_form, option_form, flag_form, rule_form, person_form, office_form}
-use Rattle.shop_schema.specs.RowValues.{IsNumber, IsName, IsOfficeAct}
+use Rattle.shop_schema.specs.Forms.{number_form, text_form, numbers_form, option_form, flag_form, rule_form, person_form, office_form}
+use Rattle.shop_schema.specs.RowValues.{IsName, IsOfficeAct}
 use Rattle.book_rows.specs.declared.parts.Part.{Part}
 use Rattle.book_rows.specs.declared.parts.Part.TheVariants as part
 use Rattle.book_rows.specs.Forms.{IsPartForm, IsForm, IsOfficeForm}
-use Rattle.book_rows.proofs.KindLemmas.{in_range, ranged, or_ranged}
+use Rattle.book_rows.proofs.KindLemmas.{ranged}
 use Rattle.book_rows.proofs.ActLemmas.{put, number, first, behind, row, one_number}
 
 abbrev name : Part
@@ -68,12 +67,12 @@ actor rest = (actor_from rest, λ f. actor_to rest f.0 f.1 f.2)
 -- ---- films
 
 abbrev pub film_parts : List Part
-film_parts = part.Text 1 128 ∷ part.Text 0 500 ∷ row ∷ row ∷ part.Number 1 255 ∷ part.Number 0 9_999 ∷ part.Number 0 99_999 ∷ part.Optional 1 65_535 ∷ part.Rating ∷ part.Features ∷ part.Flag ∷ []
+film_parts = part.Text 1 128 ∷ part.Text 0 500 ∷ row ∷ row ∷ part.Number 1 255 ∷ part.Number 0 9_999 ∷ part.Number 0 99_999 ∷ part.Optional 1 65_535 ∷ part.Rating ∷ part.Features ∷ part.Unset ∷ []
 
 film_from : (rest : List ℕ) → IsForm film_parts rest → IsOfficeForm (6 ∷ rest)
-film_from rest (p1, r1, (t1, k1, e1), (p2, r2, (t2, k2, e2), (p3, r3, (n3, a3, b3, e3), (p4, r4, (n4, a4, b4, e4), (p5, r5, (n5, a5, b5, e5), (p6, r6, (n6, a6, b6, e6), (p7, r7, (n7, a7, b7, e7), (p8, r8, (o, k8, e8), (p9, r9, (t9, k9, e9), (p10, r10, (t10, k10, e10), (p11, r11, (w, e11), z, g11), g10), g9), g8), g7), g6), g5), g4), g3), g2), g1) = (
-  AddFilm (record { title = t1; description = t2; language = n3; category = n4; period = n5; rate = n6; replacement = n7; minutes = o; rating = t9; features = t10; withdrawn = w }),
-  record { title = k1; description = k2; language = ranged n3 (a3, b3); category = ranged n4 (a4, b4); period = (a5, b5); rate = b6; replacement = b7; minutes = k8; rating = k9; features = k10 },
+film_from rest (p1, r1, (t1, k1, e1), (p2, r2, (t2, k2, e2), (p3, r3, (n3, a3, b3, e3), (p4, r4, (n4, a4, b4, e4), (p5, r5, (n5, a5, b5, e5), (p6, r6, (n6, a6, b6, e6), (p7, r7, (n7, a7, b7, e7), (p8, r8, (o, k8, e8), (p9, r9, (t9, k9, e9), (p10, r10, (t10, k10, e10), (p11, r11, e11, z, g11), g10), g9), g8), g7), g6), g5), g4), g3), g2), g1) = (
+  AddFilm (record { title = t1; description = t2; language = n3; category = n4; period = n5; rate = n6; replacement = n7; minutes = o; rating = t9; features = t10; withdrawn = false }),
+  (record { title = k1; description = k2; language = ranged n3 (a3, b3); category = ranged n4 (a4, b4); period = (a5, b5); rate = b6; replacement = b7; minutes = k8; rating = k9; features = k10 }, refl),
   ap (λ (l : List ℕ). 6 ∷ l)
       (put rest p1 r1 _ _ g1 e1 (put r1 p2 r2 _ _ g2 e2 (put r2 p3 r3 _ _ g3 e3 (put r3 p4 r4 _ _ g4 e4 (put r4 p5 r5 _ _ g5 e5 (put r5 p6 r6 _ _ g6 e6 (put r6 p7 r7 _ _ g7 e7 (put r7 p8 r8 _ _ g8 e8 (put r8 p9 r9 _ _ g9 e9 (put r9 p10 r10 _ _ g10 e10 (put r10 p11 r11 _ _ g11 e11 z))))))))))),
 )
@@ -82,7 +81,7 @@ within : (low high n : ℕ) → low ≤ n → n ≤ high → IsPartForm (part.Nu
 within low high n a b = (n, a, b, refl)
 
 film_to : (rest : List ℕ) (act : OfficeAct) → IsOfficeAct act → 6 ∷ rest ≡ office_form act → IsForm film_parts rest
-film_to rest (AddFilm it) x e = (
+film_to rest (AddFilm it) (x, kept) e = (
   text_form it.title,
   _,
   (it.title, x.title, refl),
@@ -110,7 +109,7 @@ film_to rest (AddFilm it) x e = (
               number_form it.replacement,
               _,
               within 0 99_999 it.replacement (omega arith) x.replacement,
-              (option_form it.minutes, _, (it.minutes, x.minutes, refl), (text_form it.rating, _, (it.rating, x.rating, refl), (text_form it.features, _, (it.features, x.features, refl), (flag_form it.withdrawn, [], (it.withdrawn, refl), refl, refl), refl), refl), refl),
+              (option_form it.minutes, _, (it.minutes, x.minutes, refl), (text_form it.rating, _, (it.rating, x.rating, refl), (text_form it.features, _, (it.features, x.features, refl), (flag_form it.withdrawn, [], ap flag_form kept, refl, refl), refl), refl), refl),
               refl,
             ),
             refl,
@@ -160,21 +159,24 @@ cast rest = (cast_from rest, λ f. cast_to rest f.0 f.1 f.2)
 -- ---- branches and staff
 
 abbrev pub branch_parts : List Part
-branch_parts = part.Token ∷ part.Text 1 128 ∷ part.Text 0 45 ∷ part.Text 0 45 ∷ row ∷ part.Optional 1 4_294_967_295 ∷ []
+branch_parts = part.Token ∷ part.Text 1 128 ∷ part.Text 0 45 ∷ part.Text 0 45 ∷ row ∷ part.Numbers 0 ∷ []
 
-none_or_number : (o : Option ℕ) → IfSome o IsNumber → IfSome o (λ n. (1 ≤ n) × (n ≤ 4_294_967_295))
-none_or_number None h = tt
-none_or_number (Some n) h = in_range n h
+none_listed : (ns : List ℕ) → length ns ≤ 0 → numbers_form ns ≡ option_form None
+none_listed [] h = refl
+none_listed (n ∷ ns) h = absurd (omega (arith, h))
+
+no_manager : (o : Option ℕ) → o ≡ None → IsPartForm (part.Numbers 0) (option_form o)
+no_manager o e = ([], omega arith, tt, ap option_form e)
 
 branch_from : (rest : List ℕ) → IsForm branch_parts rest → IsOfficeForm (10 ∷ rest)
-branch_from rest (p1, r1, (t1, k1, e1), (p2, r2, (t2, k2, e2), (p3, r3, (t3, k3, e3), (p4, r4, (t4, k4, e4), (p5, r5, (n5, a5, b5, e5), (p6, r6, (o, k6, e6), z, g6), g5), g4), g3), g2), g1) = (
-  AddBranch (record { token = t1; address = t2; postal = t3; phone = t4; city = n5; manager = o }),
-  record { token = k1; address = k2; postal = k3; phone = k4; city = ranged n5 (a5, b5); manager = or_ranged o k6 },
-  ap (λ (l : List ℕ). 10 ∷ l) (put rest p1 r1 _ _ g1 e1 (put r1 p2 r2 _ _ g2 e2 (put r2 p3 r3 _ _ g3 e3 (put r3 p4 r4 _ _ g4 e4 (put r4 p5 r5 _ _ g5 e5 (put r5 p6 r6 _ _ g6 e6 z)))))),
+branch_from rest (p1, r1, (t1, k1, e1), (p2, r2, (t2, k2, e2), (p3, r3, (t3, k3, e3), (p4, r4, (t4, k4, e4), (p5, r5, (n5, a5, b5, e5), (p6, r6, (ns, c6, d6, e6), z, g6), g5), g4), g3), g2), g1) = (
+  AddBranch (record { token = t1; address = t2; postal = t3; phone = t4; city = n5; manager = None }),
+  (record { token = k1; address = k2; postal = k3; phone = k4; city = ranged n5 (a5, b5); manager = tt }, refl),
+  ap (λ (l : List ℕ). 10 ∷ l) (put rest p1 r1 _ _ g1 e1 (put r1 p2 r2 _ _ g2 e2 (put r2 p3 r3 _ _ g3 e3 (put r3 p4 r4 _ _ g4 e4 (put r4 p5 r5 _ _ g5 e5 (put r5 p6 r6 _ _ g6 (e6 ∙ none_listed ns c6) z)))))),
 )
 
 branch_to : (rest : List ℕ) (act : OfficeAct) → IsOfficeAct act → 10 ∷ rest ≡ office_form act → IsForm branch_parts rest
-branch_to rest (AddBranch it) x e = (
+branch_to rest (AddBranch it) (x, none) e = (
   text_form it.token,
   _,
   (it.token, x.token, refl),
@@ -190,7 +192,7 @@ branch_to rest (AddBranch it) x e = (
         text_form it.phone,
         _,
         (it.phone, x.phone, refl),
-        (number_form it.city, _, number it.city x.city, (option_form it.manager, [], (it.manager, none_or_number it.manager x.manager, refl), refl, refl), refl),
+        (number_form it.city, _, number it.city x.city, (option_form it.manager, [], no_manager it.manager none, refl, refl), refl),
         refl,
       ),
       refl,
@@ -290,5 +292,3 @@ choose_to rest act is e = absurd (omega (arith, ap first e))
 
 pub choose : (rest : List ℕ) → IsForm (part.Flag ∷ []) rest ↔ IsOfficeForm (14 ∷ rest)
 choose rest = (choose_from rest, λ f. choose_to rest f.0 f.1 f.2)
-
--- ---- no act

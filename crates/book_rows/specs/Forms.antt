@@ -1,5 +1,5 @@
 -- Forms as lists of parts.
-use Rattle.std.specs.Prelude.{◌≡◌, ◌≤◌, ℕ, Bool, List, [], ◌∷◌, ◌++◌, length, flat_map, Option, IfSome}
+use Rattle.std.specs.Prelude.{◌≡◌, ◌≤◌, ℕ, Bool, false, List, [], ◌∷◌, ◌++◌, length, flat_map, Option, IfSome}
 use Rattle.shop_model.specs.Calendar.{Moment, IsMoment, moment_text}
 use Rattle.shop_model.specs.Values.{Act, Command, OfficeAct}
 use Rattle.shop_schema.specs.Forms.{number_form, text_form, numbers_form, option_form, flag_form, act_form, command_form, office_form}
@@ -15,8 +15,9 @@ IsPartForm part.Key piece = (t : List ℕ) × IsKey t × (piece ≡ text_form t)
 IsPartForm part.Token piece = (t : List ℕ) × IsToken t × (piece ≡ text_form t)
 IsPartForm part.Rating piece = (t : List ℕ) × IsRating t × (piece ≡ text_form t)
 IsPartForm part.Features piece = (t : List ℕ) × IsFeatures t × (piece ≡ text_form t)
-IsPartForm part.Bytes piece = (t : List ℕ) × AreBytes t × (piece ≡ text_form t)
+IsPartForm (part.Bytes most) piece = (t : List ℕ) × (length t ≤ most) × AreBytes t × (piece ≡ text_form t)
 IsPartForm part.Flag piece = (b : Bool) × (piece ≡ flag_form b)
+IsPartForm part.Unset piece = piece ≡ flag_form false
 IsPartForm part.Moment piece = (m : Moment) × IsMoment m × (piece ≡ moment_text m)
 IsPartForm (part.Numbers most) piece = (ns : List ℕ) × (length ns ≤ most) × AreNumbers ns × (piece ≡ numbers_form ns)
 IsPartForm (part.Optional low high) piece = (o : Option ℕ) × IfSome o (λ n. (low ≤ n) × (n ≤ high)) × (piece ≡ option_form o)

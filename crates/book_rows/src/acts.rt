@@ -8,8 +8,11 @@ use crate::parts::{Part, is_form, skip};
 /// The number of a row.
 pub(crate) const NUMBER: Part = Part::Number(1, 4_294_967_295);
 
-/// So many numbers of rows as four bytes can count.
-const NUMBERS: Part = Part::Numbers(4_294_967_295);
+/// Numbers of rows that a command lists.
+const NUMBERS: Part = Part::Numbers(65_536);
+
+/// The bytes of a stock file.
+const FILE: Part = Part::Bytes(65_536);
 
 /// Whether the bytes are the form of an act.
 fn is_act(bytes: &[u8]) -> bool
@@ -34,7 +37,7 @@ fn is_act(bytes: &[u8]) -> bool
         3 => is_form(&[NUMBER, NUMBER], rest),
         4 => is_form(&[NUMBER], rest),
         5 => is_form(&[NUMBER, Part::Numbers(1), Part::Number(0, 99_999)], rest),
-        6 => is_form(&[Part::Key, Part::Bytes], rest),
+        6 => is_form(&[Part::Key, FILE], rest),
         7 => is_form(&[NUMBER, NUMBERS], rest),
         8 => is_form(&[NUMBER, NUMBER, NUMBERS], rest),
         9 => is_form(&[NUMBER], rest),

@@ -9,7 +9,7 @@ use crate::parts::{Part, is_form};
 /// A name of 1 to 45 bytes.
 const NAME: Part = Part::Text(1, 45);
 
-/// A new film.
+/// A new film, which isn't withdrawn.
 const FILM: [Part; 11] = [
     Part::Text(1, 128),
     Part::Text(0, 500),
@@ -21,17 +21,17 @@ const FILM: [Part; 11] = [
     Part::Optional(1, 65_535),
     Part::Rating,
     Part::Features,
-    Part::Flag,
+    Part::Unset,
 ];
 
-/// A new branch.
+/// A new branch, which has no manager.
 const BRANCH: [Part; 6] = [
     Part::Token,
     Part::Text(1, 128),
     Part::Text(0, 45),
     Part::Text(0, 45),
     NUMBER,
-    Part::Optional(1, 4_294_967_295),
+    Part::Numbers(0),
 ];
 
 /// A new member of staff.

@@ -24,10 +24,12 @@ pub(crate) enum Part {
     Rating,
     /// A film's special features.
     Features,
-    /// Any bytes.
-    Bytes,
+    /// So many bytes at most.
+    Bytes(usize),
     /// A truth value.
     Flag,
+    /// The truth value false.
+    Unset,
     /// A moment.
     Moment,
     /// So many numbers of rows at most.
@@ -141,14 +143,14 @@ fn bytes_values(bytes: &[u8])
     ensures { AreBytes bytes.now }
 {}
 
-/// What follows the bytes at the front.
-fn skip_bytes(bytes: &[u8]) -> Option<&[u8]>
-    ensures found { IfSome result (λ rest. (piece : List ℕ) × IsPartForm Part.Bytes piece × (bytes.now ≡ piece ++ rest.now)) }
-    ensures none { IfNone result ((piece rest : List ℕ) → IsPartForm Part.Bytes piece → bytes.now ≢ piece ++ rest) }
+/// What follows the bytes at the front, where there are so many at most.
+fn skip_bytes(most: usize, bytes: &[u8]) -> Option<&[u8]>
+    ensures found { IfSome result (λ rest. (piece : List ℕ) × IsPartForm (Part.Bytes most) piece × (bytes.now ≡ piece ++ rest.now)) }
+    ensures none { IfNone result ((piece rest : List ℕ) → IsPartForm (Part.Bytes most) piece → bytes.now ≢ piece ++ rest) }
 {
     let (text, rest) = text_at(bytes)?;
     bytes_values(text);
-    Some(rest)
+    if text.len() <= most { Some(rest) } else { None }
 }
 
 /// What follows the truth value at the front.
@@ -158,6 +160,15 @@ fn skip_flag(bytes: &[u8]) -> Option<&[u8]>
 {
     let (first, rest) = bytes.split_first()?;
     if *first <= 1 { Some(rest) } else { None }
+}
+
+/// What follows the truth value at the front, where it is false.
+fn skip_unset(bytes: &[u8]) -> Option<&[u8]>
+    ensures found { IfSome result (λ rest. (piece : List ℕ) × IsPartForm Part.Unset piece × (bytes.now ≡ piece ++ rest.now)) }
+    ensures none { IfNone result ((piece rest : List ℕ) → IsPartForm Part.Unset piece → bytes.now ≢ piece ++ rest) }
+{
+    let (first, rest) = bytes.split_first()?;
+    if *first == 0 { Some(rest) } else { None }
 }
 
 /// What follows the moment at the front.
@@ -228,8 +239,9 @@ pub(crate) fn skip(part: Part, bytes: &[u8]) -> Option<&[u8]>
         Part::Token => skip_token(bytes),
         Part::Rating => skip_rating(bytes),
         Part::Features => skip_features(bytes),
-        Part::Bytes => skip_bytes(bytes),
+        Part::Bytes(most) => skip_bytes(most, bytes),
         Part::Flag => skip_flag(bytes),
+        Part::Unset => skip_unset(bytes),
         Part::Moment => skip_moment(bytes),
         Part::Numbers(most) => skip_numbers(most, bytes),
         Part::Optional(low, high) => skip_optional(low, high, bytes),

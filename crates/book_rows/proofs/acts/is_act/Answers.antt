@@ -1,6 +1,5 @@
-use Rattle.std.proofs.Common.{arith}
 use Rattle.book_rows.specs.Forms.{IsActForm}
-use Rattle.book_rows.proofs.ActLemmas.{customer, active, rent, back, pay, import_act, dispatch, receive, scrap, chosen, chosen_in}
+use Rattle.book_rows.proofs.ActLemmas.{customer, active, rent, back, pay, import_act, dispatch, receive, scrap, chosen}
 use Rattle.book_rows.proofs.acts.is_act.Goals as goal
 
 pub returns-in-1 : goal.returns-in-1
@@ -22,10 +21,10 @@ pub returns-in-6 : goal.returns-in-6
 returns-in-6 c = chosen IsActForm c.args.bytes.now c.in-Some.rest.now c.in-Some.tag.now 6 c.is_form-in-6.result c.in-Some.ensures.cases.0 c.in-6.is c.is_form-in-6.ensures (import_act c.in-Some.rest.now)
 
 pub returns-in-7 : goal.returns-in-7
-returns-in-7 c = chosen_in IsActForm c.args.bytes.now c.in-Some.rest.now c.in-Some.tag.now 7 c.is_form-in-7.result c.in-Some.ensures.cases.0 c.in-7.is c.is_form-in-7.ensures (λ i. let fit = c.type_inv.bytes i in omega (arith, fit)) (dispatch c.in-Some.rest.now)
+returns-in-7 c = chosen IsActForm c.args.bytes.now c.in-Some.rest.now c.in-Some.tag.now 7 c.is_form-in-7.result c.in-Some.ensures.cases.0 c.in-7.is c.is_form-in-7.ensures (dispatch c.in-Some.rest.now)
 
 pub returns-in-8 : goal.returns-in-8
-returns-in-8 c = chosen_in IsActForm c.args.bytes.now c.in-Some.rest.now c.in-Some.tag.now 8 c.is_form-in-8.result c.in-Some.ensures.cases.0 c.in-8.is c.is_form-in-8.ensures (λ i. let fit = c.type_inv.bytes i in omega (arith, fit)) (receive c.in-Some.rest.now)
+returns-in-8 c = chosen IsActForm c.args.bytes.now c.in-Some.rest.now c.in-Some.tag.now 8 c.is_form-in-8.result c.in-Some.ensures.cases.0 c.in-8.is c.is_form-in-8.ensures (receive c.in-Some.rest.now)
 
 pub returns-in-9 : goal.returns-in-9
 returns-in-9 c = chosen IsActForm c.args.bytes.now c.in-Some.rest.now c.in-Some.tag.now 9 c.is_form-in-9.result c.in-Some.ensures.cases.0 c.in-9.is c.is_form-in-9.ensures (scrap c.in-Some.rest.now)
