@@ -1,14 +1,12 @@
 -- What is found of rows.
-use Rattle.std.specs.Prelude.{◌≡◌, ◌≤◌, ℕ, ◌+◌, ◌*◌, zero, suc, ℤ, [], ◌∷◌, ◌++◌, ◌==◌, nat_lt, Bool, true, false, List, length, sum_by, map, filter, Option, Some, None}
+use Rattle.std.specs.Prelude.{◌≡◌, ◌≤◌, ℕ, ◌+◌, ◌*◌, zero, suc, ℤ, [], ◌∷◌, ◌++◌, ◌==◌, Bool, true, false, List, length, sum_by, map, filter, Option, Some, None}
 use Rattle.std.specs.Option.{IfSome}
 use Rattle.std.specs.Ordering.{nat_cmp}
 use Rattle.std.specs.BTreeMap.{BTreeMap, get}
-use Rattle.shop_model.specs.Calendar.{Moment, day_of}
 use Rattle.shop_model.specs.Rows.{numbered_from}
-use Rattle.shop_model.specs.Values.{Rental, Terms, Payment, Ask, FilmInStock, FilmNotInStock}
-use Rattle.shop_model.specs.Shop.{Catalogue, Shop}
+use Rattle.shop_model.specs.Values.{Rental, Payment, Ask, FilmInStock, FilmNotInStock}
+use Rattle.shop_model.specs.Shop.{Shop}
 use Rattle.shop_model.specs.Stock.{is_here, in_stock, keeps_out, film_in_stock, film_not_in_stock}
-use Rattle.shop_model.specs.Views.{OverdueRow, overdue_row}
 use Rattle.shop_model.specs.Books.{Books, unmarked}
 use Rattle.chain_caches.specs.Films.{AreRows, KnownFilms}
 use Rattle.shop_types.specs.Seen.{seen_payment}
@@ -49,16 +47,6 @@ stock_listed false film shop = film_not_in_stock film shop
 -- where the films that were known are rows of the books, this is so, and those that are known then are rows too
 abbrev pub Knows : {X : Type 0} → KnownFilms → KnownFilms → (X → Books → Type 0) → X → Books → Type 0
 Knows before after Says found books = AreRows before books.catalogue.films → Says found books × AreRows after books.catalogue.films
-
--- ---- overdue rentals
-
--- the period of the rental ended before that day: where it isn't returned, it is overdue
-abbrev pub is_late : Moment → Rental × Terms → Bool
-is_late moment it = nat_lt (day_of it.0.rented + it.1.period) (day_of moment)
-
--- a rental as it is listed
-abbrev pub listed : Catalogue → Shop → Rental × Terms → OverdueRow
-listed catalogue shop it = overdue_row catalogue shop it.0
 
 -- ---- rewards
 

@@ -18,11 +18,11 @@ seen_look (one.HeldBy copy) = model.HeldBy copy
 seen_look (one.FilmInStock film) = model.FilmInStock film
 seen_look (one.FilmNotInStock film) = model.FilmNotInStock film
 seen_look (one.Balance customer at) = model.Balance customer at
-seen_look (one.Overdue at) = model.Overdue at
 
 abbrev pub seen_reading : Reading → Ask
 seen_reading (reading.Look it) = seen_look it
 seen_reading (reading.Rewards at purchases cents) = model.Rewards at purchases cents
+seen_reading (reading.Overdue at) = model.Overdue at
 seen_reading reading.Arrivals = model.Arrivals
 seen_reading reading.Sent = model.SentOff
 

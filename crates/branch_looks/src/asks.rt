@@ -16,7 +16,6 @@ pub enum Look {
     FilmInStock(FilmNo),
     FilmNotInStock(FilmNo),
     Balance { customer: CustomerNo, at: Moment },
-    Overdue(Moment),
 }
 
 /// How a reading is answered.
@@ -30,7 +29,9 @@ pub enum Reading {
         purchases: u32,
         cents: u32,
     },
-    /// By the list of the consignments that were sent to the branch, outside any transaction.
+    /// By the list of the branch's rentals that are overdue at the moment, outside any transaction.
+    Overdue(Moment),
+    /// By the list of the consignments that were sent to the branch, likewise.
     Arrivals,
     /// By the list of those that the branch sent, likewise.
     Sent,
@@ -48,7 +49,7 @@ pub fn reading_of(ask: Ask) -> Reading
         Ask::FilmInStock(film) => Reading::Look(Look::FilmInStock(film)),
         Ask::FilmNotInStock(film) => Reading::Look(Look::FilmNotInStock(film)),
         Ask::Balance { customer, at } => Reading::Look(Look::Balance { customer, at }),
-        Ask::Overdue(at) => Reading::Look(Look::Overdue(at)),
+        Ask::Overdue(at) => Reading::Overdue(at),
         Ask::Rewards {
             at,
             purchases,

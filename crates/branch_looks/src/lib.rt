@@ -9,7 +9,6 @@ mod consignments;
 mod finds;
 mod known;
 mod looks;
-mod overdue;
 mod reports;
 mod rewards;
 

@@ -15,7 +15,7 @@ ghost use Rattle.branch_looks.specs.Looks.{looked, seen_look};
 
 use crate::asks::Look;
 use crate::finds::{find_holder, find_of_film};
-use crate::reports::{look_balance, look_overdue};
+use crate::reports::look_balance;
 use branch_core::{FilmCopy, film_in_stock, film_not_in_stock};
 use shop_store::{copy_now_at, customer_at, film_row, film_withdrawn};
 use shop_types::{BranchNo, CopyNo, CustomerNo, FilmNo, NoMemory, Refusal, Reply};
@@ -43,7 +43,6 @@ pub fn look<S: Alter>(
         Look::FilmInStock(film) => look_film_copies(alloc, tx, branch, film, true),
         Look::FilmNotInStock(film) => look_film_copies(alloc, tx, branch, film, false),
         Look::Balance { customer, at } => look_balance(alloc, tx, branch, customer, at),
-        Look::Overdue(at) => look_overdue(alloc, tx, branch, at),
     }
 }
 

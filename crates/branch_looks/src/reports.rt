@@ -3,7 +3,7 @@
 ghost use Rattle.std.specs.Prelude.{◌≡◌, ℕ, IfOk};
 ghost use Rattle.sqlite.specs.Held.{state};
 ghost use Rattle.sql_rows.specs.Calls.{StaysInside, StaysWithin};
-ghost use Rattle.shop_model.specs.Values.{Balance, Overdue, Rewards};
+ghost use Rattle.shop_model.specs.Values.{Balance, Rewards};
 ghost use Rattle.shop_model.specs.Shop.{Shop};
 ghost use Rattle.shop_model.specs.Stock.{balance};
 ghost use Rattle.shop_types.specs.Seen.{seen_rule};
@@ -13,12 +13,11 @@ ghost use Rattle.balance_rule.specs.Balance.{AreTermsOf, ArePaidBy};
 ghost use Rattle.branch_looks.specs.Looks.{looked};
 
 use crate::balances::{find_paid, find_terms};
-use crate::overdue::find_overdue;
 use crate::rewards::find_rewarded;
 use balance_rule::{Paid, RentalTerms, balance};
 use shop_store::{active_at, rule_at};
 use shop_types::{BranchNo, Cents, CustomerNo, Moment, Refusal, Reply, Rule};
-use shop_views::{balance_text, overdue_text, rewards_text};
+use shop_views::{balance_text, rewards_text};
 use sql_rows::StoreFault;
 use sqlite::{Alter, Transaction};
 use std::alloc::Global;
@@ -60,21 +59,6 @@ fn owed(
         return Err(StoreFault::Failed);
     }
     Ok(balance(rentals, payments, at, rule))
-}
-
-/// Lists the rentals that are overdue at a moment.
-pub fn look_overdue<S: Alter>(
-    alloc: Global,
-    tx: &mut Transaction<'_, S>,
-    branch: BranchNo,
-    at: Moment,
-) -> Result<Reply, StoreFault>
-    ensures inside { StaysInside S.Store tx.old.conn tx.new.conn result }
-    ensures shown { Finds (state S.Store tx.old.conn.now) (state S.Store tx.new.conn.now) result
-        (λ reply books. seen_reply reply ≡ looked branch (Overdue at) books) }
-{
-    let rows = find_overdue(alloc, tx, branch, at)?;
-    Ok(Reply::accepted(overdue_text(alloc, rows.as_slice())?))
 }
 
 /// Lists the customers who are rewarded for the month before a moment's.

@@ -6,7 +6,8 @@ use Rattle.shop_model.specs.Rows.{lacks}
 use Rattle.shop_model.specs.Values.{Text, Command}
 use Rattle.shop_model.specs.Shop.{Catalogue}
 use Rattle.shop_model.specs.Verdict.{Verdict}
-use Rattle.shop_model.specs.Machine.{Request, Do, Done, Shown as Listed, Shows as Shown, ArrivalsAre, SentAre, reply_text, reply_by, if_accepted, view_rows}
+use Rattle.shop_model.specs.Views.{overdue_list}
+use Rattle.shop_model.specs.Machine.{Request, Do, Done, Shown as Listed, Shows as Shown, OverdueAre, ArrivalsAre, SentAre, reply_text, reply_by, if_accepted, view_rows}
 use Rattle.shop_model.specs.Answers.{Answer, answer_of}
 use Rattle.shop_model.specs.Books.{Books, Caller, Counter, shop_of, book_done, known_caller, reply_for, after_for}
 use Rattle.shop_model.specs.Office.{office_look}
@@ -55,6 +56,7 @@ pub record GoesBy (limits : Limits) (caller : Caller) (request : Request) (verdi
 -- what the list shows of the books
 abbrev pub listed : ℕ → Listing → Books → Listed
 listed b (list.View view) books = view_rows b books.catalogue (shop_of b books) (seen_view view)
+listed b (list.Overdue at) books = OverdueAre (overdue_list books.catalogue (shop_of b books) at)
 listed b list.Arrivals books = ArrivalsAre (shop_of b books).arrivals
 listed b list.Sent books = SentAre (shop_of b books).sent
 

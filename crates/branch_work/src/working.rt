@@ -20,7 +20,7 @@ use branch_looks::{Look, Reading, find_for_command, look, look_rewards, reading_
 use chain_caches::FilmCache;
 use shop_ledger::{Owner, Standing, kept_at, kept_found, standing_at};
 use shop_schema::{command_form, command_values};
-use shop_types::{BranchNo, Change, Command, Limits, Refusal, Reply, Request, View};
+use shop_types::{BranchNo, Change, Command, Limits, Moment, Refusal, Reply, Request, View};
 use sql_rows::{Bytes, StoreFault};
 use sqlite::{Alter, Transaction};
 use std::alloc::Global;
@@ -30,6 +30,8 @@ use std::alloc::Global;
 pub enum Listing {
     /// The rows of a view.
     View(View),
+    /// The branch's rentals that are overdue at the moment.
+    Overdue(Moment),
     /// The consignments that were sent to the branch.
     Arrivals,
     /// The consignments that the branch sent.
@@ -81,7 +83,7 @@ fn look_of(request: &Request) -> Option<Look>
     };
     match reading_of(*ask) {
         Reading::Look(it) => Some(it),
-        Reading::Rewards { .. } | Reading::Arrivals | Reading::Sent => None,
+        Reading::Rewards { .. } | Reading::Overdue(_) | Reading::Arrivals | Reading::Sent => None,
     }
 }
 
@@ -123,6 +125,7 @@ fn work_where_found<S: Alter>(
                 reply: look_rewards(alloc, tx, branch, at, purchases, cents)?,
                 is_changed: false,
             }),
+            Reading::Overdue(at) => Ok(Worked::Shows(Listing::Overdue(at))),
             Reading::Arrivals => Ok(Worked::Shows(Listing::Arrivals)),
             Reading::Sent => Ok(Worked::Shows(Listing::Sent)),
         },

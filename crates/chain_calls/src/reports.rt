@@ -19,7 +19,7 @@ use shop_types::{BranchNo, Reply};
 use sql_rows::StoreFault;
 use sqlite::{Alter, Connection};
 use std::alloc::Global;
-use view_texts::{sales, view_text};
+use view_texts::{overdue_list, sales, view_text};
 
 /// What is read.
 #[derive(Clone, Copy)]
@@ -45,6 +45,7 @@ fn listed_text<S: Alter>(
 {
     match list {
         Listing::View(view) => view_text(alloc, conn, branch, view),
+        Listing::Overdue(at) => overdue_list(alloc, conn, branch, at),
         Listing::Arrivals => arrivals(alloc, conn, branch),
         Listing::Sent => sent(alloc, conn, branch),
     }

@@ -56,7 +56,7 @@ now_means = record { names = _; is = refl; plain = (refl, refl); unlisted = refl
 abbrev shown_with : List Out → Row BookCopy → sql.Row
 shown_with outs c = number_value c.it.film ∷ state_value c.it.state ∷ or_null (λ (o : Out). number_value o.rental) (head outs) ∷ []
 
-pub same_kept : {X : Type 0} (p : Bool) (x y : X) → (p ≡ true → x ≡ y) → cond p (x ∷ []) [] ≡ cond p (y ∷ []) []
+same_kept : {X : Type 0} (p : Bool) (x y : X) → (p ≡ true → x ≡ y) → cond p (x ∷ []) [] ≡ cond p (y ∷ []) []
 same_kept true x y same = ap (λ z. z ∷ []) (same refl)
 same_kept false x y same = refl
 

@@ -21,6 +21,5 @@ pub mod OnRule
 pub mod OnTerms
 pub mod WithTerms
 pub mod OnTermed
-pub mod OutRentals
 pub mod OnPayments
 pub mod SameRentals

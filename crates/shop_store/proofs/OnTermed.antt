@@ -1,10 +1,9 @@
 -- What the text of a customer's rentals with their terms shows of the books: the rentals' rows, each joined with that of its terms.
-use Rattle.std.proofs.Common.{◌≡◌, ◌≤◌, ◌==◌, ◌+◌, ℕ, List, [], ◌∷◌, ◌++◌, map, filter, length, Bool, cond, Ok, Err, Result, inl, inr, refl, sym, ap, subst, ◌∙◌, arith, append-nil, append_assoc}
-use Rattle.std.specs.Prelude.{Vec, IfOk, zip}
+use Rattle.std.proofs.Common.{◌≡◌, ◌≤◌, ◌==◌, ℕ, List, [], ◌∷◌, ◌++◌, map, filter, length, Bool, cond, Ok, Err, Result, refl, ap, ◌∙◌, arith, append-nil}
+use Rattle.std.specs.Prelude.{Vec, IfOk}
 use Rattle.std.specs.List.{flat_map, AllByRecursion}
 use Rattle.std.specs.declared.alloc.Global.{Global}
-use Rattle.std.proofs.lemmas.Bool.{cases_Bool}
-use Rattle.std.proofs.lemmas.List.{map-id, length-append}
+use Rattle.std.proofs.lemmas.List.{map-id}
 use Rattle.sqlite.specs.declared.types.Value.TheVariants.{Null}
 use Rattle.sqlite_value.specs.Order as sql
 use Rattle.sqlite_value.specs.Order.{column}
@@ -25,11 +24,11 @@ use Rattle.sql_rows.proofs.ColumnTests.{number_tested, two_tested}
 use Rattle.sql_rows.proofs.Joins.{joined_query, are_equal, or_blank, shown_of, left_pair, joined_rows}
 use Rattle.sql_rows.proofs.Projects.{still_holds}
 use Rattle.sql_rows.proofs.Queries.{Selects, answers, kept_as_map}
-use Rattle.shop_model.specs.Rows.{Row, IsCounted, at, is_of, is_row, of}
+use Rattle.shop_model.specs.Rows.{Row, at, is_row, of}
 use Rattle.shop_model.specs.Values.{Rental, Terms}
 use Rattle.shop_model.specs.Books.{Books, shop_of}
 use Rattle.shop_model.specs.Stock.{termed}
-use Rattle.shop_model.proofs.RowLemmas.{row_at, same_if}
+use Rattle.shop_model.proofs.RowLemmas.{row_at}
 use Rattle.shop_schema.specs.Tables.{shop_schema}
 use Rattle.shop_schema.specs.Columns.{rental_columns, terms_columns}
 use Rattle.shop_schema.specs.Held.{IsHeld}
@@ -40,8 +39,7 @@ use Rattle.shop_ledger.proofs.Rising.{of_which, which_rise}
 use Rattle.shop_store.specs.declared.termed.TheConstants.{SELECT_TERMED}
 use Rattle.shop_store.specs.declared.termed.TermedRental.{TermedRental}
 use Rattle.shop_store.specs.Seen.{seen_termed, termed_columns, IsTermed}
-use Rattle.shop_store.proofs.Ascending.{at_behind}
-use Rattle.shop_store.proofs.WithTerms.{rental_shown, shown_first, rentals_climb, termed_told}
+use Rattle.shop_store.proofs.WithTerms.{rental_shown, shown_first, rentals_climb, termed_rows, termed_told}
 
 abbrev with_terms : Join
 with_terms = left 57 (are_equal (col 2 1) (col 1 1) ∷ are_equal (col 2 2) (col 1 2) ∷ []) end
@@ -120,38 +118,8 @@ shows_termed old new b n rows books holds held h =
 
 -- ---- each with the terms under its number
 
-module _ (b : ℕ) (q : Rental → Bool) (terms : List (Row Terms)) where
-  abbrev chosen : List (Row Rental) → List (Row Rental)
-  chosen rows = filter (of_which q b) rows
-
-  abbrev pairs : List (Row Rental) → List Terms → List (Rental × Terms)
-  pairs rows after = filter (λ (it : Rental × Terms). q it.0) (zip (of b rows) after)
-
-  termed_rows : (rows : List (Row Rental)) (before after : List Terms) → of b terms ≡ before ++ after → IsCounted (length before + 1) (map (λ (row : Row Rental). row.number) (filter (is_of b) rows))
-      → length after ≡ length (of b rows) → map (shown_of_row terms) (chosen rows) ≡ map termed_columns (pairs rows after)
-  termed_rows [] before [] all counted same = refl
-  termed_rows [] before (t ∷ after) all counted same = refl
-  termed_rows (row ∷ rows) before [] all counted same = elim (cases_Bool (is_of b row)) [
-    | inl ours ↦ absurd (omega (arith, rw ours at same))
-    | inr other ↦ rw other (termed_rows rows before [] all (rw other at counted) (rw other at same))
-  ]
-  termed_rows (row ∷ rows) before (t ∷ after) all counted same = elim (cases_Bool (is_of b row)) [
-    | inl ours ↦
-        let count = rw ours at counted in
-        let lengths = rw ours at same in
-        let next : length before + 1 + 1 ≡ length (before ++ t ∷ []) + 1 = ap (λ (n : ℕ). n + 1) (sym (length-append before (t ∷ []))) in
-        let rest : map (shown_of_row terms) (chosen rows) ≡ map termed_columns (pairs rows after) =
-        termed_rows rows (before ++ t ∷ []) after (all ∙ sym (append_assoc before (t ∷ []) after)) (subst (λ (n : ℕ). IsCounted n (map (λ (row : Row Rental). row.number) (filter (is_of b) rows))) next count.1)
-        (omega (arith, lengths)) in
-        let its : at row.number (of row.branch terms) ≡ t ∷ [] =
-        (λ i. at (count.0 i) (of (same_if row.branch b ours i) terms)) ∙ ap (at (length before + 1)) all ∙ at_behind before after t in
-        let own : shown_of_row terms row ≡ termed_columns (row.it, t) = ap (shown_first (row.it ∷ [])) its in
-        elim (cases_Bool (q row.it)) [
-          | inl passes ↦ rw (ours, passes) (λ i. own i ∷ rest i)
-          | inr fails ↦ rw (ours, fails) rest
-        ]
-    | inr other ↦ rw other (termed_rows rows before (t ∷ after) all (rw other at counted) (rw other at same))
-  ]
+termed_alike : (b : ℕ) (terms : List (Row Terms)) (x : Row Rental) (t : Terms) → x.branch ≡ b → at x.number (of b terms) ≡ t ∷ [] → shown_of_row terms x ≡ termed_columns (x.it, t)
+termed_alike b terms x t own found = (λ i. shown_first (x.it ∷ []) (at x.number (of (own i) terms))) ∙ ap (shown_first (x.it ∷ [])) found
 
 -- ---- what is read of the rows
 
@@ -164,5 +132,6 @@ read_termed old new b n rows slice (Ok all) h same read kinds = λ books holds h
   still_holds shop_schema StandsFor SELECT_TERMED.now _ old new termed_means.plain rows h books holds,
   termed_told b (λ (it : Rental × Terms). it.0.customer == n) books held all.items kinds
       (read ∙ same ∙ shows_termed old new b n rows books holds held h
-      ∙ termed_rows b (λ (it : Rental). it.customer == n) books.terms books.rentals [] (of b books.terms) refl (held.numbers.rentals b) (held.termed b)),
+      ∙ termed_rows b (λ (it : Rental). it.customer == n) books.terms (shown_of_row books.terms) termed_columns (termed_alike b books.terms) books.rentals [] (of b books.terms) refl
+      (held.numbers.rentals b) (held.termed b)),
 )

@@ -3,7 +3,7 @@ use Rattle.std.proofs.Common.{◌≡◌, ◌≤◌, ◌==◌, ◌&&◌, ℕ, Lis
 use Rattle.std.specs.Prelude.{slice_get}
 use Rattle.std.specs.List.{list_all}
 use Rattle.std.proofs.lemmas.Bool.Decides.{nat_tests}
-use Rattle.sqlite.specs.declared.types.Value.TheVariants.{Null, Text}
+use Rattle.sqlite.specs.declared.types.Value.TheVariants.{Null}
 use Rattle.sqlite.specs.Values.{or_null}
 use Rattle.sqlite_value.specs.Order as sql
 use Rattle.sqlite_value.specs.Order.{column}
@@ -22,7 +22,6 @@ use Rattle.sql_rows.proofs.Queries.{Selects, plain_query}
 use Rattle.sql_rows.proofs.ColumnTests.{number_test, one_tested, same_flag, same_or_null, test_of, same_number}
 use Rattle.sql_rows.proofs.Projects.{projects_one, still_holds}
 use Rattle.shop_model.specs.Rows.{at, is_empty, lacks, numbered}
-use Rattle.shop_model.specs.Values as model
 use Rattle.shop_model.specs.Books.{Books, head}
 use Rattle.shop_schema.specs.Tables.{shop_schema}
 use Rattle.shop_schema.specs.Shop.{StandsFor, Holds, Reads}
@@ -32,12 +31,12 @@ use Rattle.shop_schema.proofs.Lasts.{numbered_once}
 use Rattle.shop_schema.proofs.Listed.{own_rows}
 use Rattle.shop_schema.proofs.Numbered.{picked}
 use Rattle.shop_store.specs.declared.branches.TheConstants.{SELECT_MANAGER}
-use Rattle.shop_store.specs.declared.films.TheConstants.{SELECT_WITHDRAWN, SELECT_TITLE}
+use Rattle.shop_store.specs.declared.films.TheConstants.{SELECT_WITHDRAWN}
 use Rattle.shop_store.specs.declared.rows.TheConstants.{SELECT_COUNTRY, SELECT_LANGUAGE, SELECT_CATEGORY, SELECT_CITY, SELECT_ACTOR}
 use Rattle.shop_store.specs.declared.staff.TheConstants.{SELECT_POST}
 use Rattle.shop_store.proofs.ByNumber.{ByNumber, countries, languages, categories, cities, actors, films, staff, branches}
 use Rattle.shop_types.specs.Verdicts.{post_of}
-use Rattle.shop_store.specs.SharedSeen.{withdrawn_of, title_of, manager_of}
+use Rattle.shop_store.specs.SharedSeen.{withdrawn_of, manager_of}
 
 abbrev pub of_number : List Term
 of_number = op2 (Compare Eq Binary) (col 1 1) (col 0 0) ∷ []
@@ -129,15 +128,6 @@ unfolding understood everything
 read_film old new n rows slice h low =
     reads_first films SELECT_WITHDRAWN.now (col 1 12 ∷ []) (record { names = _; is = refl; plain = (refl, refl); unlisted = refl }) (λ vs. column vs 11 ∷ []) (λ m r. refl) old new n rows h low
     withdrawn_of (λ row v. column row 0 ≡ flag_value v) (λ books x v is. same_flag v x.withdrawn (sym is)) slice
-
-same_words : (s t : model.Text) → Text s ≡ Text t → t ≡ s
-same_words s t h = cc
-
-pub read_title : ReadsFirst films SELECT_TITLE.now title_of (λ row v. column row 0 ≡ Text v)
-unfolding understood everything
-read_title old new n rows slice h low =
-    reads_first films SELECT_TITLE.now (col 1 2 ∷ []) (record { names = _; is = refl; plain = (refl, refl); unlisted = refl }) (λ vs. column vs 1 ∷ []) (λ m r. refl) old new n rows h low
-    title_of (λ row v. column row 0 ≡ Text v) (λ books x v is. same_words x.title v is) slice
 
 -- ---- a member of staff
 

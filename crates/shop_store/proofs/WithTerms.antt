@@ -1,7 +1,9 @@
 -- What is shown of rentals with their terms, and what is read of it.
-use Rattle.std.proofs.Common.{◌≡◌, ◌<◌, ℕ, List, [], ◌∷◌, ◌++◌, map, filter, Bool, false, ap, ◌∙◌, is_eq, is_lt}
+use Rattle.std.proofs.Common.{◌≡◌, ◌<◌, ◌+◌, ℕ, List, [], ◌∷◌, ◌++◌, length, map, filter, Bool, false, inl, inr, refl, sym, ap, subst, ◌∙◌, arith, append_assoc, is_eq, is_lt}
 use Rattle.std.specs.Prelude.{zip}
 use Rattle.std.specs.List.{AllByRecursion}
+use Rattle.std.proofs.lemmas.Bool.{cases_Bool}
+use Rattle.std.proofs.lemmas.List.{length-append}
 use Rattle.sqlite.specs.declared.types.Value.TheVariants.{Null}
 use Rattle.sqlite.specs.Values.{or_null}
 use Rattle.sqlite_value.specs.Order as sql
@@ -15,18 +17,19 @@ use Rattle.sql_rows.specs.Rows.{number_value}
 use Rattle.sql_rows.proofs.Joins.{joined_query, Climbs}
 use Rattle.sql_rows.proofs.OfKind.{unmapped_kind}
 use Rattle.sql_rows.proofs.Queries.{number_cmp}
-use Rattle.shop_model.specs.Rows.{Row, of}
+use Rattle.shop_model.specs.Rows.{Row, IsCounted, at, is_of, of}
 use Rattle.shop_model.specs.Values.{Rental, Terms}
 use Rattle.shop_model.specs.Books.{Books, shop_of}
 use Rattle.shop_model.specs.Stock.{termed}
+use Rattle.shop_model.proofs.RowLemmas.{same_if}
 use Rattle.shop_schema.specs.Columns.{moment_value}
 use Rattle.shop_schema.specs.RowValues.{IsRental, IsTerms}
 use Rattle.shop_schema.specs.Held.{IsHeld}
 use Rattle.shop_schema.proofs.SameRows.{same_moment_value, same_last}
-use Rattle.shop_ledger.proofs.Rising.{Rise}
+use Rattle.shop_ledger.proofs.Rising.{Rise, of_which}
 use Rattle.shop_store.specs.declared.termed.TermedRental.{TermedRental}
 use Rattle.shop_store.specs.Seen.{seen_termed, termed_columns, IsTermed}
-use Rattle.shop_store.proofs.Ascending.{all_of, ascend, not_equal, not_less}
+use Rattle.shop_store.proofs.Ascending.{all_of, ascend, at_behind, not_equal, not_less}
 
 -- ---- what is shown
 
@@ -59,6 +62,42 @@ module _ (from : Join) (tests shows : List Term) (number : Term) (show : Row Ren
 
   pub rentals_climb : (xs : List (Row Rental)) → Rise xs → Climbs asked (map output xs)
   rentals_climb xs r = ascending-map _ output xs (ascending_weaker (λ (x y : Row Rental). x.number < y.number) _ one_climbs xs (ascend xs r))
+
+-- ---- each with the terms under its number
+
+-- what is shown of a branch's rental among the terms is `its`, of the rental with those under its number
+module _ {Z : Type 0} (b : ℕ) (q : Rental → Bool) (terms : List (Row Terms)) (shows : Row Rental → Z) (its : Rental × Terms → Z)
+    (alike : (x : Row Rental) (t : Terms) → x.branch ≡ b → at x.number (of b terms) ≡ t ∷ [] → shows x ≡ its (x.it, t)) where
+  abbrev chosen : List (Row Rental) → List (Row Rental)
+  chosen rows = filter (of_which q b) rows
+
+  abbrev pairs : List (Row Rental) → List Terms → List (Rental × Terms)
+  pairs rows after = filter (λ (it : Rental × Terms). q it.0) (zip (of b rows) after)
+
+  pub termed_rows : (rows : List (Row Rental)) (before after : List Terms) → of b terms ≡ before ++ after → IsCounted (length before + 1) (map (λ (row : Row Rental). row.number) (filter (is_of b) rows))
+      → length after ≡ length (of b rows) → map shows (chosen rows) ≡ map its (pairs rows after)
+  termed_rows [] before [] all counted same = refl
+  termed_rows [] before (t ∷ after) all counted same = refl
+  termed_rows (row ∷ rows) before [] all counted same = elim (cases_Bool (is_of b row)) [
+    | inl ours ↦ absurd (omega (arith, rw ours at same))
+    | inr other ↦ rw other (termed_rows rows before [] all (rw other at counted) (rw other at same))
+  ]
+  termed_rows (row ∷ rows) before (t ∷ after) all counted same = elim (cases_Bool (is_of b row)) [
+    | inl ours ↦
+        let count = rw ours at counted in
+        let lengths = rw ours at same in
+        let next : length before + 1 + 1 ≡ length (before ++ t ∷ []) + 1 = ap (λ (n : ℕ). n + 1) (sym (length-append before (t ∷ []))) in
+        let rest : map shows (chosen rows) ≡ map its (pairs rows after) =
+        termed_rows rows (before ++ t ∷ []) after (all ∙ sym (append_assoc before (t ∷ []) after)) (subst (λ (n : ℕ). IsCounted n (map (λ (row : Row Rental). row.number) (filter (is_of b) rows))) next count.1)
+        (omega (arith, lengths)) in
+        let found : at row.number (of b terms) ≡ t ∷ [] = (λ i. at (count.0 i) (of b terms)) ∙ ap (at (length before + 1)) all ∙ at_behind before after t in
+        let own : shows row ≡ its (row.it, t) = alike row t (same_if row.branch b ours) found in
+        elim (cases_Bool (q row.it)) [
+          | inl passes ↦ rw (ours, passes) (λ i. own i ∷ rest i)
+          | inr fails ↦ rw (ours, fails) rest
+        ]
+    | inr other ↦ rw other (termed_rows rows before (t ∷ after) all (rw other at counted) (rw other at same))
+  ]
 
 -- ---- what is read
 

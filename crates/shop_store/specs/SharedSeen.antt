@@ -3,7 +3,7 @@ use Rattle.std.specs.Prelude.{◌≡◌, ℕ, Bool, List, [], ◌∷◌, Option,
 use Rattle.sqlite_value.specs.Order as sql
 use Rattle.sqlite_value.specs.Order.{column}
 use Rattle.sql_rows.specs.Rows.{number_value}
-use Rattle.shop_model.specs.Values.{Text, Film, Branch}
+use Rattle.shop_model.specs.Values.{Film, Branch}
 use Rattle.shop_model.specs.Books.{Caller, Counter, Nobody}
 use Rattle.shop_types.specs.Seen.{seen_film}
 use Rattle.shop_store.specs.declared.films.FilmRow.{FilmRow}
@@ -19,9 +19,6 @@ withdrawn_of film = film.withdrawn
 -- a film that was found, withdrawn or not
 abbrev pub seen_film_row : FilmRow → Film
 seen_film_row row = record (seen_film row.film) { withdrawn = row.withdrawn }
-
-abbrev pub title_of : Film → Text
-title_of film = film.title
 
 abbrev pub manager_of : Branch → Option ℕ
 manager_of branch = branch.manager

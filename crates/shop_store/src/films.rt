@@ -8,11 +8,11 @@ ghost use Rattle.shop_model.specs.Rows.{at, set_at};
 ghost use Rattle.shop_model.specs.Books.{head};
 ghost use Rattle.shop_schema.specs.Calls.{Finds, Stores};
 ghost use Rattle.shop_schema.specs.Columns.{film_columns};
-ghost use Rattle.shop_store.specs.SharedSeen.{seen_film_row, withdrawn_of, title_of};
+ghost use Rattle.shop_store.specs.SharedSeen.{seen_film_row, withdrawn_of};
 
 use crate::columns::{amount_at, features_at, minutes_or_null_at, period_at, rate_at, rating_at};
 use shop_schema::{query_first, row_number_at, text_at};
-use shop_types::{Film, FilmNo, Rate, T128};
+use shop_types::{Film, FilmNo, Rate};
 use sql_rows::{StoreFault, Stored, execute, flag_at, query_one};
 use sqlite::types::ToSql;
 use sqlite::{Alter, Row, Transaction};
@@ -96,25 +96,6 @@ pub fn film_withdrawn<S: Alter>(
         SELECT_WITHDRAWN,
         &[film.get().to_sql()],
         |row| flag_at(row, 0),
-    )
-}
-
-const SELECT_TITLE: &str = "SELECT title FROM film WHERE number = ?1";
-
-/// The title of the film of the number, where there is such a film.
-pub fn film_title<S: Alter>(
-    tx: &mut Transaction<'_, S>,
-    film: FilmNo,
-) -> Result<Option<T128>, StoreFault>
-    ensures inside { StaysInside S.Store tx.old.conn tx.new.conn result }
-    ensures found { Finds (state S.Store tx.old.conn.now) (state S.Store tx.new.conn.now) result
-        (λ title books. title ≡ head (map title_of (at film books.catalogue.films))) }
-{
-    query_first(
-        tx,
-        SELECT_TITLE,
-        &[film.get().to_sql()],
-        |row| text_at(row, 0),
     )
 }
 

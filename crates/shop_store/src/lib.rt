@@ -28,7 +28,7 @@ pub use copies::{
 };
 pub use counts::{put_count, put_counts};
 pub use customers::{CustomerRow, active_at, customer_at, put_customer, set_active};
-pub use films::{FilmRow, film_row, film_title, film_withdrawn, set_rate, set_withdrawn};
+pub use films::{FilmRow, film_row, film_withdrawn, set_rate, set_withdrawn};
 pub use lasts::{
     last_actor, last_branch, last_category, last_city, last_country, last_film, last_language,
     last_staff,
@@ -45,5 +45,5 @@ pub use rows::{
     is_country, is_language,
 };
 pub use staff::{set_gone, staff_at};
-pub use termed::{TermedRental, rentals_out, termed_of_customer};
+pub use termed::{TermedRental, termed_of_customer};
 pub use terms::{TermsRow, put_terms};

@@ -1,6 +1,6 @@
 //! Rentals, each with its terms.
 
-ghost use Rattle.std.specs.Prelude.{◌≡◌, ◌==◌, filter, is_none, map};
+ghost use Rattle.std.specs.Prelude.{◌≡◌, ◌==◌, filter, map};
 ghost use Rattle.sqlite.specs.Held.{state};
 ghost use Rattle.sql_rows.specs.Calls.{StaysInside};
 ghost use Rattle.shop_model.specs.Books.{shop_of};
@@ -70,21 +70,4 @@ pub fn termed_of_customer<S: Alter>(
         SELECT_TERMED,
         &[branch.get().to_sql(), customer.get().to_sql()],
     )
-}
-
-const SELECT_OUT_RENTALS: &str =
-    "SELECT r.moment, r.copy, r.customer, r.returned, r.staff, t.rate, t.period, t.replacement FROM out_copy AS o LEFT JOIN rental AS r ON r.branch = o.branch AND r.number = o.rental LEFT JOIN rental_terms AS t ON t.branch = o.branch AND t.rental = o.rental WHERE o.branch = ?1 ORDER BY o.rental";
-
-/// The branch's rentals whose copies are out, in order of number, each with its terms. One statement reads them, and as many rows of each table as copies are
-/// out. One without its rental or terms is the fault `Failed`; no sound table has one. After a fault the transaction may be rolled back.
-pub fn rentals_out<S: Alter>(
-    alloc: Global,
-    tx: &mut Transaction<'_, S>,
-    branch: BranchNo,
-) -> Result<Vec<TermedRental>, StoreFault>
-    ensures inside { StaysInside S.Store tx.old.conn tx.new.conn result }
-    ensures found { Finds (state S.Store tx.old.conn.now) (state S.Store tx.new.conn.now) result
-        (λ rows books. map (λ row. seen_termed row) rows.items ≡ filter (λ it. is_none it.0.returned) (termed (shop_of branch books))) }
-{
-    query_all(alloc, tx, SELECT_OUT_RENTALS, &[branch.get().to_sql()])
 }

@@ -29,3 +29,6 @@ pub mod CategoryRows
 pub mod CategoryOrder
 pub mod CategorySales
 pub mod CategoryLines
+pub mod OverdueQuery
+pub mod OverdueJoin
+pub mod OverdueLines

@@ -25,7 +25,7 @@ use Rattle.view_texts.proofs.PaymentJoin.{rental_rows, copy_films, rental_films,
 
 -- ---- a branch's rows
 
-rows_at : {A : Type 0} (b n : ℕ) (rows : List (Row A)) → IsCounted 1 (map (λ row. row.number) (filter (is_of b) rows)) → map (λ row. row.it) (filter (is_row b n) rows) ≡ at n (of b rows)
+pub rows_at : {A : Type 0} (b n : ℕ) (rows : List (Row A)) → IsCounted 1 (map (λ row. row.number) (filter (is_of b) rows)) → map (λ row. row.it) (filter (is_row b n) rows) ≡ at n (of b rows)
 rows_at b n rows counted = row_at (λ it. it) b n rows counted ∙ ap (at n) (map-id (of b rows))
 
 -- the rows of a number have that number
@@ -58,7 +58,7 @@ module _ (books : Books) (held : HasNumbers books) (b : ℕ) where
   abbrev shop : Shop
   shop = shop_of b books
 
-  films_are : (rental : Rental) → copy_films books (filter (is_row b rental.copy) books.copies) ≡ film_of books.catalogue shop rental
+  pub films_are : (rental : Rental) → copy_films books (filter (is_row b rental.copy) books.copies) ≡ film_of books.catalogue shop rental
   films_are rental =
       sym (flat_map-map (λ (copy : Copy). at copy.film books.catalogue.films) (λ (row : Row BookCopy). unmarked row.it) (filter (is_row b rental.copy) books.copies))
       ∙ ap (flat_map (λ (copy : Copy). at copy.film books.catalogue.films)) (row_at unmarked b rental.copy books.copies (held.copies b))
@@ -127,7 +127,7 @@ module _ (catalogue : Catalogue) (shop : Shop) where
       ∙ flat_map_same_on _ (λ payment. sale_in (paid_line catalogue shop payment)) sale_is shop.payments
       ∙ sym (flat_map-map sale_in (paid_line catalogue shop) shop.payments)
 
-  one_film : (rental : Rental) → (film_of catalogue shop rental ≡ []) ⊎ ((film : Film) × (film_of catalogue shop rental ≡ film ∷ []))
+  pub one_film : (rental : Rental) → (film_of catalogue shop rental ≡ []) ⊎ ((film : Film) × (film_of catalogue shop rental ≡ film ∷ []))
   one_film rental = go (at rental.copy shop.copies) (at_one rental.copy shop.copies)
     where
       films : List Copy → List Film

@@ -5,3 +5,4 @@ pub mod Payments
 pub mod Sales
 pub mod Actors
 pub mod CategorySums
+pub mod Overdue

@@ -20,6 +20,3 @@ returns-in-FilmNotInStock-clause-shown g c = rw c.in-FilmNotInStock.is c.look_fi
 
 pub returns-in-Balance-clause-shown : goal.returns-in-Balance-clause-shown
 returns-in-Balance-clause-shown g c = rw c.in-Balance.is c.look_balance.ensures.shown
-
-pub returns-in-Overdue-clause-shown : goal.returns-in-Overdue-clause-shown
-returns-in-Overdue-clause-shown g c = rw c.in-Overdue.is c.look_overdue.ensures.shown

@@ -55,6 +55,13 @@ returns-in_ok-look_rewards-in-Rewards-clause-works g c = λ clean books holds he
     let asked = sym (ap seen_reading c.in-Rewards.is) ∙ c.reading_of.ensures in
     (rw c.in-Look.is (look_done c.args.limits c.args.branch books _ _ _ _ stands.there asked shown.1 shown.0), held.1)
 
+pub returns-in-Overdue-clause-works : goal.returns-in-Overdue-clause-works
+returns-in-Overdue-clause-works g c = λ clean books holds held known.
+    let found = c.in_ok-standing.ensures.found clean books holds held.0 in
+    let stands = subst (IsStanding c.args.branch books) c.in-Some.is found.1 in
+    let asked : seen_ask c.in-Look.ask ≡ model.Overdue c.in-Overdue.at = sym c.reading_of.ensures ∙ ap seen_reading c.in-Overdue.is in
+    (rw c.in-Look.is (rw stands.there (ap (λ (a : Ask). looked c.args.branch a books) asked, refl)), held.1)
+
 pub returns-in-Arrivals-clause-works : goal.returns-in-Arrivals-clause-works
 returns-in-Arrivals-clause-works g c = λ clean books holds held known.
     let found = c.in_ok-standing.ensures.found clean books holds held.0 in

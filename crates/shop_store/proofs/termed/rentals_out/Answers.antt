@@ -1,9 +1,0 @@
-use Rattle.std.proofs.Common.{Ok, refl}
-use Rattle.sql_rows.proofs.Found.{found_then}
-use Rattle.shop_store.proofs.OutRentals.{read_outs}
-use Rattle.shop_store.proofs.termed.rentals_out.Goals as goal
-
-pub returns-clause-found : goal.returns-clause-found
-returns-clause-found g c clean =
-    let shown = rw (c.to_sql.ensures, c.get.ensures.value) at (c.query_all.ensures.shown clean) in
-    found_then _ _ c.query_all.result shown (λ x it. read_outs _ _ c.args.branch it.0 it.0 (Ok x) it.1 refl it.2 it.3)

@@ -1,0 +1,226 @@
+-- What the join of what is out shows of the books: each open rental of the branch, with its terms, its customer and the title of its film.
+use Rattle.std.proofs.Common.{◌≡◌, ◌≤◌, ◌==◌, ◌&&◌, ℕ, List, [], ◌∷◌, ◌++◌, map, filter, length, true, cond, refl, sym, ap, subst, ◌∙◌, arith, append-nil, append_assoc, inl, inr}
+use Rattle.std.specs.Prelude.{◌⊎◌, Bool, is_none}
+use Rattle.std.specs.List.{AllByRecursion, flat_map}
+use Rattle.std.proofs.lemmas.List.{length-append}
+use Rattle.std.proofs.lemmas.List.Elements.{filter-append}
+use Rattle.std.proofs.lemmas.List.Sorted.{IsPermutation-refl}
+use Rattle.sqlite.specs.declared.types.Value.{Value}
+use Rattle.sqlite.specs.declared.types.Value.TheVariants.{Null, Text}
+use Rattle.sqlite.specs.Values.{or_null}
+use Rattle.sqlite_value.specs.Order as sql
+use Rattle.sqlite_value.specs.Order.{column}
+use Rattle.sqlite_trees.specs.Tree.{Trees}
+use Rattle.sqlite_sql.specs.Term.{col}
+use Rattle.sqlite_sql.specs.Query.{inner, end, Output}
+use Rattle.sqlite_sql.specs.Program.{overlay}
+use Rattle.sqlite.specs.State.{State, Shown}
+use Rattle.sqlite_keyed.proofs.ListLemmas.{map-map, all-filter, IsPermutation-same}
+use Rattle.sql_rows.specs.Rows.{HasRows, PicksOne, columns_of, number_value}
+use Rattle.sql_rows.proofs.Queries.{answers, kept_as_map}
+use Rattle.sql_rows.proofs.ColumnTests.{one_tested, number_tested}
+use Rattle.sql_rows.proofs.Joins.{or_blank, shown_of, few_list, left_pair, joined_rows}
+use Rattle.shop_model.specs.Rows.{Row, at, is_of, is_row}
+use Rattle.shop_model.specs.Values.{Film, Rental}
+use Rattle.shop_model.specs.Books.{Books, BookCopy, head}
+use Rattle.shop_model.proofs.FoundLemmas.{at_one}
+use Rattle.shop_model.proofs.RowLemmas.{same_test, filter_filter}
+use Rattle.shop_schema.specs.Tables.{shop_schema}
+use Rattle.shop_schema.specs.Columns.{moment_value, film_columns, customer_columns, copy_columns, rental_columns, terms_columns, out_columns}
+use Rattle.shop_schema.specs.Counts.{is_open, out_of}
+use Rattle.shop_schema.specs.Held.{IsHeld}
+use Rattle.shop_schema.specs.Shop.{StandsFor, Holds}
+use Rattle.shop_schema.proofs.Lists.{picks_row}
+use Rattle.shop_schema.proofs.Numbers.{left_number, left_null}
+use Rattle.shop_ledger.proofs.Rising.{of_which, which_rise}
+use Rattle.shop_store.proofs.WithTerms.{rentals_climb}
+use Rattle.view_texts.proofs.PaymentJoin.{copy_films}
+use Rattle.view_texts.proofs.OverdueQuery.{select_outs, outs_query, outs_mean, out_tests, out_shows, out_order, with_film, with_copy, with_customer, with_terms, with_rental}
+
+-- ---- one row at most
+
+-- its columns, NULLs where there is none
+pub first_or_blank : ℕ → List sql.Row → sql.Row
+first_or_blank width [] = columns_of width []
+first_or_blank width (r ∷ rows) = r
+
+first_brings : {Y Z : Type 0} (width : ℕ) (columns : Y → sql.Row) (gives : sql.Row → List Z) (ys : List Y) → length ys ≤ 1
+    → flat_map gives (or_blank width (map columns ys)) ≡ gives (first_or_blank width (map columns ys))
+unfolding first_or_blank
+first_brings width columns gives [] few = append-nil _
+first_brings width columns gives (y ∷ []) few = append-nil _
+first_brings width columns gives (y ∷ z ∷ ys) few = absurd (omega (arith, few))
+
+-- a column of it
+pub column_of : {A : Type 0} (width place : ℕ) (columns : Row A → sql.Row) (show : A → Value) → column (columns_of width []) place ≡ Null → ((row : Row A) → column (columns row) place ≡ show row.it)
+    → (rows : List (Row A)) → column (first_or_blank width (map columns rows)) place ≡ or_null show (head (map (λ (row : Row A). row.it) rows))
+unfolding first_or_blank
+column_of width place columns show blank is [] = blank
+column_of width place columns show blank is (row ∷ rows) = is row
+
+-- ---- a row is alone under its branch and number
+
+one_of : {X : Type 0} (before after : List X) (x : X) → length (before ++ x ∷ after) ≤ 1 → before ++ x ∷ after ≡ x ∷ []
+one_of [] [] x few = refl
+one_of [] (y ∷ after) x few = absurd (omega (arith, few))
+one_of (y ∷ before) after x few = absurd (omega (arith, few, length-append before (x ∷ after)))
+
+module _ {A : Type 0} (all : List (Row A)) (once : (b n : ℕ) → PicksOne (is_row b n) all) where
+  abbrev IsAlone : Row A → Type 0
+  IsAlone x = filter (is_row x.branch x.number) all ≡ x ∷ []
+
+  own : (x : Row A) → is_row x.branch x.number x ≡ true
+  own x = (λ i. same_test x.branch i && same_test x.number i)
+
+  alone_from : (before rows : List (Row A)) → all ≡ before ++ rows → AllByRecursion IsAlone rows
+  alone_from before [] is = tt
+  alone_from before (x ∷ rows) is =
+      let test : Row A → Bool = is_row x.branch x.number in
+      let parts : filter test all ≡ filter test before ++ x ∷ filter test rows =
+      ap (filter test) is ∙ filter-append test before (x ∷ rows) ∙ ap (λ t. filter test before ++ cond t (x ∷ filter test rows) (filter test rows)) (own x) in (
+        parts ∙ one_of (filter test before) (filter test rows) x (subst (λ (l : List (Row A)). length l ≤ 1) parts (once x.branch x.number)),
+        alone_from (before ++ x ∷ []) rows (is ∙ sym (append_assoc before (x ∷ []) rows)),
+      )
+
+each_alike : {X Y : Type 0} (P : X → Type 0) (f g : X → List Y) → ((x : X) → P x → f x ≡ g x) → (xs : List X) → AllByRecursion P xs → flat_map f xs ≡ flat_map g xs
+each_alike P f g alike [] all = refl
+each_alike P f g alike (x ∷ xs) all = (λ i. alike x all.0 i ++ each_alike P f g alike xs all.1 i)
+
+-- ---- one copy that is out
+
+abbrev pub title_of : List Film → Value
+title_of films = or_null (λ (film : Film). Text film.title) (head films)
+
+abbrev pub terms_row : Books → Row Rental → sql.Row
+terms_row books x = first_or_blank 5 (map terms_columns (filter (is_row x.branch x.number) books.terms))
+
+abbrev pub customer_row : Books → Row Rental → sql.Row
+customer_row books x = first_or_blank 10 (map customer_columns (filter (is_row x.branch x.it.customer) books.customers))
+
+abbrev pub rental_title : Books → Row Rental → Value
+rental_title books x = title_of (copy_films books (filter (is_row x.branch x.it.copy) books.copies))
+
+-- what is shown of an open rental, by the rows of its branch
+abbrev pub shown_open : Books → Row Rental → sql.Row
+shown_open books x =
+    moment_value x.it.rented ∷ column (terms_row books x) 3 ∷ column (customer_row books x) 2 ∷ column (customer_row books x) 3 ∷ column (customer_row books x) 6 ∷ rental_title books x ∷ []
+
+module _ (b : ℕ) (books : Books) (held : IsHeld books) (db : Trees) (s : StandsFor db books) (x : Row Rental) where
+  abbrev params : sql.Row
+  params = number_value b ∷ []
+
+  abbrev out : sql.Row
+  out = Null ∷ out_columns (out_of x)
+
+  abbrev rental : sql.Row
+  rental = Null ∷ rental_columns x
+
+  abbrev given : sql.Row → sql.Row → Value → List Output
+  given c3 c4 title = cond (x.branch == b) ((number_value x.number ∷ [], moment_value x.it.rented ∷ column c3 3 ∷ column c4 2 ∷ column c4 3 ∷ column c4 6 ∷ title ∷ []) ∷ []) []
+
+  ends_are : (c3 c4 c5 c6 : sql.Row) → shown_of outs_query (overlay db []) end (params ∷ out ∷ rental ∷ (Null ∷ c3) ∷ (Null ∷ c4) ∷ (Null ∷ c5) ∷ (Null ∷ c6) ∷ []) ≡ given c3 c4 (column c6 1)
+  ends_are c3 c4 c5 c6 =
+      ap (λ t. cond t ((number_value x.number ∷ [], moment_value x.it.rented ∷ column c3 3 ∷ column c4 2 ∷ column c4 3 ∷ column c4 6 ∷ column c6 1 ∷ []) ∷ []) []) (one_tested _ (number_tested x.branch b))
+
+  -- ---- its copy, and the film of that
+
+  module _ (c3 c4 : sql.Row) where
+    abbrev after_copy : sql.Row → List Output
+    after_copy r5 = shown_of outs_query (overlay db []) with_film (params ∷ out ∷ rental ∷ (Null ∷ c3) ∷ (Null ∷ c4) ∷ r5 ∷ [])
+
+    copy_there : (copy : Row BookCopy) → after_copy (Null ∷ copy_columns copy) ≡ given c3 c4 (title_of (at copy.it.film books.catalogue.films))
+    copy_there copy =
+        left_number 12 film_columns (db 14) books.catalogue.films s.films (λ it. refl) (λ r. refl) ends (λ r. refl) copy.it.film
+        ∙ go (at copy.it.film books.catalogue.films) (at_one copy.it.film books.catalogue.films)
+      where
+        ends : sql.Row → List Output
+        ends r6 = shown_of outs_query (overlay db []) end (params ∷ out ∷ rental ∷ (Null ∷ c3) ∷ (Null ∷ c4) ∷ (Null ∷ copy_columns copy) ∷ r6 ∷ [])
+
+        P : List Film → Type 0
+        P l = flat_map (λ c6. ends (Null ∷ c6)) (or_blank 12 (map (λ film. film_columns (copy.it.film, film)) l)) ≡ given c3 c4 (title_of l)
+
+        go : (l : List Film) → (l ≡ []) ⊎ ((film : Film) × (l ≡ film ∷ [])) → P l
+        go l (inl none) = subst P (sym none) (append-nil _ ∙ ends_are c3 c4 (copy_columns copy) (columns_of 12 []))
+        go l (inr one) = subst P (sym one.1) (append-nil _ ∙ ends_are c3 c4 (copy_columns copy) (film_columns (copy.it.film, one.0)))
+
+    no_copy : after_copy (Null ∷ columns_of 6 []) ≡ given c3 c4 Null
+    no_copy =
+        left_null 12 film_columns (db 14) books.catalogue.films s.films (λ it. refl) (λ r. refl)
+        (λ r6. shown_of outs_query (overlay db []) end (params ∷ out ∷ rental ∷ (Null ∷ c3) ∷ (Null ∷ c4) ∷ (Null ∷ columns_of 6 []) ∷ r6 ∷ [])) (λ r. refl)
+        ∙ append-nil _ ∙ ends_are c3 c4 (columns_of 6 []) (columns_of 12 [])
+
+    copy_brings : shown_of outs_query (overlay db []) with_copy (params ∷ out ∷ rental ∷ (Null ∷ c3) ∷ (Null ∷ c4) ∷ []) ≡ given c3 c4 (rental_title books x)
+    copy_brings =
+        let few = picks_row x.branch books.copies (held.numbers.copies x.branch) x.it.copy in
+        left_pair 6 copy_columns (db 25) books.copies s.copies after_copy (λ r. refl) (λ it. it.branch) (λ it. it.number) (λ it. refl) (λ it. refl) (λ r. refl) (λ r. refl) x.branch x.it.copy few
+        ∙ go (filter (is_row x.branch x.it.copy) books.copies) (few_list (filter (is_row x.branch x.it.copy) books.copies) few)
+      where
+        P : List (Row BookCopy) → Type 0
+        P l = flat_map (λ c5. after_copy (Null ∷ c5)) (or_blank 6 (map copy_columns l)) ≡ given c3 c4 (title_of (copy_films books l))
+
+        go : (l : List (Row BookCopy)) → (l ≡ []) ⊎ ((copy : Row BookCopy) × (l ≡ copy ∷ [])) → P l
+        go l (inl none) = subst P (sym none) (append-nil _ ∙ no_copy)
+        go l (inr one) = subst P (sym one.1) (append-nil _ ∙ copy_there one.0 ∙ ap (λ films. given c3 c4 (title_of films)) (sym (append-nil (at one.0.it.film books.catalogue.films))))
+
+  -- ---- its customer, its terms, and the rental
+
+  customer_brings : (c3 : sql.Row) → shown_of outs_query (overlay db []) with_customer (params ∷ out ∷ rental ∷ (Null ∷ c3) ∷ []) ≡ given c3 (customer_row books x) (rental_title books x)
+  customer_brings c3 =
+      let few = picks_row x.branch books.customers (held.numbers.customers x.branch) x.it.customer in
+      left_pair 10 customer_columns (db 23) books.customers s.customers after (λ r. refl) (λ it. it.branch) (λ it. it.number) (λ it. refl) (λ it. refl) (λ r. refl) (λ r. refl) x.branch x.it.customer few
+      ∙ first_brings 10 customer_columns (λ c4. after (Null ∷ c4)) (filter (is_row x.branch x.it.customer) books.customers) few
+      ∙ copy_brings c3 (customer_row books x)
+    where
+      after : sql.Row → List Output
+      after r4 = shown_of outs_query (overlay db []) with_copy (params ∷ out ∷ rental ∷ (Null ∷ c3) ∷ r4 ∷ [])
+
+  terms_bring : shown_of outs_query (overlay db []) with_terms (params ∷ out ∷ rental ∷ []) ≡ given (terms_row books x) (customer_row books x) (rental_title books x)
+  terms_bring =
+      let few = picks_row x.branch books.terms (held.numbers.terms x.branch) x.number in
+      left_pair 5 terms_columns (db 57) books.terms s.more.terms_are after (λ r. refl) (λ it. it.branch) (λ it. it.number) (λ it. refl) (λ it. refl) (λ r. refl) (λ r. refl) x.branch x.number few
+      ∙ first_brings 5 terms_columns (λ c3. after (Null ∷ c3)) (filter (is_row x.branch x.number) books.terms) few
+      ∙ customer_brings (terms_row books x)
+    where
+      after : sql.Row → List Output
+      after r3 = shown_of outs_query (overlay db []) with_customer (params ∷ out ∷ rental ∷ r3 ∷ [])
+
+  abbrev brought : List Output
+  brought = shown_of outs_query (overlay db []) with_rental (params ∷ out ∷ [])
+
+  -- a rental of the books is its own row
+  rental_brings : filter (is_row x.branch x.number) books.rentals ≡ x ∷ [] → brought ≡ cond (x.branch == b) ((number_value x.number ∷ [], shown_open books x) ∷ []) []
+  rental_brings alone =
+      left_pair 7 rental_columns (db 27) books.rentals s.rentals after (λ r. refl) (λ it. it.branch) (λ it. it.number) (λ it. refl) (λ it. refl) (λ r. refl) (λ r. refl) x.branch x.number
+      (picks_row x.branch books.rentals (held.numbers.rentals x.branch) x.number)
+      ∙ ap (λ (l : List (Row Rental)). flat_map (λ c2. after (Null ∷ c2)) (or_blank 7 (map rental_columns l))) alone
+      ∙ append-nil _ ∙ terms_bring
+    where
+      after : sql.Row → List Output
+      after r2 = shown_of outs_query (overlay db []) with_terms (params ∷ out ∷ r2 ∷ [])
+
+-- ---- the branch's open rentals, in the order of their numbers
+
+abbrev pub opens_of : ℕ → Books → List (Row Rental)
+opens_of b books = filter (of_which (λ (it : Rental). is_none it.returned) b) books.rentals
+
+abbrev open_output : Books → Row Rental → Output
+open_output books x = (number_value x.number ∷ [], shown_open books x)
+
+pub shows_opens : (old new : State) (b : ℕ) (rows : List sql.Row) (books : Books) → Holds old books → IsHeld books → Shown select_outs (number_value b ∷ []) old new rows
+    → rows ≡ map (shown_open books) (opens_of b books)
+shows_opens old new b rows books holds held h =
+    let db = old.now.trees in
+    let opened = filter is_open books.rentals in
+    let once : (c n : ℕ) → PicksOne (is_row c n) books.rentals = λ c n. picks_row c books.rentals (held.numbers.rentals c) n in
+    let each = all-filter (λ (x : Row Rental). filter (is_row x.branch x.number) books.rentals ≡ x ∷ []) is_open books.rentals (alone_from books.rentals once [] books.rentals refl) in
+    joined_rows 43 with_rental out_tests out_shows out_order (number_value b ∷ []) db 3 (λ row. out_columns (out_of row)) opened
+    (subst (HasRows 3 (db 43)) (map-map out_columns out_of opened) holds.stands.outs) refl (λ r. refl)
+    (λ x. brought b books held db holds.stands x) (λ x. IsPermutation-refl _)
+    rows (answers shop_schema select_outs outs_query (number_value b ∷ []) old new holds.schema_is outs_mean rows h)
+    (map (open_output books) (opens_of b books))
+    (IsPermutation-same _ _
+    (each_alike (λ (x : Row Rental). filter (is_row x.branch x.number) books.rentals ≡ x ∷ []) (brought b books held db holds.stands) (λ x. cond (x.branch == b) (open_output books x ∷ []) [])
+    (rental_brings b books held db holds.stands) opened each
+    ∙ kept_as_map (is_of b) (open_output books) opened ∙ ap (map (open_output books)) (filter_filter (is_of b) is_open books.rentals)))
+    (rentals_climb (inner 43 with_rental) out_tests out_shows (col 1 3) (shown_open books) (opens_of b books) (which_rise (λ (it : Rental). is_none it.returned) b books.rentals (held.numbers.rentals b)))
+    ∙ map-map (λ (o : Output). o.1) (open_output books) (opens_of b books)

@@ -1,0 +1,181 @@
+-- The rows of the join of what is out by one branch's shop, what is read of them, and the list of those that are overdue.
+use Rattle.std.proofs.Common.{◌≡◌, ◌+◌, ℕ, List, [], ◌∷◌, ◌++◌, map, filter, codes, true, false, refl, sym, ap, subst, ◌∙◌, append-nil, inl, inr}
+use Rattle.std.specs.Prelude.{◌⊎◌, Bool, is_none, nat_lt, zip}
+use Rattle.std.specs.List.{AllByRecursion, flat_map}
+use Rattle.serde_json.specs.Data.{Data}
+use Rattle.sqlite.specs.declared.types.Value.TheVariants.{Null, Text}
+use Rattle.sqlite.specs.Values.{or_null}
+use Rattle.sqlite_value.specs.Order as sql
+use Rattle.sqlite_value.specs.Order.{column}
+use Rattle.sqlite.specs.State.{State, Shown}
+use Rattle.sqlite_keyed.proofs.ListLemmas.{map-map, all-filter}
+use Rattle.sql_rows.specs.Rows.{number_value}
+use Rattle.sql_rows.proofs.ColumnTests.{same_number}
+use Rattle.shop_model.specs.Calendar.{Moment, IsMoment, day_of}
+use Rattle.shop_model.specs.Rows.{Row, at, is_row, of}
+use Rattle.shop_model.specs.Values as model
+use Rattle.shop_model.specs.Values.{Customer, Film, Rental, Terms}
+use Rattle.shop_model.specs.Shop.{Catalogue, Shop}
+use Rattle.shop_model.specs.Books.{Books, head, shop_of}
+use Rattle.shop_model.specs.Stock.{termed, is_overdue, film_of}
+use Rattle.shop_model.specs.Views.{overdue_row, overdue_list}
+use Rattle.shop_model.proofs.FoundLemmas.{at_one}
+use Rattle.shop_model.proofs.RowLemmas.{more_yes, more_no}
+use Rattle.shop_schema.specs.Columns.{moment_value, customer_columns, terms_columns}
+use Rattle.shop_schema.specs.RowValues.{IsRental}
+use Rattle.shop_schema.specs.Held.{IsHeld}
+use Rattle.shop_schema.specs.Shop.{Holds}
+use Rattle.shop_schema.proofs.Lists.{filter_twice}
+use Rattle.shop_schema.proofs.SameRows.{same_moment_value}
+use Rattle.shop_store.proofs.Ascending.{all_of}
+use Rattle.shop_store.proofs.WithTerms.{termed_rows}
+use Rattle.shop_views.specs.declared.overdue_rows.OverdueRow.{OverdueRow}
+use Rattle.shop_views.specs.Overdue.{overdue_data, seen_overdue}
+use Rattle.shop_views.specs.Page.{Page, HasValues}
+use Rattle.view_texts.specs.Overdue.{renter_of, shown_out, is_late, IsReal, listed_out}
+use Rattle.view_texts.proofs.PageLines.{split_last}
+use Rattle.view_texts.proofs.PaymentLines.{rows_at, films_are, one_film}
+use Rattle.view_texts.proofs.PersonLines.{same_words}
+use Rattle.view_texts.proofs.OverdueQuery.{select_outs}
+use Rattle.view_texts.proofs.OverdueJoin.{column_of, title_of, terms_row, customer_row, rental_title, shown_open, shows_opens}
+
+-- ---- by the branch's shop
+
+module _ (b : ℕ) (books : Books) (held : IsHeld books) where
+  abbrev own_shop : Shop
+  own_shop = shop_of b books
+
+  -- a rental of the branch, with the terms under its number
+  open_is : (x : Row Rental) (t : Terms) → x.branch ≡ b → at x.number (of b books.terms) ≡ t ∷ [] → shown_open books x ≡ shown_out books.catalogue own_shop (x.it, t)
+  open_is x t own found =
+      let terms : map (λ (row : Row Terms). row.it) (filter (is_row x.branch x.number) books.terms) ≡ t ∷ [] =
+      ap (λ c. map (λ (row : Row Terms). row.it) (filter (is_row c x.number) books.terms)) own ∙ rows_at b x.number books.terms (held.numbers.terms b) ∙ found in
+      let customers : map (λ (row : Row Customer). row.it) (filter (is_row x.branch x.it.customer) books.customers) ≡ at x.it.customer own_shop.customers =
+      ap (λ c. map (λ (row : Row Customer). row.it) (filter (is_row c x.it.customer) books.customers)) own ∙ rows_at b x.it.customer books.customers (held.numbers.customers b) in
+      let title : rental_title books x ≡ title_of (film_of books.catalogue own_shop x.it) =
+      ap (λ c. rental_title books (record { branch = c; number = x.number; it = x.it })) own ∙ ap title_of (films_are books held.numbers b x.it) in
+      let period : column (terms_row books x) 3 ≡ number_value t.period =
+      column_of 5 3 terms_columns (λ (it : Terms). number_value it.period) refl (λ row. refl) (filter (is_row x.branch x.number) books.terms)
+      ∙ ap (λ l. or_null (λ (it : Terms). number_value it.period) (head l)) terms in
+      let first : column (customer_row books x) 2 ≡ or_null (λ (c : Customer). Text c.person.first) (renter_of own_shop x.it) =
+      column_of 10 2 customer_columns (λ (c : Customer). Text c.person.first) refl (λ row. refl) (filter (is_row x.branch x.it.customer) books.customers)
+      ∙ ap (λ l. or_null (λ (c : Customer). Text c.person.first) (head l)) customers in
+      let last : column (customer_row books x) 3 ≡ or_null (λ (c : Customer). Text c.person.last) (renter_of own_shop x.it) =
+      column_of 10 3 customer_columns (λ (c : Customer). Text c.person.last) refl (λ row. refl) (filter (is_row x.branch x.it.customer) books.customers)
+      ∙ ap (λ l. or_null (λ (c : Customer). Text c.person.last) (head l)) customers in
+      let phone : column (customer_row books x) 6 ≡ or_null (λ (c : Customer). Text c.person.phone) (renter_of own_shop x.it) =
+      column_of 10 6 customer_columns (λ (c : Customer). Text c.person.phone) refl (λ row. refl) (filter (is_row x.branch x.it.customer) books.customers)
+      ∙ ap (λ l. or_null (λ (c : Customer). Text c.person.phone) (head l)) customers in
+      (λ i. moment_value x.it.rented ∷ period i ∷ first i ∷ last i ∷ phone i ∷ title i ∷ [])
+
+  -- the branch's open rentals, each with its terms
+  abbrev pub opened : List (Rental × Terms)
+  opened = filter (λ (it : Rental × Terms). is_none it.0.returned) (termed own_shop)
+
+  pub shows_outs : (old new : State) (rows : List sql.Row) → Holds old books → Shown select_outs (number_value b ∷ []) old new rows → rows ≡ map (shown_out books.catalogue own_shop) opened
+  shows_outs old new rows holds h =
+      shows_opens old new b rows books holds held h
+      ∙ termed_rows b (λ (it : Rental). is_none it.returned) books.terms (shown_open books) (shown_out books.catalogue own_shop) open_is books.rentals [] (of b books.terms) refl
+      (held.numbers.rentals b) (held.termed b)
+
+  real_from : (rentals : List Rental) (terms : List Terms) → AllByRecursion IsRental rentals → AllByRecursion IsReal (zip rentals terms)
+  real_from [] [] all = tt
+  real_from [] (t ∷ terms) all = tt
+  real_from (rental ∷ rentals) [] all = tt
+  real_from (rental ∷ rentals) (t ∷ terms) all = (all.0.rented, real_from rentals terms all.1)
+
+  pub all_real : AllByRecursion IsReal opened
+  all_real =
+      all-filter IsReal (λ (it : Rental × Terms). is_none it.0.returned) (termed own_shop)
+      (real_from (of b books.rentals) (of b books.terms) (all_of IsRental b books.rentals held.values.rentals))
+
+  -- those that are overdue are the list
+  pub overdue_are : (moment : Moment) → map (listed_out books.catalogue own_shop) (filter (is_late moment) opened) ≡ map overdue_data (overdue_list books.catalogue own_shop moment)
+  overdue_are moment =
+      let late = filter (is_overdue moment) (termed own_shop) in
+      ap (map (listed_out books.catalogue own_shop)) (sym (filter_twice (λ (it : Rental × Terms). is_none it.0.returned) (is_late moment) (termed own_shop)))
+      ∙ sym (map-map overdue_data (λ (it : Rental × Terms). overdue_row books.catalogue own_shop it.0) late)
+      ∙ ap (map overdue_data) (sym (map-map (overdue_row books.catalogue own_shop) (λ (it : Rental × Terms). it.0) late))
+
+-- ---- a row
+
+pub late_is : (row : sql.Row) (rented moment : Moment) (period : ℕ) (late : Bool) → IsMoment rented → column row 0 ≡ moment_value rented → column row 1 ≡ number_value period
+    → late ≡ nat_lt (day_of rented + period) (day_of moment) → (catalogue : Catalogue) (shop : Shop) (it : Rental × Terms) → IsReal it → row ≡ shown_out catalogue shop it → late ≡ is_late moment it
+late_is row rented moment period late real at0 at1 told catalogue shop it its is =
+    let day : rented ≡ it.0.rented = same_moment_value rented it.0.rented real its (sym at0 ∙ ap (λ r. column r 0) is) in
+    let days : period ≡ it.1.period = same_number period it.1.period (sym at1 ∙ ap (λ r. column r 1) is) in
+    told ∙ (λ i. nat_lt (day_of (day i) + days i) (day_of moment))
+
+nothing : (t : model.Text) → Null ≡ Text t → ⊥
+nothing t e = cc
+
+-- the text of a row that is there
+module _ {X : Type 0} (show : X → model.Text) (t : model.Text) where
+  abbrev IsTold : List X → Type 0
+  IsTold l = or_null (λ x. Text (show x)) (head l) ≡ Text t → t ≡ flat_map show l
+
+  told_by : (l : List X) → (l ≡ []) ⊎ ((x : X) × (l ≡ x ∷ [])) → IsTold l
+  told_by l (inl none) = subst IsTold (sym none) (λ told. absurd (nothing t told))
+  told_by l (inr one) = subst IsTold (sym one.1) (λ told. sym (same_words (show one.0) t told) ∙ sym (append-nil (show one.0)))
+
+-- the whole name of a customer that is there
+module _ (first last : model.Text) where
+  abbrev name_of : Customer → model.Text
+  name_of it = it.person.last ++ codes ", " ++ it.person.first
+
+  abbrev IsNamed : List Customer → Type 0
+  IsNamed l =
+      or_null (λ (c : Customer). Text c.person.first) (head l) ≡ Text first → or_null (λ (c : Customer). Text c.person.last) (head l) ≡ Text last → last ++ codes ", " ++ first ≡ flat_map name_of l
+
+  named_by : (l : List Customer) → (l ≡ []) ⊎ ((c : Customer) × (l ≡ c ∷ [])) → IsNamed l
+  named_by l (inl none) = subst IsNamed (sym none) (λ told also. absurd (nothing first told))
+  named_by l (inr one) = subst IsNamed (sym one.1) (λ told also.
+      let person = one.0.person in
+      let firsts : first ≡ person.first = sym (same_words person.first first told) in
+      let lasts : last ≡ person.last = sym (same_words person.last last also) in
+      let whole : last ++ codes ", " ++ first ≡ person.last ++ codes ", " ++ person.first = (λ i. lasts i ++ codes ", " ++ firsts i) in
+      whole ∙ sym (append-nil (person.last ++ codes ", " ++ person.first)))
+
+pub overdue_is : (row : sql.Row) (it : OverdueRow) → column row 2 ≡ Text it.first → column row 3 ≡ Text it.last → column row 4 ≡ Text it.phone → column row 5 ≡ Text it.title
+    → (catalogue : Catalogue) (shop : Shop) (out : Rental × Terms) → row ≡ shown_out catalogue shop out → seen_overdue it ≡ overdue_row catalogue shop out.0
+overdue_is row it first last phone title catalogue shop out is =
+    let customers : List Customer = at out.0.customer shop.customers in
+    let one = at_one out.0.customer shop.customers in
+    let films : List Film = film_of catalogue shop out.0 in
+    let name : it.last ++ codes ", " ++ it.first ≡ flat_map (λ (c : Customer). c.person.last ++ codes ", " ++ c.person.first) customers =
+    named_by it.first it.last customers one (sym (ap (λ r. column r 2) is) ∙ first) (sym (ap (λ r. column r 3) is) ∙ last) in
+    let called : it.phone ≡ flat_map (λ (c : Customer). c.person.phone) customers = told_by (λ (c : Customer). c.person.phone) it.phone customers one (sym (ap (λ r. column r 4) is) ∙ phone) in
+    let film : it.title ≡ flat_map (λ (f : Film). f.title) films = told_by (λ (f : Film). f.title) it.title films (one_film catalogue shop out.0) (sym (ap (λ r. column r 5) is) ∙ title) in
+    (λ i. record { customer = name i; phone = called i; title = film i })
+
+-- ---- a page that takes one row more, where its value is listed
+
+all_parts : {X : Type 0} (P : X → Type 0) (before : List X) (x : X) → AllByRecursion P (before ++ x ∷ []) → AllByRecursion P before × P x
+all_parts P [] x all = (tt, all.0)
+all_parts P (y ∷ before) x all = let parts = all_parts P before x all.1 in ((all.0, parts.0), parts.1)
+
+module _ {X : Type 0} (Fit : X → Type 0) (shown : X → sql.Row) (value : X → Data) (p : X → Bool) (given : List sql.Row) (row : sql.Row) (old : Page)
+    (so_far : (xs : List X) → AllByRecursion Fit xs → given ≡ map shown xs → HasValues old (map value (filter p xs))) where
+  abbrev pub HasMore : Page → Type 0
+  HasMore page = (xs : List X) → AllByRecursion Fit xs → given ++ row ∷ [] ≡ map shown xs → HasValues page (map value (filter p xs))
+
+  pub one_listed : (next : Data) (new : Page) → ((x : X) → Fit x → row ≡ shown x → p x ≡ true) → ((x : X) → row ≡ shown x → next ≡ value x)
+      → ((values : List Data) → HasValues old values → HasValues new (values ++ next ∷ [])) → HasMore new
+  one_listed next new passes reads added xs fits e =
+      let parts = split_last shown given row xs e in
+      let fit = all_parts Fit parts.0 parts.1 (subst (AllByRecursion Fit) parts.4 fits) in
+      subst (HasValues new)
+      (ap (λ d. map value (filter p parts.0) ++ d ∷ []) (reads parts.1 parts.3) ∙ sym (more_yes value p parts.0 parts.1 (passes parts.1 fit.1 parts.3)) ∙ ap (λ l. map value (filter p l)) (sym parts.4))
+      (added (map value (filter p parts.0)) (so_far parts.0 fit.0 parts.2))
+
+  pub none_listed : ((x : X) → Fit x → row ≡ shown x → p x ≡ false) → HasMore old
+  none_listed fails xs fits e =
+      let parts = split_last shown given row xs e in
+      let fit = all_parts Fit parts.0 parts.1 (subst (AllByRecursion Fit) parts.4 fits) in
+      subst (HasValues old) (sym (more_no value p parts.0 parts.1 (fails parts.1 fit.1 parts.3)) ∙ ap (λ l. map value (filter p l)) (sym parts.4)) (so_far parts.0 fit.0 parts.2)
+
+-- no row was taken yet
+pub nothing_listed : {X : Type 0} (Fit : X → Type 0) (shown : X → sql.Row) (value : X → Data) (p : X → Bool) (page : Page) → HasValues page []
+    → (xs : List X) → AllByRecursion Fit xs → [] ≡ map shown xs → HasValues page (map value (filter p xs))
+nothing_listed Fit shown value p page new [] fits e = new
+nothing_listed Fit shown value p page new (x ∷ xs) fits e = absurd cc

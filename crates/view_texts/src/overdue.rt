@@ -1,0 +1,119 @@
+//! The list of a branch's rentals that are overdue: of the rows of what is out, those whose periods ended on days before.
+
+ghost use Rattle.std.specs.Prelude.{◌≡◌, List, ◌∷◌, [], ◌++◌, IfOk, OnOk, string_bytes};
+ghost use Rattle.serde_json.specs.Data.{Data};
+ghost use Rattle.sqlite.specs.Held.{state};
+ghost use Rattle.sqlite.specs.State.{HasCleanDisk};
+ghost use Rattle.sqlite_value.specs.Order.{column};
+ghost use Rattle.sql_rows.specs.Rows.{number_value};
+ghost use Rattle.sql_rows.specs.Calls.{StaysSame};
+ghost use Rattle.shop_model.specs.Values.{Rental, Terms};
+ghost use Rattle.shop_model.specs.Shop.{Catalogue, Shop};
+ghost use Rattle.shop_model.specs.Books.{Books, shop_of};
+ghost use Rattle.shop_model.specs.Machine.{OverdueAre};
+ghost use Rattle.shop_model.specs.Answers.{shown_text};
+ghost use Rattle.shop_model.specs.Views.{overdue_row, overdue_list};
+ghost use Rattle.shop_schema.specs.Shop.{Holds};
+ghost use Rattle.shop_schema.specs.Held.{IsHeld};
+ghost use Rattle.shop_views.specs.Overdue.{overdue_data, seen_overdue};
+ghost use Rattle.shop_views.specs.Page.{HasValues};
+ghost use Rattle.view_texts.specs.Overdue.{shown_out, is_late, IsReal, HasOverdue};
+
+use balance_rule::is_overdue;
+use shop_schema::{moment_at, text_at};
+use shop_types::{BranchNo, Moment};
+use shop_views::{ListPage, OverdueRow, overdue_row};
+use sql_rows::{StoreFault, TakesRows, each_row, number_at};
+use sqlite::types::ToSql;
+use sqlite::{Alter, Connection, Row};
+use std::alloc::Global;
+
+/// The period in the column, in days.
+fn period_at(row: &Row, at: usize) -> Result<u8, StoreFault>
+    ensures { IfOk result (λ n. column row.now at ≡ number_value n) }
+{
+    match u8::try_from(number_at(row, at)?) {
+        Ok(period) => Ok(period),
+        Err(_) => Err(StoreFault::Failed),
+    }
+}
+
+/// Whether the rental of the row, whose copy is out, is overdue at the moment.
+fn is_late_at(row: &Row, moment: Moment) -> Result<bool, StoreFault>
+    ensures { IfOk result (λ late. (catalogue : Catalogue) (shop : Shop) (it : Rental × Terms) → IsReal it → row.now ≡ shown_out catalogue shop it
+        → late ≡ is_late moment it) }
+{
+    let rented = moment_at(row, 0)?;
+    let period = period_at(row, 1)?;
+    Ok(is_overdue(rented, period, moment))
+}
+
+/// The rental of the row as it is listed. No sound table lacks its customer or its film.
+fn read_overdue(row: &Row) -> Result<OverdueRow, StoreFault>
+    ensures { IfOk result (λ it. (catalogue : Catalogue) (shop : Shop) (out : Rental × Terms) → row.now ≡ shown_out catalogue shop out
+        → seen_overdue it ≡ overdue_row catalogue shop out.0) }
+{
+    Ok(OverdueRow {
+        first: text_at(row, 2)?,
+        last: text_at(row, 3)?,
+        phone: text_at(row, 4)?,
+        title: text_at(row, 5)?,
+    })
+}
+
+/// Puts the rental last.
+fn add_overdue(alloc: Global, row: &OverdueRow, page: &mut ListPage) -> Result<(), StoreFault>
+    ensures { OnOk result ((values : List Data) → HasValues page.old values → HasValues page.new (values ++ overdue_data (seen_overdue row.now) ∷ [])) }
+{
+    let value = overdue_row(alloc, row)?;
+    Ok(page.add(&value)?)
+}
+
+/// The list of the rentals that are overdue at the moment, so far.
+#[derive(Drop)]
+pub(crate) struct OverduePage {
+    page: ListPage,
+    alloc: Global,
+    moment: Moment,
+}
+
+impl TakesRows for OverduePage {
+    ghost took = { HasOverdue };
+
+    fn take(&mut self, row: &Row) -> Result<(), StoreFault> {
+        let late = is_late_at(row, self.moment)?;
+        if !late {
+            return Ok(());
+        }
+        let overdue = read_overdue(row)?;
+        add_overdue(self.alloc, &overdue, &mut self.page)
+    }
+}
+
+/// The branch's rentals that are overdue at the moment, in order of number, as the text of a list. One statement reads as many rows of each table as copies are
+/// out, and sorts what it finds. A row that lacks its rental, terms, customer or film is the fault `Failed`; no sound table has one. The database stays as it was,
+/// unless the store fails, which commits nothing.
+pub fn overdue_list<S: Alter>(
+    alloc: Global,
+    conn: &mut Connection<S>,
+    branch: BranchNo,
+    at: Moment,
+) -> Result<String, StoreFault>
+    ensures text { HasCleanDisk (state S.Store conn.new) → IfOk result (λ s. (books : Books) → Holds (state S.Store conn.old) books → IsHeld books
+        → string_bytes s ≡ shown_text (OverdueAre (overdue_list books.catalogue (shop_of branch books) at))) }
+    ensures same { StaysSame S.Store conn.old conn.new result }
+{
+    let mut taker = OverduePage {
+        page: ListPage::new(alloc),
+        alloc,
+        moment: at,
+    };
+    each_row(
+        conn,
+        "SELECT r.moment, t.period, cu.first, cu.last, cu.phone, f.title FROM out_copy AS o LEFT JOIN rental AS r ON r.branch = o.branch AND r.number = o.rental LEFT JOIN rental_terms AS t ON t.branch = o.branch AND t.rental = o.rental LEFT JOIN customer AS cu ON cu.branch = o.branch AND cu.number = r.customer LEFT JOIN copy AS c ON c.branch = o.branch AND c.number = o.copy LEFT JOIN film AS f ON f.number = c.film WHERE o.branch = ?1 ORDER BY o.rental",
+        &[branch.get().to_sql()],
+        &mut taker,
+    )?;
+    let OverduePage { page, .. } = taker;
+    Ok(page.finish()?)
+}
