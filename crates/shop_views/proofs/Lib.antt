@@ -1,4 +1,3 @@
-pub mod OverdueLemmas
 pub mod JoinLemmas
 pub mod RowTexts
 pub mod PageLemmas

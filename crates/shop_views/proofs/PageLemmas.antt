@@ -1,11 +1,12 @@
 -- A list that is written value by value.
-use Rattle.std.proofs.Common.{◌≡◌, ◌∙◌, refl, sym, ap, Bool, true, not, List, [], ◌∷◌, ◌++◌, map, Option, Some, append-nil}
+use Rattle.std.proofs.Common.{◌≡◌, ◌∙◌, ◌||◌, refl, sym, ap, Bool, true, false, not, List, [], ◌∷◌, ◌++◌, map, Option, Some, option_map, append-nil}
 use Rattle.std.proofs.lemmas.List.{map-append}
 use Rattle.serde_json.specs.Data as held
 use Rattle.serde_json.specs.Data.{Data}
 use Rattle.serde_json.specs.View.{items_of}
-use Rattle.serde_json.specs.Written.{compact_text}
+use Rattle.serde_json.specs.Written.{compact_text, has_float, items_have_float}
 use Rattle.shop_model.specs.Rows.{is_empty}
+use Rattle.shop_model.proofs.RowLemmas.{map_map}
 use Rattle.shop_model.specs.Values.{Text}
 use Rattle.shop_model.specs.Json.{items_text, array}
 use Rattle.shop_model.specs.Machine.{Shown, CustomerIs, FilmIs, InStockIs, HolderIs, CopiesAre, BalanceIs, OverdueAre, CustomersAre, ArrivalsAre, SentAre, CustomersListed, StaffListed, FilmsListed, ActorsListed, StoresListed, CategoriesListed, HereAt, UnderWayTo, Gone, TransitIs, AuditIs}
@@ -17,6 +18,7 @@ use Rattle.shop_views.specs.People.{customer_data, staff_data}
 use Rattle.shop_views.specs.Films.{film_data, actor_data}
 use Rattle.shop_views.specs.Sales.{store_data, category_data}
 use Rattle.shop_views.specs.Page.{opening, closing, later_text, open_text, Page, page_of, HasValues, values_of}
+use Rattle.shop_views.specs.Lists.{list_of, IsList}
 use Rattle.shop_views.proofs.RowTexts.{overdue_is, customer_is, staff_is, film_is, actor_is, store_is, category_is}
 
 grouped : (a b c : Text) → a ++ (b ++ c) ≡ (a ++ b) ++ c
@@ -104,3 +106,21 @@ shown_is (UnderWayTo source addressee n) values e = cc
 shown_is Gone values e = cc
 shown_is (TransitIs rows) values e = cc
 shown_is (AuditIs sound made here transit gone) values e = cc
+
+-- ---- lists as values
+
+some_clear : {A : Type 0} (json : A → Data) → ((it : A) → has_float (json it) ≡ false) → (rows : List A) → items_have_float (items_of (map json rows)) ≡ false
+some_clear json clear [] = refl
+some_clear json clear (row ∷ rows) = (λ i. clear row i || some_clear json clear rows i)
+
+-- the values of the rows are the list that is made of what the rows mean
+pub listed : {X A : Type 0} (make : List A → Shown) (seen : X → A) (json : A → Data) → ((rows : List A) → values_of (make rows) ≡ Some (map json rows)) → ((it : A) → has_float (json it) ≡ false)
+    → (rows : List X) (value : Data) → value ≡ list_of (map (λ row. json (seen row)) rows) → IsList (make (map seen rows)) value
+listed make seen json has clear rows value is =
+    let all = map seen rows in
+    let same : value ≡ list_of (map json all) = is ∙ ap list_of (sym (map_map json seen rows)) in
+    record {
+      values = ap (option_map list_of) (has all) ∙ ap Some (sym same);
+      text = ap compact_text same ∙ list_text (map json all) ∙ shown_is (make all) (map json all) (has all);
+      no_float = ap has_float same ∙ some_clear json clear all;
+    }

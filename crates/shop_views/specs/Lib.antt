@@ -5,6 +5,7 @@ pub mod Films
 pub mod Sales
 pub mod Consignments
 pub mod Page
+pub mod Lists
 pub mod Bodies
 pub mod Texts
 pub mod Fields

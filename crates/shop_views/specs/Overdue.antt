@@ -1,7 +1,6 @@
 -- The rentals that are overdue, as JSON values.
-use Rattle.std.specs.Prelude.{List, ◌++◌, codes, map}
-use Rattle.serde_json.specs.Data.{Data, string, array, object, member, no_members}
-use Rattle.serde_json.specs.View.{items_of}
+use Rattle.std.specs.Prelude.{◌++◌, codes}
+use Rattle.serde_json.specs.Data.{Data, string, object, member, no_members}
 use Rattle.shop_model.specs.Views as views
 use Rattle.shop_views.specs.declared.overdue_rows.OverdueRow.{OverdueRow}
 
@@ -18,6 +17,3 @@ overdue_data it = object
     (member (codes "customer") (string it.customer)
     (member (codes "phone") (string it.phone)
     (member (codes "title") (string it.title) no_members)))
-
-abbrev pub overdue_value : List views.OverdueRow → Data
-overdue_value rows = array (items_of (map overdue_data rows))

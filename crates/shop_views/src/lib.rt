@@ -1,5 +1,5 @@
 //! Bodies of replies: JSON texts (RFC 8259) with no white space, the members of each object in the byte order of their names; and rows of views, each as such an
-//! object. A page takes rows one at a time, and is the text of their list.
+//! object. A page takes rows one at a time, and is the text of their list; a list of rows is a JSON value.
 #![tactic(auto)]
 
 mod actors;
@@ -9,6 +9,7 @@ mod customer;
 mod fields;
 mod film;
 mod films;
+mod lists;
 mod names;
 mod numbers;
 mod office;
@@ -29,9 +30,13 @@ pub use customer::{customer_text, new_customer_text};
 pub use fields::{Field, object_of};
 pub use film::film_text;
 pub use films::{FilmRow, film_row};
+pub use lists::{
+    actor_info, customer_list, film_list, overdue, sales_by_film_category, sales_by_store,
+    staff_list,
+};
 pub use names::PersonName;
 pub use office::office_text;
-pub use overdue_rows::{OverdueRow, overdue, overdue_row, overdue_text};
+pub use overdue_rows::{OverdueRow, overdue_row};
 pub use page::ListPage;
 pub use parcels::{dispatch_text, receipt_text};
 pub use payment::{balance_text, payment_text, rewards_text};

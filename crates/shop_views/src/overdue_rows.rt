@@ -1,9 +1,8 @@
-ghost use Rattle.std.specs.Prelude.{◌≡◌, false, map, IfOk, string_bytes};
+ghost use Rattle.std.specs.Prelude.{◌≡◌, false, IfOk};
 ghost use Rattle.serde_json.specs.View.{view};
 ghost use Rattle.serde_json.specs.Written.{compact_text, has_float};
-ghost use Rattle.shop_model.specs.Json.{array};
 ghost use Rattle.shop_model.specs.Answers.{overdue_text};
-ghost use Rattle.shop_views.specs.Overdue.{overdue_data, overdue_value, seen_overdue};
+ghost use Rattle.shop_views.specs.Overdue.{overdue_data, seen_overdue};
 
 use crate::names::with_between;
 use crate::{Field, object_of};
@@ -53,30 +52,4 @@ pub fn overdue_row(alloc: Global, row: &OverdueRow) -> Result<Value, AllocError>
     ensures no_float { IfOk result (λ v. has_float (view v) ≡ false) }
 {
     overdue_value(alloc, row)
-}
-
-/// The rentals in their order, as a list of objects.
-pub fn overdue(alloc: Global, rows: &[OverdueRow]) -> Result<Value, AllocError>
-    ensures value { IfOk result (λ v. view v ≡ overdue_value (map seen_overdue rows.now)) }
-    ensures text { IfOk result (λ v. compact_text (view v) ≡ array (map overdue_text (map seen_overdue rows.now))) }
-    ensures no_float { IfOk result (λ v. has_float (view v) ≡ false) }
-{
-    overdue_list(alloc, rows)
-}
-
-fn overdue_list(alloc: Global, rows: &[OverdueRow]) -> Result<Value, AllocError>
-    ensures { IfOk result (λ v. view v ≡ overdue_value (map seen_overdue rows.now)) }
-{
-    let mut items = Vec::with_capacity(alloc, rows.len())?;
-    for row in rows {
-        items.push_reserved(overdue_value(alloc, row)?);
-    }
-    Ok(Value::Array(items))
-}
-
-/// The text of that list: the body that shows a counter the rentals that are overdue.
-pub fn overdue_text(alloc: Global, rows: &[OverdueRow]) -> Result<String, AllocError>
-    ensures { IfOk result (λ s. string_bytes s ≡ array (map overdue_text (map seen_overdue rows.now))) }
-{
-    overdue(alloc, rows)?.to_string(alloc)
 }

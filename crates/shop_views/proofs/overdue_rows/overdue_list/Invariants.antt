@@ -1,9 +1,0 @@
-use Rattle.std.proofs.Common.{◌≡◌, ◌≤◌, length, take, map, vec_len, vec_capacity}
-use Rattle.serde_json.specs.View.{view}
-use Rattle.shop_views.proofs.OverdueLemmas.{row_data}
-use Rattle.shop_views.proofs.overdue_rows.overdue_list.Given as goal
-
--- the rentals so far are there as values, and there is room for the rest
-abbrev pub invariant-loop-row : goal.invariant-loop-row
-invariant-loop-row l =
-    (vec_len l.items ≡ l.row-index) × (length l.rows ≤ vec_capacity l.items) × (map view l.items.items ≡ map row_data (take l.row-index l.rows))
