@@ -6,14 +6,15 @@ use Rattle.std.proofs.Math.Bool.{or-false}
 use Rattle.std.proofs.lemmas.Bool.{cases_Bool, and_parts, not-true}
 use Rattle.std.proofs.lemmas.List.{map-append, length-append}
 use Rattle.std.proofs.lemmas.List.Elements.{filter-append}
-use Rattle.shop_model.specs.Rows.{Row, IsCounted, lacks, is_of, of, total}
+use Rattle.shop_model.specs.Rows.{Row, IsCounted, AreNumbered, lacks, is_of, of, total}
 use Rattle.shop_model.specs.Calendar.{Moment, day_of, is_by}
 use Rattle.shop_model.specs.Values.{Film, Rental, Terms, Payment, Rule, ByCode, Rules}
 use Rattle.shop_model.specs.Shop.{Catalogue, Shop}
 use Rattle.shop_model.specs.Stock.{film_of, film_terms, terms_now, late_days, fee, balance, is_overdue}
 use Rattle.shop_model.specs.Books.{Books, shop_of}
 use Rattle.shop_model.specs.Links.{has_row, IsLinkedShop}
-use Rattle.shop_model.specs.Migration.{IsSoundWithoutTerms, film_fee, film_balance, is_film_overdue, row_terms, migrated, MigratedIsSound, MigratedKeepsBalances}
+use Rattle.shop_model.specs.Sound.{IsSoundBy, HasTerms}
+use Rattle.shop_model.specs.Migration.{HasNoTerms, IsSoundWithoutTerms, film_fee, film_balance, is_film_overdue, row_terms, migrated, MigratedIsSound, SoundWithoutTerms, MigratedKeepsBalances}
 use Rattle.shop_model.proofs.RowLemmas.{same_if, same_test, length_map}
 use Rattle.shop_model.proofs.LinkLemmas.{all_joined}
 use Rattle.shop_model.proofs.Soundness.{one_film_now, holder_same}
@@ -178,70 +179,87 @@ keeps_balances rules books code sound = record {
 
 -- ---- soundness
 
+-- Books with other terms are sound where those are of branches that are there and are numbered, and each branch's shop has what is asked of them.
+module _ (Were Are : Shop → Type 0) (rules : Rules) (books : Books) (its : List (Row Terms)) where
+  abbrev with_its : Books
+  with_its = record books { terms = its }
+
+  with_terms : IsSoundBy Were rules books → list_all (λ (row : Row Terms). has_row books.catalogue.branches row.branch) its ≡ true
+      → ((b : ℕ) → AreNumbered (is_of b) (λ (row : Row Terms). row.number) its) → ((b : ℕ) → Are (shop_of b with_its)) → IsSoundBy Are rules with_its
+  with_terms sound owned numbered termed = record {
+    catalogue = sound.catalogue;
+    owners = let h = sound.owners in record {
+      customers = h.customers;
+      copies = h.copies;
+      rentals = h.rentals;
+      terms = owned;
+      payments = h.payments;
+      lots = h.lots;
+      kept = h.kept;
+      lasts = h.lasts;
+      sources = h.sources;
+      addressees = h.addressees;
+    };
+    numbers = let h = sound.numbers in record {
+      customers = h.customers;
+      copies = h.copies;
+      rentals = h.rentals;
+      terms = numbered;
+      payments = h.payments;
+      consignments = h.consignments;
+    };
+    places = sound.places;
+    custody = sound.custody;
+    origins = record { rows = sound.origins.rows; lines = sound.origins.lines };
+    settled = sound.settled;
+    lasts = sound.lasts;
+    held = λ b. holder_same (shop_of b books) (shop_of b with_its) refl refl (sound.held b);
+    shops = λ b. let g = sound.shops b in record {
+      apart = g.apart;
+      created = g.created;
+      rented = g.rented;
+      paid = g.paid;
+      rentals_rise = g.rentals_rise;
+      payments_rise = g.payments_rise;
+      keys = g.keys;
+      copies = g.copies;
+      customers_fit = g.customers_fit;
+      rentals_fit = g.rentals_fit;
+      payments_fit = g.payments_fit;
+      lots_fit = g.lots_fit;
+      sent_fit = g.sent_fit;
+    };
+    links = λ b. let l = sound.links b in record {
+      customer_cities = l.customer_cities;
+      copy_films = l.copy_films;
+      rental_copies = l.rental_copies;
+      rental_customers = l.rental_customers;
+      rental_staff = l.rental_staff;
+      payment_customers = l.payment_customers;
+      payment_staff = l.payment_staff;
+      payment_rentals = l.payment_rentals;
+      arrival_films = l.arrival_films;
+      parcels = l.parcels;
+      lots = l.lots;
+      keys = l.keys;
+    };
+    terms = termed;
+  }
+
+pub without_terms_sound : SoundWithoutTerms
+without_terms_sound rules books sound = with_terms HasTerms HasNoTerms rules books [] sound refl (λ b. tt) (λ b. refl)
+
 pub migrated_sound : MigratedIsSound
-migrated_sound rules books sound = record {
-  catalogue = sound.catalogue;
-  owners =
-      let h = sound.owners in
-      let branches = books.catalogue.branches in
-      record {
-        customers = h.customers;
-        copies = h.copies;
-        rentals = h.rentals;
-        terms = all_joined (λ (row : Row Terms). has_row branches row.branch) (λ (row : Row Rental). has_row branches row.branch) (row_terms books) books.rentals
-            (λ row there. all_made row.branch row.number (terms_now books.catalogue (shop_of row.branch books) row.it.copy) there) h.rentals;
-        payments = h.payments;
-        lots = h.lots;
-        kept = h.kept;
-        lasts = h.lasts;
-        sources = h.sources;
-        addressees = h.addressees;
-      };
-  numbers = let h = sound.numbers in record {
-    customers = h.customers;
-    copies = h.copies;
-    rentals = h.rentals;
-    terms = λ b. subst (IsCounted 1) (sym (branch_numbers books b books.rentals (all_have_one b books.catalogue (shop_of b books) (sound.links b)))) (h.rentals b);
-    payments = h.payments;
-    consignments = h.consignments;
-  };
-  places = sound.places;
-  custody = sound.custody;
-  origins = record { rows = sound.origins.rows; lines = sound.origins.lines };
-  settled = sound.settled;
-  lasts = sound.lasts;
-  held = λ b. holder_same (shop_of b books) _ refl refl (sound.held b);
-  shops = λ b. let g = sound.shops b in record {
-    apart = g.apart;
-    created = g.created;
-    rented = g.rented;
-    paid = g.paid;
-    rentals_rise = g.rentals_rise;
-    payments_rise = g.payments_rise;
-    keys = g.keys;
-    copies = g.copies;
-    customers_fit = g.customers_fit;
-    rentals_fit = g.rentals_fit;
-    payments_fit = g.payments_fit;
-    lots_fit = g.lots_fit;
-    sent_fit = g.sent_fit;
-  };
-  links = λ b. let l = sound.links b in record {
-    customer_cities = l.customer_cities;
-    copy_films = l.copy_films;
-    rental_copies = l.rental_copies;
-    rental_customers = l.rental_customers;
-    rental_staff = l.rental_staff;
-    payment_customers = l.payment_customers;
-    payment_staff = l.payment_staff;
-    payment_rentals = l.payment_rentals;
-    arrival_films = l.arrival_films;
-    parcels = l.parcels;
-    lots = l.lots;
-    keys = l.keys;
-  };
-  terms = λ b. ap length (branch_terms books b books.rentals) ∙ terms_length books b (shop_of b books).rentals (all_have_one b books.catalogue (shop_of b books) (sound.links b));
-} where
-  all_made : (c n : ℕ) (its : List Terms) → has_row books.catalogue.branches c ≡ true → list_all (λ (row : Row Terms). has_row books.catalogue.branches row.branch) (made c n its) ≡ true
-  all_made c n [] there = refl
-  all_made c n (it ∷ its) there = rw there (all_made c n its there)
+migrated_sound rules books sound =
+    with_terms HasNoTerms HasTerms rules books (flat_map (row_terms books) books.rentals) sound
+    (all_joined (λ (row : Row Terms). has_row books.catalogue.branches row.branch) (λ (row : Row Rental). has_row books.catalogue.branches row.branch) (row_terms books) books.rentals
+    (λ row there. all_made row.branch row.number (terms_now books.catalogue (shop_of row.branch books) row.it.copy) there) sound.owners.rentals)
+    (λ b. subst (IsCounted 1) (sym (branch_numbers books b books.rentals (one b))) (sound.numbers.rentals b))
+    (λ b. ap length (branch_terms books b books.rentals) ∙ terms_length books b (shop_of b books).rentals (one b))
+  where
+    one : (b : ℕ) → HaveOne books.catalogue (shop_of b books) (shop_of b books).rentals
+    one b = all_have_one b books.catalogue (shop_of b books) (sound.links b)
+
+    all_made : (c n : ℕ) (its : List Terms) → has_row books.catalogue.branches c ≡ true → list_all (λ (row : Row Terms). has_row books.catalogue.branches row.branch) (made c n its) ≡ true
+    all_made c n [] there = refl
+    all_made c n (it ∷ its) there = rw there (all_made c n its there)

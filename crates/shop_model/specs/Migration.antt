@@ -44,11 +44,19 @@ row_terms books row = map (λ it. record { branch = row.branch; number = row.num
 abbrev pub migrated : Books → Books
 migrated books = record books { terms = flat_map (row_terms books) books.rentals }
 
+-- the same books as version 1 has them, in which rentals have no terms
+abbrev pub without_terms : Books → Books
+without_terms books = record books { terms = [] }
+
 -- ---- its laws
 
 -- books that are sound in version 1 become books that are sound
 abbrev pub MigratedIsSound : Type 0
 MigratedIsSound = (rules : Rules) (books : Books) → IsSoundWithoutTerms rules books → IsSound rules (migrated books)
+
+-- and sound books are sound in version 1 without their terms, so that only such become sound books
+abbrev pub SoundWithoutTerms : Type 0
+SoundWithoutTerms = (rules : Rules) (books : Books) → IsSound rules books → IsSoundWithoutTerms rules (without_terms books)
 
 -- a balance, and which rentals are overdue, stay as version 1 had them, in which all balances went by the manual's code
 pub record KeepsBalances (books : Books) : Type 0 where

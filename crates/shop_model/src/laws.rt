@@ -2,7 +2,7 @@
 
 ghost use Rattle.shop_model.specs.Resends.{KeptRowsAreKept, RunsResend};
 ghost use Rattle.shop_model.specs.Stops.{EachActsOnce, LivesAreOneHistory, LivesFollow, ResentFirst};
-ghost use Rattle.shop_model.specs.Migration.{MigratedIsSound, MigratedKeepsBalances};
+ghost use Rattle.shop_model.specs.Migration.{MigratedIsSound, SoundWithoutTerms, MigratedKeepsBalances};
 ghost use Rattle.shop_model.specs.Laws.{
   BranchesAreAlone,
   BranchesAreIsolated,
@@ -152,6 +152,12 @@ pub fn refusals_are_in_order()
 #[tactic(auto, using(crate::proofs::Migration::migrated_sound))]
 pub fn migrated_is_sound()
     ensures { MigratedIsSound }
+{}
+
+/// Sound books are sound as books of version 1 where the terms of their rentals are left out.
+#[tactic(auto, using(crate::proofs::Migration::without_terms_sound))]
+pub fn sound_without_terms()
+    ensures { SoundWithoutTerms }
 {}
 
 /// In books of version 1 that are sound a balance, and which rentals are overdue, stay as they were when each rental gets its terms.
