@@ -1,4 +1,5 @@
 //! Calls that no request makes, each once: `call NAME`.
+use crate::lists::typed_lists;
 use crate::values::{NO_VALUE, is_so, rentals, rewards, routes, texts};
 use chain_engine::{Chain, OpenFault};
 use counter_http::reply_bytes;
@@ -152,6 +153,7 @@ pub fn call(alloc: Global, name: &str) -> Result<(), Fault> {
         "rentals" => rentals(),
         "routes" => routes(),
         "texts" => texts(alloc),
+        "lists" => typed_lists(alloc),
         _ => Err(Fault::Line("there is no such call")),
     }
 }

@@ -4,6 +4,7 @@
 mod calls;
 mod counter;
 mod disks;
+mod lists;
 mod resuming;
 mod serving;
 mod shop;
