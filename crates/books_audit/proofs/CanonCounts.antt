@@ -4,12 +4,12 @@ use Rattle.std.specs.List.{flat_map}
 use Rattle.std.proofs.lemmas.List.Sorted.{IsPermutation-map, IsPermutation-sym, IsPermutation-trans, length_permutation}
 use Rattle.sqlite_keyed.proofs.ListLemmas.{IsPermutation-filter}
 use Rattle.shop_model.specs.Rows.{Row, Owned, is_of, numbered}
-use Rattle.shop_model.specs.Values.{Branch, Customer, Rental, Payment}
+use Rattle.shop_model.specs.Values.{Branch, Customer, Rental, Terms, Payment}
 use Rattle.shop_model.specs.Shop.{Kept}
 use Rattle.shop_model.specs.Books.{Books, BookCopy}
 use Rattle.shop_schema.specs.Columns.{counter_columns, out_columns, pair_columns}
 use Rattle.shop_schema.specs.Counts.{Count, branch_counts, counts_of, is_open, out_of}
-use Rattle.book_checks.specs.Canons.{IsCanonOf, office_key}
+use Rattle.book_checks.specs.Canons.{IsCanonOf, office_key, row_key}
 use Rattle.book_checks.specs.Ordered.{AreOrdered, HaveOrderedRows}
 use Rattle.book_checks.specs.declared.books.OrderedBooks.{OrderedBooks}
 use Rattle.book_checks.proofs.Maps.{length-map}
@@ -19,6 +19,7 @@ use Rattle.books_audit.specs.declared.tables.TableRows.{TableRows}
 use Rattle.books_audit.proofs.CountRows.{counters_same, outs_same, pairs_same}
 use Rattle.books_audit.proofs.PairLemmas.{pairs_along}
 use Rattle.books_audit.proofs.SameCanon.{one_canon}
+use Rattle.books_audit.proofs.TermKeys.{termed_in_books, termed_in_rows}
 use Rattle.books_audit.proofs.Exhibited.{canonical, stands, have_rows, order as in_order_of}
 
 -- ---- rows in order, and the books that have them
@@ -29,13 +30,15 @@ module _ (tables : TableRows) (rows : OrderedBooks) (c : Books) (has : HaveOrder
     counters = subst (λ l. IsPermutation tables.counters.items (map counter_columns l)) (sym (counters_same rows c has)) h.counters;
     outs = subst (λ l. IsPermutation tables.outs.items (map out_columns l)) (sym (outs_same rows c has)) h.outs;
     pairs = IsPermutation-trans _ _ _ h.pairs (IsPermutation-map pair_columns _ _ (pairs_same rows c has));
+    terms = termed_in_books rows c has h.terms;
   }
 
-  rows_have_counts : HaveCountsOf tables c → HaveCounts tables rows
-  rows_have_counts h = record {
+  rows_have_counts : AreOrdered rows → HaveCountsOf tables c → HaveCounts tables rows
+  rows_have_counts ordered h = record {
     counters = subst (λ l. IsPermutation tables.counters.items (map counter_columns l)) (counters_same rows c has) h.counters;
     outs = subst (λ l. IsPermutation tables.outs.items (map out_columns l)) (outs_same rows c has) h.outs;
     pairs = IsPermutation-trans _ _ _ h.pairs (IsPermutation-sym _ _ (IsPermutation-map pair_columns _ _ (pairs_same rows c has)));
+    terms = termed_in_rows rows c has ordered h.terms;
   }
 
 -- ---- books, and the same in the order of their keys
@@ -73,6 +76,7 @@ module _ (c b : Books) (canon : IsCanonOf c b) where
     counters = subst (λ (l : List Count). IsPermutation tables.counters.items (map counter_columns l)) (sym counters) h.counters;
     outs = IsPermutation-trans _ _ _ h.outs (IsPermutation-map out_columns _ _ outs);
     pairs = IsPermutation-trans _ _ _ h.pairs (IsPermutation-map pair_columns _ _ (pairs_along b.consignments c.consignments canon.consignments));
+    terms = IsPermutation-trans _ _ _ (IsPermutation-sym _ _ (IsPermutation-map (row_key {A = Terms}) _ _ canon.terms)) (IsPermutation-trans _ _ _ h.terms (IsPermutation-map (row_key {A = Rental}) _ _ canon.rentals));
   }
 
 -- what tables that stand for any books say of the counts is what the rows have
@@ -80,4 +84,4 @@ pub must_have_counts : (tables : TableRows) (rows : OrderedBooks) → AreRowsRea
 must_have_counts tables rows read ordered joined b t =
     let c = canonical tables rows read ordered joined.0 joined.1 in
     let canon = one_canon tables c b (stands tables rows read ordered joined.0 joined.1) t.without_counts (in_order_of tables rows read ordered joined.0 joined.1) in
-    rows_have_counts tables rows c (have_rows tables rows read ordered joined.0 joined.1) (counts_move c b canon tables t.counts)
+    rows_have_counts tables rows c (have_rows tables rows read ordered joined.0 joined.1) ordered (counts_move c b canon tables t.counts)

@@ -13,6 +13,7 @@ pub mod PairLemmas
 pub mod CountRows
 pub mod InOrder
 pub mod Exhibited
+pub mod TermKeys
 pub mod CanonCounts
 pub mod OneAudit
 pub mod WholeTexts

@@ -39,6 +39,7 @@ module _ (trees : Trees) (tables : TableRows) (has : HaveTables trees tables) wh
     more = record {
       terms_are = IsPermutation-trans _ _ _ has.terms t.without_counts.rows.terms;
       rule_is = IsPermutation-trans _ _ _ has.rule t.without_counts.rows.rule;
+      termed = t.counts.terms;
     };
   }
 
@@ -74,6 +75,7 @@ module _ (trees : Trees) (tables : TableRows) (has : HaveTables trees tables) wh
       counters = IsPermutation-trans _ _ _ (IsPermutation-sym _ _ has.counters) s.counters;
       outs = IsPermutation-trans _ _ _ (IsPermutation-sym _ _ has.outs) s.outs;
       pairs = IsPermutation-trans _ _ _ (IsPermutation-sym _ _ has.pairs) s.pairs;
+      terms = s.more.termed;
     };
   }
 

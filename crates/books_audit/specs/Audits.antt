@@ -17,6 +17,7 @@ use Rattle.shop_model.specs.Sound.{IsSound, widest, made, here, transit, gone}
 use Rattle.shop_schema.specs.Columns.{chain_columns, named_columns, city_columns, actor_columns, film_columns, cast_columns, branch_columns, staff_columns, customer_columns, copy_columns, rental_columns, terms_columns, payment_columns, lot_columns, consignment_columns, line_rows, kept_rows, counter_columns, out_columns, pair_columns, rule_columns}
 use Rattle.shop_schema.specs.Counts.{counts_of}
 use Rattle.shop_schema.specs.RowValues.{AreValues}
+use Rattle.shop_schema.specs.Shop.{AreTermed}
 use Rattle.books_audit.specs.declared.tables.TableRows.{TableRows}
 use Rattle.shop_types.specs.declared.audit.Audit.{Audit}
 use Rattle.books_audit.specs.Audited.{CountsNothing}
@@ -47,11 +48,12 @@ pub record HaveRowsOf (tables : TableRows) (books : Books) : Type 0 where
   pub kept : IsPermutation tables.kept.items (kept_rows books.kept books.catalogue.kept)
   pub rule : IsPermutation tables.rule.items (rule_columns books.catalogue.rule ∷ [])
 
--- the tables of counts say what the books have
+-- the tables of counts say what the books have, and each rental has its terms
 pub record HaveCountsOf (tables : TableRows) (books : Books) : Type 0 where
   pub counters : IsPermutation tables.counters.items (map counter_columns (counts_of books).counters)
   pub outs : IsPermutation tables.outs.items (map out_columns (counts_of books).outs)
   pub pairs : IsPermutation tables.pairs.items (map pair_columns (counts_of books).pairs)
+  pub terms : AreTermed books
 
 -- the primary keys of the tables: of those whose rows have numbers from their places there is nothing to say
 abbrev pub same_row : {A : Type 0} → Row A → Row A → Bool

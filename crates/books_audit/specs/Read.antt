@@ -1,5 +1,5 @@
 -- What a run has made sure of when it has read the tables into rows in order.
-use Rattle.std.specs.Prelude.{◌≡◌, ◌↔◌, IsTrue, Some, ◌<◌, ◌^◌, ◌==◌, ℕ, List, [], ◌∷◌, ◌++◌, map, filter, flat_map, fold, length, is_none, IsPermutation, true}
+use Rattle.std.specs.Prelude.{◌≡◌, ◌↔◌, IsTrue, Some, ◌<◌, ◌^◌, ◌==◌, ◌&&◌, ℕ, Bool, true, false, List, [], ◌∷◌, ◌++◌, map, filter, flat_map, fold, length, is_none, IsPermutation}
 use Rattle.std.specs.List.{AllByRecursion}
 use Rattle.sqlite_value.specs.Order as sql
 use Rattle.shop_model.specs.Rows.{IsCounted, numbered}
@@ -20,6 +20,7 @@ use Rattle.book_checks.specs.Seen.{seen_copy, seen_line, seen_header, seen_place
 use Rattle.book_checks.specs.declared.books.OrderedBooks.{OrderedBooks}
 use Rattle.book_checks.specs.declared.rows.KeptRow.{KeptRow}
 use Rattle.book_checks.specs.declared.rows.RentalRow.{RentalRow}
+use Rattle.book_checks.specs.declared.rows.TermsRow.{TermsRow}
 use Rattle.book_checks.specs.declared.rows.HeaderRow.{HeaderRow}
 use Rattle.book_rows.specs.Listed.{AreRows}
 use Rattle.book_rows.specs.Placed.{IsCopyRow, IsLineRow}
@@ -83,11 +84,19 @@ pairs_among pairs headers = fold (λ pairs (it : HeaderRow). count_pair it.sourc
 abbrev pub pairs_in : OrderedBooks → List Pair
 pairs_in rows = pairs_among [] rows.headers.items
 
--- the tables of counts say of these rows what they have
+-- each rental has its row of terms, under its branch and number, one after another
+abbrev pub are_termed : List TermsRow → List RentalRow → Bool
+are_termed [] [] = true
+are_termed [] (rental ∷ rentals) = false
+are_termed (it ∷ terms) [] = false
+are_termed (it ∷ terms) (rental ∷ rentals) = it.branch == rental.branch && it.number == rental.number && are_termed terms rentals
+
+-- the tables of counts say of these rows what they have, and each rental has its terms
 pub record HaveCounts (tables : TableRows) (rows : OrderedBooks) : Type 0 where
   pub counters : IsPermutation tables.counters.items (map counter_columns (counters_in rows))
   pub outs : IsPermutation tables.outs.items (map out_columns (outs_in rows))
   pub pairs : IsPermutation tables.pairs.items (map pair_columns (pairs_in rows))
+  pub terms : are_termed rows.terms.items rows.rentals.items ≡ true
 
 -- all other tables are read
 pub record AreRowsRead (tables : TableRows) (rows : OrderedBooks) : Type 0 where

@@ -22,7 +22,7 @@ use std::alloc::Global;
 
 /// Whether the tables stand for sound books, by the widest limits that a chain can have, and how many copies those books have where. Tables that stand for no
 /// books aren't sound and count nothing: where a row is none of its table's, a number of a shared row or of a line is missing, a key is there twice, a line is
-/// of no consignment, or a table of counts says anything but what the books have. It takes time n log n in the rows.
+/// of no consignment, a rental has no terms or terms have no rental, or a table of counts says anything but what the books have. It takes time n log n in the rows.
 pub fn check_books(alloc: Global, tables: &TableRows) -> Result<Audit, NoMemory>
     ensures { IfOk result (IsAuditOf tables.now) }
 {

@@ -1,4 +1,4 @@
-//! What the tables of counts have to say of rows in order.
+//! What the tables of counts, and that of terms, have to say of rows in order.
 
 ghost use Rattle.std.specs.Prelude.{◌≡◌, ◌↔◌, ◌+◌, ◌≤◌, ◌==◌, ◌&&◌, [], ◌∷◌, ◌++◌, IsTrue, true, map, length, get_or, IsPermutation, IfOk, OnOk};
 ghost use Rattle.sql_rows.specs.Rows.{number_value};
@@ -8,11 +8,11 @@ ghost use Rattle.shop_schema.specs.Columns.{counter_columns, out_columns};
 ghost use Rattle.book_checks.specs.Lists.{climbs};
 ghost use Rattle.book_checks.specs.Ordered.{AreOrdered};
 ghost use Rattle.book_checks.specs.declared.rows.HeaderRow.{HeaderRow};
-ghost use Rattle.books_audit.specs.Read.{HaveCounts, counters_in, counts_of_branch, outs_among, pairs_among};
+ghost use Rattle.books_audit.specs.Read.{HaveCounts, are_termed, counters_in, counts_of_branch, outs_among, pairs_among};
 ghost use Rattle.books_audit.specs.Triples.{IsWhole, IsTriple, OneTriple, triple_columns, seen_pair, AreMany, AreTallies};
 
 use crate::tables::TableRows;
-use book_checks::{HeaderRow, Keyed, OrderedBooks, Owned, RentalRow, same_bag};
+use book_checks::{HeaderRow, Keyed, OrderedBooks, Owned, RentalRow, TermsRow, same_bag};
 use book_rows::{Listed, read_rows};
 use shop_types::NoMemory;
 use sql_rows::{StoreFault, fault_of};
@@ -265,7 +265,31 @@ fn counters(alloc: Global, rows: &OrderedBooks) -> Result<Vec<Triple>, NoMemory>
     Ok(all)
 }
 
-/// Whether the tables of counts say what the rows have.
+/// Whether the terms are those of the rental.
+fn is_of(terms: &TermsRow, rental: &RentalRow) -> bool
+    ensures { result ≡ (terms.now.branch == rental.now.branch && terms.now.number == rental.now.number) }
+{
+    terms.branch.get() == rental.branch.get() && terms.number.get() == rental.number.get()
+}
+
+/// Whether each rental has one row of terms, under its branch and number, and there are no others. Both are in the order of their keys.
+fn are_termed(terms: &[TermsRow], rentals: &[RentalRow]) -> bool
+    ensures { result ≡ are_termed terms.now rentals.now }
+{
+    let mut rest = rentals;
+    for row in terms {
+        let Some((first, more)) = rest.split_first() else {
+            return false;
+        };
+        if !is_of(row, first) {
+            return false;
+        }
+        rest = more;
+    }
+    rest.is_empty()
+}
+
+/// Whether the tables of counts say what the rows have, and each rental has its terms.
 pub(crate) fn have_counts(
     alloc: Global,
     tables: &TableRows,
@@ -274,7 +298,12 @@ pub(crate) fn have_counts(
     requires { AreOrdered rows.now }
     ensures { IfOk result (λ is. IsTrue is ↔ HaveCounts tables.now rows.now) }
 {
-    let outs = outs(alloc, rows.rentals.as_slice())?;
+    let terms = rows.terms.as_slice();
+    let rentals = rows.rentals.as_slice();
+    if !are_termed(terms, rentals) {
+        return Ok(false);
+    }
+    let outs = outs(alloc, rentals)?;
     if !has_rows(alloc, tables.outs.as_slice(), outs)? {
         return Ok(false);
     }

@@ -11,7 +11,7 @@ use Rattle.shop_model.proofs.RowLemmas.{length_map, set_rows_counted}
 use Rattle.shop_types.specs.declared.parcel.ParcelLine.{ParcelLine}
 use Rattle.shop_types.specs.Seen.{seen_parcel_line}
 use Rattle.shop_schema.specs.Counts.{Pair, add_pair, count_pair, counts_of, raise}
-use Rattle.shop_schema.specs.Shop.{Holds, HoldsWith, Writes}
+use Rattle.shop_schema.specs.Shop.{AreTermed, Holds, HoldsWith, Writes}
 use Rattle.shop_schema.proofs.Lists.{picks_row}
 use Rattle.shop_ledger.proofs.CountsOf.{agreed}
 use Rattle.shop_ledger.proofs.Agreeing.{copies_counted, state_counted}
@@ -74,12 +74,12 @@ dispatch_counted b to xs lines n place books =
     let it : Consignment = sent_off b to n place (map sent_line lines) in
     sets_counted b xs (put_state model.Sent) (record books { consignments = books.consignments ++ it ∷ [] }) ∙ pair_counted books it
 
-pub dispatch_added : (s : State) (b to : ℕ) (xs : List ℕ) (lines : List ParcelLine) (n place : ℕ) (books : Books) → n ≡ length (between b to books.consignments) + 1 → place ≡ length books.consignments + 1
+pub dispatch_added : (s : State) (b to : ℕ) (xs : List ℕ) (lines : List ParcelLine) (n place : ℕ) (books : Books) → n ≡ length (between b to books.consignments) + 1 → place ≡ length books.consignments + 1 → AreTermed books
     → HoldsWith (add_pair b to (counts_of books)) s (sending b to xs lines n place books) → Holds s (with_dispatch b to xs lines books)
-dispatch_added s b to xs lines n place books next last holds =
+dispatch_added s b to xs lines n place books next last termed holds =
     subst (λ (k : ℕ). Holds s (sending b to xs lines k (length books.consignments + 1) books)) next
     (subst (λ (k : ℕ). Holds s (sending b to xs lines n k books)) last
-    (agreed s (sending b to xs lines n place books) (add_pair b to (counts_of books)) (dispatch_counted b to xs lines n place books) holds))
+    (agreed s (sending b to xs lines n place books) (add_pair b to (counts_of books)) (dispatch_counted b to xs lines n place books) termed holds))
 
 -- ---- copies that come one after another
 
@@ -200,14 +200,14 @@ module _ (b : ℕ) (books : Books) (low : 1 ≤ b) where
       ∙ copies_counted b grown books.lots books low (made_own b (next b books.copies) makes)
       ∙ ap (λ (n : ℕ). raise b 1 n (counts_of books)) (length_made b (next b books.copies) makes)
 
-  pub receipt_added : (s : State) (source n first m : ℕ) (lines : List ParcelLine) (missing : List ℕ) → first ≡ next b books.copies → m ≡ length (arrived missing lines)
+  pub receipt_added : (s : State) (source n first m : ℕ) (lines : List ParcelLine) (missing : List ℕ) → first ≡ next b books.copies → m ≡ length (arrived missing lines) → AreTermed books
       → HoldsWith (raise b 1 m (counts_of books)) s (record books { copies = books.copies ++ come_rows b first (arrived missing lines); consignments = update_where (is_consignment source b n) (checked missing) books.consignments })
       → Holds s (with_receipt b source n lines missing books)
-  receipt_added s source n first m lines missing is all holds =
+  receipt_added s source n first m lines missing is all termed holds =
       let makes : List (ℕ → BookCopy) = map come_copy (arrived missing lines) in
       let received : List Consignment = update_where (is_consignment source b n) (checked missing) books.consignments in
       let count : m ≡ length makes = all ∙ sym (length_map come_copy (arrived missing lines)) in
-      agreed s (receiving b makes (is_consignment source b n) missing books) (raise b 1 (length makes) (counts_of books)) (receiving_counted makes (is_consignment source b n) missing)
+      agreed s (receiving b makes (is_consignment source b n) missing books) (raise b 1 (length makes) (counts_of books)) (receiving_counted makes (is_consignment source b n) missing) termed
       (subst (λ (rs : List (Row BookCopy)). HoldsWith (raise b 1 (length makes) (counts_of books)) s (record books { copies = rs; consignments = received })) (made_put b makes books.copies)
       (subst (λ (k : ℕ). HoldsWith (raise b 1 k (counts_of books)) s (record books { copies = books.copies ++ made_from b (next b books.copies) makes; consignments = received })) count
       (subst (λ (k : ℕ). HoldsWith (raise b 1 m (counts_of books)) s (record books { copies = books.copies ++ made_from b k makes; consignments = received })) is holds)))

@@ -16,7 +16,7 @@ use Rattle.stock_csv.specs.Stock.{stock_of}
 use Rattle.stock_csv.proofs.ReadingLemmas.{stock_fits}
 use Rattle.shop_schema.specs.Held.{IsHeld}
 use Rattle.shop_schema.specs.Counts.{Count, Counts, counts_of, count_in, is_count, raise, put_out}
-use Rattle.shop_schema.specs.Shop.{Holds, HoldsWith}
+use Rattle.shop_schema.specs.Shop.{AreTermed, Holds, HoldsWith}
 use Rattle.shop_ledger.specs.declared.counts.CountKind.{CountKind}
 use Rattle.shop_ledger.specs.declared.counts.CountKind.TheVariants as kind
 use Rattle.shop_ledger.specs.Counted.{kind_number, CountsOnce}
@@ -28,6 +28,7 @@ use Rattle.branch_core.specs.Marked.{AreMarked}
 use Rattle.branch_work.specs.Added.{with_kept, copies_from, HasFewLines}
 use Rattle.branch_work.proofs.ConsignLemmas.{sets_counted, few_come, receiving_counted}
 use Rattle.branch_work.proofs.CopyLemmas.{copies_own, copies_put, length_copies}
+use Rattle.branch_work.proofs.TermLemmas.{more_termed}
 
 -- the books with copies of these films, as a lot of that name
 abbrev pub with_import : ℕ → List ℕ → Text → Books → Books
@@ -44,17 +45,17 @@ module _ (b : ℕ) (books : Books) (low : 1 ≤ b) where
       ∙ copies_counted b grown lots books low (copies_own b (next b books.copies) films)
       ∙ ap (λ (n : ℕ). raise b 1 n (counts_of books)) (length_copies b (next b books.copies) films)
 
-module _ (s : State) (b : ℕ) (books : Books) (low : 1 ≤ b) where
+module _ (s : State) (b : ℕ) (books : Books) (low : 1 ≤ b) (termed : AreTermed books) where
   pub customer_added : (n : ℕ) (it : Customer) → n ≡ next b books.customers → HoldsWith (raise b 0 1 (counts_of books)) s (record books { customers = books.customers ++ record { branch = b; number = n; it = it } ∷ [] })
       → Holds s (record books { customers = put b (λ _. it) books.customers })
   customer_added n it is holds =
-      agreed s _ (raise b 0 1 (counts_of books)) (customer_row_counted b (record { branch = b; number = next b books.customers; it = it }) books low refl)
+      agreed s _ (raise b 0 1 (counts_of books)) (customer_row_counted b (record { branch = b; number = next b books.customers; it = it }) books low refl) termed
       (subst (λ (m : ℕ). HoldsWith (raise b 0 1 (counts_of books)) s (record books { customers = books.customers ++ record { branch = b; number = m; it = it } ∷ [] })) is holds)
 
   pub payment_added : (n : ℕ) (it : Payment) → n ≡ next b books.payments → HoldsWith (raise b 3 1 (counts_of books)) s (record books { payments = books.payments ++ record { branch = b; number = n; it = it } ∷ [] })
       → Holds s (record books { payments = put b (λ _. it) books.payments })
   payment_added n it is holds =
-      agreed s _ (raise b 3 1 (counts_of books)) (payment_row_counted b (record { branch = b; number = next b books.payments; it = it }) books low refl)
+      agreed s _ (raise b 3 1 (counts_of books)) (payment_row_counted b (record { branch = b; number = next b books.payments; it = it }) books low refl) termed
       (subst (λ (m : ℕ). HoldsWith (raise b 3 1 (counts_of books)) s (record books { payments = books.payments ++ record { branch = b; number = m; it = it } ∷ [] })) is holds)
 
   -- and with the copy out
@@ -75,12 +76,12 @@ module _ (s : State) (b : ℕ) (books : Books) (low : 1 ≤ b) where
   pub rental_added : (n : ℕ) (it : Rental) (terms : Terms) (now : List Terms) → it.returned ≡ None → n ≡ next b books.rentals → next b books.terms ≡ next b books.rentals
       → now ≡ terms ∷ [] → HoldsWith (put_out (record { branch = b; copy = it.copy; rental = n }) (raise b 2 1 (counts_of books))) s (with_rental n n it terms)
       → Holds s (renting it now)
-  rental_added n it terms now is_open is termed one holds =
+  rental_added n it terms now is_open is same one holds =
       let k = next b books.rentals in
       let grown : List (Row Terms) = books.terms ++ record { branch = b; number = next b books.terms; it = terms } ∷ [] in
       subst (λ (its : List Terms). Holds s (renting it its)) (sym one)
-      (agreed s _ (rented k it.copy) (rental_row_counted b (record { branch = b; number = k; it = it }) (record books { terms = grown }) low refl is_open)
-      (subst (λ (m : ℕ). HoldsWith (rented k it.copy) s (with_rental k m it terms)) (sym termed)
+      (agreed s _ (rented k it.copy) (rental_row_counted b (record { branch = b; number = k; it = it }) (record books { terms = grown }) low refl is_open) (more_termed b (next b books.terms) k it terms books same termed)
+      (subst (λ (m : ℕ). HoldsWith (rented k it.copy) s (with_rental k m it terms)) (sym same)
       (subst (λ (m : ℕ). HoldsWith (rented m it.copy) s (with_rental m m it terms)) is holds)))
 
   pub import_added : (first m : ℕ) (films : List ℕ) (lot : Text) → first ≡ next b books.copies → m ≡ length films
@@ -90,15 +91,16 @@ module _ (s : State) (b : ℕ) (books : Books) (low : 1 ≤ b) where
       let lots = books.lots ++ record { owner = b; it = lot } ∷ [] in
       let grown : List (Row BookCopy) = copies_from b (next b books.copies) films in
       let put : books.copies ++ grown ≡ put_all b (map (imported b) films) books.copies = copies_put b films books.copies in
-      agreed s _ (raise b 1 (length films) (counts_of books)) (import_counted b books low films lot)
+      agreed s _ (raise b 1 (length films) (counts_of books)) (import_counted b books low films lot) termed
       (subst (λ (rs : List (Row BookCopy)). HoldsWith (raise b 1 (length films) (counts_of books)) s (record books { copies = rs; lots = lots })) put
       (subst (λ (k : ℕ). HoldsWith (raise b 1 k (counts_of books)) s (record books { copies = books.copies ++ grown; lots = lots })) all
       (subst (λ (n : ℕ). HoldsWith (raise b 1 m (counts_of books)) s (record books { copies = books.copies ++ copies_from b n films; lots = lots })) is holds)))
 
 -- ---- the command itself
 
-pub kept_added : (s : State) (b : ℕ) (command : Command) (reply : Text) (books : Books) → 1 ≤ b → HoldsWith (raise b 4 1 (counts_of books)) s (with_kept b command reply books) → Holds s (with_kept b command reply books)
-kept_added s b command reply books low holds = agreed s (with_kept b command reply books) (raise b 4 1 (counts_of books)) (kept_counted b (record { command = command; reply = reply }) books low) holds
+pub kept_added : (s : State) (b : ℕ) (command : Command) (reply : Text) (books : Books) → 1 ≤ b → AreTermed books → HoldsWith (raise b 4 1 (counts_of books)) s (with_kept b command reply books)
+    → Holds s (with_kept b command reply books)
+kept_added s b command reply books low termed holds = agreed s (with_kept b command reply books) (raise b 4 1 (counts_of books)) (kept_counted b (record { command = command; reply = reply }) books low) termed holds
 
 -- ---- books in which an act was carried out have counts of which one more may be taken
 

@@ -10,8 +10,7 @@ use Rattle.sqlite_value.specs.contracts.row.Row as row
 use Rattle.sqlite_value.specs.Order.{Row}
 use Rattle.sqlite_trees.specs.Tree.{Trees}
 use Rattle.shop_model.specs.Books.{Books}
-use Rattle.shop_schema.specs.Counts.{Counts}
-use Rattle.shop_schema.specs.Shop.{StandsWith}
+use Rattle.shop_schema.specs.Shop.{StandsFor}
 
 abbrev Decided : Type 0 → Type 0
 Decided A = A ⊎ (¬ A)
@@ -114,8 +113,19 @@ decided (inr apart) some = absurd (∥∥₁_elim some ⊥_prop apart)
 in_any : {A : Type 0} (xs ys : List Row) → (A → IsPermutation xs ys) → ∥ A ∥₁ → IsPermutation xs ys
 in_any xs ys f some = decided (one_bag same_row xs ys) (∥∥₁_map some f)
 
-pub stands_in_any : (counts : Counts) (trees : Trees) (books : Books) → ∥ StandsWith counts trees books ∥₁ → StandsWith counts trees books
-stands_in_any counts trees books some = record {
+same_key : (a b : List ℕ) → Decided (a ≡ b)
+same_key [] [] = inl refl
+same_key [] (n ∷ b) = inr (λ e. cc)
+same_key (m ∷ a) [] = inr (λ e. cc)
+same_key (m ∷ a) (n ∷ b) = both (cases_eq m n) (same_key a b)
+  where
+    both : Decided (m ≡ n) → Decided (a ≡ b) → Decided (m ∷ a ≡ n ∷ b)
+    both (inl first) (inl rest) = inl (λ i. first i ∷ rest i)
+    both (inl first) (inr apart) = inr (λ e. apart cc)
+    both (inr apart) rest = inr (λ e. apart cc)
+
+pub stands_in_any : (trees : Trees) (books : Books) → ∥ StandsFor trees books ∥₁ → StandsFor trees books
+stands_in_any trees books some = record {
   chain = in_any _ _ (λ s. s.chain) some;
   countries = in_any _ _ (λ s. s.countries) some;
   languages = in_any _ _ (λ s. s.languages) some;
@@ -137,5 +147,9 @@ stands_in_any counts trees books some = record {
   counters = in_any _ _ (λ s. s.counters) some;
   outs = in_any _ _ (λ s. s.outs) some;
   pairs = in_any _ _ (λ s. s.pairs) some;
-  more = record { terms_are = in_any _ _ (λ s. s.more.terms_are) some; rule_is = in_any _ _ (λ s. s.more.rule_is) some };
+  more = record {
+    terms_are = in_any _ _ (λ s. s.more.terms_are) some;
+    rule_is = in_any _ _ (λ s. s.more.rule_is) some;
+    termed = decided (one_bag same_key _ _) (∥∥₁_map some (λ s. s.more.termed));
+  };
 }

@@ -14,4 +14,5 @@ pub mod Deciding
 pub mod Opening
 pub mod NewFiles
 pub mod Migrated
+pub mod FirstRow
 pub mod OldFiles

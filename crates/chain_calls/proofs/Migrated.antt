@@ -13,13 +13,13 @@ use Rattle.sql_rows.specs.Rows.{AreKeyed}
 use Rattle.sql_rows.proofs.Stays.{survives_more}
 use Rattle.sql_rows.proofs.Whole.{crash_new}
 use Rattle.shop_model.specs.Books.{Books}
-use Rattle.shop_model.specs.Migration.{migrated}
-use Rattle.shop_model.proofs.Migration.{migrated_sound}
+use Rattle.shop_model.specs.Migration.{migrated, without_terms}
+use Rattle.shop_model.proofs.Migration.{migrated_sound, without_terms_sound}
 use Rattle.shop_types.specs.declared.audit.Audit.{Audit}
 use Rattle.shop_schema.specs.Migrating as tables
 use Rattle.shop_schema.specs.Shop.{StandsFor, IsShop, IsKeyed}
 use Rattle.shop_schema.specs.Tables.{shop_schema, version_1_schema}
-use Rattle.shop_schema.proofs.Values.{migrated_values}
+use Rattle.shop_schema.proofs.Values.{migrated_values, values_without}
 use Rattle.chain_calls.specs.Audits.{AuditsTables}
 use Rattle.chain_calls.specs.Chains.{StandsSoundly, StaysAsFound, widest_rules}
 use Rattle.chain_calls.specs.Migrations.{StandsSoundlyForVersion1, AreMigrated, IsVersion1, MigratesInside, IsMigration, IsUnsoundVersion1, LeavesMigrated}
@@ -28,9 +28,9 @@ use Rattle.chain_calls.proofs.Resting.{Settled, rests_after}
 -- ---- inside
 
 -- the tables were made anew, and an audit of them changed nothing
-pub migrated_inside : (old mid new : State) (audit : Audit) → tables.Migrates old mid → (IsVersion1 old → IsShop mid × IsKeyed mid) → (IsShop mid → AuditsTables mid.now.trees audit)
+pub migrated_inside : (old mid new : State) (audit : Audit) → tables.Migrates old mid → tables.StoodForSame old mid → (IsVersion1 old → IsShop mid × IsKeyed mid) → (IsShop mid → AuditsTables mid.now.trees audit)
     → (IsShop mid → new.now ≡ mid.now) → MigratesInside old new audit.sound
-migrated_inside old mid new audit moved made audits same = record {
+migrated_inside old mid new audit moved stood made audits same = record {
   shop = λ is.
       let it = made is in
       (ap (λ (d : Database). d.schema) (same it.0) ∙ it.0, subst (λ (d : Database). AreKeyed shop_schema d.trees) (sym (same it.0)) it.1);
@@ -40,10 +40,21 @@ migrated_inside old mid new audit moved made audits same = record {
   books = λ is books sound.
       let it = made is in
       subst (λ (d : Database). StandsFor d.trees (migrated books)) (sym (same it.0)) (moved widest_rules books sound.2 (record { schema_is = is.0; keyed = is.1; stands = sound.0 })).stands;
+  were = λ is token tells books stands.
+      let it = made is in
+      (stood is.0 is.1 token tells books (record { schema_is = it.0; keyed = it.1; stands = subst (λ (d : Database). StandsFor d.trees books) (same it.0) stands })).stands;
 }
 
 pub are_migrated : (old new : State) → MigratesInside old new true → IsVersion1 old → AreMigrated old.now.trees new.now.trees
-are_migrated old new it is = record { sound = (it.sound is).0 refl; books = it.books is }
+are_migrated old new it is = record {
+  sound = (it.sound is).0 refl;
+  books = it.books is;
+  were = λ token tells.
+      let now = (it.sound is).0 refl in
+      let books = without_terms now.0 in
+      let was : StandsSoundlyForVersion1 old.now.trees books = (it.were is token tells now.0 now.1, values_without now.0 now.2, without_terms_sound widest_rules now.0 now.3) in
+      (books, was, it.books is books was);
+}
 
 -- sound books of version 1 become sound books, so an audit that finds none was of no sound ones
 pub were_unsound : (old new : State) → MigratesInside old new false → IsVersion1 old → (books : Books) → ¬ StandsSoundlyForVersion1 old.now.trees books

@@ -16,9 +16,11 @@ use Rattle.sqlite.specs.Files.{HoldsDatabase, Finds, IsOpened, file_state, image
 use Rattle.sql_rows.specs.Rows.{columns_of}
 use Rattle.sql_rows.proofs.Opened.{opened_keyed}
 use Rattle.sql_rows.proofs.Unique.{one_schema}
+use Rattle.shop_model.specs.Values.{Text}
 use Rattle.shop_model.specs.Books.{Books}
 use Rattle.shop_model.specs.Migration.{migrated}
 use Rattle.shop_schema.specs.Columns.{this_version, first_version}
+use Rattle.shop_schema.specs.Migrating.{Tells}
 use Rattle.shop_schema.specs.Shop.{HasVersion, StandsFor, StandsForVersion1}
 use Rattle.shop_schema.specs.Tables.{version_1_schema}
 use Rattle.shop_schema.specs.Versions.{version_of}
@@ -27,10 +29,11 @@ use Rattle.shop_schema.specs.declared.known.KnownVersion.TheVariants.{This, Miss
 use Rattle.chain_calls.specs.declared.faults.OpenFault.{OpenFault}
 use Rattle.chain_calls.specs.declared.faults.OpenFault.TheVariants as fault
 use Rattle.chain_calls.specs.Faults.{is_store_fault}
-use Rattle.chain_calls.specs.Files.{HoldsOne, IsFirst, IsHeldIn, IsNeither, HoldsNoChain, HoldsNoVersion1, HasNeitherVersion, HasVersion1, HoldsVersion1Books, HoldsVersion1Damage, KeepsInEither, KeepsVersion1Books, OpenFailed, StandsInEither}
+use Rattle.chain_calls.specs.Files.{HoldsOne, IsFirst, IsHeldIn, IsNeither, HoldsNoChain, HoldsNoVersion1, HasNeitherVersion, HasVersion1, HoldsVersion1Books, HoldsVersion1Damage, HoldsVersion1Soundly, KeepsInEither, KeepsVersion1Books, OpenFailed, StandsInEither}
 use Rattle.chain_calls.specs.Migrations.{StandsSoundlyForVersion1, AreMigrated, IsUnsoundVersion1, IsVersion1, LeavesMigrated}
 use Rattle.chain_calls.specs.Openings.{IsNotMigrated}
 use Rattle.chain_calls.proofs.Deciding.{stands_in_any}
+use Rattle.chain_calls.proofs.FirstRow.{first_row}
 use Rattle.chain_calls.proofs.Opening.{kept_one, only_committed, one_version, begins_with_some, version_there, same_trees, shows_found, shows_what_is_held, committed_database, is_database, holds_no_chain}
 
 -- ---- the version that is told
@@ -85,6 +88,14 @@ module _ {D : Type 0} {g : Ghosts D} (c : Held (FileStore D g)) (files : Files D
     λ books sound. unsound.1 (is_version_1 first.0) books (subst (λ (t : Trees). StandsSoundlyForVersion1 t books) (sym same) sound),
   )
 
+  pub tells_first : IsFirst opened_state → (token : Text) × Tells first_version token opened_state.now.trees
+  tells_first first =
+      let sound : IsDatabaseOf version_1_schema opened_state.now.trees = subst (λ (schema : Schema). IsDatabaseOf schema opened_state.now.trees) first.0 (opened.1 opened.0.is_open).0 in
+      first_row opened_state.now.trees sound.obeys first.1
+
+  pub holds_version_1_soundly : IsFirst opened_state → (books : Books) → StandsSoundlyForVersion1 opened_state.now.trees books → HoldsVersion1Soundly (image_of g files) books
+  holds_version_1_soundly first books stands = (opened_state.committed.trees, held_of_first first.0, subst (λ (t : Trees). StandsSoundlyForVersion1 t books) same stands)
+
   told_found : (known : KnownVersion) (db : Trees) → HoldsDatabase (image_of g files) db → version_of (map (columns_of 1) (opened_state.now.trees 0)) ≡ known → version_of (map (columns_of 1) (db 0)) ≡ known
   told_found known db held told = subst (λ (t : Trees). version_of (map (columns_of 1) (t 0)) ≡ known) (shows_found c files opened found db held) told
 
@@ -129,7 +140,7 @@ module _ {D : Type 0} {g : Ghosts D} (c : Held (FileStore D g)) (files : Files D
   becomes books db first tables keeps (inr is) = absurd (not_both (told_committed first) (told_this opened_state.committed.trees (migrated books) is))
 
   pub stands_as_kept : SeenMayStay g → (books : Books) → KeepsInEither g files books → IsFirst opened_state → (db : Trees) → AreMigrated opened_state.now.trees db → StandsFor db (migrated books)
-  stands_as_kept stays books keeps first db tables = stands_in_any _ _ (migrated books) (∥∥₁_map (in_either stays books keeps) (λ either. becomes books db first tables keeps either))
+  stands_as_kept stays books keeps first db tables = stands_in_any _ (migrated books) (∥∥₁_map (in_either stays books keeps) (λ either. becomes books db first tables keeps either))
 
   -- ---- what is left where nothing was migrated, or not for certain
 

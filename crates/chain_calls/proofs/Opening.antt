@@ -185,7 +185,7 @@ module _ {D : Type 0} {g : Ghosts D} (c : Held (FileStore D g)) (files : Files D
   -- the books that were closed
   pub kept_rests : SeenMayStay g → opened_state.now.schema ≡ shop_schema → (books : Books) → KeepsBooks g files books → Rests opened_state books
   kept_rests stays schema books keeps =
-      rests_on stays schema books (stands_in_any _ _ books
+      rests_on stays schema books (stands_in_any _ books
       (∥∥₁_map (keeps.left found.honest (image_of g files) (stays _, stays _)) (λ it. subst (λ t. StandsFor t books) (sym (found.holds it.0 it.2)) it.1)))
 
   -- or one of two

@@ -154,6 +154,10 @@ HasNeitherVersion image = (db : Trees) → HoldsDatabase image db → (schema : 
     × ((¬ HasVersion schema) ⊎ ((version_of (map (columns_of 1) (db 0)) ≡ Missing) ⊎ (((version_of (map (columns_of 1) (db 0)) ≡ This) × (¬ (schema ≡ shop_schema)))
     ⊎ ((version_of (map (columns_of 1) (db 0)) ≡ First) × (¬ (schema ≡ version_1_schema))))))
 
+-- the files hold a database whose tables stand for these books of version 1, which are sound, with values in their ranges
+abbrev pub HoldsVersion1Soundly : Image → Books → Type 0
+HoldsVersion1Soundly image books = (db : Trees) × IsHeldIn image db × StandsSoundlyForVersion1 db books
+
 -- the files hold a database that has the tables of version 1 and tells it, and its tables stand for no sound books
 abbrev pub HoldsVersion1Damage : Image → Type 0
 HoldsVersion1Damage image =

@@ -2,8 +2,11 @@
 use Rattle.std.specs.Prelude.{◌↔◌, Bool, IsTrue}
 use Rattle.sqlite_trees.specs.Tree.{Trees}
 use Rattle.sqlite.specs.State.{State}
+use Rattle.shop_model.specs.Values.{Text}
 use Rattle.shop_model.specs.Books.{Books}
-use Rattle.shop_model.specs.Migration.{IsSoundWithoutTerms, migrated}
+use Rattle.shop_model.specs.Migration.{IsSoundWithoutTerms, migrated, without_terms}
+use Rattle.shop_schema.specs.Columns.{first_version}
+use Rattle.shop_schema.specs.Migrating.{Tells}
 use Rattle.shop_schema.specs.RowValues.{AreValues}
 use Rattle.shop_schema.specs.Shop.{StandsFor, StandsForVersion1, IsShop, IsKeyed, IsFirstShop, IsFirstKeyed}
 use Rattle.chain_calls.specs.Chains.{Rests, StandsSoundly, widest_rules}
@@ -12,10 +15,12 @@ use Rattle.chain_calls.specs.Chains.{Rests, StandsSoundly, widest_rules}
 abbrev pub StandsSoundlyForVersion1 : Trees → Books → Type 0
 StandsSoundlyForVersion1 db books = StandsForVersion1 db books × AreValues books × IsSoundWithoutTerms widest_rules books
 
--- What tables of version 1 became: tables that stand for sound books, and for those of version 1, where these were sound, with the terms of each rental.
+-- What tables of version 1 became: tables that stand for sound books, and for those of version 1, where these were sound, with the terms of each rental. And these
+-- were sound, whatever was known of them, where the first table told its version.
 pub record AreMigrated (old new : Trees) : Type 0 where
   pub sound : StandsSoundly new
   pub books : (books : Books) → StandsSoundlyForVersion1 old books → StandsFor new (migrated books)
+  pub were : (token : Text) → Tells first_version token old → (books : Books) × StandsSoundlyForVersion1 old books × StandsFor new (migrated books)
 
 -- the state has the tables of version 1, with rowids that rise
 abbrev pub IsVersion1 : State → Type 0
@@ -26,6 +31,7 @@ pub record MigratesInside (old new : State) (told : Bool) : Type 0 where
   pub shop : IsVersion1 old → IsShop new × IsKeyed new
   pub sound : IsVersion1 old → IsTrue told ↔ StandsSoundly new.now.trees
   pub books : IsVersion1 old → (books : Books) → StandsSoundlyForVersion1 old.now.trees books → StandsFor new.now.trees (migrated books)
+  pub were : IsVersion1 old → (token : Text) → Tells first_version token old.now.trees → (books : Books) → StandsFor new.now.trees books → StandsForVersion1 old.now.trees (without_terms books)
 
 -- outside one they became so and that was committed, and the connection rests on all books for which the tables stand now
 pub record IsMigration (old new : State) : Type 0 where

@@ -21,7 +21,7 @@ use Rattle.chain_calls.specs.Holding.{Chained}
 use Rattle.chain_calls.specs.Chains.{IsAt}
 use Rattle.chain_calls.specs.Faults.{is_store_fault}
 use Rattle.chain_calls.specs.Migrations.{AreMigrated}
-use Rattle.chain_calls.specs.Files.{HoldsBooks, HoldsOne, IsHeldIn, IsFoundIn, KeepsBooks, KeepsEither, HoldsNoChain, HoldsSoundly, HoldsDamage, HasThisVersion, HasNoVersion, HasOtherVersion, TellsVersion, OpenFailed, HoldsVersion1Books, KeepsVersion1Books, KeepsInEither, HoldsNoVersion1, HasVersion1, HasNeitherVersion, HoldsVersion1Damage}
+use Rattle.chain_calls.specs.Files.{HoldsBooks, HoldsOne, IsHeldIn, IsFoundIn, KeepsBooks, KeepsEither, HoldsNoChain, HoldsSoundly, HoldsDamage, HasThisVersion, HasNoVersion, HasOtherVersion, TellsVersion, OpenFailed, HoldsVersion1Books, HoldsVersion1Soundly, KeepsVersion1Books, KeepsInEither, HoldsNoVersion1, HasVersion1, HasNeitherVersion, HoldsVersion1Damage}
 
 -- ---- making
 
@@ -101,8 +101,8 @@ pub record IsMigratedIn {D : Type 0} {g : Ghosts D} (files : Files D) (given : L
   pub honest : HasCleanDisk (file_state chain.conn) → AreClean g files.log files.db
   -- the files held the tables of version 1
   pub first : HasCleanDisk (file_state chain.conn) → HasVersion1 (image_of g files)
-  -- whatever was known of the files, the chain has sound books
-  pub sound : HasCleanDisk (file_state chain.conn) → (books : Books) × IsAt over_files chain books books
+  -- whatever was known of the files, they held sound books of version 1, and the chain has these with the terms of each rental
+  pub sound : HasCleanDisk (file_state chain.conn) → (books : Books) × HoldsVersion1Soundly (image_of g files) books × IsAt over_files chain (migrated books) (migrated books)
   -- the chain has the books of version 1 that were found in the files, with the terms of each rental,
   pub found : HasCleanDisk (file_state chain.conn) → (books : Books) → HoldsVersion1Books (image_of g files) books → IsAt over_files chain (migrated books) (migrated books)
   -- or those that were closed,

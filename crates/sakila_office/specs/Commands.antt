@@ -16,7 +16,7 @@ use Rattle.shop_schema.specs.Shop.{first_books}
 use Rattle.chain_engine.specs.Holding.{Holding}
 use Rattle.office_words.specs.Line.{line_of}
 use Rattle.chain_engine.specs.Chains.{Answers, Runs}
-use Rattle.chain_engine.specs.Files.{HoldsBooks, HoldsSoundly, HasThisVersion, KeepsBooks, HoldsVersion1Books, HasVersion1}
+use Rattle.chain_engine.specs.Files.{HoldsBooks, HoldsSoundly, HasThisVersion, KeepsBooks, HoldsVersion1Books, HoldsVersion1Soundly, HasVersion1}
 use Rattle.chain_engine.specs.Openings.{HoldsNoTable}
 use Rattle.counter_http.specs.Exchanges.{Exchange, events_of, answers_of}
 use Rattle.sakila_office.specs.Printed.{IsPrinted, IsSilent, IsTold}
@@ -34,13 +34,13 @@ pub record IsMade {D : Type 0} (g : Ghosts D) (token : List ℕ) : Type 0 where
   pub none : AreClean g left.log left.db → HoldsNoTable (image_of g files)
   pub kept : AreClean g left.log left.db → KeepsBooks g left (first_books token)
 
--- The files held a chain of version 1. It became one of this version and was closed, and these are the files then. Whatever books of version 1 the files are known
--- to hold, they keep these, with the terms of each rental.
+-- The files held a chain of version 1, whose books were sound. It became one of this version and was closed, and these are the files then, which keep these books
+-- with the terms of each rental; and so they do whatever books of version 1 the files are known to hold.
 pub record IsMigrated {D : Type 0} (g : Ghosts D) : Type 0 where
   pub files : Files D
   pub left : Files D
   pub first : AreClean g left.log left.db → HasVersion1 (image_of g files)
-  pub sound : AreClean g left.log left.db → (books : Books) × KeepsBooks g left books
+  pub sound : AreClean g left.log left.db → (books : Books) × HoldsVersion1Soundly (image_of g files) books × KeepsBooks g left (migrated books)
   pub kept : AreClean g left.log left.db → (books : Books) → HoldsVersion1Books (image_of g files) books → KeepsBooks g left (migrated books)
 
 -- from these books on, the request gets this answer, and unless the store fails, these files then keep the books after it

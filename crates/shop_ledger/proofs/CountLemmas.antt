@@ -60,7 +60,7 @@ read_out old new b x rows h = (
     still = still_holds shop_schema StandsFor SELECT_OUT.now (number_value b ∷ number_value x ∷ []) old new select_out_means.plain rows h
 
     shown : (books : Books) → Holds old books → IsHeld books → rows ≡ map (λ (o : Out). number_value o.rental ∷ []) (outs books)
-    shown books holds held = shows_out (counts_of books) old new b x rows books holds.schema_is h holds.stands (picks_out b x books held)
+    shown books holds held = shows_out old new b x rows books holds.schema_is h holds.stands (picks_out b x books held)
 
     no_out : (found : List Out) → slice_get (map (λ (o : Out). number_value o.rental ∷ []) found) 0 ≡ None → map (λ (it : Out). it.rental) found ≡ []
     no_out [] e = refl
@@ -124,7 +124,7 @@ pub read_count : (old new : State) (b k : ℕ) (rows : List sql.Row) → Shown S
     → (row : sql.Row) (n : ℕ) → slice_get rows 0 ≡ Some row → column row 0 ≡ number_value n → Reads old new (λ books. n ≡ count_in k b books)
 read_count old new b k rows h low row n some is books holds held = (
   still_holds shop_schema StandsFor SELECT_COUNT.now (number_value b ∷ number_value k ∷ []) old new select_count_means.plain rows h books holds,
-  told_count b k books rows row n low (shows_counts (counts_of books) old new b k rows books holds.schema_is h holds.stands) some is,
+  told_count b k books rows row n low (shows_counts old new b k rows books holds.schema_is h holds.stands) some is,
 )
 
 -- what a reader of the first row answers

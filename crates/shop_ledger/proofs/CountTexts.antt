@@ -33,7 +33,7 @@ use Rattle.shop_model.specs.Values.{Rental}
 use Rattle.shop_model.specs.Books.{Books}
 use Rattle.shop_schema.specs.Tables.{shop_schema, counter_table, out_copy_table}
 use Rattle.shop_schema.specs.Columns.{counter_columns, out_columns}
-use Rattle.shop_schema.specs.Counts.{Count, Out, Counts, is_count, is_open, is_out, is_out_by, out_of, raised, put_out, drop_out}
+use Rattle.shop_schema.specs.Counts.{Count, Out, Counts, is_count, is_open, is_out, is_out_by, out_of, raised, put_out, drop_out, counts_of}
 use Rattle.shop_schema.specs.Shop.{StandsFor, StandsWith, IsShop, Tallies}
 use Rattle.shop_schema.proofs.Stands.{stands_but, rows_of, with_rows}
 use Rattle.shop_schema.proofs.Listed.{tallies_put}
@@ -49,10 +49,10 @@ select_count_means = record { names = _; is = refl; plain = (refl, refl); unlist
 pub count_test : (b k : ℕ) (c : Count) → (number_test 0 b (counter_columns c) && (number_test 1 k (counter_columns c) && true)) ≡ is_count b k c
 count_test b k c = two_tested _ _ (number_tested c.caller b) (number_tested c.kind k)
 
-pub shows_counts : (counts : Counts) (old new : State) (b k : ℕ) (rows : List sql.Row) (books : Books) → IsShop old → Shown SELECT_COUNT.now (number_value b ∷ number_value k ∷ []) old new rows
-    → StandsWith counts old.now.trees books → IsPermutation (map (λ (c : Count). number_value c.last ∷ []) (filter (is_count b k) counts.counters)) rows
-shows_counts counts old new b k rows books has h s =
-    projects_bag shop_schema SELECT_COUNT.now 41 3 of_two (col 1 3 ∷ []) select_count_means (number_value b ∷ number_value k ∷ []) old new rows has h counter_columns counts.counters s.counters refl
+pub shows_counts : (old new : State) (b k : ℕ) (rows : List sql.Row) (books : Books) → IsShop old → Shown SELECT_COUNT.now (number_value b ∷ number_value k ∷ []) old new rows
+    → StandsFor old.now.trees books → IsPermutation (map (λ (c : Count). number_value c.last ∷ []) (filter (is_count b k) (counts_of books).counters)) rows
+shows_counts old new b k rows books has h s =
+    projects_bag shop_schema SELECT_COUNT.now 41 3 of_two (col 1 3 ∷ []) select_count_means (number_value b ∷ number_value k ∷ []) old new rows has h counter_columns (counts_of books).counters s.counters refl
     (λ vs. number_test 0 b vs && (number_test 1 k vs && true)) (λ vs. column vs 2 ∷ []) (is_count b k) (count_test b k) (λ r. refl)
 
 -- so many more, as SQL adds them: a number where 64 bits hold it
@@ -99,10 +99,10 @@ select_out_means = record { names = _; is = refl; plain = (refl, refl); unlisted
 pub out_test : (b x : ℕ) (o : Out) → (number_test 0 b (out_columns o) && (number_test 1 x (out_columns o) && true)) ≡ is_out b x o
 out_test b x o = two_tested _ _ (number_tested o.branch b) (number_tested o.copy x)
 
-pub shows_out : (counts : Counts) (old new : State) (b x : ℕ) (rows : List sql.Row) (books : Books) → IsShop old → Shown SELECT_OUT.now (number_value b ∷ number_value x ∷ []) old new rows
-    → StandsWith counts old.now.trees books → PicksOne (is_out b x) counts.outs → rows ≡ map (λ (o : Out). number_value o.rental ∷ []) (filter (is_out b x) counts.outs)
-shows_out counts old new b x rows books has h s few =
-    projects_one shop_schema SELECT_OUT.now 43 3 of_two (col 1 3 ∷ []) select_out_means (number_value b ∷ number_value x ∷ []) old new rows has h out_columns counts.outs s.outs refl
+pub shows_out : (old new : State) (b x : ℕ) (rows : List sql.Row) (books : Books) → IsShop old → Shown SELECT_OUT.now (number_value b ∷ number_value x ∷ []) old new rows
+    → StandsFor old.now.trees books → PicksOne (is_out b x) (counts_of books).outs → rows ≡ map (λ (o : Out). number_value o.rental ∷ []) (filter (is_out b x) (counts_of books).outs)
+shows_out old new b x rows books has h s few =
+    projects_one shop_schema SELECT_OUT.now 43 3 of_two (col 1 3 ∷ []) select_out_means (number_value b ∷ number_value x ∷ []) old new rows has h out_columns (counts_of books).outs s.outs refl
     (λ vs. number_test 0 b vs && (number_test 1 x vs && true)) (λ vs. column vs 2 ∷ []) (is_out b x) (out_test b x) (λ r. refl) few
 
 -- the copies of a branch, in order of the rentals' numbers: of books' own counts these are those of the open rentals

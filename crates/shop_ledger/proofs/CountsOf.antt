@@ -15,7 +15,8 @@ use Rattle.shop_model.proofs.RowLemmas.{same_if, length_map}
 use Rattle.shop_schema.specs.Held.{IsHeld}
 use Rattle.shop_schema.specs.Counts.{Count, Counts, is_count, count_in, branch_counts, office_count, counts_of}
 use Rattle.sqlite.specs.State.{State}
-use Rattle.shop_schema.specs.Shop.{StandsWith, Holds, HoldsWith}
+use Rattle.shop_schema.specs.Shop.{StandsWith, AreTermed, Holds, HoldsWith}
+use Rattle.shop_schema.proofs.Stands.{with_own, for_own}
 use Rattle.shop_schema.proofs.Lasts.{numbered_once}
 use Rattle.sqlite_trees.proofs.ListLemmas.{all-permutation}
 use Rattle.shop_ledger.specs.declared.counts.CountKind.{CountKind}
@@ -159,7 +160,8 @@ module _ (books : Books) (held : IsHeld books) where
 -- ---- between two commands the counts are the books' own
 
 pub beside : (s : State) (books : Books) → Holds s books → HoldsWith (counts_of books) s books
-beside s books h = record { schema_is = h.schema_is; keyed = h.keyed; stands = h.stands }
+beside s books h = record { schema_is = h.schema_is; keyed = h.keyed; stands = with_own s.now.trees books h.stands }
 
-pub agreed : (s : State) (books : Books) (counts : Counts) → counts_of books ≡ counts → HoldsWith counts s books → Holds s books
-agreed s books counts same h = record { schema_is = h.schema_is; keyed = h.keyed; stands = subst (λ c. StandsWith c s.now.trees books) (sym same) h.stands }
+pub agreed : (s : State) (books : Books) (counts : Counts) → counts_of books ≡ counts → AreTermed books → HoldsWith counts s books → Holds s books
+agreed s books counts same termed h =
+    record { schema_is = h.schema_is; keyed = h.keyed; stands = for_own s.now.trees books termed (subst (λ c. StandsWith c s.now.trees books) (sym same) h.stands) }

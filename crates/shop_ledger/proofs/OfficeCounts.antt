@@ -24,7 +24,7 @@ use Rattle.shop_model.proofs.RowLemmas.{same_if, more_no, length_map}
 use Rattle.shop_schema.specs.Counts.{Count, Counts, is_count, branch_counts, office_count, counts_of, raise, raised, add_count, new_count, with_branch}
 use Rattle.shop_schema.specs.Held.{IsHeld}
 use Rattle.shop_schema.specs.Tables.{shop_schema}
-use Rattle.shop_schema.specs.Shop.{StandsFor, Holds, HoldsWith, Reads}
+use Rattle.shop_schema.specs.Shop.{StandsFor, AreTermed, Holds, HoldsWith, Reads}
 use Rattle.shop_schema.proofs.Lists.{numbered_push, flat_map_push}
 use Rattle.sqlite_trees.proofs.ListLemmas.{all-permutation}
 use Rattle.shop_ledger.specs.declared.counts.TheConstants.{SELECT_COUNT}
@@ -68,7 +68,7 @@ read_office_count : (old new : State) (rows : List sql.Row) → Shown SELECT_COU
     → (row : sql.Row) (n : ℕ) → slice_get rows 0 ≡ Some row → column row 0 ≡ number_value n → Reads old new (λ books. n ≡ length books.catalogue.kept)
 read_office_count old new rows h row n some is books holds held =
     let P : sql.Row → Type 0 = λ vs. vs ≡ number_value (length books.catalogue.kept) ∷ [] in
-    let same = subst (λ (cs : List Count). IsPermutation (map (λ (c : Count). number_value c.last ∷ []) cs) rows) (own_counts books) (shows_counts (counts_of books) old new 0 4 rows books holds.schema_is h holds.stands) in
+    let same = subst (λ (cs : List Count). IsPermutation (map (λ (c : Count). number_value c.last ∷ []) cs) rows) (own_counts books) (shows_counts old new 0 4 rows books holds.schema_is h holds.stands) in
     let all = all-permutation P _ rows same (refl, tt) in
     let one : row ≡ number_value (length books.catalogue.kept) ∷ [] = all-slice_get P rows 0 row some all in (
       still_holds shop_schema StandsFor SELECT_COUNT.now (number_value 0 ∷ number_value 4 ∷ []) old new select_count_means.plain rows h books holds,
@@ -212,11 +212,11 @@ pub office_counts_done : (command : OfficeCommand) (books : Books) → HasOwners
     → counts_of (record books { catalogue = office_done command books.catalogue }) ≡ office_counted command.act (length books.catalogue.branches + 1) (counts_of books)
 office_counts_done command books owners = office_counted_raised command books ∙ ap (raise 0 4 1) (office_rows_counted command.act books owners)
 
-pub office_counts_agreed : (s : State) (command : OfficeCommand) (books : Books) → HasOwners books.catalogue.branches books
+pub office_counts_agreed : (s : State) (command : OfficeCommand) (books : Books) → HasOwners books.catalogue.branches books → AreTermed books
     → HoldsWith (office_counted command.act (length books.catalogue.branches + 1) (counts_of books)) s (record books { catalogue = office_done command books.catalogue })
     → Holds s (record books { catalogue = office_done command books.catalogue })
-office_counts_agreed s command books owners holds =
-    agreed s (record books { catalogue = office_done command books.catalogue }) (office_counted command.act (length books.catalogue.branches + 1) (counts_of books)) (office_counts_done command books owners) holds
+office_counts_agreed s command books owners termed holds =
+    agreed s (record books { catalogue = office_done command books.catalogue }) (office_counted command.act (length books.catalogue.branches + 1) (counts_of books)) (office_counts_done command books owners) termed holds
 
 -- and with the rows alone the counts are such as one more key is taken of
 pub office_grown_once : (act : OfficeAct) (b : ℕ) (books : Books) → 1 ≤ b → IsHeld books → CountsOnce 0 kind.Kept (office_grown act b (counts_of books))

@@ -1,4 +1,5 @@
 pub mod CreateTexts
+pub mod FirstTexts
 pub mod Stands
 pub mod Listed
 pub mod SharedTables
@@ -22,3 +23,4 @@ pub mod Days
 pub mod MomentOrder
 pub mod Numbers
 pub mod MigrateTexts
+pub mod MigrateBack

@@ -1,5 +1,5 @@
 -- What the statements do by which the tables of version 1 become those of version 2.
-use Rattle.std.proofs.Common.{◌≡◌, ℕ, pos, List, [], ◌∷◌, ◌++◌, map, filter, length, drop, take, codes, true, Ok, refl, sym, ap, ap₂, subst, subst₂, ◌∙◌, arith, append-nil, map-id, inl, inr, IsPermutation}
+use Rattle.std.proofs.Common.{◌≡◌, ◌≢◌, ℕ, pos, List, [], ◌∷◌, ◌++◌, map, filter, length, drop, take, codes, true, Ok, refl, sym, ap, ap₂, subst, subst₂, ◌∙◌, arith, append-nil, map-id, inl, inr, IsPermutation}
 use Rattle.std.specs.Prelude.{⊤, ◌⊎◌}
 use Rattle.std.specs.List.{flat_map}
 use Rattle.std.specs.List.{AllByRecursion}
@@ -28,7 +28,7 @@ use Rattle.sqlite_keyed.proofs.ListLemmas.{map-map, flat_map-map, all-append}
 use Rattle.sqlite_schema.specs.declared.schema.Keys.TheVariants.{Enforced}
 use Rattle.sql_rows.specs.Books.{Changes}
 use Rattle.sql_rows.specs.Builds.{Means}
-use Rattle.sql_rows.specs.Rows.{HasRows, number_value}
+use Rattle.sql_rows.specs.Rows.{HasRows, SameBut, number_value}
 use Rattle.sql_rows.proofs.Bags.{all_typed}
 use Rattle.sql_rows.proofs.Fills.{Kept, Fills, fills, fills_values, adds}
 use Rattle.sql_rows.proofs.Joins.{joined_query, are_equal, or_blank, shown_of, few_list, left_pair, joined_bag}
@@ -42,17 +42,17 @@ use Rattle.shop_model.specs.Stock.{film_of, film_terms, terms_now}
 use Rattle.shop_model.specs.Sound.{HasNumbers}
 use Rattle.shop_model.specs.Books.{Books, BookCopy, shop_of, unmarked}
 use Rattle.shop_model.specs.Migration.{IsSoundWithoutTerms, row_terms, migrated}
-use Rattle.shop_model.proofs.RowLemmas.{row_at}
+use Rattle.shop_model.proofs.RowLemmas.{row_at, length_map}
 use Rattle.shop_model.proofs.FoundLemmas.{at_one}
 use Rattle.shop_model.proofs.Migration.{all_rows_have_one}
 use Rattle.shop_schema.specs.Tables as t
 use Rattle.shop_schema.specs.Tables.{shop_schema, version_1_schema, later_tables}
 use Rattle.shop_schema.specs.Columns.{this_version, first_version, versioned_columns, film_columns, copy_columns, rental_columns, terms_columns, rule_columns}
 use Rattle.shop_schema.specs.Counts.{counts_of}
-use Rattle.shop_schema.specs.Shop.{IsShop, IsFirstShop, StandsAs, HoldsVersion1, Holds, term_rows, rule_rows, IsKeyed, IsFirstKeyed}
-use Rattle.shop_schema.specs.Migrating.{IsUnderWay}
+use Rattle.shop_schema.specs.Shop.{IsShop, IsFirstShop, StandsAs, AreTermed, HoldsVersion1, Holds, term_rows, rule_rows, IsKeyed, IsFirstKeyed}
+use Rattle.shop_schema.specs.Migrating.{AddsTables, IsUnderWay, PutsRule, SetsVersion, Tells}
 use Rattle.shop_schema.proofs.CreateTexts.{rental_terms_text, chain_rule_text, makes_rental_terms, makes_chain_rule}
-use Rattle.shop_schema.proofs.Stands.{HaveRows, first_rows, rows_as, first_listed, listed, named, have_append, have_moved, stands_as_but}
+use Rattle.shop_schema.proofs.Stands.{HaveRows, first_rows, rows_as, first_listed, listed, named, for_own, have_append, have_moved, stands_as_but}
 use Rattle.shop_schema.proofs.Listed.{own_rows}
 use Rattle.shop_schema.proofs.Lists.{picks_row}
 use Rattle.shop_schema.proofs.Numbers.{left_number}
@@ -99,50 +99,59 @@ both_same : (ts : List Table) (old mid new : Trees) → AllByRecursion (λ t. mi
 both_same [] old mid new first then = tt
 both_same (t ∷ ts) old mid new first then = (then.0 ∙ first.0, both_same ts old mid new first.1 then.1)
 
-first_part : (P : Table → Type 0) (ts us : List Table) → AllByRecursion P (ts ++ us) → AllByRecursion P ts
+pub first_part : (P : Table → Type 0) (ts us : List Table) → AllByRecursion P (ts ++ us) → AllByRecursion P ts
 first_part P [] us all = tt
 first_part P (t ∷ ts) us all = (all.0, first_part P ts us all.1)
 
-last_part : (P : Table → Type 0) (ts us : List Table) → AllByRecursion P (ts ++ us) → AllByRecursion P us
+pub last_part : (P : Table → Type 0) (ts us : List Table) → AllByRecursion P (ts ++ us) → AllByRecursion P us
 last_part P [] us all = all
 last_part P (t ∷ ts) us all = last_part P ts us all.1
 
-pub tables_made : (old mid new : State) (m n : ℕ) → ExecutesInside 0 rental_terms_text [] old mid (Ok m) → ExecutesInside 0 chain_rule_text [] mid new (Ok n) → IsFirstShop old → IsShop new
-tables_made old mid new m n terms rule shop =
-    let a = adds version_1_schema rental_terms_text old mid m terms_placeless shop makes_rental_terms terms.0 in
-    let b = adds half_schema chain_rule_text mid new n rule_placeless (a.schema_is ∙ with_terms) makes_chain_rule rule.0 in
-    b.schema_is ∙ with_rule
+-- what the two statements leave of the tables of version 1, and beside them
+record Made (old new : State) : Type 0 where
+  shop : IsShop new
+  others : AllByRecursion (λ t. new.now.trees t.tree ≡ old.now.trees t.tree) version_1_schema.tables
+  no_terms : new.now.trees 57 ≡ []
+  no_rule : new.now.trees 59 ≡ []
 
-pub tables_keyed : (old mid new : State) (m n : ℕ) → ExecutesInside 0 rental_terms_text [] old mid (Ok m) → ExecutesInside 0 chain_rule_text [] mid new (Ok n) → IsFirstShop old → IsFirstKeyed old → IsKeyed new
-tables_keyed old mid new m n terms rule shop keyed =
+made : (old mid new : State) (m n : ℕ) → ExecutesInside 0 rental_terms_text [] old mid (Ok m) → ExecutesInside 0 chain_rule_text [] mid new (Ok n) → IsFirstShop old → Made old new
+made old mid new m n terms rule shop =
     let a = adds version_1_schema rental_terms_text old mid m terms_placeless shop makes_rental_terms terms.0 in
     let b = adds half_schema chain_rule_text mid new n rule_placeless (a.schema_is ∙ with_terms) makes_chain_rule rule.0 in
     let Same : Table → Type 0 = λ t. new.now.trees t.tree ≡ mid.now.trees t.tree in
     let first = version_1_schema.tables in
     let later = last_part Same first (t.rental_terms_table ∷ []) b.others in
-    let same = both_same first old.now.trees mid.now.trees new.now.trees a.others (first_part Same first (t.rental_terms_table ∷ []) b.others) in
-    let no_terms : new.now.trees 57 ≡ [] = later.0 ∙ subst (λ (tree : ℕ). mid.now.trees tree ≡ []) terms_tree a.empty in
-    let no_rule : new.now.trees 59 ≡ [] = subst (λ (tree : ℕ). new.now.trees tree ≡ []) rule_tree b.empty in
-    all-append (λ t. IsShaped TableShape (new.now.trees t.tree)) first later_tables (keyed_moved first old.now.trees new.now.trees same keyed) (none_shaped no_terms, (none_shaped no_rule, tt))
+    record {
+      shop = b.schema_is ∙ with_rule;
+      others = both_same first old.now.trees mid.now.trees new.now.trees a.others (first_part Same first (t.rental_terms_table ∷ []) b.others);
+      no_terms = later.0 ∙ subst (λ (tree : ℕ). mid.now.trees tree ≡ []) terms_tree a.empty;
+      no_rule = subst (λ (tree : ℕ). new.now.trees tree ≡ []) rule_tree b.empty;
+    }
+
+pub tables_made : (old mid new : State) (m n : ℕ) → ExecutesInside 0 rental_terms_text [] old mid (Ok m) → ExecutesInside 0 chain_rule_text [] mid new (Ok n) → IsFirstShop old → IsShop new
+tables_made old mid new m n terms rule shop = (made old mid new m n terms rule shop).shop
+
+pub tables_keyed : (old mid new : State) (m n : ℕ) → ExecutesInside 0 rental_terms_text [] old mid (Ok m) → ExecutesInside 0 chain_rule_text [] mid new (Ok n) → IsFirstShop old → IsFirstKeyed old → IsKeyed new
+tables_keyed old mid new m n terms rule shop keyed =
+    let it = made old mid new m n terms rule shop in
+    all-append (λ t. IsShaped TableShape (new.now.trees t.tree)) version_1_schema.tables later_tables (keyed_moved version_1_schema.tables old.now.trees new.now.trees it.others keyed)
+    (none_shaped it.no_terms, (none_shaped it.no_rule, tt))
+
+pub tables_left : (old mid new : State) (m n : ℕ) → ExecutesInside 0 rental_terms_text [] old mid (Ok m) → ExecutesInside 0 chain_rule_text [] mid new (Ok n) → IsFirstShop old → AddsTables old.now.trees new.now.trees
+tables_left old mid new m n terms rule shop = let it = made old mid new m n terms rule shop in record { others = it.others; no_rule = it.no_rule }
 
 pub tables_added : (old mid new : State) (m n : ℕ) (books : Books) → ExecutesInside 0 rental_terms_text [] old mid (Ok m) → ExecutesInside 0 chain_rule_text [] mid new (Ok n)
     → HoldsVersion1 old books → IsUnderWay first_version [] [] new books
 tables_added old mid new m n books terms rule holds =
-    let a = adds version_1_schema rental_terms_text old mid m terms_placeless holds.schema_is makes_rental_terms terms.0 in
-    let b = adds half_schema chain_rule_text mid new n rule_placeless (a.schema_is ∙ with_terms) makes_chain_rule rule.0 in
-    let Same : Table → Type 0 = λ t. new.now.trees t.tree ≡ mid.now.trees t.tree in
+    let it = made old mid new m n terms rule holds.schema_is in
     let first = version_1_schema.tables in
-    let later = last_part Same first (t.rental_terms_table ∷ []) b.others in
-    let same = both_same first old.now.trees mid.now.trees new.now.trees a.others (first_part Same first (t.rental_terms_table ∷ []) b.others) in
-    let no_terms : new.now.trees 57 ≡ [] = later.0 ∙ subst (λ (tree : ℕ). mid.now.trees tree ≡ []) terms_tree a.empty in
-    let no_rule : new.now.trees 59 ≡ [] = subst (λ (tree : ℕ). new.now.trees tree ≡ []) rule_tree b.empty in
     let More : Trees → Books → Type 0 = λ _ its. (its.terms ≡ []) × (its.catalogue.rule ≡ ByCode) in
     let counts = counts_of books in
     let rows = first_rows first_version counts books in
-    let had = have_moved first old.now.trees new.now.trees rows same (first_listed first_version More counts old.now.trees books holds.stands) in
-    let none : HaveRows later_tables new.now.trees ([] ∷ [] ∷ []) = (none_in 5 (new.now.trees 57) no_terms, (none_in 1 (new.now.trees 59) no_rule, tt)) in
+    let had = have_moved first old.now.trees new.now.trees rows it.others (first_listed first_version More counts old.now.trees books holds.stands) in
+    let none : HaveRows later_tables new.now.trees ([] ∷ [] ∷ []) = (none_in 5 (new.now.trees 57) it.no_terms, (none_in 1 (new.now.trees 59) it.no_rule, tt)) in
     record {
-      schema_is = b.schema_is ∙ with_rule;
+      schema_is = it.shop;
       keyed = tables_keyed old mid new m n terms rule holds.schema_is holds.keyed;
       stands = named first_version (λ _. []) (λ _. []) counts new.now.trees books (have_append first later_tables new.now.trees rows ([] ∷ [] ∷ []) refl had none);
     }
@@ -276,6 +285,9 @@ terms_stay old new n ran shop = (terms_fill old new n ran shop).schema_is
 pub terms_keyed : (old new : State) (n : ℕ) → ExecutesInside 0 fill_text [] old new (Ok n) → IsShop old → IsKeyed old → IsKeyed new
 terms_keyed old new n ran shop keyed = applies_keyed shop_schema Enforced old.now.trees new.now.trees _ 21 refl (terms_fill old new n ran shop).applies keyed
 
+pub terms_left : (old new : State) (n : ℕ) → ExecutesInside 0 fill_text [] old new (Ok n) → IsShop old → SameBut shop_schema 57 old.now.trees new.now.trees
+terms_left old new n ran shop = (terms_fill old new n ran shop).applies.tables
+
 pub terms_put : (old new : State) (n : ℕ) → ExecutesInside 0 fill_text [] old new (Ok n) → (rules : Rules) (books : Books) → IsSoundWithoutTerms rules books → IsUnderWay first_version [] [] old books
     → IsUnderWay first_version (term_rows (migrated books)) [] new books
 terms_put old new n ran rules books sound holds =
@@ -326,6 +338,11 @@ rule_stays old new n ran shop = (rule_has_put old new n ran shop).schema_is
 pub rule_keyed : (old new : State) (n : ℕ) → ExecutesInside 0 rule_text [] old new (Ok n) → IsShop old → IsKeyed old → IsKeyed new
 rule_keyed old new n ran shop keyed = (rule_has_put old new n ran shop).keyed keyed
 
+pub rule_left : (old new : State) (n : ℕ) → ExecutesInside 0 rule_text [] old new (Ok n) → IsShop old → PutsRule old.now.trees new.now.trees
+rule_left old new n ran shop =
+    let done = rule_has_put old new n ran shop in
+    record { others = done.others; rule = λ none. done.rows [] (none_in 1 (old.now.trees 59) none) }
+
 pub rule_put : (old new : State) (n : ℕ) → ExecutesInside 0 rule_text [] old new (Ok n) → (terms : List sql.Row) (books : Books) → IsUnderWay first_version terms [] old books → IsUnderWay first_version terms (rule_columns ByCode ∷ []) new books
 rule_put old new n ran terms books holds =
     let done = rule_has_put old new n ran holds.schema_is in
@@ -351,40 +368,76 @@ version_means = record { is = refl; plain = (refl, refl) }
 abbrev told : ℕ × Text → sql.Row
 told it = versioned_columns it.0 it.1
 
--- books with the version that their tables have
-abbrev Versioned : List sql.Row → List sql.Row → Trees → ℕ × Books → Type 0
-Versioned terms rule trees it = StandsAs it.0 (λ _. terms) (λ _. rule) (counts_of it.1) trees it.1
+-- the row of the table, in tables of which the others are as they were
+abbrev Stood : Trees → Trees → ℕ × Text → Type 0
+Stood old trees it = SameBut shop_schema 0 old trees × HasRows 2 (trees 0) (told it ∷ [])
 
-version_changes : (old new : State) (n : ℕ) → ExecutesInside 0 version_text [] old new (Ok n) → (terms rule : List sql.Row) → IsShop old
-    → Changes shop_schema (Versioned terms rule) old new (λ _. ⊤) (λ it. (this_version, it.1))
-version_changes old new n ran terms rule shop =
-    sets_row shop_schema (Versioned terms rule) version_text 0 t.chain_table 2 [] version_shows [] told (λ vs. true) (λ it. true) (λ vs. number_value 2 ∷ column vs 1 ∷ []) (λ it. (2, it.1))
+as_before : (ts : List Table) (db : Trees) → AllByRecursion (λ t. t.tree ≢ 0 → db t.tree ≡ db t.tree) ts
+as_before [] db = tt
+as_before (t ∷ ts) db = (λ apart. refl, as_before ts db)
+
+version_changes : (old new : State) (n : ℕ) → ExecutesInside 0 version_text [] old new (Ok n) → IsShop old
+    → Changes shop_schema (Stood old.now.trees) old new (λ _. ⊤) (λ it. (this_version, it.1))
+version_changes old new n ran shop =
+    sets_row shop_schema (Stood old.now.trees) version_text 0 t.chain_table 2 [] version_shows [] told (λ vs. true) (λ it. true) (λ vs. number_value 2 ∷ column vs 1 ∷ []) (λ it. (2, it.1))
     (λ it. refl) (λ it. refl) (λ it. refl) old new shop
     version_means refl refl n ran (own_rows old.now.trees 0) (λ r. refl) (λ r. refl) (λ r. refl) (λ r. refl) (λ v vs. refl) (λ it. ⊤) (λ it. (this_version, it.1))
-    (λ it same stands given sets. stands_as_but it.0 2 (λ _. terms) (λ _. rule) (λ _. terms) (λ _. rule) 0 t.chain_table refl refl (counts_of it.1) it.1 _ refl old.now.trees new.now.trees same stands
-    (sets ((it.0, it.1.catalogue.office_token) ∷ []) stands.chain (omega arith)))
+    (λ it same stood given sets. (same, sets (it ∷ []) stood.1 (omega arith)))
 
 pub version_stays : (old new : State) (n : ℕ) → ExecutesInside 0 version_text [] old new (Ok n) → IsShop old → IsShop new
-version_stays old new n ran shop = (version_changes old new n ran [] [] shop).schema_is
+version_stays old new n ran shop = (version_changes old new n ran shop).schema_is
 
 pub version_keyed : (old new : State) (n : ℕ) → ExecutesInside 0 version_text [] old new (Ok n) → IsShop old → IsKeyed old → IsKeyed new
-version_keyed old new n ran shop keyed = (version_changes old new n ran [] [] shop).keyed keyed
+version_keyed old new n ran shop keyed = (version_changes old new n ran shop).keyed keyed
+
+pub version_left : (old new : State) (n : ℕ) → ExecutesInside 0 version_text [] old new (Ok n) → IsShop old → IsKeyed old → (token : Text) → Tells first_version token old.now.trees
+    → SetsVersion old.now.trees new.now.trees token
+version_left old new n ran shop keyed token tells =
+    let it = (version_changes old new n ran shop).books keyed (first_version, token) (as_before shop_schema.tables old.now.trees, tells) tt in
+    record { others = it.0; told = it.1 }
 
 pub version_set : (old new : State) (n : ℕ) → ExecutesInside 0 version_text [] old new (Ok n) → (terms rule : List sql.Row) (books : Books) → IsUnderWay first_version terms rule old books
     → IsUnderWay this_version terms rule new books
 version_set old new n ran terms rule books holds =
-    let changes = version_changes old new n ran terms rule holds.schema_is in
-    record { schema_is = changes.schema_is; keyed = changes.keyed holds.keyed; stands = changes.books holds.keyed (first_version, books) holds.stands tt }
+    let it = version_left old new n ran holds.schema_is holds.keyed books.catalogue.office_token holds.stands.chain in
+    record {
+      schema_is = version_stays old new n ran holds.schema_is;
+      keyed = version_keyed old new n ran holds.schema_is holds.keyed;
+      stands = stands_as_but first_version this_version (λ _. terms) (λ _. rule) (λ _. terms) (λ _. rule) 0 t.chain_table refl refl (counts_of books) books (versioned_columns this_version books.catalogue.office_token ∷ []) refl old.now.trees new.now.trees it.others holds.stands it.told;
+    }
 
 -- ---- all of it
 
-pub all_migrated : (s : State) (books : Books) → books.catalogue.rule ≡ ByCode → IsUnderWay this_version (term_rows (migrated books)) (rule_columns ByCode ∷ []) s books → Holds s (migrated books)
-all_migrated s books code holds =
+-- the branch and the number of each row
+abbrev keys : {A : Type 0} → List (Row A) → List (List ℕ)
+keys rows = map (λ row. row.branch ∷ row.number ∷ []) rows
+
+one_key : (b n : ℕ) (its : List Terms) → length its ≡ 1 → keys {A = Terms} (map (λ (it : Terms). record { branch = b; number = n; it = it }) its) ≡ (b ∷ n ∷ []) ∷ []
+one_key b n [] one = cc
+one_key b n (it ∷ []) one = refl
+one_key b n (it ∷ other ∷ its) one = absurd (omega (arith, one))
+
+keys_migrated : (books : Books) (rows : List (Row Rental)) → AllByRecursion (λ (row : Row Rental). length (film_of books.catalogue (shop_of row.branch books) row.it) ≡ 1) rows
+    → keys (flat_map (row_terms books) rows) ≡ keys rows
+keys_migrated books [] one = refl
+keys_migrated books (row ∷ rows) one =
+    let its = terms_now books.catalogue (shop_of row.branch books) row.it.copy in
+    map-append (λ (it : Row Terms). it.branch ∷ it.number ∷ []) (row_terms books row) (flat_map (row_terms books) rows)
+    ∙ ap₂ (λ (us vs : List (List ℕ)). us ++ vs) (one_key row.branch row.number its (length_map film_terms (film_of books.catalogue (shop_of row.branch books) row.it) ∙ one.0)) (keys_migrated books rows one.1)
+
+pub migrated_termed : (rules : Rules) (books : Books) → IsSoundWithoutTerms rules books → AreTermed (migrated books)
+migrated_termed rules books sound =
+    subst (λ (ks : List (List ℕ)). IsPermutation ks (keys books.rentals)) (sym (keys_migrated books books.rentals (all_rows_have_one rules books sound))) (IsPermutation-refl (keys books.rentals))
+
+pub all_migrated : (s : State) (rules : Rules) (books : Books) → IsSoundWithoutTerms rules books → books.catalogue.rule ≡ ByCode
+    → IsUnderWay this_version (term_rows (migrated books)) (rule_columns ByCode ∷ []) s books → Holds s (migrated books)
+all_migrated s rules books sound code holds =
     let terms = term_rows (migrated books) in
     let Rule : model.Rule → Type 0 = λ rule. HaveRows shop_schema.tables s.now.trees (rows_as this_version terms (rule_columns rule ∷ []) (counts_of books) books) in
     record {
       schema_is = holds.schema_is;
       keyed = holds.keyed;
-      stands = named this_version term_rows rule_rows (counts_of (migrated books)) s.now.trees (migrated books)
-          (subst Rule (sym code) (listed this_version (λ _. terms) (λ _. rule_columns ByCode ∷ []) (counts_of books) s.now.trees books holds.stands));
+      stands = for_own s.now.trees (migrated books) (migrated_termed rules books sound)
+          (named this_version term_rows rule_rows (counts_of (migrated books)) s.now.trees (migrated books)
+          (subst Rule (sym code) (listed this_version (λ _. terms) (λ _. rule_columns ByCode ∷ []) (counts_of books) s.now.trees books holds.stands)));
     }

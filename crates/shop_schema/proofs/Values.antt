@@ -19,7 +19,7 @@ use Rattle.shop_model.specs.Shop.{Shop, Catalogue}
 use Rattle.shop_model.specs.Links.{IsGoodCatalogue}
 use Rattle.shop_model.specs.Books.{Books, BookCopy, put_state, book_acted, book_done, imported, unmarked, shop_of}
 use Rattle.shop_model.specs.Sound.{IsSound}
-use Rattle.shop_model.specs.Migration.{row_terms, migrated}
+use Rattle.shop_model.specs.Migration.{row_terms, migrated, without_terms}
 use Rattle.shop_model.proofs.RowLemmas.{put_own, length_map}
 use Rattle.shop_model.proofs.FoundLemmas.{at_one}
 use Rattle.sqlite_keyed.proofs.ListLemmas.{all-append, all-filter}
@@ -157,6 +157,20 @@ migrated_values books v = record {
   copies = v.copies;
   rentals = v.rentals;
   terms = all_migrated books v.catalogue.films.1 books.rentals v.rentals;
+  payments = v.payments;
+  lots = v.lots;
+  consignments = v.consignments;
+  kept = v.kept;
+  lasts = v.lasts;
+}
+
+pub values_without : (books : Books) → AreValues books → AreValues (without_terms books)
+values_without books v = record {
+  catalogue = v.catalogue;
+  customers = v.customers;
+  copies = v.copies;
+  rentals = v.rentals;
+  terms = tt;
   payments = v.payments;
   lots = v.lots;
   consignments = v.consignments;

@@ -1,19 +1,51 @@
 -- The way from the tables of version 1 to those of version 2.
-use Rattle.std.specs.Prelude.{ℕ, List}
+use Rattle.std.specs.Prelude.{◌≡◌, ℕ, List, [], ◌∷◌}
+use Rattle.std.specs.List.{AllByRecursion}
 use Rattle.sqlite_value.specs.Order as sql
+use Rattle.sqlite_trees.specs.Tree.{Trees}
 use Rattle.sqlite.specs.State.{State}
 use Rattle.sql_rows.specs.Calls as calls
-use Rattle.shop_model.specs.Values.{Rules}
+use Rattle.sql_rows.specs.Rows.{HasRows, SameBut}
+use Rattle.shop_model.specs.Values.{Text, Rules, ByCode}
 use Rattle.shop_model.specs.Books.{Books}
-use Rattle.shop_model.specs.Migration.{IsSoundWithoutTerms, migrated}
+use Rattle.shop_model.specs.Migration.{IsSoundWithoutTerms, migrated, without_terms}
+use Rattle.shop_schema.specs.Columns.{this_version, first_version, versioned_columns, rule_columns}
 use Rattle.shop_schema.specs.Counts.{counts_of}
-use Rattle.shop_schema.specs.Shop.{StandsAs, Holds, HoldsVersion1}
-use Rattle.shop_schema.specs.Tables.{shop_schema}
+use Rattle.shop_schema.specs.Shop.{StandsAs, Holds, HoldsVersion1, IsFirstShop, IsFirstKeyed}
+use Rattle.shop_schema.specs.Tables.{shop_schema, version_1_schema}
 
 -- the tables of version 2, which still stand for books of version 1: they have this version, and these rows of terms and of the rule
 abbrev pub IsUnderWay : ℕ → List sql.Row → List sql.Row → State → Books → Type 0
 IsUnderWay version terms rule = calls.Holds shop_schema (λ trees books. StandsAs version (λ _. terms) (λ _. rule) (counts_of books) trees books)
 
+-- the table `chain` has one row, with this version and a token
+abbrev pub Tells : ℕ → Text → Trees → Type 0
+Tells version token trees = HasRows 2 (trees 0) (versioned_columns version token ∷ [])
+
+-- ---- what each step leaves of the tables, whatever they stand for
+
+-- there are new tables, and the others are as they were
+pub record AddsTables (old new : Trees) : Type 0 where
+  pub others : AllByRecursion (λ t. new t.tree ≡ old t.tree) version_1_schema.tables
+  pub no_rule : new 59 ≡ []
+
+-- a table has the rule, where it had no row, and the others are as they were
+pub record PutsRule (old new : Trees) : Type 0 where
+  pub others : SameBut shop_schema 59 old new
+  pub rule : old 59 ≡ [] → HasRows 1 (new 59) (rule_columns ByCode ∷ [])
+
+-- another version stands beside the token, and the other tables are as they were
+pub record SetsVersion (old new : Trees) (token : Text) : Type 0 where
+  pub others : SameBut shop_schema 0 old new
+  pub told : Tells this_version token new
+
+-- ---- all of it
+
 -- tables of version 1 that stand for sound books have become tables that stand for these books with the terms of each rental
 abbrev pub Migrates : State → State → Type 0
 Migrates old new = (rules : Rules) (books : Books) → IsSoundWithoutTerms rules books → HoldsVersion1 old books → Holds new (migrated books)
+
+-- and where the first of them told its version, then whatever books the tables stand for now, those of version 1 stood for the same without terms
+abbrev pub StoodForSame : State → State → Type 0
+StoodForSame old new =
+    IsFirstShop old → IsFirstKeyed old → (token : Text) → Tells first_version token old.now.trees → (books : Books) → Holds new books → HoldsVersion1 old (without_terms books)

@@ -2,6 +2,7 @@
 #![tactic(auto)]
 
 mod create;
+mod first;
 mod form;
 mod known;
 mod laws;
@@ -14,6 +15,7 @@ mod same_parts;
 mod same_tables;
 
 pub use create::{create_shop, create_tables};
+pub use first::create_first;
 pub use form::command_form;
 pub use known::{KnownVersion, has_version, is_first_shop, is_shop, version};
 pub use laws::{forms_are_one_to_one, office_forms_are_one_to_one};

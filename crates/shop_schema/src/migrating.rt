@@ -5,12 +5,14 @@ ghost use Rattle.sqlite.specs.Held.{state};
 ghost use Rattle.sqlite.specs.State.{HasCleanDisk};
 ghost use Rattle.sqlite_value.specs.Order.{Row as SqlRow};
 ghost use Rattle.sql_rows.specs.Calls.{StaysInside};
-ghost use Rattle.shop_model.specs.Values.{ByCode, Rules};
+ghost use Rattle.sql_rows.specs.Rows.{SameBut};
+ghost use Rattle.shop_model.specs.Values.{ByCode, Rules, Text};
 ghost use Rattle.shop_model.specs.Books.{Books};
 ghost use Rattle.shop_model.specs.Migration.{IsSoundWithoutTerms, migrated};
 ghost use Rattle.shop_schema.specs.Columns.{this_version, first_version, rule_columns};
-ghost use Rattle.shop_schema.specs.Migrating.{IsUnderWay, Migrates};
+ghost use Rattle.shop_schema.specs.Migrating.{AddsTables, IsUnderWay, Migrates, PutsRule, SetsVersion, StoodForSame, Tells};
 ghost use Rattle.shop_schema.specs.Shop.{IsShop, IsKeyed, IsFirstShop, IsFirstKeyed, term_rows, HoldsVersion1};
+ghost use Rattle.shop_schema.specs.Tables.{shop_schema};
 
 use sql_rows::{StoreFault, execute};
 use sqlite::{Alter, Transaction};
@@ -25,6 +27,8 @@ fn add_tables<S: Alter>(tx: &mut Transaction<'_, S>) -> Result<(), StoreFault>
     ensures added { HasCleanDisk (state S.Store tx.new.conn.now)
         → OnOk result ((books : Books) → HoldsVersion1 (state S.Store tx.old.conn.now) books
         → IsUnderWay first_version [] [] (state S.Store tx.new.conn.now) books) }
+    ensures tables { HasCleanDisk (state S.Store tx.new.conn.now)
+        → OnOk result (IsFirstShop (state S.Store tx.old.conn.now) → AddsTables (state S.Store tx.old.conn.now).now.trees (state S.Store tx.new.conn.now).now.trees) }
 {
     execute(
         tx,
@@ -48,6 +52,8 @@ fn put_terms<S: Alter>(tx: &mut Transaction<'_, S>) -> Result<(), StoreFault>
     ensures put { HasCleanDisk (state S.Store tx.new.conn.now)
         → OnOk result ((rules : Rules) (books : Books) → IsSoundWithoutTerms rules books → IsUnderWay first_version [] [] (state S.Store tx.old.conn.now) books
         → IsUnderWay first_version (term_rows (migrated books)) [] (state S.Store tx.new.conn.now) books) }
+    ensures tables { HasCleanDisk (state S.Store tx.new.conn.now)
+        → OnOk result (IsShop (state S.Store tx.old.conn.now) → SameBut shop_schema 57 (state S.Store tx.old.conn.now).now.trees (state S.Store tx.new.conn.now).now.trees) }
 {
     execute(
         tx,
@@ -66,6 +72,8 @@ fn put_rule<S: Alter>(tx: &mut Transaction<'_, S>) -> Result<(), StoreFault>
     ensures put { HasCleanDisk (state S.Store tx.new.conn.now)
         → OnOk result ((terms : List SqlRow) (books : Books) → IsUnderWay first_version terms [] (state S.Store tx.old.conn.now) books
         → IsUnderWay first_version terms (rule_columns ByCode ∷ []) (state S.Store tx.new.conn.now) books) }
+    ensures tables { HasCleanDisk (state S.Store tx.new.conn.now)
+        → OnOk result (IsShop (state S.Store tx.old.conn.now) → PutsRule (state S.Store tx.old.conn.now).now.trees (state S.Store tx.new.conn.now).now.trees) }
 {
     execute(tx, "INSERT INTO chain_rule (comment_rule) VALUES (0)", &[])
 }
@@ -80,12 +88,17 @@ fn set_version<S: Alter>(tx: &mut Transaction<'_, S>) -> Result<(), StoreFault>
     ensures set { HasCleanDisk (state S.Store tx.new.conn.now)
         → OnOk result ((terms rule : List SqlRow) (books : Books) → IsUnderWay first_version terms rule (state S.Store tx.old.conn.now) books
         → IsUnderWay this_version terms rule (state S.Store tx.new.conn.now) books) }
+    ensures tables { HasCleanDisk (state S.Store tx.new.conn.now)
+        → OnOk result (IsShop (state S.Store tx.old.conn.now) → IsKeyed (state S.Store tx.old.conn.now) → (token : Text)
+        → Tells first_version token (state S.Store tx.old.conn.now).now.trees
+        → SetsVersion (state S.Store tx.old.conn.now).now.trees (state S.Store tx.new.conn.now).now.trees token) }
 {
     execute(tx, "UPDATE chain SET version = 2", &[])
 }
 
 /// The tables of version 1 become those of version 2: each rental gets the terms of its film as they stand, and balances go by the manual's code, as they
-/// did. Nothing is committed.
+/// did. Nothing is committed. The tables stand for what those of version 1 stood for and for nothing else (`stood`), so that an audit of them tells whether these
+/// stood for sound books.
 pub fn migrate_tables<S: Alter>(tx: &mut Transaction<'_, S>) -> Result<(), StoreFault>
     ensures inside { StaysInside S.Store tx.old.conn tx.new.conn result }
     ensures shop { HasCleanDisk (state S.Store tx.new.conn.now)
@@ -93,6 +106,7 @@ pub fn migrate_tables<S: Alter>(tx: &mut Transaction<'_, S>) -> Result<(), Store
     ensures keyed { HasCleanDisk (state S.Store tx.new.conn.now)
         → OnOk result (IsFirstShop (state S.Store tx.old.conn.now) → IsFirstKeyed (state S.Store tx.old.conn.now) → IsKeyed (state S.Store tx.new.conn.now)) }
     ensures migrated { HasCleanDisk (state S.Store tx.new.conn.now) → OnOk result (Migrates (state S.Store tx.old.conn.now) (state S.Store tx.new.conn.now)) }
+    ensures stood { HasCleanDisk (state S.Store tx.new.conn.now) → OnOk result (StoodForSame (state S.Store tx.old.conn.now) (state S.Store tx.new.conn.now)) }
 {
     add_tables(tx)?;
     put_terms(tx)?;

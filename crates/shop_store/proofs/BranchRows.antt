@@ -39,6 +39,7 @@ use Rattle.shop_schema.specs.Tables.{shop_schema}
 use Rattle.shop_schema.specs.Shop.{StandsFor, StandsWith, Holds, Reads, Writes}
 use Rattle.shop_schema.specs.Counts.{counts_of}
 use Rattle.shop_schema.proofs.Lists.{picks_row}
+use Rattle.shop_schema.proofs.Stands.{with_own}
 use Rattle.shop_schema.proofs.Listed.{Plain, cols, width, stood, changed, own_rows}
 use Rattle.shop_ledger.proofs.Equals.{of_two}
 use Rattle.shop_ledger.proofs.Rising.{Rise, of_which, which_rise, which_are, rise_differ, rise_sorted}
@@ -115,7 +116,7 @@ module _ {A : Type 0} (t : BranchRows A) where
         let few : PicksOne (is_row b n) (items books) = picks_row b (items books) counted n in
         let found : rows ≡ map columns (filter (is_row b n) (items books)) =
         selects_one shop_schema text tree wide of_two (cols 1 1 wide) [] means (number_value b ∷ number_value n ∷ []) old new rows holds.schema_is h columns (items books)
-        (stood t.rows (counts_of books) books old.now.trees holds.stands) (own_rows old.now.trees tree) (has_key b n) (is_row b n) (key_tested b n) (only b n) few in
+        (stood t.rows (counts_of books) books old.now.trees (with_own old.now.trees books holds.stands)) (own_rows old.now.trees tree) (has_key b n) (is_row b n) (key_tested b n) (only b n) few in
         let short : length rows ≤ 1 = subst (λ (k : ℕ). k ≤ 1) (sym (ap length found ∙ length-map columns (filter (is_row b n) (items books)))) few in
         let one : map seen (option_to_list o) ≡ filter (is_row b n) (items books) =
         unmapped_kind columns (IsRow t.Fits) t.one _ _ (some_seen (IsRow t.Fits) seen o kind) (all-filter (IsRow t.Fits) (is_row b n) (items books) (t.valued books held))
@@ -142,7 +143,7 @@ module _ {A : Type 0} (t : BranchRows A) where
           let sorted : sort_by (by (λ (row : Row A). row.number)) (filter p (items books)) ≡ filter p (items books) = rise_sorted (filter p (items books)) rise in
           let found : rows ≡ map columns (sort_by (by (λ (row : Row A). row.number)) (filter p (items books))) =
           selects_sorted shop_schema text tree wide tests (cols 1 1 wide) 1 means params old new rows holds.schema_is h columns (items books)
-          (stood t.rows (counts_of books) books old.now.trees holds.stands) (own_rows old.now.trees tree) test p tested only (λ row. row.number) (λ row. (t.begins row).1) (rise_differ (filter p (items books)) rise) in (
+          (stood t.rows (counts_of books) books old.now.trees (with_own old.now.trees books holds.stands)) (own_rows old.now.trees tree) test p tested only (λ row. row.number) (λ row. (t.begins row).1) (rise_differ (filter p (items books)) rise) in (
             still_holds shop_schema StandsFor text params old new means.plain rows h books holds,
             unmapped_kind columns (IsRow t.Fits) t.one _ _ (all_map (IsRow t.Fits) seen all kinds) (all-filter (IsRow t.Fits) p (items books) (t.valued books held))
                 (map-map columns seen all ∙ read ∙ same ∙ found ∙ ap (map columns) sorted),

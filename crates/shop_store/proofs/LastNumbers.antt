@@ -21,6 +21,7 @@ use Rattle.shop_model.specs.Books.{Books}
 use Rattle.shop_schema.specs.Tables.{shop_schema}
 use Rattle.shop_schema.specs.Counts.{counts_of}
 use Rattle.shop_schema.specs.Shop.{StandsFor, Holds, Reads}
+use Rattle.shop_schema.proofs.Stands.{with_own}
 use Rattle.shop_schema.proofs.Listed.{own_rows}
 use Rattle.shop_schema.specs.First.{TellsFirst}
 use Rattle.shop_store.specs.declared.lasts.TheConstants.{SELECT_LAST_COUNTRY, SELECT_LAST_LANGUAGE, SELECT_LAST_CATEGORY, SELECT_LAST_CITY, SELECT_LAST_ACTOR, SELECT_LAST_FILM, SELECT_LAST_BRANCH, SELECT_LAST_STAFF}
@@ -93,7 +94,7 @@ module _ {A : Type 0} (t : ByNumber A) (text : List ℕ) where
       shows books holds =
           let its = numbered (t.part.items books) in
           projects_last shop_schema text t.table.tree (length t.table.columns) [] (col 1 1 ∷ []) 0 means [] old new rows holds.schema_is h (t.columns books) its
-          (t.stood (counts_of books) books old.now.trees holds.stands) (own_rows old.now.trees t.table.tree) (λ vs. true) (λ vs. column vs 0 ∷ []) (λ it. true) (λ it. refl) only (λ it. it.0) (t.numbers books)
+          (t.stood (counts_of books) books old.now.trees (with_own old.now.trees books holds.stands)) (own_rows old.now.trees t.table.tree) (λ vs. true) (λ vs. column vs 0 ∷ []) (λ it. true) (λ it. refl) only (λ it. it.0) (t.numbers books)
           (subst (IsAscending (λ (a b : ℕ × A). a.0 < b.0)) (sym (all_pass its)) (numbered_rise 1 (t.part.items books)))
           ∙ ap (λ (l : List (ℕ × A)). map (λ it. column (t.columns books it) 0 ∷ []) (ending l)) (all_pass its) ∙ shown (ending its)
         where

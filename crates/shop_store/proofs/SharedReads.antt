@@ -28,6 +28,7 @@ use Rattle.shop_schema.specs.Shop.{StandsFor, Holds, Reads}
 use Rattle.shop_schema.specs.Counts.{counts_of}
 use Rattle.shop_schema.proofs.FirstRows.{first_none, first_some}
 use Rattle.shop_schema.proofs.Lasts.{numbered_once}
+use Rattle.shop_schema.proofs.Stands.{with_own}
 use Rattle.shop_schema.proofs.Listed.{own_rows}
 use Rattle.shop_schema.proofs.Numbered.{picked}
 use Rattle.shop_store.specs.declared.branches.TheConstants.{SELECT_MANAGER}
@@ -61,7 +62,7 @@ module _ {A : Type 0} (t : ByNumber A) (text : List ℕ) (shown : List Term) whe
     pub shows_shared : (books : Books) → Holds old books → rows ≡ map (λ x. show (t.columns books (n, x))) (at n (t.part.items books))
     shows_shared books holds =
         projects_one shop_schema text t.table.tree width of_number shown means (number_value n ∷ []) old new rows holds.schema_is h (t.columns books) (numbered (t.part.items books))
-        (t.stood (counts_of books) books old.now.trees holds.stands) (own_rows old.now.trees t.table.tree) (λ vs. number_test 0 n vs && true) show (λ it. it.0 == n)
+        (t.stood (counts_of books) books old.now.trees (with_own old.now.trees books holds.stands)) (own_rows old.now.trees t.table.tree) (λ vs. number_test 0 n vs && true) show (λ it. it.0 == n)
         (λ it. one_tested _ (test_of (t.columns books it) 0 it.0 n (t.numbers books it))) (only n) (numbered_once 1 (t.part.items books) n)
         ∙ ap (map (λ it. show (t.columns books it))) (picked n low (t.part.items books)) ∙ map-map (λ (it : ℕ × A). show (t.columns books it)) (λ x. (n, x)) (at n (t.part.items books))
 

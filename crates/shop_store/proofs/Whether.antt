@@ -31,6 +31,7 @@ use Rattle.shop_schema.specs.Columns.{cast_columns}
 use Rattle.shop_schema.specs.Counts.{counts_of}
 use Rattle.shop_schema.specs.Shop.{StandsFor, Reads}
 use Rattle.shop_schema.proofs.Different.{bytes_eq_turned}
+use Rattle.shop_schema.proofs.Stands.{with_own}
 use Rattle.shop_schema.proofs.Listed.{own_rows}
 use Rattle.shop_store.specs.declared.branches.TheConstants.{SELECT_WITH_TOKEN}
 use Rattle.shop_store.specs.declared.rows.TheConstants.{SELECT_COUNTRY_NAMED, SELECT_LANGUAGE_NAMED, SELECT_CATEGORY_NAMED, SELECT_CAST}
@@ -89,7 +90,7 @@ module _ {A : Type 0} (t : ByNumber A) (text : List ℕ) (place : ℕ) where
       → (old new : State) (name : List ℕ) (rows : List sql.Row) → Shown text (Text name ∷ []) old new rows → Reads old new (λ books. not (length rows == 0) ≡ list_any (λ x. bytes_eq (of x) name) (t.part.items books))
   reads_text means of texts only old new name rows h books holds held =
       let found =
-      reads_any text t.table.tree (length t.table.columns) of_text (col 1 1 ∷ []) means t.columns (λ them. numbered (t.part.items them)) (λ them trees s. t.stood (counts_of them) them trees s) (Text name ∷ [])
+      reads_any text t.table.tree (length t.table.columns) of_text (col 1 1 ∷ []) means t.columns (λ them. numbered (t.part.items them)) (λ them trees s. t.stood (counts_of them) them trees (with_own trees them s)) (Text name ∷ [])
       (λ vs. text_test place name vs && true) (λ vs. column vs 0 ∷ []) (λ it. bytes_eq (of it.1) name)
       (λ them it. one_tested _ (ap (λ v. is_true (binary (Compare Eq Binary) v (Text name))) (texts them it) ∙ text_tested (of it.1) name)) (only name) old new rows h books holds held in
       (found.0, found.1 ∙ any_numbered (λ x. bytes_eq (of x) name) 1 (t.part.items books))

@@ -26,4 +26,4 @@ returns-clause-acted g c = λ clean rules found books holds held agrees marked.
     let put = c.in_ok-put_customer.ensures.put clean (raise b 0 1 (counts_of books)) books taken.0 tt in
     let row : Customer = record { person = seen_person c.args.person.now; active = true; created = c.args.command.now.at } in
     let same : seen_customer c.in_ok-customer.customer ≡ row = ap seen_customer c.in_ok-customer.ensures in
-    (customer_added s2 b books low n row is (subst (λ (it : Customer). HoldsWith (raise b 0 1 (counts_of books)) s2 (record books { customers = books.customers ++ record { branch = b; number = n; it = it } ∷ [] })) same put), c.in_ok-new_customer_text.ensures ∙ ap (λ (m : ℕ). object ((codes "customer", decimal m) ∷ [])) is, tt)
+    (customer_added s2 b books low holds.stands.more.termed n row is (subst (λ (it : Customer). HoldsWith (raise b 0 1 (counts_of books)) s2 (record books { customers = books.customers ++ record { branch = b; number = n; it = it } ∷ [] })) same put), c.in_ok-new_customer_text.ensures ∙ ap (λ (m : ℕ). object ((codes "customer", decimal m) ∷ [])) is, tt)

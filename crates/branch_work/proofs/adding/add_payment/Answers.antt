@@ -21,4 +21,4 @@ returns-clause-acted g c = λ clean rules found books holds held agrees marked.
     let taken = c.in_ok-number.ensures.taken clean1 (counts_of books) books (beside s0 books holds) (held_once books held kind.Payments b low) in
     let is : n ≡ next b books.payments = told_more b 3 1 books n low taken.1 in
     let put = c.in_ok-put_payment.ensures.put clean (raise b 3 1 (counts_of books)) books taken.0 tt in
-    (payment_added s2 b books low n (record { customer = c.args.customer; staff = c.args.command.now.staff; rental = c.args.rental; amount = c.args.amount; paid = c.args.command.now.at }) is put, c.in_ok-payment_text.ensures ∙ ap (λ (m : ℕ). object ((codes "payment", decimal m) ∷ [])) is, tt)
+    (payment_added s2 b books low holds.stands.more.termed n (record { customer = c.args.customer; staff = c.args.command.now.staff; rental = c.args.rental; amount = c.args.amount; paid = c.args.command.now.at }) is put, c.in_ok-payment_text.ensures ∙ ap (λ (m : ℕ). object ((codes "payment", decimal m) ∷ [])) is, tt)

@@ -34,4 +34,4 @@ returns-clause-acted g c = λ clean rules rows same books holds held agrees mark
     let terms = seen_terms c.in-Some.found.terms in
     let now : terms_now books.catalogue (shop_of b books) c.args.copy ≡ terms ∷ [] = subst (HasTermsNow books.catalogue (shop_of b books) c.args.copy) (same ∙ c.in-Some.is) agrees.terms in
     let termed : next b books.terms ≡ next b books.rentals = ap (λ (m : ℕ). m + 1) (held.termed b) in
-    (rental_added s4 b books low n (record { rented = c.args.command.now.at; copy = c.args.copy; customer = c.args.customer; returned = None; staff = c.args.command.now.staff }) terms _ refl is termed now out.0, c.in_ok-rental_text.ensures ∙ ap (λ (m : ℕ). object ((codes "rental", decimal m) ∷ [])) is, tt)
+    (rental_added s4 b books low holds.stands.more.termed n (record { rented = c.args.command.now.at; copy = c.args.copy; customer = c.args.customer; returned = None; staff = c.args.command.now.staff }) terms _ refl is termed now out.0, c.in_ok-rental_text.ensures ∙ ap (λ (m : ℕ). object ((codes "rental", decimal m) ∷ [])) is, tt)

@@ -24,7 +24,7 @@ returns-clause-kept g c = λ clean.
     on_ok_then c.set_last.result (λ last. λ books holds once.
     let counts = raise b 4 1 (counts_of books) in
     let counted = c.in_ok-take_numbers.ensures.taken clean1 (counts_of books) books (beside s0 books holds) once in
-    kept_added s3 b command c.args.reply.now books low (last counts _ (kept counts books counted.0 tt) tt)) (c.set_last.ensures.set clean)
+    kept_added s3 b command c.args.reply.now books low holds.stands.more.termed (last counts _ (kept counts books counted.0 tt) tt)) (c.set_last.ensures.set clean)
 
 pub returns-in_err-take_numbers-clause-inside : goal.returns-in_err-take_numbers-clause-inside
 returns-in_err-take_numbers-clause-inside g c = within_err (within_of c.take_numbers.ensures.inside) c.from_residual.ensures.0

@@ -9,4 +9,4 @@ returns-clause-acted g c = λ clean rules command found books holds held agrees 
     let s0 = state g.S.Store c.args.tx.now.conn.now in
     let s1 = state g.S.Store c.set_active.new.tx.conn.now in
     let set = c.in_ok-set_active.ensures.set clean (counts_of books) books (beside s0 books holds) held in
-    (agreed s1 _ (counts_of books) (active_counted c.args.branch c.args.customer (λ it. record it { active = c.args.active }) books) set, c.in_ok-active_text.ensures, tt)
+    (agreed s1 _ (counts_of books) (active_counted c.args.branch c.args.customer (λ it. record it { active = c.args.active }) books) holds.stands.more.termed set, c.in_ok-active_text.ensures, tt)

@@ -1,11 +1,13 @@
-use Rattle.std.proofs.Common.{◌∙◌, sym, ap, arith, option_map}
+use Rattle.std.proofs.Common.{◌∙◌, sym, ap, arith, option_map, Some}
 use Rattle.sqlite.specs.Held.{state}
 use Rattle.sqlite.specs.State.{HasCleanDisk}
+use Rattle.shop_model.specs.Values.{Rental}
 use Rattle.shop_schema.specs.Counts.{counts_of, drop_out}
 use Rattle.shop_ledger.proofs.CountsOf.{agreed, beside}
 use Rattle.shop_ledger.proofs.Agreeing.{returned_counted, its_rentals, out_once}
 use Rattle.branch_core.specs.Agreed.{seen_rental}
 use Rattle.branch_work.proofs.Acted.{copy_found}
+use Rattle.branch_work.proofs.TermLemmas.{set_termed}
 use Rattle.branch_work.proofs.adding.take_back.Goals as goal
 
 pub returns-clause-acted : goal.returns-clause-acted
@@ -21,4 +23,4 @@ returns-clause-acted g c = λ clean rules rows same books holds held agrees mark
     let set = c.in_ok-set_returned.ensures.set clean1 (counts_of books) books (beside s0 books holds) held in
     let copy = copy_found b r c.in-Some.found books held (ap (option_map seen_rental) (sym (same ∙ c.in-Some.is)) ∙ agrees) in
     let dropped = c.in_ok-drop_out.ensures.dropped clean (counts_of books) _ set (out_once b r x books copy) in
-    (agreed s2 _ (drop_out b x r (counts_of books)) (returned_counted b r x m books (its_rentals b r x books.rentals copy)) dropped.0, c.in_ok-returned_text.ensures, tt)
+    (agreed s2 _ (drop_out b x r (counts_of books)) (returned_counted b r x m books (its_rentals b r x books.rentals copy)) (set_termed b r (λ (it : Rental). record it { returned = Some m }) books holds.stands.more.termed) dropped.0, c.in_ok-returned_text.ensures, tt)

@@ -41,7 +41,7 @@ returns-clause-acted g c = λ clean rules command found same books holds held ag
     let set = c.in_ok-set_sent.ensures.set clean counts _ put (held.numbers.copies b) in
     let are : map seen_parcel_line lines ≡ parts_at b xs books =
     subst (λ (it : Option (List ParcelLine)). IfSome it (λ ls. map seen_parcel_line ls ≡ parts_at b xs books)) (same ∙ c.in-Some.is) marked in (
-      subst (Holds s4) (dispatch_acted rules b command to xs lines books held.numbers are) (dispatch_added s4 b to xs lines n place books next behind set),
+      subst (Holds s4) (dispatch_acted rules b command to xs lines books held.numbers are) (dispatch_added s4 b to xs lines n place books next behind holds.stands.more.termed set),
       c.in_ok-dispatch_text.ensures ∙ ap (λ (k : ℕ). dispatch_text k to) next ∙ dispatch_told rules b to xs books,
       tt,
     )

@@ -60,7 +60,7 @@ returns-clause-acted g c = λ clean rules command found same books holds held ag
     let rows = subst (λ (ls : List ParcelLine). HoldsWith counts s3 (record books { copies = books.copies ++ come_rows b first ls; consignments = update_where (is_consignment source b n) (checked missing) books.consignments })) slice received in
     let films : List ℕ = map (λ (line : ParcelLine). line.film) come in
     let films_many : length films ≡ length come = length_map (λ (line : ParcelLine). line.film) come in (
-      subst (Holds s3) (receipt_acted rules b source n missing books it known command) (receipt_added b books low s3 source n first m it.lines missing is all rows),
+      subst (Holds s3) (receipt_acted rules b source n missing books it known command) (receipt_added b books low s3 source n first m it.lines missing is all holds.stands.more.termed rows),
       c.in_ok-receipt_text.ensures films (films_many ∙ sym all) ∙ ap (λ (k : ℕ). receipt_text k films) (c.get.ensures.value ∙ is) ∙ receipt_told rules b source n missing books it known held.numbers films films_many,
       subst (λ (o : Option ArrivalFound). IfSome o (λ it. length it.lines ≤ 100)) (sym (same ∙ c.in-Some.is)) (few_lines c.as_slice-lines.result.now it.lines c.as_slice-lines.ensures.value c.as_slice-lines.ensures.few),
     )

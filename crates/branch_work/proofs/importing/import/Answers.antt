@@ -44,7 +44,7 @@ returns-clause-acted g c = λ clean rules command file found same books holds he
     let lot = c.in_ok-put_lot.ensures.put clean counts _ put tt in
     let rows : map seen_copy_row c.as_slice.result.now ≡ copies_from b first films = ap (map seen_copy_row) c.as_slice.ensures.value ∙ c.in_ok-copies.ensures in (
       subst (λ (fs : List ℕ). Holds s3 (with_import b fs c.args.lot.now books)) same
-          (import_added s3 b books low first m films c.args.lot.now is all
+          (import_added s3 b books low holds.stands.more.termed first m films c.args.lot.now is all
           (subst (λ (rs : List (Row BookCopy)). HoldsWith counts s3 (record books { copies = books.copies ++ rs; lots = books.lots ++ record { owner = b; it = c.args.lot.now } ∷ [] })) rows lot)),
       c.in_ok-new_copies_text.ensures ∙ (λ i. import_text ((all ∙ ap (λ (fs : List ℕ). length fs) same) i) ((is ∙ sym next_is) i)),
       tt,

@@ -28,5 +28,5 @@ returns-clause-added g c = λ clean. (
       let kept = c.in_ok-keep.ensures.kept clean _ _ written.0 (office_grown_once command.act b books (omega arith) held) in
       let reply : c.as_str.result.now ≡ string_bytes c.in_ok-text.text = c.as_str.ensures.value in
       let done = subst (λ (it : Books). HoldsWith (office_counted command.act b (counts_of books)) s2 it) (act_kept command c.as_str.result.now books (reply ∙ told)) kept in
-      (office_counts_agreed s2 command books held.owners done, c.accepted.ensures ∙ ap accepted_answer told),
+      (office_counts_agreed s2 command books held.owners holds.stands.more.termed done, c.accepted.ensures ∙ ap accepted_answer told),
 )

@@ -10,6 +10,6 @@ returns-in-Ok-clause-migrates g c =
       files = migrated.0;
       left = c.close.result;
       first = λ honest. new.first (c.close.ensures.clean honest);
-      sound = λ honest. let books = new.sound (c.close.ensures.clean honest) in (books.0, c.close.ensures.keeps new.live _ _ books.1);
+      sound = λ honest. let books = new.sound (c.close.ensures.clean honest) in (books.0, books.1, c.close.ensures.keeps new.live _ _ books.2);
       kept = λ honest books holds. c.close.ensures.keeps new.live _ _ (new.found (c.close.ensures.clean honest) books holds);
     }) c.print.ensures (Keeps-refl _)

@@ -1,6 +1,6 @@
 use Rattle.sql_rows.proofs.Inside.{on_ok_then}
 use Rattle.sql_rows.proofs.Stays.{clean_before}
-use Rattle.shop_schema.proofs.MigrateTexts.{tables_made, tables_keyed, tables_added}
+use Rattle.shop_schema.proofs.MigrateTexts.{tables_made, tables_keyed, tables_left, tables_added}
 use Rattle.shop_schema.proofs.migrating.add_tables.Goals as goal
 
 pub returns-clause-added : goal.returns-clause-added
@@ -17,3 +17,8 @@ pub returns-clause-keyed : goal.returns-clause-keyed
 returns-clause-keyed g c clean =
     let one = c.in_ok-execute.ensures.ran (clean_before c.execute-2.ensures.inside clean) in
     on_ok_then c.execute-2.result (λ two shop keyed. tables_keyed _ _ _ one.0 two.0 one.1 two.1 shop keyed) (c.execute-2.ensures.ran clean)
+
+pub returns-clause-tables : goal.returns-clause-tables
+returns-clause-tables g c clean =
+    let one = c.in_ok-execute.ensures.ran (clean_before c.execute-2.ensures.inside clean) in
+    on_ok_then c.execute-2.result (λ two shop. tables_left _ _ _ one.0 two.0 one.1 two.1 shop) (c.execute-2.ensures.ran clean)

@@ -1,5 +1,5 @@
 use Rattle.sql_rows.proofs.Inside.{on_ok_then}
-use Rattle.shop_schema.proofs.MigrateTexts.{rule_stays, rule_keyed, rule_put}
+use Rattle.shop_schema.proofs.MigrateTexts.{rule_stays, rule_keyed, rule_left, rule_put}
 use Rattle.shop_schema.proofs.migrating.put_rule.Goals as goal
 
 pub returns-clause-put : goal.returns-clause-put
@@ -10,3 +10,6 @@ returns-clause-shop g c clean = on_ok_then c.execute.result (λ ran shop. rule_s
 
 pub returns-clause-keyed : goal.returns-clause-keyed
 returns-clause-keyed g c clean = on_ok_then c.execute.result (λ ran shop keyed. rule_keyed _ _ ran.0 ran.1 shop keyed) (c.execute.ensures.ran clean)
+
+pub returns-clause-tables : goal.returns-clause-tables
+returns-clause-tables g c clean = on_ok_then c.execute.result (λ ran shop. rule_left _ _ ran.0 ran.1 shop) (c.execute.ensures.ran clean)

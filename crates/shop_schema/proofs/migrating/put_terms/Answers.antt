@@ -1,5 +1,5 @@
 use Rattle.sql_rows.proofs.Inside.{on_ok_then}
-use Rattle.shop_schema.proofs.MigrateTexts.{terms_stay, terms_keyed, terms_put}
+use Rattle.shop_schema.proofs.MigrateTexts.{terms_stay, terms_keyed, terms_left, terms_put}
 use Rattle.shop_schema.proofs.migrating.put_terms.Goals as goal
 
 pub returns-clause-put : goal.returns-clause-put
@@ -10,3 +10,6 @@ returns-clause-shop g c clean = on_ok_then c.execute.result (λ ran shop. terms_
 
 pub returns-clause-keyed : goal.returns-clause-keyed
 returns-clause-keyed g c clean = on_ok_then c.execute.result (λ ran shop keyed. terms_keyed _ _ ran.0 ran.1 shop keyed) (c.execute.ensures.ran clean)
+
+pub returns-clause-tables : goal.returns-clause-tables
+returns-clause-tables g c clean = on_ok_then c.execute.result (λ ran shop. terms_left _ _ ran.0 ran.1 shop) (c.execute.ensures.ran clean)

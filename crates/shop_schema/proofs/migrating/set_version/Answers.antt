@@ -1,5 +1,5 @@
 use Rattle.sql_rows.proofs.Inside.{on_ok_then}
-use Rattle.shop_schema.proofs.MigrateTexts.{version_stays, version_keyed, version_set}
+use Rattle.shop_schema.proofs.MigrateTexts.{version_stays, version_keyed, version_left, version_set}
 use Rattle.shop_schema.proofs.migrating.set_version.Goals as goal
 
 pub returns-clause-set : goal.returns-clause-set
@@ -10,3 +10,6 @@ returns-clause-shop g c clean = on_ok_then c.execute.result (λ ran shop. versio
 
 pub returns-clause-keyed : goal.returns-clause-keyed
 returns-clause-keyed g c clean = on_ok_then c.execute.result (λ ran shop keyed. version_keyed _ _ ran.0 ran.1 shop keyed) (c.execute.ensures.ran clean)
+
+pub returns-clause-tables : goal.returns-clause-tables
+returns-clause-tables g c clean = on_ok_then c.execute.result (λ ran shop keyed token tells. version_left _ _ ran.0 ran.1 shop keyed token tells) (c.execute.ensures.ran clean)

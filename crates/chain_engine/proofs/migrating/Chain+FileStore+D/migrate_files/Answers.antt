@@ -6,7 +6,7 @@ use Rattle.shop_model.proofs.Migration.{migrated_sound}
 use Rattle.shop_schema.proofs.Values.{migrated_values}
 use Rattle.chain_calls.specs.Chains.{widest_rules}
 use Rattle.chain_calls.proofs.Opening.{opened_at, shows_what_is_found, has_this_version, tells_version}
-use Rattle.chain_calls.proofs.OldFiles.{keeps_in_either, is_version_1, has_version_1, holds_version_1_damage, holds_neither, has_neither_version, stands_as_found, stands_as_kept, left_or_migrated, left_in_either, unmigrated_by}
+use Rattle.chain_calls.proofs.OldFiles.{keeps_in_either, is_version_1, has_version_1, holds_version_1_damage, holds_version_1_soundly, tells_first, holds_neither, has_neither_version, stands_as_found, stands_as_kept, left_or_migrated, left_in_either, unmigrated_by}
 use Rattle.chain_engine.proofs.Results.{refused_by}
 use Rattle.chain_engine.proofs.migrating.Chain+FileStore+D.migrate_files.Goals as goal
 
@@ -33,8 +33,12 @@ returns-in-Ok-clause-migrated g c =
       honest = λ clean. (found clean).honest;
       first = λ clean. has_version_1 conn files (opened clean) (found clean) (first clean);
       sound = λ clean.
-          let it = ((made clean).tables (was clean)).sound in
-          (it.0, opened_at _ it.0 refl refl refl it.3 it.2 ((made clean).rests (was clean) it.0 it.1));
+          let tells = tells_first conn files (opened clean) (found clean) (first clean) in
+          let it = ((made clean).tables (was clean)).were tells.0 tells.1 in (
+            it.0,
+            holds_version_1_soundly conn files (opened clean) (found clean) (first clean) it.0 it.1,
+            opened_at _ (migrated it.0) refl refl refl (migrated_sound widest_rules it.0 it.1.2) (migrated_values it.0 it.1.1) ((made clean).rests (was clean) (migrated it.0) it.2),
+          );
       found = λ clean books held.
           let stands = ((made clean).tables (was clean)).books books (stands_as_found conn files (opened clean) (found clean) books held) in
           opened_at _ (migrated books) refl refl refl (migrated_sound widest_rules books held.sound) (migrated_values books held.values) ((made clean).rests (was clean) (migrated books) stands);

@@ -1,0 +1,82 @@
+-- Each rental has its terms in rows in order exactly where it has them in the books that have these rows.
+use Rattle.std.proofs.Common.{◌≡◌, ◌&&◌, ◌==◌, List, [], ◌∷◌, map, Bool, true, false, refl, sym, ap, subst, subst₂, ◌∙◌, arith, true≢false, IsPermutation}
+use Rattle.std.specs.Str.{bytes_eq}
+use Rattle.std.proofs.lemmas.List.Sorted.{IsPermutation-refl, length_permutation}
+use Rattle.sqlite_keyed.proofs.ListLemmas.{map-map}
+use Rattle.shop_model.specs.Values.{Rental, Terms}
+use Rattle.shop_model.specs.Books.{Books}
+use Rattle.shop_schema.specs.Shop.{AreTermed}
+use Rattle.book_checks.specs.Canons.{row_key}
+use Rattle.book_checks.specs.Lists.{Key, is_below, climbs, climbs_above, same_lists}
+use Rattle.book_checks.specs.Ordered.{AreOrdered, HaveOrderedRows, terms_row}
+use Rattle.book_checks.specs.Seen.{seen_rental_row}
+use Rattle.book_checks.specs.declared.books.OrderedBooks.{OrderedBooks}
+use Rattle.book_checks.specs.declared.rows.RentalRow.{RentalRow}
+use Rattle.book_checks.specs.declared.rows.TermsRow.{TermsRow}
+use Rattle.book_checks.proofs.Bags.{count_along, one_order, same_equal}
+use Rattle.book_checks.proofs.Keys.{NeverFalls, both, below_trans, below_apart, same_bytes}
+use Rattle.books_audit.specs.Read.{are_termed}
+
+-- ---- keys that climb, in two lists with the same keys
+
+never_turned : (low key : Key) → is_below low key ≡ true → is_below key low ≡ false
+never_turned low key below = go (is_below key low) refl
+  where
+    go : (t : Bool) → is_below key low ≡ t → is_below key low ≡ false
+    go false e = e
+    go true e = absurd (true≢false (sym (same_bytes low) ∙ below_apart low low (below_trans low key low below e)))
+
+falls : (low : Key) (keys : List Key) → climbs_above low keys ≡ true → NeverFalls low keys
+falls low [] up = tt
+falls low (key ∷ keys) up =
+    let parts = both (is_below low key) (climbs_above key keys) up in
+    (never_turned low key parts.0, falls key keys parts.1)
+
+one_climb : (xs ys : List Key) → climbs xs ≡ true → climbs ys ≡ true → IsPermutation xs ys → xs ≡ ys
+one_climb [] [] up down h = refl
+one_climb [] (y ∷ ys) up down h = absurd (omega (arith, length_permutation _ _ h))
+one_climb (x ∷ xs) [] up down h = absurd (omega (arith, length_permutation _ _ h))
+one_climb (x ∷ xs) (y ∷ ys) up down h =
+    same_equal (x ∷ xs) (y ∷ ys) (one_order (x ∷ xs) (y ∷ ys) (falls x xs up) (falls y ys down) (λ test. count_along test (x ∷ xs) (y ∷ ys) h))
+
+-- ---- rows in order
+
+abbrev terms_keys : List TermsRow → List Key
+terms_keys terms = map (λ (it : TermsRow). it.branch ∷ it.number ∷ []) terms
+
+abbrev rental_keys : List RentalRow → List Key
+rental_keys rentals = map (λ (it : RentalRow). it.branch ∷ it.number ∷ []) rentals
+
+regrouped : (a b c : Bool) → (a && b && c) ≡ ((a && (b && true)) && c)
+regrouped true true c = refl
+regrouped true false c = refl
+regrouped false b c = refl
+
+as_keys : (terms : List TermsRow) (rentals : List RentalRow) → are_termed terms rentals ≡ same_lists (terms_keys terms) (rental_keys rentals)
+as_keys [] [] = refl
+as_keys [] (rental ∷ rentals) = refl
+as_keys (it ∷ terms) [] = refl
+as_keys (it ∷ terms) (rental ∷ rentals) =
+    regrouped (it.branch == rental.branch) (it.number == rental.number) (are_termed terms rentals)
+    ∙ ap (λ (rest : Bool). bytes_eq (it.branch ∷ it.number ∷ []) (rental.branch ∷ rental.number ∷ []) && rest) (as_keys terms rentals)
+
+same_itself : (keys : List Key) → same_lists keys keys ≡ true
+same_itself [] = refl
+same_itself (key ∷ keys) = λ i. same_bytes key i && same_itself keys i
+
+module _ (rows : OrderedBooks) (c : Books) (has : HaveOrderedRows rows c) where
+  terms_are : map (row_key {A = Terms}) c.terms ≡ terms_keys rows.terms.items
+  terms_are = sym (map-map (λ (it : TermsRow). it.branch ∷ it.number ∷ []) terms_row c.terms) ∙ ap terms_keys has.terms
+
+  rentals_are : map (row_key {A = Rental}) c.rentals ≡ rental_keys rows.rentals.items
+  rentals_are = ap (map (row_key {A = Rental})) has.rentals ∙ map-map (row_key {A = Rental}) seen_rental_row rows.rentals.items
+
+  pub termed_in_books : are_termed rows.terms.items rows.rentals.items ≡ true → AreTermed c
+  termed_in_books h =
+      let same : terms_keys rows.terms.items ≡ rental_keys rows.rentals.items = same_equal _ _ (sym (as_keys rows.terms.items rows.rentals.items) ∙ h) in
+      subst (IsPermutation (map (row_key {A = Terms}) c.terms)) (terms_are ∙ same ∙ sym rentals_are) (IsPermutation-refl (map (row_key {A = Terms}) c.terms))
+
+  pub termed_in_rows : AreOrdered rows → AreTermed c → are_termed rows.terms.items rows.rentals.items ≡ true
+  termed_in_rows ordered h =
+      let same : terms_keys rows.terms.items ≡ rental_keys rows.rentals.items = one_climb _ _ ordered.terms ordered.rentals (subst₂ IsPermutation terms_are rentals_are h) in
+      as_keys rows.terms.items rows.rentals.items ∙ ap (same_lists (terms_keys rows.terms.items)) (sym same) ∙ same_itself (terms_keys rows.terms.items)
