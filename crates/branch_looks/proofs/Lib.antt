@@ -1,3 +1,4 @@
+pub mod Decisions
 pub mod Readings
 pub mod Chained
 pub mod Lookings

@@ -1,3 +1,4 @@
 pub mod Finds
 pub mod Looks
+pub mod Told
 pub mod Commands

@@ -12,6 +12,7 @@ ghost use Rattle.shop_schema.specs.Calls.{Finds};
 ghost use Rattle.branch_core.specs.Agreed.{AreOfFilm};
 ghost use Rattle.branch_looks.specs.Finds.{stock_asked, stock_listed};
 ghost use Rattle.branch_looks.specs.Looks.{looked, seen_look};
+ghost use Rattle.branch_looks.specs.Told.{IsDecision};
 
 use crate::asks::Look;
 use crate::finds::{find_holder, find_of_film};
@@ -34,6 +35,7 @@ pub fn look<S: Alter>(
     ensures inside { StaysInside S.Store tx.old.conn tx.new.conn result }
     ensures shown { Finds (state S.Store tx.old.conn.now) (state S.Store tx.new.conn.now) result
         (λ reply books. seen_reply reply ≡ looked branch (seen_look ask) books) }
+    ensures decided { IfOk result (λ reply. IsDecision (seen_reply reply)) }
 {
     match ask {
         Look::Customer(number) => look_customer(alloc, tx, branch, number),
@@ -56,6 +58,7 @@ fn look_customer<S: Alter>(
     ensures inside { StaysInside S.Store tx.old.conn tx.new.conn result }
     ensures shown { Finds (state S.Store tx.old.conn.now) (state S.Store tx.new.conn.now) result
         (λ reply books. seen_reply reply ≡ looked branch (OneCustomer number) books) }
+    ensures decided { IfOk result (λ reply. IsDecision (seen_reply reply)) }
 {
     match customer_at(tx, branch, number)? {
         Some(row) => Ok(Reply::accepted(customer_text(alloc, number, &row.customer)?)),
@@ -73,6 +76,7 @@ fn look_film<S: Alter>(
     ensures inside { StaysInside S.Store tx.old.conn tx.new.conn result }
     ensures shown { Finds (state S.Store tx.old.conn.now) (state S.Store tx.new.conn.now) result
         (λ reply books. seen_reply reply ≡ looked branch (OneFilm number) books) }
+    ensures decided { IfOk result (λ reply. IsDecision (seen_reply reply)) }
 {
     match film_row(tx, number)? {
         Some(row) => Ok(Reply::accepted(film_text(alloc, number, &row.film, row.withdrawn)?)),
@@ -90,6 +94,7 @@ fn look_in_stock<S: Alter>(
     ensures inside { StaysInside S.Store tx.old.conn tx.new.conn result }
     ensures shown { Finds (state S.Store tx.old.conn.now) (state S.Store tx.new.conn.now) result
         (λ reply books. seen_reply reply ≡ looked branch (InStock copy) books) }
+    ensures decided { IfOk result (λ reply. IsDecision (seen_reply reply)) }
 {
     match copy_now_at(tx, branch, copy)? {
         Some(found) => Ok(Reply::accepted(in_stock_text(alloc, found.out.is_none())?)),
@@ -107,6 +112,7 @@ fn look_holder<S: Alter>(
     ensures inside { StaysInside S.Store tx.old.conn tx.new.conn result }
     ensures shown { Finds (state S.Store tx.old.conn.now) (state S.Store tx.new.conn.now) result
         (λ reply books. seen_reply reply ≡ looked branch (HeldBy copy) books) }
+    ensures decided { IfOk result (λ reply. IsDecision (seen_reply reply)) }
 {
     let Some(found) = copy_now_at(tx, branch, copy)? else {
         return Ok(Reply::refused(Refusal::NoCopy));
@@ -126,6 +132,7 @@ fn look_film_copies<S: Alter>(
     ensures inside { StaysInside S.Store tx.old.conn tx.new.conn result }
     ensures shown { Finds (state S.Store tx.old.conn.now) (state S.Store tx.new.conn.now) result
         (λ reply books. seen_reply reply ≡ looked branch (stock_asked is_in film) books) }
+    ensures decided { IfOk result (λ reply. IsDecision (seen_reply reply)) }
 {
     let Some(_) = film_withdrawn(tx, film)? else {
         return Ok(Reply::refused(Refusal::NoFilm));

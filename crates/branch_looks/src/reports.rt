@@ -11,6 +11,7 @@ ghost use Rattle.shop_types.specs.Replies.{seen_reply};
 ghost use Rattle.shop_schema.specs.Calls.{Finds};
 ghost use Rattle.balance_rule.specs.Balance.{AreTermsOf, ArePaidBy};
 ghost use Rattle.branch_looks.specs.Looks.{looked};
+ghost use Rattle.branch_looks.specs.Told.{IsDecision};
 
 use crate::balances::{find_paid, find_terms};
 use crate::rewards::find_rewarded;
@@ -33,6 +34,7 @@ pub fn look_balance<S: Alter>(
     ensures inside { StaysInside S.Store tx.old.conn tx.new.conn result }
     ensures shown { Finds (state S.Store tx.old.conn.now) (state S.Store tx.new.conn.now) result
         (λ reply books. seen_reply reply ≡ looked branch (Balance customer at) books) }
+    ensures decided { IfOk result (λ reply. IsDecision (seen_reply reply)) }
 {
     let Some(_) = active_at(tx, branch, customer)? else {
         return Ok(Reply::refused(Refusal::NoCustomer));
@@ -73,6 +75,7 @@ pub fn look_rewards<S: Alter>(
     ensures inside { StaysWithin S.Store tx.old.conn tx.new.conn result }
     ensures shown { Finds (state S.Store tx.old.conn.now) (state S.Store tx.new.conn.now) result
         (λ reply books. seen_reply reply ≡ looked branch (Rewards at purchases cents) books) }
+    ensures decided { IfOk result (λ reply. IsDecision (seen_reply reply)) }
 {
     if purchases == 0 || cents == 0 {
         return Ok(Reply::refused(Refusal::BadThreshold));

@@ -1,5 +1,5 @@
 -- What a request does inside one transaction, whoever asks it.
-use Rattle.std.specs.Prelude.{◌≡◌, ℕ, Bool, false, IsTrue}
+use Rattle.std.specs.Prelude.{◌≡◌, ⊤, ℕ, Bool, false, IsTrue}
 use Rattle.sqlite.specs.State.{State}
 use Rattle.shop_values.specs.LimitValues.{Limits}
 use Rattle.shop_model.specs.Rows.{lacks}
@@ -19,6 +19,7 @@ use Rattle.shop_schema.specs.Shop.{Holds}
 use Rattle.shop_ledger.specs.declared.branches.Standing.{Standing}
 use Rattle.shop_ledger.specs.Standings.{HasStanding}
 use Rattle.branch_core.specs.Agreed.{Agrees, ActAgrees}
+pub use Rattle.branch_looks.specs.Told.{IsTold, IsDecision}
 use Rattle.branch_core.specs.Marked.{AreMarked}
 use Rattle.branch_core.specs.declared.found.Found.{Found}
 use Rattle.branch_core.specs.declared.found.RowsFound.{RowsFound}
@@ -65,6 +66,11 @@ abbrev pub IsWorked : Limits → ℕ → Request → Worked → State → Books 
 IsWorked limits b request (Answered reply is_changed) new books = IsDone limits (Counter b) request (seen_reply reply) is_changed new books
 IsWorked limits b request (Shows it) new books =
     (told_to limits (Counter b) request books ≡ answer_of (Shown (listed b it books))) × (left_by limits (Counter b) request books ≡ books)
+
+-- what is answered is a decision, whatever the disk did
+abbrev pub TellsDecision : Worked → Type 0
+TellsDecision (Answered reply is_changed) = IsDecision (seen_reply reply)
+TellsDecision (Shows it) = ⊤
 
 -- where it is known that the branch is there, it is
 abbrev pub IsKnown : Bool → ℕ → Catalogue → Type 0

@@ -7,6 +7,7 @@ ghost use Rattle.shop_model.specs.Machine.{Sorry};
 ghost use Rattle.shop_model.specs.Answers.{answer_of, accepted_answer};
 ghost use Rattle.shop_types.specs.Replies.{seen_reply};
 ghost use Rattle.shop_types.specs.Verdicts.{verdict_by};
+ghost use Rattle.branch_work.specs.Works.{IsDecision};
 
 use shop_types::{Refusal, Reply};
 use sql_rows::StoreFault;
@@ -20,11 +21,15 @@ pub fn again(alloc: Global, reply: &str) -> Result<(Reply, bool), StoreFault>
     Ok((Reply::accepted(text), false))
 }
 
-/// The reply to a command that is refused.
+/// The reply to a command that is refused. A decision gives none of the store's refusals; one of these would be the store's failure.
 pub fn refuse(alloc: Global, refusal: Refusal) -> Result<(Reply, bool), StoreFault>
-    ensures { IfOk result (λ done. (done.1 ≡ false) × ((verdict : Verdict) → Some verdict ≡ verdict_by (Some refusal)
+    ensures told { IfOk result (λ done. (done.1 ≡ false) × ((verdict : Verdict) → Some verdict ≡ verdict_by (Some refusal)
         → (d : named.Refusal) × (verdict ≡ Refused d) × (seen_reply done.0 ≡ answer_of (Sorry d)))) }
+    ensures decided { IfOk result (λ done. IsDecision (seen_reply done.0)) }
 {
+    if refusal.status() == 503 {
+        return Err(StoreFault::Failed);
+    }
     match refusal {
         Refusal::BadCsv(fault) => match Reply::bad_csv(alloc, fault) {
             Ok(reply) => Ok((reply, false)),

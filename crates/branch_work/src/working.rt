@@ -11,7 +11,7 @@ ghost use Rattle.shop_types.specs.Seen.{seen_command, seen_request};
 ghost use Rattle.shop_types.specs.Replies.{seen_reply};
 ghost use Rattle.shop_schema.specs.Forms.{command_form};
 ghost use Rattle.branch_looks.specs.Looks.{seen_look};
-ghost use Rattle.branch_work.specs.Works.{Works, WorksFor, WorksBy, IsAdded};
+ghost use Rattle.branch_work.specs.Works.{Works, WorksFor, WorksBy, IsAdded, IsDecision, TellsDecision};
 
 use crate::adding::{carry_out, keep};
 use crate::answering::{again, refuse};
@@ -62,6 +62,7 @@ pub fn work<S: Alter>(
     ensures works { HasCleanDisk (state S.Store tx.new.conn.now)
         → IfOk result (λ worked. Works limits branch is_known (seen_request request.now) worked films.old films.new (state S.Store tx.old.conn.now)
         (state S.Store tx.new.conn.now)) }
+    ensures decided { IfOk result TellsDecision }
 {
     if is_known {
         if let Some(it) = look_of(request) {
@@ -100,6 +101,7 @@ fn work_where_found<S: Alter>(
     ensures works { HasCleanDisk (state S.Store tx.new.conn.now)
         → IfOk result (λ worked. Works limits branch false (seen_request request.now) worked films.old films.new (state S.Store tx.old.conn.now)
         (state S.Store tx.new.conn.now)) }
+    ensures decided { IfOk result TellsDecision }
 {
     let Some(standing) = standing_at(tx, branch)? else {
         return Ok(Worked::Answered {
@@ -151,6 +153,7 @@ fn act<S: Alter>(
     ensures works { HasCleanDisk (state S.Store tx.new.conn.now)
         → IfOk result (λ done. WorksFor limits branch standing (Do (seen_command command.now)) (seen_reply done.0) done.1 films.old films.new
         (state S.Store tx.old.conn.now) (state S.Store tx.new.conn.now)) }
+    ensures decided { IfOk result (λ done. IsDecision (seen_reply done.0)) }
 {
     let form = form_of(alloc, command)?;
     let kept = kept_at(tx, Owner::Branch(branch), &command.key)?;
@@ -181,6 +184,7 @@ fn answer<S: Alter>(
     ensures works { HasCleanDisk (state S.Store tx.new.conn.now)
         → IfOk result (λ done. WorksBy limits branch (seen_command command.now) found.now (seen_reply done.0) done.1 (state S.Store tx.old.conn.now)
         (state S.Store tx.new.conn.now)) }
+    ensures decided { IfOk result (λ done. IsDecision (seen_reply done.0)) }
 {
     match decide(branch, command, found, limits) {
         Ok(Change::Again(reply)) => again(alloc, reply),
@@ -215,6 +219,7 @@ fn add<S: Alter>(
     ensures added { HasCleanDisk (state S.Store tx.new.conn.now)
         → IfOk result (λ done. (done.1 ≡ true) × ((limits : _) → IsAdded limits branch (seen_command command.now) rows.now (seen_reply done.0)
         (state S.Store tx.old.conn.now) (state S.Store tx.new.conn.now))) }
+    ensures decided { IfOk result (λ done. IsDecision (seen_reply done.0)) }
 {
     let text = carry_out(alloc, tx, branch, command, rows)?;
     keep(tx, branch, command, form, text.as_str())?;

@@ -5,6 +5,7 @@ ghost use Rattle.sqlite.specs.Held.{state};
 ghost use Rattle.sqlite.specs.State.{HasCleanDisk};
 ghost use Rattle.sql_rows.specs.Calls.{StaysInside};
 ghost use Rattle.shop_model.specs.Json.{object};
+ghost use Rattle.shop_model.specs.Answers.{accepted_answer};
 ghost use Rattle.shop_model.specs.Values as model;
 ghost use Rattle.shop_types.specs.Seen.{seen_branch, seen_office_act, seen_office};
 ghost use Rattle.shop_types.specs.Replies.{seen_reply};
@@ -37,6 +38,7 @@ pub fn add<S: Alter>(
     ensures inside { StaysInside S.Store tx.old.conn tx.new.conn result }
     ensures added { HasCleanDisk (state S.Store tx.new.conn.now)
         → IfOk result (λ done. (done.1 ≡ true) × IsAdded (seen_office command.now) (seen_reply done.0) (state S.Store tx.old.conn.now) (state S.Store tx.new.conn.now)) }
+    ensures accepted { IfOk result (λ done. (text : model.Text) × (seen_reply done.0 ≡ accepted_answer text)) }
 {
     let number = write(tx, &command.act)?;
     let text = office_text(alloc, &command.act, number)?;

@@ -4,13 +4,13 @@ use Rattle.std.specs.Prelude.{◌==◌, ◌&&◌}
 use Rattle.std.specs.Str.{bytes_eq}
 use Rattle.shop_model.specs.Refusals.{StoreFailed}
 use Rattle.shop_model.specs.Machine.{Reply}
-use Rattle.shop_model.specs.Answers.{answer_of, problem_text}
-use Rattle.shop_model.specs.Histories.{is_store_failure}
+use Rattle.shop_model.specs.Answers.{Answer, answer_of, problem_text}
+use Rattle.shop_model.specs.Histories.{is_decided, is_store_failure}
 use Rattle.shop_model.proofs.Histories.{decided_is}
 
 -- no decision does
-pub decided_fine : (reply : Reply) → is_store_failure (answer_of reply) ≡ false
-decided_fine reply = fine (answer_of reply).status (bytes_eq (answer_of reply).body (problem_text StoreFailed)) (decided_is reply)
+pub decision_fine : (answer : Answer) → is_decided answer ≡ true → is_store_failure answer ≡ false
+decision_fine answer decided = fine answer.status (bytes_eq answer.body (problem_text StoreFailed)) decided
   where
     fine : (status : ℕ) (named : Bool) → not (status == 503) ≡ true → (status == 503 && named) ≡ false
     fine status named is = go (status == 503) is
@@ -21,3 +21,6 @@ decided_fine reply = fine (answer_of reply).status (bytes_eq (answer_of reply).b
             apart : false ≡ true → ⊥
             apart e = cc
         go false e = refl
+
+pub decided_fine : (reply : Reply) → is_store_failure (answer_of reply) ≡ false
+decided_fine reply = decision_fine (answer_of reply) (decided_is reply)

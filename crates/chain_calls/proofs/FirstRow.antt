@@ -14,7 +14,7 @@ use Rattle.sql_rows.specs.Rows.{HasRows, columns_of, number_value}
 use Rattle.shop_model.specs.Values.{Text}
 use Rattle.shop_model.proofs.RowLemmas.{same_if}
 use Rattle.shop_schema.specs.Columns.{first_version, versioned_columns}
-use Rattle.shop_schema.specs.Migrating.{Tells}
+use Rattle.shop_migration.specs.Migrating.{Tells}
 use Rattle.shop_schema.specs.Tables.{version_1_schema, chain_table}
 use Rattle.shop_schema.specs.Versions.{version_of, version_told}
 use Rattle.shop_schema.specs.declared.known.KnownVersion.TheVariants.{Missing, This, First, Other}

@@ -27,7 +27,7 @@ use Rattle.chain_calls.proofs.Branches.{runs_keep}
 abbrev FailsOn : List Answer → List Answer → Type 0
 FailsOn answers more = has_failed answers ≡ true → list_all is_store_failure more ≡ true
 
-or_then : (was before mid more now : Bool) → mid ≡ (was || before) → now ≡ (mid || more) → now ≡ (was || (before || more))
+pub or_then : (was before mid more now : Bool) → mid ≡ (was || before) → now ≡ (mid || more) → now ≡ (was || (before || more))
 or_then true before mid more now first second = rw first at second
 or_then false before mid more now first second = rw first at second
 

@@ -16,7 +16,7 @@ use Rattle.shop_model.specs.Books.{Books}
 use Rattle.shop_model.specs.Migration.{migrated, without_terms}
 use Rattle.shop_model.proofs.Migration.{migrated_sound, without_terms_sound}
 use Rattle.shop_types.specs.declared.audit.Audit.{Audit}
-use Rattle.shop_schema.specs.Migrating as tables
+use Rattle.shop_migration.specs.Migrating as tables
 use Rattle.shop_schema.specs.Shop.{StandsFor, IsShop, IsKeyed}
 use Rattle.shop_schema.specs.Tables.{shop_schema, version_1_schema}
 use Rattle.shop_schema.proofs.Values.{migrated_values, values_without}

@@ -20,7 +20,7 @@ use Rattle.shop_model.specs.Values.{Text}
 use Rattle.shop_model.specs.Books.{Books}
 use Rattle.shop_model.specs.Migration.{migrated}
 use Rattle.shop_schema.specs.Columns.{this_version, first_version}
-use Rattle.shop_schema.specs.Migrating.{Tells}
+use Rattle.shop_migration.specs.Migrating.{Tells}
 use Rattle.shop_schema.specs.Shop.{HasVersion, StandsFor, StandsForVersion1}
 use Rattle.shop_schema.specs.Tables.{version_1_schema}
 use Rattle.shop_schema.specs.Versions.{version_of}

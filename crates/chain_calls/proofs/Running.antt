@@ -19,7 +19,7 @@ use Rattle.chain_calls.proofs.Branches.{runs_keep}
 use Rattle.chain_calls.proofs.Requests.{failed_same}
 
 -- a store that had failed before, or fails now, has failed then
-has_failed_then : (was before mid now last : Bool) → mid ≡ (was || before) → now ≡ last → (mid ≡ true → last ≡ true) → now ≡ (was || (before || last))
+pub has_failed_then : (was before mid now last : Bool) → mid ≡ (was || before) → now ≡ last → (mid ≡ true → last ≡ true) → now ≡ (was || (before || last))
 has_failed_then true before mid now last so e stays = e ∙ stays so
 has_failed_then false true mid now last so e stays = e ∙ stays so
 has_failed_then false false mid now last so e stays = e

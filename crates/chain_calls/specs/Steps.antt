@@ -15,7 +15,7 @@ use Rattle.sql_rows.specs.Books.{no_schema}
 use Rattle.shop_schema.specs.Held.{IsHeld}
 use Rattle.shop_schema.specs.RowValues.{IsNumber, IsCommand, IsKey, IsOfficeAct}
 use Rattle.shop_schema.specs.Shop.{StandsFor, Holds, first_books}
-pub use Rattle.branch_work.specs.Works.{told_to, left_by, IsDone, IsHeldWith, IsKnown}
+pub use Rattle.branch_work.specs.Works.{told_to, left_by, IsDone, IsHeldWith, IsKnown, IsTold, IsDecision}
 use Rattle.chain_calls.specs.declared.asked.Asked.{Asked}
 use Rattle.chain_calls.specs.declared.asked.Asked.TheVariants.{OfBranch, OfOffice}
 use Rattle.chain_calls.specs.declared.creation.FirstRows.{FirstRows}
@@ -67,6 +67,11 @@ IsHeldBy Known films books = IsHeld books × AreRows films books.catalogue.films
 abbrev pub HasCome : Limits → Caller → Request → Work → State → Books → Type 0
 HasCome limits caller request (Done reply is_changed) new books = IsDone limits caller request (seen_reply reply) is_changed new books
 HasCome limits caller request (Shows report) new books = (told_to limits caller request books ≡ answer_of (Shown (shown_by report books))) × (left_by limits caller request books ≡ books)
+
+-- what is answered is a decision, whatever the disk did
+abbrev pub TellsDecision : Work → Type 0
+TellsDecision (Done reply is_changed) = IsDecision (seen_reply reply)
+TellsDecision (Shows report) = ⊤
 
 -- and the films that are known then are rows of the books after it, where of the books before it this was given
 abbrev pub Works : Limits → Caller → Request → Work → (Books → Type 0) → KnownFilms → State → State → Type 0

@@ -9,7 +9,7 @@ ghost use Rattle.chain_calls.specs.Migrations.{MigratesInside, IsMigration, IsUn
 
 use crate::auditing::audit_tables;
 use crate::faults::{OpenFault, named};
-use shop_schema::migrate_tables;
+use shop_migration::migrate_tables;
 use sql_rows::{StoreFault, fault_of};
 use sqlite::{Alter, Connection, Transaction};
 use std::alloc::Global;

@@ -8,7 +8,7 @@ ghost use Rattle.shop_model.specs.Sound.{HasCustody, is_mark, made};
 ghost use Rattle.shop_types.specs.Seen.{seen_mark};
 ghost use Rattle.shop_types.specs.Replies.{seen_reply};
 ghost use Rattle.shop_schema.specs.Calls.{Finds};
-ghost use Rattle.chain_calls.specs.Steps.{IsUndone};
+ghost use Rattle.chain_calls.specs.Steps.{IsDecision, IsUndone};
 ghost use Rattle.chain_calls.specs.OfficeReads.{custody_told, TellsAudit, TellsCustody, TellsOffice};
 
 use crate::auditing::read_audit;
@@ -32,6 +32,7 @@ pub fn read_office<S: Alter>(
     ensures told { HasCleanDisk (state S.Store conn.new) → IfOk result (λ reply. TellsOffice ask (seen_reply reply) (state S.Store conn.old)) }
     ensures same { HasCleanDisk (state S.Store conn.new) → IsUndone (state S.Store conn.old) (state S.Store conn.new) }
     ensures crash { Survives (state S.Store conn.old) (state S.Store conn.new) (λ _. ⊥) }
+    ensures decided { IfOk result (λ reply. IsDecision (seen_reply reply)) }
 {
     match ask {
         OfficeAsk::Sales => show(alloc, conn, Report::Sales),
@@ -48,6 +49,7 @@ fn tell_audit<S: Alter>(alloc: Global, conn: &mut Connection<S>) -> Result<Reply
     ensures told { HasCleanDisk (state S.Store conn.new) → IfOk result (λ reply. TellsAudit (seen_reply reply) (state S.Store conn.old)) }
     ensures same { HasCleanDisk (state S.Store conn.new) → IsUndone (state S.Store conn.old) (state S.Store conn.new) }
     ensures crash { Survives (state S.Store conn.old) (state S.Store conn.new) (λ _. ⊥) }
+    ensures decided { IfOk result (λ reply. IsDecision (seen_reply reply)) }
 {
     let audit = read_audit(alloc, conn)?;
     match audit_text(alloc, audit) {
@@ -68,6 +70,7 @@ fn find_place<S: Alter>(
         → IfOk result (λ reply. TellsCustody (seen_mark mark.now) (seen_reply reply) (state S.Store conn.old)) }
     ensures same { HasCleanDisk (state S.Store conn.new) → IsUndone (state S.Store conn.old) (state S.Store conn.new) }
     ensures crash { Survives (state S.Store conn.old) (state S.Store conn.new) (λ _. ⊥) }
+    ensures decided { IfOk result (λ reply. IsDecision (seen_reply reply)) }
 {
     let mut tx = conn.transaction();
     let told = place_in(alloc, &mut tx, mark);
@@ -84,6 +87,7 @@ fn place_in<S: Alter>(
     ensures inside { StaysInside S.Store tx.old.conn tx.new.conn result }
     ensures told { Finds (state S.Store tx.old.conn.now) (state S.Store tx.new.conn.now) result
         (λ reply books. HasCustody books → seen_reply reply ≡ custody_told (seen_mark mark.now) books) }
+    ensures decided { IfOk result (λ reply. IsDecision (seen_reply reply)) }
 {
     let Some(_) = branch_manager(tx, mark.branch)? else {
         return Ok(Reply::refused(Refusal::NoBranch));

@@ -11,6 +11,7 @@ ghost use Rattle.shop_types.specs.Replies.{seen_reply};
 ghost use Rattle.shop_schema.specs.Forms.{office_command_form};
 ghost use Rattle.branch_work.specs.Works.{Does};
 ghost use Rattle.chain_calls.specs.OfficeWorks.{WorksBeside};
+ghost use Rattle.chain_calls.specs.Steps.{IsDecision};
 
 use branch_work::{again, refuse};
 use catalogue_core::{Shared, decide_office};
@@ -32,6 +33,7 @@ pub(crate) fn work<S: Alter>(
     ensures inside { StaysInside S.Store tx.old.conn tx.new.conn result }
     ensures works { HasCleanDisk (state S.Store tx.new.conn.now) → IfOk result (λ done.
         Does limits HeadOffice (Office (seen_office command.now)) (seen_reply done.0) done.1 (state S.Store tx.old.conn.now) (state S.Store tx.new.conn.now)) }
+    ensures decided { IfOk result (λ done. IsDecision (seen_reply done.0)) }
 {
     let kept = kept_at(tx, Owner::Office, &command.key)?;
     let form = form_of(alloc, command)?;
@@ -52,6 +54,7 @@ fn answer<S: Alter>(
     ensures inside { StaysWithin S.Store tx.old.conn tx.new.conn result }
     ensures works { HasCleanDisk (state S.Store tx.new.conn.now) → IfOk result (λ done.
         WorksBeside kept.entry limits (seen_office command.now) (seen_reply done.0) done.1 (state S.Store tx.old.conn.now) (state S.Store tx.new.conn.now)) }
+    ensures decided { IfOk result (λ done. IsDecision (seen_reply done.0)) }
 {
     let found = find(tx, command)?;
     let shared = Shared {

@@ -10,7 +10,7 @@ ghost use Rattle.shop_types.specs.Replies.{seen_reply};
 ghost use Rattle.shop_schema.specs.Shop.{Holds};
 ghost use Rattle.shop_schema.specs.Held.{IsHeld};
 ghost use Rattle.branch_work.specs.Works.{listed};
-ghost use Rattle.chain_calls.specs.Steps.{IsUndone};
+ghost use Rattle.chain_calls.specs.Steps.{IsDecision, IsUndone};
 ghost use Rattle.chain_calls.specs.Reports.{shown_by, ShowsReport};
 
 use branch_work::Listing;
@@ -79,6 +79,7 @@ pub fn show<S: Alter>(
     ensures shown { HasCleanDisk (state S.Store conn.new) → IfOk result (λ reply. ShowsReport report (seen_reply reply) (state S.Store conn.old)) }
     ensures same { HasCleanDisk (state S.Store conn.new) → IsUndone (state S.Store conn.old) (state S.Store conn.new) }
     ensures crash { Survives (state S.Store conn.old) (state S.Store conn.new) (λ _. ⊥) }
+    ensures decided { IfOk result (λ reply. IsDecision (seen_reply reply)) }
 {
     let text = report_text(alloc, conn, report);
     // What a failed query may have left is dropped, as a transaction's end drops it.

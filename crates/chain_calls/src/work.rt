@@ -7,7 +7,7 @@ ghost use Rattle.shop_model.specs.Books.{Counter, HeadOffice};
 ghost use Rattle.shop_model.specs.Machine.{Office};
 ghost use Rattle.shop_types.specs.Seen.{seen_office, seen_request};
 ghost use Rattle.sql_rows.specs.Calls.{StaysInside};
-ghost use Rattle.chain_calls.specs.Steps.{IsHeldBy, IsKnown, IsKnownFor, Works, asker, asked_of};
+ghost use Rattle.chain_calls.specs.Steps.{IsHeldBy, IsKnown, IsKnownFor, TellsDecision, Works, asker, asked_of};
 
 use crate::asked::Asked;
 use crate::office_working;
@@ -40,6 +40,7 @@ pub fn work_of<S: Alter>(
     ensures works { HasCleanDisk (state S.Store tx.new.conn.now)
         → IfOk result (λ work. Works limits (asker asked.now) (asked_of asked.now) work (IsHeldBy (IsKnownFor asked.now) films.old) films.new
         (state S.Store tx.old.conn.now) (state S.Store tx.new.conn.now)) }
+    ensures decided { IfOk result TellsDecision }
 {
     match *asked {
         Asked::OfBranch {
@@ -65,6 +66,7 @@ fn branch_work_of<S: Alter>(
     ensures works { HasCleanDisk (state S.Store tx.new.conn.now)
         → IfOk result (λ work. Works limits (Counter branch) (seen_request request.now) work (IsHeldBy (IsKnown is_known branch) films.old) films.new
         (state S.Store tx.old.conn.now) (state S.Store tx.new.conn.now)) }
+    ensures decided { IfOk result TellsDecision }
 {
     match branch_work::work(alloc, tx, films, limits, branch, is_known, request)? {
         Worked::Answered { reply, is_changed } => Ok(Work::Done(reply, is_changed)),
@@ -84,6 +86,7 @@ fn office_work_of<S: Alter>(
     ensures works { HasCleanDisk (state S.Store tx.new.conn.now)
         → IfOk result (λ work. Works limits HeadOffice (Office (seen_office command.now)) work (IsHeldBy (λ _. ⊤) films.old) films.new
         (state S.Store tx.old.conn.now) (state S.Store tx.new.conn.now)) }
+    ensures decided { IfOk result TellsDecision }
 {
     // Before anything is written: what is left stays true whether or not the command is done.
     films.take_out_changed(&command.act);

@@ -1,6 +1,6 @@
 //! The chain of shops over a store.
 
-ghost use Rattle.std.specs.Prelude.{◌≡◌, ◌≢◌, ◌≤◌, ◌||◌, [], true, false, Err, Some, IfOk, IfErr, IfSome, OnErr, length, map};
+ghost use Rattle.std.specs.Prelude.{◌≡◌, ◌≢◌, ◌≤◌, ◌||◌, [], true, false, Err, Some, All, IfOk, IfErr, IfSome, OnErr, length, map};
 ghost use Rattle.sqlite.specs.Held.{state};
 ghost use Rattle.sqlite.specs.State.{HasCleanDisk};
 ghost use Rattle.sqlite.specs.Steps.{over_memory};
@@ -15,11 +15,11 @@ ghost use Rattle.chain_caches.specs.Callers.{AreCallers};
 ghost use Rattle.chain_calls.specs.Chains.{IsAt, Takes, Answers, AnswersEvent, Runs, event_of};
 ghost use Rattle.chain_engine.specs.Failing.{is_failure};
 ghost use Rattle.chain_engine.specs.Leaving.{LeavesNoMore};
-ghost use Rattle.chain_calls.specs.Steps.{IsKnownFor, asker, asked_of};
+ghost use Rattle.chain_calls.specs.Steps.{IsKnownFor, IsTold, asker, asked_of};
 ghost use Rattle.chain_calls.specs.Audits.{AuditsState};
 ghost use Rattle.chain_calls.specs.Decisions.{FindsAudit, FindsCaller, IsOfStore, refusal_for, is_final};
 ghost use Rattle.shop_model.specs.Answers.{problem_answer};
-ghost use Rattle.shop_model.specs.Histories.{is_store_failure};
+ghost use Rattle.shop_model.specs.Histories.{has_failed, is_store_failure};
 ghost use Rattle.shop_model.specs.Refusals.{StoreFailed};
 
 use chain_caches::{CallerCache, FilmCache};
@@ -174,7 +174,8 @@ impl<S: Alter> Chain<S> {
     /// it was. Once the answer is `StoreFailed`, it is that for good: the chain is to be closed and opened again.
     pub fn answer(&mut self, caller: &Caller, request: &Request) -> Reply
         ensures taken { Takes S.Store self.old self.new (Answers (seen_caller caller.now) (seen_request request.now) (seen_reply result)) }
-        ensures fails { self.new.is_failed ≡ true → is_store_failure (seen_reply result) ≡ true }
+        ensures told { IsTold (seen_reply result) }
+        ensures fails { self.new.is_failed ≡ is_store_failure (seen_reply result) }
         ensures failed { self.old.is_failed ≡ true → (self.new ≡ self.old) × (seen_reply result ≡ problem_answer StoreFailed) }
     {
         if self.is_failed {
@@ -203,6 +204,8 @@ impl<S: Alter> Chain<S> {
     /// Answers requests one after another, each as if it had come alone. An `Err` has answered none and changed nothing.
     pub fn replay(&mut self, requests: &[(Token, Request)]) -> Result<Vec<Reply>, NoMemory>
         ensures ran { IfOk result (λ replies. Takes S.Store self.old self.new (Runs (map event_of requests.now) (map seen_reply replies.items))) }
+        ensures told { IfOk result (λ replies. All IsTold (map seen_reply replies.items)) }
+        ensures fails { IfOk result (λ replies. self.new.is_failed ≡ (self.old.is_failed || has_failed (map seen_reply replies.items))) }
         ensures failed { self.old.is_failed ≡ true → (self.new ≡ self.old)
             × IfOk result (λ replies. map seen_reply replies.items ≡ map (λ _. problem_answer StoreFailed) requests.now) }
         ensures nothing { OnErr result (self.new ≡ self.old) }
@@ -218,7 +221,8 @@ impl<S: Alter> Chain<S> {
     /// Answers a request that comes with a token.
     fn answer_with(&mut self, token: &Token, request: &Request) -> Reply
         ensures taken { Takes S.Store self.old self.new (AnswersEvent (event_of (token.now, request.now)) (seen_reply result)) }
-        ensures fails { self.new.is_failed ≡ true → is_store_failure (seen_reply result) ≡ true }
+        ensures told { IsTold (seen_reply result) }
+        ensures fails { self.new.is_failed ≡ is_store_failure (seen_reply result) }
         ensures failed { self.old.is_failed ≡ true → (self.new ≡ self.old) × (seen_reply result ≡ problem_answer StoreFailed) }
     {
         match self.caller(token) {
@@ -232,7 +236,8 @@ impl<S: Alter> Chain<S> {
         requires fine { self.old.is_failed ≡ false }
         requires known { (catalogue : Catalogue) → AreCallers self.old.callers catalogue → IsKnownFor asked.now catalogue }
         ensures taken { Takes S.Store self.old self.new (Answers (asker asked.now) (asked_of asked.now) (seen_reply result)) }
-        ensures fails { self.new.is_failed ≡ true → is_store_failure (seen_reply result) ≡ true }
+        ensures told { IsTold (seen_reply result) }
+        ensures fails { self.new.is_failed ≡ is_store_failure (seen_reply result) }
     {
         asked_values(asked);
         limits_fit(self.limits);
@@ -256,7 +261,8 @@ impl<S: Alter> Chain<S> {
     fn answer_office(&mut self, ask: OfficeAsk) -> Reply
         requires { self.old.is_failed ≡ false }
         ensures taken { Takes S.Store self.old self.new (Answers HeadOffice (OfficeLook (seen_office_ask ask)) (seen_reply result)) }
-        ensures fails { self.new.is_failed ≡ true → is_store_failure (seen_reply result) ≡ true }
+        ensures told { IsTold (seen_reply result) }
+        ensures fails { self.new.is_failed ≡ is_store_failure (seen_reply result) }
     {
         limits_fit(self.limits);
         match read_office(self.alloc, &mut self.conn, ask) {

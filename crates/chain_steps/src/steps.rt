@@ -4,7 +4,7 @@ ghost use Rattle.std.specs.Prelude.{◌≡◌, ◌≢◌, false, IfOk, IfErr};
 ghost use Rattle.sqlite.specs.Held.{state};
 ghost use Rattle.sqlite.specs.State.{HasCleanDisk, Survives};
 ghost use Rattle.shop_types.specs.Replies.{seen_reply};
-ghost use Rattle.chain_calls.specs.Steps.{IsHeldBy, IsKnownFor, IsMade, IsUndone, LeavesAfter, LeavesEitherOf, asker, asked_of};
+ghost use Rattle.chain_calls.specs.Steps.{IsDecision, IsHeldBy, IsKnownFor, IsMade, IsUndone, LeavesAfter, LeavesEitherOf, asker, asked_of};
 
 use chain_caches::FilmCache;
 use chain_calls::{Asked, Work, is_open, show, work_of};
@@ -26,6 +26,7 @@ pub fn step<S: Alter>(
     ensures made { HasCleanDisk (state S.Store conn.new)
         → IfOk result (λ reply. IsMade limits (asker asked.now) (asked_of asked.now) (seen_reply reply) (IsHeldBy (IsKnownFor asked.now) films.old) films.new
         (state S.Store conn.old) (state S.Store conn.new)) }
+    ensures decided { IfOk result (λ reply. IsDecision (seen_reply reply)) }
     ensures undone { HasCleanDisk (state S.Store conn.new)
         → IfErr result (λ fault. (fault ≢ StoreFault.Failed → IsUndone (state S.Store conn.old) (state S.Store conn.new))
         × LeavesEitherOf limits (asker asked.now) (asked_of asked.now) (IsHeldBy (IsKnownFor asked.now) films.old) (state S.Store conn.old)

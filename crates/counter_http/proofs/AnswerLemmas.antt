@@ -23,7 +23,7 @@ use Rattle.chain_engine.specs.Decisions.{IsStoreRefusalAt}
 use Rattle.chain_engine.proofs.Failures.{decided_fine}
 use Rattle.chain_engine.proofs.Requests.{no_failure, never, lacks_memory, store_refuses, fails, failed_same}
 use Rattle.counter_http.specs.Events.{known_token, sender_of, AnswersMessage, AnswersNobody}
-use Rattle.counter_http.specs.Reads.{AnswersRead}
+use Rattle.counter_http.specs.Reads.{IsDecided, AnswersRead}
 
 -- a text that is no request is told so, whoever sent it
 unread_reply : (rules : Rules) (meaning : Meaning) (message : Message) (caller : Caller) (d : Refusal) (books : Books)
@@ -106,6 +106,12 @@ asked_answers meaning message caller request answer old mid new same who what an
     let first : P old caller request = subst (λ (h : Holding). P h caller request) same answers in
     let second : P old caller (reading_of meaning message caller) = subst (λ (r : Request). P old caller r) what first in
     subst (λ (c : Caller). P old c (reading_of meaning message c)) who second
+
+-- what is read as a refusal is one of a decision
+pub reads_decided : {E : Type 0} (read : Result Reading E) (request : Request) → IfOk read (λ it. Reads it request) → IsDecided read
+reads_decided (Ok (Asked asked)) request reads = tt
+reads_decided (Ok (Refused refusal)) request reads = (reads.0, reads.1)
+reads_decided (Err e) request reads = tt
 
 -- so by what was read the message is answered, where the chain that told the caller hadn't failed
 pub read_answers : {E : Type 0} (meaning : Meaning) (message : Message) (caller : Caller) (read : Result Reading E) (answer : Answer) (old mid new : Holding)

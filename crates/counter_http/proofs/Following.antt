@@ -1,14 +1,17 @@
 -- One connection after another: what the chain ran over in each, it ran over in all.
 use Rattle.std.proofs.Common.{◌≡◌, ◌∙◌, List, [], ◌∷◌, ◌++◌, refl, ap}
 use Rattle.std.proofs.lemmas.List.{map-append}
+use Rattle.std.proofs.lemmas.List.Elements.{All-append}
+use Rattle.std.proofs.lemmas.List.Folds.{list_any-append}
 use Rattle.sqlite_trees.specs.declared.store.Store.{Ghosts}
-use Rattle.shop_model.specs.Histories.{is_store_failure}
+use Rattle.shop_model.specs.Histories.{has_failed, is_store_failure}
 use Rattle.shop_model.proofs.Origins.{all_append}
 use Rattle.counter_routes.specs.Words.{Meaning}
 use Rattle.chain_engine.specs.Holding.{Chained, Holding}
 use Rattle.chain_engine.specs.Chains.{Runs}
 use Rattle.chain_engine.proofs.Taking.{takes_then}
-use Rattle.chain_engine.proofs.Following.{runs_follow}
+use Rattle.chain_engine.specs.Steps.{IsTold}
+use Rattle.chain_engine.proofs.Following.{or_then, runs_follow}
 use Rattle.counter_http.specs.Events.{event_of}
 use Rattle.counter_http.specs.Exchanges.{Exchange, events_of, answers_of, RunsOver}
 use Rattle.counter_http.proofs.Runs.{run_starts}
@@ -25,6 +28,9 @@ pub run_follows : {S : Type 0} {g : Ghosts S} {meaning : Meaning} {old mid new :
 run_follows {S} {g} {meaning} {old} {mid} {new} es more first second = record {
   takes = takes_then first.takes second.takes (λ old mid new x y. both_run meaning old mid new es more x y);
   same = same es more first second;
+  told = rw both (All-append IsTold (answers_of es) (answers_of more) first.told second.told);
+  fails = rw (both, list_any-append is_store_failure (answers_of es) (answers_of more))
+      (or_then old.is_failed (has_failed (answers_of es)) mid.is_failed (has_failed (answers_of more)) new.is_failed first.fails second.fails);
   failed = λ was.
       let one = first.failed was in
       let two = second.failed (ap (λ (x : Chained S). x.is_failed) one.0 ∙ was) in

@@ -1,10 +1,14 @@
 -- The run of a connection begins with no exchange, and one message is a run of its own.
-use Rattle.std.proofs.Common.{◌≡◌, List, [], ◌∷◌, ℕ, true, refl}
+use Rattle.std.proofs.Common.{◌≡◌, ◌∙◌, List, [], ◌∷◌, ℕ, Bool, true, false, refl, sym, ap}
+use Rattle.std.specs.Prelude.{◌||◌}
+use Rattle.std.proofs.Math.Bool.{or-false}
+use Rattle.std.proofs.lemmas.List.Elements.{All-nil, All-cons}
 use Rattle.sqlite_trees.specs.declared.store.Store.{Ghosts}
 use Rattle.shop_model.specs.Histories.{is_store_failure}
 use Rattle.counter_routes.specs.Words.{Meaning}
 use Rattle.chain_engine.specs.Holding.{Chained}
 use Rattle.chain_engine.specs.Chains.{Takes}
+use Rattle.chain_engine.specs.Steps.{IsTold}
 use Rattle.chain_engine.proofs.Taking.{takes_as, takes_same}
 use Rattle.chain_engine.proofs.Running.{runs_none, runs_more}
 use Rattle.counter_http.specs.Events.{event_of, AnswersMessage}
@@ -15,19 +19,31 @@ pub run_starts : {S : Type 0} {g : Ghosts S} {meaning : Meaning} {chain : Chaine
 run_starts {S} {g} {meaning} {chain} = record {
   takes = takes_same (λ held. runs_none held);
   same = λ none. refl;
+  told = All-nil IsTold;
+  fails = sym (or-false chain.is_failed);
   failed = λ was. (refl, refl);
 }
 
+fails_once : (was now last : Bool) → now ≡ last → (was ≡ true → now ≡ true) → now ≡ (was || (last || false))
+fails_once true now last so stays = stays refl
+fails_once false now last so stays = so ∙ sym (or-false last)
+
 -- one message is answered
-pub run_one : {S : Type 0} {g : Ghosts S} {meaning : Meaning} {old new : Chained S} (e : Exchange) → Takes g old new (AnswersMessage meaning e.message e.answer) → (old.is_failed ≡ true → (new ≡ old) × (is_store_failure e.answer ≡ true)) → RunsOver g meaning old new (e ∷ [])
-run_one {S} {g} {meaning} {old} {new} e step failed = record {
+pub run_one : {S : Type 0} {g : Ghosts S} {meaning : Meaning} {old new : Chained S} (e : Exchange) → Takes g old new (AnswersMessage meaning e.message e.answer) → IsTold e.answer
+    → new.is_failed ≡ is_store_failure e.answer → (old.is_failed ≡ true → new ≡ old) → RunsOver g meaning old new (e ∷ [])
+run_one {S} {g} {meaning} {old} {new} e step told fails failed = record {
   takes = takes_as step (λ before after x. runs_more before before after [] [] (event_of meaning e.message) e.answer (runs_none before) x);
   same = λ none. absurd (some none);
-  failed = λ was. let it = failed was in (it.0, rw it.1 refl);
+  told = All-cons IsTold e.answer [] told (All-nil IsTold);
+  fails = fails_once old.is_failed new.is_failed (is_store_failure e.answer) fails still;
+  failed = λ was. let last : is_store_failure e.answer ≡ true = sym fails ∙ still was in (failed was, rw last refl);
 }
   where
     some : e ∷ [] ≡ [] → ⊥
     some none = cc
+
+    still : old.is_failed ≡ true → new.is_failed ≡ true
+    still was = ap (λ (x : Chained S). x.is_failed) (failed was) ∙ was
 
 -- the same told otherwise of the run
 pub ran_as : (Ran Ran' : List Exchange → Type 0) (read : List ℕ) (es : List Exchange) (rest : List ℕ) → HasRun Ran read es rest → ((es : List Exchange) → Ran es → Ran' es) → HasRun Ran' read es rest

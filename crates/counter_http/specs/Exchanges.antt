@@ -1,16 +1,17 @@
 -- The messages of a connection and the answers to them.
-use Rattle.std.specs.Prelude.{◌≡◌, ℕ, true, false, List, [], map}
+use Rattle.std.specs.Prelude.{◌≡◌, ◌||◌, ℕ, true, false, List, [], map, All}
 use Rattle.std.specs.List.{flat_map, list_all}
 use Rattle.http_messages.specs.Message.{Message}
 use Rattle.http_messages.specs.Input.{HasMessages}
 use Rattle.http_messages.specs.Text.{reply_text}
 use Rattle.shop_model.specs.Answers.{Answer}
 use Rattle.shop_model.specs.Books.{Event}
-use Rattle.shop_model.specs.Histories.{is_store_failure}
+use Rattle.shop_model.specs.Histories.{has_failed, is_store_failure}
 use Rattle.sqlite_trees.specs.declared.store.Store.{Ghosts}
 use Rattle.counter_routes.specs.Words.{Meaning}
 use Rattle.chain_engine.specs.Holding.{Chained}
 use Rattle.chain_engine.specs.Chains.{Takes, Runs}
+use Rattle.chain_engine.specs.Steps.{IsTold}
 use Rattle.counter_http.specs.Events.{event_of}
 
 -- a message and the answer to it
@@ -41,11 +42,13 @@ pub record GoesOn (exchange : Exchange) : Type 0 where
   pub stays : exchange.message.closes ≡ false
   pub sound : is_store_failure exchange.answer ≡ false
 
--- The chain answers the messages, one after another; where none came, it is as it was, whatever its store is. One that had failed is as it was, its connection
--- to the store too, and each answer is the store's failure, whatever the disk does.
+-- The chain answers the messages, one after another; where none came, it is as it was, whatever its store is. Whatever the disk does, each answer is one of the
+-- table, and the chain has failed exactly where one of them is the store's failure, or it had failed. Then it is as it was, its connection to the store too.
 pub record RunsOver {S : Type 0} (g : Ghosts S) (meaning : Meaning) (old new : Chained S) (exchanges : List Exchange) : Type 0 where
   pub takes : Takes g old new (Runs (events_of meaning exchanges) (answers_of exchanges))
   pub same : exchanges ≡ [] → new ≡ old
+  pub told : All IsTold (answers_of exchanges)
+  pub fails : new.is_failed ≡ (old.is_failed || has_failed (answers_of exchanges))
   pub failed : old.is_failed ≡ true → (new ≡ old) × (list_all is_store_failure (answers_of exchanges) ≡ true)
 
 -- What was read begins with the messages of the exchanges, and then a rest that isn't answered; and `Ran` is so of the exchanges. What is said of the bytes

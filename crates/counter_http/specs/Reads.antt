@@ -16,6 +16,12 @@ HasFixedBody (Ok (Asked request)) = ⊤
 HasFixedBody (Ok (Refused refusal)) = has_fixed_body refusal ≡ true
 HasFixedBody (Err e) = ⊤
 
+-- what is refused is refused by a decision, not by the store
+abbrev pub IsDecided : {E : Type 0} → Result Reading E → Type 0
+IsDecided (Ok (Asked request)) = ⊤
+IsDecided (Ok (Refused refusal)) = (decision : named.Refusal) × (seen_refusal refusal ≡ named.Decision decision)
+IsDecided (Err e) = ⊤
+
 -- a request is the caller's; what is none is refused, and for want of memory there is no answer: then the chain is as it was
 abbrev pub AnswersRead : {E : Type 0} → Caller → Result Reading E → Answer → Holding → Holding → Type 0
 AnswersRead caller (Ok (Asked request)) answer old new = Answers caller (seen_request request) answer old new

@@ -1,14 +1,15 @@
 //! One message and its answer.
-ghost use Rattle.std.specs.Prelude.{◌≡◌, true};
+ghost use Rattle.std.specs.Prelude.{◌≡◌, true, false};
 ghost use Rattle.http_messages.specs.Shown.{message_of};
 ghost use Rattle.shop_types.specs.Replies.{seen_reply};
 ghost use Rattle.shop_model.specs.Books.{Books};
 ghost use Rattle.shop_model.specs.Histories.{is_store_failure};
 ghost use Rattle.chain_engine.specs.Holding.{holding};
 ghost use Rattle.chain_engine.specs.Chains.{Takes};
+ghost use Rattle.chain_engine.specs.Steps.{IsTold};
 ghost use Rattle.shop_types.specs.Seen.{seen_caller};
 ghost use Rattle.counter_http.specs.Events.{known_token, AnswersNobody, AnswersMessage};
-ghost use Rattle.counter_http.specs.Reads.{HasFixedBody, AnswersRead};
+ghost use Rattle.counter_http.specs.Reads.{HasFixedBody, IsDecided, AnswersRead};
 
 use chain_engine::Chain;
 use counter_routes::{Reading, Routes};
@@ -30,7 +31,8 @@ fn token_of(message: &Request<'_>) -> Option<Token>
 /// The chain's reply to somebody who sent no token, whatever is asked.
 fn answer_nobody<S: Alter>(chain: &Chain<S>) -> Reply
     ensures answered { (books besides : Books) → AnswersNobody (seen_reply result) (holding chain.now books besides) (holding chain.now books besides) }
-    ensures failed { chain.now.is_failed ≡ true → is_store_failure (seen_reply result) ≡ true }
+    ensures told { IsTold (seen_reply result) }
+    ensures fails { chain.now.is_failed ≡ is_store_failure (seen_reply result) }
 {
     if chain.is_failed() {
         Reply::refused(Refusal::StoreFailed)
@@ -45,8 +47,12 @@ fn answer_read<S: Alter>(
     caller: &Caller,
     read: &Result<Reading, NoMemory>,
 ) -> Reply
-    requires { HasFixedBody read.now }
-    ensures { Takes S.Store chain.old chain.new (AnswersRead (seen_caller caller.now) read.now (seen_reply result)) }
+    requires fine { chain.old.is_failed ≡ false }
+    requires fixed { HasFixedBody read.now }
+    requires decided { IsDecided read.now }
+    ensures taken { Takes S.Store chain.old chain.new (AnswersRead (seen_caller caller.now) read.now (seen_reply result)) }
+    ensures told { IsTold (seen_reply result) }
+    ensures fails { chain.new.is_failed ≡ is_store_failure (seen_reply result) }
 {
     match read {
         Ok(Reading::Asked(request)) => chain.answer(caller, request),
@@ -65,7 +71,9 @@ pub fn answer<O: OfficeWords, S: Alter>(
     message: &Request<'_>,
 ) -> Reply
     ensures taken { Takes S.Store chain.old chain.new (AnswersMessage (O.meaning words.now) (message_of message.now) (seen_reply result)) }
-    ensures failed { chain.old.is_failed ≡ true → (chain.new ≡ chain.old) × (is_store_failure (seen_reply result) ≡ true) }
+    ensures told { IsTold (seen_reply result) }
+    ensures fails { chain.new.is_failed ≡ is_store_failure (seen_reply result) }
+    ensures failed { chain.old.is_failed ≡ true → chain.new ≡ chain.old }
 {
     let Some(token) = token_of(message) else {
         return answer_nobody(chain);

@@ -3,6 +3,7 @@ ghost use Rattle.std.specs.Prelude.{◌≡◌, ◌⊎◌, ℕ, ◌+◌, ◌<◌,
 ghost use Rattle.std.specs.Io.KnownBytes.{IsAtEnd};
 ghost use Rattle.http_messages.specs.Shown.{message_of};
 ghost use Rattle.http_messages.specs.Input.{IsCut};
+ghost use Rattle.shop_model.specs.Answers.{Answer};
 ghost use Rattle.shop_model.specs.Histories.{is_store_failure};
 ghost use Rattle.shop_types.specs.Replies.{seen_reply};
 ghost use Rattle.counter_http.specs.declared.inbox.TheConstants.{ROOM};
@@ -87,19 +88,11 @@ pub(crate) enum After {
     Fails,
 }
 
-/// Whether the reply says that the store failed.
-#[tactic(auto, unfolding(shop_model::specs::Json::escape_byte))]
-fn is_failure(reply: &Reply) -> bool
-    ensures { result ≡ is_store_failure (seen_reply reply.now) }
+/// What the reply to the request means for the connection, by whether the chain has failed then.
+fn after_reply(has_failed: bool, request: &Request<'_>) -> After
+    ensures { (answer : Answer) → is_store_failure answer ≡ has_failed → IsAfter result (record { message = message_of request.now; answer = answer }) }
 {
-    reply.status == 503 && reply.body_bytes() == b"{\"refused\":\"store_failed\"}".as_slice()
-}
-
-/// What the reply to the request means for the connection.
-fn after_reply(reply: &Reply, request: &Request<'_>) -> After
-    ensures { IsAfter result (record { message = message_of request.now; answer = seen_reply reply.now }) }
-{
-    if is_failure(reply) {
+    if has_failed {
         After::Fails
     } else if request.closes {
         After::Asks
@@ -206,7 +199,7 @@ impl Connection {
         match read_request(self.inbox.bytes()) {
             Reading::Whole(request, len) => {
                 let reply = answer(alloc, chain, &board.routes, words, &request);
-                let after = after_reply(&reply, &request);
+                let after = after_reply(chain.is_failed(), &request);
                 self.inbox.consume(len);
                 self.unsent.put(reply);
                 self.ending = ending_of(after, self.most - self.replies);
@@ -249,7 +242,7 @@ impl Connection {
 
     /// A turn: goes on as far as the bytes reach. Writes what is left of a reply, answers what has come whole, at most `most` requests, and reads, until the
     /// reader or the writer would wait (`ErrorKind::WouldBlock`) or the connection ends. While a reply isn't wholly written, no further request is answered.
-    /// `words` reads the words that head office sends. Other connections may have their turns between two of this one.
+    /// `words` reads the words that head office sends. Other connections may have their turns between two of this one. A chain that has failed stays as it is.
     pub fn advance<R: Read, W: Write, O: OfficeWords, S: Alter>(
         &mut self,
         alloc: Global,

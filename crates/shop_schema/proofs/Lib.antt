@@ -22,5 +22,3 @@ pub mod FormSteps
 pub mod Days
 pub mod MomentOrder
 pub mod Numbers
-pub mod MigrateTexts
-pub mod MigrateBack

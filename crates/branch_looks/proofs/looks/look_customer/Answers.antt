@@ -1,11 +1,12 @@
-use Rattle.std.proofs.Common.{◌∙◌, sym, ap, List, Option, option_map}
+use Rattle.std.proofs.Common.{◌∙◌, refl, sym, ap, List, Option, option_map}
 use Rattle.std.specs.Option.{option_to_list}
 use Rattle.shop_model.specs.Values.{Customer}
-use Rattle.shop_model.specs.Refusals.{NoCustomer}
+use Rattle.shop_model.specs.Refusals.{NoCustomer, Decision}
 use Rattle.shop_model.specs.Machine.{given, CustomerIs}
 use Rattle.shop_model.specs.Answers.{answer_of, accepted_answer}
 use Rattle.shop_types.specs.Seen.{seen_customer}
 use Rattle.shop_store.specs.declared.customers.CustomerRow.{CustomerRow}
+use Rattle.branch_looks.proofs.Decisions.{accepted_told, refused_told}
 use Rattle.branch_looks.proofs.looks.look_customer.Goals as goal
 
 pub returns-in_ok-customer_text-in-Some-clause-shown : goal.returns-in_ok-customer_text-in-Some-clause-shown
@@ -23,3 +24,9 @@ returns-in-None-clause-shown g c = λ clean books holds held.
       found.0,
       c.refused.ensures ∙ ap (λ (rows : List Customer). answer_of (given NoCustomer (CustomerIs c.args.number) rows)) shown,
     )
+
+pub returns-in_ok-customer_text-in-Some-clause-decided : goal.returns-in_ok-customer_text-in-Some-clause-decided
+returns-in_ok-customer_text-in-Some-clause-decided g c = accepted_told _ _ c.accepted.ensures
+
+pub returns-in-None-clause-decided : goal.returns-in-None-clause-decided
+returns-in-None-clause-decided g c = refused_told _ (Decision NoCustomer) c.refused.ensures refl

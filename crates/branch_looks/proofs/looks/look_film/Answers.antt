@@ -1,11 +1,12 @@
-use Rattle.std.proofs.Common.{◌∙◌, sym, ap, List, Option, option_map}
+use Rattle.std.proofs.Common.{◌∙◌, refl, sym, ap, List, Option, option_map}
 use Rattle.std.specs.Option.{option_to_list}
 use Rattle.shop_model.specs.Values.{Film}
-use Rattle.shop_model.specs.Refusals.{NoFilm}
+use Rattle.shop_model.specs.Refusals.{NoFilm, Decision}
 use Rattle.shop_model.specs.Machine.{given, FilmIs}
 use Rattle.shop_model.specs.Answers.{answer_of, accepted_answer}
 use Rattle.shop_store.specs.SharedSeen.{seen_film_row}
 use Rattle.shop_store.specs.declared.films.FilmRow.{FilmRow}
+use Rattle.branch_looks.proofs.Decisions.{accepted_told, refused_told}
 use Rattle.branch_looks.proofs.looks.look_film.Goals as goal
 
 pub returns-in_ok-film_text-in-Some-clause-shown : goal.returns-in_ok-film_text-in-Some-clause-shown
@@ -23,3 +24,9 @@ returns-in-None-clause-shown g c = λ clean books holds held.
       found.0,
       c.refused.ensures ∙ ap (λ (rows : List Film). answer_of (given NoFilm (FilmIs c.args.number) rows)) shown,
     )
+
+pub returns-in_ok-film_text-in-Some-clause-decided : goal.returns-in_ok-film_text-in-Some-clause-decided
+returns-in_ok-film_text-in-Some-clause-decided g c = accepted_told _ _ c.accepted.ensures
+
+pub returns-in-None-clause-decided : goal.returns-in-None-clause-decided
+returns-in-None-clause-decided g c = refused_told _ (Decision NoFilm) c.refused.ensures refl

@@ -3,7 +3,7 @@ use Rattle.sqlite.specs.Held.{state}
 use Rattle.sqlite.specs.State.{HasCleanDisk}
 use Rattle.sql_rows.proofs.Stays.{inside_as, inside_err, inside_then}
 use Rattle.shop_store.specs.SharedSeen.{withdrawn_of}
-use Rattle.shop_model.specs.Refusals.{NoFilm}
+use Rattle.shop_model.specs.Refusals.{NoFilm, Decision}
 use Rattle.shop_model.specs.Shop.{Catalogue, Shop}
 use Rattle.shop_model.specs.Machine.{CopiesAre, Sorry, Shows, look}
 use Rattle.shop_model.specs.Answers.{answer_of, accepted_answer}
@@ -13,6 +13,7 @@ use Rattle.shop_model.specs.Stock.{film_in_stock, film_not_in_stock}
 use Rattle.branch_core.specs.Agreed.{AreOfFilm}
 use Rattle.branch_looks.specs.Finds.{stock_asked, stock_listed}
 use Rattle.branch_looks.proofs.Shows.{given_none, given_some}
+use Rattle.branch_looks.proofs.Decisions.{accepted_told, refused_told}
 use Rattle.branch_looks.proofs.looks.look_film_copies.Goals as goal
 
 no_film : (is_in : Bool) (b film : ℕ) (catalogue : Catalogue) (shop : Shop) → None ≡ head (map withdrawn_of (at film catalogue.films)) → look b catalogue shop (stock_asked is_in film) ≡ Sorry NoFilm
@@ -53,3 +54,9 @@ returns-clause-inside g c = inside_err (inside_then c.in_ok-film_withdrawn.ensur
 
 pub returns-in-Ok-clause-inside : goal.returns-in-Ok-clause-inside
 returns-in-Ok-clause-inside g c = inside_as (inside_then c.in_ok-film_withdrawn.ensures.inside c.in_ok-copies.ensures.inside)
+
+pub returns-in-Ok-clause-decided : goal.returns-in-Ok-clause-decided
+returns-in-Ok-clause-decided g c = accepted_told _ _ c.accepted.ensures
+
+pub returns-in_default-clause-decided : goal.returns-in_default-clause-decided
+returns-in_default-clause-decided g c = refused_told _ (Decision NoFilm) c.refused.ensures refl

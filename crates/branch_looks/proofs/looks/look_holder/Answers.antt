@@ -1,10 +1,10 @@
-use Rattle.std.proofs.Common.{◌∙◌, sym, ap, arith, ℕ, [], ◌∷◌, codes, List, Option, option_map}
+use Rattle.std.proofs.Common.{◌∙◌, ◌∷◌, refl, sym, ap, arith, ℕ, [], codes, List, Option, option_map}
 use Rattle.std.specs.Option.{option_to_list}
 use Rattle.sqlite.specs.Held.{state}
 use Rattle.sqlite.specs.State.{HasCleanDisk}
 use Rattle.sql_rows.proofs.Stays.{inside_as, inside_err, inside_then}
 use Rattle.shop_model.specs.Values.{Copy, Text}
-use Rattle.shop_model.specs.Refusals.{NoCopy}
+use Rattle.shop_model.specs.Refusals.{NoCopy, Decision}
 use Rattle.shop_model.specs.Stock.{held_by}
 use Rattle.shop_model.specs.Json.{object}
 use Rattle.shop_model.specs.Machine.{given, HolderIs, Reply}
@@ -13,6 +13,7 @@ use Rattle.shop_model.specs.Books.{shop_of}
 use Rattle.shop_store.specs.Seen.{seen_copy_now}
 use Rattle.shop_store.specs.declared.copies.CopyNow.{CopyNow}
 use Rattle.branch_looks.proofs.Shows.{first_holder}
+use Rattle.branch_looks.proofs.Decisions.{accepted_told, refused_told}
 use Rattle.branch_looks.proofs.looks.look_holder.Goals as goal
 
 abbrev holder : Text → Text
@@ -55,3 +56,9 @@ returns-in_err-holder_text-clause-inside g c = inside_err (inside_then c.in_ok-f
 
 pub returns-clause-inside : goal.returns-clause-inside
 returns-clause-inside g c = inside_as (inside_then c.in_ok-found.ensures.inside c.in_ok-holder.ensures.inside)
+
+pub returns-clause-decided : goal.returns-clause-decided
+returns-clause-decided g c = accepted_told _ _ c.accepted.ensures
+
+pub returns-in_default-clause-decided : goal.returns-in_default-clause-decided
+returns-in_default-clause-decided g c = refused_told _ (Decision NoCopy) c.refused.ensures refl

@@ -1,7 +1,7 @@
-use Rattle.std.proofs.Common.{◌≡◌, ◌∙◌, sym, ap, Bool, List, Option, option_map}
+use Rattle.std.proofs.Common.{◌≡◌, ◌∙◌, refl, sym, ap, Bool, List, Option, option_map}
 use Rattle.std.specs.Option.{option_to_list}
 use Rattle.shop_model.specs.Values.{Copy}
-use Rattle.shop_model.specs.Refusals.{NoCopy}
+use Rattle.shop_model.specs.Refusals.{NoCopy, Decision}
 use Rattle.shop_model.specs.Stock.{in_stock}
 use Rattle.shop_model.specs.Machine.{given, InStockIs, Reply, Shows}
 use Rattle.shop_model.specs.Answers.{answer_of, accepted_answer}
@@ -9,6 +9,7 @@ use Rattle.shop_model.specs.Books.{shop_of}
 use Rattle.shop_store.specs.Seen.{seen_copy_now}
 use Rattle.shop_store.specs.declared.copies.CopyNow.{CopyNow}
 use Rattle.branch_looks.proofs.Shows.{stock_of_out}
+use Rattle.branch_looks.proofs.Decisions.{accepted_told, refused_told}
 use Rattle.branch_looks.proofs.looks.look_in_stock.Goals as goal
 
 abbrev told : Bool → List Copy → Reply
@@ -33,3 +34,9 @@ returns-in-None-clause-shown g c = λ clean books holds held.
       found.0,
       c.refused.ensures ∙ ap (λ (copies : List Copy). answer_of (told (in_stock c.args.copy (shop_of c.args.branch books).rentals) copies)) there,
     )
+
+pub returns-in_ok-in_stock_text-in-Some-clause-decided : goal.returns-in_ok-in_stock_text-in-Some-clause-decided
+returns-in_ok-in_stock_text-in-Some-clause-decided g c = accepted_told _ _ c.accepted.ensures
+
+pub returns-in-None-clause-decided : goal.returns-in-None-clause-decided
+returns-in-None-clause-decided g c = refused_told _ (Decision NoCopy) c.refused.ensures refl

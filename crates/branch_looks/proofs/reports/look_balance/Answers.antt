@@ -1,15 +1,16 @@
-use Rattle.std.proofs.Common.{◌∙◌, sym, ap, subst, arith, ℤ}
+use Rattle.std.proofs.Common.{◌∙◌, refl, sym, ap, subst, arith, ℤ}
 use Rattle.sqlite.specs.Held.{state}
 use Rattle.sqlite.specs.State.{HasCleanDisk}
 use Rattle.sql_rows.proofs.Stays.{inside_as, inside_err, inside_then, within_of, within_then}
 use Rattle.shop_model.specs.Values.{Customer, Rule}
-use Rattle.shop_model.specs.Refusals.{NoCustomer}
+use Rattle.shop_model.specs.Refusals.{NoCustomer, Decision}
 use Rattle.shop_model.specs.Stock.{balance}
 use Rattle.shop_model.specs.Machine.{BalanceIs, Reply, Shows}
 use Rattle.shop_model.specs.Answers.{answer_of, accepted_answer}
 use Rattle.shop_model.specs.Books.{shop_of}
 use Rattle.balance_rule.specs.Balance.{AreTermsOf, ArePaidBy}
 use Rattle.branch_looks.proofs.Shows.{given_none, given_some}
+use Rattle.branch_looks.proofs.Decisions.{accepted_told, refused_told}
 use Rattle.branch_looks.proofs.reports.look_balance.Goals as goal
 
 pub returns-clause-shown : goal.returns-clause-shown
@@ -59,3 +60,9 @@ returns-in_err-balance_text-clause-inside g c = inside_err (inside_then c.in_ok-
 
 pub returns-clause-inside : goal.returns-clause-inside
 returns-clause-inside g c = inside_as (inside_then c.in_ok-active_at.ensures.inside (within_then (within_of c.in_ok-rule.ensures.inside) (within_then c.in_ok-rentals.ensures.inside c.in_ok-payments.ensures.inside)))
+
+pub returns-clause-decided : goal.returns-clause-decided
+returns-clause-decided g c = accepted_told _ _ c.accepted.ensures
+
+pub returns-in_default-clause-decided : goal.returns-in_default-clause-decided
+returns-in_default-clause-decided g c = refused_told _ (Decision NoCustomer) c.refused.ensures refl

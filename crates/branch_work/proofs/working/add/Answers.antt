@@ -8,6 +8,7 @@ use Rattle.sql_rows.proofs.Stays.{clean_within}
 use Rattle.branch_work.specs.Rules.{rules_of}
 use Rattle.branch_work.proofs.Acted.{acted_done}
 use Rattle.branch_work.proofs.Counting.{acted_once}
+use Rattle.branch_work.proofs.Decisions.{accepted_told}
 use Rattle.branch_work.proofs.working.add.Goals as goal
 
 pub returns-clause-added : goal.returns-clause-added
@@ -22,3 +23,6 @@ returns-clause-added g c = λ clean. (
       let reply : c.as_str.result.now ≡ string_bytes c.in_ok-text.text = c.as_str.ensures.value in
       (subst (Holds (state g.S.Store c.keep.new.tx.conn.now)) (acted_done (rules_of limits) b command c.as_str.result.now books (reply ∙ acted.1)) kept, c.accepted.ensures ∙ ap accepted_answer acted.1),
 )
+
+pub returns-clause-decided : goal.returns-clause-decided
+returns-clause-decided g c = accepted_told _ _ c.accepted.ensures

@@ -13,6 +13,7 @@ use Rattle.shop_types.specs.Replies.{seen_reply}
 use Rattle.branch_work.specs.Rules.{rules_of}
 use Rattle.branch_work.specs.Works.{IsDone}
 use Rattle.branch_work.proofs.Doing.{branch_goes, again_done, accepted_done, refused_done}
+use Rattle.branch_work.proofs.Decisions.{accepted_told}
 use Rattle.branch_work.proofs.working.answer.Goals as goal
 
 abbrev known : Change → Result Change Refusal
@@ -51,4 +52,7 @@ returns-in-Err-clause-works g c = λ clean. IfOk-weaker c.refuse.result _ _ (λ 
     let is : P (Err c.in-Err.refusal) = subst P c.in-Err.is (c.decide.ensures rules books.catalogue (shop_of b books) refl refl agrees) in
     let refused = told.1 (verdict rules b books.catalogue (shop_of b books) command) is in
     subst (λ (changed : Bool). IsDone c.args.limits (Counter b) (Do command) (seen_reply done.0) changed s books) (sym told.0)
-    (refused_done (branch_goes c.args.limits b books command there) _ s refused.0 refused.1 refused.2 holds)) c.refuse.ensures
+    (refused_done (branch_goes c.args.limits b books command there) _ s refused.0 refused.1 refused.2 holds)) c.refuse.ensures.told
+
+pub returns-in-Ok-Again-clause-decided : goal.returns-in-Ok-Again-clause-decided
+returns-in-Ok-Again-clause-decided g c = IfOk-weaker c.again.result _ _ (λ done told. accepted_told _ _ told.0) c.again.ensures

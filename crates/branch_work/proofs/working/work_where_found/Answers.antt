@@ -13,6 +13,8 @@ use Rattle.branch_looks.specs.Looks.{looked, seen_look, seen_reading}
 use Rattle.branch_work.specs.Works.{IsDone}
 use Rattle.sql_rows.proofs.Stays.{inside_then, inside_as, inside_err, within_of}
 use Rattle.branch_work.proofs.Doing.{nobody_done, kept_done, look_done}
+use Rattle.shop_model.specs.Refusals.{Decision, NoCounter, NoRoute}
+use Rattle.branch_work.proofs.Decisions.{refused_told}
 use Rattle.branch_work.proofs.working.work_where_found.Goals as goal
 
 pub returns-in_default-clause-works : goal.returns-in_default-clause-works
@@ -104,3 +106,9 @@ returns-in_err-look-in-Look-reading_of-clause-inside g c =
 pub returns-in_ok-look-in-Look-reading_of-clause-inside : goal.returns-in_ok-look-in-Look-reading_of-clause-inside
 returns-in_ok-look-in-Look-reading_of-clause-inside g c =
     inside_as (inside_then c.in_ok-standing.ensures.inside (within_of c.in_ok-look-in-Look-reading_of.ensures.inside))
+
+pub returns-in_default-clause-decided : goal.returns-in_default-clause-decided
+returns-in_default-clause-decided g c = refused_told _ (Decision NoCounter) c.refused.ensures refl
+
+pub returns-in-Office-clause-decided : goal.returns-in-Office-clause-decided
+returns-in-Office-clause-decided g c = refused_told _ (Decision NoRoute) c.refused-in-Office.ensures refl

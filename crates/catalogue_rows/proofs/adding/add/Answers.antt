@@ -30,3 +30,6 @@ returns-clause-added g c = λ clean. (
       let done = subst (λ (it : Books). HoldsWith (office_counted command.act b (counts_of books)) s2 it) (act_kept command c.as_str.result.now books (reply ∙ told)) kept in
       (office_counts_agreed s2 command books held.owners holds.stands.more.termed done, c.accepted.ensures ∙ ap accepted_answer told),
 )
+
+pub returns-clause-accepted : goal.returns-clause-accepted
+returns-clause-accepted g c = (_, c.accepted.ensures)

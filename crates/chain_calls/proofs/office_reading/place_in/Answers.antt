@@ -7,6 +7,8 @@ use Rattle.shop_model.specs.Answers.{answer_of, accepted_answer}
 use Rattle.shop_types.specs.Seen.{seen_mark}
 use Rattle.shop_store.specs.SharedSeen.{manager_of}
 use Rattle.chain_calls.proofs.Marks.{held_once}
+use Rattle.shop_model.specs.Refusals.{Decision, NoBranch, NoCopy}
+use Rattle.branch_work.proofs.Decisions.{accepted_told, refused_told}
 use Rattle.chain_calls.proofs.office_reading.place_in.Goals as goal
 
 nobody : {A B : Type 0} (f : A → B) (xs : List A) → head (map f xs) ≡ None → is_empty xs ≡ true
@@ -48,3 +50,12 @@ returns-in-Ok-clause-told g c = λ clean books holds held.
     let is = sym made.1 ∙ c.if-not-branch.false in
     let placed = c.in_ok-place.ensures.place clean books made.0 held in
     (placed.0, λ custody. rw (there, is) (c.accepted.ensures ∙ ap accepted_answer c.in-Ok.ensures ∙ ap answer_of (placed.1 (held_once (seen_mark c.args.mark.now) books held.numbers custody))))
+
+pub returns-in_default-clause-decided : goal.returns-in_default-clause-decided
+returns-in_default-clause-decided g c = refused_told _ (Decision NoBranch) c.refused.ensures refl
+
+pub returns-then-not-branch-clause-decided : goal.returns-then-not-branch-clause-decided
+returns-then-not-branch-clause-decided g c = refused_told _ (Decision NoCopy) c.refused-then-not-branch.ensures refl
+
+pub returns-in-Ok-clause-decided : goal.returns-in-Ok-clause-decided
+returns-in-Ok-clause-decided g c = accepted_told _ _ c.accepted.ensures

@@ -15,6 +15,7 @@ use Rattle.branch_work.specs.Rules.{rules_of}
 use Rattle.branch_work.specs.Works.{IsDone}
 use Rattle.branch_work.proofs.Doing.{again_done, accepted_done, refused_done}
 use Rattle.chain_calls.proofs.Asking.{office_goes}
+use Rattle.branch_work.proofs.Decisions.{accepted_told}
 use Rattle.chain_calls.proofs.office_working.answer.Goals as goal
 
 abbrev known : Change → Result Change Refusal
@@ -55,4 +56,10 @@ returns-in-Err-clause-works g c = λ clean. IfOk-weaker c.refuse.result _ _ (λ 
     let P : Result Change Refusal → Type 0 = λ it. IsVerdict (office_verdict rules books.catalogue command) it in
     let is : P (Err c.in-Err.refusal) = subst P c.in-Err.is (c.decide_office.ensures rules books.catalogue refl (found.1 c.args.kept kept)) in
     let refused = told.1 (office_verdict rules books.catalogue command) is in
-    subst (λ (changed : Bool). IsDone c.args.limits HeadOffice (Office command) (seen_reply done.0) changed s books) (sym told.0) (refused_done goes _ s refused.0 refused.1 refused.2 found.0)) c.refuse.ensures
+    subst (λ (changed : Bool). IsDone c.args.limits HeadOffice (Office command) (seen_reply done.0) changed s books) (sym told.0) (refused_done goes _ s refused.0 refused.1 refused.2 found.0)) c.refuse.ensures.told
+
+pub returns-in-Ok-Again-clause-decided : goal.returns-in-Ok-Again-clause-decided
+returns-in-Ok-Again-clause-decided g c = IfOk-weaker c.again.result _ _ (λ done told. accepted_told _ _ told.0) c.again.ensures
+
+pub returns-in-Ok-Accepted-clause-decided : goal.returns-in-Ok-Accepted-clause-decided
+returns-in-Ok-Accepted-clause-decided g c = IfOk-weaker c.add.result _ _ (λ done told. accepted_told _ told.0 told.1) c.add.ensures.accepted

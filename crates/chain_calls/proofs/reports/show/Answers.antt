@@ -4,6 +4,7 @@ use Rattle.sqlite.specs.State.{HasCleanDisk}
 use Rattle.shop_model.specs.Answers.{accepted_answer}
 use Rattle.chain_calls.specs.Steps.{IsUndone}
 use Rattle.chain_calls.proofs.Resting.{rests_settled}
+use Rattle.branch_work.proofs.Decisions.{accepted_told}
 use Rattle.chain_calls.proofs.reports.show.Goals as goal
 
 pub returns-in-Ok-clause-same : goal.returns-in-Ok-clause-same
@@ -40,3 +41,6 @@ returns-in-Err-clause-same g c clean =
     let clean_mid : HasCleanDisk (state g.S.Store mid) = omega (arith, clean_end, ended.survives.clean) in
     subst (λ h. IsUndone (state g.S.Store old) (state g.S.Store h)) same
     (λ books rests held. rests_settled g.S.Store old mid end books c.in-Err.ensures.same.survives (c.in-Err.ensures.same.kept clean_mid) (ended.undone clean_end) ended.survives clean_end rests)
+
+pub returns-in-Ok-clause-decided : goal.returns-in-Ok-clause-decided
+returns-in-Ok-clause-decided g c = accepted_told _ _ c.accepted.ensures

@@ -12,3 +12,6 @@ pub returns-in-Shows-clause-works : goal.returns-in-Shows-clause-works
 returns-in-Shows-clause-works g c clean = λ books holds held.
     let it = (rw c.in-Shows.is at (c.in_ok-reply.ensures.works clean)) books holds (held.0, held.1) held.2 in
     (it.0, rows_by_branch _ (rules_of c.args.limits) c.args.branch (seen_request c.args.request.now) books it.1)
+
+pub returns-in-Answered-clause-decided : goal.returns-in-Answered-clause-decided
+returns-in-Answered-clause-decided g c = rw c.in-Answered.is at c.in_ok-reply.ensures.decided

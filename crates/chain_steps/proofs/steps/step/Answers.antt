@@ -216,3 +216,9 @@ returns-in-Ok-Shows-clause-crash g c =
     leaves_then c.args.limits (asker c.args.asked.now) (asked_of c.args.asked.now) (IsHeldBy (IsKnownFor c.args.asked.now) c.args.films.now) (state g.S.Store old) (state g.S.Store back) (state g.S.Store end)
     (leaves_nothing c.args.limits (asker c.args.asked.now) (asked_of c.args.asked.now) (IsHeldBy (IsKnownFor c.args.asked.now) c.args.films.now) (state g.S.Store old) (state g.S.Store mid) (state g.S.Store back) (survives_begin g.S.Store old (state g.S.Store mid) _ inside.survives) c.rollback-in-Ok-Shows.ensures.survives)
     (subst (λ h. Survives (state g.S.Store h) (state g.S.Store end) (λ _. ⊥)) (sym same) c.show.ensures.crash)
+
+pub returns-in-Ok-clause-decided : goal.returns-in-Ok-clause-decided
+returns-in-Ok-clause-decided g c = rw c.in-Ok-Done-default-true.field-0-is at c.in-Ok-Done-default-true.ensures.decided
+
+pub returns-in-Ok-Done-default-false-clause-decided : goal.returns-in-Ok-Done-default-false-clause-decided
+returns-in-Ok-Done-default-false-clause-decided g c = rw c.in-Ok-Done-default-false.field-0-is at c.in-Ok-Done-default-false.ensures.decided

@@ -1,13 +1,13 @@
-use Rattle.std.proofs.Common.{◌∙◌, sym, ap}
+use Rattle.std.proofs.Common.{◌∙◌, inr, sym, ap}
 use Rattle.shop_model.specs.Histories.{is_store_failure}
 use Rattle.http_messages.specs.Message.{Message}
 use Rattle.http_messages.specs.Shown.{message_of}
-use Rattle.shop_types.specs.Seen.{seen_caller}
+use Rattle.shop_types.specs.Seen.{seen_caller, seen_refusal}
 use Rattle.counter_routes.specs.Words.{Meaning}
 use Rattle.counter_routes.specs.Readings.{reading_of}
 use Rattle.chain_engine.specs.Holding.{Chained, holding}
 use Rattle.counter_http.specs.Events.{sender_of}
-use Rattle.counter_http.proofs.AnswerLemmas.{nobody_answers, sent_by, store_answers, read_answers}
+use Rattle.counter_http.proofs.AnswerLemmas.{nobody_answers, reads_decided, sent_by, store_answers, read_answers}
 use Rattle.chain_engine.proofs.Taking.{takes_still, takes_then}
 use Rattle.chain_engine.proofs.Requests.{refused_takes}
 use Rattle.counter_http.proofs.answer.answer.Goals as goal
@@ -31,14 +31,20 @@ pub returns-in-Ok-clause-taken : goal.returns-in-Ok-clause-taken
 returns-in-Ok-clause-taken g c =
     let meaning : Meaning = g.O.OfficeWords.meaning c.args.words.now in
     let message : Message = message_of c.args.message.now in
-    takes_then c.in-Ok.ensures.taken c.answer_read-reply.ensures (λ old mid new x y.
+    takes_then c.in-Ok.ensures.taken c.answer_read-reply.ensures.taken (λ old mid new x y.
     read_answers meaning message (seen_caller c.in-Ok.caller) c.read-read.result _ old mid new c.read-read.ensures.reading (sent_by message _ _ old (sym c.in-Some.ensures) x.0) x.1 x.2 y)
 
+pub returns-in-Err-clause-told : goal.returns-in-Err-clause-told
+returns-in-Err-clause-told g c = inr (seen_refusal c.in-Err.refusal, c.refused.ensures)
+
+pub returns-in-Err-clause-fails : goal.returns-in-Err-clause-fails
+returns-in-Err-clause-fails g c = c.in-Err.ensures.fails ∙ sym (ap is_store_failure c.refused.ensures)
+
 pub returns-in-Err-clause-failed : goal.returns-in-Err-clause-failed
-returns-in-Err-clause-failed g c was =
-    let it = c.in-Err.ensures.failed was in
-    let still = ap (λ (x : Chained _). x.is_failed) it.0 ∙ was in
-    (it.0, ap is_store_failure c.refused.ensures ∙ sym c.in-Err.ensures.fails ∙ still)
+returns-in-Err-clause-failed g c was = (c.in-Err.ensures.failed was).0
 
 pub returns-in-Ok-clause-failed : goal.returns-in-Ok-clause-failed
-returns-in-Ok-clause-failed g c was = let no = (c.in-Ok.ensures.failed was).1 in absurd cc
+returns-in-Ok-clause-failed g c was = let no = (c.in-Ok.ensures.failed was).1 in cc
+
+pub answer_read-reply-requires-clause-decided : goal.answer_read-reply-requires-clause-decided
+answer_read-reply-requires-clause-decided g c = reads_decided c.read-read.result _ c.read-read.ensures.reading

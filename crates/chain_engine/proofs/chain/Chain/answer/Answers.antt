@@ -1,21 +1,35 @@
-use Rattle.std.proofs.Common.{◌≡◌, ◌∙◌, sym, ap}
-use Rattle.std.proofs.lemmas.Bool.{false≢true}
+use Rattle.std.proofs.Common.{◌≡◌, ◌∙◌, inr, sym, ap}
+use Rattle.shop_model.specs.Refusals.{Decision, NoCounter, NoRoute, StoreFailed}
+use Rattle.shop_model.specs.Machine.{Sorry}
 use Rattle.shop_model.specs.Histories.{is_store_failure}
 use Rattle.shop_model.proofs.Histories.{failed_failure}
 use Rattle.chain_calls.specs.Holding.{Chained}
+use Rattle.chain_calls.proofs.Failures.{decided_fine}
 use Rattle.chain_engine.proofs.chain.Chain.answer.Goals as goal
 
+pub returns-then-self-clause-told : goal.returns-then-self-clause-told
+returns-then-self-clause-told g c = inr (StoreFailed, c.refused.ensures)
+
+pub returns-in-Nobody-clause-told : goal.returns-in-Nobody-clause-told
+returns-in-Nobody-clause-told g c = inr (Decision NoCounter, c.refused-in-Nobody.ensures)
+
+pub returns-in-Do-clause-told : goal.returns-in-Do-clause-told
+returns-in-Do-clause-told g c = inr (Decision NoRoute, c.refused-in-Do.ensures)
+
 pub returns-then-self-clause-fails : goal.returns-then-self-clause-fails
-returns-then-self-clause-fails g c now = ap is_store_failure c.refused.ensures ∙ failed_failure
+returns-then-self-clause-fails g c =
+    let inside = c.self.inside in
+    let is : record { limits = inside.limits; is_failed = inside.is_failed; films = inside.films; callers = inside.callers; conn = inside.conn } ≡ c.args.self.now = c.self.view_is in
+    sym (ap (λ (x : Chained _). x.is_failed) is) ∙ c.if-self.true ∙ sym (ap is_store_failure c.refused.ensures ∙ failed_failure)
 
 pub returns-in-Nobody-clause-fails : goal.returns-in-Nobody-clause-fails
-returns-in-Nobody-clause-fails g c now =
+returns-in-Nobody-clause-fails g c =
     let inside = c.self.inside in
     let is : record { limits = inside.limits; is_failed = inside.is_failed; films = inside.films; callers = inside.callers; conn = inside.conn } ≡ c.args.self.now = c.self.view_is in
-    absurd (false≢true (sym c.if-self.false ∙ ap (λ (x : Chained _). x.is_failed) is ∙ now))
+    sym (ap (λ (x : Chained _). x.is_failed) is) ∙ c.if-self.false ∙ sym (ap is_store_failure c.refused-in-Nobody.ensures ∙ decided_fine (Sorry NoCounter))
 
 pub returns-in-Do-clause-fails : goal.returns-in-Do-clause-fails
-returns-in-Do-clause-fails g c now =
+returns-in-Do-clause-fails g c =
     let inside = c.self.inside in
     let is : record { limits = inside.limits; is_failed = inside.is_failed; films = inside.films; callers = inside.callers; conn = inside.conn } ≡ c.args.self.now = c.self.view_is in
-    absurd (false≢true (sym c.if-self.false ∙ ap (λ (x : Chained _). x.is_failed) is ∙ now))
+    sym (ap (λ (x : Chained _). x.is_failed) is) ∙ c.if-self.false ∙ sym (ap is_store_failure c.refused-in-Do.ensures ∙ decided_fine (Sorry NoRoute))

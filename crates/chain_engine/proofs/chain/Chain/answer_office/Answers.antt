@@ -1,4 +1,4 @@
-use Rattle.std.proofs.Common.{◌≡◌, ◌∙◌, refl, sym, ap, subst, arith, false}
+use Rattle.std.proofs.Common.{◌≡◌, ◌∙◌, inr, refl, sym, ap, subst, arith, false}
 use Rattle.std.proofs.lemmas.Bool.{false≢true}
 use Rattle.sqlite.specs.Held.{state}
 use Rattle.shop_model.specs.Answers.{problem_answer}
@@ -13,6 +13,7 @@ use Rattle.chain_calls.specs.Steps.{IsHeldWith}
 use Rattle.chain_calls.specs.Decisions.{refusal_for, is_final}
 use Rattle.chain_calls.proofs.Requests.{came, unmade}
 use Rattle.chain_calls.proofs.Asking.{office_read, office_unread}
+use Rattle.chain_calls.proofs.Failures.{decision_fine}
 use Rattle.chain_engine.proofs.Failing.{fails_by}
 use Rattle.chain_engine.proofs.chain.Chain.answer_office.Goals as goal
 
@@ -43,18 +44,23 @@ returns-in-Err-clause-taken g c =
     rw tells (subst (λ x. Takes g.S.Store c.args.self.now x (Answers HeadOffice request (problem_answer (seen_refusal (refusal_for c.in-Err.fault))))) so
     (subst (λ x. Takes g.S.Store x new (Answers HeadOffice request (problem_answer (seen_refusal (refusal_for c.in-Err.fault))))) is taken))
 
+pub returns-in-Ok-clause-told : goal.returns-in-Ok-clause-told
+returns-in-Ok-clause-told g c = c.in-Ok.ensures.decided.told
+
 pub returns-in-Ok-clause-fails : goal.returns-in-Ok-clause-fails
-returns-in-Ok-clause-fails g c now =
+returns-in-Ok-clause-fails g c =
     let inside = c.self.inside in
     let is : record { limits = inside.limits; is_failed = inside.is_failed; films = inside.films; callers = inside.callers; conn = inside.conn } ≡ c.args.self.now = c.self.view_is in
     let fine : inside.is_failed ≡ false = ap (λ (x : Chained _). x.is_failed) is ∙ c.requires in
-    absurd (false≢true (sym fine ∙ now))
+    fine ∙ sym (decision_fine (seen_reply c.in-Ok.reply) c.in-Ok.ensures.decided.decided)
+
+pub returns-in-Err-clause-told : goal.returns-in-Err-clause-told
+returns-in-Err-clause-told g c = inr (seen_refusal c.refusal.result, c.refused.ensures)
 
 pub returns-in-Err-clause-fails : goal.returns-in-Err-clause-fails
-returns-in-Err-clause-fails g c now =
+returns-in-Err-clause-fails g c =
     let inside = c.self.inside in
     let is : record { limits = inside.limits; is_failed = inside.is_failed; films = inside.films; callers = inside.callers; conn = inside.conn } ≡ c.args.self.now = c.self.view_is in
     let fine : inside.is_failed ≡ false = ap (λ (x : Chained _). x.is_failed) is ∙ c.requires in
     let tells = c.refused.ensures ∙ ap (λ r. problem_answer (seen_refusal r)) c.refusal.ensures.told in
-    let says : c.refusal.new.self.is_failed ≡ is_store_failure (seen_reply c.refused.result) = ap (λ (x : Chained _). x.is_failed) c.refusal.ensures.failed ∙ fails_by inside.is_failed c.in-Err.fault (λ was. absurd (false≢true (sym fine ∙ was))) ∙ sym (ap is_store_failure tells) in
-    sym says ∙ now
+    ap (λ (x : Chained _). x.is_failed) c.refusal.ensures.failed ∙ fails_by inside.is_failed c.in-Err.fault (λ was. absurd (false≢true (sym fine ∙ was))) ∙ sym (ap is_store_failure tells)

@@ -1,6 +1,6 @@
-use Rattle.std.proofs.Common.{◌∙◌, ap, sym}
+use Rattle.std.proofs.Common.{◌∙◌, ap, sym, inr}
 use Rattle.shop_model.specs.Books.{caller_in}
-use Rattle.shop_types.specs.Seen.{seen_request}
+use Rattle.shop_types.specs.Seen.{seen_refusal, seen_request}
 use Rattle.chain_calls.specs.Chains.{event_of}
 use Rattle.chain_calls.proofs.Requests.{event_answered, store_refuses, refused_takes}
 use Rattle.chain_calls.proofs.Taking.{takes_then}
@@ -15,5 +15,8 @@ returns-in-Err-clause-taken g c = refused_takes c.in-Err.refusal
     (λ old. caller_in (event_of (c.args.token.now, c.args.request.now)) old.books) (λ _. seen_request c.args.request.now) c.in-Err.ensures.taken (λ old new x.
     rw c.refused.ensures (store_refuses (caller_in (event_of (c.args.token.now, c.args.request.now)) old.books) (seen_request c.args.request.now) c.in-Err.refusal old new x))
 
+pub returns-in-Err-clause-told : goal.returns-in-Err-clause-told
+returns-in-Err-clause-told g c = inr (seen_refusal c.in-Err.refusal, c.refused.ensures)
+
 pub returns-in-Err-clause-fails : goal.returns-in-Err-clause-fails
-returns-in-Err-clause-fails g c now = ap is_store_failure c.refused.ensures ∙ sym c.in-Err.ensures.fails ∙ now
+returns-in-Err-clause-fails g c = c.in-Err.ensures.fails ∙ sym (ap is_store_failure c.refused.ensures)

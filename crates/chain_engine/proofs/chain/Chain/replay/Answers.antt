@@ -1,12 +1,17 @@
 use Rattle.std.proofs.Common.{◌≡◌, ◌∙◌, ℕ, ◌+◌, ◌++◌, ◌∷◌, [], List, take, map, refl, true, sym, ap, arith}
+use Rattle.std.proofs.Math.Bool.{or-false}
 use Rattle.std.proofs.lemmas.List.{take_more, take_all, map-append}
+use Rattle.std.proofs.lemmas.List.Elements.{All-nil, All-push}
 use Rattle.shop_model.specs.Answers.{Answer, problem_answer}
 use Rattle.shop_model.specs.Refusals.{StoreFailed}
+use Rattle.shop_model.specs.Histories.{has_failed, is_store_failure}
+use Rattle.shop_model.proofs.Histories.{failed_failure, failed_more}
 use Rattle.shop_types.specs.declared.request.Request.{Request}
 use Rattle.shop_types.specs.Replies.{seen_reply}
 use Rattle.chain_calls.specs.Holding.{Chained}
 use Rattle.chain_calls.specs.Chains.{event_of}
-use Rattle.chain_calls.proofs.Running.{runs_none, runs_more}
+use Rattle.chain_calls.specs.Steps.{IsTold}
+use Rattle.chain_calls.proofs.Running.{has_failed_then, runs_none, runs_more}
 use Rattle.chain_calls.proofs.Taking.{takes_same, takes_then}
 use Rattle.chain_engine.proofs.chain.Chain.replay.Goals as goal
 
@@ -16,7 +21,7 @@ push_reserved-requires g c = omega (arith, c.loop-token.invariant.0, c.loop-toke
 pub loop-token-init : goal.loop-token-init
 loop-token-init g c =
     let none = c.in_ok-replies.ensures.items in
-    (c.in_ok-replies.ensures.len, c.in_ok-replies.ensures.capacity, rw none (takes_same runs_none), λ was. (refl, rw none refl))
+    (c.in_ok-replies.ensures.len, c.in_ok-replies.ensures.capacity, rw none (takes_same runs_none), rw none (All-nil IsTold), rw none (sym (or-false c.args.self.now.is_failed)), λ was. (refl, rw none refl))
 
 pub loop-token-preserved : goal.loop-token-preserved
 loop-token-preserved g c =
@@ -38,8 +43,11 @@ loop-token-preserved g c =
       omega (arith, c.push_reserved.ensures.len, inv.0),
       omega (arith, c.push_reserved.ensures.capacity, inv.1),
       takes_then inv.2 c.answer_with-reply.ensures.taken (λ old mid new x y. rw (asked, told) (runs_more old mid new events done (event_of it) answer x y)),
+      rw told (All-push IsTold done answer inv.3 c.answer_with-reply.ensures.told),
+      rw (told, failed_more done answer) (has_failed_then c.args.self.now.is_failed (has_failed done) c.loop-token.self.is_failed c.answer_with-reply.new.self.is_failed (is_store_failure answer)
+      inv.4 c.answer_with-reply.ensures.fails (λ still. ap is_store_failure (c.answer_with-reply.ensures.failed still).1 ∙ failed_failure)),
       λ was.
-          let before = inv.3 was in
+          let before = inv.5 was in
           let still : c.loop-token.self.is_failed ≡ true = ap (λ (x : Chained _). x.is_failed) before.0 ∙ was in
           let one = c.answer_with-reply.ensures.failed still in
           (one.0 ∙ before.0, rw (longer, told, before.1, one.1) refl),
@@ -55,4 +63,10 @@ pub returns-clause-failed : goal.returns-clause-failed
 returns-clause-failed g c was =
     let requests = c.args.requests.now in
     let all : take c.loop-token.token-index requests ≡ requests = take_all c.loop-token.token-index requests c.loop-token-test.false in
-    rw all at (c.loop-token.invariant.3 was)
+    rw all at (c.loop-token.invariant.5 was)
+
+pub returns-clause-told : goal.returns-clause-told
+returns-clause-told g c = c.loop-token.invariant.3
+
+pub returns-clause-fails : goal.returns-clause-fails
+returns-clause-fails g c = c.loop-token.invariant.4

@@ -1,6 +1,7 @@
-use Rattle.std.proofs.Common.{drop, [], None, refl, arith}
+use Rattle.std.proofs.Common.{◌≡◌, ◌∙◌, drop, [], None, refl, sym, arith}
 use Rattle.http_messages.specs.Input.{HasMessage}
 use Rattle.http_messages.specs.Shown.{message_of}
+use Rattle.shop_model.specs.Histories.{is_store_failure}
 use Rattle.shop_types.specs.Replies.{seen_reply}
 use Rattle.counter_http.specs.Exchanges.{Exchange}
 use Rattle.counter_http.specs.Served.{IsRefused}
@@ -15,8 +16,10 @@ returns-in-Whole-clause-turn g c = λ input output.
     let has : HasMessage c.self.inside.inbox (message_of c.in-Whole.request) (drop c.in-Whole.len c.self.inside.inbox) = rw c.bytes.ensures.value at c.in-Whole.ensures.1 in
     let e : Exchange = record { message = message_of c.in-Whole.request; answer = seen_reply c.answer-reply.result } in
     let near = drop_near c.in-Whole.len c.self.inside.inbox c.self.invariant.1 in
+    let failed : is_store_failure e.answer ≡ c.is_failed.result = sym c.answer-reply.ensures.fails ∙ sym c.is_failed.ensures in
+    let answered = c.answer-reply.ensures in
     rw (← c.self.view_is) (turn_answer _ _ _ input output e empty live (rw c.consume.ensures has) (rw c.consume.ensures near) c.put.ensures refl refl
-    (c.ending_of-self-inside.ensures e input _ c.after_reply-after.ensures) (run_one e c.answer-reply.ensures.taken c.answer-reply.ensures.failed))
+    (c.ending_of-self-inside.ensures e input _ (c.after_reply-after.ensures e.answer failed)) (run_one e answered.taken answered.told answered.fails answered.failed))
 
 pub returns-in-More-clause-turn : goal.returns-in-More-clause-turn
 returns-in-More-clause-turn g c = λ input output.
@@ -38,7 +41,8 @@ pub invariant_of-self : goal.invariant_of-self
 invariant_of-self g c = (
   (λ none.
       let e : Exchange = record { message = message_of c.in-Whole.request; answer = seen_reply c.answer-reply.result } in
-      let goes = rw none at (c.ending_of-self-inside.ensures e None [] c.after_reply-after.ensures) in
+      let failed : is_store_failure e.answer ≡ c.is_failed.result = sym c.answer-reply.ensures.fails ∙ sym c.is_failed.ensures in
+      let goes = rw none at (c.ending_of-self-inside.ensures e None [] (c.after_reply-after.ensures e.answer failed)) in
       omega (arith, goes.1)),
   rw c.consume.ensures (drop_near c.in-Whole.len c.self.inside.inbox c.self.invariant.1),
 )

@@ -1,6 +1,6 @@
 use Rattle.sql_rows.proofs.Inside.{on_ok_then}
-use Rattle.shop_schema.proofs.MigrateTexts.{version_stays, version_keyed, version_left, version_set}
-use Rattle.shop_schema.proofs.migrating.set_version.Goals as goal
+use Rattle.shop_migration.proofs.MigrateTexts.{version_stays, version_keyed, version_left, version_set}
+use Rattle.shop_migration.proofs.set_version.Goals as goal
 
 pub returns-clause-set : goal.returns-clause-set
 returns-clause-set g c clean = on_ok_then c.execute.result (λ ran terms rule books holds. version_set _ _ ran.0 ran.1 terms rule books holds) (c.execute.ensures.ran clean)

@@ -1,9 +1,9 @@
 use Rattle.sql_rows.proofs.Inside.{on_ok_then}
 use Rattle.sql_rows.proofs.Stays.{clean_before}
 use Rattle.sqlite.specs.Held.{state}
-use Rattle.shop_schema.proofs.MigrateTexts.{all_migrated}
-use Rattle.shop_schema.proofs.MigrateBack.{tells_still, stood}
-use Rattle.shop_schema.proofs.migrating.migrate_tables.Goals as goal
+use Rattle.shop_migration.proofs.MigrateTexts.{all_migrated}
+use Rattle.shop_migration.proofs.MigrateBack.{tells_still, stood}
+use Rattle.shop_migration.proofs.migrate_tables.Goals as goal
 
 pub returns-clause-migrated : goal.returns-clause-migrated
 returns-clause-migrated g c clean =

@@ -1,6 +1,6 @@
 use Rattle.sql_rows.proofs.Inside.{on_ok_then}
-use Rattle.shop_schema.proofs.MigrateTexts.{rule_stays, rule_keyed, rule_left, rule_put}
-use Rattle.shop_schema.proofs.migrating.put_rule.Goals as goal
+use Rattle.shop_migration.proofs.MigrateTexts.{rule_stays, rule_keyed, rule_left, rule_put}
+use Rattle.shop_migration.proofs.put_rule.Goals as goal
 
 pub returns-clause-put : goal.returns-clause-put
 returns-clause-put g c clean = on_ok_then c.execute.result (λ ran terms books holds. rule_put _ _ ran.0 ran.1 terms books holds) (c.execute.ensures.ran clean)

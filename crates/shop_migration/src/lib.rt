@@ -1,4 +1,5 @@
 //! How the tables of version 1 become those of version 2.
+#![tactic(auto)]
 
 ghost use Rattle.std.specs.Prelude.{◌∷◌, [], List, OnOk};
 ghost use Rattle.sqlite.specs.Held.{state};
@@ -10,7 +11,7 @@ ghost use Rattle.shop_model.specs.Values.{ByCode, Rules, Text};
 ghost use Rattle.shop_model.specs.Books.{Books};
 ghost use Rattle.shop_model.specs.Migration.{IsSoundWithoutTerms, migrated};
 ghost use Rattle.shop_schema.specs.Columns.{this_version, first_version, rule_columns};
-ghost use Rattle.shop_schema.specs.Migrating.{AddsTables, IsUnderWay, Migrates, PutsRule, SetsVersion, StoodForSame, Tells};
+ghost use Rattle.shop_migration.specs.Migrating.{AddsTables, IsUnderWay, Migrates, PutsRule, SetsVersion, StoodForSame, Tells};
 ghost use Rattle.shop_schema.specs.Shop.{IsShop, IsKeyed, IsFirstShop, IsFirstKeyed, term_rows, HoldsVersion1};
 ghost use Rattle.shop_schema.specs.Tables.{shop_schema};
 

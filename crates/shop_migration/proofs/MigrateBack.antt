@@ -15,10 +15,10 @@ use Rattle.shop_model.specs.Books.{Books}
 use Rattle.shop_model.specs.Migration.{without_terms}
 use Rattle.shop_schema.specs.Columns.{this_version, first_version, versioned_columns, rule_columns}
 use Rattle.shop_schema.specs.Counts.{counts_of}
-use Rattle.shop_schema.specs.Migrating.{AddsTables, PutsRule, SetsVersion, Tells}
+use Rattle.shop_migration.specs.Migrating.{AddsTables, PutsRule, SetsVersion, Tells}
 use Rattle.shop_schema.specs.Shop.{StandsFor, StandsForVersion1, TermedRows}
 use Rattle.shop_schema.specs.Tables.{shop_schema, version_1_schema, later_tables, chain_table}
-use Rattle.shop_schema.proofs.MigrateTexts.{first_part, last_part}
+use Rattle.shop_migration.proofs.MigrateTexts.{first_part, last_part}
 use Rattle.shop_schema.proofs.Stands.{none_has, differ, first_rows, first_listed, first_named, one_changed}
 
 -- ---- a table's one row

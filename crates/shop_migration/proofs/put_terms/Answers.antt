@@ -1,6 +1,6 @@
 use Rattle.sql_rows.proofs.Inside.{on_ok_then}
-use Rattle.shop_schema.proofs.MigrateTexts.{terms_stay, terms_keyed, terms_left, terms_put}
-use Rattle.shop_schema.proofs.migrating.put_terms.Goals as goal
+use Rattle.shop_migration.proofs.MigrateTexts.{terms_stay, terms_keyed, terms_left, terms_put}
+use Rattle.shop_migration.proofs.put_terms.Goals as goal
 
 pub returns-clause-put : goal.returns-clause-put
 returns-clause-put g c clean = on_ok_then c.execute.result (λ ran rules books sound holds. terms_put _ _ ran.0 ran.1 rules books sound holds) (c.execute.ensures.ran clean)

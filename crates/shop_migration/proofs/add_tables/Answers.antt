@@ -1,7 +1,7 @@
 use Rattle.sql_rows.proofs.Inside.{on_ok_then}
 use Rattle.sql_rows.proofs.Stays.{clean_before}
-use Rattle.shop_schema.proofs.MigrateTexts.{tables_made, tables_keyed, tables_left, tables_added}
-use Rattle.shop_schema.proofs.migrating.add_tables.Goals as goal
+use Rattle.shop_migration.proofs.MigrateTexts.{tables_made, tables_keyed, tables_left, tables_added}
+use Rattle.shop_migration.proofs.add_tables.Goals as goal
 
 pub returns-clause-added : goal.returns-clause-added
 returns-clause-added g c clean =

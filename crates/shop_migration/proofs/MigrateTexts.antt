@@ -50,7 +50,7 @@ use Rattle.shop_schema.specs.Tables.{shop_schema, version_1_schema, later_tables
 use Rattle.shop_schema.specs.Columns.{this_version, first_version, versioned_columns, film_columns, copy_columns, rental_columns, terms_columns, rule_columns}
 use Rattle.shop_schema.specs.Counts.{counts_of}
 use Rattle.shop_schema.specs.Shop.{IsShop, IsFirstShop, StandsAs, AreTermed, HoldsVersion1, Holds, term_rows, rule_rows, IsKeyed, IsFirstKeyed}
-use Rattle.shop_schema.specs.Migrating.{AddsTables, IsUnderWay, PutsRule, SetsVersion, Tells}
+use Rattle.shop_migration.specs.Migrating.{AddsTables, IsUnderWay, PutsRule, SetsVersion, Tells}
 use Rattle.shop_schema.proofs.CreateTexts.{rental_terms_text, chain_rule_text, makes_rental_terms, makes_chain_rule}
 use Rattle.shop_schema.proofs.Stands.{HaveRows, first_rows, rows_as, first_listed, listed, named, for_own, have_append, have_moved, stands_as_but}
 use Rattle.shop_schema.proofs.Listed.{own_rows}

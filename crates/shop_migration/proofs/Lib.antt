@@ -1,0 +1,2 @@
+pub mod MigrateTexts
+pub mod MigrateBack
