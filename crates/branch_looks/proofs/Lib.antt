@@ -1,13 +1,2 @@
-pub mod Decisions
-pub mod Readings
-pub mod Chained
-pub mod Lookings
-pub mod FilmLemmas
+pub use Rattle.branch_reports.proofs.Decisions
 pub mod Shows
-pub mod TermLemmas
-pub mod Knowing
-pub mod RewardLemmas
-pub mod MonthLemmas
-pub mod Stocks
-pub mod Parcels
-pub mod Among

@@ -1,4 +1,3 @@
-pub mod Finds
+pub use Rattle.branch_reports.specs.Told
+pub use Rattle.branch_reports.specs.Looked
 pub mod Looks
-pub mod Told
-pub mod Commands

@@ -1,10 +1,9 @@
 -- What a branch's reading shows.
-use Rattle.std.specs.Prelude.{ℕ}
+use Rattle.std.specs.Prelude.{ℕ, Bool, true, false, List}
 use Rattle.shop_model.specs.Values as model
 use Rattle.shop_model.specs.Values.{Ask}
-use Rattle.shop_model.specs.Machine.{look}
-use Rattle.shop_model.specs.Answers.{Answer, answer_of}
-use Rattle.shop_model.specs.Books.{Books, shop_of}
+use Rattle.shop_model.specs.Shop.{Shop}
+use Rattle.shop_model.specs.Stock.{film_in_stock, film_not_in_stock}
 use Rattle.branch_looks.specs.declared.asks.Look.{Look}
 use Rattle.branch_looks.specs.declared.asks.Look.TheVariants as one
 use Rattle.branch_looks.specs.declared.asks.Reading.{Reading}
@@ -26,6 +25,11 @@ seen_reading (reading.Overdue at) = model.Overdue at
 seen_reading reading.Arrivals = model.Arrivals
 seen_reading reading.Sent = model.SentOff
 
--- the answer to a branch's reading, by the catalogue and the branch's own shop
-abbrev pub looked : ℕ → Ask → Books → Answer
-looked b ask books = answer_of (look b books.catalogue (shop_of b books) ask)
+-- the copies that are asked for: those in stock, or those that aren't
+abbrev pub stock_asked : Bool → ℕ → Ask
+stock_asked true film = model.FilmInStock film
+stock_asked false film = model.FilmNotInStock film
+
+abbrev pub stock_listed : Bool → ℕ → Shop → List ℕ
+stock_listed true film shop = film_in_stock film shop
+stock_listed false film shop = film_not_in_stock film shop

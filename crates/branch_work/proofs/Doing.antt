@@ -10,7 +10,7 @@ use Rattle.shop_model.specs.Machine.{Request, Do, Look, Done, Sorry, reply_to, r
 use Rattle.shop_model.specs.Answers.{Answer, answer_of}
 use Rattle.shop_model.specs.Books.{Books, Caller, Counter, shop_of, book_done, branch_after}
 use Rattle.shop_schema.specs.Shop.{Holds}
-use Rattle.branch_looks.specs.Looks.{looked}
+use Rattle.branch_looks.specs.Looked.{looked}
 use Rattle.branch_work.specs.Rules.{rules_of}
 use Rattle.branch_work.specs.Works.{told_to, left_by, GoesBy, IsDone}
 

@@ -6,7 +6,7 @@ use Rattle.shop_model.specs.Machine.{given, CustomerIs}
 use Rattle.shop_model.specs.Answers.{answer_of, accepted_answer}
 use Rattle.shop_types.specs.Seen.{seen_customer}
 use Rattle.shop_store.specs.declared.customers.CustomerRow.{CustomerRow}
-use Rattle.branch_looks.proofs.Decisions.{accepted_told, refused_told}
+use Rattle.branch_reports.proofs.Decisions.{accepted_told, refused_told}
 use Rattle.branch_looks.proofs.looks.look_customer.Goals as goal
 
 pub returns-in_ok-customer_text-in-Some-clause-shown : goal.returns-in_ok-customer_text-in-Some-clause-shown

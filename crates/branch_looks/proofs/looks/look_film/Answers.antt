@@ -6,7 +6,7 @@ use Rattle.shop_model.specs.Machine.{given, FilmIs}
 use Rattle.shop_model.specs.Answers.{answer_of, accepted_answer}
 use Rattle.shop_store.specs.SharedSeen.{seen_film_row}
 use Rattle.shop_store.specs.declared.films.FilmRow.{FilmRow}
-use Rattle.branch_looks.proofs.Decisions.{accepted_told, refused_told}
+use Rattle.branch_reports.proofs.Decisions.{accepted_told, refused_told}
 use Rattle.branch_looks.proofs.looks.look_film.Goals as goal
 
 pub returns-in_ok-film_text-in-Some-clause-shown : goal.returns-in_ok-film_text-in-Some-clause-shown

@@ -11,9 +11,9 @@ use Rattle.shop_model.specs.Books.{head, shop_of}
 use Rattle.shop_model.specs.Rows.{at}
 use Rattle.shop_model.specs.Stock.{film_in_stock, film_not_in_stock}
 use Rattle.branch_core.specs.Agreed.{AreOfFilm}
-use Rattle.branch_looks.specs.Finds.{stock_asked, stock_listed}
-use Rattle.branch_looks.proofs.Shows.{given_none, given_some}
-use Rattle.branch_looks.proofs.Decisions.{accepted_told, refused_told}
+use Rattle.branch_looks.specs.Looks.{stock_asked, stock_listed}
+use Rattle.branch_reports.proofs.Given.{given_none, given_some}
+use Rattle.branch_reports.proofs.Decisions.{accepted_told, refused_told}
 use Rattle.branch_looks.proofs.looks.look_film_copies.Goals as goal
 
 no_film : (is_in : Bool) (b film : ℕ) (catalogue : Catalogue) (shop : Shop) → None ≡ head (map withdrawn_of (at film catalogue.films)) → look b catalogue shop (stock_asked is_in film) ≡ Sorry NoFilm

@@ -13,7 +13,7 @@ use Rattle.shop_model.specs.Books.{shop_of}
 use Rattle.shop_store.specs.Seen.{seen_copy_now}
 use Rattle.shop_store.specs.declared.copies.CopyNow.{CopyNow}
 use Rattle.branch_looks.proofs.Shows.{first_holder}
-use Rattle.branch_looks.proofs.Decisions.{accepted_told, refused_told}
+use Rattle.branch_reports.proofs.Decisions.{accepted_told, refused_told}
 use Rattle.branch_looks.proofs.looks.look_holder.Goals as goal
 
 abbrev holder : Text → Text

@@ -8,8 +8,8 @@ use Rattle.shop_model.specs.Answers.{answer_of, accepted_answer}
 use Rattle.shop_model.specs.Books.{shop_of}
 use Rattle.shop_store.specs.Seen.{seen_copy_now}
 use Rattle.shop_store.specs.declared.copies.CopyNow.{CopyNow}
-use Rattle.branch_looks.proofs.Shows.{stock_of_out}
-use Rattle.branch_looks.proofs.Decisions.{accepted_told, refused_told}
+use Rattle.branch_finds.proofs.Shows.{stock_of_out}
+use Rattle.branch_reports.proofs.Decisions.{accepted_told, refused_told}
 use Rattle.branch_looks.proofs.looks.look_in_stock.Goals as goal
 
 abbrev told : Bool → List Copy → Reply

@@ -9,7 +9,8 @@ use Rattle.shop_types.specs.declared.request.Request.TheVariants as request
 use Rattle.shop_types.specs.Seen.{seen_ask, seen_request}
 use Rattle.shop_types.specs.Replies.{seen_reply}
 use Rattle.shop_ledger.specs.Standings.{IsStanding}
-use Rattle.branch_looks.specs.Looks.{looked, seen_look, seen_reading}
+use Rattle.branch_looks.specs.Looked.{looked}
+use Rattle.branch_looks.specs.Looks.{seen_look, seen_reading}
 use Rattle.branch_work.specs.Works.{IsDone}
 use Rattle.sql_rows.proofs.Stays.{inside_then, inside_as, inside_err, within_of}
 use Rattle.branch_work.proofs.Doing.{nobody_done, kept_done, look_done}

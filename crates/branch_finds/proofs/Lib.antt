@@ -1,0 +1,7 @@
+pub mod Readings
+pub mod Lookings
+pub mod FilmLemmas
+pub mod Shows
+pub mod TermLemmas
+pub mod Knowing
+pub mod Stocks

@@ -1,0 +1,27 @@
+-- What is found of one row tells what the books have of it.
+use Rattle.std.proofs.Common.{◌≡◌, ◌∙◌, ap, sym, Bool, List, [], ◌∷◌, map, Option, Some, None, option_map}
+use Rattle.std.specs.Option.{option_to_list}
+use Rattle.shop_model.specs.Rows.{at}
+use Rattle.shop_model.specs.Values.{Copy}
+use Rattle.shop_model.specs.Shop.{Catalogue}
+use Rattle.shop_model.specs.Stock.{is_here}
+use Rattle.shop_model.specs.Verdict.{is_film_withdrawn}
+use Rattle.shop_store.specs.SharedSeen.{withdrawn_of}
+use Rattle.branch_finds.specs.Finds.{is_yes}
+use Rattle.branch_finds.proofs.Readings.{at_most_one}
+use Rattle.shop_model.specs.Books.{head}
+
+pub head_of : {X Y Z : Type 0} (f : X → Y) (g : Y → Z) (o : Option X) (l : List Y) → option_to_list (option_map f o) ≡ l → option_map (λ x. g (f x)) o ≡ head (map g l)
+head_of f g None l is = ap (λ l. head (map g l)) is
+head_of f g (Some x) l is = ap (λ l. head (map g l)) is
+
+-- whether the copy is here, whether its film is withdrawn, and whether it is out as is said
+abbrev pub shown : Catalogue → Bool → Copy → Bool × Bool × Bool
+shown catalogue out it = (is_here it, is_film_withdrawn catalogue it.film, out)
+
+-- the copy, and whether its film is withdrawn
+pub copy_told : (catalogue : Catalogue) (copy : Copy) (copies : List Copy) (withdrawn : Option Bool) (out : Bool) → copy ∷ [] ≡ copies → withdrawn ≡ head (map withdrawn_of (at copy.film catalogue.films))
+    → ◌≡◌ {A = Option (Bool × Bool × Bool)} (Some (is_here copy, is_yes withdrawn, out)) (head (map (shown catalogue out) copies))
+copy_told catalogue copy copies withdrawn out found told =
+    let film : is_yes withdrawn ≡ is_film_withdrawn catalogue copy.film = ap is_yes told ∙ sym (at_most_one copy.film catalogue.films) in
+    ap (λ (b : Bool). let p : Option (Bool × Bool × Bool) = Some (is_here copy, b, out) in p) film ∙ ap (λ (l : List Copy). head (map (shown catalogue out) l)) found

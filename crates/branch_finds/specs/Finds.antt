@@ -1,0 +1,25 @@
+-- What is found of rows.
+use Rattle.std.specs.Prelude.{ℕ, Bool, false, List, Option, Some, None}
+use Rattle.shop_model.specs.Values.{Rental}
+use Rattle.shop_model.specs.Stock.{is_here, in_stock}
+use Rattle.shop_model.specs.Books.{Books, unmarked}
+use Rattle.chain_caches.specs.Films.{AreRows, KnownFilms}
+use Rattle.shop_store.specs.declared.copies.CopyRow.{CopyRow}
+use Rattle.shop_store.specs.Seen.{seen_copy_row}
+
+-- yes, where there is an answer
+abbrev pub is_yes : Option Bool → Bool
+is_yes None = false
+is_yes (Some b) = b
+
+-- ---- the copies of a film
+
+-- a copy's number, whether it is here, and whether it is in stock by the rentals of the branch
+abbrev pub copy_shown : List Rental → CopyRow → ℕ × Bool × Bool
+copy_shown rentals row = (row.number, is_here (unmarked (seen_copy_row row).it), in_stock row.number rentals)
+
+-- ---- films
+
+-- where the films that were known are rows of the books, this is so, and those that are known then are rows too
+abbrev pub Knows : {X : Type 0} → KnownFilms → KnownFilms → (X → Books → Type 0) → X → Books → Type 0
+Knows before after Says found books = AreRows before books.catalogue.films → Says found books × AreRows after books.catalogue.films

@@ -1,0 +1,235 @@
+//! What a command's decision reads: what the tables have of the rows that the command names.
+
+ghost use Rattle.std.specs.Prelude.{◌≡◌, ◌≤◌, ℕ, map, IfOk};
+ghost use Rattle.std.specs.List.{All};
+ghost use Rattle.sqlite.specs.Held.{state};
+ghost use Rattle.sql_rows.specs.Calls.{StaysWithin};
+ghost use Rattle.shop_model.specs.Values as model;
+ghost use Rattle.shop_model.specs.Books.{shop_of};
+ghost use Rattle.shop_types.specs.Seen.{seen_act, seen_command};
+ghost use Rattle.shop_schema.specs.Calls.{Finds};
+ghost use Rattle.shop_ledger.specs.Standings.{HasStanding};
+ghost use Rattle.stock_csv.specs.Stock.{stock_of};
+ghost use Rattle.branch_core.specs.Agreed.{Agrees, RowAgrees, seen_stock};
+ghost use Rattle.branch_core.specs.Marked.{AreMarked};
+ghost use Rattle.branch_finds.specs.Finds.{Knows};
+ghost use Rattle.branch_finds.specs.Commands.{as_listed, found_row, told_row, IsKeptFor};
+ghost use Rattle.consign_finds.specs.Finds.{AgreesAt};
+
+use crate::finds::{find_copy, find_rental};
+use crate::known::find_withdrawn;
+use branch_core::{Found, RowsFound, StockFound, StockRows};
+use chain_caches::FilmCache;
+use consign_finds::{find_for_dispatch, find_for_receipt};
+use shop_ledger::{Count, CountKind, Standing, count_of};
+use shop_store::{active_at, has_city, has_lot, has_rental, staff_at};
+use shop_types::{
+    Act, BadCsv, BranchNo, Command, CopyNo, CustomerNo, KeptFound, LotName, Moment, RentalNo,
+    StockFile,
+};
+use sql_rows::StoreFault;
+use sqlite::{Alter, Transaction};
+use std::alloc::Global;
+use stock_csv::{StockFault, StockRow, read_stock};
+
+/// All that a decision on the branch's command reads, where its kept row and how the branch stands are known.
+pub fn find_for_command<'a, S: Alter>(
+    alloc: Global,
+    tx: &mut Transaction<'_, S>,
+    films: &mut FilmCache,
+    branch: BranchNo,
+    command: &Command,
+    standing: Standing,
+    kept: Option<KeptFound<'a>>,
+) -> Result<Found<'a>, StoreFault>
+    ensures inside { StaysWithin S.Store tx.old.conn tx.new.conn result }
+    ensures found { Finds (state S.Store tx.old.conn.now) (state S.Store tx.new.conn.now) result
+        (Knows films.old films.new (λ found books. ((rules : model.Rules)
+        → rules.stock_of ≡ stock_of → IsKeptFor branch (seen_command command.now) kept.entry books → HasStanding branch books standing
+        → Agrees rules books.catalogue (shop_of branch books) (seen_command command.now) found)
+        × AreMarked branch (seen_command command.now).act found.rows books)) }
+{
+    let staff = staff_at(tx, command.staff)?;
+    let rows = find_rows(alloc, tx, films, branch, command)?;
+    Ok(Found {
+        kept,
+        keys: standing.keys,
+        last: standing.last,
+        staff,
+        rows,
+    })
+}
+
+/// What there is of the rows that the command's act names.
+fn find_rows<S: Alter>(
+    alloc: Global,
+    tx: &mut Transaction<'_, S>,
+    films: &mut FilmCache,
+    branch: BranchNo,
+    command: &Command,
+) -> Result<RowsFound, StoreFault>
+    ensures inside { StaysWithin S.Store tx.old.conn tx.new.conn result }
+    ensures found { Finds (state S.Store tx.old.conn.now) (state S.Store tx.new.conn.now) result
+        (Knows films.old films.new (AgreesAt branch command.now.at (seen_act command.now.act))) }
+{
+    match &command.act {
+        Act::Customer(person) => Ok(RowsFound {
+            has_city: has_city(tx, person.city)?,
+            ..RowsFound::none(alloc)
+        }),
+        Act::Active { customer, .. } => Ok(RowsFound {
+            customer: active_at(tx, branch, *customer)?,
+            ..RowsFound::none(alloc)
+        }),
+        Act::Rent { customer, copy } => {
+            find_for_rental(alloc, tx, films, branch, command.at, *customer, *copy)
+        }
+        Act::TakeBack(rental) => Ok(RowsFound {
+            rental: find_rental(tx, branch, *rental)?,
+            ..RowsFound::none(alloc)
+        }),
+        Act::Pay {
+            customer,
+            rental,
+            ..
+        } => find_for_payment(alloc, tx, branch, *customer, *rental),
+        Act::Import { lot, file } => find_for_import(alloc, tx, films, branch, lot, file),
+        Act::Dispatch { to, copies } => find_for_dispatch(alloc, tx, branch, *to, copies),
+        Act::Receive { from, number, .. } => find_for_receipt(alloc, tx, branch, *from, *number),
+        Act::Scrap(copy) => Ok(RowsFound {
+            copy: find_copy(tx, films, branch, *copy)?,
+            ..RowsFound::none(alloc)
+        }),
+    }
+}
+
+/// The customer and the copy of a new rental, and whether there is one of its moment, customer and copy.
+fn find_for_rental<S: Alter>(
+    alloc: Global,
+    tx: &mut Transaction<'_, S>,
+    films: &mut FilmCache,
+    branch: BranchNo,
+    at: Moment,
+    customer: CustomerNo,
+    copy: CopyNo,
+) -> Result<RowsFound, StoreFault>
+    ensures inside { StaysWithin S.Store tx.old.conn tx.new.conn result }
+    ensures found { Finds (state S.Store tx.old.conn.now) (state S.Store tx.new.conn.now) result
+        (Knows films.old films.new (AgreesAt branch at (model.Rent customer copy))) }
+{
+    let is_active = active_at(tx, branch, customer)?;
+    let found = find_copy(tx, films, branch, copy)?;
+    let has_same = has_rental(tx, branch, at, copy, customer)?;
+    Ok(RowsFound {
+        customer: is_active,
+        copy: found,
+        has_same,
+        ..RowsFound::none(alloc)
+    })
+}
+
+/// The customer of a payment, and its rental where one is named.
+fn find_for_payment<S: Alter>(
+    alloc: Global,
+    tx: &mut Transaction<'_, S>,
+    branch: BranchNo,
+    customer: CustomerNo,
+    rental: Option<RentalNo>,
+) -> Result<RowsFound, StoreFault>
+    ensures inside { StaysWithin S.Store tx.old.conn tx.new.conn result }
+    ensures found { (at : _) (amount : ℕ)
+        → Finds (state S.Store tx.old.conn.now) (state S.Store tx.new.conn.now) result (AgreesAt branch at (model.Pay customer rental amount)) }
+{
+    let is_active = active_at(tx, branch, customer)?;
+    let Some(number) = rental else {
+        return Ok(RowsFound {
+            customer: is_active,
+            ..RowsFound::none(alloc)
+        });
+    };
+    let found = find_rental(tx, branch, number)?;
+    Ok(RowsFound {
+        customer: is_active,
+        rental: found,
+        ..RowsFound::none(alloc)
+    })
+}
+
+/// How many copies there are before an import, whether there is its lot, and the rows of its stock file.
+fn find_for_import<S: Alter>(
+    alloc: Global,
+    tx: &mut Transaction<'_, S>,
+    films: &mut FilmCache,
+    branch: BranchNo,
+    lot: &LotName,
+    file: &StockFile,
+) -> Result<RowsFound, StoreFault>
+    ensures inside { StaysWithin S.Store tx.old.conn tx.new.conn result }
+    ensures found { (at : _)
+        → Finds (state S.Store tx.old.conn.now) (state S.Store tx.new.conn.now) result
+        (Knows films.old films.new (AgreesAt branch at (model.Import lot.now file.now))) }
+{
+    let copies = count_of(tx, Count::Of(branch, CountKind::Copies))?;
+    let has_lot = has_lot(tx, branch, lot)?;
+    let stock = find_stock(alloc, tx, films, file)?;
+    Ok(RowsFound {
+        copies,
+        has_lot,
+        stock,
+        ..RowsFound::none(alloc)
+    })
+}
+
+/// The rows of the stock file with what there is of their films, or the file's fault.
+fn find_stock<S: Alter>(
+    alloc: Global,
+    tx: &mut Transaction<'_, S>,
+    films: &mut FilmCache,
+    file: &StockFile,
+) -> Result<Result<StockRows, BadCsv>, StoreFault>
+    ensures inside { StaysWithin S.Store tx.old.conn tx.new.conn result }
+    ensures found { Finds (state S.Store tx.old.conn.now) (state S.Store tx.new.conn.now) result
+        (Knows films.old films.new (λ stock books. IfOk stock (All (RowAgrees books.catalogue)))) }
+    ensures value { IfOk result (λ stock. seen_stock stock ≡ stock_of file.now) }
+{
+    match read_stock(alloc, file.as_slice()) {
+        Ok(rows) => match StockRows::new(find_films(alloc, tx, films, rows.as_slice())?) {
+            Some(found) => Ok(Ok(found)),
+            None => Err(StoreFault::Failed),
+        },
+        Err(StockFault::Bad(fault)) => Ok(Err(fault)),
+        Err(StockFault::Memory) => Err(StoreFault::Memory),
+    }
+}
+
+/// The rows of a stock file, with what there is of their films.
+fn find_films<S: Alter>(
+    alloc: Global,
+    tx: &mut Transaction<'_, S>,
+    films: &mut FilmCache,
+    rows: &[StockRow],
+) -> Result<Vec<StockFound>, StoreFault>
+    ensures inside { StaysWithin S.Store tx.old.conn tx.new.conn result }
+    ensures found { Finds (state S.Store tx.old.conn.now) (state S.Store tx.new.conn.now) result
+        (Knows films.old films.new (λ found books. found.items ≡ map (found_row books.catalogue) rows.now)) }
+    ensures same { IfOk result (λ found. map as_listed found.items ≡ rows.now) }
+{
+    let mut found = Vec::new(alloc);
+    for row in rows {
+        let withdrawn = find_withdrawn(tx, films, row.film)?;
+        found.push(told_row(*row, withdrawn))?;
+    }
+    Ok(found)
+}
+
+/// The row of a stock file, by whether its film is withdrawn, where there is such a film.
+fn told_row(row: StockRow, withdrawn: Option<bool>) -> StockFound
+    ensures { result ≡ told_row row withdrawn }
+{
+    StockFound {
+        film: row.film,
+        copies: row.copies,
+        is_there: withdrawn.is_some(),
+        is_withdrawn: matches!(withdrawn, Some(true)),
+    }
+}

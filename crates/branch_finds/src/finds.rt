@@ -1,0 +1,163 @@
+//! What is found of customers, copies and rentals.
+
+ghost use Rattle.std.specs.Prelude.{◌≡◌, ℕ, is_some, map, option_map, option_to_list};
+ghost use Rattle.sqlite.specs.Held.{state};
+ghost use Rattle.sql_rows.specs.Calls.{StaysWithin};
+ghost use Rattle.shop_model.specs.Rows.{at};
+ghost use Rattle.shop_model.specs.Stock.{is_here, held_by};
+ghost use Rattle.shop_model.specs.Books.{head, shop_of};
+ghost use Rattle.shop_schema.specs.Calls.{Finds};
+ghost use Rattle.branch_finds.specs.Finds.{Knows, copy_shown};
+ghost use Rattle.consign_finds.specs.Finds.{open_from};
+ghost use Rattle.branch_core.specs.Agreed.{copy_at, rental_at, seen_copy, seen_rental, seen_film_copy, AreOfFilm, HasTermsNow};
+
+use crate::known::find_film;
+use branch_core::{CopyFound, FilmCopy, RentalFound};
+use chain_caches::FilmCache;
+use consign_finds::is_here;
+use shop_ledger::out_at;
+use shop_store::{CopyRow, CopyState, copies_of_film, copy_now_at, rental_at};
+use shop_types::{BranchNo, CopyNo, CustomerNo, FilmNo, Rental, RentalNo};
+use sql_rows::StoreFault;
+use sqlite::{Alter, Transaction};
+use std::alloc::Global;
+
+/// Whether the copy is in the shop, its film withdrawn and a customer has it, and its film's terms as they are now, where the branch has one of the number.
+/// No sound table lacks the film.
+pub fn find_copy<S: Alter>(
+    tx: &mut Transaction<'_, S>,
+    films: &mut FilmCache,
+    branch: BranchNo,
+    copy: CopyNo,
+) -> Result<Option<CopyFound>, StoreFault>
+    ensures inside { StaysWithin S.Store tx.old.conn tx.new.conn result }
+    ensures found { Finds (state S.Store tx.old.conn.now) (state S.Store tx.new.conn.now) result
+        (Knows films.old films.new (λ found books. (option_map seen_copy found ≡ copy_at books.catalogue (shop_of branch books) copy)
+        × HasTermsNow books.catalogue (shop_of branch books) copy found)) }
+{
+    let Some(row) = copy_now_at(tx, branch, copy)? else {
+        return Ok(None);
+    };
+    let Some(film) = find_film(tx, films, row.film)? else {
+        return Err(StoreFault::Failed);
+    };
+    Ok(Some(CopyFound {
+        is_here: is_here(row.state),
+        is_withdrawn: film.withdrawn,
+        is_out: row.out.is_some(),
+        terms: film.terms,
+    }))
+}
+
+/// The rental, where the branch has one of the number.
+pub fn find_rental<S: Alter>(
+    tx: &mut Transaction<'_, S>,
+    branch: BranchNo,
+    rental: RentalNo,
+) -> Result<Option<RentalFound>, StoreFault>
+    ensures inside { StaysWithin S.Store tx.old.conn tx.new.conn result }
+    ensures found { Finds (state S.Store tx.old.conn.now) (state S.Store tx.new.conn.now) result
+        (λ found books. option_map seen_rental found ≡ rental_at (shop_of branch books) rental) }
+{
+    match rental_at(tx, branch, rental)? {
+        Some(row) => Ok(Some(rental_found(row.rental))),
+        None => Ok(None),
+    }
+}
+
+/// What is found of a rental.
+fn rental_found(rental: Rental) -> RentalFound
+    ensures { seen_rental result ≡ (rental.customer, rental.copy, is_some rental.returned) }
+{
+    let is_returned = rental.returned.is_some();
+    RentalFound {
+        customer: rental.customer,
+        copy: rental.copy,
+        is_returned,
+    }
+}
+
+/// The customer of the rental, where the branch has it.
+fn find_renter<S: Alter>(
+    tx: &mut Transaction<'_, S>,
+    branch: BranchNo,
+    rental: RentalNo,
+) -> Result<Option<CustomerNo>, StoreFault>
+    ensures inside { StaysWithin S.Store tx.old.conn tx.new.conn result }
+    ensures found { Finds (state S.Store tx.old.conn.now) (state S.Store tx.new.conn.now) result
+        (λ renter books. renter ≡ head (map (λ it. it.customer) (at rental (shop_of branch books).rentals))) }
+{
+    match rental_at(tx, branch, rental)? {
+        Some(row) => Ok(Some(row.rental.customer)),
+        None => Ok(None),
+    }
+}
+
+/// The customer who has a copy that is out by the rental, if by any.
+pub fn find_holder<S: Alter>(
+    tx: &mut Transaction<'_, S>,
+    branch: BranchNo,
+    out: Option<RentalNo>,
+) -> Result<Option<CustomerNo>, StoreFault>
+    ensures inside { StaysWithin S.Store tx.old.conn tx.new.conn result }
+    ensures found { (copy : ℕ)
+        → Finds (state S.Store tx.old.conn.now) (state S.Store tx.new.conn.now) result
+        (λ holder books. option_to_list out ≡ open_from 1 copy (shop_of branch books).rentals → holder ≡ head (held_by copy (shop_of branch books).rentals)) }
+{
+    match out {
+        Some(rental) => find_renter(tx, branch, rental),
+        None => Ok(None),
+    }
+}
+
+/// The branch's copies of the film, in order of number.
+pub fn find_of_film<S: Alter>(
+    alloc: Global,
+    tx: &mut Transaction<'_, S>,
+    branch: BranchNo,
+    film: FilmNo,
+) -> Result<Vec<FilmCopy>, StoreFault>
+    ensures inside { StaysWithin S.Store tx.old.conn tx.new.conn result }
+    ensures found { Finds (state S.Store tx.old.conn.now) (state S.Store tx.new.conn.now) result
+        (λ copies books. AreOfFilm film (shop_of branch books) copies.items) }
+{
+    let rows = copies_of_film(alloc, tx, branch, film)?;
+    with_stock(alloc, tx, branch, rows.as_slice())
+}
+
+/// The copies of those rows, each with whether it is in stock.
+fn with_stock<S: Alter>(
+    alloc: Global,
+    tx: &mut Transaction<'_, S>,
+    branch: BranchNo,
+    rows: &[CopyRow],
+) -> Result<Vec<FilmCopy>, StoreFault>
+    ensures inside { StaysWithin S.Store tx.old.conn tx.new.conn result }
+    ensures found { Finds (state S.Store tx.old.conn.now) (state S.Store tx.new.conn.now) result
+        (λ copies books. map seen_film_copy copies.items ≡ map (copy_shown (shop_of branch books).rentals) rows.now) }
+{
+    let mut copies = Vec::new(alloc);
+    for row in rows {
+        let copy = with_its_stock(tx, branch, *row)?;
+        copies.push(copy)?;
+    }
+    Ok(copies)
+}
+
+/// The copy of that row, with whether it is in stock.
+fn with_its_stock<S: Alter>(
+    tx: &mut Transaction<'_, S>,
+    branch: BranchNo,
+    row: CopyRow,
+) -> Result<FilmCopy, StoreFault>
+    ensures inside { StaysWithin S.Store tx.old.conn tx.new.conn result }
+    ensures found { Finds (state S.Store tx.old.conn.now) (state S.Store tx.new.conn.now) result
+        (λ copy books. seen_film_copy copy ≡ copy_shown (shop_of branch books).rentals row) }
+{
+    let out = out_at(tx, branch, row.number)?;
+    Ok(FilmCopy {
+        number: row.number,
+        is_here: is_here(row.state),
+        is_in_stock: out.is_none(),
+    })
+}

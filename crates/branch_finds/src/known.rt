@@ -1,0 +1,68 @@
+//! What is known of a film as it is now: the store is asked where the chain's cache of films doesn't know.
+
+ghost use Rattle.std.specs.Prelude.{◌≡◌, map, option_map};
+ghost use Rattle.sqlite.specs.Held.{state};
+ghost use Rattle.sql_rows.specs.Calls.{StaysWithin};
+ghost use Rattle.shop_model.specs.Rows.{at};
+ghost use Rattle.shop_model.specs.Books.{head};
+ghost use Rattle.chain_caches.specs.Films.{known_of, seen_known};
+ghost use Rattle.shop_schema.specs.Calls.{Finds};
+ghost use Rattle.shop_store.specs.SharedSeen.{seen_film_row, withdrawn_of};
+ghost use Rattle.branch_finds.specs.Finds.{Knows};
+
+use chain_caches::{FilmCache, KnownFilm};
+use shop_store::{FilmRow, film_row};
+use shop_types::{FilmNo, Terms};
+use sql_rows::StoreFault;
+use sqlite::{Alter, Transaction};
+
+/// By what a rental of the film is charged now, and whether it is withdrawn, where there is such a film.
+pub fn find_film<S: Alter>(
+    tx: &mut Transaction<'_, S>,
+    films: &mut FilmCache,
+    number: FilmNo,
+) -> Result<Option<KnownFilm>, StoreFault>
+    ensures inside { StaysWithin S.Store tx.old.conn tx.new.conn result }
+    ensures found { Finds (state S.Store tx.old.conn.now) (state S.Store tx.new.conn.now) result
+        (Knows films.old films.new (λ film books. option_map seen_known film ≡ head (map known_of (at number books.catalogue.films)))) }
+{
+    if let Some(film) = films.known(number) {
+        return Ok(Some(film));
+    }
+    let Some(row) = film_row(tx, number)? else {
+        return Ok(None);
+    };
+    let film = known_in(&row);
+    films.put(number, &film);
+    Ok(Some(film))
+}
+
+/// Whether the film is withdrawn, where there is such a film.
+pub fn find_withdrawn<S: Alter>(
+    tx: &mut Transaction<'_, S>,
+    films: &mut FilmCache,
+    number: FilmNo,
+) -> Result<Option<bool>, StoreFault>
+    ensures inside { StaysWithin S.Store tx.old.conn tx.new.conn result }
+    ensures found { Finds (state S.Store tx.old.conn.now) (state S.Store tx.new.conn.now) result
+        (Knows films.old films.new (λ withdrawn books. withdrawn ≡ head (map withdrawn_of (at number books.catalogue.films)))) }
+{
+    match find_film(tx, films, number)? {
+        Some(film) => Ok(Some(film.withdrawn)),
+        None => Ok(None),
+    }
+}
+
+/// What is known of the film in the row.
+fn known_in(row: &FilmRow) -> KnownFilm
+    ensures { seen_known result ≡ known_of (seen_film_row row.now) }
+{
+    KnownFilm {
+        terms: Terms {
+            rate: row.film.rate,
+            period: row.film.period,
+            replacement: row.film.replacement,
+        },
+        withdrawn: row.withdrawn,
+    }
+}

@@ -1,0 +1,28 @@
+-- An answer to what was done or read, and one that refuses, are decisions on any disk.
+use Rattle.std.proofs.Common.{◌≡◌, ◌≢◌, ◌∙◌, ℕ, Bool, inl, inr, refl, ap, true, false, not, eqb-true}
+use Rattle.std.specs.Prelude.{◌==◌}
+use Rattle.shop_model.specs.Values.{Text}
+use Rattle.shop_model.specs.Refusals.{Problem, problem_status}
+use Rattle.shop_model.specs.Answers.{Answer, accepted_answer, problem_answer}
+use Rattle.shop_model.specs.Histories.{is_decided}
+use Rattle.branch_reports.specs.Told.{IsDecision}
+
+pub accepted_told : (answer : Answer) (text : Text) → answer ≡ accepted_answer text → IsDecision answer
+accepted_told answer text is = record {
+  told = inl (ap (λ (a : Answer). a.status) is);
+  decided = ap is_decided is;
+}
+
+pub refused_told : (answer : Answer) (problem : Problem) → answer ≡ problem_answer problem → is_decided (problem_answer problem) ≡ true → IsDecision answer
+refused_told answer problem is decided = record {
+  told = inr (problem, is);
+  decided = ap is_decided is ∙ decided;
+}
+
+-- whatever it is refused for, but for the store's status
+pub refused_by : (answer : Answer) (problem : Problem) (status : ℕ) → answer ≡ problem_answer problem → status ≡ problem_status problem → status ≢ 503 → IsDecision answer
+refused_by answer problem status is told other = refused_told answer problem is (by_test (problem_status problem == 503) refl)
+  where
+    by_test : (is_stores : Bool) → (problem_status problem == 503) ≡ is_stores → not is_stores ≡ true
+    by_test true e = absurd (other (told ∙ eqb-true (problem_status problem) 503 e))
+    by_test false e = refl

@@ -1,0 +1,4 @@
+pub mod Decisions
+pub mod Given
+pub mod RewardLemmas
+pub mod MonthLemmas

@@ -1,0 +1,34 @@
+use Rattle.std.proofs.Common.{◌≡◌, ◌∙◌, ◌+◌, ◌++◌, ◌∷◌, [], List, take, map, sym, ap}
+use Rattle.std.proofs.lemmas.List.{take_more, take_all, map-append}
+use Rattle.sqlite.specs.Held.{state}
+use Rattle.sqlite_keyed.proofs.ListLemmas.{map-map}
+use Rattle.shop_model.specs.Values.{Payment}
+use Rattle.shop_types.specs.Seen.{seen_payment}
+use Rattle.shop_store.specs.declared.payments.PaymentRow.{PaymentRow}
+use Rattle.balance_rule.specs.declared.rows.Paid.{Paid}
+use Rattle.balance_rule.specs.Balance.{paid_of}
+use Rattle.shop_schema.proofs.Readings.{reads_as}
+use Rattle.branch_reports.proofs.balances.find_paid.Goals as goal
+
+abbrev paid : PaymentRow → Paid
+paid row = paid_of (seen_payment row.payment)
+
+pub loop-row-init : goal.loop-row-init
+loop-row-init g c = c.new-payments.ensures.items
+
+pub loop-row-preserved : goal.loop-row-preserved
+loop-row-preserved g c =
+    let i = c.loop-row.row-index in
+    let rows = c.deref-row-items.result.now in
+    let it = c.row-item.result in
+    let more : map paid (take (i + 1) rows) ≡ map paid (take i rows) ++ paid it ∷ [] =
+    ap (map paid) (take_more rows i it c.loop-row-test.true ∙ ap (λ (x : PaymentRow). take i rows ++ x ∷ []) (sym c.row-item.is)) ∙ map-append paid (take i rows) (it ∷ []) in
+    c.in_ok-push.ensures.items ∙ ap (λ (p : Paid). c.loop-row.payments.items ++ p ∷ []) c.paid_by.ensures ∙ ap (λ (rs : List Paid). rs ++ paid it ∷ []) c.loop-row.invariant ∙ sym more
+
+pub returns-clause-found : goal.returns-clause-found
+returns-clause-found g c = λ clean.
+    let rows = c.in_ok-rows.rows.items in
+    let all : c.loop-row.payments.items ≡ map paid rows =
+    c.loop-row.invariant ∙ ap (map paid) (take_all c.loop-row.row-index c.deref-row-items.result.now c.loop-row-test.false ∙ c.deref-row-items.ensures.value) in
+    reads_as (state g.S.Store c.args.tx.now.conn.now) (state g.S.Store c.payments_of_customer.new.tx.conn.now) _ _
+    (λ books held is. all ∙ sym (map-map paid_of (λ (row : PaymentRow). seen_payment row.payment) rows) ∙ ap (λ (ps : List Payment). map paid_of ps) is) (c.in_ok-rows.ensures.rows clean)

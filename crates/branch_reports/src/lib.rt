@@ -1,0 +1,8 @@
+//! What a branch is told of money: what a customer owes, and which customers are rewarded.
+#![tactic(auto)]
+
+mod balances;
+mod reports;
+mod rewards;
+
+pub use reports::{look_balance, look_rewards};

@@ -1,0 +1,85 @@
+//! What a branch is told of money.
+
+ghost use Rattle.std.specs.Prelude.{◌≡◌, ℕ, IfOk};
+ghost use Rattle.sqlite.specs.Held.{state};
+ghost use Rattle.sql_rows.specs.Calls.{StaysInside, StaysWithin};
+ghost use Rattle.shop_model.specs.Values.{Balance, Rewards};
+ghost use Rattle.shop_model.specs.Shop.{Shop};
+ghost use Rattle.shop_model.specs.Stock.{balance};
+ghost use Rattle.shop_types.specs.Seen.{seen_rule};
+ghost use Rattle.shop_types.specs.Replies.{seen_reply};
+ghost use Rattle.shop_schema.specs.Calls.{Finds};
+ghost use Rattle.balance_rule.specs.Balance.{AreTermsOf, ArePaidBy};
+ghost use Rattle.branch_reports.specs.Looked.{looked};
+ghost use Rattle.branch_reports.specs.Told.{IsDecision};
+
+use crate::balances::{find_paid, find_terms};
+use crate::rewards::find_rewarded;
+use balance_rule::{Paid, RentalTerms, balance};
+use shop_store::{active_at, rule_at};
+use shop_types::{BranchNo, Cents, CustomerNo, Moment, Refusal, Reply, Rule};
+use shop_views::{balance_text, rewards_text};
+use sql_rows::StoreFault;
+use sqlite::{Alter, Transaction};
+use std::alloc::Global;
+
+/// Tells what a customer owes at a moment, by the rule of the chain.
+pub fn look_balance<S: Alter>(
+    alloc: Global,
+    tx: &mut Transaction<'_, S>,
+    branch: BranchNo,
+    customer: CustomerNo,
+    at: Moment,
+) -> Result<Reply, StoreFault>
+    ensures inside { StaysInside S.Store tx.old.conn tx.new.conn result }
+    ensures shown { Finds (state S.Store tx.old.conn.now) (state S.Store tx.new.conn.now) result
+        (λ reply books. seen_reply reply ≡ looked branch (Balance customer at) books) }
+    ensures decided { IfOk result (λ reply. IsDecision (seen_reply reply)) }
+{
+    let Some(_) = active_at(tx, branch, customer)? else {
+        return Ok(Reply::refused(Refusal::NoCustomer));
+    };
+    let rule = rule_at(tx)?;
+    let rentals = find_terms(alloc, tx, branch, customer)?;
+    let payments = find_paid(alloc, tx, branch, customer)?;
+    let cents = owed(rentals.as_slice(), payments.as_slice(), at, rule)?;
+    Ok(Reply::accepted(balance_text(alloc, cents)?))
+}
+
+/// The balance by those rows and the rule. No sound table has more than a million of them.
+fn owed(
+    rentals: &[RentalTerms],
+    payments: &[Paid],
+    at: Moment,
+    rule: Rule,
+) -> Result<Cents, StoreFault>
+    ensures { IfOk result (λ cents. (shop : Shop) (customer : ℕ) → AreTermsOf shop customer rentals.now
+        → ArePaidBy shop customer payments.now
+        → cents ≡ balance (seen_rule rule) shop customer at) }
+{
+    if 1_000_000 < rentals.len() || 1_000_000 < payments.len() {
+        return Err(StoreFault::Failed);
+    }
+    Ok(balance(rentals, payments, at, rule))
+}
+
+/// Lists the customers who are rewarded for the month before a moment's.
+pub fn look_rewards<S: Alter>(
+    alloc: Global,
+    tx: &mut Transaction<'_, S>,
+    branch: BranchNo,
+    at: Moment,
+    purchases: u32,
+    cents: u32,
+) -> Result<Reply, StoreFault>
+    ensures inside { StaysWithin S.Store tx.old.conn tx.new.conn result }
+    ensures shown { Finds (state S.Store tx.old.conn.now) (state S.Store tx.new.conn.now) result
+        (λ reply books. seen_reply reply ≡ looked branch (Rewards at purchases cents) books) }
+    ensures decided { IfOk result (λ reply. IsDecision (seen_reply reply)) }
+{
+    if purchases == 0 || cents == 0 {
+        return Ok(Reply::refused(Refusal::BadThreshold));
+    }
+    let customers = find_rewarded(alloc, tx, branch, at, purchases, cents)?;
+    Ok(Reply::accepted(rewards_text(alloc, customers.as_slice())?))
+}

@@ -1,0 +1,5 @@
+pub mod Chained
+pub mod Readings
+pub mod Outs
+pub mod Parcels
+pub mod Among

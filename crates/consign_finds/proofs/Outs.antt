@@ -1,0 +1,28 @@
+-- A copy is out by a rental where it isn't in stock.
+use Rattle.std.proofs.Common.{◌≡◌, ◌∙◌, refl, sym, ap, inl, inr, ℕ, ◌+◌, ◌-◌, Bool, true, false, not, List, [], ◌∷◌, Option, Some, None}
+use Rattle.std.specs.Prelude.{is_some}
+use Rattle.std.specs.Option.{option_to_list}
+use Rattle.std.specs.List.{list_any}
+use Rattle.std.proofs.lemmas.Bool.{cases_Bool}
+use Rattle.shop_model.specs.Rows.{is_empty}
+use Rattle.shop_model.specs.Values.{Rental}
+use Rattle.shop_model.specs.Stock.{keeps_out, in_stock}
+use Rattle.consign_finds.specs.Finds.{open_from}
+
+open_some : (k x : ℕ) (rentals : List Rental) → list_any (keeps_out x) rentals ≡ not (is_empty (open_from k x rentals))
+open_some k x [] = refl
+open_some k x (rental ∷ rentals) = elim (cases_Bool (keeps_out x rental)) [
+  | inl is ↦ rw is refl
+  | inr isnt ↦ rw isnt (open_some (k + 1) x rentals)
+]
+
+some_listed : (out : Option ℕ) → not (is_empty (option_to_list out)) ≡ is_some out
+some_listed None = refl
+some_listed (Some n) = refl
+
+pub twice : (b : Bool) → b ≡ not (not b)
+twice true = refl
+twice false = refl
+
+pub out_shown : (x : ℕ) (rentals : List Rental) (out : Option ℕ) → option_to_list out ≡ open_from 1 x rentals → is_some out ≡ not (in_stock x rentals)
+out_shown x rentals out is = sym (open_some 1 x rentals ∙ ap (λ (ns : List ℕ). not (is_empty ns)) (sym is) ∙ some_listed out) ∙ twice (list_any (keeps_out x) rentals)

@@ -1,0 +1,17 @@
+use Rattle.std.proofs.Common.{◌≡◌, Ok, take, map, ℕ, Bool, false, List}
+use Rattle.std.specs.Prelude.{⊤}
+use Rattle.sqlite.specs.Held.{state}
+use Rattle.sqlite.specs.State.{HasCleanDisk}
+use Rattle.sql_rows.specs.Calls.{StaysWithin}
+use Rattle.sql_rows.specs.declared.fault.StoreFault.{StoreFault}
+use Rattle.shop_model.specs.Books.{Mark}
+use Rattle.shop_types.specs.Seen.{seen_parcel_line}
+use Rattle.shop_schema.specs.Shop.{Reads}
+use Rattle.branch_core.specs.Marked.{listed_at}
+use Rattle.consign_finds.proofs.find_each.Given as goal
+
+abbrev pub invariant-loop-copy : goal.invariant-loop-copy
+invariant-loop-copy g l =
+    StaysWithin {X = ⊤} {E = StoreFault} g.S.Store l.fn.tx.conn l.tx.conn (Ok tt)
+    × (HasCleanDisk (state g.S.Store l.tx.conn.now) → Reads (state g.S.Store l.fn.tx.conn.now) (state g.S.Store l.tx.conn.now)
+    (λ books. ◌≡◌ {A = Bool × Bool × Bool × List (ℕ × Mark)} (false, l.has_away, l.has_out, map seen_parcel_line l.lines.items) (listed_at l.branch (take l.copy-index l.copies) books)))
