@@ -1,8 +1,8 @@
 pub mod Failing
 pub mod Results
 pub mod Resuming
-pub use Rattle.chain_calls.proofs.Failures
-pub use Rattle.chain_calls.proofs.Taking
-pub use Rattle.chain_calls.proofs.Running
-pub use Rattle.chain_calls.proofs.Following
-pub use Rattle.chain_calls.proofs.Requests
+pub use Rattle.chain_steps.proofs.Failures
+pub use Rattle.chain_steps.proofs.Taking
+pub use Rattle.chain_steps.proofs.Running
+pub use Rattle.chain_steps.proofs.Following
+pub use Rattle.chain_steps.proofs.Requests

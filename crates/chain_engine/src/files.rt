@@ -6,13 +6,12 @@ ghost use Rattle.sqlite.specs.Files.{over_files, file_state, image_of};
 ghost use Rattle.sqlite_wal.specs.Files.{outcomes};
 ghost use Rattle.sqlite_wal.specs.Reads.{AreClean};
 ghost use Rattle.shop_model.specs.Books.{Books};
-ghost use Rattle.chain_calls.specs.Chains.{IsAt};
-ghost use Rattle.chain_calls.specs.Files.{HoldsOne, KeepsBooks, KeepsEither};
-ghost use Rattle.chain_calls.specs.Openings.{IsOpenedIn, IsNotOpened};
+ghost use Rattle.chain_steps.specs.Chains.{IsAt};
+ghost use Rattle.chain_steps.specs.Files.{HoldsOne, KeepsBooks, KeepsEither};
+ghost use Rattle.chain_steps.specs.Openings.{IsOpenedIn, IsNotOpened};
 
 use crate::chain::Chain;
-use chain_calls::{OpenFault, connect, give_back};
-use chain_steps::examine;
+use chain_steps::{OpenFault, connect, examine, give_back};
 use shop_types::Limits;
 use sqlite::{FileStore, Files};
 use sqlite_disk::Disk;

@@ -3,8 +3,8 @@ use Rattle.shop_model.specs.Refusals.{Decision, NoCounter, NoRoute, StoreFailed}
 use Rattle.shop_model.specs.Machine.{Sorry}
 use Rattle.shop_model.specs.Histories.{is_store_failure}
 use Rattle.shop_model.proofs.Histories.{failed_failure}
-use Rattle.chain_calls.specs.Holding.{Chained}
-use Rattle.chain_calls.proofs.Failures.{decided_fine}
+use Rattle.chain_steps.specs.Holding.{Chained}
+use Rattle.chain_steps.proofs.Failures.{decided_fine}
 use Rattle.chain_engine.proofs.chain.Chain.answer.Goals as goal
 
 pub returns-then-self-clause-told : goal.returns-then-self-clause-told

@@ -7,13 +7,13 @@ use Rattle.shop_model.specs.Books.{HeadOffice}
 use Rattle.shop_model.specs.Machine.{Request, OfficeLook}
 use Rattle.shop_types.specs.Seen.{seen_office_ask, seen_refusal}
 use Rattle.shop_types.specs.Replies.{seen_reply}
-use Rattle.chain_calls.specs.Holding.{Chained}
-use Rattle.chain_calls.specs.Chains.{Takes, Answers}
-use Rattle.chain_calls.specs.Steps.{IsHeldWith}
-use Rattle.chain_calls.specs.Decisions.{refusal_for, is_final}
-use Rattle.chain_calls.proofs.Requests.{came, unmade}
-use Rattle.chain_calls.proofs.Asking.{office_read, office_unread}
-use Rattle.chain_calls.proofs.Failures.{decision_fine}
+use Rattle.chain_steps.specs.Holding.{Chained}
+use Rattle.chain_steps.specs.Chains.{Takes, Answers}
+use Rattle.chain_steps.specs.Steps.{IsHeldWith}
+use Rattle.chain_steps.specs.Decisions.{refusal_for, is_final}
+use Rattle.chain_steps.proofs.Requests.{came, unmade}
+use Rattle.chain_steps.proofs.Asking.{office_read, office_unread}
+use Rattle.chain_steps.proofs.Failures.{decision_fine}
 use Rattle.chain_engine.proofs.Failing.{fails_by}
 use Rattle.chain_engine.proofs.chain.Chain.answer_office.Goals as goal
 

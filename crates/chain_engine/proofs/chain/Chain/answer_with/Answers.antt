@@ -1,9 +1,9 @@
 use Rattle.std.proofs.Common.{◌∙◌, ap, sym, inr}
 use Rattle.shop_model.specs.Books.{caller_in}
 use Rattle.shop_types.specs.Seen.{seen_refusal, seen_request}
-use Rattle.chain_calls.specs.Chains.{event_of}
-use Rattle.chain_calls.proofs.Requests.{event_answered, store_refuses, refused_takes}
-use Rattle.chain_calls.proofs.Taking.{takes_then}
+use Rattle.chain_steps.specs.Chains.{event_of}
+use Rattle.chain_steps.proofs.Requests.{event_answered, store_refuses, refused_takes}
+use Rattle.chain_steps.proofs.Taking.{takes_then}
 use Rattle.shop_model.specs.Histories.{is_store_failure}
 use Rattle.chain_engine.proofs.chain.Chain.answer_with.Goals as goal
 

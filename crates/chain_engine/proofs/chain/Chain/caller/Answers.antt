@@ -1,10 +1,10 @@
 use Rattle.std.proofs.Common.{◌≡◌, ◌∙◌, true, refl, sym, ap, subst, arith, Ok, Err}
 use Rattle.std.proofs.lemmas.Bool.{false≢true}
 use Rattle.sql_rows.specs.declared.fault.StoreFault.TheVariants.{Failed}
-use Rattle.chain_calls.specs.Holding.{Chained}
-use Rattle.chain_calls.specs.Chains.{Takes}
-use Rattle.chain_calls.specs.Decisions.{FindsCaller}
-use Rattle.chain_calls.proofs.Requests.{found, known_already, found_and_kept}
+use Rattle.chain_steps.specs.Holding.{Chained}
+use Rattle.chain_steps.specs.Chains.{Takes}
+use Rattle.chain_steps.specs.Decisions.{FindsCaller}
+use Rattle.chain_steps.proofs.Requests.{found, known_already, found_and_kept}
 use Rattle.chain_engine.proofs.Failing.{is_live, leaves_no_more, stays_refused, look_refused, refused_fails, refused_leaves}
 use Rattle.chain_engine.proofs.chain.Chain.caller.Goals as goal
 

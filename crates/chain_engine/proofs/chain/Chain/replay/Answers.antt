@@ -8,11 +8,11 @@ use Rattle.shop_model.specs.Histories.{has_failed, is_store_failure}
 use Rattle.shop_model.proofs.Histories.{failed_failure, failed_more}
 use Rattle.shop_types.specs.declared.request.Request.{Request}
 use Rattle.shop_types.specs.Replies.{seen_reply}
-use Rattle.chain_calls.specs.Holding.{Chained}
-use Rattle.chain_calls.specs.Chains.{event_of}
-use Rattle.chain_calls.specs.Steps.{IsTold}
-use Rattle.chain_calls.proofs.Running.{has_failed_then, runs_none, runs_more}
-use Rattle.chain_calls.proofs.Taking.{takes_same, takes_then}
+use Rattle.chain_steps.specs.Holding.{Chained}
+use Rattle.chain_steps.specs.Chains.{event_of}
+use Rattle.chain_steps.specs.Steps.{IsTold}
+use Rattle.chain_steps.proofs.Running.{has_failed_then, runs_none, runs_more}
+use Rattle.chain_steps.proofs.Taking.{takes_same, takes_then}
 use Rattle.chain_engine.proofs.chain.Chain.replay.Goals as goal
 
 pub push_reserved-requires : goal.push_reserved-requires
@@ -45,7 +45,7 @@ loop-token-preserved g c =
       takes_then inv.2 c.answer_with-reply.ensures.taken (λ old mid new x y. rw (asked, told) (runs_more old mid new events done (event_of it) answer x y)),
       rw told (All-push IsTold done answer inv.3 c.answer_with-reply.ensures.told),
       rw (told, failed_more done answer) (has_failed_then c.args.self.now.is_failed (has_failed done) c.loop-token.self.is_failed c.answer_with-reply.new.self.is_failed (is_store_failure answer)
-      inv.4 c.answer_with-reply.ensures.fails (λ still. ap is_store_failure (c.answer_with-reply.ensures.failed still).1 ∙ failed_failure)),
+          inv.4 c.answer_with-reply.ensures.fails (λ still. ap is_store_failure (c.answer_with-reply.ensures.failed still).1 ∙ failed_failure)),
       λ was.
           let before = inv.5 was in
           let still : c.loop-token.self.is_failed ≡ true = ap (λ (x : Chained _). x.is_failed) before.0 ∙ was in

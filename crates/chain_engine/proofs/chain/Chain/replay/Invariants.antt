@@ -4,8 +4,8 @@ use Rattle.shop_model.specs.Histories.{has_failed}
 use Rattle.shop_model.specs.Answers.{problem_answer}
 use Rattle.shop_model.specs.Refusals.{StoreFailed}
 use Rattle.shop_types.specs.Replies.{seen_reply}
-use Rattle.chain_calls.specs.Chains.{Takes, Runs, event_of}
-use Rattle.chain_calls.specs.Steps.{IsTold}
+use Rattle.chain_steps.specs.Chains.{Takes, Runs, event_of}
+use Rattle.chain_steps.specs.Steps.{IsTold}
 use Rattle.chain_engine.proofs.chain.Chain.replay.Given as goal
 
 abbrev pub invariant-loop-token : goal.invariant-loop-token

@@ -1,7 +1,7 @@
 use Rattle.std.proofs.Common.{subst}
 use Rattle.sqlite.specs.Files.{file_state}
-use Rattle.chain_calls.specs.Files.{HoldsOne}
-use Rattle.chain_calls.proofs.Opening.{keeps_books, keeps_either}
+use Rattle.chain_steps.specs.Files.{HoldsOne}
+use Rattle.chain_steps.proofs.Opening.{keeps_books, keeps_either}
 use Rattle.chain_engine.proofs.files.Chain+FileStore+D.close.Goals as goal
 
 pub returns-clause-left : goal.returns-clause-left

@@ -1,0 +1,11 @@
+pub use Rattle.chain_calls.specs.Rules
+pub use Rattle.chain_calls.specs.Holding
+pub use Rattle.chain_calls.specs.Branches
+pub use Rattle.chain_calls.specs.Chains
+pub use Rattle.chain_calls.specs.Steps
+pub use Rattle.chain_calls.specs.Decisions
+pub use Rattle.chain_calls.specs.Faults
+pub use Rattle.chain_calls.specs.Files
+pub use Rattle.chain_calls.specs.Openings
+pub use Rattle.chain_calls.specs.Reports
+pub use Rattle.chain_calls.specs.Audits
