@@ -1,0 +1,9 @@
+pub mod KeptRows
+pub mod Entries
+pub mod InOrder
+pub mod Places
+pub mod Replies
+pub mod Refused
+pub mod Outcomes
+pub mod OverStops
+pub mod Press

@@ -1,0 +1,88 @@
+-- The laws of a till: of one history of its branch, over a chain's stops, and of the book that the till keeps.
+use Rattle.std.specs.Prelude.{◌≡◌, ℕ, ◌<◌, Bool, true, List, [], ◌∷◌, slice_get, Some, None}
+use Rattle.shop_model.specs.Values.{Text, Command, OfficeAsk, Rules}
+use Rattle.shop_model.specs.Calendar.{is_earlier}
+use Rattle.shop_model.specs.Machine.{Do, Reply, Input, State, state_after}
+use Rattle.shop_model.specs.Answers.{Answer, answer_of}
+use Rattle.shop_model.specs.Books.{Books, Counter, shop_of, state_of, view}
+use Rattle.shop_model.specs.Sound.{HasNumbers}
+use Rattle.shop_model.specs.Histories.{is_decided}
+use Rattle.shop_model.specs.Resends.{Asks}
+use Rattle.shop_model.specs.Stops.{Life, Lives, history_of, begun}
+use Rattle.till_model.specs.Tills.{Entry, Served, served_in, IsBookOf, are_marked, have_own_keys, ComeFrom, ComeInOrder}
+use Rattle.till_model.specs.Outcomes.{IsUnused, Became}
+
+-- in any history of the branch, whatever else it sees, that begins with nothing kept under the till's mark
+abbrev pub ActsOnceInOrder : Type 0
+ActsOnceInOrder =
+    (has_mark : Text → Bool) (rules : Rules) (b : ℕ) (entries : List Entry) (inputs : List Input) (s : State)
+    → IsUnused has_mark s.shop → IsBookOf has_mark entries (served_in has_mark rules b inputs s)
+    → Became has_mark entries (served_in has_mark rules b inputs s) (state_after rules b inputs s).shop
+
+-- ---- over a chain's stops
+
+-- what the branch was asked in the history of all requests that acted, over any number of stops
+abbrev pub served_over : (Text → Bool) → Rules → ℕ → List Life → Books → List Served
+served_over has_mark rules b lives old = served_in has_mark rules b (view rules b (history_of lives) old) (state_of b old)
+
+abbrev pub ActsOnceOverStops : Type 0
+ActsOnceOverStops =
+    (has_mark : Text → Bool) (rules : Rules) (look : OfficeAsk → Books → Reply) (b : ℕ) (entries : List Entry) (lives : List Life) (old new : Books)
+    → Lives rules look lives old new → HasNumbers old
+    → IsUnused has_mark (shop_of b old) → IsBookOf has_mark entries (served_over has_mark rules b lives old)
+    → Became has_mark entries (served_over has_mark rules b lives old) (shop_of b new)
+
+-- what the branch was answered in some life, but for want of memory, room or store, is a reply in that history
+abbrev pub AnswersWereServed : Type 0
+AnswersWereServed =
+    (has_mark : Text → Bool) (rules : Rules) (look : OfficeAsk → Books → Reply) (b : ℕ) (lives : List Life) (old new : Books) → Lives rules look lives old new → HasNumbers old
+    → (n i : ℕ) (life : Life) (command : Command) (answer : Answer) → slice_get lives n ≡ Some life
+    → Asks rules life.events life.answers (begun rules lives old n) i (Counter b) (Do command)
+    → slice_get life.answers i ≡ Some answer → is_decided answer ≡ true → has_mark command.key ≡ true
+    → (m : ℕ) × (it : Served) × (slice_get (served_over has_mark rules b lives old) m ≡ Some it) × (it.command ≡ command) × (answer ≡ answer_of it.reply)
+
+-- ---- moments that rise
+
+abbrev pub RisingMoments : List Entry → Type 0
+RisingMoments entries =
+    (i j : ℕ) (earlier later : Entry) → i < j → slice_get entries i ≡ Some earlier → slice_get entries j ≡ Some later
+    → is_earlier earlier.command.moment later.command.moment ≡ true
+
+-- entries whose moments rise come in order, whatever comes late or side by side
+abbrev pub RisingComeInOrder : Type 0
+RisingComeInOrder = (entries : List Entry) (served : List Served) → RisingMoments entries → ComeInOrder entries served
+
+-- ---- the till's book
+
+-- the entries of a book: its commands, of which the first have replies
+abbrev pub entries_of : List Command → List Answer → List Entry
+entries_of [] replies = []
+entries_of (command ∷ commands) [] = record { command = command; reply = None } ∷ entries_of commands []
+entries_of (command ∷ commands) (answer ∷ replies) = record { command = command; reply = Some answer } ∷ entries_of commands replies
+
+-- in some life the chain gave that answer to that command of the branch
+pub record WasAnswered (rules : Rules) (b : ℕ) (lives : List Life) (old : Books) (command : Command) (answer : Answer) : Type 0 where
+  pub at_life : ℕ
+  pub at_place : ℕ
+  pub life : Life
+  pub lived : slice_get lives at_life ≡ Some life
+  pub asked : Asks rules life.events life.answers (begun rules lives old at_life) at_place (Counter b) (Do command)
+  pub told : slice_get life.answers at_place ≡ Some answer
+
+-- What the till keeps: keys with its mark, each its own; moments that rise; and replies, each a decision that the chain gave to that very command. And what is
+-- asked of all others: nobody else uses the mark.
+pub record KeepsBook (has_mark : Text → Bool) (rules : Rules) (b : ℕ) (commands : List Command) (replies : List Answer) (lives : List Life) (old : Books) : Type 0 where
+  pub marked : are_marked has_mark (entries_of commands replies) ≡ true
+  pub keys : have_own_keys (entries_of commands replies) ≡ true
+  pub moments : RisingMoments (entries_of commands replies)
+  pub come : ComeFrom (entries_of commands replies) (served_over has_mark rules b lives old)
+  pub answered : (i : ℕ) (command : Command) (answer : Answer) → slice_get commands i ≡ Some command → slice_get replies i ≡ Some answer
+      → WasAnswered rules b lives old command answer
+  pub decided : (i : ℕ) (answer : Answer) → slice_get replies i ≡ Some answer → is_decided answer ≡ true
+
+-- What is entered acts at most once, in the order of entering; what the book shows as accepted acted once, with that reply; over any number of stops.
+abbrev pub FromThePressToTheDisk : Type 0
+FromThePressToTheDisk =
+    (has_mark : Text → Bool) (rules : Rules) (look : OfficeAsk → Books → Reply) (b : ℕ) (commands : List Command) (replies : List Answer) (lives : List Life) (old new : Books)
+    → Lives rules look lives old new → HasNumbers old → IsUnused has_mark (shop_of b old) → KeepsBook has_mark rules b commands replies lives old
+    → Became has_mark (entries_of commands replies) (served_over has_mark rules b lives old) (shop_of b new)

@@ -1,0 +1,3 @@
+pub mod Tills
+pub mod Outcomes
+pub mod Laws
