@@ -3,3 +3,4 @@ pub mod HeadLemmas
 pub mod StreamLemmas
 pub mod HeadText
 pub mod PhraseLemmas
+pub mod WriteLemmas
