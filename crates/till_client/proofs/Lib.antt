@@ -1,0 +1,5 @@
+pub mod Joining
+pub mod OneReply
+pub mod OneRequest
+pub mod OneTalk
+pub mod SoleMessages

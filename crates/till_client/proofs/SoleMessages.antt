@@ -1,0 +1,75 @@
+-- Bytes that are one message, and the command that they say.
+use Rattle.std.proofs.Common.{◌≡◌, ◌∙◌, ◌≤◌, ℕ, List, [], length, drop, refl, sym, ap, arith, Some, None, Option, Bool, true, false, not}
+use Rattle.std.proofs.lemmas.List.{length-drop}
+use Rattle.http_messages.specs.Message.{Message}
+use Rattle.http_messages.specs.Input.{HasMessage}
+use Rattle.http_messages.specs.Shown.{IsReading}
+use Rattle.http_messages.specs.declared.messages.Request.{Request as Slices}
+use Rattle.http_messages.specs.declared.messages.Reading.{Reading}
+use Rattle.http_messages.specs.declared.messages.Reading.TheVariants.{Whole, More, Refused}
+use Rattle.http_messages.specs.declared.messages.Fault.TheVariants.{BadHead, TooLong}
+use Rattle.http_messages.proofs.StreamLemmas.{HasMessage-unique, HasMessage-not-bad, HasMessage-not-long, HasMessage-not-cut}
+use Rattle.std.specs.Str.{bytes_eq}
+use Rattle.std.proofs.lemmas.Slice.Eq.{bytes_eq-Decides}
+use Rattle.std.proofs.lemmas.Bool.{false≢true}
+use Rattle.shop_model.specs.Values.{Text, Command}
+use Rattle.shop_model.specs.Machine.{Do}
+use Rattle.counter_routes.specs.Readings.{counter_request}
+use Rattle.counter_routes.specs.Words.{Meaning}
+use Rattle.till_client.specs.Sealing.{IsSole, SaysCommand}
+use Rattle.till_client.specs.Laws.{OneCommand}
+
+no_meaning : Meaning
+no_meaning = λ _. None
+
+same_command : (one two : Command) → Do one ≡ Do two → one ≡ two
+same_command one two e = cc
+
+pub one_command : OneCommand
+one_command bytes token other one two says said =
+    let same = HasMessage-unique bytes says.message said.message [] [] says.sole.whole said.sole.whole in
+    same_command one two (sym (says.asks no_meaning 0) ∙ ap counter_request same.0 ∙ said.asks no_meaning 0)
+
+-- what is read of the bytes is that message, and all of them
+pub is_read : (bytes : List ℕ) (token : Text) (len : ℕ) (m message : Message) → len ≤ length bytes → HasMessage bytes m (drop len bytes) → IsSole bytes token message
+    → (m ≡ message) × (len ≡ length bytes)
+is_read bytes token len m message fits has sole =
+    let same = HasMessage-unique bytes m message (drop len bytes) [] has sole.whole in
+    let none : length (drop len bytes) ≡ 0 = ap length same.1 in
+    (same.0, omega (arith, none, length-drop len bytes))
+
+-- of a message of which something else is asked
+pub asks_other : (bytes : List ℕ) (token : Text) (m : Message) (command : Command) → IsSole bytes token m → SaysCommand bytes token command → counter_request m ≡ Do command
+asks_other bytes token m command sole says =
+    let same = HasMessage-unique bytes m says.message [] [] sole.whole says.sole.whole in
+    ap counter_request same.0 ∙ says.asks no_meaning 0
+
+-- ---- bytes that are no such message
+
+pub not_read : (bytes : List ℕ) (r : Reading) → IsReading bytes r → ((m : Slices) (len : ℕ) → r ≡ Whole m len → ⊥) → (message : Message) → HasMessage bytes message [] → ⊥
+not_read bytes (Whole m len) is other message has = other m len refl
+not_read bytes More is other message has = HasMessage-not-cut bytes message [] has is.1
+not_read bytes (Refused BadHead) is other message has = HasMessage-not-bad bytes message [] has is
+not_read bytes (Refused TooLong) is other message has = HasMessage-not-long bytes message [] has is
+
+none_some : (token : Text) → ◌≡◌ {A = Option Text} None (Some token) → ⊥
+none_some token e = cc
+
+some_same : (one two : Text) → ◌≡◌ {A = Option Text} (Some one) (Some two) → one ≡ two
+some_same one two e = cc
+
+pub no_token : (token : Text) (m message : Message) → m ≡ message → m.token ≡ None → message.token ≡ Some token → ⊥
+no_token token m message same none some = none_some token (sym none ∙ ap (λ (it : Message). it.token) same ∙ some)
+
+pub other_token : (token digits : Text) (m message : Message) → m ≡ message → m.token ≡ Some digits → message.token ≡ Some token → true ≡ not (bytes_eq digits token) → ⊥
+other_token token digits m message same here there differ =
+    let is : digits ≡ token = some_same digits token (sym here ∙ ap (λ (it : Message). it.token) same ∙ there) in
+    let yes' : bytes_eq digits token ≡ true = (bytes_eq-Decides digits token).1 is in
+    clash (bytes_eq digits token) yes' differ
+  where
+    clash : (b : Bool) → b ≡ true → true ≡ not b → ⊥
+    clash true e n = false≢true (sym n)
+    clash false e n = false≢true e
+
+pub stays_open : (m message : Message) → m ≡ message → m.closes ≡ false → message.closes ≡ true → ⊥
+stays_open m message same isnt is = false≢true (sym isnt ∙ ap (λ (it : Message). it.closes) same ∙ is)

@@ -1,0 +1,14 @@
+//! The till's end of a connection: the bytes of requests, what a request says to the server, and replies, over any
+//! reader and writer.
+#![tactic(auto)]
+
+mod exchange;
+pub mod laws;
+mod replies;
+mod requests;
+mod sealed;
+
+pub use exchange::{AskFault, ask, read_answer};
+pub use replies::{Answer, ReplyReading, ReplySlices, read_reply};
+pub use requests::post_bytes;
+pub use sealed::{NotSealed, Sealed, seal};

@@ -1,0 +1,113 @@
+//! Requests that the server's own reader has read.
+
+ghost use Rattle.std.specs.Prelude.{◌≡◌, IfOk, IfErr, IfSome, IfNone, ℕ, List, Option, Some, None, option_map};
+ghost use Rattle.http_messages.specs.Message.{Message};
+ghost use Rattle.http_messages.specs.Shown.{message_of};
+ghost use Rattle.shop_model.specs.Values.{Command as Written};
+ghost use Rattle.shop_model.specs.Machine.{Do};
+ghost use Rattle.shop_types.specs.Seen.{seen_command};
+ghost use Rattle.counter_routes.specs.Readings.{Reads};
+ghost use Rattle.till_client.specs.Sealing.{IsSole, SaysCommand, IsUnsealed};
+
+use counter_routes::{Reading, Routes};
+use http_messages::{Reading as MessageReading, Request as MessageSlices, read_request};
+use shop_types::{Caller, Command, Line, OfficeWords, Request, RowNumber, Usage};
+use std::alloc::Global;
+
+/// Words that say nothing: a till asks for nothing of head office's.
+struct NoWords;
+
+impl OfficeWords for NoWords {
+    ghost meaning = { λ _ _. None };
+
+    fn read(&self, _words: &[String]) -> Result<Line, Usage> {
+        Err(Usage::Memory)
+    }
+}
+
+/// A request's bytes, and the command that they say.
+#[derive(Drop)]
+pub struct Sealed {
+    pub bytes: Vec<u8>,
+    pub command: Command,
+}
+
+/// Why bytes are no command's request.
+#[derive(Debug, Drop)]
+pub enum NotSealed {
+    /// They say something else than one command, whole, with that token.
+    Other,
+    /// There was no memory.
+    Memory,
+}
+
+/// The message that the bytes are, whole, where it has that token and the connection ends behind its reply.
+fn sole_message<'b>(token: &[u8], bytes: &'b [u8]) -> Option<MessageSlices<'b>>
+    ensures some { IfSome result (λ it. IsSole bytes.now token.now (message_of it)) }
+    ensures none { IfNone result ((message : Message) → ¬ (IsSole bytes.now token.now message)) }
+{
+    let MessageReading::Whole(message, len) = read_request(bytes) else {
+        return None;
+    };
+    let Some(digits) = message.token else {
+        return None;
+    };
+    if len != bytes.len() || digits != token || !message.closes {
+        return None;
+    }
+    Some(message)
+}
+
+/// The command that was read, where one was.
+fn command_read(reading: Reading) -> Option<Command>
+    ensures some { IfSome result (λ command. Reads reading (Do (seen_command command))) }
+    ensures none { IfNone result ((written : Written) → ¬ (Reads reading (Do written))) }
+{
+    match reading {
+        Reading::Asked(request) => match request {
+            Request::Do(command) => Some(command),
+            Request::Look(_) | Request::View(_) => None,
+            Request::Office(_) | Request::OfficeLook(_) => None,
+        },
+        Reading::Refused(_) => None,
+    }
+}
+
+fn command_in(
+    alloc: Global,
+    routes: &Routes,
+    token: &[u8],
+    bytes: &[u8],
+) -> Result<Command, NotSealed>
+    ensures ok { IfOk result (λ command. SaysCommand bytes.now token.now (seen_command command)) }
+    ensures err { IfErr result (λ fault. IsUnsealed fault bytes.now token.now) }
+{
+    let Some(message) = sole_message(token, bytes) else {
+        return Err(NotSealed::Other);
+    };
+    let Some(number) = RowNumber::new(1) else {
+        return Err(NotSealed::Memory);
+    };
+    let Ok(reading) = routes.read(alloc, &NoWords, &message, Caller::Branch(number)) else {
+        return Err(NotSealed::Memory);
+    };
+    match command_read(reading) {
+        Some(command) => Ok(command),
+        None => Err(NotSealed::Other),
+    }
+}
+
+/// What the bytes say to the server, by its own readers, where that is a command with that token, sent over a
+/// connection of its own. Where they say none, they are let go of.
+pub fn seal(
+    alloc: Global,
+    routes: &Routes,
+    token: &[u8],
+    bytes: Vec<u8>,
+) -> Result<Sealed, NotSealed>
+    ensures ok { IfOk result (λ sealed. (sealed.bytes ≡ bytes) × SaysCommand sealed.bytes.items token.now (seen_command sealed.command)) }
+    ensures err { IfErr result (λ fault. IsUnsealed fault bytes.items token.now) }
+{
+    let command = command_in(alloc, routes, token, bytes.as_slice())?;
+    Ok(Sealed { bytes, command })
+}
