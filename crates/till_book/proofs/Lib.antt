@@ -1,0 +1,2 @@
+pub mod JournalTexts
+pub mod Resting

@@ -1,0 +1,47 @@
+-- The book between two calls, and what one change leaves of it.
+use Rattle.std.specs.Prelude.{◌≡◌, ℕ, ◌+◌, IsTrue, List, length, slice_get, Option}
+use Rattle.sqlite_trees.specs.Tree.{Trees}
+use Rattle.sqlite.specs.State.{State}
+use Rattle.till_book.specs.Journal.{Journal, StandsFor, Holds, waiting, with_entry, with_reply}
+
+-- the tables stand for the journal, all of it is committed, and a crash leaves it; of a connection that the store has shut only the last is said
+pub record Rests (s : State) (journal : Journal) : Type 0 where
+  pub now : IsTrue s.is_open → Holds s journal
+  pub committed : IsTrue s.is_open → s.committed ≡ s.now
+  pub left : (db : Trees) → s.may_leave db → StandsFor db journal
+
+-- from a journal of which this is given, the book comes to rest with that one
+abbrev pub Comes : (Journal → Type 0) → (Journal → Journal) → State → State → Type 0
+Comes Given change old new = (journal : Journal) → Rests old journal → Given journal → Rests new (change journal)
+
+-- what its commit may leave on the disk
+abbrev pub LeavesChanged : (Journal → Type 0) → (Journal → Journal) → State → Trees → Type 0
+LeavesChanged Given change old db = (journal : Journal) → Rests old journal → Given journal → StandsFor db (change journal)
+
+abbrev pub IsNext : ℕ → Journal → Type 0
+IsNext n journal = n ≡ length journal.entries + 1
+
+abbrev pub IsNextReply : ℕ → Journal → Type 0
+IsNextReply n journal = n ≡ length journal.replies + 1
+
+-- the request stands behind the last, on the disk too
+abbrev pub IsEntered : ℕ → List ℕ → State → State → Type 0
+IsEntered n request = Comes (IsNext n) (with_entry request)
+
+abbrev pub LeavesEntered : ℕ → List ℕ → State → Trees → Type 0
+LeavesEntered n request = LeavesChanged (IsNext n) (with_entry request)
+
+-- the reply is that of the oldest request that had none, on the disk too
+abbrev pub IsRecorded : ℕ → ℕ → List ℕ → State → State → Type 0
+IsRecorded n status body = Comes (IsNextReply n) (with_reply (record { status = status; body = body }))
+
+abbrev pub LeavesRecorded : ℕ → ℕ → List ℕ → State → Trees → Type 0
+LeavesRecorded n status body = LeavesChanged (IsNextReply n) (with_reply (record { status = status; body = body }))
+
+-- the request of that number, where there is one; the book stays
+abbrev pub FindsNumbered : ℕ → Option (List ℕ) → State → State → Type 0
+FindsNumbered n it old new = (journal : Journal) → Rests old journal → Rests new journal × ((i : ℕ) → n ≡ i + 1 → it ≡ slice_get journal.entries i)
+
+-- the oldest request without a reply, where the number is the next reply's; the book stays
+abbrev pub FindsWaiting : ℕ → Option (List ℕ) → State → State → Type 0
+FindsWaiting n it old new = (journal : Journal) → Rests old journal → IsNextReply n journal → Rests new journal × (it ≡ waiting journal)
