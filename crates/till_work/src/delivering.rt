@@ -1,0 +1,62 @@
+//! The oldest entry without a reply is sent, and its reply recorded.
+
+ghost use Rattle.std.specs.Prelude.{◌≡◌, false, IfOk, IfErr};
+ghost use Rattle.sqlite.specs.Held.{state};
+ghost use Rattle.sqlite.specs.State.{HasCleanDisk, Survives};
+ghost use Rattle.till_work.specs.Delivering.{Delivers, FailsToDeliver, MayLeave};
+
+use sql_rows::StoreFault;
+use sqlite::{Alter, Connection};
+use std::alloc::Global;
+use std::io::{Read, Write};
+use till_book::{oldest, record};
+use till_client::{Answer, AskFault, ask};
+
+/// Why the oldest entry still has no reply, or may have none.
+#[derive(Drop)]
+pub enum DeliverFault {
+    /// The book failed: it is to be opened anew, and may have the reply.
+    Book(StoreFault),
+    /// No reply came.
+    Unanswered(AskFault),
+    /// The server had no room or no store for it, and did nothing.
+    NotNow,
+}
+
+/// Sends the oldest entry that has no reply, over a connection that is there for it alone, and records the reply that
+/// came. `next` is the number of the next reply. Where every entry has its reply, nothing is written or read.
+///
+/// An entry is on the disk before its first byte is written, and stays the oldest until its reply is on the disk too:
+/// whatever fails, the next call sends the same bytes again. A reply with status 503 is none.
+pub fn deliver<S: Alter, R: Read, W: Write>(
+    alloc: Global,
+    conn: &mut Connection<S>,
+    next: u32,
+    reader: &mut R,
+    writer: &mut W,
+) -> Result<Option<Answer>, DeliverFault>
+    requires { conn.old.in_transaction ≡ false }
+    ensures ended { conn.new.in_transaction ≡ false }
+    ensures delivers { HasCleanDisk (state S.Store conn.new) → IfOk result (λ answer. Delivers next answer (state S.Store conn.old) (state S.Store conn.new)
+        (R.remaining reader.old) (R.remaining reader.new) (W.contents writer.old) (W.contents writer.new)) }
+    ensures fault { HasCleanDisk (state S.Store conn.new) → IfErr result (λ fault. FailsToDeliver next fault (state S.Store conn.old) (state S.Store conn.new)
+        (W.contents writer.old) (W.contents writer.new)) }
+    ensures crash { Survives (state S.Store conn.old) (state S.Store conn.new) (MayLeave next (state S.Store conn.old)) }
+{
+    let request = match oldest(conn, next) {
+        Ok(Some(request)) => request,
+        Ok(None) => return Ok(None),
+        Err(fault) => return Err(DeliverFault::Book(fault)),
+    };
+    let answer = match ask(alloc, reader, writer, request.as_slice()) {
+        Ok(answer) => answer,
+        Err(fault) => return Err(DeliverFault::Unanswered(fault)),
+    };
+    if answer.status == 503 {
+        return Err(DeliverFault::NotNow);
+    }
+    match record(conn, next, u32::from(answer.status), &answer.body) {
+        Ok(()) => Ok(Some(answer)),
+        Err(fault) => Err(DeliverFault::Book(fault)),
+    }
+}

@@ -1,0 +1,6 @@
+//! The till's work between its book and a connection.
+#![tactic(auto)]
+
+mod delivering;
+
+pub use delivering::{DeliverFault, deliver};
