@@ -7,3 +7,4 @@ pub mod Refused
 pub mod Outcomes
 pub mod OverStops
 pub mod Press
+pub mod Numbered

@@ -11,6 +11,7 @@ use Rattle.shop_model.specs.Resends.{Asks}
 use Rattle.shop_model.specs.Stops.{Life, Lives, history_of, begun}
 use Rattle.till_model.specs.Tills.{Entry, Served, served_in, IsBookOf, are_marked, have_own_keys, ComeFrom, ComeInOrder}
 use Rattle.till_model.specs.Outcomes.{IsUnused, Became}
+use Rattle.till_model.specs.Numbered.{AreNumbered, has_mark}
 
 -- in any history of the branch, whatever else it sees, that begins with nothing kept under the till's mark
 abbrev pub ActsOnceInOrder : Type 0
@@ -69,12 +70,20 @@ pub record WasAnswered (rules : Rules) (b : ℕ) (lives : List Life) (old : Book
   pub asked : Asks rules life.events life.answers (begun rules lives old at_life) at_place (Counter b) (Do command)
   pub told : slice_get life.answers at_place ≡ Some answer
 
--- What the till keeps: keys with its mark, each its own; moments that rise; and replies, each a decision that the chain gave to that very command. And what is
--- asked of all others: nobody else uses the mark.
+-- what a till sees to when it enters: keys with its mark, each its own, and moments that rise
+pub record AreOwn (has_mark : Text → Bool) (entries : List Entry) : Type 0 where
+  pub marked : are_marked has_mark entries ≡ true
+  pub keys : have_own_keys entries ≡ true
+  pub moments : RisingMoments entries
+
+-- commands that are numbered so are, with whatever replies
+abbrev pub NumberedAreOwn : Type 0
+NumberedAreOwn = (mark : Text) (commands : List Command) (replies : List Answer) → AreNumbered mark commands → AreOwn (has_mark mark) (entries_of commands replies)
+
+-- What the till keeps: entries of its own, and replies, each a decision that the chain gave to that very command. And what is asked of all others: nobody else
+-- uses the mark.
 pub record KeepsBook (has_mark : Text → Bool) (rules : Rules) (b : ℕ) (commands : List Command) (replies : List Answer) (lives : List Life) (old : Books) : Type 0 where
-  pub marked : are_marked has_mark (entries_of commands replies) ≡ true
-  pub keys : have_own_keys (entries_of commands replies) ≡ true
-  pub moments : RisingMoments (entries_of commands replies)
+  pub own : AreOwn has_mark (entries_of commands replies)
   pub come : ComeFrom (entries_of commands replies) (served_over has_mark rules b lives old)
   pub answered : (i : ℕ) (command : Command) (answer : Answer) → slice_get commands i ≡ Some command → slice_get replies i ≡ Some answer
       → WasAnswered rules b lives old command answer

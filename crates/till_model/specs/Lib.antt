@@ -1,3 +1,4 @@
 pub mod Tills
 pub mod Outcomes
+pub mod Numbered
 pub mod Laws

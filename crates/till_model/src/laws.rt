@@ -5,6 +5,7 @@ ghost use Rattle.till_model.specs.Laws.{
   ActsOnceOverStops,
   AnswersWereServed,
   FromThePressToTheDisk,
+  NumberedAreOwn,
   RisingComeInOrder,
 };
 
@@ -28,6 +29,12 @@ pub fn answers_were_served()
 /// Where moments rise from entry to entry, entries act in order, whatever comes late.
 pub fn rising_moments_come_in_order()
     ensures { RisingComeInOrder }
+{}
+
+/// Where the n-th entry has the till's mark and its number for a key, and a moment above those before it, all keys are
+/// the till's, each its entry's own, and moments rise.
+pub fn numbered_entries_are_own()
+    ensures { NumberedAreOwn }
 {}
 
 /// From the key press to the disk, once: what the till's book says of each entry is what the chain's books have, over

@@ -1,0 +1,24 @@
+-- The keys of a till, which are its mark, a hyphen and the entry's number, and a book whose entries are numbered so.
+use Rattle.std.specs.Prelude.{◌≡◌, ℕ, ◌+◌, ◌-◌, ◌<◌, ◌^◌, Bool, true, List, [], ◌∷◌, ◌++◌, length, take, slice_get, Some, decimal}
+use Rattle.std.specs.Str.{bytes_eq}
+use Rattle.shop_model.specs.Values.{Text, Command}
+use Rattle.shop_model.specs.Calendar.{is_earlier}
+
+-- a mark, and a hyphen behind it
+abbrev pub mark_text : Text → Text
+mark_text mark = mark ++ 45 ∷ []
+
+-- the key of that entry
+abbrev pub key_of : Text → ℕ → Text
+key_of mark n = mark_text mark ++ decimal n
+
+-- the key begins with the mark and a hyphen
+abbrev pub has_mark : Text → Text → Bool
+has_mark mark key = bytes_eq (take (length (mark_text mark)) key) (mark_text mark)
+
+-- The n-th command of a book has the key of that number, and its moment is after those of all before it.
+pub record AreNumbered (mark : Text) (commands : List Command) : Type 0 where
+  pub few : length commands < 2 ^ 64 - 1
+  pub keys : (i : ℕ) (command : Command) → slice_get commands i ≡ Some command → command.key ≡ key_of mark (i + 1)
+  pub moments : (i j : ℕ) (earlier later : Command) → i < j → slice_get commands i ≡ Some earlier → slice_get commands j ≡ Some later
+      → is_earlier earlier.moment later.moment ≡ true
