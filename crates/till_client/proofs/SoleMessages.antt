@@ -1,5 +1,5 @@
 -- Bytes that are one message, and the command that they say.
-use Rattle.std.proofs.Common.{◌≡◌, ◌∙◌, ◌≤◌, ℕ, List, [], length, drop, refl, sym, ap, arith, Some, None, Option, Bool, true, false, not}
+use Rattle.std.proofs.Common.{◌≡◌, ◌∙◌, ◌≤◌, ℕ, List, [], length, drop, refl, sym, ap, arith, Some, None, Option, Bool, true, false, not, subst}
 use Rattle.std.proofs.lemmas.List.{length-drop}
 use Rattle.http_messages.specs.Message.{Message}
 use Rattle.http_messages.specs.Input.{HasMessage}
@@ -16,7 +16,10 @@ use Rattle.shop_model.specs.Values.{Text, Command}
 use Rattle.shop_model.specs.Machine.{Do}
 use Rattle.counter_routes.specs.Readings.{counter_request}
 use Rattle.counter_routes.specs.Words.{Meaning}
-use Rattle.till_client.specs.Sealing.{IsSole, SaysCommand}
+use Rattle.std.specs.Prelude.{Result, Ok, Err, IfErr}
+use Rattle.till_client.specs.declared.sealed.NotSealed.{NotSealed}
+use Rattle.till_client.specs.declared.sealed.NotSealed.TheVariants.{Other, Memory}
+use Rattle.till_client.specs.Sealing.{IsSole, SaysCommand, IsUnsealed}
 use Rattle.till_client.specs.Laws.{OneCommand}
 
 no_meaning : Meaning
@@ -73,3 +76,18 @@ other_token token digits m message same here there differ =
 
 pub stays_open : (m message : Message) → m ≡ message → m.closes ≡ false → message.closes ≡ true → ⊥
 stays_open m message same isnt is = false≢true (sym isnt ∙ ap (λ (it : Message). it.closes) same ∙ is)
+
+-- ---- bytes that are read with their own token
+
+pub same_message : (bytes : List ℕ) (token : Text) (m : Message) {rest : List ℕ} (command : Command) → HasMessage bytes m rest → (says : SaysCommand bytes token command) → m ≡ says.message
+same_message bytes token m {rest = rest} command has says = (HasMessage-unique bytes m says.message rest [] has says.sole.whole).0
+
+-- what says nothing with its own token says nothing with any
+pub unsealed_of : {A : Type 0} (bytes : List ℕ) (digits : Text) (m : Message) {rest : List ℕ} (r : Result A NotSealed) → HasMessage bytes m rest → m.token ≡ Some digits
+    → IfErr r (λ fault. IsUnsealed fault bytes digits) → IfErr r (λ fault. (token : Text) → IsUnsealed fault bytes token)
+unsealed_of bytes digits m {rest = rest} (Ok x) has token_is is = tt
+unsealed_of bytes digits m {rest = rest} (Err Other) has token_is is = λ token command says.
+    let same = same_message bytes token m {rest = rest} command has says in
+    let own : digits ≡ token = some_same digits token (sym token_is ∙ ap (λ (it : Message). it.token) same ∙ says.sole.token_is) in
+    is command (subst (λ (t : Text). SaysCommand bytes t command) (sym own) says)
+unsealed_of bytes digits m {rest = rest} (Err Memory) has token_is is = λ token. tt

@@ -11,4 +11,4 @@ mod sealed;
 pub use exchange::{AskFault, ask, read_answer};
 pub use replies::{Answer, ReplyReading, ReplySlices, read_reply};
 pub use requests::post_bytes;
-pub use sealed::{NotSealed, Sealed, seal};
+pub use sealed::{NotSealed, Sealed, command_of, seal};

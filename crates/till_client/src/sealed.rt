@@ -97,6 +97,20 @@ fn command_in(
     }
 }
 
+/// The command that the bytes say to the server, with whatever token.
+pub fn command_of(alloc: Global, routes: &Routes, bytes: &[u8]) -> Result<Command, NotSealed>
+    ensures ok { IfOk result (λ command. (token : List ℕ) × SaysCommand bytes.now token (seen_command command)) }
+    ensures err { IfErr result (λ fault. (token : List ℕ) → IsUnsealed fault bytes.now token) }
+{
+    let MessageReading::Whole(message, _) = read_request(bytes) else {
+        return Err(NotSealed::Other);
+    };
+    let Some(token) = message.token else {
+        return Err(NotSealed::Other);
+    };
+    command_in(alloc, routes, token, bytes)
+}
+
 /// What the bytes say to the server, by its own readers, where that is a command with that token, sent over a
 /// connection of its own. Where they say none, they are let go of.
 pub fn seal(

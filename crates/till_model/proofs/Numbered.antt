@@ -13,7 +13,7 @@ use Rattle.shop_model.specs.Values.{Text, Command}
 use Rattle.shop_model.specs.Answers.{Answer}
 use Rattle.shop_model.proofs.Resends.{same_some, same_none}
 use Rattle.till_model.specs.Tills.{Entry, are_marked, have_own_keys}
-use Rattle.till_model.specs.Numbered.{mark_text, key_of, has_mark, AreNumbered}
+use Rattle.till_model.specs.Numbered.{mark_text, key_of, has_mark, AreNumbered, IsAfterLast}
 use Rattle.till_model.specs.Laws.{entries_of, NumberedAreOwn}
 
 -- ---- keys
@@ -93,10 +93,6 @@ more_at (c ∷ cs) command it (suc i) there = elim (more_at cs command it i ther
   | inl (low, here) ↦ inl (omega arith, here)
   | inr (is, same) ↦ inr (omega arith, same)
 ]
-
--- the moment is after that of the last, where there is one
-abbrev pub IsAfterLast : List Command → Moment → Type 0
-IsAfterLast commands moment = (i : ℕ) (last : Command) → length commands ≡ i + 1 → slice_get commands i ≡ Some last → is_earlier last.moment moment ≡ true
 
 earlier_still : (a b c : Moment) → is_earlier a b ≡ true → is_earlier b c ≡ true → is_earlier a c ≡ true
 earlier_still a b c one two = grind (arith, nat_tests)

@@ -2,7 +2,7 @@
 use Rattle.std.specs.Prelude.{◌≡◌, ℕ, ◌+◌, ◌-◌, ◌<◌, ◌^◌, Bool, true, List, [], ◌∷◌, ◌++◌, length, take, slice_get, Some, decimal}
 use Rattle.std.specs.Str.{bytes_eq}
 use Rattle.shop_model.specs.Values.{Text, Command}
-use Rattle.shop_model.specs.Calendar.{is_earlier}
+use Rattle.shop_model.specs.Calendar.{Moment, is_earlier}
 
 -- a mark, and a hyphen behind it
 abbrev pub mark_text : Text → Text
@@ -22,3 +22,7 @@ pub record AreNumbered (mark : Text) (commands : List Command) : Type 0 where
   pub keys : (i : ℕ) (command : Command) → slice_get commands i ≡ Some command → command.key ≡ key_of mark (i + 1)
   pub moments : (i j : ℕ) (earlier later : Command) → i < j → slice_get commands i ≡ Some earlier → slice_get commands j ≡ Some later
       → is_earlier earlier.moment later.moment ≡ true
+
+-- the moment is after that of the last, where there is one
+abbrev pub IsAfterLast : List Command → Moment → Type 0
+IsAfterLast commands moment = (i : ℕ) (last : Command) → length commands ≡ i + 1 → slice_get commands i ≡ Some last → is_earlier last.moment moment ≡ true
