@@ -2,5 +2,7 @@
 #![tactic(auto)]
 
 mod delivering;
+mod entering;
 
 pub use delivering::{DeliverFault, deliver};
+pub use entering::{EnterFault, enter_command, key_bytes};

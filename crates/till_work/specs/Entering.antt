@@ -1,0 +1,83 @@
+-- A till's book as entering keeps it, and what comes of one more entry.
+use Rattle.std.specs.Prelude.{◌≡◌, ◌≢◌, ⊤, ℕ, ◌+◌, List, [], ◌∷◌, ◌++◌, length, slice_get, Option, Some, None}
+use Rattle.sqlite.specs.State.{State}
+use Rattle.shop_model.specs.Values.{Text, Command}
+use Rattle.shop_model.specs.Calendar.{Moment}
+use Rattle.till_model.specs.Numbered.{key_of, AreNumbered, IsAfterLast}
+use Rattle.till_client.specs.Sealing.{SaysCommand}
+use Rattle.till_book.specs.Journal.{Journal, with_entry}
+use Rattle.till_book.specs.Steps.{Rests, IsNext, IsEntered}
+use Rattle.till_work.specs.declared.entering.EnterFault.{EnterFault}
+use Rattle.till_work.specs.declared.entering.EnterFault.TheVariants.{Book, Memory, NoCommand, OtherKey, NotLater, OtherBook}
+
+-- ---- the book
+
+-- an entry says that command, with whatever token
+abbrev pub Says : List ℕ → Command → Type 0
+Says bytes command = (token : Text) × SaysCommand bytes token command
+
+-- the n-th entry says the n-th command
+abbrev pub Say : List (List ℕ) → List Command → Type 0
+Say [] [] = ⊤
+Say [] (command ∷ commands) = ⊥
+Say (bytes ∷ entries) [] = ⊥
+Say (bytes ∷ entries) (command ∷ commands) = Says bytes command × Say entries commands
+
+-- The book's entries say these commands. The n-th has the till's mark and its number for a key, and moments rise.
+pub record IsTillsBook (mark : Text) (journal : Journal) (commands : List Command) : Type 0 where
+  pub says : Say journal.entries commands
+  pub numbered : AreNumbered mark commands
+
+-- the last command's moment, and none where there is no command
+abbrev pub IsLast : Option Moment → List Command → Type 0
+IsLast None commands = commands ≡ []
+IsLast (Some moment) commands = (i : ℕ) × (last : Command) × (length commands ≡ i + 1) × (slice_get commands i ≡ Some last) × (last.moment ≡ moment)
+
+abbrev pub Stays : State → State → Type 0
+Stays old new = (journal : Journal) → Rests old journal → Rests new journal
+
+-- the last entry's moment, where the number is the next entry's; the book stays
+abbrev pub FindsLast : ℕ → Option Moment → State → State → Type 0
+FindsLast n last old new =
+    Stays old new × ((journal : Journal) (commands : List Command) → Rests old journal → IsNext n journal → Say journal.entries commands → IsLast last commands)
+
+-- ---- one more entry
+
+-- The request says that command with the till's token, its key is the entry's, and it stands behind the last, on the disk too. So a till's book stays one.
+pub record Enters (mark token : Text) (n : ℕ) (command : Command) (request : List ℕ) (old new : State) : Type 0 where
+  pub says : SaysCommand request token command
+  pub key : command.key ≡ key_of mark n
+  pub entered : IsEntered n request old new
+  pub keeps : (journal : Journal) (commands : List Command) → Rests old journal → IsNext n journal → IsTillsBook mark journal commands
+      → IsTillsBook mark (with_entry request journal) (commands ++ command ∷ [])
+
+-- why a request is no entry of that number, whatever the book has
+abbrev pub IsUnfit : Text → Text → ℕ → EnterFault → List ℕ → Type 0
+IsUnfit mark token n NoCommand request = (command : Command) → ¬ (SaysCommand request token command)
+IsUnfit mark token n OtherKey request = (command : Command) → SaysCommand request token command → command.key ≢ key_of mark n
+IsUnfit mark token n Memory request = ⊤
+IsUnfit mark token n (Book fault) request = ⊥
+IsUnfit mark token n NotLater request = ⊥
+IsUnfit mark token n OtherBook request = ⊥
+
+-- Why the last entry's moment isn't told: the store failed, or there was no memory, or this isn't the book, or not the number.
+abbrev pub FindsNoLast : ℕ → EnterFault → State → State → Type 0
+FindsNoLast n (Book fault) old new = ⊤
+FindsNoLast n Memory old new = Stays old new
+FindsNoLast n OtherBook old new = Stays old new × ((journal : Journal) (commands : List Command) → Rests old journal → IsNext n journal → ¬ (Say journal.entries commands))
+FindsNoLast n NoCommand old new = ⊥
+FindsNoLast n OtherKey old new = ⊥
+FindsNoLast n NotLater old new = ⊥
+
+-- Nothing is entered, unless the book failed; and why.
+abbrev pub FailsToEnter : Text → Text → ℕ → EnterFault → List ℕ → State → State → Type 0
+FailsToEnter mark token n (Book fault) request old new = ⊤
+FailsToEnter mark token n Memory request old new = Stays old new
+FailsToEnter mark token n NoCommand request old new = Stays old new × IsUnfit mark token n NoCommand request
+FailsToEnter mark token n OtherKey request old new = Stays old new × IsUnfit mark token n OtherKey request
+FailsToEnter mark token n NotLater request old new =
+    Stays old new
+    × ((journal : Journal) (commands : List Command) (command : Command) → Rests old journal → IsNext n journal → Say journal.entries commands → SaysCommand request token command
+    → ¬ (IsAfterLast commands command.moment))
+FailsToEnter mark token n OtherBook request old new =
+    Stays old new × ((journal : Journal) (commands : List Command) → Rests old journal → IsNext n journal → ¬ (Say journal.entries commands))
