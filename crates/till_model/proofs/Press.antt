@@ -33,11 +33,11 @@ press_to_disk has_mark rules look b commands replies lives old new lived numbers
     once_over_stops has_mark rules look b entries lives old new lived numbers fresh (record {
       marked = book.own.marked;
       keys = book.own.keys;
-      come = book.come;
+      come = book.witnessed.come;
       order = rising_in_order entries served book.own.moments;
       told = λ i e answer there is.
           let it = stands commands replies i e answer there is in
-          let was = book.answered i e.command answer it.command it.reply in
-          answers_served has_mark rules look b lives old new lived numbers was.at_life was.at_place was.life e.command answer was.lived was.asked was.told (book.decided i answer it.reply)
+          let was = book.witnessed.answered i e.command answer it.command it.reply in
+          answers_served has_mark rules look b lives old new lived numbers was.at_life was.at_place was.life e.command answer was.lived was.asked was.told (book.witnessed.decided i answer it.reply)
           (marked_at has_mark entries i e book.own.marked there);
     })

@@ -80,14 +80,17 @@ pub record AreOwn (has_mark : Text → Bool) (entries : List Entry) : Type 0 whe
 abbrev pub NumberedAreOwn : Type 0
 NumberedAreOwn = (mark : Text) (commands : List Command) (replies : List Answer) → AreNumbered mark commands → AreOwn (has_mark mark) (entries_of commands replies)
 
--- What the till keeps: entries of its own, and replies, each a decision that the chain gave to that very command. And what is asked of all others: nobody else
--- uses the mark.
-pub record KeepsBook (has_mark : Text → Bool) (rules : Rules) (b : ℕ) (commands : List Command) (replies : List Answer) (lives : List Life) (old : Books) : Type 0 where
-  pub own : AreOwn has_mark (entries_of commands replies)
+-- What came under the mark are the book's commands, so nobody else uses it; and each recorded reply is a decision that the chain gave to that very command.
+pub record IsWitnessed (has_mark : Text → Bool) (rules : Rules) (b : ℕ) (commands : List Command) (replies : List Answer) (lives : List Life) (old : Books) : Type 0 where
   pub come : ComeFrom (entries_of commands replies) (served_over has_mark rules b lives old)
   pub answered : (i : ℕ) (command : Command) (answer : Answer) → slice_get commands i ≡ Some command → slice_get replies i ≡ Some answer
       → WasAnswered rules b lives old command answer
   pub decided : (i : ℕ) (answer : Answer) → slice_get replies i ≡ Some answer → is_decided answer ≡ true
+
+-- what the till keeps: entries of its own, and replies that were given
+pub record KeepsBook (has_mark : Text → Bool) (rules : Rules) (b : ℕ) (commands : List Command) (replies : List Answer) (lives : List Life) (old : Books) : Type 0 where
+  pub own : AreOwn has_mark (entries_of commands replies)
+  pub witnessed : IsWitnessed has_mark rules b commands replies lives old
 
 -- What is entered acts at most once, in the order of entering; what the book shows as accepted acted once, with that reply; over any number of stops.
 abbrev pub FromThePressToTheDisk : Type 0

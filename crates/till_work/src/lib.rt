@@ -3,6 +3,7 @@
 
 mod delivering;
 mod entering;
+pub mod laws;
 
 pub use delivering::{DeliverFault, deliver};
 pub use entering::{EnterFault, enter_command, key_bytes};
