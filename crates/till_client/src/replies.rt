@@ -83,7 +83,8 @@ fn reply_with<'b>(bytes: &'b [u8], status: u16, len: usize) -> ReplyReading<'b>
     ReplyReading::Whole(ReplySlices { status, body })
 }
 
-/// What the bytes of a connection so far are.
+/// What the bytes of a connection so far are. Of `Whole` alone something is promised: that other bytes are told to be
+/// the start of a reply, or none, is left open.
 pub fn read_reply(bytes: &[u8]) -> ReplyReading<'_>
     ensures { IsReplyReading bytes.now result }
 {
