@@ -5,7 +5,7 @@ import re
 
 DATA = os.path.join(os.path.dirname(os.path.abspath(__file__)), "../crates/worked_rows/data")
 PHRASES = {200: "OK", 400: "Bad Request", 403: "Forbidden", 404: "Not Found", 409: "Conflict", 503: "Service Unavailable"}
-ESCAPES = {b"r": b"\r", b"n": b"\n", b"t": b"\t", b'"': b'"', b"\\": b"\\"}
+ESCAPES = {b"r": b"\r", b"n": b"\n", b"t": b"\t", b"s": b" ", b'"': b'"', b"\\": b"\\"}
 
 
 def unquoted(text):
@@ -36,7 +36,8 @@ class Names:
         return re.sub(rb"\$(\w+)", lambda it: self.texts.get(it[1], it[0]), text)
 
     def body(self, text):
-        return unquoted(text) if text.startswith(b'"') else self.fill(text)
+        text = self.fill(text)
+        return unquoted(text) if text.startswith(b'"') else text
 
 
 def rows(file):
@@ -50,7 +51,7 @@ def rows(file):
             name, _, text = rest.partition(b" = ")
             names.texts[name] = names.fill(text)
         elif word == b"raw":
-            found[-1][1].append((unquoted(rest), []))
+            found[-1][1].append((unquoted(names.fill(rest)), []))
         elif len(word) == 1 and word != b"#":
             method, path, *body = rest.split(b" ", 2)
             sent = request(word, method, names.fill(path), names.body(body[0]) if body else None)

@@ -1,38 +1,31 @@
 //! What is wrong with a line.
 use std::alloc::{AllocError, AllocFailed};
-use std::{fmt, io};
+use std::io;
 
 /// Why a row stops at a line.
 #[derive(Clone, Copy)]
 pub enum Fault {
-    Memory,
     /// The line can't be played.
     Line(&'static str),
-    /// The connection didn't end so, or with another count of replies.
-    End(&'static str, u32),
-    /// The replies differ from those that are wanted, first at that byte.
-    Replies(usize),
     /// The files aren't opened, for the fault of that name.
     Opening(&'static str),
-    /// The audit says something else.
-    Audit,
-    /// The program ended with that status.
-    Status(u8),
-    /// The program wrote something else to its standard output.
+    /// What was sent or told differs from what is wanted.
     Out,
-    /// The same of its standard error.
+    /// It ended in another way.
+    End,
+    /// The program wrote something else to its standard error.
     Err,
 }
 
 impl From<AllocError> for Fault {
     fn from(_: AllocError) -> Fault {
-        Fault::Memory
+        Fault::Line("no memory")
     }
 }
 
 impl<T: Drop> From<AllocFailed<T>> for Fault {
     fn from(_: AllocFailed<T>) -> Fault {
-        Fault::Memory
+        Fault::Line("no memory")
     }
 }
 
@@ -42,39 +35,27 @@ impl From<io::Error> for Fault {
     }
 }
 
-/// Bytes as a text in quotes.
-#[derive(Clone, Copy)]
-struct Quotes<'t>(&'t [u8]);
-
-impl fmt::Display for Quotes<'_> {
-    fn fmt<W: fmt::Write>(&self, f: &mut fmt::Formatter<W>) -> fmt::Result {
-        match str::from_utf8(self.0) {
-            Ok(text) => write!(f, "{text:?}"),
-            Err(_) => f.write_str("what is no text"),
-        }
+pub fn is_so(holds: bool, text: &'static str) -> Result<(), Fault> {
+    if holds {
+        Ok(())
+    } else {
+        Err(Fault::Line(text))
     }
 }
 
-/// A fault, and what was told where it is that something else is wanted.
-#[derive(Clone, Copy)]
-pub struct Complaint<'t> {
-    pub fault: Fault,
-    pub told: &'t [u8],
-}
-
-impl fmt::Display for Complaint<'_> {
-    fn fmt<W: fmt::Write>(&self, f: &mut fmt::Formatter<W>) -> fmt::Result {
-        let told = Quotes(self.told);
-        match self.fault {
-            Fault::Memory => f.write_str("no memory"),
-            Fault::Line(text) => f.write_str(text),
-            Fault::End(end, replies) => write!(f, "the end is {end} {replies}"),
-            Fault::Replies(at) => write!(f, "byte {at} differs in {told}"),
-            Fault::Opening(name) => write!(f, "the files aren't opened: {name}"),
-            Fault::Audit => write!(f, "the audit is {told}"),
-            Fault::Status(status) => write!(f, "the status is {status}"),
-            Fault::Out => write!(f, "out is {told}"),
-            Fault::Err => write!(f, "err is {told}"),
+/// The number whose digits these are.
+pub fn number(text: &str) -> Result<u32, Fault> {
+    let mut number = 0u32;
+    for byte in text.bytes() {
+        match byte {
+            b'0'..=b'9' => {
+                number = number
+                    .saturating_mul(10)
+                    .saturating_add(u32::from(byte - b'0'));
+            }
+            _ => return Err(Fault::Line("a count is wanted")),
         }
     }
+    is_so(!text.is_empty(), "a count is wanted")?;
+    Ok(number)
 }

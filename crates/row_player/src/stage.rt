@@ -1,13 +1,28 @@
 //! What rows are played on: the product's chain and its program, as few calls as rows need.
+use crate::asked::Texts;
 use crate::fault::Fault;
 use std::alloc::{AllocGlobal, Global};
 use std::io::{self, ErrorKind, Read, Write};
 use std::net::{Net, TcpListener};
 use std::time::{Clock, Duration};
 
+/// How the next requests come to the chain.
+#[derive(Clone, Copy)]
+pub enum Way {
+    /// As bytes.
+    Bytes,
+    /// As values, with their tokens.
+    Values,
+    /// As values of that branch.
+    Branch(u32),
+    /// As values, before a stop at each call of the disks and behind it.
+    Stopped,
+}
+
 /// How the bytes of the next connection come, how many requests it may have, and how many bytes of replies there is room for.
 #[derive(Clone, Copy)]
 pub struct How {
+    pub way: Way,
     pub pieces: usize,
     pub cut: usize,
     /// Whether the reader fails where its input is cut.
@@ -19,6 +34,7 @@ pub struct How {
 }
 
 pub const WHOLE: How = How {
+    way: Way::Bytes,
     pieces: usize::MAX,
     cut: usize::MAX,
     breaks: false,
@@ -41,22 +57,20 @@ impl Read for Pieces<'_> {
             return Err(io::Error::from(ErrorKind::ConnectionReset));
         }
         let n = self.most.min(buf.len()).min(self.bytes.len());
-        for (place, byte) in buf.iter_mut().zip(&self.bytes[..n]) {
-            *place = *byte;
-        }
+        buf[..n].copy_from_slice(&self.bytes[..n]);
         self.bytes = &self.bytes[n..];
         Ok(n)
     }
 }
 
-/// Keeps what is written to it, as long as there is room.
+/// Puts what is written to it behind what is there, as long as there is room.
 #[derive(Drop)]
-pub struct Room {
-    pub bytes: Vec<u8>,
+pub struct Room<'b> {
+    pub bytes: &'b mut Vec<u8>,
     pub most: usize,
 }
 
-impl Write for Room {
+impl Write for Room<'_> {
     fn write(&mut self, buf: &[u8]) -> io::Result<usize> {
         let n = buf.len().min(self.most.saturating_sub(self.bytes.len()));
         self.bytes.extend_from_slice(&buf[..n])?;
@@ -82,10 +96,6 @@ impl Image {
             log: Vec::new(alloc),
             db: Vec::new(alloc),
         }
-    }
-
-    pub fn is_same(&self, other: &Image) -> bool {
-        self.log.as_slice() == other.log.as_slice() && self.db.as_slice() == other.db.as_slice()
     }
 }
 
@@ -121,6 +131,21 @@ pub struct Left {
     pub made: Calls,
 }
 
+impl Left {
+    /// What the files hold, behind a crash or without one.
+    pub fn image(&self, is_crash: bool) -> &Image {
+        if is_crash { &self.crashed } else { &self.files }
+    }
+
+    pub fn new(alloc: Global) -> Left {
+        Left {
+            files: Image::new(alloc),
+            crashed: Image::new(alloc),
+            made: NEVER,
+        }
+    }
+}
+
 /// How a chain comes to be in files.
 #[derive(Clone, Copy)]
 pub enum Opening {
@@ -132,18 +157,27 @@ pub enum Opening {
     Migrated,
     /// It is made in files with nothing in them.
     Made,
+    /// The chain that is there is closed, and opened on the same disks.
+    Again,
 }
 
-/// What came of a run of the program.
-#[derive(Drop)]
-pub struct Ran {
-    pub status: u8,
-    pub out: Vec<u8>,
-    pub err: Vec<u8>,
+/// What is done with the tables in files.
+#[derive(Clone, Copy)]
+pub enum Deed<'t> {
+    /// They are made, with the opening rows.
+    Fill,
+    /// A statement.
+    Statement(&'t str),
+    /// All that stands in the log alone is copied into the database's file.
+    CopyIn,
+    /// An audit of them, sound or not, which is told.
+    Audit,
+    /// One of custody alone.
+    Custody,
 }
 
 /// The chain that rows talk to, one at a time and in two files on disks in memory, and the program that they run.
-pub trait Stage {
+pub trait Stage: Drop {
     /// Has a chain in copies of the files, on disks that fail behind so many calls. Or the name of the fault by which there is none: then `close` gives what
     /// is left of the files.
     fn open(
@@ -153,17 +187,14 @@ pub trait Stage {
         calls: Calls,
     ) -> Result<Option<&'static str>, Fault>;
 
-    /// Closes the chain and opens it on the same disks, or tells the fault's name.
-    fn reopen(&mut self) -> Option<&'static str>;
-
     /// Closes the chain, if there is one.
-    fn close(&mut self) -> Result<Left, Fault>;
+    fn close(&mut self, left: &mut Left) -> Result<(), Fault>;
 
     /// Serves a connection that may have so many requests, alone or by turns: how many replies were sent, and the word of how it ended.
     fn serve(
         &mut self,
         pieces: &mut Pieces<'_>,
-        room: &mut Room,
+        room: &mut Room<'_>,
         most: u32,
         turns: Option<u32>,
     ) -> Result<(u32, &'static str), Fault>;
@@ -180,21 +211,36 @@ pub trait Stage {
     /// Of how many films the chain knows what they are.
     fn known_films(&self) -> usize;
 
-    /// The files, with what a statement makes of their tables; with none, the tables with the opening rows.
-    fn change(&mut self, files: &Image, text: Option<&str>) -> Result<Image, Fault>;
+    /// Does that with the tables in the files.
+    fn tables(
+        &mut self,
+        deed: Deed<'_>,
+        files: &mut Image,
+        told: &mut Vec<u8>,
+    ) -> Result<(), Fault>;
 
-    /// The files, with all that stood in the log alone copied into the database's file.
-    fn copy_in(&mut self, files: &Image) -> Result<Image, Fault>;
+    /// Has the requests read, and put to the chain as values: with their tokens, or as those of that branch. Puts the bytes of the replies, and tells how many
+    /// there are.
+    fn answer(
+        &mut self,
+        input: &[u8],
+        branch: Option<u32>,
+        out: &mut Vec<u8>,
+    ) -> Result<u32, Fault>;
 
-    /// What an audit of the tables says, sound or not, or one of custody alone.
-    fn audit(&mut self, files: &Image, of_custody: bool) -> Result<Vec<u8>, Fault>;
-
-    /// The bytes of the replies to a script of requests before a stop at some call, and to the same script behind it. None where the chain isn't opened.
-    fn resume(&mut self, files: &Image, calls: Calls) -> Result<Option<(Vec<u8>, Vec<u8>)>, Fault>;
+    /// The same of a chain over copies of the files, whose disks fail behind so many calls: the replies before it is stopped are put in `out`, and those to the same
+    /// requests behind that in `err`. Whether it is opened.
+    fn resume(
+        &mut self,
+        input: &[u8],
+        files: &Image,
+        calls: Calls,
+        told: &mut Texts,
+    ) -> Result<bool, Fault>;
 
     /// Makes the calls of that name, which no request makes.
     fn call(&mut self, name: &str) -> Result<(), Fault>;
 
-    /// Runs the program with these words and what stands on standard input.
-    fn run(&mut self, words: &[String], input: &[u8]) -> Ran;
+    /// Runs the program with these words and what stands on standard input, and tells the status.
+    fn run(&mut self, words: &[String], input: &[u8], told: &mut Texts) -> u8;
 }

@@ -1,21 +1,11 @@
-//! Connections, openings, migrations and the making of a chain, stopped at each call of the disks in turn; and what is sent behind a stop.
-use crate::chains::{Chains, told_by};
-use crate::fault::Fault;
-use crate::stage::{Calls, Image, MANY, NEVER, Opening, Stage, WHOLE};
-use crate::texts::put_reply;
-use std::alloc::Global;
-
-/// What is stopped.
-#[derive(Clone, Copy)]
-pub enum Part {
-    Connection,
-    Opening,
-    Migration,
-    Making,
-}
+//! Connections, openings, migrations and the making of a chain, stopped at each call of the disks in turn; and a changed byte.
+use crate::asked::Texts;
+use crate::chain::{Chain, send};
+use crate::fault::{Fault, is_so};
+use crate::stage::{Calls, Deed, Image, MANY, MOST_CALLS, NEVER, Opening, Stage, WHOLE};
 
 /// Head office asks for the audit.
-pub const AUDIT: &[u8] =
+const AUDIT: &[u8] =
     b"POST /office HTTP/1.1\r\ncounter-token: 00000000000000000000000000000000\r\ncontent-length: 9\r\n\r\n[\"audit\"]";
 
 /// The same, and branch 1 asks for the balance of its first customer.
@@ -26,243 +16,247 @@ const AUDIT_AND_BALANCE: &[u8] =
 const NEW_AUDIT: &[u8] =
     b"POST /office HTTP/1.1\r\ncounter-token: 0123456789abcdef0123456789abcdef\r\ncontent-length: 9\r\n\r\n[\"audit\"]";
 
-/// What a chain over copies of the files sends, whose disks fail behind so many calls, and how many calls of `MANY` the opening and the connection take.
-pub fn sent_within<S: Stage>(
-    alloc: Global,
-    stage: &mut S,
-    opening: Opening,
-    files: &Image,
-    calls: Calls,
-    input: &[u8],
-) -> Result<(Vec<u8>, Calls), Fault> {
-    if let Some(name) = stage.open(opening, files, calls)? {
-        return Err(Fault::Opening(name));
-    }
-    let told = told_by(alloc, stage, input, WHOLE)?;
-    let left = stage.close()?;
-    Ok((told.bytes, left.made))
-}
+/// What a reply begins with, and what stands behind that where the store has failed.
+const HEAD: &str = "HTTP/1.1 ";
 
-/// Which of the two files' disks fails.
+const FAILED: &str =
+    "503 Service Unavailable\r\ncontent-type: application/json\r\ncontent-length: 26\r\n\r\n{\"refused\":\"store_failed\"}";
+
+/// What is stopped, what comes to it, and what comes behind the stop.
 #[derive(Clone, Copy)]
-enum Failing {
-    Log,
-    Database,
-}
-
-impl Failing {
-    /// The disk fails behind so many calls, and the other one never.
-    fn behind(self, calls: u64) -> Calls {
-        match self {
-            Failing::Log => Calls {
-                log: calls,
-                ..NEVER
-            },
-            Failing::Database => Calls { db: calls, ..NEVER },
-        }
-    }
-
-    /// How many calls of the disk there are.
-    fn of(self, made: Calls) -> u64 {
-        match self {
-            Failing::Log => made.log,
-            Failing::Database => made.db,
-        }
-    }
-}
-
-/// Files, what is stopped over copies of them, and what is sent where nothing stops it.
-#[derive(Clone, Copy)]
-struct Trial<'t> {
-    alloc: Global,
-    stopped: Part,
+struct Stopped<'t> {
     opening: Opening,
-    files: &'t Image,
-    /// What comes to the chain that is stopped.
+    is_connection: bool,
     input: &'t [u8],
-    /// What comes behind the stop, and what is sent to that.
     again: &'t [u8],
+    /// What is sent to that where nothing is stopped.
     wanted: &'t [u8],
 }
 
-impl Trial<'_> {
-    /// Whether the chain that these files hold sends what is wanted. In files with the same bytes as those that weren't touched it did.
-    fn resumes<S: Stage>(&self, stage: &mut S, files: &Image) -> Result<(), Fault> {
-        let is_made = matches!(self.stopped, Part::Making);
-        if files.is_same(self.files) && !is_made {
+fn is_same(one: &Image, other: &Image) -> bool {
+    one.log.as_slice() == other.log.as_slice() && one.db.as_slice() == other.db.as_slice()
+}
+
+/// The disk of one file fails behind so many calls, and the other never.
+fn behind(is_log: bool, calls: u64) -> Calls {
+    if is_log {
+        Calls {
+            log: calls,
+            ..NEVER
+        }
+    } else {
+        Calls { db: calls, ..NEVER }
+    }
+}
+
+/// Whether the replies before a stop, in `out`, are the first of those behind it, in `err`, and from there on the store has failed.
+fn are_first(told: &Texts) -> bool {
+    let before = str::from_utf8(told.out.as_slice()).unwrap_or("");
+    let behind = str::from_utf8(told.err.as_slice()).unwrap_or("");
+    let mut has_failed = false;
+    let mut replies = behind.split(HEAD);
+    for reply in before.split(HEAD) {
+        match replies.next() {
+            Some(wanted) if reply == wanted && !has_failed => {}
+            Some(_) if reply == FAILED => has_failed = true,
+            _ => return false,
+        }
+    }
+    replies.next().is_none()
+}
+
+impl<S: Stage> Chain<S> {
+    /// Whether the chain that the files hold behind a stop, or behind a crash, sends what is wanted. In files with the same bytes as those that weren't touched it
+    /// did.
+    fn resumes(&mut self, stopped: &Stopped<'_>, is_crash: bool) -> Result<(), Fault> {
+        let files = self.tried.image(is_crash);
+        let is_made = matches!(stopped.opening, Opening::Made);
+        if is_same(files, &self.left.files) && !is_made {
             return Ok(());
         }
-        if let Some(name) = stage.open(Opening::Opened, files, NEVER)? {
-            let left = stage.close()?;
+        if let Some(name) = self.stage.open(Opening::Opened, files, NEVER)? {
+            self.stage.close(&mut self.next)?;
             if is_made && name == "not_a_chain" {
                 return Ok(());
             }
-            let is_before = matches!(self.stopped, Part::Migration) && name == "other_version";
-            if !is_before || stage.open(Opening::Migrated, &left.files, NEVER)?.is_some() {
+            let is_before = matches!(stopped.opening, Opening::Migrated) && name == "other_version";
+            let files = &self.next.files;
+            if !is_before || self.stage.open(Opening::Migrated, files, NEVER)?.is_some() {
                 return Err(Fault::Opening(name));
             }
         }
-        let told = told_by(self.alloc, stage, self.again, WHOLE)?;
-        drop(stage.close()?);
-        if told.bytes.as_slice() != self.wanted {
-            return Err(Fault::Line("a chain that was stopped sends something else"));
-        }
-        Ok(())
-    }
-
-    /// Whether the connection sends what is wanted, or that the store has failed.
-    fn may_send<S: Stage>(&self, stage: &mut S) -> Result<(), Fault> {
-        let told = told_by(self.alloc, stage, self.input, WHOLE)?;
-        let bytes = told.bytes.as_slice();
-        if bytes != self.wanted && !bytes.ends_with(b"{\"refused\":\"store_failed\"}") {
-            return Err(Fault::Line("a chain that is stopped sends something else"));
-        }
-        Ok(())
+        send(&mut self.stage, stopped.again, WHOLE, &mut self.told)?;
+        self.stage.close(&mut self.next)?;
+        is_so(
+            self.told.out.as_slice() == stopped.wanted,
+            "a chain that was stopped sends something else",
+        )
     }
 
     /// Stops it behind so many calls, and has what comes again sent the same, in the files as they are left and as a crash leaves them. Whether a connection was
     /// stopped, and not the opening before it.
-    fn stops<S: Stage>(&self, stage: &mut S, calls: Calls) -> Result<bool, Fault> {
-        let is_connection = matches!(self.stopped, Part::Connection);
-        if let Some(name) = stage.open(self.opening, self.files, calls)? {
-            if name != "store_failed" && matches!(self.opening, Opening::Opened) {
+    fn stops(&mut self, stopped: &Stopped<'_>, calls: Calls) -> Result<bool, Fault> {
+        if let Some(name) = self.stage.open(stopped.opening, &self.left.files, calls)? {
+            if name != "store_failed" && matches!(stopped.opening, Opening::Opened) {
                 return Err(Fault::Opening(name));
             }
-            if is_connection {
+            if stopped.is_connection {
                 return Ok(false);
             }
-        } else if is_connection {
-            self.may_send(stage)?;
+        } else if stopped.is_connection {
+            send(&mut self.stage, stopped.input, WHOLE, &mut self.told)?;
+            let told = self.told.out.as_slice();
+            is_so(
+                told == stopped.wanted || told.ends_with(FAILED.as_bytes()),
+                "a chain that is stopped sends something else",
+            )?;
         }
-        let left = stage.close()?;
-        self.resumes(stage, &left.files)?;
-        self.resumes(stage, &left.crashed)?;
+        self.stage.close(&mut self.tried)?;
+        self.resumes(stopped, false)?;
+        self.resumes(stopped, true)?;
         Ok(true)
     }
 
     /// Stops it at each call of a disk, from the last of so many; a connection back to the calls of the opening.
-    fn stops_at_each<S: Stage>(
-        &self,
-        stage: &mut S,
-        which: Failing,
-        made: Calls,
+    fn stops_at_each(
+        &mut self,
+        stopped: &Stopped<'_>,
+        is_log: bool,
+        made: u64,
     ) -> Result<(), Fault> {
-        let made = which.of(made);
-        for behind in 1..=made {
-            if !self.stops(stage, which.behind(made.saturating_sub(behind)))? {
+        for last in 1..=made {
+            let calls = behind(is_log, made.saturating_sub(last));
+            if !self.stops(stopped, calls)? {
                 return Ok(());
             }
         }
-        match self.stopped {
-            Part::Connection => Err(Fault::Line("no call is the opening's")),
-            _ => Ok(()),
+        is_so(!stopped.is_connection, "no call is the opening's")
+    }
+
+    /// Whether what is stopped at any call, over copies of these files, goes on behind the stop as where nothing stopped it.
+    fn sweep(
+        &mut self,
+        opening: Opening,
+        is_connection: bool,
+        input: &[u8],
+        again: &[u8],
+    ) -> Result<(), Fault> {
+        self.is_swept = false;
+        self.trial(opening, NEVER, again)?;
+        let wanted = Vec::from_slice(self.alloc, self.told.out.as_slice())?;
+        self.trial(opening, MANY, input)?;
+        let made = self.tried.made;
+        self.trial(opening, made, input)?;
+        is_so(
+            !is_connection || self.told.out.as_slice() == wanted.as_slice(),
+            "more calls are made",
+        )?;
+        let stopped = Stopped {
+            opening,
+            is_connection,
+            input,
+            again,
+            wanted: wanted.as_slice(),
+        };
+        self.stops_at_each(&stopped, true, made.log)?;
+        self.stops_at_each(&stopped, false, made.db)
+    }
+
+    /// The same of a connection.
+    pub fn sweep_connection(&mut self, input: &[u8]) -> Result<(), Fault> {
+        self.sweep(Opening::Opened, true, input, input)
+    }
+
+    /// The same of an opening, a migration or the making of a chain.
+    pub fn sweep_opening(&mut self, opening: Opening) -> Result<(), Fault> {
+        let again = match opening {
+            Opening::Migrated => AUDIT_AND_BALANCE,
+            Opening::Made => NEW_AUDIT,
+            _ => AUDIT,
+        };
+        self.sweep(opening, false, b"", again)
+    }
+
+    /// Has the requests answered as values before a stop behind so many calls, and behind that, of which both are told. Whether nothing was stopped.
+    fn resumes_values(&mut self, input: &[u8], calls: Calls) -> Result<bool, Fault> {
+        self.told.clear();
+        let files = &self.left.files;
+        if !self.stage.resume(input, files, calls, &mut self.told)? {
+            return Ok(false);
         }
+        let is_whole = self.told.out.as_slice() == self.told.err.as_slice();
+        is_so(
+            is_whole || are_first(&self.told),
+            "another reply before a stop",
+        )?;
+        Ok(is_whole)
     }
-}
 
-/// Whether what is stopped at any call, over copies of these files, goes on behind the stop as where nothing stopped it.
-pub fn sweep<S: Stage>(
-    alloc: Global,
-    stage: &mut S,
-    stopped: Part,
-    files: &Image,
-    input: &[u8],
-) -> Result<(), Fault> {
-    let (opening, again) = match stopped {
-        Part::Connection => (Opening::Opened, input),
-        Part::Opening => (Opening::Opened, AUDIT),
-        Part::Migration => (Opening::Migrated, AUDIT_AND_BALANCE),
-        Part::Making => (Opening::Made, NEW_AUDIT),
-    };
-    let (wanted, _) = sent_within(alloc, stage, opening, files, NEVER, again)?;
-    let (sent, made) = sent_within(alloc, stage, opening, files, MANY, input)?;
-    let (within, _) = sent_within(alloc, stage, opening, files, made, input)?;
-    if sent.as_slice() != within.as_slice() {
-        return Err(Fault::Line("more calls are made"));
-    }
-    let trial = Trial {
-        alloc,
-        stopped,
-        opening,
-        files,
-        input,
-        again,
-        wanted: wanted.as_slice(),
-    };
-    trial.stops_at_each(stage, Failing::Log, made)?;
-    trial.stops_at_each(stage, Failing::Database, made)
-}
-
-/// A stop inside the making of a chain leaves none, or the whole new one.
-pub fn creations<S: Stage>(chains: &mut Chains<'_, S>) -> Result<(), Fault> {
-    let alloc = chains.alloc;
-    sweep(alloc, chains.stage, Part::Making, &Image::new(alloc), b"")
-}
-
-/// The first customer pays twice, of no rental, and asks what is owed.
-const SCRIPT: &str =
-    "POST /pay HTTP/1.1\r\ncounter-token: 11111111111111111111111111111111\r\ncontent-length: 89\r\n\r\n{\"key\":\"p1\",\"staff\":1,\"at\":\"2026-03-02T12:00:00\",\"customer\":1,\"rental\":null,\"amount\":300}POST /pay HTTP/1.1\r\ncounter-token: 11111111111111111111111111111111\r\ncontent-length: 89\r\n\r\n{\"key\":\"p2\",\"staff\":1,\"at\":\"2026-03-02T12:00:00\",\"customer\":1,\"rental\":null,\"amount\":200}GET /balance/1/2026-03-02T12:00:00 HTTP/1.1\r\ncounter-token: 11111111111111111111111111111111\r\n\r\n";
-
-const REPLIES: [&str; 3] = ["{\"payment\":1}", "{\"payment\":2}", "{\"balance\":-500}"];
-
-/// The replies to the script of which so many are answered, and from there on the store has failed.
-fn answered_to(alloc: Global, count: usize) -> Result<Vec<u8>, Fault> {
-    let mut out = Vec::new(alloc);
-    for (at, body) in REPLIES.iter().enumerate() {
-        if at < count {
-            put_reply(alloc, &mut out, "200", body.as_bytes())?;
-        } else {
-            put_reply(alloc, &mut out, "503", b"{\"refused\":\"store_failed\"}")?;
+    /// Stops the chain at each call of a disk while it answers the requests as values. Behind each stop it answers them as where nothing stopped it, which is put.
+    pub fn resume(&mut self, input: &[u8], out: &mut Vec<u8>) -> Result<(), Fault> {
+        self.rest()?;
+        for is_log in [true, false] {
+            let mut is_whole = false;
+            for calls in 0..MOST_CALLS {
+                is_whole = self.resumes_values(input, behind(is_log, calls))?;
+                let told = self.told.err.as_slice();
+                if out.is_empty() {
+                    out.extend_from_slice(told)?;
+                }
+                is_so(
+                    told.is_empty() || told == out.as_slice(),
+                    "another reply behind a stop",
+                )?;
+                if is_whole {
+                    break;
+                }
+            }
+            is_so(is_whole, "more calls are made")?;
         }
+        Ok(())
     }
-    Ok(out)
-}
 
-/// Whether the script was answered so before a stop.
-fn is_front(alloc: Global, before: &[u8]) -> Result<bool, Fault> {
-    for count in 0..=REPLIES.len() {
-        let told = answered_to(alloc, count)?;
-        if told.as_slice() == before {
-            return Ok(true);
+    /// Has the last byte of a text be another one, wherever it stands in the database's file, at one place at a time: the chain isn't opened, by the store or as
+    /// damage, or it says of itself what it says where nothing is changed; and at some place it isn't opened.
+    pub fn flip(&mut self, text: &str, byte: u8) -> Result<(), Fault> {
+        self.change(Deed::CopyIn)?;
+        self.trial(Opening::Opened, NEVER, AUDIT)?;
+        let wanted = Vec::from_slice(self.alloc, self.told.out.as_slice())?;
+        let Some(kept) = text.as_bytes().last() else {
+            return Err(Fault::Line("a text is wanted"));
+        };
+        let mut places = 0u32;
+        let mut refused = 0u32;
+        for at in 0..self.left.files.db.len() {
+            let db = &mut self.left.files.db;
+            let end = at.saturating_add(text.len());
+            let Some(part) = db.get(at..end) else {
+                break;
+            };
+            if part != text.as_bytes() {
+                continue;
+            }
+            places = places.saturating_add(1);
+            let place = end.saturating_sub(1);
+            if let Some(it) = db.get_mut(place) {
+                *it = byte;
+            }
+            match self.stage.open(Opening::Opened, &self.left.files, NEVER)? {
+                None => {
+                    send(&mut self.stage, AUDIT, WHOLE, &mut self.told)?;
+                    is_so(
+                        self.told.out.as_slice() == wanted.as_slice(),
+                        "other books are opened",
+                    )?;
+                }
+                Some("damaged" | "store_failed") => refused = refused.saturating_add(1),
+                Some(name) => return Err(Fault::Opening(name)),
+            }
+            if let Some(it) = self.left.files.db.get_mut(place) {
+                *it = *kept;
+            }
         }
+        is_so(places > 1, "the text stands in no index")?;
+        is_so(refused > 0, "every change is opened")
     }
-    Ok(false)
-}
-
-/// Has the script asked, stops where a disk fails, and has it asked again.
-fn asked_twice<S: Stage>(
-    alloc: Global,
-    stage: &mut S,
-    files: &Image,
-    wanted: &[u8],
-    calls: Calls,
-) -> Result<(), Fault> {
-    if let Some((before, behind)) = stage.resume(files, calls)? {
-        if behind.as_slice() != wanted {
-            return Err(Fault::Line("another reply behind a stop"));
-        }
-        if !is_front(alloc, before.as_slice())? {
-            return Err(Fault::Line("another reply before a stop"));
-        }
-    }
-    Ok(())
-}
-
-/// At whatever call a chain is stopped, it answers behind the stop what it would have answered.
-pub fn stopped<S: Stage>(chains: &mut Chains<'_, S>) -> Result<(), Fault> {
-    let alloc = chains.alloc;
-    let files = chains.stocked()?;
-    let stage = &mut *chains.stage;
-    let opened = Opening::Opened;
-    let (told, made) = sent_within(alloc, stage, opened, &files, MANY, SCRIPT.as_bytes())?;
-    let wanted = answered_to(alloc, REPLIES.len())?;
-    if told.as_slice() != wanted.as_slice() {
-        return Err(Fault::Line("another reply to the script"));
-    }
-    for which in [Failing::Log, Failing::Database] {
-        for calls in 0..which.of(made) {
-            asked_twice(alloc, stage, &files, wanted.as_slice(), which.behind(calls))?;
-        }
-    }
-    Ok(())
 }

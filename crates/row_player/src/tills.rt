@@ -1,6 +1,5 @@
 //! Tills over loopback, served side by side: what they do is a list of steps, and time passes by steps alone.
-use crate::chains::Chains;
-use crate::fault::Fault;
+use crate::fault::{Fault, is_so};
 use crate::stage::Stage;
 use std::alloc::{Alloc, Global};
 use std::cell::{Cell, RefCell};
@@ -9,61 +8,60 @@ use std::net::{Net, Shutdown, SocketAddr, TcpListener, TcpStream};
 use std::time::{Clock, Duration};
 
 /// For how many milliseconds of the steps' time a till is waited for.
-pub const PATIENCE: u64 = 50;
+const PATIENCE: u64 = 50;
 
 /// In how many seconds of the real clock the steps have to be made.
 const LONGEST: u64 = 60;
 
 /// What a till does, or what has to come of it before the next step is made.
-#[derive(Drop)]
-pub enum Step {
+#[derive(Clone, Copy)]
+pub enum What {
     /// One more till comes. The first is 0.
     Comes,
-    /// It sends bytes.
-    Sends(usize, String),
-    /// It is told these bytes, behind those that it was told before.
-    IsTold(usize, String),
-    /// It is told nothing, and isn't left.
-    Waits(usize),
-    /// It is told that no more comes.
-    IsLeft(usize),
-    /// It sends no more.
-    Goes(usize),
     /// So many milliseconds pass, and the server looks at the clock again.
-    Passes(u64),
+    Passes,
+    /// It sends the bytes.
+    Sends,
+    /// It sends no more.
+    Goes,
+    /// It is told the bytes, behind those that it was told before.
+    IsTold,
+    /// It is told nothing, and isn't left.
+    Waits,
+    /// It is told that no more comes.
+    IsLeft,
 }
 
-/// What is there to read, at most so much as the bytes have room for. No bytes are there where it is `None`, and none come any more where it is 0.
-fn there(stream: &TcpStream, bytes: &mut [u8]) -> io::Result<Option<usize>> {
-    match stream.peek(bytes) {
-        Ok(n) => Ok(Some(n)),
-        Err(e) if e.kind() == ErrorKind::WouldBlock => Ok(None),
-        Err(e) => Err(e),
-    }
+/// A step: what is done, by which till, or how many milliseconds pass.
+#[derive(Drop)]
+pub struct Step {
+    pub what: What,
+    pub number: u32,
+    pub bytes: Vec<u8>,
 }
 
-/// Whether the bytes have come whole, which then are read. It is an error where others come.
-fn is_told(alloc: Global, mut stream: &TcpStream, wanted: &[u8]) -> io::Result<bool> {
-    let mut bytes = vec![in alloc; 0; wanted.len()]?;
-    let Some(n) = there(stream, &mut bytes)? else {
-        return Ok(false);
+fn wrong() -> io::Result<bool> {
+    Err(io::Error::from(ErrorKind::InvalidData))
+}
+
+/// Whether what the step wants has come, which then is read. It is an error where something else comes.
+fn has_come(alloc: Global, mut stream: &TcpStream, step: &Step) -> io::Result<bool> {
+    let wanted = step.bytes.as_slice();
+    let mut bytes = vec![in alloc; 0; wanted.len().max(1)]?;
+    let n = match stream.peek(&mut bytes) {
+        Ok(n) => n.min(bytes.len()),
+        Err(e) if e.kind() == ErrorKind::WouldBlock => return Ok(matches!(step.what, What::Waits)),
+        Err(e) => return Err(e),
     };
-    if n == 0 || !wanted.starts_with(&bytes[..n.min(bytes.len())]) {
-        return Err(io::Error::from(ErrorKind::InvalidData));
-    }
-    if n < wanted.len() {
-        return Ok(false);
-    }
-    stream.read_exact(&mut bytes)?;
-    Ok(true)
-}
-
-/// Whether it was told that no more comes. It is an error where bytes come.
-fn is_left(stream: &TcpStream) -> io::Result<bool> {
-    match there(stream, &mut [0])? {
-        None => Ok(false),
-        Some(0) => Ok(true),
-        Some(_) => Err(io::Error::from(ErrorKind::InvalidData)),
+    match step.what {
+        What::IsLeft if n == 0 => Ok(true),
+        What::IsTold if n > 0 && wanted.starts_with(&bytes[..n]) => {
+            if n == wanted.len() {
+                stream.read_exact(&mut bytes)?;
+            }
+            Ok(n == wanted.len())
+        }
+        _ => wrong(),
     }
 }
 
@@ -82,57 +80,42 @@ struct Tills<'t> {
     /// When they began, by the real clock.
     begun: Duration,
     sockets: RefCell<Vec<TcpStream>>,
-    /// How many tills have come.
-    came: Cell<u32>,
+    /// How many tills are still to come.
+    coming: Cell<u32>,
 }
 
 impl Tills<'_> {
     fn come(&self) -> io::Result<TcpStream> {
         let stream = TcpStream::connect(self.rt, self.server)?;
         stream.set_nonblocking(true)?;
-        self.came.set(self.came.get().saturating_add(1));
+        self.coming.set(self.coming.get().saturating_sub(1));
         Ok(stream)
     }
 
     /// Makes the step, if it can be made now.
     fn makes(&self, sockets: &mut Vec<TcpStream>, step: &Step) -> io::Result<bool> {
-        let till = match step {
-            Step::Comes => {
+        match step.what {
+            What::Comes => {
                 sockets.push(self.come()?)?;
                 return Ok(true);
             }
-            Step::Passes(millis) => {
-                self.now.set(self.now.get().saturating_add(*millis));
+            What::Passes => {
+                let now = self.now.get().saturating_add(u64::from(step.number));
+                self.now.set(now);
                 return Ok(true);
             }
-            Step::Sends(till, _) | Step::IsTold(till, _) => *till,
-            Step::Waits(till) | Step::IsLeft(till) | Step::Goes(till) => *till,
+            _ => {}
+        }
+        let Some(stream) = sockets.get(step.number as usize) else {
+            return wrong();
         };
-        match sockets.get(till) {
-            Some(stream) => self.makes_at(stream, step),
-            None => Err(io::Error::from(ErrorKind::NotConnected)),
+        let mut stream = stream;
+        match step.what {
+            What::Sends => stream.write_all(step.bytes.as_slice())?,
+            What::Goes => stream.shutdown(Shutdown::Write)?,
+            _ => return has_come(self.rt.alloc(), stream, step),
         }
-    }
-
-    /// The same with the till's socket.
-    fn makes_at(&self, mut stream: &TcpStream, step: &Step) -> io::Result<bool> {
-        match step {
-            Step::Sends(_, text) => {
-                stream.write_all(text.as_bytes())?;
-                Ok(true)
-            }
-            Step::IsTold(_, text) => is_told(self.rt.alloc(), stream, text.as_bytes()),
-            Step::Waits(_) => match there(stream, &mut [0])? {
-                None => Ok(true),
-                Some(_) => Err(io::Error::from(ErrorKind::InvalidData)),
-            },
-            Step::IsLeft(_) => is_left(stream),
-            Step::Goes(_) => {
-                stream.shutdown(Shutdown::Write)?;
-                Ok(true)
-            }
-            Step::Comes | Step::Passes(_) => Ok(true),
-        }
+        Ok(true)
     }
 
     /// Makes the next steps, up to one that can't be made yet or behind which time passed.
@@ -142,53 +125,41 @@ impl Tills<'_> {
                 return Ok(());
             }
             self.made.set(self.made.get().saturating_add(1));
-            if matches!(step, Step::Passes(_)) {
+            if matches!(step.what, What::Passes) {
                 return Ok(());
             }
         }
         Ok(())
     }
 
-    /// All tills go, those too that haven't come yet, and a second passes.
-    fn go(&self, sockets: &mut Vec<TcpStream>) {
-        sockets.clear();
-        self.now.set(self.now.get().saturating_add(1000));
-        if self.came.get() < self.comers() {
-            drop(self.come());
-        }
-    }
-
-    /// How many tills come in all.
-    fn comers(&self) -> u32 {
-        let mut comers: u32 = 0;
-        for step in self.steps {
-            if matches!(step, Step::Comes) {
-                comers = comers.saturating_add(1);
-            }
-        }
-        comers
-    }
-
-    fn are_late(&self) -> bool {
-        match self.rt.monotonic() {
-            Ok(now) => now.saturating_sub(self.begun) > Duration::from_secs(LONGEST),
-            Err(_) => true,
-        }
-    }
-
     fn are_played(&self) -> bool {
         self.made.get() >= self.steps.len() && !self.is_stuck.get()
+    }
+
+    /// Goes on where the steps can be made in time. Else all tills go, those too that haven't come yet, and a second passes.
+    fn advance(&self, sockets: &mut Vec<TcpStream>) {
+        if self.is_stuck.get() || self.are_played() {
+            sockets.clear();
+            self.now.set(self.now.get().saturating_add(1000));
+            if self.coming.get() > 0 {
+                drop(self.come());
+            }
+            return;
+        }
+        let is_late = match self.rt.monotonic() {
+            Ok(now) => now.saturating_sub(self.begun) > Duration::from_secs(LONGEST),
+            Err(_) => true,
+        };
+        if self.go_on(sockets).is_err() || is_late {
+            self.is_stuck.set(true);
+        }
     }
 }
 
 impl Clock for Tills<'_> {
     fn monotonic(&self) -> io::Result<Duration> {
         if let Ok(mut sockets) = self.sockets.try_borrow_mut() {
-            if self.is_stuck.get() || self.are_played() {
-                self.go(&mut sockets);
-            } else if self.go_on(&mut sockets).is_err() || self.are_late() {
-                self.is_stuck.set(true);
-            }
+            self.advance(&mut sockets);
         }
         Ok(Duration::from_millis(self.now.get()))
     }
@@ -220,10 +191,21 @@ impl Alloc for Tills<'_> {
     }
 }
 
-/// Serves the tills by the chain. Whether each step was made and all were served.
-pub fn are_served<S: Stage>(chains: &mut Chains<'_, S>, steps: &[Step]) -> Result<bool, Fault> {
-    let rt = chains.rt;
+/// Serves the tills, and has all their steps made: by the steps' time as the server goes on, or, with the real clock's patience, those before what has to come of
+/// them first, and the others behind it.
+pub fn serve_tills<S: Stage>(
+    rt: &HostRuntime,
+    stage: &mut S,
+    steps: &[Step],
+    patience: Option<u32>,
+) -> Result<(), Fault> {
     let listener = TcpListener::bind(rt, "127.0.0.1:0")?;
+    let mut comers = 0u32;
+    for step in steps {
+        if matches!(step.what, What::Comes) {
+            comers = comers.saturating_add(1);
+        }
+    }
     let tills = Tills {
         rt,
         server: listener.local_addr()?,
@@ -233,10 +215,23 @@ pub fn are_served<S: Stage>(chains: &mut Chains<'_, S>, steps: &[Step]) -> Resul
         now: Cell::new(0),
         begun: rt.monotonic()?,
         sockets: RefCell::new(Vec::new(rt.alloc())),
-        came: Cell::new(0),
+        coming: Cell::new(comers),
     };
-    let comers = tills.comers();
-    let patience = Duration::from_millis(PATIENCE);
-    let status = chains.stage.listen(&tills, &listener, comers, patience)?;
-    Ok(status == 0 && tills.are_played())
+    let status = match patience {
+        None => {
+            let patience = Duration::from_millis(PATIENCE);
+            stage.listen(&tills, &listener, comers, patience)?
+        }
+        Some(millis) => {
+            let _ = tills.monotonic()?;
+            let patience = Duration::from_millis(u64::from(millis));
+            let status = stage.listen(rt, &listener, comers, patience)?;
+            let _ = tills.monotonic()?;
+            status
+        }
+    };
+    is_so(
+        status == 0 && tills.are_played(),
+        "a till isn't served as it should be",
+    )
 }

@@ -1,37 +1,32 @@
 //! What the rows are played on: a chain in files on disks in memory, and the whole program.
 use crate::calls::call;
-use crate::disks::{disks, image, left_on};
-use crate::resuming::resumed;
-use crate::shop::{Shop, opened};
-use crate::tables::{audited, changed, copied_in};
-use crate::values::NO_VALUE;
-use row_player::{Calls, Fault, Image, Left, NEVER, Opening, Pieces, Ran, Room, Stage};
-use sakila_office::run;
+use crate::disks::{InMemory, disks, leave, put_image};
+use crate::serving::{Outcome, answer, serve_alone, serve_by_turns};
+use crate::shop::{Shop, opened, resumed};
+use crate::tables::work;
+use crate::values::read_values;
+use office_words::ClapWords;
+use row_player::{Calls, Deed, Fault, Image, Left, NEVER, Opening, Pieces, Room, Stage, Texts};
+use sakila_office::{run, serve_listener};
 use shop_types::{Limits, Token};
-use sqlite_disk::{Fuse, Memory};
+use sqlite::Files;
 use std::alloc::{AllocGlobal, Global};
 use std::mem;
 use std::net::{Net, TcpListener};
 use std::time::{Clock, Duration};
 
+const NO_CHAIN: Fault = Fault::Line("there is no chain yet");
+
 /// The chain of the row that is played.
 #[derive(Drop)]
-pub struct Counter<'t> {
+pub struct Counter<'t, D: InMemory> {
     rt: &'t HostRuntime,
     alloc: Global,
-    shop: Shop<Fuse<Memory>>,
+    shop: Shop<D>,
 }
 
-/// The limits of a chain that is opened so.
-fn limits_of(opening: Opening) -> Option<Limits> {
-    match opening {
-        Opening::Limited(commands, copies) => Limits::new(commands, copies),
-        _ => Some(Limits::default()),
-    }
-}
-
-impl<'t> Counter<'t> {
-    pub fn new(rt: &'t HostRuntime) -> Counter<'t> {
+impl<'t, D: InMemory> Counter<'t, D> {
+    pub fn new(rt: &'t HostRuntime) -> Counter<'t, D> {
         Counter {
             rt,
             alloc: rt.alloc(),
@@ -39,55 +34,66 @@ impl<'t> Counter<'t> {
         }
     }
 
-    fn keeps(&mut self, shop: Shop<Fuse<Memory>>) {
+    fn keep(&mut self, shop: Shop<D>) {
         drop(mem::replace(&mut self.shop, shop));
     }
 
-    fn take(&mut self) -> Shop<Fuse<Memory>> {
+    fn take(&mut self) -> Shop<D> {
         mem::replace(&mut self.shop, Shop::Gone)
     }
 }
 
-impl Stage for Counter<'_> {
+impl<D: InMemory> Stage for Counter<'_, D> {
     fn open(
         &mut self,
         opening: Opening,
         files: &Image,
         calls: Calls,
     ) -> Result<Option<&'static str>, Fault> {
-        let Some(limits) = limits_of(opening) else {
-            return Err(Fault::Line("there is no such chain"));
+        if let Opening::Again = opening {
+            let (shop, fault) = self.take().reopened();
+            self.keep(shop);
+            return Ok(fault);
+        }
+        let limits = match opening {
+            Opening::Limited(commands, copies) => Limits::new(commands, copies),
+            _ => Some(Limits::default()),
         };
-        let Some(office) = Token::read(b"0123456789abcdef0123456789abcdef") else {
-            return Err(NO_VALUE);
+        let office = Token::read(b"0123456789abcdef0123456789abcdef");
+        let (Some(limits), Some(office)) = (limits, office) else {
+            return Err(Fault::Line("there is no such chain"));
         };
         let disks = disks(self.alloc, files, calls)?;
         let (shop, fault) = opened(self.alloc, opening, disks, limits, &office);
-        self.keeps(shop);
+        self.keep(shop);
         Ok(fault)
     }
 
-    fn reopen(&mut self) -> Option<&'static str> {
-        let (shop, fault) = self.take().reopened();
-        self.keeps(shop);
-        fault
-    }
-
-    fn close(&mut self) -> Result<Left, Fault> {
+    fn close(&mut self, left: &mut Left) -> Result<(), Fault> {
         match self.take().files() {
-            Some(disks) => left_on(self.alloc, disks),
-            None => Err(Fault::Line("there is no chain yet")),
+            Some(mut disks) => {
+                let is_left = leave(&mut disks, left);
+                drop(disks);
+                is_left
+            }
+            None => Ok(()),
         }
     }
 
     fn serve(
         &mut self,
         pieces: &mut Pieces<'_>,
-        room: &mut Room,
+        room: &mut Room<'_>,
         most: u32,
         turns: Option<u32>,
-    ) -> Result<(u32, &'static str), Fault> {
-        self.shop.serve(self.alloc, pieces, room, most, turns)
+    ) -> Result<Outcome, Fault> {
+        match (&mut self.shop, turns) {
+            (Shop::Open(chain), None) => serve_alone(self.alloc, pieces, room, chain, most),
+            (Shop::Open(chain), Some(turns)) => {
+                serve_by_turns(self.alloc, pieces, room, chain, most, turns)
+            }
+            _ => Err(NO_CHAIN),
+        }
     }
 
     fn listen<R: Net + Clock + AllocGlobal>(
@@ -97,39 +103,69 @@ impl Stage for Counter<'_> {
         comers: u32,
         patience: Duration,
     ) -> Result<u8, Fault> {
-        self.shop.listen(rt, listener, comers, patience)
+        let words = ClapWords { alloc: rt.alloc() };
+        match &mut self.shop {
+            Shop::Open(chain) => Ok(serve_listener(rt, listener, chain, &words, comers, patience)),
+            _ => Err(NO_CHAIN),
+        }
     }
 
     fn known_films(&self) -> usize {
-        self.shop.known_films()
+        match &self.shop {
+            Shop::Open(chain) => chain.cached_films(),
+            _ => 0,
+        }
     }
 
-    fn change(&mut self, files: &Image, text: Option<&str>) -> Result<Image, Fault> {
-        let disks = disks(self.alloc, files, NEVER)?;
-        image(self.alloc, changed(self.alloc, disks, text)?)
+    fn tables(
+        &mut self,
+        deed: Deed<'_>,
+        files: &mut Image,
+        told: &mut Vec<u8>,
+    ) -> Result<(), Fault> {
+        let disks: Files<D> = disks(self.alloc, files, NEVER)?;
+        let disks = work(self.alloc, deed, disks, told)?;
+        let put = put_image(&disks, files);
+        drop(disks);
+        put
     }
 
-    fn copy_in(&mut self, files: &Image) -> Result<Image, Fault> {
-        let disks = disks(self.alloc, files, NEVER)?;
-        image(self.alloc, copied_in(self.alloc, disks)?)
+    fn answer(
+        &mut self,
+        input: &[u8],
+        branch: Option<u32>,
+        out: &mut Vec<u8>,
+    ) -> Result<u32, Fault> {
+        let Shop::Open(chain) = &mut self.shop else {
+            return Err(NO_CHAIN);
+        };
+        let asked = read_values(self.alloc, input)?;
+        let told = answer(self.alloc, chain, asked.as_slice(), branch, out);
+        drop(asked);
+        told
     }
 
-    fn audit(&mut self, files: &Image, of_custody: bool) -> Result<Vec<u8>, Fault> {
-        audited(self.alloc, disks(self.alloc, files, NEVER)?, of_custody)
-    }
-
-    fn resume(&mut self, files: &Image, calls: Calls) -> Result<Option<(Vec<u8>, Vec<u8>)>, Fault> {
-        resumed(self.alloc, disks(self.alloc, files, calls)?)
+    fn resume(
+        &mut self,
+        input: &[u8],
+        files: &Image,
+        calls: Calls,
+        told: &mut Texts,
+    ) -> Result<bool, Fault> {
+        let asked = read_values(self.alloc, input)?;
+        let is_opened = match disks::<D>(self.alloc, files, calls) {
+            Ok(disks) => resumed(self.alloc, disks, asked.as_slice(), told),
+            Err(fault) => Err(fault),
+        };
+        drop(asked);
+        is_opened
     }
 
     fn call(&mut self, name: &str) -> Result<(), Fault> {
         call(self.alloc, name)
     }
 
-    fn run(&mut self, words: &[String], mut input: &[u8]) -> Ran {
-        let mut out = Vec::new(self.alloc);
-        let mut err = Vec::new(self.alloc);
-        let status = run(self.rt, words, &mut input, &mut out, &mut err);
-        Ran { status, out, err }
+    fn run(&mut self, words: &[String], mut input: &[u8], told: &mut Texts) -> u8 {
+        run(self.rt, words, &mut input, &mut told.out, &mut told.err)
     }
 }

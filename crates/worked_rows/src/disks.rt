@@ -4,39 +4,48 @@ use sqlite::Files;
 use sqlite_disk::{Crash, Disk, Fuse, Memory};
 use std::alloc::Global;
 
-/// Two files on disks that fail.
-pub type Disks = Files<Fuse<Memory>>;
+/// A disk in memory.
+pub trait InMemory: Crash + Drop {
+    /// One that holds these bytes, and fails behind so many calls.
+    fn holding(alloc: Global, bytes: &[u8], calls: u64) -> Result<Self, Fault>;
 
-fn disk(alloc: Global, bytes: &[u8], calls: u64) -> Result<Fuse<Memory>, Fault> {
-    let mut disk = Memory::new(alloc);
-    if disk.write_at(0, bytes).is_err() || disk.sync().is_err() {
-        return Err(Fault::Memory);
+    /// What it holds.
+    fn held(&self) -> &[u8];
+}
+
+impl InMemory for Fuse<Memory> {
+    fn holding(alloc: Global, bytes: &[u8], calls: u64) -> Result<Fuse<Memory>, Fault> {
+        let mut disk = Memory::new(alloc);
+        if disk.write_at(0, bytes).is_err() || disk.sync().is_err() {
+            return Err(Fault::Line("no memory"));
+        }
+        Ok(Fuse::new(disk, calls))
     }
-    Ok(Fuse::new(disk, calls))
+
+    fn held(&self) -> &[u8] {
+        self.inner().bytes()
+    }
 }
 
 /// Disks that hold what the files do, and fail behind so many calls.
-pub fn disks(alloc: Global, files: &Image, calls: Calls) -> Result<Disks, Fault> {
+pub fn disks<D: InMemory>(alloc: Global, files: &Image, calls: Calls) -> Result<Files<D>, Fault> {
     Ok(Files {
-        log: disk(alloc, files.log.as_slice(), calls.log)?,
-        db: disk(alloc, files.db.as_slice(), calls.db)?,
+        log: D::holding(alloc, files.log.as_slice(), calls.log)?,
+        db: D::holding(alloc, files.db.as_slice(), calls.db)?,
     })
 }
 
-/// What the disks hold, which go.
-pub fn image(alloc: Global, disks: Disks) -> Result<Image, Fault> {
-    image_of(alloc, &disks)
-}
-
-fn image_of(alloc: Global, disks: &Disks) -> Result<Image, Fault> {
-    Ok(Image {
-        log: Vec::from_slice(alloc, disks.log.inner().bytes())?,
-        db: Vec::from_slice(alloc, disks.db.inner().bytes())?,
-    })
+/// Puts what the disks hold.
+pub fn put_image<D: InMemory>(disks: &Files<D>, files: &mut Image) -> Result<(), Fault> {
+    files.log.clear();
+    files.log.extend_from_slice(disks.log.held())?;
+    files.db.clear();
+    files.db.extend_from_slice(disks.db.held())?;
+    Ok(())
 }
 
 /// How many of many calls a disk had. What is left of them is told by using them up.
-fn calls_of(disk: &mut Fuse<Memory>) -> u64 {
+fn calls_of<D: Disk>(disk: &mut D) -> u64 {
     for left in 0..MOST_CALLS {
         if !disk.may_be_used() || disk.len().is_err() {
             return MOST_CALLS.saturating_sub(left);
@@ -45,20 +54,14 @@ fn calls_of(disk: &mut Fuse<Memory>) -> u64 {
     0
 }
 
-/// What the disks of a closed chain hold, also behind a crash.
-pub fn left_on(alloc: Global, disks: Disks) -> Result<Left, Fault> {
-    let mut disks = disks;
-    let files = image_of(alloc, &disks)?;
-    let made = Calls {
+/// Puts what the disks of a closed chain hold, also behind a crash.
+pub fn leave<D: InMemory>(disks: &mut Files<D>, left: &mut Left) -> Result<(), Fault> {
+    put_image(disks, &mut left.files)?;
+    left.made = Calls {
         log: calls_of(&mut disks.log),
         db: calls_of(&mut disks.db),
     };
     disks.log.crash();
     disks.db.crash();
-    let crashed = image_of(alloc, &disks)?;
-    Ok(Left {
-        files,
-        crashed,
-        made,
-    })
+    put_image(disks, &mut left.crashed)
 }

@@ -1,6 +1,4 @@
 //! The lists of rows as values, each once, by rows and texts that are worked out by hand.
-use crate::values::{NO_VALUE, is_so};
-use row_player::Fault;
 use shop_types::{ActorNo, BranchNo, CustomerNo, FilmNo, Minutes, Rate, Rating, StaffNo, Text};
 use shop_views::{
     ActorRow, CategoryRow, CustomerRow, FilmGroup, FilmRow, ListedPerson, OverdueRow, PersonName,
@@ -134,15 +132,14 @@ fn lists_sales(alloc: Global) -> Option<bool> {
     )
 }
 
-/// Lists of rows that come as values, which a request has row by row.
-pub fn typed_lists(alloc: Global) -> Result<(), Fault> {
-    is_so(
-        lists_overdue(alloc).ok_or(NO_VALUE)?
-            && lists_customers(alloc).ok_or(NO_VALUE)?
-            && lists_staff(alloc).ok_or(NO_VALUE)?
-            && lists_films(alloc).ok_or(NO_VALUE)?
-            && lists_actors(alloc).ok_or(NO_VALUE)?
-            && lists_sales(alloc).ok_or(NO_VALUE)?,
-        "another list",
+/// Whether lists of rows that come as values are those of a request, which has them row by row.
+pub fn are_lists(alloc: Global) -> Option<bool> {
+    Some(
+        lists_overdue(alloc)?
+            && lists_customers(alloc)?
+            && lists_staff(alloc)?
+            && lists_films(alloc)?
+            && lists_actors(alloc)?
+            && lists_sales(alloc)?,
     )
 }

@@ -5,7 +5,6 @@ mod calls;
 mod counter;
 mod disks;
 mod lists;
-mod resuming;
 mod serving;
 mod shop;
 mod tables;
@@ -13,6 +12,7 @@ mod values;
 
 use crate::counter::Counter;
 use row_player::play_all;
+use sqlite_disk::{Fuse, Memory};
 use std::process::ExitCode;
 use std::{env, io};
 
@@ -21,8 +21,6 @@ fn main(rt: HostRuntime) -> io::Result<ExitCode> {
     for path in env::args(&rt)?.skip(1) {
         paths.push(path)?;
     }
-    let mut counter = Counter::new(&rt);
-    let code = play_all(&rt, &mut counter, paths.as_slice());
-    drop(counter);
-    Ok(code)
+    let counter: Counter<'_, Fuse<Memory>> = Counter::new(&rt);
+    Ok(play_all(&rt, counter, paths.as_slice()))
 }

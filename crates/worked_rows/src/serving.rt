@@ -1,13 +1,18 @@
-//! A connection to a chain, alone or by turns.
+//! A connection to a chain, alone or by turns, and requests that are put to it as values.
 use chain_engine::Chain;
-use counter_http::{Connection, End, ServeFault, Served, Standing, Switchboard, TurnFault, serve};
+use counter_http::{
+    Connection, End, ServeFault, Standing, Switchboard, TurnFault, reply_bytes, serve,
+};
 use office_words::ClapWords;
 use row_player::{Fault, Pieces, Room};
+use shop_types::{BranchNo, Caller, Reply, Request, Token};
 use sqlite::Alter;
 use std::alloc::Global;
 
 /// How many replies were sent, and the word of how a connection ended.
 pub type Outcome = (u32, &'static str);
+
+const MEMORY: Fault = Fault::Line("no memory");
 
 /// An end's word.
 fn word_of(end: End) -> &'static str {
@@ -21,33 +26,11 @@ fn word_of(end: End) -> &'static str {
     }
 }
 
-fn outcome_of(served: Result<Served, ServeFault>) -> Result<Outcome, Fault> {
-    match served {
-        Ok(served) => Ok((served.replies, word_of(served.end))),
-        Err(ServeFault::Read { replies }) => Ok((replies, "read")),
-        Err(ServeFault::Write { replies }) => Ok((replies, "write")),
-        Err(ServeFault::Memory) => Err(Fault::Memory),
-    }
-}
-
-/// The same of a connection that is served by turns, behind the last of them, with so many requests answered.
-fn outcome_by_turns(last: Result<Standing, TurnFault>, answered: u32) -> Result<Outcome, Fault> {
-    match last {
-        // (the reply to a text that is no message is one more)
-        Ok(Standing::Ended(End::Refused)) => Ok((answered.saturating_add(1), "refused")),
-        Ok(Standing::Ended(end)) => Ok((answered, word_of(end))),
-        Err(TurnFault::Read) => Ok((answered, "read")),
-        // (the reply to the last request isn't wholly written)
-        Err(TurnFault::Write) => Ok((answered.saturating_sub(1), "write")),
-        Ok(_) => Err(Fault::Line("the connection waits")),
-    }
-}
-
 /// Serves a connection by turns that answer so many requests each, until no next turn is to come.
 pub fn serve_by_turns<S: Alter>(
     alloc: Global,
     pieces: &mut Pieces<'_>,
-    room: &mut Room,
+    room: &mut Room<'_>,
     chain: &mut Chain<S>,
     most: u32,
     turns: u32,
@@ -63,17 +46,99 @@ pub fn serve_by_turns<S: Alter>(
             break;
         };
     }
-    outcome_by_turns(last, connection.replies())
+    let answered = connection.replies();
+    match last {
+        // (the reply to a text that is no message is one more)
+        Ok(Standing::Ended(End::Refused)) => Ok((answered.saturating_add(1), "refused")),
+        Ok(Standing::Ended(end)) => Ok((answered, word_of(end))),
+        Err(TurnFault::Read) => Ok((answered, "read")),
+        // (the reply to the last request isn't wholly written)
+        Err(TurnFault::Write) => Ok((answered.saturating_sub(1), "write")),
+        Ok(_) => Err(Fault::Line("the connection waits")),
+    }
 }
 
 /// Serves a connection alone, to its end.
 pub fn serve_alone<S: Alter>(
     alloc: Global,
     pieces: &mut Pieces<'_>,
-    room: &mut Room,
+    room: &mut Room<'_>,
     chain: &mut Chain<S>,
     most: u32,
 ) -> Result<Outcome, Fault> {
     let words = ClapWords { alloc };
-    outcome_of(serve(alloc, pieces, room, chain, &words, most))
+    match serve(alloc, pieces, room, chain, &words, most) {
+        Ok(served) => Ok((served.replies, word_of(served.end))),
+        Err(ServeFault::Read { replies }) => Ok((replies, "read")),
+        Err(ServeFault::Write { replies }) => Ok((replies, "write")),
+        Err(ServeFault::Memory) => Err(MEMORY),
+    }
+}
+
+/// Puts the bytes of a reply.
+pub fn put_reply(alloc: Global, out: &mut Vec<u8>, reply: &Reply) -> Result<(), Fault> {
+    match reply_bytes(alloc, reply) {
+        Ok(bytes) => Ok(out.extend_from_slice(bytes.as_slice())?),
+        Err(_) => Err(MEMORY),
+    }
+}
+
+/// The same of several, one behind the other.
+pub fn put_replies(alloc: Global, out: &mut Vec<u8>, replies: &[Reply]) -> Result<(), Fault> {
+    for reply in replies {
+        put_reply(alloc, out, reply)?;
+    }
+    Ok(())
+}
+
+/// Has the chain answer a branch's request, whatever its token is.
+fn answer_branch<S: Alter>(
+    alloc: Global,
+    chain: &mut Chain<S>,
+    branch: BranchNo,
+    request: &Request,
+    out: &mut Vec<u8>,
+) -> Result<(), Fault> {
+    let reply = chain.answer(&Caller::Branch(branch), request);
+    let put = put_reply(alloc, out, &reply);
+    drop(reply);
+    put
+}
+
+/// Has the chain answer the requests with their tokens.
+fn replay<S: Alter>(
+    alloc: Global,
+    chain: &mut Chain<S>,
+    asked: &[(Token, Request)],
+    out: &mut Vec<u8>,
+) -> Result<(), Fault> {
+    match chain.replay(asked) {
+        Ok(replies) => {
+            let put = put_replies(alloc, out, replies.as_slice());
+            drop(replies);
+            put
+        }
+        Err(_) => Err(MEMORY),
+    }
+}
+
+/// Has the chain answer the requests, with their tokens or as those of that branch. How many replies there are.
+pub fn answer<S: Alter>(
+    alloc: Global,
+    chain: &mut Chain<S>,
+    asked: &[(Token, Request)],
+    branch: Option<u32>,
+    out: &mut Vec<u8>,
+) -> Result<u32, Fault> {
+    let Some(number) = branch else {
+        replay(alloc, chain, asked, out)?;
+        return Ok(u32::try_from(asked.len()).unwrap_or(0));
+    };
+    let Some(branch) = BranchNo::new(number) else {
+        return Err(Fault::Line("there is no such branch"));
+    };
+    for (_, request) in asked {
+        answer_branch(alloc, chain, branch, request, out)?;
+    }
+    Ok(u32::try_from(asked.len()).unwrap_or(0))
 }

@@ -1,15 +1,11 @@
 //! A chain in two files on any disks, or what is left of the files.
-use crate::serving::{Outcome, serve_alone, serve_by_turns};
-use chain_engine::{Chain, OpenFault};
-use office_words::ClapWords;
-use row_player::{Fault, Opening, Pieces, Room};
-use sakila_office::serve_listener;
-use shop_types::{Limits, Token};
+use crate::serving::put_replies;
+use chain_engine::{Chain, NotResumed, OpenFault, over_a_stop};
+use row_player::{Fault, Opening, Texts};
+use shop_types::{Limits, Request, Token};
 use sqlite::{FileStore, Files};
-use sqlite_disk::Disk;
-use std::alloc::{AllocGlobal, Global};
-use std::net::{Net, TcpListener};
-use std::time::{Clock, Duration};
+use sqlite_disk::{Crash, Disk};
+use std::alloc::Global;
 
 /// A chain, closed files, or neither.
 pub enum Shop<D: Disk + Drop> {
@@ -30,7 +26,7 @@ impl<D: Disk + Drop> Drop for Shop<D> {
 }
 
 /// The fault's name.
-fn name_of(fault: OpenFault) -> &'static str {
+pub fn name_of(fault: OpenFault) -> &'static str {
     match fault {
         OpenFault::Memory => "memory",
         OpenFault::Size => "size",
@@ -61,21 +57,18 @@ pub fn opened<D: Disk + Drop>(
     office: &Token,
 ) -> Opened<D> {
     match opening {
-        Opening::Opened | Opening::Limited(_, _) => found(Chain::open_files(alloc, files, limits)),
         Opening::Migrated => found(Chain::migrate_files(alloc, files, limits)),
         Opening::Made => found(Chain::create_files(alloc, files, limits, office)),
+        _ => found(Chain::open_files(alloc, files, limits)),
     }
 }
-
-const NO_CHAIN: Fault = Fault::Line("there is no chain yet");
 
 impl<D: Disk + Drop> Shop<D> {
     /// The chain, closed and opened again.
     pub fn reopened(self) -> Opened<D> {
         match self {
             Shop::Open(chain) => found(chain.reopen()),
-            Shop::Closed(files) => (Shop::Closed(files), Some("closed")),
-            Shop::Gone => (Shop::Gone, Some("closed")),
+            other => (other, Some("closed")),
         }
     }
 
@@ -87,45 +80,33 @@ impl<D: Disk + Drop> Shop<D> {
             Shop::Gone => None,
         }
     }
+}
 
-    /// Serves a connection, alone or by turns.
-    pub fn serve(
-        &mut self,
-        alloc: Global,
-        pieces: &mut Pieces<'_>,
-        room: &mut Room,
-        most: u32,
-        turns: Option<u32>,
-    ) -> Result<Outcome, Fault> {
-        let Shop::Open(chain) = self else {
-            return Err(NO_CHAIN);
-        };
-        match turns {
-            Some(turns) => serve_by_turns(alloc, pieces, room, chain, most, turns),
-            None => serve_alone(alloc, pieces, room, chain, most),
+/// Has the requests answered by the chain in the files, stops it, and has them answered again. Whether it is opened.
+pub fn resumed<D: Crash + Drop>(
+    alloc: Global,
+    files: Files<D>,
+    asked: &[(Token, Request)],
+    told: &mut Texts,
+) -> Result<bool, Fault> {
+    let limits = Limits::default();
+    let chain = match Chain::open_files(alloc, files, limits) {
+        Ok(chain) => chain,
+        Err((_, files)) => {
+            drop(files);
+            return Ok(false);
         }
-    }
-
-    /// Serves connections side by side.
-    pub fn listen<R: Net + Clock + AllocGlobal>(
-        &mut self,
-        rt: &R,
-        listener: &TcpListener,
-        comers: u32,
-        patience: Duration,
-    ) -> Result<u8, Fault> {
-        let words = ClapWords { alloc: rt.alloc() };
-        match self {
-            Shop::Open(chain) => Ok(serve_listener(rt, listener, chain, &words, comers, patience)),
-            _ => Err(NO_CHAIN),
+    };
+    match over_a_stop(alloc, chain, limits, asked, asked) {
+        Ok(it) => {
+            let first = put_replies(alloc, &mut told.out, it.before.as_slice());
+            let second = put_replies(alloc, &mut told.err, it.behind.as_slice());
+            drop(it);
+            first?;
+            second?;
+            Ok(true)
         }
-    }
-
-    /// Of how many films the chain knows what they are.
-    pub fn known_films(&self) -> usize {
-        match self {
-            Shop::Open(chain) => chain.cached_films(),
-            _ => 0,
-        }
+        Err(NotResumed::Memory) => Err(Fault::Line("no memory")),
+        Err(NotResumed::Closed(_)) => Err(Fault::Line("the chain isn't opened again")),
     }
 }

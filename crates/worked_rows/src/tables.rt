@@ -2,63 +2,25 @@
 //! file.
 use books_audit::audit_custody;
 use chain_calls::{FirstRows, connect, create, give_back, read_audit};
-use row_player::Fault;
+use row_player::{Deed, Fault};
 use shop_types::Audit;
 use shop_views::audit_text;
 use sqlite::{Alter, Connection, FileStore, Files};
 use sqlite_disk::Disk;
 use std::alloc::Global;
 
-/// A connection to the database in the files.
-fn connected<D: Disk + Drop>(
-    alloc: Global,
-    files: Files<D>,
-) -> Result<Connection<FileStore<D>>, Fault> {
-    match connect(alloc, files) {
-        Ok(conn) => Ok(conn),
-        Err((_, files)) => {
-            drop(files);
-            Err(Fault::Line("the database isn't opened"))
-        }
-    }
-}
-
-/// Does a statement, or makes the tables with the opening rows where there is none.
-fn change<S: Alter>(conn: &mut Connection<S>, text: Option<&str>) -> Result<(), &'static str> {
+/// Does a statement.
+fn change<S: Alter>(conn: &mut Connection<S>, text: &str) -> Result<(), Fault> {
     if !conn.is_autocommit() {
-        return Err("a transaction is open");
+        return Err(Fault::Line("a transaction is open"));
     }
-    let Some(text) = text else {
-        return match create(conn, &FirstRows::OfOpening) {
-            Ok(()) => Ok(()),
-            Err(_) => Err("no new tables"),
-        };
-    };
     let mut tx = conn.transaction();
     if tx.execute(text, &[]).is_err() {
-        return Err("the statement isn't done");
+        return Err(Fault::Line("the statement isn't done"));
     }
     match tx.commit() {
         Ok(()) => Ok(()),
-        Err(_) => Err("the statement isn't committed"),
-    }
-}
-
-/// The files, with what a statement or the opening rows, where there is none, make of their tables.
-pub fn changed<D: Disk + Drop>(
-    alloc: Global,
-    files: Files<D>,
-    text: Option<&str>,
-) -> Result<Files<D>, Fault> {
-    let mut conn = connected(alloc, files)?;
-    let done = change(&mut conn, text);
-    let files = give_back(conn);
-    match done {
-        Ok(()) => Ok(files),
-        Err(text) => {
-            drop(files);
-            Err(Fault::Line(text))
-        }
+        Err(_) => Err(Fault::Line("the statement isn't committed")),
     }
 }
 
@@ -76,31 +38,85 @@ fn audit<S: Alter>(alloc: Global, conn: &mut Connection<S>, of_custody: bool) ->
     audit.ok()
 }
 
-/// The text of an audit of the tables in the files.
-pub fn audited<D: Disk + Drop>(
+/// Puts the text of an audit of the tables.
+fn put_audit<S: Alter>(
     alloc: Global,
-    files: Files<D>,
+    conn: &mut Connection<S>,
     of_custody: bool,
-) -> Result<Vec<u8>, Fault> {
-    let mut conn = connected(alloc, files)?;
-    let audit = audit(alloc, &mut conn, of_custody);
-    drop(give_back(conn));
-    let Some(audit) = audit else {
+    told: &mut Vec<u8>,
+) -> Result<(), Fault> {
+    let Some(audit) = audit(alloc, conn, of_custody) else {
         return Err(Fault::Line("the tables aren't audited"));
     };
     match audit_text(alloc, audit) {
-        Ok(text) => Ok(text.into_bytes()),
-        Err(_) => Err(Fault::Memory),
+        Ok(text) => Ok(told.extend_from_slice(text.as_bytes())?),
+        Err(_) => Err(Fault::Line("no memory")),
+    }
+}
+
+/// Does that with the tables.
+fn done<S: Alter>(
+    alloc: Global,
+    deed: Deed<'_>,
+    conn: &mut Connection<S>,
+    told: &mut Vec<u8>,
+) -> Result<(), Fault> {
+    match deed {
+        Deed::Fill if conn.is_autocommit() => match create(conn, &FirstRows::OfOpening) {
+            Ok(()) => Ok(()),
+            Err(_) => Err(Fault::Line("no new tables")),
+        },
+        Deed::Fill => Err(Fault::Line("a transaction is open")),
+        Deed::Statement(text) => change(conn, text),
+        Deed::Audit => put_audit(alloc, conn, false, told),
+        Deed::Custody => put_audit(alloc, conn, true, told),
+        Deed::CopyIn => Ok(()),
+    }
+}
+
+/// A connection to the database in the files.
+fn connected<D: Disk + Drop>(
+    alloc: Global,
+    files: Files<D>,
+) -> Result<Connection<FileStore<D>>, Fault> {
+    match connect(alloc, files) {
+        Ok(conn) => Ok(conn),
+        Err((_, files)) => {
+            drop(files);
+            Err(Fault::Line("the database isn't opened"))
+        }
     }
 }
 
 /// The files with all that stood in the log alone copied into the database's file.
-pub fn copied_in<D: Disk + Drop>(alloc: Global, files: Files<D>) -> Result<Files<D>, Fault> {
-    match connected(alloc, files)?.close_files() {
+fn copied_in<D: Disk + Drop>(conn: Connection<FileStore<D>>) -> Result<Files<D>, Fault> {
+    match conn.close_files() {
         Ok(files) => Ok(files),
         Err((_, store)) => {
             drop(store);
             Err(Fault::Line("the log isn't copied"))
+        }
+    }
+}
+
+/// Does that with the tables in the files.
+pub fn work<D: Disk + Drop>(
+    alloc: Global,
+    deed: Deed<'_>,
+    files: Files<D>,
+    told: &mut Vec<u8>,
+) -> Result<Files<D>, Fault> {
+    let mut conn = connected(alloc, files)?;
+    if let Deed::CopyIn = deed {
+        return copied_in(conn);
+    }
+    let done = done(alloc, deed, &mut conn, told);
+    let files = give_back(conn);
+    match done {
+        Ok(()) => Ok(files),
+        Err(fault) => {
+            drop(files);
+            Err(fault)
         }
     }
 }
