@@ -1,9 +1,10 @@
 //! What was asked last, what was told, and what is wanted of it.
 ghost use Rattle.std.specs.Prelude.{◌≡◌, OnOk};
 
-use crate::fault::{Fault, is_so};
-use crate::texts::{put, put_number, put_reply};
+use crate::fault::Fault;
+use crate::texts::put_reply;
 use std::alloc::Global;
+use std::io::{self, Write};
 
 /// What was sent, told or written; what was written to standard error; and how it ended: `closed 1`, or a program's status.
 #[derive(Drop)]
@@ -11,6 +12,8 @@ pub struct Texts {
     pub out: Vec<u8>,
     pub err: Vec<u8>,
     pub end: Vec<u8>,
+    /// How many bytes a connection's writer has room for in `out`.
+    pub room: usize,
 }
 
 impl Texts {
@@ -19,28 +22,43 @@ impl Texts {
             out: Vec::new(alloc),
             err: Vec::new(alloc),
             end: Vec::new(alloc),
+            room: usize::MAX,
         }
     }
 
-    pub fn clear(&mut self) {
+    pub fn clear(&mut self, room: usize) {
         self.out.clear();
         self.err.clear();
         self.end.clear();
+        self.room = room;
     }
 
     pub fn ends(&mut self, word: &str, replies: u32) -> Result<(), Fault> {
         self.end.clear();
-        put(&mut self.end, &[word.as_bytes(), b" "])?;
-        put_number(&mut self.end, replies as usize)
+        write!(&mut self.end, "{word} {replies}")?;
+        Ok(())
+    }
+}
+
+/// A connection's writer.
+impl Write for Texts {
+    fn write(&mut self, buf: &[u8]) -> io::Result<usize> {
+        let n = buf.len().min(self.room.saturating_sub(self.out.len()));
+        self.out.extend_from_slice(&buf[..n])?;
+        Ok(n)
+    }
+
+    fn flush(&mut self) -> io::Result<()> {
+        Ok(())
     }
 }
 
 /// What was asked.
 #[derive(Clone, Copy)]
 pub enum Kind {
+    /// Nothing, or what takes no further lines.
     Nothing,
     Connection,
-    Audit,
     Program,
 }
 
@@ -52,9 +70,6 @@ pub struct Asked {
     pub wanted: Texts,
     /// How many replies are wanted.
     replies: u32,
-    is_ended: bool,
-    /// How many bytes the writer has room for.
-    room: usize,
 }
 
 impl Asked {
@@ -64,70 +79,53 @@ impl Asked {
             told: Texts::new(alloc),
             wanted: Texts::new(alloc),
             replies: 0,
-            is_ended: false,
-            room: usize::MAX,
         }
     }
 
     /// Something else is asked.
     pub fn begin(&mut self, kind: Kind, room: usize) {
         self.kind = kind;
-        self.told.clear();
-        self.wanted.clear();
+        self.told.clear(room);
+        self.wanted.clear(room);
         self.replies = 0;
-        self.is_ended = false;
-        self.room = room;
     }
 
-    /// One reply more is wanted.
+    /// One reply more is wanted of the connection, of which the writer has room for so much.
     fn wants_reply(&mut self, status: &str, body: &[u8]) -> Result<(), Fault> {
-        is_so(!self.is_ended, "a reply comes behind the end")?;
         put_reply(&mut self.wanted.out, status, body)?;
-        self.wanted.out.truncate(self.room);
+        self.wanted.out.truncate(self.wanted.room);
         self.replies = self.replies.saturating_add(1);
         self.wanted.ends("closed", self.replies)
     }
 
-    /// `WORD REPLIES`.
-    fn wants_end(&mut self, line: &str) -> Result<(), Fault> {
-        let word = line.split_once(' ').unwrap_or(("", "")).0;
-        self.wanted.ends(word, self.replies)?;
-        // (where the writer has no more room, the last reply isn't whole)
-        let is_same = self.wanted.end.as_slice() == line.as_bytes() || word == "write";
-        is_so(
-            is_same && !self.is_ended,
-            "the end has another count of replies",
-        )?;
-        self.wanted.end.clear();
-        self.is_ended = true;
-        put(&mut self.wanted.end, &[line.as_bytes()])
-    }
-
     /// Status 2 is wanted, and some text on standard error.
-    fn wants_usage(&mut self) -> Result<(), Fault> {
-        put(&mut self.wanted.end, &[b"2"])?;
-        if self.told.err.is_empty() {
-            return put(&mut self.wanted.err, &[b"a usage"]);
+    fn wants_usage(&mut self, line: &str) -> Result<(), Fault> {
+        if !line.is_empty() {
+            return Err(Fault::Line("the usage's text isn't compared"));
         }
-        put(&mut self.wanted.err, &[self.told.err.as_slice()])
+        self.wanted.end.push(b'2')?;
+        if self.told.err.is_empty() {
+            self.wanted.err.push(b'?')?;
+        }
+        self.wanted.err.extend_from_slice(self.told.err.as_slice())?;
+        Ok(())
     }
 
     /// A line says more of what is wanted.
     pub fn wants(&mut self, word: &str, line: &str, bytes: &[u8]) -> Result<(), Fault> {
         match (self.kind, word) {
-            (Kind::Program, "out") => put(&mut self.wanted.out, &[bytes]),
-            (Kind::Program, "err") => put(&mut self.wanted.err, &[bytes]),
-            (Kind::Program, "status") => put(&mut self.wanted.end, &[bytes]),
-            (Kind::Program, "usage") => {
-                is_so(line.is_empty(), "the usage's text isn't compared")?;
-                self.wants_usage()
+            (Kind::Nothing, _) => return Err(Fault::Line("a reply has no request")),
+            (Kind::Connection, "end") => {
+                self.wanted.end.clear();
+                self.wanted.end.extend_from_slice(bytes)?;
             }
-            (_, "out" | "err" | "status" | "usage") => Err(Fault::Line("no program was run")),
-            (Kind::Connection, "end") => self.wants_end(line),
-            (_, "end") => Err(Fault::Line("an end has no request")),
-            (Kind::Connection, _) => self.wants_reply(word, bytes),
-            _ => Err(Fault::Line("a reply has no request")),
+            (Kind::Connection, _) => return self.wants_reply(word, bytes),
+            (_, "out") => self.wanted.out.extend_from_slice(bytes)?,
+            (_, "err") => self.wanted.err.extend_from_slice(bytes)?,
+            (_, "status") => self.wanted.end.extend_from_slice(bytes)?,
+            _ => return self.wants_usage(line),
         }
+        Ok(())
     }
 
     /// Whether what was told is what is wanted: all bytes of it.

@@ -1,7 +1,7 @@
 //! The chain of the row that is played, and what is to happen to it.
 use crate::asked::Texts;
-use crate::fault::{Fault, is_so, number};
-use crate::stage::{Calls, Deed, How, Left, MANY, NEVER, Opening, Pieces, Room, Stage, WHOLE};
+use crate::fault::{Fault, number};
+use crate::stage::{Calls, Deed, How, Image, Left, MANY, NEVER, Opening, Pieces, Stage, WHOLE};
 use std::alloc::Global;
 
 /// Where the chain of a row is.
@@ -15,7 +15,6 @@ enum Held {
 /// The chain of the row that is played.
 #[derive(Drop)]
 pub struct Chain<S: Stage> {
-    pub alloc: Global,
     pub stage: S,
     held: Held,
     /// What its files hold, where it is closed.
@@ -28,34 +27,24 @@ pub struct Chain<S: Stage> {
     is_failing: bool,
     /// Whether the next connection, opening, migration or making is stopped at each call in turn.
     pub is_swept: bool,
-    /// What chains over copies of the files sent, and left.
+    /// What chains over copies of the files sent, and left, and what was sent where nothing was stopped.
     pub told: Texts,
     pub tried: Left,
     pub next: Left,
+    pub wanted: Vec<u8>,
 }
 
-/// The first lot and the first customer, with the replies to them.
-const STOCK: [(&str, &str); 2] = [
-    (
-        "POST /import/i1/1/2026-03-01T10:00:00/L1 HTTP/1.1\r\ncounter-token: 11111111111111111111111111111111\r\ncontent-length: 23\r\n\r\nfilm_id,copies\n1,3\n2,1\n",
-        "HTTP/1.1 200 OK\r\ncontent-type: application/json\r\ncontent-length: 22\r\n\r\n{\"copies\":4,\"first\":1}",
-    ),
-    (
-        "POST /customer HTTP/1.1\r\ncounter-token: 11111111111111111111111111111111\r\ncontent-length: 133\r\n\r\n{\"key\":\"k1\",\"staff\":1,\"at\":\"2026-03-01T10:00:00\",\"first\":\"MARY\",\"last\":\"SMITH\",\"address\":\"1 Main\",\"postal\":\"\",\"phone\":\"555\",\"city\":1}",
-        "HTTP/1.1 200 OK\r\ncontent-type: application/json\r\ncontent-length: 14\r\n\r\n{\"customer\":1}",
-    ),
-];
+/// The first lot and the first customer, and the replies to them.
+const STOCK: &str =
+    "POST /import/i1/1/2026-03-01T10:00:00/L1 HTTP/1.1\r\ncounter-token: 11111111111111111111111111111111\r\ncontent-length: 23\r\n\r\nfilm_id,copies\n1,3\n2,1\nPOST /customer HTTP/1.1\r\ncounter-token: 11111111111111111111111111111111\r\ncontent-length: 133\r\n\r\n{\"key\":\"k1\",\"staff\":1,\"at\":\"2026-03-01T10:00:00\",\"first\":\"MARY\",\"last\":\"SMITH\",\"address\":\"1 Main\",\"postal\":\"\",\"phone\":\"555\",\"city\":1}";
 
-/// How the chain of these words is opened: `demo`, `files`, `stocked`, or `limits COMMANDS COPIES`.
-fn opening_of(words: &str) -> Result<Opening, Fault> {
-    match words.split_once(' ') {
-        None if matches!(words, "demo" | "files" | "stocked") => Ok(Opening::Opened),
-        Some(("limits", limits)) => {
-            let (commands, copies) = limits.split_once(' ').unwrap_or((limits, ""));
-            Ok(Opening::Limited(number(commands)?, number(copies)?))
-        }
-        _ => Err(Fault::Line("there is no such chain")),
-    }
+const STOCKED: &str =
+    "HTTP/1.1 200 OK\r\ncontent-type: application/json\r\ncontent-length: 22\r\n\r\n{\"copies\":4,\"first\":1}HTTP/1.1 200 OK\r\ncontent-type: application/json\r\ncontent-length: 14\r\n\r\n{\"customer\":1}";
+
+/// How a chain of these limits is opened: `COMMANDS COPIES`.
+fn limited(limits: &str) -> Result<Opening, Fault> {
+    let (commands, copies) = limits.split_once(' ').unwrap_or((limits, ""));
+    Ok(Opening::Limited(number(commands)?, number(copies)?))
 }
 
 /// What the chain sends over a connection of its own, and how that ends.
@@ -65,24 +54,31 @@ pub fn send<S: Stage>(
     how: How,
     told: &mut Texts,
 ) -> Result<(), Fault> {
-    told.clear();
+    told.clear(how.room);
     let mut pieces = Pieces {
         bytes: &input[..how.cut.min(input.len())],
         most: how.pieces,
         breaks: how.breaks,
     };
-    let mut room = Room {
-        bytes: &mut told.out,
-        most: how.room,
-    };
-    let (replies, end) = stage.serve(&mut pieces, &mut room, how.most, how.turns)?;
-    told.ends(end, replies)
+    stage.serve(&mut pieces, told, how.most, how.turns)
+}
+
+/// Has a chain in copies of the files.
+pub fn opened<S: Stage>(
+    stage: &mut S,
+    opening: Opening,
+    files: &Image,
+    calls: Calls,
+) -> Result<(), Fault> {
+    match stage.open(opening, files, calls)? {
+        None => Ok(()),
+        Some(name) => Err(Fault::Opening(name)),
+    }
 }
 
 impl<S: Stage> Chain<S> {
     pub fn new(alloc: Global, stage: S) -> Chain<S> {
         Chain {
-            alloc,
             stage,
             held: Held::Nowhere,
             left: Left::new(alloc),
@@ -93,6 +89,7 @@ impl<S: Stage> Chain<S> {
             told: Texts::new(alloc),
             tried: Left::new(alloc),
             next: Left::new(alloc),
+            wanted: Vec::new(alloc),
         }
     }
 
@@ -109,33 +106,38 @@ impl<S: Stage> Chain<S> {
         Ok(())
     }
 
-    /// Has a chain in the files, which has to be refused where a fault is named.
-    pub fn open(&mut self, opening: Opening, calls: Calls, fault: &str) -> Result<(), Fault> {
-        match self.stage.open(opening, &self.left.files, calls)? {
-            None if fault.is_empty() => self.held = Held::Open,
-            None => return Err(Fault::Line("the files are opened")),
-            Some(name) if name == fault => {
-                self.held = Held::Closed;
-                self.stage.close(&mut self.left)?;
-            }
-            Some(name) => return Err(Fault::Opening(name)),
-        }
+    /// Has a chain in the files.
+    fn open(&mut self, opening: Opening, calls: Calls) -> Result<(), Fault> {
+        opened(&mut self.stage, opening, &self.left.files, calls)?;
+        self.held = Held::Open;
         Ok(())
     }
 
-    /// A new chain, by the words behind `chain`.
+    /// Has a chain in the files refused, for the fault of that name.
+    fn refuses(&mut self, opening: Opening, fault: &str) -> Result<(), Fault> {
+        match self.stage.open(opening, &self.left.files, NEVER)? {
+            None => Err(Fault::Line("the files are opened")),
+            Some(name) if name == fault => self.stage.close(&mut self.left),
+            Some(name) => Err(Fault::Opening(name)),
+        }
+    }
+
+    /// A new chain: `demo`, `files`, `empty`, `stocked` or `limits COMMANDS COPIES`.
     pub fn begin(&mut self, words: &str) -> Result<(), Fault> {
-        self.is_in_files = matches!(words, "files" | "empty");
+        let (word, limits) = words.split_once(' ').unwrap_or((words, ""));
+        self.is_in_files = matches!(word, "files" | "empty");
         self.held = Held::Closed;
         self.left.files.log.clear();
         self.left.files.db.clear();
-        if words == "empty" {
-            return Ok(());
-        }
-        let opening = opening_of(words)?;
+        let opening = match word {
+            "empty" => return Ok(()),
+            "limits" => limited(limits)?,
+            "demo" | "files" | "stocked" => Opening::Opened,
+            _ => return Err(Fault::Line("there is no such chain")),
+        };
         self.tables(Deed::Fill)?;
-        self.open(opening, NEVER, "")?;
-        if words == "stocked" {
+        self.open(opening, NEVER)?;
+        if word == "stocked" {
             return self.stock();
         }
         Ok(())
@@ -143,21 +145,18 @@ impl<S: Stage> Chain<S> {
 
     /// Adds the first lot and the first customer.
     fn stock(&mut self) -> Result<(), Fault> {
-        for (input, wanted) in STOCK {
-            send(&mut self.stage, input.as_bytes(), WHOLE, &mut self.told)?;
-            is_so(
-                self.told.out.as_slice() == wanted.as_bytes(),
-                "the first lot or customer isn't answered",
-            )?;
+        send(&mut self.stage, STOCK.as_bytes(), WHOLE, &mut self.told)?;
+        if self.told.out.as_slice() == STOCKED.as_bytes() {
+            return Ok(());
         }
-        Ok(())
+        Err(Fault::Line("the first lot or customer isn't answered"))
     }
 
     /// Does that with the tables in the files; what is told stands in `told`.
     fn tables(&mut self, deed: Deed<'_>) -> Result<(), Fault> {
-        self.told.clear();
+        self.told.clear(usize::MAX);
         self.stage
-            .tables(deed, &mut self.left.files, &mut self.told.out)
+            .tables(deed, &mut self.left.files, &mut self.told)
     }
 
     /// Closes the chain, and does that with the tables in its files.
@@ -168,9 +167,7 @@ impl<S: Stage> Chain<S> {
 
     /// Has a chain in copies of the files, which is sent that, and closes it.
     pub fn trial(&mut self, opening: Opening, calls: Calls, input: &[u8]) -> Result<(), Fault> {
-        if let Some(name) = self.stage.open(opening, &self.left.files, calls)? {
-            return Err(Fault::Opening(name));
-        }
+        opened(&mut self.stage, opening, &self.left.files, calls)?;
         send(&mut self.stage, input, WHOLE, &mut self.told)?;
         self.stage.close(&mut self.tried)
     }
@@ -179,11 +176,8 @@ impl<S: Stage> Chain<S> {
     fn fail(&mut self, fewer: u32, input: &[u8]) -> Result<(), Fault> {
         self.rest()?;
         self.trial(Opening::Opened, MANY, input)?;
-        let calls = Calls {
-            log: self.tried.made.log.saturating_sub(u64::from(fewer)),
-            ..NEVER
-        };
-        self.open(Opening::Opened, calls, "")?;
+        let log = self.tried.made.log.saturating_sub(u64::from(fewer));
+        self.open(Opening::Opened, Calls { log, ..NEVER })?;
         self.is_failing = true;
         Ok(())
     }
@@ -195,8 +189,8 @@ impl<S: Stage> Chain<S> {
         }
         if self.is_swept {
             self.rest()?;
-            self.sweep_connection(input)?;
-            self.open(Opening::Opened, NEVER, "")?;
+            self.sweep(Opening::Opened, true, input)?;
+            self.open(Opening::Opened, NEVER)?;
         }
         match self.held {
             Held::Open => send(&mut self.stage, input, how, told),
@@ -208,17 +202,22 @@ impl<S: Stage> Chain<S> {
     /// Closes the chain's files, and has a chain in them, which has to be refused where a fault is named. It is stopped at each call of copies of the disks first,
     /// where it is to.
     pub fn open_again(&mut self, opening: Opening, fault: &str) -> Result<(), Fault> {
+        let is_live = matches!(self.held, Held::Open) && !self.is_failing && self.is_in_files;
+        if !fault.is_empty() {
+            if self.is_swept {
+                return Err(Fault::Line("nothing that is refused is stopped"));
+            }
+            self.rest()?;
+            return self.refuses(opening, fault);
+        }
         if self.is_swept {
-            is_so(fault.is_empty(), "nothing that is refused is stopped")?;
             self.rest()?;
             self.sweep_opening(opening)?;
-        }
-        let is_live = matches!(self.held, Held::Open) && !self.is_failing && self.is_in_files;
-        if is_live && fault.is_empty() && matches!(opening, Opening::Opened) {
-            return self.open(Opening::Again, NEVER, "");
+        } else if is_live && matches!(opening, Opening::Opened) {
+            return self.open(Opening::Again, NEVER);
         }
         self.rest()?;
-        self.open(opening, NEVER, fault)
+        self.open(opening, NEVER)
     }
 
     /// A row ends, and its chain goes.

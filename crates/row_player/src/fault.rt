@@ -35,27 +35,10 @@ impl From<io::Error> for Fault {
     }
 }
 
-pub fn is_so(holds: bool, text: &'static str) -> Result<(), Fault> {
-    if holds {
-        Ok(())
-    } else {
-        Err(Fault::Line(text))
-    }
-}
-
 /// The number whose digits these are.
 pub fn number(text: &str) -> Result<u32, Fault> {
-    let mut number = 0u32;
-    for byte in text.bytes() {
-        match byte {
-            b'0'..=b'9' => {
-                number = number
-                    .saturating_mul(10)
-                    .saturating_add(u32::from(byte - b'0'));
-            }
-            _ => return Err(Fault::Line("a count is wanted")),
-        }
+    match text.parse() {
+        Ok(number) => Ok(number),
+        Err(_) => Err(Fault::Line("a count is wanted")),
     }
-    is_so(!text.is_empty(), "a count is wanted")?;
-    Ok(number)
 }

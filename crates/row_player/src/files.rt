@@ -1,69 +1,10 @@
 //! Files of rows, one after another.
-use crate::asked::{Asked, Kind};
-use crate::fault::{Fault, is_so, number};
+use crate::asked::Asked;
+use crate::fault::{Fault, number};
 use crate::row::Row;
 use crate::stage::Stage;
-use crate::texts::{put, put_number, put_quoted};
-use std::alloc::Global;
 use std::fs::read_to_string;
 use std::process::ExitCode;
-
-/// A line: where it stands, its first word, and what stands behind that.
-#[derive(Clone, Copy)]
-struct Line<'t> {
-    at: usize,
-    word: &'t str,
-    rest: &'t str,
-}
-
-/// The lines of a file, those of rounds as often as they are played. Where rounds have no end, the line that begins them stands in their place.
-fn lines_of(alloc: Global, text: &str) -> Result<Vec<Line<'_>>, Fault> {
-    let mut lines: Vec<Line<'_>> = Vec::new(alloc);
-    let mut rounds: Option<(Line<'_>, usize)> = None;
-    for (index, text) in text.lines().enumerate() {
-        let (word, rest) = text.split_once(' ').unwrap_or((text, ""));
-        let at = index.saturating_add(1);
-        let line = Line { at, word, rest };
-        match (word, rounds) {
-            _ if text.is_empty() || text.starts_with('#') => {}
-            ("rounds", None) => rounds = Some((line, lines.len())),
-            ("done", Some((begun, start))) => {
-                repeat(&mut lines, start, begun)?;
-                rounds = None;
-            }
-            ("row" | "wrong", Some((begun, start))) => {
-                lines.truncate(start);
-                lines.push(begun)?;
-                lines.push(line)?;
-                rounds = None;
-            }
-            _ => lines.push(line)?,
-        }
-    }
-    if let Some((begun, start)) = rounds {
-        lines.truncate(start);
-        lines.push(begun)?;
-    }
-    Ok(lines)
-}
-
-/// Has the lines from there on come as often as the line says that begins the rounds.
-fn repeat<'t>(lines: &mut Vec<Line<'t>>, start: usize, begun: Line<'t>) -> Result<(), Fault> {
-    let end = lines.len();
-    let Ok(count) = number(begun.rest) else {
-        lines.truncate(start);
-        lines.push(begun)?;
-        return Ok(());
-    };
-    for _ in 1..count {
-        for at in start..end {
-            if let Some(line) = lines.get(at).copied() {
-                lines.push(line)?;
-            }
-        }
-    }
-    Ok(())
-}
 
 /// What came of rows.
 #[derive(Drop)]
@@ -73,7 +14,7 @@ struct Sum {
     wrong: u32,
     exchanges: u32,
     is_well: bool,
-    /// The names of all rows, a line each.
+    /// The names of all rows, each between the ends of two lines.
     seen: String,
 }
 
@@ -85,62 +26,70 @@ struct Playing<'t> {
     is_wrong: bool,
     at: usize,
     played: Result<(), Fault>,
+    /// How often rounds are still to be played, the line that begins them, and what stands behind it.
+    left: u32,
+    begun: usize,
+    rounds: &'t str,
 }
 
-/// Puts why a row stops, with what was told where that is it.
-fn put_fault(out: &mut Vec<u8>, asked: &Asked, fault: Fault) -> Result<(), Fault> {
-    let told = &asked.told;
-    match (fault, asked.kind) {
-        (Fault::Line(text), _) => put(out, &[text.as_bytes()]),
-        (Fault::Opening(name), _) => put(out, &[b"the files aren't opened: ", name.as_bytes()]),
-        (Fault::End, Kind::Connection) => put(out, &[b"the end is ", told.end.as_slice()]),
-        (Fault::End, _) => put(out, &[b"the status is ", told.end.as_slice()]),
-        (Fault::Err, _) => {
-            put(out, &[b"err is "])?;
-            put_quoted(out, told.err.as_slice())
-        }
-        (Fault::Out, kind) => {
-            match kind {
-                Kind::Connection => {
-                    put(out, &[b"byte "])?;
-                    put_number(out, asked.difference())?;
-                    put(out, &[b" differs in "])?;
-                }
-                Kind::Audit => put(out, &[b"the audit is "])?,
-                _ => put(out, &[b"out is "])?,
-            }
-            put_quoted(out, told.out.as_slice())
+impl<'t> Playing<'t> {
+    fn new(path: &'t str) -> Playing<'t> {
+        Playing {
+            path,
+            name: "",
+            is_wrong: false,
+            at: 0,
+            played: Ok(()),
+            left: 0,
+            begun: 0,
+            rounds: "",
         }
     }
 }
 
-/// Says where and why a row stops.
+/// Says where and why a row stops, with what was told where that is it.
 fn complain(rt: &HostRuntime, asked: &Asked, playing: &Playing<'_>, fault: Fault) {
     let (path, at, name) = (playing.path, playing.at, playing.name);
-    let mut out = Vec::new(rt.alloc());
-    let _ = put_fault(&mut out, asked, fault);
-    let text = str::from_utf8(out.as_slice()).unwrap_or("what is no text");
     let _ = if playing.is_wrong {
-        println!(rt; "{path}:{at}: {name} is wrong: {text}")
+        print!(rt; "{path}:{at}: {name} is wrong: ")
     } else {
-        println!(rt; "{path}:{at}: {text}")
+        print!(rt; "{path}:{at}: ")
+    };
+    let told = match fault {
+        Fault::Out => asked.told.out.as_slice(),
+        Fault::Err => asked.told.err.as_slice(),
+        _ => asked.told.end.as_slice(),
+    };
+    let told = str::from_utf8(told).unwrap_or("no text");
+    let _ = match fault {
+        Fault::Line(text) => println!(rt; "{text}"),
+        Fault::Opening(name) => println!(rt; "the files aren't opened: {name}"),
+        Fault::End => println!(rt; "the end is {told}"),
+        Fault::Err => println!(rt; "err is {told:?}"),
+        Fault::Out => println!(rt; "byte {} differs in {told:?}", asked.difference()),
     };
 }
 
 /// Says what came of the row that was played.
-fn tell<S: Stage>(rt: &HostRuntime, row: &mut Row<'_, S>, playing: &Playing<'_>, sum: &mut Sum) {
-    let ended = match playing.played {
-        Ok(()) => row.ended(),
-        Err(fault) => Err(fault),
-    };
+fn tell<S: Stage>(
+    rt: &HostRuntime,
+    row: &mut Row<'_, S>,
+    playing: &mut Playing<'_>,
+    sum: &mut Sum,
+) {
+    if playing.name.is_empty() && playing.played.is_ok() {
+        return;
+    }
+    if playing.left > 0 && playing.played.is_ok() {
+        playing.at = playing.begun;
+        playing.played = Err(Fault::Line("the rounds have no end"));
+    }
+    if playing.played.is_ok() {
+        playing.played = row.ended();
+    }
     let name = playing.name;
-    match ended {
-        Ok(count) if !playing.is_wrong => {
-            sum.rows = sum.rows.saturating_add(1);
-            sum.exchanges = sum.exchanges.saturating_add(count);
-            let _ = println!(rt; "{name}: {count}");
-        }
-        Ok(_) => {
+    match playing.played {
+        Ok(()) if playing.is_wrong => {
             sum.is_well = false;
             complain(
                 rt,
@@ -148,6 +97,12 @@ fn tell<S: Stage>(rt: &HostRuntime, row: &mut Row<'_, S>, playing: &Playing<'_>,
                 playing,
                 Fault::Line("the row is to be wrong"),
             );
+        }
+        Ok(()) => {
+            let count = row.count;
+            sum.rows = sum.rows.saturating_add(1);
+            sum.exchanges = sum.exchanges.saturating_add(count);
+            let _ = println!(rt; "{name}: {count}");
         }
         Err(fault) => {
             if playing.is_wrong {
@@ -161,27 +116,57 @@ fn tell<S: Stage>(rt: &HostRuntime, row: &mut Row<'_, S>, playing: &Playing<'_>,
 }
 
 /// Sees the name of a row, which no other row may have.
-fn see(seen: &mut String, name: &str) -> Result<(), Fault> {
-    is_so(
-        !name.is_empty() && !name.contains(' '),
-        "this is no row's name",
-    )?;
-    for it in seen.lines() {
-        is_so(it != name, "a row has this name already")?;
+fn see(rt: &HostRuntime, seen: &mut String, name: &str) -> Result<(), Fault> {
+    if name.is_empty() || name.contains(' ') {
+        return Err(Fault::Line("this is no row's name"));
     }
-    seen.push_str(name)?;
-    seen.push('\n')?;
+    let line = format!(in rt.alloc(); "\n{name}\n")?;
+    if seen.contains(line.as_str()) {
+        return Err(Fault::Line("a row has this name already"));
+    }
+    seen.push_str(line.as_str())?;
     Ok(())
 }
 
+/// Another row begins, whose name stands behind this word.
+fn begin<'t, S: Stage>(
+    rt: &HostRuntime,
+    row: &mut Row<'_, S>,
+    playing: &Playing<'t>,
+    sum: &mut Sum,
+    word: &str,
+    name: &'t str,
+) -> Playing<'t> {
+    if playing.name.is_empty() {
+        row.keep_names();
+    }
+    let mut next = Playing {
+        name,
+        is_wrong: word == "wrong",
+        at: playing.at,
+        ..Playing::new(playing.path)
+    };
+    next.played = match see(rt, &mut sum.seen, name) {
+        Ok(()) => row.clear(),
+        Err(fault) => Err(fault),
+    };
+    next
+}
+
 /// Plays a line of the row, which goes on to the first fault. What was asked before is compared first, where the line says no more of it.
-fn play_line<S: Stage>(row: &mut Row<'_, S>, playing: &mut Playing<'_>, line: &Line<'_>) {
+fn play_line<S: Stage>(
+    row: &mut Row<'_, S>,
+    playing: &mut Playing<'_>,
+    at: usize,
+    word: &str,
+    rest: &str,
+) {
     if playing.played.is_ok() {
-        playing.played = row.settles(line.word);
+        playing.played = row.settles(word);
     }
     if playing.played.is_ok() {
-        playing.at = line.at;
-        playing.played = row.plays(line.word, line.rest);
+        playing.at = at;
+        playing.played = row.plays(word, rest);
     }
 }
 
@@ -190,63 +175,47 @@ fn play_lines<S: Stage>(
     rt: &HostRuntime,
     row: &mut Row<'_, S>,
     path: &str,
-    lines: &[Line<'_>],
+    text: &str,
     sum: &mut Sum,
 ) {
-    let mut playing = Playing {
-        path,
-        name: "",
-        is_wrong: false,
-        at: 0,
-        played: Ok(()),
-    };
+    let mut playing = Playing::new(path);
+    let mut text = text;
+    let mut at = 0usize;
     row.begin_file();
-    for line in lines {
-        let has_row = !playing.name.is_empty();
-        match line.word {
+    for _ in 0..u64::MAX {
+        let Some((line, behind)) = text.split_once('\n') else {
+            break;
+        };
+        text = behind;
+        at = at.saturating_add(1);
+        let (word, rest) = line.split_once(' ').unwrap_or((line, ""));
+        match word {
+            _ if line.is_empty() || line.starts_with('#') => {}
             "row" | "wrong" => {
-                if has_row || playing.played.is_err() {
-                    tell(rt, row, &playing, sum);
-                }
-                if !has_row {
-                    row.keep_names();
-                }
-                row.clear();
-                playing = Playing {
-                    path,
-                    name: line.rest,
-                    is_wrong: line.word == "wrong",
-                    at: line.at,
-                    played: see(&mut sum.seen, line.rest),
-                };
+                tell(rt, row, &mut playing, sum);
+                playing.at = at;
+                playing = begin(rt, row, &playing, sum, word, rest);
             }
-            word if has_row || word == "let" => play_line(row, &mut playing, line),
-            _ => playing.played = Err(Fault::Line("there is no row yet")),
+            "rounds" if playing.left == 0 => {
+                playing.left = number(rest).unwrap_or(0);
+                playing.begun = at;
+                playing.rounds = behind;
+            }
+            "done" if playing.left > 0 => {
+                playing.left = playing.left.saturating_sub(1);
+                if playing.left > 0 {
+                    text = playing.rounds;
+                    at = playing.begun;
+                }
+            }
+            _ if playing.name.is_empty() && word != "let" => {
+                playing.played = Err(Fault::Line("there is no row yet"));
+            }
+            _ => play_line(row, &mut playing, at, word, rest),
         }
     }
-    if !playing.name.is_empty() || playing.played.is_err() {
-        tell(rt, row, &playing, sum);
-    }
-    row.clear();
-}
-
-/// Plays a file. Whether it is read, and has rows.
-fn play<S: Stage>(
-    rt: &HostRuntime,
-    row: &mut Row<'_, S>,
-    path: &str,
-    sum: &mut Sum,
-) -> Result<(), Fault> {
-    let Ok(text) = read_to_string(rt, path) else {
-        return Err(Fault::Line("the file isn't read"));
-    };
-    let lines = lines_of(rt.alloc(), text.as_str())?;
-    let (rows, wrong) = (sum.rows, sum.wrong);
-    play_lines(rt, row, path, lines.as_slice(), sum);
-    is_so(
-        !sum.is_well || sum.rows > rows || sum.wrong > wrong,
-        "the file has no rows",
-    )
+    tell(rt, row, &mut playing, sum);
+    let _ = row.clear();
 }
 
 /// Plays the files in this order, and tells what came of each row and of all.
@@ -261,9 +230,11 @@ pub fn play_all<S: Stage>(rt: &HostRuntime, stage: S, paths: &[String]) -> ExitC
     };
     for path in paths {
         let path = path.as_str();
-        if let Err(Fault::Line(text)) = play(rt, &mut row, path, &mut sum) {
+        if let Ok(text) = read_to_string(rt, path) {
+            play_lines(rt, &mut row, path, text.as_str(), &mut sum);
+        } else {
             sum.is_well = false;
-            let _ = println!(rt; "{path}:0: {text}");
+            let _ = println!(rt; "{path}:0: the file isn't read");
         }
     }
     let (rows, exchanges, wrong) = (sum.rows, sum.exchanges, sum.wrong);

@@ -14,4 +14,5 @@ mod tills;
 pub use asked::Texts;
 pub use fault::Fault;
 pub use files::play_all;
-pub use stage::{Calls, Deed, Image, Left, MOST_CALLS, NEVER, Opening, Pieces, Room, Stage};
+pub use stage::{Calls, Deed, Image, Left, MOST_CALLS, NEVER, Opening, Pieces, Stage};
+pub use tills::Tills;

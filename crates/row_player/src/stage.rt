@@ -1,10 +1,11 @@
 //! What rows are played on: the product's chain and its program, as few calls as rows need.
 use crate::asked::Texts;
 use crate::fault::Fault;
-use std::alloc::{AllocGlobal, Global};
-use std::io::{self, ErrorKind, Read, Write};
-use std::net::{Net, TcpListener};
-use std::time::{Clock, Duration};
+use crate::tills::Tills;
+use std::alloc::Global;
+use std::io::{self, ErrorKind, Read};
+use std::net::TcpListener;
+use std::time::Duration;
 
 /// How the next requests come to the chain.
 #[derive(Clone, Copy)]
@@ -63,25 +64,6 @@ impl Read for Pieces<'_> {
     }
 }
 
-/// Puts what is written to it behind what is there, as long as there is room.
-#[derive(Drop)]
-pub struct Room<'b> {
-    pub bytes: &'b mut Vec<u8>,
-    pub most: usize,
-}
-
-impl Write for Room<'_> {
-    fn write(&mut self, buf: &[u8]) -> io::Result<usize> {
-        let n = buf.len().min(self.most.saturating_sub(self.bytes.len()));
-        self.bytes.extend_from_slice(&buf[..n])?;
-        Ok(n)
-    }
-
-    fn flush(&mut self) -> io::Result<()> {
-        Ok(())
-    }
-}
-
 /// What the files of a chain hold.
 #[derive(Drop)]
 pub struct Image {
@@ -96,6 +78,10 @@ impl Image {
             log: Vec::new(alloc),
             db: Vec::new(alloc),
         }
+    }
+
+    pub fn is_same(&self, other: &Image) -> bool {
+        self.log.as_slice() == other.log.as_slice() && self.db.as_slice() == other.db.as_slice()
     }
 }
 
@@ -190,19 +176,19 @@ pub trait Stage: Drop {
     /// Closes the chain, if there is one.
     fn close(&mut self, left: &mut Left) -> Result<(), Fault>;
 
-    /// Serves a connection that may have so many requests, alone or by turns: how many replies were sent, and the word of how it ended.
+    /// Serves a connection that may have so many requests, alone or by turns: what it is sent is told, and how it ends.
     fn serve(
         &mut self,
         pieces: &mut Pieces<'_>,
-        room: &mut Room<'_>,
+        told: &mut Texts,
         most: u32,
         turns: Option<u32>,
-    ) -> Result<(u32, &'static str), Fault>;
+    ) -> Result<(), Fault>;
 
-    /// Serves so many connections side by side, and tells the status.
-    fn listen<R: Net + Clock + AllocGlobal>(
+    /// Serves so many tills side by side, and tells the status.
+    fn listen(
         &mut self,
-        rt: &R,
+        tills: &Tills<'_>,
         listener: &TcpListener,
         comers: u32,
         patience: Duration,
@@ -211,24 +197,13 @@ pub trait Stage: Drop {
     /// Of how many films the chain knows what they are.
     fn known_films(&self) -> usize;
 
-    /// Does that with the tables in the files.
-    fn tables(
-        &mut self,
-        deed: Deed<'_>,
-        files: &mut Image,
-        told: &mut Vec<u8>,
-    ) -> Result<(), Fault>;
+    /// Does that with the tables in the files. What is said of them is told.
+    fn tables(&mut self, deed: Deed<'_>, files: &mut Image, told: &mut Texts) -> Result<(), Fault>;
 
-    /// Has the requests read, and put to the chain as values: with their tokens, or as those of that branch. Puts the bytes of the replies, and tells how many
-    /// there are.
-    fn answer(
-        &mut self,
-        input: &[u8],
-        branch: Option<u32>,
-        out: &mut Vec<u8>,
-    ) -> Result<u32, Fault>;
+    /// Has the requests read, and put to the chain as values: with their tokens, or as those of that branch. The replies are told, and how many there are.
+    fn answer(&mut self, input: &[u8], branch: Option<u32>, told: &mut Texts) -> Result<(), Fault>;
 
-    /// The same of a chain over copies of the files, whose disks fail behind so many calls: the replies before it is stopped are put in `out`, and those to the same
+    /// The same of a chain over copies of the files, whose disks fail behind so many calls: the replies before it is stopped are told in `out`, and those to the same
     /// requests behind that in `err`. Whether it is opened.
     fn resume(
         &mut self,

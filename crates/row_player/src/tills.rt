@@ -1,14 +1,11 @@
 //! Tills over loopback, served side by side: what they do is a list of steps, and time passes by steps alone.
-use crate::fault::{Fault, is_so};
+use crate::fault::Fault;
 use crate::stage::Stage;
 use std::alloc::{Alloc, Global};
 use std::cell::{Cell, RefCell};
 use std::io::{self, ErrorKind, Read, Write};
 use std::net::{Net, Shutdown, SocketAddr, TcpListener, TcpStream};
 use std::time::{Clock, Duration};
-
-/// For how many milliseconds of the steps' time a till is waited for.
-const PATIENCE: u64 = 50;
 
 /// In how many seconds of the real clock the steps have to be made.
 const LONGEST: u64 = 60;
@@ -67,8 +64,10 @@ fn has_come(alloc: Global, mut stream: &TcpStream, step: &Step) -> io::Result<bo
 
 /// The tills as a runtime for their server. Each time that it looks at the clock, they go on as far as they can.
 #[derive(Drop)]
-struct Tills<'t> {
+pub struct Tills<'t> {
     rt: &'t HostRuntime,
+    /// Whether time passes by the real clock.
+    is_real: bool,
     server: SocketAddr,
     steps: &'t [Step],
     /// How many steps are made.
@@ -136,6 +135,12 @@ impl Tills<'_> {
         self.made.get() >= self.steps.len() && !self.is_stuck.get()
     }
 
+    fn play(&self) {
+        if let Ok(mut sockets) = self.sockets.try_borrow_mut() {
+            self.advance(&mut sockets);
+        }
+    }
+
     /// Goes on where the steps can be made in time. Else all tills go, those too that haven't come yet, and a second passes.
     fn advance(&self, sockets: &mut Vec<TcpStream>) {
         if self.is_stuck.get() || self.are_played() {
@@ -158,9 +163,10 @@ impl Tills<'_> {
 
 impl Clock for Tills<'_> {
     fn monotonic(&self) -> io::Result<Duration> {
-        if let Ok(mut sockets) = self.sockets.try_borrow_mut() {
-            self.advance(&mut sockets);
+        if self.is_real {
+            return self.rt.monotonic();
         }
+        self.play();
         Ok(Duration::from_millis(self.now.get()))
     }
 
@@ -191,47 +197,37 @@ impl Alloc for Tills<'_> {
     }
 }
 
-/// Serves the tills, and has all their steps made: by the steps' time as the server goes on, or, with the real clock's patience, those before what has to come of
-/// them first, and the others behind it.
+/// Serves so many tills, and has all their steps made: by the steps' time as the server goes on, or by the real clock, those before what has to come of them first,
+/// and the others behind it.
 pub fn serve_tills<S: Stage>(
     rt: &HostRuntime,
     stage: &mut S,
     steps: &[Step],
-    patience: Option<u32>,
+    comers: u32,
+    is_real: bool,
+    millis: u32,
 ) -> Result<(), Fault> {
     let listener = TcpListener::bind(rt, "127.0.0.1:0")?;
-    let mut comers = 0u32;
-    for step in steps {
-        if matches!(step.what, What::Comes) {
-            comers = comers.saturating_add(1);
-        }
-    }
+    let server = listener.local_addr()?;
+    let begun = rt.monotonic()?;
     let tills = Tills {
         rt,
-        server: listener.local_addr()?,
+        is_real,
+        server,
         steps,
         made: Cell::new(0),
         is_stuck: Cell::new(false),
         now: Cell::new(0),
-        begun: rt.monotonic()?,
+        begun,
         sockets: RefCell::new(Vec::new(rt.alloc())),
         coming: Cell::new(comers),
     };
-    let status = match patience {
-        None => {
-            let patience = Duration::from_millis(PATIENCE);
-            stage.listen(&tills, &listener, comers, patience)?
-        }
-        Some(millis) => {
-            let _ = tills.monotonic()?;
-            let patience = Duration::from_millis(u64::from(millis));
-            let status = stage.listen(rt, &listener, comers, patience)?;
-            let _ = tills.monotonic()?;
-            status
-        }
-    };
-    is_so(
-        status == 0 && tills.are_played(),
-        "a till isn't served as it should be",
-    )
+    tills.play();
+    let patience = Duration::from_millis(u64::from(millis));
+    let status = stage.listen(&tills, &listener, comers, patience)?;
+    tills.play();
+    if status == 0 && tills.are_played() {
+        return Ok(());
+    }
+    Err(Fault::Line("a till isn't served as it should be"))
 }

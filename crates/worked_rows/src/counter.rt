@@ -1,19 +1,19 @@
 //! What the rows are played on: a chain in files on disks in memory, and the whole program.
 use crate::calls::call;
 use crate::disks::{InMemory, disks, leave, put_image};
-use crate::serving::{Outcome, answer, serve_alone, serve_by_turns};
+use crate::serving::{answer, serve_alone, serve_by_turns};
 use crate::shop::{Shop, opened, resumed};
 use crate::tables::work;
 use crate::values::read_values;
 use office_words::ClapWords;
-use row_player::{Calls, Deed, Fault, Image, Left, NEVER, Opening, Pieces, Room, Stage, Texts};
+use row_player::{Calls, Deed, Fault, Image, Left, NEVER, Opening, Pieces, Stage, Texts, Tills};
 use sakila_office::{run, serve_listener};
 use shop_types::{Limits, Token};
 use sqlite::Files;
-use std::alloc::{AllocGlobal, Global};
+use std::alloc::Global;
 use std::mem;
-use std::net::{Net, TcpListener};
-use std::time::{Clock, Duration};
+use std::net::TcpListener;
+use std::time::Duration;
 
 const NO_CHAIN: Fault = Fault::Line("there is no chain yet");
 
@@ -83,29 +83,31 @@ impl<D: InMemory> Stage for Counter<'_, D> {
     fn serve(
         &mut self,
         pieces: &mut Pieces<'_>,
-        room: &mut Room<'_>,
+        told: &mut Texts,
         most: u32,
         turns: Option<u32>,
-    ) -> Result<Outcome, Fault> {
+    ) -> Result<(), Fault> {
         match (&mut self.shop, turns) {
-            (Shop::Open(chain), None) => serve_alone(self.alloc, pieces, room, chain, most),
+            (Shop::Open(chain), None) => serve_alone(self.alloc, pieces, told, chain, most),
             (Shop::Open(chain), Some(turns)) => {
-                serve_by_turns(self.alloc, pieces, room, chain, most, turns)
+                serve_by_turns(self.alloc, pieces, told, chain, most, turns)
             }
             _ => Err(NO_CHAIN),
         }
     }
 
-    fn listen<R: Net + Clock + AllocGlobal>(
+    fn listen(
         &mut self,
-        rt: &R,
+        tills: &Tills<'_>,
         listener: &TcpListener,
         comers: u32,
         patience: Duration,
     ) -> Result<u8, Fault> {
-        let words = ClapWords { alloc: rt.alloc() };
+        let words = ClapWords { alloc: self.alloc };
         match &mut self.shop {
-            Shop::Open(chain) => Ok(serve_listener(rt, listener, chain, &words, comers, patience)),
+            Shop::Open(chain) => Ok(serve_listener(
+                tills, listener, chain, &words, comers, patience,
+            )),
             _ => Err(NO_CHAIN),
         }
     }
@@ -117,32 +119,22 @@ impl<D: InMemory> Stage for Counter<'_, D> {
         }
     }
 
-    fn tables(
-        &mut self,
-        deed: Deed<'_>,
-        files: &mut Image,
-        told: &mut Vec<u8>,
-    ) -> Result<(), Fault> {
+    fn tables(&mut self, deed: Deed<'_>, files: &mut Image, told: &mut Texts) -> Result<(), Fault> {
         let disks: Files<D> = disks(self.alloc, files, NEVER)?;
-        let disks = work(self.alloc, deed, disks, told)?;
+        let disks = work(self.alloc, deed, disks, &mut told.out)?;
         let put = put_image(&disks, files);
         drop(disks);
         put
     }
 
-    fn answer(
-        &mut self,
-        input: &[u8],
-        branch: Option<u32>,
-        out: &mut Vec<u8>,
-    ) -> Result<u32, Fault> {
+    fn answer(&mut self, input: &[u8], branch: Option<u32>, told: &mut Texts) -> Result<(), Fault> {
         let Shop::Open(chain) = &mut self.shop else {
             return Err(NO_CHAIN);
         };
         let asked = read_values(self.alloc, input)?;
-        let told = answer(self.alloc, chain, asked.as_slice(), branch, out);
+        let is_told = answer(self.alloc, chain, asked.as_slice(), branch, told);
         drop(asked);
-        told
+        is_told
     }
 
     fn resume(

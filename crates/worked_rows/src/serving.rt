@@ -4,13 +4,10 @@ use counter_http::{
     Connection, End, ServeFault, Standing, Switchboard, TurnFault, reply_bytes, serve,
 };
 use office_words::ClapWords;
-use row_player::{Fault, Pieces, Room};
+use row_player::{Fault, Pieces, Texts};
 use shop_types::{BranchNo, Caller, Reply, Request, Token};
 use sqlite::Alter;
 use std::alloc::Global;
-
-/// How many replies were sent, and the word of how a connection ended.
-pub type Outcome = (u32, &'static str);
 
 const MEMORY: Fault = Fault::Line("no memory");
 
@@ -30,18 +27,18 @@ fn word_of(end: End) -> &'static str {
 pub fn serve_by_turns<S: Alter>(
     alloc: Global,
     pieces: &mut Pieces<'_>,
-    room: &mut Room<'_>,
+    told: &mut Texts,
     chain: &mut Chain<S>,
     most: u32,
     turns: u32,
-) -> Result<Outcome, Fault> {
+) -> Result<(), Fault> {
     let words = ClapWords { alloc };
     let board = Switchboard::new(alloc)?;
     let mut connection = Connection::new(alloc, most)?;
     let mut last = Ok(Standing::Ready);
     // (a turn answers a request at least, or is the last)
     for _ in 0..=most {
-        last = connection.advance(alloc, pieces, room, chain, &board, &words, turns);
+        last = connection.advance(alloc, pieces, told, chain, &board, &words, turns);
         let Ok(Standing::Ready) = last else {
             break;
         };
@@ -49,11 +46,11 @@ pub fn serve_by_turns<S: Alter>(
     let answered = connection.replies();
     match last {
         // (the reply to a text that is no message is one more)
-        Ok(Standing::Ended(End::Refused)) => Ok((answered.saturating_add(1), "refused")),
-        Ok(Standing::Ended(end)) => Ok((answered, word_of(end))),
-        Err(TurnFault::Read) => Ok((answered, "read")),
+        Ok(Standing::Ended(End::Refused)) => told.ends("refused", answered.saturating_add(1)),
+        Ok(Standing::Ended(end)) => told.ends(word_of(end), answered),
+        Err(TurnFault::Read) => told.ends("read", answered),
         // (the reply to the last request isn't wholly written)
-        Err(TurnFault::Write) => Ok((answered.saturating_sub(1), "write")),
+        Err(TurnFault::Write) => told.ends("write", answered.saturating_sub(1)),
         Ok(_) => Err(Fault::Line("the connection waits")),
     }
 }
@@ -62,15 +59,15 @@ pub fn serve_by_turns<S: Alter>(
 pub fn serve_alone<S: Alter>(
     alloc: Global,
     pieces: &mut Pieces<'_>,
-    room: &mut Room<'_>,
+    told: &mut Texts,
     chain: &mut Chain<S>,
     most: u32,
-) -> Result<Outcome, Fault> {
+) -> Result<(), Fault> {
     let words = ClapWords { alloc };
-    match serve(alloc, pieces, room, chain, &words, most) {
-        Ok(served) => Ok((served.replies, word_of(served.end))),
-        Err(ServeFault::Read { replies }) => Ok((replies, "read")),
-        Err(ServeFault::Write { replies }) => Ok((replies, "write")),
+    match serve(alloc, pieces, told, chain, &words, most) {
+        Ok(served) => told.ends(word_of(served.end), served.replies),
+        Err(ServeFault::Read { replies }) => told.ends("read", replies),
+        Err(ServeFault::Write { replies }) => told.ends("write", replies),
         Err(ServeFault::Memory) => Err(MEMORY),
     }
 }
@@ -122,23 +119,24 @@ fn replay<S: Alter>(
     }
 }
 
-/// Has the chain answer the requests, with their tokens or as those of that branch. How many replies there are.
+/// Has the chain answer the requests, with their tokens or as those of that branch. The replies are told, and how many there are.
 pub fn answer<S: Alter>(
     alloc: Global,
     chain: &mut Chain<S>,
     asked: &[(Token, Request)],
     branch: Option<u32>,
-    out: &mut Vec<u8>,
-) -> Result<u32, Fault> {
+    told: &mut Texts,
+) -> Result<(), Fault> {
+    let replies = u32::try_from(asked.len()).unwrap_or(0);
+    told.ends("closed", replies)?;
     let Some(number) = branch else {
-        replay(alloc, chain, asked, out)?;
-        return Ok(u32::try_from(asked.len()).unwrap_or(0));
+        return replay(alloc, chain, asked, &mut told.out);
     };
     let Some(branch) = BranchNo::new(number) else {
         return Err(Fault::Line("there is no such branch"));
     };
     for (_, request) in asked {
-        answer_branch(alloc, chain, branch, request, out)?;
+        answer_branch(alloc, chain, branch, request, &mut told.out)?;
     }
-    Ok(u32::try_from(asked.len()).unwrap_or(0))
+    Ok(())
 }

@@ -101,9 +101,11 @@ pub fn resumed<D: Crash + Drop>(
         Ok(it) => {
             let first = put_replies(alloc, &mut told.out, it.before.as_slice());
             let second = put_replies(alloc, &mut told.err, it.behind.as_slice());
+            let ended = told.ends("closed", u32::try_from(it.behind.len()).unwrap_or(0));
             drop(it);
             first?;
             second?;
+            ended?;
             Ok(true)
         }
         Err(NotResumed::Memory) => Err(Fault::Line("no memory")),
