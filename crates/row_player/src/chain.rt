@@ -122,29 +122,38 @@ impl<S: Stage> Chain<S> {
         }
     }
 
+    /// A new chain, with the opening rows.
+    fn makes(&mut self, opening: Opening) -> Result<(), Fault> {
+        self.tables(Deed::Fill)?;
+        self.open(opening, NEVER)
+    }
+
     /// A new chain: `demo`, `files`, `empty`, `stocked` or `limits COMMANDS COPIES`.
     pub fn begin(&mut self, words: &str) -> Result<(), Fault> {
         let (word, limits) = words.split_once(' ').unwrap_or((words, ""));
-        self.is_in_files = matches!(word, "files" | "empty");
+        self.is_in_files = false;
         self.held = Held::Closed;
         self.left.files.log.clear();
         self.left.files.db.clear();
-        let opening = match word {
-            "empty" => return Ok(()),
-            "limits" => limited(limits)?,
-            "demo" | "files" | "stocked" => Opening::Opened,
-            _ => return Err(Fault::Line("there is no such chain")),
-        };
-        self.tables(Deed::Fill)?;
-        self.open(opening, NEVER)?;
-        if word == "stocked" {
-            return self.stock();
+        match word {
+            "demo" => self.makes(Opening::Opened),
+            "files" => {
+                self.is_in_files = true;
+                self.makes(Opening::Opened)
+            }
+            "empty" => {
+                self.is_in_files = true;
+                Ok(())
+            }
+            "stocked" => self.stock(),
+            "limits" => self.makes(limited(limits)?),
+            _ => Err(Fault::Line("there is no such chain")),
         }
-        Ok(())
     }
 
-    /// Adds the first lot and the first customer.
+    /// A new chain with the first lot and the first customer.
     fn stock(&mut self) -> Result<(), Fault> {
+        self.makes(Opening::Opened)?;
         send(&mut self.stage, STOCK.as_bytes(), WHOLE, &mut self.told)?;
         if self.told.out.as_slice() == STOCKED.as_bytes() {
             return Ok(());

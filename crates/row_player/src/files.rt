@@ -18,10 +18,13 @@ struct Sum {
     seen: String,
 }
 
-/// The row that is played, of which file it is, and where and why it stops.
+/// The file that is played, and its row, and where and why that stops.
 #[derive(Clone, Copy)]
 struct Playing<'t> {
     path: &'t str,
+    /// The lines that are still to be played, and the number of the last one that was.
+    text: &'t str,
+    line: usize,
     name: &'t str,
     is_wrong: bool,
     at: usize,
@@ -30,21 +33,6 @@ struct Playing<'t> {
     left: u32,
     begun: usize,
     rounds: &'t str,
-}
-
-impl<'t> Playing<'t> {
-    fn new(path: &'t str) -> Playing<'t> {
-        Playing {
-            path,
-            name: "",
-            is_wrong: false,
-            at: 0,
-            played: Ok(()),
-            left: 0,
-            begun: 0,
-            rounds: "",
-        }
-    }
 }
 
 /// Says where and why a row stops, with what was told where that is it.
@@ -132,42 +120,72 @@ fn see(rt: &HostRuntime, seen: &mut String, name: &str) -> Result<(), Fault> {
 fn begin<'t, S: Stage>(
     rt: &HostRuntime,
     row: &mut Row<'_, S>,
-    playing: &Playing<'t>,
+    playing: &mut Playing<'t>,
     sum: &mut Sum,
     word: &str,
     name: &'t str,
-) -> Playing<'t> {
+) {
     if playing.name.is_empty() {
         row.keep_names();
     }
-    let mut next = Playing {
-        name,
-        is_wrong: word == "wrong",
-        at: playing.at,
-        ..Playing::new(playing.path)
-    };
-    next.played = match see(rt, &mut sum.seen, name) {
-        Ok(()) => row.clear(),
-        Err(fault) => Err(fault),
-    };
-    next
+    playing.name = name;
+    playing.is_wrong = word == "wrong";
+    playing.at = playing.line;
+    playing.left = 0;
+    playing.played = see(rt, &mut sum.seen, name);
+    if playing.played.is_ok() {
+        playing.played = row.clear();
+    }
 }
 
 /// Plays a line of the row, which goes on to the first fault. What was asked before is compared first, where the line says no more of it.
-fn play_line<S: Stage>(
-    row: &mut Row<'_, S>,
-    playing: &mut Playing<'_>,
-    at: usize,
-    word: &str,
-    rest: &str,
-) {
+fn play_line<S: Stage>(row: &mut Row<'_, S>, playing: &mut Playing<'_>, word: &str, rest: &str) {
     if playing.played.is_ok() {
         playing.played = row.settles(word);
     }
     if playing.played.is_ok() {
-        playing.at = at;
+        playing.at = playing.line;
         playing.played = row.plays(word, rest);
     }
+}
+
+/// Plays the next line, if there is one.
+fn play_next<S: Stage>(
+    rt: &HostRuntime,
+    row: &mut Row<'_, S>,
+    playing: &mut Playing<'_>,
+    sum: &mut Sum,
+) -> bool {
+    let Some((line, behind)) = playing.text.split_once('\n') else {
+        return false;
+    };
+    playing.text = behind;
+    playing.line = playing.line.saturating_add(1);
+    let (word, rest) = line.split_once(' ').unwrap_or((line, ""));
+    match word {
+        _ if line.is_empty() || line.starts_with('#') => {}
+        "row" | "wrong" => {
+            tell(rt, row, playing, sum);
+            begin(rt, row, playing, sum, word, rest);
+        }
+        "rounds" if playing.left == 0 => {
+            playing.left = number(rest).unwrap_or(0);
+            playing.begun = playing.line;
+            playing.rounds = behind;
+        }
+        "done" if playing.left > 0 => {
+            playing.left = playing.left.saturating_sub(1);
+            if playing.left > 0 {
+                playing.text = playing.rounds;
+                playing.line = playing.begun;
+            }
+        }
+        _ if playing.name.is_empty() && word != "let" => {
+            playing.played = Err(Fault::Line("there is no row yet"));
+        }
+        _ => play_line(row, playing, word, rest),
+    }
+    true
 }
 
 /// Plays the lines of a file.
@@ -178,44 +196,37 @@ fn play_lines<S: Stage>(
     text: &str,
     sum: &mut Sum,
 ) {
-    let mut playing = Playing::new(path);
-    let mut text = text;
-    let mut at = 0usize;
+    let mut playing = Playing {
+        path,
+        text,
+        line: 0,
+        name: "",
+        is_wrong: false,
+        at: 0,
+        played: Ok(()),
+        left: 0,
+        begun: 0,
+        rounds: "",
+    };
     row.begin_file();
     for _ in 0..u64::MAX {
-        let Some((line, behind)) = text.split_once('\n') else {
+        if !play_next(rt, row, &mut playing, sum) {
             break;
-        };
-        text = behind;
-        at = at.saturating_add(1);
-        let (word, rest) = line.split_once(' ').unwrap_or((line, ""));
-        match word {
-            _ if line.is_empty() || line.starts_with('#') => {}
-            "row" | "wrong" => {
-                tell(rt, row, &mut playing, sum);
-                playing.at = at;
-                playing = begin(rt, row, &playing, sum, word, rest);
-            }
-            "rounds" if playing.left == 0 => {
-                playing.left = number(rest).unwrap_or(0);
-                playing.begun = at;
-                playing.rounds = behind;
-            }
-            "done" if playing.left > 0 => {
-                playing.left = playing.left.saturating_sub(1);
-                if playing.left > 0 {
-                    text = playing.rounds;
-                    at = playing.begun;
-                }
-            }
-            _ if playing.name.is_empty() && word != "let" => {
-                playing.played = Err(Fault::Line("there is no row yet"));
-            }
-            _ => play_line(row, &mut playing, at, word, rest),
         }
     }
     tell(rt, row, &mut playing, sum);
     let _ = row.clear();
+}
+
+/// Plays a file, if it is read.
+fn play<S: Stage>(rt: &HostRuntime, row: &mut Row<'_, S>, path: &str, sum: &mut Sum) {
+    match read_to_string(rt, path) {
+        Ok(text) => play_lines(rt, row, path, text.as_str(), sum),
+        Err(_) => {
+            sum.is_well = false;
+            let _ = println!(rt; "{path}:0: the file isn't read");
+        }
+    }
 }
 
 /// Plays the files in this order, and tells what came of each row and of all.
@@ -229,15 +240,12 @@ pub fn play_all<S: Stage>(rt: &HostRuntime, stage: S, paths: &[String]) -> ExitC
         seen: String::new(rt.alloc()),
     };
     for path in paths {
-        let path = path.as_str();
-        if let Ok(text) = read_to_string(rt, path) {
-            play_lines(rt, &mut row, path, text.as_str(), &mut sum);
-        } else {
-            sum.is_well = false;
-            let _ = println!(rt; "{path}:0: the file isn't read");
-        }
+        play(rt, &mut row, path.as_str(), &mut sum);
     }
+    drop(row);
     let (rows, exchanges, wrong) = (sum.rows, sum.exchanges, sum.wrong);
     let told = println!(rt; "{rows} rows, {exchanges} exchanges, {wrong} rows are wrong");
-    ExitCode::from(if sum.is_well && told.is_ok() { 0 } else { 1 })
+    let is_well = sum.is_well && told.is_ok();
+    drop(sum);
+    ExitCode::from(if is_well { 0 } else { 1 })
 }
