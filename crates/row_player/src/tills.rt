@@ -224,10 +224,13 @@ pub fn serve_tills<S: Stage>(
     };
     tills.play();
     let patience = Duration::from_millis(u64::from(millis));
-    let status = stage.listen(&tills, &listener, comers, patience)?;
+    let status = stage.listen(&tills, &listener, comers, patience);
     tills.play();
-    if status == 0 && tills.are_played() {
-        return Ok(());
+    let are_played = tills.are_played();
+    drop(tills);
+    match status {
+        Ok(0) if are_played => Ok(()),
+        Ok(_) => Err(Fault::Line("a till isn't served as it should be")),
+        Err(fault) => Err(fault),
     }
-    Err(Fault::Line("a till isn't served as it should be"))
 }

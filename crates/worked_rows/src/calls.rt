@@ -10,20 +10,26 @@ use shop_types::{
     Amount, BadCsv, Caller, CopyNo, CustomerNo, Limits, Moment, NoMemory, Refusal, Rental, StaffNo,
     Token, moment_texts_are_one_to_one,
 };
+use sqlite::Alter;
 use std::alloc::{AllocError, Global};
+
+/// Whether the chain knows head office alone.
+fn knows_alone<S: Alter>(chain: &mut Chain<S>, office: &Token, branch: &Token) -> bool {
+    matches!(chain.caller(office), Ok(Caller::Office))
+        && matches!(chain.caller(branch), Ok(Caller::Nobody))
+        && !chain.is_failed()
+}
 
 /// Whether a chain with no shared row knows head office alone.
 fn knows_office(alloc: Global) -> Option<bool> {
     let office = Token::read(b"0123456789abcdef0123456789abcdef")?;
     let branch = Token::read(b"11111111111111111111111111111111")?;
-    match Chain::memory(alloc, Limits::default(), &office) {
-        Ok(mut chain) => Some(
-            matches!(chain.caller(&office), Ok(Caller::Office))
-                && matches!(chain.caller(&branch), Ok(Caller::Nobody))
-                && !chain.is_failed(),
-        ),
-        Err(_) => None,
-    }
+    let Ok(mut chain) = Chain::memory(alloc, Limits::default(), &office) else {
+        return None;
+    };
+    let is_alone = knows_alone(&mut chain, &office, &branch);
+    drop(chain);
+    Some(is_alone)
 }
 
 /// Whether the faults by which there is no chain have their names.
