@@ -1,16 +1,16 @@
 //! What is found of copies that are to be sent to another branch, and of a consignment that is to be received.
 #![tactic(auto)]
 
-ghost use Rattle.std.specs.Prelude.{◌≡◌, [], ◌∷◌, false, not, map, IfOk};
+ghost use Rattle.std.specs.Prelude.{◌≡◌, ℕ, [], ◌∷◌, false, not, map, IfOk};
 ghost use Rattle.std.specs.List.{list_any};
 ghost use Rattle.sqlite.specs.Held.{state};
 ghost use Rattle.sql_rows.specs.Calls.{StaysWithin};
 ghost use Rattle.shop_model.specs.Rows.{at, lacks, mem, of};
 ghost use Rattle.shop_model.specs.Values as model;
-ghost use Rattle.shop_model.specs.Stock.{in_stock};
+ghost use Rattle.shop_model.specs.Stock.{in_stock, is_here};
 ghost use Rattle.shop_model.specs.Books.{shop_of};
 ghost use Rattle.shop_schema.specs.Calls.{Finds};
-ghost use Rattle.shop_store.specs.Seen.{seen_copy_row};
+ghost use Rattle.shop_store.specs.Seen.{seen_copy_row, seen_state};
 ghost use Rattle.branch_core.specs.Marked.{IsArrival};
 ghost use Rattle.consign_finds.specs.Finds.{AgreesAt, AreListed, copy_parcel, line_parcel};
 

@@ -1,3 +1,4 @@
+pub use Rattle.http_messages.proofs.WriteLemmas
 pub mod KnownBytes
 mod Runs
 pub mod Serving

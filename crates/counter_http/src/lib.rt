@@ -6,16 +6,14 @@ mod connection;
 mod inbox;
 mod laws;
 mod machine;
-mod outbox;
 mod reply;
 mod unsent;
 
 pub use connection::{End, ServeFault, Served, serve};
-pub use http_messages::{Fault, Reading, Request as Message, read_request};
+pub use http_messages::{Fault, Reading, Request as Message, read_request, write_whole};
 pub use laws::{
     branches_are_sent_the_same, connections_are_one_history, connections_are_served_together,
     turns_serve_alike,
 };
 pub use machine::{Connection, Standing, Switchboard, TurnFault};
-pub use outbox::write_whole;
 pub use reply::reply_bytes;

@@ -5,8 +5,7 @@ ghost use Rattle.shop_types.specs.Replies.{seen_reply};
 ghost use Rattle.counter_http.specs.Exchanges.{text_of};
 ghost use Rattle.counter_http.specs.Unsent.{unsent_of};
 
-use crate::outbox::write_part;
-use http_messages::reply_head;
+use http_messages::{reply_head, write_part};
 use shop_types::Reply;
 use std::io::{self, Write};
 use std::marker::Model;

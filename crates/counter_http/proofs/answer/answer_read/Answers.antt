@@ -14,7 +14,7 @@ returns-in-Ok-Asked-clause-taken g c =
     rw (c.in-Ok-Asked.is, asked) c.answer.ensures.taken
 
 pub returns-in-Ok-Refused-clause-told : goal.returns-in-Ok-Refused-clause-told
-returns-in-Ok-Refused-clause-told g c = inr (seen_refusal c.in-Ok-Refused.refusal.now, c.refused.ensures)
+returns-in-Ok-Refused-clause-told g c = inr (seen_refusal c.in-Ok-Refused.refusal, c.refused.ensures)
 
 pub returns-in-Ok-Refused-clause-fails : goal.returns-in-Ok-Refused-clause-fails
 returns-in-Ok-Refused-clause-fails g c =

@@ -1,6 +1,6 @@
 use Rattle.std.proofs.Common.{[], ◌∷◌}
 use Rattle.std.proofs.lemmas.Result.{on_err_weaker}
-use Rattle.counter_http.proofs.KnownBytes.{OnErr-all, first_front, second_front}
+use Rattle.counter_http.proofs.WriteLemmas.{OnErr-all, first_front, second_front}
 use Rattle.sakila_office.proofs.printing.write_line.Goals as goal
 
 pub returns-in_err-write_whole-clause-err : goal.returns-in_err-write_whole-clause-err

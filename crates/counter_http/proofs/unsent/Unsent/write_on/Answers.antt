@@ -1,7 +1,7 @@
 use Rattle.std.proofs.Common.{rules, ◌≡◌, [], drop, length}
 use Rattle.http_messages.specs.Text.{head_text}
 use Rattle.shop_types.specs.Replies.{body_bytes}
-use Rattle.counter_http.proofs.KnownBytes.{written_two}
+use Rattle.http_messages.proofs.WriteLemmas.{written_two}
 use Rattle.counter_http.proofs.unsent.Unsent.write_on.Goals as goal
 
 pub returns-then-branch-clause-sent : goal.returns-then-branch-clause-sent

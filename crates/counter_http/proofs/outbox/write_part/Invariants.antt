@@ -1,6 +1,0 @@
-use Rattle.std.proofs.Common.{drop}
-use Rattle.counter_http.proofs.KnownBytes.{IsWritten}
-use Rattle.counter_http.proofs.outbox.write_part.Given as goal
-
-abbrev pub invariant-write : goal.invariant-write
-invariant-write g l = IsWritten (g.W.Write.contents l.fn.writer) (g.W.Write.contents l.writer) (drop l.fn.at l.bytes) (drop l.at l.bytes)
