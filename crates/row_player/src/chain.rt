@@ -128,7 +128,7 @@ impl<S: Stage> Chain<S> {
         self.open(opening, NEVER)
     }
 
-    /// A new chain: `demo`, `files`, `empty`, `stocked` or `limits COMMANDS COPIES`.
+    /// A new chain: `demo`, `files`, `first` (of version 1), `empty`, `stocked` or `limits COMMANDS COPIES`.
     pub fn begin(&mut self, words: &str) -> Result<(), Fault> {
         let (word, limits) = words.split_once(' ').unwrap_or((words, ""));
         self.is_in_files = false;
@@ -140,6 +140,10 @@ impl<S: Stage> Chain<S> {
             "files" => {
                 self.is_in_files = true;
                 self.makes(Opening::Opened)
+            }
+            "first" => {
+                self.is_in_files = true;
+                self.tables(Deed::First)
             }
             "empty" => {
                 self.is_in_files = true;

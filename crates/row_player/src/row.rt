@@ -287,11 +287,14 @@ impl<'t, S: Stage> Row<'t, S> {
         self.steps_on(what, number, bytes)
     }
 
-    /// Serves the tills, by the steps' time or by the real clock with so many milliseconds of patience.
-    fn serves(&mut self, patience: &str) -> Result<(), Fault> {
+    /// Serves the tills, by the steps' time, there also as the program does (`port`), or by the real clock with so many milliseconds of patience.
+    fn serves(&mut self, how: &str) -> Result<(), Fault> {
         self.count = self.count.saturating_add(1);
-        let is_real = !patience.is_empty();
-        let millis = if is_real { number(patience)? } else { PATIENCE };
+        let (is_real, millis) = match how {
+            "" => (false, Some(PATIENCE)),
+            "port" => (false, None),
+            _ => (true, Some(number(how)?)),
+        };
         let steps = self.steps.as_slice();
         let stage = &mut self.chain.stage;
         serve_tills(self.rt, stage, steps, self.comers, is_real, millis)?;

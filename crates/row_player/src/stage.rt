@@ -152,6 +152,8 @@ pub enum Opening {
 pub enum Deed<'t> {
     /// They are made, with the opening rows.
     Fill,
+    /// Those of version 1 are made, with head office's token and no other row.
+    First,
     /// A statement.
     Statement(&'t str),
     /// All that stands in the log alone is copied into the database's file.
@@ -193,6 +195,9 @@ pub trait Stage: Drop {
         comers: u32,
         patience: Duration,
     ) -> Result<u8, Fault>;
+
+    /// Serves so many connections side by side at a port of its choice, as the program does, and tells the status.
+    fn serve_port(&mut self, tills: &Tills<'_>, comers: u32) -> Result<u8, Fault>;
 
     /// Of how many films the chain knows what they are.
     fn known_films(&self) -> usize;

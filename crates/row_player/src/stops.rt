@@ -21,7 +21,7 @@ const NEW_AUDIT: &[u8] =
 const FAILED: &str =
     "HTTP/1.1 503 Service Unavailable\r\ncontent-type: application/json\r\ncontent-length: 26\r\n\r\n{\"refused\":\"store_failed\"}";
 
-/// What is stopped, and what is sent to it, before the stop and behind it.
+/// What is stopped, and what is sent behind the stop, to a connection before it too.
 #[derive(Clone, Copy)]
 struct Stopped<'t> {
     opening: Opening,
@@ -82,7 +82,7 @@ impl<S: Stage> Chain<S> {
         self.stage.close(&mut self.next)
     }
 
-    /// What is opened with the disks failing behind so many calls: whether it sends what is wanted, up to where the store has failed.
+    /// Whether a connection, on disks that fail behind so many calls, sends what is wanted, or that the store has failed.
     fn sends(&mut self, stopped: &Stopped<'_>) -> Result<(), Fault> {
         send(&mut self.stage, stopped.input, WHOLE, &mut self.told)?;
         let told = self.told.out.as_slice();
@@ -96,12 +96,12 @@ impl<S: Stage> Chain<S> {
     /// stopped, and not the opening before it.
     fn stops(&mut self, stopped: &Stopped<'_>, calls: Calls) -> Result<bool, Fault> {
         match self.stage.open(stopped.opening, &self.left.files, calls)? {
-            None => self.sends(stopped)?,
+            None if stopped.is_connection => self.sends(stopped)?,
             Some("store_failed") if stopped.is_connection => return Ok(false),
-            Some(name) if name != "store_failed" && stopped.is_connection => {
+            Some(name) if name != "store_failed" && matches!(stopped.opening, Opening::Opened) => {
                 return Err(Fault::Opening(name));
             }
-            Some(_) => {}
+            _ => {}
         }
         self.stage.close(&mut self.tried)?;
         self.resumes(stopped, false)?;
@@ -136,10 +136,12 @@ impl<S: Stage> Chain<S> {
     ) -> Result<(), Fault> {
         self.is_swept = false;
         self.trial(opening, MANY, input)?;
-        let made = self.tried.made;
         mem::swap(&mut self.wanted, &mut self.told.out);
-        self.trial(opening, made, input)?;
-        if self.told.out.as_slice() != self.wanted.as_slice() {
+        let sent = if is_connection { input } else { &[] };
+        self.trial(opening, MANY, sent)?;
+        let made = self.tried.made;
+        self.trial(opening, made, sent)?;
+        if is_connection && self.told.out.as_slice() != self.wanted.as_slice() {
             return Err(Fault::Line("more calls are made"));
         }
         let stopped = Stopped {

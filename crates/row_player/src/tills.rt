@@ -68,7 +68,8 @@ pub struct Tills<'t> {
     rt: &'t HostRuntime,
     /// Whether time passes by the real clock.
     is_real: bool,
-    server: SocketAddr,
+    /// Where the server listens, as soon as it does.
+    server: Cell<Option<SocketAddr>>,
     steps: &'t [Step],
     /// How many steps are made.
     made: Cell<usize>,
@@ -85,7 +86,10 @@ pub struct Tills<'t> {
 
 impl Tills<'_> {
     fn come(&self) -> io::Result<TcpStream> {
-        let stream = TcpStream::connect(self.rt, self.server)?;
+        let Some(server) = self.server.get() else {
+            return Err(io::Error::from(ErrorKind::NotConnected));
+        };
+        let stream = TcpStream::connect(self.rt, server)?;
         stream.set_nonblocking(true)?;
         self.coming.set(self.coming.get().saturating_sub(1));
         Ok(stream)
@@ -181,7 +185,9 @@ impl Net for Tills<'_> {
     type Listener = TcpListener;
 
     fn bind(&self, addr: SocketAddr) -> io::Result<TcpListener> {
-        self.rt.bind(addr)
+        let listener = self.rt.bind(addr)?;
+        self.server.set(Some(listener.local_addr()?));
+        Ok(listener)
     }
 
     fn connect(&self, addr: SocketAddr) -> io::Result<TcpStream> {
@@ -197,23 +203,39 @@ impl Alloc for Tills<'_> {
     }
 }
 
+/// Serves the tills, each waited for so many milliseconds, or, where they aren't said, at a port as the program does, and tells the status.
+fn served<S: Stage>(
+    tills: &Tills<'_>,
+    stage: &mut S,
+    comers: u32,
+    millis: Option<u32>,
+) -> Result<u8, Fault> {
+    let Some(millis) = millis else {
+        return stage.serve_port(tills, comers);
+    };
+    let listener = TcpListener::bind(tills, "127.0.0.1:0")?;
+    tills.play();
+    let patience = Duration::from_millis(u64::from(millis));
+    let status = stage.listen(tills, &listener, comers, patience);
+    drop(listener);
+    status
+}
+
 /// Serves so many tills, and has all their steps made: by the steps' time as the server goes on, or by the real clock, those before what has to come of them first,
-/// and the others behind it.
+/// and the others behind it. A till is waited for so many milliseconds; or, where they aren't said, they are served at a port as the program does it.
 pub fn serve_tills<S: Stage>(
     rt: &HostRuntime,
     stage: &mut S,
     steps: &[Step],
     comers: u32,
     is_real: bool,
-    millis: u32,
+    millis: Option<u32>,
 ) -> Result<(), Fault> {
-    let listener = TcpListener::bind(rt, "127.0.0.1:0")?;
-    let server = listener.local_addr()?;
     let begun = rt.monotonic()?;
     let tills = Tills {
         rt,
         is_real,
-        server,
+        server: Cell::new(None),
         steps,
         made: Cell::new(0),
         is_stuck: Cell::new(false),
@@ -222,9 +244,7 @@ pub fn serve_tills<S: Stage>(
         sockets: RefCell::new(Vec::new(rt.alloc())),
         coming: Cell::new(comers),
     };
-    tills.play();
-    let patience = Duration::from_millis(u64::from(millis));
-    let status = stage.listen(&tills, &listener, comers, patience);
+    let status = served(&tills, stage, comers, millis);
     tills.play();
     let are_played = tills.are_played();
     drop(tills);

@@ -13,9 +13,10 @@ use shop_types::{Caller, Limits, Refusal, Reply, Request, Token};
 use sqlite::Alter;
 use sqlite_disk::Disk;
 use sqlite_std_file::File;
+use std::alloc::AllocGlobal;
 use std::io::Write;
-use std::net::{Ipv4Addr, TcpListener};
-use std::time::Duration;
+use std::net::{Ipv4Addr, Net, TcpListener, TcpStream};
+use std::time::{Clock, Duration};
 
 /// For how many seconds a peer that sends no whole request, or takes nothing of a reply, is waited for.
 const PATIENCE: u64 = 30;
@@ -82,8 +83,12 @@ pub(crate) fn put<W: Write, E: Write>(
     }
 }
 
-/// Serves so many connections at the port by the chain. Where the port can't be had, it answers 3.
-fn serve_port<S: Alter>(rt: &HostRuntime, chain: &mut Chain<S>, port: u16, connections: u32) -> u8
+/// Serves so many connections at the port of this machine by the chain, as the program does: a peer that keeps it waiting is left after half a minute. Port 0 is any
+/// that is free, which `rt` is told of. The answer is 0 where all were served, and 3 where the port can't be had, none could be accepted any more or the store failed.
+pub fn serve_port<
+    R: Net<Listener = TcpListener, Stream = TcpStream> + Clock + AllocGlobal,
+    S: Alter,
+>(rt: &R, chain: &mut Chain<S>, port: u16, connections: u32) -> u8
     ensures ran { (exchanges : List Exchange) × RunsOver S.Store line_of chain.old chain.new exchanges }
     ensures status { (result ≡ 0) ⊎ (result ≡ 3) }
     ensures failed { chain.new.is_failed ≡ true → result ≡ 3 }

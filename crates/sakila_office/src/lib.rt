@@ -8,6 +8,7 @@ mod program;
 mod replays;
 mod serving;
 
+pub use commands::serve_port;
 pub use office_words::{ClapWords, read_words};
 pub use program::run;
 pub use serving::serve_listener;

@@ -7,7 +7,7 @@ use crate::tables::work;
 use crate::values::read_values;
 use office_words::ClapWords;
 use row_player::{Calls, Deed, Fault, Image, Left, NEVER, Opening, Pieces, Stage, Texts, Tills};
-use sakila_office::{run, serve_listener};
+use sakila_office::{run, serve_listener, serve_port};
 use shop_types::{Limits, Token};
 use sqlite::Files;
 use std::alloc::Global;
@@ -108,6 +108,13 @@ impl<D: InMemory> Stage for Counter<'_, D> {
             Shop::Open(chain) => Ok(serve_listener(
                 tills, listener, chain, &words, comers, patience,
             )),
+            _ => Err(NO_CHAIN),
+        }
+    }
+
+    fn serve_port(&mut self, tills: &Tills<'_>, comers: u32) -> Result<u8, Fault> {
+        match &mut self.shop {
+            Shop::Open(chain) => Ok(serve_port(tills, chain, 0, comers)),
             _ => Err(NO_CHAIN),
         }
     }

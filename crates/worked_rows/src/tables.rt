@@ -3,11 +3,31 @@
 use books_audit::audit_custody;
 use chain_calls::{FirstRows, connect, create, give_back, read_audit};
 use row_player::{Deed, Fault};
-use shop_types::Audit;
+use shop_schema::create_first;
+use shop_types::{Audit, Token};
 use shop_views::audit_text;
 use sqlite::{Alter, Connection, FileStore, Files};
 use sqlite_disk::Disk;
 use std::alloc::Global;
+
+/// Head office's token.
+const OFFICE: &[u8] = b"00000000000000000000000000000000";
+
+/// Makes the tables: those of version 1 with head office's token, or this version's with the opening rows.
+fn make<S: Alter>(conn: &mut Connection<S>, is_first: bool) -> Result<(), Fault> {
+    if !conn.is_autocommit() {
+        return Err(Fault::Line("a transaction is open"));
+    }
+    let is_made = match Token::read(OFFICE) {
+        Some(office) if is_first => create_first(conn, &office).is_ok(),
+        _ => create(conn, &FirstRows::OfOpening).is_ok(),
+    };
+    if is_made {
+        Ok(())
+    } else {
+        Err(Fault::Line("no new tables"))
+    }
+}
 
 /// Does a statement.
 fn change<S: Alter>(conn: &mut Connection<S>, text: &str) -> Result<(), Fault> {
@@ -62,11 +82,8 @@ fn done<S: Alter>(
     told: &mut Vec<u8>,
 ) -> Result<(), Fault> {
     match deed {
-        Deed::Fill if conn.is_autocommit() => match create(conn, &FirstRows::OfOpening) {
-            Ok(()) => Ok(()),
-            Err(_) => Err(Fault::Line("no new tables")),
-        },
-        Deed::Fill => Err(Fault::Line("a transaction is open")),
+        Deed::Fill => make(conn, false),
+        Deed::First => make(conn, true),
         Deed::Statement(text) => change(conn, text),
         Deed::Audit => put_audit(alloc, conn, false, told),
         Deed::Custody => put_audit(alloc, conn, true, told),
