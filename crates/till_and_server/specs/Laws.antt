@@ -1,14 +1,29 @@
 -- Laws of a till and a server at the two ends of a connection.
-use Rattle.std.specs.Prelude.{◌≡◌, ◌⊎◌, ℕ, List, [], ◌∷◌, Some}
+use Rattle.std.specs.Prelude.{◌≡◌, ◌⊎◌, ℕ, List, [], ◌∷◌, ◌++◌, length, map, slice_get, Some}
 use Rattle.sqlite_trees.specs.declared.store.Store.{Ghosts}
 use Rattle.http_messages.specs.Message.{Message}
-use Rattle.shop_model.specs.Values.{Text, Command}
+use Rattle.shop_model.specs.Values.{Text, Command, OfficeAsk, Rules}
+use Rattle.shop_model.specs.Machine.{Reply}
 use Rattle.shop_model.specs.Answers.{Answer}
+use Rattle.shop_model.specs.Books.{Books, shop_of, last_books}
+use Rattle.shop_model.specs.Sound.{HasNumbers}
+use Rattle.shop_model.specs.Office.{office_look}
+use Rattle.shop_model.specs.Stops.{Lives, in_flight}
 use Rattle.counter_routes.specs.Words.{Meaning}
-use Rattle.chain_engine.specs.Holding.{Chained}
-use Rattle.counter_http.specs.Exchanges.{Exchange, RunsOver}
+use Rattle.chain_engine.specs.Rules.{rules_of}
+use Rattle.chain_engine.specs.Holding.{Chained, Holding}
+use Rattle.chain_engine.specs.Chains.{Takes, Runs}
+use Rattle.counter_http.specs.Events.{event_of}
+use Rattle.counter_http.specs.Exchanges.{Exchange, events_of, answers_of, RunsOver}
+use Rattle.counter_http.specs.Together.{Till, Mixes}
 use Rattle.till_client.specs.Sealing.{SaysCommand}
+use Rattle.till_model.specs.Numbered.{has_mark}
+use Rattle.till_model.specs.Outcomes.{IsUnused, Became}
+use Rattle.till_model.specs.Laws.{entries_of, served_over, WasAnswered, IsWitnessed}
+use Rattle.till_book.specs.Journal.{Journal}
+use Rattle.till_work.specs.Entering.{IsTillsBook}
 use Rattle.till_and_server.specs.Streams.{Streams, Carries, IsWritten, Serving, Serves, ServesThese, WasExchanged}
+use Rattle.till_and_server.specs.Lives.{ServedLife, life_of, lives_of, books_then, StandIn, IsTokenOf, WereRecorded, StaysRecorded, ComeFromEntries}
 
 -- ---- one connection
 
@@ -22,8 +37,8 @@ RunsHaveExchanges {S} g =
 abbrev pub one_exchange : Message → Answer → List Exchange
 one_exchange message answer = record { message = message; answer = answer } ∷ []
 
--- Of a till that wrote the bytes of one message, or a front of them, of which the server's reader had all or a front: the server read no message, and nothing
--- acted, or that one and no other, and then all its bytes came.
+-- Of a till that wrote the bytes of one message, or a front of them, of which the server's reader had all or a front: the server read no message, or that one
+-- and no other, and then all its bytes came.
 abbrev pub OneMessageIsRead : Type 0
 OneMessageIsRead =
     (request : List ℕ) (token : Text) (command : Command) (says : SaysCommand request token command) (till server : Streams) (serving : Serving) (most : ℕ) (exchanges : List Exchange)
@@ -36,3 +51,58 @@ abbrev pub OneAnswerIsRead : Type 0
 OneAnswerIsRead =
     (request : List ℕ) (token : Text) (command : Command) (says : SaysCommand request token command) (answer : Answer) (exchanges : List Exchange) (it : WasExchanged request answer exchanges)
     → (exchanges ≡ one_exchange says.message answer) × (it.server.input ≡ Some request) × (it.till.left ≡ Some [])
+
+-- the chain ran over that message's event, with that answer, and over nothing else
+abbrev pub RunsOne : {S : Type 0} → Ghosts S → Meaning → Chained S → Chained S → Message → Answer → Type 0
+RunsOne g meaning old new message answer = Takes g old new (Runs (event_of meaning message ∷ []) (answer ∷ []))
+
+-- A chain that ran over the exchanges of such a connection is as it was, or ran over that one event; and where a whole reply was read, over that event with that
+-- answer.
+pub record OneEventIsRun {S : Type 0} (g : Ghosts S) : Type 0 where
+  pub wherever : (meaning : Meaning) (old new : Chained S) (request : List ℕ) (token : Text) (command : Command) (says : SaysCommand request token command) (till server : Streams)
+      (serving : Serving) (most : ℕ) (exchanges : List Exchange) → IsWritten request till.output till.written → Carries till.output till.written server.input
+      → ServesThese serving most exchanges server → RunsOver g meaning old new exchanges
+      → (new ≡ old) ⊎ ((answer : Answer) × RunsOne g meaning old new says.message answer × (server.input ≡ Some request))
+  pub answered : (meaning : Meaning) (old new : Chained S) (request : List ℕ) (token : Text) (command : Command) (says : SaysCommand request token command) (answer : Answer)
+      (exchanges : List Exchange) → WasExchanged request answer exchanges → RunsOver g meaning old new exchanges → RunsOne g meaning old new says.message answer
+
+-- ---- a chain's lives
+
+-- What a chain ran over from its opening on is a life, whether or not the request at which the store failed had acted.
+abbrev pub RunsAreLives : Type 0
+RunsAreLives =
+    (life : ServedLife) (old new : Holding) → Runs (events_of life.meaning life.exchanges) (answers_of life.exchanges) old new
+    → Lives (rules_of old.limits) office_look (lives_of (life ∷ [])) old.books (last_books (rules_of old.limits) (in_flight (life_of life)) new.books)
+
+-- Of connections that are served together, one with one exchange has it in the whole, others' before and behind.
+abbrev pub OneAmongMany : Type 0
+OneAmongMany =
+    (tills : List Till) (whole : List Exchange) → Mixes (map (λ till. till.exchanges) tills) whole → (j : ℕ) (till : Till) (exchange : Exchange) → slice_get tills j ≡ Some till
+    → till.exchanges ≡ exchange ∷ [] → (front : List Exchange) × (back : List Exchange) × (whole ≡ front ++ exchange ∷ back)
+
+-- Where a message and its answer stand in a life of a chain, and the message's token is the branch's then, the chain gave that answer to the branch's command.
+abbrev pub ExchangesAreAnswered : Type 0
+ExchangesAreAnswered =
+    (rules : Rules) (b : ℕ) (lives : List ServedLife) (old : Books) (request : List ℕ) (token : Text) (command : Command) (says : SaysCommand request token command) (answer : Answer)
+    (stand : StandIn lives (one_exchange says.message answer)) → IsTokenOf b token (books_then rules lives old stand.at_life stand.life (length stand.front))
+    → WasAnswered rules b (lives_of lives) old command answer
+
+-- what `deliver` recorded of exchanges with the chain the book has
+abbrev pub DeliveriesAreRecorded : Type 0
+DeliveriesAreRecorded = (rules : Rules) (b : ℕ) (lives : List ServedLife) (old : Books) → StaysRecorded rules b lives old
+
+-- A till's book whose replies were recorded of exchanges with the chain, where nobody else uses its mark, has its witnesses.
+abbrev pub ExchangesAreWitnesses : Type 0
+ExchangesAreWitnesses =
+    (mark : Text) (rules : Rules) (b : ℕ) (journal : Journal) (commands : List Command) (lives : List ServedLife) (old : Books) → IsTillsBook mark journal commands
+    → ComeFromEntries mark rules b journal.entries lives old → WereRecorded rules b lives old journal
+    → IsWitnessed (has_mark mark) rules b commands journal.replies (lives_of lives) old
+
+-- From the key press to the disk, over connections that break anywhere, beside any others, and over any number of stops: what a till's entries say acts at most
+-- once, in the order of entering, and what the book shows as accepted acted once, with that reply.
+abbrev pub TillAndServer : Type 0
+TillAndServer =
+    (mark : Text) (rules : Rules) (look : OfficeAsk → Books → Reply) (b : ℕ) (journal : Journal) (commands : List Command) (lives : List ServedLife) (old new : Books)
+    → Lives rules look (lives_of lives) old new → HasNumbers old → IsUnused (has_mark mark) (shop_of b old) → IsTillsBook mark journal commands
+    → ComeFromEntries mark rules b journal.entries lives old → WereRecorded rules b lives old journal
+    → Became (has_mark mark) (entries_of commands journal.replies) (served_over (has_mark mark) rules b (lives_of lives) old) (shop_of b new)

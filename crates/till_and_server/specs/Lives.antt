@@ -1,0 +1,93 @@
+-- The lives of a chain that was served, and where a connection's exchanges stand in them.
+use Rattle.std.specs.Prelude.{◌≡◌, ◌≢◌, ◌++◌, [], ℕ, Bool, true, List, length, map, slice_get, Some}
+use Rattle.std.specs.List.{AllByRecursion}
+use Rattle.std.specs.Io.KnownBytes.{Appends, Consumes}
+use Rattle.http_messages.specs.Input.{HasMessage}
+use Rattle.shop_model.specs.Values.{Text, Command, Rules}
+use Rattle.shop_model.specs.Machine.{Do}
+use Rattle.shop_model.specs.Answers.{Answer}
+use Rattle.shop_model.specs.Books.{Books, Counter, caller_of}
+use Rattle.shop_model.specs.Resends.{Asks, books_at}
+use Rattle.shop_model.specs.Stops.{Life, begun}
+use Rattle.counter_routes.specs.Words.{Meaning}
+use Rattle.counter_http.specs.Events.{known_token}
+use Rattle.counter_http.specs.Exchanges.{Exchange, events_of, answers_of}
+use Rattle.till_client.specs.Sealing.{SaysCommand}
+use Rattle.till_client.specs.Replies.{answer_bytes}
+use Rattle.till_client.specs.Laws.{IsShort}
+use Rattle.till_book.specs.Journal.{Journal, waiting, with_entry, with_reply}
+use Rattle.till_model.specs.Numbered.{has_mark}
+use Rattle.till_and_server.specs.Streams.{Streams, AreJoined, Serving, ServesThese, WasExchanged}
+
+-- What a chain answered over all its connections from its opening on until it was closed or stopped, what head office's words meant then, and whether the request
+-- at which the store failed had acted all the same.
+pub record ServedLife : Type 0 where
+  pub meaning : Meaning
+  pub exchanges : List Exchange
+  pub acted : Bool
+
+abbrev pub life_of : ServedLife → Life
+life_of life = record { events = events_of life.meaning life.exchanges; answers = answers_of life.exchanges; acted = life.acted }
+
+abbrev pub lives_of : List ServedLife → List Life
+lives_of lives = map life_of lives
+
+-- the books as the exchange of that life and place finds them
+abbrev pub books_then : Rules → List ServedLife → Books → ℕ → ServedLife → ℕ → Books
+books_then rules lives old n life place = books_at rules (events_of life.meaning life.exchanges) (answers_of life.exchanges) (begun rules (lives_of lives) old n) place
+
+-- a connection's exchanges are a part of those of a life: those of other connections stand before and behind
+pub record StandIn (lives : List ServedLife) (exchanges : List Exchange) : Type 0 where
+  pub at_life : ℕ
+  pub life : ServedLife
+  pub lived : slice_get lives at_life ≡ Some life
+  pub front : List Exchange
+  pub back : List Exchange
+  pub parts : life.exchanges ≡ front ++ (exchanges ++ back)
+
+-- who comes with the token is that branch
+abbrev pub IsTokenOf : ℕ → Text → Books → Type 0
+IsTokenOf b token books = caller_of (known_token (Some token)) books.catalogue ≡ Counter b
+
+-- A till recorded that answer of an exchange with a chain in one of these lives, with its branch's token, and the answer isn't that the store couldn't do its part.
+pub record WasRecorded (rules : Rules) (b : ℕ) (lives : List ServedLife) (old : Books) (request : List ℕ) (answer : Answer) : Type 0 where
+  pub exchanges : List Exchange
+  pub exchanged : WasExchanged request answer exchanges
+  pub stand : StandIn lives exchanges
+  pub own : (token : Text) (command : Command) → SaysCommand request token command → IsTokenOf b token (books_then rules lives old stand.at_life stand.life (length stand.front))
+  pub decided : answer.status ≢ 503
+
+-- each reply that the book has is to the entry of its place, and was recorded so
+abbrev pub WereRecorded : Rules → ℕ → List ServedLife → Books → Journal → Type 0
+WereRecorded rules b lives old journal =
+    (i : ℕ) (answer : Answer) → slice_get journal.replies i ≡ Some answer
+    → (request : List ℕ) × (slice_get journal.entries i ≡ Some request) × WasRecorded rules b lives old request answer
+
+-- the other end of what a till delivered: a connection of a chain in one of these lives, the request's token being the branch's then
+pub record IsAnsweredBy (rules : Rules) (b : ℕ) (lives : List ServedLife) (old : Books) (request : List ℕ) (answer : Answer) (till : Streams) : Type 0 where
+  pub server : Streams
+  pub serving : Serving
+  pub most : ℕ
+  pub exchanges : List Exchange
+  pub joined : AreJoined till server
+  pub serves : ServesThese serving most exchanges server
+  pub short : AllByRecursion IsShort (answers_of exchanges)
+  pub fits : IsShort answer
+  pub stand : StandIn lives exchanges
+  pub own : (token : Text) (command : Command) → SaysCommand request token command → IsTokenOf b token (books_then rules lives old stand.at_life stand.life (length stand.front))
+
+-- A book of which each reply was recorded so stays one: an empty one is, and where an entry is put to it, and where the oldest entry without a reply was written,
+-- whole, and a reply read, whole, that is no 503 and is recorded for it, as `deliver` says.
+pub record StaysRecorded (rules : Rules) (b : ℕ) (lives : List ServedLife) (old : Books) : Type 0 where
+  pub none : WereRecorded rules b lives old (record { entries = []; replies = [] })
+  pub enters : (journal : Journal) (request : List ℕ) → WereRecorded rules b lives old journal → WereRecorded rules b lives old (with_entry request journal)
+  pub delivers : (journal : Journal) (request : List ℕ) (answer : Answer) (till : Streams) → WereRecorded rules b lives old journal → waiting journal ≡ Some request
+      → Appends till.output till.written request → Consumes till.input till.left (answer_bytes answer) → answer.status ≢ 503
+      → IsAnsweredBy rules b lives old request answer till → WereRecorded rules b lives old (with_reply answer journal)
+
+-- Nobody else uses the mark: each message that came with the branch's token and said a command whose key has the mark has the bytes of one of these entries.
+abbrev pub ComeFromEntries : Text → Rules → ℕ → List (List ℕ) → List ServedLife → Books → Type 0
+ComeFromEntries mark rules b entries lives old =
+    (n i : ℕ) (life : ServedLife) (exchange : Exchange) (command : Command) → slice_get lives n ≡ Some life → slice_get life.exchanges i ≡ Some exchange
+    → Asks rules (events_of life.meaning life.exchanges) (answers_of life.exchanges) (begun rules (lives_of lives) old n) i (Counter b) (Do command) → has_mark mark command.key ≡ true
+    → (k : ℕ) × (request : List ℕ) × (slice_get entries k ≡ Some request) × HasMessage request exchange.message []
