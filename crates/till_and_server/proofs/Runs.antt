@@ -3,7 +3,6 @@ use Rattle.std.proofs.Common.{◌≡◌, ℕ, List, [], ◌++◌, refl}
 use Rattle.sqlite_trees.specs.declared.store.Store.{Ghosts}
 use Rattle.counter_http.specs.Exchanges.{Exchange, HasRun, RunsOver}
 use Rattle.counter_http.specs.declared.connection.ServeFault.TheVariants.{Read, Write, Memory}
-use Rattle.counter_http.proofs.Turns.{turn_as}
 use Rattle.till_and_server.specs.Streams.{Streams, Serving, Ends, Breaks, Turns, Serves, ServesThese}
 use Rattle.till_and_server.specs.Laws.{RunsHaveExchanges}
 
