@@ -2,6 +2,7 @@ pub mod Runs
 pub mod Talks
 pub mod OneConnection
 pub mod InLives
+pub mod Stopped
 pub mod Mixed
 pub mod Came
 pub mod Recorded

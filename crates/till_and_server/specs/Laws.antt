@@ -1,6 +1,8 @@
 -- Laws of a till and a server at the two ends of a connection.
-use Rattle.std.specs.Prelude.{◌≡◌, ◌⊎◌, ℕ, List, [], ◌∷◌, ◌++◌, length, map, slice_get, Some}
+use Rattle.std.specs.Prelude.{◌≡◌, ◌⊎◌, ℕ, Bool, false, List, [], ◌∷◌, ◌++◌, length, map, slice_get, Some}
 use Rattle.sqlite_trees.specs.declared.store.Store.{Ghosts}
+use Rattle.sqlite.specs.Held.{state}
+use Rattle.sqlite.specs.State.{HasCleanDisk}
 use Rattle.http_messages.specs.Message.{Message}
 use Rattle.shop_model.specs.Values.{Text, Command, OfficeAsk, Rules}
 use Rattle.shop_model.specs.Machine.{Reply}
@@ -12,7 +14,7 @@ use Rattle.shop_model.specs.Stops.{Lives, in_flight}
 use Rattle.counter_routes.specs.Words.{Meaning}
 use Rattle.chain_engine.specs.Rules.{rules_of}
 use Rattle.chain_engine.specs.Holding.{Chained, Holding}
-use Rattle.chain_engine.specs.Chains.{Takes, Runs}
+use Rattle.chain_engine.specs.Chains.{IsAt, Takes, Runs}
 use Rattle.counter_http.specs.Events.{event_of}
 use Rattle.counter_http.specs.Exchanges.{Exchange, events_of, answers_of, RunsOver}
 use Rattle.counter_http.specs.Together.{Till, Mixes}
@@ -73,6 +75,24 @@ abbrev pub RunsAreLives : Type 0
 RunsAreLives =
     (life : ServedLife) (old new : Holding) → Runs (events_of life.meaning life.exchanges) (answers_of life.exchanges) old new
     → Lives (rules_of old.limits) office_look (lives_of (life ∷ [])) old.books (last_books (rules_of old.limits) (in_flight (life_of life)) new.books)
+
+-- Lives of a chain that ran over these exchanges, was stopped, and ran over more: its books behind them are those of the lives. The request at which the store
+-- failed before the stop had acted or it hadn't.
+pub record IsServedOn {S : Type 0} (g : Ghosts S) (rules : Rules) (meaning later : Meaning) (exchanges more : List Exchange) (old : Books) (chain : Chained S) : Type 0 where
+  pub acted : Bool
+  pub new : Books
+  pub besides : Books
+  pub at : IsAt g chain new besides
+  pub lives : Lives rules office_look (lives_of (record { meaning = meaning; exchanges = exchanges; acted = acted } ∷ record { meaning = later; exchanges = more; acted = false } ∷ [])) old new
+
+-- What `over_a_stop` says of requests, of what was served: a chain ran over some exchanges, was stopped and opened again as `restart` says, and ran over more.
+abbrev pub ServedOverAStop : {S : Type 0} → Ghosts S → Type 0
+ServedOverAStop {S} g =
+    (start mid again last : Chained S) (meaning later : Meaning) (exchanges more : List Exchange) → start.is_failed ≡ false → RunsOver g meaning start mid exchanges
+    → again.limits ≡ start.limits → again.is_failed ≡ false → (HasCleanDisk (state g again.conn) → HasCleanDisk (state g mid.conn))
+    → (HasCleanDisk (state g again.conn) → (books besides : Books) → IsAt g mid books besides → ∥ IsAt g again books books ⊎ IsAt g again besides besides ∥₁)
+    → RunsOver g later again last more → HasCleanDisk (state g last.conn) → (books besides : Books) → IsAt g start books besides
+    → ∥ IsServedOn g (rules_of start.limits) meaning later exchanges more books last ∥₁
 
 -- Of connections that are served together, one with one exchange has it in the whole, others' before and behind.
 abbrev pub OneAmongMany : Type 0

@@ -1,6 +1,6 @@
 //! Laws, each on a function with nothing to do.
 
-ghost use Rattle.till_and_server.specs.Laws.{RunsHaveExchanges, OneMessageIsRead, OneAnswerIsRead, OneEventIsRun, RunsAreLives, OneAmongMany, ExchangesAreAnswered, DeliveriesAreRecorded, ExchangesAreWitnesses, TillAndServer};
+ghost use Rattle.till_and_server.specs.Laws.{RunsHaveExchanges, OneMessageIsRead, OneAnswerIsRead, OneEventIsRun, RunsAreLives, ServedOverAStop, OneAmongMany, ExchangesAreAnswered, DeliveriesAreRecorded, ExchangesAreWitnesses, TillAndServer};
 
 use sqlite::Alter;
 
@@ -29,6 +29,11 @@ pub fn one_event_is_run<S: Alter>()
 /// What a chain ran over from its opening on is a life of it.
 pub fn runs_are_lives()
     ensures { RunsAreLives }
+{}
+
+/// What a chain served before a stop and behind it are two lives, behind which it has their books.
+pub fn served_over_a_stop<S: Alter>()
+    ensures { ServedOverAStop S.Store }
 {}
 
 /// A connection with one exchange has it in the whole that a chain ran over for all of its connections.
