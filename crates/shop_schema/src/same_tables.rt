@@ -89,7 +89,7 @@ fn same_tables(first: &[Table], second: &[Table]) -> bool
 }
 
 /// Whether the first schema is the second, and the second is an expected one: with no view, no CHECK and no default that is computed.
-pub(crate) fn same_schema(first: &Schema, second: &Schema) -> bool
+pub fn same_schema(first: &Schema, second: &Schema) -> bool
     ensures { IsTrue result ↔ ((first.now ≡ second.now) × IsPlain second.now) }
 {
     same_tables(first.tables.as_slice(), second.tables.as_slice())

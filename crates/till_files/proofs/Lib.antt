@@ -1,0 +1,5 @@
+pub mod Deciding
+pub mod Results
+pub mod Keeping
+pub mod Found
+pub mod Making

@@ -1,0 +1,34 @@
+-- What the transaction leaves that makes the tables.
+use Rattle.std.proofs.Common.{◌≡◌, ◌∙◌, sym, ap, subst, IsTrue, false, true}
+use Rattle.sqlite_trees.specs.declared.store.Store.{Ghosts}
+use Rattle.sqlite_trees.specs.Tree.{Trees}
+use Rattle.sqlite.specs.Effect.{Database}
+use Rattle.sqlite.specs.Held.{Held, state}
+use Rattle.sqlite.specs.State.{State, HasCleanDisk, Shows, Survives}
+use Rattle.sqlite.proofs.StateLemmas.{survives_weaker}
+use Rattle.sql_rows.specs.Books.{no_schema}
+use Rattle.sql_rows.proofs.Inside.{survives_nothing}
+use Rattle.sql_rows.proofs.Whole.{crash_new}
+use Rattle.till_book.specs.Tables.{book_schema}
+use Rattle.till_book.specs.Journal.{Journal, StandsFor, Holds}
+use Rattle.till_book.specs.Steps.{Rests}
+use Rattle.till_book.proofs.Resting.{Settled, holds_as}
+use Rattle.till_files.specs.Files.{LeavesMade, empty_journal}
+
+module _ {S : Type 0} (g : Ghosts S) (old mid end : Held S) where
+  -- it was committed
+  pub rests_after : (journal : Journal) → Settled g → Holds (state g mid) journal → Shows (state g mid) (state g end) (state g mid).now (state g mid).now false → Rests (state g end) journal
+  rests_after journal settled holds shows = record {
+    now = λ _. holds_as (state g mid) (state g end) journal shows.now_is holds;
+    committed = λ _. shows.committed_is ∙ sym shows.now_is;
+    left = λ db may. subst (λ (trees : Trees). StandsFor trees journal) (sym (settled end.store db shows.is_open may ∙ ap (λ (d : Database). d.trees) shows.committed_is)) holds.stands;
+  }
+
+  -- whether or not it answers so
+  pub made_new : (HasCleanDisk (state g mid) → (state g old).now.schema ≡ no_schema → Holds (state g mid) empty_journal) → Survives (state g (record old { in_transaction = true })) (state g mid) (λ _. ⊥)
+      → Survives (state g mid) (state g end) (λ db. db ≡ (state g mid).now.trees) → Survives (state g old) (state g end) (LeavesMade (state g old))
+  made_new made inside ending = crash_new g old mid end (LeavesMade (state g old)) (λ clean none. (made clean none).stands) inside ending
+
+-- of a database that has tables nothing is made
+pub leaves_untouched : (s : State) → Survives s s (LeavesMade s)
+leaves_untouched s = survives_weaker s s (λ _. ⊥) (LeavesMade s) (λ _ db none. absurd none) (survives_nothing s)

@@ -1,0 +1,6 @@
+use Rattle.std.proofs.Common.{refl}
+use Rattle.sqlite_trees.proofs.Doubt.{no_doubt}
+use Rattle.till_files.proofs.opening.new_tables.Goals as goal
+
+pub returns : goal.returns
+returns c = c.in_ok-make.ensures.schema (no_doubt _ refl) c.in_ok-conn.ensures.empty.2

@@ -1,0 +1,32 @@
+//! Why there is no book.
+
+ghost use Rattle.std.specs.Prelude.{◌≡◌, ◌≢◌};
+
+use sql_rows::StoreFault;
+
+/// Why there is no book.
+#[derive(Clone, Copy, Debug)]
+pub enum BookFault {
+    /// There is no memory left.
+    Memory,
+    /// The store can hold no more.
+    Size,
+    /// The store failed.
+    Store,
+    /// The files hold no till's book.
+    NotABook,
+    /// The files hold tables already, where a book was to be made.
+    Already,
+}
+
+/// Why there is no book, by what the store answered.
+pub fn named(fault: StoreFault) -> BookFault
+    ensures book { result ≢ BookFault.NotABook }
+    ensures already { result ≢ BookFault.Already }
+{
+    match fault {
+        StoreFault::Memory => BookFault::Memory,
+        StoreFault::Size => BookFault::Size,
+        StoreFault::Failed => BookFault::Store,
+    }
+}

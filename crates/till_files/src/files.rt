@@ -1,0 +1,51 @@
+//! The database in two files: how it is opened, and how the files are given back.
+
+ghost use Rattle.std.specs.Prelude.{◌≡◌, ◌≢◌, IfOk, IfErr};
+ghost use Rattle.sqlite.specs.Held.{IsNew};
+ghost use Rattle.sqlite.specs.State.{HasCleanDisk};
+ghost use Rattle.sqlite.specs.Files.{Finds, IsOpened, file_state, image_of};
+ghost use Rattle.sqlite_wal.specs.Files.{outcomes};
+ghost use Rattle.sqlite_wal.specs.Reads.{AreClean};
+ghost use Rattle.till_book.specs.Journal.{Journal};
+ghost use Rattle.till_book.specs.Steps.{Rests};
+ghost use Rattle.till_files.specs.Files.{HoldsOne, KeepsBook, KeepsEither, LeavesEither, OpenFailed};
+
+use crate::faults::{BookFault, named};
+use sql_rows::fault_of;
+use sqlite::{Connection, FileStore, Files, Options};
+use sqlite_disk::Disk;
+use std::alloc::Global;
+
+/// Opens the database in the files. A fault of the store gives them back.
+pub fn connect<D: Disk + Drop>(
+    alloc: Global,
+    files: Files<D>,
+) -> Result<Connection<FileStore<D>>, (BookFault, Files<D>)>
+    ensures opened { IfOk result (λ conn. HasCleanDisk (file_state conn) → IsOpened conn) }
+    ensures found { IfOk result (λ conn. HasCleanDisk (file_state conn) → Finds files conn) }
+    ensures fresh { IfOk result IsNew }
+    ensures left { IfErr result (λ e. OpenFailed D.Disk files e.1) }
+    ensures book { IfErr result (λ e. e.0 ≢ BookFault.NotABook) }
+    ensures already { IfErr result (λ e. e.0 ≢ BookFault.Already) }
+{
+    if !files.may_be_used() {
+        return Err((BookFault::Store, files));
+    }
+    match Connection::open_files(alloc, files, Options::new(1)) {
+        Ok(conn) => Ok(conn),
+        Err((error, left)) => Err((named(fault_of(error)), left.into_files())),
+    }
+}
+
+/// Gives the files back, which hold what a crash may leave. Nothing more is written, so they keep the book that rests there, or, where a change of it was
+/// under way or its end isn't known, the book before the change or behind it.
+pub fn close_book<D: Disk + Drop>(conn: Connection<FileStore<D>>) -> Files<D>
+    ensures keeps { (journal : Journal) → Rests (file_state conn) journal → KeepsBook D.Disk result journal }
+    ensures either { (journal besides : Journal) → (HasCleanDisk (file_state conn) → LeavesEither (file_state conn) journal besides)
+        → KeepsEither D.Disk result journal besides }
+    ensures left { AreClean D.Disk result.log result.db → HoldsOne D.Disk result (file_state conn).may_leave }
+    ensures clean { AreClean D.Disk result.log result.db → HasCleanDisk (file_state conn) }
+    ensures seen { outcomes D.Disk result.log result.db (image_of D.Disk result) }
+{
+    conn.into_store().close()
+}

@@ -1,0 +1,80 @@
+//! How a book is stopped at some call, its disks crash, and it is opened again.
+
+ghost use Rattle.std.specs.Prelude.{◌≡◌, ◌⊎◌, false, IfOk};
+ghost use Rattle.sqlite.specs.State.{HasCleanDisk};
+ghost use Rattle.sqlite.specs.Files.{file_state};
+ghost use Rattle.sqlite_wal.specs.Files.{outcomes};
+ghost use Rattle.sqlite_wal.specs.Reads.{AreClean};
+ghost use Rattle.sqlite_wal.specs.Recovery.{Image};
+ghost use Rattle.till_book.specs.Journal.{Journal, with_entry, with_reply};
+ghost use Rattle.till_book.specs.Steps.{Rests, IsNext, IsNextReply};
+ghost use Rattle.till_files.specs.Files.{LeavesEither};
+
+use crate::faults::BookFault;
+use crate::files::close_book;
+use crate::opening::open_book;
+use sqlite::{Connection, FileStore, Files};
+use sqlite_disk::Crash;
+use std::alloc::Global;
+use till_book::{enter, record};
+
+/// The files behind a crash of their disks.
+fn crashed<D: Crash + Drop>(files: Files<D>) -> Files<D>
+    ensures left { (image : Image) → outcomes D.Disk result.log result.db image → outcomes D.Disk files.log files.db image }
+    ensures clean { AreClean D.Disk result.log result.db → AreClean D.Disk files.log files.db }
+{
+    let Files { mut log, mut db } = files;
+    log.crash();
+    db.crash();
+    Files { log, db }
+}
+
+/// Stops a book, lets its disks crash, and opens the files that are left: the book that rested, or, where a change of it was under way or its end wasn't
+/// known, the book before the change or behind it.
+pub fn restart_book<D: Crash + Drop>(
+    alloc: Global,
+    conn: Connection<FileStore<D>>,
+) -> Result<Connection<FileStore<D>>, (BookFault, Files<D>)>
+    ensures ended { IfOk result (λ again. again.in_transaction ≡ false) }
+    ensures honest { IfOk result (λ again. HasCleanDisk (file_state again) → HasCleanDisk (file_state conn)) }
+    ensures same { IfOk result (λ again. HasCleanDisk (file_state again) → (journal : Journal) → Rests (file_state conn) journal → Rests (file_state again) journal) }
+    ensures either { IfOk result (λ again. HasCleanDisk (file_state again) → (journal besides : Journal)
+        → (HasCleanDisk (file_state conn) → LeavesEither (file_state conn) journal besides) → ∥ Rests (file_state again) journal ⊎ Rests (file_state again) besides ∥₁) }
+{
+    open_book(alloc, crashed(close_book(conn)))
+}
+
+/// Enters a request, and is stopped at any call of that or behind it; then the disks crash, and the files that are left are opened: the book is the one before
+/// the entry or the one with it.
+pub fn enter_over_a_stop<D: Crash + Drop>(
+    alloc: Global,
+    conn: Connection<FileStore<D>>,
+    number: u32,
+    request: &[u8],
+) -> Result<Connection<FileStore<D>>, (BookFault, Files<D>)>
+    requires { conn.in_transaction ≡ false }
+    ensures either { IfOk result (λ again. HasCleanDisk (file_state again) → (journal : Journal) → Rests (file_state conn) journal → IsNext number journal
+        → ∥ Rests (file_state again) journal ⊎ Rests (file_state again) (with_entry request.now journal) ∥₁) }
+{
+    let mut conn = conn;
+    let _stopped = enter(&mut conn, number, request);
+    restart_book(alloc, conn)
+}
+
+/// Records a reply, and is stopped at any call of that or behind it; then the disks crash, and the files that are left are opened: the book is the one before
+/// the reply or the one with it.
+pub fn record_over_a_stop<D: Crash + Drop>(
+    alloc: Global,
+    conn: Connection<FileStore<D>>,
+    number: u32,
+    status: u32,
+    body: &[u8],
+) -> Result<Connection<FileStore<D>>, (BookFault, Files<D>)>
+    requires { conn.in_transaction ≡ false }
+    ensures either { IfOk result (λ again. HasCleanDisk (file_state again) → (journal : Journal) → Rests (file_state conn) journal → IsNextReply number journal
+        → ∥ Rests (file_state again) journal ⊎ Rests (file_state again) (with_reply (record { status = status; body = body.now }) journal) ∥₁) }
+{
+    let mut conn = conn;
+    let _stopped = record(&mut conn, number, status, body);
+    restart_book(alloc, conn)
+}
