@@ -1,0 +1,52 @@
+-- The laws of the register.
+use Rattle.std.specs.Prelude.{◌≡◌, ◌≢◌, ℕ, ◌≤◌, true, List, [], ◌∷◌, ◌++◌, length, slice_get, Some}
+use Rattle.std.specs.List.{AllByRecursion}
+use Rattle.shop_values.specs.Numbers.{is_row_number}
+use Rattle.shop_model.specs.Values.{Rent, TakeBack}
+use Rattle.shop_model.specs.Answers.{Answer, accepted_answer}
+use Rattle.till_model.specs.Tills.{Entry}
+use Rattle.till_register.specs.Register.{rental_body, rental_of}
+
+-- an accepted rent of that copy, which was told that rental
+abbrev pub IsRentOf : ℕ → ℕ → Entry → Type 0
+IsRentOf copy rental entry = (customer : ℕ) × (is_row_number rental ≡ true) × (entry.command.act ≡ Rent customer copy) × (entry.reply ≡ Some (accepted_answer (rental_body rental)))
+
+-- an accepted return of that rental
+abbrev pub IsReturnOf : ℕ → Entry → Type 0
+IsReturnOf rental entry = (answer : Answer) × (entry.command.act ≡ TakeBack rental) × (entry.reply ≡ Some answer) × (answer.status ≡ 200)
+
+-- the entry is no accepted return of the rental, and no accepted rent of the copy
+abbrev pub LeavesIt : ℕ → ℕ → Entry → Type 0
+LeavesIt copy rental entry = (¬ IsReturnOf rental entry) × ((other : ℕ) → ¬ IsRentOf copy other entry)
+
+-- The last accepted rent of the copy was told that rental, and no accepted return of it stands behind it.
+pub record IsLastRent (copy rental : ℕ) (entries : List Entry) : Type 0 where
+  pub front : List Entry
+  pub rent : Entry
+  pub behind : List Entry
+  pub is : entries ≡ front ++ rent ∷ behind
+  pub rented : IsRentOf copy rental rent
+  pub left : AllByRecursion (LeavesIt copy rental) behind
+
+abbrev pub RegisterIsTheLastRent : Type 0
+RegisterIsTheLastRent = (copy rental : ℕ) (entries : List Entry) → rental_of copy entries ≡ Some rental → IsLastRent copy rental entries
+
+-- a book that has become another: its entries stay, with the replies that they had
+abbrev pub BecameBook : List Entry → List Entry → Type 0
+BecameBook before after =
+    (i : ℕ) (entry : Entry) → slice_get before i ≡ Some entry
+    → (later : Entry) × (slice_get after i ≡ Some later) × (later.command ≡ entry.command) × ((answer : Answer) → entry.reply ≡ Some answer → later.reply ≡ Some answer)
+
+-- among these entries an accepted rent of the copy was told the rental, and the register has it no more behind the return
+pub record TookBack (copy rental : ℕ) (front : List Entry) (return : Entry) : Type 0 where
+  pub place : ℕ
+  pub rent : Entry
+  pub found : slice_get front place ≡ Some rent
+  pub rented : IsRentOf copy rental rent
+  pub gone : rental_of copy (front ++ return ∷ []) ≢ Some rental
+
+-- `before` is the book as the return was entered, `front` all that stands before it at last
+abbrev pub ReturnsTookBack : Type 0
+ReturnsTookBack =
+    (copy rental : ℕ) (before front behind : List Entry) (return : Entry) → rental_of copy before ≡ Some rental → length before ≤ length front
+    → BecameBook before (front ++ return ∷ behind) → IsReturnOf rental return → TookBack copy rental front return

@@ -1,0 +1,3 @@
+pub mod Register
+pub mod Entries
+pub mod Laws

@@ -1,0 +1,14 @@
+//! Laws, each on a function with nothing to do.
+
+ghost use Rattle.till_register.specs.Laws.{RegisterIsTheLastRent, ReturnsTookBack};
+
+/// What the register has of a copy is the rental of its last accepted rent, of which no accepted return stands behind it.
+pub fn the_register_is_the_last_rent()
+    ensures { RegisterIsTheLastRent }
+{}
+
+/// An accepted return of the rental that the register had of a copy, as it was entered, took that copy back: it is the rental that an accepted rent of that copy
+/// was told before it, and the register has it no more.
+pub fn returns_by_copy_took_back()
+    ensures { ReturnsTookBack }
+{}
