@@ -6,8 +6,8 @@ use Rattle.shop_model.specs.Values.{Act, AddCustomer, SetActive, Rent, TakeBack,
 use Rattle.shop_model.specs.Answers.{Answer, accepted_answer}
 use Rattle.shop_model.proofs.RowLemmas.{equal_test}
 use Rattle.till_model.specs.Tills.{Entry}
-use Rattle.till_register.specs.Register.{rental_body, rental_told, is_held, or_held, after_reply, after_told, after_entry}
-use Rattle.till_register.specs.Laws.{IsRentOf, IsReturnOf, LeavesIt, IsLastRent, RegisterIsTheLastRent}
+use Rattle.till_register.specs.Register.{rental_body, rental_told, is_held, or_held, after_reply, after_told, after_entry, rental_of}
+use Rattle.till_register.specs.Laws.{IsRentOf, IsReturnOf, LeavesIt, IsLastRent}
 use Rattle.till_register.proofs.Bodies.{told_back, told_is, equal_numbers}
 
 module _ (copy rental : ℕ) where
@@ -117,7 +117,7 @@ module _ (copy rental : ℕ) where
     ]
   ]
 
-pub last_rent : RegisterIsTheLastRent
+pub last_rent : (copy rental : ℕ) (entries : List Entry) → rental_of copy entries ≡ Some rental → IsLastRent copy rental entries
 last_rent copy rental entries told = elim (from_held copy rental None entries told) [ inl none ↦ absurd (clash none.0) | inr last ↦ last ]
   where
     clash : ◌≡◌ {A = Option ℕ} None (Some rental) → ⊥

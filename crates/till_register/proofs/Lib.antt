@@ -1,3 +1,4 @@
 pub mod Bodies
 pub mod LastRent
 pub mod Returned
+pub mod Held

@@ -1,5 +1,5 @@
 -- The laws of the register.
-use Rattle.std.specs.Prelude.{◌≡◌, ◌≢◌, ℕ, ◌≤◌, true, List, [], ◌∷◌, ◌++◌, length, slice_get, Some}
+use Rattle.std.specs.Prelude.{◌≡◌, ◌≢◌, ◌↔◌, ℕ, ◌≤◌, true, List, [], ◌∷◌, ◌++◌, length, slice_get, Some}
 use Rattle.std.specs.List.{AllByRecursion}
 use Rattle.shop_values.specs.Numbers.{is_row_number}
 use Rattle.shop_model.specs.Values.{Rent, TakeBack}
@@ -29,7 +29,7 @@ pub record IsLastRent (copy rental : ℕ) (entries : List Entry) : Type 0 where
   pub left : AllByRecursion (LeavesIt copy rental) behind
 
 abbrev pub RegisterIsTheLastRent : Type 0
-RegisterIsTheLastRent = (copy rental : ℕ) (entries : List Entry) → rental_of copy entries ≡ Some rental → IsLastRent copy rental entries
+RegisterIsTheLastRent = (copy rental : ℕ) (entries : List Entry) → rental_of copy entries ≡ Some rental ↔ IsLastRent copy rental entries
 
 -- a book that has become another: its entries stay, with the replies that they had
 abbrev pub BecameBook : List Entry → List Entry → Type 0

@@ -2,7 +2,7 @@
 
 ghost use Rattle.till_register.specs.Laws.{RegisterIsTheLastRent, ReturnsTookBack};
 
-/// What the register has of a copy is the rental of its last accepted rent, of which no accepted return stands behind it.
+/// The register has a rental of a copy just where that is the one of the copy's last accepted rent, and no accepted return of it stands behind that.
 pub fn the_register_is_the_last_rent()
     ensures { RegisterIsTheLastRent }
 {}
