@@ -76,22 +76,29 @@ module _ (has_mark : Text → Bool) (rules : Rules) (b : ℕ) (es : List Entry) 
     ends : (n : ℕ) (it : Served) (p : Place has_mark rules b inputs s n it) → last_state ≡ state_after rules b p.back (moved rules b (Own (Do it.command)) (state_after rules b p.front s))
     ends n it p = ap (λ (l : List Input). state_after rules b l s) p.split ∙ state_append rules b p.front (Own (Do it.command) ∷ p.back) s
 
-    accepted : (i : ℕ) (e : Entry) → slice_get es i ≡ Some e → (answer : Answer) → e.reply ≡ Some answer → answer.status ≡ 200
+    told_well : (i : ℕ) (e : Entry) → slice_get es i ≡ Some e → (n : ℕ) (it : Served) → slice_get served n ≡ Some it → it.command ≡ e.command → (answer : Answer) → answer ≡ answer_of it.reply → answer.status ≡ 200
         → (text : Text) × (answer ≡ answer_of (Done text)) × IsKeptAs e.command text last_state.shop
-    accepted i e there answer is good =
-        let told = book.told i e answer there is in
-        let n = told.0 in
-        let it = told.1 in
-        let p = place_of has_mark rules b inputs s n it told.2 in
+    told_well i e there n it at_n is_entry answer told good =
+        let p = place_of has_mark rules b inputs s n it at_n in
         let sn = state_after rules b p.front s in
         let v = verdict rules b sn.catalogue sn.shop it.command in
-        let same : answer ≡ answer_of (reply_by v (reply_text rules it.command sn.shop)) = told.4 ∙ ap answer_of p.reply in
+        let same : answer ≡ answer_of (reply_by v (reply_text rules it.command sn.shop)) = told ∙ ap answer_of p.reply in
         let ok = good_reply v (reply_text rules it.command sn.shop) (ap (λ (a : Answer). a.status) (sym same) ∙ good) in
         let says = said rules b sn it.command ok.0 v refl ok.1 in
         let at_end = says_more it.command.key ok.0 (moved rules b (Own (Do it.command)) sn).shop.kept last_state.shop.kept says
         (subst (λ (st : State). Grows (moved rules b (Own (Do it.command)) sn).shop.kept st.shop.kept) (sym (ends n it p)) (grows rules b p.back (moved rules b (Own (Do it.command)) sn))) in
-        let of_entry : Says e.command.key ok.0 last_state.shop.kept = subst (λ (c : Command). Says c.key ok.0 last_state.shop.kept) told.3 at_end in
+        let of_entry : Says e.command.key ok.0 last_state.shop.kept = subst (λ (c : Command). Says c.key ok.0 last_state.shop.kept) is_entry at_end in
         (ok.0, same ∙ ap answer_of ok.1, kept_as has_mark es last_state.shop.kept last_state.shop.last i e ok.0 book.marked book.keys (known inputs book.marked book.keys book.come book.order) there of_entry)
+
+    accepted : (i : ℕ) (e : Entry) → slice_get es i ≡ Some e → (answer : Answer) → e.reply ≡ Some answer → answer.status ≡ 200
+        → (text : Text) × (answer ≡ answer_of (Done text)) × IsKeptAs e.command text last_state.shop
+    accepted i e there answer is good = let told = book.told i e answer there is in told_well i e there told.0 told.1 told.2 told.3 answer told.4 good
+
+    again : (i : ℕ) (e : Entry) → slice_get es i ≡ Some e → (n : ℕ) (it : Served) (text : Text) → slice_get served n ≡ Some it → it.command ≡ e.command → it.reply ≡ Done text → IsKeptAs e.command text last_state.shop
+    again i e there n it text at_n is_entry done =
+        let well = told_well i e there n it at_n is_entry (answer_of (Done text)) (ap answer_of (sym done)) refl in
+        let body : text ≡ well.0 = ap (λ (a : Answer). a.body) well.1 in
+        subst (λ (t : Text). IsKeptAs e.command t last_state.shop) (sym body) well.2
 
     -- what came under an entry's key is the entry
     of_key : (i : ℕ) (e : Entry) → slice_get es i ≡ Some e → (n : ℕ) (x : Served) → slice_get served n ≡ Some x → bytes_eq x.command.key e.command.key ≡ true → x.command ≡ e.command
@@ -169,6 +176,7 @@ acts_once_in_order has_mark rules b es inputs s fresh book = record {
   acted = (known has_mark rules b es s fresh inputs book.marked book.keys book.come book.order).rows;
   each = λ i e there. record {
     accepted = accepted has_mark rules b es s fresh inputs book i e there;
+    again = again has_mark rules b es s fresh inputs book i e there;
     unsent = unsent has_mark rules b es s fresh inputs book i e there;
     refused = refused has_mark rules b es s fresh inputs book i e there;
     back = back has_mark rules b es s fresh inputs book i e there;

@@ -37,6 +37,8 @@ NoneBehind n command served = (m : ℕ) (it : Served) → n < m → slice_get se
 pub record BecameOf (served : List Served) (shop : Shop) (entry : Entry) : Type 0 where
   -- one that was told 200 acted, once, and is kept with that reply
   pub accepted : (answer : Answer) → entry.reply ≡ Some answer → answer.status ≡ 200 → (text : Text) × (answer ≡ answer_of (Done text)) × IsKeptAs entry.command text shop
+  -- so did one that was told 200 at any place, also where its reply in the book is a refusal
+  pub again : (n : ℕ) (it : Served) (text : Text) → slice_get served n ≡ Some it → it.command ≡ entry.command → it.reply ≡ Done text → IsKeptAs entry.command text shop
   -- one that was never served did not act
   pub unsent : ((m : ℕ) (it : Served) → slice_get served m ≡ Some it → it.command ≡ entry.command → ⊥) → is_kept entry.command.key shop ≡ false
   -- one that was refused did not act, where it came no more

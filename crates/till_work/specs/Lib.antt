@@ -1,3 +1,4 @@
 pub mod Delivering
 pub mod Entering
 pub mod Laws
+pub mod Settling

@@ -1,0 +1,86 @@
+//! A refused entry that may have been sent more than once is sent once more, and so made sure of.
+
+ghost use Rattle.std.specs.Prelude.{◌≡◌, false, IfOk, IfErr};
+ghost use Rattle.sqlite.specs.Held.{state};
+ghost use Rattle.sqlite.specs.State.{HasCleanDisk, Survives};
+ghost use Rattle.till_client.specs.Replies.{seen_answer};
+ghost use Rattle.till_work.specs.Settling.{IsSettledBy, Settles, FailsToSettle};
+
+use shop_types::{Refusal, Reply};
+use sql_rows::StoreFault;
+use sqlite::{Alter, Connection};
+use std::alloc::Global;
+use std::io::{Read, Write};
+use till_book::request_of;
+use till_client::{Answer, AskFault, ask};
+
+/// What an entry is told when it is sent once more.
+#[derive(Drop)]
+pub enum Settled {
+    /// It has acted, and this is its reply.
+    Acted(Answer),
+    /// Its moment is behind the branch's last: it never acts, whatever comes late.
+    Never,
+    /// Neither: it isn't settled yet.
+    Open(Answer),
+}
+
+/// Why nothing was told of the entry.
+#[derive(Drop)]
+pub enum SettleFault {
+    /// The book failed: it is to be opened anew.
+    Book(StoreFault),
+    /// No entry has that number.
+    NoEntry,
+    /// No reply came.
+    Unanswered(AskFault),
+    /// The server had no room or no store for it, and did nothing.
+    NotNow,
+}
+
+/// What a reply to an entry that was sent once more says of it.
+fn settled_by(answer: Answer) -> Settled
+    ensures { IsSettledBy (seen_answer answer) result }
+{
+    if answer.status == 200 {
+        return Settled::Acted(answer);
+    }
+    let back = Reply::refused(Refusal::MomentBack);
+    if answer.status == back.status && answer.body.as_slice() == back.body_bytes() {
+        Settled::Never
+    } else {
+        Settled::Open(answer)
+    }
+}
+
+/// Sends the entry of that number once more, byte for byte, over a connection that is there for it alone, and tells what
+/// has become of it. Nothing is recorded: the book stays. A reply with status 503 is none.
+pub fn settle<S: Alter, R: Read, W: Write>(
+    alloc: Global,
+    conn: &mut Connection<S>,
+    number: u32,
+    reader: &mut R,
+    writer: &mut W,
+) -> Result<Settled, SettleFault>
+    requires { conn.old.in_transaction ≡ false }
+    ensures ended { conn.new.in_transaction ≡ false }
+    ensures settles { HasCleanDisk (state S.Store conn.new) → IfOk result (λ settled. Settles number settled (state S.Store conn.old) (state S.Store conn.new)
+        (R.remaining reader.old) (R.remaining reader.new) (W.contents writer.old) (W.contents writer.new)) }
+    ensures fault { HasCleanDisk (state S.Store conn.new) → IfErr result (λ fault. FailsToSettle number fault (state S.Store conn.old) (state S.Store conn.new)
+        (W.contents writer.old) (W.contents writer.new)) }
+    ensures crash { Survives (state S.Store conn.old) (state S.Store conn.new) (λ _. ⊥) }
+{
+    let request = match request_of(conn, number) {
+        Ok(Some(request)) => request,
+        Ok(None) => return Err(SettleFault::NoEntry),
+        Err(fault) => return Err(SettleFault::Book(fault)),
+    };
+    let answer = match ask(alloc, reader, writer, request.as_slice()) {
+        Ok(answer) => answer,
+        Err(fault) => return Err(SettleFault::Unanswered(fault)),
+    };
+    if answer.status == 503 {
+        return Err(SettleFault::NotNow);
+    }
+    Ok(settled_by(answer))
+}
