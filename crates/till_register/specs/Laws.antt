@@ -1,8 +1,12 @@
 -- The laws of the register.
-use Rattle.std.specs.Prelude.{◌≡◌, ◌≢◌, ◌↔◌, ℕ, ◌≤◌, true, List, [], ◌∷◌, ◌++◌, length, slice_get, Some}
-use Rattle.std.specs.List.{AllByRecursion}
+use Rattle.std.specs.Prelude.{◌≡◌, ◌≢◌, ◌↔◌, ℕ, ◌+◌, ◌≤◌, ◌==◌, Bool, true, List, [], ◌∷◌, ◌++◌, length, slice_get, Some}
+use Rattle.std.specs.List.{AllByRecursion, list_any}
 use Rattle.shop_values.specs.Numbers.{is_row_number}
-use Rattle.shop_model.specs.Values.{Rent, TakeBack}
+use Rattle.shop_model.specs.Values.{Rent, TakeBack, Rental, Rules, Command}
+use Rattle.shop_model.specs.Rows.{at}
+use Rattle.shop_model.specs.Shop.{Shop}
+use Rattle.shop_model.specs.Verdict.{Accepted, verdict}
+use Rattle.shop_model.specs.Machine.{Do, Input, Own, State, moved, state_after, reply_text}
 use Rattle.shop_model.specs.Answers.{Answer, accepted_answer}
 use Rattle.till_model.specs.Tills.{Entry}
 use Rattle.till_register.specs.Register.{rental_body, rental_of}
@@ -50,3 +54,16 @@ abbrev pub ReturnsTookBack : Type 0
 ReturnsTookBack =
     (copy rental : ℕ) (before front behind : List Entry) (return : Entry) → rental_of copy before ≡ Some rental → length before ≤ length front
     → BecameBook before (front ++ return ∷ behind) → IsReturnOf rental return → TookBack copy rental front return
+
+-- ---- and what that means to the branch
+
+-- the rental of that number is there, and of that copy
+abbrev pub is_rental_of : ℕ → ℕ → Shop → Bool
+is_rental_of copy n shop = list_any (λ (it : Rental). it.copy == copy) (at n shop.rentals)
+
+-- an accepted rent tells the number of a rental that is of its copy, and stays so, whatever comes
+abbrev pub RentsStayOfTheirCopies : Type 0
+RentsStayOfTheirCopies =
+    (rules : Rules) (b : ℕ) (inputs : List Input) (s : State) (command : Command) (customer copy : ℕ) → command.act ≡ Rent customer copy → verdict rules b s.catalogue s.shop command ≡ Accepted
+    → (reply_text rules command s.shop ≡ rental_body (length s.shop.rentals + 1))
+    × (is_rental_of copy (length s.shop.rentals + 1) (state_after rules b inputs (moved rules b (Own (Do command)) s)).shop ≡ true)
