@@ -1,5 +1,5 @@
 -- What the transaction leaves that makes the tables.
-use Rattle.std.proofs.Common.{◌≡◌, ◌∙◌, sym, ap, subst, IsTrue, false, true}
+use Rattle.std.proofs.Common.{◌≡◌, ◌∙◌, sym, ap, subst, false, true}
 use Rattle.sqlite_trees.specs.declared.store.Store.{Ghosts}
 use Rattle.sqlite_trees.specs.Tree.{Trees}
 use Rattle.sqlite.specs.Effect.{Database}
@@ -9,7 +9,6 @@ use Rattle.sqlite.proofs.StateLemmas.{survives_weaker}
 use Rattle.sql_rows.specs.Books.{no_schema}
 use Rattle.sql_rows.proofs.Inside.{survives_nothing}
 use Rattle.sql_rows.proofs.Whole.{crash_new}
-use Rattle.till_book.specs.Tables.{book_schema}
 use Rattle.till_book.specs.Journal.{Journal, StandsFor, Holds}
 use Rattle.till_book.specs.Steps.{Rests}
 use Rattle.till_book.proofs.Resting.{Settled, holds_as}

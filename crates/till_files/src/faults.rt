@@ -1,6 +1,7 @@
 //! Why there is no book.
 
 ghost use Rattle.std.specs.Prelude.{◌≡◌, ◌≢◌};
+ghost use Rattle.till_files.specs.Faults.{book_fault_for};
 
 use sql_rows::StoreFault;
 
@@ -21,6 +22,7 @@ pub enum BookFault {
 
 /// Why there is no book, by what the store answered.
 pub fn named(fault: StoreFault) -> BookFault
+    ensures told { result ≡ book_fault_for fault }
     ensures book { result ≢ BookFault.NotABook }
     ensures already { result ≢ BookFault.Already }
 {
