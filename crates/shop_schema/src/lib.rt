@@ -21,8 +21,8 @@ pub use laws::{forms_are_one_to_one, office_forms_are_one_to_one};
 pub use moment_text::MomentText;
 pub use office_forms::office_form;
 pub use ranges::{command_values, office_values};
-pub use same_tables::same_schema;
 pub use read::{
     first_of, moment_at, moment_or_null_at, query_first, row_number_at, row_number_or_null_at,
     row_numbers_in, text_at,
 };
+pub use same_tables::same_schema;
