@@ -6,16 +6,6 @@ use Rattle.std.specs.List.{copy_within}
 use Rattle.std.proofs.Math.Seq.{paste, take-append-add}
 use Rattle.std.proofs.lemmas.List.{take-append-le, length-take-le}
 
-pub consumed : (xs : List ℕ) (n k : ℕ) → n ≤ k → k ≤ length xs → take (k - n) (copy_within xs n k 0) ≡ drop n (take k xs)
-consumed xs n k le fits =
-    let m : ℕ = k - n in
-    let pasted = take-paste xs 0 (drop n xs) m (omega arith) (omega (arith, length-drop n xs)) in
-    let P : ℕ → Type 0 = λ j. take j (paste xs 0 (drop n xs) m) ≡ take m (drop n xs) in
-    let short : take m (copy_within xs n k 0) ≡ take m (drop n xs) = subst P (zero-add m) pasted in
-    let sum : n + m ≡ k = omega arith in
-    let part = rw sum at (drop-take n m xs) in
-    short ∙ sym part
-
 pub filled_more : (xs buf after : List ℕ) (f n : ℕ) → f ≤ length xs → n ≤ length buf
     → take (f + n) (take f xs ++ (buf ++ after)) ≡ take f xs ++ take n buf
 filled_more xs buf after f n inside fits =

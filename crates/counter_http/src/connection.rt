@@ -38,17 +38,17 @@ pub struct Served {
 /// What went wrong, with the number of replies that were wholly written before.
 #[derive(Clone, Copy, Debug)]
 pub enum ServeFault {
-    /// The reader failed. Each request that was read whole has been answered.
+    /// The reader failed, or there was no memory for a long request. Each request that was read whole has been answered.
     Read { replies: u32 },
     /// The writer failed. The request whose reply failed has acted, and a front of its reply may have been written.
     Write { replies: u32 },
-    /// There was no memory for the connection's buffer or its routes. Nothing was read or written.
+    /// There was no memory for the connection or its routes. Nothing was read or written.
     Memory,
 }
 
 /// Reads requests and writes the replies to them, until the input or the connection ends, or `max_requests` are answered; with 0 nothing is read.
 /// However the reader cuts its bytes, the replies are those to the messages of what it gives, in order.
-/// The memory for the connection is taken before the first byte is read. `words` reads the words that head office sends.
+/// The memory for the connection is taken before the first byte is read, but for a request of more than 4,096 bytes. `words` reads the words that head office sends.
 /// Over a chain that has failed each reply is `store_failed`, and its store isn't asked.
 pub fn serve<R: Read, W: Write, O: OfficeWords, S: Alter>(
     alloc: Global,

@@ -1,5 +1,5 @@
 //! A connection that goes on as far as its bytes reach, so that one that waits holds no other.
-ghost use Rattle.std.specs.Prelude.{◌≡◌, ◌⊎◌, ℕ, ◌+◌, ◌<◌, ◌≤◌, true, false, List, [], ◌∷◌, length, Option, None, Some, IfOk, IfErr, OnErr};
+ghost use Rattle.std.specs.Prelude.{◌≡◌, ◌↔◌, ◌⊎◌, ℕ, ◌+◌, ◌<◌, ◌≤◌, IsTrue, true, false, List, [], ◌∷◌, length, Option, None, Some, IfOk, IfErr, OnErr};
 ghost use Rattle.std.specs.Io.KnownBytes.{IsAtEnd};
 ghost use Rattle.http_messages.specs.Shown.{message_of};
 ghost use Rattle.http_messages.specs.Input.{IsCut};
@@ -40,7 +40,7 @@ pub enum Standing {
 /// What went wrong in a turn. What was read, answered and written until then is told as ever; the connection is of no more use.
 #[derive(Clone, Copy, Debug)]
 pub enum TurnFault {
-    /// The reader failed, or was interrupted without an end. Each whole request that was read is answered, and its reply written.
+    /// The reader failed, or was interrupted without an end, or there was no memory for a long request. Each whole request that was read is answered, and its reply written.
     Read,
     /// The writer failed, or took nothing, with bytes of a reply left. The request whose reply failed has acted.
     Write,
@@ -137,7 +137,7 @@ fn end_at(rest: &[u8]) -> End
 }
 
 impl Connection {
-    /// Nothing is read yet, and so many requests may be answered; with 0 the connection ends before the first. The memory for its bytes is taken here.
+    /// Nothing is read yet, and so many requests may be answered; with 0 the connection ends before the first. The memory for small requests is taken here.
     pub fn new(alloc: Global, most: u32) -> Result<Connection, AllocError>
         ensures { IfOk result (λ connection. connection ≡ opened most) }
     {
@@ -155,6 +155,13 @@ impl Connection {
         ensures { result ≡ self.now.replies }
     {
         self.replies
+    }
+
+    /// Whether no byte was read of a request that isn't answered.
+    pub fn is_between(&self) -> bool
+        ensures { IsTrue result ↔ (self.now.inbox ≡ []) }
+    {
+        self.inbox.bytes().is_empty()
     }
 
     /// How many requests have their replies, where something is left to write.

@@ -6,6 +6,7 @@ ghost use Rattle.sakila_office.specs.Printed.{IsQuiet};
 ghost use Rattle.sakila_office.specs.Commands.{Makes, Migrates, Puts, Serves};
 
 use crate::printing::{print, tell, tell_fault};
+use crate::rights::{make_owned, missing_log, own};
 use crate::serving::serve_listener;
 use chain_engine::{Chain, OpenFault};
 use office_words::ClapWords;
@@ -32,13 +33,22 @@ pub(crate) fn make<W: Write, E: Write>(
     ensures makes { Makes ⟦<File as Disk>⟧ token.now result (W.contents out.old) (W.contents out.new) (E.contents err.old) (E.contents err.new) }
     ensures quiet { IsQuiet result (E.contents err.old) (E.contents err.new) }
 {
+    make_owned(rt, file);
+    let log = missing_log(rt, file);
     match Chain::create(rt, file, Limits::default(), token) {
         Ok(chain) => {
+            own(rt, &log);
             drop(chain.close());
             print(out, b"{\"version\":2}")
         }
-        Err(OpenFault::Already) => tell(&Reply::refused(Refusal::Already), out, err),
-        Err(fault) => tell_fault(fault, err),
+        Err(OpenFault::Already) => {
+            own(rt, &log);
+            tell(&Reply::refused(Refusal::Already), out, err)
+        }
+        Err(fault) => {
+            own(rt, &log);
+            tell_fault(fault, err)
+        }
     }
 }
 
@@ -52,13 +62,21 @@ pub(crate) fn migrate<W: Write, E: Write>(
     ensures migrates { Migrates ⟦<File as Disk>⟧ result (W.contents out.old) (W.contents out.new) (E.contents err.old) (E.contents err.new) }
     ensures quiet { IsQuiet result (E.contents err.old) (E.contents err.new) }
 {
+    let log = missing_log(rt, file);
     match Chain::migrate(rt, file, Limits::default()) {
         Ok(chain) => {
+            own(rt, &log);
             drop(chain.close());
             print(out, b"{\"version\":2}")
         }
-        Err(OpenFault::Already) => tell(&Reply::refused(Refusal::Already), out, err),
-        Err(fault) => tell_fault(fault, err),
+        Err(OpenFault::Already) => {
+            own(rt, &log);
+            tell(&Reply::refused(Refusal::Already), out, err)
+        }
+        Err(fault) => {
+            own(rt, &log);
+            tell_fault(fault, err)
+        }
     }
 }
 
@@ -73,13 +91,18 @@ pub(crate) fn put<W: Write, E: Write>(
     ensures puts { Puts ⟦<File as Disk>⟧ request.now result (W.contents out.old) (W.contents out.new) (E.contents err.old) (E.contents err.new) }
     ensures quiet { IsQuiet result (E.contents err.old) (E.contents err.new) }
 {
+    let log = missing_log(rt, file);
     match Chain::open(rt, file, Limits::default()) {
         Ok(mut chain) => {
+            own(rt, &log);
             let reply = chain.answer(&Caller::Office, request);
             drop(chain.close());
             tell(&reply, out, err)
         }
-        Err(fault) => tell_fault(fault, err),
+        Err(fault) => {
+            own(rt, &log);
+            tell_fault(fault, err)
+        }
     }
 }
 
@@ -117,12 +140,17 @@ pub(crate) fn serve_in<E: Write>(
     ensures serves { (output : Option (List ℕ)) → Serves ⟦<File as Disk>⟧ result output output (E.contents err.old) (E.contents err.new) }
     ensures quiet { IsQuiet result (E.contents err.old) (E.contents err.new) }
 {
+    let log = missing_log(rt, file);
     match Chain::open(rt, file, Limits::default()) {
         Ok(mut chain) => {
+            own(rt, &log);
             let status = serve_port(rt, &mut chain, port, connections);
             drop(chain.close());
             status
         }
-        Err(fault) => tell_fault(fault, err),
+        Err(fault) => {
+            own(rt, &log);
+            tell_fault(fault, err)
+        }
     }
 }

@@ -6,6 +6,7 @@ mod peers;
 mod printing;
 mod program;
 mod replays;
+mod rights;
 mod serving;
 
 pub use commands::serve_port;

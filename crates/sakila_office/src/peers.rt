@@ -20,6 +20,24 @@ const LONGEST_TURN: u64 = 1;
 /// How many pieces that a peer still sends behind its last reply are dropped.
 const MOST_DROPPED: u32 = 64;
 
+/// Behind how many milliseconds of silence between two requests a connection may be left for one that waits.
+const LONG_SILENCE: u64 = 250;
+
+/// How each reply begins, and how one to a caller without a token that somebody has.
+const REPLY: &[u8] = b"HTTP/1.1 ";
+
+const FORBIDDEN: &[u8] = b"HTTP/1.1 403 ";
+
+/// Who a peer is, by its last reply.
+#[derive(Clone, Copy, PartialEq, Eq)]
+enum Asker {
+    /// Its last request came without a token that somebody has.
+    Stranger,
+    /// It has asked nothing yet.
+    Unheard,
+    Known,
+}
+
 /// Where a peer stands.
 #[derive(Clone, Copy)]
 enum Phase {
@@ -31,11 +49,12 @@ enum Phase {
     Gone,
 }
 
-/// A socket that is written to, and whether its peer has taken something.
+/// A socket that is written to, whether its peer has taken something, and who it is then.
 #[derive(Drop)]
 struct Outlet<'s> {
     stream: &'s TcpStream,
     has_taken: bool,
+    asker: Asker,
 }
 
 impl Write for Outlet<'_> {
@@ -43,6 +62,11 @@ impl Write for Outlet<'_> {
         let mut writer = self.stream;
         let taken = writer.write(buf)?;
         self.has_taken = true;
+        if buf.starts_with(FORBIDDEN) {
+            self.asker = Asker::Stranger;
+        } else if buf.starts_with(REPLY) {
+            self.asker = Asker::Known;
+        }
         Ok(taken)
     }
 
@@ -66,6 +90,9 @@ pub(crate) struct Peer {
     phase: Phase,
     /// Whether it can go on without waiting, as far as is known.
     pub(crate) is_ready: bool,
+    /// Whether it was silent behind a whole reply, or since it came, when it was last looked.
+    is_silent: bool,
+    asker: Asker,
     /// When it came, was last answered, last took bytes of a reply, or began to leave.
     since: Duration,
 }
@@ -83,6 +110,8 @@ impl Peer {
             connection,
             phase: Phase::Served,
             is_ready: true,
+            is_silent: false,
+            asker: Asker::Unheard,
             since: now,
         }
     }
@@ -91,9 +120,72 @@ impl Peer {
         matches!(self.phase, Phase::Gone)
     }
 
+    /// Whether it is still answered.
+    pub(crate) fn is_served(&self) -> bool {
+        matches!(self.phase, Phase::Served)
+    }
+
     /// Whether it can go on without waiting and is still answered.
     pub(crate) fn is_busy(&self) -> bool {
-        self.is_ready && matches!(self.phase, Phase::Served)
+        self.is_ready && self.is_served()
+    }
+
+    /// From when on it may be left for one that waits, where it is silent between two requests: a stranger at once.
+    pub(crate) fn yields_at(&self) -> Option<Duration> {
+        if !self.is_silent || self.is_ready || !self.is_served() {
+            return None;
+        }
+        match self.asker {
+            Asker::Stranger => Some(self.since),
+            Asker::Unheard | Asker::Known => {
+                Some(
+                    self.since
+                        .saturating_add(Duration::from_millis(LONG_SILENCE)),
+                )
+            }
+        }
+    }
+
+    /// Whether it may be left now for one that waits.
+    pub(crate) fn may_yield(&self, now: Duration) -> bool {
+        self.yields_at().is_some_and(|at| at <= now)
+    }
+
+    /// Whether its last request came with a token that somebody has, and it is still answered.
+    pub(crate) fn is_known(&self) -> bool {
+        self.asker == Asker::Known && self.is_served()
+    }
+
+    /// Its place in the order in which peers are left for those that wait: whoever isn't known goes first, then who was silent longest.
+    pub(crate) fn rank(&self) -> (bool, Duration) {
+        (self.is_known(), self.since)
+    }
+
+    /// Leaves it for one that waits, unless more has come of it meanwhile. Whether it is left.
+    pub(crate) fn yields(&mut self, now: Duration) -> bool {
+        match self.stream.peek(&mut [0u8; 1]) {
+            Ok(_) => {
+                self.is_ready = true;
+                false
+            }
+            Err(_) => {
+                self.begin_to_leave(now);
+                true
+            }
+        }
+    }
+
+    /// When it began to leave, where it is leaving.
+    pub(crate) fn leaves_since(&self) -> Option<Duration> {
+        match self.phase {
+            Phase::Leaving(_) => Some(self.since),
+            Phase::Served | Phase::Gone => None,
+        }
+    }
+
+    /// Waits for it no more.
+    pub(crate) fn let_go(&mut self) {
+        self.phase = Phase::Gone;
     }
 
     /// When it is left, where so long is waited for a peer that is answered.
@@ -118,7 +210,7 @@ impl Peer {
 
     /// Answers it no more.
     pub(crate) fn dismiss(&mut self, now: Duration) {
-        if matches!(self.phase, Phase::Served) {
+        if self.is_served() {
             self.begin_to_leave(now);
         }
     }
@@ -151,19 +243,20 @@ impl Peer {
         self.phase = Phase::Gone;
     }
 
-    /// Answers what has come, up to the end of a turn. What the connection waits for then, and whether its peer has taken something.
+    /// Answers what has come, up to the end of a turn. What the connection waits for then, whether its peer has taken something, and who it is.
     fn answer_some<R: Clock + AllocGlobal, O: OfficeWords, S: Alter>(
         &mut self,
         rt: &R,
         chain: &mut Chain<S>,
         board: &Switchboard,
         words: &O,
-    ) -> (Result<Standing, TurnFault>, bool)
+    ) -> (Result<Standing, TurnFault>, bool, Asker)
         ensures { (exchanges : List Exchange) × RunsOver S.Store (O.meaning words.now) chain.old chain.new exchanges }
     {
         let mut outlet = Outlet {
             stream: &self.stream,
             has_taken: false,
+            asker: self.asker,
         };
         let begun = time(rt, self.since);
         let end = begun.saturating_add(Duration::from_millis(LONGEST_TURN));
@@ -182,7 +275,7 @@ impl Peer {
                 break;
             }
         }
-        (standing, outlet.has_taken)
+        (standing, outlet.has_taken, outlet.asker)
     }
 
     /// Answers what has come, and notes how it stands then.
@@ -196,11 +289,13 @@ impl Peer {
         ensures { (exchanges : List Exchange) × RunsOver S.Store (O.meaning words.now) chain.old chain.new exchanges }
     {
         let before = self.connection.replies();
-        let (standing, has_taken) = self.answer_some(rt, chain, board, words);
+        let (standing, has_taken, asker) = self.answer_some(rt, chain, board, words);
+        self.asker = asker;
         let now = time(rt, self.since);
         if has_taken || self.connection.replies() != before {
             self.since = now;
         }
+        self.is_silent = matches!(standing, Ok(Standing::Reads)) && self.connection.is_between();
         match standing {
             Ok(Standing::Reads | Standing::Writes) => self.is_ready = false,
             Ok(Standing::Ready) => {}

@@ -18,8 +18,11 @@ use std::time::{Clock, Duration};
 /// How many requests are answered of one connection, or of one input.
 pub(crate) const MOST_REQUESTS: u32 = 1000;
 
-/// How many connections are open at once; the rest wait in the system's queue.
+/// How many connections have a place; the rest wait.
 const MOST_OPEN: usize = 256;
+
+/// How many sockets there are at most, with those that have their last reply and those that hold no place. A program may mostly have 1,024 files open.
+const MOST_SOCKETS: usize = 768;
 
 /// How many connections are accepted before the others have their turn.
 const MOST_ARRIVALS: u32 = 16;
@@ -35,6 +38,8 @@ struct Server {
     board: Switchboard,
     /// The connections that are open, in the order in which they came.
     peers: Vec<Peer>,
+    /// The connection that came last, where there is no place for it yet.
+    waiting: Option<TcpStream>,
     /// How many connections were accepted.
     accepted: u32,
     /// How many are to be.
@@ -72,6 +77,7 @@ impl Server {
             events,
             board,
             peers: Vec::new(alloc),
+            waiting: None,
             accepted: 0,
             connections,
             may_accept: true,
@@ -95,9 +101,9 @@ impl Server {
         Ok(())
     }
 
-    /// Whether one more connection may be opened, if one waits.
+    /// Whether one more connection may be accepted, if one waits.
     fn has_room(&self) -> bool {
-        self.may_accept && self.accepted < self.connections && self.peers.len() < MOST_OPEN
+        self.may_accept && self.accepted < self.connections && self.waiting.is_none()
     }
 
     /// Whether the next connection waits for one that came before it: so it is with those that had come before the serving began.
@@ -105,19 +111,96 @@ impl Server {
         !self.has_caught_up && self.peers.iter().any(|peer| peer.is_busy())
     }
 
-    /// Accepts one connection, where one waits, there is room, and none holds it. Whether it did.
+    /// The peer that is left first for one that waits, where one may be left.
+    fn first_to_yield(&self, with_known: bool) -> Option<usize> {
+        let mut first: Option<&Peer> = None;
+        for peer in &self.peers {
+            if peer.may_yield(self.now) && (with_known || !peer.is_known()) {
+                first = match first {
+                    Some(other) if other.rank() <= peer.rank() => Some(other),
+                    _ => Some(peer),
+                };
+            }
+        }
+        first.map(|peer| peer.token)
+    }
+
+    /// Leaves a peer for one that waits. Whether it did.
+    fn make_place(&mut self, with_known: bool) -> bool {
+        for _ in 0..MOST_SOCKETS {
+            let Some(token) = self.first_to_yield(with_known) else {
+                return false;
+            };
+            let now = self.now;
+            for peer in &mut self.peers {
+                if peer.token == token && peer.yields(now) {
+                    return true;
+                }
+            }
+        }
+        false
+    }
+
+    /// Whether there is a place for one more, after a peer was left for it where all are taken. Whoever isn't known and is within a request isn't left, and
+    /// keeps nobody else out.
+    fn has_place(&mut self) -> bool {
+        let served = self.peers.iter().filter(|peer| peer.is_served()).count();
+        if served < MOST_OPEN {
+            return true;
+        }
+        let known = self.peers.iter().filter(|peer| peer.is_known()).count();
+        let is_full = known >= MOST_OPEN || self.peers.len() >= MOST_SOCKETS;
+        self.make_place(is_full) || !is_full
+    }
+
+    /// Lets the peer go that began to leave first. Whether there was one.
+    fn let_one_go(&mut self) -> bool {
+        let Some(first) = self
+            .peers
+            .iter()
+            .filter_map(|peer| peer.leaves_since())
+            .min()
+        else {
+            return false;
+        };
+        for peer in &mut self.peers {
+            if peer.leaves_since() == Some(first) {
+                peer.let_go();
+                break;
+            }
+        }
+        self.peers.retain(|peer| !peer.is_gone());
+        true
+    }
+
+    /// Opens the connection that waits, where there is a place or a peer is left for it.
+    fn seat<R: Clock + AllocGlobal>(&mut self, rt: &R) {
+        if self.waiting.is_none() || self.is_held() || !self.has_place() {
+            return;
+        }
+        if self.peers.len() >= MOST_SOCKETS {
+            self.let_one_go();
+        }
+        if let Some(stream) = self.waiting.take() {
+            let _ = self.open(rt, stream);
+        }
+    }
+
+    /// Accepts one connection, where one waits, no other waits for a place, and none holds it. Whether it did.
     fn accept<R: Clock + AllocGlobal>(
         &mut self,
         rt: &R,
         listener: &TcpListener,
     ) -> io::Result<bool> {
+        self.seat(rt);
         if !self.has_room() || self.is_held() {
             return Ok(false);
         }
         match listener.accept() {
             Ok((stream, _)) => {
                 self.accepted = self.accepted.saturating_add(1);
-                let _ = self.open(rt, stream);
+                self.waiting = Some(stream);
+                self.seat(rt);
                 Ok(true)
             }
             Err(e) => match e.kind() {
@@ -127,6 +210,8 @@ impl Server {
                     Ok(false)
                 }
                 ErrorKind::Interrupted | ErrorKind::ConnectionAborted => Ok(false),
+                // The system may have no more files for this program.
+                _ if self.let_one_go() => Ok(false),
                 _ => Err(e),
             },
         }
@@ -139,22 +224,28 @@ impl Server {
 
     /// Whether all are served.
     fn is_done(&self) -> bool {
-        self.accepted >= self.connections && self.peers.is_empty()
+        self.accepted >= self.connections && self.peers.is_empty() && self.waiting.is_none()
     }
 
     /// Accepts no more connections, and answers those that are open no more.
     fn close<R: Clock>(&mut self, rt: &R) {
         self.connections = self.accepted;
+        self.waiting = None;
         for peer in &mut self.peers {
             peer.dismiss(time(rt, self.now));
         }
     }
 
-    /// For how long nothing need happen: until the first peer is left.
+    /// For how long nothing need happen: until the first peer is left, or may be for one that waits.
     fn longest_wait(&self) -> Duration {
         let mut wait = self.patience;
         for peer in &self.peers {
             wait = wait.min(peer.deadline(self.patience).saturating_sub(self.now));
+            if let Some(at) = peer.yields_at()
+                && self.waiting.is_some()
+            {
+                wait = wait.min(at.saturating_sub(self.now));
+            }
         }
         wait
     }
@@ -258,11 +349,14 @@ impl Server {
     }
 }
 
-/// Serves so many connections by the chain, at most 256 of them side by side, each with at most 1,000 requests. A request is answered when it has come whole, one
-/// after another. The others have their turn behind at most 16 requests of a connection, and behind the one at which its turn has taken a millisecond by the clock
-/// of `rt`; where the bytes of all have come before, each connection is answered to its end, in the order in which they came. A fault of a connection ends that
-/// connection alone. A peer of which no whole request has come for as long as `patience`, by that clock, is left, and so is one that took nothing of a reply for as
-/// long. The answer is 0 where all were served, and 3 where serving couldn't begin, none could be accepted any more or the store failed.
+/// Serves so many connections by the chain, side by side in 256 places, each with at most 1,000 requests. Where all places are taken and one more waits, the
+/// connection is left that was silent longest between two requests, for a quarter of a second at least. But first one of which no request came with a token that
+/// somebody has, and at once where the last one came with none; within a request such a one isn't left either, and keeps nobody else out, up to 768 sockets in
+/// all. A request is answered when it has come whole, one after another. The others have their turn behind at most 16 requests of a connection, and behind the
+/// one at which its turn has taken a millisecond by the clock of `rt`; where the bytes of all have come before, each connection is answered to its end, in the
+/// order in which they came. A fault of a connection ends that connection alone. A peer of which no whole request has come for as long as `patience`, by that
+/// clock, is left, and so is one that took nothing of a reply for as long. The answer is 0 where all were served, and 3 where serving couldn't begin, none could
+/// be accepted any more or the store failed.
 pub fn serve_listener<R: Net + Clock + AllocGlobal, O: OfficeWords, S: Alter>(
     rt: &R,
     listener: &TcpListener,
