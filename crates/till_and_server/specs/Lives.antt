@@ -79,7 +79,7 @@ pub record IsAnsweredBy (rules : Rules) (b : ℕ) (lives : List ServedLife) (old
 -- A book of which each reply was recorded so stays one: an empty one is, and where an entry is put to it, and where the oldest entry without a reply was written,
 -- whole, and a reply read, whole, that is no 503 and is recorded for it, as `deliver` says.
 pub record StaysRecorded (rules : Rules) (b : ℕ) (lives : List ServedLife) (old : Books) : Type 0 where
-  pub none : WereRecorded rules b lives old (record { entries = []; replies = [] })
+  pub none : WereRecorded rules b lives old (record { entries = []; replies = []; settled = [] })
   pub enters : (journal : Journal) (request : List ℕ) → WereRecorded rules b lives old journal → WereRecorded rules b lives old (with_entry request journal)
   pub delivers : (journal : Journal) (request : List ℕ) (answer : Answer) (till : Streams) → WereRecorded rules b lives old journal → waiting journal ≡ Some request
       → Appends till.output till.written request → Consumes till.input till.left (answer_bytes answer) → answer.status ≢ 503

@@ -37,9 +37,10 @@ use Rattle.shop_model.specs.Rows.{numbered, numbered_from}
 use Rattle.shop_model.specs.Answers.{Answer}
 use Rattle.shop_schema.proofs.Listed.{values}
 use Rattle.shop_schema.proofs.Lists.{numbered_push}
-use Rattle.till_book.specs.Tables.{book_schema, entry_table, reply_table}
-use Rattle.till_book.specs.Journal.{Journal, StandsFor, entry_columns, reply_columns, PutsEntry, PutsReply, IsEmptyJournal, Holds, TellsBytes, FindsEntry}
-use Rattle.till_book.specs.declared.journal.TheConstants.{INSERT_ENTRY, INSERT_REPLY, SELECT_ENTRY}
+use Rattle.till_book.proofs.Numbers.{differ_push, none_of, nothing_in}
+use Rattle.till_book.specs.Tables.{book_schema, entry_table, reply_table, settled_table}
+use Rattle.till_book.specs.Journal.{Journal, StandsFor, entry_columns, reply_columns, PutsEntry, PutsReply, PutsSettled, IsEmptyJournal, Holds, TellsBytes, FindsEntry}
+use Rattle.till_book.specs.declared.journal.TheConstants.{INSERT_ENTRY, INSERT_REPLY, INSERT_SETTLED, SELECT_ENTRY}
 
 insert_entry_means : Means book_schema INSERT_ENTRY.now (Insert 0 (Values (values 2) 3))
 unfolding understood everything
@@ -48,6 +49,10 @@ insert_entry_means = record { is = refl; plain = (refl, refl) }
 insert_reply_means : Means book_schema INSERT_REPLY.now (Insert 1 (Values (values 3) 4))
 unfolding understood everything
 insert_reply_means = record { is = refl; plain = (refl, refl) }
+
+insert_settled_means : Means book_schema INSERT_SETTLED.now (Insert 2 (Values (values 3) 4))
+unfolding understood everything
+insert_settled_means = record { is = refl; plain = (refl, refl) }
 
 -- the row of the next
 pushed : {A : Type 0} (columns : ℕ × A → sql.Row) (xs : List A) (x : A) (n : ℕ) → n ≡ length xs + 1 → map columns (numbered xs) ++ columns (n, x) ∷ [] ≡ map columns (numbered (xs ++ x ∷ []))
@@ -62,7 +67,16 @@ puts_entry n request old new count h journal holds next =
     let row = entry_columns (n, request) in
     let done = has_put book_schema INSERT_ENTRY.now 0 entry_table (values 2) 2 insert_entry_means (record { place = refl; uncounted = refl; unstamped = refl }) row row old new count h refl refl refl (λ id. refl) holds.schema_is in
     let rows = subst (HasRows 2 (new.now.trees 0)) (pushed entry_columns journal.entries request n next) (done.rows _ holds.stands.entries) in
-    record { schema_is = done.schema_is; keyed = done.keyed holds.keyed; stands = record { entries = rows; replies = subst (λ (tree : List sql.Row). HasRows 3 tree (map reply_columns (numbered journal.replies))) (sym (done.others.1.0 (λ e. absurd (omega (arith, e))))) holds.stands.replies } }
+    record {
+      schema_is = done.schema_is;
+      keyed = done.keyed holds.keyed;
+      stands = record {
+        entries = rows;
+        replies = subst (λ (tree : List sql.Row). HasRows 3 tree (map reply_columns (numbered journal.replies))) (sym (done.others.1.0 (λ e. absurd (omega (arith, e))))) holds.stands.replies;
+        settled = subst (λ (tree : List sql.Row). HasRows 3 tree (map reply_columns journal.settled)) (sym (done.others.1.1.0 (λ e. absurd (omega (arith, e))))) holds.stands.settled;
+        once = holds.stands.once;
+      };
+    }
 
 pub puts_reply : (n status : ℕ) (body : List ℕ) (old new : State) (count : ℕ) → ExecutesInside 0 INSERT_REPLY.now (number_value n ∷ number_value status ∷ Blob body ∷ []) old new (Ok count) → PutsReply n status body old new
 puts_reply n status body old new count h journal holds next =
@@ -70,7 +84,33 @@ puts_reply n status body old new count h journal holds next =
     let row = reply_columns (n, answer) in
     let done = has_put book_schema INSERT_REPLY.now 1 reply_table (values 3) 3 insert_reply_means (record { place = refl; uncounted = refl; unstamped = refl }) row row old new count h refl refl refl (λ id. refl) holds.schema_is in
     let rows = subst (HasRows 3 (new.now.trees 2)) (pushed reply_columns journal.replies answer n next) (done.rows _ holds.stands.replies) in
-    record { schema_is = done.schema_is; keyed = done.keyed holds.keyed; stands = record { entries = subst (λ (tree : List sql.Row). HasRows 2 tree (map entry_columns (numbered journal.entries))) (sym (done.others.0 (λ e. absurd (omega (arith, e))))) holds.stands.entries; replies = rows } }
+    record {
+      schema_is = done.schema_is;
+      keyed = done.keyed holds.keyed;
+      stands = record {
+        entries = subst (λ (tree : List sql.Row). HasRows 2 tree (map entry_columns (numbered journal.entries))) (sym (done.others.0 (λ e. absurd (omega (arith, e))))) holds.stands.entries;
+        replies = rows;
+        settled = subst (λ (tree : List sql.Row). HasRows 3 tree (map reply_columns journal.settled)) (sym (done.others.1.1.0 (λ e. absurd (omega (arith, e))))) holds.stands.settled;
+        once = holds.stands.once;
+      };
+    }
+
+pub puts_settled : (n status : ℕ) (body : List ℕ) (old new : State) (count : ℕ) → ExecutesInside 0 INSERT_SETTLED.now (number_value n ∷ number_value status ∷ Blob body ∷ []) old new (Ok count) → PutsSettled n status body old new
+puts_settled n status body old new count h journal holds next =
+    let answer : Answer = record { status = status; body = body } in
+    let row = reply_columns (n, answer) in
+    let done = has_put book_schema INSERT_SETTLED.now 2 settled_table (values 3) 3 insert_settled_means (record { place = refl; uncounted = refl; unstamped = refl }) row row old new count h refl refl refl (λ id. refl) holds.schema_is in
+    let rows = subst (HasRows 3 (new.now.trees 4)) (sym (map_push reply_columns journal.settled (n, answer))) (done.rows _ holds.stands.settled) in
+    record {
+      schema_is = done.schema_is;
+      keyed = done.keyed holds.keyed;
+      stands = record {
+        entries = subst (λ (tree : List sql.Row). HasRows 2 tree (map entry_columns (numbered journal.entries))) (sym (done.others.0 (λ e. absurd (omega (arith, e))))) holds.stands.entries;
+        replies = subst (λ (tree : List sql.Row). HasRows 3 tree (map reply_columns (numbered journal.replies))) (sym (done.others.1.0 (λ e. absurd (omega (arith, e))))) holds.stands.replies;
+        settled = rows;
+        once = differ_push n answer journal.settled holds.stands.once (none_of n journal.settled (nothing_in _ (filter (λ (it : ℕ × Answer). it.0 == n) journal.settled) next));
+      };
+    }
 
 -- ---- how the tables are made
 
@@ -79,6 +119,9 @@ entry_text = codes "CREATE TABLE entry (number INT NOT NULL, request BLOB NOT NU
 
 abbrev reply_text : List ℕ
 reply_text = codes "CREATE TABLE reply (number INT NOT NULL, status INTEGER NOT NULL, body BLOB NOT NULL, PRIMARY KEY (number)) STRICT"
+
+abbrev settled_text : List ℕ
+settled_text = codes "CREATE TABLE settled (number INT NOT NULL, status INTEGER NOT NULL, body BLOB NOT NULL, PRIMARY KEY (number)) STRICT"
 
 abbrev stage : ℕ → ℕ → Schema
 stage tables indexes = record { tables = take tables book_schema.tables; indexes = take indexes book_schema.indexes; views = [] }
@@ -94,13 +137,18 @@ makes_reply : Makes (stage 1 1) reply_text (placeless reply_table)
 unfolding understood everything
 makes_reply = record { means = record { is = refl; plain = (refl, refl) }; whole = refl; defined = refl; unsequenced = refl }
 
+makes_settled : Makes (stage 2 2) settled_text (placeless settled_table)
+unfolding understood everything
+makes_settled = record { means = record { is = refl; plain = (refl, refl) }; whole = refl; defined = refl; unsequenced = refl }
+
 abbrev pub texts : List (List ℕ)
-texts = entry_text ∷ reply_text ∷ []
+texts = entry_text ∷ reply_text ∷ settled_text ∷ []
 
 pub make_all : MakeAll book_schema no_schema texts
 unfolding everything
-make_all = makes_one book_schema no_schema entry_text (reply_text ∷ []) (placeless entry_table) makes_entry
-    (makes_one book_schema (stage 1 1) reply_text [] (placeless reply_table) makes_reply refl)
+make_all = makes_one book_schema no_schema entry_text (reply_text ∷ settled_text ∷ []) (placeless entry_table) makes_entry
+    (makes_one book_schema (stage 1 1) reply_text (settled_text ∷ []) (placeless reply_table) makes_reply
+    (makes_one book_schema (stage 2 2) settled_text [] (placeless settled_table) makes_settled refl))
 
 none_keyed : (trees : Trees) (tables : List Table) → AllByRecursion (λ t. trees t.tree ≡ []) tables → AllByRecursion (λ t. IsShaped TableShape (trees t.tree)) tables
 none_keyed trees [] e = tt
@@ -116,6 +164,8 @@ made_journal s b =
       stands = record {
         entries = subst (λ (rows : List sql.Row). HasRows 2 rows []) (sym empty.0) (IsPermutation-refl []);
         replies = subst (λ (rows : List sql.Row). HasRows 3 rows []) (sym empty.1.0) (IsPermutation-refl []);
+        settled = subst (λ (rows : List sql.Row). HasRows 3 rows []) (sym empty.1.1.0) (IsPermutation-refl []);
+        once = tt;
       };
     }
 

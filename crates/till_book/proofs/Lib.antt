@@ -1,2 +1,4 @@
+pub mod Numbers
 pub mod JournalTexts
+pub mod ReadTexts
 pub mod Resting

@@ -1,19 +1,20 @@
 -- What a transaction leaves of the book.
-use Rattle.std.proofs.Common.{◌≡◌, ◌∙◌, refl, sym, ap, subst, IsTrue, true, false, Result}
+use Rattle.std.proofs.Common.{◌≡◌, ◌∙◌, refl, sym, ap, subst, arith, inl, inr, IsTrue, true, false, Result, Ok, Err}
+use Rattle.std.specs.Prelude.{IfOk, OnOk}
 use Rattle.std.specs.Borrow.{MutBor}
 use Rattle.sql_rows.specs.Calls.{StaysInside}
 use Rattle.sqlite_trees.specs.declared.store.Store.{Ghosts}
 use Rattle.sqlite_trees.specs.Tree.{Trees}
 use Rattle.sqlite.specs.Effect.{Database}
 use Rattle.sqlite.specs.Held.{Held, state}
-use Rattle.sqlite.specs.State.{State, HasCleanDisk, Shows, Survives}
+use Rattle.sqlite.specs.State.{State, HasCleanDisk, IsRolledBack, Shows, Survives}
 use Rattle.sqlite.proofs.StateLemmas.{survives_then}
 use Rattle.sqlite.proofs.Callers.{survives_begin}
 use Rattle.sql_rows.specs.Rows.{AreKeyed}
-use Rattle.sql_rows.proofs.Whole.{crash_new}
+use Rattle.sql_rows.proofs.Whole.{crash_new, dropped}
 use Rattle.till_book.specs.Tables.{book_schema}
-use Rattle.till_book.specs.Journal.{Journal, StandsFor, Holds, Writes}
-use Rattle.till_book.specs.Steps.{Rests, Comes, LeavesChanged}
+use Rattle.till_book.specs.Journal.{Journal, StandsFor, Holds, Writes, Finds}
+use Rattle.till_book.specs.Steps.{Rests, Stays, Comes, LeavesChanged}
 
 pub holds_as : (s t : State) (journal : Journal) → t.now ≡ s.now → Holds s journal → Holds t journal
 holds_as s t journal same h = record {
@@ -58,3 +59,57 @@ pub leaves_none : {S : Type 0} (g : Ghosts S) (old mid end : Held S) (P : Trees 
     → Survives (state g mid) (state g end) (λ _. ⊥) → Survives (state g old) (state g end) P
 leaves_none g old mid end P inside ending =
     survives_then (state g old) (state g mid) (state g end) _ _ P (λ _ db none. absurd none) (λ _ db none. absurd none) (survives_begin g old (state g mid) _ inside) ending
+
+-- a change that was put in a transaction of its own, and committed
+module _ {S X E : Type 0} (g : Ghosts S) (old end : Held S) (Given : Journal → Type 0) (change : Journal → Journal) {tx after : MutBor (Held S)} {x : X}
+    (begun : tx.now ≡ record old { in_transaction = true }) (inside : StaysInside {E = E} g tx after (Ok x))
+    (put : HasCleanDisk (state g after.now) → Writes (state g tx.now) (state g after.now) Given change) (ending : Survives (state g after.now) (state g end) (λ db. db ≡ (state g after.now).now.trees)) where
+  from_begun : StaysInside {E = E} g (record tx { now = record old { in_transaction = true } }) after (Ok x)
+  from_begun = begun_inside g old begun inside
+
+  put_begun : HasCleanDisk (state g after.now) → Writes (state g (record old { in_transaction = true })) (state g after.now) Given change
+  put_begun clean = rw begun at (put clean)
+
+  pub committed : Settled g → (HasCleanDisk (state g end) → Shows (state g after.now) (state g end) (state g after.now).now (state g after.now).now false)
+      → HasCleanDisk (state g end) → Comes Given change (state g old) (state g end)
+  committed settled shows clean =
+      let before : HasCleanDisk (state g after.now) = omega (arith, clean, ending.clean) in
+      comes g old after.now end Given change (put_begun before) (λ k. (from_begun.lives k refl).was_open) before settled (shows clean)
+
+  pub left_behind : Survives (state g old) (state g end) (LeavesChanged Given change (state g old))
+  left_behind = leaves g old after.now end Given change put_begun (λ k. (from_begun.lives k refl).was_open) from_begun.survives ending
+
+-- a look in a transaction of its own, which is rolled back, whatever it was told
+module _ {S X E : Type 0} (g : Ghosts S) (old end : Held S) {tx after : MutBor (Held S)} {r : Result X E} (begun : tx.now ≡ record old { in_transaction = true }) (inside : StaysInside g tx after r)
+    (undone : HasCleanDisk (state g end) → IsRolledBack (state g after.now) (state g end)) (ending : Survives (state g after.now) (state g end) (λ _. ⊥)) where
+  looked : StaysInside g (record tx { now = record old { in_transaction = true } }) after r
+  looked = begun_inside g old begun inside
+
+  pub stays_behind : HasCleanDisk (state g end) → Stays (state g old) (state g end)
+  stays_behind clean journal rests =
+      let before : HasCleanDisk (state g after.now) = omega (arith, clean, ending.clean) in
+      let kept = looked.kept before refl in
+      let survives : Survives (state g old) (state g end) (λ _. ⊥) = leaves_none g old after.now end (λ _. ⊥) looked.survives ending in
+      let was : IsTrue (state g end).is_open → IsTrue (state g old).is_open = λ live. kept.was_open ((undone clean).was_open live) in
+      let same : IsTrue (state g end).is_open → ((state g end).now ≡ (state g old).committed) × ((state g end).committed ≡ (state g old).committed) =
+      λ live. dropped (state g (record old { in_transaction = true })) (state g after.now) (state g end) kept (undone clean) live in
+      record {
+        now = λ live. holds_as (state g old) (state g end) journal ((same live).0 ∙ rests.committed (was live)) (rests.now (was live));
+        committed = λ live. (same live).1 ∙ sym (same live).0;
+        left = λ db may. elim (survives.crash clean db may) [ inl before ↦ rests.left db before | inr none ↦ absurd none ];
+      }
+
+  pub finds_behind : (Says : X → Journal → Type 0) → (HasCleanDisk (state g after.now) → IfOk r (λ it. Finds (Says it) (state g tx.now) (state g after.now)))
+      → HasCleanDisk (state g end) → IfOk r (λ it. (journal : Journal) → Rests (state g old) journal → Rests (state g end) journal × Says it journal)
+  finds_behind Says finds clean =
+      let before : HasCleanDisk (state g after.now) = omega (arith, clean, ending.clean) in
+      told r (looked.lives before refl) (rw begun at (finds before))
+    where
+      told : (r : Result X E) → OnOk r (Shows (state g (record old { in_transaction = true })) (state g after.now) (state g after.now).now (state g old).committed true)
+          → IfOk r (λ it. Finds (Says it) (state g (record old { in_transaction = true })) (state g after.now))
+          → IfOk r (λ it. (journal : Journal) → Rests (state g old) journal → Rests (state g end) journal × Says it journal)
+      told (Ok x) shows found = λ journal rests. (
+        stays_behind clean journal rests,
+        (found journal (holds_as (state g old) (state g (record old { in_transaction = true })) journal refl (rests.now shows.was_open))).1,
+      )
+      told (Err e) shows found = tt

@@ -1,3 +1,5 @@
 pub mod Tables
 pub mod Journal
+pub mod Seen
+pub mod Read
 pub mod Steps

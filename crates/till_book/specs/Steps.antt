@@ -1,14 +1,23 @@
 -- The book between two calls, and what one change leaves of it.
-use Rattle.std.specs.Prelude.{◌≡◌, ℕ, ◌+◌, IsTrue, List, length, slice_get, Option}
+use Rattle.std.specs.Prelude.{◌≡◌, ℕ, ◌+◌, IsTrue, List, length, slice_get, Option, option_map}
+use Rattle.std.specs.Option.{option_to_list}
 use Rattle.sqlite_trees.specs.Tree.{Trees}
 use Rattle.sqlite.specs.State.{State}
-use Rattle.till_book.specs.Journal.{Journal, StandsFor, Holds, waiting, with_entry, with_reply}
+use Rattle.till_book.specs.declared.rows.BookReply.{BookReply}
+use Rattle.till_book.specs.declared.lists.BookRows.{BookRows}
+use Rattle.till_book.specs.Seen.{seen_reply}
+use Rattle.till_book.specs.Read.{IsReadOf}
+use Rattle.till_book.specs.Journal.{Journal, StandsFor, Holds, waiting, settled_of, IsUnsettled, with_entry, with_reply, with_settled}
 
 -- the tables stand for the journal, all of it is committed, and a crash leaves it; of a connection that the store has shut only the last is said
 pub record Rests (s : State) (journal : Journal) : Type 0 where
   pub now : IsTrue s.is_open → Holds s journal
   pub committed : IsTrue s.is_open → s.committed ≡ s.now
   pub left : (db : Trees) → s.may_leave db → StandsFor db journal
+
+-- the book stays
+abbrev pub Stays : State → State → Type 0
+Stays old new = (journal : Journal) → Rests old journal → Rests new journal
 
 -- from a journal of which this is given, the book comes to rest with that one
 abbrev pub Comes : (Journal → Type 0) → (Journal → Journal) → State → State → Type 0
@@ -38,6 +47,13 @@ IsRecorded n status body = Comes (IsNextReply n) (with_reply (record { status = 
 abbrev pub LeavesRecorded : ℕ → ℕ → List ℕ → State → Trees → Type 0
 LeavesRecorded n status body = LeavesChanged (IsNextReply n) (with_reply (record { status = status; body = body }))
 
+-- what the entry was told when it was sent once more stands in the book, on the disk too; nothing was recorded of that before
+abbrev pub IsNoted : ℕ → ℕ → List ℕ → State → State → Type 0
+IsNoted n status body = Comes (IsUnsettled n) (with_settled n (record { status = status; body = body }))
+
+abbrev pub LeavesNoted : ℕ → ℕ → List ℕ → State → Trees → Type 0
+LeavesNoted n status body = LeavesChanged (IsUnsettled n) (with_settled n (record { status = status; body = body }))
+
 -- the request of that number, where there is one; the book stays
 abbrev pub FindsNumbered : ℕ → Option (List ℕ) → State → State → Type 0
 FindsNumbered n it old new = (journal : Journal) → Rests old journal → Rests new journal × ((i : ℕ) → n ≡ i + 1 → it ≡ slice_get journal.entries i)
@@ -45,3 +61,11 @@ FindsNumbered n it old new = (journal : Journal) → Rests old journal → Rests
 -- the oldest request without a reply, where the number is the next reply's; the book stays
 abbrev pub FindsWaiting : ℕ → Option (List ℕ) → State → State → Type 0
 FindsWaiting n it old new = (journal : Journal) → Rests old journal → IsNextReply n journal → Rests new journal × (it ≡ waiting journal)
+
+-- what the entry of that number was told when it was sent once more, where that is recorded; the book stays
+abbrev pub FindsSettled : ℕ → Option BookReply → State → State → Type 0
+FindsSettled n it old new = (journal : Journal) → Rests old journal → Rests new journal × (option_to_list (option_map seen_reply it) ≡ settled_of n journal.settled)
+
+-- these rows are the whole book; the book stays
+abbrev pub ReadsBook : BookRows → State → State → Type 0
+ReadsBook rows old new = (journal : Journal) → Rests old journal → Rests new journal × IsReadOf rows journal

@@ -5,16 +5,17 @@ ghost use Rattle.sqlite.specs.Held.{state};
 ghost use Rattle.sqlite.specs.State.{HasCleanDisk, Survives, KeepsCommit};
 ghost use Rattle.sql_rows.specs.Books.{no_schema};
 ghost use Rattle.sql_rows.specs.Calls.{StaysInside};
-ghost use Rattle.till_book.specs.Journal.{PutsEntry, PutsReply, IsEmptyJournal, FindsEntry, TellsBytes};
+ghost use Rattle.till_book.specs.Journal.{PutsEntry, PutsReply, PutsSettled, IsEmptyJournal, FindsEntry, TellsBytes};
 
 use sql_rows::{Bytes, StoreFault, bytes_at, execute, make_tables, query};
 use sqlite::types::ToSql;
 use sqlite::{Alter, Row, Transaction};
 
 /// How the tables are made.
-const TEXTS: [&str; 2] = [
+const TEXTS: [&str; 3] = [
     "CREATE TABLE entry (number INT NOT NULL, request BLOB NOT NULL, PRIMARY KEY (number)) STRICT",
     "CREATE TABLE reply (number INT NOT NULL, status INTEGER NOT NULL, body BLOB NOT NULL, PRIMARY KEY (number)) STRICT",
+    "CREATE TABLE settled (number INT NOT NULL, status INTEGER NOT NULL, body BLOB NOT NULL, PRIMARY KEY (number)) STRICT",
 ];
 
 /// Makes the journal's tables, with no rows, in a database that has none. Nothing is committed.
@@ -60,6 +61,26 @@ pub fn put_reply<S: Alter>(
     execute(
         tx,
         INSERT_REPLY,
+        &[number.to_sql(), status.to_sql(), body.to_sql()],
+    )
+}
+
+const INSERT_SETTLED: &str = "INSERT INTO settled (number, status, body) VALUES (?1, ?2, ?3)";
+
+/// Adds what the entry of that number was told when it was sent once more; nothing was recorded of that before.
+pub fn put_settled<S: Alter>(
+    tx: &mut Transaction<'_, S>,
+    number: u32,
+    status: u32,
+    body: &[u8],
+) -> Result<(), StoreFault>
+    ensures inside { StaysInside S.Store tx.old.conn tx.new.conn result }
+    ensures put { HasCleanDisk (state S.Store tx.new.conn.now)
+        → OnOk result (PutsSettled number status body.now (state S.Store tx.old.conn.now) (state S.Store tx.new.conn.now)) }
+{
+    execute(
+        tx,
+        INSERT_SETTLED,
         &[number.to_sql(), status.to_sql(), body.to_sql()],
     )
 }

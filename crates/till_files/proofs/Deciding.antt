@@ -1,5 +1,5 @@
 -- Whether tables stand for a journal can be decided, so it is known where it is known only in some case.
-use Rattle.std.proofs.Common.{◌≡◌, ◌⊎◌, ◌∙◌, ◌+◌, ℕ, List, [], ◌∷◌, refl, sym, ap, subst, inl, inr, arith, IsPermutation, sum_by}
+use Rattle.std.proofs.Common.{◌≡◌, ◌≢◌, ◌⊎◌, ◌∙◌, ◌+◌, ℕ, List, [], ◌∷◌, refl, sym, ap, subst, inl, inr, arith, IsPermutation, sum_by}
 use Rattle.std.proofs.Math.Logic.{∥∥₁_elim, ∥∥₁_map}
 use mathlib.Core.HLevel.{⊥_prop}
 use Rattle.std.proofs.lemmas.Bool.{cases_eq}
@@ -9,6 +9,9 @@ use base.Stored.{Gv, gnil, gnum, gcons}
 use Rattle.sqlite_value.specs.contracts.row.Row as row
 use Rattle.sqlite_value.specs.Order.{Row}
 use Rattle.sqlite_trees.specs.Tree.{Trees}
+use Rattle.std.specs.List.{AllByRecursion}
+use Rattle.sql_rows.specs.Rows.{Differ}
+use Rattle.shop_model.specs.Answers.{Answer}
 use Rattle.till_book.specs.Journal.{Journal, StandsFor}
 
 abbrev Decided : Type 0 → Type 0
@@ -112,5 +115,29 @@ decided (inr apart) some = absurd (∥∥₁_elim some ⊥_prop apart)
 in_any : {A : Type 0} (xs ys : List Row) → (A → IsPermutation xs ys) → ∥ A ∥₁ → IsPermutation xs ys
 in_any xs ys f some = decided (one_bag same_row xs ys) (∥∥₁_map some f)
 
+-- whether no number comes twice
+not_among : (n : ℕ) (xs : List (ℕ × Answer)) → Decided (AllByRecursion (λ (y : ℕ × Answer). n ≢ y.0) xs)
+not_among n [] = inl tt
+not_among n (y ∷ ys) = both (cases_eq n y.0) (not_among n ys)
+  where
+    both : Decided (n ≡ y.0) → Decided (AllByRecursion (λ (z : ℕ × Answer). n ≢ z.0) ys) → Decided (AllByRecursion (λ (z : ℕ × Answer). n ≢ z.0) (y ∷ ys))
+    both (inl is) rest = inr (λ all. all.0 is)
+    both (inr apart) (inl rest) = inl (apart, rest)
+    both (inr apart) (inr some) = inr (λ all. some all.1)
+
+none_twice : (xs : List (ℕ × Answer)) → Decided (Differ (λ (it : ℕ × Answer). it.0) xs)
+none_twice [] = inl tt
+none_twice (x ∷ xs) = both (not_among x.0 xs) (none_twice xs)
+  where
+    both : Decided (AllByRecursion (λ (y : ℕ × Answer). x.0 ≢ y.0) xs) → Decided (Differ (λ (it : ℕ × Answer). it.0) xs) → Decided (Differ (λ (it : ℕ × Answer). it.0) (x ∷ xs))
+    both (inl first) (inl rest) = inl (first, rest)
+    both (inl first) (inr some) = inr (λ all. some all.1)
+    both (inr twice) rest = inr (λ all. twice all.0)
+
 pub stands_in_any : (trees : Trees) (journal : Journal) → ∥ StandsFor trees journal ∥₁ → StandsFor trees journal
-stands_in_any trees journal some = record { entries = in_any _ _ (λ s. s.entries) some; replies = in_any _ _ (λ s. s.replies) some }
+stands_in_any trees journal some = record {
+  entries = in_any _ _ (λ s. s.entries) some;
+  replies = in_any _ _ (λ s. s.replies) some;
+  settled = in_any _ _ (λ s. s.settled) some;
+  once = decided (none_twice journal.settled) (∥∥₁_map some (λ s. s.once));
+}

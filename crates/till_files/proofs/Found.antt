@@ -18,7 +18,7 @@ use Rattle.sqlite.specs.Files.{HoldsDatabase, Finds, IsOpened, IsEmpty, file_sta
 use Rattle.sql_rows.specs.Books.{no_schema}
 use Rattle.sql_rows.proofs.Opened.{opened_keyed}
 use Rattle.sql_rows.proofs.Unique.{one_schema}
-use Rattle.till_book.specs.Tables.{book_schema, entry_table, reply_table}
+use Rattle.till_book.specs.Tables.{book_schema, entry_table, reply_table, settled_table}
 use Rattle.till_book.specs.Journal.{Journal, StandsFor}
 use Rattle.till_book.specs.Steps.{Rests}
 use Rattle.till_files.specs.declared.faults.BookFault.{BookFault}
@@ -42,7 +42,7 @@ empty_has_none schema db empty sound =
     λ i. record { tables = tables i; indexes = indexes i; views = views i }
 
 some_tables : book_schema ≢ no_schema
-some_tables e = let tables : entry_table ∷ reply_table ∷ [] ≡ [] = ap (λ (it : Schema). it.tables) e in cc
+some_tables e = let tables : entry_table ∷ reply_table ∷ settled_table ∷ [] ≡ [] = ap (λ (it : Schema). it.tables) e in cc
 
 module _ {D : Type 0} {g : Ghosts D} (c : Held (FileStore D g)) (files : Files D) (opened : IsOpened c) (found : Finds files c) where
   abbrev opened_state : State

@@ -20,7 +20,7 @@ use Rattle.till_book.specs.Tables.{book_schema}
 use Rattle.till_book.specs.Journal.{Journal, StandsFor}
 
 abbrev pub empty_journal : Journal
-empty_journal = record { entries = []; replies = [] }
+empty_journal = record { entries = []; replies = []; settled = [] }
 
 -- ---- what is found in files
 

@@ -11,4 +11,4 @@ pub use creation::create_book;
 pub use faults::BookFault;
 pub use files::close_book;
 pub use opening::open_book;
-pub use stopping::{enter_over_a_stop, record_over_a_stop, restart_book};
+pub use stopping::{enter_over_a_stop, note_settled_over_a_stop, record_over_a_stop, restart_book};

@@ -6,7 +6,7 @@ ghost use Rattle.sqlite.specs.Files.{file_state};
 ghost use Rattle.sqlite_wal.specs.Files.{outcomes};
 ghost use Rattle.sqlite_wal.specs.Reads.{AreClean};
 ghost use Rattle.sqlite_wal.specs.Recovery.{Image};
-ghost use Rattle.till_book.specs.Journal.{Journal, with_entry, with_reply};
+ghost use Rattle.till_book.specs.Journal.{Journal, IsUnsettled, with_entry, with_reply, with_settled};
 ghost use Rattle.till_book.specs.Steps.{Rests, IsNext, IsNextReply};
 ghost use Rattle.till_files.specs.Files.{LeavesEither};
 
@@ -16,7 +16,7 @@ use crate::opening::open_book;
 use sqlite::{Connection, FileStore, Files};
 use sqlite_disk::Crash;
 use std::alloc::Global;
-use till_book::{enter, record};
+use till_book::{enter, note_settled, record};
 
 /// The files behind a crash of their disks.
 fn crashed<D: Crash + Drop>(files: Files<D>) -> Files<D>
@@ -76,5 +76,23 @@ pub fn record_over_a_stop<D: Crash + Drop>(
 {
     let mut conn = conn;
     let _stopped = record(&mut conn, number, status, body);
+    restart_book(alloc, conn)
+}
+
+/// Records what an entry was told when it was sent once more, and is stopped at any call of that or behind it; then the disks crash, and the files that are left
+/// are opened: the book is the one before that or the one with it.
+pub fn note_settled_over_a_stop<D: Crash + Drop>(
+    alloc: Global,
+    conn: Connection<FileStore<D>>,
+    number: u32,
+    status: u32,
+    body: &[u8],
+) -> Result<Connection<FileStore<D>>, (BookFault, Files<D>)>
+    requires { conn.in_transaction ≡ false }
+    ensures either { IfOk result (λ again. HasCleanDisk (file_state again) → (journal : Journal) → Rests (file_state conn) journal → IsUnsettled number journal
+        → ∥ Rests (file_state again) journal ⊎ Rests (file_state again) (with_settled number (record { status = status; body = body.now }) journal) ∥₁) }
+{
+    let mut conn = conn;
+    let _stopped = note_settled(&mut conn, number, status, body);
     restart_book(alloc, conn)
 }

@@ -16,7 +16,7 @@ as_long [] (c ∷ cs) say = absurd say
 as_long (b ∷ bs) [] say = absurd say
 as_long (b ∷ bs) (c ∷ cs) say = ap (λ (n : ℕ). suc n) (as_long bs cs say.1)
 
-said_at : (entries : List (List ℕ)) (commands : List Command) (i : ℕ) (bytes : List ℕ) → Say entries commands → slice_get entries i ≡ Some bytes
+pub said_at : (entries : List (List ℕ)) (commands : List Command) (i : ℕ) (bytes : List ℕ) → Say entries commands → slice_get entries i ≡ Some bytes
     → (command : Command) × (slice_get commands i ≡ Some command) × Says bytes command
 said_at [] [] i bytes say there = absurd (same_none bytes there)
 said_at [] (c ∷ cs) i bytes say there = absurd say
@@ -24,7 +24,18 @@ said_at (b ∷ bs) [] i bytes say there = absurd say
 said_at (b ∷ bs) (c ∷ cs) zero bytes say there = (c, refl, subst (λ (it : List ℕ). Says it c) (same_some b bytes there) say.0)
 said_at (b ∷ bs) (c ∷ cs) (suc i) bytes say there = said_at bs cs i bytes say.1 there
 
-say_more : (entries : List (List ℕ)) (commands : List Command) (bytes : List ℕ) (command : Command) → Say entries commands → Says bytes command
+-- and they say no others
+pub say_one : (entries : List (List ℕ)) (one two : List Command) → Say entries one → Say entries two → one ≡ two
+say_one [] [] [] first second = refl
+say_one [] [] (d ∷ ds) first second = absurd second
+say_one [] (c ∷ cs) two first second = absurd first
+say_one (b ∷ bs) [] two first second = absurd first
+say_one (b ∷ bs) (c ∷ cs) [] first second = absurd second
+say_one (b ∷ bs) (c ∷ cs) (d ∷ ds) first second =
+    let same = one_command b first.0.0 second.0.0 c d first.0.1 second.0.1 in
+    λ i. same i ∷ say_one bs cs ds first.1 second.1 i
+
+pub say_more : (entries : List (List ℕ)) (commands : List Command) (bytes : List ℕ) (command : Command) → Say entries commands → Says bytes command
     → Say (entries ++ bytes ∷ []) (commands ++ command ∷ [])
 say_more [] [] bytes command say says = (says, tt)
 say_more [] (c ∷ cs) bytes command say says = absurd say

@@ -6,7 +6,7 @@ use Rattle.shop_model.specs.Calendar.{Moment}
 use Rattle.till_model.specs.Numbered.{key_of, AreNumbered, IsAfterLast}
 use Rattle.till_client.specs.Sealing.{SaysCommand}
 use Rattle.till_book.specs.Journal.{Journal, with_entry}
-use Rattle.till_book.specs.Steps.{Rests, IsNext, IsEntered}
+use Rattle.till_book.specs.Steps.{Rests, Stays, IsNext, IsEntered}
 use Rattle.till_work.specs.declared.entering.EnterFault.{EnterFault}
 use Rattle.till_work.specs.declared.entering.EnterFault.TheVariants.{Book, Memory, NoCommand, OtherKey, NotLater, OtherBook}
 
@@ -32,9 +32,6 @@ pub record IsTillsBook (mark : Text) (journal : Journal) (commands : List Comman
 abbrev pub IsLast : Option Moment → List Command → Type 0
 IsLast None commands = commands ≡ []
 IsLast (Some moment) commands = (i : ℕ) × (last : Command) × (length commands ≡ i + 1) × (slice_get commands i ≡ Some last) × (last.moment ≡ moment)
-
-abbrev pub Stays : State → State → Type 0
-Stays old new = (journal : Journal) → Rests old journal → Rests new journal
 
 -- the last entry's moment, where the number is the next entry's; the book stays
 abbrev pub FindsLast : ℕ → Option Moment → State → State → Type 0

@@ -1,12 +1,13 @@
 -- What becomes known of an entry that is sent once more.
-use Rattle.std.specs.Prelude.{◌≡◌, ◌≢◌, ◌+◌, ℕ, List, slice_get, Option, Some, None}
+use Rattle.std.specs.Prelude.{◌≡◌, ◌≢◌, ◌⊎◌, ◌+◌, ℕ, List, [], ◌∷◌, slice_get, Option, Some, None}
 use Rattle.std.specs.Io.KnownBytes.{Appends, Consumes, Keeps}
+use Rattle.sqlite_trees.specs.Tree.{Trees}
 use Rattle.sqlite.specs.State.{State}
 use Rattle.shop_model.specs.Refusals.{MomentBack}
 use Rattle.shop_model.specs.Machine.{Sorry}
 use Rattle.shop_model.specs.Answers.{Answer, answer_of}
-use Rattle.till_book.specs.Journal.{Journal}
-use Rattle.till_book.specs.Steps.{Rests}
+use Rattle.till_book.specs.Journal.{Journal, IsUnsettled, settled_of, with_settled}
+use Rattle.till_book.specs.Steps.{Rests, LeavesNoted}
 use Rattle.till_client.specs.Replies.{seen_answer, answer_bytes}
 use Rattle.till_client.specs.Exchanges.{FailsToAsk}
 use Rattle.till_work.specs.declared.settling.Settled.{Settled}
@@ -20,27 +21,55 @@ IsSettledBy answer (Acted read) = (seen_answer read ≡ answer) × (answer.statu
 IsSettledBy answer Never = answer ≡ answer_of (Sorry MomentBack)
 IsSettledBy answer (Open read) = (seen_answer read ≡ answer) × (answer.status ≢ 200) × (answer ≢ answer_of (Sorry MomentBack))
 
+-- what was decided is recorded, and nothing where it is open
+abbrev pub after_settling : ℕ → Answer → Settled → Journal → Journal
+after_settling n answer (Acted read) journal = with_settled n answer journal
+after_settling n answer Never journal = with_settled n answer journal
+after_settling n answer (Open read) journal = journal
+
+-- of an entry of which nothing was recorded but its reply
+abbrev pub IsKept : ℕ → Answer → Settled → State → State → Type 0
+IsKept n answer settled old new = (journal : Journal) → Rests old journal → IsUnsettled n journal → Rests new (after_settling n answer settled journal)
+
 -- the entry at that place, of which that is known
 abbrev pub OfEntry : ℕ → Journal → (List ℕ → Type 0) → Type 0
 OfEntry n journal Known = (i : ℕ) → n ≡ i + 1 → (request : List ℕ) × (slice_get journal.entries i ≡ Some request) × Known request
 
--- That entry was written, whole, a reply was read, whole, which is no 503, and what is told follows from it.
-pub record IsSettled (settled : Settled) (input left output written : Option (List ℕ)) (request : List ℕ) : Type 0 where
+-- The entry was settled before: nothing is written or read, what is told follows from what is recorded of it, and the book stays.
+pub record WasSettled (n : ℕ) (settled : Settled) (journal : Journal) (new : State) (input left output written : Option (List ℕ)) : Type 0 where
   pub answer : Answer
-  pub writes : Appends output written request
+  pub recorded : settled_of n journal.settled ≡ answer ∷ []
+  pub writes : Keeps output written
+  pub reads : Keeps input left
+  pub says : IsSettledBy answer settled
+  pub rests : Rests new journal
+
+-- That entry was written, whole, a reply was read, whole, which is no 503, what is told follows from it, and what was decided is recorded, on the disk too.
+pub record IsSettled (n : ℕ) (settled : Settled) (journal : Journal) (new : State) (input left output written : Option (List ℕ)) : Type 0 where
+  pub unsettled : IsUnsettled n journal
+  pub answer : Answer
+  pub writes : OfEntry n journal (λ request. Appends output written request)
   pub reads : Consumes input left (answer_bytes answer)
   pub decided : answer.status ≢ 503
   pub says : IsSettledBy answer settled
+  pub rests : Rests new (after_settling n answer settled journal)
 
--- the book stays
 abbrev pub Settles : ℕ → Settled → State → State → Option (List ℕ) → Option (List ℕ) → Option (List ℕ) → Option (List ℕ) → Type 0
-Settles n settled old new input left output written = (journal : Journal) → Rests old journal → Rests new journal × OfEntry n journal (IsSettled settled input left output written)
+Settles n settled old new input left output written =
+    (journal : Journal) → Rests old journal
+    → WasSettled n settled journal new input left output written ⊎ IsSettled n settled journal new input left output written
 
--- also where nothing is told, and so much of the entry was written as the fault says; nothing where the book failed or there is no such entry
+-- Where nothing is told the book stays, and so much of the entry was written as the fault says; nothing where there is no such entry. Where the book failed
+-- nothing was written, or the whole entry, and the book is to be opened anew.
 abbrev pub FailsToSettle : ℕ → SettleFault → State → State → Option (List ℕ) → Option (List ℕ) → Type 0
-FailsToSettle n (Book fault) old new output written = Keeps output written
+FailsToSettle n (Book fault) old new output written =
+    (journal : Journal) → Rests old journal → Keeps output written ⊎ OfEntry n journal (λ request. Appends output written request)
 FailsToSettle n NoEntry old new output written =
     (journal : Journal) → Rests old journal → Rests new journal × Keeps output written × ((i : ℕ) → n ≡ i + 1 → slice_get journal.entries i ≡ None)
 FailsToSettle n (Unanswered fault) old new output written =
     (journal : Journal) → Rests old journal → Rests new journal × OfEntry n journal (λ request. FailsToAsk fault request output written)
 FailsToSettle n NotNow old new output written = (journal : Journal) → Rests old journal → Rests new journal × OfEntry n journal (λ request. Appends output written request)
+
+-- what may come to the disk: the book with what the entry was told, and nothing else
+abbrev pub MayNote : ℕ → State → Trees → Type 0
+MayNote n old db = (status : ℕ) × (body : List ℕ) × LeavesNoted n status body old db

@@ -1,20 +1,21 @@
-//! A refused entry that may have been sent more than once is sent once more, and so made sure of.
+//! A refused entry that may have been sent more than once is sent once more, and so made sure of; what that decides is recorded.
 
 ghost use Rattle.std.specs.Prelude.{◌≡◌, false, IfOk, IfErr};
 ghost use Rattle.sqlite.specs.Held.{state};
 ghost use Rattle.sqlite.specs.State.{HasCleanDisk, Survives};
 ghost use Rattle.till_client.specs.Replies.{seen_answer};
-ghost use Rattle.till_work.specs.Settling.{IsSettledBy, Settles, FailsToSettle};
+ghost use Rattle.till_book.specs.Seen.{seen_reply};
+ghost use Rattle.till_work.specs.Settling.{IsSettledBy, IsKept, Settles, FailsToSettle, MayNote};
 
 use shop_types::{Refusal, Reply};
 use sql_rows::StoreFault;
 use sqlite::{Alter, Connection};
 use std::alloc::Global;
 use std::io::{Read, Write};
-use till_book::request_of;
+use till_book::{BookReply, note_settled, request_of, settlement_of};
 use till_client::{Answer, AskFault, ask};
 
-/// What an entry is told when it is sent once more.
+/// What has become of an entry, by what it was told when it was sent once more.
 #[derive(Drop)]
 pub enum Settled {
     /// It has acted, and this is its reply.
@@ -28,7 +29,7 @@ pub enum Settled {
 /// Why nothing was told of the entry.
 #[derive(Drop)]
 pub enum SettleFault {
-    /// The book failed: it is to be opened anew.
+    /// The book failed, or there was no memory for what it has: it is to be opened anew, and may have what was decided.
     Book(StoreFault),
     /// No entry has that number.
     NoEntry,
@@ -53,8 +54,45 @@ fn settled_by(answer: Answer) -> Settled
     }
 }
 
+/// What the book has of an entry, as an answer.
+fn answer_in(alloc: Global, reply: &BookReply) -> Result<Answer, StoreFault>
+    ensures { IfOk result (λ answer. seen_answer answer ≡ seen_reply reply.now) }
+{
+    Ok(Answer {
+        status: reply.status,
+        body: Vec::from_slice(alloc, reply.body.as_slice())?,
+    })
+}
+
+/// What a reply to an entry that was sent once more says of it; where that is decided, it is recorded.
+fn keep<S: Alter>(
+    conn: &mut Connection<S>,
+    number: u32,
+    answer: Answer,
+) -> Result<Settled, StoreFault>
+    requires { conn.old.in_transaction ≡ false }
+    ensures ended { conn.new.in_transaction ≡ false }
+    ensures says { IfOk result (IsSettledBy (seen_answer answer)) }
+    ensures kept { HasCleanDisk (state S.Store conn.new) → IfOk result (λ settled. IsKept number (seen_answer answer) settled (state S.Store conn.old) (state S.Store conn.new)) }
+    ensures crash { Survives (state S.Store conn.old) (state S.Store conn.new) (MayNote number (state S.Store conn.old)) }
+{
+    match settled_by(answer) {
+        Settled::Acted(answer) => {
+            note_settled(conn, number, u32::from(answer.status), &answer.body)?;
+            Ok(Settled::Acted(answer))
+        }
+        Settled::Never => {
+            let back = Reply::refused(Refusal::MomentBack);
+            note_settled(conn, number, u32::from(back.status), back.body_bytes())?;
+            Ok(Settled::Never)
+        }
+        Settled::Open(answer) => Ok(Settled::Open(answer)),
+    }
+}
+
 /// Sends the entry of that number once more, byte for byte, over a connection that is there for it alone, and tells what
-/// has become of it. Nothing is recorded: the book stays. A reply with status 503 is none.
+/// has become of it. What was decided, `Acted` or `Never`, is recorded, and told from the book from then on: then
+/// nothing is sent. A reply with status 503 is none.
 pub fn settle<S: Alter, R: Read, W: Write>(
     alloc: Global,
     conn: &mut Connection<S>,
@@ -68,8 +106,16 @@ pub fn settle<S: Alter, R: Read, W: Write>(
         (R.remaining reader.old) (R.remaining reader.new) (W.contents writer.old) (W.contents writer.new)) }
     ensures fault { HasCleanDisk (state S.Store conn.new) → IfErr result (λ fault. FailsToSettle number fault (state S.Store conn.old) (state S.Store conn.new)
         (W.contents writer.old) (W.contents writer.new)) }
-    ensures crash { Survives (state S.Store conn.old) (state S.Store conn.new) (λ _. ⊥) }
+    ensures crash { Survives (state S.Store conn.old) (state S.Store conn.new) (MayNote number (state S.Store conn.old)) }
 {
+    match settlement_of(conn, number) {
+        Ok(None) => {}
+        Ok(Some(reply)) => match answer_in(alloc, &reply) {
+            Ok(answer) => return Ok(settled_by(answer)),
+            Err(fault) => return Err(SettleFault::Book(fault)),
+        },
+        Err(fault) => return Err(SettleFault::Book(fault)),
+    }
     let request = match request_of(conn, number) {
         Ok(Some(request)) => request,
         Ok(None) => return Err(SettleFault::NoEntry),
@@ -82,5 +128,8 @@ pub fn settle<S: Alter, R: Read, W: Write>(
     if answer.status == 503 {
         return Err(SettleFault::NotNow);
     }
-    Ok(settled_by(answer))
+    match keep(conn, number, answer) {
+        Ok(settled) => Ok(settled),
+        Err(fault) => Err(SettleFault::Book(fault)),
+    }
 }

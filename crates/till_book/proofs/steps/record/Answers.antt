@@ -1,21 +1,32 @@
-use Rattle.std.proofs.Common.{◌≡◌, ◌∙◌, refl, sym, subst, arith}
+use Rattle.std.proofs.Common.{◌∙◌, sym, subst}
 use Rattle.sqlite.specs.Held.{state}
-use Rattle.sqlite.specs.State.{HasCleanDisk}
+use Rattle.sqlite.specs.State.{HasCleanDisk, Survives}
 use Rattle.till_book.specs.Journal.{with_reply}
-use Rattle.till_book.specs.Steps.{Comes, IsNextReply}
-use Rattle.till_book.proofs.Resting.{begun_inside, comes}
+use Rattle.till_book.specs.Steps.{Comes, LeavesChanged, IsNextReply}
+use Rattle.till_book.proofs.Resting.{committed, left_behind}
 use Rattle.till_book.proofs.steps.record.Goals as goal
 
 pub returns-in-Ok-commit-clause-made : goal.returns-in-Ok-commit-clause-made
-returns-in-Ok-commit-clause-made g c clean =
-    let old = c.args.conn.now in
-    let mid = c.put_reply.new.tx.conn.now in
-    let end = c.commit.new.self.0 in
-    let same : end ≡ c.conn-1.given.0 = sym (c.conn-1.given.1 (sym (c.in-Ok.ensures.inside.same_reference ∙ c.transaction-tx.ensures.same_reference))) in
-    let clean_end : HasCleanDisk (state g.S.Store end) = subst (λ h. HasCleanDisk (state g.S.Store h)) (sym same) clean in
-    let clean_mid : HasCleanDisk (state g.S.Store mid) = omega (arith, clean_end, c.commit.ensures.survives.clean) in
-    let inside = begun_inside g.S.Store old c.transaction-tx.ensures.begun c.in-Ok.ensures.inside in
-    let writes = rw c.transaction-tx.ensures.begun at (c.in-Ok.ensures.put clean_mid) in
-    let change = with_reply (record { status = c.args.status; body = c.args.body.now }) in
-    subst (λ h. Comes (IsNextReply c.args.number) change (state g.S.Store old) (state g.S.Store h)) same
-    (comes g.S.Store old mid end (IsNextReply c.args.number) change writes (λ k. (inside.lives k refl).was_open) clean_mid g.met.S.Store.settled (c.in-Ok-commit.ensures.ok clean_end).1)
+returns-in-Ok-commit-clause-made g c =
+    let given = (IsNextReply c.args.number) in
+    let change = (with_reply (record { status = c.args.status; body = c.args.body.now })) in
+    let same = sym (c.conn-1.given.1 (sym (c.in-Ok.ensures.inside.same_reference ∙ c.transaction-tx.ensures.same_reference))) in
+    subst (λ h. HasCleanDisk (state g.S.Store h) → Comes given change (state g.S.Store c.args.conn.now) (state g.S.Store h)) same
+    (committed g.S.Store c.args.conn.now c.commit.new.self.0 given change c.transaction-tx.ensures.begun c.in-Ok.ensures.inside c.in-Ok.ensures.put c.commit.ensures.survives
+    g.met.S.Store.settled (λ k. (c.in-Ok-commit.ensures.ok k).1))
+
+pub returns-in-Ok-commit-clause-crash : goal.returns-in-Ok-commit-clause-crash
+returns-in-Ok-commit-clause-crash g c =
+    let given = (IsNextReply c.args.number) in
+    let change = (with_reply (record { status = c.args.status; body = c.args.body.now })) in
+    let same = sym (c.conn-1.given.1 (sym (c.in-Ok.ensures.inside.same_reference ∙ c.transaction-tx.ensures.same_reference))) in
+    subst (λ h. Survives (state g.S.Store c.args.conn.now) (state g.S.Store h) (LeavesChanged given change (state g.S.Store c.args.conn.now))) same
+    (left_behind g.S.Store c.args.conn.now c.commit.new.self.0 given change c.transaction-tx.ensures.begun c.in-Ok.ensures.inside c.in-Ok.ensures.put c.commit.ensures.survives)
+
+pub returns-in-Err-commit-clause-crash : goal.returns-in-Err-commit-clause-crash
+returns-in-Err-commit-clause-crash g c =
+    let given = (IsNextReply c.args.number) in
+    let change = (with_reply (record { status = c.args.status; body = c.args.body.now })) in
+    let same = sym (c.conn-1.given.1 (sym (c.in-Ok.ensures.inside.same_reference ∙ c.transaction-tx.ensures.same_reference))) in
+    subst (λ h. Survives (state g.S.Store c.args.conn.now) (state g.S.Store h) (LeavesChanged given change (state g.S.Store c.args.conn.now))) same
+    (left_behind g.S.Store c.args.conn.now c.commit.new.self.0 given change c.transaction-tx.ensures.begun c.in-Ok.ensures.inside c.in-Ok.ensures.put c.commit.ensures.survives)

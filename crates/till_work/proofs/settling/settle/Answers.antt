@@ -1,15 +1,13 @@
-use Rattle.std.proofs.Common.{◌≡◌, ◌≢◌, ◌∙◌, arith, List, ℕ, sym, ap, Some}
-use Rattle.std.specs.Prelude.{slice_get}
-use Rattle.till_client.specs.Replies.{seen_answer}
+use Rattle.sqlite.specs.Held.{state}
+use Rattle.till_work.proofs.Noting.{noted_after}
 use Rattle.till_work.proofs.settling.settle.Goals as goal
 
-pub returns-clause-settles : goal.returns-clause-settles
-returns-clause-settles g c clean journal rests =
-    let found = c.in-Ok-Some.ensures.found clean journal rests in
-    let request = c.as_slice.result.now in
-    let decided : c.in-Ok.answer.status ≢ 503 = λ e. absurd (omega (arith, e, c.if-answer-eq503.false)) in (
-      found.0,
-      λ i is.
-          let entry : slice_get journal.entries i ≡ Some request = sym (found.1 i is) ∙ c.in-Ok-Some.field-0-is ∙ ap (λ (l : List ℕ). Some l) (sym c.as_slice.ensures) in
-          (request, entry, record { answer = seen_answer c.in-Ok.answer; writes = c.in-Ok.ensures.sent; reads = c.in-Ok.ensures.told; decided = decided; says = c.settled_by.ensures }),
-    )
+pub returns-in-Ok-keep-clause-crash : goal.returns-in-Ok-keep-clause-crash
+returns-in-Ok-keep-clause-crash g c =
+    noted_after c.args.number (state g.S.Store c.args.conn.now) (state g.S.Store c.settlement_of.new.conn) (state g.S.Store c.request_of.new.conn) (state g.S.Store c.keep.new.conn)
+    c.settlement_of.ensures.crash c.request_of.ensures.crash c.settlement_of.ensures.stays (λ clean journal rests. (c.in-Ok-Some-request_of.ensures.found clean journal rests).0) c.keep.ensures.crash
+
+pub returns-clause-crash : goal.returns-clause-crash
+returns-clause-crash g c =
+    noted_after c.args.number (state g.S.Store c.args.conn.now) (state g.S.Store c.settlement_of.new.conn) (state g.S.Store c.request_of.new.conn) (state g.S.Store c.keep.new.conn)
+    c.settlement_of.ensures.crash c.request_of.ensures.crash c.settlement_of.ensures.stays (λ clean journal rests. (c.in-Ok-Some-request_of.ensures.found clean journal rests).0) c.keep.ensures.crash
