@@ -1,0 +1,4 @@
+pub mod CivilLemmas
+pub mod Joining
+pub mod MarkLemmas
+pub mod WordLemmas

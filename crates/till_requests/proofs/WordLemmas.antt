@@ -1,0 +1,32 @@
+-- Words as a JSON list of texts.
+use Rattle.std.proofs.Common.{◌≡◌, ◌≤◌, ℕ, List, [], ◌∷◌, refl, map, subst, arith}
+use Rattle.std.specs.Prelude.{Some, IsUtf8, Result, Ok, Err, IfOk}
+use Rattle.std.proofs.lemmas.Str.{is_utf8-from_IsUtf8}
+use Rattle.serde_json.specs.Data.{Data, string, array, depth, items_depth}
+use Rattle.serde_json.specs.Read.{read, max_depth}
+use Rattle.serde_json.specs.View.{items_of}
+use Rattle.shop_model.specs.Values.{Text}
+use Rattle.counter_routes.specs.Words.{texts_in, texts_of}
+
+-- the texts of a list are those that it was made of
+pub texts_are : (texts : List Text) → texts_in (items_of (map string texts)) ≡ Some texts
+texts_are [] = refl
+texts_are (text ∷ texts) = rw (texts_are texts) refl
+
+-- and none of them has anything in it
+pub flat : (texts : List Text) → items_depth (items_of (map string texts)) ≡ 0
+flat [] = refl
+flat (text ∷ texts) = rw (flat texts) refl
+
+-- what is read back of such a list's text are those texts
+pub texts_told : (body : List ℕ) (vs : List Data) (texts : List Text) → vs ≡ map string texts → IsUtf8 body
+    → (depth (array (items_of vs)) ≤ max_depth → read body ≡ Some (array (items_of vs))) → texts_of body ≡ Some texts
+texts_told body vs texts same utf8 back =
+    let P : List Data → Type 0 = λ l. depth (array (items_of l)) ≤ max_depth → read body ≡ Some (array (items_of l)) in
+    let none = flat texts in
+    let whole : read body ≡ Some (array (items_of (map string texts))) = subst P same back (omega (arith, none)) in
+    rw (is_utf8-from_IsUtf8 body utf8, whole) (texts_are texts)
+
+pub both_ok : {A E : Type 0} (r : Result A E) (P Q R : A → Type 0) → ((a : A) → P a → Q a → R a) → IfOk r P → IfOk r Q → IfOk r R
+both_ok (Ok a) P Q R f p q = f a p q
+both_ok (Err e) P Q R f p q = tt

@@ -1,0 +1,9 @@
+use Rattle.std.proofs.Common.{sym, subst, rules}
+use Rattle.std.specs.Prelude.{IsUtf8}
+use Rattle.till_requests.proofs.MarkLemmas.{mark-utf8}
+use Rattle.till_requests.proofs.marks.Mark.as_str.Goals as goal
+
+pub unwrap-requires : goal.unwrap-requires
+unwrap-requires c =
+    let utf8 : IsUtf8 c.as_slice.result.now = subst IsUtf8 (sym c.as_slice.ensures) (mark-utf8 c.self.inside.letters c.self.invariant) in
+    search rules

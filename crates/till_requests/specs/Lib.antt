@@ -1,0 +1,4 @@
+pub mod Marks
+pub mod Moments
+pub mod Requests
+pub mod Settings

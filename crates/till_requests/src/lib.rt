@@ -1,0 +1,22 @@
+//! The requests of a till's program as bytes, each read back by the server's own readers; and what a program keeps
+//! beside its book: moments, its mark and its settings.
+#![tactic(auto)]
+
+mod bodies;
+mod commands;
+mod looks;
+mod marks;
+mod moments;
+mod office;
+mod same;
+mod settings;
+mod sole;
+
+pub use commands::{NotBuilt, command_request, key_text};
+pub use looks::{get_bytes, look_request, view_request};
+pub use marks::{Mark, new_mark};
+pub use moments::{moment_at, next_moment};
+pub use office::{
+    NotSaid, OfficeLookSealed, OfficeSealed, is_office_look, office_look_request, office_request,
+};
+pub use settings::{NoSettings, Settings, read_settings, settings_text};

@@ -1,0 +1,252 @@
+//! Head office's words as requests to a running server.
+
+ghost use Rattle.std.specs.Prelude.{◌≡◌, IfOk, IfSome, List, Some, map, string_bytes};
+ghost use Rattle.shop_model.specs.Values.{Text};
+ghost use Rattle.shop_model.specs.Machine.{Office, OfficeLook};
+ghost use Rattle.shop_types.specs.Seen.{seen_office, seen_office_ask, seen_request};
+ghost use Rattle.till_model.specs.Numbered.{key_of};
+ghost use Rattle.till_requests.specs.Requests.{AsksOffice, SaysOffice, SaysOfficeLook, is_reading, with_key};
+ghost use Rattle.counter_routes.specs.Words.{texts_of};
+
+use crate::commands::key_text;
+use crate::marks::Mark;
+use crate::sole::sole_message;
+use counter_routes::{Reading, Routes};
+use office_words::{ClapWords, read_words};
+use serde_json::Value;
+use shop_types::{Caller, OfficeAsk, OfficeCommand, Request, Token, Usage};
+use std::alloc::{AllocError, Global};
+use till_client::post_bytes;
+
+/// Why words weren't made a request.
+#[derive(Drop)]
+pub enum NotSaid {
+    /// They are no command or reading of head office: a text tells how they are to be given.
+    Usage(String),
+    /// The server would read something else in the request, or what only the program itself can do.
+    Other,
+    /// There was no memory.
+    Memory,
+}
+
+impl From<AllocError> for NotSaid {
+    fn from(_error: AllocError) -> NotSaid {
+        NotSaid::Memory
+    }
+}
+
+/// A request of head office, and the command that it says.
+#[derive(Drop)]
+pub struct OfficeSealed {
+    pub bytes: Vec<u8>,
+    pub command: OfficeCommand,
+}
+
+/// A request of head office, and the reading that it says.
+#[derive(Drop)]
+pub struct OfficeLookSealed {
+    pub bytes: Vec<u8>,
+    pub ask: OfficeAsk,
+}
+
+/// Whether the words ask for a reading, which has no key.
+pub fn is_office_look(words: &[String]) -> bool
+    ensures { result ≡ is_reading (map string_bytes words.now) }
+{
+    match words {
+        [first, ..] => {
+            let word = first.as_str();
+            word == "sales" || word == "transit" || word == "audit" || word == "custody"
+        }
+        [] => false,
+    }
+}
+
+/// The words as a JSON list.
+fn list_text(alloc: Global, words: &[String]) -> Result<Vec<u8>, AllocError>
+    ensures { IfOk result (λ body. texts_of body.items ≡ Some (map string_bytes words.now)) }
+{
+    let mut list = Vec::with_capacity(alloc, words.len())?;
+    for word in words {
+        list.push_reserved(Value::try_from_str(alloc, word.as_str())?);
+    }
+    Value::Array(list).to_vec(alloc)
+}
+
+/// The words again.
+fn copied(alloc: Global, words: &[String]) -> Result<Vec<String>, AllocError>
+    ensures { IfOk result (λ all. map string_bytes all.items ≡ map string_bytes words.now) }
+{
+    let mut all = Vec::with_capacity(alloc, words.len())?;
+    for word in words {
+        all.push_reserved(String::from_str(alloc, word.as_str())?);
+    }
+    Ok(all)
+}
+
+/// The words with a key behind them.
+fn keyed(alloc: Global, words: &[String], key: &str) -> Result<Vec<String>, AllocError>
+    ensures { IfOk result (λ all. map string_bytes all.items ≡ with_key key.now (map string_bytes words.now)) }
+{
+    let mut all = copied(alloc, words)?;
+    let name = String::from_str(alloc, "--key")?;
+    let key = String::from_str(alloc, key)?;
+    all.push(name)?;
+    all.push(key)?;
+    Ok(all)
+}
+
+/// What is wrong with the words, where `clap` takes them for none.
+fn usage_of(alloc: Global, words: &[String]) -> Result<(), NotSaid> {
+    match read_words(alloc, words) {
+        Ok(_) => Ok(()),
+        Err(Usage::Words(text)) => Err(NotSaid::Usage(text)),
+        Err(Usage::Memory) => Err(NotSaid::Memory),
+    }
+}
+
+/// What the bytes ask of head office, where they are one message with that token and that body, over a connection of
+/// its own.
+fn asked_in(
+    alloc: Global,
+    routes: &Routes,
+    token: &Token,
+    bytes: &[u8],
+    body: &[u8],
+) -> Result<Request, NotSaid>
+    ensures { IfOk result (λ request. (words : List Text) → texts_of body.now ≡ Some words → AsksOffice bytes.now token.now words (seen_request request)) }
+{
+    let Some(message) = sole_message(token.as_bytes().as_slice(), bytes) else {
+        return Err(NotSaid::Other);
+    };
+    if message.body != body {
+        return Err(NotSaid::Other);
+    }
+    match routes.read(alloc, &ClapWords { alloc }, &message, Caller::Office) {
+        Ok(Reading::Asked(request)) => Ok(request),
+        Ok(Reading::Refused(_)) => Err(NotSaid::Other),
+        Err(_) => Err(NotSaid::Memory),
+    }
+}
+
+/// A request of head office, and its body.
+#[derive(Drop)]
+struct Posted {
+    bytes: Vec<u8>,
+    body: Vec<u8>,
+}
+
+/// The bytes of a request with these words, where they are a line.
+fn words_posted(alloc: Global, token: &Token, words: &[String]) -> Result<Posted, NotSaid>
+    ensures { IfOk result (λ it. texts_of it.body.items ≡ Some (map string_bytes words.now)) }
+{
+    usage_of(alloc, words)?;
+    let body = list_text(alloc, words)?;
+    let digits = token.as_bytes().as_slice();
+    let bytes = post_bytes(alloc, digits, b"/office", body.as_slice())?;
+    Ok(Posted { bytes, body })
+}
+
+/// The command, where the request is one of head office.
+fn command_of(request: Request) -> Option<OfficeCommand>
+    ensures { IfSome result (λ command. seen_request request ≡ Office (seen_office command)) }
+{
+    match request {
+        Request::Office(command) => Some(command),
+        Request::Do(_) | Request::Look(_) => None,
+        Request::View(_) | Request::OfficeLook(_) => None,
+    }
+}
+
+/// The reading, where the request is one of head office.
+fn look_of(request: Request) -> Option<OfficeAsk>
+    ensures { IfSome result (λ ask. seen_request request ≡ OfficeLook (seen_office_ask ask)) }
+{
+    match request {
+        Request::OfficeLook(ask) => Some(ask),
+        Request::Do(_) | Request::Look(_) => None,
+        Request::View(_) | Request::Office(_) => None,
+    }
+}
+
+/// The command with that key that the request says.
+fn command_said(
+    alloc: Global,
+    routes: &Routes,
+    token: &Token,
+    posted: &Posted,
+    key: &str,
+) -> Result<OfficeCommand, NotSaid>
+    ensures says { IfOk result (λ command. (words : List Text) → texts_of posted.now.body.items ≡ Some words
+        → SaysOffice posted.now.bytes.items token.now words (seen_office command)) }
+    ensures key { IfOk result (λ command. command.key ≡ key.now) }
+{
+    let bytes = posted.bytes.as_slice();
+    let request = asked_in(alloc, routes, token, bytes, posted.body.as_slice())?;
+    let Some(command) = command_of(request) else {
+        return Err(NotSaid::Other);
+    };
+    if command.key.as_str() != key {
+        return Err(NotSaid::Other);
+    }
+    Ok(command)
+}
+
+/// The reading that the request says.
+fn look_said(
+    alloc: Global,
+    routes: &Routes,
+    token: &Token,
+    posted: &Posted,
+) -> Result<OfficeAsk, NotSaid>
+    ensures { IfOk result (λ ask. (words : List Text) → texts_of posted.now.body.items ≡ Some words
+        → SaysOfficeLook posted.now.bytes.items token.now words (seen_office_ask ask)) }
+{
+    let bytes = posted.bytes.as_slice();
+    let request = asked_in(alloc, routes, token, bytes, posted.body.as_slice())?;
+    let Some(ask) = look_of(request) else {
+        return Err(NotSaid::Other);
+    };
+    Ok(ask)
+}
+
+/// The request of a command of head office: its whole bytes, over a connection of its own, and the command that they
+/// say. To the words the key is added of the entry of that number. The bytes are read back by the server's own readers.
+pub fn office_request(
+    alloc: Global,
+    routes: &Routes,
+    token: &Token,
+    mark: &Mark,
+    number: u32,
+    words: &[String],
+) -> Result<OfficeSealed, NotSaid>
+    ensures says { IfOk result (λ sealed. SaysOffice sealed.bytes.items token.now (with_key (key_of mark.now number) (map string_bytes words.now)) (seen_office sealed.command)) }
+    ensures key { IfOk result (λ sealed. sealed.command.key ≡ key_of mark.now number) }
+{
+    let key = key_text(alloc, mark, number)?;
+    let words = keyed(alloc, words, key.as_str())?;
+    let posted = words_posted(alloc, token, words.as_slice())?;
+    let command = command_said(alloc, routes, token, &posted, key.as_str())?;
+    Ok(OfficeSealed {
+        bytes: posted.bytes,
+        command,
+    })
+}
+
+/// The request of a reading of head office: its whole bytes, over a connection of its own, read back by the server's
+/// own readers.
+pub fn office_look_request(
+    alloc: Global,
+    routes: &Routes,
+    token: &Token,
+    words: &[String],
+) -> Result<OfficeLookSealed, NotSaid>
+    ensures { IfOk result (λ sealed. SaysOfficeLook sealed.bytes.items token.now (map string_bytes words.now) (seen_office_ask sealed.ask)) }
+{
+    let posted = words_posted(alloc, token, words)?;
+    let ask = look_said(alloc, routes, token, &posted)?;
+    Ok(OfficeLookSealed {
+        bytes: posted.bytes,
+        ask,
+    })
+}

@@ -1,0 +1,118 @@
+//! What a till's program is told once: where the server is, its token, who works at it, and its mark.
+
+ghost use Rattle.std.specs.Prelude.{◌≡◌, ◌++◌, IfOk};
+ghost use Rattle.till_requests.specs.Settings.{settings_lines, staff_line};
+
+use crate::marks::Mark;
+use shop_types::{StaffNo, T128, Token};
+use std::alloc::{AllocError, Global};
+
+/// The settings of a till's program.
+#[derive(Drop)]
+pub struct Settings {
+    /// `HOST:PORT`, without blanks.
+    pub address: T128,
+    pub token: Token,
+    /// The member of staff whose till it is; none is head office.
+    pub staff: Option<StaffNo>,
+    pub mark: Mark,
+}
+
+/// Why bytes are no settings.
+#[derive(Clone, Copy, Debug, PartialEq, Eq)]
+pub enum NoSettings {
+    /// They aren't the four lines.
+    Form,
+    /// There was no memory.
+    Memory,
+}
+
+impl From<AllocError> for NoSettings {
+    fn from(_error: AllocError) -> NoSettings {
+        NoSettings::Memory
+    }
+}
+
+fn push(text: &mut Vec<u8>, more: &[u8]) -> Result<(), AllocError>
+    ensures { IfOk result (λ _. text.new.items ≡ text.old.items ++ more.now) }
+{
+    text.extend_from_slice(more)
+}
+
+/// The line of the member of staff, or of head office.
+fn push_staff(text: &mut Vec<u8>, staff: Option<StaffNo>) -> Result<(), AllocError>
+    ensures { IfOk result (λ _. text.new.items ≡ text.old.items ++ staff_line staff) }
+{
+    match staff {
+        Some(staff) => {
+            let mut digits = itoa::Buffer::new();
+            push(text, b"staff ")?;
+            push(text, digits.format(staff.get()).as_bytes())
+        }
+        None => push(text, b"office"),
+    }
+}
+
+/// The text of settings, which `read_settings` reads: four lines, each ended by a line feed.
+pub fn settings_text(alloc: Global, settings: &Settings) -> Result<Vec<u8>, AllocError>
+    ensures { IfOk result (λ text. text.items ≡ settings_lines settings.now) }
+{
+    let mut text = Vec::from_slice(alloc, b"address ")?;
+    push(&mut text, settings.address.as_str().as_bytes())?;
+    push(&mut text, b"\ntoken ")?;
+    push(&mut text, settings.token.as_bytes().as_slice())?;
+    push(&mut text, b"\n")?;
+    push_staff(&mut text, settings.staff)?;
+    push(&mut text, b"\nmark ")?;
+    push(&mut text, settings.mark.as_bytes().as_slice())?;
+    push(&mut text, b"\n")?;
+    Ok(text)
+}
+
+/// The staff of a line: `staff N`, or `office`.
+fn staff_of(line: &str) -> Option<Option<StaffNo>> {
+    if line == "office" {
+        return Some(None);
+    }
+    let number = StaffNo::read(line.strip_prefix("staff ")?.as_bytes())?;
+    Some(Some(number))
+}
+
+/// The settings that four lines may be. Whether they are is seen by writing them again.
+fn parsed(alloc: Global, text: &str) -> Result<Settings, NoSettings> {
+    let mut lines = text.split('\n');
+    let address = lines.next().and_then(|line| line.strip_prefix("address "));
+    let token = lines.next().and_then(|line| line.strip_prefix("token "));
+    let staff = lines.next().and_then(staff_of);
+    let mark = lines.next().and_then(|line| line.strip_prefix("mark "));
+    let (Some(address), Some(token), Some(staff), Some(mark)) = (address, token, staff, mark) else {
+        return Err(NoSettings::Form);
+    };
+    if address.as_bytes().contains(&b' ') {
+        return Err(NoSettings::Form);
+    }
+    let address = T128::read(String::from_str(alloc, address)?).ok_or(NoSettings::Form)?;
+    let token = Token::read(token.as_bytes()).ok_or(NoSettings::Form)?;
+    let mark = Mark::read(mark.as_bytes()).ok_or(NoSettings::Form)?;
+    Ok(Settings {
+        address,
+        token,
+        staff,
+        mark,
+    })
+}
+
+/// The settings of a text: just the four lines that `settings_text` writes of them.
+pub fn read_settings(alloc: Global, text: &[u8]) -> Result<Settings, NoSettings>
+    ensures { IfOk result (λ settings. settings_lines settings ≡ text.now) }
+{
+    let Ok(lines) = std::str::from_utf8(text) else {
+        return Err(NoSettings::Form);
+    };
+    let settings = parsed(alloc, lines)?;
+    let written = settings_text(alloc, &settings)?;
+    if written.as_slice() != text {
+        return Err(NoSettings::Form);
+    }
+    Ok(settings)
+}
