@@ -1,0 +1,96 @@
+-- Lines that are known: the definition computes on words that are written out.
+use Rattle.std.proofs.Common.{◌≡◌, refl, [], ◌∷◌, Some, None, true, false, codes}
+use Rattle.clap.proofs.OnLiterals.{clap_on_literals}
+use Rattle.shop_types.specs.declared.command.Act.TheVariants as act
+use Rattle.till_words.specs.declared.words.TillAct.{TillAct}
+use Rattle.till_words.specs.declared.words.TillAct.TheVariants as till
+use Rattle.till_words.specs.declared.words.TillLine.{TillLine}
+use Rattle.till_words.specs.declared.words.TillLook.TheVariants as look
+use Rattle.till_words.specs.Line.{read_of, till_line_of}
+use Rattle.till_words.specs.PromptLine.{words_of}
+
+-- a line with nothing before its word
+abbrev line : TillAct → TillLine
+line act = record { book = None; is_json = false; staff = None; act = act }
+
+-- ---- places and names
+
+pub rent_by_places : till_line_of (codes "rent" ∷ codes "17" ∷ codes "4" ∷ []) ≡ Some (line (till.Do (act.Rent 17 4)))
+unfolding clap_on_literals read_of till_line_of
+rent_by_places = refl
+
+pub rent_by_names : till_line_of (codes "rent" ∷ codes "--copy" ∷ codes "4" ∷ codes "--customer=17" ∷ []) ≡ Some (line (till.Do (act.Rent 17 4)))
+unfolding clap_on_literals read_of till_line_of
+rent_by_names = refl
+
+-- what is given by its name leaves its place to the next one
+pub rent_by_both : till_line_of (codes "rent" ∷ codes "4" ∷ codes "--customer" ∷ codes "17" ∷ []) ≡ Some (line (till.Do (act.Rent 17 4)))
+unfolding clap_on_literals read_of till_line_of
+rent_by_both = refl
+
+pub rent_of_one_too_many : till_line_of (codes "rent" ∷ codes "17" ∷ codes "4" ∷ codes "5" ∷ []) ≡ None
+unfolding clap_on_literals read_of till_line_of
+rent_of_one_too_many = refl
+
+pub rent_without_copy : till_line_of (codes "rent" ∷ codes "17" ∷ []) ≡ None
+unfolding clap_on_literals read_of till_line_of
+rent_without_copy = refl
+
+-- ---- returns, amounts and lists
+
+pub return_of_a_copy : till_line_of (codes "return" ∷ codes "4" ∷ []) ≡ Some (line (till.ReturnCopy 4))
+unfolding clap_on_literals read_of till_line_of
+return_of_a_copy = refl
+
+pub return_of_both : till_line_of (codes "return" ∷ codes "4" ∷ codes "--rental" ∷ codes "9" ∷ []) ≡ None
+unfolding clap_on_literals read_of till_line_of
+return_of_both = refl
+
+pub pay_in_dollars : till_line_of (codes "pay" ∷ codes "17" ∷ codes "$4.99" ∷ codes "--rental" ∷ codes "9" ∷ [])
+    ≡ Some (line (till.Do (act.Pay 17 (Some 9) 499)))
+unfolding clap_on_literals read_of till_line_of
+pay_in_dollars = refl
+
+pub pay_of_one_digit : till_line_of (codes "pay" ∷ codes "17" ∷ codes "4.9" ∷ []) ≡ None
+unfolding clap_on_literals read_of till_line_of
+pay_of_one_digit = refl
+
+pub receive_but_two : till_line_of (codes "receive" ∷ codes "2" ∷ codes "7" ∷ codes "--missing" ∷ codes "1,3" ∷ [])
+    ≡ Some (line (till.Do (act.Receive 2 7 (1 ∷ 3 ∷ []))))
+unfolding clap_on_literals read_of till_line_of
+receive_but_two = refl
+
+pub receive_all : till_line_of (codes "receive" ∷ codes "2" ∷ codes "7" ∷ []) ≡ Some (line (till.Do (act.Receive 2 7 [])))
+unfolding clap_on_literals read_of till_line_of
+receive_all = refl
+
+-- ---- what is looked up
+
+pub customer_by_number : till_line_of (codes "customer" ∷ codes "17" ∷ []) ≡ Some (line (till.Look (look.Customer 17)))
+unfolding clap_on_literals read_of till_line_of
+customer_by_number = refl
+
+pub customer_by_name : till_line_of (codes "customer" ∷ codes "MARY" ∷ []) ≡ Some (line (till.Look (look.Customers (codes "MARY"))))
+unfolding clap_on_literals read_of till_line_of
+customer_by_name = refl
+
+-- ---- what stands before the word, and behind `office`
+
+pub no_words : till_line_of [] ≡ Some (line till.Prompt)
+unfolding clap_on_literals read_of till_line_of
+no_words = refl
+
+pub office_of_a_book : till_line_of (codes "--book" ∷ codes "b" ∷ codes "--json" ∷ codes "office" ∷ codes "audit" ∷ codes "--db" ∷ [])
+    ≡ Some (record { book = Some (codes "b"); is_json = true; staff = None; act = till.Office (codes "audit" ∷ codes "--db" ∷ []) })
+unfolding clap_on_literals read_of till_line_of
+office_of_a_book = refl
+
+-- ---- lines of a prompt
+
+pub quoted_blanks : words_of (codes "join IDA \"10 High St\"") ≡ Some (codes "join" ∷ codes "IDA" ∷ codes "10 High St" ∷ [])
+unfolding clap_on_literals read_of till_line_of
+quoted_blanks = refl
+
+pub open_quote : words_of (codes "join \"IDA") ≡ None
+unfolding clap_on_literals read_of till_line_of
+open_quote = refl

@@ -1,0 +1,8 @@
+use Rattle.std.proofs.Common.{◌≡◌}
+use Rattle.std.specs.Prelude.{fold}
+use Rattle.till_words.specs.PromptLine.{beginning, read_char}
+use Rattle.till_words.specs.Seen.{seen_reading}
+use Rattle.till_words.proofs.lines.words_of.Given as goal
+
+abbrev pub invariant-loop-c : goal.invariant-loop-c
+invariant-loop-c l = seen_reading l.reading ≡ fold read_char beginning l.yielded

@@ -1,0 +1,5 @@
+use Rattle.std.proofs.Common.{◌≡◌, ◌++◌, drop, map, string_bytes}
+use Rattle.till_words.proofs.named.copied.Given as goal
+
+abbrev pub invariant-loop-word : goal.invariant-loop-word
+invariant-loop-word l = map string_bytes l.copies.items ++ map string_bytes (drop l.word-index l.words) ≡ map string_bytes l.words

@@ -1,0 +1,12 @@
+use Rattle.std.proofs.Common.{◌≡◌, ◌<◌, ◌^◌, take, true}
+use Rattle.std.specs.List.{list_all}
+use Rattle.std.specs.Char.{is_ascii_digit}
+use Rattle.std.specs.Str.Parse.{digits_value}
+use Rattle.till_words.proofs.texts.five_digits.Given as goal
+
+abbrev pub invariant-loop-b : goal.invariant-loop-b
+invariant-loop-b l = record {
+  value : l.number ≡ digits_value 10 (take l.b-index l.bytes);
+  small : l.number < 10 ^ l.b-index;
+  digits : list_all is_ascii_digit (take l.b-index l.bytes) ≡ true;
+}

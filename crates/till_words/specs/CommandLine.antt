@@ -1,0 +1,124 @@
+-- The command line of a till, as the library `clap` sees it: `[--book FILE] [--json] [--staff N] WORD [OPTION]..`, without the program's name.
+use Rattle.std.specs.Prelude.{true, List, [], ◌∷◌, Some, codes, fold}
+use Rattle.clap.specs.Words.{App, Rule, Shape, Text, new_rule, with_subcommand}
+use Rattle.clap.specs.Simple.{new_shape}
+use Rattle.clap.specs.declared.builder.action.ArgAction.TheVariants.{SetTrue}
+use Rattle.clap.specs.declared.builder.value_parser.ValueParser.TheVariants as parser
+
+-- ---- options
+
+-- `--NAME TEXT`, which may be left out
+abbrev pub optional_rule : Text → Rule
+optional_rule name = record (new_rule name) { long = Some name }
+
+-- `--NAME TEXT`, which must be there
+abbrev pub text_rule : Text → Rule
+text_rule name = record (optional_rule name) { required = true }
+
+-- `--NAME TEXT`, which has a default
+abbrev pub default_rule : Text → Text → Rule
+default_rule name value = record (optional_rule name) { defaults = value ∷ [] }
+
+-- `--NAME NUMBER`, from 1 on, which may be left out
+abbrev pub optional_row_rule : Text → Rule
+optional_row_rule name = record (optional_rule name) { parser = Some (parser.Unsigned 1 4_294_967_295) }
+
+-- `--NAME NUMBER`, from 1 on, which must be there
+abbrev pub row_rule : Text → Rule
+row_rule name = record (optional_row_rule name) { required = true }
+
+-- `--NAME NUMBER`, from 1 on, which has a default
+abbrev pub default_row_rule : Text → Text → Rule
+default_row_rule name value = record (optional_row_rule name) { defaults = value ∷ [] }
+
+-- `--NAME`, which is there or not
+abbrev pub flag_rule : Text → Rule
+flag_rule name = record (optional_rule name) { action = Some SetTrue }
+
+-- ---- words
+
+abbrev pub word_shape : Text → List Rule → Shape
+word_shape name rules = record (new_shape name) { rules = rules }
+
+abbrev pub customer_rules : List Rule
+customer_rules = row_rule (codes "customer") ∷ []
+
+abbrev pub copy_rules : List Rule
+copy_rules = row_rule (codes "copy") ∷ []
+
+abbrev pub find_rules : List Rule
+find_rules = text_rule (codes "find") ∷ []
+
+abbrev pub rent_shape : Shape
+rent_shape = word_shape (codes "rent") (row_rule (codes "customer") ∷ row_rule (codes "copy") ∷ [])
+
+abbrev pub return_shape : Shape
+return_shape = word_shape (codes "return") (optional_row_rule (codes "copy") ∷ optional_row_rule (codes "rental") ∷ [])
+
+abbrev pub pay_shape : Shape
+pay_shape = word_shape (codes "pay")
+    (row_rule (codes "customer") ∷ text_rule (codes "amount") ∷ optional_row_rule (codes "rental") ∷ [])
+
+abbrev pub join_shape : Shape
+join_shape = word_shape (codes "join")
+    (text_rule (codes "first") ∷ text_rule (codes "last") ∷ text_rule (codes "address") ∷ text_rule (codes "phone")
+    ∷ row_rule (codes "city") ∷ default_rule (codes "postal") [] ∷ [])
+
+abbrev pub import_shape : Shape
+import_shape = word_shape (codes "import") (text_rule (codes "file") ∷ text_rule (codes "lot") ∷ [])
+
+abbrev pub dispatch_shape : Shape
+dispatch_shape = word_shape (codes "dispatch") (row_rule (codes "to") ∷ text_rule (codes "copies") ∷ [])
+
+abbrev pub receive_shape : Shape
+receive_shape = word_shape (codes "receive")
+    (row_rule (codes "from") ∷ row_rule (codes "number") ∷ default_rule (codes "missing") [] ∷ [])
+
+abbrev pub rewards_shape : Shape
+rewards_shape = word_shape (codes "rewards") (row_rule (codes "purchases") ∷ text_rule (codes "amount") ∷ [])
+
+abbrev pub last_shape : Shape
+last_shape = word_shape (codes "last") (default_row_rule (codes "count") (codes "10") ∷ [])
+
+abbrev pub init_shape : Shape
+init_shape = word_shape (codes "init")
+    (text_rule (codes "address") ∷ text_rule (codes "token") ∷ optional_row_rule (codes "staff") ∷ flag_rule (codes "office") ∷ [])
+
+-- ---- the whole line
+
+abbrev pub counter_shapes : List Shape
+counter_shapes = rent_shape ∷ return_shape ∷ pay_shape ∷ join_shape
+    ∷ word_shape (codes "bar") customer_rules ∷ word_shape (codes "unbar") customer_rules ∷ []
+
+abbrev pub stock_shapes : List Shape
+stock_shapes = import_shape ∷ dispatch_shape ∷ receive_shape ∷ word_shape (codes "scrap") copy_rules ∷ []
+
+abbrev pub found_shapes : List Shape
+found_shapes = word_shape (codes "customer") find_rules ∷ word_shape (codes "film") find_rules
+    ∷ word_shape (codes "in-stock") copy_rules ∷ word_shape (codes "held-by") copy_rules
+    ∷ word_shape (codes "copies") (row_rule (codes "film") ∷ []) ∷ word_shape (codes "balance") customer_rules ∷ []
+
+abbrev pub listed_shapes : List Shape
+listed_shapes = word_shape (codes "overdue") [] ∷ word_shape (codes "arrivals") [] ∷ word_shape (codes "sent") []
+    ∷ rewards_shape ∷ word_shape (codes "sales") [] ∷ []
+
+abbrev pub till_shapes : List Shape
+till_shapes = word_shape (codes "waiting") [] ∷ word_shape (codes "send") [] ∷ last_shape ∷ word_shape (codes "help") []
+    ∷ init_shape ∷ word_shape (codes "office") [] ∷ []
+
+-- the command line before its words
+abbrev pub top_app : App
+top_app = record {
+  top = record (new_shape (codes "till")) {
+    rules = optional_rule (codes "book") ∷ flag_rule (codes "json") ∷ optional_row_rule (codes "staff") ∷ [];
+    no_binary_name = true;
+    disable_help_subcommand = true;
+  };
+  subs = [];
+}
+
+abbrev pub with_shapes : App → List Shape → App
+with_shapes = fold with_subcommand
+
+abbrev pub till_app : App
+till_app = with_shapes (with_shapes (with_shapes (with_shapes (with_shapes top_app counter_shapes) stock_shapes) found_shapes) listed_shapes) till_shapes

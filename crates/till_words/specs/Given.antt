@@ -1,0 +1,75 @@
+-- What the options of a word say, each as a value of its kind: none where it isn't there or isn't of its kind.
+use Rattle.std.specs.Prelude.{◌≡◌, ℕ, Bool, false, List, Option, Some, None, Result, Ok, Err, option_map, codes, if◌then◌else◌}
+use Rattle.std.specs.Option.{option_map_or}
+use Rattle.std.specs.Str.{bytes_eq}
+use Rattle.clap.specs.Words.{Row, Text, first_of, found_of, rows_of}
+use Rattle.clap.specs.declared.parser.matches.ArgMatches.{ArgMatches}
+use Rattle.shop_values.specs.Numbers.{row_number_of}
+use Rattle.shop_values.specs.Texts.{is_text, is_key, is_token}
+use Rattle.shop_types.specs.NumberLists.{is_number_list}
+use Rattle.shop_types.specs.declared.line.Usage.{Usage}
+use Rattle.shop_types.specs.declared.line.Usage.TheVariants as usage
+use Rattle.till_words.specs.Texts.{with_value, amount_of, numbers_of, any_numbers_of}
+
+-- the values of the options
+abbrev pub values_of : ArgMatches → List Row
+values_of matches = rows_of (found_of matches)
+
+-- a reading gives the value where there is one, and fails where there is none; it may also fail for want of memory
+abbrev pub Reads : {A : Type 0} → Result A Usage → Option A → Type 0
+Reads (Ok value) found = found ≡ Some value
+Reads (Err e) found = ¬ (e ≡ usage.Memory) → found ≡ None
+
+-- ---- texts
+
+abbrev pub text_of : ℕ → ℕ → Text → Option Text
+text_of low high text = if is_text low high text then Some text else None
+
+abbrev pub text_given : ℕ → ℕ → Text → List Row → Option Text
+text_given low high id rows = with_value (first_of id rows) (text_of low high)
+
+abbrev pub optional_text_from : ℕ → ℕ → Option Text → Option (Option Text)
+optional_text_from low high None = Some None
+optional_text_from low high (Some text) = option_map Some (text_of low high text)
+
+-- a text that may be left out
+abbrev pub optional_text_given : ℕ → ℕ → Text → List Row → Option (Option Text)
+optional_text_given low high id rows = optional_text_from low high (first_of id rows)
+
+abbrev pub lot_given : List Row → Option Text
+lot_given rows = with_value (first_of (codes "lot") rows) (λ text. if is_key text then Some text else None)
+
+abbrev pub token_given : List Row → Option Text
+token_given rows = with_value (first_of (codes "token") rows) (λ text. if is_token text then Some text else None)
+
+-- whether the option is there
+abbrev pub flag_given : Text → List Row → Bool
+flag_given id rows = option_map_or (λ text. bytes_eq text (codes "true")) (first_of id rows) false
+
+-- ---- numbers
+
+-- the number of a row
+abbrev pub row_given : Text → List Row → Option ℕ
+row_given id rows = with_value (first_of id rows) row_number_of
+
+abbrev pub optional_row_from : Option Text → Option (Option ℕ)
+optional_row_from None = Some None
+optional_row_from (Some text) = option_map Some (row_number_of text)
+
+-- the number of a row, which may be left out
+abbrev pub optional_row_given : Text → List Row → Option (Option ℕ)
+optional_row_given id rows = optional_row_from (first_of id rows)
+
+-- in cents
+abbrev pub amount_given : List Row → Option ℕ
+amount_given rows = with_value (first_of (codes "amount") rows) amount_of
+
+abbrev pub short_list : List ℕ → Option (List ℕ)
+short_list numbers = if is_number_list numbers then Some numbers else None
+
+abbrev pub numbers_given : Text → List Row → Option (List ℕ)
+numbers_given id rows = with_value (first_of id rows) (λ text. with_value (numbers_of text) short_list)
+
+-- a list that may be empty
+abbrev pub any_numbers_given : Text → List Row → Option (List ℕ)
+any_numbers_given id rows = with_value (first_of id rows) (λ text. with_value (any_numbers_of text) short_list)

@@ -1,0 +1,9 @@
+pub mod CommandLine
+pub mod Table
+pub mod Places
+pub mod Texts
+pub mod Given
+pub mod Acts
+pub mod Line
+pub mod PromptLine
+pub mod Seen

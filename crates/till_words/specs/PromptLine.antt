@@ -1,0 +1,42 @@
+-- The words of a line: blanks part them, and double quotes keep blanks in a word.
+use Rattle.std.specs.Prelude.{ℕ, ◌==◌, ◌||◌, ◌&&◌, Bool, false, not, List, [], ◌++◌, Option, Some, None, fold, unwrap_or, option_to_list, encode_utf8, if◌then◌else◌}
+use Rattle.std.specs.Str.{chars}
+use Rattle.clap.specs.Words.{Text}
+
+-- the words so far, the word that is being read, and whether a quote is open
+pub record Reading : Type 0 where
+  pub words : List Text
+  pub word : Option Text
+  pub quoted : Bool
+
+abbrev pub beginning : Reading
+beginning = record { words = []; word = None; quoted = false }
+
+-- a space, a tab or the end of a line
+abbrev pub is_blank : ℕ → Bool
+is_blank c = c == 32 || (c == 9 || (c == 10 || c == 13))
+
+abbrev pub word_of : Reading → Text
+word_of r = unwrap_or r.word []
+
+-- the word is over, where one was begun
+abbrev pub ended : Reading → Reading
+ended r = record r { words = r.words ++ option_to_list r.word; word = None }
+
+-- the word has a character more
+abbrev pub longer : Reading → ℕ → Reading
+longer r c = record r { word = Some (word_of r ++ encode_utf8 c) }
+
+-- a quote is opened or closed; there is a word from then on, be it empty
+abbrev pub turned : Reading → Reading
+turned r = record r { word = Some (word_of r); quoted = not r.quoted }
+
+abbrev pub read_char : Reading → ℕ → Reading
+read_char r c = if c == 34 then turned r
+    else (if is_blank c && not r.quoted then ended r else longer r c)
+
+-- the words of the line, which are none where a quote is left open
+abbrev pub words_of : Text → Option (List Text)
+words_of line =
+    let r = fold read_char beginning (chars line) in
+    if r.quoted then None else Some (ended r).words

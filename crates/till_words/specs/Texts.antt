@@ -1,0 +1,61 @@
+-- Amounts in dollars and lists of numbers, as they are typed.
+use Rattle.std.specs.Prelude.{ℕ, ◌+◌, ◌*◌, ◌-◌, ◌==◌, ◌&&◌, Bool, List, [], ◌∷◌, length, take, drop, nat_le, nat_lt, Option, Some, None, option_and_then, option_map, if◌then◌else◌, slice_index}
+use Rattle.std.specs.List.{list_all, slice_split}
+use Rattle.std.specs.Char.{is_ascii_digit}
+use Rattle.std.specs.Str.Parse.{digits_value}
+use Rattle.clap.specs.Words.{Text}
+use Rattle.shop_values.specs.Numbers.{row_number_of}
+
+-- what the function makes of the value, where there is one
+abbrev pub with_value : {A B : Type 0} → Option A → (A → Option B) → Option B
+with_value found f = option_and_then f found
+
+-- ---- amounts
+
+-- the number that 1 to 5 digits write
+abbrev pub five_digits_value : Text → Option ℕ
+five_digits_value bytes = if nat_lt 0 (length bytes) && (nat_le (length bytes) 5 && list_all is_ascii_digit bytes)
+    then Some (digits_value 10 bytes) else None
+
+-- without the sign of the dollar (36) before it, where there is one
+abbrev pub without_dollar : Text → Text
+without_dollar [] = []
+without_dollar (b ∷ bytes) = if b == 36 then bytes else b ∷ bytes
+
+-- the third byte from the end is a point (46)
+abbrev pub has_point : Text → Bool
+has_point bytes = nat_le 3 (length bytes) && slice_index bytes (length bytes - 3) == 46
+
+-- dollars, a point and two digits
+abbrev pub dollars_and_cents : Text → Option ℕ
+dollars_and_cents bytes = with_value (five_digits_value (take (length bytes - 3) bytes)) (λ dollars.
+    with_value (five_digits_value (drop (length bytes - 2) bytes)) (λ cents. Some (dollars * 100 + cents)))
+
+abbrev pub whole_dollars : Text → Option ℕ
+whole_dollars bytes = option_map (λ dollars. dollars * 100) (five_digits_value bytes)
+
+-- the cents of an amount in dollars: `4.99`, `5`, `0.50` or `$5`
+abbrev pub cents_of : Text → Option ℕ
+cents_of text =
+    let bytes = without_dollar text in
+    if has_point bytes then dollars_and_cents bytes else whole_dollars bytes
+
+-- no more than 999.99 dollars
+abbrev pub amount_of : Text → Option ℕ
+amount_of text = with_value (cents_of text) (λ cents. if nat_le cents 99_999 then Some cents else None)
+
+-- ---- lists
+
+-- the numbers that the texts write, where each of them writes one
+abbrev pub all_numbers : List Text → Option (List ℕ)
+all_numbers [] = Some []
+all_numbers (text ∷ texts) = with_value (row_number_of text) (λ number. option_map (λ numbers. number ∷ numbers) (all_numbers texts))
+
+-- numbers with commas (44) between them
+abbrev pub numbers_of : Text → Option (List ℕ)
+numbers_of text = all_numbers (slice_split (λ b. b == 44) text)
+
+-- the same, where there may be none
+abbrev pub any_numbers_of : Text → Option (List ℕ)
+any_numbers_of [] = Some []
+any_numbers_of (b ∷ bytes) = numbers_of (b ∷ bytes)

@@ -1,0 +1,88 @@
+ghost use Rattle.std.specs.Prelude.{◌≡◌, Some, None, IfOk, IfErr, map, string_bytes};
+ghost use Rattle.clap.specs.Words.{found_of, rows_of, kind_of, fault_of, matches_of, subcommand_of, FailsBy, subcommand_rows_of};
+ghost use Rattle.shop_types.specs.declared.line.Usage.TheVariants as usage;
+ghost use Rattle.till_words.specs.CommandLine.{till_app};
+ghost use Rattle.till_words.specs.Given.{values_of, Reads};
+ghost use Rattle.till_words.specs.Places.{office_words, named_words};
+ghost use Rattle.till_words.specs.Line.{till_line_of, line_from, read_of, entered_act};
+
+use crate::words::{TillAct, TillLine};
+use crate::{acts, commands, given, named};
+use clap::error::ErrorKind;
+use clap::{ArgMatches, Error};
+use shop_types::Usage;
+use std::alloc::{AllocError, Global};
+
+/// What clap finds in the words.
+fn matches<'a>(alloc: Global, words: &'a [&'a str]) -> Result<ArgMatches<'a>, Error>
+    ensures fails { FailsBy (fault_of till_app (map (λ s. s.now) words.now)) result }
+    ensures ok { IfOk result (λ m. (rows_of (found_of m) ≡ matches_of till_app (map (λ s. s.now) words.now))
+        × (subcommand_rows_of m ≡ subcommand_of till_app (map (λ s. s.now) words.now))) }
+{
+    commands::till(alloc)?.try_get_matches_from(words)
+}
+
+/// What clap says of words that it refuses.
+fn refused(alloc: Global, error: &Error) -> Usage
+    ensures { kind_of error.now ≡ ErrorKind.OutOfMemory → result ≡ usage.Memory }
+{
+    if error.kind() == ErrorKind::OutOfMemory {
+        return Usage::Memory;
+    }
+    match error.to_string(alloc) {
+        Ok(text) => Usage::Words(text),
+        Err(_) => Usage::Memory,
+    }
+}
+
+/// What clap's finds in the words ask for.
+fn entered(alloc: Global, words: &[String], found: &ArgMatches<'_>) -> Result<TillAct, Usage>
+    ensures { Reads result (entered_act (office_words (map string_bytes words.now)) (subcommand_rows_of found.now)) }
+{
+    match found.subcommand() {
+        Some((name, inner)) => acts::act(alloc, words, name, inner),
+        None => Ok(TillAct::Prompt),
+    }
+}
+
+/// The line of words that clap takes.
+fn line(alloc: Global, words: &[String], found: &ArgMatches<'_>) -> Result<TillLine, Usage>
+    ensures { Reads result (line_from (office_words (map string_bytes words.now)) (values_of found.now) (subcommand_rows_of found.now)) }
+{
+    let staff = given::of_kind(alloc, given::optional_row(found, "staff"), given::NUMBER)?;
+    let book = given::optional_text(alloc, found, "book")?;
+    let act = entered(alloc, words, found)?;
+    Ok(TillLine {
+        book,
+        is_json: given::flag(found, "json"),
+        staff,
+        act,
+    })
+}
+
+/// The line of words of which each value stands behind its option's name.
+fn read_named(alloc: Global, words: &[String], named: &[&str]) -> Result<TillLine, Usage>
+    ensures { Reads result (read_of (office_words (map string_bytes words.now)) (map (λ s. s.now) named.now)) }
+{
+    match matches(alloc, named) {
+        Ok(found) => line(alloc, words, &found),
+        Err(error) => Err(refused(alloc, &error)),
+    }
+}
+
+/// The line that the words are, without the program's name. Where they are none it is `Usage::Words`, with the text that tells how they are to be given, and
+/// where memory is wanting `Usage::Memory`.
+pub fn read_till_words(alloc: Global, words: &[String]) -> Result<TillLine, Usage>
+    ensures ok { IfOk result (λ line. till_line_of (map string_bytes words.now) ≡ Some line) }
+    ensures refused { IfErr result (λ e. ¬ (e ≡ usage.Memory) → till_line_of (map string_bytes words.now) ≡ None) }
+{
+    match named::named_words(alloc, words) {
+        Ok(named) => read_named(alloc, words, named.as_slice()),
+        Err(_) => Err(Usage::Memory),
+    }
+}
+
+/// What the words of a till are, for one who asks for help.
+pub fn help_text(alloc: Global) -> Result<String, AllocError> {
+    commands::till(alloc)?.render_help()
+}

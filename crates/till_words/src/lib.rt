@@ -1,0 +1,17 @@
+//! The words that are typed at a till, as the library `clap` reads them.
+#![tactic(auto)]
+
+mod acts;
+mod clap_words;
+mod commands;
+mod given;
+mod lines;
+mod named;
+mod options;
+mod places;
+mod texts;
+mod words;
+
+pub use clap_words::{help_text, read_till_words};
+pub use lines::split_line;
+pub use words::{Beginning, FileName, TillAct, TillLine, TillLook, WordList};

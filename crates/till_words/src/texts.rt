@@ -1,0 +1,125 @@
+//! Amounts in dollars and lists of numbers, as they are typed.
+
+ghost use Rattle.std.specs.Prelude.{◌≡◌, ◌<◌, ◌==◌, true, IfOk, IfSome, map, option_map};
+ghost use Rattle.std.specs.List.{slice_split};
+ghost use Rattle.till_words.specs.Texts as spec;
+
+use shop_types::RowNumber;
+use std::alloc::{AllocError, Global};
+
+// ---- amounts
+
+/// The number that 1 to 5 digits write.
+fn five_digits(bytes: &[u8]) -> Option<u32>
+    ensures value { result ≡ spec.five_digits_value bytes.now }
+    ensures bound { IfSome result (λ n. n < 100_000) }
+{
+    if bytes.is_empty() || bytes.len() > 5 {
+        return None;
+    }
+    let mut number = 0u32;
+    for b in bytes {
+        if !b.is_ascii_digit() {
+            return None;
+        }
+        number = number * 10 + u32::from(*b - b'0');
+    }
+    Some(number)
+}
+
+/// Without the sign of the dollar before it, where there is one.
+fn without_dollar(bytes: &[u8]) -> &[u8]
+    ensures { result.now ≡ spec.without_dollar bytes.now }
+{
+    match bytes {
+        [b'$', rest @ ..] => rest,
+        _ => bytes,
+    }
+}
+
+/// Whether the third byte from the end is a point.
+fn has_point(bytes: &[u8]) -> bool
+    ensures { result ≡ spec.has_point bytes.now }
+{
+    bytes.len() >= 3 && bytes[bytes.len() - 3] == b'.'
+}
+
+/// Dollars, a point and two digits.
+fn dollars_and_cents(bytes: &[u8]) -> Option<u32>
+    requires { spec.has_point bytes.now ≡ true }
+    ensures { result ≡ spec.dollars_and_cents bytes.now }
+{
+    let point = bytes.len() - 3;
+    let dollars = five_digits(&bytes[..point])?;
+    let cents = five_digits(&bytes[point + 1..])?;
+    Some(dollars * 100 + cents)
+}
+
+fn whole_dollars(bytes: &[u8]) -> Option<u32>
+    ensures { result ≡ spec.whole_dollars bytes.now }
+{
+    let dollars = five_digits(bytes)?;
+    Some(dollars * 100)
+}
+
+/// The cents of an amount in dollars: `4.99`, `5`, `0.50` or `$5`.
+pub(crate) fn cents_of(text: &str) -> Option<u32>
+    ensures { result ≡ spec.cents_of text.now }
+{
+    let bytes = without_dollar(text.as_bytes());
+    if has_point(bytes) {
+        dollars_and_cents(bytes)
+    } else {
+        whole_dollars(bytes)
+    }
+}
+
+// ---- lists
+
+/// What stands between the commas.
+fn pieces<'a>(alloc: Global, text: &'a str) -> Result<Vec<&'a str>, AllocError>
+    ensures { IfOk result (λ found. map (λ s. s.now) found.items ≡ slice_split (λ b. b == 44) text.entry.now) }
+{
+    text.split(',').collect(alloc)
+}
+
+/// The numbers that the pieces write, or none where one of them writes none.
+fn all_numbers<const KIND: u8>(
+    alloc: Global,
+    pieces: &[&str],
+) -> Result<Option<Vec<RowNumber<KIND>>>, AllocError>
+    ensures { IfOk result (λ found. option_map (λ v. v.items) found ≡ spec.all_numbers (map (λ s. s.now) pieces.now)) }
+{
+    let mut numbers = Vec::new(alloc);
+    for piece in pieces {
+        let Some(number) = RowNumber::read(piece.as_bytes()) else {
+            return Ok(None);
+        };
+        numbers.push(number)?;
+    }
+    Ok(Some(numbers))
+}
+
+/// The numbers of a list with commas between them, or none where a part isn't one.
+pub(crate) fn numbers_of<const KIND: u8>(
+    alloc: Global,
+    text: &str,
+) -> Result<Option<Vec<RowNumber<KIND>>>, AllocError>
+    ensures { IfOk result (λ found. option_map (λ v. v.items) found ≡ spec.numbers_of text.now) }
+{
+    let pieces = pieces(alloc, text)?;
+    all_numbers(alloc, pieces.as_slice())
+}
+
+/// The same, where there may be none.
+pub(crate) fn any_numbers_of<const KIND: u8>(
+    alloc: Global,
+    text: &str,
+) -> Result<Option<Vec<RowNumber<KIND>>>, AllocError>
+    ensures { IfOk result (λ found. option_map (λ v. v.items) found ≡ spec.any_numbers_of text.now) }
+{
+    if text.is_empty() {
+        return Ok(Some(Vec::new(alloc)));
+    }
+    numbers_of(alloc, text)
+}
