@@ -1,0 +1,3 @@
+pub mod MomentLemmas
+pub mod NumberLemmas
+pub mod TableLemmas

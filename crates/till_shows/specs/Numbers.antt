@@ -1,0 +1,12 @@
+-- Numbers in a row, with commas between.
+use Rattle.std.specs.Prelude.{ℕ, List, [], ◌∷◌, ◌++◌, codes, decimal}
+use Rattle.std.specs.List.{fold}
+use Rattle.shop_model.specs.Values.{Text}
+
+-- a number more, behind a comma where something stands before
+abbrev pub with_number : Text → ℕ → Text
+with_number [] n = decimal n
+with_number (x ∷ xs) n = (x ∷ xs) ++ (codes ", " ++ decimal n)
+
+abbrev pub commas : List ℕ → Text
+commas ns = fold with_number [] ns

@@ -1,0 +1,86 @@
+-- What a refusal means to somebody at a counter, and what to do about it: two sentences for each.
+use Rattle.std.specs.Prelude.{◌++◌, codes, decimal}
+use Rattle.shop_model.specs.Values.{Text}
+use Rattle.shop_types.specs.declared.refusal.Refusal.{Refusal}
+use Rattle.shop_types.specs.declared.refusal.Refusal.TheVariants as refusal
+
+-- what is so
+abbrev pub fact_text : Refusal → Text
+fact_text refusal.BadHead = codes "The server didn't understand this till."
+fact_text refusal.TooLong = codes "What was entered is too long."
+fact_text refusal.NoCounter = codes "The server doesn't know this till."
+fact_text refusal.NoRoute = codes "The server has nothing like that for this till."
+fact_text refusal.BadBody = codes "Something in this entry isn't of the right form."
+fact_text refusal.KeyUsed = codes "This entry was done before, in another form."
+fact_text refusal.Full = codes "The branch's books can take in no more."
+fact_text refusal.MomentBack = codes "The branch's last command was given later than this till's clock says."
+fact_text refusal.NoStaff = codes "No such member of staff works at this branch."
+fact_text refusal.NoCustomer = codes "The branch has no such customer."
+fact_text refusal.CustomerInactive = codes "That customer may not rent."
+fact_text refusal.NoCopy = codes "The branch has no such copy."
+fact_text refusal.CopyNotHere = codes "That copy was sent to another branch or scrapped."
+fact_text refusal.CopyOut = codes "A customer has that copy."
+fact_text refusal.FilmWithdrawn = codes "That film is withdrawn."
+fact_text refusal.SameMoment = codes "The customer rented that copy at this very moment before."
+fact_text refusal.NoRental = codes "The branch has no such rental."
+fact_text refusal.RentalReturned = codes "That rental was returned before."
+fact_text refusal.WrongCustomer = codes "That rental is another customer's."
+fact_text refusal.NoFilm = codes "There is no such film."
+fact_text refusal.LotIn = codes "The branch has a lot of that name."
+fact_text (refusal.BadCsv fault) = codes "The stock file is at fault."
+fact_text refusal.NoBranch = codes "There is no such branch."
+fact_text refusal.OwnBranch = codes "A branch sends nothing to itself."
+fact_text refusal.NoArrival = codes "No such consignment was sent to this branch."
+fact_text refusal.ArrivalReceived = codes "That consignment was received before."
+fact_text refusal.BadLines = codes "The copies or the lines that were named don't fit."
+fact_text refusal.BadThreshold = codes "A threshold is nothing."
+fact_text refusal.TokenTaken = codes "Somebody else has that token."
+fact_text refusal.NoSharedRow = codes "There is no such country, city, language, category or actor."
+fact_text refusal.Already = codes "What was asked for is so already."
+fact_text refusal.Usage = codes "Those words are no command."
+fact_text refusal.Memory = codes "The server had no room for this just now."
+fact_text refusal.Size = codes "The server can't keep anything of that size."
+fact_text refusal.StoreFailed = codes "The server can't get at its books."
+
+-- what to do about it
+abbrev pub advice_text : Refusal → Text
+advice_text refusal.BadHead = codes "Stop, and call whoever keeps the program."
+advice_text refusal.TooLong = codes "Stop, and call whoever keeps the program."
+advice_text refusal.NoCounter = codes "Stop, and have the till's token looked at."
+advice_text refusal.NoRoute = codes "Stop, and call whoever keeps the program."
+advice_text refusal.BadBody = codes "Look at it, and enter it anew in the right form."
+advice_text refusal.KeyUsed = codes "Look at what was done, and don't enter it again."
+advice_text refusal.Full = codes "Tell the manager."
+advice_text refusal.MomentBack = codes "Check the clock; the till tries again by itself."
+advice_text refusal.NoStaff = codes "Look at the number of the member of staff."
+advice_text refusal.NoCustomer = codes "Look the customer up in the list of customers."
+advice_text refusal.CustomerInactive = codes "Ask the manager."
+advice_text refusal.NoCopy = codes "Look at the number on the copy."
+advice_text refusal.CopyNotHere = codes "Put it aside, and tell the manager."
+advice_text refusal.CopyOut = codes "See who: held-by COPY."
+advice_text refusal.FilmWithdrawn = codes "Neither rent it out nor take copies of it in."
+advice_text refusal.SameMoment = codes "Wait a second; the till tries again by itself."
+advice_text refusal.NoRental = codes "Look at the number of the rental."
+advice_text refusal.RentalReturned = codes "There is nothing to do: the copy is in."
+advice_text refusal.WrongCustomer = codes "Look at the numbers of the customer and the rental."
+advice_text refusal.NoFilm = codes "Look the film up in the list of films."
+advice_text refusal.LotIn = codes "Give another name only where this is another box."
+advice_text (refusal.BadCsv fault) = codes "Mend that line and import it again."
+advice_text refusal.NoBranch = codes "Look at the number of the branch."
+advice_text refusal.OwnBranch = codes "Look at the number of the branch."
+advice_text refusal.NoArrival = codes "Look at the list of arrivals."
+advice_text refusal.ArrivalReceived = codes "There is nothing to do: it is in."
+advice_text refusal.BadLines = codes "Name each copy once and a hundred at most, and missing lines in rising order."
+advice_text refusal.BadThreshold = codes "Give thresholds above nothing."
+advice_text refusal.TokenTaken = codes "Draw another token."
+advice_text refusal.NoSharedRow = codes "Look at its number."
+advice_text refusal.Already = codes "There is nothing to do."
+advice_text refusal.Usage = codes "Look at how the command is written."
+advice_text refusal.Memory = codes "Wait a little; the till tries again by itself."
+advice_text refusal.Size = codes "Stop, and call whoever keeps the program."
+advice_text refusal.StoreFailed = codes "Call whoever keeps the program; the till tries again by itself."
+
+-- both sentences, with the line of a stock file that is at fault
+abbrev pub told_text : Refusal → Text
+told_text (refusal.BadCsv fault) = codes "The stock file is at fault in line " ++ (decimal fault.line ++ (codes ". " ++ advice_text (refusal.BadCsv fault)))
+told_text it = fact_text it ++ (codes " " ++ advice_text it)

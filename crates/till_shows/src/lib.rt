@@ -1,0 +1,34 @@
+//! The texts that the till's program prints for a cashier: money, moments, what a refusal means and what to do about it, tables, and what replies say.
+#![tactic(auto)]
+
+mod bodies;
+mod cents;
+mod entries;
+mod lists;
+mod looks;
+mod moments;
+mod numbers;
+mod parts;
+mod refusals;
+mod replies;
+mod sheets;
+mod tables;
+mod told;
+
+pub use bodies::NotShown;
+pub use cents::money;
+pub use entries::asks_for;
+pub use lists::{
+    arrivals, customer_named, customers_with, film_named, films_with, overdue,
+    sales_by_film_category, sales_by_store, sent,
+};
+pub use looks::{
+    balance_line, film_in_stock_line, film_not_in_stock_line, holder, holder_line, in_stock_line,
+    rewards_line,
+};
+pub use moments::{age_words, day_words, moment_words};
+pub use refusals::{Sentences, sentences_on, told_refusal};
+pub use replies::reply_line;
+pub use sheets::{customer_sheet, film_sheet};
+pub use tables::{Column, Row, Side, Table};
+pub use told::refusal_in;
