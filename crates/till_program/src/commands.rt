@@ -1,0 +1,183 @@
+//! A command is entered, sent, and answered.
+
+ghost use Rattle.std.specs.Prelude.{◌≡◌, false};
+
+use crate::book::Book;
+use crate::caches::Shelf;
+use crate::desk::Desk;
+use crate::fault::TillFault;
+use crate::lists::name_if_known;
+use crate::said::Said;
+use shop_types::{Act, CustomerNo, Refusal};
+use sqlite::{Alter, Connection};
+use std::time::Clock;
+use till_client::Answer;
+use till_desk::{Server, Watch, enter, send_waiting};
+use till_requests::{command_request, next_moment};
+use till_shows::{money, refusal_in, reply_line, told_refusal};
+
+/// By how many seconds more than the clock says a command goes again whose moment was behind the branch's.
+const AHEAD: [u64; 8] = [0, 1, 3, 7, 15, 31, 63, 119];
+
+/// How many seconds an entry's moment may be ahead of the clock.
+const SPAN: u64 = 120;
+
+/// What an entry was told.
+#[derive(Drop)]
+pub(crate) struct Told {
+    pub(crate) number: u32,
+    pub(crate) answer: Answer,
+}
+
+impl Told {
+    pub(crate) fn refusal(&self) -> Option<Refusal> {
+        refusal_in(self.answer.status, self.answer.body.as_slice())
+    }
+
+    pub(crate) fn is_accepted(&self) -> bool {
+        self.answer.status == 200
+    }
+}
+
+/// Enters a command behind the last entry, at the clock's moment or so many seconds behind it.
+fn enter_act<S: Alter, K: Clock, V: Server, L: Shelf>(
+    desk: &Desk<'_, K, V, L>,
+    conn: &mut Connection<S>,
+    book: &mut Book,
+    act: &Act,
+    ahead: u64,
+) -> Result<(), TillFault>
+    requires { conn.old.in_transaction ≡ false }
+    ensures ended { conn.new.in_transaction ≡ false }
+{
+    let staff = desk.giver()?;
+    let now = desk.now()?;
+    let at = next_moment(now, book.last, ahead).ok_or(TillFault::System)?;
+    let over = at.seconds().saturating_sub(now.seconds());
+    if over > SPAN {
+        return Err(TillFault::Ahead(over - SPAN));
+    }
+    let number = book.place.entries.checked_add(1).ok_or(TillFault::Full)?;
+    let settings = desk.settings;
+    let request = command_request(
+        desk.alloc,
+        desk.routes,
+        &settings.token,
+        &settings.mark,
+        number,
+        staff,
+        at,
+        act,
+    )?;
+    enter(desk.alloc, conn, desk.identity(), &mut book.place, request)?;
+    book.last = Some(at);
+    Ok(())
+}
+
+/// Enters a command, and sends what waits and then it. One whose moment was behind the branch's never acts, and is entered anew, later and later, up to two minutes
+/// ahead of the clock.
+pub(crate) fn give<S: Alter, K: Clock, V: Server, L: Shelf, W: Watch>(
+    desk: &Desk<'_, K, V, L>,
+    conn: &mut Connection<S>,
+    book: &mut Book,
+    act: &Act,
+    watch: &mut W,
+) -> Result<Told, TillFault>
+    requires { conn.old.in_transaction ≡ false }
+    ensures ended { conn.new.in_transaction ≡ false }
+{
+    let mut told = Err(TillFault::OtherBook);
+    'tries: for ahead in AHEAD {
+        enter_act(desk, conn, book, act, ahead)?;
+        let sent = send_waiting(
+            desk.alloc,
+            desk.clock,
+            desk.server,
+            watch,
+            conn,
+            &mut book.place,
+        )?;
+        let Some(answer) = sent else {
+            return Err(TillFault::OtherBook);
+        };
+        let it = Told {
+            number: book.place.entries,
+            answer,
+        };
+        let is_back = matches!(it.refusal(), Some(Refusal::MomentBack));
+        told = Ok(it);
+        if !is_back {
+            break;
+        }
+    }
+    told
+}
+
+/// What is said behind the line of an accepted command: to whom, or how much.
+fn besides<K: Clock, V: Server, L: Shelf>(
+    desk: &Desk<'_, K, V, L>,
+    act: &Act,
+) -> Result<String, TillFault> {
+    let alloc = desk.alloc;
+    match act {
+        Act::Rent { customer, copy } => {
+            let name = called(desk, *customer)?;
+            Ok(format!(in alloc; ": copy {} to {name}", copy.get())?)
+        }
+        Act::Pay {
+            customer,
+            amount,
+            ..
+        } => {
+            let name = called(desk, *customer)?;
+            let amount = money(alloc, i64::from(amount.get())).map_err(|_| TillFault::Memory)?;
+            Ok(format!(in alloc; ": {amount} from {name}")?)
+        }
+        Act::Customer(person) => {
+            Ok(format!(in alloc; ": {} {}", person.first.as_str(), person.last.as_str())?)
+        }
+        _ => Ok(String::new(alloc)),
+    }
+}
+
+/// The customer's name, where the till has it, and else the number.
+pub(crate) fn called<K: Clock, V: Server, L: Shelf>(
+    desk: &Desk<'_, K, V, L>,
+    customer: CustomerNo,
+) -> Result<String, TillFault> {
+    match name_if_known(desk, customer) {
+        Some(name) => Ok(name),
+        None => {
+            let alloc = desk.alloc;
+            Ok(format!(in alloc; "customer {}", customer.get())?)
+        }
+    }
+}
+
+/// Says what became of a command.
+pub(crate) fn tell<K: Clock, V: Server, L: Shelf>(
+    desk: &Desk<'_, K, V, L>,
+    act: &Act,
+    told: &Told,
+) -> Result<Said, TillFault> {
+    let alloc = desk.alloc;
+    let mut said = Said::done(alloc);
+    let body = told.answer.body.as_slice();
+    if !told.is_accepted() {
+        said.status = 1;
+    }
+    if desk.is_json {
+        let text = std::str::from_utf8(body).map_err(|_| TillFault::Foreign)?;
+        said.line(text)?;
+        return Ok(said);
+    }
+    match told.refusal() {
+        Some(refusal) => said.line(told_refusal(alloc, refusal)?.as_str())?,
+        None => {
+            let mut line = reply_line(alloc, body)?;
+            line.push_str(besides(desk, act)?.as_str())?;
+            said.line(line.as_str())?;
+        }
+    }
+    Ok(said)
+}

@@ -1,0 +1,91 @@
+//! What a till has beside its book.
+
+use crate::caches::Shelf;
+use crate::fault::TillFault;
+use counter_routes::Routes;
+use shop_types::{Moment, StaffNo};
+use std::alloc::Global;
+use std::time::{Clock, Duration};
+use till_client::{Answer, ask};
+use till_desk::{Identity, Server};
+use till_requests::{Settings, moment_at};
+
+/// How often something is asked for that changes nothing.
+const ROUNDS: u64 = 3;
+
+/// What a till works with beside its book: a clock, the way to the server, a shelf for lists, the server's own reader of requests, and its settings.
+#[derive(Drop)]
+pub struct Desk<'d, K: Clock, V: Server, L: Shelf> {
+    pub alloc: Global,
+    pub clock: &'d K,
+    pub server: &'d V,
+    pub shelf: &'d L,
+    pub routes: &'d Routes,
+    pub settings: &'d Settings,
+    /// Who gives the word, where it isn't whose till it is.
+    pub staff: Option<StaffNo>,
+    /// Whether the server's bodies are printed as they are.
+    pub is_json: bool,
+}
+
+impl<K: Clock, V: Server, L: Shelf> Desk<'_, K, V, L> {
+    pub(crate) fn identity(&self) -> Identity<'_> {
+        Identity {
+            routes: self.routes,
+            mark: self.settings.mark.as_bytes().as_slice(),
+            token: self.settings.token.as_bytes().as_slice(),
+        }
+    }
+
+    /// The seconds since 1970, by the clock.
+    pub(crate) fn seconds(&self) -> Result<u64, TillFault> {
+        Ok(self.clock.since_1970()?.as_secs())
+    }
+
+    /// The moment by the clock.
+    pub(crate) fn now(&self) -> Result<Moment, TillFault> {
+        moment_at(self.seconds()?).ok_or(TillFault::System)
+    }
+
+    /// The moment by the clock, or the last entry's where that is later: what was entered counts in it.
+    pub(crate) fn now_behind(&self, last: Option<Moment>) -> Result<Moment, TillFault> {
+        let now = self.now()?;
+        match last {
+            Some(last) if now.is_earlier(last) => Ok(last),
+            _ => Ok(now),
+        }
+    }
+
+    /// Who gives the word.
+    pub(crate) fn giver(&self) -> Result<StaffNo, TillFault> {
+        match self.staff.or(self.settings.staff) {
+            Some(staff) => Ok(staff),
+            None => Err(TillFault::IsOffice),
+        }
+    }
+
+    /// Asks over one connection.
+    fn asked(&self, request: &[u8]) -> Result<Answer, TillFault> {
+        let Ok((mut reader, mut writer)) = self.server.connect() else {
+            return Err(TillFault::Silent);
+        };
+        match ask(self.alloc, &mut reader, &mut writer, request) {
+            Ok(answer) if answer.status == 503 => Err(TillFault::Silent),
+            Ok(answer) => Ok(answer),
+            Err(_) => Err(TillFault::Silent),
+        }
+    }
+
+    /// Asks for something that changes nothing, up to three times.
+    pub(crate) fn ask(&self, request: &[u8]) -> Result<Answer, TillFault> {
+        'rounds: for round in 0..ROUNDS {
+            if round > 0 {
+                self.clock.sleep(Duration::from_millis(200 * round));
+            }
+            if let Ok(answer) = self.asked(request) {
+                return Ok(answer);
+            }
+        }
+        Err(TillFault::Silent)
+    }
+}

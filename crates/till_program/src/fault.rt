@@ -1,0 +1,198 @@
+//! What keeps the till from doing a word.
+
+use std::alloc::{AllocError, AllocFailed};
+use std::{fmt, io};
+use till_desk::DeskFault;
+use till_files::BookFault;
+use till_requests::{NoSettings, NotBuilt};
+use till_shows::NotShown;
+
+/// Why the till didn't do a word, or can't say yet what became of it.
+#[derive(Clone, Copy, Debug, PartialEq, Eq)]
+pub enum TillFault {
+    /// The book can't be read or written.
+    Book,
+    /// Another window has the book.
+    Busy,
+    /// There is no book of that name.
+    NoBook,
+    /// The file is no till's book.
+    NotABook,
+    /// There is a book of that name already.
+    Already,
+    /// The book has as many entries as it can.
+    Full,
+    /// There was no memory.
+    Memory,
+    /// A file, the clock or the terminal failed.
+    System,
+    /// There are no settings beside the book, or they aren't of their form.
+    Settings,
+    /// The book is another till's, or its settings are another book's.
+    OtherBook,
+    /// The last entry's moment is so many seconds ahead of the clock.
+    Ahead(u64),
+    /// No reply came.
+    Unanswered,
+    /// The server had no memory, room or store.
+    NotNow,
+    /// Something was asked for that changes nothing, and no reply came, or the server had no memory or store for one.
+    Silent,
+    /// What came is no reply of the server's.
+    Foreign,
+    /// The till has no rental of that copy.
+    NoRental,
+    /// A rent of that copy has no reply yet.
+    RentWaits,
+    /// The stock file can't be read.
+    NoFile,
+    /// The stock file is too large.
+    TooLarge,
+    /// The text can't be sent.
+    NotSent,
+    /// A branch's word at head office's book.
+    IsOffice,
+    /// Head office's word at a branch's book.
+    IsBranch,
+}
+
+impl TillFault {
+    /// The program's status for it: 1 where a word can't be done as it was said, 3 for a fault of the till's own, 4 where it isn't answered yet.
+    pub fn status(self) -> u8 {
+        match self {
+            TillFault::NoRental
+            | TillFault::RentWaits
+            | TillFault::NoFile
+            | TillFault::TooLarge
+            | TillFault::NotSent
+            | TillFault::IsOffice
+            | TillFault::IsBranch
+            | TillFault::Already => 1,
+            TillFault::Unanswered | TillFault::NotNow | TillFault::Silent => 4,
+            _ => 3,
+        }
+    }
+
+    /// What it is, and what to do.
+    fn sentences(self) -> &'static str {
+        match self {
+            TillFault::Book =>
+                "The book can't be read or written. See that its disk has room, and say the word again.",
+            TillFault::Busy =>
+                "Another window has this till's book. Wait for its word, and say this one again.",
+            TillFault::NoBook =>
+                "There is no book of that name. Make one: init ADDRESS TOKEN --staff N.",
+            TillFault::NotABook => "That file is no till's book. Name another by --book.",
+            TillFault::Already =>
+                "There is a book of that name, or a file of one. Take it, or name another by --book.",
+            TillFault::Full => "The book can take no more entries. Make a new one.",
+            TillFault::Memory =>
+                "There is no memory left. Close other programs, and say the word again.",
+            TillFault::System => "A file, the clock or the terminal failed. Say the word again.",
+            TillFault::Settings =>
+                "The settings beside the book are missing or spoilt. Make a new book: init ADDRESS TOKEN --staff N.",
+            TillFault::OtherBook =>
+                "The book and its settings aren't of one till. Make a new book: init ADDRESS TOKEN --staff N.",
+            TillFault::Ahead(_) => "The last entry is too far ahead of the clock.",
+            TillFault::Unanswered =>
+                "No answer came. What was said is in the book and goes again by itself, once.",
+            TillFault::NotNow =>
+                "The server can't take it now. What was said is in the book and goes again by itself, once.",
+            TillFault::Silent => "No answer came. Nothing was changed by it: say the word again.",
+            TillFault::Foreign =>
+                "What came is no answer of the server's. See that the address is the server's.",
+            TillFault::NoRental =>
+                "This till knows no rental of that copy. Say its number: return --rental NUMBER.",
+            TillFault::RentWaits =>
+                "The rent of that copy has no answer yet. Say send, and then this word again.",
+            TillFault::NoFile => "The stock file can't be read. See that its name is right.",
+            TillFault::TooLarge =>
+                "The stock file is too large. Part it, at most 500 lines to a lot.",
+            TillFault::NotSent => "That can't be sent as it stands. Say it in other words.",
+            TillFault::IsOffice => "This book is head office's. Say office and its words.",
+            TillFault::IsBranch => "This book is a branch's. Head office has a book of its own.",
+        }
+    }
+}
+
+impl fmt::Display for TillFault {
+    fn fmt<W: fmt::Write>(&self, f: &mut fmt::Formatter<W>) -> fmt::Result {
+        f.write_str((*self).sentences())?;
+        match self {
+            TillFault::Ahead(seconds) => write!(
+                f,
+                " Wait {seconds} seconds, and say the word again."
+            ),
+            _ => Ok(()),
+        }
+    }
+}
+
+impl From<AllocError> for TillFault {
+    fn from(_error: AllocError) -> TillFault {
+        TillFault::Memory
+    }
+}
+
+impl<T: Drop> From<AllocFailed<T>> for TillFault {
+    fn from(_error: AllocFailed<T>) -> TillFault {
+        TillFault::Memory
+    }
+}
+
+impl From<io::Error> for TillFault {
+    fn from(_error: io::Error) -> TillFault {
+        TillFault::System
+    }
+}
+
+impl From<DeskFault> for TillFault {
+    fn from(fault: DeskFault) -> TillFault {
+        match fault {
+            DeskFault::Book => TillFault::Book,
+            DeskFault::Full => TillFault::Full,
+            DeskFault::Memory => TillFault::Memory,
+            DeskFault::NoEntry | DeskFault::NotLater => TillFault::OtherBook,
+            DeskFault::Unanswered => TillFault::Unanswered,
+            DeskFault::NotNow => TillFault::NotNow,
+        }
+    }
+}
+
+impl From<BookFault> for TillFault {
+    fn from(fault: BookFault) -> TillFault {
+        match fault {
+            BookFault::Memory => TillFault::Memory,
+            BookFault::Size | BookFault::Store => TillFault::Book,
+            BookFault::NotABook => TillFault::NotABook,
+            BookFault::Already => TillFault::Already,
+        }
+    }
+}
+
+impl From<NotBuilt> for TillFault {
+    fn from(fault: NotBuilt) -> TillFault {
+        match fault {
+            NotBuilt::Other => TillFault::NotSent,
+            NotBuilt::Memory => TillFault::Memory,
+        }
+    }
+}
+
+impl From<NotShown> for TillFault {
+    fn from(fault: NotShown) -> TillFault {
+        match fault {
+            NotShown::NoMemory => TillFault::Memory,
+            NotShown::OtherForm => TillFault::Foreign,
+        }
+    }
+}
+
+impl From<NoSettings> for TillFault {
+    fn from(fault: NoSettings) -> TillFault {
+        match fault {
+            NoSettings::Form => TillFault::Settings,
+            NoSettings::Memory => TillFault::Memory,
+        }
+    }
+}

@@ -1,0 +1,146 @@
+//! The till's files: the book with its log, the settings beside it, and lists that may go at any time. They are their owner's alone.
+
+ghost use Rattle.std.specs.Prelude.{◌≡◌, false, IfOk};
+
+use crate::caches::Shelf;
+use crate::fault::TillFault;
+use sqlite::{Connection, FileStore, Files};
+use sqlite_disk::Unknown;
+use sqlite_std_file::{File, OpenError};
+use std::alloc::Global;
+use std::fs::{self, OpenOptions, Permissions};
+use std::io::{self, ErrorKind, Write};
+use std::os::unix::fs::{OpenOptionsExt, PermissionsExt};
+use std::thread;
+use std::time::Duration;
+use till_files::{create_book, open_book};
+
+/// How often a book is asked for that another window has, a tenth of a second apart.
+const TURNS: u32 = 50;
+
+/// Who may read and write the till's files: their owner.
+const OWNER: u32 = 0o600;
+
+/// Whether there is such a file.
+pub(crate) fn is_there(rt: &HostRuntime, path: &str) -> bool {
+    fs::metadata(rt, path).is_ok()
+}
+
+/// Makes a file that its owner alone may read, whatever the process's mask. One that is there stays as it is.
+fn make_own(rt: &HostRuntime, path: &str) -> io::Result<()> {
+    let made = OpenOptions::new()
+        .write(true)
+        .create_new(true)
+        .mode(OWNER)
+        .open(rt, path);
+    match made {
+        Ok(file) => {
+            drop(file);
+            fs::set_permissions(rt, path, Permissions::from_mode(OWNER))
+        }
+        Err(error) if error.kind() == ErrorKind::AlreadyExists => Ok(()),
+        Err(error) => Err(error),
+    }
+}
+
+/// Writes a file of the till's in the place of what it held.
+pub(crate) fn write_own(rt: &HostRuntime, path: &str, bytes: &[u8]) -> io::Result<()> {
+    make_own(rt, path)?;
+    fs::write(rt, path, bytes)
+}
+
+/// The two files of a book; while another window has them, they are asked for up to five seconds.
+fn files_at(rt: &HostRuntime, path: &str) -> Result<Files<File>, TillFault> {
+    for turn in 0..TURNS {
+        if turn > 0 {
+            thread::sleep(rt, Duration::from_millis(100));
+        }
+        match sqlite_std_file::open(rt, path, Unknown) {
+            Ok(files) => return Ok(files),
+            Err(OpenError::Busy) => {}
+            Err(OpenError::OutOfMemory) => return Err(TillFault::Memory),
+            Err(_) => return Err(TillFault::Book),
+        }
+    }
+    Err(TillFault::Busy)
+}
+
+/// Makes a book in a file that isn't there.
+pub(crate) fn create_at(
+    rt: &HostRuntime,
+    path: &str,
+) -> Result<Connection<FileStore<File>>, TillFault> {
+    make_own(rt, path)?;
+    let files = files_at(rt, path)?;
+    match create_book(rt.alloc(), files) {
+        Ok(conn) => Ok(conn),
+        Err((fault, files)) => {
+            drop(files);
+            Err(TillFault::from(fault))
+        }
+    }
+}
+
+/// Opens the book in a file.
+pub(crate) fn open_at(
+    rt: &HostRuntime,
+    path: &str,
+) -> Result<Connection<FileStore<File>>, TillFault>
+    ensures { IfOk result (λ conn. conn.in_transaction ≡ false) }
+{
+    let files = files_at(rt, path)?;
+    match open_book(rt.alloc(), files) {
+        Ok(conn) => Ok(conn),
+        Err((fault, files)) => {
+            drop(files);
+            Err(TillFault::from(fault))
+        }
+    }
+}
+
+/// A shelf in files beside the book: each has the second in which it was put there, as a line, and then what was put.
+#[derive(Clone, Copy)]
+pub(crate) struct FileShelf<'a> {
+    pub(crate) rt: &'a HostRuntime,
+    pub(crate) book: &'a str,
+}
+
+impl FileShelf<'_> {
+    fn path(&self, alloc: Global, name: &str) -> Option<String> {
+        let book = self.book;
+        format!(in alloc; "{book}.{name}").ok()
+    }
+}
+
+/// The second in the first line, and what stands behind it.
+fn parted(alloc: Global, bytes: &[u8]) -> Option<(u64, Vec<u8>)> {
+    let end = bytes.iter().position(|byte| *byte == b'\n')?;
+    let (line, rest) = bytes.split_at(end);
+    let second = std::str::from_utf8(line).ok()?.parse::<u64>().ok()?;
+    let list = Vec::from_slice(alloc, rest.get(1..)?).ok()?;
+    Some((second, list))
+}
+
+impl Shelf for FileShelf<'_> {
+    fn take(&self, alloc: Global, name: &'static str) -> Option<(u64, Vec<u8>)> {
+        let path = self.path(alloc, name)?;
+        let bytes = fs::read(self.rt, path.as_str()).ok()?;
+        parted(alloc, bytes.as_slice())
+    }
+
+    fn put(&self, alloc: Global, name: &'static str, second: u64, bytes: &[u8]) {
+        let Some(path) = self.path(alloc, name) else {
+            return;
+        };
+        let mut text = Vec::new(alloc);
+        if writeln!(text, "{second}").is_ok() && text.extend_from_slice(bytes).is_ok() {
+            let _ = write_own(self.rt, path.as_str(), text.as_slice());
+        }
+    }
+
+    fn forget(&self, name: &'static str) {
+        if let Some(path) = self.path(self.rt.alloc(), name) {
+            let _ = fs::remove_file(self.rt, path.as_str());
+        }
+    }
+}

@@ -1,0 +1,32 @@
+//! The till's program for one list of words: what a cashier types is entered in the book, sent, and answered in plain words.
+#![tactic(auto)]
+
+mod book;
+mod caches;
+mod commands;
+mod desk;
+mod fault;
+mod files;
+mod init;
+mod lists;
+mod lists_of_entries;
+mod looks;
+mod office;
+mod program;
+mod prompt;
+mod returns;
+mod said;
+mod sendings;
+mod settling;
+mod tcp;
+mod watch;
+mod word;
+
+pub use book::Book;
+pub use caches::Shelf;
+pub use desk::Desk;
+pub use fault::TillFault;
+pub use program::run;
+pub use said::Said;
+pub use watch::Quiet;
+pub use word::do_word;

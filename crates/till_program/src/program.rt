@@ -1,0 +1,182 @@
+//! The program for one list of words.
+
+use crate::desk::Desk;
+use crate::fault::TillFault;
+use crate::files::{FileShelf, is_there, open_at};
+use crate::init::{begin, settings_of};
+use crate::prompt::prompt;
+use crate::said::Said;
+use crate::tcp::Tcp;
+use crate::word::do_word;
+use counter_routes::Routes;
+use shop_types::{Act, StaffNo, StockFile, Usage};
+use std::fs;
+use std::io::Write;
+use std::time::{Clock, Duration};
+use till_desk::Watch;
+use till_files::close_book;
+use till_words::{FileName, TillAct, TillLine, help_text, read_till_words};
+
+/// The book's file, where none is named.
+const BOOK: &str = "till.book";
+
+/// Tells on standard error how far a sending is, behind its first second, and then once a second.
+#[derive(Drop)]
+struct Progress<'a> {
+    rt: &'a HostRuntime,
+    next: Duration,
+}
+
+impl Watch for Progress<'_> {
+    fn sends(&mut self, sent: u32, all: u32) {
+        let now = self.rt.monotonic().unwrap_or(Duration::ZERO);
+        if all > 1 && now >= self.next {
+            let _ = eprintln!(self.rt; "{sent} of {all} sent");
+            self.next = now.saturating_add(Duration::from_secs(1));
+        }
+    }
+}
+
+/// The act with its stock file read, where it names one.
+fn with_file(rt: &HostRuntime, act: TillAct) -> Result<TillAct, TillFault> {
+    match act {
+        TillAct::Import { file, lot } => {
+            let Ok(bytes) = fs::read(rt, file.as_str()) else {
+                return Err(TillFault::NoFile);
+            };
+            match StockFile::new(bytes) {
+                Some(file) => Ok(TillAct::Do(Act::Import { lot, file })),
+                None => Err(TillFault::TooLarge),
+            }
+        }
+        other => Ok(other),
+    }
+}
+
+/// Does a word at the book of that name.
+fn at_book<'x>(
+    rt: &'x HostRuntime,
+    book: &'x str,
+    is_json: bool,
+    staff: Option<StaffNo>,
+    act: TillAct,
+) -> Result<Said, TillFault> {
+    let alloc = rt.alloc();
+    if !is_there(rt, book) {
+        return Err(TillFault::NoBook);
+    }
+    let act = with_file(rt, act)?;
+    let settings = settings_of(rt, book)?;
+    let routes = Routes::new(alloc).map_err(|_| TillFault::Memory)?;
+    let server = Tcp {
+        rt,
+        address: settings.address.as_str(),
+    };
+    let shelf = FileShelf { rt, book };
+    let desk = Desk {
+        alloc,
+        clock: rt,
+        server: &server,
+        shelf: &shelf,
+        routes: &routes,
+        settings: &settings,
+        staff,
+        is_json,
+    };
+    let mut conn = open_at(rt, book)?;
+    let now = rt.monotonic()?;
+    let mut watch = Progress {
+        rt,
+        next: now.saturating_add(Duration::from_secs(1)),
+    };
+    let said = do_word(&desk, &mut conn, act, &mut watch);
+    drop(close_book(conn));
+    said
+}
+
+/// Prints what a word came to, and tells its status.
+fn print<W: Write, E: Write>(said: Result<Said, TillFault>, out: &mut W, err: &mut E) -> u8 {
+    match said {
+        Ok(Said { text, status: 0 }) => match write!(out, "{text}") {
+            Ok(()) => 0,
+            Err(_) => 3,
+        },
+        Ok(Said { text, status }) => {
+            let _ = write!(err, "{text}");
+            status
+        }
+        Err(fault) => {
+            let _ = writeln!(err, "{fault}");
+            fault.status()
+        }
+    }
+}
+
+/// The name of the book's file.
+fn book_of(rt: &HostRuntime, named: &Option<FileName>) -> Result<String, TillFault> {
+    let name = match named {
+        Some(name) => name.as_str(),
+        None => BOOK,
+    };
+    Ok(String::from_str(rt.alloc(), name)?)
+}
+
+/// Does what a line of words asks for, but for a prompt, of which there is only one.
+fn perform_line(rt: &HostRuntime, line: TillLine) -> Result<Said, TillFault> {
+    let TillLine {
+        book,
+        is_json,
+        staff,
+        act,
+    } = line;
+    let book = book_of(rt, &book)?;
+    match act {
+        TillAct::Init(beginning) => begin(rt, book.as_str(), beginning),
+        TillAct::Help | TillAct::Prompt => help(rt),
+        act => at_book(rt, book.as_str(), is_json, staff, act),
+    }
+}
+
+/// The words that there are.
+fn help(rt: &HostRuntime) -> Result<Said, TillFault> {
+    Ok(Said {
+        text: help_text(rt.alloc())?,
+        status: 0,
+    })
+}
+
+/// Does what words ask for that aren't a prompt's beginning.
+pub(crate) fn perform_words<W: Write, E: Write>(
+    rt: &HostRuntime,
+    words: &[String],
+    out: &mut W,
+    err: &mut E,
+) -> u8 {
+    match read_till_words(rt.alloc(), words) {
+        Ok(line) => print(perform_line(rt, line), out, err),
+        Err(Usage::Words(text)) => {
+            let _ = writeln!(err, "{}", text.as_str().trim_end());
+            2
+        }
+        Err(Usage::Memory) => print(Err(TillFault::Memory), out, err),
+    }
+}
+
+/// The whole program for its words, without its own name: it prints on `out` what a word came to, and on `err` why it was refused or not done, and answers the
+/// status: 0 done, 1 refused, 2 usage, 3 a fault of the till's own, 4 not answered yet, but in the book. Without a word it reads lines of words from standard input.
+pub fn run<W: Write, E: Write>(rt: &HostRuntime, words: &[String], out: &mut W, err: &mut E) -> u8 {
+    let is_prompt = matches!(
+        read_till_words(rt.alloc(), words),
+        Ok(TillLine {
+            act: TillAct::Prompt,
+            ..
+        })
+    );
+    if !is_prompt {
+        return perform_words(rt, words, out, err);
+    }
+    match prompt(rt, words, out, err) {
+        Ok(status) => status,
+        Err(fault) => print(Err(fault), out, err),
+    }
+}

@@ -1,0 +1,27 @@
+//! What a word came to.
+
+use std::alloc::{AllocError, Global};
+
+/// What is printed of a word, each line of it ended by a line feed, and the program's status: 0 done, 1 refused, 2 usage, 3 a fault of the till's own, 4 not
+/// answered yet.
+#[derive(Drop)]
+pub struct Said {
+    pub text: String,
+    pub status: u8,
+}
+
+impl Said {
+    /// Done, and nothing to say yet.
+    pub(crate) fn done(alloc: Global) -> Said {
+        Said {
+            text: String::new(alloc),
+            status: 0,
+        }
+    }
+
+    /// One more line.
+    pub(crate) fn line(&mut self, line: &str) -> Result<(), AllocError> {
+        self.text.push_str(line)?;
+        self.text.push_str("\n")
+    }
+}
