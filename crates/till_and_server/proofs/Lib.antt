@@ -7,3 +7,4 @@ pub mod Mixed
 pub mod Came
 pub mod Recorded
 pub mod Witnesses
+pub mod Settled

@@ -12,7 +12,7 @@ use Rattle.till_and_server.specs.Streams.{Streams}
 use Rattle.till_and_server.specs.Lives.{ServedLife, WasRecorded, WereRecorded, IsAnsweredBy}
 use Rattle.till_and_server.specs.Laws.{DeliveriesAreRecorded}
 
-still_at : {A : Type 0} (xs ys : List A) (i : ℕ) (x : A) → slice_get xs i ≡ Some x → slice_get (xs ++ ys) i ≡ Some x
+pub still_at : {A : Type 0} (xs ys : List A) (i : ℕ) (x : A) → slice_get xs i ≡ Some x → slice_get (xs ++ ys) i ≡ Some x
 still_at [] ys i x there = absurd (same_none x there)
 still_at (y ∷ xs) ys zero x there = there
 still_at (y ∷ xs) ys (suc i) x there = still_at xs ys i x there
@@ -24,7 +24,7 @@ before_last [] y (suc i) x there = absurd (same_none x there)
 before_last (z ∷ xs) y zero x there = inl there
 before_last (z ∷ xs) y (suc i) x there = elim (before_last xs y i x there) [ inl here ↦ inl here | inr (is, same) ↦ inr (ap (λ (n : ℕ). suc n) is, same) ]
 
-was_recorded : (rules : Rules) (b : ℕ) (lives : List ServedLife) (old : Books) (request : List ℕ) (answer : Answer) (till : Streams)
+pub was_recorded : (rules : Rules) (b : ℕ) (lives : List ServedLife) (old : Books) (request : List ℕ) (answer : Answer) (till : Streams)
     → Appends till.output till.written request → Consumes till.input till.left (answer_bytes answer) → answer.status ≢ 503
     → IsAnsweredBy rules b lives old request answer till → WasRecorded rules b lives old request answer
 was_recorded rules b lives old request answer till writes reads decided x = record {

@@ -51,12 +51,12 @@ event_run {S} g = record {
 
 -- ---- the book's entries
 
-record Said (commands : List Command) (k : ℕ) (request : List ℕ) : Type 0 where
-  command : Command
-  there : slice_get commands k ≡ Some command
-  says : Says request command
+pub record Said (commands : List Command) (k : ℕ) (request : List ℕ) : Type 0 where
+  pub command : Command
+  pub there : slice_get commands k ≡ Some command
+  pub says : Says request command
 
-said_at : (entries : List (List ℕ)) (commands : List Command) (k : ℕ) (request : List ℕ) → Say entries commands → slice_get entries k ≡ Some request → Said commands k request
+pub said_at : (entries : List (List ℕ)) (commands : List Command) (k : ℕ) (request : List ℕ) → Say entries commands → slice_get entries k ≡ Some request → Said commands k request
 said_at [] [] k request say e = absurd (same_none request e)
 said_at [] (c ∷ cs) k request say e = absurd say
 said_at (x ∷ xs) [] k request say e = absurd say
@@ -105,10 +105,10 @@ asked_of_entries mark rules b entries commands replies lives old say come n life
 
 -- ---- its replies
 
-decision : (answer : Answer) → answer.status ≢ 503 → is_decided answer ≡ true
+pub decision : (answer : Answer) → answer.status ≢ 503 → is_decided answer ≡ true
 decision answer isnt = rw (differ_test answer.status 503 isnt) refl
 
-was_answered : (rules : Rules) (b : ℕ) (lives : List ServedLife) (old : Books) (request : List ℕ) (command : Command) (answer : Answer) → Says request command
+pub was_answered : (rules : Rules) (b : ℕ) (lives : List ServedLife) (old : Books) (request : List ℕ) (command : Command) (answer : Answer) → Says request command
     → WasRecorded rules b lives old request answer → WasAnswered rules b (lives_of lives) old command answer
 was_answered rules b lives old request command answer (token, says) it =
     let one = answer_read request token command says answer it.exchanges it.exchanged in

@@ -22,10 +22,12 @@ use Rattle.till_client.specs.Sealing.{SaysCommand}
 use Rattle.till_model.specs.Numbered.{has_mark}
 use Rattle.till_model.specs.Outcomes.{IsUnused, Became}
 use Rattle.till_model.specs.Laws.{entries_of, served_over, WasAnswered, IsWitnessed}
+use Rattle.till_model.specs.Settled.{BecameSettled}
 use Rattle.till_book.specs.Journal.{Journal}
+use Rattle.till_book.specs.Read.{in_order}
 use Rattle.till_work.specs.Entering.{IsTillsBook}
 use Rattle.till_and_server.specs.Streams.{Streams, Carries, IsWritten, Serving, Serves, ServesThese, WasExchanged}
-use Rattle.till_and_server.specs.Lives.{ServedLife, life_of, lives_of, books_then, StandIn, IsTokenOf, WereRecorded, StaysRecorded, ComeFromEntries}
+use Rattle.till_and_server.specs.Lives.{ServedLife, life_of, lives_of, books_then, StandIn, IsTokenOf, WereRecorded, StaysRecorded, WereNoted, StaysNoted, ComeFromEntries}
 
 -- ---- one connection
 
@@ -126,3 +128,16 @@ TillAndServer =
     → Lives rules look (lives_of lives) old new → HasNumbers old → IsUnused (has_mark mark) (shop_of b old) → IsTillsBook mark journal commands
     → ComeFromEntries mark rules b journal.entries lives old → WereRecorded rules b lives old journal
     → Became (has_mark mark) (entries_of commands journal.replies) (served_over (has_mark mark) rules b (lives_of lives) old) (shop_of b new)
+
+-- what `settle` noted of exchanges with the chain the book has
+abbrev pub SettlementsAreNoted : Type 0
+SettlementsAreNoted = (rules : Rules) (b : ℕ) (lives : List ServedLife) (old : Books) → StaysNoted rules b lives old
+
+-- The same of a till's book with its settlements, in the order in which they are read: an entry whose settlement is 200 has acted once, with exactly that reply, and
+-- one whose settlement is that its moment is behind has not acted, whatever came behind that.
+abbrev pub SettledTillAndServer : Type 0
+SettledTillAndServer =
+    (mark : Text) (rules : Rules) (look : OfficeAsk → Books → Reply) (b : ℕ) (journal : Journal) (commands : List Command) (lives : List ServedLife) (old new : Books)
+    → Lives rules look (lives_of lives) old new → HasNumbers old → IsUnused (has_mark mark) (shop_of b old) → IsTillsBook mark journal commands
+    → ComeFromEntries mark rules b journal.entries lives old → WereRecorded rules b lives old journal → WereNoted rules b lives old journal
+    → BecameSettled (has_mark mark) commands journal.replies (in_order journal.settled) (served_over (has_mark mark) rules b (lives_of lives) old) (shop_of b new)

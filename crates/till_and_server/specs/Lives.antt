@@ -15,7 +15,8 @@ use Rattle.counter_http.specs.Exchanges.{Exchange, events_of, answers_of}
 use Rattle.till_client.specs.Sealing.{SaysCommand}
 use Rattle.till_client.specs.Replies.{answer_bytes}
 use Rattle.till_client.specs.Laws.{IsShort}
-use Rattle.till_book.specs.Journal.{Journal, waiting, with_entry, with_reply}
+use Rattle.till_book.specs.Journal.{Journal, waiting, with_entry, with_reply, with_settled}
+use Rattle.till_work.specs.Settling.{OfEntry}
 use Rattle.till_model.specs.Numbered.{has_mark}
 use Rattle.till_and_server.specs.Streams.{Streams, AreJoined, Serving, ServesThese, WasExchanged}
 
@@ -84,6 +85,21 @@ pub record StaysRecorded (rules : Rules) (b : ℕ) (lives : List ServedLife) (ol
   pub delivers : (journal : Journal) (request : List ℕ) (answer : Answer) (till : Streams) → WereRecorded rules b lives old journal → waiting journal ≡ Some request
       → Appends till.output till.written request → Consumes till.input till.left (answer_bytes answer) → answer.status ≢ 503
       → IsAnsweredBy rules b lives old request answer till → WereRecorded rules b lives old (with_reply answer journal)
+
+-- what each settled entry was told when it was sent once more was recorded so
+abbrev pub WereNoted : Rules → ℕ → List ServedLife → Books → Journal → Type 0
+WereNoted rules b lives old journal = AllByRecursion (λ (it : ℕ × Answer). OfEntry it.0 journal (λ request. WasRecorded rules b lives old request it.1)) journal.settled
+
+-- A book of which each settled entry was told so stays one: an empty one is, and where an entry is put to it, or a reply recorded, and where the entry of a number was
+-- written, whole, once more, and a reply read, whole, that is no 503 and settles it, as `settle` says. And its replies stay recorded, whatever is settled.
+pub record StaysNoted (rules : Rules) (b : ℕ) (lives : List ServedLife) (old : Books) : Type 0 where
+  pub none : WereNoted rules b lives old (record { entries = []; replies = []; settled = [] })
+  pub enters : (journal : Journal) (request : List ℕ) → WereNoted rules b lives old journal → WereNoted rules b lives old (with_entry request journal)
+  pub delivers : (journal : Journal) (answer : Answer) → WereNoted rules b lives old journal → WereNoted rules b lives old (with_reply answer journal)
+  pub settles : (journal : Journal) (n : ℕ) (answer : Answer) (till : Streams) → WereNoted rules b lives old journal
+      → OfEntry n journal (λ request. Appends till.output till.written request × IsAnsweredBy rules b lives old request answer till)
+      → Consumes till.input till.left (answer_bytes answer) → answer.status ≢ 503 → WereNoted rules b lives old (with_settled n answer journal)
+  pub replies : (journal : Journal) (n : ℕ) (answer : Answer) → WereRecorded rules b lives old journal → WereRecorded rules b lives old (with_settled n answer journal)
 
 -- Nobody else uses the mark: each message that came with the branch's token and said a command whose key has the mark has the bytes of one of these entries.
 abbrev pub ComeFromEntries : Text → Rules → ℕ → List (List ℕ) → List ServedLife → Books → Type 0

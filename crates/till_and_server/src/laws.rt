@@ -1,6 +1,6 @@
 //! Laws, each on a function with nothing to do.
 
-ghost use Rattle.till_and_server.specs.Laws.{RunsHaveExchanges, OneMessageIsRead, OneAnswerIsRead, OneEventIsRun, RunsAreLives, ServedOverAStop, OneAmongMany, ExchangesAreAnswered, DeliveriesAreRecorded, ExchangesAreWitnesses, TillAndServer};
+ghost use Rattle.till_and_server.specs.Laws.{RunsHaveExchanges, OneMessageIsRead, OneAnswerIsRead, OneEventIsRun, RunsAreLives, ServedOverAStop, OneAmongMany, ExchangesAreAnswered, DeliveriesAreRecorded, ExchangesAreWitnesses, TillAndServer, SettlementsAreNoted, SettledTillAndServer};
 
 use sqlite::Alter;
 
@@ -60,4 +60,15 @@ pub fn exchanges_are_witnesses()
 /// shows as accepted has acted once, with that reply.
 pub fn from_the_till_to_the_disk()
     ensures { TillAndServer }
+{}
+
+/// A book whose settlements were recorded of exchanges with a chain stays one, where it is entered, delivered and settled from.
+pub fn settlements_are_noted()
+    ensures { SettlementsAreNoted }
+{}
+
+/// The same with what settled entries: one that was told 200 when it was sent once more has acted once, with exactly that reply, and one that was told that its
+/// moment is behind never acts. So the book's entries, with what settled them, have become in the chain's books what they say.
+pub fn settled_from_the_till_to_the_disk()
+    ensures { SettledTillAndServer }
 {}

@@ -8,3 +8,4 @@ pub mod Outcomes
 pub mod OverStops
 pub mod Press
 pub mod Numbered
+pub mod Settled

@@ -43,7 +43,7 @@ keys_differ mark m n low small = elim (cases_Bool (bytes_eq (key_of mark m) (key
 
 -- ---- entries by place
 
-command_at : (commands : List Command) (replies : List Answer) (i : ℕ) (entry : Entry) → slice_get (entries_of commands replies) i ≡ Some entry → slice_get commands i ≡ Some entry.command
+pub command_at : (commands : List Command) (replies : List Answer) (i : ℕ) (entry : Entry) → slice_get (entries_of commands replies) i ≡ Some entry → slice_get commands i ≡ Some entry.command
 command_at [] replies i entry there = absurd (same_none entry there)
 command_at (c ∷ cs) [] zero entry there = ap (λ (it : Entry). Some it.command) (same_some (record { command = c; reply = None }) entry there)
 command_at (c ∷ cs) [] (suc i) entry there = command_at cs [] i entry there

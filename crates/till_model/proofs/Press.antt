@@ -10,11 +10,11 @@ use Rattle.till_model.proofs.Entries.{marked_at}
 use Rattle.till_model.proofs.OverStops.{once_over_stops, answers_served, rising_in_order}
 
 -- an entry with a reply stands where its command and its reply do
-record Stands (commands : List Command) (replies : List Answer) (i : ℕ) (e : Entry) (answer : Answer) : Type 0 where
-  command : slice_get commands i ≡ Some e.command
-  reply : slice_get replies i ≡ Some answer
+pub record Stands (commands : List Command) (replies : List Answer) (i : ℕ) (e : Entry) (answer : Answer) : Type 0 where
+  pub command : slice_get commands i ≡ Some e.command
+  pub reply : slice_get replies i ≡ Some answer
 
-stands : (commands : List Command) (replies : List Answer) (i : ℕ) (e : Entry) (answer : Answer) → slice_get (entries_of commands replies) i ≡ Some e → e.reply ≡ Some answer → Stands commands replies i e answer
+pub stands : (commands : List Command) (replies : List Answer) (i : ℕ) (e : Entry) (answer : Answer) → slice_get (entries_of commands replies) i ≡ Some e → e.reply ≡ Some answer → Stands commands replies i e answer
 stands [] replies i e answer there is = absurd (same_none e there)
 stands (c ∷ cs) [] zero e answer there is = absurd (same_none answer (ap (λ (it : Entry). it.reply) (same_some (record { command = c; reply = None }) e there) ∙ is))
 stands (c ∷ cs) [] (suc i) e answer there is = let it = stands cs [] i e answer there is in record { command = it.command; reply = absurd (none_at i it.reply) }

@@ -2,3 +2,4 @@ pub mod Tills
 pub mod Outcomes
 pub mod Numbered
 pub mod Laws
+pub mod Settled

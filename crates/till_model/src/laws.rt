@@ -8,6 +8,7 @@ ghost use Rattle.till_model.specs.Laws.{
   NumberedAreOwn,
   RisingComeInOrder,
 };
+ghost use Rattle.till_model.specs.Settled.{SettledForGood};
 
 /// What was entered at a till acts at most once, in the order of entering; what it shows as accepted has acted, with
 /// that reply. This is of any history of the branch that begins with nothing kept under the till's mark, whatever
@@ -41,4 +42,10 @@ pub fn numbered_entries_are_own()
 /// any number of stops. The premise on others is that nobody else uses the mark.
 pub fn from_the_press_to_the_disk()
     ensures { FromThePressToTheDisk }
+{}
+
+/// What settled an entry is so for good. One that was told 200 when it was sent once more has acted, once, with exactly
+/// that reply; one that was told that its moment is behind has not acted and never will, whatever comes late.
+pub fn settled_entries_stay_settled()
+    ensures { SettledForGood }
 {}

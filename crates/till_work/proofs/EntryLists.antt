@@ -22,7 +22,8 @@ use Rattle.till_register.specs.Register.{rental_of}
 use Rattle.till_book.specs.Journal.{Journal}
 use Rattle.till_book.specs.Read.{in_order, IsReadOf}
 use Rattle.till_book.specs.declared.lists.BookRows.{BookRows}
-use Rattle.till_work.specs.Reading.{accepted_of, or_reply, settled_entry, book_entries, AreEntriesOf, HasNoEntries}
+use Rattle.till_model.specs.Settled.{accepted_of, or_reply, settled_entry, book_entries}
+use Rattle.till_work.specs.Reading.{AreEntriesOf, HasNoEntries}
 use Rattle.till_work.specs.declared.reading.ReadFault.{ReadFault}
 use Rattle.till_work.specs.declared.reading.ReadFault.TheVariants as fault
 use Rattle.till_work.proofs.Saying.{as_long, say_one, say_more, said_at}

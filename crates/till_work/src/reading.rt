@@ -6,8 +6,9 @@ ghost use Rattle.sqlite.specs.State.{HasCleanDisk, Survives};
 ghost use Rattle.shop_types.specs.Seen.{seen_command};
 ghost use Rattle.till_register.specs.Entries.{seen_told, seen_entry};
 ghost use Rattle.till_book.specs.Seen.{seen_reply, seen_settlement};
+ghost use Rattle.till_model.specs.Settled.{accepted_of, or_reply};
 ghost use Rattle.till_work.specs.Entering.{Says};
-ghost use Rattle.till_work.specs.Reading.{accepted_of, or_reply, AreEntriesOf, HasNoEntries, FindsRental, FindsNoRental};
+ghost use Rattle.till_work.specs.Reading.{AreEntriesOf, HasNoEntries, FindsRental, FindsNoRental};
 
 use counter_routes::Routes;
 use shop_types::{CopyNo, RentalNo};

@@ -1,6 +1,6 @@
 use Rattle.std.proofs.Common.{◌≡◌, map, drop}
 use Rattle.till_book.specs.Seen.{seen_settlement}
-use Rattle.till_work.specs.Reading.{accepted_of}
+use Rattle.till_model.specs.Settled.{accepted_of}
 use Rattle.till_work.proofs.reading.accepted_in.Given as goal
 
 abbrev pub invariant-loop-it : goal.invariant-loop-it

@@ -4,7 +4,8 @@ use Rattle.till_register.specs.declared.register.Entry.{Entry}
 use Rattle.till_book.specs.Seen.{seen_reply, seen_settlement}
 use Rattle.till_book.specs.declared.rows.BookEntry.{BookEntry}
 use Rattle.till_work.specs.Entering.{Says}
-use Rattle.till_work.specs.Reading.{or_reply, HasNoEntries}
+use Rattle.till_model.specs.Settled.{or_reply}
+use Rattle.till_work.specs.Reading.{HasNoEntries}
 use Rattle.till_work.proofs.EntryLists.{Done, done_row, got, no_entries, handed}
 use Rattle.till_work.proofs.reading.entries_of.Goals as goal
 
