@@ -5,6 +5,8 @@ use crate::fault::Fault;
 use crate::texts::put_reply;
 use std::alloc::Global;
 use std::io::{self, Write};
+use std::marker::Model;
+use std::mem;
 
 /// What was sent, told or written; what was written to standard error; and how it ended: `closed 1`, or a program's status.
 #[derive(Drop)]
@@ -14,6 +16,15 @@ pub struct Texts {
     pub end: Vec<u8>,
     /// How many bytes a connection's writer has room for in `out`.
     pub room: usize,
+}
+
+/// Its texts: so those who hold one aren't checked over its parts.
+impl Model for Texts {
+    ghost use Rattle.std.specs.Prelude.{ℕ, List};
+
+    ghost Value = { List ℕ × List ℕ × List ℕ };
+
+    ghost view = { λ it. (it.out.items, it.end.items, it.err.items) };
 }
 
 impl Texts {
@@ -37,6 +48,69 @@ impl Texts {
         self.end.clear();
         write!(&mut self.end, "{word} {replies}")?;
         Ok(())
+    }
+
+    /// A program ended with that status.
+    pub fn ends_with(&mut self, status: u8) -> Result<(), Fault> {
+        write!(&mut self.end, "{status}")?;
+        Ok(())
+    }
+
+    pub fn out(&self) -> &[u8]
+        ensures { result.now ≡ self.now.0 }
+    {
+        self.out.as_slice()
+    }
+
+    pub fn end(&self) -> &[u8]
+        ensures { result.now ≡ self.now.1 }
+    {
+        self.end.as_slice()
+    }
+
+    pub fn err(&self) -> &[u8]
+        ensures { result.now ≡ self.now.2 }
+    {
+        self.err.as_slice()
+    }
+
+    pub fn put_out(&mut self, bytes: &[u8]) -> Result<(), Fault> {
+        self.out.extend_from_slice(bytes)?;
+        Ok(())
+    }
+
+    pub fn put_end(&mut self, bytes: &[u8]) -> Result<(), Fault> {
+        self.end.extend_from_slice(bytes)?;
+        Ok(())
+    }
+
+    /// It ended so, whatever was said of that before.
+    fn put_end_alone(&mut self, bytes: &[u8]) -> Result<(), Fault> {
+        self.end.clear();
+        self.put_end(bytes)
+    }
+
+    pub fn put_err(&mut self, bytes: &[u8]) -> Result<(), Fault> {
+        self.err.extend_from_slice(bytes)?;
+        Ok(())
+    }
+
+    /// Puts a reply, of which there is room for so much.
+    fn replies(&mut self, status: &str, body: &[u8]) -> Result<(), Fault> {
+        put_reply(&mut self.out, status, body)?;
+        self.out.truncate(self.room);
+        Ok(())
+    }
+
+    /// What was sent, and how it ended, is the other's, and the other's is this one's.
+    pub fn swap_told(&mut self, other: &mut Texts) {
+        mem::swap(&mut self.out, &mut other.out);
+        mem::swap(&mut self.end, &mut other.end);
+    }
+
+    /// What was sent goes there, and what stood there comes here.
+    pub fn swap_out(&mut self, out: &mut Vec<u8>) {
+        mem::swap(&mut self.out, out);
     }
 }
 
@@ -92,8 +166,7 @@ impl Asked {
 
     /// One reply more is wanted of the connection, of which the writer has room for so much.
     fn wants_reply(&mut self, status: &str, body: &[u8]) -> Result<(), Fault> {
-        put_reply(&mut self.wanted.out, status, body)?;
-        self.wanted.out.truncate(self.wanted.room);
+        self.wanted.replies(status, body)?;
         self.replies = self.replies.saturating_add(1);
         self.wanted.ends("closed", self.replies)
     }
@@ -103,44 +176,39 @@ impl Asked {
         if !line.is_empty() {
             return Err(Fault::Line("the usage's text isn't compared"));
         }
-        self.wanted.end.push(b'2')?;
-        if self.told.err.is_empty() {
-            self.wanted.err.push(b'?')?;
+        self.wanted.put_end(b"2")?;
+        if self.told.err().is_empty() {
+            return self.wanted.put_err(b"?");
         }
-        self.wanted.err.extend_from_slice(self.told.err.as_slice())?;
-        Ok(())
+        self.wanted.put_err(self.told.err())
     }
 
     /// A line says more of what is wanted.
     pub fn wants(&mut self, word: &str, line: &str, bytes: &[u8]) -> Result<(), Fault> {
         match (self.kind, word) {
-            (Kind::Nothing, _) => return Err(Fault::Line("a reply has no request")),
-            (Kind::Connection, "end") => {
-                self.wanted.end.clear();
-                self.wanted.end.extend_from_slice(bytes)?;
-            }
-            (Kind::Connection, _) => return self.wants_reply(word, bytes),
-            (_, "out") => self.wanted.out.extend_from_slice(bytes)?,
-            (_, "err") => self.wanted.err.extend_from_slice(bytes)?,
-            (_, "status") => self.wanted.end.extend_from_slice(bytes)?,
-            _ => return self.wants_usage(line),
+            (Kind::Nothing, _) => Err(Fault::Line("a reply has no request")),
+            (Kind::Connection, "end") => self.wanted.put_end_alone(bytes),
+            (Kind::Connection, _) => self.wants_reply(word, bytes),
+            (_, "out") => self.wanted.put_out(bytes),
+            (_, "err") => self.wanted.put_err(bytes),
+            (_, "status") => self.wanted.put_end(bytes),
+            _ => self.wants_usage(line),
         }
-        Ok(())
     }
 
     /// Whether what was told is what is wanted: all bytes of it.
     pub fn settle(&self) -> Result<(), Fault>
-        ensures out { OnOk result (self.now.told.out.items ≡ self.now.wanted.out.items) }
-        ensures end { OnOk result (self.now.told.end.items ≡ self.now.wanted.end.items) }
-        ensures err { OnOk result (self.now.told.err.items ≡ self.now.wanted.err.items) }
+        ensures out { OnOk result (self.now.told.0 ≡ self.now.wanted.0) }
+        ensures end { OnOk result (self.now.told.1 ≡ self.now.wanted.1) }
+        ensures err { OnOk result (self.now.told.2 ≡ self.now.wanted.2) }
     {
-        if self.told.out.as_slice() != self.wanted.out.as_slice() {
+        if self.told.out() != self.wanted.out() {
             return Err(Fault::Out);
         }
-        if self.told.end.as_slice() != self.wanted.end.as_slice() {
+        if self.told.end() != self.wanted.end() {
             return Err(Fault::End);
         }
-        if self.told.err.as_slice() != self.wanted.err.as_slice() {
+        if self.told.err() != self.wanted.err() {
             return Err(Fault::Err);
         }
         Ok(())
@@ -149,7 +217,7 @@ impl Asked {
     /// The place of the first byte that differs, from 1 on.
     pub fn difference(&self) -> usize {
         let mut at = 1usize;
-        for (a, b) in self.told.out.iter().zip(&self.wanted.out) {
+        for (a, b) in self.told.out().iter().zip(self.wanted.out()) {
             if *a != *b {
                 return at;
             }

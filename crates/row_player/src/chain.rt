@@ -108,14 +108,14 @@ impl<S: Stage> Chain<S> {
 
     /// Has a chain in the files.
     fn open(&mut self, opening: Opening, calls: Calls) -> Result<(), Fault> {
-        opened(&mut self.stage, opening, &self.left.files, calls)?;
+        opened(&mut self.stage, opening, self.left.files(), calls)?;
         self.held = Held::Open;
         Ok(())
     }
 
     /// Has a chain in the files refused, for the fault of that name.
     fn refuses(&mut self, opening: Opening, fault: &str) -> Result<(), Fault> {
-        match self.stage.open(opening, &self.left.files, NEVER)? {
+        match self.stage.open(opening, self.left.files(), NEVER)? {
             None => Err(Fault::Line("the files are opened")),
             Some(name) if name == fault => self.stage.close(&mut self.left),
             Some(name) => Err(Fault::Opening(name)),
@@ -133,8 +133,7 @@ impl<S: Stage> Chain<S> {
         let (word, limits) = words.split_once(' ').unwrap_or((words, ""));
         self.is_in_files = false;
         self.held = Held::Closed;
-        self.left.files.log.clear();
-        self.left.files.db.clear();
+        self.left.clear();
         match word {
             "demo" => self.makes(Opening::Opened),
             "files" => {
@@ -159,7 +158,7 @@ impl<S: Stage> Chain<S> {
     fn stock(&mut self) -> Result<(), Fault> {
         self.makes(Opening::Opened)?;
         send(&mut self.stage, STOCK.as_bytes(), WHOLE, &mut self.told)?;
-        if self.told.out.as_slice() == STOCKED.as_bytes() {
+        if self.told.out() == STOCKED.as_bytes() {
             return Ok(());
         }
         Err(Fault::Line("the first lot or customer isn't answered"))
@@ -168,8 +167,7 @@ impl<S: Stage> Chain<S> {
     /// Does that with the tables in the files; what is told stands in `told`.
     fn tables(&mut self, deed: Deed<'_>) -> Result<(), Fault> {
         self.told.clear(usize::MAX);
-        self.stage
-            .tables(deed, &mut self.left.files, &mut self.told)
+        self.stage.tables(deed, &mut self.left, &mut self.told)
     }
 
     /// Closes the chain, and does that with the tables in its files.
@@ -180,7 +178,7 @@ impl<S: Stage> Chain<S> {
 
     /// Has a chain in copies of the files, which is sent that, and closes it.
     pub fn trial(&mut self, opening: Opening, calls: Calls, input: &[u8]) -> Result<(), Fault> {
-        opened(&mut self.stage, opening, &self.left.files, calls)?;
+        opened(&mut self.stage, opening, self.left.files(), calls)?;
         send(&mut self.stage, input, WHOLE, &mut self.told)?;
         self.stage.close(&mut self.tried)
     }
@@ -189,7 +187,7 @@ impl<S: Stage> Chain<S> {
     fn fail(&mut self, fewer: u32, input: &[u8]) -> Result<(), Fault> {
         self.rest()?;
         self.trial(Opening::Opened, MANY, input)?;
-        let log = self.tried.made.log.saturating_sub(u64::from(fewer));
+        let log = self.tried.made().log.saturating_sub(u64::from(fewer));
         self.open(Opening::Opened, Calls { log, ..NEVER })?;
         self.is_failing = true;
         Ok(())

@@ -44,9 +44,9 @@ fn complain(rt: &HostRuntime, asked: &Asked, playing: &Playing<'_>, fault: Fault
         print!(rt; "{path}:{at}: ")
     };
     let told = match fault {
-        Fault::Out => asked.told.out.as_slice(),
-        Fault::Err => asked.told.err.as_slice(),
-        _ => asked.told.end.as_slice(),
+        Fault::Out => asked.told.out(),
+        Fault::Err => asked.told.err(),
+        _ => asked.told.end(),
     };
     let told = str::from_utf8(told).unwrap_or("no text");
     let _ = match fault {

@@ -9,7 +9,6 @@ use crate::texts::{
 use crate::tills::{Step, What, serve_tills};
 use std::alloc::Global;
 use std::fs::{read, remove_file, write};
-use std::io::Write;
 use std::mem;
 
 /// The log beside the row's own file.
@@ -100,7 +99,7 @@ impl<'t, S: Stage> Row<'t, S> {
         if MORE.contains(&word) || is_status(word) {
             return Ok(());
         }
-        if matches!(self.asked.kind, Kind::Connection) && self.asked.wanted.end.is_empty() {
+        if matches!(self.asked.kind, Kind::Connection) && self.asked.wanted.end().is_empty() {
             return Err(Fault::Line("a request has no reply"));
         }
         self.asked.kind = Kind::Nothing;
@@ -150,11 +149,9 @@ impl<'t, S: Stage> Row<'t, S> {
     /// What an audit of the tables says is an exchange: its text is compared.
     fn audits(&mut self, deed: Deed<'_>, body: &str) -> Result<(), Fault> {
         self.begins(Kind::Nothing, usize::MAX);
-        self.asked.wanted.out.extend_from_slice(body.as_bytes())?;
+        self.asked.wanted.put_out(body.as_bytes())?;
         self.chain.change(deed)?;
-        let told = self.chain.told.out.as_slice();
-        self.asked.told.out.extend_from_slice(told)?;
-        Ok(())
+        self.asked.told.put_out(self.chain.told.out())
     }
 
     /// Runs the program.
@@ -166,8 +163,7 @@ impl<'t, S: Stage> Row<'t, S> {
         let status = stage.run(words.as_slice(), self.input.as_slice(), told);
         self.input.clear();
         self.is_input_said = false;
-        write!(&mut told.end, "{status}")?;
-        Ok(())
+        told.ends_with(status)
     }
 
     /// An opening that has to be refused is an exchange: its fault is compared. So is any migration, and the making of a chain.
@@ -181,20 +177,19 @@ impl<'t, S: Stage> Row<'t, S> {
     /// Closes the chain, and writes what its files hold into the row's own file.
     fn saves(&mut self) -> Result<(), Fault> {
         self.chain.change(Deed::CopyIn)?;
-        write(self.rt, FILE, self.chain.left.files.db.as_slice())?;
+        write(self.rt, FILE, self.chain.left.files().db())?;
         Ok(())
     }
 
     /// Reads the row's own file, with the log beside it, into the chain's files.
     fn loads(&mut self) -> Result<(), Fault> {
         self.chain.rest()?;
-        let files = &mut self.chain.left.files;
-        files.db = read(self.rt, FILE)?;
-        match read(self.rt, LOG) {
-            Ok(log) => files.log = log,
-            Err(_) => files.log.clear(),
-        }
-        Ok(())
+        let db = read(self.rt, FILE)?;
+        let log = match read(self.rt, LOG) {
+            Ok(log) => log,
+            Err(_) => Vec::new(self.alloc),
+        };
+        self.chain.left.put(log.as_slice(), db.as_slice())
     }
 
     /// `TEXT BYTE`.

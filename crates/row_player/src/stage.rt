@@ -4,6 +4,8 @@ use crate::fault::Fault;
 use crate::tills::Tills;
 use std::alloc::Global;
 use std::io::{self, ErrorKind, Read};
+use std::marker::Model;
+use std::mem;
 use std::net::TcpListener;
 use std::time::Duration;
 
@@ -67,8 +69,17 @@ impl Read for Pieces<'_> {
 /// What the files of a chain hold.
 #[derive(Drop)]
 pub struct Image {
-    pub log: Vec<u8>,
-    pub db: Vec<u8>,
+    log: Vec<u8>,
+    db: Vec<u8>,
+}
+
+/// Nothing is said of it: so those who hold one aren't checked over its parts.
+impl Model for Image {
+    ghost use Rattle.std.specs.Prelude.{⊤};
+
+    ghost Value = { ⊤ };
+
+    ghost view = { λ _. tt };
 }
 
 impl Image {
@@ -77,6 +88,36 @@ impl Image {
         Image {
             log: Vec::new(alloc),
             db: Vec::new(alloc),
+        }
+    }
+
+    pub fn log(&self) -> &[u8] {
+        self.log.as_slice()
+    }
+
+    pub fn db(&self) -> &[u8] {
+        self.db.as_slice()
+    }
+
+    /// Nothing is in the files.
+    pub fn clear(&mut self) {
+        self.log.clear();
+        self.db.clear();
+    }
+
+    /// Has the files hold these bytes.
+    pub fn put(&mut self, log: &[u8], db: &[u8]) -> Result<(), Fault> {
+        self.clear();
+        self.log.extend_from_slice(log)?;
+        self.db.extend_from_slice(db)?;
+        Ok(())
+    }
+
+    /// Has the database's file hold that byte at the place, and gives the one that stood there.
+    pub fn swap_byte(&mut self, place: usize, byte: u8) -> u8 {
+        match self.db.get_mut(place) {
+            Some(it) => mem::replace(it, byte),
+            None => byte,
         }
     }
 
@@ -110,11 +151,20 @@ pub const MANY: Calls = Calls {
 /// What a closed chain left.
 #[derive(Drop)]
 pub struct Left {
-    pub files: Image,
+    files: Image,
     /// What a crash of the disks leaves of it.
-    pub crashed: Image,
+    crashed: Image,
     /// How many calls were made, where the disks were to fail behind `MANY`.
-    pub made: Calls,
+    made: Calls,
+}
+
+/// As of what files hold.
+impl Model for Left {
+    ghost use Rattle.std.specs.Prelude.{⊤};
+
+    ghost Value = { ⊤ };
+
+    ghost view = { λ _. tt };
 }
 
 impl Left {
@@ -129,6 +179,39 @@ impl Left {
             crashed: Image::new(alloc),
             made: NEVER,
         }
+    }
+
+    pub fn files(&self) -> &Image {
+        &self.files
+    }
+
+    /// Nothing is in the files.
+    pub fn clear(&mut self) {
+        self.files.clear();
+    }
+
+    /// Has the database's file hold that byte at the place, and gives the one that stood there.
+    pub fn swap_byte(&mut self, place: usize, byte: u8) -> u8 {
+        self.files.swap_byte(place, byte)
+    }
+
+    /// Has the files hold these bytes.
+    pub fn put(&mut self, log: &[u8], db: &[u8]) -> Result<(), Fault> {
+        self.files.put(log, db)
+    }
+
+    pub fn made(&self) -> Calls {
+        self.made
+    }
+
+    /// So many calls were made.
+    pub fn makes(&mut self, made: Calls) {
+        self.made = made;
+    }
+
+    /// A crash leaves these bytes.
+    pub fn crashes(&mut self, log: &[u8], db: &[u8]) -> Result<(), Fault> {
+        self.crashed.put(log, db)
     }
 }
 
@@ -203,7 +286,7 @@ pub trait Stage: Drop {
     fn known_films(&self) -> usize;
 
     /// Does that with the tables in the files. What is said of them is told.
-    fn tables(&mut self, deed: Deed<'_>, files: &mut Image, told: &mut Texts) -> Result<(), Fault>;
+    fn tables(&mut self, deed: Deed<'_>, left: &mut Left, told: &mut Texts) -> Result<(), Fault>;
 
     /// Has the requests read, and put to the chain as values: with their tokens, or as those of that branch. The replies are told, and how many there are.
     fn answer(&mut self, input: &[u8], branch: Option<u32>, told: &mut Texts) -> Result<(), Fault>;

@@ -3,7 +3,6 @@ use crate::asked::Texts;
 use crate::chain::{Chain, opened, send};
 use crate::fault::Fault;
 use crate::stage::{Calls, Deed, MANY, MOST_CALLS, NEVER, Opening, Stage, WHOLE};
-use std::mem;
 
 /// Head office asks for the audit.
 const AUDIT: &[u8] =
@@ -43,8 +42,8 @@ fn behind(is_log: bool, calls: u64) -> Calls {
 
 /// Whether the replies before a stop, in `out`, are the first of those behind it, in `err`, but for those at the end by which the store has failed.
 fn are_first(told: &Texts) -> bool {
-    let before = str::from_utf8(told.out.as_slice()).unwrap_or("no text");
-    let behind = str::from_utf8(told.err.as_slice()).unwrap_or("");
+    let before = str::from_utf8(told.out()).unwrap_or("no text");
+    let behind = str::from_utf8(told.err()).unwrap_or("");
     behind.starts_with(before.trim_end_matches(FAILED))
 }
 
@@ -61,7 +60,7 @@ impl<S: Stage> Chain<S> {
     /// did.
     fn resumes(&mut self, stopped: &Stopped<'_>, is_crash: bool) -> Result<(), Fault> {
         let files = self.tried.image(is_crash);
-        if files.is_same(&self.left.files) {
+        if files.is_same(self.left.files()) {
             return Ok(());
         }
         let fault = self.stage.open(Opening::Opened, files, NEVER)?;
@@ -70,13 +69,13 @@ impl<S: Stage> Chain<S> {
             match (name, stopped.opening) {
                 ("not_a_chain", Opening::Made) => return Ok(()),
                 ("other_version", Opening::Migrated) => {
-                    opened(&mut self.stage, stopped.opening, &self.next.files, NEVER)?;
+                    opened(&mut self.stage, stopped.opening, self.next.files(), NEVER)?;
                 }
                 _ => return Err(Fault::Opening(name)),
             }
         }
         send(&mut self.stage, stopped.input, WHOLE, &mut self.told)?;
-        if self.told.out.as_slice() != self.wanted.as_slice() {
+        if self.told.out() != self.wanted.as_slice() {
             return Err(Fault::Line("a chain that was stopped sends something else"));
         }
         self.stage.close(&mut self.next)
@@ -85,7 +84,7 @@ impl<S: Stage> Chain<S> {
     /// Whether a connection, on disks that fail behind so many calls, sends what is wanted, or that the store has failed.
     fn sends(&mut self, stopped: &Stopped<'_>) -> Result<(), Fault> {
         send(&mut self.stage, stopped.input, WHOLE, &mut self.told)?;
-        let told = self.told.out.as_slice();
+        let told = self.told.out();
         if told == self.wanted.as_slice() || told.ends_with(FAILED.as_bytes()) {
             return Ok(());
         }
@@ -95,7 +94,7 @@ impl<S: Stage> Chain<S> {
     /// Stops it behind so many calls, and has what comes again sent the same, in the files as they are left and as a crash leaves them. Whether a connection was
     /// stopped, and not the opening before it.
     fn stops(&mut self, stopped: &Stopped<'_>, calls: Calls) -> Result<bool, Fault> {
-        match self.stage.open(stopped.opening, &self.left.files, calls)? {
+        match self.stage.open(stopped.opening, self.left.files(), calls)? {
             None if stopped.is_connection => self.sends(stopped)?,
             Some("store_failed") if stopped.is_connection => return Ok(false),
             Some(name) if name != "store_failed" && matches!(stopped.opening, Opening::Opened) => {
@@ -136,12 +135,12 @@ impl<S: Stage> Chain<S> {
     ) -> Result<(), Fault> {
         self.is_swept = false;
         self.trial(opening, MANY, input)?;
-        mem::swap(&mut self.wanted, &mut self.told.out);
+        self.told.swap_out(&mut self.wanted);
         let sent = if is_connection { input } else { &[] };
         self.trial(opening, MANY, sent)?;
-        let made = self.tried.made;
+        let made = self.tried.made();
         self.trial(opening, made, sent)?;
-        if is_connection && self.told.out.as_slice() != self.wanted.as_slice() {
+        if is_connection && self.told.out() != self.wanted.as_slice() {
             return Err(Fault::Line("more calls are made"));
         }
         let stopped = Stopped {
@@ -171,19 +170,19 @@ impl<S: Stage> Chain<S> {
             let calls = behind(is_log, calls);
             if !self
                 .stage
-                .resume(input, &self.left.files, calls, &mut self.told)?
+                .resume(input, self.left.files(), calls, &mut self.told)?
             {
                 continue;
             }
             let is_first = are_first(&self.told);
-            let told = self.told.err.as_slice();
+            let told = self.told.err();
             if self.wanted.is_empty() {
                 self.wanted.extend_from_slice(told)?;
             }
             if told != self.wanted.as_slice() || !is_first {
                 return Err(Fault::Line("another reply before a stop or behind it"));
             }
-            if told == self.told.out.as_slice() {
+            if told == self.told.out() {
                 return Ok(());
             }
         }
@@ -196,27 +195,21 @@ impl<S: Stage> Chain<S> {
         self.wanted.clear();
         self.resumes_at_each(input, true)?;
         self.resumes_at_each(input, false)?;
-        mem::swap(&mut told.out, &mut self.told.out);
-        mem::swap(&mut told.end, &mut self.told.end);
+        told.swap_told(&mut self.told);
         Ok(())
     }
 
     /// Whether the chain isn't opened where the byte at a place of the database's file is that one. Else it says of itself what is wanted.
     fn refuses_byte(&mut self, place: usize, byte: u8) -> Result<bool, Fault> {
-        let Some(it) = self.left.files.db.get_mut(place) else {
-            return Ok(false);
-        };
-        let kept = mem::replace(it, byte);
-        let fault = self.stage.open(Opening::Opened, &self.left.files, NEVER)?;
-        if let Some(it) = self.left.files.db.get_mut(place) {
-            *it = kept;
-        }
+        let kept = self.left.swap_byte(place, byte);
+        let fault = self.stage.open(Opening::Opened, self.left.files(), NEVER)?;
+        let _ = self.left.swap_byte(place, kept);
         match fault {
             Some("damaged" | "store_failed") => return Ok(true),
             Some(name) => return Err(Fault::Opening(name)),
             None => send(&mut self.stage, AUDIT, WHOLE, &mut self.told)?,
         }
-        if self.told.out.as_slice() != self.wanted.as_slice() {
+        if self.told.out() != self.wanted.as_slice() {
             return Err(Fault::Line("other books are opened"));
         }
         Ok(false)
@@ -227,11 +220,11 @@ impl<S: Stage> Chain<S> {
     pub fn flip(&mut self, text: &[u8], byte: u8) -> Result<(), Fault> {
         self.change(Deed::CopyIn)?;
         self.trial(Opening::Opened, NEVER, AUDIT)?;
-        mem::swap(&mut self.wanted, &mut self.told.out);
+        self.told.swap_out(&mut self.wanted);
         let mut places = 0u32;
         let mut refused = 0u32;
-        for last in 0..self.left.files.db.len() {
-            if ends_at(self.left.files.db.as_slice(), last, text) {
+        for last in 0..self.left.files().db().len() {
+            if ends_at(self.left.files().db(), last, text) {
                 places = places.saturating_add(1);
                 if self.refuses_byte(last, byte)? {
                     refused = refused.saturating_add(1);

@@ -1,6 +1,6 @@
 //! What the rows are played on: a chain in files on disks in memory, and the whole program.
 use crate::calls::call;
-use crate::disks::{InMemory, disks, leave, put_image};
+use crate::disks::{InMemory, disks, leave};
 use crate::serving::{answer, serve_alone, serve_by_turns};
 use crate::shop::{Shop, opened, resumed};
 use crate::tables::work;
@@ -126,10 +126,10 @@ impl<D: InMemory> Stage for Counter<'_, D> {
         }
     }
 
-    fn tables(&mut self, deed: Deed<'_>, files: &mut Image, told: &mut Texts) -> Result<(), Fault> {
-        let disks: Files<D> = disks(self.alloc, files, NEVER)?;
+    fn tables(&mut self, deed: Deed<'_>, left: &mut Left, told: &mut Texts) -> Result<(), Fault> {
+        let disks: Files<D> = disks(self.alloc, left.files(), NEVER)?;
         let disks = work(self.alloc, deed, disks, &mut told.out)?;
-        let put = put_image(&disks, files);
+        let put = left.put(disks.log.held(), disks.db.held());
         drop(disks);
         put
     }

@@ -30,18 +30,9 @@ impl InMemory for Fuse<Memory> {
 /// Disks that hold what the files do, and fail behind so many calls.
 pub fn disks<D: InMemory>(alloc: Global, files: &Image, calls: Calls) -> Result<Files<D>, Fault> {
     Ok(Files {
-        log: D::holding(alloc, files.log.as_slice(), calls.log)?,
-        db: D::holding(alloc, files.db.as_slice(), calls.db)?,
+        log: D::holding(alloc, files.log(), calls.log)?,
+        db: D::holding(alloc, files.db(), calls.db)?,
     })
-}
-
-/// Puts what the disks hold.
-pub fn put_image<D: InMemory>(disks: &Files<D>, files: &mut Image) -> Result<(), Fault> {
-    files.log.clear();
-    files.log.extend_from_slice(disks.log.held())?;
-    files.db.clear();
-    files.db.extend_from_slice(disks.db.held())?;
-    Ok(())
 }
 
 /// How many of many calls a disk had. What is left of them is told by using them up.
@@ -56,12 +47,12 @@ fn calls_of<D: Disk>(disk: &mut D) -> u64 {
 
 /// Puts what the disks of a closed chain hold, also behind a crash.
 pub fn leave<D: InMemory>(disks: &mut Files<D>, left: &mut Left) -> Result<(), Fault> {
-    put_image(disks, &mut left.files)?;
-    left.made = Calls {
+    left.put(disks.log.held(), disks.db.held())?;
+    left.makes(Calls {
         log: calls_of(&mut disks.log),
         db: calls_of(&mut disks.db),
-    };
+    });
     disks.log.crash();
     disks.db.crash();
-    put_image(disks, &mut left.crashed)
+    left.crashes(disks.log.held(), disks.db.held())
 }
