@@ -1,6 +1,10 @@
 //! An open book, and what is in it.
 
-ghost use Rattle.std.specs.Prelude.{◌≡◌, false};
+ghost use Rattle.std.specs.Prelude.{◌≡◌, false, IfOk};
+ghost use Rattle.sqlite.specs.Held.{state};
+ghost use Rattle.sqlite.specs.State.{HasCleanDisk};
+ghost use Rattle.till_book.specs.Steps.{Stays};
+ghost use Rattle.till_program.specs.Word.{IsPlaceIn, IsPlaceOf};
 
 use crate::fault::TillFault;
 use counter_routes::Routes;
@@ -22,9 +26,17 @@ pub struct Book {
     pub(crate) last: Option<Moment>,
 }
 
-/// The length as a number of rows.
-fn count(len: usize) -> Result<u32, TillFault> {
-    u32::try_from(len).map_err(|_| TillFault::Full)
+/// How many entries and replies the rows have.
+fn place_in(rows: &BookRows) -> Result<Place, TillFault>
+    ensures { IfOk result (λ place. IsPlaceIn place rows.now) }
+{
+    let Ok(entries) = u32::try_from(rows.entries.as_slice().len()) else {
+        return Err(TillFault::Full);
+    };
+    let Ok(replies) = u32::try_from(rows.replies.as_slice().len()) else {
+        return Err(TillFault::Full);
+    };
+    Ok(Place { entries, replies })
 }
 
 /// The moment of the last entry, where there is one that is a branch's command.
@@ -44,7 +56,7 @@ fn last_moment(
 }
 
 impl Book {
-    /// Reads the book.
+    /// Reads the book, which stays.
     pub fn read<S: Alter>(
         alloc: Global,
         routes: &Routes,
@@ -52,29 +64,34 @@ impl Book {
     ) -> Result<Book, TillFault>
         requires { conn.old.in_transaction ≡ false }
         ensures ended { conn.new.in_transaction ≡ false }
+        ensures clean { HasCleanDisk (state S.Store conn.new) → HasCleanDisk (state S.Store conn.old) }
+        ensures stays { HasCleanDisk (state S.Store conn.new) → Stays (state S.Store conn.old) (state S.Store conn.new) }
+        ensures place { HasCleanDisk (state S.Store conn.new) → IfOk result (λ book. IsPlaceOf book.place (state S.Store conn.old)) }
     {
         let Ok(rows) = read_book(alloc, conn) else {
             return Err(TillFault::Book);
         };
-        let place = Place {
-            entries: count(rows.entries.as_slice().len())?,
-            replies: count(rows.replies.as_slice().len())?,
-        };
+        let place = place_in(&rows)?;
         let last = last_moment(alloc, routes, &rows)?;
         Ok(Book { rows, place, last })
     }
 
-    /// The command of the entry at that place, the first of which is 0.
+    /// The request of the entry at that place, the first of which is 0.
+    pub(crate) fn request_at(&self, at: usize) -> Option<&[u8]> {
+        Some(self.rows.entries.as_slice().get(at)?.request.as_slice())
+    }
+
+    /// The command of the entry at that place.
     pub(crate) fn command_at(
         &self,
         alloc: Global,
         routes: &Routes,
         at: usize,
     ) -> Result<Command, TillFault> {
-        let Some(entry) = self.rows.entries.as_slice().get(at) else {
+        let Some(request) = self.request_at(at) else {
             return Err(TillFault::OtherBook);
         };
-        match command_of(alloc, routes, entry.request.as_slice()) {
+        match command_of(alloc, routes, request) {
             Ok(command) => Ok(command),
             Err(NotSealed::Memory) => Err(TillFault::Memory),
             Err(NotSealed::Other) => Err(TillFault::OtherBook),

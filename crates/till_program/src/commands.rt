@@ -1,6 +1,10 @@
 //! A command is entered, sent, and answered.
 
 ghost use Rattle.std.specs.Prelude.{◌≡◌, false};
+ghost use Rattle.sqlite.specs.Held.{state};
+ghost use Rattle.sqlite.specs.State.{HasCleanDisk};
+ghost use Rattle.till_desk.specs.Desk.{GoesOn};
+ghost use Rattle.till_program.specs.Faults.{IsBookKept};
 
 use crate::book::Book;
 use crate::caches::Shelf;
@@ -8,11 +12,12 @@ use crate::desk::Desk;
 use crate::fault::TillFault;
 use crate::lists::name_if_known;
 use crate::said::Said;
-use shop_types::{Act, CustomerNo, Refusal};
+use crate::sendings::send_all;
+use shop_types::{Act, CustomerNo, Moment, Refusal};
 use sqlite::{Alter, Connection};
 use std::time::Clock;
 use till_client::Answer;
-use till_desk::{Server, Watch, enter, send_waiting};
+use till_desk::{Server, Watch, enter};
 use till_requests::{command_request, next_moment};
 use till_shows::{money, refusal_in, reply_line, told_refusal};
 
@@ -25,7 +30,6 @@ const SPAN: u64 = 120;
 /// What an entry was told.
 #[derive(Drop)]
 pub(crate) struct Told {
-    pub(crate) number: u32,
     pub(crate) answer: Answer,
 }
 
@@ -37,19 +41,27 @@ impl Told {
     pub(crate) fn is_accepted(&self) -> bool {
         self.answer.status == 200
     }
+
+    /// Whether its moment was behind the branch's.
+    fn is_back(&self) -> bool {
+        matches!(self.refusal(), Some(Refusal::MomentBack))
+    }
 }
 
-/// Enters a command behind the last entry, at the clock's moment or so many seconds behind it.
-fn enter_act<S: Alter, K: Clock, V: Server, L: Shelf>(
+/// A command's request, and its moment.
+#[derive(Drop)]
+struct Prepared {
+    request: Vec<u8>,
+    at: Moment,
+}
+
+/// The request of the next entry, at the clock's moment or so many seconds behind it.
+fn next_request<K: Clock, V: Server, L: Shelf>(
     desk: &Desk<'_, K, V, L>,
-    conn: &mut Connection<S>,
-    book: &mut Book,
+    book: &Book,
     act: &Act,
     ahead: u64,
-) -> Result<(), TillFault>
-    requires { conn.old.in_transaction ≡ false }
-    ensures ended { conn.new.in_transaction ≡ false }
-{
+) -> Result<Prepared, TillFault> {
     let staff = desk.giver()?;
     let now = desk.now()?;
     let at = next_moment(now, book.last, ahead).ok_or(TillFault::System)?;
@@ -69,9 +81,55 @@ fn enter_act<S: Alter, K: Clock, V: Server, L: Shelf>(
         at,
         act,
     )?;
-    enter(desk.alloc, conn, desk.identity(), &mut book.place, request)?;
-    book.last = Some(at);
-    Ok(())
+    Ok(Prepared { request, at })
+}
+
+/// Enters a command behind the last entry, at the clock's moment or so many seconds behind it.
+fn enter_act<S: Alter, K: Clock, V: Server, L: Shelf>(
+    desk: &Desk<'_, K, V, L>,
+    conn: &mut Connection<S>,
+    book: &mut Book,
+    act: &Act,
+    ahead: u64,
+) -> Result<(), TillFault>
+    requires { conn.old.in_transaction ≡ false }
+    ensures ended { conn.new.in_transaction ≡ false }
+    ensures clean { HasCleanDisk (state S.Store conn.new) → HasCleanDisk (state S.Store conn.old) }
+    ensures keeps { HasCleanDisk (state S.Store conn.new) → IsBookKept result → GoesOn desk.now.settings.now.mark book.old.place (state S.Store conn.old) book.new.place (state S.Store conn.new) }
+{
+    let Prepared { request, at } = next_request(desk, book, act, ahead)?;
+    match enter(desk.alloc, conn, desk.identity(), &mut book.place, request) {
+        Ok(()) => {
+            book.last = Some(at);
+            Ok(())
+        }
+        Err(fault) => Err(TillFault::from(fault)),
+    }
+}
+
+/// Enters a command, and sends what waits and then it.
+fn give_once<S: Alter, K: Clock, V: Server, L: Shelf, W: Watch>(
+    desk: &Desk<'_, K, V, L>,
+    conn: &mut Connection<S>,
+    book: &mut Book,
+    act: &Act,
+    ahead: u64,
+    watch: &mut W,
+) -> Result<Told, TillFault>
+    requires { conn.old.in_transaction ≡ false }
+    ensures ended { conn.new.in_transaction ≡ false }
+    ensures clean { HasCleanDisk (state S.Store conn.new) → HasCleanDisk (state S.Store conn.old) }
+    ensures keeps { HasCleanDisk (state S.Store conn.new) → IsBookKept result → GoesOn desk.now.settings.now.mark book.old.place (state S.Store conn.old) book.new.place (state S.Store conn.new) }
+{
+    match enter_act(desk, conn, book, act, ahead) {
+        Ok(()) => {}
+        Err(fault) => return Err(fault),
+    }
+    match send_all(desk, conn, &mut book.place, watch) {
+        Ok(Some(answer)) => Ok(Told { answer }),
+        Ok(None) => Err(TillFault::OtherBook),
+        Err(fault) => Err(fault),
+    }
 }
 
 /// Enters a command, and sends what waits and then it. One whose moment was behind the branch's never acts, and is entered anew, later and later, up to two minutes
@@ -85,30 +143,19 @@ pub(crate) fn give<S: Alter, K: Clock, V: Server, L: Shelf, W: Watch>(
 ) -> Result<Told, TillFault>
     requires { conn.old.in_transaction ≡ false }
     ensures ended { conn.new.in_transaction ≡ false }
+    ensures clean { HasCleanDisk (state S.Store conn.new) → HasCleanDisk (state S.Store conn.old) }
+    ensures keeps { HasCleanDisk (state S.Store conn.new) → IsBookKept result → GoesOn desk.now.settings.now.mark book.old.place (state S.Store conn.old) book.new.place (state S.Store conn.new) }
 {
     let mut told = Err(TillFault::OtherBook);
     'tries: for ahead in AHEAD {
-        enter_act(desk, conn, book, act, ahead)?;
-        let sent = send_waiting(
-            desk.alloc,
-            desk.clock,
-            desk.server,
-            watch,
-            conn,
-            &mut book.place,
-        )?;
-        let Some(answer) = sent else {
-            return Err(TillFault::OtherBook);
+        let it = match give_once(desk, conn, book, act, ahead, watch) {
+            Ok(it) => it,
+            Err(fault) => return Err(fault),
         };
-        let it = Told {
-            number: book.place.entries,
-            answer,
-        };
-        let is_back = matches!(it.refusal(), Some(Refusal::MomentBack));
-        told = Ok(it);
-        if !is_back {
-            break;
+        if !it.is_back() {
+            return Ok(it);
         }
+        told = Ok(it);
     }
     told
 }

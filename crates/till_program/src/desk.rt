@@ -1,5 +1,7 @@
 //! What a till has beside its book.
 
+ghost use Rattle.std.specs.Prelude.{◌≡◌};
+
 use crate::caches::Shelf;
 use crate::fault::TillFault;
 use counter_routes::Routes;
@@ -29,7 +31,10 @@ pub struct Desk<'d, K: Clock, V: Server, L: Shelf> {
 }
 
 impl<K: Clock, V: Server, L: Shelf> Desk<'_, K, V, L> {
-    pub(crate) fn identity(&self) -> Identity<'_> {
+    /// Who the till is, by its settings.
+    pub(crate) fn identity(&self) -> Identity<'_>
+        ensures { result.mark.now ≡ self.now.settings.now.mark }
+    {
         Identity {
             routes: self.routes,
             mark: self.settings.mark.as_bytes().as_slice(),

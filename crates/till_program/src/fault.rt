@@ -1,5 +1,8 @@
 //! What keeps the till from doing a word.
 
+ghost use Rattle.std.specs.Prelude.{◌≡◌};
+ghost use Rattle.till_program.specs.Faults.{told_fault};
+
 use std::alloc::{AllocError, AllocFailed};
 use std::{fmt, io};
 use till_desk::DeskFault;
@@ -147,6 +150,8 @@ impl From<io::Error> for TillFault {
 }
 
 impl From<DeskFault> for TillFault {
+    ghost from_gives = { λ fault told. told ≡ told_fault fault };
+
     fn from(fault: DeskFault) -> TillFault {
         match fault {
             DeskFault::Book => TillFault::Book,

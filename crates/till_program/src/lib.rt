@@ -28,5 +28,6 @@ pub use desk::Desk;
 pub use fault::TillFault;
 pub use program::run;
 pub use said::Said;
+pub use settling::make_sure;
 pub use watch::Quiet;
 pub use word::do_word;

@@ -4,25 +4,52 @@ use crate::caches::Shelf;
 use crate::desk::Desk;
 use crate::fault::TillFault;
 use shop_types::{CustomerNo, FilmNo, View};
+use std::alloc::Global;
 use std::time::Clock;
 use till_desk::Server;
 use till_requests::view_request;
-use till_shows::{customer_named, film_named};
-
-/// The shelf's names of the lists.
-pub(crate) const CUSTOMERS: &str = "customers";
-
-pub(crate) const FILMS: &str = "films";
+use till_shows::{NotShown, Table, customer_named, customers_with, film_named, films_with};
 
 /// For how many seconds a list is kept.
 const KEPT: u64 = 600;
 
+/// A list that is kept.
+#[derive(Clone, Copy)]
+pub(crate) enum List {
+    /// The branch's customers.
+    Customers,
+    /// All films.
+    Films,
+}
+
+impl List {
+    /// Its name on the shelf.
+    pub(crate) fn name(self) -> &'static str {
+        match self {
+            List::Customers => "customers",
+            List::Films => "films",
+        }
+    }
+
+    fn view(self) -> View {
+        match self {
+            List::Customers => View::CustomerList,
+            List::Films => View::FilmList,
+        }
+    }
+
+    /// Those in the list's body in which the part stands.
+    fn with(self, alloc: Global, body: &[u8], part: &str) -> Result<Table, NotShown> {
+        match self {
+            List::Customers => customers_with(alloc, body, part),
+            List::Films => films_with(alloc, body, part),
+        }
+    }
+}
+
 /// The list, where the shelf has one that isn't old.
-fn kept<K: Clock, V: Server, L: Shelf>(
-    desk: &Desk<'_, K, V, L>,
-    name: &'static str,
-) -> Option<Vec<u8>> {
-    let (second, bytes) = desk.shelf.take(desk.alloc, name)?;
+fn kept<K: Clock, V: Server, L: Shelf>(desk: &Desk<'_, K, V, L>, list: List) -> Option<Vec<u8>> {
+    let (second, bytes) = desk.shelf.take(desk.alloc, list.name())?;
     let now = desk.seconds().ok()?;
     if second <= now && now - second < KEPT {
         Some(bytes)
@@ -34,39 +61,43 @@ fn kept<K: Clock, V: Server, L: Shelf>(
 /// The list as the server has it now, which the shelf gets.
 fn fetched<K: Clock, V: Server, L: Shelf>(
     desk: &Desk<'_, K, V, L>,
-    name: &'static str,
-    view: View,
+    list: List,
 ) -> Result<Vec<u8>, TillFault> {
-    let request = view_request(desk.alloc, desk.routes, &desk.settings.token, view)?;
+    let request = view_request(desk.alloc, desk.routes, &desk.settings.token, list.view())?;
     let answer = desk.ask(request.as_slice())?;
     if answer.status != 200 {
         return Err(TillFault::Foreign);
     }
     if let Ok(now) = desk.seconds() {
         desk.shelf
-            .put(desk.alloc, name, now, answer.body.as_slice());
+            .put(desk.alloc, list.name(), now, answer.body.as_slice());
     }
     Ok(answer.body)
 }
 
-/// The branch's customers, as the view has them.
-pub(crate) fn customers<K: Clock, V: Server, L: Shelf>(
-    desk: &Desk<'_, K, V, L>,
-) -> Result<Vec<u8>, TillFault> {
-    match kept(desk, CUSTOMERS) {
-        Some(list) => Ok(list),
-        None => fetched(desk, CUSTOMERS, View::CustomerList),
-    }
+/// A list's body, and those in it that were looked for.
+#[derive(Drop)]
+pub(crate) struct Picked {
+    pub(crate) body: Vec<u8>,
+    pub(crate) table: Table,
 }
 
-/// All films, as the view has them.
-pub(crate) fn films<K: Clock, V: Server, L: Shelf>(
+/// Those of a list in which the part stands; where the kept list has none, a new one is asked for.
+pub(crate) fn found<K: Clock, V: Server, L: Shelf>(
     desk: &Desk<'_, K, V, L>,
-) -> Result<Vec<u8>, TillFault> {
-    match kept(desk, FILMS) {
-        Some(list) => Ok(list),
-        None => fetched(desk, FILMS, View::FilmList),
+    list: List,
+    part: &str,
+) -> Result<Picked, TillFault> {
+    if let Some(body) = kept(desk, list) {
+        if let Ok(table) = list.with(desk.alloc, body.as_slice(), part) {
+            if !table.is_empty() {
+                return Ok(Picked { body, table });
+            }
+        }
     }
+    let body = fetched(desk, list)?;
+    let table = list.with(desk.alloc, body.as_slice(), part)?;
+    Ok(Picked { body, table })
 }
 
 /// The customer's name, where the kept list has it: nothing is asked for it.
@@ -74,7 +105,7 @@ pub(crate) fn name_if_known<K: Clock, V: Server, L: Shelf>(
     desk: &Desk<'_, K, V, L>,
     customer: CustomerNo,
 ) -> Option<String> {
-    let list = kept(desk, CUSTOMERS)?;
+    let list = kept(desk, List::Customers)?;
     customer_named(desk.alloc, list.as_slice(), customer).ok()?
 }
 
@@ -86,7 +117,7 @@ pub(crate) fn name_of<K: Clock, V: Server, L: Shelf>(
     if let Some(name) = name_if_known(desk, customer) {
         return Ok(Some(name));
     }
-    let list = fetched(desk, CUSTOMERS, View::CustomerList)?;
+    let list = fetched(desk, List::Customers)?;
     Ok(customer_named(desk.alloc, list.as_slice(), customer)?)
 }
 
@@ -95,11 +126,11 @@ pub(crate) fn title_of<K: Clock, V: Server, L: Shelf>(
     desk: &Desk<'_, K, V, L>,
     film: FilmNo,
 ) -> Result<Option<String>, TillFault> {
-    if let Some(list) = kept(desk, FILMS) {
+    if let Some(list) = kept(desk, List::Films) {
         if let Ok(Some(title)) = film_named(desk.alloc, list.as_slice(), film) {
             return Ok(Some(title));
         }
     }
-    let list = fetched(desk, FILMS, View::FilmList)?;
+    let list = fetched(desk, List::Films)?;
     Ok(film_named(desk.alloc, list.as_slice(), film)?)
 }

@@ -5,6 +5,7 @@ use crate::caches::Shelf;
 use crate::desk::Desk;
 use crate::fault::TillFault;
 use crate::said::Said;
+use std::alloc::Global;
 use std::time::Clock;
 use till_book::BookReply;
 use till_desk::Server;
@@ -30,6 +31,30 @@ fn outcome<K: Clock, V: Server, L: Shelf>(
     }
 }
 
+/// Head office's words in a request, whose body lists them, but for the key behind them.
+fn office_words(request: &[u8]) -> Option<&str> {
+    let text = std::str::from_utf8(request).ok()?;
+    let (_, body) = text.split_once("\r\n\r\n")?;
+    let (words, _) = body.strip_prefix("[\"")?.rsplit_once("\",\"--key\",\"")?;
+    Some(words)
+}
+
+/// The same as a line, with blanks between them.
+fn words_line(alloc: Global, request: Option<&[u8]>) -> Result<String, TillFault> {
+    let mut line = String::new(alloc);
+    let Some(words) = request.and_then(office_words) else {
+        line.push_str("head office's words")?;
+        return Ok(line);
+    };
+    for word in words.split("\",\"") {
+        if !line.as_str().is_empty() {
+            line.push_str(" ")?;
+        }
+        line.push_str(word)?;
+    }
+    Ok(line)
+}
+
 /// A row for the entry at that place.
 fn add_entry<K: Clock, V: Server, L: Shelf>(
     desk: &Desk<'_, K, V, L>,
@@ -42,7 +67,7 @@ fn add_entry<K: Clock, V: Server, L: Shelf>(
     row.push(format!(in alloc; "{}", at.saturating_add(1))?)?;
     match book.command_at(alloc, desk.routes, at) {
         Ok(command) => row.push(asks_for(alloc, &command).map_err(|_| TillFault::Memory)?)?,
-        Err(TillFault::OtherBook) => row.push(String::from_str(alloc, "head office's words")?)?,
+        Err(TillFault::OtherBook) => row.push(words_line(alloc, book.request_at(at))?)?,
         Err(fault) => return Err(fault),
     }
     row.push(outcome(desk, book.told_at(at))?)?;

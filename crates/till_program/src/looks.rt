@@ -4,19 +4,22 @@ use crate::caches::Shelf;
 use crate::commands::called;
 use crate::desk::Desk;
 use crate::fault::TillFault;
-use crate::lists::{customers, films, name_of, title_of};
+use crate::lists::{List, found, name_of, title_of};
 use crate::said::Said;
-use shop_types::{Ask, CopyNo, FilmNo, Moment, View};
+use shop_types::{Ask, CopyNo, CustomerNo, FilmNo, Moment, Refusal, View};
 use std::time::Clock;
 use till_client::Answer;
 use till_desk::Server;
 use till_requests::{look_request, view_request};
 use till_shows::{
-    Table, arrivals, balance_line, customer_sheet, customers_with, film_in_stock_line,
-    film_not_in_stock_line, film_sheet, films_with, holder, holder_line, in_stock_line, overdue,
-    refusal_in, rewards_line, sales_by_film_category, sales_by_store, sent, told_refusal,
+    Table, arrivals, balance_line, customer_sheet, film_in_stock_line, film_not_in_stock_line,
+    film_sheet, holder, holder_line, in_stock_line, overdue, refusal_in, rewards_line,
+    sales_by_film_category, sales_by_store, sent, told_refusal,
 };
 use till_words::TillLook;
+
+/// Below this a number is too short to be looked for in telephone numbers.
+const SHORT: u32 = 100;
 
 /// The answer to a look.
 fn looked<K: Clock, V: Server, L: Shelf>(
@@ -105,7 +108,6 @@ fn line_look<K: Clock, V: Server, L: Shelf>(
     }
     let (alloc, body) = (desk.alloc, answer.body.as_slice());
     match ask {
-        Ask::Customer(_) => said.text.push_str(customer_sheet(alloc, body)?.as_str())?,
         Ask::Film(_) => said.text.push_str(film_sheet(alloc, body)?.as_str())?,
         Ask::InStock(copy) => said.line(in_stock_line(alloc, *copy, body)?.as_str())?,
         Ask::FilmInStock(film) => said.line(film_in_stock_line(alloc, *film, body)?.as_str())?,
@@ -184,25 +186,58 @@ fn sales<K: Clock, V: Server, L: Shelf>(
     Ok(())
 }
 
-/// Customers or films that are looked for by a part of their texts.
-fn found<K: Clock, V: Server, L: Shelf>(
+/// Customers or films that are looked for by a part of their texts; for a program the whole list.
+fn search<K: Clock, V: Server, L: Shelf>(
     desk: &Desk<'_, K, V, L>,
-    list: Vec<u8>,
+    list: List,
     part: &str,
-    are_films: bool,
     said: &mut Said,
 ) -> Result<(), TillFault> {
+    let it = found(desk, list, part)?;
     if desk.is_json {
-        said.line(std::str::from_utf8(list.as_slice()).map_err(|_| TillFault::Foreign)?)?;
+        said.line(std::str::from_utf8(it.body.as_slice()).map_err(|_| TillFault::Foreign)?)?;
         return Ok(());
     }
-    if are_films {
-        let table = films_with(desk.alloc, list.as_slice(), part)?;
-        says_table(desk, table, "no film has that in its title", said)
-    } else {
-        let table = customers_with(desk.alloc, list.as_slice(), part)?;
-        says_table(desk, table, "no customer has that in name or phone", said)
+    let none = match list {
+        List::Customers => "no customer has that in name or phone",
+        List::Films => "no film has that in its title",
+    };
+    says_table(desk, it.table, none, said)
+}
+
+/// Those who have a customer's number in their telephone number, where that is no short one: a number that no customer of the branch has may be meant so.
+fn with_phone<K: Clock, V: Server, L: Shelf>(
+    desk: &Desk<'_, K, V, L>,
+    customer: CustomerNo,
+    answer: &Answer,
+) -> Result<Option<Table>, TillFault> {
+    let refusal = refusal_in(answer.status, answer.body.as_slice());
+    if desk.is_json || customer.get() < SHORT || !matches!(refusal, Some(Refusal::NoCustomer)) {
+        return Ok(None);
     }
+    let alloc = desk.alloc;
+    let digits = format!(in alloc; "{}", customer.get())?;
+    let it = found(desk, List::Customers, digits.as_str())?;
+    Ok(Some(it.table))
+}
+
+/// The customer of a number, or those who have it in their telephone number.
+fn customer_look<K: Clock, V: Server, L: Shelf>(
+    desk: &Desk<'_, K, V, L>,
+    customer: CustomerNo,
+    said: &mut Said,
+) -> Result<(), TillFault> {
+    let answer = looked(desk, &Ask::Customer(customer))?;
+    if let Some(table) = with_phone(desk, customer, &answer)? {
+        if !table.is_empty() {
+            return says_table(desk, table, "", said);
+        }
+    }
+    if !says_all(desk, &answer, said)? {
+        let sheet = customer_sheet(desk.alloc, answer.body.as_slice())?;
+        said.text.push_str(sheet.as_str())?;
+    }
+    Ok(())
 }
 
 /// Looks, and puts what is said of it.
@@ -213,10 +248,10 @@ fn put_look<K: Clock, V: Server, L: Shelf>(
     said: &mut Said,
 ) -> Result<(), TillFault> {
     match look {
-        TillLook::Customer(customer) => line_look(desk, &Ask::Customer(customer), said),
-        TillLook::Customers(part) => found(desk, customers(desk)?, part.as_str(), false, said),
+        TillLook::Customer(customer) => customer_look(desk, customer, said),
+        TillLook::Customers(part) => search(desk, List::Customers, part.as_str(), said),
         TillLook::Film(film) => line_look(desk, &Ask::Film(film), said),
-        TillLook::Films(part) => found(desk, films(desk)?, part.as_str(), true, said),
+        TillLook::Films(part) => search(desk, List::Films, part.as_str(), said),
         TillLook::InStock(copy) => line_look(desk, &Ask::InStock(copy), said),
         TillLook::HeldBy(copy) => held_by(desk, copy, said),
         TillLook::Copies(film) => copies(desk, film, said),

@@ -1,16 +1,19 @@
 //! Head office's words at a till, over a running server.
 
 ghost use Rattle.std.specs.Prelude.{◌≡◌, false};
+ghost use Rattle.sqlite.specs.Held.{state};
+ghost use Rattle.sqlite.specs.State.{HasCleanDisk};
 
 use crate::book::Book;
 use crate::caches::Shelf;
 use crate::desk::Desk;
 use crate::fault::TillFault;
 use crate::said::Said;
+use crate::sendings::send_all;
 use sqlite::{Alter, Connection};
 use std::time::Clock;
 use till_client::Answer;
-use till_desk::{Server, Watch, enter_request, send_waiting};
+use till_desk::{Server, Watch, enter_request};
 use till_requests::{NotSaid, office_look_request, office_request};
 use till_shows::{refusal_in, told_refusal};
 
@@ -64,11 +67,12 @@ pub(crate) fn give_office<S: Alter, K: Clock, V: Server, L: Shelf, W: Watch>(
 ) -> Result<Said, TillFault>
     requires { conn.old.in_transaction ≡ false }
     ensures ended { conn.new.in_transaction ≡ false }
+    ensures clean { HasCleanDisk (state S.Store conn.new) → HasCleanDisk (state S.Store conn.old) }
 {
-    let (alloc, settings) = (desk.alloc, desk.settings);
+    let settings = desk.settings;
     let number = book.place.entries.checked_add(1).ok_or(TillFault::Full)?;
     let sealed = office_request(
-        alloc,
+        desk.alloc,
         desk.routes,
         &settings.token,
         &settings.mark,
@@ -80,7 +84,7 @@ pub(crate) fn give_office<S: Alter, K: Clock, V: Server, L: Shelf, W: Watch>(
         Err(fault) => return unsaid(fault),
     };
     enter_request(conn, &mut book.place, sealed.bytes.as_slice())?;
-    match send_waiting(alloc, desk.clock, desk.server, watch, conn, &mut book.place)? {
+    match send_all(desk, conn, &mut book.place, watch)? {
         Some(answer) => tell(desk, &answer),
         None => Err(TillFault::OtherBook),
     }

@@ -1,19 +1,24 @@
 //! The program for one list of words.
 
+ghost use Rattle.std.specs.Prelude.{◌≡◌, false};
+
+use crate::caches::Shelf;
 use crate::desk::Desk;
 use crate::fault::TillFault;
 use crate::files::{FileShelf, is_there, open_at};
 use crate::init::{begin, settings_of};
 use crate::prompt::prompt;
 use crate::said::Said;
+use crate::settling::make_sure;
 use crate::tcp::Tcp;
 use crate::word::do_word;
 use counter_routes::Routes;
 use shop_types::{Act, StaffNo, StockFile, Usage};
+use sqlite::{Alter, Connection};
 use std::fs;
 use std::io::Write;
 use std::time::{Clock, Duration};
-use till_desk::Watch;
+use till_desk::{Server, Watch};
 use till_files::close_book;
 use till_words::{FileName, TillAct, TillLine, help_text, read_till_words};
 
@@ -53,14 +58,57 @@ fn with_file(rt: &HostRuntime, act: TillAct) -> Result<TillAct, TillFault> {
     }
 }
 
-/// Does a word at the book of that name.
-fn at_book<'x>(
+/// Prints what a word came to, and tells its status.
+fn print<W: Write, E: Write>(said: Result<Said, TillFault>, out: &mut W, err: &mut E) -> u8 {
+    match said {
+        Ok(Said { text, status: 0 }) => {
+            let is_out = write!(out, "{text}").is_ok() && out.flush().is_ok();
+            if is_out { 0 } else { 3 }
+        }
+        Ok(Said { text, status }) => {
+            let _ = write!(err, "{text}");
+            status
+        }
+        Err(fault) => {
+            let _ = writeln!(err, "{fault}");
+            fault.status()
+        }
+    }
+}
+
+/// Does a word at an open book, and prints what it came to. Where it is done, refused entries are made sure of behind it: what that comes to is printed where it comes
+/// to anything, and else it is for another time.
+fn word_at<S: Alter, K: Clock, V: Server, L: Shelf, W: Write, E: Write>(
+    desk: &Desk<'_, K, V, L>,
+    conn: &mut Connection<S>,
+    act: TillAct,
+    watch: &mut Progress<'_>,
+    out: &mut W,
+    err: &mut E,
+) -> u8
+    requires { conn.old.in_transaction ≡ false }
+    ensures ended { conn.new.in_transaction ≡ false }
+{
+    let said = do_word(desk, conn, act, watch);
+    let status = print(said, out, err);
+    if status == 0 {
+        let mut more = Said::done(desk.alloc);
+        let _ = make_sure(desk, conn, &mut more);
+        print(Ok(more), out, err);
+    }
+    status
+}
+
+/// Does a word at the book of that name, prints what it came to, and tells its status.
+fn at_book<'x, W: Write, E: Write>(
     rt: &'x HostRuntime,
     book: &'x str,
     is_json: bool,
     staff: Option<StaffNo>,
     act: TillAct,
-) -> Result<Said, TillFault> {
+    out: &mut W,
+    err: &mut E,
+) -> Result<u8, TillFault> {
     let alloc = rt.alloc();
     if !is_there(rt, book) {
         return Err(TillFault::NoBook);
@@ -89,27 +137,9 @@ fn at_book<'x>(
         rt,
         next: now.saturating_add(Duration::from_secs(1)),
     };
-    let said = do_word(&desk, &mut conn, act, &mut watch);
+    let status = word_at(&desk, &mut conn, act, &mut watch, out, err);
     drop(close_book(conn));
-    said
-}
-
-/// Prints what a word came to, and tells its status.
-fn print<W: Write, E: Write>(said: Result<Said, TillFault>, out: &mut W, err: &mut E) -> u8 {
-    match said {
-        Ok(Said { text, status: 0 }) => match write!(out, "{text}") {
-            Ok(()) => 0,
-            Err(_) => 3,
-        },
-        Ok(Said { text, status }) => {
-            let _ = write!(err, "{text}");
-            status
-        }
-        Err(fault) => {
-            let _ = writeln!(err, "{fault}");
-            fault.status()
-        }
-    }
+    Ok(status)
 }
 
 /// The name of the book's file.
@@ -121,8 +151,13 @@ fn book_of(rt: &HostRuntime, named: &Option<FileName>) -> Result<String, TillFau
     Ok(String::from_str(rt.alloc(), name)?)
 }
 
-/// Does what a line of words asks for, but for a prompt, of which there is only one.
-fn perform_line(rt: &HostRuntime, line: TillLine) -> Result<Said, TillFault> {
+/// Does what a line of words asks for, but for a prompt, of which there is only one, prints what it came to, and tells its status.
+fn perform_line<W: Write, E: Write>(
+    rt: &HostRuntime,
+    line: TillLine,
+    out: &mut W,
+    err: &mut E,
+) -> Result<u8, TillFault> {
     let TillLine {
         book,
         is_json,
@@ -131,18 +166,17 @@ fn perform_line(rt: &HostRuntime, line: TillLine) -> Result<Said, TillFault> {
     } = line;
     let book = book_of(rt, &book)?;
     match act {
-        TillAct::Init(beginning) => begin(rt, book.as_str(), beginning),
-        TillAct::Help | TillAct::Prompt => help(rt),
-        act => at_book(rt, book.as_str(), is_json, staff, act),
+        TillAct::Init(beginning) => Ok(print(begin(rt, book.as_str(), beginning), out, err)),
+        TillAct::Help | TillAct::Prompt => Ok(print(help(rt), out, err)),
+        act => at_book(rt, book.as_str(), is_json, staff, act, out, err),
     }
 }
 
 /// The words that there are.
 fn help(rt: &HostRuntime) -> Result<Said, TillFault> {
-    Ok(Said {
-        text: help_text(rt.alloc())?,
-        status: 0,
-    })
+    let mut text = help_text(rt.alloc())?;
+    text.push_str("\nAt the prompt, exit or quit ends it.\n")?;
+    Ok(Said { text, status: 0 })
 }
 
 /// Does what words ask for that aren't a prompt's beginning.
@@ -153,7 +187,10 @@ pub(crate) fn perform_words<W: Write, E: Write>(
     err: &mut E,
 ) -> u8 {
     match read_till_words(rt.alloc(), words) {
-        Ok(line) => print(perform_line(rt, line), out, err),
+        Ok(line) => match perform_line(rt, line, out, err) {
+            Ok(status) => status,
+            Err(fault) => print(Err(fault), out, err),
+        },
         Err(Usage::Words(text)) => {
             let _ = writeln!(err, "{}", text.as_str().trim_end());
             2

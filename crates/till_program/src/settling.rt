@@ -1,6 +1,11 @@
 //! Refused entries that may have been sent more than once are made sure of, once a later one was accepted.
 
 ghost use Rattle.std.specs.Prelude.{◌≡◌, false};
+ghost use Rattle.sqlite.specs.Held.{state};
+ghost use Rattle.sqlite.specs.State.{HasCleanDisk};
+ghost use Rattle.shop_model.specs.Values.{Text};
+ghost use Rattle.till_program.specs.Faults.{IsBookKept, IsSettlingKept};
+ghost use Rattle.till_program.specs.Word.{EntersNothing, KeepsATillsBook};
 
 use crate::book::Book;
 use crate::caches::Shelf;
@@ -12,7 +17,7 @@ use sqlite::{Alter, Connection};
 use std::time::Clock;
 use till_desk::Server;
 use till_shows::{refusal_in, reply_line};
-use till_work::{Settled, settle};
+use till_work::{SettleFault, Settled, settle};
 
 /// How many entries are made sure of behind one word.
 const MOST: usize = 10;
@@ -49,20 +54,16 @@ fn open_entries(book: &Book) -> [u32; MOST] {
     numbers
 }
 
-/// Makes sure of an entry, and says so where it has acted after all.
-fn settle_one<S: Alter, K: Clock, V: Server, L: Shelf>(
+/// Says what an entry was told that was sent once more, where it has acted after all, and tells whether another may be sent.
+fn say_settled<K: Clock, V: Server, L: Shelf>(
     desk: &Desk<'_, K, V, L>,
-    conn: &mut Connection<S>,
     number: u32,
+    settled: Result<Settled, SettleFault>,
     said: &mut Said,
 ) -> Result<bool, TillFault>
-    requires { conn.old.in_transaction ≡ false }
-    ensures ended { conn.new.in_transaction ≡ false }
+    ensures { IsBookKept result → IsSettlingKept settled }
 {
-    let Ok((mut reader, mut writer)) = desk.server.connect() else {
-        return Ok(false);
-    };
-    match settle(desk.alloc, conn, number, &mut reader, &mut writer) {
+    match settled {
         Ok(Settled::Acted(answer)) => {
             let alloc = desk.alloc;
             let line = reply_line(alloc, answer.body.as_slice())?;
@@ -72,12 +73,32 @@ fn settle_one<S: Alter, K: Clock, V: Server, L: Shelf>(
             Ok(true)
         }
         Ok(_) => Ok(true),
-        Err(_) => Ok(false),
+        Err(SettleFault::Book(_)) => Err(TillFault::Book),
+        Err(SettleFault::NoEntry | SettleFault::Unanswered(_) | SettleFault::NotNow) => Ok(false),
     }
 }
 
+/// Makes sure of an entry, and says so where it has acted after all. Whether another may be asked for is told.
+fn settle_one<S: Alter, K: Clock, V: Server, L: Shelf>(
+    desk: &Desk<'_, K, V, L>,
+    conn: &mut Connection<S>,
+    number: u32,
+    said: &mut Said,
+) -> Result<bool, TillFault>
+    requires { conn.old.in_transaction ≡ false }
+    ensures ended { conn.new.in_transaction ≡ false }
+    ensures clean { HasCleanDisk (state S.Store conn.new) → HasCleanDisk (state S.Store conn.old) }
+    ensures same { HasCleanDisk (state S.Store conn.new) → IsBookKept result → EntersNothing (state S.Store conn.old) (state S.Store conn.new) }
+{
+    let Ok((mut reader, mut writer)) = desk.server.connect() else {
+        return Ok(false);
+    };
+    let settled = settle(desk.alloc, conn, number, &mut reader, &mut writer);
+    say_settled(desk, number, settled, said)
+}
+
 /// Makes sure of some refused entries, where a later one was accepted: each of these has acted by now, or never will. What can't be asked now is asked another time.
-pub(crate) fn settle_refused<S: Alter, K: Clock, V: Server, L: Shelf>(
+fn settle_refused<S: Alter, K: Clock, V: Server, L: Shelf>(
     desk: &Desk<'_, K, V, L>,
     conn: &mut Connection<S>,
     book: &Book,
@@ -85,11 +106,38 @@ pub(crate) fn settle_refused<S: Alter, K: Clock, V: Server, L: Shelf>(
 ) -> Result<(), TillFault>
     requires { conn.old.in_transaction ≡ false }
     ensures ended { conn.new.in_transaction ≡ false }
+    ensures clean { HasCleanDisk (state S.Store conn.new) → HasCleanDisk (state S.Store conn.old) }
+    ensures same { HasCleanDisk (state S.Store conn.new) → IsBookKept result → EntersNothing (state S.Store conn.old) (state S.Store conn.new) }
 {
     'numbers: for number in open_entries(book) {
-        if number == 0 || !settle_one(desk, conn, number, said)? {
-            break;
+        if number == 0 {
+            return Ok(());
+        }
+        match settle_one(desk, conn, number, said) {
+            Ok(true) => continue,
+            Ok(false) => return Ok(()),
+            Err(fault) => return Err(fault),
         }
     }
     Ok(())
+}
+
+/// Makes sure of some refused entries of a branch's book, where a later one was accepted, and says behind what is said which of them have acted all the same. Nothing
+/// is entered or recorded but what they were told, unless the book failed. Head office's commands have no moment, so one that was refused could still be done: it
+/// isn't sent again.
+pub fn make_sure<S: Alter, K: Clock, V: Server, L: Shelf>(
+    desk: &Desk<'_, K, V, L>,
+    conn: &mut Connection<S>,
+    said: &mut Said,
+) -> Result<(), TillFault>
+    requires { conn.old.in_transaction ≡ false }
+    ensures ended { conn.new.in_transaction ≡ false }
+    ensures same { HasCleanDisk (state S.Store conn.new) → IsBookKept result → EntersNothing (state S.Store conn.old) (state S.Store conn.new) }
+    ensures keeps { HasCleanDisk (state S.Store conn.new) → IsBookKept result → (mark : Text) → KeepsATillsBook mark (state S.Store conn.old) (state S.Store conn.new) }
+{
+    if desk.settings.staff.is_none() {
+        return Ok(());
+    }
+    let book = Book::read(desk.alloc, desk.routes, conn)?;
+    settle_refused(desk, conn, &book, said)
 }

@@ -1,20 +1,24 @@
 //! One word at an open book.
 
-ghost use Rattle.std.specs.Prelude.{◌≡◌, false};
+ghost use Rattle.std.specs.Prelude.{◌≡◌, false, IfOk, IsSome};
+ghost use Rattle.sqlite.specs.Held.{state};
+ghost use Rattle.sqlite.specs.State.{HasCleanDisk};
+ghost use Rattle.till_desk.specs.Desk.{GoesOn};
+ghost use Rattle.till_program.specs.Faults.{IsBookKept};
+ghost use Rattle.till_program.specs.Word.{KeepsATillsBook, IsPlannedFor};
 
 use crate::book::Book;
 use crate::caches::Shelf;
 use crate::commands::{Told, give, tell};
 use crate::desk::Desk;
 use crate::fault::TillFault;
-use crate::lists::CUSTOMERS;
+use crate::lists::List;
 use crate::lists_of_entries::{last_entries, waiting_entries};
 use crate::looks::look;
 use crate::office::{give_office, read_office};
 use crate::returns::{customer_of, owed, rental_at};
 use crate::said::Said;
-use crate::sendings::{say_waited, send};
-use crate::settling::settle_refused;
+use crate::sendings::{send, waited};
 use shop_types::{Act, CustomerNo, Moment};
 use sqlite::{Alter, Connection};
 use std::time::Clock;
@@ -34,11 +38,13 @@ enum Plan {
     Say(Said),
 }
 
-/// The plan for head office's words.
+/// The plan for head office's words, which are for its own book.
 fn office_plan<K: Clock, V: Server, L: Shelf>(
     desk: &Desk<'_, K, V, L>,
     words: WordList,
-) -> Result<Plan, TillFault> {
+) -> Result<Plan, TillFault>
+    ensures { IfOk result (IsPlannedFor desk.now.settings.now.staff) }
+{
     if desk.settings.staff.is_some() {
         return Err(TillFault::IsBranch);
     }
@@ -54,7 +60,9 @@ fn act_plan<K: Clock, V: Server, L: Shelf>(
     desk: &Desk<'_, K, V, L>,
     book: &Book,
     act: Act,
-) -> Result<Plan, TillFault> {
+) -> Result<Plan, TillFault>
+    ensures { IfOk result (IsPlannedFor desk.now.settings.now.staff) }
+{
     let _ = desk.giver()?;
     match act {
         Act::TakeBack(rental) => Ok(Plan::Give(act, customer_of(desk, book, rental)?)),
@@ -67,7 +75,9 @@ fn plan_of<K: Clock, V: Server, L: Shelf>(
     desk: &Desk<'_, K, V, L>,
     book: &Book,
     act: TillAct,
-) -> Result<Plan, TillFault> {
+) -> Result<Plan, TillFault>
+    ensures { IfOk result (IsPlannedFor desk.now.settings.now.staff) }
+{
     match act {
         TillAct::Do(act) => act_plan(desk, book, act),
         TillAct::ReturnCopy(copy) => {
@@ -88,27 +98,53 @@ fn plan_of<K: Clock, V: Server, L: Shelf>(
     }
 }
 
-/// Says what became of a command, and what its customer owes.
+/// Says what became of a command, what its customer owes, and what became of those that had waited before it.
 fn told<K: Clock, V: Server, L: Shelf>(
     desk: &Desk<'_, K, V, L>,
     act: &Act,
     customer: Option<CustomerNo>,
     last: Option<Moment>,
     told: &Told,
+    waited: Option<Said>,
 ) -> Result<Said, TillFault> {
     let mut said = tell(desk, act, told)?;
-    if !told.is_accepted() {
-        return Ok(said);
-    }
-    if matches!(act, Act::Customer(_)) {
-        desk.shelf.forget(CUSTOMERS);
-    }
-    if let (Some(customer), false) = (customer, desk.is_json) {
-        if let Ok(line) = owed(desk, customer, last) {
-            said.line(line.as_str())?;
+    if told.is_accepted() {
+        if matches!(act, Act::Customer(_)) {
+            desk.shelf.forget(List::Customers.name());
+        }
+        if let (Some(customer), false) = (customer, desk.is_json) {
+            if let Ok(line) = owed(desk, customer, last) {
+                said.line(line.as_str())?;
+            }
         }
     }
+    if let Some(table) = &waited {
+        said.line("What had waited was sent first:")?;
+        said.text.push_str(table.text.as_str())?;
+    }
     Ok(said)
+}
+
+/// Gives a command, and says what became of it.
+fn give_and_tell<S: Alter, K: Clock, V: Server, L: Shelf, W: Watch>(
+    desk: &Desk<'_, K, V, L>,
+    conn: &mut Connection<S>,
+    book: &mut Book,
+    act: &Act,
+    customer: Option<CustomerNo>,
+    watch: &mut W,
+) -> Result<Said, TillFault>
+    requires { conn.old.in_transaction ≡ false }
+    ensures ended { conn.new.in_transaction ≡ false }
+    ensures clean { HasCleanDisk (state S.Store conn.new) → HasCleanDisk (state S.Store conn.old) }
+    ensures keeps { HasCleanDisk (state S.Store conn.new) → IsBookKept result → GoesOn desk.now.settings.now.mark book.old.place (state S.Store conn.old) book.new.place (state S.Store conn.new) }
+{
+    let it = match give(desk, conn, book, act, watch) {
+        Ok(it) => it,
+        Err(fault) => return Err(fault),
+    };
+    let table = waited(desk, conn, book)?;
+    told(desk, act, customer, book.last, &it, table)
 }
 
 /// Does what was planned, and says what it came to.
@@ -121,22 +157,20 @@ fn carry_out<S: Alter, K: Clock, V: Server, L: Shelf, W: Watch>(
 ) -> Result<Said, TillFault>
     requires { conn.old.in_transaction ≡ false }
     ensures ended { conn.new.in_transaction ≡ false }
+    ensures clean { HasCleanDisk (state S.Store conn.new) → HasCleanDisk (state S.Store conn.old) }
+    ensures keeps { HasCleanDisk (state S.Store conn.new) → IsBookKept result → IsSome desk.now.settings.now.staff → IsPlannedFor desk.now.settings.now.staff plan
+        → GoesOn desk.now.settings.now.mark book.old.place (state S.Store conn.old) book.new.place (state S.Store conn.new) }
 {
     match plan {
         Plan::Say(said) => Ok(said),
         Plan::Office(words) => give_office(desk, conn, book, words.as_slice(), watch),
         Plan::Send => send(desk, conn, book, watch),
-        Plan::Give(act, customer) => {
-            let it = give(desk, conn, book, &act, watch)?;
-            let mut said = told(desk, &act, customer, book.last, &it)?;
-            say_waited(desk, conn, book, &mut said)?;
-            Ok(said)
-        }
+        Plan::Give(act, customer) => give_and_tell(desk, conn, book, &act, customer, watch),
     }
 }
 
-/// Does what a word asks for at an open book, says what it came to, and makes sure of entries that were refused before. A word that makes a book, a prompt, or a
-/// stock file that is still to be read is none of these, and is answered as a usage.
+/// Does what a word asks for at an open book, and says what it came to. A word that makes a book, a prompt, or a stock file that is still to be read is none of
+/// these, and is answered as a usage. A branch's book goes on as one, unless it failed: what stood in it stays.
 pub fn do_word<S: Alter, K: Clock, V: Server, L: Shelf, W: Watch>(
     desk: &Desk<'_, K, V, L>,
     conn: &mut Connection<S>,
@@ -145,13 +179,10 @@ pub fn do_word<S: Alter, K: Clock, V: Server, L: Shelf, W: Watch>(
 ) -> Result<Said, TillFault>
     requires { conn.old.in_transaction ≡ false }
     ensures ended { conn.new.in_transaction ≡ false }
+    ensures keeps { HasCleanDisk (state S.Store conn.new) → IsBookKept result → IsSome desk.now.settings.now.staff
+        → KeepsATillsBook desk.now.settings.now.mark (state S.Store conn.old) (state S.Store conn.new) }
 {
     let mut book = Book::read(desk.alloc, desk.routes, conn)?;
     let plan = plan_of(desk, &book, act)?;
-    let mut said = carry_out(desk, conn, &mut book, plan, watch)?;
-    // Head office's commands have no moment, so one that was refused could still be done: it isn't sent again.
-    if said.status == 0 && desk.settings.staff.is_some() {
-        settle_refused(desk, conn, &book, &mut said)?;
-    }
-    Ok(said)
+    carry_out(desk, conn, &mut book, plan, watch)
 }

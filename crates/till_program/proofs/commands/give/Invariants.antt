@@ -1,5 +1,11 @@
 use Rattle.std.proofs.Common.{◌≡◌, false}
+use Rattle.sqlite.specs.Held.{state}
+use Rattle.sqlite.specs.State.{HasCleanDisk}
+use Rattle.till_desk.specs.Desk.{GoesOn}
 use Rattle.till_program.proofs.commands.give.Given as goal
 
 abbrev pub invariant-tries : goal.invariant-tries
-invariant-tries g l = l.conn.in_transaction ≡ false
+invariant-tries g l =
+    (l.conn.in_transaction ≡ false)
+    × (HasCleanDisk (state g.S.Store l.conn) → HasCleanDisk (state g.S.Store l.initial.conn))
+    × (HasCleanDisk (state g.S.Store l.conn) → GoesOn l.desk.settings.now.mark l.initial.book.place (state g.S.Store l.initial.conn) l.book.place (state g.S.Store l.conn))

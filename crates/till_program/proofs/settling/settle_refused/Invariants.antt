@@ -1,5 +1,11 @@
 use Rattle.std.proofs.Common.{◌≡◌, false}
+use Rattle.sqlite.specs.Held.{state}
+use Rattle.sqlite.specs.State.{HasCleanDisk}
+use Rattle.till_program.specs.Word.{EntersNothing}
 use Rattle.till_program.proofs.settling.settle_refused.Given as goal
 
 abbrev pub invariant-numbers : goal.invariant-numbers
-invariant-numbers g l = l.conn.in_transaction ≡ false
+invariant-numbers g l =
+    (l.conn.in_transaction ≡ false)
+    × (HasCleanDisk (state g.S.Store l.conn) → HasCleanDisk (state g.S.Store l.initial.conn))
+    × (HasCleanDisk (state g.S.Store l.conn) → EntersNothing (state g.S.Store l.initial.conn) (state g.S.Store l.conn))

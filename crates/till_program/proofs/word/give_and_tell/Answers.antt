@@ -1,0 +1,16 @@
+use Rattle.sqlite.specs.Held.{state}
+use Rattle.till_program.proofs.GoingOn.{kept_ok, kept_as, goes_stays}
+use Rattle.till_program.proofs.word.give_and_tell.Goals as goal
+
+pub returns-in-Err-clause-keeps : goal.returns-in-Err-clause-keeps
+returns-in-Err-clause-keeps g c clean kept = c.in-Err.ensures.keeps clean (kept_as c.in-Err.fault kept)
+
+pub returns-in_err-table-clause-keeps : goal.returns-in_err-table-clause-keeps
+returns-in_err-table-clause-keeps g c clean kept =
+    goes_stays c.args.desk.now.settings.now.mark c.args.book.now.place c.give.new.book.place (state g.S.Store c.args.conn.now) (state g.S.Store c.give.new.conn)
+    (state g.S.Store c.waited.new.conn) (c.in-Ok.ensures.keeps (c.waited.ensures.clean clean) (kept_ok _)) (c.waited.ensures.stays clean)
+
+pub returns-clause-keeps : goal.returns-clause-keeps
+returns-clause-keeps g c clean kept =
+    goes_stays c.args.desk.now.settings.now.mark c.args.book.now.place c.give.new.book.place (state g.S.Store c.args.conn.now) (state g.S.Store c.give.new.conn)
+    (state g.S.Store c.waited.new.conn) (c.in-Ok.ensures.keeps (c.waited.ensures.clean clean) (kept_ok _)) (c.waited.ensures.stays clean)
