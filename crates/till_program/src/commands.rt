@@ -6,6 +6,7 @@ ghost use Rattle.sqlite.specs.State.{HasCleanDisk};
 ghost use Rattle.till_desk.specs.Desk.{GoesOn};
 ghost use Rattle.till_program.specs.Faults.{IsBookKept};
 
+use crate::answers::{besides, command_said};
 use crate::book::Book;
 use crate::caches::Shelf;
 use crate::desk::Desk;
@@ -19,7 +20,7 @@ use std::time::Clock;
 use till_client::Answer;
 use till_desk::{Server, Watch, enter};
 use till_requests::{command_request, next_moment};
-use till_shows::{money, refusal_in, reply_line, told_refusal};
+use till_shows::refusal_in;
 
 /// By how many seconds more than the clock says a command goes again whose moment was behind the branch's.
 const AHEAD: [u64; 8] = [0, 1, 3, 7, 15, 31, 63, 119];
@@ -160,30 +161,14 @@ pub(crate) fn give<S: Alter, K: Clock, V: Server, L: Shelf, W: Watch>(
     told
 }
 
-/// What is said behind the line of an accepted command: to whom, or how much.
-fn besides<K: Clock, V: Server, L: Shelf>(
+/// The name of the customer of a rent or a payment; nobody's of another act.
+fn customer_name<K: Clock, V: Server, L: Shelf>(
     desk: &Desk<'_, K, V, L>,
     act: &Act,
 ) -> Result<String, TillFault> {
-    let alloc = desk.alloc;
     match act {
-        Act::Rent { customer, copy } => {
-            let name = called(desk, *customer)?;
-            Ok(format!(in alloc; ": copy {} to {name}", copy.get())?)
-        }
-        Act::Pay {
-            customer,
-            amount,
-            ..
-        } => {
-            let name = called(desk, *customer)?;
-            let amount = money(alloc, i64::from(amount.get())).map_err(|_| TillFault::Memory)?;
-            Ok(format!(in alloc; ": {amount} from {name}")?)
-        }
-        Act::Customer(person) => {
-            Ok(format!(in alloc; ": {} {}", person.first.as_str(), person.last.as_str())?)
-        }
-        _ => Ok(String::new(alloc)),
+        Act::Rent { customer, .. } | Act::Pay { customer, .. } => called(desk, *customer),
+        _ => Ok(String::new(desk.alloc)),
     }
 }
 
@@ -201,30 +186,25 @@ pub(crate) fn called<K: Clock, V: Server, L: Shelf>(
     }
 }
 
+/// What is said behind the command's line, where it was accepted.
+fn more_of<K: Clock, V: Server, L: Shelf>(
+    desk: &Desk<'_, K, V, L>,
+    act: &Act,
+    told: &Told,
+) -> Result<String, TillFault> {
+    if desk.is_json || !told.is_accepted() {
+        return Ok(String::new(desk.alloc));
+    }
+    let name = customer_name(desk, act)?;
+    besides(desk.alloc, act, name.as_str())
+}
+
 /// Says what became of a command.
 pub(crate) fn tell<K: Clock, V: Server, L: Shelf>(
     desk: &Desk<'_, K, V, L>,
     act: &Act,
     told: &Told,
 ) -> Result<Said, TillFault> {
-    let alloc = desk.alloc;
-    let mut said = Said::done(alloc);
-    let body = told.answer.body.as_slice();
-    if !told.is_accepted() {
-        said.status = 1;
-    }
-    if desk.is_json {
-        let text = std::str::from_utf8(body).map_err(|_| TillFault::Foreign)?;
-        said.line(text)?;
-        return Ok(said);
-    }
-    match told.refusal() {
-        Some(refusal) => said.line(told_refusal(alloc, refusal)?.as_str())?,
-        None => {
-            let mut line = reply_line(alloc, body)?;
-            line.push_str(besides(desk, act)?.as_str())?;
-            said.line(line.as_str())?;
-        }
-    }
-    Ok(said)
+    let more = more_of(desk, act, told)?;
+    command_said(desk.alloc, desk.is_json, &told.answer, more.as_str())
 }

@@ -31,6 +31,14 @@ impl List {
         }
     }
 
+    /// What is said where nothing has what is looked for.
+    pub(crate) fn none(self) -> &'static str {
+        match self {
+            List::Customers => "no customer has that in name or phone",
+            List::Films => "no film has that in its title",
+        }
+    }
+
     fn view(self) -> View {
         match self {
             List::Customers => View::CustomerList,

@@ -1,10 +1,12 @@
 //! What the book has, as tables.
 
+use crate::answers::says_table;
 use crate::book::Book;
 use crate::caches::Shelf;
 use crate::desk::Desk;
 use crate::fault::TillFault;
 use crate::said::Said;
+use counter_routes::Routes;
 use std::alloc::Global;
 use std::time::Clock;
 use till_book::BookReply;
@@ -12,21 +14,17 @@ use till_desk::Server;
 use till_shows::{Column, Row, Side, Table, asks_for, refusal_in, reply_line};
 
 /// What became of an entry, in a few words.
-fn outcome<K: Clock, V: Server, L: Shelf>(
-    desk: &Desk<'_, K, V, L>,
-    reply: Option<&BookReply>,
-) -> Result<String, TillFault> {
-    let alloc = desk.alloc;
+fn outcome(alloc: Global, is_office: bool, reply: Option<&BookReply>) -> Result<String, TillFault> {
     let Some(reply) = reply else {
         return Ok(String::from_str(alloc, "waits")?);
     };
     let body = reply.body.as_slice();
     match refusal_in(reply.status, body) {
         Some(refusal) => Ok(format!(in alloc; "refused: {}", refusal.name())?),
-        None if desk.settings.staff.is_none() => {
-            let text = std::str::from_utf8(body).map_err(|_| TillFault::Foreign)?;
-            Ok(String::from_str(alloc, text)?)
-        }
+        None if is_office => match std::str::from_utf8(body) {
+            Ok(text) => Ok(String::from_str(alloc, text)?),
+            Err(_) => Err(TillFault::Foreign),
+        },
         None => Ok(reply_line(alloc, body)?),
     }
 }
@@ -55,24 +53,74 @@ fn words_line(alloc: Global, request: Option<&[u8]>) -> Result<String, TillFault
     Ok(line)
 }
 
+/// What the entry at that place asks for.
+fn asked_at(alloc: Global, routes: &Routes, book: &Book, at: usize) -> Result<String, TillFault> {
+    match book.command_at(alloc, routes, at) {
+        Ok(command) => asks_for(alloc, &command).map_err(|_| TillFault::Memory),
+        Err(TillFault::OtherBook) => words_line(alloc, book.request_at(at)),
+        Err(fault) => Err(fault),
+    }
+}
+
+/// One more row of the table.
+fn add_row(
+    alloc: Global,
+    at: usize,
+    what: String,
+    became: String,
+    table: &mut Table,
+) -> Result<(), TillFault> {
+    let mut row = Row::new(alloc);
+    row.push(format!(in alloc; "{}", at.saturating_add(1))?)?;
+    row.push(what)?;
+    row.push(became)?;
+    table.add(row)?;
+    Ok(())
+}
+
 /// A row for the entry at that place.
-fn add_entry<K: Clock, V: Server, L: Shelf>(
-    desk: &Desk<'_, K, V, L>,
+fn add_entry(
+    alloc: Global,
+    routes: &Routes,
+    is_office: bool,
     book: &Book,
     at: usize,
     table: &mut Table,
 ) -> Result<(), TillFault> {
-    let alloc = desk.alloc;
-    let mut row = Row::new(alloc);
-    row.push(format!(in alloc; "{}", at.saturating_add(1))?)?;
-    match book.command_at(alloc, desk.routes, at) {
-        Ok(command) => row.push(asks_for(alloc, &command).map_err(|_| TillFault::Memory)?)?,
-        Err(TillFault::OtherBook) => row.push(words_line(alloc, book.request_at(at))?)?,
-        Err(fault) => return Err(fault),
+    let what = asked_at(alloc, routes, book, at)?;
+    let became = outcome(alloc, is_office, book.told_at(at))?;
+    add_row(alloc, at, what, became, table)
+}
+
+/// What a list of entries has.
+const COLUMNS: [Column; 3] = [
+    Column {
+        heading: "entry",
+        side: Side::Right,
+    },
+    Column {
+        heading: "what",
+        side: Side::Left,
+    },
+    Column {
+        heading: "became",
+        side: Side::Left,
+    },
+];
+
+/// The table of the entries from that place on.
+fn entries_table(
+    alloc: Global,
+    routes: &Routes,
+    is_office: bool,
+    book: &Book,
+    first: usize,
+) -> Result<Table, TillFault> {
+    let mut table = Table::new(alloc, &COLUMNS)?;
+    for at in first..book.len() {
+        add_entry(alloc, routes, is_office, book, at, &mut table)?;
     }
-    row.push(outcome(desk, book.told_at(at))?)?;
-    table.add(row)?;
-    Ok(())
+    Ok(table)
 }
 
 /// The entries from that place on, as a table.
@@ -82,30 +130,10 @@ pub(crate) fn entries_from<K: Clock, V: Server, L: Shelf>(
     first: usize,
     none: &str,
 ) -> Result<Said, TillFault> {
-    let columns = [
-        Column {
-            heading: "entry",
-            side: Side::Right,
-        },
-        Column {
-            heading: "what",
-            side: Side::Left,
-        },
-        Column {
-            heading: "became",
-            side: Side::Left,
-        },
-    ];
-    let mut said = Said::done(desk.alloc);
-    let mut table = Table::new(desk.alloc, columns.as_slice())?;
-    for at in first..book.len() {
-        add_entry(desk, book, at, &mut table)?;
-    }
-    if table.is_empty() {
-        said.line(none)?;
-    } else {
-        said.text.push_str(table.text(desk.alloc)?.as_str())?;
-    }
+    let (alloc, is_office) = (desk.alloc, desk.settings.staff.is_none());
+    let table = entries_table(alloc, desk.routes, is_office, book, first)?;
+    let mut said = Said::done(alloc);
+    says_table(alloc, &table, none, &mut said)?;
     Ok(said)
 }
 

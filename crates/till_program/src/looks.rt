@@ -1,5 +1,8 @@
 //! What is looked up, and changes nothing.
 
+use crate::answers::{
+    says_all, says_body, says_holder, says_lines, says_list, says_sales, says_table,
+};
 use crate::caches::Shelf;
 use crate::commands::called;
 use crate::desk::Desk;
@@ -11,11 +14,7 @@ use std::time::Clock;
 use till_client::Answer;
 use till_desk::Server;
 use till_requests::{look_request, view_request};
-use till_shows::{
-    Table, arrivals, balance_line, customer_sheet, film_in_stock_line, film_not_in_stock_line,
-    film_sheet, holder, holder_line, in_stock_line, overdue, refusal_in, rewards_line,
-    sales_by_film_category, sales_by_store, sent, told_refusal,
-};
+use till_shows::{Table, customer_sheet, holder, refusal_in};
 use till_words::TillLook;
 
 /// Below this a number is too short to be looked for in telephone numbers.
@@ -38,45 +37,7 @@ fn viewed<K: Clock, V: Server, L: Shelf>(
     desk.ask(request.as_slice())
 }
 
-/// Says a refusal, or the body as it is, where that is to be said: then there is nothing more to say.
-fn says_all<K: Clock, V: Server, L: Shelf>(
-    desk: &Desk<'_, K, V, L>,
-    answer: &Answer,
-    said: &mut Said,
-) -> Result<bool, TillFault> {
-    let body = answer.body.as_slice();
-    if answer.status != 200 {
-        said.status = 1;
-    }
-    if desk.is_json {
-        said.line(std::str::from_utf8(body).map_err(|_| TillFault::Foreign)?)?;
-        return Ok(true);
-    }
-    match refusal_in(answer.status, body) {
-        Some(refusal) => {
-            said.line(told_refusal(desk.alloc, refusal)?.as_str())?;
-            Ok(true)
-        }
-        None => Ok(false),
-    }
-}
-
-/// Says a table, or that nothing is in it.
-fn says_table<K: Clock, V: Server, L: Shelf>(
-    desk: &Desk<'_, K, V, L>,
-    table: Table,
-    none: &str,
-    said: &mut Said,
-) -> Result<(), TillFault> {
-    if table.is_empty() {
-        said.line(none)?;
-    } else {
-        said.text.push_str(table.text(desk.alloc)?.as_str())?;
-    }
-    Ok(())
-}
-
-/// A table of an answer's body, where there is nothing else to say of it.
+/// Says the table of what is asked for, or that nothing is in it.
 fn table_look<K: Clock, V: Server, L: Shelf>(
     desk: &Desk<'_, K, V, L>,
     ask: &Ask,
@@ -84,43 +45,46 @@ fn table_look<K: Clock, V: Server, L: Shelf>(
     said: &mut Said,
 ) -> Result<(), TillFault> {
     let answer = looked(desk, ask)?;
-    if says_all(desk, &answer, said)? {
+    if says_all(desk.alloc, desk.is_json, &answer, said)? {
         return Ok(());
     }
-    let body = answer.body.as_slice();
-    let table = match ask {
-        Ask::Overdue(_) => overdue(desk.alloc, body)?,
-        Ask::Arrivals => arrivals(desk.alloc, body)?,
-        _ => sent(desk.alloc, body)?,
-    };
-    says_table(desk, table, none, said)
+    says_list(desk.alloc, ask, answer.body.as_slice(), none, said)
 }
 
-/// What an answer says of one thing, as lines.
+/// The name of the customer whose balance is asked for; nobody's for anything else.
+fn name_in<K: Clock, V: Server, L: Shelf>(
+    desk: &Desk<'_, K, V, L>,
+    ask: &Ask,
+) -> Result<String, TillFault> {
+    match ask {
+        Ask::Balance { customer, .. } => called(desk, *customer),
+        _ => Ok(String::new(desk.alloc)),
+    }
+}
+
+/// Says what is asked for of one thing, as lines.
 fn line_look<K: Clock, V: Server, L: Shelf>(
     desk: &Desk<'_, K, V, L>,
     ask: &Ask,
     said: &mut Said,
 ) -> Result<(), TillFault> {
     let answer = looked(desk, ask)?;
-    if says_all(desk, &answer, said)? {
+    if says_all(desk.alloc, desk.is_json, &answer, said)? {
         return Ok(());
     }
-    let (alloc, body) = (desk.alloc, answer.body.as_slice());
-    match ask {
-        Ask::Film(_) => said.text.push_str(film_sheet(alloc, body)?.as_str())?,
-        Ask::InStock(copy) => said.line(in_stock_line(alloc, *copy, body)?.as_str())?,
-        Ask::FilmInStock(film) => said.line(film_in_stock_line(alloc, *film, body)?.as_str())?,
-        Ask::FilmNotInStock(film) => {
-            said.line(film_not_in_stock_line(alloc, *film, body)?.as_str())?;
-        }
-        Ask::Balance { customer, at: _ } => {
-            let name = called(desk, *customer)?;
-            said.line(balance_line(alloc, name.as_str(), body)?.as_str())?;
-        }
-        _ => said.line(rewards_line(alloc, body)?.as_str())?,
+    let name = name_in(desk, ask)?;
+    says_lines(desk.alloc, ask, name.as_str(), answer.body.as_slice(), said)
+}
+
+/// The holder's name, where there is one.
+fn holder_name<K: Clock, V: Server, L: Shelf>(
+    desk: &Desk<'_, K, V, L>,
+    who: &Option<CustomerNo>,
+) -> Result<Option<String>, TillFault> {
+    match who {
+        Some(customer) => name_of(desk, *customer),
+        None => Ok(None),
     }
-    Ok(())
 }
 
 /// Who has the copy, by number and name.
@@ -130,21 +94,12 @@ fn held_by<K: Clock, V: Server, L: Shelf>(
     said: &mut Said,
 ) -> Result<(), TillFault> {
     let answer = looked(desk, &Ask::HeldBy(copy))?;
-    if says_all(desk, &answer, said)? {
+    if says_all(desk.alloc, desk.is_json, &answer, said)? {
         return Ok(());
     }
     let who = holder(desk.alloc, answer.body.as_slice())?;
-    let name = match &who {
-        Some(customer) => name_of(desk, *customer)?,
-        None => None,
-    };
-    let mut line = holder_line(desk.alloc, copy, who)?;
-    if let Some(name) = &name {
-        line.push_str(": ")?;
-        line.push_str(name.as_str())?;
-    }
-    said.line(line.as_str())?;
-    Ok(())
+    let name = holder_name(desk, &who)?;
+    says_holder(desk.alloc, copy, who, &name, said)
 }
 
 /// The film's title, and its copies in stock and out.
@@ -165,25 +120,17 @@ fn copies<K: Clock, V: Server, L: Shelf>(
     Ok(())
 }
 
-/// What the branch has taken.
-fn sales<K: Clock, V: Server, L: Shelf>(
+/// What the branch has taken, in all or by category.
+fn sales_by<K: Clock, V: Server, L: Shelf>(
     desk: &Desk<'_, K, V, L>,
+    view: View,
     said: &mut Said,
 ) -> Result<(), TillFault> {
-    let whole = viewed(desk, View::SalesByStore)?;
-    if !says_all(desk, &whole, said)? {
-        let table = sales_by_store(desk.alloc, whole.body.as_slice())?;
-        says_table(desk, table, "nothing was taken yet", said)?;
+    let answer = viewed(desk, view)?;
+    if says_all(desk.alloc, desk.is_json, &answer, said)? {
+        return Ok(());
     }
-    let parts = viewed(desk, View::SalesByFilmCategory)?;
-    if !says_all(desk, &parts, said)? {
-        let table = sales_by_film_category(desk.alloc, parts.body.as_slice())?;
-        if !table.is_empty() {
-            said.line("")?;
-            says_table(desk, table, "", said)?;
-        }
-    }
-    Ok(())
+    says_sales(desk.alloc, view, answer.body.as_slice(), said)
 }
 
 /// Customers or films that are looked for by a part of their texts; for a program the whole list.
@@ -195,14 +142,9 @@ fn search<K: Clock, V: Server, L: Shelf>(
 ) -> Result<(), TillFault> {
     let it = found(desk, list, part)?;
     if desk.is_json {
-        said.line(std::str::from_utf8(it.body.as_slice()).map_err(|_| TillFault::Foreign)?)?;
-        return Ok(());
+        return says_body(it.body.as_slice(), said);
     }
-    let none = match list {
-        List::Customers => "no customer has that in name or phone",
-        List::Films => "no film has that in its title",
-    };
-    says_table(desk, it.table, none, said)
+    says_table(desk.alloc, &it.table, list.none(), said)
 }
 
 /// Those who have a customer's number in their telephone number, where that is no short one: a number that no customer of the branch has may be meant so.
@@ -230,53 +172,78 @@ fn customer_look<K: Clock, V: Server, L: Shelf>(
     let answer = looked(desk, &Ask::Customer(customer))?;
     if let Some(table) = with_phone(desk, customer, &answer)? {
         if !table.is_empty() {
-            return says_table(desk, table, "", said);
+            return says_table(desk.alloc, &table, "", said);
         }
     }
-    if !says_all(desk, &answer, said)? {
+    if !says_all(desk.alloc, desk.is_json, &answer, said)? {
         let sheet = customer_sheet(desk.alloc, answer.body.as_slice())?;
         said.text.push_str(sheet.as_str())?;
     }
     Ok(())
 }
 
-/// Looks, and puts what is said of it.
-fn put_look<K: Clock, V: Server, L: Shelf>(
+/// What is asked for, where that is told in one list.
+fn list_ask(look: &TillLook, now: Moment) -> Option<(Ask, &'static str)> {
+    match look {
+        TillLook::Overdue => Some((Ask::Overdue(now), "nothing is overdue")),
+        TillLook::Arrivals => Some((Ask::Arrivals, "nothing was sent here")),
+        TillLook::Sent => Some((Ask::Sent, "nothing was sent")),
+        _ => None,
+    }
+}
+
+/// What is asked for, where that is told in some lines; `behind` is now, or the last entry's moment where that is later.
+fn line_ask(look: &TillLook, now: Moment, behind: Moment) -> Option<Ask> {
+    match look {
+        TillLook::Film(film) => Some(Ask::Film(*film)),
+        TillLook::InStock(copy) => Some(Ask::InStock(*copy)),
+        TillLook::Balance(customer) => Some(Ask::Balance {
+            customer: *customer,
+            at: behind,
+        }),
+        TillLook::Rewards { purchases, cents } => Some(Ask::Rewards {
+            at: now,
+            purchases: *purchases,
+            cents: *cents,
+        }),
+        _ => None,
+    }
+}
+
+/// Looks at what is neither, and puts what is said of it.
+fn put_other<K: Clock, V: Server, L: Shelf>(
     desk: &Desk<'_, K, V, L>,
-    look: TillLook,
-    last: Option<Moment>,
+    look: &TillLook,
     said: &mut Said,
 ) -> Result<(), TillFault> {
     match look {
-        TillLook::Customer(customer) => customer_look(desk, customer, said),
+        TillLook::Customer(customer) => customer_look(desk, *customer, said),
         TillLook::Customers(part) => search(desk, List::Customers, part.as_str(), said),
-        TillLook::Film(film) => line_look(desk, &Ask::Film(film), said),
         TillLook::Films(part) => search(desk, List::Films, part.as_str(), said),
-        TillLook::InStock(copy) => line_look(desk, &Ask::InStock(copy), said),
-        TillLook::HeldBy(copy) => held_by(desk, copy, said),
-        TillLook::Copies(film) => copies(desk, film, said),
-        TillLook::Balance(customer) => {
-            let at = desk.now_behind(last)?;
-            line_look(desk, &Ask::Balance { customer, at }, said)
+        TillLook::HeldBy(copy) => held_by(desk, *copy, said),
+        TillLook::Copies(film) => copies(desk, *film, said),
+        _ => {
+            sales_by(desk, View::SalesByStore, said)?;
+            sales_by(desk, View::SalesByFilmCategory, said)
         }
-        TillLook::Overdue => table_look(
-            desk,
-            &Ask::Overdue(desk.now()?),
-            "nothing is overdue",
-            said,
-        ),
-        TillLook::Arrivals => table_look(desk, &Ask::Arrivals, "nothing was sent here", said),
-        TillLook::Sent => table_look(desk, &Ask::Sent, "nothing was sent", said),
-        TillLook::Rewards { purchases, cents } => {
-            let at = desk.now()?;
-            let ask = Ask::Rewards {
-                at,
-                purchases,
-                cents,
-            };
-            line_look(desk, &ask, said)
-        }
-        TillLook::Sales => sales(desk, said),
+    }
+}
+
+/// Looks, and puts what is said of it.
+fn put_look<K: Clock, V: Server, L: Shelf>(
+    desk: &Desk<'_, K, V, L>,
+    look: &TillLook,
+    last: Option<Moment>,
+    said: &mut Said,
+) -> Result<(), TillFault> {
+    let now = desk.now()?;
+    let behind = desk.now_behind(last)?;
+    if let Some((ask, none)) = list_ask(look, now) {
+        return table_look(desk, &ask, none, said);
+    }
+    match line_ask(look, now, behind) {
+        Some(ask) => line_look(desk, &ask, said),
+        None => put_other(desk, look, said),
     }
 }
 
@@ -287,6 +254,6 @@ pub(crate) fn look<K: Clock, V: Server, L: Shelf>(
     last: Option<Moment>,
 ) -> Result<Said, TillFault> {
     let mut said = Said::done(desk.alloc);
-    put_look(desk, look, last, &mut said)?;
+    put_look(desk, &look, last, &mut said)?;
     Ok(said)
 }

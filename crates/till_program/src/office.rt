@@ -4,6 +4,7 @@ ghost use Rattle.std.specs.Prelude.{◌≡◌, false};
 ghost use Rattle.sqlite.specs.Held.{state};
 ghost use Rattle.sqlite.specs.State.{HasCleanDisk};
 
+use crate::answers::office_said;
 use crate::book::Book;
 use crate::caches::Shelf;
 use crate::desk::Desk;
@@ -12,10 +13,8 @@ use crate::said::Said;
 use crate::sendings::send_all;
 use sqlite::{Alter, Connection};
 use std::time::Clock;
-use till_client::Answer;
-use till_desk::{Server, Watch, enter_request};
+use till_desk::{Place, Server, Watch, enter_request};
 use till_requests::{NotSaid, office_look_request, office_request};
-use till_shows::{refusal_in, told_refusal};
 
 /// Words that are none, or can't be sent.
 fn unsaid(fault: NotSaid) -> Result<Said, TillFault> {
@@ -26,23 +25,6 @@ fn unsaid(fault: NotSaid) -> Result<Said, TillFault> {
     }
 }
 
-/// Says an answer to head office: its body, or what a refusal means.
-fn tell<K: Clock, V: Server, L: Shelf>(
-    desk: &Desk<'_, K, V, L>,
-    answer: &Answer,
-) -> Result<Said, TillFault> {
-    let body = answer.body.as_slice();
-    let mut said = Said::done(desk.alloc);
-    if answer.status != 200 {
-        said.status = 1;
-    }
-    match refusal_in(answer.status, body) {
-        Some(refusal) if !desk.is_json => said.line(told_refusal(desk.alloc, refusal)?.as_str())?,
-        _ => said.line(std::str::from_utf8(body).map_err(|_| TillFault::Foreign)?)?,
-    }
-    Ok(said)
-}
-
 /// What a reading of head office shows.
 pub(crate) fn read_office<K: Clock, V: Server, L: Shelf>(
     desk: &Desk<'_, K, V, L>,
@@ -51,9 +33,46 @@ pub(crate) fn read_office<K: Clock, V: Server, L: Shelf>(
     match office_look_request(desk.alloc, desk.routes, &desk.settings.token, words) {
         Ok(request) => {
             let answer = desk.ask(request.bytes.as_slice())?;
-            tell(desk, &answer)
+            office_said(desk.alloc, desk.is_json, &answer)
         }
         Err(fault) => unsaid(fault),
+    }
+}
+
+/// The bytes of a command of head office, with the key of the entry of that number.
+fn office_bytes<K: Clock, V: Server, L: Shelf>(
+    desk: &Desk<'_, K, V, L>,
+    number: u32,
+    words: &[String],
+) -> Result<Vec<u8>, NotSaid> {
+    let settings = desk.settings;
+    let sealed = office_request(
+        desk.alloc,
+        desk.routes,
+        &settings.token,
+        &settings.mark,
+        number,
+        words,
+    )?;
+    Ok(sealed.bytes)
+}
+
+/// Enters those bytes, and sends them until they are answered.
+fn give_request<S: Alter, K: Clock, V: Server, L: Shelf, W: Watch>(
+    desk: &Desk<'_, K, V, L>,
+    conn: &mut Connection<S>,
+    place: &mut Place,
+    request: &[u8],
+    watch: &mut W,
+) -> Result<Said, TillFault>
+    requires { conn.old.in_transaction ≡ false }
+    ensures ended { conn.new.in_transaction ≡ false }
+    ensures clean { HasCleanDisk (state S.Store conn.new) → HasCleanDisk (state S.Store conn.old) }
+{
+    enter_request(conn, place, request)?;
+    match send_all(desk, conn, place, watch)? {
+        Some(answer) => office_said(desk.alloc, desk.is_json, &answer),
+        None => Err(TillFault::OtherBook),
     }
 }
 
@@ -69,23 +88,9 @@ pub(crate) fn give_office<S: Alter, K: Clock, V: Server, L: Shelf, W: Watch>(
     ensures ended { conn.new.in_transaction ≡ false }
     ensures clean { HasCleanDisk (state S.Store conn.new) → HasCleanDisk (state S.Store conn.old) }
 {
-    let settings = desk.settings;
     let number = book.place.entries.checked_add(1).ok_or(TillFault::Full)?;
-    let sealed = office_request(
-        desk.alloc,
-        desk.routes,
-        &settings.token,
-        &settings.mark,
-        number,
-        words,
-    );
-    let sealed = match sealed {
-        Ok(sealed) => sealed,
-        Err(fault) => return unsaid(fault),
-    };
-    enter_request(conn, &mut book.place, sealed.bytes.as_slice())?;
-    match send_all(desk, conn, &mut book.place, watch)? {
-        Some(answer) => tell(desk, &answer),
-        None => Err(TillFault::OtherBook),
+    match office_bytes(desk, number, words) {
+        Ok(request) => give_request(desk, conn, &mut book.place, request.as_slice(), watch),
+        Err(fault) => unsaid(fault),
     }
 }

@@ -14,12 +14,14 @@ use crate::tcp::Tcp;
 use crate::word::do_word;
 use counter_routes::Routes;
 use shop_types::{Act, StaffNo, StockFile, Usage};
-use sqlite::{Alter, Connection};
+use sqlite::{Alter, Connection, FileStore};
+use sqlite_std_file::File;
 use std::fs;
 use std::io::Write;
 use std::time::{Clock, Duration};
 use till_desk::{Server, Watch};
 use till_files::close_book;
+use till_requests::Settings;
 use till_words::{FileName, TillAct, TillLine, help_text, read_till_words};
 
 /// The book's file, where none is named.
@@ -99,47 +101,91 @@ fn word_at<S: Alter, K: Clock, V: Server, L: Shelf, W: Write, E: Write>(
     status
 }
 
-/// Does a word at the book of that name, prints what it came to, and tells its status.
-fn at_book<'x, W: Write, E: Write>(
-    rt: &'x HostRuntime,
-    book: &'x str,
+/// A word, how its answer is printed, and who gives it, where it isn't whose till it is.
+#[derive(Drop)]
+struct Word {
     is_json: bool,
     staff: Option<StaffNo>,
     act: TillAct,
-    out: &mut W,
-    err: &mut E,
-) -> Result<u8, TillFault> {
-    let alloc = rt.alloc();
+}
+
+/// What a word wants beside its book: the settings, the server's own reader of requests, and when it began.
+#[derive(Drop)]
+struct Tools {
+    settings: Settings,
+    routes: Routes,
+    begun: Duration,
+}
+
+/// Those of the book of that name.
+fn tools_of(rt: &HostRuntime, book: &str) -> Result<Tools, TillFault> {
     if !is_there(rt, book) {
         return Err(TillFault::NoBook);
     }
-    let act = with_file(rt, act)?;
+    let begun = rt.monotonic()?;
     let settings = settings_of(rt, book)?;
-    let routes = Routes::new(alloc).map_err(|_| TillFault::Memory)?;
+    match Routes::new(rt.alloc()) {
+        Ok(routes) => Ok(Tools {
+            settings,
+            routes,
+            begun,
+        }),
+        Err(_) => Err(TillFault::Memory),
+    }
+}
+
+/// Does a word with these tools at the open book of that name, prints what it came to, closes the book, and tells the status.
+fn with_tools<'x, W: Write, E: Write>(
+    rt: &'x HostRuntime,
+    book: &'x str,
+    tools: &'x Tools,
+    mut conn: Connection<FileStore<File>>,
+    word: Word,
+    out: &mut W,
+    err: &mut E,
+) -> u8
+    requires { conn.in_transaction ≡ false }
+{
+    let Word {
+        is_json,
+        staff,
+        act,
+    } = word;
     let server = Tcp {
         rt,
-        address: settings.address.as_str(),
+        address: tools.settings.address.as_str(),
     };
     let shelf = FileShelf { rt, book };
     let desk = Desk {
-        alloc,
+        alloc: rt.alloc(),
         clock: rt,
         server: &server,
         shelf: &shelf,
-        routes: &routes,
-        settings: &settings,
+        routes: &tools.routes,
+        settings: &tools.settings,
         staff,
         is_json,
     };
-    let mut conn = open_at(rt, book)?;
-    let now = rt.monotonic()?;
     let mut watch = Progress {
         rt,
-        next: now.saturating_add(Duration::from_secs(1)),
+        next: tools.begun.saturating_add(Duration::from_secs(1)),
     };
     let status = word_at(&desk, &mut conn, act, &mut watch, out, err);
     drop(close_book(conn));
-    Ok(status)
+    status
+}
+
+/// Does a word at the book of that name, prints what it came to, and tells its status.
+fn at_book<W: Write, E: Write>(
+    rt: &HostRuntime,
+    book: &str,
+    word: Word,
+    out: &mut W,
+    err: &mut E,
+) -> Result<u8, TillFault> {
+    let tools = tools_of(rt, book)?;
+    let conn = open_at(rt, book)?;
+    Ok(with_tools(rt, book, &tools, conn, word, out, err))
 }
 
 /// The name of the book's file.
@@ -168,7 +214,15 @@ fn perform_line<W: Write, E: Write>(
     match act {
         TillAct::Init(beginning) => Ok(print(begin(rt, book.as_str(), beginning), out, err)),
         TillAct::Help | TillAct::Prompt => Ok(print(help(rt), out, err)),
-        act => at_book(rt, book.as_str(), is_json, staff, act, out, err),
+        act => {
+            let act = with_file(rt, act)?;
+            let word = Word {
+                is_json,
+                staff,
+                act,
+            };
+            at_book(rt, book.as_str(), word, out, err)
+        }
     }
 }
 

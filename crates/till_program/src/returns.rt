@@ -5,6 +5,7 @@ use crate::caches::Shelf;
 use crate::commands::called;
 use crate::desk::Desk;
 use crate::fault::TillFault;
+use counter_routes::Routes;
 use shop_types::{Act, Ask, CopyNo, CustomerNo, Moment, RentalNo};
 use std::alloc::Global;
 use std::time::Clock;
@@ -70,21 +71,25 @@ pub(crate) fn owed<K: Clock, V: Server, L: Shelf>(
 }
 
 /// The customer whose rental it is, where the book knows it.
-pub(crate) fn customer_of<K: Clock, V: Server, L: Shelf>(
-    desk: &Desk<'_, K, V, L>,
+pub(crate) fn customer_of(
+    alloc: Global,
+    routes: &Routes,
     book: &Book,
     rental: RentalNo,
 ) -> Result<Option<CustomerNo>, TillFault> {
-    let entries = book.entries(desk.alloc, desk.routes)?;
-    renter(desk.alloc, entries.as_slice(), rental)
+    let entries = book.entries(alloc, routes)?;
+    renter(alloc, entries.as_slice(), rental)
 }
 
-/// The rental that the book has of a copy.
-pub(crate) fn rental_at<K: Clock, V: Server, L: Shelf>(
-    desk: &Desk<'_, K, V, L>,
+/// The rental that the book has of a copy, and its customer.
+pub(crate) fn rental_at(
+    alloc: Global,
+    routes: &Routes,
     book: &Book,
     copy: CopyNo,
-) -> Result<RentalNo, TillFault> {
-    let entries = book.entries(desk.alloc, desk.routes)?;
-    rental_in(desk.alloc, entries.as_slice(), copy)
+) -> Result<(RentalNo, Option<CustomerNo>), TillFault> {
+    let entries = book.entries(alloc, routes)?;
+    let rental = rental_in(alloc, entries.as_slice(), copy)?;
+    let customer = renter(alloc, entries.as_slice(), rental)?;
+    Ok((rental, customer))
 }

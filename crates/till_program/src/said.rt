@@ -19,9 +19,12 @@ impl Said {
         }
     }
 
-    /// One more line.
+    /// One more line, or more of them, whose last one is ended where it isn't.
     pub(crate) fn line(&mut self, line: &str) -> Result<(), AllocError> {
         self.text.push_str(line)?;
+        if line.ends_with('\n') {
+            return Ok(());
+        }
         self.text.push_str("\n")
     }
 }

@@ -19,7 +19,7 @@ use crate::office::{give_office, read_office};
 use crate::returns::{customer_of, owed, rental_at};
 use crate::said::Said;
 use crate::sendings::{send, waited};
-use shop_types::{Act, CustomerNo, Moment};
+use shop_types::{Act, CopyNo, CustomerNo, Moment};
 use sqlite::{Alter, Connection};
 use std::time::Clock;
 use till_desk::{Server, Watch};
@@ -65,9 +65,25 @@ fn act_plan<K: Clock, V: Server, L: Shelf>(
 {
     let _ = desk.giver()?;
     match act {
-        Act::TakeBack(rental) => Ok(Plan::Give(act, customer_of(desk, book, rental)?)),
+        Act::TakeBack(rental) => {
+            let customer = customer_of(desk.alloc, desk.routes, book, rental)?;
+            Ok(Plan::Give(act, customer))
+        }
         _ => Ok(Plan::Give(act, None)),
     }
+}
+
+/// The plan for a copy that comes back.
+fn copy_plan<K: Clock, V: Server, L: Shelf>(
+    desk: &Desk<'_, K, V, L>,
+    book: &Book,
+    copy: CopyNo,
+) -> Result<Plan, TillFault>
+    ensures { IfOk result (IsPlannedFor desk.now.settings.now.staff) }
+{
+    let _ = desk.giver()?;
+    let (rental, customer) = rental_at(desk.alloc, desk.routes, book, copy)?;
+    Ok(Plan::Give(Act::TakeBack(rental), customer))
 }
 
 /// What a word comes to: looks are asked for at once, and a return by copy is of the rental that the book has of it.
@@ -80,10 +96,7 @@ fn plan_of<K: Clock, V: Server, L: Shelf>(
 {
     match act {
         TillAct::Do(act) => act_plan(desk, book, act),
-        TillAct::ReturnCopy(copy) => {
-            let rental = rental_at(desk, book, copy)?;
-            act_plan(desk, book, Act::TakeBack(rental))
-        }
+        TillAct::ReturnCopy(copy) => copy_plan(desk, book, copy),
         TillAct::Office(words) => office_plan(desk, words),
         TillAct::Send => Ok(Plan::Send),
         TillAct::Look(it) => Ok(Plan::Say(look(desk, it, book.last)?)),

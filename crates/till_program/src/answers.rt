@@ -1,0 +1,188 @@
+//! What an answer says, as lines: nothing is asked for here.
+
+use crate::fault::TillFault;
+use crate::said::Said;
+use shop_types::{Act, Ask, CopyNo, CustomerNo, Refusal, View};
+use std::alloc::Global;
+use till_client::Answer;
+use till_shows::{
+    NotShown, Table, arrivals, balance_line, film_in_stock_line, film_not_in_stock_line,
+    film_sheet, holder_line, in_stock_line, money, overdue, refusal_in, reply_line, rewards_line,
+    sales_by_film_category, sales_by_store, sent, told_refusal,
+};
+
+/// Says what a refusal means.
+fn says_refusal(alloc: Global, refusal: Refusal, said: &mut Said) -> Result<(), TillFault> {
+    let text = told_refusal(alloc, refusal)?;
+    said.line(text.as_str())?;
+    Ok(())
+}
+
+/// Says a refusal, or the body as it is, where that is to be said: then there is nothing more to say.
+pub(crate) fn says_all(
+    alloc: Global,
+    is_json: bool,
+    answer: &Answer,
+    said: &mut Said,
+) -> Result<bool, TillFault> {
+    let body = answer.body.as_slice();
+    if answer.status != 200 {
+        said.status = 1;
+    }
+    let is_said = match refusal_in(answer.status, body) {
+        _ if is_json => says_body(body, said),
+        Some(refusal) => says_refusal(alloc, refusal, said),
+        None => return Ok(false),
+    };
+    is_said?;
+    Ok(true)
+}
+
+/// Says a body as it is.
+pub(crate) fn says_body(body: &[u8], said: &mut Said) -> Result<(), TillFault> {
+    match std::str::from_utf8(body) {
+        Ok(text) => Ok(said.line(text)?),
+        Err(_) => Err(TillFault::Foreign),
+    }
+}
+
+/// Says a table, or that nothing is in it.
+pub(crate) fn says_table(
+    alloc: Global,
+    table: &Table,
+    none: &str,
+    said: &mut Said,
+) -> Result<(), TillFault> {
+    if table.is_empty() {
+        said.line(none)?;
+    } else {
+        said.text.push_str(table.text(alloc)?.as_str())?;
+    }
+    Ok(())
+}
+
+/// The table of a body that lists what was asked for.
+fn table_in(alloc: Global, ask: &Ask, body: &[u8]) -> Result<Table, NotShown> {
+    match ask {
+        Ask::Overdue(_) => overdue(alloc, body),
+        Ask::Arrivals => arrivals(alloc, body),
+        _ => sent(alloc, body),
+    }
+}
+
+/// Says that table, or that nothing is in it.
+pub(crate) fn says_list(
+    alloc: Global,
+    ask: &Ask,
+    body: &[u8],
+    none: &str,
+    said: &mut Said,
+) -> Result<(), TillFault> {
+    let table = table_in(alloc, ask, body)?;
+    says_table(alloc, &table, none, said)
+}
+
+/// The lines of a body that tells one thing, of the customer of that name where it is one's balance.
+fn lines_in(alloc: Global, ask: &Ask, name: &str, body: &[u8]) -> Result<String, NotShown> {
+    match ask {
+        Ask::Film(_) => film_sheet(alloc, body),
+        Ask::InStock(copy) => in_stock_line(alloc, *copy, body),
+        Ask::FilmInStock(film) => film_in_stock_line(alloc, *film, body),
+        Ask::FilmNotInStock(film) => film_not_in_stock_line(alloc, *film, body),
+        Ask::Balance { .. } => balance_line(alloc, name, body),
+        _ => rewards_line(alloc, body),
+    }
+}
+
+/// Says them.
+pub(crate) fn says_lines(
+    alloc: Global,
+    ask: &Ask,
+    name: &str,
+    body: &[u8],
+    said: &mut Said,
+) -> Result<(), TillFault> {
+    let lines = lines_in(alloc, ask, name, body)?;
+    said.line(lines.as_str())?;
+    Ok(())
+}
+
+/// Says who has a copy, with the name, where it is known.
+pub(crate) fn says_holder(
+    alloc: Global,
+    copy: CopyNo,
+    who: Option<CustomerNo>,
+    name: &Option<String>,
+    said: &mut Said,
+) -> Result<(), TillFault> {
+    let mut line = holder_line(alloc, copy, who)?;
+    if let Some(name) = name {
+        line.push_str(": ")?;
+        line.push_str(name.as_str())?;
+    }
+    said.line(line.as_str())?;
+    Ok(())
+}
+
+/// Says what the branch has taken, in all or by category.
+pub(crate) fn says_sales(
+    alloc: Global,
+    view: View,
+    body: &[u8],
+    said: &mut Said,
+) -> Result<(), TillFault> {
+    if matches!(view, View::SalesByStore) {
+        let table = sales_by_store(alloc, body)?;
+        return says_table(alloc, &table, "nothing was taken yet", said);
+    }
+    let table = sales_by_film_category(alloc, body)?;
+    if table.is_empty() {
+        return Ok(());
+    }
+    said.line("")?;
+    says_table(alloc, &table, "", said)
+}
+
+/// What is said behind the line of an accepted command: to whom, or how much, with the customer's name.
+pub(crate) fn besides(alloc: Global, act: &Act, name: &str) -> Result<String, TillFault> {
+    match act {
+        Act::Rent { copy, .. } => Ok(format!(in alloc; ": copy {} to {name}", copy.get())?),
+        Act::Pay { amount, .. } => {
+            let amount = money(alloc, i64::from(amount.get())).map_err(|_| TillFault::Memory)?;
+            Ok(format!(in alloc; ": {amount} from {name}")?)
+        }
+        Act::Customer(person) => {
+            Ok(format!(in alloc; ": {} {}", person.first.as_str(), person.last.as_str())?)
+        }
+        _ => Ok(String::new(alloc)),
+    }
+}
+
+/// What became of a command, with what is said behind its line.
+pub(crate) fn command_said(
+    alloc: Global,
+    is_json: bool,
+    answer: &Answer,
+    besides: &str,
+) -> Result<Said, TillFault> {
+    let mut said = Said::done(alloc);
+    if !says_all(alloc, is_json, answer, &mut said)? {
+        let mut line = reply_line(alloc, answer.body.as_slice())?;
+        line.push_str(besides)?;
+        said.line(line.as_str())?;
+    }
+    Ok(said)
+}
+
+/// An answer to head office: its body, or what a refusal means.
+pub(crate) fn office_said(
+    alloc: Global,
+    is_json: bool,
+    answer: &Answer,
+) -> Result<Said, TillFault> {
+    let mut said = Said::done(alloc);
+    if !says_all(alloc, is_json, answer, &mut said)? {
+        says_body(answer.body.as_slice(), &mut said)?;
+    }
+    Ok(said)
+}
