@@ -1,0 +1,97 @@
+//! Files on disks in memory, each of which fails behind so many calls.
+use crate::fault::Fault;
+use sqlite::{Connection, FileStore, Files};
+use sqlite_disk::{Crash, Disk, Fuse, Memory};
+use std::alloc::Global;
+
+/// What the files of a book or of a chain hold.
+#[derive(Drop)]
+pub struct Image {
+    log: Vec<u8>,
+    db: Vec<u8>,
+}
+
+impl Image {
+    /// Files with nothing in them.
+    pub fn new(alloc: Global) -> Image {
+        Image {
+            log: Vec::new(alloc),
+            db: Vec::new(alloc),
+        }
+    }
+}
+
+/// Behind how many calls of each file's disk that disk fails.
+#[derive(Clone, Copy)]
+pub struct Calls {
+    pub log: u64,
+    pub db: u64,
+}
+
+/// The disks never fail.
+pub const NEVER: Calls = Calls {
+    log: u64::MAX,
+    db: u64::MAX,
+};
+
+/// A disk in memory.
+pub trait InMemory: Crash + Drop {
+    /// One that holds these bytes, and fails behind so many calls.
+    fn holding(alloc: Global, bytes: &[u8], calls: u64) -> Result<Self, Fault>;
+
+    /// What it holds.
+    fn held(&self) -> &[u8];
+}
+
+impl InMemory for Fuse<Memory> {
+    fn holding(alloc: Global, bytes: &[u8], calls: u64) -> Result<Fuse<Memory>, Fault> {
+        let mut disk = Memory::new(alloc);
+        if disk.write_at(0, bytes).is_err() || disk.sync().is_err() {
+            return Err(Fault::Line("no memory"));
+        }
+        Ok(Fuse::new(disk, calls))
+    }
+
+    fn held(&self) -> &[u8] {
+        self.inner().bytes()
+    }
+}
+
+/// Disks that hold what the image does, and fail behind so many calls.
+pub fn disks<D: InMemory>(alloc: Global, image: &Image, calls: Calls) -> Result<Files<D>, Fault> {
+    Ok(Files {
+        log: D::holding(alloc, image.log.as_slice(), calls.log)?,
+        db: D::holding(alloc, image.db.as_slice(), calls.db)?,
+    })
+}
+
+/// What the disks hold.
+pub fn image_of<D: InMemory>(alloc: Global, disks: &Files<D>) -> Result<Image, Fault> {
+    Ok(Image {
+        log: Vec::from_slice(alloc, disks.log.held())?,
+        db: Vec::from_slice(alloc, disks.db.held())?,
+    })
+}
+
+/// What the files hold behind the connection's closing, all of it in the database's own file.
+pub fn closed<D: InMemory>(alloc: Global, conn: Connection<FileStore<D>>) -> Result<Image, Fault> {
+    match conn.close_files() {
+        Ok(files) => {
+            let image = image_of(alloc, &files);
+            drop(files);
+            image
+        }
+        Err((_, store)) => {
+            drop(store);
+            Err(Fault::Line("the log isn't copied"))
+        }
+    }
+}
+
+/// The disks behind a crash: they have lost what wasn't synced, and fail no more.
+pub fn crashed<D: InMemory>(disks: Files<D>) -> Files<D> {
+    let Files { mut log, mut db } = disks;
+    log.crash();
+    db.crash();
+    Files { log, db }
+}

@@ -1,0 +1,30 @@
+//! What is wrong with a line.
+use std::alloc::{AllocError, AllocFailed};
+use std::io;
+
+/// Why a row stops at a line.
+#[derive(Clone, Copy)]
+pub enum Fault {
+    /// The line can't be played.
+    Line(&'static str),
+    /// Something else was told than is wanted.
+    Told,
+}
+
+impl From<AllocError> for Fault {
+    fn from(_: AllocError) -> Fault {
+        Fault::Line("no memory")
+    }
+}
+
+impl<T: Drop> From<AllocFailed<T>> for Fault {
+    fn from(_: AllocFailed<T>) -> Fault {
+        Fault::Line("no memory")
+    }
+}
+
+impl From<io::Error> for Fault {
+    fn from(_: io::Error) -> Fault {
+        Fault::Line("the input or the output failed")
+    }
+}

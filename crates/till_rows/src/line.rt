@@ -1,0 +1,238 @@
+//! The line between a till and the server: over each connection goes one message, whole, cut, late, or not at all.
+ghost use Rattle.std.specs.Prelude.{IfOk};
+ghost use Rattle.std.specs.Counts.{IsPrefixLen};
+
+use std::alloc::Global;
+use std::cell::RefCell;
+use std::io::{self, ErrorKind, Read, Write};
+use std::mem;
+use till_desk::Server;
+
+/// What stands behind the line.
+pub trait Counter: Drop {
+    /// Puts what is sent back to these bytes, which come over a connection of their own.
+    fn answer(&mut self, sent: &[u8], told: &mut Vec<u8>);
+
+    /// How often it was stopped.
+    fn stops(&self) -> u32;
+}
+
+/// Behind how many bytes a connection breaks.
+#[derive(Clone, Copy)]
+pub enum Cut {
+    /// It doesn't.
+    Never,
+    /// Of what the till sends.
+    Sent(u64),
+    /// Of what it is told.
+    Told(u64),
+}
+
+/// Cuts the bytes behind so many, where there are more. How many cuts that are.
+fn cut_off(bytes: &mut Vec<u8>, most: u64) -> u32 {
+    match usize::try_from(most) {
+        Ok(most) if most < bytes.len() => {
+            bytes.truncate(most);
+            1
+        }
+        _ => 0,
+    }
+}
+
+/// Gives those bytes behind so many that there is room for. How many.
+fn given(bytes: &[u8], read: usize, buf: &mut [u8]) -> usize
+    ensures { IsPrefixLen result buf.new }
+{
+    let rest = &bytes[read.min(bytes.len())..];
+    let n = buf.len().min(rest.len());
+    buf[..n].copy_from_slice(&rest[..n]);
+    n
+}
+
+/// Has the message answered over a connection that doesn't break, once more where the server is stopped at it.
+fn ask_whole<C: Counter>(counter: &mut C, message: &[u8], told: &mut Vec<u8>) {
+    for _ in 0..2 {
+        told.clear();
+        counter.answer(message, told);
+        if !told.as_slice().starts_with(b"HTTP/1.1 503") {
+            return;
+        }
+    }
+}
+
+/// A line, over which one connection goes at a time.
+#[derive(Drop)]
+pub struct Wire<C: Counter> {
+    alloc: Global,
+    counter: C,
+    /// Whether nobody is there.
+    pub is_down: bool,
+    /// Whether the next message is kept under way, and its connection breaks.
+    pub keeps: bool,
+    /// Where the next connection breaks whose message isn't kept.
+    pub cut: Cut,
+    /// How many connections were cut, and messages came once more.
+    breaks: u32,
+    /// Whether each message comes once more behind each later word.
+    repeats: bool,
+    sent: Vec<u8>,
+    told: Vec<u8>,
+    /// How many of the bytes that were told are read, once the message has come.
+    read: Option<usize>,
+    kept: Vec<Vec<u8>>,
+    come: Vec<Vec<u8>>,
+}
+
+impl<C: Counter> Wire<C> {
+    pub fn new(alloc: Global, counter: C, repeats: bool) -> Wire<C> {
+        Wire {
+            alloc,
+            counter,
+            is_down: false,
+            keeps: false,
+            cut: Cut::Never,
+            breaks: 0,
+            repeats,
+            sent: Vec::new(alloc),
+            told: Vec::new(alloc),
+            read: None,
+            kept: Vec::new(alloc),
+            come: Vec::new(alloc),
+        }
+    }
+
+    /// How often a connection was cut, a message came once more, or the server was stopped.
+    pub fn stops(&self) -> u32 {
+        self.breaks.saturating_add(self.counter.stops())
+    }
+
+    /// How many messages have come that will come once more.
+    pub fn count(&self) -> usize {
+        self.come.len()
+    }
+
+    fn begin(&mut self) -> bool {
+        self.sent.clear();
+        self.told.clear();
+        self.read = None;
+        !self.is_down
+    }
+
+    /// The message that was sent, which isn't needed any more.
+    fn taken(&mut self) -> Vec<u8> {
+        mem::replace(&mut self.sent, Vec::new(self.alloc))
+    }
+
+    /// The message comes, or is kept.
+    fn comes(&mut self) -> io::Result<()> {
+        self.read = Some(0);
+        if self.keeps {
+            self.keeps = false;
+            let message = self.taken();
+            self.kept.push(message)?;
+            return Ok(());
+        }
+        let cut = self.cut;
+        self.cut = Cut::Never;
+        if let Cut::Sent(most) = cut {
+            self.breaks = self.breaks.saturating_add(cut_off(&mut self.sent, most));
+        }
+        self.counter.answer(self.sent.as_slice(), &mut self.told);
+        if let Cut::Told(most) = cut {
+            self.breaks = self.breaks.saturating_add(cut_off(&mut self.told, most));
+        }
+        if self.repeats {
+            let message = self.taken();
+            self.come.push(message)?;
+        }
+        Ok(())
+    }
+
+    /// Gives some bytes of what is told, none only at the end.
+    fn tell(&mut self, buf: &mut [u8]) -> io::Result<usize>
+        ensures { IfOk result (λ n. IsPrefixLen n buf.new) }
+    {
+        if self.read.is_none() {
+            self.comes()?;
+        }
+        let read = self.read.unwrap_or(0);
+        let n = given(self.told.as_slice(), read, buf);
+        self.read = Some(read.saturating_add(n));
+        Ok(n)
+    }
+
+    /// What somebody else is told to a message.
+    pub fn ask(&mut self, message: &[u8]) -> &[u8] {
+        ask_whole(&mut self.counter, message, &mut self.told);
+        self.told.as_slice()
+    }
+
+    /// The messages that were kept come now, when nobody waits for what is told.
+    pub fn come_late(&mut self) {
+        for message in self.kept.as_slice() {
+            ask_whole(&mut self.counter, message.as_slice(), &mut self.told);
+        }
+        self.kept.clear();
+    }
+
+    /// So many of the first messages come once more.
+    pub fn come_again(&mut self, count: usize) {
+        for message in self.come.iter().take(count) {
+            self.breaks = self.breaks.saturating_add(1);
+            ask_whole(&mut self.counter, message.as_slice(), &mut self.told);
+        }
+    }
+}
+
+/// The till's way to the line, and one end of a connection.
+#[derive(Drop)]
+pub struct Line<'x, C: Counter> {
+    pub wire: &'x RefCell<Wire<C>>,
+}
+
+fn broken() -> io::Error {
+    io::Error::from(ErrorKind::ConnectionReset)
+}
+
+impl<'x, C: Counter> Server for Line<'x, C> {
+    type Reader = Line<'x, C>;
+
+    type Writer = Line<'x, C>;
+
+    fn connect(&self) -> io::Result<(Line<'x, C>, Line<'x, C>)> {
+        let is_there = match self.wire.try_borrow_mut() {
+            Ok(mut wire) => wire.begin(),
+            Err(_) => false,
+        };
+        if is_there {
+            Ok((Line { wire: self.wire }, Line { wire: self.wire }))
+        } else {
+            Err(broken())
+        }
+    }
+}
+
+impl<C: Counter> Read for Line<'_, C> {
+    fn read(&mut self, buf: &mut [u8]) -> io::Result<usize> {
+        match self.wire.try_borrow_mut() {
+            Ok(mut wire) => wire.tell(buf),
+            Err(_) => Err(broken()),
+        }
+    }
+}
+
+impl<C: Counter> Write for Line<'_, C> {
+    fn write(&mut self, buf: &[u8]) -> io::Result<usize> {
+        match self.wire.try_borrow_mut() {
+            Ok(mut wire) => match wire.sent.extend_from_slice(buf) {
+                Ok(()) => Ok(buf.len()),
+                Err(_) => Err(io::Error::from(ErrorKind::OutOfMemory)),
+            },
+            Err(_) => Err(broken()),
+        }
+    }
+
+    fn flush(&mut self) -> io::Result<()> {
+        Ok(())
+    }
+}
