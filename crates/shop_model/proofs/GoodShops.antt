@@ -1,18 +1,23 @@
 -- Each step keeps what holds of each branch's shop.
-use Rattle.std.proofs.Common.{◌≡◌, inl, inr, ℕ, ◌+◌, ◌-◌, ◌≤◌, ◌<◌, List, [], ◌∷◌, ◌++◌, suc, length, map, Bool, true, false, not, None, Some, refl, sym, ap, ◌∙◌, arith, length-append}
-use Rattle.std.specs.Prelude.{Option, ◌==◌, ◌&&◌, ◌||◌, nat_le, nat_lt}
+use Rattle.std.proofs.Common.{◌≡◌, inl, inr, ℕ, ◌+◌, ◌-◌, ◌≤◌, ◌<◌, List, [], ◌∷◌, ◌++◌, suc, length, map, filter, Bool, true, false, not, None, Some, refl, sym, subst, ap, ◌∙◌, arith, length-append}
+use Rattle.std.specs.Prelude.{⊤, Option, ◌==◌, ◌&&◌, ◌||◌, nat_le, nat_lt}
 use Rattle.std.specs.List.{list_any, list_all}
 use Rattle.std.proofs.lemmas.Bool.{cases_Bool, or_parts, and_parts, not-true, true≢false}
 use Rattle.std.proofs.lemmas.Bool.Decides.{nat_tests}
 use Rattle.std.proofs.lemmas.List.{map_push}
-use Rattle.shop_model.specs.Rows.{set_at, set_all, arrived, total}
+use Rattle.shop_model.specs.Rows.{Row, Owned, of, is_of, next, put, put_all, AreNumbered, set_at, set_all, arrived, total}
 use Rattle.shop_model.specs.Calendar.{Moment, is_by, same_moment}
-use Rattle.shop_model.specs.Values.{Customer, Rental, Payment, Arrival, Stock, Copies, BadLine, Sent, Scrapped, Act, AddCustomer, SetActive, Rent, TakeBack, Pay, Import, Dispatch, Receive, Scrap, Command, Rules}
-use Rattle.shop_model.specs.Shop.{Kept, Shop, Catalogue}
-use Rattle.shop_model.specs.Verdict.{act_refusals, is_full, is_before, new_from, new_in, are_lines, arrival}
-use Rattle.shop_model.specs.Machine.{acted, here, with_state, films_in, films_at, incoming}
+use Rattle.shop_model.specs.Values.{Customer, Rental, Payment, Arrival, Stock, Copies, BadLine, Act, AddCustomer, Import, Receive, Command, Rules}
+use Rattle.shop_model.specs.Shop.{Kept}
+use Rattle.shop_model.specs.Verdict.{act_refusals, is_full, is_before, new_copies, new_from, new_in, are_lines, arrival}
+use Rattle.shop_model.specs.Machine.{here, films_in, incoming, reply_text}
+use Rattle.shop_model.specs.Books.{Books, Line, Consignment, Table, Customers, CopyRows, Rentals, TermRows, Payments, RowOf, rows_of, Edit, Put, Set, PutLot, Append, Update, edited, edits_of, book_acted, book_done, shop_of, unmarked, as_parcel, imported, unpacked, come}
+use Rattle.shop_model.specs.Sound.{HasNumbers}
 use Rattle.shop_model.specs.GoodShop.{same_rental, are_apart, is_within, returned_by, rental_by, rises, IsGoodShop}
-use Rattle.shop_model.proofs.RowLemmas.{length_map}
+use Rattle.shop_model.proofs.RowLemmas.{same_test, more_yes, length_map, put_own, put_all_counted, set_rows_own, set_rows_counted}
+use Rattle.shop_model.proofs.EditLemmas.{by_table, by_others, AskedOfEach, each_keeps, grown, new_lots, new_sends, rows_edited, lots_edited}
+use Rattle.shop_model.proofs.ShopLemmas.{incoming_come, last_own}
+use Rattle.shop_model.proofs.NumberLemmas.{tables_numbered, sends_numbered, sends_edited}
 use Rattle.shop_model.proofs.Isolation.{NoneHold}
 
 -- ---- lists
@@ -32,7 +37,7 @@ all_set p n f (x ∷ xs) all keeps = let h = and_parts (p x) (list_all p xs) all
   | inr isnt ↦ rw (isnt, h.0) (all_set p (n - 1) f xs h.1 keeps)
 ]
 
-all_map : {A B : Type 0} (p : B → Bool) (g : A → B) (xs : List A) → list_all p (map g xs) ≡ list_all (λ x. p (g x)) xs
+pub all_map : {A B : Type 0} (p : B → Bool) (g : A → B) (xs : List A) → list_all p (map g xs) ≡ list_all (λ x. p (g x)) xs
 all_map p g [] = refl
 all_map p g (x ∷ xs) = ap (λ r. p (g x) && r) (all_map p g xs)
 
@@ -95,15 +100,19 @@ apart_more (s ∷ rs) r is none =
       same_turned : (a b : Moment) (c d e f : ℕ) → (same_moment a b && c == d && e == f) ≡ (same_moment b a && d == c && f == e)
       same_turned a b c d e f = rw (moment_turned a b, turn c d, turn e f)
 
-apart_set : (n : ℕ) (moment : Moment) (rs : List Rental) → are_apart (set_at n (λ it. record it { returned = Some moment }) rs) ≡ are_apart rs
-apart_set n moment [] = refl
-apart_set n moment (r ∷ rs) = elim (cases_Bool (n == 1)) [
-  | inl is ↦ rw is
-  | inr isnt ↦ rw (isnt, any_set r (n - 1) rs, apart_set (n - 1) moment rs)
+-- what a change leaves of a rental, so that rentals stay apart
+abbrev pub KeepsRented : (Rental → Rental) → Type 0
+KeepsRented f = (it : Rental) → ((f it).rented ≡ it.rented) × ((f it).copy ≡ it.copy) × ((f it).customer ≡ it.customer)
+
+apart_set : (n : ℕ) (f : Rental → Rental) (rs : List Rental) → KeepsRented f → are_apart (set_at n f rs) ≡ are_apart rs
+apart_set n f [] keeps = refl
+apart_set n f (r ∷ rs) keeps = elim (cases_Bool (n == 1)) [
+  | inl is ↦ rw (is, (keeps r).0, (keeps r).1, (keeps r).2)
+  | inr isnt ↦ rw (isnt, any_set r (n - 1) rs, apart_set (n - 1) f rs keeps)
 ] where
-  any_set : (r : Rental) (n : ℕ) (rs : List Rental) → list_any (same_rental r) (set_at n (λ it. record it { returned = Some moment }) rs) ≡ list_any (same_rental r) rs
+  any_set : (r : Rental) (n : ℕ) (rs : List Rental) → list_any (same_rental r) (set_at n f rs) ≡ list_any (same_rental r) rs
   any_set r n [] = refl
-  any_set r n (s ∷ rs) = elim (cases_Bool (n == 1)) [ inl is ↦ rw is | inr isnt ↦ rw isnt (ap (λ a. same_rental r s || a) (any_set r (n - 1) rs)) ]
+  any_set r n (s ∷ rs) = elim (cases_Bool (n == 1)) [ inl is ↦ rw (is, (keeps s).0, (keeps s).1, (keeps s).2) | inr isnt ↦ rw isnt (ap (λ a. same_rental r s || a) (any_set r (n - 1) rs)) ]
 
 -- ---- sizes
 
@@ -127,188 +136,179 @@ incoming_new missing (a ∷ arrivals) opens fit =
     let l = length-append (arrived missing a.films) (incoming missing arrivals) in
     rw (o.0, f.0) (omega (arith, more, l))
 
-one_longer : {A : Type 0} (xs : List A) (x : A) (n : ℕ) → length xs ≤ n → length (xs ++ x ∷ []) ≤ n + 1
-one_longer xs x n le = let l = length-append xs (x ∷ []) in omega (arith, l, le)
-
 pub key_room : (limit have : ℕ) {more : ℕ} → nat_le limit have ≡ false → more ≡ have + 1 → more ≤ limit
 key_room limit have fits e = let lt : have < limit = grind (arith, nat_tests, fits) in omega (arith, e, lt)
 
--- the shop as it was, at the command's moment and with its key kept
-base_good : (rules sizes : Rules) (command : Command) (k : Kept) (shop : Shop) → rules.commands ≤ sizes.commands → IsGoodShop sizes shop → nat_le rules.commands (length shop.kept) ≡ false → is_before command.moment shop.last ≡ false
-    → IsGoodShop sizes (record shop { kept = shop.kept ++ k ∷ []; last = Some command.moment })
-base_good rules sizes command k shop most good few on = record {
-  apart = good.apart;
-  created = all_weaker _ _ shop.customers (λ (c : Customer) by. moves_on shop.last command.moment c.created on by) good.created;
-  rented = all_weaker _ _ shop.rentals (still_by shop.last command.moment on) good.rented;
-  paid = all_weaker _ _ shop.payments (λ (p : Payment) by. moves_on shop.last command.moment p.paid on by) good.paid;
-  rentals_rise = good.rentals_rise;
-  payments_rise = good.payments_rise;
-  keys = let l = length-append shop.kept (k ∷ []) in let fit = key_room rules.commands (length shop.kept) few l in omega (arith, fit, most);
-  copies = good.copies;
-  customers_fit = let l = length-append shop.kept (k ∷ []) in let le = good.customers_fit in omega (arith, l, le);
-  rentals_fit = let l = length-append shop.kept (k ∷ []) in let le = good.rentals_fit in omega (arith, l, le);
-  payments_fit = let l = length-append shop.kept (k ∷ []) in let le = good.payments_fit in omega (arith, l, le);
-  lots_fit = let l = length-append shop.kept (k ∷ []) in let le = good.lots_fit in omega (arith, l, le);
-  sent_fit = let l = length-append shop.kept (k ∷ []) in let le = good.sent_fit in omega (arith, l, le);
-}
+-- ---- a branch's tables, each by itself
 
--- a rental that is returned now
-taken : (moment : Moment) (it : Rental) → rental_by (Some moment) it ≡ true → rental_by (Some moment) (record it { returned = Some moment }) ≡ true
-taken moment it by = let h = and_parts (is_by it.rented moment) _ by in rw (h.0, self_by moment)
+abbrev AreGood : Option Moment → (t : Table) → List (RowOf t) → Type 0
+AreGood last Customers its = list_all (λ (c : Customer). is_within last c.created) its ≡ true
+AreGood last Rentals its = (are_apart its ≡ true) × (list_all (rental_by last) its ≡ true) × (rises (map (λ (r : Rental). r.rented) its) ≡ true)
+AreGood last Payments its = (list_all (λ (p : Payment). is_within last p.paid) its ≡ true) × (rises (map (λ (p : Payment). p.paid) its) ≡ true)
+AreGood last t its = ⊤
 
-pub good_acted : (rules sizes : Rules) (b : ℕ) (catalogue : Catalogue) (command : Command) (k : Kept) (act : Act) (shop : Shop) → rules.commands ≤ sizes.commands → rules.copies ≤ sizes.copies → IsGoodShop sizes shop
-    → is_full rules shop act ≡ false → is_before command.moment shop.last ≡ false → NoneHold (act_refusals rules b catalogue shop command.moment act)
-    → IsGoodShop sizes (record (acted rules catalogue command act shop) { kept = shop.kept ++ k ∷ []; last = Some command.moment })
-good_acted rules sizes b catalogue command k (AddCustomer person) shop most fit good full on act =
-    let base = base_good rules sizes command k shop most good (or_parts (nat_le rules.commands (length shop.kept)) _ full).0 on in
-    record {
-      apart = base.apart;
-      created = all_more _ shop.customers (record { person = person; active = true; created = command.moment }) base.created (self_by command.moment);
-      rented = base.rented;
-      paid = base.paid;
-      rentals_rise = base.rentals_rise;
-      payments_rise = base.payments_rise;
-      keys = base.keys;
-      copies = base.copies;
-      customers_fit = let l = length-append shop.kept (k ∷ []) in let m = one_longer shop.customers (record { person = person; active = true; created = command.moment }) (length shop.kept) good.customers_fit in omega (arith, l, m);
-      rentals_fit = base.rentals_fit;
-      payments_fit = base.payments_fit;
-      lots_fit = base.lots_fit;
-      sent_fit = base.sent_fit;
-    }
-good_acted rules sizes b catalogue command k (SetActive c active) shop most fit good full on act =
-    let base = base_good rules sizes command k shop most good (or_parts (nat_le rules.commands (length shop.kept)) _ full).0 on in
-    record {
-      apart = base.apart;
-      created = all_set _ c (λ it. record it { active = active }) shop.customers base.created (λ x h. h);
-      rented = base.rented;
-      paid = base.paid;
-      rentals_rise = base.rentals_rise;
-      payments_rise = base.payments_rise;
-      keys = base.keys;
-      copies = base.copies;
-      customers_fit = let l = length_set c (λ it. record it { active = active }) shop.customers in let m = base.customers_fit in omega (arith, l, m);
-      rentals_fit = base.rentals_fit;
-      payments_fit = base.payments_fit;
-      lots_fit = base.lots_fit;
-      sent_fit = base.sent_fit;
-    }
-good_acted rules sizes b catalogue command k (Rent c x) shop most fit good full on act =
-    let base = base_good rules sizes command k shop most good (or_parts (nat_le rules.commands (length shop.kept)) _ full).0 on in
-    record {
-      apart = apart_more shop.rentals (record { rented = command.moment; copy = x; customer = c; returned = None; staff = command.staff }) good.apart act.1.1.1.1.1.1.0;
-      created = base.created;
-      rented = all_more _ shop.rentals (record { rented = command.moment; copy = x; customer = c; returned = None; staff = command.staff }) base.rented (rw (self_by command.moment));
-      paid = base.paid;
-      rentals_rise = rw (map_push (λ (r : Rental). r.rented) shop.rentals (record { rented = command.moment; copy = x; customer = c; returned = None; staff = command.staff })) (rises_more (map (λ (r : Rental). r.rented) shop.rentals) command.moment good.rentals_rise (rw (all_map (λ n. is_by n command.moment) (λ (r : Rental). r.rented) shop.rentals) (all_weaker _ _ shop.rentals (λ (r : Rental) by. moves_on shop.last command.moment r.rented on (and_parts (is_within shop.last r.rented) _ by).0) good.rented)));
-      payments_rise = base.payments_rise;
-      keys = base.keys;
-      copies = base.copies;
-      customers_fit = base.customers_fit;
-      rentals_fit = let l = length-append shop.kept (k ∷ []) in let m = one_longer shop.rentals (record { rented = command.moment; copy = x; customer = c; returned = None; staff = command.staff }) (length shop.kept) good.rentals_fit in omega (arith, l, m);
-      payments_fit = base.payments_fit;
-      lots_fit = base.lots_fit;
-      sent_fit = base.sent_fit;
-    }
-good_acted rules sizes b catalogue command k (TakeBack r) shop most fit good full on act =
-    let base = base_good rules sizes command k shop most good (or_parts (nat_le rules.commands (length shop.kept)) _ full).0 on in
-    record {
-      apart = rw (apart_set r command.moment shop.rentals) good.apart;
-      created = base.created;
-      rented = all_set _ r (λ it. record it { returned = Some command.moment }) shop.rentals base.rented (λ it h. taken command.moment it h);
-      paid = base.paid;
-      rentals_rise = rw (map_set_same (λ (r : Rental). r.rented) r (λ it. record it { returned = Some command.moment }) shop.rentals (λ x. refl)) good.rentals_rise;
-      payments_rise = base.payments_rise;
-      keys = base.keys;
-      copies = base.copies;
-      customers_fit = base.customers_fit;
-      rentals_fit = let l = length_set r (λ it. record it { returned = Some command.moment }) shop.rentals in let m = base.rentals_fit in omega (arith, l, m);
-      payments_fit = base.payments_fit;
-      lots_fit = base.lots_fit;
-      sent_fit = base.sent_fit;
-    }
-good_acted rules sizes b catalogue command k (Pay c rental amount) shop most fit good full on act =
-    let base = base_good rules sizes command k shop most good (or_parts (nat_le rules.commands (length shop.kept)) _ full).0 on in
-    record {
-      apart = base.apart;
-      created = base.created;
-      rented = base.rented;
-      paid = all_more _ shop.payments (record { customer = c; staff = command.staff; rental = rental; amount = amount; paid = command.moment }) base.paid (self_by command.moment);
-      rentals_rise = base.rentals_rise;
-      payments_rise = rw (map_push (λ (p : Payment). p.paid) shop.payments (record { customer = c; staff = command.staff; rental = rental; amount = amount; paid = command.moment })) (rises_more (map (λ (p : Payment). p.paid) shop.payments) command.moment good.payments_rise (rw (all_map (λ n. is_by n command.moment) (λ (p : Payment). p.paid) shop.payments) base.paid));
-      keys = base.keys;
-      copies = base.copies;
-      customers_fit = base.customers_fit;
-      rentals_fit = base.rentals_fit;
-      payments_fit = let l = length-append shop.kept (k ∷ []) in let m = one_longer shop.payments (record { customer = c; staff = command.staff; rental = rental; amount = amount; paid = command.moment }) (length shop.kept) good.payments_fit in omega (arith, l, m);
-      lots_fit = base.lots_fit;
-      sent_fit = base.sent_fit;
-    }
-good_acted rules sizes b catalogue command k (Import lot file) shop most fit good full on act =
-    let base = base_good rules sizes command k shop most good (or_parts (nat_le rules.commands (length shop.kept)) _ full).0 on in
-    record {
-      apart = base.apart;
-      created = base.created;
-      rented = base.rented;
-      paid = base.paid;
-      rentals_rise = base.rentals_rise;
-      payments_rise = base.payments_rise;
-      keys = base.keys;
-      copies = let l = length-append shop.copies (map here (films_in (rules.stock_of file))) in let n = films_new (rules.stock_of file) in let r = room (new_in (rules.stock_of file)) (length shop.copies) rules.copies sizes.copies (or_parts (nat_le rules.commands (length shop.kept)) _ full).1 fit good.copies in omega (arith, l, n, r);
-      customers_fit = base.customers_fit;
-      rentals_fit = base.rentals_fit;
-      payments_fit = base.payments_fit;
-      lots_fit = let l = length-append shop.kept (k ∷ []) in let m = one_longer shop.lots lot (length shop.kept) good.lots_fit in omega (arith, l, m);
-      sent_fit = base.sent_fit;
-    }
-good_acted rules sizes b catalogue command k (Dispatch to xs) shop most fit good full on act =
-    let base = base_good rules sizes command k shop most good (or_parts (nat_le rules.commands (length shop.kept)) _ full).0 on in
-    record {
-      apart = base.apart;
-      created = base.created;
-      rented = base.rented;
-      paid = base.paid;
-      rentals_rise = base.rentals_rise;
-      payments_rise = base.payments_rise;
-      keys = base.keys;
-      copies = let l = length_set_all xs (with_state Sent) shop.copies in let m = good.copies in omega (arith, l, m);
-      customers_fit = base.customers_fit;
-      rentals_fit = base.rentals_fit;
-      payments_fit = base.payments_fit;
-      lots_fit = base.lots_fit;
-      sent_fit = let l = length-append shop.kept (k ∷ []) in let m = one_longer shop.sent (record { addressee = to; films = films_at xs shop.copies }) (length shop.kept) good.sent_fit in omega (arith, l, m);
-    }
-good_acted rules sizes b catalogue command k (Receive source number missing) shop most fit good full on act =
-    let base = base_good rules sizes command k shop most good (or_parts (nat_le rules.commands (length shop.kept)) _ full).0 on in
-    record {
-      apart = base.apart;
-      created = base.created;
-      rented = base.rented;
-      paid = base.paid;
-      rentals_rise = base.rentals_rise;
-      payments_rise = base.payments_rise;
-      keys = base.keys;
-      copies = let l = length-append shop.copies (map here (incoming missing (arrival source number shop))) in let m = length_map here (incoming missing (arrival source number shop)) in let n = incoming_new missing (arrival source number shop) act.1.0 act.1.1.0 in let r = room (total (new_from missing) (arrival source number shop)) (length shop.copies) rules.copies sizes.copies (or_parts (nat_le rules.commands (length shop.kept)) _ full).1 fit good.copies in omega (arith, l, m, n, r);
-      customers_fit = base.customers_fit;
-      rentals_fit = base.rentals_fit;
-      payments_fit = base.payments_fit;
-      lots_fit = base.lots_fit;
-      sent_fit = base.sent_fit;
-    }
-good_acted rules sizes b catalogue command k (Scrap x) shop most fit good full on act =
-    let base = base_good rules sizes command k shop most good (or_parts (nat_le rules.commands (length shop.kept)) _ full).0 on in
-    record {
-      apart = base.apart;
-      created = base.created;
-      rented = base.rented;
-      paid = base.paid;
-      rentals_rise = base.rentals_rise;
-      payments_rise = base.payments_rise;
-      keys = base.keys;
-      copies = let l = length_set x (with_state Scrapped) shop.copies in let m = good.copies in omega (arith, l, m);
-      customers_fit = base.customers_fit;
-      rentals_fit = base.rentals_fit;
-      payments_fit = base.payments_fit;
-      lots_fit = base.lots_fit;
-      sent_fit = base.sent_fit;
-    }
+-- as the last moment moves on
+good_later : (sizes : Rules) (b : ℕ) (moment : Moment) (books : Books) → IsGoodShop sizes (shop_of b books) → is_before moment (shop_of b books).last ≡ false → (t : Table) → AreGood (Some moment) t (of b (rows_of t books))
+good_later sizes b moment books good on Customers = all_weaker _ _ (of b books.customers) (λ (c : Customer) by. moves_on (shop_of b books).last moment c.created on by) good.created
+good_later sizes b moment books good on Rentals = (good.apart, all_weaker _ _ (of b books.rentals) (still_by (shop_of b books).last moment on) good.rented, good.rentals_rise)
+good_later sizes b moment books good on Payments = (all_weaker _ _ (of b books.payments) (λ (p : Payment) by. moves_on (shop_of b books).last moment p.paid on by) good.paid, good.payments_rise)
+good_later sizes b moment books good on t = tt
+
+-- what a row that is put is asked, and a change
+abbrev pub IsFresh : Moment → (t : Table) → RowOf t → List (RowOf t) → Type 0
+IsFresh moment Customers it its = it.created ≡ moment
+IsFresh moment Rentals it its = (it.rented ≡ moment) × (it.returned ≡ None) × (list_any (λ (r : Rental). same_moment r.rented moment && r.copy == it.copy && r.customer == it.customer) its ≡ false)
+IsFresh moment Payments it its = it.paid ≡ moment
+IsFresh moment t it its = ⊤
+
+abbrev pub KeepsGood : Moment → (t : Table) → (RowOf t → RowOf t) → Type 0
+KeepsGood moment Customers f = (it : Customer) → (f it).created ≡ it.created
+KeepsGood moment Rentals f = KeepsRented f × ((it : Rental) → (f it).returned ≡ Some moment)
+KeepsGood moment Payments f = (it : Payment) → (f it).paid ≡ it.paid
+KeepsGood moment t f = ⊤
+
+good_put : (moment : Moment) (t : Table) (it : RowOf t) (its : List (RowOf t)) → IsFresh moment t it its → AreGood (Some moment) t its → AreGood (Some moment) t (its ++ it ∷ [])
+good_put moment Customers it its is good = all_more _ its it good (rw is (self_by moment))
+good_put moment Rentals it its is good = (
+  apart_more its it good.0 (rw is.0 is.2),
+  all_more _ its it good.1 (rw (is.0, is.1, self_by moment)),
+  rw (map_push (λ (r : Rental). r.rented) its it, is.0) (rises_more (map (λ (r : Rental). r.rented) its) moment good.2 (rw (all_map (λ n. is_by n moment) (λ (r : Rental). r.rented) its) (all_weaker _ _ its (λ (r : Rental) by. (and_parts (is_by r.rented moment) _ by).0) good.1))),
+)
+good_put moment Payments it its is good = (
+  all_more _ its it good.0 (rw is (self_by moment)),
+  rw (map_push (λ (p : Payment). p.paid) its it, is) (rises_more (map (λ (p : Payment). p.paid) its) moment good.1 (rw (all_map (λ n. is_by n moment) (λ (p : Payment). p.paid) its) good.0)),
+)
+good_put moment t it its is good = tt
+
+good_set : (moment : Moment) (t : Table) (n : ℕ) (f : RowOf t → RowOf t) (its : List (RowOf t)) → KeepsGood moment t f → AreGood (Some moment) t its → AreGood (Some moment) t (set_at n f its)
+good_set moment Customers n f its keeps good = all_set _ n f its good (λ it is. rw (keeps it) is)
+good_set moment Rentals n f its keeps good = (
+  rw (apart_set n f its keeps.0) good.0,
+  all_set _ n f its good.1 (λ it by. let h = and_parts (is_by it.rented moment) _ by in rw ((keeps.0 it).0, keeps.1 it, h.0, self_by moment)),
+  rw (map_set_same (λ (r : Rental). r.rented) n f its (λ it. (keeps.0 it).0)) good.2,
+)
+good_set moment Payments n f its keeps good = (
+  all_set _ n f its good.0 (λ it is. rw (keeps it) is),
+  rw (map_set_same (λ (p : Payment). p.paid) n f its keeps) good.1,
+)
+good_set moment t n f its keeps good = tt
+
+-- ---- edits
+
+-- new rows, one after another
+abbrev pub AreFresh : Moment → (t : Table) → List (ℕ → RowOf t) → List (RowOf t) → Type 0
+AreFresh moment t [] its = ⊤
+AreFresh moment t (make ∷ makes) its = (n : ℕ) → IsFresh moment t (make n) its × AreFresh moment t makes (its ++ make n ∷ [])
+
+-- copies and terms are asked nothing
+abbrev pub AreFreshOf : Moment → (t : Table) → List (ℕ → RowOf t) → List (RowOf t) → Type 0
+AreFreshOf moment CopyRows makes its = ⊤
+AreFreshOf moment TermRows makes its = ⊤
+AreFreshOf moment t makes its = AreFresh moment t makes its
+
+good_all : (b : ℕ) (moment : Moment) (t : Table) (makes : List (ℕ → RowOf t)) (rows : List (Row (RowOf t))) → AreFresh moment t makes (of b rows) → AreGood (Some moment) t (of b rows) → AreGood (Some moment) t (of b (put_all b makes rows))
+good_all b moment t [] rows fresh good = good
+good_all b moment t (make ∷ makes) rows fresh good =
+    let own = put_own b make rows in
+    let new = make (next b rows) in
+    let f = fresh (next b rows) in
+    good_all b moment t makes (put b make rows) (subst (AreFresh moment t makes) (sym own) f.1) (subst (AreGood (Some moment) t) (sym own) (good_put moment t new (of b rows) f.0 good))
+
+good_puts : (b : ℕ) (moment : Moment) (t : Table) (makes : List (ℕ → RowOf t)) (rows : List (Row (RowOf t))) → AreFreshOf moment t makes (of b rows) → AreGood (Some moment) t (of b rows) → AreGood (Some moment) t (of b (put_all b makes rows))
+good_puts b moment CopyRows makes rows fresh good = tt
+good_puts b moment TermRows makes rows fresh good = tt
+good_puts b moment Customers makes rows fresh good = good_all b moment Customers makes rows fresh good
+good_puts b moment Rentals makes rows fresh good = good_all b moment Rentals makes rows fresh good
+good_puts b moment Payments makes rows fresh good = good_all b moment Payments makes rows fresh good
+
+good_sets : (moment : Moment) (t : Table) (ns : List ℕ) (f : RowOf t → RowOf t) (its : List (RowOf t)) → KeepsGood moment t f → AreGood (Some moment) t its → AreGood (Some moment) t (set_all ns f its)
+good_sets moment t [] f its keeps good = good
+good_sets moment t (n ∷ ns) f its keeps good = good_sets moment t ns f (set_at n f its) keeps (good_set moment t n f its keeps good)
+
+-- what an edit is asked
+abbrev pub IsGoodEdit : ℕ → Moment → Books → Edit → Type 0
+IsGoodEdit b moment books (Put t makes) = AreFreshOf moment t makes (of b (rows_of t books))
+IsGoodEdit b moment books (Set t ns f) = KeepsGood moment t f
+IsGoodEdit b moment books edit = ⊤
+
+abbrev IsTableGood : ℕ → Moment → (t : Table) → List (Row (RowOf t)) → Type 0
+IsTableGood b moment t rows = AreGood (Some moment) t (of b rows) × ((c : ℕ) → AreNumbered (is_of c) (λ (row : Row (RowOf t)). row.number) rows)
+
+abbrev AreTablesGood : ℕ → Moment → Books → Type 0
+AreTablesGood b moment books = (t : Table) → IsTableGood b moment t (rows_of t books)
+
+good_edited : (b : ℕ) (moment : Moment) (books : Books) (edit : Edit) → IsGoodEdit b moment books edit → AreTablesGood b moment books → AreTablesGood b moment (edited b edit books)
+good_edited b moment books (Put t makes) asked good =
+    by_table (IsTableGood b moment) t _ books (good_puts b moment t makes (rows_of t books) asked (good t).0, λ c. put_all_counted c b makes (rows_of t books) ((good t).1 c)) good
+good_edited b moment books (Set t ns f) asked good =
+    by_table (IsTableGood b moment) t _ books (rw (set_rows_own b ns f (rows_of t books) ((good t).1 b)) (good_sets moment t ns f (of b (rows_of t books)) asked (good t).0), λ c. set_rows_counted c b ns f (rows_of t books) ((good t).1 c)) good
+good_edited b moment books (PutLot lot) asked good = by_others (IsTableGood b moment) _ books.consignments books good
+good_edited b moment books (Append it) asked good = by_others (IsTableGood b moment) books.lots _ books good
+good_edited b moment books (Update test f) asked good = by_others (IsTableGood b moment) books.lots _ books good
+
+-- ---- a command
+
+-- a command puts one row of a kind at most, but for copies
+pub record IsSmall (edits : List Edit) : Type 0 where
+  pub customers : grown Customers edits ≤ 1
+  pub rentals : grown Rentals edits ≤ 1
+  pub payments : grown Payments edits ≤ 1
+  pub lots : new_lots edits ≤ 1
+  pub sends : new_sends edits ≤ 1
+
+pub edits_small : (rules : Rules) (b : ℕ) (command : Command) (act : Act) (books : Books) → IsSmall (edits_of rules b command act books)
+edits_small rules b command (AddCustomer person) books = record { customers = omega arith; rentals = omega arith; payments = omega arith; lots = omega arith; sends = omega arith }
+edits_small rules b command act books = record { customers = omega arith; rentals = omega arith; payments = omega arith; lots = omega arith; sends = omega arith }
+
+-- as many copies as the verdict has counted
+copies_new : (rules : Rules) (b : ℕ) (command : Command) (act : Act) (books : Books) → HasNumbers books → NoneHold (act_refusals rules b books.catalogue (shop_of b books) command.moment act)
+    → grown CopyRows (edits_of rules b command act books) ≡ new_copies rules (shop_of b books) act
+copies_new rules b command (Import lot file) books has none = let n = length_map (imported b) (films_in (rules.stock_of file)) in let m = films_new (rules.stock_of file) in let k = length_map here (films_in (rules.stock_of file)) in omega (arith, n, m, k)
+copies_new rules b command (Receive source number missing) books has none =
+    let n = length_map unpacked (come source b number missing books.consignments) in
+    let f = length_map (λ (line : Line). line.film) (come source b number missing books.consignments) in
+    let same = ap length (incoming_come b source number missing books (has.consignments source b)) in
+    let m = incoming_new missing (arrival source number (shop_of b books)) none.1.0 none.1.1.0 in
+    omega (arith, n, f, same, m)
+copies_new rules b command act books has none = refl
+
+pub good_shop_done : (rules sizes : Rules) (b : ℕ) (command : Command) (books : Books) → rules.commands ≤ sizes.commands → rules.copies ≤ sizes.copies → HasNumbers books → IsGoodShop sizes (shop_of b books)
+    → is_full rules (shop_of b books) command.act ≡ false → is_before command.moment (shop_of b books).last ≡ false → NoneHold (act_refusals rules b books.catalogue (shop_of b books) command.moment command.act)
+    → AskedOfEach b (IsGoodEdit b command.moment) (edits_of rules b command command.act books) books → IsGoodShop sizes (shop_of b (book_done rules b command books))
+good_shop_done rules sizes b command books most fit has good full on none asked =
+    let edits = edits_of rules b command command.act books in
+    let after = book_acted rules b command command.act books in
+    let shop = shop_of b books in
+    let later = good_later sizes b command.moment books good on in
+    let all = each_keeps (AreTablesGood b command.moment) (IsGoodEdit b command.moment) b (good_edited b command.moment) edits books asked (λ t. (later t, tables_numbered books has t)) in
+    let small = edits_small rules b command command.act books in
+    let grew = rows_edited b b edits books in
+    let k : Kept = record { command = command; reply = reply_text rules command shop } in
+    let own = more_yes (λ (row : Owned Kept). row.it) (λ row. row.owner == b) books.kept (record { owner = b; it = k }) (same_test b) in
+    let last = last_own b command.moment books.lasts in
+    let l = length-append shop.kept (k ∷ []) in
+    let full = or_parts (nat_le rules.commands (length shop.kept)) _ full in
+    rw (own, last) (record {
+      apart = (all Rentals).0.0;
+      created = (all Customers).0;
+      rented = (all Rentals).0.1;
+      paid = (all Payments).0.0;
+      rentals_rise = (all Rentals).0.2;
+      payments_rise = (all Payments).0.1;
+      keys = let room = key_room rules.commands (length shop.kept) full.0 l in omega (arith, room, most);
+      copies =
+          let new = copies_new rules b command command.act books has none in
+          let was = length_map unmarked (of b books.copies) in
+          let now = length_map unmarked (of b after.copies) in
+          let r = room (new_copies rules shop command.act) (length shop.copies) rules.copies sizes.copies full.1 fit good.copies in
+          omega (arith, new, was, now, r, grew CopyRows);
+      customers_fit = omega (arith, l, grew Customers, small.customers, good.customers_fit);
+      rentals_fit = omega (arith, l, grew Rentals, small.rentals, good.rentals_fit);
+      payments_fit = omega (arith, l, grew Payments, small.payments, good.payments_fit);
+      lots_fit = let lots = lots_edited b edits books in omega (arith, l, lots, small.lots, good.lots_fit);
+      sent_fit =
+          let sent = sends_edited b edits books (sends_numbered rules b command command.act books) in
+          let was = length_map as_parcel (filter (λ (it : Consignment). it.source == b) books.consignments) in
+          let now = length_map as_parcel (filter (λ (it : Consignment). it.source == b) after.consignments) in
+          omega (arith, l, sent, was, now, small.sends, good.sent_fit);
+    })

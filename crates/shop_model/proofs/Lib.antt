@@ -1,5 +1,6 @@
 pub mod RowLemmas
 pub mod FoundLemmas
+pub mod EditLemmas
 pub mod ShopLemmas
 pub mod NumberLemmas
 pub mod Reordered
@@ -10,6 +11,7 @@ pub mod GoodShops
 pub mod Origins
 pub mod LinkLemmas
 pub mod LinkedShops
+pub mod Allowed
 pub mod GoodCatalogues
 pub mod Owners
 pub mod Soundness

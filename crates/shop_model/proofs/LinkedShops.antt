@@ -1,262 +1,245 @@
 -- Each step keeps what the rows of a shop name.
-use Rattle.std.proofs.Common.{◌≡◌, inl, inr, ℕ, List, [], ◌∷◌, ◌++◌, filter, map, length, true, false, not, None, Some, refl, sym, ◌∙◌, arith, length-append}
-use Rattle.std.specs.Prelude.{Option, ◌==◌, ◌||◌, nat_lt, nat_le}
+use Rattle.std.proofs.Common.{◌≡◌, inl, inr, ℕ, ◌-◌, List, [], ◌∷◌, ◌++◌, filter, map, Bool, true, false, refl, sym, subst, ap, ◌∙◌}
+use Rattle.std.specs.Prelude.{⊤, ◌==◌, ◌&&◌}
 use Rattle.std.specs.Option.{option_to_list}
 use Rattle.std.specs.List.{list_any, list_all}
 use Rattle.std.specs.Str.{bytes_eq}
-use Rattle.std.proofs.lemmas.Bool.{cases_Bool, or_parts, not-false, true≢false}
-use Rattle.std.proofs.lemmas.Bool.Decides.{nat_tests}
-use Rattle.shop_model.specs.Rows.{at, lacks, is_empty, set_at, arrived, has_double}
-use Rattle.shop_model.specs.Calendar.{Moment}
-use Rattle.shop_model.specs.Values.{Text, Customer, Copy, Sent, Scrapped, Rental, Payment, Arrival, Stock, Copies, BadLine, Act, AddCustomer, SetActive, Rent, TakeBack, Pay, Import, Dispatch, Receive, Scrap, Command, Rules}
+use Rattle.std.proofs.lemmas.Bool.{cases_Bool}
+use Rattle.shop_model.specs.Rows.{Row, Owned, of, owned_by, is_of, next, put_all, set_rows, AreNumbered, at, lacks, set_at, set_all}
+use Rattle.shop_model.specs.Values.{Text, Customer, Copy, Rental, Payment, Arrival, Parcel, Act, Dispatch, Command, Rules}
 use Rattle.shop_model.specs.Shop.{Kept, Shop, Catalogue}
-use Rattle.shop_model.specs.Verdict.{act_refusals, import_refusals, arrival}
-use Rattle.shop_model.specs.Machine.{acted, here, with_state, films_in, films_at, incoming}
-use Rattle.shop_model.specs.Books.{Books, shop_of}
-use Rattle.shop_model.specs.Links.{has_row, is_staff_of, pays_for, is_parcel, IsLinkedShop}
-use Rattle.shop_model.proofs.RowLemmas.{length_map}
+use Rattle.shop_model.specs.Machine.{films_at, reply_text}
+use Rattle.shop_model.specs.Books.{Books, BookCopy, Line, Consignment, Table, Customers, CopyRows, Rentals, Payments, RowOf, rows_of, with_rows, Edit, Put, Set, PutLot, Append, Update, edited, edits_of, book_acted, book_done, shop_of, unmarked, as_arrival, as_parcel}
+use Rattle.shop_model.specs.Links.{has_row, are_different, is_staff_of, pays_for, is_parcel, IsLinkedShop}
+use Rattle.shop_model.specs.Sound.{HasNumbers}
+use Rattle.shop_model.proofs.RowLemmas.{same_test, more_yes, more_no, set_same, put_all_counted, set_rows_own, set_rows_counted}
 use Rattle.shop_model.proofs.ShopLemmas.{with_arrivals}
-use Rattle.shop_model.proofs.Isolation.{NoneHold}
-use Rattle.shop_model.proofs.GoodShops.{all_more, all_weaker, all_set}
-use Rattle.shop_model.proofs.Origins.{all_append, all_filter}
-use Rattle.shop_model.proofs.LinkLemmas.{has_more, has_set, has_set_all, any_at_more, any_at_set, all_at, one_at, all_set_all, all_set_among, all_mapped, all_joined, none_lacks, all_arrived, different_more}
+use Rattle.shop_model.proofs.NumberLemmas.{tables_numbered}
+use Rattle.shop_model.proofs.EditLemmas.{by_table, by_others, AskedOfEach, each_keeps, new_its, put_all_its}
+use Rattle.shop_model.proofs.Isolation.{catalogue_stays}
+use Rattle.shop_model.proofs.GoodShops.{all_more, all_weaker, all_map}
+use Rattle.shop_model.proofs.Origins.{all_append}
+use Rattle.shop_model.proofs.LinkLemmas.{has_more, has_set_all, any_at_more, any_at_set, all_at, all_set_all, all_mapped, different_more}
 
 pub is_there : {A : Type 0} (rows : List A) (n : ℕ) → lacks rows n ≡ false → has_row rows n ≡ true
 is_there rows n e = rw e
 
--- ---- payments and rentals
+-- ---- a branch's tables
 
-pays_more : (rentals : List Rental) (new : Rental) (payment : Payment) → pays_for rentals payment ≡ true → pays_for (rentals ++ new ∷ []) payment ≡ true
-pays_more rentals new payment pays =
-    all_weaker (λ r. list_any (λ (it : Rental). it.customer == payment.customer) (at r rentals)) (λ r. list_any (λ (it : Rental). it.customer == payment.customer) (at r (rentals ++ new ∷ [])))
-    (option_to_list payment.rental) (λ r some. any_at_more (λ (it : Rental). it.customer == payment.customer) r rentals (new ∷ []) some) pays
+pub has_mapped : {A B : Type 0} (g : A → B) (n : ℕ) (rows : List A) → has_row (map g rows) n ≡ has_row rows n
+has_mapped g n [] = refl
+has_mapped g n (row ∷ rows) = elim (cases_Bool (n == 1)) [ inl is ↦ rw is | inr isnt ↦ rw isnt (has_mapped g (n - 1) rows) ]
 
-pays_set : (n : ℕ) (moment : Moment) (rentals : List Rental) (payment : Payment) → pays_for rentals payment ≡ true → pays_for (set_at n (λ it. record it { returned = Some moment }) rentals) payment ≡ true
-pays_set n moment rentals payment pays =
-    all_weaker (λ r. list_any (λ (it : Rental). it.customer == payment.customer) (at r rentals)) (λ r. list_any (λ (it : Rental). it.customer == payment.customer) (at r (set_at n (λ it. record it { returned = Some moment }) rentals)))
-    (option_to_list payment.rental) (λ r some. any_at_set (λ (it : Rental). it.customer == payment.customer) r n (λ it. record it { returned = Some moment }) rentals (λ x. refl) ∙ some) pays
+all_same : {A : Type 0} (p q : A → Bool) (xs : List A) → ((x : A) → p x ≡ q x) → list_all p xs ≡ list_all q xs
+all_same p q [] same = refl
+all_same p q (x ∷ xs) same = rw (same x, all_same p q xs same)
 
-pays_new : (rentals : List Rental) (payment : Payment) → list_any (lacks rentals) (option_to_list payment.rental) ≡ false
-    → list_any (λ r. list_any (λ (it : Rental). not (it.customer == payment.customer)) (at r rentals)) (option_to_list payment.rental) ≡ false → pays_for rentals payment ≡ true
-pays_new rentals payment there same = by_list (option_to_list payment.rental) there same where
-  by_row : (rows : List Rental) → is_empty rows ≡ false → list_any (λ (it : Rental). not (it.customer == payment.customer)) rows ≡ false → list_any (λ (it : Rental). it.customer == payment.customer) rows ≡ true
-  by_row [] e f = absurd (true≢false e)
-  by_row (row ∷ rows) e f = rw (not-false (row.customer == payment.customer) (or_parts (not (row.customer == payment.customer)) _ f).0)
+abbrev pub AreLinked : ℕ → Books → (t : Table) → List (RowOf t) → Type 0
+AreLinked b books Customers its = list_all (λ (it : Customer). has_row books.catalogue.cities it.person.city) its ≡ true
+AreLinked b books CopyRows its = list_all (λ (it : BookCopy). has_row books.catalogue.films it.film) its ≡ true
+AreLinked b books Rentals its =
+    (list_all (λ (it : Rental). has_row (of b books.copies) it.copy) its ≡ true) × (list_all (λ (it : Rental). has_row (of b books.customers) it.customer) its ≡ true)
+    × (list_all (λ (it : Rental). is_staff_of b books.catalogue.staff it.staff) its ≡ true)
+AreLinked b books Payments its =
+    (list_all (λ (it : Payment). has_row (of b books.customers) it.customer) its ≡ true) × (list_all (λ (it : Payment). is_staff_of b books.catalogue.staff it.staff) its ≡ true)
+    × (list_all (pays_for (of b books.rentals)) its ≡ true)
+AreLinked b books t its = ⊤
 
-  by_list : (rs : List ℕ) → list_any (lacks rentals) rs ≡ false → list_any (λ r. list_any (λ (it : Rental). not (it.customer == payment.customer)) (at r rentals)) rs ≡ false
-      → list_all (λ r. list_any (λ (it : Rental). it.customer == payment.customer) (at r rentals)) rs ≡ true
-  by_list [] e f = refl
-  by_list (r ∷ rs) e f =
-      let a = or_parts (lacks rentals r) (list_any (lacks rentals) rs) e in
-      let c = or_parts (list_any (λ (it : Rental). not (it.customer == payment.customer)) (at r rentals)) _ f in
-      rw (by_row (at r rentals) a.0 c.0) (by_list rs a.1 c.1)
+linked_append : (b : ℕ) (books : Books) (t : Table) (xs ys : List (RowOf t)) → AreLinked b books t xs → AreLinked b books t ys → AreLinked b books t (xs ++ ys)
+linked_append b books Customers xs ys is are = all_append _ xs ys is are
+linked_append b books CopyRows xs ys is are = all_append _ xs ys is are
+linked_append b books Rentals xs ys is are = (all_append _ xs ys is.0 are.0, all_append _ xs ys is.1 are.1, all_append _ xs ys is.2 are.2)
+linked_append b books Payments xs ys is are = (all_append _ xs ys is.0 are.0, all_append _ xs ys is.1 are.1, all_append _ xs ys is.2 are.2)
+linked_append b books t xs ys is are = tt
 
--- ---- films that come and go
+-- what a change of rows is asked
+abbrev pub KeepsLinks : Books → (t : Table) → (RowOf t → RowOf t) → Type 0
+KeepsLinks books Customers f = (it : Customer) → has_row books.catalogue.cities it.person.city ≡ true → has_row books.catalogue.cities (f it).person.city ≡ true
+KeepsLinks books CopyRows f = (it : BookCopy) → (f it).film ≡ it.film
+KeepsLinks books Rentals f = (it : Rental) → ((f it).copy ≡ it.copy) × ((f it).customer ≡ it.customer) × ((f it).staff ≡ it.staff)
+KeepsLinks books Payments f = (it : Payment) → f it ≡ it
+KeepsLinks books t f = ⊤
 
-stock_films : (catalogue : Catalogue) (shop : Shop) (lot : Text) (stock : Stock) → NoneHold (import_refusals catalogue shop lot stock) → list_all (has_row catalogue.films) (films_in stock) ≡ true
-stock_films catalogue shop lot (Copies films) none = none_lacks catalogue.films films none.1.0
-stock_films catalogue shop lot (BadLine line) none = refl
+linked_set : (b : ℕ) (books : Books) (t : Table) (ns : List ℕ) (f : RowOf t → RowOf t) (its : List (RowOf t)) → KeepsLinks books t f → AreLinked b books t its → AreLinked b books t (set_all ns f its)
+linked_set b books Customers ns f its keeps is = all_set_all _ ns f its is keeps
+linked_set b books CopyRows ns f its keeps is = all_set_all _ ns f its is (λ it has. rw (keeps it) has)
+linked_set b books Rentals ns f its keeps is = (all_set_all _ ns f its is.0 (λ it has. rw (keeps it).0 has), all_set_all _ ns f its is.1 (λ it has. rw (keeps it).1 has), all_set_all _ ns f its is.2 (λ it has. rw (keeps it).2 has))
+linked_set b books Payments ns f its keeps is = (all_set_all _ ns f its is.0 (λ it has. rw (keeps it) has), all_set_all _ ns f its is.1 (λ it has. rw (keeps it) has), all_set_all _ ns f its is.2 (λ it has. rw (keeps it) has))
+linked_set b books t ns f its keeps is = tt
 
-lot_new : (catalogue : Catalogue) (shop : Shop) (lot : Text) (stock : Stock) → NoneHold (import_refusals catalogue shop lot stock) → list_any (bytes_eq lot) shop.lots ≡ false
-lot_new catalogue shop lot (Copies films) none = none.1.1.0
-lot_new catalogue shop lot (BadLine line) none = none.0
+-- rows that other rows name stay there, and rentals stay those of their customers
+abbrev KeepsPays : (t : Table) → List (RowOf t) → List (RowOf t) → Type 0
+KeepsPays Rentals old new = (it : Payment) → pays_for old it ≡ true → pays_for new it ≡ true
+KeepsPays t old new = ⊤
 
-films_here : (catalogue : Catalogue) (films : List ℕ) → list_all (has_row catalogue.films) films ≡ true → list_all (λ (it : Copy). has_row catalogue.films it.film) (map here films) ≡ true
-films_here catalogue films all = all_mapped (λ (it : Copy). has_row catalogue.films it.film) (has_row catalogue.films) here films (λ x h. h) all
+abbrev Stays : ℕ → Books → (t : Table) → List (Row (RowOf t)) → Type 0
+Stays b books t new = ((n : ℕ) → has_row (of b (rows_of t books)) n ≡ true → has_row (of b new) n ≡ true) × KeepsPays t (of b (rows_of t books)) (of b new)
 
-incoming_films : (catalogue : Catalogue) (missing : List ℕ) (arrivals : List Arrival) → list_all (λ (it : Arrival). list_all (has_row catalogue.films) it.films) arrivals ≡ true
-    → list_all (has_row catalogue.films) (incoming missing arrivals) ≡ true
-incoming_films catalogue missing arrivals all =
-    all_joined (has_row catalogue.films) (λ (it : Arrival). list_all (has_row catalogue.films) it.films) (λ (it : Arrival). arrived missing it.films) arrivals (λ (it : Arrival) h. all_arrived (has_row catalogue.films) missing it.films h) all
+pays_all : (xs ys : List Rental) → ((n r : ℕ) → list_any (λ (it : Rental). it.customer == n) (at r xs) ≡ true → list_any (λ (it : Rental). it.customer == n) (at r ys) ≡ true) → (it : Payment) → pays_for xs it ≡ true → pays_for ys it ≡ true
+pays_all xs ys more it pays = all_weaker _ _ (option_to_list it.rental) (λ r some. more it.customer r some) pays
+
+stays_put : (b : ℕ) (books : Books) (t : Table) (makes : List (ℕ → RowOf t)) → Stays b books t (put_all b makes (rows_of t books))
+stays_put b books t makes = (λ n has. rw (put_all_its b makes (rows_of t books)) (has_more n (of b (rows_of t books)) (new_its (next b (rows_of t books)) makes) has), pays t makes) where
+  pays : (t : Table) (makes : List (ℕ → RowOf t)) → KeepsPays t (of b (rows_of t books)) (of b (put_all b makes (rows_of t books)))
+  pays Rentals makes = rw (put_all_its b makes books.rentals) (pays_all (of b books.rentals) _ (λ n r some. any_at_more _ r (of b books.rentals) _ some))
+  pays t makes = tt
+
+stays_set : (b : ℕ) (books : Books) (t : Table) (ns : List ℕ) (f : RowOf t → RowOf t) → AreNumbered (is_of b) (λ (row : Row (RowOf t)). row.number) (rows_of t books) → KeepsLinks books t f → Stays b books t (set_rows b ns f (rows_of t books))
+stays_set b books t ns f counted keeps = (λ n has. rw (set_rows_own b ns f (rows_of t books) counted) (has_set_all n ns f (of b (rows_of t books)) ∙ has), pays t f counted keeps) where
+  set_any : (p : Rental → Bool) (r : ℕ) (ns : List ℕ) (f : Rental → Rental) (xs : List Rental) → ((x : Rental) → p (f x) ≡ p x) → list_any p (at r (set_all ns f xs)) ≡ list_any p (at r xs)
+  set_any p r [] f xs same = refl
+  set_any p r (n ∷ ns) f xs same = set_any p r ns f (set_at n f xs) same ∙ any_at_set p r n f xs same
+
+  pays : (t : Table) (f : RowOf t → RowOf t) → AreNumbered (is_of b) (λ (row : Row (RowOf t)). row.number) (rows_of t books) → KeepsLinks books t f → KeepsPays t (of b (rows_of t books)) (of b (set_rows b ns f (rows_of t books)))
+  pays Rentals f counted keeps = rw (set_rows_own b ns f books.rentals counted) (pays_all (of b books.rentals) _ (λ n r some. set_any (λ (it : Rental). it.customer == n) r ns f (of b books.rentals) (λ x. ap (λ c. c == n) (keeps x).1) ∙ some))
+  pays t f counted keeps = tt
+
+linked_stays : (b : ℕ) (books : Books) (u : Table) (new : List (Row (RowOf u))) → Stays b books u new → (t : Table) (its : List (RowOf t)) → AreLinked b books t its → AreLinked b (with_rows u new books) t its
+linked_stays b books u new stays t its is = go t its is where
+  all : (t : Table) → Stays b books t (rows_of t (with_rows u new books))
+  all = by_table (Stays b books) u new books stays (λ t. (λ n has. has, same t)) where
+    same : (t : Table) → KeepsPays t (of b (rows_of t books)) (of b (rows_of t books))
+    same Rentals = λ it pays. pays
+    same t = tt
+
+  go : (t : Table) (its : List (RowOf t)) → AreLinked b books t its → AreLinked b (with_rows u new books) t its
+  go Customers its is = is
+  go CopyRows its is = is
+  go Rentals its is = (all_weaker _ _ its (λ (it : Rental) has. (all CopyRows).0 it.copy has) is.0, all_weaker _ _ its (λ (it : Rental) has. (all Customers).0 it.customer has) is.1, is.2)
+  go Payments its is = (all_weaker _ _ its (λ (it : Payment) has. (all Customers).0 it.customer has) is.0, is.1, all_weaker _ _ its (all Rentals).1 is.2)
+  go t its is = tt
+
+-- ---- edits
+
+abbrev pub KeepsParcel : (Consignment → Consignment) → Type 0
+KeepsParcel f = (it : Consignment) → ((f it).source ≡ it.source) × ((f it).addressee ≡ it.addressee) × (map (λ (line : Line). line.film) (f it).lines ≡ map (λ (line : Line). line.film) it.lines)
+
+-- what an edit is asked
+abbrev pub IsLinkedEdit : ℕ → Books → Edit → Type 0
+IsLinkedEdit b books (Put t makes) = (n : ℕ) → AreLinked b books t (new_its n makes)
+IsLinkedEdit b books (Set t ns f) = KeepsLinks books t f
+IsLinkedEdit b books (PutLot lot) = list_any (bytes_eq lot) (owned_by b books.lots) ≡ false
+IsLinkedEdit b books (Append it) = (list_all (has_row books.catalogue.films) (map (λ (line : Line). line.film) it.lines) ≡ true) × (is_parcel (as_parcel it) ≡ true)
+IsLinkedEdit b books (Update test f) = KeepsParcel f
+
+record AreBooksLinked (b : ℕ) (books : Books) : Type 0 where
+  tables : (t : Table) → AreLinked b books t (of b (rows_of t books))
+  counted : (t : Table) → AreNumbered (is_of b) (λ (row : Row (RowOf t)). row.number) (rows_of t books)
+  lots : are_different (λ (earlier later : Text). bytes_eq later earlier) (owned_by b books.lots) ≡ true
+  arrivals : list_all (list_all (has_row books.catalogue.films)) (map (λ (it : Consignment). map (λ (line : Line). line.film) it.lines) (filter (λ (it : Consignment). it.addressee == b) books.consignments)) ≡ true
+  parcels : list_all is_parcel (map as_parcel (filter (λ (it : Consignment). it.source == b) books.consignments)) ≡ true
+
+-- other consignments and lots leave the tables
+others_linked : (b : ℕ) (lots : List (Owned Text)) (cs : List Consignment) (books : Books) → AreBooksLinked b books → (t : Table) → AreLinked b (record books { lots = lots; consignments = cs }) t (of b (rows_of t (record books { lots = lots; consignments = cs })))
+others_linked b lots cs books h Customers = h.tables Customers
+others_linked b lots cs books h CopyRows = h.tables CopyRows
+others_linked b lots cs books h Rentals = h.tables Rentals
+others_linked b lots cs books h Payments = h.tables Payments
+others_linked b lots cs books h t = tt
+
+all_one_more : {A B : Type 0} (p : B → Bool) (g : A → B) (q : A → Bool) (xs : List A) (x : A) → list_all p (map g (filter q xs)) ≡ true → p (g x) ≡ true → list_all p (map g (filter q (xs ++ x ∷ []))) ≡ true
+all_one_more p g q xs x all is = elim (cases_Bool (q x)) [
+  | inl mine ↦ rw (more_yes g q xs x mine) (all_more p (map g (filter q xs)) (g x) all is)
+  | inr other ↦ rw (more_no g q xs x other) all
+]
+
+linked_edited : (b : ℕ) (books : Books) (edit : Edit) → IsLinkedEdit b books edit → AreBooksLinked b books → AreBooksLinked b (edited b edit books)
+linked_edited b books (Put t makes) asked h =
+    let new = put_all b makes (rows_of t books) in
+    let still = linked_stays b books t new (stays_put b books t makes) in
+    let own = linked_append b (with_rows t new books) t (of b (rows_of t books)) (new_its (next b (rows_of t books)) makes) (still t _ (h.tables t)) (still t _ (asked (next b (rows_of t books)))) in
+    record {
+      tables = by_table (λ u its. AreLinked b (with_rows t new books) u (of b its)) t new books (subst (AreLinked b (with_rows t new books) t) (sym (put_all_its b makes (rows_of t books))) own) (λ u. still u _ (h.tables u));
+      counted = by_table (λ u its. AreNumbered (is_of b) (λ (row : Row (RowOf u)). row.number) its) t new books (put_all_counted b b makes (rows_of t books) (h.counted t)) h.counted;
+      lots = h.lots;
+      arrivals = h.arrivals;
+      parcels = h.parcels;
+    }
+linked_edited b books (Set t ns f) asked h =
+    let new = set_rows b ns f (rows_of t books) in
+    let still = linked_stays b books t new (stays_set b books t ns f (h.counted t) asked) in
+    let own = still t _ (linked_set b books t ns f (of b (rows_of t books)) asked (h.tables t)) in
+    record {
+      tables = by_table (λ u its. AreLinked b (with_rows t new books) u (of b its)) t new books (subst (AreLinked b (with_rows t new books) t) (sym (set_rows_own b ns f (rows_of t books) (h.counted t))) own) (λ u. still u _ (h.tables u));
+      counted = by_table (λ u its. AreNumbered (is_of b) (λ (row : Row (RowOf u)). row.number) its) t new books (set_rows_counted b b ns f (rows_of t books) (h.counted t)) h.counted;
+      lots = h.lots;
+      arrivals = h.arrivals;
+      parcels = h.parcels;
+    }
+linked_edited b books (PutLot lot) asked h = record {
+  tables = others_linked b _ books.consignments books h;
+  counted = by_others (λ u its. AreNumbered (is_of b) (λ (row : Row (RowOf u)). row.number) its) _ books.consignments books h.counted;
+  lots = rw (more_yes (λ (row : Owned Text). row.it) (λ row. row.owner == b) books.lots (record { owner = b; it = lot }) (same_test b)) (different_more (λ (earlier later : Text). bytes_eq later earlier) (owned_by b books.lots) lot h.lots asked);
+  arrivals = h.arrivals;
+  parcels = h.parcels;
+}
+linked_edited b books (Append it) asked h = record {
+  tables = others_linked b books.lots _ books h;
+  counted = by_others (λ u its. AreNumbered (is_of b) (λ (row : Row (RowOf u)). row.number) its) books.lots _ books h.counted;
+  lots = h.lots;
+  arrivals = all_one_more _ _ _ books.consignments it h.arrivals asked.0;
+  parcels = all_one_more _ _ _ books.consignments it h.parcels asked.1;
+}
+linked_edited b books (Update test f) asked h = record {
+  tables = others_linked b books.lots _ books h;
+  counted = by_others (λ u its. AreNumbered (is_of b) (λ (row : Row (RowOf u)). row.number) its) books.lots _ books h.counted;
+  lots = h.lots;
+  arrivals = rw (set_same (λ (it : Consignment). it.addressee == b) test f (λ (it : Consignment). map (λ (line : Line). line.film) it.lines) books.consignments (λ it. ap (λ a. a == b) (asked it).1) (λ it. (asked it).2)) h.arrivals;
+  parcels = rw (set_same (λ (it : Consignment). it.source == b) test f as_parcel books.consignments (λ it. ap (λ a. a == b) (asked it).0) (λ it. same_parcel _ _ _ _ (asked it).1 (asked it).2)) h.parcels;
+} where
+  same_parcel : (a c : ℕ) (fs gs : List ℕ) → a ≡ c → fs ≡ gs → ◌≡◌ {A = Parcel} (record { addressee = a; films = fs }) (record { addressee = c; films = gs })
+  same_parcel a c fs gs e g = rw (e, g)
+
+-- ---- a command
+
+pub linked_done : (rules : Rules) (b : ℕ) (command : Command) (books : Books) → HasNumbers books → IsLinkedShop b books.catalogue (shop_of b books)
+    → list_any (λ (it : Kept). bytes_eq it.command.key command.key) (shop_of b books).kept ≡ false → AskedOfEach b (IsLinkedEdit b) (edits_of rules b command command.act books) books
+    → IsLinkedShop b books.catalogue (shop_of b (book_done rules b command books))
+linked_done rules b command books has h fresh asked =
+    let after = book_acted rules b command command.act books in
+    let same = catalogue_stays rules b command command.act books in
+    let k : Kept = record { command = command; reply = reply_text rules command (shop_of b books) } in
+    let all = each_keeps (AreBooksLinked b) (IsLinkedEdit b) b (linked_edited b) (edits_of rules b command command.act books) books asked (record {
+      tables = tables_linked;
+      counted = λ t. tables_numbered books has t b;
+      lots = h.lots;
+      arrivals = arrivals_films (has_row books.catalogue.films) (filter (λ (it : Consignment). it.addressee == b) books.consignments) ∙ h.arrival_films;
+      parcels = h.parcels;
+    }) in
+    subst (λ (catalogue : Catalogue). IsLinkedShop b catalogue (shop_of b (book_done rules b command books))) same (record {
+      customer_cities = all.tables Customers;
+      copy_films = all_map (λ (it : Copy). has_row after.catalogue.films it.film) unmarked (of b after.copies) ∙ all.tables CopyRows;
+      rental_copies = all_same _ _ (of b after.rentals) (λ (it : Rental). has_mapped unmarked it.copy (of b after.copies)) ∙ (all.tables Rentals).0;
+      rental_customers = (all.tables Rentals).1;
+      rental_staff = (all.tables Rentals).2;
+      payment_customers = (all.tables Payments).0;
+      payment_staff = (all.tables Payments).1;
+      payment_rentals = (all.tables Payments).2;
+      arrival_films = sym (arrivals_films (has_row after.catalogue.films) (filter (λ (it : Consignment). it.addressee == b) after.consignments)) ∙ all.arrivals;
+      parcels = all.parcels;
+      lots = all.lots;
+      keys = rw (more_yes (λ (row : Owned Kept). row.it) (λ row. row.owner == b) books.kept (record { owner = b; it = k }) (same_test b)) (different_more (λ (earlier later : Kept). bytes_eq earlier.command.key later.command.key) (shop_of b books).kept k h.keys fresh);
+    }) where
+      tables_linked : (t : Table) → AreLinked b books t (of b (rows_of t books))
+      tables_linked Customers = h.customer_cities
+      tables_linked CopyRows = sym (all_map (λ (it : Copy). has_row books.catalogue.films it.film) unmarked (of b books.copies)) ∙ h.copy_films
+      tables_linked Rentals = (sym (all_same _ _ (of b books.rentals) (λ (it : Rental). has_mapped unmarked it.copy (of b books.copies))) ∙ h.rental_copies, h.rental_customers, h.rental_staff)
+      tables_linked Payments = (h.payment_customers, h.payment_staff, h.payment_rentals)
+      tables_linked t = tt
+
+      arrivals_films : (p : ℕ → Bool) (cs : List Consignment) → list_all (list_all p) (map (λ (it : Consignment). map (λ (line : Line). line.film) it.lines) cs) ≡ list_all (λ (it : Arrival). list_all p it.films) (map as_arrival cs)
+      arrivals_films p [] = refl
+      arrivals_films p (c ∷ cs) = ap (λ r. list_all p (map (λ (line : Line). line.film) c.lines) && r) (arrivals_films p cs)
+
+-- ---- what comes from another branch
 
 -- the films of any copies
-outgoing_films : (catalogue : Catalogue) (xs : List ℕ) (copies : List Copy) → list_all (λ (it : Copy). has_row catalogue.films it.film) copies ≡ true → list_all (has_row catalogue.films) (films_at xs copies) ≡ true
+pub outgoing_films : (catalogue : Catalogue) (xs : List ℕ) (copies : List Copy) → list_all (λ (it : Copy). has_row catalogue.films it.film) copies ≡ true → list_all (has_row catalogue.films) (films_at xs copies) ≡ true
 outgoing_films catalogue [] copies all = refl
 outgoing_films catalogue (x ∷ xs) copies all =
     all_append (has_row catalogue.films) (map (λ (it : Copy). it.film) (at x copies)) (films_at xs copies)
     (all_mapped (has_row catalogue.films) (λ (it : Copy). has_row catalogue.films it.film) (λ (it : Copy). it.film) (at x copies) (λ it h. h) (all_at (λ (it : Copy). has_row catalogue.films it.film) x copies all))
     (outgoing_films catalogue xs copies all)
-
-outgoing_length : (xs : List ℕ) (copies : List Copy) → list_any (lacks copies) xs ≡ false → length (films_at xs copies) ≡ length xs
-outgoing_length [] copies there = refl
-outgoing_length (x ∷ xs) copies there =
-    let h = or_parts (lacks copies x) (list_any (lacks copies) xs) there in
-    let one = one_film (at x copies) (one_at x copies h.0) in
-    let more = outgoing_length xs copies h.1 in
-    let l = length-append (map (λ (it : Copy). it.film) (at x copies)) (films_at xs copies) in
-    omega (arith, one, more, l) where
-      one_film : (rows : List Copy) → length rows ≡ 1 → length (map (λ (it : Copy). it.film) rows) ≡ 1
-      one_film rows e = length_map (λ (it : Copy). it.film) rows ∙ e
-
-parcel_fits : (to : ℕ) (xs : List ℕ) (copies : List Copy) → list_any (lacks copies) xs ≡ false → (is_empty xs || nat_lt 100 (length xs) || has_double xs) ≡ false
-    → is_parcel (record { addressee = to; films = films_at xs copies }) ≡ true
-parcel_fits to xs copies there fits =
-    let n = outgoing_length xs copies there in
-    let h = or_parts (is_empty xs || nat_lt 100 (length xs)) (has_double xs) fits in
-    let g = or_parts (is_empty xs) (nat_lt 100 (length xs)) h.0 in
-    let some : nat_lt 0 (length xs) ≡ true = not_none xs g.0 in
-    let few : nat_le (length xs) 100 ≡ true = grind (arith, nat_tests, g.1) in
-    rw (n, some, few) where
-      not_none : (ns : List ℕ) → is_empty ns ≡ false → nat_lt 0 (length ns) ≡ true
-      not_none [] e = sym e
-      not_none (m ∷ ns) e = grind (arith, nat_tests)
-
--- ---- one step of the shop
-
--- with its key kept and its moment the last
-base_linked : (b : ℕ) (catalogue : Catalogue) (k : Kept) (last : Option Moment) (shop : Shop) → IsLinkedShop b catalogue shop → list_any (λ (it : Kept). bytes_eq it.command.key k.command.key) shop.kept ≡ false
-    → IsLinkedShop b catalogue (record shop { kept = shop.kept ++ k ∷ []; last = last })
-base_linked b catalogue k last shop h new = record {
-  customer_cities = h.customer_cities;
-  copy_films = h.copy_films;
-  rental_copies = h.rental_copies;
-  rental_customers = h.rental_customers;
-  rental_staff = h.rental_staff;
-  payment_customers = h.payment_customers;
-  payment_staff = h.payment_staff;
-  payment_rentals = h.payment_rentals;
-  arrival_films = h.arrival_films;
-  parcels = h.parcels;
-  lots = h.lots;
-  keys = different_more (λ (earlier later : Kept). bytes_eq earlier.command.key later.command.key) shop.kept k h.keys new;
-}
-
-pub linked_acted : (rules : Rules) (b : ℕ) (catalogue : Catalogue) (command : Command) (act : Act) (shop : Shop) → IsLinkedShop b catalogue shop → is_staff_of b catalogue.staff command.staff ≡ true
-    → NoneHold (act_refusals rules b catalogue shop command.moment act) → IsLinkedShop b catalogue (acted rules catalogue command act shop)
-linked_acted rules b catalogue command (AddCustomer person) shop h works none = record {
-  customer_cities = all_more (λ (it : Customer). has_row catalogue.cities it.person.city) shop.customers (record { person = person; active = true; created = command.moment }) h.customer_cities (is_there catalogue.cities person.city none.0);
-  copy_films = h.copy_films;
-  rental_copies = h.rental_copies;
-  rental_customers = all_weaker (λ (it : Rental). has_row shop.customers it.customer) _ shop.rentals (λ (it : Rental) has. has_more it.customer shop.customers (record { person = person; active = true; created = command.moment } ∷ []) has) h.rental_customers;
-  rental_staff = h.rental_staff;
-  payment_customers = all_weaker (λ (it : Payment). has_row shop.customers it.customer) _ shop.payments (λ (it : Payment) has. has_more it.customer shop.customers (record { person = person; active = true; created = command.moment } ∷ []) has) h.payment_customers;
-  payment_staff = h.payment_staff;
-  payment_rentals = h.payment_rentals;
-  arrival_films = h.arrival_films;
-  parcels = h.parcels;
-  lots = h.lots;
-  keys = h.keys;
-}
-linked_acted rules b catalogue command (SetActive c active) shop h works none = record {
-  customer_cities = all_set (λ (it : Customer). has_row catalogue.cities it.person.city) c (λ (it : Customer). record it { active = active }) shop.customers h.customer_cities (λ it has. has);
-  copy_films = h.copy_films;
-  rental_copies = h.rental_copies;
-  rental_customers = all_weaker (λ (it : Rental). has_row shop.customers it.customer) _ shop.rentals (λ (it : Rental) has. has_set it.customer c (λ (it : Customer). record it { active = active }) shop.customers ∙ has) h.rental_customers;
-  rental_staff = h.rental_staff;
-  payment_customers = all_weaker (λ (it : Payment). has_row shop.customers it.customer) _ shop.payments (λ (it : Payment) has. has_set it.customer c (λ (it : Customer). record it { active = active }) shop.customers ∙ has) h.payment_customers;
-  payment_staff = h.payment_staff;
-  payment_rentals = h.payment_rentals;
-  arrival_films = h.arrival_films;
-  parcels = h.parcels;
-  lots = h.lots;
-  keys = h.keys;
-}
-linked_acted rules b catalogue command (Rent c x) shop h works none = record {
-  customer_cities = h.customer_cities;
-  copy_films = h.copy_films;
-  rental_copies = all_more (λ (it : Rental). has_row shop.copies it.copy) shop.rentals (record { rented = command.moment; copy = x; customer = c; returned = None; staff = command.staff }) h.rental_copies (is_there shop.copies x none.1.1.0);
-  rental_customers = all_more (λ (it : Rental). has_row shop.customers it.customer) shop.rentals (record { rented = command.moment; copy = x; customer = c; returned = None; staff = command.staff }) h.rental_customers (is_there shop.customers c none.0);
-  rental_staff = all_more (λ (it : Rental). is_staff_of b catalogue.staff it.staff) shop.rentals (record { rented = command.moment; copy = x; customer = c; returned = None; staff = command.staff }) h.rental_staff works;
-  payment_customers = h.payment_customers;
-  payment_staff = h.payment_staff;
-  payment_rentals = all_weaker (pays_for shop.rentals) _ shop.payments (λ (it : Payment) pays. pays_more shop.rentals (record { rented = command.moment; copy = x; customer = c; returned = None; staff = command.staff }) it pays) h.payment_rentals;
-  arrival_films = h.arrival_films;
-  parcels = h.parcels;
-  lots = h.lots;
-  keys = h.keys;
-}
-linked_acted rules b catalogue command (TakeBack r) shop h works none = record {
-  customer_cities = h.customer_cities;
-  copy_films = h.copy_films;
-  rental_copies = all_set (λ (it : Rental). has_row shop.copies it.copy) r (λ (it : Rental). record it { returned = Some command.moment }) shop.rentals h.rental_copies (λ it has. has);
-  rental_customers = all_set (λ (it : Rental). has_row shop.customers it.customer) r (λ (it : Rental). record it { returned = Some command.moment }) shop.rentals h.rental_customers (λ it has. has);
-  rental_staff = all_set (λ (it : Rental). is_staff_of b catalogue.staff it.staff) r (λ (it : Rental). record it { returned = Some command.moment }) shop.rentals h.rental_staff (λ it has. has);
-  payment_customers = h.payment_customers;
-  payment_staff = h.payment_staff;
-  payment_rentals = all_weaker (pays_for shop.rentals) _ shop.payments (λ (it : Payment) pays. pays_set r command.moment shop.rentals it pays) h.payment_rentals;
-  arrival_films = h.arrival_films;
-  parcels = h.parcels;
-  lots = h.lots;
-  keys = h.keys;
-}
-linked_acted rules b catalogue command (Pay c rental amount) shop h works none = record {
-  customer_cities = h.customer_cities;
-  copy_films = h.copy_films;
-  rental_copies = h.rental_copies;
-  rental_customers = h.rental_customers;
-  rental_staff = h.rental_staff;
-  payment_customers = all_more (λ (it : Payment). has_row shop.customers it.customer) shop.payments (record { customer = c; staff = command.staff; rental = rental; amount = amount; paid = command.moment }) h.payment_customers (is_there shop.customers c none.0);
-  payment_staff = all_more (λ (it : Payment). is_staff_of b catalogue.staff it.staff) shop.payments (record { customer = c; staff = command.staff; rental = rental; amount = amount; paid = command.moment }) h.payment_staff works;
-  payment_rentals = all_more (pays_for shop.rentals) shop.payments (record { customer = c; staff = command.staff; rental = rental; amount = amount; paid = command.moment }) h.payment_rentals (pays_new shop.rentals (record { customer = c; staff = command.staff; rental = rental; amount = amount; paid = command.moment }) none.1.0 none.1.1.0);
-  arrival_films = h.arrival_films;
-  parcels = h.parcels;
-  lots = h.lots;
-  keys = h.keys;
-}
-linked_acted rules b catalogue command (Import lot file) shop h works none = record {
-  customer_cities = h.customer_cities;
-  copy_films = all_append (λ (it : Copy). has_row catalogue.films it.film) shop.copies (map here (films_in (rules.stock_of file))) h.copy_films (films_here catalogue (films_in (rules.stock_of file)) (stock_films catalogue shop lot (rules.stock_of file) none));
-  rental_copies = all_weaker (λ (it : Rental). has_row shop.copies it.copy) _ shop.rentals (λ (it : Rental) has. has_more it.copy shop.copies (map here (films_in (rules.stock_of file))) has) h.rental_copies;
-  rental_customers = h.rental_customers;
-  rental_staff = h.rental_staff;
-  payment_customers = h.payment_customers;
-  payment_staff = h.payment_staff;
-  payment_rentals = h.payment_rentals;
-  arrival_films = h.arrival_films;
-  parcels = h.parcels;
-  lots = different_more (λ (earlier later : Text). bytes_eq later earlier) shop.lots lot h.lots (lot_new catalogue shop lot (rules.stock_of file) none);
-  keys = h.keys;
-}
-linked_acted rules b catalogue command (Dispatch to xs) shop h works none = record {
-  customer_cities = h.customer_cities;
-  copy_films = all_set_all (λ (it : Copy). has_row catalogue.films it.film) xs (with_state Sent) shop.copies h.copy_films (λ it has. has);
-  rental_copies = all_weaker (λ (it : Rental). has_row shop.copies it.copy) _ shop.rentals (λ (it : Rental) has. has_set_all it.copy xs (with_state Sent) shop.copies ∙ has) h.rental_copies;
-  rental_customers = h.rental_customers;
-  rental_staff = h.rental_staff;
-  payment_customers = h.payment_customers;
-  payment_staff = h.payment_staff;
-  payment_rentals = h.payment_rentals;
-  arrival_films = h.arrival_films;
-  parcels = all_more is_parcel shop.sent (record { addressee = to; films = films_at xs shop.copies }) h.parcels (parcel_fits to xs shop.copies none.0 none.1.1.1.1.1.0);
-  lots = h.lots;
-  keys = h.keys;
-}
-linked_acted rules b catalogue command (Receive source number missing) shop h works none = record {
-  customer_cities = h.customer_cities;
-  copy_films = all_append (λ (it : Copy). has_row catalogue.films it.film) shop.copies (map here (incoming missing (arrival source number shop))) h.copy_films (films_here catalogue (incoming missing (arrival source number shop)) (incoming_films catalogue missing (arrival source number shop)
-      (all_at (λ (it : Arrival). list_all (has_row catalogue.films) it.films) number (filter (λ (it : Arrival). it.source == source) shop.arrivals) (all_filter (λ (it : Arrival). list_all (has_row catalogue.films) it.films) (λ (it : Arrival). it.source == source) shop.arrivals h.arrival_films))));
-  rental_copies = all_weaker (λ (it : Rental). has_row shop.copies it.copy) _ shop.rentals (λ (it : Rental) has. has_more it.copy shop.copies (map here (incoming missing (arrival source number shop))) has) h.rental_copies;
-  rental_customers = h.rental_customers;
-  rental_staff = h.rental_staff;
-  payment_customers = h.payment_customers;
-  payment_staff = h.payment_staff;
-  payment_rentals = h.payment_rentals;
-  arrival_films = all_set_among (λ (it : Arrival). list_all (has_row catalogue.films) it.films) (λ (it : Arrival). it.source == source) number (λ (it : Arrival). record it { received = true }) shop.arrivals h.arrival_films (λ it. refl);
-  parcels = h.parcels;
-  lots = h.lots;
-  keys = h.keys;
-}
-linked_acted rules b catalogue command (Scrap x) shop h works none = record {
-  customer_cities = h.customer_cities;
-  copy_films = all_set (λ (it : Copy). has_row catalogue.films it.film) x (with_state Scrapped) shop.copies h.copy_films (λ it has. has);
-  rental_copies = all_weaker (λ (it : Rental). has_row shop.copies it.copy) _ shop.rentals (λ (it : Rental) has. has_set it.copy x (with_state Scrapped) shop.copies ∙ has) h.rental_copies;
-  rental_customers = h.rental_customers;
-  rental_staff = h.rental_staff;
-  payment_customers = h.payment_customers;
-  payment_staff = h.payment_staff;
-  payment_rentals = h.payment_rentals;
-  arrival_films = h.arrival_films;
-  parcels = h.parcels;
-  lots = h.lots;
-  keys = h.keys;
-}
-
--- the same with the key kept
-pub linked_kept : (b : ℕ) (catalogue : Catalogue) (k : Kept) (last : Option Moment) (shop : Shop) → IsLinkedShop b catalogue shop → (kept : List Kept) → kept ≡ shop.kept
-    → list_any (λ (it : Kept). bytes_eq it.command.key k.command.key) kept ≡ false → IsLinkedShop b catalogue (record shop { kept = kept ++ k ∷ []; last = last })
-linked_kept b catalogue k last shop h kept same new = rw same (base_linked b catalogue k last shop h (rw (← same) new))
-
--- ---- what comes from another branch
 
 arrives : (b c : ℕ) (catalogue : Catalogue) (shop other : Shop) (xs : List ℕ) → IsLinkedShop b catalogue shop → IsLinkedShop c catalogue other
     → IsLinkedShop b catalogue (record shop { arrivals = shop.arrivals ++ record { source = c; films = films_at xs other.copies; received = false } ∷ [] })

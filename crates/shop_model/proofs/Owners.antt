@@ -1,21 +1,21 @@
 -- Each step keeps that the branches of rows are there, and the places of consignments.
-use Rattle.std.proofs.Common.{◌≡◌, inl, inr, ℕ, ◌+◌, List, [], ◌∷◌, map, length, Bool, true, not, None, refl, subst, ◌∙◌, arith}
+use Rattle.std.proofs.Common.{◌≡◌, inl, inr, ℕ, ◌+◌, List, [], ◌∷◌, map, length, Bool, true, not, refl, subst, ap, ◌∙◌, arith}
 use Rattle.std.specs.Prelude.{◌==◌}
 use Rattle.std.specs.List.{list_any, list_all}
 use Rattle.std.proofs.lemmas.Bool.{cases_Bool, and_parts, false≢true}
 use Rattle.std.proofs.lemmas.List.{map_push}
 use Rattle.shop_model.specs.Rows.{Row, Owned, at, next, put, put_all, set_row, set_rows, update_where, is_row, IsCounted}
 use Rattle.shop_model.specs.Calendar.{Moment}
-use Rattle.shop_model.specs.Values.{Text, Branch, Staff, Customer, Rental, Terms, Payment, Act, AddCustomer, SetActive, Rent, TakeBack, Pay, Import, Dispatch, Receive, Scrap, Command, Rules}
+use Rattle.shop_model.specs.Values.{Text, Branch, Staff, Customer, Rental, Terms, Payment, Act, Dispatch, Receive, Command, Rules}
 use Rattle.shop_model.specs.Shop.{Kept, Catalogue}
-use Rattle.shop_model.specs.Stock.{terms_now}
 use Rattle.shop_model.specs.Verdict.{act_refusals, staff_is}
-use Rattle.shop_model.specs.Machine.{films_in, reply_text}
-use Rattle.shop_model.specs.Books.{Books, BookCopy, Consignment, shop_of, book_acted, book_done, is_consignment, imported, unpacked, checked, come, new_consignment}
+use Rattle.shop_model.specs.Machine.{reply_text}
+use Rattle.shop_model.specs.Books.{Books, BookCopy, Consignment, Table, Customers, CopyRows, Rentals, TermRows, Payments, RowOf, rows_of, with_rows, Edit, Put, Set, PutLot, Append, Update, edited, edits_of, shop_of, book_acted, book_done}
 use Rattle.shop_model.specs.Links.{has_row, is_staff_of}
 use Rattle.shop_model.specs.Sound.{HasOwners}
 use Rattle.shop_model.proofs.RowLemmas.{same_if, length_map, counted_more}
 use Rattle.shop_model.proofs.Isolation.{NoneHold}
+use Rattle.shop_model.proofs.EditLemmas.{by_table, AskedOfSend, AskedOfSends, sends_keep}
 use Rattle.shop_model.proofs.GoodShops.{all_more, all_weaker}
 use Rattle.shop_model.proofs.Origins.{all_filter}
 use Rattle.shop_model.proofs.LinkLemmas.{all_at}
@@ -67,116 +67,78 @@ set_all_owned : {A : Type 0} (branches : List Branch) (b : ℕ) (ns : List ℕ) 
 set_all_owned branches b [] f rows all = all
 set_all_owned branches b (n ∷ ns) f rows all = set_all_owned branches b ns f (set_row b n f rows) (set_owned branches b n f rows all)
 
+abbrev AreOwned : List Branch → (t : Table) → List (Row (RowOf t)) → Type 0
+AreOwned branches t rows = list_all (λ (row : Row (RowOf t)). has_row branches row.branch) rows ≡ true
+
+tables_owned : (branches : List Branch) (books : Books) → HasOwners branches books → (t : Table) → AreOwned branches t (rows_of t books)
+tables_owned branches books h Customers = h.customers
+tables_owned branches books h CopyRows = h.copies
+tables_owned branches books h Rentals = h.rentals
+tables_owned branches books h TermRows = h.terms
+tables_owned branches books h Payments = h.payments
+
+-- another list in one table
+with_owned : (branches : List Branch) (t : Table) (new : List (Row (RowOf t))) (books : Books) → AreOwned branches t new → HasOwners branches books → HasOwners branches (with_rows t new books)
+with_owned branches t new books is h =
+    let all = by_table (AreOwned branches) t new books is (tables_owned branches books h) in
+    record {
+      customers = all Customers;
+      copies = all CopyRows;
+      rentals = all Rentals;
+      terms = all TermRows;
+      payments = all Payments;
+      lots = h.lots;
+      kept = h.kept;
+      lasts = h.lasts;
+      sources = h.sources;
+      addressees = h.addressees;
+    }
+
+-- other lots and consignments
+with_others : (branches : List Branch) (lots : List (Owned Text)) (cs : List Consignment) (books : Books) → HasOwners branches books → list_all (λ (row : Owned Text). has_row branches row.owner) lots ≡ true
+    → list_all (λ (it : Consignment). has_row branches it.source) cs ≡ true → list_all (λ (it : Consignment). has_row branches it.addressee) cs ≡ true
+    → HasOwners branches (record books { lots = lots; consignments = cs })
+with_others branches lots cs books h lots_are sources addressees = record {
+  customers = h.customers;
+  copies = h.copies;
+  rentals = h.rentals;
+  terms = h.terms;
+  payments = h.payments;
+  lots = lots_are;
+  kept = h.kept;
+  lasts = h.lasts;
+  sources = sources;
+  addressees = addressees;
+}
+
+-- what edits of consignments are asked
+abbrev IsBetween : List Branch → Books → Consignment → Type 0
+IsBetween branches books it = (has_row branches it.source ≡ true) × (has_row branches it.addressee ≡ true)
+
+abbrev KeepsBranches : (Consignment → Consignment) → Type 0
+KeepsBranches f = (it : Consignment) → ((f it).source ≡ it.source) × ((f it).addressee ≡ it.addressee)
+
+owners_edited : (branches : List Branch) (b : ℕ) → has_row branches b ≡ true → (books : Books) (edit : Edit) → AskedOfSend (IsBetween branches) KeepsBranches books edit → HasOwners branches books → HasOwners branches (edited b edit books)
+owners_edited branches b there books (Put t makes) asked h = with_owned branches t _ books (put_all_owned branches b makes (rows_of t books) there (tables_owned branches books h t)) h
+owners_edited branches b there books (Set t ns f) asked h = with_owned branches t _ books (set_all_owned branches b ns f (rows_of t books) (tables_owned branches books h t)) h
+owners_edited branches b there books (PutLot lot) asked h = with_others branches _ books.consignments books h (all_more _ books.lots (record { owner = b; it = lot }) h.lots there) h.sources h.addressees
+owners_edited branches b there books (Append it) asked h =
+    with_others branches books.lots _ books h h.lots (all_more _ books.consignments it h.sources asked.0) (all_more _ books.consignments it h.addressees asked.1)
+owners_edited branches b there books (Update test f) asked h = with_others branches books.lots _ books h h.lots
+    (update_all (λ (it : Consignment). has_row branches it.source) test f books.consignments (λ it. ap (has_row branches) (asked it).0) ∙ h.sources)
+    (update_all (λ (it : Consignment). has_row branches it.addressee) test f books.consignments (λ it. ap (has_row branches) (asked it).1) ∙ h.addressees)
+
+sends_owned : (rules : Rules) (b : ℕ) (catalogue : Catalogue) (command : Command) (act : Act) (books : Books) → has_row catalogue.branches b ≡ true
+    → NoneHold (act_refusals rules b catalogue (shop_of b books) command.moment act) → AskedOfSends b (IsBetween catalogue.branches) KeepsBranches (edits_of rules b command act books) books
+sends_owned rules b catalogue command (Dispatch to xs) books there none = ((there, rw none.1.1.1.0), tt)
+sends_owned rules b catalogue command (Receive source number missing) books there none = (λ it. (refl, refl), tt)
+sends_owned rules b catalogue command act books there none = tt
+
 owners_acted : (rules : Rules) (b : ℕ) (catalogue : Catalogue) (command : Command) (act : Act) (books : Books) → HasOwners catalogue.branches books → has_row catalogue.branches b ≡ true
     → NoneHold (act_refusals rules b catalogue (shop_of b books) command.moment act) → HasOwners catalogue.branches (book_acted rules b command act books)
-owners_acted rules b catalogue command (AddCustomer person) books h there none = record {
-  customers = put_owned catalogue.branches b (λ _. record { person = person; active = true; created = command.moment }) books.customers there h.customers;
-  copies = h.copies;
-  rentals = h.rentals;
-  terms = h.terms;
-  payments = h.payments;
-  lots = h.lots;
-  kept = h.kept;
-  lasts = h.lasts;
-  sources = h.sources;
-  addressees = h.addressees;
-}
-owners_acted rules b catalogue command (SetActive n active) books h there none = record {
-  customers = set_owned catalogue.branches b n _ books.customers h.customers;
-  copies = h.copies;
-  rentals = h.rentals;
-  terms = h.terms;
-  payments = h.payments;
-  lots = h.lots;
-  kept = h.kept;
-  lasts = h.lasts;
-  sources = h.sources;
-  addressees = h.addressees;
-}
-owners_acted rules b catalogue command (Rent n x) books h there none = record {
-  customers = h.customers;
-  copies = h.copies;
-  rentals = put_owned catalogue.branches b (λ _. record { rented = command.moment; copy = x; customer = n; returned = None; staff = command.staff }) books.rentals there h.rentals;
-  terms = put_all_owned catalogue.branches b (map (λ it _. it) (terms_now books.catalogue (shop_of b books) x)) books.terms there h.terms;
-  payments = h.payments;
-  lots = h.lots;
-  kept = h.kept;
-  lasts = h.lasts;
-  sources = h.sources;
-  addressees = h.addressees;
-}
-owners_acted rules b catalogue command (TakeBack r) books h there none = record {
-  customers = h.customers;
-  copies = h.copies;
-  rentals = set_owned catalogue.branches b r _ books.rentals h.rentals;
-  terms = h.terms;
-  payments = h.payments;
-  lots = h.lots;
-  kept = h.kept;
-  lasts = h.lasts;
-  sources = h.sources;
-  addressees = h.addressees;
-}
-owners_acted rules b catalogue command (Pay n rental amount) books h there none = record {
-  customers = h.customers;
-  copies = h.copies;
-  rentals = h.rentals;
-  terms = h.terms;
-  payments = put_owned catalogue.branches b (λ _. record { customer = n; staff = command.staff; rental = rental; amount = amount; paid = command.moment }) books.payments there h.payments;
-  lots = h.lots;
-  kept = h.kept;
-  lasts = h.lasts;
-  sources = h.sources;
-  addressees = h.addressees;
-}
-owners_acted rules b catalogue command (Import lot file) books h there none = record {
-  customers = h.customers;
-  copies = put_all_owned catalogue.branches b (map (imported b) (films_in (rules.stock_of file))) books.copies there h.copies;
-  rentals = h.rentals;
-  terms = h.terms;
-  payments = h.payments;
-  lots = all_more (λ (row : Owned Text). has_row catalogue.branches row.owner) books.lots (record { owner = b; it = lot }) h.lots there;
-  kept = h.kept;
-  lasts = h.lasts;
-  sources = h.sources;
-  addressees = h.addressees;
-}
-owners_acted rules b catalogue command (Dispatch to xs) books h there none = record {
-  customers = h.customers;
-  copies = set_all_owned catalogue.branches b xs _ books.copies h.copies;
-  rentals = h.rentals;
-  terms = h.terms;
-  payments = h.payments;
-  lots = h.lots;
-  kept = h.kept;
-  lasts = h.lasts;
-  sources = all_more (λ (it : Consignment). has_row catalogue.branches it.source) books.consignments (new_consignment b to xs books) h.sources there;
-  addressees = all_more (λ (it : Consignment). has_row catalogue.branches it.addressee) books.consignments (new_consignment b to xs books) h.addressees (rw none.1.1.1.0);
-}
-owners_acted rules b catalogue command (Receive source number missing) books h there none = record {
-  customers = h.customers;
-  copies = put_all_owned catalogue.branches b (map unpacked (come source b number missing books.consignments)) books.copies there h.copies;
-  rentals = h.rentals;
-  terms = h.terms;
-  payments = h.payments;
-  lots = h.lots;
-  kept = h.kept;
-  lasts = h.lasts;
-  sources = update_all (λ (it : Consignment). has_row catalogue.branches it.source) (is_consignment source b number) (checked missing) books.consignments (λ x. refl) ∙ h.sources;
-  addressees = update_all (λ (it : Consignment). has_row catalogue.branches it.addressee) (is_consignment source b number) (checked missing) books.consignments (λ x. refl) ∙ h.addressees;
-}
-owners_acted rules b catalogue command (Scrap x) books h there none = record {
-  customers = h.customers;
-  copies = set_owned catalogue.branches b x _ books.copies h.copies;
-  rentals = h.rentals;
-  terms = h.terms;
-  payments = h.payments;
-  lots = h.lots;
-  kept = h.kept;
-  lasts = h.lasts;
-  sources = h.sources;
-  addressees = h.addressees;
-}
+owners_acted rules b catalogue command act books h there none =
+    sends_keep (HasOwners catalogue.branches) (IsBetween catalogue.branches) KeepsBranches b (owners_edited catalogue.branches b there) (edits_of rules b command act books) books
+    (sends_owned rules b catalogue command act books there none) h
 
 pub owners_done : (rules : Rules) (b : ℕ) (catalogue : Catalogue) (command : Command) (books : Books) → HasOwners catalogue.branches books → has_row catalogue.branches b ≡ true
     → NoneHold (act_refusals rules b catalogue (shop_of b books) command.moment command.act) → HasOwners catalogue.branches (book_done rules b command books)
@@ -209,17 +171,32 @@ owners_grow old new books more h = record {
 
 -- ---- places
 
-places_checked : (missing : List ℕ) (q : Consignment → Bool) (cs : List Consignment) → map (λ (it : Consignment). it.place) (update_where q (checked missing) cs) ≡ map (λ (it : Consignment). it.place) cs
-places_checked missing q [] = refl
-places_checked missing q (c ∷ cs) = elim (cases_Bool (q c)) [
-  | inl hit ↦ rw (hit, places_checked missing q cs)
-  | inr miss ↦ rw (miss, places_checked missing q cs)
+places_updated : (q : Consignment → Bool) (f : Consignment → Consignment) (cs : List Consignment) → ((it : Consignment) → (f it).place ≡ it.place) → map (λ (it : Consignment). it.place) (update_where q f cs) ≡ map (λ (it : Consignment). it.place) cs
+places_updated q f [] keeps = refl
+places_updated q f (c ∷ cs) keeps = elim (cases_Bool (q c)) [
+  | inl hit ↦ rw (hit, keeps c, places_updated q f cs keeps)
+  | inr miss ↦ rw (miss, places_updated q f cs keeps)
 ]
 
-pub places_kept : (rules : Rules) (b : ℕ) (command : Command) (act : Act) (books : Books) → IsCounted 1 (map (λ (it : Consignment). it.place) books.consignments)
-    → IsCounted 1 (map (λ (it : Consignment). it.place) (book_acted rules b command act books).consignments)
-places_kept rules b command (Dispatch to xs) books counted =
+abbrev HavePlaces : Books → Type 0
+HavePlaces books = IsCounted 1 (map (λ (it : Consignment). it.place) books.consignments)
+
+abbrev HasNextPlace : Books → Consignment → Type 0
+HasNextPlace books it = it.place ≡ length books.consignments + 1
+
+abbrev KeepsPlace : (Consignment → Consignment) → Type 0
+KeepsPlace f = (it : Consignment) → (f it).place ≡ it.place
+
+places_edited : (b : ℕ) (books : Books) (edit : Edit) → AskedOfSend HasNextPlace KeepsPlace books edit → HavePlaces books → HavePlaces (edited b edit books)
+places_edited b books (Append it) asked counted =
     let n = length_map (λ (it : Consignment). it.place) books.consignments in
-    rw (map_push (λ (it : Consignment). it.place) books.consignments (new_consignment b to xs books)) (counted_more 1 (map (λ (it : Consignment). it.place) books.consignments) (length books.consignments + 1) counted (omega (arith, n)))
-places_kept rules b command (Receive source number missing) books counted = rw (places_checked missing (is_consignment source b number) books.consignments) counted
-places_kept rules b command act books counted = counted
+    rw (map_push (λ (it : Consignment). it.place) books.consignments it) (counted_more 1 (map (λ (it : Consignment). it.place) books.consignments) it.place counted (omega (arith, n, asked)))
+places_edited b books (Update test f) asked counted = rw (places_updated test f books.consignments asked) counted
+places_edited b books edit asked counted = counted
+
+pub places_kept : (rules : Rules) (b : ℕ) (command : Command) (act : Act) (books : Books) → HavePlaces books → HavePlaces (book_acted rules b command act books)
+places_kept rules b command act books counted = sends_keep HavePlaces HasNextPlace KeepsPlace b (places_edited b) (edits_of rules b command act books) books (sends_placed act) counted where
+  sends_placed : (act : Act) → AskedOfSends b HasNextPlace KeepsPlace (edits_of rules b command act books) books
+  sends_placed (Dispatch to xs) = (refl, tt)
+  sends_placed (Receive source number missing) = (λ it. refl, tt)
+  sends_placed act = tt

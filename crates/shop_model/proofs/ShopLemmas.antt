@@ -10,9 +10,10 @@ use Rattle.shop_model.specs.Shop.{Kept, Shop}
 use Rattle.shop_model.specs.Stock.{terms_now}
 use Rattle.shop_model.specs.Verdict.{arrival}
 use Rattle.shop_model.specs.Machine.{acted, done, reply_text, here, with_state, films_in, films_at, incoming}
-use Rattle.shop_model.specs.Books.{Books, BookCopy, Line, Consignment, shop_of, unmarked, as_arrival, as_parcel, head, book_acted, book_done, is_consignment, imported, unpacked, put_state, rows_at, under_way, checked, checked_line, come, set_last, new_consignment}
+use Rattle.shop_model.specs.Books.{Books, BookCopy, Line, Consignment, Table, Customers, CopyRows, Rentals, TermRows, Payments, RowOf, rows_of, with_rows, Edit, Put, Set, PutLot, Append, Update, edited, edits_of, shop_of, unmarked, as_arrival, as_parcel, head, book_acted, book_done, is_consignment, imported, unpacked, put_state, rows_at, under_way, checked, checked_line, come, set_last, new_consignment}
 use Rattle.shop_model.specs.Sound.{HasNumbers}
-use Rattle.shop_model.proofs.RowLemmas.{same_if, differ_if, same_test, differ_test, more_yes, more_no, at_numbered, set_numbered_among, set_same, set_other, map_map, map_at, put_own, put_other, put_all_own, put_all_other, set_own, set_row_other, set_rows_own, set_rows_other, map_set_at, map_set_all, row_at, filter_map, filter_filter, filter_away}
+use Rattle.shop_model.proofs.RowLemmas.{same_if, differ_if, same_test, differ_test, more_yes, more_no, at_numbered, set_numbered_among, set_same, set_other, map_map, map_at, put_own, put_all_own, put_all_other, set_own, set_rows_own, set_rows_other, map_set_at, map_set_all, row_at, filter_map, filter_filter, filter_away}
+use Rattle.shop_model.proofs.EditLemmas.{by_table, AskedOfSend, sends_keep}
 
 -- ---- lines
 
@@ -27,7 +28,7 @@ kept_numbers g missing k (x ∷ xs) = elim (cases_Bool (mem k missing)) [
 pub arrived_map : {A B : Type 0} (g : A → B) (missing : List ℕ) (xs : List A) → arrived missing (map g xs) ≡ map g (arrived missing xs)
 arrived_map g missing xs = kept_numbers g missing 1 xs
 
-checked_films : (missing : List ℕ) (k : ℕ) (lines : List Line) → map (λ line. line.film) (map (checked_line missing) (numbered_from k lines)) ≡ map (λ line. line.film) lines
+pub checked_films : (missing : List ℕ) (k : ℕ) (lines : List Line) → map (λ line. line.film) (map (checked_line missing) (numbered_from k lines)) ≡ map (λ line. line.film) lines
 checked_films missing k [] = refl
 checked_films missing k (line ∷ lines) = ap (λ r. line.film ∷ r) (checked_films missing (k + 1) lines)
 
@@ -48,7 +49,7 @@ checked_parcel missing it = parcel_is it.addressee _ _ (checked_films missing 1 
 
 -- ---- what is sent
 
-films_sent : (b : ℕ) (xs : List ℕ) (rows : List (Row BookCopy)) → IsCounted 1 (map (λ row. row.number) (filter (is_of b) rows))
+pub films_sent : (b : ℕ) (xs : List ℕ) (rows : List (Row BookCopy)) → IsCounted 1 (map (λ row. row.number) (filter (is_of b) rows))
     → map (λ line. line.film) (map (λ row. under_way row.it) (rows_at b xs rows)) ≡ films_at xs (map unmarked (of b rows))
 films_sent b [] rows counted = refl
 films_sent b (x ∷ xs) rows counted =
@@ -75,6 +76,11 @@ incoming_films : (missing : List ℕ) (cs : List Consignment) → incoming missi
 incoming_films missing [] = refl
 incoming_films missing (c ∷ cs) =
     rw (map-append (λ (line : Line). line.film) (arrived missing c.lines) (flat_map (λ (it : Consignment). arrived missing it.lines) cs), arrived_map (λ (line : Line). line.film) missing c.lines, incoming_films missing cs)
+
+-- the films of lines that come are those that the branch sees come
+pub incoming_come : (b source number : ℕ) (missing : List ℕ) (books : Books) → IsCounted 1 (map (λ it. it.number) (filter (λ (it : Consignment). it.source == source && it.addressee == b) books.consignments))
+    → map (λ line. line.film) (come source b number missing books.consignments) ≡ incoming missing (arrival source number (shop_of b books))
+incoming_come b source number missing books counted = sym (rw (arrival_of source b number books.consignments counted) (incoming_films missing (filter (is_consignment source b number) books.consignments)))
 
 -- ---- moments
 
@@ -128,8 +134,7 @@ acted_own rules b command (Dispatch to xs) books has away = elim (cases_Bool (to
 acted_own rules b command (Receive source number missing) books has away =
     let counted = has.consignments source b in
     let back : number + 1 - 1 ≡ number = omega arith in
-    let films : map (λ line. line.film) (come source b number missing books.consignments) ≡ incoming missing (arrival source number (shop_of b books)) =
-    sym (rw (arrival_of source b number books.consignments counted) (incoming_films missing (filter (is_consignment source b number) books.consignments))) in
+    let films = incoming_come b source number missing books counted in
     shop_is _ _ refl
     (put_all_own unmarked unpacked (λ line. here line.film) b (come source b number missing books.consignments) books.copies (λ c n. refl)
     ∙ ap (λ cs. map unmarked (of b books.copies) ++ cs) (sym (map_map here (λ (line : Line). line.film) (come source b number missing books.consignments)) ∙ ap (map here) films))
@@ -158,16 +163,28 @@ abbrev pub with_arrivals : ℕ → ℕ → Act → Books → Shop
 with_arrivals b c (Dispatch to xs) books = if to == b then record (shop_of b books) { arrivals = (shop_of b books).arrivals ++ record { source = c; films = films_at xs (shop_of c books).copies; received = false } ∷ [] } else shop_of b books
 with_arrivals b c act books = shop_of b books
 
+-- other rows in one table, of which the branch has the same
+tables_stay : (b : ℕ) (t : Table) (new : List (Row (RowOf t))) (books : Books) → of b new ≡ of b (rows_of t books) → shop_of b (with_rows t new books) ≡ shop_of b books
+tables_stay b t new books same =
+    let all = by_table (λ u its. of b its ≡ of b (rows_of u books)) t new books same (λ u. refl) in
+    shop_is _ _ (all Customers) (ap (map unmarked) (all CopyRows)) (all Rentals) (all TermRows) (all Payments) refl refl refl refl refl
+
+abbrev NoSend : Books → Consignment → Type 0
+NoSend books it = ⊥
+
+abbrev NoChange : (Consignment → Consignment) → Type 0
+NoChange f = ⊥
+
+-- but for edits of consignments, those of one branch leave the shops of all others
+shop_stays : (b c : ℕ) → (c == b) ≡ false → (books : Books) (edit : Edit) → AskedOfSend NoSend NoChange books edit → shop_of b (edited c edit books) ≡ shop_of b books
+shop_stays b c differ books (Put t makes) asked = tables_stay b t _ books (put_all_other b c makes (rows_of t books) differ)
+shop_stays b c differ books (Set t ns f) asked = tables_stay b t _ books (set_rows_other b c ns f (rows_of t books) differ)
+shop_stays b c differ books (PutLot lot) asked = shop_is _ _ refl refl refl refl refl (more_no (λ (row : Owned Text). row.it) (λ row. row.owner == b) books.lots (record { owner = c; it = lot }) differ) refl refl refl refl
+shop_stays b c differ books (Append it) asked = absurd asked
+shop_stays b c differ books (Update test f) asked = absurd asked
+
 pub acted_other : (rules : Rules) (b c : ℕ) (command : Command) (act : Act) (books : Books) → HasNumbers books → (c == b) ≡ false
     → shop_of b (book_acted rules c command act books) ≡ with_arrivals b c act books
-acted_other rules b c command (AddCustomer person) books has differ = shop_is _ _ (put_other b c (λ _. record { person = person; active = true; created = command.moment }) books.customers differ) refl refl refl refl refl refl refl refl refl
-acted_other rules b c command (SetActive n active) books has differ = shop_is _ _ (set_row_other b c n (λ it. record it { active = active }) books.customers differ) refl refl refl refl refl refl refl refl refl
-acted_other rules b c command (Rent n x) books has differ = shop_is _ _ refl refl (put_other b c (λ _. record { rented = command.moment; copy = x; customer = n; returned = None; staff = command.staff }) books.rentals differ) (put_all_other b c (map (λ it _. it) (terms_now books.catalogue (shop_of c books) x)) books.terms differ) refl refl refl refl refl refl
-acted_other rules b c command (TakeBack r) books has differ = shop_is _ _ refl refl (set_row_other b c r (λ it. record it { returned = Some command.moment }) books.rentals differ) refl refl refl refl refl refl refl
-acted_other rules b c command (Pay n rental amount) books has differ = shop_is _ _ refl refl refl refl (put_other b c (λ _. record { customer = n; staff = command.staff; rental = rental; amount = amount; paid = command.moment }) books.payments differ) refl refl refl refl refl
-acted_other rules b c command (Import lot file) books has differ =
-    shop_is _ _ refl (ap (map unmarked) (put_all_other b c (map (imported c) (films_in (rules.stock_of file))) books.copies differ)) refl refl refl
-    (more_no (λ (row : Owned Text). row.it) (λ row. row.owner == b) books.lots (record { owner = c; it = lot }) differ) refl refl refl refl
 acted_other rules b c command (Dispatch to xs) books has differ =
     let copies = ap (map unmarked) (set_rows_other b c xs (put_state Sent) books.copies differ) in
     let sent = more_no as_parcel (λ (it : Consignment). it.source == b) books.consignments (new_consignment c to xs books) differ in
@@ -190,7 +207,8 @@ acted_other rules b c command (Receive source number missing) books has differ =
         | inl from ↦ rw (from, differ_test x.addressee c (λ e. differ_if c b differ (sym e ∙ same_if x.addressee b is)))
         | inr other ↦ rw other
       ]
-acted_other rules b c command (Scrap x) books has differ = shop_is _ _ refl (ap (map unmarked) (set_row_other b c x (put_state Scrapped) books.copies differ)) refl refl refl refl refl refl refl refl
+acted_other rules b c command act books has differ =
+    sends_keep (λ now. shop_of b now ≡ shop_of b books) NoSend NoChange c (λ now edit asked same. shop_stays b c differ now edit asked ∙ same) (edits_of rules c command act books) books tt refl
 
 pub done_other : (rules : Rules) (b c : ℕ) (command : Command) (books : Books) → HasNumbers books → (c == b) ≡ false
     → shop_of b (book_done rules c command books) ≡ with_arrivals b c command.act books

@@ -6,12 +6,12 @@ use Rattle.std.proofs.Math.Bool.{or-false}
 use Rattle.std.proofs.lemmas.Bool.{cases_Bool, or_parts, and_parts, not-true, not-false, true≢false}
 use Rattle.shop_model.specs.Rows.{Row, Owned, at, lacks, set_at, set_all, is_empty, is_row, next, mem, has_double}
 use Rattle.shop_model.specs.Calendar.{Moment}
-use Rattle.shop_model.specs.Values.{Branch, OfficeCommand, Copy, CopyState, Here, Sent, Scrapped, Rental, Arrival, Act, AddCustomer, Rent, TakeBack, Import, Dispatch, Receive, Scrap, Command, Rules}
+use Rattle.shop_model.specs.Values.{Branch, OfficeCommand, Copy, CopyState, Here, Sent, Scrapped, Rental, Arrival, Act, Rent, TakeBack, Import, Dispatch, Receive, Scrap, Command, Rules}
 use Rattle.shop_model.specs.Shop.{Kept, Shop, Catalogue}
 use Rattle.shop_model.specs.Stock.{is_here, in_stock, keeps_out, film_terms, terms_now}
 use Rattle.shop_model.specs.Verdict.{Accepted, first, refusals, verdict, office_verdict, act_refusals, is_away, arrival}
-use Rattle.shop_model.specs.Machine.{Request, Do, Office, acted, done, reply_text, catalogue_after, office_done, here, with_state, films_in, incoming}
-use Rattle.shop_model.specs.Books.{Books, BookCopy, Mark, Line, UnderWay, Missing, Consignment, Caller, Counter, HeadOffice, Nobody, shop_of, unmarked, as_arrival, book_acted, book_done, is_consignment, imported, unpacked, rows_at, come, new_consignment, set_last, branch_after, after_for, after, caller_in, last_books}
+use Rattle.shop_model.specs.Machine.{Request, Do, Office, acted, catalogue_after, office_done, here, with_state, films_in, incoming}
+use Rattle.shop_model.specs.Books.{Books, BookCopy, Mark, Line, UnderWay, Missing, Consignment, Caller, Counter, HeadOffice, Nobody, shop_of, unmarked, as_arrival, book_acted, book_done, edits_of, is_consignment, imported, unpacked, rows_at, come, new_consignment, set_last, branch_after, after_for, after, caller_in, last_books}
 use Rattle.shop_model.specs.Sound.{one, copy_is, line_is, is_origin, rows_made, is_mark, places, is_made_as, marked_films, HasNumbers, HasOwners, HasCustody, HasOneHolder, HasTerms, IsSound, all_lines, lines_in, is_settled}
 use Rattle.shop_model.specs.Laws.{StaySound, StaySoundWithin, CopiesAreInOnePlace, SoundBooksAreInCustody, OpeningIsSound, EmptyIsSound, OpeningBooksAreSound}
 use Rattle.shop_model.specs.Opening.{empty_catalogue, opening_catalogue}
@@ -23,9 +23,11 @@ use Rattle.shop_model.proofs.RowLemmas.{same_if, same_test, differ_if, differ_te
 use Rattle.shop_model.proofs.ShopLemmas.{arrival_of, done_own, done_other, with_arrivals}
 use Rattle.shop_model.proofs.NumberLemmas.{acted_numbers}
 use Rattle.shop_model.proofs.Isolation.{is_accepted, accepted_is, not_accepted, none_kept, NoneHold, accepted_holds, act_holds, not_self, catalogue_stays}
-use Rattle.shop_model.proofs.GoodShops.{all_weaker, good_acted, length_set}
+use Rattle.shop_model.proofs.GoodShops.{IsGoodEdit, all_weaker, good_shop_done, length_set}
 use Rattle.shop_model.proofs.LinkLemmas.{at_set_other, none_left, all_mapped, any_at_more, all_at, one_at}
-use Rattle.shop_model.proofs.LinkedShops.{linked_acted, linked_kept, linked_other}
+use Rattle.shop_model.proofs.LinkedShops.{IsLinkedEdit, linked_done, linked_other}
+use Rattle.shop_model.proofs.Allowed.{IsAllowed, edits_allowed}
+use Rattle.shop_model.proofs.EditLemmas.{each_weaker}
 use Rattle.shop_model.proofs.GoodCatalogues.{Grows, done_grows, good_done, linked_grows}
 use Rattle.shop_model.proofs.Owners.{staff_works, branch_there, owners_done, owners_grow, places_kept}
 use Rattle.shop_model.proofs.Origins.{all_append, origins_kept}
@@ -379,19 +381,6 @@ terms_other b c act books same = same
 
 -- ---- a step and a run
 
-kept_same : (rules : Rules) (catalogue : Catalogue) (command : Command) (act : Act) (shop : Shop) → shop.kept ≡ (acted rules catalogue command act shop).kept
-kept_same rules catalogue command (AddCustomer person) shop = refl
-kept_same rules catalogue command act shop = refl
-
-links_own : (rules : Rules) (b : ℕ) (catalogue : Catalogue) (command : Command) (shop : Shop) → IsLinkedShop b catalogue shop → verdict rules b catalogue shop command ≡ Accepted → is_staff_of b catalogue.staff command.staff ≡ true
-    → IsLinkedShop b catalogue (done rules catalogue command shop)
-links_own rules b catalogue command shop linked e works =
-    let none = act_holds rules b catalogue shop command e in
-    let k : Kept = record { command = command; reply = reply_text rules command shop } in
-    let fresh = (none_kept command (filter (λ (k : Kept). bytes_eq k.command.key command.key) shop.kept) (first (refusals rules b catalogue shop command)) e).0 in
-    linked_kept b catalogue k (Some command.moment) (acted rules catalogue command command.act shop) (linked_acted rules b catalogue command command.act shop linked works none) shop.kept (kept_same rules catalogue command command.act shop)
-    (none_left (λ (it : Kept). bytes_eq it.command.key command.key) shop.kept fresh)
-
 done_sound : (rules sizes : Rules) (b : ℕ) (command : Command) (books : Books) → rules.commands ≤ sizes.commands → rules.copies ≤ sizes.copies → IsSound sizes books
     → verdict rules b books.catalogue (shop_of b books) command ≡ Accepted → IsSound sizes (book_done rules b command books)
 done_sound rules sizes b command books most fit sound e =
@@ -402,6 +391,8 @@ done_sound rules sizes b command books most fit sound e =
     let same = catalogue_stays rules b command command.act books in
     let works = staff_works b books.catalogue.staff command.staff (not-false _ all.1.1.0) in
     let there = branch_there b books.catalogue.branches books.catalogue.staff command.staff sound.catalogue.names.staff_branches works in
+    let edits = edits_of rules b command command.act books in
+    let allowed = edits_allowed rules b command command.act books sound.numbers (sound.links b) works none in
     record {
       catalogue = rw same sound.catalogue;
       owners = subst (λ (it : Catalogue). HasOwners it.branches (book_done rules b command books)) (sym same) (owners_done rules b books.catalogue command books sound.owners there none);
@@ -423,16 +414,18 @@ done_sound rules sizes b command books most fit sound e =
       shops = λ c. elim (cases_Bool (b == c)) [
         | inl is ↦
             let P : ℕ → Type 0 = λ n. IsGoodShop sizes (shop_of n (book_done rules b command books)) in
-            let own : IsGoodShop sizes (shop_of b (book_done rules b command books)) =
-            rw (done_own rules b command books sound.numbers away) (good_acted rules sizes b books.catalogue command _ command.act (shop_of b books) most fit (sound.shops b) all.0 all.1.0 none) in
-            subst P (same_if b c is) own
+            let good = each_weaker (IsAllowed b command.moment) (IsGoodEdit b command.moment) b (λ (books : Books) edit is. is.good) edits books allowed in
+            subst P (same_if b c is) (good_shop_done rules sizes b command books most fit sound.numbers (sound.shops b) all.0 all.1.0 none good)
         | inr isnt ↦ rw (done_other rules c b command books sound.numbers isnt) (good_other sizes c b command.act books (sound.shops c))
       ];
       links = λ c. elim (cases_Bool (b == c)) [
         | inl is ↦
             let P : ℕ → Type 0 = λ n. IsLinkedShop n (book_done rules b command books).catalogue (shop_of n (book_done rules b command books)) in
+            let linked = each_weaker (IsAllowed b command.moment) (IsLinkedEdit b) b (λ (books : Books) edit is. is.linked) edits books allowed in
+            let shop = shop_of b books in
+            let fresh = (none_kept command (filter (λ (k : Kept). bytes_eq k.command.key command.key) shop.kept) (first (refusals rules b books.catalogue shop command)) e).0 in
             let own : IsLinkedShop b (book_done rules b command books).catalogue (shop_of b (book_done rules b command books)) =
-            rw (same, done_own rules b command books sound.numbers away) (links_own rules b books.catalogue command (shop_of b books) (sound.links b) e works) in
+            rw same (linked_done rules b command books sound.numbers (sound.links b) (none_left (λ (it : Kept). bytes_eq it.command.key command.key) shop.kept fresh) linked) in
             subst P (same_if b c is) own
         | inr isnt ↦ rw (same, done_other rules c b command books sound.numbers isnt) (linked_other c b command.act books (sound.links c) (sound.links b))
       ];

@@ -1,7 +1,7 @@
 -- The books of all branches in one list a table, the step that an event makes of them, and what one branch sees of a history. All of it is our own.
 use Rattle.std.specs.Prelude.{ℕ, ◌+◌, ◌==◌, ◌&&◌, Bool, true, false, not, if◌then◌else◌, List, [], ◌∷◌, ◌++◌, length, map, filter, flat_map, Option, Some, None}
 use Rattle.std.specs.Str.{bytes_eq}
-use Rattle.shop_model.specs.Rows.{arrived, lacks, Row, Owned, of, owned_by, is_row, put, put_all, set_row, set_rows, update_where, numbered, mem}
+use Rattle.shop_model.specs.Rows.{arrived, lacks, Row, Owned, of, owned_by, is_row, put_all, set_rows, update_where, numbered, mem}
 use Rattle.shop_model.specs.Calendar.{Moment}
 use Rattle.shop_model.specs.Values.{Text, Branch, Customer, CopyState, Here, Sent, Scrapped, Copy, Rental, Terms, Payment, Arrival, Parcel, Act, AddCustomer, SetActive, Rent, TakeBack, Pay, Import, Dispatch, Receive, Scrap, Command, OfficeAsk, Rules}
 use Rattle.shop_model.specs.Refusals.{NoCounter, NoRoute}
@@ -82,7 +82,7 @@ shop_of b books = record {
   last = head (owned_by b books.lasts);
 }
 
--- ---- what an accepted command of a branch changes
+-- ---- copies and consignments
 
 abbrev pub is_consignment : ℕ → ℕ → ℕ → Consignment → Bool
 is_consignment source addressee number it = it.source == source && it.addressee == addressee && it.number == number
@@ -129,32 +129,99 @@ checked missing it = record it { received = true; lines = map (checked_line miss
 abbrev pub come : ℕ → ℕ → ℕ → List ℕ → List Consignment → List Line
 come source addressee number missing consignments = flat_map (λ (it : Consignment). arrived missing it.lines) (filter (is_consignment source addressee number) consignments)
 
--- the same changes as in the branch's own machine, as changes of rows that have branch, number, mark and place
+-- ---- what an accepted command of a branch changes: a list of edits, by which each law is shown once for each kind
+
+-- the tables whose rows have a branch and a number
+pub data Table : Type 0 where
+  Customers : Table
+  CopyRows : Table
+  Rentals : Table
+  TermRows : Table
+  Payments : Table
+
+abbrev pub RowOf : Table → Type 0
+RowOf Customers = Customer
+RowOf CopyRows = BookCopy
+RowOf Rentals = Rental
+RowOf TermRows = Terms
+RowOf Payments = Payment
+
+abbrev pub rows_of : (t : Table) → Books → List (Row (RowOf t))
+rows_of Customers books = books.customers
+rows_of CopyRows books = books.copies
+rows_of Rentals books = books.rentals
+rows_of TermRows books = books.terms
+rows_of Payments books = books.payments
+
+-- of each table: the new list, where it is of this table, and else the old one
+abbrev pub customers_with : (t : Table) → List (Row (RowOf t)) → List (Row Customer) → List (Row Customer)
+customers_with Customers new old = new
+customers_with t new old = old
+
+abbrev pub copies_with : (t : Table) → List (Row (RowOf t)) → List (Row BookCopy) → List (Row BookCopy)
+copies_with CopyRows new old = new
+copies_with t new old = old
+
+abbrev pub rentals_with : (t : Table) → List (Row (RowOf t)) → List (Row Rental) → List (Row Rental)
+rentals_with Rentals new old = new
+rentals_with t new old = old
+
+abbrev pub terms_with : (t : Table) → List (Row (RowOf t)) → List (Row Terms) → List (Row Terms)
+terms_with TermRows new old = new
+terms_with t new old = old
+
+abbrev pub payments_with : (t : Table) → List (Row (RowOf t)) → List (Row Payment) → List (Row Payment)
+payments_with Payments new old = new
+payments_with t new old = old
+
+-- the books with another list in one table; what is no table stays, whichever the table is
+abbrev pub with_rows : (t : Table) → List (Row (RowOf t)) → Books → Books
+with_rows t new books = record books {
+  customers = customers_with t new books.customers;
+  copies = copies_with t new books.copies;
+  rentals = rentals_with t new books.rentals;
+  terms = terms_with t new books.terms;
+  payments = payments_with t new books.payments;
+}
+
+-- a branch's new rows, each with the next number, and changed rows, by their numbers; a lot; and of the consignments a new one, and a change
+pub data Edit : Type 0 where
+  Put : (t : Table) → List (ℕ → RowOf t) → Edit
+  Set : (t : Table) → List ℕ → (RowOf t → RowOf t) → Edit
+  PutLot : Text → Edit
+  Append : Consignment → Edit
+  Update : (Consignment → Bool) → (Consignment → Consignment) → Edit
+
+abbrev pub edited : ℕ → Edit → Books → Books
+edited b (Put t makes) books = with_rows t (put_all b makes (rows_of t books)) books
+edited b (Set t ns f) books = with_rows t (set_rows b ns f (rows_of t books)) books
+edited b (PutLot lot) books = record books { lots = books.lots ++ record { owner = b; it = lot } ∷ [] }
+edited b (Append it) books = record books { consignments = books.consignments ++ it ∷ [] }
+edited b (Update test f) books = record books { consignments = update_where test f books.consignments }
+
+abbrev pub all_edited : ℕ → List Edit → Books → Books
+all_edited b [] books = books
+all_edited b (edit ∷ edits) books = all_edited b edits (edited b edit books)
+
+-- by the books as they were: the same changes as in the branch's own machine, as edits of rows that have branch, number, mark and place
+abbrev pub edits_of : Rules → ℕ → Command → Act → Books → List Edit
+edits_of rules b command (AddCustomer person) books = Put Customers ((λ _. record { person = person; active = true; created = command.moment }) ∷ []) ∷ []
+edits_of rules b command (SetActive c active) books = Set Customers (c ∷ []) (λ it. record it { active = active }) ∷ []
+edits_of rules b command (Rent c x) books =
+    Put Rentals ((λ _. record { rented = command.moment; copy = x; customer = c; returned = None; staff = command.staff }) ∷ [])
+    ∷ Put TermRows (map (λ it _. it) (terms_now books.catalogue (shop_of b books) x))
+    ∷ []
+edits_of rules b command (TakeBack r) books = Set Rentals (r ∷ []) (λ it. record it { returned = Some command.moment }) ∷ []
+edits_of rules b command (Pay c rental amount) books =
+    Put Payments ((λ _. record { customer = c; staff = command.staff; rental = rental; amount = amount; paid = command.moment }) ∷ []) ∷ []
+edits_of rules b command (Import lot file) books = Put CopyRows (map (imported b) (films_in (rules.stock_of file))) ∷ PutLot lot ∷ []
+edits_of rules b command (Dispatch to xs) books = Set CopyRows xs (put_state Sent) ∷ Append (new_consignment b to xs books) ∷ []
+edits_of rules b command (Receive source number missing) books =
+    Put CopyRows (map unpacked (come source b number missing books.consignments)) ∷ Update (is_consignment source b number) (checked missing) ∷ []
+edits_of rules b command (Scrap x) books = Set CopyRows (x ∷ []) (put_state Scrapped) ∷ []
+
 abbrev pub book_acted : Rules → ℕ → Command → Act → Books → Books
-book_acted rules b command (AddCustomer person) books =
-    record books { customers = put b (λ _. record { person = person; active = true; created = command.moment }) books.customers }
-book_acted rules b command (SetActive c active) books =
-    record books { customers = set_row b c (λ it. record it { active = active }) books.customers }
-book_acted rules b command (Rent c x) books =
-    record books {
-      rentals = put b (λ _. record { rented = command.moment; copy = x; customer = c; returned = None; staff = command.staff }) books.rentals;
-      terms = put_all b (map (λ it _. it) (terms_now books.catalogue (shop_of b books) x)) books.terms;
-    }
-book_acted rules b command (TakeBack r) books =
-    record books { rentals = set_row b r (λ it. record it { returned = Some command.moment }) books.rentals }
-book_acted rules b command (Pay c rental amount) books =
-    record books { payments = put b (λ _. record { customer = c; staff = command.staff; rental = rental; amount = amount; paid = command.moment }) books.payments }
-book_acted rules b command (Import lot file) books =
-    record books { copies = put_all b (map (imported b) (films_in (rules.stock_of file))) books.copies; lots = books.lots ++ record { owner = b; it = lot } ∷ [] }
-book_acted rules b command (Dispatch to xs) books =
-    record books { copies = set_rows b xs (put_state Sent) books.copies; consignments = books.consignments ++ new_consignment b to xs books ∷ [] }
-book_acted rules b command (Receive source number missing) books =
-    record books {
-      copies = put_all b (map unpacked (come source b number missing books.consignments)) books.copies;
-      consignments = update_where (is_consignment source b number) (checked missing) books.consignments;
-    }
-book_acted rules b command (Scrap x) books =
-    record books { copies = set_row b x (put_state Scrapped) books.copies }
+book_acted rules b command act books = all_edited b (edits_of rules b command act books) books
 
 -- the last moment is kept for each branch by itself
 abbrev pub set_last : ℕ → Moment → List (Owned Moment) → List (Owned Moment)

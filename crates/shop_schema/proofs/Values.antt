@@ -10,21 +10,22 @@ use Rattle.std.proofs.lemmas.Str.Ascii.{IsAscii-nil, IsAscii-cons}
 use Rattle.std.proofs.ByRecursion.{All-push}
 use Rattle.shop_model.specs.Calendar.{IsMoment}
 use Rattle.shop_model.specs.Json.{escape_byte, flag_text, object}
-use Rattle.shop_model.specs.Rows.{Row, at, of, is_row, next, put, put_all, set_row}
+use Rattle.shop_model.specs.Rows.{Row, Owned, at, of, is_row, next, put, put_all, set_row, set_rows, update_where}
 use Rattle.shop_model.specs.Values.{Text, Film, Customer, Copy, Rental, Terms, Scrapped, Act, Command, Rules}
 use Rattle.shop_model.specs.Values as model
 use Rattle.shop_model.specs.Stock.{film_terms, terms_now}
 use Rattle.shop_model.specs.Machine.{films_in, told, reply_text}
 use Rattle.shop_model.specs.Shop.{Shop, Catalogue}
 use Rattle.shop_model.specs.Links.{IsGoodCatalogue}
-use Rattle.shop_model.specs.Books.{Books, BookCopy, put_state, book_acted, book_done, imported, unmarked, shop_of}
+use Rattle.shop_model.specs.Books.{Books, Consignment, Table, Customers, CopyRows, Rentals, TermRows, Payments, RowOf, rows_of, with_rows, Edit, Put, Set, PutLot, Append, Update, edited, all_edited, edits_of, book_acted, book_done, imported, unmarked, shop_of}
+use Rattle.shop_model.proofs.EditLemmas.{by_table, AskedOfEach, each_keeps}
 use Rattle.shop_model.specs.Sound.{IsSound}
 use Rattle.shop_model.specs.Migration.{row_terms, migrated, without_terms}
 use Rattle.shop_model.proofs.RowLemmas.{put_own, length_map}
 use Rattle.shop_model.proofs.FoundLemmas.{at_one}
 use Rattle.sqlite_keyed.proofs.ListLemmas.{all-append, all-filter}
 use Rattle.shop_schema.specs.Held.{HasFewShared, IsHeld}
-use Rattle.shop_schema.specs.RowValues.{IsNumber, IsFilm, IsRow, IsCustomer, IsCopy, IsRental, IsTerms, IsPayment, IsLot, IsKept, IsLast, AreBytes, IsAct, IsCommand, AreValues}
+use Rattle.shop_schema.specs.RowValues.{IsConsignment, IsKey, IsNumber, IsFilm, IsRow, IsCustomer, IsCopy, IsRental, IsTerms, IsPayment, IsLot, IsKept, IsLast, AreBytes, IsAct, IsCommand, AreValues}
 use Rattle.shop_schema.specs.Steps.{FilmsFit, FitsTables}
 
 -- a good catalogue by a size of a million has few shared rows
@@ -88,16 +89,6 @@ set_values P b n f (row ∷ rows) stays all = go (is_row b n row) (set_values P 
     go true rest = ((all.0.0, all.0.1, stays row.it all.0.2), rest)
     go false rest = (all.0, rest)
 
-import_values : (b : ℕ) (films : List ℕ) (rows : List (Row BookCopy)) → IsNumber b → AllByRecursion IsNumber films → length (of b rows) + length films ≤ 1_001_000
-    → AllByRecursion (IsRow IsCopy) rows → AllByRecursion (IsRow IsCopy) (put_all b (map (imported b) films) rows)
-import_values b [] rows branch numbers few all = all
-import_values b (film ∷ films) rows branch numbers few all =
-    let own : length (of b (put b (imported b film) rows)) ≡ length (of b rows) + 1 =
-    ap length (put_own b (imported b film) rows) ∙ length-append (of b rows) (imported b film (next b rows) ∷ []) in
-    let row = next_fits b rows (omega arith) in
-    import_values b films (put b (imported b film) rows) branch numbers.1 (omega arith)
-    (put_values IsCopy b (imported b film) rows branch (omega arith) (numbers.0, (branch, row)) all)
-
 -- ---- terms
 
 all_at : {A : Type 0} (P : A → Type 0) (n : ℕ) (xs : List A) → AllByRecursion P xs → AllByRecursion P (at n xs)
@@ -129,13 +120,6 @@ few_terms catalogue shop x = subst (λ (n : ℕ). n ≤ 1) (sym (length_map film
     go copies (inr found) =
         subst (λ (l : List Copy). length (flat_map (λ (copy : Copy). at copy.film catalogue.films) l) ≤ 1) (sym found.1)
         (subst (λ (l : List Film). length l ≤ 1) (sym (append-nil (at found.0.film catalogue.films))) (one found.0.film catalogue.films (at_one found.0.film catalogue.films)))
-
-terms_values : (b : ℕ) (its : List Terms) (rows : List (Row Terms)) → IsNumber b → length (of b rows) + length its ≤ 1_001_000 → AllByRecursion IsTerms its
-    → AllByRecursion (IsRow IsTerms) rows → AllByRecursion (IsRow IsTerms) (put_all b (map (λ it _. it) its) rows)
-terms_values b [] rows branch few such all = all
-terms_values b (it ∷ its) rows branch few such all =
-    let own : length (of b (put b (λ _. it) rows)) ≡ length (of b rows) + 1 = ap length (put_own b (λ _. it) rows) ∙ length-append (of b rows) (it ∷ []) in
-    terms_values b its (put b (λ _. it) rows) branch (omega arith) such.1 (put_values IsTerms b (λ _. it) rows branch (omega arith) such.0 all)
 
 -- so are the terms that the books get where they become those of version 2
 row_values : (b n : ℕ) (its : List Terms) → IsNumber b → IsNumber n → AllByRecursion IsTerms its → AllByRecursion (IsRow IsTerms) (map (λ (it : Terms). record { branch = b; number = n; it = it }) its)
@@ -256,116 +240,105 @@ acts_fit rules files act = tt
 
 -- ---- a step
 
+-- what the program can hold, by table
+abbrev IsRowOf : (t : Table) → RowOf t → Type 0
+IsRowOf Customers it = IsCustomer it
+IsRowOf CopyRows it = IsCopy it
+IsRowOf Rentals it = IsRental it
+IsRowOf TermRows it = IsTerms it
+IsRowOf Payments it = IsPayment it
+
+abbrev AreRowsOf : (t : Table) → List (Row (RowOf t)) → Type 0
+AreRowsOf t its = AllByRecursion (IsRow (IsRowOf t)) its
+
+tables_values : (books : Books) → AreValues books → (t : Table) → AreRowsOf t (rows_of t books)
+tables_values books v Customers = v.customers
+tables_values books v CopyRows = v.copies
+tables_values books v Rentals = v.rentals
+tables_values books v TermRows = v.terms
+tables_values books v Payments = v.payments
+
+with_values : (t : Table) (new : List (Row (RowOf t))) (books : Books) → AreRowsOf t new → AreValues books → AreValues (with_rows t new books)
+with_values t new books is v =
+    let all = by_table AreRowsOf t new books is (tables_values books v) in
+    record { catalogue = v.catalogue; customers = all Customers; copies = all CopyRows; rentals = all Rentals; terms = all TermRows; payments = all Payments; lots = v.lots; consignments = v.consignments; kept = v.kept; lasts = v.lasts }
+
+with_others : (lots : List (Owned Text)) (cs : List Consignment) (books : Books) → AllByRecursion IsLot lots → AllByRecursion IsConsignment cs → AreValues books → AreValues (record books { lots = lots; consignments = cs })
+with_others lots cs books lots_are cs_are v =
+    record { catalogue = v.catalogue; customers = v.customers; copies = v.copies; rentals = v.rentals; terms = v.terms; payments = v.payments; lots = lots_are; consignments = cs_are; kept = v.kept; lasts = v.lasts }
+
+-- what new rows are asked, whatever their numbers
+abbrev AreNew : (t : Table) → List (ℕ → RowOf t) → Type 0
+AreNew t makes = AllByRecursion (λ (make : ℕ → RowOf t). (n : ℕ) → IsNumber n → IsRowOf t (make n)) makes
+
+puts_values : (t : Table) (b : ℕ) (makes : List (ℕ → RowOf t)) (its : List (Row (RowOf t))) → IsNumber b → length (of b its) + length makes ≤ 1_001_000 → AreNew t makes → AreRowsOf t its → AreRowsOf t (put_all b makes its)
+puts_values t b [] its branch few new all = all
+puts_values t b (make ∷ makes) its branch few new all =
+    let own : length (of b (put b make its)) ≡ length (of b its) + 1 = ap length (put_own b make its) ∙ length-append (of b its) (make (next b its) ∷ []) in
+    puts_values t b makes (put b make its) branch (omega arith) new.1 (put_values (IsRowOf t) b make its branch (omega arith) (new.0 (next b its) (next_fits b its (omega arith))) all)
+
+sets_values : (t : Table) (b : ℕ) (ns : List ℕ) (f : RowOf t → RowOf t) (its : List (Row (RowOf t))) → ((it : RowOf t) → IsRowOf t it → IsRowOf t (f it)) → AreRowsOf t its → AreRowsOf t (set_rows b ns f its)
+sets_values t b [] f its stays all = all
+sets_values t b (n ∷ ns) f its stays all = sets_values t b ns f (set_row b n f its) stays (set_values (IsRowOf t) b n f its stays all)
+
+-- what an edit is asked
+abbrev IsEditOfValues : ℕ → Books → Edit → Type 0
+IsEditOfValues b books (Put t makes) = (length (of b (rows_of t books)) + length makes ≤ 1_001_000) × AreNew t makes
+IsEditOfValues b books (Set t ns f) = (it : RowOf t) → IsRowOf t it → IsRowOf t (f it)
+IsEditOfValues b books (PutLot lot) = IsKey lot
+IsEditOfValues b books (Append it) = IsConsignment it
+IsEditOfValues b books (Update test f) = AllByRecursion IsConsignment (update_where test f books.consignments)
+
+values_edited : (b : ℕ) → IsNumber b → (books : Books) (edit : Edit) → IsEditOfValues b books edit → AreValues books → AreValues (edited b edit books)
+values_edited b branch books (Put t makes) asked v = with_values t _ books (puts_values t b makes (rows_of t books) branch asked.0 asked.1 (tables_values books v t)) v
+values_edited b branch books (Set t ns f) asked v = with_values t _ books (sets_values t b ns f (rows_of t books) asked (tables_values books v t)) v
+values_edited b branch books (PutLot lot) asked v = with_others _ books.consignments books (All-push IsLot books.lots (record { owner = b; it = lot }) v.lots (branch, asked)) v.consignments v
+values_edited b branch books (Append it) asked v = with_others books.lots _ books v.lots (All-push IsConsignment books.consignments it v.consignments asked) v
+values_edited b branch books (Update test f) asked v = with_others books.lots _ books v.lots asked v
+
+all_values : (b : ℕ) (edits : List Edit) (books : Books) → IsNumber b → AskedOfEach b (IsEditOfValues b) edits books → AreValues books → AreValues (all_edited b edits books)
+all_values b edits books branch asked v = each_keeps AreValues (IsEditOfValues b) b (values_edited b branch) edits books asked v
+
+new_copies_values : (b : ℕ) → IsNumber b → (films : List ℕ) → AllByRecursion IsNumber films → AreNew CopyRows (map (imported b) films)
+new_copies_values b branch [] all = tt
+new_copies_values b branch (film ∷ films) all = (λ n number. (all.0, (branch, number)), new_copies_values b branch films all.1)
+
+new_terms_values : (its : List Terms) → AllByRecursion IsTerms its → AreNew TermRows (map (λ it _. it) its)
+new_terms_values [] all = tt
+new_terms_values (it ∷ its) all = (λ n number. all.0, new_terms_values its all.1)
+
 acted_values : (rules : Rules) (b : ℕ) (command : Command) (act : Act) (books : Books) → IsNumber b → IsNumber command.staff → IsMoment command.moment → IsAct act → IsHeld books → FitsTables rules act
     → IfConsigns act (AreValues (book_acted rules b command act books))
     → AreValues (book_acted rules b command act books)
-acted_values rules b command (model.AddCustomer person) books branch staff moment is held fits consigned =
-    let v = held.values in
-    let few = held.most_customers b in
-    record {
-      catalogue = v.catalogue;
-      customers = put_values IsCustomer b (λ _. record { person = person; active = true; created = command.moment }) books.customers branch (omega arith) (is, moment) v.customers;
-      copies = v.copies;
-      rentals = v.rentals;
-      terms = v.terms;
-      payments = v.payments;
-      lots = v.lots;
-      consignments = v.consignments;
-      kept = v.kept;
-      lasts = v.lasts;
-    }
-acted_values rules b command (model.Import lot file) books branch staff moment is held fits consigned =
-    let v = held.values in
-    let few : length (of b books.copies) ≤ 1_000_000 = subst (λ n. n ≤ 1_000_000) (length_map unmarked (of b books.copies)) (held.most_copies b) in
-    record {
-      catalogue = v.catalogue;
-      customers = v.customers;
-      copies = import_values b (films_in (rules.stock_of file)) books.copies branch fits.0 (omega (arith, fits.1)) v.copies;
-      rentals = v.rentals;
-      terms = v.terms;
-      payments = v.payments;
-      lots = All-push IsLot books.lots (record { owner = b; it = lot }) v.lots (branch, is.0);
-      consignments = v.consignments;
-      kept = v.kept;
-      lasts = v.lasts;
-    }
-acted_values rules b command (model.SetActive c active) books branch staff moment is held fits consigned =
-    let v = held.values in
-    record {
-      catalogue = v.catalogue;
-      customers = set_values IsCustomer b c (λ (it : Customer). record it { active = active }) books.customers (λ it such. such) v.customers;
-      copies = v.copies;
-      rentals = v.rentals;
-      terms = v.terms;
-      payments = v.payments;
-      lots = v.lots;
-      consignments = v.consignments;
-      kept = v.kept;
-      lasts = v.lasts;
-    }
-acted_values rules b command (model.Rent c x) books branch staff moment is held fits consigned =
-    let v = held.values in
-    let few = held.most_rentals b in
-    record {
-      catalogue = v.catalogue;
-      customers = v.customers;
-      copies = v.copies;
-      rentals = put_values IsRental b (λ _. record { rented = command.moment; copy = x; customer = c; returned = None; staff = command.staff }) books.rentals branch (omega arith)
-          (record { rented = moment; copy = is.1; customer = is.0; returned = tt; staff = staff }) v.rentals;
-      terms = terms_values b (terms_now books.catalogue (shop_of b books) x) books.terms branch (omega (arith, few, held.termed b, few_terms books.catalogue (shop_of b books) x))
-          (film_terms_values (flat_map (λ (copy : Copy). at copy.film books.catalogue.films) (at x (shop_of b books).copies)) (all_found books.catalogue.films v.catalogue.films.1 (at x (shop_of b books).copies))) v.terms;
-      payments = v.payments;
-      lots = v.lots;
-      consignments = v.consignments;
-      kept = v.kept;
-      lasts = v.lasts;
-    }
-acted_values rules b command (model.TakeBack r) books branch staff moment is held fits consigned =
-    let v = held.values in
-    record {
-      catalogue = v.catalogue;
-      customers = v.customers;
-      copies = v.copies;
-      rentals = set_values IsRental b r (λ (it : Rental). record it { returned = Some command.moment }) books.rentals (λ it such. record { rented = such.rented; copy = such.copy; customer = such.customer; returned = moment; staff = such.staff }) v.rentals;
-      terms = v.terms;
-      payments = v.payments;
-      lots = v.lots;
-      consignments = v.consignments;
-      kept = v.kept;
-      lasts = v.lasts;
-    }
-acted_values rules b command (model.Pay c rental amount) books branch staff moment is held fits consigned =
-    let v = held.values in
-    let few = held.most_payments b in
-    record {
-      catalogue = v.catalogue;
-      customers = v.customers;
-      copies = v.copies;
-      rentals = v.rentals;
-      terms = v.terms;
-      payments = put_values IsPayment b (λ _. record { customer = c; staff = command.staff; rental = rental; amount = amount; paid = command.moment }) books.payments branch (omega arith)
-          (record { customer = is.0; staff = staff; rental = is.1; amount = is.2; paid = moment }) v.payments;
-      lots = v.lots;
-      consignments = v.consignments;
-      kept = v.kept;
-      lasts = v.lasts;
-    }
 acted_values rules b command (model.Dispatch to xs) books branch staff moment is held fits consigned = consigned
 acted_values rules b command (model.Receive source number missing) books branch staff moment is held fits consigned = consigned
-acted_values rules b command (model.Scrap x) books branch staff moment is held fits consigned =
-    let v = held.values in
-    record {
-      catalogue = v.catalogue;
-      customers = v.customers;
-      copies = set_values IsCopy b x (put_state Scrapped) books.copies (λ it such. such) v.copies;
-      rentals = v.rentals;
-      terms = v.terms;
-      payments = v.payments;
-      lots = v.lots;
-      consignments = v.consignments;
-      kept = v.kept;
-      lasts = v.lasts;
-    }
+acted_values rules b command (model.AddCustomer person) books branch staff moment is held fits consigned =
+    let few = held.most_customers b in
+    all_values b (edits_of rules b command (model.AddCustomer person) books) books branch ((omega arith, (λ n number. (is, moment), tt)), tt) held.values
+acted_values rules b command (model.Import lot file) books branch staff moment is held fits consigned =
+    let few : length (of b books.copies) ≤ 1_000_000 = subst (λ n. n ≤ 1_000_000) (length_map unmarked (of b books.copies)) (held.most_copies b) in
+    let many = length_map (imported b) (films_in (rules.stock_of file)) in
+    all_values b (edits_of rules b command (model.Import lot file) books) books branch ((omega (arith, fits.1, many), new_copies_values b branch (films_in (rules.stock_of file)) fits.0), (is.0, tt)) held.values
+acted_values rules b command (model.Rent c x) books branch staff moment is held fits consigned =
+    let few = held.most_rentals b in
+    let now = terms_now books.catalogue (shop_of b books) x in
+    let many = length_map {B = ℕ → Terms} (λ it _. it) now in
+    all_values b (edits_of rules b command (model.Rent c x) books) books branch (
+      (omega arith, (λ n number. record { rented = moment; copy = is.1; customer = is.0; returned = tt; staff = staff }, tt)),
+      (
+        (
+          omega (arith, few, many, held.termed b, few_terms books.catalogue (shop_of b books) x),
+          new_terms_values now (film_terms_values (flat_map (λ (copy : Copy). at copy.film books.catalogue.films) (at x (shop_of b books).copies)) (all_found books.catalogue.films held.values.catalogue.films.1 (at x (shop_of b books).copies))),
+        ),
+        tt,
+      ),
+    ) held.values
+acted_values rules b command (model.TakeBack r) books branch staff moment is held fits consigned =
+    all_values b (edits_of rules b command (model.TakeBack r) books) books branch (λ it such. record { rented = such.rented; copy = such.copy; customer = such.customer; returned = moment; staff = such.staff }, tt) held.values
+acted_values rules b command (model.Pay c rental amount) books branch staff moment is held fits consigned =
+    let few = held.most_payments b in
+    all_values b (edits_of rules b command (model.Pay c rental amount) books) books branch ((omega arith, (λ n number. record { customer = is.0; staff = staff; rental = is.1; amount = is.2; paid = moment }, tt)), tt) held.values
+acted_values rules b command act books branch staff moment is held fits consigned = all_values b (edits_of rules b command act books) books branch (λ it such. such, tt) held.values
 
 -- what an accepted command makes of books that are held
 pub values_done : (rules : Rules) (b : ℕ) (command : Command) (books : Books) → IsNumber b → IsCommand command → IsHeld books → FitsTables rules command.act
