@@ -32,7 +32,7 @@ copy_found b r found books held is =
     ∙ ap (λ (m : ℕ). m ∷ []) copy
 
 -- what an act does leaves the kept commands and the last moments
-acted_kept : (rules : Rules) (b : ℕ) (command : Command) (act : Act) (books : Books) → ((book_acted rules b command act books).kept ≡ books.kept) × ((book_acted rules b command act books).lasts ≡ books.lasts)
+pub acted_kept : (rules : Rules) (b : ℕ) (command : Command) (act : Act) (books : Books) → ((book_acted rules b command act books).kept ≡ books.kept) × ((book_acted rules b command act books).lasts ≡ books.lasts)
 acted_kept rules b command (model.AddCustomer person) books = (refl, refl)
 acted_kept rules b command act books = (refl, refl)
 

@@ -1,32 +1,36 @@
 -- With the counts of its new rows, the tables stand for the books that have the rows.
 use Rattle.std.proofs.Common.{◌≡◌, ◌∙◌, refl, sym, ap, subst, ℕ, ◌≤◌, ◌<◌, ◌^◌, true, List, [], ◌∷◌, ◌++◌, length, map, Some, None, arith}
-use Rattle.std.specs.List.{AllByRecursion}
 use Rattle.sqlite.specs.State.{State}
-use Rattle.sql_rows.specs.Rows.{PicksOne}
 use Rattle.shop_values.specs.LimitValues.{Limits}
-use Rattle.shop_model.specs.Rows.{Row, next, put, put_all, set_row}
+use Rattle.shop_model.specs.Rows.{Row, Owned, of, owned_by, next, put, put_all}
 use Rattle.shop_model.specs.Values as model
-use Rattle.shop_model.specs.Values.{Command, Text, Customer, Rental, Terms, Payment, Scrapped, Sent}
+use Rattle.shop_model.specs.Values.{Command, Text, Customer, Rental, Terms, Payment, Rules}
+use Rattle.shop_model.specs.Shop.{Kept, Catalogue}
 use Rattle.shop_model.specs.Machine.{films_in}
-use Rattle.shop_model.specs.Books.{Books, BookCopy, book_acted, come, imported, is_consignment, put_state, unpacked}
+use Rattle.shop_model.specs.Books.{Books, BookCopy, Customers, CopyRows, Rentals, Payments, edits_of, book_acted, imported, unmarked}
+use Rattle.shop_model.proofs.RowLemmas.{length_map}
+use Rattle.shop_model.proofs.EditLemmas.{grown, rows_edited}
+use Rattle.shop_model.proofs.GoodShops.{edits_small}
+use Rattle.shop_model.proofs.Isolation.{catalogue_stays}
 use Rattle.shop_types.specs.declared.command.Act.{Act}
 use Rattle.shop_types.specs.declared.command.Act.TheVariants as act
 use Rattle.shop_types.specs.Seen.{seen_act, seen_person}
 use Rattle.stock_csv.specs.Stock.{stock_of}
 use Rattle.stock_csv.proofs.ReadingLemmas.{stock_fits}
 use Rattle.shop_schema.specs.Held.{IsHeld}
-use Rattle.shop_schema.specs.Counts.{Count, Counts, counts_of, count_in, is_count, raise, put_out}
+use Rattle.shop_schema.specs.Counts.{Counts, counts_of, count_in, raise, put_out}
 use Rattle.shop_schema.specs.Shop.{AreTermed, Holds, HoldsWith}
 use Rattle.shop_ledger.specs.declared.counts.CountKind.{CountKind}
 use Rattle.shop_ledger.specs.declared.counts.CountKind.TheVariants as kind
 use Rattle.shop_ledger.specs.Counted.{kind_number, CountsOnce}
-use Rattle.shop_ledger.proofs.CountsOf.{agreed, held_once, held_million}
-use Rattle.shop_ledger.proofs.Agreeing.{kept_counted, customer_row_counted, payment_row_counted, rental_row_counted, copies_counted, active_counted, state_counted, set_keeps, counters_still, raised_as_many, raised_small}
+use Rattle.shop_ledger.proofs.CountsOf.{agreed, small_once}
+use Rattle.shop_ledger.proofs.Agreeing.{kept_counted, customer_row_counted, payment_row_counted, rental_row_counted, copies_counted}
 use Rattle.branch_work.specs.Rules.{rules_of}
 use Rattle.branch_core.specs.declared.found.RowsFound.{RowsFound}
 use Rattle.branch_core.specs.Marked.{AreMarked}
 use Rattle.branch_work.specs.Added.{with_kept, copies_from, HasFewLines}
-use Rattle.branch_work.proofs.ConsignLemmas.{sets_counted, few_come, receiving_counted}
+use Rattle.branch_work.proofs.ConsignLemmas.{few_come}
+use Rattle.branch_work.proofs.Acted.{acted_kept}
 use Rattle.branch_work.proofs.CopyLemmas.{copies_own, copies_put, length_copies}
 use Rattle.branch_work.proofs.TermLemmas.{more_termed}
 
@@ -104,53 +108,48 @@ kept_added s b command reply books low termed holds = agreed s (with_kept b comm
 
 -- ---- books in which an act was carried out have counts of which one more may be taken
 
--- a rental that is set leaves the counters
-rentals_still : (b n : ℕ) (f : Rental → Rental) (books : Books) → (counts_of (record books { rentals = set_row b n f books.rentals })).counters ≡ (counts_of books).counters
-rentals_still b n f books = counters_still books (record books { rentals = set_row b n f books.rentals }) refl refl same
-  where
-    same : (a : ℕ) (kind : CountKind) → count_in (kind_number kind) a (record books { rentals = set_row b n f books.rentals }) ≡ count_in (kind_number kind) a books
-    same a kind.Customers = refl
-    same a kind.Copies = refl
-    same a kind.Rentals = set_keeps b n f books.rentals a
-    same a kind.Payments = refl
-    same a kind.Kept = refl
+-- how many copies it makes
+few_copies : (limits : Limits) (b : ℕ) (command : Command) (act : Act) (rows : RowsFound) (books : Books) → AreMarked b (seen_act act) rows books → HasFewLines (seen_act act) rows
+    → grown CopyRows (edits_of (rules_of limits) b command (seen_act act) books) ≤ 1_000_000
+few_copies limits b command (act.Import lot file) rows books marked few_lines =
+    let films = films_in (stock_of file) in
+    let few : length films ≤ 1000 = (stock_fits file).1 in
+    let many = length_map (imported b) films in
+    omega (arith, few, many)
+few_copies limits b command (act.Receive from number missing) rows books marked few_lines = let few = few_come b from number missing rows.arrival books marked few_lines in omega (arith, few)
+few_copies limits b command act rows books marked few_lines = omega arith
 
-raised_once : (b k m : ℕ) (books : Books) → 1 ≤ b → IsHeld books → m ≤ 1_000_000 → CountsOnce b kind.Kept (raise b k m (counts_of books))
-raised_once b k m books low held few = record {
-  once = subst (λ (n : ℕ). n ≤ 1) (sym (raised_as_many b k m b 4 (counts_of books).counters)) (held_once books held kind.Kept b low).once;
-  small = raised_small b k m few (counts_of books).counters (held_million books held);
-}
-
-still_once : (b : ℕ) (old new : Books) → (counts_of new).counters ≡ (counts_of old).counters → 1 ≤ b → IsHeld old → CountsOnce b kind.Kept (counts_of new)
-still_once b old new same low held =
-    let own = held_once old held kind.Kept b low in
-    record { once = subst (λ cs. PicksOne (is_count b 4) cs) (sym same) own.once; small = subst (λ cs. AllByRecursion (λ (it : Count). it.last < 2 ^ 32) cs) (sym same) own.small }
+-- no branch has more rows of a kind than there were and those that are put
+counts_small : (rules : Rules) (b : ℕ) (command : Command) (act : model.Act) (books : Books) → IsHeld books → grown CopyRows (edits_of rules b command act books) ≤ 1_000_000
+    → (kind : CountKind) (a : ℕ) → count_in (kind_number kind) a (book_acted rules b command act books) < 2 ^ 32
+counts_small rules b command act books held copies kind.Customers a =
+    let few = held.most_customers a in
+    let more = rows_edited a b (edits_of rules b command act books) books Customers in
+    let one = (edits_small rules b command act books).customers in
+    omega (arith, few, more, one)
+counts_small rules b command act books held copies kind.Copies a =
+    let few = held.most_copies a in
+    let many = length_map unmarked (of a books.copies) in
+    let more = rows_edited a b (edits_of rules b command act books) books CopyRows in
+    omega (arith, few, many, more, copies)
+counts_small rules b command act books held copies kind.Rentals a =
+    let few = held.most_rentals a in
+    let more = rows_edited a b (edits_of rules b command act books) books Rentals in
+    let one = (edits_small rules b command act books).rentals in
+    omega (arith, few, more, one)
+counts_small rules b command act books held copies kind.Payments a =
+    let few = held.most_payments a in
+    let more = rows_edited a b (edits_of rules b command act books) books Payments in
+    let one = (edits_small rules b command act books).payments in
+    omega (arith, few, more, one)
+counts_small rules b command act books held copies kind.Kept a =
+    let few = held.most_kept a in
+    subst (λ (rows : List (Owned Kept)). length (owned_by a rows) < 2 ^ 32) (sym (acted_kept rules b command act books).0) (omega (arith, few))
 
 pub acted_once : (limits : Limits) (b : ℕ) (command : Command) (act : Act) (rows : RowsFound) (books : Books) → 1 ≤ b → IsHeld books → AreMarked b (seen_act act) rows books → HasFewLines (seen_act act) rows → CountsOnce b kind.Kept (counts_of (book_acted (rules_of limits) b command (seen_act act) books))
-acted_once limits b command (act.Customer person) rows books low held marked few_lines =
-    let it : Customer = record { person = seen_person person; active = true; created = command.moment } in
-    subst (CountsOnce b kind.Kept) (sym (customer_row_counted b (record { branch = b; number = next b books.customers; it = it }) books low refl)) (raised_once b 0 1 books low held (omega arith))
-acted_once limits b command (act.Active customer active) rows books low held marked few_lines =
-    subst (CountsOnce b kind.Kept) (sym (active_counted b customer (λ it. record it { active = active }) books)) (held_once books held kind.Kept b low)
-acted_once limits b command (act.Rent customer copy) rows books low held marked few_lines =
-    let it : Rental = record { rented = command.moment; copy = copy; customer = customer; returned = None; staff = command.staff } in
-    let raised = raised_once b 2 1 books low held (omega arith) in
-    let grown = (book_acted (rules_of limits) b command (model.Rent customer copy) books).terms in
-    subst (CountsOnce b kind.Kept) (sym (rental_row_counted b (record { branch = b; number = next b books.rentals; it = it }) (record books { terms = grown }) low refl refl)) (record { once = raised.once; small = raised.small })
-acted_once limits b command (act.TakeBack rental) rows books low held marked few_lines =
-    still_once b books (book_acted (rules_of limits) b command (model.TakeBack rental) books) (rentals_still b rental (λ it. record it { returned = Some command.moment }) books) low held
-acted_once limits b command (act.Pay customer rental amount) rows books low held marked few_lines =
-    let it : Payment = record { customer = customer; staff = command.staff; rental = rental; amount = amount; paid = command.moment } in
-    subst (CountsOnce b kind.Kept) (sym (payment_row_counted b (record { branch = b; number = next b books.payments; it = it }) books low refl)) (raised_once b 3 1 books low held (omega arith))
-acted_once limits b command (act.Import lot file) rows books low held marked few_lines =
-    let films = films_in (stock_of file) in
-    let few : length films ≤ 1_000_000 = let many : length films ≤ 1000 = (stock_fits file).1 in omega (arith, many) in
-    subst (CountsOnce b kind.Kept) (sym (import_counted b books low films lot)) (raised_once b 1 (length films) books low held few)
-acted_once limits b command (act.Dispatch to copies) rows books low held marked few_lines =
-    still_once b books (book_acted (rules_of limits) b command (model.Dispatch to copies) books) (ap (λ (counts : Counts). counts.counters) (sets_counted b copies (put_state Sent) books)) low held
-acted_once limits b command (act.Receive from number missing) rows books low held marked few_lines =
-    let makes = map unpacked (come from b number missing books.consignments) in
-    let few : length makes ≤ 1_000_000 = let many : length makes ≤ 100 = few_come b from number missing rows.arrival books marked few_lines in omega (arith, many) in
-    subst (CountsOnce b kind.Kept) (sym (receiving_counted b books low makes (is_consignment from b number) missing)) (raised_once b 1 (length makes) books low held few)
-acted_once limits b command (act.Scrap copy) rows books low held marked few_lines =
-    subst (CountsOnce b kind.Kept) (sym (state_counted b copy (put_state Scrapped) books)) (held_once books held kind.Kept b low)
+acted_once limits b command act rows books low held marked few_lines =
+    let rules = rules_of limits in
+    let few = held.most_office_kept in
+    let office = subst (λ (it : Catalogue). length it.kept < 2 ^ 32) (sym (catalogue_stays rules b command (seen_act act) books)) (omega (arith, few)) in
+    small_once kind.Kept b (book_acted rules b command (seen_act act) books) low office
+    (counts_small rules b command (seen_act act) books held (few_copies limits b command act rows books marked few_lines))

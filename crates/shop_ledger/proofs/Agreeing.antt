@@ -291,35 +291,3 @@ out_once b n x books is =
     let few = fewer b n x books.rentals all in
     let one : length (filter (is_row b n) books.rentals) ≡ 1 = sym (length_map (λ (row : Row Rental). row.it.copy) (filter (is_row b n) books.rentals)) ∙ ap length is in
     omega (arith, few, one)
-
--- ---- counts of which one more kind is raised
-
-raised_test : (b k m : ℕ) (a j : ℕ) (c : Count) → is_count a j (cond (is_count b k c) (raised m c) c) ≡ is_count a j c
-raised_test b k m a j c = go (is_count b k c)
-  where
-    go : (t : Bool) → is_count a j (cond t (raised m c) c) ≡ is_count a j c
-    go true = refl
-    go false = refl
-
-pub raised_as_many : (b k m a j : ℕ) (cs : List Count) → length (filter (is_count a j) (map (λ c. cond (is_count b k c) (raised m c) c) cs)) ≡ length (filter (is_count a j) cs)
-raised_as_many b k m a j [] = refl
-raised_as_many b k m a j (c ∷ cs) = go (is_count a j (cond (is_count b k c) (raised m c) c)) (is_count a j c) (raised_test b k m a j c) (raised_as_many b k m a j cs)
-  where
-    go : (s t : Bool) → s ≡ t → length (filter (is_count a j) (map (λ c. cond (is_count b k c) (raised m c) c) cs)) ≡ length (filter (is_count a j) cs)
-        → length (cond s (cond (is_count b k c) (raised m c) c ∷ filter (is_count a j) (map (λ c. cond (is_count b k c) (raised m c) c) cs)) (filter (is_count a j) (map (λ c. cond (is_count b k c) (raised m c) c) cs)))
-        ≡ length (cond t (c ∷ filter (is_count a j) cs) (filter (is_count a j) cs))
-    go true true e more = ap suc more
-    go true false e more = cc
-    go false true e more = cc
-    go false false e more = more
-
-pub raised_small : (b k m : ℕ) → m ≤ 1_000_000 → (cs : List Count) → AllByRecursion (λ (c : Count). c.last ≤ 1_000_000) cs → AllByRecursion (λ (c : Count). c.last < 2 ^ 32) (map (λ c. cond (is_count b k c) (raised m c) c) cs)
-raised_small b k m low [] all = tt
-raised_small b k m low (c ∷ cs) all = (go (is_count b k c), raised_small b k m low cs all.1)
-  where
-    few : c.last ≤ 1_000_000
-    few = all.0
-
-    go : (t : Bool) → (cond t (raised m c) c).last < 2 ^ 32
-    go true = omega (arith, few, low)
-    go false = omega (arith, few)

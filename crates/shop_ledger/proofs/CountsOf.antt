@@ -128,34 +128,25 @@ once_counted kind b books low =
 
 -- ---- and none is great
 
-module _ (books : Books) (held : IsHeld books) where
-  copies_small : (b : ℕ) → length (of b books.copies) ≤ 1_000_000
-  copies_small b = subst (λ n. n ≤ 1_000_000) (length_map unmarked (of b books.copies)) (held.most_copies b)
+-- where no branch has too many rows of a kind, one more may be taken of each count
+pub small_once : (kind : CountKind) (b : ℕ) (books : Books) → 1 ≤ b → length books.catalogue.kept < 2 ^ 32 → ((kind : CountKind) (a : ℕ) → count_in (kind_number kind) a books < 2 ^ 32)
+    → CountsOnce b kind (counts_of books)
+small_once this b books low office small = record { once = once_counted this b books low; small = (office, branches_small (numbered books.catalogue.branches)) }
+  where
+    branches_small : (its : List (ℕ × Branch)) → AllByRecursion (λ (c : Count). c.last < 2 ^ 32) (flat_map (branch_counts books) its)
+    branches_small [] = tt
+    branches_small (it ∷ its) = (small kind.Customers it.0, (small kind.Copies it.0, (small kind.Rentals it.0, (small kind.Payments it.0, (small kind.Kept it.0, branches_small its)))))
 
-  small : (n : ℕ) → n ≤ 1_000_000 → n < 2 ^ 32
-  small n h = omega (arith, h)
+held_small : (books : Books) → IsHeld books → (kind : CountKind) (a : ℕ) → count_in (kind_number kind) a books < 2 ^ 32
+held_small books held kind.Customers a = let few = held.most_customers a in omega (arith, few)
+held_small books held kind.Copies a = let few = held.most_copies a in let many = length_map unmarked (of a books.copies) in omega (arith, few, many)
+held_small books held kind.Rentals a = let few = held.most_rentals a in omega (arith, few)
+held_small books held kind.Payments a = let few = held.most_payments a in omega (arith, few)
+held_small books held kind.Kept a = let few = held.most_kept a in omega (arith, few)
 
-  branches_small : (its : List (ℕ × Branch)) → AllByRecursion (λ (c : Count). c.last < 2 ^ 32) (flat_map (branch_counts books) its)
-  branches_small [] = tt
-  branches_small (it ∷ its) = (
-    small _ (held.most_customers it.0),
-    (small _ (copies_small it.0), (small _ (held.most_rentals it.0), (small _ (held.most_payments it.0), (small _ (held.most_kept it.0), branches_small its)))),
-  )
-
-  -- the books' own counts are such as one more is taken of
-  pub held_once : (kind : CountKind) (b : ℕ) → 1 ≤ b → CountsOnce b kind (counts_of books)
-  held_once kind b low = record { once = once_counted kind b books low; small = (small _ held.most_office_kept, branches_small (numbered books.catalogue.branches)) }
-
-  all_million : (its : List (ℕ × Branch)) → AllByRecursion (λ (c : Count). c.last ≤ 1_000_000) (flat_map (branch_counts books) its)
-  all_million [] = tt
-  all_million (it ∷ its) = (
-    held.most_customers it.0,
-    (copies_small it.0, (held.most_rentals it.0, (held.most_payments it.0, (held.most_kept it.0, all_million its)))),
-  )
-
-  -- none is above a million
-  pub held_million : AllByRecursion (λ (c : Count). c.last ≤ 1_000_000) (counts_of books).counters
-  held_million = (held.most_office_kept, all_million (numbered books.catalogue.branches))
+-- so it is of the books' own counts
+pub held_once : (books : Books) → IsHeld books → (kind : CountKind) (b : ℕ) → 1 ≤ b → CountsOnce b kind (counts_of books)
+held_once books held kind b low = small_once kind b books low (let few = held.most_office_kept in omega (arith, few)) (held_small books held)
 
 -- ---- between two commands the counts are the books' own
 
