@@ -3,30 +3,30 @@ use Rattle.std.proofs.Common.{◌≡◌, ◌∙◌, List, [], ◌∷◌, ◌++�
 use Rattle.std.specs.List.{AllByRecursion}
 use Rattle.sqlite_value.specs.Order as sql
 use Rattle.shop_schema.specs.RowValues.{IsNumber}
-use Rattle.book_rows.specs.Kinds.{HaveKinds}
-use Rattle.book_checks.specs.Lists.{Key, climbs}
-use Rattle.book_checks.specs.Joins.{placed_key, join}
-use Rattle.book_checks.specs.Ordered.{AreOrdered}
-use Rattle.book_checks.specs.Seen.{seen_header, seen_placed}
-use Rattle.book_checks.specs.declared.books.OrderedBooks.{OrderedBooks}
-use Rattle.book_checks.specs.declared.rows.CastRow.{CastRow}
-use Rattle.book_checks.specs.declared.rows.CustomerRow.{CustomerRow}
-use Rattle.book_checks.specs.declared.rows.CopyRow.{CopyRow}
-use Rattle.book_checks.specs.declared.rows.RentalRow.{RentalRow}
-use Rattle.book_checks.specs.declared.rows.TermsRow.{TermsRow}
-use Rattle.book_checks.specs.declared.rows.PaymentRow.{PaymentRow}
-use Rattle.book_checks.specs.declared.rows.LotRow.{LotRow}
-use Rattle.book_checks.specs.declared.rows.KeptRow.{KeptRow}
-use Rattle.book_checks.specs.declared.rows.HeaderRow.{HeaderRow}
-use Rattle.book_checks.specs.declared.rows.LineRow.{LineRow}
-use Rattle.book_checks.proofs.Maps.{map-twice}
-use Rattle.book_rows.specs.declared.shared.NamedRow.{NamedRow}
-use Rattle.book_rows.specs.declared.shared.NumberedCity.{NumberedCity}
-use Rattle.book_rows.specs.declared.shared.NumberedFilm.{NumberedFilm}
-use Rattle.book_rows.specs.declared.shared.NumberedBranch.{NumberedBranch}
-use Rattle.book_rows.specs.declared.shared.NumberedStaff.{NumberedStaff}
-use Rattle.book_rows.specs.Placed.{IsCopyRow, IsLineRow, IsOneLine}
-use Rattle.book_rows.specs.Rows.{chain_kinds, IsChainRow, named_kinds, IsNamedRow, city_kinds, IsCityRow, film_kinds, IsFilmRow, cast_kinds, IsCastRow, branch_kinds, IsBranchRow, staff_kinds, IsStaffRow, customer_kinds, IsCustomerRow, rental_kinds, IsRentalRow, terms_kinds, IsTermsRow, payment_kinds, IsPaymentRow, lot_kinds, IsLotRow, header_kinds, IsHeaderRow, IsOneKept, IsCallerRow}
+use Rattle.audit_tables.specs.Kinds.{HaveKinds}
+use Rattle.audit_rows.specs.Lists.{Key, climbs}
+use Rattle.audit_rows.specs.Joins.{placed_key, join}
+use Rattle.audit_rows.specs.Ordered.{AreOrdered}
+use Rattle.audit_rows.specs.Seen.{seen_header, seen_placed}
+use Rattle.audit_rows.specs.declared.books.OrderedBooks.{OrderedBooks}
+use Rattle.audit_rows.specs.declared.rows.CastRow.{CastRow}
+use Rattle.audit_rows.specs.declared.rows.CustomerRow.{CustomerRow}
+use Rattle.audit_rows.specs.declared.rows.CopyRow.{CopyRow}
+use Rattle.audit_rows.specs.declared.rows.RentalRow.{RentalRow}
+use Rattle.audit_rows.specs.declared.rows.TermsRow.{TermsRow}
+use Rattle.audit_rows.specs.declared.rows.PaymentRow.{PaymentRow}
+use Rattle.audit_rows.specs.declared.rows.LotRow.{LotRow}
+use Rattle.audit_rows.specs.declared.rows.KeptRow.{KeptRow}
+use Rattle.audit_rows.specs.declared.rows.HeaderRow.{HeaderRow}
+use Rattle.audit_rows.specs.declared.rows.LineRow.{LineRow}
+use Rattle.audit_rows.proofs.Maps.{map-twice}
+use Rattle.audit_tables.specs.declared.shared.NamedRow.{NamedRow}
+use Rattle.audit_tables.specs.declared.shared.NumberedCity.{NumberedCity}
+use Rattle.audit_tables.specs.declared.shared.NumberedFilm.{NumberedFilm}
+use Rattle.audit_tables.specs.declared.shared.NumberedBranch.{NumberedBranch}
+use Rattle.audit_tables.specs.declared.shared.NumberedStaff.{NumberedStaff}
+use Rattle.audit_tables.specs.Placed.{IsCopyRow, IsLineRow, IsOneLine}
+use Rattle.audit_tables.specs.Rows.{chain_kinds, IsChainRow, named_kinds, IsNamedRow, city_kinds, IsCityRow, film_kinds, IsFilmRow, cast_kinds, IsCastRow, branch_kinds, IsBranchRow, staff_kinds, IsStaffRow, customer_kinds, IsCustomerRow, rental_kinds, IsRentalRow, terms_kinds, IsTermsRow, payment_kinds, IsPaymentRow, lot_kinds, IsLotRow, header_kinds, IsHeaderRow, IsOneKept, IsCallerRow}
 use Rattle.books_audit.specs.Read.{SharedRead, RowsRead, AreRowsRead, office_caller, branch_caller}
 use Rattle.books_audit.specs.declared.tables.TableRows.{TableRows}
 use Rattle.books_audit.specs.Parts.{PartsAreRead, IsOf}

@@ -9,10 +9,10 @@ use Rattle.shop_model.specs.Shop.{Kept}
 use Rattle.shop_model.specs.Books.{Books, BookCopy}
 use Rattle.shop_schema.specs.Columns.{counter_columns, out_columns, pair_columns}
 use Rattle.shop_schema.specs.Counts.{Count, branch_counts, counts_of, is_open, out_of}
-use Rattle.book_checks.specs.Canons.{IsCanonOf, office_key, row_key}
-use Rattle.book_checks.specs.Ordered.{AreOrdered, HaveOrderedRows}
-use Rattle.book_checks.specs.declared.books.OrderedBooks.{OrderedBooks}
-use Rattle.book_checks.proofs.Maps.{length-map}
+use Rattle.audit_rows.specs.Canons.{IsCanonOf, office_key, row_key}
+use Rattle.audit_rows.specs.Ordered.{AreOrdered, HaveOrderedRows}
+use Rattle.audit_rows.specs.declared.books.OrderedBooks.{OrderedBooks}
+use Rattle.audit_rows.proofs.Maps.{length-map}
 use Rattle.books_audit.specs.Audits.{HaveCountsOf, StandsForBooks}
 use Rattle.books_audit.specs.Read.{HaveCounts, AreRowsRead, AreJoined}
 use Rattle.books_audit.specs.declared.tables.TableRows.{TableRows}

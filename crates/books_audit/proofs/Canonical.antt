@@ -12,12 +12,12 @@ use Rattle.shop_model.specs.Rows.{Row, numbered_from}
 use Rattle.shop_model.specs.Links.{are_different}
 use Rattle.shop_model.specs.Books.{Line, Consignment}
 use Rattle.shop_schema.specs.RowValues.{IsLine, IsConsignment}
-use Rattle.book_checks.specs.Lists.{Key, climbs, is_below}
-use Rattle.book_checks.specs.Joins.{Header, header, placed, put_line, header_key}
-use Rattle.book_checks.proofs.Keys.{below_apart, different_along}
-use Rattle.book_checks.proofs.Canon.{ascending_from_climbs}
-use Rattle.book_rows.specs.Placed.{IsPlaced}
-use Rattle.book_rows.proofs.KindLemmas.{in_range}
+use Rattle.audit_rows.specs.Lists.{Key, climbs, is_below}
+use Rattle.audit_rows.specs.Joins.{Header, header, placed, put_line, header_key}
+use Rattle.audit_rows.proofs.Keys.{below_apart, different_along}
+use Rattle.audit_rows.proofs.Canon.{ascending_from_climbs}
+use Rattle.audit_tables.specs.Placed.{IsPlaced}
+use Rattle.audit_tables.proofs.KindLemmas.{in_range}
 use Rattle.books_audit.specs.Audits.{same_row}
 use Rattle.books_audit.proofs.FullRows.{IsHeader}
 

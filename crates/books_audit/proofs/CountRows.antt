@@ -7,14 +7,14 @@ use Rattle.shop_model.specs.Values.{Customer, Branch}
 use Rattle.shop_model.specs.Shop.{Kept, OfficeKept}
 use Rattle.shop_model.specs.Books.{Books, Consignment}
 use Rattle.shop_schema.specs.Counts.{Pair, count_pair, pairs_of, branch_counts, counts_of, is_open, out_of}
-use Rattle.book_checks.specs.Ordered.{HaveOrderedRows, customer_row, kept_row, branch_row, without_last}
-use Rattle.book_checks.specs.Joins.{header}
-use Rattle.book_checks.specs.Seen.{seen_copy, seen_rental_row, seen_payment_row, seen_header, seen_placed}
-use Rattle.book_checks.specs.declared.books.OrderedBooks.{OrderedBooks}
-use Rattle.book_checks.specs.declared.rows.RentalRow.{RentalRow}
-use Rattle.book_checks.specs.declared.rows.HeaderRow.{HeaderRow}
-use Rattle.book_checks.proofs.JoinLemmas.{join_sound}
-use Rattle.book_checks.proofs.Maps.{filter-map, length-map}
+use Rattle.audit_rows.specs.Ordered.{HaveOrderedRows, customer_row, kept_row, branch_row, without_last}
+use Rattle.audit_rows.specs.Joins.{header}
+use Rattle.audit_rows.specs.Seen.{seen_copy, seen_rental_row, seen_payment_row, seen_header, seen_placed}
+use Rattle.audit_rows.specs.declared.books.OrderedBooks.{OrderedBooks}
+use Rattle.audit_rows.specs.declared.rows.RentalRow.{RentalRow}
+use Rattle.audit_rows.specs.declared.rows.HeaderRow.{HeaderRow}
+use Rattle.audit_rows.proofs.JoinLemmas.{join_sound}
+use Rattle.audit_rows.proofs.Maps.{filter-map, length-map}
 use Rattle.books_audit.specs.Read.{counters_in, outs_in, pairs_in, counts_of_branch}
 use Rattle.books_audit.proofs.PairLemmas.{pairs_along}
 use Rattle.std.specs.Prelude.{None}

@@ -4,12 +4,12 @@ use Rattle.std.proofs.lemmas.Bool.Decides.{nat_tests}
 use Rattle.sqlite_value.specs.Order as sql
 use Rattle.sqlite_keyed.proofs.ListLemmas.{along_permutation}
 use Rattle.shop_model.specs.Rows.{IsCounted}
-use Rattle.book_rows.specs.declared.kinds.Kind.{Kind}
-use Rattle.book_rows.specs.Kinds.{HaveKinds}
-use Rattle.book_checks.specs.Lists.{counts_from}
-use Rattle.book_checks.proofs.Keys.{both}
-use Rattle.book_checks.proofs.Maps.{length-map}
-use Rattle.book_rows.specs.Listed.{AreRows}
+use Rattle.audit_tables.specs.declared.kinds.Kind.{Kind}
+use Rattle.audit_tables.specs.Kinds.{HaveKinds}
+use Rattle.audit_rows.specs.Lists.{counts_from}
+use Rattle.audit_rows.proofs.Keys.{both}
+use Rattle.audit_rows.proofs.Maps.{length-map}
+use Rattle.audit_tables.specs.Listed.{AreRows}
 use Rattle.books_audit.specs.Read.{SharedRead}
 use Rattle.books_audit.specs.ReadLists.{PlacesRead}
 

@@ -12,24 +12,24 @@ use Rattle.shop_model.specs.Sound.{one, is_origin, copy_is, line_is}
 use Rattle.shop_schema.specs.Columns.{copy_columns, line_value}
 use Rattle.shop_schema.specs.RowValues.{IsRow, IsCopy}
 use Rattle.shop_schema.proofs.SameRows.{same_copy}
-use Rattle.book_checks.specs.Joins.{Placed}
-use Rattle.book_checks.specs.declared.rows.CopyRow.{CopyRow}
-use Rattle.book_checks.specs.declared.rows.CopyState.{CopyState}
-use Rattle.book_checks.specs.declared.rows.CopyState.TheVariants as state
-use Rattle.book_checks.specs.declared.rows.LineRow.{LineRow}
-use Rattle.book_checks.specs.declared.rows.LineState.TheVariants as line
-use Rattle.book_checks.specs.declared.rows.LineState as lines
-use Rattle.book_checks.specs.Seen.{seen_copy, seen_placed, seen_line, seen_state, seen_line_state}
-use Rattle.book_checks.proofs.JoinLemmas.{unmapped_bag}
-use Rattle.book_checks.proofs.Standing.{same_rows, all_moved}
-use Rattle.book_rows.specs.Listed.{AreRows}
-use Rattle.book_rows.proofs.RowLists.{all_are}
-use Rattle.book_rows.specs.Placed.{placed_columns, IsPlaced, IsCopyRow, IsLineRow}
-use Rattle.book_checks.specs.Marked.{AreInCustody, any_mark}
+use Rattle.audit_rows.specs.Joins.{Placed}
+use Rattle.audit_rows.specs.declared.rows.CopyRow.{CopyRow}
+use Rattle.audit_rows.specs.declared.rows.CopyState.{CopyState}
+use Rattle.audit_rows.specs.declared.rows.CopyState.TheVariants as state
+use Rattle.audit_rows.specs.declared.rows.LineRow.{LineRow}
+use Rattle.audit_rows.specs.declared.rows.LineState.TheVariants as line
+use Rattle.audit_rows.specs.declared.rows.LineState as lines
+use Rattle.audit_rows.specs.Seen.{seen_copy, seen_placed, seen_line, seen_state, seen_line_state}
+use Rattle.audit_rows.proofs.JoinLemmas.{unmapped_bag}
+use Rattle.audit_rows.proofs.Standing.{same_rows, all_moved}
+use Rattle.audit_tables.specs.Listed.{AreRows}
+use Rattle.audit_tables.proofs.RowLists.{all_are}
+use Rattle.audit_tables.specs.Placed.{placed_columns, IsPlaced, IsCopyRow, IsLineRow}
+use Rattle.audit_rows.specs.Marked.{AreInCustody, any_mark}
 use Rattle.shop_types.specs.declared.audit.Audit.{Audit}
 use Rattle.books_audit.specs.Audited.{StandFor, Stand, lines_of, CountsCustody, IsCustodyAudit, AuditsRows}
-use Rattle.book_checks.proofs.CustodyLemmas.{custody_moved}
-use Rattle.book_checks.proofs.Transfer.{total_along}
+use Rattle.audit_rows.proofs.CustodyLemmas.{custody_moved}
+use Rattle.audit_rows.proofs.Transfer.{total_along}
 
 -- ---- of any rows that are kept by their columns
 

@@ -11,24 +11,24 @@ use Rattle.shop_model.specs.Shop.{Kept, OfficeKept}
 use Rattle.shop_model.specs.Books.{Books, Consignment, head}
 use Rattle.shop_schema.specs.Columns.{chain_columns, named_columns, city_columns, actor_columns, film_columns, cast_columns, staff_columns, customer_columns, copy_columns, rental_columns, terms_columns, rule_columns, payment_columns, lot_columns, consignment_columns, line_rows}
 use Rattle.shop_schema.specs.RowValues.{IsName, IsToken, IsCity, IsActor, IsFilm, IsCast, IsStaff, IsRow, IsCustomer, IsCopy, IsRental, IsTerms, IsPayment, IsLot, IsConsignment, IsLast}
-use Rattle.book_rows.specs.Kinds.{HaveKinds}
-use Rattle.book_checks.specs.Lists.{climbs}
-use Rattle.book_checks.specs.Canons.{row_key, office_key}
-use Rattle.book_checks.specs.Joins.{header, placed, join}
-use Rattle.book_checks.specs.Seen.{seen_copy, seen_rental_row, seen_payment_row, seen_header, seen_placed}
-use Rattle.book_checks.specs.Ordered.{AreOrdered, HaveOrderedRows, HaveSharedRows, city_row, film_row, cast_row, branch_row, without_last, staff_row, customer_row, terms_row, lot_row, kept_row, lasts_from}
-use Rattle.book_checks.specs.declared.books.OrderedBooks.{OrderedBooks}
-use Rattle.book_checks.specs.declared.rows.BranchRow.{BranchRow}
-use Rattle.book_checks.specs.declared.rows.CastRow.{CastRow}
-use Rattle.book_checks.specs.declared.rows.LotRow.{LotRow}
-use Rattle.book_checks.specs.declared.rows.KeptRow.{KeptRow}
-use Rattle.book_checks.proofs.JoinLemmas.{join_sound}
-use Rattle.book_checks.proofs.Maps.{length-map}
-use Rattle.book_checks.proofs.Standing.{all_moved}
-use Rattle.book_rows.specs.Placed.{placed_columns, IsPlaced}
-use Rattle.book_rows.specs.Rows.{chain_kinds, IsChainRow, rule_kinds, IsRuleRow, named_kinds, IsNamedRow, city_kinds, IsCityRow, actor_kinds, IsActorRow, film_kinds, IsFilmRow, cast_kinds, IsCastRow, branch_kinds, IsBranchRow, staff_kinds, IsStaffRow, customer_kinds, IsCustomerRow, rental_kinds, IsRentalRow, terms_kinds, IsTermsRow, payment_kinds, IsPaymentRow, lot_kinds, IsLotRow, header_kinds, IsHeaderRow}
+use Rattle.audit_tables.specs.Kinds.{HaveKinds}
+use Rattle.audit_rows.specs.Lists.{climbs}
+use Rattle.audit_rows.specs.Canons.{row_key, office_key}
+use Rattle.audit_rows.specs.Joins.{header, placed, join}
+use Rattle.audit_rows.specs.Seen.{seen_copy, seen_rental_row, seen_payment_row, seen_header, seen_placed}
+use Rattle.audit_rows.specs.Ordered.{AreOrdered, HaveOrderedRows, HaveSharedRows, city_row, film_row, cast_row, branch_row, without_last, staff_row, customer_row, terms_row, lot_row, kept_row, lasts_from}
+use Rattle.audit_rows.specs.declared.books.OrderedBooks.{OrderedBooks}
+use Rattle.audit_rows.specs.declared.rows.BranchRow.{BranchRow}
+use Rattle.audit_rows.specs.declared.rows.CastRow.{CastRow}
+use Rattle.audit_rows.specs.declared.rows.LotRow.{LotRow}
+use Rattle.audit_rows.specs.declared.rows.KeptRow.{KeptRow}
+use Rattle.audit_rows.proofs.JoinLemmas.{join_sound}
+use Rattle.audit_rows.proofs.Maps.{length-map}
+use Rattle.audit_rows.proofs.Standing.{all_moved}
+use Rattle.audit_tables.specs.Placed.{placed_columns, IsPlaced}
+use Rattle.audit_tables.specs.Rows.{chain_kinds, IsChainRow, rule_kinds, IsRuleRow, named_kinds, IsNamedRow, city_kinds, IsCityRow, actor_kinds, IsActorRow, film_kinds, IsFilmRow, cast_kinds, IsCastRow, branch_kinds, IsBranchRow, staff_kinds, IsStaffRow, customer_kinds, IsCustomerRow, rental_kinds, IsRentalRow, terms_kinds, IsTermsRow, payment_kinds, IsPaymentRow, lot_kinds, IsLotRow, header_kinds, IsHeaderRow}
 use Rattle.books_audit.proofs.CustodyAudits.{columns_read, values_read}
-use Rattle.book_rows.specs.declared.shared.RuleRow.{RuleRow}
+use Rattle.audit_tables.specs.declared.shared.RuleRow.{RuleRow}
 use Rattle.books_audit.specs.declared.tables.TableRows.{TableRows}
 use Rattle.books_audit.specs.Audits.{HaveRowsOf, HaveKeys, HaveBooks, AreInOrder, same_row}
 use Rattle.books_audit.specs.Read.{AreRowsRead}

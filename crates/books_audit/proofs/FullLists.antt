@@ -4,9 +4,9 @@ use Rattle.std.specs.List.{AllByRecursion}
 use Rattle.std.proofs.lemmas.List.Sorted.{IsPermutation-map, IsPermutation-refl, IsPermutation-trans, IsPermutation-sym}
 use Rattle.sqlite_value.specs.Order as sql
 use Rattle.shop_model.specs.Rows.{IsCounted, numbered_from, numbered}
-use Rattle.book_checks.proofs.JoinLemmas.{unmapped_bag}
-use Rattle.book_checks.proofs.Standing.{all_moved}
-use Rattle.book_rows.specs.Listed.{AreRows}
+use Rattle.audit_rows.proofs.JoinLemmas.{unmapped_bag}
+use Rattle.audit_rows.proofs.Standing.{all_moved}
+use Rattle.audit_tables.specs.Listed.{AreRows}
 use Rattle.books_audit.proofs.FullRows.{FullOf, IsShared}
 
 -- the values of which so much is kept, and whose columns are the table's rows

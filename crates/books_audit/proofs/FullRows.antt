@@ -14,28 +14,28 @@ use Rattle.shop_model.specs.Values.{City, Actor, Film, Cast, Branch, Staff, Cust
 use Rattle.shop_schema.specs.Columns.{moment_value, chain_columns, named_columns, city_columns, actor_columns, film_columns, cast_columns, staff_columns, customer_columns, rental_columns, terms_columns, rule_columns, payment_columns, lot_columns}
 use Rattle.shop_schema.specs.RowValues.{IsNumber, IsName, IsToken, IsCity, IsActor, IsFilm, IsCast, IsBranch, IsStaff, IsRow, IsCustomer, IsRental, IsTerms, IsPayment, IsLot}
 use Rattle.shop_schema.proofs.SameRows.{same_moment_value, same_last, same_number_or_null}
-use Rattle.book_rows.specs.Kinds.{HaveKinds, IsOfKind}
-use Rattle.book_rows.specs.declared.kinds.Kind.TheVariants as kind
-use Rattle.book_rows.proofs.KindLemmas.{Spelled, spelled, next, in_range, ranged, equal_numbers, or_ranged}
-use Rattle.book_checks.specs.Joins.{Header}
-use Rattle.book_checks.specs.Ordered.{city_row, film_row, cast_row, branch_row, staff_row, customer_row, terms_row, lot_row}
-use Rattle.book_checks.specs.declared.rows.CastRow.{CastRow}
-use Rattle.book_checks.specs.declared.rows.CustomerRow.{CustomerRow}
-use Rattle.book_checks.specs.declared.rows.RentalRow.{RentalRow}
-use Rattle.book_checks.specs.declared.rows.TermsRow.{TermsRow}
-use Rattle.book_checks.specs.declared.rows.PaymentRow.{PaymentRow}
-use Rattle.book_checks.specs.declared.rows.LotRow.{LotRow}
-use Rattle.book_checks.specs.declared.rows.HeaderRow.{HeaderRow}
-use Rattle.book_rows.specs.Rows.{row, row_or_null, chain_kinds, IsChainRow, rule_kinds, IsRuleRow, named_kinds, IsNamedRow, city_kinds, IsCityRow, actor_kinds, IsActorRow, film_kinds, IsFilmRow, cast_kinds, IsCastRow, branch_kinds, IsBranchRow, staff_kinds, IsStaffRow, customer_kinds, IsCustomerRow, rental_kinds, IsRentalRow, terms_kinds, IsTermsRow, payment_kinds, IsPaymentRow, lot_kinds, IsLotRow, header_kinds, IsHeaderRow}
-use Rattle.book_rows.specs.declared.shared.ChainRow.{ChainRow}
-use Rattle.book_rows.specs.declared.shared.RuleRow.{RuleRow}
-use Rattle.book_rows.specs.declared.shared.NamedRow.{NamedRow}
-use Rattle.book_rows.specs.declared.shared.NumberedCity.{NumberedCity}
-use Rattle.book_rows.specs.declared.shared.NumberedActor.{NumberedActor}
-use Rattle.book_rows.specs.declared.shared.NumberedFilm.{NumberedFilm}
-use Rattle.book_rows.specs.declared.shared.NumberedBranch.{NumberedBranch}
-use Rattle.book_rows.specs.declared.shared.NumberedStaff.{NumberedStaff}
-use Rattle.book_rows.proofs.CustodyRows.{number}
+use Rattle.audit_tables.specs.Kinds.{HaveKinds, IsOfKind}
+use Rattle.audit_tables.specs.declared.kinds.Kind.TheVariants as kind
+use Rattle.audit_tables.proofs.KindLemmas.{Spelled, spelled, next, in_range, ranged, equal_numbers, or_ranged}
+use Rattle.audit_rows.specs.Joins.{Header}
+use Rattle.audit_rows.specs.Ordered.{city_row, film_row, cast_row, branch_row, staff_row, customer_row, terms_row, lot_row}
+use Rattle.audit_rows.specs.declared.rows.CastRow.{CastRow}
+use Rattle.audit_rows.specs.declared.rows.CustomerRow.{CustomerRow}
+use Rattle.audit_rows.specs.declared.rows.RentalRow.{RentalRow}
+use Rattle.audit_rows.specs.declared.rows.TermsRow.{TermsRow}
+use Rattle.audit_rows.specs.declared.rows.PaymentRow.{PaymentRow}
+use Rattle.audit_rows.specs.declared.rows.LotRow.{LotRow}
+use Rattle.audit_rows.specs.declared.rows.HeaderRow.{HeaderRow}
+use Rattle.audit_tables.specs.Rows.{row, row_or_null, chain_kinds, IsChainRow, rule_kinds, IsRuleRow, named_kinds, IsNamedRow, city_kinds, IsCityRow, actor_kinds, IsActorRow, film_kinds, IsFilmRow, cast_kinds, IsCastRow, branch_kinds, IsBranchRow, staff_kinds, IsStaffRow, customer_kinds, IsCustomerRow, rental_kinds, IsRentalRow, terms_kinds, IsTermsRow, payment_kinds, IsPaymentRow, lot_kinds, IsLotRow, header_kinds, IsHeaderRow}
+use Rattle.audit_tables.specs.declared.shared.ChainRow.{ChainRow}
+use Rattle.audit_tables.specs.declared.shared.RuleRow.{RuleRow}
+use Rattle.audit_tables.specs.declared.shared.NamedRow.{NamedRow}
+use Rattle.audit_tables.specs.declared.shared.NumberedCity.{NumberedCity}
+use Rattle.audit_tables.specs.declared.shared.NumberedActor.{NumberedActor}
+use Rattle.audit_tables.specs.declared.shared.NumberedFilm.{NumberedFilm}
+use Rattle.audit_tables.specs.declared.shared.NumberedBranch.{NumberedBranch}
+use Rattle.audit_tables.specs.declared.shared.NumberedStaff.{NumberedStaff}
+use Rattle.audit_tables.proofs.CustodyRows.{number}
 
 -- the value of which this is kept, and whose columns the row has
 pub record FullOf {X F : Type 0} (columns : F → sql.Row) (Fits : F → Type 0) (small : F → X) (x : X) (r : sql.Row) : Type 0 where

@@ -7,20 +7,20 @@ use Rattle.shop_model.specs.Calendar.{Moment}
 use Rattle.shop_model.specs.Rows.{Owned}
 use Rattle.shop_model.specs.Links.{has_row, are_different}
 use Rattle.shop_model.specs.Books.{Books}
-use Rattle.book_checks.specs.Lists.{climbs}
-use Rattle.book_checks.specs.Canons.{row_key}
-use Rattle.book_checks.specs.Joins.{header_key, placed_key}
-use Rattle.book_checks.specs.Seen.{seen_copy, seen_rental_row, seen_payment_row, seen_header, seen_placed}
-use Rattle.book_checks.specs.Shops.{is_among}
-use Rattle.book_checks.specs.Ordered.{AreOrdered, HaveOrderedRows, customer_row, terms_row, branch_row, without_last}
-use Rattle.book_checks.specs.declared.books.OrderedBooks.{OrderedBooks}
-use Rattle.book_checks.specs.declared.rows.CustomerRow.{CustomerRow}
-use Rattle.book_checks.specs.declared.rows.TermsRow.{TermsRow}
-use Rattle.book_checks.proofs.JoinLemmas.{join_sound}
-use Rattle.book_checks.proofs.LastLemmas.{lasts_owned, lasts_apart}
-use Rattle.book_checks.proofs.Maps.{length-map}
-use Rattle.book_checks.proofs.ShopLemmas.{has_row_is}
-use Rattle.book_checks.proofs.Tests.{all_congr}
+use Rattle.audit_rows.specs.Lists.{climbs}
+use Rattle.audit_rows.specs.Canons.{row_key}
+use Rattle.audit_rows.specs.Joins.{header_key, placed_key}
+use Rattle.audit_rows.specs.Seen.{seen_copy, seen_rental_row, seen_payment_row, seen_header, seen_placed}
+use Rattle.audit_rows.specs.Shops.{is_among}
+use Rattle.audit_rows.specs.Ordered.{AreOrdered, HaveOrderedRows, customer_row, terms_row, branch_row, without_last}
+use Rattle.audit_rows.specs.declared.books.OrderedBooks.{OrderedBooks}
+use Rattle.audit_rows.specs.declared.rows.CustomerRow.{CustomerRow}
+use Rattle.audit_rows.specs.declared.rows.TermsRow.{TermsRow}
+use Rattle.audit_rows.proofs.JoinLemmas.{join_sound}
+use Rattle.audit_rows.proofs.LastLemmas.{lasts_owned, lasts_apart}
+use Rattle.audit_rows.proofs.Maps.{length-map}
+use Rattle.audit_rows.proofs.ShopLemmas.{has_row_is}
+use Rattle.audit_rows.proofs.Tests.{all_congr}
 use Rattle.books_audit.specs.Audits.{AreInOrder}
 use Rattle.books_audit.proofs.CountRows.{branch_count}
 

@@ -10,13 +10,13 @@ use Rattle.shop_model.specs.Rows.{Owned}
 use Rattle.shop_model.specs.Shop.{Kept, OfficeKept}
 use Rattle.shop_schema.specs.Columns.{kept_columns, office_kept_columns, kept_rows}
 use Rattle.shop_schema.specs.RowValues.{IsNumber, IsKey, IsKept, IsOfficeKept}
-use Rattle.book_rows.proofs.KindLemmas.{Spelled, spelled, next, ranged, in_range}
-use Rattle.book_rows.specs.Forms.{IsCommandForm, IsOfficeForm}
-use Rattle.book_checks.specs.Lists.{Key}
-use Rattle.book_checks.specs.Ordered.{kept_row}
-use Rattle.book_checks.specs.declared.rows.KeptRow.{KeptRow}
-use Rattle.book_rows.specs.Rows.{kept_kinds, IsOneKept, IsCallerRow}
-use Rattle.book_rows.specs.declared.kept.CallerRow.{CallerRow}
+use Rattle.audit_tables.proofs.KindLemmas.{Spelled, spelled, next, ranged, in_range}
+use Rattle.audit_tables.specs.Forms.{IsCommandForm, IsOfficeForm}
+use Rattle.audit_rows.specs.Lists.{Key}
+use Rattle.audit_rows.specs.Ordered.{kept_row}
+use Rattle.audit_rows.specs.declared.rows.KeptRow.{KeptRow}
+use Rattle.audit_tables.specs.Rows.{kept_kinds, IsOneKept, IsCallerRow}
+use Rattle.audit_tables.specs.declared.kept.CallerRow.{CallerRow}
 use Rattle.books_audit.specs.Read.{RowsRead, office_caller, branch_caller}
 use Rattle.books_audit.proofs.FullRows.{FullOf}
 use Rattle.books_audit.proofs.FullLists.{fulls}

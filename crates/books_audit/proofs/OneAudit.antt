@@ -7,8 +7,8 @@ use Rattle.shop_model.specs.Rows.{Row, numbered_from}
 use Rattle.shop_model.specs.Values.{Rules, Here, Scrapped}
 use Rattle.shop_model.specs.Books.{Books, BookCopy, Line, Consignment, UnderWay, Missing}
 use Rattle.shop_model.specs.Sound.{IsSound, widest, all_lines, one, is_origin, copy_is, line_is, rows_made, rows_in}
-use Rattle.book_checks.proofs.Transfer.{stays_sound, total_along}
-use Rattle.book_checks.specs.Marked.{any_mark}
+use Rattle.audit_rows.proofs.Transfer.{stays_sound, total_along}
+use Rattle.audit_rows.specs.Marked.{any_mark}
 use Rattle.shop_types.specs.declared.audit.Audit.{Audit}
 use Rattle.books_audit.specs.declared.tables.TableRows.{TableRows}
 use Rattle.books_audit.specs.Audits.{StandsForBooks, AreInOrder, Counts, IsAuditOf}
@@ -18,11 +18,11 @@ use Rattle.books_audit.proofs.Canonical.{by_place, same_by_place}
 use Rattle.books_audit.proofs.CanonCounts.{counts_in_rows}
 use Rattle.books_audit.proofs.CustodyAudits.{nothing}
 use Rattle.books_audit.proofs.Exhibited.{canonical, consignments_are, stands, have_rows, order as in_order_of}
-use Rattle.book_checks.specs.Joins.{Header, Placed, header, placed, put_line}
-use Rattle.book_checks.specs.Seen.{seen_copy, seen_line, seen_header, seen_placed}
-use Rattle.book_checks.specs.Ordered.{AreOrdered, HaveOrderedRows}
-use Rattle.book_checks.specs.declared.books.OrderedBooks.{OrderedBooks}
-use Rattle.book_checks.proofs.JoinLemmas.{join_sound}
+use Rattle.audit_rows.specs.Joins.{Header, Placed, header, placed, put_line}
+use Rattle.audit_rows.specs.Seen.{seen_copy, seen_line, seen_header, seen_placed}
+use Rattle.audit_rows.specs.Ordered.{AreOrdered, HaveOrderedRows}
+use Rattle.audit_rows.specs.declared.books.OrderedBooks.{OrderedBooks}
+use Rattle.audit_rows.proofs.JoinLemmas.{join_sound}
 use Rattle.books_audit.specs.Audited.{CountsCustody}
 
 module _ (tables : TableRows) (c : Books) (stands : StandsForBooks tables c) (order : AreInOrder c) where

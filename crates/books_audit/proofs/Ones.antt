@@ -6,11 +6,11 @@ use Rattle.shop_model.specs.Rows.{numbered, numbered_from}
 use Rattle.shop_model.specs.Books.{Books, Consignment}
 use Rattle.shop_schema.specs.Columns.{chain_columns, named_columns, city_columns, actor_columns, film_columns, cast_columns, staff_columns, customer_columns, rental_columns, terms_columns, rule_columns, payment_columns, lot_columns, consignment_columns}
 use Rattle.shop_schema.specs.RowValues.{IsName, IsToken, IsCity, IsActor, IsFilm, IsCast, IsStaff, IsRow, IsCustomer, IsRental, IsTerms, IsPayment, IsLot, AreShared, IsConsignment}
-use Rattle.book_rows.specs.declared.kinds.Kind.{Kind}
-use Rattle.book_rows.specs.Kinds.{HaveKinds}
-use Rattle.book_rows.proofs.KindLemmas.{ranged}
-use Rattle.book_checks.specs.Joins.{header}
-use Rattle.book_rows.specs.Rows.{chain_kinds, named_kinds, city_kinds, actor_kinds, film_kinds, cast_kinds, branch_kinds, staff_kinds, customer_kinds, rental_kinds, terms_kinds, rule_kinds, payment_kinds, lot_kinds, header_kinds}
+use Rattle.audit_tables.specs.declared.kinds.Kind.{Kind}
+use Rattle.audit_tables.specs.Kinds.{HaveKinds}
+use Rattle.audit_tables.proofs.KindLemmas.{ranged}
+use Rattle.audit_rows.specs.Joins.{header}
+use Rattle.audit_tables.specs.Rows.{chain_kinds, named_kinds, city_kinds, actor_kinds, film_kinds, cast_kinds, branch_kinds, staff_kinds, customer_kinds, rental_kinds, terms_kinds, rule_kinds, payment_kinds, lot_kinds, header_kinds}
 use Rattle.books_audit.specs.declared.tables.TableRows.{TableRows}
 use Rattle.books_audit.specs.Audits.{HaveBooks}
 use Rattle.books_audit.specs.Read.{HaveOnes}

@@ -8,7 +8,7 @@ use Rattle.sqlite_keyed.proofs.ListLemmas.{along_permutation}
 use Rattle.shop_model.specs.Books.{Consignment}
 use Rattle.shop_model.proofs.RowLemmas.{same_if}
 use Rattle.shop_schema.specs.Counts.{Pair, is_pair, count_pair, pairs_of}
-use Rattle.book_checks.proofs.Standing.{all_moved}
+use Rattle.audit_rows.proofs.Standing.{all_moved}
 
 -- no row is of the pair
 abbrev NoneOf : ℕ → ℕ → List Pair → Type 0

@@ -5,9 +5,9 @@ use Rattle.std.proofs.lemmas.Bool.{and_parts}
 use Rattle.shop_model.proofs.RowLemmas.{same_if, same_test}
 use Rattle.std.proofs.lemmas.Bool.Decides.{nat_tests}
 use Rattle.shop_schema.specs.Counts.{Pair, is_pair, count_pair}
-use Rattle.book_checks.specs.Lists.{Key, is_below, climbs_above}
-use Rattle.book_checks.specs.declared.rows.HeaderRow.{HeaderRow}
-use Rattle.book_checks.proofs.Keys.{both, below_trans, below_apart}
+use Rattle.audit_rows.specs.Lists.{Key, is_below, climbs_above}
+use Rattle.audit_rows.specs.declared.rows.HeaderRow.{HeaderRow}
+use Rattle.audit_rows.proofs.Keys.{both, below_trans, below_apart}
 use Rattle.books_audit.specs.declared.counts.Triple.{Triple}
 use Rattle.books_audit.specs.Read.{pairs_among}
 use Rattle.books_audit.specs.Triples.{seen_pair}

@@ -11,7 +11,7 @@ use Rattle.shop_schema.specs.RowValues.{IsRow, IsCustomer, IsCopy, IsRental, IsT
 use Rattle.shop_schema.proofs.SameRows.{same_film, same_customer, same_copy, same_rental, same_terms, same_payment}
 use Rattle.books_audit.proofs.SameColumns.{same_rule, same_named, same_city, same_actor, same_cast, same_staff, same_lot}
 use Rattle.sqlite_value.specs.Order as sql
-use Rattle.book_checks.proofs.Standing.{same_rows, one_numbered}
+use Rattle.audit_rows.proofs.Standing.{same_rows, one_numbered}
 use Rattle.books_audit.specs.declared.tables.TableRows.{TableRows}
 use Rattle.books_audit.specs.Audits.{HaveBooks}
 

@@ -15,9 +15,9 @@ use Rattle.shop_model.specs.Books.{Books, head}
 use Rattle.shop_schema.specs.Columns.{moment_value, branch_columns}
 use Rattle.shop_schema.specs.RowValues.{IsLast, IsBranch, AreShared}
 use Rattle.shop_schema.proofs.SameRows.{same_last, same_number_or_null}
-use Rattle.book_checks.specs.Shops.{is_among}
-use Rattle.book_checks.proofs.ShopLemmas.{has_row_is}
-use Rattle.book_checks.proofs.Standing.{same_rows, one_numbered}
+use Rattle.audit_rows.specs.Shops.{is_among}
+use Rattle.audit_rows.proofs.ShopLemmas.{has_row_is}
+use Rattle.audit_rows.proofs.Standing.{same_rows, one_numbered}
 use Rattle.books_audit.specs.declared.tables.TableRows.{TableRows}
 use Rattle.books_audit.specs.Audits.{HaveBooks}
 use Rattle.books_audit.proofs.FullRows.{told_columns}

@@ -5,7 +5,7 @@ use Rattle.shop_model.specs.Calendar.{Moment}
 use Rattle.shop_model.specs.Rows.{Owned}
 use Rattle.shop_model.specs.Links.{has_row}
 use Rattle.shop_model.specs.Books.{Books}
-use Rattle.book_checks.specs.Canons.{IsCanonOf}
+use Rattle.audit_rows.specs.Canons.{IsCanonOf}
 use Rattle.books_audit.specs.declared.tables.TableRows.{TableRows}
 use Rattle.books_audit.specs.Audits.{HaveBooks, AreInOrder}
 use Rattle.books_audit.proofs.SameBooks as same

@@ -7,14 +7,14 @@ use Rattle.sql_rows.proofs.ColumnTests.{same_flag}
 use Rattle.shop_model.specs.Rows.{numbered}
 use Rattle.shop_model.specs.Books.{Books, Consignment}
 use Rattle.shop_schema.specs.Columns.{consignment_columns, line_rows}
-use Rattle.book_checks.specs.Lists.{climbs, is_below}
-use Rattle.book_checks.specs.Joins.{Header, Placed, header_key, placed_key, header, placed, put_line}
-use Rattle.book_checks.proofs.Canon.{ascending_from_climbs}
-use Rattle.book_checks.proofs.JoinLemmas.{join_again, join_complete, unmapped_ascending}
-use Rattle.book_checks.proofs.Standing.{same_bag_of}
+use Rattle.audit_rows.specs.Lists.{climbs, is_below}
+use Rattle.audit_rows.specs.Joins.{Header, Placed, header_key, placed_key, header, placed, put_line}
+use Rattle.audit_rows.proofs.Canon.{ascending_from_climbs}
+use Rattle.audit_rows.proofs.JoinLemmas.{join_again, join_complete, unmapped_ascending}
+use Rattle.audit_rows.proofs.Standing.{same_bag_of}
 use Rattle.books_audit.specs.declared.tables.TableRows.{TableRows}
 use Rattle.books_audit.specs.Audits.{HaveBooks}
-use Rattle.book_rows.specs.Placed.{placed_columns}
+use Rattle.audit_tables.specs.Placed.{placed_columns}
 use Rattle.books_audit.proofs.CustodyAudits.{one_placed}
 use Rattle.books_audit.proofs.FullRows.{header_columns}
 use Rattle.books_audit.proofs.SameBooks.{all_unit}

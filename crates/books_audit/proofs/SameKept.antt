@@ -16,8 +16,8 @@ use Rattle.shop_schema.specs.Columns.{chain_columns, kept_columns, office_kept_c
 use Rattle.shop_schema.specs.Forms.{command_form}
 use Rattle.shop_schema.specs.RowValues.{IsKept, IsNumber}
 use Rattle.shop_schema.proofs.OneToOne.{command_equal, forms_are_one_to_one}
-use Rattle.book_checks.specs.Canons.{office_key}
-use Rattle.book_checks.proofs.Standing.{same_bag_of, first_bag, second_bag}
+use Rattle.audit_rows.specs.Canons.{office_key}
+use Rattle.audit_rows.proofs.Standing.{same_bag_of, first_bag, second_bag}
 use Rattle.books_audit.specs.declared.tables.TableRows.{TableRows}
 use Rattle.books_audit.specs.Audits.{HaveBooks}
 

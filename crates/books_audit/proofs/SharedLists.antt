@@ -11,15 +11,15 @@ use Rattle.shop_model.specs.Values.{Branch}
 use Rattle.shop_model.specs.Books.{head}
 use Rattle.shop_schema.specs.Columns.{branch_columns}
 use Rattle.shop_schema.specs.RowValues.{AreShared, IsLast, IsBranch}
-use Rattle.book_rows.specs.declared.kinds.Kind.{Kind}
-use Rattle.book_rows.specs.Kinds.{HaveKinds}
-use Rattle.book_checks.specs.Ordered.{branch_row, last_of, lasts_from}
-use Rattle.book_checks.specs.declared.rows.BranchRow.{BranchRow}
-use Rattle.book_checks.proofs.LastLemmas.{last_at, last_in}
+use Rattle.audit_tables.specs.declared.kinds.Kind.{Kind}
+use Rattle.audit_tables.specs.Kinds.{HaveKinds}
+use Rattle.audit_rows.specs.Ordered.{branch_row, last_of, lasts_from}
+use Rattle.audit_rows.specs.declared.rows.BranchRow.{BranchRow}
+use Rattle.audit_rows.proofs.LastLemmas.{last_at, last_in}
 use Rattle.books_audit.specs.Read.{SharedRead}
 use Rattle.books_audit.proofs.FullRows.{FullOf, IsShared, told_columns, IsTold}
 use Rattle.books_audit.proofs.FullLists.{fulls, shared_rows, shared_fit}
-use Rattle.book_checks.proofs.Maps.{length-map}
+use Rattle.audit_rows.proofs.Maps.{length-map}
 
 pub record SharedOf {A S : Type 0} (columns : ℕ × A → sql.Row) (P : A → Type 0) (seen : A → S) (table : List sql.Row) (kept : List S) : Type 0 where
   pub items : List A

@@ -10,8 +10,8 @@ use Rattle.shop_model.specs.Values.{Rules, Text}
 use Rattle.shop_model.specs.Shop.{Kept}
 use Rattle.shop_model.specs.Books.{Books, Consignment}
 use Rattle.shop_model.specs.Sound.{IsSound, widest}
-use Rattle.book_checks.proofs.Keys.{both, different-map, bytes_eq_symm}
-use Rattle.book_checks.proofs.Tests.{different_congr}
+use Rattle.audit_rows.proofs.Keys.{both, different-map, bytes_eq_symm}
+use Rattle.audit_rows.proofs.Tests.{different_congr}
 use Rattle.books_audit.specs.Audits.{HaveKeys, same_row}
 use Rattle.shop_model.proofs.RowLemmas.{same_test}
 

@@ -4,14 +4,14 @@ use Rattle.std.specs.Prelude.{if◌then◌else◌}
 use Rattle.std.proofs.lemmas.Bool.Decides.{nat_tests}
 use Rattle.std.specs.List.{AllByRecursion}
 use Rattle.sqlite_value.specs.Order as sql
-use Rattle.book_rows.specs.Listed.{AreRows}
+use Rattle.audit_tables.specs.Listed.{AreRows}
 use Rattle.books_audit.proofs.Counted.{kept_of_each}
 use Rattle.std.proofs.lemmas.List.{append-nil}
 use Rattle.shop_schema.specs.RowValues.{IsNumber}
-use Rattle.book_rows.proofs.KindLemmas.{ranged}
-use Rattle.book_checks.specs.Lists.{Key}
-use Rattle.book_checks.specs.declared.rows.KeptRow.{KeptRow}
-use Rattle.book_rows.specs.declared.kept.CallerRow.{CallerRow}
+use Rattle.audit_tables.proofs.KindLemmas.{ranged}
+use Rattle.audit_rows.specs.Lists.{Key}
+use Rattle.audit_rows.specs.declared.rows.KeptRow.{KeptRow}
+use Rattle.audit_tables.specs.declared.kept.CallerRow.{CallerRow}
 use Rattle.books_audit.specs.Read.{office_caller, branch_caller}
 use Rattle.std.proofs.lemmas.List.Sorted.{IsPermutation-refl, IsPermutation-trans, IsPermutation-sym, IsPermutation-append, IsPermutation-middle}
 

@@ -6,10 +6,10 @@ use Rattle.shop_model.specs.Rows.{numbered, numbered_from}
 use Rattle.shop_model.specs.Values.{Branch}
 use Rattle.shop_model.specs.Books.{Books}
 use Rattle.shop_schema.proofs.SameRows.{same_last, same_number_or_null}
-use Rattle.book_rows.proofs.KindLemmas.{ranged}
-use Rattle.book_checks.proofs.Standing.{same_rows}
-use Rattle.book_rows.specs.declared.shared.NumberedBranch.{NumberedBranch}
-use Rattle.book_rows.specs.Rows.{branch_kinds, IsBranchRow}
+use Rattle.audit_tables.proofs.KindLemmas.{ranged}
+use Rattle.audit_rows.proofs.Standing.{same_rows}
+use Rattle.audit_tables.specs.declared.shared.NumberedBranch.{NumberedBranch}
+use Rattle.audit_tables.specs.Rows.{branch_kinds, IsBranchRow}
 use Rattle.books_audit.specs.declared.tables.TableRows.{TableRows}
 use Rattle.books_audit.specs.Audits.{HaveBooks}
 use Rattle.books_audit.proofs.FullRows as full

@@ -11,16 +11,16 @@ use Rattle.shop_model.specs.Books.{Books}
 use Rattle.shop_schema.specs.Columns.{kept_columns, office_kept_columns, kept_rows}
 use Rattle.shop_schema.specs.Forms.{command_form, office_command_form}
 use Rattle.shop_schema.specs.RowValues.{IsNumber, IsKept, IsOfficeKept}
-use Rattle.book_rows.specs.Listed.{AreRows}
-use Rattle.book_rows.specs.Rows.{IsOneKept, IsCallerRow}
-use Rattle.book_rows.specs.declared.kept.CallerRow.{CallerRow}
-use Rattle.book_rows.proofs.KindLemmas.{in_range}
-use Rattle.book_checks.specs.Lists.{Key}
-use Rattle.book_checks.specs.Canons.{office_key}
-use Rattle.book_checks.specs.Ordered.{kept_row}
-use Rattle.book_checks.specs.declared.rows.KeptRow.{KeptRow}
-use Rattle.book_checks.proofs.Keys.{different_along, different-map, bytes_eq_symm}
-use Rattle.book_checks.proofs.Standing.{all_moved}
+use Rattle.audit_tables.specs.Listed.{AreRows}
+use Rattle.audit_tables.specs.Rows.{IsOneKept, IsCallerRow}
+use Rattle.audit_tables.specs.declared.kept.CallerRow.{CallerRow}
+use Rattle.audit_tables.proofs.KindLemmas.{in_range}
+use Rattle.audit_rows.specs.Lists.{Key}
+use Rattle.audit_rows.specs.Canons.{office_key}
+use Rattle.audit_rows.specs.Ordered.{kept_row}
+use Rattle.audit_rows.specs.declared.rows.KeptRow.{KeptRow}
+use Rattle.audit_rows.proofs.Keys.{different_along, different-map, bytes_eq_symm}
+use Rattle.audit_rows.proofs.Standing.{all_moved}
 use Rattle.books_audit.specs.declared.tables.TableRows.{TableRows}
 use Rattle.books_audit.specs.Audits.{HaveBooks}
 use Rattle.books_audit.specs.Read.{office_caller, branch_caller}

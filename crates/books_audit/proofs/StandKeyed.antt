@@ -5,10 +5,10 @@ use Rattle.std.specs.Str.{bytes_eq}
 use Rattle.std.proofs.lemmas.List.Sorted.{IsPermutation-refl}
 use Rattle.sqlite_value.specs.Order as sql
 use Rattle.shop_model.specs.Links.{are_different}
-use Rattle.book_checks.specs.Lists.{Key}
-use Rattle.book_checks.proofs.Keys.{different_along, different-map, bytes_eq_symm}
-use Rattle.book_checks.proofs.Standing.{same_rows}
-use Rattle.book_rows.specs.Listed.{AreRows}
+use Rattle.audit_rows.specs.Lists.{Key}
+use Rattle.audit_rows.proofs.Keys.{different_along, different-map, bytes_eq_symm}
+use Rattle.audit_rows.proofs.Standing.{same_rows}
+use Rattle.audit_tables.specs.Listed.{AreRows}
 use Rattle.books_audit.proofs.FullRows.{FullOf}
 use Rattle.books_audit.proofs.FullLists.{fulls, ones}
 use Rattle.books_audit.specs.ReadLists.{AreKeyed}

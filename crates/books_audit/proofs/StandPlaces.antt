@@ -8,12 +8,12 @@ use Rattle.std.proofs.lemmas.List.Sorted.{IsPermutation-refl, IsPermutation-tran
 use Rattle.sqlite_value.specs.Order as sql
 use Rattle.sqlite_keyed.proofs.SortLemmas.{sorted_unique}
 use Rattle.shop_model.specs.Rows.{IsCounted, numbered, numbered_from}
-use Rattle.book_rows.specs.declared.kinds.Kind.{Kind}
-use Rattle.book_rows.specs.Kinds.{HaveKinds}
-use Rattle.book_checks.proofs.Canon.{counted_ascends}
-use Rattle.book_checks.proofs.Maps.{length-map}
-use Rattle.book_checks.proofs.Standing.{same_rows}
-use Rattle.book_rows.specs.Listed.{AreRows}
+use Rattle.audit_tables.specs.declared.kinds.Kind.{Kind}
+use Rattle.audit_tables.specs.Kinds.{HaveKinds}
+use Rattle.audit_rows.proofs.Canon.{counted_ascends}
+use Rattle.audit_rows.proofs.Maps.{length-map}
+use Rattle.audit_rows.proofs.Standing.{same_rows}
+use Rattle.audit_tables.specs.Listed.{AreRows}
 use Rattle.books_audit.proofs.FullRows.{FullOf, IsShared}
 use Rattle.books_audit.proofs.FullLists.{fulls}
 use Rattle.books_audit.specs.ReadLists.{AreInPlaces}

@@ -9,20 +9,20 @@ use Rattle.shop_model.specs.Rows.{numbered_from}
 use Rattle.shop_model.specs.Links.{are_different}
 use Rattle.shop_model.specs.Books.{Books, Line, Consignment}
 use Rattle.shop_schema.specs.RowValues.{IsLine, IsConsignment, IsNumber}
-use Rattle.book_rows.specs.Kinds.{HaveKinds}
-use Rattle.book_rows.specs.Listed.{AreRows}
-use Rattle.book_rows.specs.Placed.{placed_columns, IsPlaced, IsLineRow, IsOneLine}
-use Rattle.book_rows.specs.Rows.{header_kinds, IsHeaderRow}
-use Rattle.book_rows.proofs.KindLemmas.{ranged}
-use Rattle.book_rows.proofs.RowLists.{all_are}
-use Rattle.book_checks.specs.Lists.{climbs}
-use Rattle.book_checks.specs.Joins.{Header, Placed, header, placed, put_line, header_key, placed_key, join}
-use Rattle.book_checks.specs.Seen.{seen_header, seen_placed}
-use Rattle.book_checks.specs.declared.rows.HeaderRow.{HeaderRow}
-use Rattle.book_checks.specs.declared.rows.LineRow.{LineRow}
-use Rattle.book_checks.proofs.JoinLemmas.{join_complete}
-use Rattle.book_checks.proofs.Keys.{both, different_along, different-map, bytes_eq_symm}
-use Rattle.book_checks.proofs.Standing.{same_rows}
+use Rattle.audit_tables.specs.Kinds.{HaveKinds}
+use Rattle.audit_tables.specs.Listed.{AreRows}
+use Rattle.audit_tables.specs.Placed.{placed_columns, IsPlaced, IsLineRow, IsOneLine}
+use Rattle.audit_tables.specs.Rows.{header_kinds, IsHeaderRow}
+use Rattle.audit_tables.proofs.KindLemmas.{ranged}
+use Rattle.audit_tables.proofs.RowLists.{all_are}
+use Rattle.audit_rows.specs.Lists.{climbs}
+use Rattle.audit_rows.specs.Joins.{Header, Placed, header, placed, put_line, header_key, placed_key, join}
+use Rattle.audit_rows.specs.Seen.{seen_header, seen_placed}
+use Rattle.audit_rows.specs.declared.rows.HeaderRow.{HeaderRow}
+use Rattle.audit_rows.specs.declared.rows.LineRow.{LineRow}
+use Rattle.audit_rows.proofs.JoinLemmas.{join_complete}
+use Rattle.audit_rows.proofs.Keys.{both, different_along, different-map, bytes_eq_symm}
+use Rattle.audit_rows.proofs.Standing.{same_rows}
 use Rattle.books_audit.specs.declared.tables.TableRows.{TableRows}
 use Rattle.books_audit.specs.Audits.{HaveBooks}
 use Rattle.books_audit.specs.Read.{RowsRead}

@@ -4,13 +4,13 @@ use Rattle.shop_model.specs.Books.{Books}
 use Rattle.shop_schema.specs.Columns.{named_columns, city_columns, actor_columns, film_columns, staff_columns}
 use Rattle.shop_schema.specs.RowValues.{IsName, IsCity, IsActor, IsFilm, IsStaff}
 use Rattle.shop_schema.proofs.SameRows.{same_film}
-use Rattle.book_rows.specs.Kinds.{HaveKinds}
-use Rattle.book_rows.specs.declared.shared.NamedRow.{NamedRow}
-use Rattle.book_rows.specs.declared.shared.NumberedCity.{NumberedCity}
-use Rattle.book_rows.specs.declared.shared.NumberedActor.{NumberedActor}
-use Rattle.book_rows.specs.declared.shared.NumberedFilm.{NumberedFilm}
-use Rattle.book_rows.specs.declared.shared.NumberedStaff.{NumberedStaff}
-use Rattle.book_rows.specs.Rows.{named_kinds, IsNamedRow, city_kinds, IsCityRow, actor_kinds, IsActorRow, film_kinds, IsFilmRow, staff_kinds, IsStaffRow}
+use Rattle.audit_tables.specs.Kinds.{HaveKinds}
+use Rattle.audit_tables.specs.declared.shared.NamedRow.{NamedRow}
+use Rattle.audit_tables.specs.declared.shared.NumberedCity.{NumberedCity}
+use Rattle.audit_tables.specs.declared.shared.NumberedActor.{NumberedActor}
+use Rattle.audit_tables.specs.declared.shared.NumberedFilm.{NumberedFilm}
+use Rattle.audit_tables.specs.declared.shared.NumberedStaff.{NumberedStaff}
+use Rattle.audit_tables.specs.Rows.{named_kinds, IsNamedRow, city_kinds, IsCityRow, actor_kinds, IsActorRow, film_kinds, IsFilmRow, staff_kinds, IsStaffRow}
 use Rattle.books_audit.specs.declared.tables.TableRows.{TableRows}
 use Rattle.books_audit.specs.Audits.{HaveBooks}
 use Rattle.books_audit.proofs.FullRows as full

@@ -9,20 +9,20 @@ use Rattle.shop_model.specs.Books.{Books, BookCopy, Consignment}
 use Rattle.shop_schema.specs.Columns.{copy_columns}
 use Rattle.shop_schema.specs.RowValues.{IsRow, IsCopy, IsConsignment}
 use Rattle.shop_schema.proofs.SameRows.{same_copy}
-use Rattle.book_rows.specs.Kinds.{HaveKinds}
-use Rattle.book_checks.specs.Lists.{Key}
-use Rattle.book_checks.specs.Joins.{header, header_key}
-use Rattle.book_checks.specs.Seen.{seen_copy}
-use Rattle.book_checks.specs.declared.rows.CopyRow.{CopyRow}
-use Rattle.book_checks.specs.declared.rows.HeaderRow.{HeaderRow}
-use Rattle.book_checks.proofs.Keys.{different_along, different-map, bytes_eq_symm}
-use Rattle.book_checks.proofs.Maps.{map-twice}
-use Rattle.book_checks.proofs.Standing.{same_rows}
-use Rattle.book_checks.proofs.Tests.{different_congr}
-use Rattle.book_rows.specs.Listed.{AreRows}
-use Rattle.book_rows.proofs.RowLists.{all_are}
-use Rattle.book_rows.specs.Placed.{IsCopyRow}
-use Rattle.book_rows.specs.Rows.{header_kinds, IsHeaderRow}
+use Rattle.audit_tables.specs.Kinds.{HaveKinds}
+use Rattle.audit_rows.specs.Lists.{Key}
+use Rattle.audit_rows.specs.Joins.{header, header_key}
+use Rattle.audit_rows.specs.Seen.{seen_copy}
+use Rattle.audit_rows.specs.declared.rows.CopyRow.{CopyRow}
+use Rattle.audit_rows.specs.declared.rows.HeaderRow.{HeaderRow}
+use Rattle.audit_rows.proofs.Keys.{different_along, different-map, bytes_eq_symm}
+use Rattle.audit_rows.proofs.Maps.{map-twice}
+use Rattle.audit_rows.proofs.Standing.{same_rows}
+use Rattle.audit_rows.proofs.Tests.{different_congr}
+use Rattle.audit_tables.specs.Listed.{AreRows}
+use Rattle.audit_tables.proofs.RowLists.{all_are}
+use Rattle.audit_tables.specs.Placed.{IsCopyRow}
+use Rattle.audit_tables.specs.Rows.{header_kinds, IsHeaderRow}
 use Rattle.books_audit.proofs.CustodyAudits.{columns_read, unread, unseen_copy, copy_again}
 use Rattle.books_audit.proofs.SameConsignments.{one_header}
 use Rattle.books_audit.specs.declared.tables.TableRows.{TableRows}

@@ -7,12 +7,12 @@ use Rattle.shop_model.specs.Books.{Books}
 use Rattle.shop_schema.specs.Columns.{cast_columns, customer_columns, rental_columns, terms_columns, payment_columns, lot_columns}
 use Rattle.shop_schema.specs.RowValues.{IsRow, IsCast, IsCustomer, IsRental, IsTerms, IsPayment, IsLot}
 use Rattle.shop_schema.proofs.SameRows.{same_customer, same_rental, same_terms, same_payment}
-use Rattle.book_rows.specs.Kinds.{HaveKinds}
-use Rattle.book_checks.specs.Ordered.{cast_row, customer_row, terms_row, lot_row}
-use Rattle.book_checks.specs.declared.rows.CastRow.{CastRow}
-use Rattle.book_checks.specs.declared.rows.LotRow.{LotRow}
-use Rattle.book_checks.proofs.Tests.{different_congr}
-use Rattle.book_rows.specs.Rows.{cast_kinds, IsCastRow, customer_kinds, IsCustomerRow, rental_kinds, IsRentalRow, terms_kinds, IsTermsRow, payment_kinds, IsPaymentRow, lot_kinds, IsLotRow}
+use Rattle.audit_tables.specs.Kinds.{HaveKinds}
+use Rattle.audit_rows.specs.Ordered.{cast_row, customer_row, terms_row, lot_row}
+use Rattle.audit_rows.specs.declared.rows.CastRow.{CastRow}
+use Rattle.audit_rows.specs.declared.rows.LotRow.{LotRow}
+use Rattle.audit_rows.proofs.Tests.{different_congr}
+use Rattle.audit_tables.specs.Rows.{cast_kinds, IsCastRow, customer_kinds, IsCustomerRow, rental_kinds, IsRentalRow, terms_kinds, IsTermsRow, payment_kinds, IsPaymentRow, lot_kinds, IsLotRow}
 use Rattle.books_audit.specs.declared.tables.TableRows.{TableRows}
 use Rattle.books_audit.specs.Audits.{HaveBooks, same_row}
 use Rattle.books_audit.proofs.FullRows as full

@@ -6,15 +6,15 @@ use Rattle.sqlite_keyed.proofs.ListLemmas.{map-map}
 use Rattle.shop_model.specs.Values.{Rental, Terms}
 use Rattle.shop_model.specs.Books.{Books}
 use Rattle.shop_schema.specs.Shop.{AreTermed}
-use Rattle.book_checks.specs.Canons.{row_key}
-use Rattle.book_checks.specs.Lists.{Key, is_below, climbs, climbs_above, same_lists}
-use Rattle.book_checks.specs.Ordered.{AreOrdered, HaveOrderedRows, terms_row}
-use Rattle.book_checks.specs.Seen.{seen_rental_row}
-use Rattle.book_checks.specs.declared.books.OrderedBooks.{OrderedBooks}
-use Rattle.book_checks.specs.declared.rows.RentalRow.{RentalRow}
-use Rattle.book_checks.specs.declared.rows.TermsRow.{TermsRow}
-use Rattle.book_checks.proofs.Bags.{count_along, one_order, same_equal}
-use Rattle.book_checks.proofs.Keys.{NeverFalls, both, below_trans, below_apart, same_bytes}
+use Rattle.audit_rows.specs.Canons.{row_key}
+use Rattle.audit_rows.specs.Lists.{Key, is_below, climbs, climbs_above, same_lists}
+use Rattle.audit_rows.specs.Ordered.{AreOrdered, HaveOrderedRows, terms_row}
+use Rattle.audit_rows.specs.Seen.{seen_rental_row}
+use Rattle.audit_rows.specs.declared.books.OrderedBooks.{OrderedBooks}
+use Rattle.audit_rows.specs.declared.rows.RentalRow.{RentalRow}
+use Rattle.audit_rows.specs.declared.rows.TermsRow.{TermsRow}
+use Rattle.audit_rows.proofs.Bags.{count_along, one_order, same_equal}
+use Rattle.audit_rows.proofs.Keys.{NeverFalls, both, below_trans, below_apart, same_bytes}
 use Rattle.books_audit.specs.Read.{are_termed}
 
 -- ---- keys that climb, in two lists with the same keys

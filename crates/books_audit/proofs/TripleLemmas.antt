@@ -11,10 +11,10 @@ use Rattle.sql_rows.specs.Rows.{number_value}
 use Rattle.shop_model.specs.Sound.{one}
 use Rattle.shop_schema.specs.Columns.{pair_columns}
 use Rattle.shop_schema.specs.Counts.{Pair}
-use Rattle.book_rows.specs.Listed.{AreRows}
-use Rattle.book_checks.specs.Lists.{Key, count, SameCounts}
-use Rattle.book_checks.proofs.Bags.{count_along}
-use Rattle.book_checks.proofs.Standing.{same_bag_of, all_moved}
+use Rattle.audit_tables.specs.Listed.{AreRows}
+use Rattle.audit_rows.specs.Lists.{Key, count, SameCounts}
+use Rattle.audit_rows.proofs.Bags.{count_along}
+use Rattle.audit_rows.proofs.Standing.{same_bag_of, all_moved}
 use Rattle.books_audit.specs.declared.counts.Triple.{Triple}
 use Rattle.books_audit.specs.Triples.{IsWhole, IsTriple, OneTriple, triple_columns, seen_pair}
 use Rattle.books_audit.proofs.StandPlaces.{anything}

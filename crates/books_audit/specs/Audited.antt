@@ -8,9 +8,9 @@ use Rattle.shop_model.specs.Books.{BookCopy, Line, UnderWay, Missing}
 use Rattle.shop_model.specs.Sound.{rows_made, rows_in, lines_in}
 use Rattle.shop_schema.specs.Columns.{copy_columns}
 use Rattle.shop_schema.specs.RowValues.{IsRow, IsCopy}
-use Rattle.book_checks.specs.Joins.{Placed}
-use Rattle.book_checks.specs.Marked.{AreInCustody, any_mark}
-use Rattle.book_rows.specs.Placed.{placed_columns, IsPlaced}
+use Rattle.audit_rows.specs.Joins.{Placed}
+use Rattle.audit_rows.specs.Marked.{AreInCustody, any_mark}
+use Rattle.audit_tables.specs.Placed.{placed_columns, IsPlaced}
 use Rattle.shop_types.specs.declared.audit.Audit.{Audit}
 
 -- the rows are those of these copies and of these lines, in any order

@@ -9,9 +9,9 @@ use Rattle.std.specs.List.Sorted.{IsSorted}
 use Rattle.std.specs.Ordering.{nat_cmp}
 use Rattle.shop_model.specs.Calendar.{Moment}
 use Rattle.shop_model.specs.Links.{are_different, has_row}
-use Rattle.book_checks.specs.Lists.{climbs}
-use Rattle.book_checks.specs.Canons.{row_key}
-use Rattle.book_checks.specs.Joins.{header, placed, header_key, placed_key}
+use Rattle.audit_rows.specs.Lists.{climbs}
+use Rattle.audit_rows.specs.Canons.{row_key}
+use Rattle.audit_rows.specs.Joins.{header, placed, header_key, placed_key}
 use Rattle.shop_model.specs.Books.{Books, Consignment}
 use Rattle.shop_model.specs.Sound.{IsSound, widest, made, here, transit, gone}
 use Rattle.shop_schema.specs.Columns.{chain_columns, named_columns, city_columns, actor_columns, film_columns, cast_columns, branch_columns, staff_columns, customer_columns, copy_columns, rental_columns, terms_columns, payment_columns, lot_columns, consignment_columns, line_rows, kept_rows, counter_columns, out_columns, pair_columns, rule_columns}
@@ -21,7 +21,7 @@ use Rattle.shop_schema.specs.Shop.{AreTermed}
 use Rattle.books_audit.specs.declared.tables.TableRows.{TableRows}
 use Rattle.shop_types.specs.declared.audit.Audit.{Audit}
 use Rattle.books_audit.specs.Audited.{CountsNothing}
-use Rattle.book_checks.specs.Marked.{any_mark}
+use Rattle.audit_rows.specs.Marked.{any_mark}
 
 -- ---- standing for books
 

@@ -4,12 +4,12 @@ use Rattle.std.specs.List.{AllByRecursion}
 use Rattle.std.specs.Str.{bytes_eq}
 use Rattle.shop_model.specs.Links.{are_different}
 use Rattle.shop_schema.specs.RowValues.{IsNumber}
-use Rattle.book_rows.specs.Kinds.{HaveKinds}
-use Rattle.book_checks.specs.Lists.{Key, climbs}
-use Rattle.book_checks.specs.declared.rows.KeptRow.{KeptRow}
-use Rattle.book_rows.specs.Listed.{AreRows}
-use Rattle.book_rows.specs.Rows.{chain_kinds, rule_kinds, IsOneKept, IsCallerRow}
-use Rattle.book_rows.specs.declared.kept.CallerRow.{CallerRow}
+use Rattle.audit_tables.specs.Kinds.{HaveKinds}
+use Rattle.audit_rows.specs.Lists.{Key, climbs}
+use Rattle.audit_rows.specs.declared.rows.KeptRow.{KeptRow}
+use Rattle.audit_tables.specs.Listed.{AreRows}
+use Rattle.audit_tables.specs.Rows.{chain_kinds, rule_kinds, IsOneKept, IsCallerRow}
+use Rattle.audit_tables.specs.declared.kept.CallerRow.{CallerRow}
 use Rattle.books_audit.specs.Read.{RowsRead, office_caller, branch_caller}
 use Rattle.books_audit.specs.declared.tables.TableRows.{TableRows}
 use Rattle.books_audit.specs.declared.kept.Keys.{Keys}

@@ -1,8 +1,8 @@
 -- What was read of all tables but those of counts.
 use Rattle.std.specs.Prelude.{◌≡◌, [], ◌∷◌, length}
-use Rattle.book_rows.specs.Kinds.{HaveKinds}
-use Rattle.book_rows.specs.Rows.{chain_kinds, IsChainRow, rule_kinds, IsRuleRow}
-use Rattle.book_checks.specs.declared.books.OrderedBooks.{OrderedBooks}
+use Rattle.audit_tables.specs.Kinds.{HaveKinds}
+use Rattle.audit_tables.specs.Rows.{chain_kinds, IsChainRow, rule_kinds, IsRuleRow}
+use Rattle.audit_rows.specs.declared.books.OrderedBooks.{OrderedBooks}
 use Rattle.books_audit.specs.Read.{RowsRead}
 use Rattle.books_audit.specs.declared.tables.TableRows.{TableRows}
 use Rattle.books_audit.specs.declared.parts.Parts.{Parts}

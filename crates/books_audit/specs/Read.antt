@@ -6,27 +6,27 @@ use Rattle.shop_model.specs.Rows.{IsCounted, numbered}
 use Rattle.shop_schema.specs.Columns.{counter_columns, out_columns, pair_columns}
 use Rattle.shop_schema.specs.Counts.{Count, Out, Pair, count_pair}
 use Rattle.shop_schema.specs.RowValues.{IsNumber}
-use Rattle.book_rows.specs.declared.kinds.Kind.{Kind}
-use Rattle.book_rows.specs.Kinds.{HaveKinds}
-use Rattle.book_checks.specs.Lists.{Key, climbs}
+use Rattle.audit_tables.specs.declared.kinds.Kind.{Kind}
+use Rattle.audit_tables.specs.Kinds.{HaveKinds}
+use Rattle.audit_rows.specs.Lists.{Key, climbs}
 use Rattle.shop_model.specs.Values.{Rules}
 use Rattle.shop_model.specs.Books.{Books, Consignment}
 use Rattle.shop_model.specs.Sound.{IsSound, widest}
-use Rattle.book_checks.specs.Joins.{placed_key, join}
-use Rattle.book_checks.specs.Ordered.{HaveOrderedRows}
+use Rattle.audit_rows.specs.Joins.{placed_key, join}
+use Rattle.audit_rows.specs.Ordered.{HaveOrderedRows}
 use Rattle.shop_types.specs.declared.audit.Audit.{Audit}
 use Rattle.books_audit.specs.Audited.{CountsCustody}
-use Rattle.book_checks.specs.Seen.{seen_copy, seen_line, seen_header, seen_placed}
-use Rattle.book_checks.specs.declared.books.OrderedBooks.{OrderedBooks}
-use Rattle.book_checks.specs.declared.rows.KeptRow.{KeptRow}
-use Rattle.book_checks.specs.declared.rows.RentalRow.{RentalRow}
-use Rattle.book_checks.specs.declared.rows.TermsRow.{TermsRow}
-use Rattle.book_checks.specs.declared.rows.HeaderRow.{HeaderRow}
-use Rattle.book_rows.specs.Listed.{AreRows}
-use Rattle.book_rows.specs.Placed.{IsCopyRow, IsLineRow}
-use Rattle.book_rows.specs.Rows.{chain_kinds, IsChainRow, rule_kinds, IsRuleRow, named_kinds, IsNamedRow, city_kinds, IsCityRow, actor_kinds, IsActorRow, film_kinds, IsFilmRow, cast_kinds, IsCastRow, branch_kinds, IsBranchRow, staff_kinds, IsStaffRow, customer_kinds, IsCustomerRow, rental_kinds, IsRentalRow, terms_kinds, IsTermsRow, payment_kinds, IsPaymentRow, lot_kinds, IsLotRow, header_kinds, IsHeaderRow, IsOneKept, IsCallerRow}
-use Rattle.book_rows.specs.declared.kept.CallerRow.{CallerRow}
-use Rattle.book_rows.specs.declared.shared.RuleRow.{RuleRow}
+use Rattle.audit_rows.specs.Seen.{seen_copy, seen_line, seen_header, seen_placed}
+use Rattle.audit_rows.specs.declared.books.OrderedBooks.{OrderedBooks}
+use Rattle.audit_rows.specs.declared.rows.KeptRow.{KeptRow}
+use Rattle.audit_rows.specs.declared.rows.RentalRow.{RentalRow}
+use Rattle.audit_rows.specs.declared.rows.TermsRow.{TermsRow}
+use Rattle.audit_rows.specs.declared.rows.HeaderRow.{HeaderRow}
+use Rattle.audit_tables.specs.Listed.{AreRows}
+use Rattle.audit_tables.specs.Placed.{IsCopyRow, IsLineRow}
+use Rattle.audit_tables.specs.Rows.{chain_kinds, IsChainRow, rule_kinds, IsRuleRow, named_kinds, IsNamedRow, city_kinds, IsCityRow, actor_kinds, IsActorRow, film_kinds, IsFilmRow, cast_kinds, IsCastRow, branch_kinds, IsBranchRow, staff_kinds, IsStaffRow, customer_kinds, IsCustomerRow, rental_kinds, IsRentalRow, terms_kinds, IsTermsRow, payment_kinds, IsPaymentRow, lot_kinds, IsLotRow, header_kinds, IsHeaderRow, IsOneKept, IsCallerRow}
+use Rattle.audit_tables.specs.declared.kept.CallerRow.{CallerRow}
+use Rattle.audit_tables.specs.declared.shared.RuleRow.{RuleRow}
 use Rattle.books_audit.specs.declared.tables.TableRows.{TableRows}
 
 -- A table of shared rows: what was kept of them, in the order of their numbers, which are 1, 2, ..

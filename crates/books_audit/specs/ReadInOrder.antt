@@ -1,16 +1,16 @@
 -- What reading all tables in order makes sure of, and what it needs.
 use Rattle.std.specs.Prelude.{◌≡◌, List, [], ◌∷◌, map, Some, true}
 use Rattle.shop_model.specs.Books.{Consignment}
-use Rattle.book_rows.specs.Kinds.{HaveKinds}
-use Rattle.book_checks.specs.Lists.{climbs}
-use Rattle.book_checks.specs.Joins.{join}
-use Rattle.book_checks.specs.Ordered.{AreOrdered}
-use Rattle.book_checks.specs.Seen.{seen_header, seen_placed}
-use Rattle.book_checks.specs.declared.books.OrderedBooks.{OrderedBooks}
-use Rattle.book_checks.specs.declared.rows.HeaderRow.{HeaderRow}
-use Rattle.book_checks.specs.declared.rows.LineRow.{LineRow}
-use Rattle.book_rows.specs.Placed.{IsLineRow, IsOneLine}
-use Rattle.book_rows.specs.Rows.{header_kinds, IsHeaderRow}
+use Rattle.audit_tables.specs.Kinds.{HaveKinds}
+use Rattle.audit_rows.specs.Lists.{climbs}
+use Rattle.audit_rows.specs.Joins.{join}
+use Rattle.audit_rows.specs.Ordered.{AreOrdered}
+use Rattle.audit_rows.specs.Seen.{seen_header, seen_placed}
+use Rattle.audit_rows.specs.declared.books.OrderedBooks.{OrderedBooks}
+use Rattle.audit_rows.specs.declared.rows.HeaderRow.{HeaderRow}
+use Rattle.audit_rows.specs.declared.rows.LineRow.{LineRow}
+use Rattle.audit_tables.specs.Placed.{IsLineRow, IsOneLine}
+use Rattle.audit_tables.specs.Rows.{header_kinds, IsHeaderRow}
 use Rattle.books_audit.specs.Read.{RowsRead, AreRowsRead, AreJoined}
 use Rattle.books_audit.specs.declared.tables.TableRows.{TableRows}
 use Rattle.books_audit.specs.Parts.{PartsCanBeRead}

@@ -7,8 +7,8 @@ use Rattle.std.specs.Str.{bytes_eq}
 use Rattle.sqlite_value.specs.Order as sql
 use Rattle.shop_model.specs.Links.{are_different}
 use Rattle.shop_model.specs.Rows.{IsCounted}
-use Rattle.book_checks.specs.Lists.{Key}
-use Rattle.book_rows.specs.Listed.{AreRows}
+use Rattle.audit_rows.specs.Lists.{Key}
+use Rattle.audit_tables.specs.Listed.{AreRows}
 
 -- each row is one of the table, and no two have one key
 pub record AreKeyed {X : Type 0} (Is : X → sql.Row → Type 0) (One : sql.Row → Type 0) (key : X → Key) (table : List sql.Row) : Type 0 where

@@ -1,18 +1,18 @@
 -- What was read of several tables, and what they have to be for that. Each is a field a table.
 use Rattle.std.specs.Prelude.{◌≡◌, [], ◌∷◌, map, true}
-use Rattle.book_rows.specs.Kinds.{HaveKinds}
-use Rattle.book_checks.specs.Lists.{climbs}
-use Rattle.book_checks.specs.declared.rows.CastRow.{CastRow}
-use Rattle.book_checks.specs.declared.rows.CustomerRow.{CustomerRow}
-use Rattle.book_checks.specs.declared.rows.CopyRow.{CopyRow}
-use Rattle.book_checks.specs.declared.rows.RentalRow.{RentalRow}
-use Rattle.book_checks.specs.declared.rows.TermsRow.{TermsRow}
-use Rattle.book_checks.specs.declared.rows.PaymentRow.{PaymentRow}
-use Rattle.book_checks.specs.declared.rows.LotRow.{LotRow}
-use Rattle.book_checks.specs.declared.rows.HeaderRow.{HeaderRow}
-use Rattle.book_checks.specs.declared.rows.LineRow.{LineRow}
-use Rattle.book_rows.specs.Placed.{IsCopyRow, IsLineRow, IsOneCopy, IsOneLine}
-use Rattle.book_rows.specs.Rows.{named_kinds, IsNamedRow, city_kinds, IsCityRow, actor_kinds, IsActorRow, film_kinds, IsFilmRow, cast_kinds, IsCastRow, branch_kinds, IsBranchRow, staff_kinds, IsStaffRow, customer_kinds, IsCustomerRow, rental_kinds, IsRentalRow, terms_kinds, IsTermsRow, payment_kinds, IsPaymentRow, lot_kinds, IsLotRow, header_kinds, IsHeaderRow}
+use Rattle.audit_tables.specs.Kinds.{HaveKinds}
+use Rattle.audit_rows.specs.Lists.{climbs}
+use Rattle.audit_rows.specs.declared.rows.CastRow.{CastRow}
+use Rattle.audit_rows.specs.declared.rows.CustomerRow.{CustomerRow}
+use Rattle.audit_rows.specs.declared.rows.CopyRow.{CopyRow}
+use Rattle.audit_rows.specs.declared.rows.RentalRow.{RentalRow}
+use Rattle.audit_rows.specs.declared.rows.TermsRow.{TermsRow}
+use Rattle.audit_rows.specs.declared.rows.PaymentRow.{PaymentRow}
+use Rattle.audit_rows.specs.declared.rows.LotRow.{LotRow}
+use Rattle.audit_rows.specs.declared.rows.HeaderRow.{HeaderRow}
+use Rattle.audit_rows.specs.declared.rows.LineRow.{LineRow}
+use Rattle.audit_tables.specs.Placed.{IsCopyRow, IsLineRow, IsOneCopy, IsOneLine}
+use Rattle.audit_tables.specs.Rows.{named_kinds, IsNamedRow, city_kinds, IsCityRow, actor_kinds, IsActorRow, film_kinds, IsFilmRow, cast_kinds, IsCastRow, branch_kinds, IsBranchRow, staff_kinds, IsStaffRow, customer_kinds, IsCustomerRow, rental_kinds, IsRentalRow, terms_kinds, IsTermsRow, payment_kinds, IsPaymentRow, lot_kinds, IsLotRow, header_kinds, IsHeaderRow}
 use Rattle.books_audit.specs.Read.{RowsRead}
 use Rattle.books_audit.specs.declared.tables.TableRows.{TableRows}
 use Rattle.books_audit.specs.ReadLists.{AreKeyed, AreInPlaces, PlacesRead}

@@ -4,7 +4,7 @@ use Rattle.sqlite_value.specs.declared.value.Value.{Value}
 use Rattle.sqlite_value.specs.Order as sql
 use Rattle.sql_rows.specs.Rows.{number_value}
 use Rattle.shop_schema.specs.Counts.{Pair}
-use Rattle.book_checks.specs.declared.books.OrderedBooks.{OrderedBooks}
+use Rattle.audit_rows.specs.declared.books.OrderedBooks.{OrderedBooks}
 use Rattle.books_audit.specs.declared.counts.Triple.{Triple}
 use Rattle.books_audit.specs.declared.counts.Tallies.{Tallies}
 use Rattle.books_audit.specs.Read.{how_many}

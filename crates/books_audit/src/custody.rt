@@ -6,14 +6,14 @@ ghost use Rattle.sqlite.specs.State.{HasCleanDisk};
 ghost use Rattle.sql_rows.specs.Calls.{StaysInside};
 ghost use Rattle.sql_rows.specs.Rows.{columns_of};
 ghost use Rattle.shop_schema.specs.Shop.{IsShop};
-ghost use Rattle.book_checks.specs.Seen.{seen_copy, seen_line};
+ghost use Rattle.audit_rows.specs.Seen.{seen_copy, seen_line};
 ghost use Rattle.books_audit.specs.Audited.{AuditsRows, CountsCustody, IsCustodyAudit};
 
 use crate::whole::{COPIES, LINES, read_whole};
-use book_checks::{
+use audit_rows::{
     CopyRow, CopyState, LineRow, LineState, are_in_custody, copies_made, copies_under, lines_under,
 };
-use book_rows::read_rows;
+use audit_tables::read_rows;
 use shop_types::{Audit, NoMemory};
 use sql_rows::StoreFault;
 use sqlite::{Alter, Row, Transaction};

@@ -2,16 +2,16 @@
 
 ghost use Rattle.std.specs.Prelude.{[], ◌∷◌, ◌++◌, map, IsPermutation, IfOk, IfSome, IfNone};
 ghost use Rattle.std.specs.List.{AllByRecursion};
-ghost use Rattle.book_rows.specs.Kinds.{HaveKinds};
+ghost use Rattle.audit_tables.specs.Kinds.{HaveKinds};
 ghost use Rattle.shop_schema.specs.RowValues.{IsNumber};
-ghost use Rattle.book_checks.specs.declared.rows.KeptRow.{KeptRow};
-ghost use Rattle.book_rows.specs.Rows.{chain_kinds, IsChainRow, rule_kinds, IsRuleRow};
+ghost use Rattle.audit_rows.specs.declared.rows.KeptRow.{KeptRow};
+ghost use Rattle.audit_tables.specs.Rows.{chain_kinds, IsChainRow, rule_kinds, IsRuleRow};
 ghost use Rattle.books_audit.specs.Read.{RowsRead, office_caller, branch_caller};
 ghost use Rattle.books_audit.specs.Keys.{KeptAreRead, KeptCanBeRead, ChainCanBeRead, RuleCanBeRead};
 
 use crate::tables::TableRows;
-use book_checks::{KeptRow, climbs, sort_rows};
-use book_rows::{CallerRow, ChainRow, RuleRow, read_rows};
+use audit_rows::{KeptRow, climbs, sort_rows};
+use audit_tables::{CallerRow, ChainRow, RuleRow, read_rows};
 use shop_types::{BranchNo, Key, NoMemory, Token};
 use std::alloc::Global;
 

@@ -3,12 +3,12 @@
 ghost use Rattle.std.specs.Prelude.{◌≡◌, ◌<◌, ◌^◌, ℕ, true, map, length, IsPermutation, IfOk, IfSome, IfNone};
 ghost use Rattle.std.specs.List.Sorted.{IsSortedByKey};
 ghost use Rattle.std.specs.Ordering.{nat_cmp};
-ghost use Rattle.book_checks.specs.Lists.{climbs, counts_from};
+ghost use Rattle.audit_rows.specs.Lists.{climbs, counts_from};
 ghost use Rattle.books_audit.specs.Read.{RowsRead};
 ghost use Rattle.books_audit.specs.ReadLists.{AreKeyed, AreInPlaces, PlacesRead};
 
-use book_checks::{Keyed, climbs, sort_rows};
-use book_rows::{Listed, read_rows};
+use audit_rows::{Keyed, climbs, sort_rows};
+use audit_tables::{Listed, read_rows};
 use shop_types::NoMemory;
 use sqlite::Row;
 use std::alloc::Global;

@@ -1,13 +1,13 @@
 //! The audit of rows that were read and put in order.
 
 ghost use Rattle.std.specs.Prelude.{IfOk};
-ghost use Rattle.book_checks.specs.Ordered.{AreOrdered};
+ghost use Rattle.audit_rows.specs.Ordered.{AreOrdered};
 ghost use Rattle.books_audit.specs.Read.{AuditsOrdered};
 
 use crate::custody::counted;
-use book_checks::OrderedBooks;
+use audit_checks::is_sound;
+use audit_rows::OrderedBooks;
 use shop_types::{Audit, NoMemory};
-use sound_books::is_sound;
 use std::alloc::Global;
 
 /// What an audit says of books that have these rows.

@@ -9,8 +9,8 @@ use crate::table_groups::{
     read_sent, read_stock,
 };
 use crate::tables::TableRows;
-use book_checks::OrderedBooks;
-use book_rows::RuleRow;
+use audit_rows::OrderedBooks;
+use audit_tables::RuleRow;
 use shop_types::{NoMemory, Token};
 use std::alloc::Global;
 

@@ -5,7 +5,7 @@ ghost use Rattle.books_audit.specs.ReadInOrder.{AreReadInOrder, CanBeRead};
 
 use crate::parts::{in_order, read_parts};
 use crate::tables::TableRows;
-use book_checks::{OrderedBooks, are_joined};
+use audit_rows::{OrderedBooks, are_joined};
 use shop_types::NoMemory;
 use std::alloc::Global;
 

@@ -3,8 +3,8 @@
 ghost use Rattle.std.specs.Prelude.{◌≡◌};
 
 use crate::lists::Shared;
-use book_checks::{BranchRow, CityRow, FilmRow, StaffRow};
-use book_rows::{
+use audit_rows::{BranchRow, CityRow, FilmRow, StaffRow};
+use audit_tables::{
     NamedRow, NumberedActor, NumberedBranch, NumberedCity, NumberedFilm, NumberedStaff,
 };
 use shop_types::T45;

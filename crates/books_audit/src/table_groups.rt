@@ -5,11 +5,11 @@ ghost use Rattle.books_audit.specs.TableGroups.{NamedAreRead, NamedCanBeRead, Fi
 
 use crate::lists::{read_keyed, read_shared};
 use crate::tables::TableRows;
-use book_checks::{
+use audit_rows::{
     BranchRow, CastRow, CityRow, CopyRow, CustomerRow, FilmRow, HeaderRow, LineRow, LotRow,
     PaymentRow, RentalRow, StaffRow, TermsRow,
 };
-use book_rows::{
+use audit_tables::{
     NamedRow, NumberedActor, NumberedBranch, NumberedCity, NumberedFilm, NumberedStaff,
 };
 use shop_types::{NoMemory, T45};

@@ -1,10 +1,10 @@
 use Rattle.std.proofs.Common.{◌≡◌, ◌∙◌, ◌∷◌, List, true, ap, sym, map, true≢false, subst}
 use Rattle.std.proofs.lemmas.List.Sorted.{IsPermutation-trans, IsPermutation-append, IsPermutation-map}
 use Rattle.shop_schema.specs.RowValues.{IsNumber}
-use Rattle.book_checks.specs.Lists.{climbs, Key}
-use Rattle.book_checks.specs.declared.rows.KeptRow.{KeptRow}
-use Rattle.book_checks.proofs.Keys.{distinct_by_order}
-use Rattle.book_checks.proofs.Standing.{all_moved}
+use Rattle.audit_rows.specs.Lists.{climbs, Key}
+use Rattle.audit_rows.specs.declared.rows.KeptRow.{KeptRow}
+use Rattle.audit_rows.proofs.Keys.{distinct_by_order}
+use Rattle.audit_rows.proofs.Standing.{all_moved}
 use Rattle.books_audit.specs.Read.{office_caller, branch_caller}
 use Rattle.books_audit.proofs.Splits.{keys_same}
 use Rattle.books_audit.proofs.kept.read_kept.Goals as goal

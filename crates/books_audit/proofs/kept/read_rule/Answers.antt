@@ -1,6 +1,6 @@
 use Rattle.std.proofs.Common.{rules, ◌≡◌, ◌∷◌, subst}
-use Rattle.book_rows.specs.Listed.{AreRows}
-use Rattle.book_rows.specs.Rows.{IsRuleRow}
+use Rattle.audit_tables.specs.Listed.{AreRows}
+use Rattle.audit_tables.specs.Rows.{IsRuleRow}
 use Rattle.books_audit.proofs.Splits.{two_rows}
 use Rattle.books_audit.proofs.kept.read_rule.Goals as goal
 

@@ -1,6 +1,6 @@
 use Rattle.std.proofs.Common.{rules, ◌≡◌, ◌≤◌, ◌++◌, [], ◌∷◌, sym, ◌∙◌}
 use Rattle.books_audit.proofs.Splits.{zero_is, some_is, number_is, all_more, office_step, branch_step}
-use Rattle.book_checks.specs.declared.rows.KeptRow.{KeptRow}
+use Rattle.audit_rows.specs.declared.rows.KeptRow.{KeptRow}
 use Rattle.shop_schema.specs.RowValues.{IsNumber}
 use Rattle.std.proofs.Common.{subst}
 use Rattle.std.specs.List.{AllByRecursion}

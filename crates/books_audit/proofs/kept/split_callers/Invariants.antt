@@ -1,7 +1,7 @@
 use Rattle.std.proofs.Common.{◌++◌, map, IsPermutation}
 use Rattle.std.specs.List.{AllByRecursion}
 use Rattle.shop_schema.specs.RowValues.{IsNumber}
-use Rattle.book_checks.specs.declared.rows.KeptRow.{KeptRow}
+use Rattle.audit_rows.specs.declared.rows.KeptRow.{KeptRow}
 use Rattle.books_audit.specs.Read.{office_caller, branch_caller}
 use Rattle.books_audit.proofs.kept.split_callers.Given as goal
 

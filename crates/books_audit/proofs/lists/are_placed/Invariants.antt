@@ -1,5 +1,5 @@
 use Rattle.std.proofs.Common.{◌≡◌, ◌+◌, map, drop}
-use Rattle.book_checks.specs.Lists.{counts_from}
+use Rattle.audit_rows.specs.Lists.{counts_from}
 use Rattle.books_audit.proofs.lists.are_placed.Given as goal
 
 abbrev pub invariant-loop-row : goal.invariant-loop-row

@@ -1,6 +1,6 @@
 use Rattle.std.proofs.Common.{◌∙◌, ap, sym, map, true≢false}
-use Rattle.book_checks.specs.Lists.{climbs}
-use Rattle.book_checks.proofs.Keys.{distinct_by_order}
+use Rattle.audit_rows.specs.Lists.{climbs}
+use Rattle.audit_rows.proofs.Keys.{distinct_by_order}
 use Rattle.books_audit.proofs.lists.read_keyed.Goals as goal
 
 pub returns-then-not-climbs-clause-none : goal.returns-then-not-climbs-clause-none

@@ -1,7 +1,7 @@
 use Rattle.std.proofs.Common.{◌∙◌, arith, ap, sym, map, true≢false}
-use Rattle.book_checks.specs.Lists.{counts_from}
+use Rattle.audit_rows.specs.Lists.{counts_from}
 use Rattle.books_audit.proofs.lists.read_shared.Goals as goal
-use Rattle.book_checks.proofs.Tests.{counted_is, is_counted}
+use Rattle.audit_rows.proofs.Tests.{counted_is, is_counted}
 
 pub returns-then-not-are_placed-clause-none : goal.returns-then-not-are_placed-clause-none
 returns-then-not-are_placed-clause-none g c h =

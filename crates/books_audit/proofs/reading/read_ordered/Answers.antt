@@ -1,6 +1,6 @@
 use Rattle.std.proofs.Common.{◌∙◌, sym, map, is_some, true≢false}
-use Rattle.book_checks.specs.Joins.{join}
-use Rattle.book_checks.specs.Seen.{seen_header, seen_placed}
+use Rattle.audit_rows.specs.Joins.{join}
+use Rattle.audit_rows.specs.Seen.{seen_header, seen_placed}
 use Rattle.books_audit.proofs.AllRead.{are_read, are_ordered, must_join, some_of}
 use Rattle.books_audit.proofs.reading.read_ordered.Goals as goal
 

@@ -1,0 +1,8 @@
+use Rattle.std.proofs.Common.{◌≡◌, map, drop}
+use Rattle.std.specs.List.{list_all}
+use Rattle.audit_checks.specs.Consignments.{is_good_line}
+use Rattle.audit_rows.specs.Seen.{seen_line}
+use Rattle.audit_checks.proofs.consignments.are_all_good.Given as goal
+
+abbrev pub invariant-loop-row : goal.invariant-loop-row
+invariant-loop-row l = list_all (is_good_line l.films l.received) (map seen_line (drop l.row-index l.lines)) ≡ list_all (is_good_line l.films l.received) (map seen_line l.lines)

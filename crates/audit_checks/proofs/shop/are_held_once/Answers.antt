@@ -1,0 +1,9 @@
+use Rattle.std.proofs.Common.{[], ◌∷◌, ◌∙◌, ap, sym}
+use Rattle.std.specs.Str.{bytes_eq}
+use Rattle.shop_model.specs.Links.{are_different}
+use Rattle.audit_checks.specs.declared.shop.OpenKey.{OpenKey}
+use Rattle.audit_rows.proofs.Keys.{different-map}
+use Rattle.audit_checks.proofs.shop.are_held_once.Goals as goal
+
+pub returns : goal.returns
+returns c = c.are_distinct.ensures.distinct ∙ sym (different-map bytes_eq (λ (row : OpenKey). row.copy ∷ []) c.in_ok-keys.keys.items) ∙ ap (are_different bytes_eq) c.in_ok-keys.ensures

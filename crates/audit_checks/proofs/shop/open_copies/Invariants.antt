@@ -1,0 +1,9 @@
+use Rattle.std.proofs.Common.{◌≡◌, ◌++◌, [], ◌∷◌, map, drop}
+use Rattle.shop_types.specs.Seen.{seen_rental}
+use Rattle.audit_rows.specs.Shops.{open_keys}
+use Rattle.audit_checks.proofs.shop.open_copies.Given as goal
+
+abbrev pub invariant-loop-row : goal.invariant-loop-row
+invariant-loop-row l =
+    map (λ row. row.copy ∷ []) l.keys.items ++ open_keys (map (λ row. seen_rental row.rental) (drop l.row-index l.rentals))
+    ≡ open_keys (map (λ row. seen_rental row.rental) l.rentals)

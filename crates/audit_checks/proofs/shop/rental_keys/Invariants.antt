@@ -1,0 +1,13 @@
+use Rattle.std.proofs.Common.{◌≡◌, ◌++◌, ◌∷◌, map, drop}
+use Rattle.std.specs.List.{AllByRecursion}
+use Rattle.shop_model.specs.Calendar.{IsMoment}
+use Rattle.shop_types.specs.Seen.{seen_rental}
+use Rattle.audit_rows.specs.Shops.{rental_key}
+use Rattle.audit_checks.proofs.shop.rental_keys.Given as goal
+
+abbrev pub invariant-loop-row : goal.invariant-loop-row
+invariant-loop-row l = record {
+  keys : map (λ row. row.copy ∷ row.customer ∷ row.rented) l.keys.items ++ map (λ row. rental_key (seen_rental row.rental)) (drop l.row-index l.rentals)
+      ≡ map (λ row. rental_key (seen_rental row.rental)) l.rentals;
+  moments : AllByRecursion (λ row. IsMoment row.rental.rented) (drop l.row-index l.rentals) → AllByRecursion (λ row. IsMoment row.rental.rented) l.rentals;
+}

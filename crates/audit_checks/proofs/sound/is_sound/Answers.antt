@@ -1,0 +1,20 @@
+use Rattle.std.proofs.Common.{List}
+use Rattle.std.specs.Prelude.{◌↔◌, IsTrue}
+use Rattle.std.proofs.lemmas.Result.{IfOk-weaker}
+use Rattle.shop_model.specs.Values.{Rules}
+use Rattle.shop_model.specs.Books.{Books, Consignment}
+use Rattle.shop_model.specs.Sound.{IsSound, widest}
+use Rattle.audit_rows.specs.Ordered.{AreConsignmentsOf, HaveOrderedRows}
+use Rattle.audit_checks.specs.Checked.{AreChecked}
+use Rattle.audit_checks.proofs.SoundLemmas.{sound_from_checks, checks_from_sound}
+use Rattle.audit_checks.proofs.sound.is_sound.Goals as goal
+
+pub returns : goal.returns
+returns c =
+    let rows = c.args.books.now in
+    IfOk-weaker c.are_checked.result (λ is. (its : List Consignment) → AreConsignmentsOf rows its → IsTrue is ↔ AreChecked rows its)
+    (λ is. (rules : Rules) (whole : Books) → HaveOrderedRows rows whole → IsTrue is ↔ IsSound (widest rules) whole)
+    (λ is h rules whole s. (
+      λ yes. sound_from_checks rows whole c.requires s rules ((h whole.consignments s.consignments).0 yes),
+      λ sound. (h whole.consignments s.consignments).1 (checks_from_sound rows whole c.requires s rules sound),
+    )) c.are_checked.ensures

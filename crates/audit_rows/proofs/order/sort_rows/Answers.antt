@@ -1,0 +1,11 @@
+use Rattle.std.proofs.Common.{rules, is_lt}
+use Rattle.std.specs.Ordering.{nat_cmp}
+use Rattle.std.specs.Cmp.Lexicographic.{slice_cmp}
+use Rattle.std.proofs.lemmas.Cmp.{nat_list_cmp_total}
+use Rattle.std.proofs.lemmas.List.Sorted.{ranks_by, answers_always}
+use Rattle.audit_rows.proofs.order.sort_rows.Goals as goal
+
+pub returns-clause-sorted : goal.returns-clause-sorted
+returns-clause-sorted g c =
+    c.sort_unstable_by.ensures.sorted (λ x y. is_lt (slice_cmp nat_cmp (g.T.Keyed.key x) (g.T.Keyed.key y))) (ranks_by nat_list_cmp_total g.T.Keyed.key)
+    (answers_always _ _ _ (λ f a r q h. search rules))

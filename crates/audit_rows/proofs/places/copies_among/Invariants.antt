@@ -1,0 +1,11 @@
+use Rattle.std.proofs.Common.{◌≡◌, map, drop}
+use Rattle.std.specs.List.{list_any, list_all}
+use Rattle.std.specs.Str.{bytes_eq}
+use Rattle.audit_rows.specs.Seen.{seen_copy, seen_mark}
+use Rattle.audit_rows.specs.Marked.{film_key}
+use Rattle.audit_rows.proofs.places.copies_among.Given as goal
+
+abbrev pub invariant-loop-row : goal.invariant-loop-row
+invariant-loop-row l =
+    list_all (λ row. list_any (bytes_eq (film_key row.it.film row.it.mark)) (map (λ row. film_key row.film (seen_mark row.mark)) l.placed)) (map seen_copy (drop l.row-index l.copies))
+    ≡ list_all (λ row. list_any (bytes_eq (film_key row.it.film row.it.mark)) (map (λ row. film_key row.film (seen_mark row.mark)) l.placed)) (map seen_copy l.copies)

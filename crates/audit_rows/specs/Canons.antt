@@ -1,0 +1,42 @@
+-- When books in the order of their keys have the same rows as others.
+use Rattle.std.specs.Prelude.{◌≡◌, ◌==◌, ℕ, true, ◌∷◌, [], map, IsPermutation}
+use Rattle.std.specs.List.{list_all}
+use Rattle.std.specs.List.Sorted.{IsSorted}
+use Rattle.std.specs.Ordering.{nat_cmp}
+use Rattle.shop_model.specs.Calendar.{Moment}
+use Rattle.shop_model.specs.Rows.{Row, Owned, owned_by}
+use Rattle.shop_model.specs.Shop.{OfficeKept}
+use Rattle.shop_model.specs.Books.{Books, Consignment, head}
+use Rattle.shop_model.specs.Links.{has_row, are_different}
+use Rattle.audit_rows.specs.Lists.{Key, climbs}
+
+abbrev pub row_key : {A : Type 0} → Row A → Key
+row_key row = row.branch ∷ row.number ∷ []
+
+-- Whether a member of staff who was added is gone isn't stored, so that no more can be told of head office's commands than their keys.
+abbrev pub office_key : OfficeKept → Key
+office_key it = it.command.key
+
+-- The one has the rows of the other, each list of numbered rows in the order of its keys, the consignments in that of their places; and one
+-- last moment at most a branch.
+pub record IsCanonOf (c b : Books) : Type 0 where
+  pub shared : c.catalogue ≡ record b.catalogue { kept = c.catalogue.kept; casts = c.catalogue.casts }
+  pub office_kept : IsPermutation (map office_key b.catalogue.kept) (map office_key c.catalogue.kept)
+  pub casts : IsPermutation b.catalogue.casts c.catalogue.casts
+  pub customers : IsPermutation b.customers c.customers
+  pub customers_climb : climbs (map row_key c.customers) ≡ true
+  pub copies : IsPermutation b.copies c.copies
+  pub copies_climb : climbs (map row_key c.copies) ≡ true
+  pub rentals : IsPermutation b.rentals c.rentals
+  pub rentals_climb : climbs (map row_key c.rentals) ≡ true
+  pub terms : IsPermutation b.terms c.terms
+  pub terms_climb : climbs (map row_key c.terms) ≡ true
+  pub payments : IsPermutation b.payments c.payments
+  pub payments_climb : climbs (map row_key c.payments) ≡ true
+  pub lots : IsPermutation b.lots c.lots
+  pub kept : IsPermutation b.kept c.kept
+  pub consignments : IsPermutation b.consignments c.consignments
+  pub in_order : IsSorted (λ (x y : Consignment). nat_cmp x.place y.place) c.consignments
+  pub lasts : (n : ℕ) → has_row b.catalogue.branches n ≡ true → head (owned_by n c.lasts) ≡ head (owned_by n b.lasts)
+  pub lasts_apart : are_different (λ (earlier later : Owned Moment). earlier.owner == later.owner) c.lasts ≡ true
+  pub owners : list_all (λ (row : Owned Moment). has_row b.catalogue.branches row.owner) c.lasts ≡ true

@@ -1,0 +1,146 @@
+-- A part shows where it ends.
+use Rattle.std.proofs.Common.{◌≡◌, ◌≢◌, ◌↔◌, ◌≤◌, ◌<◌, ◌+◌, ℕ, zero, suc, List, [], ◌∷◌, ◌++◌, length, true, false, refl, sym, ap, subst, ◌∙◌, arith, add-one, get_or, drop, drop-cons, Bool, Bor, Option, Some, None, is_some}
+use Rattle.std.specs.Prelude.{IfSome, if◌then◌else◌}
+use Rattle.shop_values.specs.Texts.{is_token}
+use Rattle.std.specs.List.{flat_map}
+use Rattle.std.specs.Option.{option_to_list}
+use Rattle.std.proofs.lemmas.List.{append-nil}
+use Rattle.shop_model.specs.Calendar.{Moment, IsMoment, moment_text}
+use Rattle.shop_schema.specs.RowValues.{IsNumber, AreNumbers}
+use Rattle.shop_schema.specs.Forms.{number_form, text_form, numbers_form, option_form, act_form}
+use Rattle.shop_schema.proofs.FormLemmas.{number_ends, text_ends, numbers_ends, flag_ends, moment_ends}
+use Rattle.audit_tables.specs.declared.parts.Part.{Part}
+use Rattle.audit_tables.specs.declared.parts.Part.TheVariants as part
+use Rattle.audit_tables.proofs.KindLemmas.{in_range, ranged}
+use Rattle.audit_tables.specs.Forms.{IsPartForm, IsForm, IsActForm, IsCommandForm}
+
+joined_alike : (p q f g r s : List ℕ) → p ≡ f → q ≡ g → p ++ r ≡ q ++ s → f ++ r ≡ g ++ s
+joined_alike p q f g r s a b h = ap (λ (x : List ℕ). x ++ r) (sym a) ∙ h ∙ ap (λ (x : List ℕ). x ++ s) b
+
+pub part_ends : (it : Part) (p q r s : List ℕ) → IsPartForm it p → IsPartForm it q → p ++ r ≡ q ++ s → r ≡ s
+part_ends (part.Number low high) p q r s (m, a, b, e) (n, c, d, f) h = (number_ends m n r s (joined_alike p q _ _ r s e f h)).1
+part_ends (part.Text low high) p q r s (t, a, e) (u, c, f) h = (text_ends t u r s (joined_alike p q _ _ r s e f h)).1
+part_ends part.Features p q r s (t, a, e) (u, c, f) h = (text_ends t u r s (joined_alike p q _ _ r s e f h)).1
+part_ends part.Token p q r s (t, a, e) (u, c, f) h = (text_ends t u r s (joined_alike p q _ _ r s e f h)).1
+part_ends part.Rating p q r s (t, a, e) (u, c, f) h = (text_ends t u r s (joined_alike p q _ _ r s e f h)).1
+part_ends part.Key p q r s (t, a, e) (u, c, f) h = (text_ends t u r s (joined_alike p q _ _ r s e f h)).1
+part_ends (part.Bytes most) p q r s (t, a, b, e) (u, c, d, f) h = (text_ends t u r s (joined_alike p q _ _ r s e f h)).1
+part_ends part.Flag p q r s (a, e) (b, f) h = (flag_ends a b r s (joined_alike p q _ _ r s e f h)).1
+part_ends part.Unset p q r s e f h = (flag_ends false false r s (joined_alike p q _ _ r s e f h)).1
+part_ends part.Moment p q r s (m, a, e) (n, c, f) h = (moment_ends m n r s (joined_alike p q _ _ r s e f h)).1
+part_ends (part.Numbers most) p q r s (ms, a, b, e) (ns, c, d, f) h = (numbers_ends ms ns r s (joined_alike p q _ _ r s e f h)).1
+part_ends (part.Optional low high) p q r s (m, a, e) (n, c, f) h = (numbers_ends (option_to_list m) (option_to_list n) r s (joined_alike p q _ _ r s e f h)).1
+
+pub same_text : (bytes u r piece t s : List ℕ) → bytes ≡ text_form u ++ r → piece ≡ text_form t → bytes ≡ piece ++ s → t ≡ u
+same_text bytes u r piece t s a b c = (text_ends t u s r (ap (λ (x : List ℕ). x ++ s) (sym b) ∙ sym c ∙ a)).0
+
+pub flag_found : (n : ℕ) (rest bytes : List ℕ) → n ≤ 1 → bytes ≡ n ∷ rest → (piece : List ℕ) × IsPartForm part.Flag piece × (bytes ≡ piece ++ rest)
+flag_found zero rest bytes h e = (0 ∷ [], (false, refl), e)
+flag_found (suc zero) rest bytes h e = (1 ∷ [], (true, refl), e)
+flag_found (suc (suc n)) rest bytes h e = absurd (omega (arith, h))
+
+same_length : (t u r s : List ℕ) → length t ≡ length u → t ++ r ≡ u ++ s → t ≡ u
+same_length [] [] r s n h = refl
+same_length [] (y ∷ u) r s n h = absurd (omega (arith, n))
+same_length (x ∷ t) [] r s n h = absurd (omega (arith, n))
+same_length (x ∷ t) (y ∷ u) r s n h =
+    let head : x ≡ y = cc in
+    let tail : t ++ r ≡ u ++ s = cc in
+    let more = same_length t u r s (omega (arith, n)) tail in
+    (λ i. head i ∷ more i)
+
+pub front_is_moment : (bytes text back piece rest : List ℕ) (m : Moment) → bytes ≡ text ++ back → length text ≡ 19 → piece ≡ moment_text m → bytes ≡ piece ++ rest → text ≡ moment_text m
+front_is_moment bytes text back piece rest m a n b c = same_length text (moment_text m) back rest n (sym a ∙ c ∙ ap (λ (x : List ℕ). x ++ rest) b)
+
+-- ---- one part after another
+
+pub part_step : (p : Part) (ps : List Part) (bytes piece rest : List ℕ) → IsPartForm p piece → bytes ≡ piece ++ rest → IsForm (p ∷ ps) bytes ↔ IsForm ps rest
+part_step p ps bytes piece rest is e = (
+  λ f. subst (IsForm ps) (part_ends p f.0 piece f.1 rest f.2 is (sym f.4 ∙ e)) f.3,
+  λ f. (piece, rest, is, f, e),
+)
+
+pub form_step : (ps : List Part) (i : ℕ) (d : Part) → i < length ps → (bytes piece rest : List ℕ) → IsPartForm (get_or ps i d) piece → bytes ≡ piece ++ rest
+    → IsForm (drop i ps) bytes ↔ IsForm (drop (i + 1) ps) rest
+form_step ps i d h bytes piece rest is e = rw (add-one, drop-cons ps i d) (part_step (get_or ps i d) (drop (suc i) ps) bytes piece rest is e)
+
+-- ---- one number after another
+
+pub record EachLeft (bytes : List ℕ) (count : ℕ) (rest : List ℕ) (left : ℕ) : Type 0 where
+  pub sound : (ns s : List ℕ) → length ns ≡ left → AreNumbers ns → rest ≡ flat_map number_form ns ++ s → (ms : List ℕ) × (length ms ≡ count) × AreNumbers ms × (bytes ≡ flat_map number_form ms ++ s)
+  pub complete : (ms s : List ℕ) → length ms ≡ count → AreNumbers ms → bytes ≡ flat_map number_form ms ++ s → (ns : List ℕ) × (length ns ≡ left) × AreNumbers ns × (rest ≡ flat_map number_form ns ++ s)
+
+pub each_begins : (bytes : List ℕ) (count : ℕ) → EachLeft bytes count bytes count
+each_begins bytes count = record { sound = λ ns s n a e. (ns, n, a, e); complete = λ ms s n a e. (ms, n, a, e) }
+
+pub each_step : (bytes : List ℕ) (count : ℕ) (rest : List ℕ) (left : ℕ) (piece more : List ℕ) → EachLeft bytes count rest (suc left) → IsPartForm (part.Number 1 4_294_967_295) piece → rest ≡ piece ++ more → EachLeft bytes count more left
+each_step bytes count rest left piece more it (n, low, high, is) e = record {
+  sound = λ ns s k a f.
+      it.sound (n ∷ ns) s (ap suc k) (ranged n (low, high), a) (e ∙ (λ i. is i ++ f i));
+  complete = λ ms s k a f. go (it.complete ms s k a f) s;
+}
+  where
+    go : {s : List ℕ} → (ns : List ℕ) × (length ns ≡ suc left) × AreNumbers ns × (rest ≡ flat_map number_form ns ++ s) → (t : List ℕ) → (ns : List ℕ) × (length ns ≡ left) × AreNumbers ns × (more ≡ flat_map number_form ns ++ s)
+    go ([], k, a, f) t = absurd (omega (arith, k))
+    go {s} (m ∷ ns, k, a, f) t =
+        (ns, (omega (arith, k)), a.1, sym (number_ends m n (flat_map number_form ns ++ s) more (sym f ∙ e ∙ ap (λ (x : List ℕ). x ++ more) is)).1)
+
+-- where no number is in front, none of the whole is there
+pub each_fails : (bytes : List ℕ) (count : ℕ) (rest : List ℕ) (left : ℕ) → EachLeft bytes count rest (suc left)
+    → ((piece more : List ℕ) → IsPartForm (part.Number 1 4_294_967_295) piece → rest ≢ piece ++ more) → (ms s : List ℕ) → length ms ≡ count → AreNumbers ms → bytes ≢ flat_map number_form ms ++ s
+each_fails bytes count rest left it none ms s k a f = go (it.complete ms s k a f)
+  where
+    go : (ns : List ℕ) × (length ns ≡ suc left) × AreNumbers ns × (rest ≡ flat_map number_form ns ++ s) → ⊥
+    go ([], k, a, f) = absurd (omega (arith, k))
+    go (m ∷ ns, k, a, f) = none (number_form m) (flat_map number_form ns ++ s) (m, (in_range m a.0).0, (in_range m a.0).1, refl) f
+
+pub numbers_found : (bytes mid rest : List ℕ) (count most : ℕ) (ns : List ℕ) → bytes ≡ number_form count ++ mid → count ≤ most → length ns ≡ count → AreNumbers ns → mid ≡ flat_map number_form ns ++ rest
+    → (piece : List ℕ) × IsPartForm (part.Numbers most) piece × (bytes ≡ piece ++ rest)
+numbers_found bytes mid rest count most ns a low n all b = (numbers_form ns, (ns, omega (arith, n, low), all, refl), a ∙ (λ i. number_form (sym n i) ++ b i))
+
+pub token_read : (text : List ℕ) (o : Option (List ℕ)) → o ≡ (if is_token text then Some text else None) → is_some o ≡ is_token text
+token_read text o e = ap is_some e ∙ go (is_token text)
+  where
+    go : (t : Bool) → is_some (if t then Some text else None) ≡ t
+    go true = refl
+    go false = refl
+
+pub optional_found : (bytes mid : List ℕ) (low high count : ℕ) → bytes ≡ number_form count ++ mid → count ≡ 1 → (r : Option (Bor (List ℕ))) → IfSome r (λ rest. (piece : List ℕ) × IsPartForm (part.Number low high) piece × (mid ≡ piece ++ rest.now))
+    → IfSome r (λ rest. (piece : List ℕ) × IsPartForm (part.Optional low high) piece × (bytes ≡ piece ++ rest.now))
+optional_found bytes mid low high count e one None h = tt
+optional_found bytes mid low high count e one (Some rest) (piece, (n, a, b, f), g) =
+    (option_form (Some n), (Some n, (a, b), refl), e ∙ (λ i. number_form (one i) ++ (g ∙ ap (λ (x : List ℕ). x ++ rest.now) f) i))
+
+-- ---- the head of a command, and its act
+
+pub record Headed (bytes rest : List ℕ) : Type 0 where
+  pub staff : ℕ
+  pub moment : Moment
+  pub is_staff : IsNumber staff
+  pub is_moment : IsMoment moment
+  pub is : bytes ≡ number_form staff ++ (moment_text moment ++ rest)
+
+pub headed : (bytes mid rest p q : List ℕ) → IsPartForm (part.Number 1 4_294_967_295) p → bytes ≡ p ++ mid → IsPartForm part.Moment q → mid ≡ q ++ rest → Headed bytes rest
+headed bytes mid rest p q (n, low, high, e) f (m, im, g) h =
+    record { staff = n; moment = m; is_staff = ranged n (low, high); is_moment = im; is = f ∙ (λ i. e i ++ (h ∙ ap (λ (x : List ℕ). x ++ rest) g) i) }
+
+pub command_is : (bytes rest : List ℕ) → Headed bytes rest → IsActForm rest ↔ IsCommandForm bytes
+command_is bytes rest h = (to, from)
+  where
+    to : IsActForm rest → IsCommandForm bytes
+    to (act, is, e) = (record { key = []; staff = h.staff; moment = h.moment; act = act }, h.is_staff, h.is_moment, is, h.is ∙ (λ i. number_form h.staff ++ (moment_text h.moment ++ (e ∙ sym (append-nil (act_form act))) i)))
+
+    from : IsCommandForm bytes → IsActForm rest
+    from (c, s, m, a, e) =
+        let mids = number_ends h.staff c.staff (moment_text h.moment ++ rest) (moment_text c.moment ++ (act_form c.act ++ [])) (sym h.is ∙ e) in
+        let rests = moment_ends h.moment c.moment rest (act_form c.act ++ []) mids.1 in
+        (c.act, a, rests.1 ∙ append-nil (act_form c.act))
+
+-- without a head there is no command
+pub no_staff : (bytes : List ℕ) → ((piece rest : List ℕ) → IsPartForm (part.Number 1 4_294_967_295) piece → bytes ≢ piece ++ rest) → ¬ IsCommandForm bytes
+no_staff bytes none (c, s, m, a, e) = none (number_form c.staff) (moment_text c.moment ++ (act_form c.act ++ [])) (c.staff, (in_range c.staff s).0, (in_range c.staff s).1, refl) e
+
+pub no_moment : (bytes mid p : List ℕ) → IsPartForm (part.Number 1 4_294_967_295) p → bytes ≡ p ++ mid → ((piece rest : List ℕ) → IsPartForm part.Moment piece → mid ≢ piece ++ rest) → ¬ IsCommandForm bytes
+no_moment bytes mid p (n, low, high, f) g none (c, s, m, a, e) =
+    let mids = number_ends n c.staff mid (moment_text c.moment ++ (act_form c.act ++ [])) (ap (λ (x : List ℕ). x ++ mid) (sym f) ∙ sym g ∙ e) in
+    none (moment_text c.moment) (act_form c.act ++ []) (c.moment, m, refl) mids.1

@@ -1,0 +1,10 @@
+use Rattle.std.proofs.Common.{drop}
+use Rattle.std.specs.List.{AllByRecursion}
+use Rattle.audit_tables.proofs.RowLists.{Continues}
+use Rattle.audit_tables.proofs.listed.read_rows.Given as goal
+
+abbrev pub invariant-loop-row : goal.invariant-loop-row
+invariant-loop-row g l = record {
+  kept : Continues g.T.Listed.is_row l.all.items (drop l.row-index l.rows) l.rows;
+  ones : AllByRecursion g.T.Listed.is_one (drop l.row-index l.rows) → AllByRecursion g.T.Listed.is_one l.rows;
+}

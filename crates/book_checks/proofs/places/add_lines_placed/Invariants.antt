@@ -1,9 +1,0 @@
-use Rattle.std.proofs.Common.{◌≡◌, ◌++◌, map, drop}
-use Rattle.book_checks.specs.Seen.{seen_line, seen_mark}
-use Rattle.book_checks.specs.Marked.{film_key, lines_placed}
-use Rattle.book_checks.proofs.places.add_lines_placed.Given as goal
-
-abbrev pub invariant-loop-row : goal.invariant-loop-row
-invariant-loop-row l =
-    map (λ row. film_key row.film (seen_mark row.mark)) l.placed.items ++ lines_placed (map seen_line (drop l.row-index l.lines))
-    ≡ map (λ row. film_key row.film (seen_mark row.mark)) l.fn.placed.items ++ lines_placed (map seen_line l.lines)

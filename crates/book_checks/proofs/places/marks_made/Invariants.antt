@@ -1,7 +1,0 @@
-use Rattle.std.proofs.Common.{◌≡◌, ◌++◌, map, drop}
-use Rattle.book_checks.specs.Seen.{seen_copy, seen_mark}
-use Rattle.book_checks.specs.Marked.{mark_key, made_keys}
-use Rattle.book_checks.proofs.places.marks_made.Given as goal
-
-abbrev pub invariant-loop-row : goal.invariant-loop-row
-invariant-loop-row l = map (λ row. mark_key (seen_mark row.mark)) l.marks.items ++ made_keys (map seen_copy (drop l.row-index l.copies)) ≡ made_keys (map seen_copy l.copies)

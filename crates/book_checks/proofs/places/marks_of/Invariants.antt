@@ -1,7 +1,0 @@
-use Rattle.std.proofs.Common.{◌≡◌, ◌++◌, map, drop}
-use Rattle.book_checks.specs.Seen.{seen_mark}
-use Rattle.book_checks.specs.Marked.{mark_key}
-use Rattle.book_checks.proofs.places.marks_of.Given as goal
-
-abbrev pub invariant-loop-row : goal.invariant-loop-row
-invariant-loop-row l = map (λ row. mark_key (seen_mark row.mark)) l.marks.items ++ map (λ row. mark_key (seen_mark row.mark)) (drop l.row-index l.placed) ≡ map (λ row. mark_key (seen_mark row.mark)) l.placed

@@ -1,8 +1,0 @@
-use Rattle.std.proofs.Common.{◌≡◌, map, drop}
-use Rattle.std.specs.List.{list_all}
-use Rattle.sound_books.specs.Consignments.{is_good_line}
-use Rattle.book_checks.specs.Seen.{seen_line}
-use Rattle.sound_books.proofs.consignments.are_all_good.Given as goal
-
-abbrev pub invariant-loop-row : goal.invariant-loop-row
-invariant-loop-row l = list_all (is_good_line l.films l.received) (map seen_line (drop l.row-index l.lines)) ≡ list_all (is_good_line l.films l.received) (map seen_line l.lines)

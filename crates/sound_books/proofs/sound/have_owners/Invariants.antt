@@ -1,7 +1,0 @@
-use Rattle.std.proofs.Common.{◌≡◌, drop}
-use Rattle.std.specs.List.{list_all}
-use Rattle.book_checks.specs.Shops.{is_among}
-use Rattle.sound_books.proofs.sound.have_owners.Given as goal
-
-abbrev pub invariant-loop-row : goal.invariant-loop-row
-invariant-loop-row g l = list_all (λ row. is_among l.branches (g.T.Owned.owner row)) (drop l.row-index l.rows) ≡ list_all (λ row. is_among l.branches (g.T.Owned.owner row)) l.rows
