@@ -187,7 +187,8 @@ fn token_keys(alloc: Global, branches: &[BranchRow]) -> Result<Vec<TokenKey>, No
 
 /// Whether no two branches have one token.
 fn tokens_differ(alloc: Global, branches: &[BranchRow]) -> Result<bool, NoMemory>
-    ensures { IfOk result (λ is. is ≡ are_different (λ earlier later. bytes_eq earlier.token later.token) branches.now) }
+    ensures { IfOk result (λ is. is
+        ≡ are_different (λ earlier later. bytes_eq earlier.token later.token) branches.now) }
 {
     let mut keys = token_keys(alloc, branches)?;
     Ok(are_distinct(&mut keys))

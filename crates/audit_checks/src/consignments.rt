@@ -44,8 +44,8 @@ fn are_good_lines(films: usize, received: bool, lines: &[LineRow]) -> bool
     0 < lines.len() && lines.len() <= 100 && are_all_good(films, received, lines)
 }
 
-/// Whether each consignment is received and no line is under way, or isn't and all are, whether it has 1 to 100 lines, and whether their films
-/// are there.
+/// Whether each consignment is received and no line is under way, or isn't and all are, whether it has 1 to 100
+/// lines, and whether their films are there.
 pub fn are_settled(films: usize, headers: &[HeaderRow], lines: &[LineRow]) -> bool
     ensures { result ≡ are_settled films (map seen_header headers.now) (map seen_placed lines.now) }
 {
@@ -75,7 +75,8 @@ fn places_of(alloc: Global, headers: &[HeaderRow]) -> Result<Vec<u64>, NoMemory>
 
 /// Whether the places are 1, 2, .. in their order.
 pub fn places_count(alloc: Global, headers: &[HeaderRow]) -> Result<bool, NoMemory>
-    ensures { IfOk result (λ is. (places : List ℕ) → IsPermutation (map (λ row. row.place) headers.now) places → IsSorted nat_cmp places → is ≡ counts_from 1 places) }
+    ensures { IfOk result (λ is. (places : List ℕ) → IsPermutation (map (λ row. row.place) headers.now) places
+        → IsSorted nat_cmp places → is ≡ counts_from 1 places) }
 {
     let mut places = places_of(alloc, headers)?;
     places.sort_unstable();

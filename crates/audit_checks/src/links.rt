@@ -31,7 +31,8 @@ pub fn is_staff_of(staff: &[StaffRow], branch: u32, number: StaffNo) -> bool
 
 /// Whether the rental of that number, which is its place, is the customer's.
 fn is_rental_of(rentals: &[RentalRow], number: RentalNo, customer: CustomerNo) -> bool
-    ensures { result ≡ list_any (λ it. it.customer == customer) (at number (map (λ row. seen_rental row.rental) rentals.now)) }
+    ensures { result
+        ≡ list_any (λ it. it.customer == customer) (at number (map (λ row. seen_rental row.rental) rentals.now)) }
 {
     match rentals.get(number.get() as usize - 1) {
         Some(row) => row.rental.customer.get() == customer.get(),
@@ -83,7 +84,8 @@ pub fn have_people(staff: &[StaffRow], branch: u32, part: &Part<'_>) -> bool
     })
 }
 
-/// Whether every payment's customer is there, its staff is of the branch, and its rental, where it names one, is the customer's.
+/// Whether every payment's customer is there, its staff is of the branch, and its rental, where it names one, is the
+/// customer's.
 pub fn have_payers(staff: &[StaffRow], branch: u32, part: &Part<'_>) -> bool
     ensures { result ≡ has_payers branch staff.now (rows_of part.now) }
 {

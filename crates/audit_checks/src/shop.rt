@@ -126,7 +126,8 @@ fn key_of(rental: &Rental) -> RentalKey
 }
 
 fn rental_keys(alloc: Global, rentals: &[RentalRow]) -> Result<Vec<RentalKey>, NoMemory>
-    ensures keys { IfOk result (λ v. map (λ row. row.copy ∷ row.customer ∷ row.rented) v.items ≡ map (λ row. rental_key (seen_rental row.rental)) rentals.now) }
+    ensures keys { IfOk result (λ v. map (λ row. row.copy ∷ row.customer ∷ row.rented) v.items
+        ≡ map (λ row. rental_key (seen_rental row.rental)) rentals.now) }
     ensures moments { IfOk result (λ _. AllByRecursion (λ row. IsMoment row.rental.rented) rentals.now) }
 {
     let mut keys = Vec::new(alloc);
@@ -162,7 +163,8 @@ impl Keyed for OpenKey {
 }
 
 fn open_copies(alloc: Global, rentals: &[RentalRow]) -> Result<Vec<OpenKey>, NoMemory>
-    ensures { IfOk result (λ v. map (λ row. row.copy ∷ []) v.items ≡ open_keys (map (λ row. seen_rental row.rental) rentals.now)) }
+    ensures { IfOk result (λ v. map (λ row. row.copy ∷ []) v.items
+        ≡ open_keys (map (λ row. seen_rental row.rental) rentals.now)) }
 {
     let mut keys = Vec::new(alloc);
     for row in rentals {
@@ -182,7 +184,8 @@ fn open_copies(alloc: Global, rentals: &[RentalRow]) -> Result<Vec<OpenKey>, NoM
 
 /// Whether no copy has two open rentals.
 pub fn are_held_once(alloc: Global, rentals: &[RentalRow]) -> Result<bool, NoMemory>
-    ensures { IfOk result (λ is. is ≡ are_different bytes_eq (open_keys (map (λ row. seen_rental row.rental) rentals.now))) }
+    ensures { IfOk result (λ is. is
+        ≡ are_different bytes_eq (open_keys (map (λ row. seen_rental row.rental) rentals.now))) }
 {
     let mut keys = open_copies(alloc, rentals)?;
     Ok(are_distinct(&mut keys))

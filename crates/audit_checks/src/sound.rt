@@ -139,7 +139,8 @@ fn are_parts_good(alloc: Global, books: &OrderedBooks) -> Result<bool, NoMemory>
 
 /// Whether consignments are sound.
 fn are_consignments_good(alloc: Global, books: &OrderedBooks) -> Result<bool, NoMemory>
-    ensures { IfOk result (λ is. (its : List Consignment) → AreConsignmentsOf books.now its → is ≡ are_good_consignments books.now its) }
+    ensures { IfOk result (λ is. (its : List Consignment) → AreConsignmentsOf books.now its
+        → is ≡ are_good_consignments books.now its) }
 {
     let headers = books.headers.as_slice();
     if are_settled(books.films.len(), headers, books.lines.as_slice()) && pairs_follow(headers) {
@@ -151,7 +152,8 @@ fn are_consignments_good(alloc: Global, books: &OrderedBooks) -> Result<bool, No
 
 /// Whether each mark is made, in one place, and with one film.
 fn have_custody(alloc: Global, books: &OrderedBooks) -> Result<bool, NoMemory>
-    ensures { IfOk result (λ is. IsTrue is ↔ AreInCustody (map seen_copy books.now.copies.items) (map seen_line books.now.lines.items)) }
+    ensures { IfOk result (λ is. IsTrue is
+        ↔ AreInCustody (map seen_copy books.now.copies.items) (map seen_line books.now.lines.items)) }
 {
     let copies = books.copies.as_slice();
     let lines = books.lines.as_slice();
@@ -163,7 +165,8 @@ fn have_custody(alloc: Global, books: &OrderedBooks) -> Result<bool, NoMemory>
 /// Whether the rows pass each check.
 fn are_checked(alloc: Global, books: &OrderedBooks) -> Result<bool, NoMemory>
     requires { AreOrdered books.now }
-    ensures { IfOk result (λ is. (its : List Consignment) → AreConsignmentsOf books.now its → (IsTrue is ↔ AreChecked books.now its)) }
+    ensures { IfOk result (λ is. (its : List Consignment) → AreConsignmentsOf books.now its
+        → (IsTrue is ↔ AreChecked books.now its)) }
 {
     if !is_good_catalogue(alloc, books)? {
         return Ok(false);
@@ -183,7 +186,8 @@ fn are_checked(alloc: Global, books: &OrderedBooks) -> Result<bool, NoMemory>
 /// Whether books that have these rows are sound.
 pub fn is_sound(alloc: Global, books: &OrderedBooks) -> Result<bool, NoMemory>
     requires { AreOrdered books.now }
-    ensures { IfOk result (λ is. (rules : Rules) (whole : Books) → HaveOrderedRows books.now whole → (IsTrue is ↔ IsSound (widest rules) whole)) }
+    ensures { IfOk result (λ is. (rules : Rules) (whole : Books) → HaveOrderedRows books.now whole
+        → (IsTrue is ↔ IsSound (widest rules) whole)) }
 {
     are_checked(alloc, books)
 }

@@ -11,8 +11,8 @@ use crate::rows::{
 };
 use shop_types::{Key, T45, Token};
 
-/// The rows of books: shared rows in the order of their numbers, which are their places, and all others in that of their keys. Of each row
-/// there are the columns that soundness asks about.
+/// The rows of books: shared rows in the order of their numbers, which are their places, and all others in that of
+/// their keys. Of each row there are the columns that soundness asks about.
 #[derive(Drop)]
 pub struct OrderedBooks {
     pub office_token: Token,

@@ -15,12 +15,16 @@ pub fn sound_books_stay_sound()
     ensures { (c b : Books) → IsCanonOf c b → (rules : Rules) → IsSound rules b → IsSound rules c }
 {}
 
-/// What is joined has the rows of the two tables, one by one; and whatever consignments have them, in whatever order, are found.
+/// What is joined has the rows of the two tables, one by one; and whatever consignments have them, in whatever order,
+/// are found.
 #[tactic(auto, using(crate::proofs::JoinLemmas::join_sound, crate::proofs::JoinLemmas::join_complete))]
 pub fn join_is_exact()
-    ensures sound { (hs : List Header) (ps : List Placed) (its : List Consignment) → join hs ps ≡ Some its → (map header its ≡ hs) × (flat_map placed its ≡ ps) }
-    ensures complete { (others : List Consignment) (hs : List Header) (ps : List Placed) → IsPermutation (map header others) hs → IsPermutation (flat_map placed others) ps
-        → climbs (map header_key hs) ≡ true → climbs (map placed_key ps) ≡ true → (its : List Consignment) × IsPermutation others its × (join hs ps ≡ Some its) }
+    ensures sound { (hs : List Header) (ps : List Placed) (its : List Consignment) → join hs ps ≡ Some its
+        → (map header its ≡ hs) × (flat_map placed its ≡ ps) }
+    ensures complete { (others : List Consignment) (hs : List Header) (ps : List Placed)
+        → IsPermutation (map header others) hs → IsPermutation (flat_map placed others) ps
+        → climbs (map header_key hs) ≡ true → climbs (map placed_key ps) ≡ true
+        → (its : List Consignment) × IsPermutation others its × (join hs ps ≡ Some its) }
 {}
 
 /// Custody of books is that of their rows of copies and their lines.

@@ -59,7 +59,8 @@ pub(crate) fn is_origin(row: &CopyRow) -> bool
 
 /// The marks that were made.
 fn marks_made(alloc: Global, copies: &[CopyRow]) -> Result<Vec<MarkRow>, NoMemory>
-    ensures { IfOk result (λ v. map (λ row. mark_key (seen_mark row.mark)) v.items ≡ made_keys (map seen_copy copies.now)) }
+    ensures { IfOk result (λ v. map (λ row. mark_key (seen_mark row.mark)) v.items
+        ≡ made_keys (map seen_copy copies.now)) }
 {
     let mut marks = Vec::new(alloc);
     for row in copies {
@@ -96,7 +97,8 @@ fn is_line_placed(state: LineState) -> bool
 
 /// The marks of the copies that are a place of theirs, each with its film.
 fn rows_placed(alloc: Global, copies: &[CopyRow]) -> Result<Vec<MarkedFilm>, NoMemory>
-    ensures { IfOk result (λ v. map (λ row. film_key row.film (seen_mark row.mark)) v.items ≡ rows_placed (map seen_copy copies.now)) }
+    ensures { IfOk result (λ v. map (λ row. film_key row.film (seen_mark row.mark)) v.items
+        ≡ rows_placed (map seen_copy copies.now)) }
 {
     let mut placed = Vec::new(alloc);
     for row in copies {
@@ -115,7 +117,9 @@ fn rows_placed(alloc: Global, copies: &[CopyRow]) -> Result<Vec<MarkedFilm>, NoM
 
 /// Adds the marks of the lines that are a place of theirs, each with its film.
 fn add_lines_placed(placed: &mut Vec<MarkedFilm>, lines: &[LineRow]) -> Result<(), NoMemory>
-    ensures { OnOk result (map (λ row. film_key row.film (seen_mark row.mark)) placed.new.items ≡ map (λ row. film_key row.film (seen_mark row.mark)) placed.old.items ++ lines_placed (map seen_line lines.now)) }
+    ensures { OnOk result (map (λ row. film_key row.film (seen_mark row.mark)) placed.new.items
+        ≡ map (λ row. film_key row.film (seen_mark row.mark)) placed.old.items ++ lines_placed
+        (map seen_line lines.now)) }
 {
     for row in lines {
         if is_line_placed(row.state) {
@@ -133,7 +137,8 @@ fn add_lines_placed(placed: &mut Vec<MarkedFilm>, lines: &[LineRow]) -> Result<(
 
 /// The marks alone.
 fn marks_of(alloc: Global, placed: &[MarkedFilm]) -> Result<Vec<MarkRow>, NoMemory>
-    ensures { IfOk result (λ v. map (λ row. mark_key (seen_mark row.mark)) v.items ≡ map (λ row. mark_key (seen_mark row.mark)) placed.now) }
+    ensures { IfOk result (λ v. map (λ row. mark_key (seen_mark row.mark)) v.items
+        ≡ map (λ row. mark_key (seen_mark row.mark)) placed.now) }
 {
     let mut marks = Vec::new(alloc);
     for row in placed {
@@ -147,7 +152,9 @@ fn marks_of(alloc: Global, placed: &[MarkedFilm]) -> Result<Vec<MarkRow>, NoMemo
 /// Whether the mark of each copy is among these, with its film.
 fn copies_among(placed: &[MarkedFilm], copies: &[CopyRow]) -> bool
     requires { IsSortedByKey (λ row. film_key row.film (seen_mark row.mark)) (slice_cmp nat_cmp) placed.now }
-    ensures { result ≡ list_all (λ row. list_any (bytes_eq (film_key row.it.film row.it.mark)) (map (λ row. film_key row.film (seen_mark row.mark)) placed.now)) (map seen_copy copies.now) }
+    ensures { result
+        ≡ list_all (λ row. list_any (bytes_eq (film_key row.it.film row.it.mark))
+        (map (λ row. film_key row.film (seen_mark row.mark)) placed.now)) (map seen_copy copies.now) }
 {
     for row in copies {
         let wanted = MarkedFilm {
@@ -164,7 +171,9 @@ fn copies_among(placed: &[MarkedFilm], copies: &[CopyRow]) -> bool
 /// Whether the mark of each line is among these, with its film.
 fn lines_among(placed: &[MarkedFilm], lines: &[LineRow]) -> bool
     requires { IsSortedByKey (λ row. film_key row.film (seen_mark row.mark)) (slice_cmp nat_cmp) placed.now }
-    ensures { result ≡ list_all (λ line. list_any (bytes_eq (film_key line.film line.mark)) (map (λ row. film_key row.film (seen_mark row.mark)) placed.now)) (map seen_line lines.now) }
+    ensures { result
+        ≡ list_all (λ line. list_any (bytes_eq (film_key line.film line.mark))
+        (map (λ row. film_key row.film (seen_mark row.mark)) placed.now)) (map seen_line lines.now) }
 {
     for row in lines {
         let wanted = MarkedFilm {
@@ -184,7 +193,9 @@ fn have_one_place(
     copies: &[CopyRow],
     placed: &[MarkedFilm],
 ) -> Result<bool, NoMemory>
-    ensures { IfOk result (λ is. is ≡ places_are_single (made_keys (map seen_copy copies.now)) (map (λ row. mark_key (seen_mark row.mark)) placed.now)) }
+    ensures { IfOk result (λ is. is
+        ≡ places_are_single (made_keys (map seen_copy copies.now))
+        (map (λ row. mark_key (seen_mark row.mark)) placed.now)) }
 {
     let mut made = marks_made(alloc, copies)?;
     let mut marks = marks_of(alloc, placed)?;

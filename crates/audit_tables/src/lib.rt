@@ -1,5 +1,5 @@
-//! Rows of any tables: which are rows of the shop's, by the kinds of their columns and the stored forms of commands, and what is kept of each for the checks
-//! of books.
+//! Rows of any tables: which are rows of the shop's, by the kinds of their columns and the stored forms of commands,
+//! and what is kept of each for the checks of books.
 #![tactic(auto)]
 
 mod acts;

@@ -27,7 +27,8 @@ pub trait Listed: Sized + Drop {
         ensures { IfOk result (λ x. is_one row.now → is_row x row.now) };
 }
 
-/// What is kept of each of the rows, in their order, or nothing where one of them is no row of the table. What fits and can't be read wants memory.
+/// What is kept of each of the rows, in their order, or nothing where one of them is no row of the table. What fits
+/// and can't be read wants memory.
 pub fn read_rows<T: Listed>(alloc: Global, rows: &[Row]) -> Result<Option<Vec<T>>, NoMemory>
     ensures found { IfOk result (λ o. IfSome o (λ all. AreRows T.Listed.is_row all.items rows.now)) }
     ensures ones { IfOk result (λ o. IfSome o (λ all. AllByRecursion T.Listed.is_one rows.now)) }

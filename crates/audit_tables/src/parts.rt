@@ -1,4 +1,5 @@
-//! A form is judged part after part, each of which shows where it ends, so that no value is made and no memory is taken.
+//! A form is judged part after part, each of which shows where it ends, so that no value is made and no memory is
+//! taken.
 
 ghost use Rattle.std.specs.Prelude.{◌≡◌, ◌≢◌, ◌↔◌, ◌++◌, IsTrue, ℕ, List, IfSome, IfNone, length};
 ghost use Rattle.shop_schema.specs.Forms.{number_form, text_form};
@@ -72,8 +73,10 @@ fn text_at(bytes: &[u8]) -> Option<(&[u8], &[u8])>
 
 /// What follows the number at the front, where it is within these bounds.
 fn skip_number(low: u32, high: u32, bytes: &[u8]) -> Option<&[u8]>
-    ensures found { IfSome result (λ rest. (piece : List ℕ) × IsPartForm (Part.Number low high) piece × (bytes.now ≡ piece ++ rest.now)) }
-    ensures none { IfNone result ((piece rest : List ℕ) → IsPartForm (Part.Number low high) piece → bytes.now ≢ piece ++ rest) }
+    ensures found { IfSome result (λ rest. (piece : List ℕ) × IsPartForm (Part.Number low high) piece
+        × (bytes.now ≡ piece ++ rest.now)) }
+    ensures none { IfNone result ((piece rest : List ℕ) → IsPartForm (Part.Number low high) piece
+        → bytes.now ≢ piece ++ rest) }
 {
     let (number, rest) = number_at(bytes)?;
     if low <= number && number <= high {
@@ -85,8 +88,10 @@ fn skip_number(low: u32, high: u32, bytes: &[u8]) -> Option<&[u8]>
 
 /// What follows the text at the front, where it is of so many bytes.
 fn skip_text(low: usize, high: usize, bytes: &[u8]) -> Option<&[u8]>
-    ensures found { IfSome result (λ rest. (piece : List ℕ) × IsPartForm (Part.Text low high) piece × (bytes.now ≡ piece ++ rest.now)) }
-    ensures none { IfNone result ((piece rest : List ℕ) → IsPartForm (Part.Text low high) piece → bytes.now ≢ piece ++ rest) }
+    ensures found { IfSome result (λ rest. (piece : List ℕ) × IsPartForm (Part.Text low high) piece
+        × (bytes.now ≡ piece ++ rest.now)) }
+    ensures none { IfNone result ((piece rest : List ℕ) → IsPartForm (Part.Text low high) piece
+        → bytes.now ≢ piece ++ rest) }
 {
     let (text, rest) = text_at(bytes)?;
     if !is_text(low, high, text) {
@@ -100,7 +105,8 @@ fn skip_text(low: usize, high: usize, bytes: &[u8]) -> Option<&[u8]>
 
 /// What follows the key at the front.
 fn skip_key(bytes: &[u8]) -> Option<&[u8]>
-    ensures found { IfSome result (λ rest. (piece : List ℕ) × IsPartForm Part.Key piece × (bytes.now ≡ piece ++ rest.now)) }
+    ensures found { IfSome result (λ rest. (piece : List ℕ) × IsPartForm Part.Key piece
+        × (bytes.now ≡ piece ++ rest.now)) }
     ensures none { IfNone result ((piece rest : List ℕ) → IsPartForm Part.Key piece → bytes.now ≢ piece ++ rest) }
 {
     let (text, rest) = text_at(bytes)?;
@@ -109,7 +115,8 @@ fn skip_key(bytes: &[u8]) -> Option<&[u8]>
 
 /// What follows the token at the front.
 fn skip_token(bytes: &[u8]) -> Option<&[u8]>
-    ensures found { IfSome result (λ rest. (piece : List ℕ) × IsPartForm Part.Token piece × (bytes.now ≡ piece ++ rest.now)) }
+    ensures found { IfSome result (λ rest. (piece : List ℕ) × IsPartForm Part.Token piece
+        × (bytes.now ≡ piece ++ rest.now)) }
     ensures none { IfNone result ((piece rest : List ℕ) → IsPartForm Part.Token piece → bytes.now ≢ piece ++ rest) }
 {
     let (text, rest) = text_at(bytes)?;
@@ -122,7 +129,8 @@ fn skip_token(bytes: &[u8]) -> Option<&[u8]>
 
 /// What follows the rating at the front.
 fn skip_rating(bytes: &[u8]) -> Option<&[u8]>
-    ensures found { IfSome result (λ rest. (piece : List ℕ) × IsPartForm Part.Rating piece × (bytes.now ≡ piece ++ rest.now)) }
+    ensures found { IfSome result (λ rest. (piece : List ℕ) × IsPartForm Part.Rating piece
+        × (bytes.now ≡ piece ++ rest.now)) }
     ensures none { IfNone result ((piece rest : List ℕ) → IsPartForm Part.Rating piece → bytes.now ≢ piece ++ rest) }
 {
     let (text, rest) = text_at(bytes)?;
@@ -131,7 +139,8 @@ fn skip_rating(bytes: &[u8]) -> Option<&[u8]>
 
 /// What follows the special features at the front.
 fn skip_features(bytes: &[u8]) -> Option<&[u8]>
-    ensures found { IfSome result (λ rest. (piece : List ℕ) × IsPartForm Part.Features piece × (bytes.now ≡ piece ++ rest.now)) }
+    ensures found { IfSome result (λ rest. (piece : List ℕ) × IsPartForm Part.Features piece
+        × (bytes.now ≡ piece ++ rest.now)) }
     ensures none { IfNone result ((piece rest : List ℕ) → IsPartForm Part.Features piece → bytes.now ≢ piece ++ rest) }
 {
     let (text, rest) = text_at(bytes)?;
@@ -145,8 +154,10 @@ fn bytes_values(bytes: &[u8])
 
 /// What follows the bytes at the front, where there are so many at most.
 fn skip_bytes(most: usize, bytes: &[u8]) -> Option<&[u8]>
-    ensures found { IfSome result (λ rest. (piece : List ℕ) × IsPartForm (Part.Bytes most) piece × (bytes.now ≡ piece ++ rest.now)) }
-    ensures none { IfNone result ((piece rest : List ℕ) → IsPartForm (Part.Bytes most) piece → bytes.now ≢ piece ++ rest) }
+    ensures found { IfSome result (λ rest. (piece : List ℕ) × IsPartForm (Part.Bytes most) piece
+        × (bytes.now ≡ piece ++ rest.now)) }
+    ensures none { IfNone result ((piece rest : List ℕ) → IsPartForm (Part.Bytes most) piece
+        → bytes.now ≢ piece ++ rest) }
 {
     let (text, rest) = text_at(bytes)?;
     bytes_values(text);
@@ -155,7 +166,8 @@ fn skip_bytes(most: usize, bytes: &[u8]) -> Option<&[u8]>
 
 /// What follows the truth value at the front.
 fn skip_flag(bytes: &[u8]) -> Option<&[u8]>
-    ensures found { IfSome result (λ rest. (piece : List ℕ) × IsPartForm Part.Flag piece × (bytes.now ≡ piece ++ rest.now)) }
+    ensures found { IfSome result (λ rest. (piece : List ℕ) × IsPartForm Part.Flag piece
+        × (bytes.now ≡ piece ++ rest.now)) }
     ensures none { IfNone result ((piece rest : List ℕ) → IsPartForm Part.Flag piece → bytes.now ≢ piece ++ rest) }
 {
     let (first, rest) = bytes.split_first()?;
@@ -164,7 +176,8 @@ fn skip_flag(bytes: &[u8]) -> Option<&[u8]>
 
 /// What follows the truth value at the front, where it is false.
 fn skip_unset(bytes: &[u8]) -> Option<&[u8]>
-    ensures found { IfSome result (λ rest. (piece : List ℕ) × IsPartForm Part.Unset piece × (bytes.now ≡ piece ++ rest.now)) }
+    ensures found { IfSome result (λ rest. (piece : List ℕ) × IsPartForm Part.Unset piece
+        × (bytes.now ≡ piece ++ rest.now)) }
     ensures none { IfNone result ((piece rest : List ℕ) → IsPartForm Part.Unset piece → bytes.now ≢ piece ++ rest) }
 {
     let (first, rest) = bytes.split_first()?;
@@ -173,7 +186,8 @@ fn skip_unset(bytes: &[u8]) -> Option<&[u8]>
 
 /// What follows the moment at the front.
 fn skip_moment(bytes: &[u8]) -> Option<&[u8]>
-    ensures found { IfSome result (λ rest. (piece : List ℕ) × IsPartForm Part.Moment piece × (bytes.now ≡ piece ++ rest.now)) }
+    ensures found { IfSome result (λ rest. (piece : List ℕ) × IsPartForm Part.Moment piece
+        × (bytes.now ≡ piece ++ rest.now)) }
     ensures none { IfNone result ((piece rest : List ℕ) → IsPartForm Part.Moment piece → bytes.now ≢ piece ++ rest) }
 {
     if bytes.len() < 19 {
@@ -191,8 +205,10 @@ fn skip_moment(bytes: &[u8]) -> Option<&[u8]>
 
 /// What follows so many numbers of rows.
 fn skip_each(count: u32, bytes: &[u8]) -> Option<&[u8]>
-    ensures found { IfSome result (λ rest. (ns : List ℕ) × (length ns ≡ count) × AreNumbers ns × (bytes.now ≡ form_of_each ns ++ rest.now)) }
-    ensures none { IfNone result ((ns rest : List ℕ) → length ns ≡ count → AreNumbers ns → bytes.now ≢ form_of_each ns ++ rest) }
+    ensures found { IfSome result (λ rest. (ns : List ℕ) × (length ns ≡ count) × AreNumbers ns
+        × (bytes.now ≡ form_of_each ns ++ rest.now)) }
+    ensures none { IfNone result ((ns rest : List ℕ) → length ns ≡ count → AreNumbers ns
+        → bytes.now ≢ form_of_each ns ++ rest) }
 {
     let mut rest = bytes;
     for _ in 0..count {
@@ -203,8 +219,10 @@ fn skip_each(count: u32, bytes: &[u8]) -> Option<&[u8]>
 
 /// What follows the numbers of rows at the front, where there are so many at most.
 fn skip_numbers(most: u32, bytes: &[u8]) -> Option<&[u8]>
-    ensures found { IfSome result (λ rest. (piece : List ℕ) × IsPartForm (Part.Numbers most) piece × (bytes.now ≡ piece ++ rest.now)) }
-    ensures none { IfNone result ((piece rest : List ℕ) → IsPartForm (Part.Numbers most) piece → bytes.now ≢ piece ++ rest) }
+    ensures found { IfSome result (λ rest. (piece : List ℕ) × IsPartForm (Part.Numbers most) piece
+        × (bytes.now ≡ piece ++ rest.now)) }
+    ensures none { IfNone result ((piece rest : List ℕ) → IsPartForm (Part.Numbers most) piece
+        → bytes.now ≢ piece ++ rest) }
 {
     let (count, rest) = number_at(bytes)?;
     if most < count {
@@ -216,8 +234,10 @@ fn skip_numbers(most: u32, bytes: &[u8]) -> Option<&[u8]>
 
 /// What follows the number at the front, where there is one and it is within these bounds, or where there is none.
 fn skip_optional(low: u32, high: u32, bytes: &[u8]) -> Option<&[u8]>
-    ensures found { IfSome result (λ rest. (piece : List ℕ) × IsPartForm (Part.Optional low high) piece × (bytes.now ≡ piece ++ rest.now)) }
-    ensures none { IfNone result ((piece rest : List ℕ) → IsPartForm (Part.Optional low high) piece → bytes.now ≢ piece ++ rest) }
+    ensures found { IfSome result (λ rest. (piece : List ℕ) × IsPartForm (Part.Optional low high) piece
+        × (bytes.now ≡ piece ++ rest.now)) }
+    ensures none { IfNone result ((piece rest : List ℕ) → IsPartForm (Part.Optional low high) piece
+        → bytes.now ≢ piece ++ rest) }
 {
     let (count, rest) = number_at(bytes)?;
     match count {

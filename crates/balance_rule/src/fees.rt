@@ -17,7 +17,8 @@ fn is_by(moment: Moment, at: Moment) -> bool
     moment.seconds() <= at.seconds()
 }
 
-/// The days by which a rental was returned after its period of days, by the numbers of the days and not by hours. None for an open rental.
+/// The days by which a rental was returned after its period of days, by the numbers of the days and not by hours.
+/// None for an open rental.
 pub fn late_days(rented: Moment, returned: Option<Moment>, period: u8) -> u32
     ensures value { result ≡ late_days rented returned period }
     ensures bound { result ≤ 2_932_896 }
@@ -58,8 +59,8 @@ fn code_fee(rental: &RentalTerms) -> u32
     u32::from(rental.rate.get()) + 100 * late_days(rental.rented, rental.returned, rental.period)
 }
 
-/// What it costs by the comment: its rate, a dollar for each day past its period, and its replacement cost once where these are more than twice its
-/// period.
+/// What it costs by the comment: its rate, a dollar for each day past its period, and its replacement cost once where
+/// these are more than twice its period.
 fn comment_fee(rental: &RentalTerms, at: Moment) -> u32
     ensures value { result ≡ comment_fee_of at rental.now }
     ensures bound { result ≤ 293_399_598 }
@@ -115,13 +116,14 @@ fn paid(payments: &[Paid], at: Moment) -> u64
     total
 }
 
-/// The manual's `get_customer_balance` by either rule: what the rentals up to a moment cost, less the payments up to it. It is below zero where more was paid.
+/// The manual's `get_customer_balance` by either rule: what the rentals up to a moment cost, less the payments up to
+/// it. It is below zero where more was paid.
 pub fn balance(rentals: &[RentalTerms], payments: &[Paid], at: Moment, rule: Rule) -> Cents
     requires rentals { length rentals.now ≤ 1_000_000 }
     requires payments { length payments.now ≤ 1_000_000 }
     ensures sum { result ≡ owed_at (seen_rule rule) rentals.now payments.now at }
-    ensures balance { (shop : Shop) (customer : ℕ) → AreTermsOf shop customer rentals.now → ArePaidBy shop customer payments.now
-        → result ≡ balance (seen_rule rule) shop customer at }
+    ensures balance { (shop : Shop) (customer : ℕ) → AreTermsOf shop customer rentals.now
+        → ArePaidBy shop customer payments.now → result ≡ balance (seen_rule rule) shop customer at }
 {
     let owed = fees(rentals, at, rule) as i64;
     Cents::new(owed - paid(payments, at) as i64)

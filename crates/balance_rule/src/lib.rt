@@ -1,4 +1,5 @@
-//! The manual's rules on money, over the rows that are handed in: late days, balances and rewards. Money is in whole cents.
+//! The manual's rules on money, over the rows that are handed in: late days, balances and rewards. Money is in whole
+//! cents.
 #![tactic(auto)]
 
 mod fees;

@@ -26,8 +26,9 @@ fn month_days(year: u16, month: u8) -> (i32, i32)
     )
 }
 
-/// The numbers of the first and the last day of the month before the moment's, where 1970-01-01 is 0. Nothing in January 1970, before which there
-/// are no days. The manual takes the month before today; that it goes by a moment is our own.
+/// The numbers of the first and the last day of the month before the moment's, where 1970-01-01 is 0. Nothing in
+/// January 1970, before which there are no days. The manual takes the month before today; that it goes by a moment is
+/// our own.
 pub fn last_month(at: Moment) -> Option<(i32, i32)>
     ensures { result ≡ option_map seen_days (month_before at) }
 {
@@ -77,13 +78,13 @@ fn cents_on(payments: &[Paid], month: (i32, i32)) -> u64
     total
 }
 
-/// Whether the payments on the days of a month, from its first to its last, are more than `purchases` and are of more than `cents` cents.
-/// That both have to be passed, and not reached, is our own.
+/// Whether the payments on the days of a month, from its first to its last, are more than `purchases` and are of more
+/// than `cents` cents. That both have to be passed, and not reached, is our own.
 pub fn rewarded(payments: &[Paid], month: (i32, i32), purchases: u32, cents: u32) -> bool
     requires { length payments.now ≤ 1_000_000 }
     ensures sum { result ≡ passes month purchases cents payments.now }
-    ensures customer { (shop : Shop) (customer : ℕ) (days : ℕ × ℕ) → month ≡ seen_days days → ArePaidBy shop customer payments.now
-        → result ≡ is_rewarded days shop purchases cents customer }
+    ensures customer { (shop : Shop) (customer : ℕ) (days : ℕ × ℕ) → month ≡ seen_days days
+        → ArePaidBy shop customer payments.now → result ≡ is_rewarded days shop purchases cents customer }
 {
     count_on(payments, month) > purchases && cents_on(payments, month) > u64::from(cents)
 }

@@ -20,9 +20,11 @@ use sql_rows::StoreFault;
 use sqlite::{Alter, Transaction};
 use std::alloc::Global;
 
-/// Whether the tables stand for sound books, by the widest limits that a chain can have, and how many copies those books have where. Tables that stand for no
-/// books aren't sound and count nothing: where a row is none of its table's, a number of a shared row or of a line is missing, a key is there twice, a line is
-/// of no consignment, a rental has no terms or terms have no rental, or a table of counts says anything but what the books have. It takes time n log n in the rows.
+/// Whether the tables stand for sound books, by the widest limits that a chain can have, and how many copies those
+/// books have where. Tables that stand for no books aren't sound and count nothing: where a row is none of its
+/// table's, a number of a shared row or of a line is missing, a key is there twice, a line is of no consignment, a
+/// rental has no terms or terms have no rental, or a table of counts says anything but what the books have. It takes
+/// time n log n in the rows.
 pub fn check_books(alloc: Global, tables: &TableRows) -> Result<Audit, NoMemory>
     ensures { IfOk result (IsAuditOf tables.now) }
 {
@@ -35,15 +37,16 @@ pub fn check_books(alloc: Global, tables: &TableRows) -> Result<Audit, NoMemory>
     audit_ordered(alloc, &rows)
 }
 
-/// The audit of a shop's tables, whatever they hold, which reads each once and changes none (`same`), also where the transaction has written. `shop` says what
-/// `audit` does of the books for which the tables stand.
+/// The audit of a shop's tables, whatever they hold, which reads each once and changes none (`same`), also where the
+/// transaction has written. `shop` says what `audit` does of the books for which the tables stand.
 pub fn audit_books<S: Alter>(
     alloc: Global,
     tx: &mut Transaction<'_, S>,
 ) -> Result<Audit, StoreFault>
     ensures inside { StaysInside S.Store tx.old.conn tx.new.conn result }
     ensures audit { HasCleanDisk (state S.Store tx.new.conn.now) → IsShop (state S.Store tx.old.conn.now)
-        → IfOk result (λ audit. (tables : TableRows) → HaveTables (state S.Store tx.old.conn.now).now.trees tables → IsAuditOf tables audit) }
+        → IfOk result (λ audit. (tables : TableRows) → HaveTables (state S.Store tx.old.conn.now).now.trees tables
+        → IsAuditOf tables audit) }
     ensures same { HasCleanDisk (state S.Store tx.new.conn.now) → IsShop (state S.Store tx.old.conn.now)
         → OnOk result ((state S.Store tx.new.conn.now).now ≡ (state S.Store tx.old.conn.now).now) }
     ensures shop { HasCleanDisk (state S.Store tx.new.conn.now) → IsShop (state S.Store tx.old.conn.now)

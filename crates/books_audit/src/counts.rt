@@ -220,7 +220,9 @@ fn tally(alloc: Global, rows: &OrderedBooks) -> Result<Tallies, NoMemory>
 
 /// Adds a row of the table of counts of rows.
 fn add(all: &mut Vec<Triple>, caller: u64, kind: u64, last: u64) -> Result<(), NoMemory>
-    ensures { OnOk result (map triple_columns all.new.items ≡ map triple_columns all.old.items ++ counter_columns (record { caller = caller; kind = kind; last = last }) ∷ []) }
+    ensures { OnOk result (map triple_columns all.new.items
+        ≡ map triple_columns all.old.items ++ counter_columns (record { caller = caller; kind = kind; last = last })
+        ∷ []) }
 {
     let row = Triple {
         first: caller,
@@ -242,7 +244,8 @@ fn add_branch(
 ) -> Result<(), NoMemory>
     requires tallies { AreTallies rows.now tallies.now }
     requires branch { branch ≤ length rows.now.branches.items }
-    ensures { OnOk result (map triple_columns all.new.items ≡ map triple_columns all.old.items ++ map counter_columns (counts_of_branch rows.now branch)) }
+    ensures { OnOk result (map triple_columns all.new.items
+        ≡ map triple_columns all.old.items ++ map counter_columns (counts_of_branch rows.now branch)) }
 {
     let caller = branch as u64;
     add(all, caller, 0, tallies.customers[branch])?;
@@ -272,7 +275,8 @@ fn is_of(terms: &TermsRow, rental: &RentalRow) -> bool
     terms.branch.get() == rental.branch.get() && terms.number.get() == rental.number.get()
 }
 
-/// Whether each rental has one row of terms, under its branch and number, and there are no others. Both are in the order of their keys.
+/// Whether each rental has one row of terms, under its branch and number, and there are no others. Both are in the
+/// order of their keys.
 fn are_termed(terms: &[TermsRow], rentals: &[RentalRow]) -> bool
     ensures { result ≡ are_termed terms.now rentals.now }
 {

@@ -63,14 +63,16 @@ pub fn check_custody(alloc: Global, copies: &[Row], lines: &[Row]) -> Result<Aud
     audit_rows(alloc, copies.as_slice(), lines.as_slice())
 }
 
-/// Whether each mark of a copy or a line is made, has one place and goes with one film, and how many there are, whatever the two tables hold.
+/// Whether each mark of a copy or a line is made, has one place and goes with one film, and how many there are,
+/// whatever the two tables hold.
 pub fn audit_custody<S: Alter>(
     alloc: Global,
     tx: &mut Transaction<'_, S>,
 ) -> Result<Audit, StoreFault>
     ensures inside { StaysInside S.Store tx.old.conn tx.new.conn result }
     ensures audit { HasCleanDisk (state S.Store tx.new.conn.now) → IsShop (state S.Store tx.old.conn.now)
-        → IfOk result (IsCustodyAudit (map (columns_of 6) ((state S.Store tx.old.conn.now).now.trees 25)) (map (columns_of 8) ((state S.Store tx.old.conn.now).now.trees 37))) }
+        → IfOk result (IsCustodyAudit (map (columns_of 6) ((state S.Store tx.old.conn.now).now.trees 25))
+        (map (columns_of 8) ((state S.Store tx.old.conn.now).now.trees 37))) }
 {
     let copies = read_whole(tx, COPIES)?;
     let lines = read_whole(tx, LINES)?;

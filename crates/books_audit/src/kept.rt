@@ -24,7 +24,8 @@ pub(crate) struct Keys {
 
 /// The keys of caller 0, which is head office, and those of the others.
 fn split_callers(alloc: Global, rows: Vec<CallerRow>) -> Result<Keys, NoMemory>
-    ensures same { IfOk result (λ keys. IsPermutation rows.items (map office_caller keys.office.items ++ map branch_caller keys.kept.items)) }
+    ensures same { IfOk result (λ keys. IsPermutation rows.items
+        (map office_caller keys.office.items ++ map branch_caller keys.kept.items)) }
     ensures branches { IfOk result (λ keys. AllByRecursion (λ (x : KeptRow). IsNumber x.branch) keys.kept.items) }
 {
     let mut office = Vec::new(alloc);
@@ -71,7 +72,9 @@ pub(crate) fn read_kept(alloc: Global, tables: &TableRows) -> Result<Option<Keys
 
 /// The token of head office, which stands in one row.
 pub(crate) fn read_chain(alloc: Global, tables: &TableRows) -> Result<Option<Token>, NoMemory>
-    ensures read { IfOk result (λ o. IfSome o (λ token. RowsRead IsChainRow (HaveKinds chain_kinds) tables.now.chain.items (record { office_token = token } ∷ []))) }
+    ensures read { IfOk result (λ o. IfSome o
+        (λ token. RowsRead IsChainRow (HaveKinds chain_kinds) tables.now.chain.items
+        (record { office_token = token } ∷ []))) }
     ensures none { IfOk result (λ o. IfNone o (¬ ChainCanBeRead tables.now)) }
 {
     let Some(rows) = read_rows::<ChainRow>(alloc, tables.chain.as_slice())? else {
@@ -88,7 +91,8 @@ pub(crate) fn read_chain(alloc: Global, tables: &TableRows) -> Result<Option<Tok
 
 /// What is kept of the one row that has the rule of balances.
 pub(crate) fn read_rule(alloc: Global, tables: &TableRows) -> Result<Option<RuleRow>, NoMemory>
-    ensures read { IfOk result (λ o. IfSome o (λ row. RowsRead IsRuleRow (HaveKinds rule_kinds) tables.now.rule.items (row ∷ []))) }
+    ensures read { IfOk result (λ o. IfSome o
+        (λ row. RowsRead IsRuleRow (HaveKinds rule_kinds) tables.now.rule.items (row ∷ []))) }
     ensures none { IfOk result (λ o. IfNone o (¬ RuleCanBeRead tables.now)) }
 {
     let Some(rows) = read_rows::<RuleRow>(alloc, tables.rule.as_slice())? else {

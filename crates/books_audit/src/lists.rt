@@ -13,7 +13,8 @@ use shop_types::NoMemory;
 use sqlite::Row;
 use std::alloc::Global;
 
-/// What is kept of a table's rows in the order of their keys, or nothing where a row is none of the table's or two have one key.
+/// What is kept of a table's rows in the order of their keys, or nothing where a row is none of the table's or two
+/// have one key.
 pub(crate) fn read_keyed<T: Listed + Keyed>(
     alloc: Global,
     rows: &[Row],
@@ -83,12 +84,14 @@ fn keep_all<T: Shared>(alloc: Global, rows: Vec<T>) -> Result<Vec<T::Kept>, NoMe
     Ok(all)
 }
 
-/// What stands in the places of a table's rows, or nothing where a row is none of the table's or they aren't numbered 1, 2, ..
+/// What stands in the places of a table's rows, or nothing where a row is none of the table's or they aren't numbered
+/// 1, 2, ..
 pub(crate) fn read_shared<T: Shared>(
     alloc: Global,
     rows: &[Row],
 ) -> Result<Option<Vec<T::Kept>>, NoMemory>
-    ensures found { IfOk result (λ o. IfSome o (λ all. PlacesRead T.Listed.is_row T.Listed.is_one T.Shared.place T.Shared.keep rows.now all.items)) }
+    ensures found { IfOk result (λ o. IfSome o
+        (λ all. PlacesRead T.Listed.is_row T.Listed.is_one T.Shared.place T.Shared.keep rows.now all.items)) }
     ensures none { IfOk result (λ o. IfNone o (¬ AreInPlaces T.Listed.is_row T.Listed.is_one T.Shared.place rows.now)) }
 {
     if rows.len() > 4_294_967_295 {

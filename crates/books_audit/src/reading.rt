@@ -9,7 +9,8 @@ use audit_rows::{OrderedBooks, are_joined};
 use shop_types::NoMemory;
 use std::alloc::Global;
 
-/// The rows of all tables but those of counts, in order, or nothing where a row is none of its table's, numbers have gaps or keys are there twice.
+/// The rows of all tables but those of counts, in order, or nothing where a row is none of its table's, numbers have
+/// gaps or keys are there twice.
 pub(crate) fn read_ordered(
     alloc: Global,
     tables: &TableRows,

@@ -56,8 +56,10 @@ pub(crate) fn read_whole<S: Alter>(
     text: &str,
 ) -> Result<Vec<Row>, StoreFault>
     ensures inside { StaysInside S.Store tx.old.conn tx.new.conn result }
-    ensures rows { HasCleanDisk (state S.Store tx.new.conn.now) → IsShop (state S.Store tx.old.conn.now) → (t : Table) → SelectsWhole t text.now
-        → IfOk result (λ rows. AreRowsOf t (state S.Store tx.old.conn.now).now.trees rows.items × ((state S.Store tx.new.conn.now).now ≡ (state S.Store tx.old.conn.now).now)) }
+    ensures rows { HasCleanDisk (state S.Store tx.new.conn.now) → IsShop (state S.Store tx.old.conn.now) → (t : Table)
+        → SelectsWhole t text.now
+        → IfOk result (λ rows. AreRowsOf t (state S.Store tx.old.conn.now).now.trees rows.items
+        × ((state S.Store tx.new.conn.now).now ≡ (state S.Store tx.old.conn.now).now)) }
 {
     query(tx, text, &[])
 }
@@ -69,8 +71,10 @@ fn read_each<S: Alter>(
     texts: &[&str],
 ) -> Result<Vec<Vec<Row>>, StoreFault>
     ensures inside { StaysWithin S.Store tx.old.conn tx.new.conn result }
-    ensures rows { HasCleanDisk (state S.Store tx.new.conn.now) → IsShop (state S.Store tx.old.conn.now) → (tables : List Table) → SelectEach tables (map (λ t. t.now) texts.now)
-        → IfOk result (λ all. HaveEach tables (state S.Store tx.old.conn.now).now.trees (map (λ rows. rows.items) all.items)
+    ensures rows { HasCleanDisk (state S.Store tx.new.conn.now) → IsShop (state S.Store tx.old.conn.now)
+        → (tables : List Table) → SelectEach tables (map (λ t. t.now) texts.now)
+        → IfOk result (λ all. HaveEach tables (state S.Store tx.old.conn.now).now.trees
+        (map (λ rows. rows.items) all.items)
         × ((state S.Store tx.new.conn.now).now ≡ (state S.Store tx.old.conn.now).now)) }
 {
     let mut all = Vec::new(alloc);
@@ -83,7 +87,9 @@ fn read_each<S: Alter>(
 
 /// The rows of the first table that is left, or none where none is.
 fn next_rows(alloc: Global, all: &mut Vec<Vec<Row>>) -> Vec<Row>
-    ensures { (t : Table) (ts : List Table) (trees : Trees) → HaveEach (t ∷ ts) trees (map (λ rows. rows.items) all.old.items) → AreRowsOf t trees result.items × HaveEach ts trees (map (λ rows. rows.items) all.new.items) }
+    ensures { (t : Table) (ts : List Table) (trees : Trees)
+        → HaveEach (t ∷ ts) trees (map (λ rows. rows.items) all.old.items)
+        → AreRowsOf t trees result.items × HaveEach ts trees (map (λ rows. rows.items) all.new.items) }
 {
     if all.is_empty() {
         return Vec::new(alloc);
@@ -93,7 +99,8 @@ fn next_rows(alloc: Global, all: &mut Vec<Vec<Row>>) -> Vec<Row>
 
 /// The rows of the tables by their names.
 fn named(alloc: Global, chain: Vec<Row>, mut others: Vec<Vec<Row>>) -> TableRows
-    ensures { (trees : Trees) → AreRowsOf chain_table trees chain.items → HaveEach (drop 1 shop_schema.tables) trees (map (λ rows. rows.items) others.items) → HaveTables trees result }
+    ensures { (trees : Trees) → AreRowsOf chain_table trees chain.items
+        → HaveEach (drop 1 shop_schema.tables) trees (map (λ rows. rows.items) others.items) → HaveTables trees result }
 {
     TableRows {
         chain,
@@ -129,7 +136,8 @@ pub(crate) fn read_tables<S: Alter>(
 ) -> Result<TableRows, StoreFault>
     ensures inside { StaysInside S.Store tx.old.conn tx.new.conn result }
     ensures rows { HasCleanDisk (state S.Store tx.new.conn.now) → IsShop (state S.Store tx.old.conn.now)
-        → IfOk result (λ tables. HaveTables (state S.Store tx.old.conn.now).now.trees tables × ((state S.Store tx.new.conn.now).now ≡ (state S.Store tx.old.conn.now).now)) }
+        → IfOk result (λ tables. HaveTables (state S.Store tx.old.conn.now).now.trees tables
+        × ((state S.Store tx.new.conn.now).now ≡ (state S.Store tx.old.conn.now).now)) }
 {
     let chain = read_whole(tx, CHAIN)?;
     let others = read_each(alloc, tx, &OTHERS)?;

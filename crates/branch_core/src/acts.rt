@@ -1,4 +1,5 @@
-//! The first refusal of a command by what it does, where its key is new, by what was found of the customer, the copy or the rental that it names.
+//! The first refusal of a command by what it does, where its key is new, by what was found of the customer, the copy
+//! or the rental that it names.
 
 ghost use Rattle.std.specs.Prelude.{◌≡◌, ℕ, not, Some, IfSome, option_map};
 ghost use Rattle.shop_model.specs.Calendar as calendar;
@@ -15,7 +16,8 @@ use shop_types::{CustomerNo, Refusal, RentalNo};
 
 /// Of a new customer in a city that may not be there.
 pub fn city_refusal(has_city: bool) -> Option<Refusal>
-    ensures { (rules : model.Rules) (b : ℕ) (catalogue : Catalogue) (shop : Shop) (moment : calendar.Moment) (person : model.Person)
+    ensures { (rules : model.Rules) (b : ℕ) (catalogue : Catalogue) (shop : Shop) (moment : calendar.Moment)
+        (person : model.Person)
         → has_city ≡ not (lacks catalogue.cities person.city)
         → verdict_by result ≡ Some (first (act_refusals rules b catalogue shop moment (model.AddCustomer person))) }
 {
@@ -28,7 +30,8 @@ pub fn city_refusal(has_city: bool) -> Option<Refusal>
 
 /// Of setting whether a customer may rent.
 pub fn active_refusal(is_active: Option<bool>, active: bool) -> Option<Refusal>
-    ensures { (rules : model.Rules) (b : ℕ) (catalogue : Catalogue) (shop : Shop) (moment : calendar.Moment) (c : ℕ) → is_active ≡ active_at c shop
+    ensures { (rules : model.Rules) (b : ℕ) (catalogue : Catalogue) (shop : Shop) (moment : calendar.Moment) (c : ℕ)
+        → is_active ≡ active_at c shop
         → verdict_by result ≡ Some (first (act_refusals rules b catalogue shop moment (model.SetActive c active))) }
 {
     match is_active {
@@ -50,7 +53,8 @@ pub fn rent_refusal(
     has_same: bool,
 ) -> Option<Refusal>
     ensures { (rules : model.Rules) (b : ℕ) (catalogue : Catalogue) (shop : Shop) (moment : calendar.Moment) (c x : ℕ)
-        → is_active ≡ active_at c shop → option_map seen_copy copy ≡ copy_at catalogue shop x → has_same ≡ has_rental moment c x shop
+        → is_active ≡ active_at c shop → option_map seen_copy copy ≡ copy_at catalogue shop x
+        → has_same ≡ has_rental moment c x shop
         → verdict_by result ≡ Some (first (act_refusals rules b catalogue shop moment (model.Rent c x))) }
 {
     match is_active {
@@ -105,9 +109,11 @@ pub fn payment_refusal(
     is_active: Option<bool>,
     rental: Option<RentalFound>,
 ) -> Option<Refusal>
-    ensures { (rules : model.Rules) (b : ℕ) (catalogue : Catalogue) (shop : Shop) (moment : calendar.Moment) (amount : ℕ) → is_active ≡ active_at customer shop
-        → IfSome named (λ r. option_map seen_rental rental ≡ rental_at shop r)
-        → verdict_by result ≡ Some (first (act_refusals rules b catalogue shop moment (model.Pay customer named amount))) }
+    ensures { (rules : model.Rules) (b : ℕ) (catalogue : Catalogue) (shop : Shop) (moment : calendar.Moment)
+        (amount : ℕ)
+        → is_active ≡ active_at customer shop → IfSome named (λ r. option_map seen_rental rental ≡ rental_at shop r)
+        → verdict_by result ≡ Some
+        (first (act_refusals rules b catalogue shop moment (model.Pay customer named amount))) }
 {
     if is_active.is_none() {
         return Some(Refusal::NoCustomer);

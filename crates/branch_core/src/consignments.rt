@@ -1,4 +1,5 @@
-//! The first refusal of a command that sends copies to another branch, or receives what one sent, by what was found of the copies or of the consignment.
+//! The first refusal of a command that sends copies to another branch, or receives what one sent, by what was found
+//! of the copies or of the consignment.
 
 ghost use Rattle.std.specs.Prelude.{◌≡◌, ◌≤◌, ℕ, ◌==◌, ◌||◌, nat_lt, not, Some, length, option_map};
 ghost use Rattle.std.specs.List.{list_any};
@@ -23,7 +24,8 @@ pub fn dispatch_refusal(
 ) -> Option<Refusal>
     ensures { (rules : model.Rules) (catalogue : Catalogue) (shop : Shop) (moment : calendar.Moment)
         → has_branch ≡ not (lacks catalogue.branches to) → ListedAgrees shop copies.now listed.now
-        → verdict_by result ≡ Some (first (act_refusals rules branch catalogue shop moment (model.Dispatch to copies.now))) }
+        → verdict_by result ≡ Some
+        (first (act_refusals rules branch catalogue shop moment (model.Dispatch to copies.now))) }
 {
     if listed.has_unknown {
         Some(Refusal::NoCopy)
@@ -69,7 +71,8 @@ fn has_number(copies: &[CopyNo], number: CopyNo) -> bool
     copies.iter().any(|copy| *copy == number)
 }
 
-/// Whether one of the numbers is none that a branch with so many copies gave. Its copies are numbered without a gap, so none need be read for it.
+/// Whether one of the numbers is none that a branch with so many copies gave. Its copies are numbered without a gap,
+/// so none need be read for it.
 pub fn has_unknown_copy(copies: &[CopyNo], count: u32) -> bool
     ensures { (shop : Shop) → count ≡ length shop.copies → result ≡ list_any (lacks shop.copies) copies.now }
 {
@@ -83,9 +86,11 @@ pub fn has_unknown_copy(copies: &[CopyNo], count: u32) -> bool
 
 /// Of receiving the consignment without the missing lines.
 pub fn receive_refusal(arrival: &Option<ArrivalFound>, missing: &[LineNo]) -> Option<Refusal>
-    ensures { (rules : model.Rules) (b : ℕ) (catalogue : Catalogue) (shop : Shop) (moment : calendar.Moment) (source number : ℕ)
+    ensures { (rules : model.Rules) (b : ℕ) (catalogue : Catalogue) (shop : Shop) (moment : calendar.Moment)
+        (source number : ℕ)
         → option_map seen_arrival arrival.now ≡ arrival_at source number shop
-        → verdict_by result ≡ Some (first (act_refusals rules b catalogue shop moment (model.Receive source number missing.now))) }
+        → verdict_by result ≡ Some
+        (first (act_refusals rules b catalogue shop moment (model.Receive source number missing.now))) }
 {
     match arrival {
         None => Some(Refusal::NoArrival),
@@ -118,7 +123,8 @@ fn are_lines(numbers: &[LineNo], lines: usize) -> bool
 
 /// How many copies come with the consignment: none where there is none, it is received, or the missing lines are bad.
 pub fn new_from(arrival: &Option<ArrivalFound>, missing: &[LineNo]) -> u32
-    ensures value { (rules : model.Rules) (shop : Shop) (source number : ℕ) → option_map seen_arrival arrival.now ≡ arrival_at source number shop
+    ensures value { (rules : model.Rules) (shop : Shop) (source number : ℕ)
+        → option_map seen_arrival arrival.now ≡ arrival_at source number shop
         → result ≡ new_copies rules shop (model.Receive source number missing.now) }
     ensures bound { result ≤ 100 }
 {
@@ -130,7 +136,8 @@ pub fn new_from(arrival: &Option<ArrivalFound>, missing: &[LineNo]) -> u32
 
 /// The same of one that is there.
 fn coming(it: &ArrivalFound, missing: &[LineNo]) -> u32
-    ensures value { (rules : model.Rules) (shop : Shop) (source number : ℕ) → Some (seen_arrival it.now) ≡ arrival_at source number shop
+    ensures value { (rules : model.Rules) (shop : Shop) (source number : ℕ)
+        → Some (seen_arrival it.now) ≡ arrival_at source number shop
         → result ≡ new_copies rules shop (model.Receive source number missing.now) }
     ensures bound { result ≤ 100 }
 {

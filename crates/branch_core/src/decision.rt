@@ -28,8 +28,9 @@ pub fn decide<'a>(
     found: &Found<'a>,
     limits: Limits,
 ) -> Result<Change<'a>, Refusal>
-    ensures { (rules : model.Rules) (catalogue : Catalogue) (shop : Shop) → rules.commands ≡ limits.commands → rules.copies ≡ limits.copies
-        → Agrees rules catalogue shop (seen_command command.now) found.now → IsVerdict (verdict rules branch catalogue shop (seen_command command.now)) result }
+    ensures { (rules : model.Rules) (catalogue : Catalogue) (shop : Shop) → rules.commands ≡ limits.commands
+        → rules.copies ≡ limits.copies → Agrees rules catalogue shop (seen_command command.now) found.now
+        → IsVerdict (verdict rules branch catalogue shop (seen_command command.now)) result }
 {
     match found.kept {
         Some(kept) => {
@@ -53,8 +54,8 @@ fn first_refusal(
     found: &Found<'_>,
     limits: Limits,
 ) -> Option<Refusal>
-    ensures { (rules : model.Rules) (catalogue : Catalogue) (shop : Shop) → rules.commands ≡ limits.commands → rules.copies ≡ limits.copies
-        → Agrees rules catalogue shop (seen_command command.now) found.now
+    ensures { (rules : model.Rules) (catalogue : Catalogue) (shop : Shop) → rules.commands ≡ limits.commands
+        → rules.copies ≡ limits.copies → Agrees rules catalogue shop (seen_command command.now) found.now
         → verdict_by result ≡ Some (first (refusals rules branch catalogue shop (seen_command command.now))) }
 {
     if is_full(&command.act, found, limits) {
@@ -70,8 +71,8 @@ fn first_refusal(
 
 /// Whether the branch has as many kept rows as it may, or would have more copies.
 fn is_full(act: &Act, found: &Found<'_>, limits: Limits) -> bool
-    ensures { (rules : model.Rules) (catalogue : Catalogue) (shop : Shop) (command : model.Command) → command.act ≡ seen_act act.now
-        → rules.commands ≡ limits.commands → rules.copies ≡ limits.copies
+    ensures { (rules : model.Rules) (catalogue : Catalogue) (shop : Shop) (command : model.Command)
+        → command.act ≡ seen_act act.now → rules.commands ≡ limits.commands → rules.copies ≡ limits.copies
         → Agrees rules catalogue shop command found.now → result ≡ is_full rules shop command.act }
 {
     limits.commands() <= found.keys || has_no_room(act, &found.rows, limits)
@@ -81,7 +82,8 @@ fn is_full(act: &Act, found: &Found<'_>, limits: Limits) -> bool
 fn has_no_room(act: &Act, rows: &RowsFound, limits: Limits) -> bool
     ensures { (rules : model.Rules) (catalogue : Catalogue) (shop : Shop) (moment : calendar.Moment)
         → rules.copies ≡ limits.copies → ActAgrees rules catalogue shop moment (seen_act act.now) rows.now
-        → result ≡ (nat_lt 0 (new_copies rules shop (seen_act act.now)) && nat_lt rules.copies (length shop.copies + new_copies rules shop (seen_act act.now))) }
+        → result ≡ (nat_lt 0 (new_copies rules shop (seen_act act.now)) && nat_lt rules.copies
+        (length shop.copies + new_copies rules shop (seen_act act.now))) }
 {
     let new = new_copies(act, rows);
     0 < new && u64::from(limits.copies()) < u64::from(rows.copies) + u64::from(new)
@@ -90,7 +92,8 @@ fn has_no_room(act: &Act, rows: &RowsFound, limits: Limits) -> bool
 /// How many copies the act makes.
 fn new_copies(act: &Act, rows: &RowsFound) -> u32
     ensures { (rules : model.Rules) (catalogue : Catalogue) (shop : Shop) (moment : calendar.Moment)
-        → ActAgrees rules catalogue shop moment (seen_act act.now) rows.now → result ≡ new_copies rules shop (seen_act act.now) }
+        → ActAgrees rules catalogue shop moment (seen_act act.now) rows.now
+        → result ≡ new_copies rules shop (seen_act act.now) }
 {
     match act {
         Act::Import { .. } => stock::new_copies(&rows.stock),

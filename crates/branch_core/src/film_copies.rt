@@ -27,7 +27,8 @@ fn is_listed(copy: &FilmCopy, is_in: bool) -> bool
 
 /// The copies that are here, and in stock or not, by number.
 fn listed(alloc: Global, copies: &[FilmCopy], is_in: bool) -> Result<Vec<CopyNo>, NoMemory>
-    ensures { IfOk result (λ numbers. numbers.items ≡ map (λ it. it.0) (filter (is_listed is_in) (map seen_film_copy copies.now))) }
+    ensures { IfOk result (λ numbers. numbers.items
+        ≡ map (λ it. it.0) (filter (is_listed is_in) (map seen_film_copy copies.now))) }
 {
     let mut numbers = Vec::new(alloc);
     for copy in copies {
@@ -40,16 +41,19 @@ fn listed(alloc: Global, copies: &[FilmCopy], is_in: bool) -> Result<Vec<CopyNo>
     Ok(numbers)
 }
 
-/// The copies that are here and in stock, by number: the manual's `film_in_stock`; that they have to be here is our own rule.
+/// The copies that are here and in stock, by number: the manual's `film_in_stock`; that they have to be here is our
+/// own rule.
 pub fn film_in_stock(alloc: Global, copies: &[FilmCopy]) -> Result<Vec<CopyNo>, NoMemory>
-    ensures { IfOk result (λ numbers. (film : ℕ) (shop : Shop) → AreOfFilm film shop copies.now → numbers.items ≡ film_in_stock film shop) }
+    ensures { IfOk result (λ numbers. (film : ℕ) (shop : Shop) → AreOfFilm film shop copies.now
+        → numbers.items ≡ film_in_stock film shop) }
 {
     listed(alloc, copies, true)
 }
 
 /// The copies that are here and not in stock, by number: the manual's `film_not_in_stock`, and the same rule.
 pub fn film_not_in_stock(alloc: Global, copies: &[FilmCopy]) -> Result<Vec<CopyNo>, NoMemory>
-    ensures { IfOk result (λ numbers. (film : ℕ) (shop : Shop) → AreOfFilm film shop copies.now → numbers.items ≡ film_not_in_stock film shop) }
+    ensures { IfOk result (λ numbers. (film : ℕ) (shop : Shop) → AreOfFilm film shop copies.now
+        → numbers.items ≡ film_not_in_stock film shop) }
 {
     listed(alloc, copies, false)
 }

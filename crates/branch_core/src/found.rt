@@ -77,7 +77,8 @@ pub struct Found<'a> {
     pub rows: RowsFound,
 }
 
-/// The rows that a command's act names, one field a kind. What is said of a kind that it doesn't name is never looked at.
+/// The rows that a command's act names, one field a kind. What is said of a kind that it doesn't name is never looked
+/// at.
 #[derive(Drop)]
 pub struct RowsFound {
     /// Whether the catalogue has the city of a new customer.

@@ -1,4 +1,5 @@
-//! What a branch decides of a command, by what was found of the rows that the command names: that it is accepted, or the first refusal.
+//! What a branch decides of a command, by what was found of the rows that the command names: that it is accepted, or
+//! the first refusal.
 #![tactic(auto)]
 
 mod acts;

@@ -126,7 +126,8 @@ pub fn stock_refusal(stock: &Result<StockRows, BadCsv>, has_lot: bool) -> Option
 
 /// Of an import of the rows.
 fn rows_refusal(rows: &[StockFound], has_lot: bool) -> Option<Refusal>
-    ensures { (catalogue : Catalogue) (shop : Shop) (lot : Text) → All (RowAgrees catalogue) rows.now → has_lot ≡ list_any (bytes_eq lot) shop.lots
+    ensures { (catalogue : Catalogue) (shop : Shop) (lot : Text) → All (RowAgrees catalogue) rows.now
+        → has_lot ≡ list_any (bytes_eq lot) shop.lots
         → verdict_by result ≡ Some (first (import_refusals catalogue shop lot (Copies (films_of rows.now)))) }
 {
     if has_withdrawn(rows) {

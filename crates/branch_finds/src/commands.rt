@@ -44,9 +44,10 @@ pub fn find_for_command<'a, S: Alter>(
 ) -> Result<Found<'a>, StoreFault>
     ensures inside { StaysWithin S.Store tx.old.conn tx.new.conn result }
     ensures found { Finds (state S.Store tx.old.conn.now) (state S.Store tx.new.conn.now) result
-        (Knows films.old films.new (λ found books. ((rules : model.Rules)
-        → rules.stock_of ≡ stock_of → IsKeptFor branch (seen_command command.now) kept.entry books → HasStanding branch books standing
-        → Agrees rules books.catalogue (shop_of branch books) (seen_command command.now) found)
+        (Knows films.old films.new
+        (λ found books. ((rules : model.Rules) → rules.stock_of ≡ stock_of → IsKeptFor branch
+        (seen_command command.now) kept.entry books → HasStanding branch books standing → Agrees rules
+        books.catalogue (shop_of branch books) (seen_command command.now) found)
         × AreMarked branch (seen_command command.now).act found.rows books)) }
 {
     let staff = staff_at(tx, command.staff)?;
@@ -138,7 +139,8 @@ fn find_for_payment<S: Alter>(
 ) -> Result<RowsFound, StoreFault>
     ensures inside { StaysWithin S.Store tx.old.conn tx.new.conn result }
     ensures found { (at : _) (amount : ℕ)
-        → Finds (state S.Store tx.old.conn.now) (state S.Store tx.new.conn.now) result (AgreesAt branch at (model.Pay customer rental amount)) }
+        → Finds (state S.Store tx.old.conn.now) (state S.Store tx.new.conn.now) result
+        (AgreesAt branch at (model.Pay customer rental amount)) }
 {
     let is_active = active_at(tx, branch, customer)?;
     let Some(number) = rental else {

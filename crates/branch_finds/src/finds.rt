@@ -22,8 +22,8 @@ use sql_rows::StoreFault;
 use sqlite::{Alter, Transaction};
 use std::alloc::Global;
 
-/// Whether the copy is in the shop, its film withdrawn and a customer has it, and its film's terms as they are now, where the branch has one of the number.
-/// No sound table lacks the film.
+/// Whether the copy is in the shop, its film withdrawn and a customer has it, and its film's terms as they are now,
+/// where the branch has one of the number. No sound table lacks the film.
 pub fn find_copy<S: Alter>(
     tx: &mut Transaction<'_, S>,
     films: &mut FilmCache,
@@ -32,7 +32,8 @@ pub fn find_copy<S: Alter>(
 ) -> Result<Option<CopyFound>, StoreFault>
     ensures inside { StaysWithin S.Store tx.old.conn tx.new.conn result }
     ensures found { Finds (state S.Store tx.old.conn.now) (state S.Store tx.new.conn.now) result
-        (Knows films.old films.new (λ found books. (option_map seen_copy found ≡ copy_at books.catalogue (shop_of branch books) copy)
+        (Knows films.old films.new
+        (λ found books. (option_map seen_copy found ≡ copy_at books.catalogue (shop_of branch books) copy)
         × HasTermsNow books.catalogue (shop_of branch books) copy found)) }
 {
     let Some(row) = copy_now_at(tx, branch, copy)? else {
@@ -102,7 +103,8 @@ pub fn find_holder<S: Alter>(
     ensures inside { StaysWithin S.Store tx.old.conn tx.new.conn result }
     ensures found { (copy : ℕ)
         → Finds (state S.Store tx.old.conn.now) (state S.Store tx.new.conn.now) result
-        (λ holder books. option_to_list out ≡ open_from 1 copy (shop_of branch books).rentals → holder ≡ head (held_by copy (shop_of branch books).rentals)) }
+        (λ holder books. option_to_list out ≡ open_from 1 copy (shop_of branch books).rentals → holder ≡ head
+        (held_by copy (shop_of branch books).rentals)) }
 {
     match out {
         Some(rental) => find_renter(tx, branch, rental),

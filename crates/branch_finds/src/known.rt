@@ -24,7 +24,8 @@ pub fn find_film<S: Alter>(
 ) -> Result<Option<KnownFilm>, StoreFault>
     ensures inside { StaysWithin S.Store tx.old.conn tx.new.conn result }
     ensures found { Finds (state S.Store tx.old.conn.now) (state S.Store tx.new.conn.now) result
-        (Knows films.old films.new (λ film books. option_map seen_known film ≡ head (map known_of (at number books.catalogue.films)))) }
+        (Knows films.old films.new (λ film books. option_map seen_known film
+        ≡ head (map known_of (at number books.catalogue.films)))) }
 {
     if let Some(film) = films.known(number) {
         return Ok(Some(film));
@@ -45,7 +46,8 @@ pub fn find_withdrawn<S: Alter>(
 ) -> Result<Option<bool>, StoreFault>
     ensures inside { StaysWithin S.Store tx.old.conn tx.new.conn result }
     ensures found { Finds (state S.Store tx.old.conn.now) (state S.Store tx.new.conn.now) result
-        (Knows films.old films.new (λ withdrawn books. withdrawn ≡ head (map withdrawn_of (at number books.catalogue.films)))) }
+        (Knows films.old films.new (λ withdrawn books. withdrawn
+        ≡ head (map withdrawn_of (at number books.catalogue.films)))) }
 {
     match find_film(tx, films, number)? {
         Some(film) => Ok(Some(film.withdrawn)),

@@ -1,4 +1,5 @@
-//! Which of a branch's readings are looked at inside a transaction, and which are lists whose rows are shown outside any.
+//! Which of a branch's readings are looked at inside a transaction, and which are lists whose rows are shown outside
+//! any.
 
 ghost use Rattle.std.specs.Prelude.{◌≡◌};
 ghost use Rattle.shop_types.specs.Seen.{seen_ask};
@@ -23,7 +24,8 @@ pub enum Look {
 pub enum Reading {
     /// By a look inside a transaction, which reads a row at least.
     Look(Look),
-    /// By the list of the customers who are rewarded, inside a transaction too. No row is read where a threshold is 0 or there is no month before the moment's.
+    /// By the list of the customers who are rewarded, inside a transaction too. No row is read where a threshold is 0
+    /// or there is no month before the moment's.
     Rewards {
         at: Moment,
         purchases: u32,

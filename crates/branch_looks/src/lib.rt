@@ -1,4 +1,5 @@
-//! What a branch's reading shows inside one transaction. What is found for a command's decision, and who is rewarded, are passed on for those above.
+//! What a branch's reading shows inside one transaction. What is found for a command's decision, and who is rewarded,
+//! are passed on for those above.
 #![tactic(auto)]
 
 mod asks;

@@ -29,8 +29,8 @@ pub struct PaidSum {
     pub cents: u64,
 }
 
-/// The customers, by number, whose payments in the month before the moment's are more in number and in cents than the thresholds. Nobody in January 1970,
-/// before which there is no month.
+/// The customers, by number, whose payments in the month before the moment's are more in number and in cents than the
+/// thresholds. Nobody in January 1970, before which there is no month.
 pub fn find_rewarded<S: Alter>(
     alloc: Global,
     tx: &mut Transaction<'_, S>,
@@ -55,9 +55,11 @@ pub fn find_rewarded<S: Alter>(
     rewarded_among(alloc, customers, rows.as_slice(), month, purchases, cents)
 }
 
-/// The first second of the month before the moment's, and that of the moment's own. In January 1970 both are of that month.
+/// The first second of the month before the moment's, and that of the moment's own. In January 1970 both are of that
+/// month.
 fn last_month_bounds(at: Moment) -> (Moment, Moment)
-    ensures { (days : ℕ × ℕ) → month_before at ≡ Some days → (seconds_of result.0 ≡ days.0 * 86_400) × (seconds_of result.1 ≡ (days.1 + 1) * 86_400) }
+    ensures { (days : ℕ × ℕ) → month_before at ≡ Some days
+        → (seconds_of result.0 ≡ days.0 * 86_400) × (seconds_of result.1 ≡ (days.1 + 1) * 86_400) }
 {
     let (year, month) = (at.year(), at.month());
     let end = Moment::month_start(year, month);
@@ -81,7 +83,8 @@ fn rewarded_among(
 ) -> Result<Vec<CustomerNo>, StoreFault>
     requires customers { customers ≤ 1_000_000 }
     requires rows { length rows.now ≤ 1_000_000 }
-    ensures { IfOk result (λ numbers. numbers.items ≡ rewarded_numbers month purchases cents customers (payments_of rows.now)) }
+    ensures { IfOk result (λ numbers. numbers.items
+        ≡ rewarded_numbers month purchases cents customers (payments_of rows.now)) }
 {
     let sums = sums_of(alloc, rows, month)?;
     let mut numbers = Vec::new(alloc);
@@ -119,7 +122,8 @@ fn add_paid(
     amount: Amount,
 ) -> Result<(), StoreFault>
     requires { AreSmall 1_000_000 sums.now }
-    ensures { OnOk result (Updates nat_cmp sums.old sums.new customer (Some (one_paid amount (get nat_cmp sums.old customer)))) }
+    ensures { OnOk result (Updates nat_cmp sums.old sums.new customer
+        (Some (one_paid amount (get nat_cmp sums.old customer)))) }
 {
     let before = sum_at(sums, customer);
     let sum = PaidSum {
@@ -150,7 +154,8 @@ fn passes_for(
     purchases: u32,
     cents: u32,
 ) -> bool
-    ensures { (month : ℤ × ℤ) (payments : List Payment) → AreSummed month sums.now payments → result ≡ passes_for month purchases cents payments customer }
+    ensures { (month : ℤ × ℤ) (payments : List Payment) → AreSummed month sums.now payments
+        → result ≡ passes_for month purchases cents payments customer }
 {
     let sum = sum_at(sums, customer);
     sum.purchases > purchases && sum.cents > u64::from(cents)

@@ -1,4 +1,5 @@
-//! How an accepted command's act is carried out as it stands: its rows, their counts, and what is replied of them; and how the command is kept.
+//! How an accepted command's act is carried out as it stands: its rows, their counts, and what is replied of them;
+//! and how the command is kept.
 
 ghost use Rattle.std.specs.Prelude.{◌≡◌, ◌+◌, ◌∷◌, [], true, map, filter, string_bytes, IfOk, OnOk};
 ghost use Rattle.sqlite.specs.Held.{state};
@@ -42,8 +43,9 @@ pub fn carry_out<S: Alter>(
 ) -> Result<String, StoreFault>
     ensures inside { StaysWithin S.Store tx.old.conn tx.new.conn result }
     ensures acted { HasCleanDisk (state S.Store tx.new.conn.now)
-        → IfOk result (λ text. (rules : model.Rules) → IsActed rules branch (seen_command command.now) (seen_act command.now.act) found.now (string_bytes text)
-        (state S.Store tx.old.conn.now) (state S.Store tx.new.conn.now)) }
+        → IfOk result (λ text. (rules : model.Rules) → IsActed rules branch (seen_command command.now)
+        (seen_act command.now.act) found.now (string_bytes text) (state S.Store tx.old.conn.now)
+        (state S.Store tx.new.conn.now)) }
 {
     match &command.act {
         Act::Customer(person) => add_customer(alloc, tx, branch, command, person),
@@ -85,8 +87,9 @@ pub fn keep<S: Alter>(
     requires { form.now ≡ command_form (seen_command command.now) }
     ensures inside { StaysWithin S.Store tx.old.conn tx.new.conn result }
     ensures kept { HasCleanDisk (state S.Store tx.new.conn.now)
-        → OnOk result ((books : books.Books) → Holds (state S.Store tx.old.conn.now) books → CountsOnce branch CountKind.Kept (counts_of books)
-        → Holds (state S.Store tx.new.conn.now) (with_kept branch (seen_command command.now) reply.now books)) }
+        → OnOk result ((books : books.Books) → Holds (state S.Store tx.old.conn.now) books → CountsOnce branch
+        CountKind.Kept (counts_of books) → Holds (state S.Store tx.new.conn.now)
+        (with_kept branch (seen_command command.now) reply.now books)) }
 {
     take_numbers(tx, Count::Of(branch, CountKind::Kept), 1)?;
     put_kept(tx, Owner::Branch(branch), &command.key, form, reply)?;
@@ -101,9 +104,10 @@ fn next_number<const KIND: u8, S: Alter>(
 ) -> Result<RowNumber<KIND>, StoreFault>
     ensures inside { StaysWithin S.Store tx.old.conn tx.new.conn result }
     ensures taken { HasCleanDisk (state S.Store tx.new.conn.now)
-        → IfOk result (λ number. Tallies (state S.Store tx.old.conn.now) (state S.Store tx.new.conn.now) (CountsOnce branch kind)
-        (raise branch (kind_number kind) 1)
-        (λ counts. map (λ it. it.last + 1) (filter (is_count branch (kind_number kind)) counts.counters) ≡ number ∷ [])) }
+        → IfOk result (λ number. Tallies (state S.Store tx.old.conn.now) (state S.Store tx.new.conn.now)
+        (CountsOnce branch kind) (raise branch (kind_number kind) 1)
+        (λ counts. map (λ it. it.last + 1) (filter (is_count branch (kind_number kind)) counts.counters) ≡ number
+        ∷ [])) }
 {
     let number = take_numbers(tx, Count::Of(branch, kind), 1)?;
     match RowNumber::new(number) {
@@ -132,8 +136,9 @@ fn add_customer<S: Alter>(
 ) -> Result<String, StoreFault>
     ensures inside { StaysWithin S.Store tx.old.conn tx.new.conn result }
     ensures acted { HasCleanDisk (state S.Store tx.new.conn.now)
-        → IfOk result (λ text. (rules : model.Rules) (found : RowsFound) → IsActed rules branch (seen_command command.now)
-        (model.AddCustomer (seen_person person.now)) found (string_bytes text) (state S.Store tx.old.conn.now) (state S.Store tx.new.conn.now)) }
+        → IfOk result (λ text. (rules : model.Rules) (found : RowsFound) → IsActed rules branch
+        (seen_command command.now) (model.AddCustomer (seen_person person.now)) found (string_bytes text)
+        (state S.Store tx.old.conn.now) (state S.Store tx.new.conn.now)) }
 {
     let customer = new_customer(person, command.at)?;
     let number = next_number(tx, branch, CountKind::Customers)?;
@@ -155,14 +160,16 @@ fn put_active<S: Alter>(
 ) -> Result<String, StoreFault>
     ensures inside { StaysWithin S.Store tx.old.conn tx.new.conn result }
     ensures acted { HasCleanDisk (state S.Store tx.new.conn.now)
-        → IfOk result (λ text. (rules : model.Rules) (command : model.Command) (found : RowsFound) → IsActed rules branch command (model.SetActive customer active) found
-        (string_bytes text) (state S.Store tx.old.conn.now) (state S.Store tx.new.conn.now)) }
+        → IfOk result (λ text. (rules : model.Rules) (command : model.Command) (found : RowsFound) → IsActed rules
+        branch command (model.SetActive customer active) found (string_bytes text) (state S.Store tx.old.conn.now)
+        (state S.Store tx.new.conn.now)) }
 {
     set_active(tx, branch, customer, active)?;
     Ok(active_text(alloc, customer, active)?)
 }
 
-/// Adds an open rental, with the terms of its copy's film under the same number, and notes that the copy is out. The copy was found.
+/// Adds an open rental, with the terms of its copy's film under the same number, and notes that the copy is out. The
+/// copy was found.
 fn add_rental<S: Alter>(
     alloc: Global,
     tx: &mut Transaction<'_, S>,
@@ -174,8 +181,9 @@ fn add_rental<S: Alter>(
 ) -> Result<String, StoreFault>
     ensures inside { StaysWithin S.Store tx.old.conn tx.new.conn result }
     ensures acted { HasCleanDisk (state S.Store tx.new.conn.now)
-        → IfOk result (λ text. (rules : model.Rules) (rows : RowsFound) → rows.copy ≡ found → IsActed rules branch (seen_command command.now)
-        (model.Rent customer copy) rows (string_bytes text) (state S.Store tx.old.conn.now) (state S.Store tx.new.conn.now)) }
+        → IfOk result (λ text. (rules : model.Rules) (rows : RowsFound) → rows.copy ≡ found → IsActed rules branch
+        (seen_command command.now) (model.Rent customer copy) rows (string_bytes text)
+        (state S.Store tx.old.conn.now) (state S.Store tx.new.conn.now)) }
 {
     let Some(found) = found else {
         return Err(StoreFault::Failed);
@@ -215,8 +223,9 @@ fn take_back<S: Alter>(
 ) -> Result<String, StoreFault>
     ensures inside { StaysWithin S.Store tx.old.conn tx.new.conn result }
     ensures acted { HasCleanDisk (state S.Store tx.new.conn.now)
-        → IfOk result (λ text. (rules : model.Rules) (rows : RowsFound) → rows.rental ≡ found → IsActed rules branch (seen_command command.now)
-        (model.TakeBack rental) rows (string_bytes text) (state S.Store tx.old.conn.now) (state S.Store tx.new.conn.now)) }
+        → IfOk result (λ text. (rules : model.Rules) (rows : RowsFound) → rows.rental ≡ found → IsActed rules branch
+        (seen_command command.now) (model.TakeBack rental) rows (string_bytes text)
+        (state S.Store tx.old.conn.now) (state S.Store tx.new.conn.now)) }
 {
     let Some(found) = found else {
         return Err(StoreFault::Failed);
@@ -237,8 +246,9 @@ fn add_payment<S: Alter>(
 ) -> Result<String, StoreFault>
     ensures inside { StaysWithin S.Store tx.old.conn tx.new.conn result }
     ensures acted { HasCleanDisk (state S.Store tx.new.conn.now)
-        → IfOk result (λ text. (rules : model.Rules) (found : RowsFound) → IsActed rules branch (seen_command command.now) (model.Pay customer rental amount) found
-        (string_bytes text) (state S.Store tx.old.conn.now) (state S.Store tx.new.conn.now)) }
+        → IfOk result (λ text. (rules : model.Rules) (found : RowsFound) → IsActed rules branch
+        (seen_command command.now) (model.Pay customer rental amount) found (string_bytes text)
+        (state S.Store tx.old.conn.now) (state S.Store tx.new.conn.now)) }
 {
     let number = next_number(tx, branch, CountKind::Payments)?;
     let payment = Payment {
@@ -265,8 +275,9 @@ fn scrap<S: Alter>(
 ) -> Result<String, StoreFault>
     ensures inside { StaysWithin S.Store tx.old.conn tx.new.conn result }
     ensures acted { HasCleanDisk (state S.Store tx.new.conn.now)
-        → IfOk result (λ text. (rules : model.Rules) (command : model.Command) (found : RowsFound) → IsActed rules branch command (model.Scrap copy) found
-        (string_bytes text) (state S.Store tx.old.conn.now) (state S.Store tx.new.conn.now)) }
+        → IfOk result (λ text. (rules : model.Rules) (command : model.Command) (found : RowsFound) → IsActed rules
+        branch command (model.Scrap copy) found (string_bytes text) (state S.Store tx.old.conn.now)
+        (state S.Store tx.new.conn.now)) }
 {
     set_state(tx, branch, copy, CopyState::Scrapped)?;
     Ok(scrapped_text(alloc, copy)?)

@@ -21,10 +21,12 @@ pub fn again(alloc: Global, reply: &str) -> Result<(Reply, bool), StoreFault>
     Ok((Reply::accepted(text), false))
 }
 
-/// The reply to a command that is refused. A decision gives none of the store's refusals; one of these would be the store's failure.
+/// The reply to a command that is refused. A decision gives none of the store's refusals; one of these would be the
+/// store's failure.
 pub fn refuse(alloc: Global, refusal: Refusal) -> Result<(Reply, bool), StoreFault>
-    ensures told { IfOk result (λ done. (done.1 ≡ false) × ((verdict : Verdict) → Some verdict ≡ verdict_by (Some refusal)
-        → (d : named.Refusal) × (verdict ≡ Refused d) × (seen_reply done.0 ≡ answer_of (Sorry d)))) }
+    ensures told { IfOk result (λ done. (done.1 ≡ false)
+        × ((verdict : Verdict) → Some verdict ≡ verdict_by (Some refusal) → (d : named.Refusal)
+        × (verdict ≡ Refused d) × (seen_reply done.0 ≡ answer_of (Sorry d)))) }
     ensures decided { IfOk result (λ done. IsDecision (seen_reply done.0)) }
 {
     if refusal.status() == 503 {

@@ -1,4 +1,5 @@
-//! How copies go from branch to branch: a dispatch sends listed copies off as the lines of a consignment, and a receipt makes copies of the lines that came.
+//! How copies go from branch to branch: a dispatch sends listed copies off as the lines of a consignment, and a
+//! receipt makes copies of the lines that came.
 
 ghost use Rattle.std.specs.Prelude.{◌≡◌, ⊤, ◌+◌, ◌≤◌, ◌++◌, length, map, string_bytes, IfOk, OnOk};
 ghost use Rattle.sqlite.specs.Held.{state};
@@ -26,7 +27,8 @@ use sql_rows::StoreFault;
 use sqlite::{Alter, Transaction};
 use std::alloc::Global;
 
-/// Sends the listed copies to the other branch, as a consignment of the lines that were made of them, and gives the body of the reply.
+/// Sends the listed copies to the other branch, as a consignment of the lines that were made of them, and gives the
+/// body of the reply.
 pub fn dispatch<S: Alter>(
     alloc: Global,
     tx: &mut Transaction<'_, S>,
@@ -37,9 +39,9 @@ pub fn dispatch<S: Alter>(
 ) -> Result<String, StoreFault>
     ensures inside { StaysWithin S.Store tx.old.conn tx.new.conn result }
     ensures acted { HasCleanDisk (state S.Store tx.new.conn.now)
-        → IfOk result (λ text. (rules : model.Rules) (command : model.Command) (found : RowsFound) → found.listed.lines ≡ lines.now
-        → IsActed rules branch command (model.Dispatch to copies.now) found (string_bytes text)
-        (state S.Store tx.old.conn.now) (state S.Store tx.new.conn.now)) }
+        → IfOk result (λ text. (rules : model.Rules) (command : model.Command) (found : RowsFound)
+        → found.listed.lines ≡ lines.now → IsActed rules branch command (model.Dispatch to copies.now) found
+        (string_bytes text) (state S.Store tx.old.conn.now) (state S.Store tx.new.conn.now)) }
 {
     let Some(lines) = lines else {
         return Err(StoreFault::Failed);
@@ -87,8 +89,8 @@ fn set_sent<S: Alter>(
     Ok(())
 }
 
-/// Takes the consignment in that was found, and gives the body of the reply: the lines that aren't missing become copies with the branch's next numbers, and keep
-/// their marks.
+/// Takes the consignment in that was found, and gives the body of the reply: the lines that aren't missing become
+/// copies with the branch's next numbers, and keep their marks.
 pub fn receive<S: Alter>(
     alloc: Global,
     tx: &mut Transaction<'_, S>,
@@ -100,9 +102,9 @@ pub fn receive<S: Alter>(
 ) -> Result<String, StoreFault>
     ensures inside { StaysWithin S.Store tx.old.conn tx.new.conn result }
     ensures acted { HasCleanDisk (state S.Store tx.new.conn.now)
-        → IfOk result (λ text. (rules : model.Rules) (command : model.Command) (found : RowsFound) → found.arrival ≡ arrival.now
-        → IsActed rules branch command (model.Receive from number missing.now) found (string_bytes text)
-        (state S.Store tx.old.conn.now) (state S.Store tx.new.conn.now)) }
+        → IfOk result (λ text. (rules : model.Rules) (command : model.Command) (found : RowsFound) → found.arrival
+        ≡ arrival.now → IsActed rules branch command (model.Receive from number missing.now) found
+        (string_bytes text) (state S.Store tx.old.conn.now) (state S.Store tx.new.conn.now)) }
 {
     let Some(arrival) = arrival else {
         return Err(StoreFault::Failed);

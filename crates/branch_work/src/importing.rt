@@ -33,8 +33,10 @@ pub fn import<S: Alter>(
     requires few { copies_of stock.now ≤ 1_000 }
     ensures inside { StaysWithin S.Store tx.old.conn tx.new.conn result }
     ensures acted { HasCleanDisk (state S.Store tx.new.conn.now)
-        → IfOk result (λ text. (rules : model.Rules) (command : model.Command) (file : model.Text) (found : RowsFound) → films_of stock.now ≡ films_in (rules.stock_of file)
-        → IsActed rules branch command (model.Import lot.now file) found (string_bytes text) (state S.Store tx.old.conn.now) (state S.Store tx.new.conn.now)) }
+        → IfOk result (λ text. (rules : model.Rules) (command : model.Command) (file : model.Text) (found : RowsFound)
+        → films_of stock.now ≡ films_in (rules.stock_of file) → IsActed rules branch command
+        (model.Import lot.now file) found (string_bytes text) (state S.Store tx.old.conn.now)
+        (state S.Store tx.new.conn.now)) }
 {
     let count = copies_in(stock);
     let last = take_numbers(tx, Count::Of(branch, CountKind::Copies), count)?;
@@ -84,7 +86,8 @@ fn push_copies(
     count: u16,
 ) -> Result<(), AllocError>
     requires { first + vec_len copies.old + count ≤ 2_000_000 }
-    ensures rows { OnOk result (map seen_copy_row copies.new.items ≡ map seen_copy_row copies.old.items ++ copies_from branch (first + vec_len copies.old)
+    ensures rows { OnOk result (map seen_copy_row copies.new.items
+        ≡ map seen_copy_row copies.old.items ++ copies_from branch (first + vec_len copies.old)
         (replicate count film)) }
     ensures len { OnOk result (vec_len copies.new ≡ vec_len copies.old + count) }
 {

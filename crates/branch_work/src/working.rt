@@ -47,8 +47,8 @@ pub enum Worked {
     Shows(Listing),
 }
 
-/// What a branch's request comes to, where it is told whether the branch is known to be there. A command is done, and a look is answered; a list is left to the
-/// caller.
+/// What a branch's request comes to, where it is told whether the branch is known to be there. A command is done, and
+/// a look is answered; a list is left to the caller.
 pub fn work<S: Alter>(
     alloc: Global,
     tx: &mut Transaction<'_, S>,
@@ -60,8 +60,8 @@ pub fn work<S: Alter>(
 ) -> Result<Worked, StoreFault>
     ensures inside { StaysInside S.Store tx.old.conn tx.new.conn result }
     ensures works { HasCleanDisk (state S.Store tx.new.conn.now)
-        → IfOk result (λ worked. Works limits branch is_known (seen_request request.now) worked films.old films.new (state S.Store tx.old.conn.now)
-        (state S.Store tx.new.conn.now)) }
+        → IfOk result (λ worked. Works limits branch is_known (seen_request request.now) worked films.old films.new
+        (state S.Store tx.old.conn.now) (state S.Store tx.new.conn.now)) }
     ensures decided { IfOk result TellsDecision }
 {
     if is_known {
@@ -99,8 +99,8 @@ fn work_where_found<S: Alter>(
 ) -> Result<Worked, StoreFault>
     ensures inside { StaysInside S.Store tx.old.conn tx.new.conn result }
     ensures works { HasCleanDisk (state S.Store tx.new.conn.now)
-        → IfOk result (λ worked. Works limits branch false (seen_request request.now) worked films.old films.new (state S.Store tx.old.conn.now)
-        (state S.Store tx.new.conn.now)) }
+        → IfOk result (λ worked. Works limits branch false (seen_request request.now) worked films.old films.new
+        (state S.Store tx.old.conn.now) (state S.Store tx.new.conn.now)) }
     ensures decided { IfOk result TellsDecision }
 {
     let Some(standing) = standing_at(tx, branch)? else {
@@ -151,8 +151,8 @@ fn act<S: Alter>(
 ) -> Result<(Reply, bool), StoreFault>
     ensures inside { StaysWithin S.Store tx.old.conn tx.new.conn result }
     ensures works { HasCleanDisk (state S.Store tx.new.conn.now)
-        → IfOk result (λ done. WorksFor limits branch standing (Do (seen_command command.now)) (seen_reply done.0) done.1 films.old films.new
-        (state S.Store tx.old.conn.now) (state S.Store tx.new.conn.now)) }
+        → IfOk result (λ done. WorksFor limits branch standing (Do (seen_command command.now)) (seen_reply done.0)
+        done.1 films.old films.new (state S.Store tx.old.conn.now) (state S.Store tx.new.conn.now)) }
     ensures decided { IfOk result (λ done. IsDecision (seen_reply done.0)) }
 {
     let form = form_of(alloc, command)?;
@@ -182,8 +182,8 @@ fn answer<S: Alter>(
     requires form { form.now ≡ command_form (seen_command command.now) }
     ensures inside { StaysWithin S.Store tx.old.conn tx.new.conn result }
     ensures works { HasCleanDisk (state S.Store tx.new.conn.now)
-        → IfOk result (λ done. WorksBy limits branch (seen_command command.now) found.now (seen_reply done.0) done.1 (state S.Store tx.old.conn.now)
-        (state S.Store tx.new.conn.now)) }
+        → IfOk result (λ done. WorksBy limits branch (seen_command command.now) found.now (seen_reply done.0) done.1
+        (state S.Store tx.old.conn.now) (state S.Store tx.new.conn.now)) }
     ensures decided { IfOk result (λ done. IsDecision (seen_reply done.0)) }
 {
     match decide(branch, command, found, limits) {
@@ -217,7 +217,8 @@ fn add<S: Alter>(
     requires form { form.now ≡ command_form (seen_command command.now) }
     ensures inside { StaysWithin S.Store tx.old.conn tx.new.conn result }
     ensures added { HasCleanDisk (state S.Store tx.new.conn.now)
-        → IfOk result (λ done. (done.1 ≡ true) × ((limits : _) → IsAdded limits branch (seen_command command.now) rows.now (seen_reply done.0)
+        → IfOk result (λ done. (done.1 ≡ true)
+        × ((limits : _) → IsAdded limits branch (seen_command command.now) rows.now (seen_reply done.0)
         (state S.Store tx.old.conn.now) (state S.Store tx.new.conn.now))) }
     ensures decided { IfOk result (λ done. IsDecision (seen_reply done.0)) }
 {

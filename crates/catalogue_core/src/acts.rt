@@ -59,7 +59,8 @@ pub fn price_refusal(film: Option<bool>) -> Option<Refusal>
 
 /// Of taking a film out of the catalogue.
 pub fn withdraw_refusal(film: Option<bool>) -> Option<Refusal>
-    ensures { (catalogue : Catalogue) (f : ℕ) → film ≡ film_at catalogue f → verdict_by result ≡ Some (first (office_refusals catalogue (WithdrawFilm f))) }
+    ensures { (catalogue : Catalogue) (f : ℕ) → film ≡ film_at catalogue f
+        → verdict_by result ≡ Some (first (office_refusals catalogue (WithdrawFilm f))) }
 {
     match film {
         None => Some(Refusal::NoFilm),
@@ -70,8 +71,8 @@ pub fn withdraw_refusal(film: Option<bool>) -> Option<Refusal>
 
 /// Of putting an actor into a film's cast.
 pub fn cast_refusal(film: Option<bool>, has_actor: bool, has_cast: bool) -> Option<Refusal>
-    ensures { (catalogue : Catalogue) (cast : Cast) → film ≡ film_at catalogue cast.film → has_actor ≡ not (lacks catalogue.actors cast.actor)
-        → has_cast ≡ is_cast catalogue cast
+    ensures { (catalogue : Catalogue) (cast : Cast) → film ≡ film_at catalogue cast.film
+        → has_actor ≡ not (lacks catalogue.actors cast.actor) → has_cast ≡ is_cast catalogue cast
         → verdict_by result ≡ Some (first (office_refusals catalogue (AddCast cast))) }
 {
     if film.is_none() {
@@ -102,7 +103,8 @@ pub fn branch_refusal(is_office: bool, has_token: bool, has_city: bool) -> Optio
 
 /// Of a new member of staff.
 pub fn staff_refusal(branch: Option<BranchFound>, has_city: bool) -> Option<Refusal>
-    ensures { (catalogue : Catalogue) (staff : Staff) → option_map seen_branch_found branch ≡ branch_at catalogue staff.branch
+    ensures { (catalogue : Catalogue) (staff : Staff)
+        → option_map seen_branch_found branch ≡ branch_at catalogue staff.branch
         → has_city ≡ not (lacks catalogue.cities staff.person.city)
         → verdict_by result ≡ Some (first (office_refusals catalogue (AddStaff staff))) }
 {

@@ -23,7 +23,8 @@ pub fn decide_office<'a>(
     shared: &Shared<'a>,
     limits: Limits,
 ) -> Result<Change<'a>, Refusal>
-    ensures { (rules : model.Rules) (catalogue : Catalogue) → rules.commands ≡ limits.commands → Shares catalogue (seen_office command.now) shared.now
+    ensures { (rules : model.Rules) (catalogue : Catalogue) → rules.commands ≡ limits.commands
+        → Shares catalogue (seen_office command.now) shared.now
         → IsVerdict (office_verdict rules catalogue (seen_office command.now)) result }
 {
     match shared.kept {
@@ -43,8 +44,9 @@ pub fn decide_office<'a>(
 
 /// The first refusal of a command whose key isn't kept.
 fn first_refusal(act: &OfficeAct, shared: &Shared, limits: Limits) -> Option<Refusal>
-    ensures { (rules : model.Rules) (catalogue : Catalogue) (command : model.OfficeCommand) → command.act ≡ seen_office_act act.now
-        → rules.commands ≡ limits.commands → Shares catalogue command shared.now
+    ensures { (rules : model.Rules) (catalogue : Catalogue) (command : model.OfficeCommand)
+        → command.act ≡ seen_office_act act.now → rules.commands ≡ limits.commands
+        → Shares catalogue command shared.now
         → verdict_by result ≡ Some (first (fresh_refusals rules catalogue command)) }
 {
     if limits.commands() <= shared.keys {
@@ -56,7 +58,8 @@ fn first_refusal(act: &OfficeAct, shared: &Shared, limits: Limits) -> Option<Ref
 
 /// The first refusal that goes by what the command does.
 fn act_refusal(act: &OfficeAct, office_token: &Token, rows: &SharedRows) -> Option<Refusal>
-    ensures { (catalogue : Catalogue) → office_token.now ≡ catalogue.office_token → ActShares catalogue (seen_office_act act.now) rows.now
+    ensures { (catalogue : Catalogue) → office_token.now ≡ catalogue.office_token
+        → ActShares catalogue (seen_office_act act.now) rows.now
         → verdict_by result ≡ Some (first (office_refusals catalogue (seen_office_act act.now))) }
 {
     match act {

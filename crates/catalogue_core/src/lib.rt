@@ -1,4 +1,5 @@
-//! What head office decides of a command, by what was found of the shared rows that the command names: whether it is accepted, or the first refusal.
+//! What head office decides of a command, by what was found of the shared rows that the command names: whether it is
+//! accepted, or the first refusal.
 #![tactic(auto)]
 
 mod acts;

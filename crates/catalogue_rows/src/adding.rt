@@ -1,4 +1,5 @@
-//! How the rows of an accepted command of head office are written and counted, how it is kept, and what is replied of it.
+//! How the rows of an accepted command of head office are written and counted, how it is kept, and what is replied of
+//! it.
 
 ghost use Rattle.std.specs.Prelude.{◌≡◌, ℕ, ◌+◌, true, string_bytes, Ok, IsOk, IfOk, OnOk};
 ghost use Rattle.sqlite.specs.Held.{state};
@@ -26,8 +27,8 @@ use sql_rows::{Bytes, StoreFault};
 use sqlite::{Alter, Transaction};
 use std::alloc::Global;
 
-/// Writes the rows of an accepted command, keeps it, and gives its reply, with `true`, since there is something to commit. The form is the command's stored
-/// form.
+/// Writes the rows of an accepted command, keeps it, and gives its reply, with `true`, since there is something to
+/// commit. The form is the command's stored form.
 pub fn add<S: Alter>(
     alloc: Global,
     tx: &mut Transaction<'_, S>,
@@ -37,7 +38,8 @@ pub fn add<S: Alter>(
     requires { form.now ≡ office_command_form (seen_office command.now) }
     ensures inside { StaysInside S.Store tx.old.conn tx.new.conn result }
     ensures added { HasCleanDisk (state S.Store tx.new.conn.now)
-        → IfOk result (λ done. (done.1 ≡ true) × IsAdded (seen_office command.now) (seen_reply done.0) (state S.Store tx.old.conn.now) (state S.Store tx.new.conn.now)) }
+        → IfOk result (λ done. (done.1 ≡ true) × IsAdded (seen_office command.now) (seen_reply done.0)
+        (state S.Store tx.old.conn.now) (state S.Store tx.new.conn.now)) }
     ensures accepted { IfOk result (λ done. (text : model.Text) × (seen_reply done.0 ≡ accepted_answer text)) }
 {
     let number = write(tx, &command.act)?;
@@ -56,7 +58,8 @@ fn keep<S: Alter>(
     requires { form.now ≡ office_command_form (seen_office command.now) }
     ensures inside { StaysInside S.Store tx.old.conn tx.new.conn result }
     ensures kept { HasCleanDisk (state S.Store tx.new.conn.now)
-        → OnOk result (IsKept (seen_office command.now) reply.now (state S.Store tx.old.conn.now) (state S.Store tx.new.conn.now)) }
+        → OnOk result (IsKept (seen_office command.now) reply.now (state S.Store tx.old.conn.now)
+        (state S.Store tx.new.conn.now)) }
 {
     put_kept(tx, Owner::Office, &command.key, form, reply)?;
     take_numbers(tx, Count::OfficeKeys, 1)?;
@@ -67,7 +70,8 @@ fn keep<S: Alter>(
 fn write<S: Alter>(tx: &mut Transaction<'_, S>, act: &OfficeAct) -> Result<u32, StoreFault>
     ensures inside { StaysInside S.Store tx.old.conn tx.new.conn result }
     ensures numbered { HasCleanDisk (state S.Store tx.new.conn.now)
-        → IfOk result (λ number. IsNumbered (seen_office_act act.now) number (state S.Store tx.old.conn.now) (state S.Store tx.new.conn.now)) }
+        → IfOk result (λ number. IsNumbered (seen_office_act act.now) number (state S.Store tx.old.conn.now)
+        (state S.Store tx.new.conn.now)) }
 {
     match act {
         OfficeAct::Country(name) => {
@@ -150,7 +154,8 @@ fn without_number(set: Result<(), StoreFault>) -> Result<u32, StoreFault>
 fn add_branch<S: Alter>(tx: &mut Transaction<'_, S>, branch: &Branch) -> Result<u32, StoreFault>
     ensures inside { StaysInside S.Store tx.old.conn tx.new.conn result }
     ensures numbered { HasCleanDisk (state S.Store tx.new.conn.now)
-        → IfOk result (λ number. IsNumbered (model.AddBranch (seen_branch branch.now)) number (state S.Store tx.old.conn.now) (state S.Store tx.new.conn.now)) }
+        → IfOk result (λ number. IsNumbered (model.AddBranch (seen_branch branch.now)) number
+        (state S.Store tx.old.conn.now) (state S.Store tx.new.conn.now)) }
 {
     let number = next(last_branch(tx))?;
     put_branch(tx, &new_branch(number, branch))?;

@@ -41,7 +41,8 @@ pub fn find<S: Alter>(
     ensures inside { StaysWithin S.Store tx.old.conn tx.new.conn result }
     ensures found { Finds (state S.Store tx.old.conn.now) (state S.Store tx.new.conn.now) result
         (λ found books. (kept : _)
-        → IsKeptFor (seen_office command.now) kept books → Shares books.catalogue (seen_office command.now) (shared_of kept found)) }
+        → IsKeptFor (seen_office command.now) kept books
+        → Shares books.catalogue (seen_office command.now) (shared_of kept found)) }
 {
     let keys = count_of(tx, Count::OfficeKeys)?;
     let token = office_token(tx)?;
@@ -83,8 +84,9 @@ fn find_rows<S: Alter>(
 /// Whether there are the language and the category of a new film.
 fn for_film<S: Alter>(tx: &mut Transaction<'_, S>, film: &Film) -> Result<SharedRows, StoreFault>
     ensures inside { StaysWithin S.Store tx.old.conn tx.new.conn result }
-    ensures found { HasCleanDisk (state S.Store tx.new.conn.now) → IfOk result (λ rows.
-        FindsFor (model.AddFilm (seen_film film.now)) rows (state S.Store tx.old.conn.now) (state S.Store tx.new.conn.now)) }
+    ensures found { HasCleanDisk (state S.Store tx.new.conn.now)
+        → IfOk result (λ rows. FindsFor (model.AddFilm (seen_film film.now)) rows (state S.Store tx.old.conn.now)
+        (state S.Store tx.new.conn.now)) }
 {
     let has_language = has_language(tx, film.language)?;
     let has_category = has_category(tx, film.category)?;
@@ -102,8 +104,9 @@ fn for_cast<S: Alter>(
     actor: ActorNo,
 ) -> Result<SharedRows, StoreFault>
     ensures inside { StaysWithin S.Store tx.old.conn tx.new.conn result }
-    ensures found { HasCleanDisk (state S.Store tx.new.conn.now) → IfOk result (λ rows.
-        FindsFor (model.AddCast (record { film = film; actor = actor })) rows (state S.Store tx.old.conn.now) (state S.Store tx.new.conn.now)) }
+    ensures found { HasCleanDisk (state S.Store tx.new.conn.now)
+        → IfOk result (λ rows. FindsFor (model.AddCast (record { film = film; actor = actor })) rows
+        (state S.Store tx.old.conn.now) (state S.Store tx.new.conn.now)) }
 {
     let withdrawn = film_withdrawn(tx, film)?;
     let has_actor = has_actor(tx, actor)?;
@@ -122,8 +125,9 @@ fn for_branch<S: Alter>(
     branch: &Branch,
 ) -> Result<SharedRows, StoreFault>
     ensures inside { StaysWithin S.Store tx.old.conn tx.new.conn result }
-    ensures found { HasCleanDisk (state S.Store tx.new.conn.now) → IfOk result (λ rows.
-        FindsFor (model.AddBranch (seen_branch branch.now)) rows (state S.Store tx.old.conn.now) (state S.Store tx.new.conn.now)) }
+    ensures found { HasCleanDisk (state S.Store tx.new.conn.now)
+        → IfOk result (λ rows. FindsFor (model.AddBranch (seen_branch branch.now)) rows
+        (state S.Store tx.old.conn.now) (state S.Store tx.new.conn.now)) }
 {
     let has_token = has_token(tx, &branch.token)?;
     let has_city = has_city(tx, branch.city)?;
@@ -137,8 +141,9 @@ fn for_branch<S: Alter>(
 /// Whether there are the branch and the city of a new member of staff.
 fn for_staff<S: Alter>(tx: &mut Transaction<'_, S>, staff: &Staff) -> Result<SharedRows, StoreFault>
     ensures inside { StaysWithin S.Store tx.old.conn tx.new.conn result }
-    ensures found { HasCleanDisk (state S.Store tx.new.conn.now) → IfOk result (λ rows.
-        FindsFor (model.AddStaff (seen_staff staff.now)) rows (state S.Store tx.old.conn.now) (state S.Store tx.new.conn.now)) }
+    ensures found { HasCleanDisk (state S.Store tx.new.conn.now)
+        → IfOk result (λ rows. FindsFor (model.AddStaff (seen_staff staff.now)) rows (state S.Store tx.old.conn.now)
+        (state S.Store tx.new.conn.now)) }
 {
     let branch = branch_of(branch_manager(tx, staff.branch)?);
     let has_city = has_city(tx, staff.person.city)?;
@@ -171,8 +176,9 @@ fn for_manager<S: Alter>(
 /// Whether a rule is the one that is chosen already.
 fn for_rule<S: Alter>(tx: &mut Transaction<'_, S>, rule: Rule) -> Result<SharedRows, StoreFault>
     ensures inside { StaysWithin S.Store tx.old.conn tx.new.conn result }
-    ensures found { HasCleanDisk (state S.Store tx.new.conn.now) → IfOk result (λ rows.
-        FindsFor (model.ChooseRule (seen_rule rule)) rows (state S.Store tx.old.conn.now) (state S.Store tx.new.conn.now)) }
+    ensures found { HasCleanDisk (state S.Store tx.new.conn.now)
+        → IfOk result (λ rows. FindsFor (model.ChooseRule (seen_rule rule)) rows (state S.Store tx.old.conn.now)
+        (state S.Store tx.new.conn.now)) }
 {
     let chosen = rule_at(tx)?;
     Ok(SharedRows {

@@ -11,7 +11,8 @@ use shop_types::{BranchNo, Caller, Token};
 use std::alloc::Global;
 use std::marker::Model;
 
-/// Tokens with their callers, in the order in which they came: head office and branches. Where there are 256, no further one is taken.
+/// Tokens with their callers, in the order in which they came: head office and branches. Where there are 256, no
+/// further one is taken.
 #[derive(Drop)]
 pub struct CallerCache {
     callers: Vec<(Token, Caller)>,
@@ -40,7 +41,8 @@ impl CallerCache {
 
     /// The caller whose token it is, where that is known.
     pub fn known(&self, token: &Token) -> Option<Caller>
-        ensures { (catalogue : Catalogue) → AreCallers self.now catalogue → IfSome result (λ caller. seen_caller caller ≡ caller_of (Some token.now) catalogue) }
+        ensures { (catalogue : Catalogue) → AreCallers self.now catalogue
+            → IfSome result (λ caller. seen_caller caller ≡ caller_of (Some token.now) catalogue) }
     {
         for (known, caller) in &self.callers {
             if *known == *token {
@@ -52,7 +54,8 @@ impl CallerCache {
 
     /// Whether the branch is among them: then it is there.
     pub fn has_branch(&self, branch: BranchNo) -> bool
-        ensures { (catalogue : Catalogue) → AreCallers self.now catalogue → IsTrue result → lacks catalogue.branches branch ≡ false }
+        ensures { (catalogue : Catalogue) → AreCallers self.now catalogue → IsTrue result
+            → lacks catalogue.branches branch ≡ false }
     {
         for (_, caller) in &self.callers {
             if let Caller::Branch(known) = caller {
@@ -64,10 +67,11 @@ impl CallerCache {
         false
     }
 
-    /// Keeps whose the token is, where it is somebody's and there is room and memory for it. Where there is none, the cache stays as it is, and nobody is told.
+    /// Keeps whose the token is, where it is somebody's and there is room and memory for it. Where there is none, the
+    /// cache stays as it is, and nobody is told.
     pub fn put(&mut self, token: &Token, caller: &Caller)
-        ensures { (catalogue : Catalogue) → AreCallers self.old catalogue → seen_caller caller.now ≡ caller_of (Some token.now) catalogue
-            → AreCallers self.new catalogue }
+        ensures { (catalogue : Catalogue) → AreCallers self.old catalogue
+            → seen_caller caller.now ≡ caller_of (Some token.now) catalogue → AreCallers self.new catalogue }
     {
         match *caller {
             Caller::Office | Caller::Branch(_) => self.keep(*token, *caller),

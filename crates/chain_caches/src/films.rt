@@ -74,9 +74,11 @@ impl FilmCache {
         films.get(&number.get()).copied()
     }
 
-    /// Keeps what was read of the film, where there is memory for it. Where there is none, the cache stays as it is, and nobody is told.
+    /// Keeps what was read of the film, where there is memory for it. Where there is none, the cache stays as it is,
+    /// and nobody is told.
     pub fn put(&mut self, number: FilmNo, film: &KnownFilm)
-        ensures { (films : List model.Film) → AreRows self.old films → IsRow number film.now films → AreRows self.new films }
+        ensures { (films : List model.Film) → AreRows self.old films → IsRow number film.now films
+            → AreRows self.new films }
     {
         self.make_room();
         let Some(films) = &mut self.films else {
@@ -95,10 +97,12 @@ impl FilmCache {
         self.films = no_films(self.alloc);
     }
 
-    /// Takes out what is known of the film, before its row is changed: whatever becomes of the row, what is left stays true.
+    /// Takes out what is known of the film, before its row is changed: whatever becomes of the row, what is left
+    /// stays true.
     pub fn take_out(&mut self, number: FilmNo)
         ensures kept { (films : List model.Film) → AreRows self.old films → AreRows self.new films }
-        ensures free { (films : List model.Film) (change : model.Film → model.Film) → AreRows self.old films → AreRows self.new (set_at number change films) }
+        ensures free { (films : List model.Film) (change : model.Film → model.Film) → AreRows self.old films
+            → AreRows self.new (set_at number change films) }
     {
         let Some(films) = &mut self.films else {
             return;
@@ -115,10 +119,12 @@ impl FilmCache {
         self.films = None;
     }
 
-    /// Takes out the film whose row an act of head office changes, where it changes one. What is left stays true whether or not the act is done.
+    /// Takes out the film whose row an act of head office changes, where it changes one. What is left stays true
+    /// whether or not the act is done.
     pub fn take_out_changed(&mut self, act: &OfficeAct)
         ensures kept { (films : List model.Film) → AreRows self.old films → AreRows self.new films }
-        ensures done { (catalogue : Catalogue) → AreRows self.old catalogue.films → AreRows self.new (office_acted (seen_office_act act.now) catalogue).films }
+        ensures done { (catalogue : Catalogue) → AreRows self.old catalogue.films
+            → AreRows self.new (office_acted (seen_office_act act.now) catalogue).films }
     {
         match changed_film(act) {
             Some(number) => self.take_out(number),

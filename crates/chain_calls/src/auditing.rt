@@ -20,7 +20,8 @@ pub fn read_audit<S: Alter>(alloc: Global, conn: &mut Connection<S>) -> Result<A
     requires { conn.old.in_transaction ≡ false }
     ensures ended { conn.new.in_transaction ≡ false }
     ensures told { HasCleanDisk (state S.Store conn.new) → IfOk result (AuditsState (state S.Store conn.old)) }
-    ensures same { HasCleanDisk (state S.Store conn.new) → (books : Books) → Rests (state S.Store conn.old) books → Rests (state S.Store conn.new) books }
+    ensures same { HasCleanDisk (state S.Store conn.new) → (books : Books) → Rests (state S.Store conn.old) books
+        → Rests (state S.Store conn.new) books }
     ensures crash { Survives (state S.Store conn.old) (state S.Store conn.new) (λ _. ⊥) }
 {
     let mut tx = conn.transaction();

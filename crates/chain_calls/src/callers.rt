@@ -16,7 +16,8 @@ use sqlite::{Alter, Connection, Transaction};
 pub fn find_caller<S: Alter>(conn: &mut Connection<S>, token: &Token) -> Result<Caller, StoreFault>
     requires { conn.old.in_transaction ≡ false }
     ensures ended { conn.new.in_transaction ≡ false }
-    ensures found { HasCleanDisk (state S.Store conn.new) → IfOk result (λ caller. HasCaller token.now (seen_caller caller) (state S.Store conn.old)) }
+    ensures found { HasCleanDisk (state S.Store conn.new)
+        → IfOk result (λ caller. HasCaller token.now (seen_caller caller) (state S.Store conn.old)) }
     ensures same { HasCleanDisk (state S.Store conn.new) → IsUndone (state S.Store conn.old) (state S.Store conn.new) }
     ensures crash { Survives (state S.Store conn.old) (state S.Store conn.new) (λ _. ⊥) }
 {

@@ -44,7 +44,8 @@ pub fn first_values(first: &FirstRows<'_>)
 fn fill<S: Alter>(tx: &mut Transaction<'_, S>, first: &FirstRows<'_>) -> Result<(), StoreFault>
     ensures same_reference { tx.new.conn.ghost_name ≡ tx.old.conn.ghost_name }
     ensures survives { Survives (state S.Store tx.old.conn.now) (state S.Store tx.new.conn.now) (λ _. ⊥) }
-    ensures holds { HasCleanDisk (state S.Store tx.new.conn.now) → (state S.Store tx.old.conn.now).now.schema ≡ no_schema
+    ensures holds { HasCleanDisk (state S.Store tx.new.conn.now)
+        → (state S.Store tx.old.conn.now).now.schema ≡ no_schema
         → OnOk result (Holds (state S.Store tx.new.conn.now) (books_with first.now)) }
 {
     create_tables(tx)?;
@@ -60,7 +61,8 @@ fn make<S: Alter>(conn: &mut Connection<S>, first: &FirstRows<'_>) -> Result<(),
     ensures ended { conn.new.in_transaction ≡ false }
     ensures made { HasCleanDisk (state S.Store conn.new) → (state S.Store conn.old).now.schema ≡ no_schema
         → OnOk result (Rests (state S.Store conn.new) (books_with first.now)) }
-    ensures crash { Survives (state S.Store conn.old) (state S.Store conn.new) (LeavesMade (state S.Store conn.old) (books_with first.now)) }
+    ensures crash { Survives (state S.Store conn.old) (state S.Store conn.new)
+        (LeavesMade (state S.Store conn.old) (books_with first.now)) }
 {
     let mut tx = conn.transaction();
     fill(&mut tx, first)?;
@@ -76,15 +78,19 @@ fn is_empty(schema: &Schema) -> bool
     schema.tables.is_empty() && schema.indexes.is_empty() && schema.views.is_empty()
 }
 
-/// Makes the tables and the first rows in a database that has no table: all of it or nothing. `Already` where it has one; then it isn't touched.
+/// Makes the tables and the first rows in a database that has no table: all of it or nothing. `Already` where it has
+/// one; then it isn't touched.
 pub fn create<S: Alter>(conn: &mut Connection<S>, first: &FirstRows<'_>) -> Result<(), OpenFault>
     requires { conn.old.in_transaction ≡ false }
     ensures ended { conn.new.in_transaction ≡ false }
     ensures none { OnOk result ((state S.Store conn.old).now.schema ≡ no_schema) }
-    ensures made { HasCleanDisk (state S.Store conn.new) → OnOk result (Rests (state S.Store conn.new) (books_with first.now)) }
-    ensures there { IfErr result (λ e. e ≡ OpenFault.Already → ((state S.Store conn.old).now.schema ≢ no_schema) × (conn.new ≡ conn.old)) }
+    ensures made { HasCleanDisk (state S.Store conn.new)
+        → OnOk result (Rests (state S.Store conn.new) (books_with first.now)) }
+    ensures there { IfErr result (λ e. e ≡ OpenFault.Already
+        → ((state S.Store conn.old).now.schema ≢ no_schema) × (conn.new ≡ conn.old)) }
     ensures stopped { IfErr result (λ e. e ≢ OpenFault.Already → (state S.Store conn.old).now.schema ≡ no_schema) }
-    ensures crash { Survives (state S.Store conn.old) (state S.Store conn.new) (LeavesMade (state S.Store conn.old) (books_with first.now)) }
+    ensures crash { Survives (state S.Store conn.old) (state S.Store conn.new)
+        (LeavesMade (state S.Store conn.old) (books_with first.now)) }
     ensures chain { IfErr result (λ e. e ≢ OpenFault.NotAChain) }
     ensures version { IfErr result (λ e. e ≢ OpenFault.OtherVersion) }
     ensures damaged { IfErr result (λ e. e ≢ OpenFault.Damaged) }
@@ -102,7 +108,8 @@ pub fn create<S: Alter>(conn: &mut Connection<S>, first: &FirstRows<'_>) -> Resu
 pub fn in_memory(alloc: Global, first: &FirstRows<'_>) -> Result<Connection<MemStore>, OpenFault>
     ensures ended { IfOk result (λ conn. conn.in_transaction ≡ false) }
     ensures made { IfOk result (λ conn. Rests (state over_memory conn) (books_with first.now)) }
-    ensures fault { IfErr result (λ e. (e ≢ OpenFault.NotAChain) × (e ≢ OpenFault.OtherVersion) × (e ≢ OpenFault.Damaged) × (e ≢ OpenFault.Already)) }
+    ensures fault { IfErr result (λ e. (e ≢ OpenFault.NotAChain) × (e ≢ OpenFault.OtherVersion)
+        × (e ≢ OpenFault.Damaged) × (e ≢ OpenFault.Already)) }
 {
     let Ok(mut conn) = Connection::open_in_memory(alloc) else {
         return Err(OpenFault::Memory);

@@ -21,7 +21,8 @@ pub enum OpenFault {
     OtherVersion,
     /// The files hold a chain of this version, whose tables stand for no sound books.
     Damaged,
-    /// The files hold tables already, where a chain was to be made, or a chain of this version, where one of version 1 was to be migrated.
+    /// The files hold tables already, where a chain was to be made, or a chain of this version, where one of version
+    /// 1 was to be migrated.
     Already,
 }
 

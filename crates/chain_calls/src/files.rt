@@ -58,8 +58,10 @@ pub fn version_in<S: Alter>(conn: &mut Connection<S>) -> Result<KnownVersion, St
     ensures ended { conn.new.in_transaction ≡ false }
     ensures read { HasCleanDisk (state S.Store conn.new) → HasVersion (state S.Store conn.old).now.schema
         → IfOk result (λ it. it ≡ version_of (map (columns_of 1) ((state S.Store conn.old).now.trees 0))) }
-    ensures stays { HasCleanDisk (state S.Store conn.new) → StaysAsFound (state S.Store conn.old) (state S.Store conn.new) }
-    ensures same { HasCleanDisk (state S.Store conn.new) → (books : Books) → Rests (state S.Store conn.old) books → Rests (state S.Store conn.new) books }
+    ensures stays { HasCleanDisk (state S.Store conn.new)
+        → StaysAsFound (state S.Store conn.old) (state S.Store conn.new) }
+    ensures same { HasCleanDisk (state S.Store conn.new) → (books : Books) → Rests (state S.Store conn.old) books
+        → Rests (state S.Store conn.new) books }
     ensures crash { Survives (state S.Store conn.old) (state S.Store conn.new) (λ _. ⊥) }
 {
     let mut tx = conn.transaction();
@@ -72,7 +74,8 @@ pub fn version_in<S: Alter>(conn: &mut Connection<S>) -> Result<KnownVersion, St
 pub fn verdict(known: Result<KnownVersion, StoreFault>) -> Result<(), OpenFault>
     ensures this { OnOk result (known ≡ Ok KnownVersion.This) }
     ensures none { IfErr result (λ e. e ≡ OpenFault.NotAChain → known ≡ Ok KnownVersion.Missing) }
-    ensures other { IfErr result (λ e. e ≡ OpenFault.OtherVersion → (known ≡ Ok KnownVersion.First) ⊎ (known ≡ Ok KnownVersion.Other)) }
+    ensures other { IfErr result (λ e. e ≡ OpenFault.OtherVersion
+        → (known ≡ Ok KnownVersion.First) ⊎ (known ≡ Ok KnownVersion.Other)) }
     ensures damaged { IfErr result (λ e. e ≢ OpenFault.Damaged) }
     ensures already { IfErr result (λ e. e ≢ OpenFault.Already) }
 {
@@ -84,13 +87,15 @@ pub fn verdict(known: Result<KnownVersion, StoreFault>) -> Result<(), OpenFault>
     }
 }
 
-/// Why the tables can't be migrated, where they aren't a chain's of version 1; `is_first` is whether they are those of version 1.
+/// Why the tables can't be migrated, where they aren't a chain's of version 1; `is_first` is whether they are those
+/// of version 1.
 pub fn first_verdict(
     known: Result<KnownVersion, StoreFault>,
     is_first: Result<bool, StoreFault>,
 ) -> Result<(), OpenFault>
     ensures first { OnOk result ((known ≡ Ok KnownVersion.First) × (is_first ≡ Ok true)) }
-    ensures none { IfErr result (λ e. e ≡ OpenFault.NotAChain → (known ≡ Ok KnownVersion.Missing) ⊎ ((known ≡ Ok KnownVersion.First) × (is_first ≡ Ok false))) }
+    ensures none { IfErr result (λ e. e ≡ OpenFault.NotAChain
+        → (known ≡ Ok KnownVersion.Missing) ⊎ ((known ≡ Ok KnownVersion.First) × (is_first ≡ Ok false))) }
     ensures other { IfErr result (λ e. e ≡ OpenFault.OtherVersion → known ≡ Ok KnownVersion.Other) }
     ensures already { IfErr result (λ e. e ≡ OpenFault.Already → known ≡ Ok KnownVersion.This) }
     ensures damaged { IfErr result (λ e. e ≢ OpenFault.Damaged) }

@@ -1,5 +1,5 @@
-//! What a chain of shops rests on: its books in the tables of a store, what is asked done there, and what each call does to a connection between two
-//! requests.
+//! What a chain of shops rests on: its books in the tables of a store, what is asked done there, and what each call
+//! does to a connection between two requests.
 #![tactic(auto)]
 
 mod asked;

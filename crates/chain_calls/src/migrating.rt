@@ -14,7 +14,8 @@ use sql_rows::{StoreFault, fault_of};
 use sqlite::{Alter, Connection, Transaction};
 use std::alloc::Global;
 
-/// Makes the tables of version 1 those of this version, inside a transaction, and tells whether an audit finds these sound.
+/// Makes the tables of version 1 those of this version, inside a transaction, and tells whether an audit finds these
+/// sound.
 fn migrate_inside<S: Alter>(alloc: Global, tx: &mut Transaction<'_, S>) -> Result<bool, StoreFault>
     ensures inside { StaysInside S.Store tx.old.conn tx.new.conn result }
     ensures migrated { HasCleanDisk (state S.Store tx.new.conn.now)
@@ -25,15 +26,19 @@ fn migrate_inside<S: Alter>(alloc: Global, tx: &mut Transaction<'_, S>) -> Resul
     Ok(audit.sound)
 }
 
-/// Makes the tables of version 1 those of this version, each rental with the terms of its film as they stand: all of it or nothing. `Damaged` where an audit
-/// finds that they stand for no sound books; then nothing is changed.
+/// Makes the tables of version 1 those of this version, each rental with the terms of its film as they stand: all of
+/// it or nothing. `Damaged` where an audit finds that they stand for no sound books; then nothing is changed.
 pub fn migrate<S: Alter>(alloc: Global, conn: &mut Connection<S>) -> Result<(), OpenFault>
     requires { conn.old.in_transaction ≡ false }
     ensures ended { conn.new.in_transaction ≡ false }
-    ensures migrated { HasCleanDisk (state S.Store conn.new) → OnOk result (IsMigration (state S.Store conn.old) (state S.Store conn.new)) }
-    ensures damaged { HasCleanDisk (state S.Store conn.new) → IfErr result (λ e. e ≡ OpenFault.Damaged → IsUnsoundVersion1 (state S.Store conn.old)) }
-    ensures undone { IfErr result (λ e. is_store_fault e ≡ false → Survives (state S.Store conn.old) (state S.Store conn.new) (λ _. ⊥)) }
-    ensures crash { Survives (state S.Store conn.old) (state S.Store conn.new) (LeavesMigrated (state S.Store conn.old)) }
+    ensures migrated { HasCleanDisk (state S.Store conn.new)
+        → OnOk result (IsMigration (state S.Store conn.old) (state S.Store conn.new)) }
+    ensures damaged { HasCleanDisk (state S.Store conn.new)
+        → IfErr result (λ e. e ≡ OpenFault.Damaged → IsUnsoundVersion1 (state S.Store conn.old)) }
+    ensures undone { IfErr result (λ e. is_store_fault e ≡ false
+        → Survives (state S.Store conn.old) (state S.Store conn.new) (λ _. ⊥)) }
+    ensures crash { Survives (state S.Store conn.old) (state S.Store conn.new)
+        (LeavesMigrated (state S.Store conn.old)) }
     ensures chain { IfErr result (λ e. e ≢ OpenFault.NotAChain) }
     ensures version { IfErr result (λ e. e ≢ OpenFault.OtherVersion) }
     ensures already { IfErr result (λ e. e ≢ OpenFault.Already) }

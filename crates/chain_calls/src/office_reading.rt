@@ -1,4 +1,5 @@
-//! A reading of head office: lists, row by row outside any transaction, and where the copy of a mark is and what an audit says, each by a look inside one.
+//! A reading of head office: lists, row by row outside any transaction, and where the copy of a mark is and what an
+//! audit says, each by a look inside one.
 
 ghost use Rattle.std.specs.Prelude.{◌≡◌, nat_lt, false, IfOk};
 ghost use Rattle.sqlite.specs.Held.{state};
@@ -29,7 +30,8 @@ pub fn read_office<S: Alter>(
 ) -> Result<Reply, StoreFault>
     requires { conn.old.in_transaction ≡ false }
     ensures ended { conn.new.in_transaction ≡ false }
-    ensures told { HasCleanDisk (state S.Store conn.new) → IfOk result (λ reply. TellsOffice ask (seen_reply reply) (state S.Store conn.old)) }
+    ensures told { HasCleanDisk (state S.Store conn.new)
+        → IfOk result (λ reply. TellsOffice ask (seen_reply reply) (state S.Store conn.old)) }
     ensures same { HasCleanDisk (state S.Store conn.new) → IsUndone (state S.Store conn.old) (state S.Store conn.new) }
     ensures crash { Survives (state S.Store conn.old) (state S.Store conn.new) (λ _. ⊥) }
     ensures decided { IfOk result (λ reply. IsDecision (seen_reply reply)) }
@@ -46,7 +48,8 @@ pub fn read_office<S: Alter>(
 fn tell_audit<S: Alter>(alloc: Global, conn: &mut Connection<S>) -> Result<Reply, StoreFault>
     requires { conn.old.in_transaction ≡ false }
     ensures ended { conn.new.in_transaction ≡ false }
-    ensures told { HasCleanDisk (state S.Store conn.new) → IfOk result (λ reply. TellsAudit (seen_reply reply) (state S.Store conn.old)) }
+    ensures told { HasCleanDisk (state S.Store conn.new)
+        → IfOk result (λ reply. TellsAudit (seen_reply reply) (state S.Store conn.old)) }
     ensures same { HasCleanDisk (state S.Store conn.new) → IsUndone (state S.Store conn.old) (state S.Store conn.new) }
     ensures crash { Survives (state S.Store conn.old) (state S.Store conn.new) (λ _. ⊥) }
     ensures decided { IfOk result (λ reply. IsDecision (seen_reply reply)) }
@@ -102,7 +105,8 @@ fn place_in<S: Alter>(
     }
 }
 
-/// Whether the mark was made: the branch has a copy of that number, and the copy has that mark, as one that came from another branch hasn't.
+/// Whether the mark was made: the branch has a copy of that number, and the copy has that mark, as one that came from
+/// another branch hasn't.
 fn is_made<S: Alter>(tx: &mut Transaction<'_, S>, mark: &Mark) -> Result<bool, StoreFault>
     ensures inside { StaysInside S.Store tx.old.conn tx.new.conn result }
     ensures made { Finds (state S.Store tx.old.conn.now) (state S.Store tx.new.conn.now) result

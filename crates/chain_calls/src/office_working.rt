@@ -31,8 +31,9 @@ pub(crate) fn work<S: Alter>(
     command: &OfficeCommand,
 ) -> Result<(Reply, bool), StoreFault>
     ensures inside { StaysInside S.Store tx.old.conn tx.new.conn result }
-    ensures works { HasCleanDisk (state S.Store tx.new.conn.now) → IfOk result (λ done.
-        Does limits HeadOffice (Office (seen_office command.now)) (seen_reply done.0) done.1 (state S.Store tx.old.conn.now) (state S.Store tx.new.conn.now)) }
+    ensures works { HasCleanDisk (state S.Store tx.new.conn.now)
+        → IfOk result (λ done. Does limits HeadOffice (Office (seen_office command.now)) (seen_reply done.0) done.1
+        (state S.Store tx.old.conn.now) (state S.Store tx.new.conn.now)) }
     ensures decided { IfOk result (λ done. IsDecision (seen_reply done.0)) }
 {
     let kept = kept_at(tx, Owner::Office, &command.key)?;
@@ -52,8 +53,9 @@ fn answer<S: Alter>(
 ) -> Result<(Reply, bool), StoreFault>
     requires { form.now ≡ office_command_form (seen_office command.now) }
     ensures inside { StaysWithin S.Store tx.old.conn tx.new.conn result }
-    ensures works { HasCleanDisk (state S.Store tx.new.conn.now) → IfOk result (λ done.
-        WorksBeside kept.entry limits (seen_office command.now) (seen_reply done.0) done.1 (state S.Store tx.old.conn.now) (state S.Store tx.new.conn.now)) }
+    ensures works { HasCleanDisk (state S.Store tx.new.conn.now)
+        → IfOk result (λ done. WorksBeside kept.entry limits (seen_office command.now) (seen_reply done.0) done.1
+        (state S.Store tx.old.conn.now) (state S.Store tx.new.conn.now)) }
     ensures decided { IfOk result (λ done. IsDecision (seen_reply done.0)) }
 {
     let found = find(tx, command)?;

@@ -40,7 +40,8 @@ fn listed_text<S: Alter>(
     list: Listing,
 ) -> Result<String, StoreFault>
     ensures text { HasCleanDisk (state S.Store conn.new)
-        → IfOk result (λ s. (books : Books) → Holds (state S.Store conn.old) books → IsHeld books → string_bytes s ≡ shown_text (listed branch list books)) }
+        → IfOk result (λ s. (books : Books) → Holds (state S.Store conn.old) books → IsHeld books → string_bytes s
+        ≡ shown_text (listed branch list books)) }
     ensures same { StaysSame S.Store conn.old conn.new result }
 {
     match list {
@@ -58,7 +59,8 @@ fn report_text<S: Alter>(
     report: Report,
 ) -> Result<String, StoreFault>
     ensures text { HasCleanDisk (state S.Store conn.new)
-        → IfOk result (λ s. (books : Books) → Holds (state S.Store conn.old) books → IsHeld books → string_bytes s ≡ shown_text (shown_by report books)) }
+        → IfOk result (λ s. (books : Books) → Holds (state S.Store conn.old) books → IsHeld books → string_bytes s
+        ≡ shown_text (shown_by report books)) }
     ensures same { StaysSame S.Store conn.old conn.new result }
 {
     match report {
@@ -76,7 +78,8 @@ pub fn show<S: Alter>(
 ) -> Result<Reply, StoreFault>
     requires { conn.old.in_transaction ≡ false }
     ensures ended { conn.new.in_transaction ≡ false }
-    ensures shown { HasCleanDisk (state S.Store conn.new) → IfOk result (λ reply. ShowsReport report (seen_reply reply) (state S.Store conn.old)) }
+    ensures shown { HasCleanDisk (state S.Store conn.new)
+        → IfOk result (λ reply. ShowsReport report (seen_reply reply) (state S.Store conn.old)) }
     ensures same { HasCleanDisk (state S.Store conn.new) → IsUndone (state S.Store conn.old) (state S.Store conn.new) }
     ensures crash { Survives (state S.Store conn.old) (state S.Store conn.new) (λ _. ⊥) }
     ensures decided { IfOk result (λ reply. IsDecision (seen_reply reply)) }

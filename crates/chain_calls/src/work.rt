@@ -38,8 +38,9 @@ pub fn work_of<S: Alter>(
 ) -> Result<Work, StoreFault>
     ensures inside { StaysInside S.Store tx.old.conn tx.new.conn result }
     ensures works { HasCleanDisk (state S.Store tx.new.conn.now)
-        → IfOk result (λ work. Works limits (asker asked.now) (asked_of asked.now) work (IsHeldBy (IsKnownFor asked.now) films.old) films.new
-        (state S.Store tx.old.conn.now) (state S.Store tx.new.conn.now)) }
+        → IfOk result (λ work. Works limits (asker asked.now) (asked_of asked.now) work
+        (IsHeldBy (IsKnownFor asked.now) films.old) films.new (state S.Store tx.old.conn.now)
+        (state S.Store tx.new.conn.now)) }
     ensures decided { IfOk result TellsDecision }
 {
     match *asked {
@@ -64,8 +65,9 @@ fn branch_work_of<S: Alter>(
 ) -> Result<Work, StoreFault>
     ensures inside { StaysInside S.Store tx.old.conn tx.new.conn result }
     ensures works { HasCleanDisk (state S.Store tx.new.conn.now)
-        → IfOk result (λ work. Works limits (Counter branch) (seen_request request.now) work (IsHeldBy (IsKnown is_known branch) films.old) films.new
-        (state S.Store tx.old.conn.now) (state S.Store tx.new.conn.now)) }
+        → IfOk result (λ work. Works limits (Counter branch) (seen_request request.now) work
+        (IsHeldBy (IsKnown is_known branch) films.old) films.new (state S.Store tx.old.conn.now)
+        (state S.Store tx.new.conn.now)) }
     ensures decided { IfOk result TellsDecision }
 {
     match branch_work::work(alloc, tx, films, limits, branch, is_known, request)? {
@@ -84,8 +86,8 @@ fn office_work_of<S: Alter>(
 ) -> Result<Work, StoreFault>
     ensures inside { StaysInside S.Store tx.old.conn tx.new.conn result }
     ensures works { HasCleanDisk (state S.Store tx.new.conn.now)
-        → IfOk result (λ work. Works limits HeadOffice (Office (seen_office command.now)) work (IsHeldBy (λ _. ⊤) films.old) films.new
-        (state S.Store tx.old.conn.now) (state S.Store tx.new.conn.now)) }
+        → IfOk result (λ work. Works limits HeadOffice (Office (seen_office command.now)) work
+        (IsHeldBy (λ _. ⊤) films.old) films.new (state S.Store tx.old.conn.now) (state S.Store tx.new.conn.now)) }
     ensures decided { IfOk result TellsDecision }
 {
     // Before anything is written: what is left stays true whether or not the command is done.
@@ -100,7 +102,8 @@ pub fn is_open<S: Alter>(conn: &mut Connection<S>) -> bool
     ensures ended { conn.new.in_transaction ≡ false }
     ensures was { HasCleanDisk (state S.Store conn.new) → IsTrue result → IsTrue (state S.Store conn.old).is_open }
     ensures same { HasCleanDisk (state S.Store conn.new) → IsTrue (state S.Store conn.new).is_open
-        → ((state S.Store conn.new).now ≡ (state S.Store conn.old).committed) × ((state S.Store conn.new).committed ≡ (state S.Store conn.old).committed) }
+        → ((state S.Store conn.new).now ≡ (state S.Store conn.old).committed)
+        × ((state S.Store conn.new).committed ≡ (state S.Store conn.old).committed) }
     ensures crash { Survives (state S.Store conn.old) (state S.Store conn.new) (λ _. ⊥) }
 {
     let mut tx = conn.transaction();

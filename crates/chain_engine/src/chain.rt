@@ -33,7 +33,8 @@ use sqlite::{Alter, Connection, MemStore};
 use std::alloc::Global;
 use std::marker::Model;
 
-/// A chain of shops: its limits, the books of all branches in the tables of a store, and what is known of films, for all branches, and of callers.
+/// A chain of shops: its limits, the books of all branches in the tables of a store, and what is known of films, for
+/// all branches, and of callers.
 #[derive(Drop)]
 pub struct Chain<S: Alter> {
     pub(crate) limits: Limits,
@@ -58,7 +59,8 @@ impl<S: Alter> Model for Chain<S> {
 }
 
 impl Chain<MemStore> {
-    /// A chain in memory with head office's token and no shared row. Where there is none, memory or room is wanting, or the store has failed.
+    /// A chain in memory with head office's token and no shared row. Where there is none, memory or room is wanting,
+    /// or the store has failed.
     pub fn memory(
         alloc: Global,
         limits: Limits,
@@ -66,7 +68,8 @@ impl Chain<MemStore> {
     ) -> Result<Chain<MemStore>, OpenFault>
         ensures made { IfOk result (λ chain. (chain.limits ≡ limits) × (chain.is_failed ≡ false)
             × IsAt over_memory chain (first_books office.now) (first_books office.now)) }
-        ensures fault { IfErr result (λ e. (e ≢ OpenFault.NotAChain) × (e ≢ OpenFault.OtherVersion) × (e ≢ OpenFault.Damaged) × (e ≢ OpenFault.Already)) }
+        ensures fault { IfErr result (λ e. (e ≢ OpenFault.NotAChain) × (e ≢ OpenFault.OtherVersion)
+            × (e ≢ OpenFault.Damaged) × (e ≢ OpenFault.Already)) }
     {
         let first = FirstRows::OfOffice(office);
         first_values(&first);
@@ -76,11 +79,13 @@ impl Chain<MemStore> {
         }
     }
 
-    /// A chain in memory, with the opening rows, in which no branch has asked anything. Where there is none, memory or room is wanting, or the store has
-    /// failed.
+    /// A chain in memory, with the opening rows, in which no branch has asked anything. Where there is none, memory
+    /// or room is wanting, or the store has failed.
     pub fn demo(alloc: Global, limits: Limits) -> Result<Chain<MemStore>, OpenFault>
-        ensures made { IfOk result (λ chain. (chain.limits ≡ limits) × (chain.is_failed ≡ false) × IsAt over_memory chain opening_books opening_books) }
-        ensures fault { IfErr result (λ e. (e ≢ OpenFault.NotAChain) × (e ≢ OpenFault.OtherVersion) × (e ≢ OpenFault.Damaged) × (e ≢ OpenFault.Already)) }
+        ensures made { IfOk result (λ chain. (chain.limits ≡ limits) × (chain.is_failed ≡ false)
+            × IsAt over_memory chain opening_books opening_books) }
+        ensures fault { IfErr result (λ e. (e ≢ OpenFault.NotAChain) × (e ≢ OpenFault.OtherVersion)
+            × (e ≢ OpenFault.Damaged) × (e ≢ OpenFault.Already)) }
     {
         let first = FirstRows::OfOpening;
         first_values(&first);
@@ -122,8 +127,9 @@ impl<S: Alter> Chain<S> {
         self.films.len()
     }
 
-    /// The caller whose token it is, or the refusal that the store gives instead: `Memory`, `Size` or `StoreFailed`, the last exactly where the chain has failed
-    /// then. What a crash may find stays as it was, whatever the tables are.
+    /// The caller whose token it is, or the refusal that the store gives instead: `Memory`, `Size` or `StoreFailed`,
+    /// the last exactly where the chain has failed then. What a crash may find stays as it was, whatever the tables
+    /// are.
     pub fn caller(&mut self, token: &Token) -> Result<Caller, Refusal>
         ensures taken { Takes S.Store self.old self.new (FindsCaller token.now result) }
         ensures refused { IfErr result IsOfStore }
@@ -146,7 +152,8 @@ impl<S: Alter> Chain<S> {
     /// The caller whose token it is, where the chain hasn't failed and has found it before. The store isn't asked.
     fn remembered(&self, token: &Token) -> Option<Caller>
         ensures { IfSome result (λ caller. (self.now.is_failed ≡ false)
-            × ((catalogue : Catalogue) → AreCallers self.now.callers catalogue → seen_caller caller ≡ caller_of (Some token.now) catalogue)) }
+            × ((catalogue : Catalogue) → AreCallers self.now.callers catalogue → seen_caller caller ≡ caller_of
+            (Some token.now) catalogue)) }
     {
         if self.is_failed {
             return None;
@@ -154,10 +161,12 @@ impl<S: Alter> Chain<S> {
         self.callers.known(token)
     }
 
-    /// What an audit says of the tables, whatever they hold, or the refusal that the store gives instead: `Memory`, `Size` or `StoreFailed`, the last exactly where
-    /// the chain has failed then. What a crash may find stays as it was. It reads all tables: its time is that of sorting their rows, and its memory that of keeping them.
+    /// What an audit says of the tables, whatever they hold, or the refusal that the store gives instead: `Memory`,
+    /// `Size` or `StoreFailed`, the last exactly where the chain has failed then. What a crash may find stays as it
+    /// was. It reads all tables: its time is that of sorting their rows, and its memory that of keeping them.
     pub fn audit(&mut self) -> Result<Audit, Refusal>
-        ensures told { HasCleanDisk (state S.Store self.new.conn) → IfOk result (AuditsState (state S.Store self.old.conn)) }
+        ensures told { HasCleanDisk (state S.Store self.new.conn)
+            → IfOk result (AuditsState (state S.Store self.old.conn)) }
         ensures taken { Takes S.Store self.old self.new (FindsAudit result) }
         ensures refused { IfErr result IsOfStore }
         ensures left { LeavesNoMore (state S.Store self.old.conn) (state S.Store self.new.conn) }
@@ -170,13 +179,16 @@ impl<S: Alter> Chain<S> {
         }
     }
 
-    /// Answers one request of a caller. What is answered with a refusal has changed nothing; where it is `Memory` or `Size`, the request may be sent again as
-    /// it was. Once the answer is `StoreFailed`, it is that for good: the chain is to be closed and opened again.
+    /// Answers one request of a caller. What is answered with a refusal has changed nothing; where it is `Memory` or
+    /// `Size`, the request may be sent again as it was. Once the answer is `StoreFailed`, it is that for good: the
+    /// chain is to be closed and opened again.
     pub fn answer(&mut self, caller: &Caller, request: &Request) -> Reply
-        ensures taken { Takes S.Store self.old self.new (Answers (seen_caller caller.now) (seen_request request.now) (seen_reply result)) }
+        ensures taken { Takes S.Store self.old self.new
+            (Answers (seen_caller caller.now) (seen_request request.now) (seen_reply result)) }
         ensures told { IsTold (seen_reply result) }
         ensures fails { self.new.is_failed ≡ is_store_failure (seen_reply result) }
-        ensures failed { self.old.is_failed ≡ true → (self.new ≡ self.old) × (seen_reply result ≡ problem_answer StoreFailed) }
+        ensures failed { self.old.is_failed ≡ true
+            → (self.new ≡ self.old) × (seen_reply result ≡ problem_answer StoreFailed) }
     {
         if self.is_failed {
             return Reply::refused(Refusal::StoreFailed);
@@ -201,13 +213,17 @@ impl<S: Alter> Chain<S> {
         }
     }
 
-    /// Answers requests one after another, each as if it had come alone. An `Err` has answered none and changed nothing.
+    /// Answers requests one after another, each as if it had come alone. An `Err` has answered none and changed
+    /// nothing.
     pub fn replay(&mut self, requests: &[(Token, Request)]) -> Result<Vec<Reply>, NoMemory>
-        ensures ran { IfOk result (λ replies. Takes S.Store self.old self.new (Runs (map event_of requests.now) (map seen_reply replies.items))) }
+        ensures ran { IfOk result (λ replies. Takes S.Store self.old self.new
+            (Runs (map event_of requests.now) (map seen_reply replies.items))) }
         ensures told { IfOk result (λ replies. All IsTold (map seen_reply replies.items)) }
-        ensures fails { IfOk result (λ replies. self.new.is_failed ≡ (self.old.is_failed || has_failed (map seen_reply replies.items))) }
-        ensures failed { self.old.is_failed ≡ true → (self.new ≡ self.old)
-            × IfOk result (λ replies. map seen_reply replies.items ≡ map (λ _. problem_answer StoreFailed) requests.now) }
+        ensures fails { IfOk result (λ replies. self.new.is_failed
+            ≡ (self.old.is_failed || has_failed (map seen_reply replies.items))) }
+        ensures failed { self.old.is_failed ≡ true
+            → (self.new ≡ self.old) × IfOk result
+            (λ replies. map seen_reply replies.items ≡ map (λ _. problem_answer StoreFailed) requests.now) }
         ensures nothing { OnErr result (self.new ≡ self.old) }
     {
         let mut replies = Vec::with_capacity(self.alloc, requests.len())?;
@@ -220,10 +236,12 @@ impl<S: Alter> Chain<S> {
 
     /// Answers a request that comes with a token.
     fn answer_with(&mut self, token: &Token, request: &Request) -> Reply
-        ensures taken { Takes S.Store self.old self.new (AnswersEvent (event_of (token.now, request.now)) (seen_reply result)) }
+        ensures taken { Takes S.Store self.old self.new
+            (AnswersEvent (event_of (token.now, request.now)) (seen_reply result)) }
         ensures told { IsTold (seen_reply result) }
         ensures fails { self.new.is_failed ≡ is_store_failure (seen_reply result) }
-        ensures failed { self.old.is_failed ≡ true → (self.new ≡ self.old) × (seen_reply result ≡ problem_answer StoreFailed) }
+        ensures failed { self.old.is_failed ≡ true
+            → (self.new ≡ self.old) × (seen_reply result ≡ problem_answer StoreFailed) }
     {
         match self.caller(token) {
             Ok(caller) => self.answer(&caller, request),
@@ -234,8 +252,10 @@ impl<S: Alter> Chain<S> {
     /// Answers what the tables answer, where the store hasn't failed.
     fn answer_asked(&mut self, asked: &Asked<'_>) -> Reply
         requires fine { self.old.is_failed ≡ false }
-        requires known { (catalogue : Catalogue) → AreCallers self.old.callers catalogue → IsKnownFor asked.now catalogue }
-        ensures taken { Takes S.Store self.old self.new (Answers (asker asked.now) (asked_of asked.now) (seen_reply result)) }
+        requires known { (catalogue : Catalogue) → AreCallers self.old.callers catalogue
+            → IsKnownFor asked.now catalogue }
+        ensures taken { Takes S.Store self.old self.new
+            (Answers (asker asked.now) (asked_of asked.now) (seen_reply result)) }
         ensures told { IsTold (seen_reply result) }
         ensures fails { self.new.is_failed ≡ is_store_failure (seen_reply result) }
     {
@@ -260,7 +280,8 @@ impl<S: Alter> Chain<S> {
     /// Answers a reading of head office, where the store hasn't failed.
     fn answer_office(&mut self, ask: OfficeAsk) -> Reply
         requires { self.old.is_failed ≡ false }
-        ensures taken { Takes S.Store self.old self.new (Answers HeadOffice (OfficeLook (seen_office_ask ask)) (seen_reply result)) }
+        ensures taken { Takes S.Store self.old self.new
+            (Answers HeadOffice (OfficeLook (seen_office_ask ask)) (seen_reply result)) }
         ensures told { IsTold (seen_reply result) }
         ensures fails { self.new.is_failed ≡ is_store_failure (seen_reply result) }
     {

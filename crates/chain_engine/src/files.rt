@@ -18,8 +18,9 @@ use sqlite_disk::Disk;
 use std::alloc::Global;
 
 impl<D: Disk + Drop> Chain<FileStore<D>> {
-    /// Opens the chain that the files hold; the limits are those of this opening. A fault gives the files back: `NotAChain` where they hold none,
-    /// `OtherVersion` where its version isn't the program's, `Damaged` where its tables stand for no sound books, and `Memory`, `Size` or `Store` where the store can't do its part.
+    /// Opens the chain that the files hold; the limits are those of this opening. A fault gives the files back:
+    /// `NotAChain` where they hold none, `OtherVersion` where its version isn't the program's, `Damaged` where its
+    /// tables stand for no sound books, and `Memory`, `Size` or `Store` where the store can't do its part.
     pub fn open_files(
         alloc: Global,
         files: Files<D>,
@@ -35,11 +36,13 @@ impl<D: Disk + Drop> Chain<FileStore<D>> {
         }
     }
 
-    /// Gives the files back, which hold what a crash of the chain may leave. Unless the store has failed, they keep the chain's books; else they keep the
-    /// books before the request at which it failed, or those after it.
+    /// Gives the files back, which hold what a crash of the chain may leave. Unless the store has failed, they keep
+    /// the chain's books; else they keep the books before the request at which it failed, or those after it.
     pub fn close(self) -> Files<D>
-        ensures keeps { self.is_failed ≡ false → (books besides : Books) → IsAt over_files self books besides → KeepsBooks D.Disk result books }
-        ensures either { (books besides : Books) → IsAt over_files self books besides → KeepsEither D.Disk result books besides }
+        ensures keeps { self.is_failed ≡ false → (books besides : Books) → IsAt over_files self books besides
+            → KeepsBooks D.Disk result books }
+        ensures either { (books besides : Books) → IsAt over_files self books besides
+            → KeepsEither D.Disk result books besides }
         ensures left { AreClean D.Disk result.log result.db → HoldsOne D.Disk result (file_state self.conn).may_leave }
         ensures clean { AreClean D.Disk result.log result.db → HasCleanDisk (file_state self.conn) }
         ensures seen { outcomes D.Disk result.log result.db (image_of D.Disk result) }
@@ -55,19 +58,23 @@ impl<D: Disk + Drop> Chain<FileStore<D>> {
         give_back(conn)
     }
 
-    /// Closes the chain and opens its files again, with the limits that it had: the new chain has the same books, or, where the store had failed, those
-    /// before the request at which it failed or those after it. A fault gives the files back, as `open_files` does, but is never `Damaged`.
+    /// Closes the chain and opens its files again, with the limits that it had: the new chain has the same books, or,
+    /// where the store had failed, those before the request at which it failed or those after it. A fault gives the
+    /// files back, as `open_files` does, but is never `Damaged`.
     pub fn reopen(self) -> Result<Chain<FileStore<D>>, (OpenFault, Files<D>)>
         ensures live { IfOk result (λ chain. (chain.limits ≡ self.limits) × (chain.is_failed ≡ false)) }
-        ensures honest { IfOk result (λ chain. HasCleanDisk (file_state chain.conn) → HasCleanDisk (file_state self.conn)) }
-        ensures same { IfOk result (λ chain. HasCleanDisk (file_state chain.conn) → self.is_failed ≡ false → (books besides : Books)
-            → IsAt over_files self books besides → IsAt over_files chain books books) }
-        ensures either { IfOk result (λ chain. HasCleanDisk (file_state chain.conn) → (books besides : Books) → IsAt over_files self books besides
+        ensures honest { IfOk result (λ chain. HasCleanDisk (file_state chain.conn)
+            → HasCleanDisk (file_state self.conn)) }
+        ensures same { IfOk result (λ chain. HasCleanDisk (file_state chain.conn) → self.is_failed ≡ false
+            → (books besides : Books) → IsAt over_files self books besides → IsAt over_files chain books books) }
+        ensures either { IfOk result (λ chain. HasCleanDisk (file_state chain.conn) → (books besides : Books)
+            → IsAt over_files self books besides
             → ∥ IsAt over_files chain books books ⊎ IsAt over_files chain besides besides ∥₁) }
         ensures undamaged { (books besides : Books) → IsAt over_files self books besides
             → IfErr result (λ e. AreClean D.Disk e.1.log e.1.db → e.0 ≢ OpenFault.Damaged) }
         ensures kept { IfErr result (λ e. (closed : _)
-            × (self.is_failed ≡ false → (books besides : Books) → IsAt over_files self books besides → KeepsBooks D.Disk closed books)
+            × (self.is_failed ≡ false → (books besides : Books) → IsAt over_files self books besides → KeepsBooks
+            D.Disk closed books)
             × IsNotOpened D.Disk closed e.0 e.1) }
     {
         let alloc = self.alloc;

@@ -2,7 +2,8 @@
 
 ghost use Rattle.chain_engine.specs.Laws.{RunsFollow};
 
-/// What a chain answered in two calls of `replay`, one after the other, is what it would have answered in one: both together are one history.
+/// What a chain answered in two calls of `replay`, one after the other, is what it would have answered in one: both
+/// together are one history.
 pub fn runs_follow()
     ensures { RunsFollow }
 {}

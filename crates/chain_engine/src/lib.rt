@@ -1,5 +1,5 @@
-//! The chain of shops over a store: its books, and what they answer, one request after another, each in one transaction; and a chain in two files that is
-//! stopped and opened again, with what its requests come to.
+//! The chain of shops over a store: its books, and what they answer, one request after another, each in one
+//! transaction; and a chain in two files that is stopped and opened again, with what its requests come to.
 #![tactic(auto)]
 
 mod chain;

@@ -13,8 +13,8 @@ use sqlite_disk::Disk;
 use sqlite_std_file::File;
 
 impl Chain<FileStore<File>> {
-    /// Makes a chain with head office's token and no shared row in the file, which is made where it isn't there. `Already` where the file holds tables, which
-    /// stay as they are.
+    /// Makes a chain with head office's token and no shared row in the file, which is made where it isn't there.
+    /// `Already` where the file holds tables, which stay as they are.
     pub fn create(
         rt: &HostRuntime,
         path: &str,
@@ -26,8 +26,9 @@ impl Chain<FileStore<File>> {
         ensures chain { IfErr result (λ e. e ≢ OpenFault.NotAChain) }
         ensures version { IfErr result (λ e. e ≢ OpenFault.OtherVersion) }
         ensures damaged { IfErr result (λ e. e ≢ OpenFault.Damaged) }
-        ensures there { IfErr result (λ e. e ≡ OpenFault.Already → (files left : _) × IsFresh true files.log × IsFresh false files.db
-            × IsNotCreated ⟦<File as Disk>⟧ files (first_books office.now) e left) }
+        ensures there { IfErr result (λ e. e ≡ OpenFault.Already
+            → (files left : _) × IsFresh true files.log × IsFresh false files.db × IsNotCreated ⟦<File as Disk>⟧ files
+            (first_books office.now) e left) }
     {
         let files = files_at(rt, path)?;
         match Chain::create_files(rt.alloc(), files, limits, office) {
@@ -36,18 +37,22 @@ impl Chain<FileStore<File>> {
         }
     }
 
-    /// Opens the chain that the file holds; the limits are those of this opening. `NotAChain` also where there is no file, and then none is made.
+    /// Opens the chain that the file holds; the limits are those of this opening. `NotAChain` also where there is no
+    /// file, and then none is made.
     pub fn open(
         rt: &HostRuntime,
         path: &str,
         limits: Limits,
     ) -> Result<Chain<FileStore<File>>, OpenFault>
-        ensures opened { IfOk result (λ chain. (files : _) × IsFresh true files.log × IsFresh false files.db × IsOpenedIn files limits chain) }
+        ensures opened { IfOk result (λ chain. (files : _) × IsFresh true files.log × IsFresh false files.db
+            × IsOpenedIn files limits chain) }
         ensures already { IfErr result (λ e. e ≢ OpenFault.Already) }
-        ensures damaged { IfErr result (λ e. e ≡ OpenFault.Damaged → (files left : _) × IsFresh true files.log × IsFresh false files.db
-            × IsNotOpened ⟦<File as Disk>⟧ files e left) }
-        ensures version { IfErr result (λ e. e ≡ OpenFault.OtherVersion → (files left : _) × IsFresh true files.log × IsFresh false files.db
-            × IsNotOpened ⟦<File as Disk>⟧ files e left) }
+        ensures damaged { IfErr result (λ e. e ≡ OpenFault.Damaged
+            → (files left : _) × IsFresh true files.log × IsFresh false files.db × IsNotOpened ⟦<File as Disk>⟧ files
+            e left) }
+        ensures version { IfErr result (λ e. e ≡ OpenFault.OtherVersion
+            → (files left : _) × IsFresh true files.log × IsFresh false files.db × IsNotOpened ⟦<File as Disk>⟧ files
+            e left) }
     {
         if is_missing(rt, path) {
             return Err(OpenFault::NotAChain);
@@ -59,20 +64,24 @@ impl Chain<FileStore<File>> {
         }
     }
 
-    /// Makes the chain of version 1 that the file holds one of this version, and opens it; the limits are those of this opening. `NotAChain` also where there is
-    /// no file, and then none is made.
+    /// Makes the chain of version 1 that the file holds one of this version, and opens it; the limits are those of
+    /// this opening. `NotAChain` also where there is no file, and then none is made.
     pub fn migrate(
         rt: &HostRuntime,
         path: &str,
         limits: Limits,
     ) -> Result<Chain<FileStore<File>>, OpenFault>
-        ensures migrated { IfOk result (λ chain. (files : _) × IsFresh true files.log × IsFresh false files.db × IsMigratedIn files limits chain) }
-        ensures already { IfErr result (λ e. e ≡ OpenFault.Already → (files left : _) × IsFresh true files.log × IsFresh false files.db
-            × IsNotMigrated ⟦<File as Disk>⟧ files e left) }
-        ensures damaged { IfErr result (λ e. e ≡ OpenFault.Damaged → (files left : _) × IsFresh true files.log × IsFresh false files.db
-            × IsNotMigrated ⟦<File as Disk>⟧ files e left) }
-        ensures version { IfErr result (λ e. e ≡ OpenFault.OtherVersion → (files left : _) × IsFresh true files.log × IsFresh false files.db
-            × IsNotMigrated ⟦<File as Disk>⟧ files e left) }
+        ensures migrated { IfOk result (λ chain. (files : _) × IsFresh true files.log × IsFresh false files.db
+            × IsMigratedIn files limits chain) }
+        ensures already { IfErr result (λ e. e ≡ OpenFault.Already
+            → (files left : _) × IsFresh true files.log × IsFresh false files.db × IsNotMigrated ⟦<File as Disk>⟧
+            files e left) }
+        ensures damaged { IfErr result (λ e. e ≡ OpenFault.Damaged
+            → (files left : _) × IsFresh true files.log × IsFresh false files.db × IsNotMigrated ⟦<File as Disk>⟧
+            files e left) }
+        ensures version { IfErr result (λ e. e ≡ OpenFault.OtherVersion
+            → (files left : _) × IsFresh true files.log × IsFresh false files.db × IsNotMigrated ⟦<File as Disk>⟧
+            files e left) }
     {
         if is_missing(rt, path) {
             return Err(OpenFault::NotAChain);

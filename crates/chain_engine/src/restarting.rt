@@ -18,7 +18,8 @@ use std::alloc::Global;
 
 /// The files behind a crash of their disks.
 fn crashed<D: Crash + Drop>(files: Files<D>) -> Files<D>
-    ensures left { (image : Image) → outcomes D.Disk result.log result.db image → outcomes D.Disk files.log files.db image }
+    ensures left { (image : Image) → outcomes D.Disk result.log result.db image
+        → outcomes D.Disk files.log files.db image }
     ensures clean { AreClean D.Disk result.log result.db → AreClean D.Disk files.log files.db }
 {
     let Files { mut log, mut db } = files;
@@ -27,8 +28,9 @@ fn crashed<D: Crash + Drop>(files: Files<D>) -> Files<D>
     Files { log, db }
 }
 
-/// Stops a chain, lets its disks crash, and opens the files that are left, with the given limits: the new chain has the books of the old one, or, where the
-/// store had failed, those before the request at which it failed or those after it. A fault gives the files back, as `open_files` does, but is never `Damaged`.
+/// Stops a chain, lets its disks crash, and opens the files that are left, with the given limits: the new chain has
+/// the books of the old one, or, where the store had failed, those before the request at which it failed or those
+/// after it. A fault gives the files back, as `open_files` does, but is never `Damaged`.
 pub fn restart<D: Crash + Drop>(
     alloc: Global,
     chain: Chain<FileStore<D>>,
@@ -36,12 +38,15 @@ pub fn restart<D: Crash + Drop>(
 ) -> Result<Chain<FileStore<D>>, (OpenFault, Files<D>)>
     ensures limits { IfOk result (λ again. again.limits ≡ limits) }
     ensures live { IfOk result (λ again. again.is_failed ≡ false) }
-    ensures honest { IfOk result (λ again. HasCleanDisk (file_state again.conn) → HasCleanDisk (file_state chain.conn)) }
-    ensures same { IfOk result (λ again. HasCleanDisk (file_state again.conn) → chain.is_failed ≡ false → (books besides : Books)
-        → IsAt over_files chain books besides → IsAt over_files again books books) }
-    ensures either { IfOk result (λ again. HasCleanDisk (file_state again.conn) → (books besides : Books) → IsAt over_files chain books besides
+    ensures honest { IfOk result (λ again. HasCleanDisk (file_state again.conn)
+        → HasCleanDisk (file_state chain.conn)) }
+    ensures same { IfOk result (λ again. HasCleanDisk (file_state again.conn) → chain.is_failed ≡ false
+        → (books besides : Books) → IsAt over_files chain books besides → IsAt over_files again books books) }
+    ensures either { IfOk result (λ again. HasCleanDisk (file_state again.conn) → (books besides : Books)
+        → IsAt over_files chain books besides
         → ∥ IsAt over_files again books books ⊎ IsAt over_files again besides besides ∥₁) }
-    ensures undamaged { (books besides : Books) → IsAt over_files chain books besides → IfErr result (λ e. AreClean D.Disk e.1.log e.1.db → e.0 ≢ OpenFault.Damaged) }
+    ensures undamaged { (books besides : Books) → IsAt over_files chain books besides
+        → IfErr result (λ e. AreClean D.Disk e.1.log e.1.db → e.0 ≢ OpenFault.Damaged) }
 {
     Chain::open_files(alloc, crashed(chain.close()), limits)
 }

@@ -40,9 +40,9 @@ impl From<NoMemory> for NotResumed {
     }
 }
 
-/// Answers requests, until they end or the store fails at some call; stops there, lets the disks crash, opens the files that are left with the limits that the
-/// chain had, and answers more requests. All of it is one history: the requests before the stop that were answered, at most the one more at which the store
-/// failed, and those behind it.
+/// Answers requests, until they end or the store fails at some call; stops there, lets the disks crash, opens the
+/// files that are left with the limits that the chain had, and answers more requests. All of it is one history: the
+/// requests before the stop that were answered, at most the one more at which the store failed, and those behind it.
 pub fn over_a_stop<D: Crash + Drop>(
     alloc: Global,
     chain: Chain<FileStore<D>>,
@@ -52,8 +52,10 @@ pub fn over_a_stop<D: Crash + Drop>(
 ) -> Result<Resumed<D>, NotResumed>
     requires limits { chain.limits ≡ limits }
     requires live { chain.is_failed ≡ false }
-    ensures { IfOk result (λ it. HasCleanDisk (file_state it.chain.conn) → (books besides : Books) → IsAt over_files chain books besides
-        → ∥ Resumes over_files (rules_of limits) (map event_of first.now) (map event_of rest.now) (map seen_reply it.before.items) (map seen_reply it.behind.items) books it.chain ∥₁) }
+    ensures { IfOk result (λ it. HasCleanDisk (file_state it.chain.conn) → (books besides : Books)
+        → IsAt over_files chain books besides
+        → ∥ Resumes over_files (rules_of limits) (map event_of first.now) (map event_of rest.now)
+        (map seen_reply it.before.items) (map seen_reply it.behind.items) books it.chain ∥₁) }
 {
     let mut chain = chain;
     let before = chain.replay(first)?;

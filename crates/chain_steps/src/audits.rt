@@ -33,15 +33,18 @@ pub fn audit_unless_failed<S: Alter>(
     read_audit(alloc, conn)
 }
 
-/// Whether the tables, which are those of a chain, stand for sound books: exactly where an audit of them says so. Nothing is written.
+/// Whether the tables, which are those of a chain, stand for sound books: exactly where an audit of them says so.
+/// Nothing is written.
 pub fn tables_are_sound<S: Alter>(
     alloc: Global,
     conn: &mut Connection<S>,
 ) -> Result<bool, StoreFault>
     requires { conn.old.in_transaction ≡ false }
     ensures ended { conn.new.in_transaction ≡ false }
-    ensures told { HasCleanDisk (state S.Store conn.new) → IfOk result (λ it. TellsSoundness it (state S.Store conn.old)) }
-    ensures same { HasCleanDisk (state S.Store conn.new) → (books : Books) → Rests (state S.Store conn.old) books → Rests (state S.Store conn.new) books }
+    ensures told { HasCleanDisk (state S.Store conn.new)
+        → IfOk result (λ it. TellsSoundness it (state S.Store conn.old)) }
+    ensures same { HasCleanDisk (state S.Store conn.new) → (books : Books) → Rests (state S.Store conn.old) books
+        → Rests (state S.Store conn.new) books }
     ensures crash { Survives (state S.Store conn.old) (state S.Store conn.new) (λ _. ⊥) }
 {
     let audit = read_audit(alloc, conn)?;

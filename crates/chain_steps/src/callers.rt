@@ -20,7 +20,8 @@ pub fn caller_unless_failed<S: Alter>(
     requires { conn.old.in_transaction ≡ false }
     ensures failed { is_failed ≡ true → (conn.new ≡ conn.old) × (result ≡ Err StoreFault.Failed) }
     ensures ended { conn.new.in_transaction ≡ false }
-    ensures found { HasCleanDisk (state S.Store conn.new) → IfOk result (λ caller. HasCaller token.now (seen_caller caller) (state S.Store conn.old)) }
+    ensures found { HasCleanDisk (state S.Store conn.new)
+        → IfOk result (λ caller. HasCaller token.now (seen_caller caller) (state S.Store conn.old)) }
     ensures same { HasCleanDisk (state S.Store conn.new) → IsUndone (state S.Store conn.old) (state S.Store conn.new) }
     ensures crash { Survives (state S.Store conn.old) (state S.Store conn.new) (λ _. ⊥) }
 {

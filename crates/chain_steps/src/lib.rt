@@ -1,5 +1,6 @@
-//! What a chain of shops does to its connection in one step: the transaction of a request, whose token it is, what an audit says, of which version its
-//! tables are, and how those of version 1 become those of this version. What the chain needs of the calls below is passed on.
+//! What a chain of shops does to its connection in one step: the transaction of a request, whose token it is, what an
+//! audit says, of which version its tables are, and how those of version 1 become those of this version. What the
+//! chain needs of the calls below is passed on.
 #![tactic(auto)]
 
 mod audits;

@@ -20,11 +20,15 @@ fn examine_first<S: Alter>(alloc: Global, conn: &mut Connection<S>) -> Result<()
     ensures ended { conn.new.in_transaction ≡ false }
     ensures first { HasCleanDisk (state S.Store conn.new)
         → OnOk result (IsFirst (state S.Store conn.old)) }
-    ensures none { HasCleanDisk (state S.Store conn.new) → IfErr result (λ e. e ≡ OpenFault.NotAChain → IsNeither (state S.Store conn.old)) }
-    ensures other { HasCleanDisk (state S.Store conn.new) → IfErr result (λ e. e ≡ OpenFault.OtherVersion → Knows KnownVersion.Other (state S.Store conn.old)) }
-    ensures already { HasCleanDisk (state S.Store conn.new) → IfErr result (λ e. e ≡ OpenFault.Already → Knows KnownVersion.This (state S.Store conn.old)) }
+    ensures none { HasCleanDisk (state S.Store conn.new)
+        → IfErr result (λ e. e ≡ OpenFault.NotAChain → IsNeither (state S.Store conn.old)) }
+    ensures other { HasCleanDisk (state S.Store conn.new)
+        → IfErr result (λ e. e ≡ OpenFault.OtherVersion → Knows KnownVersion.Other (state S.Store conn.old)) }
+    ensures already { HasCleanDisk (state S.Store conn.new)
+        → IfErr result (λ e. e ≡ OpenFault.Already → Knows KnownVersion.This (state S.Store conn.old)) }
     ensures damaged { IfErr result (λ e. e ≢ OpenFault.Damaged) }
-    ensures stays { HasCleanDisk (state S.Store conn.new) → StaysAsFound (state S.Store conn.old) (state S.Store conn.new) }
+    ensures stays { HasCleanDisk (state S.Store conn.new)
+        → StaysAsFound (state S.Store conn.old) (state S.Store conn.new) }
     ensures crash { Survives (state S.Store conn.old) (state S.Store conn.new) (λ _. ⊥) }
 {
     let is_first = is_first_shop(alloc, conn.schema());
@@ -32,25 +36,33 @@ fn examine_first<S: Alter>(alloc: Global, conn: &mut Connection<S>) -> Result<()
     first_verdict(known, is_first)
 }
 
-/// Makes the tables of a chain of version 1 those of this version, each rental with the terms of its film as they stand, or tells why that can't be done:
-/// `Already` where they are of this version, `NotAChain` where they are no chain's, `OtherVersion` where they are of neither version, `Damaged` where they stand
-/// for no sound books. Then nothing is written; where the store can't do its part, all may have been written, or nothing.
+/// Makes the tables of a chain of version 1 those of this version, each rental with the terms of its film as they
+/// stand, or tells why that can't be done: `Already` where they are of this version, `NotAChain` where they are no
+/// chain's, `OtherVersion` where they are of neither version, `Damaged` where they stand for no sound books. Then
+/// nothing is written; where the store can't do its part, all may have been written, or nothing.
 pub fn migrate_first<S: Alter>(alloc: Global, conn: &mut Connection<S>) -> Result<(), OpenFault>
     requires { conn.old.in_transaction ≡ false }
     ensures ended { conn.new.in_transaction ≡ false }
     ensures first { HasCleanDisk (state S.Store conn.new)
         → OnOk result (IsFirst (state S.Store conn.old)) }
-    ensures migrated { HasCleanDisk (state S.Store conn.new) → (state S.Store conn.old).now ≡ (state S.Store conn.old).committed
+    ensures migrated { HasCleanDisk (state S.Store conn.new)
+        → (state S.Store conn.old).now ≡ (state S.Store conn.old).committed
         → OnOk result (IsMigration (state S.Store conn.old) (state S.Store conn.new)) }
-    ensures none { HasCleanDisk (state S.Store conn.new) → IfErr result (λ e. e ≡ OpenFault.NotAChain → IsNeither (state S.Store conn.old)) }
-    ensures other { HasCleanDisk (state S.Store conn.new) → IfErr result (λ e. e ≡ OpenFault.OtherVersion → Knows KnownVersion.Other (state S.Store conn.old)) }
-    ensures already { HasCleanDisk (state S.Store conn.new) → IfErr result (λ e. e ≡ OpenFault.Already → Knows KnownVersion.This (state S.Store conn.old)) }
-    ensures damaged { HasCleanDisk (state S.Store conn.new) → (state S.Store conn.old).now ≡ (state S.Store conn.old).committed
-        → IfErr result (λ e. e ≡ OpenFault.Damaged → IsFirst (state S.Store conn.old) × IsUnsoundVersion1 (state S.Store conn.old)) }
-    ensures undone { IfErr result (λ e. is_store_fault e ≡ false → Survives (state S.Store conn.old) (state S.Store conn.new) (λ _. ⊥)) }
-    ensures crash { Survives (state S.Store conn.old) (state S.Store conn.new)
-        (λ db. IsFirst (state S.Store conn.old)
-        × ((state S.Store conn.old).now ≡ (state S.Store conn.old).committed → LeavesMigrated (state S.Store conn.old) db)) }
+    ensures none { HasCleanDisk (state S.Store conn.new)
+        → IfErr result (λ e. e ≡ OpenFault.NotAChain → IsNeither (state S.Store conn.old)) }
+    ensures other { HasCleanDisk (state S.Store conn.new)
+        → IfErr result (λ e. e ≡ OpenFault.OtherVersion → Knows KnownVersion.Other (state S.Store conn.old)) }
+    ensures already { HasCleanDisk (state S.Store conn.new)
+        → IfErr result (λ e. e ≡ OpenFault.Already → Knows KnownVersion.This (state S.Store conn.old)) }
+    ensures damaged { HasCleanDisk (state S.Store conn.new)
+        → (state S.Store conn.old).now ≡ (state S.Store conn.old).committed
+        → IfErr result (λ e. e ≡ OpenFault.Damaged → IsFirst (state S.Store conn.old) × IsUnsoundVersion1
+        (state S.Store conn.old)) }
+    ensures undone { IfErr result (λ e. is_store_fault e ≡ false
+        → Survives (state S.Store conn.old) (state S.Store conn.new) (λ _. ⊥)) }
+    ensures crash { Survives (state S.Store conn.old) (state S.Store conn.new) (λ db. IsFirst (state S.Store conn.old)
+        × ((state S.Store conn.old).now ≡ (state S.Store conn.old).committed → LeavesMigrated (state S.Store conn.old)
+        db)) }
 {
     match examine_first(alloc, conn) {
         Ok(()) => migrate(alloc, conn),

@@ -13,7 +13,8 @@ use sql_rows::{StoreFault, fault_of};
 use sqlite::{Alter, Connection};
 use std::alloc::Global;
 
-/// Answers what is asked in one transaction, whose commit is the last call to the store where the request changes anything.
+/// Answers what is asked in one transaction, whose commit is the last call to the store where the request changes
+/// anything.
 pub fn step<S: Alter>(
     alloc: Global,
     conn: &mut Connection<S>,
@@ -24,15 +25,16 @@ pub fn step<S: Alter>(
     requires { conn.old.in_transaction ≡ false }
     ensures ended { conn.new.in_transaction ≡ false }
     ensures made { HasCleanDisk (state S.Store conn.new)
-        → IfOk result (λ reply. IsMade limits (asker asked.now) (asked_of asked.now) (seen_reply reply) (IsHeldBy (IsKnownFor asked.now) films.old) films.new
-        (state S.Store conn.old) (state S.Store conn.new)) }
+        → IfOk result (λ reply. IsMade limits (asker asked.now) (asked_of asked.now) (seen_reply reply)
+        (IsHeldBy (IsKnownFor asked.now) films.old) films.new (state S.Store conn.old) (state S.Store conn.new)) }
     ensures decided { IfOk result (λ reply. IsDecision (seen_reply reply)) }
     ensures undone { HasCleanDisk (state S.Store conn.new)
-        → IfErr result (λ fault. (fault ≢ StoreFault.Failed → IsUndone (state S.Store conn.old) (state S.Store conn.new))
-        × LeavesEitherOf limits (asker asked.now) (asked_of asked.now) (IsHeldBy (IsKnownFor asked.now) films.old) (state S.Store conn.old)
-        (state S.Store conn.new)) }
+        → IfErr result (λ fault. (fault ≢ StoreFault.Failed → IsUndone (state S.Store conn.old)
+        (state S.Store conn.new)) × LeavesEitherOf limits (asker asked.now) (asked_of asked.now) (IsHeldBy
+        (IsKnownFor asked.now) films.old) (state S.Store conn.old) (state S.Store conn.new)) }
     ensures crash { Survives (state S.Store conn.old) (state S.Store conn.new)
-        (LeavesAfter limits (asker asked.now) (asked_of asked.now) (IsHeldBy (IsKnownFor asked.now) films.old) (state S.Store conn.old)) }
+        (LeavesAfter limits (asker asked.now) (asked_of asked.now) (IsHeldBy (IsKnownFor asked.now) films.old)
+        (state S.Store conn.old)) }
 {
     let mut tx = conn.transaction();
     let fault = match work_of(alloc, &mut tx, films, limits, asked) {

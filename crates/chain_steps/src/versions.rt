@@ -22,8 +22,10 @@ pub fn chain_version<S: Alter>(
     requires { conn.old.in_transaction ≡ false }
     ensures ended { conn.new.in_transaction ≡ false }
     ensures told { HasCleanDisk (state S.Store conn.new) → IfOk result (λ it. Knows it (state S.Store conn.old)) }
-    ensures stays { HasCleanDisk (state S.Store conn.new) → StaysAsFound (state S.Store conn.old) (state S.Store conn.new) }
-    ensures same { HasCleanDisk (state S.Store conn.new) → (books : Books) → Rests (state S.Store conn.old) books → Rests (state S.Store conn.new) books }
+    ensures stays { HasCleanDisk (state S.Store conn.new)
+        → StaysAsFound (state S.Store conn.old) (state S.Store conn.new) }
+    ensures same { HasCleanDisk (state S.Store conn.new) → (books : Books) → Rests (state S.Store conn.old) books
+        → Rests (state S.Store conn.new) books }
     ensures crash { Survives (state S.Store conn.old) (state S.Store conn.new) (λ _. ⊥) }
 {
     if !has_version(alloc, conn.schema())? {
@@ -37,20 +39,27 @@ pub fn chain_version<S: Alter>(
     Ok(found)
 }
 
-/// Whether the tables are a chain's of this version and stand for sound books, or why there is no chain. Nothing is written.
+/// Whether the tables are a chain's of this version and stand for sound books, or why there is no chain. Nothing is
+/// written.
 pub fn examine<S: Alter>(alloc: Global, conn: &mut Connection<S>) -> Result<(), OpenFault>
     requires { conn.old.in_transaction ≡ false }
     ensures ended { conn.new.in_transaction ≡ false }
-    ensures this { HasCleanDisk (state S.Store conn.new) → OnOk result (Knows KnownVersion.This (state S.Store conn.old)) }
-    ensures sound { HasCleanDisk (state S.Store conn.new) → (state S.Store conn.old).now ≡ (state S.Store conn.old).committed
+    ensures this { HasCleanDisk (state S.Store conn.new)
+        → OnOk result (Knows KnownVersion.This (state S.Store conn.old)) }
+    ensures sound { HasCleanDisk (state S.Store conn.new)
+        → (state S.Store conn.old).now ≡ (state S.Store conn.old).committed
         → OnOk result (StandsSoundly (state S.Store conn.old).now.trees) }
-    ensures none { HasCleanDisk (state S.Store conn.new) → IfErr result (λ e. e ≡ OpenFault.NotAChain → Knows KnownVersion.Missing (state S.Store conn.old)) }
+    ensures none { HasCleanDisk (state S.Store conn.new)
+        → IfErr result (λ e. e ≡ OpenFault.NotAChain → Knows KnownVersion.Missing (state S.Store conn.old)) }
     ensures other { HasCleanDisk (state S.Store conn.new) → IfErr result (λ e. e ≡ OpenFault.OtherVersion
         → Knows KnownVersion.First (state S.Store conn.old) ⊎ Knows KnownVersion.Other (state S.Store conn.old)) }
-    ensures damaged { HasCleanDisk (state S.Store conn.new) → (state S.Store conn.old).now ≡ (state S.Store conn.old).committed
-        → IfErr result (λ e. e ≡ OpenFault.Damaged → Knows KnownVersion.This (state S.Store conn.old) × (¬ StandsSoundly (state S.Store conn.old).now.trees)) }
+    ensures damaged { HasCleanDisk (state S.Store conn.new)
+        → (state S.Store conn.old).now ≡ (state S.Store conn.old).committed
+        → IfErr result (λ e. e ≡ OpenFault.Damaged → Knows KnownVersion.This (state S.Store conn.old)
+        × (¬ StandsSoundly (state S.Store conn.old).now.trees)) }
     ensures already { IfErr result (λ e. e ≢ OpenFault.Already) }
-    ensures same { HasCleanDisk (state S.Store conn.new) → (books : Books) → Rests (state S.Store conn.old) books → Rests (state S.Store conn.new) books }
+    ensures same { HasCleanDisk (state S.Store conn.new) → (books : Books) → Rests (state S.Store conn.old) books
+        → Rests (state S.Store conn.new) books }
     ensures crash { Survives (state S.Store conn.old) (state S.Store conn.new) (λ _. ⊥) }
 {
     let known = chain_version(alloc, conn);

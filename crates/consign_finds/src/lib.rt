@@ -43,7 +43,8 @@ pub fn find_for_dispatch<S: Alter>(
 ) -> Result<RowsFound, StoreFault>
     ensures inside { StaysWithin S.Store tx.old.conn tx.new.conn result }
     ensures found { (at : _)
-        → Finds (state S.Store tx.old.conn.now) (state S.Store tx.new.conn.now) result (AgreesAt branch at (model.Dispatch to copies.now)) }
+        → Finds (state S.Store tx.old.conn.now) (state S.Store tx.new.conn.now) result
+        (AgreesAt branch at (model.Dispatch to copies.now)) }
 {
     let manager = branch_manager(tx, to)?;
     let listed = find_listed(alloc, tx, branch, copies.as_slice())?;
@@ -62,7 +63,8 @@ fn find_listed<S: Alter>(
     copies: &[CopyNo],
 ) -> Result<ListedFound, StoreFault>
     ensures inside { StaysWithin S.Store tx.old.conn tx.new.conn result }
-    ensures found { Finds (state S.Store tx.old.conn.now) (state S.Store tx.new.conn.now) result (AreListed branch copies.now) }
+    ensures found { Finds (state S.Store tx.old.conn.now) (state S.Store tx.new.conn.now) result
+        (AreListed branch copies.now) }
 {
     let count = count_of(tx, Count::Of(branch, CountKind::Copies))?;
     if has_unknown_copy(copies, count) {
@@ -86,7 +88,8 @@ fn find_each<S: Alter>(
     copies: &[CopyNo],
 ) -> Result<ListedFound, StoreFault>
     ensures inside { StaysWithin S.Store tx.old.conn tx.new.conn result }
-    ensures found { Finds (state S.Store tx.old.conn.now) (state S.Store tx.new.conn.now) result (AreListed branch copies.now) }
+    ensures found { Finds (state S.Store tx.old.conn.now) (state S.Store tx.new.conn.now) result
+        (AreListed branch copies.now) }
 {
     let mut has_away = false;
     let mut has_out = false;
@@ -107,8 +110,8 @@ fn find_each<S: Alter>(
     })
 }
 
-/// What there is of more listed copies than make a consignment, all of which the branch has: whether one is among all that are away, or among all that are
-/// out. None is read by its number, and no line is made.
+/// What there is of more listed copies than make a consignment, all of which the branch has: whether one is among all
+/// that are away, or among all that are out. None is read by its number, and no line is made.
 fn find_among<S: Alter>(
     alloc: Global,
     tx: &mut Transaction<'_, S>,
@@ -117,7 +120,8 @@ fn find_among<S: Alter>(
 ) -> Result<ListedFound, StoreFault>
     ensures inside { StaysWithin S.Store tx.old.conn tx.new.conn result }
     ensures found { Finds (state S.Store tx.old.conn.now) (state S.Store tx.new.conn.now) result
-        (λ listed books. list_any (lacks (shop_of branch books).copies) copies.now ≡ false → AreListed branch copies.now listed books) }
+        (λ listed books. list_any (lacks (shop_of branch books).copies) copies.now ≡ false
+        → AreListed branch copies.now listed books) }
 {
     let sent = copies_in_state(alloc, tx, branch, CopyState::Sent)?;
     let scrapped = copies_in_state(alloc, tx, branch, CopyState::Scrapped)?;
@@ -154,7 +158,8 @@ fn find_one<S: Alter>(
 ) -> Result<(CopyRow, bool), StoreFault>
     ensures inside { StaysWithin S.Store tx.old.conn tx.new.conn result }
     ensures found { Finds (state S.Store tx.old.conn.now) (state S.Store tx.new.conn.now) result
-        (λ it books. ((seen_copy_row it.0).it ∷ [] ≡ at copy (of branch books.copies)) × (it.1 ≡ not (in_stock copy (shop_of branch books).rentals))) }
+        (λ it books. ((seen_copy_row it.0).it ∷ [] ≡ at copy (of branch books.copies))
+        × (it.1 ≡ not (in_stock copy (shop_of branch books).rentals))) }
 {
     let Some(row) = copy_at(tx, branch, copy)? else {
         return Err(StoreFault::Failed);
@@ -183,7 +188,8 @@ pub fn find_for_receipt<S: Alter>(
 ) -> Result<RowsFound, StoreFault>
     ensures inside { StaysWithin S.Store tx.old.conn tx.new.conn result }
     ensures found { (at : _) (missing : _)
-        → Finds (state S.Store tx.old.conn.now) (state S.Store tx.new.conn.now) result (AgreesAt branch at (model.Receive from number missing)) }
+        → Finds (state S.Store tx.old.conn.now) (state S.Store tx.new.conn.now) result
+        (AgreesAt branch at (model.Receive from number missing)) }
 {
     let copies = count_of(tx, Count::Of(branch, CountKind::Copies))?;
     let key = ConsignmentKey {

@@ -73,10 +73,12 @@ fn first_place(rows: &[Row]) -> Result<u64, StoreFault>
     }
 }
 
-/// The place of the last consignment of the chain, or 0 where there is none. Places count from 1 without a gap, so it is how many there are.
+/// The place of the last consignment of the chain, or 0 where there is none. Places count from 1 without a gap, so it
+/// is how many there are.
 pub fn last_place<S: Alter>(tx: &mut Transaction<'_, S>) -> Result<u64, StoreFault>
     ensures inside { StaysInside S.Store tx.old.conn tx.new.conn result }
-    ensures last { Finds (state S.Store tx.old.conn.now) (state S.Store tx.new.conn.now) result (λ last books. last ≡ length books.consignments) }
+    ensures last { Finds (state S.Store tx.old.conn.now) (state S.Store tx.new.conn.now) result (λ last books. last
+        ≡ length books.consignments) }
 {
     let rows = query(
         tx,
@@ -93,7 +95,8 @@ pub fn header_at<S: Alter>(
 ) -> Result<Option<HeaderRow>, StoreFault>
     ensures inside { StaysInside S.Store tx.old.conn tx.new.conn result }
     ensures row { Finds (state S.Store tx.old.conn.now) (state S.Store tx.new.conn.now) result
-        (λ row books. option_to_list (option_map (λ it. seen_header it) row) ≡ map header_of (filter (is_consignment key.now.source key.now.addressee key.now.number) books.consignments)) }
+        (λ row books. option_to_list (option_map (λ it. seen_header it) row)
+        ≡ map header_of (filter (is_consignment key.now.source key.now.addressee key.now.number) books.consignments)) }
 {
     query_one(
         tx,
@@ -119,13 +122,15 @@ pub fn put_header<S: Alter>(tx: &mut Transaction<'_, S>, row: &HeaderRow) -> Res
     )
 }
 
-/// Sets that the consignment is received. One that isn't there is not made. After a fault the transaction may be rolled back.
+/// Sets that the consignment is received. One that isn't there is not made. After a fault the transaction may be
+/// rolled back.
 pub fn set_received<S: Alter>(
     tx: &mut Transaction<'_, S>,
     key: &ConsignmentKey,
 ) -> Result<(), StoreFault>
     ensures inside { StaysInside S.Store tx.old.conn tx.new.conn result }
-    ensures set { Stores (state S.Store tx.old.conn.now) (state S.Store tx.new.conn.now) result (IsOnce key.now.source key.now.addressee key.now.number)
+    ensures set { Stores (state S.Store tx.old.conn.now) (state S.Store tx.new.conn.now) result
+        (IsOnce key.now.source key.now.addressee key.now.number)
         (with_received key.now.source key.now.addressee key.now.number) }
 {
     execute(

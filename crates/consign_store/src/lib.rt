@@ -1,6 +1,7 @@
-//! Consignments: their numbers, their places in the order of dispatch, their headers and their lines, one function a statement; whole consignments, as a dispatch
-//! adds one and a receipt sets it; and where the copies of a mark are. Each works inside a transaction of the caller's, and tells what it found or made of the
-//! books that the tables stand for. The lists of consignments are read row by row, outside any transaction.
+//! Consignments: their numbers, their places in the order of dispatch, their headers and their lines, one function a
+//! statement; whole consignments, as a dispatch adds one and a receipt sets it; and where the copies of a mark are.
+//! Each works inside a transaction of the caller's, and tells what it found or made of the books that the tables
+//! stand for. The lists of consignments are read row by row, outside any transaction.
 #![tactic(auto)]
 
 mod headers;

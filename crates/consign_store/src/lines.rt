@@ -116,7 +116,9 @@ pub fn lines_of<S: Alter>(
 ) -> Result<Vec<LineRow>, StoreFault>
     ensures inside { StaysInside S.Store tx.old.conn tx.new.conn result }
     ensures rows { Finds (state S.Store tx.old.conn.now) (state S.Store tx.new.conn.now) result
-        (λ rows books. map (λ row. seen_line row) rows.items ≡ flat_map placed_in (filter (is_consignment key.now.source key.now.addressee key.now.number) books.consignments)) }
+        (λ rows books. map (λ row. seen_line row) rows.items
+        ≡ flat_map placed_in
+        (filter (is_consignment key.now.source key.now.addressee key.now.number) books.consignments)) }
 {
     query_all(
         alloc,
@@ -133,7 +135,8 @@ pub fn lines_of<S: Alter>(
 /// Adds the line behind those that its consignment has. After a fault the transaction may be rolled back.
 pub fn put_line<S: Alter>(tx: &mut Transaction<'_, S>, row: &LineRow) -> Result<(), StoreFault>
     ensures inside { StaysInside S.Store tx.old.conn tx.new.conn result }
-    ensures put { Stores (state S.Store tx.old.conn.now) (state S.Store tx.new.conn.now) result (IsNextLine (seen_line row.now)) (with_line (seen_line row.now)) }
+    ensures put { Stores (state S.Store tx.old.conn.now) (state S.Store tx.new.conn.now) result
+        (IsNextLine (seen_line row.now)) (with_line (seen_line row.now)) }
 {
     execute(
         tx,
@@ -150,7 +153,8 @@ pub fn set_line<S: Alter>(
     new: LineState,
 ) -> Result<(), StoreFault>
     ensures inside { StaysInside S.Store tx.old.conn tx.new.conn result }
-    ensures set { Stores (state S.Store tx.old.conn.now) (state S.Store tx.new.conn.now) result (IsOnce key.now.source key.now.addressee key.now.number)
+    ensures set { Stores (state S.Store tx.old.conn.now) (state S.Store tx.new.conn.now) result
+        (IsOnce key.now.source key.now.addressee key.now.number)
         (with_state key.now.source key.now.addressee key.now.number line (seen_line_state new)) }
 {
     execute(

@@ -1,4 +1,5 @@
-//! The lists of consignments, row by row, outside any transaction: neighbouring rows of one join belong to one consignment, and a first line begins the next.
+//! The lists of consignments, row by row, outside any transaction: neighbouring rows of one join belong to one
+//! consignment, and a first line begins the next.
 
 ghost use Rattle.std.specs.Prelude.{◌≡◌, false, List, [], ◌∷◌, ◌++◌, Option, Some, IfOk, OnOk, map, option_map, string_bytes};
 ghost use Rattle.serde_json.specs.Data.{Data};
@@ -47,7 +48,8 @@ fn is_first(row: &Row) -> Result<bool, StoreFault>
 
 /// The consignment of the row, with no film.
 fn bare(alloc: Global, row: &Row) -> Result<ListedConsignment, StoreFault>
-    ensures bare { IfOk result (λ it. (line : ListLine) → row.now ≡ shown_line line → record (seen_listed it) { films = films_of line.1 } ≡ begun line) }
+    ensures bare { IfOk result (λ it. (line : ListLine) → row.now ≡ shown_line line
+        → record (seen_listed it) { films = films_of line.1 } ≡ begun line) }
     ensures none { IfOk result (λ it. it.films.items ≡ []) }
 {
     Ok(ListedConsignment {
@@ -61,7 +63,8 @@ fn bare(alloc: Global, row: &Row) -> Result<ListedConsignment, StoreFault>
 
 /// The consignment with the row's film.
 fn with_film(it: ListedConsignment, row: &Row) -> Result<ListedConsignment, StoreFault>
-    ensures { IfOk result (λ now. (line : ListLine) → row.now ≡ shown_line line → seen_listed now ≡ with_film (seen_listed it) line.1) }
+    ensures { IfOk result (λ now. (line : ListLine) → row.now ≡ shown_line line
+        → seen_listed now ≡ with_film (seen_listed it) line.1) }
 {
     let mut it = it;
     let film: Option<FilmNo> = row_number_or_null_at(row, 5)?;
@@ -92,13 +95,15 @@ fn add(
     it: ListedConsignment,
     page: &mut ListPage,
 ) -> Result<(), AllocError>
-    ensures { OnOk result ((values : List Data) → HasValues page.old values → HasValues page.new (values ++ data_of kind (seen_listed it) ∷ [])) }
+    ensures { OnOk result ((values : List Data) → HasValues page.old values
+        → HasValues page.new (values ++ data_of kind (seen_listed it) ∷ [])) }
 {
     let value = value_of(alloc, kind, &it)?;
     page.add(&value)
 }
 
-/// The consignment of the row with the row's film. The one of the rows before, if the row begins another, goes on the page.
+/// The consignment of the row with the row's film. The one of the rows before, if the row begins another, goes on the
+/// page.
 fn next(
     alloc: Global,
     kind: ListKind,
@@ -173,15 +178,16 @@ fn empty(alloc: Global, kind: ListKind) -> ConsignmentPage
     }
 }
 
-/// The arrivals of the branch in the order of their dispatch, received ones too, as the text of a list. The database stays as it was, unless the store fails, which
-/// commits nothing.
+/// The arrivals of the branch in the order of their dispatch, received ones too, as the text of a list. The database
+/// stays as it was, unless the store fails, which commits nothing.
 pub fn arrivals<S: Alter>(
     alloc: Global,
     conn: &mut Connection<S>,
     branch: BranchNo,
 ) -> Result<String, StoreFault>
-    ensures text { HasCleanDisk (state S.Store conn.new) → IfOk result (λ s. (books : Books) → Holds (state S.Store conn.old) books → IsHeld books
-        → string_bytes s ≡ shown_text (ArrivalsAre (shop_of branch books).arrivals)) }
+    ensures text { HasCleanDisk (state S.Store conn.new)
+        → IfOk result (λ s. (books : Books) → Holds (state S.Store conn.old) books → IsHeld books → string_bytes s
+        ≡ shown_text (ArrivalsAre (shop_of branch books).arrivals)) }
     ensures same { StaysSame S.Store conn.old conn.new result }
 {
     let mut taker = empty(alloc, ListKind::Arrivals);
@@ -194,14 +200,16 @@ pub fn arrivals<S: Alter>(
     Ok(finish(taker)?)
 }
 
-/// What the branch sent, in the order of dispatch, as the text of a list. The database stays as it was, unless the store fails, which commits nothing.
+/// What the branch sent, in the order of dispatch, as the text of a list. The database stays as it was, unless the
+/// store fails, which commits nothing.
 pub fn sent<S: Alter>(
     alloc: Global,
     conn: &mut Connection<S>,
     branch: BranchNo,
 ) -> Result<String, StoreFault>
-    ensures text { HasCleanDisk (state S.Store conn.new) → IfOk result (λ s. (books : Books) → Holds (state S.Store conn.old) books → IsHeld books
-        → string_bytes s ≡ shown_text (SentAre (shop_of branch books).sent)) }
+    ensures text { HasCleanDisk (state S.Store conn.new)
+        → IfOk result (λ s. (books : Books) → Holds (state S.Store conn.old) books → IsHeld books → string_bytes s
+        ≡ shown_text (SentAre (shop_of branch books).sent)) }
     ensures same { StaysSame S.Store conn.old conn.new result }
 {
     let mut taker = empty(alloc, ListKind::Sent);
@@ -214,11 +222,12 @@ pub fn sent<S: Alter>(
     Ok(finish(taker)?)
 }
 
-/// All consignments of the chain that aren't received, by sender, addressee and number, as the text of a list. The database stays as it was, unless the store
-/// fails, which commits nothing.
+/// All consignments of the chain that aren't received, by sender, addressee and number, as the text of a list. The
+/// database stays as it was, unless the store fails, which commits nothing.
 pub fn transit<S: Alter>(alloc: Global, conn: &mut Connection<S>) -> Result<String, StoreFault>
-    ensures text { HasCleanDisk (state S.Store conn.new) → IfOk result (λ s. (books : Books) → Holds (state S.Store conn.old) books → IsHeld books
-        → string_bytes s ≡ shown_text (TransitIs (under_way books))) }
+    ensures text { HasCleanDisk (state S.Store conn.new)
+        → IfOk result (λ s. (books : Books) → Holds (state S.Store conn.old) books → IsHeld books → string_bytes s
+        ≡ shown_text (TransitIs (under_way books))) }
     ensures same { StaysSame S.Store conn.old conn.new result }
 {
     let mut taker = empty(alloc, ListKind::Transit);

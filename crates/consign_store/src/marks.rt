@@ -27,7 +27,8 @@ pub fn copies_marked<S: Alter>(
 ) -> Result<Vec<CopyRow>, StoreFault>
     ensures inside { StaysInside S.Store tx.old.conn tx.new.conn result }
     ensures rows { Finds (state S.Store tx.old.conn.now) (state S.Store tx.new.conn.now) result
-        (λ rows books. IsPermutation (filter (λ row. is_mark (seen_mark mark.now) row.it.mark) books.copies) (map (λ row. seen_copy_row row) rows.items)) }
+        (λ rows books. IsPermutation (filter (λ row. is_mark (seen_mark mark.now) row.it.mark) books.copies)
+        (map (λ row. seen_copy_row row) rows.items)) }
 {
     query_all(
         alloc,
@@ -45,7 +46,9 @@ pub fn lines_marked<S: Alter>(
 ) -> Result<Vec<LineRow>, StoreFault>
     ensures inside { StaysInside S.Store tx.old.conn tx.new.conn result }
     ensures rows { Finds (state S.Store tx.old.conn.now) (state S.Store tx.new.conn.now) result
-        (λ rows books. IsPermutation (filter (λ row. is_mark (seen_mark mark.now) row.it.mark) (all_placed books.consignments)) (map (λ row. seen_line row) rows.items)) }
+        (λ rows books. IsPermutation
+        (filter (λ row. is_mark (seen_mark mark.now) row.it.mark) (all_placed books.consignments))
+        (map (λ row. seen_line row) rows.items)) }
 {
     query_all(
         alloc,

@@ -27,8 +27,8 @@ fn first_number(rows: &[Row]) -> Result<ConsignmentNo, StoreFault>
     }
 }
 
-/// The next number of the pair, which counts the consignments of the sender to the addressee: the first brings the pair's row. After a fault the transaction may be
-/// rolled back.
+/// The next number of the pair, which counts the consignments of the sender to the addressee: the first brings the
+/// pair's row. After a fault the transaction may be rolled back.
 pub fn take_pair<S: Alter>(
     tx: &mut Transaction<'_, S>,
     source: BranchNo,
@@ -36,8 +36,9 @@ pub fn take_pair<S: Alter>(
 ) -> Result<ConsignmentNo, StoreFault>
     ensures inside { StaysInside S.Store tx.old.conn tx.new.conn result }
     ensures taken { HasCleanDisk (state S.Store tx.new.conn.now)
-        → IfOk result (λ number. Tallies (state S.Store tx.old.conn.now) (state S.Store tx.new.conn.now) (CountsPairOnce source addressee)
-        (add_pair source addressee) (λ counts. number ≡ last_of source addressee counts.pairs + 1)) }
+        → IfOk result (λ number. Tallies (state S.Store tx.old.conn.now) (state S.Store tx.new.conn.now)
+        (CountsPairOnce source addressee) (add_pair source addressee)
+        (λ counts. number ≡ last_of source addressee counts.pairs + 1)) }
 {
     let rows = query(
         tx,

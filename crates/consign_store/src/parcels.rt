@@ -25,7 +25,8 @@ fn put_lines<S: Alter>(
 ) -> Result<(), StoreFault>
     requires few { length lines.now ≤ 100 }
     ensures inside { StaysWithin S.Store tx.old.conn tx.new.conn result }
-    ensures put { Stores (state S.Store tx.old.conn.now) (state S.Store tx.new.conn.now) result (HasNoLine key.now.source key.now.addressee key.now.number)
+    ensures put { Stores (state S.Store tx.old.conn.now) (state S.Store tx.new.conn.now) result
+        (HasNoLine key.now.source key.now.addressee key.now.number)
         (with_lines key.now.source key.now.addressee key.now.number (map sent_line lines.now)) }
 {
     let mut number = 1u32;
@@ -51,8 +52,12 @@ pub fn put_consignment<S: Alter>(
     lines: &ParcelLines,
 ) -> Result<(), StoreFault>
     ensures inside { StaysInside S.Store tx.old.conn tx.new.conn result }
-    ensures put { Stores (state S.Store tx.old.conn.now) (state S.Store tx.new.conn.now) result (IsNewKey key.now.source key.now.addressee key.now.number)
-        (λ books. record books { consignments = books.consignments ++ sent_off key.now.source key.now.addressee key.now.number place (map sent_line lines.now) ∷ [] }) }
+    ensures put { Stores (state S.Store tx.old.conn.now) (state S.Store tx.new.conn.now) result
+        (IsNewKey key.now.source key.now.addressee key.now.number)
+        (λ books. record books {
+          consignments = books.consignments ++ sent_off key.now.source key.now.addressee key.now.number place
+              (map sent_line lines.now) ∷ [];
+        }) }
 {
     let header = HeaderRow {
         key: *key,
@@ -86,7 +91,8 @@ fn state_after(missing: &[LineNo], line: LineNo) -> LineState
     }
 }
 
-/// Sets the first so many lines of the consignment: those that are missing, and the others, which arrived. After a fault the transaction may be rolled back.
+/// Sets the first so many lines of the consignment: those that are missing, and the others, which arrived. After a
+/// fault the transaction may be rolled back.
 fn check_lines<S: Alter>(
     tx: &mut Transaction<'_, S>,
     key: &ConsignmentKey,
@@ -94,7 +100,8 @@ fn check_lines<S: Alter>(
     missing: &[LineNo],
 ) -> Result<(), StoreFault>
     ensures inside { StaysWithin S.Store tx.old.conn tx.new.conn result }
-    ensures set { Stores (state S.Store tx.old.conn.now) (state S.Store tx.new.conn.now) result (IsOnce key.now.source key.now.addressee key.now.number)
+    ensures set { Stores (state S.Store tx.old.conn.now) (state S.Store tx.new.conn.now) result
+        (IsOnce key.now.source key.now.addressee key.now.number)
         (with_checked_to key.now.source key.now.addressee key.now.number missing.now count) }
 {
     for done in 0..count {
@@ -104,8 +111,8 @@ fn check_lines<S: Alter>(
     Ok(())
 }
 
-/// Sets that the consignment, which has so many lines, is received, and which of its lines are missing: the others arrived. After a fault the transaction may be
-/// rolled back.
+/// Sets that the consignment, which has so many lines, is received, and which of its lines are missing: the others
+/// arrived. After a fault the transaction may be rolled back.
 pub fn mark_received<S: Alter>(
     tx: &mut Transaction<'_, S>,
     key: &ConsignmentKey,
@@ -113,8 +120,12 @@ pub fn mark_received<S: Alter>(
     missing: &[LineNo],
 ) -> Result<(), StoreFault>
     ensures inside { StaysWithin S.Store tx.old.conn tx.new.conn result }
-    ensures set { Stores (state S.Store tx.old.conn.now) (state S.Store tx.new.conn.now) result (HasSoMany key.now.source key.now.addressee key.now.number count)
-        (λ books. record books { consignments = update_where (is_consignment key.now.source key.now.addressee key.now.number) (checked missing.now) books.consignments }) }
+    ensures set { Stores (state S.Store tx.old.conn.now) (state S.Store tx.new.conn.now) result
+        (HasSoMany key.now.source key.now.addressee key.now.number count)
+        (λ books. record books {
+          consignments = update_where (is_consignment key.now.source key.now.addressee key.now.number)
+              (checked missing.now) books.consignments;
+        }) }
 {
     check_lines(tx, key, count, missing)?;
     set_received(tx, key)

@@ -41,7 +41,8 @@ fn first_under_way(rows: &[LineRow]) -> Option<LineRow>
     None
 }
 
-/// Where the mark is, of which there is at most one copy that is here, and one line that is under way. After a fault the transaction may be rolled back.
+/// Where the mark is, of which there is at most one copy that is here, and one line that is under way. After a fault
+/// the transaction may be rolled back.
 pub fn place_of<S: Alter>(
     alloc: Global,
     tx: &mut Transaction<'_, S>,
@@ -49,7 +50,8 @@ pub fn place_of<S: Alter>(
 ) -> Result<Place, StoreFault>
     ensures inside { StaysInside S.Store tx.old.conn tx.new.conn result }
     ensures place { Finds (state S.Store tx.old.conn.now) (state S.Store tx.new.conn.now) result
-        (λ place books. HasOnePlace (seen_mark mark.now) books → Shows (seen_place place) ≡ place_of (seen_mark mark.now) books) }
+        (λ place books. HasOnePlace (seen_mark mark.now) books
+        → Shows (seen_place place) ≡ place_of (seen_mark mark.now) books) }
 {
     let copies = copies_marked(alloc, tx, mark)?;
     if let Some(row) = first_here(copies.as_slice()) {

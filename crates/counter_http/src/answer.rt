@@ -30,7 +30,8 @@ fn token_of(message: &Request<'_>) -> Option<Token>
 
 /// The chain's reply to somebody who sent no token, whatever is asked.
 fn answer_nobody<S: Alter>(chain: &Chain<S>) -> Reply
-    ensures answered { (books besides : Books) → AnswersNobody (seen_reply result) (holding chain.now books besides) (holding chain.now books besides) }
+    ensures answered { (books besides : Books)
+        → AnswersNobody (seen_reply result) (holding chain.now books besides) (holding chain.now books besides) }
     ensures told { IsTold (seen_reply result) }
     ensures fails { chain.now.is_failed ≡ is_store_failure (seen_reply result) }
 {
@@ -50,7 +51,8 @@ fn answer_read<S: Alter>(
     requires fine { chain.old.is_failed ≡ false }
     requires fixed { HasFixedBody read.now }
     requires decided { IsDecided read.now }
-    ensures taken { Takes S.Store chain.old chain.new (AnswersRead (seen_caller caller.now) read.now (seen_reply result)) }
+    ensures taken { Takes S.Store chain.old chain.new
+        (AnswersRead (seen_caller caller.now) read.now (seen_reply result)) }
     ensures told { IsTold (seen_reply result) }
     ensures fails { chain.new.is_failed ≡ is_store_failure (seen_reply result) }
 {
@@ -61,8 +63,8 @@ fn answer_read<S: Alter>(
     }
 }
 
-/// The chain's reply to a message. Who sent it is looked for before what it asks, and what the store lacks is answered as such. A chain that has failed stays as
-/// it is: its store isn't asked.
+/// The chain's reply to a message. Who sent it is looked for before what it asks, and what the store lacks is
+/// answered as such. A chain that has failed stays as it is: its store isn't asked.
 pub fn answer<O: OfficeWords, S: Alter>(
     alloc: Global,
     chain: &mut Chain<S>,
@@ -70,7 +72,8 @@ pub fn answer<O: OfficeWords, S: Alter>(
     words: &O,
     message: &Request<'_>,
 ) -> Reply
-    ensures taken { Takes S.Store chain.old chain.new (AnswersMessage (O.meaning words.now) (message_of message.now) (seen_reply result)) }
+    ensures taken { Takes S.Store chain.old chain.new
+        (AnswersMessage (O.meaning words.now) (message_of message.now) (seen_reply result)) }
     ensures told { IsTold (seen_reply result) }
     ensures fails { chain.new.is_failed ≡ is_store_failure (seen_reply result) }
     ensures failed { chain.old.is_failed ≡ true → chain.new ≡ chain.old }

@@ -11,7 +11,8 @@ use sqlite::Alter;
 use std::alloc::Global;
 use std::io::{Read, Write};
 
-/// Why a connection ended. Where several hold at one reply, the first of `StoreFailed`, `Refused`, `Asked` and `Limit` stands.
+/// Why a connection ended. Where several hold at one reply, the first of `StoreFailed`, `Refused`, `Asked` and
+/// `Limit` stands.
 #[derive(Clone, Copy)]
 pub enum End {
     /// The input ended behind a whole request, or before the first.
@@ -38,7 +39,8 @@ pub struct Served {
 /// What went wrong, with the number of replies that were wholly written before.
 #[derive(Clone, Copy, Debug)]
 pub enum ServeFault {
-    /// The reader failed, or there was no memory for a long request. Each request that was read whole has been answered.
+    /// The reader failed, or there was no memory for a long request. Each request that was read whole has been
+    /// answered.
     Read { replies: u32 },
     /// The writer failed. The request whose reply failed has acted, and a front of its reply may have been written.
     Write { replies: u32 },
@@ -46,10 +48,11 @@ pub enum ServeFault {
     Memory,
 }
 
-/// Reads requests and writes the replies to them, until the input or the connection ends, or `max_requests` are answered; with 0 nothing is read.
-/// However the reader cuts its bytes, the replies are those to the messages of what it gives, in order.
-/// The memory for the connection is taken before the first byte is read, but for a request of more than 4,096 bytes. `words` reads the words that head office sends.
-/// Over a chain that has failed each reply is `store_failed`, and its store isn't asked.
+/// Reads requests and writes the replies to them, until the input or the connection ends, or `max_requests` are
+/// answered; with 0 nothing is read. However the reader cuts its bytes, the replies are those to the messages of what
+/// it gives, in order. The memory for the connection is taken before the first byte is read, but for a request of
+/// more than 4,096 bytes. `words` reads the words that head office sends. Over a chain that has failed each reply is
+/// `store_failed`, and its store isn't asked.
 pub fn serve<R: Read, W: Write, O: OfficeWords, S: Alter>(
     alloc: Global,
     reader: &mut R,
@@ -58,12 +61,15 @@ pub fn serve<R: Read, W: Write, O: OfficeWords, S: Alter>(
     words: &O,
     max_requests: u32,
 ) -> Result<Served, ServeFault>
-    ensures served { IfOk result (λ served. IsServed served max_requests (RunsOver S.Store (O.meaning words.now) chain.old chain.new)
-        (R.remaining reader.old) (R.remaining reader.new) (W.contents writer.old) (W.contents writer.new)) }
-    ensures fault { IfErr result (λ fault. IsFault fault max_requests (RunsOver S.Store (O.meaning words.now) chain.old chain.new)
-        (R.remaining reader.old) (R.remaining reader.new) (W.contents writer.old) (W.contents writer.new)) }
-    ensures none_allowed { max_requests ≡ 0 → (result ≡ Ok (record { replies = 0; end = End.Limit })) × (chain.new ≡ chain.old)
-        × Keeps (R.remaining reader.old) (R.remaining reader.new) × Keeps (W.contents writer.old) (W.contents writer.new) }
+    ensures served { IfOk result (λ served. IsServed served max_requests
+        (RunsOver S.Store (O.meaning words.now) chain.old chain.new) (R.remaining reader.old)
+        (R.remaining reader.new) (W.contents writer.old) (W.contents writer.new)) }
+    ensures fault { IfErr result (λ fault. IsFault fault max_requests
+        (RunsOver S.Store (O.meaning words.now) chain.old chain.new) (R.remaining reader.old)
+        (R.remaining reader.new) (W.contents writer.old) (W.contents writer.new)) }
+    ensures none_allowed { max_requests ≡ 0
+        → (result ≡ Ok (record { replies = 0; end = End.Limit })) × (chain.new ≡ chain.old) × Keeps
+        (R.remaining reader.old) (R.remaining reader.new) × Keeps (W.contents writer.old) (W.contents writer.new) }
 {
     if max_requests == 0 {
         return Ok(Served {

@@ -37,10 +37,12 @@ pub enum Standing {
     Ended(End),
 }
 
-/// What went wrong in a turn. What was read, answered and written until then is told as ever; the connection is of no more use.
+/// What went wrong in a turn. What was read, answered and written until then is told as ever; the connection is of no
+/// more use.
 #[derive(Clone, Copy, Debug)]
 pub enum TurnFault {
-    /// The reader failed, or was interrupted without an end, or there was no memory for a long request. Each whole request that was read is answered, and its reply written.
+    /// The reader failed, or was interrupted without an end, or there was no memory for a long request. Each whole
+    /// request that was read is answered, and its reply written.
     Read,
     /// The writer failed, or took nothing, with bytes of a reply left. The request whose reply failed has acted.
     Write,
@@ -90,7 +92,8 @@ pub(crate) enum After {
 
 /// What the reply to the request means for the connection, by whether the chain has failed then.
 fn after_reply(has_failed: bool, request: &Request<'_>) -> After
-    ensures { (answer : Answer) → is_store_failure answer ≡ has_failed → IsAfter result (record { message = message_of request.now; answer = answer }) }
+    ensures { (answer : Answer) → is_store_failure answer ≡ has_failed
+        → IsAfter result (record { message = message_of request.now; answer = answer }) }
 {
     if has_failed {
         After::Fails
@@ -114,7 +117,8 @@ fn fault_reply(fault: Fault) -> Reply
 /// Why a connection of which so many requests may still be answered ends behind the next of them, where it does.
 fn ending_of(after: After, left: u32) -> Option<End>
     requires { 0 < left }
-    ensures { (e : Exchange) (input : Option (List ℕ)) (rest : List ℕ) → IsAfter after e → GoesOrEnds result left (e ∷ []) input rest [] }
+    ensures { (e : Exchange) (input : Option (List ℕ)) (rest : List ℕ) → IsAfter after e
+        → GoesOrEnds result left (e ∷ []) input rest [] }
 {
     match after {
         After::Fails => Some(End::StoreFailed),
@@ -127,7 +131,8 @@ fn ending_of(after: After, left: u32) -> Option<End>
 /// Why a connection ends at the end of its input, of which this rest isn't answered.
 fn end_at(rest: &[u8]) -> End
     requires { IsCut rest.now }
-    ensures { (most : ℕ) (left : Option (List ℕ)) → 0 < most → IsAtEnd left → GoesOrEnds (Some result) most [] left rest.now [] }
+    ensures { (most : ℕ) (left : Option (List ℕ)) → 0 < most → IsAtEnd left
+        → GoesOrEnds (Some result) most [] left rest.now [] }
 {
     if rest.is_empty() {
         End::Closed
@@ -137,7 +142,8 @@ fn end_at(rest: &[u8]) -> End
 }
 
 impl Connection {
-    /// Nothing is read yet, and so many requests may be answered; with 0 the connection ends before the first. The memory for small requests is taken here.
+    /// Nothing is read yet, and so many requests may be answered; with 0 the connection ends before the first. The
+    /// memory for small requests is taken here.
     pub fn new(alloc: Global, most: u32) -> Result<Connection, AllocError>
         ensures { IfOk result (λ connection. connection ≡ opened most) }
     {
@@ -177,7 +183,8 @@ impl Connection {
 
     /// Writes what is left of a reply, as far as the writer takes it. Whether nothing is left.
     fn send<W: Write>(&mut self, writer: &mut W) -> io::Result<bool>
-        ensures turn { (input : Option (List ℕ)) → IsTurn self.old self.new (λ es. es ≡ []) input input (W.contents writer.old) (W.contents writer.new) }
+        ensures turn { (input : Option (List ℕ))
+            → IsTurn self.old self.new (λ es. es ≡ []) input input (W.contents writer.old) (W.contents writer.new) }
         ensures same { self.new.replies ≡ self.old.replies }
         ensures still { (self.new.inbox ≡ self.old.inbox) × (self.new.ending ≡ self.old.ending) }
         ensures all { IfOk result (λ all. all ≡ true → self.new.unsent ≡ []) }
@@ -197,10 +204,14 @@ impl Connection {
     ) -> bool
         requires empty { self.old.unsent ≡ [] }
         requires goes { self.old.ending ≡ None }
-        ensures turn { (input output : Option (List ℕ)) → IsTurn self.old self.new (RunsOver S.Store (O.meaning words.now) chain.old chain.new) input input output output }
+        ensures turn { (input output : Option (List ℕ))
+            → IsTurn self.old self.new (RunsOver S.Store (O.meaning words.now) chain.old chain.new) input input output
+            output }
         ensures one { self.new.replies ≤ self.old.replies + 1 }
-        ensures onward { result ≡ true → (self.new.replies ≡ self.old.replies + 1)
-            ⊎ ((self.new.replies ≡ self.old.replies) × (self.new.inbox ≡ self.old.inbox) × (self.new.ending ≡ Some End.Refused)) }
+        ensures onward { result ≡ true
+            → (self.new.replies ≡ self.old.replies + 1)
+            ⊎ ((self.new.replies ≡ self.old.replies) × (self.new.inbox ≡ self.old.inbox)
+            × (self.new.ending ≡ Some End.Refused)) }
         ensures waits { result ≡ false → (self.new ≡ self.old) × (length self.new.inbox < ROOM) × IsCut self.new.inbox }
     {
         match read_request(self.inbox.bytes()) {
@@ -227,7 +238,8 @@ impl Connection {
         requires room { length self.old.inbox < ROOM }
         requires cut { IsCut self.old.inbox }
         requires goes { self.old.ending ≡ None }
-        ensures turn { (output : Option (List ℕ)) → IsTurn self.old self.new (λ es. es ≡ []) (R.remaining reader.old) (R.remaining reader.new) output output }
+        ensures turn { (output : Option (List ℕ))
+            → IsTurn self.old self.new (λ es. es ≡ []) (R.remaining reader.old) (R.remaining reader.new) output output }
         ensures same { (self.new.unsent ≡ self.old.unsent) × (self.new.replies ≡ self.old.replies) }
         ensures waits { IfOk result (λ more. more ≡ false → self.new ≡ self.old) }
         ensures onward { IfOk result (λ more. more ≡ true → (length self.old.inbox < length self.new.inbox)
@@ -247,9 +259,11 @@ impl Connection {
         }
     }
 
-    /// A turn: goes on as far as the bytes reach. Writes what is left of a reply, answers what has come whole, at most `most` requests, and reads, until the
-    /// reader or the writer would wait (`ErrorKind::WouldBlock`) or the connection ends. While a reply isn't wholly written, no further request is answered.
-    /// `words` reads the words that head office sends. Other connections may have their turns between two of this one. A chain that has failed stays as it is.
+    /// A turn: goes on as far as the bytes reach. Writes what is left of a reply, answers what has come whole, at
+    /// most `most` requests, and reads, until the reader or the writer would wait (`ErrorKind::WouldBlock`) or the
+    /// connection ends. While a reply isn't wholly written, no further request is answered. `words` reads the words
+    /// that head office sends. Other connections may have their turns between two of this one. A chain that has
+    /// failed stays as it is.
     pub fn advance<R: Read, W: Write, O: OfficeWords, S: Alter>(
         &mut self,
         alloc: Global,

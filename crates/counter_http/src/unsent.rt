@@ -10,7 +10,8 @@ use shop_types::Reply;
 use std::io::{self, Write};
 use std::marker::Model;
 
-/// The reply that is written now, if there is one, and how much of its head and of its body is written. It takes no memory of its own.
+/// The reply that is written now, if there is one, and how much of its head and of its body is written. It takes no
+/// memory of its own.
 #[derive(Drop)]
 pub struct Unsent {
     reply: Option<Reply>,
@@ -45,10 +46,11 @@ impl Unsent {
         self.body_at = 0;
     }
 
-    /// Writes as far as the writer takes it, and lets go of a reply that is wholly written. Whether nothing is left; where something is,
-    /// the writer would wait. At an error something is left too.
+    /// Writes as far as the writer takes it, and lets go of a reply that is wholly written. Whether nothing is left;
+    /// where something is, the writer would wait. At an error something is left too.
     pub fn flush<W: Write>(&mut self, writer: &mut W) -> io::Result<bool>
-        ensures sent { (sent : List ℕ) × Appends (W.contents writer.old) (W.contents writer.new) sent × (self.old ≡ sent ++ self.new) }
+        ensures sent { (sent : List ℕ) × Appends (W.contents writer.old) (W.contents writer.new) sent
+            × (self.old ≡ sent ++ self.new) }
         ensures all { IfOk result (λ all. all ≡ true → self.new ≡ []) }
         ensures part { IfOk result (λ all. all ≡ false → 0 < length self.new) }
         ensures err { OnErr result (0 < length self.new) }
@@ -62,7 +64,8 @@ impl Unsent {
 
     /// The same, and the reply is kept.
     fn write_on<W: Write>(&mut self, writer: &mut W) -> io::Result<bool>
-        ensures sent { (sent : List ℕ) × Appends (W.contents writer.old) (W.contents writer.new) sent × (self.old ≡ sent ++ self.new) }
+        ensures sent { (sent : List ℕ) × Appends (W.contents writer.old) (W.contents writer.new) sent
+            × (self.old ≡ sent ++ self.new) }
         ensures all { IfOk result (λ all. all ≡ true → self.new ≡ []) }
         ensures part { IfOk result (λ all. all ≡ false → 0 < length self.new) }
         ensures err { OnErr result (0 < length self.new) }

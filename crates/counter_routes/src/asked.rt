@@ -51,7 +51,8 @@ fn read_look(ask: Option<Ask>) -> Reading
 
 /// What a view's message asks: the view, or `no_route` where no view has the name.
 fn read_view(view: Option<View>) -> Reading
-    ensures { (viewing : Option Viewing) → option_map seen_view view ≡ viewing → Reads result (view_or_no_route viewing) }
+    ensures { (viewing : Option Viewing) → option_map seen_view view ≡ viewing
+        → Reads result (view_or_no_route viewing) }
 {
     match view {
         Some(view) => Reading::Asked(Request::View(view)),
@@ -82,11 +83,13 @@ impl Routes {
         }
     }
 
-    /// What a message asks of that caller. It is refused with `no_counter` where nobody asks, with `too_long` where the body has more than 65,536 bytes, with
-    /// `no_route` where there is no such request for that caller or no view of that name, and with `bad_body` where a part of the path or a JSON body is not
-    /// of its form. A stock file is kept as it came, whatever it says. Head office has one request: its words, sent by POST to `/office` as a JSON list of
-    /// texts. They ask for a command or for a reading over all branches. It is refused with `usage` where `words` reads neither in them, or a file's name
-    /// too, or what only the program can do. Only a counter's command and head office's words take memory.
+    /// What a message asks of that caller. It is refused with `no_counter` where nobody asks, with `too_long` where
+    /// the body has more than 65,536 bytes, with `no_route` where there is no such request for that caller or no view
+    /// of that name, and with `bad_body` where a part of the path or a JSON body is not of its form. A stock file is
+    /// kept as it came, whatever it says. Head office has one request: its words, sent by POST to `/office` as a JSON
+    /// list of texts. They ask for a command or for a reading over all branches. It is refused with `usage` where
+    /// `words` reads neither in them, or a file's name too, or what only the program can do. Only a counter's command
+    /// and head office's words take memory.
     pub fn read<O: OfficeWords>(
         &self,
         alloc: Global,
@@ -94,7 +97,8 @@ impl Routes {
         message: &http_messages::Request<'_>,
         caller: Caller,
     ) -> Result<Reading, NoMemory>
-        ensures reading { IfOk result (λ reading. Reads reading (reading_of (O.meaning words.now) (message_of message.now) (seen_caller caller))) }
+        ensures reading { IfOk result (λ reading. Reads reading
+            (reading_of (O.meaning words.now) (message_of message.now) (seen_caller caller))) }
         ensures memory { OnErr result (takes_memory (message_of message.now) (seen_caller caller) ≡ true) }
     {
         match caller {

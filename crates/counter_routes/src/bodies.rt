@@ -205,7 +205,8 @@ fn member_count(form: CommandForm) -> usize
 
 /// What a command does whose parts are numbers and flags, one of each: it adds no customer, and lists nothing.
 fn plain_act(form: CommandForm, value: &Value) -> Option<Act>
-    ensures { ¬ (form ≡ NewCustomer) → ¬ (form ≡ Dispatch) → ¬ (form ≡ Receive) → option_map seen_act result ≡ act_at form (view value.now) }
+    ensures { ¬ (form ≡ NewCustomer) → ¬ (form ≡ Dispatch) → ¬ (form ≡ Receive)
+        → option_map seen_act result ≡ act_at form (view value.now) }
 {
     match form {
         CommandForm::NewCustomer | CommandForm::Dispatch | CommandForm::Receive => None,

@@ -37,7 +37,8 @@ fn body_texts(alloc: Global, body: &[u8]) -> Result<Vec<String>, Fault>
     texts(alloc, &value_of(alloc, body)?)
 }
 
-/// What a line asks of a chain: a command or a reading. A line that names a file, or that only the program can do, asks nothing.
+/// What a line asks of a chain: a command or a reading. A line that names a file, or that only the program can do,
+/// asks nothing.
 fn line_request(line: Line) -> Option<Request>
     ensures { option_map seen_request result ≡ request_of_line (seen_line line) }
 {
@@ -55,7 +56,8 @@ fn line_request(line: Line) -> Option<Request>
 
 /// What the words ask: the command or the reading that they mean, or `usage` where they mean neither.
 fn read_words<O: OfficeWords>(words: &O, texts: &[String]) -> Result<Reading, NoMemory>
-    ensures { IfOk result (λ reading. Reads reading (office_or_usage (request_of_words (O.meaning words.now) (map string_bytes texts.now)))) }
+    ensures { IfOk result (λ reading. Reads reading
+        (office_or_usage (request_of_words (O.meaning words.now) (map string_bytes texts.now)))) }
 {
     match words.read(texts) {
         Ok(line) => match line_request(line) {
@@ -82,7 +84,8 @@ pub(crate) fn read_office<O: OfficeWords>(
     words: &O,
     message: &http_messages::Request<'_>,
 ) -> Result<Reading, NoMemory>
-    ensures reading { IfOk result (λ reading. Reads reading (office_request (O.meaning words.now) (message_of message.now))) }
+    ensures reading { IfOk result (λ reading. Reads reading
+        (office_request (O.meaning words.now) (message_of message.now))) }
     ensures memory { OnErr result (asks_office (message_of message.now) ≡ true) }
 {
     if message.body.len() > 65_536 {

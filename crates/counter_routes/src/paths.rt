@@ -187,7 +187,8 @@ impl Routes {
         if posts { &self.posts } else { &self.gets }
     }
 
-    /// What a target asks for: bytes that are UTF-8, begin with a slash and have no question mark. There is no other route.
+    /// What a target asks for: bytes that are UTF-8, begin with a slash and have no question mark. There is no other
+    /// route.
     pub(crate) fn find(&self, posts: bool, target: &[u8]) -> Option<Route>
         ensures { result ≡ route_of posts target.now }
     {

@@ -59,16 +59,19 @@ fn line(
     name: &str,
     inner: &ArgMatches<'_>,
 ) -> Result<Line, Usage>
-    ensures ok { IfOk result (λ line. line_from (values_of given.now) (Some (name.now, values_of inner.now)) ≡ Some (seen_line line)) }
-    ensures refused { IfErr result (λ e. ¬ (e ≡ usage.Memory) → line_from (values_of given.now) (Some (name.now, values_of inner.now)) ≡ None) }
+    ensures ok { IfOk result (λ line. line_from (values_of given.now) (Some (name.now, values_of inner.now))
+        ≡ Some (seen_line line)) }
+    ensures refused { IfErr result (λ e. ¬ (e ≡ usage.Memory)
+        → line_from (values_of given.now) (Some (name.now, values_of inner.now)) ≡ None) }
 {
     let db = file(alloc, given)?;
     let act = acts::act(alloc, name, inner)?;
     Ok(Line { db, act })
 }
 
-/// The line that the words are, without the program's name. Where they are none it is `Usage::Words`, with the text that tells how they are to be given, and
-/// where memory is wanting `Usage::Memory`. `docs/REQUESTS.md` has the words.
+/// The line that the words are, without the program's name. Where they are none it is `Usage::Words`, with the text
+/// that tells how they are to be given, and where memory is wanting `Usage::Memory`. `docs/REQUESTS.md` has the
+/// words.
 pub fn read_words(alloc: Global, words: &[String]) -> Result<Line, Usage>
     ensures ok { IfOk result (λ line. line_of (map string_bytes words.now) ≡ Some (seen_line line)) }
     ensures refused { IfErr result (λ e. ¬ (e ≡ usage.Memory) → line_of (map string_bytes words.now) ≡ None) }

@@ -181,7 +181,8 @@ fn with_commands<'a>(
     subcommands: &[Subcommand],
 ) -> Result<Command<'a>, AllocError>
     requires local { (fields_of command).has_globals ≡ false }
-    ensures app { IfOk result (λ c. app_of c ≡ fold with_subcommand (app_of command.entry) (map table_shape subcommands.now)) }
+    ensures app { IfOk result (λ c. app_of c
+        ≡ fold with_subcommand (app_of command.entry) (map table_shape subcommands.now)) }
     ensures local { IfOk result (λ c. (fields_of c).has_globals ≡ false) }
 {
     for subcommand in subcommands {

@@ -8,7 +8,8 @@ use std::io::{self, Write};
 use std::marker::Model;
 use std::mem;
 
-/// What was sent, told or written; what was written to standard error; and how it ended: `closed 1`, or a program's status.
+/// What was sent, told or written; what was written to standard error; and how it ended: `closed 1`, or a program's
+/// status.
 #[derive(Drop)]
 pub struct Texts {
     pub out: Vec<u8>,

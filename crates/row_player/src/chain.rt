@@ -193,7 +193,8 @@ impl<S: Stage> Chain<S> {
         Ok(())
     }
 
-    /// What the chain sends over a connection of its own, which is stopped at each call of copies of the disks first, where it is to.
+    /// What the chain sends over a connection of its own, which is stopped at each call of copies of the disks first,
+    /// where it is to.
     pub fn tell(&mut self, input: &[u8], how: How, told: &mut Texts) -> Result<(), Fault> {
         if let Some(fewer) = self.fewer.take() {
             self.fail(fewer, input)?;
@@ -210,8 +211,8 @@ impl<S: Stage> Chain<S> {
         }
     }
 
-    /// Closes the chain's files, and has a chain in them, which has to be refused where a fault is named. It is stopped at each call of copies of the disks first,
-    /// where it is to.
+    /// Closes the chain's files, and has a chain in them, which has to be refused where a fault is named. It is
+    /// stopped at each call of copies of the disks first, where it is to.
     pub fn open_again(&mut self, opening: Opening, fault: &str) -> Result<(), Fault> {
         let is_live = matches!(self.held, Held::Open) && !self.is_failing && self.is_in_files;
         if !fault.is_empty() {

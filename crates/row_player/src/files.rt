@@ -138,7 +138,8 @@ fn begin<'t, S: Stage>(
     }
 }
 
-/// Plays a line of the row, which goes on to the first fault. What was asked before is compared first, where the line says no more of it.
+/// Plays a line of the row, which goes on to the first fault. What was asked before is compared first, where the line
+/// says no more of it.
 fn play_line<S: Stage>(row: &mut Row<'_, S>, playing: &mut Playing<'_>, word: &str, rest: &str) {
     if playing.played.is_ok() {
         playing.played = row.settles(word);

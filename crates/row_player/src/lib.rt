@@ -1,4 +1,5 @@
-//! The player of rows: what their lines say, and the order in which they are played on a chain and a program that are handed in.
+//! The player of rows: what their lines say, and the order in which they are played on a chain and a program that are
+//! handed in.
 #![tactic(auto)]
 
 mod asked;

@@ -94,7 +94,8 @@ impl<'t, S: Stage> Row<'t, S> {
         Ok(())
     }
 
-    /// Compares what was asked last, where a line with this first word says no more of it, and forgets it where it agrees.
+    /// Compares what was asked last, where a line with this first word says no more of it, and forgets it where it
+    /// agrees.
     pub fn settles(&mut self, word: &str) -> Result<(), Fault> {
         if MORE.contains(&word) || is_status(word) {
             return Ok(());
@@ -166,7 +167,8 @@ impl<'t, S: Stage> Row<'t, S> {
         told.ends_with(status)
     }
 
-    /// An opening that has to be refused is an exchange: its fault is compared. So is any migration, and the making of a chain.
+    /// An opening that has to be refused is an exchange: its fault is compared. So is any migration, and the making
+    /// of a chain.
     fn opens(&mut self, opening: Opening, fault: &str) -> Result<(), Fault> {
         if !fault.is_empty() || !matches!(opening, Opening::Opened) {
             self.count = self.count.saturating_add(1);
@@ -282,7 +284,8 @@ impl<'t, S: Stage> Row<'t, S> {
         self.steps_on(what, number, bytes)
     }
 
-    /// Serves the tills, by the steps' time, there also as the program does (`port`), or by the real clock with so many milliseconds of patience.
+    /// Serves the tills, by the steps' time, there also as the program does (`port`), or by the real clock with so
+    /// many milliseconds of patience.
     fn serves(&mut self, how: &str) -> Result<(), Fault> {
         self.count = self.count.saturating_add(1);
         let (is_real, millis) = match how {

@@ -22,7 +22,8 @@ pub enum Way {
     Stopped,
 }
 
-/// How the bytes of the next connection come, how many requests it may have, and how many bytes of replies there is room for.
+/// How the bytes of the next connection come, how many requests it may have, and how many bytes of replies there is
+/// room for.
 #[derive(Clone, Copy)]
 pub struct How {
     pub way: Way,
@@ -249,8 +250,8 @@ pub enum Deed<'t> {
 
 /// The chain that rows talk to, one at a time and in two files on disks in memory, and the program that they run.
 pub trait Stage: Drop {
-    /// Has a chain in copies of the files, on disks that fail behind so many calls. Or the name of the fault by which there is none: then `close` gives what
-    /// is left of the files.
+    /// Has a chain in copies of the files, on disks that fail behind so many calls. Or the name of the fault by which
+    /// there is none: then `close` gives what is left of the files.
     fn open(
         &mut self,
         opening: Opening,
@@ -288,11 +289,12 @@ pub trait Stage: Drop {
     /// Does that with the tables in the files. What is said of them is told.
     fn tables(&mut self, deed: Deed<'_>, left: &mut Left, told: &mut Texts) -> Result<(), Fault>;
 
-    /// Has the requests read, and put to the chain as values: with their tokens, or as those of that branch. The replies are told, and how many there are.
+    /// Has the requests read, and put to the chain as values: with their tokens, or as those of that branch. The
+    /// replies are told, and how many there are.
     fn answer(&mut self, input: &[u8], branch: Option<u32>, told: &mut Texts) -> Result<(), Fault>;
 
-    /// The same of a chain over copies of the files, whose disks fail behind so many calls: the replies before it is stopped are told in `out`, and those to the same
-    /// requests behind that in `err`. Whether it is opened.
+    /// The same of a chain over copies of the files, whose disks fail behind so many calls: the replies before it is
+    /// stopped are told in `out`, and those to the same requests behind that in `err`. Whether it is opened.
     fn resume(
         &mut self,
         input: &[u8],

@@ -1,4 +1,5 @@
-//! Connections, openings, migrations and the making of a chain, stopped at each call of the disks in turn; and a changed byte.
+//! Connections, openings, migrations and the making of a chain, stopped at each call of the disks in turn; and a
+//! changed byte.
 use crate::asked::Texts;
 use crate::chain::{Chain, opened, send};
 use crate::fault::Fault;
@@ -40,7 +41,8 @@ fn behind(is_log: bool, calls: u64) -> Calls {
     }
 }
 
-/// Whether the replies before a stop, in `out`, are the first of those behind it, in `err`, but for those at the end by which the store has failed.
+/// Whether the replies before a stop, in `out`, are the first of those behind it, in `err`, but for those at the end
+/// by which the store has failed.
 fn are_first(told: &Texts) -> bool {
     let before = str::from_utf8(told.out()).unwrap_or("no text");
     let behind = str::from_utf8(told.err()).unwrap_or("");
@@ -56,8 +58,8 @@ fn ends_at(bytes: &[u8], last: usize, text: &[u8]) -> bool {
 }
 
 impl<S: Stage> Chain<S> {
-    /// Whether the chain that the files hold behind a stop, or behind a crash, sends what is wanted. In files with the same bytes as those that weren't touched it
-    /// did.
+    /// Whether the chain that the files hold behind a stop, or behind a crash, sends what is wanted. In files with
+    /// the same bytes as those that weren't touched it did.
     fn resumes(&mut self, stopped: &Stopped<'_>, is_crash: bool) -> Result<(), Fault> {
         let files = self.tried.image(is_crash);
         if files.is_same(self.left.files()) {
@@ -81,7 +83,8 @@ impl<S: Stage> Chain<S> {
         self.stage.close(&mut self.next)
     }
 
-    /// Whether a connection, on disks that fail behind so many calls, sends what is wanted, or that the store has failed.
+    /// Whether a connection, on disks that fail behind so many calls, sends what is wanted, or that the store has
+    /// failed.
     fn sends(&mut self, stopped: &Stopped<'_>) -> Result<(), Fault> {
         send(&mut self.stage, stopped.input, WHOLE, &mut self.told)?;
         let told = self.told.out();
@@ -91,8 +94,8 @@ impl<S: Stage> Chain<S> {
         Err(Fault::Line("a chain that is stopped sends something else"))
     }
 
-    /// Stops it behind so many calls, and has what comes again sent the same, in the files as they are left and as a crash leaves them. Whether a connection was
-    /// stopped, and not the opening before it.
+    /// Stops it behind so many calls, and has what comes again sent the same, in the files as they are left and as a
+    /// crash leaves them. Whether a connection was stopped, and not the opening before it.
     fn stops(&mut self, stopped: &Stopped<'_>, calls: Calls) -> Result<bool, Fault> {
         match self.stage.open(stopped.opening, self.left.files(), calls)? {
             None if stopped.is_connection => self.sends(stopped)?,
@@ -126,7 +129,8 @@ impl<S: Stage> Chain<S> {
         Ok(())
     }
 
-    /// Whether what is stopped at any call, over copies of these files, goes on behind the stop as where nothing stopped it.
+    /// Whether what is stopped at any call, over copies of these files, goes on behind the stop as where nothing
+    /// stopped it.
     pub fn sweep(
         &mut self,
         opening: Opening,
@@ -162,8 +166,8 @@ impl<S: Stage> Chain<S> {
         self.sweep(opening, false, input)
     }
 
-    /// Stops the chain at each call of a disk while it answers the requests as values: up to there, and again behind the stop, it answers them as where nothing
-    /// stopped it.
+    /// Stops the chain at each call of a disk while it answers the requests as values: up to there, and again behind
+    /// the stop, it answers them as where nothing stopped it.
     fn resumes_at_each(&mut self, input: &[u8], is_log: bool) -> Result<(), Fault> {
         for calls in 0..MOST_CALLS {
             self.told.clear(usize::MAX);
@@ -199,7 +203,8 @@ impl<S: Stage> Chain<S> {
         Ok(())
     }
 
-    /// Whether the chain isn't opened where the byte at a place of the database's file is that one. Else it says of itself what is wanted.
+    /// Whether the chain isn't opened where the byte at a place of the database's file is that one. Else it says of
+    /// itself what is wanted.
     fn refuses_byte(&mut self, place: usize, byte: u8) -> Result<bool, Fault> {
         let kept = self.left.swap_byte(place, byte);
         let fault = self.stage.open(Opening::Opened, self.left.files(), NEVER)?;
@@ -215,8 +220,9 @@ impl<S: Stage> Chain<S> {
         Ok(false)
     }
 
-    /// Has the last byte of a text be another one, wherever it stands in the database's file, at one place at a time: the chain isn't opened, by the store or as
-    /// damage, or it says of itself what it says where nothing is changed; and at some place it isn't opened.
+    /// Has the last byte of a text be another one, wherever it stands in the database's file, at one place at a time:
+    /// the chain isn't opened, by the store or as damage, or it says of itself what it says where nothing is changed;
+    /// and at some place it isn't opened.
     pub fn flip(&mut self, text: &[u8], byte: u8) -> Result<(), Fault> {
         self.change(Deed::CopyIn)?;
         self.trial(Opening::Opened, NEVER, AUDIT)?;

@@ -145,7 +145,8 @@ impl Tills<'_> {
         }
     }
 
-    /// Goes on where the steps can be made in time. Else all tills go, those too that haven't come yet, and a second passes.
+    /// Goes on where the steps can be made in time. Else all tills go, those too that haven't come yet, and a second
+    /// passes.
     fn advance(&self, sockets: &mut Vec<TcpStream>) {
         if self.is_stuck.get() || self.are_played() {
             sockets.clear();
@@ -203,7 +204,8 @@ impl Alloc for Tills<'_> {
     }
 }
 
-/// Serves the tills, each waited for so many milliseconds, or, where they aren't said, at a port as the program does, and tells the status.
+/// Serves the tills, each waited for so many milliseconds, or, where they aren't said, at a port as the program does,
+/// and tells the status.
 fn served<S: Stage>(
     tills: &Tills<'_>,
     stage: &mut S,
@@ -221,8 +223,9 @@ fn served<S: Stage>(
     status
 }
 
-/// Serves so many tills, and has all their steps made: by the steps' time as the server goes on, or by the real clock, those before what has to come of them first,
-/// and the others behind it. A till is waited for so many milliseconds; or, where they aren't said, they are served at a port as the program does it.
+/// Serves so many tills, and has all their steps made: by the steps' time as the server goes on, or by the real
+/// clock, those before what has to come of them first, and the others behind it. A till is waited for so many
+/// milliseconds; or, where they aren't said, they are served at a port as the program does it.
 pub fn serve_tills<S: Stage>(
     rt: &HostRuntime,
     stage: &mut S,

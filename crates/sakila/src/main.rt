@@ -25,7 +25,8 @@ fn run(rt: &HostRuntime, words: &[String]) -> u8 {
     )
 }
 
-/// Says why there are no words: one of them isn't UTF-8, which is answered with the usage, as no words are, or there is no memory for them.
+/// Says why there are no words: one of them isn't UTF-8, which is answered with the usage, as no words are, or there
+/// is no memory for them.
 fn run_unread(rt: &HostRuntime, kind: ErrorKind) -> u8 {
     if kind == ErrorKind::InvalidData {
         let _ = eprintln!(rt; "error: a word isn't UTF-8");

@@ -30,7 +30,8 @@ pub(crate) fn make<W: Write, E: Write>(
     out: &mut W,
     err: &mut E,
 ) -> u8
-    ensures makes { Makes ⟦<File as Disk>⟧ token.now result (W.contents out.old) (W.contents out.new) (E.contents err.old) (E.contents err.new) }
+    ensures makes { Makes ⟦<File as Disk>⟧ token.now result (W.contents out.old) (W.contents out.new)
+        (E.contents err.old) (E.contents err.new) }
     ensures quiet { IsQuiet result (E.contents err.old) (E.contents err.new) }
 {
     make_owned(rt, file);
@@ -59,7 +60,8 @@ pub(crate) fn migrate<W: Write, E: Write>(
     out: &mut W,
     err: &mut E,
 ) -> u8
-    ensures migrates { Migrates ⟦<File as Disk>⟧ result (W.contents out.old) (W.contents out.new) (E.contents err.old) (E.contents err.new) }
+    ensures migrates { Migrates ⟦<File as Disk>⟧ result (W.contents out.old) (W.contents out.new) (E.contents err.old)
+        (E.contents err.new) }
     ensures quiet { IsQuiet result (E.contents err.old) (E.contents err.new) }
 {
     let log = missing_log(rt, file);
@@ -88,7 +90,8 @@ pub(crate) fn put<W: Write, E: Write>(
     out: &mut W,
     err: &mut E,
 ) -> u8
-    ensures puts { Puts ⟦<File as Disk>⟧ request.now result (W.contents out.old) (W.contents out.new) (E.contents err.old) (E.contents err.new) }
+    ensures puts { Puts ⟦<File as Disk>⟧ request.now result (W.contents out.old) (W.contents out.new)
+        (E.contents err.old) (E.contents err.new) }
     ensures quiet { IsQuiet result (E.contents err.old) (E.contents err.new) }
 {
     let log = missing_log(rt, file);
@@ -106,8 +109,9 @@ pub(crate) fn put<W: Write, E: Write>(
     }
 }
 
-/// Serves so many connections at the port of this machine by the chain, as the program does: a peer that keeps it waiting is left after half a minute. Port 0 is any
-/// that is free, which `rt` is told of. The answer is 0 where all were served, and 3 where the port can't be had, none could be accepted any more or the store failed.
+/// Serves so many connections at the port of this machine by the chain, as the program does: a peer that keeps it
+/// waiting is left after half a minute. Port 0 is any that is free, which `rt` is told of. The answer is 0 where all
+/// were served, and 3 where the port can't be had, none could be accepted any more or the store failed.
 pub fn serve_port<
     R: Net<Listener = TcpListener, Stream = TcpStream> + Clock + AllocGlobal,
     S: Alter,
@@ -137,7 +141,8 @@ pub(crate) fn serve_in<E: Write>(
     connections: u32,
     err: &mut E,
 ) -> u8
-    ensures serves { (output : Option (List ℕ)) → Serves ⟦<File as Disk>⟧ result output output (E.contents err.old) (E.contents err.new) }
+    ensures serves { (output : Option (List ℕ))
+        → Serves ⟦<File as Disk>⟧ result output output (E.contents err.old) (E.contents err.new) }
     ensures quiet { IsQuiet result (E.contents err.old) (E.contents err.new) }
 {
     let log = missing_log(rt, file);

@@ -14,7 +14,8 @@ use std::time::{Clock, Duration};
 /// How many requests of a connection are answered before the others have their turn.
 const MOST_IN_A_TURN: u32 = 16;
 
-/// Behind how many milliseconds of its turn no further request of a connection is answered before the others have theirs.
+/// Behind how many milliseconds of its turn no further request of a connection is answered before the others have
+/// theirs.
 const LONGEST_TURN: u64 = 1;
 
 /// How many pieces that a peer still sends behind its last reply are dropped.
@@ -43,8 +44,8 @@ enum Asker {
 enum Phase {
     /// It is answered.
     Served,
-    /// It has its last reply. What it still sends is read and dropped, so many pieces: a socket that is closed over bytes that nobody read is reset, and then
-    /// the reply may be lost.
+    /// It has its last reply. What it still sends is read and dropped, so many pieces: a socket that is closed over
+    /// bytes that nobody read is reset, and then the reply may be lost.
     Leaving(u32),
     Gone,
 }
@@ -156,7 +157,8 @@ impl Peer {
         self.asker == Asker::Known && self.is_served()
     }
 
-    /// Its place in the order in which peers are left for those that wait: whoever isn't known goes first, then who was silent longest.
+    /// Its place in the order in which peers are left for those that wait: whoever isn't known goes first, then who
+    /// was silent longest.
     pub(crate) fn rank(&self) -> (bool, Duration) {
         (self.is_known(), self.since)
     }
@@ -243,7 +245,8 @@ impl Peer {
         self.phase = Phase::Gone;
     }
 
-    /// Answers what has come, up to the end of a turn. What the connection waits for then, whether its peer has taken something, and who it is.
+    /// Answers what has come, up to the end of a turn. What the connection waits for then, whether its peer has taken
+    /// something, and who it is.
     fn answer_some<R: Clock + AllocGlobal, O: OfficeWords, S: Alter>(
         &mut self,
         rt: &R,

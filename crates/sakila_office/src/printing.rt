@@ -29,7 +29,8 @@ pub(crate) fn print<W: Write>(out: &mut W, text: &[u8]) -> u8
 
 /// Prints what a chain replied: an accepted answer on standard output, a refusal on standard error.
 pub(crate) fn tell<W: Write, E: Write>(reply: &Reply, out: &mut W, err: &mut E) -> u8
-    ensures told { IsTold (seen_reply reply.now) result (W.contents out.old) (W.contents out.new) (E.contents err.old) (E.contents err.new) }
+    ensures told { IsTold (seen_reply reply.now) result (W.contents out.old) (W.contents out.new) (E.contents err.old)
+        (E.contents err.new) }
     ensures quiet { IsQuiet result (E.contents err.old) (E.contents err.new) }
 {
     if reply.status == 200 {

@@ -24,7 +24,8 @@ fn put_request<W: Write, E: Write>(
     out: &mut W,
     err: &mut E,
 ) -> u8
-    ensures puts { Puts ⟦<File as Disk>⟧ request result (W.contents out.old) (W.contents out.new) (E.contents err.old) (E.contents err.new) }
+    ensures puts { Puts ⟦<File as Disk>⟧ request result (W.contents out.old) (W.contents out.new) (E.contents err.old)
+        (E.contents err.new) }
     ensures quiet { IsQuiet result (E.contents err.old) (E.contents err.new) }
 {
     let status = put(rt, file, &request, out, err);
@@ -62,8 +63,9 @@ fn perform_alone<R: Read, W: Write, E: Write>(
     out: &mut W,
     err: &mut E,
 ) -> u8
-    ensures performs { Performs ⟦<File as Disk>⟧ (task_with act.now None) result
-        (R.remaining reader.old) (R.remaining reader.new) (W.contents out.old) (W.contents out.new) (E.contents err.old) (E.contents err.new) }
+    ensures performs { Performs ⟦<File as Disk>⟧ (task_with act.now None) result (R.remaining reader.old)
+        (R.remaining reader.new) (W.contents out.old) (W.contents out.new) (E.contents err.old)
+        (E.contents err.new) }
     ensures quiet { IsQuiet result (E.contents err.old) (E.contents err.new) }
 {
     match act {
@@ -84,8 +86,9 @@ fn perform<R: Read, W: Write, E: Write>(
     out: &mut W,
     err: &mut E,
 ) -> u8
-    ensures performs { Performs ⟦<File as Disk>⟧ (task_of (Some (seen_line line))) result
-        (R.remaining reader.old) (R.remaining reader.new) (W.contents out.old) (W.contents out.new) (E.contents err.old) (E.contents err.new) }
+    ensures performs { Performs ⟦<File as Disk>⟧ (task_of (Some (seen_line line))) result (R.remaining reader.old)
+        (R.remaining reader.new) (W.contents out.old) (W.contents out.new) (E.contents err.old)
+        (E.contents err.new) }
     ensures quiet { IsQuiet result (E.contents err.old) (E.contents err.new) }
 {
     let Line { db, act } = line;
@@ -99,8 +102,9 @@ fn perform<R: Read, W: Write, E: Write>(
     }
 }
 
-/// The whole program for its words, without its own name, over a reader and two writers: it answers the status. `docs/REQUESTS.md` has the words.
-/// What it can't do is told on `err`: the usage, a refusal, or `store: NAME` where there is no chain in the file.
+/// The whole program for its words, without its own name, over a reader and two writers: it answers the status.
+/// `docs/REQUESTS.md` has the words. What it can't do is told on `err`: the usage, a refusal, or `store: NAME` where
+/// there is no chain in the file.
 pub fn run<R: Read, W: Write, E: Write>(
     rt: &HostRuntime,
     words: &[String],
@@ -109,7 +113,8 @@ pub fn run<R: Read, W: Write, E: Write>(
     err: &mut E,
 ) -> u8
     ensures performs { Performs ⟦<File as Disk>⟧ (task_of (line_of (map string_bytes words.now))) result
-        (R.remaining reader.old) (R.remaining reader.new) (W.contents out.old) (W.contents out.new) (E.contents err.old) (E.contents err.new) }
+        (R.remaining reader.old) (R.remaining reader.new) (W.contents out.old) (W.contents out.new)
+        (E.contents err.old) (E.contents err.new) }
     ensures quiet { IsQuiet result (E.contents err.old) (E.contents err.new) }
 {
     match read_words(rt.alloc(), words) {

@@ -30,7 +30,8 @@ pub(crate) fn replay<R: Read, W: Write, E: Write>(
     out: &mut W,
     err: &mut E,
 ) -> u8
-    ensures replays { Replays result (R.remaining reader.old) (R.remaining reader.new) (W.contents out.old) (W.contents out.new) (E.contents err.old) (E.contents err.new) }
+    ensures replays { Replays result (R.remaining reader.old) (R.remaining reader.new) (W.contents out.old)
+        (W.contents out.new) (E.contents err.old) (E.contents err.new) }
     ensures quiet { IsQuiet result (E.contents err.old) (E.contents err.new) }
 {
     let mut chain = match Chain::demo(alloc, Limits::default()) {

@@ -31,8 +31,8 @@ pub(crate) fn missing_log(rt: &HostRuntime, file: &str) -> Option<String> {
     }
 }
 
-/// Leaves a log that was missing, and is made now, to its owner alone. The store makes it with the rights of its file, so whoever could open it before may read
-/// that file too.
+/// Leaves a log that was missing, and is made now, to its owner alone. The store makes it with the rights of its
+/// file, so whoever could open it before may read that file too.
 pub(crate) fn own(rt: &HostRuntime, log: &Option<String>) {
     if let Some(log) = log {
         let _ = fs::set_permissions(rt, log.as_str(), Permissions::from_mode(OWNERS_ALONE));

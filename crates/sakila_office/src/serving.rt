@@ -21,7 +21,8 @@ pub(crate) const MOST_REQUESTS: u32 = 1000;
 /// How many connections have a place; the rest wait.
 const MOST_OPEN: usize = 256;
 
-/// How many sockets there are at most, with those that have their last reply and those that hold no place. A program may mostly have 1,024 files open.
+/// How many sockets there are at most, with those that have their last reply and those that hold no place. A program
+/// may mostly have 1,024 files open.
 const MOST_SOCKETS: usize = 768;
 
 /// How many connections are accepted before the others have their turn.
@@ -106,7 +107,8 @@ impl Server {
         self.may_accept && self.accepted < self.connections && self.waiting.is_none()
     }
 
-    /// Whether the next connection waits for one that came before it: so it is with those that had come before the serving began.
+    /// Whether the next connection waits for one that came before it: so it is with those that had come before the
+    /// serving began.
     fn is_held(&self) -> bool {
         !self.has_caught_up && self.peers.iter().any(|peer| peer.is_busy())
     }
@@ -141,8 +143,8 @@ impl Server {
         false
     }
 
-    /// Whether there is a place for one more, after a peer was left for it where all are taken. Whoever isn't known and is within a request isn't left, and
-    /// keeps nobody else out.
+    /// Whether there is a place for one more, after a peer was left for it where all are taken. Whoever isn't known
+    /// and is within a request isn't left, and keeps nobody else out.
     fn has_place(&mut self) -> bool {
         let served = self.peers.iter().filter(|peer| peer.is_served()).count();
         if served < MOST_OPEN {
@@ -280,7 +282,8 @@ impl Server {
         true
     }
 
-    /// Each peer that is ready has its turn. Whoever can't go on and has had its time is left, and those that are gone are forgotten.
+    /// Each peer that is ready has its turn. Whoever can't go on and has had its time is left, and those that are
+    /// gone are forgotten.
     fn turns<R: Clock + AllocGlobal, O: OfficeWords, S: Alter>(
         &mut self,
         rt: &R,
@@ -300,7 +303,8 @@ impl Server {
         self.peers.retain(|peer| !peer.is_gone());
     }
 
-    /// Accepts some connections. Of those that had come before the serving began each has its first turn before the next is accepted. Whether the listener is sound.
+    /// Accepts some connections. Of those that had come before the serving began each has its first turn before the
+    /// next is accepted. Whether the listener is sound.
     fn arrivals<R: Clock + AllocGlobal, O: OfficeWords, S: Alter>(
         &mut self,
         rt: &R,
@@ -329,7 +333,8 @@ impl Server {
         chain: &mut Chain<S>,
         words: &O,
     ) -> u8
-        ensures ran { (exchanges : List Exchange) × RunsOver S.Store (O.meaning words.now) chain.old chain.new exchanges }
+        ensures ran { (exchanges : List Exchange)
+            × RunsOver S.Store (O.meaning words.now) chain.old chain.new exchanges }
         ensures status { (result ≡ 0) ⊎ (result ≡ 3) }
         ensures failed { chain.new.is_failed ≡ true → result ≡ 3 }
     {
@@ -349,14 +354,17 @@ impl Server {
     }
 }
 
-/// Serves so many connections by the chain, side by side in 256 places, each with at most 1,000 requests. Where all places are taken and one more waits, the
-/// connection is left that was silent longest between two requests, for a quarter of a second at least. But first one of which no request came with a token that
-/// somebody has, and at once where the last one came with none; within a request such a one isn't left either, and keeps nobody else out, up to 768 sockets in
-/// all. A request is answered when it has come whole, one after another. The others have their turn behind at most 16 requests of a connection, and behind the
-/// one at which its turn has taken a millisecond by the clock of `rt`; where the bytes of all have come before, each connection is answered to its end, in the
-/// order in which they came. A fault of a connection ends that connection alone. A peer of which no whole request has come for as long as `patience`, by that
-/// clock, is left, and so is one that took nothing of a reply for as long. The answer is 0 where all were served, and 3 where serving couldn't begin, none could
-/// be accepted any more or the store failed.
+/// Serves so many connections by the chain, side by side in 256 places, each with at most 1,000 requests. Where all
+/// places are taken and one more waits, the connection is left that was silent longest between two requests, for a
+/// quarter of a second at least. But first one of which no request came with a token that somebody has, and at once
+/// where the last one came with none; within a request such a one isn't left either, and keeps nobody else out, up to
+/// 768 sockets in all. A request is answered when it has come whole, one after another. The others have their turn
+/// behind at most 16 requests of a connection, and behind the one at which its turn has taken a millisecond by the
+/// clock of `rt`; where the bytes of all have come before, each connection is answered to its end, in the order in
+/// which they came. A fault of a connection ends that connection alone. A peer of which no whole request has come for
+/// as long as `patience`, by that clock, is left, and so is one that took nothing of a reply for as long. The answer
+/// is 0 where all were served, and 3 where serving couldn't begin, none could be accepted any more or the store
+/// failed.
 pub fn serve_listener<R: Net + Clock + AllocGlobal, O: OfficeWords, S: Alter>(
     rt: &R,
     listener: &TcpListener,

@@ -17,7 +17,8 @@ use sql_rows::{StoreFault, execute, number_at, query};
 use sqlite::types::ToSql;
 use sqlite::{Alter, Row, Transaction};
 
-/// How a branch stands before a command: the moment of its last accepted command, where there is one, and how many of its commands are kept.
+/// How a branch stands before a command: the moment of its last accepted command, where there is one, and how many of
+/// its commands are kept.
 #[derive(Clone, Copy)]
 pub struct Standing {
     pub last: Option<Moment>,
@@ -45,7 +46,8 @@ pub fn standing_at<S: Alter>(
     branch: BranchNo,
 ) -> Result<Option<Standing>, StoreFault>
     ensures inside { StaysInside S.Store tx.old.conn tx.new.conn result }
-    ensures found { Finds (state S.Store tx.old.conn.now) (state S.Store tx.new.conn.now) result (λ standing books. IsStanding branch books standing) }
+    ensures found { Finds (state S.Store tx.old.conn.now) (state S.Store tx.new.conn.now) result
+        (λ standing books. IsStanding branch books standing) }
     ensures bound { IfOk result (λ standing. IfSome standing (λ it. it.keys ≤ 1_000_000)) }
 {
     let rows = query(tx, SELECT_STANDING, &[branch.get().to_sql()])?;

@@ -76,7 +76,8 @@ impl Count {
     }
 }
 
-/// The count that was found. Where there is none, or more than a million, the fault is `Failed`: no sound table counts more.
+/// The count that was found. Where there is none, or more than a million, the fault is `Failed`: no sound table
+/// counts more.
 pub(crate) fn fitting(found: Option<u32>) -> Result<u32, StoreFault>
     ensures { IfOk result (λ n. (found ≡ Some n) × (n ≤ 1_000_000)) }
 {
@@ -106,7 +107,8 @@ const SELECT_COUNT: &str = "SELECT last FROM counter WHERE caller = ?1 AND kind 
 /// What the counter says. One row is read, however many it counts.
 pub fn count_of<S: Alter>(tx: &mut Transaction<'_, S>, count: Count) -> Result<u32, StoreFault>
     ensures inside { StaysInside S.Store tx.old.conn tx.new.conn result }
-    ensures count { Finds (state S.Store tx.old.conn.now) (state S.Store tx.new.conn.now) result (λ n books. n ≡ counted count books) }
+    ensures count { Finds (state S.Store tx.old.conn.now) (state S.Store tx.new.conn.now) result (λ n books. n
+        ≡ counted count books) }
     ensures bound { IfOk result (λ n. n ≤ 1_000_000) }
 {
     count_shown(
@@ -119,7 +121,8 @@ pub fn count_of<S: Alter>(tx: &mut Transaction<'_, S>, count: Count) -> Result<u
 const UPDATE_COUNT: &str =
     "UPDATE counter SET last = last + ?3 WHERE caller = ?1 AND kind = ?2 RETURNING last";
 
-/// Raises the counter by so many, and tells what it says then. A counter that isn't there is a fault. After a fault the transaction may be rolled back.
+/// Raises the counter by so many, and tells what it says then. A counter that isn't there is a fault. After a fault
+/// the transaction may be rolled back.
 pub fn take_numbers<S: Alter>(
     tx: &mut Transaction<'_, S>,
     count: Count,
@@ -127,9 +130,11 @@ pub fn take_numbers<S: Alter>(
 ) -> Result<u32, StoreFault>
     ensures inside { StaysInside S.Store tx.old.conn tx.new.conn result }
     ensures taken { HasCleanDisk (state S.Store tx.new.conn.now)
-        → IfOk result (λ last. Tallies (state S.Store tx.old.conn.now) (state S.Store tx.new.conn.now) (CountsOnce (caller_of count) (kind_of count))
+        → IfOk result (λ last. Tallies (state S.Store tx.old.conn.now) (state S.Store tx.new.conn.now)
+        (CountsOnce (caller_of count) (kind_of count))
         (raise (caller_of count) (kind_number (kind_of count)) more)
-        (λ counts. map (λ it. it.last + more) (filter (is_count (caller_of count) (kind_number (kind_of count))) counts.counters) ≡ last ∷ [])) }
+        (λ counts. map (λ it. it.last + more)
+        (filter (is_count (caller_of count) (kind_number (kind_of count))) counts.counters) ≡ last ∷ [])) }
     ensures bound { IfOk result (λ last. last ≤ 1_000_000) }
 {
     count_shown(
@@ -153,7 +158,8 @@ pub fn out_at<S: Alter>(
 ) -> Result<Option<RentalNo>, StoreFault>
     ensures inside { StaysInside S.Store tx.old.conn tx.new.conn result }
     ensures found { Finds (state S.Store tx.old.conn.now) (state S.Store tx.new.conn.now) result
-        (λ out books. option_to_list out ≡ map (λ it. it.0) (filter (λ it. keeps_out copy it.1) (numbered (of branch books.rentals)))) }
+        (λ out books. option_to_list out
+        ≡ map (λ it. it.0) (filter (λ it. keeps_out copy it.1) (numbered (of branch books.rentals)))) }
 {
     query_first(
         tx,
@@ -165,7 +171,8 @@ pub fn out_at<S: Alter>(
 
 const SELECT_COPIES_OUT: &str = "SELECT copy FROM out_copy WHERE branch = ?1 ORDER BY rental";
 
-/// The branch's copies that are out, in the order of their rentals. As many rows are read, however many copies there are.
+/// The branch's copies that are out, in the order of their rentals. As many rows are read, however many copies there
+/// are.
 pub fn copies_out<S: Alter>(
     alloc: Global,
     tx: &mut Transaction<'_, S>,
@@ -173,7 +180,8 @@ pub fn copies_out<S: Alter>(
 ) -> Result<Vec<CopyNo>, StoreFault>
     ensures inside { StaysInside S.Store tx.old.conn tx.new.conn result }
     ensures found { Finds (state S.Store tx.old.conn.now) (state S.Store tx.new.conn.now) result
-        (λ copies books. copies.items ≡ map (λ it. it.copy) (filter (λ it. is_none it.returned) (of branch books.rentals))) }
+        (λ copies books. copies.items
+        ≡ map (λ it. it.copy) (filter (λ it. is_none it.returned) (of branch books.rentals))) }
 {
     let rows = query(tx, SELECT_COPIES_OUT, &[branch.get().to_sql()])?;
     row_numbers_in(alloc, rows.as_slice())
@@ -215,8 +223,8 @@ pub fn drop_out<S: Alter>(
 ) -> Result<(), StoreFault>
     ensures inside { StaysInside S.Store tx.old.conn tx.new.conn result }
     ensures dropped { HasCleanDisk (state S.Store tx.new.conn.now)
-        → OnOk result (Tallies (state S.Store tx.old.conn.now) (state S.Store tx.new.conn.now) (IsOutBy branch copy rental) (drop_out branch copy rental)
-        (λ _. ⊤)) }
+        → OnOk result (Tallies (state S.Store tx.old.conn.now) (state S.Store tx.new.conn.now)
+        (IsOutBy branch copy rental) (drop_out branch copy rental) (λ _. ⊤)) }
 {
     execute(
         tx,

@@ -88,7 +88,8 @@ pub fn kept_at<S: Alter>(
 const INSERT_KEPT: &str =
     "INSERT INTO kept (caller, \"key\", command, reply) VALUES (?1, ?2, ?3, ?4)";
 
-/// Keeps a command of the owner, by its key and its stored form, with the body of its reply. After a fault the transaction may be rolled back.
+/// Keeps a command of the owner, by its key and its stored form, with the body of its reply. After a fault the
+/// transaction may be rolled back.
 pub fn put_kept<S: Alter>(
     tx: &mut Transaction<'_, S>,
     owner: Owner,
@@ -98,7 +99,8 @@ pub fn put_kept<S: Alter>(
 ) -> Result<(), StoreFault>
     ensures inside { StaysInside S.Store tx.old.conn tx.new.conn result }
     ensures put { HasCleanDisk (state S.Store tx.new.conn.now)
-        → OnOk result (Keeps owner key.now form.now reply.now (state S.Store tx.old.conn.now) (state S.Store tx.new.conn.now)) }
+        → OnOk result (Keeps owner key.now form.now reply.now (state S.Store tx.old.conn.now)
+        (state S.Store tx.new.conn.now)) }
 {
     execute(
         tx,

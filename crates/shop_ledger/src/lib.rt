@@ -1,5 +1,6 @@
-//! What the shop keeps account of beside its rows: counts of rows, copies that are out, kept commands and last moments, one function a statement.
-//! Each works inside a transaction of the caller's, and tells what it found or made of the books that the tables stand for.
+//! What the shop keeps account of beside its rows: counts of rows, copies that are out, kept commands and last
+//! moments, one function a statement. Each works inside a transaction of the caller's, and tells what it found or
+//! made of the books that the tables stand for.
 #![tactic(auto)]
 
 mod branches;

@@ -24,12 +24,14 @@ fn add_tables<S: Alter>(tx: &mut Transaction<'_, S>) -> Result<(), StoreFault>
     ensures shop { HasCleanDisk (state S.Store tx.new.conn.now)
         → OnOk result (IsFirstShop (state S.Store tx.old.conn.now) → IsShop (state S.Store tx.new.conn.now)) }
     ensures keyed { HasCleanDisk (state S.Store tx.new.conn.now)
-        → OnOk result (IsFirstShop (state S.Store tx.old.conn.now) → IsFirstKeyed (state S.Store tx.old.conn.now) → IsKeyed (state S.Store tx.new.conn.now)) }
+        → OnOk result (IsFirstShop (state S.Store tx.old.conn.now) → IsFirstKeyed (state S.Store tx.old.conn.now)
+        → IsKeyed (state S.Store tx.new.conn.now)) }
     ensures added { HasCleanDisk (state S.Store tx.new.conn.now)
         → OnOk result ((books : Books) → HoldsVersion1 (state S.Store tx.old.conn.now) books
         → IsUnderWay first_version [] [] (state S.Store tx.new.conn.now) books) }
     ensures tables { HasCleanDisk (state S.Store tx.new.conn.now)
-        → OnOk result (IsFirstShop (state S.Store tx.old.conn.now) → AddsTables (state S.Store tx.old.conn.now).now.trees (state S.Store tx.new.conn.now).now.trees) }
+        → OnOk result (IsFirstShop (state S.Store tx.old.conn.now) → AddsTables
+        (state S.Store tx.old.conn.now).now.trees (state S.Store tx.new.conn.now).now.trees) }
 {
     execute(
         tx,
@@ -49,12 +51,15 @@ fn put_terms<S: Alter>(tx: &mut Transaction<'_, S>) -> Result<(), StoreFault>
     ensures shop { HasCleanDisk (state S.Store tx.new.conn.now)
         → OnOk result (IsShop (state S.Store tx.old.conn.now) → IsShop (state S.Store tx.new.conn.now)) }
     ensures keyed { HasCleanDisk (state S.Store tx.new.conn.now)
-        → OnOk result (IsShop (state S.Store tx.old.conn.now) → IsKeyed (state S.Store tx.old.conn.now) → IsKeyed (state S.Store tx.new.conn.now)) }
+        → OnOk result (IsShop (state S.Store tx.old.conn.now) → IsKeyed (state S.Store tx.old.conn.now) → IsKeyed
+        (state S.Store tx.new.conn.now)) }
     ensures put { HasCleanDisk (state S.Store tx.new.conn.now)
-        → OnOk result ((rules : Rules) (books : Books) → IsSoundWithoutTerms rules books → IsUnderWay first_version [] [] (state S.Store tx.old.conn.now) books
-        → IsUnderWay first_version (term_rows (migrated books)) [] (state S.Store tx.new.conn.now) books) }
+        → OnOk result ((rules : Rules) (books : Books) → IsSoundWithoutTerms rules books → IsUnderWay first_version []
+        [] (state S.Store tx.old.conn.now) books → IsUnderWay first_version (term_rows (migrated books)) []
+        (state S.Store tx.new.conn.now) books) }
     ensures tables { HasCleanDisk (state S.Store tx.new.conn.now)
-        → OnOk result (IsShop (state S.Store tx.old.conn.now) → SameBut shop_schema 57 (state S.Store tx.old.conn.now).now.trees (state S.Store tx.new.conn.now).now.trees) }
+        → OnOk result (IsShop (state S.Store tx.old.conn.now) → SameBut shop_schema 57
+        (state S.Store tx.old.conn.now).now.trees (state S.Store tx.new.conn.now).now.trees) }
 {
     execute(
         tx,
@@ -69,12 +74,15 @@ fn put_rule<S: Alter>(tx: &mut Transaction<'_, S>) -> Result<(), StoreFault>
     ensures shop { HasCleanDisk (state S.Store tx.new.conn.now)
         → OnOk result (IsShop (state S.Store tx.old.conn.now) → IsShop (state S.Store tx.new.conn.now)) }
     ensures keyed { HasCleanDisk (state S.Store tx.new.conn.now)
-        → OnOk result (IsShop (state S.Store tx.old.conn.now) → IsKeyed (state S.Store tx.old.conn.now) → IsKeyed (state S.Store tx.new.conn.now)) }
+        → OnOk result (IsShop (state S.Store tx.old.conn.now) → IsKeyed (state S.Store tx.old.conn.now) → IsKeyed
+        (state S.Store tx.new.conn.now)) }
     ensures put { HasCleanDisk (state S.Store tx.new.conn.now)
-        → OnOk result ((terms : List SqlRow) (books : Books) → IsUnderWay first_version terms [] (state S.Store tx.old.conn.now) books
-        → IsUnderWay first_version terms (rule_columns ByCode ∷ []) (state S.Store tx.new.conn.now) books) }
+        → OnOk result ((terms : List SqlRow) (books : Books) → IsUnderWay first_version terms []
+        (state S.Store tx.old.conn.now) books → IsUnderWay first_version terms (rule_columns ByCode ∷ [])
+        (state S.Store tx.new.conn.now) books) }
     ensures tables { HasCleanDisk (state S.Store tx.new.conn.now)
-        → OnOk result (IsShop (state S.Store tx.old.conn.now) → PutsRule (state S.Store tx.old.conn.now).now.trees (state S.Store tx.new.conn.now).now.trees) }
+        → OnOk result (IsShop (state S.Store tx.old.conn.now) → PutsRule (state S.Store tx.old.conn.now).now.trees
+        (state S.Store tx.new.conn.now).now.trees) }
 {
     execute(tx, "INSERT INTO chain_rule (comment_rule) VALUES (0)", &[])
 }
@@ -85,10 +93,12 @@ fn set_version<S: Alter>(tx: &mut Transaction<'_, S>) -> Result<(), StoreFault>
     ensures shop { HasCleanDisk (state S.Store tx.new.conn.now)
         → OnOk result (IsShop (state S.Store tx.old.conn.now) → IsShop (state S.Store tx.new.conn.now)) }
     ensures keyed { HasCleanDisk (state S.Store tx.new.conn.now)
-        → OnOk result (IsShop (state S.Store tx.old.conn.now) → IsKeyed (state S.Store tx.old.conn.now) → IsKeyed (state S.Store tx.new.conn.now)) }
+        → OnOk result (IsShop (state S.Store tx.old.conn.now) → IsKeyed (state S.Store tx.old.conn.now) → IsKeyed
+        (state S.Store tx.new.conn.now)) }
     ensures set { HasCleanDisk (state S.Store tx.new.conn.now)
-        → OnOk result ((terms rule : List SqlRow) (books : Books) → IsUnderWay first_version terms rule (state S.Store tx.old.conn.now) books
-        → IsUnderWay this_version terms rule (state S.Store tx.new.conn.now) books) }
+        → OnOk result ((terms rule : List SqlRow) (books : Books) → IsUnderWay first_version terms rule
+        (state S.Store tx.old.conn.now) books → IsUnderWay this_version terms rule (state S.Store tx.new.conn.now)
+        books) }
     ensures tables { HasCleanDisk (state S.Store tx.new.conn.now)
         → OnOk result (IsShop (state S.Store tx.old.conn.now) → IsKeyed (state S.Store tx.old.conn.now) → (token : Text)
         → Tells first_version token (state S.Store tx.old.conn.now).now.trees
@@ -97,17 +107,20 @@ fn set_version<S: Alter>(tx: &mut Transaction<'_, S>) -> Result<(), StoreFault>
     execute(tx, "UPDATE chain SET version = 2", &[])
 }
 
-/// The tables of version 1 become those of version 2: each rental gets the terms of its film as they stand, and balances go by the manual's code, as they
-/// did. Nothing is committed. The tables stand for what those of version 1 stood for and for nothing else (`stood`), so that an audit of them tells whether these
-/// stood for sound books.
+/// The tables of version 1 become those of version 2: each rental gets the terms of its film as they stand, and
+/// balances go by the manual's code, as they did. Nothing is committed. The tables stand for what those of version 1
+/// stood for and for nothing else (`stood`), so that an audit of them tells whether these stood for sound books.
 pub fn migrate_tables<S: Alter>(tx: &mut Transaction<'_, S>) -> Result<(), StoreFault>
     ensures inside { StaysInside S.Store tx.old.conn tx.new.conn result }
     ensures shop { HasCleanDisk (state S.Store tx.new.conn.now)
         → OnOk result (IsFirstShop (state S.Store tx.old.conn.now) → IsShop (state S.Store tx.new.conn.now)) }
     ensures keyed { HasCleanDisk (state S.Store tx.new.conn.now)
-        → OnOk result (IsFirstShop (state S.Store tx.old.conn.now) → IsFirstKeyed (state S.Store tx.old.conn.now) → IsKeyed (state S.Store tx.new.conn.now)) }
-    ensures migrated { HasCleanDisk (state S.Store tx.new.conn.now) → OnOk result (Migrates (state S.Store tx.old.conn.now) (state S.Store tx.new.conn.now)) }
-    ensures stood { HasCleanDisk (state S.Store tx.new.conn.now) → OnOk result (StoodForSame (state S.Store tx.old.conn.now) (state S.Store tx.new.conn.now)) }
+        → OnOk result (IsFirstShop (state S.Store tx.old.conn.now) → IsFirstKeyed (state S.Store tx.old.conn.now)
+        → IsKeyed (state S.Store tx.new.conn.now)) }
+    ensures migrated { HasCleanDisk (state S.Store tx.new.conn.now)
+        → OnOk result (Migrates (state S.Store tx.old.conn.now) (state S.Store tx.new.conn.now)) }
+    ensures stood { HasCleanDisk (state S.Store tx.new.conn.now)
+        → OnOk result (StoodForSame (state S.Store tx.old.conn.now) (state S.Store tx.new.conn.now)) }
 {
     add_tables(tx)?;
     put_terms(tx)?;

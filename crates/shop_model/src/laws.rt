@@ -27,14 +27,15 @@ pub fn branches_are_alone()
     ensures { BranchesAreAlone }
 {}
 
-/// In which order commands were kept, lots came and actors were cast tells a branch nothing: where it finds the same under each key, the same lots and the same
-/// casts, and all else is equal, it is told the same, whatever reaches it.
+/// In which order commands were kept, lots came and actors were cast tells a branch nothing: where it finds the same
+/// under each key, the same lots and the same casts, and all else is equal, it is told the same, whatever reaches it.
 #[tactic(auto, using(crate::proofs::SameStates::order_tells_nothing))]
 pub fn order_tells_nothing()
     ensures { OrderTellsNothing }
 {}
 
-/// Two histories of which a branch sees the same, from books in which it has the same, in whatever order, send it the same.
+/// Two histories of which a branch sees the same, from books in which it has the same, in whatever order, send it the
+/// same.
 #[tactic(auto, using(crate::proofs::Isolation::isolated))]
 pub fn branches_are_isolated()
     ensures { BranchesAreIsolated }
@@ -112,7 +113,8 @@ pub fn runs_resend()
     ensures { RunsResend }
 {}
 
-/// In sound books each kept row is the only one of its caller under its key, so that a command of it gets its reply in any history that begins with them.
+/// In sound books each kept row is the only one of its caller under its key, so that a command of it gets its reply
+/// in any history that begins with them.
 #[tactic(auto, using(crate::proofs::Resends::kept_rows_kept))]
 pub fn kept_rows_are_kept()
     ensures { KeptRowsAreKept }
@@ -160,7 +162,8 @@ pub fn sound_without_terms()
     ensures { SoundWithoutTerms }
 {}
 
-/// In books of version 1 that are sound a balance, and which rentals are overdue, stay as they were when each rental gets its terms.
+/// In books of version 1 that are sound a balance, and which rentals are overdue, stay as they were when each rental
+/// gets its terms.
 #[tactic(auto, using(crate::proofs::Migration::keeps_balances))]
 pub fn migrated_keeps_balances()
     ensures { MigratedKeepsBalances }

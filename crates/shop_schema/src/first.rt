@@ -1,4 +1,5 @@
-//! How the tables of version 1 are made, with the first rows of a chain: as its program made them, for whoever has to have such tables.
+//! How the tables of version 1 are made, with the first rows of a chain: as its program made them, for whoever has to
+//! have such tables.
 
 ghost use Rattle.std.specs.Prelude.{◌≡◌, OnOk, false};
 ghost use Rattle.sqlite.specs.Held.{state};
@@ -43,7 +44,8 @@ const FIRST_COUNT: &str = "INSERT INTO counter (caller, kind, last) VALUES (0, 4
 fn fill_first<S: Alter>(tx: &mut Transaction<'_, S>, office: &Token) -> Result<(), StoreFault>
     ensures same_reference { tx.new.conn.ghost_name ≡ tx.old.conn.ghost_name }
     ensures survives { Survives (state S.Store tx.old.conn.now) (state S.Store tx.new.conn.now) (λ _. ⊥) }
-    ensures holds { HasCleanDisk (state S.Store tx.new.conn.now) → (state S.Store tx.old.conn.now).now.schema ≡ no_schema
+    ensures holds { HasCleanDisk (state S.Store tx.new.conn.now)
+        → (state S.Store tx.old.conn.now).now.schema ≡ no_schema
         → OnOk result (HoldsVersion1 (state S.Store tx.new.conn.now) (first_books office.now)) }
 {
     create_first_tables(tx)?;
@@ -51,14 +53,16 @@ fn fill_first<S: Alter>(tx: &mut Transaction<'_, S>, office: &Token) -> Result<(
     execute(tx, FIRST_COUNT, &[])
 }
 
-/// Makes the tables of version 1, with head office's token and no other row of a chain, in a database that has no table, and commits that: all of it or nothing.
-/// This program doesn't open such a chain; it makes one of its own of it (`migrate_tables`).
+/// Makes the tables of version 1, with head office's token and no other row of a chain, in a database that has no
+/// table, and commits that: all of it or nothing. This program doesn't open such a chain; it makes one of its own of
+/// it (`migrate_tables`).
 pub fn create_first<S: Alter>(conn: &mut Connection<S>, office: &Token) -> Result<(), StoreFault>
     requires { conn.old.in_transaction ≡ false }
     ensures ended { conn.new.in_transaction ≡ false }
     ensures made { HasCleanDisk (state S.Store conn.new) → (state S.Store conn.old).now.schema ≡ no_schema
         → OnOk result (IsNewFirst (state S.Store conn.new) (first_books office.now)) }
-    ensures crash { Survives (state S.Store conn.old) (state S.Store conn.new) (LeavesNewFirst (state S.Store conn.old) (first_books office.now)) }
+    ensures crash { Survives (state S.Store conn.old) (state S.Store conn.new)
+        (LeavesNewFirst (state S.Store conn.old) (first_books office.now)) }
 {
     let mut tx = conn.transaction();
     fill_first(&mut tx, office)?;

@@ -112,7 +112,8 @@ fn add_payment(
 
 /// The number of a consignment, and the lines that are missing.
 fn add_lines(form: &mut Vec<u8>, number: ConsignmentNo, missing: &LineNos) -> Result<(), NoMemory>
-    ensures { OnOk result (form.new.items ≡ form.old.items ++ joined (number_form number ∷ numbers_form missing.now ∷ [])) }
+    ensures { OnOk result (form.new.items
+        ≡ form.old.items ++ joined (number_form number ∷ numbers_form missing.now ∷ [])) }
 {
     add_number(form, number.get())?;
     add_numbers(form, missing.as_slice())
@@ -159,7 +160,8 @@ fn add_act(form: &mut Vec<u8>, act: &Act) -> Result<(), NoMemory>
     }
 }
 
-/// The bytes by which the command is kept: all of it but its key. Under one key, two commands have the same bytes exactly where they are one command.
+/// The bytes by which the command is kept: all of it but its key. Under one key, two commands have the same bytes
+/// exactly where they are one command.
 pub fn command_form(alloc: Global, command: &Command) -> Result<Bytes, NoMemory>
     ensures { IfOk result (λ form. form ≡ command_form (seen_command command.now)) }
 {

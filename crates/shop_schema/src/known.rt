@@ -43,7 +43,8 @@ pub fn is_first_shop(alloc: Global, schema: &Schema) -> Result<bool, StoreFault>
     Ok(same_begun(schema, conn.schema(), 21, 36))
 }
 
-/// Whether the first table of a database is the one that has the version, whatever the others are. Its store isn't called.
+/// Whether the first table of a database is the one that has the version, whatever the others are. Its store isn't
+/// called.
 pub fn has_version(alloc: Global, schema: &Schema) -> Result<bool, StoreFault>
     ensures { IfOk result (λ is. IsTrue is ↔ HasVersion schema.now) }
 {
@@ -53,8 +54,10 @@ pub fn has_version(alloc: Global, schema: &Schema) -> Result<bool, StoreFault>
 
 /// The rows of the table that has the version, each with the version alone, in any order.
 fn versions<S: Alter>(tx: &mut Transaction<'_, S>) -> Result<Vec<Row>, StoreFault>
-    ensures read { HasCleanDisk (state S.Store tx.new.conn.now) → HasVersion (state S.Store tx.old.conn.now).now.schema
-        → IfOk result (λ rows. IsPermutation (map (columns_of 1) ((state S.Store tx.old.conn.now).now.trees 0)) rows.items) }
+    ensures read { HasCleanDisk (state S.Store tx.new.conn.now)
+        → HasVersion (state S.Store tx.old.conn.now).now.schema
+        → IfOk result (λ rows. IsPermutation (map (columns_of 1) ((state S.Store tx.old.conn.now).now.trees 0))
+        rows.items) }
     ensures inside { StaysInside S.Store tx.old.conn tx.new.conn result }
 {
     query(tx, "SELECT version FROM chain", &[])

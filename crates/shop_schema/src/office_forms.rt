@@ -25,8 +25,10 @@ fn add_minutes(form: &mut Vec<u8>, minutes: Option<Minutes>) -> Result<(), NoMem
 
 /// What the film is called, and its language and category.
 fn add_heading(form: &mut Vec<u8>, film: &Film) -> Result<(), NoMemory>
-    ensures { OnOk result (form.new.items ≡ form.old.items ++
-        joined (text_form film.now.title ∷ text_form film.now.description ∷ number_form film.now.language ∷ number_form film.now.category ∷ [])) }
+    ensures { OnOk result (form.new.items
+        ≡ form.old.items ++ joined
+        (text_form film.now.title ∷ text_form film.now.description ∷ number_form film.now.language
+        ∷ number_form film.now.category ∷ [])) }
 {
     add_text(form, film.title.as_str())?;
     add_text(form, film.description.as_str())?;
@@ -133,8 +135,8 @@ fn add_named(form: &mut Vec<u8>, act: u8, name: &T45) -> Result<(), NoMemory>
     add_text(form, name.as_str())
 }
 
-/// The bytes by which a command of head office is kept: all of it but its key. Under one key, two commands have the same bytes exactly where they are one
-/// command.
+/// The bytes by which a command of head office is kept: all of it but its key. Under one key, two commands have the
+/// same bytes exactly where they are one command.
 pub fn office_form(alloc: Global, command: &OfficeCommand) -> Result<Bytes, NoMemory>
     ensures { IfOk result (λ form. form ≡ office_command_form (seen_office command.now)) }
 {

@@ -1,4 +1,5 @@
-//! Columns read as the shop's values, and the first row of an answer. Where a column holds no such value, the fault is `Failed`.
+//! Columns read as the shop's values, and the first row of an answer. Where a column holds no such value, the fault
+//! is `Failed`.
 
 ghost use Rattle.std.specs.Prelude.{◌≡◌, List, Ok, map, IfOk, IfSome};
 ghost use Rattle.std.specs.Fn.{FnReturnsAt};
@@ -117,7 +118,8 @@ pub fn first_of<T, F: Fn(&Row) -> Result<T, StoreFault>>(
     }
 }
 
-/// What the reader makes of the first row that a query shows, if it shows a row. After a fault the transaction may be rolled back.
+/// What the reader makes of the first row that a query shows, if it shows a row. After a fault the transaction may be
+/// rolled back.
 pub fn query_first<S: Alter, T, F: Fn(&Row) -> Result<T, StoreFault>>(
     tx: &mut Transaction<'_, S>,
     text: &str,

@@ -95,7 +95,9 @@ impl Same for Reference {
 
 /// The name, and the trees of the index and of its table.
 fn same_tree(first: &Index, second: &Index) -> bool
-    ensures { IsTrue result ↔ ((first.now.name ≡ second.now.name) × ((first.now.tree ≡ second.now.tree) × (first.now.table ≡ second.now.table))) }
+    ensures { IsTrue result
+        ↔ ((first.now.name ≡ second.now.name)
+        × ((first.now.tree ≡ second.now.tree) × (first.now.table ≡ second.now.table))) }
 {
     first.name.same(&second.name) && first.tree == second.tree && first.table == second.table
 }

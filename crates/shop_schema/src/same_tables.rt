@@ -16,7 +16,8 @@ fn same_terms(first: &Terms, second: &Terms) -> bool
 }
 
 fn same_stamps(first: &Stamps, second: &Stamps) -> bool
-    ensures { IsTrue result ↔ ((first.now ≡ second.now) × (second.now ≡ record { places = []; terms = []; formats = [] })) }
+    ensures { IsTrue result
+        ↔ ((first.now ≡ second.now) × (second.now ≡ record { places = []; terms = []; formats = [] })) }
 {
     same_terms(&first.terms, &second.terms)
         && first.places.is_empty()
@@ -33,7 +34,9 @@ fn same_key(first: Option<usize>, second: Option<usize>) -> bool
 
 /// The columns and the primary key.
 fn same_columns(first: &Table, second: &Table) -> bool
-    ensures { IsTrue result ↔ ((first.now.columns ≡ second.now.columns) × ((first.now.key ≡ second.now.key) × (first.now.primary ≡ second.now.primary))) }
+    ensures { IsTrue result
+        ↔ ((first.now.columns ≡ second.now.columns)
+        × ((first.now.key ≡ second.now.key) × (first.now.primary ≡ second.now.primary))) }
 {
     first.columns.same(&second.columns)
         && same_key(first.key, second.key)
@@ -51,7 +54,9 @@ fn same_keys(first: &Table, second: &Table) -> bool
 }
 
 fn same_names(first: &Table, second: &Table) -> bool
-    ensures { IsTrue result ↔ ((first.now.name ≡ second.now.name) × ((first.now.tree ≡ second.now.tree) × (first.now.is_counted ≡ second.now.is_counted))) }
+    ensures { IsTrue result
+        ↔ ((first.now.name ≡ second.now.name)
+        × ((first.now.tree ≡ second.now.tree) × (first.now.is_counted ≡ second.now.is_counted))) }
 {
     first.name.same(&second.name)
         && first.tree == second.tree
@@ -59,8 +64,10 @@ fn same_names(first: &Table, second: &Table) -> bool
 }
 
 fn same_rest(first: &Table, second: &Table) -> bool
-    ensures { IsTrue result ↔ (((first.now.checks ≡ second.now.checks) × ((first.now.computed ≡ second.now.computed) × (first.now.stamps ≡ second.now.stamps)))
-        × IsTrue (is_bare second.now)) }
+    ensures { IsTrue result
+        ↔ (((first.now.checks ≡ second.now.checks)
+        × ((first.now.computed ≡ second.now.computed) × (first.now.stamps ≡ second.now.stamps))) × IsTrue (is_bare
+        second.now)) }
 {
     same_terms(&first.checks, &second.checks)
         && first.computed.same(&second.computed)
@@ -88,7 +95,8 @@ fn same_tables(first: &[Table], second: &[Table]) -> bool
     same_table(a, b) && same_tables(more, others)
 }
 
-/// Whether the first schema is the second, and the second is an expected one: with no view, no CHECK and no default that is computed.
+/// Whether the first schema is the second, and the second is an expected one: with no view, no CHECK and no default
+/// that is computed.
 pub fn same_schema(first: &Schema, second: &Schema) -> bool
     ensures { IsTrue result ↔ ((first.now ≡ second.now) × IsPlain second.now) }
 {
@@ -98,11 +106,13 @@ pub fn same_schema(first: &Schema, second: &Schema) -> bool
         && second.views.is_empty()
 }
 
-/// Whether the first schema has just so many of the tables and indexes with which the second begins, of which none has a CHECK or a default that is computed.
+/// Whether the first schema has just so many of the tables and indexes with which the second begins, of which none
+/// has a CHECK or a default that is computed.
 pub(crate) fn same_begun(first: &Schema, second: &Schema, tables: usize, indexes: usize) -> bool
     requires tables { tables ≤ length second.now.tables }
     requires indexes { indexes ≤ length second.now.indexes }
-    ensures { IsTrue result ↔ ((first.now ≡ begun tables indexes second.now) × IsPlain (begun tables indexes second.now)) }
+    ensures { IsTrue result
+        ↔ ((first.now ≡ begun tables indexes second.now) × IsPlain (begun tables indexes second.now)) }
 {
     same_tables(first.tables.as_slice(), &second.tables.as_slice()[..tables])
         && same_slices(

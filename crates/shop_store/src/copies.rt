@@ -124,7 +124,8 @@ pub fn copy_at<S: Alter>(
 ) -> Result<Option<CopyRow>, StoreFault>
     ensures inside { StaysInside S.Store tx.old.conn tx.new.conn result }
     ensures row { Finds (state S.Store tx.old.conn.now) (state S.Store tx.new.conn.now) result
-        (λ row books. option_to_list (option_map (λ it. (seen_copy_row it).it) row) ≡ at number (of branch books.copies)) }
+        (λ row books. option_to_list (option_map (λ it. (seen_copy_row it).it) row)
+        ≡ at number (of branch books.copies)) }
 {
     query_one(
         tx,
@@ -135,8 +136,8 @@ pub fn copy_at<S: Alter>(
 
 /// How the copy in the row stands.
 fn now_in(row: &Row) -> Result<CopyNow, StoreFault>
-    ensures { IfOk result (λ it. (column row.now 0 ≡ number_value it.film) × (column row.now 1 ≡ state_value (seen_state it.state))
-        × (column row.now 2 ≡ or_null number_value it.out)) }
+    ensures { IfOk result (λ it. (column row.now 0 ≡ number_value it.film)
+        × (column row.now 1 ≡ state_value (seen_state it.state)) × (column row.now 2 ≡ or_null number_value it.out)) }
 {
     Ok(CopyNow {
         film: row_number_at(row, 0)?,
@@ -156,8 +157,10 @@ pub fn copy_now_at<S: Alter>(
 ) -> Result<Option<CopyNow>, StoreFault>
     ensures inside { StaysInside S.Store tx.old.conn tx.new.conn result }
     ensures found { Finds (state S.Store tx.old.conn.now) (state S.Store tx.new.conn.now) result
-        (λ found books. (option_to_list (option_map seen_copy_now found) ≡ at number (shop_of branch books).copies)
-        × IfSome found (λ it. option_to_list it.out ≡ map (λ it. it.0) (filter (λ it. keeps_out number it.1) (numbered (of branch books.rentals))))) }
+        (λ found books. (option_to_list (option_map seen_copy_now found) ≡ at number
+        (shop_of branch books).copies)
+        × IfSome found (λ it. option_to_list it.out ≡ map (λ it. it.0)
+        (filter (λ it. keeps_out number it.1) (numbered (of branch books.rentals))))) }
 {
     query_first(
         tx,
@@ -170,7 +173,8 @@ pub fn copy_now_at<S: Alter>(
 const SELECT_COPIES_OF_FILM: &str =
     "SELECT branch, number, film, state, origin_branch, origin_copy FROM copy WHERE branch = ?1 AND film = ?2 ORDER BY number";
 
-/// The copies of the film that the branch has, in whatever state, in order of number. After a fault the transaction may be rolled back.
+/// The copies of the film that the branch has, in whatever state, in order of number. After a fault the transaction
+/// may be rolled back.
 pub fn copies_of_film<S: Alter>(
     alloc: Global,
     tx: &mut Transaction<'_, S>,
@@ -179,7 +183,8 @@ pub fn copies_of_film<S: Alter>(
 ) -> Result<Vec<CopyRow>, StoreFault>
     ensures inside { StaysInside S.Store tx.old.conn tx.new.conn result }
     ensures rows { Finds (state S.Store tx.old.conn.now) (state S.Store tx.new.conn.now) result
-        (λ rows books. map (λ row. seen_copy_row row) rows.items ≡ filter (λ row. is_of branch row && row.it.film == film) books.copies) }
+        (λ rows books. map (λ row. seen_copy_row row) rows.items
+        ≡ filter (λ row. is_of branch row && row.it.film == film) books.copies) }
 {
     query_all(
         alloc,
@@ -201,7 +206,9 @@ pub fn copies_in_state<S: Alter>(
 ) -> Result<Vec<CopyNo>, StoreFault>
     ensures inside { StaysInside S.Store tx.old.conn tx.new.conn result }
     ensures numbers { Finds (state S.Store tx.old.conn.now) (state S.Store tx.new.conn.now) result
-        (λ numbers books. numbers.items ≡ map (λ row. row.number) (filter (λ row. is_of branch row && copy_is row.it.state (seen_state which)) books.copies)) }
+        (λ numbers books. numbers.items
+        ≡ map (λ row. row.number)
+        (filter (λ row. is_of branch row && copy_is row.it.state (seen_state which)) books.copies)) }
 {
     let rows = query(
         tx,
@@ -213,7 +220,8 @@ pub fn copies_in_state<S: Alter>(
 
 const UPDATE_STATE: &str = "UPDATE copy SET state = ?3 WHERE branch = ?1 AND number = ?2";
 
-/// Sets where the copy is, of which there are no two. A copy that isn't there is not made. After a fault the transaction may be rolled back.
+/// Sets where the copy is, of which there are no two. A copy that isn't there is not made. After a fault the
+/// transaction may be rolled back.
 pub fn set_state<S: Alter>(
     tx: &mut Transaction<'_, S>,
     branch: BranchNo,
@@ -221,7 +229,8 @@ pub fn set_state<S: Alter>(
     new: CopyState,
 ) -> Result<(), StoreFault>
     ensures inside { StaysInside S.Store tx.old.conn tx.new.conn result }
-    ensures set { Stores (state S.Store tx.old.conn.now) (state S.Store tx.new.conn.now) result (λ books. PicksOne (is_row branch number) books.copies)
+    ensures set { Stores (state S.Store tx.old.conn.now) (state S.Store tx.new.conn.now) result
+        (λ books. PicksOne (is_row branch number) books.copies)
         (λ books. record books { copies = set_row branch number (put_state (seen_state new)) books.copies }) }
 {
     execute(

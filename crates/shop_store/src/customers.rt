@@ -96,7 +96,8 @@ pub fn customer_at<S: Alter>(
 ) -> Result<Option<CustomerRow>, StoreFault>
     ensures inside { StaysInside S.Store tx.old.conn tx.new.conn result }
     ensures row { Finds (state S.Store tx.old.conn.now) (state S.Store tx.new.conn.now) result
-        (λ row books. option_to_list (option_map (λ it. seen_customer it.customer) row) ≡ at number (of branch books.customers)) }
+        (λ row books. option_to_list (option_map (λ it. seen_customer it.customer) row)
+        ≡ at number (of branch books.customers)) }
 {
     query_one(
         tx,
@@ -143,7 +144,8 @@ pub fn put_customer<S: Alter>(
 
 const UPDATE_ACTIVE: &str = "UPDATE customer SET active = ?3 WHERE branch = ?1 AND number = ?2";
 
-/// Sets whether the customer may rent. A customer who is not there is not made. After a fault the transaction may be rolled back.
+/// Sets whether the customer may rent. A customer who is not there is not made. After a fault the transaction may be
+/// rolled back.
 pub fn set_active<S: Alter>(
     tx: &mut Transaction<'_, S>,
     branch: BranchNo,
@@ -152,7 +154,8 @@ pub fn set_active<S: Alter>(
 ) -> Result<(), StoreFault>
     ensures inside { StaysInside S.Store tx.old.conn tx.new.conn result }
     ensures set { Stores (state S.Store tx.old.conn.now) (state S.Store tx.new.conn.now) result IsHeld
-        (λ books. record books { customers = set_row branch number (λ it. record it { active = active }) books.customers }) }
+        (λ books. record books
+        { customers = set_row branch number (λ it. record it { active = active }) books.customers }) }
 {
     execute(
         tx,

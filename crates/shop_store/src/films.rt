@@ -109,7 +109,10 @@ pub fn set_rate<S: Alter>(
 ) -> Result<(), StoreFault>
     ensures inside { StaysInside S.Store tx.old.conn tx.new.conn result }
     ensures set { Stores (state S.Store tx.old.conn.now) (state S.Store tx.new.conn.now) result (λ _. ⊤)
-        (λ books. record books { catalogue = record books.catalogue { films = set_at film (λ f. record f { rate = rate }) books.catalogue.films } }) }
+        (λ books. record books {
+          catalogue = record books.catalogue
+              { films = set_at film (λ f. record f { rate = rate }) books.catalogue.films };
+        }) }
 {
     execute(
         tx,
@@ -124,7 +127,10 @@ const UPDATE_WITHDRAWN: &str = "UPDATE film SET withdrawn = ?2 WHERE number = ?1
 pub fn set_withdrawn<S: Alter>(tx: &mut Transaction<'_, S>, film: FilmNo) -> Result<(), StoreFault>
     ensures inside { StaysInside S.Store tx.old.conn tx.new.conn result }
     ensures set { Stores (state S.Store tx.old.conn.now) (state S.Store tx.new.conn.now) result (λ _. ⊤)
-        (λ books. record books { catalogue = record books.catalogue { films = set_at film (λ f. record f { withdrawn = true }) books.catalogue.films } }) }
+        (λ books. record books {
+          catalogue = record books.catalogue
+              { films = set_at film (λ f. record f { withdrawn = true }) books.catalogue.films };
+        }) }
 {
     execute(tx, UPDATE_WITHDRAWN, &[film.get().to_sql(), true.to_sql()])
 }

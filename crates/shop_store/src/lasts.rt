@@ -1,4 +1,5 @@
-//! The last number of each table of shared rows. Rows are numbered from 1 without a gap, so it is how many there are, and a new row's number is one more.
+//! The last number of each table of shared rows. Rows are numbered from 1 without a gap, so it is how many there are,
+//! and a new row's number is one more.
 
 ghost use Rattle.std.specs.Prelude.{◌≡◌, IfOk, List, [], length};
 ghost use Rattle.sqlite.specs.Held.{state};
@@ -15,8 +16,9 @@ use sqlite::{Alter, Transaction};
 /// The number in the first row that the query shows, or 0 where it shows none.
 fn number_shown<S: Alter>(tx: &mut Transaction<'_, S>, text: &str) -> Result<u32, StoreFault>
     ensures inside { StaysInside S.Store tx.old.conn tx.new.conn result }
-    ensures shown { HasCleanDisk (state S.Store tx.new.conn.now) → IfOk result (λ n. (rows : List SqlRow)
-        × Shown text.now [] (state S.Store tx.old.conn.now) (state S.Store tx.new.conn.now) rows × IsFirstNumber rows n) }
+    ensures shown { HasCleanDisk (state S.Store tx.new.conn.now)
+        → IfOk result (λ n. (rows : List SqlRow) × Shown text.now [] (state S.Store tx.old.conn.now)
+        (state S.Store tx.new.conn.now) rows × IsFirstNumber rows n) }
 {
     Ok(query_first(tx, text, &[], |row| number_at(row, 0))?.unwrap_or(0))
 }

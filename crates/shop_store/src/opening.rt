@@ -47,29 +47,32 @@ const INSERT_RULE: &str = "INSERT INTO chain_rule (comment_rule) VALUES (0)";
 fn put_rule<S: Alter>(tx: &mut Transaction<'_, S>) -> Result<(), StoreFault>
     ensures inside { StaysInside S.Store tx.old.conn tx.new.conn result }
     ensures put { HasCleanDisk (state S.Store tx.new.conn.now)
-        → OnOk result (IsShop (state S.Store tx.old.conn.now) → IsKeyed (state S.Store tx.old.conn.now) → HaveNoRows (state S.Store tx.old.conn.now).now.trees
-        → IsRuled (state S.Store tx.new.conn.now)) }
+        → OnOk result (IsShop (state S.Store tx.old.conn.now) → IsKeyed (state S.Store tx.old.conn.now) → HaveNoRows
+        (state S.Store tx.old.conn.now).now.trees → IsRuled (state S.Store tx.new.conn.now)) }
 {
     execute(tx, INSERT_RULE, &[])
 }
 
 const INSERT_CHAIN: &str = "INSERT INTO chain (version, office_token) VALUES (2, ?1)";
 
-/// Gives new tables that have their rule their row of the table `chain`, and no count. After a fault the transaction may be rolled back.
+/// Gives new tables that have their rule their row of the table `chain`, and no count. After a fault the transaction
+/// may be rolled back.
 fn put_chain<S: Alter>(tx: &mut Transaction<'_, S>, token: &Token) -> Result<(), StoreFault>
     ensures inside { StaysInside S.Store tx.old.conn tx.new.conn result }
     ensures put { HasCleanDisk (state S.Store tx.new.conn.now)
-        → OnOk result (IsRuled (state S.Store tx.old.conn.now) → HoldsWith no_counts (state S.Store tx.new.conn.now) (first_books token.now)) }
+        → OnOk result (IsRuled (state S.Store tx.old.conn.now) → HoldsWith no_counts (state S.Store tx.new.conn.now)
+        (first_books token.now)) }
 {
     execute(tx, INSERT_CHAIN, &[ValueRef::Text(token.as_bytes())])
 }
 
-/// Gives new tables their rule, head office's token and its count, so that they are those of a chain with no shared row. After a fault the transaction may be rolled back.
+/// Gives new tables their rule, head office's token and its count, so that they are those of a chain with no shared
+/// row. After a fault the transaction may be rolled back.
 pub fn put_token<S: Alter>(tx: &mut Transaction<'_, S>, token: &Token) -> Result<(), StoreFault>
     ensures inside { StaysInside S.Store tx.old.conn tx.new.conn result }
     ensures put { HasCleanDisk (state S.Store tx.new.conn.now)
-        → OnOk result (IsShop (state S.Store tx.old.conn.now) → IsKeyed (state S.Store tx.old.conn.now) → HaveNoRows (state S.Store tx.old.conn.now).now.trees
-        → Holds (state S.Store tx.new.conn.now) (first_books token.now)) }
+        → OnOk result (IsShop (state S.Store tx.old.conn.now) → IsKeyed (state S.Store tx.old.conn.now) → HaveNoRows
+        (state S.Store tx.old.conn.now).now.trees → Holds (state S.Store tx.new.conn.now) (first_books token.now)) }
 {
     put_rule(tx)?;
     put_chain(tx, token)?;
@@ -96,12 +99,13 @@ fn run_all<S: Alter>(tx: &mut Transaction<'_, S>, texts: &[&str]) -> Result<(), 
     Ok(())
 }
 
-/// Gives new tables the rows with which the chain that is shown and tested begins. After a fault the transaction may be rolled back.
+/// Gives new tables the rows with which the chain that is shown and tested begins. After a fault the transaction may
+/// be rolled back.
 pub fn put_opening<S: Alter>(tx: &mut Transaction<'_, S>) -> Result<(), StoreFault>
     ensures inside { StaysInside S.Store tx.old.conn tx.new.conn result }
     ensures put { HasCleanDisk (state S.Store tx.new.conn.now)
-        → OnOk result (IsShop (state S.Store tx.old.conn.now) → IsKeyed (state S.Store tx.old.conn.now) → HaveNoRows (state S.Store tx.old.conn.now).now.trees
-        → Holds (state S.Store tx.new.conn.now) opening_books) }
+        → OnOk result (IsShop (state S.Store tx.old.conn.now) → IsKeyed (state S.Store tx.old.conn.now) → HaveNoRows
+        (state S.Store tx.old.conn.now).now.trees → Holds (state S.Store tx.new.conn.now) opening_books) }
 {
     put_token(tx, &token_with(0))?;
     run_all(tx, &ROWS)?;

@@ -89,7 +89,8 @@ pub fn payments_of_customer<S: Alter>(
 ) -> Result<Vec<PaymentRow>, StoreFault>
     ensures inside { StaysInside S.Store tx.old.conn tx.new.conn result }
     ensures rows { Finds (state S.Store tx.old.conn.now) (state S.Store tx.new.conn.now) result
-        (λ rows books. map (λ row. seen_payment row.payment) rows.items ≡ filter (λ it. it.customer == customer) (of branch books.payments)) }
+        (λ rows books. map (λ row. seen_payment row.payment) rows.items
+        ≡ filter (λ it. it.customer == customer) (of branch books.payments)) }
 {
     query_all(
         alloc,
@@ -102,7 +103,8 @@ pub fn payments_of_customer<S: Alter>(
 const SELECT_PAYMENTS_BETWEEN: &str =
     "SELECT branch, number, customer, staff, rental, amount, moment FROM payment WHERE branch = ?1 AND moment >= ?2 AND moment < ?3 ORDER BY number";
 
-/// The branch's payments from the one moment on and before the other, in order of number. After a fault the transaction may be rolled back.
+/// The branch's payments from the one moment on and before the other, in order of number. After a fault the
+/// transaction may be rolled back.
 pub fn payments_between<S: Alter>(
     alloc: Global,
     tx: &mut Transaction<'_, S>,
@@ -112,7 +114,8 @@ pub fn payments_between<S: Alter>(
 ) -> Result<Vec<PaymentRow>, StoreFault>
     ensures inside { StaysInside S.Store tx.old.conn tx.new.conn result }
     ensures rows { Finds (state S.Store tx.old.conn.now) (state S.Store tx.new.conn.now) result
-        (λ rows books. map (λ row. seen_payment row.payment) rows.items ≡ filter (λ it. is_by start it.paid && is_earlier it.paid end) (of branch books.payments)) }
+        (λ rows books. map (λ row. seen_payment row.payment) rows.items
+        ≡ filter (λ it. is_by start it.paid && is_earlier it.paid end) (of branch books.payments)) }
 {
     let _real = start.text();
     let _also = end.text();

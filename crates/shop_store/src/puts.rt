@@ -181,8 +181,9 @@ pub fn put_country<S: Alter>(
     name: &str,
 ) -> Result<(), StoreFault>
     ensures inside { StaysInside S.Store tx.old.conn tx.new.conn result }
-    ensures put { Stores (state S.Store tx.old.conn.now) (state S.Store tx.new.conn.now) result (λ books. number ≡ length books.catalogue.countries + 1)
-        (λ books. record books { catalogue = record books.catalogue { countries = books.catalogue.countries ++ name.now ∷ [] } }) }
+    ensures put { Stores (state S.Store tx.old.conn.now) (state S.Store tx.new.conn.now) result (λ books. number
+        ≡ length books.catalogue.countries + 1) (λ books. record books
+        { catalogue = record books.catalogue { countries = books.catalogue.countries ++ name.now ∷ [] } }) }
 {
     execute(tx, INSERT_COUNTRY, &[number.get().to_sql(), name.to_sql()])
 }
@@ -196,8 +197,9 @@ pub fn put_language<S: Alter>(
     name: &str,
 ) -> Result<(), StoreFault>
     ensures inside { StaysInside S.Store tx.old.conn tx.new.conn result }
-    ensures put { Stores (state S.Store tx.old.conn.now) (state S.Store tx.new.conn.now) result (λ books. number ≡ length books.catalogue.languages + 1)
-        (λ books. record books { catalogue = record books.catalogue { languages = books.catalogue.languages ++ name.now ∷ [] } }) }
+    ensures put { Stores (state S.Store tx.old.conn.now) (state S.Store tx.new.conn.now) result (λ books. number
+        ≡ length books.catalogue.languages + 1) (λ books. record books
+        { catalogue = record books.catalogue { languages = books.catalogue.languages ++ name.now ∷ [] } }) }
 {
     execute(tx, INSERT_LANGUAGE, &[number.get().to_sql(), name.to_sql()])
 }
@@ -211,8 +213,9 @@ pub fn put_category<S: Alter>(
     name: &str,
 ) -> Result<(), StoreFault>
     ensures inside { StaysInside S.Store tx.old.conn tx.new.conn result }
-    ensures put { Stores (state S.Store tx.old.conn.now) (state S.Store tx.new.conn.now) result (λ books. number ≡ length books.catalogue.categories + 1)
-        (λ books. record books { catalogue = record books.catalogue { categories = books.catalogue.categories ++ name.now ∷ [] } }) }
+    ensures put { Stores (state S.Store tx.old.conn.now) (state S.Store tx.new.conn.now) result (λ books. number
+        ≡ length books.catalogue.categories + 1) (λ books. record books
+        { catalogue = record books.catalogue { categories = books.catalogue.categories ++ name.now ∷ [] } }) }
 {
     execute(tx, INSERT_CATEGORY, &[number.get().to_sql(), name.to_sql()])
 }
@@ -222,8 +225,10 @@ const INSERT_CITY: &str = "INSERT INTO city (number, name, country) VALUES (?1, 
 /// Adds the city. After a fault the transaction may be rolled back.
 pub fn put_city<S: Alter>(tx: &mut Transaction<'_, S>, city: &NewCity<'_>) -> Result<(), StoreFault>
     ensures inside { StaysInside S.Store tx.old.conn tx.new.conn result }
-    ensures put { Stores (state S.Store tx.old.conn.now) (state S.Store tx.new.conn.now) result (λ books. city.now.number ≡ length books.catalogue.cities + 1)
-        (λ books. record books { catalogue = record books.catalogue { cities = books.catalogue.cities ++ seen_city city.now ∷ [] } }) }
+    ensures put { Stores (state S.Store tx.old.conn.now) (state S.Store tx.new.conn.now) result
+        (λ books. city.now.number
+        ≡ length books.catalogue.cities + 1) (λ books. record books
+        { catalogue = record books.catalogue { cities = books.catalogue.cities ++ seen_city city.now ∷ [] } }) }
 {
     execute(tx, INSERT_CITY, &city.values())
 }
@@ -236,8 +241,11 @@ pub fn put_actor<S: Alter>(
     actor: &NewActor<'_>,
 ) -> Result<(), StoreFault>
     ensures inside { StaysInside S.Store tx.old.conn tx.new.conn result }
-    ensures put { Stores (state S.Store tx.old.conn.now) (state S.Store tx.new.conn.now) result (λ books. actor.now.number ≡ length books.catalogue.actors + 1)
-        (λ books. record books { catalogue = record books.catalogue { actors = books.catalogue.actors ++ seen_actor actor.now ∷ [] } }) }
+    ensures put { Stores (state S.Store tx.old.conn.now) (state S.Store tx.new.conn.now) result
+        (λ books. actor.now.number
+        ≡ length books.catalogue.actors + 1) (λ books. record books {
+          catalogue = record books.catalogue { actors = books.catalogue.actors ++ seen_actor actor.now ∷ [] };
+        }) }
 {
     execute(tx, INSERT_ACTOR, &actor.values())
 }
@@ -248,8 +256,10 @@ const INSERT_FILM: &str =
 /// Adds the film. After a fault the transaction may be rolled back.
 pub fn put_film<S: Alter>(tx: &mut Transaction<'_, S>, film: &NewFilm<'_>) -> Result<(), StoreFault>
     ensures inside { StaysInside S.Store tx.old.conn tx.new.conn result }
-    ensures put { Stores (state S.Store tx.old.conn.now) (state S.Store tx.new.conn.now) result (λ books. film.now.number ≡ length books.catalogue.films + 1)
-        (λ books. record books { catalogue = record books.catalogue { films = books.catalogue.films ++ seen_film film.now ∷ [] } }) }
+    ensures put { Stores (state S.Store tx.old.conn.now) (state S.Store tx.new.conn.now) result
+        (λ books. film.now.number
+        ≡ length books.catalogue.films + 1) (λ books. record books
+        { catalogue = record books.catalogue { films = books.catalogue.films ++ seen_film film.now ∷ [] } }) }
 {
     execute(tx, INSERT_FILM, &film.values())
 }
@@ -264,7 +274,10 @@ pub fn put_cast<S: Alter>(
 ) -> Result<(), StoreFault>
     ensures inside { StaysInside S.Store tx.old.conn tx.new.conn result }
     ensures put { Stores (state S.Store tx.old.conn.now) (state S.Store tx.new.conn.now) result (λ _. ⊤)
-        (λ books. record books { catalogue = record books.catalogue { casts = books.catalogue.casts ++ record { film = film; actor = actor } ∷ [] } }) }
+        (λ books. record books {
+          catalogue = record books.catalogue
+              { casts = books.catalogue.casts ++ record { film = film; actor = actor } ∷ [] };
+        }) }
 {
     execute(
         tx,
@@ -282,9 +295,12 @@ pub fn put_branch<S: Alter>(
     branch: &NewBranch<'_>,
 ) -> Result<(), StoreFault>
     ensures inside { StaysInside S.Store tx.old.conn tx.new.conn result }
-    ensures put { Stores (state S.Store tx.old.conn.now) (state S.Store tx.new.conn.now) result (λ books. (branch.now.number ≡ length books.catalogue.branches + 1)
-        × (owned_by branch.now.number books.lasts ≡ []))
-        (λ books. record books { catalogue = record books.catalogue { branches = books.catalogue.branches ++ seen_branch branch.now ∷ [] } }) }
+    ensures put { Stores (state S.Store tx.old.conn.now) (state S.Store tx.new.conn.now) result
+        (λ books. (branch.now.number ≡ length books.catalogue.branches + 1)
+        × (owned_by branch.now.number books.lasts ≡ [])) (λ books. record books {
+          catalogue = record books.catalogue
+              { branches = books.catalogue.branches ++ seen_branch branch.now ∷ [] };
+        }) }
 {
     execute(tx, INSERT_BRANCH, &branch.values())
 }
@@ -298,8 +314,10 @@ pub fn put_staff<S: Alter>(
     staff: &NewStaff<'_>,
 ) -> Result<(), StoreFault>
     ensures inside { StaysInside S.Store tx.old.conn tx.new.conn result }
-    ensures put { Stores (state S.Store tx.old.conn.now) (state S.Store tx.new.conn.now) result (λ books. staff.now.number ≡ length books.catalogue.staff + 1)
-        (λ books. record books { catalogue = record books.catalogue { staff = books.catalogue.staff ++ seen_staff staff.now ∷ [] } }) }
+    ensures put { Stores (state S.Store tx.old.conn.now) (state S.Store tx.new.conn.now) result
+        (λ books. staff.now.number
+        ≡ length books.catalogue.staff + 1) (λ books. record books
+        { catalogue = record books.catalogue { staff = books.catalogue.staff ++ seen_staff staff.now ∷ [] } }) }
 {
     execute(tx, INSERT_STAFF, &staff.values())
 }

@@ -77,7 +77,8 @@ pub fn rental_at<S: Alter>(
 ) -> Result<Option<RentalRow>, StoreFault>
     ensures inside { StaysInside S.Store tx.old.conn tx.new.conn result }
     ensures row { Finds (state S.Store tx.old.conn.now) (state S.Store tx.new.conn.now) result
-        (λ row books. option_to_list (option_map (λ it. seen_rental it.rental) row) ≡ at number (of branch books.rentals)) }
+        (λ row books. option_to_list (option_map (λ it. seen_rental it.rental) row)
+        ≡ at number (of branch books.rentals)) }
 {
     query_one(
         tx,
@@ -98,8 +99,9 @@ pub fn has_rental<S: Alter>(
     customer: CustomerNo,
 ) -> Result<bool, StoreFault>
     ensures inside { StaysInside S.Store tx.old.conn tx.new.conn result }
-    ensures found { Finds (state S.Store tx.old.conn.now) (state S.Store tx.new.conn.now) result
-        (λ has books. has ≡ list_any (λ it. same_moment it.rented rented && it.copy == copy && it.customer == customer) (of branch books.rentals)) }
+    ensures found { Finds (state S.Store tx.old.conn.now) (state S.Store tx.new.conn.now) result (λ has books. has
+        ≡ list_any (λ it. same_moment it.rented rented && it.copy == copy && it.customer == customer)
+        (of branch books.rentals)) }
 {
     let _real = rented.text();
     let text = MomentText::of(rented);
@@ -118,7 +120,8 @@ pub fn has_rental<S: Alter>(
 const INSERT_RENTAL: &str =
     "INSERT INTO rental (branch, number, moment, copy, customer, returned, staff) VALUES (?1, ?2, ?3, ?4, ?5, ?6, ?7)";
 
-/// Adds the rental as an open one: a moment of return isn't looked at. After a fault the transaction may be rolled back.
+/// Adds the rental as an open one: a moment of return isn't looked at. After a fault the transaction may be rolled
+/// back.
 pub fn put_rental<S: Alter>(tx: &mut Transaction<'_, S>, row: &RentalRow) -> Result<(), StoreFault>
     ensures inside { StaysInside S.Store tx.old.conn tx.new.conn result }
     ensures put { Stores (state S.Store tx.old.conn.now) (state S.Store tx.new.conn.now) result (λ _. ⊤)
@@ -130,7 +133,8 @@ pub fn put_rental<S: Alter>(tx: &mut Transaction<'_, S>, row: &RentalRow) -> Res
 
 const UPDATE_RETURNED: &str = "UPDATE rental SET returned = ?3 WHERE branch = ?1 AND number = ?2";
 
-/// Sets when the rental's copy came back. A rental that isn't there is not made. After a fault the transaction may be rolled back.
+/// Sets when the rental's copy came back. A rental that isn't there is not made. After a fault the transaction may be
+/// rolled back.
 pub fn set_returned<S: Alter>(
     tx: &mut Transaction<'_, S>,
     branch: BranchNo,
@@ -139,7 +143,8 @@ pub fn set_returned<S: Alter>(
 ) -> Result<(), StoreFault>
     ensures inside { StaysInside S.Store tx.old.conn tx.new.conn result }
     ensures set { Stores (state S.Store tx.old.conn.now) (state S.Store tx.new.conn.now) result IsHeld
-        (λ books. record books { rentals = set_row branch number (λ it. record it { returned = Some moment }) books.rentals }) }
+        (λ books. record books
+        { rentals = set_row branch number (λ it. record it { returned = Some moment }) books.rentals }) }
 {
     let returned = MomentText::of(moment);
     execute(

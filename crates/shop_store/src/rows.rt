@@ -25,8 +25,9 @@ pub(crate) fn shows_row<S: Alter>(
     params: &[ValueRef<'_>],
 ) -> Result<bool, StoreFault>
     ensures inside { StaysInside S.Store tx.old.conn tx.new.conn result }
-    ensures shown { HasCleanDisk (state S.Store tx.new.conn.now) → IfOk result (λ shows. (rows : List SqlRow)
-        × Shown text.now (bound params.now) (state S.Store tx.old.conn.now) (state S.Store tx.new.conn.now) rows × (shows ≡ not (length rows == 0))) }
+    ensures shown { HasCleanDisk (state S.Store tx.new.conn.now)
+        → IfOk result (λ shows. (rows : List SqlRow) × Shown text.now (bound params.now)
+        (state S.Store tx.old.conn.now) (state S.Store tx.new.conn.now) rows × (shows ≡ not (length rows == 0))) }
 {
     let rows = query(tx, text, params)?;
     Ok(!rows.is_empty())

@@ -18,7 +18,8 @@ use sqlite::{Alter, Row, Transaction};
 
 /// Where the member of staff in the row works.
 fn post_in(row: &Row) -> Result<StaffFound, StoreFault>
-    ensures { IfOk result (λ it. (column row.now 0 ≡ number_value it.branch) × (column row.now 1 ≡ flag_value it.gone)) }
+    ensures { IfOk result (λ it. (column row.now 0 ≡ number_value it.branch)
+        × (column row.now 1 ≡ flag_value it.gone)) }
 {
     Ok(StaffFound {
         branch: row_number_at(row, 0)?,
@@ -46,7 +47,10 @@ const UPDATE_GONE: &str = "UPDATE staff SET gone = ?2 WHERE number = ?1";
 pub fn set_gone<S: Alter>(tx: &mut Transaction<'_, S>, staff: StaffNo) -> Result<(), StoreFault>
     ensures inside { StaysInside S.Store tx.old.conn tx.new.conn result }
     ensures set { Stores (state S.Store tx.old.conn.now) (state S.Store tx.new.conn.now) result (λ _. ⊤)
-        (λ books. record books { catalogue = record books.catalogue { staff = set_at staff (λ r. record r { gone = true }) books.catalogue.staff } }) }
+        (λ books. record books {
+          catalogue = record books.catalogue
+              { staff = set_at staff (λ r. record r { gone = true }) books.catalogue.staff };
+        }) }
 {
     execute(tx, UPDATE_GONE, &[staff.get().to_sql(), true.to_sql()])
 }

@@ -52,8 +52,8 @@ impl Stored for TermedRental {
 const SELECT_TERMED: &str =
     "SELECT r.moment, r.copy, r.customer, r.returned, r.staff, t.rate, t.period, t.replacement FROM rental AS r LEFT JOIN rental_terms AS t ON t.branch = r.branch AND t.rental = r.number WHERE r.branch = ?1 AND r.customer = ?2 ORDER BY r.number";
 
-/// The rentals of the branch's customer, in order of number, each with its terms. A rental without terms is the fault `Failed`; no sound table has one.
-/// After a fault the transaction may be rolled back.
+/// The rentals of the branch's customer, in order of number, each with its terms. A rental without terms is the fault
+/// `Failed`; no sound table has one. After a fault the transaction may be rolled back.
 pub fn termed_of_customer<S: Alter>(
     alloc: Global,
     tx: &mut Transaction<'_, S>,
@@ -62,7 +62,8 @@ pub fn termed_of_customer<S: Alter>(
 ) -> Result<Vec<TermedRental>, StoreFault>
     ensures inside { StaysInside S.Store tx.old.conn tx.new.conn result }
     ensures found { Finds (state S.Store tx.old.conn.now) (state S.Store tx.new.conn.now) result
-        (λ rows books. map (λ row. seen_termed row) rows.items ≡ filter (λ it. it.0.customer == customer) (termed (shop_of branch books))) }
+        (λ rows books. map (λ row. seen_termed row) rows.items
+        ≡ filter (λ it. it.0.customer == customer) (termed (shop_of branch books))) }
 {
     query_all(
         alloc,

@@ -1,6 +1,7 @@
 use shop_values::{BranchNo, ConsignmentNo, CopyNo};
 
-/// What a copy was when it came into the chain: the branch that imported it, and its number there. It keeps its mark wherever it is sent.
+/// What a copy was when it came into the chain: the branch that imported it, and its number there. It keeps its mark
+/// wherever it is sent.
 #[derive(Clone, Copy, PartialEq, Eq)]
 pub struct Mark {
     pub branch: BranchNo,

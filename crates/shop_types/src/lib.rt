@@ -1,4 +1,5 @@
-//! What callers ask of the shop and are told: commands, readings, refusals and replies, each with its meaning in the definitions.
+//! What callers ask of the shop and are told: commands, readings, refusals and replies, each with its meaning in the
+//! definitions.
 #![tactic(auto)]
 
 mod audit;

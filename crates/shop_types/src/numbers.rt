@@ -4,7 +4,8 @@ ghost use Rattle.shop_types.specs.NumberLists.{is_number_list};
 use shop_values::RowNumber;
 use std::marker::Model;
 
-/// A list of numbers of rows, in any order and whatever stands in it twice: at most 65,536, which is more than the body of a request can hold.
+/// A list of numbers of rows, in any order and whatever stands in it twice: at most 65,536, which is more than the
+/// body of a request can hold.
 #[derive(Drop)]
 pub struct Numbers<const KIND: u8> {
     numbers: Vec<RowNumber<KIND>>,

@@ -8,8 +8,8 @@ pub struct BadCsv {
     pub line: u32,
 }
 
-/// Why a request is refused. Of those that hold a caller is told the one with the lowest number, but that `Usage` is looked for
-/// before `KeyUsed`, and the last three may come at any point.
+/// Why a request is refused. Of those that hold a caller is told the one with the lowest number, but that `Usage` is
+/// looked for before `KeyUsed`, and the last three may come at any point.
 #[derive(Clone, Copy)]
 pub enum Refusal {
     /// The head of the message is none that is served.

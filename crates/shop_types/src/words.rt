@@ -11,5 +11,6 @@ pub trait OfficeWords {
     /// The line that the words are, without the program's name.
     fn read(&self, words: &[String]) -> Result<Line, Usage>
         ensures ok { IfOk result (λ line. meaning self.now (map string_bytes words.now) ≡ Some (seen_line line)) }
-        ensures refused { IfErr result (λ e. ¬ (e ≡ Usage.Memory) → meaning self.now (map string_bytes words.now) ≡ None) };
+        ensures refused { IfErr result (λ e. ¬ (e ≡ Usage.Memory)
+            → meaning self.now (map string_bytes words.now) ≡ None) };
 }

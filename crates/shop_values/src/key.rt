@@ -8,7 +8,8 @@ ghost use Rattle.shop_values.specs.Texts.{is_key, is_key_byte};
 
 use std::marker::Model;
 
-/// A name that a counter chooses: 1 to 40 ASCII letters, digits or hyphens. KIND says of what, so that two kinds don't mix.
+/// A name that a counter chooses: 1 to 40 ASCII letters, digits or hyphens. KIND says of what, so that two kinds
+/// don't mix.
 #[derive(Drop)]
 pub struct Name<const KIND: u8> {
     text: String,

@@ -59,8 +59,11 @@ fn digit_of(n: u16) -> u8
 impl Moment {
     /// The moment of these parts, where the calendar has it.
     fn from_parts(year: u16, month: u8, day: u8, hour: u8, minute: u8, second: u8) -> Option<Moment>
-        ensures some { IfSome result (λ m. (m ≡ record { year = year; month = month; day = day; hour = hour; minute = minute; second = second }) × IsMoment m) }
-        ensures none { IfNone result (¬ (IsMoment (record { year = year; month = month; day = day; hour = hour; minute = minute; second = second }))) }
+        ensures some { IfSome result (λ m. (m ≡ record
+            { year = year; month = month; day = day; hour = hour; minute = minute; second = second })
+            × IsMoment m) }
+        ensures none { IfNone result (¬ (IsMoment
+            (record { year = year; month = month; day = day; hour = hour; minute = minute; second = second }))) }
     {
         if year < 1970
             || year > 9999
@@ -103,7 +106,8 @@ impl Moment {
         }
     }
 
-    /// The moment that the 19 bytes `YYYY-MM-DDTHH:MM:SS` write: a date of the calendar from 1970 to 9999 and a time of day.
+    /// The moment that the 19 bytes `YYYY-MM-DDTHH:MM:SS` write: a date of the calendar from 1970 to 9999 and a time
+    /// of day.
     pub fn read(text: &str) -> Option<Moment>
         ensures some { IfSome result (λ m. IsTextOf text.now m) }
         ensures none { IfNone result ((m : Value) → IsMoment m → ¬ (moment_text m ≡ text.now)) }

@@ -43,8 +43,8 @@ fn customer_body<'a>(
     )
 }
 
-/// The body that shows a customer and its number: the moment is its text, the city is its number, and an empty postal code or telephone number is an empty
-/// text.
+/// The body that shows a customer and its number: the moment is its text, the city is its number, and an empty postal
+/// code or telephone number is an empty text.
 pub fn customer_text(
     alloc: Global,
     number: CustomerNo,

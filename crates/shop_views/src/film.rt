@@ -41,14 +41,16 @@ fn film_value(
     )
 }
 
-/// The body that shows a film and its number, withdrawn or not: language and category are their numbers, and `length` is `null` where it isn't known.
+/// The body that shows a film and its number, withdrawn or not: language and category are their numbers, and `length`
+/// is `null` where it isn't known.
 pub fn film_text(
     alloc: Global,
     number: FilmNo,
     film: &Film,
     withdrawn: bool,
 ) -> Result<String, AllocError>
-    ensures { IfOk result (λ s. string_bytes s ≡ film_text number (record (seen_film film.now) { withdrawn = withdrawn })) }
+    ensures { IfOk result (λ s. string_bytes s
+        ≡ film_text number (record (seen_film film.now) { withdrawn = withdrawn })) }
 {
     film_value(alloc, number, film, withdrawn)?.to_string(alloc)
 }

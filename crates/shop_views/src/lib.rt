@@ -1,5 +1,6 @@
-//! Bodies of replies: JSON texts (RFC 8259) with no white space, the members of each object in the byte order of their names; and rows of views, each as such an
-//! object. A page takes rows one at a time, and is the text of their list; a list of rows is a JSON value.
+//! Bodies of replies: JSON texts (RFC 8259) with no white space, the members of each object in the byte order of
+//! their names; and rows of views, each as such an object. A page takes rows one at a time, and is the text of their
+//! list; a list of rows is a JSON value.
 #![tactic(auto)]
 
 mod actors;

@@ -136,7 +136,8 @@ pub fn sales_by_store(alloc: Global, rows: &[StoreRow]) -> Result<Value, AllocEr
     list_of(alloc, rows)
 }
 
-/// `sales_by_film_category` of the manual, in the order of the rows, as a list of objects. The view's order, the greatest total first, is the caller's.
+/// `sales_by_film_category` of the manual, in the order of the rows, as a list of objects. The view's order, the
+/// greatest total first, is the caller's.
 pub fn sales_by_film_category(alloc: Global, rows: &[CategoryRow]) -> Result<Value, AllocError>
     ensures { IfOk result (λ v. IsList (CategoriesListed (map seen_category rows.now)) (view v)) }
 {

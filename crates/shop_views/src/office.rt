@@ -20,7 +20,8 @@ fn rule_name(rule: Rule) -> &'static str
 
 /// The members of the body, one or two: a new row's number is the next one of its kind.
 fn office_fields(act: &OfficeAct, next: u32) -> (Field<'static>, Option<Field<'static>>)
-    ensures { fields_text (result.0 ∷ option_to_list result.1) ≡ object (office_members (seen_office_act act.now) next) }
+    ensures { fields_text (result.0 ∷ option_to_list result.1)
+        ≡ object (office_members (seen_office_act act.now) next) }
 {
     let next = next as u64;
     match act {
@@ -50,7 +51,8 @@ fn office_fields(act: &OfficeAct, next: u32) -> (Field<'static>, Option<Field<'s
     }
 }
 
-/// The body that tells head office what its command did: a new row has the next number of its kind, and a rule is told by its name.
+/// The body that tells head office what its command did: a new row has the next number of its kind, and a rule is
+/// told by its name.
 pub fn office_text(alloc: Global, act: &OfficeAct, next: u32) -> Result<String, AllocError>
     ensures { IfOk result (λ s. string_bytes s ≡ object (office_members (seen_office_act act.now) next)) }
 {

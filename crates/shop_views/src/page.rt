@@ -38,7 +38,8 @@ fn opening(later: bool) -> &'static str
 
 /// The value's text, behind what opens the list or a comma.
 fn piece(alloc: Global, later: bool, value: &Value) -> Result<String, AllocError>
-    ensures { IfOk result (λ s. has_float (view value.now) ≡ false → string_bytes s ≡ opening later ++ compact_text (view value.now)) }
+    ensures { IfOk result (λ s. has_float (view value.now) ≡ false
+        → string_bytes s ≡ opening later ++ compact_text (view value.now)) }
 {
     let text = value.to_string(alloc)?;
     let opening = opening(later);
@@ -78,7 +79,8 @@ impl ListPage {
 
     /// The text of the whole list.
     pub fn finish(self) -> Result<String, AllocError>
-        ensures text { IfOk result (λ s. (values : List Data) → HasValues self values → string_bytes s ≡ compact_text (array (items_of values))) }
+        ensures text { IfOk result (λ s. (values : List Data) → HasValues self values
+            → string_bytes s ≡ compact_text (array (items_of values))) }
         ensures shown { IfOk result (λ s. (shown : Shown) (values : List Data) → values_of shown ≡ Some values
             → HasValues self values → string_bytes s ≡ shown_text shown) }
     {

@@ -13,7 +13,8 @@ pub fn dispatch_text(
     consignment: ConsignmentNo,
     to: BranchNo,
 ) -> Result<String, AllocError>
-    ensures { IfOk result (λ s. string_bytes s ≡ object ((codes "consignment", decimal consignment) ∷ (codes "to", decimal to) ∷ [])) }
+    ensures { IfOk result (λ s. string_bytes s
+        ≡ object ((codes "consignment", decimal consignment) ∷ (codes "to", decimal to) ∷ [])) }
 {
     object_text(
         alloc,
@@ -24,7 +25,8 @@ pub fn dispatch_text(
     )
 }
 
-/// The body that tells a counter the numbers of so many copies that came, which follow on the first: no number where no copy came.
+/// The body that tells a counter the numbers of so many copies that came, which follow on the first: no number where
+/// no copy came.
 pub fn receipt_text(alloc: Global, first: u32, copies: u32) -> Result<String, AllocError>
     ensures { IfOk result (λ s. (films : List ℕ) → length films ≡ copies
         → string_bytes s ≡ object ((codes "copies", numbers_text (numbers_from first films)) ∷ [])) }

@@ -34,7 +34,9 @@ pub fn balance_text(alloc: Global, balance: Cents) -> Result<String, AllocError>
 
 /// The body that lists the customers who are rewarded by their numbers, with their count.
 pub fn rewards_text(alloc: Global, customers: &[CustomerNo]) -> Result<String, AllocError>
-    ensures { IfOk result (λ s. string_bytes s ≡ object ((codes "count", decimal (length customers.now)) ∷ (codes "customers", numbers_text customers.now) ∷ [])) }
+    ensures { IfOk result (λ s. string_bytes s
+        ≡ object ((codes "count", decimal (length customers.now)) ∷ (codes "customers", numbers_text customers.now)
+        ∷ [])) }
 {
     listed_text(alloc, "customers", customers)
 }

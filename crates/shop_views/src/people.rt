@@ -57,7 +57,8 @@ fn customer_object<'a>(
     row: &'a CustomerRow,
     name: &'a str,
 ) -> Result<Value, AllocError>
-    ensures { IfOk result (λ v. view v ≡ customer_data (person_as row.now.number name.now row.now.person, row.now.active)) }
+    ensures { IfOk result (λ v. view v
+        ≡ customer_data (person_as row.now.number name.now row.now.person, row.now.active)) }
 {
     let person = &row.person;
     let note = note_of(row.active);

@@ -10,7 +10,8 @@ use std::alloc::{AllocError, Global};
 
 /// The body that tells a counter whether the customer may rent from now on.
 pub fn active_text(alloc: Global, customer: CustomerNo, active: bool) -> Result<String, AllocError>
-    ensures { IfOk result (λ s. string_bytes s ≡ object ((codes "active", flag_text active) ∷ (codes "customer", decimal customer) ∷ [])) }
+    ensures { IfOk result (λ s. string_bytes s
+        ≡ object ((codes "active", flag_text active) ∷ (codes "customer", decimal customer) ∷ [])) }
 {
     object_text(
         alloc,
@@ -51,7 +52,8 @@ pub fn in_stock_text(alloc: Global, is_in: bool) -> Result<String, AllocError>
 
 /// The body that shows which customer has a copy: `null` where none does.
 pub fn holder_text(alloc: Global, customer: Option<CustomerNo>) -> Result<String, AllocError>
-    ensures { IfOk result (λ s. string_bytes s ≡ object ((codes "customer", holder_text (option_to_list customer)) ∷ [])) }
+    ensures { IfOk result (λ s. string_bytes s
+        ≡ object ((codes "customer", holder_text (option_to_list customer)) ∷ [])) }
 {
     let holder = match customer {
         Some(customer) => Field::Number("customer", customer.get() as u64),
@@ -62,7 +64,8 @@ pub fn holder_text(alloc: Global, customer: Option<CustomerNo>) -> Result<String
 
 /// The body that lists copies by their numbers, with their count.
 pub fn copies_text(alloc: Global, copies: &[CopyNo]) -> Result<String, AllocError>
-    ensures { IfOk result (λ s. string_bytes s ≡ object ((codes "copies", numbers_text copies.now) ∷ (codes "count", decimal (length copies.now)) ∷ [])) }
+    ensures { IfOk result (λ s. string_bytes s
+        ≡ object ((codes "copies", numbers_text copies.now) ∷ (codes "count", decimal (length copies.now)) ∷ [])) }
 {
     listed_text(alloc, "copies", copies)
 }

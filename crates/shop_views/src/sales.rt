@@ -51,7 +51,8 @@ fn store_object<'a>(
     manager: &'a str,
     total: u64,
 ) -> Result<Value, AllocError>
-    ensures { IfOk result (λ v. view v ≡ store_data (record { store = store.now; manager = manager.now; total = total })) }
+    ensures { IfOk result (λ v. view v
+        ≡ store_data (record { store = store.now; manager = manager.now; total = total })) }
 {
     object_of(
         alloc,

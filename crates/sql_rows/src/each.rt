@@ -19,19 +19,22 @@ pub trait TakesRows: Sized {
     ghost took: { Self → Self → List SqlRow → Type 0 };
 
     fn take(&mut self, row: &Row) -> Result<(), StoreFault>
-        ensures { OnOk result ((first : _) (given : List SqlRow) → took first self.old given → took first self.new (given ++ row.now ∷ [])) };
+        ensures { OnOk result ((first : _) (given : List SqlRow) → took first self.old given
+            → took first self.new (given ++ row.now ∷ [])) };
 }
 
 /// Hands the rows of an answer that has just begun to `taker`, up to its end.
 fn take_all<S: Alter, T: TakesRows>(rows: &mut Rows<'_, S>, taker: &mut T) -> Result<(), StoreFault>
     ensures same_reference { rows.new.conn.ghost_name ≡ rows.old.conn.ghost_name }
     ensures took { HasCleanDisk (state S.Store rows.new.conn.now)
-        → OnOk result ((sql : List ℕ) (params : SqlRow) → IsQuery sql → HasGiven S.Store sql params rows.old.conn.now []
-        → (given : List SqlRow) × Shown sql params (state S.Store rows.old.conn.now) (state S.Store rows.new.conn.now) given
+        → OnOk result ((sql : List ℕ) (params : SqlRow) → IsQuery sql → HasGiven S.Store sql params rows.old.conn.now
+        [] → (given : List SqlRow) × Shown sql params (state S.Store rows.old.conn.now)
+        (state S.Store rows.new.conn.now) given
         × (T.TakesRows.took taker.old taker.old [] → T.TakesRows.took taker.old taker.new given)) }
     ensures same { HasCleanDisk (state S.Store rows.new.conn.now)
         → OnOk result (IsUnchanged (state S.Store rows.old.conn.now) (state S.Store rows.new.conn.now)) }
-    ensures kept { HasCleanDisk (state S.Store rows.new.conn.now) → KeepsCommit (state S.Store rows.old.conn.now) (state S.Store rows.new.conn.now) }
+    ensures kept { HasCleanDisk (state S.Store rows.new.conn.now)
+        → KeepsCommit (state S.Store rows.old.conn.now) (state S.Store rows.new.conn.now) }
     ensures mode { rows.old.conn.now.in_transaction ≡ false → rows.new.conn.now.in_transaction ≡ false }
     ensures survives { Survives (state S.Store rows.old.conn.now) (state S.Store rows.new.conn.now) (λ _. ⊥) }
 {
@@ -47,7 +50,8 @@ fn take_all<S: Alter, T: TakesRows>(rows: &mut Rows<'_, S>, taker: &mut T) -> Re
     Err(StoreFault::Failed)
 }
 
-/// Hands the rows that a query shows to `taker`, one at a time. The database stays as it was, unless the store fails, which commits nothing.
+/// Hands the rows that a query shows to `taker`, one at a time. The database stays as it was, unless the store fails,
+/// which commits nothing.
 pub fn each_row<S: Alter, T: TakesRows>(
     conn: &mut Connection<S>,
     text: &str,
@@ -56,7 +60,8 @@ pub fn each_row<S: Alter, T: TakesRows>(
 ) -> Result<(), StoreFault>
     requires { IsQuery text.now }
     ensures took { HasCleanDisk (state S.Store conn.new)
-        → OnOk result ((rows : List SqlRow) × Shown text.now (bound params.now) (state S.Store conn.old) (state S.Store conn.new) rows
+        → OnOk result ((rows : List SqlRow) × Shown text.now (bound params.now) (state S.Store conn.old)
+        (state S.Store conn.new) rows
         × (T.TakesRows.took taker.old taker.old [] → T.TakesRows.took taker.old taker.new rows)) }
     ensures same { StaysSame S.Store conn.old conn.new result }
 {

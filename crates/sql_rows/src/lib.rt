@@ -1,4 +1,5 @@
-//! Rows of SQL tables as values, for any schema: what tables stand for, how a table is made, and how rows are read, all at once or one at a time.
+//! Rows of SQL tables as values, for any schema: what tables stand for, how a table is made, and how rows are read,
+//! all at once or one at a time.
 #![tactic(auto)]
 
 mod call;

@@ -15,10 +15,12 @@ fn make_table<S: Alter>(tx: &mut Transaction<'_, S>, text: &str) -> Result<(), S
     ensures made { HasCleanDisk (state S.Store tx.new.conn.now)
         → OnOk result ((whole : _) (rest : _) → Builds whole (state S.Store tx.old.conn.now).now (text.now ∷ rest)
         → Builds whole (state S.Store tx.new.conn.now).now rest) }
-    ensures kept { HasCleanDisk (state S.Store tx.new.conn.now) → KeepsCommit (state S.Store tx.old.conn.now) (state S.Store tx.new.conn.now) }
+    ensures kept { HasCleanDisk (state S.Store tx.new.conn.now)
+        → KeepsCommit (state S.Store tx.old.conn.now) (state S.Store tx.new.conn.now) }
     ensures survives { Survives (state S.Store tx.old.conn.now) (state S.Store tx.new.conn.now) (λ _. ⊥) }
     ensures told { HasCleanDisk (state S.Store tx.new.conn.now)
-        → IfErr result (IsToldOf (StatementGave text.now [] (state S.Store tx.old.conn.now) (state S.Store tx.new.conn.now))) }
+        → IfErr result (IsToldOf
+        (StatementGave text.now [] (state S.Store tx.old.conn.now) (state S.Store tx.new.conn.now))) }
 {
     match tx.execute(text, &[]) {
         Ok(_) => Ok(()),
@@ -26,14 +28,16 @@ fn make_table<S: Alter>(tx: &mut Transaction<'_, S>, text: &str) -> Result<(), S
     }
 }
 
-/// Makes the tables of the texts, each a CREATE TABLE, in their order and with no rows. Where the texts build a schema from what is
-/// there, that is the schema afterwards. Nothing is committed. A fault tells by its kind the error that the database gave one of the statements.
+/// Makes the tables of the texts, each a CREATE TABLE, in their order and with no rows. Where the texts build a
+/// schema from what is there, that is the schema afterwards. Nothing is committed. A fault tells by its kind the
+/// error that the database gave one of the statements.
 pub fn make_tables<S: Alter>(tx: &mut Transaction<'_, S>, texts: &[&str]) -> Result<(), StoreFault>
     ensures same_reference { tx.new.conn.ghost_name ≡ tx.old.conn.ghost_name }
     ensures made { HasCleanDisk (state S.Store tx.new.conn.now)
         → OnOk result ((whole : _) → Builds whole (state S.Store tx.old.conn.now).now (map (λ t. t.now) texts.now)
         → Builds whole (state S.Store tx.new.conn.now).now []) }
-    ensures kept { HasCleanDisk (state S.Store tx.new.conn.now) → KeepsCommit (state S.Store tx.old.conn.now) (state S.Store tx.new.conn.now) }
+    ensures kept { HasCleanDisk (state S.Store tx.new.conn.now)
+        → KeepsCommit (state S.Store tx.old.conn.now) (state S.Store tx.new.conn.now) }
     ensures survives { Survives (state S.Store tx.old.conn.now) (state S.Store tx.new.conn.now) (λ _. ⊥) }
     ensures told { HasCleanDisk (state S.Store tx.new.conn.now)
         → IfErr result (IsToldOf (OneGave S.Store (map (λ t. t.now) texts.now) tx.old.conn.now tx.new.conn.now)) }

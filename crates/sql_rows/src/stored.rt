@@ -90,7 +90,8 @@ pub fn query_one<S: Alter, T: Stored>(
 /// The number below 4,294,967,296 in the column, where columns are counted from 0.
 pub fn number_at(row: &Row, at: usize) -> Result<u32, StoreFault>
     ensures ok { IfOk result (λ n. column row.now at ≡ number_value n) }
-    ensures failed { IfErr result (λ e. e ≡ Failed → (n : ℕ) → n < 2 ^ 32 → at < length row.now → column row.now at ≢ number_value n) }
+    ensures failed { IfErr result (λ e. e ≡ Failed → (n : ℕ) → n < 2 ^ 32 → at < length row.now
+        → column row.now at ≢ number_value n) }
 {
     match row.get(at) {
         Ok(number) => Ok(number),

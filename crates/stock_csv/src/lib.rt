@@ -91,7 +91,8 @@ fn row_in(fields: &ByteRecord) -> Option<StockRow>
     }
 }
 
-/// A reader at the start of a text. Records of any length are given, and those that have not two fields are found by `two`.
+/// A reader at the start of a text. Records of any length are given, and those that have not two fields are found by
+/// `two`.
 fn start<'a>(alloc: Global, text: &'a [u8]) -> Reader<&'a [u8]>
     ensures { IsAt result st.StartRecord (strip_bom text.now) }
 {
@@ -153,12 +154,14 @@ fn read_rows(
     }
 }
 
-/// The rows of a stock file, in the file's order, or the number of its first record at fault, where the header row has the number 1.
+/// The rows of a stock file, in the file's order, or the number of its first record at fault, where the header row
+/// has the number 1.
 ///
-/// The text is comma-separated, with double quotes where a field needs them, and one UTF-8 byte order mark may stand at its start. Its first record is
-/// `film_id,copies`, and each further one the number of a film and how many copies of it come, from 1 to 99, both in decimal with no leading zero.
-/// There are 1 to 500 such rows, and 1,000 copies at most in all. Blank lines are passed over and have no number.
-/// With no row the fault is on line 2, and in an empty text on line 1.
+/// The text is comma-separated, with double quotes where a field needs them, and one UTF-8 byte order mark may stand
+/// at its start. Its first record is `film_id,copies`, and each further one the number of a film and how many copies
+/// of it come, from 1 to 99, both in decimal with no leading zero. There are 1 to 500 such rows, and 1,000 copies at
+/// most in all. Blank lines are passed over and have no number. With no row the fault is on line 2, and in an empty
+/// text on line 1.
 pub fn read_stock(alloc: Global, text: &[u8]) -> Result<Vec<StockRow>, StockFault>
     ensures rows { IfOk result (λ v. stock_rows_of text.now ≡ Ok v.items) }
     ensures limits { IfOk result (λ v. IsStock v.items) }

@@ -20,8 +20,8 @@ pub fn one_answer_is_read()
     ensures { OneAnswerIsRead }
 {}
 
-/// However it breaks, the chain is as it was or ran over that message's event and nothing else; and where a till reads a whole reply, over that event with that
-/// answer.
+/// However it breaks, the chain is as it was or ran over that message's event and nothing else; and where a till
+/// reads a whole reply, over that event with that answer.
 pub fn one_event_is_run<S: Alter>()
     ensures { OneEventIsRun S.Store }
 {}
@@ -56,19 +56,21 @@ pub fn exchanges_are_witnesses()
     ensures { ExchangesAreWitnesses }
 {}
 
-/// From the key press to the disk, over connections that may break anywhere: what is entered acts at most once, in the order of entering, and what the till's book
-/// shows as accepted has acted once, with that reply.
+/// From the key press to the disk, over connections that may break anywhere: what is entered acts at most once, in
+/// the order of entering, and what the till's book shows as accepted has acted once, with that reply.
 pub fn from_the_till_to_the_disk()
     ensures { TillAndServer }
 {}
 
-/// A book whose settlements were recorded of exchanges with a chain stays one, where it is entered, delivered and settled from.
+/// A book whose settlements were recorded of exchanges with a chain stays one, where it is entered, delivered and
+/// settled from.
 pub fn settlements_are_noted()
     ensures { SettlementsAreNoted }
 {}
 
-/// The same with what settled entries: one that was told 200 when it was sent once more has acted once, with exactly that reply, and one that was told that its
-/// moment is behind never acts. So the book's entries, with what settled them, have become in the chain's books what they say.
+/// The same with what settled entries: one that was told 200 when it was sent once more has acted once, with exactly
+/// that reply, and one that was told that its moment is behind never acts. So the book's entries, with what settled
+/// them, have become in the chain's books what they say.
 pub fn settled_from_the_till_to_the_disk()
     ensures { SettledTillAndServer }
 {}

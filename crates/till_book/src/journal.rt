@@ -23,7 +23,8 @@ pub fn make_journal<S: Alter>(tx: &mut Transaction<'_, S>) -> Result<(), StoreFa
     ensures same_reference { tx.new.conn.ghost_name ≡ tx.old.conn.ghost_name }
     ensures made { HasCleanDisk (state S.Store tx.new.conn.now) → (state S.Store tx.old.conn.now).now.schema ≡ no_schema
         → OnOk result (IsEmptyJournal (state S.Store tx.new.conn.now)) }
-    ensures kept { HasCleanDisk (state S.Store tx.new.conn.now) → KeepsCommit (state S.Store tx.old.conn.now) (state S.Store tx.new.conn.now) }
+    ensures kept { HasCleanDisk (state S.Store tx.new.conn.now)
+        → KeepsCommit (state S.Store tx.old.conn.now) (state S.Store tx.new.conn.now) }
     ensures survives { Survives (state S.Store tx.old.conn.now) (state S.Store tx.new.conn.now) (λ _. ⊥) }
 {
     make_tables(tx, &TEXTS)?;
@@ -56,7 +57,8 @@ pub fn put_reply<S: Alter>(
 ) -> Result<(), StoreFault>
     ensures inside { StaysInside S.Store tx.old.conn tx.new.conn result }
     ensures put { HasCleanDisk (state S.Store tx.new.conn.now)
-        → OnOk result (PutsReply number status body.now (state S.Store tx.old.conn.now) (state S.Store tx.new.conn.now)) }
+        → OnOk result (PutsReply number status body.now (state S.Store tx.old.conn.now)
+        (state S.Store tx.new.conn.now)) }
 {
     execute(
         tx,
@@ -76,7 +78,8 @@ pub fn put_settled<S: Alter>(
 ) -> Result<(), StoreFault>
     ensures inside { StaysInside S.Store tx.old.conn tx.new.conn result }
     ensures put { HasCleanDisk (state S.Store tx.new.conn.now)
-        → OnOk result (PutsSettled number status body.now (state S.Store tx.old.conn.now) (state S.Store tx.new.conn.now)) }
+        → OnOk result (PutsSettled number status body.now (state S.Store tx.old.conn.now)
+        (state S.Store tx.new.conn.now)) }
 {
     execute(
         tx,

@@ -85,7 +85,8 @@ const SELECT_ENTRIES: &str = "SELECT request FROM entry ORDER BY number";
 fn all_entries<S: Alter>(alloc: Global, tx: &mut Transaction<'_, S>) -> Result<Entries, StoreFault>
     ensures inside { StaysInside S.Store tx.old.conn tx.new.conn result }
     ensures found { HasCleanDisk (state S.Store tx.new.conn.now)
-        → IfOk result (λ it. Finds (λ journal. it ≡ journal.entries) (state S.Store tx.old.conn.now) (state S.Store tx.new.conn.now)) }
+        → IfOk result (λ it. Finds (λ journal. it ≡ journal.entries) (state S.Store tx.old.conn.now)
+        (state S.Store tx.new.conn.now)) }
 {
     let rows = query_all(alloc, tx, SELECT_ENTRIES, &[])?;
     Ok(Entries::new(rows))
@@ -97,7 +98,8 @@ const SELECT_REPLIES: &str = "SELECT status, body FROM reply ORDER BY number";
 fn all_replies<S: Alter>(alloc: Global, tx: &mut Transaction<'_, S>) -> Result<Replies, StoreFault>
     ensures inside { StaysInside S.Store tx.old.conn tx.new.conn result }
     ensures found { HasCleanDisk (state S.Store tx.new.conn.now)
-        → IfOk result (λ it. Finds (λ journal. it ≡ journal.replies) (state S.Store tx.old.conn.now) (state S.Store tx.new.conn.now)) }
+        → IfOk result (λ it. Finds (λ journal. it ≡ journal.replies) (state S.Store tx.old.conn.now)
+        (state S.Store tx.new.conn.now)) }
 {
     let rows = query_all(alloc, tx, SELECT_REPLIES, &[])?;
     Ok(Replies::new(rows))
@@ -112,7 +114,8 @@ fn all_settled<S: Alter>(
 ) -> Result<Settlements, StoreFault>
     ensures inside { StaysInside S.Store tx.old.conn tx.new.conn result }
     ensures found { HasCleanDisk (state S.Store tx.new.conn.now)
-        → IfOk result (λ it. Finds (λ journal. it ≡ in_order journal.settled) (state S.Store tx.old.conn.now) (state S.Store tx.new.conn.now)) }
+        → IfOk result (λ it. Finds (λ journal. it ≡ in_order journal.settled) (state S.Store tx.old.conn.now)
+        (state S.Store tx.new.conn.now)) }
 {
     let rows = query_all(alloc, tx, SELECT_ALL_SETTLED, &[])?;
     Ok(Settlements::new(rows))
@@ -146,7 +149,8 @@ pub fn settled_at<S: Alter>(
 ) -> Result<Option<BookReply>, StoreFault>
     ensures inside { StaysInside S.Store tx.old.conn tx.new.conn result }
     ensures found { HasCleanDisk (state S.Store tx.new.conn.now)
-        → IfOk result (λ it. Finds (λ journal. option_to_list (option_map seen_reply it) ≡ settled_of number journal.settled)
+        → IfOk result (λ it. Finds
+        (λ journal. option_to_list (option_map seen_reply it) ≡ settled_of number journal.settled)
         (state S.Store tx.old.conn.now) (state S.Store tx.new.conn.now)) }
 {
     query_one(tx, SELECT_SETTLED, &[number.to_sql()])

@@ -22,8 +22,10 @@ pub fn enter<S: Alter>(
 ) -> Result<(), StoreFault>
     requires { conn.old.in_transaction ≡ false }
     ensures ended { conn.new.in_transaction ≡ false }
-    ensures made { HasCleanDisk (state S.Store conn.new) → OnOk result (IsEntered number request.now (state S.Store conn.old) (state S.Store conn.new)) }
-    ensures crash { Survives (state S.Store conn.old) (state S.Store conn.new) (LeavesEntered number request.now (state S.Store conn.old)) }
+    ensures made { HasCleanDisk (state S.Store conn.new)
+        → OnOk result (IsEntered number request.now (state S.Store conn.old) (state S.Store conn.new)) }
+    ensures crash { Survives (state S.Store conn.old) (state S.Store conn.new)
+        (LeavesEntered number request.now (state S.Store conn.old)) }
 {
     let mut tx = conn.transaction();
     match put_entry(&mut tx, number, request) {
@@ -48,8 +50,10 @@ pub fn record<S: Alter>(
 ) -> Result<(), StoreFault>
     requires { conn.old.in_transaction ≡ false }
     ensures ended { conn.new.in_transaction ≡ false }
-    ensures made { HasCleanDisk (state S.Store conn.new) → OnOk result (IsRecorded number status body.now (state S.Store conn.old) (state S.Store conn.new)) }
-    ensures crash { Survives (state S.Store conn.old) (state S.Store conn.new) (LeavesRecorded number status body.now (state S.Store conn.old)) }
+    ensures made { HasCleanDisk (state S.Store conn.new)
+        → OnOk result (IsRecorded number status body.now (state S.Store conn.old) (state S.Store conn.new)) }
+    ensures crash { Survives (state S.Store conn.old) (state S.Store conn.new)
+        (LeavesRecorded number status body.now (state S.Store conn.old)) }
 {
     let mut tx = conn.transaction();
     match put_reply(&mut tx, number, status, body) {
@@ -64,8 +68,8 @@ pub fn record<S: Alter>(
     }
 }
 
-/// Records what the entry of that number was told when it was sent once more, and commits it. Nothing may be recorded of
-/// that before: then the call fails. After a fault the book may have it, or not, and is to be opened anew.
+/// Records what the entry of that number was told when it was sent once more, and commits it. Nothing may be recorded
+/// of that before: then the call fails. After a fault the book may have it, or not, and is to be opened anew.
 pub fn note_settled<S: Alter>(
     conn: &mut Connection<S>,
     number: u32,
@@ -74,8 +78,10 @@ pub fn note_settled<S: Alter>(
 ) -> Result<(), StoreFault>
     requires { conn.old.in_transaction ≡ false }
     ensures ended { conn.new.in_transaction ≡ false }
-    ensures made { HasCleanDisk (state S.Store conn.new) → OnOk result (IsNoted number status body.now (state S.Store conn.old) (state S.Store conn.new)) }
-    ensures crash { Survives (state S.Store conn.old) (state S.Store conn.new) (LeavesNoted number status body.now (state S.Store conn.old)) }
+    ensures made { HasCleanDisk (state S.Store conn.new)
+        → OnOk result (IsNoted number status body.now (state S.Store conn.old) (state S.Store conn.new)) }
+    ensures crash { Survives (state S.Store conn.old) (state S.Store conn.new)
+        (LeavesNoted number status body.now (state S.Store conn.old)) }
 {
     let mut tx = conn.transaction();
     match put_settled(&mut tx, number, status, body) {
@@ -97,7 +103,8 @@ pub fn request_of<S: Alter>(
 ) -> Result<Option<Bytes>, StoreFault>
     requires { conn.old.in_transaction ≡ false }
     ensures ended { conn.new.in_transaction ≡ false }
-    ensures found { HasCleanDisk (state S.Store conn.new) → IfOk result (λ it. FindsNumbered number it (state S.Store conn.old) (state S.Store conn.new)) }
+    ensures found { HasCleanDisk (state S.Store conn.new)
+        → IfOk result (λ it. FindsNumbered number it (state S.Store conn.old) (state S.Store conn.new)) }
     ensures crash { Survives (state S.Store conn.old) (state S.Store conn.new) (λ _. ⊥) }
 {
     let mut tx = conn.transaction();
@@ -110,7 +117,8 @@ pub fn request_of<S: Alter>(
 pub fn oldest<S: Alter>(conn: &mut Connection<S>, next: u32) -> Result<Option<Bytes>, StoreFault>
     requires { conn.old.in_transaction ≡ false }
     ensures ended { conn.new.in_transaction ≡ false }
-    ensures found { HasCleanDisk (state S.Store conn.new) → IfOk result (λ it. FindsWaiting next it (state S.Store conn.old) (state S.Store conn.new)) }
+    ensures found { HasCleanDisk (state S.Store conn.new)
+        → IfOk result (λ it. FindsWaiting next it (state S.Store conn.old) (state S.Store conn.new)) }
     ensures crash { Survives (state S.Store conn.old) (state S.Store conn.new) (λ _. ⊥) }
 {
     request_of(conn, next)
@@ -123,7 +131,8 @@ pub fn settlement_of<S: Alter>(
 ) -> Result<Option<BookReply>, StoreFault>
     requires { conn.old.in_transaction ≡ false }
     ensures ended { conn.new.in_transaction ≡ false }
-    ensures found { HasCleanDisk (state S.Store conn.new) → IfOk result (λ it. FindsSettled number it (state S.Store conn.old) (state S.Store conn.new)) }
+    ensures found { HasCleanDisk (state S.Store conn.new)
+        → IfOk result (λ it. FindsSettled number it (state S.Store conn.old) (state S.Store conn.new)) }
     ensures stays { HasCleanDisk (state S.Store conn.new) → Stays (state S.Store conn.old) (state S.Store conn.new) }
     ensures crash { Survives (state S.Store conn.old) (state S.Store conn.new) (λ _. ⊥) }
 {
@@ -137,7 +146,8 @@ pub fn settlement_of<S: Alter>(
 pub fn read_book<S: Alter>(alloc: Global, conn: &mut Connection<S>) -> Result<BookRows, StoreFault>
     requires { conn.old.in_transaction ≡ false }
     ensures ended { conn.new.in_transaction ≡ false }
-    ensures read { HasCleanDisk (state S.Store conn.new) → IfOk result (λ rows. ReadsBook rows (state S.Store conn.old) (state S.Store conn.new)) }
+    ensures read { HasCleanDisk (state S.Store conn.new)
+        → IfOk result (λ rows. ReadsBook rows (state S.Store conn.old) (state S.Store conn.new)) }
     ensures stays { HasCleanDisk (state S.Store conn.new) → Stays (state S.Store conn.old) (state S.Store conn.new) }
     ensures crash { Survives (state S.Store conn.old) (state S.Store conn.new) (λ _. ⊥) }
 {

@@ -46,7 +46,8 @@ fn read_more<R: Read>(reader: &mut R, inbox: &mut Vec<u8>) -> Result<usize, AskF
 
 /// The reply that comes: all that was read is that reply's bytes, and nothing behind them.
 pub fn read_answer<R: Read>(alloc: Global, reader: &mut R) -> Result<Answer, AskFault>
-    ensures told { IfOk result (λ answer. Consumes (R.remaining reader.old) (R.remaining reader.new) (answer_bytes (seen_answer answer))) }
+    ensures told { IfOk result (λ answer. Consumes (R.remaining reader.old) (R.remaining reader.new)
+        (answer_bytes (seen_answer answer))) }
     ensures fault { IfErr result IsOfReading }
 {
     let mut inbox = Vec::new(alloc);
@@ -81,8 +82,10 @@ pub fn ask<R: Read, W: Write>(
     request: &[u8],
 ) -> Result<Answer, AskFault>
     ensures sent { OnOk result (Appends (W.contents writer.old) (W.contents writer.new) request.now) }
-    ensures told { IfOk result (λ answer. Consumes (R.remaining reader.old) (R.remaining reader.new) (answer_bytes (seen_answer answer))) }
-    ensures fault { IfErr result (λ fault. FailsToAsk fault request.now (W.contents writer.old) (W.contents writer.new)) }
+    ensures told { IfOk result (λ answer. Consumes (R.remaining reader.old) (R.remaining reader.new)
+        (answer_bytes (seen_answer answer))) }
+    ensures fault { IfErr result (λ fault. FailsToAsk fault request.now (W.contents writer.old)
+        (W.contents writer.new)) }
 {
     let Ok(()) = write_whole(writer, request) else {
         return Err(AskFault::Write);

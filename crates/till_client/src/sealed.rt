@@ -119,7 +119,8 @@ pub fn seal(
     token: &[u8],
     bytes: Vec<u8>,
 ) -> Result<Sealed, NotSealed>
-    ensures ok { IfOk result (λ sealed. (sealed.bytes ≡ bytes) × SaysCommand sealed.bytes.items token.now (seen_command sealed.command)) }
+    ensures ok { IfOk result (λ sealed. (sealed.bytes ≡ bytes)
+        × SaysCommand sealed.bytes.items token.now (seen_command sealed.command)) }
     ensures err { IfErr result (λ fault. IsUnsealed fault bytes.items token.now) }
 {
     let command = command_in(alloc, routes, token, bytes.as_slice())?;

@@ -45,8 +45,9 @@ fn done(entered: Result<Command, EnterFault>) -> Result<(), EnterFault>
     }
 }
 
-/// Enters a request behind the last, and commits it. It has to say a command with the till's token, whose key is the mark and the entry's number, and whose moment
-/// is after the last entry's: else `NoEntry` or `NotLater`, and nothing is entered.
+/// Enters a request behind the last, and commits it. It has to say a command with the till's token, whose key is the
+/// mark and the entry's number, and whose moment is after the last entry's: else `NoEntry` or `NotLater`, and nothing
+/// is entered.
 pub fn enter<S: Alter>(
     alloc: Global,
     conn: &mut Connection<S>,
@@ -56,10 +57,14 @@ pub fn enter<S: Alter>(
 ) -> Result<(), DeskFault>
     requires { conn.old.in_transaction ≡ false }
     ensures ended { conn.new.in_transaction ≡ false }
-    ensures entered { HasCleanDisk (state S.Store conn.new) → OnOk result (EntersOne till.entry.mark.now request.items place.old (state S.Store conn.old) place.new (state S.Store conn.new)) }
-    ensures keeps { HasCleanDisk (state S.Store conn.new) → IsBookKept result → GoesOn till.entry.mark.now place.old (state S.Store conn.old) place.new (state S.Store conn.new) }
+    ensures entered { HasCleanDisk (state S.Store conn.new)
+        → OnOk result (EntersOne till.entry.mark.now request.items place.old (state S.Store conn.old) place.new
+        (state S.Store conn.new)) }
+    ensures keeps { HasCleanDisk (state S.Store conn.new) → IsBookKept result
+        → GoesOn till.entry.mark.now place.old (state S.Store conn.old) place.new (state S.Store conn.new) }
     ensures clean { HasCleanDisk (state S.Store conn.new) → HasCleanDisk (state S.Store conn.old) }
-    ensures crash { Survives (state S.Store conn.old) (state S.Store conn.new) (LeavesEntry till.entry.mark.now request.items place.old (state S.Store conn.old)) }
+    ensures crash { Survives (state S.Store conn.old) (state S.Store conn.new)
+        (LeavesEntry till.entry.mark.now request.items place.old (state S.Store conn.old)) }
 {
     let Some(number) = place.entries.checked_add(1) else {
         return Err(DeskFault::Full);
@@ -81,7 +86,8 @@ pub fn enter<S: Alter>(
     }
 }
 
-/// Enters a request behind the last, whatever it says, and commits it: head office's, which `till_requests` has read back.
+/// Enters a request behind the last, whatever it says, and commits it: head office's, which `till_requests` has read
+/// back.
 pub fn enter_request<S: Alter>(
     conn: &mut Connection<S>,
     place: &mut Place,
@@ -89,10 +95,13 @@ pub fn enter_request<S: Alter>(
 ) -> Result<(), DeskFault>
     requires { conn.old.in_transaction ≡ false }
     ensures ended { conn.new.in_transaction ≡ false }
-    ensures entered { HasCleanDisk (state S.Store conn.new) → OnOk result (IsEntered (place.old.entries + 1) request.now (state S.Store conn.old) (state S.Store conn.new)) }
+    ensures entered { HasCleanDisk (state S.Store conn.new)
+        → OnOk result (IsEntered (place.old.entries + 1) request.now (state S.Store conn.old)
+        (state S.Store conn.new)) }
     ensures counted { OnOk result (place.new ≡ record place.old { entries = place.old.entries + 1 }) }
     ensures uncounted { OnErr result (place.new ≡ place.old) }
-    ensures crash { Survives (state S.Store conn.old) (state S.Store conn.new) (LeavesEntered (place.old.entries + 1) request.now (state S.Store conn.old)) }
+    ensures crash { Survives (state S.Store conn.old) (state S.Store conn.new)
+        (LeavesEntered (place.old.entries + 1) request.now (state S.Store conn.old)) }
 {
     let Some(number) = place.entries.checked_add(1) else {
         return Err(DeskFault::Full);

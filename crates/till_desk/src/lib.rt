@@ -1,4 +1,5 @@
-//! A till's desk: what is typed is entered in the book, what waits there is sent over connections that may break, oldest first, and each reply is recorded.
+//! A till's desk: what is typed is entered in the book, what waits there is sent over connections that may break,
+//! oldest first, and each reply is recorded.
 #![tactic(auto)]
 
 mod entering;

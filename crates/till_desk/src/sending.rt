@@ -43,8 +43,12 @@ fn send_over<S: Alter, V: Server>(
     requires { conn.old.in_transaction ≡ false }
     ensures ended { conn.new.in_transaction ≡ false }
     ensures clean { HasCleanDisk (state S.Store conn.new) → HasCleanDisk (state S.Store conn.old) }
-    ensures answered { HasCleanDisk (state S.Store conn.new) → IfOk result (λ answer. (mark : Text) → AnswersOne mark (seen_answer answer) place.old (state S.Store conn.old) place.new (state S.Store conn.new)) }
-    ensures stays { HasCleanDisk (state S.Store conn.new) → IsBookKept result → OnErr result ((mark : Text) → Stays mark place.old (state S.Store conn.old) place.new (state S.Store conn.new)) }
+    ensures answered { HasCleanDisk (state S.Store conn.new)
+        → IfOk result (λ answer. (mark : Text) → AnswersOne mark (seen_answer answer) place.old
+        (state S.Store conn.old) place.new (state S.Store conn.new)) }
+    ensures stays { HasCleanDisk (state S.Store conn.new) → IsBookKept result
+        → OnErr result ((mark : Text) → Stays mark place.old (state S.Store conn.old) place.new
+        (state S.Store conn.new)) }
     ensures counted { OnOk result (place.new ≡ record place.old { replies = place.old.replies + 1 }) }
     ensures uncounted { OnErr result (place.new ≡ place.old) }
 {
@@ -72,8 +76,12 @@ fn send_once<S: Alter, V: Server>(
     requires { conn.old.in_transaction ≡ false }
     ensures ended { conn.new.in_transaction ≡ false }
     ensures clean { HasCleanDisk (state S.Store conn.new) → HasCleanDisk (state S.Store conn.old) }
-    ensures answered { HasCleanDisk (state S.Store conn.new) → IfOk result (λ answer. (mark : Text) → AnswersOne mark (seen_answer answer) place.old (state S.Store conn.old) place.new (state S.Store conn.new)) }
-    ensures stays { HasCleanDisk (state S.Store conn.new) → IsBookKept result → OnErr result ((mark : Text) → Stays mark place.old (state S.Store conn.old) place.new (state S.Store conn.new)) }
+    ensures answered { HasCleanDisk (state S.Store conn.new)
+        → IfOk result (λ answer. (mark : Text) → AnswersOne mark (seen_answer answer) place.old
+        (state S.Store conn.old) place.new (state S.Store conn.new)) }
+    ensures stays { HasCleanDisk (state S.Store conn.new) → IsBookKept result
+        → OnErr result ((mark : Text) → Stays mark place.old (state S.Store conn.old) place.new
+        (state S.Store conn.new)) }
     ensures counted { OnOk result (place.new ≡ record place.old { replies = place.old.replies + 1 }) }
     ensures uncounted { OnErr result (place.new ≡ place.old) }
 {
@@ -83,8 +91,8 @@ fn send_once<S: Alter, V: Server>(
     }
 }
 
-/// Sends the oldest entry without a reply, up to three times, each over a new connection, with a pause between them, and records the reply. After `Unanswered` and
-/// `NotNow` it waits on; `NoEntry` is told where none waits.
+/// Sends the oldest entry without a reply, up to three times, each over a new connection, with a pause between them,
+/// and records the reply. After `Unanswered` and `NotNow` it waits on; `NoEntry` is told where none waits.
 pub fn send_oldest<S: Alter, V: Server, K: Clock>(
     alloc: Global,
     clock: &K,
@@ -95,8 +103,12 @@ pub fn send_oldest<S: Alter, V: Server, K: Clock>(
     requires { conn.old.in_transaction ≡ false }
     ensures ended { conn.new.in_transaction ≡ false }
     ensures clean { HasCleanDisk (state S.Store conn.new) → HasCleanDisk (state S.Store conn.old) }
-    ensures answered { HasCleanDisk (state S.Store conn.new) → IfOk result (λ answer. (mark : Text) → AnswersOne mark (seen_answer answer) place.old (state S.Store conn.old) place.new (state S.Store conn.new)) }
-    ensures stays { HasCleanDisk (state S.Store conn.new) → IsBookKept result → OnErr result ((mark : Text) → Stays mark place.old (state S.Store conn.old) place.new (state S.Store conn.new)) }
+    ensures answered { HasCleanDisk (state S.Store conn.new)
+        → IfOk result (λ answer. (mark : Text) → AnswersOne mark (seen_answer answer) place.old
+        (state S.Store conn.old) place.new (state S.Store conn.new)) }
+    ensures stays { HasCleanDisk (state S.Store conn.new) → IsBookKept result
+        → OnErr result ((mark : Text) → Stays mark place.old (state S.Store conn.old) place.new
+        (state S.Store conn.new)) }
     ensures counted { OnOk result (place.new ≡ record place.old { replies = place.old.replies + 1 }) }
     ensures uncounted { OnErr result (place.new ≡ place.old) }
 {
@@ -121,8 +133,9 @@ pub fn send_oldest<S: Alter, V: Server, K: Clock>(
     Err(fault)
 }
 
-/// Sends all that waits, oldest first, and records the replies; the last of them is told, and none where nothing waited. At the first entry that gets no reply
-/// it stops, and that one and those behind it wait on. `watch` is told before each.
+/// Sends all that waits, oldest first, and records the replies; the last of them is told, and none where nothing
+/// waited. At the first entry that gets no reply it stops, and that one and those behind it wait on. `watch` is told
+/// before each.
 pub fn send_waiting<S: Alter, V: Server, K: Clock, W: Watch>(
     alloc: Global,
     clock: &K,
@@ -134,8 +147,11 @@ pub fn send_waiting<S: Alter, V: Server, K: Clock, W: Watch>(
     requires { conn.old.in_transaction ≡ false }
     ensures ended { conn.new.in_transaction ≡ false }
     ensures clean { HasCleanDisk (state S.Store conn.new) → HasCleanDisk (state S.Store conn.old) }
-    ensures keeps { HasCleanDisk (state S.Store conn.new) → IsBookKept result → (mark : Text) → GoesOn mark place.old (state S.Store conn.old) place.new (state S.Store conn.new) }
-    ensures told { HasCleanDisk (state S.Store conn.new) → IfOk result (λ last. (mark : Text) → TellsLast mark last place.old (state S.Store conn.old) place.new (state S.Store conn.new)) }
+    ensures keeps { HasCleanDisk (state S.Store conn.new) → IsBookKept result → (mark : Text)
+        → GoesOn mark place.old (state S.Store conn.old) place.new (state S.Store conn.new) }
+    ensures told { HasCleanDisk (state S.Store conn.new)
+        → IfOk result (λ last. (mark : Text) → TellsLast mark last place.old (state S.Store conn.old) place.new
+        (state S.Store conn.new)) }
     ensures entries { place.new.entries ≡ place.old.entries }
     ensures all { OnOk result (place.old.replies ≤ place.old.entries → place.new.replies ≡ place.old.entries) }
 {

@@ -48,7 +48,8 @@ fn create<S: Alter>(conn: &mut Connection<S>) -> Result<(), BookFault>
     ensures ended { conn.new.in_transaction ≡ false }
     ensures none { OnOk result ((state S.Store conn.old).now.schema ≡ no_schema) }
     ensures made { HasCleanDisk (state S.Store conn.new) → OnOk result (Rests (state S.Store conn.new) empty_journal) }
-    ensures there { IfErr result (λ e. e ≡ BookFault.Already → ((state S.Store conn.old).now.schema ≢ no_schema) × (conn.new ≡ conn.old)) }
+    ensures there { IfErr result (λ e. e ≡ BookFault.Already
+        → ((state S.Store conn.old).now.schema ≢ no_schema) × (conn.new ≡ conn.old)) }
     ensures stopped { IfErr result (λ e. e ≢ BookFault.Already → (state S.Store conn.old).now.schema ≡ no_schema) }
     ensures crash { Survives (state S.Store conn.old) (state S.Store conn.new) (LeavesMade (state S.Store conn.old)) }
     ensures book { IfErr result (λ e. e ≢ BookFault.NotABook) }
@@ -62,8 +63,9 @@ fn create<S: Alter>(conn: &mut Connection<S>) -> Result<(), BookFault>
     }
 }
 
-/// Makes a book with nothing in it in files that hold no table. A fault gives the files back: `Already` where they hold tables, which stay as they are, and
-/// `Memory`, `Size` or `Store` where the store can't do its part; then they hold no table, or the whole book without an entry.
+/// Makes a book with nothing in it in files that hold no table. A fault gives the files back: `Already` where they
+/// hold tables, which stay as they are, and `Memory`, `Size` or `Store` where the store can't do its part; then they
+/// hold no table, or the whole book without an entry.
 pub fn create_book<D: Disk + Drop>(
     alloc: Global,
     files: Files<D>,

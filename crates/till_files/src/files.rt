@@ -37,11 +37,12 @@ pub fn connect<D: Disk + Drop>(
     }
 }
 
-/// Gives the files back, which hold what a crash may leave. Nothing more is written, so they keep the book that rests there, or, where a change of it was
-/// under way or its end isn't known, the book before the change or behind it.
+/// Gives the files back, which hold what a crash may leave. Nothing more is written, so they keep the book that rests
+/// there, or, where a change of it was under way or its end isn't known, the book before the change or behind it.
 pub fn close_book<D: Disk + Drop>(conn: Connection<FileStore<D>>) -> Files<D>
     ensures keeps { (journal : Journal) → Rests (file_state conn) journal → KeepsBook D.Disk result journal }
-    ensures either { (journal besides : Journal) → (HasCleanDisk (file_state conn) → LeavesEither (file_state conn) journal besides)
+    ensures either { (journal besides : Journal)
+        → (HasCleanDisk (file_state conn) → LeavesEither (file_state conn) journal besides)
         → KeepsEither D.Disk result journal besides }
     ensures left { AreClean D.Disk result.log result.db → HoldsOne D.Disk result (file_state conn).may_leave }
     ensures clean { AreClean D.Disk result.log result.db → HasCleanDisk (file_state conn) }

@@ -33,8 +33,8 @@ fn is_book(alloc: Global, schema: &Schema) -> Result<bool, StoreFault>
     Ok(same_schema(schema, conn.schema()))
 }
 
-/// Opens the book that the files hold. A fault gives the files back: `NotABook` where they hold none, and `Memory`, `Size` or `Store` where the store can't do
-/// its part. What they hold stays.
+/// Opens the book that the files hold. A fault gives the files back: `NotABook` where they hold none, and `Memory`,
+/// `Size` or `Store` where the store can't do its part. What they hold stays.
 pub fn open_book<D: Disk + Drop>(
     alloc: Global,
     files: Files<D>,

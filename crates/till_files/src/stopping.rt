@@ -20,7 +20,8 @@ use till_book::{enter, note_settled, record};
 
 /// The files behind a crash of their disks.
 fn crashed<D: Crash + Drop>(files: Files<D>) -> Files<D>
-    ensures left { (image : Image) → outcomes D.Disk result.log result.db image → outcomes D.Disk files.log files.db image }
+    ensures left { (image : Image) → outcomes D.Disk result.log result.db image
+        → outcomes D.Disk files.log files.db image }
     ensures clean { AreClean D.Disk result.log result.db → AreClean D.Disk files.log files.db }
 {
     let Files { mut log, mut db } = files;
@@ -29,23 +30,25 @@ fn crashed<D: Crash + Drop>(files: Files<D>) -> Files<D>
     Files { log, db }
 }
 
-/// Stops a book, lets its disks crash, and opens the files that are left: the book that rested, or, where a change of it was under way or its end wasn't
-/// known, the book before the change or behind it.
+/// Stops a book, lets its disks crash, and opens the files that are left: the book that rested, or, where a change of
+/// it was under way or its end wasn't known, the book before the change or behind it.
 pub fn restart_book<D: Crash + Drop>(
     alloc: Global,
     conn: Connection<FileStore<D>>,
 ) -> Result<Connection<FileStore<D>>, (BookFault, Files<D>)>
     ensures ended { IfOk result (λ again. again.in_transaction ≡ false) }
     ensures honest { IfOk result (λ again. HasCleanDisk (file_state again) → HasCleanDisk (file_state conn)) }
-    ensures same { IfOk result (λ again. HasCleanDisk (file_state again) → (journal : Journal) → Rests (file_state conn) journal → Rests (file_state again) journal) }
+    ensures same { IfOk result (λ again. HasCleanDisk (file_state again) → (journal : Journal)
+        → Rests (file_state conn) journal → Rests (file_state again) journal) }
     ensures either { IfOk result (λ again. HasCleanDisk (file_state again) → (journal besides : Journal)
-        → (HasCleanDisk (file_state conn) → LeavesEither (file_state conn) journal besides) → ∥ Rests (file_state again) journal ⊎ Rests (file_state again) besides ∥₁) }
+        → (HasCleanDisk (file_state conn) → LeavesEither (file_state conn) journal besides)
+        → ∥ Rests (file_state again) journal ⊎ Rests (file_state again) besides ∥₁) }
 {
     open_book(alloc, crashed(close_book(conn)))
 }
 
-/// Enters a request, and is stopped at any call of that or behind it; then the disks crash, and the files that are left are opened: the book is the one before
-/// the entry or the one with it.
+/// Enters a request, and is stopped at any call of that or behind it; then the disks crash, and the files that are
+/// left are opened: the book is the one before the entry or the one with it.
 pub fn enter_over_a_stop<D: Crash + Drop>(
     alloc: Global,
     conn: Connection<FileStore<D>>,
@@ -53,7 +56,8 @@ pub fn enter_over_a_stop<D: Crash + Drop>(
     request: &[u8],
 ) -> Result<Connection<FileStore<D>>, (BookFault, Files<D>)>
     requires { conn.in_transaction ≡ false }
-    ensures either { IfOk result (λ again. HasCleanDisk (file_state again) → (journal : Journal) → Rests (file_state conn) journal → IsNext number journal
+    ensures either { IfOk result (λ again. HasCleanDisk (file_state again) → (journal : Journal)
+        → Rests (file_state conn) journal → IsNext number journal
         → ∥ Rests (file_state again) journal ⊎ Rests (file_state again) (with_entry request.now journal) ∥₁) }
 {
     let mut conn = conn;
@@ -61,8 +65,8 @@ pub fn enter_over_a_stop<D: Crash + Drop>(
     restart_book(alloc, conn)
 }
 
-/// Records a reply, and is stopped at any call of that or behind it; then the disks crash, and the files that are left are opened: the book is the one before
-/// the reply or the one with it.
+/// Records a reply, and is stopped at any call of that or behind it; then the disks crash, and the files that are
+/// left are opened: the book is the one before the reply or the one with it.
 pub fn record_over_a_stop<D: Crash + Drop>(
     alloc: Global,
     conn: Connection<FileStore<D>>,
@@ -71,16 +75,18 @@ pub fn record_over_a_stop<D: Crash + Drop>(
     body: &[u8],
 ) -> Result<Connection<FileStore<D>>, (BookFault, Files<D>)>
     requires { conn.in_transaction ≡ false }
-    ensures either { IfOk result (λ again. HasCleanDisk (file_state again) → (journal : Journal) → Rests (file_state conn) journal → IsNextReply number journal
-        → ∥ Rests (file_state again) journal ⊎ Rests (file_state again) (with_reply (record { status = status; body = body.now }) journal) ∥₁) }
+    ensures either { IfOk result (λ again. HasCleanDisk (file_state again) → (journal : Journal)
+        → Rests (file_state conn) journal → IsNextReply number journal
+        → ∥ Rests (file_state again) journal ⊎ Rests (file_state again)
+        (with_reply (record { status = status; body = body.now }) journal) ∥₁) }
 {
     let mut conn = conn;
     let _stopped = record(&mut conn, number, status, body);
     restart_book(alloc, conn)
 }
 
-/// Records what an entry was told when it was sent once more, and is stopped at any call of that or behind it; then the disks crash, and the files that are left
-/// are opened: the book is the one before that or the one with it.
+/// Records what an entry was told when it was sent once more, and is stopped at any call of that or behind it; then
+/// the disks crash, and the files that are left are opened: the book is the one before that or the one with it.
 pub fn note_settled_over_a_stop<D: Crash + Drop>(
     alloc: Global,
     conn: Connection<FileStore<D>>,
@@ -89,8 +95,10 @@ pub fn note_settled_over_a_stop<D: Crash + Drop>(
     body: &[u8],
 ) -> Result<Connection<FileStore<D>>, (BookFault, Files<D>)>
     requires { conn.in_transaction ≡ false }
-    ensures either { IfOk result (λ again. HasCleanDisk (file_state again) → (journal : Journal) → Rests (file_state conn) journal → IsUnsettled number journal
-        → ∥ Rests (file_state again) journal ⊎ Rests (file_state again) (with_settled number (record { status = status; body = body.now }) journal) ∥₁) }
+    ensures either { IfOk result (λ again. HasCleanDisk (file_state again) → (journal : Journal)
+        → Rests (file_state conn) journal → IsUnsettled number journal
+        → ∥ Rests (file_state again) journal ⊎ Rests (file_state again)
+        (with_settled number (record { status = status; body = body.now }) journal) ∥₁) }
 {
     let mut conn = conn;
     let _stopped = note_settled(&mut conn, number, status, body);

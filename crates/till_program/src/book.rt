@@ -65,8 +65,10 @@ impl Book {
         requires { conn.old.in_transaction ≡ false }
         ensures ended { conn.new.in_transaction ≡ false }
         ensures clean { HasCleanDisk (state S.Store conn.new) → HasCleanDisk (state S.Store conn.old) }
-        ensures stays { HasCleanDisk (state S.Store conn.new) → Stays (state S.Store conn.old) (state S.Store conn.new) }
-        ensures place { HasCleanDisk (state S.Store conn.new) → IfOk result (λ book. IsPlaceOf book.place (state S.Store conn.old)) }
+        ensures stays { HasCleanDisk (state S.Store conn.new)
+            → Stays (state S.Store conn.old) (state S.Store conn.new) }
+        ensures place { HasCleanDisk (state S.Store conn.new)
+            → IfOk result (λ book. IsPlaceOf book.place (state S.Store conn.old)) }
     {
         let Ok(rows) = read_book(alloc, conn) else {
             return Err(TillFault::Book);

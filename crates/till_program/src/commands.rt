@@ -96,7 +96,9 @@ fn enter_act<S: Alter, K: Clock, V: Server, L: Shelf>(
     requires { conn.old.in_transaction ≡ false }
     ensures ended { conn.new.in_transaction ≡ false }
     ensures clean { HasCleanDisk (state S.Store conn.new) → HasCleanDisk (state S.Store conn.old) }
-    ensures keeps { HasCleanDisk (state S.Store conn.new) → IsBookKept result → GoesOn desk.now.settings.now.mark book.old.place (state S.Store conn.old) book.new.place (state S.Store conn.new) }
+    ensures keeps { HasCleanDisk (state S.Store conn.new) → IsBookKept result
+        → GoesOn desk.now.settings.now.mark book.old.place (state S.Store conn.old) book.new.place
+        (state S.Store conn.new) }
 {
     let Prepared { request, at } = next_request(desk, book, act, ahead)?;
     match enter(desk.alloc, conn, desk.identity(), &mut book.place, request) {
@@ -120,7 +122,9 @@ fn give_once<S: Alter, K: Clock, V: Server, L: Shelf, W: Watch>(
     requires { conn.old.in_transaction ≡ false }
     ensures ended { conn.new.in_transaction ≡ false }
     ensures clean { HasCleanDisk (state S.Store conn.new) → HasCleanDisk (state S.Store conn.old) }
-    ensures keeps { HasCleanDisk (state S.Store conn.new) → IsBookKept result → GoesOn desk.now.settings.now.mark book.old.place (state S.Store conn.old) book.new.place (state S.Store conn.new) }
+    ensures keeps { HasCleanDisk (state S.Store conn.new) → IsBookKept result
+        → GoesOn desk.now.settings.now.mark book.old.place (state S.Store conn.old) book.new.place
+        (state S.Store conn.new) }
 {
     match enter_act(desk, conn, book, act, ahead) {
         Ok(()) => {}
@@ -133,8 +137,8 @@ fn give_once<S: Alter, K: Clock, V: Server, L: Shelf, W: Watch>(
     }
 }
 
-/// Enters a command, and sends what waits and then it. One whose moment was behind the branch's never acts, and is entered anew, later and later, up to two minutes
-/// ahead of the clock.
+/// Enters a command, and sends what waits and then it. One whose moment was behind the branch's never acts, and is
+/// entered anew, later and later, up to two minutes ahead of the clock.
 pub(crate) fn give<S: Alter, K: Clock, V: Server, L: Shelf, W: Watch>(
     desk: &Desk<'_, K, V, L>,
     conn: &mut Connection<S>,
@@ -145,7 +149,9 @@ pub(crate) fn give<S: Alter, K: Clock, V: Server, L: Shelf, W: Watch>(
     requires { conn.old.in_transaction ≡ false }
     ensures ended { conn.new.in_transaction ≡ false }
     ensures clean { HasCleanDisk (state S.Store conn.new) → HasCleanDisk (state S.Store conn.old) }
-    ensures keeps { HasCleanDisk (state S.Store conn.new) → IsBookKept result → GoesOn desk.now.settings.now.mark book.old.place (state S.Store conn.old) book.new.place (state S.Store conn.new) }
+    ensures keeps { HasCleanDisk (state S.Store conn.new) → IsBookKept result
+        → GoesOn desk.now.settings.now.mark book.old.place (state S.Store conn.old) book.new.place
+        (state S.Store conn.new) }
 {
     let mut told = Err(TillFault::OtherBook);
     'tries: for ahead in AHEAD {

@@ -15,7 +15,8 @@ use till_requests::{Settings, moment_at};
 /// How often something is asked for that changes nothing.
 const ROUNDS: u64 = 3;
 
-/// What a till works with beside its book: a clock, the way to the server, a shelf for lists, the server's own reader of requests, and its settings.
+/// What a till works with beside its book: a clock, the way to the server, a shelf for lists, the server's own reader
+/// of requests, and its settings.
 #[derive(Drop)]
 pub struct Desk<'d, K: Clock, V: Server, L: Shelf> {
     pub alloc: Global,

@@ -60,7 +60,8 @@ pub enum TillFault {
 }
 
 impl TillFault {
-    /// The program's status for it: 1 where a word can't be done as it was said, 3 for a fault of the till's own, 4 where it isn't answered yet.
+    /// The program's status for it: 1 where a word can't be done as it was said, 3 for a fault of the till's own, 4
+    /// where it isn't answered yet.
     pub fn status(self) -> u8 {
         match self {
             TillFault::NoRental

@@ -1,4 +1,5 @@
-//! The till's files: the book with its log, the settings beside it, and lists that may go at any time. They are their owner's alone.
+//! The till's files: the book with its log, the settings beside it, and lists that may go at any time. They are their
+//! owner's alone.
 
 ghost use Rattle.std.specs.Prelude.{◌≡◌, false, IfOk};
 

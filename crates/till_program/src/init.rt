@@ -31,7 +31,8 @@ fn is_any_there(rt: &HostRuntime, book: &str) -> Result<bool, TillFault> {
     Ok(is_there(rt, book) || is_there(rt, log.as_str()) || is_there(rt, settings.as_str()))
 }
 
-/// Makes a book, with a mark that no other book has, and its settings beside it. Where one of its files is there nothing is made, and that stays.
+/// Makes a book, with a mark that no other book has, and its settings beside it. Where one of its files is there
+/// nothing is made, and that stays.
 pub(crate) fn begin(rt: &HostRuntime, book: &str, beginning: Beginning) -> Result<Said, TillFault> {
     if is_any_there(rt, book)? {
         return Err(TillFault::Already);

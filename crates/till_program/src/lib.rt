@@ -1,4 +1,5 @@
-//! The till's program for one list of words: what a cashier types is entered in the book, sent, and answered in plain words.
+//! The till's program for one list of words: what a cashier types is entered in the book, sent, and answered in plain
+//! words.
 #![tactic(auto)]
 
 mod answers;

@@ -147,7 +147,8 @@ fn search<K: Clock, V: Server, L: Shelf>(
     says_table(desk.alloc, &it.table, list.none(), said)
 }
 
-/// Those who have a customer's number in their telephone number, where that is no short one: a number that no customer of the branch has may be meant so.
+/// Those who have a customer's number in their telephone number, where that is no short one: a number that no
+/// customer of the branch has may be meant so.
 fn with_phone<K: Clock, V: Server, L: Shelf>(
     desk: &Desk<'_, K, V, L>,
     customer: CustomerNo,
@@ -192,7 +193,8 @@ fn list_ask(look: &TillLook, now: Moment) -> Option<(Ask, &'static str)> {
     }
 }
 
-/// What is asked for, where that is told in some lines; `behind` is now, or the last entry's moment where that is later.
+/// What is asked for, where that is told in some lines; `behind` is now, or the last entry's moment where that is
+/// later.
 fn line_ask(look: &TillLook, now: Moment, behind: Moment) -> Option<Ask> {
     match look {
         TillLook::Film(film) => Some(Ask::Film(*film)),

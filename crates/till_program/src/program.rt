@@ -78,8 +78,8 @@ fn print<W: Write, E: Write>(said: Result<Said, TillFault>, out: &mut W, err: &m
     }
 }
 
-/// Does a word at an open book, and prints what it came to. Where it is done, refused entries are made sure of behind it: what that comes to is printed where it comes
-/// to anything, and else it is for another time.
+/// Does a word at an open book, and prints what it came to. Where it is done, refused entries are made sure of behind
+/// it: what that comes to is printed where it comes to anything, and else it is for another time.
 fn word_at<S: Alter, K: Clock, V: Server, L: Shelf, W: Write, E: Write>(
     desk: &Desk<'_, K, V, L>,
     conn: &mut Connection<S>,
@@ -134,7 +134,8 @@ fn tools_of(rt: &HostRuntime, book: &str) -> Result<Tools, TillFault> {
     }
 }
 
-/// Does a word with these tools at the open book of that name, prints what it came to, closes the book, and tells the status.
+/// Does a word with these tools at the open book of that name, prints what it came to, closes the book, and tells the
+/// status.
 fn with_tools<'x, W: Write, E: Write>(
     rt: &'x HostRuntime,
     book: &'x str,
@@ -197,7 +198,8 @@ fn book_of(rt: &HostRuntime, named: &Option<FileName>) -> Result<String, TillFau
     Ok(String::from_str(rt.alloc(), name)?)
 }
 
-/// Does what a line of words asks for, but for a prompt, of which there is only one, prints what it came to, and tells its status.
+/// Does what a line of words asks for, but for a prompt, of which there is only one, prints what it came to, and
+/// tells its status.
 fn perform_line<W: Write, E: Write>(
     rt: &HostRuntime,
     line: TillLine,
@@ -253,8 +255,9 @@ pub(crate) fn perform_words<W: Write, E: Write>(
     }
 }
 
-/// The whole program for its words, without its own name: it prints on `out` what a word came to, and on `err` why it was refused or not done, and answers the
-/// status: 0 done, 1 refused, 2 usage, 3 a fault of the till's own, 4 not answered yet, but in the book. Without a word it reads lines of words from standard input.
+/// The whole program for its words, without its own name: it prints on `out` what a word came to, and on `err` why it
+/// was refused or not done, and answers the status: 0 done, 1 refused, 2 usage, 3 a fault of the till's own, 4 not
+/// answered yet, but in the book. Without a word it reads lines of words from standard input.
 pub fn run<W: Write, E: Write>(rt: &HostRuntime, words: &[String], out: &mut W, err: &mut E) -> u8 {
     let is_prompt = matches!(
         read_till_words(rt.alloc(), words),

@@ -43,8 +43,8 @@ fn perform_line<W: Write, E: Write>(
     Ok(true)
 }
 
-/// Reads lines of words to the end of the input, or to `exit` or `quit`, and does what each asks for. The words before the prompt's own, which name the book, stand
-/// before each line.
+/// Reads lines of words to the end of the input, or to `exit` or `quit`, and does what each asks for. The words
+/// before the prompt's own, which name the book, stand before each line.
 pub(crate) fn prompt<W: Write, E: Write>(
     rt: &HostRuntime,
     before: &[String],

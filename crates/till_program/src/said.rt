@@ -2,8 +2,8 @@
 
 use std::alloc::{AllocError, Global};
 
-/// What is printed of a word, each line of it ended by a line feed, and the program's status: 0 done, 1 refused, 2 usage, 3 a fault of the till's own, 4 not
-/// answered yet.
+/// What is printed of a word, each line of it ended by a line feed, and the program's status: 0 done, 1 refused, 2
+/// usage, 3 a fault of the till's own, 4 not answered yet.
 #[derive(Drop)]
 pub struct Said {
     pub text: String,

@@ -29,7 +29,8 @@ pub(crate) fn send_all<S: Alter, K: Clock, V: Server, L: Shelf, W: Watch>(
     requires { conn.old.in_transaction ≡ false }
     ensures ended { conn.new.in_transaction ≡ false }
     ensures clean { HasCleanDisk (state S.Store conn.new) → HasCleanDisk (state S.Store conn.old) }
-    ensures keeps { HasCleanDisk (state S.Store conn.new) → IsBookKept result → (mark : Text) → GoesOn mark place.old (state S.Store conn.old) place.new (state S.Store conn.new) }
+    ensures keeps { HasCleanDisk (state S.Store conn.new) → IsBookKept result → (mark : Text)
+        → GoesOn mark place.old (state S.Store conn.old) place.new (state S.Store conn.new) }
 {
     match send_waiting(desk.alloc, desk.clock, desk.server, watch, conn, place) {
         Ok(last) => Ok(last),
@@ -63,7 +64,8 @@ pub(crate) fn send<S: Alter, K: Clock, V: Server, L: Shelf, W: Watch>(
     requires { conn.old.in_transaction ≡ false }
     ensures ended { conn.new.in_transaction ≡ false }
     ensures clean { HasCleanDisk (state S.Store conn.new) → HasCleanDisk (state S.Store conn.old) }
-    ensures keeps { HasCleanDisk (state S.Store conn.new) → IsBookKept result → (mark : Text) → GoesOn mark book.old.place (state S.Store conn.old) book.new.place (state S.Store conn.new) }
+    ensures keeps { HasCleanDisk (state S.Store conn.new) → IsBookKept result → (mark : Text)
+        → GoesOn mark book.old.place (state S.Store conn.old) book.new.place (state S.Store conn.new) }
 {
     let before = book.replies();
     match send_all(desk, conn, &mut book.place, watch) {

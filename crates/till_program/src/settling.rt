@@ -54,7 +54,8 @@ fn open_entries(book: &Book) -> [u32; MOST] {
     numbers
 }
 
-/// Says what an entry was told that was sent once more, where it has acted after all, and tells whether another may be sent.
+/// Says what an entry was told that was sent once more, where it has acted after all, and tells whether another may
+/// be sent.
 fn say_settled<K: Clock, V: Server, L: Shelf>(
     desk: &Desk<'_, K, V, L>,
     number: u32,
@@ -88,7 +89,8 @@ fn settle_one<S: Alter, K: Clock, V: Server, L: Shelf>(
     requires { conn.old.in_transaction ≡ false }
     ensures ended { conn.new.in_transaction ≡ false }
     ensures clean { HasCleanDisk (state S.Store conn.new) → HasCleanDisk (state S.Store conn.old) }
-    ensures same { HasCleanDisk (state S.Store conn.new) → IsBookKept result → EntersNothing (state S.Store conn.old) (state S.Store conn.new) }
+    ensures same { HasCleanDisk (state S.Store conn.new) → IsBookKept result
+        → EntersNothing (state S.Store conn.old) (state S.Store conn.new) }
 {
     let Ok((mut reader, mut writer)) = desk.server.connect() else {
         return Ok(false);
@@ -97,7 +99,8 @@ fn settle_one<S: Alter, K: Clock, V: Server, L: Shelf>(
     say_settled(desk, number, settled, said)
 }
 
-/// Makes sure of some refused entries, where a later one was accepted: each of these has acted by now, or never will. What can't be asked now is asked another time.
+/// Makes sure of some refused entries, where a later one was accepted: each of these has acted by now, or never will.
+/// What can't be asked now is asked another time.
 fn settle_refused<S: Alter, K: Clock, V: Server, L: Shelf>(
     desk: &Desk<'_, K, V, L>,
     conn: &mut Connection<S>,
@@ -107,7 +110,8 @@ fn settle_refused<S: Alter, K: Clock, V: Server, L: Shelf>(
     requires { conn.old.in_transaction ≡ false }
     ensures ended { conn.new.in_transaction ≡ false }
     ensures clean { HasCleanDisk (state S.Store conn.new) → HasCleanDisk (state S.Store conn.old) }
-    ensures same { HasCleanDisk (state S.Store conn.new) → IsBookKept result → EntersNothing (state S.Store conn.old) (state S.Store conn.new) }
+    ensures same { HasCleanDisk (state S.Store conn.new) → IsBookKept result
+        → EntersNothing (state S.Store conn.old) (state S.Store conn.new) }
 {
     'numbers: for number in open_entries(book) {
         if number == 0 {
@@ -122,9 +126,10 @@ fn settle_refused<S: Alter, K: Clock, V: Server, L: Shelf>(
     Ok(())
 }
 
-/// Makes sure of some refused entries of a branch's book, where a later one was accepted, and says behind what is said which of them have acted all the same. Nothing
-/// is entered or recorded but what they were told, unless the book failed. Head office's commands have no moment, so one that was refused could still be done: it
-/// isn't sent again.
+/// Makes sure of some refused entries of a branch's book, where a later one was accepted, and says behind what is
+/// said which of them have acted all the same. Nothing is entered or recorded but what they were told, unless the
+/// book failed. Head office's commands have no moment, so one that was refused could still be done: it isn't sent
+/// again.
 pub fn make_sure<S: Alter, K: Clock, V: Server, L: Shelf>(
     desk: &Desk<'_, K, V, L>,
     conn: &mut Connection<S>,
@@ -132,8 +137,10 @@ pub fn make_sure<S: Alter, K: Clock, V: Server, L: Shelf>(
 ) -> Result<(), TillFault>
     requires { conn.old.in_transaction ≡ false }
     ensures ended { conn.new.in_transaction ≡ false }
-    ensures same { HasCleanDisk (state S.Store conn.new) → IsBookKept result → EntersNothing (state S.Store conn.old) (state S.Store conn.new) }
-    ensures keeps { HasCleanDisk (state S.Store conn.new) → IsBookKept result → (mark : Text) → KeepsATillsBook mark (state S.Store conn.old) (state S.Store conn.new) }
+    ensures same { HasCleanDisk (state S.Store conn.new) → IsBookKept result
+        → EntersNothing (state S.Store conn.old) (state S.Store conn.new) }
+    ensures keeps { HasCleanDisk (state S.Store conn.new) → IsBookKept result → (mark : Text)
+        → KeepsATillsBook mark (state S.Store conn.old) (state S.Store conn.new) }
 {
     if desk.settings.staff.is_none() {
         return Ok(());

@@ -8,7 +8,8 @@ use till_desk::Server;
 /// For how many seconds a connection is waited for, at each address of a name.
 const CONNECTS: u64 = 10;
 
-/// For how many seconds a reply is waited for: longer than the server waits for a peer, so that what the till has given up the server has too.
+/// For how many seconds a reply is waited for: longer than the server waits for a peer, so that what the till has
+/// given up the server has too.
 const PATIENCE: u64 = 40;
 
 /// A server at an address, `HOST:PORT`.

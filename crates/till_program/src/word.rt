@@ -150,7 +150,9 @@ fn give_and_tell<S: Alter, K: Clock, V: Server, L: Shelf, W: Watch>(
     requires { conn.old.in_transaction ≡ false }
     ensures ended { conn.new.in_transaction ≡ false }
     ensures clean { HasCleanDisk (state S.Store conn.new) → HasCleanDisk (state S.Store conn.old) }
-    ensures keeps { HasCleanDisk (state S.Store conn.new) → IsBookKept result → GoesOn desk.now.settings.now.mark book.old.place (state S.Store conn.old) book.new.place (state S.Store conn.new) }
+    ensures keeps { HasCleanDisk (state S.Store conn.new) → IsBookKept result
+        → GoesOn desk.now.settings.now.mark book.old.place (state S.Store conn.old) book.new.place
+        (state S.Store conn.new) }
 {
     let it = match give(desk, conn, book, act, watch) {
         Ok(it) => it,
@@ -171,8 +173,10 @@ fn carry_out<S: Alter, K: Clock, V: Server, L: Shelf, W: Watch>(
     requires { conn.old.in_transaction ≡ false }
     ensures ended { conn.new.in_transaction ≡ false }
     ensures clean { HasCleanDisk (state S.Store conn.new) → HasCleanDisk (state S.Store conn.old) }
-    ensures keeps { HasCleanDisk (state S.Store conn.new) → IsBookKept result → IsSome desk.now.settings.now.staff → IsPlannedFor desk.now.settings.now.staff plan
-        → GoesOn desk.now.settings.now.mark book.old.place (state S.Store conn.old) book.new.place (state S.Store conn.new) }
+    ensures keeps { HasCleanDisk (state S.Store conn.new) → IsBookKept result → IsSome desk.now.settings.now.staff
+        → IsPlannedFor desk.now.settings.now.staff plan
+        → GoesOn desk.now.settings.now.mark book.old.place (state S.Store conn.old) book.new.place
+        (state S.Store conn.new) }
 {
     match plan {
         Plan::Say(said) => Ok(said),
@@ -182,8 +186,9 @@ fn carry_out<S: Alter, K: Clock, V: Server, L: Shelf, W: Watch>(
     }
 }
 
-/// Does what a word asks for at an open book, and says what it came to. A word that makes a book, a prompt, or a stock file that is still to be read is none of
-/// these, and is answered as a usage. A branch's book goes on as one, unless it failed: what stood in it stays.
+/// Does what a word asks for at an open book, and says what it came to. A word that makes a book, a prompt, or a
+/// stock file that is still to be read is none of these, and is answered as a usage. A branch's book goes on as one,
+/// unless it failed: what stood in it stays.
 pub fn do_word<S: Alter, K: Clock, V: Server, L: Shelf, W: Watch>(
     desk: &Desk<'_, K, V, L>,
     conn: &mut Connection<S>,

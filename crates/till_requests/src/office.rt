@@ -114,7 +114,8 @@ fn asked_in(
     bytes: &[u8],
     body: &[u8],
 ) -> Result<Request, NotSaid>
-    ensures { IfOk result (λ request. (words : List Text) → texts_of body.now ≡ Some words → AsksOffice bytes.now token.now words (seen_request request)) }
+    ensures { IfOk result (λ request. (words : List Text) → texts_of body.now ≡ Some words
+        → AsksOffice bytes.now token.now words (seen_request request)) }
 {
     let Some(message) = sole_message(token.as_bytes().as_slice(), bytes) else {
         return Err(NotSaid::Other);
@@ -220,7 +221,8 @@ pub fn office_request(
     number: u32,
     words: &[String],
 ) -> Result<OfficeSealed, NotSaid>
-    ensures says { IfOk result (λ sealed. SaysOffice sealed.bytes.items token.now (with_key (key_of mark.now number) (map string_bytes words.now)) (seen_office sealed.command)) }
+    ensures says { IfOk result (λ sealed. SaysOffice sealed.bytes.items token.now
+        (with_key (key_of mark.now number) (map string_bytes words.now)) (seen_office sealed.command)) }
     ensures key { IfOk result (λ sealed. sealed.command.key ≡ key_of mark.now number) }
 {
     let key = key_text(alloc, mark, number)?;
@@ -241,7 +243,8 @@ pub fn office_look_request(
     token: &Token,
     words: &[String],
 ) -> Result<OfficeLookSealed, NotSaid>
-    ensures { IfOk result (λ sealed. SaysOfficeLook sealed.bytes.items token.now (map string_bytes words.now) (seen_office_ask sealed.ask)) }
+    ensures { IfOk result (λ sealed. SaysOfficeLook sealed.bytes.items token.now (map string_bytes words.now)
+        (seen_office_ask sealed.ask)) }
 {
     let posted = words_posted(alloc, token, words)?;
     let ask = look_said(alloc, routes, token, &posted)?;

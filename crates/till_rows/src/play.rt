@@ -13,7 +13,8 @@ use till_client::{ReplyReading, read_reply};
 /// The first word of a line by which the till says that a refused entry was done.
 const SURE: &str = "Entry ";
 
-/// What is told, or wanted: of one word or request, and of the whole day what was made sure of, which may be told behind a later word.
+/// What is told, or wanted: of one word or request, and of the whole day what was made sure of, which may be told
+/// behind a later word.
 #[derive(Drop)]
 struct Texts {
     text: String,
@@ -216,7 +217,8 @@ impl<'x, D: InMemory, C: Counter> Play<'x, D, C> {
         }
     }
 
-    /// Plays the next line: `till> WORDS` or `till STATUS> WORDS`, `STATUS> WHO METHOD PATH BODY`, `at MOMENT`, `: WHAT`, or one more line of what is to be told.
+    /// Plays the next line: `till> WORDS` or `till STATUS> WORDS`, `STATUS> WHO METHOD PATH BODY`, `at MOMENT`,
+    /// `: WHAT`, or one more line of what is to be told.
     pub fn plays(&mut self, line: &str) -> Result<(), Fault> {
         self.line = self.line.saturating_add(1);
         if line.is_empty() || line.starts_with("#") {

@@ -249,8 +249,8 @@ impl<'x, D: InMemory, C: Counter> Till<'x, D, C> {
         }
     }
 
-    /// Types words. Where the book's disk fails, the book is opened anew: has it nothing of the word, that is typed again, and else `send` is, by which
-    /// what the word came to isn't heard.
+    /// Types words. Where the book's disk fails, the book is opened anew: has it nothing of the word, that is typed
+    /// again, and else `send` is, by which what the word came to isn't heard.
     pub fn types(&mut self, words: &str) -> Result<Heard, Fault> {
         let heard = self.tries(words)?;
         if let Heard::Said(_) = &heard {

@@ -39,7 +39,8 @@ fn is_found(value: &Value, parts: &[Part], part: &str) -> bool {
     part.is_empty()
 }
 
-/// The table of the objects that the body lists, in its order, with those parts, and of those objects alone in which the part is found.
+/// The table of the objects that the body lists, in its order, with those parts, and of those objects alone in which
+/// the part is found.
 fn table_of(alloc: Global, body: &[u8], parts: &[Part], part: &str) -> Result<Table, NotShown> {
     let value = value_of(alloc, body)?;
     let Some(rows) = rows_of(&value) else {
@@ -84,8 +85,8 @@ const fn searched(name: &'static str, heading: &'static str) -> Part {
     }
 }
 
-/// The customers of the body of `GET /views/customer_list` in whose name or telephone number the part stands, in any case of ASCII letters, in the order of the
-/// list. An empty part stands in each.
+/// The customers of the body of `GET /views/customer_list` in whose name or telephone number the part stands, in any
+/// case of ASCII letters, in the order of the list. An empty part stands in each.
 pub fn customers_with(alloc: Global, body: &[u8], part: &str) -> Result<Table, NotShown> {
     let parts = [
         number("id", "customer"),
@@ -98,8 +99,8 @@ pub fn customers_with(alloc: Global, body: &[u8], part: &str) -> Result<Table, N
     table_of(alloc, body, parts.as_slice(), part)
 }
 
-/// The films of the body of `GET /views/film_list` in whose title the part stands, in any case of ASCII letters, in the order of the list. An empty part stands
-/// in each.
+/// The films of the body of `GET /views/film_list` in whose title the part stands, in any case of ASCII letters, in
+/// the order of the list. An empty part stands in each.
 pub fn films_with(alloc: Global, body: &[u8], part: &str) -> Result<Table, NotShown> {
     let parts = [
         number("film", "film"),

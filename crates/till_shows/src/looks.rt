@@ -83,8 +83,8 @@ pub fn film_not_in_stock_line(
     Ok(format!(in alloc; "out of film {film}: copies {numbers}")?)
 }
 
-/// The body of `GET /balance/{customer}/{at}`, of a customer of that name: `MARY SMITH owes $2.00`, `the branch owes MARY SMITH $1.00`, or
-/// `MARY SMITH owes nothing`.
+/// The body of `GET /balance/{customer}/{at}`, of a customer of that name: `MARY SMITH owes $2.00`,
+/// `the branch owes MARY SMITH $1.00`, or `MARY SMITH owes nothing`.
 pub fn balance_line(alloc: Global, name: &str, body: &[u8]) -> Result<String, NotShown> {
     let value = value_of(alloc, body)?;
     let Some(cents) = cents_at(&value, "balance") else {

@@ -80,7 +80,8 @@ fn counted(alloc: Global, count: u64, word: &str) -> Result<String, AllocError>
     format!(in alloc; "{count} {word}{plural}")
 }
 
-/// So many seconds in words, in the largest unit of which they have one at least, the rest left out: `3 seconds`, `12 minutes`, `2 hours`, `5 days`.
+/// So many seconds in words, in the largest unit of which they have one at least, the rest left out: `3 seconds`,
+/// `12 minutes`, `2 hours`, `5 days`.
 pub fn age_words(alloc: Global, seconds: u64) -> Result<String, AllocError>
     ensures { IfOk result (λ s. string_bytes s ≡ age_text seconds) }
 {

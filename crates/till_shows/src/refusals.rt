@@ -101,7 +101,8 @@ fn advice(refusal: Refusal) -> &'static str
     }
 }
 
-/// What a refusal says, and what somebody at the counter does about it. A stock file's line is told by `told_refusal` alone.
+/// What a refusal says, and what somebody at the counter does about it. A stock file's line is told by `told_refusal`
+/// alone.
 pub fn sentences_on(refusal: Refusal) -> Sentences
     ensures fact { result.fact.now ≡ fact_text refusal }
     ensures advice { result.advice.now ≡ advice_text refusal }

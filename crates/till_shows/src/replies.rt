@@ -40,8 +40,9 @@ fn copies(alloc: Global, value: &Value, copies: &Value) -> Result<String, NotSho
     Ok(format!(in alloc; "{count} copies, the first of them {first}")?)
 }
 
-/// What the reply to an accepted command says, by its body: `customer 17`, `customer 17 may rent`, `customer 17 may not rent`, `rental 12`,
-/// `rental 12 returned`, `payment 9`, `copy 4 scrapped`, `consignment 1 to branch 2`, `copies 3, 4`, `no copies`, `4 copies, the first of them 1`.
+/// What the reply to an accepted command says, by its body: `customer 17`, `customer 17 may rent`,
+/// `customer 17 may not rent`, `rental 12`, `rental 12 returned`, `payment 9`, `copy 4 scrapped`,
+/// `consignment 1 to branch 2`, `copies 3, 4`, `no copies`, `4 copies, the first of them 1`.
 pub fn reply_line(alloc: Global, body: &[u8]) -> Result<String, NotShown> {
     let value = value_of(alloc, body)?;
     if let (Some(active), Some(customer)) = (

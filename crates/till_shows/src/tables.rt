@@ -118,7 +118,8 @@ impl Line {
 
     /// Nothing but blanks.
     fn add_nothing(&mut self, width: usize) -> Result<(), AllocError>
-        ensures { OnOk result (self.new ≡ record { text = self.old.text; gap = self.old.gap ++ (blanks width ++ between) }) }
+        ensures { OnOk result (self.new
+            ≡ record { text = self.old.text; gap = self.old.gap ++ (blanks width ++ between) }) }
     {
         push_blanks(&mut self.gap, width)?;
         self.gap.push_str("  ")
@@ -126,7 +127,12 @@ impl Line {
 
     /// A text with so many blanks before it and behind it.
     fn add_text(&mut self, before: usize, text: &str, behind: usize) -> Result<(), AllocError>
-        ensures { OnOk result (self.new ≡ record { text = self.old.text ++ (self.old.gap ++ (blanks before ++ text.now)); gap = blanks behind ++ between }) }
+        ensures { OnOk result (self.new
+            ≡ record {
+              text = self.old.text ++ (self.old.gap ++ (blanks before ++ text.now));
+              gap = blanks behind
+                  ++ between;
+            }) }
     {
         self.text.push_str(self.gap.as_str())?;
         self.gap.clear();
@@ -227,7 +233,8 @@ fn headings_of(alloc: Global, columns: &[Column]) -> Result<Row, AllocError>
 impl Table {
     /// The table of these columns, with its headings alone.
     pub fn new(alloc: Global, columns: &[Column]) -> Result<Table, AllocError>
-        ensures { IfOk result (λ table. table ≡ record { sides = seen_sides columns.now; rows = seen_headings columns.now ∷ [] }) }
+        ensures { IfOk result (λ table. table
+            ≡ record { sides = seen_sides columns.now; rows = seen_headings columns.now ∷ [] }) }
     {
         let sides = sides_of(alloc, columns)?;
         let headings = headings_of(alloc, columns)?;
@@ -255,8 +262,9 @@ impl Table {
         self.len() == 0
     }
 
-    /// The table's lines, each ended by a line feed, that of the headings first: columns as wide as their widest text, by the columns that it takes in a
-    /// terminal, with two blanks between them, and no blank behind a line's last text.
+    /// The table's lines, each ended by a line feed, that of the headings first: columns as wide as their widest
+    /// text, by the columns that it takes in a terminal, with two blanks between them, and no blank behind a line's
+    /// last text.
     pub fn text(&self, alloc: Global) -> Result<String, AllocError>
         ensures { IfOk result (λ s. string_bytes s ≡ table_text self.now) }
     {

@@ -144,7 +144,8 @@ fn receive(alloc: Global, given: &ArgMatches<'_>) -> Result<Act, Usage>
 }
 
 fn scrap(given: &ArgMatches<'_>) -> Option<TillAct>
-    ensures { result ≡ option_map (λ copy. TillAct.Do (Act.Scrap copy)) (row_given (codes "copy") (values_of given.now)) }
+    ensures { result
+        ≡ option_map (λ copy. TillAct.Do (Act.Scrap copy)) (row_given (codes "copy") (values_of given.now)) }
 {
     Some(TillAct::Do(Act::Scrap(given::row(given, "copy")?)))
 }
@@ -305,7 +306,8 @@ pub(crate) fn act(
     name: &str,
     given: &ArgMatches<'_>,
 ) -> Result<TillAct, Usage>
-    ensures { Reads result (spec.act_of (places.office_words (map string_bytes words.now)) name.now (values_of given.now)) }
+    ensures { Reads result (spec.act_of (places.office_words (map string_bytes words.now)) name.now
+        (values_of given.now)) }
 {
     match name {
         "waiting" => Ok(TillAct::Waiting),

@@ -47,7 +47,8 @@ fn entered(alloc: Global, words: &[String], found: &ArgMatches<'_>) -> Result<Ti
 
 /// The line of words that clap takes.
 fn line(alloc: Global, words: &[String], found: &ArgMatches<'_>) -> Result<TillLine, Usage>
-    ensures { Reads result (line_from (office_words (map string_bytes words.now)) (values_of found.now) (subcommand_rows_of found.now)) }
+    ensures { Reads result (line_from (office_words (map string_bytes words.now)) (values_of found.now)
+        (subcommand_rows_of found.now)) }
 {
     let staff = given::of_kind(alloc, given::optional_row(found, "staff"), given::NUMBER)?;
     let book = given::optional_text(alloc, found, "book")?;
@@ -70,8 +71,8 @@ fn read_named(alloc: Global, words: &[String], named: &[&str]) -> Result<TillLin
     }
 }
 
-/// The line that the words are, without the program's name. Where they are none it is `Usage::Words`, with the text that tells how they are to be given, and
-/// where memory is wanting `Usage::Memory`.
+/// The line that the words are, without the program's name. Where they are none it is `Usage::Words`, with the text
+/// that tells how they are to be given, and where memory is wanting `Usage::Memory`.
 pub fn read_till_words(alloc: Global, words: &[String]) -> Result<TillLine, Usage>
     ensures ok { IfOk result (λ line. till_line_of (map string_bytes words.now) ≡ Some line) }
     ensures refused { IfErr result (λ e. ¬ (e ≡ usage.Memory) → till_line_of (map string_bytes words.now) ≡ None) }

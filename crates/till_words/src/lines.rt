@@ -103,8 +103,8 @@ fn left_open(alloc: Global) -> Usage {
     }
 }
 
-/// The words of a line that was typed. Blanks part them, which are spaces, tabs and ends of lines; between two double quotes a blank is part of a word, and the
-/// quotes aren't. A quote that is left open is `Usage::Words`.
+/// The words of a line that was typed. Blanks part them, which are spaces, tabs and ends of lines; between two double
+/// quotes a blank is part of a word, and the quotes aren't. A quote that is left open is `Usage::Words`.
 pub fn split_line(alloc: Global, line: &str) -> Result<Vec<String>, Usage>
     ensures ok { IfOk result (λ words. spec.words_of line.now ≡ Some (map string_bytes words.items)) }
     ensures refused { IfErr result (λ e. ¬ (e ≡ usage.Memory) → spec.words_of line.now ≡ None) }

@@ -72,7 +72,8 @@ fn free_places(
     words: &[String],
     names: &'static [&'static str],
 ) -> Result<Vec<&'static str>, AllocError>
-    ensures { IfOk result (λ free. map (λ s. s.now) free.items ≡ spec.free_places (map string_bytes words.now) (map (λ s. s.now) names.entry.now)) }
+    ensures { IfOk result (λ free. map (λ s. s.now) free.items
+        ≡ spec.free_places (map string_bytes words.now) (map (λ s. s.now) names.entry.now)) }
 {
     let mut free = Vec::new(alloc);
     for name in names {
@@ -87,7 +88,8 @@ fn free_places(
 
 /// Adds the words as they are.
 fn push_words<'a>(named: &mut Vec<&'a str>, words: &'a [String]) -> Result<(), AllocError>
-    ensures { OnOk result (map (λ s. s.now) named.new.items ≡ map (λ s. s.now) named.old.items ++ map string_bytes words.entry.now) }
+    ensures { OnOk result (map (λ s. s.now) named.new.items
+        ≡ map (λ s. s.now) named.old.items ++ map string_bytes words.entry.now) }
 {
     for word in words {
         named.push(word.as_str())?;
@@ -101,7 +103,8 @@ fn push_placed<'a>(
     names: &[&'static str],
     word: &'a str,
 ) -> Result<(), AllocError>
-    ensures { OnOk result (map (λ s. s.now) named.new.items ≡ map (λ s. s.now) named.old.items ++ spec.placed (map (λ s. s.now) names.now) word.entry.now) }
+    ensures { OnOk result (map (λ s. s.now) named.new.items
+        ≡ map (λ s. s.now) named.old.items ++ spec.placed (map (λ s. s.now) names.now) word.entry.now) }
 {
     if let [name, ..] = names {
         named.push(*name)?;
@@ -126,7 +129,9 @@ fn push_named<'a>(
     names: &[&'static str],
     words: &'a [String],
 ) -> Result<(), AllocError>
-    ensures { OnOk result (map (λ s. s.now) named.new.items ≡ map (λ s. s.now) named.old.items ++ spec.named_from false (map (λ s. s.now) names.now) (map string_bytes words.entry.now)) }
+    ensures { OnOk result (map (λ s. s.now) named.new.items
+        ≡ map (λ s. s.now) named.old.items ++ spec.named_from false (map (λ s. s.now) names.now)
+        (map string_bytes words.entry.now)) }
 {
     let mut awaits = false;
     let mut left = names;
@@ -149,7 +154,8 @@ fn push_behind<'a>(
     named: &mut Vec<&'a str>,
     words: &'a [String],
 ) -> Result<(), AllocError>
-    ensures { OnOk result (map (λ s. s.now) named.new.items ≡ map (λ s. s.now) named.old.items ++ spec.named_behind (map string_bytes words.entry.now)) }
+    ensures { OnOk result (map (λ s. s.now) named.new.items
+        ≡ map (λ s. s.now) named.old.items ++ spec.named_behind (map string_bytes words.entry.now)) }
 {
     let [word, values @ ..] = words else {
         return Ok(());
@@ -167,7 +173,8 @@ pub(crate) fn named_words<'a>(
     alloc: Global,
     words: &'a [String],
 ) -> Result<Vec<&'a str>, AllocError>
-    ensures { IfOk result (λ named. map (λ s. s.now) named.items ≡ spec.named_words (map string_bytes words.entry.now)) }
+    ensures { IfOk result (λ named. map (λ s. s.now) named.items
+        ≡ spec.named_words (map string_bytes words.entry.now)) }
 {
     let (options, rest) = words.split_at(word_place(words));
     let mut named = Vec::new(alloc);

@@ -37,11 +37,14 @@ pub fn deliver<S: Alter, R: Read, W: Write>(
 ) -> Result<Option<Answer>, DeliverFault>
     requires { conn.old.in_transaction ≡ false }
     ensures ended { conn.new.in_transaction ≡ false }
-    ensures delivers { HasCleanDisk (state S.Store conn.new) → IfOk result (λ answer. Delivers next answer (state S.Store conn.old) (state S.Store conn.new)
+    ensures delivers { HasCleanDisk (state S.Store conn.new)
+        → IfOk result (λ answer. Delivers next answer (state S.Store conn.old) (state S.Store conn.new)
         (R.remaining reader.old) (R.remaining reader.new) (W.contents writer.old) (W.contents writer.new)) }
-    ensures fault { HasCleanDisk (state S.Store conn.new) → IfErr result (λ fault. FailsToDeliver next fault (state S.Store conn.old) (state S.Store conn.new)
+    ensures fault { HasCleanDisk (state S.Store conn.new)
+        → IfErr result (λ fault. FailsToDeliver next fault (state S.Store conn.old) (state S.Store conn.new)
         (W.contents writer.old) (W.contents writer.new)) }
-    ensures crash { Survives (state S.Store conn.old) (state S.Store conn.new) (MayLeave next (state S.Store conn.old)) }
+    ensures crash { Survives (state S.Store conn.old) (state S.Store conn.new)
+        (MayLeave next (state S.Store conn.old)) }
 {
     let request = match oldest(conn, next) {
         Ok(Some(request)) => request,

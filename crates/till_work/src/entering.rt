@@ -64,7 +64,8 @@ fn fit(
     number: u32,
     request: Vec<u8>,
 ) -> Result<Sealed, EnterFault>
-    ensures ok { IfOk result (λ sealed. (sealed.bytes ≡ request) × SaysCommand request.items token.now (seen_command sealed.command)
+    ensures ok { IfOk result (λ sealed. (sealed.bytes ≡ request)
+        × SaysCommand request.items token.now (seen_command sealed.command)
         × (sealed.command.key ≡ key_of mark.now number)) }
     ensures err { IfErr result (λ fault. IsUnfit mark.now token.now number fault request.items) }
 {
@@ -89,8 +90,10 @@ fn last_moment<S: Alter>(
 ) -> Result<Option<Moment>, EnterFault>
     requires { conn.old.in_transaction ≡ false }
     ensures ended { conn.new.in_transaction ≡ false }
-    ensures found { HasCleanDisk (state S.Store conn.new) → IfOk result (λ last. FindsLast number last (state S.Store conn.old) (state S.Store conn.new)) }
-    ensures fault { HasCleanDisk (state S.Store conn.new) → IfErr result (λ fault. FindsNoLast number fault (state S.Store conn.old) (state S.Store conn.new)) }
+    ensures found { HasCleanDisk (state S.Store conn.new)
+        → IfOk result (λ last. FindsLast number last (state S.Store conn.old) (state S.Store conn.new)) }
+    ensures fault { HasCleanDisk (state S.Store conn.new)
+        → IfErr result (λ fault. FindsNoLast number fault (state S.Store conn.old) (state S.Store conn.new)) }
     ensures crash { Survives (state S.Store conn.old) (state S.Store conn.new) (λ _. ⊥) }
 {
     if number <= 1 {
@@ -136,9 +139,14 @@ pub fn enter_command<S: Alter>(
 ) -> Result<Command, EnterFault>
     requires { conn.old.in_transaction ≡ false }
     ensures ended { conn.new.in_transaction ≡ false }
-    ensures entered { HasCleanDisk (state S.Store conn.new) → IfOk result (λ command. Enters mark.now token.now number (seen_command command) request.items (state S.Store conn.old) (state S.Store conn.new)) }
-    ensures fault { HasCleanDisk (state S.Store conn.new) → IfErr result (λ fault. FailsToEnter mark.now token.now number fault request.items (state S.Store conn.old) (state S.Store conn.new)) }
-    ensures crash { Survives (state S.Store conn.old) (state S.Store conn.new) (LeavesEntered number request.items (state S.Store conn.old)) }
+    ensures entered { HasCleanDisk (state S.Store conn.new)
+        → IfOk result (λ command. Enters mark.now token.now number (seen_command command) request.items
+        (state S.Store conn.old) (state S.Store conn.new)) }
+    ensures fault { HasCleanDisk (state S.Store conn.new)
+        → IfErr result (λ fault. FailsToEnter mark.now token.now number fault request.items (state S.Store conn.old)
+        (state S.Store conn.new)) }
+    ensures crash { Survives (state S.Store conn.old) (state S.Store conn.new)
+        (LeavesEntered number request.items (state S.Store conn.old)) }
 {
     let Sealed { bytes, command } = match fit(alloc, routes, mark, token, number, request) {
         Ok(sealed) => sealed,

@@ -59,7 +59,8 @@ fn reply_in(
     recorded: Option<&BookReply>,
 ) -> Result<Option<Told>, AllocError>
     ensures { IfOk result (λ told. option_map seen_told told
-        ≡ or_reply (option_map (λ reply. seen_reply reply.now) accepted.entry) (option_map (λ reply. seen_reply reply.now) recorded.entry)) }
+        ≡ or_reply (option_map (λ reply. seen_reply reply.now) accepted.entry)
+        (option_map (λ reply. seen_reply reply.now) recorded.entry)) }
 {
     match (accepted, recorded) {
         (Some(reply), _) | (None, Some(reply)) => Ok(Some(told_in(alloc, reply)?)),
@@ -77,9 +78,11 @@ fn entry_in(
 ) -> Result<Entry, ReadFault>
     ensures says { IfOk result (λ entry. Says row.now.request (seen_command entry.command)) }
     ensures reply { IfOk result (λ entry. option_map seen_told entry.reply
-        ≡ or_reply (option_map (λ reply. seen_reply reply.now) accepted.entry) (option_map (λ reply. seen_reply reply.now) recorded.entry)) }
+        ≡ or_reply (option_map (λ reply. seen_reply reply.now) accepted.entry)
+        (option_map (λ reply. seen_reply reply.now) recorded.entry)) }
     ensures book { IfErr result (λ fault. (inner : _) → fault ≢ ReadFault.Book inner) }
-    ensures other { IfErr result (λ fault. fault ≡ ReadFault.OtherBook → (command : _) → ¬ (Says row.now.request command)) }
+    ensures other { IfErr result (λ fault. fault ≡ ReadFault.OtherBook → (command : _)
+        → ¬ (Says row.now.request command)) }
 {
     let command = match command_of(alloc, routes, row.request.as_slice()) {
         Ok(command) => command,
@@ -123,8 +126,10 @@ pub fn rental_in_book<S: Alter>(
 ) -> Result<Option<RentalNo>, ReadFault>
     requires { conn.old.in_transaction ≡ false }
     ensures ended { conn.new.in_transaction ≡ false }
-    ensures found { HasCleanDisk (state S.Store conn.new) → IfOk result (λ it. FindsRental copy it (state S.Store conn.old) (state S.Store conn.new)) }
-    ensures fault { HasCleanDisk (state S.Store conn.new) → IfErr result (λ fault. FindsNoRental fault (state S.Store conn.old) (state S.Store conn.new)) }
+    ensures found { HasCleanDisk (state S.Store conn.new)
+        → IfOk result (λ it. FindsRental copy it (state S.Store conn.old) (state S.Store conn.new)) }
+    ensures fault { HasCleanDisk (state S.Store conn.new)
+        → IfErr result (λ fault. FindsNoRental fault (state S.Store conn.old) (state S.Store conn.new)) }
     ensures crash { Survives (state S.Store conn.old) (state S.Store conn.new) (λ _. ⊥) }
 {
     let rows = match read_book(alloc, conn) {

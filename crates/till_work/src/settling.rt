@@ -1,4 +1,5 @@
-//! A refused entry that may have been sent more than once is sent once more, and so made sure of; what that decides is recorded.
+//! A refused entry that may have been sent more than once is sent once more, and so made sure of; what that decides
+//! is recorded.
 
 ghost use Rattle.std.specs.Prelude.{◌≡◌, false, IfOk, IfErr};
 ghost use Rattle.sqlite.specs.Held.{state};
@@ -73,8 +74,11 @@ fn keep<S: Alter>(
     requires { conn.old.in_transaction ≡ false }
     ensures ended { conn.new.in_transaction ≡ false }
     ensures says { IfOk result (IsSettledBy (seen_answer answer)) }
-    ensures kept { HasCleanDisk (state S.Store conn.new) → IfOk result (λ settled. IsKept number (seen_answer answer) settled (state S.Store conn.old) (state S.Store conn.new)) }
-    ensures crash { Survives (state S.Store conn.old) (state S.Store conn.new) (MayNote number (state S.Store conn.old)) }
+    ensures kept { HasCleanDisk (state S.Store conn.new)
+        → IfOk result (λ settled. IsKept number (seen_answer answer) settled (state S.Store conn.old)
+        (state S.Store conn.new)) }
+    ensures crash { Survives (state S.Store conn.old) (state S.Store conn.new)
+        (MayNote number (state S.Store conn.old)) }
 {
     match settled_by(answer) {
         Settled::Acted(answer) => {
@@ -90,9 +94,9 @@ fn keep<S: Alter>(
     }
 }
 
-/// Sends the entry of that number once more, byte for byte, over a connection that is there for it alone, and tells what
-/// has become of it. What was decided, `Acted` or `Never`, is recorded, and told from the book from then on: then
-/// nothing is sent. A reply with status 503 is none.
+/// Sends the entry of that number once more, byte for byte, over a connection that is there for it alone, and tells
+/// what has become of it. What was decided, `Acted` or `Never`, is recorded, and told from the book from then on:
+/// then nothing is sent. A reply with status 503 is none.
 pub fn settle<S: Alter, R: Read, W: Write>(
     alloc: Global,
     conn: &mut Connection<S>,
@@ -102,11 +106,14 @@ pub fn settle<S: Alter, R: Read, W: Write>(
 ) -> Result<Settled, SettleFault>
     requires { conn.old.in_transaction ≡ false }
     ensures ended { conn.new.in_transaction ≡ false }
-    ensures settles { HasCleanDisk (state S.Store conn.new) → IfOk result (λ settled. Settles number settled (state S.Store conn.old) (state S.Store conn.new)
+    ensures settles { HasCleanDisk (state S.Store conn.new)
+        → IfOk result (λ settled. Settles number settled (state S.Store conn.old) (state S.Store conn.new)
         (R.remaining reader.old) (R.remaining reader.new) (W.contents writer.old) (W.contents writer.new)) }
-    ensures fault { HasCleanDisk (state S.Store conn.new) → IfErr result (λ fault. FailsToSettle number fault (state S.Store conn.old) (state S.Store conn.new)
+    ensures fault { HasCleanDisk (state S.Store conn.new)
+        → IfErr result (λ fault. FailsToSettle number fault (state S.Store conn.old) (state S.Store conn.new)
         (W.contents writer.old) (W.contents writer.new)) }
-    ensures crash { Survives (state S.Store conn.old) (state S.Store conn.new) (MayNote number (state S.Store conn.old)) }
+    ensures crash { Survives (state S.Store conn.old) (state S.Store conn.new)
+        (MayNote number (state S.Store conn.old)) }
 {
     match settlement_of(conn, number) {
         Ok(None) => {}

@@ -1,4 +1,5 @@
-//! The list of all actors, each with the films by category: neighbouring rows of one join belong to one actor, and in them to one category.
+//! The list of all actors, each with the films by category: neighbouring rows of one join belong to one actor, and in
+//! them to one category.
 
 ghost use Rattle.std.specs.Prelude.{◌≡◌, List, [], ◌∷◌, ◌++◌, Option, Some, None, IfOk, OnOk, map, option_map, string_bytes};
 ghost use Rattle.serde_json.specs.Data.{Data};
@@ -55,7 +56,8 @@ pub(crate) struct StartedActor {
 
 /// The film of the row, or none where it has none.
 fn film_at(row: &Row) -> Result<Option<CategoryFilm>, StoreFault>
-    ensures { IfOk result (λ film. (line : ActorLine) → row.now ≡ shown_actor line → option_map seen_told film ≡ option_map told_film line.1) }
+    ensures { IfOk result (λ film. (line : ActorLine) → row.now ≡ shown_actor line
+        → option_map seen_told film ≡ option_map told_film line.1) }
 {
     if number_or_null_at(row, 3)?.is_none() {
         return Ok(None);
@@ -69,7 +71,8 @@ fn film_at(row: &Row) -> Result<Option<CategoryFilm>, StoreFault>
 
 /// The actor of the row, without the row's film.
 fn actor_at(alloc: Global, row: &Row) -> Result<StartedActor, StoreFault>
-    ensures { IfOk result (λ it. (line : ActorLine) → row.now ≡ shown_actor line → seen_part it ≡ (actor_alone line.0, ([], None))) }
+    ensures { IfOk result (λ it. (line : ActorLine) → row.now ≡ shown_actor line
+        → seen_part it ≡ (actor_alone line.0, ([], None))) }
 {
     Ok(StartedActor {
         number: row_number_at(row, 0)?,
@@ -100,7 +103,8 @@ fn opened(alloc: Global, film: CategoryFilm) -> Result<OpenGroup, AllocError>
 
 /// The category with one film more.
 fn with_title(group: OpenGroup, title: T128) -> Result<OpenGroup, AllocError>
-    ensures { IfOk result (λ it. seen_open it ≡ (group.number, (group.films.category, group.films.titles.items ++ title ∷ []))) }
+    ensures { IfOk result (λ it. seen_open it
+        ≡ (group.number, (group.films.category, group.films.titles.items ++ title ∷ []))) }
 {
     let mut group = group;
     group.films.titles.push(title)?;
@@ -205,7 +209,8 @@ fn next_actor(
     page: &mut ListPage,
 ) -> Result<StartedActor, StoreFault>
     ensures { IfOk result (λ it. (line : ActorLine) (actors : List ModelActor) → row.now ≡ shown_actor line
-        → HasValues page.old (map actor_data actors) → HasValues page.new (map actor_data (take_line (actors, option_map seen_part actor) line).0)
+        → HasValues page.old (map actor_data actors)
+        → HasValues page.new (map actor_data (take_line (actors, option_map seen_part actor) line).0)
         × (Some (seen_part it) ≡ (take_line (actors, option_map seen_part actor) line).1)) }
 {
     let Some(actor) = actor else {
@@ -256,11 +261,12 @@ fn finish(taker: ActorPage) -> Result<String, AllocError>
     }
 }
 
-/// All actors, those without a film too, each with the films by category, as the text of a list. The database stays as it was, unless the store fails, which
-/// commits nothing.
+/// All actors, those without a film too, each with the films by category, as the text of a list. The database stays
+/// as it was, unless the store fails, which commits nothing.
 pub fn actor_info<S: Alter>(alloc: Global, conn: &mut Connection<S>) -> Result<String, StoreFault>
-    ensures text { HasCleanDisk (state S.Store conn.new) → IfOk result (λ s. (books : Books) → Holds (state S.Store conn.old) books → IsHeld books
-        → string_bytes s ≡ shown_text (ActorsListed (actor_info books.catalogue))) }
+    ensures text { HasCleanDisk (state S.Store conn.new)
+        → IfOk result (λ s. (books : Books) → Holds (state S.Store conn.old) books → IsHeld books → string_bytes s
+        ≡ shown_text (ActorsListed (actor_info books.catalogue))) }
     ensures same { StaysSame S.Store conn.old conn.new result }
 {
     let mut taker = ActorPage {

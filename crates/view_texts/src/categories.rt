@@ -69,8 +69,9 @@ fn categories<S: Alter>(
     alloc: Global,
     conn: &mut Connection<S>,
 ) -> Result<Vec<CategorySum>, StoreFault>
-    ensures sums { HasCleanDisk (state S.Store conn.new) → IfOk result (λ sums. (books : Books) → Holds (state S.Store conn.old) books
-        → map seen_sum sums.items ≡ summed books.catalogue.categories []) }
+    ensures sums { HasCleanDisk (state S.Store conn.new)
+        → IfOk result (λ sums. (books : Books) → Holds (state S.Store conn.old) books → map seen_sum sums.items
+        ≡ summed books.catalogue.categories []) }
     ensures same { StaysSame S.Store conn.old conn.new result }
 {
     let mut taker = CategoryNames {
@@ -87,7 +88,8 @@ fn categories<S: Alter>(
 
 /// Adds the amount to the sum of the category in this place.
 fn add_amount(sums: &mut Vec<CategorySum>, place: usize, amount: u64) -> Result<(), StoreFault>
-    ensures { OnOk result (map seen_sum sums.new.items ≡ set_at (place + 1) (with_amount amount) (map seen_sum sums.old.items)) }
+    ensures { OnOk result (map seen_sum sums.new.items
+        ≡ set_at (place + 1) (with_amount amount) (map seen_sum sums.old.items)) }
 {
     let Some(category) = sums.get_mut(place) else {
         return Err(StoreFault::Failed);
@@ -104,7 +106,8 @@ fn add_amount(sums: &mut Vec<CategorySum>, place: usize, amount: u64) -> Result<
 /// Adds the payment of the row, if its rental is there, to the sum of the category of the rental's film.
 fn add_sale(sums: &mut Vec<CategorySum>, row: &Row) -> Result<(), StoreFault>
     ensures { OnOk result ((names : List Text) (line : PaidLine) (sales : List Sale) → row.now ≡ shown_line line
-        → map seen_sum sums.old.items ≡ summed names sales → map seen_sum sums.new.items ≡ summed names (sales ++ sale_in line)) }
+        → map seen_sum sums.old.items ≡ summed names sales
+        → map seen_sum sums.new.items ≡ summed names (sales ++ sale_in line)) }
 {
     if number_or_null_at(row, 1)?.is_none() {
         return Ok(());
@@ -138,8 +141,10 @@ fn with_sales<S: Alter>(
     branch: BranchNo,
     sums: Vec<CategorySum>,
 ) -> Result<Vec<CategorySum>, StoreFault>
-    ensures sums { HasCleanDisk (state S.Store conn.new) → IfOk result (λ new. (books : Books) → Holds (state S.Store conn.old) books → IsHeld books
-        → (names : List Text) → map seen_sum sums.items ≡ summed names [] → map seen_sum new.items ≡ summed names (sales_of_branch branch books)) }
+    ensures sums { HasCleanDisk (state S.Store conn.new)
+        → IfOk result (λ new. (books : Books) → Holds (state S.Store conn.old) books → IsHeld books
+        → (names : List Text) → map seen_sum sums.items ≡ summed names [] → map seen_sum new.items ≡ summed names
+        (sales_of_branch branch books)) }
     ensures same { StaysSame S.Store conn.old conn.new result }
 {
     let mut taker = CategorySums { sums };
@@ -162,7 +167,8 @@ fn sells_more(a: &CategoryRow, b: &CategoryRow) -> bool
 /// The place of the row among rows in their order.
 fn place_among(rows: &[CategoryRow], row: &CategoryRow) -> usize
     ensures within { result ≤ length rows.now }
-    ensures place { map seen_category (insert rows.now result row.now) ≡ insert_by sells_more (seen_category row.now) (map seen_category rows.now) }
+    ensures place { map seen_category (insert rows.now result row.now)
+        ≡ insert_by sells_more (seen_category row.now) (map seen_category rows.now) }
 {
     for place in 0..rows.len() {
         if sells_more(row, &rows[place]) {
@@ -174,7 +180,8 @@ fn place_among(rows: &[CategoryRow], row: &CategoryRow) -> usize
 
 /// Puts the row into its place among rows in their order.
 fn put(rows: &mut Vec<CategoryRow>, row: CategoryRow) -> Result<(), AllocError>
-    ensures { OnOk result (map seen_category rows.new.items ≡ insert_by sells_more (seen_category row) (map seen_category rows.old.items)) }
+    ensures { OnOk result (map seen_category rows.new.items
+        ≡ insert_by sells_more (seen_category row) (map seen_category rows.old.items)) }
 {
     let place = place_among(rows.as_slice(), &row);
     rows.insert(place, row)?;
@@ -183,7 +190,8 @@ fn put(rows: &mut Vec<CategoryRow>, row: CategoryRow) -> Result<(), AllocError>
 
 /// The categories that have a sum, in their order.
 fn in_order(alloc: Global, mut sums: Vec<CategorySum>) -> Result<Vec<CategoryRow>, AllocError>
-    ensures { IfOk result (λ rows. map seen_category rows.items ≡ sorted_by sells_more (sold (map seen_sum sums.items))) }
+    ensures { IfOk result (λ rows. map seen_category rows.items
+        ≡ sorted_by sells_more (sold (map seen_sum sums.items))) }
 {
     let mut rows = Vec::new(alloc);
     'sums: while let Some(category) = sums.pop() {
@@ -203,7 +211,8 @@ fn in_order(alloc: Global, mut sums: Vec<CategorySum>) -> Result<Vec<CategoryRow
 
 /// Puts the category last.
 fn add_category(alloc: Global, row: &CategoryRow, page: &mut ListPage) -> Result<(), AllocError>
-    ensures { OnOk result ((values : List Data) → HasValues page.old values → HasValues page.new (values ++ category_data (seen_category row.now) ∷ [])) }
+    ensures { OnOk result ((values : List Data) → HasValues page.old values
+        → HasValues page.new (values ++ category_data (seen_category row.now) ∷ [])) }
 {
     let value = category_row(alloc, row)?;
     page.add(&value)
@@ -222,21 +231,24 @@ fn list_text(alloc: Global, rows: &[CategoryRow]) -> Result<String, AllocError>
 
 /// The text of the list of the categories that have a sum, in their order.
 fn sums_text(alloc: Global, sums: Vec<CategorySum>) -> Result<String, AllocError>
-    ensures { IfOk result (λ s. string_bytes s ≡ shown_text (CategoriesListed (sorted_by sells_more (sold (map seen_sum sums.items))))) }
+    ensures { IfOk result (λ s. string_bytes s
+        ≡ shown_text (CategoriesListed (sorted_by sells_more (sold (map seen_sum sums.items))))) }
 {
     let rows = in_order(alloc, sums)?;
     list_text(alloc, rows.as_slice())
 }
 
-/// What the branch has taken for rentals of each category's films, as the text of a list: the greatest total first, and then by the byte order of the
-/// names. A category without a payment for a rental isn't on it. The database stays as it was, unless the store fails, which commits nothing.
+/// What the branch has taken for rentals of each category's films, as the text of a list: the greatest total first,
+/// and then by the byte order of the names. A category without a payment for a rental isn't on it. The database stays
+/// as it was, unless the store fails, which commits nothing.
 pub fn sales_by_film_category<S: Alter>(
     alloc: Global,
     conn: &mut Connection<S>,
     branch: BranchNo,
 ) -> Result<String, StoreFault>
-    ensures text { HasCleanDisk (state S.Store conn.new) → IfOk result (λ s. (books : Books) → Holds (state S.Store conn.old) books → IsHeld books
-        → string_bytes s ≡ shown_text (CategoriesListed (sales_by_category books.catalogue (shop_of branch books)))) }
+    ensures text { HasCleanDisk (state S.Store conn.new)
+        → IfOk result (λ s. (books : Books) → Holds (state S.Store conn.old) books → IsHeld books → string_bytes s
+        ≡ shown_text (CategoriesListed (sales_by_category books.catalogue (shop_of branch books)))) }
     ensures same { StaysSame S.Store conn.old conn.new result }
 {
     let sums = categories(alloc, conn)?;

@@ -42,7 +42,8 @@ fn read_customer(alloc: Global, row: &Row, branch: BranchNo) -> Result<CustomerR
 
 /// Puts the customer last.
 fn add_customer(alloc: Global, row: &CustomerRow, page: &mut ListPage) -> Result<(), StoreFault>
-    ensures { OnOk result ((values : List Data) → HasValues page.old values → HasValues page.new (values ++ customer_data (seen_customer row.now) ∷ [])) }
+    ensures { OnOk result ((values : List Data) → HasValues page.old values
+        → HasValues page.new (values ++ customer_data (seen_customer row.now) ∷ [])) }
 {
     let value = customer_row(alloc, row)?;
     Ok(page.add(&value)?)
@@ -65,14 +66,16 @@ impl TakesRows for CustomerPage {
     }
 }
 
-/// The customers of the branch, as the text of a list. The database stays as it was, unless the store fails, which commits nothing.
+/// The customers of the branch, as the text of a list. The database stays as it was, unless the store fails, which
+/// commits nothing.
 pub fn customer_list<S: Alter>(
     alloc: Global,
     conn: &mut Connection<S>,
     branch: BranchNo,
 ) -> Result<String, StoreFault>
-    ensures text { HasCleanDisk (state S.Store conn.new) → IfOk result (λ s. (books : Books) → Holds (state S.Store conn.old) books → IsHeld books
-        → string_bytes s ≡ shown_text (CustomersListed (customer_list branch books.catalogue (shop_of branch books)))) }
+    ensures text { HasCleanDisk (state S.Store conn.new)
+        → IfOk result (λ s. (books : Books) → Holds (state S.Store conn.old) books → IsHeld books → string_bytes s
+        ≡ shown_text (CustomersListed (customer_list branch books.catalogue (shop_of branch books)))) }
     ensures same { StaysSame S.Store conn.old conn.new result }
 {
     let mut taker = CustomerPage {

@@ -102,7 +102,8 @@ fn with_actor(film: FilmRow, row: &Row) -> Result<FilmRow, StoreFault>
 
 /// Puts the film last.
 fn add_film(alloc: Global, film: FilmRow, page: &mut ListPage) -> Result<(), AllocError>
-    ensures { OnOk result ((values : List Data) → HasValues page.old values → HasValues page.new (values ++ film_data (seen_film film) ∷ [])) }
+    ensures { OnOk result ((values : List Data) → HasValues page.old values
+        → HasValues page.new (values ++ film_data (seen_film film) ∷ [])) }
 {
     let value = film_row(alloc, &film)?;
     page.add(&value)
@@ -115,8 +116,8 @@ fn next_film(
     row: &Row,
     page: &mut ListPage,
 ) -> Result<FilmRow, StoreFault>
-    ensures { IfOk result (λ it. (catalogue : Catalogue) (line : FilmLine) (films : List ModelFilm) → row.now ≡ shown_film catalogue line
-        → HasValues page.old (map film_data films)
+    ensures { IfOk result (λ it. (catalogue : Catalogue) (line : FilmLine) (films : List ModelFilm)
+        → row.now ≡ shown_film catalogue line → HasValues page.old (map film_data films)
         → HasValues page.new (map film_data (take_line catalogue (films, option_map seen_part film) line).0)
         × (Some (seen_part it) ≡ (take_line catalogue (films, option_map seen_part film) line).1)) }
 {
@@ -168,10 +169,12 @@ fn finish(taker: FilmPage) -> Result<String, AllocError>
     }
 }
 
-/// All films, withdrawn ones and those without actors too, as the text of a list. The database stays as it was, unless the store fails, which commits nothing.
+/// All films, withdrawn ones and those without actors too, as the text of a list. The database stays as it was,
+/// unless the store fails, which commits nothing.
 pub fn film_list<S: Alter>(alloc: Global, conn: &mut Connection<S>) -> Result<String, StoreFault>
-    ensures text { HasCleanDisk (state S.Store conn.new) → IfOk result (λ s. (books : Books) → Holds (state S.Store conn.old) books → IsHeld books
-        → string_bytes s ≡ shown_text (FilmsListed (film_list books.catalogue))) }
+    ensures text { HasCleanDisk (state S.Store conn.new)
+        → IfOk result (λ s. (books : Books) → Holds (state S.Store conn.old) books → IsHeld books → string_bytes s
+        ≡ shown_text (FilmsListed (film_list books.catalogue))) }
     ensures same { StaysSame S.Store conn.old conn.new result }
 {
     let mut taker = FilmPage {

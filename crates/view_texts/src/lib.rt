@@ -1,5 +1,5 @@
-//! The six views, head office's sales and a branch's overdue rentals, each the text of a list, and any view by its name: its statement, what takes its rows one
-//! at a time, and what its join shows of the books.
+//! The six views, head office's sales and a branch's overdue rentals, each the text of a list, and any view by its
+//! name: its statement, what takes its rows one at a time, and what its join shows of the books.
 #![tactic(auto)]
 
 mod actors;

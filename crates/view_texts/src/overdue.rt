@@ -1,4 +1,5 @@
-//! The list of a branch's rentals that are overdue: of the rows of what is out, those whose periods ended on days before.
+//! The list of a branch's rentals that are overdue: of the rows of what is out, those whose periods ended on days
+//! before.
 
 ghost use Rattle.std.specs.Prelude.{◌≡◌, List, ◌∷◌, [], ◌++◌, IfOk, OnOk, string_bytes};
 ghost use Rattle.serde_json.specs.Data.{Data};
@@ -40,8 +41,8 @@ fn period_at(row: &Row, at: usize) -> Result<u8, StoreFault>
 
 /// Whether the rental of the row, whose copy is out, is overdue at the moment.
 fn is_late_at(row: &Row, moment: Moment) -> Result<bool, StoreFault>
-    ensures { IfOk result (λ late. (catalogue : Catalogue) (shop : Shop) (it : Rental × Terms) → IsReal it → row.now ≡ shown_out catalogue shop it
-        → late ≡ is_late moment it) }
+    ensures { IfOk result (λ late. (catalogue : Catalogue) (shop : Shop) (it : Rental × Terms) → IsReal it
+        → row.now ≡ shown_out catalogue shop it → late ≡ is_late moment it) }
 {
     let rented = moment_at(row, 0)?;
     let period = period_at(row, 1)?;
@@ -50,8 +51,8 @@ fn is_late_at(row: &Row, moment: Moment) -> Result<bool, StoreFault>
 
 /// The rental of the row as it is listed. No sound table lacks its customer or its film.
 fn read_overdue(row: &Row) -> Result<OverdueRow, StoreFault>
-    ensures { IfOk result (λ it. (catalogue : Catalogue) (shop : Shop) (out : Rental × Terms) → row.now ≡ shown_out catalogue shop out
-        → seen_overdue it ≡ overdue_row catalogue shop out.0) }
+    ensures { IfOk result (λ it. (catalogue : Catalogue) (shop : Shop) (out : Rental × Terms)
+        → row.now ≡ shown_out catalogue shop out → seen_overdue it ≡ overdue_row catalogue shop out.0) }
 {
     Ok(OverdueRow {
         first: text_at(row, 2)?,
@@ -63,7 +64,8 @@ fn read_overdue(row: &Row) -> Result<OverdueRow, StoreFault>
 
 /// Puts the rental last.
 fn add_overdue(alloc: Global, row: &OverdueRow, page: &mut ListPage) -> Result<(), StoreFault>
-    ensures { OnOk result ((values : List Data) → HasValues page.old values → HasValues page.new (values ++ overdue_data (seen_overdue row.now) ∷ [])) }
+    ensures { OnOk result ((values : List Data) → HasValues page.old values
+        → HasValues page.new (values ++ overdue_data (seen_overdue row.now) ∷ [])) }
 {
     let value = overdue_row(alloc, row)?;
     Ok(page.add(&value)?)
@@ -90,17 +92,19 @@ impl TakesRows for OverduePage {
     }
 }
 
-/// The branch's rentals that are overdue at the moment, in order of number, as the text of a list. One statement reads as many rows of each table as copies are
-/// out, and sorts what it finds. A row that lacks its rental, terms, customer or film is the fault `Failed`; no sound table has one. The database stays as it was,
-/// unless the store fails, which commits nothing.
+/// The branch's rentals that are overdue at the moment, in order of number, as the text of a list. One statement
+/// reads as many rows of each table as copies are out, and sorts what it finds. A row that lacks its rental, terms,
+/// customer or film is the fault `Failed`; no sound table has one. The database stays as it was, unless the store
+/// fails, which commits nothing.
 pub fn overdue_list<S: Alter>(
     alloc: Global,
     conn: &mut Connection<S>,
     branch: BranchNo,
     at: Moment,
 ) -> Result<String, StoreFault>
-    ensures text { HasCleanDisk (state S.Store conn.new) → IfOk result (λ s. (books : Books) → Holds (state S.Store conn.old) books → IsHeld books
-        → string_bytes s ≡ shown_text (OverdueAre (overdue_list books.catalogue (shop_of branch books) at))) }
+    ensures text { HasCleanDisk (state S.Store conn.new)
+        → IfOk result (λ s. (books : Books) → Holds (state S.Store conn.old) books → IsHeld books → string_bytes s
+        ≡ shown_text (OverdueAre (overdue_list books.catalogue (shop_of branch books) at))) }
     ensures same { StaysSame S.Store conn.old conn.new result }
 {
     let mut taker = OverduePage {

@@ -37,7 +37,8 @@ pub(crate) fn city_at(
     city: usize,
     country: usize,
 ) -> Result<(L45, L45), StoreFault>
-    ensures { IfOk result (λ it. (it.0 ≡ text_or_empty (column row.now city)) × (it.1 ≡ text_or_empty (column row.now country))) }
+    ensures { IfOk result (λ it. (it.0 ≡ text_or_empty (column row.now city))
+        × (it.1 ≡ text_or_empty (column row.now country))) }
 {
     Ok((name_at(alloc, row, city)?, name_at(alloc, row, country)?))
 }
@@ -68,7 +69,8 @@ pub(crate) fn person_name_or_null_at(
 
 /// A person's address, postal code and telephone number.
 fn address_at(row: &Row) -> Result<(T128, L45, L45), StoreFault>
-    ensures { IfOk result (λ it. (column row.now 3 ≡ SqlText it.0) × (column row.now 4 ≡ SqlText it.1) × (column row.now 5 ≡ SqlText it.2)) }
+    ensures { IfOk result (λ it. (column row.now 3 ≡ SqlText it.0) × (column row.now 4 ≡ SqlText it.1)
+        × (column row.now 5 ≡ SqlText it.2)) }
 {
     Ok((text_at(row, 3)?, text_at(row, 4)?, text_at(row, 5)?))
 }
@@ -79,8 +81,8 @@ pub(crate) fn person_at(
     row: &Row,
     branch: BranchNo,
 ) -> Result<ListedPerson, StoreFault>
-    ensures { IfOk result (λ it. (catalogue : Catalogue) (n : ℕ) (person : Person) (rest : SqlRow) → row.now ≡ shown_person catalogue n person ++ rest
-        → seen_person n it ≡ person_row catalogue branch n person) }
+    ensures { IfOk result (λ it. (catalogue : Catalogue) (n : ℕ) (person : Person) (rest : SqlRow)
+        → row.now ≡ shown_person catalogue n person ++ rest → seen_person n it ≡ person_row catalogue branch n person) }
 {
     let name = person_name_at(row, 1, 2)?;
     let (city, country) = city_at(alloc, row, 6, 7)?;

@@ -39,7 +39,8 @@ fn read_staff(alloc: Global, row: &Row, branch: BranchNo) -> Result<StaffRow, St
 
 /// Puts the member of staff last.
 fn add_staff(alloc: Global, row: &StaffRow, page: &mut ListPage) -> Result<(), StoreFault>
-    ensures { OnOk result ((values : List Data) → HasValues page.old values → HasValues page.new (values ++ staff_data (seen_staff row.now) ∷ [])) }
+    ensures { OnOk result ((values : List Data) → HasValues page.old values
+        → HasValues page.new (values ++ staff_data (seen_staff row.now) ∷ [])) }
 {
     let value = staff_row(alloc, row)?;
     Ok(page.add(&value)?)
@@ -62,14 +63,16 @@ impl TakesRows for StaffPage {
     }
 }
 
-/// The staff of the branch, those who left too, as the text of a list. The database stays as it was, unless the store fails, which commits nothing.
+/// The staff of the branch, those who left too, as the text of a list. The database stays as it was, unless the store
+/// fails, which commits nothing.
 pub fn staff_list<S: Alter>(
     alloc: Global,
     conn: &mut Connection<S>,
     branch: BranchNo,
 ) -> Result<String, StoreFault>
-    ensures text { HasCleanDisk (state S.Store conn.new) → IfOk result (λ s. (books : Books) → Holds (state S.Store conn.old) books
-        → string_bytes s ≡ shown_text (StaffListed (staff_list branch books.catalogue))) }
+    ensures text { HasCleanDisk (state S.Store conn.new)
+        → IfOk result (λ s. (books : Books) → Holds (state S.Store conn.old) books → string_bytes s ≡ shown_text
+        (StaffListed (staff_list branch books.catalogue))) }
     ensures same { StaysSame S.Store conn.old conn.new result }
 {
     let mut taker = StaffPage {

@@ -93,8 +93,9 @@ fn find_store<S: Alter>(
     conn: &mut Connection<S>,
     branch: BranchNo,
 ) -> Result<Option<StoreRow>, StoreFault>
-    ensures row { HasCleanDisk (state S.Store conn.new) → IfOk result (λ found. (books : Books) → Holds (state S.Store conn.old) books
-        → option_map seen_store found ≡ head (map (store_with books.catalogue 0) (at branch books.catalogue.branches))) }
+    ensures row { HasCleanDisk (state S.Store conn.new)
+        → IfOk result (λ found. (books : Books) → Holds (state S.Store conn.old) books → option_map seen_store found
+        ≡ head (map (store_with books.catalogue 0) (at branch books.catalogue.branches))) }
     ensures same { StaysSame S.Store conn.old conn.new result }
 {
     let mut taker = FoundStore { alloc, row: None };
@@ -128,8 +129,9 @@ fn rental_sum<S: Alter>(
     conn: &mut Connection<S>,
     branch: BranchNo,
 ) -> Result<Option<u64>, StoreFault>
-    ensures sum { HasCleanDisk (state S.Store conn.new) → IfOk result (λ sum. (books : Books) → Holds (state S.Store conn.old) books → IsHeld books
-        → sum ≡ rental_sum (shop_of branch books)) }
+    ensures sum { HasCleanDisk (state S.Store conn.new)
+        → IfOk result (λ sum. (books : Books) → Holds (state S.Store conn.old) books → IsHeld books → sum ≡ rental_sum
+        (shop_of branch books)) }
     ensures same { StaysSame S.Store conn.old conn.new result }
 {
     let mut taker = SalesSum { sum: None };
@@ -150,8 +152,9 @@ fn add_sold(
     page: &mut ListPage,
 ) -> Result<(), AllocError>
     ensures { OnOk result ((books : Books) (branch : ℕ) (values : List Data)
-        → Some (seen_store row) ≡ head (map (store_with books.catalogue 0) (at branch books.catalogue.branches)) → sum ≡ rental_sum (shop_of branch books)
-        → HasValues page.old values → HasValues page.new (values ++ map store_data (sales_of_branch books branch))) }
+        → Some (seen_store row) ≡ head (map (store_with books.catalogue 0) (at branch books.catalogue.branches))
+        → sum ≡ rental_sum (shop_of branch books) → HasValues page.old values
+        → HasValues page.new (values ++ map store_data (sales_of_branch books branch))) }
 {
     match sum {
         Some(total) => add_store(alloc, row, total, page),
@@ -169,8 +172,9 @@ fn add_branch<S: Alter>(
     ensures added { HasCleanDisk (state S.Store conn.new)
         → OnOk result ((books : Books) (values : List Data) → Holds (state S.Store conn.old) books → IsHeld books
         → HasValues page.old values → HasValues page.new (values ++ map store_data (sales_of_branch books branch))) }
-    ensures there { HasCleanDisk (state S.Store conn.new) → IfOk result (λ there. (books : Books) → Holds (state S.Store conn.old) books
-        → there ≡ not (lacks books.catalogue.branches branch)) }
+    ensures there { HasCleanDisk (state S.Store conn.new)
+        → IfOk result (λ there. (books : Books) → Holds (state S.Store conn.old) books → there ≡ not
+        (lacks books.catalogue.branches branch)) }
     ensures same { StaysSame S.Store conn.old conn.new result }
 {
     let Some(row) = find_store(alloc, conn, branch)? else {
@@ -181,15 +185,16 @@ fn add_branch<S: Alter>(
     Ok(true)
 }
 
-/// What the branch has taken for rentals, as the text of a list: its row, or none where no payment names a rental. The database stays as it was,
-/// unless the store fails, which commits nothing.
+/// What the branch has taken for rentals, as the text of a list: its row, or none where no payment names a rental.
+/// The database stays as it was, unless the store fails, which commits nothing.
 pub fn sales_by_store<S: Alter>(
     alloc: Global,
     conn: &mut Connection<S>,
     branch: BranchNo,
 ) -> Result<String, StoreFault>
-    ensures text { HasCleanDisk (state S.Store conn.new) → IfOk result (λ s. (books : Books) → Holds (state S.Store conn.old) books → IsHeld books
-        → string_bytes s ≡ shown_text (StoresListed (sales_by_store branch books.catalogue (shop_of branch books)))) }
+    ensures text { HasCleanDisk (state S.Store conn.new)
+        → IfOk result (λ s. (books : Books) → Holds (state S.Store conn.old) books → IsHeld books → string_bytes s
+        ≡ shown_text (StoresListed (sales_by_store branch books.catalogue (shop_of branch books)))) }
     ensures same { StaysSame S.Store conn.old conn.new result }
 {
     let mut page = ListPage::new(alloc);
@@ -203,8 +208,9 @@ fn add_branches<S: Alter>(
     conn: &mut Connection<S>,
     page: &mut ListPage,
 ) -> Result<(), StoreFault>
-    ensures added { HasCleanDisk (state S.Store conn.new) → OnOk result ((books : Books) → Holds (state S.Store conn.old) books → IsHeld books
-        → HasValues page.old [] → HasValues page.new (map store_data (sales_of_first books books.catalogue.branches))) }
+    ensures added { HasCleanDisk (state S.Store conn.new)
+        → OnOk result ((books : Books) → Holds (state S.Store conn.old) books → IsHeld books → HasValues page.old []
+        → HasValues page.new (map store_data (sales_of_first books books.catalogue.branches))) }
     ensures same { StaysSame S.Store conn.old conn.new result }
 {
     'branches: for number in 1..=u32::MAX {
@@ -218,12 +224,14 @@ fn add_branches<S: Alter>(
     Err(StoreFault::Failed)
 }
 
-/// What branches have taken for rentals, in the order of their numbers, as the text of a list: of each the row of `sales_by_store`. The database stays
-/// as it was, unless the store fails, which commits nothing.
+/// What branches have taken for rentals, in the order of their numbers, as the text of a list: of each the row of
+/// `sales_by_store`. The database stays as it was, unless the store fails, which commits nothing.
 pub fn sales<S: Alter>(alloc: Global, conn: &mut Connection<S>) -> Result<String, StoreFault>
-    ensures text { HasCleanDisk (state S.Store conn.new) → IfOk result (λ s. (books : Books) → Holds (state S.Store conn.old) books → IsHeld books
-        → string_bytes s ≡ shown_text (StoresListed
-        (flat_map (λ (it : ℕ × Branch). sales_by_store it.0 books.catalogue (shop_of it.0 books)) (numbered books.catalogue.branches)))) }
+    ensures text { HasCleanDisk (state S.Store conn.new)
+        → IfOk result (λ s. (books : Books) → Holds (state S.Store conn.old) books → IsHeld books → string_bytes s
+        ≡ shown_text (StoresListed
+        (flat_map (λ (it : ℕ × Branch). sales_by_store it.0 books.catalogue (shop_of it.0 books))
+        (numbered books.catalogue.branches)))) }
     ensures same { StaysSame S.Store conn.old conn.new result }
 {
     let mut page = ListPage::new(alloc);

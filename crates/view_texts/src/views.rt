@@ -23,15 +23,17 @@ use sql_rows::StoreFault;
 use sqlite::{Alter, Connection};
 use std::alloc::Global;
 
-/// The view as the branch sees it, as the text of a list. The database stays as it was, unless the store fails, which commits nothing.
+/// The view as the branch sees it, as the text of a list. The database stays as it was, unless the store fails, which
+/// commits nothing.
 pub fn view_text<S: Alter>(
     alloc: Global,
     conn: &mut Connection<S>,
     branch: BranchNo,
     view: View,
 ) -> Result<String, StoreFault>
-    ensures text { HasCleanDisk (state S.Store conn.new) → IfOk result (λ s. (books : Books) → Holds (state S.Store conn.old) books → IsHeld books
-        → string_bytes s ≡ shown_text (view_rows branch books.catalogue (shop_of branch books) (seen_view view))) }
+    ensures text { HasCleanDisk (state S.Store conn.new)
+        → IfOk result (λ s. (books : Books) → Holds (state S.Store conn.old) books → IsHeld books → string_bytes s
+        ≡ shown_text (view_rows branch books.catalogue (shop_of branch books) (seen_view view))) }
     ensures same { StaysSame S.Store conn.old conn.new result }
 {
     match view {

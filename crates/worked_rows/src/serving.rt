@@ -119,7 +119,8 @@ fn replay<S: Alter>(
     }
 }
 
-/// Has the chain answer the requests, with their tokens or as those of that branch. The replies are told, and how many there are.
+/// Has the chain answer the requests, with their tokens or as those of that branch. The replies are told, and how
+/// many there are.
 pub fn answer<S: Alter>(
     alloc: Global,
     chain: &mut Chain<S>,

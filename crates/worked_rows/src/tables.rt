@@ -1,5 +1,5 @@
-//! The tables in a chain's files, over a connection of its own beside the chain: statements on them, audits of them, and their log copied into the database's
-//! file.
+//! The tables in a chain's files, over a connection of its own beside the chain: statements on them, audits of them,
+//! and their log copied into the database's file.
 use books_audit::audit_custody;
 use chain_calls::{FirstRows, connect, create, give_back, read_audit};
 use row_player::{Deed, Fault};
