@@ -14,7 +14,8 @@ use Rattle.sql_rows.proofs.Inside.{shown_same}
 use Rattle.sql_rows.proofs.Queries.{plain_query, answers}
 use Rattle.shop_schema.specs.Tables.{shop_schema}
 use Rattle.shop_schema.specs.Shop.{IsShop}
-use Rattle.shop_schema.proofs.Listed.{cols, own_rows}
+use Rattle.shop_schema.proofs.Listed.{own_rows}
+use Rattle.sql_rows.specs.Terms.{cols}
 use Rattle.books_audit.specs.Whole.{SelectsWhole, AreRowsOf, SelectEach, HaveEach}
 
 module _ (t : Table) (text : List ℕ) (means : SelectsWhole t text) where

@@ -6,7 +6,7 @@ use Rattle.sqlite.specs.Table.{Table}
 use Rattle.sql_rows.specs.Rows.{columns_of}
 use Rattle.sql_rows.proofs.Queries.{Selects, plain_query}
 use Rattle.shop_schema.specs.Tables.{shop_schema}
-use Rattle.shop_schema.proofs.Listed.{cols}
+use Rattle.sql_rows.specs.Terms.{cols}
 
 -- the text selects all columns of the table
 abbrev pub SelectsWhole : Table → List ℕ → Type 0

@@ -9,6 +9,7 @@ use Rattle.std.proofs.lemmas.List.{drop_more, take_all, take_more, map-append, l
 use Rattle.std.proofs.lemmas.List.Elements.{filter-append}
 use Rattle.shop_model.specs.Rows.{lacks, mem, has_double, arrived, numbered_from, numbered}
 use Rattle.shop_model.specs.Verdict.{are_lines}
+use Rattle.shop_model.proofs.RowLemmas.{numbered_push}
 use Rattle.branch_core.proofs.RentalLemmas.{none_next}
 
 -- ---- copies that stand twice
@@ -71,12 +72,6 @@ pub lines_next : (low high : ℕ) (ns : List ℕ) (i n : ℕ) → i < length ns 
 lines_next low high ns i n less at = ap (are_lines low high) (here ns i n less at)
 
 -- ---- lines that come
-
-numbered_push : {A : Type 0} (k : ℕ) (xs : List A) (x : A) → numbered_from k (xs ++ x ∷ []) ≡ numbered_from k xs ++ (k + length xs, x) ∷ []
-numbered_push k [] x = let same : k ≡ k + 0 = omega arith in λ i. (same i, x) ∷ []
-numbered_push k (y ∷ ys) x =
-    let same : k + 1 + length ys ≡ k + suc (length ys) = omega arith in
-    ap (λ l. (k, y) ∷ l) (numbered_push (k + 1) ys x ∙ ap (λ (n : ℕ). numbered_from (k + 1) ys ++ (n, x) ∷ []) same)
 
 abbrev comes : {A : Type 0} → List ℕ → ℕ × A → Bool
 comes missing it = not (mem it.0 missing)

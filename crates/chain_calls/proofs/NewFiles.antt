@@ -17,8 +17,8 @@ use Rattle.shop_model.specs.Books.{Books}
 use Rattle.chain_calls.specs.declared.faults.OpenFault.{OpenFault}
 use Rattle.chain_calls.specs.declared.faults.OpenFault.TheVariants as fault
 use Rattle.chain_calls.specs.Steps.{LeavesMade}
-use Rattle.chain_calls.specs.Files.{HoldsOne, IsHeldIn, OpenFailed}
-use Rattle.chain_calls.specs.Openings.{HoldsNoTable, IsNoneOrNew, IsNotCreated}
+use Rattle.sql_rows.specs.Files.{HoldsOne, IsHeldIn, OpenFailed, HoldsNoTable}
+use Rattle.chain_calls.specs.Openings.{IsNoneOrNew, IsNotCreated}
 use Rattle.chain_calls.proofs.Opening.{kept_one, only_committed, shows_what_is_found, shows_what_is_held}
 
 pub store_is_not_a_chain : fault.Store ≢ fault.NotAChain

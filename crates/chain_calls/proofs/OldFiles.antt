@@ -29,7 +29,8 @@ use Rattle.shop_schema.specs.declared.known.KnownVersion.TheVariants.{This, Miss
 use Rattle.chain_calls.specs.declared.faults.OpenFault.{OpenFault}
 use Rattle.chain_calls.specs.declared.faults.OpenFault.TheVariants as fault
 use Rattle.chain_calls.specs.Faults.{is_store_fault}
-use Rattle.chain_calls.specs.Files.{HoldsOne, IsFirst, IsHeldIn, IsNeither, HoldsNoChain, HoldsNoVersion1, HasNeitherVersion, HasVersion1, HoldsVersion1Books, HoldsVersion1Damage, HoldsVersion1Soundly, KeepsInEither, KeepsVersion1Books, OpenFailed, StandsInEither}
+use Rattle.chain_calls.specs.Files.{IsFirst, IsNeither, HoldsNoChain, HoldsNoVersion1, HasNeitherVersion, HasVersion1, HoldsVersion1Books, HoldsVersion1Damage, HoldsVersion1Soundly, KeepsInEither, KeepsVersion1Books, StandsInEither}
+use Rattle.sql_rows.specs.Files.{HoldsOne, IsHeldIn, OpenFailed}
 use Rattle.chain_calls.specs.Migrations.{StandsSoundlyForVersion1, AreMigrated, IsUnsoundVersion1, IsVersion1, LeavesMigrated}
 use Rattle.chain_calls.specs.Openings.{IsNotMigrated}
 use Rattle.chain_calls.proofs.Deciding.{stands_in_any}

@@ -1,22 +1,16 @@
 -- The books that two files hold.
-use Rattle.std.specs.Prelude.{◌≡◌, ◌⊎◌, ℕ, true, List, map}
+use Rattle.std.specs.Prelude.{◌≡◌, ◌⊎◌, map}
 use Rattle.sqlite_disk.specs.declared.Disk.{Ghosts}
 use Rattle.sqlite_disk.specs.declared.Files.{Files}
-use Rattle.sqlite_wal.specs.Files.{outcomes}
 use Rattle.sqlite_wal.specs.Reads.{AreClean}
 use Rattle.sqlite_wal.specs.Recovery.{Image}
-use Rattle.sqlite_pages.specs.PageMap.{PageMap}
-use Rattle.sqlite_pool.specs.Stored.{Adopts}
-use Rattle.sqlite_store.specs.declared.catalog.Wanted.{Wanted}
-use Rattle.sqlite_store.specs.Listing.{IsOurs, file_trees}
 use Rattle.sqlite_trees.specs.Tree.{Trees}
 use Rattle.sqlite_catalog.specs.Listing.{IsSound as IsDatabaseOf}
 use Rattle.sqlite.specs.Schema.{Schema}
 use Rattle.sqlite.specs.State.{State}
-use Rattle.sqlite.specs.Files.{HoldsDatabase, IsNothing, IsEmpty, IsCleanLeft, LeavesFiles}
-use Rattle.sqlite.specs.Closing.{files_left}
-use Rattle.sqlite.specs.declared.file.Leftover.{Leftover}
+use Rattle.sqlite.specs.Files.{HoldsDatabase}
 use Rattle.sql_rows.specs.Rows.{columns_of}
+use Rattle.sql_rows.specs.Files.{IsHeldIn, HoldsOne}
 use Rattle.shop_model.specs.Books.{Books}
 use Rattle.shop_model.specs.Migration.{IsSoundWithoutTerms, migrated}
 use Rattle.shop_model.specs.Sound.{IsSound}
@@ -45,15 +39,6 @@ IsFirst s = (s.now.schema ≡ version_1_schema) × (version_of (map (columns_of 
 abbrev pub IsNeither : State → Type 0
 IsNeither s = Knows Missing s ⊎ (Knows First s × (¬ (s.now.schema ≡ version_1_schema)))
 
--- The files hold this database: recovery finds pages in them that are a whole and sound file, which reads as these trees; and no other is read there.
-pub record IsHeldIn (image : Image) (db : Trees) : Type 0 where
-  pub recovers : (size : ℕ) × (pages : PageMap) × (wanted : List Wanted) × Adopts size image pages × ∥ IsOurs size true wanted pages ∥₁ × (db ≡ file_trees size wanted pages)
-  pub only : (other : Trees) → HoldsDatabase image other → db ≡ other
-
--- the same, or they were no database yet, and it is the empty one
-abbrev pub IsFoundIn : Image → Trees → Type 0
-IsFoundIn image db = IsHeldIn image db ⊎ (IsNothing image × IsEmpty db × ((other : Trees) → HoldsDatabase image other → db ≡ other))
-
 -- an image of the two files, as it is read or as a crash left it, holds a database whose tables stand for these books
 pub record HoldsBooks (image : Image) (books : Books) : Type 0 where
   pub db : Trees
@@ -61,10 +46,6 @@ pub record HoldsBooks (image : Image) (books : Books) : Type 0 where
   pub stands : StandsFor db books
   pub sound : IsSound widest_rules books
   pub values : AreValues books
-
--- whatever a crash leaves of the files, or a read finds in them, is a database of which this holds
-abbrev pub HoldsOne : {D : Type 0} → Ghosts D → Files D → (Trees → Type 0) → Type 0
-HoldsOne g files P = (image : Image) → outcomes g files.log files.db image → ∥ ((db : Trees) × P db × HoldsDatabase image db) ∥₁
 
 -- The files keep the books of a chain that is closed: what a close promises, and what an open asks. The books are sound, and where no wrong answer of the disk was
 -- taken as true, whatever is found in the files, or a crash leaves of them, is a database whose tables stand for the books.
@@ -108,10 +89,6 @@ HoldsSoundly image books = (db : Trees) × IsHeldIn image db × StandsFor db boo
 -- the files hold a database that has the tables of a chain and tells this version, and its tables stand for no sound books
 abbrev pub HoldsDamage : Image → Type 0
 HoldsDamage image = (db : Trees) × IsHeldIn image db × IsDatabaseOf shop_schema db × (version_of (map (columns_of 1) (db 0)) ≡ This) × (¬ StandsSoundly db)
-
--- the files that an open of these left as it failed
-abbrev pub OpenFailed : {D : Type 0} → Ghosts D → Files D → Files D → Type 0
-OpenFailed {D} g files now = (left : Leftover D g) × (files_left left ≡ (now.log, now.db)) × (IsCleanLeft left → LeavesFiles files left)
 
 -- ---- files of version 1, in which rentals had no terms
 

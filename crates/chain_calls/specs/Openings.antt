@@ -3,7 +3,6 @@ use Rattle.std.specs.Prelude.{◌≡◌, ◌≢◌, ◌⊎◌, true, false}
 use Rattle.sqlite_disk.specs.declared.Disk.{Ghosts}
 use Rattle.sqlite_disk.specs.declared.Files.{Files}
 use Rattle.sqlite_wal.specs.Reads.{AreClean}
-use Rattle.sqlite_wal.specs.Recovery.{Image}
 use Rattle.sqlite_trees.specs.Tree.{Trees}
 use Rattle.sqlite_store.specs.declared.store.FileStore.{FileStore}
 use Rattle.sqlite_catalog.specs.Listing.{IsSound as IsDatabaseOf}
@@ -21,13 +20,10 @@ use Rattle.chain_calls.specs.Holding.{Chained}
 use Rattle.chain_calls.specs.Chains.{IsAt}
 use Rattle.chain_calls.specs.Faults.{is_store_fault}
 use Rattle.chain_calls.specs.Migrations.{AreMigrated}
-use Rattle.chain_calls.specs.Files.{HoldsBooks, HoldsOne, IsHeldIn, IsFoundIn, KeepsBooks, KeepsEither, HoldsNoChain, HoldsSoundly, HoldsDamage, HasThisVersion, HasNoVersion, HasOtherVersion, TellsVersion, OpenFailed, HoldsVersion1Books, HoldsVersion1Soundly, KeepsVersion1Books, KeepsInEither, HoldsNoVersion1, HasVersion1, HasNeitherVersion, HoldsVersion1Damage}
+use Rattle.chain_calls.specs.Files.{HoldsBooks, KeepsBooks, KeepsEither, HoldsNoChain, HoldsSoundly, HoldsDamage, HasThisVersion, HasNoVersion, HasOtherVersion, TellsVersion, HoldsVersion1Books, HoldsVersion1Soundly, KeepsVersion1Books, KeepsInEither, HoldsNoVersion1, HasVersion1, HasNeitherVersion, HoldsVersion1Damage}
+use Rattle.sql_rows.specs.Files.{HoldsOne, IsHeldIn, IsFoundIn, OpenFailed, HoldsNoTable}
 
 -- ---- making
-
--- what is found in the files has no table: they hold a database without one, or were no database yet
-abbrev pub HoldsNoTable : Image → Type 0
-HoldsNoTable image = (db : Trees) × IsFoundIn image db × IsDatabaseOf no_schema db
 
 -- a database with no table, or the tables that stand for the books
 abbrev pub IsNoneOrNew : Books → Trees → Type 0

@@ -11,7 +11,7 @@ ghost use Rattle.shop_model.specs.Books.{Books};
 ghost use Rattle.shop_schema.specs.Shop.{HasVersion};
 ghost use Rattle.shop_schema.specs.Versions.{version_of};
 ghost use Rattle.chain_calls.specs.Chains.{Rests, StaysAsFound};
-ghost use Rattle.chain_calls.specs.Files.{HoldsOne, OpenFailed};
+ghost use Rattle.sql_rows.specs.Files.{HoldsOne, OpenFailed};
 
 use crate::faults::{OpenFault, named};
 use shop_schema::{KnownVersion, version};

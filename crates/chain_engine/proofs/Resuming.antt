@@ -25,7 +25,8 @@ use Rattle.chain_steps.specs.Rules.{rules_of}
 use Rattle.chain_steps.specs.Holding.{Chained, holding}
 use Rattle.shop_schema.specs.Shop.{StandsFor}
 use Rattle.chain_steps.specs.Chains.{IsAt, Takes, Runs, StandsForEither}
-use Rattle.chain_steps.specs.Files.{HoldsOne, KeepsBooks, KeepsEither}
+use Rattle.chain_steps.specs.Files.{KeepsBooks, KeepsEither}
+use Rattle.sql_rows.specs.Files.{HoldsOne}
 use Rattle.chain_engine.specs.Resumes.{before_stop, behind_stop, Resumes}
 
 -- where an answer is the store's failure, there is a request at which it failed first

@@ -7,7 +7,8 @@ ghost use Rattle.sqlite_wal.specs.Files.{outcomes};
 ghost use Rattle.sqlite_wal.specs.Reads.{AreClean};
 ghost use Rattle.shop_model.specs.Books.{Books};
 ghost use Rattle.chain_steps.specs.Chains.{IsAt};
-ghost use Rattle.chain_steps.specs.Files.{HoldsOne, KeepsBooks, KeepsEither};
+ghost use Rattle.chain_steps.specs.Files.{KeepsBooks, KeepsEither};
+ghost use Rattle.sql_rows.specs.Files.{HoldsOne};
 ghost use Rattle.chain_steps.specs.Openings.{IsOpenedIn, IsNotOpened};
 
 use crate::chain::Chain;

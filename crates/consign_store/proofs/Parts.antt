@@ -11,9 +11,9 @@ use Rattle.sql_rows.specs.Rows.{PicksOne}
 use Rattle.sql_rows.proofs.ColumnTests.{same_flag}
 use Rattle.shop_model.specs.Rows.{set_at, numbered, numbered_from, IsCounted}
 use Rattle.shop_model.specs.Books.{Line, LineState, UnderWay, Arrived, Missing, Consignment, is_consignment}
-use Rattle.shop_model.proofs.RowLemmas.{same_if, length_map, filter_map}
+use Rattle.shop_model.proofs.RowLemmas.{same_if, length_map, filter_map, numbered_push}
 use Rattle.shop_schema.specs.Columns.{consignment_columns, line_value, line_columns, line_rows}
-use Rattle.shop_schema.proofs.Lists.{numbered_push, counted_once, filter_twice}
+use Rattle.shop_schema.proofs.Lists.{counted_once, filter_twice}
 use Rattle.consign_store.specs.Parts.{Header, header_of, header_columns, Placed, placed_at, placed_in, all_placed, placed_columns, is_header, is_within, is_placed, push_line, put_state, set_state, receive}
 use Rattle.consign_store.proofs.ListLemmas.{update_append, unpicked, nothing_more, grouped, Rise}
 

@@ -38,7 +38,8 @@ use Rattle.shop_schema.specs.Columns.{consignment_columns, copy_columns, line_va
 use Rattle.shop_schema.specs.Held.{IsHeld}
 use Rattle.shop_schema.specs.Shop.{StandsFor, StandsWith, Reads, Writes}
 use Rattle.shop_schema.proofs.Lists.{flat_map_push}
-use Rattle.shop_schema.proofs.Listed.{cols, values, own_rows}
+use Rattle.shop_schema.proofs.Listed.{own_rows}
+use Rattle.sql_rows.specs.Terms.{cols, values}
 use Rattle.shop_schema.proofs.SameRows.{same_copy}
 use Rattle.shop_ledger.proofs.Equals.{equals}
 use Rattle.shop_store.proofs.BranchRows.{replaced}

@@ -17,7 +17,7 @@ use Rattle.chain_engine.specs.Holding.{Holding}
 use Rattle.office_words.specs.Line.{line_of}
 use Rattle.chain_engine.specs.Chains.{Answers, Runs}
 use Rattle.chain_engine.specs.Files.{HoldsBooks, HoldsSoundly, HasThisVersion, KeepsBooks, HoldsVersion1Books, HoldsVersion1Soundly, HasVersion1}
-use Rattle.chain_engine.specs.Openings.{HoldsNoTable}
+use Rattle.sql_rows.specs.Files.{HoldsNoTable}
 use Rattle.counter_http.specs.Exchanges.{Exchange, events_of, answers_of}
 use Rattle.sakila_office.specs.Printed.{IsPrinted, IsSilent, IsTold}
 

@@ -39,7 +39,7 @@ use Rattle.shop_schema.specs.RowValues.{IsNumber, IsKept}
 use Rattle.shop_schema.specs.Shop.{StandsFor, Holds, Reads, Writes}
 use Rattle.shop_schema.proofs.Stands.{stands_but}
 use Rattle.shop_schema.proofs.FirstRows.{first_none, first_some}
-use Rattle.shop_schema.proofs.Listed.{values}
+use Rattle.sql_rows.specs.Terms.{values}
 use Rattle.shop_schema.proofs.Different.{different_once}
 use Rattle.shop_ledger.specs.declared.kept.TheConstants.{SELECT_KEPT, INSERT_KEPT}
 use Rattle.shop_ledger.specs.declared.kept.Owner.{Owner}

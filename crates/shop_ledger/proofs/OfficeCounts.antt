@@ -20,12 +20,12 @@ use Rattle.shop_model.specs.Machine.{office_acted, office_text, office_done}
 use Rattle.shop_model.specs.Links.{has_row}
 use Rattle.shop_model.specs.Sound.{HasOwners}
 use Rattle.shop_model.specs.Books.{Books, BookCopy}
-use Rattle.shop_model.proofs.RowLemmas.{same_if, more_no, length_map}
+use Rattle.shop_model.proofs.RowLemmas.{same_if, more_no, length_map, numbered_push}
 use Rattle.shop_schema.specs.Counts.{Count, Counts, is_count, branch_counts, office_count, counts_of, raise, raised, add_count, new_count, with_branch}
 use Rattle.shop_schema.specs.Held.{IsHeld}
 use Rattle.shop_schema.specs.Tables.{shop_schema}
 use Rattle.shop_schema.specs.Shop.{StandsFor, AreTermed, Holds, HoldsWith, Reads}
-use Rattle.shop_schema.proofs.Lists.{numbered_push, flat_map_push}
+use Rattle.shop_schema.proofs.Lists.{flat_map_push}
 use Rattle.sqlite_trees.proofs.ListLemmas.{all-permutation}
 use Rattle.shop_ledger.specs.declared.counts.TheConstants.{SELECT_COUNT}
 use Rattle.shop_ledger.specs.declared.counts.CountKind.TheVariants as kind

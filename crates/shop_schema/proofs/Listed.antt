@@ -1,12 +1,13 @@
 -- A table whose rows are those of a list of the books, and what an INSERT and an UPDATE make of it.
-use Rattle.std.proofs.Common.{◌≡◌, ◌/◌, ◌+◌, ℕ, zero, suc, List, [], ◌∷◌, ◌++◌, map, length, Bool, true, false, cond, None, Ok, refl, sym, ap, subst, ◌∙◌, arith}
+use Rattle.std.proofs.Common.{◌≡◌, ◌/◌, ◌+◌, ℕ, suc, List, [], ◌∷◌, ◌++◌, map, length, Bool, true, false, cond, None, Ok, refl, sym, ap, subst, ◌∙◌, arith}
 use Rattle.std.specs.Prelude.{⊤, unwrap_or}
 use Rattle.std.proofs.lemmas.List.{map_push}
 use Rattle.sqlite.specs.declared.types.Value.{Value}
 use Rattle.sqlite.specs.declared.types.Value.TheVariants.{Null}
 use Rattle.sqlite_value.specs.Order as sql
 use Rattle.sqlite_trees.specs.Tree.{Trees}
-use Rattle.sqlite_sql.specs.Term.{Term, lit, col, eval_all}
+use Rattle.sqlite_sql.specs.Term.{Term, eval_all}
+use Rattle.sql_rows.specs.Terms.{values}
 use Rattle.sqlite_sql.specs.Program.{overlay}
 use Rattle.sqlite.specs.Table.{Table}
 use Rattle.sqlite.specs.Source.TheVariants.{Values}
@@ -23,7 +24,7 @@ use Rattle.shop_model.specs.Books.{Books}
 use Rattle.shop_schema.specs.Tables.{shop_schema}
 use Rattle.shop_schema.specs.Counts.{Counts}
 use Rattle.shop_schema.specs.Shop.{StandsWith, Writes, Tallies}
-use Rattle.shop_schema.proofs.Lists.{numbered_push}
+use Rattle.shop_model.proofs.RowLemmas.{numbered_push}
 use Rattle.shop_schema.proofs.Stands.{rows_of, rows_at, with_rows, one_has, stands_but, stands_at}
 
 -- a list of the books, and the books with another in its place; the laws are `refl` where the list is known
@@ -68,15 +69,6 @@ Shared A = Listed {A = A} {X = ℕ × A} numbered
 -- the items are the rows
 abbrev pub Plain : Type 0 → Type 0
 Plain A = Listed {A = A} {X = A} (λ xs. xs)
-
--- so many columns from the first on, of the parameters (0) or of the row (1)
-abbrev pub cols : ℕ → ℕ → ℕ → List Term
-cols side at zero = []
-cols side at (suc more) = col side at ∷ cols side (suc at) more
-
--- VALUES (?1, ?2, ..)
-abbrev pub values : ℕ → List Term
-values width = lit Null ∷ cols 0 0 width
 
 -- a query with no WITH sees the table's own rows
 pub own_rows : (trees : Trees) (tree : ℕ) → overlay trees [] tree ≡ trees tree

@@ -1,19 +1,9 @@
 -- The lists of the books when a row is put last, and a branch's rows in the order of their numbers.
-use Rattle.std.proofs.Common.{◌≡◌, ◌≤◌, ◌<◌, ◌+◌, ◌==◌, ◌&&◌, ℕ, suc, List, [], ◌∷◌, ◌++◌, map, filter, length, Bool, true, false, cond, refl, sym, ap, subst, ◌∙◌, arith}
+use Rattle.std.proofs.Common.{◌≡◌, ◌≤◌, ◌<◌, ◌+◌, ◌==◌, ◌&&◌, ℕ, List, [], ◌∷◌, ◌++◌, map, filter, length, Bool, true, false, cond, refl, sym, ap, subst, ◌∙◌, arith}
 use Rattle.std.specs.List.{AllByRecursion, flat_map}
 use Rattle.std.proofs.lemmas.Bool.Decides.{nat_tests}
 use Rattle.sql_rows.specs.Rows.{PicksOne}
-use Rattle.shop_model.specs.Rows.{Row, is_of, is_row, numbered_from, IsCounted, AreNumbered}
-
-pub numbered_push : {A : Type 0} (n : ℕ) (xs : List A) (x : A) → numbered_from n (xs ++ x ∷ []) ≡ numbered_from n xs ++ (n + length xs, x) ∷ []
-numbered_push n [] x = λ i. (zero_more n i, x) ∷ []
-  where
-    zero_more : (n : ℕ) → n ≡ n + 0
-    zero_more n = omega arith
-numbered_push n (y ∷ xs) x = ap (λ l. (n, y) ∷ l) (numbered_push (n + 1) xs x ∙ ap (λ k. numbered_from (n + 1) xs ++ (k, x) ∷ []) (next n (length xs)))
-  where
-    next : (n k : ℕ) → n + 1 + k ≡ n + suc k
-    next n k = omega arith
+use Rattle.shop_model.specs.Rows.{Row, is_of, is_row, IsCounted, AreNumbered}
 
 pub flat_map_push : {A B : Type 0} (f : A → List B) (xs : List A) (x : A) → flat_map f (xs ++ x ∷ []) ≡ flat_map f xs ++ f x
 flat_map_push f [] x = append_none (f x)

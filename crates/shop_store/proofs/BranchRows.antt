@@ -40,7 +40,8 @@ use Rattle.shop_schema.specs.Shop.{StandsFor, StandsWith, Holds, Reads, Writes}
 use Rattle.shop_schema.specs.Counts.{counts_of}
 use Rattle.shop_schema.proofs.Lists.{picks_row}
 use Rattle.shop_schema.proofs.Stands.{with_own}
-use Rattle.shop_schema.proofs.Listed.{Plain, cols, width, stood, changed, own_rows}
+use Rattle.shop_schema.proofs.Listed.{Plain, width, stood, changed, own_rows}
+use Rattle.sql_rows.specs.Terms.{cols}
 use Rattle.shop_ledger.proofs.Equals.{of_two}
 use Rattle.shop_ledger.proofs.Rising.{Rise, of_which, which_rise, which_are, rise_differ, rise_sorted}
 

@@ -12,7 +12,7 @@ use Rattle.shop_model.specs.Rows.{at}
 use Rattle.shop_model.specs.Values.{Film}
 use Rattle.shop_schema.specs.Columns.{film_columns}
 use Rattle.shop_schema.specs.Shop.{Reads}
-use Rattle.shop_schema.proofs.Listed.{cols}
+use Rattle.sql_rows.specs.Terms.{cols}
 use Rattle.shop_schema.proofs.SameRows.{same_film}
 use Rattle.shop_store.specs.declared.films.TheConstants.{SELECT_FILM}
 use Rattle.shop_store.specs.SharedSeen.{seen_film_row}

@@ -26,7 +26,8 @@ use Rattle.shop_schema.specs.Columns.{chain_columns, branch_columns, moment_valu
 use Rattle.shop_schema.specs.Shop.{IsShop, IsKeyed, HaveNoRows, HoldsWith, Writes, first_books}
 use Rattle.shop_schema.specs.Counts.{no_counts}
 use Rattle.shop_schema.proofs.Stands.{stands_first, stands_but}
-use Rattle.shop_schema.proofs.Listed.{PutsNext, PutsLast, puts_next, puts_last, next_row, IsNext, push, cols}
+use Rattle.shop_schema.proofs.Listed.{PutsNext, PutsLast, puts_next, puts_last, next_row, IsNext, push}
+use Rattle.sql_rows.specs.Terms.{cols}
 use Rattle.shop_schema.proofs.SharedTables.{countries, languages, categories, cities, actors, films, casts, branches, staff}
 use Rattle.shop_store.specs.declared.opening.TheConstants.{INSERT_RULE, INSERT_CHAIN}
 use Rattle.shop_store.specs.declared.puts.TheConstants.{INSERT_COUNTRY, INSERT_LANGUAGE, INSERT_CATEGORY, INSERT_CITY, INSERT_ACTOR, INSERT_FILM, INSERT_CAST, INSERT_BRANCH, INSERT_STAFF}

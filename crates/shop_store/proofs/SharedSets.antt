@@ -28,7 +28,8 @@ use Rattle.shop_schema.specs.Tables.{shop_schema}
 use Rattle.shop_schema.specs.Columns.{moment_value}
 use Rattle.shop_schema.specs.Shop.{StandsWith, Writes}
 use Rattle.shop_schema.proofs.Lasts.{numbered_once}
-use Rattle.shop_schema.proofs.Listed.{cols, own_rows}
+use Rattle.shop_schema.proofs.Listed.{own_rows}
+use Rattle.sql_rows.specs.Terms.{cols}
 use Rattle.shop_store.specs.declared.branches.TheConstants.{UPDATE_MANAGER}
 use Rattle.shop_store.specs.declared.films.TheConstants.{UPDATE_RATE, UPDATE_WITHDRAWN}
 use Rattle.shop_store.specs.declared.staff.TheConstants.{UPDATE_GONE}

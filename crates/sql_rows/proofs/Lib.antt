@@ -29,3 +29,4 @@ pub mod TextLemmas
 pub mod EachLemmas
 pub mod Joins
 pub mod Fills
+pub mod Deciding

@@ -4,3 +4,6 @@ pub mod Fault
 pub mod Books
 pub mod Calls
 pub mod Texts
+pub mod Tables
+pub mod Terms
+pub mod Files

@@ -29,14 +29,13 @@ use Rattle.sql_rows.proofs.Bags.{length-map}
 use Rattle.sql_rows.proofs.Queries.{Selects, plain_query}
 use Rattle.sql_rows.proofs.ColumnTests.{number_test, number_tested, one_tested}
 use Rattle.sql_rows.proofs.Projects.{projects_one, still_holds}
-use Rattle.shop_model.proofs.RowLemmas.{equal_test, differ_test}
+use Rattle.shop_model.proofs.RowLemmas.{equal_test, differ_test, numbered_push}
 use Rattle.sql_rows.specs.Builds.{Means, Makes, MakeAll, Builds}
 use Rattle.sql_rows.specs.Rows.{HasRows, PicksOne, number_value}
 use Rattle.sql_rows.proofs.Steps.{has_put}
 use Rattle.shop_model.specs.Rows.{numbered, numbered_from}
 use Rattle.shop_model.specs.Answers.{Answer}
-use Rattle.shop_schema.proofs.Listed.{values}
-use Rattle.shop_schema.proofs.Lists.{numbered_push}
+use Rattle.sql_rows.specs.Terms.{values}
 use Rattle.till_book.proofs.Numbers.{differ_push, none_of, nothing_in}
 use Rattle.till_book.specs.Tables.{book_schema, entry_table, reply_table, settled_table}
 use Rattle.till_book.specs.Journal.{Journal, StandsFor, entry_columns, reply_columns, PutsEntry, PutsReply, PutsSettled, IsEmptyJournal, Holds, TellsBytes, FindsEntry}

@@ -2,7 +2,7 @@
 use Rattle.std.specs.Prelude.{[], ◌∷◌, codes}
 use Rattle.sqlite.specs.Table.{Table}
 use Rattle.sqlite.specs.Schema.{Schema}
-use Rattle.shop_schema.specs.Tables.{number, bytes, table_of, automatic_of}
+use Rattle.sql_rows.specs.Tables.{number, bytes, table_of, automatic_of}
 
 abbrev pub entry_table : Table
 entry_table = table_of (codes "entry") 0 (1 ∷ []) ((1 ∷ []) ∷ []) (number (codes "number") ∷ bytes (codes "request") ∷ []) []

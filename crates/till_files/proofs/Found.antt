@@ -23,7 +23,8 @@ use Rattle.till_book.specs.Journal.{Journal, StandsFor}
 use Rattle.till_book.specs.Steps.{Rests}
 use Rattle.till_files.specs.declared.faults.BookFault.{BookFault}
 use Rattle.till_files.specs.declared.faults.BookFault.TheVariants as fault
-use Rattle.till_files.specs.Files.{HoldsOne, IsHeldIn, IsFoundIn, HoldsNoTable, HasBook, HasNoBook, HoldsBook, KeepsBook, KeepsEither, StandsForEither, OpenFailed, LeavesMade, IsNoneOrNew}
+use Rattle.till_files.specs.Files.{HasBook, HasNoBook, HoldsBook, KeepsBook, KeepsEither, StandsForEither, LeavesMade, IsNoneOrNew}
+use Rattle.sql_rows.specs.Files.{HoldsOne, IsHeldIn, IsFoundIn, HoldsNoTable, OpenFailed}
 use Rattle.till_files.specs.Openings.{IsNotOpened, IsNotMade}
 use Rattle.till_files.proofs.Deciding.{stands_in_any}
 use Rattle.till_files.proofs.Keeping.{kept_one, only_committed}

@@ -20,7 +20,8 @@ use Rattle.sqlite.specs.Files.{HoldsDatabase, file_state}
 use Rattle.sqlite.proofs.Theorems.{opens_again}
 use Rattle.till_book.specs.Journal.{Journal}
 use Rattle.till_book.specs.Steps.{Rests, LeavesChanged}
-use Rattle.till_files.specs.Files.{HoldsOne, LeavesEither}
+use Rattle.till_files.specs.Files.{LeavesEither}
+use Rattle.sql_rows.specs.Files.{HoldsOne}
 
 pub clean_store : {D : Type 0} {g : Ghosts D} (it : FileStore D g) (files : Files D) → (files.log, files.db) ≡ store_files it → AreClean g files.log files.db → IsClean (view it)
 clean_store {D} {g} it files is honest = no_doubt _ (clean_is it.pool ∙ subst (λ (p : D × D). AreClean g p.0 p.1) is honest)

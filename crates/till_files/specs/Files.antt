@@ -1,21 +1,15 @@
 -- The till's book that two files hold.
-use Rattle.std.specs.Prelude.{◌≡◌, ◌⊎◌, ℕ, true, List, []}
+use Rattle.std.specs.Prelude.{◌≡◌, ◌⊎◌, []}
 use Rattle.sqlite_disk.specs.declared.Disk.{Ghosts}
 use Rattle.sqlite_disk.specs.declared.Files.{Files}
-use Rattle.sqlite_wal.specs.Files.{outcomes}
 use Rattle.sqlite_wal.specs.Reads.{AreClean}
 use Rattle.sqlite_wal.specs.Recovery.{Image}
-use Rattle.sqlite_pages.specs.PageMap.{PageMap}
-use Rattle.sqlite_pool.specs.Stored.{Adopts}
-use Rattle.sqlite_store.specs.declared.catalog.Wanted.{Wanted}
-use Rattle.sqlite_store.specs.Listing.{IsOurs, file_trees}
 use Rattle.sqlite_trees.specs.Tree.{Trees}
 use Rattle.sqlite_catalog.specs.Listing.{IsSound as IsDatabaseOf}
 use Rattle.sqlite.specs.State.{State}
-use Rattle.sqlite.specs.Files.{HoldsDatabase, IsNothing, IsEmpty, IsCleanLeft, LeavesFiles}
-use Rattle.sqlite.specs.Closing.{files_left}
-use Rattle.sqlite.specs.declared.file.Leftover.{Leftover}
+use Rattle.sqlite.specs.Files.{HoldsDatabase}
 use Rattle.sql_rows.specs.Books.{no_schema}
+use Rattle.sql_rows.specs.Files.{IsHeldIn, HoldsOne}
 use Rattle.till_book.specs.Tables.{book_schema}
 use Rattle.till_book.specs.Journal.{Journal, StandsFor}
 
@@ -23,19 +17,6 @@ abbrev pub empty_journal : Journal
 empty_journal = record { entries = []; replies = []; settled = [] }
 
 -- ---- what is found in files
-
--- The files hold this database: recovery finds pages in them that are a whole and sound file, which reads as these trees; and no other is read there.
-pub record IsHeldIn (image : Image) (db : Trees) : Type 0 where
-  pub recovers : (size : ℕ) × (pages : PageMap) × (wanted : List Wanted) × Adopts size image pages × ∥ IsOurs size true wanted pages ∥₁ × (db ≡ file_trees size wanted pages)
-  pub only : (other : Trees) → HoldsDatabase image other → db ≡ other
-
--- the same, or they were no database yet, and it is the empty one
-abbrev pub IsFoundIn : Image → Trees → Type 0
-IsFoundIn image db = IsHeldIn image db ⊎ (IsNothing image × IsEmpty db × ((other : Trees) → HoldsDatabase image other → db ≡ other))
-
--- what is found has no table
-abbrev pub HoldsNoTable : Image → Type 0
-HoldsNoTable image = (db : Trees) × IsFoundIn image db × IsDatabaseOf no_schema db
 
 -- the files hold a database that has the tables of a book, these and no other
 abbrev pub HasBook : Image → Type 0
@@ -53,10 +34,6 @@ pub record HoldsBook (image : Image) (journal : Journal) : Type 0 where
 
 -- ---- what is left in them
 
--- whatever a crash leaves of the files, or a read finds in them, is a database of which this holds
-abbrev pub HoldsOne : {D : Type 0} → Ghosts D → Files D → (Trees → Type 0) → Type 0
-HoldsOne g files P = (image : Image) → outcomes g files.log files.db image → ∥ ((db : Trees) × P db × HoldsDatabase image db) ∥₁
-
 -- the tables stand for the one journal or the other
 abbrev pub StandsForEither : Journal → Journal → Trees → Type 0
 StandsForEither journal besides db = StandsFor db journal ⊎ StandsFor db besides
@@ -73,10 +50,6 @@ KeepsBook g files journal = AreClean g files.log files.db → HoldsOne g files (
 -- they keep the one journal or the other
 abbrev pub KeepsEither : {D : Type 0} → Ghosts D → Files D → Journal → Journal → Type 0
 KeepsEither g files journal besides = AreClean g files.log files.db → HoldsOne g files (StandsForEither journal besides)
-
--- the files that an open of these left as it failed
-abbrev pub OpenFailed : {D : Type 0} → Ghosts D → Files D → Files D → Type 0
-OpenFailed {D} g files now = (left : Leftover D g) × (files_left left ≡ (now.log, now.db)) × (IsCleanLeft left → LeavesFiles files left)
 
 -- what a commit that makes the tables may leave on the disk
 abbrev pub LeavesMade : State → Trees → Type 0

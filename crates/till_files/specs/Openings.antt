@@ -14,7 +14,8 @@ use Rattle.till_book.specs.Journal.{Journal}
 use Rattle.till_book.specs.Steps.{Rests}
 use Rattle.till_files.specs.declared.faults.BookFault.{BookFault}
 use Rattle.till_files.specs.declared.faults.BookFault.TheVariants as fault
-use Rattle.till_files.specs.Files.{IsHeldIn, IsFoundIn, HoldsNoTable, HasBook, HasNoBook, HoldsBook, HoldsOne, KeepsBook, KeepsEither, OpenFailed, IsNoneOrNew, empty_journal}
+use Rattle.till_files.specs.Files.{HasBook, HasNoBook, HoldsBook, KeepsBook, KeepsEither, IsNoneOrNew, empty_journal}
+use Rattle.sql_rows.specs.Files.{IsHeldIn, IsFoundIn, HoldsNoTable, HoldsOne, OpenFailed}
 
 -- ---- making
 

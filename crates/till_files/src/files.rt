@@ -8,7 +8,8 @@ ghost use Rattle.sqlite_wal.specs.Files.{outcomes};
 ghost use Rattle.sqlite_wal.specs.Reads.{AreClean};
 ghost use Rattle.till_book.specs.Journal.{Journal};
 ghost use Rattle.till_book.specs.Steps.{Rests};
-ghost use Rattle.till_files.specs.Files.{HoldsOne, KeepsBook, KeepsEither, LeavesEither, OpenFailed};
+ghost use Rattle.till_files.specs.Files.{KeepsBook, KeepsEither, LeavesEither};
+ghost use Rattle.sql_rows.specs.Files.{HoldsOne, OpenFailed};
 
 use crate::faults::{BookFault, named};
 use sql_rows::fault_of;

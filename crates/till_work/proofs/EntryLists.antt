@@ -5,7 +5,7 @@ use Rattle.std.proofs.lemmas.List.{map_push, take_more}
 use Rattle.shop_model.specs.Rows.{numbered}
 use Rattle.shop_model.specs.Values.{Command}
 use Rattle.shop_model.specs.Answers.{Answer}
-use Rattle.shop_schema.proofs.Lists.{numbered_push}
+use Rattle.shop_model.proofs.RowLemmas.{numbered_push}
 use Rattle.shop_types.specs.Seen.{seen_command}
 use Rattle.till_model.specs.Tills.{Entry}
 use Rattle.till_model.specs.Laws.{entries_of}

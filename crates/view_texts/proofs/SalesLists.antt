@@ -10,7 +10,8 @@ use Rattle.shop_model.specs.Values.{Branch, Rental, Payment}
 use Rattle.shop_model.specs.Books.{Books, head, shop_of}
 use Rattle.shop_model.specs.Views.{StoreRow, paid_rentals, takings}
 use Rattle.shop_model.proofs.FoundLemmas.{found_none, found_some}
-use Rattle.shop_schema.proofs.Lists.{numbered_push, flat_map_push}
+use Rattle.shop_schema.proofs.Lists.{flat_map_push}
+use Rattle.shop_model.proofs.RowLemmas.{numbered_push}
 use Rattle.shop_views.specs.Page.{Page, HasValues}
 use Rattle.shop_views.specs.Sales.{store_data}
 use Rattle.view_texts.specs.Sales.{rental_sum, store_with, sales_of_branch, sales_of_first}
