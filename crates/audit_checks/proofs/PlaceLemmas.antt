@@ -5,7 +5,7 @@ use Rattle.std.proofs.lemmas.List.Sorted.{IsPermutation-map}
 use native.Mathlib.Numerals.{unary_clauses}
 use Rattle.shop_model.specs.Books.{Consignment}
 use Rattle.audit_rows.specs.declared.books.OrderedBooks.{OrderedBooks}
-use Rattle.audit_rows.specs.declared.rows.HeaderRow.{HeaderRow}
+use Rattle.audit_rows.specs.declared.rows.CheckedHeader.{CheckedHeader}
 use Rattle.audit_rows.specs.Joins.{Header, header}
 use Rattle.audit_rows.specs.Seen.{seen_header}
 use Rattle.audit_rows.specs.Ordered.{AreConsignmentsOf}
@@ -29,12 +29,12 @@ module _ (rows : OrderedBooks) (its : List Consignment) (o : AreConsignmentsOf r
   pub headers_are : map header o.by_key ≡ map seen_header rows.headers.items
   headers_are = (join_sound _ _ o.by_key o.joined).0
 
-  pub places_are : map (λ (it : Consignment). it.place) o.by_key ≡ map (λ (row : HeaderRow). row.place) rows.headers.items
+  pub places_are : map (λ (it : Consignment). it.place) o.by_key ≡ map (λ (row : CheckedHeader). row.place) rows.headers.items
   places_are =
       sym (map-twice (λ (h : Header). h.place) header o.by_key) ∙ ap (map (λ (h : Header). h.place)) headers_are
       ∙ map-twice (λ (h : Header). h.place) seen_header rows.headers.items
 
-  pub places_of_rows : IsPermutation (map (λ (row : HeaderRow). row.place) rows.headers.items) (map (λ (it : Consignment). it.place) its)
+  pub places_of_rows : IsPermutation (map (λ (row : CheckedHeader). row.place) rows.headers.items) (map (λ (it : Consignment). it.place) its)
   places_of_rows = subst (λ (ns : List ℕ). IsPermutation ns (map (λ (it : Consignment). it.place) its)) places_are (IsPermutation-map (λ (it : Consignment). it.place) o.by_key its o.all)
 
   pub sorted_places : IsSorted nat_cmp (map (λ (it : Consignment). it.place) its)

@@ -13,15 +13,15 @@ use Rattle.shop_model.specs.Links.{has_row, are_different, is_parcel}
 use Rattle.shop_model.specs.Books.{Books, BookCopy, Line, UnderWay, Consignment, shop_of, as_arrival, as_parcel, head}
 use Rattle.shop_model.specs.Sound.{HasOwners, IsSound, widest, all_lines, is_settled, line_is}
 use Rattle.audit_rows.specs.declared.books.OrderedBooks.{OrderedBooks}
-use Rattle.audit_rows.specs.declared.rows.BranchRow.{BranchRow}
-use Rattle.audit_rows.specs.declared.rows.CustomerRow.{CustomerRow}
-use Rattle.audit_rows.specs.declared.rows.CopyRow.{CopyRow}
-use Rattle.audit_rows.specs.declared.rows.RentalRow.{RentalRow}
-use Rattle.audit_rows.specs.declared.rows.TermsRow.{TermsRow}
-use Rattle.audit_rows.specs.declared.rows.PaymentRow.{PaymentRow}
-use Rattle.audit_rows.specs.declared.rows.LotRow.{LotRow}
-use Rattle.audit_rows.specs.declared.rows.KeptRow.{KeptRow}
-use Rattle.audit_rows.specs.declared.rows.HeaderRow.{HeaderRow}
+use Rattle.audit_rows.specs.declared.rows.CheckedBranch.{CheckedBranch}
+use Rattle.audit_rows.specs.declared.rows.CheckedCustomer.{CheckedCustomer}
+use Rattle.audit_rows.specs.declared.rows.CheckedCopy.{CheckedCopy}
+use Rattle.audit_rows.specs.declared.rows.CheckedRental.{CheckedRental}
+use Rattle.audit_rows.specs.declared.rows.CheckedTerms.{CheckedTerms}
+use Rattle.audit_rows.specs.declared.rows.CheckedPayment.{CheckedPayment}
+use Rattle.audit_rows.specs.declared.rows.CheckedLot.{CheckedLot}
+use Rattle.audit_rows.specs.declared.rows.CheckedKept.{CheckedKept}
+use Rattle.audit_rows.specs.declared.rows.CheckedHeader.{CheckedHeader}
 use Rattle.audit_rows.specs.Lists.{counts_from, climbs}
 use Rattle.audit_rows.specs.Joins.{Header, Placed, header, header_key, put_line, placed}
 use Rattle.audit_rows.specs.Seen.{seen_copy, seen_rental_row, seen_payment_row, seen_header, seen_placed, seen_line}
@@ -94,36 +94,36 @@ module _ (rows : OrderedBooks) (books : Books) (o : AreOrdered rows) (s : HaveOr
 
   -- ---- branch columns
 
-  own_customers : list_all (λ (row : Row Customer). has_row books.catalogue.branches row.branch) books.customers ≡ list_all (λ (row : CustomerRow). is_among count row.branch) rows.customers.items
+  own_customers : list_all (λ (row : Row Customer). has_row books.catalogue.branches row.branch) books.customers ≡ list_all (λ (row : CheckedCustomer). is_among count row.branch) rows.customers.items
   own_customers = moved customer_row books.customers rows.customers.items s.customers _ _ (λ row. branch_is row.branch)
 
-  own_copies : list_all (λ (row : Row BookCopy). has_row books.catalogue.branches row.branch) books.copies ≡ list_all (λ (row : CopyRow). is_among count row.branch) rows.copies.items
+  own_copies : list_all (λ (row : Row BookCopy). has_row books.catalogue.branches row.branch) books.copies ≡ list_all (λ (row : CheckedCopy). is_among count row.branch) rows.copies.items
   own_copies = ap (list_all (λ (row : Row BookCopy). has_row books.catalogue.branches row.branch)) s.copies ∙ all-map _ seen_copy rows.copies.items ∙ all_congr _ _ (λ row. branch_is row.branch) rows.copies.items
 
-  own_rentals : list_all (λ (row : Row Rental). has_row books.catalogue.branches row.branch) books.rentals ≡ list_all (λ (row : RentalRow). is_among count row.branch) rows.rentals.items
+  own_rentals : list_all (λ (row : Row Rental). has_row books.catalogue.branches row.branch) books.rentals ≡ list_all (λ (row : CheckedRental). is_among count row.branch) rows.rentals.items
   own_rentals = ap (list_all (λ (row : Row Rental). has_row books.catalogue.branches row.branch)) s.rentals ∙ all-map _ seen_rental_row rows.rentals.items ∙ all_congr _ _ (λ row. branch_is row.branch) rows.rentals.items
 
-  own_terms : list_all (λ (row : Row Terms). has_row books.catalogue.branches row.branch) books.terms ≡ list_all (λ (row : TermsRow). is_among count row.branch) rows.terms.items
+  own_terms : list_all (λ (row : Row Terms). has_row books.catalogue.branches row.branch) books.terms ≡ list_all (λ (row : CheckedTerms). is_among count row.branch) rows.terms.items
   own_terms = moved terms_row books.terms rows.terms.items s.terms _ _ (λ row. branch_is row.branch)
 
-  own_payments : list_all (λ (row : Row Payment). has_row books.catalogue.branches row.branch) books.payments ≡ list_all (λ (row : PaymentRow). is_among count row.branch) rows.payments.items
+  own_payments : list_all (λ (row : Row Payment). has_row books.catalogue.branches row.branch) books.payments ≡ list_all (λ (row : CheckedPayment). is_among count row.branch) rows.payments.items
   own_payments = ap (list_all (λ (row : Row Payment). has_row books.catalogue.branches row.branch)) s.payments ∙ all-map _ seen_payment_row rows.payments.items ∙ all_congr _ _ (λ row. branch_is row.branch) rows.payments.items
 
-  own_lots : list_all (λ (row : Owned Text). has_row books.catalogue.branches row.owner) books.lots ≡ list_all (λ (row : LotRow). is_among count row.branch) rows.lots.items
+  own_lots : list_all (λ (row : Owned Text). has_row books.catalogue.branches row.owner) books.lots ≡ list_all (λ (row : CheckedLot). is_among count row.branch) rows.lots.items
   own_lots = moved lot_row books.lots rows.lots.items s.lots _ _ (λ row. branch_is row.owner)
 
-  own_kept : list_all (λ (row : Owned Kept). has_row books.catalogue.branches row.owner) books.kept ≡ list_all (λ (row : KeptRow). is_among count row.branch) rows.kept.items
+  own_kept : list_all (λ (row : Owned Kept). has_row books.catalogue.branches row.owner) books.kept ≡ list_all (λ (row : CheckedKept). is_among count row.branch) rows.kept.items
   own_kept = moved kept_row books.kept rows.kept.items s.kept _ _ (λ row. branch_is row.owner)
 
   -- a test of consignments is one of their headers
-  of_headers : (p : Consignment → Bool) (q : Header → Bool) → ((it : Consignment) → p it ≡ q (header it)) → list_all p its ≡ list_all (λ (row : HeaderRow). q (seen_header row)) rows.headers.items
+  of_headers : (p : Consignment → Bool) (q : Header → Bool) → ((it : Consignment) → p it ≡ q (header it)) → list_all p its ≡ list_all (λ (row : CheckedHeader). q (seen_header row)) rows.headers.items
   of_headers p q h =
       sym (all_along p by_key its s.consignments.all) ∙ moved header by_key (map seen_header rows.headers.items) (headers_are rows its s.consignments) p q h ∙ all-map q seen_header rows.headers.items
 
-  own_sources : list_all (λ (it : Consignment). has_row books.catalogue.branches it.source) its ≡ list_all (λ (row : HeaderRow). is_among count row.source) rows.headers.items
+  own_sources : list_all (λ (it : Consignment). has_row books.catalogue.branches it.source) its ≡ list_all (λ (row : CheckedHeader). is_among count row.source) rows.headers.items
   own_sources = of_headers _ (λ (h : Header). is_among count h.source) (λ it. branch_is it.source)
 
-  own_addressees : list_all (λ (it : Consignment). has_row books.catalogue.branches it.addressee) its ≡ list_all (λ (row : HeaderRow). is_among count row.addressee) rows.headers.items
+  own_addressees : list_all (λ (it : Consignment). has_row books.catalogue.branches it.addressee) its ≡ list_all (λ (row : CheckedHeader). is_among count row.addressee) rows.headers.items
   own_addressees = of_headers _ (λ (h : Header). is_among count h.addressee) (λ it. branch_is it.addressee)
 
   own_lasts : list_all (λ (row : Owned Moment). has_row books.catalogue.branches row.owner) books.lasts ≡ true
@@ -132,26 +132,26 @@ module _ (rows : OrderedBooks) (books : Books) (o : AreOrdered rows) (s : HaveOr
       ∙ lasts_owned count 1 (omega arith) rows.branches.items (omega arith)
 
   pub record Owners : Type 0 where
-    pub customers : list_all (λ (row : CustomerRow). is_among count row.branch) rows.customers.items ≡ true
-    pub copies : list_all (λ (row : CopyRow). is_among count row.branch) rows.copies.items ≡ true
-    pub rentals : list_all (λ (row : RentalRow). is_among count row.branch) rows.rentals.items ≡ true
-    pub terms : list_all (λ (row : TermsRow). is_among count row.branch) rows.terms.items ≡ true
-    pub payments : list_all (λ (row : PaymentRow). is_among count row.branch) rows.payments.items ≡ true
-    pub lots : list_all (λ (row : LotRow). is_among count row.branch) rows.lots.items ≡ true
-    pub kept : list_all (λ (row : KeptRow). is_among count row.branch) rows.kept.items ≡ true
-    pub sources : list_all (λ (row : HeaderRow). is_among count row.source) rows.headers.items ≡ true
-    pub addressees : list_all (λ (row : HeaderRow). is_among count row.addressee) rows.headers.items ≡ true
+    pub customers : list_all (λ (row : CheckedCustomer). is_among count row.branch) rows.customers.items ≡ true
+    pub copies : list_all (λ (row : CheckedCopy). is_among count row.branch) rows.copies.items ≡ true
+    pub rentals : list_all (λ (row : CheckedRental). is_among count row.branch) rows.rentals.items ≡ true
+    pub terms : list_all (λ (row : CheckedTerms). is_among count row.branch) rows.terms.items ≡ true
+    pub payments : list_all (λ (row : CheckedPayment). is_among count row.branch) rows.payments.items ≡ true
+    pub lots : list_all (λ (row : CheckedLot). is_among count row.branch) rows.lots.items ≡ true
+    pub kept : list_all (λ (row : CheckedKept). is_among count row.branch) rows.kept.items ≡ true
+    pub sources : list_all (λ (row : CheckedHeader). is_among count row.source) rows.headers.items ≡ true
+    pub addressees : list_all (λ (row : CheckedHeader). is_among count row.addressee) rows.headers.items ≡ true
 
   owners_open : is_owned rows ≡ true → Owners
   owners_open h =
       let a2 = both (are_rows_owned rows && are_others_owned rows) (are_consignments_owned rows) h in
       let a1 = both (are_rows_owned rows) (are_others_owned rows) a2.0 in
-      let r4 = both (list_all (λ (row : CustomerRow). is_among count row.branch) rows.customers.items && list_all (λ (row : CopyRow). is_among count row.branch) rows.copies.items && list_all (λ (row : RentalRow). is_among count row.branch) rows.rentals.items && list_all (λ (row : PaymentRow). is_among count row.branch) rows.payments.items) (list_all (λ (row : TermsRow). is_among count row.branch) rows.terms.items) a1.0 in
-      let r3 = both (list_all (λ (row : CustomerRow). is_among count row.branch) rows.customers.items && list_all (λ (row : CopyRow). is_among count row.branch) rows.copies.items && list_all (λ (row : RentalRow). is_among count row.branch) rows.rentals.items) (list_all (λ (row : PaymentRow). is_among count row.branch) rows.payments.items) r4.0 in
-      let r2 = both (list_all (λ (row : CustomerRow). is_among count row.branch) rows.customers.items && list_all (λ (row : CopyRow). is_among count row.branch) rows.copies.items) (list_all (λ (row : RentalRow). is_among count row.branch) rows.rentals.items) r3.0 in
-      let r1 = both (list_all (λ (row : CustomerRow). is_among count row.branch) rows.customers.items) (list_all (λ (row : CopyRow). is_among count row.branch) rows.copies.items) r2.0 in
-      let q1 = both (list_all (λ (row : LotRow). is_among count row.branch) rows.lots.items) (list_all (λ (row : KeptRow). is_among count row.branch) rows.kept.items) a1.1 in
-      let c1 = both (list_all (λ (row : HeaderRow). is_among count row.source) rows.headers.items) (list_all (λ (row : HeaderRow). is_among count row.addressee) rows.headers.items) a2.1 in
+      let r4 = both (list_all (λ (row : CheckedCustomer). is_among count row.branch) rows.customers.items && list_all (λ (row : CheckedCopy). is_among count row.branch) rows.copies.items && list_all (λ (row : CheckedRental). is_among count row.branch) rows.rentals.items && list_all (λ (row : CheckedPayment). is_among count row.branch) rows.payments.items) (list_all (λ (row : CheckedTerms). is_among count row.branch) rows.terms.items) a1.0 in
+      let r3 = both (list_all (λ (row : CheckedCustomer). is_among count row.branch) rows.customers.items && list_all (λ (row : CheckedCopy). is_among count row.branch) rows.copies.items && list_all (λ (row : CheckedRental). is_among count row.branch) rows.rentals.items) (list_all (λ (row : CheckedPayment). is_among count row.branch) rows.payments.items) r4.0 in
+      let r2 = both (list_all (λ (row : CheckedCustomer). is_among count row.branch) rows.customers.items && list_all (λ (row : CheckedCopy). is_among count row.branch) rows.copies.items) (list_all (λ (row : CheckedRental). is_among count row.branch) rows.rentals.items) r3.0 in
+      let r1 = both (list_all (λ (row : CheckedCustomer). is_among count row.branch) rows.customers.items) (list_all (λ (row : CheckedCopy). is_among count row.branch) rows.copies.items) r2.0 in
+      let q1 = both (list_all (λ (row : CheckedLot). is_among count row.branch) rows.lots.items) (list_all (λ (row : CheckedKept). is_among count row.branch) rows.kept.items) a1.1 in
+      let c1 = both (list_all (λ (row : CheckedHeader). is_among count row.source) rows.headers.items) (list_all (λ (row : CheckedHeader). is_among count row.addressee) rows.headers.items) a2.1 in
       record { customers = r1.0; copies = r1.1; rentals = r2.1; terms = r4.1; payments = r3.1; lots = q1.0; kept = q1.1; sources = c1.0; addressees = c1.1 }
 
   owners_from_rows : is_owned rows ≡ true → HasOwners books.catalogue.branches books
@@ -161,15 +161,15 @@ module _ (rows : OrderedBooks) (books : Books) (o : AreOrdered rows) (s : HaveOr
 
   rows_from_owners : HasOwners books.catalogue.branches books → is_owned rows ≡ true
   rows_from_owners g =
-      let p0 : list_all (λ (row : CustomerRow). is_among count row.branch) rows.customers.items ≡ true = sym own_customers ∙ g.customers in
-      let p1 : list_all (λ (row : CopyRow). is_among count row.branch) rows.copies.items ≡ true = sym own_copies ∙ g.copies in
-      let p2 : list_all (λ (row : RentalRow). is_among count row.branch) rows.rentals.items ≡ true = sym own_rentals ∙ g.rentals in
-      let p3 : list_all (λ (row : PaymentRow). is_among count row.branch) rows.payments.items ≡ true = sym own_payments ∙ g.payments in
-      let t : list_all (λ (row : TermsRow). is_among count row.branch) rows.terms.items ≡ true = sym own_terms ∙ g.terms in
-      let p4 : list_all (λ (row : LotRow). is_among count row.branch) rows.lots.items ≡ true = sym own_lots ∙ g.lots in
-      let p5 : list_all (λ (row : KeptRow). is_among count row.branch) rows.kept.items ≡ true = sym own_kept ∙ g.kept in
-      let p6 : list_all (λ (row : HeaderRow). is_among count row.source) rows.headers.items ≡ true = sym own_sources ∙ g.sources in
-      let p7 : list_all (λ (row : HeaderRow). is_among count row.addressee) rows.headers.items ≡ true = sym own_addressees ∙ g.addressees in
+      let p0 : list_all (λ (row : CheckedCustomer). is_among count row.branch) rows.customers.items ≡ true = sym own_customers ∙ g.customers in
+      let p1 : list_all (λ (row : CheckedCopy). is_among count row.branch) rows.copies.items ≡ true = sym own_copies ∙ g.copies in
+      let p2 : list_all (λ (row : CheckedRental). is_among count row.branch) rows.rentals.items ≡ true = sym own_rentals ∙ g.rentals in
+      let p3 : list_all (λ (row : CheckedPayment). is_among count row.branch) rows.payments.items ≡ true = sym own_payments ∙ g.payments in
+      let t : list_all (λ (row : CheckedTerms). is_among count row.branch) rows.terms.items ≡ true = sym own_terms ∙ g.terms in
+      let p4 : list_all (λ (row : CheckedLot). is_among count row.branch) rows.lots.items ≡ true = sym own_lots ∙ g.lots in
+      let p5 : list_all (λ (row : CheckedKept). is_among count row.branch) rows.kept.items ≡ true = sym own_kept ∙ g.kept in
+      let p6 : list_all (λ (row : CheckedHeader). is_among count row.source) rows.headers.items ≡ true = sym own_sources ∙ g.sources in
+      let p7 : list_all (λ (row : CheckedHeader). is_among count row.addressee) rows.headers.items ≡ true = sym own_addressees ∙ g.addressees in
       (λ i. (p0 i && p1 i && p2 i && p3 i && t i) && (p4 i && p5 i) && (p6 i && p7 i))
 
   -- ---- custody
@@ -244,23 +244,23 @@ module _ (rows : OrderedBooks) (books : Books) (o : AreOrdered rows) (s : HaveOr
   lots_differ b =
       different_congr _ _ (λ x y. bytes_eq_symm y x) (owned_by b books.lots)
       ∙ own_different (λ (t : Text). t) b books.lots
-      (sym (different-map (λ (x y : LotRow). bytes_eq (x.branch ∷ x.name) (y.branch ∷ y.name)) lot_row books.lots)
-      ∙ ap (are_different (λ (x y : LotRow). bytes_eq (x.branch ∷ x.name) (y.branch ∷ y.name))) s.lots
-      ∙ sym (different-map bytes_eq (λ (x : LotRow). x.branch ∷ x.name) rows.lots.items) ∙ different_from_climbs (map (λ (x : LotRow). x.branch ∷ x.name) rows.lots.items) o.lots)
+      (sym (different-map (λ (x y : CheckedLot). bytes_eq (x.branch ∷ x.name) (y.branch ∷ y.name)) lot_row books.lots)
+      ∙ ap (are_different (λ (x y : CheckedLot). bytes_eq (x.branch ∷ x.name) (y.branch ∷ y.name))) s.lots
+      ∙ sym (different-map bytes_eq (λ (x : CheckedLot). x.branch ∷ x.name) rows.lots.items) ∙ different_from_climbs (map (λ (x : CheckedLot). x.branch ∷ x.name) rows.lots.items) o.lots)
 
   keys_differ : (b : ℕ) → are_different (λ (earlier later : Kept). bytes_eq earlier.command.key later.command.key) (owned_by b books.kept) ≡ true
   keys_differ b =
       own_different (λ (k : Kept). k.command.key) b books.kept
-      (sym (different-map (λ (x y : KeptRow). bytes_eq (x.branch ∷ x.key) (y.branch ∷ y.key)) kept_row books.kept)
-      ∙ ap (are_different (λ (x y : KeptRow). bytes_eq (x.branch ∷ x.key) (y.branch ∷ y.key))) s.kept
-      ∙ sym (different-map bytes_eq (λ (x : KeptRow). x.branch ∷ x.key) rows.kept.items) ∙ different_from_climbs (map (λ (x : KeptRow). x.branch ∷ x.key) rows.kept.items) o.kept)
+      (sym (different-map (λ (x y : CheckedKept). bytes_eq (x.branch ∷ x.key) (y.branch ∷ y.key)) kept_row books.kept)
+      ∙ ap (are_different (λ (x y : CheckedKept). bytes_eq (x.branch ∷ x.key) (y.branch ∷ y.key))) s.kept
+      ∙ sym (different-map bytes_eq (λ (x : CheckedKept). x.branch ∷ x.key) rows.kept.items) ∙ different_from_climbs (map (λ (x : CheckedKept). x.branch ∷ x.key) rows.kept.items) o.kept)
 
   -- ---- each branch
 
-  abbrev good_at : ℕ → BranchRow → Bool
+  abbrev good_at : ℕ → CheckedBranch → Bool
   good_at b row = is_good_part rows b row.last (branch_rows rows b)
 
-  parts_are : (k : ℕ) (xs : List BranchRow) → are_good_from rows k xs ≡ all_from good_at k xs
+  parts_are : (k : ℕ) (xs : List CheckedBranch) → are_good_from rows k xs ≡ all_from good_at k xs
   parts_are k [] = refl
   parts_are k (x ∷ xs) = ap (λ t. good_at k x && t) (parts_are (k + 1) xs)
 
@@ -271,14 +271,14 @@ module _ (rows : OrderedBooks) (books : Books) (o : AreOrdered rows) (s : HaveOr
   nothing_owned h b none =
       let p = owners_open h in
       λ i. record {
-        customers = none_owned (λ (row : CustomerRow). row.branch) count b none rows.customers.items p.customers i;
-        copies = none_owned (λ (row : CopyRow). row.branch) count b none rows.copies.items p.copies i;
-        rentals = none_owned (λ (row : RentalRow). row.branch) count b none rows.rentals.items p.rentals i;
-        terms = none_owned (λ (row : TermsRow). row.branch) count b none rows.terms.items p.terms i;
-        payments = none_owned (λ (row : PaymentRow). row.branch) count b none rows.payments.items p.payments i;
-        lots = length (none_owned (λ (row : LotRow). row.branch) count b none rows.lots.items p.lots i);
-        kept = length (none_owned (λ (row : KeptRow). row.branch) count b none rows.kept.items p.kept i);
-        sent = length (none_owned (λ (row : HeaderRow). row.source) count b none rows.headers.items p.sources i);
+        customers = none_owned (λ (row : CheckedCustomer). row.branch) count b none rows.customers.items p.customers i;
+        copies = none_owned (λ (row : CheckedCopy). row.branch) count b none rows.copies.items p.copies i;
+        rentals = none_owned (λ (row : CheckedRental). row.branch) count b none rows.rentals.items p.rentals i;
+        terms = none_owned (λ (row : CheckedTerms). row.branch) count b none rows.terms.items p.terms i;
+        payments = none_owned (λ (row : CheckedPayment). row.branch) count b none rows.payments.items p.payments i;
+        lots = length (none_owned (λ (row : CheckedLot). row.branch) count b none rows.lots.items p.lots i);
+        kept = length (none_owned (λ (row : CheckedKept). row.branch) count b none rows.kept.items p.kept i);
+        sent = length (none_owned (λ (row : CheckedHeader). row.source) count b none rows.headers.items p.sources i);
       }
 
   nothing_is_good : (b : ℕ) → is_good_part rows b None empty_part ≡ true
@@ -292,10 +292,10 @@ module _ (rows : OrderedBooks) (books : Books) (o : AreOrdered rows) (s : HaveOr
   last_is (suc b) = ap (λ (ls : List (Owned Moment)). head (owned_by (suc b) ls)) s.lasts ∙ last_at 1 rows.branches.items (suc b) (suc b) refl (omega arith)
 
   not_there : (b : ℕ) → at b rows.branches.items ≡ [] → is_among count b ≡ false
-  not_there b e = sym (has_row_is rows.branches.items b) ∙ ap (λ (xs : List BranchRow). not (is_empty xs)) e
+  not_there b e = sym (has_row_is rows.branches.items b) ∙ ap (λ (xs : List CheckedBranch). not (is_empty xs)) e
 
-  low : (b : ℕ) (row : BranchRow) → at b rows.branches.items ≡ row ∷ [] → 1 ≤ b
-  low b row e = least b (sym (has_row_is rows.branches.items b) ∙ ap (λ (xs : List BranchRow). not (is_empty xs)) e)
+  low : (b : ℕ) (row : CheckedBranch) → at b rows.branches.items ≡ row ∷ [] → 1 ≤ b
+  low b row e = least b (sym (has_row_is rows.branches.items b) ∙ ap (λ (xs : List CheckedBranch). not (is_empty xs)) e)
     where
       least : (m : ℕ) → is_among count m ≡ true → 1 ≤ m
       least m h = grind (arith, nat_tests)
@@ -306,7 +306,7 @@ module _ (rows : OrderedBooks) (books : Books) (o : AreOrdered rows) (s : HaveOr
         facts_from_part rows books o s b None (last_is b ∙ ap last_in e) rules (ap (is_good_part rows b None) (nothing_owned owned b (not_there b e)) ∙ nothing_is_good b)
     | inr it ↦
         facts_from_part rows books o s b it.0.last (last_is b ∙ ap last_in it.1) rules
-        (both (good_at b it.0) true (subst (λ (xs : List BranchRow). list_all (good_at b) xs ≡ true) it.1
+        (both (good_at b it.0) true (subst (λ (xs : List CheckedBranch). list_all (good_at b) xs ≡ true) it.1
         (all_from_at good_at 1 rows.branches.items (sym (parts_are 1 rows.branches.items) ∙ good) b b refl (low b it.0 it.1)))).0
   ]
 

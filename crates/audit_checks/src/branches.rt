@@ -5,7 +5,8 @@ ghost use Rattle.audit_rows.specs.Lists.{front_of, back_of};
 ghost use Rattle.audit_checks.specs.Parts.{rows_of, front_rows, AreBehind};
 
 use audit_rows::{
-    CopyRow, CustomerRow, HeaderRow, KeptRow, LotRow, Owned, PaymentRow, RentalRow, TermsRow,
+    CheckedCopy, CheckedCustomer, CheckedHeader, CheckedKept, CheckedLot, CheckedPayment,
+    CheckedRental, CheckedTerms, Owned,
 };
 
 /// The rows in front that are the branch's, and all behind them.
@@ -24,11 +25,11 @@ pub fn split_branch<T: Owned>(rows: &[T], branch: u32) -> (&[T], &[T])
 /// What one branch has: its rows, and how many lots, kept commands and consignments that it sent.
 #[derive(Clone, Copy)]
 pub struct Part<'a> {
-    pub customers: &'a [CustomerRow],
-    pub copies: &'a [CopyRow],
-    pub rentals: &'a [RentalRow],
-    pub terms: &'a [TermsRow],
-    pub payments: &'a [PaymentRow],
+    pub customers: &'a [CheckedCustomer],
+    pub copies: &'a [CheckedCopy],
+    pub rentals: &'a [CheckedRental],
+    pub terms: &'a [CheckedTerms],
+    pub payments: &'a [CheckedPayment],
     pub lots: usize,
     pub kept: usize,
     pub sent: usize,
@@ -37,14 +38,14 @@ pub struct Part<'a> {
 /// The rows of all branches behind those that were taken.
 #[derive(Clone, Copy)]
 pub struct Rest<'a> {
-    pub customers: &'a [CustomerRow],
-    pub copies: &'a [CopyRow],
-    pub rentals: &'a [RentalRow],
-    pub terms: &'a [TermsRow],
-    pub payments: &'a [PaymentRow],
-    pub lots: &'a [LotRow],
-    pub kept: &'a [KeptRow],
-    pub headers: &'a [HeaderRow],
+    pub customers: &'a [CheckedCustomer],
+    pub copies: &'a [CheckedCopy],
+    pub rentals: &'a [CheckedRental],
+    pub terms: &'a [CheckedTerms],
+    pub payments: &'a [CheckedPayment],
+    pub lots: &'a [CheckedLot],
+    pub kept: &'a [CheckedKept],
+    pub headers: &'a [CheckedHeader],
 }
 
 /// What the branch has in front, and all behind it.

@@ -11,7 +11,8 @@ ghost use Rattle.audit_checks.specs.Catalogues.{managers_from, is_named, is_shar
 
 use crate::links::{is_among, is_staff_of};
 use audit_rows::{
-    BranchRow, CastRow, CityRow, FilmRow, Keyed, OrderedBooks, StaffRow, are_distinct,
+    CheckedBranch, CheckedCast, CheckedCity, CheckedFilm, CheckedStaff, Keyed, OrderedBooks,
+    are_distinct,
 };
 use shop_types::{NoMemory, T45, Token};
 use std::alloc::Global;
@@ -19,7 +20,7 @@ use std::cmp::Ordering;
 
 // ---- references
 
-fn cities_have_countries(cities: &[CityRow], countries: usize) -> bool
+fn cities_have_countries(cities: &[CheckedCity], countries: usize) -> bool
     ensures { result ≡ list_all (λ row. is_among countries row.country) cities.now }
 {
     cities
@@ -27,7 +28,7 @@ fn cities_have_countries(cities: &[CityRow], countries: usize) -> bool
         .all(|row| is_among(countries, row.country.get()))
 }
 
-fn films_are_named(films: &[FilmRow], languages: usize, categories: usize) -> bool
+fn films_are_named(films: &[CheckedFilm], languages: usize, categories: usize) -> bool
     ensures { result ≡ list_all (λ row. is_among languages row.language && is_among categories row.category) films.now }
 {
     films.iter().all(|row| {
@@ -35,26 +36,26 @@ fn films_are_named(films: &[FilmRow], languages: usize, categories: usize) -> bo
     })
 }
 
-fn casts_are_named(casts: &[CastRow], films: usize, actors: usize) -> bool
+fn casts_are_named(casts: &[CheckedCast], films: usize, actors: usize) -> bool
     ensures { result ≡ list_all (λ row. is_among films row.film && is_among actors row.actor) casts.now }
 {
     casts.iter().all(|row| is_among(films, row.film.get()) && is_among(actors, row.actor.get()))
 }
 
-fn branches_have_cities(branches: &[BranchRow], cities: usize) -> bool
+fn branches_have_cities(branches: &[CheckedBranch], cities: usize) -> bool
     ensures { result ≡ list_all (λ row. is_among cities row.city) branches.now }
 {
     branches.iter().all(|row| is_among(cities, row.city.get()))
 }
 
-fn staff_are_named(staff: &[StaffRow], branches: usize, cities: usize) -> bool
+fn staff_are_named(staff: &[CheckedStaff], branches: usize, cities: usize) -> bool
     ensures { result ≡ list_all (λ row. is_among branches row.branch && is_among cities row.city) staff.now }
 {
     staff.iter().all(|row| is_among(branches, row.branch.get()) && is_among(cities, row.city.get()))
 }
 
 /// Whether the branch's manager, where it has one, is of its staff.
-fn is_managed(staff: &[StaffRow], branch: u32, row: &BranchRow) -> bool
+fn is_managed(staff: &[CheckedStaff], branch: u32, row: &CheckedBranch) -> bool
     ensures { result ≡ list_all (is_staff_row branch staff.now) (option_to_list row.now.manager) }
 {
     match row.manager {
@@ -64,7 +65,7 @@ fn is_managed(staff: &[StaffRow], branch: u32, row: &BranchRow) -> bool
 }
 
 /// Whether each branch's manager, where it has one, is of its staff.
-fn are_managed(staff: &[StaffRow], branches: &[BranchRow]) -> bool
+fn are_managed(staff: &[CheckedStaff], branches: &[CheckedBranch]) -> bool
     requires { length branches.now ≤ 1_000_003 }
     ensures { result ≡ managers_from 1 staff.now branches.now }
 {
@@ -173,7 +174,7 @@ impl Keyed for TokenKey {
     }
 }
 
-fn token_keys(alloc: Global, branches: &[BranchRow]) -> Result<Vec<TokenKey>, NoMemory>
+fn token_keys(alloc: Global, branches: &[CheckedBranch]) -> Result<Vec<TokenKey>, NoMemory>
     ensures { IfOk result (λ v. map (λ row. row.token) v.items ≡ map (λ row. row.token) branches.now) }
 {
     let mut keys = Vec::new(alloc);
@@ -186,7 +187,7 @@ fn token_keys(alloc: Global, branches: &[BranchRow]) -> Result<Vec<TokenKey>, No
 }
 
 /// Whether no two branches have one token.
-fn tokens_differ(alloc: Global, branches: &[BranchRow]) -> Result<bool, NoMemory>
+fn tokens_differ(alloc: Global, branches: &[CheckedBranch]) -> Result<bool, NoMemory>
     ensures { IfOk result (λ is. is
         ≡ are_different (λ earlier later. bytes_eq earlier.token later.token) branches.now) }
 {
@@ -195,7 +196,7 @@ fn tokens_differ(alloc: Global, branches: &[BranchRow]) -> Result<bool, NoMemory
 }
 
 /// Whether no branch has head office's token.
-fn tokens_are_theirs(branches: &[BranchRow], office_token: &Token) -> bool
+fn tokens_are_theirs(branches: &[CheckedBranch], office_token: &Token) -> bool
     ensures { result ≡ list_all (λ row. not (bytes_eq row.token office_token.now)) branches.now }
 {
     branches

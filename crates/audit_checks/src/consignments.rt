@@ -9,12 +9,12 @@ ghost use Rattle.audit_rows.specs.Seen.{seen_header, seen_placed, seen_line};
 ghost use Rattle.audit_checks.specs.Consignments.{is_good_line, are_good_lines, are_settled, follows, pairs_follow};
 
 use crate::links::is_among;
-use audit_rows::{HeaderRow, LineRow, LineState, counts, split_group};
+use audit_rows::{CheckedHeader, CheckedLine, LineState, counts, split_group};
 use shop_types::NoMemory;
 use std::alloc::Global;
 
 /// Whether the line is under way or not, as it has to be, and its film is one of so many.
-fn is_good_line(films: usize, received: bool, row: &LineRow) -> bool
+fn is_good_line(films: usize, received: bool, row: &CheckedLine) -> bool
     ensures { result ≡ is_good_line films received (seen_line row.now) }
 {
     let settled = match row.state {
@@ -26,7 +26,7 @@ fn is_good_line(films: usize, received: bool, row: &LineRow) -> bool
 }
 
 /// Whether each line is as it has to be.
-fn are_all_good(films: usize, received: bool, lines: &[LineRow]) -> bool
+fn are_all_good(films: usize, received: bool, lines: &[CheckedLine]) -> bool
     ensures { result ≡ list_all (is_good_line films received) (map seen_line lines.now) }
 {
     for row in lines {
@@ -38,7 +38,7 @@ fn are_all_good(films: usize, received: bool, lines: &[LineRow]) -> bool
 }
 
 /// Whether the lines are 1 to 100, and each is as it has to be.
-fn are_good_lines(films: usize, received: bool, lines: &[LineRow]) -> bool
+fn are_good_lines(films: usize, received: bool, lines: &[CheckedLine]) -> bool
     ensures { result ≡ are_good_lines films received (map seen_line lines.now) }
 {
     0 < lines.len() && lines.len() <= 100 && are_all_good(films, received, lines)
@@ -46,7 +46,7 @@ fn are_good_lines(films: usize, received: bool, lines: &[LineRow]) -> bool
 
 /// Whether each consignment is received and no line is under way, or isn't and all are, whether it has 1 to 100
 /// lines, and whether their films are there.
-pub fn are_settled(films: usize, headers: &[HeaderRow], lines: &[LineRow]) -> bool
+pub fn are_settled(films: usize, headers: &[CheckedHeader], lines: &[CheckedLine]) -> bool
     ensures { result ≡ are_settled films (map seen_header headers.now) (map seen_placed lines.now) }
 {
     let mut rest = lines;
@@ -61,7 +61,7 @@ pub fn are_settled(films: usize, headers: &[HeaderRow], lines: &[LineRow]) -> bo
     true
 }
 
-fn places_of(alloc: Global, headers: &[HeaderRow]) -> Result<Vec<u64>, NoMemory>
+fn places_of(alloc: Global, headers: &[CheckedHeader]) -> Result<Vec<u64>, NoMemory>
     ensures { IfOk result (λ v. v.items ≡ map (λ row. row.place) headers.now) }
 {
     let mut places = Vec::new(alloc);
@@ -74,7 +74,7 @@ fn places_of(alloc: Global, headers: &[HeaderRow]) -> Result<Vec<u64>, NoMemory>
 }
 
 /// Whether the places are 1, 2, .. in their order.
-pub fn places_count(alloc: Global, headers: &[HeaderRow]) -> Result<bool, NoMemory>
+pub fn places_count(alloc: Global, headers: &[CheckedHeader]) -> Result<bool, NoMemory>
     ensures { IfOk result (λ is. (places : List ℕ) → IsPermutation (map (λ row. row.place) headers.now) places
         → IsSorted nat_cmp places → is ≡ counts_from 1 places) }
 {
@@ -84,7 +84,7 @@ pub fn places_count(alloc: Global, headers: &[HeaderRow]) -> Result<bool, NoMemo
 }
 
 /// Whether the consignment comes next.
-fn follows(last: &HeaderRow, row: &HeaderRow) -> bool
+fn follows(last: &CheckedHeader, row: &CheckedHeader) -> bool
     ensures { result ≡ follows (seen_header last.now) (seen_header row.now) }
 {
     if last.source.get() == row.source.get() && last.addressee.get() == row.addressee.get() {
@@ -95,7 +95,7 @@ fn follows(last: &HeaderRow, row: &HeaderRow) -> bool
 }
 
 /// Whether those of each sender and addressee are numbered 1, 2, .. in the order of their places.
-pub fn pairs_follow(headers: &[HeaderRow]) -> bool
+pub fn pairs_follow(headers: &[CheckedHeader]) -> bool
     ensures { result ≡ pairs_follow (map seen_header headers.now) }
 {
     let Some((first, rest)) = headers.split_first() else {

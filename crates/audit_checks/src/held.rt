@@ -8,10 +8,10 @@ ghost use Rattle.shop_types.specs.Seen.{seen_rental};
 ghost use Rattle.audit_rows.specs.Seen.{shop_copy};
 ghost use Rattle.audit_rows.specs.Shops.{is_held_here};
 
-use audit_rows::{CopyRow, CopyState, RentalRow};
+use audit_rows::{CheckedCopy, CheckedRental, CopyState};
 use shop_types::CopyNo;
 
-fn is_here(row: &CopyRow) -> bool
+fn is_here(row: &CheckedCopy) -> bool
     ensures { result ≡ is_here (shop_copy row.now) }
 {
     match row.state {
@@ -22,7 +22,7 @@ fn is_here(row: &CopyRow) -> bool
 }
 
 /// Whether the copy of that number, which is its place, is here.
-fn is_copy_here(copies: &[CopyRow], number: CopyNo) -> bool
+fn is_copy_here(copies: &[CheckedCopy], number: CopyNo) -> bool
     ensures { result ≡ list_any is_here (at number (map shop_copy copies.now)) }
 {
     match copies.get(number.get() as usize - 1) {
@@ -32,7 +32,7 @@ fn is_copy_here(copies: &[CopyRow], number: CopyNo) -> bool
 }
 
 /// Whether every open rental is of a copy that is here.
-pub fn are_held_here(rentals: &[RentalRow], copies: &[CopyRow]) -> bool
+pub fn are_held_here(rentals: &[CheckedRental], copies: &[CheckedCopy]) -> bool
     ensures { result ≡ list_all (λ row. is_held_here (map shop_copy copies.now) (seen_rental row.rental)) rentals.now }
 {
     rentals.iter().all(|row| row.rental.returned.is_some() || is_copy_here(copies, row.rental.copy))

@@ -9,7 +9,9 @@ ghost use Rattle.audit_rows.specs.Shops.{is_among};
 ghost use Rattle.audit_checks.specs.Parts.{is_staff_row, has_places, has_people, has_payers, rows_of};
 
 use crate::branches::Part;
-use audit_rows::{CopyRow, CustomerRow, OrderedBooks, PaymentRow, RentalRow, StaffRow};
+use audit_rows::{
+    CheckedCopy, CheckedCustomer, CheckedPayment, CheckedRental, CheckedStaff, OrderedBooks,
+};
 use shop_types::{CustomerNo, RentalNo, StaffNo};
 
 /// Whether the number is that of one of so many rows.
@@ -20,7 +22,7 @@ pub fn is_among(count: usize, number: u32) -> bool
 }
 
 /// Whether the staff of that number, which is its place, is of the branch.
-pub fn is_staff_of(staff: &[StaffRow], branch: u32, number: StaffNo) -> bool
+pub fn is_staff_of(staff: &[CheckedStaff], branch: u32, number: StaffNo) -> bool
     ensures { result ≡ is_staff_row branch staff.now number }
 {
     match staff.get(number.get() as usize - 1) {
@@ -30,7 +32,7 @@ pub fn is_staff_of(staff: &[StaffRow], branch: u32, number: StaffNo) -> bool
 }
 
 /// Whether the rental of that number, which is its place, is the customer's.
-fn is_rental_of(rentals: &[RentalRow], number: RentalNo, customer: CustomerNo) -> bool
+fn is_rental_of(rentals: &[CheckedRental], number: RentalNo, customer: CustomerNo) -> bool
     ensures { result
         ≡ list_any (λ it. it.customer == customer) (at number (map (λ row. seen_rental row.rental) rentals.now)) }
 {
@@ -41,7 +43,7 @@ fn is_rental_of(rentals: &[RentalRow], number: RentalNo, customer: CustomerNo) -
 }
 
 /// Whether the payment is for a rental of its customer, or for none.
-fn is_for_own(rentals: &[RentalRow], row: &PaymentRow) -> bool
+fn is_for_own(rentals: &[CheckedRental], row: &CheckedPayment) -> bool
     ensures { result ≡ pays_for (map (λ row. seen_rental row.rental) rentals.now) (seen_payment row.now.payment) }
 {
     match row.payment.rental {
@@ -51,14 +53,14 @@ fn is_for_own(rentals: &[RentalRow], row: &PaymentRow) -> bool
 }
 
 /// Whether every customer lives in one of so many cities.
-fn customers_have_cities(customers: &[CustomerRow], cities: usize) -> bool
+fn customers_have_cities(customers: &[CheckedCustomer], cities: usize) -> bool
     ensures { result ≡ list_all (λ row. is_among cities row.city) customers.now }
 {
     customers.iter().all(|row| is_among(cities, row.city.get()))
 }
 
 /// Whether every copy is of one of so many films.
-fn copies_have_films(copies: &[CopyRow], films: usize) -> bool
+fn copies_have_films(copies: &[CheckedCopy], films: usize) -> bool
     ensures { result ≡ list_all (λ row. is_among films row.film) copies.now }
 {
     copies.iter().all(|row| is_among(films, row.film.get()))
@@ -73,7 +75,7 @@ pub fn have_places(books: &OrderedBooks, part: &Part<'_>) -> bool
 }
 
 /// Whether every rental's copy and customer is there, and its staff is of the branch.
-pub fn have_people(staff: &[StaffRow], branch: u32, part: &Part<'_>) -> bool
+pub fn have_people(staff: &[CheckedStaff], branch: u32, part: &Part<'_>) -> bool
     ensures { result ≡ has_people branch staff.now (rows_of part.now) }
 {
     let (copies, customers) = (part.copies.len(), part.customers.len());
@@ -86,7 +88,7 @@ pub fn have_people(staff: &[StaffRow], branch: u32, part: &Part<'_>) -> bool
 
 /// Whether every payment's customer is there, its staff is of the branch, and its rental, where it names one, is the
 /// customer's.
-pub fn have_payers(staff: &[StaffRow], branch: u32, part: &Part<'_>) -> bool
+pub fn have_payers(staff: &[CheckedStaff], branch: u32, part: &Part<'_>) -> bool
     ensures { result ≡ has_payers branch staff.now (rows_of part.now) }
 {
     let (rentals, customers) = (part.rentals, part.customers.len());

@@ -10,7 +10,7 @@ use crate::shop::{
     are_created_by, are_held_once, are_paid_by, are_rented_by, payments_rise, rentals_are_apart,
     rentals_rise,
 };
-use audit_rows::{BranchRow, OrderedBooks, are_counted};
+use audit_rows::{CheckedBranch, OrderedBooks, are_counted};
 use shop_types::NoMemory;
 use std::alloc::Global;
 
@@ -48,7 +48,7 @@ fn are_few(part: &Part<'_>) -> bool
 }
 
 /// Whether moments rise with the numbers, and none is after the last one.
-fn are_timely(row: &BranchRow, part: &Part<'_>) -> bool
+fn are_timely(row: &CheckedBranch, part: &Part<'_>) -> bool
     ensures { result ≡ is_timely row.now.last (rows_of part.now) }
 {
     are_created_by(row.last, part.customers)
@@ -76,7 +76,7 @@ pub fn is_good(
     alloc: Global,
     books: &OrderedBooks,
     branch: u32,
-    row: &BranchRow,
+    row: &CheckedBranch,
     part: &Part<'_>,
 ) -> Result<bool, NoMemory>
     ensures { IfOk result (λ is. is ≡ is_good_part books.now branch row.now.last (rows_of part.now)) }

@@ -10,7 +10,7 @@ ghost use Rattle.shop_types.specs.Seen.{seen_rental, seen_payment};
 ghost use Rattle.audit_rows.specs.Lists.{rises_from};
 ghost use Rattle.audit_rows.specs.Shops.{is_among, rental_key, open_keys, is_held_here};
 
-use audit_rows::{CustomerRow, Keyed, PaymentRow, RentalRow, are_distinct};
+use audit_rows::{CheckedCustomer, CheckedPayment, CheckedRental, Keyed, are_distinct};
 use shop_types::{CopyNo, CustomerNo, Moment, NoMemory, Rental, moment_texts_are_one_to_one};
 use std::alloc::Global;
 use std::cmp::Ordering;
@@ -38,14 +38,14 @@ fn is_returned_by(last: Option<Moment>, rented: Moment, returned: Option<Moment>
 }
 
 /// Whether every customer was added by the last moment.
-pub fn are_created_by(last: Option<Moment>, customers: &[CustomerRow]) -> bool
+pub fn are_created_by(last: Option<Moment>, customers: &[CheckedCustomer]) -> bool
     ensures { result ≡ list_all (λ row. is_within last row.created) customers.now }
 {
     customers.iter().all(|row| is_within(last, row.created))
 }
 
 /// Whether every rental is in order, and by the last moment.
-pub fn are_rented_by(last: Option<Moment>, rentals: &[RentalRow]) -> bool
+pub fn are_rented_by(last: Option<Moment>, rentals: &[CheckedRental]) -> bool
     ensures { result ≡ list_all (λ row. rental_by last (seen_rental row.rental)) rentals.now }
 {
     rentals.iter().all(|row| {
@@ -55,14 +55,14 @@ pub fn are_rented_by(last: Option<Moment>, rentals: &[RentalRow]) -> bool
 }
 
 /// Whether every payment was made by the last moment.
-pub fn are_paid_by(last: Option<Moment>, payments: &[PaymentRow]) -> bool
+pub fn are_paid_by(last: Option<Moment>, payments: &[CheckedPayment]) -> bool
     ensures { result ≡ list_all (λ row. is_within last row.payment.paid) payments.now }
 {
     payments.iter().all(|row| is_within(last, row.payment.paid))
 }
 
 /// Whether no rental begins before the one before it.
-pub fn rentals_rise(rentals: &[RentalRow]) -> bool
+pub fn rentals_rise(rentals: &[CheckedRental]) -> bool
     ensures { result ≡ rises_from 0 (map (λ row. seconds_of row.rental.rented) rentals.now) }
 {
     let mut last = 0;
@@ -77,7 +77,7 @@ pub fn rentals_rise(rentals: &[RentalRow]) -> bool
 }
 
 /// Whether no payment is made before the one before it.
-pub fn payments_rise(payments: &[PaymentRow]) -> bool
+pub fn payments_rise(payments: &[CheckedPayment]) -> bool
     ensures { result ≡ rises_from 0 (map (λ row. seconds_of row.payment.paid) payments.now) }
 {
     let mut last = 0;
@@ -125,7 +125,7 @@ fn key_of(rental: &Rental) -> RentalKey
     }
 }
 
-fn rental_keys(alloc: Global, rentals: &[RentalRow]) -> Result<Vec<RentalKey>, NoMemory>
+fn rental_keys(alloc: Global, rentals: &[CheckedRental]) -> Result<Vec<RentalKey>, NoMemory>
     ensures keys { IfOk result (λ v. map (λ row. row.copy ∷ row.customer ∷ row.rented) v.items
         ≡ map (λ row. rental_key (seen_rental row.rental)) rentals.now) }
     ensures moments { IfOk result (λ _. AllByRecursion (λ row. IsMoment row.rental.rented) rentals.now) }
@@ -140,7 +140,7 @@ fn rental_keys(alloc: Global, rentals: &[RentalRow]) -> Result<Vec<RentalKey>, N
 }
 
 /// Whether no two rentals share moment, copy and customer.
-pub fn rentals_are_apart(alloc: Global, rentals: &[RentalRow]) -> Result<bool, NoMemory>
+pub fn rentals_are_apart(alloc: Global, rentals: &[CheckedRental]) -> Result<bool, NoMemory>
     ensures { IfOk result (λ is. is ≡ are_apart (map (λ row. seen_rental row.rental) rentals.now)) }
 {
     moment_texts_are_one_to_one();
@@ -162,7 +162,7 @@ impl Keyed for OpenKey {
     }
 }
 
-fn open_copies(alloc: Global, rentals: &[RentalRow]) -> Result<Vec<OpenKey>, NoMemory>
+fn open_copies(alloc: Global, rentals: &[CheckedRental]) -> Result<Vec<OpenKey>, NoMemory>
     ensures { IfOk result (λ v. map (λ row. row.copy ∷ []) v.items
         ≡ open_keys (map (λ row. seen_rental row.rental) rentals.now)) }
 {
@@ -183,7 +183,7 @@ fn open_copies(alloc: Global, rentals: &[RentalRow]) -> Result<Vec<OpenKey>, NoM
 }
 
 /// Whether no copy has two open rentals.
-pub fn are_held_once(alloc: Global, rentals: &[RentalRow]) -> Result<bool, NoMemory>
+pub fn are_held_once(alloc: Global, rentals: &[CheckedRental]) -> Result<bool, NoMemory>
     ensures { IfOk result (λ is. is
         ≡ are_different bytes_eq (open_keys (map (λ row. seen_rental row.rental) rentals.now))) }
 {

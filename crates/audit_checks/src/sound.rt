@@ -20,7 +20,7 @@ use crate::catalogue::is_good_catalogue;
 use crate::consignments::{are_settled, pairs_follow, places_count};
 use crate::links::is_among;
 use crate::part::is_good;
-use audit_rows::{HeaderRow, OrderedBooks, Owned, are_in_custody};
+use audit_rows::{CheckedHeader, OrderedBooks, Owned, are_in_custody};
 use shop_types::NoMemory;
 use std::alloc::Global;
 
@@ -39,7 +39,7 @@ fn have_owners<T: Owned>(rows: &[T], branches: usize) -> bool
 }
 
 /// Whether every consignment is to one of so many branches.
-fn have_addressees(headers: &[HeaderRow], branches: usize) -> bool
+fn have_addressees(headers: &[CheckedHeader], branches: usize) -> bool
     ensures { result ≡ list_all (λ row. is_among branches row.addressee) headers.now }
 {
     headers

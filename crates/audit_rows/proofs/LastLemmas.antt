@@ -6,15 +6,15 @@ use Rattle.shop_model.specs.Calendar.{Moment}
 use Rattle.shop_model.specs.Rows.{Owned, at, owned_by}
 use Rattle.shop_model.specs.Links.{are_different}
 use Rattle.shop_model.specs.Books.{head}
-use Rattle.audit_rows.specs.declared.rows.BranchRow.{BranchRow}
+use Rattle.audit_rows.specs.declared.rows.CheckedBranch.{CheckedBranch}
 use Rattle.audit_rows.specs.Shops.{is_among}
 use Rattle.audit_rows.specs.Ordered.{last_of, lasts_from}
 
-abbrev pub last_in : List BranchRow → Option Moment
+abbrev pub last_in : List CheckedBranch → Option Moment
 last_in [] = None
 last_in (row ∷ rows) = row.last
 
-pub none_before : (m k : ℕ) → m < k → (xs : List BranchRow) → owned_by m (lasts_from k xs) ≡ []
+pub none_before : (m k : ℕ) → m < k → (xs : List CheckedBranch) → owned_by m (lasts_from k xs) ≡ []
 none_before m k h [] = refl
 none_before m k h (x ∷ xs) = go x.last (none_before m (k + 1) (omega (arith, h)) xs)
   where
@@ -27,7 +27,7 @@ none_before m k h (x ∷ xs) = go x.last (none_before m (k + 1) (omega (arith, h
         ap (λ b. map (λ (row : Owned Moment). row.it) (cond b (record { owner = k; it = t } ∷ filter (λ (row : Owned Moment). row.owner == m) (lasts_from (k + 1) xs)) (filter (λ (row : Owned Moment). row.owner == m) (lasts_from (k + 1) xs)))) apart
         ∙ more
 
-pub last_at : (k : ℕ) (xs : List BranchRow) (n m : ℕ) → m + 1 ≡ n + k → 1 ≤ n → head (owned_by m (lasts_from k xs)) ≡ last_in (at n xs)
+pub last_at : (k : ℕ) (xs : List CheckedBranch) (n m : ℕ) → m + 1 ≡ n + k → 1 ≤ n → head (owned_by m (lasts_from k xs)) ≡ last_in (at n xs)
 last_at k [] n m e low = refl
 last_at k (x ∷ xs) n m e low = go (n == 1) refl x.last refl (λ q. last_at (k + 1) xs (n - 1) m (omega (arith, e, q)) q)
   where
@@ -59,7 +59,7 @@ last_at k (x ∷ xs) n m e low = go (n == 1) refl x.last refl (λ q. last_at (k 
 
 -- ---- each is of a branch that is there, and of another
 
-pub lasts_owned : (n k : ℕ) → 1 ≤ k → (xs : List BranchRow) → k + length xs ≤ n + 1 → list_all (λ (row : Owned Moment). is_among n row.owner) (lasts_from k xs) ≡ true
+pub lasts_owned : (n k : ℕ) → 1 ≤ k → (xs : List CheckedBranch) → k + length xs ≤ n + 1 → list_all (λ (row : Owned Moment). is_among n row.owner) (lasts_from k xs) ≡ true
 lasts_owned n k low [] h = refl
 lasts_owned n k low (x ∷ xs) h = go x.last (lasts_owned n (k + 1) (omega arith) xs (omega (arith, h)))
   where
@@ -73,7 +73,7 @@ lasts_owned n k low (x ∷ xs) h = go x.last (lasts_owned n (k + 1) (omega arith
     go None more = more
     go (Some t) more = (λ i. here i && more i)
 
-none_again : (m k : ℕ) → m < k → (xs : List BranchRow) → list_any (λ (row : Owned Moment). m == row.owner) (lasts_from k xs) ≡ false
+none_again : (m k : ℕ) → m < k → (xs : List CheckedBranch) → list_any (λ (row : Owned Moment). m == row.owner) (lasts_from k xs) ≡ false
 none_again m k h [] = refl
 none_again m k h (x ∷ xs) = go x.last (none_again m (k + 1) (omega (arith, h)) xs)
   where
@@ -84,7 +84,7 @@ none_again m k h (x ∷ xs) = go x.last (none_again m (k + 1) (omega (arith, h))
     go None more = more
     go (Some t) more = (λ i. apart i || more i)
 
-pub lasts_apart : (k : ℕ) (xs : List BranchRow) → are_different (λ (earlier later : Owned Moment). earlier.owner == later.owner) (lasts_from k xs) ≡ true
+pub lasts_apart : (k : ℕ) (xs : List CheckedBranch) → are_different (λ (earlier later : Owned Moment). earlier.owner == later.owner) (lasts_from k xs) ≡ true
 lasts_apart k [] = refl
 lasts_apart k (x ∷ xs) = go x.last (lasts_apart (k + 1) xs)
   where

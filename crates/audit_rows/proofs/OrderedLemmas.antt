@@ -4,8 +4,8 @@ use Rattle.std.specs.List.{flat_map}
 use Rattle.shop_model.specs.Links.{has_row}
 use Rattle.shop_model.specs.Books.{Books}
 use Rattle.audit_rows.specs.declared.books.OrderedBooks.{OrderedBooks}
-use Rattle.audit_rows.specs.declared.rows.CustomerRow.{CustomerRow}
-use Rattle.audit_rows.specs.declared.rows.TermsRow.{TermsRow}
+use Rattle.audit_rows.specs.declared.rows.CheckedCustomer.{CheckedCustomer}
+use Rattle.audit_rows.specs.declared.rows.CheckedTerms.{CheckedTerms}
 use Rattle.audit_rows.specs.Lists.{climbs}
 use Rattle.audit_rows.specs.Shops.{is_among}
 use Rattle.audit_rows.specs.Canons.{row_key}
@@ -19,7 +19,7 @@ use Rattle.audit_rows.proofs.JoinLemmas.{join_sound}
 module _ (rows : OrderedBooks) (c : Books) (o : AreOrdered rows) (s : HaveOrderedRows rows c) where
   pub customers_climb : climbs (map row_key c.customers) ≡ true
   customers_climb =
-      ap climbs (sym (map-twice (λ (row : CustomerRow). row.branch ∷ row.number ∷ []) customer_row c.customers) ∙ ap (map (λ (row : CustomerRow). row.branch ∷ row.number ∷ [])) s.customers)
+      ap climbs (sym (map-twice (λ (row : CheckedCustomer). row.branch ∷ row.number ∷ []) customer_row c.customers) ∙ ap (map (λ (row : CheckedCustomer). row.branch ∷ row.number ∷ [])) s.customers)
       ∙ o.customers
 
   pub copies_climb : climbs (map row_key c.copies) ≡ true
@@ -30,7 +30,7 @@ module _ (rows : OrderedBooks) (c : Books) (o : AreOrdered rows) (s : HaveOrdere
 
   pub terms_climb : climbs (map row_key c.terms) ≡ true
   terms_climb =
-      ap climbs (sym (map-twice (λ (row : TermsRow). row.branch ∷ row.number ∷ []) terms_row c.terms) ∙ ap (map (λ (row : TermsRow). row.branch ∷ row.number ∷ [])) s.terms)
+      ap climbs (sym (map-twice (λ (row : CheckedTerms). row.branch ∷ row.number ∷ []) terms_row c.terms) ∙ ap (map (λ (row : CheckedTerms). row.branch ∷ row.number ∷ [])) s.terms)
       ∙ o.terms
 
   pub payments_climb : climbs (map row_key c.payments) ≡ true

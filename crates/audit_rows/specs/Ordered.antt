@@ -9,55 +9,55 @@ use Rattle.shop_model.specs.Values.{Text, City, Film, Cast, Branch, Staff, Custo
 use Rattle.shop_model.specs.Shop.{Kept, OfficeKept}
 use Rattle.shop_model.specs.Books.{Books, Consignment}
 use Rattle.audit_rows.specs.declared.books.OrderedBooks.{OrderedBooks}
-use Rattle.audit_rows.specs.declared.rows.CityRow.{CityRow}
-use Rattle.audit_rows.specs.declared.rows.FilmRow.{FilmRow}
-use Rattle.audit_rows.specs.declared.rows.CastRow.{CastRow}
-use Rattle.audit_rows.specs.declared.rows.BranchRow.{BranchRow}
-use Rattle.audit_rows.specs.declared.rows.StaffRow.{StaffRow}
-use Rattle.audit_rows.specs.declared.rows.CustomerRow.{CustomerRow}
-use Rattle.audit_rows.specs.declared.rows.HeaderRow.{HeaderRow}
-use Rattle.audit_rows.specs.declared.rows.LineRow.{LineRow}
-use Rattle.audit_rows.specs.declared.rows.PaymentRow.{PaymentRow}
-use Rattle.audit_rows.specs.declared.rows.RentalRow.{RentalRow}
-use Rattle.audit_rows.specs.declared.rows.TermsRow.{TermsRow}
-use Rattle.audit_rows.specs.declared.rows.CopyRow.{CopyRow}
-use Rattle.audit_rows.specs.declared.rows.LotRow.{LotRow}
-use Rattle.audit_rows.specs.declared.rows.KeptRow.{KeptRow}
+use Rattle.audit_rows.specs.declared.rows.CheckedCity.{CheckedCity}
+use Rattle.audit_rows.specs.declared.rows.CheckedFilm.{CheckedFilm}
+use Rattle.audit_rows.specs.declared.rows.CheckedCast.{CheckedCast}
+use Rattle.audit_rows.specs.declared.rows.CheckedBranch.{CheckedBranch}
+use Rattle.audit_rows.specs.declared.rows.CheckedStaff.{CheckedStaff}
+use Rattle.audit_rows.specs.declared.rows.CheckedCustomer.{CheckedCustomer}
+use Rattle.audit_rows.specs.declared.rows.CheckedHeader.{CheckedHeader}
+use Rattle.audit_rows.specs.declared.rows.CheckedLine.{CheckedLine}
+use Rattle.audit_rows.specs.declared.rows.CheckedPayment.{CheckedPayment}
+use Rattle.audit_rows.specs.declared.rows.CheckedRental.{CheckedRental}
+use Rattle.audit_rows.specs.declared.rows.CheckedTerms.{CheckedTerms}
+use Rattle.audit_rows.specs.declared.rows.CheckedCopy.{CheckedCopy}
+use Rattle.audit_rows.specs.declared.rows.CheckedLot.{CheckedLot}
+use Rattle.audit_rows.specs.declared.rows.CheckedKept.{CheckedKept}
 use Rattle.audit_rows.specs.Lists.{climbs}
 use Rattle.audit_rows.specs.Joins.{join}
 use Rattle.audit_rows.specs.Seen.{seen_copy, seen_rental_row, seen_payment_row, seen_header, seen_placed}
 
 -- ---- the columns that soundness asks about
 
-abbrev pub city_row : City → CityRow
+abbrev pub city_row : City → CheckedCity
 city_row it = record { country = it.country }
 
-abbrev pub film_row : Film → FilmRow
+abbrev pub film_row : Film → CheckedFilm
 film_row it = record { language = it.language; category = it.category }
 
-abbrev pub cast_row : Cast → CastRow
+abbrev pub cast_row : Cast → CheckedCast
 cast_row it = record { film = it.film; actor = it.actor }
 
 -- the last moments of branches stand in a list of their own
-abbrev pub branch_row : Option Moment → Branch → BranchRow
+abbrev pub branch_row : Option Moment → Branch → CheckedBranch
 branch_row last it = record { token = it.token; city = it.city; manager = it.manager; last = last }
 
-abbrev pub without_last : BranchRow → BranchRow
+abbrev pub without_last : CheckedBranch → CheckedBranch
 without_last row = record row { last = None }
 
-abbrev pub staff_row : Staff → StaffRow
+abbrev pub staff_row : Staff → CheckedStaff
 staff_row it = record { branch = it.branch; city = it.person.city }
 
-abbrev pub customer_row : Row Customer → CustomerRow
+abbrev pub customer_row : Row Customer → CheckedCustomer
 customer_row row = record { branch = row.branch; number = row.number; city = row.it.person.city; created = row.it.created }
 
-abbrev pub terms_row : Row Terms → TermsRow
+abbrev pub terms_row : Row Terms → CheckedTerms
 terms_row row = record { branch = row.branch; number = row.number }
 
-abbrev pub lot_row : Owned Text → LotRow
+abbrev pub lot_row : Owned Text → CheckedLot
 lot_row row = record { branch = row.owner; name = row.it }
 
-abbrev pub kept_row : Owned Kept → KeptRow
+abbrev pub kept_row : Owned Kept → CheckedKept
 kept_row row = record { branch = row.owner; key = row.it.command.key }
 
 -- ---- last moments
@@ -67,7 +67,7 @@ last_of b None = []
 last_of b (Some moment) = record { owner = b; it = moment } ∷ []
 
 -- those of branches b, b + 1, ..
-abbrev pub lasts_from : ℕ → List BranchRow → List (Owned Moment)
+abbrev pub lasts_from : ℕ → List CheckedBranch → List (Owned Moment)
 lasts_from b [] = []
 lasts_from b (row ∷ rows) = last_of b row.last ++ lasts_from (b + 1) rows
 
@@ -91,27 +91,27 @@ pub record AreOrdered (rows : OrderedBooks) : Type 0 where
 -- the same, as tests
 
 abbrev pub are_shared_ordered : OrderedBooks → Bool
-are_shared_ordered rows = climbs rows.office_keys.items && climbs (map (λ (row : CastRow). row.film ∷ row.actor ∷ []) rows.casts.items)
+are_shared_ordered rows = climbs rows.office_keys.items && climbs (map (λ (row : CheckedCast). row.film ∷ row.actor ∷ []) rows.casts.items)
 
 abbrev pub are_callers_ordered : OrderedBooks → Bool
 are_callers_ordered rows =
-    climbs (map (λ (row : CustomerRow). row.branch ∷ row.number ∷ []) rows.customers.items) && climbs (map (λ (row : KeptRow). row.branch ∷ row.key) rows.kept.items)
+    climbs (map (λ (row : CheckedCustomer). row.branch ∷ row.number ∷ []) rows.customers.items) && climbs (map (λ (row : CheckedKept). row.branch ∷ row.key) rows.kept.items)
 
 abbrev pub is_stock_ordered : OrderedBooks → Bool
 is_stock_ordered rows =
-    climbs (map (λ (row : CopyRow). row.branch ∷ row.number ∷ []) rows.copies.items) && climbs (map (λ (row : LotRow). row.branch ∷ row.name) rows.lots.items)
+    climbs (map (λ (row : CheckedCopy). row.branch ∷ row.number ∷ []) rows.copies.items) && climbs (map (λ (row : CheckedLot). row.branch ∷ row.name) rows.lots.items)
 
 abbrev pub are_consignments_ordered : OrderedBooks → Bool
 are_consignments_ordered rows =
-    climbs (map (λ (row : HeaderRow). row.source ∷ row.addressee ∷ row.number ∷ []) rows.headers.items)
-    && climbs (map (λ (row : LineRow). row.source ∷ row.addressee ∷ row.number ∷ row.line ∷ []) rows.lines.items)
+    climbs (map (λ (row : CheckedHeader). row.source ∷ row.addressee ∷ row.number ∷ []) rows.headers.items)
+    && climbs (map (λ (row : CheckedLine). row.source ∷ row.addressee ∷ row.number ∷ row.line ∷ []) rows.lines.items)
 
 abbrev pub are_deals_ordered : OrderedBooks → Bool
 are_deals_ordered rows =
-    climbs (map (λ (row : RentalRow). row.branch ∷ row.number ∷ []) rows.rentals.items) && climbs (map (λ (row : PaymentRow). row.branch ∷ row.number ∷ []) rows.payments.items)
+    climbs (map (λ (row : CheckedRental). row.branch ∷ row.number ∷ []) rows.rentals.items) && climbs (map (λ (row : CheckedPayment). row.branch ∷ row.number ∷ []) rows.payments.items)
 
 abbrev pub are_terms_ordered : OrderedBooks → Bool
-are_terms_ordered rows = climbs (map (λ (row : TermsRow). row.branch ∷ row.number ∷ []) rows.terms.items)
+are_terms_ordered rows = climbs (map (λ (row : CheckedTerms). row.branch ∷ row.number ∷ []) rows.terms.items)
 
 -- ---- the books that have these rows
 

@@ -3,18 +3,18 @@ use Rattle.shop_model.specs.Rows.{Row}
 use Rattle.shop_model.specs.Values as model
 use Rattle.shop_model.specs.Values.{Copy, Rental, Payment}
 use Rattle.shop_types.specs.Seen.{seen_rental, seen_payment}
-use Rattle.audit_rows.specs.declared.rows.RentalRow.{RentalRow}
-use Rattle.audit_rows.specs.declared.rows.PaymentRow.{PaymentRow}
+use Rattle.audit_rows.specs.declared.rows.CheckedRental.{CheckedRental}
+use Rattle.audit_rows.specs.declared.rows.CheckedPayment.{CheckedPayment}
 use Rattle.shop_model.specs.Books as books
 use Rattle.shop_model.specs.Books.{BookCopy, Line, unmarked}
 use Rattle.audit_rows.specs.declared.rows.CopyState.{CopyState}
 use Rattle.audit_rows.specs.declared.rows.CopyState.TheVariants as state
 use Rattle.audit_rows.specs.declared.rows.Mark.{Mark}
-use Rattle.audit_rows.specs.declared.rows.CopyRow.{CopyRow}
+use Rattle.audit_rows.specs.declared.rows.CheckedCopy.{CheckedCopy}
 use Rattle.audit_rows.specs.declared.rows.LineState.{LineState}
 use Rattle.audit_rows.specs.declared.rows.LineState.TheVariants as line
-use Rattle.audit_rows.specs.declared.rows.LineRow.{LineRow}
-use Rattle.audit_rows.specs.declared.rows.HeaderRow.{HeaderRow}
+use Rattle.audit_rows.specs.declared.rows.CheckedLine.{CheckedLine}
+use Rattle.audit_rows.specs.declared.rows.CheckedHeader.{CheckedHeader}
 use Rattle.audit_rows.specs.Joins.{Header, Placed}
 
 abbrev pub seen_state : CopyState → model.CopyState
@@ -25,7 +25,7 @@ seen_state state.Scrapped = model.Scrapped
 abbrev pub seen_mark : Mark → books.Mark
 seen_mark mark = record { branch = mark.branch; copy = mark.copy }
 
-abbrev pub seen_copy : CopyRow → Row BookCopy
+abbrev pub seen_copy : CheckedCopy → Row BookCopy
 seen_copy row = record { branch = row.branch; number = row.number; it = record { film = row.film; state = seen_state row.state; mark = seen_mark row.mark } }
 
 abbrev pub seen_line_state : LineState → books.LineState
@@ -33,21 +33,21 @@ seen_line_state line.UnderWay = books.UnderWay
 seen_line_state line.Arrived = books.Arrived
 seen_line_state line.Missing = books.Missing
 
-abbrev pub seen_line : LineRow → Line
+abbrev pub seen_line : CheckedLine → Line
 seen_line row = record { film = row.film; mark = seen_mark row.mark; state = seen_line_state row.state }
 
-abbrev pub seen_rental_row : RentalRow → Row Rental
+abbrev pub seen_rental_row : CheckedRental → Row Rental
 seen_rental_row row = record { branch = row.branch; number = row.number; it = seen_rental row.rental }
 
-abbrev pub seen_payment_row : PaymentRow → Row Payment
+abbrev pub seen_payment_row : CheckedPayment → Row Payment
 seen_payment_row row = record { branch = row.branch; number = row.number; it = seen_payment row.payment }
 
-abbrev pub seen_header : HeaderRow → Header
+abbrev pub seen_header : CheckedHeader → Header
 seen_header row = record { source = row.source; addressee = row.addressee; number = row.number; place = row.place; received = row.received }
 
-abbrev pub seen_placed : LineRow → Placed
+abbrev pub seen_placed : CheckedLine → Placed
 seen_placed row = record { source = row.source; addressee = row.addressee; number = row.number; at = row.line; line = seen_line row }
 
 -- a copy as its branch sees it
-abbrev pub shop_copy : CopyRow → Copy
+abbrev pub shop_copy : CheckedCopy → Copy
 shop_copy row = unmarked (seen_copy row).it

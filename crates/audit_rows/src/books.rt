@@ -6,8 +6,9 @@ ghost use Rattle.audit_rows.specs.Ordered.{AreOrdered, are_shared_ordered, are_c
 
 use crate::order::climbs;
 use crate::rows::{
-    BranchRow, CastRow, CityRow, CopyRow, CustomerRow, FilmRow, HeaderRow, KeptRow, LineRow,
-    LotRow, PaymentRow, RentalRow, StaffRow, TermsRow,
+    CheckedBranch, CheckedCast, CheckedCity, CheckedCopy, CheckedCustomer, CheckedFilm,
+    CheckedHeader, CheckedKept, CheckedLine, CheckedLot, CheckedPayment, CheckedRental,
+    CheckedStaff, CheckedTerms,
 };
 use shop_types::{Key, T45, Token};
 
@@ -21,25 +22,25 @@ pub struct OrderedBooks {
     pub countries: Vec<T45>,
     pub languages: Vec<T45>,
     pub categories: Vec<T45>,
-    pub cities: Vec<CityRow>,
+    pub cities: Vec<CheckedCity>,
     /// How many actors there are.
     pub actors: usize,
-    pub films: Vec<FilmRow>,
-    pub casts: Vec<CastRow>,
-    pub branches: Vec<BranchRow>,
-    pub staff: Vec<StaffRow>,
-    pub customers: Vec<CustomerRow>,
-    pub copies: Vec<CopyRow>,
-    pub rentals: Vec<RentalRow>,
+    pub films: Vec<CheckedFilm>,
+    pub casts: Vec<CheckedCast>,
+    pub branches: Vec<CheckedBranch>,
+    pub staff: Vec<CheckedStaff>,
+    pub customers: Vec<CheckedCustomer>,
+    pub copies: Vec<CheckedCopy>,
+    pub rentals: Vec<CheckedRental>,
     /// The terms of rentals.
-    pub terms: Vec<TermsRow>,
-    pub payments: Vec<PaymentRow>,
-    pub lots: Vec<LotRow>,
-    pub kept: Vec<KeptRow>,
+    pub terms: Vec<CheckedTerms>,
+    pub payments: Vec<CheckedPayment>,
+    pub lots: Vec<CheckedLot>,
+    pub kept: Vec<CheckedKept>,
     /// Consignments by sender, addressee and number.
-    pub headers: Vec<HeaderRow>,
+    pub headers: Vec<CheckedHeader>,
     /// Their lines by sender, addressee, number and line.
-    pub lines: Vec<LineRow>,
+    pub lines: Vec<CheckedLine>,
 }
 
 /// Whether the keys of casts, and of what head office keeps, climb.

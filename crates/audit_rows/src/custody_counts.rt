@@ -6,7 +6,7 @@ ghost use Rattle.audit_rows.specs.Seen.{seen_copy, seen_line, seen_state, seen_l
 ghost use Rattle.audit_rows.specs.Marked.{any_mark};
 
 use crate::places::is_origin;
-use crate::rows::{CopyRow, CopyState, LineRow, LineState};
+use crate::rows::{CheckedCopy, CheckedLine, CopyState, LineState};
 
 fn same_state(state: CopyState, wanted: CopyState) -> bool
     ensures { result ≡ copy_is (seen_state state) (seen_state wanted) }
@@ -31,7 +31,7 @@ fn same_line_state(state: LineState, wanted: LineState) -> bool
 }
 
 /// How many marks were made.
-pub fn copies_made(copies: &[CopyRow]) -> u64
+pub fn copies_made(copies: &[CheckedCopy]) -> u64
     ensures counted { result ≡ rows_made any_mark (map seen_copy copies.now) }
     ensures fits { result ≤ length copies.now }
 {
@@ -45,7 +45,7 @@ pub fn copies_made(copies: &[CopyRow]) -> u64
 }
 
 /// How many copies are in that state.
-pub fn copies_under(state: CopyState, copies: &[CopyRow]) -> u64
+pub fn copies_under(state: CopyState, copies: &[CheckedCopy]) -> u64
     ensures counted { result ≡ rows_in (seen_state state) any_mark (map seen_copy copies.now) }
     ensures fits { result ≤ length copies.now }
 {
@@ -59,7 +59,7 @@ pub fn copies_under(state: CopyState, copies: &[CopyRow]) -> u64
 }
 
 /// How many lines are in that state.
-pub fn lines_under(state: LineState, lines: &[LineRow]) -> u64
+pub fn lines_under(state: LineState, lines: &[CheckedLine]) -> u64
     ensures counted { result ≡ lines_in (seen_line_state state) any_mark (map seen_line lines.now) }
     ensures fits { result ≤ length lines.now }
 {

@@ -6,9 +6,9 @@ ghost use Rattle.audit_rows.specs.Seen.{seen_header, seen_placed};
 
 use crate::groups::{Grouped, split_group};
 use crate::order::are_counted;
-use crate::rows::{HeaderRow, LineRow};
+use crate::rows::{CheckedHeader, CheckedLine};
 
-impl Grouped for LineRow {
+impl Grouped for CheckedLine {
     ghost columns = { λ row. row.source ∷ row.addressee ∷ row.number ∷ [] };
 
     fn is_of(&self, group: &[u32]) -> bool {
@@ -17,7 +17,7 @@ impl Grouped for LineRow {
 }
 
 /// Whether the rows of the two tables are those of consignments.
-pub fn are_joined(headers: &[HeaderRow], lines: &[LineRow]) -> bool
+pub fn are_joined(headers: &[CheckedHeader], lines: &[CheckedLine]) -> bool
     ensures { result ≡ is_some (join (map seen_header headers.now) (map seen_placed lines.now)) }
 {
     let mut rest = lines;

@@ -18,6 +18,7 @@ pub use laws::{custody_is_of_rows, join_is_exact, sound_books_stay_sound};
 pub use order::{Keyed, Numbered, are_counted, are_distinct, climbs, counts, same_bag, sort_rows};
 pub use places::are_in_custody;
 pub use rows::{
-    BranchRow, CastRow, CityRow, CopyRow, CopyState, CustomerRow, FilmRow, HeaderRow, KeptRow,
-    LineRow, LineState, LotRow, Mark, PaymentRow, RentalRow, StaffRow, TermsRow,
+    CheckedBranch, CheckedCast, CheckedCity, CheckedCopy, CheckedCustomer, CheckedFilm,
+    CheckedHeader, CheckedKept, CheckedLine, CheckedLot, CheckedPayment, CheckedRental,
+    CheckedStaff, CheckedTerms, CopyState, LineState, Mark,
 };

@@ -11,7 +11,7 @@ ghost use Rattle.audit_rows.specs.Seen.{seen_copy, seen_line, seen_mark, seen_st
 ghost use Rattle.audit_rows.specs.Marked.{mark_key, film_key, made_keys, is_copy_placed, is_line_placed, AreInCustody, places_are_single, rows_placed, lines_placed};
 
 use crate::order::{Keyed, are_among, are_distinct, has_key, sort_rows};
-use crate::rows::{CopyRow, CopyState, LineRow, LineState, Mark};
+use crate::rows::{CheckedCopy, CheckedLine, CopyState, LineState, Mark};
 use shop_types::{FilmNo, NoMemory};
 use std::alloc::Global;
 use std::cmp::Ordering;
@@ -51,14 +51,14 @@ impl Keyed for MarkedFilm {
 }
 
 /// Whether the copy's mark was made by its own import.
-pub(crate) fn is_origin(row: &CopyRow) -> bool
+pub(crate) fn is_origin(row: &CheckedCopy) -> bool
     ensures { result ≡ is_origin (seen_copy row.now) }
 {
     row.mark.branch.get() == row.branch.get() && row.mark.copy.get() == row.number.get()
 }
 
 /// The marks that were made.
-fn marks_made(alloc: Global, copies: &[CopyRow]) -> Result<Vec<MarkRow>, NoMemory>
+fn marks_made(alloc: Global, copies: &[CheckedCopy]) -> Result<Vec<MarkRow>, NoMemory>
     ensures { IfOk result (λ v. map (λ row. mark_key (seen_mark row.mark)) v.items
         ≡ made_keys (map seen_copy copies.now)) }
 {
@@ -96,7 +96,7 @@ fn is_line_placed(state: LineState) -> bool
 }
 
 /// The marks of the copies that are a place of theirs, each with its film.
-fn rows_placed(alloc: Global, copies: &[CopyRow]) -> Result<Vec<MarkedFilm>, NoMemory>
+fn rows_placed(alloc: Global, copies: &[CheckedCopy]) -> Result<Vec<MarkedFilm>, NoMemory>
     ensures { IfOk result (λ v. map (λ row. film_key row.film (seen_mark row.mark)) v.items
         ≡ rows_placed (map seen_copy copies.now)) }
 {
@@ -116,7 +116,7 @@ fn rows_placed(alloc: Global, copies: &[CopyRow]) -> Result<Vec<MarkedFilm>, NoM
 }
 
 /// Adds the marks of the lines that are a place of theirs, each with its film.
-fn add_lines_placed(placed: &mut Vec<MarkedFilm>, lines: &[LineRow]) -> Result<(), NoMemory>
+fn add_lines_placed(placed: &mut Vec<MarkedFilm>, lines: &[CheckedLine]) -> Result<(), NoMemory>
     ensures { OnOk result (map (λ row. film_key row.film (seen_mark row.mark)) placed.new.items
         ≡ map (λ row. film_key row.film (seen_mark row.mark)) placed.old.items ++ lines_placed
         (map seen_line lines.now)) }
@@ -150,7 +150,7 @@ fn marks_of(alloc: Global, placed: &[MarkedFilm]) -> Result<Vec<MarkRow>, NoMemo
 }
 
 /// Whether the mark of each copy is among these, with its film.
-fn copies_among(placed: &[MarkedFilm], copies: &[CopyRow]) -> bool
+fn copies_among(placed: &[MarkedFilm], copies: &[CheckedCopy]) -> bool
     requires { IsSortedByKey (λ row. film_key row.film (seen_mark row.mark)) (slice_cmp nat_cmp) placed.now }
     ensures { result
         ≡ list_all (λ row. list_any (bytes_eq (film_key row.it.film row.it.mark))
@@ -169,7 +169,7 @@ fn copies_among(placed: &[MarkedFilm], copies: &[CopyRow]) -> bool
 }
 
 /// Whether the mark of each line is among these, with its film.
-fn lines_among(placed: &[MarkedFilm], lines: &[LineRow]) -> bool
+fn lines_among(placed: &[MarkedFilm], lines: &[CheckedLine]) -> bool
     requires { IsSortedByKey (λ row. film_key row.film (seen_mark row.mark)) (slice_cmp nat_cmp) placed.now }
     ensures { result
         ≡ list_all (λ line. list_any (bytes_eq (film_key line.film line.mark))
@@ -190,7 +190,7 @@ fn lines_among(placed: &[MarkedFilm], lines: &[LineRow]) -> bool
 /// Whether each place is that of a mark that was made, and no mark has two.
 fn have_one_place(
     alloc: Global,
-    copies: &[CopyRow],
+    copies: &[CheckedCopy],
     placed: &[MarkedFilm],
 ) -> Result<bool, NoMemory>
     ensures { IfOk result (λ is. is
@@ -206,8 +206,8 @@ fn have_one_place(
 /// Whether each mark of a copy or a line is made, has exactly one place, and goes with one film.
 pub fn are_in_custody(
     alloc: Global,
-    copies: &[CopyRow],
-    lines: &[LineRow],
+    copies: &[CheckedCopy],
+    lines: &[CheckedLine],
 ) -> Result<bool, NoMemory>
     ensures { IfOk result (λ is. IsTrue is ↔ AreInCustody (map seen_copy copies.now) (map seen_line lines.now)) }
 {

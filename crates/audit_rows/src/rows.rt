@@ -14,27 +14,27 @@ use std::cmp::Ordering;
 
 /// A city.
 #[derive(Clone, Copy, Drop)]
-pub struct CityRow {
+pub struct CheckedCity {
     pub country: CountryNo,
 }
 
 /// A film.
 #[derive(Clone, Copy, Drop)]
-pub struct FilmRow {
+pub struct CheckedFilm {
     pub language: LanguageNo,
     pub category: CategoryNo,
 }
 
 /// Who plays in which film.
 #[derive(Clone, Copy, Drop)]
-pub struct CastRow {
+pub struct CheckedCast {
     pub film: FilmNo,
     pub actor: ActorNo,
 }
 
 /// A branch.
 #[derive(Clone, Copy, Drop)]
-pub struct BranchRow {
+pub struct CheckedBranch {
     pub token: Token,
     pub city: CityNo,
     pub manager: Option<StaffNo>,
@@ -44,7 +44,7 @@ pub struct BranchRow {
 
 /// A member of staff.
 #[derive(Clone, Copy, Drop)]
-pub struct StaffRow {
+pub struct CheckedStaff {
     pub branch: BranchNo,
     pub city: CityNo,
 }
@@ -70,7 +70,7 @@ pub enum CopyState {
 
 /// A copy of a branch, with its number there.
 #[derive(Clone, Copy, Drop)]
-pub struct CopyRow {
+pub struct CheckedCopy {
     pub branch: BranchNo,
     pub number: CopyNo,
     pub film: FilmNo,
@@ -80,7 +80,7 @@ pub struct CopyRow {
 
 /// A customer of a branch, with the number there.
 #[derive(Clone, Copy, Drop)]
-pub struct CustomerRow {
+pub struct CheckedCustomer {
     pub branch: BranchNo,
     pub number: CustomerNo,
     pub city: CityNo,
@@ -89,7 +89,7 @@ pub struct CustomerRow {
 
 /// A rental of a branch, with its number there.
 #[derive(Clone, Copy, Drop)]
-pub struct RentalRow {
+pub struct CheckedRental {
     pub branch: BranchNo,
     pub number: RentalNo,
     pub rental: Rental,
@@ -97,14 +97,14 @@ pub struct RentalRow {
 
 /// That there are terms of a rental of a branch, with the rental's number.
 #[derive(Clone, Copy, Drop)]
-pub struct TermsRow {
+pub struct CheckedTerms {
     pub branch: BranchNo,
     pub number: RentalNo,
 }
 
 /// A payment at a branch, with its number there.
 #[derive(Clone, Copy, Drop)]
-pub struct PaymentRow {
+pub struct CheckedPayment {
     pub branch: BranchNo,
     pub number: PaymentNo,
     pub payment: Payment,
@@ -112,14 +112,14 @@ pub struct PaymentRow {
 
 /// The name of a lot that a branch imported.
 #[derive(Drop)]
-pub struct LotRow {
+pub struct CheckedLot {
     pub branch: BranchNo,
     pub name: LotName,
 }
 
 /// The key of a command that is kept for a branch.
 #[derive(Drop)]
-pub struct KeptRow {
+pub struct CheckedKept {
     pub branch: BranchNo,
     pub key: Key,
 }
@@ -128,7 +128,7 @@ pub struct KeptRow {
 
 /// A consignment without its lines.
 #[derive(Clone, Copy, Drop)]
-pub struct HeaderRow {
+pub struct CheckedHeader {
     pub source: BranchNo,
     pub addressee: BranchNo,
     pub number: u32,
@@ -148,7 +148,7 @@ pub enum LineState {
 
 /// A line of a consignment, with the consignment's key and its number there.
 #[derive(Clone, Copy, Drop)]
-pub struct LineRow {
+pub struct CheckedLine {
     pub source: BranchNo,
     pub addressee: BranchNo,
     pub number: u32,
@@ -168,92 +168,92 @@ impl Keyed for Key {
     }
 }
 
-impl Keyed for CastRow {
+impl Keyed for CheckedCast {
     ghost key = { λ row. row.film ∷ row.actor ∷ [] };
 
-    fn compare(&self, other: &CastRow) -> Ordering {
+    fn compare(&self, other: &CheckedCast) -> Ordering {
         let first = self.film.get().cmp(&other.film.get());
         first.then(self.actor.get().cmp(&other.actor.get()))
     }
 }
 
-impl Keyed for CustomerRow {
+impl Keyed for CheckedCustomer {
     ghost key = { λ row. row.branch ∷ row.number ∷ [] };
 
-    fn compare(&self, other: &CustomerRow) -> Ordering {
+    fn compare(&self, other: &CheckedCustomer) -> Ordering {
         let first = self.branch.get().cmp(&other.branch.get());
         first.then(self.number.get().cmp(&other.number.get()))
     }
 }
 
-impl Keyed for CopyRow {
+impl Keyed for CheckedCopy {
     ghost key = { λ row. row.branch ∷ row.number ∷ [] };
 
-    fn compare(&self, other: &CopyRow) -> Ordering {
+    fn compare(&self, other: &CheckedCopy) -> Ordering {
         let first = self.branch.get().cmp(&other.branch.get());
         first.then(self.number.get().cmp(&other.number.get()))
     }
 }
 
-impl Keyed for RentalRow {
+impl Keyed for CheckedRental {
     ghost key = { λ row. row.branch ∷ row.number ∷ [] };
 
-    fn compare(&self, other: &RentalRow) -> Ordering {
+    fn compare(&self, other: &CheckedRental) -> Ordering {
         let first = self.branch.get().cmp(&other.branch.get());
         first.then(self.number.get().cmp(&other.number.get()))
     }
 }
 
-impl Keyed for TermsRow {
+impl Keyed for CheckedTerms {
     ghost key = { λ row. row.branch ∷ row.number ∷ [] };
 
-    fn compare(&self, other: &TermsRow) -> Ordering {
+    fn compare(&self, other: &CheckedTerms) -> Ordering {
         let first = self.branch.get().cmp(&other.branch.get());
         first.then(self.number.get().cmp(&other.number.get()))
     }
 }
 
-impl Keyed for PaymentRow {
+impl Keyed for CheckedPayment {
     ghost key = { λ row. row.branch ∷ row.number ∷ [] };
 
-    fn compare(&self, other: &PaymentRow) -> Ordering {
+    fn compare(&self, other: &CheckedPayment) -> Ordering {
         let first = self.branch.get().cmp(&other.branch.get());
         first.then(self.number.get().cmp(&other.number.get()))
     }
 }
 
-impl Keyed for LotRow {
+impl Keyed for CheckedLot {
     ghost key = { λ row. row.branch ∷ row.name };
 
-    fn compare(&self, other: &LotRow) -> Ordering {
+    fn compare(&self, other: &CheckedLot) -> Ordering {
         let first = self.branch.get().cmp(&other.branch.get());
         first.then(self.name.as_str().cmp(other.name.as_str()))
     }
 }
 
-impl Keyed for KeptRow {
+impl Keyed for CheckedKept {
     ghost key = { λ row. row.branch ∷ row.key };
 
-    fn compare(&self, other: &KeptRow) -> Ordering {
+    fn compare(&self, other: &CheckedKept) -> Ordering {
         let first = self.branch.get().cmp(&other.branch.get());
         first.then(self.key.as_str().cmp(other.key.as_str()))
     }
 }
 
-impl Keyed for HeaderRow {
+impl Keyed for CheckedHeader {
     ghost key = { λ row. row.source ∷ row.addressee ∷ row.number ∷ [] };
 
-    fn compare(&self, other: &HeaderRow) -> Ordering {
+    fn compare(&self, other: &CheckedHeader) -> Ordering {
         let first = self.source.get().cmp(&other.source.get());
         let second = self.addressee.get().cmp(&other.addressee.get());
         first.then(second).then(self.number.cmp(&other.number))
     }
 }
 
-impl Keyed for LineRow {
+impl Keyed for CheckedLine {
     ghost key = { λ row. row.source ∷ row.addressee ∷ row.number ∷ row.line ∷ [] };
 
-    fn compare(&self, other: &LineRow) -> Ordering {
+    fn compare(&self, other: &CheckedLine) -> Ordering {
         let first = self.source.get().cmp(&other.source.get());
         let second = self.addressee.get().cmp(&other.addressee.get());
         let third = self.number.cmp(&other.number);
@@ -266,7 +266,7 @@ impl Keyed for LineRow {
 
 // ---- their numbers
 
-impl Numbered for CustomerRow {
+impl Numbered for CheckedCustomer {
     ghost number = { λ row. row.number };
 
     fn number(&self) -> u32 {
@@ -274,7 +274,7 @@ impl Numbered for CustomerRow {
     }
 }
 
-impl Numbered for CopyRow {
+impl Numbered for CheckedCopy {
     ghost number = { λ row. row.number };
 
     fn number(&self) -> u32 {
@@ -282,7 +282,7 @@ impl Numbered for CopyRow {
     }
 }
 
-impl Numbered for RentalRow {
+impl Numbered for CheckedRental {
     ghost number = { λ row. row.number };
 
     fn number(&self) -> u32 {
@@ -290,7 +290,7 @@ impl Numbered for RentalRow {
     }
 }
 
-impl Numbered for TermsRow {
+impl Numbered for CheckedTerms {
     ghost number = { λ row. row.number };
 
     fn number(&self) -> u32 {
@@ -298,7 +298,7 @@ impl Numbered for TermsRow {
     }
 }
 
-impl Numbered for PaymentRow {
+impl Numbered for CheckedPayment {
     ghost number = { λ row. row.number };
 
     fn number(&self) -> u32 {
@@ -307,7 +307,7 @@ impl Numbered for PaymentRow {
 }
 
 /// A line's number is that in its consignment.
-impl Numbered for LineRow {
+impl Numbered for CheckedLine {
     ghost number = { λ row. row.line };
 
     fn number(&self) -> u32 {
@@ -317,7 +317,7 @@ impl Numbered for LineRow {
 
 // ---- their branches
 
-impl Owned for CustomerRow {
+impl Owned for CheckedCustomer {
     ghost owner = { λ row. row.branch };
 
     fn owner(&self) -> u32 {
@@ -325,7 +325,7 @@ impl Owned for CustomerRow {
     }
 }
 
-impl Owned for CopyRow {
+impl Owned for CheckedCopy {
     ghost owner = { λ row. row.branch };
 
     fn owner(&self) -> u32 {
@@ -333,7 +333,7 @@ impl Owned for CopyRow {
     }
 }
 
-impl Owned for RentalRow {
+impl Owned for CheckedRental {
     ghost owner = { λ row. row.branch };
 
     fn owner(&self) -> u32 {
@@ -341,7 +341,7 @@ impl Owned for RentalRow {
     }
 }
 
-impl Owned for TermsRow {
+impl Owned for CheckedTerms {
     ghost owner = { λ row. row.branch };
 
     fn owner(&self) -> u32 {
@@ -349,7 +349,7 @@ impl Owned for TermsRow {
     }
 }
 
-impl Owned for PaymentRow {
+impl Owned for CheckedPayment {
     ghost owner = { λ row. row.branch };
 
     fn owner(&self) -> u32 {
@@ -357,7 +357,7 @@ impl Owned for PaymentRow {
     }
 }
 
-impl Owned for LotRow {
+impl Owned for CheckedLot {
     ghost owner = { λ row. row.branch };
 
     fn owner(&self) -> u32 {
@@ -365,7 +365,7 @@ impl Owned for LotRow {
     }
 }
 
-impl Owned for KeptRow {
+impl Owned for CheckedKept {
     ghost owner = { λ row. row.branch };
 
     fn owner(&self) -> u32 {
@@ -374,7 +374,7 @@ impl Owned for KeptRow {
 }
 
 /// A consignment is its sender's.
-impl Owned for HeaderRow {
+impl Owned for CheckedHeader {
     ghost owner = { λ row. row.source };
 
     fn owner(&self) -> u32 {

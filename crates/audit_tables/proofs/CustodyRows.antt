@@ -11,10 +11,10 @@ use Rattle.audit_tables.specs.declared.kinds.Kind.TheVariants as kind
 use Rattle.audit_tables.specs.Kinds.{IsOfKind, HaveKinds}
 use Rattle.audit_tables.specs.Rows.{row}
 use Rattle.audit_tables.proofs.KindLemmas.{Spelled, spelled, next, in_range, ranged}
-use Rattle.audit_rows.specs.declared.rows.CopyRow.{CopyRow}
+use Rattle.audit_rows.specs.declared.rows.CheckedCopy.{CheckedCopy}
 use Rattle.audit_rows.specs.declared.rows.CopyState.{CopyState}
 use Rattle.audit_rows.specs.declared.rows.CopyState.TheVariants as state
-use Rattle.audit_rows.specs.declared.rows.LineRow.{LineRow}
+use Rattle.audit_rows.specs.declared.rows.CheckedLine.{CheckedLine}
 use Rattle.audit_rows.specs.declared.rows.LineState.{LineState}
 use Rattle.audit_rows.specs.declared.rows.LineState.TheVariants as line
 use Rattle.audit_rows.specs.Seen.{seen_state, seen_line_state}
@@ -52,7 +52,7 @@ line_to line.Missing = (2, (omega arith, omega arith), refl)
 abbrev pub copy_kinds : List Kind
 copy_kinds = row ∷ row ∷ row ∷ kind.Whole 0 2 ∷ row ∷ row ∷ []
 
-copy_from : (r : sql.Row) → Spelled copy_kinds r → (x : CopyRow) × IsCopyRow x r
+copy_from : (r : sql.Row) → Spelled copy_kinds r → (x : CheckedCopy) × IsCopyRow x r
 copy_from r (v1, r1, (n1, w1, e1), (v2, r2, (n2, w2, e2), (v3, r3, (n3, w3, e3), (v4, r4, k4, (v5, r5, (n5, w5, e5), (v6, r6, (n6, w6, e6), z, g6), g5), g4), g3), g2), g1) =
     let s = state_from v4 k4 in (
       record { branch = n1; number = n2; film = n3; state = s.0; mark = record { branch = n5; copy = n6 } },
@@ -62,11 +62,11 @@ copy_from r (v1, r1, (n1, w1, e1), (v2, r2, (n2, w2, e2), (v3, r3, (n3, w3, e3),
       ),
     )
 
-copy_to : (r : sql.Row) → (x : CopyRow) × IsCopyRow x r → HaveKinds copy_kinds r
+copy_to : (r : sql.Row) → (x : CheckedCopy) × IsCopyRow x r → HaveKinds copy_kinds r
 copy_to r (x, (e, (a, b, (c, (d, f))))) =
     subst (HaveKinds copy_kinds) e (number x.branch a, (number x.number b, (number x.film c, (state_to x.state, (number x.mark.branch d, (number x.mark.copy f, tt))))))
 
-pub copy_fits : (r : sql.Row) (t : Bool) → (IsTrue t ↔ HaveKinds copy_kinds r) → (IsTrue t ↔ ((x : CopyRow) × IsCopyRow x r))
+pub copy_fits : (r : sql.Row) (t : Bool) → (IsTrue t ↔ HaveKinds copy_kinds r) → (IsTrue t ↔ ((x : CheckedCopy) × IsCopyRow x r))
 copy_fits r t is = (λ h. copy_from r (spelled copy_kinds r (is.0 h)), λ it. is.1 (copy_to r it))
 
 -- ---- lines
@@ -74,7 +74,7 @@ copy_fits r t is = (λ h. copy_from r (spelled copy_kinds r (is.0 h)), λ it. is
 abbrev pub line_kinds : List Kind
 line_kinds = row ∷ row ∷ row ∷ row ∷ row ∷ row ∷ row ∷ kind.Whole 0 2 ∷ []
 
-placed_from : (r : sql.Row) → Spelled line_kinds r → (x : LineRow) × IsLineRow x r
+placed_from : (r : sql.Row) → Spelled line_kinds r → (x : CheckedLine) × IsLineRow x r
 placed_from r (v1, r1, (n1, w1, e1), (v2, r2, (n2, w2, e2), (v3, r3, (n3, w3, e3), (v4, r4, (n4, w4, e4), (v5, r5, (n5, w5, e5), (v6, r6, (n6, w6, e6), (v7, r7, (n7, w7, e7), (v8, r8, k8, z, g8), g7), g6), g5), g4), g3), g2), g1) =
     let s = line_from v8 k8 in (
       record { source = n1; addressee = n2; number = n3; line = n4; film = n5; mark = record { branch = n6; copy = n7 }; state = s.0 },
@@ -84,10 +84,10 @@ placed_from r (v1, r1, (n1, w1, e1), (v2, r2, (n2, w2, e2), (v3, r3, (n3, w3, e3
       ),
     )
 
-placed_to : (r : sql.Row) → (x : LineRow) × IsLineRow x r → HaveKinds line_kinds r
+placed_to : (r : sql.Row) → (x : CheckedLine) × IsLineRow x r → HaveKinds line_kinds r
 placed_to r (x, (e, p)) =
     subst (HaveKinds line_kinds) e
     (number x.source p.source, (number x.addressee p.addressee, (number x.number p.number, (number x.line p.at, (number x.film p.line.0, (number x.mark.branch p.line.1.0, (number x.mark.copy p.line.1.1, (line_to x.state, tt))))))))
 
-pub line_fits : (r : sql.Row) (t : Bool) → (IsTrue t ↔ HaveKinds line_kinds r) → (IsTrue t ↔ ((x : LineRow) × IsLineRow x r))
+pub line_fits : (r : sql.Row) (t : Bool) → (IsTrue t ↔ HaveKinds line_kinds r) → (IsTrue t ↔ ((x : CheckedLine) × IsLineRow x r))
 line_fits r t is = (λ h. placed_from r (spelled line_kinds r (is.0 h)), λ it. is.1 (placed_to r it))

@@ -6,8 +6,8 @@ use Rattle.shop_schema.specs.Columns.{copy_columns, line_value}
 use Rattle.shop_schema.specs.RowValues.{IsNumber, IsRow, IsCopy, IsLine}
 use Rattle.audit_rows.specs.Joins.{Placed}
 use Rattle.audit_rows.specs.Seen.{seen_copy, seen_placed}
-use Rattle.audit_rows.specs.declared.rows.CopyRow.{CopyRow}
-use Rattle.audit_rows.specs.declared.rows.LineRow.{LineRow}
+use Rattle.audit_rows.specs.declared.rows.CheckedCopy.{CheckedCopy}
+use Rattle.audit_rows.specs.declared.rows.CheckedLine.{CheckedLine}
 
 abbrev pub placed_columns : Placed → sql.Row
 placed_columns p =
@@ -22,14 +22,14 @@ pub record IsPlaced (p : Placed) : Type 0 where
   pub line : IsLine p.line
 
 -- the row is that of the copy, of the line
-abbrev pub IsCopyRow : CopyRow → sql.Row → Type 0
+abbrev pub IsCopyRow : CheckedCopy → sql.Row → Type 0
 IsCopyRow x row = (copy_columns (seen_copy x) ≡ row) × IsRow IsCopy (seen_copy x)
 
-abbrev pub IsLineRow : LineRow → sql.Row → Type 0
+abbrev pub IsLineRow : CheckedLine → sql.Row → Type 0
 IsLineRow x row = (placed_columns (seen_placed x) ≡ row) × IsPlaced (seen_placed x)
 
 abbrev pub IsOneCopy : sql.Row → Type 0
-IsOneCopy row = (x : CopyRow) × IsCopyRow x row
+IsOneCopy row = (x : CheckedCopy) × IsCopyRow x row
 
 abbrev pub IsOneLine : sql.Row → Type 0
-IsOneLine row = (x : LineRow) × IsLineRow x row
+IsOneLine row = (x : CheckedLine) × IsLineRow x row

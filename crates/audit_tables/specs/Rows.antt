@@ -11,13 +11,13 @@ use Rattle.audit_tables.specs.declared.kinds.Kind.{Kind}
 use Rattle.audit_tables.specs.declared.kinds.Kind.TheVariants as kind
 use Rattle.audit_tables.specs.Kinds.{HaveKinds}
 use Rattle.audit_tables.specs.Forms.{IsCommandForm, IsOfficeForm}
-use Rattle.audit_rows.specs.declared.rows.CastRow.{CastRow}
-use Rattle.audit_rows.specs.declared.rows.CustomerRow.{CustomerRow}
-use Rattle.audit_rows.specs.declared.rows.RentalRow.{RentalRow}
-use Rattle.audit_rows.specs.declared.rows.TermsRow.{TermsRow}
-use Rattle.audit_rows.specs.declared.rows.PaymentRow.{PaymentRow}
-use Rattle.audit_rows.specs.declared.rows.LotRow.{LotRow}
-use Rattle.audit_rows.specs.declared.rows.HeaderRow.{HeaderRow}
+use Rattle.audit_rows.specs.declared.rows.CheckedCast.{CheckedCast}
+use Rattle.audit_rows.specs.declared.rows.CheckedCustomer.{CheckedCustomer}
+use Rattle.audit_rows.specs.declared.rows.CheckedRental.{CheckedRental}
+use Rattle.audit_rows.specs.declared.rows.CheckedTerms.{CheckedTerms}
+use Rattle.audit_rows.specs.declared.rows.CheckedPayment.{CheckedPayment}
+use Rattle.audit_rows.specs.declared.rows.CheckedLot.{CheckedLot}
+use Rattle.audit_rows.specs.declared.rows.CheckedHeader.{CheckedHeader}
 use Rattle.audit_tables.specs.declared.shared.ChainRow.{ChainRow}
 use Rattle.audit_tables.specs.declared.shared.RuleRow.{RuleRow}
 use Rattle.audit_tables.specs.declared.shared.NamedRow.{NamedRow}
@@ -83,7 +83,7 @@ pub record IsFilmRow (x : NumberedFilm) (r : sql.Row) : Type 0 where
 abbrev pub cast_kinds : List Kind
 cast_kinds = row ∷ row ∷ []
 
-pub record IsCastRow (x : CastRow) (r : sql.Row) : Type 0 where
+pub record IsCastRow (x : CheckedCast) (r : sql.Row) : Type 0 where
   pub film : column r 0 ≡ number_value x.film
   pub actor : column r 1 ≡ number_value x.actor
 
@@ -111,7 +111,7 @@ pub record IsStaffRow (x : NumberedStaff) (r : sql.Row) : Type 0 where
 abbrev pub customer_kinds : List Kind
 customer_kinds = row ∷ row ∷ name ∷ name ∷ kind.Text 1 128 ∷ kind.Text 0 45 ∷ kind.Text 0 45 ∷ row ∷ kind.Flag ∷ kind.Moment ∷ []
 
-pub record IsCustomerRow (x : CustomerRow) (r : sql.Row) : Type 0 where
+pub record IsCustomerRow (x : CheckedCustomer) (r : sql.Row) : Type 0 where
   pub branch : column r 0 ≡ number_value x.branch
   pub number : column r 1 ≡ number_value x.number
   pub city : column r 7 ≡ number_value x.city
@@ -121,7 +121,7 @@ pub record IsCustomerRow (x : CustomerRow) (r : sql.Row) : Type 0 where
 abbrev pub rental_kinds : List Kind
 rental_kinds = row ∷ row ∷ kind.Moment ∷ row ∷ row ∷ kind.MomentOrNull ∷ row ∷ []
 
-pub record IsRentalRow (x : RentalRow) (r : sql.Row) : Type 0 where
+pub record IsRentalRow (x : CheckedRental) (r : sql.Row) : Type 0 where
   pub branch : column r 0 ≡ number_value x.branch
   pub number : column r 1 ≡ number_value x.number
   pub rented : column r 2 ≡ moment_value x.rental.rented
@@ -136,14 +136,14 @@ pub record IsRentalRow (x : RentalRow) (r : sql.Row) : Type 0 where
 abbrev pub terms_kinds : List Kind
 terms_kinds = row ∷ row ∷ kind.Whole 0 9_999 ∷ kind.Whole 1 255 ∷ kind.Whole 0 99_999 ∷ []
 
-pub record IsTermsRow (x : TermsRow) (r : sql.Row) : Type 0 where
+pub record IsTermsRow (x : CheckedTerms) (r : sql.Row) : Type 0 where
   pub branch : column r 0 ≡ number_value x.branch
   pub number : column r 1 ≡ number_value x.number
 
 abbrev pub payment_kinds : List Kind
 payment_kinds = row ∷ row ∷ row ∷ row ∷ row_or_null ∷ kind.Whole 0 99_999 ∷ kind.Moment ∷ []
 
-pub record IsPaymentRow (x : PaymentRow) (r : sql.Row) : Type 0 where
+pub record IsPaymentRow (x : CheckedPayment) (r : sql.Row) : Type 0 where
   pub branch : column r 0 ≡ number_value x.branch
   pub number : column r 1 ≡ number_value x.number
   pub customer : column r 2 ≡ number_value x.payment.customer
@@ -156,14 +156,14 @@ pub record IsPaymentRow (x : PaymentRow) (r : sql.Row) : Type 0 where
 abbrev pub lot_kinds : List Kind
 lot_kinds = row ∷ kind.Key ∷ []
 
-pub record IsLotRow (x : LotRow) (r : sql.Row) : Type 0 where
+pub record IsLotRow (x : CheckedLot) (r : sql.Row) : Type 0 where
   pub branch : column r 0 ≡ number_value x.branch
   pub name : column r 1 ≡ Text x.name
 
 abbrev pub header_kinds : List Kind
 header_kinds = row ∷ row ∷ row ∷ kind.Whole 1 9_223_372_036_854_775_807 ∷ kind.Flag ∷ []
 
-pub record IsHeaderRow (x : HeaderRow) (r : sql.Row) : Type 0 where
+pub record IsHeaderRow (x : CheckedHeader) (r : sql.Row) : Type 0 where
   pub source : column r 0 ≡ number_value x.source
   pub addressee : column r 1 ≡ number_value x.addressee
   pub number : column r 2 ≡ number_value x.number

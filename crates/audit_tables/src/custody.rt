@@ -10,7 +10,7 @@ ghost use Rattle.audit_tables.specs.Placed.{IsCopyRow, IsLineRow, IsOneCopy, IsO
 use crate::columns::NUMBER;
 use crate::listed::Listed;
 use crate::{Kind, have_kinds};
-use audit_rows::{CopyRow, CopyState, LineRow, LineState, Mark};
+use audit_rows::{CheckedCopy, CheckedLine, CopyState, LineState, Mark};
 use shop_schema::row_number_at;
 use sql_rows::{StoreFault, number_at};
 use sqlite::Row;
@@ -39,7 +39,7 @@ pub fn line_state_at(row: &Row, at: usize) -> Result<LineState, StoreFault>
     }
 }
 
-impl Listed for CopyRow {
+impl Listed for CheckedCopy {
     ghost is_one = { IsOneCopy };
 
     ghost is_row = { IsCopyRow };
@@ -51,8 +51,8 @@ impl Listed for CopyRow {
         )
     }
 
-    fn take(row: &Row) -> Result<CopyRow, StoreFault> {
-        Ok(CopyRow {
+    fn take(row: &Row) -> Result<CheckedCopy, StoreFault> {
+        Ok(CheckedCopy {
             branch: row_number_at(row, 0)?,
             number: row_number_at(row, 1)?,
             film: row_number_at(row, 2)?,
@@ -65,7 +65,7 @@ impl Listed for CopyRow {
     }
 }
 
-impl Listed for LineRow {
+impl Listed for CheckedLine {
     ghost is_one = { IsOneLine };
 
     ghost is_row = { IsLineRow };
@@ -86,8 +86,8 @@ impl Listed for LineRow {
         )
     }
 
-    fn take(row: &Row) -> Result<LineRow, StoreFault> {
-        Ok(LineRow {
+    fn take(row: &Row) -> Result<CheckedLine, StoreFault> {
+        Ok(CheckedLine {
             source: row_number_at(row, 0)?,
             addressee: row_number_at(row, 1)?,
             number: number_at(row, 2)?,

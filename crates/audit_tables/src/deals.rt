@@ -9,7 +9,9 @@ ghost use Rattle.audit_tables.specs.Rows.{customer_kinds, IsCustomerRow, rental_
 use crate::columns::{NAME, NUMBER, NUMBER_OR_NULL, name_at, wide_at};
 use crate::listed::Listed;
 use crate::{Kind, have_kinds};
-use audit_rows::{CustomerRow, HeaderRow, LotRow, PaymentRow, RentalRow, TermsRow};
+use audit_rows::{
+    CheckedCustomer, CheckedHeader, CheckedLot, CheckedPayment, CheckedRental, CheckedTerms,
+};
 use shop_schema::{moment_at, moment_or_null_at, row_number_at, row_number_or_null_at};
 use shop_types::{Amount, Payment, Rental};
 use sql_rows::{StoreFault, flag_at, number_at};
@@ -25,7 +27,7 @@ fn amount_at(row: &Row, at: usize) -> Result<Amount, StoreFault>
     }
 }
 
-impl Listed for CustomerRow {
+impl Listed for CheckedCustomer {
     ghost is_one = { HaveKinds customer_kinds };
 
     ghost is_row = { IsCustomerRow };
@@ -48,8 +50,8 @@ impl Listed for CustomerRow {
         )
     }
 
-    fn take(row: &Row) -> Result<CustomerRow, StoreFault> {
-        Ok(CustomerRow {
+    fn take(row: &Row) -> Result<CheckedCustomer, StoreFault> {
+        Ok(CheckedCustomer {
             branch: row_number_at(row, 0)?,
             number: row_number_at(row, 1)?,
             city: row_number_at(row, 7)?,
@@ -58,7 +60,7 @@ impl Listed for CustomerRow {
     }
 }
 
-impl Listed for RentalRow {
+impl Listed for CheckedRental {
     ghost is_one = { HaveKinds rental_kinds };
 
     ghost is_row = { IsRentalRow };
@@ -78,8 +80,8 @@ impl Listed for RentalRow {
         )
     }
 
-    fn take(row: &Row) -> Result<RentalRow, StoreFault> {
-        Ok(RentalRow {
+    fn take(row: &Row) -> Result<CheckedRental, StoreFault> {
+        Ok(CheckedRental {
             branch: row_number_at(row, 0)?,
             number: row_number_at(row, 1)?,
             rental: Rental {
@@ -93,7 +95,7 @@ impl Listed for RentalRow {
     }
 }
 
-impl Listed for TermsRow {
+impl Listed for CheckedTerms {
     ghost is_one = { HaveKinds terms_kinds };
 
     ghost is_row = { IsTermsRow };
@@ -111,15 +113,15 @@ impl Listed for TermsRow {
         )
     }
 
-    fn take(row: &Row) -> Result<TermsRow, StoreFault> {
-        Ok(TermsRow {
+    fn take(row: &Row) -> Result<CheckedTerms, StoreFault> {
+        Ok(CheckedTerms {
             branch: row_number_at(row, 0)?,
             number: row_number_at(row, 1)?,
         })
     }
 }
 
-impl Listed for PaymentRow {
+impl Listed for CheckedPayment {
     ghost is_one = { HaveKinds payment_kinds };
 
     ghost is_row = { IsPaymentRow };
@@ -139,8 +141,8 @@ impl Listed for PaymentRow {
         )
     }
 
-    fn take(row: &Row) -> Result<PaymentRow, StoreFault> {
-        Ok(PaymentRow {
+    fn take(row: &Row) -> Result<CheckedPayment, StoreFault> {
+        Ok(CheckedPayment {
             branch: row_number_at(row, 0)?,
             number: row_number_at(row, 1)?,
             payment: Payment {
@@ -154,7 +156,7 @@ impl Listed for PaymentRow {
     }
 }
 
-impl Listed for LotRow {
+impl Listed for CheckedLot {
     ghost is_one = { HaveKinds lot_kinds };
 
     ghost is_row = { IsLotRow };
@@ -163,15 +165,15 @@ impl Listed for LotRow {
         have_kinds(row, &[NUMBER, Kind::Key])
     }
 
-    fn take(row: &Row) -> Result<LotRow, StoreFault> {
-        Ok(LotRow {
+    fn take(row: &Row) -> Result<CheckedLot, StoreFault> {
+        Ok(CheckedLot {
             branch: row_number_at(row, 0)?,
             name: name_at(row, 1)?,
         })
     }
 }
 
-impl Listed for HeaderRow {
+impl Listed for CheckedHeader {
     ghost is_one = { HaveKinds header_kinds };
 
     ghost is_row = { IsHeaderRow };
@@ -189,8 +191,8 @@ impl Listed for HeaderRow {
         )
     }
 
-    fn take(row: &Row) -> Result<HeaderRow, StoreFault> {
-        Ok(HeaderRow {
+    fn take(row: &Row) -> Result<CheckedHeader, StoreFault> {
+        Ok(CheckedHeader {
             source: row_number_at(row, 0)?,
             addressee: row_number_at(row, 1)?,
             number: number_at(row, 2)?,

@@ -6,7 +6,7 @@ ghost use Rattle.audit_tables.specs.Rows.{chain_kinds, IsChainRow, rule_kinds, I
 use crate::columns::{NAME, NUMBER, NUMBER_OR_NULL, token_at};
 use crate::listed::Listed;
 use crate::{Kind, have_kinds};
-use audit_rows::{BranchRow, CastRow, CityRow, FilmRow, StaffRow};
+use audit_rows::{CheckedBranch, CheckedCast, CheckedCity, CheckedFilm, CheckedStaff};
 use shop_schema::{moment_or_null_at, row_number_at, row_number_or_null_at, text_at};
 use shop_types::{T45, Token};
 use sql_rows::{StoreFault, flag_at, number_at};
@@ -35,7 +35,7 @@ pub struct NamedRow {
 #[derive(Drop)]
 pub struct NumberedCity {
     pub number: u32,
-    pub city: CityRow,
+    pub city: CheckedCity,
 }
 
 /// An actor. The name isn't kept.
@@ -48,21 +48,21 @@ pub struct NumberedActor {
 #[derive(Drop)]
 pub struct NumberedFilm {
     pub number: u32,
-    pub film: FilmRow,
+    pub film: CheckedFilm,
 }
 
 /// A branch, with its last moment.
 #[derive(Drop)]
 pub struct NumberedBranch {
     pub number: u32,
-    pub branch: BranchRow,
+    pub branch: CheckedBranch,
 }
 
 /// A member of staff.
 #[derive(Drop)]
 pub struct NumberedStaff {
     pub number: u32,
-    pub staff: StaffRow,
+    pub staff: CheckedStaff,
 }
 
 impl Listed for ChainRow {
@@ -126,7 +126,7 @@ impl Listed for NumberedCity {
     fn take(row: &Row) -> Result<NumberedCity, StoreFault> {
         Ok(NumberedCity {
             number: number_at(row, 0)?,
-            city: CityRow {
+            city: CheckedCity {
                 country: row_number_at(row, 2)?,
             },
         })
@@ -177,7 +177,7 @@ impl Listed for NumberedFilm {
     fn take(row: &Row) -> Result<NumberedFilm, StoreFault> {
         Ok(NumberedFilm {
             number: number_at(row, 0)?,
-            film: FilmRow {
+            film: CheckedFilm {
                 language: row_number_at(row, 3)?,
                 category: row_number_at(row, 4)?,
             },
@@ -185,7 +185,7 @@ impl Listed for NumberedFilm {
     }
 }
 
-impl Listed for CastRow {
+impl Listed for CheckedCast {
     ghost is_one = { HaveKinds cast_kinds };
 
     ghost is_row = { IsCastRow };
@@ -194,8 +194,8 @@ impl Listed for CastRow {
         have_kinds(row, &[NUMBER, NUMBER])
     }
 
-    fn take(row: &Row) -> Result<CastRow, StoreFault> {
-        Ok(CastRow {
+    fn take(row: &Row) -> Result<CheckedCast, StoreFault> {
+        Ok(CheckedCast {
             film: row_number_at(row, 0)?,
             actor: row_number_at(row, 1)?,
         })
@@ -226,7 +226,7 @@ impl Listed for NumberedBranch {
     fn take(row: &Row) -> Result<NumberedBranch, StoreFault> {
         Ok(NumberedBranch {
             number: number_at(row, 0)?,
-            branch: BranchRow {
+            branch: CheckedBranch {
                 token: token_at(row, 1)?,
                 city: row_number_at(row, 5)?,
                 manager: row_number_or_null_at(row, 6)?,
@@ -261,7 +261,7 @@ impl Listed for NumberedStaff {
     fn take(row: &Row) -> Result<NumberedStaff, StoreFault> {
         Ok(NumberedStaff {
             number: number_at(row, 0)?,
-            staff: StaffRow {
+            staff: CheckedStaff {
                 branch: row_number_at(row, 1)?,
                 city: row_number_at(row, 7)?,
             },

@@ -9,16 +9,16 @@ use Rattle.audit_rows.specs.Joins.{placed_key, join}
 use Rattle.audit_rows.specs.Ordered.{AreOrdered}
 use Rattle.audit_rows.specs.Seen.{seen_header, seen_placed}
 use Rattle.audit_rows.specs.declared.books.OrderedBooks.{OrderedBooks}
-use Rattle.audit_rows.specs.declared.rows.CastRow.{CastRow}
-use Rattle.audit_rows.specs.declared.rows.CustomerRow.{CustomerRow}
-use Rattle.audit_rows.specs.declared.rows.CopyRow.{CopyRow}
-use Rattle.audit_rows.specs.declared.rows.RentalRow.{RentalRow}
-use Rattle.audit_rows.specs.declared.rows.TermsRow.{TermsRow}
-use Rattle.audit_rows.specs.declared.rows.PaymentRow.{PaymentRow}
-use Rattle.audit_rows.specs.declared.rows.LotRow.{LotRow}
-use Rattle.audit_rows.specs.declared.rows.KeptRow.{KeptRow}
-use Rattle.audit_rows.specs.declared.rows.HeaderRow.{HeaderRow}
-use Rattle.audit_rows.specs.declared.rows.LineRow.{LineRow}
+use Rattle.audit_rows.specs.declared.rows.CheckedCast.{CheckedCast}
+use Rattle.audit_rows.specs.declared.rows.CheckedCustomer.{CheckedCustomer}
+use Rattle.audit_rows.specs.declared.rows.CheckedCopy.{CheckedCopy}
+use Rattle.audit_rows.specs.declared.rows.CheckedRental.{CheckedRental}
+use Rattle.audit_rows.specs.declared.rows.CheckedTerms.{CheckedTerms}
+use Rattle.audit_rows.specs.declared.rows.CheckedPayment.{CheckedPayment}
+use Rattle.audit_rows.specs.declared.rows.CheckedLot.{CheckedLot}
+use Rattle.audit_rows.specs.declared.rows.CheckedKept.{CheckedKept}
+use Rattle.audit_rows.specs.declared.rows.CheckedHeader.{CheckedHeader}
+use Rattle.audit_rows.specs.declared.rows.CheckedLine.{CheckedLine}
 use Rattle.audit_rows.proofs.Maps.{map-twice}
 use Rattle.audit_tables.specs.declared.shared.NamedRow.{NamedRow}
 use Rattle.audit_tables.specs.declared.shared.NumberedCity.{NumberedCity}
@@ -45,16 +45,16 @@ module _ (tables : TableRows) (parts : Parts) (rows : OrderedBooks) (p : PartsAr
   pub are_ordered : AreOrdered rows
   are_ordered = record {
     office_keys = subst (λ l. climbs l ≡ true) e.office_keys p.keys.office_climbs;
-    kept = subst (λ l. climbs (map (λ (row : KeptRow). row.branch ∷ row.key) l) ≡ true) e.kept p.keys.kept_climbs;
-    casts = subst (λ l. climbs (map (λ (row : CastRow). row.film ∷ row.actor ∷ []) l) ≡ true) e.casts p.filmed.casts_climb;
-    customers = subst (λ l. climbs (map (λ (row : CustomerRow). row.branch ∷ row.number ∷ []) l) ≡ true) e.customers p.deals.customers_climb;
-    rentals = subst (λ l. climbs (map (λ (row : RentalRow). row.branch ∷ row.number ∷ []) l) ≡ true) e.rentals p.deals.rentals_climb;
-    terms = subst (λ l. climbs (map (λ (row : TermsRow). row.branch ∷ row.number ∷ []) l) ≡ true) e.terms p.deals.terms_climb;
-    payments = subst (λ l. climbs (map (λ (row : PaymentRow). row.branch ∷ row.number ∷ []) l) ≡ true) e.payments p.deals.payments_climb;
-    lots = subst (λ l. climbs (map (λ (row : LotRow). row.branch ∷ row.name) l) ≡ true) e.lots p.stock.lots_climb;
-    headers = subst (λ l. climbs (map (λ (row : HeaderRow). row.source ∷ row.addressee ∷ row.number ∷ []) l) ≡ true) e.headers p.sent.headers_climb;
-    copies = subst (λ l. climbs (map (λ (row : CopyRow). row.branch ∷ row.number ∷ []) l) ≡ true) e.copies p.stock.copies_climb;
-    lines = subst (λ l. climbs (map (λ (row : LineRow). row.source ∷ row.addressee ∷ row.number ∷ row.line ∷ []) l) ≡ true) e.lines p.sent.lines_climb;
+    kept = subst (λ l. climbs (map (λ (row : CheckedKept). row.branch ∷ row.key) l) ≡ true) e.kept p.keys.kept_climbs;
+    casts = subst (λ l. climbs (map (λ (row : CheckedCast). row.film ∷ row.actor ∷ []) l) ≡ true) e.casts p.filmed.casts_climb;
+    customers = subst (λ l. climbs (map (λ (row : CheckedCustomer). row.branch ∷ row.number ∷ []) l) ≡ true) e.customers p.deals.customers_climb;
+    rentals = subst (λ l. climbs (map (λ (row : CheckedRental). row.branch ∷ row.number ∷ []) l) ≡ true) e.rentals p.deals.rentals_climb;
+    terms = subst (λ l. climbs (map (λ (row : CheckedTerms). row.branch ∷ row.number ∷ []) l) ≡ true) e.terms p.deals.terms_climb;
+    payments = subst (λ l. climbs (map (λ (row : CheckedPayment). row.branch ∷ row.number ∷ []) l) ≡ true) e.payments p.deals.payments_climb;
+    lots = subst (λ l. climbs (map (λ (row : CheckedLot). row.branch ∷ row.name) l) ≡ true) e.lots p.stock.lots_climb;
+    headers = subst (λ l. climbs (map (λ (row : CheckedHeader). row.source ∷ row.addressee ∷ row.number ∷ []) l) ≡ true) e.headers p.sent.headers_climb;
+    copies = subst (λ l. climbs (map (λ (row : CheckedCopy). row.branch ∷ row.number ∷ []) l) ≡ true) e.copies p.stock.copies_climb;
+    lines = subst (λ l. climbs (map (λ (row : CheckedLine). row.source ∷ row.addressee ∷ row.number ∷ row.line ∷ []) l) ≡ true) e.lines p.sent.lines_climb;
   }
 
   pub are_read : AreRowsRead tables rows
@@ -81,8 +81,8 @@ module _ (tables : TableRows) (parts : Parts) (rows : OrderedBooks) (p : PartsAr
     headers = subst (RowsRead IsHeaderRow (HaveKinds header_kinds) tables.consignments.items) e.headers p.sent.headers;
     copies = subst (RowsRead IsCopyRow (λ r. Unit {0}) tables.copies.items) e.copies (whatever _ _ _ _ p.stock.copies);
     lines = subst (RowsRead IsLineRow (λ r. Unit {0}) tables.lines.items) e.lines (whatever _ _ _ _ p.sent.lines);
-    kept = subst₂ (λ (ks : List Key) (ls : List KeptRow). RowsRead IsCallerRow IsOneKept tables.kept.items (map office_caller ks ++ map branch_caller ls)) e.office_keys e.kept p.keys.kept;
-    kept_branches = subst (AllByRecursion (λ (x : KeptRow). IsNumber x.branch)) e.kept p.keys.branches;
+    kept = subst₂ (λ (ks : List Key) (ls : List CheckedKept). RowsRead IsCallerRow IsOneKept tables.kept.items (map office_caller ks ++ map branch_caller ls)) e.office_keys e.kept p.keys.kept;
+    kept_branches = subst (AllByRecursion (λ (x : CheckedKept). IsNumber x.branch)) e.kept p.keys.branches;
     lines_climb = ap climbs (map-twice placed_key seen_placed rows.lines.items) ∙ are_ordered.lines;
   }
 

@@ -11,8 +11,8 @@ use Rattle.audit_rows.specs.Ordered.{HaveOrderedRows, customer_row, kept_row, br
 use Rattle.audit_rows.specs.Joins.{header}
 use Rattle.audit_rows.specs.Seen.{seen_copy, seen_rental_row, seen_payment_row, seen_header, seen_placed}
 use Rattle.audit_rows.specs.declared.books.OrderedBooks.{OrderedBooks}
-use Rattle.audit_rows.specs.declared.rows.RentalRow.{RentalRow}
-use Rattle.audit_rows.specs.declared.rows.HeaderRow.{HeaderRow}
+use Rattle.audit_rows.specs.declared.rows.CheckedRental.{CheckedRental}
+use Rattle.audit_rows.specs.declared.rows.CheckedHeader.{CheckedHeader}
 use Rattle.audit_rows.proofs.JoinLemmas.{join_sound}
 use Rattle.audit_rows.proofs.Maps.{filter-map, length-map}
 use Rattle.books_audit.specs.Read.{counters_in, outs_in, pairs_in, counts_of_branch}
@@ -34,8 +34,8 @@ by_numbers f g h k [] (y ∷ ys) e = absurd (omega (arith, e))
 by_numbers f g h k (x ∷ xs) [] e = absurd (omega (arith, e))
 by_numbers f g h k (x ∷ xs) (y ∷ ys) e = λ i. h k x y i ++ by_numbers f g h (k + 1) xs ys (omega (arith, e)) i
 
-counted_headers : (pairs : List Pair) (its : List Consignment) (headers : List HeaderRow) → map header its ≡ map seen_header headers
-    → fold (λ pairs it. count_pair it.source it.addressee pairs) pairs its ≡ fold (λ pairs (it : HeaderRow). count_pair it.source it.addressee pairs) pairs headers
+counted_headers : (pairs : List Pair) (its : List Consignment) (headers : List CheckedHeader) → map header its ≡ map seen_header headers
+    → fold (λ pairs it. count_pair it.source it.addressee pairs) pairs its ≡ fold (λ pairs (it : CheckedHeader). count_pair it.source it.addressee pairs) pairs headers
 counted_headers pairs [] [] h = refl
 counted_headers pairs [] (x ∷ headers) h = cc
 counted_headers pairs (it ∷ its) [] h = cc
@@ -43,7 +43,7 @@ counted_headers pairs (it ∷ its) (x ∷ headers) h =
     let first : header it ≡ seen_header x = cc in
     let rest : map header its ≡ map seen_header headers = cc in
     counted_headers (count_pair it.source it.addressee pairs) its headers rest
-    ∙ (λ i. fold (λ pairs (it : HeaderRow). count_pair it.source it.addressee pairs) (count_pair (first i).source (first i).addressee pairs) headers)
+    ∙ (λ i. fold (λ pairs (it : CheckedHeader). count_pair it.source it.addressee pairs) (count_pair (first i).source (first i).addressee pairs) headers)
 
 module _ (rows : OrderedBooks) (c : Books) (has : HaveOrderedRows rows c) where
   one_branch : (b : ℕ) (it : Branch) → branch_counts c (b, it) ≡ counts_of_branch rows b
@@ -69,7 +69,7 @@ module _ (rows : OrderedBooks) (c : Books) (has : HaveOrderedRows rows c) where
   pub outs_same : (counts_of c).outs ≡ outs_in rows
   outs_same =
       ap (λ l. map out_of (filter is_open l)) has.rentals ∙ ap (map out_of) (filter-map is_open seen_rental_row rows.rentals.items)
-      ∙ map-map out_of seen_rental_row (filter (λ (x : RentalRow). is_none x.rental.returned) rows.rentals.items)
+      ∙ map-map out_of seen_rental_row (filter (λ (x : CheckedRental). is_none x.rental.returned) rows.rentals.items)
 
   -- its consignments in the order of their keys are the headers
   pub pairs_same : IsPermutation (pairs_in rows) (counts_of c).pairs

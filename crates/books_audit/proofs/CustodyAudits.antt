@@ -13,10 +13,10 @@ use Rattle.shop_schema.specs.Columns.{copy_columns, line_value}
 use Rattle.shop_schema.specs.RowValues.{IsRow, IsCopy}
 use Rattle.shop_schema.proofs.SameRows.{same_copy}
 use Rattle.audit_rows.specs.Joins.{Placed}
-use Rattle.audit_rows.specs.declared.rows.CopyRow.{CopyRow}
+use Rattle.audit_rows.specs.declared.rows.CheckedCopy.{CheckedCopy}
 use Rattle.audit_rows.specs.declared.rows.CopyState.{CopyState}
 use Rattle.audit_rows.specs.declared.rows.CopyState.TheVariants as state
-use Rattle.audit_rows.specs.declared.rows.LineRow.{LineRow}
+use Rattle.audit_rows.specs.declared.rows.CheckedLine.{CheckedLine}
 use Rattle.audit_rows.specs.declared.rows.LineState.TheVariants as line
 use Rattle.audit_rows.specs.declared.rows.LineState as lines
 use Rattle.audit_rows.specs.Seen.{seen_copy, seen_placed, seen_line, seen_state, seen_line_state}
@@ -73,7 +73,7 @@ unseen_state model.Here = state.Here
 unseen_state model.Sent = state.Sent
 unseen_state model.Scrapped = state.Scrapped
 
-pub unseen_copy : Row BookCopy → CopyRow
+pub unseen_copy : Row BookCopy → CheckedCopy
 unseen_copy it = record { branch = it.branch; number = it.number; film = it.it.film; state = unseen_state it.it.state; mark = record { branch = it.it.mark.branch; copy = it.it.mark.copy } }
 
 pub copy_again : (it : Row BookCopy) → seen_copy (unseen_copy it) ≡ it
@@ -90,7 +90,7 @@ unseen_line_state UnderWay = line.UnderWay
 unseen_line_state Arrived = line.Arrived
 unseen_line_state Missing = line.Missing
 
-pub unseen_placed : Placed → LineRow
+pub unseen_placed : Placed → CheckedLine
 unseen_placed p = record { source = p.source; addressee = p.addressee; number = p.number; line = p.at; film = p.line.film; mark = record { branch = p.line.mark.branch; copy = p.line.mark.copy }; state = unseen_line_state p.line.state }
 
 pub placed_again : (p : Placed) → seen_placed (unseen_placed p) ≡ p
@@ -132,13 +132,13 @@ module _ (copy_rows line_rows : List sql.Row) where
     nothing = λ _. record { made = refl; here = refl; transit = refl; gone = refl };
   }
 
-  pub no_copies : ¬ AllByRecursion (λ r. (x : CopyRow) × IsCopyRow x r) copy_rows → ¬ Stand copy_rows line_rows
+  pub no_copies : ¬ AllByRecursion (λ r. (x : CheckedCopy) × IsCopyRow x r) copy_rows → ¬ Stand copy_rows line_rows
   no_copies none (copies, lines, h) = let it = unread seen_copy copy_columns (IsRow IsCopy) unseen_copy copy_again copies copy_rows h.copy_values h.copies_are in none (all_are IsCopyRow it.0 copy_rows it.1)
 
-  pub no_lines : ¬ AllByRecursion (λ r. (x : LineRow) × IsLineRow x r) line_rows → ¬ Stand copy_rows line_rows
+  pub no_lines : ¬ AllByRecursion (λ r. (x : CheckedLine) × IsLineRow x r) line_rows → ¬ Stand copy_rows line_rows
   no_lines none (copies, lines, h) = let it = unread seen_placed placed_columns IsPlaced unseen_placed placed_again lines line_rows h.line_values h.lines_are in none (all_are IsLineRow it.0 line_rows it.1)
 
-  module _ (xs : List CopyRow) (ys : List LineRow) (p : AreRows IsCopyRow xs copy_rows) (q : AreRows IsLineRow ys line_rows) where
+  module _ (xs : List CheckedCopy) (ys : List CheckedLine) (p : AreRows IsCopyRow xs copy_rows) (q : AreRows IsLineRow ys line_rows) where
     abbrev copies : List (Row BookCopy)
     copies = map seen_copy xs
 

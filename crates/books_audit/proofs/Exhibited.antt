@@ -18,10 +18,10 @@ use Rattle.audit_rows.specs.Joins.{header, placed, join}
 use Rattle.audit_rows.specs.Seen.{seen_copy, seen_rental_row, seen_payment_row, seen_header, seen_placed}
 use Rattle.audit_rows.specs.Ordered.{AreOrdered, HaveOrderedRows, HaveSharedRows, city_row, film_row, cast_row, branch_row, without_last, staff_row, customer_row, terms_row, lot_row, kept_row, lasts_from}
 use Rattle.audit_rows.specs.declared.books.OrderedBooks.{OrderedBooks}
-use Rattle.audit_rows.specs.declared.rows.BranchRow.{BranchRow}
-use Rattle.audit_rows.specs.declared.rows.CastRow.{CastRow}
-use Rattle.audit_rows.specs.declared.rows.LotRow.{LotRow}
-use Rattle.audit_rows.specs.declared.rows.KeptRow.{KeptRow}
+use Rattle.audit_rows.specs.declared.rows.CheckedBranch.{CheckedBranch}
+use Rattle.audit_rows.specs.declared.rows.CheckedCast.{CheckedCast}
+use Rattle.audit_rows.specs.declared.rows.CheckedLot.{CheckedLot}
+use Rattle.audit_rows.specs.declared.rows.CheckedKept.{CheckedKept}
 use Rattle.audit_rows.proofs.JoinLemmas.{join_sound}
 use Rattle.audit_rows.proofs.Maps.{length-map}
 use Rattle.audit_rows.proofs.Standing.{all_moved}
@@ -226,7 +226,7 @@ module _ (tables : TableRows) (rows : OrderedBooks) (read : AreRowsRead tables r
     actors = actors.has;
     films = films.has;
     casts = casts.has;
-    branches = subst (IsPermutation tables.branches.items) (sym (tell 1 branches.items (lasts_from 1 rows.branches.items) (λ m low. ap (λ (l : List BranchRow). head (owned_by m (lasts_from 1 l))) (sym branches.keeps)))) branches.has;
+    branches = subst (IsPermutation tables.branches.items) (sym (tell 1 branches.items (lasts_from 1 rows.branches.items) (λ m low. ap (λ (l : List CheckedBranch). head (owned_by m (lasts_from 1 l))) (sym branches.keeps)))) branches.has;
     staff = staff.has;
     customers = customers.has;
     copies = copy_rows;
@@ -244,17 +244,17 @@ module _ (tables : TableRows) (rows : OrderedBooks) (read : AreRowsRead tables r
   unfolding canonical
   have_keys = record {
     casts = apart (λ (a b : Cast). a.film == b.film && a.actor == b.actor) (λ x. x.film ∷ x.actor ∷ []) (λ x y. cast_test x y) casts.its
-        (ap climbs (sym (map-map (λ (x : CastRow). x.film ∷ x.actor ∷ []) cast_row casts.its) ∙ ap (map (λ (x : CastRow). x.film ∷ x.actor ∷ [])) casts.keeps) ∙ ordered.casts);
+        (ap climbs (sym (map-map (λ (x : CheckedCast). x.film ∷ x.actor ∷ []) cast_row casts.its) ∙ ap (map (λ (x : CheckedCast). x.film ∷ x.actor ∷ [])) casts.keeps) ∙ ordered.casts);
     customers = apart same_row row_key row_test customers.its order.customers;
     copies = apart same_row row_key row_test (map seen_copy rows.copies.items) order.copies;
     rentals = apart same_row row_key row_test rentals.its order.rentals;
     terms = apart same_row row_key row_test terms.its order.terms;
     payments = apart same_row row_key row_test payments.its order.payments;
     lots = apart (λ (a b : Owned Text). a.owner == b.owner && bytes_eq a.it b.it) (λ x. x.owner ∷ x.it) (λ x y. refl) lots.its
-        (ap climbs (sym (map-map (λ (x : LotRow). x.branch ∷ x.name) lot_row lots.its) ∙ ap (map (λ (x : LotRow). x.branch ∷ x.name)) lots.keeps) ∙ ordered.lots);
+        (ap climbs (sym (map-map (λ (x : CheckedLot). x.branch ∷ x.name) lot_row lots.its) ∙ ap (map (λ (x : CheckedLot). x.branch ∷ x.name)) lots.keeps) ∙ ordered.lots);
     consignments = consignments_apart order.by_key (by_place by_key) (IsPermutation-sym _ _ order.joined) order.headers;
     kept = apart (λ (a b : Owned Kept). a.owner == b.owner && bytes_eq a.it.command.key b.it.command.key) (λ x. x.owner ∷ x.it.command.key) (λ x y. refl) kept.kept
-        (ap climbs (sym (map-map (λ (x : KeptRow). x.branch ∷ x.key) kept_row kept.kept) ∙ ap (map (λ (x : KeptRow). x.branch ∷ x.key)) kept.kept_keys) ∙ ordered.kept);
+        (ap climbs (sym (map-map (λ (x : CheckedKept). x.branch ∷ x.key) kept_row kept.kept) ∙ ap (map (λ (x : CheckedKept). x.branch ∷ x.key)) kept.kept_keys) ∙ ordered.kept);
     office_kept = apart (λ (a b : OfficeKept). bytes_eq a.command.key b.command.key) office_key (λ x y. refl) kept.office (ap climbs kept.office_keys ∙ ordered.office_keys);
   }
     where
@@ -287,7 +287,7 @@ module _ (tables : TableRows) (rows : OrderedBooks) (read : AreRowsRead tables r
       lots = lots.fit;
       consignments = all_moved IsConsignment _ _ (same_by_place by_key) fitting;
       kept = kept.kept_fit;
-      lasts = subst (λ (l : List BranchRow). AllByRecursion IsLast (lasts_from 1 l)) branches.keeps (lasts_fit 1 branches.items branches.fit.1);
+      lasts = subst (λ (l : List CheckedBranch). AllByRecursion IsLast (lasts_from 1 l)) branches.keeps (lasts_fit 1 branches.items branches.fit.1);
     };
     keys = have_keys;
   }

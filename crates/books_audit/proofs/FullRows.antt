@@ -19,13 +19,13 @@ use Rattle.audit_tables.specs.declared.kinds.Kind.TheVariants as kind
 use Rattle.audit_tables.proofs.KindLemmas.{Spelled, spelled, next, in_range, ranged, equal_numbers, or_ranged}
 use Rattle.audit_rows.specs.Joins.{Header}
 use Rattle.audit_rows.specs.Ordered.{city_row, film_row, cast_row, branch_row, staff_row, customer_row, terms_row, lot_row}
-use Rattle.audit_rows.specs.declared.rows.CastRow.{CastRow}
-use Rattle.audit_rows.specs.declared.rows.CustomerRow.{CustomerRow}
-use Rattle.audit_rows.specs.declared.rows.RentalRow.{RentalRow}
-use Rattle.audit_rows.specs.declared.rows.TermsRow.{TermsRow}
-use Rattle.audit_rows.specs.declared.rows.PaymentRow.{PaymentRow}
-use Rattle.audit_rows.specs.declared.rows.LotRow.{LotRow}
-use Rattle.audit_rows.specs.declared.rows.HeaderRow.{HeaderRow}
+use Rattle.audit_rows.specs.declared.rows.CheckedCast.{CheckedCast}
+use Rattle.audit_rows.specs.declared.rows.CheckedCustomer.{CheckedCustomer}
+use Rattle.audit_rows.specs.declared.rows.CheckedRental.{CheckedRental}
+use Rattle.audit_rows.specs.declared.rows.CheckedTerms.{CheckedTerms}
+use Rattle.audit_rows.specs.declared.rows.CheckedPayment.{CheckedPayment}
+use Rattle.audit_rows.specs.declared.rows.CheckedLot.{CheckedLot}
+use Rattle.audit_rows.specs.declared.rows.CheckedHeader.{CheckedHeader}
 use Rattle.audit_tables.specs.Rows.{row, row_or_null, chain_kinds, IsChainRow, rule_kinds, IsRuleRow, named_kinds, IsNamedRow, city_kinds, IsCityRow, actor_kinds, IsActorRow, film_kinds, IsFilmRow, cast_kinds, IsCastRow, branch_kinds, IsBranchRow, staff_kinds, IsStaffRow, customer_kinds, IsCustomerRow, rental_kinds, IsRentalRow, terms_kinds, IsTermsRow, payment_kinds, IsPaymentRow, lot_kinds, IsLotRow, header_kinds, IsHeaderRow}
 use Rattle.audit_tables.specs.declared.shared.ChainRow.{ChainRow}
 use Rattle.audit_tables.specs.declared.shared.RuleRow.{RuleRow}
@@ -79,7 +79,7 @@ pub record IsHeader (h : Header) : Type 0 where
   pub number : IsNumber h.number
   pub place : (1 ≤ h.place) × (h.place < 2 ^ 63)
 
-abbrev pub header_row : Header → HeaderRow
+abbrev pub header_row : Header → CheckedHeader
 header_row h = record { source = h.source; addressee = h.addressee; number = h.number; place = h.place; received = h.received }
 
 place_from : (n : ℕ) → (1 ≤ n) × (n ≤ 9_223_372_036_854_775_807) → (1 ≤ n) × (n < 2 ^ 63)
@@ -115,10 +115,10 @@ IsTold it = IsBranch it.0 × IfSome it.1 IsMoment
 abbrev pub numbered_staff : ℕ × Staff → NumberedStaff
 numbered_staff it = record { number = it.0; staff = staff_row it.1 }
 
-abbrev pub rental_row : Row Rental → RentalRow
+abbrev pub rental_row : Row Rental → CheckedRental
 rental_row it = record { branch = it.branch; number = it.number; rental = record { rented = it.it.rented; copy = it.it.copy; customer = it.it.customer; returned = it.it.returned; staff = it.it.staff } }
 
-abbrev pub payment_row : Row Payment → PaymentRow
+abbrev pub payment_row : Row Payment → CheckedPayment
 payment_row it = record { branch = it.branch; number = it.number; payment = record { customer = it.it.customer; staff = it.it.staff; rental = it.it.rental; amount = it.it.amount; paid = it.it.paid } }
 
 only : (n : ℕ) → (2 ≤ n) × (n ≤ 2) → n ≡ 2
@@ -230,7 +230,7 @@ film_one it h = (number it.0 h.0, ((it.1.title, h.1.title, refl), ((it.1.descrip
 
 -- ---- cast
 
-pub cast_full : (r : sql.Row) (x : CastRow) → HaveKinds cast_kinds r → IsCastRow x r → FullOf cast_columns IsCast cast_row x r
+pub cast_full : (r : sql.Row) (x : CheckedCast) → HaveKinds cast_kinds r → IsCastRow x r → FullOf cast_columns IsCast cast_row x r
 cast_full r x h is = go (spelled cast_kinds r h)
   where
     go : Spelled cast_kinds r → FullOf cast_columns IsCast cast_row x r
@@ -272,7 +272,7 @@ staff_one it h = (number it.0 h.0, (number it.1.branch h.1.0, ((it.1.person.firs
 
 -- ---- customer
 
-pub customer_full : (r : sql.Row) (x : CustomerRow) → HaveKinds customer_kinds r → IsCustomerRow x r → FullOf customer_columns (IsRow IsCustomer) customer_row x r
+pub customer_full : (r : sql.Row) (x : CheckedCustomer) → HaveKinds customer_kinds r → IsCustomerRow x r → FullOf customer_columns (IsRow IsCustomer) customer_row x r
 customer_full r x h is = go (spelled customer_kinds r h)
   where
     go : Spelled customer_kinds r → FullOf customer_columns (IsRow IsCustomer) customer_row x r
@@ -286,7 +286,7 @@ customer_one it h = (number it.branch h.0, (number it.number h.1, ((it.it.person
 
 -- ---- rental
 
-pub rental_full : (r : sql.Row) (x : RentalRow) → HaveKinds rental_kinds r → IsRentalRow x r → FullOf rental_columns (IsRow IsRental) rental_row x r
+pub rental_full : (r : sql.Row) (x : CheckedRental) → HaveKinds rental_kinds r → IsRentalRow x r → FullOf rental_columns (IsRow IsRental) rental_row x r
 rental_full r x h is = go (spelled rental_kinds r h)
   where
     go : Spelled rental_kinds r → FullOf rental_columns (IsRow IsRental) rental_row x r
@@ -300,7 +300,7 @@ rental_one it h = (number it.branch h.0, (number it.number h.1, ((it.it.rented, 
 
 -- ---- terms
 
-pub terms_full : (r : sql.Row) (x : TermsRow) → HaveKinds terms_kinds r → IsTermsRow x r → FullOf terms_columns (IsRow IsTerms) terms_row x r
+pub terms_full : (r : sql.Row) (x : CheckedTerms) → HaveKinds terms_kinds r → IsTermsRow x r → FullOf terms_columns (IsRow IsTerms) terms_row x r
 terms_full r x h is = go (spelled terms_kinds r h)
   where
     go : Spelled terms_kinds r → FullOf terms_columns (IsRow IsTerms) terms_row x r
@@ -314,7 +314,7 @@ terms_one it h = (number it.branch h.0, (number it.number h.1, ((it.it.rate, (om
 
 -- ---- payment
 
-pub payment_full : (r : sql.Row) (x : PaymentRow) → HaveKinds payment_kinds r → IsPaymentRow x r → FullOf payment_columns (IsRow IsPayment) payment_row x r
+pub payment_full : (r : sql.Row) (x : CheckedPayment) → HaveKinds payment_kinds r → IsPaymentRow x r → FullOf payment_columns (IsRow IsPayment) payment_row x r
 payment_full r x h is = go (spelled payment_kinds r h)
   where
     go : Spelled payment_kinds r → FullOf payment_columns (IsRow IsPayment) payment_row x r
@@ -328,7 +328,7 @@ payment_one it h = (number it.branch h.0, (number it.number h.1, (number it.it.c
 
 -- ---- lot
 
-pub lot_full : (r : sql.Row) (x : LotRow) → HaveKinds lot_kinds r → IsLotRow x r → FullOf lot_columns IsLot lot_row x r
+pub lot_full : (r : sql.Row) (x : CheckedLot) → HaveKinds lot_kinds r → IsLotRow x r → FullOf lot_columns IsLot lot_row x r
 lot_full r x h is = go (spelled lot_kinds r h)
   where
     go : Spelled lot_kinds r → FullOf lot_columns IsLot lot_row x r
@@ -342,7 +342,7 @@ lot_one it h = (number it.owner h.0, ((it.it, h.1, refl), tt))
 
 -- ---- header
 
-pub header_full : (r : sql.Row) (x : HeaderRow) → HaveKinds header_kinds r → IsHeaderRow x r → FullOf header_columns IsHeader header_row x r
+pub header_full : (r : sql.Row) (x : CheckedHeader) → HaveKinds header_kinds r → IsHeaderRow x r → FullOf header_columns IsHeader header_row x r
 header_full r x h is = go (spelled header_kinds r h)
   where
     go : Spelled header_kinds r → FullOf header_columns IsHeader header_row x r

@@ -14,8 +14,8 @@ use Rattle.audit_rows.specs.Seen.{seen_copy, seen_rental_row, seen_payment_row, 
 use Rattle.audit_rows.specs.Shops.{is_among}
 use Rattle.audit_rows.specs.Ordered.{AreOrdered, HaveOrderedRows, customer_row, terms_row, branch_row, without_last}
 use Rattle.audit_rows.specs.declared.books.OrderedBooks.{OrderedBooks}
-use Rattle.audit_rows.specs.declared.rows.CustomerRow.{CustomerRow}
-use Rattle.audit_rows.specs.declared.rows.TermsRow.{TermsRow}
+use Rattle.audit_rows.specs.declared.rows.CheckedCustomer.{CheckedCustomer}
+use Rattle.audit_rows.specs.declared.rows.CheckedTerms.{CheckedTerms}
 use Rattle.audit_rows.proofs.JoinLemmas.{join_sound}
 use Rattle.audit_rows.proofs.LastLemmas.{lasts_owned, lasts_apart}
 use Rattle.audit_rows.proofs.Maps.{length-map}
@@ -27,7 +27,7 @@ use Rattle.books_audit.proofs.CountRows.{branch_count}
 module _ (rows : OrderedBooks) (c : Books) (has : HaveOrderedRows rows c) (ordered : AreOrdered rows) (lines : climbs (map placed_key (map seen_placed rows.lines.items)) ≡ true) where
   customers : climbs (map row_key c.customers) ≡ true
   customers =
-      ap climbs (sym (map-map (λ (x : CustomerRow). x.branch ∷ x.number ∷ []) customer_row c.customers) ∙ ap (map (λ (x : CustomerRow). x.branch ∷ x.number ∷ [])) has.customers) ∙ ordered.customers
+      ap climbs (sym (map-map (λ (x : CheckedCustomer). x.branch ∷ x.number ∷ []) customer_row c.customers) ∙ ap (map (λ (x : CheckedCustomer). x.branch ∷ x.number ∷ [])) has.customers) ∙ ordered.customers
 
   copies : climbs (map row_key c.copies) ≡ true
   copies = ap climbs (ap (map row_key) has.copies ∙ map-map row_key seen_copy rows.copies.items) ∙ ordered.copies
@@ -36,7 +36,7 @@ module _ (rows : OrderedBooks) (c : Books) (has : HaveOrderedRows rows c) (order
   rentals = ap climbs (ap (map row_key) has.rentals ∙ map-map row_key seen_rental_row rows.rentals.items) ∙ ordered.rentals
 
   terms : climbs (map row_key c.terms) ≡ true
-  terms = ap climbs (sym (map-map (λ (x : TermsRow). x.branch ∷ x.number ∷ []) terms_row c.terms) ∙ ap (map (λ (x : TermsRow). x.branch ∷ x.number ∷ [])) has.terms) ∙ ordered.terms
+  terms = ap climbs (sym (map-map (λ (x : CheckedTerms). x.branch ∷ x.number ∷ []) terms_row c.terms) ∙ ap (map (λ (x : CheckedTerms). x.branch ∷ x.number ∷ [])) has.terms) ∙ ordered.terms
 
   payments : climbs (map row_key c.payments) ≡ true
   payments = ap climbs (ap (map row_key) has.payments ∙ map-map row_key seen_payment_row rows.payments.items) ∙ ordered.payments

@@ -14,7 +14,7 @@ use Rattle.audit_tables.proofs.KindLemmas.{Spelled, spelled, next, ranged, in_ra
 use Rattle.audit_tables.specs.Forms.{IsCommandForm, IsOfficeForm}
 use Rattle.audit_rows.specs.Lists.{Key}
 use Rattle.audit_rows.specs.Ordered.{kept_row}
-use Rattle.audit_rows.specs.declared.rows.KeptRow.{KeptRow}
+use Rattle.audit_rows.specs.declared.rows.CheckedKept.{CheckedKept}
 use Rattle.audit_tables.specs.Rows.{kept_kinds, IsOneKept, IsCallerRow}
 use Rattle.audit_tables.specs.declared.kept.CallerRow.{CallerRow}
 use Rattle.books_audit.specs.Read.{RowsRead, office_caller, branch_caller}
@@ -78,7 +78,7 @@ kept_full r x (h, f) is = go (spelled kept_kinds r h)
 
 -- ---- head office's stand in front
 
-pub record SplitKept (keys : List Key) (others : List KeptRow) (its : List AnyKept) : Type 0 where
+pub record SplitKept (keys : List Key) (others : List CheckedKept) (its : List AnyKept) : Type 0 where
   pub office : List OfficeKept
   pub kept : List (Owned Kept)
   pub is : its ≡ map inr office ++ map inl kept
@@ -90,7 +90,7 @@ pub record SplitKept (keys : List Key) (others : List KeptRow) (its : List AnyKe
 no_branch : (n : ℕ) → IsNumber n → n ≢ 0
 no_branch n h e = let low = (in_range n h).0 in absurd (omega (arith, low, e))
 
-split_branches : (others : List KeptRow) → AllByRecursion (λ (x : KeptRow). IsNumber x.branch) others → (its : List AnyKept) → AllByRecursion AnyFits its → map caller_row its ≡ map branch_caller others → SplitKept [] others its
+split_branches : (others : List CheckedKept) → AllByRecursion (λ (x : CheckedKept). IsNumber x.branch) others → (its : List AnyKept) → AllByRecursion AnyFits its → map caller_row its ≡ map branch_caller others → SplitKept [] others its
 split_branches [] n [] f e = record { office = []; kept = []; is = refl; office_fit = tt; kept_fit = tt; office_keys = refl; kept_keys = refl }
 split_branches [] n (it ∷ its) f e = cc
 split_branches (x ∷ others) n [] f e = cc
@@ -116,7 +116,7 @@ split_branches (x ∷ others) n (inr it ∷ its) f e =
     let zero_is : 0 ≡ x.branch = ap (λ (c : CallerRow). c.caller) head in
     absurd (no_branch x.branch n.0 (sym zero_is))
 
-pub split : (keys : List Key) (others : List KeptRow) → AllByRecursion (λ (x : KeptRow). IsNumber x.branch) others → (its : List AnyKept) → AllByRecursion AnyFits its
+pub split : (keys : List Key) (others : List CheckedKept) → AllByRecursion (λ (x : CheckedKept). IsNumber x.branch) others → (its : List AnyKept) → AllByRecursion AnyFits its
     → map caller_row its ≡ map office_caller keys ++ map branch_caller others → SplitKept keys others its
 split [] others n its f e = split_branches others n its f e
 split (key ∷ keys) others n [] f e = cc
@@ -142,7 +142,7 @@ map_split [] [] = refl
 map_split [] (row ∷ kept) = λ i. kept_columns row ∷ map_split [] kept i
 map_split (it ∷ office) kept = λ i. office_kept_columns it ∷ map_split office kept i
 
-pub record KeptOf (table : List sql.Row) (keys : List Key) (others : List KeptRow) : Type 0 where
+pub record KeptOf (table : List sql.Row) (keys : List Key) (others : List CheckedKept) : Type 0 where
   pub office : List OfficeKept
   pub kept : List (Owned Kept)
   pub has : IsPermutation table (kept_rows kept office)
@@ -151,7 +151,7 @@ pub record KeptOf (table : List sql.Row) (keys : List Key) (others : List KeptRo
   pub office_keys : map (λ (it : OfficeKept). it.command.key) office ≡ keys
   pub kept_keys : map kept_row kept ≡ others
 
-pub kept_of : (table : List sql.Row) (keys : List Key) (others : List KeptRow) → AllByRecursion (λ (x : KeptRow). IsNumber x.branch) others
+pub kept_of : (table : List sql.Row) (keys : List Key) (others : List CheckedKept) → AllByRecursion (λ (x : CheckedKept). IsNumber x.branch) others
     → RowsRead IsCallerRow IsOneKept table (map office_caller keys ++ map branch_caller others) → KeptOf table keys others
 kept_of table keys others n r =
     let f = fulls any_columns AnyFits caller_row IsCallerRow IsOneKept kept_full r.found (map office_caller keys ++ map branch_caller others) table r.are_rows r.ones r.same in

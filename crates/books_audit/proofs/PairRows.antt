@@ -6,7 +6,7 @@ use Rattle.shop_model.proofs.RowLemmas.{same_if, same_test}
 use Rattle.std.proofs.lemmas.Bool.Decides.{nat_tests}
 use Rattle.shop_schema.specs.Counts.{Pair, is_pair, count_pair}
 use Rattle.audit_rows.specs.Lists.{Key, is_below, climbs_above}
-use Rattle.audit_rows.specs.declared.rows.HeaderRow.{HeaderRow}
+use Rattle.audit_rows.specs.declared.rows.CheckedHeader.{CheckedHeader}
 use Rattle.audit_rows.proofs.Keys.{both, below_trans, below_apart}
 use Rattle.books_audit.specs.declared.counts.Triple.{Triple}
 use Rattle.books_audit.specs.Read.{pairs_among}
@@ -59,13 +59,13 @@ module _ (s a t b : ℕ) (ps : List Pair) (low : Below s a ps) (up : is_below (s
 
 -- ---- the next consignment
 
-pub cut_at : (xs : List HeaderRow) (i : ℕ) (x : HeaderRow) → i < length xs → x ≡ get_or xs i x → drop i xs ≡ x ∷ drop (i + 1) xs
+pub cut_at : (xs : List CheckedHeader) (i : ℕ) (x : CheckedHeader) → i < length xs → x ≡ get_or xs i x → drop i xs ≡ x ∷ drop (i + 1) xs
 cut_at xs i x low is = rw (add-one, drop-cons xs i x) (ap (λ y. y ∷ drop (suc i) xs) (sym is))
 
-abbrev key : HeaderRow → Key
+abbrev key : CheckedHeader → Key
 key row = row.source ∷ row.addressee ∷ row.number ∷ []
 
-abbrev so_many : HeaderRow → ℕ → Pair
+abbrev so_many : CheckedHeader → ℕ → Pair
 so_many row n = record { source = row.source; addressee = row.addressee; last = n }
 
 map_last : (xs : List Triple) (x : Triple) → map seen_pair (xs ++ x ∷ []) ≡ map seen_pair xs ++ seen_pair x ∷ []
@@ -73,12 +73,12 @@ map_last [] x = refl
 map_last (y ∷ xs) x = ap (λ l. seen_pair y ∷ l) (map_last xs x)
 
 -- what holds behind it
-pub record Follows (ps : List Pair) (row : HeaderRow) (n : ℕ) (rest : List HeaderRow) (all : List Pair) : Type 0 where
+pub record Follows (ps : List Pair) (row : CheckedHeader) (n : ℕ) (rest : List CheckedHeader) (all : List Pair) : Type 0 where
   pub same : pairs_among (ps ++ so_many row n ∷ []) rest ≡ all
   pub below : Below row.source row.addressee ps
   pub rises : climbs_above (key row) (map key rest) ≡ true
 
-module _ (last row : HeaderRow) (before rest : List HeaderRow) (n : ℕ) (all : List Pair) (cut : before ≡ row ∷ rest) where
+module _ (last row : CheckedHeader) (before rest : List CheckedHeader) (n : ℕ) (all : List Pair) (cut : before ≡ row ∷ rest) where
   rising : climbs_above (key last) (map key before) ≡ true → (is_below (key last) (key row) && climbs_above (key row) (map key rest)) ≡ true
   rising h = ap (λ l. climbs_above (key last) (map key l)) (sym cut) ∙ h
 

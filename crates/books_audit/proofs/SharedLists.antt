@@ -14,7 +14,7 @@ use Rattle.shop_schema.specs.RowValues.{AreShared, IsLast, IsBranch}
 use Rattle.audit_tables.specs.declared.kinds.Kind.{Kind}
 use Rattle.audit_tables.specs.Kinds.{HaveKinds}
 use Rattle.audit_rows.specs.Ordered.{branch_row, last_of, lasts_from}
-use Rattle.audit_rows.specs.declared.rows.BranchRow.{BranchRow}
+use Rattle.audit_rows.specs.declared.rows.CheckedBranch.{CheckedBranch}
 use Rattle.audit_rows.proofs.LastLemmas.{last_at, last_in}
 use Rattle.books_audit.specs.Read.{SharedRead}
 use Rattle.books_audit.proofs.FullRows.{FullOf, IsShared, told_columns, IsTold}
@@ -52,13 +52,13 @@ module _ {A X S : Type 0} (columns : ℕ × A → sql.Row) (P : A → Type 0) (s
 abbrev Told : Type 0
 Told = Branch × Option Moment
 
-abbrev pub told_row : Told → BranchRow
+abbrev pub told_row : Told → CheckedBranch
 told_row it = branch_row it.1 it.0
 
 not_first : (n : ℕ) → 1 ≤ n → (n + 1 == 1) ≡ false
 not_first n h = grind (arith, nat_tests)
 
-behind : (k m n : ℕ) (x : BranchRow) (xs : List BranchRow) → m ≡ n + k → 1 ≤ n → head (owned_by m (lasts_from k (x ∷ xs))) ≡ head (owned_by m (lasts_from (k + 1) xs))
+behind : (k m n : ℕ) (x : CheckedBranch) (xs : List CheckedBranch) → m ≡ n + k → 1 ≤ n → head (owned_by m (lasts_from k (x ∷ xs))) ≡ head (owned_by m (lasts_from (k + 1) xs))
 behind k m n x xs e low =
     last_at k (x ∷ xs) (n + 1) m (omega (arith, e)) (omega arith)
     ∙ ap (λ b. last_in (if b then x ∷ [] else at (n + 1 - 1) xs)) (not_first n low) ∙ ap (λ (j : ℕ). last_in (at j xs)) less

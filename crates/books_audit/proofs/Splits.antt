@@ -10,7 +10,7 @@ use Rattle.std.proofs.lemmas.List.{append-nil}
 use Rattle.shop_schema.specs.RowValues.{IsNumber}
 use Rattle.audit_tables.proofs.KindLemmas.{ranged}
 use Rattle.audit_rows.specs.Lists.{Key}
-use Rattle.audit_rows.specs.declared.rows.KeptRow.{KeptRow}
+use Rattle.audit_rows.specs.declared.rows.CheckedKept.{CheckedKept}
 use Rattle.audit_tables.specs.declared.kept.CallerRow.{CallerRow}
 use Rattle.books_audit.specs.Read.{office_caller, branch_caller}
 use Rattle.std.proofs.lemmas.List.Sorted.{IsPermutation-refl, IsPermutation-trans, IsPermutation-sym, IsPermutation-append, IsPermutation-middle}
@@ -60,7 +60,7 @@ all_more P (y ∷ xs) x h p = (h.0, all_more P xs x h.1 p)
 
 -- ---- callers
 
-pub office_step : (all rest before : List CallerRow) (row : CallerRow) (office new : List Key) (kept : List KeptRow) → IsPermutation all (before ++ (map office_caller office ++ map branch_caller kept)) → before ≡ row ∷ rest → row.caller ≡ 0 → new ≡ office ++ row.key ∷ []
+pub office_step : (all rest before : List CallerRow) (row : CallerRow) (office new : List Key) (kept : List CheckedKept) → IsPermutation all (before ++ (map office_caller office ++ map branch_caller kept)) → before ≡ row ∷ rest → row.caller ≡ 0 → new ≡ office ++ row.key ∷ []
     → IsPermutation all (rest ++ (map office_caller new ++ map branch_caller kept))
 office_step all rest before row office new kept p e none g =
     let old = map office_caller office ++ map branch_caller kept in
@@ -68,11 +68,11 @@ office_step all rest before row office new kept p e none g =
     subst (λ l. IsPermutation all (rest ++ (map office_caller l ++ map branch_caller kept))) (sym g)
     (one_moved all rest old _ (office_caller row.key) (subst (λ x. IsPermutation all ((x ∷ rest) ++ old)) same (subst (λ l. IsPermutation all (l ++ old)) e p)) (first_grows office_caller office row.key (map branch_caller kept)))
 
-pub branch_step : (all rest before : List CallerRow) (row : CallerRow) (office : List Key) (kept new : List KeptRow) (branch : ℕ) → IsPermutation all (before ++ (map office_caller office ++ map branch_caller kept)) → before ≡ row ∷ rest → row.caller ≡ branch → new ≡ kept ++ record { branch = branch; key = row.key } ∷ []
+pub branch_step : (all rest before : List CallerRow) (row : CallerRow) (office : List Key) (kept new : List CheckedKept) (branch : ℕ) → IsPermutation all (before ++ (map office_caller office ++ map branch_caller kept)) → before ≡ row ∷ rest → row.caller ≡ branch → new ≡ kept ++ record { branch = branch; key = row.key } ∷ []
     → IsPermutation all (rest ++ (map office_caller office ++ map branch_caller new))
 branch_step all rest before row office kept new branch p e is g =
     let old = map office_caller office ++ map branch_caller kept in
-    let it : KeptRow = record { branch = branch; key = row.key } in
+    let it : CheckedKept = record { branch = branch; key = row.key } in
     let same : row ≡ branch_caller it = (λ i. record { caller = is i; key = row.key }) in
     subst (λ l. IsPermutation all (rest ++ (map office_caller office ++ map branch_caller l))) (sym g)
     (one_moved all rest old _ (branch_caller it) (subst (λ x. IsPermutation all ((x ∷ rest) ++ old)) same (subst (λ l. IsPermutation all (l ++ old)) e p)) (second_grows branch_caller kept it (map office_caller office)))

@@ -18,7 +18,7 @@ use Rattle.audit_tables.proofs.KindLemmas.{in_range}
 use Rattle.audit_rows.specs.Lists.{Key}
 use Rattle.audit_rows.specs.Canons.{office_key}
 use Rattle.audit_rows.specs.Ordered.{kept_row}
-use Rattle.audit_rows.specs.declared.rows.KeptRow.{KeptRow}
+use Rattle.audit_rows.specs.declared.rows.CheckedKept.{CheckedKept}
 use Rattle.audit_rows.proofs.Keys.{different_along, different-map, bytes_eq_symm}
 use Rattle.audit_rows.proofs.Standing.{all_moved}
 use Rattle.books_audit.specs.declared.tables.TableRows.{TableRows}
@@ -66,7 +66,7 @@ module _ (tables : TableRows) (b : Books) (t : HaveBooks tables b) where
   ones : AllByRecursion IsOneKept tables.kept.items
   ones = all_moved IsOneKept _ _ (IsPermutation-sym _ _ t.rows.kept) (all_ones b.kept b.catalogue.kept t.values.kept t.values.catalogue.kept)
 
-  module _ (found : List CallerRow) (office : List Key) (kept : List KeptRow) (rows : AreRows IsCallerRow found tables.kept.items) (branches : AllByRecursion (λ (x : KeptRow). IsNumber x.branch) kept)
+  module _ (found : List CallerRow) (office : List Key) (kept : List CheckedKept) (rows : AreRows IsCallerRow found tables.kept.items) (branches : AllByRecursion (λ (x : CheckedKept). IsNumber x.branch) kept)
       (same : IsPermutation found (map office_caller office ++ map branch_caller kept)) where
     of : KeptOf tables.kept.items office kept
     of = kept_of tables.kept.items office kept branches (record { found = found; are_rows = rows; ones = ones; same = same })
@@ -79,10 +79,10 @@ module _ (tables : TableRows) (b : Books) (t : HaveBooks tables b) where
         let keys = same_office_keys of.kept b.kept of.office b.catalogue.kept of.kept_fit t.values.kept both in
         ap (are_different bytes_eq) (sym of.office_keys) ∙ different_along bytes_eq bytes_eq_symm _ _ keys ∙ different-map bytes_eq office_key b.catalogue.kept ∙ t.keys.office_kept
 
-    kept_differ : are_different (λ (x y : KeptRow). bytes_eq (x.branch ∷ x.key) (y.branch ∷ y.key)) kept ≡ true
+    kept_differ : are_different (λ (x y : CheckedKept). bytes_eq (x.branch ∷ x.key) (y.branch ∷ y.key)) kept ≡ true
     kept_differ =
         let bag = same_kept of.kept b.kept of.office b.catalogue.kept of.kept_fit t.values.kept both in
-        let same = λ (x y : KeptRow). bytes_eq (x.branch ∷ x.key) (y.branch ∷ y.key) in
+        let same = λ (x y : CheckedKept). bytes_eq (x.branch ∷ x.key) (y.branch ∷ y.key) in
         ap (are_different same) (sym of.kept_keys) ∙ different-map same kept_row of.kept
         ∙ different_along (λ x y. same (kept_row x) (kept_row y)) (λ x y. bytes_eq_symm (x.owner ∷ x.it.command.key) (y.owner ∷ y.it.command.key)) of.kept b.kept bag ∙ t.keys.kept
 

@@ -18,8 +18,8 @@ use Rattle.audit_tables.proofs.RowLists.{all_are}
 use Rattle.audit_rows.specs.Lists.{climbs}
 use Rattle.audit_rows.specs.Joins.{Header, Placed, header, placed, put_line, header_key, placed_key, join}
 use Rattle.audit_rows.specs.Seen.{seen_header, seen_placed}
-use Rattle.audit_rows.specs.declared.rows.HeaderRow.{HeaderRow}
-use Rattle.audit_rows.specs.declared.rows.LineRow.{LineRow}
+use Rattle.audit_rows.specs.declared.rows.CheckedHeader.{CheckedHeader}
+use Rattle.audit_rows.specs.declared.rows.CheckedLine.{CheckedLine}
 use Rattle.audit_rows.proofs.JoinLemmas.{join_complete}
 use Rattle.audit_rows.proofs.Keys.{both, different_along, different-map, bytes_eq_symm}
 use Rattle.audit_rows.proofs.Standing.{same_rows}
@@ -137,14 +137,14 @@ module _ (tables : TableRows) (b : Books) (t : HaveBooks tables b) where
   rows_placed : IsPermutation tables.lines.items (map placed_columns (flat_map placed b.consignments))
   rows_placed = subst (IsPermutation tables.lines.items) (sym (as_placed b.consignments)) t.rows.lines
 
-  lines_bag : (found : List LineRow) → AreRows IsLineRow found tables.lines.items → IsPermutation (map seen_placed found) (flat_map placed b.consignments)
+  lines_bag : (found : List CheckedLine) → AreRows IsLineRow found tables.lines.items → IsPermutation (map seen_placed found) (flat_map placed b.consignments)
   lines_bag found h =
       let ys = map seen_placed found in
       let has : IsPermutation tables.lines.items (map placed_columns ys) =
       subst (λ l. IsPermutation l (map placed_columns ys)) (columns_read seen_placed placed_columns IsPlaced found tables.lines.items h) (IsPermutation-refl (map placed_columns ys)) in
       same_rows placed_columns (λ it. Unit {0}) (λ x y _ _ e. one_placed x y e) tables.lines.items ys (flat_map placed b.consignments) (anything ys) (anything (flat_map placed b.consignments)) has rows_placed
 
-  lines_differ : (found : List LineRow) → AreRows IsLineRow found tables.lines.items → are_different (λ (x y : LineRow). same_place (seen_placed x) (seen_placed y)) found ≡ true
+  lines_differ : (found : List CheckedLine) → AreRows IsLineRow found tables.lines.items → are_different (λ (x y : CheckedLine). same_place (seen_placed x) (seen_placed y)) found ≡ true
   lines_differ found h =
       sym (different-map same_place seen_placed found)
       ∙ different_along same_place (λ x y. bytes_eq_symm (placed_key x) (placed_key y)) (map seen_placed found) (flat_map placed b.consignments) (lines_bag found h)
@@ -161,7 +161,7 @@ module _ (tables : TableRows) (b : Books) (t : HaveBooks tables b) where
     };
   }
 
-  headers_bag : (found : List HeaderRow) → AreRows IsHeaderRow found tables.consignments.items → IsPermutation (map seen_header found) (map header b.consignments)
+  headers_bag : (found : List CheckedHeader) → AreRows IsHeaderRow found tables.consignments.items → IsPermutation (map seen_header found) (map header b.consignments)
   headers_bag found h =
       let it = read_bag header_columns IsHeader header_row IsHeaderRow (HaveKinds header_kinds) full.header_full full.header_one (λ x y _ _ e. one_header x y e) tables.consignments.items (map header b.consignments)
       (headers_fit b.consignments t.values.consignments) (subst (IsPermutation tables.consignments.items) (sym (map-map header_columns header b.consignments)) t.rows.consignments) found h in
@@ -172,8 +172,8 @@ module _ (tables : TableRows) (b : Books) (t : HaveBooks tables b) where
       itself [] = refl
       itself (h ∷ hs) = ap (λ l. h ∷ l) (itself hs)
 
-  pub can_be_joined : (headers : List HeaderRow) (lines : List LineRow) → RowsRead IsHeaderRow (HaveKinds header_kinds) tables.consignments.items headers → RowsRead IsLineRow IsOneLine tables.lines.items lines
-      → climbs (map (λ (row : HeaderRow). row.source ∷ row.addressee ∷ row.number ∷ []) headers) ≡ true → climbs (map (λ (row : LineRow). row.source ∷ row.addressee ∷ row.number ∷ row.line ∷ []) lines) ≡ true
+  pub can_be_joined : (headers : List CheckedHeader) (lines : List CheckedLine) → RowsRead IsHeaderRow (HaveKinds header_kinds) tables.consignments.items headers → RowsRead IsLineRow IsOneLine tables.lines.items lines
+      → climbs (map (λ (row : CheckedHeader). row.source ∷ row.addressee ∷ row.number ∷ []) headers) ≡ true → climbs (map (λ (row : CheckedLine). row.source ∷ row.addressee ∷ row.number ∷ row.line ∷ []) lines) ≡ true
       → (by_key : List Consignment) × (join (map seen_header headers) (map seen_placed lines) ≡ Some by_key)
   can_be_joined headers lines h l up down =
       let found = join_complete b.consignments (map seen_header headers) (map seen_placed lines)

@@ -13,8 +13,8 @@ use Rattle.audit_tables.specs.Kinds.{HaveKinds}
 use Rattle.audit_rows.specs.Lists.{Key}
 use Rattle.audit_rows.specs.Joins.{header, header_key}
 use Rattle.audit_rows.specs.Seen.{seen_copy}
-use Rattle.audit_rows.specs.declared.rows.CopyRow.{CopyRow}
-use Rattle.audit_rows.specs.declared.rows.HeaderRow.{HeaderRow}
+use Rattle.audit_rows.specs.declared.rows.CheckedCopy.{CheckedCopy}
+use Rattle.audit_rows.specs.declared.rows.CheckedHeader.{CheckedHeader}
 use Rattle.audit_rows.proofs.Keys.{different_along, different-map, bytes_eq_symm}
 use Rattle.audit_rows.proofs.Maps.{map-twice}
 use Rattle.audit_rows.proofs.Standing.{same_rows}
@@ -39,7 +39,7 @@ use Rattle.books_audit.proofs.StandTables.{lots_can_be_read}
 abbrev row_key_of : Row BookCopy → Key
 row_key_of it = it.branch ∷ it.number ∷ []
 
-abbrev copy_key : CopyRow → Key
+abbrev copy_key : CheckedCopy → Key
 copy_key row = row.branch ∷ row.number ∷ []
 
 pub headers_fit : (its : List Consignment) → AllByRecursion IsConsignment its → AllByRecursion IsHeader (map header its)
@@ -47,7 +47,7 @@ headers_fit [] h = tt
 headers_fit (it ∷ its) h = (record { source = h.0.source; addressee = h.0.addressee; number = h.0.number; place = h.0.place }, headers_fit its h.1)
 
 module _ (tables : TableRows) (b : Books) (t : HaveBooks tables b) where
-  copies_differ : (found : List CopyRow) → AreRows IsCopyRow found tables.copies.items → are_different (λ x y. bytes_eq (copy_key x) (copy_key y)) found ≡ true
+  copies_differ : (found : List CheckedCopy) → AreRows IsCopyRow found tables.copies.items → are_different (λ x y. bytes_eq (copy_key x) (copy_key y)) found ≡ true
   copies_differ found h =
       let ys = map seen_copy found in
       let has : IsPermutation tables.copies.items (map copy_columns ys) = subst (λ l. IsPermutation l (map copy_columns ys)) (columns_read seen_copy copy_columns (IsRow IsCopy) found tables.copies.items h) (IsPermutation-refl (map copy_columns ys)) in
@@ -67,7 +67,7 @@ module _ (tables : TableRows) (b : Books) (t : HaveBooks tables b) where
     lots = lots_can_be_read tables b t;
   }
 
-  pub headers_can_be_read : AreKeyed IsHeaderRow (HaveKinds header_kinds) (λ (row : HeaderRow). row.source ∷ row.addressee ∷ row.number ∷ []) tables.consignments.items
+  pub headers_can_be_read : AreKeyed IsHeaderRow (HaveKinds header_kinds) (λ (row : CheckedHeader). row.source ∷ row.addressee ∷ row.number ∷ []) tables.consignments.items
   headers_can_be_read =
       stands_keyed header_columns IsHeader header_row IsHeaderRow (HaveKinds header_kinds) full.header_full full.header_one (λ x y _ _ e. one_header x y e) tables.consignments.items (map header b.consignments)
       (headers_fit b.consignments t.values.consignments) (subst (IsPermutation tables.consignments.items) (sym (map-twice header_columns header b.consignments)) t.rows.consignments) (λ row. row.source ∷ row.addressee ∷ row.number ∷ [])

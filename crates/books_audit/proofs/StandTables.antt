@@ -9,8 +9,8 @@ use Rattle.shop_schema.specs.RowValues.{IsRow, IsCast, IsCustomer, IsRental, IsT
 use Rattle.shop_schema.proofs.SameRows.{same_customer, same_rental, same_terms, same_payment}
 use Rattle.audit_tables.specs.Kinds.{HaveKinds}
 use Rattle.audit_rows.specs.Ordered.{cast_row, customer_row, terms_row, lot_row}
-use Rattle.audit_rows.specs.declared.rows.CastRow.{CastRow}
-use Rattle.audit_rows.specs.declared.rows.LotRow.{LotRow}
+use Rattle.audit_rows.specs.declared.rows.CheckedCast.{CheckedCast}
+use Rattle.audit_rows.specs.declared.rows.CheckedLot.{CheckedLot}
 use Rattle.audit_rows.proofs.Tests.{different_congr}
 use Rattle.audit_tables.specs.Rows.{cast_kinds, IsCastRow, customer_kinds, IsCustomerRow, rental_kinds, IsRentalRow, terms_kinds, IsTermsRow, payment_kinds, IsPaymentRow, lot_kinds, IsLotRow}
 use Rattle.books_audit.specs.declared.tables.TableRows.{TableRows}
@@ -40,12 +40,12 @@ module _ (tables : TableRows) (b : Books) (t : HaveBooks tables b) where
         (λ row. row.branch ∷ row.number ∷ []) (sym (different_congr same_row _ row_test b.payments) ∙ t.keys.payments);
   }
 
-  pub lots_can_be_read : AreKeyed IsLotRow (HaveKinds lot_kinds) (λ (row : LotRow). row.branch ∷ row.name) tables.lots.items
+  pub lots_can_be_read : AreKeyed IsLotRow (HaveKinds lot_kinds) (λ (row : CheckedLot). row.branch ∷ row.name) tables.lots.items
   lots_can_be_read =
       stands_keyed lot_columns IsLot lot_row IsLotRow (HaveKinds lot_kinds) full.lot_full full.lot_one (λ x y _ _ e. same_lot x y e) tables.lots.items b.lots t.values.lots t.rows.lots
       (λ row. row.branch ∷ row.name) (sym (different_congr (λ (x y : Owned Text). x.owner == y.owner && bytes_eq x.it y.it) _ (λ x y. refl) b.lots) ∙ t.keys.lots)
 
-  pub casts_can_be_read : AreKeyed IsCastRow (HaveKinds cast_kinds) (λ (row : CastRow). row.film ∷ row.actor ∷ []) tables.casts.items
+  pub casts_can_be_read : AreKeyed IsCastRow (HaveKinds cast_kinds) (λ (row : CheckedCast). row.film ∷ row.actor ∷ []) tables.casts.items
   casts_can_be_read =
       stands_keyed cast_columns IsCast cast_row IsCastRow (HaveKinds cast_kinds) full.cast_full full.cast_one (λ x y _ _ e. same_cast x y e) tables.casts.items b.catalogue.casts t.values.catalogue.casts t.rows.casts
       (λ row. row.film ∷ row.actor ∷ []) (sym (different_congr (λ (x y : Cast). x.film == y.film && x.actor == y.actor) _ (λ x y. two (x.film == y.film) (x.actor == y.actor)) b.catalogue.casts) ∙ t.keys.casts)

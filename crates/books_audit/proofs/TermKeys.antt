@@ -11,8 +11,8 @@ use Rattle.audit_rows.specs.Lists.{Key, is_below, climbs, climbs_above, same_lis
 use Rattle.audit_rows.specs.Ordered.{AreOrdered, HaveOrderedRows, terms_row}
 use Rattle.audit_rows.specs.Seen.{seen_rental_row}
 use Rattle.audit_rows.specs.declared.books.OrderedBooks.{OrderedBooks}
-use Rattle.audit_rows.specs.declared.rows.RentalRow.{RentalRow}
-use Rattle.audit_rows.specs.declared.rows.TermsRow.{TermsRow}
+use Rattle.audit_rows.specs.declared.rows.CheckedRental.{CheckedRental}
+use Rattle.audit_rows.specs.declared.rows.CheckedTerms.{CheckedTerms}
 use Rattle.audit_rows.proofs.Bags.{count_along, one_order, same_equal}
 use Rattle.audit_rows.proofs.Keys.{NeverFalls, both, below_trans, below_apart, same_bytes}
 use Rattle.books_audit.specs.Read.{are_termed}
@@ -41,18 +41,18 @@ one_climb (x ∷ xs) (y ∷ ys) up down h =
 
 -- ---- rows in order
 
-abbrev terms_keys : List TermsRow → List Key
-terms_keys terms = map (λ (it : TermsRow). it.branch ∷ it.number ∷ []) terms
+abbrev terms_keys : List CheckedTerms → List Key
+terms_keys terms = map (λ (it : CheckedTerms). it.branch ∷ it.number ∷ []) terms
 
-abbrev rental_keys : List RentalRow → List Key
-rental_keys rentals = map (λ (it : RentalRow). it.branch ∷ it.number ∷ []) rentals
+abbrev rental_keys : List CheckedRental → List Key
+rental_keys rentals = map (λ (it : CheckedRental). it.branch ∷ it.number ∷ []) rentals
 
 regrouped : (a b c : Bool) → (a && b && c) ≡ ((a && (b && true)) && c)
 regrouped true true c = refl
 regrouped true false c = refl
 regrouped false b c = refl
 
-as_keys : (terms : List TermsRow) (rentals : List RentalRow) → are_termed terms rentals ≡ same_lists (terms_keys terms) (rental_keys rentals)
+as_keys : (terms : List CheckedTerms) (rentals : List CheckedRental) → are_termed terms rentals ≡ same_lists (terms_keys terms) (rental_keys rentals)
 as_keys [] [] = refl
 as_keys [] (rental ∷ rentals) = refl
 as_keys (it ∷ terms) [] = refl
@@ -66,7 +66,7 @@ same_itself (key ∷ keys) = λ i. same_bytes key i && same_itself keys i
 
 module _ (rows : OrderedBooks) (c : Books) (has : HaveOrderedRows rows c) where
   terms_are : map (row_key {A = Terms}) c.terms ≡ terms_keys rows.terms.items
-  terms_are = sym (map-map (λ (it : TermsRow). it.branch ∷ it.number ∷ []) terms_row c.terms) ∙ ap terms_keys has.terms
+  terms_are = sym (map-map (λ (it : CheckedTerms). it.branch ∷ it.number ∷ []) terms_row c.terms) ∙ ap terms_keys has.terms
 
   rentals_are : map (row_key {A = Rental}) c.rentals ≡ rental_keys rows.rentals.items
   rentals_are = ap (map (row_key {A = Rental})) has.rentals ∙ map-map (row_key {A = Rental}) seen_rental_row rows.rentals.items

@@ -6,7 +6,7 @@ use Rattle.shop_model.specs.Links.{are_different}
 use Rattle.shop_schema.specs.RowValues.{IsNumber}
 use Rattle.audit_tables.specs.Kinds.{HaveKinds}
 use Rattle.audit_rows.specs.Lists.{Key, climbs}
-use Rattle.audit_rows.specs.declared.rows.KeptRow.{KeptRow}
+use Rattle.audit_rows.specs.declared.rows.CheckedKept.{CheckedKept}
 use Rattle.audit_tables.specs.Listed.{AreRows}
 use Rattle.audit_tables.specs.Rows.{chain_kinds, rule_kinds, IsOneKept, IsCallerRow}
 use Rattle.audit_tables.specs.declared.kept.CallerRow.{CallerRow}
@@ -16,17 +16,17 @@ use Rattle.books_audit.specs.declared.kept.Keys.{Keys}
 
 pub record KeptAreRead (tables : TableRows) (keys : Keys) : Type 0 where
   pub kept : RowsRead IsCallerRow IsOneKept tables.kept.items (map office_caller keys.office.items ++ map branch_caller keys.kept.items)
-  pub branches : AllByRecursion (λ (x : KeptRow). IsNumber x.branch) keys.kept.items
+  pub branches : AllByRecursion (λ (x : CheckedKept). IsNumber x.branch) keys.kept.items
   pub office_climbs : climbs keys.office.items ≡ true
-  pub kept_climbs : climbs (map (λ (row : KeptRow). row.branch ∷ row.key) keys.kept.items) ≡ true
+  pub kept_climbs : climbs (map (λ (row : CheckedKept). row.branch ∷ row.key) keys.kept.items) ≡ true
 
 -- each row is a kept command's, and no two of head office, or of a branch, have one key
 pub record KeptCanBeRead (tables : TableRows) : Type 0 where
   pub ones : AllByRecursion IsOneKept tables.kept.items
-  pub office : (found : List CallerRow) (office : List Key) (kept : List KeptRow) → AreRows IsCallerRow found tables.kept.items → AllByRecursion (λ (x : KeptRow). IsNumber x.branch) kept
+  pub office : (found : List CallerRow) (office : List Key) (kept : List CheckedKept) → AreRows IsCallerRow found tables.kept.items → AllByRecursion (λ (x : CheckedKept). IsNumber x.branch) kept
       → IsPermutation found (map office_caller office ++ map branch_caller kept) → are_different bytes_eq office ≡ true
-  pub kept : (found : List CallerRow) (office : List Key) (kept : List KeptRow) → AreRows IsCallerRow found tables.kept.items → AllByRecursion (λ (x : KeptRow). IsNumber x.branch) kept
-      → IsPermutation found (map office_caller office ++ map branch_caller kept) → are_different (λ (a b : KeptRow). bytes_eq (a.branch ∷ a.key) (b.branch ∷ b.key)) kept ≡ true
+  pub kept : (found : List CallerRow) (office : List Key) (kept : List CheckedKept) → AreRows IsCallerRow found tables.kept.items → AllByRecursion (λ (x : CheckedKept). IsNumber x.branch) kept
+      → IsPermutation found (map office_caller office ++ map branch_caller kept) → are_different (λ (a b : CheckedKept). bytes_eq (a.branch ∷ a.key) (b.branch ∷ b.key)) kept ≡ true
 
 -- there is one row
 pub record ChainCanBeRead (tables : TableRows) : Type 0 where

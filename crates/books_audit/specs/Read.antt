@@ -18,10 +18,10 @@ use Rattle.shop_types.specs.declared.audit.Audit.{Audit}
 use Rattle.books_audit.specs.Audited.{CountsCustody}
 use Rattle.audit_rows.specs.Seen.{seen_copy, seen_line, seen_header, seen_placed}
 use Rattle.audit_rows.specs.declared.books.OrderedBooks.{OrderedBooks}
-use Rattle.audit_rows.specs.declared.rows.KeptRow.{KeptRow}
-use Rattle.audit_rows.specs.declared.rows.RentalRow.{RentalRow}
-use Rattle.audit_rows.specs.declared.rows.TermsRow.{TermsRow}
-use Rattle.audit_rows.specs.declared.rows.HeaderRow.{HeaderRow}
+use Rattle.audit_rows.specs.declared.rows.CheckedKept.{CheckedKept}
+use Rattle.audit_rows.specs.declared.rows.CheckedRental.{CheckedRental}
+use Rattle.audit_rows.specs.declared.rows.CheckedTerms.{CheckedTerms}
+use Rattle.audit_rows.specs.declared.rows.CheckedHeader.{CheckedHeader}
 use Rattle.audit_tables.specs.Listed.{AreRows}
 use Rattle.audit_tables.specs.Placed.{IsCopyRow, IsLineRow}
 use Rattle.audit_tables.specs.Rows.{chain_kinds, IsChainRow, rule_kinds, IsRuleRow, named_kinds, IsNamedRow, city_kinds, IsCityRow, actor_kinds, IsActorRow, film_kinds, IsFilmRow, cast_kinds, IsCastRow, branch_kinds, IsBranchRow, staff_kinds, IsStaffRow, customer_kinds, IsCustomerRow, rental_kinds, IsRentalRow, terms_kinds, IsTermsRow, payment_kinds, IsPaymentRow, lot_kinds, IsLotRow, header_kinds, IsHeaderRow, IsOneKept, IsCallerRow}
@@ -51,7 +51,7 @@ pub record RowsRead {X : Type 0} (Is : X → sql.Row → Type 0) (One : sql.Row 
 abbrev pub office_caller : Key → CallerRow
 office_caller key = record { caller = 0; key = key }
 
-abbrev pub branch_caller : KeptRow → CallerRow
+abbrev pub branch_caller : CheckedKept → CallerRow
 branch_caller row = record { caller = row.branch; key = row.key }
 
 -- ---- counts of rows in order, as those of books
@@ -71,21 +71,21 @@ counts_of_branch rows b =
 abbrev pub counters_in : OrderedBooks → List Count
 counters_in rows = record { caller = 0; kind = 4; last = length rows.office_keys.items } ∷ flat_map (λ it. counts_of_branch rows it.0) (numbered rows.branches.items)
 
-abbrev pub outs_among : List RentalRow → List Out
-outs_among rentals = map (λ (x : RentalRow). record { branch = x.branch; copy = x.rental.copy; rental = x.number }) (filter (λ x. is_none x.rental.returned) rentals)
+abbrev pub outs_among : List CheckedRental → List Out
+outs_among rentals = map (λ (x : CheckedRental). record { branch = x.branch; copy = x.rental.copy; rental = x.number }) (filter (λ x. is_none x.rental.returned) rentals)
 
 abbrev pub outs_in : OrderedBooks → List Out
 outs_in rows = outs_among rows.rentals.items
 
 -- consignments from one branch to another, counted one after another
-abbrev pub pairs_among : List Pair → List HeaderRow → List Pair
-pairs_among pairs headers = fold (λ pairs (it : HeaderRow). count_pair it.source it.addressee pairs) pairs headers
+abbrev pub pairs_among : List Pair → List CheckedHeader → List Pair
+pairs_among pairs headers = fold (λ pairs (it : CheckedHeader). count_pair it.source it.addressee pairs) pairs headers
 
 abbrev pub pairs_in : OrderedBooks → List Pair
 pairs_in rows = pairs_among [] rows.headers.items
 
 -- each rental has its row of terms, under its branch and number, one after another
-abbrev pub are_termed : List TermsRow → List RentalRow → Bool
+abbrev pub are_termed : List CheckedTerms → List CheckedRental → Bool
 are_termed [] [] = true
 are_termed [] (rental ∷ rentals) = false
 are_termed (it ∷ terms) [] = false
@@ -123,7 +123,7 @@ pub record AreRowsRead (tables : TableRows) (rows : OrderedBooks) : Type 0 where
   pub headers : RowsRead IsHeaderRow (HaveKinds header_kinds) tables.consignments.items rows.headers.items
   pub lines : RowsRead IsLineRow (λ r. Unit {0}) tables.lines.items rows.lines.items
   pub kept : RowsRead IsCallerRow IsOneKept tables.kept.items (map office_caller rows.office_keys.items ++ map branch_caller rows.kept.items)
-  pub kept_branches : AllByRecursion (λ (x : KeptRow). IsNumber x.branch) rows.kept.items
+  pub kept_branches : AllByRecursion (λ (x : CheckedKept). IsNumber x.branch) rows.kept.items
   pub lines_climb : climbs (map placed_key (map seen_placed rows.lines.items)) ≡ true
 
 pub record AreRead (tables : TableRows) (rows : OrderedBooks) : Type 0 where

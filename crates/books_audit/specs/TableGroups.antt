@@ -2,15 +2,15 @@
 use Rattle.std.specs.Prelude.{◌≡◌, [], ◌∷◌, map, true}
 use Rattle.audit_tables.specs.Kinds.{HaveKinds}
 use Rattle.audit_rows.specs.Lists.{climbs}
-use Rattle.audit_rows.specs.declared.rows.CastRow.{CastRow}
-use Rattle.audit_rows.specs.declared.rows.CustomerRow.{CustomerRow}
-use Rattle.audit_rows.specs.declared.rows.CopyRow.{CopyRow}
-use Rattle.audit_rows.specs.declared.rows.RentalRow.{RentalRow}
-use Rattle.audit_rows.specs.declared.rows.TermsRow.{TermsRow}
-use Rattle.audit_rows.specs.declared.rows.PaymentRow.{PaymentRow}
-use Rattle.audit_rows.specs.declared.rows.LotRow.{LotRow}
-use Rattle.audit_rows.specs.declared.rows.HeaderRow.{HeaderRow}
-use Rattle.audit_rows.specs.declared.rows.LineRow.{LineRow}
+use Rattle.audit_rows.specs.declared.rows.CheckedCast.{CheckedCast}
+use Rattle.audit_rows.specs.declared.rows.CheckedCustomer.{CheckedCustomer}
+use Rattle.audit_rows.specs.declared.rows.CheckedCopy.{CheckedCopy}
+use Rattle.audit_rows.specs.declared.rows.CheckedRental.{CheckedRental}
+use Rattle.audit_rows.specs.declared.rows.CheckedTerms.{CheckedTerms}
+use Rattle.audit_rows.specs.declared.rows.CheckedPayment.{CheckedPayment}
+use Rattle.audit_rows.specs.declared.rows.CheckedLot.{CheckedLot}
+use Rattle.audit_rows.specs.declared.rows.CheckedHeader.{CheckedHeader}
+use Rattle.audit_rows.specs.declared.rows.CheckedLine.{CheckedLine}
 use Rattle.audit_tables.specs.Placed.{IsCopyRow, IsLineRow, IsOneCopy, IsOneLine}
 use Rattle.audit_tables.specs.Rows.{named_kinds, IsNamedRow, city_kinds, IsCityRow, actor_kinds, IsActorRow, film_kinds, IsFilmRow, cast_kinds, IsCastRow, branch_kinds, IsBranchRow, staff_kinds, IsStaffRow, customer_kinds, IsCustomerRow, rental_kinds, IsRentalRow, terms_kinds, IsTermsRow, payment_kinds, IsPaymentRow, lot_kinds, IsLotRow, header_kinds, IsHeaderRow}
 use Rattle.books_audit.specs.Read.{RowsRead}
@@ -39,12 +39,12 @@ pub record FilmedAreRead (tables : TableRows) (filmed : Filmed) : Type 0 where
   pub actors : PlacesRead IsActorRow (HaveKinds actor_kinds) (λ x. x.number) (λ x. tt) tables.actors.items filmed.actors.items
   pub films : PlacesRead IsFilmRow (HaveKinds film_kinds) (λ x. x.number) (λ x. x.film) tables.films.items filmed.films.items
   pub casts : RowsRead IsCastRow (HaveKinds cast_kinds) tables.casts.items filmed.casts.items
-  pub casts_climb : climbs (map (λ (row : CastRow). row.film ∷ row.actor ∷ []) filmed.casts.items) ≡ true
+  pub casts_climb : climbs (map (λ (row : CheckedCast). row.film ∷ row.actor ∷ []) filmed.casts.items) ≡ true
 
 pub record FilmedCanBeRead (tables : TableRows) : Type 0 where
   pub actors : AreInPlaces IsActorRow (HaveKinds actor_kinds) (λ x. x.number) tables.actors.items
   pub films : AreInPlaces IsFilmRow (HaveKinds film_kinds) (λ x. x.number) tables.films.items
-  pub casts : AreKeyed IsCastRow (HaveKinds cast_kinds) (λ (row : CastRow). row.film ∷ row.actor ∷ []) tables.casts.items
+  pub casts : AreKeyed IsCastRow (HaveKinds cast_kinds) (λ (row : CheckedCast). row.film ∷ row.actor ∷ []) tables.casts.items
 
 pub record PlacedAreRead (tables : TableRows) (placed : Placed) : Type 0 where
   pub cities : PlacesRead IsCityRow (HaveKinds city_kinds) (λ x. x.number) (λ x. x.city) tables.cities.items placed.cities.items
@@ -60,36 +60,36 @@ pub record PlacedCanBeRead (tables : TableRows) : Type 0 where
 
 pub record StockIsRead (tables : TableRows) (stock : Stock) : Type 0 where
   pub copies : RowsRead IsCopyRow IsOneCopy tables.copies.items stock.copies.items
-  pub copies_climb : climbs (map (λ (row : CopyRow). row.branch ∷ row.number ∷ []) stock.copies.items) ≡ true
+  pub copies_climb : climbs (map (λ (row : CheckedCopy). row.branch ∷ row.number ∷ []) stock.copies.items) ≡ true
   pub lots : RowsRead IsLotRow (HaveKinds lot_kinds) tables.lots.items stock.lots.items
-  pub lots_climb : climbs (map (λ (row : LotRow). row.branch ∷ row.name) stock.lots.items) ≡ true
+  pub lots_climb : climbs (map (λ (row : CheckedLot). row.branch ∷ row.name) stock.lots.items) ≡ true
 
 pub record StockCanBeRead (tables : TableRows) : Type 0 where
-  pub copies : AreKeyed IsCopyRow IsOneCopy (λ (row : CopyRow). row.branch ∷ row.number ∷ []) tables.copies.items
-  pub lots : AreKeyed IsLotRow (HaveKinds lot_kinds) (λ (row : LotRow). row.branch ∷ row.name) tables.lots.items
+  pub copies : AreKeyed IsCopyRow IsOneCopy (λ (row : CheckedCopy). row.branch ∷ row.number ∷ []) tables.copies.items
+  pub lots : AreKeyed IsLotRow (HaveKinds lot_kinds) (λ (row : CheckedLot). row.branch ∷ row.name) tables.lots.items
 
 pub record DealsAreRead (tables : TableRows) (deals : Deals) : Type 0 where
   pub customers : RowsRead IsCustomerRow (HaveKinds customer_kinds) tables.customers.items deals.customers.items
-  pub customers_climb : climbs (map (λ (row : CustomerRow). row.branch ∷ row.number ∷ []) deals.customers.items) ≡ true
+  pub customers_climb : climbs (map (λ (row : CheckedCustomer). row.branch ∷ row.number ∷ []) deals.customers.items) ≡ true
   pub rentals : RowsRead IsRentalRow (HaveKinds rental_kinds) tables.rentals.items deals.rentals.items
-  pub rentals_climb : climbs (map (λ (row : RentalRow). row.branch ∷ row.number ∷ []) deals.rentals.items) ≡ true
+  pub rentals_climb : climbs (map (λ (row : CheckedRental). row.branch ∷ row.number ∷ []) deals.rentals.items) ≡ true
   pub terms : RowsRead IsTermsRow (HaveKinds terms_kinds) tables.terms.items deals.terms.items
-  pub terms_climb : climbs (map (λ (row : TermsRow). row.branch ∷ row.number ∷ []) deals.terms.items) ≡ true
+  pub terms_climb : climbs (map (λ (row : CheckedTerms). row.branch ∷ row.number ∷ []) deals.terms.items) ≡ true
   pub payments : RowsRead IsPaymentRow (HaveKinds payment_kinds) tables.payments.items deals.payments.items
-  pub payments_climb : climbs (map (λ (row : PaymentRow). row.branch ∷ row.number ∷ []) deals.payments.items) ≡ true
+  pub payments_climb : climbs (map (λ (row : CheckedPayment). row.branch ∷ row.number ∷ []) deals.payments.items) ≡ true
 
 pub record DealsCanBeRead (tables : TableRows) : Type 0 where
-  pub customers : AreKeyed IsCustomerRow (HaveKinds customer_kinds) (λ (row : CustomerRow). row.branch ∷ row.number ∷ []) tables.customers.items
-  pub rentals : AreKeyed IsRentalRow (HaveKinds rental_kinds) (λ (row : RentalRow). row.branch ∷ row.number ∷ []) tables.rentals.items
-  pub terms : AreKeyed IsTermsRow (HaveKinds terms_kinds) (λ (row : TermsRow). row.branch ∷ row.number ∷ []) tables.terms.items
-  pub payments : AreKeyed IsPaymentRow (HaveKinds payment_kinds) (λ (row : PaymentRow). row.branch ∷ row.number ∷ []) tables.payments.items
+  pub customers : AreKeyed IsCustomerRow (HaveKinds customer_kinds) (λ (row : CheckedCustomer). row.branch ∷ row.number ∷ []) tables.customers.items
+  pub rentals : AreKeyed IsRentalRow (HaveKinds rental_kinds) (λ (row : CheckedRental). row.branch ∷ row.number ∷ []) tables.rentals.items
+  pub terms : AreKeyed IsTermsRow (HaveKinds terms_kinds) (λ (row : CheckedTerms). row.branch ∷ row.number ∷ []) tables.terms.items
+  pub payments : AreKeyed IsPaymentRow (HaveKinds payment_kinds) (λ (row : CheckedPayment). row.branch ∷ row.number ∷ []) tables.payments.items
 
 pub record SentAreRead (tables : TableRows) (sent : Sent) : Type 0 where
   pub headers : RowsRead IsHeaderRow (HaveKinds header_kinds) tables.consignments.items sent.headers.items
-  pub headers_climb : climbs (map (λ (row : HeaderRow). row.source ∷ row.addressee ∷ row.number ∷ []) sent.headers.items) ≡ true
+  pub headers_climb : climbs (map (λ (row : CheckedHeader). row.source ∷ row.addressee ∷ row.number ∷ []) sent.headers.items) ≡ true
   pub lines : RowsRead IsLineRow IsOneLine tables.lines.items sent.lines.items
-  pub lines_climb : climbs (map (λ (row : LineRow). row.source ∷ row.addressee ∷ row.number ∷ row.line ∷ []) sent.lines.items) ≡ true
+  pub lines_climb : climbs (map (λ (row : CheckedLine). row.source ∷ row.addressee ∷ row.number ∷ row.line ∷ []) sent.lines.items) ≡ true
 
 pub record SentCanBeRead (tables : TableRows) : Type 0 where
-  pub headers : AreKeyed IsHeaderRow (HaveKinds header_kinds) (λ (row : HeaderRow). row.source ∷ row.addressee ∷ row.number ∷ []) tables.consignments.items
-  pub lines : AreKeyed IsLineRow IsOneLine (λ (row : LineRow). row.source ∷ row.addressee ∷ row.number ∷ row.line ∷ []) tables.lines.items
+  pub headers : AreKeyed IsHeaderRow (HaveKinds header_kinds) (λ (row : CheckedHeader). row.source ∷ row.addressee ∷ row.number ∷ []) tables.consignments.items
+  pub lines : AreKeyed IsLineRow IsOneLine (λ (row : CheckedLine). row.source ∷ row.addressee ∷ row.number ∷ row.line ∷ []) tables.lines.items

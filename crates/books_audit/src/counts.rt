@@ -7,12 +7,14 @@ ghost use Rattle.sqlite_value.specs.Value.{owned};
 ghost use Rattle.shop_schema.specs.Columns.{counter_columns, out_columns};
 ghost use Rattle.audit_rows.specs.Lists.{climbs};
 ghost use Rattle.audit_rows.specs.Ordered.{AreOrdered};
-ghost use Rattle.audit_rows.specs.declared.rows.HeaderRow.{HeaderRow};
+ghost use Rattle.audit_rows.specs.declared.rows.CheckedHeader.{CheckedHeader};
 ghost use Rattle.books_audit.specs.Read.{HaveCounts, are_termed, counters_in, counts_of_branch, outs_among, pairs_among};
 ghost use Rattle.books_audit.specs.Triples.{IsWhole, IsTriple, OneTriple, triple_columns, seen_pair, AreMany, AreTallies};
 
 use crate::tables::TableRows;
-use audit_rows::{HeaderRow, Keyed, OrderedBooks, Owned, RentalRow, TermsRow, same_bag};
+use audit_rows::{
+    CheckedHeader, CheckedRental, CheckedTerms, Keyed, OrderedBooks, Owned, same_bag,
+};
 use audit_tables::{Listed, read_rows};
 use shop_types::NoMemory;
 use sql_rows::{StoreFault, fault_of};
@@ -111,7 +113,7 @@ fn has_rows(alloc: Global, rows: &[Row], wanted: Vec<Triple>) -> Result<bool, No
 }
 
 /// A row for each open rental.
-fn outs(alloc: Global, rentals: &[RentalRow]) -> Result<Vec<Triple>, NoMemory>
+fn outs(alloc: Global, rentals: &[CheckedRental]) -> Result<Vec<Triple>, NoMemory>
     ensures { IfOk result (λ all. map triple_columns all.items ≡ map out_columns (outs_among rentals.now)) }
 {
     let mut all = Vec::new(alloc);
@@ -131,7 +133,7 @@ fn outs(alloc: Global, rentals: &[RentalRow]) -> Result<Vec<Triple>, NoMemory>
 }
 
 /// The row of so many consignments from the one branch to the other.
-fn pair_of(header: &HeaderRow, count: u64) -> Triple
+fn pair_of(header: &CheckedHeader, count: u64) -> Triple
     ensures { seen_pair result ≡ record { source = header.now.source; addressee = header.now.addressee; last = count } }
 {
     Triple {
@@ -142,15 +144,15 @@ fn pair_of(header: &HeaderRow, count: u64) -> Triple
 }
 
 /// Whether the second is of the same pair of branches.
-fn is_same_pair(first: &HeaderRow, second: &HeaderRow) -> bool
+fn is_same_pair(first: &CheckedHeader, second: &CheckedHeader) -> bool
     ensures { result ≡ (second.now.source == first.now.source && second.now.addressee == first.now.addressee) }
 {
     second.source.get() == first.source.get() && second.addressee.get() == first.addressee.get()
 }
 
 /// A row for each pair of branches that has a consignment. In the order of keys those of a pair stand together.
-fn pairs(alloc: Global, headers: &[HeaderRow]) -> Result<Vec<Triple>, NoMemory>
-    requires { climbs (map (λ (row : HeaderRow). row.source ∷ row.addressee ∷ row.number ∷ []) headers.now) ≡ true }
+fn pairs(alloc: Global, headers: &[CheckedHeader]) -> Result<Vec<Triple>, NoMemory>
+    requires { climbs (map (λ (row : CheckedHeader). row.source ∷ row.addressee ∷ row.number ∷ []) headers.now) ≡ true }
     ensures { IfOk result (λ all. map seen_pair all.items ≡ pairs_among [] headers.now) }
 {
     let mut all = Vec::new(alloc);
@@ -269,7 +271,7 @@ fn counters(alloc: Global, rows: &OrderedBooks) -> Result<Vec<Triple>, NoMemory>
 }
 
 /// Whether the terms are those of the rental.
-fn is_of(terms: &TermsRow, rental: &RentalRow) -> bool
+fn is_of(terms: &CheckedTerms, rental: &CheckedRental) -> bool
     ensures { result ≡ (terms.now.branch == rental.now.branch && terms.now.number == rental.now.number) }
 {
     terms.branch.get() == rental.branch.get() && terms.number.get() == rental.number.get()
@@ -277,7 +279,7 @@ fn is_of(terms: &TermsRow, rental: &RentalRow) -> bool
 
 /// Whether each rental has one row of terms, under its branch and number, and there are no others. Both are in the
 /// order of their keys.
-fn are_termed(terms: &[TermsRow], rentals: &[RentalRow]) -> bool
+fn are_termed(terms: &[CheckedTerms], rentals: &[CheckedRental]) -> bool
     ensures { result ≡ are_termed terms.now rentals.now }
 {
     let mut rest = rentals;

@@ -11,7 +11,8 @@ ghost use Rattle.books_audit.specs.Audited.{AuditsRows, CountsCustody, IsCustody
 
 use crate::whole::{COPIES, LINES, read_whole};
 use audit_rows::{
-    CopyRow, CopyState, LineRow, LineState, are_in_custody, copies_made, copies_under, lines_under,
+    CheckedCopy, CheckedLine, CopyState, LineState, are_in_custody, copies_made, copies_under,
+    lines_under,
 };
 use audit_tables::read_rows;
 use shop_types::{Audit, NoMemory};
@@ -29,7 +30,7 @@ pub(crate) const NOTHING: Audit = Audit {
 };
 
 /// How many copies are where, beside whether all is sound.
-pub(crate) fn counted(sound: bool, copies: &[CopyRow], lines: &[LineRow]) -> Audit
+pub(crate) fn counted(sound: bool, copies: &[CheckedCopy], lines: &[CheckedLine]) -> Audit
     ensures sound { result.sound ≡ sound }
     ensures counts { CountsCustody result (map seen_copy copies.now) (map seen_line lines.now) }
 {
@@ -43,7 +44,11 @@ pub(crate) fn counted(sound: bool, copies: &[CopyRow], lines: &[LineRow]) -> Aud
 }
 
 /// The audit of copies and lines that could be read.
-fn audit_rows(alloc: Global, copies: &[CopyRow], lines: &[LineRow]) -> Result<Audit, NoMemory>
+fn audit_rows(
+    alloc: Global,
+    copies: &[CheckedCopy],
+    lines: &[CheckedLine],
+) -> Result<Audit, NoMemory>
     ensures { IfOk result (λ audit. AuditsRows audit (map seen_copy copies.now) (map seen_line lines.now)) }
 {
     let sound = are_in_custody(alloc, copies, lines)?;
@@ -54,10 +59,10 @@ fn audit_rows(alloc: Global, copies: &[CopyRow], lines: &[LineRow]) -> Result<Au
 pub fn check_custody(alloc: Global, copies: &[Row], lines: &[Row]) -> Result<Audit, NoMemory>
     ensures { IfOk result (IsCustodyAudit copies.now lines.now) }
 {
-    let Some(copies) = read_rows::<CopyRow>(alloc, copies)? else {
+    let Some(copies) = read_rows::<CheckedCopy>(alloc, copies)? else {
         return Ok(NOTHING);
     };
-    let Some(lines) = read_rows::<LineRow>(alloc, lines)? else {
+    let Some(lines) = read_rows::<CheckedLine>(alloc, lines)? else {
         return Ok(NOTHING);
     };
     audit_rows(alloc, copies.as_slice(), lines.as_slice())

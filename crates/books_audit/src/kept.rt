@@ -4,13 +4,13 @@ ghost use Rattle.std.specs.Prelude.{[], ◌∷◌, ◌++◌, map, IsPermutation,
 ghost use Rattle.std.specs.List.{AllByRecursion};
 ghost use Rattle.audit_tables.specs.Kinds.{HaveKinds};
 ghost use Rattle.shop_schema.specs.RowValues.{IsNumber};
-ghost use Rattle.audit_rows.specs.declared.rows.KeptRow.{KeptRow};
+ghost use Rattle.audit_rows.specs.declared.rows.CheckedKept.{CheckedKept};
 ghost use Rattle.audit_tables.specs.Rows.{chain_kinds, IsChainRow, rule_kinds, IsRuleRow};
 ghost use Rattle.books_audit.specs.Read.{RowsRead, office_caller, branch_caller};
 ghost use Rattle.books_audit.specs.Keys.{KeptAreRead, KeptCanBeRead, ChainCanBeRead, RuleCanBeRead};
 
 use crate::tables::TableRows;
-use audit_rows::{KeptRow, climbs, sort_rows};
+use audit_rows::{CheckedKept, climbs, sort_rows};
 use audit_tables::{CallerRow, ChainRow, RuleRow, read_rows};
 use shop_types::{BranchNo, Key, NoMemory, Token};
 use std::alloc::Global;
@@ -19,14 +19,14 @@ use std::alloc::Global;
 #[derive(Drop)]
 pub(crate) struct Keys {
     pub(crate) office: Vec<Key>,
-    pub(crate) kept: Vec<KeptRow>,
+    pub(crate) kept: Vec<CheckedKept>,
 }
 
 /// The keys of caller 0, which is head office, and those of the others.
 fn split_callers(alloc: Global, rows: Vec<CallerRow>) -> Result<Keys, NoMemory>
     ensures same { IfOk result (λ keys. IsPermutation rows.items
         (map office_caller keys.office.items ++ map branch_caller keys.kept.items)) }
-    ensures branches { IfOk result (λ keys. AllByRecursion (λ (x : KeptRow). IsNumber x.branch) keys.kept.items) }
+    ensures branches { IfOk result (λ keys. AllByRecursion (λ (x : CheckedKept). IsNumber x.branch) keys.kept.items) }
 {
     let mut office = Vec::new(alloc);
     let mut kept = Vec::new(alloc);
@@ -39,7 +39,7 @@ fn split_callers(alloc: Global, rows: Vec<CallerRow>) -> Result<Keys, NoMemory>
                 }
             }
             Some(branch) => {
-                if kept.push(KeptRow { branch, key }).is_err() {
+                if kept.push(CheckedKept { branch, key }).is_err() {
                     return Err(NoMemory);
                 }
             }

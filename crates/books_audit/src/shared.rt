@@ -3,7 +3,7 @@
 ghost use Rattle.std.specs.Prelude.{◌≡◌};
 
 use crate::lists::Shared;
-use audit_rows::{BranchRow, CityRow, FilmRow, StaffRow};
+use audit_rows::{CheckedBranch, CheckedCity, CheckedFilm, CheckedStaff};
 use audit_tables::{
     NamedRow, NumberedActor, NumberedBranch, NumberedCity, NumberedFilm, NumberedStaff,
 };
@@ -26,7 +26,7 @@ impl Shared for NamedRow {
 }
 
 impl Shared for NumberedCity {
-    type Kept = CityRow;
+    type Kept = CheckedCity;
 
     ghost place = { λ row. row.number };
 
@@ -36,7 +36,7 @@ impl Shared for NumberedCity {
         self.number
     }
 
-    fn keep(self) -> CityRow {
+    fn keep(self) -> CheckedCity {
         self.city
     }
 }
@@ -56,7 +56,7 @@ impl Shared for NumberedActor {
 }
 
 impl Shared for NumberedFilm {
-    type Kept = FilmRow;
+    type Kept = CheckedFilm;
 
     ghost place = { λ row. row.number };
 
@@ -66,13 +66,13 @@ impl Shared for NumberedFilm {
         self.number
     }
 
-    fn keep(self) -> FilmRow {
+    fn keep(self) -> CheckedFilm {
         self.film
     }
 }
 
 impl Shared for NumberedBranch {
-    type Kept = BranchRow;
+    type Kept = CheckedBranch;
 
     ghost place = { λ row. row.number };
 
@@ -82,13 +82,13 @@ impl Shared for NumberedBranch {
         self.number
     }
 
-    fn keep(self) -> BranchRow {
+    fn keep(self) -> CheckedBranch {
         self.branch
     }
 }
 
 impl Shared for NumberedStaff {
-    type Kept = StaffRow;
+    type Kept = CheckedStaff;
 
     ghost place = { λ row. row.number };
 
@@ -98,7 +98,7 @@ impl Shared for NumberedStaff {
         self.number
     }
 
-    fn keep(self) -> StaffRow {
+    fn keep(self) -> CheckedStaff {
         self.staff
     }
 }

@@ -6,8 +6,9 @@ ghost use Rattle.books_audit.specs.TableGroups.{NamedAreRead, NamedCanBeRead, Fi
 use crate::lists::{read_keyed, read_shared};
 use crate::tables::TableRows;
 use audit_rows::{
-    BranchRow, CastRow, CityRow, CopyRow, CustomerRow, FilmRow, HeaderRow, LineRow, LotRow,
-    PaymentRow, RentalRow, StaffRow, TermsRow,
+    CheckedBranch, CheckedCast, CheckedCity, CheckedCopy, CheckedCustomer, CheckedFilm,
+    CheckedHeader, CheckedLine, CheckedLot, CheckedPayment, CheckedRental, CheckedStaff,
+    CheckedTerms,
 };
 use audit_tables::{
     NamedRow, NumberedActor, NumberedBranch, NumberedCity, NumberedFilm, NumberedStaff,
@@ -47,8 +48,8 @@ pub(crate) fn read_named(alloc: Global, tables: &TableRows) -> Result<Option<Nam
 #[derive(Drop)]
 pub(crate) struct Filmed {
     pub(crate) actors: Vec<()>,
-    pub(crate) films: Vec<FilmRow>,
-    pub(crate) casts: Vec<CastRow>,
+    pub(crate) films: Vec<CheckedFilm>,
+    pub(crate) casts: Vec<CheckedCast>,
 }
 
 pub(crate) fn read_filmed(alloc: Global, tables: &TableRows) -> Result<Option<Filmed>, NoMemory>
@@ -61,7 +62,7 @@ pub(crate) fn read_filmed(alloc: Global, tables: &TableRows) -> Result<Option<Fi
     let Some(films) = read_shared::<NumberedFilm>(alloc, tables.films.as_slice())? else {
         return Ok(None);
     };
-    let Some(casts) = read_keyed::<CastRow>(alloc, tables.casts.as_slice())? else {
+    let Some(casts) = read_keyed::<CheckedCast>(alloc, tables.casts.as_slice())? else {
         return Ok(None);
     };
     Ok(Some(Filmed {
@@ -74,9 +75,9 @@ pub(crate) fn read_filmed(alloc: Global, tables: &TableRows) -> Result<Option<Fi
 /// Cities, branches and staff.
 #[derive(Drop)]
 pub(crate) struct Placed {
-    pub(crate) cities: Vec<CityRow>,
-    pub(crate) branches: Vec<BranchRow>,
-    pub(crate) staff: Vec<StaffRow>,
+    pub(crate) cities: Vec<CheckedCity>,
+    pub(crate) branches: Vec<CheckedBranch>,
+    pub(crate) staff: Vec<CheckedStaff>,
 }
 
 pub(crate) fn read_placed(alloc: Global, tables: &TableRows) -> Result<Option<Placed>, NoMemory>
@@ -102,18 +103,18 @@ pub(crate) fn read_placed(alloc: Global, tables: &TableRows) -> Result<Option<Pl
 /// Copies, and the lots that brought them.
 #[derive(Drop)]
 pub(crate) struct Stock {
-    pub(crate) copies: Vec<CopyRow>,
-    pub(crate) lots: Vec<LotRow>,
+    pub(crate) copies: Vec<CheckedCopy>,
+    pub(crate) lots: Vec<CheckedLot>,
 }
 
 pub(crate) fn read_stock(alloc: Global, tables: &TableRows) -> Result<Option<Stock>, NoMemory>
     ensures read { IfOk result (λ o. IfSome o (StockIsRead tables.now)) }
     ensures none { IfOk result (λ o. IfNone o (¬ StockCanBeRead tables.now)) }
 {
-    let Some(copies) = read_keyed::<CopyRow>(alloc, tables.copies.as_slice())? else {
+    let Some(copies) = read_keyed::<CheckedCopy>(alloc, tables.copies.as_slice())? else {
         return Ok(None);
     };
-    let Some(lots) = read_keyed::<LotRow>(alloc, tables.lots.as_slice())? else {
+    let Some(lots) = read_keyed::<CheckedLot>(alloc, tables.lots.as_slice())? else {
         return Ok(None);
     };
     Ok(Some(Stock { copies, lots }))
@@ -122,26 +123,26 @@ pub(crate) fn read_stock(alloc: Global, tables: &TableRows) -> Result<Option<Sto
 /// Customers, with their rentals, the terms of these, and payments.
 #[derive(Drop)]
 pub(crate) struct Deals {
-    pub(crate) customers: Vec<CustomerRow>,
-    pub(crate) rentals: Vec<RentalRow>,
-    pub(crate) terms: Vec<TermsRow>,
-    pub(crate) payments: Vec<PaymentRow>,
+    pub(crate) customers: Vec<CheckedCustomer>,
+    pub(crate) rentals: Vec<CheckedRental>,
+    pub(crate) terms: Vec<CheckedTerms>,
+    pub(crate) payments: Vec<CheckedPayment>,
 }
 
 pub(crate) fn read_deals(alloc: Global, tables: &TableRows) -> Result<Option<Deals>, NoMemory>
     ensures read { IfOk result (λ o. IfSome o (DealsAreRead tables.now)) }
     ensures none { IfOk result (λ o. IfNone o (¬ DealsCanBeRead tables.now)) }
 {
-    let Some(customers) = read_keyed::<CustomerRow>(alloc, tables.customers.as_slice())? else {
+    let Some(customers) = read_keyed::<CheckedCustomer>(alloc, tables.customers.as_slice())? else {
         return Ok(None);
     };
-    let Some(rentals) = read_keyed::<RentalRow>(alloc, tables.rentals.as_slice())? else {
+    let Some(rentals) = read_keyed::<CheckedRental>(alloc, tables.rentals.as_slice())? else {
         return Ok(None);
     };
-    let Some(terms) = read_keyed::<TermsRow>(alloc, tables.terms.as_slice())? else {
+    let Some(terms) = read_keyed::<CheckedTerms>(alloc, tables.terms.as_slice())? else {
         return Ok(None);
     };
-    let Some(payments) = read_keyed::<PaymentRow>(alloc, tables.payments.as_slice())? else {
+    let Some(payments) = read_keyed::<CheckedPayment>(alloc, tables.payments.as_slice())? else {
         return Ok(None);
     };
     Ok(Some(Deals {
@@ -155,18 +156,18 @@ pub(crate) fn read_deals(alloc: Global, tables: &TableRows) -> Result<Option<Dea
 /// Consignments and their lines.
 #[derive(Drop)]
 pub(crate) struct Sent {
-    pub(crate) headers: Vec<HeaderRow>,
-    pub(crate) lines: Vec<LineRow>,
+    pub(crate) headers: Vec<CheckedHeader>,
+    pub(crate) lines: Vec<CheckedLine>,
 }
 
 pub(crate) fn read_sent(alloc: Global, tables: &TableRows) -> Result<Option<Sent>, NoMemory>
     ensures read { IfOk result (λ o. IfSome o (SentAreRead tables.now)) }
     ensures none { IfOk result (λ o. IfNone o (¬ SentCanBeRead tables.now)) }
 {
-    let Some(headers) = read_keyed::<HeaderRow>(alloc, tables.consignments.as_slice())? else {
+    let Some(headers) = read_keyed::<CheckedHeader>(alloc, tables.consignments.as_slice())? else {
         return Ok(None);
     };
-    let Some(lines) = read_keyed::<LineRow>(alloc, tables.lines.as_slice())? else {
+    let Some(lines) = read_keyed::<CheckedLine>(alloc, tables.lines.as_slice())? else {
         return Ok(None);
     };
     Ok(Some(Sent { headers, lines }))

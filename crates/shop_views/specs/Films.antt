@@ -6,12 +6,12 @@ use Rattle.shop_model.specs.Values.{Text}
 use Rattle.shop_model.specs.Views as views
 use Rattle.shop_types.specs.Films.{rating_text}
 use Rattle.shop_views.specs.Names.{name_text}
-use Rattle.shop_views.specs.declared.films.FilmRow.{FilmRow}
+use Rattle.shop_views.specs.declared.films.ListedFilm.{ListedFilm}
 use Rattle.shop_views.specs.declared.actors.FilmGroup.{FilmGroup}
 use Rattle.shop_views.specs.declared.actors.ActorRow.{ActorRow}
 
 -- a film with this text of its actors
-abbrev pub film_with : Text → FilmRow → views.FilmRow
+abbrev pub film_with : Text → ListedFilm → views.FilmRow
 film_with actors row = record {
   number = row.number;
   title = row.title;
@@ -23,7 +23,7 @@ film_with actors row = record {
   actors = actors;
 }
 
-abbrev pub seen_film : FilmRow → views.FilmRow
+abbrev pub seen_film : ListedFilm → views.FilmRow
 seen_film row = film_with (join_by name_text (codes ", ") row.actors.items) row
 
 abbrev pub minutes_data : Option ℕ → Data

@@ -5,8 +5,8 @@ use Rattle.shop_model.specs.Values.{Text}
 use Rattle.shop_model.specs.Views.{PersonRow}
 use Rattle.shop_views.specs.Names.{name_text}
 use Rattle.shop_views.specs.declared.people.ListedPerson.{ListedPerson}
-use Rattle.shop_views.specs.declared.people.CustomerRow.{CustomerRow}
-use Rattle.shop_views.specs.declared.people.StaffRow.{StaffRow}
+use Rattle.shop_views.specs.declared.people.ListedCustomer.{ListedCustomer}
+use Rattle.shop_views.specs.declared.people.ListedStaff.{ListedStaff}
 
 -- a person of this number, by this name
 abbrev pub person_as : ℕ → Text → ListedPerson → PersonRow
@@ -24,10 +24,10 @@ person_as n name person = record {
 abbrev pub seen_person : ℕ → ListedPerson → PersonRow
 seen_person n person = person_as n (name_text person.name) person
 
-abbrev pub seen_customer : CustomerRow → PersonRow × Bool
+abbrev pub seen_customer : ListedCustomer → PersonRow × Bool
 seen_customer row = (seen_person row.number row.person, row.active)
 
-abbrev pub seen_staff : StaffRow → PersonRow
+abbrev pub seen_staff : ListedStaff → PersonRow
 seen_staff row = seen_person row.number row.person
 
 abbrev pub customer_data : PersonRow × Bool → Data

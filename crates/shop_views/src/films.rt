@@ -15,7 +15,7 @@ use std::alloc::{AllocError, Global};
 
 /// A film with the name of its category and those who play in it.
 #[derive(Drop)]
-pub struct FilmRow {
+pub struct ListedFilm {
     pub number: FilmNo,
     pub title: T128,
     pub description: L500,
@@ -30,7 +30,7 @@ pub struct FilmRow {
 }
 
 /// The film with that text of its actors.
-fn film_object<'a>(alloc: Global, row: &'a FilmRow, actors: &'a str) -> Result<Value, AllocError>
+fn film_object<'a>(alloc: Global, row: &'a ListedFilm, actors: &'a str) -> Result<Value, AllocError>
     ensures { IfOk result (λ v. view v ≡ film_data (film_with actors.now row.now)) }
 {
     let length = match row.minutes {
@@ -52,7 +52,7 @@ fn film_object<'a>(alloc: Global, row: &'a FilmRow, actors: &'a str) -> Result<V
     )
 }
 
-fn film_value(alloc: Global, row: &FilmRow) -> Result<Value, AllocError>
+fn film_value(alloc: Global, row: &ListedFilm) -> Result<Value, AllocError>
     ensures { IfOk result (λ v. view v ≡ film_data (seen_film row.now)) }
 {
     let actors = joined_names(alloc, row.actors.as_slice())?;
@@ -60,7 +60,7 @@ fn film_value(alloc: Global, row: &FilmRow) -> Result<Value, AllocError>
 }
 
 /// A film of `film_list`, as an object: `length` is `null` where it isn't known.
-pub fn film_row(alloc: Global, row: &FilmRow) -> Result<Value, AllocError>
+pub fn film_row(alloc: Global, row: &ListedFilm) -> Result<Value, AllocError>
     ensures value { IfOk result (λ v. view v ≡ film_data (seen_film row.now)) }
     ensures text { IfOk result (λ v. compact_text (view v) ≡ listed_film (seen_film row.now)) }
     ensures no_float { IfOk result (λ v. has_float (view v) ≡ false) }

@@ -30,7 +30,7 @@ pub use consignments::{ListedConsignment, arrival_row, sent_row, transit_row};
 pub use customer::{customer_text, new_customer_text};
 pub use fields::{Field, object_of};
 pub use film::film_text;
-pub use films::{FilmRow, film_row};
+pub use films::{ListedFilm, film_row};
 pub use lists::{
     actor_info, customer_list, film_list, overdue, sales_by_film_category, sales_by_store,
     staff_list,
@@ -41,7 +41,7 @@ pub use overdue_rows::{OverdueRow, overdue_row};
 pub use page::ListPage;
 pub use parcels::{dispatch_text, receipt_text};
 pub use payment::{balance_text, payment_text, rewards_text};
-pub use people::{CustomerRow, ListedPerson, StaffRow, customer_row, staff_row};
+pub use people::{ListedCustomer, ListedPerson, ListedStaff, customer_row, staff_row};
 pub use places::custody_text;
 pub use rental::{
     active_text, copies_text, holder_text, in_stock_text, rental_text, returned_text, scrapped_text,

@@ -11,9 +11,9 @@ ghost use Rattle.shop_views.specs.Sales.{seen_store, store_data, seen_category, 
 ghost use Rattle.shop_views.specs.Lists.{list_of, IsList};
 
 use crate::actors::{ActorRow, actor_row};
-use crate::films::{FilmRow, film_row};
+use crate::films::{ListedFilm, film_row};
 use crate::overdue_rows::{OverdueRow, overdue_row};
-use crate::people::{CustomerRow, StaffRow, customer_row, staff_row};
+use crate::people::{ListedCustomer, ListedStaff, customer_row, staff_row};
 use crate::sales::{CategoryRow, StoreRow, category_row, store_row};
 use serde_json::Value;
 use std::alloc::{AllocError, Global};
@@ -35,26 +35,26 @@ impl ListedRow for OverdueRow {
     }
 }
 
-impl ListedRow for CustomerRow {
+impl ListedRow for ListedCustomer {
     ghost json = { λ row. customer_data (seen_customer row) };
 
-    fn value(alloc: Global, row: &CustomerRow) -> Result<Value, AllocError> {
+    fn value(alloc: Global, row: &ListedCustomer) -> Result<Value, AllocError> {
         customer_row(alloc, row)
     }
 }
 
-impl ListedRow for StaffRow {
+impl ListedRow for ListedStaff {
     ghost json = { λ row. staff_data (seen_staff row) };
 
-    fn value(alloc: Global, row: &StaffRow) -> Result<Value, AllocError> {
+    fn value(alloc: Global, row: &ListedStaff) -> Result<Value, AllocError> {
         staff_row(alloc, row)
     }
 }
 
-impl ListedRow for FilmRow {
+impl ListedRow for ListedFilm {
     ghost json = { λ row. film_data (seen_film row) };
 
-    fn value(alloc: Global, row: &FilmRow) -> Result<Value, AllocError> {
+    fn value(alloc: Global, row: &ListedFilm) -> Result<Value, AllocError> {
         film_row(alloc, row)
     }
 }
@@ -102,21 +102,21 @@ pub fn overdue(alloc: Global, rows: &[OverdueRow]) -> Result<Value, AllocError>
 }
 
 /// `customer_list` of the manual, in the order of the rows, as a list of objects.
-pub fn customer_list(alloc: Global, rows: &[CustomerRow]) -> Result<Value, AllocError>
+pub fn customer_list(alloc: Global, rows: &[ListedCustomer]) -> Result<Value, AllocError>
     ensures { IfOk result (λ v. IsList (CustomersListed (map seen_customer rows.now)) (view v)) }
 {
     list_of(alloc, rows)
 }
 
 /// `staff_list` of the manual, in the order of the rows, as a list of objects.
-pub fn staff_list(alloc: Global, rows: &[StaffRow]) -> Result<Value, AllocError>
+pub fn staff_list(alloc: Global, rows: &[ListedStaff]) -> Result<Value, AllocError>
     ensures { IfOk result (λ v. IsList (StaffListed (map seen_staff rows.now)) (view v)) }
 {
     list_of(alloc, rows)
 }
 
 /// `film_list` of the manual, in the order of the rows, as a list of objects.
-pub fn film_list(alloc: Global, rows: &[FilmRow]) -> Result<Value, AllocError>
+pub fn film_list(alloc: Global, rows: &[ListedFilm]) -> Result<Value, AllocError>
     ensures { IfOk result (λ v. IsList (FilmsListed (map seen_film rows.now)) (view v)) }
 {
     list_of(alloc, rows)

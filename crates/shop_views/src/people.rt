@@ -30,7 +30,7 @@ pub struct ListedPerson {
 
 /// A customer and its number.
 #[derive(Drop)]
-pub struct CustomerRow {
+pub struct ListedCustomer {
     pub number: CustomerNo,
     pub person: ListedPerson,
     /// Whether the customer may rent.
@@ -39,7 +39,7 @@ pub struct CustomerRow {
 
 /// A member of staff and its number.
 #[derive(Drop)]
-pub struct StaffRow {
+pub struct ListedStaff {
     pub number: StaffNo,
     pub person: ListedPerson,
 }
@@ -54,7 +54,7 @@ fn note_of(active: bool) -> &'static str
 /// The customer by that whole name.
 fn customer_object<'a>(
     alloc: Global,
-    row: &'a CustomerRow,
+    row: &'a ListedCustomer,
     name: &'a str,
 ) -> Result<Value, AllocError>
     ensures { IfOk result (λ v. view v
@@ -78,7 +78,7 @@ fn customer_object<'a>(
     )
 }
 
-fn customer_value(alloc: Global, row: &CustomerRow) -> Result<Value, AllocError>
+fn customer_value(alloc: Global, row: &ListedCustomer) -> Result<Value, AllocError>
     ensures { IfOk result (λ v. view v ≡ customer_data (seen_customer row.now)) }
 {
     let names = &row.person.name;
@@ -87,7 +87,7 @@ fn customer_value(alloc: Global, row: &CustomerRow) -> Result<Value, AllocError>
 }
 
 /// A customer of `customer_list`, as an object: `id` is the customer's number, and who may not rent has an empty note.
-pub fn customer_row(alloc: Global, row: &CustomerRow) -> Result<Value, AllocError>
+pub fn customer_row(alloc: Global, row: &ListedCustomer) -> Result<Value, AllocError>
     ensures value { IfOk result (λ v. view v ≡ customer_data (seen_customer row.now)) }
     ensures text { IfOk result (λ v. compact_text (view v) ≡ listed_customer (seen_customer row.now)) }
     ensures no_float { IfOk result (λ v. has_float (view v) ≡ false) }
@@ -96,7 +96,7 @@ pub fn customer_row(alloc: Global, row: &CustomerRow) -> Result<Value, AllocErro
 }
 
 /// The member of staff by that whole name.
-fn staff_object<'a>(alloc: Global, row: &'a StaffRow, name: &'a str) -> Result<Value, AllocError>
+fn staff_object<'a>(alloc: Global, row: &'a ListedStaff, name: &'a str) -> Result<Value, AllocError>
     ensures { IfOk result (λ v. view v ≡ staff_data (person_as row.now.number name.now row.now.person)) }
 {
     let person = &row.person;
@@ -115,7 +115,7 @@ fn staff_object<'a>(alloc: Global, row: &'a StaffRow, name: &'a str) -> Result<V
     )
 }
 
-fn staff_value(alloc: Global, row: &StaffRow) -> Result<Value, AllocError>
+fn staff_value(alloc: Global, row: &ListedStaff) -> Result<Value, AllocError>
     ensures { IfOk result (λ v. view v ≡ staff_data (seen_staff row.now)) }
 {
     let names = &row.person.name;
@@ -124,7 +124,7 @@ fn staff_value(alloc: Global, row: &StaffRow) -> Result<Value, AllocError>
 }
 
 /// A member of staff of `staff_list`, as an object: `id` is the number of the member of staff.
-pub fn staff_row(alloc: Global, row: &StaffRow) -> Result<Value, AllocError>
+pub fn staff_row(alloc: Global, row: &ListedStaff) -> Result<Value, AllocError>
     ensures value { IfOk result (λ v. view v ≡ staff_data (seen_staff row.now)) }
     ensures text { IfOk result (λ v. compact_text (view v) ≡ person_text [] (seen_staff row.now)) }
     ensures no_float { IfOk result (λ v. has_float (view v) ≡ false) }

@@ -18,7 +18,7 @@ use Rattle.shop_types.specs.declared.film.Rating.{Rating}
 use Rattle.shop_views.specs.Names.{name_text}
 use Rattle.shop_views.specs.Films.{film_with, seen_film, film_data}
 use Rattle.shop_views.specs.Page.{Page, HasValues}
-use Rattle.shop_views.specs.declared.films.FilmRow as rows
+use Rattle.shop_views.specs.declared.films.ListedFilm as rows
 use Rattle.shop_store.proofs.SharedReads.{number_is_some}
 use Rattle.view_texts.specs.Shown.{text_or_empty, FilmLine, shown_film}
 use Rattle.view_texts.specs.Films.{names_of, film_alone, FilmPart, whole, seen_part, Grouped, closed, take_line, runs}
@@ -67,30 +67,30 @@ film_is row number title description category rate minutes rating at0 at1 at2 at
 -- ---- the next film
 
 -- what a film under way comes to by a line, and what is on the page then
-abbrev pub Takes : Catalogue → Page → Page → Option rows.FilmRow → rows.FilmRow → FilmLine → List FilmRow → Type 0
+abbrev pub Takes : Catalogue → Page → Page → Option rows.ListedFilm → rows.ListedFilm → FilmLine → List FilmRow → Type 0
 Takes catalogue old new held it line films =
     HasValues old (map film_data films)
     → HasValues new (map film_data (take_line catalogue (films, option_map seen_part held) line).0) × (◌≡◌ {A = Option FilmPart} (Some (seen_part it)) (take_line catalogue (films, option_map seen_part held) line).1)
 
 -- a film with its first line
-fresh_part : (catalogue : Catalogue) (line : FilmLine) (fresh it : rows.FilmRow) → film_with [] fresh ≡ film_alone catalogue line.0 → fresh.actors.items ≡ []
+fresh_part : (catalogue : Catalogue) (line : FilmLine) (fresh it : rows.ListedFilm) → film_with [] fresh ≡ film_alone catalogue line.0 → fresh.actors.items ≡ []
     → seen_part it ≡ ((seen_part fresh).0, (seen_part fresh).1 ++ names_of line.1) → seen_part it ≡ (film_alone catalogue line.0, names_of line.1)
 fresh_part catalogue line fresh it alone none seen = seen ∙ (λ i. (alone i, map name_text (none i) ++ names_of line.1))
 
-pushed_film : (films : List FilmRow) (film : rows.FilmRow) → map film_data films ++ film_data (seen_film film) ∷ [] ≡ map film_data (films ++ whole (seen_part film) ∷ [])
+pushed_film : (films : List FilmRow) (film : rows.ListedFilm) → map film_data films ++ film_data (seen_film film) ∷ [] ≡ map film_data (films ++ whole (seen_part film) ∷ [])
 pushed_film films film = ap (λ row. map film_data films ++ film_data row ∷ []) (whole_seen film) ∙ sym (map-append film_data films (whole (seen_part film) ∷ []))
 
 -- a row of another film: the one under way goes on the page
-pub other_film : (catalogue : Catalogue) (old new : Page) (row : sql.Row) (line : FilmLine) (films : List FilmRow) (number : ℕ) (film fresh it : rows.FilmRow) → column row 0 ≡ number_value number → row ≡ shown_film catalogue line → (number == film.number) ≡ false
+pub other_film : (catalogue : Catalogue) (old new : Page) (row : sql.Row) (line : FilmLine) (films : List FilmRow) (number : ℕ) (film fresh it : rows.ListedFilm) → column row 0 ≡ number_value number → row ≡ shown_film catalogue line → (number == film.number) ≡ false
     → ((values : List Data) → HasValues old values → HasValues new (values ++ film_data (seen_film film) ∷ []))
     → film_with [] fresh ≡ film_alone catalogue line.0 → fresh.actors.items ≡ [] → seen_part it ≡ ((seen_part fresh).0, (seen_part fresh).1 ++ names_of line.1)
-    → (held : Option rows.FilmRow) → held ≡ Some film → Takes catalogue old new held it line films
+    → (held : Option rows.ListedFilm) → held ≡ Some film → Takes catalogue old new held it line films
 other_film catalogue old new row line films number film fresh it numbered shown other added alone none seen held is =
     let place : number ≡ line.0.0 = same_number _ _ (sym numbered ∙ ap (λ r. column r 0) shown) in
     let apart : (line.0.0 == film.number) ≡ false = subst (λ n. (n == film.number) ≡ false) place other in
     let taken : take_line catalogue (films, Some (seen_part film)) line ≡ (films ++ whole (seen_part film) ∷ [], Some (film_alone catalogue line.0, names_of line.1)) =
     ap (λ b. cond {A = Grouped} b (films, Some ((seen_part film).0, (seen_part film).1 ++ names_of line.1)) (films ++ whole (seen_part film) ∷ [], Some (film_alone catalogue line.0, names_of line.1))) apart in
-    subst (λ (o : Option rows.FilmRow). Takes catalogue old new o it line films) (sym is)
+    subst (λ (o : Option rows.ListedFilm). Takes catalogue old new o it line films) (sym is)
     (λ on. (
       subst (HasValues new) (pushed_film films film ∙ ap (λ (s : Grouped). map film_data s.0) (sym taken)) (added (map film_data films) on),
       ap Some (fresh_part catalogue line fresh it alone none seen) ∙ ap (λ (s : Grouped). s.1) (sym taken),
@@ -99,17 +99,17 @@ other_film catalogue old new row line films number film fresh it numbered shown 
 -- ---- the last film
 
 -- the page has all films, once the one under way is on it
-pub last_film : (old new : Page) (films : List FilmRow) (film : rows.FilmRow) → ((values : List Data) → HasValues old values → HasValues new (values ++ film_data (seen_film film) ∷ []))
-    → HasValues old (map film_data films) → (held : Option rows.FilmRow) → held ≡ Some film → HasValues new (map film_data (closed (films, option_map seen_part held)))
+pub last_film : (old new : Page) (films : List FilmRow) (film : rows.ListedFilm) → ((values : List Data) → HasValues old values → HasValues new (values ++ film_data (seen_film film) ∷ []))
+    → HasValues old (map film_data films) → (held : Option rows.ListedFilm) → held ≡ Some film → HasValues new (map film_data (closed (films, option_map seen_part held)))
 last_film old new films film added on held is =
-    subst (λ (o : Option rows.FilmRow). HasValues new (map film_data (closed (films, option_map seen_part o)))) (sym is) (subst (HasValues new) (pushed_film films film) (added (map film_data films) on))
+    subst (λ (o : Option rows.ListedFilm). HasValues new (map film_data (closed (films, option_map seen_part o)))) (sym is) (subst (HasValues new) (pushed_film films film) (added (map film_data films) on))
 
-pub no_last_film : (page : Page) (films : List FilmRow) → HasValues page (map film_data films) → (held : Option rows.FilmRow) → held ≡ None → HasValues page (map film_data (closed (films, option_map seen_part held)))
-no_last_film page films on held is = subst (λ (o : Option rows.FilmRow). HasValues page (map film_data (closed (films, option_map seen_part o)))) (sym is) on
+pub no_last_film : (page : Page) (films : List FilmRow) → HasValues page (map film_data films) → (held : Option rows.ListedFilm) → held ≡ None → HasValues page (map film_data (closed (films, option_map seen_part held)))
+no_last_film page films on held is = subst (λ (o : Option rows.ListedFilm). HasValues page (map film_data (closed (films, option_map seen_part o)))) (sym is) on
 
 -- ---- one row more
 
-pub film_taken : (old new : Page) (held taken : Option rows.FilmRow) (it : rows.FilmRow) (given : List sql.Row) (row : sql.Row) → taken ≡ held
+pub film_taken : (old new : Page) (held taken : Option rows.ListedFilm) (it : rows.ListedFilm) (given : List sql.Row) (row : sql.Row) → taken ≡ held
     → ((catalogue : Catalogue) (line : FilmLine) (films : List FilmRow) → row ≡ shown_film catalogue line → Takes catalogue old new taken it line films)
     → ((catalogue : Catalogue) (lines : List FilmLine) → given ≡ map (shown_film catalogue) lines → HasValues old (map film_data (runs catalogue lines).0) × (option_map seen_part held ≡ (runs catalogue lines).1))
     → (catalogue : Catalogue) (lines : List FilmLine) → given ++ row ∷ [] ≡ map (shown_film catalogue) lines

@@ -11,7 +11,7 @@ use Rattle.shop_model.specs.Views.{FilmRow, film_row}
 use Rattle.shop_model.proofs.RowLemmas.{same_test}
 use Rattle.shop_views.specs.Names.{name_text}
 use Rattle.shop_views.specs.Films.{film_with, seen_film}
-use Rattle.shop_views.specs.declared.films.FilmRow as rows
+use Rattle.shop_views.specs.declared.films.ListedFilm as rows
 use Rattle.view_texts.specs.Shown.{FilmLine, actors_of, lines_of}
 use Rattle.view_texts.specs.Films.{actor_name, names_of, film_alone, FilmPart, whole, seen_part, Grouped, closed, take_line, run_from}
 
@@ -33,7 +33,7 @@ pub join_map : {X Y : Type 0} (g : Y → model.Text) (f : X → Y) (separator : 
 join_map g f separator [] = refl
 join_map g f separator (x ∷ xs) = ap (λ (l : model.Text). g (f x) ++ l) (others_are g f separator xs)
 
-pub whole_seen : (row : rows.FilmRow) → seen_film row ≡ whole (seen_part row)
+pub whole_seen : (row : rows.ListedFilm) → seen_film row ≡ whole (seen_part row)
 whole_seen row = ap (λ (actors : model.Text). film_with actors row) (join_map (λ (name : model.Text). name) name_text (codes ", ") row.actors.items)
 
 -- ---- the lines of one film

@@ -9,7 +9,7 @@ use Rattle.shop_model.specs.Views.{FilmRow, full_name, category_name}
 use Rattle.shop_views.specs.Names.{name_text}
 use Rattle.shop_views.specs.Films.{film_with, film_data}
 use Rattle.shop_views.specs.Page.{HasValues}
-use Rattle.shop_views.specs.declared.films.FilmRow as rows
+use Rattle.shop_views.specs.declared.films.ListedFilm as rows
 use Rattle.view_texts.specs.Shown.{FilmLine, shown_film}
 use Rattle.view_texts.specs.declared.films.FilmPage.{FilmPage}
 
@@ -40,7 +40,7 @@ film_alone catalogue it = record {
 abbrev pub whole : FilmPart → FilmRow
 whole part = record part.0 { actors = join_by (λ (name : model.Text). name) (codes ", ") part.1 }
 
-abbrev pub seen_part : rows.FilmRow → FilmPart
+abbrev pub seen_part : rows.ListedFilm → FilmPart
 seen_part row = (film_with [] row, map name_text row.actors.items)
 
 -- the films that are complete, and the one that more rows may belong to

@@ -22,18 +22,18 @@ ghost use Rattle.view_texts.specs.Pages.{HasCustomers};
 use crate::people::person_at;
 use shop_schema::row_number_at;
 use shop_values::BranchNo;
-use shop_views::{CustomerRow, ListPage, customer_row};
+use shop_views::{ListPage, ListedCustomer, customer_row};
 use sql_rows::{StoreFault, TakesRows, each_row, flag_at};
 use sqlite::types::ToSql;
 use sqlite::{Alter, Connection, Row};
 use std::alloc::Global;
 
 /// The customer of a row.
-fn read_customer(alloc: Global, row: &Row, branch: BranchNo) -> Result<CustomerRow, StoreFault>
+fn read_customer(alloc: Global, row: &Row, branch: BranchNo) -> Result<ListedCustomer, StoreFault>
     ensures { IfOk result (λ it. (catalogue : Catalogue) (x : ModelRow Customer) → row.now ≡ shown_customer catalogue x
         → seen_customer it ≡ listed_customer branch catalogue x) }
 {
-    Ok(CustomerRow {
+    Ok(ListedCustomer {
         number: row_number_at(row, 0)?,
         active: flag_at(row, 8)?,
         person: person_at(alloc, row, branch)?,
@@ -41,7 +41,7 @@ fn read_customer(alloc: Global, row: &Row, branch: BranchNo) -> Result<CustomerR
 }
 
 /// Puts the customer last.
-fn add_customer(alloc: Global, row: &CustomerRow, page: &mut ListPage) -> Result<(), StoreFault>
+fn add_customer(alloc: Global, row: &ListedCustomer, page: &mut ListPage) -> Result<(), StoreFault>
     ensures { OnOk result ((values : List Data) → HasValues page.old values
         → HasValues page.new (values ++ customer_data (seen_customer row.now) ∷ [])) }
 {

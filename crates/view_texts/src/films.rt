@@ -26,7 +26,7 @@ use crate::people::{name_at, person_name_or_null_at};
 use shop_schema::{row_number_at, text_at};
 use shop_types::{Minutes, Rating};
 use shop_values::Rate;
-use shop_views::{FilmRow, ListPage, film_row};
+use shop_views::{ListPage, ListedFilm, film_row};
 use sql_rows::{StoreFault, TakesRows, each_row, number_at, number_or_null_at, words_at};
 use sqlite::{Alter, Connection, Row};
 use std::alloc::{AllocError, Global};
@@ -71,12 +71,12 @@ fn rating_at(row: &Row, at: usize) -> Result<Rating, StoreFault>
 }
 
 /// The film of the row, without its actor.
-fn film_at(alloc: Global, row: &Row) -> Result<FilmRow, StoreFault>
+fn film_at(alloc: Global, row: &Row) -> Result<ListedFilm, StoreFault>
     ensures film { IfOk result (λ it. (catalogue : Catalogue) (line : FilmLine) → row.now ≡ shown_film catalogue line
         → film_with [] it ≡ film_alone catalogue line.0) }
     ensures none { IfOk result (λ it. it.actors.items ≡ []) }
 {
-    Ok(FilmRow {
+    Ok(ListedFilm {
         number: row_number_at(row, 0)?,
         rate: rate_at(row, 4)?,
         minutes: minutes_at(row, 5)?,
@@ -89,7 +89,7 @@ fn film_at(alloc: Global, row: &Row) -> Result<FilmRow, StoreFault>
 }
 
 /// The film with the row's actor.
-fn with_actor(film: FilmRow, row: &Row) -> Result<FilmRow, StoreFault>
+fn with_actor(film: ListedFilm, row: &Row) -> Result<ListedFilm, StoreFault>
     ensures { IfOk result (λ it. (catalogue : Catalogue) (line : FilmLine) → row.now ≡ shown_film catalogue line
         → seen_part it ≡ ((seen_part film).0, (seen_part film).1 ++ names_of line.1)) }
 {
@@ -101,7 +101,7 @@ fn with_actor(film: FilmRow, row: &Row) -> Result<FilmRow, StoreFault>
 }
 
 /// Puts the film last.
-fn add_film(alloc: Global, film: FilmRow, page: &mut ListPage) -> Result<(), AllocError>
+fn add_film(alloc: Global, film: ListedFilm, page: &mut ListPage) -> Result<(), AllocError>
     ensures { OnOk result ((values : List Data) → HasValues page.old values
         → HasValues page.new (values ++ film_data (seen_film film) ∷ [])) }
 {
@@ -112,10 +112,10 @@ fn add_film(alloc: Global, film: FilmRow, page: &mut ListPage) -> Result<(), All
 /// The film of the row with the row's actor. The film of the rows before, if it is another one, goes on the page.
 fn next_film(
     alloc: Global,
-    film: Option<FilmRow>,
+    film: Option<ListedFilm>,
     row: &Row,
     page: &mut ListPage,
-) -> Result<FilmRow, StoreFault>
+) -> Result<ListedFilm, StoreFault>
     ensures { IfOk result (λ it. (catalogue : Catalogue) (line : FilmLine) (films : List ModelFilm)
         → row.now ≡ shown_film catalogue line → HasValues page.old (map film_data films)
         → HasValues page.new (map film_data (take_line catalogue (films, option_map seen_part film) line).0)
@@ -137,7 +137,7 @@ fn next_film(
 pub(crate) struct FilmPage {
     page: ListPage,
     alloc: Global,
-    film: Option<FilmRow>,
+    film: Option<ListedFilm>,
 }
 
 impl TakesRows for FilmPage {

@@ -20,25 +20,25 @@ ghost use Rattle.view_texts.specs.Pages.{HasStaff};
 use crate::people::person_at;
 use shop_schema::row_number_at;
 use shop_values::BranchNo;
-use shop_views::{ListPage, StaffRow, staff_row};
+use shop_views::{ListPage, ListedStaff, staff_row};
 use sql_rows::{StoreFault, TakesRows, each_row};
 use sqlite::types::ToSql;
 use sqlite::{Alter, Connection, Row};
 use std::alloc::Global;
 
 /// The member of staff of a row.
-fn read_staff(alloc: Global, row: &Row, branch: BranchNo) -> Result<StaffRow, StoreFault>
+fn read_staff(alloc: Global, row: &Row, branch: BranchNo) -> Result<ListedStaff, StoreFault>
     ensures { IfOk result (λ it. (catalogue : Catalogue) (x : ℕ × Staff) → row.now ≡ shown_staff catalogue x
         → seen_staff it ≡ listed_staff branch catalogue x) }
 {
-    Ok(StaffRow {
+    Ok(ListedStaff {
         number: row_number_at(row, 0)?,
         person: person_at(alloc, row, branch)?,
     })
 }
 
 /// Puts the member of staff last.
-fn add_staff(alloc: Global, row: &StaffRow, page: &mut ListPage) -> Result<(), StoreFault>
+fn add_staff(alloc: Global, row: &ListedStaff, page: &mut ListPage) -> Result<(), StoreFault>
     ensures { OnOk result ((values : List Data) → HasValues page.old values
         → HasValues page.new (values ++ staff_data (seen_staff row.now) ∷ [])) }
 {

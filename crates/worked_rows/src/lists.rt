@@ -2,9 +2,9 @@
 use serde_json::Value;
 use shop_types::{ActorNo, BranchNo, CustomerNo, FilmNo, Minutes, Rate, Rating, StaffNo, Text};
 use shop_views::{
-    ActorRow, CategoryRow, CustomerRow, FilmGroup, FilmRow, ListedPerson, OverdueRow, PersonName,
-    StaffRow, StoreRow, actor_info, customer_list, film_list, overdue, sales_by_film_category,
-    sales_by_store, staff_list,
+    ActorRow, CategoryRow, FilmGroup, ListedCustomer, ListedFilm, ListedPerson, ListedStaff,
+    OverdueRow, PersonName, StoreRow, actor_info, customer_list, film_list, overdue,
+    sales_by_film_category, sales_by_store, staff_list,
 };
 use std::alloc::{AllocError, Global};
 
@@ -80,7 +80,7 @@ fn lists_overdue(alloc: Global) -> Option<bool> {
 }
 
 fn lists_customers(alloc: Global) -> Option<bool> {
-    let rows = [CustomerRow {
+    let rows = [ListedCustomer {
         number: CustomerNo::new(1)?,
         person: person(alloc)?,
         active: true,
@@ -95,7 +95,7 @@ fn lists_customers(alloc: Global) -> Option<bool> {
 }
 
 fn lists_staff(alloc: Global) -> Option<bool> {
-    let rows = [StaffRow {
+    let rows = [ListedStaff {
         number: StaffNo::new(2)?,
         person: person(alloc)?,
     }];
@@ -108,7 +108,7 @@ fn lists_staff(alloc: Global) -> Option<bool> {
     ))
 }
 
-fn film(alloc: Global, actors: Vec<PersonName>) -> Option<FilmRow> {
+fn film(alloc: Global, actors: Vec<PersonName>) -> Option<ListedFilm> {
     let (Some(number), Some(rate), Some(title), Some(description), Some(category)) = (
         FilmNo::new(1),
         Rate::new(499),
@@ -118,7 +118,7 @@ fn film(alloc: Global, actors: Vec<PersonName>) -> Option<FilmRow> {
     ) else {
         return None;
     };
-    Some(FilmRow {
+    Some(ListedFilm {
         number,
         title,
         description,

@@ -3,7 +3,7 @@ use Rattle.std.specs.Str.{bytes_eq}
 use Rattle.shop_model.specs.Calendar.{moment_text}
 use Rattle.shop_model.specs.Links.{are_different}
 use Rattle.shop_types.specs.Seen.{seen_rental}
-use Rattle.audit_rows.specs.declared.rows.RentalRow.{RentalRow}
+use Rattle.audit_rows.specs.declared.rows.CheckedRental.{CheckedRental}
 use Rattle.audit_checks.specs.declared.shop.RentalKey.{RentalKey}
 use Rattle.audit_rows.proofs.Keys.{different-map}
 use Rattle.audit_rows.proofs.ShopLemmas.{apart_of_rows}
@@ -12,4 +12,4 @@ use Rattle.audit_checks.proofs.shop.rentals_are_apart.Goals as goal
 pub returns : goal.returns
 returns c =
     c.are_distinct.ensures.distinct ∙ sym (different-map bytes_eq (λ (row : RentalKey). row.copy ∷ row.customer ∷ row.rented) c.in_ok-keys.keys.items) ∙ ap (are_different bytes_eq) c.in_ok-keys.ensures.keys
-    ∙ apart_of_rows (λ a b p q e. c.moment_texts_are_one_to_one.ensures a b (moment_text b) (p, e) (q, (λ i. moment_text b))) (λ (row : RentalRow). seen_rental row.rental) c.args.rentals.now c.in_ok-keys.ensures.moments
+    ∙ apart_of_rows (λ a b p q e. c.moment_texts_are_one_to_one.ensures a b (moment_text b) (p, e) (q, (λ i. moment_text b))) (λ (row : CheckedRental). seen_rental row.rental) c.args.rentals.now c.in_ok-keys.ensures.moments

@@ -2,7 +2,7 @@ use Rattle.std.proofs.Common.{rules, ◌≡◌, ◌&&◌, ◌∙◌, ℕ, List, 
 use Rattle.std.specs.Ordering.{nat_cmp}
 use Rattle.std.proofs.lemmas.Result.{IfOk-weaker}
 use Rattle.shop_model.specs.Books.{Consignment}
-use Rattle.audit_rows.specs.declared.rows.HeaderRow.{HeaderRow}
+use Rattle.audit_rows.specs.declared.rows.CheckedHeader.{CheckedHeader}
 use Rattle.audit_rows.specs.Lists.{counts_from}
 use Rattle.audit_rows.specs.Seen.{seen_header, seen_placed}
 use Rattle.audit_checks.specs.Consignments.{are_settled, pairs_follow}
@@ -19,10 +19,10 @@ returns-then-pairs_follow c =
     let opened : are_settled c.len.result (map seen_header c.as_slice-headers.result.now) (map seen_placed c.as_slice.result.now) ≡ are_settled (length rows.films.items) (map seen_header rows.headers.items) (map seen_placed rows.lines.items)
     = λ i. are_settled (films i) (map seen_header (headers i)) (map seen_placed (c.as_slice.ensures.value i)) in
     let settled = sym opened ∙ sym c.are_settled.ensures ∙ c.if-are_settled.true in
-    let follow = ap (λ (hs : List HeaderRow). pairs_follow (map seen_header hs)) (sym headers) ∙ sym c.pairs_follow.ensures ∙ c.if-pairs_follow.true in
-    IfOk-weaker c.places_count.result (λ is. (places : List ℕ) → IsPermutation (map (λ (row : HeaderRow). row.place) c.as_slice-headers.result.now) places → IsSorted nat_cmp places → is ≡ counts_from 1 places)
+    let follow = ap (λ (hs : List CheckedHeader). pairs_follow (map seen_header hs)) (sym headers) ∙ sym c.pairs_follow.ensures ∙ c.if-pairs_follow.true in
+    IfOk-weaker c.places_count.result (λ is. (places : List ℕ) → IsPermutation (map (λ (row : CheckedHeader). row.place) c.as_slice-headers.result.now) places → IsSorted nat_cmp places → is ≡ counts_from 1 places)
     (λ is. (its : List Consignment) → AreConsignmentsOf rows its → is ≡ are_good_consignments rows its)
     (λ is h its o.
     h (map (λ (it : Consignment). it.place) its)
-    (subst (λ (xs : List HeaderRow). IsPermutation (map (λ (row : HeaderRow). row.place) xs) (map (λ (it : Consignment). it.place) its)) (sym headers) (places_of_rows rows its o)) (sorted_places rows its o)
+    (subst (λ (xs : List CheckedHeader). IsPermutation (map (λ (row : CheckedHeader). row.place) xs) (map (λ (it : Consignment). it.place) its)) (sym headers) (places_of_rows rows its o)) (sorted_places rows its o)
     ∙ (λ i. sym settled i && sym follow i && counts_from 1 (map (λ (it : Consignment). it.place) its))) c.places_count.ensures

@@ -2,7 +2,7 @@ use Rattle.std.proofs.Common.{◌≡◌, ◌∙◌, ◌∷◌, List, true, ap, s
 use Rattle.std.proofs.lemmas.List.Sorted.{IsPermutation-trans, IsPermutation-append, IsPermutation-map}
 use Rattle.shop_schema.specs.RowValues.{IsNumber}
 use Rattle.audit_rows.specs.Lists.{climbs, Key}
-use Rattle.audit_rows.specs.declared.rows.KeptRow.{KeptRow}
+use Rattle.audit_rows.specs.declared.rows.CheckedKept.{CheckedKept}
 use Rattle.audit_rows.proofs.Keys.{distinct_by_order}
 use Rattle.audit_rows.proofs.Standing.{all_moved}
 use Rattle.books_audit.specs.Read.{office_caller, branch_caller}
@@ -18,8 +18,8 @@ returns-then-not-climbs-clause-none c h =
 
 pub returns-then-not-climbs-2-clause-none : goal.returns-then-not-climbs-2-clause-none
 returns-then-not-climbs-2-clause-none c h =
-    let key = λ (row : KeptRow). row.branch ∷ row.key in
-    let is = c.climbs-2.ensures ∙ ap (λ (xs : List KeptRow). climbs (map key xs)) c.as_slice-3.ensures.value in
+    let key = λ (row : CheckedKept). row.branch ∷ row.key in
+    let is = c.climbs-2.ensures ∙ ap (λ (xs : List CheckedKept). climbs (map key xs)) c.as_slice-3.ensures.value in
     true≢false (sym (h.kept c.in-Some.rows.items c.in_ok-office.field-0.office.items c.in_ok-office.field-0.kept.items (rw (c.as_slice.ensures.value, c.in-Some.is) at c.in_ok-rows.ensures.found) c.in_ok-office.ensures.branches c.in_ok-office.ensures.same)
     ∙ sym (distinct_by_order key _ _ c.sort_rows-2.ensures.permutation c.sort_rows-2.ensures.sorted) ∙ sym is ∙ c.if-not-climbs-2.true)
 
@@ -32,7 +32,7 @@ returns-clause-read c =
         ones = rw (c.as_slice.ensures.value, c.in-Some.is) at c.in_ok-rows.ensures.ones;
         same = IsPermutation-trans _ _ _ c.in_ok-office.ensures.same moved;
       };
-      branches = all_moved (λ (x : KeptRow). IsNumber x.branch) _ _ c.sort_rows-2.ensures.permutation c.in_ok-office.ensures.branches;
+      branches = all_moved (λ (x : CheckedKept). IsNumber x.branch) _ _ c.sort_rows-2.ensures.permutation c.in_ok-office.ensures.branches;
       office_climbs = subst (λ (l : List Key). climbs l ≡ true) (keys_same c.sort_rows.new.rows.items) (sym (c.climbs.ensures ∙ ap (λ (xs : List Key). climbs (map (λ (k : Key). k) xs)) c.as_slice-2.ensures.value) ∙ c.if-not-climbs.false);
-      kept_climbs = sym (c.climbs-2.ensures ∙ ap (λ (xs : List KeptRow). climbs (map (λ (row : KeptRow). row.branch ∷ row.key) xs)) c.as_slice-3.ensures.value) ∙ c.if-not-climbs-2.false;
+      kept_climbs = sym (c.climbs-2.ensures ∙ ap (λ (xs : List CheckedKept). climbs (map (λ (row : CheckedKept). row.branch ∷ row.key) xs)) c.as_slice-3.ensures.value) ∙ c.if-not-climbs-2.false;
     }
