@@ -3,10 +3,12 @@
 //! made of the books that the tables stand for.
 #![tactic(auto)]
 
+mod answered;
 mod branches;
 mod counts;
 mod kept;
 
+pub use answered::Answered;
 pub use branches::{Standing, set_last, standing_at};
 pub use counts::{Count, CountKind, copies_out, count_of, drop_out, out_at, put_out, take_numbers};
 pub use kept::{KeptRow, Owner, kept_at, kept_found, put_kept};

@@ -1,0 +1,11 @@
+//! What a command came to.
+
+use shop_types::Reply;
+
+/// The reply to a command, and whether there is anything to commit.
+#[derive(Drop)]
+pub struct Answered {
+    pub reply: Reply,
+    /// No where the reply is a repeated one or a refusal.
+    pub is_changed: bool,
+}
