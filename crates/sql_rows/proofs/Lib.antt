@@ -30,3 +30,4 @@ pub mod EachLemmas
 pub mod Joins
 pub mod Fills
 pub mod Deciding
+pub mod Chaining

@@ -1,5 +1,5 @@
 -- What calls inside a transaction leave, and what they say of the books that tables stand for.
-use Rattle.std.specs.Prelude.{◌≡◌, false, true, IsTrue, Result, OnOk}
+use Rattle.std.specs.Prelude.{◌≡◌, false, true, IsTrue, Result, IfOk, OnOk}
 use Rattle.std.specs.Borrow.{MutBor}
 use Rattle.sqlite_trees.specs.Tree.{Trees}
 use Rattle.sqlite_trees.specs.declared.store.Store.{Ghosts}
@@ -25,6 +25,17 @@ module _ {S X E : Type 0} (g : Ghosts S) (old new : MutBor (Held S)) (result : R
     pub mode : HasCleanDisk (state g new.now) → IsTrue (state g old.now).in_transaction → OnOk result ((state g new.now).in_transaction ≡ true)
     pub lives : HasCleanDisk (state g new.now) → IsTrue (state g old.now).in_transaction → IsTrue (state g old.now).is_open
         → OnOk result (Shows (state g old.now) (state g new.now) (state g new.now).now (state g old.now).committed true)
+
+-- What a call inside a transaction does, in one clause: it stays there and commits nothing; and where it is well over a disk that did as it was told, this is said of what it
+-- gave and of the states before and after it.
+pub record DoesInside {S X E : Type 0} (g : Ghosts S) (old new : MutBor (Held S)) (result : Result X E) (Says : X → State → State → Type 0) : Type 0 where
+  pub inside : StaysInside g old new result
+  pub says : HasCleanDisk (state g new.now) → IfOk result (λ it. Says it (state g old.now) (state g new.now))
+
+-- the same of calls that may be none
+pub record DoesWithin {S X E : Type 0} (g : Ghosts S) (old new : MutBor (Held S)) (result : Result X E) (Says : X → State → State → Type 0) : Type 0 where
+  pub inside : StaysWithin g old new result
+  pub says : HasCleanDisk (state g new.now) → IfOk result (λ it. Says it (state g old.now) (state g new.now))
 
 -- a look outside a transaction leaves the database as it was, unless the store fails, which commits nothing
 pub record StaysSame {S X E : Type 0} (g : Ghosts S) (old new : Held S) (result : Result X E) : Type 0 where
