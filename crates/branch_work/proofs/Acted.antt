@@ -1,7 +1,11 @@
 -- What an accepted act makes of the books, with what was found of the rows that it names, and with the command kept.
-use Rattle.std.proofs.Common.{◌≡◌, ◌∙◌, refl, sym, ap, subst, ℕ, Bool, [], ◌∷◌, ◌++◌, map, filter, Some, Result, IfOk}
+use Rattle.std.proofs.Common.{◌≡◌, ◌∙◌, refl, sym, ap, subst, ℕ, Bool, [], ◌∷◌, ◌++◌, map, filter, Some, Result}
+use Rattle.std.specs.Borrow.{MutBor}
 use Rattle.std.specs.Prelude.{is_some}
-use Rattle.sqlite.specs.State.{State}
+use Rattle.sqlite.specs.Store.{Ghosts}
+use Rattle.sqlite.specs.Held.{Held}
+use Rattle.sql_rows.specs.Calls.{DoesWithin}
+use Rattle.sql_rows.proofs.Chaining.{does_such}
 use Rattle.shop_model.specs.Rows.{Row, of, is_row}
 use Rattle.shop_model.specs.Values as model
 use Rattle.shop_model.specs.Values.{Text, Rules, Command, Act, Rental}
@@ -14,11 +18,16 @@ use Rattle.branch_core.specs.declared.found.RentalFound.{RentalFound}
 use Rattle.branch_core.specs.declared.found.RowsFound.{RowsFound}
 use Rattle.branch_core.specs.Agreed.{seen_rental, rental_at}
 use Rattle.branch_work.specs.Added.{IsActed, with_kept}
+use Rattle.branch_work.specs.Acts.{Acts, ActsAlways, ActsBy}
 
--- what is said of an act, of the act by another name
-pub acted_as : {T E : Type 0} (result : Result T E) (bytes : T → Text) (b : ℕ) (command : Command) (was act : Act) (found : RowsFound) (old new : State) → was ≡ act
-    → IfOk result (λ text. (rules : Rules) → IsActed rules b command act found (bytes text) old new) → IfOk result (λ text. (rules : Rules) → IsActed rules b command was found (bytes text) old new)
-acted_as result bytes b command was act found old new is acted = subst (λ (it : Act). IfOk result (λ text. (rules : Rules) → IsActed rules b command it found (bytes text) old new)) (sym is) acted
+module _ {S X E : Type 0} {g : Ghosts S} {old new : MutBor (Held S)} {result : Result X E} {bytes : X → Text} (b : ℕ) (command : Command) {act was : Act} (Given : RowsFound → Type 0) {found : RowsFound} where
+  -- what is said of an act, of the act by another name
+  pub acts_named : DoesWithin g old new result (λ text. Acts b command act Given (bytes text)) → was ≡ act → Given found → DoesWithin g old new result (λ text. ActsBy b command was found (bytes text))
+  acts_named one is given = does_such one (λ text old new acted rules. subst (λ (it : Act). IsActed rules b command it found (bytes text) old new) (sym is) (acted rules found given))
+
+  -- the same of an act that is carried out whatever the command
+  pub acts_always : DoesWithin g old new result (λ text. ActsAlways b act Given (bytes text)) → was ≡ act → Given found → DoesWithin g old new result (λ text. ActsBy b command was found (bytes text))
+  acts_always one = acts_named (does_such one (λ text old new acted. acted command))
 
 -- the copy of a rental that was found
 pub copy_found : (b r : ℕ) (found : RentalFound) (books : Books) → IsHeld books → Some (seen_rental found) ≡ rental_at (shop_of b books) r

@@ -1,5 +1,5 @@
 -- With the counts of its new rows, the tables stand for the books that have the rows.
-use Rattle.std.proofs.Common.{◌≡◌, ◌∙◌, refl, sym, ap, subst, ℕ, ◌≤◌, ◌<◌, ◌^◌, true, List, [], ◌∷◌, ◌++◌, length, map, Some, None, arith}
+use Rattle.std.proofs.Common.{◌≡◌, ◌∙◌, refl, sym, ap, subst, ℕ, ◌≤◌, ◌<◌, ◌^◌, List, [], ◌∷◌, ◌++◌, length, map, None, arith}
 use Rattle.sqlite.specs.State.{State}
 use Rattle.shop_values.specs.LimitValues.{Limits}
 use Rattle.shop_model.specs.Rows.{Row, Owned, of, owned_by, next, put, put_all}
@@ -14,7 +14,7 @@ use Rattle.shop_model.proofs.GoodShops.{edits_small}
 use Rattle.shop_model.proofs.Isolation.{catalogue_stays}
 use Rattle.shop_types.specs.declared.command.Act.{Act}
 use Rattle.shop_types.specs.declared.command.Act.TheVariants as act
-use Rattle.shop_types.specs.Seen.{seen_act, seen_person}
+use Rattle.shop_types.specs.Seen.{seen_act}
 use Rattle.stock_csv.specs.Stock.{stock_of}
 use Rattle.stock_csv.proofs.ReadingLemmas.{stock_fits}
 use Rattle.shop_schema.specs.Held.{IsHeld}

@@ -1,18 +1,12 @@
 //! How an accepted command's act is carried out as it stands: its rows, their counts, and what is replied of them;
 //! and how the command is kept.
 
-ghost use Rattle.std.specs.Prelude.{◌≡◌, ◌+◌, ◌∷◌, [], true, map, filter, string_bytes, IfOk, OnOk};
-ghost use Rattle.sqlite.specs.Held.{state};
-ghost use Rattle.sqlite.specs.State.{HasCleanDisk};
-ghost use Rattle.sql_rows.specs.Calls.{StaysWithin};
+ghost use Rattle.std.specs.Prelude.{◌≡◌, ⊤, true, string_bytes, IfOk};
+ghost use Rattle.sql_rows.specs.Calls.{DoesWithin};
 ghost use Rattle.shop_model.specs.Values as model;
-ghost use Rattle.shop_model.specs.Books as books;
 ghost use Rattle.shop_types.specs.Seen.{seen_act, seen_command, seen_person};
-ghost use Rattle.shop_schema.specs.Counts.{counts_of, is_count, raise};
 ghost use Rattle.shop_schema.specs.Forms.{command_form};
-ghost use Rattle.shop_schema.specs.Shop.{Holds, Tallies};
-ghost use Rattle.shop_ledger.specs.Counted.{kind_number, CountsOnce};
-ghost use Rattle.branch_work.specs.Added.{IsActed, with_kept};
+ghost use Rattle.branch_work.specs.Acts.{Acts, ActsAlways, ActsBy, Keeps, Takes};
 
 use crate::consigning::{dispatch, receive};
 use crate::importing::import;
@@ -41,11 +35,8 @@ pub fn carry_out<S: Alter>(
     command: &Command,
     found: &RowsFound,
 ) -> Result<String, StoreFault>
-    ensures inside { StaysWithin S.Store tx.old.conn tx.new.conn result }
-    ensures acted { HasCleanDisk (state S.Store tx.new.conn.now)
-        → IfOk result (λ text. (rules : model.Rules) → IsActed rules branch (seen_command command.now)
-        (seen_act command.now.act) found.now (string_bytes text) (state S.Store tx.old.conn.now)
-        (state S.Store tx.new.conn.now)) }
+    ensures { DoesWithin S.Store tx.old.conn tx.new.conn result
+        (λ text. ActsBy branch (seen_command command.now) (seen_act command.now.act) found.now (string_bytes text)) }
 {
     match &command.act {
         Act::Customer(person) => add_customer(alloc, tx, branch, command, person),
@@ -85,11 +76,8 @@ pub fn keep<S: Alter>(
     reply: &str,
 ) -> Result<(), StoreFault>
     requires { form.now ≡ command_form (seen_command command.now) }
-    ensures inside { StaysWithin S.Store tx.old.conn tx.new.conn result }
-    ensures kept { HasCleanDisk (state S.Store tx.new.conn.now)
-        → OnOk result ((books : books.Books) → Holds (state S.Store tx.old.conn.now) books → CountsOnce branch
-        CountKind.Kept (counts_of books) → Holds (state S.Store tx.new.conn.now)
-        (with_kept branch (seen_command command.now) reply.now books)) }
+    ensures { DoesWithin S.Store tx.old.conn tx.new.conn result
+        (λ _. Keeps branch (seen_command command.now) reply.now) }
 {
     take_numbers(tx, Count::Of(branch, CountKind::Kept), 1)?;
     put_kept(tx, Owner::Branch(branch), &command.key, form, reply)?;
@@ -102,12 +90,8 @@ fn next_number<const KIND: u8, S: Alter>(
     branch: BranchNo,
     kind: CountKind,
 ) -> Result<RowNumber<KIND>, StoreFault>
-    ensures inside { StaysWithin S.Store tx.old.conn tx.new.conn result }
-    ensures taken { HasCleanDisk (state S.Store tx.new.conn.now)
-        → IfOk result (λ number. Tallies (state S.Store tx.old.conn.now) (state S.Store tx.new.conn.now)
-        (CountsOnce branch kind) (raise branch (kind_number kind) 1)
-        (λ counts. map (λ it. it.last + 1) (filter (is_count branch (kind_number kind)) counts.counters) ≡ number
-        ∷ [])) }
+    ensures { DoesWithin S.Store tx.old.conn tx.new.conn result
+        (Takes branch kind) }
 {
     let number = take_numbers(tx, Count::Of(branch, kind), 1)?;
     match RowNumber::new(number) {
@@ -134,11 +118,9 @@ fn add_customer<S: Alter>(
     command: &Command,
     person: &Person,
 ) -> Result<String, StoreFault>
-    ensures inside { StaysWithin S.Store tx.old.conn tx.new.conn result }
-    ensures acted { HasCleanDisk (state S.Store tx.new.conn.now)
-        → IfOk result (λ text. (rules : model.Rules) (found : RowsFound) → IsActed rules branch
-        (seen_command command.now) (model.AddCustomer (seen_person person.now)) found (string_bytes text)
-        (state S.Store tx.old.conn.now) (state S.Store tx.new.conn.now)) }
+    ensures { DoesWithin S.Store tx.old.conn tx.new.conn result
+        (λ text. Acts branch (seen_command command.now) (model.AddCustomer (seen_person person.now)) (λ _. ⊤)
+        (string_bytes text)) }
 {
     let customer = new_customer(person, command.at)?;
     let number = next_number(tx, branch, CountKind::Customers)?;
@@ -158,11 +140,8 @@ fn put_active<S: Alter>(
     customer: CustomerNo,
     active: bool,
 ) -> Result<String, StoreFault>
-    ensures inside { StaysWithin S.Store tx.old.conn tx.new.conn result }
-    ensures acted { HasCleanDisk (state S.Store tx.new.conn.now)
-        → IfOk result (λ text. (rules : model.Rules) (command : model.Command) (found : RowsFound) → IsActed rules
-        branch command (model.SetActive customer active) found (string_bytes text) (state S.Store tx.old.conn.now)
-        (state S.Store tx.new.conn.now)) }
+    ensures { DoesWithin S.Store tx.old.conn tx.new.conn result
+        (λ text. ActsAlways branch (model.SetActive customer active) (λ _. ⊤) (string_bytes text)) }
 {
     set_active(tx, branch, customer, active)?;
     Ok(active_text(alloc, customer, active)?)
@@ -179,11 +158,9 @@ fn add_rental<S: Alter>(
     copy: CopyNo,
     found: Option<CopyFound>,
 ) -> Result<String, StoreFault>
-    ensures inside { StaysWithin S.Store tx.old.conn tx.new.conn result }
-    ensures acted { HasCleanDisk (state S.Store tx.new.conn.now)
-        → IfOk result (λ text. (rules : model.Rules) (rows : RowsFound) → rows.copy ≡ found → IsActed rules branch
-        (seen_command command.now) (model.Rent customer copy) rows (string_bytes text)
-        (state S.Store tx.old.conn.now) (state S.Store tx.new.conn.now)) }
+    ensures { DoesWithin S.Store tx.old.conn tx.new.conn result
+        (λ text. Acts branch (seen_command command.now) (model.Rent customer copy) (λ rows. rows.copy ≡ found)
+        (string_bytes text)) }
 {
     let Some(found) = found else {
         return Err(StoreFault::Failed);
@@ -221,11 +198,9 @@ fn take_back<S: Alter>(
     rental: RentalNo,
     found: Option<RentalFound>,
 ) -> Result<String, StoreFault>
-    ensures inside { StaysWithin S.Store tx.old.conn tx.new.conn result }
-    ensures acted { HasCleanDisk (state S.Store tx.new.conn.now)
-        → IfOk result (λ text. (rules : model.Rules) (rows : RowsFound) → rows.rental ≡ found → IsActed rules branch
-        (seen_command command.now) (model.TakeBack rental) rows (string_bytes text)
-        (state S.Store tx.old.conn.now) (state S.Store tx.new.conn.now)) }
+    ensures { DoesWithin S.Store tx.old.conn tx.new.conn result
+        (λ text. Acts branch (seen_command command.now) (model.TakeBack rental) (λ rows. rows.rental ≡ found)
+        (string_bytes text)) }
 {
     let Some(found) = found else {
         return Err(StoreFault::Failed);
@@ -244,11 +219,9 @@ fn add_payment<S: Alter>(
     rental: Option<RentalNo>,
     amount: Amount,
 ) -> Result<String, StoreFault>
-    ensures inside { StaysWithin S.Store tx.old.conn tx.new.conn result }
-    ensures acted { HasCleanDisk (state S.Store tx.new.conn.now)
-        → IfOk result (λ text. (rules : model.Rules) (found : RowsFound) → IsActed rules branch
-        (seen_command command.now) (model.Pay customer rental amount) found (string_bytes text)
-        (state S.Store tx.old.conn.now) (state S.Store tx.new.conn.now)) }
+    ensures { DoesWithin S.Store tx.old.conn tx.new.conn result
+        (λ text. Acts branch (seen_command command.now) (model.Pay customer rental amount) (λ _. ⊤)
+        (string_bytes text)) }
 {
     let number = next_number(tx, branch, CountKind::Payments)?;
     let payment = Payment {
@@ -273,11 +246,8 @@ fn scrap<S: Alter>(
     branch: BranchNo,
     copy: CopyNo,
 ) -> Result<String, StoreFault>
-    ensures inside { StaysWithin S.Store tx.old.conn tx.new.conn result }
-    ensures acted { HasCleanDisk (state S.Store tx.new.conn.now)
-        → IfOk result (λ text. (rules : model.Rules) (command : model.Command) (found : RowsFound) → IsActed rules
-        branch command (model.Scrap copy) found (string_bytes text) (state S.Store tx.old.conn.now)
-        (state S.Store tx.new.conn.now)) }
+    ensures { DoesWithin S.Store tx.old.conn tx.new.conn result
+        (λ text. ActsAlways branch (model.Scrap copy) (λ _. ⊤) (string_bytes text)) }
 {
     set_state(tx, branch, copy, CopyState::Scrapped)?;
     Ok(scrapped_text(alloc, copy)?)

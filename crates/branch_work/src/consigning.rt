@@ -1,21 +1,17 @@
 //! How copies go from branch to branch: a dispatch sends listed copies off as the lines of a consignment, and a
 //! receipt makes copies of the lines that came.
 
-ghost use Rattle.std.specs.Prelude.{◌≡◌, ⊤, ◌+◌, ◌≤◌, ◌++◌, length, map, string_bytes, IfOk, OnOk};
-ghost use Rattle.sqlite.specs.Held.{state};
-ghost use Rattle.sqlite.specs.State.{HasCleanDisk};
-ghost use Rattle.sql_rows.specs.Calls.{StaysWithin};
+ghost use Rattle.std.specs.Prelude.{◌≡◌, ⊤, ◌+◌, ◌≤◌, ◌++◌, length, map, string_bytes, IfOk};
+ghost use Rattle.sql_rows.specs.Calls.{DoesWithin};
 ghost use Rattle.shop_model.specs.Rows.{AreNumbered, is_of, set_rows};
 ghost use Rattle.shop_model.specs.Values as model;
 ghost use Rattle.shop_model.specs.Books.{put_state};
-ghost use Rattle.shop_schema.specs.Calls.{Stores};
-ghost use Rattle.shop_schema.specs.Shop.{Writes};
 ghost use Rattle.shop_store.specs.Seen.{seen_copy_row};
 ghost use Rattle.branch_core.specs.Consigned.{come_copy, made_from};
-ghost use Rattle.branch_work.specs.Added.{IsActed};
+ghost use Rattle.branch_work.specs.Acts.{ActsAlways, Makes};
 
 use crate::importing::first_of;
-use branch_core::{ArrivalFound, RowsFound, arrived_lines};
+use branch_core::{ArrivalFound, arrived_lines};
 use consign_store::{
     ConsignmentKey, DispatchPlace, last_place, mark_received, put_consignment, take_pair,
 };
@@ -37,11 +33,9 @@ pub fn dispatch<S: Alter>(
     copies: &[CopyNo],
     lines: &Option<ParcelLines>,
 ) -> Result<String, StoreFault>
-    ensures inside { StaysWithin S.Store tx.old.conn tx.new.conn result }
-    ensures acted { HasCleanDisk (state S.Store tx.new.conn.now)
-        → IfOk result (λ text. (rules : model.Rules) (command : model.Command) (found : RowsFound)
-        → found.listed.lines ≡ lines.now → IsActed rules branch command (model.Dispatch to copies.now) found
-        (string_bytes text) (state S.Store tx.old.conn.now) (state S.Store tx.new.conn.now)) }
+    ensures { DoesWithin S.Store tx.old.conn tx.new.conn result
+        (λ text. ActsAlways branch (model.Dispatch to copies.now) (λ found. found.listed.lines ≡ lines.now)
+        (string_bytes text)) }
 {
     let Some(lines) = lines else {
         return Err(StoreFault::Failed);
@@ -78,10 +72,9 @@ fn set_sent<S: Alter>(
     branch: BranchNo,
     copies: &[CopyNo],
 ) -> Result<(), StoreFault>
-    ensures inside { StaysWithin S.Store tx.old.conn tx.new.conn result }
-    ensures set { Stores (state S.Store tx.old.conn.now) (state S.Store tx.new.conn.now) result
-        (λ books. AreNumbered (is_of branch) (λ row. row.number) books.copies)
-        (λ books. record books { copies = set_rows branch copies.now (put_state model.Sent) books.copies }) }
+    ensures { DoesWithin S.Store tx.old.conn tx.new.conn result
+        (λ _. Makes (λ books. AreNumbered (is_of branch) (λ row. row.number) books.copies)
+        (λ books. record books { copies = set_rows branch copies.now (put_state model.Sent) books.copies })) }
 {
     for copy in copies {
         set_state(tx, branch, *copy, CopyState::Sent)?;
@@ -100,11 +93,9 @@ pub fn receive<S: Alter>(
     missing: &[LineNo],
     arrival: &Option<ArrivalFound>,
 ) -> Result<String, StoreFault>
-    ensures inside { StaysWithin S.Store tx.old.conn tx.new.conn result }
-    ensures acted { HasCleanDisk (state S.Store tx.new.conn.now)
-        → IfOk result (λ text. (rules : model.Rules) (command : model.Command) (found : RowsFound) → found.arrival
-        ≡ arrival.now → IsActed rules branch command (model.Receive from number missing.now) found
-        (string_bytes text) (state S.Store tx.old.conn.now) (state S.Store tx.new.conn.now)) }
+    ensures { DoesWithin S.Store tx.old.conn tx.new.conn result
+        (λ text. ActsAlways branch (model.Receive from number missing.now) (λ found. found.arrival ≡ arrival.now)
+        (string_bytes text)) }
 {
     let Some(arrival) = arrival else {
         return Err(StoreFault::Failed);
@@ -136,9 +127,9 @@ fn put_come<S: Alter>(
 ) -> Result<(), StoreFault>
     requires first { first ≤ 1_000_001 }
     requires few { length come.now ≤ 100 }
-    ensures inside { StaysWithin S.Store tx.old.conn tx.new.conn result }
-    ensures put { Stores (state S.Store tx.old.conn.now) (state S.Store tx.new.conn.now) result (λ _. ⊤)
-        (λ books. record books { copies = books.copies ++ made_from branch first (map come_copy come.now) }) }
+    ensures { DoesWithin S.Store tx.old.conn tx.new.conn result
+        (λ _. Makes (λ _. ⊤)
+        (λ books. record books { copies = books.copies ++ made_from branch first (map come_copy come.now) })) }
 {
     let mut number = first.get();
     for line in come {

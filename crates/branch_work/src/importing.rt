@@ -1,19 +1,14 @@
 //! How the copies of an import are written and counted.
 
 ghost use Rattle.std.specs.Prelude.{◌≡◌, ⊤, ◌+◌, ◌≤◌, ◌++◌, map, replicate, string_bytes, vec_len, IfOk, OnOk};
-ghost use Rattle.sqlite.specs.Held.{state};
-ghost use Rattle.sqlite.specs.State.{HasCleanDisk};
-ghost use Rattle.sql_rows.specs.Calls.{StaysWithin};
-ghost use Rattle.shop_model.specs.Values as model;
-ghost use Rattle.shop_model.specs.Machine.{films_in};
+ghost use Rattle.sql_rows.specs.Calls.{DoesWithin};
 ghost use Rattle.shop_model.specs.Books.{imported};
-ghost use Rattle.shop_schema.specs.Calls.{Stores};
-ghost use Rattle.shop_schema.specs.Shop.{Writes};
 ghost use Rattle.shop_store.specs.Seen.{seen_copy_row};
 ghost use Rattle.branch_core.specs.StockLists.{copies_of, films_of};
-ghost use Rattle.branch_work.specs.Added.{IsActed, copies_from};
+ghost use Rattle.branch_work.specs.Added.{copies_from};
+ghost use Rattle.branch_work.specs.Acts.{Imports, Makes};
 
-use branch_core::{RowsFound, StockFound, copies_in};
+use branch_core::{StockFound, copies_in};
 use shop_ledger::{Count, CountKind, take_numbers};
 use shop_store::{CopyRow, CopyState, put_copy, put_lot};
 use shop_types::{BranchNo, CopyNo, FilmNo, LotName, Mark};
@@ -31,12 +26,8 @@ pub fn import<S: Alter>(
     stock: &[StockFound],
 ) -> Result<String, StoreFault>
     requires few { copies_of stock.now ≤ 1_000 }
-    ensures inside { StaysWithin S.Store tx.old.conn tx.new.conn result }
-    ensures acted { HasCleanDisk (state S.Store tx.new.conn.now)
-        → IfOk result (λ text. (rules : model.Rules) (command : model.Command) (file : model.Text) (found : RowsFound)
-        → films_of stock.now ≡ films_in (rules.stock_of file) → IsActed rules branch command
-        (model.Import lot.now file) found (string_bytes text) (state S.Store tx.old.conn.now)
-        (state S.Store tx.new.conn.now)) }
+    ensures { DoesWithin S.Store tx.old.conn tx.new.conn result
+        (λ text. Imports branch lot.now (films_of stock.now) (string_bytes text)) }
 {
     let count = copies_in(stock);
     let last = take_numbers(tx, Count::Of(branch, CountKind::Copies), count)?;
@@ -118,9 +109,8 @@ fn new_copy(branch: BranchNo, number: u32, film: FilmNo) -> CopyRow
 
 /// Writes the copies, in their order.
 fn put_copies<S: Alter>(tx: &mut Transaction<'_, S>, copies: &[CopyRow]) -> Result<(), StoreFault>
-    ensures inside { StaysWithin S.Store tx.old.conn tx.new.conn result }
-    ensures put { Stores (state S.Store tx.old.conn.now) (state S.Store tx.new.conn.now) result (λ _. ⊤)
-        (λ books. record books { copies = books.copies ++ map seen_copy_row copies.now }) }
+    ensures { DoesWithin S.Store tx.old.conn tx.new.conn result
+        (λ _. Makes (λ _. ⊤) (λ books. record books { copies = books.copies ++ map seen_copy_row copies.now })) }
 {
     for row in copies {
         put_copy(tx, *row)?;

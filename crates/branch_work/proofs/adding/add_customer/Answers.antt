@@ -1,6 +1,6 @@
 use Rattle.std.proofs.Common.{◌≡◌, ◌≤◌, ◌∙◌, ◌∷◌, ◌++◌, [], ℕ, true, ap, subst, arith, codes, decimal}
 use Rattle.sqlite.specs.Held.{state}
-use Rattle.sqlite.specs.State.{HasCleanDisk}
+use Rattle.sql_rows.proofs.Chaining.{and_then, call, done, some_calls}
 use Rattle.shop_model.specs.Json.{object}
 use Rattle.shop_model.specs.Rows.{next}
 use Rattle.shop_model.specs.Values.{Customer}
@@ -12,18 +12,15 @@ use Rattle.shop_ledger.proofs.CountsOf.{beside, held_once, told_more}
 use Rattle.branch_work.proofs.Counting.{customer_added}
 use Rattle.branch_work.proofs.adding.add_customer.Goals as goal
 
-pub returns-clause-acted : goal.returns-clause-acted
-returns-clause-acted g c = λ clean rules found books holds held agrees marked.
+pub returns : goal.returns
+returns g c = done (and_then (some_calls c.in_ok-number.ensures) (call c.in_ok-put_customer.ensures.inside c.in_ok-put_customer.ensures.put)) (λ said rules found given books holds held agrees marked.
     let b = c.args.branch in
     let low : 1 ≤ b = omega arith in
-    let s0 = state g.S.Store c.args.tx.now.conn.now in
-    let s1 = state g.S.Store c.next_number.new.tx.conn.now in
-    let s2 = state g.S.Store c.put_customer.new.tx.conn.now in
     let n = c.in_ok-number.number in
-    let clean1 : HasCleanDisk s1 = omega (arith, clean, c.put_customer.ensures.inside.survives.clean) in
-    let taken = c.in_ok-number.ensures.taken clean1 (counts_of books) books (beside s0 books holds) (held_once books held kind.Customers b low) in
+    let taken = said.0 (counts_of books) books (beside _ books holds) (held_once books held kind.Customers b low) in
     let is : n ≡ next b books.customers = told_more b 0 1 books n low taken.1 in
-    let put = c.in_ok-put_customer.ensures.put clean (raise b 0 1 (counts_of books)) books taken.0 tt in
+    let put = said.1 (raise b 0 1 (counts_of books)) books taken.0 tt in
+    let s = state g.S.Store c.put_customer.new.tx.conn.now in
     let row : Customer = record { person = seen_person c.args.person.now; active = true; created = c.args.command.now.at } in
     let same : seen_customer c.in_ok-customer.customer ≡ row = ap seen_customer c.in_ok-customer.ensures in
-    (customer_added s2 b books low holds.stands.more.termed n row is (subst (λ (it : Customer). HoldsWith (raise b 0 1 (counts_of books)) s2 (record books { customers = books.customers ++ record { branch = b; number = n; it = it } ∷ [] })) same put), c.in_ok-new_customer_text.ensures ∙ ap (λ (m : ℕ). object ((codes "customer", decimal m) ∷ [])) is, tt)
+    (customer_added _ b books low holds.stands.more.termed n row is (subst (λ (it : Customer). HoldsWith (raise b 0 1 (counts_of books)) s (record books { customers = books.customers ++ record { branch = b; number = n; it = it } ∷ [] })) same put), c.in_ok-new_customer_text.ensures ∙ ap (λ (m : ℕ). object ((codes "customer", decimal m) ∷ [])) is, tt))

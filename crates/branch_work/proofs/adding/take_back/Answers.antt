@@ -1,6 +1,5 @@
-use Rattle.std.proofs.Common.{◌∙◌, sym, ap, arith, option_map, Some}
-use Rattle.sqlite.specs.Held.{state}
-use Rattle.sqlite.specs.State.{HasCleanDisk}
+use Rattle.std.proofs.Common.{◌∙◌, sym, ap, option_map, Some}
+use Rattle.sql_rows.proofs.Chaining.{and_then, call, done}
 use Rattle.shop_model.specs.Values.{Rental}
 use Rattle.shop_schema.specs.Counts.{counts_of, drop_out}
 use Rattle.shop_ledger.proofs.CountsOf.{agreed, beside}
@@ -10,17 +9,13 @@ use Rattle.branch_work.proofs.Acted.{copy_found}
 use Rattle.branch_work.proofs.TermLemmas.{set_termed}
 use Rattle.branch_work.proofs.adding.take_back.Goals as goal
 
-pub returns-clause-acted : goal.returns-clause-acted
-returns-clause-acted g c = λ clean rules rows same books holds held agrees marked.
+pub returns : goal.returns
+returns g c = done (and_then (call c.in_ok-set_returned.ensures.inside c.in_ok-set_returned.ensures.set) (call c.in_ok-drop_out.ensures.inside c.in_ok-drop_out.ensures.dropped)) (λ said rules rows same books holds held agrees marked.
     let b = c.args.branch in
     let r = c.args.rental in
     let x = c.in-Some.found.copy in
     let m = c.args.command.now.at in
-    let s0 = state g.S.Store c.args.tx.now.conn.now in
-    let s1 = state g.S.Store c.set_returned.new.tx.conn.now in
-    let s2 = state g.S.Store c.drop_out.new.tx.conn.now in
-    let clean1 : HasCleanDisk s1 = omega (arith, clean, c.drop_out.ensures.inside.survives.clean) in
-    let set = c.in_ok-set_returned.ensures.set clean1 (counts_of books) books (beside s0 books holds) held in
+    let set = said.0 (counts_of books) books (beside _ books holds) held in
     let copy = copy_found b r c.in-Some.found books held (ap (option_map seen_rental) (sym (same ∙ c.in-Some.is)) ∙ agrees) in
-    let dropped = c.in_ok-drop_out.ensures.dropped clean (counts_of books) _ set (out_once b r x books copy) in
-    (agreed s2 _ (drop_out b x r (counts_of books)) (returned_counted b r x m books (its_rentals b r x books.rentals copy)) (set_termed b r (λ (it : Rental). record it { returned = Some m }) books holds.stands.more.termed) dropped.0, c.in_ok-returned_text.ensures, tt)
+    let dropped = said.1 (counts_of books) _ set (out_once b r x books copy) in
+    (agreed _ _ (drop_out b x r (counts_of books)) (returned_counted b r x m books (its_rentals b r x books.rentals copy)) (set_termed b r (λ (it : Rental). record it { returned = Some m }) books holds.stands.more.termed) dropped.0, c.in_ok-returned_text.ensures, tt))

@@ -1,7 +1,7 @@
-use Rattle.std.proofs.Common.{◌≡◌, ◌∙◌, ◌+◌, ℕ, List, [], Option, length, map, filter, ap, sym, subst, arith}
+use Rattle.std.proofs.Common.{◌≡◌, ◌∙◌, ◌+◌, ℕ, List, [], Option, length, map, filter, ap, sym, subst}
 use Rattle.std.specs.Prelude.{IfSome}
 use Rattle.sqlite.specs.Held.{state}
-use Rattle.sqlite.specs.State.{HasCleanDisk}
+use Rattle.sql_rows.proofs.Chaining.{and_then, call, done, some_calls}
 use Rattle.shop_model.specs.Books.{between, is_consignment}
 use Rattle.shop_types.specs.declared.parcel.ParcelLine.{ParcelLine}
 use Rattle.shop_types.specs.Seen.{seen_parcel_line}
@@ -15,33 +15,31 @@ use Rattle.branch_core.proofs.ConsignedBooks.{dispatch_acted, dispatch_told}
 use Rattle.branch_work.proofs.ConsignLemmas.{dispatch_added}
 use Rattle.branch_work.proofs.consigning.dispatch.Goals as goal
 
-pub returns-clause-acted : goal.returns-clause-acted
-returns-clause-acted g c = λ clean rules command found same books holds held agrees marked.
+pub returns : goal.returns
+returns g c = done
+    (and_then (call c.in_ok-last.ensures.inside c.in_ok-last.ensures.last)
+    (and_then (call c.in_ok-number.ensures.inside c.in_ok-number.ensures.taken)
+    (and_then (call c.in_ok-put_consignment.ensures.inside c.in_ok-put_consignment.ensures.put)
+    (some_calls c.in_ok-set_sent.ensures))))
+    (λ said command rules found same books holds held agrees marked.
     let b = c.args.branch in
     let to = c.args.to in
     let xs = c.args.copies.now in
     let lines = c.in-Some.lines in
     let n = c.in_ok-number.number in
     let place = c.in_ok-place.place in
-    let s1 = state g.S.Store c.last_place.new.tx.conn.now in
-    let s2 = state g.S.Store c.take_pair.new.tx.conn.now in
-    let s3 = state g.S.Store c.put_consignment.new.tx.conn.now in
-    let s4 = state g.S.Store c.set_sent.new.tx.conn.now in
-    let clean3 : HasCleanDisk s3 = omega (arith, clean, c.set_sent.ensures.inside.survives.clean) in
-    let clean2 : HasCleanDisk s2 = omega (arith, clean3, c.put_consignment.ensures.inside.survives.clean) in
-    let clean1 : HasCleanDisk s1 = omega (arith, clean2, c.take_pair.ensures.inside.survives.clean) in
-    let last = c.in_ok-last.ensures.last clean1 books holds held in
-    let taken = c.in_ok-number.ensures.taken clean2 (counts_of books) books (beside s1 books last.0) (pairs_once b to books held) in
+    let s = state g.S.Store c.set_sent.new.tx.conn.now in
+    let last = said.0 books holds held in
+    let taken = said.1.0 (counts_of books) books (beside _ books last.0) (pairs_once b to books held) in
     let next : n ≡ length (between b to books.consignments) + 1 = taken.1 ∙ ap (λ (k : ℕ). k + 1) (pair_last b to books) in
     let behind : place ≡ length books.consignments + 1 = c.in_ok-place.ensures ∙ ap (λ (k : ℕ). k + 1) last.1 in
     let counts = add_pair b to (counts_of books) in
     let new : filter (is_consignment b to n) books.consignments ≡ [] =
     subst (λ (k : ℕ). filter (is_consignment b to k) books.consignments ≡ []) (sym next) (next_is_new b to books held) in
-    let put = c.in_ok-put_consignment.ensures.put clean3 counts books taken.0 new in
-    let set = c.in_ok-set_sent.ensures.set clean counts _ put (held.numbers.copies b) in
+    let set = said.1.1.1 counts _ (said.1.1.0 counts books taken.0 new) (held.numbers.copies b) in
     let are : map seen_parcel_line lines ≡ parts_at b xs books =
     subst (λ (it : Option (List ParcelLine)). IfSome it (λ ls. map seen_parcel_line ls ≡ parts_at b xs books)) (same ∙ c.in-Some.is) marked in (
-      subst (Holds s4) (dispatch_acted rules b command to xs lines books held.numbers are) (dispatch_added s4 b to xs lines n place books next behind holds.stands.more.termed set),
+      subst (Holds s) (dispatch_acted rules b command to xs lines books held.numbers are) (dispatch_added s b to xs lines n place books next behind holds.stands.more.termed set),
       c.in_ok-dispatch_text.ensures ∙ ap (λ (k : ℕ). dispatch_text k to) next ∙ dispatch_told rules b to xs books,
       tt,
-    )
+    ))

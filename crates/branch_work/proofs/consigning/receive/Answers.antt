@@ -1,7 +1,8 @@
 use Rattle.std.proofs.Common.{◌≡◌, ◌∙◌, ◌≤◌, ◌++◌, ◌∷◌, [], ℕ, List, Option, Some, length, map, filter, ap, sym, subst, arith}
 use Rattle.std.specs.Prelude.{IfSome}
 use Rattle.sqlite.specs.Held.{state}
-use Rattle.sqlite.specs.State.{HasCleanDisk}
+use Rattle.sql_rows.proofs.Chaining.{and_then, call, done, some_calls}
+use Rattle.sql_rows.proofs.Stays.{within_as}
 use Rattle.shop_model.specs.Rows.{arrived, next, update_where}
 use Rattle.shop_model.specs.Books.{Consignment, checked, is_consignment}
 use Rattle.shop_model.proofs.RowLemmas.{length_map}
@@ -29,8 +30,12 @@ few_read missing read come lines come_is is few =
     let short = few_lines read lines is few in
     omega (arith, less, same, short)
 
-pub returns-clause-acted : goal.returns-clause-acted
-returns-clause-acted g c = λ clean rules command found same books holds held agrees marked.
+pub returns : goal.returns
+returns g c = done
+    (and_then (call c.in_ok-last.ensures.inside c.in_ok-last.ensures.taken)
+    (and_then (some_calls c.in_ok-put_come.ensures)
+    (record { Said = _; inside = within_as c.in_ok-mark_received.ensures.inside; said = c.in_ok-mark_received.ensures.set })))
+    (λ said command rules found same books holds held agrees marked.
     let b = c.args.branch in
     let low : 1 ≤ b = omega arith in
     let source = c.args.from in
@@ -40,30 +45,24 @@ returns-clause-acted g c = λ clean rules command found same books holds held ag
     let come = arrived missing it.lines in
     let first = c.in_ok-first.first in
     let m = length c.as_slice-come.result.now in
-    let s0 = state g.S.Store c.args.tx.now.conn.now in
-    let s1 = state g.S.Store c.take_numbers.new.tx.conn.now in
-    let s2 = state g.S.Store c.put_come.new.tx.conn.now in
-    let s3 = state g.S.Store c.mark_received.new.tx.conn.now in
-    let clean2 : HasCleanDisk s2 = omega (arith, clean, c.mark_received.ensures.inside.survives.clean) in
-    let clean1 : HasCleanDisk s1 = omega (arith, clean2, c.put_come.ensures.inside.survives.clean) in
+    let s = state g.S.Store c.mark_received.new.tx.conn.now in
     let counts = raise b 1 m (counts_of books) in
     let slice : c.as_slice-come.result.now ≡ come = c.as_slice-come.ensures.value ∙ c.in-Ok.ensures in
     let all : m ≡ length come = ap (λ (ls : List ParcelLine). length ls) slice in
     let known : IsArrival b source n (Some it) books = subst (λ (o : Option ArrivalFound). IsArrival b source n o books) (same ∙ c.in-Some.is) marked in
-    let taken = c.in_ok-last.ensures.taken clean1 (counts_of books) books (beside s0 books holds) (held_once books held kind.Copies b low) in
+    let taken = said.0 (counts_of books) books (beside _ books holds) (held_once books held kind.Copies b low) in
     let last = told_more b 1 m books c.in_ok-last.last low taken.1 in
     let is : first ≡ next b books.copies = omega (arith, last, c.in_ok-first.ensures.first) in
-    let put = c.in_ok-put_come.ensures.put clean2 counts books taken.0 tt in
     let many : map (λ (it : Consignment). length it.lines) (filter (is_consignment source b n) books.consignments) ≡ length c.as_slice-lines.result.now ∷ [] =
     so_many b source n it books known ∙ ap (λ (ls : List ParcelLine). length ls ∷ []) (sym c.as_slice-lines.ensures.value) in
-    let received = c.in_ok-mark_received.ensures.set clean counts _ put many in
-    let rows = subst (λ (ls : List ParcelLine). HoldsWith counts s3 (record books { copies = books.copies ++ come_rows b first ls; consignments = update_where (is_consignment source b n) (checked missing) books.consignments })) slice received in
+    let received = said.1.1 counts _ (said.1.0 counts books taken.0 tt) many in
+    let rows = subst (λ (ls : List ParcelLine). HoldsWith counts s (record books { copies = books.copies ++ come_rows b first ls; consignments = update_where (is_consignment source b n) (checked missing) books.consignments })) slice received in
     let films : List ℕ = map (λ (line : ParcelLine). line.film) come in
     let films_many : length films ≡ length come = length_map (λ (line : ParcelLine). line.film) come in (
-      subst (Holds s3) (receipt_acted rules b source n missing books it known command) (receipt_added b books low s3 source n first m it.lines missing is all holds.stands.more.termed rows),
+      subst (Holds s) (receipt_acted rules b source n missing books it known command) (receipt_added b books low s source n first m it.lines missing is all holds.stands.more.termed rows),
       c.in_ok-receipt_text.ensures films (films_many ∙ sym all) ∙ ap (λ (k : ℕ). receipt_text k films) (c.get.ensures.value ∙ is) ∙ receipt_told rules b source n missing books it known held.numbers films films_many,
       subst (λ (o : Option ArrivalFound). IfSome o (λ it. length it.lines ≤ 100)) (sym (same ∙ c.in-Some.is)) (few_lines c.as_slice-lines.result.now it.lines c.as_slice-lines.ensures.value c.as_slice-lines.ensures.few),
-    )
+    ))
 
 pub overflow_cast-count : goal.overflow_cast-count
 overflow_cast-count g c =

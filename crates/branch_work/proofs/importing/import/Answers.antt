@@ -1,6 +1,6 @@
 use Rattle.std.proofs.Common.{◌≡◌, ◌≤◌, ◌+◌, ◌∙◌, ◌++◌, ◌∷◌, [], ℕ, List, codes, decimal, ap, sym, subst, arith, length, map}
 use Rattle.sqlite.specs.Held.{state}
-use Rattle.sqlite.specs.State.{HasCleanDisk}
+use Rattle.sql_rows.proofs.Chaining.{and_then, call, done, some_calls}
 use Rattle.shop_model.specs.Json.{object}
 use Rattle.shop_model.specs.Rows.{Row, next, of}
 use Rattle.shop_model.specs.Values.{Text}
@@ -21,31 +21,29 @@ use Rattle.branch_work.proofs.importing.import.Goals as goal
 abbrev import_text : ℕ → ℕ → Text
 import_text count first = object ((codes "copies", decimal count) ∷ (codes "first", decimal first) ∷ [])
 
-pub returns-clause-acted : goal.returns-clause-acted
-returns-clause-acted g c = λ clean rules command file found same books holds held agrees marked.
+pub returns : goal.returns
+returns g c = done
+    (and_then (call c.in_ok-last.ensures.inside c.in_ok-last.ensures.taken)
+    (and_then (some_calls c.in_ok-put_copies.ensures)
+    (call c.in_ok-put_lot.ensures.inside c.in_ok-put_lot.ensures.put)))
+    (λ said rules command file found same books holds held agrees marked.
     let b = c.args.branch in
     let low : 1 ≤ b = omega arith in
-    let s0 = state g.S.Store c.args.tx.now.conn.now in
-    let s1 = state g.S.Store c.take_numbers.new.tx.conn.now in
-    let s2 = state g.S.Store c.put_copies.new.tx.conn.now in
-    let s3 = state g.S.Store c.put_lot.new.tx.conn.now in
-    let clean2 : HasCleanDisk s2 = omega (arith, clean, c.put_lot.ensures.inside.survives.clean) in
-    let clean1 : HasCleanDisk s1 = omega (arith, clean2, c.put_copies.ensures.inside.survives.clean) in
+    let s = state g.S.Store c.put_lot.new.tx.conn.now in
     let films = films_of c.args.stock.now in
     let m = c.copies_in-count.result in
     let first = c.in_ok-first.first in
     let counts = raise b 1 m (counts_of books) in
     let all : m ≡ length films = c.copies_in-count.ensures ∙ sym (length_films c.args.stock.now) in
-    let taken = c.in_ok-last.ensures.taken clean1 (counts_of books) books (beside s0 books holds) (held_once books held kind.Copies b low) in
+    let taken = said.0 (counts_of books) books (beside _ books holds) (held_once books held kind.Copies b low) in
     let last = told_more b 1 m books c.in_ok-last.last low taken.1 in
     let is : first ≡ next b books.copies = omega (arith, last, c.in_ok-first.ensures.first) in
     let next_is : length (map unmarked (of b books.copies)) + 1 ≡ next b books.copies = ap (λ (n : ℕ). n + 1) (length_map unmarked (of b books.copies)) in
-    let put = c.in_ok-put_copies.ensures.put clean2 counts books taken.0 tt in
-    let lot = c.in_ok-put_lot.ensures.put clean counts _ put tt in
+    let lot = said.1.1 counts _ (said.1.0 counts books taken.0 tt) tt in
     let rows : map seen_copy_row c.as_slice.result.now ≡ copies_from b first films = ap (map seen_copy_row) c.as_slice.ensures.value ∙ c.in_ok-copies.ensures in (
-      subst (λ (fs : List ℕ). Holds s3 (with_import b fs c.args.lot.now books)) same
-          (import_added s3 b books low holds.stands.more.termed first m films c.args.lot.now is all
-          (subst (λ (rs : List (Row BookCopy)). HoldsWith counts s3 (record books { copies = books.copies ++ rs; lots = books.lots ++ record { owner = b; it = c.args.lot.now } ∷ [] })) rows lot)),
+      subst (λ (fs : List ℕ). Holds s (with_import b fs c.args.lot.now books)) same
+          (import_added s b books low holds.stands.more.termed first m films c.args.lot.now is all
+          (subst (λ (rs : List (Row BookCopy)). HoldsWith counts s (record books { copies = books.copies ++ rs; lots = books.lots ++ record { owner = b; it = c.args.lot.now } ∷ [] })) rows lot)),
       c.in_ok-new_copies_text.ensures ∙ (λ i. import_text ((all ∙ ap (λ (fs : List ℕ). length fs) same) i) ((is ∙ sym next_is) i)),
       tt,
-    )
+    ))

@@ -1,14 +1,11 @@
 use Rattle.std.proofs.Common.{◌++◌, Ok, take, map}
 use Rattle.std.specs.Prelude.{⊤}
-use Rattle.sqlite.specs.Held.{state}
-use Rattle.sqlite.specs.State.{HasCleanDisk}
-use Rattle.sql_rows.specs.Calls.{StaysWithin}
+use Rattle.sql_rows.specs.Calls.{DoesWithin}
 use Rattle.sql_rows.specs.declared.fault.StoreFault.{StoreFault}
-use Rattle.shop_schema.specs.Shop.{Writes}
 use Rattle.shop_store.specs.Seen.{seen_copy_row}
+use Rattle.branch_work.specs.Acts.{Makes}
 use Rattle.branch_work.proofs.importing.put_copies.Given as goal
 
 abbrev pub invariant-loop-row : goal.invariant-loop-row
 invariant-loop-row g l =
-    StaysWithin {X = ⊤} {E = StoreFault} g.S.Store l.fn.tx.conn l.tx.conn (Ok tt)
-    × (HasCleanDisk (state g.S.Store l.tx.conn.now) → Writes (state g.S.Store l.fn.tx.conn.now) (state g.S.Store l.tx.conn.now) (λ _. ⊤) (λ books. record books { copies = books.copies ++ map seen_copy_row (take l.row-index l.copies) }))
+    DoesWithin {X = ⊤} {E = StoreFault} g.S.Store l.fn.tx.conn l.tx.conn (Ok tt) (λ _. Makes (λ _. ⊤) (λ books. record books { copies = books.copies ++ map seen_copy_row (take l.row-index l.copies) }))
