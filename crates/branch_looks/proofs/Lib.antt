@@ -1,2 +1,3 @@
 pub use Rattle.branch_reports.proofs.Decisions
 pub mod Shows
+pub mod Telling

@@ -1,5 +1,5 @@
 -- Who has a copy, as it is shown.
-use Rattle.std.proofs.Common.{◌≡◌, refl, ℕ, ◌-◌, List, [], ◌∷◌}
+use Rattle.std.proofs.Common.{◌≡◌, refl, ℕ, List, [], ◌∷◌}
 use Rattle.std.specs.Option.{option_to_list}
 use Rattle.shop_model.specs.Answers.{holder_text}
 use Rattle.shop_model.specs.Books.{head}

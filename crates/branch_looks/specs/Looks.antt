@@ -1,29 +1,65 @@
 -- What a branch's reading shows.
-use Rattle.std.specs.Prelude.{ℕ, Bool, true, false, List}
+use Rattle.std.specs.Prelude.{◌≡◌, ⊤, ℕ, Bool, true, false, List, Result, Ok, Err}
+use Rattle.std.specs.Borrow.{MutBor}
+use Rattle.sqlite_trees.specs.declared.store.Store.{Ghosts}
+use Rattle.sqlite.specs.Held.{Held}
+use Rattle.sql_rows.specs.Calls.{StaysInside, StaysWithin}
 use Rattle.shop_model.specs.Values as model
 use Rattle.shop_model.specs.Values.{Ask}
 use Rattle.shop_model.specs.Shop.{Shop}
 use Rattle.shop_model.specs.Stock.{film_in_stock, film_not_in_stock}
-use Rattle.branch_looks.specs.declared.asks.Look.{Look}
-use Rattle.branch_looks.specs.declared.asks.Look.TheVariants as one
-use Rattle.branch_looks.specs.declared.asks.Reading.{Reading}
-use Rattle.branch_looks.specs.declared.asks.Reading.TheVariants as reading
+use Rattle.shop_model.specs.Views.{overdue_list}
+use Rattle.shop_model.specs.Machine.{Shown, Shows, OverdueAre, ArrivalsAre, SentAre, view_rows}
+use Rattle.shop_model.specs.Answers.{answer_of}
+use Rattle.shop_model.specs.Books.{Books, shop_of}
+use Rattle.shop_types.specs.declared.reply.Reply.{Reply}
+use Rattle.shop_types.specs.Seen.{seen_view}
+use Rattle.shop_types.specs.Replies.{seen_reply}
+use Rattle.branch_reports.specs.Told.{IsDecision}
+use Rattle.branch_reports.specs.Looked.{looked}
+use Rattle.branch_looks.specs.declared.work.Work.{Work}
+use Rattle.branch_looks.specs.declared.work.Work.TheVariants as work
+use Rattle.branch_looks.specs.declared.work.Listing.{Listing}
+use Rattle.branch_looks.specs.declared.work.Listing.TheVariants as list
 
-abbrev pub seen_look : Look → Ask
-seen_look (one.Customer number) = model.OneCustomer number
-seen_look (one.Film number) = model.OneFilm number
-seen_look (one.InStock copy) = model.InStock copy
-seen_look (one.HeldBy copy) = model.HeldBy copy
-seen_look (one.FilmInStock film) = model.FilmInStock film
-seen_look (one.FilmNotInStock film) = model.FilmNotInStock film
-seen_look (one.Balance customer at) = model.Balance customer at
+-- ---- what it comes to
 
-abbrev pub seen_reading : Reading → Ask
-seen_reading (reading.Look it) = seen_look it
-seen_reading (reading.Rewards at purchases cents) = model.Rewards at purchases cents
-seen_reading (reading.Overdue at) = model.Overdue at
-seen_reading reading.Arrivals = model.Arrivals
-seen_reading reading.Sent = model.SentOff
+-- the reading's answer reads a row, whatever it shows
+abbrev pub reads_row : Ask → Bool
+reads_row (model.Overdue at) = false
+reads_row (model.Rewards at purchases cents) = false
+reads_row model.Arrivals = false
+reads_row model.SentOff = false
+reads_row ask = true
+
+-- a call that reads a row goes on only in a transaction that is open, and one that may read none doesn't show that it was
+abbrev pub StaysBy : {S X E : Type 0} → Bool → Ghosts S → MutBor (Held S) → MutBor (Held S) → Result X E → Type 0
+StaysBy true g old new result = StaysInside g old new result
+StaysBy false g old new result = StaysWithin g old new result
+
+-- what a list for the branch shows of the books
+abbrev pub listed : ℕ → Listing → Books → Shown
+listed b (list.View view) books = view_rows b books.catalogue (shop_of b books) (seen_view view)
+listed b (list.Overdue at) books = OverdueAre (overdue_list books.catalogue (shop_of b books) at)
+listed b list.Arrivals books = ArrivalsAre (shop_of b books).arrivals
+listed b list.Sent books = SentAre (shop_of b books).sent
+
+-- it is answered as the definitions have it, with nothing to commit, or it asks for the list that they show
+abbrev pub IsShown : ℕ → Ask → Work Listing → Books → Type 0
+IsShown b ask (work.Answered it) books = (seen_reply it.reply ≡ looked b ask books) × (it.is_changed ≡ false)
+IsShown b ask (work.Shows it) books = looked b ask books ≡ answer_of (Shows (listed b it books))
+
+-- what is answered is a decision, whatever the disk did
+abbrev pub TellsDecision : {L : Type 0} → Work L → Type 0
+TellsDecision (work.Answered it) = IsDecision (seen_reply it.reply)
+TellsDecision (work.Shows it) = ⊤
+
+-- the reply, which changes nothing
+abbrev pub told_of : {E : Type 0} → Result Reply E → Result (Work Listing) E
+told_of (Ok reply) = Ok (work.Answered (record { reply = reply; is_changed = false }))
+told_of (Err fault) = Err fault
+
+-- ---- the copies of a film
 
 -- the copies that are asked for: those in stock, or those that aren't
 abbrev pub stock_asked : Bool → ℕ → Ask

@@ -1,11 +1,11 @@
-//! What a branch's reading shows inside one transaction. What is found for a command's decision, and who is rewarded,
-//! are passed on for those above.
+//! What a branch's reading shows inside one transaction, or which list it asks for. What is found for a command's
+//! decision is passed on for those above.
 #![tactic(auto)]
 
-mod asks;
 mod looks;
+mod readings;
+mod work;
 
-pub use asks::{Look, Reading, reading_of};
 pub use branch_finds::find_for_command;
-pub use branch_reports::look_rewards;
-pub use looks::look;
+pub use readings::{look, reads_row};
+pub use work::{Listing, Work};

@@ -1,4 +1,4 @@
-//! A branch's reading inside one transaction, which changes nothing.
+//! What a branch's readings of its rows show inside one transaction, which changes nothing.
 
 ghost use Rattle.std.specs.Prelude.{◌≡◌, ℕ, IfOk, string_bytes};
 ghost use Rattle.sqlite.specs.Held.{state};
@@ -12,13 +12,10 @@ ghost use Rattle.shop_schema.specs.Calls.{Finds};
 ghost use Rattle.branch_core.specs.Agreed.{AreOfFilm};
 ghost use Rattle.branch_looks.specs.Looks.{stock_asked, stock_listed};
 ghost use Rattle.branch_reports.specs.Looked.{looked};
-ghost use Rattle.branch_looks.specs.Looks.{seen_look};
 ghost use Rattle.branch_reports.specs.Told.{IsDecision};
 
-use crate::asks::Look;
 use branch_core::{FilmCopy, film_in_stock, film_not_in_stock};
 use branch_finds::{find_holder, find_of_film};
-use branch_reports::look_balance;
 use shop_store::{copy_now_at, customer_at, film_row, film_withdrawn};
 use shop_types::{BranchNo, CopyNo, CustomerNo, FilmNo, NoMemory, Refusal, Reply};
 use shop_views::{copies_text, customer_text, film_text, holder_text, in_stock_text};
@@ -26,31 +23,8 @@ use sql_rows::StoreFault;
 use sqlite::{Alter, Transaction};
 use std::alloc::Global;
 
-/// Answers a reading of a branch. A row is read at least, so an answer shows that the transaction was open.
-pub fn look<S: Alter>(
-    alloc: Global,
-    tx: &mut Transaction<'_, S>,
-    branch: BranchNo,
-    ask: Look,
-) -> Result<Reply, StoreFault>
-    ensures inside { StaysInside S.Store tx.old.conn tx.new.conn result }
-    ensures shown { Finds (state S.Store tx.old.conn.now) (state S.Store tx.new.conn.now) result
-        (λ reply books. seen_reply reply ≡ looked branch (seen_look ask) books) }
-    ensures decided { IfOk result (λ reply. IsDecision (seen_reply reply)) }
-{
-    match ask {
-        Look::Customer(number) => look_customer(alloc, tx, branch, number),
-        Look::Film(number) => look_film(alloc, tx, branch, number),
-        Look::InStock(copy) => look_in_stock(alloc, tx, branch, copy),
-        Look::HeldBy(copy) => look_holder(alloc, tx, branch, copy),
-        Look::FilmInStock(film) => look_film_copies(alloc, tx, branch, film, true),
-        Look::FilmNotInStock(film) => look_film_copies(alloc, tx, branch, film, false),
-        Look::Balance { customer, at } => look_balance(alloc, tx, branch, customer, at),
-    }
-}
-
 /// Tells of a customer.
-fn look_customer<S: Alter>(
+pub(crate) fn look_customer<S: Alter>(
     alloc: Global,
     tx: &mut Transaction<'_, S>,
     branch: BranchNo,
@@ -68,7 +42,7 @@ fn look_customer<S: Alter>(
 }
 
 /// Tells of a film, which may be withdrawn. The branch is only the one that asks.
-fn look_film<S: Alter>(
+pub(crate) fn look_film<S: Alter>(
     alloc: Global,
     tx: &mut Transaction<'_, S>,
     branch: BranchNo,
@@ -86,7 +60,7 @@ fn look_film<S: Alter>(
 }
 
 /// Tells whether a copy is in stock.
-fn look_in_stock<S: Alter>(
+pub(crate) fn look_in_stock<S: Alter>(
     alloc: Global,
     tx: &mut Transaction<'_, S>,
     branch: BranchNo,
@@ -104,7 +78,7 @@ fn look_in_stock<S: Alter>(
 }
 
 /// Tells which customer has a copy.
-fn look_holder<S: Alter>(
+pub(crate) fn look_holder<S: Alter>(
     alloc: Global,
     tx: &mut Transaction<'_, S>,
     branch: BranchNo,
@@ -123,7 +97,7 @@ fn look_holder<S: Alter>(
 }
 
 /// Lists the copies of a film that are here and in stock, or here and not in stock.
-fn look_film_copies<S: Alter>(
+pub(crate) fn look_film_copies<S: Alter>(
     alloc: Global,
     tx: &mut Transaction<'_, S>,
     branch: BranchNo,

@@ -1,0 +1,78 @@
+//! How a branch's reading is answered: inside a transaction, or by a list.
+
+ghost use Rattle.std.specs.Prelude.{◌≡◌, IfOk};
+ghost use Rattle.sqlite.specs.Held.{state};
+ghost use Rattle.shop_types.specs.Seen.{seen_ask};
+ghost use Rattle.shop_schema.specs.Calls.{Finds};
+ghost use Rattle.branch_looks.specs.Looks.{reads_row, IsShown, StaysBy, TellsDecision, told_of};
+
+use crate::looks::{look_customer, look_film, look_film_copies, look_holder, look_in_stock};
+use crate::work::{Listing, Work};
+use branch_reports::{look_balance, look_rewards};
+use shop_ledger::Answered;
+use shop_types::{Ask, BranchNo, Reply};
+use sql_rows::StoreFault;
+use sqlite::{Alter, Transaction};
+use std::alloc::Global;
+
+/// Whether the reading's answer reads a row at least. A list reads none inside a transaction; nor do rewards, where a
+/// threshold is 0 or there is no month before the moment's.
+pub fn reads_row(ask: Ask) -> bool
+    ensures { result ≡ reads_row (seen_ask ask) }
+{
+    match ask {
+        Ask::Customer(_)
+        | Ask::Film(_)
+        | Ask::InStock(_)
+        | Ask::HeldBy(_)
+        | Ask::FilmInStock(_)
+        | Ask::FilmNotInStock(_)
+        | Ask::Balance { .. } => true,
+        Ask::Overdue(_) | Ask::Rewards { .. } | Ask::Arrivals | Ask::Sent => false,
+    }
+}
+
+/// Answers a reading of a branch, or tells which list it asks for. Where it reads a row, an answer shows that the
+/// transaction was open.
+pub fn look<S: Alter>(
+    alloc: Global,
+    tx: &mut Transaction<'_, S>,
+    branch: BranchNo,
+    ask: Ask,
+) -> Result<Work<Listing>, StoreFault>
+    ensures inside { StaysBy (reads_row (seen_ask ask)) S.Store tx.old.conn tx.new.conn result }
+    ensures shown { Finds (state S.Store tx.old.conn.now) (state S.Store tx.new.conn.now) result
+        (IsShown branch (seen_ask ask)) }
+    ensures decided { IfOk result TellsDecision }
+{
+    match ask {
+        Ask::Customer(number) => told(look_customer(alloc, tx, branch, number)),
+        Ask::Film(number) => told(look_film(alloc, tx, branch, number)),
+        Ask::InStock(copy) => told(look_in_stock(alloc, tx, branch, copy)),
+        Ask::HeldBy(copy) => told(look_holder(alloc, tx, branch, copy)),
+        Ask::FilmInStock(film) => told(look_film_copies(alloc, tx, branch, film, true)),
+        Ask::FilmNotInStock(film) => told(look_film_copies(alloc, tx, branch, film, false)),
+        Ask::Balance { customer, at } => told(look_balance(alloc, tx, branch, customer, at)),
+        Ask::Rewards {
+            at,
+            purchases,
+            cents,
+        } => told(look_rewards(alloc, tx, branch, at, purchases, cents)),
+        Ask::Overdue(at) => Ok(Work::Shows(Listing::Overdue(at))),
+        Ask::Arrivals => Ok(Work::Shows(Listing::Arrivals)),
+        Ask::Sent => Ok(Work::Shows(Listing::Sent)),
+    }
+}
+
+/// The reply to a reading, which changes nothing.
+fn told(reply: Result<Reply, StoreFault>) -> Result<Work<Listing>, StoreFault>
+    ensures { result ≡ told_of reply }
+{
+    match reply {
+        Ok(reply) => Ok(Work::Answered(Answered {
+            reply,
+            is_changed: false,
+        })),
+        Err(fault) => Err(fault),
+    }
+}

@@ -1,0 +1,26 @@
+//! What a request comes to inside a transaction, and a branch's lists.
+
+use shop_ledger::Answered;
+use shop_types::{Moment, View};
+
+/// What a request came to inside a transaction.
+#[derive(Drop)]
+pub enum Work<L> {
+    /// It is answered.
+    Answered(Answered),
+    /// It asks for a list, which is shown outside any transaction.
+    Shows(L),
+}
+
+/// A list for a branch, whose rows come one at a time, outside any transaction.
+#[derive(Clone, Copy)]
+pub enum Listing {
+    /// The rows of a view.
+    View(View),
+    /// The branch's rentals that are overdue at the moment.
+    Overdue(Moment),
+    /// The consignments that were sent to the branch.
+    Arrivals,
+    /// The consignments that the branch sent.
+    Sent,
+}
