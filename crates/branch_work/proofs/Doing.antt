@@ -1,5 +1,5 @@
 -- What a request comes to, by the verdict on it, and where the branch isn't there.
-use Rattle.std.proofs.Common.{◌≡◌, ◌∙◌, refl, sym, ap, subst, ℕ, Bool, true, false, List}
+use Rattle.std.proofs.Common.{◌≡◌, ◌∙◌, refl, sym, ap, subst, ℕ, true, false, List}
 use Rattle.sqlite.specs.State.{State}
 use Rattle.shop_values.specs.LimitValues.{Limits}
 use Rattle.shop_model.specs.Rows.{lacks}
@@ -7,30 +7,35 @@ use Rattle.shop_model.specs.Values.{Text, Command, Ask}
 use Rattle.shop_model.specs.Refusals as named
 use Rattle.shop_model.specs.Verdict.{Verdict, Again, Refused, Accepted, verdict}
 use Rattle.shop_model.specs.Machine.{Request, Do, Look, Done, Sorry, reply_to, reply_by, reply_text, if_accepted}
-use Rattle.shop_model.specs.Answers.{Answer, answer_of}
+use Rattle.shop_model.specs.Answers.{answer_of}
 use Rattle.shop_model.specs.Books.{Books, Caller, Counter, shop_of, book_done, branch_after}
+use Rattle.shop_types.specs.Replies.{seen_reply}
 use Rattle.shop_schema.specs.Shop.{Holds}
-use Rattle.branch_looks.specs.Looked.{looked}
+use Rattle.shop_ledger.specs.declared.answered.Answered.{Answered}
+use Rattle.branch_looks.specs.Looks.{IsShown}
+use Rattle.branch_looks.specs.declared.work.Listing.{Listing}
+use Rattle.branch_looks.specs.declared.work.Work.{Work}
+use Rattle.branch_looks.specs.declared.work.Work.TheVariants as work
 use Rattle.branch_work.specs.Rules.{rules_of}
-use Rattle.branch_work.specs.Works.{told_to, left_by, GoesBy, IsDone}
+use Rattle.branch_work.specs.Works.{listed, told_to, left_by, GoesBy, IsDone, HasCome}
 
 -- ---- by the verdict, whoever asks
 
-module _ {limits : Limits} {caller : Caller} {request : Request} {v : Verdict} {text : Text} {done books : Books} (goes : GoesBy limits caller request v text done books) (answer : Answer) (s : State) where
+module _ {limits : Limits} {caller : Caller} {request : Request} {v : Verdict} {text : Text} {done books : Books} (goes : GoesBy limits caller request v text done books) (it : Answered) (s : State) where
   as_text : (w : Verdict) → v ≡ w → told_to limits caller request books ≡ answer_of (reply_by w text)
   as_text w is = goes.told ∙ ap (λ (x : Verdict). answer_of (reply_by x text)) is
 
   as_books : (w : Verdict) → v ≡ w → left_by limits caller request books ≡ if_accepted w done books
   as_books w is = goes.left ∙ ap (λ (x : Verdict). if_accepted x done books) is
 
-  pub again_done : (kept : List ℕ) → v ≡ Again kept → answer ≡ answer_of (Done kept) → Holds s books → IsDone limits caller request answer false s books
+  pub again_done : (kept : List ℕ) → v ≡ Again kept → seen_reply it.reply ≡ answer_of (Done kept) → Holds s books → IsDone limits caller request it s books
   again_done kept is told holds = let left = as_books (Again kept) is in record { reply = told ∙ sym (as_text (Again kept) is); holds = subst (Holds s) (sym left) holds; same = λ _. left }
 
-  pub refused_done : (d : named.Refusal) → v ≡ Refused d → answer ≡ answer_of (Sorry d) → Holds s books → IsDone limits caller request answer false s books
+  pub refused_done : (d : named.Refusal) → v ≡ Refused d → seen_reply it.reply ≡ answer_of (Sorry d) → Holds s books → IsDone limits caller request it s books
   refused_done d is told holds = let left = as_books (Refused d) is in record { reply = told ∙ sym (as_text (Refused d) is); holds = subst (Holds s) (sym left) holds; same = λ _. left }
 
-  pub accepted_done : v ≡ Accepted → answer ≡ answer_of (Done text) → Holds s done → IsDone limits caller request answer true s books
-  accepted_done is told holds = record { reply = told ∙ sym (as_text Accepted is); holds = subst (Holds s) (sym (as_books Accepted is)) holds; same = λ e. absurd (apart e) }
+  pub accepted_done : v ≡ Accepted → seen_reply it.reply ≡ answer_of (Done text) → it.is_changed ≡ true → Holds s done → IsDone limits caller request it s books
+  accepted_done is told changed holds = record { reply = told ∙ sym (as_text Accepted is); holds = subst (Holds s) (sym (as_books Accepted is)) holds; same = λ e. absurd (apart (sym changed ∙ e)) }
     where
       apart : true ≡ false → ⊥
       apart e = cc
@@ -50,19 +55,20 @@ module _ (limits : Limits) (b : ℕ) (books : Books) where
   branch_goes command there = record { told = told_is (Do command) there; left = after_is (Do command) there }
 
   -- there is no such branch
-  pub nobody_done : (request : Request) (answer : Answer) (s : State) → lacks books.catalogue.branches b ≡ true → answer ≡ answer_of (Sorry named.NoCounter) → Holds s books → IsDone limits (Counter b) request answer false s books
-  nobody_done request answer s none is holds =
+  pub nobody_done : (request : Request) (it : Answered) (s : State) → lacks books.catalogue.branches b ≡ true → seen_reply it.reply ≡ answer_of (Sorry named.NoCounter) → Holds s books
+      → IsDone limits (Counter b) request it s books
+  nobody_done request it s none is holds =
       let after : left_by limits (Counter b) request books ≡ books = rw none refl in
       record { reply = is ∙ rw none refl; holds = subst (Holds s) (sym after) holds; same = λ _. after }
 
   -- a request that leaves the books, whatever it is answered
-  pub kept_done : (request : Request) (answer : Answer) (is_changed : Bool) (s : State) → lacks books.catalogue.branches b ≡ false → branch_after (rules_of limits) b request books ≡ books
-      → answer ≡ answer_of (reply_to (rules_of limits) b books.catalogue (shop_of b books) request) → Holds s books → IsDone limits (Counter b) request answer is_changed s books
-  kept_done request answer is_changed s there same is holds =
+  pub kept_done : (request : Request) (it : Answered) (s : State) → lacks books.catalogue.branches b ≡ false → branch_after (rules_of limits) b request books ≡ books
+      → seen_reply it.reply ≡ answer_of (reply_to (rules_of limits) b books.catalogue (shop_of b books) request) → Holds s books → IsDone limits (Counter b) request it s books
+  kept_done request it s there same is holds =
       let after = after_is request there ∙ same in
       record { reply = is ∙ sym (told_is request there); holds = subst (Holds s) (sym after) holds; same = λ _. after }
 
-  -- what is read of the books is told, and they stay
-  pub look_done : (ask read : Ask) (answer : Answer) (s : State) → lacks books.catalogue.branches b ≡ false → read ≡ ask → answer ≡ looked b read books → Holds s books
-      → IsDone limits (Counter b) (Look ask) answer false s books
-  look_done ask read answer s there asked told holds = kept_done (Look ask) answer false s there refl (told ∙ ap (λ (a : Ask). looked b a books) asked) holds
+  -- what is read of the books is told or is still to be shown, and they stay
+  pub look_come : (ask : Ask) (it : Work Listing) (s : State) → lacks books.catalogue.branches b ≡ false → IsShown b ask it books → Holds s books → HasCome (listed b) limits (Counter b) (Look ask) it s books
+  look_come ask (work.Answered it) s there shown holds = kept_done (Look ask) it s there refl shown.0 holds
+  look_come ask (work.Shows it) s there shown holds = (told_is (Look ask) there ∙ shown, after_is (Look ask) there)

@@ -9,34 +9,44 @@ ghost use Rattle.shop_types.specs.Replies.{seen_reply};
 ghost use Rattle.shop_types.specs.Verdicts.{verdict_by};
 ghost use Rattle.branch_work.specs.Works.{IsDecision};
 
+use shop_ledger::Answered;
 use shop_types::{Refusal, Reply};
 use sql_rows::StoreFault;
 use std::alloc::Global;
 
 /// The reply to a command that comes again.
-pub fn again(alloc: Global, reply: &str) -> Result<(Reply, bool), StoreFault>
-    ensures { IfOk result (λ done. (seen_reply done.0 ≡ accepted_answer reply.now) × (done.1 ≡ false)) }
+pub fn again(alloc: Global, reply: &str) -> Result<Answered, StoreFault>
+    ensures { IfOk result (λ done. (seen_reply done.reply ≡ accepted_answer reply.now) × (done.is_changed ≡ false)) }
 {
     let text = String::from_str(alloc, reply)?;
-    Ok((Reply::accepted(text), false))
+    Ok(Answered {
+        reply: Reply::accepted(text),
+        is_changed: false,
+    })
 }
 
 /// The reply to a command that is refused. A decision gives none of the store's refusals; one of these would be the
 /// store's failure.
-pub fn refuse(alloc: Global, refusal: Refusal) -> Result<(Reply, bool), StoreFault>
-    ensures told { IfOk result (λ done. (done.1 ≡ false)
+pub fn refuse(alloc: Global, refusal: Refusal) -> Result<Answered, StoreFault>
+    ensures told { IfOk result (λ done. (done.is_changed ≡ false)
         × ((verdict : Verdict) → Some verdict ≡ verdict_by (Some refusal) → (d : named.Refusal)
-        × (verdict ≡ Refused d) × (seen_reply done.0 ≡ answer_of (Sorry d)))) }
-    ensures decided { IfOk result (λ done. IsDecision (seen_reply done.0)) }
+        × (verdict ≡ Refused d) × (seen_reply done.reply ≡ answer_of (Sorry d)))) }
+    ensures decided { IfOk result (λ done. IsDecision (seen_reply done.reply)) }
 {
     if refusal.status() == 503 {
         return Err(StoreFault::Failed);
     }
     match refusal {
         Refusal::BadCsv(fault) => match Reply::bad_csv(alloc, fault) {
-            Ok(reply) => Ok((reply, false)),
+            Ok(reply) => Ok(Answered {
+                reply,
+                is_changed: false,
+            }),
             Err(_) => Err(StoreFault::Memory),
         },
-        other => Ok((Reply::refused(other), false)),
+        other => Ok(Answered {
+            reply: Reply::refused(other),
+            is_changed: false,
+        }),
     }
 }

@@ -9,7 +9,7 @@ use Rattle.branch_work.specs.Rules.{rules_of}
 use Rattle.branch_work.proofs.Acted.{acted_done}
 use Rattle.branch_work.proofs.Counting.{acted_once}
 use Rattle.branch_work.proofs.Decisions.{accepted_told}
-use Rattle.branch_work.proofs.working.add.Goals as goal
+use Rattle.branch_work.proofs.requests.add.Goals as goal
 
 pub returns-clause-added : goal.returns-clause-added
 returns-clause-added g c = λ clean. (

@@ -1,20 +1,17 @@
-use Rattle.std.proofs.Common.{◌∙◌, Bool, refl, ap, subst, sym, Result, Ok, Err}
+use Rattle.std.proofs.Common.{◌∙◌, refl, ap, subst, Result, Ok, Err}
 use Rattle.std.proofs.lemmas.Result.{IfOk-weaker}
 use Rattle.sqlite.specs.Held.{state}
 use Rattle.shop_model.specs.Verdict.{verdict}
-use Rattle.shop_model.specs.Machine.{Do}
-use Rattle.shop_model.specs.Books.{Counter, shop_of}
+use Rattle.shop_model.specs.Books.{shop_of}
 use Rattle.shop_types.specs.declared.change.Change.{Change}
 use Rattle.shop_types.specs.declared.change.Change.TheVariants as change
 use Rattle.shop_types.specs.declared.refusal.Refusal.{Refusal}
 use Rattle.shop_types.specs.Decisions.{IsVerdict}
 use Rattle.shop_types.specs.Seen.{seen_command}
-use Rattle.shop_types.specs.Replies.{seen_reply}
 use Rattle.branch_work.specs.Rules.{rules_of}
-use Rattle.branch_work.specs.Works.{IsDone}
 use Rattle.branch_work.proofs.Doing.{branch_goes, again_done, accepted_done, refused_done}
 use Rattle.branch_work.proofs.Decisions.{accepted_told}
-use Rattle.branch_work.proofs.working.answer.Goals as goal
+use Rattle.branch_work.proofs.requests.answer.Goals as goal
 
 abbrev known : Change → Result Change Refusal
 known it = Ok it
@@ -27,8 +24,7 @@ returns-in-Ok-Again-clause-works g c = λ clean. IfOk-weaker c.again.result _ _ 
     let rules = rules_of c.args.limits in
     let P : Result Change Refusal → Type 0 = λ it. IsVerdict (verdict rules b books.catalogue (shop_of b books) command) it in
     let is : P (Ok (change.Again c.in-Ok-Again.reply)) = subst P (c.in-Ok-Again.is ∙ ap known c.in-Ok-Again.field-0-is) (c.decide.ensures rules books.catalogue (shop_of b books) refl refl agrees) in
-    subst (λ (changed : Bool). IsDone c.args.limits (Counter b) (Do command) (seen_reply done.0) changed s books) (sym told.1)
-    (again_done (branch_goes c.args.limits b books command there) _ s _ is told.0 holds)) c.again.ensures
+    again_done (branch_goes c.args.limits b books command there) done s _ is told.0 holds) c.again.ensures
 
 pub returns-in-Ok-Accepted-clause-works : goal.returns-in-Ok-Accepted-clause-works
 returns-in-Ok-Accepted-clause-works g c = λ clean. IfOk-weaker c.add.result _ _ (λ done told books holds held there agrees marked.
@@ -39,8 +35,7 @@ returns-in-Ok-Accepted-clause-works g c = λ clean. IfOk-weaker c.add.result _ _
     let P : Result Change Refusal → Type 0 = λ it. IsVerdict (verdict rules b books.catalogue (shop_of b books) command) it in
     let is : P (Ok change.Accepted) = subst P (c.in-Ok-Accepted.is ∙ ap known c.in-Ok-Accepted.field-0-is) (c.decide.ensures rules books.catalogue (shop_of b books) refl refl agrees) in
     let added = told.1 c.args.limits books holds held agrees.act marked in
-    subst (λ (changed : Bool). IsDone c.args.limits (Counter b) (Do command) (seen_reply done.0) changed s books) (sym told.0)
-    (accepted_done (branch_goes c.args.limits b books command there) _ s is added.1 added.0)) (c.add.ensures.added clean)
+    accepted_done (branch_goes c.args.limits b books command there) done s is added.1 told.0 added.0) (c.add.ensures.added clean)
 
 pub returns-in-Err-clause-works : goal.returns-in-Err-clause-works
 returns-in-Err-clause-works g c = λ clean. IfOk-weaker c.refuse.result _ _ (λ done told books holds held there agrees marked.
@@ -51,8 +46,7 @@ returns-in-Err-clause-works g c = λ clean. IfOk-weaker c.refuse.result _ _ (λ 
     let P : Result Change Refusal → Type 0 = λ it. IsVerdict (verdict rules b books.catalogue (shop_of b books) command) it in
     let is : P (Err c.in-Err.refusal) = subst P c.in-Err.is (c.decide.ensures rules books.catalogue (shop_of b books) refl refl agrees) in
     let refused = told.1 (verdict rules b books.catalogue (shop_of b books) command) is in
-    subst (λ (changed : Bool). IsDone c.args.limits (Counter b) (Do command) (seen_reply done.0) changed s books) (sym told.0)
-    (refused_done (branch_goes c.args.limits b books command there) _ s refused.0 refused.1 refused.2 holds)) c.refuse.ensures.told
+    refused_done (branch_goes c.args.limits b books command there) done s refused.0 refused.1 refused.2 holds) c.refuse.ensures.told
 
 pub returns-in-Ok-Again-clause-decided : goal.returns-in-Ok-Again-clause-decided
 returns-in-Ok-Again-clause-decided g c = IfOk-weaker c.again.result _ _ (λ done told. accepted_told _ _ told.0) c.again.ensures

@@ -9,7 +9,7 @@ use Rattle.shop_ledger.proofs.KeptLemmas.{copied_told}
 use Rattle.branch_work.specs.Rules.{rules_of}
 use Rattle.sql_rows.proofs.Stays.{within_of, within_err, within_then}
 use Rattle.branch_work.proofs.Kepts.{kept_told}
-use Rattle.branch_work.proofs.working.act.Goals as goal
+use Rattle.branch_work.proofs.requests.answer_command.Goals as goal
 
 pub returns-clause-works : goal.returns-clause-works
 returns-clause-works g c = λ clean. IfOk-weaker c.answer.result _ _ (λ done works books holds held stands.
