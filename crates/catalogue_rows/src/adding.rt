@@ -15,7 +15,7 @@ ghost use Rattle.shop_views.specs.Bodies.{office_members};
 ghost use Rattle.catalogue_rows.specs.Added.{IsNumbered, IsKept, IsAdded};
 
 use crate::rows::{new_actor, new_branch, new_city, new_film, new_staff};
-use shop_ledger::{Count, Owner, put_kept, take_numbers};
+use shop_ledger::{Answered, Count, Owner, put_kept, take_numbers};
 use shop_store::{
     last_actor, last_branch, last_category, last_city, last_country, last_film, last_language,
     last_staff, put_actor, put_branch, put_cast, put_category, put_city, put_country, put_counts,
@@ -27,25 +27,28 @@ use sql_rows::{Bytes, StoreFault};
 use sqlite::{Alter, Transaction};
 use std::alloc::Global;
 
-/// Writes the rows of an accepted command, keeps it, and gives its reply, with `true`, since there is something to
-/// commit. The form is the command's stored form.
+/// Writes the rows of an accepted command, keeps it, and gives its reply. There is something to commit. The form is the
+/// command's stored form.
 pub fn add<S: Alter>(
     alloc: Global,
     tx: &mut Transaction<'_, S>,
     command: &OfficeCommand,
     form: &Bytes,
-) -> Result<(Reply, bool), StoreFault>
+) -> Result<Answered, StoreFault>
     requires { form.now ≡ office_command_form (seen_office command.now) }
     ensures inside { StaysInside S.Store tx.old.conn tx.new.conn result }
     ensures added { HasCleanDisk (state S.Store tx.new.conn.now)
-        → IfOk result (λ done. (done.1 ≡ true) × IsAdded (seen_office command.now) (seen_reply done.0)
+        → IfOk result (λ done. (done.is_changed ≡ true) × IsAdded (seen_office command.now) (seen_reply done.reply)
         (state S.Store tx.old.conn.now) (state S.Store tx.new.conn.now)) }
-    ensures accepted { IfOk result (λ done. (text : model.Text) × (seen_reply done.0 ≡ accepted_answer text)) }
+    ensures accepted { IfOk result (λ done. (text : model.Text) × (seen_reply done.reply ≡ accepted_answer text)) }
 {
     let number = write(tx, &command.act)?;
     let text = office_text(alloc, &command.act, number)?;
     keep(tx, command, form, text.as_str())?;
-    Ok((Reply::accepted(text), true))
+    Ok(Answered {
+        reply: Reply::accepted(text),
+        is_changed: true,
+    })
 }
 
 /// Keeps an accepted command with its reply, and counts it.
