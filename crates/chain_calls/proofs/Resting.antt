@@ -1,5 +1,5 @@
 -- What a transaction leaves of a connection between two requests.
-use Rattle.std.proofs.Common.{◌≡◌, ◌≢◌, ◌∙◌, inl, inr, refl, sym, ap, subst, arith, ℕ, List, Bool, true, false, IsTrue, Ok, Err, Result, IfOk, IfErr, OnOk}
+use Rattle.std.proofs.Common.{◌≡◌, ◌≢◌, ◌∙◌, inl, inr, refl, sym, ap, subst, arith, ℕ, List, true, false, IsTrue, Ok, Err, Result, IfOk, IfErr, OnOk}
 use Rattle.std.specs.Borrow.{MutBor}
 use Rattle.sqlite_trees.specs.declared.store.Store.{Ghosts}
 use Rattle.sqlite_trees.specs.Tree.{Trees}
@@ -27,13 +27,14 @@ use Rattle.shop_types.specs.Seen.{seen_caller}
 use Rattle.shop_types.specs.declared.reply.Reply.{Reply}
 use Rattle.shop_types.specs.Replies.{seen_reply}
 use Rattle.chain_caches.specs.Films.{AreRows, KnownFilms}
+use Rattle.shop_ledger.specs.declared.answered.Answered.{Answered}
 use Rattle.shop_schema.specs.Held.{IsHeld}
 use Rattle.shop_schema.specs.Tables.{shop_schema}
 use Rattle.shop_schema.specs.Shop.{StandsFor, Holds, Reads, IsShop}
 use Rattle.chain_calls.specs.Chains.{Rests, StaysAsFound}
-use Rattle.chain_calls.specs.declared.work.Work.TheVariants as work
+use Rattle.branch_looks.specs.declared.work.Work.TheVariants as work
 use Rattle.chain_calls.specs.declared.reports.Report.{Report}
-use Rattle.chain_calls.specs.Reports.{ShowsReport}
+use Rattle.chain_calls.specs.Reports.{shown_by, ShowsReport}
 use Rattle.chain_calls.specs.Audits.{AuditsTables, AuditsState}
 use Rattle.chain_calls.specs.OfficeReads.{custody_told, TellsCustody}
 use Rattle.chain_calls.specs.Steps.{left_by, HasCome, IsDone, Works, IsMade, IsUndone, LeavesAfter, LeavesEitherOf, LeavesMade, IsCallerOf, HasCaller}
@@ -136,22 +137,22 @@ either_of limits caller request Given old end survives clean books rests held db
   | inr after ↦ inr (after books rests held)
 ]
 
-module _ {S : Type 0} (g : Ghosts S) (old mid end : Held S) (limits : Limits) (caller : Caller) (request : Request) (answer : Answer) (is_changed : Bool) (Given : Books → Type 0) (after : KnownFilms)
+module _ {S : Type 0} (g : Ghosts S) (old mid end : Held S) (limits : Limits) (caller : Caller) (request : Request) (it : Answered) (Given : Books → Type 0) (after : KnownFilms)
     (works : HasCleanDisk (state g mid) → (books : Books) → Holds (state g (record old { in_transaction = true })) books → Given books
-    → IsDone limits caller request answer is_changed (state g mid) books × AreRows after (left_by limits caller request books).catalogue.films)
+    → IsDone limits caller request it (state g mid) books × AreRows after (left_by limits caller request books).catalogue.films)
     (live : HasCleanDisk (state g mid) → IsTrue (state g old).is_open) where
   done : HasCleanDisk (state g mid) → (books : Books) → Rests (state g old) books → Given books
-      → IsDone limits caller request answer is_changed (state g mid) books × AreRows after (left_by limits caller request books).catalogue.films
+      → IsDone limits caller request it (state g mid) books × AreRows after (left_by limits caller request books).catalogue.films
   done clean books rests held = works clean books (holds_as (state g old) (state g (record old { in_transaction = true })) books refl (rests.now (live clean))) held
 
-  pub made_commit : HasCleanDisk (state g mid) → Settled g → Shows (state g mid) (state g end) (state g mid).now (state g mid).now false → IsMade limits caller request answer Given after (state g old) (state g end)
+  pub made_commit : HasCleanDisk (state g mid) → Settled g → Shows (state g mid) (state g end) (state g mid).now (state g mid).now false → IsMade limits caller request (seen_reply it.reply) Given after (state g old) (state g end)
   made_commit clean settled shows = record {
     reply = λ books rests held. (done clean books rests held).0.reply;
     books = λ books rests held. rests_after g old mid end (left_by limits caller request books) settled (done clean books rests held).0.holds shows;
     films = λ books rests held. (done clean books rests held).1;
   }
 
-  pub made_nothing : HasCleanDisk (state g mid) → is_changed ≡ false → ((books : Books) → Rests (state g old) books → Rests (state g end) books) → IsMade limits caller request answer Given after (state g old) (state g end)
+  pub made_nothing : HasCleanDisk (state g mid) → it.is_changed ≡ false → ((books : Books) → Rests (state g old) books → Rests (state g end) books) → IsMade limits caller request (seen_reply it.reply) Given after (state g old) (state g end)
   made_nothing clean same back = record {
     reply = λ books rests held. (done clean books rests held).0.reply;
     books = λ books rests held. subst (λ (after : Books). Rests (state g end) after) (sym ((done clean books rests held).0.same same)) (back books rests);
@@ -204,7 +205,7 @@ module _ {S : Type 0} (g : Ghosts S) (old mid back end : Held S) (limits : Limit
   }
     where
       came : (books : Books) → Rests (state g old) books → Given books
-          → HasCome limits caller request (work.Shows report) (state g mid) books × AreRows after (left_by limits caller request books).catalogue.films
+          → HasCome shown_by limits caller request (work.Shows report) (state g mid) books × AreRows after (left_by limits caller request books).catalogue.films
       came books rests held = works clean books (holds_as (state g old) (state g (record old { in_transaction = true })) books refl (rests.now (live clean))) held
 
   pub shows_nothing : (fault : StoreFault) → (fault ≢ Failed → IsUndone (state g old) (state g end)) × LeavesEitherOf limits caller request Given (state g old) (state g end)

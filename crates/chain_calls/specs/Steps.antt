@@ -3,25 +3,24 @@ use Rattle.std.specs.Prelude.{◌≡◌, ◌⊎◌, ⊤, ℕ, List, Some}
 use Rattle.sqlite_trees.specs.Tree.{Trees}
 use Rattle.sqlite.specs.State.{State}
 use Rattle.shop_values.specs.LimitValues.{Limits}
-use Rattle.shop_model.specs.Machine.{Request, Unread, Do, Look, Office, OfficeLook, Shows as Shown}
+use Rattle.shop_model.specs.Machine.{Request, Unread, Do, Look, Office, OfficeLook}
 use Rattle.shop_model.specs.Shop.{Catalogue}
-use Rattle.shop_model.specs.Answers.{Answer, answer_of}
+use Rattle.shop_model.specs.Answers.{Answer}
 use Rattle.shop_model.specs.Books.{Books, Caller, Counter, HeadOffice, Nobody, caller_of}
 use Rattle.shop_model.specs.Opening.{opening_books}
 use Rattle.shop_types.specs.Seen.{seen_request, seen_office}
-use Rattle.shop_types.specs.Replies.{seen_reply}
 use Rattle.chain_caches.specs.Films.{AreRows, KnownFilms}
 use Rattle.sql_rows.specs.Books.{no_schema}
 use Rattle.shop_schema.specs.Held.{IsHeld}
 use Rattle.shop_schema.specs.RowValues.{IsNumber, IsCommand, IsKey, IsOfficeAct}
 use Rattle.shop_schema.specs.Shop.{StandsFor, Holds, first_books}
-pub use Rattle.branch_work.specs.Works.{told_to, left_by, IsDone, IsHeldWith, IsKnown, IsTold, IsDecision}
+pub use Rattle.branch_work.specs.Works.{told_to, left_by, IsDone, HasCome, IsHeldWith, IsKnown, IsTold, IsDecision, TellsDecision}
+use Rattle.branch_looks.specs.declared.work.Work.{Work}
 use Rattle.chain_calls.specs.declared.asked.Asked.{Asked}
 use Rattle.chain_calls.specs.declared.asked.Asked.TheVariants.{OfBranch, OfOffice}
 use Rattle.chain_calls.specs.declared.creation.FirstRows.{FirstRows}
 use Rattle.chain_calls.specs.declared.creation.FirstRows.TheVariants.{OfOffice as WithToken, OfOpening as WithOpening}
-use Rattle.chain_calls.specs.declared.work.Work.{Work}
-use Rattle.chain_calls.specs.declared.work.Work.TheVariants.{Done, Shows}
+use Rattle.chain_calls.specs.declared.reports.Report.{Report}
 use Rattle.chain_calls.specs.Reports.{shown_by}
 use Rattle.chain_calls.specs.Chains.{Rests}
 
@@ -63,20 +62,11 @@ IsHeldBy Known films books = IsHeld books × AreRows films books.catalogue.films
 
 -- ---- one request
 
--- inside the transaction it has come to this: it is done, or it is a reading, which is to be shown
-abbrev pub HasCome : Limits → Caller → Request → Work → State → Books → Type 0
-HasCome limits caller request (Done reply is_changed) new books = IsDone limits caller request (seen_reply reply) is_changed new books
-HasCome limits caller request (Shows report) new books = (told_to limits caller request books ≡ answer_of (Shown (shown_by report books))) × (left_by limits caller request books ≡ books)
-
--- what is answered is a decision, whatever the disk did
-abbrev pub TellsDecision : Work → Type 0
-TellsDecision (Done reply is_changed) = IsDecision (seen_reply reply)
-TellsDecision (Shows report) = ⊤
-
+-- inside the transaction it is done, or it asks for a reading, which is to be shown;
 -- and the films that are known then are rows of the books after it, where of the books before it this was given
-abbrev pub Works : Limits → Caller → Request → Work → (Books → Type 0) → KnownFilms → State → State → Type 0
+abbrev pub Works : Limits → Caller → Request → Work Report → (Books → Type 0) → KnownFilms → State → State → Type 0
 Works limits caller request work Given after old new =
-    (books : Books) → Holds old books → Given books → HasCome limits caller request work new books × AreRows after (left_by limits caller request books).catalogue.films
+    (books : Books) → Holds old books → Given books → HasCome shown_by limits caller request work new books × AreRows after (left_by limits caller request books).catalogue.films
 
 -- the step is made
 pub record IsMade (limits : Limits) (caller : Caller) (request : Request) (answer : Answer) (Given : Books → Type 0) (after : KnownFilms) (old new : State) : Type 0 where

@@ -1,22 +1,18 @@
-use Rattle.std.proofs.Common.{◌∙◌, Bool, Ok, Err, Result, refl, ap, subst, sym}
+use Rattle.std.proofs.Common.{◌∙◌, Ok, Err, Result, refl, ap, subst}
 use Rattle.std.proofs.lemmas.Result.{IfOk-weaker}
 use Rattle.sqlite.specs.Held.{state}
 use Rattle.shop_model.specs.Verdict.{office_verdict}
-use Rattle.shop_model.specs.Machine.{Office}
-use Rattle.shop_model.specs.Books.{HeadOffice}
 use Rattle.shop_types.specs.declared.change.Change.{Change}
 use Rattle.shop_types.specs.declared.change.Change.TheVariants as change
 use Rattle.shop_types.specs.declared.refusal.Refusal.{Refusal}
 use Rattle.shop_types.specs.Decisions.{IsVerdict}
 use Rattle.shop_types.specs.Seen.{seen_office}
-use Rattle.shop_types.specs.Replies.{seen_reply}
 use Rattle.sql_rows.proofs.Stays.{clean_before}
 use Rattle.branch_work.specs.Rules.{rules_of}
-use Rattle.branch_work.specs.Works.{IsDone}
 use Rattle.branch_work.proofs.Doing.{again_done, accepted_done, refused_done}
 use Rattle.chain_calls.proofs.Asking.{office_goes}
 use Rattle.branch_work.proofs.Decisions.{accepted_told}
-use Rattle.chain_calls.proofs.office_working.answer.Goals as goal
+use Rattle.chain_calls.proofs.office_commands.answer.Goals as goal
 
 abbrev known : Change → Result Change Refusal
 known it = Ok it
@@ -31,7 +27,7 @@ returns-in-Ok-Again-clause-works g c = λ clean. IfOk-weaker c.again.result _ _ 
     let P : Result Change Refusal → Type 0 = λ it. IsVerdict (office_verdict rules books.catalogue command) it in
     let decision = c.in-Ok-Again.is ∙ ap known c.in-Ok-Again.field-0-is in
     let is : P (Ok (change.Again c.in-Ok-Again.reply)) = subst P decision (c.decide_office.ensures rules books.catalogue refl (found.1 c.args.kept kept)) in
-    subst (λ (changed : Bool). IsDone c.args.limits HeadOffice (Office command) (seen_reply done.0) changed s books) (sym told.1) (again_done goes _ s _ is told.0 found.0)) c.again.ensures
+    again_done goes done s _ is told.0 found.0) c.again.ensures
 
 pub returns-in-Ok-Accepted-clause-works : goal.returns-in-Ok-Accepted-clause-works
 returns-in-Ok-Accepted-clause-works g c = λ clean. IfOk-weaker c.add.result _ _ (λ done told books holds held kept.
@@ -44,7 +40,7 @@ returns-in-Ok-Accepted-clause-works g c = λ clean. IfOk-weaker c.add.result _ _
     let decision = c.in-Ok-Accepted.is ∙ ap known c.in-Ok-Accepted.field-0-is in
     let is : P (Ok change.Accepted) = subst P decision (c.decide_office.ensures rules books.catalogue refl (found.1 c.args.kept kept)) in
     let added = told.1 books found.0 held in
-    subst (λ (changed : Bool). IsDone c.args.limits HeadOffice (Office command) (seen_reply done.0) changed s books) (sym told.0) (accepted_done goes _ s is added.1 added.0)) (c.add.ensures.added clean)
+    accepted_done goes done s is added.1 told.0 added.0) (c.add.ensures.added clean)
 
 pub returns-in-Err-clause-works : goal.returns-in-Err-clause-works
 returns-in-Err-clause-works g c = λ clean. IfOk-weaker c.refuse.result _ _ (λ done told books holds held kept.
@@ -56,7 +52,7 @@ returns-in-Err-clause-works g c = λ clean. IfOk-weaker c.refuse.result _ _ (λ 
     let P : Result Change Refusal → Type 0 = λ it. IsVerdict (office_verdict rules books.catalogue command) it in
     let is : P (Err c.in-Err.refusal) = subst P c.in-Err.is (c.decide_office.ensures rules books.catalogue refl (found.1 c.args.kept kept)) in
     let refused = told.1 (office_verdict rules books.catalogue command) is in
-    subst (λ (changed : Bool). IsDone c.args.limits HeadOffice (Office command) (seen_reply done.0) changed s books) (sym told.0) (refused_done goes _ s refused.0 refused.1 refused.2 found.0)) c.refuse.ensures.told
+    refused_done goes done s refused.0 refused.1 refused.2 found.0) c.refuse.ensures.told
 
 pub returns-in-Ok-Again-clause-decided : goal.returns-in-Ok-Again-clause-decided
 returns-in-Ok-Again-clause-decided g c = IfOk-weaker c.again.result _ _ (λ done told. accepted_told _ _ told.0) c.again.ensures

@@ -8,7 +8,7 @@ use Rattle.shop_ledger.proofs.KeptLemmas.{copied_told}
 use Rattle.shop_schema.proofs.OfficeOneToOne.{office_told}
 use Rattle.std.proofs.lemmas.Result.{IfOk-weaker}
 use Rattle.sql_rows.proofs.Stays.{inside_then, clean_within}
-use Rattle.chain_calls.proofs.office_working.work.Goals as goal
+use Rattle.chain_calls.proofs.office_commands.answer_office.Goals as goal
 
 pub returns-clause-works : goal.returns-clause-works
 returns-clause-works g c = λ clean. IfOk-weaker c.answer.result _ _ (λ done works books holds held.

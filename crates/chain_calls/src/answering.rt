@@ -1,8 +1,8 @@
-//! What is asked, done inside a transaction.
+//! What is asked, answered inside a transaction.
 
-ghost use Rattle.std.specs.Prelude.{◌≡◌, ⊤, false, IsTrue, IfOk};
+ghost use Rattle.std.specs.Prelude.{⊤, IfOk};
 ghost use Rattle.sqlite.specs.Held.{state};
-ghost use Rattle.sqlite.specs.State.{HasCleanDisk, Survives};
+ghost use Rattle.sqlite.specs.State.{HasCleanDisk};
 ghost use Rattle.shop_model.specs.Books.{Counter, HeadOffice};
 ghost use Rattle.shop_model.specs.Machine.{Office};
 ghost use Rattle.shop_types.specs.Seen.{seen_office, seen_request};
@@ -10,32 +10,23 @@ ghost use Rattle.sql_rows.specs.Calls.{StaysInside};
 ghost use Rattle.chain_calls.specs.Steps.{IsHeldBy, IsKnown, IsKnownFor, TellsDecision, Works, asker, asked_of};
 
 use crate::asked::Asked;
-use crate::office_working;
+use crate::office_commands::answer_office;
 use crate::reports::Report;
-use branch_work::Worked;
+use branch_work::{Work, answer_branch};
 use chain_caches::FilmCache;
-use shop_types::{BranchNo, Limits, OfficeCommand, Reply, Request};
-use sql_rows::{StoreFault, query};
-use sqlite::{Alter, Connection, Transaction};
+use shop_types::{BranchNo, Limits, OfficeCommand, Request};
+use sql_rows::StoreFault;
+use sqlite::{Alter, Transaction};
 use std::alloc::Global;
 
-/// What is asked has come to this inside its transaction.
-#[derive(Drop)]
-pub enum Work {
-    /// It is answered, and it is told whether there is anything to commit.
-    Done(Reply, bool),
-    /// It is to be read outside the transaction.
-    Shows(Report),
-}
-
-/// Does what is asked inside a transaction.
-pub fn work_of<S: Alter>(
+/// Answers what is asked inside a transaction, or tells what is to be read outside it.
+pub fn answer_inside<S: Alter>(
     alloc: Global,
     tx: &mut Transaction<'_, S>,
     films: &mut FilmCache,
     limits: Limits,
     asked: &Asked<'_>,
-) -> Result<Work, StoreFault>
+) -> Result<Work<Report>, StoreFault>
     ensures inside { StaysInside S.Store tx.old.conn tx.new.conn result }
     ensures works { HasCleanDisk (state S.Store tx.new.conn.now)
         → IfOk result (λ work. Works limits (asker asked.now) (asked_of asked.now) work
@@ -48,13 +39,13 @@ pub fn work_of<S: Alter>(
             branch,
             is_known,
             request,
-        } => branch_work_of(alloc, tx, films, limits, branch, is_known, request),
-        Asked::OfOffice(command) => office_work_of(alloc, tx, films, limits, command),
+        } => branch_inside(alloc, tx, films, limits, branch, is_known, request),
+        Asked::OfOffice(command) => office_inside(alloc, tx, films, limits, command),
     }
 }
 
 /// The same of a branch's request.
-fn branch_work_of<S: Alter>(
+fn branch_inside<S: Alter>(
     alloc: Global,
     tx: &mut Transaction<'_, S>,
     films: &mut FilmCache,
@@ -62,7 +53,7 @@ fn branch_work_of<S: Alter>(
     branch: BranchNo,
     is_known: bool,
     request: &Request,
-) -> Result<Work, StoreFault>
+) -> Result<Work<Report>, StoreFault>
     ensures inside { StaysInside S.Store tx.old.conn tx.new.conn result }
     ensures works { HasCleanDisk (state S.Store tx.new.conn.now)
         → IfOk result (λ work. Works limits (Counter branch) (seen_request request.now) work
@@ -70,20 +61,20 @@ fn branch_work_of<S: Alter>(
         (state S.Store tx.new.conn.now)) }
     ensures decided { IfOk result TellsDecision }
 {
-    match branch_work::work(alloc, tx, films, limits, branch, is_known, request)? {
-        Worked::Answered { reply, is_changed } => Ok(Work::Done(reply, is_changed)),
-        Worked::Shows(list) => Ok(Work::Shows(Report::OfBranch(branch, list))),
+    match answer_branch(alloc, tx, films, limits, branch, is_known, request)? {
+        Work::Answered(done) => Ok(Work::Answered(done)),
+        Work::Shows(list) => Ok(Work::Shows(Report::OfBranch(branch, list))),
     }
 }
 
 /// The same of head office's command.
-fn office_work_of<S: Alter>(
+fn office_inside<S: Alter>(
     alloc: Global,
     tx: &mut Transaction<'_, S>,
     films: &mut FilmCache,
     limits: Limits,
     command: &OfficeCommand,
-) -> Result<Work, StoreFault>
+) -> Result<Work<Report>, StoreFault>
     ensures inside { StaysInside S.Store tx.old.conn tx.new.conn result }
     ensures works { HasCleanDisk (state S.Store tx.new.conn.now)
         → IfOk result (λ work. Works limits HeadOffice (Office (seen_office command.now)) work
@@ -92,22 +83,6 @@ fn office_work_of<S: Alter>(
 {
     // Before anything is written: what is left stays true whether or not the command is done.
     films.take_out_changed(&command.act);
-    let (reply, is_changed) = office_working::work(alloc, tx, limits, command)?;
-    Ok(Work::Done(reply, is_changed))
-}
-
-/// Whether the store was still open at the call.
-pub fn is_open<S: Alter>(conn: &mut Connection<S>) -> bool
-    requires { conn.old.in_transaction ≡ false }
-    ensures ended { conn.new.in_transaction ≡ false }
-    ensures was { HasCleanDisk (state S.Store conn.new) → IsTrue result → IsTrue (state S.Store conn.old).is_open }
-    ensures same { HasCleanDisk (state S.Store conn.new) → IsTrue (state S.Store conn.new).is_open
-        → ((state S.Store conn.new).now ≡ (state S.Store conn.old).committed)
-        × ((state S.Store conn.new).committed ≡ (state S.Store conn.old).committed) }
-    ensures crash { Survives (state S.Store conn.old) (state S.Store conn.new) (λ _. ⊥) }
-{
-    let mut tx = conn.transaction();
-    let answers = query(&mut tx, "SELECT 1", &[]).is_ok();
-    tx.rollback();
-    answers
+    let done = answer_office(alloc, tx, limits, command)?;
+    Ok(Work::Answered(done))
 }

@@ -16,25 +16,25 @@ ghost use Rattle.chain_calls.specs.Steps.{IsDecision};
 use branch_work::{again, refuse};
 use catalogue_core::{Shared, decide_office};
 use catalogue_rows::{add, find};
-use shop_ledger::{Owner, kept_at, kept_found};
+use shop_ledger::{Answered, Owner, kept_at, kept_found};
 use shop_schema::office_form;
-use shop_types::{Change, KeptFound, Limits, OfficeCommand, Reply};
+use shop_types::{Change, KeptFound, Limits, OfficeCommand};
 use sql_rows::{Bytes, StoreFault};
 use sqlite::{Alter, Transaction};
 use std::alloc::Global;
 
 /// Answers a command of head office, and tells whether there is anything to commit.
-pub(crate) fn work<S: Alter>(
+pub(crate) fn answer_office<S: Alter>(
     alloc: Global,
     tx: &mut Transaction<'_, S>,
     limits: Limits,
     command: &OfficeCommand,
-) -> Result<(Reply, bool), StoreFault>
+) -> Result<Answered, StoreFault>
     ensures inside { StaysInside S.Store tx.old.conn tx.new.conn result }
     ensures works { HasCleanDisk (state S.Store tx.new.conn.now)
-        → IfOk result (λ done. Does limits HeadOffice (Office (seen_office command.now)) (seen_reply done.0) done.1
+        → IfOk result (λ done. Does limits HeadOffice (Office (seen_office command.now)) done
         (state S.Store tx.old.conn.now) (state S.Store tx.new.conn.now)) }
-    ensures decided { IfOk result (λ done. IsDecision (seen_reply done.0)) }
+    ensures decided { IfOk result (λ done. IsDecision (seen_reply done.reply)) }
 {
     let kept = kept_at(tx, Owner::Office, &command.key)?;
     let form = form_of(alloc, command)?;
@@ -50,13 +50,13 @@ fn answer<S: Alter>(
     command: &OfficeCommand,
     kept: Option<KeptFound<'_>>,
     form: &Bytes,
-) -> Result<(Reply, bool), StoreFault>
+) -> Result<Answered, StoreFault>
     requires { form.now ≡ office_command_form (seen_office command.now) }
     ensures inside { StaysWithin S.Store tx.old.conn tx.new.conn result }
     ensures works { HasCleanDisk (state S.Store tx.new.conn.now)
-        → IfOk result (λ done. WorksBeside kept.entry limits (seen_office command.now) (seen_reply done.0) done.1
+        → IfOk result (λ done. WorksBeside kept.entry limits (seen_office command.now) done
         (state S.Store tx.old.conn.now) (state S.Store tx.new.conn.now)) }
-    ensures decided { IfOk result (λ done. IsDecision (seen_reply done.0)) }
+    ensures decided { IfOk result (λ done. IsDecision (seen_reply done.reply)) }
 {
     let found = find(tx, command)?;
     let shared = Shared {

@@ -1,4 +1,0 @@
-use Rattle.chain_calls.proofs.work.work_of.Goals as goal
-
-pub returns-in-OfBranch-clause-works : goal.returns-in-OfBranch-clause-works
-returns-in-OfBranch-clause-works g c = rw c.in-OfBranch.is c.branch_work_of.ensures.works
