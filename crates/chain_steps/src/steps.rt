@@ -7,7 +7,7 @@ ghost use Rattle.shop_types.specs.Replies.{seen_reply};
 ghost use Rattle.chain_calls.specs.Steps.{IsDecision, IsHeldBy, IsKnownFor, IsMade, IsUndone, LeavesAfter, LeavesEitherOf, asker, asked_of};
 
 use chain_caches::FilmCache;
-use chain_calls::{Asked, Work, is_open, show, work_of};
+use chain_calls::{Asked, Work, answer_inside, is_open, show};
 use shop_types::{Limits, Reply};
 use sql_rows::{StoreFault, fault_of};
 use sqlite::{Alter, Connection};
@@ -37,14 +37,16 @@ pub fn step<S: Alter>(
         (state S.Store conn.old)) }
 {
     let mut tx = conn.transaction();
-    let fault = match work_of(alloc, &mut tx, films, limits, asked) {
-        Ok(Work::Done(reply, true)) => match tx.commit() {
-            Ok(()) => return Ok(reply),
-            Err(error) => fault_of(error),
-        },
-        Ok(Work::Done(reply, false)) => {
-            tx.rollback();
-            return Ok(reply);
+    let fault = match answer_inside(alloc, &mut tx, films, limits, asked) {
+        Ok(Work::Answered(done)) => {
+            if !done.is_changed {
+                tx.rollback();
+                return Ok(done.reply);
+            }
+            match tx.commit() {
+                Ok(()) => return Ok(done.reply),
+                Err(error) => fault_of(error),
+            }
         }
         Ok(Work::Shows(report)) => {
             tx.rollback();
