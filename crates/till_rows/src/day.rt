@@ -1,12 +1,16 @@
 //! A file that is played from its first line to its last, disturbed or not.
-use crate::disks::{Calls, InMemory, NEVER};
+ghost use Rattle.std.specs.Prelude.{◌≡◌, OnOk};
+
+use crate::disks::{Calls, InMemory, NEVER, Ram};
 use crate::fault::Fault;
-use crate::line::{Counter, Cut, Wire};
+use crate::kit::Kit;
+use crate::line::{Counter, Cut};
 use crate::play::Play;
-use crate::shelf::{Board, Hands};
 use crate::shop::Shop;
-use crate::till::{Kit, World};
-use std::cell::{Cell, RefCell};
+use crate::texts::Texts;
+use crate::world::World;
+use std::alloc::Global;
+use std::marker::Model;
 
 /// What a day is disturbed by.
 #[derive(Clone, Copy)]
@@ -33,86 +37,160 @@ pub const QUIET: Trouble = Trouble {
 };
 
 /// What a day came to.
-#[derive(Drop)]
+#[derive(Clone, Copy)]
 pub struct Day {
-    /// All that stands in the book.
-    pub book: Vec<u8>,
     /// How many words and requests there were.
     pub count: u32,
     /// How often something was stopped or cut.
     pub stops: u32,
 }
 
-/// Where and why a day isn't as it should be, and what was told there.
-#[derive(Drop)]
+/// Where and why a day isn't as it should be. Behind the last line it is 0.
+#[derive(Clone, Copy)]
 pub struct Wrong {
     pub line: usize,
     pub fault: Fault,
-    pub told: String,
 }
 
-impl Wrong {
-    /// Behind the last line.
-    pub fn at_end(world: &World, fault: Fault) -> Wrong {
-        Wrong {
-            line: 0,
-            fault,
-            told: String::new(world.alloc),
+/// What the last day left.
+#[derive(Drop)]
+pub struct Left {
+    alloc: Global,
+    /// What was told last.
+    told: Texts,
+    /// All that stands in the book.
+    book: Vec<u8>,
+}
+
+/// The book alone.
+impl Model for Left {
+    ghost use Rattle.std.specs.Prelude.{ℕ, List};
+
+    ghost Value = { List ℕ };
+
+    ghost view = { λ it. it.book.items };
+}
+
+impl Left {
+    pub fn new(alloc: Global) -> Left {
+        Left {
+            alloc,
+            told: Texts::new(alloc),
+            book: Vec::new(alloc),
         }
+    }
+
+    pub fn alloc(&self) -> Global {
+        self.alloc
+    }
+
+    pub fn told(&self) -> &[u8] {
+        self.told.text()
+    }
+
+    pub fn book(&self) -> &[u8]
+        ensures { result.now ≡ self.now }
+    {
+        self.book.as_slice()
+    }
+
+    /// Puts what was told last, and all that stands in the book, where nothing is wrong yet.
+    fn puts<D: InMemory, C: Counter>(
+        &mut self,
+        play: &mut Play<'_, D, C>,
+        played: Result<(), Fault>,
+    ) -> Result<(), Fault> {
+        play.swap_told(&mut self.told);
+        self.book.clear();
+        match played {
+            Ok(()) => play.put_book(&mut self.book),
+            Err(fault) => Err(fault),
+        }
+    }
+
+    /// Whether the book is that one: all bytes of it.
+    fn settle(&self, book: &[u8]) -> Result<(), Fault>
+        ensures { OnOk result (self.now ≡ book.now) }
+    {
+        if self.book() != book {
+            return Err(Fault::Line("another book"));
+        }
+        Ok(())
     }
 }
 
 /// Plays the lines, up to the first that is wrong.
-fn lines<D: InMemory, C: Counter>(
-    play: &mut Play<'_, D, C>,
-    script: &str,
-) -> Result<Vec<u8>, Fault> {
+fn lines<D: InMemory, C: Counter>(play: &mut Play<'_, D, C>, script: &str) -> Result<(), Fault> {
     for line in script.lines() {
         play.plays(line)?;
     }
-    play.ends()?;
-    play.till.text()
+    play.ends()
 }
 
-/// Plays the file on a line to a counter.
+/// Plays the file on a line to a server.
 fn on_line<D: InMemory, C: Counter>(
     world: &World,
-    counter: C,
+    kit: &Kit<C>,
     script: &str,
-    trouble: Trouble,
+    trouble: &Trouble,
+    left: &mut Left,
 ) -> Result<Day, Wrong> {
-    let kit = Kit {
-        clock: Hands {
-            seconds: Cell::new(0),
-        },
-        shelf: Board::new(world.alloc),
-        wire: RefCell::new(Wire::new(world.alloc, counter, trouble.repeats)),
-    };
-    let mut play: Play<'_, D, C> = match Play::new(world, &kit, &trouble) {
+    let mut play: Play<'_, D, C> = match Play::new(left.alloc(), world, kit, trouble) {
         Ok(play) => play,
-        Err(fault) => return Err(Wrong::at_end(world, fault)),
+        Err(fault) => return Err(Wrong { line: 0, fault }),
     };
-    let book = lines(&mut play, script);
-    let (line, count, stopped) = (play.line, play.count, play.till.stops);
-    let told = play.told();
-    let stops = match kit.wire.try_borrow_mut() {
-        Ok(wire) => wire.stops(),
-        Err(_) => 0,
-    };
-    match book {
-        Ok(book) => Ok(Day {
-            book,
-            count,
-            stops: stops.saturating_add(stopped),
-        }),
-        Err(fault) => Err(Wrong { line, fault, told }),
+    let played = lines(&mut play, script);
+    let put = left.puts(&mut play, played);
+    let (line, count, stops) = (play.line(), play.count(), play.stops());
+    drop(play);
+    match put {
+        Ok(()) => Ok(Day { count, stops }),
+        Err(fault) => Err(Wrong { line, fault }),
+    }
+}
+
+/// Plays the file with a server of its own, over such disks.
+fn on_disks<D: InMemory>(
+    world: &World,
+    script: &str,
+    trouble: &Trouble,
+    left: &mut Left,
+) -> Result<Day, Wrong> {
+    let alloc = left.alloc();
+    match Shop::<D>::new(alloc, world.chain(), trouble.server) {
+        Ok(shop) => {
+            let kit = Kit::new(alloc, shop, trouble.repeats);
+            let day = on_line::<D, Shop<D>>(world, &kit, script, trouble, left);
+            drop(kit);
+            day
+        }
+        Err(fault) => Err(Wrong { line: 0, fault }),
     }
 }
 
 /// Plays the file with a server of its own.
-pub fn played<D: InMemory>(world: &World, script: &str, trouble: Trouble) -> Result<Day, Wrong> {
-    match Shop::<D>::new(world.alloc, &world.chain, trouble.server) {
-        Ok(shop) => on_line::<D, Shop<D>>(world, shop, script, trouble),
-        Err(fault) => Err(Wrong::at_end(world, fault)),
+pub fn play_day(
+    world: &World,
+    script: &str,
+    trouble: &Trouble,
+    left: &mut Left,
+) -> Result<Day, Wrong> {
+    on_disks::<Ram>(world, script, trouble, left)
+}
+
+/// Plays a disturbed day, whose book has to be that one. How often it was disturbed.
+pub fn disturbed(
+    world: &World,
+    script: &str,
+    book: &[u8],
+    trouble: &Trouble,
+    left: &mut Left,
+) -> Result<u32, Wrong>
+    ensures { OnOk result (left.new ≡ book.now) }
+{
+    let day = play_day(world, script, trouble, left)?;
+    match left.settle(book) {
+        Ok(()) => Ok(day.stops),
+        Err(fault) => Err(Wrong { line: 0, fault }),
     }
 }

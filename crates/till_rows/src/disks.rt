@@ -2,13 +2,23 @@
 use crate::fault::Fault;
 use sqlite::{Connection, FileStore, Files};
 use sqlite_disk::{Crash, Disk, Fuse, Memory};
-use std::alloc::Global;
+use std::alloc::{AllocError, Global};
+use std::marker::Model;
 
 /// What the files of a book or of a chain hold.
 #[derive(Drop)]
 pub struct Image {
     log: Vec<u8>,
     db: Vec<u8>,
+}
+
+/// Nothing is said of it: so those who hold one aren't checked over its parts.
+impl Model for Image {
+    ghost use Rattle.std.specs.Prelude.{⊤};
+
+    ghost Value = { ⊤ };
+
+    ghost view = { λ _. tt };
 }
 
 impl Image {
@@ -18,6 +28,14 @@ impl Image {
             log: Vec::new(alloc),
             db: Vec::new(alloc),
         }
+    }
+
+    /// Files with these bytes.
+    fn of(alloc: Global, log: &[u8], db: &[u8]) -> Result<Image, AllocError> {
+        Ok(Image {
+            log: Vec::from_slice(alloc, log)?,
+            db: Vec::from_slice(alloc, db)?,
+        })
     }
 }
 
@@ -57,6 +75,9 @@ impl InMemory for Fuse<Memory> {
     }
 }
 
+/// The disks of all rows.
+pub type Ram = Fuse<Memory>;
+
 /// Disks that hold what the image does, and fail behind so many calls.
 pub fn disks<D: InMemory>(alloc: Global, image: &Image, calls: Calls) -> Result<Files<D>, Fault> {
     Ok(Files {
@@ -66,11 +87,8 @@ pub fn disks<D: InMemory>(alloc: Global, image: &Image, calls: Calls) -> Result<
 }
 
 /// What the disks hold.
-pub fn image_of<D: InMemory>(alloc: Global, disks: &Files<D>) -> Result<Image, Fault> {
-    Ok(Image {
-        log: Vec::from_slice(alloc, disks.log.held())?,
-        db: Vec::from_slice(alloc, disks.db.held())?,
-    })
+pub fn image_of<D: InMemory>(alloc: Global, disks: &Files<D>) -> Result<Image, AllocError> {
+    Image::of(alloc, disks.log.held(), disks.db.held())
 }
 
 /// What the files hold behind the connection's closing, all of it in the database's own file.
@@ -79,7 +97,7 @@ pub fn closed<D: InMemory>(alloc: Global, conn: Connection<FileStore<D>>) -> Res
         Ok(files) => {
             let image = image_of(alloc, &files);
             drop(files);
-            image
+            Ok(image?)
         }
         Err((_, store)) => {
             drop(store);

@@ -1,5 +1,5 @@
 //! What is wrong with a line.
-use std::alloc::{AllocError, AllocFailed};
+use std::alloc::AllocError;
 use std::io;
 
 /// Why a row stops at a line.
@@ -13,12 +13,6 @@ pub enum Fault {
 
 impl From<AllocError> for Fault {
     fn from(_: AllocError) -> Fault {
-        Fault::Line("no memory")
-    }
-}
-
-impl<T: Drop> From<AllocFailed<T>> for Fault {
-    fn from(_: AllocFailed<T>) -> Fault {
         Fault::Line("no memory")
     }
 }

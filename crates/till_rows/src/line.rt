@@ -2,9 +2,10 @@
 ghost use Rattle.std.specs.Prelude.{IfOk};
 ghost use Rattle.std.specs.Counts.{IsPrefixLen};
 
-use std::alloc::Global;
+use std::alloc::{AllocError, Global};
 use std::cell::RefCell;
 use std::io::{self, ErrorKind, Read, Write};
+use std::marker::Model;
 use std::mem;
 use till_desk::Server;
 
@@ -49,6 +50,24 @@ fn given(bytes: &[u8], read: usize, buf: &mut [u8]) -> usize
     n
 }
 
+/// Has the message answered over a connection that breaks there. How many cuts that are.
+fn ask_cut<C: Counter>(
+    counter: &mut C,
+    message: &mut Vec<u8>,
+    told: &mut Vec<u8>,
+    cut: Cut,
+) -> u32 {
+    let sent = match cut {
+        Cut::Sent(most) => cut_off(message, most),
+        _ => 0,
+    };
+    counter.answer(message.as_slice(), told);
+    match cut {
+        Cut::Told(most) => cut_off(told, most),
+        _ => sent,
+    }
+}
+
 /// Has the message answered over a connection that doesn't break, once more where the server is stopped at it.
 fn ask_whole<C: Counter>(counter: &mut C, message: &[u8], told: &mut Vec<u8>) {
     for _ in 0..2 {
@@ -60,17 +79,24 @@ fn ask_whole<C: Counter>(counter: &mut C, message: &[u8], told: &mut Vec<u8>) {
     }
 }
 
+/// Has each of the messages answered, when nobody waits for what is told.
+fn ask_all<C: Counter>(counter: &mut C, messages: &[Vec<u8>], told: &mut Vec<u8>) {
+    for message in messages {
+        ask_whole(counter, message.as_slice(), told);
+    }
+}
+
 /// A line, over which one connection goes at a time.
 #[derive(Drop)]
 pub struct Wire<C: Counter> {
     alloc: Global,
     counter: C,
     /// Whether nobody is there.
-    pub is_down: bool,
+    is_down: bool,
     /// Whether the next message is kept under way, and its connection breaks.
-    pub keeps: bool,
+    keeps: bool,
     /// Where the next connection breaks whose message isn't kept.
-    pub cut: Cut,
+    cut: Cut,
     /// How many connections were cut, and messages came once more.
     breaks: u32,
     /// Whether each message comes once more behind each later word.
@@ -81,6 +107,15 @@ pub struct Wire<C: Counter> {
     read: Option<usize>,
     kept: Vec<Vec<u8>>,
     come: Vec<Vec<u8>>,
+}
+
+/// As of an image.
+impl<C: Counter> Model for Wire<C> {
+    ghost use Rattle.std.specs.Prelude.{⊤};
+
+    ghost Value = { ⊤ };
+
+    ghost view = { λ _. tt };
 }
 
 impl<C: Counter> Wire<C> {
@@ -106,8 +141,20 @@ impl<C: Counter> Wire<C> {
         self.breaks.saturating_add(self.counter.stops())
     }
 
-    /// How many messages have come that will come once more.
-    pub fn count(&self) -> usize {
+    /// From now on nobody is there, or somebody is.
+    pub fn goes_down(&mut self, is_down: bool) {
+        self.is_down = is_down;
+    }
+
+    /// The next message is kept under way.
+    pub fn keeps_next(&mut self) {
+        self.keeps = true;
+    }
+
+    /// The next connection whose message isn't kept breaks there. How many messages have come that will come once
+    /// more.
+    pub fn cuts_next(&mut self, cut: Cut) -> usize {
+        self.cut = cut;
         self.come.len()
     }
 
@@ -118,34 +165,37 @@ impl<C: Counter> Wire<C> {
         !self.is_down
     }
 
+    /// So many bytes are sent.
+    fn takes(&mut self, bytes: &[u8]) -> Result<(), AllocError> {
+        self.sent.extend_from_slice(bytes)
+    }
+
     /// The message that was sent, which isn't needed any more.
     fn taken(&mut self) -> Vec<u8> {
         mem::replace(&mut self.sent, Vec::new(self.alloc))
     }
 
-    /// The message comes, or is kept.
-    fn comes(&mut self) -> io::Result<()> {
-        self.read = Some(0);
-        if self.keeps {
-            self.keeps = false;
-            let message = self.taken();
-            self.kept.push(message)?;
-            return Ok(());
-        }
-        let cut = self.cut;
-        self.cut = Cut::Never;
-        if let Cut::Sent(most) = cut {
-            self.breaks = self.breaks.saturating_add(cut_off(&mut self.sent, most));
-        }
-        self.counter.answer(self.sent.as_slice(), &mut self.told);
-        if let Cut::Told(most) = cut {
-            self.breaks = self.breaks.saturating_add(cut_off(&mut self.told, most));
-        }
+    /// The message comes, and is kept where it will come once more.
+    fn is_answered(&mut self) -> io::Result<()> {
+        let cut = mem::replace(&mut self.cut, Cut::Never);
+        let cuts = ask_cut(&mut self.counter, &mut self.sent, &mut self.told, cut);
+        self.breaks = self.breaks.saturating_add(cuts);
         if self.repeats {
             let message = self.taken();
             self.come.push(message)?;
         }
         Ok(())
+    }
+
+    /// The message comes, or is kept.
+    fn comes(&mut self) -> io::Result<()> {
+        self.read = Some(0);
+        if mem::replace(&mut self.keeps, false) {
+            let message = self.taken();
+            self.kept.push(message)?;
+            return Ok(());
+        }
+        self.is_answered()
     }
 
     /// Gives some bytes of what is told, none only at the end.
@@ -167,20 +217,19 @@ impl<C: Counter> Wire<C> {
         self.told.as_slice()
     }
 
-    /// The messages that were kept come now, when nobody waits for what is told.
+    /// The messages that were kept come now.
     pub fn come_late(&mut self) {
-        for message in self.kept.as_slice() {
-            ask_whole(&mut self.counter, message.as_slice(), &mut self.told);
-        }
+        ask_all(&mut self.counter, self.kept.as_slice(), &mut self.told);
         self.kept.clear();
     }
 
     /// So many of the first messages come once more.
     pub fn come_again(&mut self, count: usize) {
-        for message in self.come.iter().take(count) {
-            self.breaks = self.breaks.saturating_add(1);
-            ask_whole(&mut self.counter, message.as_slice(), &mut self.told);
-        }
+        let count = count.min(self.come.len());
+        let more = u32::try_from(count).unwrap_or(u32::MAX);
+        self.breaks = self.breaks.saturating_add(more);
+        let messages = &self.come[..count];
+        ask_all(&mut self.counter, messages, &mut self.told);
     }
 }
 
@@ -224,7 +273,7 @@ impl<C: Counter> Read for Line<'_, C> {
 impl<C: Counter> Write for Line<'_, C> {
     fn write(&mut self, buf: &[u8]) -> io::Result<usize> {
         match self.wire.try_borrow_mut() {
-            Ok(mut wire) => match wire.sent.extend_from_slice(buf) {
+            Ok(mut wire) => match wire.takes(buf) {
                 Ok(()) => Ok(buf.len()),
                 Err(_) => Err(io::Error::from(ErrorKind::OutOfMemory)),
             },

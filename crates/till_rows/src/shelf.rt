@@ -2,13 +2,37 @@
 use std::alloc::Global;
 use std::cell::{Cell, RefCell};
 use std::io;
+use std::marker::Model;
 use std::time::{Clock, Duration};
 use till_program::Shelf;
 
 /// A clock that stands until a line sets it.
 #[derive(Drop)]
 pub struct Hands {
-    pub seconds: Cell<u64>,
+    seconds: Cell<u64>,
+}
+
+/// As of an image.
+impl Model for Hands {
+    ghost use Rattle.std.specs.Prelude.{⊤};
+
+    ghost Value = { ⊤ };
+
+    ghost view = { λ _. tt };
+}
+
+impl Hands {
+    /// A clock that stands at the first second of 1970.
+    pub fn new() -> Hands {
+        Hands {
+            seconds: Cell::new(0),
+        }
+    }
+
+    /// Sets the clock, in seconds since 1970.
+    pub fn set(&self, seconds: u64) {
+        self.seconds.set(seconds);
+    }
 }
 
 impl Clock for Hands {
@@ -35,6 +59,15 @@ pub struct Board {
     lists: RefCell<Vec<List>>,
 }
 
+/// As of an image.
+impl Model for Board {
+    ghost use Rattle.std.specs.Prelude.{⊤};
+
+    ghost Value = { ⊤ };
+
+    ghost view = { λ _. tt };
+}
+
 impl Board {
     /// A shelf with nothing on it.
     pub fn new(alloc: Global) -> Board {
@@ -44,21 +77,35 @@ impl Board {
     }
 }
 
+/// The place of the last list of that name.
+fn place_of(lists: &[List], name: &str) -> Option<usize> {
+    let mut found = None;
+    for (at, list) in lists.iter().enumerate() {
+        if list.name == name {
+            found = Some(at);
+        }
+    }
+    found
+}
+
+/// A copy of the list, with its second.
+fn copied(alloc: Global, list: &List) -> Option<(u64, Vec<u8>)> {
+    match Vec::from_slice(alloc, list.bytes.as_slice()) {
+        Ok(bytes) => Some((list.second, bytes)),
+        Err(_) => None,
+    }
+}
+
 impl Shelf for Board {
     fn take(&self, alloc: Global, name: &'static str) -> Option<(u64, Vec<u8>)> {
         let Ok(lists) = self.lists.try_borrow() else {
             return None;
         };
-        let mut found = None;
-        for list in lists.as_slice() {
-            if list.name == name {
-                found = match Vec::from_slice(alloc, list.bytes.as_slice()) {
-                    Ok(bytes) => Some((list.second, bytes)),
-                    Err(_) => None,
-                };
-            }
+        let lists = lists.as_slice();
+        match lists.get(place_of(lists, name)?) {
+            Some(list) => copied(alloc, list),
+            None => None,
         }
-        found
     }
 
     fn put(&self, alloc: Global, name: &'static str, second: u64, bytes: &[u8]) {

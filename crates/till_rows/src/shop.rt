@@ -7,8 +7,10 @@ use chain_engine::{Chain, restart};
 use counter_http::serve;
 use office_words::ClapWords;
 use shop_types::Limits;
-use sqlite::{Alter, Connection, FileStore};
+use sqlite::{Alter, Connection, FileStore, Files};
 use std::alloc::Global;
+use std::marker::Model;
+use std::mem;
 
 /// Makes the tables with the opening rows.
 fn fill<S: Alter>(conn: &mut Connection<S>) -> bool {
@@ -29,6 +31,27 @@ pub fn new_chain<D: InMemory>(alloc: Global) -> Result<Image, Fault> {
     Err(Fault::Line("no chain is made"))
 }
 
+/// The chain that the files hold, where there is one, and how often their disks crashed.
+fn opened<D: InMemory>(alloc: Global, files: Files<D>) -> (Option<Chain<FileStore<D>>>, u32) {
+    let limits = Limits::default();
+    match Chain::open_files(alloc, files, limits) {
+        Ok(chain) => (Some(chain), 0),
+        Err((_, files)) => (Chain::open_files(alloc, crashed(files), limits).ok(), 1),
+    }
+}
+
+/// Serves one request. Whether the chain has failed.
+fn fails_at<S: Alter>(
+    alloc: Global,
+    chain: &mut Chain<S>,
+    mut sent: &[u8],
+    told: &mut Vec<u8>,
+) -> bool {
+    let words = ClapWords { alloc };
+    let _ = serve(alloc, &mut sent, told, chain, &words, 1);
+    chain.is_failed()
+}
+
 /// A server. Without a chain it says nothing.
 #[derive(Drop)]
 pub struct Shop<D: InMemory> {
@@ -37,14 +60,19 @@ pub struct Shop<D: InMemory> {
     stops: u32,
 }
 
+/// As of an image.
+impl<D: InMemory> Model for Shop<D> {
+    ghost use Rattle.std.specs.Prelude.{⊤};
+
+    ghost Value = { ⊤ };
+
+    ghost view = { λ _. tt };
+}
+
 impl<D: InMemory> Shop<D> {
     /// A server of the chain that the image has, on disks that fail behind so many calls.
     pub fn new(alloc: Global, image: &Image, calls: Calls) -> Result<Shop<D>, Fault> {
-        let limits = Limits::default();
-        let (chain, stops) = match Chain::open_files(alloc, disks(alloc, image, calls)?, limits) {
-            Ok(chain) => (Some(chain), 0),
-            Err((_, files)) => (Chain::open_files(alloc, crashed(files), limits).ok(), 1),
-        };
+        let (chain, stops) = opened(alloc, disks(alloc, image, calls)?);
         Ok(Shop {
             alloc,
             chain,
@@ -55,21 +83,22 @@ impl<D: InMemory> Shop<D> {
     /// Its disks crash, and the chain that they hold is opened.
     fn restart(&mut self) {
         self.stops = self.stops.saturating_add(1);
+        let alloc = self.alloc;
         if let Some(chain) = self.chain.take() {
-            self.chain = restart(self.alloc, chain, Limits::default()).ok();
+            let again = restart(alloc, chain, Limits::default()).ok();
+            drop(mem::replace(&mut self.chain, again));
         }
     }
 }
 
 impl<D: InMemory> Counter for Shop<D> {
     fn answer(&mut self, sent: &[u8], told: &mut Vec<u8>) {
-        let Some(chain) = &mut self.chain else {
-            return;
+        let alloc = self.alloc;
+        let is_failed = match &mut self.chain {
+            Some(chain) => fails_at(alloc, chain, sent, told),
+            None => false,
         };
-        let words = ClapWords { alloc: self.alloc };
-        let mut reader = sent;
-        let _ = serve(self.alloc, &mut reader, told, chain, &words, 1);
-        if chain.is_failed() {
+        if is_failed {
             self.restart();
         }
     }

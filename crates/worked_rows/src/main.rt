@@ -1,4 +1,4 @@
-//! Plays files of rows, each request and the bytes of its reply.
+//! Plays files of rows: each request and the bytes of its reply, and a till's days.
 #![tactic(auto)]
 
 mod calls;
@@ -15,12 +15,33 @@ use row_player::play_all;
 use sqlite_disk::{Fuse, Memory};
 use std::process::ExitCode;
 use std::{env, io};
+use till_rows::play_days;
 
+/// Plays the files of exchanges.
+fn play_talks(rt: &HostRuntime, paths: &[String]) -> ExitCode {
+    let counter: Counter<'_, Fuse<Memory>> = Counter::new(rt);
+    play_all(rt, counter, paths)
+}
+
+/// Plays a till's days, whose files end in `.till`, behind all others.
 fn main(rt: HostRuntime) -> io::Result<ExitCode> {
-    let mut paths = Vec::new(rt.alloc());
+    let mut talks = Vec::new(rt.alloc());
+    let mut days = Vec::new(rt.alloc());
     for path in env::args(&rt)?.skip(1) {
-        paths.push(path)?;
+        if path.as_str().ends_with(".till") {
+            days.push(path)?;
+        } else {
+            talks.push(path)?;
+        }
     }
-    let counter: Counter<'_, Fuse<Memory>> = Counter::new(&rt);
-    Ok(play_all(&rt, counter, paths.as_slice()))
+    let talked = if talks.is_empty() && !days.is_empty() {
+        ExitCode::SUCCESS
+    } else {
+        play_talks(&rt, talks.as_slice())
+    };
+    if play_days(&rt, days.as_slice()) {
+        Ok(talked)
+    } else {
+        Ok(ExitCode::FAILURE)
+    }
 }

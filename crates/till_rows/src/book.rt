@@ -1,0 +1,298 @@
+//! A till's book in files in memory, where words are typed.
+ghost use Rattle.std.specs.Prelude.{◌≡◌, false};
+
+use crate::disks::{Calls, Image, InMemory, NEVER, closed, crashed, disks, image_of};
+use crate::fault::Fault;
+use crate::kit::Kit;
+use crate::line::Counter;
+use crate::texts::Texts;
+use crate::word::type_at;
+use crate::world::World;
+use sqlite::{Alter, Connection, FileStore, Files};
+use std::alloc::{AllocError, Global};
+use std::marker::Model;
+use std::mem;
+use till_book::{BookReply, BookRows, read_book};
+use till_files::{close_book, create_book, open_book, restart_book};
+
+const NO_BOOK: Fault = Fault::Line("no book is opened");
+
+/// What the files of a new book hold.
+pub fn new_book<D: InMemory>(alloc: Global) -> Result<Image, Fault> {
+    match create_book::<D>(alloc, disks(alloc, &Image::new(alloc), NEVER)?) {
+        Ok(conn) => closed(alloc, conn),
+        Err((_, files)) => {
+            drop(files);
+            Err(NO_BOOK)
+        }
+    }
+}
+
+/// The book that the files hold, where there is one, and how often their disks crashed.
+fn opened<D: InMemory>(alloc: Global, files: Files<D>) -> (Option<Connection<FileStore<D>>>, u32) {
+    match open_book(alloc, files) {
+        Ok(conn) => (Some(conn), 0),
+        Err((_, files)) => (open_book(alloc, crashed(files)).ok(), 1),
+    }
+}
+
+/// The book that the image has, where it has one.
+fn book_of<D: InMemory>(alloc: Global, image: &Image) -> Option<Connection<FileStore<D>>> {
+    match disks(alloc, image, NEVER) {
+        Ok(files) => open_book(alloc, files).ok(),
+        Err(_) => None,
+    }
+}
+
+/// What the files of a book hold once it is closed, also what wasn't synced.
+fn left<D: InMemory>(alloc: Global, conn: Connection<FileStore<D>>) -> Result<Image, AllocError> {
+    let files = close_book(conn);
+    let image = image_of(alloc, &files);
+    drop(files);
+    image
+}
+
+/// The book behind a stop, which loses what wasn't synced where it is to.
+fn stopped<D: InMemory>(
+    alloc: Global,
+    conn: Connection<FileStore<D>>,
+    loses: bool,
+) -> Option<Connection<FileStore<D>>> {
+    if loses {
+        return restart_book(alloc, conn).ok();
+    }
+    match left(alloc, conn) {
+        Ok(image) => book_of(alloc, &image),
+        Err(_) => None,
+    }
+}
+
+/// How many rows those are.
+fn count_of(rows: &BookRows) -> usize {
+    let sent = rows.replies.as_slice().len();
+    let settled = rows.settled.as_slice().len();
+    let entered = rows.entries.as_slice().len();
+    entered.saturating_add(sent).saturating_add(settled)
+}
+
+/// How many rows the book has, where it can be read.
+fn count_in<S: Alter>(alloc: Global, conn: &mut Connection<S>) -> Option<usize>
+    requires { conn.old.in_transaction ≡ false }
+{
+    match read_book(alloc, conn) {
+        Ok(rows) => {
+            let count = count_of(&rows);
+            drop(rows);
+            Some(count)
+        }
+        Err(_) => None,
+    }
+}
+
+fn put_reply(text: &mut Vec<u8>, reply: &BookReply) -> Result<(), AllocError> {
+    text.extend_from_slice(&reply.status.to_be_bytes())?;
+    text.extend_from_slice(reply.body.as_slice())
+}
+
+/// Puts the requests, and the replies.
+fn put_entries(text: &mut Vec<u8>, rows: &BookRows) -> Result<(), AllocError> {
+    for entry in rows.entries.as_slice() {
+        text.extend_from_slice(entry.request.as_slice())?;
+    }
+    for reply in rows.replies.as_slice() {
+        put_reply(text, reply)?;
+    }
+    Ok(())
+}
+
+/// Puts all rows, those with what entries were told when they were sent once more last, with their numbers.
+fn put_rows(text: &mut Vec<u8>, rows: &BookRows) -> Result<(), AllocError> {
+    put_entries(text, rows)?;
+    for it in rows.settled.as_slice() {
+        text.extend_from_slice(&it.number.to_be_bytes())?;
+        put_reply(text, &it.reply)?;
+    }
+    Ok(())
+}
+
+/// Puts all that stands in the book.
+fn put_book<S: Alter>(
+    alloc: Global,
+    conn: &mut Connection<S>,
+    text: &mut Vec<u8>,
+) -> Result<(), Fault>
+    requires { conn.old.in_transaction ≡ false }
+{
+    match read_book(alloc, conn) {
+        Ok(rows) => {
+            let is_put = put_rows(text, &rows);
+            drop(rows);
+            Ok(is_put?)
+        }
+        Err(_) => Err(NO_BOOK),
+    }
+}
+
+/// A till's book, open where it could be opened.
+#[derive(Drop)]
+pub struct Book<D: InMemory> {
+    alloc: Global,
+    conn: Option<Connection<FileStore<D>>>,
+    /// Whether a stop loses what wasn't synced.
+    loses: bool,
+    /// How many rows the book had behind the last word.
+    rows: usize,
+    /// The copy of the book that was made.
+    copy: Image,
+    /// How often its disk has failed.
+    stops: u32,
+}
+
+/// As of an image.
+impl<D: InMemory> Model for Book<D> {
+    ghost use Rattle.std.specs.Prelude.{⊤};
+
+    ghost Value = { ⊤ };
+
+    ghost view = { λ _. tt };
+}
+
+impl<D: InMemory> Book<D> {
+    /// The book that the image has, on disks that fail behind so many calls.
+    pub fn new(alloc: Global, image: &Image, calls: Calls, loses: bool) -> Result<Book<D>, Fault> {
+        let (conn, stops) = opened(alloc, disks(alloc, image, calls)?);
+        Ok(Book {
+            alloc,
+            conn,
+            loses,
+            rows: 0,
+            copy: Image::new(alloc),
+            stops,
+        })
+    }
+
+    /// How often its disk has failed.
+    pub fn stops(&self) -> u32 {
+        self.stops
+    }
+
+    /// How many rows the book has, where it can be read.
+    fn count(&mut self) -> Option<usize> {
+        let alloc = self.alloc;
+        match &mut self.conn {
+            Some(conn) if conn.is_autocommit() => count_in(alloc, conn),
+            _ => None,
+        }
+    }
+
+    /// Types the line at the open book. Whether its disk hasn't failed.
+    fn does<C: Counter>(
+        &mut self,
+        world: &World,
+        kit: &Kit<C>,
+        line: &str,
+        told: &mut Texts,
+    ) -> Result<bool, Fault> {
+        let alloc = self.alloc;
+        match &mut self.conn {
+            Some(conn) if conn.is_autocommit() => type_at(alloc, world, kit, conn, line, told),
+            _ => Err(NO_BOOK),
+        }
+    }
+
+    /// The book stops, and is opened anew.
+    fn restart(&mut self) -> Result<(), Fault> {
+        self.stops = self.stops.saturating_add(1);
+        let (alloc, loses) = (self.alloc, self.loses);
+        let Some(conn) = self.conn.take() else {
+            return Err(NO_BOOK);
+        };
+        let again = stopped(alloc, conn, loses);
+        drop(mem::replace(&mut self.conn, again));
+        Ok(())
+    }
+
+    /// Types the line. Whether the book's disk stands behind it.
+    fn tries<C: Counter>(
+        &mut self,
+        world: &World,
+        kit: &Kit<C>,
+        line: &str,
+        told: &mut Texts,
+    ) -> Result<bool, Fault> {
+        let is_heard = self.does(world, kit, line, told)?;
+        match self.count() {
+            Some(rows) if is_heard => {
+                self.rows = rows;
+                Ok(true)
+            }
+            _ => Ok(false),
+        }
+    }
+
+    /// The book's disk has failed at the line, and the book is opened anew: has it nothing of the line, that is typed
+    /// again, and else `send` is, by which what it came to isn't heard.
+    fn tries_again<C: Counter>(
+        &mut self,
+        world: &World,
+        kit: &Kit<C>,
+        line: &str,
+        told: &mut Texts,
+    ) -> Result<bool, Fault> {
+        let before = self.rows;
+        self.restart()?;
+        if self.count() == Some(before) {
+            return self.tries(world, kit, line, told);
+        }
+        match self.tries(world, kit, "send", told) {
+            Ok(_) => Ok(false),
+            Err(fault) => Err(fault),
+        }
+    }
+
+    /// Types the line, also where the book's disk fails, and has told what is printed. Whether that was heard.
+    pub fn types<C: Counter>(
+        &mut self,
+        world: &World,
+        kit: &Kit<C>,
+        line: &str,
+        told: &mut Texts,
+    ) -> Result<bool, Fault> {
+        match self.tries(world, kit, line, told) {
+            Ok(false) => self.tries_again(world, kit, line, told),
+            heard => heard,
+        }
+    }
+
+    /// Puts all that stands in the book.
+    pub fn put_text(&mut self, text: &mut Vec<u8>) -> Result<(), Fault> {
+        let alloc = self.alloc;
+        match &mut self.conn {
+            Some(conn) if conn.is_autocommit() => put_book(alloc, conn, text),
+            _ => Err(NO_BOOK),
+        }
+    }
+
+    /// Copies the book's files, and goes on.
+    pub fn copies(&mut self) -> Result<(), Fault> {
+        let alloc = self.alloc;
+        let Some(conn) = self.conn.take() else {
+            return Err(NO_BOOK);
+        };
+        self.copy = left(alloc, conn)?;
+        self.puts_back()
+    }
+
+    /// Puts the copy in the place of the book.
+    pub fn puts_back(&mut self) -> Result<(), Fault> {
+        let conn = book_of(self.alloc, &self.copy);
+        drop(mem::replace(&mut self.conn, conn));
+        match self.count() {
+            Some(rows) => {
+                self.rows = rows;
+                Ok(())
+            }
+            None => Err(NO_BOOK),
+        }
+    }
+}

@@ -1,0 +1,127 @@
+//! What a till has beside its book.
+use crate::asking::request_of;
+use crate::fault::Fault;
+use crate::line::{Counter, Cut, Wire};
+use crate::shelf::{Board, Hands};
+use crate::texts::Texts;
+use shop_types::Moment;
+use std::alloc::Global;
+use std::cell::RefCell;
+use std::marker::Model;
+use till_client::{ReplyReading, read_reply};
+
+const IN_USE: Fault = Fault::Line("the line is in use");
+
+/// A clock, a shelf, and the line to the server.
+#[derive(Drop)]
+pub struct Kit<C: Counter> {
+    clock: Hands,
+    shelf: Board,
+    wire: RefCell<Wire<C>>,
+}
+
+/// As of an image.
+impl<C: Counter> Model for Kit<C> {
+    ghost use Rattle.std.specs.Prelude.{⊤};
+
+    ghost Value = { ⊤ };
+
+    ghost view = { λ _. tt };
+}
+
+/// Has a reply told.
+fn tell(reply: &[u8], told: &mut Texts) -> Result<(), Fault> {
+    match read_reply(reply) {
+        ReplyReading::Whole(reply) => {
+            let body = str::from_utf8(reply.body).unwrap_or("no text");
+            told.begin(reply.status, body)
+        }
+        _ => Err(Fault::Line("what is told is no reply")),
+    }
+}
+
+/// What happens to the line.
+fn happen<C: Counter>(wire: &mut Wire<C>, what: &str) -> Result<(), Fault> {
+    match what {
+        "down" => wire.goes_down(true),
+        "up" => wire.goes_down(false),
+        "keep" => wire.keeps_next(),
+        "late" => wire.come_late(),
+        _ => return Err(Fault::Line("nothing like that happens")),
+    }
+    Ok(())
+}
+
+impl<C: Counter> Kit<C> {
+    /// A line to that counter. Each message comes once more behind each later word where it is to.
+    pub fn new(alloc: Global, counter: C, repeats: bool) -> Kit<C> {
+        Kit {
+            clock: Hands::new(),
+            shelf: Board::new(alloc),
+            wire: RefCell::new(Wire::new(alloc, counter, repeats)),
+        }
+    }
+
+    pub fn clock(&self) -> &Hands {
+        &self.clock
+    }
+
+    pub fn shelf(&self) -> &Board {
+        &self.shelf
+    }
+
+    pub fn wire(&self) -> &RefCell<Wire<C>> {
+        &self.wire
+    }
+
+    /// Sets the clock.
+    pub fn sets(&self, at: &str) -> Result<(), Fault> {
+        match Moment::read(at) {
+            Some(moment) => {
+                self.clock.set(moment.seconds());
+                Ok(())
+            }
+            None => Err(Fault::Line("a moment is wanted")),
+        }
+    }
+
+    /// A word begins, whose first connection breaks there. How many messages have come that will come once more.
+    pub fn begins(&self, cut: Cut) -> Result<usize, Fault> {
+        match self.wire.try_borrow_mut() {
+            Ok(mut wire) => Ok(wire.cuts_next(cut)),
+            Err(_) => Err(IN_USE),
+        }
+    }
+
+    /// So many of the first messages come once more.
+    pub fn repeats(&self, count: usize) {
+        if let Ok(mut wire) = self.wire.try_borrow_mut() {
+            wire.come_again(count);
+        }
+    }
+
+    /// What happens to the line.
+    pub fn happens(&self, what: &str) -> Result<(), Fault> {
+        match self.wire.try_borrow_mut() {
+            Ok(mut wire) => happen(&mut wire, what),
+            Err(_) => Err(IN_USE),
+        }
+    }
+
+    /// Somebody else sends the request of that line, and is told.
+    pub fn asks(&self, alloc: Global, line: &str, told: &mut Texts) -> Result<(), Fault> {
+        let request = request_of(alloc, line)?;
+        match self.wire.try_borrow_mut() {
+            Ok(mut wire) => tell(wire.ask(request.as_slice()), told),
+            Err(_) => Err(IN_USE),
+        }
+    }
+
+    /// How often a connection was cut, a message came once more, or the server was stopped.
+    pub fn stops(&self) -> u32 {
+        match self.wire.try_borrow_mut() {
+            Ok(wire) => wire.stops(),
+            Err(_) => 0,
+        }
+    }
+}

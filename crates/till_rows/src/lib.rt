@@ -1,0 +1,20 @@
+//! Plays files of rows at a till, each word and what it prints, over a line of the row's own to a server on disks in
+//! memory.
+#![tactic(auto)]
+
+mod asking;
+mod book;
+mod day;
+mod disks;
+mod fault;
+mod kit;
+mod line;
+mod play;
+mod rows;
+mod shelf;
+mod shop;
+mod texts;
+mod word;
+mod world;
+
+pub use rows::play_days;
