@@ -1,3 +1,9 @@
 pub mod MomentLemmas
 pub mod NumberLemmas
 pub mod TableLemmas
+pub mod EachLemmas
+pub mod FoundLemmas
+pub mod ListLemmas
+pub mod PartLemmas
+pub mod ListedLemmas
+pub mod SheetLemmas

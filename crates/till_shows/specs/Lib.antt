@@ -1,8 +1,13 @@
 pub mod Money
 pub mod Times
 pub mod Numbers
+pub mod Bodies
+pub mod Fields
 pub mod Entries
 pub mod Refusals
 pub mod Told
 pub mod Lines
 pub mod Tables
+pub mod Lists
+pub mod Looks
+pub mod Sheets

@@ -1,5 +1,5 @@
 -- The text of a table.
-use Rattle.std.specs.Prelude.{ℕ, suc, ◌+◌, ◌-◌, nat_lt, if◌then◌else◌, Bool, false, List, [], ◌∷◌, ◌++◌, map, flat_map, slice_get, unwrap_or, chars, codes}
+use Rattle.std.specs.Prelude.{ℕ, suc, ◌+◌, ◌-◌, nat_lt, if◌then◌else◌, Bool, false, List, [], ◌∷◌, ◌++◌, map, flat_map, length, slice_get, unwrap_or, chars, codes}
 use Rattle.std.specs.List.{fold, repeat}
 use Rattle.unicode_width.specs.Width.{str_width}
 use Rattle.shop_model.specs.Values.{Text}
@@ -72,6 +72,10 @@ seen_sides columns = map (λ column. column.side) columns
 
 abbrev pub seen_headings : List Column → List Text
 seen_headings columns = map (λ column. column.heading.now) columns
+
+-- how many rows stand below the headings
+abbrev pub row_count : Table → ℕ
+row_count table = length table.rows - 1
 
 -- a line for each row, ended by a line feed
 abbrev pub lines_text : List Place → List (List Text) → Text

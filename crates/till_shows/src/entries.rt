@@ -2,20 +2,15 @@
 
 ghost use Rattle.std.specs.Prelude.{◌≡◌, IfOk, string_bytes};
 ghost use Rattle.shop_types.specs.Seen.{seen_act, seen_command};
-ghost use Rattle.till_shows.specs.Entries.{not_text, payment_text, dispatch_text, receipt_text, act_text, command_text};
+ghost use Rattle.till_shows.specs.Entries.{payment_text, dispatch_text, receipt_text, act_text, command_text};
 
 use crate::cents::money;
+use crate::looks::not;
 use crate::moments::moment_words;
 use crate::numbers::commas;
 use shop_types::{Act, Command, CopyNos, LineNos};
 use shop_values::{Amount, BranchNo, ConsignmentNo, CustomerNo, RentalNo};
 use std::alloc::{AllocError, Global};
-
-fn not(is: bool) -> &'static str
-    ensures { result.now ≡ not_text is }
-{
-    if is { "" } else { "not " }
-}
 
 fn payment(
     alloc: Global,

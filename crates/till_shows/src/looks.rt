@@ -1,34 +1,83 @@
 //! What looks show, as lines.
 
-use crate::bodies::{NotShown, cents_at, flag_at, number_at, rows_of, value_of};
-use crate::cents::money;
-use crate::parts::numbers_text;
+ghost use Rattle.std.specs.Prelude.{◌≡◌, ◌++◌, Some, None, IfOk, IfErr, option_and_then, string_bytes};
+ghost use Rattle.serde_json.specs.View.{view};
+ghost use Rattle.till_shows.specs.Bodies.{body_of, numbers_at};
+ghost use Rattle.till_shows.specs.Entries.{not_text};
+ghost use Rattle.till_shows.specs.Looks.{stock_text, in_stock_in, row_number, customer_or_none, holder_in, holder_text, counted_or, copies_of_film, film_in_stock_in, film_not_in_stock_in, balance_text, balance_in, rewards_in};
+ghost use Rattle.till_shows.specs.declared.bodies.NotShown.TheVariants.{OtherForm};
+
+use crate::bodies::{NotShown, cents_at, flag_at, numbers_at, value_of};
+use crate::cents::amount;
+use crate::numbers::plain_commas;
 use serde_json::Value;
 use shop_values::{CopyNo, CustomerNo, FilmNo};
-use std::alloc::Global;
+use std::alloc::{AllocError, Global};
+
+/// What stands before a word that isn't so.
+pub(crate) fn not(is: bool) -> &'static str
+    ensures { result.now ≡ not_text is }
+{
+    if is { "" } else { "not " }
+}
+
+fn stock_text(alloc: Global, copy: CopyNo, is_in: bool) -> Result<String, AllocError>
+    ensures { IfOk result (λ s. string_bytes s ≡ stock_text copy is_in) }
+{
+    let not = not(is_in);
+    format!(in alloc; "copy {} is {not}in stock", copy.get())
+}
 
 /// The body of `GET /in-stock/{copy}`: `copy 4 is in stock`, or `copy 4 is not in stock`.
-pub fn in_stock_line(alloc: Global, copy: CopyNo, body: &[u8]) -> Result<String, NotShown> {
+pub fn in_stock_line(alloc: Global, copy: CopyNo, body: &[u8]) -> Result<String, NotShown>
+    ensures shown { IfOk result (λ line. in_stock_in copy body.now ≡ Some (string_bytes line)) }
+    ensures other { IfErr result (λ fault. fault ≡ OtherForm → in_stock_in copy body.now ≡ None) }
+{
     let value = value_of(alloc, body)?;
-    let Some(is_in) = flag_at(&value, "in_stock") else {
-        return Err(NotShown::OtherForm);
-    };
-    let not = if is_in { "" } else { "not " };
-    Ok(format!(in alloc; "copy {} is {not}in stock", copy.get())?)
+    match flag_at(&value, "in_stock") {
+        Some(is_in) => Ok(stock_text(alloc, copy, is_in)?),
+        None => Err(NotShown::OtherForm),
+    }
+}
+
+/// The number of a row, where the number is one.
+fn row_number(number: u64) -> Option<CustomerNo>
+    ensures { result ≡ row_number number }
+{
+    match number {
+        1..=0xffff_ffff => CustomerNo::new(number as u32),
+        _ => None,
+    }
+}
+
+/// A customer's number, or nobody's where the value is null.
+fn customer_or_none(value: &Value) -> Option<Option<CustomerNo>>
+    ensures { result ≡ customer_or_none (view value.now) }
+{
+    if value.is_null() {
+        return Some(None);
+    }
+    match value.as_u64() {
+        Some(number) => match row_number(number) {
+            Some(customer) => Some(Some(customer)),
+            None => None,
+        },
+        None => None,
+    }
 }
 
 /// Who has the copy, by the body of `GET /held-by/{copy}`; nobody where it is null.
-pub fn holder(alloc: Global, body: &[u8]) -> Result<Option<CustomerNo>, NotShown> {
+pub fn holder(alloc: Global, body: &[u8]) -> Result<Option<CustomerNo>, NotShown>
+    ensures shown { IfOk result (λ who. holder_in body.now ≡ Some who) }
+    ensures other { IfErr result (λ fault. fault ≡ OtherForm → holder_in body.now ≡ None) }
+{
     let value = value_of(alloc, body)?;
     let Some(customer) = value.get("customer") else {
         return Err(NotShown::OtherForm);
     };
-    if customer.is_null() {
-        return Ok(None);
-    }
-    match customer.as_u64() {
-        Some(number @ 1..=0xffff_ffff) => Ok(CustomerNo::new(number as u32)),
-        _ => Err(NotShown::OtherForm),
+    match customer_or_none(customer) {
+        Some(who) => Ok(who),
+        None => Err(NotShown::OtherForm),
     }
 }
 
@@ -37,76 +86,108 @@ pub fn holder_line(
     alloc: Global,
     copy: CopyNo,
     customer: Option<CustomerNo>,
-) -> Result<String, NotShown> {
+) -> Result<String, NotShown>
+    ensures shown { IfOk result (λ line. string_bytes line ≡ holder_text copy customer) }
+    ensures other { IfErr result (λ fault. ¬ (fault ≡ OtherForm)) }
+{
     let copy = copy.get();
-    let line = match customer {
-        Some(customer) => format!(in alloc; "customer {} has copy {copy}", customer.get())?,
-        None => format!(in alloc; "nobody has copy {copy}")?,
-    };
-    Ok(line)
+    match customer {
+        Some(customer) => Ok(format!(in alloc; "customer {} has copy {copy}", customer.get())?),
+        None => Ok(format!(in alloc; "nobody has copy {copy}")?),
+    }
 }
 
-/// The numbers that the member of that name lists, as a text.
-fn listed_at(alloc: Global, value: &Value, name: &str) -> Result<String, NotShown> {
-    let Some(member) = value.get(name) else {
-        return Err(NotShown::OtherForm);
-    };
-    let Some(items) = rows_of(member) else {
-        return Err(NotShown::OtherForm);
-    };
-    numbers_text(alloc, items)
+/// The numbers, with commas between, behind what they are; `none` where there are none.
+pub(crate) fn counted_or(
+    alloc: Global,
+    none: &str,
+    what: &str,
+    numbers: &[u64],
+) -> Result<String, AllocError>
+    ensures { IfOk result (λ s. string_bytes s ≡ counted_or none.now what.now numbers.now) }
+{
+    if numbers.is_empty() {
+        return String::from_str(alloc, none);
+    }
+    let numbers = plain_commas(alloc, numbers)?;
+    format!(in alloc; "{what}{numbers}")
+}
+
+/// The numbers of the member of that name of the body.
+fn listed(alloc: Global, body: &[u8], name: &str) -> Result<Vec<u64>, NotShown>
+    ensures shown { IfOk result (λ numbers. option_and_then (numbers_at name.now) (body_of body.now)
+        ≡ Some numbers.items) }
+    ensures other { IfErr result (λ fault. fault ≡ OtherForm
+        → option_and_then (numbers_at name.now) (body_of body.now) ≡ None) }
+{
+    let value = value_of(alloc, body)?;
+    numbers_at(alloc, &value, name)
+}
+
+/// The copies of a film, behind what they are.
+fn film_line(
+    alloc: Global,
+    front: &str,
+    film: FilmNo,
+    numbers: &[u64],
+) -> Result<String, AllocError>
+    ensures { IfOk result (λ s. string_bytes s ≡ front.now ++ copies_of_film film numbers.now) }
+{
+    let copies = counted_or(alloc, "none", "copies ", numbers)?;
+    format!(in alloc; "{front}{}: {copies}", film.get())
 }
 
 /// The body of `GET /film-in-stock/{film}`: `in stock of film 1: copies 2, 3`, or `in stock of film 1: none`.
-pub fn film_in_stock_line(alloc: Global, film: FilmNo, body: &[u8]) -> Result<String, NotShown> {
-    let value = value_of(alloc, body)?;
-    let numbers = listed_at(alloc, &value, "copies")?;
-    let film = film.get();
-    if numbers.as_str().is_empty() {
-        return Ok(format!(in alloc; "in stock of film {film}: none")?);
-    }
-    Ok(format!(in alloc; "in stock of film {film}: copies {numbers}")?)
+pub fn film_in_stock_line(alloc: Global, film: FilmNo, body: &[u8]) -> Result<String, NotShown>
+    ensures shown { IfOk result (λ line. film_in_stock_in film body.now ≡ Some (string_bytes line)) }
+    ensures other { IfErr result (λ fault. fault ≡ OtherForm → film_in_stock_in film body.now ≡ None) }
+{
+    let numbers = listed(alloc, body, "copies")?;
+    Ok(film_line(alloc, "in stock of film ", film, numbers.as_slice())?)
 }
 
 /// The body of `GET /film-not-in-stock/{film}`: `out of film 1: copies 2, 3`, or `out of film 1: none`.
-pub fn film_not_in_stock_line(
-    alloc: Global,
-    film: FilmNo,
-    body: &[u8],
-) -> Result<String, NotShown> {
-    let value = value_of(alloc, body)?;
-    let numbers = listed_at(alloc, &value, "copies")?;
-    let film = film.get();
-    if numbers.as_str().is_empty() {
-        return Ok(format!(in alloc; "out of film {film}: none")?);
+pub fn film_not_in_stock_line(alloc: Global, film: FilmNo, body: &[u8]) -> Result<String, NotShown>
+    ensures shown { IfOk result (λ line. film_not_in_stock_in film body.now ≡ Some (string_bytes line)) }
+    ensures other { IfErr result (λ fault. fault ≡ OtherForm → film_not_in_stock_in film body.now ≡ None) }
+{
+    let numbers = listed(alloc, body, "copies")?;
+    Ok(film_line(alloc, "out of film ", film, numbers.as_slice())?)
+}
+
+/// Who owes whom so many cents.
+fn balance_text(alloc: Global, name: &str, cents: i64) -> Result<String, AllocError>
+    ensures { IfOk result (λ s. string_bytes s ≡ balance_text name.now cents) }
+{
+    if cents == 0 {
+        return format!(in alloc; "{name} owes nothing");
     }
-    Ok(format!(in alloc; "out of film {film}: copies {numbers}")?)
+    let owed = amount(alloc, cents.unsigned_abs())?;
+    if cents > 0 {
+        format!(in alloc; "{name} owes {owed}")
+    } else {
+        format!(in alloc; "the branch owes {name} {owed}")
+    }
 }
 
 /// The body of `GET /balance/{customer}/{at}`, of a customer of that name: `MARY SMITH owes $2.00`,
 /// `the branch owes MARY SMITH $1.00`, or `MARY SMITH owes nothing`.
-pub fn balance_line(alloc: Global, name: &str, body: &[u8]) -> Result<String, NotShown> {
+pub fn balance_line(alloc: Global, name: &str, body: &[u8]) -> Result<String, NotShown>
+    ensures shown { IfOk result (λ line. balance_in name.now body.now ≡ Some (string_bytes line)) }
+    ensures other { IfErr result (λ fault. fault ≡ OtherForm → balance_in name.now body.now ≡ None) }
+{
     let value = value_of(alloc, body)?;
-    let Some(cents) = cents_at(&value, "balance") else {
-        return Err(NotShown::OtherForm);
-    };
-    if cents == 0 {
-        return Ok(format!(in alloc; "{name} owes nothing")?);
+    match cents_at(&value, "balance") {
+        Some(cents) => Ok(balance_text(alloc, name, cents)?),
+        None => Err(NotShown::OtherForm),
     }
-    if cents > 0 {
-        let owed = money(alloc, cents)?;
-        return Ok(format!(in alloc; "{name} owes {owed}")?);
-    }
-    let owed = money(alloc, cents.saturating_neg())?;
-    Ok(format!(in alloc; "the branch owes {name} {owed}")?)
 }
 
 /// The body of `GET /rewards/{at}/{purchases}/{cents}`: `customers 3, 17`, or `no customers`.
-pub fn rewards_line(alloc: Global, body: &[u8]) -> Result<String, NotShown> {
-    let value = value_of(alloc, body)?;
-    let numbers = listed_at(alloc, &value, "customers")?;
-    if numbers.as_str().is_empty() {
-        return Ok(String::from_str(alloc, "no customers")?);
-    }
-    Ok(format!(in alloc; "customers {numbers}")?)
+pub fn rewards_line(alloc: Global, body: &[u8]) -> Result<String, NotShown>
+    ensures shown { IfOk result (λ line. rewards_in body.now ≡ Some (string_bytes line)) }
+    ensures other { IfErr result (λ fault. fault ≡ OtherForm → rewards_in body.now ≡ None) }
+{
+    let numbers = listed(alloc, body, "customers")?;
+    Ok(counted_or(alloc, "no customers", "customers ", numbers.as_slice())?)
 }

@@ -7,7 +7,7 @@ use shop_types::Numbers;
 use std::alloc::{AllocError, Global};
 
 /// Puts a number behind the text, with a comma where something stands before.
-pub(crate) fn add_number(alloc: Global, text: &mut String, number: u64) -> Result<(), AllocError>
+fn add_number(alloc: Global, text: &mut String, number: u64) -> Result<(), AllocError>
     ensures { OnOk result (string_bytes text.new ≡ with_number (string_bytes text.old) number) }
 {
     let piece = if text.as_str().is_empty() {
@@ -28,6 +28,17 @@ pub(crate) fn commas<const KIND: u8>(
     let mut text = String::new(alloc);
     for number in numbers.as_slice() {
         add_number(alloc, &mut text, number.get() as u64)?;
+    }
+    Ok(text)
+}
+
+/// The same of plain numbers.
+pub(crate) fn plain_commas(alloc: Global, numbers: &[u64]) -> Result<String, AllocError>
+    ensures { IfOk result (λ s. string_bytes s ≡ commas numbers.now) }
+{
+    let mut text = String::new(alloc);
+    for number in numbers {
+        add_number(alloc, &mut text, *number)?;
     }
     Ok(text)
 }

@@ -1,13 +1,21 @@
 //! The cells and rows of what bodies tell, each value as a text.
 
-use crate::bodies::NotShown;
+ghost use Rattle.std.specs.Prelude.{◌≡◌, Some, None, IfOk, IfErr, map, option_map, string_bytes};
+ghost use Rattle.serde_json.specs.View.{view};
+ghost use Rattle.till_shows.specs.Bodies.{numbers_in};
+ghost use Rattle.till_shows.specs.Numbers.{commas};
+ghost use Rattle.till_shows.specs.Fields.{plain_field, number_field, money_field, searched_field, yes_text, plain_text, value_text, field_text, row_of};
+ghost use Rattle.till_shows.specs.Tables.{seen_headings, seen_sides};
+ghost use Rattle.till_shows.specs.declared.parts.Form.TheVariants.{Money};
+ghost use Rattle.till_shows.specs.declared.bodies.NotShown.TheVariants.{OtherForm};
+
+use crate::bodies::{NotShown, numbers_in};
 use crate::cents::money;
-use crate::moments::moment_words;
-use crate::numbers::add_number;
+use crate::numbers::plain_commas;
 use crate::tables::{Column, Row, Side};
 use serde_json::Value;
-use shop_values::Moment;
 use std::alloc::{AllocError, Global};
+use std::marker::Model;
 
 /// How a member's value is shown.
 #[derive(Clone, Copy)]
@@ -16,22 +24,30 @@ pub(crate) enum Form {
     Plain,
     /// Cents as money.
     Money,
-    /// A moment in words.
-    Moment,
 }
 
 /// A member of an object, and how it is shown.
-#[derive(Clone, Copy)]
+#[derive(Drop)]
 pub(crate) struct Part {
-    pub name: &'static str,
-    pub heading: &'static str,
-    pub form: Form,
-    pub side: Side,
+    pub(crate) name: &'static str,
+    pub(crate) heading: &'static str,
+    form: Form,
+    side: Side,
     /// Whether a part of its text is looked for.
-    pub is_searched: bool,
+    pub(crate) is_searched: bool,
 }
 
-pub(crate) const fn plain(name: &'static str, heading: &'static str) -> Part {
+impl Model for Part {
+    ghost use Rattle.till_shows.specs.Fields.{Field};
+
+    ghost Value = { Field };
+
+    ghost view = { λ a. record { name = a.name.now; heading = a.heading.now; form = a.form; side = a.side; is_searched = a.is_searched } };
+}
+
+pub(crate) fn plain(name: &'static str, heading: &'static str) -> Part
+    ensures { result ≡ plain_field name.now heading.now }
+{
     Part {
         name,
         heading,
@@ -41,19 +57,61 @@ pub(crate) const fn plain(name: &'static str, heading: &'static str) -> Part {
     }
 }
 
-/// The numbers that the values are, with commas between.
-pub(crate) fn numbers_text(alloc: Global, items: &[Value]) -> Result<String, NotShown> {
-    let mut text = String::new(alloc);
-    for item in items {
-        let Some(number) = item.as_u64() else {
-            return Err(NotShown::OtherForm);
-        };
-        add_number(alloc, &mut text, number)?;
+pub(crate) fn number(name: &'static str, heading: &'static str) -> Part
+    ensures { result ≡ number_field name.now heading.now }
+{
+    Part {
+        name,
+        heading,
+        form: Form::Plain,
+        side: Side::Right,
+        is_searched: false,
     }
-    Ok(text)
 }
 
-fn plain_text(alloc: Global, value: &Value) -> Result<String, NotShown> {
+pub(crate) fn money_part(name: &'static str, heading: &'static str) -> Part
+    ensures { result ≡ money_field name.now heading.now }
+{
+    Part {
+        name,
+        heading,
+        form: Form::Money,
+        side: Side::Right,
+        is_searched: false,
+    }
+}
+
+pub(crate) fn searched(name: &'static str, heading: &'static str) -> Part
+    ensures { result ≡ searched_field name.now heading.now }
+{
+    Part {
+        name,
+        heading,
+        form: Form::Plain,
+        side: Side::Left,
+        is_searched: true,
+    }
+}
+
+fn yes(flag: bool) -> &'static str
+    ensures { result.now ≡ yes_text flag }
+{
+    if flag { "yes" } else { "no" }
+}
+
+/// The numbers that the value lists, with commas between.
+fn listed_text(alloc: Global, value: &Value) -> Result<String, NotShown>
+    ensures shown { IfOk result (λ text. option_map commas (numbers_in (view value.now)) ≡ Some (string_bytes text)) }
+    ensures other { IfErr result (λ fault. fault ≡ OtherForm → numbers_in (view value.now) ≡ None) }
+{
+    let numbers = numbers_in(alloc, value)?;
+    Ok(plain_commas(alloc, numbers.as_slice())?)
+}
+
+fn plain_text(alloc: Global, value: &Value) -> Result<String, NotShown>
+    ensures shown { IfOk result (λ text. plain_text (view value.now) ≡ Some (string_bytes text)) }
+    ensures other { IfErr result (λ fault. fault ≡ OtherForm → plain_text (view value.now) ≡ None) }
+{
     if let Some(text) = value.as_str() {
         return Ok(String::from_str(alloc, text)?);
     }
@@ -61,52 +119,64 @@ fn plain_text(alloc: Global, value: &Value) -> Result<String, NotShown> {
         return Ok(format!(in alloc; "{number}")?);
     }
     if let Some(flag) = value.as_bool() {
-        return Ok(String::from_str(alloc, if flag { "yes" } else { "no" })?);
-    }
-    if let Some(items) = value.as_array() {
-        return numbers_text(alloc, items.as_slice());
+        return Ok(String::from_str(alloc, yes(flag))?);
     }
     if value.is_null() {
         Ok(String::new(alloc))
     } else {
-        Err(NotShown::OtherForm)
+        listed_text(alloc, value)
+    }
+}
+
+fn money_text(alloc: Global, value: &Value) -> Result<String, NotShown>
+    ensures shown { IfOk result (λ text. value_text Money (view value.now) ≡ Some (string_bytes text)) }
+    ensures other { IfErr result (λ fault. fault ≡ OtherForm → value_text Money (view value.now) ≡ None) }
+{
+    match value.as_i64() {
+        Some(cents) => Ok(money(alloc, cents)?),
+        None => Err(NotShown::OtherForm),
     }
 }
 
 /// The value as a text of that form.
-fn value_text(alloc: Global, value: &Value, form: Form) -> Result<String, NotShown> {
+fn value_text(alloc: Global, value: &Value, form: Form) -> Result<String, NotShown>
+    ensures shown { IfOk result (λ text. value_text form (view value.now) ≡ Some (string_bytes text)) }
+    ensures other { IfErr result (λ fault. fault ≡ OtherForm → value_text form (view value.now) ≡ None) }
+{
     match form {
         Form::Plain => plain_text(alloc, value),
-        Form::Money => match value.as_i64() {
-            Some(cents) => Ok(money(alloc, cents)?),
-            None => Err(NotShown::OtherForm),
-        },
-        Form::Moment => {
-            let text = value.as_str().ok_or(NotShown::OtherForm)?;
-            let moment = Moment::read(text).ok_or(NotShown::OtherForm)?;
-            Ok(moment_words(alloc, moment)?)
-        }
+        Form::Money => money_text(alloc, value),
     }
 }
 
 /// The text of the object's member that the part names.
-pub(crate) fn part_text(alloc: Global, value: &Value, part: &Part) -> Result<String, NotShown> {
-    let Some(member) = value.get(part.name) else {
-        return Err(NotShown::OtherForm);
-    };
-    value_text(alloc, member, part.form)
+pub(crate) fn part_text(alloc: Global, value: &Value, part: &Part) -> Result<String, NotShown>
+    ensures shown { IfOk result (λ text. field_text (view value.now) part.now ≡ Some (string_bytes text)) }
+    ensures other { IfErr result (λ fault. fault ≡ OtherForm → field_text (view value.now) part.now ≡ None) }
+{
+    match value.get(part.name) {
+        Some(member) => value_text(alloc, member, part.form),
+        None => Err(NotShown::OtherForm),
+    }
 }
 
 /// The object's row: the texts of those parts.
-pub(crate) fn row_text(alloc: Global, value: &Value, parts: &[Part]) -> Result<Row, NotShown> {
+pub(crate) fn row_text(alloc: Global, value: &Value, parts: &[Part]) -> Result<Row, NotShown>
+    ensures shown { IfOk result (λ row. row_of parts.now (view value.now) ≡ Some row) }
+    ensures other { IfErr result (λ fault. fault ≡ OtherForm → row_of parts.now (view value.now) ≡ None) }
+{
     let mut row = Row::new(alloc);
     for part in parts {
-        row.push(part_text(alloc, value, part)?)?;
+        let text = part_text(alloc, value, part)?;
+        row.push(text)?;
     }
     Ok(row)
 }
 
-pub(crate) fn columns_of(alloc: Global, parts: &[Part]) -> Result<Vec<Column>, AllocError> {
+pub(crate) fn columns_of(alloc: Global, parts: &[Part]) -> Result<Vec<Column>, AllocError>
+    ensures sides { IfOk result (λ columns. seen_sides columns.items ≡ map (λ field. field.side) parts.now) }
+    ensures headings { IfOk result (λ columns. seen_headings columns.items ≡ map (λ field. field.heading) parts.now) }
+{
     let mut columns = Vec::new(alloc);
     for part in parts {
         columns.push(Column {

@@ -1,12 +1,20 @@
 //! What the replies to accepted commands say, as lines.
 
-use crate::bodies::{NotShown, flag_at, number_at, rows_of, value_of};
-use crate::parts::numbers_text;
+ghost use Rattle.std.specs.Prelude.{◌≡◌, Some, None, IfOk, IfErr, option_map, string_bytes};
+ghost use Rattle.serde_json.specs.View.{view};
+ghost use Rattle.till_shows.specs.Looks.{may_rent_text, may_rent_in, consignment_text, consignment_in, numbered_in, copies_in, reply_of, reply_in};
+ghost use Rattle.till_shows.specs.declared.bodies.NotShown.TheVariants.{OtherForm};
+
+use crate::bodies::{NotShown, flag_at, number_at, numbers_in, value_of};
+use crate::looks::{counted_or, not};
 use serde_json::Value;
 use std::alloc::Global;
 
 /// The line of a reply that says a number under that name alone.
-fn numbered(alloc: Global, value: &Value) -> Result<String, NotShown> {
+fn numbered(alloc: Global, value: &Value) -> Result<String, NotShown>
+    ensures shown { IfOk result (λ line. numbered_in (view value.now) ≡ Some (string_bytes line)) }
+    ensures other { IfErr result (λ fault. fault ≡ OtherForm → numbered_in (view value.now) ≡ None) }
+{
     if let Some(rental) = number_at(value, "rental") {
         return Ok(format!(in alloc; "rental {rental}")?);
     }
@@ -26,37 +34,73 @@ fn numbered(alloc: Global, value: &Value) -> Result<String, NotShown> {
 }
 
 /// The line of a reply that says which copies came in.
-fn copies(alloc: Global, value: &Value, copies: &Value) -> Result<String, NotShown> {
-    if let Some(items) = rows_of(copies) {
-        let numbers = numbers_text(alloc, items)?;
-        if numbers.as_str().is_empty() {
-            return Ok(String::from_str(alloc, "no copies")?);
-        }
-        return Ok(format!(in alloc; "copies {numbers}")?);
+fn copies(alloc: Global, value: &Value, copies: &Value) -> Result<String, NotShown>
+    ensures shown { IfOk result (λ line. copies_in (view value.now) (view copies.now) ≡ Some (string_bytes line)) }
+    ensures other { IfErr result (λ fault. fault ≡ OtherForm → copies_in (view value.now) (view copies.now) ≡ None) }
+{
+    if copies.is_array() {
+        let numbers = numbers_in(alloc, copies)?;
+        return Ok(counted_or(alloc, "no copies", "copies ", numbers.as_slice())?);
     }
-    let (Some(count), Some(first)) = (copies.as_u64(), number_at(value, "first")) else {
+    let Some(count) = copies.as_u64() else {
         return Err(NotShown::OtherForm);
     };
-    Ok(format!(in alloc; "{count} copies, the first of them {first}")?)
+    match number_at(value, "first") {
+        Some(first) => Ok(format!(in alloc; "{count} copies, the first of them {first}")?),
+        None => Err(NotShown::OtherForm),
+    }
+}
+
+/// A customer's number, and whether the customer may rent.
+fn may_rent(value: &Value) -> Option<(bool, u64)>
+    ensures { option_map (λ it. may_rent_text it.0 it.1) result ≡ may_rent_in (view value.now) }
+{
+    match flag_at(value, "active") {
+        Some(active) => match number_at(value, "customer") {
+            Some(customer) => Some((active, customer)),
+            None => None,
+        },
+        None => None,
+    }
+}
+
+/// A consignment's number, and the branch that it goes to.
+fn consignment(value: &Value) -> Option<(u64, u64)>
+    ensures { option_map (λ it. consignment_text it.0 it.1) result ≡ consignment_in (view value.now) }
+{
+    match number_at(value, "consignment") {
+        Some(number) => match number_at(value, "to") {
+            Some(to) => Some((number, to)),
+            None => None,
+        },
+        None => None,
+    }
+}
+
+fn line_of(alloc: Global, value: &Value) -> Result<String, NotShown>
+    ensures shown { IfOk result (λ line. reply_of (view value.now) ≡ Some (string_bytes line)) }
+    ensures other { IfErr result (λ fault. fault ≡ OtherForm → reply_of (view value.now) ≡ None) }
+{
+    if let Some((active, customer)) = may_rent(value) {
+        let not = not(active);
+        return Ok(format!(in alloc; "customer {customer} may {not}rent")?);
+    }
+    if let Some((number, to)) = consignment(value) {
+        return Ok(format!(in alloc; "consignment {number} to branch {to}")?);
+    }
+    match value.get("copies") {
+        Some(them) => copies(alloc, value, them),
+        None => numbered(alloc, value),
+    }
 }
 
 /// What the reply to an accepted command says, by its body: `customer 17`, `customer 17 may rent`,
 /// `customer 17 may not rent`, `rental 12`, `rental 12 returned`, `payment 9`, `copy 4 scrapped`,
 /// `consignment 1 to branch 2`, `copies 3, 4`, `no copies`, `4 copies, the first of them 1`.
-pub fn reply_line(alloc: Global, body: &[u8]) -> Result<String, NotShown> {
+pub fn reply_line(alloc: Global, body: &[u8]) -> Result<String, NotShown>
+    ensures shown { IfOk result (λ line. reply_in body.now ≡ Some (string_bytes line)) }
+    ensures other { IfErr result (λ fault. fault ≡ OtherForm → reply_in body.now ≡ None) }
+{
     let value = value_of(alloc, body)?;
-    if let (Some(active), Some(customer)) = (
-        flag_at(&value, "active"),
-        number_at(&value, "customer"),
-    ) {
-        let not = if active { "" } else { "not " };
-        return Ok(format!(in alloc; "customer {customer} may {not}rent")?);
-    }
-    if let (Some(number), Some(to)) = (number_at(&value, "consignment"), number_at(&value, "to")) {
-        return Ok(format!(in alloc; "consignment {number} to branch {to}")?);
-    }
-    match value.get("copies") {
-        Some(them) => copies(alloc, &value, them),
-        None => numbered(alloc, &value),
-    }
+    line_of(alloc, &value)
 }

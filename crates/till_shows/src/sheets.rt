@@ -1,36 +1,51 @@
 //! One row as a sheet, a line for each part.
 
-use crate::bodies::{NotShown, value_of};
-use crate::parts::{Form, Part, part_text, plain};
-use crate::tables::Side;
+ghost use Rattle.std.specs.Prelude.{◌≡◌, Some, None, IfOk, IfErr, IfSome, codes, string_bytes};
+ghost use Rattle.serde_json.specs.View.{view};
+ghost use Rattle.shop_model.specs.Calendar.{moment_text};
+ghost use Rattle.till_shows.specs.Bodies.{text_at};
+ghost use Rattle.till_shows.specs.Sheets.{sheet_line, field_line, sheet_of, film_sheet_fields, customer_sheet_fields, film_sheet_in, IsCustomerSheet};
+ghost use Rattle.till_shows.specs.declared.bodies.NotShown.TheVariants.{OtherForm};
+
+use crate::bodies::{NotShown, text_at, value_of};
+use crate::moments::moment_words;
+use crate::parts::{Part, money_part, part_text, plain};
 use serde_json::Value;
-use std::alloc::Global;
+use shop_values::Moment;
+use std::alloc::{AllocError, Global};
+
+/// A heading and a text.
+fn sheet_line(alloc: Global, heading: &str, text: &str) -> Result<String, AllocError>
+    ensures { IfOk result (λ s. string_bytes s ≡ sheet_line heading.now text.now) }
+{
+    format!(in alloc; "{heading}: {text}\n")
+}
+
+fn part_line(alloc: Global, value: &Value, part: &Part) -> Result<String, NotShown>
+    ensures shown { IfOk result (λ line. field_line (view value.now) part.now ≡ Some (string_bytes line)) }
+    ensures other { IfErr result (λ fault. fault ≡ OtherForm → field_line (view value.now) part.now ≡ None) }
+{
+    let text = part_text(alloc, value, part)?;
+    Ok(sheet_line(alloc, part.heading, text.as_str())?)
+}
 
 /// A line for each part: its heading and its text.
-fn sheet(alloc: Global, value: &Value, parts: &[Part]) -> Result<String, NotShown> {
+fn sheet(alloc: Global, value: &Value, parts: &[Part]) -> Result<String, NotShown>
+    ensures shown { IfOk result (λ sheet. sheet_of parts.now (view value.now) ≡ Some (string_bytes sheet)) }
+    ensures other { IfErr result (λ fault. fault ≡ OtherForm → sheet_of parts.now (view value.now) ≡ None) }
+{
     let mut sheet = String::new(alloc);
     for part in parts {
-        let heading = part.heading;
-        let text = part_text(alloc, value, part)?;
-        sheet.push_str(format!(in alloc; "{heading}: {text}\n")?.as_str())?;
+        let line = part_line(alloc, value, part)?;
+        sheet.push_str(line.as_str())?;
     }
     Ok(sheet)
 }
 
-const fn shown(name: &'static str, heading: &'static str, form: Form) -> Part {
-    Part {
-        name,
-        heading,
-        form,
-        side: Side::Left,
-        is_searched: false,
-    }
-}
-
-/// The body of `GET /customer/{n}`, a line for each part, each ended by a line feed.
-pub fn customer_sheet(alloc: Global, body: &[u8]) -> Result<String, NotShown> {
-    let value = value_of(alloc, body)?;
-    let parts = [
+fn customer_parts() -> [Part; 8]
+    ensures { result ≡ customer_sheet_fields }
+{
+    [
         plain("customer", "customer"),
         plain("first", "first name"),
         plain("last", "last name"),
@@ -39,25 +54,70 @@ pub fn customer_sheet(alloc: Global, body: &[u8]) -> Result<String, NotShown> {
         plain("postal", "postal code"),
         plain("city", "city"),
         plain("active", "may rent"),
-        shown("created", "joined", Form::Moment),
-    ];
-    sheet(alloc, &value, parts.as_slice())
+    ]
 }
 
-/// The body of `GET /film/{n}`, a line for each part, each ended by a line feed.
-pub fn film_sheet(alloc: Global, body: &[u8]) -> Result<String, NotShown> {
+/// What every customer's sheet begins with.
+fn customer_front(alloc: Global, value: &Value) -> Result<String, NotShown>
+    ensures { IfOk result (λ sheet. sheet_of customer_sheet_fields (view value.now) ≡ Some (string_bytes sheet)) }
+{
+    sheet(alloc, value, customer_parts().as_slice())
+}
+
+/// The moment since when there is a customer.
+fn created(value: &Value) -> Option<Moment>
+    ensures { IfSome result (λ at. text_at (codes "created") (view value.now) ≡ Some (moment_text at)) }
+{
+    match text_at(value, "created") {
+        Some(text) => Moment::read(text),
+        None => None,
+    }
+}
+
+/// The body of `GET /customer/{n}`, a line for each part, each ended by a line feed.
+pub fn customer_sheet(alloc: Global, body: &[u8]) -> Result<String, NotShown>
+    ensures { IfOk result (λ sheet. IsCustomerSheet body.now (string_bytes sheet)) }
+{
     let value = value_of(alloc, body)?;
-    let parts = [
+    let mut sheet = customer_front(alloc, &value)?;
+    let Some(created) = created(&value) else {
+        return Err(NotShown::OtherForm);
+    };
+    let words = moment_words(alloc, created)?;
+    let line = sheet_line(alloc, "joined", words.as_str())?;
+    sheet.push_str(line.as_str())?;
+    Ok(sheet)
+}
+
+fn film_parts() -> [Part; 10]
+    ensures { result ≡ film_sheet_fields }
+{
+    [
         plain("film", "film"),
         plain("title", "title"),
         plain("rating", "rating"),
         plain("length", "minutes"),
-        shown("rate", "price", Form::Money),
+        money_part("rate", "price"),
         plain("period", "days"),
-        shown("replacement", "replacement", Form::Money),
+        money_part("replacement", "replacement"),
         plain("features", "features"),
         plain("description", "description"),
         plain("withdrawn", "withdrawn"),
-    ];
-    sheet(alloc, &value, parts.as_slice())
+    ]
+}
+
+fn film_lines(alloc: Global, value: &Value) -> Result<String, NotShown>
+    ensures shown { IfOk result (λ sheet. sheet_of film_sheet_fields (view value.now) ≡ Some (string_bytes sheet)) }
+    ensures other { IfErr result (λ fault. fault ≡ OtherForm → sheet_of film_sheet_fields (view value.now) ≡ None) }
+{
+    sheet(alloc, value, film_parts().as_slice())
+}
+
+/// The body of `GET /film/{n}`, a line for each part, each ended by a line feed.
+pub fn film_sheet(alloc: Global, body: &[u8]) -> Result<String, NotShown>
+    ensures shown { IfOk result (λ sheet. film_sheet_in body.now ≡ Some (string_bytes sheet)) }
+    ensures other { IfErr result (λ fault. fault ≡ OtherForm → film_sheet_in body.now ≡ None) }
+{
+    let value = value_of(alloc, body)?;
+    film_lines(alloc, &value)
 }

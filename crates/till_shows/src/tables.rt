@@ -1,7 +1,7 @@
 //! Tables of texts, in columns that are as wide as their widest text.
 
-ghost use Rattle.std.specs.Prelude.{◌≡◌, ◌∷◌, ◌++◌, [], ℕ, map, drop, take, IfOk, OnOk, OnErr, string_bytes};
-ghost use Rattle.till_shows.specs.Tables.{cell_at, width_of, blanks, between, column_width, places, with_cell, line_text, table_text, seen_headings, seen_sides};
+ghost use Rattle.std.specs.Prelude.{◌≡◌, ◌==◌, ◌∷◌, ◌++◌, [], ℕ, map, drop, take, IfOk, OnOk, OnErr, string_bytes};
+ghost use Rattle.till_shows.specs.Tables.{cell_at, width_of, blanks, between, column_width, places, with_cell, line_text, table_text, seen_headings, seen_sides, row_count};
 
 use std::alloc::{AllocError, Global};
 use std::marker::Model;
@@ -253,12 +253,16 @@ impl Table {
     }
 
     /// How many rows it has, the headings not counted.
-    pub fn len(&self) -> usize {
+    pub fn len(&self) -> usize
+        ensures { result ≡ row_count self.now }
+    {
         self.rows.len().saturating_sub(1)
     }
 
     /// Whether it has no row but the headings.
-    pub fn is_empty(&self) -> bool {
+    pub fn is_empty(&self) -> bool
+        ensures { result ≡ (row_count self.now == 0) }
+    {
         self.len() == 0
     }
 

@@ -1,0 +1,10 @@
+use Rattle.std.proofs.Common.{◌∙◌, ap}
+use Rattle.std.specs.Prelude.{option_and_then}
+use Rattle.till_shows.specs.Bodies.{whole_number}
+use Rattle.till_shows.proofs.bodies.number_at.Goals as goal
+
+pub returns-in_err-get : goal.returns-in_err-get
+returns-in_err-get c = c.from_residual.ensures ∙ ap (option_and_then whole_number) c.in_err-get.ensures
+
+pub returns : goal.returns
+returns c = c.as_u64.ensures ∙ ap (option_and_then whole_number) c.in_ok-get.ensures

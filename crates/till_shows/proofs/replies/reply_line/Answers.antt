@@ -1,0 +1,15 @@
+use Rattle.std.proofs.Common.{◌≡◌, ◌∙◌, ap}
+use Rattle.std.specs.Prelude.{option_and_then}
+use Rattle.std.proofs.lemmas.Result.{IfOk-weaker}
+use Rattle.till_shows.specs.Looks.{reply_of}
+use Rattle.till_shows.proofs.FoundLemmas.{handed_on, if_err}
+use Rattle.till_shows.proofs.replies.reply_line.Goals as goal
+
+pub returns-in_err-value-clause-other : goal.returns-in_err-value-clause-other
+returns-in_err-value-clause-other c = handed_on _ _ c.from_residual.ensures.1 (λ e. ap (option_and_then reply_of) (c.in_err-value.ensures.other e))
+
+pub returns-clause-shown : goal.returns-clause-shown
+returns-clause-shown c = IfOk-weaker c.line_of.result _ _ (λ line is. ap (option_and_then reply_of) c.in_ok-value.ensures.shown ∙ is) c.line_of.ensures.shown
+
+pub returns-clause-other : goal.returns-clause-other
+returns-clause-other c = if_err c.line_of.result _ _ (λ fault is e. ap (option_and_then reply_of) c.in_ok-value.ensures.shown ∙ is e) c.line_of.ensures.other

@@ -1,0 +1,113 @@
+-- The tables of what bodies list, and what a list says of one number.
+use Rattle.std.specs.Prelude.{ℕ, ◌==◌, ◌&&◌, ◌||◌, nat_le, Bool, false, List, [], ◌∷◌, ◌++◌, map, filter, take, length, Option, Some, None, option_map, option_and_then, unwrap_or, codes, if◌then◌else◌}
+use Rattle.std.specs.Str.{str_eq_ignore_ascii_case}
+use Rattle.serde_json.specs.Data.{Data}
+use Rattle.shop_model.specs.Values.{Text}
+use Rattle.till_shows.specs.Bodies.{body_of, each, rows_in, text_at, has_number}
+use Rattle.till_shows.specs.Fields.{Field, plain_field, number_field, money_field, searched_field, row_of}
+use Rattle.till_shows.specs.Lines.{Table}
+
+-- ---- what is looked for
+
+-- in any case of ASCII letters
+abbrev pub begins_with : Text → Text → Bool
+begins_with part text = nat_le (length part) (length text) && str_eq_ignore_ascii_case (take (length part) text) part
+
+-- the part stands somewhere in the text; an empty one stands in each
+abbrev pub stands_in : Text → Text → Bool
+stands_in part [] = length part == 0
+stands_in part (x ∷ text) = begins_with part (x ∷ text) || stands_in part text
+
+abbrev pub stands_at : Text → Text → Data → Bool
+stands_at name part d = unwrap_or (option_map (stands_in part) (text_at name d)) false
+
+-- the field is searched, and the part stands in the object's text of it
+abbrev pub has_field : Text → Data → Field → Bool
+has_field part d field = field.is_searched && stands_at field.name part d
+
+-- the part stands in one of the object's texts that are searched
+abbrev pub is_found : Text → List Field → Data → Bool
+is_found part [] d = length part == 0
+is_found part (field ∷ fields) d = has_field part d field || is_found part fields d
+
+-- ---- tables
+
+-- the headings alone
+abbrev pub headed : List Field → Table
+headed fields = record { sides = map (λ (field : Field). field.side) fields; rows = map (λ (field : Field). field.heading) fields ∷ [] }
+
+abbrev pub more_rows : Table → List (List Text) → Table
+more_rows table rows = record { sides = table.sides; rows = table.rows ++ rows }
+
+-- a row for each object in which the part is found, in their order, and none for another
+abbrev pub found_rows : List Field → Text → List Data → Option (List (List Text))
+found_rows fields part ds = each (row_of fields) (filter (is_found part fields) ds)
+
+-- the rows of what the body lists, below their headings
+abbrev pub table_in : List Field → Text → Text → Option Table
+table_in fields part body = option_map (more_rows (headed fields)) (option_and_then (found_rows fields part) (option_and_then rows_in (body_of body)))
+
+-- the same of all that the body lists
+abbrev pub whole_table : List Field → Text → Option Table
+whole_table fields body = option_map (more_rows (headed fields)) (option_and_then (each (row_of fields)) (option_and_then rows_in (body_of body)))
+
+abbrev pub customer_fields : List Field
+customer_fields =
+    number_field (codes "id") (codes "customer")
+    ∷ searched_field (codes "name") (codes "name")
+    ∷ searched_field (codes "phone") (codes "phone")
+    ∷ plain_field (codes "address") (codes "address")
+    ∷ plain_field (codes "city") (codes "city")
+    ∷ plain_field (codes "note") (codes "note")
+    ∷ []
+
+abbrev pub film_fields : List Field
+film_fields =
+    number_field (codes "film") (codes "film")
+    ∷ searched_field (codes "title") (codes "title")
+    ∷ plain_field (codes "rating") (codes "rating")
+    ∷ money_field (codes "price") (codes "price")
+    ∷ plain_field (codes "category") (codes "category")
+    ∷ []
+
+abbrev pub overdue_fields : List Field
+overdue_fields =
+    plain_field (codes "customer") (codes "customer")
+    ∷ plain_field (codes "phone") (codes "phone")
+    ∷ plain_field (codes "title") (codes "title")
+    ∷ []
+
+abbrev pub arrival_fields : List Field
+arrival_fields =
+    number_field (codes "from") (codes "from")
+    ∷ number_field (codes "number") (codes "number")
+    ∷ plain_field (codes "films") (codes "films")
+    ∷ plain_field (codes "received") (codes "received")
+    ∷ []
+
+abbrev pub sent_fields : List Field
+sent_fields =
+    number_field (codes "to") (codes "to")
+    ∷ number_field (codes "number") (codes "number")
+    ∷ plain_field (codes "films") (codes "films")
+    ∷ []
+
+abbrev pub store_fields : List Field
+store_fields =
+    plain_field (codes "store") (codes "store")
+    ∷ plain_field (codes "manager") (codes "manager")
+    ∷ money_field (codes "total") (codes "total")
+    ∷ []
+
+abbrev pub category_fields : List Field
+category_fields = plain_field (codes "category") (codes "category") ∷ money_field (codes "total") (codes "total") ∷ []
+
+-- ---- one number
+
+-- the text of the first object that says the number; none where no object does
+abbrev pub first_named : Text → ℕ → Text → List Data → Option (Option Text)
+first_named by n name [] = Some None
+first_named by n name (d ∷ ds) = if has_number by n d then option_map Some (text_at name d) else first_named by n name ds
+
+abbrev pub named_in : Text → ℕ → Text → Text → Option (Option Text)
+named_in by n name body = option_and_then (first_named by n name) (option_and_then rows_in (body_of body))
