@@ -1,5 +1,5 @@
 -- Tables of what is listed, object by object, and what is found in them.
-use Rattle.std.proofs.Common.{◌≡◌, ◌∙◌, ◌≤◌, ◌<◌, ◌+◌, ℕ, List, [], ◌∷◌, ◌++◌, map, filter, length, get_or, drop, refl, sym, ap, append-nil, append_assoc, Option, Some, None, Bool, true, false, inl, inr}
+use Rattle.std.proofs.Common.{◌≡◌, ◌∙◌, ◌≤◌, ◌<◌, ◌+◌, ℕ, List, [], ◌∷◌, map, filter, length, get_or, drop, refl, sym, ap, append-nil, append_assoc, Option, Some, None, Bool, true, false, inl, inr}
 use Rattle.std.proofs.lemmas.Bool.{cases_Bool}
 use Rattle.std.proofs.lemmas.List.{drop_all, drop_more}
 use Rattle.std.specs.Prelude.{option_map, option_and_then, ◌||◌, ◌==◌}
@@ -34,7 +34,7 @@ with_row table new None rest h = let no : ◌≡◌ {A = Option Table} None (Som
 with_row table new (Some row) None h = refl
 with_row table new (Some row) (Some more) h =
     let is : more_rows table (row ∷ []) ≡ new = let same : Some (more_rows table (row ∷ [])) ≡ Some new = h in cc in
-    let whole : more_rows table (row ∷ more) ≡ more_rows (more_rows table (row ∷ [])) more = λ i. record { sides = table.sides; rows = append_assoc table.rows (row ∷ []) more i } in
+    let whole : more_rows table (row ∷ more) ≡ more_rows (more_rows table (row ∷ [])) more = λ i. record { sides = table.sides; rows = sym (append_assoc table.rows (row ∷ []) more) i } in
     ap (λ (t : Table). Some t) whole ∙ ap (λ (t : Table). Some (more_rows t more)) is
 
 without_row : (table new : Table) (rest : Option (List (List Text))) → Some (more_rows table []) ≡ Some new → option_map (more_rows table) rest ≡ option_map (more_rows new) rest
@@ -50,7 +50,7 @@ found_more fields part table new d ds h = elim (cases_Bool (is_found part fields
   | inr e ↦ let one = rw e at h in rw e (without_row table new (found_rows fields part ds) one)
 ]
 
-none_at : {A B : Type 0} (o : Option A) (rest : Option (List A)) → option_and_then (λ (b : A). option_map (λ more. b ∷ more) (Some [])) o ≡ None
+none_at : {A : Type 0} (o : Option A) (rest : Option (List A)) → option_and_then (λ (b : A). option_map (λ more. b ∷ more) (Some [])) o ≡ None
     → option_and_then (λ (b : A). option_map (λ more. b ∷ more) rest) o ≡ None
 none_at None rest h = refl
 none_at {A} (Some a) rest h = let no : ◌≡◌ {A = Option (List A)} (Some (a ∷ [])) None = h in cc
@@ -101,12 +101,11 @@ no_row fields part table d e = rw e (ap (λ (t : Table). Some t) (nothing_more t
 
 -- ---- a body's table, step by step
 
-pub table_told : (fields : List Field) (part body : Text) (d : Data) (ds : List Data) (table new : Table) → body_of body ≡ Some d → Some ds ≡ rows_in d → table ≡ headed fields
-    → option_map (more_rows table) (found_rows fields part ds) ≡ Some new → table_in fields part body ≡ Some new
-table_told fields part body d ds table new b r t a =
+pub table_rows : (fields : List Field) (part body : Text) (d : Data) (ds : List Data) → body_of body ≡ Some d → Some ds ≡ rows_in d
+    → table_in fields part body ≡ option_map (more_rows (headed fields)) (found_rows fields part ds)
+table_rows fields part body d ds b r =
     ap (λ (o : Option Data). option_map (more_rows (headed fields)) (option_and_then (found_rows fields part) (option_and_then rows_in o))) b
     ∙ ap (λ (o : Option (List Data)). option_map (more_rows (headed fields)) (option_and_then (found_rows fields part) o)) (sym r)
-    ∙ ap (λ (it : Table). option_map (more_rows it) (found_rows fields part ds)) (sym t) ∙ a
 
 pub table_no_body : (fields : List Field) (part body : Text) → body_of body ≡ None → table_in fields part body ≡ None
 table_no_body fields part body b =
@@ -116,13 +115,6 @@ pub table_no_list : (fields : List Field) (part body : Text) (d : Data) → body
 table_no_list fields part body d b r =
     ap (λ (o : Option Data). option_map (more_rows (headed fields)) (option_and_then (found_rows fields part) (option_and_then rows_in o))) b
     ∙ ap (λ (o : Option (List Data)). option_map (more_rows (headed fields)) (option_and_then (found_rows fields part) o)) (sym r)
-
-pub table_no_rows : (fields : List Field) (part body : Text) (d : Data) (ds : List Data) → body_of body ≡ Some d → Some ds ≡ rows_in d → found_rows fields part ds ≡ None
-    → table_in fields part body ≡ None
-table_no_rows fields part body d ds b r n =
-    ap (λ (o : Option Data). option_map (more_rows (headed fields)) (option_and_then (found_rows fields part) (option_and_then rows_in o))) b
-    ∙ ap (λ (o : Option (List Data)). option_map (more_rows (headed fields)) (option_and_then (found_rows fields part) o)) (sym r)
-    ∙ ap (option_map (more_rows (headed fields))) n
 
 pub named_told : (by : Text) (n : ℕ) (name body : Text) (d : Data) (ds : List Data) → body_of body ≡ Some d → Some ds ≡ rows_in d → named_in by n name body ≡ first_named by n name ds
 named_told by n name body d ds b r =

@@ -1,5 +1,5 @@
 -- The digits of a moment's text write its parts.
-use Rattle.std.proofs.Common.{◌≡◌, ap, arith, pos, ℕ, List, slice_index, ◌<◌, ◌≤◌}
+use Rattle.std.proofs.Common.{◌≡◌, ap, arith, pos, ℕ, List, slice_index, ◌≤◌}
 use Rattle.jiff_core.proofs.CalendarLemmas.{days_in_month_bounds}
 use Rattle.shop_values.specs.Moments.{IsDigits}
 use Rattle.shop_model.specs.Calendar.{Moment, IsMoment, moment_text}

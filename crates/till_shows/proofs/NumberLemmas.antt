@@ -1,5 +1,5 @@
 -- Digits with no leading zero are what is written of their number.
-use Rattle.std.proofs.Common.{rules, ◌≡◌, ◌≢◌, ◌∙◌, ◌<◌, ◌≤◌, ◌^◌, ◌++◌, [], ◌∷◌, ℕ, zero, suc, Bool, true, false, List, length, get_or, Option, Some, None, Bor, refl, sym, ap, subst, arith}
+use Rattle.std.proofs.Common.{rules, ◌≡◌, ◌≢◌, ◌∙◌, ◌<◌, ◌≤◌, ◌^◌, ◌++◌, [], ◌∷◌, ℕ, zero, suc, Bool, true, false, List, length, get_or, Option, Some, None, Bor, refl, sym, ap, arith}
 use Rattle.std.specs.Prelude.{decimal, nat_le, nat_lt, ◌==◌, ◌&&◌, not, if◌then◌else◌, IfSome, MatchOption}
 use Rattle.std.specs.List.{list_all}
 use Rattle.std.specs.Char.{is_ascii_digit}

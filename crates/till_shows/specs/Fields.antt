@@ -1,5 +1,5 @@
 -- The members of objects that are shown, each by a text.
-use Rattle.std.specs.Prelude.{ℕ, Bool, true, false, List, [], option_map, option_and_then, Option, Some, None, codes, decimal}
+use Rattle.std.specs.Prelude.{Bool, true, false, List, [], option_map, option_and_then, Option, Some, None, codes, decimal}
 use Rattle.serde_json.specs.Data.{Data, null, boolean, number, string, array, object}
 use Rattle.serde_json.specs.Find.{get, as_u64}
 use Rattle.shop_model.specs.Values.{Text}

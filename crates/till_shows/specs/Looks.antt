@@ -1,5 +1,5 @@
 -- What looks and accepted commands say, as lines, by the bodies of their replies.
-use Rattle.std.specs.Prelude.{ℕ, zero, suc, ℤ, pos, negsuc, Bool, true, false, List, [], ◌∷◌, ◌++◌, Option, Some, None, is_some, option_map, option_and_then, codes, decimal, if◌then◌else◌}
+use Rattle.std.specs.Prelude.{ℕ, zero, suc, ℤ, pos, negsuc, Bool, List, [], ◌∷◌, ◌++◌, Option, Some, None, is_some, option_map, option_and_then, codes, decimal, if◌then◌else◌}
 use Rattle.std.specs.Option.{option_or}
 use Rattle.serde_json.specs.Data.{Data}
 use Rattle.serde_json.specs.Find.{get, as_null, as_array}
@@ -7,7 +7,7 @@ use Rattle.shop_model.specs.Values.{Text}
 use Rattle.shop_values.specs.Numbers.{is_row_number}
 use Rattle.till_shows.specs.Bodies.{body_of, whole_number, numbers_in, number_at, cents_at, flag_at, numbers_at}
 use Rattle.till_shows.specs.Entries.{not_text}
-use Rattle.till_shows.specs.Money.{money_text, amount_text}
+use Rattle.till_shows.specs.Money.{amount_text}
 use Rattle.till_shows.specs.Numbers.{commas}
 
 -- ---- looks

@@ -1,5 +1,5 @@
 -- Money as a cashier reads it.
-use Rattle.std.specs.Prelude.{ℕ, ◌/◌, ◌%◌, ◌++◌, ℤ, pos, negsuc, suc, [], ◌∷◌, codes, decimal}
+use Rattle.std.specs.Prelude.{ℕ, ◌/◌, ◌%◌, ◌++◌, ℤ, pos, negsuc, suc, [], codes, decimal}
 use Rattle.shop_model.specs.Values.{Text}
 
 abbrev pub sign_text : ℤ → Text

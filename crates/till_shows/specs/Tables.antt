@@ -1,5 +1,5 @@
 -- The text of a table.
-use Rattle.std.specs.Prelude.{ℕ, suc, ◌+◌, ◌-◌, nat_lt, if◌then◌else◌, Bool, false, List, [], ◌∷◌, ◌++◌, map, flat_map, length, slice_get, unwrap_or, chars, codes}
+use Rattle.std.specs.Prelude.{ℕ, suc, ◌-◌, nat_lt, if◌then◌else◌, false, List, [], ◌∷◌, ◌++◌, map, flat_map, length, slice_get, unwrap_or, chars, codes}
 use Rattle.std.specs.List.{fold, repeat}
 use Rattle.unicode_width.specs.Width.{str_width}
 use Rattle.shop_model.specs.Values.{Text}

@@ -2,7 +2,8 @@
 
 ghost use Rattle.std.specs.Prelude.{◌≡◌, Some, None, IfOk, IfErr, map, option_map, string_bytes};
 ghost use Rattle.serde_json.specs.View.{view};
-ghost use Rattle.till_shows.specs.Bodies.{body_of, each, whole_number, cents_in, rows_in, numbers_in, text_at, number_at, cents_at, flag_at, numbers_at, has_number};
+ghost use Rattle.till_shows.specs.Bodies.{body_of, each, whole_number, cents_in, rows_in, numbers_in, text_at};
+ghost use Rattle.till_shows.specs.Bodies.{number_at, cents_at, flag_at, numbers_at, has_number};
 ghost use Rattle.till_shows.specs.declared.bodies.NotShown.TheVariants.{NoMemory as OutOfMemory, OtherForm};
 
 use serde_json::Value;

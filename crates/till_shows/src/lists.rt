@@ -4,7 +4,10 @@ ghost use Rattle.std.specs.Prelude.{◌≡◌, [], ◌∷◌, Some, None, IfOk, 
 ghost use Rattle.serde_json.specs.View.{view};
 ghost use Rattle.till_shows.specs.Bodies.{each};
 ghost use Rattle.till_shows.specs.Fields.{row_of};
-ghost use Rattle.till_shows.specs.Lists.{begins_with, stands_in, stands_at, has_field, is_found, headed, more_rows, found_rows, table_in, whole_table, customer_fields, film_fields, overdue_fields, arrival_fields, sent_fields, store_fields, category_fields, first_named, named_in};
+ghost use Rattle.till_shows.specs.Lists.{begins_with, stands_in, stands_at, has_field, is_found, headed, more_rows};
+ghost use Rattle.till_shows.specs.Lists.{found_rows, table_in, whole_table, customer_fields, film_fields};
+ghost use Rattle.till_shows.specs.Lists.{overdue_fields, arrival_fields, sent_fields, store_fields, category_fields};
+ghost use Rattle.till_shows.specs.Lists.{first_named, named_in};
 ghost use Rattle.till_shows.specs.declared.bodies.NotShown.TheVariants.{OtherForm};
 
 use crate::bodies::{NotShown, has_number, owned_text, rows_of, text_at, value_of};
@@ -22,7 +25,7 @@ fn begins_with(text: &[u8], part: &[u8]) -> bool
 }
 
 /// Whether the part stands in the text, in any case of ASCII letters.
-#[tactic(auto, using(crate::proofs::ListLemmas::stands_here, crate::proofs::ListLemmas::stands_later, crate::proofs::ListLemmas::nothing_stands))]
+#[tactic(auto, using(crate::proofs::ListLemmas::stands_here, crate::proofs::ListLemmas::nothing_stands))]
 fn stands_in(text: &[u8], part: &[u8]) -> bool
     ensures { result ≡ stands_in part.now text.now }
 {
@@ -121,6 +124,23 @@ fn empty_table(alloc: Global, parts: &[Part]) -> Result<Table, AllocError>
     Table::new(alloc, columns.as_slice())
 }
 
+/// The table of those of the objects in which the part is found, in their order, with those parts.
+fn table_of_rows(
+    alloc: Global,
+    rows: &[Value],
+    parts: &[Part],
+    part: &str,
+) -> Result<Table, NotShown>
+    ensures shown { IfOk result (λ table. option_map (more_rows (headed parts.now))
+        (found_rows parts.now part.now (map view rows.now)) ≡ Some table) }
+    ensures other { IfErr result (λ fault. fault ≡ OtherForm
+        → found_rows parts.now part.now (map view rows.now) ≡ None) }
+{
+    let mut table = empty_table(alloc, parts)?;
+    add_rows(alloc, rows, parts, part, &mut table)?;
+    Ok(table)
+}
+
 /// The table of the objects that the body lists, in its order, with those parts, and of those objects alone in which
 /// the part is found.
 fn table_of(alloc: Global, body: &[u8], parts: &[Part], part: &str) -> Result<Table, NotShown>
@@ -128,12 +148,10 @@ fn table_of(alloc: Global, body: &[u8], parts: &[Part], part: &str) -> Result<Ta
     ensures other { IfErr result (λ fault. fault ≡ OtherForm → table_in parts.now part.now body.now ≡ None) }
 {
     let value = value_of(alloc, body)?;
-    let Some(rows) = rows_of(&value) else {
-        return Err(NotShown::OtherForm);
-    };
-    let mut table = empty_table(alloc, parts)?;
-    add_rows(alloc, rows, parts, part, &mut table)?;
-    Ok(table)
+    match rows_of(&value) {
+        Some(rows) => table_of_rows(alloc, rows, parts, part),
+        None => Err(NotShown::OtherForm),
+    }
 }
 
 /// The same of all objects that the body lists.

@@ -4,7 +4,9 @@ ghost use Rattle.std.specs.Prelude.{◌≡◌, ◌++◌, Some, None, IfOk, IfErr
 ghost use Rattle.serde_json.specs.View.{view};
 ghost use Rattle.till_shows.specs.Bodies.{body_of, numbers_at};
 ghost use Rattle.till_shows.specs.Entries.{not_text};
-ghost use Rattle.till_shows.specs.Looks.{stock_text, in_stock_in, row_number, customer_or_none, holder_in, holder_text, counted_or, copies_of_film, film_in_stock_in, film_not_in_stock_in, balance_text, balance_in, rewards_in};
+ghost use Rattle.till_shows.specs.Looks.{stock_text, in_stock_in, row_number, customer_or_none, holder_in, holder_text};
+ghost use Rattle.till_shows.specs.Looks.{counted_or, copies_of_film, film_in_stock_in, film_not_in_stock_in};
+ghost use Rattle.till_shows.specs.Looks.{balance_text, balance_in, rewards_in};
 ghost use Rattle.till_shows.specs.declared.bodies.NotShown.TheVariants.{OtherForm};
 
 use crate::bodies::{NotShown, cents_at, flag_at, numbers_at, value_of};

@@ -2,7 +2,8 @@
 
 ghost use Rattle.std.specs.Prelude.{◌≡◌, ◌≤◌, ◌<◌, ◌+◌, ℕ, length, slice_index, codes, IfOk, string_bytes};
 ghost use Rattle.shop_values.specs.Moments.{IsDigits};
-ghost use Rattle.till_shows.specs.Times.{month_name, day_text, clock_text, moment_text, counted_text, age_text, plural_text};
+ghost use Rattle.till_shows.specs.Times.{month_name, day_text, clock_text, moment_text, counted_text, age_text};
+ghost use Rattle.till_shows.specs.Times.{plural_text};
 
 use shop_values::Moment;
 use std::alloc::{AllocError, Global};

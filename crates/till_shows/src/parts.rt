@@ -4,7 +4,8 @@ ghost use Rattle.std.specs.Prelude.{◌≡◌, Some, None, IfOk, IfErr, map, opt
 ghost use Rattle.serde_json.specs.View.{view};
 ghost use Rattle.till_shows.specs.Bodies.{numbers_in};
 ghost use Rattle.till_shows.specs.Numbers.{commas};
-ghost use Rattle.till_shows.specs.Fields.{plain_field, number_field, money_field, searched_field, yes_text, plain_text, value_text, field_text, row_of};
+ghost use Rattle.till_shows.specs.Fields.{plain_field, number_field, money_field, searched_field, yes_text, plain_text};
+ghost use Rattle.till_shows.specs.Fields.{value_text, field_text, row_of};
 ghost use Rattle.till_shows.specs.Tables.{seen_headings, seen_sides};
 ghost use Rattle.till_shows.specs.declared.parts.Form.TheVariants.{Money};
 ghost use Rattle.till_shows.specs.declared.bodies.NotShown.TheVariants.{OtherForm};
@@ -42,7 +43,13 @@ impl Model for Part {
 
     ghost Value = { Field };
 
-    ghost view = { λ a. record { name = a.name.now; heading = a.heading.now; form = a.form; side = a.side; is_searched = a.is_searched } };
+    ghost view = { λ a. record {
+      name = a.name.now;
+      heading = a.heading.now;
+      form = a.form;
+      side = a.side;
+      is_searched = a.is_searched;
+    } };
 }
 
 pub(crate) fn plain(name: &'static str, heading: &'static str) -> Part

@@ -2,7 +2,8 @@
 
 ghost use Rattle.std.specs.Prelude.{◌≡◌, Some, None, IfOk, IfErr, option_map, string_bytes};
 ghost use Rattle.serde_json.specs.View.{view};
-ghost use Rattle.till_shows.specs.Looks.{may_rent_text, may_rent_in, consignment_text, consignment_in, numbered_in, copies_in, reply_of, reply_in};
+ghost use Rattle.till_shows.specs.Looks.{may_rent_text, may_rent_in, consignment_text, consignment_in, numbered_in};
+ghost use Rattle.till_shows.specs.Looks.{copies_in, reply_of, reply_in};
 ghost use Rattle.till_shows.specs.declared.bodies.NotShown.TheVariants.{OtherForm};
 
 use crate::bodies::{NotShown, flag_at, number_at, numbers_in, value_of};

@@ -1,10 +1,12 @@
 //! One row as a sheet, a line for each part.
 
-ghost use Rattle.std.specs.Prelude.{◌≡◌, Some, None, IfOk, IfErr, IfSome, codes, string_bytes};
+ghost use Rattle.std.specs.Prelude.{◌≡◌, ◌++◌, Some, None, IfOk, IfErr, OnOk, IfSome, codes, string_bytes};
 ghost use Rattle.serde_json.specs.View.{view};
 ghost use Rattle.shop_model.specs.Calendar.{moment_text};
 ghost use Rattle.till_shows.specs.Bodies.{text_at};
-ghost use Rattle.till_shows.specs.Sheets.{sheet_line, field_line, sheet_of, film_sheet_fields, customer_sheet_fields, film_sheet_in, IsCustomerSheet};
+ghost use Rattle.till_shows.specs.Sheets.{sheet_line, field_line, sheet_of, film_sheet_fields, customer_sheet_fields};
+ghost use Rattle.till_shows.specs.Sheets.{film_sheet_in, IsCustomerSheet};
+ghost use Rattle.till_shows.specs.Times.{moment_text as moment_in_words};
 ghost use Rattle.till_shows.specs.declared.bodies.NotShown.TheVariants.{OtherForm};
 
 use crate::bodies::{NotShown, text_at, value_of};
@@ -74,6 +76,17 @@ fn created(value: &Value) -> Option<Moment>
     }
 }
 
+/// A line more, which says since when there is a customer.
+fn add_joined(alloc: Global, created: Moment, sheet: &mut String) -> Result<(), NotShown>
+    ensures { OnOk result (string_bytes sheet.new
+        ≡ string_bytes sheet.old ++ sheet_line (codes "joined") (moment_in_words created)) }
+{
+    let words = moment_words(alloc, created)?;
+    let line = sheet_line(alloc, "joined", words.as_str())?;
+    sheet.push_str(line.as_str())?;
+    Ok(())
+}
+
 /// The body of `GET /customer/{n}`, a line for each part, each ended by a line feed.
 pub fn customer_sheet(alloc: Global, body: &[u8]) -> Result<String, NotShown>
     ensures { IfOk result (λ sheet. IsCustomerSheet body.now (string_bytes sheet)) }
@@ -83,9 +96,7 @@ pub fn customer_sheet(alloc: Global, body: &[u8]) -> Result<String, NotShown>
     let Some(created) = created(&value) else {
         return Err(NotShown::OtherForm);
     };
-    let words = moment_words(alloc, created)?;
-    let line = sheet_line(alloc, "joined", words.as_str())?;
-    sheet.push_str(line.as_str())?;
+    add_joined(alloc, created, &mut sheet)?;
     Ok(sheet)
 }
 

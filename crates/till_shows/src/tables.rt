@@ -1,7 +1,8 @@
 //! Tables of texts, in columns that are as wide as their widest text.
 
 ghost use Rattle.std.specs.Prelude.{◌≡◌, ◌==◌, ◌∷◌, ◌++◌, [], ℕ, map, drop, take, IfOk, OnOk, OnErr, string_bytes};
-ghost use Rattle.till_shows.specs.Tables.{cell_at, width_of, blanks, between, column_width, places, with_cell, line_text, table_text, seen_headings, seen_sides, row_count};
+ghost use Rattle.till_shows.specs.Tables.{cell_at, width_of, blanks, between, column_width, places, with_cell};
+ghost use Rattle.till_shows.specs.Tables.{line_text, table_text, seen_headings, seen_sides, row_count};
 
 use std::alloc::{AllocError, Global};
 use std::marker::Model;

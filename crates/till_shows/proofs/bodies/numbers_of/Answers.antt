@@ -1,8 +1,8 @@
-use Rattle.std.proofs.Common.{◌≡◌, ◌∙◌, ◌++◌, ◌∷◌, [], ℕ, List, Option, Some, None, sym, ap}
+use Rattle.std.proofs.Common.{◌≡◌, ◌∙◌, ℕ, Option, Some, None, sym}
 use Rattle.serde_json.specs.View.{view}
 use Rattle.serde_json.specs.declared.value.Value.{Value}
 use Rattle.till_shows.specs.Bodies.{each, whole_number}
-use Rattle.till_shows.proofs.EachLemmas.{behind, behind_all, turn, stop, whole, each-map}
+use Rattle.till_shows.proofs.EachLemmas.{behind_all, turn, stop, whole, each-map}
 use Rattle.till_shows.proofs.bodies.numbers_of.Goals as goal
 
 abbrev number_in : Value → Option ℕ

@@ -1,4 +1,4 @@
-use Rattle.std.proofs.Common.{◌≡◌, Some, refl, sym, ap}
+use Rattle.std.proofs.Common.{Some, refl, sym, ap}
 use Rattle.till_shows.specs.Lines.{Table}
 use Rattle.till_shows.proofs.FoundLemmas.{handed_on}
 use Rattle.till_shows.proofs.lists.add_row.Goals as goal

@@ -1,4 +1,4 @@
-use Rattle.std.proofs.Common.{◌≡◌, ◌∙◌, [], ◌∷◌, List, Some, None, sym, ap, drop, map, arith, ◌+◌}
+use Rattle.std.proofs.Common.{◌∙◌, List, Some, sym, ap, drop, map, ◌+◌}
 use Rattle.std.specs.Prelude.{option_map}
 use Rattle.serde_json.specs.Data.{Data}
 use Rattle.serde_json.specs.View.{view}

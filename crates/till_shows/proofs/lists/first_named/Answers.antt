@@ -1,6 +1,5 @@
-use Rattle.std.proofs.Common.{◌≡◌, ◌∙◌, ◌+◌, List, Some, None, sym, ap, map, drop, true, false, string_bytes, Option}
+use Rattle.std.proofs.Common.{◌∙◌, ◌+◌, Some, sym, ap, map, drop}
 use Rattle.std.specs.Prelude.{option_map}
-use Rattle.serde_json.specs.Data.{Data}
 use Rattle.serde_json.specs.View.{view}
 use Rattle.till_shows.specs.Lists.{first_named}
 use Rattle.till_shows.proofs.FoundLemmas.{handed_on}
@@ -27,7 +26,7 @@ returns-in_err-text-clause-other c =
     ∙ named_here by c.args.number c.args.name.now (view c.row-item.result) (map view (drop (i + 1) rows)) (sym c.has_number.ensures ∙ c.if-has_number.true)
     ∙ ap (option_map (λ t. Some t)) (c.in_err-text.ensures.other e))
 
-pub returns-then-has_number-clause-shown : goal.returns-in_ok-text-clause-shown
+pub returns-then-has_number-clause-shown : goal.returns-then-has_number-clause-shown
 returns-then-has_number-clause-shown c =
     let rows = c.args.rows.now in
     let i = c.loop-row.row-index in

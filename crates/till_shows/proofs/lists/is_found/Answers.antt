@@ -1,4 +1,4 @@
-use Rattle.std.proofs.Common.{◌≡◌, ◌∙◌, sym}
+use Rattle.std.proofs.Common.{◌∙◌, sym}
 use Rattle.serde_json.specs.View.{view}
 use Rattle.till_shows.proofs.ListLemmas.{found_here, found_later, nothing_found}
 use Rattle.till_shows.proofs.lists.is_found.Goals as goal

@@ -1,4 +1,4 @@
-use Rattle.std.proofs.Common.{◌≡◌, ◌∙◌, Some, None, map}
+use Rattle.std.proofs.Common.{◌∙◌, map}
 use Rattle.std.proofs.lemmas.Result.{IfOk-weaker}
 use Rattle.serde_json.specs.View.{view}
 use Rattle.till_shows.proofs.FoundLemmas.{handed_on, if_err}
@@ -9,8 +9,8 @@ pub returns-in_err-value-clause-other : goal.returns-in_err-value-clause-other
 returns-in_err-value-clause-other c =
     handed_on _ _ c.from_residual.ensures.1 (λ e. named_no_body c.args.by.now c.args.number c.args.name.now c.args.body.now (c.in_err-value.ensures.other e))
 
-pub returns-in-None-clause-other : goal.returns-in-None-clause-other
-returns-in-None-clause-other c = λ _.
+pub returns-clause-other : goal.returns-clause-other
+returns-clause-other c = λ _.
     named_no_list c.args.by.now c.args.number c.args.name.now c.args.body.now (view c.in_ok-value.value) c.in_ok-value.ensures.shown c.in-None.ensures
 
 pub returns-in-Some-clause-shown : goal.returns-in-Some-clause-shown

@@ -1,4 +1,4 @@
-use Rattle.std.proofs.Common.{◌≡◌, ◌∙◌, sym}
+use Rattle.std.proofs.Common.{◌∙◌, sym}
 use Rattle.std.proofs.lemmas.Result.{IfOk-weaker}
 use Rattle.till_shows.proofs.FoundLemmas.{if_err}
 use Rattle.till_shows.proofs.ListLemmas.{whole_is}

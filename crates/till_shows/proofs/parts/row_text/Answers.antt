@@ -1,4 +1,4 @@
-use Rattle.std.proofs.Common.{◌≡◌, ◌∙◌, Some, None, sym, string_bytes}
+use Rattle.std.proofs.Common.{◌∙◌, sym, string_bytes}
 use Rattle.serde_json.specs.View.{view}
 use Rattle.till_shows.specs.Bodies.{each}
 use Rattle.till_shows.specs.Fields.{field_text}

@@ -1,4 +1,4 @@
-use Rattle.std.proofs.Common.{◌≡◌, ◌∙◌, string_bytes}
+use Rattle.std.proofs.Common.{string_bytes}
 use Rattle.serde_json.specs.View.{view}
 use Rattle.till_shows.proofs.sheets.customer_sheet.Goals as goal
 
@@ -10,5 +10,5 @@ returns c = record {
   is_created = c.in-Some.ensures;
   front = string_bytes c.in_ok-sheet.sheet;
   is_front = c.in_ok-sheet.ensures;
-  whole = cc;
+  whole = c.in_ok-add_joined.ensures;
 }

@@ -1,4 +1,4 @@
-use Rattle.std.proofs.Common.{◌≡◌, ◌∙◌, ◌++◌, List, ℕ, Some, None, sym, ap, string_bytes}
+use Rattle.std.proofs.Common.{◌≡◌, ◌∙◌, ◌++◌, List, ℕ, sym, ap, string_bytes}
 use Rattle.serde_json.specs.View.{view}
 use Rattle.till_shows.specs.Sheets.{field_line}
 use Rattle.till_shows.proofs.FoundLemmas.{handed_on}

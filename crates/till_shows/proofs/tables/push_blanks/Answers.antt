@@ -1,4 +1,4 @@
-use Rattle.std.proofs.Common.{◌≡◌, ◌∙◌, ◌∷◌, ◌++◌, [], ℕ, List, ap, arith}
+use Rattle.std.proofs.Common.{◌∙◌, ◌∷◌, ◌++◌, [], ℕ, List, ap, arith}
 use Rattle.till_shows.proofs.TableLemmas.{blanks_more}
 use Rattle.till_shows.proofs.tables.push_blanks.Goals as goal
 
