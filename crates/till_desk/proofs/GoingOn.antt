@@ -1,5 +1,5 @@
 -- A till's book goes on, step by step.
-use Rattle.std.proofs.Common.{◌≡◌, ◌≢◌, ◌∙◌, ◌+◌, ◌++◌, ◌∷◌, [], ℕ, List, Option, Some, None, Result, Ok, Err, IfOk, IfErr, length, sym, ap, refl, append_assoc, length-append, arith}
+use Rattle.std.proofs.Common.{◌≡◌, ◌≢◌, ◌∙◌, ◌+◌, ◌++◌, ◌∷◌, [], ℕ, List, Option, Some, None, Result, Ok, Err, IfOk, IfErr, length, sym, ap, refl, append_assoc, length-append}
 use Rattle.std.proofs.lemmas.List.{append-nil}
 use Rattle.sqlite.specs.State.{State}
 use Rattle.shop_model.specs.Values.{Text, Command}
@@ -7,7 +7,7 @@ use Rattle.shop_model.specs.Answers.{Answer}
 use Rattle.till_client.specs.Replies.{seen_answer}
 use Rattle.till_client.specs.declared.replies.Answer.{Answer as Read}
 use Rattle.till_book.specs.Journal.{Journal, with_entry, with_reply}
-use Rattle.till_book.specs.Steps.{Rests, IsNextReply}
+use Rattle.till_book.specs.Steps.{Rests, IsNextReply, IsEntered}
 use Rattle.till_work.specs.Entering.{Enters, FailsToEnter}
 use Rattle.till_work.specs.Delivering.{Delivers, FailsToDeliver}
 use Rattle.till_work.specs.declared.entering.EnterFault.{EnterFault}
@@ -18,7 +18,7 @@ use Rattle.till_desk.specs.declared.fault.DeskFault.{DeskFault}
 use Rattle.till_desk.specs.declared.fault.DeskFault.TheVariants as desk
 use Rattle.till_desk.specs.declared.place.Place.{Place}
 use Rattle.till_desk.specs.Faults.{entering_fault, sending_fault}
-use Rattle.till_desk.specs.Desk.{IsAt, Extends, Becomes, GoesOn, Stays, EntersOne, AnswersOne, IsLastReply, TellsLast, IsBookKept}
+use Rattle.till_desk.specs.Desk.{IsAt, Extends, Becomes, GoesOn, Grows, Stays, EntersOne, AnswersOne, TellsLast, IsBookKept}
 
 -- what stands behind what stands behind
 more_then : {A : Type 0} (x y z a b : List A) → y ≡ x ++ a → z ≡ y ++ b → z ≡ x ++ (a ++ b)
@@ -175,6 +175,71 @@ tells_one mark answer before mid after old between new goes answers journal comm
       (mids.journal.replies, refl),
     )
 
+-- ---- whatever the entries say
+
+extends_same : (journal : Journal) → Extends journal journal
+extends_same journal = record { entries = ([], nothing_more journal.entries); replies = ([], nothing_more journal.replies) }
+
+pub grows_same : (place : Place) (s : State) → Grows place s place s
+grows_same place s journal has = record { journal = journal; has = has; extends = extends_same journal }
+
+pub grows_then : (before mid after : Place) (old between new : State) → Grows before old mid between → Grows mid between after new → Grows before old after new
+grows_then before mid after old between new one two journal has =
+    let first = one journal has in
+    let next = two first.journal first.has in
+    record { journal = next.journal; has = next.has; extends = extends_then journal first.journal next.journal first.extends next.extends }
+
+pub rests_grows : (place : Place) (old new : State) → ((journal : Journal) → Rests old journal → Rests new journal) → Grows place old place new
+rests_grows place old new stays journal has = record {
+  journal = journal;
+  has = record { rests = stays journal has.rests; entries = has.entries; replies = has.replies };
+  extends = extends_same journal;
+}
+
+pub entry_grows : (n : ℕ) (request : List ℕ) (before after : Place) (old new : State) → n ≡ before.entries + 1 → after ≡ record before { entries = n } → IsEntered n request old new
+    → Grows before old after new
+entry_grows n request before after old new counted same it journal has =
+    let next : n ≡ length journal.entries + 1 = counted ∙ ap (λ k. k + 1) has.entries in
+    rw same (record {
+      journal = with_entry request journal;
+      has = record { rests = it journal has.rests next; entries = next ∙ sym (length_behind journal.entries request); replies = has.replies };
+      extends = record { entries = (request ∷ [], refl); replies = ([], nothing_more journal.replies) };
+    })
+
+pub answer_grows : (n : ℕ) (answer : Read) (before after : Place) (old new : State) (input left output written : Option (List ℕ)) → n ≡ before.replies + 1
+    → after ≡ record before { replies = n } → Delivers n (Some answer) old new input left output written → Grows before old after new
+answer_grows n answer before after old new input left output written counted same it journal has =
+    let next : n ≡ length journal.replies + 1 = counted ∙ ap (λ k. k + 1) has.replies in
+    rw same (record {
+      journal = with_reply (seen_answer answer) journal;
+      has = record { rests = (it journal has.rests next).rests; entries = has.entries; replies = next ∙ sym (length_behind journal.replies (seen_answer answer)) };
+      extends = record { entries = ([], nothing_more journal.entries); replies = (seen_answer answer ∷ [], refl) };
+    })
+
+pub none_grows : (n : ℕ) (place : Place) (old new : State) (input left output written : Option (List ℕ)) → n ≡ place.replies + 1 → Delivers n None old new input left output written
+    → Grows place old place new
+none_grows n place old new input left output written counted it journal has =
+    let next : n ≡ length journal.replies + 1 = counted ∙ ap (λ k. k + 1) has.replies in
+    record {
+      journal = journal;
+      has = record { rests = (it journal has.rests next).rests; entries = has.entries; replies = has.replies };
+      extends = extends_same journal;
+    }
+
+pub failing_grows : (n : ℕ) (fault : DeliverFault) (place : Place) (old new : State) (output written : Option (List ℕ)) → n ≡ place.replies + 1
+    → FailsToDeliver n fault old new output written → sending_fault fault ≢ desk.Book → Grows place old place new
+failing_grows n fault place old new output written counted fails kept journal has = record {
+  journal = journal;
+  has = record {
+    rests = failing_sending n fault old new output written fails kept journal has.rests (counted ∙ ap (λ k. k + 1) has.replies);
+    entries = has.entries;
+    replies = has.replies;
+  };
+  extends = extends_same journal;
+}
+
+-- ---- faults
+
 -- a fault that is told so isn't the book's
 pub kept_other : {A : Type 0} (told fault : DeskFault) → told ≡ fault → IsBookKept {A = A} (Err told) → fault ≢ desk.Book
 kept_other told fault same kept e = kept (rw (same, e) refl)
@@ -186,6 +251,9 @@ kept_as fault kept e = kept (let same : fault ≡ desk.Book = cc in rw same refl
 pub entered_command : {A E : Type 0} (r : Result A E) (P : A → Type 0) → IfErr r (λ _. ⊥) → IfOk r P → (a : A) × P a
 entered_command (Ok a) P is holds = (a, holds)
 entered_command (Err e) P is holds = absurd is
+
+pub kept_ok : {A : Type 0} (a : A) → IsBookKept (Ok a)
+kept_ok a e = cc
 
 pub kept_unanswered : {A : Type 0} (fault : DeskFault) → fault ≡ desk.Unanswered → IsBookKept {A = A} (Err fault)
 kept_unanswered fault same e = cc

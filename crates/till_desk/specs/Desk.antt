@@ -1,11 +1,11 @@
 -- An open book of a till, and what becomes of it.
-use Rattle.std.specs.Prelude.{◌≡◌, ◌≢◌, ◌+◌, ℕ, List, [], ◌∷◌, ◌++◌, length, slice_get, Option, Some, None, Result, Err}
+use Rattle.std.specs.Prelude.{◌≡◌, ◌≢◌, ℕ, List, [], ◌∷◌, ◌++◌, length, Option, Some, None, Result, Err}
 use Rattle.sqlite_trees.specs.Tree.{Trees}
 use Rattle.sqlite.specs.State.{State}
 use Rattle.shop_model.specs.Values.{Text, Command}
 use Rattle.shop_model.specs.Answers.{Answer}
 use Rattle.till_book.specs.Journal.{Journal, StandsFor, with_entry, with_reply}
-use Rattle.till_book.specs.Steps.{Rests, LeavesEntered}
+use Rattle.till_book.specs.Steps.{Rests}
 use Rattle.till_work.specs.Entering.{IsTillsBook}
 use Rattle.till_work.specs.Delivering.{DeliversOne}
 use Rattle.till_client.specs.Replies.{seen_answer}
@@ -25,6 +25,22 @@ pub record IsAt (mark : Text) (place : Place) (s : State) (journal : Journal) (c
 pub record Extends (old new : Journal) : Type 0 where
   pub entries : (more : List (List ℕ)) × (new.entries ≡ old.entries ++ more)
   pub replies : (more : List Answer) × (new.replies ≡ old.replies ++ more)
+
+-- the book rests with that journal, whatever its entries say, and so many entries and replies are in it
+pub record HasPlace (place : Place) (s : State) (journal : Journal) : Type 0 where
+  pub rests : Rests s journal
+  pub entries : place.entries ≡ length journal.entries
+  pub replies : place.replies ≡ length journal.replies
+
+-- a book that was that one, and has what stood in it
+pub record HasMore (place : Place) (s : State) (old : Journal) : Type 0 where
+  pub journal : Journal
+  pub has : HasPlace place s journal
+  pub extends : Extends old journal
+
+-- whatever the entries of a book say, what stood in it stays
+abbrev pub Grows : Place → State → Place → State → Type 0
+Grows before old after new = (journal : Journal) → HasPlace before old journal → HasMore after new journal
 
 -- a book that was this one, and goes on
 pub record Becomes (mark : Text) (place : Place) (s : State) (old : Journal) (said : List Command) : Type 0 where

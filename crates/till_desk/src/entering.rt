@@ -5,7 +5,7 @@ ghost use Rattle.sqlite.specs.Held.{state};
 ghost use Rattle.sqlite.specs.State.{HasCleanDisk, Survives};
 ghost use Rattle.till_book.specs.Steps.{IsEntered, LeavesEntered};
 ghost use Rattle.till_desk.specs.Faults.{entering_fault};
-ghost use Rattle.till_desk.specs.Desk.{GoesOn, EntersOne, LeavesEntry, IsBookKept};
+ghost use Rattle.till_desk.specs.Desk.{GoesOn, Grows, EntersOne, LeavesEntry, IsBookKept};
 
 use crate::fault::DeskFault;
 use crate::place::Place;
@@ -98,6 +98,8 @@ pub fn enter_request<S: Alter>(
     ensures entered { HasCleanDisk (state S.Store conn.new)
         → OnOk result (IsEntered (place.old.entries + 1) request.now (state S.Store conn.old)
         (state S.Store conn.new)) }
+    ensures grows { HasCleanDisk (state S.Store conn.new) → IsBookKept result
+        → Grows place.old (state S.Store conn.old) place.new (state S.Store conn.new) }
     ensures counted { OnOk result (place.new ≡ record place.old { entries = place.old.entries + 1 }) }
     ensures uncounted { OnErr result (place.new ≡ place.old) }
     ensures crash { Survives (state S.Store conn.old) (state S.Store conn.new)

@@ -6,7 +6,7 @@ ghost use Rattle.sqlite.specs.State.{HasCleanDisk};
 ghost use Rattle.shop_model.specs.Values.{Text};
 ghost use Rattle.till_client.specs.Replies.{seen_answer};
 ghost use Rattle.till_desk.specs.Faults.{sending_fault};
-ghost use Rattle.till_desk.specs.Desk.{GoesOn, AnswersOne, Stays, IsBookKept, TellsLast};
+ghost use Rattle.till_desk.specs.Desk.{GoesOn, Grows, AnswersOne, Stays, IsBookKept, TellsLast};
 
 use crate::fault::DeskFault;
 use crate::place::Place;
@@ -49,6 +49,8 @@ fn send_over<S: Alter, V: Server>(
     ensures stays { HasCleanDisk (state S.Store conn.new) → IsBookKept result
         → OnErr result ((mark : Text) → Stays mark place.old (state S.Store conn.old) place.new
         (state S.Store conn.new)) }
+    ensures grows { HasCleanDisk (state S.Store conn.new) → IsBookKept result
+        → Grows place.old (state S.Store conn.old) place.new (state S.Store conn.new) }
     ensures counted { OnOk result (place.new ≡ record place.old { replies = place.old.replies + 1 }) }
     ensures uncounted { OnErr result (place.new ≡ place.old) }
 {
@@ -82,6 +84,8 @@ fn send_once<S: Alter, V: Server>(
     ensures stays { HasCleanDisk (state S.Store conn.new) → IsBookKept result
         → OnErr result ((mark : Text) → Stays mark place.old (state S.Store conn.old) place.new
         (state S.Store conn.new)) }
+    ensures grows { HasCleanDisk (state S.Store conn.new) → IsBookKept result
+        → Grows place.old (state S.Store conn.old) place.new (state S.Store conn.new) }
     ensures counted { OnOk result (place.new ≡ record place.old { replies = place.old.replies + 1 }) }
     ensures uncounted { OnErr result (place.new ≡ place.old) }
 {
@@ -109,6 +113,8 @@ pub fn send_oldest<S: Alter, V: Server, K: Clock>(
     ensures stays { HasCleanDisk (state S.Store conn.new) → IsBookKept result
         → OnErr result ((mark : Text) → Stays mark place.old (state S.Store conn.old) place.new
         (state S.Store conn.new)) }
+    ensures grows { HasCleanDisk (state S.Store conn.new) → IsBookKept result
+        → Grows place.old (state S.Store conn.old) place.new (state S.Store conn.new) }
     ensures counted { OnOk result (place.new ≡ record place.old { replies = place.old.replies + 1 }) }
     ensures uncounted { OnErr result (place.new ≡ place.old) }
 {
@@ -152,6 +158,8 @@ pub fn send_waiting<S: Alter, V: Server, K: Clock, W: Watch>(
     ensures told { HasCleanDisk (state S.Store conn.new)
         → IfOk result (λ last. (mark : Text) → TellsLast mark last place.old (state S.Store conn.old) place.new
         (state S.Store conn.new)) }
+    ensures grows { HasCleanDisk (state S.Store conn.new) → IsBookKept result
+        → Grows place.old (state S.Store conn.old) place.new (state S.Store conn.new) }
     ensures entries { place.new.entries ≡ place.old.entries }
     ensures all { OnOk result (place.old.replies ≤ place.old.entries → place.new.replies ≡ place.old.entries) }
 {

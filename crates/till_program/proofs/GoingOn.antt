@@ -17,12 +17,12 @@ use Rattle.till_work.specs.declared.settling.SettleFault.TheVariants as settle
 use Rattle.till_desk.specs.declared.fault.DeskFault.{DeskFault}
 use Rattle.till_desk.specs.declared.fault.DeskFault.TheVariants as desk
 use Rattle.till_desk.specs.declared.place.Place.{Place}
-use Rattle.till_desk.specs.Desk.{Becomes, GoesOn, IsBookKept as IsDeskKept}
-use Rattle.till_desk.proofs.GoingOn.{becomes_same, goes_then, stays_goes, rests_stays}
+use Rattle.till_desk.specs.Desk.{Becomes, GoesOn, Grows, IsBookKept as IsDeskKept}
+use Rattle.till_desk.proofs.GoingOn.{becomes_same, goes_then, grows_then, stays_goes, rests_stays, rests_grows}
 use Rattle.till_program.specs.declared.fault.TillFault.{TillFault}
 use Rattle.till_program.specs.declared.fault.TillFault.TheVariants as word
 use Rattle.till_program.specs.Faults.{told_fault, IsBookKept, IsSettlingKept}
-use Rattle.till_program.specs.Word.{IsPlaceIn, IsPlaceOf, IsBehind, KeepsATillsBook, IsSame, EntersNothing}
+use Rattle.till_program.specs.Word.{IsPlaceIn, IsPlaceOf, IsBehind, KeepsATillsBook, HasMore, KeepsABook, IsSame, EntersNothing}
 
 -- ---- faults
 
@@ -52,6 +52,9 @@ kept_goes mark place old new stays = stays_goes mark place place old new (rests_
 pub goes_stays : (mark : Text) (before after : Place) (old mid new : State) → GoesOn mark before old after mid → book.Stays mid new → GoesOn mark before old after new
 goes_stays mark before after old mid new goes stays = goes_then mark before after after old mid new goes (kept_goes mark after mid new stays)
 
+pub grows_stays : (before after : Place) (old mid new : State) → Grows before old after mid → book.Stays mid new → Grows before old after new
+grows_stays before after old mid new grows stays = grows_then before after after old mid new grows (rests_grows after mid new stays)
+
 -- ---- the book as it was read
 
 pub place_of : (place : Place) (rows : BookRows) (s new : State) → IsPlaceIn place rows → book.ReadsBook rows s new → IsPlaceOf place s
@@ -77,6 +80,19 @@ read_keeps mark place after old mid new is stays goes journal commands rests til
     let counted = is journal rests in
     behind mark after new journal commands
     (goes journal commands (record { rests = stays journal rests; book = tills; entries = counted.0; replies = counted.1 }))
+
+pub read_grows : (place after : Place) (old mid new : State) → IsPlaceOf place old → book.Stays old mid → Grows place mid after new → KeepsABook old new
+read_grows place after old mid new is stays grows journal rests =
+    let counted = is journal rests in
+    let it = grows journal (record { rests = stays journal rests; entries = counted.0; replies = counted.1 }) in
+    record { journal = it.journal; rests = it.has.rests; extends = it.extends }
+
+pub stays_grows : (old new : State) → book.Stays old new → KeepsABook old new
+stays_grows old new stays journal rests = record {
+  journal = journal;
+  rests = stays journal rests;
+  extends = record { entries = ([], sym (append-nil journal.entries)); replies = ([], sym (append-nil journal.replies)) };
+}
 
 pub stays_keeps : (mark : Text) (old new : State) → book.Stays old new → KeepsATillsBook mark old new
 stays_keeps mark old new stays journal commands rests tills = record {

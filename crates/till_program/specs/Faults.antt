@@ -1,5 +1,5 @@
 -- Which fault of a word tells a fault of the desk, and when the book didn't fail.
-use Rattle.std.specs.Prelude.{◌≢◌, ⊤, Result, Ok, Err}
+use Rattle.std.specs.Prelude.{◌≡◌, ◌≢◌, ◌⊎◌, ⊤, ℕ, Option, Some, None, Result, Ok, Err}
 use Rattle.till_work.specs.declared.settling.Settled.{Settled}
 use Rattle.till_work.specs.declared.settling.SettleFault.{SettleFault}
 use Rattle.till_work.specs.declared.settling.SettleFault.TheVariants as settle
@@ -28,3 +28,18 @@ IsSettlingKept (Err (settle.Book fault)) = ⊥
 IsSettlingKept (Err settle.NoEntry) = ⊤
 IsSettlingKept (Err (settle.Unanswered fault)) = ⊤
 IsSettlingKept (Err settle.NotNow) = ⊤
+
+-- a book that can't be read has failed, or has too many entries, or there was no memory
+abbrev pub IsReading : TillFault → Type 0
+IsReading fault = (fault ≡ word.Book) ⊎ ((fault ≡ word.Full) ⊎ (fault ≡ word.Memory))
+
+-- what is told of the other's word: of a branch's at head office's book, where nobody works, and of head office's at a branch's
+abbrev pub others_fault : Option ℕ → TillFault
+others_fault None = word.IsOffice
+others_fault (Some own) = word.IsBranch
+
+-- who gives a branch's word: whoever is named, or else whose till it is; at head office's book nobody can, whoever is named
+abbrev pub giver_of : Option ℕ → Option ℕ → Result ℕ TillFault
+giver_of None named = Err word.IsOffice
+giver_of (Some own) None = Ok own
+giver_of (Some own) (Some named) = Ok named

@@ -1,9 +1,10 @@
 //! An open book, and what is in it.
 
-ghost use Rattle.std.specs.Prelude.{◌≡◌, false, IfOk};
+ghost use Rattle.std.specs.Prelude.{◌≡◌, false, IfOk, IfErr};
 ghost use Rattle.sqlite.specs.Held.{state};
 ghost use Rattle.sqlite.specs.State.{HasCleanDisk};
 ghost use Rattle.till_book.specs.Steps.{Stays};
+ghost use Rattle.till_program.specs.Faults.{IsReading};
 ghost use Rattle.till_program.specs.Word.{IsPlaceIn, IsPlaceOf};
 
 use crate::fault::TillFault;
@@ -29,6 +30,7 @@ pub struct Book {
 /// How many entries and replies the rows have.
 fn place_in(rows: &BookRows) -> Result<Place, TillFault>
     ensures { IfOk result (λ place. IsPlaceIn place rows.now) }
+    ensures fault { IfErr result IsReading }
 {
     let Ok(entries) = u32::try_from(rows.entries.as_slice().len()) else {
         return Err(TillFault::Full);
@@ -40,11 +42,9 @@ fn place_in(rows: &BookRows) -> Result<Place, TillFault>
 }
 
 /// The moment of the last entry, where there is one that is a branch's command.
-fn last_moment(
-    alloc: Global,
-    routes: &Routes,
-    rows: &BookRows,
-) -> Result<Option<Moment>, TillFault> {
+fn last_moment(alloc: Global, routes: &Routes, rows: &BookRows) -> Result<Option<Moment>, TillFault>
+    ensures { IfErr result IsReading }
+{
     let Some(entry) = rows.entries.as_slice().last() else {
         return Ok(None);
     };
@@ -69,6 +69,7 @@ impl Book {
             → Stays (state S.Store conn.old) (state S.Store conn.new) }
         ensures place { HasCleanDisk (state S.Store conn.new)
             → IfOk result (λ book. IsPlaceOf book.place (state S.Store conn.old)) }
+        ensures fault { IfErr result IsReading }
     {
         let Ok(rows) = read_book(alloc, conn) else {
             return Err(TillFault::Book);

@@ -1,6 +1,7 @@
 //! What a till has beside its book.
 
-ghost use Rattle.std.specs.Prelude.{◌≡◌};
+ghost use Rattle.std.specs.Prelude.{◌≡◌, IsSome, OnOk};
+ghost use Rattle.till_program.specs.Faults.{giver_of};
 
 use crate::caches::Shelf;
 use crate::fault::TillFault;
@@ -62,10 +63,13 @@ impl<K: Clock, V: Server, L: Shelf> Desk<'_, K, V, L> {
         }
     }
 
-    /// Who gives the word.
-    pub(crate) fn giver(&self) -> Result<StaffNo, TillFault> {
-        match self.staff.or(self.settings.staff) {
-            Some(staff) => Ok(staff),
+    /// Who gives a branch's word: at head office's book nobody does, also where somebody is named.
+    pub(crate) fn giver(&self) -> Result<StaffNo, TillFault>
+        ensures given { result ≡ giver_of self.now.settings.now.staff self.now.staff }
+        ensures branch { OnOk result (IsSome self.now.settings.now.staff) }
+    {
+        match self.settings.staff {
+            Some(own) => Ok(self.staff.unwrap_or(own)),
             None => Err(TillFault::IsOffice),
         }
     }

@@ -3,6 +3,8 @@
 ghost use Rattle.std.specs.Prelude.{◌≡◌, false};
 ghost use Rattle.sqlite.specs.Held.{state};
 ghost use Rattle.sqlite.specs.State.{HasCleanDisk};
+ghost use Rattle.till_desk.specs.Desk.{Grows};
+ghost use Rattle.till_program.specs.Faults.{IsBookKept};
 
 use crate::answers::office_said;
 use crate::book::Book;
@@ -68,11 +70,17 @@ fn give_request<S: Alter, K: Clock, V: Server, L: Shelf, W: Watch>(
     requires { conn.old.in_transaction ≡ false }
     ensures ended { conn.new.in_transaction ≡ false }
     ensures clean { HasCleanDisk (state S.Store conn.new) → HasCleanDisk (state S.Store conn.old) }
+    ensures grows { HasCleanDisk (state S.Store conn.new) → IsBookKept result
+        → Grows place.old (state S.Store conn.old) place.new (state S.Store conn.new) }
 {
-    enter_request(conn, place, request)?;
-    match send_all(desk, conn, place, watch)? {
-        Some(answer) => office_said(desk.alloc, desk.is_json, &answer),
-        None => Err(TillFault::OtherBook),
+    match enter_request(conn, place, request) {
+        Ok(()) => {}
+        Err(fault) => return Err(TillFault::from(fault)),
+    }
+    match send_all(desk, conn, place, watch) {
+        Ok(Some(answer)) => office_said(desk.alloc, desk.is_json, &answer),
+        Ok(None) => Err(TillFault::OtherBook),
+        Err(fault) => Err(fault),
     }
 }
 
@@ -87,6 +95,8 @@ pub(crate) fn give_office<S: Alter, K: Clock, V: Server, L: Shelf, W: Watch>(
     requires { conn.old.in_transaction ≡ false }
     ensures ended { conn.new.in_transaction ≡ false }
     ensures clean { HasCleanDisk (state S.Store conn.new) → HasCleanDisk (state S.Store conn.old) }
+    ensures grows { HasCleanDisk (state S.Store conn.new) → IsBookKept result
+        → Grows book.old.place (state S.Store conn.old) book.new.place (state S.Store conn.new) }
 {
     let number = book.place.entries.checked_add(1).ok_or(TillFault::Full)?;
     match office_bytes(desk, number, words) {

@@ -5,7 +5,7 @@ ghost use Rattle.sqlite.specs.Held.{state};
 ghost use Rattle.sqlite.specs.State.{HasCleanDisk};
 ghost use Rattle.shop_model.specs.Values.{Text};
 ghost use Rattle.till_book.specs.Steps.{Stays};
-ghost use Rattle.till_desk.specs.Desk.{GoesOn};
+ghost use Rattle.till_desk.specs.Desk.{GoesOn, Grows};
 ghost use Rattle.till_program.specs.Faults.{IsBookKept};
 
 use crate::book::Book;
@@ -31,6 +31,8 @@ pub(crate) fn send_all<S: Alter, K: Clock, V: Server, L: Shelf, W: Watch>(
     ensures clean { HasCleanDisk (state S.Store conn.new) → HasCleanDisk (state S.Store conn.old) }
     ensures keeps { HasCleanDisk (state S.Store conn.new) → IsBookKept result → (mark : Text)
         → GoesOn mark place.old (state S.Store conn.old) place.new (state S.Store conn.new) }
+    ensures grows { HasCleanDisk (state S.Store conn.new) → IsBookKept result
+        → Grows place.old (state S.Store conn.old) place.new (state S.Store conn.new) }
 {
     match send_waiting(desk.alloc, desk.clock, desk.server, watch, conn, place) {
         Ok(last) => Ok(last),
@@ -66,6 +68,8 @@ pub(crate) fn send<S: Alter, K: Clock, V: Server, L: Shelf, W: Watch>(
     ensures clean { HasCleanDisk (state S.Store conn.new) → HasCleanDisk (state S.Store conn.old) }
     ensures keeps { HasCleanDisk (state S.Store conn.new) → IsBookKept result → (mark : Text)
         → GoesOn mark book.old.place (state S.Store conn.old) book.new.place (state S.Store conn.new) }
+    ensures grows { HasCleanDisk (state S.Store conn.new) → IsBookKept result
+        → Grows book.old.place (state S.Store conn.old) book.new.place (state S.Store conn.new) }
 {
     let before = book.replies();
     match send_all(desk, conn, &mut book.place, watch) {

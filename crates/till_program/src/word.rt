@@ -1,11 +1,12 @@
 //! One word at an open book.
 
-ghost use Rattle.std.specs.Prelude.{◌≡◌, false, IfOk, IsSome};
+ghost use Rattle.std.specs.Prelude.{◌≡◌, ◌⊎◌, false, None, Err, IfOk, IfErr, OnOk, IsSome};
 ghost use Rattle.sqlite.specs.Held.{state};
 ghost use Rattle.sqlite.specs.State.{HasCleanDisk};
-ghost use Rattle.till_desk.specs.Desk.{GoesOn};
-ghost use Rattle.till_program.specs.Faults.{IsBookKept};
-ghost use Rattle.till_program.specs.Word.{KeepsATillsBook, IsPlannedFor};
+ghost use Rattle.till_book.specs.Steps.{Stays};
+ghost use Rattle.till_desk.specs.Desk.{GoesOn, Grows};
+ghost use Rattle.till_program.specs.Faults.{IsBookKept, IsReading, others_fault};
+ghost use Rattle.till_program.specs.Word.{KeepsATillsBook, KeepsABook, IsFor, IsPlannedFor};
 
 use crate::book::Book;
 use crate::caches::Shelf;
@@ -43,7 +44,9 @@ fn office_plan<K: Clock, V: Server, L: Shelf>(
     desk: &Desk<'_, K, V, L>,
     words: WordList,
 ) -> Result<Plan, TillFault>
-    ensures { IfOk result (IsPlannedFor desk.now.settings.now.staff) }
+    ensures planned { IfOk result (IsPlannedFor desk.now.settings.now.staff) }
+    ensures own { OnOk result (desk.now.settings.now.staff ≡ None) }
+    ensures others { IsSome desk.now.settings.now.staff → result ≡ Err (others_fault desk.now.settings.now.staff) }
 {
     if desk.settings.staff.is_some() {
         return Err(TillFault::IsBranch);
@@ -61,7 +64,9 @@ fn act_plan<K: Clock, V: Server, L: Shelf>(
     book: &Book,
     act: Act,
 ) -> Result<Plan, TillFault>
-    ensures { IfOk result (IsPlannedFor desk.now.settings.now.staff) }
+    ensures planned { IfOk result (IsPlannedFor desk.now.settings.now.staff) }
+    ensures own { OnOk result (IsSome desk.now.settings.now.staff) }
+    ensures others { desk.now.settings.now.staff ≡ None → result ≡ Err (others_fault desk.now.settings.now.staff) }
 {
     let _ = desk.giver()?;
     match act {
@@ -79,7 +84,9 @@ fn copy_plan<K: Clock, V: Server, L: Shelf>(
     book: &Book,
     copy: CopyNo,
 ) -> Result<Plan, TillFault>
-    ensures { IfOk result (IsPlannedFor desk.now.settings.now.staff) }
+    ensures planned { IfOk result (IsPlannedFor desk.now.settings.now.staff) }
+    ensures own { OnOk result (IsSome desk.now.settings.now.staff) }
+    ensures others { desk.now.settings.now.staff ≡ None → result ≡ Err (others_fault desk.now.settings.now.staff) }
 {
     let _ = desk.giver()?;
     let (rental, customer) = rental_at(desk.alloc, desk.routes, book, copy)?;
@@ -92,7 +99,10 @@ fn plan_of<K: Clock, V: Server, L: Shelf>(
     book: &Book,
     act: TillAct,
 ) -> Result<Plan, TillFault>
-    ensures { IfOk result (IsPlannedFor desk.now.settings.now.staff) }
+    ensures planned { IfOk result (IsPlannedFor desk.now.settings.now.staff) }
+    ensures own { OnOk result (IsFor desk.now.settings.now.staff act) }
+    ensures others { ¬ IsFor desk.now.settings.now.staff act
+        → result ≡ Err (others_fault desk.now.settings.now.staff) }
 {
     match act {
         TillAct::Do(act) => act_plan(desk, book, act),
@@ -177,6 +187,9 @@ fn carry_out<S: Alter, K: Clock, V: Server, L: Shelf, W: Watch>(
         → IsPlannedFor desk.now.settings.now.staff plan
         → GoesOn desk.now.settings.now.mark book.old.place (state S.Store conn.old) book.new.place
         (state S.Store conn.new) }
+    ensures grows { HasCleanDisk (state S.Store conn.new) → IsBookKept result → desk.now.settings.now.staff ≡ None
+        → IsPlannedFor desk.now.settings.now.staff plan
+        → Grows book.old.place (state S.Store conn.old) book.new.place (state S.Store conn.new) }
 {
     match plan {
         Plan::Say(said) => Ok(said),
@@ -188,7 +201,9 @@ fn carry_out<S: Alter, K: Clock, V: Server, L: Shelf, W: Watch>(
 
 /// Does what a word asks for at an open book, and says what it came to. A word that makes a book, a prompt, or a
 /// stock file that is still to be read is none of these, and is answered as a usage. A branch's book goes on as one,
-/// unless it failed: what stood in it stays.
+/// unless it failed, and what stood in it stays, in head office's book too. A branch's command at head office's book,
+/// whoever gives it, and head office's words at a branch's are refused, and nothing is entered: `IsOffice`,
+/// `IsBranch`.
 pub fn do_word<S: Alter, K: Clock, V: Server, L: Shelf, W: Watch>(
     desk: &Desk<'_, K, V, L>,
     conn: &mut Connection<S>,
@@ -199,6 +214,13 @@ pub fn do_word<S: Alter, K: Clock, V: Server, L: Shelf, W: Watch>(
     ensures ended { conn.new.in_transaction ≡ false }
     ensures keeps { HasCleanDisk (state S.Store conn.new) → IsBookKept result → IsSome desk.now.settings.now.staff
         → KeepsATillsBook desk.now.settings.now.mark (state S.Store conn.old) (state S.Store conn.new) }
+    ensures office { HasCleanDisk (state S.Store conn.new) → IsBookKept result → desk.now.settings.now.staff ≡ None
+        → KeepsABook (state S.Store conn.old) (state S.Store conn.new) }
+    ensures own { OnOk result (IsFor desk.now.settings.now.staff act) }
+    ensures others { ¬ IsFor desk.now.settings.now.staff act → IfErr result (λ fault. IsReading fault
+        ⊎ (fault ≡ others_fault desk.now.settings.now.staff)) }
+    ensures stays { HasCleanDisk (state S.Store conn.new) → ¬ IsFor desk.now.settings.now.staff act
+        → Stays (state S.Store conn.old) (state S.Store conn.new) }
 {
     let mut book = Book::read(desk.alloc, desk.routes, conn)?;
     let plan = plan_of(desk, &book, act)?;

@@ -2,7 +2,6 @@ use Rattle.std.proofs.Common.{◌≡◌, ◌+◌, refl, rules}
 use Rattle.sqlite.specs.Held.{state}
 use Rattle.shop_types.specs.Seen.{seen_command}
 use Rattle.till_desk.proofs.GoingOn.{enters_one, entered_command, entry_goes}
-use Rattle.till_desk.specs.Desk.{EntersOne}
 use Rattle.till_desk.proofs.entering.enter.Goals as goal
 
 pub returns-in-Ok-clause-entered : goal.returns-in-Ok-clause-entered

@@ -2,7 +2,7 @@ use Rattle.std.proofs.Common.{◌≡◌, false}
 use Rattle.sqlite.specs.Held.{state}
 use Rattle.sqlite.specs.State.{HasCleanDisk}
 use Rattle.shop_model.specs.Values.{Text}
-use Rattle.till_desk.specs.Desk.{Stays}
+use Rattle.till_desk.specs.Desk.{Grows, Stays}
 use Rattle.till_desk.proofs.sending.send_oldest.Given as goal
 
 abbrev pub invariant-rounds : goal.invariant-rounds
@@ -11,3 +11,4 @@ invariant-rounds g l =
     × (HasCleanDisk (state g.S.Store l.conn) → HasCleanDisk (state g.S.Store l.initial.conn))
     × (HasCleanDisk (state g.S.Store l.conn) → (mark : Text) → Stays mark l.initial.place (state g.S.Store l.initial.conn) l.place (state g.S.Store l.conn))
     × (l.place ≡ l.initial.place)
+    × (HasCleanDisk (state g.S.Store l.conn) → Grows l.initial.place (state g.S.Store l.initial.conn) l.place (state g.S.Store l.conn))

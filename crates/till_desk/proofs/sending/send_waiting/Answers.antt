@@ -1,7 +1,7 @@
-use Rattle.std.proofs.Common.{◌≡◌, ◌∙◌, ◌+◌, ap}
+use Rattle.std.proofs.Common.{◌∙◌, ◌+◌, ap}
 use Rattle.sqlite.specs.Held.{state}
 use Rattle.till_desk.specs.declared.place.Place.{Place}
-use Rattle.till_desk.proofs.GoingOn.{goes_then, stays_goes, tells_goes, tells_one, kept_as}
+use Rattle.till_desk.proofs.GoingOn.{goes_then, grows_then, stays_goes, tells_goes, tells_one, kept_ok, kept_as}
 use Rattle.till_desk.proofs.sending.send_waiting.Goals as goal
 
 pub returns-in-Err-clause-keeps : goal.returns-in-Err-clause-keeps
@@ -23,8 +23,19 @@ entries-preserved g c =
           (c.entries.invariant.2 (c.send_oldest.ensures.clean clean) mark)) (c.in-Ok.ensures.answered clean mark)),
       ap (λ (p : Place). p.entries) counted ∙ c.entries.invariant.3,
       ap (λ (p : Place). p.replies) counted ∙ ap (λ n. n + 1) c.entries.invariant.4,
+      (λ clean.
+          grows_then c.args.place.now c.entries.place c.send_oldest.new.place (state g.S.Store c.args.conn.now) (state g.S.Store c.entries.conn) (state g.S.Store c.send_oldest.new.conn)
+          (c.entries.invariant.5 (c.send_oldest.ensures.clean clean)) (c.in-Ok.ensures.grows clean (kept_ok _))),
     )
 
 pub returns-clause-keeps : goal.returns-clause-keeps
 returns-clause-keeps g c clean kept mark =
     tells_goes mark c.entries.last c.args.place.now c.entries.place (state g.S.Store c.args.conn.now) (state g.S.Store c.entries.conn) (c.entries.invariant.2 clean mark)
+
+pub returns-in-Err-clause-grows : goal.returns-in-Err-clause-grows
+returns-in-Err-clause-grows g c clean kept =
+    grows_then c.args.place.now c.entries.place c.send_oldest.new.place (state g.S.Store c.args.conn.now) (state g.S.Store c.entries.conn) (state g.S.Store c.send_oldest.new.conn)
+    (c.entries.invariant.5 (c.send_oldest.ensures.clean clean)) (c.in-Err.ensures.grows clean (kept_as c.in-Err.fault kept))
+
+pub returns-clause-grows : goal.returns-clause-grows
+returns-clause-grows g c clean kept = c.entries.invariant.5 clean

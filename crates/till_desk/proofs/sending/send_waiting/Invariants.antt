@@ -2,7 +2,7 @@ use Rattle.std.proofs.Common.{◌≡◌, false}
 use Rattle.sqlite.specs.Held.{state}
 use Rattle.sqlite.specs.State.{HasCleanDisk}
 use Rattle.shop_model.specs.Values.{Text}
-use Rattle.till_desk.specs.Desk.{TellsLast}
+use Rattle.till_desk.specs.Desk.{Grows, TellsLast}
 use Rattle.till_desk.proofs.sending.send_waiting.Given as goal
 
 abbrev pub invariant-entries : goal.invariant-entries
@@ -12,3 +12,4 @@ invariant-entries g l =
     × (HasCleanDisk (state g.S.Store l.conn) → (mark : Text) → TellsLast mark l.last l.initial.place (state g.S.Store l.initial.conn) l.place (state g.S.Store l.conn))
     × (l.place.entries ≡ l.initial.place.entries)
     × (l.place.replies ≡ l.sent)
+    × (HasCleanDisk (state g.S.Store l.conn) → Grows l.initial.place (state g.S.Store l.initial.conn) l.place (state g.S.Store l.conn))

@@ -1,5 +1,5 @@
 use Rattle.sqlite.specs.Held.{state}
-use Rattle.till_program.proofs.GoingOn.{read_keeps, stays_keeps}
+use Rattle.till_program.proofs.GoingOn.{read_keeps, read_grows, stays_keeps, stays_grows}
 use Rattle.till_program.proofs.word.do_word.Goals as goal
 
 pub returns-in_err-book-clause-keeps : goal.returns-in_err-book-clause-keeps
@@ -14,4 +14,22 @@ pub returns-clause-keeps : goal.returns-clause-keeps
 returns-clause-keeps g c clean kept branch =
     let mid = c.carry_out.ensures.clean clean in
     read_keeps c.args.desk.now.settings.now.mark c.in_ok-book.book.place c.carry_out.new.book.place (state g.S.Store c.args.conn.now) (state g.S.Store c.read.new.conn)
-    (state g.S.Store c.carry_out.new.conn) (c.in_ok-book.ensures.place mid) (c.read.ensures.stays mid) (c.carry_out.ensures.keeps clean kept branch c.in_ok-plan.ensures)
+    (state g.S.Store c.carry_out.new.conn) (c.in_ok-book.ensures.place mid) (c.read.ensures.stays mid) (c.carry_out.ensures.keeps clean kept branch c.in_ok-plan.ensures.planned)
+
+pub returns-in_err-book-clause-office : goal.returns-in_err-book-clause-office
+returns-in_err-book-clause-office g c clean kept office = stays_grows (state g.S.Store c.args.conn.now) (state g.S.Store c.read.new.conn) (c.read.ensures.stays clean)
+
+pub returns-in_err-plan-clause-office : goal.returns-in_err-plan-clause-office
+returns-in_err-plan-clause-office g c clean kept office = stays_grows (state g.S.Store c.args.conn.now) (state g.S.Store c.read.new.conn) (c.read.ensures.stays clean)
+
+pub returns-clause-office : goal.returns-clause-office
+returns-clause-office g c clean kept office =
+    let mid = c.carry_out.ensures.clean clean in
+    read_grows c.in_ok-book.book.place c.carry_out.new.book.place (state g.S.Store c.args.conn.now) (state g.S.Store c.read.new.conn)
+    (state g.S.Store c.carry_out.new.conn) (c.in_ok-book.ensures.place mid) (c.read.ensures.stays mid) (c.carry_out.ensures.grows clean kept office c.in_ok-plan.ensures.planned)
+
+pub returns-clause-others : goal.returns-clause-others
+returns-clause-others g c other = absurd (other c.in_ok-plan.ensures.own)
+
+pub returns-clause-stays : goal.returns-clause-stays
+returns-clause-stays g c clean other = absurd (other c.in_ok-plan.ensures.own)
