@@ -29,7 +29,7 @@ pub struct Book {
 
 /// How many entries and replies the rows have.
 fn place_in(rows: &BookRows) -> Result<Place, TillFault>
-    ensures { IfOk result (λ place. IsPlaceIn place rows.now) }
+    ensures place { IfOk result (λ place. IsPlaceIn place rows.now) }
     ensures fault { IfErr result IsReading }
 {
     let Ok(entries) = u32::try_from(rows.entries.as_slice().len()) else {
