@@ -22,7 +22,7 @@ use Rattle.till_desk.proofs.GoingOn.{becomes_same, goes_then, grows_then, stays_
 use Rattle.till_program.specs.declared.fault.TillFault.{TillFault}
 use Rattle.till_program.specs.declared.fault.TillFault.TheVariants as word
 use Rattle.till_program.specs.Faults.{told_fault, IsBookKept, IsSettlingKept}
-use Rattle.till_program.specs.Word.{IsPlaceIn, IsPlaceOf, IsBehind, KeepsATillsBook, HasMore, KeepsABook, IsSame, EntersNothing}
+use Rattle.till_program.specs.Word.{IsPlaceIn, IsPlaceOf, IsBehind, KeepsATillsBook, KeepsABook, IsSame, EntersNothing}
 
 -- ---- faults
 

@@ -1,4 +1,7 @@
+use Rattle.std.proofs.Common.{◌≡◌, ◌⊎◌, ◌∙◌, ℕ, Option, Result, Ok, Err, IfErr, IsErrAnd, inr, refl}
 use Rattle.sqlite.specs.Held.{state}
+use Rattle.till_program.specs.declared.fault.TillFault.{TillFault}
+use Rattle.till_program.specs.Faults.{IsReading, others_fault}
 use Rattle.till_program.proofs.GoingOn.{read_keeps, read_grows, stays_keeps, stays_grows}
 use Rattle.till_program.proofs.word.do_word.Goals as goal
 
@@ -27,6 +30,16 @@ returns-clause-office g c clean kept office =
     let mid = c.carry_out.ensures.clean clean in
     read_grows c.in_ok-book.book.place c.carry_out.new.book.place (state g.S.Store c.args.conn.now) (state g.S.Store c.read.new.conn)
     (state g.S.Store c.carry_out.new.conn) (c.in_ok-book.ensures.place mid) (c.read.ensures.stays mid) (c.carry_out.ensures.grows clean kept office c.in_ok-plan.ensures.planned)
+
+-- what the plan's fault says is handed on
+handed_on : {A B : Type 0} (result : Result A TillFault) (plan : Result B TillFault) (fault : TillFault) (staff : Option ℕ)
+    → IsErrAnd result (λ told. told ≡ fault) → plan ≡ Err fault → plan ≡ Err (others_fault staff) → IfErr result (λ told. IsReading told ⊎ (told ≡ others_fault staff))
+handed_on (Ok said) plan fault staff handed was is = absurd handed
+handed_on (Err told) plan fault staff handed was is = inr (let same : fault ≡ others_fault staff = cc in handed ∙ same)
+
+pub returns-in_err-plan-clause-others : goal.returns-in_err-plan-clause-others
+returns-in_err-plan-clause-others g c other =
+    handed_on c.from_residual-in_err-plan.result _ _ c.args.desk.now.settings.now.staff c.from_residual-in_err-plan.ensures.1 refl (c.in_err-plan.ensures.others other)
 
 pub returns-clause-others : goal.returns-clause-others
 returns-clause-others g c other = absurd (other c.in_ok-plan.ensures.own)
