@@ -68,9 +68,6 @@ known_next rows xs i x less at low few none = none_next (lacks rows) xs i x less
 
 -- ---- lines in their order
 
-pub lines_next : (low high : ℕ) (ns : List ℕ) (i n : ℕ) → i < length ns → n ≡ slice_index_or ns i n → are_lines low high (drop i ns) ≡ (nat_lt low n && nat_le n high && are_lines n high (drop (i + 1) ns))
-lines_next low high ns i n less at = ap (are_lines low high) (here ns i n less at)
-
 -- ---- lines that come
 
 abbrev comes : {A : Type 0} → List ℕ → ℕ × A → Bool

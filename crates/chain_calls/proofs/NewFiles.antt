@@ -21,18 +21,6 @@ use Rattle.sql_rows.specs.Files.{HoldsOne, IsHeldIn, OpenFailed, HoldsNoTable}
 use Rattle.chain_calls.specs.Openings.{IsNoneOrNew, IsNotCreated}
 use Rattle.chain_calls.proofs.Opening.{kept_one, only_committed, shows_what_is_found, shows_what_is_held}
 
-pub store_is_not_a_chain : fault.Store ≢ fault.NotAChain
-store_is_not_a_chain e = cc
-
-pub store_is_no_version : fault.Store ≢ fault.OtherVersion
-store_is_no_version e = cc
-
-pub store_is_no_damage : fault.Store ≢ fault.Damaged
-store_is_no_damage e = cc
-
-pub store_is_not_already : fault.Store ≢ fault.Already
-store_is_not_already e = cc
-
 -- a fault of the store, and what is left of the files
 pub stopped_by : {D : Type 0} (g : Ghosts D) (files : Files D) (books : Books) (why : OpenFault) (left : Files D) → why ≢ fault.NotAChain → why ≢ fault.OtherVersion → why ≢ fault.Damaged → why ≢ fault.Already
     → (AreClean g left.log left.db → OpenFailed g files left) → IsNotCreated g files books why left

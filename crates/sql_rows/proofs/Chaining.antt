@@ -1,23 +1,18 @@
 -- Calls inside a transaction, one after another.
 use Rattle.std.proofs.Common.{Ok, Err, Result}
 use Rattle.std.specs.Borrow.{MutBor}
-use Rattle.std.specs.Prelude.{⊤, IfOk, IsErr}
-use Rattle.std.proofs.lemmas.Bool.{false≢true}
+use Rattle.std.specs.Prelude.{⊤, IfOk}
 use Rattle.sqlite_trees.specs.declared.store.Store.{Ghosts}
 use Rattle.sqlite.specs.Held.{Held, state}
 use Rattle.sqlite.specs.State.{State, HasCleanDisk}
 use Rattle.sql_rows.specs.Calls.{StaysInside, StaysWithin, DoesInside, DoesWithin}
-use Rattle.sql_rows.proofs.Stays.{clean_within, within_as, within_err, within_of, within_then}
+use Rattle.sql_rows.proofs.Stays.{clean_within, within_as, within_of, within_then}
 
 -- what calls that were well leave, and what they say over a disk that did as it was told
 pub record Calls {S : Type 0} (g : Ghosts S) (a b : MutBor (Held S)) : Type 1 where
   pub Said : Type 0
   pub inside : StaysWithin {X = ⊤} {E = ⊤} g a b (Ok tt)
   pub said : HasCleanDisk (state g b.now) → Said
-
-none_said : {X E : Type 0} (r : Result X E) (P : X → Type 0) → IsErr r → IfOk r P
-none_said (Ok x) P err = absurd (false≢true err)
-none_said (Err e) P err = tt
 
 said_then : {X E : Type 0} (r : Result X E) (P Q : X → Type 0) → ((x : X) → P x → Q x) → IfOk r P → IfOk r Q
 said_then (Ok x) P Q more said = more x said
@@ -52,10 +47,6 @@ module _ {S : Type 0} {g : Ghosts S} {a b : MutBor (Held S)} where
     inside = within_then calls.inside (within_of stays);
     says = λ clean. said_then r _ _ (more (calls.said (clean_within (within_of stays) clean))) (says clean);
   }
-
-  -- calls, of which the last may have failed, and then an error: nothing is said
-  pub does_err : {X E Y F : Type 0} {r : Result X E} {s : Result Y F} {Q : Y → State → State → Type 0} → StaysWithin g a b r → IsErr s → DoesWithin g a b s Q
-  does_err {s = s} stays err = record { inside = within_err stays err; says = λ clean. none_said s _ err }
 
   -- with what follows of what was said
   pub does_such : {X E : Type 0} {r : Result X E} {P Q : X → State → State → Type 0} → DoesWithin g a b r P

@@ -8,16 +8,15 @@ use Rattle.till_client.specs.Replies.{seen_answer}
 use Rattle.till_client.specs.declared.replies.Answer.{Answer as Read}
 use Rattle.till_book.specs.Journal.{Journal, with_entry, with_reply}
 use Rattle.till_book.specs.Steps.{Rests, IsNextReply, IsEntered}
-use Rattle.till_work.specs.Entering.{Enters, FailsToEnter}
+use Rattle.till_work.specs.Entering.{Enters}
 use Rattle.till_work.specs.Delivering.{Delivers, FailsToDeliver}
-use Rattle.till_work.specs.declared.entering.EnterFault.{EnterFault}
 use Rattle.till_work.specs.declared.entering.EnterFault.TheVariants as enter
 use Rattle.till_work.specs.declared.delivering.DeliverFault.{DeliverFault}
 use Rattle.till_work.specs.declared.delivering.DeliverFault.TheVariants as deliver
 use Rattle.till_desk.specs.declared.fault.DeskFault.{DeskFault}
 use Rattle.till_desk.specs.declared.fault.DeskFault.TheVariants as desk
 use Rattle.till_desk.specs.declared.place.Place.{Place}
-use Rattle.till_desk.specs.Faults.{entering_fault, sending_fault}
+use Rattle.till_desk.specs.Faults.{sending_fault}
 use Rattle.till_desk.specs.Desk.{IsAt, Extends, Becomes, GoesOn, Grows, Stays, EntersOne, AnswersOne, TellsLast, IsBookKept}
 
 -- what stands behind what stands behind
@@ -73,19 +72,6 @@ entry_goes mark request before after old new enters journal commands at =
       says = (it.0 ∷ [], refl);
     }
 
-pub answer_becomes : (mark : Text) (answer : Answer) (after : Place) (new : State) (journal : Journal) (commands : List Command) → IsAt mark after new (with_reply answer journal) commands
-    → Becomes mark after new journal commands
-answer_becomes mark answer after new journal commands at = record {
-  journal = with_reply answer journal;
-  commands = commands;
-  is_at = at;
-  extends = record { entries = ([], nothing_more journal.entries); replies = (answer ∷ [], refl) };
-  says = ([], nothing_more commands);
-}
-
-pub answer_goes : (mark : Text) (answer : Answer) (before after : Place) (old new : State) → AnswersOne mark answer before old after new → GoesOn mark before old after new
-answer_goes mark answer before after old new answers journal commands at = answer_becomes mark answer after new journal commands (answers journal commands at).0
-
 -- ---- what the book's calls say
 
 length_behind : {A : Type 0} (xs : List A) (x : A) → length (xs ++ x ∷ []) ≡ length xs + 1
@@ -105,29 +91,6 @@ enters_one mark token n command request before after old new counted same it jou
         entries = next ∙ sym (length_behind journal.entries request);
         replies = at.replies;
       }),
-    )
-
-pub failing_entry : (mark token : Text) (n : ℕ) (fault : EnterFault) (request : List ℕ) (old new : State) → FailsToEnter mark token n fault request old new
-    → entering_fault fault ≢ desk.Book → (journal : Journal) → Rests old journal → Rests new journal
-failing_entry mark token n (enter.Book it) request old new fails kept = absurd (kept refl)
-failing_entry mark token n enter.Memory request old new fails kept = fails
-failing_entry mark token n enter.NoCommand request old new fails kept = fails.0
-failing_entry mark token n enter.OtherKey request old new fails kept = fails.0
-failing_entry mark token n enter.NotLater request old new fails kept = fails.0
-failing_entry mark token n enter.OtherBook request old new fails kept = fails.0
-
-pub answers_one : (mark : Text) (n : ℕ) (answer : Read) (before after : Place) (old new : State) (input left output written : Option (List ℕ)) → n ≡ before.replies + 1
-    → after ≡ record before { replies = n } → Delivers n (Some answer) old new input left output written → AnswersOne mark (seen_answer answer) before old after new
-answers_one mark n answer before after old new input left output written counted same it journal commands at =
-    let next : n ≡ length journal.replies + 1 = counted ∙ ap (λ k. k + 1) at.replies in
-    let one = it journal at.rests next in (
-      rw same (record {
-        rests = one.rests;
-        book = record { says = at.book.says; numbered = at.book.numbered };
-        entries = at.entries;
-        replies = next ∙ sym (length_behind journal.replies (seen_answer answer));
-      }),
-      (input, left, output, written, one),
     )
 
 pub failing_sending : (n : ℕ) (fault : DeliverFault) (old new : State) (output written : Option (List ℕ)) → FailsToDeliver n fault old new output written
@@ -179,9 +142,6 @@ tells_one mark answer before mid after old between new goes answers journal comm
 
 extends_same : (journal : Journal) → Extends journal journal
 extends_same journal = record { entries = ([], nothing_more journal.entries); replies = ([], nothing_more journal.replies) }
-
-pub grows_same : (place : Place) (s : State) → Grows place s place s
-grows_same place s journal has = record { journal = journal; has = has; extends = extends_same journal }
 
 pub grows_then : (before mid after : Place) (old between new : State) → Grows before old mid between → Grows mid between after new → Grows before old after new
 grows_then before mid after old between new one two journal has =

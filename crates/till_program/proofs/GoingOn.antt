@@ -18,7 +18,7 @@ use Rattle.till_desk.specs.declared.fault.DeskFault.{DeskFault}
 use Rattle.till_desk.specs.declared.fault.DeskFault.TheVariants as desk
 use Rattle.till_desk.specs.declared.place.Place.{Place}
 use Rattle.till_desk.specs.Desk.{Becomes, GoesOn, Grows, IsBookKept as IsDeskKept}
-use Rattle.till_desk.proofs.GoingOn.{becomes_same, goes_then, grows_then, stays_goes, rests_stays, rests_grows}
+use Rattle.till_desk.proofs.GoingOn.{goes_then, grows_then, stays_goes, rests_stays, rests_grows}
 use Rattle.till_program.specs.declared.fault.TillFault.{TillFault}
 use Rattle.till_program.specs.declared.fault.TillFault.TheVariants as word
 use Rattle.till_program.specs.Faults.{told_fault, IsBookKept, IsSettlingKept}
@@ -42,9 +42,6 @@ desk_kept told fault same kept e =
     kept (let is : told ≡ word.Book = same ∙ ap told_fault failed in rw is refl)
 
 -- ---- a book that stays, and one that goes on
-
-pub goes_same : (mark : Text) (place : Place) (s : State) → GoesOn mark place s place s
-goes_same mark place s journal commands is = becomes_same mark place s journal commands is
 
 pub kept_goes : (mark : Text) (place : Place) (old new : State) → book.Stays old new → GoesOn mark place old place new
 kept_goes mark place old new stays = stays_goes mark place place old new (rests_stays mark place old new stays)

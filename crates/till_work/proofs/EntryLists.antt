@@ -60,9 +60,6 @@ pub record Done (requests : List (List ℕ)) (replies : List Answer) (settled : 
   pub says : Say requests (map said entries)
   pub are : map seen_entry entries ≡ book_entries (map said entries) replies settled
 
-pub done_none : (replies : List Answer) (settled : List (ℕ × Answer)) → Done [] replies settled []
-done_none replies settled = record { says = tt; are = refl }
-
 pub done_more : (requests : List (List ℕ)) (replies : List Answer) (settled : List (ℕ × Answer)) (entries : List Read) (bytes : List ℕ) (entry : Read) → Done requests replies settled entries
     → Says bytes (seen_command entry.command) → option_map seen_told entry.reply ≡ or_reply (accepted_of (length requests + 1) settled) (slice_get replies (length requests))
     → Done (requests ++ bytes ∷ []) replies settled (entries ++ entry ∷ [])
@@ -110,15 +107,6 @@ take_all [] zero high = refl
 take_all [] (suc i) high = refl
 take_all (x ∷ xs) zero high = absurd (omega (arith, high))
 take_all (x ∷ xs) (suc i) high = ap (λ l. x ∷ l) (take_all xs i (omega (arith, high)))
-
--- all rows
-pub done_all : (rows : BookRows) (items : List BookEntry) (i : ℕ) (replies : List Answer) (settled : List (ℕ × Answer)) (entries : List Read) → length items ≤ i → map request_of items ≡ rows.entries
-    → replies ≡ rows.replies → settled ≡ rows.settled → Done (map request_of (take i items)) replies settled entries → AreEntriesOf rows entries
-done_all rows items i replies settled entries high is told sure done = record {
-  commands = map said entries;
-  says = subst (λ (requests : List (List ℕ)). Say requests (map said entries)) (ap (map request_of) (take_all items i high) ∙ is) done.says;
-  are = done.are ∙ (λ j. book_entries (map said entries) (told j) (sure j));
-}
 
 get_at : {X Y : Type 0} (f : X → Y) (xs : List X) (i : ℕ) (d : X) → i < length xs → slice_get (map f xs) i ≡ Some (f (get_or xs i d))
 get_at f [] i d low = absurd (omega (arith, low))
