@@ -1,8 +1,8 @@
 -- What a branch's reading shows.
-use Rattle.std.specs.Prelude.{◌≡◌, ⊤, ℕ, Bool, true, false, List, Result, Ok, Err}
+use Rattle.std.specs.Prelude.{◌≡◌, ⊤, ℕ, Bool, true, false, List, Result, Ok, Err, IfOk}
 use Rattle.std.specs.Borrow.{MutBor}
 use Rattle.sqlite_trees.specs.declared.store.Store.{Ghosts}
-use Rattle.sqlite.specs.Held.{Held}
+use Rattle.sqlite.specs.Held.{Held, state}
 use Rattle.sql_rows.specs.Calls.{StaysInside, StaysWithin}
 use Rattle.shop_model.specs.Values as model
 use Rattle.shop_model.specs.Values.{Ask}
@@ -15,6 +15,7 @@ use Rattle.shop_model.specs.Books.{Books, shop_of}
 use Rattle.shop_types.specs.declared.reply.Reply.{Reply}
 use Rattle.shop_types.specs.Seen.{seen_view}
 use Rattle.shop_types.specs.Replies.{seen_reply}
+use Rattle.shop_schema.specs.Calls.{Finds}
 use Rattle.branch_reports.specs.Told.{IsDecision}
 use Rattle.branch_reports.specs.Looked.{looked}
 use Rattle.branch_looks.specs.declared.work.Work.{Work}
@@ -53,6 +54,12 @@ IsShown b ask (work.Shows it) books = looked b ask books ≡ answer_of (Shows (l
 abbrev pub TellsDecision : {L : Type 0} → Work L → Type 0
 TellsDecision (work.Answered it) = IsDecision (seen_reply it.reply)
 TellsDecision (work.Shows it) = ⊤
+
+-- What a reading of a branch comes to: it stays inside the transaction, shows what the definitions show of the books, and is a decision.
+pub record LooksAt {S E : Type 0} (g : Ghosts S) (b : ℕ) (ask : Ask) (old new : MutBor (Held S)) (result : Result (Work Listing) E) : Type 0 where
+  pub inside : StaysBy (reads_row ask) g old new result
+  pub shown : Finds (state g old.now) (state g new.now) result (IsShown b ask)
+  pub decided : IfOk result TellsDecision
 
 -- the reply, which changes nothing
 abbrev pub told_of : {E : Type 0} → Result Reply E → Result (Work Listing) E

@@ -1,10 +1,8 @@
 //! How a branch's reading is answered: inside a transaction, or by a list.
 
-ghost use Rattle.std.specs.Prelude.{◌≡◌, IfOk};
-ghost use Rattle.sqlite.specs.Held.{state};
+ghost use Rattle.std.specs.Prelude.{◌≡◌};
 ghost use Rattle.shop_types.specs.Seen.{seen_ask};
-ghost use Rattle.shop_schema.specs.Calls.{Finds};
-ghost use Rattle.branch_looks.specs.Looks.{reads_row, IsShown, StaysBy, TellsDecision, told_of};
+ghost use Rattle.branch_looks.specs.Looks.{reads_row, LooksAt, told_of};
 
 use crate::looks::{look_customer, look_film, look_film_copies, look_holder, look_in_stock};
 use crate::work::{Listing, Work};
@@ -40,10 +38,7 @@ pub fn look<S: Alter>(
     branch: BranchNo,
     ask: Ask,
 ) -> Result<Work<Listing>, StoreFault>
-    ensures inside { StaysBy (reads_row (seen_ask ask)) S.Store tx.old.conn tx.new.conn result }
-    ensures shown { Finds (state S.Store tx.old.conn.now) (state S.Store tx.new.conn.now) result
-        (IsShown branch (seen_ask ask)) }
-    ensures decided { IfOk result TellsDecision }
+    ensures { LooksAt S.Store branch (seen_ask ask) tx.old.conn tx.new.conn result }
 {
     match ask {
         Ask::Customer(number) => told(look_customer(alloc, tx, branch, number)),
