@@ -17,9 +17,9 @@ ghost use Rattle.catalogue_rows.specs.Added.{IsNumbered, IsKept, IsAdded};
 use crate::rows::{new_actor, new_branch, new_city, new_film, new_staff};
 use shop_ledger::{Answered, Count, Owner, put_kept, take_numbers};
 use shop_store::{
-    last_actor, last_branch, last_category, last_city, last_country, last_film, last_language,
-    last_staff, put_actor, put_branch, put_cast, put_category, put_city, put_country, put_counts,
-    put_film, put_language, put_staff, set_gone, set_manager, set_rate, set_rule, set_withdrawn,
+    SharedTable, last_number, put_actor, put_branch, put_cast, put_category, put_city, put_country,
+    put_counts, put_film, put_language, put_staff, set_gone, set_manager, set_rate, set_rule,
+    set_withdrawn,
 };
 use shop_types::{Branch, OfficeAct, OfficeCommand, Reply, RowNumber};
 use shop_views::office_text;
@@ -78,27 +78,27 @@ fn write<S: Alter>(tx: &mut Transaction<'_, S>, act: &OfficeAct) -> Result<u32, 
 {
     match act {
         OfficeAct::Country(name) => {
-            let number = next(last_country(tx))?;
+            let number = next(last_number(tx, SharedTable::Country))?;
             numbered(number, put_country(tx, number, name.as_str()))
         }
         OfficeAct::City(city) => {
-            let number = next(last_city(tx))?;
+            let number = next(last_number(tx, SharedTable::City))?;
             numbered(number, put_city(tx, &new_city(number, city)))
         }
         OfficeAct::Language(name) => {
-            let number = next(last_language(tx))?;
+            let number = next(last_number(tx, SharedTable::Language))?;
             numbered(number, put_language(tx, number, name.as_str()))
         }
         OfficeAct::Category(name) => {
-            let number = next(last_category(tx))?;
+            let number = next(last_number(tx, SharedTable::Category))?;
             numbered(number, put_category(tx, number, name.as_str()))
         }
         OfficeAct::Actor(actor) => {
-            let number = next(last_actor(tx))?;
+            let number = next(last_number(tx, SharedTable::Actor))?;
             numbered(number, put_actor(tx, &new_actor(number, actor)))
         }
         OfficeAct::Film(film) => {
-            let number = next(last_film(tx))?;
+            let number = next(last_number(tx, SharedTable::Film))?;
             numbered(number, put_film(tx, &new_film(number, film)))
         }
         OfficeAct::Price { film, rate } => without_number(set_rate(tx, *film, *rate)),
@@ -106,7 +106,7 @@ fn write<S: Alter>(tx: &mut Transaction<'_, S>, act: &OfficeAct) -> Result<u32, 
         OfficeAct::Cast { film, actor } => without_number(put_cast(tx, *film, *actor)),
         OfficeAct::Branch(branch) => add_branch(tx, branch),
         OfficeAct::Staff(staff) => {
-            let number = next(last_staff(tx))?;
+            let number = next(last_number(tx, SharedTable::Staff))?;
             numbered(number, put_staff(tx, &new_staff(number, staff)))
         }
         OfficeAct::Leave(staff) => without_number(set_gone(tx, *staff)),
@@ -160,7 +160,7 @@ fn add_branch<S: Alter>(tx: &mut Transaction<'_, S>, branch: &Branch) -> Result<
         → IfOk result (λ number. IsNumbered (model.AddBranch (seen_branch branch.now)) number
         (state S.Store tx.old.conn.now) (state S.Store tx.new.conn.now)) }
 {
-    let number = next(last_branch(tx))?;
+    let number = next(last_number(tx, SharedTable::Branch))?;
     put_branch(tx, &new_branch(number, branch))?;
     numbered(number, put_counts(tx, number.get()))
 }

@@ -1,12 +1,15 @@
 -- What is found of shared rows, as the model has it.
-use Rattle.std.specs.Prelude.{◌≡◌, ℕ, Bool, List, [], ◌∷◌, Option, Some, None}
+use Rattle.std.specs.Prelude.{◌≡◌, ℕ, Bool, List, [], ◌∷◌, length, Option, Some, None}
 use Rattle.sqlite_value.specs.Order as sql
 use Rattle.sqlite_value.specs.Order.{column}
 use Rattle.sql_rows.specs.Rows.{number_value}
 use Rattle.shop_model.specs.Values.{Film, Branch}
+use Rattle.shop_model.specs.Shop.{Catalogue}
 use Rattle.shop_model.specs.Books.{Caller, Counter, Nobody}
 use Rattle.shop_types.specs.Seen.{seen_film}
 use Rattle.shop_store.specs.declared.films.FilmRow.{FilmRow}
+use Rattle.shop_store.specs.declared.lasts.SharedTable.{SharedTable}
+use Rattle.shop_store.specs.declared.lasts.SharedTable.TheVariants as table
 
 -- the branch as a caller, or nobody
 abbrev pub branch_caller : Option ℕ → Caller
@@ -27,3 +30,14 @@ manager_of branch = branch.manager
 abbrev pub IsFirstNumber : List sql.Row → ℕ → Type 0
 IsFirstNumber [] n = n ≡ 0
 IsFirstNumber (row ∷ rows) n = column row 0 ≡ number_value n
+
+-- rows of the table, which are numbered from 1 without a gap
+abbrev pub how_many : SharedTable → Catalogue → ℕ
+how_many table.Country it = length it.countries
+how_many table.Language it = length it.languages
+how_many table.Category it = length it.categories
+how_many table.City it = length it.cities
+how_many table.Actor it = length it.actors
+how_many table.Film it = length it.films
+how_many table.Branch it = length it.branches
+how_many table.Staff it = length it.staff

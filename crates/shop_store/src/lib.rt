@@ -30,10 +30,7 @@ pub use copies::{
 pub use counts::{put_count, put_counts};
 pub use customers::{CustomerRow, active_at, customer_at, put_customer, set_active};
 pub use films::{FilmRow, film_row, film_withdrawn, set_rate, set_withdrawn};
-pub use lasts::{
-    last_actor, last_branch, last_category, last_city, last_country, last_film, last_language,
-    last_staff,
-};
+pub use lasts::{SharedTable, last_number};
 pub use opening::{put_opening, put_token};
 pub use payments::{PaymentRow, payments_between, payments_of_customer, put_payment};
 pub use puts::{

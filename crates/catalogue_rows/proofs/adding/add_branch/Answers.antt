@@ -15,7 +15,7 @@ use Rattle.catalogue_rows.proofs.adding.add_branch.Goals as goal
 pub returns-clause-numbered : goal.returns-clause-numbered
 returns-clause-numbered g c = λ clean.
     let s0 = state g.S.Store c.args.tx.now.conn.now in
-    let s1 = state g.S.Store c.last_branch.new.tx.conn.now in
+    let s1 = state g.S.Store c.last_number.new.tx.conn.now in
     let s2 = state g.S.Store c.put_branch.new.tx.conn.now in
     let s3 = state g.S.Store c.put_counts.new.tx.conn.now in
     let clean2 : HasCleanDisk s2 = omega (arith, clean, c.put_counts.ensures.inside.survives.clean) in
@@ -24,7 +24,7 @@ returns-clause-numbered g c = λ clean.
     let new : ℕ = c.in_ok-number.number in
     numbered_as c.put_counts.result c.numbered.result new _ (λ n. IsNumbered (AddBranch (seen_branch c.args.branch.now)) n s0 s3) c.numbered.ensures (c.put_counts.ensures.put clean)
     (λ tallied. λ books holds held.
-    let last = was_ok c.last_branch.result next.0 _ next.1 (c.last_branch.ensures.last clean1) books holds held in
+    let last = was_ok c.last_number.result next.0 _ next.1 (c.last_number.ensures.last clean1) books holds held in
     let is : new ≡ length books.catalogue.branches + 1 = next.2 ∙ ap (λ (n : ℕ). n + 1) last.1 in
     let number : c.new_branch.result.number ≡ length books.catalogue.branches + 1 = c.new_branch.ensures.number ∙ is in
     let none : owned_by c.new_branch.result.number books.lasts ≡ [] = ap (λ (n : ℕ). owned_by n books.lasts) number ∙ no_last books held in
@@ -36,9 +36,9 @@ pub returns-clause-inside : goal.returns-clause-inside
 returns-clause-inside g c =
     let next = c.in_ok-number.ensures in
     let counted = put_inside c.numbered.result c.in_ok-number.number c.numbered.ensures c.put_counts.ensures.inside in
-    told_then next.0 next.1 c.last_branch.ensures.inside (inside_then c.in_ok-put_branch.ensures.inside (within_of counted))
+    told_then next.0 next.1 c.last_number.ensures.inside (inside_then c.in_ok-put_branch.ensures.inside (within_of counted))
 
 pub returns-in_err-put_branch-clause-inside : goal.returns-in_err-put_branch-clause-inside
 returns-in_err-put_branch-clause-inside g c =
     let next = c.in_ok-number.ensures in
-    inside_err (told_then next.0 next.1 c.last_branch.ensures.inside c.put_branch.ensures.inside) c.from_residual-in_err-put_branch.ensures.0
+    inside_err (told_then next.0 next.1 c.last_number.ensures.inside c.put_branch.ensures.inside) c.from_residual-in_err-put_branch.ensures.0

@@ -6,31 +6,31 @@ use Rattle.catalogue_rows.proofs.adding.write.Goals as goal
 
 pub returns-in_ok-number-in-Country-clause-numbered : goal.returns-in_ok-number-in-Country-clause-numbered
 returns-in_ok-number-in-Country-clause-numbered g c = row_added (λ it. it.countries) (λ it rows. record it { countries = rows }) _ c.numbered.result (ap seen_office_act c.in-Country.is) (λ books. refl) c.as_str.ensures.value refl
-    c.in_ok-number-in-Country.ensures c.numbered.ensures c.put_country.ensures.inside c.last_country.ensures.last c.put_country.ensures.put
+    c.in_ok-number-in-Country.ensures c.numbered.ensures c.put_country.ensures.inside c.last_number.ensures.last c.put_country.ensures.put
 
 pub returns-in_ok-number-in-Language-clause-numbered : goal.returns-in_ok-number-in-Language-clause-numbered
 returns-in_ok-number-in-Language-clause-numbered g c = row_added (λ it. it.languages) (λ it rows. record it { languages = rows }) _ c.numbered-in-Language.result (ap seen_office_act c.in-Language.is) (λ books. refl) c.as_str-in-Language.ensures.value refl
-    c.in_ok-number-in-Language.ensures c.numbered-in-Language.ensures c.put_language.ensures.inside c.last_language.ensures.last c.put_language.ensures.put
+    c.in_ok-number-in-Language.ensures c.numbered-in-Language.ensures c.put_language.ensures.inside c.last_number-in-Language.ensures.last c.put_language.ensures.put
 
 pub returns-in_ok-number-in-Category-clause-numbered : goal.returns-in_ok-number-in-Category-clause-numbered
 returns-in_ok-number-in-Category-clause-numbered g c = row_added (λ it. it.categories) (λ it rows. record it { categories = rows }) _ c.numbered-in-Category.result (ap seen_office_act c.in-Category.is) (λ books. refl) c.as_str-in-Category.ensures.value refl
-    c.in_ok-number-in-Category.ensures c.numbered-in-Category.ensures c.put_category.ensures.inside c.last_category.ensures.last c.put_category.ensures.put
+    c.in_ok-number-in-Category.ensures c.numbered-in-Category.ensures c.put_category.ensures.inside c.last_number-in-Category.ensures.last c.put_category.ensures.put
 
 pub returns-in_ok-number-in-City-clause-numbered : goal.returns-in_ok-number-in-City-clause-numbered
 returns-in_ok-number-in-City-clause-numbered g c = row_added (λ it. it.cities) (λ it rows. record it { cities = rows }) _ c.numbered-in-City.result (ap seen_office_act c.in-City.is) (λ books. refl) c.new_city.ensures.row c.new_city.ensures.number
-    c.in_ok-number-in-City.ensures c.numbered-in-City.ensures c.put_city.ensures.inside c.last_city.ensures.last c.put_city.ensures.put
+    c.in_ok-number-in-City.ensures c.numbered-in-City.ensures c.put_city.ensures.inside c.last_number-in-City.ensures.last c.put_city.ensures.put
 
 pub returns-in_ok-number-in-Actor-clause-numbered : goal.returns-in_ok-number-in-Actor-clause-numbered
 returns-in_ok-number-in-Actor-clause-numbered g c = row_added (λ it. it.actors) (λ it rows. record it { actors = rows }) _ c.numbered-in-Actor.result (ap seen_office_act c.in-Actor.is) (λ books. refl) c.new_actor.ensures.row c.new_actor.ensures.number
-    c.in_ok-number-in-Actor.ensures c.numbered-in-Actor.ensures c.put_actor.ensures.inside c.last_actor.ensures.last c.put_actor.ensures.put
+    c.in_ok-number-in-Actor.ensures c.numbered-in-Actor.ensures c.put_actor.ensures.inside c.last_number-in-Actor.ensures.last c.put_actor.ensures.put
 
 pub returns-in_ok-number-in-Film-clause-numbered : goal.returns-in_ok-number-in-Film-clause-numbered
 returns-in_ok-number-in-Film-clause-numbered g c = row_added (λ it. it.films) (λ it rows. record it { films = rows }) _ c.numbered-in-Film.result (ap seen_office_act c.in-Film.is) (λ books. refl) c.new_film.ensures.row c.new_film.ensures.number
-    c.in_ok-number-in-Film.ensures c.numbered-in-Film.ensures c.put_film.ensures.inside c.last_film.ensures.last c.put_film.ensures.put
+    c.in_ok-number-in-Film.ensures c.numbered-in-Film.ensures c.put_film.ensures.inside c.last_number-in-Film.ensures.last c.put_film.ensures.put
 
 pub returns-in_ok-number-in-Staff-clause-numbered : goal.returns-in_ok-number-in-Staff-clause-numbered
 returns-in_ok-number-in-Staff-clause-numbered g c = row_added (λ it. it.staff) (λ it rows. record it { staff = rows }) _ c.numbered-in-Staff.result (ap seen_office_act c.in-Staff.is) (λ books. refl) c.new_staff.ensures.row c.new_staff.ensures.number
-    c.in_ok-number-in-Staff.ensures c.numbered-in-Staff.ensures c.put_staff.ensures.inside c.last_staff.ensures.last c.put_staff.ensures.put
+    c.in_ok-number-in-Staff.ensures c.numbered-in-Staff.ensures c.put_staff.ensures.inside c.last_number-in-Staff.ensures.last c.put_staff.ensures.put
 
 pub returns-in-Price-clause-numbered : goal.returns-in-Price-clause-numbered
 returns-in-Price-clause-numbered g c = row_changed c.without_number.result (ap seen_office_act c.in-Price.is) (λ books. refl) c.without_number.ensures c.set_rate.ensures.inside c.set_rate.ensures.set
@@ -72,22 +72,22 @@ pub returns-in-Rule-clause-inside : goal.returns-in-Rule-clause-inside
 returns-in-Rule-clause-inside g c = put_inside c.without_number-in-Rule.result _ c.without_number-in-Rule.ensures c.set_rule.ensures.inside
 
 pub returns-in_ok-number-in-Country-clause-inside : goal.returns-in_ok-number-in-Country-clause-inside
-returns-in_ok-number-in-Country-clause-inside g c = added_inside c.numbered.result c.in_ok-number-in-Country.ensures c.numbered.ensures c.last_country.ensures.inside c.put_country.ensures.inside
+returns-in_ok-number-in-Country-clause-inside g c = added_inside c.numbered.result c.in_ok-number-in-Country.ensures c.numbered.ensures c.last_number.ensures.inside c.put_country.ensures.inside
 
 pub returns-in_ok-number-in-Language-clause-inside : goal.returns-in_ok-number-in-Language-clause-inside
-returns-in_ok-number-in-Language-clause-inside g c = added_inside c.numbered-in-Language.result c.in_ok-number-in-Language.ensures c.numbered-in-Language.ensures c.last_language.ensures.inside c.put_language.ensures.inside
+returns-in_ok-number-in-Language-clause-inside g c = added_inside c.numbered-in-Language.result c.in_ok-number-in-Language.ensures c.numbered-in-Language.ensures c.last_number-in-Language.ensures.inside c.put_language.ensures.inside
 
 pub returns-in_ok-number-in-Category-clause-inside : goal.returns-in_ok-number-in-Category-clause-inside
-returns-in_ok-number-in-Category-clause-inside g c = added_inside c.numbered-in-Category.result c.in_ok-number-in-Category.ensures c.numbered-in-Category.ensures c.last_category.ensures.inside c.put_category.ensures.inside
+returns-in_ok-number-in-Category-clause-inside g c = added_inside c.numbered-in-Category.result c.in_ok-number-in-Category.ensures c.numbered-in-Category.ensures c.last_number-in-Category.ensures.inside c.put_category.ensures.inside
 
 pub returns-in_ok-number-in-City-clause-inside : goal.returns-in_ok-number-in-City-clause-inside
-returns-in_ok-number-in-City-clause-inside g c = added_inside c.numbered-in-City.result c.in_ok-number-in-City.ensures c.numbered-in-City.ensures c.last_city.ensures.inside c.put_city.ensures.inside
+returns-in_ok-number-in-City-clause-inside g c = added_inside c.numbered-in-City.result c.in_ok-number-in-City.ensures c.numbered-in-City.ensures c.last_number-in-City.ensures.inside c.put_city.ensures.inside
 
 pub returns-in_ok-number-in-Actor-clause-inside : goal.returns-in_ok-number-in-Actor-clause-inside
-returns-in_ok-number-in-Actor-clause-inside g c = added_inside c.numbered-in-Actor.result c.in_ok-number-in-Actor.ensures c.numbered-in-Actor.ensures c.last_actor.ensures.inside c.put_actor.ensures.inside
+returns-in_ok-number-in-Actor-clause-inside g c = added_inside c.numbered-in-Actor.result c.in_ok-number-in-Actor.ensures c.numbered-in-Actor.ensures c.last_number-in-Actor.ensures.inside c.put_actor.ensures.inside
 
 pub returns-in_ok-number-in-Film-clause-inside : goal.returns-in_ok-number-in-Film-clause-inside
-returns-in_ok-number-in-Film-clause-inside g c = added_inside c.numbered-in-Film.result c.in_ok-number-in-Film.ensures c.numbered-in-Film.ensures c.last_film.ensures.inside c.put_film.ensures.inside
+returns-in_ok-number-in-Film-clause-inside g c = added_inside c.numbered-in-Film.result c.in_ok-number-in-Film.ensures c.numbered-in-Film.ensures c.last_number-in-Film.ensures.inside c.put_film.ensures.inside
 
 pub returns-in_ok-number-in-Staff-clause-inside : goal.returns-in_ok-number-in-Staff-clause-inside
-returns-in_ok-number-in-Staff-clause-inside g c = added_inside c.numbered-in-Staff.result c.in_ok-number-in-Staff.ensures c.numbered-in-Staff.ensures c.last_staff.ensures.inside c.put_staff.ensures.inside
+returns-in_ok-number-in-Staff-clause-inside g c = added_inside c.numbered-in-Staff.result c.in_ok-number-in-Staff.ensures c.numbered-in-Staff.ensures c.last_number-in-Staff.ensures.inside c.put_staff.ensures.inside

@@ -1,5 +1,0 @@
-use Rattle.shop_store.proofs.LastNumbers.{last_actor}
-use Rattle.shop_store.proofs.lasts.last_actor.Goals as goal
-
-pub returns-clause-last : goal.returns-clause-last
-returns-clause-last g c clean = last_actor _ _ c.number_shown.result (c.number_shown.ensures.shown clean)
