@@ -9,8 +9,8 @@ ghost use Rattle.audit_rows.specs.Seen.{seen_header, seen_placed, seen_line};
 ghost use Rattle.audit_checks.specs.Consignments.{is_good_line, are_good_lines, are_settled, follows, pairs_follow};
 
 use crate::links::is_among;
-use audit_rows::{CheckedHeader, CheckedLine, LineState, counts, split_group};
-use shop_types::NoMemory;
+use audit_rows::{CheckedHeader, CheckedLine, counts, split_group};
+use shop_types::{LineState, NoMemory};
 use std::alloc::Global;
 
 /// Whether the line is under way or not, as it has to be, and its film is one of so many.

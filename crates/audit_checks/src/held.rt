@@ -8,8 +8,8 @@ ghost use Rattle.shop_types.specs.Seen.{seen_rental};
 ghost use Rattle.audit_rows.specs.Seen.{shop_copy};
 ghost use Rattle.audit_rows.specs.Shops.{is_held_here};
 
-use audit_rows::{CheckedCopy, CheckedRental, CopyState};
-use shop_types::CopyNo;
+use audit_rows::{CheckedCopy, CheckedRental};
+use shop_types::{CopyNo, CopyState};
 
 fn is_here(row: &CheckedCopy) -> bool
     ensures { result ≡ is_here (shop_copy row.now) }

@@ -1,37 +1,17 @@
 -- What a row means.
 use Rattle.shop_model.specs.Rows.{Row}
-use Rattle.shop_model.specs.Values as model
 use Rattle.shop_model.specs.Values.{Copy, Rental, Payment}
-use Rattle.shop_types.specs.Seen.{seen_rental, seen_payment}
+use Rattle.shop_types.specs.Seen.{seen_rental, seen_payment, seen_mark, seen_state, seen_line_state}
 use Rattle.audit_rows.specs.declared.rows.CheckedRental.{CheckedRental}
 use Rattle.audit_rows.specs.declared.rows.CheckedPayment.{CheckedPayment}
-use Rattle.shop_model.specs.Books as books
 use Rattle.shop_model.specs.Books.{BookCopy, Line, unmarked}
-use Rattle.audit_rows.specs.declared.rows.CopyState.{CopyState}
-use Rattle.audit_rows.specs.declared.rows.CopyState.TheVariants as state
-use Rattle.audit_rows.specs.declared.rows.Mark.{Mark}
 use Rattle.audit_rows.specs.declared.rows.CheckedCopy.{CheckedCopy}
-use Rattle.audit_rows.specs.declared.rows.LineState.{LineState}
-use Rattle.audit_rows.specs.declared.rows.LineState.TheVariants as line
 use Rattle.audit_rows.specs.declared.rows.CheckedLine.{CheckedLine}
 use Rattle.audit_rows.specs.declared.rows.CheckedHeader.{CheckedHeader}
 use Rattle.audit_rows.specs.Joins.{Header, Placed}
 
-abbrev pub seen_state : CopyState → model.CopyState
-seen_state state.Here = model.Here
-seen_state state.Sent = model.Sent
-seen_state state.Scrapped = model.Scrapped
-
-abbrev pub seen_mark : Mark → books.Mark
-seen_mark mark = record { branch = mark.branch; copy = mark.copy }
-
 abbrev pub seen_copy : CheckedCopy → Row BookCopy
 seen_copy row = record { branch = row.branch; number = row.number; it = record { film = row.film; state = seen_state row.state; mark = seen_mark row.mark } }
-
-abbrev pub seen_line_state : LineState → books.LineState
-seen_line_state line.UnderWay = books.UnderWay
-seen_line_state line.Arrived = books.Arrived
-seen_line_state line.Missing = books.Missing
 
 abbrev pub seen_line : CheckedLine → Line
 seen_line row = record { film = row.film; mark = seen_mark row.mark; state = seen_line_state row.state }

@@ -2,11 +2,13 @@
 
 ghost use Rattle.std.specs.Prelude.{◌≡◌, ◌≤◌, map, length};
 ghost use Rattle.shop_model.specs.Sound.{copy_is, line_is, rows_made, rows_in, lines_in};
-ghost use Rattle.audit_rows.specs.Seen.{seen_copy, seen_line, seen_state, seen_line_state};
+ghost use Rattle.audit_rows.specs.Seen.{seen_copy, seen_line};
+ghost use Rattle.shop_types.specs.Seen.{seen_state, seen_line_state};
 ghost use Rattle.audit_rows.specs.Marked.{any_mark};
 
 use crate::places::is_origin;
-use crate::rows::{CheckedCopy, CheckedLine, CopyState, LineState};
+use crate::rows::{CheckedCopy, CheckedLine};
+use shop_types::{CopyState, LineState};
 
 fn same_state(state: CopyState, wanted: CopyState) -> bool
     ensures { result ≡ copy_is (seen_state state) (seen_state wanted) }

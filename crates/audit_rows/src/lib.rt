@@ -20,5 +20,5 @@ pub use places::are_in_custody;
 pub use rows::{
     CheckedBranch, CheckedCast, CheckedCity, CheckedCopy, CheckedCustomer, CheckedFilm,
     CheckedHeader, CheckedKept, CheckedLine, CheckedLot, CheckedPayment, CheckedRental,
-    CheckedStaff, CheckedTerms, CopyState, LineState, Mark,
+    CheckedStaff, CheckedTerms,
 };

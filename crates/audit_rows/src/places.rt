@@ -7,12 +7,13 @@ ghost use Rattle.std.specs.Ordering.{nat_cmp};
 ghost use Rattle.std.specs.Cmp.Lexicographic.{slice_cmp};
 ghost use Rattle.std.specs.List.Sorted.{IsSortedByKey};
 ghost use Rattle.shop_model.specs.Sound.{is_origin};
-ghost use Rattle.audit_rows.specs.Seen.{seen_copy, seen_line, seen_mark, seen_state, seen_line_state};
+ghost use Rattle.audit_rows.specs.Seen.{seen_copy, seen_line};
+ghost use Rattle.shop_types.specs.Seen.{seen_mark, seen_state, seen_line_state};
 ghost use Rattle.audit_rows.specs.Marked.{mark_key, film_key, made_keys, is_copy_placed, is_line_placed, AreInCustody, places_are_single, rows_placed, lines_placed};
 
 use crate::order::{Keyed, are_among, are_distinct, has_key, sort_rows};
-use crate::rows::{CheckedCopy, CheckedLine, CopyState, LineState, Mark};
-use shop_types::{FilmNo, NoMemory};
+use crate::rows::{CheckedCopy, CheckedLine};
+use shop_types::{CopyState, FilmNo, LineState, Mark, NoMemory};
 use std::alloc::Global;
 use std::cmp::Ordering;
 

@@ -5,8 +5,9 @@ ghost use Rattle.std.specs.Prelude.{◌≡◌, [], ◌∷◌};
 use crate::groups::Owned;
 use crate::order::{Keyed, Numbered};
 use shop_types::{
-    ActorNo, BranchNo, CategoryNo, CityNo, CopyNo, CountryNo, CustomerNo, FilmNo, Key, LanguageNo,
-    LotName, Moment, Payment, PaymentNo, Rental, RentalNo, StaffNo, Token,
+    ActorNo, BranchNo, CategoryNo, CityNo, CopyNo, CopyState, CountryNo, CustomerNo, FilmNo, Key,
+    LanguageNo, LineState, LotName, Mark, Moment, Payment, PaymentNo, Rental, RentalNo, StaffNo,
+    Token,
 };
 use std::cmp::Ordering;
 
@@ -50,23 +51,6 @@ pub struct CheckedStaff {
 }
 
 // ---- rows of a branch
-
-/// Where a copy was imported, and its number there.
-#[derive(Clone, Copy)]
-pub struct Mark {
-    pub branch: BranchNo,
-    pub copy: CopyNo,
-}
-
-/// Where a branch's copy is, as its row says.
-#[derive(Clone, Copy)]
-pub enum CopyState {
-    /// In the branch, or rented out by it.
-    Here,
-    /// Sent to another branch.
-    Sent,
-    Scrapped,
-}
 
 /// A copy of a branch, with its number there.
 #[derive(Clone, Copy, Drop)]
@@ -134,16 +118,6 @@ pub struct CheckedHeader {
     pub number: u32,
     pub place: u64,
     pub received: bool,
-}
-
-/// What became of a copy that was sent.
-#[derive(Clone, Copy)]
-pub enum LineState {
-    /// The consignment isn't received yet.
-    UnderWay,
-    Arrived,
-    /// The addressee didn't find it in the consignment.
-    Missing,
 }
 
 /// A line of a consignment, with the consignment's key and its number there.

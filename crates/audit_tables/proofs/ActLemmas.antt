@@ -8,7 +8,7 @@ use Rattle.shop_schema.specs.RowValues.{IsNumber, IsNumberList, IsAct, AreNumber
 use Rattle.audit_tables.specs.declared.parts.Part.{Part}
 use Rattle.audit_tables.specs.declared.parts.Part.TheVariants as part
 use Rattle.audit_tables.specs.Forms.{IsPartForm, IsForm, IsActForm}
-use Rattle.audit_tables.proofs.KindLemmas.{in_range, ranged}
+use Rattle.audit_tables.proofs.Ranges.{in_range, ranged}
 
 abbrev pub row : Part
 row = part.Number 1 4_294_967_295

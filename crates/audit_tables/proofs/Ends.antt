@@ -11,7 +11,7 @@ use Rattle.shop_schema.specs.Forms.{number_form, text_form, numbers_form, option
 use Rattle.shop_schema.proofs.FormLemmas.{number_ends, text_ends, numbers_ends, flag_ends, moment_ends}
 use Rattle.audit_tables.specs.declared.parts.Part.{Part}
 use Rattle.audit_tables.specs.declared.parts.Part.TheVariants as part
-use Rattle.audit_tables.proofs.KindLemmas.{in_range, ranged}
+use Rattle.audit_tables.proofs.Ranges.{in_range, ranged}
 use Rattle.audit_tables.specs.Forms.{IsPartForm, IsForm, IsActForm, IsCommandForm}
 
 joined_alike : (p q f g r s : List ℕ) → p ≡ f → q ≡ g → p ++ r ≡ q ++ s → f ++ r ≡ g ++ s

@@ -1,6 +1,6 @@
 pub mod RowLists
-pub mod CustodyRows
-pub mod KindLemmas
+pub mod Ranges
+pub mod KeptRows
 pub mod Ends
 pub mod ActLemmas
 pub mod OfficeLemmas

@@ -7,7 +7,7 @@ use Rattle.shop_schema.specs.RowValues.{IsName, IsOfficeAct}
 use Rattle.audit_tables.specs.declared.parts.Part.{Part}
 use Rattle.audit_tables.specs.declared.parts.Part.TheVariants as part
 use Rattle.audit_tables.specs.Forms.{IsPartForm, IsForm, IsOfficeForm}
-use Rattle.audit_tables.proofs.KindLemmas.{ranged}
+use Rattle.audit_tables.proofs.Ranges.{ranged}
 use Rattle.audit_tables.proofs.ActLemmas.{put, number, first, behind, row, one_number}
 
 abbrev name : Part

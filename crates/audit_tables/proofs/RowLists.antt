@@ -37,10 +37,3 @@ none_left One [] zero h = tt
 none_left One [] (suc i) h = tt
 none_left One (r ∷ rows) zero h = absurd (omega (arith, h))
 none_left One (r ∷ rows) (suc i) h = none_left One rows i (omega (arith, h))
-
--- each row of which something is kept is one
-pub all_are : {X : Type 0} (Is : X → Row → Type 0) (xs : List X) (rows : List Row) → AreRows Is xs rows → AllByRecursion (λ r. (x : X) × Is x r) rows
-all_are Is [] [] h = tt
-all_are Is [] (r ∷ rows) h = absurd h
-all_are Is (x ∷ xs) [] h = absurd h
-all_are Is (x ∷ xs) (r ∷ rows) h = ((x, h.0), all_are Is xs rows h.1)

@@ -1,5 +1,8 @@
 pub mod Listed
-pub mod Placed
+pub mod Columns
+pub mod States
 pub mod Rows
-pub mod Kinds
+pub mod Kept
+pub mod TableRows
+pub mod AuditTables
 pub mod Forms

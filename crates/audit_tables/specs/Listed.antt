@@ -1,5 +1,5 @@
 -- What is kept of a table's rows.
-use Rattle.std.specs.Prelude.{List, [], ◌∷◌}
+use Rattle.std.specs.Prelude.{◌≡◌, List, [], ◌∷◌}
 use Rattle.sqlite_value.specs.Order.{Row}
 
 -- each is kept of its row
@@ -8,3 +8,14 @@ AreRows Is [] [] = Unit {0}
 AreRows Is [] (row ∷ rows) = ⊥
 AreRows Is (x ∷ xs) [] = ⊥
 AreRows Is (x ∷ xs) (row ∷ rows) = Is x row × AreRows Is xs rows
+
+-- the row has the columns of some value of the books
+abbrev pub IsRowOf : {F : Type 0} → (F → Row) → (F → Type 0) → Row → Type 0
+IsRowOf {F} columns Fits r = (it : F) × Fits it × (columns it ≡ r)
+
+-- the value of which this is kept, and whose columns the row has
+pub record FullOf {X F : Type 0} (columns : F → Row) (Fits : F → Type 0) (small : F → X) (x : X) (r : Row) : Type 0 where
+  pub it : F
+  pub has : columns it ≡ r
+  pub fits : Fits it
+  pub keeps : small it ≡ x

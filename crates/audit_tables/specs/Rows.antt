@@ -1,23 +1,26 @@
--- Of which kinds the rows of each table are, and which of their columns are kept.
-use Rattle.std.specs.Prelude.{◌≡◌, ◌≢◌, ℕ, List, [], ◌∷◌, IfSome}
-use Rattle.sqlite.specs.declared.types.Value.TheVariants.{Text, Blob}
-use Rattle.sqlite.specs.Values.{or_null}
+-- Which rows are of each table, and what is kept of them.
+use Rattle.std.specs.Prelude.{ℕ, Bool, true, false, Option}
 use Rattle.sqlite_value.specs.Order as sql
-use Rattle.sqlite_value.specs.Order.{column}
-use Rattle.sql_rows.specs.Rows.{number_value, flag_value}
-use Rattle.shop_model.specs.Calendar.{IsMoment}
-use Rattle.shop_schema.specs.Columns.{moment_value}
-use Rattle.audit_tables.specs.declared.kinds.Kind.{Kind}
-use Rattle.audit_tables.specs.declared.kinds.Kind.TheVariants as kind
-use Rattle.audit_tables.specs.Kinds.{HaveKinds}
-use Rattle.audit_tables.specs.Forms.{IsCommandForm, IsOfficeForm}
+use Rattle.shop_model.specs.Calendar.{Moment}
+use Rattle.shop_model.specs.Rows.{Row}
+use Rattle.shop_model.specs.Values.{Text, City, Actor, Film, Branch, Staff, Rental, Payment, Rule, ByCode, ByComment}
+use Rattle.shop_model.specs.Books.{BookCopy}
+use Rattle.shop_schema.specs.Columns.{chain_columns, rule_columns, named_columns, city_columns, actor_columns, film_columns, cast_columns, staff_columns, customer_columns, copy_columns, rental_columns, terms_columns, payment_columns, lot_columns}
+use Rattle.shop_schema.specs.RowValues.{IsName, IsToken, IsShared, IsCity, IsActor, IsFilm, IsCast, IsStaff, IsRow, IsCustomer, IsCopy, IsRental, IsTerms, IsPayment, IsLot}
+use Rattle.audit_rows.specs.Joins.{Header, Placed}
+use Rattle.audit_rows.specs.Ordered.{city_row, film_row, cast_row, branch_row, staff_row, customer_row, terms_row, lot_row}
 use Rattle.audit_rows.specs.declared.rows.CheckedCast.{CheckedCast}
 use Rattle.audit_rows.specs.declared.rows.CheckedCustomer.{CheckedCustomer}
+use Rattle.audit_rows.specs.declared.rows.CheckedCopy.{CheckedCopy}
 use Rattle.audit_rows.specs.declared.rows.CheckedRental.{CheckedRental}
 use Rattle.audit_rows.specs.declared.rows.CheckedTerms.{CheckedTerms}
 use Rattle.audit_rows.specs.declared.rows.CheckedPayment.{CheckedPayment}
 use Rattle.audit_rows.specs.declared.rows.CheckedLot.{CheckedLot}
 use Rattle.audit_rows.specs.declared.rows.CheckedHeader.{CheckedHeader}
+use Rattle.audit_rows.specs.declared.rows.CheckedLine.{CheckedLine}
+use Rattle.audit_tables.specs.Listed.{IsRowOf, FullOf}
+use Rattle.audit_tables.specs.Columns.{told_columns, IsTold, header_columns, IsHeader, placed_columns, IsPlaced}
+use Rattle.audit_tables.specs.States.{kept_state, kept_line_state}
 use Rattle.audit_tables.specs.declared.shared.ChainRow.{ChainRow}
 use Rattle.audit_tables.specs.declared.shared.RuleRow.{RuleRow}
 use Rattle.audit_tables.specs.declared.shared.NamedRow.{NamedRow}
@@ -26,165 +29,168 @@ use Rattle.audit_tables.specs.declared.shared.NumberedActor.{NumberedActor}
 use Rattle.audit_tables.specs.declared.shared.NumberedFilm.{NumberedFilm}
 use Rattle.audit_tables.specs.declared.shared.NumberedBranch.{NumberedBranch}
 use Rattle.audit_tables.specs.declared.shared.NumberedStaff.{NumberedStaff}
-use Rattle.audit_tables.specs.declared.kept.CallerRow.{CallerRow}
-
-abbrev pub row : Kind
-row = kind.Whole 1 4_294_967_295
-
-abbrev pub row_or_null : Kind
-row_or_null = kind.WholeOrNull 1 4_294_967_295
-
--- 1 to 45 bytes
-abbrev pub name : Kind
-name = kind.Text 1 45
 
 -- ---- shared rows
 
-abbrev pub chain_kinds : List Kind
-chain_kinds = kind.Whole 2 2 ∷ kind.Token ∷ []
+abbrev pub chain_row : Text → ChainRow
+chain_row token = record { office_token = token }
+
+abbrev pub IsOneChain : sql.Row → Type 0
+IsOneChain = IsRowOf chain_columns IsToken
 
 abbrev pub IsChainRow : ChainRow → sql.Row → Type 0
-IsChainRow x r = column r 1 ≡ Text x.office_token
+IsChainRow = FullOf chain_columns IsToken chain_row
 
-abbrev pub rule_kinds : List Kind
-rule_kinds = kind.Flag ∷ []
+abbrev pub is_comment : Rule → Bool
+is_comment ByCode = false
+is_comment ByComment = true
+
+abbrev pub rule_row : Rule → RuleRow
+rule_row it = record { by_comment = is_comment it }
+
+abbrev pub AnyRule : Rule → Type 0
+AnyRule it = Unit {0}
+
+abbrev pub IsOneRule : sql.Row → Type 0
+IsOneRule = IsRowOf rule_columns AnyRule
 
 abbrev pub IsRuleRow : RuleRow → sql.Row → Type 0
-IsRuleRow x r = column r 0 ≡ flag_value x.by_comment
+IsRuleRow = FullOf rule_columns AnyRule rule_row
 
-abbrev pub named_kinds : List Kind
-named_kinds = row ∷ name ∷ []
+abbrev pub named_row : ℕ × Text → NamedRow
+named_row it = record { number = it.0; name = it.1 }
 
-pub record IsNamedRow (x : NamedRow) (r : sql.Row) : Type 0 where
-  pub number : column r 0 ≡ number_value x.number
-  pub name : column r 1 ≡ Text x.name
+abbrev pub IsOneNamed : sql.Row → Type 0
+IsOneNamed = IsRowOf named_columns (IsShared IsName)
 
-abbrev pub city_kinds : List Kind
-city_kinds = row ∷ name ∷ row ∷ []
+abbrev pub IsNamedRow : NamedRow → sql.Row → Type 0
+IsNamedRow = FullOf named_columns (IsShared IsName) named_row
 
-pub record IsCityRow (x : NumberedCity) (r : sql.Row) : Type 0 where
-  pub number : column r 0 ≡ number_value x.number
-  pub country : column r 2 ≡ number_value x.city.country
+abbrev pub numbered_city : ℕ × City → NumberedCity
+numbered_city it = record { number = it.0; city = city_row it.1 }
 
-abbrev pub actor_kinds : List Kind
-actor_kinds = row ∷ name ∷ name ∷ []
+abbrev pub IsOneCity : sql.Row → Type 0
+IsOneCity = IsRowOf city_columns (IsShared IsCity)
+
+abbrev pub IsCityRow : NumberedCity → sql.Row → Type 0
+IsCityRow = FullOf city_columns (IsShared IsCity) numbered_city
+
+abbrev pub numbered_actor : ℕ × Actor → NumberedActor
+numbered_actor it = record { number = it.0 }
+
+abbrev pub IsOneActor : sql.Row → Type 0
+IsOneActor = IsRowOf actor_columns (IsShared IsActor)
 
 abbrev pub IsActorRow : NumberedActor → sql.Row → Type 0
-IsActorRow x r = column r 0 ≡ number_value x.number
+IsActorRow = FullOf actor_columns (IsShared IsActor) numbered_actor
 
-abbrev pub film_kinds : List Kind
-film_kinds = row ∷ kind.Text 1 128 ∷ kind.Text 0 500 ∷ row ∷ row ∷ kind.Whole 1 255 ∷ kind.Whole 0 9_999 ∷ kind.Whole 0 99_999 ∷ kind.WholeOrNull 1 65_535 ∷ kind.Rating ∷ kind.Features ∷ kind.Flag ∷ []
+abbrev pub numbered_film : ℕ × Film → NumberedFilm
+numbered_film it = record { number = it.0; film = film_row it.1 }
 
-pub record IsFilmRow (x : NumberedFilm) (r : sql.Row) : Type 0 where
-  pub number : column r 0 ≡ number_value x.number
-  pub language : column r 3 ≡ number_value x.film.language
-  pub category : column r 4 ≡ number_value x.film.category
+abbrev pub IsOneFilm : sql.Row → Type 0
+IsOneFilm = IsRowOf film_columns (IsShared IsFilm)
 
-abbrev pub cast_kinds : List Kind
-cast_kinds = row ∷ row ∷ []
+abbrev pub IsFilmRow : NumberedFilm → sql.Row → Type 0
+IsFilmRow = FullOf film_columns (IsShared IsFilm) numbered_film
 
-pub record IsCastRow (x : CheckedCast) (r : sql.Row) : Type 0 where
-  pub film : column r 0 ≡ number_value x.film
-  pub actor : column r 1 ≡ number_value x.actor
+abbrev pub IsOneCast : sql.Row → Type 0
+IsOneCast = IsRowOf cast_columns IsCast
 
-abbrev pub branch_kinds : List Kind
-branch_kinds = row ∷ kind.Token ∷ kind.Text 1 128 ∷ kind.Text 0 45 ∷ kind.Text 0 45 ∷ row ∷ row_or_null ∷ kind.MomentOrNull ∷ []
+abbrev pub IsCastRow : CheckedCast → sql.Row → Type 0
+IsCastRow = FullOf cast_columns IsCast cast_row
 
-pub record IsBranchRow (x : NumberedBranch) (r : sql.Row) : Type 0 where
-  pub number : column r 0 ≡ number_value x.number
-  pub token : column r 1 ≡ Text x.branch.token
-  pub city : column r 5 ≡ number_value x.branch.city
-  pub manager : column r 6 ≡ or_null number_value x.branch.manager
-  pub last : column r 7 ≡ or_null moment_value x.branch.last
-  pub is_last : IfSome x.branch.last IsMoment
+abbrev pub numbered_branch : ℕ × (Branch × Option Moment) → NumberedBranch
+numbered_branch it = record { number = it.0; branch = branch_row it.1.1 it.1.0 }
 
-abbrev pub staff_kinds : List Kind
-staff_kinds = row ∷ row ∷ name ∷ name ∷ kind.Text 1 128 ∷ kind.Text 0 45 ∷ kind.Text 0 45 ∷ row ∷ kind.Flag ∷ []
+abbrev pub IsOneBranch : sql.Row → Type 0
+IsOneBranch = IsRowOf told_columns (IsShared IsTold)
 
-pub record IsStaffRow (x : NumberedStaff) (r : sql.Row) : Type 0 where
-  pub number : column r 0 ≡ number_value x.number
-  pub branch : column r 1 ≡ number_value x.staff.branch
-  pub city : column r 7 ≡ number_value x.staff.city
+abbrev pub IsBranchRow : NumberedBranch → sql.Row → Type 0
+IsBranchRow = FullOf told_columns (IsShared IsTold) numbered_branch
+
+abbrev pub numbered_staff : ℕ × Staff → NumberedStaff
+numbered_staff it = record { number = it.0; staff = staff_row it.1 }
+
+abbrev pub IsOneStaff : sql.Row → Type 0
+IsOneStaff = IsRowOf staff_columns (IsShared IsStaff)
+
+abbrev pub IsStaffRow : NumberedStaff → sql.Row → Type 0
+IsStaffRow = FullOf staff_columns (IsShared IsStaff) numbered_staff
 
 -- ---- rows of a branch
 
-abbrev pub customer_kinds : List Kind
-customer_kinds = row ∷ row ∷ name ∷ name ∷ kind.Text 1 128 ∷ kind.Text 0 45 ∷ kind.Text 0 45 ∷ row ∷ kind.Flag ∷ kind.Moment ∷ []
+abbrev pub IsOneCustomer : sql.Row → Type 0
+IsOneCustomer = IsRowOf customer_columns (IsRow IsCustomer)
 
-pub record IsCustomerRow (x : CheckedCustomer) (r : sql.Row) : Type 0 where
-  pub branch : column r 0 ≡ number_value x.branch
-  pub number : column r 1 ≡ number_value x.number
-  pub city : column r 7 ≡ number_value x.city
-  pub created : column r 9 ≡ moment_value x.created
-  pub is_created : IsMoment x.created
+abbrev pub IsCustomerRow : CheckedCustomer → sql.Row → Type 0
+IsCustomerRow = FullOf customer_columns (IsRow IsCustomer) customer_row
 
-abbrev pub rental_kinds : List Kind
-rental_kinds = row ∷ row ∷ kind.Moment ∷ row ∷ row ∷ kind.MomentOrNull ∷ row ∷ []
+abbrev pub copy_row : Row BookCopy → CheckedCopy
+copy_row row =
+    record { branch = row.branch; number = row.number; film = row.it.film; state = kept_state row.it.state; mark = record { branch = row.it.mark.branch; copy = row.it.mark.copy } }
 
-pub record IsRentalRow (x : CheckedRental) (r : sql.Row) : Type 0 where
-  pub branch : column r 0 ≡ number_value x.branch
-  pub number : column r 1 ≡ number_value x.number
-  pub rented : column r 2 ≡ moment_value x.rental.rented
-  pub is_rented : IsMoment x.rental.rented
-  pub copy : column r 3 ≡ number_value x.rental.copy
-  pub customer : column r 4 ≡ number_value x.rental.customer
-  pub returned : column r 5 ≡ or_null moment_value x.rental.returned
-  pub is_returned : IfSome x.rental.returned IsMoment
-  pub staff : column r 6 ≡ number_value x.rental.staff
+abbrev pub IsOneCopy : sql.Row → Type 0
+IsOneCopy = IsRowOf copy_columns (IsRow IsCopy)
 
--- those of a film's columns: rate, period and replacement cost
-abbrev pub terms_kinds : List Kind
-terms_kinds = row ∷ row ∷ kind.Whole 0 9_999 ∷ kind.Whole 1 255 ∷ kind.Whole 0 99_999 ∷ []
+abbrev pub IsCopyRow : CheckedCopy → sql.Row → Type 0
+IsCopyRow = FullOf copy_columns (IsRow IsCopy) copy_row
 
-pub record IsTermsRow (x : CheckedTerms) (r : sql.Row) : Type 0 where
-  pub branch : column r 0 ≡ number_value x.branch
-  pub number : column r 1 ≡ number_value x.number
+abbrev pub rental_row : Row Rental → CheckedRental
+rental_row row =
+    record { branch = row.branch; number = row.number; rental = record { rented = row.it.rented; copy = row.it.copy; customer = row.it.customer; returned = row.it.returned; staff = row.it.staff } }
 
-abbrev pub payment_kinds : List Kind
-payment_kinds = row ∷ row ∷ row ∷ row ∷ row_or_null ∷ kind.Whole 0 99_999 ∷ kind.Moment ∷ []
+abbrev pub IsOneRental : sql.Row → Type 0
+IsOneRental = IsRowOf rental_columns (IsRow IsRental)
 
-pub record IsPaymentRow (x : CheckedPayment) (r : sql.Row) : Type 0 where
-  pub branch : column r 0 ≡ number_value x.branch
-  pub number : column r 1 ≡ number_value x.number
-  pub customer : column r 2 ≡ number_value x.payment.customer
-  pub staff : column r 3 ≡ number_value x.payment.staff
-  pub rental : column r 4 ≡ or_null number_value x.payment.rental
-  pub amount : column r 5 ≡ number_value x.payment.amount
-  pub paid : column r 6 ≡ moment_value x.payment.paid
-  pub is_paid : IsMoment x.payment.paid
+abbrev pub IsRentalRow : CheckedRental → sql.Row → Type 0
+IsRentalRow = FullOf rental_columns (IsRow IsRental) rental_row
 
-abbrev pub lot_kinds : List Kind
-lot_kinds = row ∷ kind.Key ∷ []
+abbrev pub IsOneTerms : sql.Row → Type 0
+IsOneTerms = IsRowOf terms_columns (IsRow IsTerms)
 
-pub record IsLotRow (x : CheckedLot) (r : sql.Row) : Type 0 where
-  pub branch : column r 0 ≡ number_value x.branch
-  pub name : column r 1 ≡ Text x.name
+abbrev pub IsTermsRow : CheckedTerms → sql.Row → Type 0
+IsTermsRow = FullOf terms_columns (IsRow IsTerms) terms_row
 
-abbrev pub header_kinds : List Kind
-header_kinds = row ∷ row ∷ row ∷ kind.Whole 1 9_223_372_036_854_775_807 ∷ kind.Flag ∷ []
+abbrev pub payment_row : Row Payment → CheckedPayment
+payment_row row =
+    record { branch = row.branch; number = row.number; payment = record { customer = row.it.customer; staff = row.it.staff; rental = row.it.rental; amount = row.it.amount; paid = row.it.paid } }
 
-pub record IsHeaderRow (x : CheckedHeader) (r : sql.Row) : Type 0 where
-  pub source : column r 0 ≡ number_value x.source
-  pub addressee : column r 1 ≡ number_value x.addressee
-  pub number : column r 2 ≡ number_value x.number
-  pub place : column r 3 ≡ number_value x.place
-  pub received : column r 4 ≡ flag_value x.received
+abbrev pub IsOnePayment : sql.Row → Type 0
+IsOnePayment = IsRowOf payment_columns (IsRow IsPayment)
 
--- ---- kept commands
+abbrev pub IsPaymentRow : CheckedPayment → sql.Row → Type 0
+IsPaymentRow = FullOf payment_columns (IsRow IsPayment) payment_row
 
-abbrev pub kept_kinds : List Kind
-kept_kinds = kind.Whole 0 4_294_967_295 ∷ kind.Key ∷ kind.Bytes ∷ kind.Words ∷ []
+abbrev pub IsOneLot : sql.Row → Type 0
+IsOneLot = IsRowOf lot_columns IsLot
 
--- the bytes are the form of a command of head office where the caller is 0, and else of a branch
-pub record HasForm (r : sql.Row) : Type 0 where
-  pub form : List ℕ
-  pub is : column r 2 ≡ Blob form
-  pub office : column r 0 ≡ number_value 0 → IsOfficeForm form
-  pub branch : column r 0 ≢ number_value 0 → IsCommandForm form
+abbrev pub IsLotRow : CheckedLot → sql.Row → Type 0
+IsLotRow = FullOf lot_columns IsLot lot_row
 
-abbrev pub IsOneKept : sql.Row → Type 0
-IsOneKept r = HaveKinds kept_kinds r × HasForm r
+-- ---- consignments
 
-pub record IsCallerRow (x : CallerRow) (r : sql.Row) : Type 0 where
-  pub caller : column r 0 ≡ number_value x.caller
-  pub key : column r 1 ≡ Text x.key
+abbrev pub header_row : Header → CheckedHeader
+header_row h = record { source = h.source; addressee = h.addressee; number = h.number; place = h.place; received = h.received }
+
+abbrev pub IsOneHeader : sql.Row → Type 0
+IsOneHeader = IsRowOf header_columns IsHeader
+
+abbrev pub IsHeaderRow : CheckedHeader → sql.Row → Type 0
+IsHeaderRow = FullOf header_columns IsHeader header_row
+
+abbrev pub placed_row : Placed → CheckedLine
+placed_row p = record {
+  source = p.source;
+  addressee = p.addressee;
+  number = p.number;
+  line = p.at;
+  film = p.line.film;
+  mark = record { branch = p.line.mark.branch; copy = p.line.mark.copy };
+  state = kept_line_state p.line.state;
+}
+
+abbrev pub IsOneLine : sql.Row → Type 0
+IsOneLine = IsRowOf placed_columns IsPlaced
+
+abbrev pub IsLineRow : CheckedLine → sql.Row → Type 0
+IsLineRow = FullOf placed_columns IsPlaced placed_row

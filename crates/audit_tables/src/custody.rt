@@ -1,103 +1,98 @@
-//! Copies and lines, as they are kept of their tables' rows.
+//! Copies and consignments, as they are kept of their tables' rows.
 
-ghost use Rattle.std.specs.Prelude.{◌≡◌, IfOk};
-ghost use Rattle.sqlite_value.specs.Order.{column};
-ghost use Rattle.sql_rows.specs.Rows.{number_value};
-ghost use Rattle.shop_schema.specs.Columns.{state_value, line_value};
-ghost use Rattle.audit_rows.specs.Seen.{seen_state, seen_line_state};
-ghost use Rattle.audit_tables.specs.Placed.{IsCopyRow, IsLineRow, IsOneCopy, IsOneLine};
+ghost use Rattle.std.specs.Prelude.{refl};
+ghost use Rattle.shop_schema.proofs.ShopTables as table;
+ghost use Rattle.audit_tables.specs.AuditTables as audited;
+ghost use Rattle.audit_tables.specs.TableRows.{full_row, one_row, only_row, copy_of, copy_kept, line_of, line_kept};
+ghost use Rattle.audit_tables.specs.Rows.{copy_row, IsOneCopy, IsCopyRow, header_row, IsOneHeader, IsHeaderRow, placed_row, IsOneLine, IsLineRow};
 
-use crate::columns::NUMBER;
-use crate::listed::Listed;
-use crate::{Kind, have_kinds};
-use audit_rows::{CheckedCopy, CheckedLine, CopyState, LineState, Mark};
-use shop_schema::row_number_at;
-use sql_rows::{StoreFault, number_at};
-use sqlite::Row;
+use crate::listed::Kept;
+use audit_rows::{CheckedCopy, CheckedHeader, CheckedLine};
+use shop_schema::{CopyCells, HeaderCells, LineCells};
+use shop_types::Mark;
 
-/// The state for which the number in the column stands.
-pub fn state_at(row: &Row, at: usize) -> Result<CopyState, StoreFault>
-    ensures { IfOk result (λ s. column row.now at ≡ state_value (seen_state s)) }
-{
-    match number_at(row, at)? {
-        0 => Ok(CopyState::Here),
-        1 => Ok(CopyState::Sent),
-        2 => Ok(CopyState::Scrapped),
-        _ => Err(StoreFault::Failed),
-    }
-}
+impl Kept for CheckedCopy {
+    type Cells = CopyCells;
 
-/// The state of a line for which the number in the column stands.
-pub fn line_state_at(row: &Row, at: usize) -> Result<LineState, StoreFault>
-    ensures { IfOk result (λ s. column row.now at ≡ line_value (seen_line_state s)) }
-{
-    match number_at(row, at)? {
-        0 => Ok(LineState::UnderWay),
-        1 => Ok(LineState::Arrived),
-        2 => Ok(LineState::Missing),
-        _ => Err(StoreFault::Failed),
-    }
-}
+    ghost one = { IsOneCopy };
 
-impl Listed for CheckedCopy {
-    ghost is_one = { IsOneCopy };
+    ghost kept = { IsCopyRow };
 
-    ghost is_row = { IsCopyRow };
+    ghost keeps = { copy_of };
 
-    fn fits(row: &Row) -> bool {
-        have_kinds(
-            row,
-            &[NUMBER, NUMBER, NUMBER, Kind::Whole(0, 2), NUMBER, NUMBER],
-        )
-    }
-
-    fn take(row: &Row) -> Result<CheckedCopy, StoreFault> {
-        Ok(CheckedCopy {
-            branch: row_number_at(row, 0)?,
-            number: row_number_at(row, 1)?,
-            film: row_number_at(row, 2)?,
-            state: state_at(row, 3)?,
+    fn keep(cells: CopyCells) -> CheckedCopy {
+        let (branch, (number, (film, (state, (origin, (copy, ())))))) = cells;
+        CheckedCopy {
+            branch,
+            number,
+            film,
+            state,
             mark: Mark {
-                branch: row_number_at(row, 4)?,
-                copy: row_number_at(row, 5)?,
+                branch: origin,
+                copy,
             },
-        })
+        }
     }
+
+    ghost rows = { λ p fits. full_row table.copies copy_row p fits (copy_kept p) };
+
+    ghost ones = { one_row table.copies };
+
+    ghost only = { only_row table.copies };
 }
 
-impl Listed for CheckedLine {
-    ghost is_one = { IsOneLine };
+impl Kept for CheckedHeader {
+    type Cells = HeaderCells;
 
-    ghost is_row = { IsLineRow };
+    ghost one = { IsOneHeader };
 
-    fn fits(row: &Row) -> bool {
-        have_kinds(
-            row,
-            &[
-                NUMBER,
-                NUMBER,
-                NUMBER,
-                NUMBER,
-                NUMBER,
-                NUMBER,
-                NUMBER,
-                Kind::Whole(0, 2),
-            ],
-        )
+    ghost kept = { IsHeaderRow };
+
+    ghost keeps = { λ p. header_row (audited.headers.from p) };
+
+    fn keep(cells: HeaderCells) -> CheckedHeader {
+        let (source, (addressee, (number, (place, (received, ()))))) = cells;
+        CheckedHeader {
+            source,
+            addressee,
+            number: number.get(),
+            place: place.get(),
+            received,
+        }
     }
 
-    fn take(row: &Row) -> Result<CheckedLine, StoreFault> {
-        Ok(CheckedLine {
-            source: row_number_at(row, 0)?,
-            addressee: row_number_at(row, 1)?,
-            number: number_at(row, 2)?,
-            line: number_at(row, 3)?,
-            film: row_number_at(row, 4)?,
-            mark: Mark {
-                branch: row_number_at(row, 5)?,
-                copy: row_number_at(row, 6)?,
-            },
-            state: line_state_at(row, 7)?,
-        })
+    ghost rows = { λ p fits. full_row audited.headers header_row p fits refl };
+
+    ghost ones = { one_row audited.headers };
+
+    ghost only = { only_row audited.headers };
+}
+
+impl Kept for CheckedLine {
+    type Cells = LineCells;
+
+    ghost one = { IsOneLine };
+
+    ghost kept = { IsLineRow };
+
+    ghost keeps = { line_of };
+
+    fn keep(cells: LineCells) -> CheckedLine {
+        let (source, (addressee, (number, (line, (film, (branch, (copy, (state, ())))))))) = cells;
+        CheckedLine {
+            source,
+            addressee,
+            number: number.get(),
+            line: line.get(),
+            film,
+            mark: Mark { branch, copy },
+            state,
+        }
     }
+
+    ghost rows = { λ p fits. full_row audited.lines placed_row p fits (line_kept p) };
+
+    ghost ones = { one_row audited.lines };
+
+    ghost only = { only_row audited.lines };
 }

@@ -1,203 +1,143 @@
-//! Rows of branches, and consignments.
+//! Rows of branches.
 
-ghost use Rattle.std.specs.Prelude.{◌≡◌, IfOk};
-ghost use Rattle.sqlite_value.specs.Order.{column};
-ghost use Rattle.sql_rows.specs.Rows.{number_value};
-ghost use Rattle.audit_tables.specs.Kinds.{HaveKinds};
-ghost use Rattle.audit_tables.specs.Rows.{customer_kinds, IsCustomerRow, rental_kinds, IsRentalRow, terms_kinds, IsTermsRow, payment_kinds, IsPaymentRow, lot_kinds, IsLotRow, header_kinds, IsHeaderRow};
+ghost use Rattle.std.specs.Prelude.{refl};
+ghost use Rattle.shop_schema.proofs.ShopTables as table;
+ghost use Rattle.audit_rows.specs.Ordered.{customer_row, terms_row, lot_row};
+ghost use Rattle.audit_tables.specs.TableRows.{full_row, one_row, only_row};
+ghost use Rattle.audit_tables.specs.Rows.{IsOneCustomer, IsCustomerRow, rental_row, IsOneRental, IsRentalRow, IsOneTerms, IsTermsRow, payment_row, IsOnePayment, IsPaymentRow, IsOneLot, IsLotRow};
 
-use crate::columns::{NAME, NUMBER, NUMBER_OR_NULL, name_at, wide_at};
-use crate::listed::Listed;
-use crate::{Kind, have_kinds};
-use audit_rows::{
-    CheckedCustomer, CheckedHeader, CheckedLot, CheckedPayment, CheckedRental, CheckedTerms,
-};
-use shop_schema::{moment_at, moment_or_null_at, row_number_at, row_number_or_null_at};
-use shop_types::{Amount, Payment, Rental};
-use sql_rows::{StoreFault, flag_at, number_at};
-use sqlite::Row;
+use crate::listed::Kept;
+use audit_rows::{CheckedCustomer, CheckedLot, CheckedPayment, CheckedRental, CheckedTerms};
+use shop_schema::{CustomerCells, LotCells, PaymentCells, RentalCells, TermsCells};
+use shop_types::{Payment, Rental};
 
-/// The amount in the column, in cents.
-fn amount_at(row: &Row, at: usize) -> Result<Amount, StoreFault>
-    ensures { IfOk result (λ n. column row.now at ≡ number_value n) }
-{
-    match Amount::new(number_at(row, at)?) {
-        Some(amount) => Ok(amount),
-        None => Err(StoreFault::Failed),
+impl Kept for CheckedCustomer {
+    type Cells = CustomerCells;
+
+    ghost one = { IsOneCustomer };
+
+    ghost kept = { IsCustomerRow };
+
+    ghost keeps = { λ p. customer_row (table.customers.from p) };
+
+    fn keep(cells: CustomerCells) -> CheckedCustomer {
+        let (branch, (number, (_first, (_last, (_address, (_postal, (_phone, more))))))) = cells;
+        let (city, (_active, (created, ()))) = more;
+        CheckedCustomer {
+            branch,
+            number,
+            city,
+            created,
+        }
     }
+
+    ghost rows = { λ p fits. full_row table.customers customer_row p fits refl };
+
+    ghost ones = { one_row table.customers };
+
+    ghost only = { only_row table.customers };
 }
 
-impl Listed for CheckedCustomer {
-    ghost is_one = { HaveKinds customer_kinds };
+impl Kept for CheckedRental {
+    type Cells = RentalCells;
 
-    ghost is_row = { IsCustomerRow };
+    ghost one = { IsOneRental };
 
-    fn fits(row: &Row) -> bool {
-        have_kinds(
-            row,
-            &[
-                NUMBER,
-                NUMBER,
-                NAME,
-                NAME,
-                Kind::Text(1, 128),
-                Kind::Text(0, 45),
-                Kind::Text(0, 45),
-                NUMBER,
-                Kind::Flag,
-                Kind::Moment,
-            ],
-        )
-    }
+    ghost kept = { IsRentalRow };
 
-    fn take(row: &Row) -> Result<CheckedCustomer, StoreFault> {
-        Ok(CheckedCustomer {
-            branch: row_number_at(row, 0)?,
-            number: row_number_at(row, 1)?,
-            city: row_number_at(row, 7)?,
-            created: moment_at(row, 9)?,
-        })
-    }
-}
+    ghost keeps = { λ p. rental_row (table.rentals.from p) };
 
-impl Listed for CheckedRental {
-    ghost is_one = { HaveKinds rental_kinds };
-
-    ghost is_row = { IsRentalRow };
-
-    fn fits(row: &Row) -> bool {
-        have_kinds(
-            row,
-            &[
-                NUMBER,
-                NUMBER,
-                Kind::Moment,
-                NUMBER,
-                NUMBER,
-                Kind::MomentOrNull,
-                NUMBER,
-            ],
-        )
-    }
-
-    fn take(row: &Row) -> Result<CheckedRental, StoreFault> {
-        Ok(CheckedRental {
-            branch: row_number_at(row, 0)?,
-            number: row_number_at(row, 1)?,
+    fn keep(cells: RentalCells) -> CheckedRental {
+        let (branch, (number, (rented, (copy, (customer, (returned, (staff, ()))))))) = cells;
+        CheckedRental {
+            branch,
+            number,
             rental: Rental {
-                rented: moment_at(row, 2)?,
-                copy: row_number_at(row, 3)?,
-                customer: row_number_at(row, 4)?,
-                returned: moment_or_null_at(row, 5)?,
-                staff: row_number_at(row, 6)?,
+                rented,
+                copy,
+                customer,
+                returned,
+                staff,
             },
-        })
+        }
     }
+
+    ghost rows = { λ p fits. full_row table.rentals rental_row p fits refl };
+
+    ghost ones = { one_row table.rentals };
+
+    ghost only = { only_row table.rentals };
 }
 
-impl Listed for CheckedTerms {
-    ghost is_one = { HaveKinds terms_kinds };
+impl Kept for CheckedTerms {
+    type Cells = TermsCells;
 
-    ghost is_row = { IsTermsRow };
+    ghost one = { IsOneTerms };
 
-    fn fits(row: &Row) -> bool {
-        have_kinds(
-            row,
-            &[
-                NUMBER,
-                NUMBER,
-                Kind::Whole(0, 9_999),
-                Kind::Whole(1, 255),
-                Kind::Whole(0, 99_999),
-            ],
-        )
+    ghost kept = { IsTermsRow };
+
+    ghost keeps = { λ p. terms_row (table.terms.from p) };
+
+    fn keep(cells: TermsCells) -> CheckedTerms {
+        let (branch, (number, _terms)) = cells;
+        CheckedTerms { branch, number }
     }
 
-    fn take(row: &Row) -> Result<CheckedTerms, StoreFault> {
-        Ok(CheckedTerms {
-            branch: row_number_at(row, 0)?,
-            number: row_number_at(row, 1)?,
-        })
-    }
+    ghost rows = { λ p fits. full_row table.terms terms_row p fits refl };
+
+    ghost ones = { one_row table.terms };
+
+    ghost only = { only_row table.terms };
 }
 
-impl Listed for CheckedPayment {
-    ghost is_one = { HaveKinds payment_kinds };
+impl Kept for CheckedPayment {
+    type Cells = PaymentCells;
 
-    ghost is_row = { IsPaymentRow };
+    ghost one = { IsOnePayment };
 
-    fn fits(row: &Row) -> bool {
-        have_kinds(
-            row,
-            &[
-                NUMBER,
-                NUMBER,
-                NUMBER,
-                NUMBER,
-                NUMBER_OR_NULL,
-                Kind::Whole(0, 99_999),
-                Kind::Moment,
-            ],
-        )
-    }
+    ghost kept = { IsPaymentRow };
 
-    fn take(row: &Row) -> Result<CheckedPayment, StoreFault> {
-        Ok(CheckedPayment {
-            branch: row_number_at(row, 0)?,
-            number: row_number_at(row, 1)?,
+    ghost keeps = { λ p. payment_row (table.payments.from p) };
+
+    fn keep(cells: PaymentCells) -> CheckedPayment {
+        let (branch, (number, (customer, (staff, (rental, (amount, (paid, ()))))))) = cells;
+        CheckedPayment {
+            branch,
+            number,
             payment: Payment {
-                customer: row_number_at(row, 2)?,
-                staff: row_number_at(row, 3)?,
-                rental: row_number_or_null_at(row, 4)?,
-                amount: amount_at(row, 5)?,
-                paid: moment_at(row, 6)?,
+                customer,
+                staff,
+                rental,
+                amount,
+                paid,
             },
-        })
+        }
     }
+
+    ghost rows = { λ p fits. full_row table.payments payment_row p fits refl };
+
+    ghost ones = { one_row table.payments };
+
+    ghost only = { only_row table.payments };
 }
 
-impl Listed for CheckedLot {
-    ghost is_one = { HaveKinds lot_kinds };
+impl Kept for CheckedLot {
+    type Cells = LotCells;
 
-    ghost is_row = { IsLotRow };
+    ghost one = { IsOneLot };
 
-    fn fits(row: &Row) -> bool {
-        have_kinds(row, &[NUMBER, Kind::Key])
+    ghost kept = { IsLotRow };
+
+    ghost keeps = { λ p. lot_row (table.lots.from p) };
+
+    fn keep(cells: LotCells) -> CheckedLot {
+        let (branch, (name, ())) = cells;
+        CheckedLot { branch, name }
     }
 
-    fn take(row: &Row) -> Result<CheckedLot, StoreFault> {
-        Ok(CheckedLot {
-            branch: row_number_at(row, 0)?,
-            name: name_at(row, 1)?,
-        })
-    }
-}
+    ghost rows = { λ p fits. full_row table.lots lot_row p fits refl };
 
-impl Listed for CheckedHeader {
-    ghost is_one = { HaveKinds header_kinds };
+    ghost ones = { one_row table.lots };
 
-    ghost is_row = { IsHeaderRow };
-
-    fn fits(row: &Row) -> bool {
-        have_kinds(
-            row,
-            &[
-                NUMBER,
-                NUMBER,
-                NUMBER,
-                Kind::Whole(1, 9_223_372_036_854_775_807),
-                Kind::Flag,
-            ],
-        )
-    }
-
-    fn take(row: &Row) -> Result<CheckedHeader, StoreFault> {
-        Ok(CheckedHeader {
-            source: row_number_at(row, 0)?,
-            addressee: row_number_at(row, 1)?,
-            number: number_at(row, 2)?,
-            place: wide_at(row, 3)?,
-            received: flag_at(row, 4)?,
-        })
-    }
+    ghost only = { only_row table.lots };
 }

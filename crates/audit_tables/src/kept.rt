@@ -1,19 +1,15 @@
 //! Kept commands, each with its caller.
 
-ghost use Rattle.std.specs.Prelude.{◌≡◌, ◌↔◌, IsTrue};
-ghost use Rattle.sqlite_value.specs.Value.{owned};
-ghost use Rattle.sql_rows.specs.Rows.{number_value};
-ghost use Rattle.audit_tables.specs.Rows.{HasForm, IsOneKept, IsCallerRow};
+ghost use Rattle.std.specs.Prelude.{◌↔◌, IsTrue};
+ghost use Rattle.audit_tables.specs.Kept.{HasForm, IsOneKept, IsCallerRow};
 
 use crate::acts::is_command;
-use crate::columns::name_at;
 use crate::listed::Listed;
 use crate::office::is_office_command;
-use crate::{Kind, have_kinds};
+use shop_schema::{KeptCells, read_cells};
 use shop_types::Key;
-use sql_rows::{StoreFault, number_at};
+use sql_rows::StoreFault;
 use sqlite::Row;
-use sqlite::types::ValueRef;
 
 /// The key of a kept command, with its caller; 0 is head office.
 #[derive(Drop)]
@@ -22,26 +18,11 @@ pub struct CallerRow {
     pub key: Key,
 }
 
-fn is_zero(value: ValueRef<'_>) -> bool
-    ensures { IsTrue result ↔ (owned value.entry ≡ number_value 0) }
+/// Whether the bytes are the form of a command of the caller.
+fn has_form(caller: u32, form: &[u8]) -> bool
+    ensures { IsTrue result ↔ HasForm caller form.now }
 {
-    match value {
-        ValueRef::Int(n) => n == 0,
-        _ => false,
-    }
-}
-
-/// Whether the row has the form of a command of its caller.
-fn has_form(row: &Row) -> bool
-    ensures { IsTrue result ↔ HasForm row.now }
-{
-    let Ok(ValueRef::Blob(form)) = row.get_ref(2) else {
-        return false;
-    };
-    let Ok(caller) = row.get_ref(0) else {
-        return false;
-    };
-    if is_zero(caller) {
+    if caller == 0 {
         is_office_command(form)
     } else {
         is_command(form)
@@ -53,22 +34,16 @@ impl Listed for CallerRow {
 
     ghost is_row = { IsCallerRow };
 
-    fn fits(row: &Row) -> bool {
-        have_kinds(
-            row,
-            &[
-                Kind::Whole(0, 4_294_967_295),
-                Kind::Key,
-                Kind::Bytes,
-                Kind::Words,
-            ],
-        ) && has_form(row)
-    }
-
-    fn take(row: &Row) -> Result<CallerRow, StoreFault> {
-        Ok(CallerRow {
-            caller: number_at(row, 0)?,
-            key: name_at(row, 1)?,
-        })
+    fn read(row: &Row) -> Result<Option<CallerRow>, StoreFault> {
+        let cells = match read_cells::<KeptCells>(row) {
+            Ok(cells) => cells,
+            Err(StoreFault::Failed) => return Ok(None),
+            Err(fault) => return Err(fault),
+        };
+        let (caller, (key, (form, (_reply, ())))) = cells;
+        if !has_form(caller, form.as_slice()) {
+            return Ok(None);
+        }
+        Ok(Some(CallerRow { caller, key }))
     }
 }

@@ -1,10 +1,11 @@
 //! Lists of what is kept of a table's rows.
 
-ghost use Rattle.std.specs.Prelude.{◌↔◌, IsTrue, IfOk, IfSome, IfNone};
+ghost use Rattle.std.specs.Prelude.{◌≡◌, IfOk, IfSome, IfNone};
 ghost use Rattle.std.specs.List.{AllByRecursion};
 ghost use Rattle.sqlite_value.specs.Order.{Row as SqlRow};
 ghost use Rattle.audit_tables.specs.Listed.{AreRows};
 
+use shop_schema::{Cells, read_cells};
 use shop_types::NoMemory;
 use sql_rows::StoreFault;
 use sqlite::Row;
@@ -18,17 +19,15 @@ pub trait Listed: Sized + Drop {
     // this is kept of the row
     ghost is_row: { Self → SqlRow → Type 0 };
 
-    /// Whether the row is one of the table's.
-    fn fits(row: &Row) -> bool
-        ensures { IsTrue result ↔ is_one row.now };
-
-    /// What is kept of the row, where it fits. But for memory, that doesn't fail.
-    fn take(row: &Row) -> Result<Self, StoreFault>
-        ensures { IfOk result (λ x. is_one row.now → is_row x row.now) };
+    /// What is kept of the row, or nothing where it is none of the table's. But for memory, that doesn't fail.
+    fn read(row: &Row) -> Result<Option<Self>, StoreFault>
+        ensures found { IfOk result (λ o. IfSome o (λ x. is_row x row.now)) }
+        ensures one { IfOk result (λ o. IfSome o (λ x. is_one row.now)) }
+        ensures none { IfOk result (λ o. IfNone o (¬ is_one row.now)) };
 }
 
-/// What is kept of each of the rows, in their order, or nothing where one of them is no row of the table. What fits
-/// and can't be read wants memory.
+/// What is kept of each of the rows, in their order, or nothing where one of them is no row of the table. What can't
+/// be read wants memory.
 pub fn read_rows<T: Listed>(alloc: Global, rows: &[Row]) -> Result<Option<Vec<T>>, NoMemory>
     ensures found { IfOk result (λ o. IfSome o (λ all. AreRows T.Listed.is_row all.items rows.now)) }
     ensures ones { IfOk result (λ o. IfSome o (λ all. AllByRecursion T.Listed.is_one rows.now)) }
@@ -36,15 +35,52 @@ pub fn read_rows<T: Listed>(alloc: Global, rows: &[Row]) -> Result<Option<Vec<T>
 {
     let mut all = Vec::new(alloc);
     for row in rows {
-        if !T::fits(row) {
-            return Ok(None);
-        }
-        let Ok(kept) = T::take(row) else {
+        let Ok(read) = T::read(row) else {
             return Err(NoMemory);
+        };
+        let Some(kept) = read else {
+            return Ok(None);
         };
         if all.push(kept).is_err() {
             return Err(NoMemory);
         }
     }
     Ok(Some(all))
+}
+
+/// What is kept of a table's row is made of its cells, and each row of such cells is one of the table's.
+pub trait Kept: Sized + Drop {
+    type Cells: Cells;
+
+    // the row is one of the table's
+    ghost one: { SqlRow → Type 0 };
+
+    // this is kept of the row
+    ghost kept: { Self → SqlRow → Type 0 };
+
+    // what is kept of these cells
+    ghost keeps: { Self.Cells → Self };
+
+    fn keep(cells: Self::Cells) -> Self
+        ensures { result ≡ keeps cells };
+
+    ghost rows: { (p : Self.Cells) → Self.Cells.fits p → kept (keeps p) (Self.Cells.columns p) };
+
+    ghost ones: { (p : Self.Cells) → Self.Cells.fits p → one (Self.Cells.columns p) };
+
+    ghost only: { (r : SqlRow) → one r → (p : Self.Cells) × Self.Cells.fits p × (Self.Cells.columns p ≡ r) };
+}
+
+impl<T: Kept> Listed for T {
+    ghost is_one = { T.Kept.one };
+
+    ghost is_row = { T.Kept.kept };
+
+    fn read(row: &Row) -> Result<Option<T>, StoreFault> {
+        match read_cells::<T::Cells>(row) {
+            Ok(cells) => Ok(Some(T::keep(cells))),
+            Err(StoreFault::Failed) => Ok(None),
+            Err(fault) => Err(fault),
+        }
+    }
 }

@@ -6,8 +6,7 @@ ghost use Rattle.shop_schema.specs.Forms.{number_form, text_form};
 ghost use Rattle.shop_schema.specs.RowValues.{AreNumbers, AreBytes};
 ghost use Rattle.audit_tables.specs.Forms.{IsPartForm, IsForm, form_of_each};
 
-use crate::kinds::{are_features, is_rating};
-use crate::texts::{is_key, is_text, is_utf8};
+use crate::texts::{are_features, is_key, is_rating, is_text, is_utf8};
 use shop_types::{Moment, Token};
 
 /// A part of a stored form.

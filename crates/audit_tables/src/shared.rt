@@ -1,16 +1,19 @@
 //! Shared rows, each with its number.
 
-ghost use Rattle.audit_tables.specs.Kinds.{HaveKinds};
-ghost use Rattle.audit_tables.specs.Rows.{chain_kinds, IsChainRow, rule_kinds, IsRuleRow, named_kinds, IsNamedRow, city_kinds, IsCityRow, actor_kinds, IsActorRow, film_kinds, IsFilmRow, cast_kinds, IsCastRow, branch_kinds, IsBranchRow, staff_kinds, IsStaffRow};
+ghost use Rattle.std.specs.Prelude.{refl};
+ghost use Rattle.shop_schema.proofs.ShopTables as table;
+ghost use Rattle.audit_rows.specs.Ordered.{cast_row};
+ghost use Rattle.audit_tables.specs.AuditTables as audited;
+ghost use Rattle.audit_tables.specs.TableRows.{full_row, one_row, only_row};
+ghost use Rattle.audit_tables.specs.Rows.{chain_row, IsOneChain, IsChainRow, rule_row, IsOneRule, IsRuleRow, named_row, IsOneNamed, IsNamedRow, numbered_city, IsOneCity, IsCityRow, numbered_actor, IsOneActor, IsActorRow, numbered_film, IsOneFilm, IsFilmRow, IsOneCast, IsCastRow, numbered_branch, IsOneBranch, IsBranchRow, numbered_staff, IsOneStaff, IsStaffRow};
 
-use crate::columns::{NAME, NUMBER, NUMBER_OR_NULL, token_at};
-use crate::listed::Listed;
-use crate::{Kind, have_kinds};
+use crate::listed::Kept;
 use audit_rows::{CheckedBranch, CheckedCast, CheckedCity, CheckedFilm, CheckedStaff};
-use shop_schema::{moment_or_null_at, row_number_at, row_number_or_null_at, text_at};
-use shop_types::{T45, Token};
-use sql_rows::{StoreFault, flag_at, number_at};
-use sqlite::Row;
+use shop_schema::{
+    ActorCells, BranchCells, CastCells, ChainCells, CityCells, FilmCells, NamedCells, RuleCells,
+    StaffCells,
+};
+use shop_types::{Rule, T45, Token};
 
 /// The row of the table `chain`.
 #[derive(Drop)]
@@ -65,206 +68,218 @@ pub struct NumberedStaff {
     pub staff: CheckedStaff,
 }
 
-impl Listed for ChainRow {
-    ghost is_one = { HaveKinds chain_kinds };
+impl Kept for ChainRow {
+    type Cells = ChainCells;
 
-    ghost is_row = { IsChainRow };
+    ghost one = { IsOneChain };
 
-    fn fits(row: &Row) -> bool {
-        have_kinds(row, &[Kind::Whole(2, 2), Kind::Token])
+    ghost kept = { IsChainRow };
+
+    ghost keeps = { λ p. chain_row (table.chain.from p) };
+
+    fn keep(cells: ChainCells) -> ChainRow {
+        let (_version, (office_token, ())) = cells;
+        ChainRow { office_token }
     }
 
-    fn take(row: &Row) -> Result<ChainRow, StoreFault> {
-        Ok(ChainRow {
-            office_token: token_at(row, 1)?,
-        })
-    }
+    ghost rows = { λ p fits. full_row table.chain chain_row p fits refl };
+
+    ghost ones = { one_row table.chain };
+
+    ghost only = { only_row table.chain };
 }
 
-impl Listed for RuleRow {
-    ghost is_one = { HaveKinds rule_kinds };
+impl Kept for RuleRow {
+    type Cells = RuleCells;
 
-    ghost is_row = { IsRuleRow };
+    ghost one = { IsOneRule };
 
-    fn fits(row: &Row) -> bool {
-        have_kinds(row, &[Kind::Flag])
+    ghost kept = { IsRuleRow };
+
+    ghost keeps = { λ p. rule_row (table.chain_rule.from p) };
+
+    fn keep(cells: RuleCells) -> RuleRow {
+        let (rule, ()) = cells;
+        match rule {
+            Rule::ByCode => RuleRow { by_comment: false },
+            Rule::ByComment => RuleRow { by_comment: true },
+        }
     }
 
-    fn take(row: &Row) -> Result<RuleRow, StoreFault> {
-        Ok(RuleRow {
-            by_comment: flag_at(row, 0)?,
-        })
-    }
+    ghost rows = { λ p fits. full_row table.chain_rule rule_row p fits refl };
+
+    ghost ones = { one_row table.chain_rule };
+
+    ghost only = { only_row table.chain_rule };
 }
 
-impl Listed for NamedRow {
-    ghost is_one = { HaveKinds named_kinds };
+impl Kept for NamedRow {
+    type Cells = NamedCells<0>;
 
-    ghost is_row = { IsNamedRow };
+    ghost one = { IsOneNamed };
 
-    fn fits(row: &Row) -> bool {
-        have_kinds(row, &[NUMBER, NAME])
+    ghost kept = { IsNamedRow };
+
+    ghost keeps = { λ p. named_row (table.named.from p) };
+
+    fn keep(cells: NamedCells<0>) -> NamedRow {
+        let (number, (name, ())) = cells;
+        NamedRow {
+            number: number.get(),
+            name,
+        }
     }
 
-    fn take(row: &Row) -> Result<NamedRow, StoreFault> {
-        Ok(NamedRow {
-            number: number_at(row, 0)?,
-            name: text_at(row, 1)?,
-        })
-    }
+    ghost rows = { λ p fits. full_row table.named named_row p fits refl };
+
+    ghost ones = { one_row table.named };
+
+    ghost only = { only_row table.named };
 }
 
-impl Listed for NumberedCity {
-    ghost is_one = { HaveKinds city_kinds };
+impl Kept for NumberedCity {
+    type Cells = CityCells;
 
-    ghost is_row = { IsCityRow };
+    ghost one = { IsOneCity };
 
-    fn fits(row: &Row) -> bool {
-        have_kinds(row, &[NUMBER, NAME, NUMBER])
+    ghost kept = { IsCityRow };
+
+    ghost keeps = { λ p. numbered_city (table.cities.from p) };
+
+    fn keep(cells: CityCells) -> NumberedCity {
+        let (number, (_name, (country, ()))) = cells;
+        NumberedCity {
+            number: number.get(),
+            city: CheckedCity { country },
+        }
     }
 
-    fn take(row: &Row) -> Result<NumberedCity, StoreFault> {
-        Ok(NumberedCity {
-            number: number_at(row, 0)?,
-            city: CheckedCity {
-                country: row_number_at(row, 2)?,
-            },
-        })
-    }
+    ghost rows = { λ p fits. full_row table.cities numbered_city p fits refl };
+
+    ghost ones = { one_row table.cities };
+
+    ghost only = { only_row table.cities };
 }
 
-impl Listed for NumberedActor {
-    ghost is_one = { HaveKinds actor_kinds };
+impl Kept for NumberedActor {
+    type Cells = ActorCells;
 
-    ghost is_row = { IsActorRow };
+    ghost one = { IsOneActor };
 
-    fn fits(row: &Row) -> bool {
-        have_kinds(row, &[NUMBER, NAME, NAME])
+    ghost kept = { IsActorRow };
+
+    ghost keeps = { λ p. numbered_actor (table.actors.from p) };
+
+    fn keep(cells: ActorCells) -> NumberedActor {
+        let (number, (_first, (_last, ()))) = cells;
+        NumberedActor {
+            number: number.get(),
+        }
     }
 
-    fn take(row: &Row) -> Result<NumberedActor, StoreFault> {
-        Ok(NumberedActor {
-            number: number_at(row, 0)?,
-        })
-    }
+    ghost rows = { λ p fits. full_row table.actors numbered_actor p fits refl };
+
+    ghost ones = { one_row table.actors };
+
+    ghost only = { only_row table.actors };
 }
 
-impl Listed for NumberedFilm {
-    ghost is_one = { HaveKinds film_kinds };
+impl Kept for NumberedFilm {
+    type Cells = FilmCells;
 
-    ghost is_row = { IsFilmRow };
+    ghost one = { IsOneFilm };
 
-    fn fits(row: &Row) -> bool {
-        have_kinds(
-            row,
-            &[
-                NUMBER,
-                Kind::Text(1, 128),
-                Kind::Text(0, 500),
-                NUMBER,
-                NUMBER,
-                Kind::Whole(1, 255),
-                Kind::Whole(0, 9_999),
-                Kind::Whole(0, 99_999),
-                Kind::WholeOrNull(1, 65_535),
-                Kind::Rating,
-                Kind::Features,
-                Kind::Flag,
-            ],
-        )
+    ghost kept = { IsFilmRow };
+
+    ghost keeps = { λ p. numbered_film (table.films.from p) };
+
+    fn keep(cells: FilmCells) -> NumberedFilm {
+        let (number, (_title, (_description, (language, (category, _priced))))) = cells;
+        NumberedFilm {
+            number: number.get(),
+            film: CheckedFilm { language, category },
+        }
     }
 
-    fn take(row: &Row) -> Result<NumberedFilm, StoreFault> {
-        Ok(NumberedFilm {
-            number: number_at(row, 0)?,
-            film: CheckedFilm {
-                language: row_number_at(row, 3)?,
-                category: row_number_at(row, 4)?,
-            },
-        })
-    }
+    ghost rows = { λ p fits. full_row table.films numbered_film p fits refl };
+
+    ghost ones = { one_row table.films };
+
+    ghost only = { only_row table.films };
 }
 
-impl Listed for CheckedCast {
-    ghost is_one = { HaveKinds cast_kinds };
+impl Kept for CheckedCast {
+    type Cells = CastCells;
 
-    ghost is_row = { IsCastRow };
+    ghost one = { IsOneCast };
 
-    fn fits(row: &Row) -> bool {
-        have_kinds(row, &[NUMBER, NUMBER])
+    ghost kept = { IsCastRow };
+
+    ghost keeps = { λ p. cast_row (table.casts.from p) };
+
+    fn keep(cells: CastCells) -> CheckedCast {
+        let (film, (actor, ())) = cells;
+        CheckedCast { film, actor }
     }
 
-    fn take(row: &Row) -> Result<CheckedCast, StoreFault> {
-        Ok(CheckedCast {
-            film: row_number_at(row, 0)?,
-            actor: row_number_at(row, 1)?,
-        })
-    }
+    ghost rows = { λ p fits. full_row table.casts cast_row p fits refl };
+
+    ghost ones = { one_row table.casts };
+
+    ghost only = { only_row table.casts };
 }
 
-impl Listed for NumberedBranch {
-    ghost is_one = { HaveKinds branch_kinds };
+impl Kept for NumberedBranch {
+    type Cells = BranchCells;
 
-    ghost is_row = { IsBranchRow };
+    ghost one = { IsOneBranch };
 
-    fn fits(row: &Row) -> bool {
-        have_kinds(
-            row,
-            &[
-                NUMBER,
-                Kind::Token,
-                Kind::Text(1, 128),
-                Kind::Text(0, 45),
-                Kind::Text(0, 45),
-                NUMBER,
-                NUMBER_OR_NULL,
-                Kind::MomentOrNull,
-            ],
-        )
-    }
+    ghost kept = { IsBranchRow };
 
-    fn take(row: &Row) -> Result<NumberedBranch, StoreFault> {
-        Ok(NumberedBranch {
-            number: number_at(row, 0)?,
+    ghost keeps = { λ p. numbered_branch (audited.branches.from p) };
+
+    fn keep(cells: BranchCells) -> NumberedBranch {
+        let (number, (token, (_address, (_postal, (_phone, more))))) = cells;
+        let (city, (manager, (last, ()))) = more;
+        NumberedBranch {
+            number: number.get(),
             branch: CheckedBranch {
-                token: token_at(row, 1)?,
-                city: row_number_at(row, 5)?,
-                manager: row_number_or_null_at(row, 6)?,
-                last: moment_or_null_at(row, 7)?,
+                token,
+                city,
+                manager,
+                last,
             },
-        })
+        }
     }
+
+    ghost rows = { λ p fits. full_row audited.branches numbered_branch p fits refl };
+
+    ghost ones = { one_row audited.branches };
+
+    ghost only = { only_row audited.branches };
 }
 
-impl Listed for NumberedStaff {
-    ghost is_one = { HaveKinds staff_kinds };
+impl Kept for NumberedStaff {
+    type Cells = StaffCells;
 
-    ghost is_row = { IsStaffRow };
+    ghost one = { IsOneStaff };
 
-    fn fits(row: &Row) -> bool {
-        have_kinds(
-            row,
-            &[
-                NUMBER,
-                NUMBER,
-                NAME,
-                NAME,
-                Kind::Text(1, 128),
-                Kind::Text(0, 45),
-                Kind::Text(0, 45),
-                NUMBER,
-                Kind::Flag,
-            ],
-        )
+    ghost kept = { IsStaffRow };
+
+    ghost keeps = { λ p. numbered_staff (table.staff.from p) };
+
+    fn keep(cells: StaffCells) -> NumberedStaff {
+        let (number, (branch, (_first, (_last, (_address, (_postal, (_phone, more))))))) = cells;
+        let (city, _gone) = more;
+        NumberedStaff {
+            number: number.get(),
+            staff: CheckedStaff { branch, city },
+        }
     }
 
-    fn take(row: &Row) -> Result<NumberedStaff, StoreFault> {
-        Ok(NumberedStaff {
-            number: number_at(row, 0)?,
-            staff: CheckedStaff {
-                branch: row_number_at(row, 1)?,
-                city: row_number_at(row, 7)?,
-            },
-        })
-    }
+    ghost rows = { λ p fits. full_row table.staff numbered_staff p fits refl };
+
+    ghost ones = { one_row table.staff };
+
+    ghost only = { only_row table.staff };
 }

@@ -2,7 +2,11 @@
 
 ghost use Rattle.std.specs.Prelude.{◌≡◌, ◌↔◌, IsTrue, IsUtf8};
 ghost use Rattle.std.specs.List.{list_all};
+ghost use Rattle.std.specs.Str.{bytes_eq};
 ghost use Rattle.shop_values.specs.Texts.{is_text, is_printed, is_key, is_key_byte};
+ghost use Rattle.shop_schema.specs.RowValues.{IsRating, IsFeatures};
+
+use shop_types::Features;
 
 fn is_printed_byte(b: u8) -> bool
     ensures { result ≡ is_printed b }
@@ -50,4 +54,25 @@ pub(crate) fn is_key(bytes: &[u8]) -> bool
     ensures { result ≡ is_key bytes.now }
 {
     1 <= bytes.len() && bytes.len() <= 40 && all_of_key(bytes)
+}
+
+/// Whether the text is a rating.
+pub(crate) fn is_rating(text: &[u8]) -> bool
+    ensures { IsTrue result ↔ IsRating text.now }
+{
+    text == b"G".as_slice()
+        || text == b"PG".as_slice()
+        || text == b"PG-13".as_slice()
+        || text == b"R".as_slice()
+        || text == b"NC-17".as_slice()
+}
+
+/// Whether the text is a list of special features.
+pub(crate) fn are_features(text: &[u8]) -> bool
+    ensures { IsTrue result ↔ IsFeatures text.now }
+{
+    match std::str::from_utf8(text) {
+        Ok(words) => Features::read(words).is_some(),
+        Err(_) => false,
+    }
 }

@@ -1,9 +1,7 @@
 -- What was read of all tables, as one.
 use Rattle.std.proofs.Common.{◌≡◌, ◌∙◌, List, [], ◌∷◌, ◌++◌, map, Option, Some, None, true, is_some, refl, ap, subst, subst₂}
 use Rattle.std.specs.List.{AllByRecursion}
-use Rattle.sqlite_value.specs.Order as sql
 use Rattle.shop_schema.specs.RowValues.{IsNumber}
-use Rattle.audit_tables.specs.Kinds.{HaveKinds}
 use Rattle.audit_rows.specs.Lists.{Key, climbs}
 use Rattle.audit_rows.specs.Joins.{placed_key, join}
 use Rattle.audit_rows.specs.Ordered.{AreOrdered}
@@ -25,21 +23,14 @@ use Rattle.audit_tables.specs.declared.shared.NumberedCity.{NumberedCity}
 use Rattle.audit_tables.specs.declared.shared.NumberedFilm.{NumberedFilm}
 use Rattle.audit_tables.specs.declared.shared.NumberedBranch.{NumberedBranch}
 use Rattle.audit_tables.specs.declared.shared.NumberedStaff.{NumberedStaff}
-use Rattle.audit_tables.specs.Placed.{IsCopyRow, IsLineRow, IsOneLine}
-use Rattle.audit_tables.specs.Rows.{chain_kinds, IsChainRow, named_kinds, IsNamedRow, city_kinds, IsCityRow, film_kinds, IsFilmRow, cast_kinds, IsCastRow, branch_kinds, IsBranchRow, staff_kinds, IsStaffRow, customer_kinds, IsCustomerRow, rental_kinds, IsRentalRow, terms_kinds, IsTermsRow, payment_kinds, IsPaymentRow, lot_kinds, IsLotRow, header_kinds, IsHeaderRow, IsOneKept, IsCallerRow}
+use Rattle.audit_tables.specs.Rows.{IsChainRow, IsNamedRow, IsCityRow, IsFilmRow, IsCastRow, IsBranchRow, IsStaffRow, IsCustomerRow, IsCopyRow, IsRentalRow, IsTermsRow, IsPaymentRow, IsLotRow, IsHeaderRow, IsLineRow}
+use Rattle.audit_tables.specs.Kept.{IsCallerRow}
 use Rattle.books_audit.specs.Read.{SharedRead, RowsRead, AreRowsRead, office_caller, branch_caller}
 use Rattle.books_audit.specs.declared.tables.TableRows.{TableRows}
 use Rattle.books_audit.specs.Parts.{PartsAreRead, IsOf}
 use Rattle.books_audit.specs.ReadInOrder.{CanBeRead}
 use Rattle.books_audit.specs.declared.parts.Parts.{Parts}
 use Rattle.books_audit.proofs.Counted.{shared_read}
-
-any_rows : (rows : List sql.Row) → AllByRecursion (λ r. Unit {0}) rows
-any_rows [] = tt
-any_rows (r ∷ rows) = (tt, any_rows rows)
-
-whatever : {X : Type 0} (Is : X → sql.Row → Type 0) (One : sql.Row → Type 0) (table : List sql.Row) (kept : List X) → RowsRead Is One table kept → RowsRead Is (λ r. Unit {0}) table kept
-whatever Is One table kept r = record { found = r.found; are_rows = r.are_rows; ones = any_rows table; same = r.same }
 
 module _ (tables : TableRows) (parts : Parts) (rows : OrderedBooks) (p : PartsAreRead tables parts) (e : IsOf parts rows) where
   pub are_ordered : AreOrdered rows
@@ -59,38 +50,38 @@ module _ (tables : TableRows) (parts : Parts) (rows : OrderedBooks) (p : PartsAr
 
   pub are_read : AreRowsRead tables rows
   are_read = record {
-    chain = subst (λ t. RowsRead IsChainRow (HaveKinds chain_kinds) tables.chain.items (record { office_token = t } ∷ [])) e.office_token p.chain;
+    chain = subst (λ t. RowsRead IsChainRow tables.chain.items (record { office_token = t } ∷ [])) e.office_token p.chain;
     rule_row = parts.rule;
     rule = p.rule;
-    countries = subst (SharedRead IsNamedRow named_kinds (λ (x : NamedRow). x.number) (λ (x : NamedRow). x.name) tables.countries.items) e.countries (shared_read _ _ _ _ _ _ p.named.countries);
-    languages = subst (SharedRead IsNamedRow named_kinds (λ (x : NamedRow). x.number) (λ (x : NamedRow). x.name) tables.languages.items) e.languages (shared_read _ _ _ _ _ _ p.named.languages);
-    categories = subst (SharedRead IsNamedRow named_kinds (λ (x : NamedRow). x.number) (λ (x : NamedRow). x.name) tables.categories.items) e.categories (shared_read _ _ _ _ _ _ p.named.categories);
-    cities = subst (SharedRead IsCityRow city_kinds (λ (x : NumberedCity). x.number) (λ (x : NumberedCity). x.city) tables.cities.items) e.cities (shared_read _ _ _ _ _ _ p.placed.cities);
-    films = subst (SharedRead IsFilmRow film_kinds (λ (x : NumberedFilm). x.number) (λ (x : NumberedFilm). x.film) tables.films.items) e.films (shared_read _ _ _ _ _ _ p.filmed.films);
-    branches = subst (SharedRead IsBranchRow branch_kinds (λ (x : NumberedBranch). x.number) (λ (x : NumberedBranch). x.branch) tables.branches.items) e.branches (shared_read _ _ _ _ _ _ p.placed.branches);
-    staff = subst (SharedRead IsStaffRow staff_kinds (λ (x : NumberedStaff). x.number) (λ (x : NumberedStaff). x.staff) tables.staff.items) e.staff (shared_read _ _ _ _ _ _ p.placed.staff);
+    countries = subst (SharedRead IsNamedRow (λ (x : NamedRow). x.number) (λ (x : NamedRow). x.name) tables.countries.items) e.countries (shared_read _ _ _ _ _ p.named.countries);
+    languages = subst (SharedRead IsNamedRow (λ (x : NamedRow). x.number) (λ (x : NamedRow). x.name) tables.languages.items) e.languages (shared_read _ _ _ _ _ p.named.languages);
+    categories = subst (SharedRead IsNamedRow (λ (x : NamedRow). x.number) (λ (x : NamedRow). x.name) tables.categories.items) e.categories (shared_read _ _ _ _ _ p.named.categories);
+    cities = subst (SharedRead IsCityRow (λ (x : NumberedCity). x.number) (λ (x : NumberedCity). x.city) tables.cities.items) e.cities (shared_read _ _ _ _ _ p.placed.cities);
+    films = subst (SharedRead IsFilmRow (λ (x : NumberedFilm). x.number) (λ (x : NumberedFilm). x.film) tables.films.items) e.films (shared_read _ _ _ _ _ p.filmed.films);
+    branches = subst (SharedRead IsBranchRow (λ (x : NumberedBranch). x.number) (λ (x : NumberedBranch). x.branch) tables.branches.items) e.branches (shared_read _ _ _ _ _ p.placed.branches);
+    staff = subst (SharedRead IsStaffRow (λ (x : NumberedStaff). x.number) (λ (x : NumberedStaff). x.staff) tables.staff.items) e.staff (shared_read _ _ _ _ _ p.placed.staff);
     actor_marks = parts.filmed.actors.items;
-    actors = shared_read _ _ _ _ _ _ p.filmed.actors;
+    actors = shared_read _ _ _ _ _ p.filmed.actors;
     actor_count = e.actors;
-    casts = subst (RowsRead IsCastRow (HaveKinds cast_kinds) tables.casts.items) e.casts p.filmed.casts;
-    customers = subst (RowsRead IsCustomerRow (HaveKinds customer_kinds) tables.customers.items) e.customers p.deals.customers;
-    rentals = subst (RowsRead IsRentalRow (HaveKinds rental_kinds) tables.rentals.items) e.rentals p.deals.rentals;
-    terms = subst (RowsRead IsTermsRow (HaveKinds terms_kinds) tables.terms.items) e.terms p.deals.terms;
-    payments = subst (RowsRead IsPaymentRow (HaveKinds payment_kinds) tables.payments.items) e.payments p.deals.payments;
-    lots = subst (RowsRead IsLotRow (HaveKinds lot_kinds) tables.lots.items) e.lots p.stock.lots;
-    headers = subst (RowsRead IsHeaderRow (HaveKinds header_kinds) tables.consignments.items) e.headers p.sent.headers;
-    copies = subst (RowsRead IsCopyRow (λ r. Unit {0}) tables.copies.items) e.copies (whatever _ _ _ _ p.stock.copies);
-    lines = subst (RowsRead IsLineRow (λ r. Unit {0}) tables.lines.items) e.lines (whatever _ _ _ _ p.sent.lines);
-    kept = subst₂ (λ (ks : List Key) (ls : List CheckedKept). RowsRead IsCallerRow IsOneKept tables.kept.items (map office_caller ks ++ map branch_caller ls)) e.office_keys e.kept p.keys.kept;
+    casts = subst (RowsRead IsCastRow tables.casts.items) e.casts p.filmed.casts;
+    customers = subst (RowsRead IsCustomerRow tables.customers.items) e.customers p.deals.customers;
+    rentals = subst (RowsRead IsRentalRow tables.rentals.items) e.rentals p.deals.rentals;
+    terms = subst (RowsRead IsTermsRow tables.terms.items) e.terms p.deals.terms;
+    payments = subst (RowsRead IsPaymentRow tables.payments.items) e.payments p.deals.payments;
+    lots = subst (RowsRead IsLotRow tables.lots.items) e.lots p.stock.lots;
+    headers = subst (RowsRead IsHeaderRow tables.consignments.items) e.headers p.sent.headers;
+    copies = subst (RowsRead IsCopyRow tables.copies.items) e.copies p.stock.copies;
+    lines = subst (RowsRead IsLineRow tables.lines.items) e.lines p.sent.lines;
+    kept = subst₂ (λ (ks : List Key) (ls : List CheckedKept). RowsRead IsCallerRow tables.kept.items (map office_caller ks ++ map branch_caller ls)) e.office_keys e.kept p.keys.kept;
     kept_branches = subst (AllByRecursion (λ (x : CheckedKept). IsNumber x.branch)) e.kept p.keys.branches;
     lines_climb = ap climbs (map-twice placed_key seen_placed rows.lines.items) ∙ are_ordered.lines;
   }
 
-  headers_read : RowsRead IsHeaderRow (HaveKinds header_kinds) tables.consignments.items rows.headers.items
-  headers_read = subst (RowsRead IsHeaderRow (HaveKinds header_kinds) tables.consignments.items) e.headers p.sent.headers
+  headers_read : RowsRead IsHeaderRow tables.consignments.items rows.headers.items
+  headers_read = subst (RowsRead IsHeaderRow tables.consignments.items) e.headers p.sent.headers
 
-  lines_read : RowsRead IsLineRow IsOneLine tables.lines.items rows.lines.items
-  lines_read = subst (RowsRead IsLineRow IsOneLine tables.lines.items) e.lines p.sent.lines
+  lines_read : RowsRead IsLineRow tables.lines.items rows.lines.items
+  lines_read = subst (RowsRead IsLineRow tables.lines.items) e.lines p.sent.lines
 
   pub must_join : CanBeRead tables → is_some (join (map seen_header rows.headers.items) (map seen_placed rows.lines.items)) ≡ true
   must_join h = ap is_some (h.joined rows.headers.items rows.lines.items headers_read lines_read are_ordered.headers are_ordered.lines).1

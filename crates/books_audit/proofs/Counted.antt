@@ -4,8 +4,6 @@ use Rattle.std.proofs.lemmas.Bool.Decides.{nat_tests}
 use Rattle.sqlite_value.specs.Order as sql
 use Rattle.sqlite_keyed.proofs.ListLemmas.{along_permutation}
 use Rattle.shop_model.specs.Rows.{IsCounted}
-use Rattle.audit_tables.specs.declared.kinds.Kind.{Kind}
-use Rattle.audit_tables.specs.Kinds.{HaveKinds}
 use Rattle.audit_rows.specs.Lists.{counts_from}
 use Rattle.audit_rows.proofs.Keys.{both}
 use Rattle.audit_rows.proofs.Maps.{length-map}
@@ -22,12 +20,11 @@ kept_of_each Is [] (r ∷ rows) h = absurd h
 kept_of_each Is (x ∷ xs) [] h = absurd h
 kept_of_each Is (x ∷ xs) (r ∷ rows) h = let more = kept_of_each Is xs rows h.1 in omega (arith, more)
 
-pub shared_read : {X S : Type 0} (Is : X → sql.Row → Type 0) (kinds : List Kind) (number : X → ℕ) (keep : X → S) (table : List sql.Row) (kept : List S) → PlacesRead Is (HaveKinds kinds) number keep table kept → SharedRead Is kinds number keep table kept
-shared_read Is kinds number keep table kept r =
+pub shared_read : {X S : Type 0} (Is : X → sql.Row → Type 0) (number : X → ℕ) (keep : X → S) (table : List sql.Row) (kept : List S) → PlacesRead Is number keep table kept → SharedRead Is number keep table kept
+shared_read Is number keep table kept r =
     let size : length kept ≡ length table = ap length (sym r.keeps) ∙ length-map keep r.sorted ∙ sym (as_many r.found r.sorted r.same) ∙ kept_of_each Is r.found table r.are_rows in record {
       found = r.found;
       are_rows = r.are_rows;
-      ones = r.ones;
       sorted = r.sorted;
       same = r.same;
       counted = r.counted;

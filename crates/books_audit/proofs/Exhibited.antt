@@ -11,7 +11,6 @@ use Rattle.shop_model.specs.Shop.{Kept, OfficeKept}
 use Rattle.shop_model.specs.Books.{Books, Consignment, head}
 use Rattle.shop_schema.specs.Columns.{chain_columns, named_columns, city_columns, actor_columns, film_columns, cast_columns, staff_columns, customer_columns, copy_columns, rental_columns, terms_columns, rule_columns, payment_columns, lot_columns, consignment_columns, line_rows}
 use Rattle.shop_schema.specs.RowValues.{IsName, IsToken, IsCity, IsActor, IsFilm, IsCast, IsStaff, IsRow, IsCustomer, IsCopy, IsRental, IsTerms, IsPayment, IsLot, IsConsignment, IsLast}
-use Rattle.audit_tables.specs.Kinds.{HaveKinds}
 use Rattle.audit_rows.specs.Lists.{climbs}
 use Rattle.audit_rows.specs.Canons.{row_key, office_key}
 use Rattle.audit_rows.specs.Joins.{header, placed, join}
@@ -25,16 +24,14 @@ use Rattle.audit_rows.specs.declared.rows.CheckedKept.{CheckedKept}
 use Rattle.audit_rows.proofs.JoinLemmas.{join_sound}
 use Rattle.audit_rows.proofs.Maps.{length-map}
 use Rattle.audit_rows.proofs.Standing.{all_moved}
-use Rattle.audit_tables.specs.Placed.{placed_columns, IsPlaced}
-use Rattle.audit_tables.specs.Rows.{chain_kinds, IsChainRow, rule_kinds, IsRuleRow, named_kinds, IsNamedRow, city_kinds, IsCityRow, actor_kinds, IsActorRow, film_kinds, IsFilmRow, cast_kinds, IsCastRow, branch_kinds, IsBranchRow, staff_kinds, IsStaffRow, customer_kinds, IsCustomerRow, rental_kinds, IsRentalRow, terms_kinds, IsTermsRow, payment_kinds, IsPaymentRow, lot_kinds, IsLotRow, header_kinds, IsHeaderRow}
-use Rattle.books_audit.proofs.CustodyAudits.{columns_read, values_read}
+use Rattle.audit_tables.specs.Columns.{told_columns, IsTold, header_columns, IsHeader, placed_columns, IsPlaced}
+use Rattle.audit_tables.specs.Rows.{chain_row, rule_row, AnyRule, named_row, numbered_city, numbered_actor, numbered_film, numbered_branch, numbered_staff, copy_row, rental_row, payment_row, header_row, placed_row}
+use Rattle.books_audit.proofs.CustodyAudits.{copy_again, placed_again}
 use Rattle.audit_tables.specs.declared.shared.RuleRow.{RuleRow}
 use Rattle.books_audit.specs.declared.tables.TableRows.{TableRows}
 use Rattle.books_audit.specs.Audits.{HaveRowsOf, HaveKeys, HaveBooks, AreInOrder, same_row}
 use Rattle.books_audit.specs.Read.{AreRowsRead}
-use Rattle.books_audit.proofs.FullRows as full
-use Rattle.books_audit.proofs.FullRows.{IsShared, IsTold, IsHeader, told_columns, header_columns, header_row, chain_row, rule_row, named_row, numbered_city, numbered_actor, numbered_film, numbered_branch, numbered_staff, rental_row, payment_row}
-use Rattle.books_audit.proofs.FullLists.{Fulls, fulls}
+use Rattle.books_audit.proofs.FullLists.{Fulls, full_rows, seen_all}
 use Rattle.books_audit.proofs.SharedLists.{SharedOf, shared_of, told_row, tell, lasts_fit, branches_fit}
 use Rattle.books_audit.proofs.KeptRows.{KeptOf, kept_of}
 use Rattle.books_audit.proofs.Canonical.{apart, row_test, consignments_apart, consignments_fit, by_place, same_by_place, sorted_by_place}
@@ -57,58 +54,64 @@ one_rule (it ∷ other ∷ its) x h = cc
 
 module _ (tables : TableRows) (rows : OrderedBooks) (read : AreRowsRead tables rows) (ordered : AreOrdered rows) (by_key : List Consignment) (joined : join (map seen_header rows.headers.items) (map seen_placed rows.lines.items) ≡ Some by_key) where
   countries : SharedOf named_columns IsName (λ (t : Text). t) tables.countries.items rows.countries.items
-  countries = shared_of named_columns IsName named_row IsNamedRow named_kinds full.named_full (λ x. x.number) (λ x. x.name) (λ t. t) (λ it. refl) (λ it. refl) tables.countries.items rows.countries.items read.countries
+  countries = shared_of named_columns IsName named_row (λ x. x.number) (λ x. x.name) (λ t. t) (λ it. refl) (λ it. refl) read.countries
 
   languages : SharedOf named_columns IsName (λ (t : Text). t) tables.languages.items rows.languages.items
-  languages = shared_of named_columns IsName named_row IsNamedRow named_kinds full.named_full (λ x. x.number) (λ x. x.name) (λ t. t) (λ it. refl) (λ it. refl) tables.languages.items rows.languages.items read.languages
+  languages = shared_of named_columns IsName named_row (λ x. x.number) (λ x. x.name) (λ t. t) (λ it. refl) (λ it. refl) read.languages
 
   categories : SharedOf named_columns IsName (λ (t : Text). t) tables.categories.items rows.categories.items
-  categories = shared_of named_columns IsName named_row IsNamedRow named_kinds full.named_full (λ x. x.number) (λ x. x.name) (λ t. t) (λ it. refl) (λ it. refl) tables.categories.items rows.categories.items read.categories
+  categories = shared_of named_columns IsName named_row (λ x. x.number) (λ x. x.name) (λ t. t) (λ it. refl) (λ it. refl) read.categories
 
   cities : SharedOf city_columns IsCity city_row tables.cities.items rows.cities.items
-  cities = shared_of city_columns IsCity numbered_city IsCityRow city_kinds full.city_full (λ x. x.number) (λ x. x.city) city_row (λ it. refl) (λ it. refl) tables.cities.items rows.cities.items read.cities
+  cities = shared_of city_columns IsCity numbered_city (λ x. x.number) (λ x. x.city) city_row (λ it. refl) (λ it. refl) read.cities
 
   actors : SharedOf actor_columns IsActor (λ it. tt) tables.actors.items read.actor_marks
-  actors = shared_of actor_columns IsActor numbered_actor IsActorRow actor_kinds full.actor_full (λ x. x.number) (λ x. tt) (λ it. tt) (λ it. refl) (λ it. refl) tables.actors.items read.actor_marks read.actors
+  actors = shared_of actor_columns IsActor numbered_actor (λ x. x.number) (λ x. tt) (λ it. tt) (λ it. refl) (λ it. refl) read.actors
 
   films : SharedOf film_columns IsFilm film_row tables.films.items rows.films.items
-  films = shared_of film_columns IsFilm numbered_film IsFilmRow film_kinds full.film_full (λ x. x.number) (λ x. x.film) film_row (λ it. refl) (λ it. refl) tables.films.items rows.films.items read.films
+  films = shared_of film_columns IsFilm numbered_film (λ x. x.number) (λ x. x.film) film_row (λ it. refl) (λ it. refl) read.films
 
   branches : SharedOf told_columns IsTold told_row tables.branches.items rows.branches.items
-  branches = shared_of told_columns IsTold numbered_branch IsBranchRow branch_kinds full.branch_full (λ x. x.number) (λ x. x.branch) told_row (λ it. refl) (λ it. refl) tables.branches.items rows.branches.items read.branches
+  branches = shared_of told_columns IsTold numbered_branch (λ x. x.number) (λ x. x.branch) told_row (λ it. refl) (λ it. refl) read.branches
 
   staff : SharedOf staff_columns IsStaff staff_row tables.staff.items rows.staff.items
-  staff = shared_of staff_columns IsStaff numbered_staff IsStaffRow staff_kinds full.staff_full (λ x. x.number) (λ x. x.staff) staff_row (λ it. refl) (λ it. refl) tables.staff.items rows.staff.items read.staff
+  staff = shared_of staff_columns IsStaff numbered_staff (λ x. x.number) (λ x. x.staff) staff_row (λ it. refl) (λ it. refl) read.staff
 
   chain : Fulls chain_columns IsToken chain_row (record { office_token = rows.office_token } ∷ []) tables.chain.items
-  chain = let r = read.chain in fulls chain_columns IsToken chain_row IsChainRow (HaveKinds chain_kinds) full.chain_full r.found _ tables.chain.items r.are_rows r.ones r.same
+  chain = full_rows chain_columns IsToken chain_row read.chain
 
-  rules : Fulls rule_columns (λ it. Unit {0}) rule_row (read.rule_row ∷ []) tables.rule.items
-  rules = let r = read.rule in fulls rule_columns (λ it. Unit {0}) rule_row IsRuleRow (HaveKinds rule_kinds) full.rule_full r.found _ tables.rule.items r.are_rows r.ones r.same
+  rules : Fulls rule_columns AnyRule rule_row (read.rule_row ∷ []) tables.rule.items
+  rules = full_rows rule_columns AnyRule rule_row read.rule
 
   rule : (it : Rule) × (rules.its ≡ it ∷ [])
   rule = one_rule rules.its read.rule_row rules.keeps
 
   casts : Fulls cast_columns IsCast cast_row rows.casts.items tables.casts.items
-  casts = let r = read.casts in fulls cast_columns IsCast cast_row IsCastRow (HaveKinds cast_kinds) full.cast_full r.found rows.casts.items tables.casts.items r.are_rows r.ones r.same
+  casts = full_rows cast_columns IsCast cast_row read.casts
 
   customers : Fulls customer_columns (IsRow IsCustomer) customer_row rows.customers.items tables.customers.items
-  customers = let r = read.customers in fulls customer_columns (IsRow IsCustomer) customer_row IsCustomerRow (HaveKinds customer_kinds) full.customer_full r.found rows.customers.items tables.customers.items r.are_rows r.ones r.same
+  customers = full_rows customer_columns (IsRow IsCustomer) customer_row read.customers
 
   rentals : Fulls rental_columns (IsRow IsRental) rental_row rows.rentals.items tables.rentals.items
-  rentals = let r = read.rentals in fulls rental_columns (IsRow IsRental) rental_row IsRentalRow (HaveKinds rental_kinds) full.rental_full r.found rows.rentals.items tables.rentals.items r.are_rows r.ones r.same
+  rentals = full_rows rental_columns (IsRow IsRental) rental_row read.rentals
 
   terms : Fulls terms_columns (IsRow IsTerms) terms_row rows.terms.items tables.terms.items
-  terms = let r = read.terms in fulls terms_columns (IsRow IsTerms) terms_row IsTermsRow (HaveKinds terms_kinds) full.terms_full r.found rows.terms.items tables.terms.items r.are_rows r.ones r.same
+  terms = full_rows terms_columns (IsRow IsTerms) terms_row read.terms
 
   payments : Fulls payment_columns (IsRow IsPayment) payment_row rows.payments.items tables.payments.items
-  payments = let r = read.payments in fulls payment_columns (IsRow IsPayment) payment_row IsPaymentRow (HaveKinds payment_kinds) full.payment_full r.found rows.payments.items tables.payments.items r.are_rows r.ones r.same
+  payments = full_rows payment_columns (IsRow IsPayment) payment_row read.payments
 
   lots : Fulls lot_columns IsLot lot_row rows.lots.items tables.lots.items
-  lots = let r = read.lots in fulls lot_columns IsLot lot_row IsLotRow (HaveKinds lot_kinds) full.lot_full r.found rows.lots.items tables.lots.items r.are_rows r.ones r.same
+  lots = full_rows lot_columns IsLot lot_row read.lots
+
+  copies : Fulls copy_columns (IsRow IsCopy) copy_row rows.copies.items tables.copies.items
+  copies = full_rows copy_columns (IsRow IsCopy) copy_row read.copies
 
   headers : Fulls header_columns IsHeader header_row rows.headers.items tables.consignments.items
-  headers = let r = read.headers in fulls header_columns IsHeader header_row IsHeaderRow (HaveKinds header_kinds) full.header_full r.found rows.headers.items tables.consignments.items r.are_rows r.ones r.same
+  headers = full_rows header_columns IsHeader header_row read.headers
+
+  lines : Fulls placed_columns IsPlaced placed_row rows.lines.items tables.lines.items
+  lines = full_rows placed_columns IsPlaced placed_row read.lines
 
   kept : KeptOf tables.kept.items rows.office_keys.items rows.kept.items
   kept = kept_of tables.kept.items rows.office_keys.items rows.kept.items read.kept_branches read.kept
@@ -134,7 +137,7 @@ module _ (tables : TableRows) (rows : OrderedBooks) (read : AreRowsRead tables r
       rule = rule.0;
     };
     customers = customers.its;
-    copies = map seen_copy rows.copies.items;
+    copies = copies.its;
     rentals = rentals.its;
     terms = terms.its;
     payments = payments.its;
@@ -172,10 +175,10 @@ module _ (tables : TableRows) (rows : OrderedBooks) (read : AreRowsRead tables r
   have_rows = record {
     shared = have_shared;
     customers = customers.keeps;
-    copies = refl;
-    rentals = sym (itself (λ it. seen_rental_row (rental_row it)) (λ it. refl) rentals.its) ∙ sym (map-map seen_rental_row rental_row rentals.its) ∙ ap (map seen_rental_row) rentals.keeps;
+    copies = seen_all seen_copy copy_row copy_again copies.its copies.keeps;
+    rentals = seen_all seen_rental_row rental_row (λ it. refl) rentals.its rentals.keeps;
     terms = terms.keeps;
-    payments = sym (itself (λ it. seen_payment_row (payment_row it)) (λ it. refl) payments.its) ∙ sym (map-map seen_payment_row payment_row payments.its) ∙ ap (map seen_payment_row) payments.keeps;
+    payments = seen_all seen_payment_row payment_row (λ it. refl) payments.its payments.keeps;
     lots = lots.keeps;
     kept = kept.kept_keys;
     consignments = record { by_key = by_key; joined = joined; all = same_by_place by_key; in_order = sorted_by_place by_key };
@@ -187,31 +190,17 @@ module _ (tables : TableRows) (rows : OrderedBooks) (read : AreRowsRead tables r
 
   -- ---- its consignments
 
+  joins : (map header by_key ≡ map seen_header rows.headers.items) × (flat_map placed by_key ≡ map seen_placed rows.lines.items)
+  joins = join_sound (map seen_header rows.headers.items) (map seen_placed rows.lines.items) by_key joined
+
   header_list : headers.its ≡ map header by_key
-  header_list =
-      sym (itself (λ it. seen_header (header_row it)) (λ it. refl) headers.its) ∙ sym (map-map seen_header header_row headers.its) ∙ ap (map seen_header) headers.keeps
-      ∙ sym (join_sound (map seen_header rows.headers.items) (map seen_placed rows.lines.items) by_key joined).0
+  header_list = seen_all seen_header header_row (λ it. refl) headers.its headers.keeps ∙ sym joins.0
 
-  placed_list : flat_map placed by_key ≡ map seen_placed rows.lines.items
-  placed_list = (join_sound (map seen_header rows.headers.items) (map seen_placed rows.lines.items) by_key joined).1
-
-  placed_rows : IsPermutation tables.lines.items (map placed_columns (map seen_placed rows.lines.items))
-  placed_rows =
-      let r = read.lines in
-      subst (λ l. IsPermutation l (map placed_columns (map seen_placed rows.lines.items))) (columns_read seen_placed placed_columns IsPlaced r.found tables.lines.items r.are_rows)
-      (IsPermutation-map placed_columns _ _ (IsPermutation-map seen_placed _ _ r.same))
-
-  copy_rows : IsPermutation tables.copies.items (map copy_columns (map seen_copy rows.copies.items))
-  copy_rows =
-      let r = read.copies in
-      subst (λ l. IsPermutation l (map copy_columns (map seen_copy rows.copies.items))) (columns_read seen_copy copy_columns (IsRow IsCopy) r.found tables.copies.items r.are_rows)
-      (IsPermutation-map copy_columns _ _ (IsPermutation-map seen_copy _ _ r.same))
+  line_list : lines.its ≡ flat_map placed by_key
+  line_list = seen_all seen_placed placed_row placed_again lines.its lines.keeps ∙ sym joins.1
 
   fitting : AllByRecursion IsConsignment by_key
-  fitting =
-      let r = read.lines in
-      consignments_fit by_key (subst (AllByRecursion IsHeader) header_list headers.fit)
-      (subst (AllByRecursion IsPlaced) (sym placed_list) (all_moved IsPlaced _ _ (IsPermutation-map seen_placed _ _ r.same) (values_read seen_placed placed_columns IsPlaced r.found tables.lines.items r.are_rows)))
+  fitting = consignments_fit by_key (subst (AllByRecursion IsHeader) header_list headers.fit) (subst (AllByRecursion IsPlaced) line_list lines.fit)
 
   -- ---- it stands
 
@@ -229,13 +218,13 @@ module _ (tables : TableRows) (rows : OrderedBooks) (read : AreRowsRead tables r
     branches = subst (IsPermutation tables.branches.items) (sym (tell 1 branches.items (lasts_from 1 rows.branches.items) (λ m low. ap (λ (l : List CheckedBranch). head (owned_by m (lasts_from 1 l))) (sym branches.keeps)))) branches.has;
     staff = staff.has;
     customers = customers.has;
-    copies = copy_rows;
+    copies = copies.has;
     rentals = rentals.has;
     terms = terms.has;
     payments = payments.has;
     lots = lots.has;
     consignments = IsPermutation-trans _ _ _ (subst (IsPermutation tables.consignments.items) (ap (map header_columns) header_list ∙ map-map header_columns header by_key) headers.has) (IsPermutation-map consignment_columns _ _ (same_by_place by_key));
-    lines = IsPermutation-trans _ _ _ (subst (IsPermutation tables.lines.items) (ap (map placed_columns) (sym placed_list) ∙ as_placed by_key) placed_rows) (IsPermutation-flat_map line_rows _ _ (same_by_place by_key));
+    lines = IsPermutation-trans _ _ _ (subst (IsPermutation tables.lines.items) (ap (map placed_columns) line_list ∙ as_placed by_key) lines.has) (IsPermutation-flat_map line_rows _ _ (same_by_place by_key));
     kept = kept.has;
     rule = subst (λ l. IsPermutation tables.rule.items (map rule_columns l)) rule.1 rules.has;
   }
@@ -246,7 +235,7 @@ module _ (tables : TableRows) (rows : OrderedBooks) (read : AreRowsRead tables r
     casts = apart (λ (a b : Cast). a.film == b.film && a.actor == b.actor) (λ x. x.film ∷ x.actor ∷ []) (λ x y. cast_test x y) casts.its
         (ap climbs (sym (map-map (λ (x : CheckedCast). x.film ∷ x.actor ∷ []) cast_row casts.its) ∙ ap (map (λ (x : CheckedCast). x.film ∷ x.actor ∷ [])) casts.keeps) ∙ ordered.casts);
     customers = apart same_row row_key row_test customers.its order.customers;
-    copies = apart same_row row_key row_test (map seen_copy rows.copies.items) order.copies;
+    copies = apart same_row row_key row_test copies.its order.copies;
     rentals = apart same_row row_key row_test rentals.its order.rentals;
     terms = apart same_row row_key row_test terms.its order.terms;
     payments = apart same_row row_key row_test payments.its order.payments;
@@ -280,7 +269,7 @@ module _ (tables : TableRows) (rows : OrderedBooks) (read : AreRowsRead tables r
         staff = staff.fit;
       };
       customers = customers.fit;
-      copies = let r = read.copies in all_moved (IsRow IsCopy) _ _ (IsPermutation-map seen_copy _ _ r.same) (values_read seen_copy copy_columns (IsRow IsCopy) r.found tables.copies.items r.are_rows);
+      copies = copies.fit;
       rentals = rentals.fit;
       terms = terms.fit;
       payments = payments.fit;

@@ -1,13 +1,16 @@
--- Lists of what was kept of a table's rows, in another order, are kept of values whose columns are the table's.
-use Rattle.std.proofs.Common.{◌≡◌, ◌+◌, ℕ, List, [], ◌∷◌, map, refl, sym, subst, IsPermutation}
+-- Lists of what was kept of a table's rows, in another order, are kept of values whose columns are the table's, and the rows of values are the table's.
+use Rattle.std.proofs.Common.{◌≡◌, ◌≤◌, ◌+◌, ℕ, List, [], ◌∷◌, map, length, refl, sym, ap, subst, ◌∙◌, arith, IsPermutation}
 use Rattle.std.specs.List.{AllByRecursion}
 use Rattle.std.proofs.lemmas.List.Sorted.{IsPermutation-map, IsPermutation-refl, IsPermutation-trans, IsPermutation-sym}
+use Rattle.sqlite_keyed.proofs.ListLemmas.{map-map}
 use Rattle.sqlite_value.specs.Order as sql
 use Rattle.shop_model.specs.Rows.{IsCounted, numbered_from, numbered}
+use Rattle.shop_schema.specs.RowValues.{IsShared, AreShared}
 use Rattle.audit_rows.proofs.JoinLemmas.{unmapped_bag}
 use Rattle.audit_rows.proofs.Standing.{all_moved}
-use Rattle.audit_tables.specs.Listed.{AreRows}
-use Rattle.books_audit.proofs.FullRows.{FullOf, IsShared}
+use Rattle.audit_tables.specs.Listed.{AreRows, IsRowOf, FullOf}
+use Rattle.audit_tables.proofs.Ranges.{ranged}
+use Rattle.books_audit.specs.Read.{RowsRead}
 
 -- the values of which so much is kept, and whose columns are the table's rows
 pub record Fulls {X F : Type 0} (columns : F → sql.Row) (Fits : F → Type 0) (small : F → X) (xs : List X) (rows : List sql.Row) : Type 0 where
@@ -16,35 +19,45 @@ pub record Fulls {X F : Type 0} (columns : F → sql.Row) (Fits : F → Type 0) 
   pub fit : AllByRecursion Fits its
   pub keeps : map small its ≡ xs
 
-module _ {X F : Type 0} (columns : F → sql.Row) (Fits : F → Type 0) (small : F → X) (Is : X → sql.Row → Type 0) (One : sql.Row → Type 0) where
-  module _ (full : (r : sql.Row) (x : X) → One r → Is x r → FullOf columns Fits small x r) where
-    in_rows : (xs : List X) (rows : List sql.Row) → AreRows Is xs rows → AllByRecursion One rows → (its : List F) × (map columns its ≡ rows) × AllByRecursion Fits its × (map small its ≡ xs)
-    in_rows [] [] h o = ([], refl, tt, refl)
-    in_rows [] (r ∷ rows) h o = absurd h
-    in_rows (x ∷ xs) [] h o = absurd h
-    in_rows (x ∷ xs) (r ∷ rows) h o =
-        let first = full r x o.0 h.0 in
-        let more = in_rows xs rows h.1 o.1 in
-        (first.it ∷ more.0, (λ i. first.has i ∷ more.1 i), (first.fits, more.2), (λ i. first.keeps i ∷ more.3 i))
+module _ {X F : Type 0} (columns : F → sql.Row) (Fits : F → Type 0) (small : F → X) where
+  in_rows : (xs : List X) (rows : List sql.Row) → AreRows (FullOf columns Fits small) xs rows → (its : List F) × (map columns its ≡ rows) × AllByRecursion Fits its × (map small its ≡ xs)
+  in_rows [] [] h = ([], refl, tt, refl)
+  in_rows [] (r ∷ rows) h = absurd h
+  in_rows (x ∷ xs) [] h = absurd h
+  in_rows (x ∷ xs) (r ∷ rows) h =
+      let first = h.0 in
+      let more = in_rows xs rows h.1 in
+      (first.it ∷ more.0, (λ i. first.has i ∷ more.1 i), (first.fits, more.2), (λ i. first.keeps i ∷ more.3 i))
 
-    pub fulls : (xs ys : List X) (rows : List sql.Row) → AreRows Is xs rows → AllByRecursion One rows → IsPermutation xs ys → Fulls columns Fits small ys rows
-    fulls xs ys rows h o p =
-        let found = in_rows xs rows h o in
-        let moved = unmapped_bag small xs ys p found.0 found.3 in record {
-          its = moved.0;
-          has = IsPermutation-trans _ _ _ (subst (λ l. IsPermutation l (map columns found.0)) found.1 (IsPermutation-refl (map columns found.0))) (IsPermutation-map columns found.0 moved.0 moved.1);
-          fit = all_moved Fits found.0 moved.0 moved.1 found.2;
-          keeps = moved.2;
-        }
+  pub fulls : (xs ys : List X) (rows : List sql.Row) → AreRows (FullOf columns Fits small) xs rows → IsPermutation xs ys → Fulls columns Fits small ys rows
+  fulls xs ys rows h p =
+      let found = in_rows xs rows h in
+      let moved = unmapped_bag small xs ys p found.0 found.3 in record {
+        its = moved.0;
+        has = IsPermutation-trans _ _ _ (subst (λ l. IsPermutation l (map columns found.0)) found.1 (IsPermutation-refl (map columns found.0))) (IsPermutation-map columns found.0 moved.0 moved.1);
+        fit = all_moved Fits found.0 moved.0 moved.1 found.2;
+        keeps = moved.2;
+      }
 
-  -- the rows of values are all of the table
-  module _ (one : (it : F) → Fits it → One (columns it)) where
-    all_ones : (its : List F) → AllByRecursion Fits its → AllByRecursion One (map columns its)
-    all_ones [] h = tt
-    all_ones (it ∷ its) h = (one it h.0, all_ones its h.1)
+  pub full_rows : {rows : List sql.Row} {kept : List X} → RowsRead (FullOf columns Fits small) rows kept → Fulls columns Fits small kept rows
+  full_rows {rows} {kept} r = fulls r.found kept rows r.are_rows r.same
 
-    pub ones : (its : List F) (rows : List sql.Row) → AllByRecursion Fits its → IsPermutation rows (map columns its) → AllByRecursion One rows
-    ones its rows h p = all_moved One (map columns its) rows (IsPermutation-sym _ _ p) (all_ones its h)
+-- where what is kept tells the value, the values are those that it tells
+pub seen_all : {X F : Type 0} (seen : X → F) (small : F → X) → ((it : F) → seen (small it) ≡ it) → (its : List F) {xs : List X} → map small its ≡ xs → its ≡ map seen xs
+seen_all {X} {F} seen small again its keeps = sym (itself its) ∙ sym (map-map seen small its) ∙ ap (map seen) keeps
+  where
+    itself : (its : List F) → map (λ it. seen (small it)) its ≡ its
+    itself [] = refl
+    itself (it ∷ its) = λ i. again it i ∷ itself its i
+
+-- the rows of values are all of the table
+module _ {F : Type 0} (columns : F → sql.Row) (Fits : F → Type 0) where
+  all_ones : (its : List F) → AllByRecursion Fits its → AllByRecursion (IsRowOf columns Fits) (map columns its)
+  all_ones [] h = tt
+  all_ones (it ∷ its) h = ((it, h.0, refl), all_ones its h.1)
+
+  pub ones : (its : List F) (rows : List sql.Row) → AllByRecursion Fits its → IsPermutation rows (map columns its) → AllByRecursion (IsRowOf columns Fits) rows
+  ones its rows h p = all_moved (IsRowOf columns Fits) (map columns its) rows (IsPermutation-sym _ _ p) (all_ones its h)
 
 -- ---- shared rows
 
@@ -61,3 +74,11 @@ module _ {A : Type 0} where
   pub shared_rows : (columns : ℕ × A → sql.Row) (rows : List sql.Row) (its : List (ℕ × A)) → IsCounted 1 (map (λ (it : ℕ × A). it.0) its) → IsPermutation rows (map columns its)
       → IsPermutation rows (map columns (numbered (map (λ (it : ℕ × A). it.1) its)))
   shared_rows columns rows its c p = subst (λ l. IsPermutation rows (map columns l)) (sym (counted_from 1 its c)) p
+
+  -- places are numbers of rows
+  numbered_fit : (P : A → Type 0) (k : ℕ) (xs : List A) → 1 ≤ k → k + length xs ≤ 4_294_967_296 → AllByRecursion P xs → AllByRecursion (IsShared P) (numbered_from k xs)
+  numbered_fit P k [] low few all = tt
+  numbered_fit P k (x ∷ xs) low few all = ((ranged k (low, omega (arith, few)), all.0), numbered_fit P (k + 1) xs (omega (arith, low)) (omega (arith, few)) all.1)
+
+  pub each_shared : (P : A → Type 0) (xs : List A) → AreShared P xs → AllByRecursion (IsShared P) (numbered xs)
+  each_shared P xs fit = numbered_fit P 1 xs (omega arith) (let few = fit.0 in omega (arith, few)) fit.1

@@ -1,10 +1,8 @@
-pub mod SameColumns
 pub mod SameBooks
 pub mod SameConsignments
 pub mod SameBranches
 pub mod SameKept
 pub mod SameCanon
-pub mod FullRows
 pub mod FullLists
 pub mod SharedLists
 pub mod KeptRows
@@ -17,7 +15,6 @@ pub mod TermKeys
 pub mod CanonCounts
 pub mod OneAudit
 pub mod WholeTexts
-pub mod Ones
 pub mod Told
 pub mod CustodyAudits
 pub mod Counted
@@ -28,8 +25,6 @@ pub mod StandTables
 pub mod StandPlaces
 pub mod StandShared
 pub mod StandChain
-pub mod StandStock
-pub mod StandBranches
 pub mod StandSent
 pub mod StandKept
 pub mod StandAll

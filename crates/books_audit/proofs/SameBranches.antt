@@ -3,49 +3,30 @@ use Rattle.std.proofs.Common.{◌≡◌, ◌≤◌, ◌<◌, ◌+◌, ◌^◌, �
 use Rattle.std.specs.Prelude.{IfSome}
 use Rattle.std.specs.List.{AllByRecursion}
 use Rattle.std.proofs.lemmas.Bool.Decides.{nat_tests}
-use Rattle.sqlite.specs.declared.types.Value.TheVariants.{Text}
-use Rattle.sqlite.specs.Values.{or_null}
-use Rattle.sqlite_value.specs.Order as sql
-use Rattle.sql_rows.specs.Rows.{number_value}
 use Rattle.shop_model.specs.Calendar.{Moment, IsMoment}
-use Rattle.shop_model.specs.Rows.{Owned, owned_by, numbered, numbered_from}
+use Rattle.shop_model.specs.Rows.{Owned, owned_by, numbered_from}
 use Rattle.shop_model.specs.Values.{Branch}
 use Rattle.shop_model.specs.Links.{has_row}
 use Rattle.shop_model.specs.Books.{Books, head}
-use Rattle.shop_schema.specs.Columns.{moment_value, branch_columns}
+use Rattle.shop_schema.specs.Columns.{branch_columns}
 use Rattle.shop_schema.specs.RowValues.{IsLast, IsBranch, AreShared}
-use Rattle.shop_schema.proofs.SameRows.{same_last, same_number_or_null}
 use Rattle.audit_rows.specs.Shops.{is_among}
 use Rattle.audit_rows.proofs.ShopLemmas.{has_row_is}
-use Rattle.audit_rows.proofs.Standing.{same_rows, one_numbered}
+use Rattle.audit_tables.specs.AuditTables as audited
+use Rattle.audit_tables.specs.Columns.{told_columns, IsTold}
 use Rattle.books_audit.specs.declared.tables.TableRows.{TableRows}
 use Rattle.books_audit.specs.Audits.{HaveBooks}
-use Rattle.books_audit.proofs.FullRows.{told_columns}
+use Rattle.books_audit.proofs.SameBooks.{one_shared}
 
 -- each branch with its last moment
 pub told : List (Owned Moment) → ℕ → List Branch → List (Branch × Option Moment)
 told lasts k [] = []
 told lasts k (b ∷ bs) = (b, head (owned_by k lasts)) ∷ told lasts (k + 1) bs
 
-abbrev Fits : ℕ × (Branch × Option Moment) → Type 0
-Fits it = IfSome it.1.1 IsMoment
-
 pub as_told : (lasts : List (Owned Moment)) (k : ℕ) (bs : List Branch) → map (branch_columns lasts) (numbered_from k bs) ≡ map told_columns (numbered_from k (told lasts k bs))
 unfolding told
 as_told lasts k [] = refl
 as_told lasts k (b ∷ bs) = ap (λ l. branch_columns lasts (k, b) ∷ l) (as_told lasts (k + 1) bs)
-
-pub same_told : (a b : ℕ × (Branch × Option Moment)) → Fits a → Fits b → told_columns a ≡ told_columns b → a ≡ b
-same_told a b p q h =
-    let number : a.0 ≡ b.0 = cc in
-    let token : a.1.0.token ≡ b.1.0.token = cc in
-    let address : a.1.0.address ≡ b.1.0.address = cc in
-    let postal : a.1.0.postal ≡ b.1.0.postal = cc in
-    let phone : a.1.0.phone ≡ b.1.0.phone = cc in
-    let city : a.1.0.city ≡ b.1.0.city = cc in
-    let manager : a.1.0.manager ≡ b.1.0.manager = same_number_or_null a.1.0.manager b.1.0.manager cc in
-    let last : a.1.1 ≡ b.1.1 = same_last a.1.1 b.1.1 p q cc in
-    (λ i. (number i, (record { token = token i; address = address i; postal = postal i; phone = phone i; city = city i; manager = manager i }, last i)))
 
 pub head_fits : (k : ℕ) (lasts : List (Owned Moment)) → AllByRecursion IsLast lasts → IfSome (head (owned_by k lasts)) IsMoment
 head_fits k [] all = tt
@@ -56,22 +37,17 @@ head_fits k (row ∷ lasts) all = go (row.owner == k) (head_fits k lasts all.1)
     go true more = all.0
     go false more = more
 
-told_fits : (lasts : List (Owned Moment)) → AllByRecursion IsLast lasts → (k : ℕ) (bs : List Branch) → AllByRecursion Fits (numbered_from k (told lasts k bs))
-unfolding told
-told_fits lasts all k [] = tt
-told_fits lasts all k (b ∷ bs) = (head_fits k lasts all, told_fits lasts all (k + 1) bs)
-
 told_count : (lasts : List (Owned Moment)) (k : ℕ) (bs : List Branch) → length (told lasts k bs) ≡ length bs
 unfolding told
 told_count lasts k [] = refl
 told_count lasts k (b ∷ bs) = let more = told_count lasts (k + 1) bs in omega (arith, more)
 
-told_all : (lasts : List (Owned Moment)) → AllByRecursion IsLast lasts → (k : ℕ) (bs : List Branch) → AllByRecursion IsBranch bs → AllByRecursion (λ (it : Branch × Option Moment). IsBranch it.0 × IfSome it.1 IsMoment) (told lasts k bs)
+told_all : (lasts : List (Owned Moment)) → AllByRecursion IsLast lasts → (k : ℕ) (bs : List Branch) → AllByRecursion IsBranch bs → AllByRecursion IsTold (told lasts k bs)
 unfolding told
 told_all lasts l k [] all = tt
 told_all lasts l k (b ∷ bs) all = ((all.0, head_fits k lasts l), told_all lasts l (k + 1) bs all.1)
 
-pub told_shared : (lasts : List (Owned Moment)) → AllByRecursion IsLast lasts → (bs : List Branch) → AreShared IsBranch bs → AreShared (λ (it : Branch × Option Moment). IsBranch it.0 × IfSome it.1 IsMoment) (told lasts 1 bs)
+pub told_shared : (lasts : List (Owned Moment)) → AllByRecursion IsLast lasts → (bs : List Branch) → AreShared IsBranch bs → AreShared IsTold (told lasts 1 bs)
 told_shared lasts l bs fit = (subst (λ n. n < 2 ^ 32) (sym (told_count lasts 1 bs)) fit.0, told_all lasts l 1 bs fit.1)
 
 untold : (lasts : List (Owned Moment)) (k : ℕ) (bs : List Branch) → map (λ (it : Branch × Option Moment). it.0) (told lasts k bs) ≡ bs
@@ -107,9 +83,8 @@ heads l m k (b ∷ bs) (c ∷ cs) e n low high = go (n == k) refl (heads l m (k 
 module _ (tables : TableRows) (c b : Books) (s : HaveBooks tables c) (t : HaveBooks tables b) where
   told_same : told c.lasts 1 c.catalogue.branches ≡ told b.lasts 1 b.catalogue.branches
   told_same =
-      one_numbered _ _ (same_rows told_columns Fits same_told tables.branches.items (numbered (told b.lasts 1 b.catalogue.branches)) (numbered (told c.lasts 1 c.catalogue.branches))
-      (told_fits b.lasts t.values.lasts 1 b.catalogue.branches) (told_fits c.lasts s.values.lasts 1 c.catalogue.branches)
-      (subst (IsPermutation tables.branches.items) (as_told b.lasts 1 b.catalogue.branches) t.rows.branches) (subst (IsPermutation tables.branches.items) (as_told c.lasts 1 c.catalogue.branches) s.rows.branches))
+      one_shared IsTold audited.branches (told_shared c.lasts s.values.lasts c.catalogue.branches s.values.catalogue.branches) (told_shared b.lasts t.values.lasts b.catalogue.branches t.values.catalogue.branches)
+      (subst (IsPermutation tables.branches.items) (as_told c.lasts 1 c.catalogue.branches) s.rows.branches) (subst (IsPermutation tables.branches.items) (as_told b.lasts 1 b.catalogue.branches) t.rows.branches)
 
   pub branches : c.catalogue.branches ≡ b.catalogue.branches
   branches = sym (untold c.lasts 1 c.catalogue.branches) ∙ ap (map (λ (it : Branch × Option Moment). it.0)) told_same ∙ untold b.lasts 1 b.catalogue.branches

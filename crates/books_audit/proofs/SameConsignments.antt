@@ -1,32 +1,23 @@
 -- Two books for which the same tables stand have the same consignments.
-use Rattle.std.proofs.Common.{◌≡◌, List, map, true, Some, sym, subst, ◌∙◌, IsPermutation}
-use Rattle.std.specs.List.{flat_map}
+use Rattle.std.proofs.Common.{◌≡◌, ◌≤◌, ◌+◌, ℕ, List, [], ◌∷◌, ◌++◌, map, length, true, Some, sym, subst, ◌∙◌, arith, IsPermutation}
+use Rattle.std.specs.List.{AllByRecursion, flat_map}
 use Rattle.std.proofs.lemmas.List.Sorted.{IsPermutation-sym, IsPermutation-trans, IsPermutation-map}
 use Rattle.sqlite_keyed.proofs.ListLemmas.{map-map, map-flat_map, flat_map_same_on, IsPermutation-flat_map}
-use Rattle.sql_rows.proofs.ColumnTests.{same_flag}
-use Rattle.shop_model.specs.Rows.{numbered}
-use Rattle.shop_model.specs.Books.{Books, Consignment}
+use Rattle.shop_model.specs.Rows.{numbered, numbered_from}
+use Rattle.shop_model.specs.Books.{Books, Line, Consignment}
 use Rattle.shop_schema.specs.Columns.{consignment_columns, line_rows}
+use Rattle.shop_schema.specs.RowValues.{IsNumber, IsLine, IsConsignment}
+use Rattle.shop_schema.proofs.OneRow.{same_row}
 use Rattle.audit_rows.specs.Lists.{climbs, is_below}
-use Rattle.audit_rows.specs.Joins.{Header, Placed, header_key, placed_key, header, placed, put_line}
+use Rattle.audit_rows.specs.Joins.{Header, header_key, placed_key, header, placed, put_line}
 use Rattle.audit_rows.proofs.Canon.{ascending_from_climbs}
 use Rattle.audit_rows.proofs.JoinLemmas.{join_again, join_complete, unmapped_ascending}
-use Rattle.audit_rows.proofs.Standing.{same_bag_of}
+use Rattle.audit_rows.proofs.Standing.{same_rows}
+use Rattle.audit_tables.specs.AuditTables as audited
+use Rattle.audit_tables.specs.Columns.{header_columns, IsHeader, placed_columns, IsPlaced}
+use Rattle.audit_tables.proofs.Ranges.{ranged}
 use Rattle.books_audit.specs.declared.tables.TableRows.{TableRows}
 use Rattle.books_audit.specs.Audits.{HaveBooks}
-use Rattle.audit_tables.specs.Placed.{placed_columns}
-use Rattle.books_audit.proofs.CustodyAudits.{one_placed}
-use Rattle.books_audit.proofs.FullRows.{header_columns}
-use Rattle.books_audit.proofs.SameBooks.{all_unit}
-
-pub one_header : (a b : Header) → header_columns a ≡ header_columns b → a ≡ b
-one_header a b h =
-    let source : a.source ≡ b.source = cc in
-    let addressee : a.addressee ≡ b.addressee = cc in
-    let number : a.number ≡ b.number = cc in
-    let place : a.place ≡ b.place = cc in
-    let received : a.received ≡ b.received = same_flag a.received b.received cc in
-    (λ i. record { source = source i; addressee = addressee i; number = number i; place = place i; received = received i })
 
 pub as_headers : (its : List Consignment) → map header_columns (map header its) ≡ map consignment_columns its
 as_headers its = map-map header_columns header its
@@ -34,21 +25,46 @@ as_headers its = map-map header_columns header its
 pub as_placed : (its : List Consignment) → map placed_columns (flat_map placed its) ≡ flat_map line_rows its
 as_placed its = map-flat_map placed_columns placed its ∙ flat_map_same_on _ _ (λ it. map-map placed_columns (put_line (header it)) (numbered it.lines)) its
 
+-- ---- their rows are such as the program can hold
+
+pub headers_fit : (its : List Consignment) → AllByRecursion IsConsignment its → AllByRecursion IsHeader (map header its)
+headers_fit [] h = tt
+headers_fit (it ∷ its) h = (record { source = h.0.source; addressee = h.0.addressee; number = h.0.number; place = h.0.place }, headers_fit its h.1)
+
+all_joined : {X : Type 0} (P : X → Type 0) (xs ys : List X) → AllByRecursion P xs → AllByRecursion P ys → AllByRecursion P (xs ++ ys)
+all_joined P [] ys h k = k
+all_joined P (x ∷ xs) ys h k = (h.0, all_joined P xs ys h.1 k)
+
+lines_of_one : (h : Header) (k : ℕ) (ls : List Line) → IsNumber h.source → IsNumber h.addressee → IsNumber h.number → 1 ≤ k → k + length ls ≤ 4_294_967_296 → AllByRecursion IsLine ls
+    → AllByRecursion IsPlaced (map (put_line h) (numbered_from k ls))
+lines_of_one h k [] s a n low high all = tt
+lines_of_one h k (l ∷ ls) s a n low high all =
+    (record { source = s; addressee = a; number = n; at = ranged k (low, omega (arith, high)); line = all.0 }, lines_of_one h (k + 1) ls s a n (omega (arith, low)) (omega (arith, high)) all.1)
+
+pub lines_fit : (its : List Consignment) → AllByRecursion IsConsignment its → AllByRecursion IsPlaced (flat_map placed its)
+lines_fit [] h = tt
+lines_fit (it ∷ its) h =
+    all_joined IsPlaced (placed it) (flat_map placed its) (lines_of_one (header it) 1 it.lines h.0.source h.0.addressee h.0.number (omega arith) (let few = h.0.few in omega (arith, few)) h.0.lines) (lines_fit its h.1)
+
+pub header_rows : (tables : TableRows) (b : Books) → HaveBooks tables b → IsPermutation tables.consignments.items (map header_columns (map header b.consignments))
+header_rows tables b t = subst (IsPermutation tables.consignments.items) (sym (as_headers b.consignments)) t.rows.consignments
+
+pub placed_rows : (tables : TableRows) (b : Books) → HaveBooks tables b → IsPermutation tables.lines.items (map placed_columns (flat_map placed b.consignments))
+placed_rows tables b t = subst (IsPermutation tables.lines.items) (sym (as_placed b.consignments)) t.rows.lines
+
 some_same : (a b : List Consignment) → Some a ≡ Some b → a ≡ b
 some_same a b h = cc
 
 module _ (tables : TableRows) (c b : Books) (s : HaveBooks tables c) (t : HaveBooks tables b) where
   headers : IsPermutation (map header b.consignments) (map header c.consignments)
   headers =
-      same_bag_of header_columns (λ (h : Header). Unit {0}) (λ x y _ _ e. one_header x y e) (map header b.consignments) (map header c.consignments) (all_unit _) (all_unit _)
-      (subst (λ l. IsPermutation l (map header_columns (map header c.consignments))) (sym (as_headers b.consignments))
-      (subst (IsPermutation (map consignment_columns b.consignments)) (sym (as_headers c.consignments)) (IsPermutation-trans _ _ _ (IsPermutation-sym _ _ t.rows.consignments) s.rows.consignments)))
+      same_rows header_columns IsHeader (same_row audited.headers) tables.consignments.items (map header b.consignments) (map header c.consignments) (headers_fit b.consignments t.values.consignments)
+      (headers_fit c.consignments s.values.consignments) (header_rows tables b t) (header_rows tables c s)
 
   lines : IsPermutation (flat_map placed b.consignments) (flat_map placed c.consignments)
   lines =
-      same_bag_of placed_columns (λ (p : Placed). Unit {0}) (λ x y _ _ e. one_placed x y e) (flat_map placed b.consignments) (flat_map placed c.consignments) (all_unit _) (all_unit _)
-      (subst (λ l. IsPermutation l (map placed_columns (flat_map placed c.consignments))) (sym (as_placed b.consignments))
-      (subst (IsPermutation (flat_map line_rows b.consignments)) (sym (as_placed c.consignments)) (IsPermutation-trans _ _ _ (IsPermutation-sym _ _ t.rows.lines) s.rows.lines)))
+      same_rows placed_columns IsPlaced (same_row audited.lines) tables.lines.items (flat_map placed b.consignments) (flat_map placed c.consignments) (lines_fit b.consignments t.values.consignments)
+      (lines_fit c.consignments s.values.consignments) (placed_rows tables b t) (placed_rows tables c s)
 
   -- where those of the one stand in the order of their keys, they are those of the other
   pub consignments : (its : List Consignment) → IsPermutation c.consignments its → climbs (map header_key (map header its)) ≡ true → climbs (map placed_key (flat_map placed its)) ≡ true → IsPermutation b.consignments c.consignments

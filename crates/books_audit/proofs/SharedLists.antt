@@ -10,14 +10,13 @@ use Rattle.shop_model.specs.Rows.{Owned, IsCounted, numbered, numbered_from, at,
 use Rattle.shop_model.specs.Values.{Branch}
 use Rattle.shop_model.specs.Books.{head}
 use Rattle.shop_schema.specs.Columns.{branch_columns}
-use Rattle.shop_schema.specs.RowValues.{AreShared, IsLast, IsBranch}
-use Rattle.audit_tables.specs.declared.kinds.Kind.{Kind}
-use Rattle.audit_tables.specs.Kinds.{HaveKinds}
+use Rattle.shop_schema.specs.RowValues.{IsShared, AreShared, IsLast, IsBranch}
+use Rattle.audit_tables.specs.Listed.{FullOf}
+use Rattle.audit_tables.specs.Columns.{told_columns, IsTold}
 use Rattle.audit_rows.specs.Ordered.{branch_row, last_of, lasts_from}
 use Rattle.audit_rows.specs.declared.rows.CheckedBranch.{CheckedBranch}
 use Rattle.audit_rows.proofs.LastLemmas.{last_at, last_in}
 use Rattle.books_audit.specs.Read.{SharedRead}
-use Rattle.books_audit.proofs.FullRows.{FullOf, IsShared, told_columns, IsTold}
 use Rattle.books_audit.proofs.FullLists.{fulls, shared_rows, shared_fit}
 use Rattle.audit_rows.proofs.Maps.{length-map}
 
@@ -31,12 +30,11 @@ same_map : {X Y : Type 0} (f g : X → Y) → ((x : X) → f x ≡ g x) → (xs 
 same_map f g h [] = refl
 same_map f g h (x ∷ xs) = λ i. h x i ∷ same_map f g h xs i
 
-module _ {A X S : Type 0} (columns : ℕ × A → sql.Row) (P : A → Type 0) (small : ℕ × A → X) (Is : X → sql.Row → Type 0) (kinds : List Kind)
-    (full : (r : sql.Row) (x : X) → HaveKinds kinds r → Is x r → FullOf columns (IsShared P) small x r) (number : X → ℕ) (keep : X → S) (seen : A → S)
+module _ {A X S : Type 0} (columns : ℕ × A → sql.Row) (P : A → Type 0) (small : ℕ × A → X) (number : X → ℕ) (keep : X → S) (seen : A → S)
     (numbers : (it : ℕ × A) → number (small it) ≡ it.0) (keeps_are : (it : ℕ × A) → keep (small it) ≡ seen it.1) where
-  pub shared_of : (table : List sql.Row) (kept : List S) → SharedRead Is kinds number keep table kept → SharedOf columns P seen table kept
-  shared_of table kept r =
-      let f = fulls columns (IsShared P) small Is (HaveKinds kinds) full r.found r.sorted table r.are_rows r.ones r.same in
+  pub shared_of : {table : List sql.Row} {kept : List S} → SharedRead (FullOf columns (IsShared P) small) number keep table kept → SharedOf columns P seen table kept
+  shared_of {table} {kept} r =
+      let f = fulls columns (IsShared P) small r.found r.sorted table r.are_rows r.same in
       let firsts : map (λ (it : ℕ × A). it.0) f.its ≡ map number r.sorted = sym (same_map _ _ numbers f.its) ∙ sym (map-map number small f.its) ∙ ap (map number) f.keeps in
       let items = map (λ (it : ℕ × A). it.1) f.its in
       let are : map seen items ≡ kept = map-map seen (λ (it : ℕ × A). it.1) f.its ∙ sym (same_map _ _ keeps_are f.its) ∙ sym (map-map keep small f.its) ∙ ap (map keep) f.keeps ∙ r.keeps in

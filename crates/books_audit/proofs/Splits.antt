@@ -8,7 +8,7 @@ use Rattle.audit_tables.specs.Listed.{AreRows}
 use Rattle.books_audit.proofs.Counted.{kept_of_each}
 use Rattle.std.proofs.lemmas.List.{append-nil}
 use Rattle.shop_schema.specs.RowValues.{IsNumber}
-use Rattle.audit_tables.proofs.KindLemmas.{ranged}
+use Rattle.audit_tables.proofs.Ranges.{ranged}
 use Rattle.audit_rows.specs.Lists.{Key}
 use Rattle.audit_rows.specs.declared.rows.CheckedKept.{CheckedKept}
 use Rattle.audit_tables.specs.declared.kept.CallerRow.{CallerRow}

@@ -5,10 +5,8 @@ use Rattle.books_audit.specs.Audits.{HaveBooks}
 use Rattle.books_audit.specs.ReadInOrder.{CanBeRead}
 use Rattle.books_audit.proofs.StandChain.{chain_can_be_read, rule_can_be_read}
 use Rattle.books_audit.proofs.StandKept.{kept_can_be_read}
-use Rattle.books_audit.proofs.StandShared.{named_can_be_read, filmed_can_be_read}
-use Rattle.books_audit.proofs.StandBranches.{placed_can_be_read}
-use Rattle.books_audit.proofs.StandStock.{stock_can_be_read}
-use Rattle.books_audit.proofs.StandTables.{deals_can_be_read}
+use Rattle.books_audit.proofs.StandShared.{named_can_be_read, filmed_can_be_read, placed_can_be_read}
+use Rattle.books_audit.proofs.StandTables.{stock_can_be_read, deals_can_be_read}
 use Rattle.books_audit.proofs.StandSent.{sent_can_be_read, can_be_joined}
 
 pub can_be_read : (tables : TableRows) (b : Books) → HaveBooks tables b → CanBeRead tables

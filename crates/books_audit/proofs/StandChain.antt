@@ -2,20 +2,22 @@
 use Rattle.std.proofs.Common.{[], ◌∷◌}
 use Rattle.shop_model.specs.Books.{Books}
 use Rattle.shop_schema.specs.Columns.{chain_columns, rule_columns}
+use Rattle.shop_schema.specs.RowValues.{IsToken}
+use Rattle.audit_tables.specs.Rows.{AnyRule}
 use Rattle.books_audit.specs.declared.tables.TableRows.{TableRows}
 use Rattle.books_audit.specs.Audits.{HaveBooks}
-use Rattle.books_audit.proofs.Ones.{ones_of}
 use Rattle.books_audit.specs.Keys.{ChainCanBeRead, RuleCanBeRead}
 use Rattle.books_audit.proofs.Counted.{as_many}
+use Rattle.books_audit.proofs.FullLists.{ones}
 
 pub chain_can_be_read : (tables : TableRows) (b : Books) → HaveBooks tables b → ChainCanBeRead tables
 chain_can_be_read tables b t = record {
-  ones = let o = ones_of tables b t in o.chain;
+  ones = ones chain_columns IsToken (b.catalogue.office_token ∷ []) tables.chain.items (t.values.catalogue.office_token, tt) t.rows.chain;
   one = as_many tables.chain.items (chain_columns b.catalogue.office_token ∷ []) t.rows.chain;
 }
 
 pub rule_can_be_read : (tables : TableRows) (b : Books) → HaveBooks tables b → RuleCanBeRead tables
 rule_can_be_read tables b t = record {
-  ones = let o = ones_of tables b t in o.rule;
+  ones = ones rule_columns AnyRule (b.catalogue.rule ∷ []) tables.rule.items (tt, tt) t.rows.rule;
   one = as_many tables.rule.items (rule_columns b.catalogue.rule ∷ []) t.rows.rule;
 }

@@ -1,20 +1,17 @@
 -- The table of kept commands, where it stands for books, can be read.
-use Rattle.std.proofs.Common.{◌≡◌, ◌∙◌, ℕ, List, [], ◌∷◌, ◌++◌, map, true, refl, sym, ap, arith, IsPermutation}
+use Rattle.std.proofs.Common.{◌≡◌, ◌∙◌, List, [], ◌∷◌, ◌++◌, map, true, refl, sym, ap, IsPermutation}
 use Rattle.std.specs.List.{AllByRecursion}
 use Rattle.std.specs.Str.{bytes_eq}
 use Rattle.std.proofs.lemmas.List.Sorted.{IsPermutation-sym, IsPermutation-trans}
-use Rattle.sql_rows.specs.Rows.{number_value}
 use Rattle.shop_model.specs.Rows.{Owned}
 use Rattle.shop_model.specs.Links.{are_different}
 use Rattle.shop_model.specs.Shop.{Kept, OfficeKept}
 use Rattle.shop_model.specs.Books.{Books}
-use Rattle.shop_schema.specs.Columns.{kept_columns, office_kept_columns, kept_rows}
-use Rattle.shop_schema.specs.Forms.{command_form, office_command_form}
+use Rattle.shop_schema.specs.Columns.{kept_rows}
 use Rattle.shop_schema.specs.RowValues.{IsNumber, IsKept, IsOfficeKept}
 use Rattle.audit_tables.specs.Listed.{AreRows}
-use Rattle.audit_tables.specs.Rows.{IsOneKept, IsCallerRow}
+use Rattle.audit_tables.specs.Kept.{OfBranch, OfOffice, IsOneKept, IsCallerRow}
 use Rattle.audit_tables.specs.declared.kept.CallerRow.{CallerRow}
-use Rattle.audit_tables.proofs.KindLemmas.{in_range}
 use Rattle.audit_rows.specs.Lists.{Key}
 use Rattle.audit_rows.specs.Canons.{office_key}
 use Rattle.audit_rows.specs.Ordered.{kept_row}
@@ -30,35 +27,10 @@ use Rattle.books_audit.proofs.SameKept.{same_kept, same_office_keys}
 
 -- ---- each row is a kept command's
 
-not_office : (n : ℕ) → IsNumber n → number_value n ≡ number_value 0 → ⊥
-not_office n h e = let same : n ≡ 0 = cc in let low = (in_range n h).0 in absurd (omega (arith, low, same))
-
-kept_one : (row : Owned Kept) → IsKept row → IsOneKept (kept_columns row)
-kept_one row h = (
-  ((row.owner, (omega arith, (in_range row.owner h.0).1), refl), ((row.it.command.key, h.1.key, refl), ((command_form row.it.command, refl), ((row.it.reply, h.2, refl), tt)))),
-  record {
-    form = command_form row.it.command;
-    is = refl;
-    office = λ e. absurd (not_office row.owner h.0 e);
-    branch = λ e. (row.it.command, h.1.staff, h.1.moment, h.1.act, refl);
-  },
-)
-
-office_one : (it : OfficeKept) → IsOfficeKept it → IsOneKept (office_kept_columns it)
-office_one it h = (
-  ((0, (omega arith, omega arith), refl), ((it.command.key, h.0, refl), ((office_command_form it.command, refl), ((it.reply, h.2, refl), tt)))),
-  record {
-    form = office_command_form it.command;
-    is = refl;
-    office = λ e. (it.command.act, h.1, refl);
-    branch = λ e. absurd (e refl);
-  },
-)
-
 all_ones : (kept : List (Owned Kept)) (office : List OfficeKept) → AllByRecursion IsKept kept → AllByRecursion IsOfficeKept office → AllByRecursion IsOneKept (kept_rows kept office)
 all_ones [] [] h k = tt
-all_ones [] (it ∷ office) h k = (office_one it k.0, all_ones [] office h k.1)
-all_ones (row ∷ kept) office h k = (kept_one row h.0, all_ones kept office h.1 k)
+all_ones [] (it ∷ office) h k = ((OfOffice it, k.0, refl), all_ones [] office h k.1)
+all_ones (row ∷ kept) office h k = ((OfBranch row, h.0, refl), all_ones kept office h.1 k)
 
 -- ---- no two have one key
 
@@ -69,7 +41,7 @@ module _ (tables : TableRows) (b : Books) (t : HaveBooks tables b) where
   module _ (found : List CallerRow) (office : List Key) (kept : List CheckedKept) (rows : AreRows IsCallerRow found tables.kept.items) (branches : AllByRecursion (λ (x : CheckedKept). IsNumber x.branch) kept)
       (same : IsPermutation found (map office_caller office ++ map branch_caller kept)) where
     of : KeptOf tables.kept.items office kept
-    of = kept_of tables.kept.items office kept branches (record { found = found; are_rows = rows; ones = ones; same = same })
+    of = kept_of tables.kept.items office kept branches (record { found = found; are_rows = rows; same = same })
 
     both : IsPermutation (kept_rows of.kept of.office) (kept_rows b.kept b.catalogue.kept)
     both = IsPermutation-trans _ _ _ (IsPermutation-sym _ _ of.has) t.rows.kept

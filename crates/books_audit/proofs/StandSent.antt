@@ -1,57 +1,32 @@
 -- The tables of consignments, where they stand for books, can be read in the order of their keys and joined.
-use Rattle.std.proofs.Common.{◌≡◌, ◌∙◌, ◌+◌, ◌<◌, ◌≤◌, ◌==◌, ◌&&◌, ◌||◌, ℕ, List, [], ◌∷◌, ◌++◌, map, length, not, Bool, true, false, Some, refl, sym, ap, subst, arith, IsPermutation}
+use Rattle.std.proofs.Common.{◌≡◌, ◌∙◌, ◌+◌, ◌<◌, ◌==◌, ◌&&◌, ◌||◌, ℕ, List, [], ◌∷◌, ◌++◌, map, not, Bool, true, false, Some, refl, sym, ap, arith, IsPermutation}
 use Rattle.std.specs.List.{AllByRecursion, flat_map, list_any}
 use Rattle.std.specs.Str.{bytes_eq}
 use Rattle.std.proofs.lemmas.Bool.Decides.{nat_tests}
-use Rattle.std.proofs.lemmas.List.Sorted.{IsPermutation-refl, IsPermutation-map, IsPermutation-sym, IsPermutation-trans}
+use Rattle.std.proofs.lemmas.List.Sorted.{IsPermutation-map, IsPermutation-sym, IsPermutation-trans}
 use Rattle.sqlite_keyed.proofs.ListLemmas.{map-map}
 use Rattle.shop_model.specs.Rows.{numbered_from}
 use Rattle.shop_model.specs.Links.{are_different}
 use Rattle.shop_model.specs.Books.{Books, Line, Consignment}
-use Rattle.shop_schema.specs.RowValues.{IsLine, IsConsignment, IsNumber}
-use Rattle.audit_tables.specs.Kinds.{HaveKinds}
 use Rattle.audit_tables.specs.Listed.{AreRows}
-use Rattle.audit_tables.specs.Placed.{placed_columns, IsPlaced, IsLineRow, IsOneLine}
-use Rattle.audit_tables.specs.Rows.{header_kinds, IsHeaderRow}
-use Rattle.audit_tables.proofs.KindLemmas.{ranged}
-use Rattle.audit_tables.proofs.RowLists.{all_are}
+use Rattle.audit_tables.specs.AuditTables as audited
+use Rattle.audit_tables.specs.Rows.{header_row, IsHeaderRow, placed_row, IsLineRow}
 use Rattle.audit_rows.specs.Lists.{climbs}
 use Rattle.audit_rows.specs.Joins.{Header, Placed, header, placed, put_line, header_key, placed_key, join}
 use Rattle.audit_rows.specs.Seen.{seen_header, seen_placed}
 use Rattle.audit_rows.specs.declared.rows.CheckedHeader.{CheckedHeader}
 use Rattle.audit_rows.specs.declared.rows.CheckedLine.{CheckedLine}
 use Rattle.audit_rows.proofs.JoinLemmas.{join_complete}
-use Rattle.audit_rows.proofs.Keys.{both, different_along, different-map, bytes_eq_symm}
-use Rattle.audit_rows.proofs.Standing.{same_rows}
+use Rattle.audit_rows.proofs.Keys.{both, different-map}
+use Rattle.audit_rows.proofs.Tests.{different_congr}
 use Rattle.books_audit.specs.declared.tables.TableRows.{TableRows}
 use Rattle.books_audit.specs.Audits.{HaveBooks}
 use Rattle.books_audit.specs.Read.{RowsRead}
 use Rattle.books_audit.specs.TableGroups.{SentCanBeRead}
-use Rattle.books_audit.proofs.CustodyAudits.{columns_read, unread, unseen_placed, placed_again, one_placed}
-use Rattle.books_audit.proofs.Canonical.{same_consignment}
-use Rattle.books_audit.proofs.FullRows as full
-use Rattle.books_audit.proofs.FullRows.{IsHeader, header_columns, header_row}
-use Rattle.books_audit.proofs.SameConsignments.{one_header, as_placed}
-use Rattle.books_audit.proofs.StandKeyed.{read_bag}
-use Rattle.books_audit.proofs.StandPlaces.{anything}
-use Rattle.books_audit.proofs.StandStock.{headers_can_be_read, headers_fit}
-
--- ---- lines of one consignment, and of two
-
-all_joined : {X : Type 0} (P : X → Type 0) (xs ys : List X) → AllByRecursion P xs → AllByRecursion P ys → AllByRecursion P (xs ++ ys)
-all_joined P [] ys h k = k
-all_joined P (x ∷ xs) ys h k = (h.0, all_joined P xs ys h.1 k)
-
-lines_of_one : (h : Header) (k : ℕ) (ls : List Line) → IsNumber h.source → IsNumber h.addressee → IsNumber h.number → 1 ≤ k → k + length ls ≤ 4_294_967_296 → AllByRecursion IsLine ls
-    → AllByRecursion IsPlaced (map (put_line h) (numbered_from k ls))
-lines_of_one h k [] s a n low high all = tt
-lines_of_one h k (l ∷ ls) s a n low high all =
-    (record { source = s; addressee = a; number = n; at = ranged k (low, omega (arith, high)); line = all.0 }, lines_of_one h (k + 1) ls s a n (omega (arith, low)) (omega (arith, high)) all.1)
-
-lines_fit : (its : List Consignment) → AllByRecursion IsConsignment its → AllByRecursion IsPlaced (flat_map placed its)
-lines_fit [] h = tt
-lines_fit (it ∷ its) h =
-    all_joined IsPlaced (placed it) (flat_map placed its) (lines_of_one (header it) 1 it.lines h.0.source h.0.addressee h.0.number (omega arith) (let few = h.0.few in omega (arith, few)) h.0.lines) (lines_fit its h.1)
+use Rattle.books_audit.proofs.CustodyAudits.{placed_again}
+use Rattle.books_audit.proofs.Canonical.{same_consignment, three}
+use Rattle.books_audit.proofs.SameConsignments.{headers_fit, lines_fit, header_rows, placed_rows}
+use Rattle.books_audit.proofs.StandKeyed.{seen_bag, stands_keyed}
 
 -- ---- their keys differ
 
@@ -134,45 +109,24 @@ lines_apart (it ∷ its) h =
 -- ---- from books that stand
 
 module _ (tables : TableRows) (b : Books) (t : HaveBooks tables b) where
-  rows_placed : IsPermutation tables.lines.items (map placed_columns (flat_map placed b.consignments))
-  rows_placed = subst (IsPermutation tables.lines.items) (sym (as_placed b.consignments)) t.rows.lines
-
-  lines_bag : (found : List CheckedLine) → AreRows IsLineRow found tables.lines.items → IsPermutation (map seen_placed found) (flat_map placed b.consignments)
-  lines_bag found h =
-      let ys = map seen_placed found in
-      let has : IsPermutation tables.lines.items (map placed_columns ys) =
-      subst (λ l. IsPermutation l (map placed_columns ys)) (columns_read seen_placed placed_columns IsPlaced found tables.lines.items h) (IsPermutation-refl (map placed_columns ys)) in
-      same_rows placed_columns (λ it. Unit {0}) (λ x y _ _ e. one_placed x y e) tables.lines.items ys (flat_map placed b.consignments) (anything ys) (anything (flat_map placed b.consignments)) has rows_placed
-
-  lines_differ : (found : List CheckedLine) → AreRows IsLineRow found tables.lines.items → are_different (λ (x y : CheckedLine). same_place (seen_placed x) (seen_placed y)) found ≡ true
-  lines_differ found h =
-      sym (different-map same_place seen_placed found)
-      ∙ different_along same_place (λ x y. bytes_eq_symm (placed_key x) (placed_key y)) (map seen_placed found) (flat_map placed b.consignments) (lines_bag found h)
-      ∙ lines_apart b.consignments t.keys.consignments
-
   pub sent_can_be_read : SentCanBeRead tables
   sent_can_be_read = record {
-    headers = headers_can_be_read tables b t;
-    lines = record {
-      ones =
-          let it = unread seen_placed placed_columns IsPlaced unseen_placed placed_again (flat_map placed b.consignments) tables.lines.items (lines_fit b.consignments t.values.consignments) rows_placed in
-          all_are IsLineRow it.0 tables.lines.items it.1;
-      different = lines_differ;
-    };
+    headers =
+        stands_keyed audited.headers header_row tables.consignments.items (map header b.consignments) (headers_fit b.consignments t.values.consignments) (header_rows tables b t) (λ row. row.source ∷ row.addressee ∷ row.number ∷ [])
+        (different-map (λ x y. bytes_eq (header_key x) (header_key y)) header b.consignments
+        ∙ sym (different_congr same_consignment _ (λ x y. three (x.source == y.source) (x.addressee == y.addressee) (x.number == y.number)) b.consignments) ∙ t.keys.consignments);
+    lines =
+        stands_keyed audited.lines placed_row tables.lines.items (flat_map placed b.consignments) (lines_fit b.consignments t.values.consignments) (placed_rows tables b t) (λ row. row.source ∷ row.addressee ∷ row.number ∷ row.line ∷ [])
+        (lines_apart b.consignments t.keys.consignments);
   }
 
   headers_bag : (found : List CheckedHeader) → AreRows IsHeaderRow found tables.consignments.items → IsPermutation (map seen_header found) (map header b.consignments)
-  headers_bag found h =
-      let it = read_bag header_columns IsHeader header_row IsHeaderRow (HaveKinds header_kinds) full.header_full full.header_one (λ x y _ _ e. one_header x y e) tables.consignments.items (map header b.consignments)
-      (headers_fit b.consignments t.values.consignments) (subst (IsPermutation tables.consignments.items) (sym (map-map header_columns header b.consignments)) t.rows.consignments) found h in
-      let same : map seen_header found ≡ it.0 = ap (map seen_header) (sym it.2) ∙ map-map seen_header header_row it.0 ∙ itself it.0 in
-      subst (λ l. IsPermutation l (map header b.consignments)) (sym same) it.1
-    where
-      itself : (hs : List Header) → map (λ h. seen_header (header_row h)) hs ≡ hs
-      itself [] = refl
-      itself (h ∷ hs) = ap (λ l. h ∷ l) (itself hs)
+  headers_bag = seen_bag audited.headers header_row tables.consignments.items (map header b.consignments) (headers_fit b.consignments t.values.consignments) (header_rows tables b t) seen_header (λ it. refl)
 
-  pub can_be_joined : (headers : List CheckedHeader) (lines : List CheckedLine) → RowsRead IsHeaderRow (HaveKinds header_kinds) tables.consignments.items headers → RowsRead IsLineRow IsOneLine tables.lines.items lines
+  lines_bag : (found : List CheckedLine) → AreRows IsLineRow found tables.lines.items → IsPermutation (map seen_placed found) (flat_map placed b.consignments)
+  lines_bag = seen_bag audited.lines placed_row tables.lines.items (flat_map placed b.consignments) (lines_fit b.consignments t.values.consignments) (placed_rows tables b t) seen_placed placed_again
+
+  pub can_be_joined : (headers : List CheckedHeader) (lines : List CheckedLine) → RowsRead IsHeaderRow tables.consignments.items headers → RowsRead IsLineRow tables.lines.items lines
       → climbs (map (λ (row : CheckedHeader). row.source ∷ row.addressee ∷ row.number ∷ []) headers) ≡ true → climbs (map (λ (row : CheckedLine). row.source ∷ row.addressee ∷ row.number ∷ row.line ∷ []) lines) ≡ true
       → (by_key : List Consignment) × (join (map seen_header headers) (map seen_placed lines) ≡ Some by_key)
   can_be_joined headers lines h l up down =

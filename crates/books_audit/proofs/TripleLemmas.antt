@@ -17,7 +17,10 @@ use Rattle.audit_rows.proofs.Bags.{count_along}
 use Rattle.audit_rows.proofs.Standing.{same_bag_of, all_moved}
 use Rattle.books_audit.specs.declared.counts.Triple.{Triple}
 use Rattle.books_audit.specs.Triples.{IsWhole, IsTriple, OneTriple, triple_columns, seen_pair}
-use Rattle.books_audit.proofs.StandPlaces.{anything}
+
+anything : {X : Type 0} (xs : List X) → AllByRecursion (λ x. Unit {0}) xs
+anything [] = tt
+anything (x ∷ xs) = (tt, anything xs)
 
 -- ---- lists that have each key equally often
 

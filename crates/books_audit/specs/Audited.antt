@@ -10,7 +10,7 @@ use Rattle.shop_schema.specs.Columns.{copy_columns}
 use Rattle.shop_schema.specs.RowValues.{IsRow, IsCopy}
 use Rattle.audit_rows.specs.Joins.{Placed}
 use Rattle.audit_rows.specs.Marked.{AreInCustody, any_mark}
-use Rattle.audit_tables.specs.Placed.{placed_columns, IsPlaced}
+use Rattle.audit_tables.specs.Columns.{placed_columns, IsPlaced}
 use Rattle.shop_types.specs.declared.audit.Audit.{Audit}
 
 -- the rows are those of these copies and of these lines, in any order

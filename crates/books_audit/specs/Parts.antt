@@ -1,7 +1,6 @@
 -- What was read of all tables but those of counts.
 use Rattle.std.specs.Prelude.{◌≡◌, [], ◌∷◌, length}
-use Rattle.audit_tables.specs.Kinds.{HaveKinds}
-use Rattle.audit_tables.specs.Rows.{chain_kinds, IsChainRow, rule_kinds, IsRuleRow}
+use Rattle.audit_tables.specs.Rows.{IsChainRow, IsRuleRow}
 use Rattle.audit_rows.specs.declared.books.OrderedBooks.{OrderedBooks}
 use Rattle.books_audit.specs.Read.{RowsRead}
 use Rattle.books_audit.specs.declared.tables.TableRows.{TableRows}
@@ -10,8 +9,8 @@ use Rattle.books_audit.specs.TableGroups.{NamedAreRead, NamedCanBeRead, FilmedAr
 use Rattle.books_audit.specs.Keys.{KeptAreRead, KeptCanBeRead, ChainCanBeRead, RuleCanBeRead}
 
 pub record PartsAreRead (tables : TableRows) (parts : Parts) : Type 0 where
-  pub chain : RowsRead IsChainRow (HaveKinds chain_kinds) tables.chain.items (record { office_token = parts.office_token } ∷ [])
-  pub rule : RowsRead IsRuleRow (HaveKinds rule_kinds) tables.rule.items (parts.rule ∷ [])
+  pub chain : RowsRead IsChainRow tables.chain.items (record { office_token = parts.office_token } ∷ [])
+  pub rule : RowsRead IsRuleRow tables.rule.items (parts.rule ∷ [])
   pub keys : KeptAreRead tables parts.keys
   pub named : NamedAreRead tables parts.named
   pub filmed : FilmedAreRead tables parts.filmed

@@ -6,8 +6,6 @@ use Rattle.shop_model.specs.Rows.{IsCounted, numbered}
 use Rattle.shop_schema.specs.Columns.{counter_columns, out_columns, pair_columns}
 use Rattle.shop_schema.specs.Counts.{Count, Out, Pair, count_pair}
 use Rattle.shop_schema.specs.RowValues.{IsNumber}
-use Rattle.audit_tables.specs.declared.kinds.Kind.{Kind}
-use Rattle.audit_tables.specs.Kinds.{HaveKinds}
 use Rattle.audit_rows.specs.Lists.{Key, climbs}
 use Rattle.shop_model.specs.Values.{Rules}
 use Rattle.shop_model.specs.Books.{Books, Consignment}
@@ -23,17 +21,16 @@ use Rattle.audit_rows.specs.declared.rows.CheckedRental.{CheckedRental}
 use Rattle.audit_rows.specs.declared.rows.CheckedTerms.{CheckedTerms}
 use Rattle.audit_rows.specs.declared.rows.CheckedHeader.{CheckedHeader}
 use Rattle.audit_tables.specs.Listed.{AreRows}
-use Rattle.audit_tables.specs.Placed.{IsCopyRow, IsLineRow}
-use Rattle.audit_tables.specs.Rows.{chain_kinds, IsChainRow, rule_kinds, IsRuleRow, named_kinds, IsNamedRow, city_kinds, IsCityRow, actor_kinds, IsActorRow, film_kinds, IsFilmRow, cast_kinds, IsCastRow, branch_kinds, IsBranchRow, staff_kinds, IsStaffRow, customer_kinds, IsCustomerRow, rental_kinds, IsRentalRow, terms_kinds, IsTermsRow, payment_kinds, IsPaymentRow, lot_kinds, IsLotRow, header_kinds, IsHeaderRow, IsOneKept, IsCallerRow}
+use Rattle.audit_tables.specs.Rows.{IsChainRow, IsRuleRow, IsNamedRow, IsCityRow, IsActorRow, IsFilmRow, IsCastRow, IsBranchRow, IsStaffRow, IsCustomerRow, IsCopyRow, IsRentalRow, IsTermsRow, IsPaymentRow, IsLotRow, IsHeaderRow, IsLineRow}
+use Rattle.audit_tables.specs.Kept.{IsCallerRow}
 use Rattle.audit_tables.specs.declared.kept.CallerRow.{CallerRow}
 use Rattle.audit_tables.specs.declared.shared.RuleRow.{RuleRow}
 use Rattle.books_audit.specs.declared.tables.TableRows.{TableRows}
 
 -- A table of shared rows: what was kept of them, in the order of their numbers, which are 1, 2, ..
-pub record SharedRead {X S : Type 0} (Is : X → sql.Row → Type 0) (kinds : List Kind) (number : X → ℕ) (keep : X → S) (table : List sql.Row) (kept : List S) : Type 0 where
+pub record SharedRead {X S : Type 0} (Is : X → sql.Row → Type 0) (number : X → ℕ) (keep : X → S) (table : List sql.Row) (kept : List S) : Type 0 where
   pub found : List X
   pub are_rows : AreRows Is found table
-  pub ones : AllByRecursion (HaveKinds kinds) table
   pub sorted : List X
   pub same : IsPermutation found sorted
   pub counted : IsCounted 1 (map number sorted)
@@ -41,10 +38,9 @@ pub record SharedRead {X S : Type 0} (Is : X → sql.Row → Type 0) (kinds : Li
   pub few : length kept < 2 ^ 32
 
 -- any other table: what was kept of its rows, in another order
-pub record RowsRead {X : Type 0} (Is : X → sql.Row → Type 0) (One : sql.Row → Type 0) (table : List sql.Row) (kept : List X) : Type 0 where
+pub record RowsRead {X : Type 0} (Is : X → sql.Row → Type 0) (table : List sql.Row) (kept : List X) : Type 0 where
   pub found : List X
   pub are_rows : AreRows Is found table
-  pub ones : AllByRecursion One table
   pub same : IsPermutation found kept
 
 -- keys of head office, and then of branches, as one list
@@ -100,29 +96,29 @@ pub record HaveCounts (tables : TableRows) (rows : OrderedBooks) : Type 0 where
 
 -- all other tables are read
 pub record AreRowsRead (tables : TableRows) (rows : OrderedBooks) : Type 0 where
-  pub chain : RowsRead IsChainRow (HaveKinds chain_kinds) tables.chain.items (record { office_token = rows.office_token } ∷ [])
+  pub chain : RowsRead IsChainRow tables.chain.items (record { office_token = rows.office_token } ∷ [])
   pub rule_row : RuleRow
-  pub rule : RowsRead IsRuleRow (HaveKinds rule_kinds) tables.rule.items (rule_row ∷ [])
-  pub countries : SharedRead IsNamedRow named_kinds (λ x. x.number) (λ x. x.name) tables.countries.items rows.countries.items
-  pub languages : SharedRead IsNamedRow named_kinds (λ x. x.number) (λ x. x.name) tables.languages.items rows.languages.items
-  pub categories : SharedRead IsNamedRow named_kinds (λ x. x.number) (λ x. x.name) tables.categories.items rows.categories.items
-  pub cities : SharedRead IsCityRow city_kinds (λ x. x.number) (λ x. x.city) tables.cities.items rows.cities.items
+  pub rule : RowsRead IsRuleRow tables.rule.items (rule_row ∷ [])
+  pub countries : SharedRead IsNamedRow (λ x. x.number) (λ x. x.name) tables.countries.items rows.countries.items
+  pub languages : SharedRead IsNamedRow (λ x. x.number) (λ x. x.name) tables.languages.items rows.languages.items
+  pub categories : SharedRead IsNamedRow (λ x. x.number) (λ x. x.name) tables.categories.items rows.categories.items
+  pub cities : SharedRead IsCityRow (λ x. x.number) (λ x. x.city) tables.cities.items rows.cities.items
   pub actor_marks : List (Unit {0})
-  pub actors : SharedRead IsActorRow actor_kinds (λ x. x.number) (λ x. tt) tables.actors.items actor_marks
+  pub actors : SharedRead IsActorRow (λ x. x.number) (λ x. tt) tables.actors.items actor_marks
   pub actor_count : length actor_marks ≡ rows.actors
-  pub films : SharedRead IsFilmRow film_kinds (λ x. x.number) (λ x. x.film) tables.films.items rows.films.items
-  pub casts : RowsRead IsCastRow (HaveKinds cast_kinds) tables.casts.items rows.casts.items
-  pub branches : SharedRead IsBranchRow branch_kinds (λ x. x.number) (λ x. x.branch) tables.branches.items rows.branches.items
-  pub staff : SharedRead IsStaffRow staff_kinds (λ x. x.number) (λ x. x.staff) tables.staff.items rows.staff.items
-  pub customers : RowsRead IsCustomerRow (HaveKinds customer_kinds) tables.customers.items rows.customers.items
-  pub copies : RowsRead IsCopyRow (λ r. Unit {0}) tables.copies.items rows.copies.items
-  pub rentals : RowsRead IsRentalRow (HaveKinds rental_kinds) tables.rentals.items rows.rentals.items
-  pub terms : RowsRead IsTermsRow (HaveKinds terms_kinds) tables.terms.items rows.terms.items
-  pub payments : RowsRead IsPaymentRow (HaveKinds payment_kinds) tables.payments.items rows.payments.items
-  pub lots : RowsRead IsLotRow (HaveKinds lot_kinds) tables.lots.items rows.lots.items
-  pub headers : RowsRead IsHeaderRow (HaveKinds header_kinds) tables.consignments.items rows.headers.items
-  pub lines : RowsRead IsLineRow (λ r. Unit {0}) tables.lines.items rows.lines.items
-  pub kept : RowsRead IsCallerRow IsOneKept tables.kept.items (map office_caller rows.office_keys.items ++ map branch_caller rows.kept.items)
+  pub films : SharedRead IsFilmRow (λ x. x.number) (λ x. x.film) tables.films.items rows.films.items
+  pub casts : RowsRead IsCastRow tables.casts.items rows.casts.items
+  pub branches : SharedRead IsBranchRow (λ x. x.number) (λ x. x.branch) tables.branches.items rows.branches.items
+  pub staff : SharedRead IsStaffRow (λ x. x.number) (λ x. x.staff) tables.staff.items rows.staff.items
+  pub customers : RowsRead IsCustomerRow tables.customers.items rows.customers.items
+  pub copies : RowsRead IsCopyRow tables.copies.items rows.copies.items
+  pub rentals : RowsRead IsRentalRow tables.rentals.items rows.rentals.items
+  pub terms : RowsRead IsTermsRow tables.terms.items rows.terms.items
+  pub payments : RowsRead IsPaymentRow tables.payments.items rows.payments.items
+  pub lots : RowsRead IsLotRow tables.lots.items rows.lots.items
+  pub headers : RowsRead IsHeaderRow tables.consignments.items rows.headers.items
+  pub lines : RowsRead IsLineRow tables.lines.items rows.lines.items
+  pub kept : RowsRead IsCallerRow tables.kept.items (map office_caller rows.office_keys.items ++ map branch_caller rows.kept.items)
   pub kept_branches : AllByRecursion (λ (x : CheckedKept). IsNumber x.branch) rows.kept.items
   pub lines_climb : climbs (map placed_key (map seen_placed rows.lines.items)) ≡ true
 
@@ -138,23 +134,3 @@ pub record AuditsOrdered (rows : OrderedBooks) (audit : Audit) : Type 0 where
 -- the rows of the two tables of consignments are those of consignments
 abbrev pub AreJoined : OrderedBooks → Type 0
 AreJoined rows = (by_key : List Consignment) × (join (map seen_header rows.headers.items) (map seen_placed rows.lines.items) ≡ Some by_key)
-
--- each row is one of its table
-pub record HaveOnes (tables : TableRows) : Type 0 where
-  pub chain : AllByRecursion (HaveKinds chain_kinds) tables.chain.items
-  pub rule : AllByRecursion (HaveKinds rule_kinds) tables.rule.items
-  pub countries : AllByRecursion (HaveKinds named_kinds) tables.countries.items
-  pub languages : AllByRecursion (HaveKinds named_kinds) tables.languages.items
-  pub categories : AllByRecursion (HaveKinds named_kinds) tables.categories.items
-  pub cities : AllByRecursion (HaveKinds city_kinds) tables.cities.items
-  pub actors : AllByRecursion (HaveKinds actor_kinds) tables.actors.items
-  pub films : AllByRecursion (HaveKinds film_kinds) tables.films.items
-  pub casts : AllByRecursion (HaveKinds cast_kinds) tables.casts.items
-  pub branches : AllByRecursion (HaveKinds branch_kinds) tables.branches.items
-  pub staff : AllByRecursion (HaveKinds staff_kinds) tables.staff.items
-  pub customers : AllByRecursion (HaveKinds customer_kinds) tables.customers.items
-  pub rentals : AllByRecursion (HaveKinds rental_kinds) tables.rentals.items
-  pub terms : AllByRecursion (HaveKinds terms_kinds) tables.terms.items
-  pub payments : AllByRecursion (HaveKinds payment_kinds) tables.payments.items
-  pub lots : AllByRecursion (HaveKinds lot_kinds) tables.lots.items
-  pub headers : AllByRecursion (HaveKinds header_kinds) tables.consignments.items

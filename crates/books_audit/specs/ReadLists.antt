@@ -22,10 +22,9 @@ pub record AreInPlaces {X : Type 0} (Is : X → sql.Row → Type 0) (One : sql.R
   pub counted : (found sorted : List X) → AreRows Is found table → IsPermutation found sorted → IsSortedByKey number nat_cmp sorted → IsCounted 1 (map number sorted)
 
 -- what was read of rows that are numbered 1, 2, .., in the order of their numbers, and what was kept of it
-pub record PlacesRead {X S : Type 0} (Is : X → sql.Row → Type 0) (One : sql.Row → Type 0) (number : X → ℕ) (keep : X → S) (table : List sql.Row) (kept : List S) : Type 0 where
+pub record PlacesRead {X S : Type 0} (Is : X → sql.Row → Type 0) (number : X → ℕ) (keep : X → S) (table : List sql.Row) (kept : List S) : Type 0 where
   pub found : List X
   pub are_rows : AreRows Is found table
-  pub ones : AllByRecursion One table
   pub few : length table < 2 ^ 32
   pub sorted : List X
   pub same : IsPermutation found sorted

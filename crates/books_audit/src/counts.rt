@@ -64,30 +64,36 @@ fn number_in(row: &Row, at: usize) -> Result<u64, StoreFault>
     }
 }
 
+/// Whether the row has three numbers.
+fn is_triple(row: &Row) -> bool
+    ensures { IsTrue result ↔ OneTriple row.now }
+{
+    if row.column_count() != 3 {
+        return false;
+    }
+    if !is_number_at(row, 0) {
+        return false;
+    }
+    if !is_number_at(row, 1) {
+        return false;
+    }
+    is_number_at(row, 2)
+}
+
 impl Listed for Triple {
     ghost is_one = { OneTriple };
 
     ghost is_row = { IsTriple };
 
-    fn fits(row: &Row) -> bool {
-        if row.column_count() != 3 {
-            return false;
+    fn read(row: &Row) -> Result<Option<Triple>, StoreFault> {
+        if !is_triple(row) {
+            return Ok(None);
         }
-        if !is_number_at(row, 0) {
-            return false;
-        }
-        if !is_number_at(row, 1) {
-            return false;
-        }
-        is_number_at(row, 2)
-    }
-
-    fn take(row: &Row) -> Result<Triple, StoreFault> {
-        Ok(Triple {
+        Ok(Some(Triple {
             first: number_in(row, 0)?,
             second: number_in(row, 1)?,
             third: number_in(row, 2)?,
-        })
+        }))
     }
 }
 

@@ -11,11 +11,10 @@ ghost use Rattle.books_audit.specs.Audited.{AuditsRows, CountsCustody, IsCustody
 
 use crate::whole::{COPIES, LINES, read_whole};
 use audit_rows::{
-    CheckedCopy, CheckedLine, CopyState, LineState, are_in_custody, copies_made, copies_under,
-    lines_under,
+    CheckedCopy, CheckedLine, are_in_custody, copies_made, copies_under, lines_under,
 };
 use audit_tables::read_rows;
-use shop_types::{Audit, NoMemory};
+use shop_types::{Audit, CopyState, LineState, NoMemory};
 use sql_rows::StoreFault;
 use sqlite::{Alter, Row, Transaction};
 use std::alloc::Global;

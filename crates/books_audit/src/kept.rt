@@ -2,10 +2,9 @@
 
 ghost use Rattle.std.specs.Prelude.{[], ◌∷◌, ◌++◌, map, IsPermutation, IfOk, IfSome, IfNone};
 ghost use Rattle.std.specs.List.{AllByRecursion};
-ghost use Rattle.audit_tables.specs.Kinds.{HaveKinds};
 ghost use Rattle.shop_schema.specs.RowValues.{IsNumber};
 ghost use Rattle.audit_rows.specs.declared.rows.CheckedKept.{CheckedKept};
-ghost use Rattle.audit_tables.specs.Rows.{chain_kinds, IsChainRow, rule_kinds, IsRuleRow};
+ghost use Rattle.audit_tables.specs.Rows.{IsChainRow, IsRuleRow};
 ghost use Rattle.books_audit.specs.Read.{RowsRead, office_caller, branch_caller};
 ghost use Rattle.books_audit.specs.Keys.{KeptAreRead, KeptCanBeRead, ChainCanBeRead, RuleCanBeRead};
 
@@ -73,8 +72,7 @@ pub(crate) fn read_kept(alloc: Global, tables: &TableRows) -> Result<Option<Keys
 /// The token of head office, which stands in one row.
 pub(crate) fn read_chain(alloc: Global, tables: &TableRows) -> Result<Option<Token>, NoMemory>
     ensures read { IfOk result (λ o. IfSome o
-        (λ token. RowsRead IsChainRow (HaveKinds chain_kinds) tables.now.chain.items
-        (record { office_token = token } ∷ []))) }
+        (λ token. RowsRead IsChainRow tables.now.chain.items (record { office_token = token } ∷ []))) }
     ensures none { IfOk result (λ o. IfNone o (¬ ChainCanBeRead tables.now)) }
 {
     let Some(rows) = read_rows::<ChainRow>(alloc, tables.chain.as_slice())? else {
@@ -91,8 +89,7 @@ pub(crate) fn read_chain(alloc: Global, tables: &TableRows) -> Result<Option<Tok
 
 /// What is kept of the one row that has the rule of balances.
 pub(crate) fn read_rule(alloc: Global, tables: &TableRows) -> Result<Option<RuleRow>, NoMemory>
-    ensures read { IfOk result (λ o. IfSome o
-        (λ row. RowsRead IsRuleRow (HaveKinds rule_kinds) tables.now.rule.items (row ∷ []))) }
+    ensures read { IfOk result (λ o. IfSome o (λ row. RowsRead IsRuleRow tables.now.rule.items (row ∷ []))) }
     ensures none { IfOk result (λ o. IfNone o (¬ RuleCanBeRead tables.now)) }
 {
     let Some(rows) = read_rows::<RuleRow>(alloc, tables.rule.as_slice())? else {

@@ -19,7 +19,7 @@ pub(crate) fn read_keyed<T: Listed + Keyed>(
     alloc: Global,
     rows: &[Row],
 ) -> Result<Option<Vec<T>>, NoMemory>
-    ensures found { IfOk result (λ o. IfSome o (λ all. RowsRead T.Listed.is_row T.Listed.is_one rows.now all.items)) }
+    ensures found { IfOk result (λ o. IfSome o (λ all. RowsRead T.Listed.is_row rows.now all.items)) }
     ensures climbs { IfOk result (λ o. IfSome o (λ all. climbs (map T.Keyed.key all.items) ≡ true)) }
     ensures none { IfOk result (λ o. IfNone o (¬ AreKeyed T.Listed.is_row T.Listed.is_one T.Keyed.key rows.now)) }
 {
@@ -34,7 +34,7 @@ pub(crate) fn read_keyed<T: Listed + Keyed>(
 }
 
 /// What is kept of a shared row has its number, which is its place.
-pub(crate) trait Shared: Listed {
+pub(crate) trait Shared: Sized + Drop {
     type Kept: Drop;
 
     ghost place: { Self → ℕ };
@@ -86,12 +86,12 @@ fn keep_all<T: Shared>(alloc: Global, rows: Vec<T>) -> Result<Vec<T::Kept>, NoMe
 
 /// What stands in the places of a table's rows, or nothing where a row is none of the table's or they aren't numbered
 /// 1, 2, ..
-pub(crate) fn read_shared<T: Shared>(
+pub(crate) fn read_shared<T: Listed + Shared>(
     alloc: Global,
     rows: &[Row],
 ) -> Result<Option<Vec<T::Kept>>, NoMemory>
     ensures found { IfOk result (λ o. IfSome o
-        (λ all. PlacesRead T.Listed.is_row T.Listed.is_one T.Shared.place T.Shared.keep rows.now all.items)) }
+        (λ all. PlacesRead T.Listed.is_row T.Shared.place T.Shared.keep rows.now all.items)) }
     ensures none { IfOk result (λ o. IfNone o (¬ AreInPlaces T.Listed.is_row T.Listed.is_one T.Shared.place rows.now)) }
 {
     if rows.len() > 4_294_967_295 {

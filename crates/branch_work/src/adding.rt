@@ -13,12 +13,12 @@ use crate::importing::import;
 use branch_core::{CopyFound, RentalFound, RowsFound, rows_in};
 use shop_ledger::{Count, CountKind, Owner, drop_out, put_kept, put_out, set_last, take_numbers};
 use shop_store::{
-    CopyState, CustomerRow, PaymentRow, RentalRow, TermsRow, put_customer, put_payment, put_rental,
-    put_terms, set_active, set_returned, set_state,
+    CustomerRow, PaymentRow, RentalRow, TermsRow, put_customer, put_payment, put_rental, put_terms,
+    set_active, set_returned, set_state,
 };
 use shop_types::{
-    Act, Amount, BranchNo, Command, CopyNo, Customer, CustomerNo, Moment, Payment, Person, Rental,
-    RentalNo, RowNumber,
+    Act, Amount, BranchNo, Command, CopyNo, CopyState, Customer, CustomerNo, Moment, Payment,
+    Person, Rental, RentalNo, RowNumber,
 };
 use shop_views::{
     active_text, new_customer_text, payment_text, rental_text, returned_text, scrapped_text,

@@ -12,12 +12,11 @@ ghost use Rattle.branch_work.specs.Acts.{ActsAlways, Makes};
 
 use crate::importing::first_of;
 use branch_core::{ArrivalFound, arrived_lines};
-use consign_store::{
-    ConsignmentKey, DispatchPlace, last_place, mark_received, put_consignment, take_pair,
-};
+use consign_store::{ConsignmentKey, last_place, mark_received, put_consignment, take_pair};
 use shop_ledger::{Count, CountKind, take_numbers};
-use shop_store::{CopyRow, CopyState, put_copy, set_state};
-use shop_types::{BranchNo, ConsignmentNo, CopyNo, LineNo, ParcelLine, ParcelLines};
+use shop_schema::DispatchPlace;
+use shop_store::{CopyRow, put_copy, set_state};
+use shop_types::{BranchNo, ConsignmentNo, CopyNo, CopyState, LineNo, ParcelLine, ParcelLines};
 use shop_views::{dispatch_text, receipt_text};
 use sql_rows::StoreFault;
 use sqlite::{Alter, Transaction};

@@ -10,8 +10,8 @@ ghost use Rattle.branch_work.specs.Acts.{Imports, Makes};
 
 use branch_core::{StockFound, copies_in};
 use shop_ledger::{Count, CountKind, take_numbers};
-use shop_store::{CopyRow, CopyState, put_copy, put_lot};
-use shop_types::{BranchNo, CopyNo, FilmNo, LotName, Mark};
+use shop_store::{CopyRow, put_copy, put_lot};
+use shop_types::{BranchNo, CopyNo, CopyState, FilmNo, LotName, Mark};
 use shop_views::new_copies_text;
 use sql_rows::StoreFault;
 use sqlite::{Alter, Transaction};

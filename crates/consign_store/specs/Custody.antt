@@ -5,10 +5,9 @@ use Rattle.shop_model.specs.Values.{Here}
 use Rattle.shop_model.specs.Books.{Books, BookCopy, Mark, UnderWay}
 use Rattle.shop_model.specs.Sound.{copy_is, line_is, is_mark}
 use Rattle.shop_store.specs.declared.copies.CopyRow.{CopyRow}
-use Rattle.shop_store.specs.Seen.{seen_state}
+use Rattle.shop_types.specs.Seen.{seen_state, seen_line_state}
 use Rattle.consign_store.specs.declared.lines.LineRow.{LineRow}
 use Rattle.consign_store.specs.Parts.{Placed, all_placed}
-use Rattle.consign_store.specs.Seen.{seen_line_state}
 
 abbrev pub is_here : CopyRow → Bool
 is_here row = copy_is (seen_state row.state) Here

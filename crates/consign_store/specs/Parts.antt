@@ -27,10 +27,6 @@ header_columns it = number_value it.source ∷ number_value it.addressee ∷ num
 abbrev pub opened : Header → Consignment
 opened it = record { source = it.source; addressee = it.addressee; number = it.number; place = it.place; received = it.received; lines = [] }
 
--- the place is no row's number, since it counts the consignments of the whole chain
-abbrev pub IsPlace : ℕ → Type 0
-IsPlace n = (1 ≤ n) × (n < 2 ^ 63)
-
 -- ---- a line with its number in its consignment, and the consignment's key
 
 pub record Placed : Type 0 where

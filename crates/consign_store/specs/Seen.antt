@@ -1,19 +1,11 @@
 -- What a row means.
-use Rattle.shop_model.specs.Books as model
-use Rattle.shop_types.specs.Seen.{seen_mark}
+use Rattle.shop_types.specs.Seen.{seen_mark, seen_line_state}
 use Rattle.consign_store.specs.Parts.{Header, Placed}
 use Rattle.consign_store.specs.declared.headers.HeaderRow.{HeaderRow}
 use Rattle.consign_store.specs.declared.lines.LineRow.{LineRow}
-use Rattle.consign_store.specs.declared.lines.LineState.{LineState}
-use Rattle.consign_store.specs.declared.lines.LineState.TheVariants as state
 
 abbrev pub seen_header : HeaderRow → Header
 seen_header row = record { source = row.key.source; addressee = row.key.addressee; number = row.key.number; place = row.place; received = row.received }
-
-abbrev pub seen_line_state : LineState → model.LineState
-seen_line_state state.UnderWay = model.UnderWay
-seen_line_state state.Arrived = model.Arrived
-seen_line_state state.Missing = model.Missing
 
 abbrev pub seen_line : LineRow → Placed
 seen_line row = record {

@@ -10,9 +10,9 @@ ghost use Rattle.shop_store.specs.SharedSeen.{IsFirstNumber};
 ghost use Rattle.consign_store.specs.Parts.{header_of, header_columns, opened, with_received, IsOnce};
 ghost use Rattle.consign_store.specs.Seen.{seen_header};
 
-use crate::keys::{ConsignmentKey, DispatchPlace, place_at};
-use shop_schema::row_number_at;
-use sql_rows::{StoreFault, Stored, execute, fault_of, flag_at, query, query_one};
+use crate::keys::ConsignmentKey;
+use shop_schema::{DispatchPlace, HeaderCells, read_cells};
+use sql_rows::{StoreFault, Stored, execute, fault_of, query, query_one};
 use sqlite::types::{ToSql, ValueRef};
 use sqlite::{Alter, Row, Transaction};
 
@@ -30,17 +30,17 @@ impl Stored for HeaderRow {
     ghost fits = { λ _. ⊤ };
 
     fn read(row: &Row) -> Result<HeaderRow, StoreFault> {
-        if row.column_count() != 5 {
-            return Err(StoreFault::Failed);
-        }
+        let (source, (addressee, (number, (place, (received, ()))))) = read_cells::<HeaderCells>(
+            row,
+        )?;
         Ok(HeaderRow {
             key: ConsignmentKey {
-                source: row_number_at(row, 0)?,
-                addressee: row_number_at(row, 1)?,
-                number: row_number_at(row, 2)?,
+                source,
+                addressee,
+                number,
             },
-            place: place_at(row, 3)?,
-            received: flag_at(row, 4)?,
+            place,
+            received,
         })
     }
 }

@@ -14,8 +14,8 @@ mod parcels;
 mod places;
 
 pub use headers::{HeaderRow, header_at, last_place, put_header, set_received};
-pub use keys::{ConsignmentKey, DispatchPlace};
-pub use lines::{LineRow, LineState, lines_of, put_line, set_line};
+pub use keys::ConsignmentKey;
+pub use lines::{LineRow, lines_of, put_line, set_line};
 pub use lists::{arrivals, sent, transit};
 pub use marks::{copies_marked, lines_marked};
 pub use pairs::take_pair;

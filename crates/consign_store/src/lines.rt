@@ -1,58 +1,22 @@
 //! The lines of consignments, each with its number there.
 
-ghost use Rattle.std.specs.Prelude.{◌≡◌, ◌<◌, ⊤, IfOk, filter, flat_map, map};
+ghost use Rattle.std.specs.Prelude.{◌≡◌, ◌<◌, ⊤, filter, flat_map, map};
 ghost use Rattle.sqlite.specs.Held.{state};
 ghost use Rattle.sqlite.specs.Values.{bound};
-ghost use Rattle.sqlite_value.specs.Order.{column};
-ghost use Rattle.sql_rows.specs.Rows.{number_value};
 ghost use Rattle.sql_rows.specs.Calls.{StaysInside};
-ghost use Rattle.shop_model.specs.Books as model;
 ghost use Rattle.shop_model.specs.Books.{is_consignment};
 ghost use Rattle.shop_schema.specs.Calls.{Finds, Stores};
-ghost use Rattle.shop_schema.specs.Columns.{line_value};
 ghost use Rattle.consign_store.specs.Parts.{placed_columns, placed_in, with_line, with_state, IsNextLine, IsOnce};
-ghost use Rattle.consign_store.specs.Seen.{seen_line_state, seen_line};
+ghost use Rattle.consign_store.specs.Seen.{seen_line};
+ghost use Rattle.shop_types.specs.Seen.{seen_line_state};
 
 use crate::keys::ConsignmentKey;
-use shop_schema::row_number_at;
-use shop_types::{FilmNo, LineNo, Mark};
-use sql_rows::{StoreFault, Stored, execute, number_at, query_all};
+use shop_schema::{LineCells, line_state_code, read_cells};
+use shop_types::{FilmNo, LineNo, LineState, Mark};
+use sql_rows::{StoreFault, Stored, execute, query_all};
 use sqlite::types::{ToSql, ValueRef};
 use sqlite::{Alter, Row, Transaction};
 use std::alloc::Global;
-
-/// What became of a line: it is under way, or the consignment was received, with its copy or without.
-#[derive(Clone, Copy)]
-pub enum LineState {
-    UnderWay,
-    Arrived,
-    Missing,
-}
-
-impl LineState {
-    /// The number that stands for it in the column.
-    fn code(self) -> u32
-        ensures { number_value result ≡ line_value (seen_line_state self) }
-    {
-        match self {
-            LineState::UnderWay => 0,
-            LineState::Arrived => 1,
-            LineState::Missing => 2,
-        }
-    }
-}
-
-/// The state for which the number in the column stands.
-fn line_state_at(row: &Row, at: usize) -> Result<LineState, StoreFault>
-    ensures { IfOk result (λ s. column row.now at ≡ line_value (seen_line_state s)) }
-{
-    match number_at(row, at)? {
-        0 => Ok(LineState::UnderWay),
-        1 => Ok(LineState::Arrived),
-        2 => Ok(LineState::Missing),
-        _ => Err(StoreFault::Failed),
-    }
-}
 
 /// A line of a consignment, by its number there.
 #[derive(Clone, Copy, Drop)]
@@ -70,22 +34,18 @@ impl Stored for LineRow {
     ghost fits = { λ _. ⊤ };
 
     fn read(row: &Row) -> Result<LineRow, StoreFault> {
-        if row.column_count() != 8 {
-            return Err(StoreFault::Failed);
-        }
+        let (source, (addressee, (number, (line, (film, (branch, (copy, (state, ())))))))) =
+            read_cells::<LineCells>(row)?;
         Ok(LineRow {
             key: ConsignmentKey {
-                source: row_number_at(row, 0)?,
-                addressee: row_number_at(row, 1)?,
-                number: row_number_at(row, 2)?,
+                source,
+                addressee,
+                number,
             },
-            line: row_number_at(row, 3)?,
-            film: row_number_at(row, 4)?,
-            mark: Mark {
-                branch: row_number_at(row, 5)?,
-                copy: row_number_at(row, 6)?,
-            },
-            state: line_state_at(row, 7)?,
+            line,
+            film,
+            mark: Mark { branch, copy },
+            state,
         })
     }
 }
@@ -103,7 +63,7 @@ impl LineRow {
             self.film.get().to_sql(),
             self.mark.branch.get().to_sql(),
             self.mark.copy.get().to_sql(),
-            self.state.code().to_sql(),
+            line_state_code(self.state).to_sql(),
         ]
     }
 }
@@ -165,7 +125,7 @@ pub fn set_line<S: Alter>(
             key.addressee.get().to_sql(),
             key.number.get().to_sql(),
             line.get().to_sql(),
-            new.code().to_sql(),
+            line_state_code(new).to_sql(),
         ],
     )
 }

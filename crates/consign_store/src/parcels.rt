@@ -8,12 +8,13 @@ ghost use Rattle.shop_model.specs.Books.{is_consignment, checked};
 ghost use Rattle.shop_schema.specs.Calls.{Stores};
 ghost use Rattle.consign_store.specs.Parts.{IsOnce};
 ghost use Rattle.consign_store.specs.Parcels.{IsNewKey, HasSoMany, HasNoLine, sent_off, with_lines, sent_line, state_at, with_checked_to};
-ghost use Rattle.consign_store.specs.Seen.{seen_line_state};
+ghost use Rattle.shop_types.specs.Seen.{seen_line_state};
 
 use crate::headers::{HeaderRow, put_header, set_received};
-use crate::keys::{ConsignmentKey, DispatchPlace};
-use crate::lines::{LineRow, LineState, put_line, set_line};
-use shop_types::{LineNo, ParcelLine, ParcelLines};
+use crate::keys::ConsignmentKey;
+use crate::lines::{LineRow, put_line, set_line};
+use shop_schema::DispatchPlace;
+use shop_types::{LineNo, LineState, ParcelLine, ParcelLines};
 use sql_rows::StoreFault;
 use sqlite::{Alter, Transaction};
 

@@ -9,10 +9,10 @@ ghost use Rattle.shop_schema.specs.Calls.{Finds};
 ghost use Rattle.shop_types.specs.Seen.{seen_mark, seen_place};
 ghost use Rattle.consign_store.specs.Custody.{is_here, is_under_way, HasOnePlace};
 
-use crate::lines::{LineRow, LineState};
+use crate::lines::LineRow;
 use crate::marks::{copies_marked, lines_marked};
-use shop_store::{CopyRow, CopyState};
-use shop_types::{Mark, Place};
+use shop_store::CopyRow;
+use shop_types::{CopyState, LineState, Mark, Place};
 use sql_rows::StoreFault;
 use sqlite::{Alter, Transaction};
 use std::alloc::Global;

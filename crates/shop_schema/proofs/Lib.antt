@@ -8,6 +8,9 @@ pub mod FormLemmas
 pub mod OneToOne
 pub mod OfficeOneToOne
 pub mod SameRows
+pub mod OneRow
+pub mod ShopTables
+pub mod CellTexts
 pub mod Lists
 pub mod Readings
 pub mod FirstRows

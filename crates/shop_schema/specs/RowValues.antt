@@ -43,6 +43,10 @@ pub record IsPerson (it : Person) : Type 0 where
 
 -- ---- shared rows
 
+-- a shared row, with its number
+abbrev pub IsShared : {A : Type 0} → (A → Type 0) → ℕ × A → Type 0
+IsShared P it = IsNumber it.0 × P it.1
+
 abbrev pub IsCity : City → Type 0
 IsCity it = IsName it.name × IsNumber it.country
 
@@ -126,12 +130,16 @@ IsLot row = IsNumber row.owner × IsKey row.it
 abbrev pub IsLine : Line → Type 0
 IsLine it = IsNumber it.film × IsMark it.mark
 
--- The place is no row's number, since it counts the consignments of the whole chain. The number of each line is one.
+-- The place is no row's number, since it counts the consignments of the whole chain.
+abbrev pub IsPlace : ℕ → Type 0
+IsPlace n = (1 ≤ n) × (n < 2 ^ 63)
+
+-- the number of each line is a row's
 pub record IsConsignment (it : Consignment) : Type 0 where
   pub source : IsNumber it.source
   pub addressee : IsNumber it.addressee
   pub number : IsNumber it.number
-  pub place : (1 ≤ it.place) × (it.place < 2 ^ 63)
+  pub place : IsPlace it.place
   pub few : length it.lines < 2 ^ 32
   pub lines : AllByRecursion IsLine it.lines
 

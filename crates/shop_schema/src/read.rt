@@ -1,7 +1,7 @@
 //! Columns read as the shop's values, and the first row of an answer. Where a column holds no such value, the fault
 //! is `Failed`.
 
-ghost use Rattle.std.specs.Prelude.{◌≡◌, List, Ok, map, IfOk, IfSome};
+ghost use Rattle.std.specs.Prelude.{◌≡◌, ◌≢◌, ◌<◌, ℕ, List, Ok, length, map, IfOk, IfErr, IfSome};
 ghost use Rattle.std.specs.Fn.{FnReturnsAt};
 ghost use Rattle.sqlite.specs.declared.types.Value.TheVariants.{Text as SqlText};
 ghost use Rattle.sqlite.specs.Held.{state};
@@ -10,7 +10,8 @@ ghost use Rattle.sqlite.specs.Values.{bound, or_null};
 ghost use Rattle.sqlite_value.specs.Order.{Row as SqlRow, column};
 ghost use Rattle.sql_rows.specs.Calls.{StaysInside};
 ghost use Rattle.sql_rows.specs.Rows.{number_value};
-ghost use Rattle.shop_model.specs.Calendar.{IsMoment};
+ghost use Rattle.sql_rows.specs.declared.fault.StoreFault.TheVariants.{Failed};
+ghost use Rattle.shop_model.specs.Calendar.{Moment as Civil, IsMoment};
 ghost use Rattle.shop_schema.specs.Columns.{moment_value};
 ghost use Rattle.shop_schema.specs.First.{TellsFirst};
 ghost use Rattle.shop_schema.specs.RowValues.{IsNumber, IsText};
@@ -25,6 +26,8 @@ use std::alloc::Global;
 pub fn row_number_at<const KIND: u8>(row: &Row, at: usize) -> Result<RowNumber<KIND>, StoreFault>
     ensures ok { IfOk result (λ n. column row.now at ≡ number_value n) }
     ensures value { IfOk result IsNumber }
+    ensures failed { IfErr result (λ e. e ≡ Failed → (n : ℕ) → IsNumber n → at < length row.now
+        → column row.now at ≢ number_value n) }
 {
     match RowNumber::new(number_at(row, at)?) {
         Some(number) => Ok(number),
@@ -52,8 +55,14 @@ pub fn row_numbers_in<const KIND: u8>(
 pub fn moment_at(row: &Row, at: usize) -> Result<Moment, StoreFault>
     ensures ok { IfOk result (λ m. column row.now at ≡ moment_value m) }
     ensures value { IfOk result IsMoment }
+    ensures failed { IfErr result (λ e. e ≡ Failed → (m : Civil) → IsMoment m → at < length row.now
+        → column row.now at ≢ moment_value m) }
 {
-    match Moment::read(words_at(row, at)?.as_str()) {
+    let words = match words_at(row, at) {
+        Ok(words) => words,
+        Err(fault) => return Err(fault),
+    };
+    match Moment::read(words.as_str()) {
         Some(moment) => Ok(moment),
         None => Err(StoreFault::Failed),
     }
@@ -97,6 +106,8 @@ pub fn text_at<const LOW: usize, const HIGH: usize>(
 ) -> Result<Text<LOW, HIGH>, StoreFault>
     ensures ok { IfOk result (λ t. column row.now at ≡ SqlText t) }
     ensures value { IfOk result (λ t. IsText LOW HIGH t) }
+    ensures failed { IfErr result (λ e. e ≡ Failed → (t : List ℕ) → IsText LOW HIGH t → at < length row.now
+        → column row.now at ≢ SqlText t) }
 {
     match Text::read(words_at(row, at)?.into_string()) {
         Some(text) => Ok(text),

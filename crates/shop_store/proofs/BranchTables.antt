@@ -7,7 +7,8 @@ use Rattle.shop_schema.specs.Tables.{customer_table, copy_table, rental_table, r
 use Rattle.shop_schema.specs.Columns.{customer_columns, copy_columns, rental_columns, terms_columns, payment_columns, lot_columns}
 use Rattle.shop_schema.specs.RowValues.{IsCustomer, IsCopy, IsRental, IsTerms, IsPayment}
 use Rattle.shop_schema.proofs.Listed.{Plain, listed}
-use Rattle.shop_schema.proofs.SameRows.{same_customer, same_copy, same_rental, same_terms, same_payment}
+use Rattle.shop_schema.proofs.OneRow.{same_row}
+use Rattle.shop_schema.proofs.ShopTables as table
 use Rattle.shop_store.proofs.BranchRows.{BranchRows}
 
 abbrev pub customers : BranchRows Customer
@@ -16,7 +17,7 @@ customers = record {
       listed 10 customer_table customer_columns (λ books. books.customers) (λ xs books. record books { customers = xs })
       (record { place = refl; uncounted = refl; unstamped = refl }) refl (λ counts books. refl) (λ counts xs books. refl) (λ xs books. refl) (λ xs ys books. refl);
   Fits = IsCustomer;
-  one = same_customer;
+  one = same_row table.customers;
   begins = λ row. (refl, refl);
   valued = λ books held. held.values.customers;
   counted = λ books held. held.numbers.customers;
@@ -28,7 +29,7 @@ copies = record {
       listed 11 copy_table copy_columns (λ books. books.copies) (λ xs books. record books { copies = xs })
       (record { place = refl; uncounted = refl; unstamped = refl }) refl (λ counts books. refl) (λ counts xs books. refl) (λ xs books. refl) (λ xs ys books. refl);
   Fits = IsCopy;
-  one = λ a b p q. same_copy a b;
+  one = same_row table.copies;
   begins = λ row. (refl, refl);
   valued = λ books held. held.values.copies;
   counted = λ books held. held.numbers.copies;
@@ -40,7 +41,7 @@ rentals = record {
       listed 12 rental_table rental_columns (λ books. books.rentals) (λ xs books. record books { rentals = xs })
       (record { place = refl; uncounted = refl; unstamped = refl }) refl (λ counts books. refl) (λ counts xs books. refl) (λ xs books. refl) (λ xs ys books. refl);
   Fits = IsRental;
-  one = same_rental;
+  one = same_row table.rentals;
   begins = λ row. (refl, refl);
   valued = λ books held. held.values.rentals;
   counted = λ books held. held.numbers.rentals;
@@ -52,7 +53,7 @@ terms = record {
       listed 21 rental_terms_table terms_columns (λ books. books.terms) (λ xs books. record books { terms = xs })
       (record { place = refl; uncounted = refl; unstamped = refl }) refl (λ counts books. refl) (λ counts xs books. refl) (λ xs books. refl) (λ xs ys books. refl);
   Fits = IsTerms;
-  one = λ a b p q. same_terms a b;
+  one = same_row table.terms;
   begins = λ row. (refl, refl);
   valued = λ books held. held.values.terms;
   counted = λ books held. held.numbers.terms;
@@ -64,7 +65,7 @@ payments = record {
       listed 13 payment_table payment_columns (λ books. books.payments) (λ xs books. record books { payments = xs })
       (record { place = refl; uncounted = refl; unstamped = refl }) refl (λ counts books. refl) (λ counts xs books. refl) (λ xs books. refl) (λ xs ys books. refl);
   Fits = IsPayment;
-  one = same_payment;
+  one = same_row table.payments;
   begins = λ row. (refl, refl);
   valued = λ books held. held.values.payments;
   counted = λ books held. held.numbers.payments;

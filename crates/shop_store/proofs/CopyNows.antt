@@ -37,7 +37,8 @@ use Rattle.shop_ledger.proofs.Fews.{climbs_few}
 use Rattle.shop_ledger.proofs.Outs.{open_of, outs_numbered, picks_out}
 use Rattle.shop_store.specs.declared.copies.TheConstants.{SELECT_NOW}
 use Rattle.shop_store.specs.declared.copies.CopyNow.{CopyNow}
-use Rattle.shop_store.specs.Seen.{seen_state, seen_copy_now}
+use Rattle.shop_store.specs.Seen.{seen_copy_now}
+use Rattle.shop_types.specs.Seen.{seen_state}
 
 abbrev with_out : Join
 with_out = left 43 (are_equal (col 2 1) (col 1 1) ∷ are_equal (col 2 2) (col 1 2) ∷ []) end

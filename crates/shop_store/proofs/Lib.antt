@@ -1,4 +1,3 @@
-pub mod Tokens
 pub mod ByNumber
 pub mod SharedReads
 pub mod Whether

@@ -4,15 +4,12 @@ use Rattle.sqlite.specs.Values.{or_null}
 use Rattle.sqlite_value.specs.Order as sql
 use Rattle.sql_rows.specs.Rows.{number_value}
 use Rattle.shop_model.specs.Rows.{Row}
-use Rattle.shop_model.specs.Values as model
 use Rattle.shop_model.specs.Values.{Customer, Copy, Rental, Terms, Payment}
 use Rattle.shop_model.specs.Books.{BookCopy}
-use Rattle.shop_types.specs.Seen.{seen_customer, seen_rental, seen_terms, seen_payment, seen_mark}
+use Rattle.shop_types.specs.Seen.{seen_customer, seen_rental, seen_terms, seen_payment, seen_mark, seen_state}
 use Rattle.shop_schema.specs.Columns.{moment_value}
 use Rattle.shop_schema.specs.RowValues.{IsRental, IsTerms}
 use Rattle.shop_store.specs.declared.customers.CustomerRow.{CustomerRow}
-use Rattle.shop_store.specs.declared.copies.CopyState.{CopyState}
-use Rattle.shop_store.specs.declared.copies.CopyState.TheVariants as state
 use Rattle.shop_store.specs.declared.copies.CopyRow.{CopyRow}
 use Rattle.shop_store.specs.declared.copies.CopyNow.{CopyNow}
 use Rattle.shop_store.specs.declared.rentals.RentalRow.{RentalRow}
@@ -23,11 +20,6 @@ use Rattle.shop_store.specs.declared.termed.TermedRental.{TermedRental}
 -- a customer of a branch, with the number
 abbrev pub seen_row : CustomerRow → Row Customer
 seen_row row = record { branch = row.branch; number = row.number; it = seen_customer row.customer }
-
-abbrev pub seen_state : CopyState → model.CopyState
-seen_state state.Here = model.Here
-seen_state state.Sent = model.Sent
-seen_state state.Scrapped = model.Scrapped
 
 -- a copy of a branch, with the number
 abbrev pub seen_copy_row : CopyRow → Row BookCopy

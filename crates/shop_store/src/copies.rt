@@ -14,23 +14,19 @@ ghost use Rattle.shop_model.specs.Sound.{copy_is};
 ghost use Rattle.shop_schema.specs.Calls.{Finds, Stores};
 ghost use Rattle.shop_schema.specs.RowValues.{IsRow, IsCopy};
 ghost use Rattle.shop_schema.specs.Columns.{state_value, copy_columns};
-ghost use Rattle.shop_store.specs.Seen.{seen_state, seen_copy_row, seen_copy_now};
+ghost use Rattle.shop_store.specs.Seen.{seen_copy_row, seen_copy_now};
+ghost use Rattle.shop_types.specs.Seen.{seen_state};
 
 use crate::rows::shows_row;
-use shop_schema::{query_first, row_number_at, row_number_or_null_at, row_numbers_in};
-use shop_types::{BranchNo, CopyNo, FilmNo, LotName, Mark, RentalNo};
-use sql_rows::{StoreFault, Stored, execute, number_at, query, query_all, query_one};
+use shop_schema::{
+    Cell, CopyCells, query_first, read_cells, row_number_at, row_number_or_null_at, row_numbers_in,
+    state_code,
+};
+use shop_types::{BranchNo, CopyNo, CopyState, FilmNo, LotName, Mark, RentalNo};
+use sql_rows::{StoreFault, Stored, execute, query, query_all, query_one};
 use sqlite::types::{ToSql, ValueRef};
 use sqlite::{Alter, Row, Transaction};
 use std::alloc::Global;
-
-/// Where a copy is.
-#[derive(Clone, Copy)]
-pub enum CopyState {
-    Here,
-    Sent,
-    Scrapped,
-}
 
 /// A copy of a branch, by the number that it has there.
 #[derive(Clone, Copy, Drop)]
@@ -50,48 +46,23 @@ pub struct CopyNow {
     pub out: Option<RentalNo>,
 }
 
-impl CopyState {
-    /// The number that stands for it in the column.
-    fn code(self) -> u32
-        ensures { number_value result ≡ state_value (seen_state self) }
-    {
-        match self {
-            CopyState::Here => 0,
-            CopyState::Sent => 1,
-            CopyState::Scrapped => 2,
-        }
-    }
-}
-
-/// The state for which the number in the column stands.
-fn state_at(row: &Row, at: usize) -> Result<CopyState, StoreFault>
-    ensures { IfOk result (λ s. column row.now at ≡ state_value (seen_state s)) }
-{
-    match number_at(row, at)? {
-        0 => Ok(CopyState::Here),
-        1 => Ok(CopyState::Sent),
-        2 => Ok(CopyState::Scrapped),
-        _ => Err(StoreFault::Failed),
-    }
-}
-
 impl Stored for CopyRow {
     ghost columns = { λ row. copy_columns (seen_copy_row row) };
 
     ghost fits = { λ row. IsRow IsCopy (seen_copy_row row) };
 
     fn read(row: &Row) -> Result<CopyRow, StoreFault> {
-        if row.column_count() != 6 {
-            return Err(StoreFault::Failed);
-        }
+        let (branch, (number, (film, (state, (origin, (copy, ())))))) = read_cells::<CopyCells>(
+            row,
+        )?;
         Ok(CopyRow {
-            branch: row_number_at(row, 0)?,
-            number: row_number_at(row, 1)?,
-            film: row_number_at(row, 2)?,
-            state: state_at(row, 3)?,
+            branch,
+            number,
+            film,
+            state,
             mark: Mark {
-                branch: row_number_at(row, 4)?,
-                copy: row_number_at(row, 5)?,
+                branch: origin,
+                copy,
             },
         })
     }
@@ -106,7 +77,7 @@ impl CopyRow {
             self.branch.get().to_sql(),
             self.number.get().to_sql(),
             self.film.get().to_sql(),
-            self.state.code().to_sql(),
+            state_code(self.state).to_sql(),
             self.mark.branch.get().to_sql(),
             self.mark.copy.get().to_sql(),
         ]
@@ -141,7 +112,7 @@ fn now_in(row: &Row) -> Result<CopyNow, StoreFault>
 {
     Ok(CopyNow {
         film: row_number_at(row, 0)?,
-        state: state_at(row, 1)?,
+        state: CopyState::read_at(row, 1)?,
         out: row_number_or_null_at(row, 2)?,
     })
 }
@@ -213,7 +184,7 @@ pub fn copies_in_state<S: Alter>(
     let rows = query(
         tx,
         SELECT_IN_STATE,
-        &[branch.get().to_sql(), which.code().to_sql()],
+        &[branch.get().to_sql(), state_code(which).to_sql()],
     )?;
     row_numbers_in(alloc, rows.as_slice())
 }
@@ -239,7 +210,7 @@ pub fn set_state<S: Alter>(
         &[
             branch.get().to_sql(),
             number.get().to_sql(),
-            new.code().to_sql(),
+            state_code(new).to_sql(),
         ],
     )
 }

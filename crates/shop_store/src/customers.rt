@@ -12,7 +12,7 @@ ghost use Rattle.shop_schema.specs.RowValues.{IsRow, IsCustomer};
 ghost use Rattle.shop_schema.specs.Held.{IsHeld};
 ghost use Rattle.shop_store.specs.Seen.{seen_row};
 
-use shop_schema::{MomentText, moment_at, query_first, row_number_at, text_at};
+use shop_schema::{CustomerCells, MomentText, query_first, read_cells};
 use shop_types::{BranchNo, Customer, CustomerNo, Person};
 use sql_rows::{StoreFault, Stored, execute, flag_at, query_one};
 use sqlite::types::{ToSql, ValueRef};
@@ -32,19 +32,10 @@ impl Stored for CustomerRow {
     ghost fits = { λ row. IsRow IsCustomer (seen_row row) };
 
     fn read(row: &Row) -> Result<CustomerRow, StoreFault> {
-        if row.column_count() != 10 {
-            return Err(StoreFault::Failed);
-        }
-        let branch = row_number_at(row, 0)?;
-        let number = row_number_at(row, 1)?;
-        let city = row_number_at(row, 7)?;
-        let active = flag_at(row, 8)?;
-        let created = moment_at(row, 9)?;
-        let first = text_at(row, 2)?;
-        let last = text_at(row, 3)?;
-        let address = text_at(row, 4)?;
-        let postal = text_at(row, 5)?;
-        let phone = text_at(row, 6)?;
+        let (branch, (number, (first, (last, (address, (postal, (phone, more))))))) = read_cells::<
+            CustomerCells,
+        >(row)?;
+        let (city, (active, (created, ()))) = more;
         Ok(CustomerRow {
             branch,
             number,

@@ -10,8 +10,7 @@ ghost use Rattle.shop_schema.specs.Calls.{Finds, Stores};
 ghost use Rattle.shop_schema.specs.Columns.{film_columns};
 ghost use Rattle.shop_store.specs.SharedSeen.{seen_film_row, withdrawn_of};
 
-use crate::columns::{amount_at, features_at, minutes_or_null_at, period_at, rate_at, rating_at};
-use shop_schema::{query_first, row_number_at, text_at};
+use shop_schema::{FilmCells, query_first, read_cells};
 use shop_types::{Film, FilmNo, Rate};
 use sql_rows::{StoreFault, Stored, execute, flag_at, query_one};
 use sqlite::types::ToSql;
@@ -31,21 +30,11 @@ impl Stored for FilmRow {
     ghost fits = { λ _. ⊤ };
 
     fn read(row: &Row) -> Result<FilmRow, StoreFault> {
-        if row.column_count() != 12 {
-            return Err(StoreFault::Failed);
-        }
-        let number = row_number_at(row, 0)?;
-        let language = row_number_at(row, 3)?;
-        let category = row_number_at(row, 4)?;
-        let period = period_at(row, 5)?;
-        let rate = rate_at(row, 6)?;
-        let replacement = amount_at(row, 7)?;
-        let minutes = minutes_or_null_at(row, 8)?;
-        let rating = rating_at(row, 9)?;
-        let features = features_at(row, 10)?;
-        let withdrawn = flag_at(row, 11)?;
-        let title = text_at(row, 1)?;
-        let description = text_at(row, 2)?;
+        let (number, (title, (description, (language, (category, priced))))) = read_cells::<
+            FilmCells,
+        >(row)?;
+        let (period, (rate, (replacement, (minutes, (rating, (features, (withdrawn, ()))))))) =
+            priced;
         Ok(FilmRow {
             number,
             film: Film {

@@ -24,8 +24,8 @@ mod terms;
 pub use branches::{branch_manager, branch_with, set_manager};
 pub use chain::{is_office, office_token, rule_at, set_rule};
 pub use copies::{
-    CopyNow, CopyRow, CopyState, copies_in_state, copies_of_film, copy_at, copy_now_at, has_lot,
-    put_copy, put_lot, set_state,
+    CopyNow, CopyRow, copies_in_state, copies_of_film, copy_at, copy_now_at, has_lot, put_copy,
+    put_lot, set_state,
 };
 pub use counts::{put_count, put_counts};
 pub use customers::{CustomerRow, active_at, customer_at, put_customer, set_active};

@@ -12,8 +12,7 @@ ghost use Rattle.shop_schema.specs.Columns.{payment_columns};
 ghost use Rattle.shop_schema.specs.RowValues.{IsRow, IsPayment};
 ghost use Rattle.shop_store.specs.Seen.{seen_payment_row};
 
-use crate::columns::amount_at;
-use shop_schema::{MomentText, moment_at, row_number_at, row_number_or_null_at};
+use shop_schema::{MomentText, PaymentCells, read_cells};
 use shop_types::{BranchNo, CustomerNo, Moment, Payment, PaymentNo, RentalNo};
 use sql_rows::{StoreFault, Stored, execute, query_all};
 use sqlite::types::{ToSql, ValueRef};
@@ -34,18 +33,18 @@ impl Stored for PaymentRow {
     ghost fits = { λ row. IsRow IsPayment (seen_payment_row row) };
 
     fn read(row: &Row) -> Result<PaymentRow, StoreFault> {
-        if row.column_count() != 7 {
-            return Err(StoreFault::Failed);
-        }
+        let (branch, (number, (customer, (staff, (rental, (amount, (paid, ()))))))) = read_cells::<
+            PaymentCells,
+        >(row)?;
         Ok(PaymentRow {
-            branch: row_number_at(row, 0)?,
-            number: row_number_at(row, 1)?,
+            branch,
+            number,
             payment: Payment {
-                customer: row_number_at(row, 2)?,
-                staff: row_number_at(row, 3)?,
-                rental: row_number_or_null_at(row, 4)?,
-                amount: amount_at(row, 5)?,
-                paid: moment_at(row, 6)?,
+                customer,
+                staff,
+                rental,
+                amount,
+                paid,
             },
         })
     }

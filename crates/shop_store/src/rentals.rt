@@ -13,7 +13,7 @@ ghost use Rattle.shop_schema.specs.Held.{IsHeld};
 ghost use Rattle.shop_store.specs.Seen.{seen_rental_row, opened_row};
 
 use crate::rows::shows_row;
-use shop_schema::{MomentText, moment_at, moment_or_null_at, row_number_at};
+use shop_schema::{MomentText, RentalCells, read_cells};
 use shop_types::{BranchNo, CopyNo, CustomerNo, Moment, Rental, RentalNo};
 use sql_rows::{StoreFault, Stored, execute, query_one};
 use sqlite::types::{ToSql, ValueRef};
@@ -33,18 +33,17 @@ impl Stored for RentalRow {
     ghost fits = { λ row. IsRow IsRental (seen_rental_row row) };
 
     fn read(row: &Row) -> Result<RentalRow, StoreFault> {
-        if row.column_count() != 7 {
-            return Err(StoreFault::Failed);
-        }
+        let (branch, (number, (rented, (copy, (customer, (returned, (staff, ()))))))) =
+            read_cells::<RentalCells>(row)?;
         Ok(RentalRow {
-            branch: row_number_at(row, 0)?,
-            number: row_number_at(row, 1)?,
+            branch,
+            number,
             rental: Rental {
-                rented: moment_at(row, 2)?,
-                copy: row_number_at(row, 3)?,
-                customer: row_number_at(row, 4)?,
-                returned: moment_or_null_at(row, 5)?,
-                staff: row_number_at(row, 6)?,
+                rented,
+                copy,
+                customer,
+                returned,
+                staff,
             },
         })
     }

@@ -8,13 +8,26 @@ ghost use Rattle.shop_model.specs.Stock.{termed};
 ghost use Rattle.shop_schema.specs.Calls.{Finds};
 ghost use Rattle.shop_store.specs.Seen.{seen_termed, termed_columns, IsTermed};
 
-use crate::columns::{amount_at, period_at, rate_at};
-use shop_schema::{moment_at, moment_or_null_at, row_number_at};
-use shop_types::{BranchNo, CustomerNo, Rental, Terms};
+use shop_schema::read_cells;
+use shop_types::{
+    Amount, BranchNo, CopyNo, CustomerNo, Moment, Period, Rate, Rental, StaffNo, Terms,
+};
 use sql_rows::{StoreFault, Stored, query_all};
 use sqlite::types::ToSql;
 use sqlite::{Alter, Row, Transaction};
 use std::alloc::Global;
+
+/// The columns of a rental and of its terms, as the join shows them.
+type TermedCells = (
+    Moment,
+    (
+        CopyNo,
+        (
+            CustomerNo,
+            (Option<Moment>, (StaffNo, (Rate, (Period, (Amount, ()))))),
+        ),
+    ),
+);
 
 /// A rental with its terms.
 #[derive(Clone, Copy, Drop)]
@@ -29,21 +42,22 @@ impl Stored for TermedRental {
     ghost fits = { λ it. IsTermed (seen_termed it) };
 
     fn read(row: &Row) -> Result<TermedRental, StoreFault> {
-        if row.column_count() != 8 {
-            return Err(StoreFault::Failed);
-        }
+        let (rented, (copy, (customer, (returned, (staff, terms))))) = read_cells::<TermedCells>(
+            row,
+        )?;
+        let (rate, (period, (replacement, ()))) = terms;
         Ok(TermedRental {
             rental: Rental {
-                rented: moment_at(row, 0)?,
-                copy: row_number_at(row, 1)?,
-                customer: row_number_at(row, 2)?,
-                returned: moment_or_null_at(row, 3)?,
-                staff: row_number_at(row, 4)?,
+                rented,
+                copy,
+                customer,
+                returned,
+                staff,
             },
             terms: Terms {
-                rate: rate_at(row, 5)?,
-                period: period_at(row, 6)?,
-                replacement: amount_at(row, 7)?,
+                rate,
+                period,
+                replacement,
             },
         })
     }

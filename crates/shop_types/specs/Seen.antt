@@ -10,6 +10,10 @@ use Rattle.shop_types.specs.declared.person.Customer.{Customer}
 use Rattle.shop_types.specs.declared.rental.Rental.{Rental}
 use Rattle.shop_types.specs.declared.rental.Terms.{Terms}
 use Rattle.shop_types.specs.declared.payment.Payment.{Payment}
+use Rattle.shop_types.specs.declared.custody.CopyState.{CopyState}
+use Rattle.shop_types.specs.declared.custody.CopyState.TheVariants as state
+use Rattle.shop_types.specs.declared.custody.LineState.{LineState}
+use Rattle.shop_types.specs.declared.custody.LineState.TheVariants as line
 use Rattle.shop_types.specs.declared.custody.Mark.{Mark}
 use Rattle.shop_types.specs.declared.custody.Place.{Place}
 use Rattle.shop_types.specs.declared.custody.Place.TheVariants as place
@@ -207,6 +211,16 @@ seen_request (request.OfficeLook ask) = machine.OfficeLook (seen_office_ask ask)
 
 abbrev pub seen_mark : Mark → books.Mark
 seen_mark mark = record { branch = mark.branch; copy = mark.copy }
+
+abbrev pub seen_state : CopyState → model.CopyState
+seen_state state.Here = model.Here
+seen_state state.Sent = model.Sent
+seen_state state.Scrapped = model.Scrapped
+
+abbrev pub seen_line_state : LineState → books.LineState
+seen_line_state line.UnderWay = books.UnderWay
+seen_line_state line.Arrived = books.Arrived
+seen_line_state line.Missing = books.Missing
 
 -- the film and the mark of a line's copy
 abbrev pub seen_parcel_line : ParcelLine → ℕ × books.Mark

@@ -25,3 +25,23 @@ pub enum Place {
     /// Scrapped, or missing where its consignment was received.
     Gone,
 }
+
+/// Where a branch's copy is, as its row says.
+#[derive(Clone, Copy)]
+pub enum CopyState {
+    /// In the branch, or rented out by it.
+    Here,
+    /// Sent to another branch.
+    Sent,
+    Scrapped,
+}
+
+/// What became of a line of a consignment.
+#[derive(Clone, Copy)]
+pub enum LineState {
+    /// The consignment isn't received yet.
+    UnderWay,
+    Arrived,
+    /// The addressee didn't find its copy in the consignment.
+    Missing,
+}

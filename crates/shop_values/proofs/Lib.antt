@@ -1,3 +1,4 @@
+pub mod AsciiTexts
 pub mod CalendarLemmas
 pub mod MomentLemmas
 pub mod NumberLemmas

@@ -1,6 +1,6 @@
 //! Rows of an answer as values.
 
-ghost use Rattle.std.specs.Prelude.{List, ◌≡◌, ◌≢◌, ◌<◌, ◌^◌, ℕ, IsUtf8, length, IfErr, IfSome, map, take, IfOk};
+ghost use Rattle.std.specs.Prelude.{List, ◌≡◌, ◌≢◌, ◌<◌, ◌^◌, ℕ, IsUtf8, Bool, length, IfErr, IfSome, map, take, IfOk};
 ghost use Rattle.std.specs.List.{AllByRecursion};
 ghost use Rattle.std.specs.Option.{option_to_list};
 ghost use Rattle.sqlite_value.specs.declared.value.Value.TheVariants.{Text, Blob};
@@ -103,6 +103,8 @@ pub fn number_at(row: &Row, at: usize) -> Result<u32, StoreFault>
 pub fn words_at(row: &Row, at: usize) -> Result<Words, StoreFault>
     ensures ok { IfOk result (λ w. column row.now at ≡ Text w) }
     ensures utf8 { IfOk result (λ w. IsUtf8 w) }
+    ensures failed { IfErr result (λ e. e ≡ Failed → (t : List ℕ) → IsUtf8 t → at < length row.now
+        → column row.now at ≢ Text t) }
 {
     match row.get(at) {
         Ok(text) => Ok(Words::new(text)),
@@ -113,6 +115,8 @@ pub fn words_at(row: &Row, at: usize) -> Result<Words, StoreFault>
 /// The truth value in the column: 0 or 1.
 pub fn flag_at(row: &Row, at: usize) -> Result<bool, StoreFault>
     ensures ok { IfOk result (λ b. column row.now at ≡ flag_value b) }
+    ensures failed { IfErr result (λ e. e ≡ Failed → (b : Bool) → at < length row.now
+        → column row.now at ≢ flag_value b) }
 {
     match number_at(row, at)? {
         0 => Ok(false),
@@ -124,6 +128,8 @@ pub fn flag_at(row: &Row, at: usize) -> Result<bool, StoreFault>
 /// The bytes in the column.
 pub fn bytes_at(row: &Row, at: usize) -> Result<Bytes, StoreFault>
     ensures ok { IfOk result (λ b. column row.now at ≡ Blob b) }
+    ensures failed { IfErr result (λ e. e ≡ Failed → (b : List ℕ) → at < length row.now
+        → column row.now at ≢ Blob b) }
 {
     match row.get(at) {
         Ok(bytes) => Ok(Bytes::new(bytes)),

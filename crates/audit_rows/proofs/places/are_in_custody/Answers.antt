@@ -4,7 +4,8 @@ use Rattle.std.specs.Str.{bytes_eq}
 use Rattle.shop_model.specs.Rows.{Row}
 use Rattle.shop_model.specs.Books.{BookCopy, Line}
 use Rattle.audit_rows.specs.Lists.{Key}
-use Rattle.audit_rows.specs.Seen.{seen_copy, seen_line, seen_mark}
+use Rattle.audit_rows.specs.Seen.{seen_copy, seen_line}
+use Rattle.shop_types.specs.Seen.{seen_mark}
 use Rattle.audit_rows.specs.Marked.{film_key, mark_key, made_keys, places_are_single, rows_placed, lines_placed}
 use Rattle.audit_rows.specs.declared.places.MarkedFilm.{MarkedFilm}
 use Rattle.audit_rows.proofs.MarkLemmas.{any_sorted, cut, cut_rows, rows_found, lines_found, from_checks, to_checks}

@@ -1,7 +1,8 @@
 use Rattle.std.proofs.Common.{◌≡◌, map, drop}
 use Rattle.std.specs.List.{list_any, list_all}
 use Rattle.std.specs.Str.{bytes_eq}
-use Rattle.audit_rows.specs.Seen.{seen_copy, seen_mark}
+use Rattle.audit_rows.specs.Seen.{seen_copy}
+use Rattle.shop_types.specs.Seen.{seen_mark}
 use Rattle.audit_rows.specs.Marked.{film_key}
 use Rattle.audit_rows.proofs.places.copies_among.Given as goal
 

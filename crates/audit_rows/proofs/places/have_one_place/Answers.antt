@@ -3,7 +3,8 @@ use Rattle.std.specs.List.{list_any, list_all}
 use Rattle.std.specs.Str.{bytes_eq}
 use Rattle.shop_model.specs.Links.{are_different}
 use Rattle.audit_rows.specs.Lists.{Key}
-use Rattle.audit_rows.specs.Seen.{seen_copy, seen_mark}
+use Rattle.audit_rows.specs.Seen.{seen_copy}
+use Rattle.shop_types.specs.Seen.{seen_mark}
 use Rattle.audit_rows.specs.Marked.{mark_key, made_keys}
 use Rattle.audit_rows.specs.declared.places.MarkRow.{MarkRow}
 use Rattle.audit_rows.specs.declared.places.MarkedFilm.{MarkedFilm}

@@ -1,5 +1,6 @@
 use Rattle.std.proofs.Common.{◌≡◌, ◌++◌, map, drop}
-use Rattle.audit_rows.specs.Seen.{seen_copy, seen_mark}
+use Rattle.audit_rows.specs.Seen.{seen_copy}
+use Rattle.shop_types.specs.Seen.{seen_mark}
 use Rattle.audit_rows.specs.Marked.{mark_key, made_keys}
 use Rattle.audit_rows.proofs.places.marks_made.Given as goal
 

@@ -29,7 +29,6 @@ returns-clause-read c =
       kept = record {
         found = c.in-Some.rows.items;
         are_rows = rw (c.as_slice.ensures.value, c.in-Some.is) at c.in_ok-rows.ensures.found;
-        ones = rw (c.as_slice.ensures.value, c.in-Some.is) at c.in_ok-rows.ensures.ones;
         same = IsPermutation-trans _ _ _ c.in_ok-office.ensures.same moved;
       };
       branches = all_moved (λ (x : CheckedKept). IsNumber x.branch) _ _ c.sort_rows-2.ensures.permutation c.in_ok-office.ensures.branches;

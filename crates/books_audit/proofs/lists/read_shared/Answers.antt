@@ -14,7 +14,6 @@ returns-clause-found g c =
     let low = c.if-rows-gt4294967295.false in record {
       found = c.in-Some.all.items;
       are_rows = rw c.in-Some.is at c.in_ok-all.ensures.found;
-      ones = rw c.in-Some.is at c.in_ok-all.ensures.ones;
       few = omega (arith, low);
       sorted = c.sort_places.new.rows.items;
       same = c.sort_places.ensures.permutation;

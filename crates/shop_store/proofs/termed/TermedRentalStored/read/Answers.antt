@@ -1,22 +1,8 @@
-use Rattle.std.proofs.Common.{◌≡◌, ◌∷◌, [], length, sym, ◌∙◌, arith}
-use Rattle.sql_rows.proofs.Wholes.{whole}
 use Rattle.shop_store.proofs.termed.TermedRentalStored.read.Goals as goal
 
-pub returns-clause-ok : goal.returns-clause-ok
-returns-clause-ok c =
-    let wide : length c.args.row.now ≡ 8 = omega (arith, c.column_count.ensures, c.if-column_count-ne8.false) in
-    (λ i.
-    sym c.in_ok-moment_at.ensures.ok i ∷ sym c.in_ok-row_number_at.ensures.ok i ∷ sym c.in_ok-row_number_at-2.ensures.ok i ∷ sym c.in_ok-moment_or_null_at.ensures.ok i ∷ sym c.in_ok-row_number_at-3.ensures.ok i ∷ sym c.in_ok-rate_at.ensures.ok i ∷ sym c.in_ok-period_at.ensures.ok i ∷ sym c.in_ok-amount_at.ensures.ok i ∷ [])
-    ∙ whole 8 c.args.row.now wide
-
 pub returns-clause-value : goal.returns-clause-value
-returns-clause-value c = (
-  record {
-    rented = c.in_ok-moment_at.ensures.value;
-    copy = c.in_ok-row_number_at.ensures.value;
-    customer = c.in_ok-row_number_at-2.ensures.value;
-    returned = c.in_ok-moment_or_null_at.ensures.value;
-    staff = c.in_ok-row_number_at-3.ensures.value;
-  },
-  record { rate = c.in_ok-rate_at.ensures.value; period = c.in_ok-period_at.ensures.value; replacement = c.in_ok-amount_at.ensures.value },
-)
+returns-clause-value c =
+    let fits = c.in_ok-rented.ensures.fit in (
+      record { rented = fits.0; copy = fits.1.0; customer = fits.1.1.0; returned = fits.1.1.1.0; staff = fits.1.1.1.1.0 },
+      record { rate = fits.1.1.1.1.1.0; period = fits.1.1.1.1.1.1.0; replacement = fits.1.1.1.1.1.1.1.0 },
+    )

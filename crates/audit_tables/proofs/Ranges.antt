@@ -1,0 +1,10 @@
+-- Numbers of rows, by their bounds.
+use Rattle.std.proofs.Common.{◌≤◌, ℕ, arith}
+use Rattle.std.proofs.lemmas.Bool.Decides.{nat_tests}
+use Rattle.shop_schema.specs.RowValues.{IsNumber}
+
+pub in_range : (n : ℕ) → IsNumber n → (1 ≤ n) × (n ≤ 4_294_967_295)
+in_range n h = (grind (arith, nat_tests), grind (arith, nat_tests))
+
+pub ranged : (n : ℕ) → (1 ≤ n) × (n ≤ 4_294_967_295) → IsNumber n
+ranged n (a, b) = grind (arith, nat_tests)

@@ -1,0 +1,37 @@
+-- Kept commands, each with its caller: which rows are of their table, and what is kept of them.
+use Rattle.std.specs.Prelude.{◌≡◌, ◌≢◌, ℕ, List}
+use Rattle.sqlite_value.specs.Order as sql
+use Rattle.shop_model.specs.Rows.{Owned}
+use Rattle.shop_model.specs.Shop.{Kept, OfficeKept}
+use Rattle.shop_schema.specs.Columns.{kept_columns, office_kept_columns}
+use Rattle.shop_schema.specs.RowValues.{IsKept, IsOfficeKept}
+use Rattle.audit_tables.specs.Forms.{IsCommandForm, IsOfficeForm}
+use Rattle.audit_tables.specs.Listed.{IsRowOf, FullOf}
+use Rattle.audit_tables.specs.declared.kept.CallerRow.{CallerRow}
+
+pub data AnyKept : Type 0 where
+  OfBranch : Owned Kept → AnyKept
+  OfOffice : OfficeKept → AnyKept
+
+abbrev pub any_columns : AnyKept → sql.Row
+any_columns (OfBranch row) = kept_columns row
+any_columns (OfOffice it) = office_kept_columns it
+
+abbrev pub AnyFits : AnyKept → Type 0
+AnyFits (OfBranch row) = IsKept row
+AnyFits (OfOffice it) = IsOfficeKept it
+
+abbrev pub caller_row : AnyKept → CallerRow
+caller_row (OfBranch row) = record { caller = row.owner; key = row.it.command.key }
+caller_row (OfOffice it) = record { caller = 0; key = it.command.key }
+
+abbrev pub IsOneKept : sql.Row → Type 0
+IsOneKept = IsRowOf any_columns AnyFits
+
+abbrev pub IsCallerRow : CallerRow → sql.Row → Type 0
+IsCallerRow = FullOf any_columns AnyFits caller_row
+
+-- the bytes are the form of a command of head office where the caller is 0, and else of a branch
+pub record HasForm (caller : ℕ) (form : List ℕ) : Type 0 where
+  pub office : caller ≡ 0 → IsOfficeForm form
+  pub branch : caller ≢ 0 → IsCommandForm form
