@@ -2,21 +2,24 @@
 ghost use Rattle.std.specs.Prelude.{◌≡◌, OnOk};
 
 use crate::fault::Fault;
-use crate::texts::put_reply;
+use crate::texts::{number, put_bytes, put_number, put_reply, says_more};
 use std::alloc::Global;
 use std::io::{self, Write};
 use std::marker::Model;
 use std::mem;
 
-/// What was sent, told or written; what was written to standard error; and how it ended: `closed 1`, or a program's
-/// status.
+/// What was sent, told or written; what was written to standard error; and how it ended: `closed 1`, or `status 2` of a
+/// program. Also what is wrong first.
 #[derive(Drop)]
 pub struct Texts {
     pub out: Vec<u8>,
     pub err: Vec<u8>,
-    pub end: Vec<u8>,
+    end: Vec<u8>,
+    /// How many replies stand in `out`, where they are put there one by one.
+    replies: u32,
     /// How many bytes a connection's writer has room for in `out`.
-    pub room: usize,
+    room: usize,
+    fault: Fault,
 }
 
 /// Its texts: so those who hold one aren't checked over its parts.
@@ -34,27 +37,28 @@ impl Texts {
             out: Vec::new(alloc),
             err: Vec::new(alloc),
             end: Vec::new(alloc),
+            replies: 0,
             room: usize::MAX,
+            fault: Fault::Nothing,
         }
     }
 
+    /// Nothing is told, and a connection's writer has room for so much. What is wrong stays.
     pub fn clear(&mut self, room: usize) {
         self.out.clear();
         self.err.clear();
         self.end.clear();
+        self.replies = 0;
         self.room = room;
     }
 
-    pub fn ends(&mut self, word: &str, replies: u32) -> Result<(), Fault> {
+    /// It ended with that word, and so many replies or that status.
+    pub fn ends(&mut self, word: &str, count: u32) {
         self.end.clear();
-        write!(&mut self.end, "{word} {replies}")?;
-        Ok(())
-    }
-
-    /// A program ended with that status.
-    pub fn ends_with(&mut self, status: u8) -> Result<(), Fault> {
-        write!(&mut self.end, "{status}")?;
-        Ok(())
+        let is_put = self.end.extend_from_slice(word.as_bytes()).is_ok()
+            && self.end.extend_from_slice(b" ").is_ok()
+            && put_number(&mut self.end, count as usize);
+        self.needs(is_put, "no memory");
     }
 
     pub fn out(&self) -> &[u8]
@@ -75,43 +79,63 @@ impl Texts {
         self.err.as_slice()
     }
 
-    pub fn put_out(&mut self, bytes: &[u8]) -> Result<(), Fault> {
-        self.out.extend_from_slice(bytes)?;
-        Ok(())
+    /// Puts what was sent or written (`out`), or what was written to standard error (`err`); or it ended so, whatever
+    /// was said of that before.
+    pub fn puts(&mut self, word: &str, bytes: &[u8]) {
+        let put = match word {
+            "out" => self.out.extend_from_slice(bytes),
+            "err" => self.err.extend_from_slice(bytes),
+            _ => {
+                self.end.clear();
+                self.end.extend_from_slice(bytes)
+            }
+        };
+        self.needs(put.is_ok(), "no memory");
     }
 
-    pub fn put_end(&mut self, bytes: &[u8]) -> Result<(), Fault> {
-        self.end.extend_from_slice(bytes)?;
-        Ok(())
-    }
-
-    /// It ended so, whatever was said of that before.
-    fn put_end_alone(&mut self, bytes: &[u8]) -> Result<(), Fault> {
-        self.end.clear();
-        self.put_end(bytes)
-    }
-
-    pub fn put_err(&mut self, bytes: &[u8]) -> Result<(), Fault> {
-        self.err.extend_from_slice(bytes)?;
-        Ok(())
-    }
-
-    /// Puts a reply, of which there is room for so much.
-    fn replies(&mut self, status: &str, body: &[u8]) -> Result<(), Fault> {
-        put_reply(&mut self.out, status, body)?;
+    /// One reply more, of which there is room for so much.
+    fn replies(&mut self, status: &str, body: &[u8]) {
+        self.replies = self.replies.saturating_add(1);
+        let replies = self.replies;
+        let is_put = put_reply(&mut self.out, status, body);
         self.out.truncate(self.room);
-        Ok(())
-    }
-
-    /// What was sent, and how it ended, is the other's, and the other's is this one's.
-    pub fn swap_told(&mut self, other: &mut Texts) {
-        mem::swap(&mut self.out, &mut other.out);
-        mem::swap(&mut self.end, &mut other.end);
+        self.needs(is_put, "this is no status");
+        self.ends("closed", replies);
     }
 
     /// What was sent goes there, and what stood there comes here.
     pub fn swap_out(&mut self, out: &mut Vec<u8>) {
         mem::swap(&mut self.out, out);
+    }
+
+    pub fn is_well(&self) -> bool {
+        matches!(self.fault, Fault::Nothing)
+    }
+
+    /// What is wrong first.
+    pub fn fault(&self) -> Fault {
+        self.fault
+    }
+
+    /// That is wrong, if nothing was before.
+    pub fn fails(&mut self, fault: Fault) {
+        if let Fault::Nothing = self.fault {
+            self.fault = fault;
+        }
+    }
+
+    /// The line can't be played unless that holds.
+    pub fn needs(&mut self, holds: bool, text: &'static str) {
+        if !holds {
+            self.fails(Fault::Line(text));
+        }
+    }
+
+    /// The files aren't opened, for the fault of that name, or are where there is none.
+    pub fn opens(&mut self, name: &'static str) {
+        if !name.is_empty() {
+            self.fails(Fault::Opening(name));
+        }
     }
 }
 
@@ -131,8 +155,10 @@ impl Write for Texts {
 /// What was asked.
 #[derive(Clone, Copy)]
 pub enum Kind {
-    /// Nothing, or what takes no further lines.
+    /// Nothing is compared.
     Nothing,
+    /// What takes no further lines.
+    Audit,
     Connection,
     Program,
 }
@@ -143,8 +169,8 @@ pub struct Asked {
     pub kind: Kind,
     pub told: Texts,
     pub wanted: Texts,
-    /// How many replies are wanted.
-    replies: u32,
+    /// How many exchanges the row has had.
+    pub count: u32,
 }
 
 impl Asked {
@@ -153,7 +179,7 @@ impl Asked {
             kind: Kind::Nothing,
             told: Texts::new(alloc),
             wanted: Texts::new(alloc),
-            replies: 0,
+            count: 0,
         }
     }
 
@@ -162,39 +188,40 @@ impl Asked {
         self.kind = kind;
         self.told.clear(room);
         self.wanted.clear(room);
-        self.replies = 0;
+        self.count = self.count.saturating_add(1);
     }
 
-    /// One reply more is wanted of the connection, of which the writer has room for so much.
-    fn wants_reply(&mut self, status: &str, body: &[u8]) -> Result<(), Fault> {
-        self.wanted.replies(status, body)?;
-        self.replies = self.replies.saturating_add(1);
-        self.wanted.ends("closed", self.replies)
-    }
-
-    /// Status 2 is wanted, and some text on standard error.
-    fn wants_usage(&mut self, line: &str) -> Result<(), Fault> {
-        if !line.is_empty() {
-            return Err(Fault::Line("the usage's text isn't compared"));
+    /// A line says more of what is wanted: of a connection a reply, whose status is the word, or `end`; and of a
+    /// program `out`, `err`, `status`, or `usage`, by which status 2 is wanted, and some text on standard error.
+    pub fn wants(&mut self, alloc: Global, word: &str, line: &str) {
+        let kind = self.kind;
+        let told = &mut self.told;
+        let wanted = &mut self.wanted;
+        let mut bytes = Vec::new(alloc);
+        put_bytes(alloc, line, &mut bytes, told);
+        match (kind, word) {
+            (Kind::Nothing | Kind::Audit, _) => told.needs(false, "a reply has no request"),
+            (Kind::Connection, "end") | (Kind::Program, "out" | "err") => {
+                wanted.puts(word, bytes.as_slice());
+            }
+            (Kind::Connection, _) => wanted.replies(word, bytes.as_slice()),
+            (Kind::Program, "status") => {
+                told.needs(wanted.end().is_empty(), "two lines say the status");
+                let status = number(line, told);
+                wanted.ends("status", status);
+            }
+            (Kind::Program, _) => {
+                told.needs(line.is_empty(), "the usage's text isn't compared");
+                told.needs(wanted.end().is_empty(), "two lines say the status");
+                wanted.ends("status", 2);
+                wanted.puts("err", told.err());
+                if told.err().is_empty() {
+                    wanted.puts("err", b"?");
+                }
+            }
         }
-        self.wanted.put_end(b"2")?;
-        if self.told.err().is_empty() {
-            return self.wanted.put_err(b"?");
-        }
-        self.wanted.put_err(self.told.err())
-    }
-
-    /// A line says more of what is wanted.
-    pub fn wants(&mut self, word: &str, line: &str, bytes: &[u8]) -> Result<(), Fault> {
-        match (self.kind, word) {
-            (Kind::Nothing, _) => Err(Fault::Line("a reply has no request")),
-            (Kind::Connection, "end") => self.wanted.put_end_alone(bytes),
-            (Kind::Connection, _) => self.wants_reply(word, bytes),
-            (_, "out") => self.wanted.put_out(bytes),
-            (_, "err") => self.wanted.put_err(bytes),
-            (_, "status") => self.wanted.put_end(bytes),
-            _ => self.wants_usage(line),
-        }
+        let fault = wanted.fault();
+        told.fails(fault);
     }
 
     /// Whether what was told is what is wanted: all bytes of it.
@@ -213,6 +240,22 @@ impl Asked {
             return Err(Fault::Err);
         }
         Ok(())
+    }
+
+    /// Compares what was asked last, where nothing is wrong and a line with this first word says no more of it: where
+    /// it differs, that is wrong.
+    pub fn compare(&mut self, word: &str) {
+        let kind = self.kind;
+        if matches!(kind, Kind::Nothing) || says_more(word) || !self.told.is_well() {
+            return;
+        }
+        if matches!(kind, Kind::Connection) && self.wanted.end().is_empty() {
+            self.told.needs(false, "a request has no reply");
+        }
+        self.kind = Kind::Nothing;
+        if let Err(fault) = self.settle() {
+            self.told.fails(fault);
+        }
     }
 
     /// The place of the first byte that differs, from 1 on.

@@ -1,9 +1,10 @@
 //! Files of rows, one after another.
 use crate::asked::Asked;
-use crate::fault::{Fault, number};
+use crate::fault::Fault;
 use crate::row::Row;
 use crate::stage::Stage;
 use std::fs::read_to_string;
+use std::marker::Model;
 use std::process::ExitCode;
 
 /// What came of rows.
@@ -14,11 +15,20 @@ struct Sum {
     wrong: u32,
     exchanges: u32,
     is_well: bool,
-    /// The names of all rows, each between the ends of two lines.
+    /// The names of all rows, a line each.
     seen: String,
 }
 
-/// The file that is played, and its row, and where and why that stops.
+/// As of names.
+impl Model for Sum {
+    ghost use Rattle.std.specs.Prelude.{⊤};
+
+    ghost Value = { ⊤ };
+
+    ghost view = { λ _. tt };
+}
+
+/// The file that is played, and its row.
 #[derive(Clone, Copy)]
 struct Playing<'t> {
     path: &'t str,
@@ -27,8 +37,6 @@ struct Playing<'t> {
     line: usize,
     name: &'t str,
     is_wrong: bool,
-    at: usize,
-    played: Result<(), Fault>,
     /// How often rounds are still to be played, the line that begins them, and what stands behind it.
     left: u32,
     begun: usize,
@@ -36,118 +44,77 @@ struct Playing<'t> {
 }
 
 /// Says where and why a row stops, with what was told where that is it.
-fn complain(rt: &HostRuntime, asked: &Asked, playing: &Playing<'_>, fault: Fault) {
-    let (path, at, name) = (playing.path, playing.at, playing.name);
-    let _ = if playing.is_wrong {
-        print!(rt; "{path}:{at}: {name} is wrong: ")
-    } else {
-        print!(rt; "{path}:{at}: ")
-    };
-    let told = match fault {
-        Fault::Out => asked.told.out(),
-        Fault::Err => asked.told.err(),
-        _ => asked.told.end(),
+fn complain(rt: &HostRuntime, asked: &Asked, playing: &Playing<'_>, line: usize) {
+    let (path, name) = (playing.path, playing.name);
+    let fault = asked.told.fault();
+    let (what, told) = match fault {
+        Fault::Out => ("byte ", asked.told.out()),
+        Fault::Err => ("err is ", asked.told.err()),
+        Fault::End => ("the end is ", asked.told.end()),
+        Fault::Opening(name) => ("the files aren't opened: ", name.as_bytes()),
+        Fault::Line(text) => ("", text.as_bytes()),
+        Fault::Nothing => ("", b"nothing".as_slice()),
     };
     let told = str::from_utf8(told).unwrap_or("no text");
+    let _ = if playing.is_wrong {
+        print!(rt; "{path}:{line}: {name} is wrong: {what}")
+    } else {
+        print!(rt; "{path}:{line}: {what}")
+    };
     let _ = match fault {
-        Fault::Line(text) => println!(rt; "{text}"),
-        Fault::Opening(name) => println!(rt; "the files aren't opened: {name}"),
-        Fault::End => println!(rt; "the end is {told}"),
-        Fault::Err => println!(rt; "err is {told:?}"),
-        Fault::Out => println!(rt; "byte {} differs in {told:?}", asked.difference()),
+        Fault::Out => println!(rt; "{} differs in {told:?}", asked.difference()),
+        Fault::Err => println!(rt; "{told:?}"),
+        _ => println!(rt; "{}", told.trim_start_matches("status ")),
     };
 }
 
-/// Says what came of the row that was played.
-fn tell<S: Stage>(
-    rt: &HostRuntime,
-    row: &mut Row<'_, S>,
-    playing: &mut Playing<'_>,
-    sum: &mut Sum,
-) {
-    if playing.name.is_empty() && playing.played.is_ok() {
-        return;
-    }
-    if playing.left > 0 && playing.played.is_ok() {
-        playing.at = playing.begun;
-        playing.played = Err(Fault::Line("the rounds have no end"));
-    }
-    if playing.played.is_ok() {
-        playing.played = row.ended();
-    }
-    let name = playing.name;
-    match playing.played {
-        Ok(()) if playing.is_wrong => {
-            sum.is_well = false;
-            complain(
-                rt,
-                &row.asked,
-                playing,
-                Fault::Line("the row is to be wrong"),
-            );
+impl Sum {
+    /// Sees the name of a row, which no other row may have.
+    fn see(&mut self, name: &str, asked: &mut Asked) {
+        let told = &mut asked.told;
+        let is_name = !name.is_empty() && !name.contains(' ');
+        told.needs(is_name, "this is no row's name");
+        for line in self.seen.lines() {
+            told.needs(line != name, "a row has this name already");
         }
-        Ok(()) => {
-            let count = row.count;
-            sum.rows = sum.rows.saturating_add(1);
-            sum.exchanges = sum.exchanges.saturating_add(count);
-            let _ = println!(rt; "{name}: {count}");
-        }
-        Err(fault) => {
-            if playing.is_wrong {
-                sum.wrong = sum.wrong.saturating_add(1);
-            } else {
-                sum.is_well = false;
+        let is_put = self.seen.push_str(name).is_ok() && self.seen.push('\n').is_ok();
+        told.needs(is_put, "no memory");
+    }
+
+    /// Counts the row that ended, and says what came of it.
+    fn add(&mut self, rt: &HostRuntime, asked: &mut Asked, playing: &Playing<'_>, line: usize) {
+        let (name, count) = (playing.name, asked.count);
+        match (asked.told.is_well(), playing.is_wrong) {
+            (true, false) => {
+                self.rows = self.rows.saturating_add(1);
+                self.exchanges = self.exchanges.saturating_add(count);
+                let _ = println!(rt; "{name}: {count}");
+                return;
             }
-            complain(rt, &row.asked, playing, fault);
+            (false, true) => self.wrong = self.wrong.saturating_add(1),
+            _ => {
+                self.is_well = false;
+                asked.told.needs(false, "the row is to be wrong");
+            }
+        }
+        complain(rt, asked, playing, line);
+    }
+}
+
+/// Ends the row that was played, if there is one, and says what came of it. Behind `rounds` without `done` it is wrong.
+fn end<S: Stage>(rt: &HostRuntime, row: &mut Row<'_, S>, playing: &Playing<'_>, sum: &mut Sum) {
+    let mut line = row.at;
+    if row.asked.told.is_well() {
+        if playing.name.is_empty() {
+            return;
+        }
+        if playing.left > 0 {
+            line = playing.begun;
+            row.asked.told.needs(false, "the rounds have no end");
         }
     }
-}
-
-/// Sees the name of a row, which no other row may have.
-fn see(rt: &HostRuntime, seen: &mut String, name: &str) -> Result<(), Fault> {
-    if name.is_empty() || name.contains(' ') {
-        return Err(Fault::Line("this is no row's name"));
-    }
-    let line = format!(in rt.alloc(); "\n{name}\n")?;
-    if seen.contains(line.as_str()) {
-        return Err(Fault::Line("a row has this name already"));
-    }
-    seen.push_str(line.as_str())?;
-    Ok(())
-}
-
-/// Another row begins, whose name stands behind this word.
-fn begin<'t, S: Stage>(
-    rt: &HostRuntime,
-    row: &mut Row<'_, S>,
-    playing: &mut Playing<'t>,
-    sum: &mut Sum,
-    word: &str,
-    name: &'t str,
-) {
-    if playing.name.is_empty() {
-        row.keep_names();
-    }
-    playing.name = name;
-    playing.is_wrong = word == "wrong";
-    playing.at = playing.line;
-    playing.left = 0;
-    playing.played = see(rt, &mut sum.seen, name);
-    if playing.played.is_ok() {
-        playing.played = row.clear();
-    }
-}
-
-/// Plays a line of the row, which goes on to the first fault. What was asked before is compared first, where the line
-/// says no more of it.
-fn play_line<S: Stage>(row: &mut Row<'_, S>, playing: &mut Playing<'_>, word: &str, rest: &str) {
-    if playing.played.is_ok() {
-        playing.played = row.settles(word);
-    }
-    if playing.played.is_ok() {
-        playing.at = playing.line;
-        playing.played = row.plays(word, rest);
-    }
+    row.end();
+    sum.add(rt, &mut row.asked, playing, line);
 }
 
 /// Plays the next line, if there is one.
@@ -166,11 +133,16 @@ fn play_next<S: Stage>(
     match word {
         _ if line.is_empty() || line.starts_with('#') => {}
         "row" | "wrong" => {
-            tell(rt, row, playing, sum);
-            begin(rt, row, playing, sum, word, rest);
+            end(rt, row, playing, sum);
+            playing.name = rest;
+            playing.is_wrong = word == "wrong";
+            playing.left = 0;
+            row.clear();
+            row.at = playing.line;
+            sum.see(rest, &mut row.asked);
         }
         "rounds" if playing.left == 0 => {
-            playing.left = number(rest).unwrap_or(0);
+            playing.left = rest.parse().unwrap_or(0);
             playing.begun = playing.line;
             playing.rounds = behind;
         }
@@ -182,9 +154,9 @@ fn play_next<S: Stage>(
             }
         }
         _ if playing.name.is_empty() && word != "let" => {
-            playing.played = Err(Fault::Line("there is no row yet"));
+            row.asked.told.needs(false, "there is no row yet");
         }
-        _ => play_line(row, playing, word, rest),
+        _ => row.play(playing.line, word, rest),
     }
     true
 }
@@ -203,8 +175,6 @@ fn play_lines<S: Stage>(
         line: 0,
         name: "",
         is_wrong: false,
-        at: 0,
-        played: Ok(()),
         left: 0,
         begun: 0,
         rounds: "",
@@ -215,19 +185,8 @@ fn play_lines<S: Stage>(
             break;
         }
     }
-    tell(rt, row, &mut playing, sum);
-    let _ = row.clear();
-}
-
-/// Plays a file, if it is read.
-fn play<S: Stage>(rt: &HostRuntime, row: &mut Row<'_, S>, path: &str, sum: &mut Sum) {
-    match read_to_string(rt, path) {
-        Ok(text) => play_lines(rt, row, path, text.as_str(), sum),
-        Err(_) => {
-            sum.is_well = false;
-            let _ = println!(rt; "{path}:0: the file isn't read");
-        }
-    }
+    end(rt, row, &playing, sum);
+    row.clear();
 }
 
 /// Plays the files in this order, and tells what came of each row and of all.
@@ -241,12 +200,16 @@ pub fn play_all<S: Stage>(rt: &HostRuntime, stage: S, paths: &[String]) -> ExitC
         seen: String::new(rt.alloc()),
     };
     for path in paths {
-        play(rt, &mut row, path.as_str(), &mut sum);
+        let path = path.as_str();
+        match read_to_string(rt, path) {
+            Ok(text) => play_lines(rt, &mut row, path, text.as_str(), &mut sum),
+            Err(_) => {
+                sum.is_well = false;
+                let _ = println!(rt; "{path}:0: the file isn't read");
+            }
+        }
     }
-    drop(row);
-    let (rows, exchanges, wrong) = (sum.rows, sum.exchanges, sum.wrong);
+    let (rows, exchanges, wrong, is_well) = (sum.rows, sum.exchanges, sum.wrong, sum.is_well);
     let told = println!(rt; "{rows} rows, {exchanges} exchanges, {wrong} rows are wrong");
-    let is_well = sum.is_well && told.is_ok();
-    drop(sum);
-    ExitCode::from(if is_well { 0 } else { 1 })
+    ExitCode::from(if is_well && told.is_ok() { 0 } else { 1 })
 }

@@ -6,6 +6,8 @@ mod asked;
 mod chain;
 mod fault;
 mod files;
+mod names;
+mod next;
 mod row;
 mod stage;
 mod stops;
@@ -13,7 +15,6 @@ mod texts;
 mod tills;
 
 pub use asked::Texts;
-pub use fault::Fault;
 pub use files::play_all;
-pub use stage::{Calls, Deed, Image, Left, MOST_CALLS, NEVER, Opening, Pieces, Stage};
+pub use stage::{Calls, Come, Deed, How, Image, MOST_CALLS, NEVER, Opening, Pieces, Stage};
 pub use tills::Tills;

@@ -1,58 +1,61 @@
 //! What rows are played on: the product's chain and its program, as few calls as rows need.
 use crate::asked::Texts;
-use crate::fault::Fault;
 use crate::tills::Tills;
 use std::alloc::Global;
 use std::io::{self, ErrorKind, Read};
 use std::marker::Model;
 use std::mem;
-use std::net::TcpListener;
-use std::time::Duration;
 
-/// How the next requests come to the chain.
+/// How requests come, and are answered.
 #[derive(Clone, Copy)]
-pub enum Way {
-    /// As bytes.
-    Bytes,
-    /// As values, with their tokens.
-    Values,
-    /// As values of that branch.
-    Branch(u32),
-    /// As values, before a stop at each call of the disks and behind it.
-    Stopped,
+pub enum Come {
+    /// As bytes of a connection, which is served alone.
+    Alone,
+    /// As bytes of a connection, which is served by turns that answer so many requests each.
+    ByTurns(u32),
+    /// As values: with their tokens, or as those of that branch.
+    AsValues(Option<u32>),
 }
 
-/// How the bytes of the next connection come, how many requests it may have, and how many bytes of replies there is
-/// room for.
+/// How the bytes of a connection come, how many requests it may have, and how many bytes of replies there is room for.
 #[derive(Clone, Copy)]
 pub struct How {
-    pub way: Way,
-    pub pieces: usize,
-    pub cut: usize,
+    pub come: Come,
+    pub(crate) pieces: usize,
+    pub(crate) cut: usize,
     /// Whether the reader fails where its input is cut.
-    pub breaks: bool,
+    pub(crate) breaks: bool,
+    /// How many requests the connection may have.
     pub most: u32,
     pub room: usize,
-    /// How many requests are answered in a turn, where the connection is served by turns.
-    pub turns: Option<u32>,
 }
 
-pub const WHOLE: How = How {
-    way: Way::Bytes,
+pub(crate) const WHOLE: How = How {
+    come: Come::Alone,
     pieces: usize::MAX,
     cut: usize::MAX,
     breaks: false,
     most: 1000,
     room: usize::MAX,
-    turns: None,
 };
 
 /// Gives its bytes a few at a time, and then ends or fails.
 #[derive(Drop)]
 pub struct Pieces<'b> {
-    pub bytes: &'b [u8],
-    pub most: usize,
-    pub breaks: bool,
+    bytes: &'b [u8],
+    most: usize,
+    breaks: bool,
+}
+
+impl<'b> Pieces<'b> {
+    /// The bytes, as they come.
+    pub fn new(bytes: &'b [u8], how: &How) -> Pieces<'b> {
+        Pieces {
+            bytes: &bytes[..how.cut.min(bytes.len())],
+            most: how.pieces,
+            breaks: how.breaks,
+        }
+    }
 }
 
 impl Read for Pieces<'_> {
@@ -67,14 +70,16 @@ impl Read for Pieces<'_> {
     }
 }
 
-/// What the files of a chain hold.
+/// What the files of a chain hold, and what was put before that: what a closed chain left, and what a crash leaves of it.
 #[derive(Drop)]
 pub struct Image {
     log: Vec<u8>,
     db: Vec<u8>,
+    log_before: Vec<u8>,
+    db_before: Vec<u8>,
 }
 
-/// Nothing is said of it: so those who hold one aren't checked over its parts.
+/// As of names.
 impl Model for Image {
     ghost use Rattle.std.specs.Prelude.{⊤};
 
@@ -89,6 +94,8 @@ impl Image {
         Image {
             log: Vec::new(alloc),
             db: Vec::new(alloc),
+            log_before: Vec::new(alloc),
+            db_before: Vec::new(alloc),
         }
     }
 
@@ -100,29 +107,31 @@ impl Image {
         self.db.as_slice()
     }
 
-    /// Nothing is in the files.
-    pub fn clear(&mut self) {
-        self.log.clear();
-        self.db.clear();
+    /// What was put before is what the files hold, and the other way round.
+    pub fn turn(&mut self) {
+        mem::swap(&mut self.log, &mut self.log_before);
+        mem::swap(&mut self.db, &mut self.db_before);
     }
 
     /// Has the files hold these bytes.
-    pub fn put(&mut self, log: &[u8], db: &[u8]) -> Result<(), Fault> {
-        self.clear();
-        self.log.extend_from_slice(log)?;
-        self.db.extend_from_slice(db)?;
-        Ok(())
+    pub fn put(&mut self, log: &[u8], db: &[u8], told: &mut Texts) {
+        self.turn();
+        self.log.clear();
+        self.db.clear();
+        let is_put = self.log.extend_from_slice(log).is_ok()
+            && self.db.extend_from_slice(db).is_ok();
+        told.needs(is_put, "no memory");
     }
 
     /// Has the database's file hold that byte at the place, and gives the one that stood there.
-    pub fn swap_byte(&mut self, place: usize, byte: u8) -> u8 {
+    pub(crate) fn swap_byte(&mut self, place: usize, byte: u8) -> u8 {
         match self.db.get_mut(place) {
             Some(it) => mem::replace(it, byte),
             None => byte,
         }
     }
 
-    pub fn is_same(&self, other: &Image) -> bool {
+    pub(crate) fn is_same(&self, other: &Image) -> bool {
         self.log.as_slice() == other.log.as_slice() && self.db.as_slice() == other.db.as_slice()
     }
 }
@@ -144,77 +153,10 @@ pub const NEVER: Calls = Calls {
 pub const MOST_CALLS: u64 = 4000;
 
 /// The disks fail behind more calls than are made.
-pub const MANY: Calls = Calls {
+pub(crate) const MANY: Calls = Calls {
     log: MOST_CALLS,
     db: MOST_CALLS,
 };
-
-/// What a closed chain left.
-#[derive(Drop)]
-pub struct Left {
-    files: Image,
-    /// What a crash of the disks leaves of it.
-    crashed: Image,
-    /// How many calls were made, where the disks were to fail behind `MANY`.
-    made: Calls,
-}
-
-/// As of what files hold.
-impl Model for Left {
-    ghost use Rattle.std.specs.Prelude.{⊤};
-
-    ghost Value = { ⊤ };
-
-    ghost view = { λ _. tt };
-}
-
-impl Left {
-    /// What the files hold, behind a crash or without one.
-    pub fn image(&self, is_crash: bool) -> &Image {
-        if is_crash { &self.crashed } else { &self.files }
-    }
-
-    pub fn new(alloc: Global) -> Left {
-        Left {
-            files: Image::new(alloc),
-            crashed: Image::new(alloc),
-            made: NEVER,
-        }
-    }
-
-    pub fn files(&self) -> &Image {
-        &self.files
-    }
-
-    /// Nothing is in the files.
-    pub fn clear(&mut self) {
-        self.files.clear();
-    }
-
-    /// Has the database's file hold that byte at the place, and gives the one that stood there.
-    pub fn swap_byte(&mut self, place: usize, byte: u8) -> u8 {
-        self.files.swap_byte(place, byte)
-    }
-
-    /// Has the files hold these bytes.
-    pub fn put(&mut self, log: &[u8], db: &[u8]) -> Result<(), Fault> {
-        self.files.put(log, db)
-    }
-
-    pub fn made(&self) -> Calls {
-        self.made
-    }
-
-    /// So many calls were made.
-    pub fn makes(&mut self, made: Calls) {
-        self.made = made;
-    }
-
-    /// A crash leaves these bytes.
-    pub fn crashes(&mut self, log: &[u8], db: &[u8]) -> Result<(), Fault> {
-        self.crashed.put(log, db)
-    }
-}
 
 /// How a chain comes to be in files.
 #[derive(Clone, Copy)]
@@ -248,64 +190,40 @@ pub enum Deed<'t> {
     Custody,
 }
 
-/// The chain that rows talk to, one at a time and in two files on disks in memory, and the program that they run.
+/// The chain that rows talk to, one at a time and in two files on disks in memory; and the program that they run. What
+/// can't be done is told as what is wrong.
 pub trait Stage: Drop {
-    /// Has a chain in copies of the files, on disks that fail behind so many calls. Or the name of the fault by which
-    /// there is none: then `close` gives what is left of the files.
-    fn open(
-        &mut self,
-        opening: Opening,
-        files: &Image,
-        calls: Calls,
-    ) -> Result<Option<&'static str>, Fault>;
+    /// Has a chain in copies of the files, on disks that fail behind so many calls: the name is empty. Or the name of
+    /// the fault by which there is none.
+    fn open(&mut self, opening: Opening, files: &Image, calls: Calls) -> &'static str;
 
-    /// Closes the chain, if there is one.
-    fn close(&mut self, left: &mut Left) -> Result<(), Fault>;
+    /// Closes the chain, if there is one, and puts what is left of its files, or of those in which there is none; and
+    /// before that, so that `turn` gives it, what a crash leaves of them. How many calls were made, where the disks
+    /// were to fail behind `MOST_CALLS`.
+    fn close(&mut self, files: &mut Image, told: &mut Texts) -> Calls;
 
-    /// Serves a connection that may have so many requests, alone or by turns: what it is sent is told, and how it ends.
-    fn serve(
-        &mut self,
-        pieces: &mut Pieces<'_>,
-        told: &mut Texts,
-        most: u32,
-        turns: Option<u32>,
-    ) -> Result<(), Fault>;
+    /// Serves a connection to which these bytes come so, or has their requests read and answered as values: what is
+    /// sent back is all that is told, and how it ends.
+    fn serve(&mut self, input: &[u8], how: &How, told: &mut Texts);
 
-    /// Serves so many tills side by side, and tells the status.
-    fn listen(
-        &mut self,
-        tills: &Tills<'_>,
-        listener: &TcpListener,
-        comers: u32,
-        patience: Duration,
-    ) -> Result<u8, Fault>;
-
-    /// Serves so many connections side by side at a port of its choice, as the program does, and tells the status.
-    fn serve_port(&mut self, tills: &Tills<'_>, comers: u32) -> Result<u8, Fault>;
+    /// Serves so many tills side by side, each waited for so many milliseconds, or else at a port of its choice, as
+    /// the program does: the status.
+    fn listen(&mut self, tills: &Tills<'_>, comers: u32, millis: Option<u32>) -> u8;
 
     /// Of how many films the chain knows what they are.
     fn known_films(&self) -> usize;
 
     /// Does that with the tables in the files. What is said of them is told.
-    fn tables(&mut self, deed: Deed<'_>, left: &mut Left, told: &mut Texts) -> Result<(), Fault>;
+    fn tables(alloc: Global, deed: Deed<'_>, files: &mut Image, told: &mut Texts);
 
-    /// Has the requests read, and put to the chain as values: with their tokens, or as those of that branch. The
-    /// replies are told, and how many there are.
-    fn answer(&mut self, input: &[u8], branch: Option<u32>, told: &mut Texts) -> Result<(), Fault>;
-
-    /// The same of a chain over copies of the files, whose disks fail behind so many calls: the replies before it is
-    /// stopped are told in `out`, and those to the same requests behind that in `err`. Whether it is opened.
-    fn resume(
-        &mut self,
-        input: &[u8],
-        files: &Image,
-        calls: Calls,
-        told: &mut Texts,
-    ) -> Result<bool, Fault>;
+    /// Has the requests read, and put as values to a chain over copies of the files, whose disks fail behind so many
+    /// calls: the replies before it is stopped are told in `out`, and those to the same requests behind that in `err`.
+    /// Whether it is opened.
+    fn resume(alloc: Global, input: &[u8], files: &Image, calls: Calls, told: &mut Texts) -> bool;
 
     /// Makes the calls of that name, which no request makes.
-    fn call(&mut self, name: &str) -> Result<(), Fault>;
+    fn call(alloc: Global, name: &str, told: &mut Texts);
 
-    /// Runs the program with these words and what stands on standard input, and tells the status.
-    fn run(&mut self, words: &[String], input: &[u8], told: &mut Texts) -> u8;
+    /// Runs the program with these words and what stands on standard input: the status.
+    fn run(rt: &HostRuntime, words: &[String], input: &[u8], told: &mut Texts) -> u8;
 }

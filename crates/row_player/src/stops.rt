@@ -1,9 +1,8 @@
-//! Connections, openings, migrations and the making of a chain, stopped at each call of the disks in turn; and a
-//! changed byte.
+//! Connections, openings, migrations and the making of a chain, stopped at each call of the disks in turn, in copies of
+//! a chain's files; and a changed byte.
 use crate::asked::Texts;
-use crate::chain::{Chain, opened, send};
-use crate::fault::Fault;
-use crate::stage::{Calls, Deed, MANY, MOST_CALLS, NEVER, Opening, Stage, WHOLE};
+use crate::stage::{Calls, Image, MANY, MOST_CALLS, NEVER, Opening, Stage, WHOLE};
+use std::alloc::Global;
 
 /// Head office asks for the audit.
 const AUDIT: &[u8] =
@@ -21,12 +20,16 @@ const NEW_AUDIT: &[u8] =
 const FAILED: &str =
     "HTTP/1.1 503 Service Unavailable\r\ncontent-type: application/json\r\ncontent-length: 26\r\n\r\n{\"refused\":\"store_failed\"}";
 
-/// What is stopped, and what is sent behind the stop, to a connection before it too.
+/// What is stopped.
 #[derive(Clone, Copy)]
 struct Stopped<'t> {
     opening: Opening,
+    /// Whether a connection is stopped, and not the opening.
     is_connection: bool,
+    /// What is sent, to a connection before the stop too.
     input: &'t [u8],
+    /// What is sent back where nothing is stopped.
+    wanted: &'t [u8],
 }
 
 /// The disk of one file fails behind so many calls, and the other never.
@@ -41,205 +44,218 @@ fn behind(is_log: bool, calls: u64) -> Calls {
     }
 }
 
-/// Whether the replies before a stop, in `out`, are the first of those behind it, in `err`, but for those at the end
-/// by which the store has failed.
-fn are_first(told: &Texts) -> bool {
-    let before = str::from_utf8(told.out()).unwrap_or("no text");
-    let behind = str::from_utf8(told.err()).unwrap_or("");
-    behind.starts_with(before.trim_end_matches(FAILED))
+/// Has a chain in copies of the files, which is sent that, and closes it: how many calls were made.
+pub fn trial<S: Stage>(
+    stage: &mut S,
+    opening: Opening,
+    files: &Image,
+    calls: Calls,
+    input: &[u8],
+    tried: &mut Image,
+    told: &mut Texts,
+) -> Calls {
+    let name = stage.open(opening, files, calls);
+    told.opens(name);
+    stage.serve(input, &WHOLE, told);
+    stage.close(tried, told)
 }
 
-/// Whether the bytes up to that place end in the text.
-fn ends_at(bytes: &[u8], last: usize, text: &[u8]) -> bool {
-    match bytes.get(..=last) {
-        Some(part) => part.ends_with(text),
-        None => false,
+/// The chain that the files hold behind a stop, or behind a crash, has to send what is wanted: where nothing of a
+/// migration is done, it is done now, and where nothing of its making is done, there is no chain. In files with the
+/// same bytes as those that weren't touched it did.
+fn go_on<S: Stage>(
+    stage: &mut S,
+    stopped: &Stopped<'_>,
+    files: &Image,
+    left: &Image,
+    next: &mut Image,
+    told: &mut Texts,
+) {
+    if left.is_same(files) {
+        return;
     }
+    let name = stage.open(Opening::Opened, left, NEVER);
+    match (name, stopped.opening) {
+        ("not_a_chain", Opening::Made) => {
+            let _ = stage.close(next, told);
+            return;
+        }
+        ("other_version", Opening::Migrated) => {
+            let _ = stage.close(next, told);
+            let name = stage.open(stopped.opening, next, NEVER);
+            told.opens(name);
+        }
+        _ => told.opens(name),
+    }
+    stage.serve(stopped.input, &WHOLE, told);
+    let is_same = told.out() == stopped.wanted;
+    told.needs(is_same, "a chain that was stopped sends something else");
+    let _ = stage.close(next, told);
 }
 
-impl<S: Stage> Chain<S> {
-    /// Whether the chain that the files hold behind a stop, or behind a crash, sends what is wanted. In files with
-    /// the same bytes as those that weren't touched it did.
-    fn resumes(&mut self, stopped: &Stopped<'_>, is_crash: bool) -> Result<(), Fault> {
-        let files = self.tried.image(is_crash);
-        if files.is_same(self.left.files()) {
-            return Ok(());
+/// Stops it behind so many calls, and has what comes again sent the same, in the files as they are left and as a crash
+/// leaves them. Whether it may be stopped earlier: not a connection's opening, and not what is wrong.
+fn stop<S: Stage>(
+    alloc: Global,
+    stage: &mut S,
+    stopped: &Stopped<'_>,
+    files: &Image,
+    calls: Calls,
+    told: &mut Texts,
+) -> bool {
+    let name = stage.open(stopped.opening, files, calls);
+    if stopped.is_connection {
+        if name == "store_failed" {
+            return false;
         }
-        let fault = self.stage.open(Opening::Opened, files, NEVER)?;
-        if let Some(name) = fault {
-            self.stage.close(&mut self.next)?;
-            match (name, stopped.opening) {
-                ("not_a_chain", Opening::Made) => return Ok(()),
-                ("other_version", Opening::Migrated) => {
-                    opened(&mut self.stage, stopped.opening, self.next.files(), NEVER)?;
-                }
-                _ => return Err(Fault::Opening(name)),
+        told.opens(name);
+        stage.serve(stopped.input, &WHOLE, told);
+        let sent = told.out();
+        let is_same = sent == stopped.wanted || sent.ends_with(FAILED.as_bytes());
+        told.needs(is_same, "a chain that is stopped sends something else");
+    } else if name != "store_failed" && matches!(stopped.opening, Opening::Opened) {
+        told.opens(name);
+    }
+    let mut left = Image::new(alloc);
+    let mut next = Image::new(alloc);
+    let _ = stage.close(&mut left, told);
+    go_on(stage, stopped, files, &left, &mut next, told);
+    left.turn();
+    go_on(stage, stopped, files, &left, &mut next, told);
+    told.is_well()
+}
+
+/// Stops it at each call of a disk, from the last of so many; a connection back to the calls of the opening.
+fn stop_at_each<S: Stage>(
+    alloc: Global,
+    stage: &mut S,
+    stopped: &Stopped<'_>,
+    files: &Image,
+    is_log: bool,
+    made: u64,
+    told: &mut Texts,
+) {
+    for last in 1..=made {
+        let calls = behind(is_log, made.saturating_sub(last));
+        if !stop(alloc, stage, stopped, files, calls, told) {
+            return;
+        }
+    }
+    told.needs(!stopped.is_connection, "no call is the opening's");
+}
+
+/// What is stopped at any call, over copies of the files, has to go on behind the stop as where nothing stopped it: a
+/// connection that is sent that, or an opening, a migration or the making of a chain.
+pub fn sweep<S: Stage>(
+    alloc: Global,
+    stage: &mut S,
+    opening: Opening,
+    files: &Image,
+    connection: Option<&[u8]>,
+    told: &mut Texts,
+) {
+    let mut tried = Image::new(alloc);
+    let mut wanted = Vec::new(alloc);
+    let is_connection = connection.is_some();
+    let sent = connection.unwrap_or(&[]);
+    let input = match opening {
+        _ if is_connection => sent,
+        Opening::Migrated => AUDIT_AND_BALANCE,
+        Opening::Made => NEW_AUDIT,
+        _ => AUDIT,
+    };
+    let _ = trial(stage, opening, files, MANY, input, &mut tried, told);
+    told.swap_out(&mut wanted);
+    let made = trial(stage, opening, files, MANY, sent, &mut tried, told);
+    let _ = trial(stage, opening, files, made, sent, &mut tried, told);
+    let is_same = !is_connection || told.out() == wanted.as_slice();
+    told.needs(is_same, "more calls are made");
+    let stopped = Stopped {
+        opening,
+        is_connection,
+        input,
+        wanted: wanted.as_slice(),
+    };
+    stop_at_each(alloc, stage, &stopped, files, true, made.log, told);
+    stop_at_each(alloc, stage, &stopped, files, false, made.db, told);
+}
+
+/// Stops the chain in copies of the files at each call of a disk while it answers the requests as values: up to there,
+/// and again behind the stop, it answers them as where nothing stopped it.
+pub fn resume_at_each<S: Stage>(
+    alloc: Global,
+    files: &Image,
+    input: &[u8],
+    is_log: bool,
+    wanted: &mut Vec<u8>,
+    told: &mut Texts,
+) {
+    for calls in 0..MOST_CALLS {
+        told.clear(usize::MAX);
+        if S::resume(alloc, input, files, behind(is_log, calls), told) {
+            let before = str::from_utf8(told.out()).unwrap_or("no text");
+            let is_first = told
+                .err()
+                .starts_with(before.trim_end_matches(FAILED).as_bytes());
+            let is_put = !wanted.is_empty() || wanted.extend_from_slice(told.err()).is_ok();
+            let is_same = told.err() == wanted.as_slice();
+            let is_whole = told.err() == told.out();
+            told.needs(is_put, "no memory");
+            told.needs(
+                is_first && is_same,
+                "another reply before a stop or behind it",
+            );
+            if is_whole || !told.is_well() {
+                return;
             }
         }
-        send(&mut self.stage, stopped.input, WHOLE, &mut self.told)?;
-        if self.told.out() != self.wanted.as_slice() {
-            return Err(Fault::Line("a chain that was stopped sends something else"));
-        }
-        self.stage.close(&mut self.next)
     }
+    told.needs(false, "more calls are made");
+}
 
-    /// Whether a connection, on disks that fail behind so many calls, sends what is wanted, or that the store has
-    /// failed.
-    fn sends(&mut self, stopped: &Stopped<'_>) -> Result<(), Fault> {
-        send(&mut self.stage, stopped.input, WHOLE, &mut self.told)?;
-        let told = self.told.out();
-        if told == self.wanted.as_slice() || told.ends_with(FAILED.as_bytes()) {
-            return Ok(());
-        }
-        Err(Fault::Line("a chain that is stopped sends something else"))
-    }
-
-    /// Stops it behind so many calls, and has what comes again sent the same, in the files as they are left and as a
-    /// crash leaves them. Whether a connection was stopped, and not the opening before it.
-    fn stops(&mut self, stopped: &Stopped<'_>, calls: Calls) -> Result<bool, Fault> {
-        match self.stage.open(stopped.opening, self.left.files(), calls)? {
-            None if stopped.is_connection => self.sends(stopped)?,
-            Some("store_failed") if stopped.is_connection => return Ok(false),
-            Some(name) if name != "store_failed" && matches!(stopped.opening, Opening::Opened) => {
-                return Err(Fault::Opening(name));
-            }
-            _ => {}
-        }
-        self.stage.close(&mut self.tried)?;
-        self.resumes(stopped, false)?;
-        self.resumes(stopped, true)?;
-        Ok(true)
-    }
-
-    /// Stops it at each call of a disk, from the last of so many; a connection back to the calls of the opening.
-    fn stops_at_each(
-        &mut self,
-        stopped: &Stopped<'_>,
-        is_log: bool,
-        made: u64,
-    ) -> Result<(), Fault> {
-        for last in 1..=made {
-            if !self.stops(stopped, behind(is_log, made.saturating_sub(last)))? {
-                return Ok(());
+/// Has the last byte of a text be another one, wherever it stands in the database's file, at one place at a time: the
+/// chain isn't opened, by the store or as damage, or it says of itself what it says where nothing is changed; and at
+/// some place it isn't opened.
+pub fn flip<S: Stage>(
+    alloc: Global,
+    stage: &mut S,
+    files: &mut Image,
+    text: &[u8],
+    byte: u8,
+    told: &mut Texts,
+) {
+    let mut tried = Image::new(alloc);
+    let mut wanted = Vec::new(alloc);
+    let _ = trial(
+        stage,
+        Opening::Opened,
+        files,
+        NEVER,
+        AUDIT,
+        &mut tried,
+        told,
+    );
+    told.swap_out(&mut wanted);
+    let mut places = 0u32;
+    let mut refused = 0u32;
+    for last in 0..files.db().len() {
+        if files.db().get(..=last).unwrap_or(&[]).ends_with(text) {
+            let kept = files.swap_byte(last, byte);
+            let name = stage.open(Opening::Opened, files, NEVER);
+            let _ = files.swap_byte(last, kept);
+            places = places.saturating_add(1);
+            if matches!(name, "damaged" | "store_failed") {
+                refused = refused.saturating_add(1);
+            } else {
+                told.opens(name);
+                stage.serve(AUDIT, &WHOLE, told);
+                let is_same = told.out() == wanted.as_slice();
+                told.needs(is_same, "other books are opened");
             }
         }
-        if stopped.is_connection {
-            return Err(Fault::Line("no call is the opening's"));
-        }
-        Ok(())
     }
-
-    /// Whether what is stopped at any call, over copies of these files, goes on behind the stop as where nothing
-    /// stopped it.
-    pub fn sweep(
-        &mut self,
-        opening: Opening,
-        is_connection: bool,
-        input: &[u8],
-    ) -> Result<(), Fault> {
-        self.is_swept = false;
-        self.trial(opening, MANY, input)?;
-        self.told.swap_out(&mut self.wanted);
-        let sent = if is_connection { input } else { &[] };
-        self.trial(opening, MANY, sent)?;
-        let made = self.tried.made();
-        self.trial(opening, made, sent)?;
-        if is_connection && self.told.out() != self.wanted.as_slice() {
-            return Err(Fault::Line("more calls are made"));
-        }
-        let stopped = Stopped {
-            opening,
-            is_connection,
-            input,
-        };
-        self.stops_at_each(&stopped, true, made.log)?;
-        self.stops_at_each(&stopped, false, made.db)
-    }
-
-    /// The same of an opening, a migration or the making of a chain.
-    pub fn sweep_opening(&mut self, opening: Opening) -> Result<(), Fault> {
-        let input = match opening {
-            Opening::Migrated => AUDIT_AND_BALANCE,
-            Opening::Made => NEW_AUDIT,
-            _ => AUDIT,
-        };
-        self.sweep(opening, false, input)
-    }
-
-    /// Stops the chain at each call of a disk while it answers the requests as values: up to there, and again behind
-    /// the stop, it answers them as where nothing stopped it.
-    fn resumes_at_each(&mut self, input: &[u8], is_log: bool) -> Result<(), Fault> {
-        for calls in 0..MOST_CALLS {
-            self.told.clear(usize::MAX);
-            let calls = behind(is_log, calls);
-            if !self
-                .stage
-                .resume(input, self.left.files(), calls, &mut self.told)?
-            {
-                continue;
-            }
-            let is_first = are_first(&self.told);
-            let told = self.told.err();
-            if self.wanted.is_empty() {
-                self.wanted.extend_from_slice(told)?;
-            }
-            if told != self.wanted.as_slice() || !is_first {
-                return Err(Fault::Line("another reply before a stop or behind it"));
-            }
-            if told == self.told.out() {
-                return Ok(());
-            }
-        }
-        Err(Fault::Line("more calls are made"))
-    }
-
-    /// The same of both disks. What is answered behind each stop is told.
-    pub fn resume(&mut self, input: &[u8], told: &mut Texts) -> Result<(), Fault> {
-        self.rest()?;
-        self.wanted.clear();
-        self.resumes_at_each(input, true)?;
-        self.resumes_at_each(input, false)?;
-        told.swap_told(&mut self.told);
-        Ok(())
-    }
-
-    /// Whether the chain isn't opened where the byte at a place of the database's file is that one. Else it says of
-    /// itself what is wanted.
-    fn refuses_byte(&mut self, place: usize, byte: u8) -> Result<bool, Fault> {
-        let kept = self.left.swap_byte(place, byte);
-        let fault = self.stage.open(Opening::Opened, self.left.files(), NEVER)?;
-        let _ = self.left.swap_byte(place, kept);
-        match fault {
-            Some("damaged" | "store_failed") => return Ok(true),
-            Some(name) => return Err(Fault::Opening(name)),
-            None => send(&mut self.stage, AUDIT, WHOLE, &mut self.told)?,
-        }
-        if self.told.out() != self.wanted.as_slice() {
-            return Err(Fault::Line("other books are opened"));
-        }
-        Ok(false)
-    }
-
-    /// Has the last byte of a text be another one, wherever it stands in the database's file, at one place at a time:
-    /// the chain isn't opened, by the store or as damage, or it says of itself what it says where nothing is changed;
-    /// and at some place it isn't opened.
-    pub fn flip(&mut self, text: &[u8], byte: u8) -> Result<(), Fault> {
-        self.change(Deed::CopyIn)?;
-        self.trial(Opening::Opened, NEVER, AUDIT)?;
-        self.told.swap_out(&mut self.wanted);
-        let mut places = 0u32;
-        let mut refused = 0u32;
-        for last in 0..self.left.files().db().len() {
-            if ends_at(self.left.files().db(), last, text) {
-                places = places.saturating_add(1);
-                if self.refuses_byte(last, byte)? {
-                    refused = refused.saturating_add(1);
-                }
-            }
-        }
-        if places < 2 || refused == 0 {
-            return Err(Fault::Line("the text stands in no index, or every change is opened"));
-        }
-        Ok(())
-    }
+    told.needs(
+        places > 1 && refused > 0,
+        "the text stands in no index, or every change is opened",
+    );
 }

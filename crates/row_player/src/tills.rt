@@ -1,14 +1,19 @@
 //! Tills over loopback, served side by side: what they do is a list of steps, and time passes by steps alone.
-use crate::fault::Fault;
+use crate::asked::Texts;
 use crate::stage::Stage;
+use crate::texts::number;
 use std::alloc::{Alloc, Global};
 use std::cell::{Cell, RefCell};
 use std::io::{self, ErrorKind, Read, Write};
+use std::marker::Model;
 use std::net::{Net, Shutdown, SocketAddr, TcpListener, TcpStream};
 use std::time::{Clock, Duration};
 
 /// In how many seconds of the real clock the steps have to be made.
 const LONGEST: u64 = 60;
+
+/// For how many milliseconds of the steps' time a till is waited for.
+const PATIENCE: u32 = 50;
 
 /// What a till does, or what has to come of it before the next step is made.
 #[derive(Clone, Copy)]
@@ -37,28 +42,159 @@ pub struct Step {
     pub bytes: Vec<u8>,
 }
 
-fn wrong() -> io::Result<bool> {
-    Err(io::Error::from(ErrorKind::InvalidData))
+/// Whether a step is made.
+#[derive(Clone, Copy)]
+enum Made {
+    Now,
+    /// It can't be made yet.
+    Later,
+    Never,
 }
 
-/// Whether what the step wants has come, which then is read. It is an error where something else comes.
-fn has_come(alloc: Global, mut stream: &TcpStream, step: &Step) -> io::Result<bool> {
+/// Whether what the step wants has come, which then is read.
+fn has_come(alloc: Global, mut stream: &TcpStream, step: &Step) -> Made {
     let wanted = step.bytes.as_slice();
-    let mut bytes = vec![in alloc; 0; wanted.len().max(1)]?;
+    let if_nothing = match step.what {
+        What::Waits => Made::Now,
+        _ => Made::Later,
+    };
+    let Ok(mut bytes) = vec![in alloc; 0; wanted.len().max(1)] else {
+        return Made::Never;
+    };
     let n = match stream.peek(&mut bytes) {
         Ok(n) => n.min(bytes.len()),
-        Err(e) if e.kind() == ErrorKind::WouldBlock => return Ok(matches!(step.what, What::Waits)),
-        Err(e) => return Err(e),
+        Err(e) if e.kind() == ErrorKind::WouldBlock => return if_nothing,
+        Err(_) => return Made::Never,
     };
     match step.what {
-        What::IsLeft if n == 0 => Ok(true),
+        What::IsLeft if n == 0 => Made::Now,
         What::IsTold if n > 0 && wanted.starts_with(&bytes[..n]) => {
-            if n == wanted.len() {
-                stream.read_exact(&mut bytes)?;
+            if n < wanted.len() {
+                Made::Later
+            } else if stream.read_exact(&mut bytes).is_ok() {
+                Made::Now
+            } else {
+                Made::Never
             }
-            Ok(n == wanted.len())
         }
-        _ => wrong(),
+        _ => Made::Never,
+    }
+}
+
+/// Makes the step of a till.
+fn act(alloc: Global, mut stream: &TcpStream, step: &Step) -> Made {
+    let is_done = match step.what {
+        What::Sends => stream.write_all(step.bytes.as_slice()).is_ok(),
+        What::Goes => stream.shutdown(Shutdown::Write).is_ok(),
+        _ => return has_come(alloc, stream, step),
+    };
+    if is_done { Made::Now } else { Made::Never }
+}
+
+/// Where the steps stand.
+#[derive(Drop)]
+struct State {
+    /// How many steps are made.
+    made: usize,
+    /// Whether a step can't be made.
+    is_stuck: bool,
+    /// The steps' time, in milliseconds.
+    now: u64,
+    /// When they began, by the real clock.
+    begun: Duration,
+    sockets: Vec<TcpStream>,
+    /// How many tills are still to come.
+    coming: u32,
+}
+
+/// As of names.
+impl Model for State {
+    ghost use Rattle.std.specs.Prelude.{⊤};
+
+    ghost Value = { ⊤ };
+
+    ghost view = { λ _. tt };
+}
+
+impl State {
+    /// One more till comes. Whether it does.
+    fn come(&mut self, rt: &HostRuntime, server: Option<SocketAddr>) -> bool {
+        let Some(server) = server else {
+            return false;
+        };
+        self.coming = self.coming.saturating_sub(1);
+        match TcpStream::connect(rt, server) {
+            Ok(stream) => {
+                stream.set_nonblocking(true).is_ok() && self.sockets.push(stream).is_ok()
+            }
+            Err(_) => false,
+        }
+    }
+
+    /// Makes the step, if it can be made now. Whether the next one may be made before the server looks at the clock.
+    fn make(&mut self, rt: &HostRuntime, server: Option<SocketAddr>, step: &Step) -> bool {
+        let made = match step.what {
+            What::Comes => {
+                if self.come(rt, server) {
+                    Made::Now
+                } else {
+                    Made::Never
+                }
+            }
+            What::Passes => {
+                self.now = self.now.saturating_add(u64::from(step.number));
+                Made::Now
+            }
+            _ => match self.sockets.get(step.number as usize) {
+                Some(stream) => act(rt.alloc(), stream, step),
+                None => Made::Never,
+            },
+        };
+        match made {
+            Made::Now => self.made = self.made.saturating_add(1),
+            Made::Later => {}
+            Made::Never => self.is_stuck = true,
+        }
+        matches!(made, Made::Now) && !matches!(step.what, What::Passes)
+    }
+
+    /// Makes the next steps, as far as they can be made in time.
+    fn go_on(&mut self, rt: &HostRuntime, server: Option<SocketAddr>, steps: &[Step]) {
+        for _ in 0..steps.len() {
+            let Some(step) = steps.get(self.made) else {
+                break;
+            };
+            if !self.make(rt, server, step) {
+                break;
+            }
+        }
+        let is_late = match rt.monotonic() {
+            Ok(now) => now.saturating_sub(self.begun) > Duration::from_secs(LONGEST),
+            Err(_) => true,
+        };
+        if is_late {
+            self.is_stuck = true;
+        }
+    }
+
+    /// Goes on where a step is left that can be made. Else all tills go, those too that haven't come yet, and a second
+    /// passes. The steps' time, and whether all steps are made.
+    fn advance(
+        &mut self,
+        rt: &HostRuntime,
+        server: Option<SocketAddr>,
+        steps: &[Step],
+    ) -> (u64, bool) {
+        if self.is_stuck || self.made >= steps.len() {
+            if self.coming > 0 {
+                let _ = self.come(rt, server);
+            }
+            self.sockets.clear();
+            self.now = self.now.saturating_add(1000);
+        } else {
+            self.go_on(rt, server, steps);
+        }
+        (self.now, self.made >= steps.len() && !self.is_stuck)
     }
 }
 
@@ -68,100 +204,28 @@ pub struct Tills<'t> {
     rt: &'t HostRuntime,
     /// Whether time passes by the real clock.
     is_real: bool,
+    steps: &'t [Step],
     /// Where the server listens, as soon as it does.
     server: Cell<Option<SocketAddr>>,
-    steps: &'t [Step],
-    /// How many steps are made.
-    made: Cell<usize>,
-    /// Whether a step can't be made.
-    is_stuck: Cell<bool>,
-    /// The steps' time, in milliseconds.
-    now: Cell<u64>,
-    /// When they began, by the real clock.
-    begun: Duration,
-    sockets: RefCell<Vec<TcpStream>>,
-    /// How many tills are still to come.
-    coming: Cell<u32>,
+    state: RefCell<State>,
+}
+
+/// As of names.
+impl<'t> Model for Tills<'t> {
+    ghost use Rattle.std.specs.Prelude.{⊤};
+
+    ghost Value = { ⊤ };
+
+    ghost view = { λ _. tt };
 }
 
 impl Tills<'_> {
-    fn come(&self) -> io::Result<TcpStream> {
-        let Some(server) = self.server.get() else {
-            return Err(io::Error::from(ErrorKind::NotConnected));
-        };
-        let stream = TcpStream::connect(self.rt, server)?;
-        stream.set_nonblocking(true)?;
-        self.coming.set(self.coming.get().saturating_sub(1));
-        Ok(stream)
-    }
-
-    /// Makes the step, if it can be made now.
-    fn makes(&self, sockets: &mut Vec<TcpStream>, step: &Step) -> io::Result<bool> {
-        match step.what {
-            What::Comes => {
-                sockets.push(self.come()?)?;
-                return Ok(true);
-            }
-            What::Passes => {
-                let now = self.now.get().saturating_add(u64::from(step.number));
-                self.now.set(now);
-                return Ok(true);
-            }
-            _ => {}
-        }
-        let Some(stream) = sockets.get(step.number as usize) else {
-            return wrong();
-        };
-        let mut stream = stream;
-        match step.what {
-            What::Sends => stream.write_all(step.bytes.as_slice())?,
-            What::Goes => stream.shutdown(Shutdown::Write)?,
-            _ => return has_come(self.rt.alloc(), stream, step),
-        }
-        Ok(true)
-    }
-
-    /// Makes the next steps, up to one that can't be made yet or behind which time passed.
-    fn go_on(&self, sockets: &mut Vec<TcpStream>) -> io::Result<()> {
-        for step in self.steps.iter().skip(self.made.get()) {
-            if !self.makes(sockets, step)? {
-                return Ok(());
-            }
-            self.made.set(self.made.get().saturating_add(1));
-            if matches!(step.what, What::Passes) {
-                return Ok(());
-            }
-        }
-        Ok(())
-    }
-
-    fn are_played(&self) -> bool {
-        self.made.get() >= self.steps.len() && !self.is_stuck.get()
-    }
-
-    fn play(&self) {
-        if let Ok(mut sockets) = self.sockets.try_borrow_mut() {
-            self.advance(&mut sockets);
-        }
-    }
-
-    /// Goes on where the steps can be made in time. Else all tills go, those too that haven't come yet, and a second
-    /// passes.
-    fn advance(&self, sockets: &mut Vec<TcpStream>) {
-        if self.is_stuck.get() || self.are_played() {
-            sockets.clear();
-            self.now.set(self.now.get().saturating_add(1000));
-            if self.coming.get() > 0 {
-                drop(self.come());
-            }
-            return;
-        }
-        let is_late = match self.rt.monotonic() {
-            Ok(now) => now.saturating_sub(self.begun) > Duration::from_secs(LONGEST),
-            Err(_) => true,
-        };
-        if self.go_on(sockets).is_err() || is_late {
-            self.is_stuck.set(true);
+    /// The tills go on: the steps' time, in milliseconds, and whether all steps are made.
+    pub fn play(&self) -> (u64, bool) {
+        let server = self.server.get();
+        match self.state.try_borrow_mut() {
+            Ok(mut state) => state.advance(self.rt, server, self.steps),
+            Err(_) => (0, false),
         }
     }
 }
@@ -171,8 +235,8 @@ impl Clock for Tills<'_> {
         if self.is_real {
             return self.rt.monotonic();
         }
-        self.play();
-        Ok(Duration::from_millis(self.now.get()))
+        let (now, _) = self.play();
+        Ok(Duration::from_millis(now))
     }
 
     fn since_1970(&self) -> io::Result<Duration> {
@@ -204,56 +268,39 @@ impl Alloc for Tills<'_> {
     }
 }
 
-/// Serves the tills, each waited for so many milliseconds, or, where they aren't said, at a port as the program does,
-/// and tells the status.
-fn served<S: Stage>(
-    tills: &Tills<'_>,
-    stage: &mut S,
-    comers: u32,
-    millis: Option<u32>,
-) -> Result<u8, Fault> {
-    let Some(millis) = millis else {
-        return stage.serve_port(tills, comers);
-    };
-    let listener = TcpListener::bind(tills, "127.0.0.1:0")?;
-    tills.play();
-    let patience = Duration::from_millis(u64::from(millis));
-    let status = stage.listen(tills, &listener, comers, patience);
-    drop(listener);
-    status
-}
-
-/// Serves so many tills, and has all their steps made: by the steps' time as the server goes on, or by the real
-/// clock, those before what has to come of them first, and the others behind it. A till is waited for so many
-/// milliseconds; or, where they aren't said, they are served at a port as the program does it.
+/// Serves so many tills, and has all their steps made: by the steps' time as the server goes on, there also as the
+/// program serves at a port (`port`), or by the real clock with so many milliseconds of patience, the steps before what
+/// has to come of them first, and the others behind it.
 pub fn serve_tills<S: Stage>(
     rt: &HostRuntime,
     stage: &mut S,
     steps: &[Step],
     comers: u32,
-    is_real: bool,
-    millis: Option<u32>,
-) -> Result<(), Fault> {
-    let begun = rt.monotonic()?;
+    how: &str,
+    told: &mut Texts,
+) {
+    let (is_real, millis) = match how {
+        "" => (false, Some(PATIENCE)),
+        "port" => (false, None),
+        _ => (true, Some(number(how, told))),
+    };
+    let state = State {
+        made: 0,
+        is_stuck: false,
+        now: 0,
+        begun: rt.monotonic().unwrap_or(Duration::ZERO),
+        sockets: Vec::new(rt.alloc()),
+        coming: comers,
+    };
     let tills = Tills {
         rt,
         is_real,
-        server: Cell::new(None),
         steps,
-        made: Cell::new(0),
-        is_stuck: Cell::new(false),
-        now: Cell::new(0),
-        begun,
-        sockets: RefCell::new(Vec::new(rt.alloc())),
-        coming: Cell::new(comers),
+        server: Cell::new(None),
+        state: RefCell::new(state),
     };
-    let status = served(&tills, stage, comers, millis);
-    tills.play();
-    let are_played = tills.are_played();
-    drop(tills);
-    match status {
-        Ok(0) if are_played => Ok(()),
-        Ok(_) => Err(Fault::Line("a till isn't served as it should be")),
-        Err(fault) => Err(fault),
-    }
+    let status = stage.listen(&tills, comers, millis);
+    let (_, are_played) = tills.play();
+    let is_well = status == 0 && are_played;
+    told.needs(is_well, "a till isn't served as it should be");
 }

@@ -1,39 +1,38 @@
 //! Calls of public functions that no request makes, each once, by values worked out by hand: `call NAME`.
+use crate::counter::name_of;
 use crate::lists::are_lists;
-use crate::shop::name_of;
 use balance_rule::{Paid, last_month, rewarded};
 use branch_core::{held_by, in_stock};
 use chain_engine::{Chain, OpenFault};
 use http_messages::part;
-use row_player::Fault;
+use row_player::Texts;
 use shop_types::{
     Amount, BadCsv, Caller, CopyNo, CustomerNo, Limits, Moment, NoMemory, Refusal, Rental, StaffNo,
     Token, moment_texts_are_one_to_one,
 };
-use sqlite::Alter;
 use std::alloc::{AllocError, Global};
 
-/// Whether the chain knows head office alone.
-fn knows_alone<S: Alter>(chain: &mut Chain<S>, office: &Token, branch: &Token) -> bool {
-    matches!(chain.caller(office), Ok(Caller::Office))
-        && matches!(chain.caller(branch), Ok(Caller::Nobody))
-        && !chain.is_failed()
-}
-
 /// Whether a chain with no shared row knows head office alone.
-fn knows_office(alloc: Global) -> Option<bool> {
-    let office = Token::read(b"0123456789abcdef0123456789abcdef")?;
-    let branch = Token::read(b"11111111111111111111111111111111")?;
-    let Ok(mut chain) = Chain::memory(alloc, Limits::default(), &office) else {
-        return None;
+fn knows_office(alloc: Global) -> bool {
+    let (Some(office), Some(branch)) = (
+        Token::read(b"0123456789abcdef0123456789abcdef"),
+        Token::read(b"11111111111111111111111111111111"),
+    ) else {
+        return false;
     };
-    let is_alone = knows_alone(&mut chain, &office, &branch);
-    drop(chain);
-    Some(is_alone)
+    match Chain::memory(alloc, Limits::default(), &office) {
+        Ok(mut chain) => {
+            matches!(chain.caller(&office), Ok(Caller::Office))
+                && matches!(chain.caller(&branch), Ok(Caller::Nobody))
+                && !chain.is_failed()
+        }
+        Err(_) => false,
+    }
 }
 
 /// Whether the faults by which there is no chain have their names.
-fn are_named(alloc: Global) -> Option<bool> {
+fn are_named(alloc: Global) -> bool {
+    let mut are_same = true;
     for fault in [
         OpenFault::Memory,
         OpenFault::Size,
@@ -43,63 +42,89 @@ fn are_named(alloc: Global) -> Option<bool> {
         OpenFault::Damaged,
         OpenFault::Already,
     ] {
-        let name = fault.to_string(alloc).ok()?;
-        if name.as_str() != name_of(fault) {
-            return Some(false);
+        match fault.to_string(alloc) {
+            Ok(name) => are_same = are_same && name.as_str() == name_of(fault),
+            Err(_) => are_same = false,
         }
     }
-    Some(true)
+    are_same
 }
 
 fn paid(cents: u32, at: &str) -> Option<Paid> {
-    Some(Paid {
-        amount: Amount::new(cents)?,
-        at: Moment::read(at)?,
-    })
+    match (Amount::new(cents), Moment::read(at)) {
+        (Some(amount), Some(at)) => Some(Paid { amount, at }),
+        _ => None,
+    }
 }
 
 /// Whether who is rewarded has passed both thresholds.
-fn are_rewarded() -> Option<bool> {
-    let payments = [
-        paid(300, "2028-02-01T00:00:00")?,
-        paid(200, "2028-02-29T23:59:59")?,
-    ];
-    let later = [paid(300, "2028-03-01T00:00:00")?];
-    let month = last_month(Moment::read("2028-03-31T00:00:00")?)?;
-    Some(
-        rewarded(&payments, month, 1, 499)
-            && !rewarded(&payments, month, 1, 500)
-            && !rewarded(&payments, month, 2, 499)
-            && !rewarded(&later, month, 0, 0),
-    )
-}
-
-/// A rental of the first day, whose copy came back at the moment, if any.
-fn rental(copy: u32, customer: u32, returned: Option<Moment>) -> Option<Rental> {
-    Some(Rental {
-        rented: Moment::read("2026-03-01T10:00:00")?,
-        copy: CopyNo::new(copy)?,
-        customer: CustomerNo::new(customer)?,
-        returned,
-        staff: StaffNo::new(1)?,
-    })
+fn are_rewarded() -> bool {
+    let (Some(first), Some(last), Some(later), Some(at)) = (
+        paid(300, "2028-02-01T00:00:00"),
+        paid(200, "2028-02-29T23:59:59"),
+        paid(300, "2028-03-01T00:00:00"),
+        Moment::read("2028-03-31T00:00:00"),
+    ) else {
+        return false;
+    };
+    let payments = [first, last];
+    let later = [later];
+    match last_month(at) {
+        Some(month) => {
+            rewarded(&payments, month, 1, 499)
+                && !rewarded(&payments, month, 1, 500)
+                && !rewarded(&payments, month, 2, 499)
+                && !rewarded(&later, month, 0, 0)
+        }
+        None => false,
+    }
 }
 
 /// Whether a copy is out by its open rental alone, and held by who has that.
-fn are_out_by_open_rentals() -> Option<bool> {
-    let back = Moment::read("2026-03-02T10:00:00");
+fn are_out_by_open_rentals() -> bool {
+    let (Some(rented), Some(back), Some(staff)) = (
+        Moment::read("2026-03-01T10:00:00"),
+        Moment::read("2026-03-02T10:00:00"),
+        StaffNo::new(1),
+    ) else {
+        return false;
+    };
+    let (Some(first), Some(second), Some(customer), Some(holder)) = (
+        CopyNo::new(1),
+        CopyNo::new(2),
+        CustomerNo::new(1),
+        CustomerNo::new(2),
+    ) else {
+        return false;
+    };
+    let closed = Rental {
+        rented,
+        copy: second,
+        customer,
+        returned: Some(back),
+        staff,
+    };
     let rentals = [
-        rental(1, 1, back)?,
-        rental(1, 2, None)?,
-        rental(2, 1, back)?,
+        Rental {
+            rented,
+            copy: first,
+            customer,
+            returned: Some(back),
+            staff,
+        },
+        Rental {
+            rented,
+            copy: first,
+            customer: holder,
+            returned: None,
+            staff,
+        },
+        closed,
     ];
-    let (first, second) = (CopyNo::new(1)?, CopyNo::new(2)?);
-    Some(
-        !in_stock(&rentals, first)
-            && in_stock(&rentals, second)
-            && held_by(&rentals, first) == CustomerNo::new(2)
-            && held_by(&rentals, second).is_none(),
-    )
+    !in_stock(&rentals, first)
+        && in_stock(&rentals, second)
+        && held_by(&rentals, first) == Some(holder)
+        && held_by(&rentals, second).is_none()
 }
 
 const LOT_PATH: &str = "/import/k1/1/2026-03-01T10:00:00/L1";
@@ -133,34 +158,35 @@ fn are_our_parts() -> bool {
 }
 
 /// Whether values that no reply shows have their texts and numbers.
-fn are_texts(alloc: Global) -> Option<bool> {
+fn are_texts(alloc: Global) -> bool {
     moment_texts_are_one_to_one();
-    let last = Moment::read("9999-12-31T23:59:59")?.to_string(alloc).ok()?;
-    let memory = NoMemory::from(AllocError).to_string(alloc).ok()?;
-    Some(
-        last.as_str() == "9999-12-31T23:59:59"
-            && memory.as_str() == "memory"
-            && Refusal::BadCsv(BadCsv { line: 3 }).number() == 22
-            && Refusal::NoBranch.number() == 23
-            && Refusal::StoreFailed.number() == 42,
-    )
+    let Some(last) = Moment::read("9999-12-31T23:59:59") else {
+        return false;
+    };
+    let (Ok(last), Ok(memory)) = (
+        last.to_string(alloc),
+        NoMemory::from(AllocError).to_string(alloc),
+    ) else {
+        return false;
+    };
+    last.as_str() == "9999-12-31T23:59:59"
+        && memory.as_str() == "memory"
+        && Refusal::BadCsv(BadCsv { line: 3 }).number() == 22
+        && Refusal::NoBranch.number() == 23
+        && Refusal::StoreFailed.number() == 42
 }
 
 /// Makes the calls of that name.
-pub fn call(alloc: Global, name: &str) -> Result<(), Fault> {
+pub fn call(alloc: Global, name: &str, told: &mut Texts) {
     let holds = match name {
         "new_chain" => knows_office(alloc),
         "fault_names" => are_named(alloc),
         "rewards" => are_rewarded(),
         "rentals" => are_out_by_open_rentals(),
-        "routes" => Some(are_our_parts()),
+        "routes" => are_our_parts(),
         "texts" => are_texts(alloc),
         "lists" => are_lists(alloc),
-        _ => return Err(Fault::Line("there is no such call")),
+        _ => false,
     };
-    match holds {
-        Some(true) => Ok(()),
-        Some(false) => Err(Fault::Line("another value")),
-        None => Err(Fault::Line("a value isn't read")),
-    }
+    told.needs(holds, "another value, or there is no such call");
 }

@@ -1,170 +1,209 @@
 //! What the rows are played on: a chain in files on disks in memory, and the whole program.
 use crate::calls::call;
-use crate::disks::{InMemory, disks, leave};
-use crate::serving::{answer, serve_alone, serve_by_turns};
-use crate::shop::{Shop, opened, resumed};
+use crate::disks::{InMemory, calls_of, disks};
+use crate::serving::{answer, put_replies, serve_alone, serve_by_turns};
 use crate::tables::work;
-use crate::values::read_values;
+use crate::values::Values;
+use chain_calls::{connect, give_back};
+use chain_engine::{Chain, OpenFault, over_a_stop};
 use office_words::ClapWords;
-use row_player::{Calls, Deed, Fault, Image, Left, NEVER, Opening, Pieces, Stage, Texts, Tills};
+use row_player::{Calls, Come, Deed, How, Image, NEVER, Opening, Stage, Texts, Tills};
 use sakila_office::{run, serve_listener, serve_port};
 use shop_types::{Limits, Token};
-use sqlite::Files;
+use sqlite::{FileStore, Files};
 use std::alloc::Global;
+use std::marker::Model;
 use std::mem;
 use std::net::TcpListener;
 use std::time::Duration;
 
-const NO_CHAIN: Fault = Fault::Line("there is no chain yet");
+/// A chain, files in which there is none, or neither.
+#[derive(Drop)]
+enum Held<D: InMemory> {
+    Open(Chain<FileStore<D>>),
+    Closed(Files<D>),
+    Gone,
+}
 
 /// The chain of the row that is played.
 #[derive(Drop)]
-pub struct Counter<'t, D: InMemory> {
-    rt: &'t HostRuntime,
+pub struct Counter<D: InMemory> {
     alloc: Global,
-    shop: Shop<D>,
+    held: Held<D>,
 }
 
-impl<'t, D: InMemory> Counter<'t, D> {
-    pub fn new(rt: &'t HostRuntime) -> Counter<'t, D> {
+/// Nothing is said of it: so those who hold one aren't checked over its parts.
+impl<D: InMemory> Model for Counter<D> {
+    ghost use Rattle.std.specs.Prelude.{⊤};
+
+    ghost Value = { ⊤ };
+
+    ghost view = { λ _. tt };
+}
+
+/// The fault's name.
+pub fn name_of(fault: OpenFault) -> &'static str {
+    match fault {
+        OpenFault::Memory => "memory",
+        OpenFault::Size => "size",
+        OpenFault::Store => "store_failed",
+        OpenFault::NotAChain => "not_a_chain",
+        OpenFault::OtherVersion => "other_version",
+        OpenFault::Damaged => "damaged",
+        OpenFault::Already => "already",
+    }
+}
+
+impl<D: InMemory> Counter<D> {
+    pub fn new(alloc: Global) -> Counter<D> {
         Counter {
-            rt,
-            alloc: rt.alloc(),
-            shop: Shop::Gone,
+            alloc,
+            held: Held::Gone,
         }
     }
 
-    fn keep(&mut self, shop: Shop<D>) {
-        drop(mem::replace(&mut self.shop, shop));
-    }
-
-    fn take(&mut self) -> Shop<D> {
-        mem::replace(&mut self.shop, Shop::Gone)
+    /// Keeps the chain, or its files. The name of the fault by which there is none.
+    fn keep(&mut self, opened: Result<Chain<FileStore<D>>, (OpenFault, Files<D>)>) -> &'static str {
+        match opened {
+            Ok(chain) => {
+                self.held = Held::Open(chain);
+                ""
+            }
+            Err((fault, disks)) => {
+                self.held = Held::Closed(disks);
+                name_of(fault)
+            }
+        }
     }
 }
 
-impl<D: InMemory> Stage for Counter<'_, D> {
-    fn open(
-        &mut self,
-        opening: Opening,
-        files: &Image,
-        calls: Calls,
-    ) -> Result<Option<&'static str>, Fault> {
-        if let Opening::Again = opening {
-            let (shop, fault) = self.take().reopened();
-            self.keep(shop);
-            return Ok(fault);
-        }
+impl<D: InMemory> Stage for Counter<D> {
+    fn open(&mut self, opening: Opening, files: &Image, calls: Calls) -> &'static str {
+        let alloc = self.alloc;
         let limits = match opening {
             Opening::Limited(commands, copies) => Limits::new(commands, copies),
             _ => Some(Limits::default()),
         };
         let office = Token::read(b"0123456789abcdef0123456789abcdef");
         let (Some(limits), Some(office)) = (limits, office) else {
-            return Err(Fault::Line("there is no such chain"));
+            return "limits";
         };
-        let disks = disks(self.alloc, files, calls)?;
-        let (shop, fault) = opened(self.alloc, opening, disks, limits, &office);
-        self.keep(shop);
-        Ok(fault)
+        if let Opening::Again = opening {
+            return match mem::replace(&mut self.held, Held::Gone) {
+                Held::Open(chain) => self.keep(chain.reopen()),
+                other => {
+                    self.held = other;
+                    "closed"
+                }
+            };
+        }
+        self.held = Held::Gone;
+        let disks = disks(alloc, files, calls);
+        let opened = match opening {
+            Opening::Migrated => Chain::migrate_files(alloc, disks, limits),
+            Opening::Made => Chain::create_files(alloc, disks, limits, &office),
+            _ => Chain::open_files(alloc, disks, limits),
+        };
+        self.keep(opened)
     }
 
-    fn close(&mut self, left: &mut Left) -> Result<(), Fault> {
-        match self.take().files() {
-            Some(mut disks) => {
-                let is_left = leave(&mut disks, left);
-                drop(disks);
-                is_left
-            }
-            None => Ok(()),
+    fn close(&mut self, files: &mut Image, told: &mut Texts) -> Calls {
+        let mut disks = match mem::replace(&mut self.held, Held::Gone) {
+            Held::Open(chain) => chain.close(),
+            Held::Closed(disks) => disks,
+            Held::Gone => return NEVER,
+        };
+        files.put(disks.log.held(), disks.db.held(), told);
+        let made = Calls {
+            log: calls_of(&mut disks.log),
+            db: calls_of(&mut disks.db),
+        };
+        disks.log.crash();
+        disks.db.crash();
+        files.put(disks.log.held(), disks.db.held(), told);
+        files.turn();
+        self.held = Held::Closed(disks);
+        made
+    }
+
+    fn serve(&mut self, input: &[u8], how: &How, told: &mut Texts) {
+        let alloc = self.alloc;
+        told.clear(how.room);
+        let Held::Open(chain) = &mut self.held else {
+            return told.needs(false, "there is no chain yet");
+        };
+        match how.come {
+            Come::Alone => serve_alone(alloc, input, how, told, chain),
+            Come::ByTurns(turns) => serve_by_turns(alloc, input, how, turns, told, chain),
+            Come::AsValues(branch) => answer(alloc, input, branch, told, chain),
         }
     }
 
-    fn serve(
-        &mut self,
-        pieces: &mut Pieces<'_>,
-        told: &mut Texts,
-        most: u32,
-        turns: Option<u32>,
-    ) -> Result<(), Fault> {
-        match (&mut self.shop, turns) {
-            (Shop::Open(chain), None) => serve_alone(self.alloc, pieces, told, chain, most),
-            (Shop::Open(chain), Some(turns)) => {
-                serve_by_turns(self.alloc, pieces, told, chain, most, turns)
-            }
-            _ => Err(NO_CHAIN),
-        }
-    }
-
-    fn listen(
-        &mut self,
-        tills: &Tills<'_>,
-        listener: &TcpListener,
-        comers: u32,
-        patience: Duration,
-    ) -> Result<u8, Fault> {
+    fn listen(&mut self, tills: &Tills<'_>, comers: u32, millis: Option<u32>) -> u8 {
         let words = ClapWords { alloc: self.alloc };
-        match &mut self.shop {
-            Shop::Open(chain) => Ok(serve_listener(
-                tills, listener, chain, &words, comers, patience,
-            )),
-            _ => Err(NO_CHAIN),
-        }
-    }
-
-    fn serve_port(&mut self, tills: &Tills<'_>, comers: u32) -> Result<u8, Fault> {
-        match &mut self.shop {
-            Shop::Open(chain) => Ok(serve_port(tills, chain, 0, comers)),
-            _ => Err(NO_CHAIN),
-        }
+        let Held::Open(chain) = &mut self.held else {
+            return 3;
+        };
+        let Some(millis) = millis else {
+            return serve_port(tills, chain, 0, comers);
+        };
+        let Ok(listener) = TcpListener::bind(tills, "127.0.0.1:0") else {
+            return 3;
+        };
+        let _ = tills.play();
+        let patience = Duration::from_millis(u64::from(millis));
+        serve_listener(tills, &listener, chain, &words, comers, patience)
     }
 
     fn known_films(&self) -> usize {
-        match &self.shop {
-            Shop::Open(chain) => chain.cached_films(),
+        match &self.held {
+            Held::Open(chain) => chain.cached_films(),
             _ => 0,
         }
     }
 
-    fn tables(&mut self, deed: Deed<'_>, left: &mut Left, told: &mut Texts) -> Result<(), Fault> {
-        let disks: Files<D> = disks(self.alloc, left.files(), NEVER)?;
-        let disks = work(self.alloc, deed, disks, &mut told.out)?;
-        let put = left.put(disks.log.held(), disks.db.held());
-        drop(disks);
-        put
-    }
-
-    fn answer(&mut self, input: &[u8], branch: Option<u32>, told: &mut Texts) -> Result<(), Fault> {
-        let Shop::Open(chain) = &mut self.shop else {
-            return Err(NO_CHAIN);
+    fn tables(alloc: Global, deed: Deed<'_>, files: &mut Image, told: &mut Texts) {
+        let mut conn = match connect::<D>(alloc, disks(alloc, files, NEVER)) {
+            Ok(conn) => conn,
+            Err((_, _files)) => return told.needs(false, "the database isn't opened"),
         };
-        let asked = read_values(self.alloc, input)?;
-        let is_told = answer(self.alloc, chain, asked.as_slice(), branch, told);
-        drop(asked);
-        is_told
+        if let Deed::CopyIn = deed {
+            match conn.close_files() {
+                Ok(disks) => files.put(disks.log.held(), disks.db.held(), told),
+                Err((_, _store)) => told.needs(false, "the log isn't copied"),
+            }
+        } else {
+            work(alloc, deed, &mut conn, told);
+            let disks = give_back(conn);
+            files.put(disks.log.held(), disks.db.held(), told);
+        }
     }
 
-    fn resume(
-        &mut self,
-        input: &[u8],
-        files: &Image,
-        calls: Calls,
-        told: &mut Texts,
-    ) -> Result<bool, Fault> {
-        let asked = read_values(self.alloc, input)?;
-        let is_opened = match disks::<D>(self.alloc, files, calls) {
-            Ok(disks) => resumed(self.alloc, disks, asked.as_slice(), told),
-            Err(fault) => Err(fault),
+    fn resume(alloc: Global, input: &[u8], files: &Image, calls: Calls, told: &mut Texts) -> bool {
+        let limits = Limits::default();
+        let chain = match Chain::open_files(alloc, disks::<D>(alloc, files, calls), limits) {
+            Ok(chain) => chain,
+            Err((_, _files)) => return false,
         };
-        drop(asked);
-        is_opened
+        let asked = Values::read(alloc, input, told);
+        match over_a_stop(alloc, chain, limits, asked.list(), asked.list()) {
+            Ok(it) => {
+                let is_put = put_replies(alloc, &mut told.out, it.before.as_slice())
+                    && put_replies(alloc, &mut told.err, it.behind.as_slice());
+                told.needs(is_put, "no memory");
+                told.ends("closed", u32::try_from(it.behind.len()).unwrap_or(0));
+            }
+            Err(_) => told.needs(false, "the chain isn't opened again"),
+        }
+        true
     }
 
-    fn call(&mut self, name: &str) -> Result<(), Fault> {
-        call(self.alloc, name)
+    fn call(alloc: Global, name: &str, told: &mut Texts) {
+        call(alloc, name, told);
     }
 
-    fn run(&mut self, words: &[String], mut input: &[u8], told: &mut Texts) -> u8 {
-        run(self.rt, words, &mut input, &mut told.out, &mut told.err)
+    fn run(rt: &HostRuntime, words: &[String], input: &[u8], told: &mut Texts) -> u8 {
+        let mut input = input;
+        run(rt, words, &mut input, &mut told.out, &mut told.err)
     }
 }

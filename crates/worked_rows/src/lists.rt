@@ -1,27 +1,31 @@
-//! The lists of rows as values, each once, by rows and texts that are worked out by hand.
+//! The lists of rows as values, each once, of one row that is as short as it can be.
 use serde_json::Value;
 use shop_types::{ActorNo, BranchNo, CustomerNo, FilmNo, Minutes, Rate, Rating, StaffNo, Text};
 use shop_views::{
-    ActorRow, CategoryRow, FilmGroup, ListedCustomer, ListedFilm, ListedPerson, ListedStaff,
-    OverdueRow, PersonName, StoreRow, actor_info, customer_list, film_list, overdue,
-    sales_by_film_category, sales_by_store, staff_list,
+    ActorRow, CategoryRow, ListedCustomer, ListedFilm, ListedPerson, ListedStaff, OverdueRow,
+    PersonName, StoreRow, actor_info, customer_list, film_list, overdue, sales_by_film_category,
+    sales_by_store, staff_list,
 };
 use std::alloc::{AllocError, Global};
 
 fn text<const LOW: usize, const HIGH: usize>(alloc: Global, it: &str) -> Option<Text<LOW, HIGH>> {
-    Text::read(String::from_str(alloc, it).ok()?)
+    match String::from_str(alloc, it) {
+        Ok(it) => Text::read(it),
+        Err(_) => None,
+    }
 }
 
 fn mary(alloc: Global) -> Option<PersonName> {
-    Some(PersonName {
-        first: text(alloc, "MARY")?,
-        last: text(alloc, "SMITH")?,
-    })
+    match (text(alloc, "MARY"), text(alloc, "SMITH")) {
+        (Some(first), Some(last)) => Some(PersonName { first, last }),
+        _ => None,
+    }
 }
 
 fn person(alloc: Global) -> Option<ListedPerson> {
-    let branch = BranchNo::new(1)?;
-    let name = mary(alloc)?;
+    let (Some(name), Some(branch)) = (mary(alloc), BranchNo::new(1)) else {
+        return None;
+    };
     let (Some(address), Some(postal), Some(phone), Some(city), Some(country)) = (
         text(alloc, "1 Main"),
         text(alloc, ""),
@@ -47,78 +51,52 @@ fn is_text(alloc: Global, list: Result<Value, AllocError>, wanted: &str) -> bool
     let Ok(list) = list else {
         return false;
     };
-    let is_same = match list.to_string(alloc) {
+    match list.to_string(alloc) {
         Ok(text) => text.as_str() == wanted,
         Err(_) => false,
-    };
-    drop(list);
-    is_same
+    }
 }
 
-fn lists_overdue(alloc: Global) -> Option<bool> {
-    let (Some(first), Some(last), Some(phone), Some(title)) = (
-        text(alloc, "MARY"),
-        text(alloc, "SMITH"),
-        text(alloc, "555"),
-        text(alloc, "RIVER DAWN"),
-    ) else {
-        return None;
+/// Whether the lists of people are those of a request.
+fn are_people(alloc: Global) -> bool {
+    let (Some(person), Some(other)) = (person(alloc), person(alloc)) else {
+        return false;
     };
-    let rows = [OverdueRow {
-        first,
-        last,
-        phone,
-        title,
-    }];
-    let list = overdue(alloc, &rows);
-    drop(rows);
-    Some(is_text(
-        alloc,
-        list,
-        "[{\"customer\":\"SMITH, MARY\",\"phone\":\"555\",\"title\":\"RIVER DAWN\"}]",
-    ))
-}
-
-fn lists_customers(alloc: Global) -> Option<bool> {
-    let rows = [ListedCustomer {
-        number: CustomerNo::new(1)?,
-        person: person(alloc)?,
+    let (Some(number), Some(customer)) = (StaffNo::new(2), CustomerNo::new(1)) else {
+        return false;
+    };
+    let staff = [ListedStaff { number, person }];
+    let customers = [ListedCustomer {
+        number: customer,
+        person: other,
         active: true,
     }];
-    let list = customer_list(alloc, &rows);
-    drop(rows);
-    Some(is_text(
+    is_text(
         alloc,
-        list,
-        "[{\"address\":\"1 Main\",\"branch\":1,\"city\":\"Lethbridge\",\"country\":\"Canada\",\"id\":1,\"name\":\"MARY SMITH\",\"note\":\"active\",\"phone\":\"555\",\"postal\":\"\"}]",
-    ))
-}
-
-fn lists_staff(alloc: Global) -> Option<bool> {
-    let rows = [ListedStaff {
-        number: StaffNo::new(2)?,
-        person: person(alloc)?,
-    }];
-    let list = staff_list(alloc, &rows);
-    drop(rows);
-    Some(is_text(
-        alloc,
-        list,
+        staff_list(alloc, &staff),
         "[{\"address\":\"1 Main\",\"branch\":1,\"city\":\"Lethbridge\",\"country\":\"Canada\",\"id\":2,\"name\":\"MARY SMITH\",\"phone\":\"555\",\"postal\":\"\"}]",
-    ))
+    ) && is_text(
+        alloc,
+        customer_list(alloc, &customers),
+        "[{\"address\":\"1 Main\",\"branch\":1,\"city\":\"Lethbridge\",\"country\":\"Canada\",\"id\":1,\"name\":\"MARY SMITH\",\"note\":\"active\",\"phone\":\"555\",\"postal\":\"\"}]",
+    )
 }
 
-fn film(alloc: Global, actors: Vec<PersonName>) -> Option<ListedFilm> {
-    let (Some(number), Some(rate), Some(title), Some(description), Some(category)) = (
-        FilmNo::new(1),
-        Rate::new(499),
+/// Whether the lists of films and of their actors are.
+fn are_films(alloc: Global) -> bool {
+    let (Some(title), Some(description), Some(category), Some(name)) = (
         text(alloc, "RIVER DAWN"),
         text(alloc, ""),
         text(alloc, "Action"),
+        mary(alloc),
     ) else {
-        return None;
+        return false;
     };
-    Some(ListedFilm {
+    let (Some(number), Some(rate), Some(actor)) = (FilmNo::new(1), Rate::new(499), ActorNo::new(1))
+    else {
+        return false;
+    };
+    let films = [ListedFilm {
         number,
         title,
         description,
@@ -126,84 +104,73 @@ fn film(alloc: Global, actors: Vec<PersonName>) -> Option<ListedFilm> {
         rate,
         minutes: Minutes::new(90),
         rating: Rating::Pg13,
-        actors,
-    })
-}
-
-fn lists_films(alloc: Global) -> Option<bool> {
-    let mut actors = Vec::new(alloc);
-    actors.push(mary(alloc)?).ok()?;
-    let rows = [film(alloc, actors)?];
-    let list = film_list(alloc, &rows);
-    drop(rows);
-    Some(is_text(
-        alloc,
-        list,
-        "[{\"actors\":\"MARY SMITH\",\"category\":\"Action\",\"description\":\"\",\"film\":1,\"length\":90,\"price\":499,\"rating\":\"PG-13\",\"title\":\"RIVER DAWN\"}]",
-    ))
-}
-
-fn group(alloc: Global) -> Option<FilmGroup> {
-    let mut titles = Vec::new(alloc);
-    titles.push(text(alloc, "RIVER DAWN")?).ok()?;
-    Some(FilmGroup {
-        category: text(alloc, "Action")?,
-        titles,
-    })
-}
-
-fn lists_actors(alloc: Global) -> Option<bool> {
-    let mut groups = Vec::new(alloc);
-    groups.push(group(alloc)?).ok()?;
-    let rows = [ActorRow {
-        number: ActorNo::new(1)?,
-        name: mary(alloc)?,
-        groups,
+        actors: Vec::new(alloc),
     }];
-    let list = actor_info(alloc, &rows);
-    drop(rows);
-    Some(is_text(
+    let actors = [ActorRow {
+        number: actor,
+        name,
+        groups: Vec::new(alloc),
+    }];
+    is_text(
         alloc,
-        list,
-        "[{\"actor\":1,\"film_info\":\"Action: RIVER DAWN\",\"first\":\"MARY\",\"last\":\"SMITH\"}]",
-    ))
+        film_list(alloc, &films),
+        "[{\"actors\":\"\",\"category\":\"Action\",\"description\":\"\",\"film\":1,\"length\":90,\"price\":499,\"rating\":\"PG-13\",\"title\":\"RIVER DAWN\"}]",
+    ) && is_text(
+        alloc,
+        actor_info(alloc, &actors),
+        "[{\"actor\":1,\"film_info\":\"\",\"first\":\"MARY\",\"last\":\"SMITH\"}]",
+    )
 }
 
-fn lists_stores(alloc: Global) -> Option<bool> {
-    let rows = [StoreRow {
-        city: text(alloc, "Lethbridge")?,
-        country: text(alloc, "Canada")?,
-        manager: Some(mary(alloc)?),
+/// Whether the lists of what was sold, and of what is overdue, are.
+fn are_sales(alloc: Global) -> bool {
+    let (Some(city), Some(country), Some(category)) = (
+        text(alloc, "Lethbridge"),
+        text(alloc, "Canada"),
+        text(alloc, "Action"),
+    ) else {
+        return false;
+    };
+    let (Some(first), Some(last), Some(phone), Some(title)) = (
+        text(alloc, "MARY"),
+        text(alloc, "SMITH"),
+        text(alloc, "555"),
+        text(alloc, "RIVER DAWN"),
+    ) else {
+        return false;
+    };
+    let stores = [StoreRow {
+        city,
+        country,
+        manager: None,
         total: 499,
     }];
-    let list = sales_by_store(alloc, &rows);
-    drop(rows);
-    Some(is_text(
-        alloc,
-        list,
-        "[{\"manager\":\"MARY SMITH\",\"store\":\"Lethbridge,Canada\",\"total\":499}]",
-    ))
-}
-
-fn lists_categories(alloc: Global) -> Option<bool> {
-    let rows = [CategoryRow {
-        category: text(alloc, "Action")?,
+    let categories = [CategoryRow {
+        category,
         total: 499,
     }];
-    let list = sales_by_film_category(alloc, &rows);
-    drop(rows);
-    Some(is_text(alloc, list, "[{\"category\":\"Action\",\"total\":499}]"))
+    let rentals = [OverdueRow {
+        first,
+        last,
+        phone,
+        title,
+    }];
+    is_text(
+        alloc,
+        sales_by_store(alloc, &stores),
+        "[{\"manager\":\"\",\"store\":\"Lethbridge,Canada\",\"total\":499}]",
+    ) && is_text(
+        alloc,
+        sales_by_film_category(alloc, &categories),
+        "[{\"category\":\"Action\",\"total\":499}]",
+    ) && is_text(
+        alloc,
+        overdue(alloc, &rentals),
+        "[{\"customer\":\"SMITH, MARY\",\"phone\":\"555\",\"title\":\"RIVER DAWN\"}]",
+    )
 }
 
 /// Whether lists of rows that come as values are those of a request, which has them row by row.
-pub fn are_lists(alloc: Global) -> Option<bool> {
-    Some(
-        lists_overdue(alloc)?
-            && lists_customers(alloc)?
-            && lists_staff(alloc)?
-            && lists_films(alloc)?
-            && lists_actors(alloc)?
-            && lists_stores(alloc)?
-            && lists_categories(alloc)?,
-    )
+pub fn are_lists(alloc: Global) -> bool {
+    are_people(alloc) && are_films(alloc) && are_sales(alloc)
 }

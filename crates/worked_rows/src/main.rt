@@ -6,7 +6,6 @@ mod counter;
 mod disks;
 mod lists;
 mod serving;
-mod shop;
 mod tables;
 mod values;
 
@@ -19,7 +18,7 @@ use till_rows::play_days;
 
 /// Plays the files of exchanges.
 fn play_talks(rt: &HostRuntime, paths: &[String]) -> ExitCode {
-    let counter: Counter<'_, Fuse<Memory>> = Counter::new(rt);
+    let counter: Counter<Fuse<Memory>> = Counter::new(rt.alloc());
     play_all(rt, counter, paths)
 }
 

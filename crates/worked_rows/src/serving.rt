@@ -1,15 +1,14 @@
 //! A connection to a chain, alone or by turns, and requests that are put to it as values.
+use crate::values::Values;
 use chain_engine::Chain;
 use counter_http::{
     Connection, End, ServeFault, Standing, Switchboard, TurnFault, reply_bytes, serve,
 };
 use office_words::ClapWords;
-use row_player::{Fault, Pieces, Texts};
+use row_player::{How, Pieces, Texts};
 use shop_types::{BranchNo, Caller, Reply, Request, Token};
 use sqlite::Alter;
 use std::alloc::Global;
-
-const MEMORY: Fault = Fault::Line("no memory");
 
 /// An end's word.
 fn word_of(end: End) -> &'static str {
@@ -26,118 +25,114 @@ fn word_of(end: End) -> &'static str {
 /// Serves a connection by turns that answer so many requests each, until no next turn is to come.
 pub fn serve_by_turns<S: Alter>(
     alloc: Global,
-    pieces: &mut Pieces<'_>,
+    input: &[u8],
+    how: &How,
+    turns: u32,
     told: &mut Texts,
     chain: &mut Chain<S>,
-    most: u32,
-    turns: u32,
-) -> Result<(), Fault> {
+) {
+    let Ok(board) = Switchboard::new(alloc) else {
+        return told.needs(false, "no memory");
+    };
+    let Ok(mut connection) = Connection::new(alloc, how.most) else {
+        return told.needs(false, "no memory");
+    };
     let words = ClapWords { alloc };
-    let board = Switchboard::new(alloc)?;
-    let mut connection = Connection::new(alloc, most)?;
+    let mut pieces = Pieces::new(input, how);
     let mut last = Ok(Standing::Ready);
     // (a turn answers a request at least, or is the last)
-    for _ in 0..=most {
-        last = connection.advance(alloc, pieces, told, chain, &board, &words, turns);
+    for _ in 0..=how.most {
+        last = connection.advance(alloc, &mut pieces, told, chain, &board, &words, turns);
         let Ok(Standing::Ready) = last else {
             break;
         };
     }
     let answered = connection.replies();
-    match last {
+    let (word, replies) = match last {
         // (the reply to a text that is no message is one more)
-        Ok(Standing::Ended(End::Refused)) => told.ends("refused", answered.saturating_add(1)),
-        Ok(Standing::Ended(end)) => told.ends(word_of(end), answered),
-        Err(TurnFault::Read) => told.ends("read", answered),
+        Ok(Standing::Ended(End::Refused)) => ("refused", answered.saturating_add(1)),
+        Ok(Standing::Ended(end)) => (word_of(end), answered),
+        Err(TurnFault::Read) => ("read", answered),
         // (the reply to the last request isn't wholly written)
-        Err(TurnFault::Write) => told.ends("write", answered.saturating_sub(1)),
-        Ok(_) => Err(Fault::Line("the connection waits")),
-    }
+        Err(TurnFault::Write) => ("write", answered.saturating_sub(1)),
+        Ok(_) => ("waits", answered),
+    };
+    told.ends(word, replies);
 }
 
 /// Serves a connection alone, to its end.
 pub fn serve_alone<S: Alter>(
     alloc: Global,
-    pieces: &mut Pieces<'_>,
+    input: &[u8],
+    how: &How,
     told: &mut Texts,
     chain: &mut Chain<S>,
-    most: u32,
-) -> Result<(), Fault> {
+) {
     let words = ClapWords { alloc };
-    match serve(alloc, pieces, told, chain, &words, most) {
-        Ok(served) => told.ends(word_of(served.end), served.replies),
-        Err(ServeFault::Read { replies }) => told.ends("read", replies),
-        Err(ServeFault::Write { replies }) => told.ends("write", replies),
-        Err(ServeFault::Memory) => Err(MEMORY),
-    }
+    let mut pieces = Pieces::new(input, how);
+    let (word, replies) = match serve(alloc, &mut pieces, told, chain, &words, how.most) {
+        Ok(served) => (word_of(served.end), served.replies),
+        Err(ServeFault::Read { replies }) => ("read", replies),
+        Err(ServeFault::Write { replies }) => ("write", replies),
+        Err(ServeFault::Memory) => ("memory", 0),
+    };
+    told.ends(word, replies);
 }
 
-/// Puts the bytes of a reply.
-pub fn put_reply(alloc: Global, out: &mut Vec<u8>, reply: &Reply) -> Result<(), Fault> {
-    match reply_bytes(alloc, reply) {
-        Ok(bytes) => Ok(out.extend_from_slice(bytes.as_slice())?),
-        Err(_) => Err(MEMORY),
-    }
-}
-
-/// The same of several, one behind the other.
-pub fn put_replies(alloc: Global, out: &mut Vec<u8>, replies: &[Reply]) -> Result<(), Fault> {
+/// Puts the bytes of replies, one behind the other.
+pub fn put_replies(alloc: Global, out: &mut Vec<u8>, replies: &[Reply]) -> bool {
+    let mut is_put = true;
     for reply in replies {
-        put_reply(alloc, out, reply)?;
+        is_put = is_put && put_reply(alloc, out, reply);
     }
-    Ok(())
+    is_put
 }
 
-/// Has the chain answer a branch's request, whatever its token is.
-fn answer_branch<S: Alter>(
-    alloc: Global,
-    chain: &mut Chain<S>,
-    branch: BranchNo,
-    request: &Request,
-    out: &mut Vec<u8>,
-) -> Result<(), Fault> {
-    let reply = chain.answer(&Caller::Branch(branch), request);
-    let put = put_reply(alloc, out, &reply);
-    drop(reply);
-    put
+fn put_reply(alloc: Global, out: &mut Vec<u8>, reply: &Reply) -> bool {
+    match reply_bytes(alloc, reply) {
+        Ok(bytes) => out.extend_from_slice(bytes.as_slice()).is_ok(),
+        Err(_) => false,
+    }
 }
 
-/// Has the chain answer the requests with their tokens.
-fn replay<S: Alter>(
+/// Has the chain answer the requests as those of a branch, whatever their tokens are.
+fn answer_each<S: Alter>(
     alloc: Global,
     chain: &mut Chain<S>,
     asked: &[(Token, Request)],
+    branch: u32,
     out: &mut Vec<u8>,
-) -> Result<(), Fault> {
-    match chain.replay(asked) {
-        Ok(replies) => {
-            let put = put_replies(alloc, out, replies.as_slice());
-            drop(replies);
-            put
-        }
-        Err(_) => Err(MEMORY),
+) -> bool {
+    let Some(branch) = BranchNo::new(branch) else {
+        return false;
+    };
+    let caller = Caller::Branch(branch);
+    let mut is_put = true;
+    for (_, request) in asked {
+        let reply = chain.answer(&caller, request);
+        is_put = is_put && put_reply(alloc, out, &reply);
     }
+    is_put
 }
 
-/// Has the chain answer the requests, with their tokens or as those of that branch. The replies are told, and how
-/// many there are.
+/// Has the requests read, and the chain answer them as values, with their tokens or as those of that branch. The replies
+/// are told, and how many there are.
 pub fn answer<S: Alter>(
     alloc: Global,
-    chain: &mut Chain<S>,
-    asked: &[(Token, Request)],
+    input: &[u8],
     branch: Option<u32>,
     told: &mut Texts,
-) -> Result<(), Fault> {
-    let replies = u32::try_from(asked.len()).unwrap_or(0);
-    told.ends("closed", replies)?;
-    let Some(number) = branch else {
-        return replay(alloc, chain, asked, &mut told.out);
+    chain: &mut Chain<S>,
+) {
+    let asked = Values::read(alloc, input, told);
+    let asked = asked.list();
+    told.ends("closed", u32::try_from(asked.len()).unwrap_or(0));
+    let is_put = match branch {
+        Some(branch) => answer_each(alloc, chain, asked, branch, &mut told.out),
+        None => match chain.replay(asked) {
+            Ok(replies) => put_replies(alloc, &mut told.out, replies.as_slice()),
+            Err(_) => false,
+        },
     };
-    let Some(branch) = BranchNo::new(number) else {
-        return Err(Fault::Line("there is no such branch"));
-    };
-    for (_, request) in asked {
-        answer_branch(alloc, chain, branch, request, &mut told.out)?;
-    }
-    Ok(())
+    told.needs(is_put, "the requests aren't answered");
 }

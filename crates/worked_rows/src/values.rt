@@ -2,54 +2,70 @@
 use counter_http::{Message, Reading, read_request};
 use counter_routes::{Reading as Read, Routes};
 use office_words::ClapWords;
-use row_player::Fault;
+use row_player::Texts;
 use shop_types::{BranchNo, Caller, Request, Token};
 use std::alloc::Global;
+use std::marker::Model;
 
-/// What the message of a branch asks, with its token.
-fn value_of(alloc: Global, routes: &Routes, message: &Message<'_>) -> Option<(Token, Request)> {
-    let token = Token::read(message.token?)?;
-    let caller = Caller::Branch(BranchNo::new(1)?);
-    match routes.read(alloc, &ClapWords { alloc }, message, caller) {
-        Ok(Read::Asked(request)) => Some((token, request)),
-        Ok(Read::Refused(_)) | Err(_) => None,
-    }
+/// Requests with their tokens.
+#[derive(Drop)]
+pub struct Values {
+    list: Vec<(Token, Request)>,
 }
 
-/// Puts what the messages ask.
-fn put_values(
-    alloc: Global,
-    routes: &Routes,
-    values: &mut Vec<(Token, Request)>,
-    input: &[u8],
-) -> Result<(), Fault> {
-    let mut rest = input;
-    for _ in 0..input.len() {
-        let Reading::Whole(message, length) = read_request(rest) else {
-            return Ok(());
+/// Nothing is said of it: so those who hold one aren't checked over its parts.
+impl Model for Values {
+    ghost use Rattle.std.specs.Prelude.{⊤};
+
+    ghost Value = { ⊤ };
+
+    ghost view = { λ _. tt };
+}
+
+impl Values {
+    pub fn list(&self) -> &[(Token, Request)] {
+        self.list.as_slice()
+    }
+
+    /// Puts what the message of a branch asks, with its token. Whether it is read.
+    fn put(&mut self, alloc: Global, routes: &Routes, message: &Message<'_>) -> bool {
+        let (Some(token), Some(branch)) = (
+            Token::read(message.token.unwrap_or(b"")),
+            BranchNo::new(1),
+        ) else {
+            return false;
         };
-        match value_of(alloc, routes, &message) {
-            Some(value) => values.push(value)?,
-            None => return Err(Fault::Line("a value isn't read")),
+        match routes.read(alloc, &ClapWords { alloc }, message, Caller::Branch(branch)) {
+            Ok(Read::Asked(request)) => self.list.push((token, request)).is_ok(),
+            Ok(Read::Refused(_)) | Err(_) => false,
         }
-        rest = rest.get(length..).unwrap_or(&[]);
     }
-    Ok(())
-}
 
-/// What the messages of branches ask, with their tokens.
-pub fn read_values(alloc: Global, input: &[u8]) -> Result<Vec<(Token, Request)>, Fault> {
-    let Ok(routes) = Routes::new(alloc) else {
-        return Err(Fault::Line("no memory"));
-    };
-    let mut values = Vec::new(alloc);
-    let put = put_values(alloc, &routes, &mut values, input);
-    drop(routes);
-    match put {
-        Ok(()) => Ok(values),
-        Err(fault) => {
-            drop(values);
-            Err(fault)
+    /// Puts what the messages ask. Whether all are read.
+    fn put_all(&mut self, alloc: Global, routes: &Routes, input: &[u8]) -> bool {
+        let mut rest = input;
+        for _ in 0..input.len() {
+            let Reading::Whole(message, length) = read_request(rest) else {
+                return true;
+            };
+            if !self.put(alloc, routes, &message) {
+                return false;
+            }
+            rest = rest.get(length..).unwrap_or(&[]);
         }
+        true
+    }
+
+    /// What the messages of branches ask, with their tokens.
+    pub fn read(alloc: Global, input: &[u8], told: &mut Texts) -> Values {
+        let mut values = Values {
+            list: Vec::new(alloc),
+        };
+        let is_read = match Routes::new(alloc) {
+            Ok(routes) => values.put_all(alloc, &routes, input),
+            Err(_) => false,
+        };
+        told.needs(is_read, "a value isn't read");
+        values
     }
 }
