@@ -1,18 +1,7 @@
 -- What one branch's rows show is what the definitions say of its shop.
-use Rattle.std.proofs.Common.{◌≡◌, ◌&&◌, ◌==◌, ℕ, List, map, filter, length, Bool, true, sym, ap, subst, ◌∙◌, arith, nat_le, Option}
-use Rattle.std.specs.List.{list_all}
-use Rattle.std.specs.Str.{bytes_eq}
-use Rattle.std.proofs.lemmas.List.Sorted.{length_permutation}
+use Rattle.shop_types.proofs.Common.{◌≡◌, ◌&&◌, ◌==◌, ℕ, List, map, filter, length, Bool, true, sym, ap, subst, ◌∙◌, arith, nat_le, Option, list_all, bytes_eq, length_permutation, Moment, Row, Owned, is_of, IsCounted, AreNumbered, Text, Customer, Copy, Rental, Terms, Payment, Rules, Kept, Shop, is_within, rental_by, are_apart, rises, IsGoodShop, has_row, are_different, is_staff_of, pays_for, Books, BookCopy, Consignment, shop_of, unmarked, as_parcel, HasOneHolder, HasTerms, widest, seen_rental, seen_payment, same_if, equal_test}
 use Rattle.sqlite_keyed.proofs.ListLemmas.{IsPermutation-filter}
-use Rattle.shop_model.specs.Calendar.{Moment, seconds_of}
-use Rattle.shop_model.specs.Rows.{Row, Owned, is_of, IsCounted, AreNumbered}
-use Rattle.shop_model.specs.Values.{Text, Customer, Copy, Rental, Terms, Payment, Rules}
-use Rattle.shop_model.specs.Shop.{Kept, Shop}
-use Rattle.shop_model.specs.GoodShop.{is_within, rental_by, are_apart, rises, IsGoodShop}
-use Rattle.shop_model.specs.Links.{has_row, are_different, is_staff_of, pays_for}
-use Rattle.shop_model.specs.Books.{Books, BookCopy, Consignment, shop_of, unmarked, as_parcel}
-use Rattle.shop_model.specs.Sound.{HasOneHolder, HasTerms, widest}
-use Rattle.shop_types.specs.Seen.{seen_rental, seen_payment}
+use Rattle.shop_model.specs.Calendar.{seconds_of}
 use Rattle.audit_rows.specs.declared.books.OrderedBooks.{OrderedBooks}
 use Rattle.audit_rows.specs.declared.rows.CheckedCustomer.{CheckedCustomer}
 use Rattle.audit_rows.specs.declared.rows.CheckedCopy.{CheckedCopy}
@@ -34,7 +23,6 @@ use Rattle.audit_rows.proofs.Tests.{all_congr, all_and, moved, le_from, le_to, c
 use Rattle.audit_rows.proofs.ShopLemmas.{has_row_is, rises_is, held_from_different, different_from_held, here_from_all, all_from_here}
 use Rattle.audit_checks.proofs.CatalogueLemmas.{city_named, film_named, staff_is}
 use Rattle.audit_checks.proofs.PlaceLemmas.{headers_are}
-use Rattle.shop_model.proofs.RowLemmas.{same_if, equal_test}
 
 -- what soundness says of one branch, as far as its own rows and the shared ones show it
 pub record BranchFacts (rules : Rules) (b : ℕ) (books : Books) : Type 0 where

@@ -1,14 +1,5 @@
 -- The checks of shared rows are what the definitions say of the catalogues that have them.
-use Rattle.std.proofs.Common.{◌≡◌, ◌&&◌, ◌+◌, ◌==◌, ℕ, zero, suc, List, [], ◌∷◌, map, length, not, Bool, true, false, refl, sym, ap, subst, ◌∙◌, arith, nat_le, None}
-use Rattle.std.specs.Option.{option_to_list}
-use Rattle.std.specs.List.{list_any, list_all}
-use Rattle.std.specs.Str.{bytes_eq}
-use Rattle.shop_model.specs.Rows.{at}
-use Rattle.shop_model.specs.Values.{Text, City, Film, Cast, Branch, Staff, Rules}
-use Rattle.shop_model.specs.Shop.{OfficeKept, Catalogue}
-use Rattle.shop_model.specs.Books.{Books}
-use Rattle.shop_model.specs.Links.{has_row, are_different, is_staff_of, IsGoodCatalogue}
-use Rattle.shop_model.specs.Sound.{widest}
+use Rattle.shop_types.proofs.Common.{◌≡◌, ◌&&◌, ◌+◌, ◌==◌, ℕ, zero, suc, List, [], ◌∷◌, map, length, not, Bool, true, false, refl, sym, ap, subst, ◌∙◌, arith, nat_le, None, option_to_list, list_any, list_all, bytes_eq, at, Text, City, Film, Cast, Branch, Staff, Rules, OfficeKept, Catalogue, Books, has_row, are_different, is_staff_of, IsGoodCatalogue, widest, at_zero}
 use Rattle.audit_rows.specs.declared.books.OrderedBooks.{OrderedBooks}
 use Rattle.audit_rows.specs.declared.rows.CheckedCity.{CheckedCity}
 use Rattle.audit_rows.specs.declared.rows.CheckedFilm.{CheckedFilm}
@@ -23,7 +14,6 @@ use Rattle.audit_rows.proofs.Keys.{both, bytes_eq_symm, any-map, different-map, 
 use Rattle.audit_rows.proofs.Maps.{all-map, length-map}
 use Rattle.audit_rows.proofs.Tests.{all_congr, all_and, moved, different_congr, le_from, le_to, all_from, all_from_at, at_all_from}
 use Rattle.audit_rows.proofs.ShopLemmas.{has_row_is, at-map}
-use Rattle.shop_model.proofs.RowLemmas.{at_zero}
 
 module _ (rows : OrderedBooks) (books : Books) (o : AreOrdered rows) (s : HaveSharedRows rows books) where
   abbrev cat : Catalogue

@@ -1,15 +1,8 @@
 -- Consignments: what the checks of their rows say of any books that have them.
-use Rattle.std.proofs.Common.{◌≡◌, ◌&&◌, ◌+◌, ◌<◌, ◌==◌, ℕ, List, [], ◌∷◌, map, filter, Bool, true, false, cond, refl, sym, ap, subst, ◌∙◌, arith, true≢false, IsPermutation, IsSorted, Option, Some, None, nat_lt, Less}
-use Rattle.std.specs.Ordering.{nat_cmp}
-use Rattle.std.specs.List.{AllByRecursion, list_all}
-use Rattle.std.proofs.lemmas.Cmp.{nat_cmp_total, on_total}
-use Rattle.std.proofs.lemmas.Bool.Decides.{nat_tests}
-use Rattle.std.proofs.lemmas.List.Sorted.{IsPermutation-sym}
+use Rattle.shop_types.proofs.Common.{◌≡◌, ◌&&◌, ◌+◌, ◌<◌, ◌==◌, ℕ, List, [], ◌∷◌, map, filter, Bool, true, false, cond, refl, sym, ap, subst, ◌∙◌, arith, true≢false, IsPermutation, IsSorted, Option, Some, None, nat_lt, Less, nat_cmp, AllByRecursion, list_all, nat_cmp_total, on_total, nat_tests, IsPermutation-sym, IsCounted, Consignment, same_if, equal_test}
 use Rattle.sqlite_trees.specs.Tree.{IsAscending}
 use Rattle.sqlite_keyed.proofs.ListLemmas.{ascending-filter, IsPermutation-filter}
 use Rattle.sqlite_keyed.proofs.SortLemmas.{sorted_unique}
-use Rattle.shop_model.specs.Rows.{IsCounted}
-use Rattle.shop_model.specs.Books.{Consignment}
 use Rattle.audit_rows.specs.Lists.{Key, is_below, climbs, climbs_above, counts_from, front_of, back_of}
 use Rattle.audit_rows.specs.Joins.{Header, Placed, header_key, is_line_of, whole, with_first, join}
 use Rattle.audit_checks.specs.Consignments.{are_good_lines, is_good_consignment, are_settled, is_pair, follows, pairs_follow_from, pairs_follow}
@@ -18,7 +11,6 @@ use Rattle.audit_rows.proofs.Maps.{map-twice}
 use Rattle.audit_rows.proofs.JoinLemmas.{front-map, back-map}
 use Rattle.audit_rows.proofs.Canon.{above_all, counted_above, all_less, counted_ascends, ascending_from_climbs, one_rising, sorted_from_rising}
 use Rattle.audit_rows.proofs.Tests.{counted_is}
-use Rattle.shop_model.proofs.RowLemmas.{same_if, equal_test}
 
 -- ---- lines
 

@@ -1,9 +1,6 @@
 -- The places of consignments, in their order.
-use Rattle.std.proofs.Common.{◌≡◌, ℕ, zero, suc, List, [], ◌∷◌, map, sym, ap, subst, ◌∙◌, arith, IsPermutation, IsSorted, Ordering, add-one}
-use Rattle.std.specs.Ordering.{nat_cmp}
-use Rattle.std.proofs.lemmas.List.Sorted.{IsPermutation-map}
+use Rattle.shop_types.proofs.Common.{◌≡◌, ℕ, zero, suc, List, [], ◌∷◌, map, sym, ap, subst, ◌∙◌, arith, IsPermutation, IsSorted, Ordering, add-one, nat_cmp, IsPermutation-map, Consignment}
 use native.Mathlib.Numerals.{unary_clauses}
-use Rattle.shop_model.specs.Books.{Consignment}
 use Rattle.audit_rows.specs.declared.books.OrderedBooks.{OrderedBooks}
 use Rattle.audit_rows.specs.declared.rows.CheckedHeader.{CheckedHeader}
 use Rattle.audit_rows.specs.Joins.{Header, header}

@@ -1,17 +1,6 @@
 -- What is checked of rows in order is the soundness of the books that have them.
-use Rattle.std.proofs.Common.{◌≡◌, ◌&&◌, ◌+◌, ◌≤◌, ◌==◌, ◌++◌, inl, inr, ℕ, suc, zero, List, [], ◌∷◌, map, filter, length, not, Bool, true, false, cond, refl, sym, ap, subst, ◌∙◌, arith, nat_lt, nat_le, IsPermutation, None}
-use Rattle.std.specs.List.{list_all, flat_map}
-use Rattle.std.specs.Str.{bytes_eq}
-use Rattle.std.proofs.lemmas.Bool.Decides.{nat_tests}
-use Rattle.std.proofs.lemmas.List.Sorted.{IsPermutation-map, IsPermutation-refl, IsPermutation-sym}
+use Rattle.shop_types.proofs.Common.{◌≡◌, ◌&&◌, ◌+◌, ◌≤◌, ◌==◌, ◌++◌, inl, inr, ℕ, suc, zero, List, [], ◌∷◌, map, filter, length, not, Bool, true, false, cond, refl, sym, ap, subst, ◌∙◌, arith, nat_lt, nat_le, IsPermutation, None, list_all, flat_map, bytes_eq, nat_tests, IsPermutation-map, IsPermutation-refl, IsPermutation-sym, Moment, Row, Owned, at, is_empty, owned_by, numbered_from, IsCounted, AreNumbered, Text, Customer, Rental, Terms, Payment, Arrival, Rules, Kept, has_row, are_different, is_parcel, Books, BookCopy, Line, UnderWay, Consignment, shop_of, as_arrival, as_parcel, head, HasOwners, IsSound, widest, all_lines, is_settled, line_is, at_zero}
 use Rattle.sqlite_keyed.proofs.ListLemmas.{IsPermutation-flat_map}
-use Rattle.shop_model.specs.Calendar.{Moment}
-use Rattle.shop_model.specs.Rows.{Row, Owned, at, is_empty, owned_by, numbered_from, IsCounted, AreNumbered}
-use Rattle.shop_model.specs.Values.{Text, Customer, Rental, Terms, Payment, Arrival, Rules}
-use Rattle.shop_model.specs.Shop.{Kept}
-use Rattle.shop_model.specs.Links.{has_row, are_different, is_parcel}
-use Rattle.shop_model.specs.Books.{Books, BookCopy, Line, UnderWay, Consignment, shop_of, as_arrival, as_parcel, head}
-use Rattle.shop_model.specs.Sound.{HasOwners, IsSound, widest, all_lines, is_settled, line_is}
 use Rattle.audit_rows.specs.declared.books.OrderedBooks.{OrderedBooks}
 use Rattle.audit_rows.specs.declared.rows.CheckedBranch.{CheckedBranch}
 use Rattle.audit_rows.specs.declared.rows.CheckedCustomer.{CheckedCustomer}
@@ -47,7 +36,6 @@ use Rattle.audit_checks.proofs.CatalogueLemmas.{branch_named, film_named, catalo
 use Rattle.audit_rows.proofs.LastLemmas.{last_in, none_before, last_at, lasts_owned, lasts_apart}
 use Rattle.audit_rows.proofs.OwnLemmas.{at_case, none_owned, all_filter, all_from_owners, own_different}
 use Rattle.audit_checks.proofs.BranchLemmas.{BranchFacts, facts_from_part, part_from_facts}
-use Rattle.shop_model.proofs.RowLemmas.{at_zero}
 
 -- ---- lines
 

@@ -1,14 +1,6 @@
 -- Two lists of keys in order are one where each key is in both equally often.
-use Rattle.std.proofs.Common.{◌≡◌, ◌&&◌, ◌+◌, List, [], ◌∷◌, map, Bool, true, false, refl, sym, ap, subst, ◌∙◌, arith, true≢false, IsPermutation, Ordering, Less, Equal, Greater, is_lt}
-use Rattle.std.specs.Ordering.{nat_cmp, ordering_reverse}
-use Rattle.std.specs.Cmp.Lexicographic.{slice_cmp}
-use Rattle.std.specs.Str.{bytes_eq}
-use Rattle.std.specs.List.Sorted.{IsSortedByKey}
-use Rattle.std.proofs.lemmas.Map.Lookups.{exact_bytes}
-use Rattle.std.proofs.lemmas.Slice.Eq.{bytes_eq-Decides}
-use Rattle.std.proofs.lemmas.List.Sorted.{IsPermutation-map}
+use Rattle.shop_types.proofs.Common.{◌≡◌, ◌&&◌, ◌+◌, List, [], ◌∷◌, map, Bool, true, false, refl, sym, ap, subst, ◌∙◌, arith, true≢false, IsPermutation, Ordering, Less, Equal, Greater, is_lt, nat_cmp, ordering_reverse, slice_cmp, bytes_eq, IsSortedByKey, exact_bytes, bytes_eq-Decides, IsPermutation-map, one}
 use Rattle.sqlite_keyed.proofs.ListLemmas.{along_permutation}
-use Rattle.shop_model.specs.Sound.{one}
 use Rattle.audit_rows.specs.Lists.{Key, is_below, same_lists, count, SameCounts}
 use Rattle.audit_rows.proofs.Keys.{both, key_total, below_trans, below_apart, neither_below, NeverFalls, never_falls, same_bytes}
 

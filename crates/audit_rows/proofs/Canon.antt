@@ -1,14 +1,8 @@
 -- Rows in the order of their keys are, branch by branch, those of any books that have the same rows and are numbered.
-use Rattle.std.proofs.Common.{◌≡◌, ◌+◌, ◌<◌, ◌==◌, ℕ, zero, suc, List, [], ◌∷◌, map, filter, Bool, true, false, cond, refl, ap, subst, arith, IsPermutation, IsSorted, Ordering, Less, is_lt, add-one}
-use Rattle.std.specs.Ordering.{nat_cmp}
-use Rattle.std.specs.Cmp.{IsTotalOrder}
-use Rattle.std.specs.List.{AllByRecursion}
-use Rattle.std.proofs.lemmas.Cmp.{nat_cmp_total, on_total}
-use Rattle.std.proofs.lemmas.Bool.Decides.{nat_tests}
+use Rattle.shop_types.proofs.Common.{◌≡◌, ◌+◌, ◌<◌, ◌==◌, ℕ, zero, suc, List, [], ◌∷◌, map, filter, Bool, true, false, cond, refl, ap, subst, arith, IsPermutation, IsSorted, Ordering, Less, is_lt, add-one, nat_cmp, IsTotalOrder, AllByRecursion, nat_cmp_total, on_total, nat_tests, Row, is_of, of, IsCounted, AreNumbered}
 use Rattle.sqlite_trees.specs.Tree.{IsAscending}
 use Rattle.sqlite_keyed.proofs.ListLemmas.{ascending-filter, IsPermutation-filter}
 use Rattle.sqlite_keyed.proofs.SortLemmas.{sorted_unique}
-use Rattle.shop_model.specs.Rows.{Row, is_of, of, IsCounted, AreNumbered}
 use Rattle.audit_rows.specs.Lists.{Key, is_below, climbs, climbs_above}
 use Rattle.audit_rows.specs.Canons.{row_key}
 use Rattle.audit_rows.proofs.Keys.{both, below_trans}

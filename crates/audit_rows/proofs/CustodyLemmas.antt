@@ -1,13 +1,5 @@
 -- Where no two copies have the same key, what custody asks of each mark holds of all tests of marks alike, and each mark has an origin.
-use Rattle.std.proofs.Common.{◌≡◌, ◌&&◌, ◌||◌, ◌+◌, ◌==◌, ◌≤◌, ℕ, nat_lt, List, [], ◌∷◌, ◌++◌, map, not, Bool, true, false, cond, refl, sym, ap, ◌∙◌, arith, true≢false, IsPermutation}
-use Rattle.std.specs.List.{list_any, list_all}
-use Rattle.std.specs.Str.{bytes_eq}
-use Rattle.std.proofs.lemmas.List.Sorted.{IsPermutation-map, IsPermutation-append}
-use Rattle.shop_model.specs.Rows.{Row}
-use Rattle.shop_model.specs.Values.{Here, Scrapped}
-use Rattle.shop_model.specs.Books.{BookCopy, Mark, Line, UnderWay, Missing}
-use Rattle.shop_model.specs.Links.{are_different}
-use Rattle.shop_model.specs.Sound.{one, is_mark, is_origin, copy_is, line_is, rows_made, is_made_as}
+use Rattle.shop_types.proofs.Common.{◌≡◌, ◌&&◌, ◌||◌, ◌+◌, ◌==◌, ◌≤◌, ℕ, nat_lt, List, [], ◌∷◌, ◌++◌, map, not, Bool, true, false, cond, refl, sym, ap, ◌∙◌, arith, true≢false, IsPermutation, list_any, list_all, bytes_eq, IsPermutation-map, IsPermutation-append, Row, Here, Scrapped, BookCopy, Mark, Line, UnderWay, Missing, are_different, one, is_mark, is_origin, copy_is, line_is, rows_made, is_made_as}
 use Rattle.audit_rows.specs.Lists.{count, climbs}
 use Rattle.audit_rows.specs.Canons.{row_key}
 use Rattle.audit_rows.specs.Marked.{Marked, AreInCustody, marked, marked_row, marked_line, places_in}

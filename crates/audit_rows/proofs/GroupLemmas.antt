@@ -1,7 +1,5 @@
 -- Where rows are in the order of their branches, those of the first branch stand in front.
-use Rattle.std.proofs.Common.{◌≡◌, ◌+◌, ◌<◌, ◌≤◌, ◌==◌, ◌++◌, ℕ, List, [], ◌∷◌, filter, Bool, true, false, cond, refl, sym, ap, subst, ◌∙◌, arith}
-use Rattle.std.specs.List.{AllByRecursion}
-use Rattle.std.proofs.lemmas.Bool.Decides.{nat_tests}
+use Rattle.shop_types.proofs.Common.{◌≡◌, ◌+◌, ◌<◌, ◌≤◌, ◌==◌, ◌++◌, ℕ, List, [], ◌∷◌, filter, Bool, true, false, cond, refl, sym, ap, subst, ◌∙◌, arith, AllByRecursion, nat_tests}
 use Rattle.sqlite_trees.specs.Tree.{IsAscending}
 use Rattle.audit_rows.specs.Lists.{front_of, back_of}
 

@@ -1,18 +1,8 @@
 -- The join of two tables gives the consignments of which they have the rows, and fails only where they have those of none.
-use Rattle.std.proofs.Common.{◌≡◌, ◌&&◌, ◌+◌, ◌<◌, ◌==◌, ◌++◌, ℕ, zero, suc, List, [], ◌∷◌, map, length, Bool, true, false, cond, refl, sym, ap, subst, ◌∙◌, arith, true≢false, IsPermutation, IsSorted, Option, Some, None, is_some, Ordering, Less, Equal, Greater, is_lt, add-one, get_or, drop, drop-cons}
-use Rattle.std.specs.Ordering.{nat_cmp, ordering_then, ordering_reverse}
-use Rattle.std.specs.Cmp.{IsTotalOrder}
-use Rattle.std.specs.Cmp.Lexicographic.{slice_cmp}
-use Rattle.std.specs.List.{AllByRecursion, flat_map}
-use Rattle.std.proofs.lemmas.Cmp.{on_total}
-use Rattle.std.proofs.lemmas.Bool.Decides.{nat_tests}
-use Rattle.std.proofs.lemmas.Slice.Eq.{bytes_eq-Decides}
-use Rattle.std.proofs.lemmas.List.Sorted.{IsPermutation-refl, IsPermutation-sym, IsPermutation-cons, IsPermutation-trans, IsPermutation-middle}
+use Rattle.shop_types.proofs.Common.{◌≡◌, ◌&&◌, ◌+◌, ◌<◌, ◌==◌, ◌++◌, ℕ, zero, suc, List, [], ◌∷◌, map, length, Bool, true, false, cond, refl, sym, ap, subst, ◌∙◌, arith, true≢false, IsPermutation, IsSorted, Option, Some, None, is_some, Ordering, Less, Equal, Greater, is_lt, add-one, get_or, drop, drop-cons, nat_cmp, ordering_then, ordering_reverse, IsTotalOrder, slice_cmp, AllByRecursion, flat_map, on_total, nat_tests, bytes_eq-Decides, IsPermutation-refl, IsPermutation-sym, IsPermutation-cons, IsPermutation-trans, IsPermutation-middle, numbered, numbered_from, Line, Consignment}
 use Rattle.sqlite_trees.specs.Tree.{IsAscending}
 use Rattle.sqlite_keyed.proofs.ListLemmas.{along_permutation, IsPermutation-flat_map, ascending-append, all-append}
 use Rattle.sqlite_keyed.proofs.SortLemmas.{sorted_unique}
-use Rattle.shop_model.specs.Rows.{numbered, numbered_from}
-use Rattle.shop_model.specs.Books.{Line, Consignment}
 use Rattle.audit_rows.specs.Lists.{is_below, climbs, counts_from, front_of, back_of}
 use Rattle.audit_rows.specs.Joins.{Header, Placed, header_key, group_key, placed_key, header, put_line, placed, whole, is_line_of, with_first, join}
 use Rattle.audit_rows.proofs.Keys.{both, key_total, below_apart, bytes_eq_symm, below_less, same_bytes}

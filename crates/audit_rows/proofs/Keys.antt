@@ -1,17 +1,7 @@
 -- Keys in order: where neighbours rise, no two are the same, in whatever order they are looked at.
-use Rattle.std.proofs.Common.{◌≡◌, ◌&&◌, ◌||◌, suc, List, [], ◌∷◌, map, not, Bool, true, false, refl, sym, ap, subst, ◌∙◌, arith, true≢false, IsPermutation, Ordering, Less, Equal, Greater, is_lt, add-one}
-use Rattle.std.specs.Ordering.{nat_cmp, ordering_reverse}
-use Rattle.std.specs.Cmp.{IsTotalOrder}
-use Rattle.std.specs.Cmp.Lexicographic.{slice_cmp}
-use Rattle.std.specs.Str.{bytes_eq}
-use Rattle.std.specs.List.{list_any}
-use Rattle.std.specs.List.Sorted.{IsSortedByKey}
-use Rattle.std.proofs.lemmas.Cmp.{nat_list_cmp_total, tied_itself}
-use Rattle.std.proofs.lemmas.Map.Lookups.{exact_bytes}
-use Rattle.std.proofs.lemmas.Slice.Eq.{bytes_eq-Decides}
+use Rattle.shop_types.proofs.Common.{◌≡◌, ◌&&◌, ◌||◌, suc, List, [], ◌∷◌, map, not, Bool, true, false, refl, sym, ap, subst, ◌∙◌, arith, true≢false, IsPermutation, Ordering, Less, Equal, Greater, is_lt, add-one, nat_cmp, ordering_reverse, IsTotalOrder, slice_cmp, bytes_eq, list_any, IsSortedByKey, nat_list_cmp_total, tied_itself, exact_bytes, bytes_eq-Decides, are_different}
 use native.Mathlib.Numerals.{unary_clauses}
 use Rattle.sqlite_keyed.proofs.ListLemmas.{along_permutation}
-use Rattle.shop_model.specs.Links.{are_different}
 use Rattle.audit_rows.specs.Lists.{Key, is_below, climbs, climbs_above}
 
 pub both : (a b : Bool) → (a && b) ≡ true → (a ≡ true) × (b ≡ true)

@@ -1,11 +1,5 @@
 -- Last moments, which stand in the rows of branches.
-use Rattle.std.proofs.Common.{◌≡◌, ◌&&◌, ◌||◌, ◌+◌, ◌-◌, ◌≤◌, ◌<◌, ◌==◌, ◌++◌, ℕ, List, [], ◌∷◌, map, filter, length, not, Bool, true, false, cond, refl, sym, ap, ◌∙◌, arith, Option, Some, None}
-use Rattle.std.specs.List.{list_any, list_all}
-use Rattle.std.proofs.lemmas.Bool.Decides.{nat_tests}
-use Rattle.shop_model.specs.Calendar.{Moment}
-use Rattle.shop_model.specs.Rows.{Owned, at, owned_by}
-use Rattle.shop_model.specs.Links.{are_different}
-use Rattle.shop_model.specs.Books.{head}
+use Rattle.shop_types.proofs.Common.{◌≡◌, ◌&&◌, ◌||◌, ◌+◌, ◌-◌, ◌≤◌, ◌<◌, ◌==◌, ◌++◌, ℕ, List, [], ◌∷◌, map, filter, length, not, Bool, true, false, cond, refl, sym, ap, ◌∙◌, arith, Option, Some, None, list_any, list_all, nat_tests, Moment, Owned, at, owned_by, are_different, head}
 use Rattle.audit_rows.specs.declared.rows.CheckedBranch.{CheckedBranch}
 use Rattle.audit_rows.specs.Shops.{is_among}
 use Rattle.audit_rows.specs.Ordered.{last_of, lasts_from}

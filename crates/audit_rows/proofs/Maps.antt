@@ -1,6 +1,5 @@
 -- Lists whose elements are changed, and tests of them.
-use Rattle.std.proofs.Common.{◌≡◌, ◌&&◌, suc, List, [], ◌∷◌, map, filter, length, Bool, true, false, cond, refl, ap}
-use Rattle.std.specs.List.{list_all}
+use Rattle.shop_types.proofs.Common.{◌≡◌, ◌&&◌, suc, List, [], ◌∷◌, map, filter, length, Bool, true, false, cond, refl, ap, list_all}
 
 pub map-twice : {X Y Z : Type 0} (g : Y → Z) (f : X → Y) (xs : List X) → map g (map f xs) ≡ map (λ x. g (f x)) xs
 map-twice g f [] = refl

@@ -1,15 +1,5 @@
 -- Marks as keys: what is looked for in them is what custody asks.
-use Rattle.std.proofs.Common.{◌≡◌, ◌&&◌, ◌||◌, ◌+◌, ◌==◌, ℕ, nat_lt, nat_le, List, [], ◌∷◌, ◌++◌, map, not, Bool, true, false, cond, refl, sym, ap, subst, ◌∙◌, arith, true≢false, IsPermutation}
-use Rattle.std.specs.Str.{bytes_eq}
-use Rattle.std.specs.List.{list_any, list_all}
-use Rattle.std.proofs.lemmas.Cmp.{nat_eq_equiv}
-use Rattle.std.proofs.lemmas.Bool.Decides.{nat_tests}
-use Rattle.std.proofs.lemmas.List.Sorted.{list_any-IsPermutation, IsPermutation-map}
-use Rattle.shop_model.specs.Rows.{Row}
-use Rattle.shop_model.specs.Values.{CopyState, Here, Sent, Scrapped}
-use Rattle.shop_model.specs.Books.{BookCopy, Mark, Line, LineState, UnderWay, Arrived, Missing}
-use Rattle.shop_model.specs.Links.{are_different}
-use Rattle.shop_model.specs.Sound.{one, is_mark, is_origin, rows_made, rows_in, lines_in, copy_is, line_is}
+use Rattle.shop_types.proofs.Common.{◌≡◌, ◌&&◌, ◌||◌, ◌+◌, ◌==◌, ℕ, nat_lt, nat_le, List, [], ◌∷◌, ◌++◌, map, not, Bool, true, false, cond, refl, sym, ap, subst, ◌∙◌, arith, true≢false, IsPermutation, bytes_eq, list_any, list_all, nat_eq_equiv, nat_tests, list_any-IsPermutation, IsPermutation-map, Row, CopyState, Here, Sent, Scrapped, BookCopy, Mark, Line, LineState, UnderWay, Arrived, Missing, are_different, one, is_mark, is_origin, rows_made, rows_in, lines_in, copy_is, line_is}
 use Rattle.sqlite_keyed.proofs.ListLemmas.{map-map}
 use Rattle.audit_rows.specs.Lists.{Key, count}
 use Rattle.audit_rows.specs.Marked.{mark_key, film_key, made_keys, is_copy_placed, is_line_placed, Marked, AreInCustody, marked, marked_row, marked_line, places_in, rows_placed, lines_placed, places_are_single}

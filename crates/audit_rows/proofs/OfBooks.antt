@@ -1,7 +1,5 @@
 -- Custody of books is that of their rows of copies and their lines.
-use Rattle.std.proofs.Common.{◌↔◌}
-use Rattle.shop_model.specs.Books.{Books}
-use Rattle.shop_model.specs.Sound.{IsInCustody, all_lines}
+use Rattle.shop_types.proofs.Common.{◌↔◌, Books, IsInCustody, all_lines}
 use Rattle.audit_rows.specs.Marked.{AreInCustody}
 
 pub of_books : (books : Books) → IsInCustody books ↔ AreInCustody books.copies (all_lines books)

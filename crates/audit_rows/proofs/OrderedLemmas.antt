@@ -1,8 +1,5 @@
 -- The books that have rows in order are in order themselves.
-use Rattle.std.proofs.Common.{◌≡◌, ℕ, [], ◌∷◌, map, length, true, sym, ap, ◌∙◌, None}
-use Rattle.std.specs.List.{flat_map}
-use Rattle.shop_model.specs.Links.{has_row}
-use Rattle.shop_model.specs.Books.{Books}
+use Rattle.shop_types.proofs.Common.{◌≡◌, ℕ, [], ◌∷◌, map, length, true, sym, ap, ◌∙◌, None, flat_map, has_row, Books}
 use Rattle.audit_rows.specs.declared.books.OrderedBooks.{OrderedBooks}
 use Rattle.audit_rows.specs.declared.rows.CheckedCustomer.{CheckedCustomer}
 use Rattle.audit_rows.specs.declared.rows.CheckedTerms.{CheckedTerms}

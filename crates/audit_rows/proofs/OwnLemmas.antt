@@ -1,10 +1,5 @@
 -- Rows of one owner among all.
-use Rattle.std.proofs.Common.{◌≡◌, ◌&&◌, ◌||◌, ◌-◌, ◌==◌, ◌⊎◌, inl, inr, ℕ, List, [], ◌∷◌, map, filter, not, Bool, true, false, cond, refl, sym, ap, subst, ◌∙◌, arith, true≢false}
-use Rattle.std.specs.List.{list_any, list_all}
-use Rattle.std.specs.Str.{bytes_eq}
-use Rattle.std.proofs.lemmas.Bool.Decides.{nat_tests}
-use Rattle.shop_model.specs.Rows.{Owned, at, owned_by}
-use Rattle.shop_model.specs.Links.{are_different}
+use Rattle.shop_types.proofs.Common.{◌≡◌, ◌&&◌, ◌||◌, ◌-◌, ◌==◌, ◌⊎◌, inl, inr, ℕ, List, [], ◌∷◌, map, filter, not, Bool, true, false, cond, refl, sym, ap, subst, ◌∙◌, arith, true≢false, list_any, list_all, bytes_eq, nat_tests, Owned, at, owned_by, are_different}
 use Rattle.audit_rows.specs.Shops.{is_among}
 use Rattle.audit_rows.proofs.Keys.{both}
 

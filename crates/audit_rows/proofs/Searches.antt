@@ -1,16 +1,7 @@
 -- What a binary search finds among rows that are in the order of their keys.
-use Rattle.std.proofs.Common.{◌≡◌, ◌<◌, ℕ, List, [], ◌∷◌, map, length, Bool, true, false, refl, sym, ap, ◌∙◌, arith, Result, Ok, Err, Less, Equal, Greater, get_or, is_lt, nat_lt}
-use Rattle.std.specs.Result.{is_ok}
-use Rattle.std.specs.Ordering.{nat_cmp, ordering_reverse}
-use Rattle.std.proofs.lemmas.Bool.Decides.{nat_tests}
-use Rattle.std.proofs.lemmas.Slice.Eq.{bytes_eq-Decides}
-use Rattle.std.specs.Cmp.Lexicographic.{slice_cmp}
-use Rattle.std.specs.Str.{bytes_eq}
-use Rattle.std.specs.List.{list_any}
-use Rattle.std.specs.List.Sorted.{IsSortedByKey, IsBinarySearchResult, IsSearchInRange, IsPartitionPoint}
-use Rattle.std.proofs.lemmas.List.Sorted.{searchable_from_sorted}
+use Rattle.std.proofs.Common.{Result}
+use Rattle.shop_types.proofs.Common.{◌≡◌, ◌<◌, ℕ, List, [], ◌∷◌, map, length, Bool, true, false, refl, sym, ap, ◌∙◌, arith, Ok, Err, Less, Equal, Greater, get_or, is_lt, nat_lt, is_ok, nat_cmp, ordering_reverse, nat_tests, bytes_eq-Decides, slice_cmp, bytes_eq, list_any, IsSortedByKey, IsBinarySearchResult, IsSearchInRange, IsPartitionPoint, searchable_from_sorted, exact_bytes}
 use Rattle.std.proofs.lemmas.List.Recursion.{or_at, or_from_places}
-use Rattle.std.proofs.lemmas.Map.Lookups.{exact_bytes}
 use Rattle.audit_rows.specs.Lists.{Key}
 use Rattle.audit_rows.proofs.Keys.{key_total, any-map, below_apart, bytes_eq_symm}
 

@@ -1,22 +1,11 @@
 -- What the tests of one branch's rows say in the words of the definitions.
-use Rattle.std.proofs.Common.{◌<◌, ◌≡◌, ◌&&◌, ◌||◌, ◌+◌, ◌-◌, ◌≤◌, ◌==◌, ℕ, suc, List, [], ◌∷◌, map, filter, length, not, Bool, true, false, cond, refl, sym, ap, subst, ◌∙◌, arith, true≢false, nat_le, is_none, get_or}
-use Rattle.std.specs.Str.{bytes_eq}
-use Rattle.std.specs.List.{list_any, list_all, AllByRecursion}
-use Rattle.std.proofs.lemmas.Bool.Decides.{nat_tests}
-use Rattle.std.proofs.lemmas.Slice.Eq.{bytes_eq-Decides}
-use Rattle.std.proofs.lemmas.Cmp.{nat_eq_equiv}
-use Rattle.shop_model.specs.Calendar.{Moment, IsMoment, moment_text, seconds_of, same_moment}
-use Rattle.shop_model.specs.Rows.{at, is_empty}
-use Rattle.shop_model.specs.Values.{Rental, Copy}
-use Rattle.shop_model.specs.Stock.{is_here, keeps_out, in_stock}
-use Rattle.shop_model.specs.GoodShop.{rises, are_apart, same_rental}
-use Rattle.shop_model.specs.Links.{has_row, are_different}
-use Rattle.shop_model.specs.Sound.{one}
+use Rattle.std.proofs.Common.{is_none}
+use Rattle.shop_types.proofs.Common.{◌<◌, ◌≡◌, ◌&&◌, ◌||◌, ◌+◌, ◌-◌, ◌≤◌, ◌==◌, ℕ, suc, List, [], ◌∷◌, map, filter, length, not, Bool, true, false, cond, refl, sym, ap, subst, ◌∙◌, arith, true≢false, nat_le, get_or, bytes_eq, list_any, list_all, AllByRecursion, nat_tests, bytes_eq-Decides, nat_eq_equiv, Moment, IsMoment, moment_text, same_moment, at, is_empty, Rental, Copy, is_here, keeps_out, in_stock, rises, are_apart, same_rental, has_row, are_different, one, same_if, same_test}
+use Rattle.shop_model.specs.Calendar.{seconds_of}
 use Rattle.audit_rows.specs.Lists.{Key, rises_from, count}
 use Rattle.audit_rows.specs.Shops.{is_among, rental_key, open_keys, is_held_here}
 use Rattle.audit_rows.proofs.Keys.{both, same_bytes}
 use Rattle.audit_rows.proofs.Maps.{map-twice, all-map}
-use Rattle.shop_model.proofs.RowLemmas.{same_if, same_test}
 
 -- ---- moments that rise
 

@@ -1,11 +1,8 @@
 -- Books that stand for the same tables have the same rows.
-use Rattle.std.proofs.Common.{◌≡◌, ◌+◌, ◌<◌, ◌++◌, ℕ, List, [], ◌∷◌, map, filter, Bool, true, false, cond, refl, sym, ap, subst, subst₂, ◌∙◌, arith, IsPermutation}
-use Rattle.std.specs.List.{AllByRecursion}
+use Rattle.shop_types.proofs.Common.{◌≡◌, ◌+◌, ◌<◌, ◌++◌, ℕ, List, [], ◌∷◌, map, filter, Bool, true, false, cond, refl, sym, ap, subst, subst₂, ◌∙◌, arith, IsPermutation, AllByRecursion, IsPermutation-sym, IsPermutation-trans, IsCounted, numbered, numbered_from}
 use Rattle.std.proofs.lemmas.List.{append-nil}
-use Rattle.std.proofs.lemmas.List.Sorted.{IsPermutation-sym, IsPermutation-trans}
 use Rattle.sqlite_trees.specs.Tree.{IsAscending}
 use Rattle.sqlite_keyed.proofs.ListLemmas.{along_permutation, IsPermutation-filter, filter_all, filter_none}
-use Rattle.shop_model.specs.Rows.{IsCounted, numbered, numbered_from}
 use Rattle.audit_rows.proofs.Canon.{one_rising}
 use Rattle.audit_rows.proofs.JoinLemmas.{unmapped_bag}
 

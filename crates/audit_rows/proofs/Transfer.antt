@@ -1,21 +1,7 @@
 -- Books that are sound stay so in the order of their keys.
-use Rattle.std.proofs.Common.{◌≡◌, ◌&&◌, ◌+◌, ◌≤◌, ◌==◌, ℕ, List, [], ◌∷◌, map, filter, length, Bool, true, false, cond, refl, sym, ap, subst, ◌∙◌, arith, true≢false, IsPermutation, Ordering}
-use Rattle.std.specs.Str.{bytes_eq}
-use Rattle.std.specs.Ordering.{nat_cmp}
-use Rattle.std.specs.List.{list_all, flat_map}
-use Rattle.std.proofs.lemmas.Cmp.{nat_cmp_total, on_total, nat_eq_equiv}
-use Rattle.std.proofs.lemmas.Bool.Decides.{nat_tests}
-use Rattle.std.proofs.lemmas.List.Sorted.{IsPermutation-map, length_permutation, list_any-IsPermutation}
+use Rattle.shop_types.proofs.Common.{◌≡◌, ◌&&◌, ◌+◌, ◌≤◌, ◌==◌, ℕ, List, [], ◌∷◌, map, filter, length, Bool, true, false, cond, refl, sym, ap, subst, ◌∙◌, arith, true≢false, IsPermutation, Ordering, bytes_eq, nat_cmp, list_all, flat_map, nat_cmp_total, on_total, nat_eq_equiv, nat_tests, IsPermutation-map, length_permutation, list_any-IsPermutation, Moment, Row, Owned, is_of, owned_by, IsCounted, AreNumbered, total, Text, Branch, Cast, Rules, Here, Scrapped, Kept, OfficeKept, Catalogue, Shop, IsGoodShop, has_row, IsLinkedShop, IsGoodCatalogue, Books, BookCopy, Mark, Line, UnderWay, Missing, Consignment, shop_of, head, unmarked, as_arrival, as_parcel, HasOneHolder, HasOwners, HasTerms, IsSound, is_made_as, is_origin, is_settled, one, copy_is, lines_in, all_lines}
 use Rattle.sqlite_keyed.proofs.ListLemmas.{along_permutation, IsPermutation-filter}
 use Rattle.sqlite_keyed.proofs.SortLemmas.{sorted_unique}
-use Rattle.shop_model.specs.Calendar.{Moment}
-use Rattle.shop_model.specs.Rows.{Row, Owned, is_of, owned_by, IsCounted, AreNumbered, total}
-use Rattle.shop_model.specs.Values.{Text, Branch, Cast, Rules, Here, Scrapped}
-use Rattle.shop_model.specs.Shop.{Kept, OfficeKept, Catalogue, Shop}
-use Rattle.shop_model.specs.GoodShop.{IsGoodShop}
-use Rattle.shop_model.specs.Links.{has_row, IsLinkedShop, IsGoodCatalogue}
-use Rattle.shop_model.specs.Books.{Books, BookCopy, Mark, Line, UnderWay, Missing, Consignment, shop_of, head, unmarked, as_arrival, as_parcel}
-use Rattle.shop_model.specs.Sound.{HasOneHolder, HasOwners, HasTerms, IsSound, is_made_as, is_origin, is_settled, one, copy_is, lines_in, all_lines}
 use Rattle.audit_rows.specs.Canons.{IsCanonOf, office_key}
 use Rattle.audit_rows.proofs.Keys.{both, different_along, different-map, bytes_eq_symm}
 use Rattle.audit_rows.proofs.Tests.{all_congr}

@@ -1,10 +1,6 @@
 -- Which parts an act's form has, both ways.
-use Rattle.std.proofs.Common.{◌≡◌, ◌↔◌, ◌≤◌, ℕ, List, [], ◌∷◌, ◌++◌, length, Bool, Option, Some, None, refl, sym, ap, subst, ◌∙◌, arith}
-use Rattle.std.proofs.lemmas.Bool.{leb-true, le-leb}
-use Rattle.std.specs.Prelude.{IfSome, IsTrue}
-use Rattle.shop_model.specs.Values.{Act, AddCustomer, SetActive, Rent, TakeBack, Pay, Import, Dispatch, Receive, Scrap}
-use Rattle.shop_schema.specs.Forms.{number_form, text_form, numbers_form, option_form, flag_form, act_form}
-use Rattle.shop_schema.specs.RowValues.{IsNumber, IsNumberList, IsAct, AreNumbers}
+use Rattle.shop_schema.proofs.Common.{◌≡◌, ◌↔◌, ◌≤◌, ℕ, List, [], ◌∷◌, ◌++◌, length, Bool, Option, Some, None, refl, sym, ap, subst, ◌∙◌, arith, leb-true, le-leb, IfSome, Act, AddCustomer, SetActive, Rent, TakeBack, Pay, Import, Dispatch, Receive, Scrap, number_form, text_form, numbers_form, option_form, flag_form, act_form, IsNumber, IsNumberList, IsAct, AreNumbers}
+use Rattle.std.specs.Prelude.{IsTrue}
 use Rattle.audit_tables.specs.declared.parts.Part.{Part}
 use Rattle.audit_tables.specs.declared.parts.Part.TheVariants as part
 use Rattle.audit_tables.specs.Forms.{IsPartForm, IsForm, IsActForm}

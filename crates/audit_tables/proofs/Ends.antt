@@ -1,13 +1,7 @@
 -- A part shows where it ends.
-use Rattle.std.proofs.Common.{◌≡◌, ◌≢◌, ◌↔◌, ◌≤◌, ◌<◌, ◌+◌, ℕ, zero, suc, List, [], ◌∷◌, ◌++◌, length, true, false, refl, sym, ap, subst, ◌∙◌, arith, add-one, get_or, drop, drop-cons, Bool, Bor, Option, Some, None, is_some}
-use Rattle.std.specs.Prelude.{IfSome, if◌then◌else◌}
-use Rattle.shop_values.specs.Texts.{is_token}
-use Rattle.std.specs.List.{flat_map}
-use Rattle.std.specs.Option.{option_to_list}
+use Rattle.std.proofs.Common.{is_some}
+use Rattle.shop_schema.proofs.Common.{◌≡◌, ◌≢◌, ◌↔◌, ◌≤◌, ◌<◌, ◌+◌, ℕ, zero, suc, List, [], ◌∷◌, ◌++◌, length, true, false, refl, sym, ap, subst, ◌∙◌, arith, add-one, get_or, drop, drop-cons, Bool, Bor, Option, Some, None, IfSome, if◌then◌else◌, is_token, flat_map, option_to_list, Moment, IsMoment, moment_text, IsNumber, AreNumbers, number_form, text_form, numbers_form, option_form, act_form}
 use Rattle.std.proofs.lemmas.List.{append-nil}
-use Rattle.shop_model.specs.Calendar.{Moment, IsMoment, moment_text}
-use Rattle.shop_schema.specs.RowValues.{IsNumber, AreNumbers}
-use Rattle.shop_schema.specs.Forms.{number_form, text_form, numbers_form, option_form, act_form}
 use Rattle.shop_schema.proofs.FormLemmas.{number_ends, text_ends, numbers_ends, flag_ends, moment_ends}
 use Rattle.audit_tables.specs.declared.parts.Part.{Part}
 use Rattle.audit_tables.specs.declared.parts.Part.TheVariants as part

@@ -1,11 +1,9 @@
 -- Rows of kept commands: what their cells are, and that the bytes are of the form of a command.
-use Rattle.std.proofs.Common.{◌≡◌, ◌^◌, ℕ, zero, suc, List, [], ◌∷◌, refl, sym, subst, arith}
-use Rattle.sqlite.specs.declared.types.Value.TheVariants.{Text, Blob}
+use Rattle.shop_schema.proofs.Common.{◌≡◌, ◌^◌, ℕ, zero, suc, List, [], ◌∷◌, refl, sym, subst, arith, Blob, number_value, command_form, office_command_form, Kind, FitEach}
+use Rattle.sqlite.specs.declared.types.Value.TheVariants.{Text}
 use Rattle.sqlite_value.specs.Order as sql
-use Rattle.sql_rows.specs.Rows.{number_value}
-use Rattle.shop_schema.specs.Forms.{command_form, office_command_form}
 use Rattle.shop_schema.specs.Kinds as kind
-use Rattle.shop_schema.specs.Kinds.{Kind, Values, columns_of, FitEach}
+use Rattle.shop_schema.specs.Kinds.{Values, columns_of}
 use Rattle.audit_tables.specs.Forms.{IsCommandForm, IsOfficeForm}
 use Rattle.audit_tables.specs.Listed.{FullOf}
 use Rattle.audit_tables.specs.Kept.{OfBranch, OfOffice, any_columns, AnyFits, caller_row, IsOneKept, HasForm}

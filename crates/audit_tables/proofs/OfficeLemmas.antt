@@ -1,9 +1,6 @@
 -- Which parts the form of an act of head office has, both ways.
-use Rattle.std.proofs.Common.{◌≡◌, ◌↔◌, ◌≤◌, ℕ, List, [], ◌∷◌, ◌++◌, length, Option, None, Bool, true, false, refl, sym, ap, ◌∙◌, arith}
+use Rattle.shop_schema.proofs.Common.{◌≡◌, ◌↔◌, ◌≤◌, ℕ, List, [], ◌∷◌, ◌++◌, length, Option, None, Bool, true, false, refl, sym, ap, ◌∙◌, arith, Rule, ByCode, ByComment, OfficeAct, AddCountry, AddCity, AddLanguage, AddCategory, AddActor, AddFilm, PriceFilm, WithdrawFilm, AddCast, AddBranch, AddStaff, StaffLeaves, SetManager, ChooseRule, number_form, text_form, numbers_form, option_form, flag_form, rule_form, person_form, office_form, IsName, IsOfficeAct}
 use Rattle.std.proofs.lemmas.List.{append-nil}
-use Rattle.shop_model.specs.Values.{Rule, ByCode, ByComment, OfficeAct, AddCountry, AddCity, AddLanguage, AddCategory, AddActor, AddFilm, PriceFilm, WithdrawFilm, AddCast, AddBranch, AddStaff, StaffLeaves, SetManager, ChooseRule}
-use Rattle.shop_schema.specs.Forms.{number_form, text_form, numbers_form, option_form, flag_form, rule_form, person_form, office_form}
-use Rattle.shop_schema.specs.RowValues.{IsName, IsOfficeAct}
 use Rattle.audit_tables.specs.declared.parts.Part.{Part}
 use Rattle.audit_tables.specs.declared.parts.Part.TheVariants as part
 use Rattle.audit_tables.specs.Forms.{IsPartForm, IsForm, IsOfficeForm}

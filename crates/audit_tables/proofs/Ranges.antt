@@ -1,7 +1,5 @@
 -- Numbers of rows, by their bounds.
-use Rattle.std.proofs.Common.{◌≤◌, ℕ, arith}
-use Rattle.std.proofs.lemmas.Bool.Decides.{nat_tests}
-use Rattle.shop_schema.specs.RowValues.{IsNumber}
+use Rattle.shop_schema.proofs.Common.{◌≤◌, ℕ, arith, nat_tests, IsNumber}
 
 pub in_range : (n : ℕ) → IsNumber n → (1 ≤ n) × (n ≤ 4_294_967_295)
 in_range n h = (grind (arith, nat_tests), grind (arith, nat_tests))

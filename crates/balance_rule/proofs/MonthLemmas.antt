@@ -1,11 +1,10 @@
 -- The first and the last day of a month, as jiff has them, are those of the written calendar.
-use Rattle.std.proofs.Common.{◌≡◌, ◌∙◌, ℕ, ℤ, pos, ◌≤◌, arith}
+use Rattle.shop_types.proofs.Common.{◌≡◌, ◌∙◌, ℕ, ℤ, pos, ◌≤◌, arith, Moment, days_in_month, month_days, days_from_civil-day_of}
 use Rattle.jiff_core.proofs.CalendarLemmas.{days_in_month_bounds}
 use Rattle.jiff_core.specs.Calendar.{days_from_civil, days_in_month as jiff_days_in_month}
 use Rattle.jiff_core.specs.Date.{IsYmd, month_length}
 use Rattle.jiff_core.specs.declared.civil.date.Date.{Date}
-use Rattle.shop_model.specs.Calendar.{Moment, day_of, day_number, days_in_month, month_days}
-use Rattle.shop_values.proofs.CalendarLemmas.{days_from_civil-day_of}
+use Rattle.shop_model.specs.Calendar.{day_of, day_number}
 use Rattle.balance_rule.specs.Rewards.{seen_days}
 
 pub record IsMonth (year month : ℕ) : Type 0 where

@@ -1,15 +1,7 @@
 -- The sums over a customer's rows are the model's sums over the shop.
-use Rattle.std.proofs.Common.{◌≡◌, ◌∙◌, refl, sym, ap, ℕ, ℤ, pos, ◌+◌, List, [], ◌∷◌, Bool, length, map, filter, inl, inr}
-use Rattle.std.specs.Prelude.{◌==◌, ◌&&◌, ◌-ℤ◌, nat_lt, nat_le, sum_by}
-use Rattle.std.proofs.Math.Bool.{and_assoc}
-use Rattle.std.proofs.lemmas.List.{length-map}
-use Rattle.std.proofs.lemmas.Bool.{cases_Bool}
-use Rattle.std.proofs.lemmas.List.Sums.{sum_by-cons}
-use Rattle.shop_model.specs.Rows.{total}
-use Rattle.shop_model.specs.Calendar.{Moment, is_by, day_of}
-use Rattle.shop_model.specs.Values.{Rental, Terms, Payment, Rule, ByCode, ByComment}
-use Rattle.shop_model.specs.Shop.{Shop}
-use Rattle.shop_model.specs.Stock.{termed, fee_by, balance, paid_within}
+use Rattle.shop_types.proofs.Common.{◌≡◌, ◌∙◌, refl, sym, ap, ℕ, ℤ, pos, ◌+◌, List, [], ◌∷◌, Bool, length, map, filter, inl, inr, ◌-ℤ◌, sum_by, and_assoc, length-map, cases_Bool, sum_by-cons, total, Moment, is_by, Rental, Terms, Payment, Rule, ByCode, ByComment, Shop, termed, fee_by, balance, paid_within}
+use Rattle.std.specs.Prelude.{◌==◌, ◌&&◌, nat_lt, nat_le}
+use Rattle.shop_model.specs.Calendar.{day_of}
 use Rattle.balance_rule.specs.declared.rows.RentalTerms.{RentalTerms}
 use Rattle.balance_rule.specs.declared.rows.Paid.{Paid}
 use Rattle.balance_rule.specs.Balance.{fee_of, amount_of, fees_by, paid_by, owed_at, terms_of, paid_of, AreTermsOf, ArePaidBy}

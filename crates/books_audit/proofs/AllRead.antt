@@ -1,7 +1,6 @@
 -- What was read of all tables, as one.
-use Rattle.std.proofs.Common.{◌≡◌, ◌∙◌, List, [], ◌∷◌, ◌++◌, map, Option, Some, None, true, is_some, refl, ap, subst, subst₂}
-use Rattle.std.specs.List.{AllByRecursion}
-use Rattle.shop_schema.specs.RowValues.{IsNumber}
+use Rattle.std.proofs.Common.{is_some}
+use Rattle.shop_schema.proofs.Common.{◌≡◌, ◌∙◌, List, [], ◌∷◌, ◌++◌, map, Option, Some, None, true, refl, ap, subst, subst₂, AllByRecursion, IsNumber}
 use Rattle.audit_rows.specs.Lists.{Key, climbs}
 use Rattle.audit_rows.specs.Joins.{placed_key, join}
 use Rattle.audit_rows.specs.Ordered.{AreOrdered}

@@ -1,14 +1,5 @@
 -- The tables of counts say the same of rows in order, of the books that have these rows, and of all others for which the tables stand.
-use Rattle.std.proofs.Common.{◌≡◌, ◌==◌, ℕ, List, [], ◌∷◌, ◌++◌, map, filter, length, sym, ap, subst, ◌∙◌, Bool, IsPermutation}
-use Rattle.std.specs.List.{flat_map}
-use Rattle.std.proofs.lemmas.List.Sorted.{IsPermutation-map, IsPermutation-sym, IsPermutation-trans, length_permutation}
-use Rattle.sqlite_keyed.proofs.ListLemmas.{IsPermutation-filter}
-use Rattle.shop_model.specs.Rows.{Row, Owned, is_of, numbered}
-use Rattle.shop_model.specs.Values.{Branch, Customer, Rental, Terms, Payment}
-use Rattle.shop_model.specs.Shop.{Kept}
-use Rattle.shop_model.specs.Books.{Books, BookCopy}
-use Rattle.shop_schema.specs.Columns.{counter_columns, out_columns, pair_columns}
-use Rattle.shop_schema.specs.Counts.{Count, branch_counts, counts_of, is_open, out_of}
+use Rattle.shop_schema.proofs.Common.{◌≡◌, ◌==◌, ℕ, List, [], ◌∷◌, ◌++◌, map, filter, length, sym, ap, subst, ◌∙◌, Bool, IsPermutation, flat_map, IsPermutation-map, IsPermutation-sym, IsPermutation-trans, length_permutation, IsPermutation-filter, Row, Owned, is_of, numbered, Branch, Customer, Rental, Terms, Payment, Kept, Books, BookCopy, counter_columns, out_columns, pair_columns, Count, branch_counts, counts_of, is_open, out_of}
 use Rattle.audit_rows.specs.Canons.{IsCanonOf, office_key, row_key}
 use Rattle.audit_rows.specs.Ordered.{AreOrdered, HaveOrderedRows}
 use Rattle.audit_rows.specs.declared.books.OrderedBooks.{OrderedBooks}

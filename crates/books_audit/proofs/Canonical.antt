@@ -1,17 +1,6 @@
 -- From tables that were read, books in the order of their keys for which the tables stand.
-use Rattle.std.proofs.Common.{◌≡◌, ◌≤◌, ◌+◌, ◌==◌, ◌&&◌, ◌||◌, ℕ, List, [], ◌∷◌, ◌++◌, map, length, not, Bool, true, false, refl, sym, ap, ◌∙◌, arith, cond, nat_le, zero, suc, add-one, Ordering, is_lt, IsPermutation, IsSorted}
-use Rattle.std.specs.List.{AllByRecursion, flat_map, list_any}
-use Rattle.std.specs.Str.{bytes_eq}
-use Rattle.std.specs.Ordering.{nat_cmp}
-use Rattle.std.proofs.lemmas.Cmp.{nat_eq_equiv}
-use Rattle.std.proofs.lemmas.Bool.Decides.{nat_tests}
-use Rattle.std.proofs.lemmas.List.Sorted.{IsPermutation-refl, IsPermutation-trans, IsPermutation-sym, IsPermutation-middle, IsPermutation-cons}
-use Rattle.sqlite_trees.specs.Tree.{IsAscending}
-use Rattle.sqlite_keyed.proofs.ListLemmas.{map-map}
-use Rattle.shop_model.specs.Rows.{Row, numbered_from}
-use Rattle.shop_model.specs.Links.{are_different}
-use Rattle.shop_model.specs.Books.{Line, Consignment}
-use Rattle.shop_schema.specs.RowValues.{IsLine, IsConsignment}
+use Rattle.std.proofs.Common.{nat_le}
+use Rattle.shop_schema.proofs.Common.{◌≡◌, ◌≤◌, ◌+◌, ◌==◌, ◌&&◌, ◌||◌, ℕ, List, [], ◌∷◌, ◌++◌, map, length, not, Bool, true, false, refl, sym, ap, ◌∙◌, arith, cond, zero, suc, add-one, Ordering, is_lt, IsPermutation, IsSorted, AllByRecursion, flat_map, list_any, bytes_eq, nat_cmp, nat_eq_equiv, nat_tests, IsPermutation-refl, IsPermutation-trans, IsPermutation-sym, IsPermutation-middle, IsPermutation-cons, IsAscending, map-map, Row, numbered_from, are_different, Line, Consignment, IsLine, IsConsignment}
 use Rattle.audit_rows.specs.Lists.{Key, climbs, is_below}
 use Rattle.audit_rows.specs.Joins.{Header, header, placed, put_line, header_key}
 use Rattle.audit_rows.proofs.Keys.{below_apart, different_along}

@@ -1,12 +1,6 @@
 -- The counts of books are those of rows in order.
-use Rattle.std.proofs.Common.{◌≡◌, ◌+◌, ◌==◌, ℕ, List, [], ◌∷◌, ◌++◌, map, filter, length, Bool, refl, sym, ap, subst, ◌∙◌, arith, is_none, IsPermutation}
-use Rattle.std.specs.List.{flat_map, fold}
-use Rattle.sqlite_keyed.proofs.ListLemmas.{map-map}
-use Rattle.shop_model.specs.Rows.{Row, Owned, is_of, numbered_from}
-use Rattle.shop_model.specs.Values.{Customer, Branch}
-use Rattle.shop_model.specs.Shop.{Kept, OfficeKept}
-use Rattle.shop_model.specs.Books.{Books, Consignment}
-use Rattle.shop_schema.specs.Counts.{Pair, count_pair, pairs_of, branch_counts, counts_of, is_open, out_of}
+use Rattle.std.proofs.Common.{is_none}
+use Rattle.shop_schema.proofs.Common.{◌≡◌, ◌+◌, ◌==◌, ℕ, List, [], ◌∷◌, ◌++◌, map, filter, length, Bool, refl, sym, ap, subst, ◌∙◌, arith, IsPermutation, flat_map, fold, map-map, Row, Owned, is_of, numbered_from, Customer, Branch, Kept, OfficeKept, Books, Consignment, Pair, count_pair, pairs_of, branch_counts, counts_of, is_open, out_of}
 use Rattle.audit_rows.specs.Ordered.{HaveOrderedRows, customer_row, kept_row, branch_row, without_last}
 use Rattle.audit_rows.specs.Joins.{header}
 use Rattle.audit_rows.specs.Seen.{seen_copy, seen_rental_row, seen_payment_row, seen_header, seen_placed}

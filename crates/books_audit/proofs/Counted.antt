@@ -1,11 +1,6 @@
 -- Numbers that count, as a test and as a fact; and what was read of shared rows, with the number of those that were kept.
-use Rattle.std.proofs.Common.{◌≡◌, ◌+◌, ◌==◌, ◌&&◌, ◌<◌, ◌^◌, ℕ, List, [], ◌∷◌, length, true, refl, sym, ap, subst, ◌∙◌, arith, IsPermutation}
-use Rattle.std.proofs.lemmas.Bool.Decides.{nat_tests}
+use Rattle.shop_schema.proofs.Common.{◌≡◌, ◌<◌, ◌^◌, ℕ, List, [], ◌∷◌, length, refl, sym, ap, subst, ◌∙◌, arith, IsPermutation, along_permutation}
 use Rattle.sqlite_value.specs.Order as sql
-use Rattle.sqlite_keyed.proofs.ListLemmas.{along_permutation}
-use Rattle.shop_model.specs.Rows.{IsCounted}
-use Rattle.audit_rows.specs.Lists.{counts_from}
-use Rattle.audit_rows.proofs.Keys.{both}
 use Rattle.audit_rows.proofs.Maps.{length-map}
 use Rattle.audit_tables.specs.Listed.{AreRows}
 use Rattle.books_audit.specs.Read.{SharedRead}

@@ -1,10 +1,6 @@
 -- The rows of counts of branches, one branch after another.
-use Rattle.std.proofs.Common.{◌≡◌, ◌∙◌, ◌+◌, ◌<◌, ◌++◌, ℕ, zero, suc, List, [], ◌∷◌, map, length, drop, add-one, refl, sym, ap, arith}
-use Rattle.std.specs.List.{flat_map}
+use Rattle.shop_schema.proofs.Common.{◌≡◌, ◌∙◌, ◌+◌, ◌<◌, ◌++◌, ℕ, zero, suc, List, [], ◌∷◌, map, length, drop, add-one, refl, sym, ap, arith, flat_map, numbered_from, counter_columns, Count}
 use Rattle.sqlite_value.specs.Order as sql
-use Rattle.shop_model.specs.Rows.{numbered_from}
-use Rattle.shop_schema.specs.Columns.{counter_columns}
-use Rattle.shop_schema.specs.Counts.{Count}
 
 once_more : (xs ys zs : List sql.Row) → (xs ++ ys) ++ zs ≡ xs ++ (ys ++ zs)
 once_more [] ys zs = refl

@@ -1,15 +1,7 @@
 -- What was read of rows is all that they stand for.
-use Rattle.std.proofs.Common.{◌≡◌, ◌&&◌, ◌+◌, List, map, false, refl, sym, subst, ◌∙◌, true≢false, IsPermutation, Result, Ok, Err, IfOk}
-use Rattle.std.specs.List.{AllByRecursion}
-use Rattle.std.proofs.lemmas.List.Sorted.{IsPermutation-map, IsPermutation-refl, IsPermutation-trans, IsPermutation-sym}
-use Rattle.sqlite_keyed.proofs.ListLemmas.{map-map}
+use Rattle.std.proofs.Common.{IfOk}
+use Rattle.shop_schema.proofs.Common.{◌≡◌, ◌&&◌, ◌+◌, List, map, false, refl, sym, subst, ◌∙◌, true≢false, IsPermutation, Result, Ok, Err, AllByRecursion, IsPermutation-map, IsPermutation-refl, IsPermutation-trans, IsPermutation-sym, map-map, Row, Here, Scrapped, BookCopy, Line, UnderWay, Missing, one, is_origin, copy_is, line_is, copy_columns, IsRow, IsCopy, Audit}
 use Rattle.sqlite_value.specs.Order as sql
-use Rattle.shop_model.specs.Rows.{Row}
-use Rattle.shop_model.specs.Values.{Here, Scrapped}
-use Rattle.shop_model.specs.Books.{BookCopy, Line, UnderWay, Missing}
-use Rattle.shop_model.specs.Sound.{one, is_origin, copy_is, line_is}
-use Rattle.shop_schema.specs.Columns.{copy_columns}
-use Rattle.shop_schema.specs.RowValues.{IsRow, IsCopy}
 use Rattle.shop_schema.proofs.OneRow.{same_row}
 use Rattle.shop_schema.proofs.ShopTables as table
 use Rattle.audit_rows.specs.Joins.{Placed}
@@ -25,7 +17,6 @@ use Rattle.audit_tables.specs.Columns.{placed_columns, IsPlaced}
 use Rattle.audit_tables.specs.Listed.{AreRows}
 use Rattle.audit_tables.specs.Rows.{copy_row, IsOneCopy, IsCopyRow, placed_row, IsOneLine, IsLineRow}
 use Rattle.audit_tables.specs.States.{state_again, line_state_again}
-use Rattle.shop_types.specs.declared.audit.Audit.{Audit}
 use Rattle.books_audit.specs.Audited.{StandFor, Stand, lines_of, CountsCustody, IsCustodyAudit, AuditsRows}
 use Rattle.books_audit.proofs.FullLists.{fulls, seen_all, ones}
 

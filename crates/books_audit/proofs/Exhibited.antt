@@ -1,16 +1,5 @@
 -- Tables that were read, and whose rows are in order, stand for books that have these rows.
-use Rattle.std.proofs.Common.{◌≡◌, ◌==◌, ◌&&◌, ◌<◌, ◌^◌, ℕ, List, [], ◌∷◌, map, length, Some, None, Option, refl, sym, ap, subst, ◌∙◌, IsPermutation}
-use Rattle.std.specs.List.{AllByRecursion, flat_map}
-use Rattle.std.specs.Str.{bytes_eq}
-use Rattle.std.proofs.lemmas.List.Sorted.{IsPermutation-map, IsPermutation-trans, IsPermutation-sym}
-use Rattle.sqlite_keyed.proofs.ListLemmas.{map-map, IsPermutation-flat_map}
-use Rattle.shop_model.specs.Calendar.{Moment}
-use Rattle.shop_model.specs.Rows.{Owned, owned_by}
-use Rattle.shop_model.specs.Values.{Text, Cast, Branch, Rule}
-use Rattle.shop_model.specs.Shop.{Kept, OfficeKept}
-use Rattle.shop_model.specs.Books.{Books, Consignment, head}
-use Rattle.shop_schema.specs.Columns.{chain_columns, named_columns, city_columns, actor_columns, film_columns, cast_columns, staff_columns, customer_columns, copy_columns, rental_columns, terms_columns, rule_columns, payment_columns, lot_columns, consignment_columns, line_rows}
-use Rattle.shop_schema.specs.RowValues.{IsName, IsToken, IsCity, IsActor, IsFilm, IsCast, IsStaff, IsRow, IsCustomer, IsCopy, IsRental, IsTerms, IsPayment, IsLot, IsConsignment, IsLast}
+use Rattle.shop_schema.proofs.Common.{◌≡◌, ◌==◌, ◌&&◌, ◌<◌, ◌^◌, ℕ, List, [], ◌∷◌, map, length, Some, None, Option, refl, sym, ap, subst, ◌∙◌, IsPermutation, AllByRecursion, flat_map, bytes_eq, IsPermutation-map, IsPermutation-trans, IsPermutation-sym, map-map, IsPermutation-flat_map, Moment, Owned, owned_by, Text, Cast, Branch, Rule, Kept, OfficeKept, Books, Consignment, head, chain_columns, named_columns, city_columns, actor_columns, film_columns, cast_columns, staff_columns, customer_columns, copy_columns, rental_columns, terms_columns, rule_columns, payment_columns, lot_columns, consignment_columns, line_rows, IsName, IsToken, IsCity, IsActor, IsFilm, IsCast, IsStaff, IsRow, IsCustomer, IsCopy, IsRental, IsTerms, IsPayment, IsLot, IsConsignment, IsLast}
 use Rattle.audit_rows.specs.Lists.{climbs}
 use Rattle.audit_rows.specs.Canons.{row_key, office_key}
 use Rattle.audit_rows.specs.Joins.{header, placed, join}

@@ -1,11 +1,6 @@
 -- Lists of what was kept of a table's rows, in another order, are kept of values whose columns are the table's, and the rows of values are the table's.
-use Rattle.std.proofs.Common.{◌≡◌, ◌≤◌, ◌+◌, ℕ, List, [], ◌∷◌, map, length, refl, sym, ap, subst, ◌∙◌, arith, IsPermutation}
-use Rattle.std.specs.List.{AllByRecursion}
-use Rattle.std.proofs.lemmas.List.Sorted.{IsPermutation-map, IsPermutation-refl, IsPermutation-trans, IsPermutation-sym}
-use Rattle.sqlite_keyed.proofs.ListLemmas.{map-map}
+use Rattle.shop_schema.proofs.Common.{◌≡◌, ◌≤◌, ◌+◌, ℕ, List, [], ◌∷◌, map, length, refl, sym, ap, subst, ◌∙◌, arith, IsPermutation, AllByRecursion, IsPermutation-map, IsPermutation-refl, IsPermutation-trans, IsPermutation-sym, map-map, IsCounted, numbered_from, numbered, IsShared, AreShared}
 use Rattle.sqlite_value.specs.Order as sql
-use Rattle.shop_model.specs.Rows.{IsCounted, numbered_from, numbered}
-use Rattle.shop_schema.specs.RowValues.{IsShared, AreShared}
 use Rattle.audit_rows.proofs.JoinLemmas.{unmapped_bag}
 use Rattle.audit_rows.proofs.Standing.{all_moved}
 use Rattle.audit_tables.specs.Listed.{AreRows, IsRowOf, FullOf}

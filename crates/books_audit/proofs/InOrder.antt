@@ -1,24 +1,16 @@
 -- Books that have rows in order are in order.
-use Rattle.std.proofs.Common.{◌≡◌, ◌==◌, [], ◌∷◌, map, length, true, sym, ap, ◌∙◌, arith, None}
-use Rattle.std.specs.List.{list_all}
-use Rattle.std.proofs.lemmas.List.Sorted.{IsPermutation-sym}
-use Rattle.sqlite_keyed.proofs.ListLemmas.{map-map}
-use Rattle.shop_model.specs.Calendar.{Moment}
-use Rattle.shop_model.specs.Rows.{Owned}
-use Rattle.shop_model.specs.Links.{has_row, are_different}
-use Rattle.shop_model.specs.Books.{Books}
+use Rattle.shop_schema.proofs.Common.{◌≡◌, ◌==◌, [], ◌∷◌, map, length, true, sym, ap, ◌∙◌, arith, list_all, IsPermutation-sym, map-map, Moment, Owned, has_row, are_different, Books}
 use Rattle.audit_rows.specs.Lists.{climbs}
 use Rattle.audit_rows.specs.Canons.{row_key}
 use Rattle.audit_rows.specs.Joins.{header_key, placed_key}
 use Rattle.audit_rows.specs.Seen.{seen_copy, seen_rental_row, seen_payment_row, seen_header, seen_placed}
 use Rattle.audit_rows.specs.Shops.{is_among}
-use Rattle.audit_rows.specs.Ordered.{AreOrdered, HaveOrderedRows, customer_row, terms_row, branch_row, without_last}
+use Rattle.audit_rows.specs.Ordered.{AreOrdered, HaveOrderedRows, customer_row, terms_row}
 use Rattle.audit_rows.specs.declared.books.OrderedBooks.{OrderedBooks}
 use Rattle.audit_rows.specs.declared.rows.CheckedCustomer.{CheckedCustomer}
 use Rattle.audit_rows.specs.declared.rows.CheckedTerms.{CheckedTerms}
 use Rattle.audit_rows.proofs.JoinLemmas.{join_sound}
 use Rattle.audit_rows.proofs.LastLemmas.{lasts_owned, lasts_apart}
-use Rattle.audit_rows.proofs.Maps.{length-map}
 use Rattle.audit_rows.proofs.ShopLemmas.{has_row_is}
 use Rattle.audit_rows.proofs.Tests.{all_congr}
 use Rattle.books_audit.specs.Audits.{AreInOrder}

@@ -1,12 +1,6 @@
 -- The table of kept commands stands for head office's and for the branches'.
-use Rattle.std.proofs.Common.{◌≡◌, ◌≢◌, ◌++◌, ℕ, List, [], ◌∷◌, map, refl, sym, ap, subst, ◌∙◌, arith, IsPermutation}
-use Rattle.std.specs.List.{AllByRecursion}
-use Rattle.std.proofs.lemmas.List.Sorted.{IsPermutation-trans, IsPermutation-append_comm}
+use Rattle.shop_schema.proofs.Common.{◌≡◌, ◌≢◌, ◌++◌, ℕ, List, [], ◌∷◌, map, refl, sym, ap, subst, ◌∙◌, arith, IsPermutation, AllByRecursion, IsPermutation-trans, IsPermutation-append_comm, Owned, Kept, OfficeKept, kept_columns, office_kept_columns, kept_rows, IsNumber, IsKept, IsOfficeKept}
 use Rattle.sqlite_value.specs.Order as sql
-use Rattle.shop_model.specs.Rows.{Owned}
-use Rattle.shop_model.specs.Shop.{Kept, OfficeKept}
-use Rattle.shop_schema.specs.Columns.{kept_columns, office_kept_columns, kept_rows}
-use Rattle.shop_schema.specs.RowValues.{IsNumber, IsKept, IsOfficeKept}
 use Rattle.audit_rows.specs.Lists.{Key}
 use Rattle.audit_rows.specs.Ordered.{kept_row}
 use Rattle.audit_rows.specs.declared.rows.CheckedKept.{CheckedKept}

@@ -1,15 +1,7 @@
 -- One canonical set of books decides an audit.
-use Rattle.std.proofs.Common.{◌≡◌, ◌↔◌, ◌+◌, ◌&&◌, ℕ, List, [], ◌∷◌, map, refl, sym, ap, subst, ◌∙◌, IsTrue, true≢false, IsPermutation}
-use Rattle.std.specs.List.{flat_map}
-use Rattle.std.proofs.lemmas.List.Sorted.{IsPermutation-sym}
-use Rattle.sqlite_keyed.proofs.ListLemmas.{map-map, map-flat_map, flat_map_same_on, IsPermutation-flat_map}
-use Rattle.shop_model.specs.Rows.{Row, numbered_from}
-use Rattle.shop_model.specs.Values.{Rules, Here, Scrapped}
-use Rattle.shop_model.specs.Books.{Books, BookCopy, Line, Consignment, UnderWay, Missing}
-use Rattle.shop_model.specs.Sound.{IsSound, widest, all_lines, one, is_origin, copy_is, line_is, rows_made, rows_in}
+use Rattle.shop_schema.proofs.Common.{◌≡◌, ◌↔◌, ◌+◌, ◌&&◌, ℕ, List, [], ◌∷◌, map, refl, sym, ap, subst, ◌∙◌, IsTrue, true≢false, IsPermutation, flat_map, IsPermutation-sym, map-map, map-flat_map, flat_map_same_on, IsPermutation-flat_map, Row, numbered_from, Rules, Here, Scrapped, Books, BookCopy, Line, Consignment, UnderWay, Missing, IsSound, widest, all_lines, one, is_origin, copy_is, line_is, rows_made, rows_in, Audit}
 use Rattle.audit_rows.proofs.Transfer.{stays_sound, total_along}
 use Rattle.audit_rows.specs.Marked.{any_mark}
-use Rattle.shop_types.specs.declared.audit.Audit.{Audit}
 use Rattle.books_audit.specs.declared.tables.TableRows.{TableRows}
 use Rattle.books_audit.specs.Audits.{StandsForBooks, AreInOrder, Counts, IsAuditOf}
 use Rattle.books_audit.specs.Read.{AreRead, AreJoined, AuditsOrdered}

@@ -1,13 +1,5 @@
 -- Consignments counted by pairs of branches: the order of consignments only moves the rows of counts.
-use Rattle.std.proofs.Common.{◌≡◌, ◌+◌, ◌==◌, ◌&&◌, ℕ, List, [], ◌∷◌, Bool, true, false, cond, refl, sym, subst, subst₂, ap, ◌∙◌, true≢false, IsPermutation}
-use Rattle.std.specs.List.{AllByRecursion, fold}
-use Rattle.std.proofs.lemmas.Bool.{and_parts}
-use Rattle.std.proofs.lemmas.Cmp.{nat_eq_equiv}
-use Rattle.std.proofs.lemmas.List.Sorted.{IsPermutation-refl, IsPermutation-trans, IsPermutation-cons, IsPermutation-middle}
-use Rattle.sqlite_keyed.proofs.ListLemmas.{along_permutation}
-use Rattle.shop_model.specs.Books.{Consignment}
-use Rattle.shop_model.proofs.RowLemmas.{same_if}
-use Rattle.shop_schema.specs.Counts.{Pair, is_pair, count_pair, pairs_of}
+use Rattle.shop_schema.proofs.Common.{◌≡◌, ◌+◌, ◌==◌, ◌&&◌, ℕ, List, [], ◌∷◌, Bool, true, false, cond, refl, sym, subst, subst₂, ap, ◌∙◌, true≢false, IsPermutation, AllByRecursion, fold, and_parts, nat_eq_equiv, IsPermutation-refl, IsPermutation-trans, IsPermutation-cons, IsPermutation-middle, along_permutation, Consignment, same_if, Pair, is_pair, count_pair, pairs_of}
 use Rattle.audit_rows.proofs.Standing.{all_moved}
 
 -- no row is of the pair

@@ -1,10 +1,5 @@
 -- Consignments in the order of their keys, counted one after another: those of a pair of branches stand together.
-use Rattle.std.proofs.Common.{◌≡◌, ◌∙◌, ◌+◌, ◌<◌, ◌==◌, ◌&&◌, ℕ, List, [], ◌∷◌, ◌++◌, map, length, drop, get_or, drop-cons, add-one, suc, Bool, true, false, refl, sym, ap, subst, arith}
-use Rattle.std.specs.List.{AllByRecursion}
-use Rattle.std.proofs.lemmas.Bool.{and_parts}
-use Rattle.shop_model.proofs.RowLemmas.{same_if, same_test}
-use Rattle.std.proofs.lemmas.Bool.Decides.{nat_tests}
-use Rattle.shop_schema.specs.Counts.{Pair, is_pair, count_pair}
+use Rattle.shop_schema.proofs.Common.{◌≡◌, ◌∙◌, ◌+◌, ◌<◌, ◌==◌, ◌&&◌, ℕ, List, [], ◌∷◌, ◌++◌, map, length, drop, get_or, drop-cons, add-one, suc, true, false, refl, sym, ap, subst, arith, AllByRecursion, and_parts, same_if, same_test, nat_tests, Pair, is_pair, count_pair}
 use Rattle.audit_rows.specs.Lists.{Key, is_below, climbs_above}
 use Rattle.audit_rows.specs.declared.rows.CheckedHeader.{CheckedHeader}
 use Rattle.audit_rows.proofs.Keys.{both, below_trans, below_apart}

@@ -1,15 +1,6 @@
 -- Two books for which the same tables stand have the same rows.
-use Rattle.std.proofs.Common.{◌≡◌, ℕ, List, [], ◌∷◌, map, arith, IsPermutation}
-use Rattle.std.specs.List.{AllByRecursion}
-use Rattle.std.proofs.lemmas.List.Sorted.{IsPermutation-trans, IsPermutation-sym}
+use Rattle.shop_schema.proofs.Common.{◌≡◌, ℕ, List, [], ◌∷◌, map, arith, IsPermutation, AllByRecursion, IsPermutation-trans, IsPermutation-sym, short_bag, numbered, Rule, Books, rule_columns, IsName, IsShared, IsCity, IsActor, IsFilm, IsStaff, AreShared, TableOf}
 use Rattle.sqlite_value.specs.Order as sql
-use Rattle.sql_rows.proofs.Bags.{short_bag}
-use Rattle.shop_model.specs.Rows.{numbered}
-use Rattle.shop_model.specs.Values.{Rule}
-use Rattle.shop_model.specs.Books.{Books}
-use Rattle.shop_schema.specs.Columns.{rule_columns}
-use Rattle.shop_schema.specs.RowValues.{IsName, IsShared, IsCity, IsActor, IsFilm, IsStaff, AreShared}
-use Rattle.shop_schema.specs.TableOf.{TableOf}
 use Rattle.shop_schema.proofs.OneRow.{same_row}
 use Rattle.shop_schema.proofs.ShopTables as table
 use Rattle.audit_rows.proofs.Standing.{same_rows, one_numbered}

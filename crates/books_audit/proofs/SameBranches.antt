@@ -1,15 +1,5 @@
 -- Two books for which the same tables stand have the same branches, with the same last moments.
-use Rattle.std.proofs.Common.{◌≡◌, ◌≤◌, ◌<◌, ◌+◌, ◌^◌, ◌==◌, ℕ, List, [], ◌∷◌, map, filter, length, Bool, true, false, cond, Option, refl, sym, ap, subst, ◌∙◌, arith, IsPermutation}
-use Rattle.std.specs.Prelude.{IfSome}
-use Rattle.std.specs.List.{AllByRecursion}
-use Rattle.std.proofs.lemmas.Bool.Decides.{nat_tests}
-use Rattle.shop_model.specs.Calendar.{Moment, IsMoment}
-use Rattle.shop_model.specs.Rows.{Owned, owned_by, numbered_from}
-use Rattle.shop_model.specs.Values.{Branch}
-use Rattle.shop_model.specs.Links.{has_row}
-use Rattle.shop_model.specs.Books.{Books, head}
-use Rattle.shop_schema.specs.Columns.{branch_columns}
-use Rattle.shop_schema.specs.RowValues.{IsLast, IsBranch, AreShared}
+use Rattle.shop_schema.proofs.Common.{◌≡◌, ◌≤◌, ◌<◌, ◌+◌, ◌^◌, ◌==◌, ℕ, List, [], ◌∷◌, map, filter, length, Bool, true, false, cond, Option, refl, sym, ap, subst, ◌∙◌, arith, IsPermutation, IfSome, AllByRecursion, nat_tests, Moment, IsMoment, Owned, owned_by, numbered_from, Branch, has_row, Books, head, branch_columns, IsLast, IsBranch, AreShared}
 use Rattle.audit_rows.specs.Shops.{is_among}
 use Rattle.audit_rows.proofs.ShopLemmas.{has_row_is}
 use Rattle.audit_tables.specs.AuditTables as audited

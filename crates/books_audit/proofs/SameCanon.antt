@@ -1,10 +1,5 @@
 -- Of two books for which the same tables stand, the one in the order of its keys is the other in that order.
-use Rattle.std.proofs.Common.{sym, ap, ◌∙◌}
-use Rattle.std.specs.List.{list_all}
-use Rattle.shop_model.specs.Calendar.{Moment}
-use Rattle.shop_model.specs.Rows.{Owned}
-use Rattle.shop_model.specs.Links.{has_row}
-use Rattle.shop_model.specs.Books.{Books}
+use Rattle.shop_schema.proofs.Common.{sym, ap, ◌∙◌, list_all, Moment, Owned, has_row, Books}
 use Rattle.audit_rows.specs.Canons.{IsCanonOf}
 use Rattle.books_audit.specs.declared.tables.TableRows.{TableRows}
 use Rattle.books_audit.specs.Audits.{HaveBooks, AreInOrder}

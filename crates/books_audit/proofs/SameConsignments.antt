@@ -1,12 +1,5 @@
 -- Two books for which the same tables stand have the same consignments.
-use Rattle.std.proofs.Common.{◌≡◌, ◌≤◌, ◌+◌, ℕ, List, [], ◌∷◌, ◌++◌, map, length, true, Some, sym, subst, ◌∙◌, arith, IsPermutation}
-use Rattle.std.specs.List.{AllByRecursion, flat_map}
-use Rattle.std.proofs.lemmas.List.Sorted.{IsPermutation-sym, IsPermutation-trans, IsPermutation-map}
-use Rattle.sqlite_keyed.proofs.ListLemmas.{map-map, map-flat_map, flat_map_same_on, IsPermutation-flat_map}
-use Rattle.shop_model.specs.Rows.{numbered, numbered_from}
-use Rattle.shop_model.specs.Books.{Books, Line, Consignment}
-use Rattle.shop_schema.specs.Columns.{consignment_columns, line_rows}
-use Rattle.shop_schema.specs.RowValues.{IsNumber, IsLine, IsConsignment}
+use Rattle.shop_schema.proofs.Common.{◌≡◌, ◌≤◌, ◌+◌, ℕ, List, [], ◌∷◌, ◌++◌, map, length, true, Some, sym, subst, ◌∙◌, arith, IsPermutation, AllByRecursion, flat_map, IsPermutation-sym, IsPermutation-trans, IsPermutation-map, map-map, map-flat_map, flat_map_same_on, IsPermutation-flat_map, numbered, numbered_from, Books, Line, Consignment, consignment_columns, line_rows, IsNumber, IsLine, IsConsignment}
 use Rattle.shop_schema.proofs.OneRow.{same_row}
 use Rattle.audit_rows.specs.Lists.{climbs, is_below}
 use Rattle.audit_rows.specs.Joins.{Header, header_key, placed_key, header, placed, put_line}

@@ -1,20 +1,7 @@
 -- Two books for which the same tables stand have the same kept commands of branches, and the same keys of head office's.
-use Rattle.std.proofs.Common.{◌≡◌, ◌==◌, ℕ, List, [], ◌∷◌, map, not, Bool, true, false, refl, ap, subst, arith, IsTrue, IsPermutation, pos}
-use Rattle.std.specs.List.{AllByRecursion}
-use Rattle.std.proofs.lemmas.Bool.Decides.{nat_tests}
-use Rattle.std.proofs.lemmas.List.Sorted.{IsPermutation-map, IsPermutation-trans, IsPermutation-sym}
-use Rattle.sqlite.specs.declared.types.Value.{Value}
-use Rattle.sqlite.specs.declared.types.Value.TheVariants.{Text, Int}
+use Rattle.shop_schema.proofs.Common.{◌≡◌, ◌==◌, ℕ, List, [], ◌∷◌, map, not, Bool, true, false, refl, ap, subst, arith, IsTrue, IsPermutation, pos, AllByRecursion, nat_tests, IsPermutation-map, IsPermutation-trans, IsPermutation-sym, Value, Int, column, map-map, short_bag, Owned, Kept, OfficeKept, same_command, Books, chain_columns, kept_columns, office_kept_columns, kept_rows, command_form, IsKept, IsNumber}
+use Rattle.sqlite.specs.declared.types.Value.TheVariants.{Text}
 use Rattle.sqlite_value.specs.Order as sql
-use Rattle.sqlite_value.specs.Order.{column}
-use Rattle.sqlite_keyed.proofs.ListLemmas.{map-map}
-use Rattle.sql_rows.proofs.Bags.{short_bag}
-use Rattle.shop_model.specs.Rows.{Owned}
-use Rattle.shop_model.specs.Shop.{Kept, OfficeKept, same_command}
-use Rattle.shop_model.specs.Books.{Books}
-use Rattle.shop_schema.specs.Columns.{chain_columns, kept_columns, office_kept_columns, kept_rows}
-use Rattle.shop_schema.specs.Forms.{command_form}
-use Rattle.shop_schema.specs.RowValues.{IsKept, IsNumber}
 use Rattle.shop_schema.proofs.OneToOne.{command_equal, forms_are_one_to_one}
 use Rattle.audit_rows.specs.Canons.{office_key}
 use Rattle.audit_rows.proofs.Standing.{same_bag_of, first_bag, second_bag}

@@ -1,16 +1,6 @@
 -- Tables of shared rows stand for lists.
-use Rattle.std.proofs.Common.{◌≡◌, ◌<◌, ◌≤◌, ◌+◌, ◌-◌, ◌==◌, ◌^◌, ◌++◌, ℕ, List, [], ◌∷◌, map, length, false, Option, Some, None, refl, sym, ap, subst, ◌∙◌, arith, IsPermutation}
-use Rattle.std.specs.Prelude.{IfSome, if◌then◌else◌}
-use Rattle.std.specs.List.{AllByRecursion}
-use Rattle.std.proofs.lemmas.Bool.Decides.{nat_tests}
+use Rattle.shop_schema.proofs.Common.{◌≡◌, ◌<◌, ◌≤◌, ◌+◌, ◌-◌, ◌==◌, ◌^◌, ◌++◌, ℕ, List, [], ◌∷◌, map, length, false, Option, Some, None, refl, sym, ap, subst, ◌∙◌, arith, IsPermutation, IfSome, if◌then◌else◌, AllByRecursion, nat_tests, map-map, Moment, IsMoment, Owned, IsCounted, numbered, numbered_from, at, owned_by, Branch, head, branch_columns, IsShared, AreShared, IsLast, IsBranch}
 use Rattle.sqlite_value.specs.Order as sql
-use Rattle.sqlite_keyed.proofs.ListLemmas.{map-map}
-use Rattle.shop_model.specs.Calendar.{Moment, IsMoment}
-use Rattle.shop_model.specs.Rows.{Owned, IsCounted, numbered, numbered_from, at, owned_by}
-use Rattle.shop_model.specs.Values.{Branch}
-use Rattle.shop_model.specs.Books.{head}
-use Rattle.shop_schema.specs.Columns.{branch_columns}
-use Rattle.shop_schema.specs.RowValues.{IsShared, AreShared, IsLast, IsBranch}
 use Rattle.audit_tables.specs.Listed.{FullOf}
 use Rattle.audit_tables.specs.Columns.{told_columns, IsTold}
 use Rattle.audit_rows.specs.Ordered.{branch_row, last_of, lasts_from}

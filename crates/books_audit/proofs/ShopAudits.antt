@@ -1,12 +1,5 @@
 -- What an audit of rows that are a shop's tables says of the books for which the tables stand.
-use Rattle.std.proofs.lemmas.List.Sorted.{IsPermutation-sym, IsPermutation-trans}
-use Rattle.sqlite_trees.specs.Tree.{Trees}
-use Rattle.shop_model.specs.Values.{Rules}
-use Rattle.shop_model.specs.Books.{Books}
-use Rattle.shop_model.specs.Sound.{IsSound, widest}
-use Rattle.shop_schema.specs.RowValues.{AreValues}
-use Rattle.shop_schema.specs.Shop.{StandsFor}
-use Rattle.shop_types.specs.declared.audit.Audit.{Audit}
+use Rattle.shop_schema.proofs.Common.{IsPermutation-sym, IsPermutation-trans, Trees, Rules, Books, IsSound, widest, AreValues, StandsFor, Audit}
 use Rattle.books_audit.specs.declared.tables.TableRows.{TableRows}
 use Rattle.books_audit.specs.Audits.{HaveKeys, StandsForBooks, IsAuditOf}
 use Rattle.books_audit.specs.Shops.{HaveTables, IsAuditOfShop}

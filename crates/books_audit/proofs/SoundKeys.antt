@@ -1,19 +1,8 @@
 -- Sound books have no key twice.
-use Rattle.std.proofs.Common.{◌≡◌, ◌∙◌, ◌+◌, ◌<◌, ◌==◌, ◌&&◌, ◌||◌, ℕ, List, [], ◌∷◌, map, filter, not, Bool, true, false, cond, refl, sym, ap, arith}
-use Rattle.std.specs.List.{list_any}
-use Rattle.std.specs.Str.{bytes_eq}
-use Rattle.std.proofs.lemmas.Bool.Decides.{nat_tests}
-use Rattle.std.proofs.lemmas.Cmp.{nat_eq_equiv}
-use Rattle.shop_model.specs.Rows.{Row, Owned, IsCounted, is_of, owned_by}
-use Rattle.shop_model.specs.Links.{are_different}
-use Rattle.shop_model.specs.Values.{Rules, Text}
-use Rattle.shop_model.specs.Shop.{Kept}
-use Rattle.shop_model.specs.Books.{Books, Consignment}
-use Rattle.shop_model.specs.Sound.{IsSound, widest}
+use Rattle.shop_schema.proofs.Common.{◌≡◌, ◌∙◌, ◌+◌, ◌<◌, ◌==◌, ◌&&◌, ◌||◌, ℕ, List, [], ◌∷◌, map, filter, not, Bool, true, false, cond, refl, sym, ap, arith, list_any, bytes_eq, nat_tests, nat_eq_equiv, Row, Owned, IsCounted, is_of, owned_by, are_different, Rules, Text, Kept, Books, Consignment, IsSound, widest, same_test}
 use Rattle.audit_rows.proofs.Keys.{both, different-map, bytes_eq_symm}
 use Rattle.audit_rows.proofs.Tests.{different_congr}
 use Rattle.books_audit.specs.Audits.{HaveKeys, same_row}
-use Rattle.shop_model.proofs.RowLemmas.{same_test}
 
 unnot : (b : Bool) → not b ≡ true → b ≡ false
 unnot true e = cc

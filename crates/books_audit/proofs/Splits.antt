@@ -1,19 +1,14 @@
 -- Rows moved one by one into one of two lists.
-use Rattle.std.proofs.Common.{◌≡◌, ◌≤◌, ◌==◌, ◌++◌, ℕ, Bool, true, false, List, [], ◌∷◌, length, map, Some, None, refl, sym, ap, subst, arith, IsPermutation}
-use Rattle.std.specs.Prelude.{if◌then◌else◌}
-use Rattle.std.proofs.lemmas.Bool.Decides.{nat_tests}
-use Rattle.std.specs.List.{AllByRecursion}
+use Rattle.shop_schema.proofs.Common.{◌≡◌, ◌≤◌, ◌==◌, ◌++◌, ℕ, Bool, true, false, List, [], ◌∷◌, length, map, Some, None, refl, sym, ap, subst, arith, IsPermutation, if◌then◌else◌, nat_tests, AllByRecursion, IsNumber, IsPermutation-refl, IsPermutation-trans, IsPermutation-sym, IsPermutation-append, IsPermutation-middle}
 use Rattle.sqlite_value.specs.Order as sql
 use Rattle.audit_tables.specs.Listed.{AreRows}
 use Rattle.books_audit.proofs.Counted.{kept_of_each}
 use Rattle.std.proofs.lemmas.List.{append-nil}
-use Rattle.shop_schema.specs.RowValues.{IsNumber}
 use Rattle.audit_tables.proofs.Ranges.{ranged}
 use Rattle.audit_rows.specs.Lists.{Key}
 use Rattle.audit_rows.specs.declared.rows.CheckedKept.{CheckedKept}
 use Rattle.audit_tables.specs.declared.kept.CallerRow.{CallerRow}
 use Rattle.books_audit.specs.Read.{office_caller, branch_caller}
-use Rattle.std.proofs.lemmas.List.Sorted.{IsPermutation-refl, IsPermutation-trans, IsPermutation-sym, IsPermutation-append, IsPermutation-middle}
 
 module _ {X : Type 0} where
   pub one_moved : (all rest old new : List X) (x : X) → IsPermutation all ((x ∷ rest) ++ old) → IsPermutation new (x ∷ old) → IsPermutation all (rest ++ new)

@@ -1,8 +1,5 @@
 -- The tables of the chain and of its rule, where they stand for books, can be read.
-use Rattle.std.proofs.Common.{[], ◌∷◌}
-use Rattle.shop_model.specs.Books.{Books}
-use Rattle.shop_schema.specs.Columns.{chain_columns, rule_columns}
-use Rattle.shop_schema.specs.RowValues.{IsToken}
+use Rattle.shop_schema.proofs.Common.{[], ◌∷◌, Books, chain_columns, rule_columns, IsToken}
 use Rattle.audit_tables.specs.Rows.{AnyRule}
 use Rattle.books_audit.specs.declared.tables.TableRows.{TableRows}
 use Rattle.books_audit.specs.Audits.{HaveBooks}

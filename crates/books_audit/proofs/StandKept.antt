@@ -1,14 +1,5 @@
 -- The table of kept commands, where it stands for books, can be read.
-use Rattle.std.proofs.Common.{◌≡◌, ◌∙◌, List, [], ◌∷◌, ◌++◌, map, true, refl, sym, ap, IsPermutation}
-use Rattle.std.specs.List.{AllByRecursion}
-use Rattle.std.specs.Str.{bytes_eq}
-use Rattle.std.proofs.lemmas.List.Sorted.{IsPermutation-sym, IsPermutation-trans}
-use Rattle.shop_model.specs.Rows.{Owned}
-use Rattle.shop_model.specs.Links.{are_different}
-use Rattle.shop_model.specs.Shop.{Kept, OfficeKept}
-use Rattle.shop_model.specs.Books.{Books}
-use Rattle.shop_schema.specs.Columns.{kept_rows}
-use Rattle.shop_schema.specs.RowValues.{IsNumber, IsKept, IsOfficeKept}
+use Rattle.shop_schema.proofs.Common.{◌≡◌, ◌∙◌, List, [], ◌∷◌, ◌++◌, map, true, refl, sym, ap, IsPermutation, AllByRecursion, bytes_eq, IsPermutation-sym, IsPermutation-trans, Owned, are_different, Kept, OfficeKept, Books, kept_rows, IsNumber, IsKept, IsOfficeKept}
 use Rattle.audit_tables.specs.Listed.{AreRows}
 use Rattle.audit_tables.specs.Kept.{OfBranch, OfOffice, IsOneKept, IsCallerRow}
 use Rattle.audit_tables.specs.declared.kept.CallerRow.{CallerRow}

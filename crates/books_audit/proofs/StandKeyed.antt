@@ -1,11 +1,6 @@
 -- A table that stands for values whose keys differ can be read in the order of its keys.
-use Rattle.std.proofs.Common.{◌≡◌, ◌∙◌, List, map, true, subst, IsPermutation}
-use Rattle.std.specs.List.{AllByRecursion}
-use Rattle.std.specs.Str.{bytes_eq}
-use Rattle.std.proofs.lemmas.List.Sorted.{IsPermutation-refl}
+use Rattle.shop_schema.proofs.Common.{◌≡◌, ◌∙◌, List, map, true, subst, IsPermutation, AllByRecursion, bytes_eq, IsPermutation-refl, are_different, TableOf}
 use Rattle.sqlite_value.specs.Order as sql
-use Rattle.shop_model.specs.Links.{are_different}
-use Rattle.shop_schema.specs.TableOf.{TableOf}
 use Rattle.shop_schema.proofs.OneRow.{same_row}
 use Rattle.audit_rows.specs.Lists.{Key}
 use Rattle.audit_rows.proofs.Keys.{different_along, different-map, bytes_eq_symm}

@@ -1,14 +1,6 @@
 -- A table of shared rows that stands for a list can be read in the order of its places.
-use Rattle.std.proofs.Common.{◌≡◌, ◌∙◌, ◌+◌, ◌<◌, ◌^◌, ℕ, List, [], ◌∷◌, map, length, refl, sym, subst, arith, IsPermutation}
-use Rattle.std.specs.Ordering.{nat_cmp}
-use Rattle.std.specs.List.Sorted.{IsSortedByKey}
-use Rattle.std.proofs.lemmas.Cmp.{nat_cmp_total, on_total}
-use Rattle.std.proofs.lemmas.List.Sorted.{IsPermutation-refl, IsPermutation-trans, IsPermutation-sym, IsPermutation-map}
+use Rattle.shop_schema.proofs.Common.{◌≡◌, ◌∙◌, ◌+◌, ◌<◌, ◌^◌, ℕ, List, [], ◌∷◌, map, length, refl, sym, subst, arith, IsPermutation, nat_cmp, IsSortedByKey, nat_cmp_total, on_total, IsPermutation-refl, IsPermutation-trans, IsPermutation-sym, IsPermutation-map, sorted_unique, IsCounted, numbered, numbered_from, IsShared, AreShared, TableOf}
 use Rattle.sqlite_value.specs.Order as sql
-use Rattle.sqlite_keyed.proofs.SortLemmas.{sorted_unique}
-use Rattle.shop_model.specs.Rows.{IsCounted, numbered, numbered_from}
-use Rattle.shop_schema.specs.RowValues.{IsShared, AreShared}
-use Rattle.shop_schema.specs.TableOf.{TableOf}
 use Rattle.shop_schema.proofs.OneRow.{same_row}
 use Rattle.audit_rows.proofs.Canon.{counted_ascends}
 use Rattle.audit_rows.proofs.Maps.{length-map}

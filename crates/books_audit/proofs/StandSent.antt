@@ -1,13 +1,5 @@
 -- The tables of consignments, where they stand for books, can be read in the order of their keys and joined.
-use Rattle.std.proofs.Common.{◌≡◌, ◌∙◌, ◌+◌, ◌<◌, ◌==◌, ◌&&◌, ◌||◌, ℕ, List, [], ◌∷◌, ◌++◌, map, not, Bool, true, false, Some, refl, sym, ap, arith, IsPermutation}
-use Rattle.std.specs.List.{AllByRecursion, flat_map, list_any}
-use Rattle.std.specs.Str.{bytes_eq}
-use Rattle.std.proofs.lemmas.Bool.Decides.{nat_tests}
-use Rattle.std.proofs.lemmas.List.Sorted.{IsPermutation-map, IsPermutation-sym, IsPermutation-trans}
-use Rattle.sqlite_keyed.proofs.ListLemmas.{map-map}
-use Rattle.shop_model.specs.Rows.{numbered_from}
-use Rattle.shop_model.specs.Links.{are_different}
-use Rattle.shop_model.specs.Books.{Books, Line, Consignment}
+use Rattle.shop_schema.proofs.Common.{◌≡◌, ◌∙◌, ◌+◌, ◌<◌, ◌==◌, ◌&&◌, ◌||◌, ℕ, List, [], ◌∷◌, ◌++◌, map, not, Bool, true, false, Some, refl, sym, ap, arith, IsPermutation, AllByRecursion, flat_map, list_any, bytes_eq, nat_tests, IsPermutation-map, IsPermutation-sym, IsPermutation-trans, map-map, numbered_from, are_different, Books, Line, Consignment}
 use Rattle.audit_tables.specs.Listed.{AreRows}
 use Rattle.audit_tables.specs.AuditTables as audited
 use Rattle.audit_tables.specs.Rows.{header_row, IsHeaderRow, placed_row, IsLineRow}

@@ -1,7 +1,5 @@
 -- The tables of shared rows, where they stand for books, can be read in the order of their places.
-use Rattle.std.proofs.Common.{refl, subst, IsPermutation}
-use Rattle.shop_model.specs.Books.{Books}
-use Rattle.shop_schema.specs.RowValues.{IsName, IsCity, IsActor, IsFilm, IsStaff}
+use Rattle.shop_schema.proofs.Common.{refl, subst, IsPermutation, Books, IsName, IsCity, IsActor, IsFilm, IsStaff}
 use Rattle.shop_schema.proofs.ShopTables as table
 use Rattle.audit_tables.specs.Columns.{IsTold}
 use Rattle.audit_tables.specs.AuditTables as audited

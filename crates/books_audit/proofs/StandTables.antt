@@ -1,9 +1,5 @@
 -- The tables of branches' rows, of casts and of lots, where they stand for books, can be read in the order of their keys.
-use Rattle.std.proofs.Common.{◌∙◌, ◌==◌, ◌&&◌, [], ◌∷◌, refl, sym}
-use Rattle.std.specs.Str.{bytes_eq}
-use Rattle.shop_model.specs.Rows.{Owned}
-use Rattle.shop_model.specs.Values.{Text, Cast}
-use Rattle.shop_model.specs.Books.{Books}
+use Rattle.shop_schema.proofs.Common.{◌∙◌, ◌==◌, ◌&&◌, [], ◌∷◌, refl, sym, bytes_eq, Owned, Text, Cast, Books}
 use Rattle.shop_schema.proofs.ShopTables as table
 use Rattle.audit_rows.specs.Ordered.{cast_row, customer_row, terms_row, lot_row}
 use Rattle.audit_rows.specs.declared.rows.CheckedCast.{CheckedCast}

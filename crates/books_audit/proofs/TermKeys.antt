@@ -1,11 +1,5 @@
 -- Each rental has its terms in rows in order exactly where it has them in the books that have these rows.
-use Rattle.std.proofs.Common.{◌≡◌, ◌&&◌, ◌==◌, List, [], ◌∷◌, map, Bool, true, false, refl, sym, ap, subst, subst₂, ◌∙◌, arith, true≢false, IsPermutation}
-use Rattle.std.specs.Str.{bytes_eq}
-use Rattle.std.proofs.lemmas.List.Sorted.{IsPermutation-refl, length_permutation}
-use Rattle.sqlite_keyed.proofs.ListLemmas.{map-map}
-use Rattle.shop_model.specs.Values.{Rental, Terms}
-use Rattle.shop_model.specs.Books.{Books}
-use Rattle.shop_schema.specs.Shop.{AreTermed}
+use Rattle.shop_schema.proofs.Common.{◌≡◌, ◌&&◌, ◌==◌, List, [], ◌∷◌, map, Bool, true, false, refl, sym, ap, subst, subst₂, ◌∙◌, arith, true≢false, IsPermutation, bytes_eq, IsPermutation-refl, length_permutation, map-map, Rental, Terms, Books, AreTermed}
 use Rattle.audit_rows.specs.Canons.{row_key}
 use Rattle.audit_rows.specs.Lists.{Key, is_below, climbs, climbs_above, same_lists}
 use Rattle.audit_rows.specs.Ordered.{AreOrdered, HaveOrderedRows, terms_row}

@@ -1,21 +1,9 @@
 -- A query of a whole table tells its rows.
-use Rattle.std.proofs.Common.{◌≡◌, ◌<◌, ℕ, zero, suc, length, get_or, arith, ◌++◌, append-nil, append_assoc, List, [], ◌∷◌, refl, map, cond, true, ap, sym, subst, ◌∙◌, Ok, Err, Result, IfOk, IsPermutation}
-use Rattle.std.specs.List.{flat_map, remove}
-use Rattle.std.proofs.lemmas.List.Sorted.{IsPermutation-map}
-use Rattle.sqlite_value.specs.Order.{Row, column}
-use Rattle.sqlite_trees.specs.Tree.{Trees}
-use Rattle.sqlite_sql.specs.Query.{Output, output}
-use Rattle.sqlite_sql.specs.Program.{overlay}
-use Rattle.sqlite.specs.State.{State, Shown}
-use Rattle.sql_rows.specs.Rows.{columns_of, columns_from}
-use Rattle.sqlite_sql.specs.Term.{eval_all}
-use Rattle.sqlite.specs.Table.{Table}
-use Rattle.sql_rows.proofs.Inside.{shown_same}
-use Rattle.sql_rows.proofs.Queries.{plain_query, answers}
-use Rattle.shop_schema.specs.Tables.{shop_schema}
-use Rattle.shop_schema.specs.Shop.{IsShop}
+use Rattle.std.proofs.Common.{IfOk}
+use Rattle.shop_schema.proofs.Common.{◌≡◌, ◌<◌, ℕ, zero, suc, length, get_or, arith, ◌++◌, append-nil, append_assoc, List, [], ◌∷◌, refl, map, cond, true, ap, sym, subst, ◌∙◌, Ok, Err, Result, IsPermutation, flat_map, remove, IsPermutation-map, column, Trees, Output, output, overlay, State, columns_of, columns_from, eval_all, Table, shown_same, plain_query, answers, shop_schema, IsShop, cols}
+use Rattle.sqlite_value.specs.Order.{Row}
+use Rattle.sqlite.specs.State.{Shown}
 use Rattle.shop_schema.proofs.Listed.{own_rows}
-use Rattle.sql_rows.specs.Terms.{cols}
 use Rattle.books_audit.specs.Whole.{SelectsWhole, AreRowsOf, SelectEach, HaveEach}
 
 module _ (t : Table) (text : List ℕ) (means : SelectsWhole t text) where

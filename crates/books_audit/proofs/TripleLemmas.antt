@@ -1,16 +1,6 @@
 -- Rows of three numbers are their keys.
-use Rattle.std.proofs.Common.{◌≡◌, ◌∙◌, ◌≤◌, ℕ, List, [], ◌∷◌, map, length, Bool, true, false, refl, sym, ap, subst, subst₂, arith, IsPermutation}
-use Rattle.std.specs.List.{AllByRecursion}
-use Rattle.std.specs.Str.{bytes_eq}
-use Rattle.std.proofs.lemmas.Slice.Eq.{bytes_eq-Decides}
-use Rattle.std.proofs.lemmas.List.Sorted.{IsPermutation-refl, IsPermutation-trans, IsPermutation-sym, IsPermutation-cons, IsPermutation-middle, IsPermutation-map}
-use Rattle.sqlite_keyed.proofs.ListLemmas.{map-map}
+use Rattle.shop_schema.proofs.Common.{◌≡◌, ◌∙◌, ◌≤◌, ℕ, List, [], ◌∷◌, map, length, Bool, true, false, refl, sym, ap, subst, subst₂, arith, IsPermutation, AllByRecursion, bytes_eq, bytes_eq-Decides, IsPermutation-refl, IsPermutation-trans, IsPermutation-sym, IsPermutation-cons, IsPermutation-middle, IsPermutation-map, map-map, column, number_value, one, pair_columns, Pair}
 use Rattle.sqlite_value.specs.Order as sql
-use Rattle.sqlite_value.specs.Order.{column}
-use Rattle.sql_rows.specs.Rows.{number_value}
-use Rattle.shop_model.specs.Sound.{one}
-use Rattle.shop_schema.specs.Columns.{pair_columns}
-use Rattle.shop_schema.specs.Counts.{Pair}
 use Rattle.audit_tables.specs.Listed.{AreRows}
 use Rattle.audit_rows.specs.Lists.{Key, count, SameCounts}
 use Rattle.audit_rows.proofs.Bags.{count_along}

@@ -1,8 +1,7 @@
 -- The texts that read the tables select all columns of each.
-use Rattle.std.proofs.Common.{map, drop, refl}
+use Rattle.shop_schema.proofs.Common.{map, drop, refl, shop_schema, chain_table, copy_table, consignment_line_table}
 use Rattle.sqlite_tied.specs.Compute.{everything}
 use Rattle.sqlite.specs.Listing.{understood}
-use Rattle.shop_schema.specs.Tables.{shop_schema, chain_table, copy_table, consignment_line_table}
 use Rattle.books_audit.specs.declared.whole.TheConstants.{CHAIN, COPIES, LINES, OTHERS}
 use Rattle.books_audit.specs.Whole.{SelectsWhole, SelectEach}
 

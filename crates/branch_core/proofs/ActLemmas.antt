@@ -1,15 +1,9 @@
 -- What commands on a customer, a copy or a rental are refused for, by what was found of it.
-use Rattle.std.proofs.Common.{◌≡◌, refl, sym, ap, ◌∙◌, ℕ, Bool, true, false, not, Option, Some, None, option_map}
+use Rattle.std.proofs.Common.{option_map}
 use Rattle.std.specs.Prelude.{◌==◌, is_some}
-use Rattle.std.proofs.Math.Bool.{or-false}
-use Rattle.shop_model.specs.Calendar.{Moment}
-use Rattle.shop_model.specs.Values.{Copy, Customer, Rental, Rules}
+use Rattle.shop_types.proofs.Common.{◌≡◌, refl, sym, ap, ◌∙◌, ℕ, Bool, true, false, not, Option, Some, None, or-false, Moment, Copy, Customer, Rental, Rules, Catalogue, Shop, same_flag, is_here, in_stock, Verdict, Refused, Accepted, first, act_refusals, is_film_withdrawn, found_none, found_some}
 use Rattle.shop_model.specs.Values as model
-use Rattle.shop_model.specs.Shop.{Catalogue, Shop, same_flag}
-use Rattle.shop_model.specs.Stock.{is_here, in_stock}
 use Rattle.shop_model.specs.Refusals as named
-use Rattle.shop_model.specs.Verdict.{Verdict, Refused, Accepted, first, act_refusals, is_film_withdrawn}
-use Rattle.shop_model.proofs.FoundLemmas.{found_none, found_some}
 use Rattle.branch_core.specs.declared.found.CopyFound.{CopyFound}
 use Rattle.branch_core.specs.declared.found.RentalFound.{RentalFound}
 use Rattle.branch_core.specs.Agreed.{active_at, copy_at, rental_at, has_rental, seen_copy, seen_rental}

@@ -1,20 +1,9 @@
 -- The rows of a dispatch and of a receipt make the books in which it acted, and what is replied of them is its reply.
-use Rattle.std.proofs.Common.{◌≡◌, ◌∙◌, refl, sym, ap, inl, inr, ℕ, suc, ◌+◌, Bool, false, List, [], ◌∷◌, ◌++◌, map, filter, length, Some, codes, append-nil}
-use Rattle.std.specs.Prelude.{◌==◌, flat_map}
-use Rattle.std.proofs.lemmas.Bool.{cases_Bool}
-use Rattle.std.proofs.lemmas.List.{map-append}
-use Rattle.shop_model.specs.Json.{numbers_text, object}
-use Rattle.shop_model.specs.Rows.{Row, arrived, at, is_row, next, of, put_all, set_rows, update_where}
-use Rattle.shop_model.specs.Values.{Text, Rules, Command, Arrival, Parcel, Here, Sent}
-use Rattle.shop_model.specs.Values as model
-use Rattle.shop_model.specs.Verdict.{arrival}
-use Rattle.shop_model.specs.Machine.{told, numbers_from, incoming}
-use Rattle.shop_model.specs.Sound.{HasNumbers}
-use Rattle.shop_model.specs.Books.{Books, BookCopy, Mark, Line, UnderWay, Consignment, as_arrival, as_parcel, between, book_acted, checked, is_consignment, put_state, rows_at, shop_of, under_way, unmarked, unpacked}
-use Rattle.shop_model.proofs.RowLemmas.{map_at, map_map, length_map, row_at}
-use Rattle.shop_model.proofs.ShopLemmas.{arrival_of, arrived_map}
+use Rattle.shop_types.proofs.Common.{◌≡◌, ◌∙◌, refl, sym, ap, inl, inr, ℕ, suc, ◌+◌, Bool, false, List, [], ◌∷◌, ◌++◌, map, filter, length, Some, codes, append-nil, cases_Bool, map-append, numbers_text, object, Row, arrived, at, is_row, next, of, put_all, set_rows, update_where, Text, Rules, Command, Arrival, Parcel, Here, Sent, arrival, numbers_from, incoming, HasNumbers, Books, BookCopy, Mark, Line, UnderWay, Consignment, as_arrival, as_parcel, between, book_acted, checked, is_consignment, put_state, rows_at, shop_of, under_way, unmarked, unpacked, map_at, map_map, length_map, row_at, arrival_of, arrived_map, seen_parcel_line}
 use Rattle.shop_types.specs.declared.parcel.ParcelLine.{ParcelLine}
-use Rattle.shop_types.specs.Seen.{seen_parcel_line}
+use Rattle.std.specs.Prelude.{◌==◌, flat_map}
+use Rattle.shop_model.specs.Values as model
+use Rattle.shop_model.specs.Machine.{told}
 use Rattle.branch_core.specs.declared.found.ArrivalFound.{ArrivalFound}
 use Rattle.branch_core.specs.Marked.{copy_parts, line_parts, parts_at, arrival_parts, consignment_parts, IsArrival}
 use Rattle.branch_core.specs.Consigned.{sent_line, with_dispatch, dispatch_text, come_copy, with_receipt, receipt_text}

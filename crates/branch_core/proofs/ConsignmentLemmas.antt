@@ -1,15 +1,7 @@
 -- Copies that are listed, none twice and none unknown, and lines of which some are missing.
-use Rattle.std.proofs.Common.{append-nil, lt-ltb, ◌≡◌, refl, sym, ap, ◌∙◌, subst, inl, inr, ℕ, zero, suc, ◌+◌, ◌-◌, ◌≤◌, ◌<◌, Bool, true, false, not, List, [], ◌∷◌, ◌++◌, map, filter, length, take, drop, slice_index_or, arith}
+use Rattle.shop_types.proofs.Common.{append-nil, lt-ltb, ◌≡◌, refl, sym, ap, ◌∙◌, subst, inl, inr, ℕ, zero, suc, ◌+◌, ◌-◌, ◌≤◌, ◌<◌, Bool, true, false, not, List, [], ◌∷◌, ◌++◌, map, filter, length, take, drop, slice_index_or, arith, list_any, or-true, nat_tests, cases_Bool, and_parts, ltb-true, ltb-false, leb-true, eqb-false, drop_more, take_all, take_more, map-append, length-drop, length-map, length-take-le, filter-append, lacks, mem, has_double, arrived, numbered_from, numbered, are_lines, numbered_push}
 use Rattle.std.specs.Prelude.{◌==◌, ◌&&◌, ◌||◌, nat_lt, nat_le}
-use Rattle.std.specs.List.{list_any}
-use Rattle.std.proofs.Math.Bool.{or-true}
-use Rattle.std.proofs.lemmas.Bool.Decides.{nat_tests}
-use Rattle.std.proofs.lemmas.Bool.{cases_Bool, and_parts, ltb-true, ltb-false, leb-true, eqb-true, eqb-false}
-use Rattle.std.proofs.lemmas.List.{drop_more, take_all, take_more, map-append, length-drop, length-map, length-take-le}
-use Rattle.std.proofs.lemmas.List.Elements.{filter-append}
-use Rattle.shop_model.specs.Rows.{lacks, mem, has_double, arrived, numbered_from, numbered}
-use Rattle.shop_model.specs.Verdict.{are_lines}
-use Rattle.shop_model.proofs.RowLemmas.{numbered_push}
+use Rattle.std.proofs.lemmas.Bool.{eqb-true}
 use Rattle.branch_core.proofs.RentalLemmas.{none_next}
 
 -- ---- copies that stand twice

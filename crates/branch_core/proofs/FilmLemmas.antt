@@ -1,13 +1,6 @@
 -- The copies of a film that are listed, of copies as the program has them.
-use Rattle.std.proofs.Common.{append-nil, ◌≡◌, refl, ap, ◌∙◌, inl, inr, ℕ, Bool, true, false, not, List, [], ◌∷◌, ◌++◌, map, filter}
+use Rattle.shop_types.proofs.Common.{append-nil, ◌≡◌, refl, ap, ◌∙◌, inl, inr, ℕ, Bool, true, false, not, List, [], ◌∷◌, ◌++◌, map, filter, cases_Bool, map-append, filter-append, numbered, Copy, Shop, same_flag, is_here, in_stock, film_in_stock, film_not_in_stock}
 use Rattle.std.specs.Prelude.{◌==◌, ◌&&◌}
-use Rattle.std.proofs.lemmas.Bool.{cases_Bool}
-use Rattle.std.proofs.lemmas.List.{map-append}
-use Rattle.std.proofs.lemmas.List.Elements.{filter-append}
-use Rattle.shop_model.specs.Rows.{numbered}
-use Rattle.shop_model.specs.Values.{Copy}
-use Rattle.shop_model.specs.Shop.{Shop, same_flag}
-use Rattle.shop_model.specs.Stock.{is_here, in_stock, film_in_stock, film_not_in_stock}
 use Rattle.branch_core.specs.declared.film_copies.FilmCopy.{FilmCopy}
 use Rattle.branch_core.specs.Agreed.{seen_film_copy, AreOfFilm, is_listed}
 

@@ -1,8 +1,6 @@
 -- Rows that a branch gets one after another, with its next numbers.
-use Rattle.std.proofs.Common.{◌≡◌, ◌∙◌, refl, sym, ap, ℕ, suc, ◌+◌, List, [], ◌∷◌, ◌++◌, length, arith, append_assoc, append-nil, length-append}
-use Rattle.std.specs.List.{AllByRecursion}
-use Rattle.shop_model.specs.Rows.{Row, of, next, put, put_all}
-use Rattle.shop_model.proofs.RowLemmas.{put_own}
+use Rattle.shop_types.proofs.Common.{◌≡◌, ◌∙◌, refl, sym, ap, ℕ, suc, ◌+◌, List, [], ◌∷◌, ◌++◌, length, arith, append_assoc, append-nil, length-append, AllByRecursion, Row, of, next, put_all, put_own}
+use Rattle.shop_model.specs.Rows.{put}
 use Rattle.branch_core.specs.Consigned.{made_from}
 
 next_after : {A : Type 0} (b : ℕ) (make : ℕ → A) (rows : List (Row A)) → next b (put b make rows) ≡ next b rows + 1

@@ -1,19 +1,7 @@
 -- What was found of copies and of a consignment in the books is what the branch's shop has of them.
-use Rattle.std.proofs.Common.{◌≡◌, ◌∙◌, refl, sym, ap, ℕ, Bool, false, not, List, [], ◌∷◌, ◌++◌, map, filter, Option, Some, None, option_map, append-nil}
-use Rattle.std.specs.Prelude.{◌||◌, option_to_list, is_none}
-use Rattle.std.specs.List.{list_any}
-use Rattle.std.proofs.Math.Bool.{or-false}
-use Rattle.std.proofs.lemmas.List.Folds.{list_any-append}
-use Rattle.std.proofs.lemmas.Grind.{flat_map-append}
-use Rattle.shop_model.specs.Rows.{at, lacks, is_empty, of}
-use Rattle.shop_model.specs.Values.{Arrival, Copy}
-use Rattle.shop_model.specs.Stock.{is_here, in_stock}
-use Rattle.shop_model.specs.Verdict.{is_away}
-use Rattle.shop_model.specs.Sound.{HasNumbers}
-use Rattle.shop_model.specs.Books.{Books, BookCopy, Mark, Consignment, as_arrival, head, is_consignment, shop_of, unmarked}
-use Rattle.shop_model.proofs.RowLemmas.{map_map, map_at}
-use Rattle.shop_model.proofs.ShopLemmas.{arrival_of}
-use Rattle.shop_types.specs.Seen.{seen_parcel_line}
+use Rattle.std.proofs.Common.{option_map}
+use Rattle.std.specs.Prelude.{◌||◌, option_to_list}
+use Rattle.shop_types.proofs.Common.{◌≡◌, ◌∙◌, refl, sym, ap, ℕ, Bool, false, not, List, [], ◌∷◌, ◌++◌, map, filter, Option, Some, None, append-nil, is_none, list_any, or-false, list_any-append, flat_map-append, at, lacks, is_empty, of, Arrival, Copy, is_here, in_stock, is_away, HasNumbers, Books, BookCopy, Mark, Consignment, as_arrival, head, is_consignment, shop_of, unmarked, map_map, map_at, arrival_of, seen_parcel_line}
 use Rattle.branch_core.specs.declared.found.ArrivalFound.{ArrivalFound}
 use Rattle.branch_core.specs.declared.found.ListedFound.{ListedFound}
 use Rattle.branch_core.specs.Agreed.{ListedAgrees, seen_arrival, arrival_at}

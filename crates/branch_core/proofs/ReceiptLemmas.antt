@@ -1,15 +1,8 @@
 -- What a consignment that was found says of the refusals of its receipt, and of how many copies come with it.
-use Rattle.std.proofs.Common.{◌≡◌, refl, ap, ◌∙◌, ℕ, ◌-◌, ◌≤◌, Bool, true, false, List, [], ◌∷◌, filter, length, Some, None, arith}
-use Rattle.std.specs.Prelude.{◌==◌}
-use Rattle.std.proofs.lemmas.List.{length-map}
-use Rattle.shop_model.specs.Calendar.{Moment}
-use Rattle.shop_model.specs.Values.{Arrival, Rules}
-use Rattle.shop_model.specs.Values as model
-use Rattle.shop_model.specs.Shop.{Catalogue, Shop}
-use Rattle.shop_model.specs.Refusals.{BadLines}
-use Rattle.shop_model.specs.Verdict.{Verdict, Refused, Accepted, first, act_refusals, arrival, are_lines, new_copies}
-use Rattle.shop_model.proofs.FoundLemmas.{found_none, found_some}
+use Rattle.shop_types.proofs.Common.{◌≡◌, refl, ap, ◌∙◌, ℕ, ◌-◌, ◌≤◌, Bool, true, false, List, [], ◌∷◌, filter, length, Some, None, arith, length-map, Moment, Arrival, Rules, Catalogue, Shop, BadLines, Verdict, Refused, Accepted, first, act_refusals, arrival, are_lines, new_copies, found_none, found_some}
 use Rattle.shop_types.specs.declared.parcel.ParcelLine.{ParcelLine}
+use Rattle.std.specs.Prelude.{◌==◌}
+use Rattle.shop_model.specs.Values as model
 use Rattle.branch_core.specs.declared.found.ArrivalFound.{ArrivalFound}
 use Rattle.branch_core.specs.Agreed.{seen_arrival, arrival_at}
 use Rattle.branch_core.proofs.ConsignmentLemmas.{all_counted}

@@ -1,11 +1,7 @@
 -- What a copy's rentals say, of rentals as the program has them.
-use Rattle.std.proofs.Common.{◌≡◌, refl, sym, ap, subst, Bool, true, false, List, [], ◌∷◌, map, take, length, slice_index_or, ℕ, zero, suc, ◌+◌, ◌<◌, ◌≤◌, arith, Some, None}
+use Rattle.shop_types.proofs.Common.{◌≡◌, refl, sym, ap, subst, Bool, true, false, List, [], ◌∷◌, map, take, length, slice_index_or, ℕ, zero, suc, ◌+◌, ◌<◌, ◌≤◌, arith, Some, None, keeps_out, held_by, head, seen_rental, list_any}
 use Rattle.std.specs.Prelude.{◌||◌}
-use Rattle.shop_model.specs.Stock.{keeps_out, held_by}
-use Rattle.shop_model.specs.Books.{head}
 use Rattle.shop_types.specs.declared.rental.Rental.{Rental}
-use Rattle.shop_types.specs.Seen.{seen_rental}
-use Rattle.std.specs.List.{list_any}
 use Rattle.std.proofs.lemmas.Bool.{true≢false}
 
 pub any_map : {A B : Type 0} (p : B → Bool) (f : A → B) (xs : List A) → list_any (λ x. p (f x)) xs ≡ list_any p (map f xs)

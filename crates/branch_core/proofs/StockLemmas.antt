@@ -1,14 +1,6 @@
 -- What the rows of a stock file say of the films of its copies.
-use Rattle.std.proofs.Common.{◌≡◌, refl, sym, ap, ◌∙◌, ℕ, zero, suc, ◌+◌, ◌≤◌, Bool, true, false, not, ◌||◌, List, [], ◌∷◌, length, replicate, arith, length-append}
-use Rattle.std.proofs.Math.Bool.{or_self, or-false}
-use Rattle.std.proofs.lemmas.List.{length-replicate}
-use Rattle.std.proofs.lemmas.List.Elements.{recursion_from_All}
-use Rattle.std.proofs.lemmas.List.Folds.{list_any-append}
-use Rattle.std.proofs.lemmas.List.Sums.{sum_by-cons}
-use Rattle.std.specs.List.{All, AllByRecursion, list_any}
-use Rattle.shop_model.specs.Rows.{lacks}
-use Rattle.shop_model.specs.Shop.{Catalogue}
-use Rattle.shop_model.specs.Verdict.{is_film_withdrawn}
+use Rattle.shop_types.proofs.Common.{◌≡◌, refl, sym, ap, ◌∙◌, ℕ, zero, suc, ◌+◌, ◌≤◌, Bool, true, false, not, ◌||◌, List, [], ◌∷◌, length, replicate, arith, length-append, or_self, or-false, length-replicate, recursion_from_All, list_any-append, sum_by-cons, AllByRecursion, list_any, lacks, Catalogue, is_film_withdrawn}
+use Rattle.std.specs.List.{All}
 use Rattle.branch_core.specs.declared.found.StockFound.{StockFound}
 use Rattle.branch_core.specs.StockLists.{films_of, copies_of}
 use Rattle.branch_core.specs.Agreed.{RowAgrees}

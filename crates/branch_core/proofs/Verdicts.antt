@@ -1,17 +1,8 @@
 -- Verdicts by what was found of the key and of staff.
-use Rattle.std.proofs.Common.{◌≡◌, refl, sym, ap, ◌∙◌, inl, inr, ℕ, ◌-◌, Bool, false, not, ◌&&◌, List, [], ◌∷◌, map, filter, Option, Some, None, option_map}
+use Rattle.std.proofs.Common.{option_map}
 use Rattle.std.specs.Prelude.{◌==◌}
-use Rattle.std.specs.Str.{bytes_eq}
-use Rattle.std.specs.List.{list_any}
-use Rattle.std.proofs.lemmas.Bool.{cases_Bool}
-use Rattle.std.proofs.Math.Bool.{or-false}
-use Rattle.shop_model.specs.Rows.{at}
-use Rattle.shop_model.specs.Values.{Staff, Command, Rules}
-use Rattle.shop_model.specs.Shop.{Kept, Catalogue, Shop}
-use Rattle.shop_model.specs.Verdict.{Verdict, Accepted, first, refusals, resent, verdict, staff_is}
-use Rattle.shop_model.specs.Books.{head}
+use Rattle.shop_types.proofs.Common.{◌≡◌, refl, sym, ap, ◌∙◌, inl, inr, ℕ, ◌-◌, Bool, false, not, ◌&&◌, List, [], ◌∷◌, map, filter, Option, Some, None, bytes_eq, list_any, cases_Bool, or-false, at, Staff, Command, Rules, Kept, Catalogue, Shop, Verdict, Accepted, first, refusals, resent, verdict, staff_is, head, seen_kept, post_of}
 use Rattle.shop_types.specs.declared.found.KeptFound.{KeptFound}
-use Rattle.shop_types.specs.Verdicts.{seen_kept, post_of}
 use Rattle.branch_core.specs.Agreed.{kept_for}
 
 resent_new : (command : Command) (kept : List Kept) (new : Verdict) → None ≡ head (map (kept_for command) kept) → resent command kept new ≡ new

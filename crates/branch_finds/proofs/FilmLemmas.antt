@@ -1,11 +1,6 @@
 -- The copies of a film, row by row, are those of the branch's shop.
-use Rattle.std.proofs.Common.{◌≡◌, ◌∙◌, refl, sym, ap, ℕ, ◌+◌, Bool, List, [], ◌∷◌, map, filter}
+use Rattle.shop_schema.proofs.Common.{◌≡◌, ◌∙◌, refl, sym, ap, ℕ, ◌+◌, Bool, List, [], ◌∷◌, map, filter, Row, is_of, of, numbered, numbered_from, IsCounted, AreNumbered, Copy, Rental, is_here, in_stock, BookCopy, Books, shop_of, unmarked, map_map}
 use Rattle.std.specs.Prelude.{◌==◌, ◌&&◌}
-use Rattle.shop_model.specs.Rows.{Row, is_of, of, numbered, numbered_from, IsCounted, AreNumbered}
-use Rattle.shop_model.specs.Values.{Copy, Rental}
-use Rattle.shop_model.specs.Stock.{is_here, in_stock}
-use Rattle.shop_model.specs.Books.{BookCopy, Books, shop_of, unmarked}
-use Rattle.shop_model.proofs.RowLemmas.{map_map}
 use Rattle.shop_store.specs.declared.copies.CopyRow.{CopyRow}
 use Rattle.shop_store.specs.Seen.{seen_copy_row}
 use Rattle.shop_ledger.proofs.Rising.{filter_twice, map_filter}

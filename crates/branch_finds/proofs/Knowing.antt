@@ -1,10 +1,7 @@
 -- What is found beside the cache of films.
-use Rattle.std.proofs.Common.{Result}
-use Rattle.std.proofs.lemmas.Result.{IfOk-weaker}
-use Rattle.sqlite.specs.State.{State}
-use Rattle.shop_model.specs.Books.{Books}
+use Rattle.shop_schema.proofs.Common.{Result, IfOk-weaker, State, Books}
 use Rattle.chain_caches.specs.Films.{KnownFilms}
-use Rattle.shop_schema.specs.Calls.{Finds}
+use Rattle.shop_ledger.specs.Calls.{Finds}
 use Rattle.shop_schema.proofs.Readings.{reads_as}
 use Rattle.branch_finds.specs.Finds.{Knows}
 

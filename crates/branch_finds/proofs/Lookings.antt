@@ -1,15 +1,8 @@
 -- What is found of one row tells what the books have of it.
-use Rattle.std.proofs.Common.{◌≡◌, ◌∙◌, ap, sym, Bool, List, [], ◌∷◌, map, Option, Some, None, option_map}
-use Rattle.std.specs.Option.{option_to_list}
-use Rattle.shop_model.specs.Rows.{at}
-use Rattle.shop_model.specs.Values.{Copy}
-use Rattle.shop_model.specs.Shop.{Catalogue}
-use Rattle.shop_model.specs.Stock.{is_here}
-use Rattle.shop_model.specs.Verdict.{is_film_withdrawn}
+use Rattle.shop_schema.proofs.Common.{◌≡◌, ◌∙◌, ap, sym, Bool, List, [], ◌∷◌, map, Option, Some, None, option_map, option_to_list, at, Copy, Catalogue, is_here, is_film_withdrawn, head}
 use Rattle.shop_store.specs.SharedSeen.{withdrawn_of}
 use Rattle.branch_finds.specs.Finds.{is_yes}
 use Rattle.branch_finds.proofs.Readings.{at_most_one}
-use Rattle.shop_model.specs.Books.{head}
 
 pub head_of : {X Y Z : Type 0} (f : X → Y) (g : Y → Z) (o : Option X) (l : List Y) → option_to_list (option_map f o) ≡ l → option_map (λ x. g (f x)) o ≡ head (map g l)
 head_of f g None l is = ap (λ l. head (map g l)) is

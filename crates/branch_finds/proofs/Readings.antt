@@ -1,10 +1,6 @@
 -- A film's number picks one film.
-use Rattle.std.proofs.Common.{◌≡◌, refl, ℕ, List, [], ◌∷◌, map, Bool, true, false}
-use Rattle.std.specs.Prelude.{◌-◌, ◌==◌, ◌||◌, if◌then◌else◌}
-use Rattle.std.specs.List.{list_any}
-use Rattle.shop_model.specs.Rows.{at}
-use Rattle.shop_model.specs.Values.{Film}
-use Rattle.shop_model.specs.Books.{head}
+use Rattle.shop_schema.proofs.Common.{◌≡◌, refl, ℕ, List, [], ◌∷◌, map, Bool, true, false, if◌then◌else◌, list_any, at, Film, head}
+use Rattle.std.specs.Prelude.{◌-◌, ◌==◌, ◌||◌}
 use Rattle.shop_store.specs.SharedSeen.{withdrawn_of}
 use Rattle.branch_finds.specs.Finds.{is_yes}
 

@@ -1,12 +1,6 @@
 -- Who has a copy, and whether it is in stock.
-use Rattle.std.proofs.Common.{◌≡◌, ◌∙◌, refl, sym, ap, inl, inr, arith, ℕ, ◌+◌, ◌-◌, ◌≤◌, Bool, true, false, not, List, [], ◌∷◌, map, Option}
-use Rattle.std.specs.Prelude.{◌==◌, is_some}
-use Rattle.std.specs.Option.{option_to_list}
-use Rattle.std.proofs.lemmas.Bool.{cases_Bool}
-use Rattle.std.proofs.lemmas.Bool.Decides.{nat_tests}
-use Rattle.shop_model.specs.Rows.{at}
-use Rattle.shop_model.specs.Values.{Rental}
-use Rattle.shop_model.specs.Stock.{keeps_out, in_stock, held_by}
+use Rattle.shop_schema.proofs.Common.{◌≡◌, ◌∙◌, refl, sym, ap, inl, inr, arith, ℕ, ◌+◌, ◌-◌, ◌≤◌, Bool, true, false, not, List, [], ◌∷◌, map, Option, is_some, option_to_list, cases_Bool, nat_tests, at, Rental, keeps_out, in_stock, held_by}
+use Rattle.std.specs.Prelude.{◌==◌}
 use Rattle.consign_finds.specs.Finds.{open_from}
 use Rattle.consign_finds.proofs.Outs.{twice, out_shown}
 

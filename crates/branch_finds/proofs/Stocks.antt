@@ -1,11 +1,6 @@
 -- What is found of the films of a stock file.
-use Rattle.std.proofs.Common.{◌≡◌, ◌∙◌, refl, sym, ap, ℕ, ◌+◌, ◌<◌, List, [], ◌∷◌, ◌++◌, length, map, take, get_or, replicate, Bool, Option}
-use Rattle.std.specs.List.{All}
-use Rattle.std.proofs.lemmas.List.{map_more, map_push, take_more}
+use Rattle.shop_schema.proofs.Common.{◌≡◌, ◌∙◌, refl, sym, ap, ℕ, ◌+◌, ◌<◌, List, [], ◌∷◌, ◌++◌, length, map, take, get_or, replicate, Bool, Option, All, map_more, map_push, take_more, at, Catalogue, head}
 use Rattle.std.proofs.lemmas.List.Elements.{All-map, All-weaker}
-use Rattle.shop_model.specs.Rows.{at}
-use Rattle.shop_model.specs.Shop.{Catalogue}
-use Rattle.shop_model.specs.Books.{head}
 use Rattle.stock_csv.specs.declared.StockRow.{StockRow}
 use Rattle.stock_csv.specs.Stock.{films_of, IsStockRow, IsStock}
 use Rattle.branch_core.specs.declared.found.StockFound.{StockFound}

@@ -1,13 +1,7 @@
 -- What is found of a copy's film tells the terms of a rental.
-use Rattle.std.proofs.Common.{◌≡◌, ◌∙◌, refl, sym, ap, ℕ, List, [], ◌∷◌, map, flat_map, append-nil, Bool, true, false, Option, Some, None, option_map}
-use Rattle.std.specs.Prelude.{◌-◌, ◌==◌, if◌then◌else◌}
-use Rattle.std.specs.Option.{option_to_list}
-use Rattle.shop_model.specs.Rows.{at}
-use Rattle.shop_model.specs.Values.{Copy, Film, Terms}
-use Rattle.shop_model.specs.Shop.{Catalogue, Shop}
-use Rattle.shop_model.specs.Books.{head}
-use Rattle.shop_model.specs.Stock.{film_terms, terms_now}
-use Rattle.shop_types.specs.Seen.{seen_terms}
+use Rattle.std.proofs.Common.{flat_map}
+use Rattle.std.specs.Prelude.{◌-◌, ◌==◌}
+use Rattle.shop_schema.proofs.Common.{◌≡◌, ◌∙◌, refl, sym, ap, ℕ, List, [], ◌∷◌, map, append-nil, Bool, true, false, Option, Some, None, option_map, if◌then◌else◌, option_to_list, at, Copy, Film, Terms, Catalogue, Shop, head, film_terms, terms_now, seen_terms}
 use Rattle.chain_caches.specs.declared.films.KnownFilm.{KnownFilm}
 use Rattle.chain_caches.specs.Films.{known_of, seen_known}
 use Rattle.shop_store.specs.SharedSeen.{withdrawn_of}

@@ -6,7 +6,7 @@ ghost use Rattle.sql_rows.specs.Calls.{StaysWithin};
 ghost use Rattle.shop_model.specs.Rows.{at};
 ghost use Rattle.shop_model.specs.Stock.{is_here, held_by};
 ghost use Rattle.shop_model.specs.Books.{head, shop_of};
-ghost use Rattle.shop_schema.specs.Calls.{Finds};
+ghost use Rattle.shop_ledger.specs.Calls.{Finds};
 ghost use Rattle.branch_finds.specs.Finds.{Knows, copy_shown};
 ghost use Rattle.consign_finds.specs.Finds.{open_from};
 ghost use Rattle.branch_core.specs.Agreed.{copy_at, rental_at, seen_copy, seen_rental, seen_film_copy, AreOfFilm, HasTermsNow};

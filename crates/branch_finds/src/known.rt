@@ -6,7 +6,7 @@ ghost use Rattle.sql_rows.specs.Calls.{StaysWithin};
 ghost use Rattle.shop_model.specs.Rows.{at};
 ghost use Rattle.shop_model.specs.Books.{head};
 ghost use Rattle.chain_caches.specs.Films.{known_of, seen_known};
-ghost use Rattle.shop_schema.specs.Calls.{Finds};
+ghost use Rattle.shop_ledger.specs.Calls.{Finds};
 ghost use Rattle.shop_store.specs.SharedSeen.{seen_film_row, withdrawn_of};
 ghost use Rattle.branch_finds.specs.Finds.{Knows};
 

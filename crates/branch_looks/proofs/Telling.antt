@@ -1,16 +1,7 @@
 -- What is said of a reply, of the work that it makes.
-use Rattle.std.proofs.Common.{◌≡◌, refl, sym, subst, ℕ, Result, Ok, Err, Bool, true, false}
-use Rattle.std.specs.Prelude.{IsOk, IfOk}
-use Rattle.std.specs.Borrow.{MutBor}
-use Rattle.sqlite_trees.specs.declared.store.Store.{Ghosts}
-use Rattle.sqlite.specs.Held.{Held, state}
-use Rattle.sqlite.specs.State.{State}
-use Rattle.sql_rows.specs.Calls.{StaysInside, StaysWithin}
-use Rattle.sql_rows.proofs.Stays.{inside_when, within_of, within_when}
-use Rattle.shop_model.specs.Values.{Ask}
+use Rattle.shop_schema.proofs.Common.{◌≡◌, refl, sym, subst, ℕ, Result, Ok, Err, Bool, true, false, IsOk, IfOk, MutBor, Ghosts, Held, state, State, StaysInside, StaysWithin, inside_when, within_of, within_when, Ask, seen_reply}
 use Rattle.shop_types.specs.declared.reply.Reply.{Reply}
-use Rattle.shop_types.specs.Replies.{seen_reply}
-use Rattle.shop_schema.specs.Calls.{Finds}
+use Rattle.shop_ledger.specs.Calls.{Finds}
 use Rattle.branch_reports.specs.Told.{IsDecision}
 use Rattle.branch_reports.specs.Looked.{looked}
 use Rattle.branch_looks.specs.Looks.{IsShown, LooksAt, StaysBy, TellsDecision, reads_row, told_of}

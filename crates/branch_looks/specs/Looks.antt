@@ -15,7 +15,7 @@ use Rattle.shop_model.specs.Books.{Books, shop_of}
 use Rattle.shop_types.specs.declared.reply.Reply.{Reply}
 use Rattle.shop_types.specs.Seen.{seen_view}
 use Rattle.shop_types.specs.Replies.{seen_reply}
-use Rattle.shop_schema.specs.Calls.{Finds}
+use Rattle.shop_ledger.specs.Calls.{Finds}
 use Rattle.branch_reports.specs.Told.{IsDecision}
 use Rattle.branch_reports.specs.Looked.{looked}
 use Rattle.branch_looks.specs.declared.work.Work.{Work}

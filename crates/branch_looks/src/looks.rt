@@ -8,7 +8,7 @@ ghost use Rattle.shop_model.specs.Shop.{Shop};
 ghost use Rattle.shop_model.specs.Machine.{CopiesAre};
 ghost use Rattle.shop_model.specs.Answers.{shown_text};
 ghost use Rattle.shop_types.specs.Replies.{seen_reply};
-ghost use Rattle.shop_schema.specs.Calls.{Finds};
+ghost use Rattle.shop_ledger.specs.Calls.{Finds};
 ghost use Rattle.branch_core.specs.Agreed.{AreOfFilm};
 ghost use Rattle.branch_looks.specs.Looks.{stock_asked, stock_listed};
 ghost use Rattle.branch_reports.specs.Looked.{looked};

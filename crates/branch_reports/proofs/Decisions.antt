@@ -1,10 +1,6 @@
 -- An answer to what was done or read, and one that refuses, are decisions on any disk.
-use Rattle.std.proofs.Common.{◌≡◌, ◌≢◌, ◌∙◌, ℕ, Bool, inl, inr, refl, ap, true, false, not, eqb-true}
+use Rattle.shop_schema.proofs.Common.{◌≡◌, ◌≢◌, ◌∙◌, ℕ, Bool, inl, inr, refl, ap, true, false, not, eqb-true, Text, Problem, problem_status, Answer, accepted_answer, problem_answer, is_decided}
 use Rattle.std.specs.Prelude.{◌==◌}
-use Rattle.shop_model.specs.Values.{Text}
-use Rattle.shop_model.specs.Refusals.{Problem, problem_status}
-use Rattle.shop_model.specs.Answers.{Answer, accepted_answer, problem_answer}
-use Rattle.shop_model.specs.Histories.{is_decided}
 use Rattle.branch_reports.specs.Told.{IsDecision}
 
 pub accepted_told : (answer : Answer) (text : Text) → answer ≡ accepted_answer text → IsDecision answer

@@ -1,8 +1,7 @@
 -- What a look shows of a row that is there, and of one that isn't.
-use Rattle.std.proofs.Common.{◌≡◌, refl, ◌-◌, List, [], ◌∷◌, map, Some, None}
+use Rattle.shop_schema.proofs.Common.{◌≡◌, refl, ◌-◌, List, [], ◌∷◌, map, Some, None, Sorry, Shows, given, head}
 use Rattle.shop_model.specs.Refusals.{Refusal}
-use Rattle.shop_model.specs.Machine.{Shown, Sorry, Shows, given}
-use Rattle.shop_model.specs.Books.{head}
+use Rattle.shop_model.specs.Machine.{Shown}
 
 pub given_none : {A B : Type 0} (refusal : Refusal) (show : A → Shown) (f : A → B) (rows : List A) → None ≡ head (map f rows) → given refusal show rows ≡ Sorry refusal
 given_none refusal show f [] is = refl

@@ -1,18 +1,8 @@
 -- The month before a moment's lies between the first second of that month and that of the moment's own.
-use Rattle.std.proofs.Common.{◌≡◌, ◌∙◌, refl, sym, ap, arith, ℕ, ℤ, pos, suc, ◌+◌, ◌*◌, ◌<◌, ◌≤◌, List, [], ◌∷◌, map, filter, Bool, true, false, cond, Option, Some, None, option_map}
-use Rattle.std.specs.Prelude.{◌-◌, ◌==◌, ◌&&◌, ◌||◌, nat_lt, nat_le, int_le, if◌then◌else◌}
-use Rattle.std.specs.List.{AllByRecursion}
-use Rattle.std.proofs.lemmas.Bool.Decides.{nat_tests}
+use Rattle.shop_schema.proofs.Common.{◌≡◌, ◌∙◌, refl, sym, ap, arith, ℕ, ℤ, pos, suc, ◌+◌, ◌*◌, ◌<◌, ◌≤◌, List, [], ◌∷◌, map, filter, Bool, true, false, cond, Option, Some, None, option_map, nat_lt, nat_le, int_le, if◌then◌else◌, AllByRecursion, nat_tests, all-filter, Moment, is_leap_year, days_in_year, days_in_month, is_by, is_earlier, month_days, month_before, Row, is_of, of, Payment, Shop, Books, rewarded_in, IsRow, IsPayment, IsHeld}
+use Rattle.std.specs.Prelude.{◌-◌, ◌==◌, ◌&&◌, ◌||◌}
 use Rattle.std.proofs.lemmas.Int.{ints}
-use Rattle.sqlite_keyed.proofs.ListLemmas.{all-filter}
-use Rattle.shop_model.specs.Calendar.{Moment, is_leap_year, days_in_year, days_in_month, days_of_years, days_of_months, day_number, day_of, seconds_of, is_by, is_earlier, month_days, month_before}
-use Rattle.shop_model.specs.Rows.{Row, is_of, of}
-use Rattle.shop_model.specs.Values.{Payment}
-use Rattle.shop_model.specs.Shop.{Shop}
-use Rattle.shop_model.specs.Books.{Books}
-use Rattle.shop_model.specs.Stock.{rewarded_in}
-use Rattle.shop_schema.specs.RowValues.{IsRow, IsPayment}
-use Rattle.shop_schema.specs.Held.{IsHeld}
+use Rattle.shop_model.specs.Calendar.{days_of_years, days_of_months, day_number, day_of, seconds_of}
 use Rattle.shop_schema.proofs.Days.{whole_year}
 use Rattle.balance_rule.specs.Rewards.{seen_days}
 use Rattle.branch_reports.specs.Rewards.{is_paid_in}

@@ -1,24 +1,11 @@
 -- Who is rewarded: one payment or customer more, the payments of the month alone, and the customers by number.
-use Rattle.std.proofs.Common.{◌≡◌, ◌≢◌, ◌∙◌, refl, sym, ap, inl, inr, arith, ℕ, ℤ, suc, ◌+◌, ◌<◌, ◌≤◌, List, [], ◌∷◌, ◌++◌, length, map, filter, take, get_or, subst, cond, Ordering, Less, Equal, Greater, append_assoc, append-nil, Bool, true, false, Option, Some, None, option_map, codes, decimal}
-use Rattle.std.specs.Prelude.{◌==◌, ◌&&◌, ◌*◌, nat_lt, sum_by, if◌then◌else◌}
-use Rattle.std.proofs.lemmas.Bool.{cases_Bool}
-use Rattle.std.proofs.lemmas.Bool.Decides.{nat_tests}
-use Rattle.std.proofs.lemmas.List.{map_more, length-append}
-use Rattle.std.proofs.lemmas.List.Sums.{sum_by-append, sum_by-cons}
+use Rattle.shop_schema.proofs.Common.{◌≡◌, ◌≢◌, ◌∙◌, refl, sym, ap, inl, inr, arith, ℕ, ℤ, suc, ◌+◌, ◌<◌, ◌≤◌, List, [], ◌∷◌, ◌++◌, length, map, filter, take, get_or, subst, cond, Ordering, Less, Equal, Greater, append_assoc, append-nil, Bool, true, false, Option, Some, None, option_map, codes, decimal, nat_lt, sum_by, if◌then◌else◌, cases_Bool, nat_tests, map_more, sum_by-append, sum_by-cons, nat_cmp_is, nat_cmp, numbered, numbered_from, Moment, Text, Payment, Rewards, numbers_text, object, Answer, answer_of, accepted_answer, Catalogue, Shop, rewarded_in, rewarded, Shows, CustomersAre, look, one_more, more_yes, more_no, differ_test, same_test}
+use Rattle.std.specs.Prelude.{◌==◌, ◌&&◌, ◌*◌}
+use Rattle.std.proofs.lemmas.List.{length-append}
 use Rattle.std.proofs.lemmas.Map.Lookups.{exact_unsigned}
 use Rattle.std.specs.BTreeMap.{BTreeMap, Updates, get, is_at}
-use Rattle.std.specs.Cmp.{nat_cmp_is}
 use Rattle.std.specs.Option.{IfSome}
-use Rattle.std.specs.Ordering.{is_eq, nat_cmp}
-use Rattle.shop_model.specs.Rows.{numbered, numbered_from}
-use Rattle.shop_model.specs.Calendar.{Moment}
-use Rattle.shop_model.specs.Values.{Text, Payment, Rewards}
-use Rattle.shop_model.specs.Json.{numbers_text, object}
-use Rattle.shop_model.specs.Answers.{Answer, answer_of, accepted_answer}
-use Rattle.shop_model.specs.Shop.{Catalogue, Shop}
-use Rattle.shop_model.specs.Stock.{rewarded_in, rewarded}
-use Rattle.shop_model.specs.Machine.{Shows, CustomersAre, look}
-use Rattle.shop_model.proofs.RowLemmas.{one_more, more_yes, more_no, differ_test, same_test}
+use Rattle.std.specs.Ordering.{is_eq}
 use Rattle.balance_rule.specs.declared.rows.Paid.{Paid}
 use Rattle.balance_rule.specs.Balance.{amount_of, paid_of}
 use Rattle.balance_rule.specs.Rewards.{seen_days, is_on}

@@ -8,7 +8,7 @@ ghost use Rattle.shop_model.specs.Shop.{Shop};
 ghost use Rattle.shop_model.specs.Stock.{balance};
 ghost use Rattle.shop_types.specs.Seen.{seen_rule};
 ghost use Rattle.shop_types.specs.Replies.{seen_reply};
-ghost use Rattle.shop_schema.specs.Calls.{Finds};
+ghost use Rattle.shop_ledger.specs.Calls.{Finds};
 ghost use Rattle.balance_rule.specs.Balance.{AreTermsOf, ArePaidBy};
 ghost use Rattle.branch_reports.specs.Looked.{looked};
 ghost use Rattle.branch_reports.specs.Told.{IsDecision};

@@ -8,7 +8,7 @@ ghost use Rattle.sql_rows.specs.Calls.{StaysWithin};
 ghost use Rattle.shop_model.specs.Calendar.{month_before, seconds_of};
 ghost use Rattle.shop_model.specs.Books.{shop_of};
 ghost use Rattle.shop_model.specs.Stock.{rewarded_in};
-ghost use Rattle.shop_schema.specs.Calls.{Finds};
+ghost use Rattle.shop_ledger.specs.Calls.{Finds};
 ghost use Rattle.shop_model.specs.Values.{Payment};
 ghost use Rattle.branch_reports.specs.Rewards.{AreSmall, AreSummed, one_paid, passes_for, payments_of, rewarded_numbers, sum_or_none};
 

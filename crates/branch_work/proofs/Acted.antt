@@ -1,19 +1,7 @@
 -- What an accepted act makes of the books, with what was found of the rows that it names, and with the command kept.
-use Rattle.std.proofs.Common.{◌≡◌, ◌∙◌, refl, sym, ap, subst, ℕ, Bool, [], ◌∷◌, ◌++◌, map, filter, Some, Result}
-use Rattle.std.specs.Borrow.{MutBor}
-use Rattle.std.specs.Prelude.{is_some}
+use Rattle.shop_schema.proofs.Common.{◌≡◌, ◌∙◌, refl, sym, ap, subst, ℕ, Bool, [], ◌∷◌, ◌++◌, map, filter, Some, Result, MutBor, is_some, Held, DoesWithin, does_such, Row, of, is_row, Text, Rules, Command, Act, Rental, reply_text, Books, book_acted, book_done, set_last, shop_of, map_at, row_at, found_some, IsHeld}
 use Rattle.sqlite.specs.Store.{Ghosts}
-use Rattle.sqlite.specs.Held.{Held}
-use Rattle.sql_rows.specs.Calls.{DoesWithin}
-use Rattle.sql_rows.proofs.Chaining.{does_such}
-use Rattle.shop_model.specs.Rows.{Row, of, is_row}
 use Rattle.shop_model.specs.Values as model
-use Rattle.shop_model.specs.Values.{Text, Rules, Command, Act, Rental}
-use Rattle.shop_model.specs.Machine.{reply_text}
-use Rattle.shop_model.specs.Books.{Books, book_acted, book_done, set_last, shop_of}
-use Rattle.shop_model.proofs.RowLemmas.{map_at, row_at}
-use Rattle.shop_model.proofs.FoundLemmas.{found_some}
-use Rattle.shop_schema.specs.Held.{IsHeld}
 use Rattle.branch_core.specs.declared.found.RentalFound.{RentalFound}
 use Rattle.branch_core.specs.declared.found.RowsFound.{RowsFound}
 use Rattle.branch_core.specs.Agreed.{seen_rental, rental_at}

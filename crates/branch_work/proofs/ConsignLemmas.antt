@@ -1,17 +1,8 @@
 -- What a dispatch and a receipt write, step by step, and with which counts the tables then stand for the books.
-use Rattle.std.proofs.Common.{◌≡◌, ◌∙◌, refl, sym, ap, subst, ℕ, ◌+◌, ◌<◌, ◌≤◌, Bool, true, false, cond, not, List, [], ◌∷◌, ◌++◌, length, take, map, filter, get_or, Option, Some, None, option_map, arith, append_assoc, append-nil, add-zero}
-use Rattle.std.specs.Prelude.{fold, flat_map, option_to_list, IfSome}
-use Rattle.std.proofs.lemmas.List.{map-append, take_more, take_all, length-take-le}
-use Rattle.sqlite.specs.State.{State}
-use Rattle.sql_rows.specs.Rows.{PicksOne}
-use Rattle.shop_model.specs.Rows.{Row, AreNumbered, arrived, is_of, is_row, mem, next, numbered_from, put_all, set_row, set_rows, update_where}
+use Rattle.shop_schema.proofs.Common.{◌≡◌, ◌∙◌, refl, sym, ap, subst, ℕ, ◌+◌, ◌<◌, ◌≤◌, Bool, true, false, cond, not, List, [], ◌∷◌, ◌++◌, length, take, map, filter, get_or, Option, Some, None, option_map, arith, append_assoc, append-nil, add-zero, IfSome, map-append, take_more, take_all, length-take-le, State, PicksOne, Row, AreNumbered, arrived, is_of, is_row, mem, next, numbered_from, put_all, set_row, set_rows, Books, BookCopy, Mark, Consignment, between, checked, come, is_consignment, put_state, unpacked, length_map, set_rows_counted, ParcelLine, seen_parcel_line, Pair, add_pair, count_pair, counts_of, raise, AreTermed, Holds, HoldsWith, Writes}
+use Rattle.std.specs.Prelude.{fold, flat_map, option_to_list}
+use Rattle.shop_model.specs.Rows.{update_where}
 use Rattle.shop_model.specs.Values as model
-use Rattle.shop_model.specs.Books.{Books, BookCopy, Mark, Consignment, between, checked, come, is_consignment, put_state, unpacked}
-use Rattle.shop_model.proofs.RowLemmas.{length_map, set_rows_counted}
-use Rattle.shop_types.specs.declared.parcel.ParcelLine.{ParcelLine}
-use Rattle.shop_types.specs.Seen.{seen_parcel_line}
-use Rattle.shop_schema.specs.Counts.{Pair, add_pair, count_pair, counts_of, raise}
-use Rattle.shop_schema.specs.Shop.{AreTermed, Holds, HoldsWith, Writes}
 use Rattle.shop_schema.proofs.Lists.{picks_row}
 use Rattle.shop_ledger.proofs.CountsOf.{agreed}
 use Rattle.shop_ledger.proofs.Agreeing.{copies_counted, state_counted}

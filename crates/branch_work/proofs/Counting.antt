@@ -1,25 +1,11 @@
 -- With the counts of its new rows, the tables stand for the books that have the rows.
-use Rattle.std.proofs.Common.{◌≡◌, ◌∙◌, refl, sym, ap, subst, ℕ, ◌≤◌, ◌<◌, ◌^◌, List, [], ◌∷◌, ◌++◌, length, map, None, arith}
-use Rattle.sqlite.specs.State.{State}
-use Rattle.shop_values.specs.LimitValues.{Limits}
-use Rattle.shop_model.specs.Rows.{Row, Owned, of, owned_by, next, put, put_all}
+use Rattle.shop_schema.proofs.Common.{◌≡◌, ◌∙◌, refl, sym, ap, subst, ℕ, ◌≤◌, ◌<◌, ◌^◌, List, [], ◌∷◌, ◌++◌, length, map, None, arith, State, Limits, Row, Owned, of, owned_by, next, put_all, Command, Text, Customer, Rental, Terms, Payment, Rules, Kept, Catalogue, films_in, Books, BookCopy, Customers, CopyRows, Rentals, Payments, edits_of, book_acted, imported, unmarked, length_map, grown, rows_edited, edits_small, catalogue_stays, seen_act, IsHeld, Counts, counts_of, count_in, raise, put_out, AreTermed, Holds, HoldsWith}
+use Rattle.shop_model.specs.Rows.{put}
 use Rattle.shop_model.specs.Values as model
-use Rattle.shop_model.specs.Values.{Command, Text, Customer, Rental, Terms, Payment, Rules}
-use Rattle.shop_model.specs.Shop.{Kept, Catalogue}
-use Rattle.shop_model.specs.Machine.{films_in}
-use Rattle.shop_model.specs.Books.{Books, BookCopy, Customers, CopyRows, Rentals, Payments, edits_of, book_acted, imported, unmarked}
-use Rattle.shop_model.proofs.RowLemmas.{length_map}
-use Rattle.shop_model.proofs.EditLemmas.{grown, rows_edited}
-use Rattle.shop_model.proofs.GoodShops.{edits_small}
-use Rattle.shop_model.proofs.Isolation.{catalogue_stays}
 use Rattle.shop_types.specs.declared.command.Act.{Act}
 use Rattle.shop_types.specs.declared.command.Act.TheVariants as act
-use Rattle.shop_types.specs.Seen.{seen_act}
 use Rattle.stock_csv.specs.Stock.{stock_of}
 use Rattle.stock_csv.proofs.ReadingLemmas.{stock_fits}
-use Rattle.shop_schema.specs.Held.{IsHeld}
-use Rattle.shop_schema.specs.Counts.{Counts, counts_of, count_in, raise, put_out}
-use Rattle.shop_schema.specs.Shop.{AreTermed, Holds, HoldsWith}
 use Rattle.shop_ledger.specs.declared.counts.CountKind.{CountKind}
 use Rattle.shop_ledger.specs.declared.counts.CountKind.TheVariants as kind
 use Rattle.shop_ledger.specs.Counted.{kind_number, CountsOnce}

@@ -1,16 +1,6 @@
 -- What a request comes to, by the verdict on it, and where the branch isn't there.
-use Rattle.std.proofs.Common.{◌≡◌, ◌∙◌, refl, sym, ap, subst, ℕ, true, false, List}
-use Rattle.sqlite.specs.State.{State}
-use Rattle.shop_values.specs.LimitValues.{Limits}
-use Rattle.shop_model.specs.Rows.{lacks}
-use Rattle.shop_model.specs.Values.{Text, Command, Ask}
+use Rattle.shop_schema.proofs.Common.{◌≡◌, ◌∙◌, refl, sym, ap, subst, ℕ, true, false, List, State, Limits, lacks, Text, Command, Ask, Verdict, Again, Refused, Accepted, verdict, Request, Do, Look, Done, Sorry, reply_to, reply_by, reply_text, if_accepted, answer_of, Books, Caller, Counter, shop_of, book_done, branch_after, seen_reply, Holds}
 use Rattle.shop_model.specs.Refusals as named
-use Rattle.shop_model.specs.Verdict.{Verdict, Again, Refused, Accepted, verdict}
-use Rattle.shop_model.specs.Machine.{Request, Do, Look, Done, Sorry, reply_to, reply_by, reply_text, if_accepted}
-use Rattle.shop_model.specs.Answers.{answer_of}
-use Rattle.shop_model.specs.Books.{Books, Caller, Counter, shop_of, book_done, branch_after}
-use Rattle.shop_types.specs.Replies.{seen_reply}
-use Rattle.shop_schema.specs.Shop.{Holds}
 use Rattle.shop_ledger.specs.declared.answered.Answered.{Answered}
 use Rattle.branch_looks.specs.Looks.{IsShown}
 use Rattle.branch_looks.specs.declared.work.Listing.{Listing}

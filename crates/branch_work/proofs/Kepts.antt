@@ -1,16 +1,6 @@
 -- What is found under a key, by the stored form of the command and by the command itself.
-use Rattle.std.proofs.Common.{◌≡◌, ◌∙◌, refl, ap, ℕ, Bool, true, false, List, [], ◌∷◌, map, filter, cond, Option, Some, option_map}
+use Rattle.shop_schema.proofs.Common.{◌≡◌, ◌∙◌, refl, ap, ℕ, Bool, true, false, List, [], ◌∷◌, map, filter, cond, Option, Some, option_map, AllByRecursion, bytes_eq, bytes_eq-Decides, IsMoment, Owned, owned_by, Command, Kept, same_command, head, command_form, IsKept}
 use Rattle.std.specs.Prelude.{◌==◌}
-use Rattle.std.specs.List.{AllByRecursion}
-use Rattle.std.specs.Str.{bytes_eq}
-use Rattle.std.proofs.lemmas.Slice.Eq.{bytes_eq-Decides}
-use Rattle.shop_model.specs.Calendar.{IsMoment}
-use Rattle.shop_model.specs.Rows.{Owned, owned_by}
-use Rattle.shop_model.specs.Values.{Command}
-use Rattle.shop_model.specs.Shop.{Kept, same_command}
-use Rattle.shop_model.specs.Books.{head}
-use Rattle.shop_schema.specs.Forms.{command_form}
-use Rattle.shop_schema.specs.RowValues.{IsKept}
 use Rattle.shop_schema.proofs.OneToOne.{forms_are_one_to_one}
 use Rattle.shop_schema.proofs.OfficeOneToOne.{same_truth}
 use Rattle.shop_ledger.specs.Seen.{by_form, stored_kept}

@@ -1,11 +1,5 @@
 -- Rentals have their terms as before where a rental comes with its terms, and where one is set.
-use Rattle.std.proofs.Common.{◌≡◌, ℕ, List, [], ◌∷◌, ◌++◌, Bool, true, false, cond, map, refl, sym, subst, subst₂, IsPermutation}
-use Rattle.std.proofs.lemmas.List.{map_push}
-use Rattle.std.proofs.lemmas.List.Sorted.{IsPermutation-refl, IsPermutation-append}
-use Rattle.shop_model.specs.Rows.{Row, is_row, set_row}
-use Rattle.shop_model.specs.Values.{Rental, Terms}
-use Rattle.shop_model.specs.Books.{Books}
-use Rattle.shop_schema.specs.Shop.{AreTermed}
+use Rattle.shop_schema.proofs.Common.{◌≡◌, ℕ, List, [], ◌∷◌, ◌++◌, Bool, true, false, cond, map, refl, sym, subst, subst₂, IsPermutation, map_push, IsPermutation-refl, IsPermutation-append, Row, is_row, set_row, Rental, Terms, Books, AreTermed}
 
 abbrev key : {A : Type 0} → Row A → List ℕ
 key row = row.branch ∷ row.number ∷ []

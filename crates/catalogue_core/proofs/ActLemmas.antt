@@ -1,15 +1,8 @@
 -- Refusals of head office's commands, by what was found.
-use Rattle.std.proofs.Common.{◌≡◌, refl, sym, ap, ◌∙◌, ℕ, Bool, true, false, List, [], ◌∷◌, map, filter, Option, Some, None, option_map}
+use Rattle.std.proofs.Common.{option_map}
 use Rattle.std.specs.Prelude.{◌==◌}
-use Rattle.std.specs.Str.{bytes_eq}
-use Rattle.shop_model.specs.Values.{Film, Branch, WithdrawFilm, StaffLeaves, SetManager, OfficeCommand, Rules}
-use Rattle.shop_model.specs.Shop.{OfficeKept, Catalogue, same_option}
-use Rattle.shop_model.specs.Refusals.{NoBranch, Already}
-use Rattle.shop_model.specs.Verdict.{Verdict, Refused, Accepted, first, office_refusals, office_resent, office_verdict}
-use Rattle.shop_model.specs.Books.{head}
-use Rattle.shop_model.proofs.FoundLemmas.{found_none, found_some}
+use Rattle.shop_types.proofs.Common.{◌≡◌, refl, sym, ap, ◌∙◌, ℕ, Bool, true, false, List, [], ◌∷◌, map, filter, Option, Some, None, bytes_eq, Film, Branch, WithdrawFilm, StaffLeaves, SetManager, OfficeCommand, Rules, OfficeKept, Catalogue, same_option, NoBranch, Already, Verdict, Refused, Accepted, first, office_refusals, office_resent, office_verdict, head, found_none, found_some, seen_kept, post_of}
 use Rattle.shop_types.specs.declared.found.KeptFound.{KeptFound}
-use Rattle.shop_types.specs.Verdicts.{seen_kept, post_of}
 use Rattle.catalogue_core.specs.Shares.{film_at, branch_at, staff_at, kept_for}
 use Rattle.catalogue_core.specs.Decided.{fresh_refusals}
 

@@ -1,12 +1,6 @@
 -- What the number of a row says of the calls that it was made of.
-use Rattle.std.proofs.Common.{◌≡◌, ◌+◌, ℕ, Ok, Err, Result, refl, sym, subst}
-use Rattle.std.specs.Prelude.{IsOk, IfOk, OnOk}
-use Rattle.std.specs.Borrow.{MutBor}
-use Rattle.std.proofs.lemmas.Bool.{false≢true}
-use Rattle.sqlite_trees.specs.declared.store.Store.{Ghosts}
-use Rattle.sqlite.specs.Held.{Held}
-use Rattle.sql_rows.specs.Calls.{StaysInside}
-use Rattle.sql_rows.proofs.Stays.{inside_err, inside_then, inside_when, within_of}
+use Rattle.shop_schema.proofs.Common.{◌≡◌, ◌+◌, ℕ, Ok, Err, Result, refl, sym, subst, IsOk, IfOk, MutBor, false≢true, Ghosts, Held, StaysInside, inside_err, inside_then, inside_when, within_of}
+use Rattle.std.specs.Prelude.{OnOk}
 
 -- what a call says of what it answered
 pub was_ok : {X E : Type 0} (r : Result X E) (x : X) (P : X → Type 0) → r ≡ Ok x → IfOk r P → P x

@@ -1,17 +1,6 @@
 -- One read after another, and what is made of what a read found.
-use Rattle.std.proofs.Common.{◌≡◌, Ok, Err, Result, refl, sym, subst}
-use Rattle.std.specs.Prelude.{IsOk, IfOk}
-use Rattle.std.specs.Borrow.{MutBor}
-use Rattle.std.proofs.lemmas.Result.{IfOk-weaker}
-use Rattle.sqlite_trees.specs.declared.store.Store.{Ghosts}
-use Rattle.sqlite.specs.Held.{Held, state}
-use Rattle.sqlite.specs.State.{State, HasCleanDisk}
-use Rattle.sql_rows.specs.Calls.{StaysInside, StaysWithin}
-use Rattle.sql_rows.proofs.Stays.{within_err, within_of, within_when}
-use Rattle.shop_model.specs.Values.{OfficeAct}
-use Rattle.shop_model.specs.Books.{Books}
-use Rattle.shop_schema.specs.Calls.{Finds}
-use Rattle.shop_schema.specs.Shop.{Reads}
+use Rattle.shop_schema.proofs.Common.{◌≡◌, Ok, Err, Result, refl, sym, subst, IsOk, IfOk, MutBor, IfOk-weaker, Ghosts, Held, state, State, HasCleanDisk, StaysInside, StaysWithin, within_err, within_of, within_when, OfficeAct, Books, Reads}
+use Rattle.shop_ledger.specs.Calls.{Finds}
 use Rattle.shop_schema.proofs.Readings.{reads_as}
 use Rattle.catalogue_core.specs.declared.shared.SharedRows.{SharedRows}
 use Rattle.catalogue_core.specs.Shares.{ActShares}

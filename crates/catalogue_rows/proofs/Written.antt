@@ -1,22 +1,7 @@
 -- What the rows of head office's commands make of the books, and that a new branch has no last moment.
-use Rattle.std.proofs.Common.{◌≡◌, ◌+◌, IfOk, Result, ℕ, List, [], ◌∷◌, ◌++◌, map, length, sym, ap, subst, ◌∙◌, arith}
-use Rattle.std.specs.Prelude.{⊤, IsOk}
-use Rattle.std.specs.Borrow.{MutBor}
-use Rattle.sqlite_trees.specs.declared.store.Store.{Ghosts}
-use Rattle.sqlite.specs.Held.{Held, state}
-use Rattle.sqlite.specs.State.{State, HasCleanDisk}
-use Rattle.sql_rows.specs.Calls.{StaysInside}
-use Rattle.sql_rows.proofs.Stays.{clean_before}
-use Rattle.shop_model.specs.Calendar.{Moment}
-use Rattle.shop_model.specs.Rows.{Owned, owned_by}
-use Rattle.shop_model.specs.Values.{Text, Branch, OfficeAct, OfficeCommand}
-use Rattle.shop_model.specs.Shop.{Catalogue}
-use Rattle.shop_model.specs.Machine.{office_acted, office_told, office_text, office_done}
-use Rattle.shop_model.specs.Books.{Books}
-use Rattle.shop_schema.specs.Counts.{Counts, counts_of, with_branch}
-use Rattle.shop_schema.specs.Calls.{Finds, Stores}
-use Rattle.shop_schema.specs.Held.{IsHeld}
-use Rattle.shop_schema.specs.Shop.{HoldsWith}
+use Rattle.std.proofs.Common.{IfOk}
+use Rattle.shop_schema.proofs.Common.{◌≡◌, ◌+◌, Result, ℕ, List, [], ◌∷◌, ◌++◌, map, length, sym, ap, subst, ◌∙◌, arith, ⊤, IsOk, MutBor, Ghosts, Held, state, State, HasCleanDisk, StaysInside, clean_before, Moment, Owned, owned_by, Text, Branch, OfficeAct, OfficeCommand, Catalogue, office_acted, office_told, office_text, office_done, Books, Counts, counts_of, with_branch, IsHeld, HoldsWith}
+use Rattle.shop_ledger.specs.Calls.{Finds, Stores}
 use Rattle.shop_ledger.proofs.CountsOf.{beside}
 use Rattle.shop_ledger.proofs.OfficeCounts.{lacks_next, kept_stays, none_of}
 use Rattle.shop_views.specs.Bodies.{office_members}

@@ -7,7 +7,7 @@ ghost use Rattle.sql_rows.specs.Calls.{StaysWithin};
 ghost use Rattle.shop_model.specs.Shop.{same_rule};
 ghost use Rattle.shop_model.specs.Values as model;
 ghost use Rattle.shop_types.specs.Seen.{seen_film, seen_branch, seen_staff, seen_rule, seen_office_act, seen_office};
-ghost use Rattle.shop_schema.specs.Calls.{Finds};
+ghost use Rattle.shop_ledger.specs.Calls.{Finds};
 ghost use Rattle.catalogue_core.specs.Shares.{Shares, seen_branch_found};
 ghost use Rattle.catalogue_rows.specs.Found.{shared_of, IsKeptFor, FindsFor};
 

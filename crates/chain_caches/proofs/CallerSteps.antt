@@ -1,17 +1,8 @@
 -- Callers that are known stay so.
-use Rattle.std.proofs.Common.{◌≡◌, ◌∙◌, ℕ, List, [], ◌∷◌, ◌++◌, Bool, true, false, Some, Contains, inl, inr, refl, ap, sym, subst, arith}
-use Rattle.std.specs.Prelude.{if◌then◌else◌}
-use Rattle.std.proofs.lemmas.List.Elements.{Contains-push_cases}
-use Rattle.shop_model.specs.Rows.{lacks}
-use Rattle.shop_model.specs.Values.{Rules}
-use Rattle.shop_model.specs.Shop.{Catalogue}
-use Rattle.shop_model.specs.Machine.{Request}
-use Rattle.shop_model.specs.Books.{Books, Caller, Counter, Nobody, after_for, known_caller}
-use Rattle.shop_model.proofs.Callers.{known_same}
+use Rattle.shop_types.proofs.Common.{◌≡◌, ◌∙◌, ℕ, List, [], ◌∷◌, ◌++◌, Bool, true, false, Some, Contains, inl, inr, refl, ap, sym, subst, arith, if◌then◌else◌, Contains-push_cases, lacks, Rules, Catalogue, Request, Books, Caller, Counter, Nobody, after_for, known_caller, known_same, seen_caller}
 use Rattle.shop_model.proofs.Resends.{caller_after}
 use Rattle.shop_types.specs.declared.request.Caller.{Caller as Known}
 use Rattle.shop_types.specs.declared.request.Caller.TheVariants as known
-use Rattle.shop_types.specs.Seen.{seen_caller}
 use Rattle.chain_caches.specs.Callers.{AreCallers, KnownCallers, IsCallers}
 
 -- none is known

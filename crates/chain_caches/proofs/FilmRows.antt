@@ -1,16 +1,10 @@
 -- KnownFilms that are their films' rows stay so.
-use Rattle.std.proofs.Common.{◌≡◌, ◌≢◌, ℕ, true, false, List, [], ◌∷◌, map, Option, Some, None, IfSome, Contains, inl, inr, sym, subst, refl, nat_eq, Result, Ok, Err, OnOk, OnErr}
+use Rattle.std.proofs.Common.{Result}
 use Rattle.std.proofs.lemmas.Map.Keys.{IsDistinct-head, IsDistinct-tail}
-use Rattle.std.specs.Map.{keys_of, lookup, remove_entry}
-use Rattle.std.specs.List.{AllByRecursion, IsDistinct}
+use Rattle.shop_types.proofs.Common.{◌≡◌, ◌≢◌, ℕ, true, false, List, [], ◌∷◌, map, Option, Some, None, IfSome, Contains, inl, inr, sym, subst, refl, nat_eq, Ok, Err, OnOk, OnErr, keys_of, lookup, remove_entry, AllByRecursion, IsDistinct, at, set_at, Film, head, same_if, same_test, at_set_other}
 use Rattle.lru.specs.LruCache.{LruCache, lru_cache, put_entries}
 use Rattle.lru.proofs.Splits.{Contains-cons, Contains-nil}
 use Rattle.lru.proofs.CallerLemmas.{Contains-lookup, Contains-put_entries, Contains-remove_entry}
-use Rattle.shop_model.specs.Rows.{at, set_at}
-use Rattle.shop_model.specs.Values.{Film}
-use Rattle.shop_model.specs.Books.{head}
-use Rattle.shop_model.proofs.RowLemmas.{same_if, same_test}
-use Rattle.shop_model.proofs.LinkLemmas.{at_set_other}
 use Rattle.chain_caches.specs.declared.films.KnownFilm.{KnownFilm}
 use Rattle.chain_caches.specs.Films.{AreRows, KnownFilms, IsRow, known_of, seen_known}
 

@@ -1,13 +1,6 @@
 -- KnownFilms that are their films' rows are so after a request.
-use Rattle.std.proofs.Common.{◌≡◌, ℕ, ◌-◌, true, false, List, [], ◌∷◌, ◌++◌, map, Some, None, inl, inr, sym, subst, refl}
+use Rattle.shop_types.proofs.Common.{◌≡◌, ℕ, ◌-◌, true, false, List, [], ◌∷◌, ◌++◌, map, Some, None, inl, inr, sym, subst, refl, cases_Bool, at, set_at, lacks, Film, OfficeAct, AddFilm, PriceFilm, WithdrawFilm, OfficeCommand, Rules, Catalogue, Verdict, Again, Refused, Accepted, verdict, office_verdict, Request, Unread, Do, Look, Office, OfficeLook, office_acted, office_done, if_accepted, Books, Counter, HeadOffice, head, shop_of, book_done, branch_after, known_caller, after_for}
 use Rattle.std.specs.Prelude.{◌==◌}
-use Rattle.std.proofs.lemmas.Bool.{cases_Bool}
-use Rattle.shop_model.specs.Rows.{at, set_at, lacks}
-use Rattle.shop_model.specs.Values.{Film, OfficeAct, AddFilm, PriceFilm, WithdrawFilm, OfficeCommand, Rules}
-use Rattle.shop_model.specs.Shop.{Catalogue}
-use Rattle.shop_model.specs.Verdict.{Verdict, Again, Refused, Accepted, verdict, office_verdict}
-use Rattle.shop_model.specs.Machine.{Request, Unread, Do, Look, Office, OfficeLook, office_acted, office_done, if_accepted}
-use Rattle.shop_model.specs.Books.{Books, Counter, HeadOffice, head, shop_of, book_done, branch_after, known_caller, after_for}
 use Rattle.shop_model.proofs.Isolation.{catalogue_stays}
 use Rattle.chain_caches.specs.Films.{AreRows, KnownFilms, film_changed, known_of, seen_known}
 

@@ -1,18 +1,7 @@
 -- What head office asks, as a request of its caller.
-use Rattle.std.proofs.Common.{◌≡◌, ◌≢◌, refl, inl}
-use Rattle.sqlite.specs.State.{State}
-use Rattle.shop_values.specs.LimitValues.{Limits}
-use Rattle.shop_model.specs.Values.{OfficeCommand}
-use Rattle.shop_model.specs.Verdict.{Verdict, Again, Refused, Accepted, office_verdict}
-use Rattle.shop_model.specs.Machine.{Office, OfficeLook, office_text, office_done, if_accepted}
-use Rattle.shop_model.specs.Answers.{Answer}
-use Rattle.shop_model.specs.Books.{Books, HeadOffice}
-use Rattle.shop_model.specs.Sound.{IsSound}
+use Rattle.shop_schema.proofs.Common.{◌≡◌, ◌≢◌, refl, inl, State, Limits, OfficeCommand, Verdict, Again, Refused, Accepted, office_verdict, Office, OfficeLook, office_text, office_done, if_accepted, Answer, Books, HeadOffice, IsSound, seen_office_ask, StoreFault, Failed}
 use Rattle.shop_types.specs.declared.request.OfficeAsk.{OfficeAsk}
-use Rattle.shop_types.specs.Seen.{seen_office_ask}
 use Rattle.chain_caches.specs.Films.{AreRows, KnownFilms}
-use Rattle.sql_rows.specs.declared.fault.StoreFault.{StoreFault}
-use Rattle.sql_rows.specs.declared.fault.StoreFault.TheVariants.{Failed}
 use Rattle.branch_work.specs.Rules.{rules_of}
 use Rattle.branch_work.specs.Works.{GoesBy}
 use Rattle.chain_calls.specs.OfficeReads.{TellsOffice}

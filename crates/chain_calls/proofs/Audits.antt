@@ -1,10 +1,5 @@
 -- What an audit says of sound books.
-use Rattle.std.proofs.Common.{refl, IsTrue}
-use Rattle.sqlite.specs.State.{State}
-use Rattle.shop_model.specs.Books.{Books}
-use Rattle.shop_model.specs.Sound.{IsSound}
-use Rattle.shop_types.specs.declared.audit.Audit.{Audit}
-use Rattle.shop_schema.specs.RowValues.{AreValues}
+use Rattle.shop_schema.proofs.Common.{refl, IsTrue, State, Books, IsSound, Audit, AreValues}
 use Rattle.chain_calls.specs.Chains.{Rests, widest_rules}
 use Rattle.chain_calls.specs.Audits.{AuditsState, IsAuditOfBooks, TellsSoundness}
 

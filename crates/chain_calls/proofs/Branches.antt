@@ -1,17 +1,7 @@
 -- In a run each branch is told what its own machine says.
-use Rattle.std.proofs.Common.{◌≡◌, ◌∙◌, inl, inr, ℕ, List, [], ◌∷◌, true, map, refl, ap, Bool, filter}
-use Rattle.std.proofs.lemmas.Bool.{cases_Bool, and_parts}
-use Rattle.shop_model.specs.Values.{OfficeAsk, Rules}
-use Rattle.shop_model.specs.Machine.{Reply}
-use Rattle.shop_model.specs.Answers.{Answer, answer_of}
-use Rattle.shop_model.specs.Books.{Books, Event, Caller, is_counter, caller_in, after, replies_to, run, state_of}
-use Rattle.shop_model.specs.Histories.{IsRun, counted_in, is_decided, is_store_failure, fails_for_good}
+use Rattle.shop_schema.proofs.Common.{◌≡◌, ◌∙◌, inl, inr, ℕ, List, [], ◌∷◌, true, map, refl, ap, Bool, filter, cases_Bool, and_parts, OfficeAsk, Rules, Reply, Answer, answer_of, Books, Event, Caller, is_counter, caller_in, after, replies_to, run, state_of, IsRun, counted_in, is_decided, is_store_failure, fails_for_good, alone, decided_failure, failure_undecided, list_all}
 use Rattle.shop_model.specs.Repeats.{marked_ones}
-use Rattle.shop_model.proofs.Isolation.{alone}
-use Rattle.shop_model.proofs.Histories.{decided_failure}
-use Rattle.shop_model.proofs.Resends.{failure_undecided}
 use Rattle.chain_calls.specs.Branches.{answered_to, KeepsBranches}
-use Rattle.std.specs.List.{list_all}
 
 -- which events of the counted history were the branch's, by the catalogue as it was when each came
 abbrev are_of : Rules → (OfficeAsk → Books → Reply) → ℕ → List Event → Books → List Bool

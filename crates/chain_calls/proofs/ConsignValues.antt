@@ -1,29 +1,10 @@
 -- The rows of consignments stay such as the program can hold, where one is sent off and where one is received; and what is replied of them is a text.
-use Rattle.std.proofs.Common.{◌≡◌, ◌≤◌, ◌<◌, ◌+◌, ◌*◌, ◌^◌, ◌==◌, ◌&&◌, ℕ, zero, suc, List, [], ◌∷◌, ◌++◌, map, filter, not, cond, length, Bool, true, false, inl, inr, refl, ap, subst, ◌∙◌, arith, codes, decimal, IsUtf8, IsAscii, length-append}
-use Rattle.std.specs.Prelude.{nat_le, nat_lt, if◌then◌else◌}
-use Rattle.std.specs.List.{AllByRecursion, flat_map, list_all}
-use Rattle.std.proofs.lemmas.Bool.{and_parts, cases_Bool, leb-true, ltb-true}
-use Rattle.std.proofs.lemmas.Bool.Decides.{nat_tests}
-use Rattle.std.proofs.lemmas.Fmt.{IsAscii-decimal}
-use Rattle.std.proofs.lemmas.Str.{IsUtf8-from_ascii, IsAscii-append}
-use Rattle.std.proofs.lemmas.Str.Ascii.{IsAscii-nil, IsAscii-cons}
-use Rattle.std.proofs.ByRecursion.{All-append, All-map, All-push, All-weaker}
-use Rattle.sqlite_keyed.proofs.ListLemmas.{all-filter}
-use Rattle.shop_model.specs.Json.{escape_byte, comma_if, items_text, numbers_text, object}
-use Rattle.shop_model.specs.Rows.{Row, arrived, mem, numbered_from, of, is_row, next, put, put_all, set_row, set_rows, total, update_where}
+use Rattle.shop_schema.proofs.Common.{◌≡◌, ◌≤◌, ◌<◌, ◌+◌, ◌*◌, ◌^◌, ◌==◌, ◌&&◌, ℕ, zero, suc, List, [], ◌∷◌, ◌++◌, map, filter, not, cond, length, Bool, true, false, inl, inr, refl, ap, subst, ◌∙◌, arith, codes, decimal, IsUtf8, IsAscii, length-append, nat_le, nat_lt, if◌then◌else◌, AllByRecursion, flat_map, list_all, and_parts, cases_Bool, leb-true, ltb-true, nat_tests, IsAscii-decimal, IsUtf8-from_ascii, IsAscii-append, IsAscii-nil, IsAscii-cons, All-append, All-map, All-push, All-weaker, all-filter, comma_if, items_text, numbers_text, object, Row, arrived, mem, numbered_from, of, is_row, next, put_all, set_row, set_rows, total, Act, Command, Rules, arrival, Shop, here, incoming, numbers_from, parcels_to, Books, BookCopy, Line, Consignment, as_parcel, between, book_acted, book_done, checked, checked_line, come, is_consignment, new_consignment, put_state, rows_at, shop_of, under_way, unmarked, unpacked, is_parcel, IsSound, one, differ_if, differ_test, length_map, put_all_own, put_own, same_if, same_test, IsHeld, IsNumber, IsRow, IsCopy, IsLine, IsConsignment, IsAct, IsCommand, AreValues, FitsTables}
+use Rattle.shop_model.specs.Json.{escape_byte}
+use Rattle.shop_model.specs.Rows.{put, update_where}
 use Rattle.shop_model.specs.Values as model
-use Rattle.shop_model.specs.Values.{Act, Command, Rules}
-use Rattle.shop_model.specs.Verdict.{arrival}
-use Rattle.shop_model.specs.Shop.{Shop}
-use Rattle.shop_model.specs.Machine.{here, incoming, numbers_from, parcels_to, told}
-use Rattle.shop_model.specs.Books.{Books, BookCopy, Line, Consignment, as_parcel, between, book_acted, book_done, checked, checked_line, come, is_consignment, new_consignment, put_state, rows_at, shop_of, under_way, unmarked, unpacked}
-use Rattle.shop_model.specs.Links.{is_parcel}
-use Rattle.shop_model.specs.Sound.{IsSound, one}
-use Rattle.shop_model.proofs.RowLemmas.{differ_if, differ_test, length_map, put_all_own, put_own, same_if, same_test}
+use Rattle.shop_model.specs.Machine.{told}
 use Rattle.shop_model.proofs.ShopLemmas.{acted_own}
-use Rattle.shop_schema.specs.Held.{IsHeld}
-use Rattle.shop_schema.specs.RowValues.{IsNumber, IsRow, IsCopy, IsLine, IsConsignment, IsAct, IsCommand, AreValues}
-use Rattle.shop_schema.specs.Steps.{FitsTables}
 use Rattle.shop_schema.proofs.Values.{IfConsigns, ascii_bytes, number_fits, small, values_done}
 use Rattle.chain_calls.specs.Chains.{widest_rules}
 

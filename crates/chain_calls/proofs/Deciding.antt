@@ -1,11 +1,5 @@
 -- Whether tables stand for books can be decided, so it is known where it is known only in some case.
-use Rattle.std.proofs.Common.{◌≡◌, ℕ, List, [], ◌∷◌, refl, inl, inr}
-use Rattle.std.proofs.Math.Logic.{∥∥₁_map}
-use Rattle.std.proofs.lemmas.Bool.{cases_eq}
-use Rattle.sqlite_trees.specs.Tree.{Trees}
-use Rattle.sql_rows.proofs.Deciding.{Decided, one_bag, decided, in_any}
-use Rattle.shop_model.specs.Books.{Books}
-use Rattle.shop_schema.specs.Shop.{StandsFor}
+use Rattle.shop_schema.proofs.Common.{◌≡◌, ℕ, List, [], ◌∷◌, refl, inl, inr, ∥∥₁_map, cases_eq, Trees, Decided, one_bag, decided, in_any, Books, StandsFor}
 
 same_key : (a b : List ℕ) → Decided (a ≡ b)
 same_key [] [] = inl refl

@@ -1,12 +1,6 @@
 -- Which answers tell that the store failed.
-use Rattle.std.proofs.Common.{◌≡◌, ℕ, Bool, true, false, not, refl}
+use Rattle.shop_schema.proofs.Common.{◌≡◌, ℕ, Bool, true, false, not, refl, bytes_eq, StoreFailed, Reply, Answer, answer_of, problem_text, is_decided, is_store_failure, decided_is}
 use Rattle.std.specs.Prelude.{◌==◌, ◌&&◌}
-use Rattle.std.specs.Str.{bytes_eq}
-use Rattle.shop_model.specs.Refusals.{StoreFailed}
-use Rattle.shop_model.specs.Machine.{Reply}
-use Rattle.shop_model.specs.Answers.{Answer, answer_of, problem_text}
-use Rattle.shop_model.specs.Histories.{is_decided, is_store_failure}
-use Rattle.shop_model.proofs.Histories.{decided_is}
 
 -- no decision does
 pub decision_fine : (answer : Answer) → is_decided answer ≡ true → is_store_failure answer ≡ false

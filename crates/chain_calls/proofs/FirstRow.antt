@@ -1,23 +1,14 @@
 -- The one row of a table `chain` that tells version 1: a token stands in it, since the tables obey their schema.
-use Rattle.std.proofs.Common.{◌≡◌, ◌&&◌, ◌==◌, pos, List, [], ◌∷◌, map, Bool, true, false, refl, ap, subst, inl, inr, IsPermutation}
+use Rattle.shop_schema.proofs.Common.{◌≡◌, ◌&&◌, ◌==◌, pos, List, [], ◌∷◌, map, Bool, true, false, refl, ap, subst, inl, inr, IsPermutation, AllByRecursion, cases_Bool, false≢true, IsPermutation-refl, column, Trees, HasRows, columns_of, number_value, Text, same_if, first_version, versioned_columns, version_1_schema, chain_table, version_of, version_told}
+use Rattle.shop_schema.specs.declared.known.KnownVersion.TheVariants.{This, First, Other}
 use Rattle.std.specs.Prelude.{negsuc}
-use Rattle.std.specs.List.{AllByRecursion}
-use Rattle.std.proofs.lemmas.Bool.{cases_Bool, false≢true}
-use Rattle.std.proofs.lemmas.List.Sorted.{IsPermutation-refl}
 use Rattle.sqlite_value.specs.declared.value.Value.{Value}
 use Rattle.sqlite_value.specs.declared.value.Value.TheVariants as value
-use Rattle.sqlite_value.specs.Order.{Row, column}
-use Rattle.sqlite_trees.specs.Tree.{Trees}
+use Rattle.sqlite_value.specs.Order.{Row}
 use Rattle.sqlite_schema.specs.declared.schema.Constraint.TheVariants.{Datatype, NotNull}
 use Rattle.sqlite_schema.specs.Rules.{passes, Obeys}
-use Rattle.sql_rows.specs.Rows.{HasRows, columns_of, number_value}
-use Rattle.shop_model.specs.Values.{Text}
-use Rattle.shop_model.proofs.RowLemmas.{same_if}
-use Rattle.shop_schema.specs.Columns.{first_version, versioned_columns}
 use Rattle.shop_migration.specs.Migrating.{Tells}
-use Rattle.shop_schema.specs.Tables.{version_1_schema, chain_table}
-use Rattle.shop_schema.specs.Versions.{version_of, version_told}
-use Rattle.shop_schema.specs.declared.known.KnownVersion.TheVariants.{Missing, This, First, Other}
+use Rattle.shop_schema.specs.declared.known.KnownVersion.TheVariants.{Missing}
 
 no_and : (a : Bool) → (a && false) ≡ true → ⊥
 no_and true h = false≢true h

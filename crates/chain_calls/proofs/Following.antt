@@ -1,22 +1,6 @@
 -- One run follows another.
-use Rattle.std.proofs.Common.{◌≡◌, List, [], ◌∷◌, ◌++◌, length, map, Bool, true, false, inl, inr, Some, refl, sym, ap, ap₂, subst, arith, ◌∙◌, length-append}
-use Rattle.std.specs.Prelude.{◌||◌, ◌==◌, if◌then◌else◌}
-use Rattle.std.specs.Str.{bytes_eq}
-use Rattle.std.proofs.lemmas.Bool.{cases_Bool, and_parts, or_left, or_right}
-use Rattle.std.specs.List.{list_all}
-use Rattle.std.proofs.lemmas.List.{map-append}
-use Rattle.std.proofs.lemmas.List.Elements.{filter-append}
-use Rattle.std.proofs.lemmas.List.Folds.{list_any-append}
-use Rattle.shop_values.specs.LimitValues.{Limits}
-use Rattle.shop_model.specs.Values.{OfficeAsk, Rules}
-use Rattle.shop_model.specs.Refusals.{StoreFailed}
-use Rattle.shop_model.specs.Machine.{Reply}
-use Rattle.shop_model.specs.Answers.{Answer, answer_of, problem_text}
-use Rattle.shop_model.specs.Books.{Books, Event, Caller, after, run, last_books}
-use Rattle.shop_model.specs.Office.{office_look}
-use Rattle.shop_model.specs.Histories.{IsRun, is_decided, is_store_failure, is_answer, counted_in, fails_for_good, has_failed}
-use Rattle.shop_model.proofs.Histories.{run_append, last_append}
-use Rattle.shop_model.proofs.Resends.{runs_resend}
+use Rattle.shop_schema.proofs.Common.{◌≡◌, List, [], ◌∷◌, ◌++◌, length, map, Bool, true, false, inl, inr, Some, refl, sym, ap, ap₂, subst, arith, ◌∙◌, length-append, if◌then◌else◌, bytes_eq, cases_Bool, and_parts, or_left, or_right, list_all, map-append, filter-append, list_any-append, Limits, OfficeAsk, Rules, StoreFailed, Reply, Answer, answer_of, problem_text, Books, Event, Caller, after, run, last_books, office_look, IsRun, is_decided, is_store_failure, is_answer, counted_in, fails_for_good, has_failed, run_append, last_append, runs_resend}
+use Rattle.std.specs.Prelude.{◌||◌, ◌==◌}
 use Rattle.shop_model.proofs.Origins.{all_append}
 use Rattle.branch_work.specs.Rules.{rules_of}
 use Rattle.chain_calls.specs.Holding.{Holding}

@@ -1,12 +1,5 @@
 -- Which marks were made, by the copies of the branches that imported them, and how many places each has.
-use Rattle.std.proofs.Common.{◌≡◌, ◌∙◌, ◌+◌, ◌-◌, ◌≤◌, ◌==◌, ◌&&◌, ℕ, Bool, true, false, List, [], ◌∷◌, map, filter, inl, inr, refl, sym, ap, arith}
-use Rattle.std.specs.Prelude.{nat_lt}
-use Rattle.std.proofs.lemmas.Bool.{cases_Bool}
-use Rattle.shop_model.specs.Rows.{Row, at, of, is_of, IsCounted, total}
-use Rattle.shop_model.specs.Books.{Books, BookCopy, Mark}
-use Rattle.shop_model.specs.Sound.{HasNumbers, HasCustody, one, is_mark, rows_made, made}
-use Rattle.shop_model.proofs.RowLemmas.{same_if, differ_if}
-use Rattle.shop_model.proofs.CustodyLemmas.{apart_weight, low_none, made_once}
+use Rattle.shop_schema.proofs.Common.{◌≡◌, ◌∙◌, ◌+◌, ◌-◌, ◌≤◌, ◌==◌, ◌&&◌, ℕ, Bool, true, false, List, [], ◌∷◌, map, filter, inl, inr, refl, sym, ap, arith, nat_lt, cases_Bool, Row, at, of, is_of, IsCounted, total, Books, BookCopy, Mark, HasNumbers, HasCustody, one, is_mark, rows_made, made, same_if, differ_if, apart_weight, low_none, made_once}
 use Rattle.consign_store.specs.Custody.{HasOnePlace}
 use Rattle.consign_store.proofs.Custody.{one_place}
 

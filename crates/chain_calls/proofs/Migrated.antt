@@ -1,24 +1,8 @@
 -- What a transaction leaves in which tables of version 1 become those of this version.
-use Rattle.std.proofs.Common.{◌≡◌, ◌∙◌, true, false, IsTrue, refl, sym, ap, subst}
+use Rattle.shop_schema.proofs.Common.{◌≡◌, ◌∙◌, true, false, IsTrue, refl, sym, ap, subst, false≢true, Ghosts, Trees, Database, Held, state, State, HasCleanDisk, Survives, survives_begin, survives_weaker, AreKeyed, survives_more, crash_new, Books, migrated, without_terms, migrated_sound, without_terms_sound, Audit, StandsFor, IsShop, IsKeyed, shop_schema, version_1_schema}
 use Rattle.std.specs.Prelude.{◌↔◌}
-use Rattle.std.proofs.lemmas.Bool.{false≢true}
-use Rattle.sqlite_trees.specs.declared.store.Store.{Ghosts}
-use Rattle.sqlite_trees.specs.Tree.{Trees}
-use Rattle.sqlite.specs.Effect.{Database}
-use Rattle.sqlite.specs.Held.{Held, state}
-use Rattle.sqlite.specs.State.{State, HasCleanDisk, Shows, Survives}
-use Rattle.sqlite.proofs.Callers.{survives_begin}
-use Rattle.sqlite.proofs.StateLemmas.{survives_weaker}
-use Rattle.sql_rows.specs.Rows.{AreKeyed}
-use Rattle.sql_rows.proofs.Stays.{survives_more}
-use Rattle.sql_rows.proofs.Whole.{crash_new}
-use Rattle.shop_model.specs.Books.{Books}
-use Rattle.shop_model.specs.Migration.{migrated, without_terms}
-use Rattle.shop_model.proofs.Migration.{migrated_sound, without_terms_sound}
-use Rattle.shop_types.specs.declared.audit.Audit.{Audit}
+use Rattle.sqlite.specs.State.{Shows}
 use Rattle.shop_migration.specs.Migrating as tables
-use Rattle.shop_schema.specs.Shop.{StandsFor, IsShop, IsKeyed}
-use Rattle.shop_schema.specs.Tables.{shop_schema, version_1_schema}
 use Rattle.shop_schema.proofs.Values.{migrated_values, values_without}
 use Rattle.chain_calls.specs.Audits.{AuditsTables}
 use Rattle.chain_calls.specs.Chains.{StandsSoundly, StaysAsFound, widest_rules}

@@ -1,23 +1,14 @@
 -- What files hold in which a chain is made.
-use Rattle.std.proofs.Common.{◌≡◌, ◌≢◌, inl, inr, refl, sym, ap, subst}
+use Rattle.shop_schema.proofs.Common.{◌≡◌, ◌≢◌, inl, inr, refl, sym, ap, subst, Trees, Database, State, HasCleanDisk, Survives, Held, Finds, IsOpened, file_state, image_of, no_schema, one_schema, Books, HoldsOne, IsHeldIn, OpenFailed, HoldsNoTable}
 use Rattle.sqlite_disk.specs.declared.Disk.{Ghosts}
 use Rattle.sqlite_disk.specs.declared.Files.{Files}
 use Rattle.sqlite_wal.specs.Reads.{AreClean}
 use Rattle.sqlite_wal.proofs.LogLemmas.{SeenMayStay}
-use Rattle.sqlite_trees.specs.Tree.{Trees}
 use Rattle.sqlite_store.specs.declared.store.FileStore.{FileStore}
 use Rattle.sqlite_catalog.specs.Listing.{IsSound as IsDatabaseOf}
-use Rattle.sqlite.specs.Effect.{Database}
-use Rattle.sqlite.specs.State.{State, HasCleanDisk, Survives}
-use Rattle.sqlite.specs.Held.{Held}
-use Rattle.sqlite.specs.Files.{Finds, IsOpened, file_state, image_of}
-use Rattle.sql_rows.specs.Books.{no_schema}
-use Rattle.sql_rows.proofs.Unique.{one_schema}
-use Rattle.shop_model.specs.Books.{Books}
 use Rattle.chain_calls.specs.declared.faults.OpenFault.{OpenFault}
 use Rattle.chain_calls.specs.declared.faults.OpenFault.TheVariants as fault
 use Rattle.chain_calls.specs.Steps.{LeavesMade}
-use Rattle.sql_rows.specs.Files.{HoldsOne, IsHeldIn, OpenFailed, HoldsNoTable}
 use Rattle.chain_calls.specs.Openings.{IsNoneOrNew, IsNotCreated}
 use Rattle.chain_calls.proofs.Opening.{kept_one, only_committed, shows_what_is_found, shows_what_is_held}
 

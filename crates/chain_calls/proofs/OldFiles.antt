@@ -1,36 +1,19 @@
 -- What files hold in which a chain of version 1 is migrated.
-use Rattle.std.proofs.Common.{◌≡◌, ◌≢◌, ◌⊎◌, ◌∙◌, true, false, map, inl, inr, refl, sym, subst}
-use Rattle.std.proofs.lemmas.Bool.{cases_Bool}
-use Rattle.std.proofs.Math.Logic.{∥∥₁_elim, ∥∥₁_map}
+use Rattle.std.proofs.Common.{◌⊎◌}
+use Rattle.shop_schema.proofs.Common.{◌≡◌, ◌≢◌, ◌∙◌, true, false, map, inl, inr, refl, sym, subst, cases_Bool, ∥∥₁_elim, ∥∥₁_map, Trees, Trees-set, Schema, State, HasCleanDisk, Survives, Held, HoldsDatabase, Finds, IsOpened, file_state, image_of, columns_of, opened_keyed, one_schema, Text, Books, migrated, this_version, first_version, HasVersion, StandsFor, StandsForVersion1, version_1_schema, version_of, HoldsOne, IsHeldIn, OpenFailed}
+use Rattle.shop_schema.specs.declared.known.KnownVersion.{KnownVersion}
+use Rattle.shop_schema.specs.declared.known.KnownVersion.TheVariants.{This, First}
 use Rattle.sqlite_disk.specs.declared.Disk.{Ghosts}
 use Rattle.sqlite_disk.specs.declared.Files.{Files}
 use Rattle.sqlite_wal.proofs.LogLemmas.{SeenMayStay}
-use Rattle.sqlite_trees.specs.Tree.{Trees}
-use Rattle.sqlite_trees.specs.Props.{Trees-set}
 use Rattle.sqlite_store.specs.declared.store.FileStore.{FileStore}
 use Rattle.sqlite_catalog.specs.Listing.{IsSound as IsDatabaseOf}
-use Rattle.sqlite.specs.Schema.{Schema}
-use Rattle.sqlite.specs.State.{State, HasCleanDisk, Survives}
-use Rattle.sqlite.specs.Held.{Held}
-use Rattle.sqlite.specs.Files.{HoldsDatabase, Finds, IsOpened, file_state, image_of}
-use Rattle.sql_rows.specs.Rows.{columns_of}
-use Rattle.sql_rows.proofs.Opened.{opened_keyed}
-use Rattle.sql_rows.proofs.Unique.{one_schema}
-use Rattle.shop_model.specs.Values.{Text}
-use Rattle.shop_model.specs.Books.{Books}
-use Rattle.shop_model.specs.Migration.{migrated}
-use Rattle.shop_schema.specs.Columns.{this_version, first_version}
 use Rattle.shop_migration.specs.Migrating.{Tells}
-use Rattle.shop_schema.specs.Shop.{HasVersion, StandsFor, StandsForVersion1}
-use Rattle.shop_schema.specs.Tables.{version_1_schema}
-use Rattle.shop_schema.specs.Versions.{version_of}
-use Rattle.shop_schema.specs.declared.known.KnownVersion.{KnownVersion}
-use Rattle.shop_schema.specs.declared.known.KnownVersion.TheVariants.{This, Missing, First}
+use Rattle.shop_schema.specs.declared.known.KnownVersion.TheVariants.{Missing}
 use Rattle.chain_calls.specs.declared.faults.OpenFault.{OpenFault}
 use Rattle.chain_calls.specs.declared.faults.OpenFault.TheVariants as fault
 use Rattle.chain_calls.specs.Faults.{is_store_fault}
 use Rattle.chain_calls.specs.Files.{IsFirst, IsNeither, HoldsNoChain, HoldsNoVersion1, HasNeitherVersion, HasVersion1, HoldsVersion1Books, HoldsVersion1Damage, HoldsVersion1Soundly, KeepsInEither, KeepsVersion1Books, StandsInEither}
-use Rattle.sql_rows.specs.Files.{HoldsOne, IsHeldIn, OpenFailed}
 use Rattle.chain_calls.specs.Migrations.{StandsSoundlyForVersion1, AreMigrated, IsUnsoundVersion1, IsVersion1, LeavesMigrated}
 use Rattle.chain_calls.specs.Openings.{IsNotMigrated}
 use Rattle.chain_calls.proofs.Deciding.{stands_in_any}

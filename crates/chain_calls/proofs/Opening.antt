@@ -1,48 +1,23 @@
 -- What an open of files finds, and what files hold after the store is closed.
-use Rattle.std.proofs.Common.{◌≡◌, ◌≢◌, ◌⊎◌, ◌∙◌, inl, inr, refl, sym, ap, subst, true, false, IsTrue, arith, map, take, ℕ, List, [], ◌∷◌, pos, negsuc}
+use Rattle.std.proofs.Common.{◌⊎◌}
 use Rattle.std.specs.Prelude.{◌==◌}
-use Rattle.std.specs.List.{AllZip}
-use Rattle.std.proofs.lemmas.Bool.{cases_Bool}
-use Rattle.std.proofs.lemmas.List.Sorted.{length_permutation}
-use Rattle.std.proofs.Math.Logic.{∥∥₁_elim, ∥∥₁_map}
+use Rattle.shop_schema.proofs.Common.{◌≡◌, ◌≢◌, ◌∙◌, inl, inr, refl, sym, ap, subst, true, false, IsTrue, arith, map, take, ℕ, List, [], ◌∷◌, pos, negsuc, AllZip, cases_Bool, length_permutation, ∥∥₁_elim, ∥∥₁_map, column, Value, Null, Int, Real, Blob, Trees, IsClean, Trees-set, no_doubt, AreListed, IsTableRow, IsIndexRow, IsViewRow, Database, State, HasCleanDisk, Survives, Held, AreDatabases, HoldsDatabase, Finds, IsOpened, IsEmpty, over_files, file_state, image_of, one_permutation, opens_again, no_schema, columns_of, HasRows, number_value, opened_keyed, one_schema, Books, IsSound, AreValues, shop_schema, HasVersion, StandsFor, this_version, first_version, versioned_columns, Schema, version_of, version_told, HoldsOne, IsHeldIn, IsFoundIn, OpenFailed}
+use Rattle.shop_schema.specs.declared.known.KnownVersion.{KnownVersion}
+use Rattle.shop_schema.specs.declared.known.KnownVersion.TheVariants.{This, First, Other}
 use mathlib.Core.HLevel.{⊥_prop}
 use Rattle.sqlite_disk.specs.declared.Disk.{Ghosts}
 use Rattle.sqlite_disk.specs.declared.Files.{Files}
-use Rattle.sqlite_value.specs.Order.{Row, column}
-use Rattle.sqlite.specs.declared.types.Value.{Value}
-use Rattle.sqlite.specs.declared.types.Value.TheVariants.{Null, Int, Real, Text, Blob}
+use Rattle.sqlite_value.specs.Order.{Row}
+use Rattle.sqlite.specs.declared.types.Value.TheVariants.{Text}
 use Rattle.sqlite_wal.specs.Files.{outcomes}
 use Rattle.sqlite_wal.specs.Reads.{AreClean}
 use Rattle.sqlite_wal.proofs.LogLemmas.{SeenMayStay}
-use Rattle.sqlite_trees.specs.Tree.{Trees}
-use Rattle.sqlite_trees.specs.View.{IsClean}
-use Rattle.sqlite_trees.specs.Props.{Trees-set}
-use Rattle.sqlite_trees.proofs.Doubt.{no_doubt}
 use Rattle.sqlite_pool.proofs.StateLemmas.{clean_is, may_leave_is}
 use Rattle.sqlite_store.specs.declared.store.FileStore.{FileStore}
 use Rattle.sqlite_store.specs.FileStore.{view, recovers, files as store_files}
 use Rattle.sqlite_store.specs.Laws.{settled_at}
-use Rattle.sqlite_catalog.specs.Listing.{IsSound as IsDatabaseOf, AreListed, IsTableRow, IsIndexRow, IsViewRow}
-use Rattle.sqlite.specs.Effect.{Database}
-use Rattle.sqlite.specs.State.{State, HasCleanDisk, Survives}
-use Rattle.sqlite.specs.Held.{Held, AreDatabases}
-use Rattle.sqlite.specs.Files.{HoldsDatabase, Finds, IsOpened, IsEmpty, over_files, file_state, image_of}
-use Rattle.sqlite.proofs.Callers.{one_permutation}
-use Rattle.sqlite.proofs.Theorems.{opens_again}
-use Rattle.sql_rows.specs.Books.{no_schema}
-use Rattle.sql_rows.specs.Rows.{columns_of, HasRows, number_value}
-use Rattle.sql_rows.proofs.Opened.{opened_keyed}
-use Rattle.sql_rows.proofs.Unique.{one_schema}
-use Rattle.shop_model.specs.Books.{Books}
-use Rattle.shop_model.specs.Sound.{IsSound}
-use Rattle.shop_schema.specs.RowValues.{AreValues}
-use Rattle.shop_schema.specs.Tables.{shop_schema}
-use Rattle.shop_schema.specs.Shop.{HasVersion, StandsFor}
-use Rattle.shop_schema.specs.Columns.{this_version, first_version, versioned_columns}
-use Rattle.sqlite.specs.Schema.{Schema}
-use Rattle.shop_schema.specs.Versions.{version_of, version_told}
-use Rattle.shop_schema.specs.declared.known.KnownVersion.{KnownVersion}
-use Rattle.shop_schema.specs.declared.known.KnownVersion.TheVariants.{This, Missing, First, Other}
+use Rattle.sqlite_catalog.specs.Listing.{IsSound as IsDatabaseOf}
+use Rattle.shop_schema.specs.declared.known.KnownVersion.TheVariants.{Missing}
 use Rattle.chain_calls.specs.Chains.{Rests, IsAt, StandsForEither, StandsSoundly, widest_rules}
 use Rattle.chain_caches.proofs.FilmRows.{no_rows}
 use Rattle.chain_caches.proofs.CallerSteps.{no_callers}
@@ -51,7 +26,6 @@ use Rattle.chain_calls.proofs.Deciding.{stands_in_any}
 use Rattle.chain_calls.specs.declared.faults.OpenFault.{OpenFault}
 use Rattle.chain_calls.specs.declared.faults.OpenFault.TheVariants as fault
 use Rattle.chain_calls.specs.Files.{HoldsBooks, KeepsBooks, KeepsEither, HoldsNoChain, HoldsSoundly, HoldsDamage, HasThisVersion, HasNoVersion, HasOtherVersion, TellsVersion, Knows}
-use Rattle.sql_rows.specs.Files.{HoldsOne, IsHeldIn, IsFoundIn, OpenFailed}
 use Rattle.chain_calls.specs.Openings.{IsNotOpened}
 
 pub clean_store : {D : Type 0} {g : Ghosts D} (it : FileStore D g) (files : Files D) → (files.log, files.db) ≡ store_files it → AreClean g files.log files.db → IsClean (view it)

@@ -1,31 +1,12 @@
 -- What one request makes of a chain.
-use Rattle.std.proofs.Common.{◌≡◌, ◌≢◌, ◌∙◌, ◌≤◌, ℕ, List, Bool, true, false, inl, inr, refl, sym, ap, subst, Ok, Some}
-use Rattle.std.proofs.lemmas.Bool.{cases_Bool}
-use Rattle.sqlite_trees.specs.declared.store.Store.{Ghosts}
-use Rattle.sqlite.specs.Held.{state}
-use Rattle.sqlite.specs.State.{HasCleanDisk}
-use Rattle.shop_model.specs.Values.{Film}
-use Rattle.shop_model.specs.Shop.{Catalogue}
+use Rattle.shop_schema.proofs.Common.{◌≡◌, ◌≢◌, ◌∙◌, ◌≤◌, ℕ, List, Bool, true, false, inl, inr, refl, sym, ap, subst, Ok, Some, cases_Bool, Ghosts, state, HasCleanDisk, Film, Catalogue, Request, Sorry, Answer, answer_of, problem_answer, Books, Caller, known_caller, caller_of, reply_for, after_for, IsSound, office_look, is_store_failure, memory_failure, size_failure, failed_failure, IsHeld, StandsFor, Audit, Refusal, seen_caller, seen_refusal, seen_request, StoreFault}
 use Rattle.shop_model.specs.Refusals as named
-use Rattle.shop_model.specs.Machine.{Request, Sorry}
-use Rattle.shop_model.specs.Answers.{Answer, answer_of, problem_answer}
-use Rattle.shop_model.specs.Books.{Books, Caller, known_caller, caller_of, reply_for, after_for}
-use Rattle.shop_model.specs.Sound.{IsSound}
-use Rattle.shop_model.specs.Office.{office_look}
-use Rattle.shop_model.specs.Histories.{is_store_failure}
-use Rattle.shop_model.proofs.Histories.{memory_failure, size_failure, failed_failure}
 use Rattle.chain_caches.specs.Films.{AreRows}
 use Rattle.chain_caches.specs.Callers.{AreCallers, KnownCallers}
 use Rattle.chain_caches.proofs.CallerSteps.{callers_after}
-use Rattle.shop_schema.specs.Held.{IsHeld}
-use Rattle.shop_schema.specs.Shop.{StandsFor}
-use Rattle.shop_types.specs.declared.audit.Audit.{Audit}
 use Rattle.shop_types.specs.declared.request.Request.{Request as Asked}
 use Rattle.shop_types.specs.declared.request.Caller.{Caller as Known}
-use Rattle.shop_types.specs.declared.refusal.Refusal.{Refusal}
 use Rattle.shop_types.specs.declared.refusal.Refusal.TheVariants.{StoreFailed}
-use Rattle.shop_types.specs.Seen.{seen_caller, seen_refusal, seen_request}
-use Rattle.sql_rows.specs.declared.fault.StoreFault.{StoreFault}
 use Rattle.sql_rows.specs.declared.fault.StoreFault.TheVariants as fault
 use Rattle.branch_work.specs.Rules.{rules_of}
 use Rattle.chain_calls.specs.Holding.{Chained, Holding, holding}

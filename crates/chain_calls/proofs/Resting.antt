@@ -1,36 +1,13 @@
 -- What a transaction leaves of a connection between two requests.
-use Rattle.std.proofs.Common.{◌≡◌, ◌≢◌, ◌∙◌, inl, inr, refl, sym, ap, subst, arith, ℕ, List, true, false, IsTrue, Ok, Err, Result, IfOk, IfErr, OnOk}
-use Rattle.std.specs.Borrow.{MutBor}
-use Rattle.sqlite_trees.specs.declared.store.Store.{Ghosts}
-use Rattle.sqlite_trees.specs.Tree.{Trees}
+use Rattle.std.proofs.Common.{IfOk, IfErr}
+use Rattle.shop_schema.proofs.Common.{◌≡◌, ◌≢◌, ◌∙◌, inl, inr, refl, sym, ap, subst, arith, ℕ, List, true, false, IsTrue, Ok, Err, Result, OnOk, MutBor, Ghosts, Trees, Database, survives_then, survives_weaker, Held, state, State, HasCleanDisk, IsRolledBack, KeepsCommit, Survives, StaysInside, AreKeyed, no_schema, survives_nothing, crash_new, dropped, Limits, Request, Answer, Books, Caller, Mark, HasCustody, Audit, StoreFault, Failed, seen_caller, seen_reply, IsHeld, shop_schema, StandsFor, Holds, Reads, IsShop}
 use Rattle.sqlite.specs.declared.error.Error.{Error}
-use Rattle.sqlite.specs.Effect.{Database}
 use Rattle.sqlite.specs.Steps.{FailsToCommit}
-use Rattle.sqlite.proofs.StateLemmas.{survives_then, survives_weaker}
-use Rattle.sqlite.specs.Held.{Held, state}
-use Rattle.sqlite.specs.State.{State, HasCleanDisk, Shows, IsRolledBack, KeepsCommit, Survives}
-use Rattle.sql_rows.specs.Calls.{StaysInside}
-use Rattle.sql_rows.specs.Rows.{AreKeyed}
-use Rattle.sql_rows.specs.Books.{no_schema}
-use Rattle.sql_rows.proofs.Inside.{survives_nothing}
-use Rattle.sql_rows.proofs.Whole.{crash_new, dropped}
-use Rattle.shop_values.specs.LimitValues.{Limits}
-use Rattle.shop_model.specs.Machine.{Request}
-use Rattle.shop_model.specs.Answers.{Answer}
-use Rattle.shop_model.specs.Books.{Books, Caller, Mark}
-use Rattle.shop_model.specs.Sound.{HasCustody}
-use Rattle.shop_types.specs.declared.audit.Audit.{Audit}
-use Rattle.sql_rows.specs.declared.fault.StoreFault.{StoreFault}
-use Rattle.sql_rows.specs.declared.fault.StoreFault.TheVariants.{Failed}
+use Rattle.sqlite.specs.State.{Shows}
 use Rattle.shop_types.specs.declared.request.Caller.{Caller as Known}
-use Rattle.shop_types.specs.Seen.{seen_caller}
 use Rattle.shop_types.specs.declared.reply.Reply.{Reply}
-use Rattle.shop_types.specs.Replies.{seen_reply}
 use Rattle.chain_caches.specs.Films.{AreRows, KnownFilms}
 use Rattle.shop_ledger.specs.declared.answered.Answered.{Answered}
-use Rattle.shop_schema.specs.Held.{IsHeld}
-use Rattle.shop_schema.specs.Tables.{shop_schema}
-use Rattle.shop_schema.specs.Shop.{StandsFor, Holds, Reads, IsShop}
 use Rattle.chain_calls.specs.Chains.{Rests, StaysAsFound}
 use Rattle.branch_looks.specs.declared.work.Work.TheVariants as work
 use Rattle.chain_calls.specs.declared.reports.Report.{Report}

@@ -1,16 +1,6 @@
 -- A run grows by one answer at a time.
-use Rattle.std.proofs.Common.{◌≡◌, List, [], ◌∷◌, ◌++◌, length, Bool, true, false, inl, inr, Some, None, refl, sym, ap, subst, arith, ◌∙◌}
-use Rattle.std.specs.Prelude.{◌||◌, if◌then◌else◌}
-use Rattle.std.proofs.lemmas.Bool.{cases_Bool}
-use Rattle.std.specs.List.{list_all}
-use Rattle.std.proofs.lemmas.List.Folds.{list_all-append}
-use Rattle.shop_values.specs.LimitValues.{Limits}
-use Rattle.shop_model.specs.Answers.{Answer}
-use Rattle.shop_model.specs.Books.{Books, Event, Caller, caller_in, known_caller, after_for, after}
-use Rattle.shop_model.specs.Office.{office_look}
-use Rattle.shop_model.specs.Histories.{IsStep, IsRun, is_store_failure, has_failed}
-use Rattle.shop_model.proofs.Histories.{run_more, run_none, failed_more}
-use Rattle.shop_model.proofs.Resends.{runs_resend}
+use Rattle.shop_schema.proofs.Common.{◌≡◌, List, [], ◌∷◌, ◌++◌, length, Bool, true, false, inl, inr, Some, None, refl, sym, ap, subst, arith, ◌∙◌, if◌then◌else◌, cases_Bool, list_all, list_all-append, Limits, Answer, Books, Event, Caller, caller_in, known_caller, after_for, after, office_look, IsStep, IsRun, is_store_failure, has_failed, run_more, run_none, failed_more, runs_resend}
+use Rattle.std.specs.Prelude.{◌||◌}
 use Rattle.shop_model.proofs.Callers.{known_same}
 use Rattle.branch_work.specs.Rules.{rules_of}
 use Rattle.chain_calls.specs.Holding.{Holding}

@@ -1,16 +1,5 @@
 -- What is known of a chain's books stays so by a request.
-use Rattle.std.proofs.Common.{◌≤◌, ℕ, inl, inr, refl}
-use Rattle.std.proofs.lemmas.Bool.{cases_Bool}
-use Rattle.shop_values.specs.LimitValues.{Limits}
-use Rattle.shop_model.specs.Rows.{lacks}
-use Rattle.shop_model.specs.Values.{Command, OfficeCommand}
-use Rattle.shop_model.specs.Verdict.{Verdict, Again, Refused, Accepted, verdict, office_verdict}
-use Rattle.shop_model.specs.Machine.{Request, Unread, Do, Look, Office, OfficeLook, if_accepted, office_done}
-use Rattle.shop_model.specs.Books.{Books, Caller, Counter, HeadOffice, Nobody, shop_of, book_done, branch_after, office_after, known_caller}
-use Rattle.shop_model.specs.Sound.{IsSound}
-use Rattle.shop_model.proofs.Soundness.{after_sound}
-use Rattle.shop_schema.specs.Held.{IsHeld}
-use Rattle.shop_schema.specs.RowValues.{IsNumber, IsCommand, IsKey, IsOfficeAct, AreValues}
+use Rattle.shop_schema.proofs.Common.{◌≤◌, ℕ, inl, inr, refl, cases_Bool, Limits, lacks, Command, OfficeCommand, Verdict, Again, Refused, Accepted, verdict, office_verdict, Request, Unread, Do, Look, Office, OfficeLook, if_accepted, office_done, Books, Caller, Counter, HeadOffice, Nobody, shop_of, book_done, branch_after, office_after, known_caller, IsSound, after_sound, IsHeld, IsNumber, IsCommand, IsKey, IsOfficeAct, AreValues}
 use Rattle.shop_schema.proofs.Values.{held_by_sound, acts_fit}
 use Rattle.shop_schema.proofs.OfficeValues.{office_values_done}
 use Rattle.stock_csv.proofs.ReadingLemmas.{stock_fits}

@@ -1,6 +1,5 @@
 -- What a chain comes to have, by one call after another.
-use Rattle.sqlite_trees.specs.declared.store.Store.{Ghosts}
-use Rattle.shop_model.specs.Books.{Books}
+use Rattle.shop_schema.proofs.Common.{Ghosts, Books}
 use Rattle.chain_calls.specs.Holding.{Chained, Holding, holding}
 use Rattle.chain_calls.specs.Chains.{Takes}
 

@@ -1,17 +1,7 @@
 -- A chain that has failed stays as it is, and a look at one that hasn't may be refused by the store.
-use Rattle.std.proofs.Common.{◌≡◌, ◌∙◌, Bool, true, false, inl, inr, refl, sym, ap, subst, Result, Ok, Err}
+use Rattle.shop_schema.proofs.Common.{◌≡◌, ◌∙◌, Bool, true, false, inl, inr, refl, sym, ap, subst, Result, Ok, Err, cases_Bool, Ghosts, Held, state, HasCleanDisk, Survives, StoreFault, Memory, Size, Failed, problem_answer, is_store_failure, memory_failure, size_failure, failed_failure, seen_refusal}
 use Rattle.std.specs.Prelude.{◌||◌}
-use Rattle.std.proofs.lemmas.Bool.{cases_Bool}
-use Rattle.sqlite_trees.specs.declared.store.Store.{Ghosts}
-use Rattle.sqlite.specs.Held.{Held, state}
-use Rattle.sqlite.specs.State.{HasCleanDisk, Survives}
-use Rattle.sql_rows.specs.declared.fault.StoreFault.{StoreFault}
-use Rattle.sql_rows.specs.declared.fault.StoreFault.TheVariants.{Memory, Size, Failed}
-use Rattle.shop_model.specs.Answers.{problem_answer}
-use Rattle.shop_model.specs.Histories.{is_store_failure}
-use Rattle.shop_model.proofs.Histories.{memory_failure, size_failure, failed_failure}
 use Rattle.shop_types.specs.declared.refusal.Refusal.TheVariants.{StoreFailed}
-use Rattle.shop_types.specs.Seen.{seen_refusal}
 use Rattle.chain_steps.specs.Holding.{Chained, holding}
 use Rattle.chain_steps.specs.Chains.{Takes}
 use Rattle.chain_steps.specs.Steps.{IsUndone}

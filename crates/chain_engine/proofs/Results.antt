@@ -1,6 +1,5 @@
 -- What a result hands on.
-use Rattle.std.proofs.Common.{◌≡◌, Ok, Err, Result, sym, subst}
-use Rattle.std.specs.Prelude.{IfOk, IfErr, IsErrAnd}
+use Rattle.shop_schema.proofs.Common.{◌≡◌, Ok, Err, Result, sym, subst, IfOk, IfErr, IsErrAnd}
 
 -- an error that is handed on is the one that was told
 pub refused_by : {X E : Type 0} (r : Result X E) (P : E → Type 0) (e : E) → P e → IsErrAnd r (λ y. y ≡ e) → IfErr r P

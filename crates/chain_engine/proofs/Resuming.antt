@@ -1,32 +1,18 @@
 -- A chain that was stopped goes on with one history.
-use Rattle.std.proofs.Common.{◌≡◌, ◌⊎◌, ◌∙◌, inl, inr, refl, sym, ap, subst, Bool, true, false, List, [], ◌∷◌, length, Some, arith}
+use Rattle.std.proofs.Common.{◌⊎◌}
 use Rattle.std.specs.Prelude.{◌||◌}
-use Rattle.std.proofs.lemmas.Bool.{cases_Bool}
-use Rattle.std.proofs.Math.Logic.{∥∥₁_map}
+use Rattle.shop_schema.proofs.Common.{◌≡◌, ◌∙◌, inl, inr, refl, sym, ap, subst, Bool, true, false, List, [], ◌∷◌, length, Some, arith, cases_Bool, ∥∥₁_map, Trees, Ghosts, state, HasCleanDisk, Limits, Rules, Answer, Books, Event, after, office_look, IsRun, is_store_failure, has_failed, last_books, StandsFor, HoldsOne}
 use Rattle.sqlite_disk.specs.declared.Disk.{Ghosts as DiskGhosts}
 use Rattle.sqlite_disk.specs.declared.Files.{Files}
 use Rattle.sqlite_wal.specs.Files.{outcomes}
 use Rattle.sqlite_wal.specs.Reads.{AreClean}
 use Rattle.sqlite_wal.specs.Recovery.{Image}
-use Rattle.sqlite_trees.specs.Tree.{Trees}
-use Rattle.sqlite_trees.specs.declared.store.Store.{Ghosts}
-use Rattle.sqlite.specs.Held.{state}
-use Rattle.sqlite.specs.State.{HasCleanDisk}
-use Rattle.shop_values.specs.LimitValues.{Limits}
-use Rattle.shop_model.specs.Values.{Rules}
-use Rattle.shop_model.specs.Answers.{Answer}
-use Rattle.shop_model.specs.Books.{Books, Event, after}
-use Rattle.shop_model.specs.Office.{office_look}
-use Rattle.shop_model.specs.Histories.{IsRun, is_store_failure, has_failed}
 use Rattle.shop_model.specs.Stops.{failing, Lives, in_flight}
-use Rattle.shop_model.specs.Books.{last_books}
 use Rattle.shop_model.proofs.Stops.{one_history, resent_first}
 use Rattle.chain_steps.specs.Rules.{rules_of}
 use Rattle.chain_steps.specs.Holding.{Chained, holding}
-use Rattle.shop_schema.specs.Shop.{StandsFor}
 use Rattle.chain_steps.specs.Chains.{IsAt, Takes, Runs, StandsForEither}
 use Rattle.chain_steps.specs.Files.{KeepsBooks, KeepsEither}
-use Rattle.sql_rows.specs.Files.{HoldsOne}
 use Rattle.chain_engine.specs.Resumes.{before_stop, behind_stop, Resumes}
 
 -- where an answer is the store's failure, there is a request at which it failed first

@@ -1,20 +1,6 @@
 -- Whether numbers are among others that were put in order, and what that tells of copies that are away or out.
-use Rattle.std.proofs.Common.{◌≡◌, ◌≢◌, ◌∙◌, refl, sym, ap, inl, inr, arith, ℕ, zero, suc, ◌+◌, ◌<◌, ◌≤◌, Bool, true, false, not, List, [], ◌∷◌, length, map, filter, get_or, Result, Ok, Err, IsPermutation, None, subst, take}
-use Rattle.std.specs.Prelude.{◌==◌, ◌||◌, ◌&&◌, is_none, is_ok, MatchResult}
-use Rattle.std.specs.Ordering.{nat_cmp}
-use Rattle.std.specs.List.{list_any}
-use Rattle.std.specs.List.Sorted.{IsBinarySearchResult, IsSortedByKey}
-use Rattle.std.proofs.lemmas.List.Folds.{list_any_more}
-use Rattle.std.proofs.lemmas.List.Sorted.{IsNonDecreasingBy-from_sort, list_any-IsPermutation, searched}
-use Rattle.std.proofs.lemmas.Bool.{cases_Bool, cases_lt}
-use Rattle.std.proofs.Math.Bool.{or-true}
-use Rattle.shop_model.specs.Rows.{Row, is_of, is_row, lacks, mem, of}
-use Rattle.shop_model.specs.Values.{CopyState, Here, Sent, Scrapped, Copy, Rental}
-use Rattle.shop_model.specs.Stock.{is_here, in_stock, keeps_out}
-use Rattle.shop_model.specs.Verdict.{is_away}
-use Rattle.shop_model.specs.Sound.{HasNumbers, copy_is}
-use Rattle.shop_model.specs.Books.{Books, BookCopy, shop_of, unmarked}
-use Rattle.shop_model.proofs.RowLemmas.{differ_test, equal_test, row_at}
+use Rattle.shop_schema.proofs.Common.{◌≡◌, ◌≢◌, ◌∙◌, refl, sym, ap, inl, inr, arith, ℕ, zero, suc, ◌+◌, ◌<◌, ◌≤◌, Bool, true, false, not, List, [], ◌∷◌, length, map, filter, get_or, Result, Ok, Err, IsPermutation, None, subst, take, is_none, is_ok, MatchResult, nat_cmp, list_any, IsBinarySearchResult, IsSortedByKey, list_any_more, IsNonDecreasingBy-from_sort, list_any-IsPermutation, searched, cases_Bool, cases_lt, or-true, Row, is_of, is_row, lacks, mem, of, CopyState, Here, Sent, Scrapped, Copy, Rental, is_here, in_stock, keeps_out, is_away, HasNumbers, copy_is, Books, BookCopy, shop_of, unmarked, differ_test, equal_test, row_at}
+use Rattle.std.specs.Prelude.{◌==◌, ◌||◌, ◌&&◌}
 use Rattle.shop_ledger.proofs.Outs.{copies_of}
 use Rattle.consign_finds.specs.Finds.{AreListed}
 use Rattle.consign_finds.proofs.Outs.{twice}

@@ -1,14 +1,5 @@
 -- Calls inside a transaction that were well, one after another.
-use Rattle.std.proofs.Common.{Ok}
-use Rattle.std.specs.Borrow.{MutBor}
-use Rattle.std.specs.Prelude.{⊤}
-use Rattle.sqlite_trees.specs.declared.store.Store.{Ghosts}
-use Rattle.sqlite.specs.Held.{Held, state}
-use Rattle.sqlite.specs.State.{HasCleanDisk}
-use Rattle.sql_rows.specs.Calls.{StaysInside, StaysWithin}
-use Rattle.sql_rows.proofs.Stays.{clean_within, within_as, within_of, within_then}
-use Rattle.shop_model.specs.Books.{Books}
-use Rattle.shop_schema.specs.Shop.{Reads}
+use Rattle.shop_schema.proofs.Common.{Ok, MutBor, ⊤, Ghosts, Held, state, HasCleanDisk, StaysInside, StaysWithin, clean_within, within_as, within_of, within_then, Books, Reads}
 use Rattle.shop_schema.proofs.Readings.{reads_then}
 
 -- what calls leave, and what they find of the books over a disk that did as it was told

@@ -1,14 +1,7 @@
 -- What is found of listed copies and of a consignment is what the books have of them.
-use Rattle.std.proofs.Common.{◌≡◌, ◌∙◌, refl, sym, ap, ℕ, ◌+◌, ◌<◌, Bool, true, false, not, List, [], ◌∷◌, ◌++◌, length, map, flat_map, take, get_or, Option, Some, None, append-nil}
-use Rattle.std.specs.Prelude.{◌||◌, IfSome, if◌then◌else◌}
-use Rattle.std.specs.List.{list_any}
-use Rattle.std.proofs.lemmas.List.{map_push, take_more}
-use Rattle.shop_model.specs.Rows.{at, lacks, numbered_from, of}
-use Rattle.shop_model.specs.Stock.{in_stock}
-use Rattle.shop_model.specs.Books.{Books, Mark, Consignment, shop_of}
-use Rattle.shop_model.proofs.RowLemmas.{map_map}
-use Rattle.shop_types.specs.declared.parcel.ParcelLine.{ParcelLine}
-use Rattle.shop_types.specs.Seen.{seen_parcel_line}
+use Rattle.std.proofs.Common.{flat_map}
+use Rattle.std.specs.Prelude.{◌||◌}
+use Rattle.shop_schema.proofs.Common.{◌≡◌, ◌∙◌, refl, sym, ap, ℕ, ◌+◌, ◌<◌, Bool, true, false, not, List, [], ◌∷◌, ◌++◌, length, map, take, get_or, Option, Some, None, append-nil, IfSome, if◌then◌else◌, list_any, map_push, take_more, at, lacks, numbered_from, of, in_stock, Books, Mark, Consignment, shop_of, map_map, ParcelLine, seen_parcel_line}
 use Rattle.shop_types.specs.NumberLists.{are_few}
 use Rattle.shop_store.specs.declared.copies.CopyRow.{CopyRow}
 use Rattle.shop_store.specs.Seen.{seen_copy_row}

@@ -1,8 +1,6 @@
 -- What is read of rows.
-use Rattle.std.proofs.Common.{◌≡◌, refl, List, [], ◌∷◌, map}
-use Rattle.std.specs.Prelude.{is_some, not, ◌-◌}
-use Rattle.shop_model.specs.Rows.{is_empty}
-use Rattle.shop_model.specs.Books.{head}
+use Rattle.shop_schema.proofs.Common.{◌≡◌, refl, List, [], ◌∷◌, map, is_some, is_empty, head}
+use Rattle.std.specs.Prelude.{not, ◌-◌}
 
 -- a row is there where something is told of it
 pub some_there : {A B : Type 0} (f : A → B) (xs : List A) → is_some (head (map f xs)) ≡ not (is_empty xs)

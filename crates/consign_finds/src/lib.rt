@@ -9,7 +9,7 @@ ghost use Rattle.shop_model.specs.Rows.{at, lacks, mem, of};
 ghost use Rattle.shop_model.specs.Values as model;
 ghost use Rattle.shop_model.specs.Stock.{in_stock, is_here};
 ghost use Rattle.shop_model.specs.Books.{shop_of};
-ghost use Rattle.shop_schema.specs.Calls.{Finds};
+ghost use Rattle.shop_ledger.specs.Calls.{Finds};
 ghost use Rattle.shop_store.specs.Seen.{seen_copy_row};
 ghost use Rattle.shop_types.specs.Seen.{seen_state};
 ghost use Rattle.branch_core.specs.Marked.{IsArrival};

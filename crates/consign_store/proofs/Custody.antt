@@ -1,20 +1,7 @@
 -- Where a mark is, from the copies and the lines that have it.
-use Rattle.std.proofs.Common.{◌≡◌, ◌+◌, ◌<◌, ◌≤◌, ◌&&◌, ◌||◌, ℕ, Bool, true, false, cond, List, [], ◌∷◌, ◌++◌, map, filter, take, drop, length, get_or, Some, None, IsPermutation, refl, sym, ap, subst, ◌∙◌, arith}
-use Rattle.std.specs.Prelude.{slice_get}
-use Rattle.std.specs.List.{list_any, flat_map}
-use Rattle.std.proofs.lemmas.List.{take-append-drop}
-use Rattle.std.proofs.lemmas.List.Elements.{filter-append, filter_more}
-use Rattle.std.proofs.lemmas.List.Sorted.{IsPermutation-sym}
+use Rattle.shop_schema.proofs.Common.{◌≡◌, ◌+◌, ◌<◌, ◌≤◌, ◌&&◌, ◌||◌, ℕ, Bool, true, false, cond, List, [], ◌∷◌, ◌++◌, map, filter, take, drop, length, get_or, Some, None, IsPermutation, refl, sym, ap, subst, ◌∙◌, arith, slice_get, list_any, flat_map, take-append-drop, filter-append, filter_more, IsPermutation-sym, short_bag, Row, numbered_from, total, Here, Books, BookCopy, Mark, Line, Consignment, UnderWay, one, copy_is, line_is, is_mark, transit, places, Shows, HereAt, UnderWayTo, Gone, place_of, custody_of, filter_map, total-append}
 use Rattle.sqlite_trees.proofs.ListLemmas.{IsPermutation-filter}
-use Rattle.sql_rows.proofs.Bags.{short_bag}
-use Rattle.shop_model.specs.Rows.{Row, numbered_from, total}
-use Rattle.shop_model.specs.Values.{Here}
-use Rattle.shop_model.specs.Books.{Books, BookCopy, Mark, Line, Consignment, UnderWay}
-use Rattle.shop_model.specs.Sound.{one, copy_is, line_is, is_mark, here, transit, places}
-use Rattle.shop_model.specs.Machine.{Shows, HereAt, UnderWayTo, Gone}
-use Rattle.shop_model.specs.Office.{place_of, custody_of}
-use Rattle.shop_model.proofs.RowLemmas.{filter_map}
-use Rattle.shop_model.proofs.CustodyLemmas.{total-append}
+use Rattle.shop_model.specs.Sound.{here}
 use Rattle.shop_store.specs.declared.copies.CopyRow.{CopyRow}
 use Rattle.shop_store.specs.Seen.{seen_copy_row}
 use Rattle.consign_store.specs.declared.lines.LineRow.{LineRow}

@@ -1,31 +1,8 @@
 -- What the joins of the lists of consignments show of the books.
-use Rattle.std.proofs.Common.{◌≡◌, ◌==◌, ◌&&◌, ◌<◌, ◌+◌, ℕ, List, [], ◌∷◌, ◌++◌, map, filter, true, false, Bool, cond, Option, Some, None, refl, sym, ap, subst, ◌∙◌, arith, is_eq, is_lt, append-nil, inl, inr, IsPermutation}
-use Rattle.std.specs.List.{flat_map, AllByRecursion}
-use Rattle.std.proofs.lemmas.List.Sorted.{IsPermutation-trans, IsPermutation-map}
-use Rattle.sqlite.specs.declared.types.Value.{Value}
-use Rattle.sqlite.specs.declared.types.Value.TheVariants.{Null}
-use Rattle.sqlite.specs.Values.{or_null}
+use Rattle.shop_schema.proofs.Common.{◌≡◌, ◌==◌, ◌&&◌, ◌<◌, ◌+◌, ℕ, List, [], ◌∷◌, ◌++◌, map, filter, true, false, Bool, cond, Option, Some, None, refl, sym, ap, subst, ◌∙◌, arith, is_eq, is_lt, append-nil, inl, inr, IsPermutation, flat_map, AllByRecursion, IsPermutation-trans, IsPermutation-map, Value, Null, or_null, column, value_cmp, Key, Trees, IsAscending, Term, col, Query, Join, inner, left, end, Output, output_cmp, overlay, State, map-map, IsPermutation-same, IsPermutation-flat_map, ascending-map, ascending_weaker, ascending-append, all-map, all-flat_map, all_weaker, HasRows, columns_of, number_value, flag_value, Selects, answers, passing, three_tested, number_tested, joined_query, are_equal, or_blank, shown_of, equals, left_bag, joined_rows, Climbs, numbered, numbered_from, AreNumbered, Books, Line, Consignment, is_consignment, same_test, shop_schema, consignment_columns, IsShop, StandsFor}
 use Rattle.sqlite_value.specs.Order as sql
-use Rattle.sqlite_value.specs.Order.{column, value_cmp}
-use Rattle.sqlite_value.specs.declared.keys.Key.{Key}
-use Rattle.sqlite_trees.specs.Tree.{Trees, IsAscending}
 use Rattle.sqlite_rules.specs.Lists.{Has}
-use Rattle.sqlite_sql.specs.Term.{Term, col}
-use Rattle.sqlite_sql.specs.Query.{Query, Join, inner, left, end, Output, output_cmp}
-use Rattle.sqlite_sql.specs.Program.{overlay}
-use Rattle.sqlite.specs.State.{State, Shown}
-use Rattle.sqlite_keyed.proofs.ListLemmas.{map-map, IsPermutation-same, IsPermutation-flat_map, ascending-map, ascending_weaker, ascending-append, all-map, all-flat_map, all_weaker}
-use Rattle.sql_rows.specs.Rows.{HasRows, columns_of, number_value, flag_value}
-use Rattle.sql_rows.proofs.Queries.{Selects, answers}
-use Rattle.sql_rows.proofs.Upserts.{passing}
-use Rattle.sql_rows.proofs.ColumnTests.{three_tested, number_tested}
-use Rattle.sql_rows.proofs.Joins.{joined_query, are_equal, or_blank, shown_of, equals, left_bag, joined_rows, Climbs}
-use Rattle.shop_model.specs.Rows.{numbered, numbered_from, AreNumbered}
-use Rattle.shop_model.specs.Books.{Books, Line, Consignment, is_consignment}
-use Rattle.shop_model.proofs.RowLemmas.{same_test}
-use Rattle.shop_schema.specs.Tables.{shop_schema}
-use Rattle.shop_schema.specs.Columns.{consignment_columns}
-use Rattle.shop_schema.specs.Shop.{IsShop, StandsFor}
+use Rattle.sqlite.specs.State.{Shown}
 use Rattle.consign_store.specs.Parts.{Placed, placed_at, placed_in, all_placed, placed_columns, is_within}
 use Rattle.consign_store.specs.Listed.{ListLine, shown_line, lines_of, list_lines}
 use Rattle.consign_store.proofs.ListLemmas.{nothing_more}

@@ -1,11 +1,5 @@
 -- Lists that are updated, and numbers that rise.
-use Rattle.std.proofs.Common.{◌≡◌, ◌≢◌, ◌<◌, ℕ, List, [], ◌∷◌, ◌++◌, map, filter, Bool, true, false, cond, refl, ap, ◌∙◌, arith, is_gt}
-use Rattle.std.specs.List.{AllByRecursion, flat_map}
-use Rattle.std.proofs.lemmas.Bool.Decides.{nat_tests}
-use Rattle.sqlite_trees.specs.Tree.{IsAscending}
-use Rattle.sqlite_keyed.specs.Lists.{sort_by, insert_sorted, update_where}
-use Rattle.sqlite_keyed.proofs.ListLemmas.{ascending_weaker}
-use Rattle.sql_rows.specs.Rows.{by, Differ}
+use Rattle.shop_schema.proofs.Common.{◌≡◌, ◌≢◌, ◌<◌, ℕ, List, [], ◌∷◌, ◌++◌, map, filter, Bool, true, false, cond, refl, ap, ◌∙◌, arith, is_gt, AllByRecursion, flat_map, nat_tests, IsAscending, sort_by, insert_sorted, update_where, ascending_weaker, by, Differ}
 
 -- ---- updates
 

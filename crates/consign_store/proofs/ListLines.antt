@@ -1,15 +1,11 @@
 -- What is read of a row of the lists, and what a page has of the rows so far.
-use Rattle.std.proofs.Common.{◌≡◌, List, [], ◌∷◌, ◌++◌, map, Option, Some, None, option_map, refl, sym, ap, subst, ◌∙◌}
-use Rattle.std.proofs.lemmas.List.{map-append}
+use Rattle.shop_schema.proofs.Common.{◌≡◌, List, [], ◌∷◌, ◌++◌, map, Option, Some, None, option_map, refl, sym, ap, subst, ◌∙◌, map-append, array, Text, Consignment}
 use Rattle.serde_json.specs.Data.{Data}
 use Rattle.serde_json.specs.View.{items_of}
 use Rattle.serde_json.specs.Data as json
 use Rattle.serde_json.specs.Written.{compact_text}
 use Rattle.sqlite_value.specs.Order as sql
 use Rattle.sql_rows.proofs.EachLemmas.{split_last}
-use Rattle.shop_model.specs.Json.{array}
-use Rattle.shop_model.specs.Values.{Text}
-use Rattle.shop_model.specs.Books.{Consignment}
 use Rattle.shop_views.specs.Consignments.{Listed, seen_listed}
 use Rattle.shop_views.specs.Page.{Page, HasValues}
 use Rattle.shop_views.proofs.PageLemmas.{list_text}

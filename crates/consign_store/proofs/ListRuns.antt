@@ -1,18 +1,10 @@
 -- Lines of consignments, of which neighbours belong together, and the texts of the lists.
-use Rattle.std.proofs.Common.{◌≡◌, ◌==◌, ◌&&◌, ◌+◌, ◌≤◌, ℕ, suc, Bool, true, false, cond, List, [], ◌∷◌, ◌++◌, map, filter, length, codes, decimal, Option, Some, None, refl, sym, ap, subst, ◌∙◌, arith, append-nil}
-use Rattle.std.proofs.lemmas.Bool.Decides.{nat_tests}
+use Rattle.shop_schema.proofs.Common.{◌≡◌, ◌==◌, ◌&&◌, ◌+◌, ◌≤◌, ℕ, suc, Bool, true, false, cond, List, [], ◌∷◌, ◌++◌, map, filter, length, codes, decimal, Option, Some, None, refl, sym, ap, subst, ◌∙◌, arith, append-nil, nat_tests, numbered, numbered_from, IsCounted, AreNumbered, object, numbers_text, flag_text, Arrival, Parcel, Line, Consignment, as_arrival, as_parcel, arrivals_text, sent_text, same_test, filter_filter}
 use Rattle.serde_json.specs.Written.{compact_text}
-use Rattle.shop_model.specs.Rows.{numbered, numbered_from, IsCounted, AreNumbered}
-use Rattle.shop_model.specs.Json.{object, numbers_text, flag_text}
-use Rattle.shop_model.specs.Values.{Arrival, Parcel}
-use Rattle.shop_model.specs.Books.{Line, Consignment, as_arrival, as_parcel}
-use Rattle.shop_model.specs.Answers.{arrivals_text, sent_text}
-use Rattle.shop_model.proofs.RowLemmas.{same_test}
 use Rattle.shop_views.specs.Consignments as bodies
 use Rattle.shop_views.specs.Consignments.{Listed, seen_listed, arrival_text}
 use Rattle.shop_views.proofs.RowTexts.{arrival_is, sent_is, transit_is}
 use Rattle.shop_schema.proofs.Lists.{filter_twice}
-use Rattle.shop_model.proofs.RowLemmas.{filter_filter}
 use Rattle.consign_store.specs.declared.lists.ListKind.{ListKind}
 use Rattle.consign_store.specs.declared.lists.ListKind.TheVariants as kind
 use Rattle.consign_store.specs.Listed.{ListLine, lines_of, list_lines, listed, is_first, films_of, begun, Grouped, closed, with_film, take_line, run_from, data_of, text_of}

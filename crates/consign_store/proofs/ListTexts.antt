@@ -1,32 +1,9 @@
 -- The texts of a branch's two lists of consignments, and what they show of the books.
-use Rattle.std.proofs.Common.{◌≡◌, ◌==◌, ◌<◌, ℕ, List, [], ◌∷◌, codes, map, filter, false, Bool, cond, Some, refl, ap, ◌∙◌, arith, is_eq, is_lt, Less, Equal, Greater}
-use Rattle.std.specs.Ordering.{nat_cmp, ordering_then}
-use Rattle.std.proofs.lemmas.Bool.Decides.{nat_tests}
-use Rattle.std.proofs.lemmas.List.Sorted.{IsPermutation-refl}
-use Rattle.sqlite.specs.declared.types.Value.{Value}
-use Rattle.sqlite.specs.Values.{or_null}
+use Rattle.shop_schema.proofs.Common.{◌≡◌, ◌==◌, ◌<◌, ℕ, List, [], ◌∷◌, codes, map, filter, false, Bool, cond, Some, refl, ap, ◌∙◌, arith, is_eq, is_lt, Less, Equal, Greater, nat_cmp, ordering_then, nat_tests, IsPermutation-refl, Value, or_null, column, value_cmp, ascending, Key, Binary, IsAscending, Term, col, Output, output_cmp, State, ascending-filter, number_value, flag_value, IsQuery, is_query, Selects, number_cmp, one_tested, number_tested, are_equal, Books, Line, Consignment, shop_schema, IsHeld, IsShop, StandsFor}
 use Rattle.sqlite_value.specs.Order as sql
-use Rattle.sqlite_value.specs.Order.{column, value_cmp}
-use Rattle.sqlite_value.specs.Keys.{ascending}
-use Rattle.sqlite_value.specs.declared.keys.Key.{Key}
-use Rattle.sqlite_value.specs.declared.keys.Collation.TheVariants.{Binary}
-use Rattle.sqlite_trees.specs.Tree.{IsAscending}
-use Rattle.sqlite_sql.specs.Term.{Term, col}
-use Rattle.sqlite_sql.specs.Query.{Output, output_cmp}
 use Rattle.sqlite_tied.specs.Compute.{everything}
 use Rattle.sqlite.specs.Listing.{understood}
-use Rattle.sqlite.specs.State.{State, Shown}
-use Rattle.sqlite_keyed.proofs.ListLemmas.{ascending-filter}
-use Rattle.sql_rows.specs.Rows.{number_value, flag_value}
-use Rattle.sql_rows.specs.Texts.{IsQuery}
-use Rattle.sql_rows.proofs.TextLemmas.{is_query}
-use Rattle.sql_rows.proofs.Queries.{Selects, number_cmp}
-use Rattle.sql_rows.proofs.ColumnTests.{one_tested, number_tested}
-use Rattle.sql_rows.proofs.Joins.{are_equal}
-use Rattle.shop_model.specs.Books.{Books, Line, Consignment}
-use Rattle.shop_schema.specs.Tables.{shop_schema}
-use Rattle.shop_schema.specs.Held.{IsHeld}
-use Rattle.shop_schema.specs.Shop.{IsShop, StandsFor}
+use Rattle.sqlite.specs.State.{Shown}
 use Rattle.consign_store.specs.Listed.{ListLine, shown_line, list_lines}
 use Rattle.consign_store.proofs.Texts.{places_rise}
 use Rattle.consign_store.proofs.ListJoin.{list_query, list_output, Ends, ReadsColumns, shows_list}

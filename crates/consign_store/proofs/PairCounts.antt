@@ -1,18 +1,6 @@
 -- The pairs of the books' own counts: their numbers are those of the consignments.
-use Rattle.std.proofs.Common.{◌≡◌, ◌≤◌, ◌<◌, ◌+◌, ◌^◌, ◌==◌, ◌&&◌, ℕ, suc, List, [], ◌∷◌, ◌++◌, map, filter, length, Bool, true, false, cond, refl, sym, ap, subst, ◌∙◌, arith}
+use Rattle.shop_schema.proofs.Common.{◌≡◌, ◌≤◌, ◌<◌, ◌+◌, ◌^◌, ◌==◌, ◌&&◌, ℕ, suc, List, [], ◌∷◌, ◌++◌, map, filter, length, Bool, true, false, cond, refl, sym, ap, subst, ◌∙◌, arith, AllByRecursion, and_parts, nat_tests, length_push, all-filter, PicksOne, IsCounted, AreNumbered, Books, Consignment, is_consignment, between, one_more, same_if, equal_test, Pair, is_pair, count_pair, last_of, pairs_of, add_pair, counts_of, IsHeld, IsNumber, IsConsignment}
 use Rattle.std.specs.Prelude.{fold}
-use Rattle.std.specs.List.{AllByRecursion}
-use Rattle.std.proofs.lemmas.Bool.{and_parts}
-use Rattle.std.proofs.lemmas.Bool.Decides.{nat_tests}
-use Rattle.std.proofs.lemmas.List.{length_push}
-use Rattle.sqlite_keyed.proofs.ListLemmas.{all-filter}
-use Rattle.sql_rows.specs.Rows.{PicksOne}
-use Rattle.shop_model.specs.Rows.{IsCounted, AreNumbered}
-use Rattle.shop_model.specs.Books.{Books, Consignment, is_consignment, between}
-use Rattle.shop_model.proofs.RowLemmas.{one_more, same_if, equal_test}
-use Rattle.shop_schema.specs.Counts.{Pair, is_pair, count_pair, last_of, pairs_of, add_pair, counts_of}
-use Rattle.shop_schema.specs.Held.{IsHeld}
-use Rattle.shop_schema.specs.RowValues.{IsNumber, IsConsignment}
 use Rattle.shop_schema.proofs.Lists.{counted_once, filter_twice}
 use Rattle.consign_store.specs.Parts.{CountsPairOnce}
 use Rattle.consign_store.proofs.ListLemmas.{grouped, nothing_more}

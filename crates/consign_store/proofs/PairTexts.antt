@@ -1,28 +1,11 @@
 -- What the text that takes a pair's next number makes of the counts, and tells.
-use Rattle.std.proofs.Common.{◌≡◌, ◌<◌, ◌+◌, ◌^◌, ◌&&◌, ◌||◌, ◌⊎◌, ℕ, pos, List, [], ◌∷◌, ◌++◌, codes, map, filter, Bool, true, false, cond, Some, inl, inr, refl, sym, ap, subst, ◌∙◌, arith}
-use Rattle.std.specs.Prelude.{slice_get}
-use Rattle.std.proofs.lemmas.List.{map_push}
-use Rattle.sqlite.specs.declared.types.Value.{Value}
-use Rattle.sqlite.specs.declared.types.Value.TheVariants.{Null, Int}
+use Rattle.std.proofs.Common.{◌⊎◌}
+use Rattle.shop_schema.proofs.Common.{◌≡◌, ◌<◌, ◌+◌, ◌^◌, ◌&&◌, ◌||◌, ℕ, pos, List, [], ◌∷◌, ◌++◌, codes, map, filter, Bool, true, false, cond, Some, inl, inr, refl, sym, ap, subst, ◌∙◌, arith, slice_get, map_push, Value, Null, Int, column, Term, lit, col, op2, Arith, Add, State, update_where, columns_of, HasRows, number_value, are_kept, number_test, number_tested, two_tested, same_number, MeansShowing, upserting, upserts_and_tells, shop_schema, pair_count_table, pair_columns, Pair, is_pair, count_pair, last_of, add_pair, IsShop, Tallies}
 use Rattle.sqlite_value.specs.Order as sql
-use Rattle.sqlite_value.specs.Order.{column}
-use Rattle.sqlite_sql.specs.Term.{Term, lit, col, op2}
-use Rattle.sqlite_sql.specs.declared.ops.BinaryOp.TheVariants.{Arith}
-use Rattle.sqlite_sql.specs.declared.ops.ArithOp.TheVariants.{Add}
 use Rattle.sqlite_rules.specs.Keys.{conflicts}
 use Rattle.sqlite_tied.specs.Compute.{everything}
 use Rattle.sqlite.specs.Listing.{understood}
-use Rattle.sqlite.specs.State.{State, Shown}
-use Rattle.sqlite_keyed.specs.Lists.{update_where}
-use Rattle.sql_rows.specs.Rows.{columns_of, HasRows, number_value}
-use Rattle.sql_rows.proofs.Appends.{are_kept}
-use Rattle.sql_rows.proofs.ColumnTests.{number_test, number_tested, two_tested, same_number}
-use Rattle.sql_rows.proofs.Showing.{MeansShowing}
-use Rattle.sql_rows.proofs.Upserts.{upserting, upserts_and_tells}
-use Rattle.shop_schema.specs.Tables.{shop_schema, pair_count_table}
-use Rattle.shop_schema.specs.Columns.{pair_columns}
-use Rattle.shop_schema.specs.Counts.{Pair, is_pair, count_pair, last_of, add_pair}
-use Rattle.shop_schema.specs.Shop.{IsShop, Tallies}
+use Rattle.sqlite.specs.State.{Shown}
 use Rattle.shop_schema.proofs.Stands.{stands_but}
 use Rattle.shop_schema.proofs.Listed.{own_rows}
 use Rattle.shop_ledger.proofs.CountTexts.{plus, plus_is}

@@ -1,15 +1,7 @@
 -- Lines that are put one after another behind those of their consignment.
-use Rattle.std.proofs.Common.{◌≡◌, ◌+◌, ◌-◌, ◌<◌, ◌≤◌, ◌&&◌, ◌==◌, ℕ, suc, List, [], ◌∷◌, ◌++◌, map, filter, length, Bool, true, false, cond, refl, sym, ap, subst, ◌∙◌, arith, append-nil}
-use Rattle.std.specs.Prelude.{nat_le}
-use Rattle.std.specs.List.{AllByRecursion}
-use Rattle.std.proofs.lemmas.Bool.Decides.{nat_tests}
+use Rattle.shop_schema.proofs.Common.{◌≡◌, ◌+◌, ◌-◌, ◌<◌, ◌≤◌, ◌&&◌, ◌==◌, ℕ, suc, List, [], ◌∷◌, ◌++◌, map, filter, length, Bool, true, false, cond, refl, sym, ap, subst, ◌∙◌, arith, append-nil, nat_le, AllByRecursion, nat_tests, filter-append, State, set_at, numbered_from, Books, Line, Consignment, is_consignment, checked, checked_line, same_test, Writes, HoldsWith}
 use Rattle.std.proofs.lemmas.List.{length-append}
-use Rattle.std.proofs.lemmas.List.Elements.{filter-append}
-use Rattle.sqlite.specs.State.{State}
-use Rattle.shop_model.specs.Rows.{update_where, set_at, numbered_from}
-use Rattle.shop_model.specs.Books.{Books, Line, Consignment, is_consignment, checked, checked_line}
-use Rattle.shop_model.proofs.RowLemmas.{same_test}
-use Rattle.shop_schema.specs.Shop.{Writes, HoldsWith}
+use Rattle.shop_model.specs.Rows.{update_where}
 use Rattle.consign_store.specs.Parts.{Placed, push_line, with_line, IsNextLine, IsOnce, put_state, set_state, receive, with_state, with_received}
 use Rattle.consign_store.specs.Parcels.{IsNewKey, HasSoMany, HasNoLine, put_behind, with_lines, sent_off, state_at, checked_from, checked_to, with_checked_to}
 use Rattle.consign_store.proofs.ListLemmas.{grouped, unpicked}

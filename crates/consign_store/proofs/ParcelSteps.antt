@@ -1,13 +1,7 @@
 -- One step of a dispatch or of a receipt, and what the steps come to.
-use Rattle.std.proofs.Common.{◌≡◌, ◌+◌, ◌<◌, ◌≤◌, ◌==◌, ◌||◌, ℕ, Bool, true, false, List, [], ◌∷◌, ◌++◌, map, take, drop, length, get_or, Option, Some, None, refl, sym, ap, subst, ◌∙◌, arith}
-use Rattle.std.specs.Prelude.{⊤, if◌then◌else◌}
-use Rattle.std.proofs.lemmas.Bool.Decides.{nat_tests}
-use Rattle.std.proofs.lemmas.List.{take_more, take_all, map_more, take-append-drop, length-take-le, length-map}
-use Rattle.sqlite.specs.State.{State}
-use Rattle.shop_model.specs.Rows.{mem, update_where}
-use Rattle.shop_model.specs.Books.{Books, Line, LineState, is_consignment, checked}
-use Rattle.shop_schema.specs.Shop.{Writes}
-use Rattle.shop_types.specs.declared.parcel.ParcelLine.{ParcelLine}
+use Rattle.shop_schema.proofs.Common.{◌≡◌, ◌+◌, ◌<◌, ◌≤◌, ◌==◌, ◌||◌, ℕ, Bool, true, false, List, [], ◌∷◌, ◌++◌, map, take, drop, length, get_or, Option, Some, None, refl, sym, ap, subst, ◌∙◌, arith, ⊤, if◌then◌else◌, nat_tests, take_more, take_all, map_more, take-append-drop, length-take-le, State, mem, Books, Line, LineState, is_consignment, checked, Writes, ParcelLine}
+use Rattle.std.proofs.lemmas.List.{length-map}
+use Rattle.shop_model.specs.Rows.{update_where}
 use Rattle.consign_store.specs.Parts.{Placed, with_line, IsNextLine, IsOnce, with_state, with_received}
 use Rattle.consign_store.specs.Parcels.{sent_line, IsNewKey, HasSoMany, HasNoLine, with_lines, sent_off, state_at, with_checked_to}
 use Rattle.consign_store.proofs.ParcelLemmas.{next_line, line_more, new_has_none, new_with_lines, once_still, line_checked, once_of_many, all_received, writes_given, writes_told}

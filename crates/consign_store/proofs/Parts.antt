@@ -1,18 +1,5 @@
 -- The rows of the two tables as lists of the books, and what each change of the books makes of them.
-use Rattle.std.proofs.Common.{◌≡◌, ◌≤◌, ◌<◌, ◌+◌, ◌-◌, ◌==◌, ◌&&◌, ℕ, List, [], ◌∷◌, ◌++◌, map, filter, length, Bool, true, false, cond, refl, sym, ap, subst, ◌∙◌, arith, IsPermutation}
-use Rattle.std.specs.List.{AllByRecursion, flat_map}
-use Rattle.std.proofs.lemmas.Bool.{and_parts}
-use Rattle.std.proofs.lemmas.Bool.Decides.{nat_tests}
-use Rattle.std.proofs.lemmas.List.{map-append}
-use Rattle.std.proofs.lemmas.List.Elements.{filter-append}
-use Rattle.std.proofs.lemmas.List.Sorted.{IsPermutation-sym, IsPermutation-trans, IsPermutation-middle, IsPermutation-to_front, IsPermutation-append_right}
-use Rattle.sqlite_keyed.specs.Lists.{update_where}
-use Rattle.sql_rows.specs.Rows.{PicksOne}
-use Rattle.sql_rows.proofs.ColumnTests.{same_flag}
-use Rattle.shop_model.specs.Rows.{set_at, numbered, numbered_from, IsCounted}
-use Rattle.shop_model.specs.Books.{Line, LineState, UnderWay, Arrived, Missing, Consignment, is_consignment}
-use Rattle.shop_model.proofs.RowLemmas.{same_if, length_map, filter_map, numbered_push}
-use Rattle.shop_schema.specs.Columns.{consignment_columns, line_value, line_columns, line_rows}
+use Rattle.shop_schema.proofs.Common.{◌≡◌, ◌≤◌, ◌<◌, ◌+◌, ◌-◌, ◌==◌, ◌&&◌, ℕ, List, [], ◌∷◌, ◌++◌, map, filter, length, Bool, true, false, cond, refl, sym, ap, subst, ◌∙◌, arith, IsPermutation, AllByRecursion, flat_map, and_parts, nat_tests, map-append, filter-append, IsPermutation-sym, IsPermutation-trans, IsPermutation-middle, IsPermutation-to_front, IsPermutation-append_right, update_where, PicksOne, same_flag, set_at, numbered, numbered_from, IsCounted, Line, LineState, UnderWay, Arrived, Missing, Consignment, is_consignment, same_if, length_map, filter_map, numbered_push, consignment_columns, line_value, line_columns, line_rows}
 use Rattle.shop_schema.proofs.Lists.{counted_once, filter_twice}
 use Rattle.consign_store.specs.Parts.{Header, header_of, header_columns, Placed, placed_at, placed_in, all_placed, placed_columns, is_header, is_within, is_placed, push_line, put_state, set_state, receive}
 use Rattle.consign_store.proofs.ListLemmas.{update_append, unpicked, nothing_more, grouped, Rise}

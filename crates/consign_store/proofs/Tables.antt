@@ -1,14 +1,6 @@
 -- Where the headers or the lines of consignments alone have changed, the tables stand for the changed books.
-use Rattle.std.proofs.Common.{◌≡◌, List, map, refl, ap}
-use Rattle.std.specs.List.{flat_map}
+use Rattle.shop_schema.proofs.Common.{◌≡◌, List, map, refl, ap, flat_map, Trees, HasRows, SameBut, Books, Consignment, shop_schema, consignment_table, consignment_line_table, consignment_columns, line_rows, Counts, StandsWith}
 use Rattle.sqlite_value.specs.Order as sql
-use Rattle.sqlite_trees.specs.Tree.{Trees}
-use Rattle.sql_rows.specs.Rows.{HasRows, SameBut}
-use Rattle.shop_model.specs.Books.{Books, Consignment}
-use Rattle.shop_schema.specs.Tables.{shop_schema, consignment_table, consignment_line_table}
-use Rattle.shop_schema.specs.Columns.{consignment_columns, line_rows}
-use Rattle.shop_schema.specs.Counts.{Counts}
-use Rattle.shop_schema.specs.Shop.{StandsWith}
 use Rattle.shop_schema.proofs.Stands.{rows_of, with_rows, stands_but}
 
 module _ (counts : Counts) (books : Books) (cs : List Consignment) (old new : Trees) where

@@ -1,45 +1,13 @@
 -- What the texts on consignments and their lines say and make of the books.
-use Rattle.std.proofs.Common.{◌≡◌, ◌≤◌, ◌<◌, ◌&&◌, ◌+◌, ℕ, pos, List, [], ◌∷◌, ◌++◌, codes, map, filter, length, Bool, true, false, Ok, Err, Result, refl, sym, ap, subst, ◌∙◌, arith, IsPermutation}
-use Rattle.std.specs.Prelude.{⊤, Vec, IfOk, Option, Some, None, take, option_map}
-use Rattle.std.specs.Option.{option_to_list}
-use Rattle.std.specs.List.{AllByRecursion, flat_map}
-use Rattle.std.specs.declared.alloc.Global.{Global}
-use Rattle.std.proofs.lemmas.List.{map_push}
-use Rattle.std.proofs.lemmas.List.Sorted.{IsPermutation-map, IsPermutation-trans}
-use Rattle.sqlite.specs.declared.types.Value.TheVariants.{Int}
+use Rattle.shop_schema.proofs.Common.{◌≡◌, ◌≤◌, ◌<◌, ◌&&◌, ◌+◌, ℕ, pos, List, [], ◌∷◌, ◌++◌, codes, map, filter, length, Bool, true, false, Ok, Err, Result, refl, sym, ap, subst, ◌∙◌, arith, IsPermutation, ⊤, Vec, IfOk, option_to_list, AllByRecursion, flat_map, Global, map_push, IsPermutation-map, IsPermutation-trans, Int, column, ascending, Binary, Term, lit, col, Values, Insert, Update, State, ExecutesInside, IsAscending, sort_by, update_where, map-map, Means, HasRows, PicksOne, by, number_value, flag_value, StoreFault, are_kept, length-map, Selects, plain_query, unmapped, number_test, number_tested, test_of, two_tested, three_tested, same_number, still_holds, writes_by, has_put, selects_bag, selects_one, selects_sorted, sets_row, Row, IsCounted, Books, BookCopy, Mark, LineState, UnderWay, Arrived, Missing, Consignment, is_consignment, is_mark, shop_schema, consignment_table, consignment_line_table, consignment_columns, copy_columns, line_value, line_rows, IsHeld, StandsFor, StandsWith, Reads, Writes, cols, values}
+use Rattle.std.specs.Prelude.{Option, Some, None, take, option_map}
 use Rattle.sqlite_value.specs.Order as sql
-use Rattle.sqlite_value.specs.Order.{column}
-use Rattle.sqlite_value.specs.Keys.{ascending}
-use Rattle.sqlite_value.specs.declared.keys.Collation.TheVariants.{Binary}
-use Rattle.sqlite_sql.specs.Term.{Term, lit, col}
-use Rattle.sqlite.specs.Source.TheVariants.{Values}
-use Rattle.sqlite.specs.Command.TheVariants.{Insert, Update}
 use Rattle.sqlite_tied.specs.Compute.{everything}
 use Rattle.sqlite.specs.Listing.{understood}
-use Rattle.sqlite.specs.State.{State, ExecutesInside, Shown}
-use Rattle.sqlite_trees.specs.Tree.{IsAscending}
-use Rattle.sqlite_keyed.specs.Lists.{sort_by, update_where}
-use Rattle.sqlite_keyed.proofs.ListLemmas.{map-map}
-use Rattle.sql_rows.specs.Builds.{Means}
-use Rattle.sql_rows.specs.Rows.{HasRows, PicksOne, by, number_value, flag_value}
-use Rattle.sql_rows.specs.declared.fault.StoreFault.{StoreFault}
-use Rattle.sql_rows.proofs.Appends.{are_kept}
-use Rattle.sql_rows.proofs.Bags.{length-map}
-use Rattle.sql_rows.proofs.Queries.{Selects, plain_query, unmapped}
-use Rattle.sql_rows.proofs.ColumnTests.{number_test, number_tested, test_of, two_tested, three_tested, same_number}
-use Rattle.sql_rows.proofs.Projects.{still_holds, writes_by}
+use Rattle.sqlite.specs.State.{Shown}
 use Rattle.sql_rows.proofs.SameBags.{same_bag}
-use Rattle.sql_rows.proofs.Steps.{has_put, selects_bag, selects_one, selects_sorted, sets_row}
-use Rattle.shop_model.specs.Rows.{Row, IsCounted}
-use Rattle.shop_model.specs.Books.{Books, BookCopy, Mark, LineState, UnderWay, Arrived, Missing, Consignment, is_consignment}
-use Rattle.shop_model.specs.Sound.{is_mark}
-use Rattle.shop_schema.specs.Tables.{shop_schema, consignment_table, consignment_line_table}
-use Rattle.shop_schema.specs.Columns.{consignment_columns, copy_columns, line_value, line_rows}
-use Rattle.shop_schema.specs.Held.{IsHeld}
-use Rattle.shop_schema.specs.Shop.{StandsFor, StandsWith, Reads, Writes}
 use Rattle.shop_schema.proofs.Lists.{flat_map_push}
 use Rattle.shop_schema.proofs.Listed.{own_rows}
-use Rattle.sql_rows.specs.Terms.{cols, values}
 use Rattle.shop_schema.proofs.SameRows.{same_copy}
 use Rattle.shop_ledger.proofs.Equals.{equals}
 use Rattle.shop_store.proofs.BranchRows.{replaced}

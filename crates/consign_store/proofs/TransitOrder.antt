@@ -1,15 +1,6 @@
 -- Consignments by sender, addressee and number: sorted, they rise.
-use Rattle.std.proofs.Common.{◌≡◌, ◌≢◌, ◌==◌, ◌&&◌, ◌<◌, ◌+◌, ◌⊎◌, ℕ, Bool, true, false, cond, List, [], ◌∷◌, map, filter, inl, inr, refl, sym, ◌∙◌, arith, IsPermutation}
-use Rattle.std.specs.Prelude.{nat_lt}
-use Rattle.std.specs.List.{AllByRecursion}
-use Rattle.std.proofs.lemmas.Bool.Decides.{nat_tests}
-use Rattle.std.proofs.lemmas.List.Sorted.{IsPermutation-refl, IsPermutation-trans, IsPermutation-cons, IsPermutation-middle}
-use Rattle.sqlite_trees.specs.Tree.{IsAscending}
-use Rattle.shop_model.specs.Rows.{IsCounted, AreNumbered}
-use Rattle.shop_model.specs.Views.{insert_by, sorted_by}
-use Rattle.shop_model.specs.Books.{Consignment}
-use Rattle.shop_model.specs.Office.{goes_before}
-use Rattle.shop_model.proofs.RowLemmas.{same_test, equal_test}
+use Rattle.std.proofs.Common.{◌⊎◌}
+use Rattle.shop_schema.proofs.Common.{◌≡◌, ◌≢◌, ◌==◌, ◌&&◌, ◌<◌, ◌+◌, ℕ, Bool, true, false, cond, List, [], ◌∷◌, map, filter, inl, inr, refl, sym, ◌∙◌, arith, IsPermutation, nat_lt, AllByRecursion, nat_tests, IsPermutation-refl, IsPermutation-trans, IsPermutation-cons, IsPermutation-middle, IsAscending, IsCounted, AreNumbered, insert_by, sorted_by, Consignment, goes_before, same_test, equal_test}
 
 -- ---- any order
 

@@ -1,37 +1,11 @@
 -- The text of the list of all consignments that are under way, and what it shows of the books.
-use Rattle.std.proofs.Common.{◌≡◌, ◌<◌, ◌⊎◌, ℕ, pos, List, [], ◌∷◌, codes, map, filter, not, true, false, Bool, cond, Some, inl, inr, refl, sym, ap, ◌∙◌, arith, is_eq, is_lt, Equal}
-use Rattle.std.specs.Ordering.{nat_cmp, ordering_then}
-use Rattle.std.proofs.lemmas.Bool.Decides.{nat_tests}
-use Rattle.sqlite.specs.declared.types.Value.{Value}
-use Rattle.sqlite.specs.declared.types.Value.TheVariants.{Int}
-use Rattle.sqlite.specs.Values.{or_null}
+use Rattle.std.proofs.Common.{◌⊎◌}
+use Rattle.shop_schema.proofs.Common.{◌≡◌, ◌<◌, ℕ, pos, List, [], ◌∷◌, codes, map, filter, not, true, false, Bool, cond, Some, inl, inr, refl, sym, ap, ◌∙◌, arith, is_eq, is_lt, Equal, nat_cmp, ordering_then, nat_tests, Value, Int, or_null, column, value_cmp, ascending, Key, Binary, Compare, Eq, is_true, Term, col, lit, Output, output_cmp, State, ascending-filter, number_value, flag_value, IsQuery, is_query, Selects, number_cmp, one_tested, number_tested, are_equal, sorted_by, Books, Line, Consignment, goes_before, transit_text, shop_schema, IsHeld, IsShop, StandsFor}
 use Rattle.sqlite_value.specs.Order as sql
-use Rattle.sqlite_value.specs.Order.{column, value_cmp}
-use Rattle.sqlite_value.specs.Keys.{ascending}
-use Rattle.sqlite_value.specs.declared.keys.Key.{Key}
-use Rattle.sqlite_value.specs.declared.keys.Collation.TheVariants.{Binary}
-use Rattle.sqlite_sql.specs.declared.ops.BinaryOp.TheVariants.{Compare}
-use Rattle.sqlite_sql.specs.declared.ops.CompareOp.TheVariants.{Eq}
-use Rattle.sqlite_sql.specs.Ops.{binary, is_true}
-use Rattle.sqlite_sql.specs.Term.{Term, col, lit}
-use Rattle.sqlite_sql.specs.Query.{Output, output_cmp}
+use Rattle.sqlite_sql.specs.Ops.{binary}
 use Rattle.sqlite_tied.specs.Compute.{everything}
 use Rattle.sqlite.specs.Listing.{understood}
-use Rattle.sqlite.specs.State.{State, Shown}
-use Rattle.sqlite_keyed.proofs.ListLemmas.{ascending-filter}
-use Rattle.sql_rows.specs.Rows.{number_value, flag_value}
-use Rattle.sql_rows.specs.Texts.{IsQuery}
-use Rattle.sql_rows.proofs.TextLemmas.{is_query}
-use Rattle.sql_rows.proofs.Queries.{Selects, number_cmp}
-use Rattle.sql_rows.proofs.ColumnTests.{one_tested, number_tested}
-use Rattle.sql_rows.proofs.Joins.{are_equal}
-use Rattle.shop_model.specs.Views.{sorted_by}
-use Rattle.shop_model.specs.Books.{Books, Line, Consignment}
-use Rattle.shop_model.specs.Office.{goes_before}
-use Rattle.shop_model.specs.Answers.{transit_text}
-use Rattle.shop_schema.specs.Tables.{shop_schema}
-use Rattle.shop_schema.specs.Held.{IsHeld}
-use Rattle.shop_schema.specs.Shop.{IsShop, StandsFor}
+use Rattle.sqlite.specs.State.{Shown}
 use Rattle.shop_views.specs.Consignments as bodies
 use Rattle.consign_store.specs.Listed.{ListLine, shown_line, list_lines, listed}
 use Rattle.consign_store.proofs.ListJoin.{list_query, list_output, Ends, shows_list}

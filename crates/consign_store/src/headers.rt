@@ -5,7 +5,7 @@ ghost use Rattle.sqlite.specs.Held.{state};
 ghost use Rattle.sqlite.specs.Values.{bound};
 ghost use Rattle.sql_rows.specs.Calls.{StaysInside};
 ghost use Rattle.shop_model.specs.Books.{is_consignment};
-ghost use Rattle.shop_schema.specs.Calls.{Finds, Stores};
+ghost use Rattle.shop_ledger.specs.Calls.{Finds, Stores};
 ghost use Rattle.shop_store.specs.SharedSeen.{IsFirstNumber};
 ghost use Rattle.consign_store.specs.Parts.{header_of, header_columns, opened, with_received, IsOnce};
 ghost use Rattle.consign_store.specs.Seen.{seen_header};

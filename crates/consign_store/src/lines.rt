@@ -5,7 +5,7 @@ ghost use Rattle.sqlite.specs.Held.{state};
 ghost use Rattle.sqlite.specs.Values.{bound};
 ghost use Rattle.sql_rows.specs.Calls.{StaysInside};
 ghost use Rattle.shop_model.specs.Books.{is_consignment};
-ghost use Rattle.shop_schema.specs.Calls.{Finds, Stores};
+ghost use Rattle.shop_ledger.specs.Calls.{Finds, Stores};
 ghost use Rattle.consign_store.specs.Parts.{placed_columns, placed_in, with_line, with_state, IsNextLine, IsOnce};
 ghost use Rattle.consign_store.specs.Seen.{seen_line};
 ghost use Rattle.shop_types.specs.Seen.{seen_line_state};

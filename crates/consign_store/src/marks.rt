@@ -5,7 +5,7 @@ ghost use Rattle.std.specs.List.Sorted.{IsPermutation};
 ghost use Rattle.sqlite.specs.Held.{state};
 ghost use Rattle.sql_rows.specs.Calls.{StaysInside};
 ghost use Rattle.shop_model.specs.Sound.{is_mark};
-ghost use Rattle.shop_schema.specs.Calls.{Finds};
+ghost use Rattle.shop_ledger.specs.Calls.{Finds};
 ghost use Rattle.shop_types.specs.Seen.{seen_mark};
 ghost use Rattle.shop_store.specs.Seen.{seen_copy_row};
 ghost use Rattle.consign_store.specs.Parts.{all_placed};

@@ -5,7 +5,7 @@ ghost use Rattle.sqlite.specs.Held.{state};
 ghost use Rattle.sql_rows.specs.Calls.{StaysInside, StaysWithin};
 ghost use Rattle.shop_model.specs.Rows.{mem, update_where};
 ghost use Rattle.shop_model.specs.Books.{is_consignment, checked};
-ghost use Rattle.shop_schema.specs.Calls.{Stores};
+ghost use Rattle.shop_ledger.specs.Calls.{Stores};
 ghost use Rattle.consign_store.specs.Parts.{IsOnce};
 ghost use Rattle.consign_store.specs.Parcels.{IsNewKey, HasSoMany, HasNoLine, sent_off, with_lines, sent_line, state_at, with_checked_to};
 ghost use Rattle.shop_types.specs.Seen.{seen_line_state};

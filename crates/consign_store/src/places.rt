@@ -5,7 +5,7 @@ ghost use Rattle.sqlite.specs.Held.{state};
 ghost use Rattle.sql_rows.specs.Calls.{StaysInside};
 ghost use Rattle.shop_model.specs.Machine.{Shows};
 ghost use Rattle.shop_model.specs.Office.{place_of};
-ghost use Rattle.shop_schema.specs.Calls.{Finds};
+ghost use Rattle.shop_ledger.specs.Calls.{Finds};
 ghost use Rattle.shop_types.specs.Seen.{seen_mark, seen_place};
 ghost use Rattle.consign_store.specs.Custody.{is_here, is_under_way, HasOnePlace};
 

@@ -1,17 +1,10 @@
 -- What may be answered to a message.
-use Rattle.std.proofs.Common.{◌≡◌, inl, refl, sym, subst, ap, ◌∙◌, List, ℕ, true, false, None, Some, Option, Result, Ok, Err}
-use Rattle.std.specs.Prelude.{IfOk}
+use Rattle.std.proofs.Common.{Result}
+use Rattle.shop_types.proofs.Common.{◌≡◌, inl, refl, sym, subst, ap, ◌∙◌, List, ℕ, true, false, None, Some, Option, Ok, Err, IfOk, Rules, NoCounter, Decision, StoreFailed, Request, Unread, Sorry, Answer, answer_of, problem_answer, Books, Caller, Counter, HeadOffice, Nobody, caller_of, reply_for, after_for, is_store_failure, known_same, seen_refusal}
 use Rattle.http_messages.specs.Message.{Message}
-use Rattle.shop_model.specs.Values.{Rules}
-use Rattle.shop_model.specs.Refusals.{Refusal, NoCounter, Decision, Memory, StoreFailed}
-use Rattle.shop_model.specs.Machine.{Request, Unread, Sorry}
-use Rattle.shop_model.specs.Answers.{Answer, answer_of, problem_answer}
-use Rattle.shop_model.specs.Books.{Books, Caller, Counter, HeadOffice, Nobody, caller_of, reply_for, after_for}
+use Rattle.shop_model.specs.Refusals.{Refusal, Memory}
 use Rattle.shop_model.specs.Office.{office_look}
-use Rattle.shop_model.specs.Histories.{is_store_failure}
-use Rattle.shop_model.proofs.Callers.{known_same}
 use Rattle.shop_types.specs.declared.refusal.Refusal.{Refusal as Told}
-use Rattle.shop_types.specs.Seen.{seen_refusal}
 use Rattle.counter_routes.specs.Words.{Meaning}
 use Rattle.counter_routes.specs.Readings.{Reads, reading_of}
 use Rattle.counter_routes.specs.declared.asked.Reading.{Reading}

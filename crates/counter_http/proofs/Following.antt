@@ -1,10 +1,6 @@
 -- One connection after another: what the chain ran over in each, it ran over in all.
-use Rattle.std.proofs.Common.{◌≡◌, ◌∙◌, List, [], ◌∷◌, ◌++◌, refl, ap}
-use Rattle.std.proofs.lemmas.List.{map-append}
-use Rattle.std.proofs.lemmas.List.Elements.{All-append}
-use Rattle.std.proofs.lemmas.List.Folds.{list_any-append}
+use Rattle.shop_types.proofs.Common.{◌≡◌, ◌∙◌, List, [], ◌∷◌, ◌++◌, refl, ap, map-append, All-append, list_any-append, has_failed, is_store_failure}
 use Rattle.sqlite_trees.specs.declared.store.Store.{Ghosts}
-use Rattle.shop_model.specs.Histories.{has_failed, is_store_failure}
 use Rattle.shop_model.proofs.Origins.{all_append}
 use Rattle.counter_routes.specs.Words.{Meaning}
 use Rattle.chain_engine.specs.Holding.{Chained, Holding}

@@ -1,10 +1,6 @@
 -- What reads do, one after another.
-use Rattle.std.proofs.Common.{◌≡◌, ℕ, ◌+◌, ◌-◌, ◌≤◌, arith, zero-add, List, ◌++◌, sym, ap, ◌∙◌, length, take, drop, subst}
-use Rattle.std.proofs.lemmas.List.{drop-take, length-drop}
+use Rattle.shop_types.proofs.Common.{◌≡◌, ℕ, ◌+◌, ◌-◌, ◌≤◌, arith, zero-add, List, ◌++◌, sym, ap, ◌∙◌, length, take, drop, subst, drop-take, length-drop, copy_within, paste, take-append-add, take-append-le, length-take-le}
 use Rattle.std.proofs.lemmas.List.Edits.{take-paste}
-use Rattle.std.specs.List.{copy_within}
-use Rattle.std.proofs.Math.Seq.{paste, take-append-add}
-use Rattle.std.proofs.lemmas.List.{take-append-le, length-take-le}
 
 pub filled_more : (xs buf after : List ℕ) (f n : ℕ) → f ≤ length xs → n ≤ length buf
     → take (f + n) (take f xs ++ (buf ++ after)) ≡ take f xs ++ take n buf

@@ -1,10 +1,7 @@
 -- The run of a connection begins with no exchange, and one message is a run of its own.
-use Rattle.std.proofs.Common.{◌≡◌, ◌∙◌, List, [], ◌∷◌, ℕ, Bool, true, false, refl, sym, ap}
+use Rattle.shop_types.proofs.Common.{◌≡◌, ◌∙◌, List, [], ◌∷◌, ℕ, Bool, true, false, refl, sym, ap, or-false, All-nil, All-cons, is_store_failure}
 use Rattle.std.specs.Prelude.{◌||◌}
-use Rattle.std.proofs.Math.Bool.{or-false}
-use Rattle.std.proofs.lemmas.List.Elements.{All-nil, All-cons}
 use Rattle.sqlite_trees.specs.declared.store.Store.{Ghosts}
-use Rattle.shop_model.specs.Histories.{is_store_failure}
 use Rattle.counter_routes.specs.Words.{Meaning}
 use Rattle.chain_engine.specs.Holding.{Chained}
 use Rattle.chain_engine.specs.Chains.{Takes}

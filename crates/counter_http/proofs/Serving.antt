@@ -1,15 +1,10 @@
 -- A connection that is served alone.
-use Rattle.std.proofs.Common.{◌≡◌, ◌⊎◌, ℕ, ◌+◌, ◌-◌, ◌==◌, ◌<◌, Bool, true, false, inl, inr, List, [], ◌∷◌, ◌++◌, length, refl, sym, ap, ◌∙◌, arith, append-nil, append_assoc, length-append, eqb-true, Option, Some, None}
-use Rattle.std.specs.Prelude.{All, if◌then◌else◌}
-use Rattle.std.proofs.lemmas.List.{same_from_push, append_cancel_right}
-use Rattle.std.proofs.lemmas.List.Elements.{All-nil, All-pop}
-use Rattle.std.proofs.lemmas.Grind.{flat_map-append}
+use Rattle.shop_types.proofs.Common.{◌≡◌, ◌⊎◌, ℕ, ◌+◌, ◌-◌, ◌==◌, ◌<◌, Bool, true, false, inl, inr, List, [], ◌∷◌, ◌++◌, length, refl, sym, ap, ◌∙◌, arith, append-nil, append_assoc, length-append, eqb-true, Option, Some, None, All, if◌then◌else◌, same_from_push, append_cancel_right, All-nil, All-pop, flat_map-append, Answer, problem_answer}
 use Rattle.sqlite_trees.specs.declared.store.Store.{Ghosts}
 use Rattle.http_messages.specs.Text.{head_text}
 use Rattle.http_messages.specs.declared.messages.Fault.{Fault}
 use Rattle.http_messages.specs.declared.messages.Fault.TheVariants.{BadHead, TooLong}
 use Rattle.shop_model.specs.Refusals as named
-use Rattle.shop_model.specs.Answers.{Answer, problem_answer}
 use Rattle.counter_http.specs.Exchanges.{Exchange, text_of, texts, GoesOn}
 use Rattle.counter_http.specs.Served.{IsEnd, IsServed, IsReadFault, IsWriteFault, IsFault, fault_text, fault_replies}
 use Rattle.counter_http.specs.Standings.{Line, opened, told_of, IsOfLast, GoesOrEnds, IsTurn, IsTurnFault}

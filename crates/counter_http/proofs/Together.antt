@@ -1,8 +1,5 @@
 -- Several connections, and one more turn of one of them.
-use Rattle.std.proofs.Common.{◌≡◌, ℕ, ◌-◌, List, [], ◌∷◌, ◌++◌, refl, ap, ◌∙◌, map, Option}
-use Rattle.std.specs.Prelude.{All}
-use Rattle.std.proofs.lemmas.List.{map-append}
-use Rattle.std.proofs.lemmas.List.Elements.{All-nil, All-cons, All-head, All-tail, All-push}
+use Rattle.shop_types.proofs.Common.{◌≡◌, ℕ, ◌-◌, List, [], ◌∷◌, ◌++◌, refl, ap, ◌∙◌, map, Option, All, map-append, All-nil, All-cons, All-head, All-tail, All-push}
 use Rattle.sqlite_trees.specs.declared.store.Store.{Ghosts}
 use Rattle.counter_routes.specs.Words.{Meaning}
 use Rattle.chain_engine.specs.Holding.{Chained}

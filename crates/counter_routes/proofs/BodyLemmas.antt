@@ -1,10 +1,6 @@
 -- What the proofs on bodies cite.
-use Rattle.std.proofs.Common.{◌≡◌, ℕ, List, [], ◌∷◌, length, refl, ap, Some, None, suc, inl, inr}
-use Rattle.std.proofs.lemmas.Bool.{cases_Bool}
-use Rattle.std.proofs.lemmas.Str.{IsUtf8-from_is_utf8}
-use Rattle.std.specs.Str.{is_utf8}
-use Rattle.std.specs.Prelude.{◌==◌, String, IsUtf8}
-use Rattle.std.specs.declared.alloc.Global.{Global}
+use Rattle.shop_types.proofs.Common.{◌≡◌, ℕ, List, [], ◌∷◌, length, refl, ap, Some, None, suc, inl, inr, cases_Bool, IsUtf8-from_is_utf8, is_utf8, String, IsUtf8, Global}
+use Rattle.std.specs.Prelude.{◌==◌}
 use Rattle.serde_json.specs.Data.{Data}
 use Rattle.serde_json.specs.Find.{as_object}
 use Rattle.serde_json.specs.Read.{read}

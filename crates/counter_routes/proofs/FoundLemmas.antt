@@ -1,8 +1,6 @@
 -- What is found or is not, where the code makes an error of what is not.
-use Rattle.std.proofs.Common.{◌≡◌, ◌∙◌, refl, sym, ap, Option, Some, None}
-use Rattle.std.specs.Prelude.{Result, Ok, Err, IfOk, IfErr}
-use Rattle.std.specs.Option.{ok_or}
-use Rattle.std.specs.Result.{result_ok, IsErrAnd}
+use Rattle.shop_types.proofs.Common.{◌≡◌, ◌∙◌, refl, sym, ap, Option, Some, None, Result, IfOk, IfErr, ok_or, result_ok, IsErrAnd}
+use Rattle.std.specs.Prelude.{Ok, Err}
 
 pub was_there : {A E : Type 0} (o : Option A) (e : E) (x : A) → Ok x ≡ ok_or o e → o ≡ Some x
 was_there None e x h = sym (ap result_ok h)

@@ -1,13 +1,6 @@
 -- The reading of a moment, as a function of its text.
-use Rattle.std.proofs.Common.{◌≡◌, ◌∙◌, ℕ, ◌<◌, ◌/◌, ◌%◌, List, [], ◌∷◌, true, ◌&&◌, cond, refl, sym, ap, subst, arith, Option, Some, None}
-use Rattle.std.proofs.lemmas.Bool.{and_parts, le-leb, leb-true, false_from_ne_true, cond-false}
-use Rattle.std.proofs.lemmas.Slice.Eq.{bytes_eq-Decides}
-use Rattle.std.proofs.lemmas.Str.{digit_value_digit}
-use Rattle.std.specs.Prelude.{IfSome, IfNone}
-use Rattle.std.specs.Char.{digit_value}
-use Rattle.std.specs.Str.{bytes_eq}
-use Rattle.std.specs.Str.Parse.{digits_value}
-use Rattle.shop_model.specs.Calendar.{Moment, IsMoment, moment_text, digit}
+use Rattle.shop_types.proofs.Common.{◌≡◌, ◌∙◌, ℕ, ◌<◌, ◌/◌, ◌%◌, List, [], ◌∷◌, true, ◌&&◌, cond, refl, sym, ap, subst, arith, Option, Some, None, and_parts, le-leb, leb-true, false_from_ne_true, cond-false, bytes_eq-Decides, digit_value_digit, IfNone, digit_value, bytes_eq, digits_value, Moment, IsMoment, moment_text, digit}
+use Rattle.std.specs.Prelude.{IfSome}
 use Rattle.shop_model.proofs.NumberLemmas.{few_days}
 use Rattle.counter_routes.specs.Moments.{moment_parts, is_moment, moment_of}
 

@@ -1,8 +1,6 @@
 -- A person whose parts are read one after the other.
-use Rattle.std.proofs.Common.{◌≡◌, ◌∙◌, refl, ℕ, Option, Some, None, codes}
-use Rattle.std.specs.Prelude.{option_and_then}
+use Rattle.shop_types.proofs.Common.{◌≡◌, ◌∙◌, refl, ℕ, Option, Some, None, codes, option_and_then, Text, Person}
 use Rattle.serde_json.specs.Data.{Data}
-use Rattle.shop_model.specs.Values.{Text, Person}
 use Rattle.counter_routes.specs.Bodies.{text_at, number_at, names_at, contact_at, person_at}
 
 two : {A B P R : Type 0} (a : Option A) (b : Option B) (p : A → B → P) (k : P → Option R)

@@ -1,16 +1,12 @@
 -- A value that a body writes is made of no more values than the body has bytes, so that no list in it is longer.
-use Rattle.std.proofs.Common.{◌≡◌, ℕ, zero, suc, ◌+◌, ◌≤◌, Bool, true, false, List, [], ◌∷◌, length, Option, Some, None, option_map, option_and_then, Ordering, Less, Equal, Greater, nat_cmp, refl, subst, inl, inr, arith}
-use Rattle.std.specs.Prelude.{⊤, if◌then◌else◌}
-use Rattle.std.specs.Ordering.{match_ordering}
-use Rattle.std.specs.Cmp.Lexicographic.{slice_cmp}
+use Rattle.std.proofs.Common.{option_map, option_and_then, nat_cmp}
+use Rattle.shop_types.proofs.Common.{◌≡◌, ℕ, zero, suc, ◌+◌, ◌≤◌, Bool, true, false, List, [], ◌∷◌, length, Option, Some, None, Ordering, Less, Equal, Greater, refl, subst, inl, inr, arith, ⊤, if◌then◌else◌, match_ordering, slice_cmp, is_utf8, cases_Bool, le-leb}
 use Rattle.json.specs.Token.{Token}
 use Rattle.json.specs.Lex.{Lexeme, Mode, Class, Place, lex, lex_byte, class, punctuate, place_token, if_allowed, begins_colon, tokens}
 use Rattle.json.specs.Json as json
 use Rattle.serde_json.specs.Data.{Data, null, boolean, number, string, array, object, Items, no_items, item, Members, no_members, member, put}
 use Rattle.serde_json.specs.Read.{number_of, of_json, of_items, of_members, max_depth, read}
 use Rattle.serde_json.specs.Find.{get, get_member}
-use Rattle.std.specs.Str.{is_utf8}
-use Rattle.std.proofs.lemmas.Bool.{cases_Bool, le-leb}
 use Rattle.shop_types.specs.NumberLists.{is_number_list}
 use Rattle.counter_routes.specs.Sizes.{size, items_size, members_size}
 use Rattle.counter_routes.specs.Bodies.{body_of, row_number_in, numbers_in, list_of_numbers}

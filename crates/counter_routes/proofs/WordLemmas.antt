@@ -1,9 +1,7 @@
 -- What the proofs on head office's words and on lists of numbers cite: a list, as it is read from front to back.
-use Rattle.std.proofs.Common.{◌≡◌, ℕ, List, [], ◌∷◌, ◌++◌, refl, sym, ap, append-nil, append_assoc, Option, Some, None}
-use Rattle.std.specs.Prelude.{option_map, option_and_then}
+use Rattle.shop_types.proofs.Common.{◌≡◌, ℕ, List, [], ◌∷◌, ◌++◌, refl, sym, ap, append-nil, append_assoc, Option, Some, None, option_map, option_and_then, Text}
 use Rattle.serde_json.specs.Data.{Data, Items, item}
 use Rattle.serde_json.specs.Find.{as_str}
-use Rattle.shop_model.specs.Values.{Text}
 use Rattle.counter_routes.specs.Words.{texts_in}
 use Rattle.counter_routes.specs.Bodies.{row_number_in, numbers_in}
 

@@ -1,6 +1,5 @@
 -- The line of words that clap takes or refuses.
-use Rattle.std.proofs.Common.{◌≡◌, ℕ, suc, ◌==◌, false, refl, ap, arith, List, [], ◌∷◌, length, Option, Some, None}
-use Rattle.std.specs.Prelude.{option_map, unwrap_or, if◌then◌else◌}
+use Rattle.shop_types.proofs.Common.{◌≡◌, ℕ, suc, ◌==◌, false, refl, ap, arith, List, [], ◌∷◌, length, Option, Some, None, option_map, unwrap_or, if◌then◌else◌}
 use Rattle.clap.specs.Kinds.{Kinds, IsAmong}
 use Rattle.clap.specs.Walk.{is_empty}
 use Rattle.clap.specs.Words.{Row, Text}

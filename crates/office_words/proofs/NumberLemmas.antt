@@ -1,11 +1,6 @@
 -- What clap reads of a number is the number that its text writes.
-use Rattle.std.proofs.Common.{◌≡◌, ◌^◌, ◌&&◌, refl, sym, ap, ℕ, Bool, true, false, List, []}
-use Rattle.std.proofs.Common.{◌∷◌, length, Option, Some, None, Result, Ok, Err, nat_lt, lt-ltb, ltb-true}
-use Rattle.std.specs.Prelude.{option_and_then}
-use Rattle.std.specs.List.{list_all}
-use Rattle.std.specs.Result.{result_ok}
-use Rattle.std.specs.Char.{digit_value}
-use Rattle.std.specs.Str.Parse.{AllDigits, ParsesUnsigned, digits_value, without_leading_plus}
+use Rattle.shop_types.proofs.Common.{◌≡◌, ◌^◌, ◌&&◌, refl, sym, ap, ℕ, Bool, true, false, List, [], ◌∷◌, length, Option, Some, None, Ok, Err, nat_lt, lt-ltb, option_and_then, list_all, result_ok, digit_value, AllDigits, ParsesUnsigned, digits_value, without_leading_plus}
+use Rattle.std.proofs.Common.{Result, ltb-true}
 use Rattle.clap.specs.Matches.{ReadsOne}
 use Rattle.clap.specs.ValueTests.{is_numeral}
 use Rattle.clap.specs.Words.{Text}

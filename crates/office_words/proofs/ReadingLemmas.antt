@@ -1,14 +1,13 @@
 -- Values that are read one after the other: what reads some of them together reads the same.
-use Rattle.std.proofs.Common.{◌≡◌, ◌∙◌, refl, ℕ, List, Option, Some, None, codes}
-use Rattle.std.specs.Prelude.{Result, Ok, Err}
-use Rattle.std.specs.Result.{IsErrAnd}
+use Rattle.shop_types.proofs.Common.{◌≡◌, ◌∙◌, refl, ℕ, List, Option, Some, None, codes, Result, IsErrAnd}
+use Rattle.shop_types.specs.declared.line.Usage.{Usage}
+use Rattle.shop_types.specs.declared.line.Usage.TheVariants.{Memory}
+use Rattle.std.specs.Prelude.{Ok, Err}
 use Rattle.clap.specs.Words.{Row, Text}
 use Rattle.shop_types.specs.declared.catalogue.Actor.{Actor}
 use Rattle.shop_types.specs.declared.catalogue.Branch.{Branch}
 use Rattle.shop_types.specs.declared.film.Film.{Film}
 use Rattle.shop_types.specs.declared.person.Person.{Person}
-use Rattle.shop_types.specs.declared.line.Usage.{Usage}
-use Rattle.shop_types.specs.declared.line.Usage.TheVariants.{Memory}
 use Rattle.office_words.specs.declared.acts.Contact.{Contact}
 use Rattle.office_words.specs.declared.acts.FilmFacts.{FilmFacts}
 use Rattle.office_words.specs.Given.{Reads, with_value, text_given, token_given, row_given, period_given, rate_given, replacement_given, minutes_given, rating_given, features_given}

@@ -1,7 +1,5 @@
 -- The books of a chain that was just made or opened.
-use Rattle.std.proofs.Common.{◌≡◌, ap₂, Bool, false}
-use Rattle.shop_values.specs.LimitValues.{Limits, most_limits}
-use Rattle.shop_model.specs.Books.{Books}
+use Rattle.shop_schema.proofs.Common.{◌≡◌, ap₂, Bool, false, Limits, most_limits, Books}
 use Rattle.chain_engine.specs.Holding.{Chained, Holding, holding}
 use Rattle.sakila_office.specs.Commands.{opened_holding}
 

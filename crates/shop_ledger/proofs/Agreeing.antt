@@ -1,17 +1,7 @@
 -- What a change of the books makes of their own counts: where the rows of one kind of one branch alone grow, its count alone does.
-use Rattle.std.proofs.Common.{◌≡◌, ◌+◌, ◌<◌, ◌≤◌, ◌^◌, ◌==◌, ◌&&◌, ℕ, suc, List, [], ◌∷◌, ◌++◌, map, filter, length, true, false, Bool, cond, not, Some, None, refl, sym, ap, subst, ◌∙◌, arith}
-use Rattle.std.specs.Prelude.{flat_map, is_none}
-use Rattle.std.specs.List.{AllByRecursion}
-use Rattle.std.proofs.lemmas.Bool.Decides.{nat_tests}
-use Rattle.std.proofs.lemmas.List.Elements.{filter-append}
-use Rattle.std.proofs.lemmas.List.{length-append, length_push}
-use Rattle.shop_model.specs.Calendar.{Moment}
-use Rattle.shop_model.specs.Rows.{Row, Owned, is_of, is_row, of, owned_by, numbered, set_row}
-use Rattle.shop_model.specs.Values.{Branch, Customer, Payment, Rental, Text}
-use Rattle.shop_model.specs.Shop.{Kept}
-use Rattle.shop_model.specs.Books.{Books, BookCopy}
-use Rattle.shop_model.proofs.RowLemmas.{more_yes, more_no, length_map}
-use Rattle.shop_schema.specs.Counts.{Count, is_count, count_in, count_of, branch_counts, office_count, counts_of, raise, raised, is_open, out_of, is_out_by, put_out, drop_out}
+use Rattle.shop_schema.proofs.Common.{◌≡◌, ◌+◌, ◌<◌, ◌≤◌, ◌^◌, ◌==◌, ◌&&◌, ℕ, suc, List, [], ◌∷◌, ◌++◌, map, filter, length, true, false, Bool, cond, not, Some, None, refl, sym, ap, subst, ◌∙◌, arith, is_none, AllByRecursion, nat_tests, filter-append, length_push, Moment, Row, Owned, is_of, is_row, of, owned_by, numbered, set_row, Branch, Customer, Payment, Rental, Text, Kept, Books, BookCopy, more_yes, more_no, length_map, Count, is_count, count_in, count_of, branch_counts, office_count, counts_of, raise, raised, is_open, out_of, is_out_by, put_out, drop_out}
+use Rattle.std.specs.Prelude.{flat_map}
+use Rattle.std.proofs.lemmas.List.{length-append}
 use Rattle.shop_schema.proofs.Lasts.{turned}
 use Rattle.shop_ledger.specs.declared.counts.CountKind.{CountKind}
 use Rattle.shop_ledger.specs.declared.counts.CountKind.TheVariants as kind

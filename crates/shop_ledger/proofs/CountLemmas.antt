@@ -1,30 +1,13 @@
 -- What the texts on counts and on copies that are out say of them.
-use Rattle.std.proofs.Common.{◌≡◌, ◌+◌, ◌<◌, ◌≤◌, ◌^◌, ◌&&◌, ℕ, List, [], ◌∷◌, map, filter, length, true, Some, None, Ok, Err, Result, refl, sym, ap, subst, ◌∙◌, arith}
-use Rattle.std.specs.Prelude.{⊤, slice_get, IfOk, Option}
-use Rattle.std.specs.List.{AllByRecursion}
+use Rattle.shop_schema.proofs.Common.{◌≡◌, ◌+◌, ◌<◌, ◌≤◌, ◌^◌, ◌&&◌, ℕ, List, [], ◌∷◌, map, filter, length, true, Some, None, Ok, Err, Result, refl, sym, ap, subst, ◌∙◌, arith, ⊤, slice_get, IfOk, AllByRecursion, column, State, ExecutesInside, all-filter, map-map, number_value, Changes, number_test, same_number, still_holds, writes_by, unmapped, Row, is_of, of, Rental, Books, shop_schema, counter_table, counter_columns, Count, Out, Counts, is_count, is_open, is_out, raise, raised, drop_out, count_in, counts_of, IsHeld, StandsFor, IsShop, Holds, Reads, Tallies, TellsFirst}
+use Rattle.std.specs.Prelude.{Option}
 use Rattle.sqlite_value.specs.Order as sql
-use Rattle.sqlite_value.specs.Order.{column}
-use Rattle.sqlite.specs.State.{State, Shown, ExecutesInside}
-use Rattle.sqlite_keyed.proofs.ListLemmas.{all-filter, map-map}
-use Rattle.sql_rows.specs.Rows.{number_value}
-use Rattle.sql_rows.specs.Books.{Changes}
-use Rattle.sql_rows.proofs.ColumnTests.{number_test, same_number}
-use Rattle.sql_rows.proofs.Projects.{still_holds, writes_by}
-use Rattle.sql_rows.proofs.Queries.{unmapped}
+use Rattle.sqlite.specs.State.{Shown}
 use Rattle.sql_rows.proofs.Tells.{sets_and_tells}
-use Rattle.shop_model.specs.Rows.{Row, is_of, of}
-use Rattle.shop_model.specs.Values.{Rental}
-use Rattle.shop_model.specs.Books.{Books}
-use Rattle.shop_schema.specs.Tables.{shop_schema, counter_table}
-use Rattle.shop_schema.specs.Columns.{counter_columns}
-use Rattle.shop_schema.specs.Counts.{Count, Out, Counts, is_count, is_open, is_out, raise, raised, drop_out, count_in, counts_of}
-use Rattle.shop_schema.specs.Held.{IsHeld}
-use Rattle.shop_schema.specs.Shop.{StandsFor, IsShop, Holds, Reads, Tallies}
 use Rattle.shop_schema.proofs.Stands.{stands_but}
 use Rattle.shop_ledger.specs.declared.counts.TheConstants.{SELECT_COUNT, UPDATE_COUNT, SELECT_OUT, SELECT_COPIES_OUT, DELETE_OUT}
 use Rattle.shop_ledger.specs.declared.counts.CountKind.{CountKind}
 use Rattle.shop_ledger.specs.Counted.{kind_number, CountsOnce, IsOutBy}
-use Rattle.shop_schema.specs.First.{TellsFirst}
 use Rattle.shop_ledger.proofs.Equals.{of_two}
 use Rattle.shop_ledger.proofs.CountsOf.{told_count}
 use Rattle.shop_ledger.proofs.Outs.{open_of, outs_numbered, picks_out, outs_rise, copies_of, copies_are}

@@ -1,40 +1,12 @@
 -- The texts on counts and on copies that are out, as SQL has them.
-use Rattle.std.proofs.Common.{◌≡◌, ◌+◌, ◌<◌, ◌^◌, ◌&&◌, ℕ, pos, List, [], ◌∷◌, map, filter, true, cond, Some, None, Ok, refl, ap, arith, nat_lt, IsPermutation, subst}
-use Rattle.std.specs.Prelude.{⊤}
-use Rattle.std.proofs.lemmas.Bool.Decides.{nat_tests}
-use Rattle.std.proofs.lemmas.List.{map_push}
-use Rattle.sqlite.specs.declared.types.Value.{Value}
+use Rattle.std.proofs.Common.{nat_lt}
+use Rattle.shop_schema.proofs.Common.{◌≡◌, ◌+◌, ◌<◌, ◌^◌, ◌&&◌, ℕ, pos, List, [], ◌∷◌, map, filter, true, cond, Some, None, Ok, refl, ap, arith, IsPermutation, subst, ⊤, nat_tests, map_push, Value, column, ascending, Trees, Binary, Term, col, op2, int_or, real_arith, from_int, Arith, Add, Update, Delete, State, ExecutesInside, sort_by, map-map, Means, HasRows, PicksOne, by, Differ, number_value, Changes, are_kept, Selects, plain_query, number_test, number_tested, one_tested, two_tested, three_tested, projects_bag, projects_one, projects_sorted, MeansShowing, Row, is_of, Rental, Books, shop_schema, counter_table, out_copy_table, counter_columns, out_columns, Count, Out, Counts, is_count, is_open, is_out, is_out_by, out_of, raised, put_out, drop_out, counts_of, StandsFor, StandsWith, IsShop, Tallies}
 use Rattle.sqlite_value.specs.Order as sql
-use Rattle.sqlite_value.specs.Order.{column}
-use Rattle.sqlite_value.specs.Keys.{ascending}
-use Rattle.sqlite_trees.specs.Tree.{Trees}
-use Rattle.sqlite_value.specs.declared.keys.Collation.TheVariants.{Binary}
-use Rattle.sqlite_sql.specs.Term.{Term, col, op2}
-use Rattle.sqlite_sql.specs.Ops.{binary, int_or, real_arith, from_int}
-use Rattle.sqlite_sql.specs.declared.ops.BinaryOp.TheVariants.{Arith}
-use Rattle.sqlite_sql.specs.declared.ops.ArithOp.TheVariants.{Add}
-use Rattle.sqlite.specs.Command.TheVariants.{Update, Delete}
+use Rattle.sqlite_sql.specs.Ops.{binary}
 use Rattle.sqlite_tied.specs.Compute.{everything}
 use Rattle.sqlite.specs.Listing.{understood}
-use Rattle.sqlite.specs.State.{State, Shown, ExecutesInside}
-use Rattle.sqlite_keyed.specs.Lists.{sort_by}
-use Rattle.sqlite_keyed.proofs.ListLemmas.{map-map}
-use Rattle.sql_rows.specs.Builds.{Means}
-use Rattle.sql_rows.specs.Rows.{HasRows, PicksOne, by, Differ, number_value}
-use Rattle.sql_rows.specs.Books.{Changes}
-use Rattle.sql_rows.proofs.Appends.{are_kept}
-use Rattle.sql_rows.proofs.Queries.{Selects, plain_query}
-use Rattle.sql_rows.proofs.ColumnTests.{number_test, number_tested, one_tested, two_tested, three_tested}
-use Rattle.sql_rows.proofs.Projects.{projects_bag, projects_one, projects_sorted}
-use Rattle.sql_rows.proofs.Showing.{MeansShowing}
+use Rattle.sqlite.specs.State.{Shown}
 use Rattle.sql_rows.proofs.Drops.{drops_row}
-use Rattle.shop_model.specs.Rows.{Row, is_of}
-use Rattle.shop_model.specs.Values.{Rental}
-use Rattle.shop_model.specs.Books.{Books}
-use Rattle.shop_schema.specs.Tables.{shop_schema, counter_table, out_copy_table}
-use Rattle.shop_schema.specs.Columns.{counter_columns, out_columns}
-use Rattle.shop_schema.specs.Counts.{Count, Out, Counts, is_count, is_open, is_out, is_out_by, out_of, raised, put_out, drop_out, counts_of}
-use Rattle.shop_schema.specs.Shop.{StandsFor, StandsWith, IsShop, Tallies}
 use Rattle.shop_schema.proofs.Stands.{stands_but, rows_of, with_rows}
 use Rattle.shop_schema.proofs.Listed.{tallies_put}
 use Rattle.shop_ledger.specs.declared.counts.TheConstants.{SELECT_COUNT, UPDATE_COUNT, SELECT_OUT, SELECT_COPIES_OUT, INSERT_OUT, DELETE_OUT}

@@ -1,24 +1,9 @@
 -- The counts of the books themselves: which row has which, and what a new row makes of them.
-use Rattle.std.proofs.Common.{◌≡◌, ◌+◌, ◌<◌, ◌≤◌, ◌^◌, ◌==◌, ◌&&◌, ℕ, suc, List, [], ◌∷◌, ◌++◌, map, filter, length, true, false, Bool, cond, Some, refl, sym, ap, subst, ◌∙◌, arith, IsPermutation}
-use Rattle.std.specs.Prelude.{slice_get, flat_map}
-use Rattle.std.specs.List.{AllByRecursion}
-use Rattle.std.proofs.lemmas.Bool.Decides.{nat_tests}
+use Rattle.shop_schema.proofs.Common.{◌≡◌, ◌+◌, ◌<◌, ◌≤◌, ◌^◌, ◌==◌, ◌&&◌, ℕ, suc, List, [], ◌∷◌, ◌++◌, map, filter, length, true, false, Bool, cond, Some, refl, sym, ap, subst, ◌∙◌, arith, IsPermutation, slice_get, AllByRecursion, nat_tests, column, all-slice_get, PicksOne, number_value, same_number, of, numbered, Branch, Books, unmarked, same_if, length_map, IsHeld, Count, Counts, is_count, count_in, branch_counts, office_count, counts_of, State, StandsWith, AreTermed, Holds, HoldsWith, all-permutation}
+use Rattle.std.specs.Prelude.{flat_map}
 use Rattle.sqlite_value.specs.Order as sql
-use Rattle.sqlite_value.specs.Order.{column}
-use Rattle.sqlite_keyed.proofs.ListLemmas.{all-slice_get}
-use Rattle.sql_rows.specs.Rows.{PicksOne, number_value}
-use Rattle.sql_rows.proofs.ColumnTests.{same_number}
-use Rattle.shop_model.specs.Rows.{of, numbered}
-use Rattle.shop_model.specs.Values.{Branch}
-use Rattle.shop_model.specs.Books.{Books, unmarked}
-use Rattle.shop_model.proofs.RowLemmas.{same_if, length_map}
-use Rattle.shop_schema.specs.Held.{IsHeld}
-use Rattle.shop_schema.specs.Counts.{Count, Counts, is_count, count_in, branch_counts, office_count, counts_of}
-use Rattle.sqlite.specs.State.{State}
-use Rattle.shop_schema.specs.Shop.{StandsWith, AreTermed, Holds, HoldsWith}
 use Rattle.shop_schema.proofs.Stands.{with_own, for_own}
 use Rattle.shop_schema.proofs.Lasts.{numbered_once}
-use Rattle.sqlite_trees.proofs.ListLemmas.{all-permutation}
 use Rattle.shop_ledger.specs.declared.counts.CountKind.{CountKind}
 use Rattle.shop_ledger.specs.declared.counts.CountKind.TheVariants as kind
 use Rattle.shop_ledger.specs.Counted.{kind_number, CountsOnce}

@@ -1,9 +1,5 @@
 -- Columns that are parameters.
-use Rattle.std.proofs.Common.{ℕ, suc, List, [], ◌∷◌}
-use Rattle.sqlite_value.specs.declared.keys.Collation.TheVariants.{Binary}
-use Rattle.sqlite_sql.specs.Term.{Term, col, op2}
-use Rattle.sqlite_sql.specs.declared.ops.BinaryOp.TheVariants.{Compare}
-use Rattle.sqlite_sql.specs.declared.ops.CompareOp.TheVariants.{Eq}
+use Rattle.shop_schema.proofs.Common.{ℕ, suc, List, [], ◌∷◌, Binary, Term, col, op2, Compare, Eq}
 
 -- `column = parameter`, for the columns at these places and the parameters in order
 abbrev pub equals : ℕ → List ℕ → List Term

@@ -1,7 +1,5 @@
 -- What a join shows of one row at most is in any order.
-use Rattle.std.proofs.Common.{◌≤◌, List, [], ◌∷◌, map, length, arith}
-use Rattle.sqlite_sql.specs.Query.{Query, Output}
-use Rattle.sql_rows.proofs.Joins.{Climbs}
+use Rattle.shop_schema.proofs.Common.{◌≤◌, List, [], ◌∷◌, map, length, arith, Query, Output, Climbs}
 
 pub climbs_few : {X : Type 0} (q : Query) (f : X → Output) (xs : List X) → length xs ≤ 1 → Climbs q (map f xs)
 climbs_few q f [] few = tt

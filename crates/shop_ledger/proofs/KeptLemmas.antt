@@ -1,6 +1,5 @@
 -- A kept row that is looked at.
-use Rattle.std.proofs.Common.{◌≡◌, refl, ℕ, List, Option, Some, None, option_map, Bor}
-use Rattle.std.specs.Option.{option_copied}
+use Rattle.shop_schema.proofs.Common.{◌≡◌, refl, ℕ, List, Option, Some, None, option_map, Bor, option_copied}
 use Rattle.shop_ledger.specs.declared.kept.KeptRow.{KeptRow}
 use Rattle.shop_ledger.specs.Seen.{seen_kept, by_form}
 

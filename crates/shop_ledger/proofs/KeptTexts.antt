@@ -1,45 +1,13 @@
 -- Kept commands, as SQL has them: those of a branch, and those of head office, whose caller is 0, which is no branch's number.
-use Rattle.std.proofs.Common.{◌≡◌, ◌≤◌, ◌==◌, ◌&&◌, ℕ, List, [], ◌∷◌, ◌++◌, map, filter, length, append_assoc, Bool, true, false, cond, Some, None, Ok, refl, sym, ap, subst, ◌∙◌, arith, IsPermutation}
-use Rattle.std.specs.Prelude.{⊤, slice_get}
-use Rattle.std.specs.List.{AllByRecursion}
-use Rattle.std.specs.Str.{bytes_eq}
-use Rattle.std.proofs.lemmas.Bool.Decides.{nat_tests}
-use Rattle.std.proofs.lemmas.List.Sorted.{IsPermutation-sym, IsPermutation-trans, IsPermutation-to_front, IsPermutation-middle}
-use Rattle.std.proofs.lemmas.List.Elements.{filter-append}
-use Rattle.std.proofs.lemmas.List.{append-nil, map-id, map_push}
-use Rattle.sqlite.specs.declared.types.Value.TheVariants.{Text, Blob}
+use Rattle.shop_schema.proofs.Common.{◌≡◌, ◌≤◌, ◌==◌, ◌&&◌, ℕ, List, [], ◌∷◌, ◌++◌, map, filter, length, append_assoc, Bool, true, false, cond, Some, None, Ok, refl, sym, ap, subst, ◌∙◌, arith, IsPermutation, ⊤, slice_get, AllByRecursion, bytes_eq, nat_tests, IsPermutation-sym, IsPermutation-trans, IsPermutation-to_front, IsPermutation-middle, filter-append, map-id, map_push, Blob, column, Binary, Term, col, op2, Compare, Eq, Values, Insert, State, ExecutesInside, map-map, filter-map, filter_same, Means, HasRows, PicksOne, columns_of, number_value, length-map, Selects, plain_query, number_test, number_tested, text_test, text_tested, two_tested, projects_one, still_holds, has_put, Owned, owned_by, Command, OfficeCommand, Kept, OfficeKept, Books, head, shop_schema, kept_table, kept_columns, office_kept_columns, kept_rows, command_form, office_command_form, IsHeld, IsNumber, IsKept, StandsFor, Holds, Reads, Writes, values}
+use Rattle.std.proofs.lemmas.List.{append-nil}
+use Rattle.sqlite.specs.declared.types.Value.TheVariants.{Text}
 use Rattle.sqlite_value.specs.Order as sql
-use Rattle.sqlite_value.specs.Order.{column}
-use Rattle.sqlite_value.specs.declared.keys.Collation.TheVariants.{Binary}
-use Rattle.sqlite_sql.specs.Term.{Term, col, op2}
-use Rattle.sqlite_sql.specs.declared.ops.BinaryOp.TheVariants.{Compare}
-use Rattle.sqlite_sql.specs.declared.ops.CompareOp.TheVariants.{Eq}
-use Rattle.sqlite.specs.Source.TheVariants.{Values}
-use Rattle.sqlite.specs.Command.TheVariants.{Insert}
 use Rattle.sqlite_tied.specs.Compute.{everything}
 use Rattle.sqlite.specs.Listing.{understood}
-use Rattle.sqlite.specs.State.{State, ExecutesInside, Shown}
-use Rattle.sqlite_keyed.proofs.ListLemmas.{map-map, filter-map, filter_same}
-use Rattle.sql_rows.specs.Builds.{Means}
-use Rattle.sql_rows.specs.Rows.{HasRows, PicksOne, columns_of, number_value}
-use Rattle.sql_rows.proofs.Bags.{length-map}
-use Rattle.sql_rows.proofs.Queries.{Selects, plain_query}
-use Rattle.sql_rows.proofs.ColumnTests.{number_test, number_tested, text_test, text_tested, two_tested}
-use Rattle.sql_rows.proofs.Projects.{projects_one, still_holds}
-use Rattle.sql_rows.proofs.Steps.{has_put}
-use Rattle.shop_model.specs.Rows.{Owned, owned_by}
-use Rattle.shop_model.specs.Values.{Command, OfficeCommand}
-use Rattle.shop_model.specs.Shop.{Kept, OfficeKept}
-use Rattle.shop_model.specs.Books.{Books, head}
-use Rattle.shop_schema.specs.Tables.{shop_schema, kept_table}
-use Rattle.shop_schema.specs.Columns.{kept_columns, office_kept_columns, kept_rows}
-use Rattle.shop_schema.specs.Forms.{command_form, office_command_form}
-use Rattle.shop_schema.specs.Held.{IsHeld}
-use Rattle.shop_schema.specs.RowValues.{IsNumber, IsKept}
-use Rattle.shop_schema.specs.Shop.{StandsFor, Holds, Reads, Writes}
+use Rattle.sqlite.specs.State.{Shown}
 use Rattle.shop_schema.proofs.Stands.{stands_but}
 use Rattle.shop_schema.proofs.FirstRows.{first_none, first_some}
-use Rattle.sql_rows.specs.Terms.{values}
 use Rattle.shop_schema.proofs.Different.{different_once}
 use Rattle.shop_ledger.specs.declared.kept.TheConstants.{SELECT_KEPT, INSERT_KEPT}
 use Rattle.shop_ledger.specs.declared.kept.Owner.{Owner}

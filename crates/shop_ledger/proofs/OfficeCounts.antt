@@ -1,32 +1,9 @@
 -- What head office's commands make of the books' own counts, and its count of kept commands, whose caller is 0.
-use Rattle.std.proofs.Common.{◌≡◌, ◌+◌, ◌-◌, ◌<◌, ◌≤◌, ◌^◌, ◌==◌, ◌&&◌, ℕ, List, [], ◌∷◌, ◌++◌, map, filter, length, true, false, Bool, cond, not, Some, None, refl, sym, ap, subst, ◌∙◌, arith, true≢false, IsPermutation}
-use Rattle.std.specs.Prelude.{slice_get, flat_map}
-use Rattle.std.specs.List.{AllByRecursion, list_all}
-use Rattle.std.proofs.lemmas.Bool.{and_parts}
-use Rattle.std.proofs.lemmas.Bool.Decides.{nat_tests}
-use Rattle.std.proofs.lemmas.List.{length_push}
-use Rattle.std.proofs.ByRecursion.{All-push}
-use Rattle.sqlite.specs.State.{State, Shown}
+use Rattle.shop_schema.proofs.Common.{◌≡◌, ◌+◌, ◌-◌, ◌<◌, ◌≤◌, ◌^◌, ◌==◌, ◌&&◌, ℕ, List, [], ◌∷◌, ◌++◌, map, filter, length, true, false, Bool, cond, not, Some, None, refl, sym, ap, subst, ◌∙◌, arith, true≢false, IsPermutation, slice_get, AllByRecursion, list_all, and_parts, nat_tests, length_push, All-push, State, column, all-slice_get, number_value, still_holds, same_number, Row, Owned, at, lacks, is_empty, set_at, numbered, numbered_from, Branch, Customer, Rental, Payment, OfficeAct, AddCountry, AddCity, AddLanguage, AddCategory, AddActor, AddFilm, PriceFilm, WithdrawFilm, AddCast, AddBranch, AddStaff, StaffLeaves, SetManager, ChooseRule, OfficeCommand, Kept, OfficeKept, Catalogue, office_acted, office_text, office_done, has_row, HasOwners, Books, BookCopy, same_if, more_no, length_map, numbered_push, Count, Counts, is_count, branch_counts, office_count, counts_of, raise, raised, add_count, new_count, with_branch, IsHeld, shop_schema, StandsFor, AreTermed, Holds, HoldsWith, Reads, all-permutation}
+use Rattle.std.specs.Prelude.{flat_map}
+use Rattle.sqlite.specs.State.{Shown}
 use Rattle.sqlite_value.specs.Order as sql
-use Rattle.sqlite_value.specs.Order.{column}
-use Rattle.sqlite_keyed.proofs.ListLemmas.{all-slice_get}
-use Rattle.sql_rows.specs.Rows.{number_value}
-use Rattle.sql_rows.proofs.Projects.{still_holds}
-use Rattle.sql_rows.proofs.ColumnTests.{same_number}
-use Rattle.shop_model.specs.Rows.{Row, Owned, at, lacks, is_empty, set_at, numbered, numbered_from}
-use Rattle.shop_model.specs.Values.{Branch, Customer, Rental, Payment, OfficeAct, AddCountry, AddCity, AddLanguage, AddCategory, AddActor, AddFilm, PriceFilm, WithdrawFilm, AddCast, AddBranch, AddStaff, StaffLeaves, SetManager, ChooseRule, OfficeCommand}
-use Rattle.shop_model.specs.Shop.{Kept, OfficeKept, Catalogue}
-use Rattle.shop_model.specs.Machine.{office_acted, office_text, office_done}
-use Rattle.shop_model.specs.Links.{has_row}
-use Rattle.shop_model.specs.Sound.{HasOwners}
-use Rattle.shop_model.specs.Books.{Books, BookCopy}
-use Rattle.shop_model.proofs.RowLemmas.{same_if, more_no, length_map, numbered_push}
-use Rattle.shop_schema.specs.Counts.{Count, Counts, is_count, branch_counts, office_count, counts_of, raise, raised, add_count, new_count, with_branch}
-use Rattle.shop_schema.specs.Held.{IsHeld}
-use Rattle.shop_schema.specs.Tables.{shop_schema}
-use Rattle.shop_schema.specs.Shop.{StandsFor, AreTermed, Holds, HoldsWith, Reads}
 use Rattle.shop_schema.proofs.Lists.{flat_map_push}
-use Rattle.sqlite_trees.proofs.ListLemmas.{all-permutation}
 use Rattle.shop_ledger.specs.declared.counts.TheConstants.{SELECT_COUNT}
 use Rattle.shop_ledger.specs.declared.counts.CountKind.TheVariants as kind
 use Rattle.shop_ledger.specs.declared.counts.Count.{Count as TheCount}

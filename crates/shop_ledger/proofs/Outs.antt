@@ -1,15 +1,6 @@
 -- The copies that are out, as the books' own counts have them, are those of the open rentals.
-use Rattle.std.proofs.Common.{◌≡◌, ◌∙◌, inl, inr, refl, sym, ap, subst, ℕ, suc, ◌+◌, ◌≤◌, Bool, List, [], ◌∷◌, map, filter, length}
-use Rattle.std.specs.Prelude.{◌==◌, is_none}
-use Rattle.std.proofs.lemmas.Bool.{cases_Bool}
-use Rattle.sql_rows.specs.Rows.{PicksOne}
-use Rattle.shop_model.specs.Rows.{Row, is_of, of, numbered, numbered_from, IsCounted}
-use Rattle.shop_model.specs.Values.{Rental}
-use Rattle.shop_model.specs.Stock.{keeps_out}
-use Rattle.shop_model.specs.Books.{Books}
-use Rattle.shop_model.proofs.RowLemmas.{length_map, map_map}
-use Rattle.shop_schema.specs.Held.{IsHeld}
-use Rattle.shop_schema.specs.Counts.{Out, is_out, is_open, out_of, counts_of}
+use Rattle.shop_schema.proofs.Common.{◌≡◌, ◌∙◌, inl, inr, refl, sym, ap, subst, ℕ, suc, ◌+◌, ◌≤◌, Bool, List, [], ◌∷◌, map, filter, length, is_none, cases_Bool, PicksOne, Row, is_of, of, numbered, numbered_from, IsCounted, Rental, keeps_out, Books, length_map, map_map, IsHeld, Out, is_out, is_open, out_of, counts_of}
+use Rattle.std.specs.Prelude.{◌==◌}
 use Rattle.shop_ledger.proofs.Rising.{Rise, counted_rise, filter_rise, map_filter}
 
 -- the numbers of the copy's open rentals

@@ -1,15 +1,7 @@
 -- Some of a branch's rows, in order of number.
-use Rattle.std.proofs.Common.{◌≡◌, ◌≢◌, ◌&&◌, ◌<◌, ◌+◌, ℕ, List, [], ◌∷◌, map, filter, Bool, true, false, cond, inl, inr, refl, sym, ap, subst, ◌∙◌, arith}
-use Rattle.std.specs.Prelude.{⊤}
+use Rattle.shop_schema.proofs.Common.{◌≡◌, ◌≢◌, ◌&&◌, ◌<◌, ◌+◌, ℕ, List, [], ◌∷◌, map, filter, Bool, true, false, cond, inl, inr, refl, sym, ap, subst, ◌∙◌, arith, ⊤, AllByRecursion, cases_Bool, nat_tests, sort_by, insert_sorted, all-filter, by, Differ, Row, is_of, of, IsCounted, AreNumbered}
 use Rattle.std.specs.Ordering.{is_gt}
-use Rattle.std.specs.List.{AllByRecursion}
-use Rattle.std.proofs.lemmas.Bool.{cases_Bool}
-use Rattle.std.proofs.lemmas.Bool.Decides.{nat_tests}
-use Rattle.sqlite_keyed.specs.Lists.{sort_by, insert_sorted}
-use Rattle.sqlite_keyed.proofs.ListLemmas.{all-filter}
-use Rattle.sql_rows.specs.Rows.{by, Differ}
 pub use Rattle.shop_schema.proofs.Lists.{filter_twice}
-use Rattle.shop_model.specs.Rows.{Row, is_of, of, IsCounted, AreNumbered}
 
 abbrev pub Rise : {A : Type 0} → List (Row A) → Type 0
 Rise [] = ⊤

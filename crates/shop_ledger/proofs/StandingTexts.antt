@@ -1,36 +1,9 @@
 -- How a branch stands, as SQL has it: its row, joined with its count of kept commands.
-use Rattle.std.proofs.Common.{◌≡◌, ◌≤◌, ◌==◌, ℕ, zero, suc, pos, List, [], ◌∷◌, map, filter, Bool, true, false, cond, Some, None, refl, sym, ap, subst, ◌∙◌, arith, append-nil, inl, inr}
-use Rattle.std.specs.Prelude.{◌⊎◌, IfSome, slice_get}
-use Rattle.std.specs.List.{flat_map, AllByRecursion}
-use Rattle.std.proofs.lemmas.List.Sorted.{IsPermutation-refl}
-use Rattle.sqlite.specs.declared.types.Value.{Value}
-use Rattle.sqlite.specs.declared.types.Value.TheVariants.{Null, Int}
-use Rattle.sqlite.specs.Values.{or_null}
+use Rattle.shop_schema.proofs.Common.{◌≡◌, ◌≤◌, ◌==◌, ℕ, zero, suc, pos, List, [], ◌∷◌, map, filter, Bool, true, false, cond, Some, None, refl, sym, ap, subst, ◌∙◌, arith, append-nil, inl, inr, ◌⊎◌, IfSome, slice_get, flat_map, AllByRecursion, IsPermutation-refl, Value, Null, Int, or_null, column, Trees, Term, col, lit, Query, Join, inner, left, end, Output, overlay, State, map-map, IsPermutation-same, PicksOne, columns_of, number_value, Selects, answers, kept_as_map, one_tested, number_tested, still_holds, joined_query, are_equal, or_blank, shown_of, few_list, left_pair, joined_rows, Moment, IsMoment, Owned, owned_by, at, is_empty, numbered, Branch, Books, head, shop_schema, moment_value, branch_columns, counter_columns, Count, is_count, count_in, counts_of, IsLast, IsHeld, StandsFor, Holds, Reads}
 use Rattle.sqlite_value.specs.Order as sql
-use Rattle.sqlite_value.specs.Order.{column}
-use Rattle.sqlite_trees.specs.Tree.{Trees}
-use Rattle.sqlite_sql.specs.Term.{Term, col, lit}
-use Rattle.sqlite_sql.specs.Query.{Query, Join, inner, left, end, Output}
-use Rattle.sqlite_sql.specs.Program.{overlay}
 use Rattle.sqlite_tied.specs.Compute.{everything}
 use Rattle.sqlite.specs.Listing.{understood}
-use Rattle.sqlite.specs.State.{State, Shown}
-use Rattle.sqlite_keyed.proofs.ListLemmas.{map-map, IsPermutation-same}
-use Rattle.sql_rows.specs.Rows.{PicksOne, columns_of, number_value}
-use Rattle.sql_rows.proofs.Queries.{Selects, answers, kept_as_map}
-use Rattle.sql_rows.proofs.ColumnTests.{one_tested, number_tested}
-use Rattle.sql_rows.proofs.Projects.{still_holds}
-use Rattle.sql_rows.proofs.Joins.{joined_query, are_equal, or_blank, shown_of, few_list, left_pair, joined_rows}
-use Rattle.shop_model.specs.Calendar.{Moment, IsMoment}
-use Rattle.shop_model.specs.Rows.{Owned, owned_by, at, is_empty, numbered}
-use Rattle.shop_model.specs.Values.{Branch}
-use Rattle.shop_model.specs.Books.{Books, head}
-use Rattle.shop_schema.specs.Tables.{shop_schema}
-use Rattle.shop_schema.specs.Columns.{moment_value, branch_columns, counter_columns}
-use Rattle.shop_schema.specs.Counts.{Count, is_count, count_in, counts_of}
-use Rattle.shop_schema.specs.RowValues.{IsLast}
-use Rattle.shop_schema.specs.Held.{IsHeld}
-use Rattle.shop_schema.specs.Shop.{StandsFor, Holds, Reads}
+use Rattle.sqlite.specs.State.{Shown}
 use Rattle.shop_schema.proofs.SameRows.{same_last}
 use Rattle.shop_schema.proofs.Lasts.{numbered_once}
 use Rattle.shop_schema.proofs.Numbers.{numbered_at}

@@ -7,7 +7,7 @@ ghost use Rattle.sql_rows.specs.Calls.{StaysInside};
 ghost use Rattle.sql_rows.specs.Rows.{number_value};
 ghost use Rattle.shop_model.specs.Rows.{numbered, of};
 ghost use Rattle.shop_model.specs.Stock.{keeps_out};
-ghost use Rattle.shop_schema.specs.Calls.{Finds};
+ghost use Rattle.shop_ledger.specs.Calls.{Finds};
 ghost use Rattle.shop_schema.specs.Counts.{count_in, is_count, kept_kind, raise, put_out, drop_out};
 ghost use Rattle.shop_schema.specs.Shop.{Reads, Tallies};
 ghost use Rattle.shop_ledger.specs.Counted.{kind_number, caller_of, kind_of, counted, IsCount, CountsOnce, IsOutBy};

@@ -1,23 +1,8 @@
 -- What tables stood for in version 1, by what those stand for that they have become.
-use Rattle.std.proofs.Common.{◌≡◌, ◌≢◌, ℕ, List, [], ◌∷◌, true, not, refl, sym, subst, ◌∙◌, arith, IsPermutation}
+use Rattle.shop_schema.proofs.Common.{◌≡◌, ◌≢◌, ℕ, List, [], ◌∷◌, true, not, refl, sym, subst, ◌∙◌, arith, IsPermutation, AllByRecursion, and_parts, IsPermutation-sym, IsPermutation-trans, Trees, Table, one_permutation, HasRows, SameBut, number_value, same_number, Text, Rule, ByCode, ByComment, Books, without_terms, this_version, first_version, versioned_columns, rule_columns, counts_of, StandsFor, StandsForVersion1, TermedRows, shop_schema, version_1_schema, later_tables, chain_table}
 use Rattle.std.specs.Prelude.{◌==◌}
-use Rattle.std.specs.List.{AllByRecursion}
-use Rattle.std.proofs.lemmas.Bool.{and_parts}
-use Rattle.std.proofs.lemmas.List.Sorted.{IsPermutation-sym, IsPermutation-trans}
 use Rattle.sqlite_value.specs.Order as sql
-use Rattle.sqlite_trees.specs.Tree.{Trees}
-use Rattle.sqlite.specs.Table.{Table}
-use Rattle.sqlite.proofs.Callers.{one_permutation}
-use Rattle.sql_rows.specs.Rows.{HasRows, SameBut, number_value}
-use Rattle.sql_rows.proofs.ColumnTests.{same_number}
-use Rattle.shop_model.specs.Values.{Text, Rule, ByCode, ByComment}
-use Rattle.shop_model.specs.Books.{Books}
-use Rattle.shop_model.specs.Migration.{without_terms}
-use Rattle.shop_schema.specs.Columns.{this_version, first_version, versioned_columns, rule_columns}
-use Rattle.shop_schema.specs.Counts.{counts_of}
 use Rattle.shop_migration.specs.Migrating.{AddsTables, PutsRule, SetsVersion, Tells}
-use Rattle.shop_schema.specs.Shop.{StandsFor, StandsForVersion1, TermedRows}
-use Rattle.shop_schema.specs.Tables.{shop_schema, version_1_schema, later_tables, chain_table}
 use Rattle.shop_migration.proofs.MigrateTexts.{first_part, last_part}
 use Rattle.shop_schema.proofs.Stands.{none_has, differ, first_rows, first_listed, first_named, one_changed}
 

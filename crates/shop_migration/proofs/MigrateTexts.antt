@@ -1,55 +1,19 @@
 -- What the statements do by which the tables of version 1 become those of version 2.
-use Rattle.std.proofs.Common.{◌≡◌, ◌≢◌, ℕ, pos, List, [], ◌∷◌, ◌++◌, map, filter, length, drop, take, codes, true, Ok, refl, sym, ap, ap₂, subst, subst₂, ◌∙◌, arith, append-nil, map-id, inl, inr, IsPermutation}
-use Rattle.std.specs.Prelude.{⊤, ◌⊎◌}
-use Rattle.std.specs.List.{flat_map}
-use Rattle.std.specs.List.{AllByRecursion}
-use Rattle.std.proofs.lemmas.List.Sorted.{IsPermutation-refl, IsPermutation-sym, IsPermutation-trans, IsPermutation-map}
-use Rattle.sqlite.specs.declared.types.Value.TheVariants.{Null, Int}
+use Rattle.std.proofs.Common.{map-id}
+use Rattle.shop_schema.proofs.Common.{◌≡◌, ◌≢◌, ℕ, pos, List, [], ◌∷◌, ◌++◌, map, filter, length, drop, take, codes, true, Ok, refl, sym, ap, ap₂, subst, subst₂, ◌∙◌, arith, append-nil, inl, inr, IsPermutation, ⊤, ◌⊎◌, flat_map, AllByRecursion, IsPermutation-refl, IsPermutation-sym, IsPermutation-trans, IsPermutation-map, Null, Int, column, Binary, Trees, IsShaped, Term, lit, col, Join, left, inner, end, IsAnswer, Output, overlay, Values, Insert, Update, State, ExecutesInside, Table, Schema, map-append, map-map, flat_map-map, all-append, Changes, Means, HasRows, SameBut, number_value, all_typed, joined_query, are_equal, or_blank, shown_of, few_list, left_pair, joined_bag, plain_query, HasPut, has_put, sets_row, Row, at, is_row, Text, Film, Copy, Rental, Terms, ByCode, Rules, film_of, film_terms, terms_now, HasNumbers, Books, BookCopy, shop_of, unmarked, IsSoundWithoutTerms, row_terms, migrated, row_at, length_map, at_one, all_rows_have_one, shop_schema, version_1_schema, later_tables, this_version, first_version, versioned_columns, film_columns, copy_columns, rental_columns, terms_columns, rule_columns, counts_of, IsShop, IsFirstShop, StandsAs, AreTermed, HoldsVersion1, Holds, term_rows, rule_rows, IsKeyed, IsFirstKeyed}
 use Rattle.sqlite_value.specs.Order as sql
-use Rattle.sqlite_value.specs.Order.{column}
-use Rattle.sqlite_value.specs.declared.keys.Collation.TheVariants.{Binary}
-use Rattle.sqlite_trees.specs.Tree.{Trees}
-use Rattle.sqlite_trees.specs.View.{IsShaped}
 use Rattle.sqlite_trees.specs.declared.store.Shape.TheVariants.{Table as TableShape}
-use Rattle.sqlite_sql.specs.Term.{Term, lit, col}
-use Rattle.sqlite_sql.specs.Query.{Query as Asked, Join, left, inner, end, IsAnswer, Output}
-use Rattle.sqlite_sql.specs.Program.{overlay}
+use Rattle.sqlite_sql.specs.Query.{Query as Asked}
 use Rattle.sqlite_schema.specs.declared.program.Program.{Program}
-use Rattle.sqlite.specs.Source.TheVariants.{Values, Query}
-use Rattle.sqlite.specs.Command.TheVariants.{Insert, Update}
+use Rattle.sqlite.specs.Source.TheVariants.{Query}
 use Rattle.sqlite.specs.Change.{created, next_tree}
 use Rattle.sqlite_tied.specs.Compute.{everything}
 use Rattle.sqlite.specs.Listing.{understood}
-use Rattle.sqlite.specs.State.{State, ExecutesInside}
-use Rattle.sqlite.specs.Table.{Table}
-use Rattle.sqlite.specs.Schema.{Schema}
-use Rattle.std.proofs.lemmas.List.{map-append}
-use Rattle.sqlite_keyed.proofs.ListLemmas.{map-map, flat_map-map, all-append}
 use Rattle.sqlite_schema.specs.declared.schema.Keys.TheVariants.{Enforced}
-use Rattle.sql_rows.specs.Books.{Changes}
-use Rattle.sql_rows.specs.Builds.{Means}
-use Rattle.sql_rows.specs.Rows.{HasRows, SameBut, number_value}
-use Rattle.sql_rows.proofs.Bags.{all_typed}
 use Rattle.sql_rows.proofs.Fills.{Kept, Fills, fills, fills_values, adds}
-use Rattle.sql_rows.proofs.Joins.{joined_query, are_equal, or_blank, shown_of, few_list, left_pair, joined_bag}
 use Rattle.sql_rows.proofs.Keyed.{applies_keyed}
-use Rattle.sql_rows.proofs.Queries.{plain_query}
-use Rattle.sql_rows.proofs.Steps.{HasPut, has_put, sets_row}
-use Rattle.shop_model.specs.Rows.{Row, at, is_row}
 use Rattle.shop_model.specs.Values as model
-use Rattle.shop_model.specs.Values.{Text, Film, Copy, Rental, Terms, ByCode, Rules}
-use Rattle.shop_model.specs.Stock.{film_of, film_terms, terms_now}
-use Rattle.shop_model.specs.Sound.{HasNumbers}
-use Rattle.shop_model.specs.Books.{Books, BookCopy, shop_of, unmarked}
-use Rattle.shop_model.specs.Migration.{IsSoundWithoutTerms, row_terms, migrated}
-use Rattle.shop_model.proofs.RowLemmas.{row_at, length_map}
-use Rattle.shop_model.proofs.FoundLemmas.{at_one}
-use Rattle.shop_model.proofs.Migration.{all_rows_have_one}
 use Rattle.shop_schema.specs.Tables as t
-use Rattle.shop_schema.specs.Tables.{shop_schema, version_1_schema, later_tables}
-use Rattle.shop_schema.specs.Columns.{this_version, first_version, versioned_columns, film_columns, copy_columns, rental_columns, terms_columns, rule_columns}
-use Rattle.shop_schema.specs.Counts.{counts_of}
-use Rattle.shop_schema.specs.Shop.{IsShop, IsFirstShop, StandsAs, AreTermed, HoldsVersion1, Holds, term_rows, rule_rows, IsKeyed, IsFirstKeyed}
 use Rattle.shop_migration.specs.Migrating.{AddsTables, IsUnderWay, PutsRule, SetsVersion, Tells}
 use Rattle.shop_schema.proofs.CreateTexts.{rental_terms_text, chain_rule_text, makes_rental_terms, makes_chain_rule}
 use Rattle.shop_schema.proofs.Stands.{HaveRows, first_rows, rows_as, first_listed, listed, named, for_own, have_append, have_moved, stands_as_but}

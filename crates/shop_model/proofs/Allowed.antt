@@ -1,20 +1,5 @@
 -- What the edits of an accepted command are asked, shown of each act once.
-use Rattle.std.proofs.Common.{◌≡◌, ℕ, ◌+◌, List, [], ◌∷◌, map, length, Bool, true, false, not, refl, sym, subst, ◌∙◌, arith, length-append}
-use Rattle.std.specs.Prelude.{◌==◌, ◌||◌, nat_lt, nat_le}
-use Rattle.std.specs.Option.{option_to_list}
-use Rattle.std.specs.List.{list_any, list_all}
-use Rattle.std.specs.Str.{bytes_eq}
-use Rattle.std.proofs.lemmas.Bool.{and_parts, or_parts, not-false, true≢false}
-use Rattle.std.proofs.lemmas.Bool.Decides.{nat_tests}
-use Rattle.shop_model.specs.Rows.{of, at, lacks, is_empty, arrived, has_double}
-use Rattle.shop_model.specs.Calendar.{Moment}
-use Rattle.shop_model.specs.Values.{Text, Copy, Rental, Payment, Arrival, Stock, Copies, BadLine, Act, AddCustomer, SetActive, Rent, TakeBack, Pay, Import, Dispatch, Receive, Scrap, Command, Rules}
-use Rattle.shop_model.specs.Shop.{Shop, Catalogue}
-use Rattle.shop_model.specs.Verdict.{act_refusals, import_refusals, arrival}
-use Rattle.shop_model.specs.Machine.{films_in, films_at, incoming}
-use Rattle.shop_model.specs.Books.{Books, Line, Edit, edits_of, shop_of, unmarked, imported, unpacked, come}
-use Rattle.shop_model.specs.Links.{has_row, is_staff_of, pays_for, is_parcel, IsLinkedShop}
-use Rattle.shop_model.specs.Sound.{HasNumbers}
+use Rattle.shop_model.proofs.Common.{◌≡◌, ℕ, ◌+◌, List, [], ◌∷◌, map, length, Bool, true, false, not, refl, sym, subst, ◌∙◌, arith, length-append, ◌==◌, ◌||◌, nat_lt, nat_le, option_to_list, list_any, list_all, bytes_eq, and_parts, or_parts, not-false, true≢false, nat_tests, of, at, lacks, is_empty, arrived, has_double, Moment, Text, Copy, Rental, Payment, Arrival, Stock, Copies, BadLine, Act, AddCustomer, SetActive, Rent, TakeBack, Pay, Import, Dispatch, Receive, Scrap, Command, Rules, Shop, Catalogue, act_refusals, import_refusals, arrival, films_in, films_at, incoming, Books, Line, Edit, edits_of, shop_of, unmarked, imported, unpacked, come, has_row, is_staff_of, pays_for, is_parcel, IsLinkedShop, HasNumbers}
 use Rattle.shop_model.proofs.RowLemmas.{length_map}
 use Rattle.shop_model.proofs.ShopLemmas.{films_sent, incoming_come, checked_films}
 use Rattle.shop_model.proofs.EditLemmas.{AskedOfEach, new_its}

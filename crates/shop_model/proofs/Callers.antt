@@ -1,13 +1,6 @@
 -- Whoever is found by a token is a caller whom the catalogue knows.
-use Rattle.std.proofs.Common.{◌≡◌, inl, inr, ℕ, ◌+◌, ◌-◌, List, [], ◌∷◌, false, None, Some, refl, ap, ◌∙◌, arith, add-zero}
-use Rattle.std.specs.Prelude.{◌⊎◌, ◌==◌, Option}
-use Rattle.std.specs.Str.{bytes_eq}
-use Rattle.std.proofs.lemmas.Bool.{cases_Bool}
-use Rattle.std.proofs.lemmas.Bool.Decides.{nat_tests}
-use Rattle.shop_model.specs.Rows.{at, is_empty}
-use Rattle.shop_model.specs.Values.{Text, Branch}
-use Rattle.shop_model.specs.Shop.{Catalogue}
-use Rattle.shop_model.specs.Books.{Caller, Counter, Nobody, branch_with, caller_of, known_caller}
+use Rattle.shop_model.proofs.Common.{◌≡◌, inl, inr, ℕ, ◌+◌, ◌-◌, List, [], ◌∷◌, false, None, Some, refl, ap, ◌∙◌, arith, add-zero, ◌==◌, bytes_eq, cases_Bool, nat_tests, at, is_empty, Text, Branch, Catalogue, Caller, Counter, Nobody, branch_with, caller_of, known_caller}
+use Rattle.std.specs.Prelude.{◌⊎◌, Option}
 
 -- nobody, or a branch whose row is there
 IsFound : Caller → ℕ → List Branch → Type 0

@@ -1,10 +1,6 @@
 -- What is said of a list of edits once, whatever act makes it.
-use Rattle.std.proofs.Common.{◌≡◌, inl, inr, ℕ, ◌+◌, ◌≤◌, List, [], ◌∷◌, length, filter, Bool, true, false, refl, sym, ap, ◌∙◌, ◌++◌, arith, append-nil, append_assoc, length-append}
-use Rattle.std.specs.Prelude.{⊤, ◌==◌, if◌then◌else◌}
-use Rattle.std.proofs.lemmas.Bool.{cases_Bool}
-use Rattle.shop_model.specs.Rows.{Row, Owned, of, owned_by, is_of, is_row, next, put, put_all, set_row, set_rows, update_where}
-use Rattle.shop_model.specs.Values.{Text}
-use Rattle.shop_model.specs.Books.{Books, Consignment, Table, Customers, CopyRows, Rentals, TermRows, Payments, RowOf, rows_of, with_rows, Edit, Put, Set, PutLot, Append, Update, edited, all_edited}
+use Rattle.shop_model.proofs.Common.{◌≡◌, inl, inr, ℕ, ◌+◌, ◌≤◌, List, [], ◌∷◌, length, filter, Bool, true, false, refl, sym, ap, ◌∙◌, ◌++◌, arith, append-nil, append_assoc, length-append, ⊤, ◌==◌, if◌then◌else◌, cases_Bool, Row, Owned, of, owned_by, is_of, is_row, next, put_all, set_row, set_rows, update_where, Text, Books, Consignment, Table, Customers, CopyRows, Rentals, TermRows, Payments, RowOf, rows_of, with_rows, Edit, Put, Set, PutLot, Append, Update, edited, all_edited}
+use Rattle.shop_model.specs.Rows.{put}
 use Rattle.shop_model.proofs.RowLemmas.{same_test, more_yes, put_own, put_other, set_same, length_map}
 
 -- the frame: what holds of each table's rows holds of them where one table's are others of which it holds

@@ -1,9 +1,5 @@
 -- What the row of a number tells, where there is one.
-use Rattle.std.proofs.Common.{◌≡◌, ◌⊎◌, refl, sym, inl, inr, ℕ, ◌-◌, List, [], ◌∷◌, map, Option, Some, None}
-use Rattle.std.specs.Prelude.{◌==◌}
-use Rattle.std.proofs.lemmas.Bool.{cases_Bool}
-use Rattle.shop_model.specs.Rows.{at}
-use Rattle.shop_model.specs.Books.{head}
+use Rattle.shop_model.proofs.Common.{◌≡◌, ◌⊎◌, refl, sym, inl, inr, ℕ, ◌-◌, List, [], ◌∷◌, map, Option, Some, None, ◌==◌, cases_Bool, at, head}
 
 -- there is one row of a number at most
 pub at_one : {A : Type 0} (n : ℕ) (rows : List A) → (at n rows ≡ []) ⊎ ((x : A) × (at n rows ≡ x ∷ []))

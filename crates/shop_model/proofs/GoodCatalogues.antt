@@ -1,17 +1,5 @@
 -- Each command of head office keeps what holds of the catalogue.
-use Rattle.std.proofs.Common.{◌≡◌, ap, inl, inr, ℕ, ◌+◌, ◌≤◌, List, [], ◌∷◌, ◌++◌, filter, length, true, false, not, None, Some, refl, ◌∙◌, arith, length-append}
-use Rattle.std.specs.Prelude.{◌==◌, ◌&&◌, nat_le}
-use Rattle.std.specs.Option.{option_to_list}
-use Rattle.std.specs.List.{list_any, list_all}
-use Rattle.std.specs.Str.{bytes_eq}
-use Rattle.std.proofs.lemmas.Bool.{cases_Bool, or_parts, not-false, true≢false, false≢true}
-use Rattle.shop_model.specs.Rows.{at, lacks, is_empty, set_at}
-use Rattle.shop_model.specs.Values.{Text, City, Film, Cast, Branch, Staff, Customer, Copy, Rental, Payment, Arrival, OfficeAct, AddCountry, AddCity, AddLanguage, AddCategory, AddActor, AddFilm, PriceFilm, WithdrawFilm, AddCast, AddBranch, AddStaff, StaffLeaves, SetManager, ChooseRule, OfficeCommand, Rules}
-use Rattle.shop_model.specs.Refusals.{Full}
-use Rattle.shop_model.specs.Shop.{OfficeKept, Catalogue, Shop, same_office}
-use Rattle.shop_model.specs.Verdict.{Verdict, Again, Refused, Accepted, first, office_refusals, office_resent, office_verdict}
-use Rattle.shop_model.specs.Machine.{office_acted, office_done, office_text}
-use Rattle.shop_model.specs.Links.{has_row, are_different, is_staff_of, IsLinkedShop, NamesRowsOf, HasSharedSizes, HasNoDoubles, IsGoodCatalogue}
+use Rattle.shop_model.proofs.Common.{◌≡◌, ap, inl, inr, ℕ, ◌+◌, ◌≤◌, List, [], ◌∷◌, ◌++◌, filter, length, true, false, not, None, Some, refl, ◌∙◌, arith, length-append, ◌==◌, ◌&&◌, nat_le, option_to_list, list_any, list_all, bytes_eq, cases_Bool, or_parts, not-false, true≢false, false≢true, at, lacks, is_empty, set_at, Text, City, Film, Cast, Branch, Staff, Customer, Copy, Rental, Payment, Arrival, OfficeAct, AddCountry, AddCity, AddLanguage, AddCategory, AddActor, AddFilm, PriceFilm, WithdrawFilm, AddCast, AddBranch, AddStaff, StaffLeaves, SetManager, ChooseRule, OfficeCommand, Rules, Full, OfficeKept, Catalogue, Shop, same_office, Verdict, Again, Refused, Accepted, first, office_refusals, office_resent, office_verdict, office_acted, office_done, office_text, has_row, are_different, is_staff_of, IsLinkedShop, NamesRowsOf, HasSharedSizes, HasNoDoubles, IsGoodCatalogue}
 use Rattle.shop_model.proofs.Isolation.{is_accepted, NoneHold, none_hold}
 use Rattle.shop_model.proofs.GoodShops.{all_more, all_weaker, all_set, length_set, key_room}
 use Rattle.shop_model.proofs.LinkLemmas.{has_more, has_set, any_at_more, any_at_set, all_at_more, all_at_set, different_more, different_set, none_left}

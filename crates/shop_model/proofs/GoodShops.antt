@@ -1,19 +1,7 @@
 -- Each step keeps what holds of each branch's shop.
-use Rattle.std.proofs.Common.{◌≡◌, inl, inr, ℕ, ◌+◌, ◌-◌, ◌≤◌, ◌<◌, List, [], ◌∷◌, ◌++◌, suc, length, map, filter, Bool, true, false, not, None, Some, refl, sym, subst, ap, ◌∙◌, arith, length-append}
-use Rattle.std.specs.Prelude.{⊤, Option, ◌==◌, ◌&&◌, ◌||◌, nat_le, nat_lt}
-use Rattle.std.specs.List.{list_any, list_all}
-use Rattle.std.proofs.lemmas.Bool.{cases_Bool, or_parts, and_parts, not-true, true≢false}
-use Rattle.std.proofs.lemmas.Bool.Decides.{nat_tests}
-use Rattle.std.proofs.lemmas.List.{map_push}
-use Rattle.shop_model.specs.Rows.{Row, Owned, of, is_of, next, put, put_all, AreNumbered, set_at, set_all, arrived, total}
-use Rattle.shop_model.specs.Calendar.{Moment, is_by, same_moment}
-use Rattle.shop_model.specs.Values.{Customer, Rental, Payment, Arrival, Stock, Copies, BadLine, Act, AddCustomer, Import, Receive, Command, Rules}
-use Rattle.shop_model.specs.Shop.{Kept}
-use Rattle.shop_model.specs.Verdict.{act_refusals, is_full, is_before, new_copies, new_from, new_in, are_lines, arrival}
-use Rattle.shop_model.specs.Machine.{here, films_in, incoming, reply_text}
-use Rattle.shop_model.specs.Books.{Books, Line, Consignment, Table, Customers, CopyRows, Rentals, TermRows, Payments, RowOf, rows_of, Edit, Put, Set, PutLot, Append, Update, edited, edits_of, book_acted, book_done, shop_of, unmarked, as_parcel, imported, unpacked, come}
-use Rattle.shop_model.specs.Sound.{HasNumbers}
-use Rattle.shop_model.specs.GoodShop.{same_rental, are_apart, is_within, returned_by, rental_by, rises, IsGoodShop}
+use Rattle.shop_model.proofs.Common.{◌≡◌, inl, inr, ℕ, ◌+◌, ◌-◌, ◌≤◌, ◌<◌, List, [], ◌∷◌, ◌++◌, suc, length, map, filter, Bool, true, false, not, None, Some, refl, sym, subst, ap, ◌∙◌, arith, length-append, ⊤, ◌==◌, ◌&&◌, ◌||◌, nat_le, nat_lt, list_any, list_all, cases_Bool, or_parts, and_parts, not-true, true≢false, nat_tests, map_push, Row, Owned, of, is_of, next, put_all, AreNumbered, set_at, set_all, arrived, total, Moment, is_by, same_moment, Customer, Rental, Payment, Arrival, Stock, Copies, BadLine, Act, AddCustomer, Import, Receive, Command, Rules, Kept, act_refusals, is_full, is_before, new_copies, new_from, new_in, are_lines, arrival, here, films_in, incoming, reply_text, Books, Line, Consignment, Table, Customers, CopyRows, Rentals, TermRows, Payments, RowOf, rows_of, Edit, Put, Set, PutLot, Append, Update, edited, edits_of, book_acted, book_done, shop_of, unmarked, as_parcel, imported, unpacked, come, HasNumbers, same_rental, are_apart, is_within, returned_by, rental_by, rises, IsGoodShop}
+use Rattle.std.specs.Prelude.{Option}
+use Rattle.shop_model.specs.Rows.{put}
 use Rattle.shop_model.proofs.RowLemmas.{same_test, more_yes, length_map, put_own, put_all_counted, set_rows_own, set_rows_counted}
 use Rattle.shop_model.proofs.EditLemmas.{by_table, by_others, AskedOfEach, each_keeps, grown, new_lots, new_sends, rows_edited, lots_edited}
 use Rattle.shop_model.proofs.ShopLemmas.{incoming_come, last_own}

@@ -1,18 +1,7 @@
 -- A run grows by one event at a time.
-use Rattle.std.proofs.Common.{◌≡◌, inl, inr, List, [], ◌∷◌, ◌++◌, length, map, filter, Bool, true, false, not, refl, sym, ap, ap₂, ◌∙◌, arith, append-nil, length-append}
-use Rattle.std.specs.Prelude.{◌==◌, ◌&&◌, ◌⊎◌, ◌||◌, if◌then◌else◌}
-use Rattle.std.specs.List.{list_all}
-use Rattle.std.proofs.Math.Bool.{or-false}
-use Rattle.std.proofs.lemmas.Bool.{not-true, cases_Bool, and_parts, false≢true, true≢false}
-use Rattle.std.proofs.lemmas.List.{map-append}
-use Rattle.std.proofs.lemmas.List.Elements.{filter-append}
-use Rattle.shop_model.specs.Values.{OfficeAsk, Rules}
-use Rattle.shop_model.specs.Refusals.{TooLong, NoCounter, NoRoute, BadBody, KeyUsed, Full, MomentBack, NoStaff, NoCustomer, CustomerInactive, NoCopy, CopyNotHere, CopyOut, FilmWithdrawn, SameMoment, NoRental, RentalReturned, WrongCustomer, NoFilm, LotIn, BadCsv, NoBranch, OwnBranch, NoArrival, ArrivalReceived, BadLines, BadThreshold, TokenTaken, NoSharedRow, Already, Usage, Memory, Size, StoreFailed}
+use Rattle.shop_model.proofs.Common.{◌≡◌, inl, inr, List, [], ◌∷◌, ◌++◌, length, map, filter, Bool, true, false, not, refl, sym, ap, ap₂, ◌∙◌, arith, append-nil, length-append, ◌==◌, ◌&&◌, ◌||◌, if◌then◌else◌, list_all, or-false, not-true, cases_Bool, and_parts, false≢true, true≢false, map-append, filter-append, OfficeAsk, Rules, TooLong, NoCounter, NoRoute, BadBody, KeyUsed, Full, MomentBack, NoStaff, NoCustomer, CustomerInactive, NoCopy, CopyNotHere, CopyOut, FilmWithdrawn, SameMoment, NoRental, RentalReturned, WrongCustomer, NoFilm, LotIn, BadCsv, NoBranch, OwnBranch, NoArrival, ArrivalReceived, BadLines, BadThreshold, TokenTaken, NoSharedRow, Already, Usage, Memory, Size, StoreFailed, Reply, Sorry, Done, Shows, Answer, answer_of, problem_answer, Books, Event, Caller, counted_one, caller_in, reply_in, after, run, last_books, is_decided, is_store_failure, is_answer, outcome_of, counted_in, fails_for_good, has_failed, IsRun, IsStep}
+use Rattle.std.specs.Prelude.{◌⊎◌}
 use Rattle.shop_model.specs.Json.{escape_byte}
-use Rattle.shop_model.specs.Machine.{Reply, Sorry, Done, Shows}
-use Rattle.shop_model.specs.Answers.{Answer, answer_of, problem_answer}
-use Rattle.shop_model.specs.Books.{Books, Event, Caller, counted_one, caller_in, reply_in, after, run, last_books}
-use Rattle.shop_model.specs.Histories.{is_decided, is_store_failure, is_answer, outcome_of, counted_in, fails_for_good, has_failed, IsRun, IsStep}
 use Rattle.shop_model.proofs.Origins.{all_append}
 
 -- a decision's status is never the store's

@@ -1,17 +1,5 @@
 -- What a branch is told depends on its own shop, the catalogue and its view alone.
-use Rattle.std.proofs.Common.{◌≡◌, inl, inr, ℕ, List, [], ◌∷◌, ◌++◌, filter, Bool, true, false, refl, sym, ap, subst, ◌∙◌, append_assoc}
-use Rattle.std.specs.Prelude.{⊤, ◌==◌}
-use Rattle.std.specs.Str.{bytes_eq}
-use Rattle.std.proofs.lemmas.Bool.{cases_Bool, true≢false, false≢true}
-use Rattle.shop_model.specs.Calendar.{Moment}
-use Rattle.shop_model.specs.Values.{Act, AddCustomer, Dispatch, Command, OfficeAsk, Rules}
-use Rattle.shop_model.specs.Refusals.{Refusal}
-use Rattle.shop_model.specs.Shop.{Kept, Shop, Catalogue, same_command}
-use Rattle.shop_model.specs.Verdict.{Verdict, Again, Refused, Accepted, first, resent, refusals, act_refusals, verdict, office_verdict}
-use Rattle.shop_model.specs.Machine.{Reply, State, Request, Do, Office, Input, FromOffice, Own, done, office_done, if_accepted, moved, answers, replies, state_after}
-use Rattle.shop_model.specs.Books.{Books, Caller, Counter, HeadOffice, Nobody, shop_of, state_of, book_acted, book_done, branch_after, after_for, after, reply_for, reply_in, caller_in, is_counter, replies_to, run, parcel_seen, other_seen, office_seen, seen_of, view}
-use Rattle.shop_model.specs.Sound.{HasNumbers}
-use Rattle.shop_model.specs.Laws.{BranchesAreAlone, BranchesAreIsolated}
+use Rattle.shop_model.proofs.Common.{◌≡◌, inl, inr, ℕ, List, [], ◌∷◌, ◌++◌, filter, Bool, true, false, refl, sym, ap, subst, ◌∙◌, append_assoc, ⊤, ◌==◌, bytes_eq, cases_Bool, true≢false, false≢true, Moment, Act, AddCustomer, Dispatch, Command, OfficeAsk, Rules, Refusal, Kept, Shop, Catalogue, same_command, Verdict, Again, Refused, Accepted, first, resent, refusals, act_refusals, verdict, office_verdict, Reply, State, Request, Do, Office, Input, FromOffice, Own, done, office_done, if_accepted, moved, answers, replies, state_after, Books, Caller, Counter, HeadOffice, Nobody, shop_of, state_of, book_acted, book_done, branch_after, after_for, after, reply_for, reply_in, caller_in, is_counter, replies_to, run, parcel_seen, other_seen, office_seen, seen_of, view, HasNumbers, BranchesAreAlone, BranchesAreIsolated}
 use Rattle.shop_model.proofs.RowLemmas.{same_if, same_test}
 use Rattle.shop_model.proofs.ShopLemmas.{done_own, done_other, with_arrivals}
 use Rattle.shop_model.proofs.NumberLemmas.{after_numbers}

@@ -1,10 +1,5 @@
 -- Rows that are there stay there.
-use Rattle.std.proofs.Common.{◌≡◌, ◌≢◌, inl, inr, ℕ, ◌+◌, ◌-◌, List, [], ◌∷◌, ◌++◌, filter, map, length, Bool, true, false, not, refl, sym, ap, ◌∙◌, arith}
-use Rattle.std.specs.Prelude.{◌==◌, ◌&&◌, ◌||◌, flat_map}
-use Rattle.std.specs.List.{list_any, list_all}
-use Rattle.std.proofs.lemmas.Bool.{cases_Bool, or_parts, and_parts, not-true, false≢true}
-use Rattle.shop_model.specs.Rows.{at, lacks, set_at, set_all, set_among, arrived, numbered_from, mem}
-use Rattle.shop_model.specs.Links.{has_row, are_different}
+use Rattle.shop_model.proofs.Common.{◌≡◌, ◌≢◌, inl, inr, ℕ, ◌+◌, ◌-◌, List, [], ◌∷◌, ◌++◌, filter, map, length, Bool, true, false, not, refl, sym, ap, ◌∙◌, arith, ◌==◌, ◌&&◌, ◌||◌, flat_map, list_any, list_all, cases_Bool, or_parts, and_parts, not-true, false≢true, at, lacks, set_at, set_all, set_among, arrived, numbered_from, mem, has_row, are_different}
 use Rattle.shop_model.proofs.RowLemmas.{same_if, differ_if, differ_test}
 use Rattle.shop_model.proofs.GoodShops.{all_set}
 use Rattle.shop_model.proofs.Origins.{all_append}

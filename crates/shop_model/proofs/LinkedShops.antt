@@ -1,17 +1,5 @@
 -- Each step keeps what the rows of a shop name.
-use Rattle.std.proofs.Common.{◌≡◌, inl, inr, ℕ, ◌-◌, List, [], ◌∷◌, ◌++◌, filter, map, Bool, true, false, refl, sym, subst, ap, ◌∙◌}
-use Rattle.std.specs.Prelude.{⊤, ◌==◌, ◌&&◌}
-use Rattle.std.specs.Option.{option_to_list}
-use Rattle.std.specs.List.{list_any, list_all}
-use Rattle.std.specs.Str.{bytes_eq}
-use Rattle.std.proofs.lemmas.Bool.{cases_Bool}
-use Rattle.shop_model.specs.Rows.{Row, Owned, of, owned_by, is_of, next, put_all, set_rows, AreNumbered, at, lacks, set_at, set_all}
-use Rattle.shop_model.specs.Values.{Text, Customer, Copy, Rental, Payment, Arrival, Parcel, Act, Dispatch, Command, Rules}
-use Rattle.shop_model.specs.Shop.{Kept, Shop, Catalogue}
-use Rattle.shop_model.specs.Machine.{films_at, reply_text}
-use Rattle.shop_model.specs.Books.{Books, BookCopy, Line, Consignment, Table, Customers, CopyRows, Rentals, Payments, RowOf, rows_of, with_rows, Edit, Put, Set, PutLot, Append, Update, edited, edits_of, book_acted, book_done, shop_of, unmarked, as_arrival, as_parcel}
-use Rattle.shop_model.specs.Links.{has_row, are_different, is_staff_of, pays_for, is_parcel, IsLinkedShop}
-use Rattle.shop_model.specs.Sound.{HasNumbers}
+use Rattle.shop_model.proofs.Common.{◌≡◌, inl, inr, ℕ, ◌-◌, List, [], ◌∷◌, ◌++◌, filter, map, Bool, true, false, refl, sym, subst, ap, ◌∙◌, ⊤, ◌==◌, ◌&&◌, option_to_list, list_any, list_all, bytes_eq, cases_Bool, Row, Owned, of, owned_by, is_of, next, put_all, set_rows, AreNumbered, at, lacks, set_at, set_all, Text, Customer, Copy, Rental, Payment, Arrival, Parcel, Act, Dispatch, Command, Rules, Kept, Shop, Catalogue, films_at, reply_text, Books, BookCopy, Line, Consignment, Table, Customers, CopyRows, Rentals, Payments, RowOf, rows_of, with_rows, Edit, Put, Set, PutLot, Append, Update, edited, edits_of, book_acted, book_done, shop_of, unmarked, as_arrival, as_parcel, has_row, are_different, is_staff_of, pays_for, is_parcel, IsLinkedShop, HasNumbers}
 use Rattle.shop_model.proofs.RowLemmas.{same_test, more_yes, more_no, set_same, put_all_counted, set_rows_own, set_rows_counted}
 use Rattle.shop_model.proofs.ShopLemmas.{with_arrivals}
 use Rattle.shop_model.proofs.NumberLemmas.{tables_numbered}

@@ -1,19 +1,8 @@
 -- Books of version 1 become sound books, in which balances and overdue rentals are the same.
-use Rattle.std.proofs.Common.{◌≡◌, inl, inr, ℕ, ◌+◌, ◌*◌, List, [], ◌∷◌, ◌++◌, length, filter, map, Bool, true, false, refl, sym, ap, ap₂, subst, ◌∙◌, arith}
-use Rattle.std.specs.Prelude.{◌==◌, ◌&&◌, ◌-ℤ◌, pos, nat_lt, flat_map, zip, is_none}
-use Rattle.std.specs.List.{AllByRecursion, list_any, list_all}
-use Rattle.std.proofs.Math.Bool.{or-false}
-use Rattle.std.proofs.lemmas.Bool.{cases_Bool, and_parts, not-true}
-use Rattle.std.proofs.lemmas.List.{map-append, length-append}
-use Rattle.std.proofs.lemmas.List.Elements.{filter-append}
-use Rattle.shop_model.specs.Rows.{Row, IsCounted, AreNumbered, lacks, is_of, of, total}
-use Rattle.shop_model.specs.Calendar.{Moment, day_of, is_by}
-use Rattle.shop_model.specs.Values.{Film, Rental, Terms, Payment, Rule, ByCode, Rules}
-use Rattle.shop_model.specs.Shop.{Catalogue, Shop}
-use Rattle.shop_model.specs.Stock.{film_of, film_terms, terms_now, late_days, fee, balance, is_overdue}
-use Rattle.shop_model.specs.Books.{Books, shop_of}
-use Rattle.shop_model.specs.Links.{has_row, IsLinkedShop}
-use Rattle.shop_model.specs.Sound.{IsSoundBy, HasTerms}
+use Rattle.shop_model.proofs.Common.{◌≡◌, inl, inr, ℕ, ◌+◌, ◌*◌, List, [], ◌∷◌, ◌++◌, length, filter, map, Bool, true, false, refl, sym, ap, ap₂, subst, ◌∙◌, arith, ◌==◌, ◌&&◌, ◌-ℤ◌, nat_lt, flat_map, zip, is_none, AllByRecursion, list_any, list_all, or-false, cases_Bool, and_parts, not-true, map-append, filter-append, Row, IsCounted, AreNumbered, lacks, is_of, of, total, Moment, is_by, Film, Rental, Terms, Payment, Rule, ByCode, Rules, Catalogue, Shop, film_of, film_terms, terms_now, late_days, fee, balance, is_overdue, Books, shop_of, has_row, IsLinkedShop, IsSoundBy, HasTerms}
+use Rattle.std.specs.Prelude.{pos}
+use Rattle.std.proofs.lemmas.List.{length-append}
+use Rattle.shop_model.specs.Calendar.{day_of}
 use Rattle.shop_model.specs.Migration.{HasNoTerms, IsSoundWithoutTerms, film_fee, film_balance, is_film_overdue, row_terms, migrated, MigratedIsSound, SoundWithoutTerms, MigratedKeepsBalances}
 use Rattle.shop_model.proofs.RowLemmas.{same_if, same_test, length_map}
 use Rattle.shop_model.proofs.LinkLemmas.{all_joined}

@@ -1,16 +1,6 @@
 -- A command of head office that was accepted and comes again gets its first reply, whatever has happened since.
-use Rattle.std.proofs.Common.{◌≡◌, inl, inr, List, [], ◌∷◌, filter, true, sym, ap, ◌∙◌}
-use Rattle.std.specs.Prelude.{nat_le, length}
-use Rattle.std.specs.Str.{bytes_eq}
-use Rattle.std.proofs.lemmas.Bool.{cases_Bool}
-use Rattle.std.proofs.lemmas.Slice.Eq.{bytes_eq-Decides}
-use Rattle.shop_model.specs.Values.{Text, Film, Branch, ByCode, ByComment, OfficeAct, AddCountry, AddCity, AddLanguage, AddCategory, AddActor, AddFilm, PriceFilm, WithdrawFilm, AddCast, AddBranch, AddStaff, StaffLeaves, SetManager, ChooseRule, OfficeCommand, Rules}
-use Rattle.shop_model.specs.Refusals.{Full}
-use Rattle.shop_model.specs.Shop.{OfficeKept, Catalogue, same_film, same_branch, same_office_act, same_office}
-use Rattle.shop_model.specs.Verdict.{Accepted, verdict, office_resent, office_verdict, first, office_refusals}
-use Rattle.shop_model.specs.Machine.{Request, Do, Office, office_done, office_text}
-use Rattle.shop_model.specs.Books.{Books, Event, Caller, Counter, HeadOffice, shop_of, book_done, after_for, after, caller_in, last_books}
-use Rattle.shop_model.specs.Laws.{OfficeResentIsAgain}
+use Rattle.shop_model.proofs.Common.{◌≡◌, inl, inr, List, [], ◌∷◌, filter, true, sym, ap, ◌∙◌, nat_le, bytes_eq, cases_Bool, bytes_eq-Decides, Text, Film, Branch, ByCode, ByComment, OfficeAct, AddCountry, AddCity, AddLanguage, AddCategory, AddActor, AddFilm, PriceFilm, WithdrawFilm, AddCast, AddBranch, AddStaff, StaffLeaves, SetManager, ChooseRule, OfficeCommand, Rules, Full, OfficeKept, Catalogue, same_film, same_branch, same_office_act, same_office, Accepted, verdict, office_resent, office_verdict, first, office_refusals, Request, Do, Office, office_done, office_text, Books, Event, Caller, Counter, HeadOffice, shop_of, book_done, after_for, after, caller_in, last_books, OfficeResentIsAgain}
+use Rattle.std.specs.Prelude.{length}
 use Rattle.shop_model.proofs.RowLemmas.{same_test, one_more}
 use Rattle.shop_model.proofs.Isolation.{is_accepted, accepted_is, not_accepted, catalogue_stays}
 use Rattle.shop_model.proofs.GoodCatalogues.{none_kept}

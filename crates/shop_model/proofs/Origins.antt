@@ -1,14 +1,6 @@
 -- Each step keeps that every mark was made, with its film.
-use Rattle.std.proofs.Common.{◌≡◌, inl, inr, ℕ, ◌+◌, List, [], ◌∷◌, ◌++◌, filter, map, Bool, true, not, refl, sym, ap, ◌∙◌, append-nil, append_assoc}
-use Rattle.std.specs.Prelude.{◌&&◌, flat_map}
-use Rattle.std.specs.List.{list_any, list_all}
-use Rattle.std.proofs.Math.Bool.{or-true}
-use Rattle.std.proofs.lemmas.Bool.{cases_Bool, and_parts, false≢true}
-use Rattle.shop_model.specs.Rows.{arrived, Row, update_where, is_row, next, put, put_all, set_row, set_rows, mem, numbered_from}
-use Rattle.shop_model.specs.Values.{CopyState, Sent, Scrapped, Act, Import, Dispatch, Receive, Scrap, Command, Rules}
-use Rattle.shop_model.specs.Machine.{films_in}
-use Rattle.shop_model.specs.Books.{Books, BookCopy, Mark, Line, Consignment, book_acted, is_consignment, imported, unpacked, put_state, rows_at, under_way, checked, checked_line, come, new_consignment}
-use Rattle.shop_model.specs.Sound.{is_made_as, all_lines, HasOrigins}
+use Rattle.shop_model.proofs.Common.{◌≡◌, inl, inr, ℕ, ◌+◌, List, [], ◌∷◌, ◌++◌, filter, map, Bool, true, not, refl, sym, ap, ◌∙◌, append-nil, append_assoc, ◌&&◌, flat_map, list_any, list_all, or-true, cases_Bool, and_parts, false≢true, arrived, Row, update_where, is_row, next, put_all, set_row, set_rows, mem, numbered_from, CopyState, Sent, Scrapped, Act, Import, Dispatch, Receive, Scrap, Command, Rules, films_in, Books, BookCopy, Mark, Line, Consignment, book_acted, is_consignment, imported, unpacked, put_state, rows_at, under_way, checked, checked_line, come, new_consignment, is_made_as, all_lines, HasOrigins}
+use Rattle.shop_model.specs.Rows.{put}
 use Rattle.shop_model.proofs.RowLemmas.{same_test}
 use Rattle.shop_model.proofs.GoodShops.{all_weaker}
 

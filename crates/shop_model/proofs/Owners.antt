@@ -1,18 +1,6 @@
 -- Each step keeps that the branches of rows are there, and the places of consignments.
-use Rattle.std.proofs.Common.{◌≡◌, inl, inr, ℕ, ◌+◌, List, [], ◌∷◌, map, length, Bool, true, not, refl, subst, ap, ◌∙◌, arith}
-use Rattle.std.specs.Prelude.{◌==◌}
-use Rattle.std.specs.List.{list_any, list_all}
-use Rattle.std.proofs.lemmas.Bool.{cases_Bool, and_parts, false≢true}
-use Rattle.std.proofs.lemmas.List.{map_push}
-use Rattle.shop_model.specs.Rows.{Row, Owned, at, next, put, put_all, set_row, set_rows, update_where, is_row, IsCounted}
-use Rattle.shop_model.specs.Calendar.{Moment}
-use Rattle.shop_model.specs.Values.{Text, Branch, Staff, Customer, Rental, Terms, Payment, Act, Dispatch, Receive, Command, Rules}
-use Rattle.shop_model.specs.Shop.{Kept, Catalogue}
-use Rattle.shop_model.specs.Verdict.{act_refusals, staff_is}
-use Rattle.shop_model.specs.Machine.{reply_text}
-use Rattle.shop_model.specs.Books.{Books, BookCopy, Consignment, Table, Customers, CopyRows, Rentals, TermRows, Payments, RowOf, rows_of, with_rows, Edit, Put, Set, PutLot, Append, Update, edited, edits_of, shop_of, book_acted, book_done}
-use Rattle.shop_model.specs.Links.{has_row, is_staff_of}
-use Rattle.shop_model.specs.Sound.{HasOwners}
+use Rattle.shop_model.proofs.Common.{◌≡◌, inl, inr, ℕ, ◌+◌, List, [], ◌∷◌, map, length, Bool, true, not, refl, subst, ap, ◌∙◌, arith, ◌==◌, list_any, list_all, cases_Bool, and_parts, false≢true, map_push, Row, Owned, at, next, put_all, set_row, set_rows, update_where, is_row, IsCounted, Moment, Text, Branch, Staff, Customer, Rental, Terms, Payment, Act, Dispatch, Receive, Command, Rules, Kept, Catalogue, act_refusals, staff_is, reply_text, Books, BookCopy, Consignment, Table, Customers, CopyRows, Rentals, TermRows, Payments, RowOf, rows_of, with_rows, Edit, Put, Set, PutLot, Append, Update, edited, edits_of, shop_of, book_acted, book_done, has_row, is_staff_of, HasOwners}
+use Rattle.shop_model.specs.Rows.{put}
 use Rattle.shop_model.proofs.RowLemmas.{same_if, length_map, counted_more}
 use Rattle.shop_model.proofs.Isolation.{NoneHold}
 use Rattle.shop_model.proofs.EditLemmas.{by_table, AskedOfSend, AskedOfSends, sends_keep}

@@ -1,15 +1,6 @@
 -- The first refusal that holds is the lowest, since each list of them rises.
-use Rattle.std.proofs.Common.{◌≡◌, ℕ, ◌≤◌, List, [], ◌∷◌, true, false, refl, arith, sym, ap, ◌∙◌}
-use Rattle.std.specs.Prelude.{Bool, nat_lt, nat_le, length, if◌then◌else◌}
-use Rattle.std.specs.List.{AllByRecursion}
-use Rattle.std.proofs.Math.Nat.{le_refl}
-use Rattle.std.proofs.lemmas.Bool.{and_parts, leb-true, false≢true}
-use Rattle.shop_model.specs.Refusals.{Refusal, Full, refusal_number}
-use Rattle.shop_model.specs.Values.{Text, Rules, Act, Import, OfficeAct, AddCountry, Stock, Copies, BadLine}
-use Rattle.shop_model.specs.Calendar.{Moment}
-use Rattle.shop_model.specs.Shop.{Catalogue, Shop}
-use Rattle.shop_model.specs.Verdict.{Verdict, Again, Refused, Accepted, first, import_refusals, act_refusals, refusals, office_refusals}
-use Rattle.shop_model.specs.Laws.{rise_from, IsLowest, RefusalsAreInOrder}
+use Rattle.shop_model.proofs.Common.{◌≡◌, ℕ, ◌≤◌, List, [], ◌∷◌, true, false, refl, arith, sym, ap, ◌∙◌, nat_lt, nat_le, if◌then◌else◌, AllByRecursion, le_refl, and_parts, leb-true, false≢true, Refusal, Full, refusal_number, Text, Rules, Act, Import, OfficeAct, AddCountry, Stock, Copies, BadLine, Moment, Catalogue, Shop, Verdict, Again, Refused, Accepted, first, import_refusals, act_refusals, refusals, office_refusals, rise_from, IsLowest, RefusalsAreInOrder}
+use Rattle.std.specs.Prelude.{Bool, length}
 
 -- what rises from above n has no number below it
 none_below : (n m : ℕ) (tests : List (Refusal × Bool)) → n ≤ m → rise_from m tests ≡ true → AllByRecursion (λ test. test.1 ≡ true → n ≤ refusal_number test.0) tests

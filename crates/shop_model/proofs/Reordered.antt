@@ -1,18 +1,6 @@
 -- States of which the one has its maps and sets in another order are the same to a branch.
-use Rattle.std.proofs.Common.{◌≡◌, inl, inr, List, [], ◌∷◌, find, Bool, true, false, not, Option, None, Some, refl, sym, subst, ◌∙◌, All, IsPermutation}
-use Rattle.std.specs.Prelude.{◌==◌, ◌&&◌}
-use Rattle.std.specs.Str.{bytes_eq}
-use Rattle.std.specs.List.{list_any, AllByRecursion}
-use Rattle.std.proofs.lemmas.Bool.{cases_Bool, and_parts, or_parts, not-true, true≢false, false≢true}
-use Rattle.std.proofs.lemmas.List.Elements.{All-nil, All-cons, All-from_recursion, recursion_from_All}
-use Rattle.std.proofs.lemmas.List.Folds.{list_any_none}
+use Rattle.shop_model.proofs.Common.{◌≡◌, inl, inr, List, [], ◌∷◌, find, Bool, true, false, not, Option, None, Some, refl, sym, subst, ◌∙◌, All, IsPermutation, ◌==◌, ◌&&◌, bytes_eq, list_any, AllByRecursion, cases_Bool, and_parts, or_parts, not-true, true≢false, false≢true, All-nil, All-cons, All-from_recursion, recursion_from_All, list_any_none, bytes_eq-Decides, Text, Cast, Kept, OfficeKept, State, are_different, SameState, IsReordered}
 use Rattle.std.proofs.lemmas.List.Sorted.{All-permutation, IsPermutation-sym, length_permutation}
-use Rattle.std.proofs.lemmas.Slice.Eq.{bytes_eq-Decides}
-use Rattle.shop_model.specs.Values.{Text, Cast}
-use Rattle.shop_model.specs.Shop.{Kept, OfficeKept}
-use Rattle.shop_model.specs.Machine.{State}
-use Rattle.shop_model.specs.Links.{are_different}
-use Rattle.shop_model.specs.SameStates.{SameState, IsReordered}
 
 -- ---- sets
 

@@ -1,12 +1,5 @@
 -- A history without its repeats.
-use Rattle.std.proofs.Common.{◌≡◌, inl, inr, [], ◌∷◌, true, refl, ap}
-use Rattle.std.proofs.lemmas.Bool.{cases_Bool, false≢true}
-use Rattle.shop_model.specs.Values.{Rules}
-use Rattle.shop_model.specs.Verdict.{Verdict, Again, Refused, Accepted, verdict, office_verdict}
-use Rattle.shop_model.specs.Machine.{Request, Do, Office, if_accepted, office_done}
-use Rattle.shop_model.specs.Books.{Books, Caller, Counter, HeadOffice, shop_of, book_done, after_for, after, caller_in, reply_in}
-use Rattle.shop_model.specs.Repeats.{is_again, repeats}
-use Rattle.shop_model.specs.Laws.{RepeatsChangeNothing}
+use Rattle.shop_model.proofs.Common.{◌≡◌, inl, inr, [], ◌∷◌, true, refl, ap, cases_Bool, false≢true, Rules, Verdict, Again, Refused, Accepted, verdict, office_verdict, Request, Do, Office, if_accepted, office_done, Books, Caller, Counter, HeadOffice, shop_of, book_done, after_for, after, caller_in, reply_in, is_again, repeats, RepeatsChangeNothing}
 
 again_leaves : {A : Type 0} (v : Verdict) (x y : A) → is_again v ≡ true → if_accepted v x y ≡ y
 again_leaves (Again text) x y e = refl

@@ -1,25 +1,7 @@
 -- In a run a command that comes again gets its first reply, and changes nothing.
-use Rattle.std.proofs.Common.{◌≡◌, inl, inr, ℕ, zero, suc, ◌+◌, ◌-◌, ◌<◌, length, List, [], ◌∷◌, ◌++◌, filter, map, Bool, true, false, not, Some, None, Option, refl, sym, subst, ap, ◌∙◌, arith, append-nil}
-use Rattle.std.specs.Prelude.{◌==◌, ◌&&◌, nat_le, slice_get, ⊤}
-use Rattle.std.specs.List.{list_any, list_all}
-use Rattle.std.specs.Str.{bytes_eq}
-use Rattle.std.proofs.lemmas.Bool.{cases_Bool, or_parts, and_parts, not-true, false≢true}
-use Rattle.shop_model.specs.Rows.{Owned, set_at, owned_by}
-use Rattle.shop_model.specs.Values.{Text, Branch, Command, OfficeAct, AddBranch, SetManager, OfficeCommand, OfficeAsk, Rules}
-use Rattle.shop_model.specs.Refusals.{Refusal, TooLong, NoCounter, NoRoute, BadBody, KeyUsed, Full, MomentBack, NoStaff, NoCustomer, CustomerInactive, NoCopy, CopyNotHere, CopyOut, FilmWithdrawn, SameMoment, NoRental, RentalReturned, WrongCustomer, NoFilm, LotIn, BadCsv, NoBranch, OwnBranch, NoArrival, ArrivalReceived, BadLines, BadThreshold, TokenTaken, NoSharedRow, Already, Usage}
-use Rattle.shop_model.specs.Shop.{Kept, OfficeKept, Catalogue, same_command, same_office}
-use Rattle.shop_model.specs.Verdict.{Verdict, Again, Refused, Accepted, resent, verdict, first, refusals, office_refusals, office_resent, office_verdict}
-use Rattle.shop_model.specs.Machine.{Request, Do, Office, Reply, Sorry, Done, reply_text, office_text, reply_by, if_accepted, office_acted, office_done, catalogue_after}
-use Rattle.shop_model.specs.Answers.{Answer, answer_of}
-use Rattle.shop_model.specs.Books.{Books, Event, Caller, Counter, HeadOffice, Nobody, shop_of, book_done, branch_with, caller_of, reply_for, after_for, after, caller_in, reply_in, run}
-use Rattle.shop_model.specs.Histories.{is_decided, is_store_failure, fails_for_good, counted_in}
-use Rattle.shop_model.specs.Repeats.{are_new, marked_ones}
-use Rattle.shop_model.specs.Resends.{books_next, books_at, FindsCounted, Asks, is_command, Keeps, IsRepeat, GetsKeptReply, is_nobody, KeepsCallers, RunsResend, KeptRowsAreKept}
+use Rattle.shop_model.proofs.Common.{◌≡◌, inl, inr, ℕ, zero, suc, ◌+◌, ◌-◌, ◌<◌, length, List, [], ◌∷◌, ◌++◌, filter, map, Bool, true, false, not, Some, None, Option, refl, sym, subst, ap, ◌∙◌, arith, append-nil, ◌==◌, ◌&&◌, nat_le, slice_get, ⊤, list_any, list_all, bytes_eq, cases_Bool, or_parts, and_parts, not-true, false≢true, Owned, set_at, owned_by, Text, Branch, Command, OfficeAct, AddBranch, SetManager, OfficeCommand, OfficeAsk, Rules, Refusal, TooLong, NoCounter, NoRoute, BadBody, KeyUsed, Full, MomentBack, NoStaff, NoCustomer, CustomerInactive, NoCopy, CopyNotHere, CopyOut, FilmWithdrawn, SameMoment, NoRental, RentalReturned, WrongCustomer, NoFilm, LotIn, BadCsv, NoBranch, OwnBranch, NoArrival, ArrivalReceived, BadLines, BadThreshold, TokenTaken, NoSharedRow, Already, Usage, Kept, OfficeKept, Catalogue, same_command, same_office, Verdict, Again, Refused, Accepted, resent, verdict, first, refusals, office_refusals, office_resent, office_verdict, Request, Do, Office, Reply, Sorry, Done, reply_text, office_text, reply_by, if_accepted, office_acted, office_done, catalogue_after, Answer, answer_of, Books, Event, Caller, Counter, HeadOffice, Nobody, shop_of, book_done, branch_with, caller_of, reply_for, after_for, after, caller_in, reply_in, run, is_decided, is_store_failure, fails_for_good, counted_in, are_new, marked_ones, books_next, books_at, FindsCounted, Asks, is_command, Keeps, IsRepeat, GetsKeptReply, is_nobody, KeepsCallers, RunsResend, KeptRowsAreKept, are_different, bytes_eq-Decides, filter-append}
 use Rattle.shop_model.proofs.RowLemmas.{more_yes, more_no}
 use Rattle.shop_model.proofs.Resent.{bytes_same, command_same as branch_same, resent_again}
-use Rattle.shop_model.specs.Links.{are_different}
-use Rattle.std.proofs.lemmas.Slice.Eq.{bytes_eq-Decides}
-use Rattle.std.proofs.lemmas.List.Elements.{filter-append}
 use Rattle.shop_model.proofs.OfficeResent.{command_same as office_same, office_resent_again}
 use Rattle.shop_model.proofs.Repeats as repeats
 use Rattle.shop_model.proofs.Histories.{decided_failure}

@@ -1,17 +1,6 @@
 -- A command that was accepted and comes again gets its first reply, whatever has happened since.
-use Rattle.std.proofs.Common.{◌≡◌, inl, inr, ℕ, List, [], ◌∷◌, ◌++◌, filter, Bool, true, false, None, Some, refl, sym, subst, ap, ◌∙◌}
-use Rattle.std.specs.Prelude.{Option, ◌==◌}
-use Rattle.std.specs.Str.{bytes_eq}
-use Rattle.std.proofs.lemmas.Bool.{cases_Bool}
-use Rattle.std.proofs.lemmas.Slice.Eq.{bytes_eq-Decides}
-use Rattle.shop_model.specs.Rows.{Owned}
-use Rattle.shop_model.specs.Calendar.{Moment, same_moment}
-use Rattle.shop_model.specs.Values.{Text, Person, Act, AddCustomer, SetActive, Rent, TakeBack, Pay, Import, Dispatch, Receive, Scrap, Command, Rules}
-use Rattle.shop_model.specs.Shop.{Kept, Shop, same_option, same_flag, same_person, same_act, same_command}
-use Rattle.shop_model.specs.Verdict.{Accepted, resent, verdict, first, refusals}
-use Rattle.shop_model.specs.Machine.{Request, Do, Office, reply_text}
-use Rattle.shop_model.specs.Books.{Books, Event, Caller, Counter, HeadOffice, shop_of, book_done, after_for, after, caller_in, last_books}
-use Rattle.shop_model.specs.Laws.{ResentIsAgain}
+use Rattle.shop_model.proofs.Common.{◌≡◌, inl, inr, ℕ, List, [], ◌∷◌, ◌++◌, filter, Bool, true, false, None, Some, refl, sym, subst, ap, ◌∙◌, ◌==◌, bytes_eq, cases_Bool, bytes_eq-Decides, Owned, Moment, same_moment, Text, Person, Act, AddCustomer, SetActive, Rent, TakeBack, Pay, Import, Dispatch, Receive, Scrap, Command, Rules, Kept, Shop, same_option, same_flag, same_person, same_act, same_command, Accepted, resent, verdict, first, refusals, Request, Do, Office, reply_text, Books, Event, Caller, Counter, HeadOffice, shop_of, book_done, after_for, after, caller_in, last_books, ResentIsAgain}
+use Rattle.std.specs.Prelude.{Option}
 use Rattle.shop_model.proofs.RowLemmas.{same_test, same_if, one_more, more_yes, more_no}
 use Rattle.shop_model.proofs.Isolation.{is_accepted, accepted_is, not_accepted, none_kept}
 

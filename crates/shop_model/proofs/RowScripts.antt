@@ -1,13 +1,6 @@
 -- The words in which the worked rows are written: who asks what, and what is answered.
-use Rattle.std.specs.Prelude.{◌≡◌, ℕ, if◌then◌else◌, List, [], ◌∷◌, map, codes, Some}
-use Rattle.std.specs.Str.{bytes_eq}
-use Rattle.shop_model.specs.Calendar.{Moment}
-use Rattle.shop_model.specs.Values.{Text, Person, Act, OfficeAct, Ask, OfficeAsk, Stock, Copies, BadLine, Rules}
-use Rattle.shop_model.specs.Machine.{Request, Do, Look, Office, OfficeLook, Reply}
-use Rattle.shop_model.specs.Answers.{Answer, answer_of}
-use Rattle.shop_model.specs.Opening.{token_of, opening_books}
-use Rattle.shop_model.specs.Books.{Books, Event, Caller, run, last_books}
-use Rattle.shop_model.specs.Office.{office_look}
+use Rattle.std.specs.Prelude.{◌≡◌, ℕ, List, [], ◌∷◌, map, Some}
+use Rattle.shop_model.proofs.Common.{if◌then◌else◌, codes, bytes_eq, Moment, Text, Person, Act, OfficeAct, Ask, OfficeAsk, Stock, Copies, BadLine, Rules, Request, Do, Look, Office, OfficeLook, Reply, Answer, answer_of, token_of, opening_books, Books, Event, Caller, run, last_books, office_look}
 
 -- ---- moments
 

@@ -1,15 +1,10 @@
 -- Worked rows: consignments, and where each copy is.
-use Rattle.std.proofs.Common.{◌≡◌, ℕ, List, [], ◌∷◌, ◌++◌, true, refl}
-use Rattle.std.specs.Prelude.{codes}
+use Rattle.shop_model.proofs.Common.{◌≡◌, ℕ, List, [], ◌∷◌, ◌++◌, true, refl, codes, Here, AddCustomer, Rent, TakeBack, Import, Dispatch, Receive, Scrap, Arrivals, SentOff, Custody, Transit, Audit, Books, made, transit, gone, set_row, put_state}
 use Rattle.std.specs.Fmt.{digits}
 use Rattle.shop_model.specs.Json.{escape_byte}
 use Rattle.shop_model.specs.Calendar.{day_of, day_number, days_of_years, days_of_months, seconds_of}
-use Rattle.shop_model.specs.Values.{Here, AddCustomer, Rent, TakeBack, Import, Dispatch, Receive, Scrap, Arrivals, SentOff, Custody, Transit, Audit}
-use Rattle.shop_model.specs.Books.{Books}
-use Rattle.shop_model.specs.Sound.{made, here, transit, gone}
+use Rattle.shop_model.specs.Sound.{here}
 use Rattle.shop_model.proofs.RowScripts.{ten, four_copies, two_copies, one_copy, limited, rules, does, asks, wants, mary, ok, no, Script, Plays, books_after}
-use Rattle.shop_model.specs.Rows.{set_row}
-use Rattle.shop_model.specs.Books.{put_state}
 
 -- the first branch has four copies, the second two
 abbrev pub stocked : Script

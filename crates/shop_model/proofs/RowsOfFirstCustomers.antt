@@ -1,12 +1,8 @@
 -- Worked rows: a customer, keys that come again, callers and limits.
-use Rattle.std.proofs.Common.{[], ◌∷◌, ◌++◌, None, refl}
-use Rattle.std.specs.Prelude.{codes}
+use Rattle.shop_model.proofs.Common.{[], ◌∷◌, ◌++◌, None, refl, codes, AddCustomer, Pay, Import, OneCustomer, Arrivals, Sales, NoRoute, BadBody, Unread, Look, OfficeLook}
 use Rattle.std.specs.Fmt.{digits}
 use Rattle.shop_model.specs.Json.{escape_byte}
 use Rattle.shop_model.specs.Calendar.{day_of, day_number, days_of_years, days_of_months, seconds_of}
-use Rattle.shop_model.specs.Values.{AddCustomer, Pay, Import, OneCustomer, Arrivals, Sales}
-use Rattle.shop_model.specs.Refusals.{NoRoute, BadBody}
-use Rattle.shop_model.specs.Machine.{Unread, Look, OfficeLook}
 use Rattle.shop_model.proofs.RowScripts.{moment, ten, march, four_copies, three_copies, limited, rules, sends, does_by, does, asks, named, mary, ok, no, Script, Plays}
 
 -- the first request of all

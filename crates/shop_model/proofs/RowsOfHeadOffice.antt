@@ -1,15 +1,8 @@
 -- Worked rows: what head office adds, changes and withdraws.
-use Rattle.std.proofs.Common.{ℕ, [], ◌∷◌, false, None, refl}
-use Rattle.std.specs.Prelude.{codes}
+use Rattle.shop_model.proofs.Common.{ℕ, [], ◌∷◌, false, None, refl, codes, Film, Branch, ByCode, ByComment, AddCustomer, Import, AddCountry, AddCity, AddLanguage, AddCategory, AddActor, AddFilm, PriceFilm, WithdrawFilm, AddCast, AddBranch, AddStaff, StaffLeaves, SetManager, ChooseRule, OneFilm, Sales, Usage, Unread, token_of, Catalogue, opening}
 use Rattle.std.specs.Fmt.{digits}
 use Rattle.shop_model.specs.Json.{escape_byte}
 use Rattle.shop_model.specs.Calendar.{day_of, day_number, days_of_years, days_of_months, seconds_of}
-use Rattle.shop_model.specs.Values.{Film, Branch, ByCode, ByComment, AddCustomer, Import, AddCountry, AddCity, AddLanguage, AddCategory, AddActor, AddFilm, PriceFilm, WithdrawFilm, AddCast, AddBranch, AddStaff, StaffLeaves, SetManager, ChooseRule, OneFilm, Sales}
-use Rattle.shop_model.specs.Refusals.{Usage}
-use Rattle.shop_model.specs.Machine.{Unread}
-use Rattle.shop_model.specs.Opening.{token_of}
-use Rattle.shop_model.specs.Shop.{Catalogue}
-use Rattle.shop_model.specs.Sound.{opening}
 use Rattle.shop_model.proofs.RowScripts.{ten, one_comedy, limited, rules, sends, does, asks, orders, wants, mary, ok, no, Plays, PlaysOn}
 
 abbrev stone : Film

@@ -1,16 +1,9 @@
 -- Worked rows: whole histories of several branches.
-use Rattle.std.proofs.Common.{◌≡◌, ℕ, List, [], ◌∷◌, ◌++◌, map, Some, refl}
-use Rattle.std.specs.Prelude.{codes, decimal}
+use Rattle.shop_model.proofs.Common.{◌≡◌, ℕ, List, [], ◌∷◌, ◌++◌, map, Some, refl, codes, decimal, Moment, AddCustomer, Rent, TakeBack, Pay, Import, Dispatch, Receive, FilmList, InStock, HeldBy, Balance, OneView, Audit, Answer, answer_of, opening_books, Event, run, replies_to, office_look, replicate}
 use Rattle.std.specs.Fmt.{digits}
 use Rattle.shop_model.specs.Json.{escape_byte}
-use Rattle.shop_model.specs.Calendar.{Moment, day_of, day_number, days_of_years, days_of_months, seconds_of}
-use Rattle.shop_model.specs.Values.{AddCustomer, Rent, TakeBack, Pay, Import, Dispatch, Receive, FilmList, InStock, HeldBy, Balance, OneView, Audit}
-use Rattle.shop_model.specs.Answers.{Answer, answer_of}
-use Rattle.shop_model.specs.Opening.{opening_books}
-use Rattle.shop_model.specs.Books.{Event, run, replies_to}
-use Rattle.shop_model.specs.Office.{office_look}
+use Rattle.shop_model.specs.Calendar.{day_of, day_number, days_of_years, days_of_months, seconds_of}
 use Rattle.shop_model.proofs.RowScripts.{moment, ten, two_copies, one_copy, rules, does, asks, wants, mary, ok, Plays}
-use Rattle.std.specs.Prelude.{replicate}
 use Rattle.shop_model.proofs.RowsOfRentals.{four_copies_in}
 
 -- the same, counted from 1

@@ -1,10 +1,8 @@
 -- Worked rows: payments, balances, overdue rentals and rewards.
-use Rattle.std.proofs.Common.{◌≡◌, [], ◌∷◌, ◌++◌, Some, None, refl}
-use Rattle.std.specs.Prelude.{codes}
+use Rattle.shop_model.proofs.Common.{◌≡◌, [], ◌∷◌, ◌++◌, Some, None, refl, codes, days_in_month, ByCode, ByComment, AddCustomer, Rent, TakeBack, Pay, Import, PriceFilm, ChooseRule, Balance, Overdue, Rewards}
 use Rattle.std.specs.Fmt.{digits}
 use Rattle.shop_model.specs.Json.{escape_byte}
-use Rattle.shop_model.specs.Calendar.{day_of, day_number, days_of_years, days_of_months, seconds_of, days_in_month}
-use Rattle.shop_model.specs.Values.{ByCode, ByComment, AddCustomer, Rent, TakeBack, Pay, Import, PriceFilm, ChooseRule, Balance, Overdue, Rewards}
+use Rattle.shop_model.specs.Calendar.{day_of, day_number, days_of_years, days_of_months, seconds_of}
 use Rattle.shop_model.proofs.RowScripts.{moment, ten, march, one_copy, rules, does, asks, orders, mary, ok, no, Script, Plays}
 
 -- one copy of the first film, at 499 cents for three days, and one customer

@@ -1,10 +1,8 @@
 -- Worked rows: stock files, rentals and what is in stock.
-use Rattle.std.proofs.Common.{[], ◌∷◌, ◌++◌, false, refl}
-use Rattle.std.specs.Prelude.{codes}
+use Rattle.shop_model.proofs.Common.{[], ◌∷◌, ◌++◌, false, refl, codes, AddCustomer, SetActive, Rent, TakeBack, Import, Scrap, InStock, HeldBy, FilmInStock, FilmNotInStock}
 use Rattle.std.specs.Fmt.{digits}
 use Rattle.shop_model.specs.Json.{escape_byte}
 use Rattle.shop_model.specs.Calendar.{day_of, day_number, days_of_years, days_of_months, seconds_of}
-use Rattle.shop_model.specs.Values.{AddCustomer, SetActive, Rent, TakeBack, Import, Scrap, InStock, HeldBy, FilmInStock, FilmNotInStock}
 use Rattle.shop_model.proofs.RowScripts.{ten, four_copies, two_copies, two_and_unknown, none_on_third_line, header_alone, limited, rules, does, asks, mary, ok, no, Script, Plays}
 
 -- the first branch has copies 1 to 3 of the first film and copy 4 of the second

@@ -1,10 +1,8 @@
 -- Worked rows: the views, and head office's sales.
-use Rattle.std.proofs.Common.{[], ◌∷◌, ◌++◌, false, Some, None, refl}
-use Rattle.std.specs.Prelude.{codes}
+use Rattle.shop_model.proofs.Common.{[], ◌∷◌, ◌++◌, false, Some, None, refl, codes, SetActive, Rent, Pay, CustomerList, StaffList, FilmList, ActorInfo, SalesByStore, SalesByCategory, OneView, Sales}
 use Rattle.std.specs.Fmt.{digits}
 use Rattle.shop_model.specs.Json.{escape_byte}
 use Rattle.shop_model.specs.Calendar.{day_of, day_number, days_of_years, days_of_months, seconds_of}
-use Rattle.shop_model.specs.Values.{SetActive, Rent, Pay, CustomerList, StaffList, FilmList, ActorInfo, SalesByStore, SalesByCategory, OneView, Sales}
 use Rattle.shop_model.proofs.RowScripts.{ten, rules, does, asks, wants, ok, Plays}
 use Rattle.shop_model.proofs.RowsOfPayments.{copy_and_customer, five_days_out}
 use Rattle.shop_model.proofs.RowsOfRentals.{four_copies_in, two_customers}

@@ -1,24 +1,9 @@
 -- In states that are the same but for the order of maps and sets a branch is told the same, and each step leaves such states.
-use Rattle.std.proofs.Common.{◌≡◌, inl, inr, ℕ, ◌+◌, List, [], ◌∷◌, ◌++◌, length, filter, find, Bool, true, false, Option, None, Some, refl, sym, ap, ap₂, subst, ◌∙◌, arith, length-append}
+use Rattle.shop_model.proofs.Common.{◌≡◌, inl, inr, ℕ, ◌+◌, List, [], ◌∷◌, ◌++◌, length, filter, find, Bool, true, false, Option, None, Some, refl, sym, ap, ap₂, subst, ◌∙◌, arith, length-append, ◌==◌, ◌&&◌, ◌||◌, nat_lt, nat_le, if◌then◌else◌, codes, option_or, bytes_eq, list_any, join_by, cases_Bool, find-append, list_any-append, at, is_empty, lacks, numbered, Moment, month_before, Text, Actor, Film, Cast, Act, AddCustomer, Import, Command, OfficeAct, AddCountry, AddCast, OfficeCommand, View, FilmList, ActorInfo, Ask, Rewards, OneView, Stock, Copies, BadLine, Rules, Refusal, KeyUsed, Full, MomentBack, NoStaff, NoFilm, FilmWithdrawn, LotIn, BadCsv, NoSharedRow, Already, BadThreshold, Kept, OfficeKept, Catalogue, Shop, same_command, same_office, rewarded_in, Verdict, Again, Refused, Accepted, first, staff_is, is_film_withdrawn, new_copies, is_full, import_refusals, act_refusals, is_before, refusals, resent, verdict, office_refusals, office_resent, office_verdict, object, acted, reply_text, done, office_acted, office_told, office_text, office_done, Request, Do, Look, CustomersAre, FilmsListed, ActorsListed, Reply, Sorry, Shows, view_rows, look, reply_by, reply_to, if_accepted, State, Input, FromOffice, Arrive, Own, shop_after, catalogue_after, moved, answers, rest_of_shop, rest_of_catalogue, SameShop, SameCatalogue, SameState, IsToldTheSame, OrderTellsNothing}
 use mathlib.Core.Path.{fun_ext}
-use Rattle.std.specs.Prelude.{◌==◌, ◌&&◌, ◌||◌, nat_lt, nat_le, not, if◌then◌else◌, codes, map}
-use Rattle.std.specs.Option.{option_or}
-use Rattle.std.specs.Str.{bytes_eq}
-use Rattle.std.specs.List.{list_any, join_by}
-use Rattle.std.proofs.lemmas.Bool.{cases_Bool}
-use Rattle.std.proofs.lemmas.List.Folds.{find-append, list_any-append}
-use Rattle.shop_model.specs.Rows.{at, is_empty, lacks, numbered}
-use Rattle.shop_model.specs.Calendar.{Moment, month_before}
-use Rattle.shop_model.specs.Values.{Text, Actor, Film, Cast, Act, AddCustomer, Import, Command, OfficeAct, AddCountry, AddCast, OfficeCommand, View, FilmList, ActorInfo, Ask, Rewards, OneView, Stock, Copies, BadLine, Rules}
-use Rattle.shop_model.specs.Refusals.{Refusal, KeyUsed, Full, MomentBack, NoStaff, NoFilm, FilmWithdrawn, LotIn, BadCsv, NoSharedRow, Already, BadThreshold}
-use Rattle.shop_model.specs.Shop.{Kept, OfficeKept, Catalogue, Shop, same_command, same_office}
-use Rattle.shop_model.specs.Stock.{rewarded_in}
+use Rattle.std.specs.Prelude.{not, map}
 use Rattle.shop_model.specs.Views.{sorted_by, is_before_text, full_name, is_cast, FilmRow, film_row, film_list, categories_by_name, ActorRow, actor_row, actor_info}
-use Rattle.shop_model.specs.Verdict.{Verdict, Again, Refused, Accepted, first, staff_is, is_film_withdrawn, new_copies, is_full, import_refusals, act_refusals, is_before, refusals, resent, verdict, office_refusals, office_resent, office_verdict}
-use Rattle.shop_model.specs.Json.{object}
-use Rattle.shop_model.specs.Machine.{acted, told, reply_text, done, office_acted, office_told, office_text, office_done, Request, Do, Look, Shown, CustomersAre, FilmsListed, ActorsListed, Reply, Sorry, Shows, view_rows, look, reply_by, reply_to, if_accepted, State, Input, FromOffice, Arrive, Own, shop_after, catalogue_after, moved, answers}
-use Rattle.shop_model.specs.SameStates.{rest_of_shop, rest_of_catalogue, SameShop, SameCatalogue, SameState}
-use Rattle.shop_model.specs.Laws.{IsToldTheSame, OrderTellsNothing}
+use Rattle.shop_model.specs.Machine.{told, Shown}
 use Rattle.shop_model.proofs.Reordered.{reordered_same}
 
 -- ---- maps and sets that grow

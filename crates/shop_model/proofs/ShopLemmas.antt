@@ -1,17 +1,7 @@
 -- What an accepted command of one branch does to the shop of each.
-use Rattle.std.proofs.Common.{◌≡◌, inl, inr, ℕ, ◌+◌, ◌-◌, List, [], ◌∷◌, ◌++◌, filter, map, Bool, true, false, not, refl, sym, ap, ◌∙◌, arith, append_assoc, append-nil}
-use Rattle.std.specs.Prelude.{if◌then◌else◌, ◌==◌, ◌&&◌, flat_map, Option, Some, None}
-use Rattle.std.proofs.lemmas.Bool.{cases_Bool}
-use Rattle.std.proofs.lemmas.List.{map-append}
-use Rattle.shop_model.specs.Rows.{arrived, at, Row, Owned, owned_by, is_of, is_row, of, IsCounted, numbered_from, mem, put, put_all}
-use Rattle.shop_model.specs.Calendar.{Moment}
-use Rattle.shop_model.specs.Values.{Text, Customer, Copy, Rental, Terms, Payment, Arrival, Parcel, Sent, Scrapped, Act, AddCustomer, SetActive, Rent, TakeBack, Pay, Import, Dispatch, Receive, Scrap, Command, Rules}
-use Rattle.shop_model.specs.Shop.{Kept, Shop}
-use Rattle.shop_model.specs.Stock.{terms_now}
-use Rattle.shop_model.specs.Verdict.{arrival}
-use Rattle.shop_model.specs.Machine.{acted, done, reply_text, here, with_state, films_in, films_at, incoming}
-use Rattle.shop_model.specs.Books.{Books, BookCopy, Line, Consignment, Table, Customers, CopyRows, Rentals, TermRows, Payments, RowOf, rows_of, with_rows, Edit, Put, Set, PutLot, Append, Update, edited, edits_of, shop_of, unmarked, as_arrival, as_parcel, head, book_acted, book_done, is_consignment, imported, unpacked, put_state, rows_at, under_way, checked, checked_line, come, set_last, new_consignment}
-use Rattle.shop_model.specs.Sound.{HasNumbers}
+use Rattle.shop_model.proofs.Common.{◌≡◌, inl, inr, ℕ, ◌+◌, ◌-◌, List, [], ◌∷◌, ◌++◌, filter, map, Bool, true, false, not, refl, sym, ap, ◌∙◌, arith, append_assoc, append-nil, if◌then◌else◌, ◌==◌, ◌&&◌, flat_map, cases_Bool, map-append, arrived, at, Row, Owned, owned_by, is_of, is_row, of, IsCounted, numbered_from, mem, put_all, Moment, Text, Customer, Copy, Rental, Terms, Payment, Arrival, Parcel, Sent, Scrapped, Act, AddCustomer, SetActive, Rent, TakeBack, Pay, Import, Dispatch, Receive, Scrap, Command, Rules, Kept, Shop, terms_now, arrival, acted, done, reply_text, here, with_state, films_in, films_at, incoming, Books, BookCopy, Line, Consignment, Table, Customers, CopyRows, Rentals, TermRows, Payments, RowOf, rows_of, with_rows, Edit, Put, Set, PutLot, Append, Update, edited, edits_of, shop_of, unmarked, as_arrival, as_parcel, head, book_acted, book_done, is_consignment, imported, unpacked, put_state, rows_at, under_way, checked, checked_line, come, set_last, new_consignment, HasNumbers}
+use Rattle.std.specs.Prelude.{Option, Some, None}
+use Rattle.shop_model.specs.Rows.{put}
 use Rattle.shop_model.proofs.RowLemmas.{same_if, differ_if, same_test, differ_test, more_yes, more_no, at_numbered, set_numbered_among, set_same, set_other, map_map, map_at, put_own, put_all_own, put_all_other, set_own, set_rows_own, set_rows_other, map_set_at, map_set_all, row_at, filter_map, filter_filter, filter_away}
 use Rattle.shop_model.proofs.EditLemmas.{by_table, AskedOfSend, sends_keep}
 

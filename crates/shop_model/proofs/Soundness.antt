@@ -1,24 +1,5 @@
 -- Each step keeps the books sound.
-use Rattle.std.proofs.Common.{◌≡◌, inl, inr, ℕ, ◌+◌, ◌-◌, ◌≤◌, List, [], ◌∷◌, ◌++◌, suc, length, filter, map, Bool, true, false, not, None, Some, refl, sym, subst, ap, ◌∙◌, arith, append-nil, length-append}
-use Rattle.std.specs.Prelude.{◌==◌, ◌&&◌, ◌||◌, nat_lt, flat_map, is_none}
-use Rattle.std.specs.List.{list_any, list_all}
-use Rattle.std.proofs.Math.Bool.{or-false}
-use Rattle.std.proofs.lemmas.Bool.{cases_Bool, or_parts, and_parts, not-true, not-false, true≢false}
-use Rattle.shop_model.specs.Rows.{Row, Owned, at, lacks, set_at, set_all, is_empty, is_row, next, mem, has_double}
-use Rattle.shop_model.specs.Calendar.{Moment}
-use Rattle.shop_model.specs.Values.{Branch, OfficeCommand, Copy, CopyState, Here, Sent, Scrapped, Rental, Arrival, Act, Rent, TakeBack, Import, Dispatch, Receive, Scrap, Command, Rules}
-use Rattle.shop_model.specs.Shop.{Kept, Shop, Catalogue}
-use Rattle.shop_model.specs.Stock.{is_here, in_stock, keeps_out, film_terms, terms_now}
-use Rattle.shop_model.specs.Verdict.{Accepted, first, refusals, verdict, office_verdict, act_refusals, is_away, arrival}
-use Rattle.shop_model.specs.Machine.{Request, Do, Office, acted, catalogue_after, office_done, here, with_state, films_in, incoming}
-use Rattle.shop_model.specs.Books.{Books, BookCopy, Mark, Line, UnderWay, Missing, Consignment, Caller, Counter, HeadOffice, Nobody, shop_of, unmarked, as_arrival, book_acted, book_done, edits_of, is_consignment, imported, unpacked, rows_at, come, new_consignment, set_last, branch_after, after_for, after, caller_in, last_books}
-use Rattle.shop_model.specs.Sound.{one, copy_is, line_is, is_origin, rows_made, is_mark, places, is_made_as, marked_films, HasNumbers, HasOwners, HasCustody, HasOneHolder, HasTerms, IsSound, all_lines, lines_in, is_settled}
-use Rattle.shop_model.specs.Laws.{StaySound, StaySoundWithin, CopiesAreInOnePlace, SoundBooksAreInCustody, OpeningIsSound, EmptyIsSound, OpeningBooksAreSound}
-use Rattle.shop_model.specs.Opening.{empty_catalogue, opening_catalogue}
-use Rattle.shop_model.specs.Links.{has_row, are_different, is_staff_of, IsLinkedShop, IsGoodCatalogue}
-use Rattle.std.specs.Option.{option_to_list}
-use Rattle.std.specs.Str.{bytes_eq}
-use Rattle.std.proofs.lemmas.Bool.Decides.{nat_tests}
+use Rattle.shop_model.proofs.Common.{◌≡◌, inl, inr, ℕ, ◌+◌, ◌-◌, ◌≤◌, List, [], ◌∷◌, ◌++◌, suc, length, filter, map, Bool, true, false, not, None, Some, refl, sym, subst, ap, ◌∙◌, arith, append-nil, length-append, ◌==◌, ◌&&◌, ◌||◌, nat_lt, flat_map, is_none, list_any, list_all, or-false, cases_Bool, or_parts, and_parts, not-true, not-false, true≢false, Row, Owned, at, lacks, set_at, set_all, is_empty, is_row, next, mem, has_double, Moment, Branch, OfficeCommand, Copy, CopyState, Here, Sent, Scrapped, Rental, Arrival, Act, Rent, TakeBack, Import, Dispatch, Receive, Scrap, Command, Rules, Kept, Shop, Catalogue, is_here, in_stock, keeps_out, film_terms, terms_now, Accepted, first, refusals, verdict, office_verdict, act_refusals, is_away, arrival, Request, Do, Office, acted, catalogue_after, office_done, here, with_state, films_in, incoming, Books, BookCopy, Mark, Line, UnderWay, Missing, Consignment, Caller, Counter, HeadOffice, shop_of, unmarked, as_arrival, book_acted, book_done, edits_of, is_consignment, imported, unpacked, rows_at, come, new_consignment, set_last, branch_after, after_for, after, caller_in, last_books, one, copy_is, line_is, is_origin, rows_made, is_mark, places, is_made_as, marked_films, HasNumbers, HasOwners, HasCustody, HasOneHolder, HasTerms, IsSound, all_lines, lines_in, is_settled, StaySound, StaySoundWithin, CopiesAreInOnePlace, SoundBooksAreInCustody, OpeningIsSound, EmptyIsSound, OpeningBooksAreSound, empty_catalogue, opening_catalogue, has_row, are_different, is_staff_of, IsLinkedShop, IsGoodCatalogue, option_to_list, bytes_eq, nat_tests, IsGoodShop}
 use Rattle.shop_model.proofs.RowLemmas.{same_if, same_test, differ_if, differ_test, row_at, one_more, length_map}
 use Rattle.shop_model.proofs.ShopLemmas.{arrival_of, done_own, done_other, with_arrivals}
 use Rattle.shop_model.proofs.NumberLemmas.{acted_numbers}
@@ -31,7 +12,6 @@ use Rattle.shop_model.proofs.EditLemmas.{each_weaker}
 use Rattle.shop_model.proofs.GoodCatalogues.{Grows, done_grows, good_done, linked_grows}
 use Rattle.shop_model.proofs.Owners.{staff_works, branch_there, owners_done, owners_grow, places_kept}
 use Rattle.shop_model.proofs.Origins.{all_append, origins_kept}
-use Rattle.shop_model.specs.GoodShop.{IsGoodShop}
 use Rattle.shop_model.proofs.CustodyLemmas.{total-append, AreHere, AllHere, scrapped_total, sent_total, sent_unscrapped, state_made, states_made, lines_sent, lines_unlost, import_total, put_unscrapped, unpacked_total, unpacked_made, UnderWayOld, under_way_old, made_old, made_once, AreOpen, come_old, received_total, settled_checked, settled_new, settled_sent}
 
 -- ---- from the verdict

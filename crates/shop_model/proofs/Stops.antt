@@ -1,25 +1,6 @@
 -- However often a chain is stopped and opened again, what it answers is one history.
-use Rattle.std.proofs.Common.{◌≡◌, ◌⊎◌, ◌∙◌, take, inl, inr, ℕ, zero, suc, List, [], ◌∷◌, ◌++◌, length, filter, map, Bool, true, false, not, Some, refl, sym, subst, ap, ap₂}
-use Rattle.std.specs.Prelude.{slice_get, nat_le}
-use Rattle.std.specs.List.{list_any}
-use Rattle.std.specs.Str.{bytes_eq}
-use Rattle.std.proofs.lemmas.Bool.{cases_Bool, and_parts, not-true, false≢true}
-use Rattle.std.proofs.lemmas.List.{map-append, append_assoc}
-use Rattle.std.proofs.lemmas.Slice.Eq.{bytes_eq-Decides}
-use Rattle.shop_model.specs.Rows.{lacks}
-use Rattle.shop_model.specs.Values.{Text, Command, OfficeCommand, OfficeAsk, Rules}
-use Rattle.shop_model.specs.Shop.{Catalogue, Kept, OfficeKept, same_command, same_office}
-use Rattle.shop_model.specs.Refusals.{KeyUsed, Full}
-use Rattle.shop_model.specs.Verdict.{Verdict, Again, Refused, Accepted, resent, office_resent, verdict, office_verdict, first, refusals, office_refusals}
-use Rattle.shop_model.specs.Links.{are_different}
-use Rattle.shop_model.specs.Machine.{Request, Do, Office, Reply, Done, if_accepted, reply_by, reply_text, office_text, office_done}
-use Rattle.shop_model.specs.Answers.{Answer, answer_of}
-use Rattle.shop_model.specs.Books.{Books, Event, Caller, Counter, HeadOffice, Nobody, shop_of, book_done, caller_in, reply_for, after_for, reply_in, after, run, last_books}
-use Rattle.shop_model.specs.Sound.{IsSound}
-use Rattle.shop_model.specs.Histories.{is_decided, is_store_failure, counted_in}
-use Rattle.shop_model.specs.Repeats.{marked_ones}
-use Rattle.shop_model.specs.Resends.{Asks, is_command, is_nobody, books_next}
-use Rattle.shop_model.specs.Stops.{Life, in_flight, acted_in, Lives, history_of, answered_of, decisions_of, begun, IsKeptWith, KeepsAcknowledged, LivesAreOneHistory, ActsOnce, EachActsOnce, ResentFirst, LivesFollow}
+use Rattle.shop_model.proofs.Common.{◌≡◌, ◌⊎◌, ◌∙◌, take, inl, inr, ℕ, zero, suc, List, [], ◌∷◌, ◌++◌, length, filter, map, Bool, true, false, not, Some, refl, sym, subst, ap, ap₂, slice_get, nat_le, list_any, bytes_eq, cases_Bool, and_parts, not-true, false≢true, map-append, bytes_eq-Decides, lacks, Text, Command, OfficeCommand, OfficeAsk, Rules, Catalogue, Kept, OfficeKept, same_command, same_office, KeyUsed, Full, Verdict, Again, Refused, Accepted, resent, office_resent, verdict, office_verdict, first, refusals, office_refusals, are_different, Request, Do, Office, Reply, Done, if_accepted, reply_by, reply_text, office_text, office_done, Answer, answer_of, Books, Event, Caller, Counter, HeadOffice, Nobody, shop_of, book_done, caller_in, reply_for, after_for, reply_in, after, run, last_books, IsSound, is_decided, is_store_failure, counted_in, marked_ones, Asks, is_command, is_nobody, books_next, Life, in_flight, acted_in, Lives, history_of, answered_of, decisions_of, begun, IsKeptWith, KeepsAcknowledged, LivesAreOneHistory, ActsOnce, EachActsOnce, ResentFirst, LivesFollow}
+use Rattle.std.proofs.lemmas.List.{append_assoc}
 use Rattle.shop_model.proofs.Histories.{run_append, last_append}
 use Rattle.shop_model.proofs.Isolation.{alone}
 use Rattle.shop_model.proofs.Soundness.{in_one_place}

@@ -1,11 +1,6 @@
 -- The texts of ratings and of special features, as columns have them.
-use Rattle.std.proofs.Common.{◌≢◌, ℕ, List, refl, IsUtf8}
-use Rattle.std.proofs.lemmas.Str.{IsUtf8-from_ascii}
-use Rattle.sqlite.specs.declared.types.Value.{Value}
+use Rattle.shop_schema.proofs.Common.{◌≢◌, ℕ, List, refl, IsUtf8, IsUtf8-from_ascii, Value, rating_text, features_text, Features, Rating}
 use Rattle.sqlite.specs.declared.types.Value.TheVariants.{Text}
-use Rattle.shop_types.specs.Films.{rating_text, features_text}
-use Rattle.shop_types.specs.declared.film.Features.{Features}
-use Rattle.shop_types.specs.declared.film.Rating.{Rating}
 use Rattle.shop_types.specs.declared.film.Rating.TheVariants as rating
 use Rattle.shop_schema.proofs.OfficeValues.{features_utf8}
 use Rattle.shop_schema.proofs.Values.{ascii_bytes}

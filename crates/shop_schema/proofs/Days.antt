@@ -1,9 +1,7 @@
 -- Days are numbered in the order of year, month and day.
-use Rattle.std.proofs.Common.{◌≡◌, inl, inr, refl, ap, arith, ℕ, zero, suc, ◌+◌, ◌<◌, ◌≤◌}
+use Rattle.shop_schema.proofs.Common.{◌≡◌, inl, inr, refl, ap, arith, ℕ, zero, suc, ◌+◌, ◌<◌, ◌≤◌, cases_Bool, Moment, IsMoment, is_leap_year, days_in_year, days_in_month, same_if, differ_if}
 use Rattle.std.specs.Prelude.{◌-◌, ◌==◌}
-use Rattle.std.proofs.lemmas.Bool.{cases_Bool}
-use Rattle.shop_model.specs.Calendar.{Moment, IsMoment, is_leap_year, days_in_year, days_in_month, days_of_years, days_of_months, day_number, day_of}
-use Rattle.shop_model.proofs.RowLemmas.{same_if, differ_if}
+use Rattle.shop_model.specs.Calendar.{days_of_years, days_of_months, day_number, day_of}
 
 -- an earlier year is over where a later one begins
 years_up : (m n : ℕ) → m < n → days_of_years m + days_in_year (1970 + m) ≤ days_of_years n

@@ -1,10 +1,5 @@
 -- Values of which no two have the same text.
-use Rattle.std.proofs.Common.{◌≡◌, ◌≤◌, ◌||◌, ℕ, List, [], ◌∷◌, filter, length, not, Bool, true, false, cond, refl, sym, ap, subst, ◌∙◌, arith, true≢false}
-use Rattle.std.specs.List.{list_any}
-use Rattle.std.specs.Str.{bytes_eq}
-use Rattle.std.proofs.lemmas.Slice.Eq.{bytes_eq-Decides}
-use Rattle.std.proofs.lemmas.Bool.{and_parts}
-use Rattle.shop_model.specs.Links.{are_different}
+use Rattle.shop_schema.proofs.Common.{◌≡◌, ◌≤◌, ◌||◌, ℕ, List, [], ◌∷◌, filter, length, not, Bool, true, false, cond, refl, sym, ap, subst, ◌∙◌, arith, true≢false, list_any, bytes_eq, bytes_eq-Decides, and_parts, are_different}
 
 turned : (s t : List ℕ) → bytes_eq s t ≡ false → bytes_eq t s ≡ false
 turned s t h = go (bytes_eq t s) refl

@@ -1,11 +1,7 @@
 -- What the first of the rows that a SELECT shows tells of the values that it was to show.
-use Rattle.std.proofs.Common.{◌≡◌, ℕ, List, [], ◌∷◌, map, Option, Some, None, Ok, Err, Result, refl, sym, ap, ◌∙◌}
-use Rattle.std.specs.Prelude.{slice_get, IfOk}
+use Rattle.shop_schema.proofs.Common.{◌≡◌, ℕ, List, [], ◌∷◌, map, Option, Some, None, Ok, Err, Result, refl, sym, ap, ◌∙◌, slice_get, IfOk, State, StoreFault, TellsFirst, head}
 use Rattle.sqlite_value.specs.Order.{Row}
-use Rattle.sqlite.specs.State.{State, Shown}
-use Rattle.sql_rows.specs.declared.fault.StoreFault.{StoreFault}
-use Rattle.shop_schema.specs.First.{TellsFirst}
-use Rattle.shop_model.specs.Books.{head}
+use Rattle.sqlite.specs.State.{Shown}
 
 -- `show` says which columns are shown of a value, and `told` what is to be told of it
 module _ {X V : Type 0} (show : X → Row) (told : X → V) where

@@ -1,24 +1,10 @@
 -- What the statements put that give new tables of version 1 their first rows.
-use Rattle.std.proofs.Common.{◌≡◌, ℕ, pos, List, [], ◌∷◌, map, Ok, refl, sym, ap, subst, ◌∙◌}
-use Rattle.sqlite.specs.declared.types.Value.TheVariants.{Null, Int, Text}
+use Rattle.shop_schema.proofs.Common.{◌≡◌, ℕ, pos, List, [], ◌∷◌, map, Ok, refl, sym, ap, subst, ◌∙◌, Null, Int, Term, lit, col, Values, Insert, Database, State, ExecutesInside, Table, Means, AreKeyed, HasPut, has_put, Books, version_1_schema, chain_table, counter_table, first_version, versioned_columns, counter_columns, counts_of, office_count, IsFirstShop, IsFirstKeyed, HaveNoFirstRows, HoldsVersion1, IsNewFirst, StandsForVersion1, first_books}
+use Rattle.sqlite.specs.declared.types.Value.TheVariants.{Text}
 use Rattle.sqlite_value.specs.Order as sql
-use Rattle.sqlite_sql.specs.Term.{Term, lit, col}
-use Rattle.sqlite.specs.Source.TheVariants.{Values}
-use Rattle.sqlite.specs.Command.TheVariants.{Insert}
-use Rattle.sqlite.specs.Effect.{Database}
 use Rattle.sqlite_tied.specs.Compute.{everything}
 use Rattle.sqlite.specs.Listing.{understood}
-use Rattle.sqlite.specs.State.{State, ExecutesInside}
-use Rattle.sqlite.specs.Table.{Table}
-use Rattle.sql_rows.specs.Builds.{Means}
-use Rattle.sql_rows.specs.Rows.{AreKeyed}
-use Rattle.sql_rows.proofs.Steps.{HasPut, has_put}
 use Rattle.shop_model.specs.Values as model
-use Rattle.shop_model.specs.Books.{Books}
-use Rattle.shop_schema.specs.Tables.{version_1_schema, chain_table, counter_table}
-use Rattle.shop_schema.specs.Columns.{first_version, versioned_columns, counter_columns}
-use Rattle.shop_schema.specs.Counts.{counts_of, office_count}
-use Rattle.shop_schema.specs.Shop.{IsFirstShop, IsFirstKeyed, HaveNoFirstRows, HoldsVersion1, IsNewFirst, StandsForVersion1, first_books}
 use Rattle.shop_schema.specs.declared.first.TheConstants.{FIRST_CHAIN, FIRST_COUNT}
 use Rattle.shop_schema.proofs.Stands.{HaveRows, with_rows, none_have, has_at, one_changed, first_named}
 

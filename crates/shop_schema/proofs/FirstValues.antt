@@ -1,13 +1,6 @@
 -- The rows with which a chain begins are such as the program can hold.
-use Rattle.std.proofs.Common.{◌≡◌, ℕ, [], true, false, Option, Some, None, IfSome, refl, arith, codes}
-use Rattle.std.specs.Prelude.{nat_lt}
-use Rattle.std.specs.List.{list_all}
-use Rattle.std.proofs.lemmas.Str.{IsUtf8-from_ascii}
-use Rattle.shop_values.specs.Texts.{is_text}
-use Rattle.shop_model.specs.Values.{Text}
-use Rattle.shop_model.specs.Opening.{token_of, river_dawn, north_light, opening_branch, opening_staff, opening_books}
-use Rattle.shop_schema.specs.Shop.{first_books}
-use Rattle.shop_schema.specs.RowValues.{IsNumber, IsText, IsName, IsToken, IsFilm, IsBranch, IsStaff, AreValues}
+use Rattle.std.proofs.Common.{IfSome}
+use Rattle.shop_schema.proofs.Common.{◌≡◌, ℕ, [], true, false, Option, Some, None, refl, arith, codes, nat_lt, list_all, IsUtf8-from_ascii, is_text, Text, token_of, river_dawn, north_light, opening_branch, opening_staff, opening_books, first_books, IsNumber, IsText, IsName, IsToken, IsFilm, IsBranch, IsStaff, AreValues}
 use Rattle.shop_schema.proofs.Values.{ascii_bytes}
 
 pub first_values : (token : Text) → IsToken token → AreValues (first_books token)

@@ -1,10 +1,6 @@
 -- A form shows where it ends: what two forms begin with is one part, and what follows is one too.
-use Rattle.std.proofs.Common.{◌≡◌, ℕ, ◌%◌, ◌/◌, List, [], ◌∷◌, ◌++◌, length, Bool, true, false, Option, Some, None, refl, arith}
+use Rattle.shop_schema.proofs.Common.{◌≡◌, ℕ, ◌%◌, ◌/◌, List, [], ◌∷◌, ◌++◌, length, Bool, true, false, Option, Some, None, refl, arith, option_to_list, Moment, moment_text, Text, Person, number_form, text_form, numbers_form, option_form, flag_form, person_form}
 use Rattle.std.specs.Prelude.{flat_map}
-use Rattle.std.specs.Option.{option_to_list}
-use Rattle.shop_model.specs.Calendar.{Moment, moment_text}
-use Rattle.shop_model.specs.Values.{Text, Person}
-use Rattle.shop_schema.specs.Forms.{number_form, text_form, numbers_form, option_form, flag_form, person_form}
 
 same_number : (a b : ℕ) → a % 256 ≡ b % 256 → a / 256 % 256 ≡ b / 256 % 256 → a / 65_536 % 256 ≡ b / 65_536 % 256 → a / 16_777_216 ≡ b / 16_777_216 → a ≡ b
 same_number a b p q r s = omega (arith, p, q, r, s)

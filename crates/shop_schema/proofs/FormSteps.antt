@@ -1,7 +1,5 @@
 -- A form that grows by parts.
-use Rattle.std.proofs.Common.{◌≡◌, ◌∙◌, sym, ap, ℕ, List, ◌++◌, append_assoc}
-use Rattle.std.proofs.lemmas.Grind.{flat_map-append}
-use Rattle.shop_schema.specs.Forms.{joined}
+use Rattle.shop_schema.proofs.Common.{◌≡◌, ◌∙◌, sym, ap, ℕ, List, ◌++◌, append_assoc, flat_map-append, joined}
 
 -- some parts, and then more of them
 pub then_more : (begin middle end : List ℕ) (ps qs : List (List ℕ)) → middle ≡ begin ++ joined ps → end ≡ middle ++ joined qs → end ≡ begin ++ joined (ps ++ qs)

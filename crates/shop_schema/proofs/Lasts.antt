@@ -1,17 +1,6 @@
 -- The last moment of a branch, as a column of its row, and shared rows by their numbers.
-use Rattle.std.proofs.Common.{◌≡◌, ◌≤◌, ◌+◌, ◌==◌, ◌&&◌, ℕ, List, [], ◌∷◌, map, filter, not, length, Bool, true, false, cond, refl, sym, ap, ◌∙◌, arith}
-use Rattle.std.proofs.lemmas.Bool.Decides.{nat_tests}
-use Rattle.sqlite.specs.declared.types.Value.{Value}
-use Rattle.sqlite.specs.Values.{or_null}
+use Rattle.shop_schema.proofs.Common.{◌≡◌, ◌≤◌, ◌+◌, ◌==◌, ◌&&◌, ℕ, List, [], ◌∷◌, map, filter, not, length, Bool, true, false, cond, refl, sym, ap, ◌∙◌, arith, nat_tests, Value, or_null, column, update_where, number_test, number_tested, one_tested, Moment, Owned, owned_by, numbered_from, IsCounted, Branch, head, set_last, moment_value, branch_columns}
 use Rattle.sqlite_value.specs.Order as sql
-use Rattle.sqlite_value.specs.Order.{column}
-use Rattle.sqlite_keyed.specs.Lists.{update_where}
-use Rattle.sql_rows.proofs.ColumnTests.{number_test, number_tested, one_tested}
-use Rattle.shop_model.specs.Calendar.{Moment}
-use Rattle.shop_model.specs.Rows.{Owned, owned_by, numbered_from, IsCounted}
-use Rattle.shop_model.specs.Values.{Branch}
-use Rattle.shop_model.specs.Books.{head, set_last}
-use Rattle.shop_schema.specs.Columns.{moment_value, branch_columns}
 use Rattle.shop_schema.proofs.Lists.{counted_once}
 
 pub numbered_counted : {A : Type 0} (k : ℕ) (xs : List A) → IsCounted k (map (λ it. it.0) (numbered_from k xs))

@@ -1,3 +1,4 @@
+pub mod Common
 pub mod CreateTexts
 pub mod FirstTexts
 pub mod Stands

@@ -1,30 +1,6 @@
 -- A table whose rows are those of a list of the books, and what an INSERT and an UPDATE make of it.
-use Rattle.std.proofs.Common.{◌≡◌, ◌/◌, ◌+◌, ℕ, suc, List, [], ◌∷◌, ◌++◌, map, length, Bool, true, false, cond, None, Ok, refl, sym, ap, subst, ◌∙◌, arith}
-use Rattle.std.specs.Prelude.{⊤, unwrap_or}
-use Rattle.std.proofs.lemmas.List.{map_push}
-use Rattle.sqlite.specs.declared.types.Value.{Value}
-use Rattle.sqlite.specs.declared.types.Value.TheVariants.{Null}
+use Rattle.shop_schema.proofs.Common.{◌≡◌, ◌/◌, ◌+◌, ℕ, suc, List, [], ◌∷◌, ◌++◌, map, length, Bool, true, false, cond, None, Ok, refl, sym, ap, subst, ◌∙◌, arith, ⊤, unwrap_or, map_push, Value, Null, Trees, Term, eval_all, values, overlay, Table, Values, Insert, value_rows, State, ExecutesInside, Means, HasRows, SameBut, columns_of, are_kept, IsPlainTable, has_put, numbered, Books, shop_schema, Counts, StandsWith, Writes, Tallies, numbered_push}
 use Rattle.sqlite_value.specs.Order as sql
-use Rattle.sqlite_trees.specs.Tree.{Trees}
-use Rattle.sqlite_sql.specs.Term.{Term, eval_all}
-use Rattle.sql_rows.specs.Terms.{values}
-use Rattle.sqlite_sql.specs.Program.{overlay}
-use Rattle.sqlite.specs.Table.{Table}
-use Rattle.sqlite.specs.Source.TheVariants.{Values}
-use Rattle.sqlite.specs.Command.TheVariants.{Insert}
-use Rattle.sqlite.specs.Effect.{value_rows}
-use Rattle.sqlite.specs.State.{State, ExecutesInside}
-use Rattle.sql_rows.specs.Builds.{Means}
-use Rattle.sql_rows.specs.Rows.{HasRows, SameBut, columns_of}
-use Rattle.sql_rows.proofs.Appends.{are_kept}
-use Rattle.sql_rows.proofs.Puts.{IsPlainTable}
-use Rattle.sql_rows.proofs.Steps.{has_put}
-use Rattle.shop_model.specs.Rows.{numbered}
-use Rattle.shop_model.specs.Books.{Books}
-use Rattle.shop_schema.specs.Tables.{shop_schema}
-use Rattle.shop_schema.specs.Counts.{Counts}
-use Rattle.shop_schema.specs.Shop.{StandsWith, Writes, Tallies}
-use Rattle.shop_model.proofs.RowLemmas.{numbered_push}
 use Rattle.shop_schema.proofs.Stands.{rows_of, rows_at, with_rows, one_has, stands_but, stands_at}
 
 -- a list of the books, and the books with another in its place; the laws are `refl` where the list is known

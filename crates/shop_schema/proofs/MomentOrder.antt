@@ -1,14 +1,7 @@
 -- The texts of moments are in the order of the moments.
-use Rattle.std.proofs.Common.{◌≡◌, ◌∙◌, inl, inr, refl, sym, ap, arith, true, false, ℕ, ◌+◌, ◌*◌, ◌/◌, ◌%◌, ◌<◌, ◌≤◌, Ordering, Less, Equal, Greater, is_lt}
-use Rattle.std.specs.Prelude.{nat_lt, nat_le}
-use Rattle.std.specs.Ordering.{MatchOrdering, nat_cmp, ordering_then, is_ge}
-use Rattle.std.specs.Cmp.{nat_cmp_is, ranks}
-use Rattle.std.specs.Cmp.Lexicographic.{slice_cmp}
-use Rattle.std.proofs.lemmas.Bool.{cases_Bool}
-use Rattle.std.proofs.lemmas.Bool.Decides.{nat_tests}
-use Rattle.shop_model.specs.Calendar.{Moment, IsMoment, digit, moment_text, day_of, seconds_of, is_by, is_earlier}
+use Rattle.shop_schema.proofs.Common.{◌≡◌, ◌∙◌, inl, inr, refl, sym, ap, arith, true, false, ℕ, ◌+◌, ◌*◌, ◌/◌, ◌%◌, ◌<◌, ◌≤◌, Ordering, Less, Equal, Greater, is_lt, nat_lt, nat_le, MatchOrdering, nat_cmp, ordering_then, is_ge, nat_cmp_is, ranks, slice_cmp, cases_Bool, nat_tests, Moment, IsMoment, digit, moment_text, is_by, is_earlier, then-Equal}
+use Rattle.shop_model.specs.Calendar.{day_of, seconds_of}
 use Rattle.shop_model.proofs.NumberLemmas.{few_days}
-use Rattle.sqlite_value.proofs.OrderLemmas.{then-Equal}
 use Rattle.shop_schema.proofs.Days.{later_year, later_month, same_days}
 
 -- two numbers and then two others are in the order of a third pair

@@ -1,7 +1,5 @@
 -- A shared row by its number, which is its place.
-use Rattle.std.proofs.Common.{◌≡◌, ◌≤◌, ◌<◌, ◌+◌, ◌-◌, ◌==◌, ℕ, List, [], ◌∷◌, map, filter, Bool, true, false, cond, refl, ap, ◌∙◌, arith}
-use Rattle.std.proofs.lemmas.Bool.Decides.{nat_tests}
-use Rattle.shop_model.specs.Rows.{at, numbered, numbered_from}
+use Rattle.shop_schema.proofs.Common.{◌≡◌, ◌≤◌, ◌<◌, ◌+◌, ◌-◌, ◌==◌, ℕ, List, [], ◌∷◌, map, filter, Bool, true, false, cond, refl, ap, ◌∙◌, arith, nat_tests, at, numbered, numbered_from}
 
 module _ {A : Type 0} where
   -- no later row has the number

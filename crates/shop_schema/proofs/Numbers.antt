@@ -1,13 +1,6 @@
 -- Shared rows that are joined by their numbers: `LEFT JOIN t ON t.number = key`.
-use Rattle.std.proofs.Common.{◌≡◌, ◌≤◌, ◌==◌, ◌&&◌, ◌+◌, ℕ, zero, suc, List, [], ◌∷◌, ◌++◌, map, filter, true, false, cond, refl, sym, ap, ◌∙◌, arith}
-use Rattle.std.specs.List.{flat_map}
-use Rattle.std.proofs.lemmas.Bool.Decides.{nat_tests}
-use Rattle.sqlite.specs.declared.types.Value.TheVariants.{Null}
-use Rattle.sqlite_value.specs.Order.{Row, column}
-use Rattle.sqlite_sql.specs.Query.{or_nulls}
-use Rattle.sql_rows.specs.Rows.{HasRows, columns_of, number_value}
-use Rattle.sql_rows.proofs.Joins.{or_blank, equals, left_key, left_no_key}
-use Rattle.shop_model.specs.Rows.{at, numbered, numbered_from}
+use Rattle.shop_schema.proofs.Common.{◌≡◌, ◌≤◌, ◌==◌, ◌&&◌, ◌+◌, ℕ, zero, suc, List, [], ◌∷◌, ◌++◌, map, filter, true, false, cond, refl, sym, ap, ◌∙◌, arith, flat_map, nat_tests, Null, column, or_nulls, HasRows, columns_of, number_value, or_blank, equals, left_key, left_no_key, at, numbered, numbered_from}
+use Rattle.sqlite_value.specs.Order.{Row}
 use Rattle.shop_schema.proofs.Lasts.{numbered_once}
 use Rattle.shop_schema.proofs.Numbered.{picked}
 

@@ -1,14 +1,6 @@
 -- Under one key, two commands of head office have one form exactly where they are one command.
-use Rattle.std.proofs.Common.{◌≡◌, ℕ, ◌==◌, ◌&&◌, List, [], ◌∷◌, map, filter, cond, Bool, true, false, Option, Some, option_map, refl, ap, ◌∙◌, subst, sym}
-use Rattle.std.proofs.lemmas.Slice.Eq.{bytes_eq-Decides}
-use Rattle.std.specs.Str.{bytes_eq}
-use Rattle.std.proofs.lemmas.Bool.{and_parts}
-use Rattle.shop_model.specs.Values.{Text, Person, Film, Branch, OfficeAct, AddCountry, AddCity, AddLanguage, AddCategory, AddActor, AddFilm, PriceFilm, WithdrawFilm, AddCast, AddBranch, AddStaff, StaffLeaves, SetManager, Rule, ByCode, ByComment, ChooseRule, OfficeCommand}
-use Rattle.shop_model.specs.Shop.{OfficeKept, same_option, same_flag, same_person, same_film, same_branch, same_rule, same_office_act, same_office}
-use Rattle.shop_model.specs.Books.{head}
-use Rattle.shop_model.proofs.RowLemmas.{same_if, equal_test}
-use Rattle.shop_model.proofs.Resent.{bytes_same, option_same, flag_same, person_same}
-use Rattle.shop_schema.specs.Forms.{joined, number_form, text_form, person_form, film_form, branch_form, rule_form, office_form, office_command_form, OfficeFormsAreOneToOne}
+use Rattle.shop_schema.proofs.Common.{◌≡◌, ℕ, ◌==◌, ◌&&◌, List, [], ◌∷◌, map, filter, cond, Bool, true, false, Option, Some, option_map, refl, ap, ◌∙◌, subst, sym, bytes_eq-Decides, bytes_eq, and_parts, Text, Person, Film, Branch, OfficeAct, AddCountry, AddCity, AddLanguage, AddCategory, AddActor, AddFilm, PriceFilm, WithdrawFilm, AddCast, AddBranch, AddStaff, StaffLeaves, SetManager, Rule, ByCode, ByComment, ChooseRule, OfficeCommand, OfficeKept, same_option, same_person, same_film, same_branch, same_rule, same_office_act, same_office, head, same_if, equal_test, bytes_same, option_same, flag_same, person_same, joined, number_form, text_form, person_form, film_form, branch_form, rule_form, office_form, office_command_form, OfficeFormsAreOneToOne}
+use Rattle.shop_model.specs.Shop.{same_flag}
 use Rattle.shop_schema.proofs.FormLemmas.{number_ends, number_is, text_ends, text_is, option_ends, flag_ends, person_is}
 use Rattle.shop_schema.proofs.OneToOne.{text_equal, option_equal, flag_equal, person_equal, alone}
 

@@ -1,22 +1,7 @@
 -- By head office's commands too the rows of the books stay such as the program can hold, and what is known of the books stays known.
-use Rattle.std.proofs.Common.{◌≡◌, ◌≤◌, ◌<◌, ◌+◌, ◌-◌, ◌^◌, ◌==◌, ℕ, List, [], ◌∷◌, ◌++◌, length, Bool, true, false, cond, refl, arith, codes, decimal, IsUtf8, length-append}
-use Rattle.std.specs.Prelude.{nat_lt, None, Some, Option, IfSome}
-use Rattle.std.specs.List.{AllByRecursion, list_all}
-use Rattle.std.proofs.lemmas.Fmt.{IsAscii-decimal}
-use Rattle.std.proofs.lemmas.Str.{IsUtf8-from_ascii, IsAscii-append}
-use Rattle.std.proofs.ByRecursion.{All-push}
-use Rattle.shop_model.specs.Json.{escape_byte, object}
-use Rattle.shop_model.specs.Rows.{set_at}
-use Rattle.shop_model.specs.Values.{Film, Branch, Staff, OfficeAct, AddCountry, AddCity, AddLanguage, AddCategory, AddActor, AddFilm, PriceFilm, WithdrawFilm, AddCast, AddBranch, AddStaff, StaffLeaves, SetManager, ByCode, ByComment, ChooseRule, OfficeCommand}
-use Rattle.shop_model.specs.Machine.{office_acted, office_told, office_text, office_done}
-use Rattle.shop_model.specs.Shop.{Catalogue}
-use Rattle.shop_model.specs.Books.{Books}
-use Rattle.shop_model.proofs.GoodShops.{length_set}
-use Rattle.shop_schema.specs.Held.{HasFewShared}
-use Rattle.shop_schema.specs.RowValues.{IsToken, IsNumber, IsName, IsCity, IsActor, IsRating, IsFeatures, IsFilm, IsCast, IsBranch, IsStaff, IsKey, IsOfficeAct, IsOfficeKept, AreShared, AreCatalogueValues, AreValues}
-use Rattle.shop_types.specs.Films.{rating_text, features_text}
-use Rattle.shop_types.specs.declared.film.Features.{Features}
-use Rattle.shop_types.specs.declared.film.Rating.{Rating}
+use Rattle.shop_schema.proofs.Common.{◌≡◌, ◌≤◌, ◌<◌, ◌+◌, ◌-◌, ◌^◌, ◌==◌, ℕ, List, [], ◌∷◌, ◌++◌, length, Bool, true, false, cond, refl, arith, codes, decimal, IsUtf8, length-append, nat_lt, IfSome, AllByRecursion, list_all, IsAscii-decimal, IsUtf8-from_ascii, IsAscii-append, All-push, object, set_at, Film, Branch, Staff, OfficeAct, AddCountry, AddCity, AddLanguage, AddCategory, AddActor, AddFilm, PriceFilm, WithdrawFilm, AddCast, AddBranch, AddStaff, StaffLeaves, SetManager, ByCode, ByComment, ChooseRule, OfficeCommand, office_acted, office_told, office_text, office_done, Catalogue, Books, length_set, HasFewShared, IsToken, IsNumber, IsName, IsCity, IsActor, IsRating, IsFeatures, IsFilm, IsCast, IsBranch, IsStaff, IsKey, IsOfficeAct, IsOfficeKept, AreShared, AreCatalogueValues, AreValues, rating_text, features_text, Features, Rating}
+use Rattle.std.specs.Prelude.{None, Some, Option}
+use Rattle.shop_model.specs.Json.{escape_byte}
 use Rattle.shop_types.specs.declared.film.Rating.TheVariants as rating
 use Rattle.shop_schema.proofs.Values.{ascii_bytes, number_reply, small}
 

@@ -1,23 +1,15 @@
 -- Rows of kinds are one to one, and so are those of a table.
-use Rattle.std.proofs.Common.{◌≡◌, ℕ, List, [], ◌∷◌, Option, Some, None, Bool, true, false, refl, sym, ap, ◌∙◌}
-use Rattle.std.specs.Prelude.{IfSome}
+use Rattle.shop_schema.proofs.Common.{◌≡◌, List, [], ◌∷◌, Some, Bool, true, false, refl, sym, ap, ◌∙◌, same_flag, rating_text, rating_of, features_text, features_of, seen_rule, seen_state, seen_line_state, Rating, Features, rule_value, state_value, line_value, Kind, value_of, Fits, FitEach, TableOf}
 use Rattle.sqlite_value.specs.Order as sql
-use Rattle.sql_rows.proofs.ColumnTests.{same_flag}
-use Rattle.shop_types.specs.Films.{rating_text, rating_of, features_text, features_of}
-use Rattle.shop_types.specs.Seen.{seen_rule, seen_state, seen_line_state}
-use Rattle.shop_types.specs.declared.film.Rating.{Rating}
 use Rattle.shop_types.specs.declared.film.Rating.TheVariants as rating
-use Rattle.shop_types.specs.declared.film.Features.{Features}
 use Rattle.shop_types.specs.declared.rule.Rule.{Rule}
 use Rattle.shop_types.specs.declared.rule.Rule.TheVariants as rule
 use Rattle.shop_types.specs.declared.custody.CopyState.{CopyState}
 use Rattle.shop_types.specs.declared.custody.CopyState.TheVariants as state
 use Rattle.shop_types.specs.declared.custody.LineState.{LineState}
 use Rattle.shop_types.specs.declared.custody.LineState.TheVariants as line
-use Rattle.shop_schema.specs.Columns.{rule_value, state_value, line_value}
 use Rattle.shop_schema.specs.Kinds as kind
-use Rattle.shop_schema.specs.Kinds.{Kind, Held, value_of, Fits, Values, columns_of, FitEach}
-use Rattle.shop_schema.specs.TableOf.{TableOf}
+use Rattle.shop_schema.specs.Kinds.{Held, Values, columns_of}
 use Rattle.shop_schema.proofs.SameRows.{same_moment_value, same_last, same_number_or_null}
 
 rated : (it : Rating) → rating_of (rating_text it) ≡ Some it

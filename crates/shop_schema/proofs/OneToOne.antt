@@ -1,17 +1,8 @@
 -- Under one key, two commands have one form exactly where they are one command.
-use Rattle.std.proofs.Common.{◌≡◌, ◌≤◌, ◌/◌, ℕ, ◌==◌, ◌&&◌, ◌||◌, List, [], ◌∷◌, ◌++◌, Bool, true, false, Option, Some, None, refl, sym, ap, subst, ◌∙◌, arith}
-use Rattle.std.specs.Prelude.{if◌then◌else◌}
-use Rattle.std.specs.Str.{bytes_eq}
+use Rattle.shop_schema.proofs.Common.{◌≡◌, ◌≤◌, ◌/◌, ℕ, ◌==◌, ◌&&◌, ◌||◌, List, [], ◌∷◌, ◌++◌, Bool, true, false, Option, Some, None, refl, sym, ap, subst, ◌∙◌, arith, if◌then◌else◌, bytes_eq, bytes_eq-Decides, and_parts, Moment, IsMoment, moment_text, same_moment, digit, days_in_month, is_leap_year, Text, Person, Act, Command, same_option, same_numbers, same_person, same_act, same_command, same_if, command_same, joined, number_form, text_form, numbers_form, option_form, flag_form, act_form, command_form, FormsAreOneToOne}
 use Rattle.std.proofs.lemmas.List.{append-nil}
-use Rattle.std.proofs.lemmas.Slice.Eq.{bytes_eq-Decides}
-use Rattle.std.proofs.lemmas.Bool.{and_parts}
-use Rattle.shop_model.specs.Calendar.{Moment, IsMoment, moment_text, same_moment, digit, days_in_month, is_leap_year}
-use Rattle.shop_model.specs.Values.{Text, Person, Act, Command}
 use Rattle.shop_model.specs.Values as model
-use Rattle.shop_model.specs.Shop.{same_option, same_numbers, same_flag, same_person, same_act, same_command}
-use Rattle.shop_model.proofs.RowLemmas.{same_if}
-use Rattle.shop_model.proofs.Resent.{command_same}
-use Rattle.shop_schema.specs.Forms.{joined, number_form, text_form, numbers_form, option_form, flag_form, act_form, command_form, FormsAreOneToOne}
+use Rattle.shop_model.specs.Shop.{same_flag}
 use Rattle.shop_schema.proofs.FormLemmas.{number_ends, number_is, text_ends, numbers_ends, option_ends, flag_ends, moment_ends, person_is}
 
 -- ---- a value is the same as itself

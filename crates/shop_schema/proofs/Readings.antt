@@ -1,8 +1,5 @@
 -- One read after another.
-use Rattle.sqlite.specs.State.{State}
-use Rattle.shop_model.specs.Books.{Books}
-use Rattle.shop_schema.specs.Held.{IsHeld}
-use Rattle.shop_schema.specs.Shop.{Reads}
+use Rattle.shop_schema.proofs.Common.{State, Books, IsHeld, Reads}
 
 pub reads_then : (a b c : State) (P Q : Books → Type 0) → Reads a b P → Reads b c Q → Reads a c (λ books. P books × Q books)
 reads_then a b c P Q one two = λ books holds held. let first = one books holds held in let second = two books first.0 held in (second.0, (first.1, second.1))

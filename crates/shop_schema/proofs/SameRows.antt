@@ -1,14 +1,5 @@
 -- The columns of rows that the program can hold are one to one.
-use Rattle.std.proofs.Common.{◌≡◌, ℕ, Option, Some, None, refl, ap}
-use Rattle.std.specs.Prelude.{IfSome}
-use Rattle.sqlite.specs.Values.{or_null}
-use Rattle.sql_rows.specs.Rows.{number_value}
-use Rattle.sql_rows.proofs.ColumnTests.{same_flag}
-use Rattle.shop_model.specs.Calendar.{Moment, IsMoment, moment_text}
-use Rattle.shop_model.specs.Rows.{Row}
-use Rattle.shop_model.specs.Values.{Film, CopyState, Here, Sent, Scrapped}
-use Rattle.shop_model.specs.Books.{BookCopy}
-use Rattle.shop_schema.specs.Columns.{moment_value, film_columns, state_value, copy_columns}
+use Rattle.shop_schema.proofs.Common.{◌≡◌, ℕ, Option, Some, None, refl, ap, IfSome, or_null, number_value, same_flag, Moment, IsMoment, moment_text, Row, Film, CopyState, Here, Sent, Scrapped, BookCopy, moment_value, film_columns, state_value, copy_columns}
 use Rattle.shop_schema.proofs.OneToOne.{one_moment}
 
 pub same_moment_value : (a b : Moment) → IsMoment a → IsMoment b → moment_value a ≡ moment_value b → a ≡ b

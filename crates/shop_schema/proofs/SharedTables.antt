@@ -1,8 +1,5 @@
 -- The tables of head office's rows, as lists of the books.
-use Rattle.std.proofs.Common.{refl}
-use Rattle.shop_model.specs.Values.{Text, City, Actor, Film, Cast, Branch, Staff}
-use Rattle.shop_schema.specs.Tables.{country_table, language_table, category_table, city_table, actor_table, film_table, film_actor_table, staff_table}
-use Rattle.shop_schema.specs.Columns.{named_columns, city_columns, actor_columns, film_columns, cast_columns, staff_columns}
+use Rattle.shop_schema.proofs.Common.{refl, Text, City, Actor, Film, Cast, Branch, Staff, country_table, language_table, category_table, city_table, actor_table, film_table, film_actor_table, staff_table, named_columns, city_columns, actor_columns, film_columns, cast_columns, staff_columns}
 use Rattle.shop_schema.proofs.Listed.{Part, Shared, Plain, listed}
 
 abbrev pub countries : Shared Text

@@ -1,21 +1,11 @@
 -- The tables of the shop, each as one value.
-use Rattle.std.proofs.Common.{◌≡◌, ◌||◌, ℕ, List, [], ◌∷◌, Option, Some, Bool, true, false, true≢false, refl, sym, ap, ◌∙◌, codes}
-use Rattle.std.specs.Str.{bytes_eq}
-use Rattle.shop_model.specs.Rows.{Row, Owned}
+use Rattle.shop_schema.proofs.Common.{◌≡◌, ◌||◌, ℕ, List, [], ◌∷◌, Bool, true, false, true≢false, refl, sym, codes, bytes_eq, rating_text, features_text, seen_rule, seen_state, Rating, chain_columns, rule_columns, named_columns, city_columns, actor_columns, film_columns, cast_columns, staff_columns, customer_columns, copy_columns, rental_columns, terms_columns, payment_columns, lot_columns, IsName, IsToken, IsRating, IsCity, IsActor, IsFilm, IsCast, IsStaff, IsRow, IsCustomer, IsCopy, IsRental, IsTerms, IsPayment, IsLot, IsShared, TableOf, person_kinds}
 use Rattle.shop_model.specs.Values as model
-use Rattle.shop_model.specs.Values.{City, Actor, Film, Cast, Staff, Person, Customer, Rental, Terms, Payment}
-use Rattle.shop_model.specs.Books.{BookCopy}
-use Rattle.shop_types.specs.Films.{rating_text, features_text}
-use Rattle.shop_types.specs.Seen.{seen_rule, seen_state}
-use Rattle.shop_types.specs.declared.film.Rating.{Rating}
 use Rattle.shop_types.specs.declared.film.Rating.TheVariants as rating
 use Rattle.shop_types.specs.declared.rule.Rule.TheVariants as rule
 use Rattle.shop_types.specs.declared.custody.CopyState as states
 use Rattle.shop_types.specs.declared.custody.CopyState.TheVariants as state
-use Rattle.shop_schema.specs.Columns.{chain_columns, rule_columns, named_columns, city_columns, actor_columns, film_columns, cast_columns, staff_columns, customer_columns, copy_columns, rental_columns, terms_columns, payment_columns, lot_columns}
-use Rattle.shop_schema.specs.RowValues.{IsNumber, IsName, IsToken, IsRating, IsPerson, IsCity, IsActor, IsFilm, IsCast, IsStaff, IsRow, IsCustomer, IsCopy, IsRental, IsTerms, IsPayment, IsLot, IsShared}
 use Rattle.shop_schema.specs.Kinds as kind
-use Rattle.shop_schema.specs.TableOf.{TableOf, person_kinds}
 use Rattle.shop_schema.proofs.OneToOne.{text_equal}
 
 -- ---- what has one text or number a word

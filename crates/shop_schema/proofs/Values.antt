@@ -1,32 +1,11 @@
 -- The rows of the books stay such as the program can hold.
-use Rattle.std.proofs.Common.{◌≡◌, ◌≤◌, ◌<◌, ◌+◌, ◌^◌, ◌==◌, ℕ, suc, get_or, List, [], ◌∷◌, ◌++◌, map, not, length, Bool, true, false, refl, sym, ap, subst, ◌∙◌, arith, inl, inr, append-nil, ◌-◌, codes, decimal, IsUtf8, IsAscii, length-append}
-use Rattle.std.specs.Prelude.{⊤, ◌⊎◌, nat_lt, if◌then◌else◌, None, Some, flat_map}
-use Rattle.std.specs.List.{AllByRecursion, list_all}
-use Rattle.std.proofs.lemmas.Bool.{and_parts, ltb-true}
-use Rattle.std.proofs.lemmas.Bool.Decides.{nat_tests}
-use Rattle.std.proofs.lemmas.Fmt.{IsAscii-decimal}
-use Rattle.std.proofs.lemmas.Str.{IsUtf8-from_ascii, IsAscii-append}
-use Rattle.std.proofs.lemmas.Str.Ascii.{IsAscii-nil, IsAscii-cons}
-use Rattle.std.proofs.ByRecursion.{All-push}
-use Rattle.shop_model.specs.Calendar.{IsMoment}
-use Rattle.shop_model.specs.Json.{escape_byte, flag_text, object}
-use Rattle.shop_model.specs.Rows.{Row, Owned, at, of, is_row, next, put, put_all, set_row, set_rows, update_where}
-use Rattle.shop_model.specs.Values.{Text, Film, Customer, Copy, Rental, Terms, Scrapped, Act, Command, Rules}
+use Rattle.shop_schema.proofs.Common.{◌≡◌, ◌≤◌, ◌<◌, ◌+◌, ◌^◌, ◌==◌, ℕ, suc, get_or, List, [], ◌∷◌, ◌++◌, map, not, length, Bool, true, false, refl, sym, ap, subst, ◌∙◌, arith, inl, inr, append-nil, ◌-◌, codes, decimal, IsUtf8, IsAscii, length-append, ⊤, ◌⊎◌, nat_lt, if◌then◌else◌, AllByRecursion, list_all, and_parts, ltb-true, nat_tests, IsAscii-decimal, IsUtf8-from_ascii, IsAscii-append, IsAscii-nil, IsAscii-cons, All-push, IsMoment, flag_text, object, Row, Owned, at, of, is_row, next, put_all, set_row, set_rows, Text, Film, Copy, Rental, Terms, Act, Command, Rules, film_terms, terms_now, films_in, reply_text, Shop, Catalogue, IsGoodCatalogue, Books, Consignment, Customers, CopyRows, Rentals, TermRows, Payments, RowOf, rows_of, with_rows, Edit, Put, Set, PutLot, Append, edited, all_edited, edits_of, book_acted, book_done, imported, unmarked, shop_of, by_table, AskedOfEach, each_keeps, IsSound, row_terms, migrated, without_terms, put_own, length_map, at_one, all-append, all-filter, HasFewShared, IsHeld, IsConsignment, IsKey, IsNumber, IsFilm, IsRow, IsCustomer, IsCopy, IsRental, IsTerms, IsPayment, IsLot, IsKept, IsLast, AreBytes, IsAct, IsCommand, AreValues, FilmsFit, FitsTables}
+use Rattle.std.specs.Prelude.{flat_map}
+use Rattle.shop_model.specs.Json.{escape_byte}
+use Rattle.shop_model.specs.Rows.{put, update_where}
 use Rattle.shop_model.specs.Values as model
-use Rattle.shop_model.specs.Stock.{film_terms, terms_now}
-use Rattle.shop_model.specs.Machine.{films_in, told, reply_text}
-use Rattle.shop_model.specs.Shop.{Shop, Catalogue}
-use Rattle.shop_model.specs.Links.{IsGoodCatalogue}
-use Rattle.shop_model.specs.Books.{Books, Consignment, Table, Customers, CopyRows, Rentals, TermRows, Payments, RowOf, rows_of, with_rows, Edit, Put, Set, PutLot, Append, Update, edited, all_edited, edits_of, book_acted, book_done, imported, unmarked, shop_of}
-use Rattle.shop_model.proofs.EditLemmas.{by_table, AskedOfEach, each_keeps}
-use Rattle.shop_model.specs.Sound.{IsSound}
-use Rattle.shop_model.specs.Migration.{row_terms, migrated, without_terms}
-use Rattle.shop_model.proofs.RowLemmas.{put_own, length_map}
-use Rattle.shop_model.proofs.FoundLemmas.{at_one}
-use Rattle.sqlite_keyed.proofs.ListLemmas.{all-append, all-filter}
-use Rattle.shop_schema.specs.Held.{HasFewShared, IsHeld}
-use Rattle.shop_schema.specs.RowValues.{IsConsignment, IsKey, IsNumber, IsFilm, IsRow, IsCustomer, IsCopy, IsRental, IsTerms, IsPayment, IsLot, IsKept, IsLast, AreBytes, IsAct, IsCommand, AreValues}
-use Rattle.shop_schema.specs.Steps.{FilmsFit, FitsTables}
+use Rattle.shop_model.specs.Machine.{told}
+use Rattle.shop_model.specs.Books.{Table, Update}
 
 -- a good catalogue by a size of a million has few shared rows
 few_by_good : (sizes : Rules) (catalogue : Catalogue) → sizes.commands ≡ 1_000_000 → IsGoodCatalogue sizes catalogue → HasFewShared catalogue

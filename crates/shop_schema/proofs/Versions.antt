@@ -1,29 +1,15 @@
 -- The version of a database of which only the first table is known.
-use Rattle.std.proofs.Common.{◌≡◌, ◌≢◌, ◌<◌, ◌^◌, ◌==◌, ℕ, pos, negsuc, List, [], ◌∷◌, codes, refl, map, cond, true, length, get_or, ap, sym, subst, ◌∙◌, arith, Ok, Err, Result, IfOk}
-use Rattle.std.specs.List.{flat_map}
+use Rattle.std.proofs.Common.{IfOk}
+use Rattle.shop_schema.proofs.Common.{◌≡◌, ◌≢◌, ◌<◌, ◌^◌, ◌==◌, ℕ, pos, negsuc, List, [], ◌∷◌, codes, refl, map, cond, true, length, get_or, ap, sym, subst, ◌∙◌, arith, Ok, Err, Result, flat_map, IsPermutation-map, IsPermutation-sym, length_permutation, ne_eqb, one_permutation, Null, Int, Real, Blob, column, Output, output, State, columns_of, number_value, KnownVersion, First, This, Other, this_version, first_version, version_of, version_told, begins_so, Table, Index, chain_table, shop_schema, HaveFirst, Selects, plain_query, answers}
 use Rattle.std.specs.List.Sorted.{IsPermutation}
-use Rattle.std.proofs.lemmas.List.Sorted.{IsPermutation-map, IsPermutation-sym, length_permutation}
-use Rattle.std.proofs.lemmas.Bool.{ne_eqb}
-use Rattle.sqlite.proofs.Callers.{one_permutation}
-use Rattle.sqlite.specs.declared.types.Value.TheVariants.{Null, Int, Real, Text, Blob}
-use Rattle.sqlite_value.specs.Order.{Row, column}
-use Rattle.sqlite_sql.specs.Query.{Output, output}
-use Rattle.sqlite.specs.State.{State, Shown}
-use Rattle.sql_rows.specs.Rows.{columns_of, number_value}
-use Rattle.shop_schema.specs.declared.known.KnownVersion.{KnownVersion}
-use Rattle.shop_schema.specs.declared.known.KnownVersion.TheVariants.{Missing, First, This, Other}
-use Rattle.shop_schema.specs.Columns.{this_version, first_version}
-use Rattle.shop_schema.specs.Versions.{version_of, version_told}
-use Rattle.shop_schema.specs.Shop.{begins_so}
+use Rattle.sqlite.specs.declared.types.Value.TheVariants.{Text}
+use Rattle.sqlite_value.specs.Order.{Row}
+use Rattle.sqlite.specs.State.{Shown}
+use Rattle.shop_schema.specs.declared.known.KnownVersion.TheVariants.{Missing}
 use Rattle.sqlite.specs.Term.{col}
-use Rattle.sqlite.specs.Table.{Table}
-use Rattle.sqlite_schema.specs.declared.schema.Index.{Index}
 use Rattle.sqlite_schema.specs.declared.schema.View.{View}
 use Rattle.sqlite_tied.specs.Compute.{everything}
 use Rattle.sqlite.specs.Listing.{understood}
-use Rattle.shop_schema.specs.Tables.{chain_table, shop_schema}
-use Rattle.shop_schema.specs.Bare.{HaveFirst}
-use Rattle.sql_rows.proofs.Queries.{Selects, plain_query, answers}
 
 abbrev pub version_text : List ℕ
 version_text = codes "SELECT version FROM chain"

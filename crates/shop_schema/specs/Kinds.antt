@@ -1,5 +1,5 @@
 -- The kinds of columns, what a column of a kind holds, and rows of them as values.
-use Rattle.std.specs.Prelude.{⊤, ◌≡◌, ◌≤◌, ◌<◌, ◌^◌, ℕ, Bool, List, [], ◌∷◌, Option, IfSome, IsUtf8}
+use Rattle.std.specs.Prelude.{⊤, ◌≤◌, ◌<◌, ℕ, Bool, List, [], ◌∷◌, Option, IfSome, IsUtf8}
 use Rattle.sqlite.specs.declared.types.Value.{Value}
 use Rattle.sqlite.specs.declared.types.Value.TheVariants as sql_value
 use Rattle.sqlite.specs.Values.{or_null}

@@ -1,5 +1,5 @@
 -- A table is one value: the kinds of its columns, and its rows as values of them, one for one.
-use Rattle.std.specs.Prelude.{⊤, ◌≡◌, ℕ, List, [], ◌∷◌, refl}
+use Rattle.std.specs.Prelude.{◌≡◌, List, ◌∷◌}
 use Rattle.sqlite_value.specs.Order as sql
 use Rattle.shop_schema.specs.Kinds as kind
 use Rattle.shop_schema.specs.Kinds.{Kind, Values, columns_of, FitEach}

@@ -1,13 +1,5 @@
 -- Rows of a branch, in the order of their numbers and by these.
-use Rattle.std.proofs.Common.{◌≡◌, ◌<◌, ◌==◌, ◌+◌, ◌-◌, ℕ, List, [], ◌∷◌, ◌++◌, length, false, ap, refl, ◌∙◌, arith, is_eq, is_lt, inl, inr}
-use Rattle.std.specs.List.{AllByRecursion}
-use Rattle.std.specs.Ordering.{nat_cmp}
-use Rattle.std.proofs.lemmas.Bool.{cases_Bool}
-use Rattle.std.proofs.lemmas.Bool.Decides.{nat_tests}
-use Rattle.sqlite_trees.specs.Tree.{IsAscending}
-use Rattle.shop_model.specs.Rows.{Row, at, is_of, of}
-use Rattle.shop_model.proofs.RowLemmas.{differ_test}
-use Rattle.shop_schema.specs.RowValues.{IsRow}
+use Rattle.shop_schema.proofs.Common.{◌≡◌, ◌<◌, ◌==◌, ◌+◌, ◌-◌, ℕ, List, [], ◌∷◌, ◌++◌, length, false, ap, refl, ◌∙◌, arith, is_eq, is_lt, inl, inr, AllByRecursion, nat_cmp, cases_Bool, nat_tests, IsAscending, Row, at, is_of, of, differ_test, IsRow}
 use Rattle.shop_ledger.proofs.Rising.{Rise}
 
 pub not_equal : (m n : ℕ) → m < n → is_eq (nat_cmp m n) ≡ false

@@ -1,47 +1,12 @@
 -- A table of the branches' rows, each with its branch and its number there: what a SELECT says of it, and what an UPDATE of one row makes of it.
-use Rattle.std.proofs.Common.{◌≡◌, ◌≤◌, ◌&&◌, ℕ, zero, suc, List, [], ◌∷◌, map, filter, drop, length, Bool, true, cond, Ok, Err, Result, refl, sym, ap, subst, ◌∙◌, arith}
-use Rattle.std.specs.Prelude.{Vec, IfOk, IfSome, Option, Some, None, take, option_map}
-use Rattle.std.specs.Option.{option_to_list}
-use Rattle.std.specs.List.{AllByRecursion, list_all}
-use Rattle.std.specs.declared.alloc.Global.{Global}
-use Rattle.std.proofs.lemmas.List.{map-id}
-use Rattle.sqlite.specs.declared.types.Value.{Value}
-use Rattle.sqlite.specs.declared.types.Value.TheVariants.{Int}
+use Rattle.shop_schema.proofs.Common.{◌≡◌, ◌≤◌, ◌&&◌, ℕ, zero, suc, List, [], ◌∷◌, map, filter, drop, length, Bool, true, cond, Ok, Err, Result, refl, sym, ap, subst, ◌∙◌, arith, Vec, IfOk, IfSome, option_to_list, AllByRecursion, list_all, Global, map-id, Value, Int, column, ascending, Binary, rowid, Term, col, eval_all, holds, Query, output, cast, cast_all, cast_row, Update, State, ExecutesInside, sort_by, update_where, map-map, all-filter, all_map, Means, by, PicksOne, columns_from, columns_of, number_value, StoreFault, are_kept, id_of, length-map, number_test, two_tested, test_of, unmapped_kind, still_holds, writes_by, Selects, plain_query, selects_one, selects_sorted, sets_row, Row, is_of, is_row, of, at, set_row, AreNumbered, Books, row_at, IsHeld, IsRow, shop_schema, StandsFor, StandsWith, Holds, Reads, Writes, counts_of, cols}
+use Rattle.std.specs.Prelude.{Option, Some, None, take, option_map}
 use Rattle.sqlite_value.specs.Order as sql
-use Rattle.sqlite_value.specs.Order.{column}
-use Rattle.sqlite_value.specs.Keys.{ascending}
-use Rattle.sqlite_value.specs.declared.keys.Collation.TheVariants.{Binary}
-use Rattle.sqlite_trees.specs.Tree.{rowid}
 use Rattle.sqlite_schema.specs.declared.schema.Kind.TheVariants as kind
-use Rattle.sqlite_sql.specs.Term.{Term, col, eval_all, holds}
-use Rattle.sqlite_sql.specs.Query.{Query, output}
-use Rattle.sqlite_rules.specs.Cast.{cast, cast_all, cast_row}
-use Rattle.sqlite.specs.Command.TheVariants.{Update}
-use Rattle.sqlite.specs.State.{State, ExecutesInside, Shown}
-use Rattle.sqlite_keyed.specs.Lists.{sort_by, update_where}
-use Rattle.sqlite_keyed.proofs.ListLemmas.{map-map, all-filter, all_map}
-use Rattle.sql_rows.specs.Builds.{Means}
-use Rattle.sql_rows.specs.Rows.{by, PicksOne, columns_from, columns_of, number_value}
-use Rattle.sql_rows.specs.declared.fault.StoreFault.{StoreFault}
-use Rattle.sql_rows.proofs.Appends.{are_kept, id_of}
-use Rattle.sql_rows.proofs.Bags.{length-map}
-use Rattle.sql_rows.proofs.ColumnTests.{number_test, two_tested, test_of}
-use Rattle.sql_rows.proofs.OfKind.{unmapped_kind}
-use Rattle.sql_rows.proofs.Projects.{still_holds, writes_by}
-use Rattle.sql_rows.proofs.Queries.{Selects, plain_query}
-use Rattle.sql_rows.proofs.Steps.{selects_one, selects_sorted, sets_row}
-use Rattle.shop_model.specs.Rows.{Row, is_of, is_row, of, at, set_row, AreNumbered}
-use Rattle.shop_model.specs.Books.{Books}
-use Rattle.shop_model.proofs.RowLemmas.{row_at}
-use Rattle.shop_schema.specs.Held.{IsHeld}
-use Rattle.shop_schema.specs.RowValues.{IsRow}
-use Rattle.shop_schema.specs.Tables.{shop_schema}
-use Rattle.shop_schema.specs.Shop.{StandsFor, StandsWith, Holds, Reads, Writes}
-use Rattle.shop_schema.specs.Counts.{counts_of}
+use Rattle.sqlite.specs.State.{Shown}
 use Rattle.shop_schema.proofs.Lists.{picks_row}
 use Rattle.shop_schema.proofs.Stands.{with_own}
 use Rattle.shop_schema.proofs.Listed.{Plain, width, stood, changed, own_rows}
-use Rattle.sql_rows.specs.Terms.{cols}
 use Rattle.shop_ledger.proofs.Equals.{of_two}
 use Rattle.shop_ledger.proofs.Rising.{Rise, of_which, which_rise, which_are, rise_differ, rise_sorted}
 

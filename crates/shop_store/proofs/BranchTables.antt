@@ -1,11 +1,5 @@
 -- The tables of the branches' rows, as lists of the books.
-use Rattle.std.proofs.Common.{refl}
-use Rattle.shop_model.specs.Rows.{Owned}
-use Rattle.shop_model.specs.Values.{Text, Customer, Rental, Terms, Payment}
-use Rattle.shop_model.specs.Books.{BookCopy}
-use Rattle.shop_schema.specs.Tables.{customer_table, copy_table, rental_table, rental_terms_table, payment_table, lot_table}
-use Rattle.shop_schema.specs.Columns.{customer_columns, copy_columns, rental_columns, terms_columns, payment_columns, lot_columns}
-use Rattle.shop_schema.specs.RowValues.{IsCustomer, IsCopy, IsRental, IsTerms, IsPayment}
+use Rattle.shop_schema.proofs.Common.{refl, Owned, Text, Customer, Rental, Terms, Payment, BookCopy, customer_table, copy_table, rental_table, rental_terms_table, payment_table, lot_table, customer_columns, copy_columns, rental_columns, terms_columns, payment_columns, lot_columns, IsCustomer, IsCopy, IsRental, IsTerms, IsPayment}
 use Rattle.shop_schema.proofs.Listed.{Plain, listed}
 use Rattle.shop_schema.proofs.OneRow.{same_row}
 use Rattle.shop_schema.proofs.ShopTables as table

@@ -1,19 +1,7 @@
 -- A table of shared rows, each with its number, which is its place in a list of the books.
-use Rattle.std.proofs.Common.{◌≡◌, ℕ, List, map, length, refl}
+use Rattle.shop_schema.proofs.Common.{◌≡◌, ℕ, List, map, length, refl, column, Trees, Table, HasRows, SameBut, number_value, IsPlainTable, numbered, City, Actor, Film, Branch, Staff, Books, shop_schema, branch_table, branch_columns, Counts, StandsWith}
 use Rattle.sqlite_value.specs.Order as sql
-use Rattle.sqlite_value.specs.Order.{column}
-use Rattle.sqlite_trees.specs.Tree.{Trees}
-use Rattle.sqlite.specs.Table.{Table}
-use Rattle.sql_rows.specs.Rows.{HasRows, SameBut, number_value}
-use Rattle.sql_rows.proofs.Puts.{IsPlainTable}
-use Rattle.shop_model.specs.Rows.{numbered}
 use Rattle.shop_model.specs.Values as model
-use Rattle.shop_model.specs.Values.{City, Actor, Film, Branch, Staff}
-use Rattle.shop_model.specs.Books.{Books}
-use Rattle.shop_schema.specs.Tables.{shop_schema, branch_table}
-use Rattle.shop_schema.specs.Columns.{branch_columns}
-use Rattle.shop_schema.specs.Counts.{Counts}
-use Rattle.shop_schema.specs.Shop.{StandsWith}
 use Rattle.shop_schema.proofs.Stands.{stands_but}
 use Rattle.shop_schema.proofs.Listed as listed
 use Rattle.shop_schema.proofs.Listed.{Part, Shared}

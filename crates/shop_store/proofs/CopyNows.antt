@@ -1,35 +1,10 @@
 -- What the text of how a copy stands shows of the books: the copy's row, joined with that of its open rental.
-use Rattle.std.proofs.Common.{◌≡◌, ◌≤◌, ◌==◌, ℕ, List, [], ◌∷◌, map, filter, length, Bool, true, false, cond, Option, Some, None, refl, sym, ap, ◌∙◌, arith, append-nil}
-use Rattle.std.specs.Prelude.{slice_get, IfSome, option_map}
-use Rattle.std.specs.Option.{option_to_list}
-use Rattle.std.specs.List.{flat_map}
-use Rattle.std.proofs.lemmas.Bool.{and_parts}
-use Rattle.std.proofs.lemmas.Bool.Decides.{nat_tests}
-use Rattle.sqlite.specs.declared.types.Value.TheVariants.{Null}
-use Rattle.sqlite.specs.Values.{or_null}
+use Rattle.shop_schema.proofs.Common.{◌≡◌, ◌≤◌, ◌==◌, ℕ, List, [], ◌∷◌, map, filter, length, Bool, true, false, cond, Option, Some, None, refl, sym, ap, ◌∙◌, arith, append-nil, slice_get, IfSome, option_to_list, flat_map, and_parts, nat_tests, Null, or_null, column, Trees, Term, col, Query, Join, inner, left, end, Output, overlay, State, map-map, IsPermutation-same, columns_of, number_value, Selects, answers, kept_as_map, number_tested, same_number, two_tested, joined_query, are_equal, or_blank, shown_of, left_pair, joined_rows, still_holds, Row, at, is_row, of, Books, BookCopy, head, shop_of, unmarked, row_at, shop_schema, copy_columns, out_columns, state_value, Out, is_out, counts_of, IsHeld, StandsFor, Holds, Reads, seen_state}
+use Rattle.std.specs.Prelude.{option_map}
 use Rattle.sqlite_value.specs.Order as sql
-use Rattle.sqlite_value.specs.Order.{column}
-use Rattle.sqlite_trees.specs.Tree.{Trees}
-use Rattle.sqlite_sql.specs.Term.{Term, col}
-use Rattle.sqlite_sql.specs.Query.{Query, Join, inner, left, end, Output}
-use Rattle.sqlite_sql.specs.Program.{overlay}
 use Rattle.sqlite_tied.specs.Compute.{everything}
 use Rattle.sqlite.specs.Listing.{understood}
-use Rattle.sqlite.specs.State.{State, Shown}
-use Rattle.sqlite_keyed.proofs.ListLemmas.{map-map, IsPermutation-same}
-use Rattle.sql_rows.specs.Rows.{columns_of, number_value}
-use Rattle.sql_rows.proofs.Queries.{Selects, answers, kept_as_map}
-use Rattle.sql_rows.proofs.ColumnTests.{number_tested, same_number, two_tested}
-use Rattle.sql_rows.proofs.Joins.{joined_query, are_equal, or_blank, shown_of, left_pair, joined_rows}
-use Rattle.sql_rows.proofs.Projects.{still_holds}
-use Rattle.shop_model.specs.Rows.{Row, at, is_row, of}
-use Rattle.shop_model.specs.Books.{Books, BookCopy, head, shop_of, unmarked}
-use Rattle.shop_model.proofs.RowLemmas.{row_at}
-use Rattle.shop_schema.specs.Tables.{shop_schema}
-use Rattle.shop_schema.specs.Columns.{copy_columns, out_columns, state_value}
-use Rattle.shop_schema.specs.Counts.{Out, is_out, counts_of}
-use Rattle.shop_schema.specs.Held.{IsHeld}
-use Rattle.shop_schema.specs.Shop.{StandsFor, Holds, Reads}
+use Rattle.sqlite.specs.State.{Shown}
 use Rattle.shop_schema.proofs.Lists.{picks_row}
 use Rattle.shop_schema.proofs.SameRows.{same_copy}
 use Rattle.shop_ledger.proofs.Equals.{of_two}
@@ -38,7 +13,6 @@ use Rattle.shop_ledger.proofs.Outs.{open_of, outs_numbered, picks_out}
 use Rattle.shop_store.specs.declared.copies.TheConstants.{SELECT_NOW}
 use Rattle.shop_store.specs.declared.copies.CopyNow.{CopyNow}
 use Rattle.shop_store.specs.Seen.{seen_copy_now}
-use Rattle.shop_types.specs.Seen.{seen_state}
 
 abbrev with_out : Join
 with_out = left 43 (are_equal (col 2 1) (col 1 1) ∷ are_equal (col 2 2) (col 1 2) ∷ []) end

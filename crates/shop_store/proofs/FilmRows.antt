@@ -1,25 +1,15 @@
 -- What is read of a film by its number, with all its columns.
-use Rattle.std.proofs.Common.{◌≡◌, ◌≤◌, ◌-◌, ◌==◌, ℕ, List, [], ◌∷◌, Bool, true, false, cond, map, length, refl, ap, ◌∙◌, arith, Ok, Err, Result}
-use Rattle.std.specs.Prelude.{Option, Some, None, IfOk, take, option_map}
-use Rattle.std.specs.Option.{option_to_list}
+use Rattle.shop_schema.proofs.Common.{◌≡◌, ◌≤◌, ◌-◌, ◌==◌, ℕ, List, [], ◌∷◌, Bool, true, false, cond, map, length, refl, ap, ◌∙◌, arith, Ok, Err, Result, IfOk, option_to_list, State, number_value, StoreFault, at, Film, film_columns, Reads, cols, Selects, shop_schema}
+use Rattle.std.specs.Prelude.{Option, Some, None, take, option_map}
 use Rattle.sqlite_value.specs.Order as sql
 use Rattle.sqlite_tied.specs.Compute.{everything}
 use Rattle.sqlite.specs.Listing.{understood}
-use Rattle.sqlite.specs.State.{State, Shown}
-use Rattle.sql_rows.specs.Rows.{number_value}
-use Rattle.sql_rows.specs.declared.fault.StoreFault.{StoreFault}
-use Rattle.shop_model.specs.Rows.{at}
-use Rattle.shop_model.specs.Values.{Film}
-use Rattle.shop_schema.specs.Columns.{film_columns}
-use Rattle.shop_schema.specs.Shop.{Reads}
-use Rattle.sql_rows.specs.Terms.{cols}
+use Rattle.sqlite.specs.State.{Shown}
 use Rattle.shop_schema.proofs.SameRows.{same_film}
 use Rattle.shop_store.specs.declared.films.TheConstants.{SELECT_FILM}
 use Rattle.shop_store.specs.SharedSeen.{seen_film_row}
 use Rattle.shop_store.specs.declared.films.FilmRow.{FilmRow}
 use Rattle.shop_store.proofs.ByNumber.{films}
-use Rattle.sql_rows.proofs.Queries.{Selects}
-use Rattle.shop_schema.specs.Tables.{shop_schema}
 use Rattle.shop_store.proofs.SharedReads.{asked, Shows, still, shows_shared}
 
 select_row_means : Selects shop_schema SELECT_FILM.now (asked films SELECT_FILM.now (cols 1 1 12))

@@ -1,29 +1,13 @@
 -- The greatest number of a table of shared rows is how many rows it has.
-use Rattle.std.proofs.Common.{◌≡◌, ◌<◌, ◌+◌, ℕ, List, [], ◌∷◌, map, filter, length, true, Ok, Err, Result, refl, sym, ap, subst, ◌∙◌, arith}
-use Rattle.std.specs.Prelude.{IfOk, Option, Some, None}
+use Rattle.shop_schema.proofs.Common.{◌≡◌, ◌<◌, ◌+◌, ℕ, List, [], ◌∷◌, map, filter, length, true, Ok, Err, Result, refl, sym, ap, subst, ◌∙◌, arith, IfOk, AllByRecursion, column, IsAscending, col, Query, output, State, columns_of, number_value, StoreFault, still_holds, Selects, plain_query, same_number, numbered, numbered_from, Books, shop_schema, counts_of, StandsFor, Holds, Reads, TellsFirst}
+use Rattle.std.specs.Prelude.{Option, Some, None}
 use Rattle.std.specs.Option.{unwrap_or}
-use Rattle.std.specs.List.{AllByRecursion}
 use Rattle.sqlite_value.specs.Order as sql
-use Rattle.sqlite_value.specs.Order.{column}
-use Rattle.sqlite_trees.specs.Tree.{IsAscending}
-use Rattle.sqlite_sql.specs.Term.{col}
-use Rattle.sqlite_sql.specs.Query.{Query, output}
 use Rattle.sqlite_tied.specs.Compute.{everything}
 use Rattle.sqlite.specs.Listing.{understood}
-use Rattle.sqlite.specs.State.{State, Shown}
-use Rattle.sql_rows.specs.Rows.{columns_of, number_value}
-use Rattle.sql_rows.specs.declared.fault.StoreFault.{StoreFault}
-use Rattle.sql_rows.proofs.Projects.{still_holds}
-use Rattle.sql_rows.proofs.Queries.{Selects, plain_query}
-use Rattle.sql_rows.proofs.ColumnTests.{same_number}
-use Rattle.shop_model.specs.Rows.{numbered, numbered_from}
-use Rattle.shop_model.specs.Books.{Books}
-use Rattle.shop_schema.specs.Tables.{shop_schema}
-use Rattle.shop_schema.specs.Counts.{counts_of}
-use Rattle.shop_schema.specs.Shop.{StandsFor, Holds, Reads}
+use Rattle.sqlite.specs.State.{Shown}
 use Rattle.shop_schema.proofs.Stands.{with_own}
 use Rattle.shop_schema.proofs.Listed.{own_rows}
-use Rattle.shop_schema.specs.First.{TellsFirst}
 use Rattle.shop_store.specs.declared.lasts.TheConstants.{SELECT_LAST_COUNTRY, SELECT_LAST_LANGUAGE, SELECT_LAST_CATEGORY, SELECT_LAST_CITY, SELECT_LAST_ACTOR, SELECT_LAST_FILM, SELECT_LAST_BRANCH, SELECT_LAST_STAFF}
 use Rattle.shop_store.specs.SharedSeen.{IsFirstNumber}
 use Rattle.shop_store.proofs.ByNumber.{ByNumber, countries, languages, categories, cities, actors, films, branches, staff}

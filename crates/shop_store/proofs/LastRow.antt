@@ -1,30 +1,7 @@
 -- What ORDER BY a number DESC LIMIT 1 shows: of the rows that pass, the one with the greatest number.
-use Rattle.std.proofs.Common.{◌≡◌, ◌≤◌, ◌<◌, ℕ, suc, pos, List, [], ◌∷◌, map, filter, take, length, Bool, true, false, cond, Ordering, is_eq, is_gt, refl, ap, ◌∙◌, arith, IsPermutation}
-use Rattle.std.specs.List.{AllByRecursion, list_all}
-use Rattle.std.specs.Ordering.{nat_cmp}
-use Rattle.std.specs.Cmp.{IsTotalOrder}
-use Rattle.std.proofs.lemmas.Bool.Decides.{nat_tests}
-use Rattle.std.proofs.lemmas.Cmp.{back_total}
-use Rattle.std.proofs.lemmas.List.Sorted.{IsPermutation-sym, length_permutation}
-use Rattle.sqlite.specs.declared.types.Value.TheVariants.{Int}
-use Rattle.sqlite_value.specs.Order.{Row, column}
-use Rattle.sqlite_value.specs.declared.keys.Key.{Key}
-use Rattle.sqlite_value.specs.declared.keys.Collation.TheVariants.{Binary}
-use Rattle.sqlite_value.proofs.OrderLemmas.{then-Equal}
-use Rattle.sqlite_trees.specs.Tree.{Trees, IsAscending}
-use Rattle.sqlite_trees.proofs.ListLemmas.{all-permutation}
-use Rattle.sqlite_sql.specs.Term.{Term, lit, col, holds}
-use Rattle.sqlite_sql.specs.Query.{Query, IsAnswer, Output, output}
-use Rattle.sqlite_sql.specs.Program.{overlay}
-use Rattle.sqlite.specs.Schema.{Schema}
-use Rattle.sqlite.specs.State.{State, Shown}
-use Rattle.sqlite_keyed.specs.Lists.{sort_by, insert_sorted}
-use Rattle.sqlite_keyed.proofs.ListLemmas.{ascending_weaker}
-use Rattle.sqlite_keyed.proofs.SortLemmas.{IsPermutation-sort_by}
-use Rattle.sql_rows.specs.Rows.{HasRows, columns_of, number_value}
-use Rattle.sql_rows.specs.Books.{IsOf}
-use Rattle.sql_rows.proofs.Bags.{number_total}
-use Rattle.sql_rows.proofs.Queries.{Selects, plain_query, answers, reads_sorted, number_cmp}
+use Rattle.shop_schema.proofs.Common.{◌≡◌, ◌≤◌, ◌<◌, ℕ, suc, pos, List, [], ◌∷◌, map, filter, take, length, Bool, true, false, cond, Ordering, is_eq, is_gt, refl, ap, ◌∙◌, arith, IsPermutation, AllByRecursion, list_all, nat_cmp, IsTotalOrder, nat_tests, back_total, IsPermutation-sym, length_permutation, Int, column, Key, Binary, then-Equal, Trees, IsAscending, all-permutation, Term, lit, col, holds, Query, IsAnswer, Output, output, overlay, Schema, State, sort_by, insert_sorted, ascending_weaker, IsPermutation-sort_by, HasRows, columns_of, number_value, IsOf, number_total, Selects, plain_query, answers, reads_sorted, number_cmp}
+use Rattle.sqlite_value.specs.Order.{Row}
+use Rattle.sqlite.specs.State.{Shown}
 
 -- the last of a list, where there is one
 abbrev pub ending : {X : Type 0} → List X → List X

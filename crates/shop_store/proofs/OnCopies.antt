@@ -1,36 +1,11 @@
 -- What the texts of copies and lots say and make of the books.
-use Rattle.std.proofs.Common.{◌≡◌, ◌==◌, ◌&&◌, ◌||◌, ℕ, suc, List, [], ◌∷◌, map, filter, length, Bool, true, false, not, cond, Ok, Err, Result, refl, sym, ap, ◌∙◌, arith}
-use Rattle.std.specs.Prelude.{Vec, IfOk}
-use Rattle.std.specs.List.{AllByRecursion, list_any}
-use Rattle.std.specs.Str.{bytes_eq}
-use Rattle.std.specs.declared.alloc.Global.{Global}
-use Rattle.std.proofs.lemmas.Bool.Decides.{nat_tests, same_from_decides, Decides-like}
-use Rattle.std.proofs.lemmas.Slice.Eq.{bytes_eq-Decides}
+use Rattle.shop_schema.proofs.Common.{◌≡◌, ◌==◌, ◌&&◌, ◌||◌, ℕ, suc, List, [], ◌∷◌, map, filter, length, Bool, true, false, not, cond, Ok, Err, Result, refl, sym, ap, ◌∙◌, arith, Vec, IfOk, AllByRecursion, list_any, bytes_eq, Global, nat_tests, same_from_decides, Decides-like, bytes_eq-Decides, column, ascending, Binary, map-map, col, State, ExecutesInside, PicksOne, number_value, StoreFault, are_kept, Selects, plain_query, unmapped, number_test, number_tested, same_number, test_of, text_test, text_tested, two_tested, projects_count, projects_sorted, still_holds, Row, Owned, is_of, is_row, owned_by, set_row, CopyState, Here, Sent, Scrapped, Books, BookCopy, put_state, copy_is, shop_schema, copy_table, copy_columns, lot_columns, state_value, IsRow, IsCopy, StandsFor, IsShop, Reads, Writes}
 use Rattle.sqlite.specs.declared.types.Value.TheVariants.{Text}
 use Rattle.sqlite_value.specs.Order as sql
-use Rattle.sqlite_value.specs.Order.{column}
-use Rattle.sqlite_value.specs.Keys.{ascending}
-use Rattle.sqlite_value.specs.declared.keys.Collation.TheVariants.{Binary}
-use Rattle.sqlite_keyed.proofs.ListLemmas.{map-map}
-use Rattle.sqlite_sql.specs.Term.{col}
 use Rattle.sqlite_tied.specs.Compute.{everything}
 use Rattle.sqlite.specs.Listing.{understood}
-use Rattle.sqlite.specs.State.{State, ExecutesInside, Shown}
-use Rattle.sql_rows.specs.Rows.{PicksOne, number_value}
-use Rattle.sql_rows.specs.declared.fault.StoreFault.{StoreFault}
-use Rattle.sql_rows.proofs.Appends.{are_kept}
-use Rattle.sql_rows.proofs.Queries.{Selects, plain_query, unmapped}
-use Rattle.sql_rows.proofs.ColumnTests.{number_test, number_tested, same_number, test_of, text_test, text_tested, two_tested}
-use Rattle.sql_rows.proofs.Projects.{projects_count, projects_sorted, still_holds}
-use Rattle.shop_model.specs.Rows.{Row, Owned, is_of, is_row, owned_by, set_row}
+use Rattle.sqlite.specs.State.{Shown}
 use Rattle.shop_model.specs.Values as model
-use Rattle.shop_model.specs.Values.{CopyState, Here, Sent, Scrapped}
-use Rattle.shop_model.specs.Books.{Books, BookCopy, put_state}
-use Rattle.shop_model.specs.Sound.{copy_is}
-use Rattle.shop_schema.specs.Tables.{shop_schema, copy_table}
-use Rattle.shop_schema.specs.Columns.{copy_columns, lot_columns, state_value}
-use Rattle.shop_schema.specs.RowValues.{IsRow, IsCopy}
-use Rattle.shop_schema.specs.Shop.{StandsFor, IsShop, Reads, Writes}
 use Rattle.shop_schema.proofs.Listed.{PutsLast, puts_last}
 use Rattle.shop_store.specs.declared.copies.TheConstants.{SELECT_COPY, SELECT_COPIES_OF_FILM, SELECT_IN_STATE, UPDATE_STATE, INSERT_COPY, SELECT_LOT, INSERT_LOT}
 use Rattle.shop_store.specs.Seen.{seen_copy_row}

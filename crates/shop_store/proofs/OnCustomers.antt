@@ -1,24 +1,9 @@
 -- What the texts of customers say and make of the books.
-use Rattle.std.proofs.Common.{◌≡◌, ◌&&◌, ℕ, List, [], ◌∷◌, map, filter, Bool, true, Some, None, Ok, refl, sym, ap, ◌∙◌}
-use Rattle.std.specs.Prelude.{slice_get}
+use Rattle.shop_schema.proofs.Common.{◌≡◌, ◌&&◌, ℕ, List, [], ◌∷◌, map, filter, Bool, true, Some, None, Ok, refl, sym, ap, ◌∙◌, slice_get, column, col, State, ExecutesInside, number_value, flag_value, Selects, plain_query, number_test, number_tested, same_flag, two_tested, projects_one, still_holds, Row, at, is_row, of, set_row, Customer, Books, head, map_at, row_at, shop_schema, customer_columns, IsHeld, StandsFor, Holds, Reads, Writes}
 use Rattle.sqlite_value.specs.Order as sql
-use Rattle.sqlite_value.specs.Order.{column}
-use Rattle.sqlite_sql.specs.Term.{col}
 use Rattle.sqlite_tied.specs.Compute.{everything}
 use Rattle.sqlite.specs.Listing.{understood}
-use Rattle.sqlite.specs.State.{State, ExecutesInside, Shown}
-use Rattle.sql_rows.specs.Rows.{number_value, flag_value}
-use Rattle.sql_rows.proofs.Queries.{Selects, plain_query}
-use Rattle.sql_rows.proofs.ColumnTests.{number_test, number_tested, same_flag, two_tested}
-use Rattle.sql_rows.proofs.Projects.{projects_one, still_holds}
-use Rattle.shop_model.specs.Rows.{Row, at, is_row, of, set_row}
-use Rattle.shop_model.specs.Values.{Customer}
-use Rattle.shop_model.specs.Books.{Books, head}
-use Rattle.shop_model.proofs.RowLemmas.{map_at, row_at}
-use Rattle.shop_schema.specs.Tables.{shop_schema}
-use Rattle.shop_schema.specs.Columns.{customer_columns}
-use Rattle.shop_schema.specs.Held.{IsHeld}
-use Rattle.shop_schema.specs.Shop.{StandsFor, Holds, Reads, Writes}
+use Rattle.sqlite.specs.State.{Shown}
 use Rattle.shop_schema.proofs.FirstRows.{first_none, first_some}
 use Rattle.shop_schema.proofs.Lists.{picks_row}
 use Rattle.shop_schema.proofs.Listed.{PutsLast, puts_last}

@@ -1,26 +1,8 @@
 -- What the texts of payments say and make of the books.
-use Rattle.std.proofs.Common.{◌≡◌, ◌==◌, ◌&&◌, ℕ, List, [], ◌∷◌, map, filter, cond, Bool, true, is_lt, Option, Some, None, refl, ◌∙◌}
-use Rattle.std.specs.Ordering.{nat_cmp, is_ge}
-use Rattle.std.specs.Cmp.Lexicographic.{slice_cmp}
-use Rattle.std.specs.List.{AllByRecursion}
-use Rattle.std.proofs.lemmas.Result.{IfOk-weaker}
+use Rattle.shop_schema.proofs.Common.{◌≡◌, ◌==◌, ◌&&◌, ℕ, List, [], ◌∷◌, map, filter, cond, Bool, true, is_lt, Option, Some, None, refl, ◌∙◌, nat_cmp, is_ge, slice_cmp, AllByRecursion, IfOk-weaker, Binary, Term, col, op2, Compare, Eq, Lt, Ge, all-filter, number_value, are_kept, number_test, number_tested, from_test, from_tested, before_test, before_tested, two_tested, Moment, IsMoment, moment_text, is_by, is_earlier, Row, is_of, Payment, IsRow, IsPayment, payment_table, payment_columns}
 use Rattle.sqlite.specs.declared.types.Value.TheVariants.{Text}
-use Rattle.sqlite_value.specs.declared.keys.Collation.TheVariants.{Binary}
-use Rattle.sqlite_sql.specs.Term.{Term, col, op2}
-use Rattle.sqlite_sql.specs.declared.ops.BinaryOp.TheVariants.{Compare}
-use Rattle.sqlite_sql.specs.declared.ops.CompareOp.TheVariants.{Eq, Lt, Ge}
 use Rattle.sqlite_tied.specs.Compute.{everything}
 use Rattle.sqlite.specs.Listing.{understood}
-use Rattle.sqlite_keyed.proofs.ListLemmas.{all-filter}
-use Rattle.sql_rows.specs.Rows.{number_value}
-use Rattle.sql_rows.proofs.Appends.{are_kept}
-use Rattle.sql_rows.proofs.ColumnTests.{number_test, number_tested, from_test, from_tested, before_test, before_tested, two_tested}
-use Rattle.shop_model.specs.Calendar.{Moment, IsMoment, moment_text, is_by, is_earlier}
-use Rattle.shop_model.specs.Rows.{Row, is_of}
-use Rattle.shop_model.specs.Values.{Payment}
-use Rattle.shop_schema.specs.RowValues.{IsRow, IsPayment}
-use Rattle.shop_schema.specs.Tables.{payment_table}
-use Rattle.shop_schema.specs.Columns.{payment_columns}
 use Rattle.shop_schema.proofs.Listed.{PutsLast, puts_last}
 use Rattle.shop_schema.proofs.MomentOrder.{earlier_text, later_text}
 use Rattle.shop_store.specs.declared.payments.TheConstants.{SELECT_PAYMENTS_OF_CUSTOMER, SELECT_PAYMENTS_BETWEEN, INSERT_PAYMENT}

@@ -1,27 +1,11 @@
 -- What the texts of rentals say and make of the books.
-use Rattle.std.proofs.Common.{◌≡◌, ◌==◌, ◌&&◌, ℕ, List, [], ◌∷◌, filter, Bool, true, Ok, None, Some, Option, refl}
+use Rattle.shop_schema.proofs.Common.{◌≡◌, ◌==◌, ◌&&◌, ℕ, List, [], ◌∷◌, filter, Bool, true, Ok, None, Some, Option, refl, bytes_eq, column, Term, col, State, ExecutesInside, number_value, are_kept, Selects, plain_query, number_test, number_tested, text_test, text_tested, two_tested, projects_count, Moment, moment_text, Row, set_row, Rental, Books, shop_schema, rental_table, rental_columns, moment_value, IsHeld, StandsFor, IsShop, Writes}
 use Rattle.std.specs.Prelude.{length}
-use Rattle.std.specs.Str.{bytes_eq}
 use Rattle.sqlite.specs.declared.types.Value.TheVariants.{Text}
 use Rattle.sqlite_value.specs.Order as sql
-use Rattle.sqlite_value.specs.Order.{column}
-use Rattle.sqlite_sql.specs.Term.{Term, col}
 use Rattle.sqlite_tied.specs.Compute.{everything}
 use Rattle.sqlite.specs.Listing.{understood}
-use Rattle.sqlite.specs.State.{State, ExecutesInside, Shown}
-use Rattle.sql_rows.specs.Rows.{number_value}
-use Rattle.sql_rows.proofs.Appends.{are_kept}
-use Rattle.sql_rows.proofs.Queries.{Selects, plain_query}
-use Rattle.sql_rows.proofs.ColumnTests.{number_test, number_tested, text_test, text_tested, two_tested}
-use Rattle.sql_rows.proofs.Projects.{projects_count}
-use Rattle.shop_model.specs.Calendar.{Moment, moment_text}
-use Rattle.shop_model.specs.Rows.{Row, set_row}
-use Rattle.shop_model.specs.Values.{Rental}
-use Rattle.shop_model.specs.Books.{Books}
-use Rattle.shop_schema.specs.Tables.{shop_schema, rental_table}
-use Rattle.shop_schema.specs.Columns.{rental_columns, moment_value}
-use Rattle.shop_schema.specs.Held.{IsHeld}
-use Rattle.shop_schema.specs.Shop.{StandsFor, IsShop, Writes}
+use Rattle.sqlite.specs.State.{Shown}
 use Rattle.shop_schema.proofs.Listed.{PutsLast, puts_last}
 use Rattle.shop_store.specs.declared.rentals.TheConstants.{SELECT_RENTAL, SELECT_SAME_RENTAL, INSERT_RENTAL, UPDATE_RETURNED}
 use Rattle.shop_store.specs.Seen.{seen_rental_row}

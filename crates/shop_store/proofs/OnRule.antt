@@ -1,27 +1,11 @@
 -- What the texts of the rule say and make of the books.
-use Rattle.std.proofs.Common.{◌≡◌, ℕ, List, [], ◌∷◌, true, Some, None, Ok, refl, sym, ap, subst, ◌∙◌, arith}
-use Rattle.std.specs.Prelude.{⊤, Option, slice_get}
+use Rattle.shop_schema.proofs.Common.{◌≡◌, ℕ, List, [], ◌∷◌, true, Some, None, Ok, refl, sym, ap, subst, ◌∙◌, arith, ⊤, slice_get, column, Term, col, Update, State, ExecutesInside, Means, are_kept, same_number, projects_one, still_holds, writes_by, Selects, plain_query, sets_row, Rule, ByCode, ByComment, Books, seen_rule, TellsFirst, shop_schema, chain_rule_table, rule_value, rule_columns, StandsFor, StandsWith, Reads, Writes}
+use Rattle.std.specs.Prelude.{Option}
 use Rattle.sqlite_value.specs.Order as sql
-use Rattle.sqlite_value.specs.Order.{column}
-use Rattle.sqlite_sql.specs.Term.{Term, col}
 use Rattle.sqlite_tied.specs.Compute.{everything}
 use Rattle.sqlite.specs.Listing.{understood}
-use Rattle.sqlite.specs.Command.TheVariants.{Update}
-use Rattle.sqlite.specs.State.{State, ExecutesInside, Shown}
-use Rattle.sql_rows.specs.Builds.{Means}
-use Rattle.sql_rows.proofs.Appends.{are_kept}
-use Rattle.sql_rows.proofs.ColumnTests.{same_number}
-use Rattle.sql_rows.proofs.Projects.{projects_one, still_holds, writes_by}
-use Rattle.sql_rows.proofs.Queries.{Selects, plain_query}
-use Rattle.sql_rows.proofs.Steps.{sets_row}
-use Rattle.shop_model.specs.Values.{Rule, ByCode, ByComment}
-use Rattle.shop_model.specs.Books.{Books}
-use Rattle.shop_types.specs.Seen.{seen_rule}
+use Rattle.sqlite.specs.State.{Shown}
 use Rattle.shop_types.specs.declared.rule.Rule.{Rule as TheRule}
-use Rattle.shop_schema.specs.First.{TellsFirst}
-use Rattle.shop_schema.specs.Tables.{shop_schema, chain_rule_table}
-use Rattle.shop_schema.specs.Columns.{rule_value, rule_columns}
-use Rattle.shop_schema.specs.Shop.{StandsFor, StandsWith, Reads, Writes}
 use Rattle.shop_schema.proofs.Listed.{own_rows}
 use Rattle.shop_schema.proofs.Stands.{stands_but}
 use Rattle.shop_store.specs.declared.chain.TheConstants.{SELECT_RULE, UPDATE_RULE}

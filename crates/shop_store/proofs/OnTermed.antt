@@ -1,38 +1,9 @@
 -- What the text of a customer's rentals with their terms shows of the books: the rentals' rows, each joined with that of its terms.
-use Rattle.std.proofs.Common.{◌≡◌, ◌≤◌, ◌==◌, ℕ, List, [], ◌∷◌, ◌++◌, map, filter, length, Bool, cond, Ok, Err, Result, refl, ap, ◌∙◌, arith, append-nil}
-use Rattle.std.specs.Prelude.{Vec, IfOk}
-use Rattle.std.specs.List.{flat_map, AllByRecursion}
-use Rattle.std.specs.declared.alloc.Global.{Global}
-use Rattle.std.proofs.lemmas.List.{map-id}
-use Rattle.sqlite.specs.declared.types.Value.TheVariants.{Null}
+use Rattle.shop_schema.proofs.Common.{◌≡◌, ◌≤◌, ◌==◌, ℕ, List, [], ◌∷◌, ◌++◌, map, filter, length, Bool, cond, Ok, Err, Result, refl, ap, ◌∙◌, arith, append-nil, Vec, IfOk, flat_map, AllByRecursion, Global, map-id, Null, column, ascending, Key, Binary, Trees, Term, col, Query, Join, inner, left, end, Output, overlay, State, map-map, IsPermutation-same, columns_of, number_value, StoreFault, number_tested, two_tested, joined_query, are_equal, or_blank, shown_of, left_pair, joined_rows, still_holds, Selects, answers, kept_as_map, Row, at, is_row, of, Rental, Terms, Books, shop_of, termed, row_at, shop_schema, rental_columns, terms_columns, IsHeld, StandsFor, Holds, Reads}
 use Rattle.sqlite_value.specs.Order as sql
-use Rattle.sqlite_value.specs.Order.{column}
-use Rattle.sqlite_value.specs.Keys.{ascending}
-use Rattle.sqlite_value.specs.declared.keys.Key.{Key}
-use Rattle.sqlite_value.specs.declared.keys.Collation.TheVariants.{Binary}
-use Rattle.sqlite_trees.specs.Tree.{Trees}
-use Rattle.sqlite_sql.specs.Term.{Term, col}
-use Rattle.sqlite_sql.specs.Query.{Query, Join, inner, left, end, Output}
-use Rattle.sqlite_sql.specs.Program.{overlay}
 use Rattle.sqlite_tied.specs.Compute.{everything}
 use Rattle.sqlite.specs.Listing.{understood}
-use Rattle.sqlite.specs.State.{State, Shown}
-use Rattle.sqlite_keyed.proofs.ListLemmas.{map-map, IsPermutation-same}
-use Rattle.sql_rows.specs.Rows.{columns_of, number_value}
-use Rattle.sql_rows.specs.declared.fault.StoreFault.{StoreFault}
-use Rattle.sql_rows.proofs.ColumnTests.{number_tested, two_tested}
-use Rattle.sql_rows.proofs.Joins.{joined_query, are_equal, or_blank, shown_of, left_pair, joined_rows}
-use Rattle.sql_rows.proofs.Projects.{still_holds}
-use Rattle.sql_rows.proofs.Queries.{Selects, answers, kept_as_map}
-use Rattle.shop_model.specs.Rows.{Row, at, is_row, of}
-use Rattle.shop_model.specs.Values.{Rental, Terms}
-use Rattle.shop_model.specs.Books.{Books, shop_of}
-use Rattle.shop_model.specs.Stock.{termed}
-use Rattle.shop_model.proofs.RowLemmas.{row_at}
-use Rattle.shop_schema.specs.Tables.{shop_schema}
-use Rattle.shop_schema.specs.Columns.{rental_columns, terms_columns}
-use Rattle.shop_schema.specs.Held.{IsHeld}
-use Rattle.shop_schema.specs.Shop.{StandsFor, Holds, Reads}
+use Rattle.sqlite.specs.State.{Shown}
 use Rattle.shop_schema.proofs.Lists.{picks_row}
 use Rattle.shop_ledger.proofs.Equals.{equals}
 use Rattle.shop_ledger.proofs.Rising.{of_which, which_rise}

@@ -1,31 +1,8 @@
 -- What each statement of the opening adds, and all of them in turn.
-use Rattle.std.proofs.Common.{◌≡◌, ◌/◌, ◌-◌, ℕ, suc, List, [], ◌∷◌, codes, map, length, take, get_or, true, Some, None, Ok, refl, sym, subst}
-use Rattle.std.specs.Prelude.{⊤}
-use Rattle.sqlite.specs.declared.types.Value.{Value}
-use Rattle.sqlite.specs.declared.types.Value.TheVariants.{Null}
+use Rattle.shop_schema.proofs.Common.{◌≡◌, ◌/◌, ◌-◌, ℕ, suc, List, [], ◌∷◌, codes, map, length, take, get_or, true, Some, None, Ok, refl, sym, subst, ⊤, Value, Null, Term, lit, eval_all, Values, Insert, value_rows, Ghosts, Held, state, State, ExecutesInside, Means, HasRows, columns_of, are_kept, has_put, owned_by, Branch, Books, opening, token_of, river_dawn, north_light, opening_branch, opening_staff, opening_catalogue, opening_books, shop_schema, branch_table, branch_columns, Counts, HoldsWith, first_books}
 use Rattle.sqlite_value.specs.Order as sql
-use Rattle.sqlite_sql.specs.Term.{Term, lit, eval_all}
-use Rattle.sqlite.specs.Source.TheVariants.{Values}
-use Rattle.sqlite.specs.Command.TheVariants.{Insert}
-use Rattle.sqlite.specs.Effect.{value_rows}
 use Rattle.sqlite_tied.specs.Compute.{everything}
 use Rattle.sqlite.specs.Listing.{understood}
-use Rattle.sqlite_trees.specs.declared.store.Store.{Ghosts}
-use Rattle.sqlite.specs.Held.{Held, state}
-use Rattle.sqlite.specs.State.{State, ExecutesInside}
-use Rattle.sql_rows.specs.Builds.{Means}
-use Rattle.sql_rows.specs.Rows.{HasRows, columns_of}
-use Rattle.sql_rows.proofs.Appends.{are_kept}
-use Rattle.sql_rows.proofs.Steps.{has_put}
-use Rattle.shop_model.specs.Rows.{owned_by}
-use Rattle.shop_model.specs.Values.{Branch}
-use Rattle.shop_model.specs.Books.{Books}
-use Rattle.shop_model.specs.Sound.{opening}
-use Rattle.shop_model.specs.Opening.{token_of, river_dawn, north_light, opening_branch, opening_staff, opening_catalogue, opening_books}
-use Rattle.shop_schema.specs.Tables.{shop_schema, branch_table}
-use Rattle.shop_schema.specs.Columns.{branch_columns}
-use Rattle.shop_schema.specs.Counts.{Counts}
-use Rattle.shop_schema.specs.Shop.{HoldsWith, first_books}
 use Rattle.shop_schema.proofs.Stands.{stands_but}
 use Rattle.shop_schema.proofs.Listed.{Shared, Plain, width, puts, next_row, IsNext, push}
 use Rattle.shop_schema.proofs.SharedTables.{countries, languages, categories, cities, actors, films, casts, branches, staff}

@@ -1,33 +1,13 @@
 -- What the statements mean, and what they make of the books.
-use Rattle.std.proofs.Common.{◌≡◌, ◌&&◌, ℕ, pos, List, [], ◌∷◌, ◌++◌, map, true, Option, Some, None, Ok, refl, sym, ap, subst, ◌∙◌, arith}
-use Rattle.std.proofs.lemmas.List.Sorted.{IsPermutation-refl}
-use Rattle.std.proofs.lemmas.List.{map_push}
-use Rattle.sqlite.specs.declared.types.Value.TheVariants.{Null, Int, Text}
+use Rattle.shop_schema.proofs.Common.{◌≡◌, ◌&&◌, ℕ, pos, List, [], ◌∷◌, ◌++◌, map, true, Option, Some, None, Ok, refl, sym, ap, subst, ◌∙◌, arith, IsPermutation-refl, map_push, Null, Int, Term, lit, col, or_null, Values, Insert, State, ExecutesInside, Means, HasRows, number_value, is_kept, has_put, Moment, owned_by, numbered, Branch, Books, head, shop_schema, chain_table, branch_table, chain_rule_table, chain_columns, branch_columns, moment_value, rule_columns, IsShop, IsKeyed, HaveNoRows, HoldsWith, Writes, first_books, no_counts, cols}
+use Rattle.sqlite.specs.declared.types.Value.TheVariants.{Text}
 use Rattle.sqlite_value.specs.Order as sql
-use Rattle.sqlite_sql.specs.Term.{Term, lit, col}
-use Rattle.sqlite.specs.Values.{or_null}
-use Rattle.sqlite.specs.Source.TheVariants.{Values}
-use Rattle.sqlite.specs.Command.TheVariants.{Insert}
 use Rattle.sqlite_tied.specs.Compute.{everything}
 use Rattle.sqlite.specs.Listing.{understood}
-use Rattle.sqlite.specs.State.{State, ExecutesInside}
-use Rattle.sql_rows.specs.Builds.{Means}
-use Rattle.sql_rows.specs.Rows.{HasRows, number_value}
 use Rattle.sqlite_schema.specs.declared.schema.Kind.TheVariants as kind
-use Rattle.sql_rows.proofs.Appends.{is_kept}
-use Rattle.sql_rows.proofs.Steps.{has_put}
-use Rattle.shop_model.specs.Calendar.{Moment}
-use Rattle.shop_model.specs.Rows.{owned_by, numbered}
 use Rattle.shop_model.specs.Values as model
-use Rattle.shop_model.specs.Values.{Branch}
-use Rattle.shop_model.specs.Books.{Books, head}
-use Rattle.shop_schema.specs.Tables.{shop_schema, chain_table, branch_table, chain_rule_table}
-use Rattle.shop_schema.specs.Columns.{chain_columns, branch_columns, moment_value, rule_columns}
-use Rattle.shop_schema.specs.Shop.{IsShop, IsKeyed, HaveNoRows, HoldsWith, Writes, first_books}
-use Rattle.shop_schema.specs.Counts.{no_counts}
 use Rattle.shop_schema.proofs.Stands.{stands_first, stands_but}
 use Rattle.shop_schema.proofs.Listed.{PutsNext, PutsLast, puts_next, puts_last, next_row, IsNext, push}
-use Rattle.sql_rows.specs.Terms.{cols}
 use Rattle.shop_schema.proofs.SharedTables.{countries, languages, categories, cities, actors, films, casts, branches, staff}
 use Rattle.shop_store.specs.declared.opening.TheConstants.{INSERT_RULE, INSERT_CHAIN}
 use Rattle.shop_store.specs.declared.puts.TheConstants.{INSERT_COUNTRY, INSERT_LANGUAGE, INSERT_CATEGORY, INSERT_CITY, INSERT_ACTOR, INSERT_FILM, INSERT_CAST, INSERT_BRANCH, INSERT_STAFF}

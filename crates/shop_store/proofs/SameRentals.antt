@@ -1,22 +1,10 @@
 -- Whether a branch has a rental of a moment, copy and customer.
-use Rattle.std.proofs.Common.{◌≡◌, ◌∙◌, inl, inr, refl, sym, ap, ℕ, Bool, true, false, not, List, [], ◌∷◌, map, filter, length, cond}
+use Rattle.shop_schema.proofs.Common.{◌≡◌, ◌∙◌, inl, inr, refl, sym, ap, ℕ, Bool, true, false, not, List, [], ◌∷◌, map, filter, length, cond, bytes_eq, AllByRecursion, list_any, cases_Bool, bytes_eq-Decides, State, number_value, still_holds, Moment, IsMoment, moment_text, same_moment, Row, is_of, of, Rental, bytes_same, moment_same, shop_schema, IsRow, IsRental, StandsFor, Reads}
 use Rattle.std.specs.Prelude.{◌==◌, ◌&&◌, ◌||◌}
-use Rattle.std.specs.Str.{bytes_eq}
-use Rattle.std.specs.List.{AllByRecursion, list_any}
-use Rattle.std.proofs.lemmas.Bool.{cases_Bool, true≢false}
-use Rattle.std.proofs.lemmas.Slice.Eq.{bytes_eq-Decides}
+use Rattle.std.proofs.lemmas.Bool.{true≢false}
 use Rattle.sqlite.specs.declared.types.Value.TheVariants.{Text}
 use Rattle.sqlite_value.specs.Order as sql
-use Rattle.sqlite.specs.State.{State, Shown}
-use Rattle.sql_rows.specs.Rows.{number_value}
-use Rattle.sql_rows.proofs.Projects.{still_holds}
-use Rattle.shop_model.specs.Calendar.{Moment, IsMoment, moment_text, same_moment}
-use Rattle.shop_model.specs.Rows.{Row, is_of, of}
-use Rattle.shop_model.specs.Values.{Rental}
-use Rattle.shop_model.proofs.Resent.{bytes_same, moment_same}
-use Rattle.shop_schema.specs.Tables.{shop_schema}
-use Rattle.shop_schema.specs.RowValues.{IsRow, IsRental}
-use Rattle.shop_schema.specs.Shop.{StandsFor, Reads}
+use Rattle.sqlite.specs.State.{Shown}
 use Rattle.shop_schema.proofs.OneToOne.{one_moment, moment_equal}
 use Rattle.shop_store.specs.declared.rentals.TheConstants.{SELECT_SAME_RENTAL}
 use Rattle.shop_store.proofs.OnRentals.{same_means, is_same, shows_same}

@@ -1,31 +1,9 @@
 -- What is read of a shared row by its number.
-use Rattle.std.proofs.Common.{◌≡◌, ◌≤◌, ◌==◌, ◌&&◌, ℕ, List, [], ◌∷◌, map, length, cond, not, true, Some, None, refl, sym, ap, subst, ◌∙◌, arith}
-use Rattle.std.specs.Prelude.{slice_get}
-use Rattle.std.specs.List.{list_all}
-use Rattle.std.proofs.lemmas.Bool.Decides.{nat_tests}
-use Rattle.sqlite.specs.declared.types.Value.TheVariants.{Null}
-use Rattle.sqlite.specs.Values.{or_null}
+use Rattle.shop_schema.proofs.Common.{◌≡◌, ◌≤◌, ◌==◌, ◌&&◌, ℕ, List, [], ◌∷◌, map, length, cond, not, true, Some, None, refl, sym, ap, subst, ◌∙◌, arith, slice_get, list_all, nat_tests, Null, or_null, column, Binary, Term, col, op2, holds, Query, output, Compare, Eq, State, map-map, columns_of, number_value, flag_value, length-map, Selects, plain_query, number_test, one_tested, same_flag, same_or_null, test_of, same_number, projects_one, still_holds, at, is_empty, lacks, numbered, Books, head, shop_schema, StandsFor, Holds, Reads, counts_of}
 use Rattle.sqlite_value.specs.Order as sql
-use Rattle.sqlite_value.specs.Order.{column}
-use Rattle.sqlite_value.specs.declared.keys.Collation.TheVariants.{Binary}
-use Rattle.sqlite_sql.specs.Term.{Term, col, op2, holds}
-use Rattle.sqlite_sql.specs.Query.{Query, output}
-use Rattle.sqlite_sql.specs.declared.ops.BinaryOp.TheVariants.{Compare}
-use Rattle.sqlite_sql.specs.declared.ops.CompareOp.TheVariants.{Eq}
 use Rattle.sqlite_tied.specs.Compute.{everything}
 use Rattle.sqlite.specs.Listing.{understood}
-use Rattle.sqlite.specs.State.{State, Shown}
-use Rattle.sqlite_keyed.proofs.ListLemmas.{map-map}
-use Rattle.sql_rows.specs.Rows.{columns_of, number_value, flag_value}
-use Rattle.sql_rows.proofs.Bags.{length-map}
-use Rattle.sql_rows.proofs.Queries.{Selects, plain_query}
-use Rattle.sql_rows.proofs.ColumnTests.{number_test, one_tested, same_flag, same_or_null, test_of, same_number}
-use Rattle.sql_rows.proofs.Projects.{projects_one, still_holds}
-use Rattle.shop_model.specs.Rows.{at, is_empty, lacks, numbered}
-use Rattle.shop_model.specs.Books.{Books, head}
-use Rattle.shop_schema.specs.Tables.{shop_schema}
-use Rattle.shop_schema.specs.Shop.{StandsFor, Holds, Reads}
-use Rattle.shop_schema.specs.Counts.{counts_of}
+use Rattle.sqlite.specs.State.{Shown}
 use Rattle.shop_schema.proofs.FirstRows.{first_none, first_some}
 use Rattle.shop_schema.proofs.Lasts.{numbered_once}
 use Rattle.shop_schema.proofs.Stands.{with_own}

@@ -1,35 +1,11 @@
 -- An UPDATE of one column of the shared row of a number.
-use Rattle.std.proofs.Common.{◌≡◌, ◌≤◌, ◌<◌, ◌+◌, ◌-◌, ◌==◌, ◌&&◌, ℕ, List, [], ◌∷◌, map, drop, length, Bool, true, false, cond, Some, Ok, refl, sym, ap, subst, arith}
-use Rattle.std.specs.Prelude.{⊤}
-use Rattle.std.specs.List.{list_all}
-use Rattle.std.proofs.lemmas.Bool.Decides.{nat_tests}
-use Rattle.sqlite.specs.declared.types.Value.{Value}
-use Rattle.sqlite.specs.declared.types.Value.TheVariants.{Int}
+use Rattle.shop_schema.proofs.Common.{◌≡◌, ◌≤◌, ◌<◌, ◌+◌, ◌-◌, ◌==◌, ◌&&◌, ℕ, List, [], ◌∷◌, map, drop, length, Bool, true, false, cond, Some, Ok, refl, sym, ap, subst, arith, ⊤, list_all, nat_tests, Value, Int, rowid, Term, col, eval_all, holds, cast, cast_all, cast_row, Update, State, ExecutesInside, update_where, Means, HasRows, SameBut, PicksOne, columns_from, columns_of, number_value, flag_value, are_kept, id_of, number_test, one_tested, test_of, kept_or_null, writes_by, plain_query, sets_row, numbered, numbered_from, set_at, owned_by, Books, head, shop_schema, moment_value, StandsWith, Writes, cols}
 use Rattle.sqlite_value.specs.Order as sql
-use Rattle.sqlite_trees.specs.Tree.{rowid}
 use Rattle.sqlite_schema.specs.declared.schema.Kind.TheVariants as kind
-use Rattle.sqlite_sql.specs.Term.{Term, col, eval_all, holds}
-use Rattle.sqlite_rules.specs.Cast.{cast, cast_all, cast_row}
 use Rattle.sqlite_tied.specs.Compute.{everything}
 use Rattle.sqlite.specs.Listing.{understood}
-use Rattle.sqlite.specs.Command.TheVariants.{Update}
-use Rattle.sqlite.specs.State.{State, ExecutesInside}
-use Rattle.sqlite_keyed.specs.Lists.{update_where}
-use Rattle.sql_rows.specs.Builds.{Means}
-use Rattle.sql_rows.specs.Rows.{HasRows, SameBut, PicksOne, columns_from, columns_of, number_value, flag_value}
-use Rattle.sql_rows.proofs.Appends.{are_kept, id_of}
-use Rattle.sql_rows.proofs.ColumnTests.{number_test, one_tested, test_of, kept_or_null}
-use Rattle.sql_rows.proofs.Projects.{writes_by}
-use Rattle.sql_rows.proofs.Queries.{plain_query}
-use Rattle.sql_rows.proofs.Steps.{sets_row}
-use Rattle.shop_model.specs.Rows.{numbered, numbered_from, set_at, owned_by}
-use Rattle.shop_model.specs.Books.{Books, head}
-use Rattle.shop_schema.specs.Tables.{shop_schema}
-use Rattle.shop_schema.specs.Columns.{moment_value}
-use Rattle.shop_schema.specs.Shop.{StandsWith, Writes}
 use Rattle.shop_schema.proofs.Lasts.{numbered_once}
 use Rattle.shop_schema.proofs.Listed.{own_rows}
-use Rattle.sql_rows.specs.Terms.{cols}
 use Rattle.shop_store.specs.declared.branches.TheConstants.{UPDATE_MANAGER}
 use Rattle.shop_store.specs.declared.films.TheConstants.{UPDATE_RATE, UPDATE_WITHDRAWN}
 use Rattle.shop_store.specs.declared.staff.TheConstants.{UPDATE_GONE}

@@ -1,30 +1,12 @@
 -- What is read by a token: head office's, or a branch's.
-use Rattle.std.proofs.Common.{◌≡◌, ◌≤◌, ◌+◌, ◌==◌, ◌&&◌, ℕ, suc, List, [], ◌∷◌, map, filter, length, cond, not, Bool, true, false, Some, None, refl, sym, ap, subst, ◌∙◌, arith}
-use Rattle.std.specs.Prelude.{Option, slice_get}
-use Rattle.std.specs.Str.{bytes_eq}
+use Rattle.shop_schema.proofs.Common.{◌≡◌, ◌≤◌, ◌+◌, ◌==◌, ◌&&◌, ℕ, suc, List, [], ◌∷◌, map, filter, length, cond, not, Bool, true, false, Some, None, refl, sym, ap, subst, ◌∙◌, arith, slice_get, bytes_eq, column, Binary, Term, col, op2, Compare, Eq, State, PicksOne, number_value, Selects, plain_query, text_test, text_tested, one_tested, projects_one, still_holds, numbered, numbered_from, Branch, Books, Counter, Nobody, branch_with, TellsFirst, shop_schema, chain_columns, branch_columns, IsHeld, StandsFor, Holds, Reads}
+use Rattle.std.specs.Prelude.{Option}
 use Rattle.sqlite.specs.declared.types.Value.TheVariants.{Text}
 use Rattle.sqlite_value.specs.Order as sql
-use Rattle.sqlite_value.specs.Order.{column}
-use Rattle.sqlite_value.specs.declared.keys.Collation.TheVariants.{Binary}
-use Rattle.sqlite_sql.specs.Term.{Term, col, op2}
-use Rattle.sqlite_sql.specs.declared.ops.BinaryOp.TheVariants.{Compare}
-use Rattle.sqlite_sql.specs.declared.ops.CompareOp.TheVariants.{Eq}
 use Rattle.sqlite_tied.specs.Compute.{everything}
 use Rattle.sqlite.specs.Listing.{understood}
-use Rattle.sqlite.specs.State.{State, Shown}
-use Rattle.sql_rows.specs.Rows.{PicksOne, number_value}
-use Rattle.sql_rows.proofs.Queries.{Selects, plain_query}
-use Rattle.sql_rows.proofs.ColumnTests.{text_test, text_tested, one_tested}
-use Rattle.sql_rows.proofs.Projects.{projects_one, still_holds}
-use Rattle.shop_model.specs.Rows.{numbered, numbered_from}
+use Rattle.sqlite.specs.State.{Shown}
 use Rattle.shop_model.specs.Values as model
-use Rattle.shop_model.specs.Values.{Branch}
-use Rattle.shop_model.specs.Books.{Books, Counter, Nobody, branch_with}
-use Rattle.shop_schema.specs.First.{TellsFirst}
-use Rattle.shop_schema.specs.Tables.{shop_schema}
-use Rattle.shop_schema.specs.Columns.{chain_columns, branch_columns}
-use Rattle.shop_schema.specs.Held.{IsHeld}
-use Rattle.shop_schema.specs.Shop.{StandsFor, Holds, Reads}
 use Rattle.shop_schema.proofs.Different.{different_once, bytes_eq_turned}
 use Rattle.shop_store.specs.declared.branches.TheConstants.{SELECT_WITH_TOKEN}
 use Rattle.shop_store.specs.declared.chain.TheConstants.{SELECT_OFFICE, SELECT_OFFICE_TOKEN}

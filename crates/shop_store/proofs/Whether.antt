@@ -1,35 +1,12 @@
 -- Whether a SELECT shows a row, as a call tells it.
-use Rattle.std.proofs.Common.{◌≡◌, ◌==◌, ◌+◌, ◌&&◌, ◌||◌, ℕ, suc, List, [], ◌∷◌, map, filter, length, cond, not, Bool, true, false, Ok, Err, Result, refl, ap, ◌∙◌, arith}
-use Rattle.std.specs.Prelude.{IfOk}
-use Rattle.std.specs.List.{list_all, list_any}
-use Rattle.std.specs.Str.{bytes_eq}
-use Rattle.std.proofs.lemmas.Bool.Decides.{nat_tests}
+use Rattle.shop_schema.proofs.Common.{◌≡◌, ◌==◌, ◌+◌, ◌&&◌, ◌||◌, ℕ, suc, List, [], ◌∷◌, map, filter, length, cond, not, Bool, true, false, Ok, Err, Result, refl, ap, ◌∙◌, arith, IfOk, list_all, list_any, bytes_eq, nat_tests, column, Binary, Trees, Term, col, op2, holds, Query, output, Compare, Eq, is_true, State, HasRows, columns_of, number_value, StoreFault, Selects, plain_query, number_test, number_tested, text_test, text_tested, one_tested, two_tested, projects_count, still_holds, numbered, numbered_from, Cast, Branch, Books, shop_schema, cast_columns, counts_of, StandsFor, Reads}
 use Rattle.sqlite.specs.declared.types.Value.TheVariants.{Text}
 use Rattle.sqlite_value.specs.Order as sql
-use Rattle.sqlite_value.specs.Order.{column}
-use Rattle.sqlite_value.specs.declared.keys.Collation.TheVariants.{Binary}
-use Rattle.sqlite_trees.specs.Tree.{Trees}
-use Rattle.sqlite_sql.specs.Term.{Term, col, op2, holds}
-use Rattle.sqlite_sql.specs.Query.{Query, output}
-use Rattle.sqlite_sql.specs.declared.ops.BinaryOp.TheVariants.{Compare}
-use Rattle.sqlite_sql.specs.declared.ops.CompareOp.TheVariants.{Eq}
-use Rattle.sqlite_sql.specs.Ops.{binary, is_true}
+use Rattle.sqlite_sql.specs.Ops.{binary}
 use Rattle.sqlite_tied.specs.Compute.{everything}
 use Rattle.sqlite.specs.Listing.{understood}
-use Rattle.sqlite.specs.State.{State, Shown}
-use Rattle.sql_rows.specs.Rows.{HasRows, columns_of, number_value}
-use Rattle.sql_rows.specs.declared.fault.StoreFault.{StoreFault}
-use Rattle.sql_rows.proofs.Queries.{Selects, plain_query}
-use Rattle.sql_rows.proofs.ColumnTests.{number_test, number_tested, text_test, text_tested, one_tested, two_tested}
-use Rattle.sql_rows.proofs.Projects.{projects_count, still_holds}
-use Rattle.shop_model.specs.Rows.{numbered, numbered_from}
+use Rattle.sqlite.specs.State.{Shown}
 use Rattle.shop_model.specs.Values as model
-use Rattle.shop_model.specs.Values.{Cast, Branch}
-use Rattle.shop_model.specs.Books.{Books}
-use Rattle.shop_schema.specs.Tables.{shop_schema}
-use Rattle.shop_schema.specs.Columns.{cast_columns}
-use Rattle.shop_schema.specs.Counts.{counts_of}
-use Rattle.shop_schema.specs.Shop.{StandsFor, Reads}
 use Rattle.shop_schema.proofs.Different.{bytes_eq_turned}
 use Rattle.shop_schema.proofs.Stands.{with_own}
 use Rattle.shop_schema.proofs.Listed.{own_rows}

@@ -1,30 +1,7 @@
 -- What is shown of rentals with their terms, and what is read of it.
-use Rattle.std.proofs.Common.{◌≡◌, ◌<◌, ◌+◌, ℕ, List, [], ◌∷◌, ◌++◌, length, map, filter, Bool, false, inl, inr, refl, sym, ap, subst, ◌∙◌, arith, append_assoc, is_eq, is_lt}
-use Rattle.std.specs.Prelude.{zip}
-use Rattle.std.specs.List.{AllByRecursion}
-use Rattle.std.proofs.lemmas.Bool.{cases_Bool}
+use Rattle.shop_schema.proofs.Common.{◌≡◌, ◌<◌, ◌+◌, ℕ, List, [], ◌∷◌, ◌++◌, length, map, filter, Bool, false, inl, inr, refl, sym, ap, subst, ◌∙◌, arith, append_assoc, is_eq, is_lt, zip, AllByRecursion, cases_Bool, Null, or_null, ascending, Binary, then-Equal, Term, Query, Join, Output, output_cmp, map-map, ascending-map, ascending_weaker, all-filter, all_map, number_value, joined_query, Climbs, unmapped_kind, number_cmp, Row, IsCounted, at, is_of, of, Rental, Terms, Books, shop_of, termed, same_if, moment_value, IsRental, IsTerms, IsHeld}
 use Rattle.std.proofs.lemmas.List.{length-append}
-use Rattle.sqlite.specs.declared.types.Value.TheVariants.{Null}
-use Rattle.sqlite.specs.Values.{or_null}
 use Rattle.sqlite_value.specs.Order as sql
-use Rattle.sqlite_value.specs.Keys.{ascending}
-use Rattle.sqlite_value.specs.declared.keys.Collation.TheVariants.{Binary}
-use Rattle.sqlite_value.proofs.OrderLemmas.{then-Equal}
-use Rattle.sqlite_sql.specs.Term.{Term}
-use Rattle.sqlite_sql.specs.Query.{Query, Join, Output, output_cmp}
-use Rattle.sqlite_keyed.proofs.ListLemmas.{map-map, ascending-map, ascending_weaker, all-filter, all_map}
-use Rattle.sql_rows.specs.Rows.{number_value}
-use Rattle.sql_rows.proofs.Joins.{joined_query, Climbs}
-use Rattle.sql_rows.proofs.OfKind.{unmapped_kind}
-use Rattle.sql_rows.proofs.Queries.{number_cmp}
-use Rattle.shop_model.specs.Rows.{Row, IsCounted, at, is_of, of}
-use Rattle.shop_model.specs.Values.{Rental, Terms}
-use Rattle.shop_model.specs.Books.{Books, shop_of}
-use Rattle.shop_model.specs.Stock.{termed}
-use Rattle.shop_model.proofs.RowLemmas.{same_if}
-use Rattle.shop_schema.specs.Columns.{moment_value}
-use Rattle.shop_schema.specs.RowValues.{IsRental, IsTerms}
-use Rattle.shop_schema.specs.Held.{IsHeld}
 use Rattle.shop_schema.proofs.SameRows.{same_moment_value, same_last}
 use Rattle.shop_ledger.proofs.Rising.{Rise, of_which}
 use Rattle.shop_store.specs.declared.termed.TermedRental.{TermedRental}

@@ -11,7 +11,7 @@ ghost use Rattle.shop_model.specs.Values as model;
 ghost use Rattle.shop_model.specs.Stock.{keeps_out};
 ghost use Rattle.shop_model.specs.Books.{put_state, shop_of};
 ghost use Rattle.shop_model.specs.Sound.{copy_is};
-ghost use Rattle.shop_schema.specs.Calls.{Finds, Stores};
+ghost use Rattle.shop_ledger.specs.Calls.{Finds, Stores};
 ghost use Rattle.shop_schema.specs.RowValues.{IsRow, IsCopy};
 ghost use Rattle.shop_schema.specs.Columns.{state_value, copy_columns};
 ghost use Rattle.shop_store.specs.Seen.{seen_copy_row, seen_copy_now};

@@ -6,7 +6,7 @@ ghost use Rattle.shop_model.specs.Calendar.{moment_text};
 ghost use Rattle.shop_model.specs.Rows.{at, of, set_row};
 ghost use Rattle.shop_model.specs.Books.{head};
 ghost use Rattle.shop_types.specs.Seen.{seen_customer};
-ghost use Rattle.shop_schema.specs.Calls.{Finds, Stores};
+ghost use Rattle.shop_ledger.specs.Calls.{Finds, Stores};
 ghost use Rattle.shop_schema.specs.Columns.{customer_columns};
 ghost use Rattle.shop_schema.specs.RowValues.{IsRow, IsCustomer};
 ghost use Rattle.shop_schema.specs.Held.{IsHeld};

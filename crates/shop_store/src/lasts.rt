@@ -6,7 +6,7 @@ ghost use Rattle.sqlite.specs.Held.{state};
 ghost use Rattle.sqlite.specs.State.{HasCleanDisk, Shown};
 ghost use Rattle.sqlite_value.specs.Order.{Row as SqlRow};
 ghost use Rattle.sql_rows.specs.Calls.{StaysInside};
-ghost use Rattle.shop_schema.specs.Calls.{Finds};
+ghost use Rattle.shop_ledger.specs.Calls.{Finds};
 ghost use Rattle.shop_store.specs.SharedSeen.{IsFirstNumber, how_many};
 
 use shop_schema::query_first;

@@ -7,7 +7,7 @@ ghost use Rattle.sql_rows.specs.Rows.{number_value};
 ghost use Rattle.shop_model.specs.Calendar.{moment_text, is_by, is_earlier};
 ghost use Rattle.shop_model.specs.Rows.{of};
 ghost use Rattle.shop_types.specs.Seen.{seen_payment};
-ghost use Rattle.shop_schema.specs.Calls.{Finds, Stores};
+ghost use Rattle.shop_ledger.specs.Calls.{Finds, Stores};
 ghost use Rattle.shop_schema.specs.Columns.{payment_columns};
 ghost use Rattle.shop_schema.specs.RowValues.{IsRow, IsPayment};
 ghost use Rattle.shop_store.specs.Seen.{seen_payment_row};

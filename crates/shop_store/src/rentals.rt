@@ -6,7 +6,7 @@ ghost use Rattle.std.specs.List.{list_any};
 ghost use Rattle.shop_model.specs.Calendar.{moment_text, same_moment};
 ghost use Rattle.shop_model.specs.Rows.{at, of, set_row};
 ghost use Rattle.shop_types.specs.Seen.{seen_rental};
-ghost use Rattle.shop_schema.specs.Calls.{Finds, Stores};
+ghost use Rattle.shop_ledger.specs.Calls.{Finds, Stores};
 ghost use Rattle.shop_schema.specs.Columns.{rental_columns};
 ghost use Rattle.shop_schema.specs.RowValues.{IsRow, IsRental};
 ghost use Rattle.shop_schema.specs.Held.{IsHeld};

@@ -9,7 +9,7 @@ ghost use Rattle.sqlite.specs.Values.{bound};
 ghost use Rattle.sqlite_value.specs.Order.{Row as SqlRow};
 ghost use Rattle.sql_rows.specs.Calls.{StaysInside};
 ghost use Rattle.shop_model.specs.Rows.{lacks};
-ghost use Rattle.shop_schema.specs.Calls.{Finds};
+ghost use Rattle.shop_ledger.specs.Calls.{Finds};
 
 use crate::branches::SELECT_WITH_TOKEN;
 use crate::columns::token_text;

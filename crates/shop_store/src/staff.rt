@@ -8,7 +8,7 @@ ghost use Rattle.sql_rows.specs.Calls.{StaysInside};
 ghost use Rattle.shop_model.specs.Rows.{at, set_at};
 ghost use Rattle.shop_model.specs.Books.{head};
 ghost use Rattle.shop_types.specs.Verdicts.{seen_post, post_of};
-ghost use Rattle.shop_schema.specs.Calls.{Finds, Stores};
+ghost use Rattle.shop_ledger.specs.Calls.{Finds, Stores};
 
 use shop_schema::{query_first, row_number_at};
 use shop_types::{StaffFound, StaffNo};

@@ -5,7 +5,7 @@ ghost use Rattle.sqlite.specs.Held.{state};
 ghost use Rattle.sql_rows.specs.Calls.{StaysInside};
 ghost use Rattle.shop_model.specs.Books.{shop_of};
 ghost use Rattle.shop_model.specs.Stock.{termed};
-ghost use Rattle.shop_schema.specs.Calls.{Finds};
+ghost use Rattle.shop_ledger.specs.Calls.{Finds};
 ghost use Rattle.shop_store.specs.Seen.{seen_termed, termed_columns, IsTermed};
 
 use shop_schema::read_cells;

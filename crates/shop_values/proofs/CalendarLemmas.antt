@@ -1,12 +1,11 @@
 -- The day numbers of our calendar are those of jiff's.
-use Rattle.std.proofs.Common.{◌≡◌, ◌∙◌, refl, sym, ap, arith, ℕ, zero, suc, ℤ, pos, ◌+◌, ◌-◌, ◌≤◌}
+use Rattle.shop_model.proofs.Common.{◌≡◌, ◌∙◌, refl, sym, ap, arith, ℕ, zero, suc, ℤ, pos, ◌+◌, ◌-◌, ◌≤◌, negsuc, Moment, IsMoment, days_in_month}
 use Rattle.jiff_core.proofs.SignedLemmas.{signed_arith}
 use Rattle.jiff_core.proofs.CalendarLemmas.{day_count-epoch, day_count-next_year, day_count-day_of_year, days_from_civil-day_count}
-use Rattle.std.specs.Prelude.{negsuc}
 use borrow.Author.Differences.{up, down}
 use Rattle.jiff_core.specs.Calendar.{day_count, days_from_civil}
 use Rattle.jiff_core.specs.Calendar.{days_of_months as jiff_days_of_months}
-use Rattle.shop_model.specs.Calendar.{Moment, IsMoment, day_number, day_of, days_in_month, days_of_months, days_of_years}
+use Rattle.shop_model.specs.Calendar.{day_number, day_of, days_of_months, days_of_years}
 
 -- the first day of a year
 first_days : (n : ℕ) → day_count (pos (1970 + n)) 1 1 ≡ 4371953 + days_of_years n

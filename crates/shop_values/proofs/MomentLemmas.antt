@@ -1,12 +1,7 @@
 -- What the proofs on the texts of moments cite.
-use Rattle.std.proofs.Common.{◌≡◌, refl, sym, subst, arith, ℕ, List, slice_index, pos, ◌+◌, ◌*◌, ◌/◌, ◌%◌, ◌≤◌}
+use Rattle.shop_model.proofs.Common.{◌≡◌, refl, sym, subst, arith, ℕ, List, slice_index, pos, ◌+◌, ◌*◌, ◌/◌, ◌%◌, ◌≤◌, IsUtf8-from_ascii, IsAscii-cons, IsAscii-nil, AllByRecursion, IsAscii, IsUtf8, Moment, IsMoment, digit, moment_text}
 use Rattle.jiff_core.proofs.CalendarLemmas.{days_in_month_bounds}
-use Rattle.std.proofs.lemmas.Str.{IsUtf8-from_ascii}
-use Rattle.std.proofs.lemmas.Str.Ascii.{IsAscii-cons, IsAscii-nil}
-use Rattle.std.specs.List.{AllByRecursion}
-use Rattle.std.specs.Str.{IsAscii}
-use Rattle.std.specs.Prelude.{IsUtf8, ◌<◌, [], ◌∷◌}
-use Rattle.shop_model.specs.Calendar.{Moment, IsMoment, digit, moment_text}
+use Rattle.std.specs.Prelude.{◌<◌, [], ◌∷◌}
 use Rattle.shop_values.specs.Moments.{IsDigits}
 
 abbrev Writes : Moment → List ℕ → Type 0

@@ -1,8 +1,5 @@
 -- What the proofs on written numbers cite.
-use Rattle.std.proofs.Common.{◌≡◌, ◌<◌, ◌≤◌, ◌^◌, ◌+◌, ◌*◌, ℕ, arith, lit<, add-one}
-use Rattle.std.proofs.Math.Nat.{pow-le-pow_right}
-use Rattle.std.specs.Char.{digit_value}
-use Rattle.std.proofs.lemmas.Str.{digit_value_digit}
+use Rattle.shop_model.proofs.Common.{◌≡◌, ◌<◌, ◌≤◌, ◌^◌, ◌+◌, ◌*◌, ℕ, arith, lit<, add-one, pow-le-pow_right, digit_value, digit_value_digit}
 use Rattle.std.proofs.lemmas.Str.Parse.{digit_from_value}
 
 pub next_digit : (n i d : ℕ) → n < 10 ^ i → i < 10 → d < 10 → n * 10 + d < 10 ^ (i + 1)

@@ -1,8 +1,6 @@
 -- An object that is made of fields has no float.
-use Rattle.std.proofs.Common.{◌≡◌, refl, false, List, [], ◌∷◌, Ordering, Less, Equal, Greater, nat_cmp}
-use Rattle.std.specs.Cmp.Lexicographic.{slice_cmp}
-use Rattle.std.specs.Ordering.{match_ordering}
-use Rattle.std.proofs.lemmas.Bool.{or_parts}
+use Rattle.std.proofs.Common.{nat_cmp}
+use Rattle.shop_types.proofs.Common.{◌≡◌, refl, false, List, [], ◌∷◌, Ordering, Less, Equal, Greater, slice_cmp, match_ordering, or_parts}
 use Rattle.serde_json.specs.Data.{Data, Members, no_members, member, put}
 use Rattle.serde_json.specs.Written.{has_float, members_have_float}
 use Rattle.shop_model.specs.Values as model

@@ -1,8 +1,6 @@
 -- What is written for a film is its body.
-use Rattle.std.proofs.Common.{◌≡◌, refl, ℕ, false, Option, Some, None}
+use Rattle.shop_types.proofs.Common.{◌≡◌, refl, ℕ, false, Option, Some, None, Film, film_text}
 use Rattle.serde_json.specs.Written as written
-use Rattle.shop_model.specs.Values.{Film}
-use Rattle.shop_model.specs.Answers.{film_text}
 use Rattle.shop_views.specs.Texts.{json_text}
 use Rattle.shop_views.specs.FilmBodies.{film_value}
 

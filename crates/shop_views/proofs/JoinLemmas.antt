@@ -1,9 +1,6 @@
 -- Texts that are made of values, and joined.
-use Rattle.std.proofs.Common.{◌≡◌, ◌<◌, ◌+◌, ◌∙◌, refl, sym, ap, ℕ, List, [], ◌∷◌, ◌++◌, map, take, length}
-use Rattle.std.proofs.lemmas.List.{take_more, map-append}
-use Rattle.std.specs.Prelude.{String, string_bytes, get_or}
-use Rattle.std.specs.List.{join_by, flat_map}
-use Rattle.std.specs.declared.alloc.Global.{Global}
+use Rattle.shop_types.proofs.Common.{◌≡◌, ◌<◌, ◌+◌, ◌∙◌, refl, sym, ap, ℕ, List, [], ◌∷◌, ◌++◌, map, take, length, take_more, map-append, String, join_by, flat_map, Global}
+use Rattle.std.specs.Prelude.{string_bytes, get_or}
 
 flat_is : {X : Type 0} (f : X → List ℕ) (separator : List ℕ) (xs : List X) → flat_map (λ y. separator ++ f y) xs ≡ flat_map (λ y. separator ++ y) (map f xs)
 flat_is f separator [] = refl

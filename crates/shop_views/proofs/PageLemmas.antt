@@ -1,16 +1,11 @@
 -- A list that is written value by value.
-use Rattle.std.proofs.Common.{◌≡◌, ◌∙◌, ◌||◌, refl, sym, ap, Bool, true, false, not, List, [], ◌∷◌, ◌++◌, map, Option, Some, option_map, append-nil}
-use Rattle.std.proofs.lemmas.List.{map-append}
+use Rattle.std.proofs.Common.{option_map}
+use Rattle.shop_types.proofs.Common.{◌≡◌, ◌∙◌, ◌||◌, refl, sym, ap, Bool, true, false, not, List, [], ◌∷◌, ◌++◌, map, Option, Some, append-nil, map-append, is_empty, map_map, Text, items_text, array, CustomerIs, FilmIs, InStockIs, HolderIs, CopiesAre, BalanceIs, OverdueAre, CustomersAre, ArrivalsAre, SentAre, CustomersListed, StaffListed, FilmsListed, ActorsListed, StoresListed, CategoriesListed, HereAt, UnderWayTo, Gone, TransitIs, AuditIs, shown_text, overdue_text, listed_customer, person_text, listed_film, listed_actor, listed_store, listed_category}
 use Rattle.serde_json.specs.Data as held
 use Rattle.serde_json.specs.Data.{Data}
 use Rattle.serde_json.specs.View.{items_of}
 use Rattle.serde_json.specs.Written.{compact_text, has_float, items_have_float}
-use Rattle.shop_model.specs.Rows.{is_empty}
-use Rattle.shop_model.proofs.RowLemmas.{map_map}
-use Rattle.shop_model.specs.Values.{Text}
-use Rattle.shop_model.specs.Json.{items_text, array}
-use Rattle.shop_model.specs.Machine.{Shown, CustomerIs, FilmIs, InStockIs, HolderIs, CopiesAre, BalanceIs, OverdueAre, CustomersAre, ArrivalsAre, SentAre, CustomersListed, StaffListed, FilmsListed, ActorsListed, StoresListed, CategoriesListed, HereAt, UnderWayTo, Gone, TransitIs, AuditIs}
-use Rattle.shop_model.specs.Answers.{shown_text, overdue_text, listed_customer, person_text, listed_film, listed_actor, listed_store, listed_category}
+use Rattle.shop_model.specs.Machine.{Shown}
 use Rattle.shop_views.specs.Texts.{json_text}
 use Rattle.shop_views.proofs.TextLemmas.{same_text, list_texts}
 use Rattle.shop_views.specs.Overdue.{overdue_data}

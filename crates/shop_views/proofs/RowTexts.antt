@@ -1,12 +1,9 @@
 -- The texts of the views' rows, and that none has a float.
-use Rattle.std.proofs.Common.{◌≡◌, ◌∙◌, ◌||◌, refl, ap, ℕ, Bool, false, List, [], ◌∷◌, map, codes, decimal, Option, None, Some}
+use Rattle.shop_types.proofs.Common.{◌≡◌, ◌∙◌, ◌||◌, refl, ap, ℕ, Bool, false, List, [], ◌∷◌, map, codes, decimal, Option, None, Some, array, object, numbers_text, flag_text, Text, overdue_text, listed_customer, person_text, listed_film, listed_actor, listed_store, listed_category}
 use Rattle.serde_json.specs.Data.{number, unsigned}
 use Rattle.serde_json.specs.View.{items_of}
-use Rattle.shop_model.specs.Json.{array, object, numbers_text, flag_text}
 use Rattle.serde_json.specs.Written.{compact_text, has_float}
-use Rattle.shop_model.specs.Values.{Text}
 use Rattle.shop_model.specs.Views.{OverdueRow, PersonRow, FilmRow, ActorRow, StoreRow}
-use Rattle.shop_model.specs.Answers.{overdue_text, listed_customer, person_text, listed_film, listed_actor, listed_store, listed_category}
 use Rattle.shop_views.proofs.TextLemmas.{same_text, numbers_texts, numbers_no_float}
 use Rattle.shop_views.specs.Texts.{item_texts}
 use Rattle.shop_views.specs.Bodies.{numbers_value}

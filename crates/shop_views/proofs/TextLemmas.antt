@@ -1,13 +1,10 @@
 -- What serde_json writes is JSON text as the definitions of the shop have it.
-use Rattle.std.proofs.Common.{◌≡◌, ◌∙◌, refl, ap, ℕ, true, false, Bool, List, [], ◌∷◌, ◌++◌, map, decimal}
-use Rattle.std.specs.Prelude.{Result, IfOk, String, string_bytes}
-use Rattle.std.specs.declared.alloc.Global.{Global}
-use Rattle.std.proofs.lemmas.Result.{IfOk-weaker}
+use Rattle.shop_types.proofs.Common.{◌≡◌, ◌∙◌, refl, ap, ℕ, true, false, Bool, List, [], ◌∷◌, ◌++◌, map, decimal, Result, IfOk, String, Global, IfOk-weaker, Text}
+use Rattle.std.specs.Prelude.{string_bytes}
 use Rattle.json.specs.Print as print
 use Rattle.serde_json.specs.Data.{Data, null, boolean, number, unsigned, string, array, object, Items, no_items, item, Members, no_members, member}
 use Rattle.serde_json.specs.View.{items_of}
 use Rattle.serde_json.specs.Written as written
-use Rattle.shop_model.specs.Values.{Text}
 use Rattle.shop_model.specs.Json as json
 use Rattle.shop_views.specs.Texts.{json_text, item_texts, member_texts}
 use Rattle.shop_views.specs.Bodies.{numbers_value}

@@ -1,37 +1,11 @@
 -- What an UPDATE does, in any schema whose foreign keys have no action.
-use Rattle.std.proofs.Common.{◌≡◌, ◌&&◌, ◌≤◌, ◌==◌, ℕ, List, [], ◌∷◌, map, filter, drop, length, slice_get, true, false, Bool, Some, None, Ok, refl, sym, ap, subst, ◌∙◌, cond, arith, IsTrue, IsPermutation}
-use Rattle.std.specs.Prelude.{if◌then◌else◌}
-use Rattle.std.specs.List.{flat_map, filter_map, list_all}
-use Rattle.std.proofs.lemmas.List.Sorted.{length_permutation}
-use Rattle.std.proofs.lemmas.Bool.{and_parts}
-use Rattle.sqlite.specs.declared.types.Value.{Value}
-use Rattle.sqlite_value.specs.Order.{Row}
+use Rattle.sql_rows.proofs.Common.{◌≡◌, ◌&&◌, ◌≤◌, ◌==◌, ℕ, List, [], ◌∷◌, map, filter, drop, length, slice_get, true, false, Bool, Some, None, Ok, refl, sym, ap, subst, ◌∙◌, cond, arith, IsTrue, IsPermutation, if◌then◌else◌, flat_map, filter_map, list_all, length_permutation, and_parts, Value, Row, Trees, rowid, put_row, without_rowid, IsShaped, is_int, Term, eval_all, holds, Query, IsAnswer, Output, output, page, overlay, Schema, Table, Program, Enforced, Update, Given, edit_of, edited, Applies, taken_by, cast_row, ids_of, Database, Answers, Task, Written, Updates, Edited, Does, OnRows, State, mode_of, Shows, Executes, statement_of, runs_as, one_step, one_permutation, update_where}
 use Rattle.sqlite_trees.specs.declared.store.Shape.TheVariants.{Table as TableShape}
-use Rattle.sqlite_trees.specs.Tree.{Trees, rowid, put_row, without_rowid}
-use Rattle.sqlite_trees.specs.View.{IsShaped, is_int}
-use Rattle.sqlite_sql.specs.Term.{Term, eval_all, holds}
-use Rattle.sqlite_sql.specs.Query.{Query, IsAnswer, Output, output, page}
-use Rattle.sqlite_sql.specs.Program.{overlay}
-use Rattle.sqlite.specs.Schema.{Schema}
-use Rattle.sqlite.specs.Table.{Table}
-use Rattle.sqlite_schema.specs.declared.program.Program.{Program}
-use Rattle.sqlite_schema.specs.declared.schema.Keys.TheVariants.{Enforced}
 use Rattle.sqlite_schema.specs.declared.schema.Action.{Action}
 use Rattle.sqlite_schema.specs.declared.schema.Action.TheVariants.{NoAction, Restrict, Cascade, SetNull, SetDefault}
 use Rattle.sqlite_schema.specs.declared.schema.Reference.{Reference}
-use Rattle.sqlite.specs.Command.TheVariants.{Update}
-use Rattle.sqlite_rules.specs.declared.error.Rowids.TheVariants.{Given}
-use Rattle.sqlite_rules.specs.Edit.{edit_of, edited, Applies, taken_by}
-use Rattle.sqlite_rules.specs.Cast.{cast_row}
-use Rattle.sqlite_rules.specs.Calls.{ids_of}
 use Rattle.sqlite_rules.specs.Action.{works, work_for, deed_for}
-use Rattle.sqlite.specs.Effect.{Database, Answers}
 use Rattle.sqlite.specs.Listing.{understood}
-use Rattle.sqlite.specs.Rows.{Task, Written, Updates, Edited}
-use Rattle.sqlite.specs.Does.{Does, OnRows}
-use Rattle.sqlite.specs.State.{State, mode_of, Shows, Executes}
-use Rattle.sqlite.proofs.Callers.{statement_of, runs_as, one_step, one_permutation}
-use Rattle.sqlite_keyed.specs.Lists.{update_where}
 use Rattle.sql_rows.proofs.Puts.{Means, went, same_value, concluded}
 use Rattle.sql_rows.proofs.Queries.{plain_query, kept_are}
 use Rattle.sql_rows.proofs.Appends.{id_of}

@@ -1,22 +1,10 @@
 -- Rowids that rise, and values that a column takes as they are.
-use Rattle.std.proofs.Common.{◌≡◌, ℤ, ◌<ℤ◌, List, [], ◌∷◌, true, false, Bool, cond, ◌&&◌, refl, sym, subst, ◌∙◌, IsTrue, Less}
-use Rattle.std.specs.List.{AllByRecursion}
-use Rattle.std.proofs.lemmas.Bool.{and_parts}
-use Rattle.sqlite.specs.declared.types.Value.{Value}
-use Rattle.sqlite.specs.declared.types.Value.TheVariants.{Null, Int, Real, Text, Blob}
-use Rattle.sqlite_value.specs.Order.{Row, value_cmp}
-use Rattle.sqlite_value.proofs.OrderLemmas.{value_cmp-Int}
+use Rattle.sql_rows.proofs.Common.{◌≡◌, ℤ, ◌<ℤ◌, List, [], ◌∷◌, true, false, Bool, cond, ◌&&◌, refl, sym, subst, ◌∙◌, IsTrue, Less, AllByRecursion, and_parts, Value, Null, Int, Real, Text, Blob, Row, value_cmp, value_cmp-Int, rowid, IsShaped, is_int, id_in, cast, cast_all, IsKeyedBy, lt_from_Less}
 use Rattle.sqlite_trees.specs.declared.store.Shape.TheVariants.{Table as TableShape}
-use Rattle.sqlite_trees.specs.Tree.{rowid}
-use Rattle.sqlite_trees.specs.View.{IsShaped, is_int}
 use Rattle.sqlite_schema.specs.declared.schema.Kind.{Kind}
 use Rattle.sqlite_schema.specs.declared.schema.Kind.TheVariants as kind
 use Rattle.sqlite_schema.specs.declared.schema.Column.{Column}
 use Rattle.sqlite_sql.specs.Ops.{unary}
-use Rattle.sqlite_rules.specs.Edit.{id_in}
-use Rattle.sqlite_rules.specs.Cast.{cast, cast_all}
-use Rattle.sqlite_keyed.specs.Keyed.{IsKeyedBy}
-use Rattle.sqlite_keyed.proofs.KeyedLemmas.{lt_from_Less}
 
 pub int_is : (v : Value) → IsTrue (is_int v) → v ≡ Int (id_in v)
 int_is Null h = cc

@@ -1,17 +1,7 @@
 -- Rows as a bag: what a filter, an update and a sort make of the values that they stand for.
-use Rattle.std.proofs.Common.{◌≡◌, ◌≢◌, ◌≤◌, ℕ, List, [], ◌∷◌, map, filter, length, true, false, Bool, cond, suc, refl, sym, ap, subst₂, ◌∙◌, arith, is_eq, IsPermutation}
+use Rattle.sql_rows.proofs.Common.{◌≡◌, ◌≢◌, ◌≤◌, ℕ, List, [], ◌∷◌, map, filter, length, true, false, Bool, cond, suc, refl, sym, ap, subst₂, ◌∙◌, arith, is_eq, IsPermutation, one_permutation, by, Differ, AllByRecursion, nat_tests, IsPermutation-sym, IsPermutation-map, length_permutation, Row, IsAscending, all-permutation, update_where, map-map, map_same, filter-map, filter_same, all-map, all_unmap, ascending_weaker, IsPermutation-filter}
 use Rattle.std.proofs.lemmas.Cmp.{nat_cmp_total, on_total}
-use Rattle.sqlite.proofs.Callers.{one_permutation}
-use Rattle.sql_rows.specs.Rows.{by, Differ}
-use Rattle.std.specs.List.{AllByRecursion}
 use Rattle.std.specs.Cmp.{IsTotalOrder}
-use Rattle.std.proofs.lemmas.Bool.Decides.{nat_tests}
-use Rattle.std.proofs.lemmas.List.Sorted.{IsPermutation-sym, IsPermutation-map, length_permutation}
-use Rattle.sqlite_value.specs.Order.{Row}
-use Rattle.sqlite_trees.specs.Tree.{IsAscending}
-use Rattle.sqlite_trees.proofs.ListLemmas.{all-permutation}
-use Rattle.sqlite_keyed.specs.Lists.{update_where}
-use Rattle.sqlite_keyed.proofs.ListLemmas.{map-map, map_same, filter-map, filter_same, all-map, all_unmap, ascending_weaker, IsPermutation-filter}
 
 pub length-map : {A B : Type 0} (f : A → B) (l : List A) → length (map f l) ≡ length l
 length-map f [] = refl

@@ -1,11 +1,5 @@
 -- Calls inside a transaction, one after another.
-use Rattle.std.proofs.Common.{Ok, Err, Result}
-use Rattle.std.specs.Borrow.{MutBor}
-use Rattle.std.specs.Prelude.{⊤, IfOk}
-use Rattle.sqlite_trees.specs.declared.store.Store.{Ghosts}
-use Rattle.sqlite.specs.Held.{Held, state}
-use Rattle.sqlite.specs.State.{State, HasCleanDisk}
-use Rattle.sql_rows.specs.Calls.{StaysInside, StaysWithin, DoesInside, DoesWithin}
+use Rattle.sql_rows.proofs.Common.{Ok, Err, Result, MutBor, ⊤, IfOk, Ghosts, Held, state, State, HasCleanDisk, StaysInside, StaysWithin, DoesInside, DoesWithin}
 use Rattle.sql_rows.proofs.Stays.{clean_within, within_as, within_of, within_then}
 
 -- what calls that were well leave, and what they say over a disk that did as it was told

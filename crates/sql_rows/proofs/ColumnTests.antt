@@ -1,21 +1,11 @@
 -- Tests of columns by a number, a text or a range of texts, and columns that may be NULL.
-use Rattle.std.proofs.Common.{◌≡◌, ◌==◌, ◌&&◌, ℕ, pos, Bool, true, false, Option, Some, None, List, refl, sym, ap, is_eq, is_lt, ◌∙◌}
+use Rattle.sql_rows.proofs.Common.{◌≡◌, ◌==◌, ◌&&◌, ℕ, pos, Bool, true, false, Option, Some, None, List, refl, sym, ap, is_eq, is_lt, ◌∙◌, nat_cmp, is_ge, Value, Int, Text, Null, or_null, Row, column, Binary, value_cmp-Text, Compare, Eq, Lt, Ge, is_true, number_value, flag_value}
 use Rattle.std.specs.Str.{bytes_eq}
-use Rattle.std.specs.Ordering.{nat_cmp, is_ge}
 use Rattle.std.specs.Cmp.Lexicographic.{slice_cmp}
 use Rattle.std.proofs.lemmas.Map.Text.{is_eq-slice_cmp}
-use Rattle.sqlite.specs.declared.types.Value.{Value}
-use Rattle.sqlite.specs.declared.types.Value.TheVariants.{Int, Text, Null}
-use Rattle.sqlite.specs.Values.{or_null}
-use Rattle.sqlite_value.specs.Order.{Row, column}
-use Rattle.sqlite_value.specs.declared.keys.Collation.TheVariants.{Binary}
-use Rattle.sqlite_value.proofs.OrderLemmas.{value_cmp-Text}
 use Rattle.sqlite_schema.specs.declared.schema.Kind.TheVariants as kind
-use Rattle.sqlite_sql.specs.declared.ops.BinaryOp.TheVariants.{Compare}
-use Rattle.sqlite_sql.specs.declared.ops.CompareOp.TheVariants.{Eq, Lt, Ge}
-use Rattle.sqlite_sql.specs.Ops.{binary, is_true}
+use Rattle.sqlite_sql.specs.Ops.{binary}
 use Rattle.sqlite_tied.proofs.RuleLemmas.{and_true}
-use Rattle.sql_rows.specs.Rows.{number_value, flag_value}
 use Rattle.sql_rows.proofs.Appends.{is_kept}
 use Rattle.sql_rows.proofs.Queries.{equal_numbers, truth_of}
 

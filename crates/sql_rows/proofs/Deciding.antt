@@ -1,13 +1,9 @@
 -- Whether a table's rows are these, in any order, can be decided, so it is known where it is known only in some case.
-use Rattle.std.proofs.Common.{◌≡◌, ◌⊎◌, ◌∙◌, ◌+◌, ℕ, List, [], ◌∷◌, refl, sym, ap, subst, inl, inr, arith, IsPermutation, sum_by}
-use Rattle.std.proofs.Math.Logic.{∥∥₁_elim, ∥∥₁_map}
+use Rattle.sql_rows.proofs.Common.{◌≡◌, ◌⊎◌, ◌∙◌, ◌+◌, ℕ, List, [], ◌∷◌, refl, sym, ap, subst, inl, inr, arith, IsPermutation, sum_by, ∥∥₁_elim, ∥∥₁_map, cases_eq, IsPermutation-refl, IsPermutation-sym, IsPermutation-trans, IsPermutation-cons, IsPermutation-middle, sum_by-IsPermutation, length_permutation, Row}
 use mathlib.Core.HLevel.{⊥_prop}
-use Rattle.std.proofs.lemmas.Bool.{cases_eq}
 use Rattle.std.proofs.lemmas.List.Sums.{sum_by-cons}
-use Rattle.std.proofs.lemmas.List.Sorted.{IsPermutation-refl, IsPermutation-sym, IsPermutation-trans, IsPermutation-cons, IsPermutation-middle, sum_by-IsPermutation, length_permutation}
 use base.Stored.{Gv, gnil, gnum, gcons}
 use Rattle.sqlite_value.specs.contracts.row.Row as row
-use Rattle.sqlite_value.specs.Order.{Row}
 
 abbrev pub Decided : Type 0 → Type 0
 Decided A = A ⊎ (¬ A)

@@ -1,32 +1,7 @@
 -- What a DELETE of at most one row does, in any schema whose foreign keys have no action.
-use Rattle.std.proofs.Common.{◌≡◌, ◌≤◌, ◌<ℤ◌, ℕ, List, [], ◌∷◌, map, filter, not, length, slice_get, true, false, Bool, Some, None, Ok, refl, sym, ap, subst, ◌∙◌, cond, arith, IsPermutation}
-use Rattle.std.specs.Prelude.{if◌then◌else◌}
-use Rattle.std.specs.List.{AllByRecursion, list_all}
-use Rattle.std.proofs.lemmas.List.Sorted.{length_permutation}
-use Rattle.sqlite_value.specs.Order.{Row}
+use Rattle.sql_rows.proofs.Common.{◌≡◌, ◌≤◌, ◌<ℤ◌, ℕ, List, [], ◌∷◌, map, filter, not, length, slice_get, true, false, Bool, Some, None, Ok, refl, sym, ap, subst, ◌∙◌, cond, arith, IsPermutation, if◌then◌else◌, AllByRecursion, list_all, length_permutation, Row, Trees, without_rowid, IsShaped, Term, eval_all, holds, Query, IsAnswer, Output, output, page, overlay, Schema, Table, Program, Enforced, Delete, Given, edit_of, edited, Applies, taken_by, ids_of, Database, Answers, Task, Written, Deletes, Edited, Does, OnRows, State, mode_of, Shows, Executes, statement_of, runs_as, one_step, one_permutation, delete_where, IsKeyedBy, all-filter}
 use Rattle.sqlite_trees.specs.declared.store.Shape.TheVariants.{Table as TableShape}
-use Rattle.sqlite_trees.specs.Tree.{Trees, without_rowid}
-use Rattle.sqlite_trees.specs.View.{IsShaped}
-use Rattle.sqlite_sql.specs.Term.{Term, eval_all, holds}
-use Rattle.sqlite_sql.specs.Query.{Query, IsAnswer, Output, output, page}
-use Rattle.sqlite_sql.specs.Program.{overlay}
-use Rattle.sqlite.specs.Schema.{Schema}
-use Rattle.sqlite.specs.Table.{Table}
-use Rattle.sqlite_schema.specs.declared.program.Program.{Program}
-use Rattle.sqlite_schema.specs.declared.schema.Keys.TheVariants.{Enforced}
-use Rattle.sqlite.specs.Command.TheVariants.{Delete}
-use Rattle.sqlite_rules.specs.declared.error.Rowids.TheVariants.{Given}
-use Rattle.sqlite_rules.specs.Edit.{edit_of, edited, Applies, taken_by}
-use Rattle.sqlite_rules.specs.Calls.{ids_of}
-use Rattle.sqlite.specs.Effect.{Database, Answers}
 use Rattle.sqlite.specs.Listing.{understood}
-use Rattle.sqlite.specs.Rows.{Task, Written, Deletes, Edited}
-use Rattle.sqlite.specs.Does.{Does, OnRows}
-use Rattle.sqlite.specs.State.{State, mode_of, Shows, Executes}
-use Rattle.sqlite.proofs.Callers.{statement_of, runs_as, one_step, one_permutation}
-use Rattle.sqlite_keyed.specs.Lists.{delete_where}
-use Rattle.sqlite_keyed.specs.Keyed.{IsKeyedBy}
-use Rattle.sqlite_keyed.proofs.ListLemmas.{all-filter}
 use Rattle.sql_rows.proofs.Puts.{Means, went, same_value, concluded}
 use Rattle.sql_rows.proofs.Queries.{plain_query, kept_are}
 use Rattle.sql_rows.proofs.Appends.{id_of, ids_rise}

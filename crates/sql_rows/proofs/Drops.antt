@@ -1,19 +1,5 @@
 -- What a DELETE of at most one row makes of the books.
-use Rattle.std.proofs.Common.{◌≡◌, ◌≤◌, ℕ, List, [], ◌∷◌, map, not, slice_get, true, Bool, Some, Ok, sym, ap, subst}
-use Rattle.std.specs.List.{list_all}
-use Rattle.sqlite_value.specs.Order.{Row}
-use Rattle.sqlite_trees.specs.Tree.{Trees}
-use Rattle.sqlite_schema.specs.declared.schema.Keys.TheVariants.{Enforced}
-use Rattle.sqlite_sql.specs.Term.{Term, eval_all, holds}
-use Rattle.sqlite_sql.specs.Program.{overlay}
-use Rattle.sqlite.specs.Schema.{Schema}
-use Rattle.sqlite.specs.Table.{Table}
-use Rattle.sqlite.specs.Command.TheVariants.{Delete}
-use Rattle.sqlite.specs.State.{State, ExecutesInside}
-use Rattle.sqlite_keyed.specs.Lists.{delete_where}
-use Rattle.sql_rows.specs.Builds.{Means}
-use Rattle.sql_rows.specs.Rows.{HasRows, SameBut, columns_of, PicksOne}
-use Rattle.sql_rows.specs.Books.{IsOf, Changes}
+use Rattle.sql_rows.proofs.Common.{◌≡◌, ◌≤◌, ℕ, List, [], ◌∷◌, map, not, slice_get, true, Bool, Some, Ok, sym, ap, subst, list_all, Row, Trees, Enforced, Term, eval_all, holds, overlay, Schema, Table, Delete, State, ExecutesInside, delete_where, Means, HasRows, SameBut, columns_of, PicksOne, IsOf, Changes}
 use Rattle.sql_rows.proofs.Appends.{id_of}
 use Rattle.sql_rows.proofs.Keyed.{keyed_at, applies_keyed}
 use Rattle.sql_rows.proofs.Queries.{plain_query}

@@ -1,17 +1,6 @@
 -- Which error a statement is given.
-use Rattle.std.proofs.Common.{refl, ◌≡◌, ◌<◌, inl, inr, ℕ, zero, suc, List, [], ◌∷◌, length, get_or, map, arith, false, IsTrue, Bor}
-use Rattle.std.proofs.lemmas.Bool.{cases_Bool}
-use Rattle.sqlite_rules.specs.Lists.{Has}
-use Rattle.sqlite_trees.specs.declared.store.Store.{Ghosts}
-use Rattle.sqlite.specs.Held.{Held, state}
-use Rattle.sqlite.specs.State.{ExecutesInside, Survives}
-use Rattle.sqlite_value.specs.Order.{Row}
-use Rattle.std.specs.Prelude.{IfErr, IsErrAnd, Result, Ok, Err}
-use Rattle.sql_rows.specs.declared.fault.StoreFault.{StoreFault}
-use Rattle.sqlite.specs.declared.error.Error.{Error}
-use Rattle.sqlite.specs.declared.error.Error.TheVariants.{SqliteFailure}
-use Rattle.sqlite.specs.declared.error.ErrorCode.TheVariants.{TransactionState}
-use Rattle.sql_rows.specs.Fault.{IsToldOf, StatementGave, OneGave}
+use Rattle.sql_rows.proofs.Common.{refl, ◌≡◌, ◌<◌, inl, inr, ℕ, zero, suc, List, [], ◌∷◌, length, get_or, map, arith, false, IsTrue, Bor, cases_Bool, Has, Ghosts, Held, state, ExecutesInside, Survives, Row, IsErrAnd, StoreFault, Error, SqliteFailure, TransactionState, IsToldOf, StatementGave, OneGave}
+use Rattle.std.specs.Prelude.{IfErr, Result, Ok, Err}
 
 module _ {S : Type 0} (g : Ghosts S) (old new : Held S) (sql : List ℕ) (params : Row) (r : Result ℕ Error)
     (ended : (state g old).in_transaction ≡ false → (r ≡ Err (SqliteFailure TransactionState)) × (new ≡ old))

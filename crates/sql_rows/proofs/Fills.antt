@@ -1,34 +1,8 @@
 -- What an INSERT of the rows that a query shows does, in any schema, and what one CREATE TABLE does among tables that have rows.
-use Rattle.std.proofs.Common.{◌≡◌, ℕ, List, [], ◌∷◌, ◌++◌, map, append_assoc, append-nil, false, true, None, Ok, sym, ap, subst, ◌∙◌, IsPermutation}
-use Rattle.std.specs.Prelude.{if◌then◌else◌}
-use Rattle.std.specs.List.{AllByRecursion}
-use Rattle.std.proofs.lemmas.Bool.{and_parts, not-true}
-use Rattle.std.proofs.lemmas.List.Sorted.{IsPermutation-sym, IsPermutation-cons, IsPermutation-trans, IsPermutation-map, IsPermutation-to_front}
-use Rattle.sqlite.specs.declared.types.Value.{Value}
-use Rattle.sqlite.specs.declared.types.Value.TheVariants.{Null, Int}
-use Rattle.sqlite_value.specs.Order.{Row}
-use Rattle.sqlite_trees.specs.Tree.{Trees, put_row}
-use Rattle.sqlite.specs.Schema.{Schema}
-use Rattle.sqlite.specs.Table.{Table}
-use Rattle.sqlite_schema.specs.declared.schema.Keys.TheVariants.{Enforced}
+use Rattle.sql_rows.proofs.Common.{◌≡◌, ℕ, List, [], ◌∷◌, ◌++◌, map, append_assoc, append-nil, false, true, None, Ok, sym, ap, subst, ◌∙◌, IsPermutation, if◌then◌else◌, AllByRecursion, and_parts, not-true, IsPermutation-sym, IsPermutation-cons, IsPermutation-trans, IsPermutation-map, IsPermutation-to_front, Value, Null, Int, Row, Trees, put_row, Schema, Table, Enforced, Program, Insert, CreateTable, Rowids, Chosen, edit_of, Applies, next_rowid, with_rowid, numbered, are_fresh, put_all, cast, cast_row, created, next_tree, Database, Answers, Task, Written, Inserts, Edited, stamped, rowids_for, count_of, no_works, Tally, Does, OnRows, lacks_sequence, State, mode_of, Shows, Writes, Executes, Means, Makes, statement_of, runs_as, one_step, HasRows, columns_of}
 use Rattle.sqlite_schema.specs.declared.schema.Kind.TheVariants as kind
-use Rattle.sqlite_schema.specs.declared.program.Program.{Program}
 use Rattle.sqlite.specs.Source.TheVariants.{Query}
-use Rattle.sqlite.specs.Command.TheVariants.{Insert, CreateTable}
-use Rattle.sqlite_rules.specs.declared.error.Rowids.{Rowids}
-use Rattle.sqlite_rules.specs.declared.error.Rowids.TheVariants.{Chosen}
-use Rattle.sqlite_rules.specs.Edit.{edit_of, Applies, next_rowid, with_rowid, numbered, are_fresh, put_all}
-use Rattle.sqlite_rules.specs.Cast.{cast, cast_row}
-use Rattle.sqlite.specs.Change.{created, next_tree}
-use Rattle.sqlite.specs.Effect.{Database, Answers}
 use Rattle.sqlite.specs.Listing.{understood}
-use Rattle.sqlite.specs.Rows.{Task, Written, Inserts, Edited, stamped, rowids_for, count_of}
-use Rattle.sqlite_rules.proofs.ActionLemmas.{no_works}
-use Rattle.sqlite.specs.Does.{Tally, Does, OnRows, lacks_sequence}
-use Rattle.sqlite.specs.State.{State, mode_of, Shows, Writes, Executes}
-use Rattle.sql_rows.specs.Builds.{Means, Makes}
-use Rattle.sqlite.proofs.Callers.{statement_of, runs_as, one_step}
-use Rattle.sql_rows.specs.Rows.{HasRows, columns_of}
 use Rattle.sql_rows.proofs.Appends.{are_kept, cast_null, cast_all_kept}
 use Rattle.sql_rows.proofs.Keyed.{put_bag}
 use Rattle.sql_rows.proofs.Puts.{IsPlainTable, went, same_value, concluded, chosen_if, counted_if}

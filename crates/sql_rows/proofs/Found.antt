@@ -1,6 +1,5 @@
 -- What was read of the rows that a query shows.
-use Rattle.std.proofs.Common.{Ok, Err, Result}
-use Rattle.std.specs.Prelude.{IfOk}
+use Rattle.sql_rows.proofs.Common.{Ok, Err, Result, IfOk}
 
 pub both_found : {T E : Type 0} (P Q : T → Type 0) (r : Result T E) → IfOk r P → IfOk r Q → IfOk r (λ x. P x × Q x)
 both_found P Q (Ok x) is also = (is, also)

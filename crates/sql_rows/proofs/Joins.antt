@@ -1,25 +1,8 @@
 -- What a join of tables shows, where each table's rows stand for values in any order. Nothing is asked of the rowids.
-use Rattle.std.proofs.Common.{◌≡◌, ◌≤◌, ◌==◌, ◌&&◌, ℕ, pos, negsuc, zero, suc, List, [], ◌∷◌, ◌++◌, map, filter, length, true, false, Bool, cond, None, refl, sym, ap, subst, ◌∙◌, arith, add-one, is_eq, is_lt, IsPermutation, IsSorted, inl, inr}
+use Rattle.sql_rows.proofs.Common.{◌≡◌, ◌≤◌, ◌==◌, ◌&&◌, ℕ, pos, negsuc, zero, suc, List, [], ◌∷◌, ◌++◌, map, filter, length, true, false, Bool, cond, None, refl, sym, ap, subst, ◌∙◌, arith, add-one, is_eq, is_lt, IsPermutation, IsSorted, inl, inr, flat_map, list_all, IsPermutation-refl, IsPermutation-sym, IsPermutation-trans, length_permutation, Value, Null, Int, Row, column, Key, Binary, Trees, IsAscending, Compare, Eq, is_true, Term, Env, lit, op2, holds, Query, Join, inner, left, end, counted, made, folded, matches, or_nulls, IsAnswer, Output, output, output_cmp, page, overlay, output_cmp_total, sort_by, map-flat_map, flat_map-map, flat_map_same_on, IsPermutation-flat_map, IsPermutation-flat_map_each, ascending_weaker, sorted_is-sort_by, HasRows, columns_of, PicksOne, number_value}
 use Rattle.std.specs.Prelude.{◌⊎◌}
-use Rattle.std.specs.List.{flat_map, list_all}
-use Rattle.std.proofs.lemmas.List.Sorted.{IsPermutation-refl, IsPermutation-sym, IsPermutation-trans, length_permutation}
-use Rattle.sqlite.specs.declared.types.Value.{Value}
-use Rattle.sqlite.specs.declared.types.Value.TheVariants.{Null, Int}
-use Rattle.sqlite_value.specs.Order.{Row, column}
-use Rattle.sqlite_value.specs.declared.keys.Key.{Key}
-use Rattle.sqlite_value.specs.declared.keys.Collation.TheVariants.{Binary}
-use Rattle.sqlite_trees.specs.Tree.{Trees, IsAscending}
-use Rattle.sqlite_sql.specs.declared.ops.BinaryOp.TheVariants.{Compare}
-use Rattle.sqlite_sql.specs.declared.ops.CompareOp.TheVariants.{Eq}
-use Rattle.sqlite_sql.specs.Ops.{binary, is_true}
-use Rattle.sqlite_sql.specs.Term.{Term, Env, lit, op2, holds}
-use Rattle.sqlite_sql.specs.Query.{Query, Join, inner, left, end, counted, made, folded, first, matches, or_nulls, IsAnswer, Output, output, output_cmp, page}
-use Rattle.sqlite_sql.specs.Program.{overlay}
-use Rattle.sqlite_sql.proofs.QueryLemmas.{output_cmp_total}
-use Rattle.sqlite_keyed.specs.Lists.{sort_by}
-use Rattle.sqlite_keyed.proofs.ListLemmas.{map-flat_map, flat_map-map, flat_map_same_on, IsPermutation-flat_map, IsPermutation-flat_map_each, ascending_weaker}
-use Rattle.sqlite_keyed.proofs.SortLemmas.{sorted_is-sort_by}
-use Rattle.sql_rows.specs.Rows.{HasRows, columns_of, PicksOne, number_value}
+use Rattle.sqlite_sql.specs.Ops.{binary}
+use Rattle.sqlite_sql.specs.Query.{first}
 use Rattle.sql_rows.proofs.Bags.{bag_filter, short_bag, length-map}
 use Rattle.sql_rows.proofs.ColumnTests.{one_tested, two_tested, number_tested}
 

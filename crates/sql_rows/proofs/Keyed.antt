@@ -1,20 +1,8 @@
 -- What an edit of a table does to its rows and its rowids.
-use Rattle.std.proofs.Common.{◌≡◌, ◌≢◌, ◌&&◌, ◌||◌, ℕ, ℤ, List, [], ◌∷◌, not, true, false, Bool, Some, slice_get, inl, inr, refl, sym, subst, Ordering, Less, Equal, Greater, is_eq, IsPermutation}
-use Rattle.std.specs.List.{AllByRecursion}
-use Rattle.std.specs.Ordering.{match_ordering}
-use Rattle.std.proofs.lemmas.Bool.{cases_eq, and_parts}
-use Rattle.std.proofs.lemmas.List.Sorted.{IsPermutation-refl, IsPermutation-cons, IsPermutation-trans, IsPermutation-middle}
-use Rattle.sqlite_value.specs.Order.{Row, value_cmp}
+use Rattle.sql_rows.proofs.Common.{◌≡◌, ◌≢◌, ◌&&◌, ◌||◌, ℕ, ℤ, List, [], ◌∷◌, not, true, false, Bool, Some, slice_get, inl, inr, refl, sym, subst, Ordering, Less, Equal, Greater, is_eq, IsPermutation, AllByRecursion, match_ordering, cases_eq, and_parts, IsPermutation-refl, IsPermutation-cons, IsPermutation-trans, IsPermutation-middle, Row, value_cmp, Trees, rowid, put_row, without_rowid, has_rowid, IsShaped, is_int, Schema, Table, Edit, Applies, edited, left_by, without_all, put_all, is_taken, are_fresh, have_rowids, all-slice_get, AreKeyed}
 use Rattle.sqlite_trees.specs.declared.store.Shape.TheVariants.{Table as TableShape}
-use Rattle.sqlite_trees.specs.Tree.{Trees, rowid, put_row, without_rowid, has_rowid}
-use Rattle.sqlite_trees.specs.View.{IsShaped, is_int}
 use Rattle.sqlite_trees.proofs.TreeLemmas.{IsShaped-put_row, IsShaped-filter}
-use Rattle.sqlite.specs.Schema.{Schema}
-use Rattle.sqlite.specs.Table.{Table}
 use Rattle.sqlite_schema.specs.declared.schema.Keys.{Keys}
-use Rattle.sqlite_rules.specs.Edit.{Edit, Applies, edited, left_by, without_all, put_all, is_taken, are_fresh, have_rowids}
-use Rattle.sqlite_keyed.proofs.ListLemmas.{all-slice_get}
-use Rattle.sql_rows.specs.Rows.{AreKeyed}
 
 -- ---- a row with a rowid of its own takes no other row's place, in whatever order the rows stand
 

@@ -1,6 +1,5 @@
 -- Columns that are one to one for values of a kind alone, as those of moments are.
-use Rattle.std.proofs.Common.{◌≡◌, List, [], ◌∷◌, map, refl}
-use Rattle.std.specs.List.{AllByRecursion}
+use Rattle.sql_rows.proofs.Common.{◌≡◌, List, [], ◌∷◌, map, refl, AllByRecursion}
 
 module _ {X Y : Type 0} (f : X → Y) (P : X → Type 0) (one : (a b : X) → P a → P b → f a ≡ f b → a ≡ b) where
   pub unmapped_kind : (xs ys : List X) → AllByRecursion P xs → AllByRecursion P ys → map f xs ≡ map f ys → xs ≡ ys

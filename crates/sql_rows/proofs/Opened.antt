@@ -1,8 +1,5 @@
 -- The rowids of files that were opened rise.
-use Rattle.std.proofs.Common.{◌≡◌, ℕ, List, [], ◌∷◌, filter, true, inl, inr, refl, sym, ap, subst}
-use Rattle.std.proofs.Math.Logic.{∥∥₁_elim}
-use Rattle.std.specs.List.{AllByRecursion, AllZip}
-use Rattle.sqlite_value.specs.Order.{Row}
+use Rattle.sql_rows.proofs.Common.{◌≡◌, ℕ, List, [], ◌∷◌, filter, true, inl, inr, refl, sym, ap, subst, ∥∥₁_elim, AllByRecursion, AllZip, Row, Trees, IsShaped, catalog_tree, Schema, IsSound, AreListed, IsTableRow, is_table_row, Database, Held, AreKeyed, IsOf, IsKeyed}
 use Rattle.sqlite_disk.specs.declared.Disk as disk
 use Rattle.sqlite_disk.specs.declared.Files.{Files}
 use Rattle.sqlite_pages.specs.PageMap.{PageMap}
@@ -10,24 +7,15 @@ use Rattle.sqlite_wal.specs.Recovery.{Image}
 use Rattle.sqlite_pool.specs.File.{version_in, in_use}
 use Rattle.sqlite_trees.specs.declared.store.Shape.{Shape}
 use Rattle.sqlite_trees.specs.declared.store.Shape.TheVariants.{Table as TableShape}
-use Rattle.sqlite_trees.specs.Tree.{Trees}
-use Rattle.sqlite_trees.specs.View.{IsShaped}
 use Rattle.sqlite_trees.specs.Props.{IsShaped-prop}
-use Rattle.sqlite_trees.specs.Objects.{catalog_tree}
 use Rattle.sqlite_schema.specs.declared.schema.Table.{Table}
-use Rattle.sqlite.specs.Schema.{Schema}
-use Rattle.sqlite_catalog.specs.Listing.{IsSound, AreListed, IsTableRow, is_table_row}
 use Rattle.sqlite_catalog.proofs.LayoutLemmas.{laid_out}
 use Rattle.sqlite_store.specs.declared.catalog.Wanted.{Wanted}
 use Rattle.sqlite_store.specs.declared.store.FileStore.{FileStore}
 use Rattle.sqlite_store.specs.Listing.{file_trees, all_shapes, listed_from, IsOurs}
 use Rattle.sqlite_store.specs.Listed.{catalog_rows, is_listed}
 use Rattle.sqlite_store.proofs.ListingLemmas.{all_ordered, listing_shaped}
-use Rattle.sqlite.specs.Effect.{Database}
 use Rattle.sqlite.specs.Files.{file_state, AreFoundIn, Finds, IsOpened, IsEmpty}
-use Rattle.sqlite.specs.Held.{Held}
-use Rattle.sql_rows.specs.Rows.{AreKeyed}
-use Rattle.sql_rows.specs.Books.{IsOf, IsKeyed}
 
 module _ (size : ℕ) (wanted : List Wanted) (pages : PageMap) (ours : ∥ IsOurs size true wanted pages ∥₁) where
   abbrev read : Trees

@@ -1,24 +1,8 @@
 -- What a SELECT of some columns shows, and what a call says of the books.
-use Rattle.std.proofs.Common.{◌≡◌, ◌≤◌, ℕ, suc, List, [], ◌∷◌, map, filter, length, Bool, cond, sym, ap, subst, ◌∙◌, IsPermutation}
-use Rattle.std.specs.List.{list_all}
-use Rattle.std.proofs.lemmas.List.Sorted.{IsPermutation-sym, length_permutation}
-use Rattle.sqlite_value.specs.Order.{Row, column}
-use Rattle.sqlite_value.specs.Keys.{ascending}
-use Rattle.sqlite_value.specs.declared.keys.Collation.TheVariants.{Binary}
-use Rattle.sqlite_value.proofs.OrderLemmas.{then-Equal}
-use Rattle.sqlite_trees.specs.Tree.{Trees}
-use Rattle.sqlite_sql.specs.Term.{Term, col, holds}
-use Rattle.sqlite_sql.specs.Query.{Query, Output, output}
-use Rattle.sqlite_sql.specs.Program.{overlay}
-use Rattle.sqlite.specs.Schema.{Schema}
-use Rattle.sqlite.specs.Effect.{Database}
+use Rattle.sql_rows.proofs.Common.{◌≡◌, ◌≤◌, ℕ, suc, List, [], ◌∷◌, map, filter, length, Bool, cond, sym, ap, subst, ◌∙◌, IsPermutation, list_all, IsPermutation-sym, length_permutation, Row, column, ascending, Binary, then-Equal, Trees, Term, col, holds, Query, Output, output, overlay, Schema, Database, State, sort_by, IsPlain, HasRows, AreKeyed, columns_of, PicksOne, by, Differ, number_value, IsOf, Changes, Holds}
 use Rattle.sqlite.specs.Listing.{understood}
-use Rattle.sqlite.specs.State.{State, Shown}
-use Rattle.sqlite_keyed.specs.Lists.{sort_by}
-use Rattle.sqlite.proofs.Callers.{IsPlain}
-use Rattle.sql_rows.specs.Rows.{HasRows, AreKeyed, columns_of, PicksOne, by, Differ, number_value}
-use Rattle.sql_rows.specs.Books.{IsOf, Changes}
-use Rattle.sql_rows.specs.Calls.{Holds, Writes}
+use Rattle.sqlite.specs.State.{Shown}
+use Rattle.sql_rows.specs.Calls.{Writes}
 use Rattle.sql_rows.proofs.Bags.{short_bag, length-map, no_ties}
 use Rattle.sql_rows.proofs.Inside.{shown_same}
 use Rattle.sql_rows.proofs.Queries.{Selects, plain_query, answers, reads_bag, reads_sorted, number_cmp}

@@ -1,26 +1,7 @@
 -- What an INSERT of one row with values does, in any schema.
-use Rattle.std.proofs.Common.{◌≡◌, ◌/◌, ℕ, ℤ, List, [], ◌∷◌, length, slice_get, append-nil, false, Some, None, Option, Ok, Err, Result, ◌⊎◌, inl, inr, sym, ap, subst, ◌∙◌}
-use Rattle.std.specs.Prelude.{if◌then◌else◌}
-use Rattle.sqlite_value.specs.Order.{Row}
-use Rattle.sqlite_trees.specs.Tree.{Trees}
-use Rattle.sqlite_sql.specs.Term.{Term, eval_all}
-use Rattle.sqlite.specs.Schema.{Schema}
-use Rattle.sqlite.specs.Table.{Table}
-use Rattle.sqlite_schema.specs.declared.schema.Keys.TheVariants.{Enforced}
-use Rattle.sqlite.specs.Source.TheVariants.{Values}
-use Rattle.sqlite.specs.Command.TheVariants.{Insert}
-use Rattle.sqlite_rules.specs.declared.error.Rowids.TheVariants.{Chosen}
-use Rattle.sqlite_rules.specs.Edit.{edit_of, Applies}
-use Rattle.sqlite.specs.declared.run.Mode.{Mode}
-use Rattle.sqlite.specs.Effect.{Database, value_rows}
+use Rattle.sql_rows.proofs.Common.{◌≡◌, ◌/◌, ℕ, ℤ, List, [], ◌∷◌, length, slice_get, append-nil, false, Some, None, Option, Ok, Err, Result, ◌⊎◌, inl, inr, sym, ap, subst, ◌∙◌, if◌then◌else◌, Row, Trees, Term, eval_all, Schema, Table, Enforced, Values, Insert, Chosen, edit_of, Applies, Mode, Database, value_rows, Task, Written, Inserts, Edited, stamped, rowids_for, count_of, Counts, Rowids, no_works, Tally, Does, OnRows, Concludes, State, mode_of, Shows, Executes, statement_of, runs_as, one_step}
 use Rattle.sqlite.specs.Listing.{understood}
-use Rattle.sqlite.specs.Rows.{Task, Written, Inserts, Edited, stamped, rowids_for, count_of, Counts}
-use Rattle.sqlite_rules.specs.declared.error.Rowids.{Rowids}
-use Rattle.sqlite_rules.proofs.ActionLemmas.{no_works}
-use Rattle.sqlite.specs.Does.{Tally, Does, OnRows, Concludes}
-use Rattle.sqlite.specs.State.{State, mode_of, Shows, Executes}
 pub use Rattle.sql_rows.specs.Builds.{Means}
-use Rattle.sqlite.proofs.Callers.{statement_of, runs_as, one_step}
 
 -- a table with no AUTOINCREMENT and no default that reads the time
 pub record IsPlainTable (schema : Schema) (at : ℕ) (table : Table) : Type 0 where

@@ -1,18 +1,6 @@
 -- What one INSERT makes of a table's rows.
-use Rattle.std.proofs.Common.{◌≡◌, ℕ, List, [], ◌∷◌, ◌++◌, map, true, sym, ap, subst, ◌∙◌, IsPermutation}
-use Rattle.sqlite.specs.declared.types.Value.{Value}
-use Rattle.sqlite.specs.declared.types.Value.TheVariants.{Null, Int}
-use Rattle.sqlite_value.specs.Order.{Row}
-use Rattle.sqlite_trees.specs.Tree.{put_row}
-use Rattle.sqlite.specs.Schema.{Schema}
-use Rattle.sqlite.specs.Table.{Table}
+use Rattle.sql_rows.proofs.Common.{◌≡◌, ℕ, List, [], ◌∷◌, ◌++◌, map, true, sym, ap, subst, ◌∙◌, IsPermutation, Value, Null, Int, Row, put_row, Schema, Table, next_rowid, with_rowid, are_fresh, cast, cast_all, Chosen, State, columns_of, HasRows, IsPermutation-sym, IsPermutation-cons, IsPermutation-trans, IsPermutation-map, IsPermutation-to_front}
 use Rattle.sqlite_schema.specs.declared.schema.Kind.TheVariants as kind
-use Rattle.sqlite_rules.specs.Edit.{next_rowid, with_rowid, are_fresh}
-use Rattle.sqlite_rules.specs.Cast.{cast, cast_all}
-use Rattle.sqlite_rules.specs.declared.error.Rowids.TheVariants.{Chosen}
-use Rattle.sqlite.specs.State.{State}
-use Rattle.sql_rows.specs.Rows.{columns_of, HasRows}
-use Rattle.std.proofs.lemmas.List.Sorted.{IsPermutation-sym, IsPermutation-cons, IsPermutation-trans, IsPermutation-map, IsPermutation-to_front}
 use Rattle.sql_rows.proofs.Appends.{are_kept, cast_null, cast_all_kept}
 use Rattle.sql_rows.proofs.Keyed.{put_bag, fresh_one}
 use Rattle.sql_rows.proofs.Puts.{Puts}

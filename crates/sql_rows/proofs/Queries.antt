@@ -1,32 +1,8 @@
 -- What a query of one table with a filter and an order shows.
-use Rattle.std.proofs.Common.{◌≡◌, ◌==◌, ℕ, pos, negsuc, List, [], ◌∷◌, ◌++◌, map, filter, true, false, Bool, cond, Some, None, refl, sym, ap, subst, subst₂, ◌∙◌, arith, Ordering, is_eq, IsPermutation, int_cmp}
-use Rattle.std.specs.List.{flat_map, list_all}
-use Rattle.std.proofs.lemmas.Int.{ints}
-use Rattle.std.proofs.lemmas.Bool.Decides.{nat_tests}
-use Rattle.sqlite.specs.declared.types.Value.TheVariants.{Null, Int}
-use Rattle.sqlite_value.specs.Order.{Row, value_cmp}
-use Rattle.sqlite_value.specs.declared.keys.Key.{Key}
-use Rattle.sqlite_value.specs.declared.keys.Collation.TheVariants.{Binary}
-use Rattle.sqlite_value.proofs.OrderLemmas.{value_cmp-Int}
-use Rattle.sqlite_trees.specs.Tree.{Trees, IsAscending}
-use Rattle.sqlite_sql.specs.declared.ops.BinaryOp.TheVariants.{Compare}
-use Rattle.sqlite_sql.specs.declared.ops.CompareOp.TheVariants.{Eq}
-use Rattle.sqlite_sql.specs.Ops.{binary, is_true, from_truth}
-use Rattle.sqlite_sql.specs.Term.{Term, lit, holds}
-use Rattle.sqlite_sql.specs.Query.{Query, inner, end, IsAnswer, Output, output, output_cmp, page}
-use Rattle.sqlite_sql.specs.Program.{overlay}
-use Rattle.sqlite_sql.proofs.QueryLemmas.{output_cmp_total}
-use Rattle.sqlite.specs.Schema.{Schema}
-use Rattle.sqlite.specs.Command.TheVariants.{Select}
-use Rattle.sqlite.specs.Listing.{understood, reads_listing}
-use Rattle.sqlite.specs.State.{State, Shown}
-use Rattle.sqlite.proofs.Callers.{IsPlain, command_of, reads_as}
-use Rattle.sqlite_keyed.proofs.ListLemmas.{map-map, map-flat_map, flat_map-map, flat_map_same_on, ascending-map}
-use Rattle.sqlite_keyed.proofs.ListLemmas.{ascending_weaker, IsPermutation-flat_map}
-use Rattle.sqlite_keyed.proofs.SortLemmas.{sorted_is-sort_by, sort_by-map}
-use Rattle.sqlite_keyed.specs.Lists.{sort_by}
-use Rattle.std.specs.Ordering.{nat_cmp}
-use Rattle.std.proofs.lemmas.List.Sorted.{IsPermutation-sym, IsPermutation-trans, IsPermutation-map}
+use Rattle.sql_rows.proofs.Common.{◌≡◌, ◌==◌, ℕ, pos, negsuc, List, [], ◌∷◌, ◌++◌, map, filter, true, false, Bool, cond, Some, None, refl, sym, ap, subst, subst₂, ◌∙◌, arith, Ordering, is_eq, IsPermutation, int_cmp, flat_map, list_all, ints, nat_tests, Null, Int, Row, value_cmp, Key, Binary, value_cmp-Int, Trees, IsAscending, Compare, Eq, is_true, from_truth, Term, lit, holds, Query, inner, end, IsAnswer, Output, output, output_cmp, page, overlay, output_cmp_total, Schema, Select, reads_listing, State, IsPlain, command_of, reads_as, map-map, map-flat_map, flat_map-map, flat_map_same_on, ascending-map, ascending_weaker, IsPermutation-flat_map, sorted_is-sort_by, sort_by-map, sort_by, nat_cmp, IsPermutation-sym, IsPermutation-trans, IsPermutation-map}
+use Rattle.sqlite_sql.specs.Ops.{binary}
+use Rattle.sqlite.specs.Listing.{understood}
+use Rattle.sqlite.specs.State.{Shown}
 use mathlib.Core.Path.{fun_ext}
 
 -- SELECT terms FROM table WHERE terms ORDER BY terms

@@ -1,7 +1,5 @@
 -- Bags whose images are one bag.
-use Rattle.std.proofs.Common.{◌≡◌, List, [], ◌∷◌, map, refl, subst, IsPermutation}
-use Rattle.std.proofs.lemmas.List.Sorted.{IsPermutation-refl, IsPermutation-cons, IsPermutation-trans, IsPermutation-middle}
-use Rattle.sqlite_keyed.proofs.ListLemmas.{along_permutation}
+use Rattle.sql_rows.proofs.Common.{◌≡◌, List, [], ◌∷◌, map, refl, subst, IsPermutation, IsPermutation-refl, IsPermutation-cons, IsPermutation-trans, IsPermutation-middle, along_permutation}
 use Rattle.sql_rows.proofs.Queries.{unmapped}
 
 turned : {X : Type 0} (a b : X) (l : List X) → IsPermutation (a ∷ b ∷ l) (b ∷ a ∷ l)

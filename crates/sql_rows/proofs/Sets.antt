@@ -1,17 +1,6 @@
 -- A step that takes one row out and puts another in at its rowid.
-use Rattle.std.proofs.Common.{◌≡◌, ◌<ℤ◌, ℤ, List, [], ◌∷◌, filter, true, false, Bool, cond, refl, sym, ap, subst, ◌∙◌, arith, IsTrue, Greater, is_eq, int_cmp}
-use Rattle.std.specs.List.{AllByRecursion}
-use Rattle.std.proofs.lemmas.Int.{ints}
-use Rattle.sqlite.specs.declared.types.Value.TheVariants.{Int}
-use Rattle.sqlite_value.specs.Order.{Row, value_cmp}
-use Rattle.sqlite_value.proofs.OrderLemmas.{value_cmp-Int}
+use Rattle.sql_rows.proofs.Common.{◌≡◌, ◌<ℤ◌, ℤ, List, [], ◌∷◌, filter, true, false, Bool, cond, refl, sym, ap, subst, ◌∙◌, arith, IsTrue, Greater, is_eq, int_cmp, AllByRecursion, ints, Int, Row, value_cmp, value_cmp-Int, rowid, has_rowid, put_row, without_rowid, IsShaped, is_int, IsKeyedBy, update_where, all-filter, Less-from_lt}
 use Rattle.sqlite_trees.specs.declared.store.Shape.TheVariants.{Table as TableShape}
-use Rattle.sqlite_trees.specs.Tree.{rowid, has_rowid, put_row, without_rowid}
-use Rattle.sqlite_trees.specs.View.{IsShaped, is_int}
-use Rattle.sqlite_keyed.specs.Keyed.{IsKeyedBy}
-use Rattle.sqlite_keyed.specs.Lists.{update_where}
-use Rattle.sqlite_keyed.proofs.ListLemmas.{all-filter}
-use Rattle.sqlite_keyed.proofs.KeyedLemmas.{Less-from_lt}
 use Rattle.sql_rows.proofs.Appends.{int_is, id_of, ids_rise}
 
 abbrev pub AreInts : List Row → Type 0

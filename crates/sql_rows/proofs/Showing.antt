@@ -1,31 +1,9 @@
 -- What an UPDATE with RETURNING does and shows.
-use Rattle.std.proofs.Common.{◌≡◌, ◌/◌, ℕ, List, [], ◌∷◌, ◌++◌, length, slice_get, append-nil, true, Some, None, Option, Ok, Err, Result, sym, ap, subst, ◌∙◌}
-use Rattle.sqlite.specs.declared.types.Value.TheVariants.{Null}
-use Rattle.sqlite_value.specs.Order.{Row}
-use Rattle.sqlite_trees.specs.Tree.{Trees}
-use Rattle.sqlite_sql.specs.Term.{Term}
-use Rattle.sqlite_sql.specs.Query.{Query}
-use Rattle.sqlite.specs.Schema.{Schema}
-use Rattle.sqlite.specs.Table.{Table}
-use Rattle.sqlite_schema.specs.declared.schema.Keys.TheVariants.{Enforced}
-use Rattle.sqlite_schema.specs.declared.command.Returning.{Returning}
-use Rattle.sqlite.specs.Source.TheVariants.{Values}
-use Rattle.sqlite.specs.Command.{Command}
-use Rattle.sqlite.specs.Command.TheVariants.{Update}
-use Rattle.sqlite_resolve.specs.declared.compiled.Compiled.{Compiled}
-use Rattle.sqlite_resolve.specs.declared.error.CompileError.{CompileError}
-use Rattle.sqlite_rules.specs.declared.error.Rowids.TheVariants.{Given}
-use Rattle.sqlite_rules.specs.Edit.{edit_of, Applies, taken_by}
-use Rattle.sqlite_rules.specs.Calls.{ids_of}
-use Rattle.sqlite.specs.declared.run.Mode.{Mode}
-use Rattle.sqlite.specs.Effect.{Database, Answers, value_rows}
-use Rattle.sqlite_schema.specs.declared.program.Program.{Program}
+use Rattle.sql_rows.proofs.Common.{◌≡◌, ◌/◌, ℕ, List, [], ◌∷◌, ◌++◌, length, slice_get, append-nil, true, Some, None, Option, Ok, Err, Result, sym, ap, subst, ◌∙◌, Null, Row, Trees, Term, Query, Schema, Table, Enforced, Returning, Values, Command, Update, Compiled, CompileError, Given, edit_of, Applies, taken_by, ids_of, Mode, Database, Answers, value_rows, Program, Task, Written, Updates, Edited, shown, Tally, Does, OnRows, Concludes, State, mode_of, Writes, command_of, one_step}
 use Rattle.sqlite.specs.Listing.{understood}
-use Rattle.sqlite.specs.Rows.{Task, Written, Updates, Edited, shown}
-use Rattle.sqlite.specs.Does.{Tally, Does, OnRows, Concludes, Shows}
+use Rattle.sqlite.specs.Does.{Shows}
 use Rattle.sqlite.specs.State as state
-use Rattle.sqlite.specs.State.{State, mode_of, Writes, Shown}
-use Rattle.sqlite.proofs.Callers.{command_of, one_step}
+use Rattle.sqlite.specs.State.{Shown}
 use Rattle.sql_rows.proofs.Puts.{went, same_value}
 use Rattle.sql_rows.proofs.Alters.{Moves, idle_works, are_idle}
 

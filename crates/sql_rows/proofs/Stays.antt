@@ -1,15 +1,6 @@
 -- One call after another.
-use Rattle.std.proofs.Common.{arith, true, Ok, Err, Result, ◌∙◌, refl}
-use Rattle.std.specs.Borrow.{MutBor}
-use Rattle.std.specs.Prelude.{IsOk, IsErr, OnOk}
-use Rattle.std.proofs.lemmas.Bool.{false≢true}
-use Rattle.sqlite_trees.specs.declared.store.Store.{Ghosts}
-use Rattle.sqlite.specs.Held.{Held, state}
-use Rattle.sqlite.specs.State.{State, HasCleanDisk, Shows, Survives}
-use Rattle.sqlite.proofs.StateLemmas.{survives_then}
-use Rattle.sqlite.proofs.Callers.{unchanged_then}
-use Rattle.sqlite.proofs.InsideLemmas.{keeps_then}
-use Rattle.sql_rows.specs.Calls.{StaysInside, StaysSame, StaysWithin}
+use Rattle.sql_rows.proofs.Common.{arith, true, Ok, Err, Result, ◌∙◌, refl, MutBor, IsOk, IsErr, false≢true, Ghosts, Held, state, State, HasCleanDisk, Shows, Survives, survives_then, unchanged_then, keeps_then, StaysInside, StaysSame, StaysWithin}
+use Rattle.std.specs.Prelude.{OnOk}
 use Rattle.sql_rows.proofs.Inside.{on_ok, on_ok_then, survives_nothing}
 
 not_both : {X E : Type 0} (r : Result X E) → IsOk r → IsErr r → ⊥

@@ -1,34 +1,8 @@
 -- What one text makes of the books: an INSERT of a row and an UPDATE of at most one, and what a SELECT shows.
-use Rattle.std.proofs.Common.{◌≡◌, ◌≤◌, ◌/◌, ℕ, suc, List, [], ◌∷◌, ◌++◌, map, filter, drop, length, slice_get, true, Bool, cond, Some, Ok, refl, sym, ap, subst, ◌∙◌, IsTrue, IsPermutation}
-use Rattle.std.specs.List.{AllByRecursion, list_all}
-use Rattle.std.proofs.lemmas.List.Sorted.{IsPermutation-sym}
-use Rattle.sqlite.specs.declared.types.Value.{Value}
-use Rattle.sqlite.specs.declared.types.Value.TheVariants.{Null, Int}
-use Rattle.sqlite_value.specs.Order.{Row, column}
-use Rattle.sqlite_value.specs.Keys.{ascending}
-use Rattle.sqlite_value.specs.declared.keys.Key.{Key}
-use Rattle.sqlite_value.specs.declared.keys.Collation.TheVariants.{Binary}
-use Rattle.sqlite_value.proofs.OrderLemmas.{then-Equal}
+use Rattle.sql_rows.proofs.Common.{◌≡◌, ◌≤◌, ◌/◌, ℕ, suc, List, [], ◌∷◌, ◌++◌, map, filter, drop, length, slice_get, true, Bool, cond, Some, Ok, refl, sym, ap, subst, ◌∙◌, IsTrue, IsPermutation, AllByRecursion, list_all, IsPermutation-sym, Value, Null, Int, Row, column, ascending, Key, Binary, then-Equal, Trees, rowid, IsShaped, is_int, Enforced, Term, col, eval_all, holds, Query, Output, output, overlay, cast, cast_all, cast_row, Schema, Table, Values, Insert, Update, value_rows, State, ExecutesInside, update_where, sort_by, all-filter, Means, HasRows, SameBut, columns_of, by, Differ, PicksOne, number_value, IsOf, IsKeyed, Changes}
 use Rattle.sqlite_trees.specs.declared.store.Shape.TheVariants.{Table as TableShape}
-use Rattle.sqlite_trees.specs.Tree.{Trees, rowid}
-use Rattle.sqlite_trees.specs.View.{IsShaped, is_int}
-use Rattle.sqlite_schema.specs.declared.schema.Keys.TheVariants.{Enforced}
 use Rattle.sqlite_schema.specs.declared.schema.Kind.TheVariants as kind
-use Rattle.sqlite_sql.specs.Term.{Term, col, eval_all, holds}
-use Rattle.sqlite_sql.specs.Query.{Query, Output, output}
-use Rattle.sqlite_sql.specs.Program.{overlay}
-use Rattle.sqlite_rules.specs.Cast.{cast, cast_all, cast_row}
-use Rattle.sqlite.specs.Schema.{Schema}
-use Rattle.sqlite.specs.Table.{Table}
-use Rattle.sqlite.specs.Source.TheVariants.{Values}
-use Rattle.sqlite.specs.Command.TheVariants.{Insert, Update}
-use Rattle.sqlite.specs.Effect.{value_rows}
-use Rattle.sqlite.specs.State.{State, ExecutesInside, Shown}
-use Rattle.sqlite_keyed.specs.Lists.{update_where, sort_by}
-use Rattle.sqlite_keyed.proofs.ListLemmas.{all-filter}
-use Rattle.sql_rows.specs.Builds.{Means}
-use Rattle.sql_rows.specs.Rows.{HasRows, SameBut, columns_of, by, Differ, PicksOne, number_value}
-use Rattle.sql_rows.specs.Books.{IsOf, IsKeyed, Changes}
+use Rattle.sqlite.specs.State.{Shown}
 use Rattle.sql_rows.proofs.Appends.{id_of, int_is, cast_int, cast_all_kept, are_kept}
 use Rattle.sql_rows.proofs.Keyed.{keyed_at, applies_keyed}
 use Rattle.sql_rows.proofs.Puts.{IsPlainTable, Puts, inserts}

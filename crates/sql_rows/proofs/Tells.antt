@@ -1,35 +1,10 @@
 -- An UPDATE of at most one row with RETURNING: what it sets, and what it shows of the row that it set.
-use Rattle.std.proofs.Common.{◌≡◌, ◌≤◌, ◌/◌, ℕ, List, [], ◌∷◌, ◌++◌, map, filter, drop, length, slice_get, true, false, Bool, cond, Some, Ok, IsPermutation, refl, sym, ap, subst, ◌∙◌, arith, IsTrue}
-use Rattle.std.specs.List.{AllByRecursion, list_all}
-use Rattle.std.proofs.lemmas.List.Sorted.{IsPermutation-sym}
-use Rattle.sqlite.specs.declared.types.Value.{Value}
-use Rattle.sqlite.specs.declared.types.Value.TheVariants.{Null, Int}
-use Rattle.sqlite_value.specs.Order.{Row}
+use Rattle.sql_rows.proofs.Common.{◌≡◌, ◌≤◌, ◌/◌, ℕ, List, [], ◌∷◌, ◌++◌, map, filter, drop, length, slice_get, true, false, Bool, cond, Some, Ok, IsPermutation, refl, sym, ap, subst, ◌∙◌, arith, IsTrue, AllByRecursion, list_all, IsPermutation-sym, Value, Null, Int, Row, rowid, IsShaped, is_int, all-permutation, Enforced, Returning, Term, eval_all, holds, overlay, cast, cast_all, cast_row, Given, edit_of, ids_of, Schema, Table, Values, Update, value_rows, Task, State, update_where, all-filter, all_unmap, map-map, HasRows, SameBut, columns_of, PicksOne, IsOf, IsKeyed}
 use Rattle.sqlite_trees.specs.declared.store.Shape.TheVariants.{Table as TableShape}
-use Rattle.sqlite_trees.specs.Tree.{rowid}
-use Rattle.sqlite_trees.specs.View.{IsShaped, is_int}
-use Rattle.sqlite_trees.proofs.ListLemmas.{all-permutation}
-use Rattle.sqlite_schema.specs.declared.schema.Keys.TheVariants.{Enforced}
 use Rattle.sqlite_schema.specs.declared.schema.Kind.TheVariants as kind
-use Rattle.sqlite_schema.specs.declared.command.Returning.{Returning}
-use Rattle.sqlite_sql.specs.Term.{Term, eval_all, holds}
-use Rattle.sqlite_sql.specs.Program.{overlay}
-use Rattle.sqlite_rules.specs.Cast.{cast, cast_all, cast_row}
-use Rattle.sqlite_rules.specs.declared.error.Rowids.TheVariants.{Given}
-use Rattle.sqlite_rules.specs.Edit.{edit_of}
-use Rattle.sqlite_rules.specs.Calls.{ids_of}
-use Rattle.sqlite.specs.Schema.{Schema}
-use Rattle.sqlite.specs.Table.{Table}
-use Rattle.sqlite.specs.Source.TheVariants.{Values}
-use Rattle.sqlite.specs.Command.TheVariants.{Update}
-use Rattle.sqlite.specs.Effect.{value_rows}
-use Rattle.sqlite.specs.Rows.{Task, shown as row_shown}
+use Rattle.sqlite.specs.Rows.{shown as row_shown}
 use Rattle.sqlite.specs.Does.{Shows}
-use Rattle.sqlite.specs.State.{State, Shown}
-use Rattle.sqlite_keyed.specs.Lists.{update_where}
-use Rattle.sqlite_keyed.proofs.ListLemmas.{all-filter, all_unmap, map-map}
-use Rattle.sql_rows.specs.Rows.{HasRows, SameBut, columns_of, PicksOne}
-use Rattle.sql_rows.specs.Books.{IsOf, IsKeyed}
+use Rattle.sqlite.specs.State.{Shown}
 use Rattle.sql_rows.proofs.Appends.{id_of, int_is, cast_int, cast_all_kept, are_kept}
 use Rattle.sql_rows.proofs.Keyed.{keyed_at, applies_keyed}
 use Rattle.sql_rows.proofs.Puts.{same_value}

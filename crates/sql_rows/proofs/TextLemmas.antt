@@ -1,25 +1,15 @@
 -- A text that reads as a SELECT is a query under any schema.
-use Rattle.std.proofs.Common.{◌≡◌, ℕ, List, [], Bool, true, false, None, Ok, Err, inl, inr, refl, subst}
-use Rattle.std.specs.Prelude.{Result, if◌then◌else◌}
-use Rattle.sqlite_value.specs.Order.{Row}
+use Rattle.sql_rows.proofs.Common.{◌≡◌, ℕ, List, [], Bool, true, false, None, Ok, Err, inl, inr, refl, subst, if◌then◌else◌, Row, Trees, Ghosts, Compiled, CompileError, Schema, reads_listing, is_select, if_select, listing_schema, Held, state, HasGiven, HasBegun, Returns, State, IsUnchanged, Survives, survives_weaker, ShowsOnly, IsQuery}
+use Rattle.std.specs.Prelude.{Result}
 use Rattle.sqlite_ast.specs.declared.Statement.{Statement}
 use Rattle.sqlite_ast.specs.declared.Statement.TheVariants as written
 use Rattle.sqlite_syntax.specs.declared.statement.Parsed.{Parsed}
 use Rattle.sqlite_schema.specs.declared.command.Command.{Command}
-use Rattle.sqlite_trees.specs.Tree.{Trees}
-use Rattle.sqlite_trees.specs.declared.store.Store.{Ghosts}
-use Rattle.sqlite_resolve.specs.declared.compiled.Compiled.{Compiled}
-use Rattle.sqlite_resolve.specs.declared.error.CompileError.{CompileError}
 use Rattle.sqlite_resolve.specs.declared.error.CompileError.TheVariants.{NoSuchTable}
 use Rattle.sqlite_resolve.specs.Lowering.{Checked, and_then}
 use Rattle.sqlite_resolve.specs.Compile.{first, compiled, planned, meaning, returning, timed, with_command}
-use Rattle.sqlite.specs.Schema.{Schema}
-use Rattle.sqlite.specs.Listing.{understood, reads_listing, is_select, if_select, listing_schema}
-use Rattle.sqlite.specs.Held.{Held, state}
-use Rattle.sqlite.specs.Given.{HasGiven, HasBegun, Returns}
-use Rattle.sqlite.specs.State.{State, IsUnchanged, Survives, CommitsShowing}
-use Rattle.sqlite.proofs.StateLemmas.{survives_weaker}
-use Rattle.sql_rows.specs.Texts.{ShowsOnly, IsQuery}
+use Rattle.sqlite.specs.Listing.{understood}
+use Rattle.sqlite.specs.State.{CommitsShowing}
 
 abbrev pub is_written_select : Statement → Bool
 is_written_select (written.Select s) = true

@@ -1,21 +1,12 @@
 -- The objects in sqlite_schema decide the schema, where it has no view.
-use Rattle.std.proofs.Common.{◌≡◌, inl, inr, ℕ, ◌+◌, pos, List, [], ◌∷◌, ◌++◌, filter, false, codes, slice_get, Some, Ok, Result, refl, sym, ap, subst, ◌∙◌, arith, true≢false}
+use Rattle.sql_rows.proofs.Common.{◌≡◌, inl, inr, ℕ, ◌+◌, pos, List, [], ◌∷◌, ◌++◌, filter, false, codes, slice_get, Some, Ok, Result, refl, sym, ap, subst, ◌∙◌, arith, true≢false, AllZip, AllByRecursion, Row, column, Value, Null, Int, Text, Real, Blob, Trees, rowid, IsAscending, catalog_tree, Index, Has, IsSound, IsTableRow, IsIndexRow, IsViewRow, is_index_row, is_view_row, IsDefined, automatic}
 use Rattle.std.specs.Fmt.{decimal}
-use Rattle.std.specs.List.{AllZip, AllByRecursion}
 use Rattle.std.proofs.lemmas.Fmt.{decimal_injective}
-use Rattle.sqlite_value.specs.Order.{Row, column}
-use Rattle.sqlite.specs.declared.types.Value.{Value}
-use Rattle.sqlite.specs.declared.types.Value.TheVariants.{Null, Int, Text, Real, Blob}
-use Rattle.sqlite_trees.specs.Tree.{Trees, rowid, IsAscending}
-use Rattle.sqlite_trees.specs.Objects.{catalog_tree}
 use Rattle.sqlite_schema.specs.Names.{same_name}
 use Rattle.sqlite_schema.specs.declared.schema.Table.{Table}
-use Rattle.sqlite_schema.specs.declared.schema.Index.{Index}
 use Rattle.sqlite_schema.specs.declared.schema.View.{View}
 use Rattle.sqlite_schema.specs.declared.schema.Schema.{Schema}
-use Rattle.sqlite_rules.specs.Lists.{Has}
 use Rattle.sqlite_catalog.proofs.StepLemmas.{same_itself}
-use Rattle.sqlite_catalog.specs.Listing.{IsSound, IsTableRow, IsIndexRow, IsViewRow, is_index_row, is_view_row, IsDefined, automatic}
 
 same_ok : {B E : Type 0} {a b : B} (r : Result B E) → r ≡ Ok a → r ≡ Ok b → a ≡ b
 same_ok r x y = cc

@@ -1,52 +1,15 @@
 -- An INSERT of one row with ON CONFLICT on a key DO UPDATE and RETURNING: the row is put where no row has its key, and else the row that has it is set.
-use Rattle.std.proofs.Common.{◌≡◌, ◌≤◌, ◌<ℤ◌, ◌/◌, ◌&&◌, ◌⊎◌, ℕ, ℤ, suc, List, [], ◌∷◌, ◌++◌, map, filter, drop, length, append-nil, true, false, Bool, cond, Option, Some, None, Ok, IsPermutation, inl, inr, refl, sym, ap, subst, ◌∙◌, arith, IsTrue, is_eq, int_cmp}
-use Rattle.std.specs.List.{AllByRecursion, list_all}
-use Rattle.std.proofs.lemmas.List.Sorted.{IsPermutation-sym, IsPermutation-cons, IsPermutation-trans, IsPermutation-map, IsPermutation-to_front}
-use Rattle.sqlite.specs.declared.types.Value.{Value}
-use Rattle.sqlite.specs.declared.types.Value.TheVariants.{Null, Int}
-use Rattle.sqlite_value.specs.Order.{Row}
-use Rattle.sqlite_value.specs.declared.keys.Collation.TheVariants.{Binary}
-use Rattle.sqlite_value.proofs.OrderLemmas.{value_cmp-Int}
+use Rattle.sql_rows.proofs.Common.{◌≡◌, ◌≤◌, ◌<ℤ◌, ◌/◌, ◌&&◌, ◌⊎◌, ℕ, ℤ, suc, List, [], ◌∷◌, ◌++◌, map, filter, drop, length, append-nil, true, false, Bool, cond, Option, Some, None, Ok, IsPermutation, inl, inr, refl, sym, ap, subst, ◌∙◌, arith, IsTrue, is_eq, int_cmp, AllByRecursion, list_all, IsPermutation-sym, IsPermutation-cons, IsPermutation-trans, IsPermutation-map, IsPermutation-to_front, Value, Null, Int, Row, Binary, value_cmp-Int, Trees, rowid, put_row, IsShaped, is_int, all-permutation, Enforced, Returning, Program, is_true, Compare, Eq, Term, col, op2, eval_all, holds, Query, overlay, Has, cast, cast_all, cast_row, Rowids, Chosen, Given, Edit, edit_of, next_rowid, with_rowid, are_fresh, taken_by, Applies, ids_of, no_works, Schema, Table, Values, Command, InsertOr, Database, Answers, value_rows, Task, Written, Edited, Updates, Clears, Meets, Upserts, Judged, Tries, TriesEach, InsertsOr, stamped, rowids_for, count_of, nothing, joined, Does, OnRows, State, mode_of, one_step, IsKeyedBy, update_where, all-filter, all_unmap, HasRows, columns_of, PicksOne, IsOf}
 use Rattle.sqlite_trees.specs.declared.store.Shape.TheVariants.{Table as TableShape}
-use Rattle.sqlite_trees.specs.Tree.{Trees, rowid, put_row}
-use Rattle.sqlite_trees.specs.View.{IsShaped, is_int}
-use Rattle.sqlite_trees.proofs.ListLemmas.{all-permutation}
-use Rattle.sqlite_schema.specs.declared.schema.Keys.TheVariants.{Enforced}
 use Rattle.sqlite_schema.specs.declared.schema.Kind.TheVariants as kind
 use Rattle.sqlite_schema.specs.declared.command.Conflict.TheVariants.{Abort}
 use Rattle.sqlite_schema.specs.declared.command.Upsert.{Upsert}
-use Rattle.sqlite_schema.specs.declared.command.Returning.{Returning}
-use Rattle.sqlite_schema.specs.declared.program.Program.{Program}
-use Rattle.sqlite_sql.specs.Ops.{binary, is_true}
-use Rattle.sqlite_sql.specs.declared.ops.BinaryOp.TheVariants.{Compare}
-use Rattle.sqlite_sql.specs.declared.ops.CompareOp.TheVariants.{Eq}
-use Rattle.sqlite_sql.specs.Term.{Term, col, op2, eval_all, holds}
-use Rattle.sqlite_sql.specs.Query.{Query}
-use Rattle.sqlite_sql.specs.Program.{overlay}
-use Rattle.sqlite_rules.specs.Lists.{Has}
-use Rattle.sqlite_rules.specs.Cast.{cast, cast_all, cast_row}
+use Rattle.sqlite_sql.specs.Ops.{binary}
 use Rattle.sqlite_rules.specs.Keys.{AreConflicts, conflicts}
 use Rattle.sqlite_rules.specs.declared.error.Refusal.{Refusal}
-use Rattle.sqlite_rules.specs.declared.error.Rowids.{Rowids}
-use Rattle.sqlite_rules.specs.declared.error.Rowids.TheVariants.{Chosen, Given}
-use Rattle.sqlite_rules.specs.Edit.{Edit, edit_of, next_rowid, with_rowid, are_fresh, taken_by, Applies}
-use Rattle.sqlite_rules.specs.Calls.{ids_of}
-use Rattle.sqlite_rules.proofs.ActionLemmas.{no_works}
-use Rattle.sqlite.specs.Schema.{Schema}
-use Rattle.sqlite.specs.Table.{Table}
-use Rattle.sqlite.specs.Source.TheVariants.{Values}
-use Rattle.sqlite.specs.Command.{Command}
-use Rattle.sqlite.specs.Command.TheVariants.{InsertOr}
-use Rattle.sqlite.specs.Effect.{Database, Answers, value_rows}
-use Rattle.sqlite.specs.Rows.{Task, Written, Edited, Updates, Puts as PutsOne, Clears, Meets, Upserts, Judged, Tries, TriesEach, InsertsOr, stamped, rowids_for, count_of, nothing, joined, shown as row_shown}
-use Rattle.sqlite.specs.Does.{Does, OnRows, Shows}
-use Rattle.sqlite.specs.State.{State, mode_of, Shown, Shows as StaysShown}
-use Rattle.sqlite.proofs.Callers.{one_step}
-use Rattle.sqlite_keyed.specs.Keyed.{IsKeyedBy}
-use Rattle.sqlite_keyed.specs.Lists.{update_where}
-use Rattle.sqlite_keyed.proofs.ListLemmas.{all-filter, all_unmap}
-use Rattle.sql_rows.specs.Rows.{HasRows, columns_of, PicksOne}
-use Rattle.sql_rows.specs.Books.{IsOf}
+use Rattle.sqlite.specs.Rows.{Puts as PutsOne, shown as row_shown}
+use Rattle.sqlite.specs.Does.{Shows}
+use Rattle.sqlite.specs.State.{Shown, Shows as StaysShown}
 use Rattle.sql_rows.proofs.Appends.{id_of, int_is, cast_int, cast_null, cast_all_kept, are_kept, ids_rise}
 use Rattle.sql_rows.proofs.Keyed.{keyed_at, applies_keyed, put_bag, fresh_one}
 use Rattle.sql_rows.proofs.Puts.{IsPlainTable, went, same_value, chosen_if, counted_if}

@@ -1,11 +1,5 @@
 -- How the calls within one transaction make one commit.
-use Rattle.std.proofs.Common.{◌≡◌, true, sym, subst, ◌∙◌, arith, IsTrue}
-use Rattle.sqlite_trees.specs.declared.store.Store.{Ghosts}
-use Rattle.sqlite_trees.specs.Tree.{Trees}
-use Rattle.sqlite.specs.Held.{Held, state}
-use Rattle.sqlite.specs.State.{State, HasCleanDisk, IsRolledBack, KeepsCommit, Survives}
-use Rattle.sqlite.proofs.StateLemmas.{survives_then}
-use Rattle.sqlite.proofs.Callers.{survives_begin}
+use Rattle.sql_rows.proofs.Common.{◌≡◌, true, sym, subst, ◌∙◌, arith, IsTrue, Ghosts, Trees, Held, state, State, HasCleanDisk, IsRolledBack, KeepsCommit, Survives, survives_then, survives_begin}
 
 -- a drop after a call that failed
 pub dropped : (old mid end : State) → KeepsCommit old mid → IsRolledBack mid end → IsTrue end.is_open → (end.now ≡ old.committed) × (end.committed ≡ old.committed)

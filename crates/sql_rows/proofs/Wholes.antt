@@ -1,8 +1,5 @@
 -- A row of a known width is its columns.
-use Rattle.std.proofs.Common.{◌≡◌, ℕ, zero, suc, [], ◌∷◌, length, refl, ap, ◌∙◌, arith}
-use Rattle.sqlite.specs.declared.types.Value.{Value}
-use Rattle.sqlite_value.specs.Order.{Row, column}
-use Rattle.sql_rows.specs.Rows.{columns_from}
+use Rattle.sql_rows.proofs.Common.{◌≡◌, ℕ, zero, suc, [], ◌∷◌, length, refl, ap, ◌∙◌, arith, Value, Row, column, columns_from}
 
 past : (v : Value) (r : Row) (at more : ℕ) → columns_from (suc at) more (v ∷ r) ≡ columns_from at more r
 past v r at zero = refl

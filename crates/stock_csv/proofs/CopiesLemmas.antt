@@ -1,11 +1,5 @@
 -- Numbers of copies have one digit or two.
-use Rattle.std.proofs.Common.{◌≡◌, ◌&&◌, ◌==◌, ◌<◌, ◌≤◌, ◌+◌, ◌*◌, sym, arith, ℕ, true, false, true≢false, not, [], ◌∷◌, length, None, nat_le}
-use Rattle.std.proofs.lemmas.Bool.{and_parts, cond-false, false_from_ne_true, leb-true, not-true}
-use Rattle.std.proofs.lemmas.Bool.Decides.{nat_tests}
-use Rattle.std.specs.Char.{digit_value, is_ascii_digit}
-use Rattle.std.specs.List.{list_all}
-use Rattle.std.specs.Str.Parse.{digits_value, digits_value_after}
-use Rattle.shop_values.specs.Numbers.{is_plain_number, is_ten_digits}
+use Rattle.shop_types.proofs.Common.{◌≡◌, ◌&&◌, ◌==◌, ◌<◌, ◌≤◌, ◌+◌, ◌*◌, sym, arith, ℕ, true, false, true≢false, not, [], ◌∷◌, length, None, nat_le, and_parts, cond-false, false_from_ne_true, leb-true, not-true, nat_tests, digit_value, is_ascii_digit, list_all, digits_value, digits_value_after, is_plain_number, is_ten_digits}
 use Rattle.stock_csv.specs.Rows.{Text, copies_of}
 
 grows : (n d m : ℕ) → n * 10 + d ≤ m → n ≤ m

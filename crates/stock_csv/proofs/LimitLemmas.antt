@@ -1,13 +1,9 @@
 -- The rows of every file that is read are within the limits.
-use Rattle.std.proofs.Common.{◌≡◌, ◌==◌, ◌<◌, ◌≤◌, ◌+◌, ◌^◌, refl, arith, ℕ, List, [], ◌∷◌, length, Option, Some, None, Ok, Err, nat_le, nat_lt, IfSome, IfOk, All, replicate}
-use Rattle.std.proofs.lemmas.Bool.{and_parts, cond_both, eqb-false, leb-true, ltb-true, ltb-false, or_parts}
-use Rattle.std.proofs.lemmas.List.{length-append, length-replicate}
-use Rattle.std.proofs.lemmas.List.Elements.{All-nil, All-cons}
-use Rattle.std.proofs.lemmas.Result.{IfOk-at_ok}
-use Rattle.std.specs.Str.Parse.{digits_value}
+use Rattle.std.proofs.Common.{IfOk, All}
+use Rattle.shop_types.proofs.Common.{◌≡◌, ◌==◌, ◌<◌, ◌≤◌, ◌+◌, ◌^◌, refl, arith, ℕ, List, [], ◌∷◌, length, Option, Some, None, Ok, Err, nat_le, nat_lt, IfSome, replicate, and_parts, cond_both, eqb-false, leb-true, ltb-true, ltb-false, or_parts, length-replicate, All-nil, All-cons, IfOk-at_ok, digits_value, is_plain_number, is_row_number, row_number_of}
+use Rattle.std.proofs.lemmas.List.{length-append}
 use Rattle.csv.specs.Reading.{default_config, records_from, strip_bom}
 use Rattle.csv.specs.declared.parser.State.TheVariants as st
-use Rattle.shop_values.specs.Numbers.{is_plain_number, is_row_number, row_number_of}
 use Rattle.stock_csv.specs.declared.StockRow.{StockRow}
 use Rattle.stock_csv.specs.Rows.{StockRows, Text, copies_of, is_header, row_from, row_of, row_then, rows_from, rows_under_header, stock_rows_of, with_row}
 use Rattle.stock_csv.specs.Stock.{IsStock, IsStockRow, films_of}

@@ -1,9 +1,5 @@
 -- What any stock file says fits a shop's copies.
-use Rattle.std.proofs.Common.{◌≡◌, ◌<◌, ◌≤◌, ◌^◌, ℕ, suc, zero, List, [], ◌∷◌, ◌++◌, true, refl, arith, replicate, Ok, Err}
-use Rattle.std.specs.List.{AllByRecursion}
-use Rattle.std.proofs.lemmas.Bool.Decides.{nat_tests}
-use Rattle.std.proofs.lemmas.List.Elements.{recursion_from_All}
-use Rattle.shop_values.specs.Numbers.{is_row_number}
+use Rattle.shop_types.proofs.Common.{◌≡◌, ◌<◌, ◌≤◌, ◌^◌, ℕ, suc, zero, List, [], ◌∷◌, ◌++◌, true, refl, arith, replicate, Ok, Err, AllByRecursion, nat_tests, recursion_from_All, is_row_number}
 use Rattle.stock_csv.specs.declared.StockRow.{StockRow}
 use Rattle.stock_csv.specs.Rows.{StockRows, stock_rows_of}
 use Rattle.stock_csv.specs.Stock.{IsStockRow, IsStockReading, films_of, stock_from, stock_of}

@@ -1,8 +1,5 @@
 -- What the proofs on stock files cite.
-use Rattle.std.proofs.Common.{◌≡◌, ◌≢◌, ◌||◌, ◌∙◌, ◌<◌, ◌≤◌, ◌+◌, ◌-◌, ◌++◌, refl, sym, ap, arith, ℕ, zero, suc, true, false, List, [], ◌∷◌, length, Option, Some, None, Ok, Err, nat_lt, append_assoc, append-nil, ne_eqb, le-ltb, lt-ltb}
-use Rattle.std.proofs.lemmas.Bool.{or_left}
-use Rattle.std.proofs.lemmas.Bool.Decides.{nat_tests}
-use Rattle.std.specs.Borrow.{Bor}
+use Rattle.shop_types.proofs.Common.{◌≡◌, ◌≢◌, ◌||◌, ◌∙◌, ◌<◌, ◌≤◌, ◌+◌, ◌-◌, ◌++◌, refl, sym, ap, arith, ℕ, zero, suc, true, false, List, [], ◌∷◌, length, Option, Some, None, Ok, Err, nat_lt, append_assoc, append-nil, ne_eqb, le-ltb, lt-ltb, or_left, nat_tests, Bor}
 use Rattle.csv.specs.Machine.{Read, next_record}
 use Rattle.csv.specs.Reading.{default_config, records_from, strip_bom}
 use Rattle.csv.specs.declared.parser.State.TheVariants as st

@@ -1,16 +1,5 @@
 -- What came to a branch in a history under a mark, and where it was asked in a life.
-use Rattle.std.proofs.Common.{◌≡◌, ◌∙◌, ◌⊎◌, inl, inr, ℕ, zero, suc, List, [], ◌∷◌, ◌++◌, take, Bool, true, false, Some, refl, sym, ap, subst, eqb-true}
-use Rattle.std.specs.Prelude.{⊤, ◌==◌, slice_get}
-use Rattle.std.specs.Option.{option_to_list}
-use Rattle.std.proofs.lemmas.Bool.{cases_Bool}
-use Rattle.shop_model.specs.Values.{Text, Command, Act, Dispatch, Rules}
-use Rattle.shop_model.specs.Verdict.{Verdict, Again, Refused, Accepted, verdict, office_verdict}
-use Rattle.shop_model.specs.Machine.{Request, Do, Office, Input, FromOffice, Arrive, Own, State, reply_to, if_accepted, moved}
-use Rattle.shop_model.specs.Answers.{Answer}
-use Rattle.shop_model.specs.Books.{Books, Event, Caller, Counter, HeadOffice, Nobody, shop_of, caller_in, after, last_books, parcel_seen, other_seen, office_seen, seen_of, view}
-use Rattle.shop_model.specs.Histories.{is_decided, is_store_failure, counted_in}
-use Rattle.shop_model.specs.Resends.{Asks, books_next}
-use Rattle.shop_model.specs.Stops.{Life, failing, in_flight, acted_in, history_of, begun}
+use Rattle.shop_model.proofs.Common.{◌≡◌, ◌∙◌, ◌⊎◌, inl, inr, ℕ, zero, suc, List, [], ◌∷◌, ◌++◌, take, Bool, true, false, Some, refl, sym, ap, subst, eqb-true, ⊤, ◌==◌, slice_get, option_to_list, cases_Bool, Text, Command, Act, Dispatch, Rules, Verdict, Again, Refused, Accepted, verdict, office_verdict, Request, Do, Office, Input, FromOffice, Arrive, Own, State, reply_to, if_accepted, moved, Answer, Books, Event, Caller, Counter, HeadOffice, Nobody, shop_of, caller_in, after, last_books, parcel_seen, other_seen, office_seen, seen_of, view, is_decided, is_store_failure, counted_in, Asks, books_next, Life, failing, in_flight, acted_in, history_of, begun}
 use Rattle.shop_model.proofs.Histories.{last_append}
 use Rattle.shop_model.proofs.Resends.{same_some, same_none, failure_undecided}
 use Rattle.till_model.specs.Tills.{Served, served_in}

@@ -1,8 +1,5 @@
 -- Where an exchange stands in a life of its chain.
-use Rattle.std.proofs.Common.{◌≡◌, ◌∙◌, ℕ, zero, suc, List, [], ◌∷◌, ◌++◌, length, map, Option, Some, refl, ap}
-use Rattle.std.specs.Prelude.{slice_get}
-use Rattle.shop_model.specs.Values.{Text}
-use Rattle.shop_model.specs.Books.{caller_of}
+use Rattle.shop_model.proofs.Common.{◌≡◌, ◌∙◌, ℕ, zero, suc, List, [], ◌∷◌, ◌++◌, length, map, Option, Some, refl, ap, slice_get, Text, caller_of}
 use Rattle.shop_model.proofs.Resends.{same_some, same_none}
 use Rattle.counter_http.specs.Events.{event_of, known_token}
 use Rattle.counter_http.specs.Exchanges.{Exchange}

@@ -1,6 +1,5 @@
 -- A connection with one exchange among others that are served with it.
-use Rattle.std.proofs.Common.{◌≡◌, ◌∙◌, ◌⊎◌, inl, inr, ℕ, zero, suc, List, [], ◌∷◌, ◌++◌, map, Some, refl, sym, subst, ap, append_assoc}
-use Rattle.std.specs.Prelude.{slice_get}
+use Rattle.shop_model.proofs.Common.{◌≡◌, ◌∙◌, ◌⊎◌, inl, inr, ℕ, zero, suc, List, [], ◌∷◌, ◌++◌, map, Some, refl, sym, subst, ap, append_assoc, slice_get}
 use Rattle.shop_model.proofs.Resends.{same_some, same_none}
 use Rattle.counter_http.specs.Exchanges.{Exchange}
 use Rattle.counter_http.specs.Together.{Mixes, nothing, comes, goes, Till}

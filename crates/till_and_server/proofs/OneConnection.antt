@@ -1,11 +1,8 @@
 -- One message and its answer over one connection.
-use Rattle.std.proofs.Common.{◌≡◌, ◌∙◌, ◌⊎◌, inl, inr, ℕ, suc, List, [], ◌∷◌, ◌++◌, length, Option, Some, None, refl, sym, ap, subst, append-nil, append_assoc}
+use Rattle.shop_model.proofs.Common.{◌≡◌, ◌∙◌, ◌⊎◌, inl, inr, ℕ, suc, List, [], ◌∷◌, ◌++◌, length, Option, Some, None, refl, sym, ap, subst, append-nil, append_assoc, Appends, Consumes, append_cancel_left, Answer}
 use Rattle.std.specs.List.{flat_map}
-use Rattle.std.specs.Io.KnownBytes.{Appends, Consumes}
-use Rattle.std.proofs.lemmas.List.{append_cancel_left}
 use Rattle.http_messages.specs.Message.{Message}
 use Rattle.http_messages.specs.Input.{HasMessage}
-use Rattle.shop_model.specs.Answers.{Answer}
 use Rattle.counter_http.specs.Exchanges.{Exchange, texts, text_of, messages_of, answers_of}
 use Rattle.till_client.specs.Replies.{answer_bytes}
 use Rattle.till_client.proofs.OneRequest.{one_message}

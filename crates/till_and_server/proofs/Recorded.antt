@@ -1,10 +1,5 @@
 -- A book stays recorded.
-use Rattle.std.proofs.Common.{◌≡◌, ◌≢◌, ◌⊎◌, inl, inr, ℕ, zero, suc, List, [], ◌∷◌, ◌++◌, length, Some, refl, sym, ap, subst, append-nil, ◌∙◌}
-use Rattle.std.specs.Prelude.{slice_get}
-use Rattle.std.specs.Io.KnownBytes.{Appends, Consumes}
-use Rattle.shop_model.specs.Values.{Rules}
-use Rattle.shop_model.specs.Answers.{Answer}
-use Rattle.shop_model.specs.Books.{Books}
+use Rattle.shop_model.proofs.Common.{◌≡◌, ◌≢◌, ◌⊎◌, inl, inr, ℕ, zero, suc, List, [], ◌∷◌, ◌++◌, length, Some, refl, sym, ap, subst, append-nil, ◌∙◌, slice_get, Appends, Consumes, Rules, Answer, Books}
 use Rattle.shop_model.proofs.Resends.{same_some, same_none}
 use Rattle.till_client.specs.Replies.{answer_bytes}
 use Rattle.till_book.specs.Journal.{Journal, waiting, with_reply}

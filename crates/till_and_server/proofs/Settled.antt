@@ -1,11 +1,6 @@
 -- What settled a till's entries, and what became of them.
-use Rattle.std.proofs.Common.{◌≡◌, ◌≢◌, ◌∙◌, ℕ, List, [], ◌∷◌, ◌++◌, Ordering, is_gt, cond, true, false, sym, subst}
-use Rattle.std.specs.List.{AllByRecursion}
-use Rattle.std.specs.Io.KnownBytes.{Appends, Consumes}
+use Rattle.shop_model.proofs.Common.{◌≡◌, ◌≢◌, ◌∙◌, ℕ, List, [], ◌∷◌, ◌++◌, Ordering, is_gt, cond, true, false, sym, subst, AllByRecursion, Appends, Consumes, Command, Rules, Answer, Books}
 use Rattle.sqlite_keyed.specs.Lists.{insert_sorted, sort_by}
-use Rattle.shop_model.specs.Values.{Command, Rules}
-use Rattle.shop_model.specs.Answers.{Answer}
-use Rattle.shop_model.specs.Books.{Books}
 use Rattle.shop_model.proofs.Resends.{same_some}
 use Rattle.till_model.specs.Numbered.{has_mark}
 use Rattle.till_model.specs.Settled.{WasToldLater, WereToldLater}

@@ -1,7 +1,6 @@
 -- What a connection's bytes were and became, however it went on.
-use Rattle.std.proofs.Common.{◌≡◌, ◌∙◌, ◌⊎◌, inl, inr, ℕ, ◌<◌, ◌-◌, List, [], ◌∷◌, ◌++◌, length, Option, Some, None, refl, sym, ap, subst, arith, append-nil, append_assoc, length-append}
-use Rattle.std.specs.Io.KnownBytes.{Appends, Consumes, Keeps}
-use Rattle.std.proofs.lemmas.List.{append_cancel_left}
+use Rattle.shop_model.proofs.Common.{◌≡◌, ◌∙◌, ◌⊎◌, inl, inr, ℕ, ◌<◌, ◌-◌, List, [], ◌∷◌, ◌++◌, length, Option, Some, None, refl, sym, ap, subst, arith, append-nil, append_assoc, length-append, Appends, Consumes, append_cancel_left, Answer}
+use Rattle.std.specs.Io.KnownBytes.{Keeps}
 use Rattle.std.proofs.lemmas.Grind.{flat_map-append}
 use Rattle.httparse.specs.Grammar.{print_blank, print_version, print_end, print_section}
 use Rattle.httparse.proofs.GrammarLemmas.{print_request-append}
@@ -10,7 +9,6 @@ use Rattle.http_messages.specs.Input.{HasMessage, HasMessages}
 use Rattle.http_messages.specs.declared.messages.Fault.{Fault}
 use Rattle.http_messages.specs.declared.messages.Fault.TheVariants.{BadHead, TooLong}
 use Rattle.http_messages.proofs.StreamLemmas.{HasMessage-unique, HasMessage-not-bad, HasMessage-not-long, IsBadHead-append, IsTooLong-append}
-use Rattle.shop_model.specs.Answers.{Answer}
 use Rattle.counter_http.specs.Exchanges.{Exchange, text_of, texts, messages_of, HasRun}
 use Rattle.counter_http.specs.Served.{IsEnd, IsRefused, fault_text}
 use Rattle.counter_http.specs.Standings.{Line, opened, GoesOrEnds}

@@ -1,17 +1,9 @@
 -- The witnesses of a till's book, and what became of its entries.
-use Rattle.std.proofs.Common.{◌≡◌, ◌≢◌, ◌∙◌, inl, inr, ℕ, zero, suc, List, [], ◌∷◌, ◌++◌, true, Some, None, refl, sym, subst, ap}
-use Rattle.std.specs.Prelude.{slice_get}
+use Rattle.shop_model.proofs.Common.{◌≡◌, ◌≢◌, ◌∙◌, inl, inr, ℕ, zero, suc, List, [], ◌∷◌, ◌++◌, true, Some, None, refl, sym, subst, ap, slice_get, Text, Command, Rules, Do, Answer, Books, Event, Counter, state_of, is_decided, Asks, Life, history_of, begun}
 use Rattle.sqlite_trees.specs.declared.store.Store.{Ghosts}
 use Rattle.http_messages.specs.Message.{Message}
 use Rattle.http_messages.specs.Input.{HasMessage}
 use Rattle.http_messages.proofs.StreamLemmas.{HasMessage-unique}
-use Rattle.shop_model.specs.Values.{Text, Command, Rules}
-use Rattle.shop_model.specs.Machine.{Do}
-use Rattle.shop_model.specs.Answers.{Answer}
-use Rattle.shop_model.specs.Books.{Books, Event, Counter, state_of}
-use Rattle.shop_model.specs.Histories.{is_decided}
-use Rattle.shop_model.specs.Resends.{Asks}
-use Rattle.shop_model.specs.Stops.{Life, history_of, begun}
 use Rattle.shop_model.proofs.RowLemmas.{differ_test}
 use Rattle.shop_model.proofs.Resends.{same_some, same_none}
 use Rattle.counter_routes.specs.Readings.{reading_of}

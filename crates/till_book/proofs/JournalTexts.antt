@@ -1,37 +1,17 @@
 -- The journal's texts.
-use Rattle.std.proofs.Common.{◌≡◌, ◌≤◌, ◌<◌, ◌∙◌, ◌+◌, ℕ, zero, suc, false, true, filter, Option, Some, None, List, [], ◌∷◌, ◌++◌, map, length, Ok, refl, sym, ap, subst, arith, take}
+use Rattle.sql_rows.proofs.Common.{◌≡◌, ◌≤◌, ◌<◌, ◌∙◌, ◌+◌, ℕ, zero, suc, false, true, filter, Option, Some, None, List, [], ◌∷◌, ◌++◌, map, length, Ok, refl, sym, ap, subst, arith, take, AllByRecursion, IsPermutation-refl, Schema, Table, IsShaped, no_schema, map_push, Blob, Values, Insert, Trees, State, ExecutesInside, option_to_list, column, Binary, Term, col, op2, Compare, Eq, map-map, Means, Makes, MakeAll, Builds, HasRows, PicksOne, number_value}
 use Rattle.std.specs.Prelude.{codes, ◌==◌, ◌&&◌, slice_get}
-use Rattle.std.specs.List.{AllByRecursion}
-use Rattle.std.proofs.lemmas.List.Sorted.{IsPermutation-refl}
-use Rattle.sqlite.specs.Schema.{Schema}
-use Rattle.sqlite.specs.Table.{Table}
-use Rattle.sqlite_trees.specs.View.{IsShaped}
 use Rattle.sqlite_trees.specs.declared.store.Shape.TheVariants.{Table as TableShape}
-use Rattle.sql_rows.specs.Books.{no_schema}
 use Rattle.sql_rows.proofs.Creates.{makes_one}
-use Rattle.std.proofs.lemmas.List.{map_push}
-use Rattle.sqlite.specs.declared.types.Value.TheVariants.{Blob}
 use Rattle.sqlite_value.specs.Order as sql
-use Rattle.sqlite.specs.Source.TheVariants.{Values}
-use Rattle.sqlite.specs.Command.TheVariants.{Insert}
 use Rattle.sqlite_tied.specs.Compute.{everything}
 use Rattle.sqlite.specs.Listing.{understood}
-use Rattle.sqlite_trees.specs.Tree.{Trees}
-use Rattle.sqlite.specs.State.{State, ExecutesInside, Shown}
-use Rattle.std.specs.Option.{option_to_list}
-use Rattle.sqlite_value.specs.Order.{column}
-use Rattle.sqlite_value.specs.declared.keys.Collation.TheVariants.{Binary}
-use Rattle.sqlite_sql.specs.Term.{Term, col, op2}
-use Rattle.sqlite_sql.specs.declared.ops.BinaryOp.TheVariants.{Compare}
-use Rattle.sqlite_sql.specs.declared.ops.CompareOp.TheVariants.{Eq}
-use Rattle.sqlite_keyed.proofs.ListLemmas.{map-map}
+use Rattle.sqlite.specs.State.{Shown}
 use Rattle.sql_rows.proofs.Bags.{length-map}
 use Rattle.sql_rows.proofs.Queries.{Selects, plain_query}
 use Rattle.sql_rows.proofs.ColumnTests.{number_test, number_tested, one_tested}
 use Rattle.sql_rows.proofs.Projects.{projects_one, still_holds}
 use Rattle.shop_model.proofs.RowLemmas.{equal_test, differ_test, numbered_push}
-use Rattle.sql_rows.specs.Builds.{Means, Makes, MakeAll, Builds}
-use Rattle.sql_rows.specs.Rows.{HasRows, PicksOne, number_value}
 use Rattle.sql_rows.proofs.Steps.{has_put}
 use Rattle.shop_model.specs.Rows.{numbered, numbered_from}
 use Rattle.shop_model.specs.Answers.{Answer}

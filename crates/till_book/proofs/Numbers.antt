@@ -1,14 +1,6 @@
 -- Rows with numbers: no number comes twice, and rows in order of number.
-use Rattle.std.proofs.Common.{◌≡◌, ◌≢◌, ◌<◌, ◌≤◌, ◌+◌, ◌∙◌, ℕ, List, [], ◌∷◌, ◌++◌, map, filter, length, true, false, cond, inl, inr, refl, sym, ap, subst, arith}
+use Rattle.sql_rows.proofs.Common.{◌≡◌, ◌≢◌, ◌<◌, ◌≤◌, ◌+◌, ◌∙◌, ℕ, List, [], ◌∷◌, ◌++◌, map, filter, length, true, false, cond, inl, inr, refl, sym, ap, subst, arith, is_gt, AllByRecursion, cases_Bool, nat_tests, sort_by, insert_sorted, IsAscending, ascending_weaker, by, Differ}
 use Rattle.std.specs.Prelude.{◌==◌}
-use Rattle.std.specs.Ordering.{is_gt}
-use Rattle.std.specs.List.{AllByRecursion}
-use Rattle.std.proofs.lemmas.Bool.{cases_Bool}
-use Rattle.std.proofs.lemmas.Bool.Decides.{nat_tests}
-use Rattle.sqlite_keyed.specs.Lists.{sort_by, insert_sorted}
-use Rattle.sqlite_trees.specs.Tree.{IsAscending}
-use Rattle.sqlite_keyed.proofs.ListLemmas.{ascending_weaker}
-use Rattle.sql_rows.specs.Rows.{by, Differ}
 use Rattle.shop_model.specs.Rows.{numbered_from}
 use Rattle.shop_model.proofs.RowLemmas.{equal_test, differ_test}
 

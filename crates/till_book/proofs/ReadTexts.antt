@@ -1,21 +1,9 @@
 -- What the texts show that read the book.
-use Rattle.std.proofs.Common.{◌≡◌, ◌∙◌, ◌≤◌, ◌==◌, ◌&&◌, ℕ, List, [], ◌∷◌, map, filter, length, true, Option, Some, None, refl, sym, ap, subst, arith, take}
-use Rattle.std.specs.Prelude.{option_map}
-use Rattle.std.specs.Option.{option_to_list}
-use Rattle.sqlite.specs.declared.types.Value.TheVariants.{Blob}
+use Rattle.sql_rows.proofs.Common.{◌≡◌, ◌∙◌, ◌≤◌, ◌==◌, ◌&&◌, ℕ, List, [], ◌∷◌, map, filter, length, true, Option, Some, None, refl, sym, ap, subst, arith, take, option_map, option_to_list, Blob, column, ascending, Binary, Term, col, op2, Compare, Eq, State, sort_by, map-map, by, Differ, number_value}
 use Rattle.sqlite_value.specs.Order as sql
-use Rattle.sqlite_value.specs.Order.{column}
-use Rattle.sqlite_value.specs.Keys.{ascending}
-use Rattle.sqlite_value.specs.declared.keys.Collation.TheVariants.{Binary}
-use Rattle.sqlite_sql.specs.Term.{Term, col, op2}
-use Rattle.sqlite_sql.specs.declared.ops.BinaryOp.TheVariants.{Compare}
-use Rattle.sqlite_sql.specs.declared.ops.CompareOp.TheVariants.{Eq}
 use Rattle.sqlite_tied.specs.Compute.{everything}
 use Rattle.sqlite.specs.Listing.{understood}
-use Rattle.sqlite.specs.State.{State, Shown}
-use Rattle.sqlite_keyed.specs.Lists.{sort_by}
-use Rattle.sqlite_keyed.proofs.ListLemmas.{map-map}
-use Rattle.sql_rows.specs.Rows.{by, Differ, number_value}
+use Rattle.sqlite.specs.State.{Shown}
 use Rattle.sql_rows.proofs.Bags.{length-map}
 use Rattle.sql_rows.proofs.Queries.{Selects, plain_query, unmapped}
 use Rattle.sql_rows.proofs.ColumnTests.{number_test, number_tested, one_tested}

@@ -1,16 +1,6 @@
 -- What a transaction leaves of the book.
-use Rattle.std.proofs.Common.{◌≡◌, ◌∙◌, refl, sym, ap, subst, arith, inl, inr, IsTrue, true, false, Result, Ok, Err}
-use Rattle.std.specs.Prelude.{IfOk, OnOk}
-use Rattle.std.specs.Borrow.{MutBor}
-use Rattle.sql_rows.specs.Calls.{StaysInside}
-use Rattle.sqlite_trees.specs.declared.store.Store.{Ghosts}
-use Rattle.sqlite_trees.specs.Tree.{Trees}
-use Rattle.sqlite.specs.Effect.{Database}
-use Rattle.sqlite.specs.Held.{Held, state}
-use Rattle.sqlite.specs.State.{State, HasCleanDisk, IsRolledBack, Shows, Survives}
-use Rattle.sqlite.proofs.StateLemmas.{survives_then}
-use Rattle.sqlite.proofs.Callers.{survives_begin}
-use Rattle.sql_rows.specs.Rows.{AreKeyed}
+use Rattle.sql_rows.proofs.Common.{◌≡◌, ◌∙◌, refl, sym, ap, subst, arith, inl, inr, IsTrue, true, false, Result, Ok, Err, IfOk, MutBor, StaysInside, Ghosts, Trees, Database, Held, state, State, HasCleanDisk, IsRolledBack, Shows, Survives, survives_then, survives_begin, AreKeyed}
+use Rattle.std.specs.Prelude.{OnOk}
 use Rattle.sql_rows.proofs.Whole.{crash_new, dropped}
 use Rattle.till_book.specs.Tables.{book_schema}
 use Rattle.till_book.specs.Journal.{Journal, StandsFor, Holds, Writes, Finds}

@@ -1,12 +1,7 @@
 -- The bytes of a reply tell which it is.
-use Rattle.std.proofs.Common.{◌≡◌, ◌∙◌, ◌<◌, ◌≤◌, ◌+◌, ◌%◌, ◌^◌, ℕ, List, [], ◌∷◌, ◌++◌, length, Bool, true, false, not, refl, sym, ap, arith, append_assoc}
+use Rattle.shop_types.proofs.Common.{◌≡◌, ◌∙◌, ◌<◌, ◌≤◌, ◌+◌, ◌%◌, ◌^◌, ℕ, List, [], ◌∷◌, ◌++◌, length, Bool, true, false, not, refl, sym, ap, arith, append_assoc, list_all, and_parts, false≢true, decimal_injective, decimal_by_steps, differ_test, equal_test, Answer}
 use Rattle.std.specs.Prelude.{codes, decimal, ◌==◌}
-use Rattle.std.specs.List.{list_all}
-use Rattle.std.proofs.lemmas.Bool.{and_parts, false≢true}
-use Rattle.std.proofs.lemmas.Fmt.{decimal_injective, decimal_by_steps}
-use Rattle.shop_model.proofs.RowLemmas.{differ_test, equal_test}
 use Rattle.shop_model.proofs.GoodShops.{all_more}
-use Rattle.shop_model.specs.Answers.{Answer}
 use Rattle.http_messages.specs.Text.{phrase, crlf, head_text}
 use Rattle.till_client.specs.Replies.{answer_bytes}
 use Rattle.till_client.specs.Laws.{OneAnswer}

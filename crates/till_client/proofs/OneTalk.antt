@@ -1,8 +1,6 @@
 -- One request and its answer, over a connection of their own.
-use Rattle.std.proofs.Common.{◌≡◌, ◌∙◌, inl, inr, ℕ, List, [], ◌∷◌, ◌++◌, length, sym, ap, arith}
+use Rattle.shop_types.proofs.Common.{◌≡◌, ◌∙◌, inl, inr, ℕ, List, [], ◌∷◌, ◌++◌, length, sym, ap, arith, AllByRecursion, flat_map, Answer}
 use Rattle.std.specs.Prelude.{codes, decimal}
-use Rattle.std.specs.List.{AllByRecursion, flat_map}
-use Rattle.shop_model.specs.Answers.{Answer}
 use Rattle.till_client.specs.Replies.{answer_bytes}
 use Rattle.till_client.specs.Laws.{IsShort, OneExchange}
 use Rattle.till_client.proofs.OneReply.{shape, tail_of, one_answer}

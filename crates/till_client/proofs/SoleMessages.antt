@@ -1,6 +1,5 @@
 -- Bytes that are one message, and the command that they say.
-use Rattle.std.proofs.Common.{◌≡◌, ◌∙◌, ◌≤◌, ℕ, List, [], length, drop, refl, sym, ap, arith, Some, None, Option, Bool, true, false, not, subst}
-use Rattle.std.proofs.lemmas.List.{length-drop}
+use Rattle.shop_types.proofs.Common.{◌≡◌, ◌∙◌, ◌≤◌, ℕ, List, [], length, drop, refl, sym, ap, arith, Some, None, Option, Bool, true, false, not, subst, length-drop, bytes_eq, bytes_eq-Decides, false≢true, Text, Command, Do, Result, IfErr}
 use Rattle.http_messages.specs.Message.{Message}
 use Rattle.http_messages.specs.Input.{HasMessage}
 use Rattle.http_messages.specs.Shown.{IsReading}
@@ -9,14 +8,9 @@ use Rattle.http_messages.specs.declared.messages.Reading.{Reading}
 use Rattle.http_messages.specs.declared.messages.Reading.TheVariants.{Whole, More, Refused}
 use Rattle.http_messages.specs.declared.messages.Fault.TheVariants.{BadHead, TooLong}
 use Rattle.http_messages.proofs.StreamLemmas.{HasMessage-unique, HasMessage-not-bad, HasMessage-not-long, HasMessage-not-cut}
-use Rattle.std.specs.Str.{bytes_eq}
-use Rattle.std.proofs.lemmas.Slice.Eq.{bytes_eq-Decides}
-use Rattle.std.proofs.lemmas.Bool.{false≢true}
-use Rattle.shop_model.specs.Values.{Text, Command}
-use Rattle.shop_model.specs.Machine.{Do}
 use Rattle.counter_routes.specs.Readings.{counter_request}
 use Rattle.counter_routes.specs.Words.{Meaning}
-use Rattle.std.specs.Prelude.{Result, Ok, Err, IfErr}
+use Rattle.std.specs.Prelude.{Ok, Err}
 use Rattle.till_client.specs.declared.sealed.NotSealed.{NotSealed}
 use Rattle.till_client.specs.declared.sealed.NotSealed.TheVariants.{Other, Memory}
 use Rattle.till_client.specs.Sealing.{IsSole, SaysCommand, IsUnsealed}

@@ -1,12 +1,5 @@
 -- Whether tables stand for a journal can be decided, so it is known where it is known only in some case.
-use Rattle.std.proofs.Common.{◌≡◌, ◌≢◌, ℕ, List, [], ◌∷◌, inl, inr}
-use Rattle.std.proofs.Math.Logic.{∥∥₁_map}
-use Rattle.std.proofs.lemmas.Bool.{cases_eq}
-use Rattle.std.specs.List.{AllByRecursion}
-use Rattle.sqlite_trees.specs.Tree.{Trees}
-use Rattle.sql_rows.specs.Rows.{Differ}
-use Rattle.sql_rows.proofs.Deciding.{Decided, decided, in_any}
-use Rattle.shop_model.specs.Answers.{Answer}
+use Rattle.shop_schema.proofs.Common.{◌≡◌, ◌≢◌, ℕ, List, [], ◌∷◌, inl, inr, ∥∥₁_map, cases_eq, AllByRecursion, Trees, Differ, Decided, decided, in_any, Answer}
 use Rattle.till_book.specs.Journal.{Journal, StandsFor}
 
 -- whether no number comes twice

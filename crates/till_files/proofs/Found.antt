@@ -1,30 +1,18 @@
 -- What an open of files finds.
-use Rattle.std.proofs.Common.{◌≡◌, ◌≢◌, ◌⊎◌, ◌∙◌, inl, inr, refl, sym, ap, subst, List, [], ◌∷◌}
-use Rattle.std.specs.List.{AllZip}
-use Rattle.std.proofs.Math.Logic.{∥∥₁_elim, ∥∥₁_map}
+use Rattle.std.proofs.Common.{◌⊎◌}
+use Rattle.shop_schema.proofs.Common.{◌≡◌, ◌≢◌, ◌∙◌, inl, inr, refl, sym, ap, subst, List, [], ◌∷◌, AllZip, ∥∥₁_elim, ∥∥₁_map, Trees, Trees-set, AreListed, IsTableRow, IsIndexRow, IsViewRow, Database, Schema, State, HasCleanDisk, Survives, Held, HoldsDatabase, Finds, IsOpened, IsEmpty, file_state, image_of, no_schema, opened_keyed, one_schema, HoldsOne, IsHeldIn, IsFoundIn, HoldsNoTable, OpenFailed}
 use Rattle.sqlite_disk.specs.declared.Disk.{Ghosts}
 use Rattle.sqlite_disk.specs.declared.Files.{Files}
 use Rattle.sqlite_value.specs.Order.{Row}
 use Rattle.sqlite_wal.proofs.LogLemmas.{SeenMayStay}
-use Rattle.sqlite_trees.specs.Tree.{Trees}
-use Rattle.sqlite_trees.specs.Props.{Trees-set}
 use Rattle.sqlite_store.specs.declared.store.FileStore.{FileStore}
-use Rattle.sqlite_catalog.specs.Listing.{IsSound as IsDatabaseOf, AreListed, IsTableRow, IsIndexRow, IsViewRow}
-use Rattle.sqlite.specs.Effect.{Database}
-use Rattle.sqlite.specs.Schema.{Schema}
-use Rattle.sqlite.specs.State.{State, HasCleanDisk, Survives}
-use Rattle.sqlite.specs.Held.{Held}
-use Rattle.sqlite.specs.Files.{HoldsDatabase, Finds, IsOpened, IsEmpty, file_state, image_of}
-use Rattle.sql_rows.specs.Books.{no_schema}
-use Rattle.sql_rows.proofs.Opened.{opened_keyed}
-use Rattle.sql_rows.proofs.Unique.{one_schema}
+use Rattle.sqlite_catalog.specs.Listing.{IsSound as IsDatabaseOf}
 use Rattle.till_book.specs.Tables.{book_schema, entry_table, reply_table, settled_table}
 use Rattle.till_book.specs.Journal.{Journal, StandsFor}
 use Rattle.till_book.specs.Steps.{Rests}
 use Rattle.till_files.specs.declared.faults.BookFault.{BookFault}
 use Rattle.till_files.specs.declared.faults.BookFault.TheVariants as fault
 use Rattle.till_files.specs.Files.{HasBook, HasNoBook, HoldsBook, KeepsBook, KeepsEither, StandsForEither, LeavesMade, IsNoneOrNew}
-use Rattle.sql_rows.specs.Files.{HoldsOne, IsHeldIn, IsFoundIn, HoldsNoTable, OpenFailed}
 use Rattle.till_files.specs.Openings.{IsNotOpened, IsNotMade}
 use Rattle.till_files.proofs.Deciding.{stands_in_any}
 use Rattle.till_files.proofs.Keeping.{kept_one, only_committed}

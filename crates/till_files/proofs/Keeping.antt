@@ -1,27 +1,18 @@
 -- What files hold after the store is closed, or their disks have crashed.
-use Rattle.std.proofs.Common.{◌≡◌, ◌∙◌, inl, inr, subst, IsTrue}
-use Rattle.std.proofs.Math.Logic.{∥∥₁_map}
+use Rattle.shop_schema.proofs.Common.{◌≡◌, ◌∙◌, inl, inr, subst, IsTrue, ∥∥₁_map, Trees, IsClean, no_doubt, Held, AreDatabases, State, HasCleanDisk, Survives, HoldsDatabase, file_state, opens_again, HoldsOne}
 use Rattle.sqlite_disk.specs.declared.Disk.{Ghosts}
 use Rattle.sqlite_disk.specs.declared.Files.{Files}
 use Rattle.sqlite_wal.specs.Files.{outcomes}
 use Rattle.sqlite_wal.specs.Reads.{AreClean}
 use Rattle.sqlite_wal.specs.Recovery.{Image}
 use Rattle.sqlite_wal.proofs.LogLemmas.{SeenMayStay}
-use Rattle.sqlite_trees.specs.Tree.{Trees}
-use Rattle.sqlite_trees.specs.View.{IsClean}
-use Rattle.sqlite_trees.proofs.Doubt.{no_doubt}
 use Rattle.sqlite_pool.proofs.StateLemmas.{clean_is, may_leave_is}
 use Rattle.sqlite_store.specs.declared.store.FileStore.{FileStore}
 use Rattle.sqlite_store.specs.FileStore.{view, recovers, files as store_files}
 use Rattle.sqlite_store.specs.Laws.{settled_at}
-use Rattle.sqlite.specs.Held.{Held, AreDatabases}
-use Rattle.sqlite.specs.State.{State, HasCleanDisk, Survives}
-use Rattle.sqlite.specs.Files.{HoldsDatabase, file_state}
-use Rattle.sqlite.proofs.Theorems.{opens_again}
 use Rattle.till_book.specs.Journal.{Journal}
 use Rattle.till_book.specs.Steps.{Rests, LeavesChanged}
 use Rattle.till_files.specs.Files.{LeavesEither}
-use Rattle.sql_rows.specs.Files.{HoldsOne}
 
 pub clean_store : {D : Type 0} {g : Ghosts D} (it : FileStore D g) (files : Files D) → (files.log, files.db) ≡ store_files it → AreClean g files.log files.db → IsClean (view it)
 clean_store {D} {g} it files is honest = no_doubt _ (clean_is it.pool ∙ subst (λ (p : D × D). AreClean g p.0 p.1) is honest)

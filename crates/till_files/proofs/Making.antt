@@ -1,14 +1,6 @@
 -- What the transaction leaves that makes the tables.
-use Rattle.std.proofs.Common.{◌≡◌, ◌∙◌, sym, ap, subst, false, true}
-use Rattle.sqlite_trees.specs.declared.store.Store.{Ghosts}
-use Rattle.sqlite_trees.specs.Tree.{Trees}
-use Rattle.sqlite.specs.Effect.{Database}
-use Rattle.sqlite.specs.Held.{Held, state}
-use Rattle.sqlite.specs.State.{State, HasCleanDisk, Shows, Survives}
-use Rattle.sqlite.proofs.StateLemmas.{survives_weaker}
-use Rattle.sql_rows.specs.Books.{no_schema}
-use Rattle.sql_rows.proofs.Inside.{survives_nothing}
-use Rattle.sql_rows.proofs.Whole.{crash_new}
+use Rattle.shop_schema.proofs.Common.{◌≡◌, ◌∙◌, sym, ap, subst, false, true, Ghosts, Trees, Database, Held, state, State, HasCleanDisk, Survives, survives_weaker, no_schema, survives_nothing, crash_new}
+use Rattle.sqlite.specs.State.{Shows}
 use Rattle.till_book.specs.Journal.{Journal, StandsFor, Holds}
 use Rattle.till_book.specs.Steps.{Rests}
 use Rattle.till_book.proofs.Resting.{Settled, holds_as}

@@ -1,12 +1,5 @@
 -- Entries by place and by key, and those that acted.
-use Rattle.std.proofs.Common.{◌≡◌, inl, inr, ◌∙◌, ℕ, zero, suc, ◌<◌, List, [], ◌∷◌, ◌++◌, filter, Bool, true, false, not, Some, refl, sym, subst, ap, arith}
-use Rattle.std.specs.Prelude.{slice_get}
-use Rattle.std.specs.List.{list_any}
-use Rattle.std.specs.Str.{bytes_eq}
-use Rattle.std.proofs.lemmas.Bool.{cases_Bool, and_parts, or_parts, not-true, false≢true}
-use Rattle.std.proofs.lemmas.Slice.Eq.{bytes_eq-Decides}
-use Rattle.shop_model.specs.Values.{Text, Command}
-use Rattle.shop_model.specs.Shop.{Kept}
+use Rattle.shop_model.proofs.Common.{◌≡◌, inl, inr, ◌∙◌, ℕ, zero, suc, ◌<◌, List, [], ◌∷◌, ◌++◌, filter, Bool, true, false, not, Some, refl, sym, subst, ap, arith, slice_get, list_any, bytes_eq, cases_Bool, and_parts, or_parts, not-true, false≢true, bytes_eq-Decides, Text, Command, Kept}
 use Rattle.shop_model.proofs.Resent.{bytes_same}
 use Rattle.shop_model.proofs.Resends.{same_some, same_none}
 use Rattle.till_model.specs.Tills.{Entry, are_marked, have_own_keys}

@@ -1,15 +1,5 @@
 -- What acted of a till's entries did so in the order of entering, as far as the branch has come.
-use Rattle.std.proofs.Common.{◌≡◌, inl, inr, ◌∙◌, ℕ, suc, ◌<◌, List, [], ◌∷◌, ◌++◌, map, filter, Bool, true, false, Some, None, Option, refl, sym, subst, ap, arith}
-use Rattle.std.specs.Prelude.{slice_get}
-use Rattle.std.specs.Str.{bytes_eq}
-use Rattle.std.proofs.lemmas.Bool.{cases_Bool, false≢true}
-use Rattle.std.proofs.lemmas.Bool.Decides.{nat_tests}
-use Rattle.shop_model.specs.Calendar.{Moment, is_earlier, is_by}
-use Rattle.shop_model.specs.Values.{Text, Command, Rules}
-use Rattle.shop_model.specs.Shop.{Kept}
-use Rattle.shop_model.specs.GoodShop.{is_within}
-use Rattle.shop_model.specs.Verdict.{Verdict, Again, Refused, Accepted, first, refusals, is_before, verdict}
-use Rattle.shop_model.specs.Machine.{Do, Unread, Look, Office, OfficeLook, Input, FromOffice, Arrive, Own, State, reply_text, reply_to, if_accepted, done, moved, state_after}
+use Rattle.shop_model.proofs.Common.{◌≡◌, inl, inr, ◌∙◌, ℕ, suc, ◌<◌, List, [], ◌∷◌, ◌++◌, map, filter, Bool, true, false, Some, None, Option, refl, sym, subst, ap, arith, slice_get, bytes_eq, cases_Bool, false≢true, nat_tests, Moment, is_earlier, is_by, Text, Command, Rules, Kept, is_within, Verdict, Again, Refused, Accepted, first, refusals, is_before, verdict, Do, Unread, Look, Office, OfficeLook, Input, FromOffice, Arrive, Own, State, reply_text, reply_to, if_accepted, done, moved, state_after}
 use Rattle.shop_model.proofs.RowLemmas.{more_yes, more_no}
 use Rattle.shop_model.proofs.Isolation.{accepted_holds, none_kept}
 use Rattle.till_model.specs.Tills.{Entry, Served, served_by, served_in, are_marked, have_own_keys, ComeFrom, ComeInOrder}

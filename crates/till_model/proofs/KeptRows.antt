@@ -1,14 +1,5 @@
 -- Kept rows under a key, and how a branch's kept rows grow.
-use Rattle.std.proofs.Common.{◌≡◌, ◌⊎◌, inl, inr, ◌∙◌, ℕ, List, [], ◌∷◌, ◌++◌, filter, Bool, true, false, refl, sym, ap, append-nil, append_assoc}
-use Rattle.std.specs.Prelude.{◌||◌}
-use Rattle.std.specs.List.{list_any}
-use Rattle.std.specs.Str.{bytes_eq}
-use Rattle.std.proofs.lemmas.Bool.{cases_Bool, false≢true}
-use Rattle.std.proofs.lemmas.Slice.Eq.{bytes_eq-Decides}
-use Rattle.shop_model.specs.Values.{Text, Command, Rules}
-use Rattle.shop_model.specs.Shop.{Kept}
-use Rattle.shop_model.specs.Verdict.{Verdict, Again, Refused, Accepted, verdict}
-use Rattle.shop_model.specs.Machine.{Do, Unread, Look, Office, OfficeLook, Input, FromOffice, Arrive, Own, State, reply_text, if_accepted, done, moved, state_after}
+use Rattle.shop_model.proofs.Common.{◌≡◌, ◌⊎◌, inl, inr, ◌∙◌, ℕ, List, [], ◌∷◌, ◌++◌, filter, Bool, true, false, refl, sym, ap, append-nil, append_assoc, ◌||◌, list_any, bytes_eq, cases_Bool, false≢true, bytes_eq-Decides, Text, Command, Rules, Kept, Verdict, Again, Refused, Accepted, verdict, Do, Unread, Look, Office, OfficeLook, Input, FromOffice, Arrive, Own, State, reply_text, if_accepted, done, moved, state_after}
 
 -- ---- kept rows under a key
 

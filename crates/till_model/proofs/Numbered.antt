@@ -1,16 +1,8 @@
 -- Entries with numbered keys and rising moments.
-use Rattle.std.proofs.Common.{◌≡◌, ◌⊎◌, inl, inr, ◌∙◌, ℕ, zero, suc, ◌+◌, ◌<◌, ◌^◌, List, [], ◌∷◌, ◌++◌, length, take, Bool, true, false, Some, None, refl, sym, subst, ap, arith, length-append}
-use Rattle.std.specs.Prelude.{slice_get, decimal, nat_lt, ◌-◌}
-use Rattle.std.specs.List.{list_any}
-use Rattle.std.specs.Str.{bytes_eq}
-use Rattle.std.proofs.lemmas.Bool.{cases_Bool}
-use Rattle.std.proofs.lemmas.Bool.Decides.{nat_tests}
+use Rattle.shop_model.proofs.Common.{◌≡◌, ◌⊎◌, inl, inr, ◌∙◌, ℕ, zero, suc, ◌+◌, ◌<◌, ◌^◌, List, [], ◌∷◌, ◌++◌, length, take, Bool, true, false, Some, None, refl, sym, subst, ap, arith, length-append, slice_get, decimal, nat_lt, list_any, bytes_eq, cases_Bool, nat_tests, bytes_eq-Decides, Moment, is_earlier, Text, Command, Answer}
+use Rattle.std.specs.Prelude.{◌-◌}
 use Rattle.std.proofs.lemmas.Fmt.{decimal_injective}
 use Rattle.std.proofs.lemmas.Option.{slice_get_within}
-use Rattle.std.proofs.lemmas.Slice.Eq.{bytes_eq-Decides}
-use Rattle.shop_model.specs.Calendar.{Moment, is_earlier}
-use Rattle.shop_model.specs.Values.{Text, Command}
-use Rattle.shop_model.specs.Answers.{Answer}
 use Rattle.shop_model.proofs.Resends.{same_some, same_none}
 use Rattle.till_model.specs.Tills.{Entry, are_marked, have_own_keys}
 use Rattle.till_model.specs.Numbered.{mark_text, key_of, has_mark, AreNumbered, IsAfterLast}

@@ -1,15 +1,5 @@
 -- What became of a till's entries.
-use Rattle.std.proofs.Common.{◌≡◌, inl, inr, ◌∙◌, ℕ, List, [], ◌∷◌, map, filter, Bool, true, false, Some, refl, sym, subst, ap}
-use Rattle.std.specs.Prelude.{slice_get}
-use Rattle.std.specs.Str.{bytes_eq}
-use Rattle.std.proofs.lemmas.Bool.{cases_Bool, false≢true}
-use Rattle.std.proofs.lemmas.Slice.Eq.{bytes_eq-Decides}
-use Rattle.shop_model.specs.Values.{Text, Command, Rules}
-use Rattle.shop_model.specs.Refusals.{Refusal, MomentBack}
-use Rattle.shop_model.specs.Shop.{Kept, Shop, same_command}
-use Rattle.shop_model.specs.Verdict.{Verdict, Again, Refused, Accepted, first, resent, refusals, is_before, verdict}
-use Rattle.shop_model.specs.Machine.{Do, Sorry, Done, Input, Own, State, reply_text, reply_by, if_accepted, done, moved, state_after}
-use Rattle.shop_model.specs.Answers.{Answer, answer_of}
+use Rattle.shop_model.proofs.Common.{◌≡◌, inl, inr, ◌∙◌, ℕ, List, [], ◌∷◌, map, filter, Bool, true, false, Some, refl, sym, subst, ap, slice_get, bytes_eq, cases_Bool, false≢true, bytes_eq-Decides, Text, Command, Rules, Refusal, MomentBack, Kept, Shop, same_command, Verdict, Again, Refused, Accepted, first, resent, refusals, is_before, verdict, Do, Sorry, Done, Input, Own, State, reply_text, reply_by, if_accepted, done, moved, state_after, Answer, answer_of}
 use Rattle.shop_model.proofs.RowLemmas.{filter_away}
 use Rattle.shop_model.proofs.Resent.{command_same}
 use Rattle.till_model.specs.Tills.{Entry, Served, served_in, are_marked, have_own_keys, ComeFrom, ComeInOrder, IsBookOf}

@@ -1,14 +1,5 @@
 -- The same over a chain's stops.
-use Rattle.std.proofs.Common.{◌≡◌, inl, inr, ◌∙◌, ℕ, zero, suc, List, [], ◌∷◌, ◌++◌, length, take, Bool, true, Some, refl, sym, subst, ap, append_assoc}
-use Rattle.std.specs.Prelude.{slice_get}
-use Rattle.std.proofs.lemmas.Bool.{cases_Bool}
-use Rattle.shop_model.specs.Values.{Text, Command, OfficeAsk, Rules}
-use Rattle.shop_model.specs.Machine.{Do, Reply, Input, Own, State, reply_to, moved, state_after}
-use Rattle.shop_model.specs.Answers.{Answer, answer_of}
-use Rattle.shop_model.specs.Books.{Books, Event, Counter, state_of, caller_in, reply_in, after, last_books, seen_of, view}
-use Rattle.shop_model.specs.Histories.{is_decided, counted_in}
-use Rattle.shop_model.specs.Resends.{Asks, books_next}
-use Rattle.shop_model.specs.Stops.{Life, in_flight, acted_in, Lives, history_of, begun}
+use Rattle.shop_model.proofs.Common.{◌≡◌, inl, inr, ◌∙◌, ℕ, zero, suc, List, [], ◌∷◌, ◌++◌, length, take, Bool, true, Some, refl, sym, subst, ap, append_assoc, slice_get, cases_Bool, Text, Command, OfficeAsk, Rules, Do, Reply, Input, Own, State, reply_to, moved, state_after, Answer, answer_of, Books, Event, Counter, state_of, caller_in, reply_in, after, last_books, seen_of, view, is_decided, counted_in, Asks, books_next, Life, in_flight, acted_in, Lives, history_of, begun}
 use Rattle.shop_model.proofs.RowLemmas.{same_test}
 use Rattle.shop_model.proofs.Histories.{last_append}
 use Rattle.shop_model.proofs.Isolation.{alone}

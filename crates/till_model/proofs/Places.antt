@@ -1,9 +1,5 @@
 -- The place in a history at which a command was served.
-use Rattle.std.proofs.Common.{◌≡◌, ◌⊎◌, inl, inr, ◌∙◌, ℕ, zero, suc, ◌<◌, List, [], ◌∷◌, ◌++◌, Bool, true, Some, refl, sym, subst, ap, arith}
-use Rattle.std.specs.Prelude.{slice_get}
-use Rattle.std.proofs.lemmas.Bool.{cases_Bool}
-use Rattle.shop_model.specs.Values.{Text, Command, Rules}
-use Rattle.shop_model.specs.Machine.{Do, Unread, Look, Office, OfficeLook, Input, FromOffice, Arrive, Own, State, reply_to, moved, state_after}
+use Rattle.shop_model.proofs.Common.{◌≡◌, ◌⊎◌, inl, inr, ◌∙◌, ℕ, zero, suc, ◌<◌, List, [], ◌∷◌, ◌++◌, Bool, true, Some, refl, sym, subst, ap, arith, slice_get, cases_Bool, Text, Command, Rules, Do, Unread, Look, Office, OfficeLook, Input, FromOffice, Arrive, Own, State, reply_to, moved, state_after}
 use Rattle.shop_model.proofs.Resends.{same_some, same_none}
 use Rattle.till_model.specs.Tills.{Served, served_by, served_in}
 

@@ -1,8 +1,5 @@
 -- From the key press to the disk.
-use Rattle.std.proofs.Common.{◌≡◌, ℕ, zero, suc, List, [], ◌∷◌, Some, None, Option, ap, ◌∙◌}
-use Rattle.std.specs.Prelude.{slice_get}
-use Rattle.shop_model.specs.Values.{Command}
-use Rattle.shop_model.specs.Answers.{Answer}
+use Rattle.shop_model.proofs.Common.{◌≡◌, ℕ, zero, suc, List, [], ◌∷◌, Some, None, Option, ap, ◌∙◌, slice_get, Command, Answer}
 use Rattle.shop_model.proofs.Resends.{same_some, same_none}
 use Rattle.till_model.specs.Tills.{Entry}
 use Rattle.till_model.specs.Laws.{entries_of, served_over, FromThePressToTheDisk}

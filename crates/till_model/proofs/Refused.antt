@@ -1,20 +1,6 @@
 -- What never comes to act: what isn't sent, and what is behind the branch's last moment.
-use Rattle.std.proofs.Common.{◌≡◌, inl, inr, ◌∙◌, ℕ, zero, suc, ◌<◌, List, [], ◌∷◌, ◌++◌, Bool, true, false, not, Some, None, Option, refl, sym, subst, ap, arith}
-use Rattle.std.specs.Prelude.{slice_get, nat_lt}
-use Rattle.std.specs.List.{list_any}
-use Rattle.std.specs.Str.{bytes_eq}
-use Rattle.std.proofs.lemmas.Bool.{cases_Bool, and_parts, false≢true}
-use Rattle.std.proofs.lemmas.Bool.Decides.{nat_tests}
-use Rattle.std.proofs.lemmas.Slice.Eq.{bytes_eq-Decides}
-use Rattle.shop_model.specs.Rows.{at}
-use Rattle.shop_model.specs.Calendar.{Moment}
-use Rattle.shop_model.specs.Values.{Text, Command, Rules}
-use Rattle.shop_model.specs.Refusals.{Refusal, refusal_number, KeyUsed, Full, MomentBack, NoStaff}
-use Rattle.shop_model.specs.Shop.{Kept, same_command}
-use Rattle.shop_model.specs.Verdict.{Verdict, Again, Refused, Accepted, first, resent, refusals, act_refusals, staff_is, is_before, is_full, verdict}
-use Rattle.shop_model.specs.Machine.{Do, Unread, Look, Office, OfficeLook, Input, FromOffice, Arrive, Own, State, reply_text, reply_to, if_accepted, done, moved, state_after}
+use Rattle.shop_model.proofs.Common.{◌≡◌, inl, inr, ◌∙◌, ℕ, zero, suc, ◌<◌, List, [], ◌∷◌, ◌++◌, Bool, true, false, not, Some, None, Option, refl, sym, subst, ap, arith, slice_get, nat_lt, list_any, bytes_eq, cases_Bool, and_parts, false≢true, nat_tests, bytes_eq-Decides, at, Moment, Text, Command, Rules, Refusal, refusal_number, KeyUsed, Full, MomentBack, NoStaff, Kept, same_command, Verdict, Again, Refused, Accepted, first, resent, refusals, act_refusals, staff_is, is_before, is_full, verdict, Do, Unread, Look, Office, OfficeLook, Input, FromOffice, Arrive, Own, State, reply_text, reply_to, if_accepted, done, moved, state_after, rise_from}
 use Rattle.shop_model.proofs.Resends.{same_none}
-use Rattle.shop_model.specs.Laws.{rise_from}
 use Rattle.shop_model.proofs.Refusing.{in_order}
 use Rattle.till_model.specs.Tills.{Served, served_by, served_in}
 use Rattle.till_model.proofs.KeptRows.{has, has_more, none_has, other_mark, or_false, under}

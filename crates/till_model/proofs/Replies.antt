@@ -1,17 +1,5 @@
 -- A command that was told 200 is kept with that reply, and its row is the only one.
-use Rattle.std.proofs.Common.{◌≡◌, inl, inr, ◌∙◌, ℕ, List, [], ◌∷◌, ◌++◌, map, filter, Bool, true, Some, Option, refl, sym, ap, arith}
-use Rattle.std.specs.Prelude.{slice_get}
-use Rattle.std.specs.Str.{bytes_eq}
-use Rattle.std.proofs.lemmas.Bool.{cases_Bool}
-use Rattle.std.proofs.lemmas.Slice.Eq.{bytes_eq-Decides}
-use Rattle.shop_model.specs.Calendar.{Moment}
-use Rattle.shop_model.specs.Values.{Text, Command, Rules}
-use Rattle.shop_model.specs.Refusals.{Refusal, TooLong, NoCounter, NoRoute, BadBody, KeyUsed, Full, MomentBack, NoStaff, NoCustomer, CustomerInactive, NoCopy, CopyNotHere, CopyOut, FilmWithdrawn, SameMoment, NoRental, RentalReturned, WrongCustomer, NoFilm, LotIn, BadCsv, NoBranch, OwnBranch, NoArrival, ArrivalReceived, BadLines, BadThreshold, TokenTaken, NoSharedRow, Already, Usage}
-use Rattle.shop_model.specs.Shop.{Kept, same_command}
-use Rattle.shop_model.specs.Verdict.{Verdict, Again, Refused, Accepted, first, resent, refusals, verdict}
-use Rattle.shop_model.specs.Machine.{Sorry, Done, State, reply_text, reply_by, if_accepted, done}
-use Rattle.shop_model.specs.Answers.{answer_of}
-use Rattle.std.proofs.lemmas.List.Elements.{filter-append}
+use Rattle.shop_model.proofs.Common.{◌≡◌, inl, inr, ◌∙◌, ℕ, List, [], ◌∷◌, ◌++◌, map, filter, Bool, true, Some, Option, refl, sym, ap, arith, slice_get, bytes_eq, cases_Bool, bytes_eq-Decides, Moment, Text, Command, Rules, Refusal, TooLong, NoCounter, NoRoute, BadBody, KeyUsed, Full, MomentBack, NoStaff, NoCustomer, CustomerInactive, NoCopy, CopyNotHere, CopyOut, FilmWithdrawn, SameMoment, NoRental, RentalReturned, WrongCustomer, NoFilm, LotIn, BadCsv, NoBranch, OwnBranch, NoArrival, ArrivalReceived, BadLines, BadThreshold, TokenTaken, NoSharedRow, Already, Usage, Kept, same_command, Verdict, Again, Refused, Accepted, first, resent, refusals, verdict, Sorry, Done, State, reply_text, reply_by, if_accepted, done, answer_of, filter-append}
 use Rattle.shop_model.proofs.RowLemmas.{filter_map, filter_away}
 use Rattle.shop_model.proofs.Resent.{bytes_same}
 use Rattle.shop_model.proofs.Resends.{never_again}

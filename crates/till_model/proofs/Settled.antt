@@ -1,22 +1,6 @@
 -- What became of a book of which entries were settled.
-use Rattle.std.proofs.Common.{◌≡◌, ◌⊎◌, inl, inr, ◌∙◌, ℕ, zero, suc, ◌+◌, List, [], ◌∷◌, ◌++◌, map, take, Bool, true, false, not, Some, None, Option, refl, sym, subst, ap, arith}
-use Rattle.std.specs.Prelude.{◌==◌, ◌&&◌, ◌||◌, slice_get}
-use Rattle.std.specs.List.{AllByRecursion, list_any}
-use Rattle.std.specs.Str.{bytes_eq}
-use Rattle.std.proofs.lemmas.Bool.{cases_Bool, and_parts, false≢true}
-use Rattle.std.proofs.lemmas.Slice.Eq.{bytes_eq-Decides}
-use Rattle.shop_model.specs.Calendar.{is_earlier}
+use Rattle.shop_model.proofs.Common.{◌≡◌, ◌⊎◌, inl, inr, ◌∙◌, ℕ, zero, suc, ◌+◌, List, [], ◌∷◌, ◌++◌, map, take, Bool, true, false, not, Some, None, Option, refl, sym, subst, ap, arith, ◌==◌, ◌&&◌, ◌||◌, slice_get, AllByRecursion, list_any, bytes_eq, cases_Bool, and_parts, false≢true, bytes_eq-Decides, is_earlier, numbered_from, Text, Command, OfficeAsk, Rules, Refusal, MomentBack, Decision, Do, Reply, Sorry, Done, Shows, Answer, answer_of, problem_text, Books, Counter, shop_of, last_books, HasNumbers, is_decided, Asks, Life, Lives, history_of}
 use Rattle.shop_model.specs.Json.{escape_byte}
-use Rattle.shop_model.specs.Rows.{numbered_from}
-use Rattle.shop_model.specs.Values.{Text, Command, OfficeAsk, Rules}
-use Rattle.shop_model.specs.Refusals.{Refusal, MomentBack, Decision}
-use Rattle.shop_model.specs.Machine.{Do, Reply, Sorry, Done, Shows}
-use Rattle.shop_model.specs.Answers.{Answer, answer_of, problem_text}
-use Rattle.shop_model.specs.Books.{Books, Counter, shop_of, last_books}
-use Rattle.shop_model.specs.Sound.{HasNumbers}
-use Rattle.shop_model.specs.Histories.{is_decided}
-use Rattle.shop_model.specs.Resends.{Asks}
-use Rattle.shop_model.specs.Stops.{Life, Lives, history_of}
 use Rattle.shop_model.proofs.RowLemmas.{same_if, same_test}
 use Rattle.shop_model.proofs.Resends.{same_some, same_none}
 use Rattle.till_model.specs.Tills.{Entry, Served, are_marked, have_own_keys}

@@ -1,21 +1,8 @@
 -- The body of the reply to an accepted rent tells its rental.
-use Rattle.std.proofs.Common.{rules, ◌≡◌, ◌≢◌, ◌∙◌, ◌+◌, ◌-◌, ◌<◌, ◌≤◌, ◌^◌, ℕ, suc, Bool, true, false, List, [], ◌∷◌, ◌++◌, length, take, get_or, Option, Some, None, refl, sym, ap, subst, arith}
-use Rattle.std.specs.Prelude.{codes, decimal, nat_le, nat_lt, ◌==◌, ◌&&◌, slice_range, option_and_then, if◌then◌else◌}
-use Rattle.std.specs.List.{list_all}
-use Rattle.std.specs.Char.{is_ascii_digit}
-use Rattle.std.specs.Str.{bytes_eq}
-use Rattle.std.specs.Str.Parse.{digits_value}
-use Rattle.std.proofs.Math.Seq.{take-append_seam}
-use Rattle.std.proofs.lemmas.Bool.{leb-true, le-leb}
-use Rattle.std.proofs.lemmas.Bool.Decides.{nat_tests}
+use Rattle.shop_types.proofs.Common.{rules, ◌≡◌, ◌≢◌, ◌∙◌, ◌+◌, ◌-◌, ◌<◌, ◌≤◌, ◌^◌, ℕ, suc, Bool, true, false, List, [], ◌∷◌, ◌++◌, length, take, get_or, Option, Some, None, refl, sym, ap, subst, arith, slice_range, option_and_then, if◌then◌else◌, list_all, is_ascii_digit, bytes_eq, digits_value, take-append_seam, leb-true, le-leb, nat_tests, IsNumeralModel, numerals_by_value, digits_decimal, digits_value-decimal, decimal_nonempty, length-decimal-le, first_decimal, bytes_eq-Decides, is_row_number, is_plain_number, row_number_of, Answer, accepted_answer, differ_test}
+use Rattle.std.specs.Prelude.{codes, decimal, nat_le, nat_lt, ◌==◌, ◌&&◌}
 use Rattle.std.proofs.lemmas.List.{length-append}
-use Rattle.std.proofs.lemmas.Str.Parse.{IsNumeralModel, numerals_by_value}
-use Rattle.std.proofs.lemmas.Fmt.{digits_decimal, digits_value-decimal, decimal_nonempty, length-decimal-le, first_decimal}
-use Rattle.std.proofs.lemmas.Slice.Eq.{bytes_eq-Decides}
-use Rattle.shop_values.specs.Numbers.{is_row_number, is_plain_number, row_number_of}
 use Rattle.shop_model.specs.Json.{escape_byte}
-use Rattle.shop_model.specs.Answers.{Answer, accepted_answer}
-use Rattle.shop_model.proofs.RowLemmas.{differ_test}
 use Rattle.till_register.specs.Register.{rental_body, rental_in, rental_told}
 
 own : IsNumeralModel (λ ds. list_all is_ascii_digit ds ≡ true) (digits_value 10)

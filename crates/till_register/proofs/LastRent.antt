@@ -1,10 +1,7 @@
 -- What the register has of a copy is its last accepted rent's.
-use Rattle.std.proofs.Common.{◌≡◌, ◌≢◌, ◌⊎◌, ◌∙◌, ℕ, Bool, true, false, List, [], ◌∷◌, Option, Some, None, inl, inr, refl, sym, ap, subst}
-use Rattle.std.specs.Prelude.{◌==◌, ◌&&◌, if◌then◌else◌}
-use Rattle.std.specs.List.{fold, AllByRecursion}
-use Rattle.shop_model.specs.Values.{Act, AddCustomer, SetActive, Rent, TakeBack, Pay, Import, Dispatch, Receive, Scrap}
-use Rattle.shop_model.specs.Answers.{Answer, accepted_answer}
-use Rattle.shop_model.proofs.RowLemmas.{equal_test}
+use Rattle.shop_types.proofs.Common.{◌≡◌, ◌≢◌, ◌⊎◌, ◌∙◌, ℕ, Bool, true, false, List, [], ◌∷◌, Option, Some, None, inl, inr, refl, sym, ap, subst, if◌then◌else◌, AllByRecursion, Act, AddCustomer, SetActive, Rent, TakeBack, Pay, Import, Dispatch, Receive, Scrap, Answer, accepted_answer, equal_test}
+use Rattle.std.specs.Prelude.{◌==◌, ◌&&◌}
+use Rattle.std.specs.List.{fold}
 use Rattle.till_model.specs.Tills.{Entry}
 use Rattle.till_register.specs.Register.{rental_body, rental_told, is_held, or_held, after_reply, after_told, after_entry, rental_of}
 use Rattle.till_register.specs.Laws.{IsRentOf, IsReturnOf, LeavesIt, IsLastRent}

@@ -1,11 +1,7 @@
 -- A return by the register took its copy back.
-use Rattle.std.proofs.Common.{◌≡◌, ◌≢◌, ◌∙◌, ◌<◌, ℕ, zero, suc, Bool, true, false, List, [], ◌∷◌, ◌++◌, length, Option, Some, None, refl, sym, ap, arith}
-use Rattle.std.specs.Prelude.{slice_get, ◌==◌, ◌&&◌, if◌then◌else◌}
-use Rattle.std.proofs.lemmas.List.Sums.{fold-append}
+use Rattle.shop_types.proofs.Common.{◌≡◌, ◌≢◌, ◌∙◌, ◌<◌, ℕ, zero, suc, Bool, true, false, List, [], ◌∷◌, ◌++◌, length, Option, Some, None, refl, sym, ap, arith, slice_get, if◌then◌else◌, fold-append, Act, TakeBack, Answer, accepted_answer, equal_test}
+use Rattle.std.specs.Prelude.{◌==◌, ◌&&◌}
 use Rattle.std.proofs.lemmas.Option.{slice_get_within}
-use Rattle.shop_model.specs.Values.{Act, TakeBack}
-use Rattle.shop_model.specs.Answers.{Answer, accepted_answer}
-use Rattle.shop_model.proofs.RowLemmas.{equal_test}
 use Rattle.till_model.specs.Tills.{Entry}
 use Rattle.till_register.specs.Register.{rental_body, is_held, after_told, after_entry, rental_of}
 use Rattle.till_register.specs.Laws.{IsReturnOf, ReturnsTookBack}

@@ -1,14 +1,11 @@
 -- A date of jiff's calendar from 1970 on, with a second of its day, is a moment, and has those seconds.
-use Rattle.std.proofs.Common.{◌≡◌, ◌∙◌, refl, sym, ap, subst, arith, ℕ, ℤ, pos, negsuc, ◌+◌, ◌*◌, ◌/◌, ◌%◌, ◌<◌, ◌≤◌, ◌<ℤ◌, ◌≤ℤ◌, unsigned_abs, List, Option, Some}
-use Rattle.std.proofs.lemmas.Int.{by_lt_z}
+use Rattle.shop_types.proofs.Common.{◌≡◌, ◌∙◌, refl, sym, ap, subst, arith, ℕ, ℤ, pos, negsuc, ◌+◌, ◌*◌, ◌/◌, ◌%◌, ◌<◌, ◌≤◌, ◌<ℤ◌, ◌≤ℤ◌, unsigned_abs, List, Option, Some, by_lt_z, Moment, IsMoment, moment_text, days_in_month, days_from_civil-day_of, IsTextOf}
 use Rattle.jiff_core.specs.Calendar.{days_from_civil, day_count, days_in_month as jiff_days, IsCivilDate, IsYear}
 use Rattle.jiff_core.specs.Date.{epoch_day}
 use Rattle.jiff_core.specs.declared.civil.date.Date.{Date}
 use Rattle.jiff_core.proofs.SignedLemmas.{signed_arith}
 use Rattle.jiff_core.proofs.CalendarLemmas.{day_count-epoch, day_count-lt_year, days_from_civil-day_count}
-use Rattle.shop_model.specs.Calendar.{Moment, IsMoment, moment_text, day_of, seconds_of, days_in_month}
-use Rattle.shop_values.proofs.CalendarLemmas.{days_from_civil-day_of}
-use Rattle.shop_values.specs.Moments.{IsTextOf}
+use Rattle.shop_model.specs.Calendar.{day_of, seconds_of}
 use Rattle.counter_routes.proofs.MomentLemmas.{read_is}
 use Rattle.till_requests.specs.Moments.{civil_of}
 use borrow.Author.Differences.{up, down}

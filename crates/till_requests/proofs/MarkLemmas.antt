@@ -1,11 +1,6 @@
 -- A mark is ASCII, and so UTF-8.
-use Rattle.std.proofs.Common.{◌≡◌, ℕ, ◌<◌, List, [], ◌∷◌, length, true, ◌==◌, ◌&&◌, arith}
-use Rattle.std.proofs.lemmas.Bool.{and_parts}
-use Rattle.std.proofs.lemmas.Str.{IsUtf8-from_ascii}
+use Rattle.shop_types.proofs.Common.{◌≡◌, ℕ, ◌<◌, List, [], ◌∷◌, length, true, ◌==◌, ◌&&◌, arith, and_parts, IsUtf8-from_ascii, list_all, IsUtf8, IsAscii}
 use Rattle.std.proofs.lemmas.Str.Ascii.{IsAscii-cons, IsAscii-nil}
-use Rattle.std.specs.List.{list_all}
-use Rattle.std.specs.Prelude.{IsUtf8}
-use Rattle.std.specs.Str.{IsAscii}
 use Rattle.till_requests.specs.Marks.{is_mark, is_mark_letter}
 
 letter_is_ascii : (b : ℕ) → is_mark_letter b ≡ true → b < 128

@@ -1,11 +1,9 @@
 -- Words as a JSON list of texts.
-use Rattle.std.proofs.Common.{◌≡◌, ◌≤◌, ℕ, List, [], ◌∷◌, refl, map, subst, arith}
-use Rattle.std.specs.Prelude.{Some, IsUtf8, Result, Ok, Err, IfOk}
-use Rattle.std.proofs.lemmas.Str.{is_utf8-from_IsUtf8}
+use Rattle.shop_types.proofs.Common.{◌≡◌, ◌≤◌, ℕ, List, [], ◌∷◌, refl, map, subst, arith, IsUtf8, Result, IfOk, is_utf8-from_IsUtf8, Text}
+use Rattle.std.specs.Prelude.{Some, Ok, Err}
 use Rattle.serde_json.specs.Data.{Data, string, array, depth, items_depth}
 use Rattle.serde_json.specs.Read.{read, max_depth}
 use Rattle.serde_json.specs.View.{items_of}
-use Rattle.shop_model.specs.Values.{Text}
 use Rattle.counter_routes.specs.Words.{texts_in, texts_of}
 
 -- the texts of a list are those that it was made of

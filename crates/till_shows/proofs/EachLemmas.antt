@@ -1,7 +1,5 @@
 -- What each has a value of, from front to back: what was made of those before, and what is still to come.
-use Rattle.std.proofs.Common.{◌≡◌, ◌∙◌, ◌≤◌, ◌<◌, ◌+◌, ℕ, List, [], ◌∷◌, ◌++◌, map, length, get_or, drop, refl, sym, ap, append-nil, append_assoc, Option, Some, None}
-use Rattle.std.proofs.lemmas.List.{drop_all, drop_more}
-use Rattle.std.specs.Prelude.{option_map}
+use Rattle.shop_types.proofs.Common.{◌≡◌, ◌∙◌, ◌≤◌, ◌<◌, ◌+◌, ℕ, List, [], ◌∷◌, ◌++◌, map, length, get_or, drop, refl, sym, ap, append-nil, append_assoc, Option, Some, None, drop_all, drop_more, option_map}
 use Rattle.till_shows.specs.Bodies.{each}
 
 abbrev pub behind : {A : Type 0} → List A → Option (List A) → Option (List A)

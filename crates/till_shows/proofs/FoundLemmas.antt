@@ -1,10 +1,6 @@
 -- What is found in a body or is not, and an error that is handed on.
-use Rattle.std.proofs.Common.{◌≡◌, ◌∙◌, List, ℕ, refl, sym, ap, Option, Some, None, inl, inr}
-use Rattle.std.proofs.lemmas.Bool.{cases_Bool}
-use Rattle.std.proofs.lemmas.Str.{IsUtf8-from_is_utf8}
-use Rattle.std.specs.Prelude.{Result, Ok, Err, IfErr, OnOk, IsUtf8, option_map, option_and_then}
-use Rattle.std.specs.Result.{IsErrAnd}
-use Rattle.std.specs.Str.{is_utf8}
+use Rattle.shop_types.proofs.Common.{◌≡◌, ◌∙◌, List, ℕ, refl, sym, ap, Option, Some, None, inl, inr, cases_Bool, IsUtf8-from_is_utf8, Result, IfErr, IsUtf8, option_map, option_and_then, IsErrAnd, is_utf8}
+use Rattle.std.specs.Prelude.{Ok, Err, OnOk}
 use Rattle.serde_json.specs.Read.{read}
 use Rattle.till_shows.specs.Bodies.{body_of}
 

@@ -1,10 +1,7 @@
 -- Tables of what is listed, object by object, and what is found in them.
-use Rattle.std.proofs.Common.{◌≡◌, ◌∙◌, ◌≤◌, ◌<◌, ◌+◌, ℕ, List, [], ◌∷◌, map, filter, length, get_or, drop, refl, sym, ap, append-nil, append_assoc, Option, Some, None, Bool, true, false, inl, inr}
-use Rattle.std.proofs.lemmas.Bool.{cases_Bool}
-use Rattle.std.proofs.lemmas.List.{drop_all, drop_more}
-use Rattle.std.specs.Prelude.{option_map, option_and_then, ◌||◌, ◌==◌}
+use Rattle.shop_types.proofs.Common.{◌≡◌, ◌∙◌, ◌≤◌, ◌<◌, ◌+◌, ℕ, List, [], ◌∷◌, map, filter, length, get_or, drop, refl, sym, ap, append-nil, append_assoc, Option, Some, None, Bool, true, false, inl, inr, cases_Bool, drop_all, drop_more, option_map, option_and_then, Text}
+use Rattle.std.specs.Prelude.{◌||◌, ◌==◌}
 use Rattle.serde_json.specs.Data.{Data}
-use Rattle.shop_model.specs.Values.{Text}
 use Rattle.till_shows.specs.Bodies.{body_of, rows_in, each, text_at, has_number}
 use Rattle.till_shows.specs.Fields.{Field, row_of}
 use Rattle.till_shows.specs.Lines.{Table}

@@ -1,8 +1,6 @@
 -- The digits of a moment's text write its parts.
-use Rattle.std.proofs.Common.{◌≡◌, ap, arith, pos, ℕ, List, slice_index, ◌≤◌}
+use Rattle.shop_types.proofs.Common.{◌≡◌, ap, arith, pos, ℕ, List, slice_index, ◌≤◌, IsDigits, Moment, IsMoment, moment_text}
 use Rattle.jiff_core.proofs.CalendarLemmas.{days_in_month_bounds}
-use Rattle.shop_values.specs.Moments.{IsDigits}
-use Rattle.shop_model.specs.Calendar.{Moment, IsMoment, moment_text}
 
 pub day_digits : (m : Moment) (text : List ℕ) → IsMoment m → text ≡ moment_text m → IsDigits m.day (slice_index text 8) (slice_index text 9)
 day_digits m text is e =

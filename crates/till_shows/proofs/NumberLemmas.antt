@@ -1,15 +1,7 @@
 -- Digits with no leading zero are what is written of their number.
-use Rattle.std.proofs.Common.{rules, ◌≡◌, ◌≢◌, ◌∙◌, ◌<◌, ◌≤◌, ◌^◌, ◌++◌, [], ◌∷◌, ℕ, zero, suc, Bool, true, false, List, length, get_or, Option, Some, None, Bor, refl, sym, ap, arith}
-use Rattle.std.specs.Prelude.{decimal, nat_le, nat_lt, ◌==◌, ◌&&◌, not, if◌then◌else◌, IfSome, MatchOption}
-use Rattle.std.specs.List.{list_all}
-use Rattle.std.specs.Char.{is_ascii_digit}
-use Rattle.std.specs.Str.Parse.{digits_value}
-use Rattle.std.proofs.lemmas.Bool.{leb-true, le-leb}
-use Rattle.std.proofs.lemmas.Bool.Decides.{nat_tests}
-use Rattle.std.proofs.lemmas.Str.Parse.{IsNumeralModel, numerals_by_value}
-use Rattle.std.proofs.lemmas.Fmt.{digits_decimal, digits_value-decimal, decimal-digits_value, decimal_nonempty, length-decimal-le, first_decimal}
-use Rattle.shop_values.specs.Numbers.{is_row_number, is_plain_number, is_ten_digits, row_number_of}
-use Rattle.shop_model.proofs.RowLemmas.{differ_test}
+use Rattle.std.proofs.Common.{Bor}
+use Rattle.std.specs.Prelude.{decimal, nat_le, nat_lt, ◌==◌, ◌&&◌, not, IfSome}
+use Rattle.shop_types.proofs.Common.{rules, ◌≡◌, ◌≢◌, ◌∙◌, ◌<◌, ◌≤◌, ◌^◌, ◌++◌, [], ◌∷◌, ℕ, zero, suc, Bool, true, false, List, length, get_or, Option, Some, None, refl, sym, ap, arith, if◌then◌else◌, MatchOption, list_all, is_ascii_digit, digits_value, leb-true, le-leb, nat_tests, IsNumeralModel, numerals_by_value, digits_decimal, digits_value-decimal, decimal-digits_value, decimal_nonempty, length-decimal-le, first_decimal, is_row_number, is_plain_number, is_ten_digits, row_number_of, differ_test}
 
 own : IsNumeralModel (λ ds. list_all is_ascii_digit ds ≡ true) (digits_value 10)
 own = numerals_by_value _ (search rules)

@@ -1,8 +1,6 @@
 -- Lines, one behind another.
-use Rattle.std.proofs.Common.{◌≡◌, ◌∙◌, ◌≤◌, ◌<◌, ◌+◌, ℕ, List, ◌∷◌, ◌++◌, length, get_or, drop, refl, sym, ap, append-nil, append_assoc, Option, Some, None}
-use Rattle.std.proofs.lemmas.List.{drop_all, drop_more}
-use Rattle.std.specs.Prelude.{option_map, flat_map}
-use Rattle.shop_model.specs.Values.{Text}
+use Rattle.shop_types.proofs.Common.{◌≡◌, ◌∙◌, ◌≤◌, ◌<◌, ◌+◌, ℕ, List, ◌∷◌, ◌++◌, length, get_or, drop, refl, sym, ap, append-nil, append_assoc, Option, Some, None, drop_all, drop_more, option_map, Text}
+use Rattle.std.specs.Prelude.{flat_map}
 use Rattle.till_shows.specs.Bodies.{each}
 
 -- the lines behind a text

@@ -1,6 +1,5 @@
 -- Words that are named one after the other: a list that grows by what is taken off the rest.
-use Rattle.std.proofs.Common.{◌≡◌, ◌∙◌, ◌||◌, refl, sym, ap, Bool, true, false, List, [], ◌∷◌, ◌++◌, drop, filter, map, append_assoc}
-use Rattle.std.specs.List.{list_any}
+use Rattle.shop_types.proofs.Common.{◌≡◌, ◌∙◌, ◌||◌, refl, sym, ap, Bool, true, false, List, [], ◌∷◌, ◌++◌, drop, filter, map, append_assoc, list_any}
 use Rattle.clap.specs.Words.{Text}
 use Rattle.till_words.specs.Places.{named_from, placed, is_option, awaits_value}
 

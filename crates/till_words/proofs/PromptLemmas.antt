@@ -1,6 +1,5 @@
 -- The end of a line.
-use Rattle.std.proofs.Common.{◌≡◌, refl, List, Option, Some, None, true, false}
-use Rattle.std.specs.Prelude.{if◌then◌else◌}
+use Rattle.shop_types.proofs.Common.{◌≡◌, refl, List, Option, Some, None, true, false, if◌then◌else◌}
 use Rattle.clap.specs.Words.{Text}
 use Rattle.till_words.specs.PromptLine.{Reading, ended}
 

@@ -1,9 +1,8 @@
 -- Values that are read one after the other: where one of them leads to nothing, nothing is made.
-use Rattle.std.proofs.Common.{◌≡◌, ◌∙◌, Option, Some, None}
-use Rattle.std.specs.Prelude.{Result, Ok, Err, IfOk, IfErr}
-use Rattle.std.specs.Result.{IsErrAnd}
+use Rattle.shop_types.proofs.Common.{◌≡◌, ◌∙◌, Option, Some, None, Result, IfOk, IfErr, IsErrAnd}
 use Rattle.shop_types.specs.declared.line.Usage.{Usage}
 use Rattle.shop_types.specs.declared.line.Usage.TheVariants.{Memory}
+use Rattle.std.specs.Prelude.{Ok, Err}
 use Rattle.till_words.specs.Given.{Reads}
 
 -- an error that is handed on

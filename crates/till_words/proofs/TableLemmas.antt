@@ -1,7 +1,6 @@
 -- A command that is given its options and subcommands one after the other.
-use Rattle.std.proofs.Common.{◌≡◌, ℕ, ◌+◌, ◌<◌, ◌∙◌, refl, sym, ap, List, [], ◌∷◌, ◌++◌, length, drop, get_or, map, append_assoc}
-use Rattle.std.specs.Prelude.{fold}
-use Rattle.std.proofs.lemmas.List.{append-nil, drop_more}
+use Rattle.shop_types.proofs.Common.{◌≡◌, ℕ, ◌+◌, ◌<◌, ◌∙◌, refl, sym, ap, List, [], ◌∷◌, ◌++◌, length, drop, get_or, map, append_assoc, fold, drop_more}
+use Rattle.std.proofs.lemmas.List.{append-nil}
 use Rattle.clap.specs.Words.{App, Rule, Text, new_app, with_rule}
 use Rattle.till_words.specs.CommandLine.{word_shape}
 

@@ -1,13 +1,8 @@
 -- Numbers that are read digit by digit, and lists of them.
-use Rattle.std.proofs.Common.{◌≡◌, ◌<◌, ◌≤◌, ◌^◌, ◌+◌, ◌*◌, ℕ, arith, lit<, add-one, ◌∙◌, refl, sym, ap, append_assoc, List, [], ◌∷◌, ◌++◌, Option, Some, None}
-use Rattle.std.specs.Prelude.{option_map}
+use Rattle.shop_types.proofs.Common.{◌≡◌, ◌<◌, ◌≤◌, ◌^◌, ◌+◌, ◌*◌, ℕ, arith, lit<, add-one, ◌∙◌, refl, sym, ap, append_assoc, List, [], ◌∷◌, ◌++◌, Option, Some, None, option_map, digit_value, digit_value_digit, digit_from_value, row_number_of}
 use Rattle.std.proofs.lemmas.List.{append-nil}
 use Rattle.std.proofs.Math.Nat.{pow-le-pow_right}
-use Rattle.std.specs.Char.{digit_value}
-use Rattle.std.proofs.lemmas.Str.{digit_value_digit}
-use Rattle.std.proofs.lemmas.Str.Parse.{digit_from_value}
 use Rattle.clap.specs.Words.{Text}
-use Rattle.shop_values.specs.Numbers.{row_number_of}
 use Rattle.till_words.specs.Texts.{with_value, all_numbers}
 
 pub next_digit : (n i d : ℕ) → n < 10 ^ i → i < 5 → d < 10 → n * 10 + d < 10 ^ (i + 1)

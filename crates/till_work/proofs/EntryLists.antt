@@ -1,7 +1,7 @@
 -- The book's rows as entries.
-use Rattle.std.proofs.Common.{◌≡◌, ◌≢◌, ◌∙◌, ℕ, zero, suc, ◌+◌, ◌<◌, ◌≤◌, List, [], ◌∷◌, ◌++◌, map, length, Some, None, Option, Result, Ok, Err, refl, sym, subst, ap, arith, get_or, take}
-use Rattle.std.specs.Prelude.{slice_get, option_map, IfErr, IsErrAnd}
-use Rattle.std.proofs.lemmas.List.{map_push, take_more}
+use Rattle.sql_rows.proofs.Common.{◌≡◌, ◌≢◌, ◌∙◌, ℕ, zero, suc, ◌+◌, ◌<◌, ◌≤◌, List, [], ◌∷◌, ◌++◌, map, length, Some, None, Option, Result, Ok, Err, refl, sym, subst, ap, arith, get_or, take, option_map, IsErrAnd, map_push, take_more}
+use Rattle.sql_rows.specs.declared.fault.StoreFault.{StoreFault}
+use Rattle.std.specs.Prelude.{slice_get, IfErr}
 use Rattle.shop_model.specs.Rows.{numbered}
 use Rattle.shop_model.specs.Values.{Command}
 use Rattle.shop_model.specs.Answers.{Answer}
@@ -13,7 +13,6 @@ use Rattle.till_register.specs.Entries.{seen_told, seen_entry}
 use Rattle.till_register.specs.declared.register.Entry.{Entry as Read}
 use Rattle.std.specs.Borrow.{Bor}
 use Rattle.std.specs.Slice.{IsItemAt}
-use Rattle.sql_rows.specs.declared.fault.StoreFault.{StoreFault}
 use Rattle.till_book.specs.Seen.{seen_reply}
 use Rattle.till_book.specs.declared.rows.BookEntry.{BookEntry}
 use Rattle.till_book.specs.declared.rows.BookReply.{BookReply}

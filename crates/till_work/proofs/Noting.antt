@@ -1,7 +1,5 @@
 -- What a note may leave on the disk.
-use Rattle.std.proofs.Common.{ℕ, List, arith}
-use Rattle.sqlite.specs.State.{State, HasCleanDisk, Survives}
-use Rattle.sqlite.proofs.StateLemmas.{survives_then, survives_weaker}
+use Rattle.sql_rows.proofs.Common.{ℕ, List, arith, State, HasCleanDisk, Survives, survives_then, survives_weaker}
 use Rattle.sql_rows.proofs.Stays.{survives_more}
 use Rattle.till_book.specs.Steps.{Stays, LeavesNoted}
 use Rattle.till_work.specs.Settling.{MayNote}

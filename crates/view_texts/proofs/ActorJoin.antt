@@ -1,28 +1,9 @@
 -- What the actors' join shows of the books.
-use Rattle.std.proofs.Common.{◌≡◌, ◌==◌, ◌&&◌, ◌||◌, ◌+◌, ℕ, List, [], ◌∷◌, ◌++◌, map, filter, true, false, Bool, Some, None, refl, sym, ap, subst, ◌∙◌, arith, append-nil, IsPermutation}
-use Rattle.std.specs.List.{flat_map, list_all, list_any, AllByRecursion}
-use Rattle.std.proofs.Math.Bool.{and_comm}
-use Rattle.std.proofs.lemmas.List.Sorted.{IsPermutation-sym, IsPermutation-trans, IsPermutation-map, length_permutation}
-use Rattle.std.proofs.lemmas.Bool.{and_parts, not-true}
-use Rattle.sqlite.specs.declared.types.Value.TheVariants.{Null, Text}
-use Rattle.sqlite.specs.Values.{or_null}
+use Rattle.shop_schema.proofs.Common.{◌≡◌, ◌==◌, ◌&&◌, ◌||◌, ◌+◌, ℕ, List, [], ◌∷◌, ◌++◌, map, filter, true, false, Bool, Some, None, refl, sym, ap, subst, ◌∙◌, arith, append-nil, IsPermutation, flat_map, list_all, list_any, AllByRecursion, and_comm, IsPermutation-sym, IsPermutation-trans, IsPermutation-map, length_permutation, and_parts, not-true, Null, or_null, column, Trees, end, Output, overlay, map-map, filter-map, filter_same, all-filter, all_weaker, all_from_test, ascending-map, ascending_weaker, IsPermutation-same, IsPermutation-flat_map, IsPermutation-flat_map_each, HasRows, columns_of, number_value, one_tested, number_tested, or_blank, shown_of, equals, left_bag, at, lacks, numbered, numbered_from, has_row, Actor, Film, Cast, Catalogue, is_cast, category_name, films_of, is_before_text, named_columns, actor_columns, film_columns, cast_columns}
+use Rattle.sqlite.specs.declared.types.Value.TheVariants.{Text}
 use Rattle.sqlite_value.specs.Order as sql
-use Rattle.sqlite_value.specs.Order.{column}
-use Rattle.sqlite_trees.specs.Tree.{Trees}
-use Rattle.sqlite_sql.specs.Query.{end, Output}
-use Rattle.sqlite_sql.specs.Program.{overlay}
-use Rattle.sqlite_keyed.proofs.ListLemmas.{map-map, filter-map, filter_same, all-filter, all_weaker, all_from_test, ascending-map, ascending_weaker, IsPermutation-same, IsPermutation-flat_map, IsPermutation-flat_map_each}
-use Rattle.sql_rows.specs.Rows.{HasRows, columns_of, number_value}
-use Rattle.sql_rows.proofs.ColumnTests.{one_tested, number_tested}
-use Rattle.sql_rows.proofs.Joins.{or_blank, shown_of, equals, left_bag}
-use Rattle.shop_model.specs.Rows.{at, lacks, numbered, numbered_from}
-use Rattle.shop_model.specs.Links.{has_row}
 use Rattle.shop_model.specs.Values as model
-use Rattle.shop_model.specs.Values.{Actor, Film, Cast}
-use Rattle.shop_model.specs.Shop.{Catalogue}
-use Rattle.shop_model.specs.Views.{is_cast, category_name, films_of, is_before_text}
 use Rattle.shop_model.proofs.LinkLemmas.{all_at}
-use Rattle.shop_schema.specs.Columns.{named_columns, actor_columns, film_columns, cast_columns}
 use Rattle.sqlite_tied.proofs.RuleLemmas.{and_true}
 use Rattle.view_texts.specs.Actors.{FilmIn, ActorLine, shown_actor, films_by_category, lines_with}
 use Rattle.shop_schema.proofs.Numbers.{left_number, left_null}

@@ -1,15 +1,9 @@
 -- A row of the actors' join, taken.
-use Rattle.std.proofs.Common.{◌≡◌, ◌==◌, ℕ, Bool, true, false, cond, List, [], ◌∷◌, ◌++◌, codes, map, Option, Some, None, option_map, refl, sym, ap, subst, ◌∙◌}
-use Rattle.std.specs.List.{join_by}
-use Rattle.std.proofs.lemmas.List.{map-append}
+use Rattle.shop_schema.proofs.Common.{◌≡◌, ◌==◌, ℕ, Bool, true, false, cond, List, [], ◌∷◌, ◌++◌, codes, map, Option, Some, None, option_map, refl, sym, ap, subst, ◌∙◌, join_by, map-append, column, number_value, same_number, ActorRow}
 use Rattle.serde_json.specs.Data.{Data}
 use Rattle.sqlite.specs.declared.types.Value.TheVariants.{Text}
 use Rattle.sqlite_value.specs.Order as sql
-use Rattle.sqlite_value.specs.Order.{column}
-use Rattle.sql_rows.specs.Rows.{number_value}
-use Rattle.sql_rows.proofs.ColumnTests.{same_number}
 use Rattle.shop_model.specs.Values as model
-use Rattle.shop_model.specs.Views.{ActorRow}
 use Rattle.shop_views.specs.Films.{films_text, actor_data}
 use Rattle.shop_views.specs.Page.{Page, HasValues}
 use Rattle.shop_views.specs.declared.actors.FilmGroup.{FilmGroup}

@@ -1,33 +1,10 @@
 -- The lines of actors, in the order of their join.
-use Rattle.std.proofs.Common.{◌≡◌, ◌==◌, ◌&&◌, ◌<◌, ◌+◌, ℕ, false, filter, List, [], ◌∷◌, map, Option, Some, None, refl, sym, ap, ◌∙◌, arith, is_eq, is_lt, inl, inr, Less, Equal, Greater, Ordering}
-use Rattle.std.specs.Prelude.{◌⊎◌}
-use Rattle.std.specs.List.{flat_map, AllByRecursion}
-use Rattle.std.specs.Ordering.{nat_cmp, ordering_then, ordering_reverse}
-use Rattle.std.specs.Cmp.Lexicographic.{slice_cmp}
-use Rattle.std.proofs.lemmas.Cmp.{tied_itself, nat_cmp_total, nat_list_cmp_total}
+use Rattle.shop_schema.proofs.Common.{◌≡◌, ◌==◌, ◌&&◌, ◌<◌, ◌+◌, ℕ, false, filter, List, [], ◌∷◌, map, Option, Some, None, refl, sym, ap, ◌∙◌, arith, is_eq, is_lt, inl, inr, Less, Equal, Greater, Ordering, ◌⊎◌, flat_map, AllByRecursion, nat_cmp, ordering_then, ordering_reverse, slice_cmp, tied_itself, nat_cmp_total, nat_list_cmp_total, or_null, State, value_cmp, value_cmp-Text, then-Equal, IsAscending, Output, output_cmp, map-map, map-flat_map, IsPermutation-same, ascending-map, ascending_weaker, ascending-append, ascending-filter, all-map, all-flat_map, all_weaker, number_value, answers, number_cmp, joined_rows, Climbs, numbered, numbered_from, NamesRowsOf, Actor, Film, Catalogue, Books, is_cast, films_of, categories_by_name, shop_schema, IsShop, StandsFor, actor_columns}
 use Rattle.sqlite.specs.declared.types.Value.TheVariants.{Text}
-use Rattle.sqlite.specs.Values.{or_null}
-use Rattle.sqlite.specs.State.{State, Shown}
+use Rattle.sqlite.specs.State.{Shown}
 use Rattle.sqlite_value.specs.Order as sql
-use Rattle.sqlite_value.specs.Order.{value_cmp}
-use Rattle.sqlite_value.proofs.OrderLemmas.{value_cmp-Text, then-Equal}
-use Rattle.sqlite_trees.specs.Tree.{IsAscending}
-use Rattle.sqlite_sql.specs.Query.{Output, output_cmp}
 use Rattle.sqlite_sql.proofs.QueryLemmas.{output_cmp_total}
-use Rattle.sqlite_keyed.proofs.ListLemmas.{map-map, map-flat_map, IsPermutation-same, ascending-map, ascending_weaker, ascending-append, ascending-filter, all-map, all-flat_map, all_weaker}
-use Rattle.sql_rows.specs.Rows.{number_value}
-use Rattle.sql_rows.proofs.Queries.{answers, number_cmp}
-use Rattle.sql_rows.proofs.Joins.{joined_rows, Climbs}
-use Rattle.shop_model.specs.Rows.{numbered, numbered_from}
-use Rattle.shop_model.specs.Links.{NamesRowsOf}
 use Rattle.shop_model.specs.Values as model
-use Rattle.shop_model.specs.Values.{Actor, Film}
-use Rattle.shop_model.specs.Shop.{Catalogue}
-use Rattle.shop_model.specs.Books.{Books}
-use Rattle.shop_model.specs.Views.{is_cast, films_of, categories_by_name}
-use Rattle.shop_schema.specs.Tables.{shop_schema}
-use Rattle.shop_schema.specs.Shop.{IsShop, StandsFor}
-use Rattle.shop_schema.specs.Columns.{actor_columns}
 use Rattle.shop_store.proofs.LastNumbers.{above_from, numbered_rise}
 use Rattle.view_texts.specs.Actors.{FilmIn, ActorLine, shown_actor, films_by_category, lines_with, actor_lines}
 use Rattle.view_texts.proofs.Orders.{less, equal}

@@ -1,17 +1,7 @@
 -- What the text of the actors' view means.
-use Rattle.std.proofs.Common.{ℕ, List, [], ◌∷◌, codes, refl}
-use Rattle.sqlite_value.specs.Keys.{ascending}
-use Rattle.sqlite_value.specs.declared.keys.Key.{Key}
-use Rattle.sqlite_value.specs.declared.keys.Collation.TheVariants.{Binary}
-use Rattle.sqlite_sql.specs.Term.{Term, col}
-use Rattle.sqlite_sql.specs.Query.{Query, Join, inner, left, end}
+use Rattle.shop_schema.proofs.Common.{ℕ, List, [], ◌∷◌, codes, refl, ascending, Key, Binary, Term, col, Query, Join, inner, left, end, IsQuery, Selects, is_query, shop_schema, joined_query, are_equal}
 use Rattle.sqlite_tied.specs.Compute.{everything}
 use Rattle.sqlite.specs.Listing.{understood}
-use Rattle.sql_rows.specs.Texts.{IsQuery}
-use Rattle.sql_rows.proofs.Queries.{Selects}
-use Rattle.sql_rows.proofs.TextLemmas.{is_query}
-use Rattle.shop_schema.specs.Tables.{shop_schema}
-use Rattle.sql_rows.proofs.Joins.{joined_query, are_equal}
 
 abbrev pub select_actors : List ℕ
 select_actors = codes "SELECT a.number, a.first, a.last, k.number, k.name, f.title FROM actor AS a LEFT JOIN film_actor AS fa ON fa.actor = a.number LEFT JOIN film AS f ON f.number = fa.film LEFT JOIN category AS k ON k.number = f.category ORDER BY a.number, k.name, k.number, f.title, f.number"

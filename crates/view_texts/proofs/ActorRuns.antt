@@ -1,16 +1,6 @@
 -- Lines of actors, of which neighbours belong together, and in them films, of which neighbours are of one category.
-use Rattle.std.proofs.Common.{◌≡◌, ◌==◌, ◌+◌, ◌<◌, ℕ, false, cond, not, List, [], ◌∷◌, ◌++◌, codes, map, filter, Option, Some, None, option_map, refl, sym, ap, ◌∙◌, arith, append-nil, append_assoc}
-use Rattle.std.specs.Prelude.{IfSome}
-use Rattle.std.specs.List.{flat_map, join_by, AllByRecursion}
-use Rattle.std.proofs.lemmas.Bool.Decides.{nat_tests}
-use Rattle.sqlite_trees.specs.Tree.{IsAscending}
-use Rattle.sqlite_keyed.proofs.ListLemmas.{all_of, ascending_weaker}
-use Rattle.shop_model.specs.Rows.{is_empty, numbered, numbered_from}
+use Rattle.shop_schema.proofs.Common.{◌≡◌, ◌==◌, ◌+◌, ◌<◌, ℕ, false, cond, not, List, [], ◌∷◌, ◌++◌, codes, map, filter, Option, Some, None, option_map, refl, sym, ap, ◌∙◌, arith, append-nil, append_assoc, IfSome, flat_map, join_by, AllByRecursion, nat_tests, IsAscending, all_of, ascending_weaker, is_empty, numbered, numbered_from, Actor, Film, Catalogue, ActorRow, actor_row, films_of, categories_by_name, same_test}
 use Rattle.shop_model.specs.Values as model
-use Rattle.shop_model.specs.Values.{Actor, Film}
-use Rattle.shop_model.specs.Shop.{Catalogue}
-use Rattle.shop_model.specs.Views.{ActorRow, actor_row, films_of, categories_by_name}
-use Rattle.shop_model.proofs.RowLemmas.{same_test}
 use Rattle.shop_store.proofs.LastNumbers.{numbered_rise}
 use Rattle.view_texts.specs.Actors.{FilmIn, ActorLine, films_by_category, lines_with, Group, text_of, told_film, Groups, every_group, take_film, take_any, ActorPart, actor_alone, whole, Grouped, closed, take_line, run_from}
 use Rattle.view_texts.proofs.ByText.{Rises, sorted_up}

@@ -1,17 +1,6 @@
 -- Numbered rows in the byte order of a text: those of one text stay in the order of their numbers.
-use Rattle.std.proofs.Common.{◌≡◌, ◌==◌, ◌<◌, ℕ, Bool, true, false, cond, true≢false, List, [], ◌∷◌, refl, sym, ap, ◌∙◌, arith, Less, Equal, Greater, Ordering, IsPermutation}
-use Rattle.std.specs.Ordering.{is_le, nat_cmp, ordering_then, ordering_reverse}
-use Rattle.std.specs.Cmp.{IsTotalOrder}
-use Rattle.std.specs.Cmp.Lexicographic.{slice_cmp}
-use Rattle.std.specs.List.{AllByRecursion}
-use Rattle.std.proofs.lemmas.Bool.Decides.{nat_tests}
-use Rattle.std.proofs.lemmas.Cmp.{on_total, then_total, nat_cmp_total, nat_list_cmp_total}
-use Rattle.std.proofs.lemmas.List.Sorted.{IsPermutation-refl, IsPermutation-trans, IsPermutation-cons, IsPermutation-middle}
-use Rattle.sqlite_trees.specs.Tree.{IsAscending}
-use Rattle.sqlite_keyed.proofs.ListLemmas.{all_both}
-use Rattle.shop_model.specs.Values.{Text}
+use Rattle.shop_schema.proofs.Common.{◌≡◌, ◌==◌, ◌<◌, ℕ, Bool, true, false, cond, true≢false, List, [], ◌∷◌, refl, sym, ap, ◌∙◌, arith, Less, Equal, Greater, Ordering, IsPermutation, is_le, nat_cmp, ordering_then, ordering_reverse, IsTotalOrder, slice_cmp, AllByRecursion, nat_tests, on_total, then_total, nat_cmp_total, nat_list_cmp_total, IsPermutation-refl, IsPermutation-trans, IsPermutation-cons, IsPermutation-middle, IsAscending, all_both, Text, is_before_text, insert_by, sorted_by}
 use Rattle.view_texts.proofs.Orders.{less}
-use Rattle.shop_model.specs.Views.{is_before_text, insert_by, sorted_by}
 
 -- ---- any order
 

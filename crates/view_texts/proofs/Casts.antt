@@ -1,16 +1,5 @@
 -- The casts of a film, and its actors.
-use Rattle.std.proofs.Common.{◌≡◌, ◌==◌, ◌&&◌, ◌||◌, ℕ, Bool, true, false, cond, List, [], ◌∷◌, ◌++◌, map, filter, not, refl, sym, ap, subst, ◌∙◌, arith, inl, inr, IsPermutation}
-use Rattle.std.specs.List.{flat_map, list_any, list_all, AllByRecursion}
-use Rattle.std.proofs.lemmas.Bool.Decides.{nat_tests}
-use Rattle.std.proofs.lemmas.List.Sorted.{IsPermutation-refl, IsPermutation-trans, IsPermutation-cons, IsPermutation-middle, IsPermutation-append_right}
-use Rattle.std.proofs.lemmas.Bool.{and_parts, not-true}
-use Rattle.sqlite_trees.specs.Tree.{IsAscending}
-use Rattle.sqlite_keyed.proofs.ListLemmas.{filter_none, filter_same, all_of, all_weaker, all_from_test, none_from_any, IsPermutation-same}
-use Rattle.shop_model.specs.Rows.{at, lacks, numbered, is_empty}
-use Rattle.shop_model.specs.Values.{Cast}
-use Rattle.shop_model.specs.Shop.{Catalogue}
-use Rattle.shop_model.specs.Links.{has_row, are_different}
-use Rattle.shop_model.proofs.FoundLemmas.{at_one}
+use Rattle.shop_schema.proofs.Common.{◌≡◌, ◌==◌, ◌&&◌, ◌||◌, ℕ, Bool, true, false, cond, List, [], ◌∷◌, ◌++◌, map, filter, not, refl, sym, ap, subst, ◌∙◌, arith, inl, inr, IsPermutation, flat_map, list_any, list_all, AllByRecursion, nat_tests, IsPermutation-refl, IsPermutation-trans, IsPermutation-cons, IsPermutation-middle, IsPermutation-append_right, and_parts, not-true, IsAscending, filter_none, filter_same, all_of, all_weaker, all_from_test, none_from_any, IsPermutation-same, at, lacks, numbered, is_empty, Cast, Catalogue, has_row, are_different, at_one}
 use Rattle.shop_schema.proofs.Numbers.{numbered_at}
 
 -- those that pass either of two tests that never both hold

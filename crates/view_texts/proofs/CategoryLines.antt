@@ -1,11 +1,7 @@
 -- Rows that are taken into the sums of the categories.
-use Rattle.std.proofs.Common.{◌≡◌, ℕ, List, [], ◌∷◌, ◌++◌, map, Option, None, sym, ap, ◌∙◌}
-use Rattle.std.specs.List.{flat_map}
-use Rattle.std.proofs.lemmas.List.{map-append}
+use Rattle.shop_schema.proofs.Common.{◌≡◌, ℕ, List, [], ◌∷◌, ◌++◌, map, Option, None, sym, ap, ◌∙◌, flat_map, map-append, column, Text}
 use Rattle.sqlite.specs.declared.types.Value.TheVariants as sql_values
 use Rattle.sqlite_value.specs.Order as sql
-use Rattle.sqlite_value.specs.Order.{column}
-use Rattle.shop_model.specs.Values.{Text}
 use Rattle.shop_schema.proofs.Lists.{flat_map_push}
 use Rattle.view_texts.specs.Shown.{text_or_empty}
 use Rattle.view_texts.specs.Payments.{PaidLine, shown_line, Sale, sale_in}

@@ -1,9 +1,5 @@
 -- Rows that are put among others, one after another.
-use Rattle.std.proofs.Common.{◌≡◌, ℕ, List, [], ◌∷◌, ◌++◌, map, take, drop, Option, Some, refl, sym, ap, ◌∙◌}
-use Rattle.std.specs.Option.{option_to_list}
-use Rattle.std.proofs.lemmas.List.{map-append}
-use Rattle.shop_model.specs.Values.{Text}
-use Rattle.shop_model.specs.Views.{sells_more, insert_by, sorted_by}
+use Rattle.shop_schema.proofs.Common.{◌≡◌, ℕ, List, [], ◌∷◌, ◌++◌, map, take, drop, Option, Some, refl, sym, ap, ◌∙◌, option_to_list, map-append, Text, sells_more, insert_by, sorted_by}
 use Rattle.shop_views.specs.Sales.{seen_category}
 use Rattle.shop_views.specs.declared.sales.CategoryRow.{CategoryRow}
 use Rattle.shop_schema.proofs.Lists.{flat_map_push}

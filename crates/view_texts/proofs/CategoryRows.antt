@@ -1,20 +1,8 @@
 -- The rows of the categories.
-use Rattle.std.proofs.Common.{◌≡◌, ◌<◌, ℕ, List, [], ◌∷◌, map, false, refl, ap, ◌∙◌, is_eq, is_lt}
+use Rattle.shop_schema.proofs.Common.{◌≡◌, ◌<◌, ℕ, List, [], ◌∷◌, map, false, refl, ap, ◌∙◌, is_eq, is_lt, then-Equal, end, Output, output_cmp, State, map-map, ascending-map, ascending_weaker, IsPermutation-same, number_value, answers, number_cmp, joined_rows, Climbs, numbered, Text, Books, shop_schema, named_columns, IsShop, StandsFor}
 use Rattle.std.proofs.lemmas.List.Concat.{flat_map_single}
 use Rattle.sqlite_value.specs.Order as sql
-use Rattle.sqlite_value.proofs.OrderLemmas.{then-Equal}
-use Rattle.sqlite_sql.specs.Query.{end, Output, output_cmp}
-use Rattle.sqlite.specs.State.{State, Shown}
-use Rattle.sqlite_keyed.proofs.ListLemmas.{map-map, ascending-map, ascending_weaker, IsPermutation-same}
-use Rattle.sql_rows.specs.Rows.{number_value}
-use Rattle.sql_rows.proofs.Queries.{answers, number_cmp}
-use Rattle.sql_rows.proofs.Joins.{joined_rows, Climbs}
-use Rattle.shop_model.specs.Rows.{numbered}
-use Rattle.shop_model.specs.Values.{Text}
-use Rattle.shop_model.specs.Books.{Books}
-use Rattle.shop_schema.specs.Tables.{shop_schema}
-use Rattle.shop_schema.specs.Columns.{named_columns}
-use Rattle.shop_schema.specs.Shop.{IsShop, StandsFor}
+use Rattle.sqlite.specs.State.{Shown}
 use Rattle.shop_schema.proofs.Lasts.{numbered_counted}
 use Rattle.view_texts.specs.CategorySums.{shown_category}
 use Rattle.view_texts.proofs.CategoryQuery.{select_categories, categories_query, categories_mean, category_shows, category_order}

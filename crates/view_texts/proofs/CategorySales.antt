@@ -1,25 +1,9 @@
 -- Sales that are added to the sums of their categories.
-use Rattle.std.proofs.Common.{◌≡◌, suc, length, take, drop, get_or, set, add-one, drop-cons, ◌≤◌, ◌<◌, ◌==◌, ◌||◌, ◌+◌, ◌-◌, ℕ, List, [], ◌∷◌, ◌++◌, map, filter, true, false, Bool, not, cond, Option, Some, None, refl, sym, ap, ◌∙◌, arith, append-nil}
-use Rattle.std.specs.Prelude.{if◌then◌else◌, unwrap_or, is_some}
-use Rattle.std.specs.Option.{option_to_list}
-use Rattle.std.proofs.lemmas.List.{map-append, take-append-drop, take-set, drop-set, length-take-le}
-use Rattle.std.proofs.lemmas.List.Elements.{filter-append}
-use Rattle.std.proofs.lemmas.Bool.Decides.{nat_tests}
-use Rattle.sqlite.specs.Values.{or_null}
+use Rattle.shop_schema.proofs.Common.{◌≡◌, suc, length, take, drop, get_or, set, add-one, drop-cons, ◌≤◌, ◌<◌, ◌==◌, ◌||◌, ◌+◌, ◌-◌, ℕ, List, [], ◌∷◌, ◌++◌, map, filter, true, false, Bool, not, cond, Option, Some, None, refl, sym, ap, ◌∙◌, arith, append-nil, if◌then◌else◌, unwrap_or, is_some, option_to_list, map-append, take-append-drop, take-set, drop-set, length-take-le, filter-append, nat_tests, or_null, column, number_value, set_at, numbered_from, is_empty, Text, Rental, Payment, Shop, Books, shop_of, takings, sales_of, sales_by_category, sells_more, sorted_by, equal_test, length-map, same_number}
 use Rattle.sqlite_value.specs.Order as sql
-use Rattle.sqlite_value.specs.Order.{column}
-use Rattle.sql_rows.specs.Rows.{number_value}
-use Rattle.shop_model.specs.Rows.{set_at, numbered_from, is_empty}
-use Rattle.shop_model.specs.Values.{Text, Rental, Payment}
-use Rattle.shop_model.specs.Shop.{Shop}
-use Rattle.shop_model.specs.Books.{Books, shop_of}
-use Rattle.shop_model.specs.Views.{takings, sales_of, sales_by_category, sells_more, sorted_by}
-use Rattle.shop_model.proofs.RowLemmas.{equal_test}
 use Rattle.view_texts.specs.Payments.{PaidLine, shown_line, Sale, sale, sale_in, is_sale_of}
 use Rattle.view_texts.specs.Sales.{sum_of}
 use Rattle.view_texts.specs.declared.categories.CategorySum.{CategorySum}
-use Rattle.sql_rows.proofs.Bags.{length-map}
-use Rattle.sql_rows.proofs.ColumnTests.{same_number}
 use Rattle.view_texts.specs.CategorySums.{seen_sum, sum_in, summed, with_amount, sold, sales_of_branch}
 use Rattle.view_texts.proofs.PaymentLines.{sales_are, takings_are}
 use Rattle.view_texts.proofs.SalesLines.{sum_more}

@@ -1,33 +1,9 @@
 -- What the films' join shows of the books.
-use Rattle.std.proofs.Common.{◌≡◌, ◌==◌, ◌&&◌, ◌<◌, ◌+◌, ℕ, List, [], ◌∷◌, ◌++◌, map, filter, true, false, Bool, cond, Option, Some, None, refl, sym, ap, subst, ◌∙◌, arith, is_eq, is_lt, append-nil, inl, inr, IsPermutation, Equal}
-use Rattle.std.specs.Prelude.{◌⊎◌}
-use Rattle.std.specs.List.{flat_map, AllByRecursion}
-use Rattle.std.specs.Ordering.{nat_cmp, ordering_then}
-use Rattle.std.proofs.lemmas.List.Sorted.{IsPermutation-trans, IsPermutation-map, length_permutation}
-use Rattle.sqlite.specs.declared.types.Value.{Value}
-use Rattle.sqlite.specs.declared.types.Value.TheVariants.{Null, Text}
-use Rattle.sqlite.specs.Values.{or_null}
+use Rattle.shop_schema.proofs.Common.{◌≡◌, ◌==◌, ◌&&◌, ◌<◌, ◌+◌, ℕ, List, [], ◌∷◌, ◌++◌, map, filter, true, false, Bool, cond, Option, Some, None, refl, sym, ap, subst, ◌∙◌, arith, is_eq, is_lt, append-nil, inl, inr, IsPermutation, Equal, ◌⊎◌, flat_map, AllByRecursion, nat_cmp, ordering_then, IsPermutation-trans, IsPermutation-map, length_permutation, Value, Null, or_null, column, value_cmp, Trees, IsAscending, end, Output, output_cmp, State, overlay, map-map, filter_same, map-flat_map, IsPermutation-same, ascending-map, ascending_weaker, ascending-append, ascending-filter, all-map, all-flat_map, all_weaker, HasRows, columns_of, number_value, answers, number_cmp, one_tested, number_tested, or_blank, shown_of, equals, left_bag, joined_rows, Climbs, at, lacks, numbered, numbered_from, Actor, Film, Cast, Catalogue, Books, is_cast, at_one, shop_schema, IsShop, StandsFor, named_columns, actor_columns, film_columns, cast_columns}
+use Rattle.sqlite.specs.declared.types.Value.TheVariants.{Text}
 use Rattle.sqlite_value.specs.Order as sql
-use Rattle.sqlite_value.specs.Order.{column, value_cmp}
-use Rattle.sqlite_trees.specs.Tree.{Trees, IsAscending}
-use Rattle.sqlite_sql.specs.Query.{end, Output, output_cmp}
-use Rattle.sqlite.specs.State.{State, Shown}
-use Rattle.sqlite_sql.specs.Program.{overlay}
-use Rattle.sqlite_keyed.proofs.ListLemmas.{map-map, filter_same, map-flat_map, IsPermutation-same, ascending-map, ascending_weaker, ascending-append, ascending-filter, all-map, all-flat_map, all_weaker}
-use Rattle.sql_rows.specs.Rows.{HasRows, columns_of, number_value}
-use Rattle.sql_rows.proofs.Queries.{answers, number_cmp}
-use Rattle.sql_rows.proofs.ColumnTests.{one_tested, number_tested}
-use Rattle.sql_rows.proofs.Joins.{or_blank, shown_of, equals, left_bag, joined_rows, Climbs}
-use Rattle.shop_model.specs.Rows.{at, lacks, numbered, numbered_from}
+use Rattle.sqlite.specs.State.{Shown}
 use Rattle.shop_model.specs.Values as model
-use Rattle.shop_model.specs.Values.{Actor, Film, Cast}
-use Rattle.shop_model.specs.Shop.{Catalogue}
-use Rattle.shop_model.specs.Books.{Books}
-use Rattle.shop_model.specs.Views.{is_cast}
-use Rattle.shop_model.proofs.FoundLemmas.{at_one}
-use Rattle.shop_schema.specs.Tables.{shop_schema}
-use Rattle.shop_schema.specs.Shop.{IsShop, StandsFor}
-use Rattle.shop_schema.specs.Columns.{named_columns, actor_columns, film_columns, cast_columns}
 use Rattle.shop_store.proofs.LastNumbers.{above_from, numbered_rise}
 use Rattle.view_texts.specs.Shown.{name_or_null, FilmLine, shown_film, actors_of, lines_of, film_lines}
 use Rattle.view_texts.proofs.Orders.{less, greater, equal}

@@ -1,20 +1,9 @@
 -- A row of the films' join, read and taken.
-use Rattle.std.proofs.Common.{◌≡◌, ◌==◌, ℕ, false, cond, List, [], ◌∷◌, ◌++◌, map, Option, Some, None, option_map, refl, sym, ap, subst, ◌∙◌}
-use Rattle.std.proofs.lemmas.List.{map-append}
+use Rattle.shop_schema.proofs.Common.{◌≡◌, ◌==◌, ℕ, false, cond, List, [], ◌∷◌, ◌++◌, map, Option, Some, None, option_map, refl, sym, ap, subst, ◌∙◌, map-append, or_null, column, number_value, same_or_null, same_number, at, Catalogue, FilmRow, category_name, at_one, rating_text, Rating}
 use Rattle.serde_json.specs.Data.{Data}
 use Rattle.sqlite.specs.declared.types.Value.TheVariants.{Text}
-use Rattle.sqlite.specs.Values.{or_null}
 use Rattle.sqlite_value.specs.Order as sql
-use Rattle.sqlite_value.specs.Order.{column}
-use Rattle.sql_rows.specs.Rows.{number_value}
-use Rattle.sql_rows.proofs.ColumnTests.{same_or_null, same_number}
-use Rattle.shop_model.specs.Rows.{at}
 use Rattle.shop_model.specs.Values as model
-use Rattle.shop_model.specs.Shop.{Catalogue}
-use Rattle.shop_model.specs.Views.{FilmRow, category_name}
-use Rattle.shop_model.proofs.FoundLemmas.{at_one}
-use Rattle.shop_types.specs.Films.{rating_text}
-use Rattle.shop_types.specs.declared.film.Rating.{Rating}
 use Rattle.shop_views.specs.Names.{name_text}
 use Rattle.shop_views.specs.Films.{film_with, seen_film, film_data}
 use Rattle.shop_views.specs.Page.{Page, HasValues}

@@ -1,17 +1,7 @@
 -- What the text of the films' view means.
-use Rattle.std.proofs.Common.{ℕ, List, [], ◌∷◌, codes, refl}
-use Rattle.sqlite_value.specs.Keys.{ascending}
-use Rattle.sqlite_value.specs.declared.keys.Key.{Key}
-use Rattle.sqlite_value.specs.declared.keys.Collation.TheVariants.{Binary}
-use Rattle.sqlite_sql.specs.Term.{Term, col}
-use Rattle.sqlite_sql.specs.Query.{Query, Join, inner, left, end}
+use Rattle.shop_schema.proofs.Common.{ℕ, List, [], ◌∷◌, codes, refl, ascending, Key, Binary, Term, col, Query, Join, inner, left, end, IsQuery, Selects, is_query, shop_schema, joined_query, are_equal}
 use Rattle.sqlite_tied.specs.Compute.{everything}
 use Rattle.sqlite.specs.Listing.{understood}
-use Rattle.sql_rows.specs.Texts.{IsQuery}
-use Rattle.sql_rows.proofs.Queries.{Selects}
-use Rattle.sql_rows.proofs.TextLemmas.{is_query}
-use Rattle.shop_schema.specs.Tables.{shop_schema}
-use Rattle.sql_rows.proofs.Joins.{joined_query, are_equal}
 
 abbrev pub select_films : List ℕ
 select_films = codes "SELECT f.number, f.title, f.description, k.name, f.rate, f.length, f.rating, a.first, a.last FROM film AS f LEFT JOIN category AS k ON k.number = f.category LEFT JOIN film_actor AS fa ON fa.film = f.number LEFT JOIN actor AS a ON a.number = fa.actor ORDER BY f.number, fa.actor"

@@ -1,14 +1,6 @@
 -- Lines of films, of which neighbours belong together.
-use Rattle.std.proofs.Common.{◌≡◌, ◌==◌, ◌+◌, ◌<◌, ℕ, false, cond, List, [], ◌∷◌, ◌++◌, codes, map, Option, Some, None, refl, sym, ap, ◌∙◌, arith, append-nil}
-use Rattle.std.specs.Prelude.{IfSome}
-use Rattle.std.specs.List.{flat_map, join_by}
-use Rattle.std.proofs.lemmas.Bool.Decides.{nat_tests}
-use Rattle.shop_model.specs.Rows.{numbered_from}
+use Rattle.shop_schema.proofs.Common.{◌≡◌, ◌==◌, ◌+◌, ◌<◌, ℕ, false, cond, List, [], ◌∷◌, ◌++◌, codes, map, Option, Some, None, refl, sym, ap, ◌∙◌, arith, append-nil, IfSome, flat_map, join_by, nat_tests, numbered_from, Actor, Film, Catalogue, FilmRow, film_row, same_test}
 use Rattle.shop_model.specs.Values as model
-use Rattle.shop_model.specs.Values.{Actor, Film}
-use Rattle.shop_model.specs.Shop.{Catalogue}
-use Rattle.shop_model.specs.Views.{FilmRow, film_row}
-use Rattle.shop_model.proofs.RowLemmas.{same_test}
 use Rattle.shop_views.specs.Names.{name_text}
 use Rattle.shop_views.specs.Films.{film_with, seen_film}
 use Rattle.shop_views.specs.declared.films.ListedFilm as rows

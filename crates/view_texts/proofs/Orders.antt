@@ -1,10 +1,5 @@
 -- Rows in the order of their numbers.
-use Rattle.std.proofs.Common.{◌≡◌, ◌<◌, ◌+◌, ℕ, List, [], ◌∷◌, map, false, arith, is_eq, is_lt, Less, Equal, Greater}
-use Rattle.std.specs.List.{AllByRecursion}
-use Rattle.std.specs.Ordering.{nat_cmp}
-use Rattle.std.proofs.lemmas.Bool.Decides.{nat_tests}
-use Rattle.sqlite_trees.specs.Tree.{IsAscending}
-use Rattle.shop_model.specs.Rows.{IsCounted}
+use Rattle.shop_schema.proofs.Common.{◌≡◌, ◌<◌, ◌+◌, ℕ, List, [], ◌∷◌, map, false, arith, is_eq, is_lt, Less, Equal, Greater, AllByRecursion, nat_cmp, nat_tests, IsAscending, IsCounted}
 
 module _ {X : Type 0} (number : X → ℕ) where
   above : (k : ℕ) (xs : List X) (n : ℕ) → n < k → IsCounted k (map number xs) → AllByRecursion (λ y. n < number y) xs

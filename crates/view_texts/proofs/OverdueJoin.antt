@@ -1,35 +1,10 @@
 -- What the join of what is out shows of the books: each open rental of the branch, with its terms, its customer and the title of its film.
-use Rattle.std.proofs.Common.{◌≡◌, ◌≤◌, ◌==◌, ◌&&◌, ℕ, List, [], ◌∷◌, ◌++◌, map, filter, length, true, cond, refl, sym, ap, subst, ◌∙◌, arith, append-nil, append_assoc, inl, inr}
-use Rattle.std.specs.Prelude.{◌⊎◌, Bool, is_none}
-use Rattle.std.specs.List.{AllByRecursion, flat_map}
+use Rattle.shop_schema.proofs.Common.{◌≡◌, ◌≤◌, ◌==◌, ◌&&◌, ℕ, List, [], ◌∷◌, ◌++◌, map, filter, length, true, cond, refl, sym, ap, subst, ◌∙◌, arith, append-nil, append_assoc, inl, inr, ◌⊎◌, is_none, AllByRecursion, flat_map, filter-append, IsPermutation-refl, Value, Null, or_null, column, Trees, col, inner, end, Output, overlay, State, map-map, all-filter, IsPermutation-same, HasRows, PicksOne, columns_of, number_value, answers, kept_as_map, one_tested, number_tested, or_blank, shown_of, few_list, left_pair, joined_rows, Row, at, is_of, is_row, Film, Rental, Books, BookCopy, head, at_one, same_test, filter_filter, shop_schema, moment_value, film_columns, customer_columns, copy_columns, rental_columns, terms_columns, out_columns, is_open, out_of, IsHeld, StandsFor, Holds}
+use Rattle.std.specs.Prelude.{Bool}
 use Rattle.std.proofs.lemmas.List.{length-append}
-use Rattle.std.proofs.lemmas.List.Elements.{filter-append}
-use Rattle.std.proofs.lemmas.List.Sorted.{IsPermutation-refl}
-use Rattle.sqlite.specs.declared.types.Value.{Value}
-use Rattle.sqlite.specs.declared.types.Value.TheVariants.{Null, Text}
-use Rattle.sqlite.specs.Values.{or_null}
+use Rattle.sqlite.specs.declared.types.Value.TheVariants.{Text}
 use Rattle.sqlite_value.specs.Order as sql
-use Rattle.sqlite_value.specs.Order.{column}
-use Rattle.sqlite_trees.specs.Tree.{Trees}
-use Rattle.sqlite_sql.specs.Term.{col}
-use Rattle.sqlite_sql.specs.Query.{inner, end, Output}
-use Rattle.sqlite_sql.specs.Program.{overlay}
-use Rattle.sqlite.specs.State.{State, Shown}
-use Rattle.sqlite_keyed.proofs.ListLemmas.{map-map, all-filter, IsPermutation-same}
-use Rattle.sql_rows.specs.Rows.{HasRows, PicksOne, columns_of, number_value}
-use Rattle.sql_rows.proofs.Queries.{answers, kept_as_map}
-use Rattle.sql_rows.proofs.ColumnTests.{one_tested, number_tested}
-use Rattle.sql_rows.proofs.Joins.{or_blank, shown_of, few_list, left_pair, joined_rows}
-use Rattle.shop_model.specs.Rows.{Row, at, is_of, is_row}
-use Rattle.shop_model.specs.Values.{Film, Rental}
-use Rattle.shop_model.specs.Books.{Books, BookCopy, head}
-use Rattle.shop_model.proofs.FoundLemmas.{at_one}
-use Rattle.shop_model.proofs.RowLemmas.{same_test, filter_filter}
-use Rattle.shop_schema.specs.Tables.{shop_schema}
-use Rattle.shop_schema.specs.Columns.{moment_value, film_columns, customer_columns, copy_columns, rental_columns, terms_columns, out_columns}
-use Rattle.shop_schema.specs.Counts.{is_open, out_of}
-use Rattle.shop_schema.specs.Held.{IsHeld}
-use Rattle.shop_schema.specs.Shop.{StandsFor, Holds}
+use Rattle.sqlite.specs.State.{Shown}
 use Rattle.shop_schema.proofs.Lists.{picks_row}
 use Rattle.shop_schema.proofs.Numbers.{left_number, left_null}
 use Rattle.shop_ledger.proofs.Rising.{of_which, which_rise}

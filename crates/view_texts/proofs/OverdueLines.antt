@@ -1,30 +1,12 @@
 -- The rows of the join of what is out by one branch's shop, what is read of them, and the list of those that are overdue.
-use Rattle.std.proofs.Common.{◌≡◌, ◌+◌, ℕ, List, [], ◌∷◌, ◌++◌, map, filter, codes, true, false, refl, sym, ap, subst, ◌∙◌, append-nil, inl, inr}
-use Rattle.std.specs.Prelude.{◌⊎◌, Bool, is_none, nat_lt, zip}
-use Rattle.std.specs.List.{AllByRecursion, flat_map}
+use Rattle.shop_schema.proofs.Common.{◌≡◌, ◌+◌, ℕ, List, [], ◌∷◌, ◌++◌, map, filter, codes, true, false, refl, sym, ap, subst, ◌∙◌, append-nil, inl, inr, ◌⊎◌, is_none, nat_lt, zip, AllByRecursion, flat_map, Null, or_null, column, State, map-map, all-filter, number_value, same_number, Moment, IsMoment, Row, at, is_row, of, Customer, Film, Rental, Terms, Catalogue, Shop, Books, head, shop_of, termed, is_overdue, film_of, overdue_row, overdue_list, at_one, more_yes, more_no, moment_value, customer_columns, terms_columns, IsRental, IsHeld, Holds}
+use Rattle.std.specs.Prelude.{Bool}
 use Rattle.serde_json.specs.Data.{Data}
-use Rattle.sqlite.specs.declared.types.Value.TheVariants.{Null, Text}
-use Rattle.sqlite.specs.Values.{or_null}
+use Rattle.sqlite.specs.declared.types.Value.TheVariants.{Text}
 use Rattle.sqlite_value.specs.Order as sql
-use Rattle.sqlite_value.specs.Order.{column}
-use Rattle.sqlite.specs.State.{State, Shown}
-use Rattle.sqlite_keyed.proofs.ListLemmas.{map-map, all-filter}
-use Rattle.sql_rows.specs.Rows.{number_value}
-use Rattle.sql_rows.proofs.ColumnTests.{same_number}
-use Rattle.shop_model.specs.Calendar.{Moment, IsMoment, day_of}
-use Rattle.shop_model.specs.Rows.{Row, at, is_row, of}
+use Rattle.sqlite.specs.State.{Shown}
+use Rattle.shop_model.specs.Calendar.{day_of}
 use Rattle.shop_model.specs.Values as model
-use Rattle.shop_model.specs.Values.{Customer, Film, Rental, Terms}
-use Rattle.shop_model.specs.Shop.{Catalogue, Shop}
-use Rattle.shop_model.specs.Books.{Books, head, shop_of}
-use Rattle.shop_model.specs.Stock.{termed, is_overdue, film_of}
-use Rattle.shop_model.specs.Views.{overdue_row, overdue_list}
-use Rattle.shop_model.proofs.FoundLemmas.{at_one}
-use Rattle.shop_model.proofs.RowLemmas.{more_yes, more_no}
-use Rattle.shop_schema.specs.Columns.{moment_value, customer_columns, terms_columns}
-use Rattle.shop_schema.specs.RowValues.{IsRental}
-use Rattle.shop_schema.specs.Held.{IsHeld}
-use Rattle.shop_schema.specs.Shop.{Holds}
 use Rattle.shop_schema.proofs.Lists.{filter_twice}
 use Rattle.shop_schema.proofs.SameRows.{same_moment_value}
 use Rattle.shop_store.proofs.Ascending.{all_of}

@@ -1,6 +1,5 @@
 -- A page that takes one row more.
-use Rattle.std.proofs.Common.{◌≡◌, List, [], ◌∷◌, ◌++◌, map, refl, sym, ap, subst, ◌∙◌}
-use Rattle.std.proofs.lemmas.List.{map-append}
+use Rattle.shop_schema.proofs.Common.{◌≡◌, List, [], ◌∷◌, ◌++◌, map, refl, sym, ap, subst, ◌∙◌, map-append}
 use Rattle.serde_json.specs.Data.{Data}
 use Rattle.sqlite_value.specs.Order as sql
 use Rattle.shop_views.specs.Page.{Page, HasValues}

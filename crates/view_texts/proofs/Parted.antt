@@ -1,10 +1,5 @@
 -- Rows that are parted by a number that each of them names.
-use Rattle.std.proofs.Common.{◌≡◌, ◌==◌, ◌&&◌, ℕ, Bool, true, false, cond, List, [], ◌∷◌, ◌++◌, map, filter, refl, sym, ap, subst, ◌∙◌, append_assoc, IsPermutation}
-use Rattle.std.specs.List.{flat_map, AllByRecursion}
-use Rattle.std.proofs.lemmas.List.Sorted.{IsPermutation-refl, IsPermutation-trans, IsPermutation-append_left, IsPermutation-append_right, IsPermutation-append_comm}
-use Rattle.sqlite_keyed.proofs.ListLemmas.{map-map, filter_same, flat_map_none, flat_map_same_on, IsPermutation-same}
-use Rattle.shop_model.specs.Rows.{at, numbered}
-use Rattle.sql_rows.proofs.Queries.{kept_as_map}
+use Rattle.shop_schema.proofs.Common.{◌≡◌, ◌==◌, ◌&&◌, ℕ, Bool, true, false, cond, List, [], ◌∷◌, ◌++◌, map, filter, refl, sym, ap, subst, ◌∙◌, append_assoc, IsPermutation, flat_map, AllByRecursion, IsPermutation-refl, IsPermutation-trans, IsPermutation-append_left, IsPermutation-append_right, IsPermutation-append_comm, map-map, filter_same, flat_map_none, flat_map_same_on, IsPermutation-same, at, numbered, kept_as_map}
 use Rattle.shop_schema.proofs.Numbers.{numbered_at}
 use Rattle.view_texts.proofs.Casts.{turned}
 

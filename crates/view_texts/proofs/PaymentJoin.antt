@@ -1,31 +1,7 @@
 -- What the payments' join shows of the books: each payment of the branch with its rental's number and the category of the rental's film.
-use Rattle.std.proofs.Common.{◌≡◌, ◌==◌, ◌&&◌, ◌<◌, ℕ, List, [], ◌∷◌, map, filter, true, false, cond, Option, Some, None, refl, sym, ap, subst, ◌∙◌, is_eq, is_lt, append-nil, inl, inr}
-use Rattle.std.specs.Prelude.{◌⊎◌}
-use Rattle.std.specs.Option.{option_to_list}
-use Rattle.std.specs.List.{flat_map}
-use Rattle.sqlite.specs.declared.types.Value.{Value}
-use Rattle.sqlite.specs.declared.types.Value.TheVariants.{Null}
-use Rattle.sqlite.specs.Values.{or_null}
+use Rattle.shop_schema.proofs.Common.{◌≡◌, ◌==◌, ◌&&◌, ◌<◌, ℕ, List, [], ◌∷◌, map, filter, true, false, cond, Option, Some, None, refl, sym, ap, subst, ◌∙◌, is_eq, is_lt, append-nil, inl, inr, ◌⊎◌, option_to_list, flat_map, Value, Null, or_null, column, then-Equal, Trees, end, or_nulls, Output, output_cmp, overlay, State, map-map, ascending-map, ascending_weaker, IsPermutation-same, columns_of, number_value, answers, number_cmp, kept_as_map, one_tested, number_tested, or_blank, shown_of, equals, few_list, left_pair, left_no_pair, joined_rows, Climbs, Row, at, is_of, is_row, Film, Rental, Payment, Books, BookCopy, head, HasNumbers, at_one, shop_schema, film_columns, copy_columns, rental_columns, payment_columns, IsShop, StandsFor}
 use Rattle.sqlite_value.specs.Order as sql
-use Rattle.sqlite_value.specs.Order.{column}
-use Rattle.sqlite_value.proofs.OrderLemmas.{then-Equal}
-use Rattle.sqlite_trees.specs.Tree.{Trees}
-use Rattle.sqlite_sql.specs.Query.{end, or_nulls, Output, output_cmp}
-use Rattle.sqlite_sql.specs.Program.{overlay}
-use Rattle.sqlite.specs.State.{State, Shown}
-use Rattle.sqlite_keyed.proofs.ListLemmas.{map-map, ascending-map, ascending_weaker, IsPermutation-same}
-use Rattle.sql_rows.specs.Rows.{columns_of, number_value}
-use Rattle.sql_rows.proofs.Queries.{answers, number_cmp, kept_as_map}
-use Rattle.sql_rows.proofs.ColumnTests.{one_tested, number_tested}
-use Rattle.sql_rows.proofs.Joins.{or_blank, shown_of, equals, few_list, left_pair, left_no_pair, joined_rows, Climbs}
-use Rattle.shop_model.specs.Rows.{Row, at, is_of, is_row}
-use Rattle.shop_model.specs.Values.{Film, Rental, Payment}
-use Rattle.shop_model.specs.Books.{Books, BookCopy, head}
-use Rattle.shop_model.specs.Sound.{HasNumbers}
-use Rattle.shop_model.proofs.FoundLemmas.{at_one}
-use Rattle.shop_schema.specs.Tables.{shop_schema}
-use Rattle.shop_schema.specs.Columns.{film_columns, copy_columns, rental_columns, payment_columns}
-use Rattle.shop_schema.specs.Shop.{IsShop, StandsFor}
+use Rattle.sqlite.specs.State.{Shown}
 use Rattle.shop_schema.proofs.Lists.{picks_row}
 use Rattle.view_texts.specs.Payments.{category_in}
 use Rattle.shop_schema.proofs.Numbers.{left_number, left_null}

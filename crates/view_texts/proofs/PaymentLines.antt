@@ -1,24 +1,7 @@
 -- The lines of the payments' join, and the sales that they are, by one branch's shop.
-use Rattle.std.proofs.Common.{◌≡◌, ◌==◌, ◌&&◌, ℕ, List, [], ◌∷◌, ◌++◌, ◌+◌, map, filter, true, false, Bool, cond, Option, Some, None, refl, sym, ap, subst, ◌∙◌, append-nil, inl, inr}
-use Rattle.std.specs.Prelude.{◌⊎◌}
-use Rattle.std.specs.Option.{option_to_list}
-use Rattle.std.specs.List.{flat_map, list_any}
-use Rattle.std.proofs.lemmas.List.{map-id}
-use Rattle.sqlite.specs.Values.{or_null}
+use Rattle.shop_schema.proofs.Common.{◌≡◌, ◌==◌, ◌&&◌, ℕ, List, [], ◌∷◌, ◌++◌, ◌+◌, map, filter, true, false, Bool, cond, Option, Some, None, refl, sym, ap, subst, ◌∙◌, append-nil, inl, inr, ◌⊎◌, option_to_list, flat_map, list_any, map-id, or_null, State, map-map, map-flat_map, flat_map-map, flat_map_same_on, filter-map, filter_same, number_value, Row, at, is_of, is_row, of, total, IsCounted, Film, Copy, Rental, Payment, Catalogue, Shop, Books, BookCopy, head, unmarked, shop_of, film_of, HasNumbers, paid_rentals, takings, sales_of, same_if, row_at, at_one, IsShop, StandsFor}
 use Rattle.sqlite_value.specs.Order as sql
-use Rattle.sqlite.specs.State.{State, Shown}
-use Rattle.sqlite_keyed.proofs.ListLemmas.{map-map, map-flat_map, flat_map-map, flat_map_same_on, filter-map, filter_same}
-use Rattle.sql_rows.specs.Rows.{number_value}
-use Rattle.shop_model.specs.Rows.{Row, at, is_of, is_row, of, total, IsCounted}
-use Rattle.shop_model.specs.Values.{Film, Copy, Rental, Payment}
-use Rattle.shop_model.specs.Shop.{Catalogue, Shop}
-use Rattle.shop_model.specs.Books.{Books, BookCopy, head, unmarked, shop_of}
-use Rattle.shop_model.specs.Stock.{film_of}
-use Rattle.shop_model.specs.Sound.{HasNumbers}
-use Rattle.shop_model.specs.Views.{paid_rentals, takings, sales_of}
-use Rattle.shop_model.proofs.RowLemmas.{same_if, row_at}
-use Rattle.shop_model.proofs.FoundLemmas.{at_one}
-use Rattle.shop_schema.specs.Shop.{IsShop, StandsFor}
+use Rattle.sqlite.specs.State.{Shown}
 use Rattle.view_texts.specs.Payments.{PaidLine, shown_line, rentals_of, category_in, paid_line, paid_lines, Sale, sale, sale_in, is_sale_of}
 use Rattle.view_texts.proofs.PaymentQuery.{select_payments}
 use Rattle.view_texts.proofs.PaymentJoin.{rental_rows, copy_films, rental_films, shown_payment, shows_payments}

@@ -1,17 +1,7 @@
 -- What the text of the payments' join means.
-use Rattle.std.proofs.Common.{ℕ, List, [], ◌∷◌, codes, refl}
-use Rattle.sqlite_value.specs.Keys.{ascending}
-use Rattle.sqlite_value.specs.declared.keys.Key.{Key}
-use Rattle.sqlite_value.specs.declared.keys.Collation.TheVariants.{Binary}
-use Rattle.sqlite_sql.specs.Term.{Term, col}
-use Rattle.sqlite_sql.specs.Query.{Query, Join, inner, left, end}
+use Rattle.shop_schema.proofs.Common.{ℕ, List, [], ◌∷◌, codes, refl, ascending, Key, Binary, Term, col, Query, Join, inner, left, end, IsQuery, Selects, is_query, joined_query, are_equal, shop_schema}
 use Rattle.sqlite_tied.specs.Compute.{everything}
 use Rattle.sqlite.specs.Listing.{understood}
-use Rattle.sql_rows.specs.Texts.{IsQuery}
-use Rattle.sql_rows.proofs.Queries.{Selects}
-use Rattle.sql_rows.proofs.TextLemmas.{is_query}
-use Rattle.sql_rows.proofs.Joins.{joined_query, are_equal}
-use Rattle.shop_schema.specs.Tables.{shop_schema}
 
 abbrev pub select_payments : List ℕ
 select_payments = codes "SELECT p.amount, r.number, f.category FROM payment AS p LEFT JOIN rental AS r ON r.branch = p.branch AND r.number = p.rental LEFT JOIN copy AS c ON c.branch = p.branch AND c.number = r.copy LEFT JOIN film AS f ON f.number = c.film WHERE p.branch = ?1 ORDER BY p.number"

@@ -1,25 +1,8 @@
 -- What the joins of the lists of people show of the books.
-use Rattle.std.proofs.Common.{◌≡◌, ◌==◌, ◌<◌, ℕ, List, [], ◌∷◌, map, filter, false, cond, refl, ap, ◌∙◌, is_eq, is_lt}
-use Rattle.sqlite.specs.declared.types.Value.{Value}
-use Rattle.sqlite.specs.declared.types.Value.TheVariants.{Null, Text}
+use Rattle.shop_schema.proofs.Common.{◌≡◌, ◌==◌, ◌<◌, ℕ, List, [], ◌∷◌, map, filter, false, cond, refl, ap, ◌∙◌, is_eq, is_lt, Value, Null, then-Equal, Trees, end, Output, output_cmp, overlay, State, map-map, ascending-map, ascending-filter, ascending_weaker, IsPermutation-same, HasRows, number_value, flag_value, answers, number_cmp, kept_as_map, one_tested, number_tested, shown_of, joined_rows, Climbs, Row, is_of, numbered, IsCounted, Customer, Staff, Catalogue, Books, shop_schema, named_columns, city_columns, customer_columns, staff_columns, IsShop, StandsFor}
+use Rattle.sqlite.specs.declared.types.Value.TheVariants.{Text}
 use Rattle.sqlite_value.specs.Order as sql
-use Rattle.sqlite_value.proofs.OrderLemmas.{then-Equal}
-use Rattle.sqlite_trees.specs.Tree.{Trees}
-use Rattle.sqlite_sql.specs.Query.{end, Output, output_cmp}
-use Rattle.sqlite_sql.specs.Program.{overlay}
-use Rattle.sqlite.specs.State.{State, Shown}
-use Rattle.sqlite_keyed.proofs.ListLemmas.{map-map, ascending-map, ascending-filter, ascending_weaker, IsPermutation-same}
-use Rattle.sql_rows.specs.Rows.{HasRows, number_value, flag_value}
-use Rattle.sql_rows.proofs.Queries.{answers, number_cmp, kept_as_map}
-use Rattle.sql_rows.proofs.ColumnTests.{one_tested, number_tested}
-use Rattle.sql_rows.proofs.Joins.{shown_of, joined_rows, Climbs}
-use Rattle.shop_model.specs.Rows.{Row, is_of, numbered, IsCounted}
-use Rattle.shop_model.specs.Values.{Customer, Staff}
-use Rattle.shop_model.specs.Shop.{Catalogue}
-use Rattle.shop_model.specs.Books.{Books}
-use Rattle.shop_schema.specs.Tables.{shop_schema}
-use Rattle.shop_schema.specs.Columns.{named_columns, city_columns, customer_columns, staff_columns}
-use Rattle.shop_schema.specs.Shop.{IsShop, StandsFor}
+use Rattle.sqlite.specs.State.{Shown}
 use Rattle.shop_schema.proofs.Lasts.{numbered_counted}
 use Rattle.view_texts.specs.Shown.{shown_customer, shown_staff}
 use Rattle.view_texts.proofs.PeopleQueries.{with_city, select_customers, customers_query, customers_mean, customer_tests, customer_shows, customer_order, select_staff, staff_query, staff_mean, staff_tests, staff_shows, staff_order}

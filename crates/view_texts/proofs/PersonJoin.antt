@@ -1,23 +1,8 @@
 -- The names of a row's city and country, as they are joined.
-use Rattle.std.proofs.Common.{◌≡◌, ◌&&◌, ℕ, List, [], ◌∷◌, map, filter, true, refl, sym, ap, subst, ◌∙◌, append-nil, inl, inr}
-use Rattle.std.specs.Prelude.{◌⊎◌}
-use Rattle.std.specs.List.{flat_map}
-use Rattle.sqlite.specs.declared.types.Value.{Value}
-use Rattle.sqlite.specs.declared.types.Value.TheVariants.{Null, Text}
+use Rattle.shop_schema.proofs.Common.{◌≡◌, ◌&&◌, ℕ, List, [], ◌∷◌, map, filter, true, refl, sym, ap, subst, ◌∙◌, append-nil, inl, inr, ◌⊎◌, flat_map, Value, Null, column, Trees, Query, Join, or_nulls, Output, overlay, flat_map_same_on, HasRows, columns_of, number_value, or_blank, shown_of, equals, at, numbered, City, Catalogue, at_one, named_columns, city_columns}
+use Rattle.sqlite.specs.declared.types.Value.TheVariants.{Text}
 use Rattle.sqlite_value.specs.Order as sql
-use Rattle.sqlite_value.specs.Order.{column}
-use Rattle.sqlite_trees.specs.Tree.{Trees}
-use Rattle.sqlite_sql.specs.Query.{Query, Join, or_nulls, Output}
-use Rattle.sqlite_sql.specs.Program.{overlay}
-use Rattle.sqlite_keyed.proofs.ListLemmas.{flat_map_same_on}
-use Rattle.sql_rows.specs.Rows.{HasRows, columns_of, number_value}
-use Rattle.sql_rows.proofs.Joins.{or_blank, shown_of, equals}
-use Rattle.shop_model.specs.Rows.{at, numbered}
 use Rattle.shop_model.specs.Values as model
-use Rattle.shop_model.specs.Values.{City}
-use Rattle.shop_model.specs.Shop.{Catalogue}
-use Rattle.shop_model.proofs.FoundLemmas.{at_one}
-use Rattle.shop_schema.specs.Columns.{named_columns, city_columns}
 use Rattle.view_texts.specs.Shown.{name_or_null}
 use Rattle.shop_schema.proofs.Numbers.{left_number, left_null}
 use Rattle.view_texts.proofs.PeopleQueries.{country_then, city_then}

@@ -1,16 +1,8 @@
 -- A row of the people's joins, read and listed.
-use Rattle.std.proofs.Common.{◌≡◌, ◌+◌, ℕ, List, [], ◌∷◌, ◌++◌, map, refl, sym, ap, subst, ◌∙◌, inl, inr, append-nil}
-use Rattle.std.specs.Prelude.{◌⊎◌}
-use Rattle.std.specs.List.{flat_map}
+use Rattle.shop_schema.proofs.Common.{◌≡◌, ◌+◌, ℕ, List, [], ◌∷◌, ◌++◌, map, refl, sym, ap, subst, ◌∙◌, inl, inr, append-nil, ◌⊎◌, flat_map, column, Row, at, numbered_from, IsCounted, Person, City, Customer, Catalogue, PersonRow, full_name, city_name, country_name, person_row, at_one}
 use Rattle.sqlite.specs.declared.types.Value.TheVariants.{Text}
 use Rattle.sqlite_value.specs.Order as sql
-use Rattle.sqlite_value.specs.Order.{column}
-use Rattle.shop_model.specs.Rows.{Row, at, numbered_from, IsCounted}
 use Rattle.shop_model.specs.Values as model
-use Rattle.shop_model.specs.Values.{Person, City, Customer}
-use Rattle.shop_model.specs.Shop.{Catalogue}
-use Rattle.shop_model.specs.Views.{PersonRow, full_name, city_name, country_name, person_row}
-use Rattle.shop_model.proofs.FoundLemmas.{at_one}
 use Rattle.shop_views.specs.People.{seen_person}
 use Rattle.shop_views.specs.declared.people.ListedPerson.{ListedPerson}
 use Rattle.view_texts.specs.Shown.{name_or_null, text_or_empty, shown_person, listed_customer}

@@ -1,21 +1,9 @@
 -- Rows of a branch and of its payments, read and added up.
-use Rattle.std.proofs.Common.{◌≡◌, ◌+◌, ℕ, List, [], ◌∷◌, ◌++◌, map, true, Option, Some, None, option_map, refl, sym, ap, subst, ◌∙◌, arith, inl, inr, append-nil}
-use Rattle.std.specs.Prelude.{◌⊎◌, is_some, unwrap_or, if◌then◌else◌, codes}
-use Rattle.std.specs.Option.{option_to_list}
-use Rattle.std.specs.List.{flat_map}
-use Rattle.sqlite.specs.declared.types.Value.TheVariants.{Null, Text}
-use Rattle.sqlite.specs.Values.{or_null}
+use Rattle.shop_schema.proofs.Common.{◌≡◌, ◌+◌, ℕ, List, [], ◌∷◌, ◌++◌, map, true, Option, Some, None, option_map, refl, sym, ap, subst, ◌∙◌, arith, inl, inr, append-nil, ◌⊎◌, is_some, unwrap_or, if◌then◌else◌, option_to_list, flat_map, Null, or_null, column, number_value, same_number, at, is_empty, total, Branch, Staff, Rental, Payment, Catalogue, Books, head, shop_of, full_name, person_name, manager_name, city_name, country_name, paid_rentals, takings, at_one}
+use Rattle.std.specs.Prelude.{codes}
+use Rattle.sqlite.specs.declared.types.Value.TheVariants.{Text}
 use Rattle.sqlite_value.specs.Order as sql
-use Rattle.sqlite_value.specs.Order.{column}
-use Rattle.sql_rows.specs.Rows.{number_value}
-use Rattle.sql_rows.proofs.ColumnTests.{same_number}
-use Rattle.shop_model.specs.Rows.{at, is_empty, total}
 use Rattle.shop_model.specs.Values as model
-use Rattle.shop_model.specs.Values.{Branch, Staff, Rental, Payment}
-use Rattle.shop_model.specs.Shop.{Catalogue}
-use Rattle.shop_model.specs.Books.{Books, head, shop_of}
-use Rattle.shop_model.specs.Views.{full_name, person_name, manager_name, city_name, country_name, paid_rentals, takings}
-use Rattle.shop_model.proofs.FoundLemmas.{at_one}
 use Rattle.shop_schema.proofs.Lists.{flat_map_push}
 use Rattle.shop_views.specs.Sales.{manager_text}
 use Rattle.shop_views.specs.declared.names.PersonName.{PersonName}

@@ -1,17 +1,8 @@
 -- Branches that are listed one after the other.
-use Rattle.std.proofs.Common.{◌≡◌, ◌==◌, ◌+◌, ◌-◌, ℕ, List, [], ◌∷◌, ◌++◌, map, true, false, Bool, not, length, cond, Option, Some, None, refl, sym, ap, subst, ◌∙◌, arith, append-nil}
-use Rattle.std.specs.Prelude.{if◌then◌else◌}
-use Rattle.std.specs.List.{flat_map}
-use Rattle.std.proofs.lemmas.Bool.Decides.{nat_tests}
-use Rattle.std.proofs.lemmas.List.{map-append, append_assoc}
+use Rattle.shop_schema.proofs.Common.{◌≡◌, ◌==◌, ◌+◌, ◌-◌, ℕ, List, [], ◌∷◌, ◌++◌, map, true, false, Bool, not, length, cond, Option, Some, None, refl, sym, ap, subst, ◌∙◌, arith, append-nil, if◌then◌else◌, flat_map, nat_tests, map-append, at, is_empty, lacks, numbered, Branch, Rental, Payment, Books, head, shop_of, StoreRow, paid_rentals, takings, found_none, found_some, numbered_push}
+use Rattle.std.proofs.lemmas.List.{append_assoc}
 use Rattle.serde_json.specs.Data.{Data}
-use Rattle.shop_model.specs.Rows.{at, is_empty, lacks, numbered}
-use Rattle.shop_model.specs.Values.{Branch, Rental, Payment}
-use Rattle.shop_model.specs.Books.{Books, head, shop_of}
-use Rattle.shop_model.specs.Views.{StoreRow, paid_rentals, takings}
-use Rattle.shop_model.proofs.FoundLemmas.{found_none, found_some}
 use Rattle.shop_schema.proofs.Lists.{flat_map_push}
-use Rattle.shop_model.proofs.RowLemmas.{numbered_push}
 use Rattle.shop_views.specs.Page.{Page, HasValues}
 use Rattle.shop_views.specs.Sales.{store_data}
 use Rattle.view_texts.specs.Sales.{rental_sum, store_with, sales_of_branch, sales_of_first}

@@ -1,17 +1,6 @@
 -- Calls in a row that look and change nothing.
-use Rattle.std.proofs.Common.{◌≡◌, false, sym, subst, arith, IsTrue}
-use Rattle.sqlite_trees.specs.declared.store.Store.{Ghosts}
-use Rattle.sqlite.specs.Effect.{Database}
-use Rattle.sqlite.specs.Held.{Held, state}
-use Rattle.sqlite.specs.State.{State, HasCleanDisk, IsUnchanged, KeepsCommit, Survives}
-use Rattle.sqlite.proofs.Callers.{unchanged_then}
+use Rattle.shop_schema.proofs.Common.{◌≡◌, false, sym, subst, arith, IsTrue, Ghosts, Database, Held, state, State, HasCleanDisk, IsUnchanged, KeepsCommit, Survives, unchanged_then, AreKeyed, survives_more, Books, shop_schema, Holds, StandsFor, IsHeld}
 use Rattle.sqlite.proofs.InsideLemmas.{keeps_then}
-use Rattle.sql_rows.specs.Rows.{AreKeyed}
-use Rattle.sql_rows.proofs.Stays.{survives_more}
-use Rattle.shop_model.specs.Books.{Books}
-use Rattle.shop_schema.specs.Tables.{shop_schema}
-use Rattle.shop_schema.specs.Shop.{Holds, StandsFor}
-use Rattle.shop_schema.specs.Held.{IsHeld}
 
 -- tables that are as they were stand for the same books
 pub holds_still : (old new : State) (books : Books) → IsUnchanged old new → Holds old books → Holds new books

@@ -1,7 +1,5 @@
-use Rattle.std.proofs.Common.{◌≡◌, ◌∙◌, sym, ap, Bool}
+use Rattle.shop_schema.proofs.Common.{◌≡◌, ◌∙◌, sym, ap, Bool, list_any, mem}
 use Rattle.std.specs.Prelude.{◌||◌}
-use Rattle.std.specs.List.{list_any}
-use Rattle.shop_model.specs.Rows.{mem}
 use Rattle.shop_schema.proofs.Readings.{reads_as}
 use Rattle.consign_finds.proofs.Chained.{call_inside, calls_then}
 use Rattle.consign_finds.proofs.Among.{among_listed}

@@ -1,8 +1,4 @@
-use Rattle.std.proofs.Common.{◌≡◌, ◌∙◌, sym, ap, [], ◌∷◌, List, Option, option_map, map, Bool, ℕ}
-use Rattle.std.specs.Option.{option_to_list}
-use Rattle.std.proofs.lemmas.Option.{cond_some}
-use Rattle.shop_model.specs.Books.{Mark}
-use Rattle.shop_types.specs.Seen.{seen_parcel_line}
+use Rattle.shop_schema.proofs.Common.{◌≡◌, ◌∙◌, sym, ap, [], ◌∷◌, List, Option, option_map, map, Bool, ℕ, option_to_list, cond_some, Mark, seen_parcel_line}
 use Rattle.consign_store.specs.Parts.{Header}
 use Rattle.consign_store.specs.Seen.{seen_header}
 use Rattle.consign_store.specs.declared.headers.HeaderRow.{HeaderRow}

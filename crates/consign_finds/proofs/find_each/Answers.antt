@@ -1,12 +1,5 @@
-use Rattle.std.proofs.Common.{◌≡◌, ◌∙◌, ◌++◌, ◌∷◌, [], refl, sym, ap, arith, map, not, ℕ, Bool, false, List, Some}
+use Rattle.shop_schema.proofs.Common.{◌≡◌, ◌∙◌, ◌++◌, ◌∷◌, [], refl, sym, ap, arith, map, not, ℕ, Bool, false, List, Some, take_all, state, HasCleanDisk, within_as, within_err, within_then, Mark, seen_parcel_line, ParcelLine}
 use Rattle.std.specs.Prelude.{◌||◌}
-use Rattle.std.proofs.lemmas.List.{take_all}
-use Rattle.sqlite.specs.Held.{state}
-use Rattle.sqlite.specs.State.{HasCleanDisk}
-use Rattle.sql_rows.proofs.Stays.{within_as, within_err, within_then}
-use Rattle.shop_model.specs.Books.{Mark}
-use Rattle.shop_types.specs.Seen.{seen_parcel_line}
-use Rattle.shop_types.specs.declared.parcel.ParcelLine.{ParcelLine}
 use Rattle.shop_store.specs.Seen.{seen_copy_row}
 use Rattle.shop_schema.proofs.Readings.{reads_then, reads_as}
 use Rattle.branch_core.specs.Marked.{listed_at}

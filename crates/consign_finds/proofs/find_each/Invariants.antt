@@ -1,12 +1,4 @@
-use Rattle.std.proofs.Common.{◌≡◌, Ok, take, map, ℕ, Bool, false, List}
-use Rattle.std.specs.Prelude.{⊤}
-use Rattle.sqlite.specs.Held.{state}
-use Rattle.sqlite.specs.State.{HasCleanDisk}
-use Rattle.sql_rows.specs.Calls.{StaysWithin}
-use Rattle.sql_rows.specs.declared.fault.StoreFault.{StoreFault}
-use Rattle.shop_model.specs.Books.{Mark}
-use Rattle.shop_types.specs.Seen.{seen_parcel_line}
-use Rattle.shop_schema.specs.Shop.{Reads}
+use Rattle.shop_schema.proofs.Common.{◌≡◌, Ok, take, map, ℕ, Bool, false, List, ⊤, state, HasCleanDisk, StaysWithin, StoreFault, Mark, seen_parcel_line, Reads}
 use Rattle.branch_core.specs.Marked.{listed_at}
 use Rattle.consign_finds.proofs.find_each.Given as goal
 

@@ -1,6 +1,4 @@
-use Rattle.std.proofs.Common.{◌∙◌, ap, List, ℕ, subst}
-use Rattle.std.specs.Prelude.{is_some}
-use Rattle.shop_model.specs.Rows.{at}
+use Rattle.shop_schema.proofs.Common.{◌∙◌, ap, List, ℕ, subst, is_some, at}
 use Rattle.shop_store.specs.SharedSeen.{manager_of}
 use Rattle.shop_schema.proofs.Readings.{reads_as}
 use Rattle.consign_finds.specs.Finds.{AreListed}

@@ -1,7 +1,4 @@
-use Rattle.std.proofs.Common.{◌∙◌, sym}
-use Rattle.shop_model.specs.Rows.{of}
-use Rattle.shop_model.specs.Books.{unmarked}
-use Rattle.shop_model.proofs.RowLemmas.{length_map}
+use Rattle.shop_schema.proofs.Common.{◌∙◌, sym, of, unmarked, length_map}
 use Rattle.branch_core.proofs.MarkLemmas.{arrival_agrees}
 use Rattle.shop_schema.proofs.Readings.{reads_as}
 use Rattle.consign_finds.proofs.Chained.{call_inside, call_within, calls_then}

@@ -1,10 +1,4 @@
-use Rattle.std.proofs.Common.{◌∙◌, sym, true, subst, arith}
-use Rattle.std.proofs.lemmas.Result.{IfOk-weaker}
-use Rattle.sqlite.specs.Held.{state}
-use Rattle.sqlite.specs.State.{HasCleanDisk}
-use Rattle.shop_model.specs.Rows.{of}
-use Rattle.shop_model.specs.Books.{shop_of, unmarked}
-use Rattle.shop_model.proofs.RowLemmas.{length_map}
+use Rattle.shop_schema.proofs.Common.{◌∙◌, sym, true, subst, arith, IfOk-weaker, state, HasCleanDisk, of, shop_of, unmarked, length_map}
 use Rattle.branch_core.specs.declared.found.ListedFound.{ListedFound}
 use Rattle.shop_schema.proofs.Readings.{reads_as, reads_then}
 use Rattle.consign_finds.specs.Finds.{AreListed}

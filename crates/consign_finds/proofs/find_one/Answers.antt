@@ -1,6 +1,4 @@
-use Rattle.std.proofs.Common.{◌∙◌, sym, ap, List, Option, option_map}
-use Rattle.std.specs.Option.{option_to_list}
-use Rattle.shop_model.specs.Books.{BookCopy, shop_of}
+use Rattle.shop_schema.proofs.Common.{◌∙◌, sym, ap, List, Option, option_map, option_to_list, BookCopy, shop_of}
 use Rattle.shop_store.specs.Seen.{seen_copy_row}
 use Rattle.shop_store.specs.declared.copies.CopyRow.{CopyRow}
 use Rattle.shop_schema.proofs.Readings.{reads_as}

@@ -1,7 +1,4 @@
-use Rattle.std.proofs.Common.{◌∙◌, sym, ap, List, ℕ}
-use Rattle.std.specs.List.{list_any}
-use Rattle.std.proofs.lemmas.List.{take_all}
-use Rattle.shop_model.specs.Rows.{mem}
+use Rattle.shop_schema.proofs.Common.{◌∙◌, sym, ap, List, ℕ, list_any, take_all, mem}
 use Rattle.consign_finds.proofs.Among.{told_by_search, some_among, none_among}
 use Rattle.consign_finds.proofs.has_any.Goals as goal
 

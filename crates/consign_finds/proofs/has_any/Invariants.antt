@@ -1,6 +1,4 @@
-use Rattle.std.proofs.Common.{◌≡◌, false, take}
-use Rattle.std.specs.List.{list_any}
-use Rattle.shop_model.specs.Rows.{mem}
+use Rattle.shop_schema.proofs.Common.{◌≡◌, false, take, list_any, mem}
 use Rattle.consign_finds.proofs.has_any.Given as goal
 
 -- none of those so far is among the numbers

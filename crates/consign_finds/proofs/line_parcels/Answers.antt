@@ -1,5 +1,4 @@
-use Rattle.std.proofs.Common.{◌∙◌, ◌++◌, ◌∷◌, [], sym, ap, map}
-use Rattle.std.proofs.lemmas.List.{map_more, take_all}
+use Rattle.shop_schema.proofs.Common.{◌∙◌, ◌++◌, ◌∷◌, [], sym, ap, map, map_more, take_all}
 use Rattle.consign_finds.specs.Finds.{line_parcel}
 use Rattle.consign_finds.proofs.line_parcels.Goals as goal
 

@@ -1,5 +1,4 @@
-use Rattle.sql_rows.proofs.Inside.{on_ok_then}
-use Rattle.sql_rows.proofs.Stays.{clean_before}
+use Rattle.shop_schema.proofs.Common.{on_ok_then, clean_before}
 use Rattle.shop_migration.proofs.MigrateTexts.{tables_made, tables_keyed, tables_left, tables_added}
 use Rattle.shop_migration.proofs.add_tables.Goals as goal
 

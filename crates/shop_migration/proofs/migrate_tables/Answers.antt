@@ -1,6 +1,4 @@
-use Rattle.sql_rows.proofs.Inside.{on_ok_then}
-use Rattle.sql_rows.proofs.Stays.{clean_before}
-use Rattle.sqlite.specs.Held.{state}
+use Rattle.shop_schema.proofs.Common.{on_ok_then, clean_before, state}
 use Rattle.shop_migration.proofs.MigrateTexts.{all_migrated}
 use Rattle.shop_migration.proofs.MigrateBack.{tells_still, stood}
 use Rattle.shop_migration.proofs.migrate_tables.Goals as goal

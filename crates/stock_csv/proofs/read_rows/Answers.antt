@@ -1,5 +1,4 @@
-use Rattle.std.proofs.Common.{◌≡◌, ◌∙◌, Err, true, ap, arith, rules}
-use Rattle.std.specs.Result.{is_ok}
+use Rattle.shop_types.proofs.Common.{◌≡◌, ◌∙◌, Err, true, ap, arith, rules, is_ok}
 use Rattle.csv.specs.Records.{fields_of}
 use Rattle.stock_csv.proofs.RowLemmas.{ends_first, ends_later, goes_on, is_bad, is_over, is_past}
 use Rattle.stock_csv.proofs.read_rows.Goals as goal

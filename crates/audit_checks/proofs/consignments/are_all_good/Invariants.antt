@@ -1,5 +1,4 @@
-use Rattle.std.proofs.Common.{◌≡◌, map, drop}
-use Rattle.std.specs.List.{list_all}
+use Rattle.shop_types.proofs.Common.{◌≡◌, map, drop, list_all}
 use Rattle.audit_checks.specs.Consignments.{is_good_line}
 use Rattle.audit_rows.specs.Seen.{seen_line}
 use Rattle.audit_checks.proofs.consignments.are_all_good.Given as goal

@@ -1,5 +1,4 @@
-use Rattle.std.proofs.Common.{rules, ◌≡◌, ◌∷◌, [], ℕ, List, ◌∙◌, sym, ap, map, drop, ◌+◌, true, false}
-use Rattle.std.specs.Str.{bytes_eq}
+use Rattle.shop_types.proofs.Common.{rules, ◌≡◌, ◌∷◌, [], ℕ, List, ◌∙◌, sym, ap, map, drop, ◌+◌, true, false, bytes_eq}
 use Rattle.audit_rows.specs.declared.rows.CheckedLine.{CheckedLine}
 use Rattle.audit_rows.specs.Lists.{front_of, back_of}
 use Rattle.audit_rows.specs.Joins.{header_key}

@@ -1,5 +1,4 @@
-use Rattle.std.proofs.Common.{◌∙◌, ap, subst, List, ℕ, IsPermutation}
-use Rattle.std.proofs.lemmas.List.Sorted.{IsPermutation-sym, IsPermutation-trans}
+use Rattle.shop_types.proofs.Common.{◌∙◌, ap, subst, List, ℕ, IsPermutation, IsPermutation-sym, IsPermutation-trans}
 use Rattle.audit_rows.specs.Lists.{counts_from}
 use Rattle.audit_checks.proofs.ConsignmentLemmas.{sorted_counts}
 use Rattle.audit_checks.proofs.consignments.places_count.Goals as goal

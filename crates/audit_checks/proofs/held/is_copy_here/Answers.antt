@@ -1,7 +1,4 @@
-use Rattle.std.proofs.Common.{◌∙◌, sym, ap, map}
-use Rattle.std.specs.List.{list_any}
-use Rattle.shop_model.specs.Rows.{at}
-use Rattle.shop_model.specs.Stock.{is_here}
+use Rattle.shop_types.proofs.Common.{◌∙◌, sym, ap, map, list_any, at, is_here}
 use Rattle.audit_rows.specs.Seen.{shop_copy}
 use Rattle.audit_rows.proofs.ShopLemmas.{alone, at_found, at_missing}
 use Rattle.audit_checks.proofs.held.is_copy_here.Goals as goal

@@ -1,8 +1,4 @@
-use Rattle.std.proofs.Common.{◌==◌, ◌∙◌, sym, ap, map}
-use Rattle.std.specs.List.{list_any}
-use Rattle.shop_model.specs.Rows.{at}
-use Rattle.shop_model.specs.Values.{Rental}
-use Rattle.shop_types.specs.Seen.{seen_rental}
+use Rattle.shop_types.proofs.Common.{◌==◌, ◌∙◌, sym, ap, map, list_any, at, Rental, seen_rental}
 use Rattle.audit_rows.specs.declared.rows.CheckedRental.{CheckedRental}
 use Rattle.audit_rows.proofs.ShopLemmas.{alone, at_found, at_missing}
 use Rattle.audit_checks.proofs.links.is_rental_of.Goals as goal

@@ -1,6 +1,4 @@
-use Rattle.std.proofs.Common.{◌==◌, ◌∙◌, sym, ap}
-use Rattle.std.specs.List.{list_any}
-use Rattle.shop_model.specs.Rows.{at}
+use Rattle.shop_types.proofs.Common.{◌==◌, ◌∙◌, sym, ap, list_any, at}
 use Rattle.audit_rows.specs.declared.rows.CheckedStaff.{CheckedStaff}
 use Rattle.audit_rows.proofs.ShopLemmas.{alone, at_place, at_no_place}
 use Rattle.audit_checks.proofs.links.is_staff_of.Goals as goal

@@ -1,6 +1,4 @@
-use Rattle.std.proofs.Common.{[], ◌∷◌, ◌∙◌, ap, sym}
-use Rattle.std.specs.Str.{bytes_eq}
-use Rattle.shop_model.specs.Links.{are_different}
+use Rattle.shop_types.proofs.Common.{[], ◌∷◌, ◌∙◌, ap, sym, bytes_eq, are_different}
 use Rattle.audit_checks.specs.declared.shop.OpenKey.{OpenKey}
 use Rattle.audit_rows.proofs.Keys.{different-map}
 use Rattle.audit_checks.proofs.shop.are_held_once.Goals as goal

@@ -1,5 +1,4 @@
-use Rattle.std.proofs.Common.{◌≡◌, ◌++◌, [], ◌∷◌, map, drop}
-use Rattle.shop_types.specs.Seen.{seen_rental}
+use Rattle.shop_types.proofs.Common.{◌≡◌, ◌++◌, [], ◌∷◌, map, drop, seen_rental}
 use Rattle.audit_rows.specs.Shops.{open_keys}
 use Rattle.audit_checks.proofs.shop.open_copies.Given as goal
 

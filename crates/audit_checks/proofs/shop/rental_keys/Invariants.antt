@@ -1,7 +1,4 @@
-use Rattle.std.proofs.Common.{◌≡◌, ◌++◌, ◌∷◌, map, drop}
-use Rattle.std.specs.List.{AllByRecursion}
-use Rattle.shop_model.specs.Calendar.{IsMoment}
-use Rattle.shop_types.specs.Seen.{seen_rental}
+use Rattle.shop_types.proofs.Common.{◌≡◌, ◌++◌, ◌∷◌, map, drop, AllByRecursion, IsMoment, seen_rental}
 use Rattle.audit_rows.specs.Shops.{rental_key}
 use Rattle.audit_checks.proofs.shop.rental_keys.Given as goal
 

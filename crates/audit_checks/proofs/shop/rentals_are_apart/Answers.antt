@@ -1,8 +1,4 @@
-use Rattle.std.proofs.Common.{◌∷◌, ◌∙◌, ap, sym}
-use Rattle.std.specs.Str.{bytes_eq}
-use Rattle.shop_model.specs.Calendar.{moment_text}
-use Rattle.shop_model.specs.Links.{are_different}
-use Rattle.shop_types.specs.Seen.{seen_rental}
+use Rattle.shop_types.proofs.Common.{◌∷◌, ◌∙◌, ap, sym, bytes_eq, moment_text, are_different, seen_rental}
 use Rattle.audit_rows.specs.declared.rows.CheckedRental.{CheckedRental}
 use Rattle.audit_checks.specs.declared.shop.RentalKey.{RentalKey}
 use Rattle.audit_rows.proofs.Keys.{different-map}

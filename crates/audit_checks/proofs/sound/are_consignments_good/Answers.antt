@@ -1,7 +1,4 @@
-use Rattle.std.proofs.Common.{rules, ◌≡◌, ◌&&◌, ◌∙◌, ℕ, List, IsPermutation, IsSorted, length, map, sym, ap, subst}
-use Rattle.std.specs.Ordering.{nat_cmp}
-use Rattle.std.proofs.lemmas.Result.{IfOk-weaker}
-use Rattle.shop_model.specs.Books.{Consignment}
+use Rattle.shop_types.proofs.Common.{rules, ◌≡◌, ◌&&◌, ◌∙◌, ℕ, List, IsPermutation, IsSorted, length, map, sym, ap, subst, nat_cmp, IfOk-weaker, Consignment}
 use Rattle.audit_rows.specs.declared.rows.CheckedHeader.{CheckedHeader}
 use Rattle.audit_rows.specs.Lists.{counts_from}
 use Rattle.audit_rows.specs.Seen.{seen_header, seen_placed}

@@ -1,5 +1,4 @@
-use Rattle.std.proofs.Common.{◌≡◌, drop}
-use Rattle.std.specs.List.{list_all}
+use Rattle.shop_types.proofs.Common.{◌≡◌, drop, list_all}
 use Rattle.audit_rows.specs.Shops.{is_among}
 use Rattle.audit_checks.proofs.sound.have_owners.Given as goal
 

@@ -1,9 +1,5 @@
-use Rattle.std.proofs.Common.{List}
-use Rattle.std.specs.Prelude.{◌↔◌, IsTrue}
-use Rattle.std.proofs.lemmas.Result.{IfOk-weaker}
-use Rattle.shop_model.specs.Values.{Rules}
-use Rattle.shop_model.specs.Books.{Books, Consignment}
-use Rattle.shop_model.specs.Sound.{IsSound, widest}
+use Rattle.shop_types.proofs.Common.{List, IsTrue, IfOk-weaker, Rules, Books, Consignment, IsSound, widest}
+use Rattle.std.specs.Prelude.{◌↔◌}
 use Rattle.audit_rows.specs.Ordered.{AreConsignmentsOf, HaveOrderedRows}
 use Rattle.audit_checks.specs.Checked.{AreChecked}
 use Rattle.audit_checks.proofs.SoundLemmas.{sound_from_checks, checks_from_sound}

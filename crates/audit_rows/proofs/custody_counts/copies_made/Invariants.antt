@@ -1,5 +1,4 @@
-use Rattle.std.proofs.Common.{◌≡◌, ◌+◌, ◌≤◌, map, drop}
-use Rattle.shop_model.specs.Sound.{rows_made}
+use Rattle.shop_types.proofs.Common.{◌≡◌, ◌+◌, ◌≤◌, map, drop, rows_made}
 use Rattle.audit_rows.specs.Seen.{seen_copy}
 use Rattle.audit_rows.specs.Marked.{any_mark}
 use Rattle.audit_rows.proofs.custody_counts.copies_made.Given as goal

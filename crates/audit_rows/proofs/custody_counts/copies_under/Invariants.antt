@@ -1,7 +1,5 @@
-use Rattle.std.proofs.Common.{◌≡◌, ◌+◌, ◌≤◌, map, drop}
-use Rattle.shop_model.specs.Sound.{rows_in}
+use Rattle.shop_types.proofs.Common.{◌≡◌, ◌+◌, ◌≤◌, map, drop, rows_in, seen_state}
 use Rattle.audit_rows.specs.Seen.{seen_copy}
-use Rattle.shop_types.specs.Seen.{seen_state}
 use Rattle.audit_rows.specs.Marked.{any_mark}
 use Rattle.audit_rows.proofs.custody_counts.copies_under.Given as goal
 

@@ -1,7 +1,5 @@
-use Rattle.std.proofs.Common.{◌≡◌, ◌+◌, ◌≤◌, map, drop}
-use Rattle.shop_model.specs.Sound.{lines_in}
+use Rattle.shop_types.proofs.Common.{◌≡◌, ◌+◌, ◌≤◌, map, drop, lines_in, seen_line_state}
 use Rattle.audit_rows.specs.Seen.{seen_line}
-use Rattle.shop_types.specs.Seen.{seen_line_state}
 use Rattle.audit_rows.specs.Marked.{any_mark}
 use Rattle.audit_rows.proofs.custody_counts.lines_under.Given as goal
 

@@ -1,5 +1,4 @@
-use Rattle.std.proofs.Common.{◌≡◌, ◌++◌, take, drop}
-use Rattle.std.specs.Str.{bytes_eq}
+use Rattle.shop_types.proofs.Common.{◌≡◌, ◌++◌, take, drop, bytes_eq}
 use Rattle.audit_rows.specs.Lists.{front_of, back_of}
 use Rattle.audit_rows.proofs.groups.split_group.Given as goal
 

@@ -1,6 +1,4 @@
-use Rattle.std.proofs.Common.{◌≡◌, map, drop}
-use Rattle.std.specs.Str.{bytes_eq}
-use Rattle.std.specs.List.{list_any, list_all}
+use Rattle.shop_types.proofs.Common.{◌≡◌, map, drop, bytes_eq, list_any, list_all}
 use Rattle.audit_rows.proofs.order.are_among.Given as goal
 
 abbrev pub invariant-loop-row : goal.invariant-loop-row

@@ -1,6 +1,4 @@
-use Rattle.std.proofs.Common.{rules, ◌∙◌}
-use Rattle.std.specs.Ordering.{nat_cmp}
-use Rattle.std.specs.Cmp.Lexicographic.{slice_cmp}
+use Rattle.shop_types.proofs.Common.{rules, ◌∙◌, nat_cmp, slice_cmp}
 use Rattle.std.proofs.lemmas.Fn.{always_returns_same}
 use Rattle.audit_rows.proofs.Searches.{searched_key}
 use Rattle.audit_rows.proofs.order.has_key.Goals as goal

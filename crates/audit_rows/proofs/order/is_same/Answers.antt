@@ -1,5 +1,4 @@
-use Rattle.std.proofs.Common.{◌∙◌, ap, sym, is_eq}
-use Rattle.std.proofs.lemmas.Cmp.{is_eq_index}
+use Rattle.shop_types.proofs.Common.{◌∙◌, ap, sym, is_eq, is_eq_index}
 use Rattle.std.proofs.lemmas.Map.Text.{is_eq-slice_cmp}
 use Rattle.audit_rows.proofs.order.is_same.Goals as goal
 

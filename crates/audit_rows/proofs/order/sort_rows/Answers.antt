@@ -1,8 +1,4 @@
-use Rattle.std.proofs.Common.{rules, is_lt}
-use Rattle.std.specs.Ordering.{nat_cmp}
-use Rattle.std.specs.Cmp.Lexicographic.{slice_cmp}
-use Rattle.std.proofs.lemmas.Cmp.{nat_list_cmp_total}
-use Rattle.std.proofs.lemmas.List.Sorted.{ranks_by, answers_always}
+use Rattle.shop_types.proofs.Common.{rules, is_lt, nat_cmp, slice_cmp, nat_list_cmp_total, ranks_by, answers_always}
 use Rattle.audit_rows.proofs.order.sort_rows.Goals as goal
 
 pub returns-clause-sorted : goal.returns-clause-sorted

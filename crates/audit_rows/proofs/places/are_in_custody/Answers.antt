@@ -1,11 +1,6 @@
-use Rattle.std.proofs.Common.{◌≡◌, ◌∙◌, ◌&&◌, ◌++◌, List, ap, sym, map, true≢false, true, false}
-use Rattle.std.specs.List.{list_any, list_all}
-use Rattle.std.specs.Str.{bytes_eq}
-use Rattle.shop_model.specs.Rows.{Row}
-use Rattle.shop_model.specs.Books.{BookCopy, Line}
+use Rattle.shop_types.proofs.Common.{◌≡◌, ◌∙◌, ◌&&◌, ◌++◌, List, ap, sym, map, true≢false, true, false, list_any, list_all, bytes_eq, Row, BookCopy, Line, seen_mark}
 use Rattle.audit_rows.specs.Lists.{Key}
 use Rattle.audit_rows.specs.Seen.{seen_copy, seen_line}
-use Rattle.shop_types.specs.Seen.{seen_mark}
 use Rattle.audit_rows.specs.Marked.{film_key, mark_key, made_keys, places_are_single, rows_placed, lines_placed}
 use Rattle.audit_rows.specs.declared.places.MarkedFilm.{MarkedFilm}
 use Rattle.audit_rows.proofs.MarkLemmas.{any_sorted, cut, cut_rows, rows_found, lines_found, from_checks, to_checks}

@@ -1,10 +1,6 @@
-use Rattle.std.proofs.Common.{◌≡◌, ◌∙◌, ◌&&◌, List, ap, sym, map}
-use Rattle.std.specs.List.{list_any, list_all}
-use Rattle.std.specs.Str.{bytes_eq}
-use Rattle.shop_model.specs.Links.{are_different}
+use Rattle.shop_types.proofs.Common.{◌≡◌, ◌∙◌, ◌&&◌, List, ap, sym, map, list_any, list_all, bytes_eq, are_different, seen_mark}
 use Rattle.audit_rows.specs.Lists.{Key}
 use Rattle.audit_rows.specs.Seen.{seen_copy}
-use Rattle.shop_types.specs.Seen.{seen_mark}
 use Rattle.audit_rows.specs.Marked.{mark_key, made_keys}
 use Rattle.audit_rows.specs.declared.places.MarkRow.{MarkRow}
 use Rattle.audit_rows.specs.declared.places.MarkedFilm.{MarkedFilm}

@@ -1,6 +1,5 @@
-use Rattle.std.proofs.Common.{◌≡◌, ◌++◌, map, drop}
+use Rattle.shop_types.proofs.Common.{◌≡◌, ◌++◌, map, drop, seen_mark}
 use Rattle.audit_rows.specs.Seen.{seen_copy}
-use Rattle.shop_types.specs.Seen.{seen_mark}
 use Rattle.audit_rows.specs.Marked.{mark_key, made_keys}
 use Rattle.audit_rows.proofs.places.marks_made.Given as goal
 

@@ -1,5 +1,4 @@
-use Rattle.std.proofs.Common.{◌≡◌, ◌++◌, map, drop}
-use Rattle.shop_types.specs.Seen.{seen_mark}
+use Rattle.shop_types.proofs.Common.{◌≡◌, ◌++◌, map, drop, seen_mark}
 use Rattle.audit_rows.specs.Marked.{mark_key}
 use Rattle.audit_rows.proofs.places.marks_of.Given as goal
 

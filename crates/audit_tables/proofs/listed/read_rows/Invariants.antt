@@ -1,5 +1,4 @@
-use Rattle.std.proofs.Common.{drop}
-use Rattle.std.specs.List.{AllByRecursion}
+use Rattle.shop_schema.proofs.Common.{drop, AllByRecursion}
 use Rattle.audit_tables.proofs.RowLists.{Continues}
 use Rattle.audit_tables.proofs.listed.read_rows.Given as goal
 

@@ -1,5 +1,4 @@
-use Rattle.std.proofs.Common.{refl}
-use Rattle.shop_schema.specs.Forms.{text_form}
+use Rattle.shop_schema.proofs.Common.{refl, text_form}
 use Rattle.audit_tables.proofs.parts.skip_bytes.Goals as goal
 
 pub returns-then-text-most-clause-found : goal.returns-then-text-most-clause-found

@@ -1,6 +1,4 @@
-use Rattle.std.proofs.Common.{refl, sym, subst, ◌∙◌, true≢false}
-use Rattle.shop_schema.specs.RowValues.{IsFeatures}
-use Rattle.shop_schema.specs.Forms.{text_form}
+use Rattle.shop_schema.proofs.Common.{refl, sym, subst, ◌∙◌, true≢false, IsFeatures, text_form}
 use Rattle.audit_tables.proofs.Ends.{same_text}
 use Rattle.audit_tables.proofs.parts.skip_features.Goals as goal
 

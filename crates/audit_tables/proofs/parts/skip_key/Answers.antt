@@ -1,6 +1,4 @@
-use Rattle.std.proofs.Common.{refl, sym, ap, ◌∙◌, true≢false}
-use Rattle.shop_schema.specs.Forms.{text_form}
-use Rattle.shop_values.specs.Texts.{is_key}
+use Rattle.shop_schema.proofs.Common.{refl, sym, ap, ◌∙◌, true≢false, text_form, is_key}
 use Rattle.audit_tables.proofs.Ends.{same_text}
 use Rattle.audit_tables.proofs.parts.skip_key.Goals as goal
 

@@ -1,7 +1,5 @@
-use Rattle.std.proofs.Common.{◌++◌, sym, subst, ◌∙◌}
-use Rattle.std.proofs.lemmas.List.{take-append-drop}
+use Rattle.shop_schema.proofs.Common.{◌++◌, sym, subst, ◌∙◌, take-append-drop, moment_text-utf8}
 use Rattle.std.specs.Str.{IsUtf8}
-use Rattle.shop_values.proofs.MomentLemmas.{moment_text-utf8}
 use Rattle.audit_tables.proofs.Ends.{front_is_moment}
 use Rattle.audit_tables.proofs.parts.skip_moment.Goals as goal
 

@@ -1,5 +1,4 @@
-use Rattle.std.proofs.Common.{refl}
-use Rattle.shop_schema.specs.Forms.{number_form}
+use Rattle.shop_schema.proofs.Common.{refl, number_form}
 use Rattle.audit_tables.proofs.parts.skip_number.Goals as goal
 
 pub returns-then-number-high-clause-found : goal.returns-then-number-high-clause-found

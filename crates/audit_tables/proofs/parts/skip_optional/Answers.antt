@@ -1,5 +1,4 @@
-use Rattle.std.proofs.Common.{refl, ◌∙◌, ◌++◌, None}
-use Rattle.shop_schema.specs.Forms.{number_form, option_form}
+use Rattle.shop_schema.proofs.Common.{refl, ◌∙◌, ◌++◌, None, number_form, option_form}
 use Rattle.audit_tables.proofs.Ends.{optional_found}
 use Rattle.audit_tables.proofs.parts.skip_optional.Goals as goal
 

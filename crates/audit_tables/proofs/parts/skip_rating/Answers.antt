@@ -1,6 +1,4 @@
-use Rattle.std.proofs.Common.{refl, sym, subst, ◌∙◌, true≢false}
-use Rattle.shop_schema.specs.Forms.{text_form}
-use Rattle.shop_schema.specs.RowValues.{IsRating}
+use Rattle.shop_schema.proofs.Common.{refl, sym, subst, ◌∙◌, true≢false, text_form, IsRating}
 use Rattle.audit_tables.proofs.Ends.{same_text}
 use Rattle.audit_tables.proofs.parts.skip_rating.Goals as goal
 

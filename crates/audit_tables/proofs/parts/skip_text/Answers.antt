@@ -1,7 +1,5 @@
-use Rattle.std.proofs.Common.{refl, sym, ap, subst, ◌∙◌, true≢false}
+use Rattle.shop_schema.proofs.Common.{refl, sym, ap, subst, ◌∙◌, true≢false, text_form, is_text}
 use Rattle.std.specs.Str.{IsUtf8}
-use Rattle.shop_schema.specs.Forms.{text_form}
-use Rattle.shop_values.specs.Texts.{is_text}
 use Rattle.audit_tables.proofs.Ends.{same_text}
 use Rattle.audit_tables.proofs.parts.skip_text.Goals as goal
 

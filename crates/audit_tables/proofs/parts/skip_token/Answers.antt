@@ -1,6 +1,4 @@
-use Rattle.std.proofs.Common.{refl, sym, ap, ◌∙◌, true≢false}
-use Rattle.shop_schema.specs.Forms.{text_form}
-use Rattle.shop_values.specs.Texts.{is_token}
+use Rattle.shop_schema.proofs.Common.{refl, sym, ap, ◌∙◌, true≢false, text_form, is_token}
 use Rattle.audit_tables.proofs.Ends.{same_text, token_read}
 use Rattle.audit_tables.proofs.parts.skip_token.Goals as goal
 

@@ -1,5 +1,4 @@
-use Rattle.std.proofs.Common.{◌≡◌, ◌∙◌, rules}
-use Rattle.shop_types.specs.Seen.{seen_rule}
+use Rattle.shop_types.proofs.Common.{◌≡◌, ◌∙◌, rules, seen_rule}
 use Rattle.balance_rule.specs.Balance.{owed_at}
 use Rattle.balance_rule.proofs.SumLemmas.{owed_is}
 use Rattle.balance_rule.proofs.fees.balance.Goals as goal

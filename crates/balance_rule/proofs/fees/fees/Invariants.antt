@@ -1,5 +1,4 @@
-use Rattle.std.proofs.Common.{◌≡◌, ◌≤◌, ◌*◌, take}
-use Rattle.shop_types.specs.Seen.{seen_rule}
+use Rattle.shop_types.proofs.Common.{◌≡◌, ◌≤◌, ◌*◌, take, seen_rule}
 use Rattle.balance_rule.specs.Balance.{fees_by}
 use Rattle.balance_rule.proofs.fees.fees.Given as goal
 

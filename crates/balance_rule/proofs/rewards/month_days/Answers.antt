@@ -1,5 +1,4 @@
-use Rattle.std.proofs.Common.{◌≡◌, ◌∙◌, FitsSigned, w8, w16, w32, pos, arith}
-use Rattle.std.proofs.lemmas.Int.{to_z-of_z, to_z_pos}
+use Rattle.shop_types.proofs.Common.{◌≡◌, ◌∙◌, FitsSigned, w8, w16, w32, pos, arith, to_z-of_z, to_z_pos}
 use Rattle.jiff_core.proofs.SignedLemmas.{signed_arith}
 use Rattle.balance_rule.proofs.MonthLemmas.{IsMonth, month_days_are}
 use Rattle.balance_rule.proofs.rewards.month_days.Goals as goal

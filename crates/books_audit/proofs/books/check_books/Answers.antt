@@ -1,5 +1,4 @@
-use Rattle.std.proofs.Common.{true≢false, sym, ◌∙◌}
-use Rattle.shop_types.specs.declared.audit.Audit.{Audit}
+use Rattle.shop_schema.proofs.Common.{true≢false, sym, ◌∙◌, Audit}
 use Rattle.books_audit.proofs.CustodyAudits.{if_ok_then}
 use Rattle.books_audit.proofs.CanonCounts.{must_have_counts}
 use Rattle.books_audit.proofs.OneAudit.{none_stand, audit_of_rows}

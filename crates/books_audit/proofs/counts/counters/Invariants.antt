@@ -1,7 +1,4 @@
-use Rattle.std.proofs.Common.{◌≡◌, ◌+◌, ◌++◌, map, drop}
-use Rattle.std.specs.List.{flat_map}
-use Rattle.shop_model.specs.Rows.{numbered_from}
-use Rattle.shop_schema.specs.Columns.{counter_columns}
+use Rattle.shop_schema.proofs.Common.{◌≡◌, ◌+◌, ◌++◌, map, drop, flat_map, numbered_from, counter_columns}
 use Rattle.books_audit.specs.Read.{counters_in, counts_of_branch}
 use Rattle.books_audit.specs.Triples.{triple_columns, AreTallies}
 use Rattle.books_audit.proofs.counts.counters.Given as goal

@@ -1,5 +1,4 @@
-use Rattle.std.proofs.Common.{◌≡◌, ◌++◌, map, drop}
-use Rattle.shop_schema.specs.Columns.{out_columns}
+use Rattle.shop_schema.proofs.Common.{◌≡◌, ◌++◌, map, drop, out_columns}
 use Rattle.books_audit.specs.Read.{outs_among}
 use Rattle.books_audit.specs.Triples.{triple_columns}
 use Rattle.books_audit.proofs.counts.outs.Given as goal

@@ -1,8 +1,4 @@
-use Rattle.std.proofs.Common.{ap, subst, ◌∙◌, map, IsPermutation}
-use Rattle.sqlite.specs.Held.{state}
-use Rattle.sql_rows.specs.Rows.{columns_of}
-use Rattle.sql_rows.proofs.Stays.{clean_before}
-use Rattle.shop_schema.specs.Tables.{copy_table, consignment_line_table}
+use Rattle.shop_schema.proofs.Common.{ap, subst, ◌∙◌, map, IsPermutation, state, columns_of, clean_before, copy_table, consignment_line_table}
 use Rattle.books_audit.proofs.WholeTexts.{copies, lines}
 use Rattle.books_audit.proofs.CustodyAudits.{audit_moved}
 use Rattle.books_audit.proofs.custody.audit_custody.Goals as goal

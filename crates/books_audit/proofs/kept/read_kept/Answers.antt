@@ -1,6 +1,4 @@
-use Rattle.std.proofs.Common.{◌≡◌, ◌∙◌, ◌∷◌, List, true, ap, sym, map, true≢false, subst}
-use Rattle.std.proofs.lemmas.List.Sorted.{IsPermutation-trans, IsPermutation-append, IsPermutation-map}
-use Rattle.shop_schema.specs.RowValues.{IsNumber}
+use Rattle.shop_schema.proofs.Common.{◌≡◌, ◌∙◌, ◌∷◌, List, true, ap, sym, map, true≢false, subst, IsPermutation-trans, IsPermutation-append, IsPermutation-map, IsNumber}
 use Rattle.audit_rows.specs.Lists.{climbs, Key}
 use Rattle.audit_rows.specs.declared.rows.CheckedKept.{CheckedKept}
 use Rattle.audit_rows.proofs.Keys.{distinct_by_order}

@@ -1,9 +1,6 @@
-use Rattle.std.proofs.Common.{rules, ◌≡◌, ◌≤◌, ◌++◌, [], ◌∷◌, sym, ◌∙◌}
+use Rattle.shop_schema.proofs.Common.{rules, ◌≡◌, ◌≤◌, ◌++◌, [], ◌∷◌, sym, ◌∙◌, IsNumber, subst, AllByRecursion}
 use Rattle.books_audit.proofs.Splits.{zero_is, some_is, number_is, all_more, office_step, branch_step}
 use Rattle.audit_rows.specs.declared.rows.CheckedKept.{CheckedKept}
-use Rattle.shop_schema.specs.RowValues.{IsNumber}
-use Rattle.std.proofs.Common.{subst}
-use Rattle.std.specs.List.{AllByRecursion}
 use Rattle.books_audit.proofs.kept.split_callers.Goals as goal
 
 pub loop-row-preserved-else-is_err : goal.loop-row-preserved-else-is_err

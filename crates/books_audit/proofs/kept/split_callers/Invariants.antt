@@ -1,6 +1,4 @@
-use Rattle.std.proofs.Common.{◌++◌, map, IsPermutation}
-use Rattle.std.specs.List.{AllByRecursion}
-use Rattle.shop_schema.specs.RowValues.{IsNumber}
+use Rattle.shop_schema.proofs.Common.{◌++◌, map, IsPermutation, AllByRecursion, IsNumber}
 use Rattle.audit_rows.specs.declared.rows.CheckedKept.{CheckedKept}
 use Rattle.books_audit.specs.Read.{office_caller, branch_caller}
 use Rattle.books_audit.proofs.kept.split_callers.Given as goal

@@ -1,7 +1,4 @@
-use Rattle.std.proofs.Common.{rules, is_lt}
-use Rattle.std.specs.Ordering.{nat_cmp}
-use Rattle.std.proofs.lemmas.Cmp.{nat_cmp_total}
-use Rattle.std.proofs.lemmas.List.Sorted.{ranks_by, answers_always}
+use Rattle.shop_schema.proofs.Common.{rules, is_lt, nat_cmp, nat_cmp_total, ranks_by, answers_always}
 use Rattle.books_audit.proofs.lists.sort_places.Goals as goal
 
 pub returns-clause-sorted : goal.returns-clause-sorted

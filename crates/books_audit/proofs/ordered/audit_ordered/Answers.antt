@@ -1,5 +1,4 @@
-use Rattle.std.proofs.Common.{◌↔◌, IsTrue, Bool, subst, sym}
-use Rattle.shop_model.specs.Sound.{IsSound, widest}
+use Rattle.shop_schema.proofs.Common.{◌↔◌, IsTrue, Bool, subst, sym, IsSound, widest}
 use Rattle.books_audit.proofs.ordered.audit_ordered.Goals as goal
 
 pub returns : goal.returns

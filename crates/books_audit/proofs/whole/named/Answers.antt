@@ -1,5 +1,4 @@
-use Rattle.std.proofs.Common.{drop}
-use Rattle.shop_schema.specs.Tables.{shop_schema, country_table, language_table, category_table, city_table, actor_table, film_table, film_actor_table, branch_table, staff_table, customer_table, copy_table, rental_table, payment_table, lot_table, consignment_table, consignment_line_table, kept_table, counter_table, out_copy_table, pair_count_table, rental_terms_table, chain_rule_table}
+use Rattle.shop_schema.proofs.Common.{drop, shop_schema, country_table, language_table, category_table, city_table, actor_table, film_table, film_actor_table, branch_table, staff_table, customer_table, copy_table, rental_table, payment_table, lot_table, consignment_table, consignment_line_table, kept_table, counter_table, out_copy_table, pair_count_table, rental_terms_table, chain_rule_table}
 use Rattle.books_audit.proofs.whole.named.Goals as goal
 
 pub returns : goal.returns

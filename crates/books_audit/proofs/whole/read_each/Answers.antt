@@ -1,8 +1,4 @@
-use Rattle.std.proofs.Common.{Bor, Ok, List, ℕ, [], sym, ap, subst, ◌∙◌, ◌+◌, map, drop, arith}
-use Rattle.std.proofs.lemmas.List.{drop_all, map_push}
-use Rattle.sqlite.specs.Held.{state}
-use Rattle.sql_rows.proofs.Creates.{next_of}
-use Rattle.sql_rows.proofs.Stays.{clean_before, within_as, within_of, within_then}
+use Rattle.shop_schema.proofs.Common.{Bor, Ok, List, ℕ, [], sym, ap, subst, ◌∙◌, ◌+◌, map, drop, arith, drop_all, map_push, state, next_of, clean_before, within_as, within_of, within_then}
 use Rattle.books_audit.specs.Whole.{AreRowsOf}
 use Rattle.books_audit.proofs.Told.{SoFar, next_table, one_more, all_read}
 use Rattle.books_audit.proofs.whole.read_each.Goals as goal

@@ -1,11 +1,4 @@
-use Rattle.std.proofs.Common.{◌≡◌, Ok, List, map, drop}
-use Rattle.std.specs.Prelude.{⊤}
-use Rattle.sqlite.specs.Held.{state}
-use Rattle.sqlite.specs.State.{HasCleanDisk}
-use Rattle.sqlite.specs.Table.{Table}
-use Rattle.sql_rows.specs.Calls.{StaysWithin}
-use Rattle.sql_rows.specs.declared.fault.StoreFault.{StoreFault}
-use Rattle.shop_schema.specs.Shop.{IsShop}
+use Rattle.shop_schema.proofs.Common.{◌≡◌, Ok, List, map, drop, ⊤, state, HasCleanDisk, Table, StaysWithin, StoreFault, IsShop}
 use Rattle.books_audit.specs.Whole.{SelectEach}
 use Rattle.books_audit.proofs.Told.{SoFar}
 use Rattle.books_audit.proofs.whole.read_each.Given as goal

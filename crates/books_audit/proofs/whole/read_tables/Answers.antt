@@ -1,7 +1,4 @@
-use Rattle.std.proofs.Common.{ap, subst, ◌∙◌, map, drop}
-use Rattle.sqlite.specs.Held.{state}
-use Rattle.sql_rows.proofs.Stays.{clean_within}
-use Rattle.shop_schema.specs.Tables.{shop_schema, chain_table}
+use Rattle.shop_schema.proofs.Common.{ap, subst, ◌∙◌, map, drop, state, clean_within, shop_schema, chain_table}
 use Rattle.books_audit.specs.Whole.{HaveEach}
 use Rattle.books_audit.proofs.WholeTexts.{chain, others}
 use Rattle.books_audit.proofs.whole.read_tables.Goals as goal

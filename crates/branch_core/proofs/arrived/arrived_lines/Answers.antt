@@ -1,5 +1,4 @@
-use Rattle.std.proofs.Common.{◌∙◌, ◌+◌, ◌++◌, ◌∷◌, [], sym, ap, arith, List, take}
-use Rattle.shop_model.specs.Rows.{arrived}
+use Rattle.shop_types.proofs.Common.{◌∙◌, ◌+◌, ◌++◌, ◌∷◌, [], sym, ap, arith, List, take, arrived}
 use Rattle.shop_types.specs.declared.parcel.ParcelLine.{ParcelLine}
 use Rattle.branch_core.proofs.ConsignmentLemmas.{line_comes, line_gone}
 use Rattle.branch_core.proofs.arrived.arrived_lines.Goals as goal

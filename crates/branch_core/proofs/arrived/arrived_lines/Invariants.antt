@@ -1,5 +1,4 @@
-use Rattle.std.proofs.Common.{◌≡◌, ◌+◌, take}
-use Rattle.shop_model.specs.Rows.{arrived}
+use Rattle.shop_types.proofs.Common.{◌≡◌, ◌+◌, take, arrived}
 use Rattle.branch_core.proofs.arrived.arrived_lines.Given as goal
 
 -- those of the lines so far that aren't missing

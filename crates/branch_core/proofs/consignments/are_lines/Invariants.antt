@@ -1,5 +1,4 @@
-use Rattle.std.proofs.Common.{◌≡◌, drop}
-use Rattle.shop_model.specs.Verdict.{are_lines}
+use Rattle.shop_types.proofs.Common.{◌≡◌, drop, are_lines}
 use Rattle.branch_core.proofs.consignments.are_lines.Given as goal
 
 -- the numbers so far are lines, of which the last is the low one

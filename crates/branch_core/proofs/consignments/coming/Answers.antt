@@ -1,5 +1,4 @@
-use Rattle.std.proofs.Common.{◌∙◌, ◌-◌, sym, ap, length}
-use Rattle.shop_model.specs.Verdict.{are_lines}
+use Rattle.shop_types.proofs.Common.{◌∙◌, ◌-◌, sym, ap, length, are_lines}
 use Rattle.branch_core.proofs.ReceiptLemmas.{none_again, none_so, so_many, few_missing}
 use Rattle.branch_core.proofs.consignments.coming.Goals as goal
 

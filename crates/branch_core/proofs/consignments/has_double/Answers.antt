@@ -1,6 +1,5 @@
-use Rattle.std.proofs.Common.{◌≡◌, ◌∙◌, sym, ap, refl, ◌+◌, drop, true, false, arith}
+use Rattle.shop_types.proofs.Common.{◌≡◌, ◌∙◌, sym, ap, refl, ◌+◌, drop, true, false, arith, list_any}
 use Rattle.std.specs.Prelude.{◌==◌}
-use Rattle.std.specs.List.{list_any}
 use Rattle.branch_core.proofs.ConsignmentLemmas.{double_next, behind}
 use Rattle.branch_core.proofs.consignments.has_double.Goals as goal
 

@@ -1,5 +1,4 @@
-use Rattle.std.proofs.Common.{◌≡◌, ◌+◌, drop}
-use Rattle.shop_model.specs.Rows.{has_double}
+use Rattle.shop_types.proofs.Common.{◌≡◌, ◌+◌, drop, has_double}
 use Rattle.branch_core.proofs.consignments.has_double.Given as goal
 
 -- none of the copies so far stands twice

@@ -1,7 +1,4 @@
-use Rattle.std.proofs.Common.{◌≡◌, false, length, take}
-use Rattle.std.specs.List.{list_any}
-use Rattle.shop_model.specs.Rows.{lacks}
-use Rattle.shop_model.specs.Shop.{Shop}
+use Rattle.shop_types.proofs.Common.{◌≡◌, false, length, take, list_any, lacks, Shop}
 use Rattle.branch_core.proofs.consignments.has_unknown_copy.Given as goal
 
 -- a branch with so many copies has all of those so far

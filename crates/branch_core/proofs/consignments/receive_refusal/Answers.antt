@@ -1,5 +1,4 @@
-use Rattle.std.proofs.Common.{◌∙◌, sym, ap, length}
-use Rattle.shop_model.specs.Verdict.{are_lines}
+use Rattle.shop_types.proofs.Common.{◌∙◌, sym, ap, length, are_lines}
 use Rattle.branch_core.proofs.ReceiptLemmas.{receive_bad, receive_now}
 use Rattle.branch_core.proofs.consignments.receive_refusal.Goals as goal
 

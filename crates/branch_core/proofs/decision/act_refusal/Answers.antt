@@ -1,5 +1,4 @@
-use Rattle.std.proofs.Common.{sym, subst}
-use Rattle.shop_types.specs.Seen.{seen_person}
+use Rattle.shop_types.proofs.Common.{sym, subst, seen_person}
 use Rattle.branch_core.specs.Agreed.{ListedAgrees}
 use Rattle.branch_core.proofs.decision.act_refusal.Goals as goal
 

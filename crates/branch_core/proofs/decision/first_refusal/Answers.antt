@@ -1,6 +1,4 @@
-use Rattle.std.proofs.Common.{◌∙◌, refl, sym, ap}
-use Rattle.shop_model.specs.Verdict.{is_before}
-use Rattle.shop_types.specs.Seen.{seen_command}
+use Rattle.shop_types.proofs.Common.{◌∙◌, refl, sym, ap, is_before, seen_command}
 use Rattle.branch_core.proofs.decision.first_refusal.Goals as goal
 
 pub returns-then-is_full : goal.returns-then-is_full

@@ -1,5 +1,4 @@
-use Rattle.std.proofs.Common.{◌∙◌}
-use Rattle.std.proofs.lemmas.Result.{IfOk-weaker}
+use Rattle.shop_types.proofs.Common.{◌∙◌, IfOk-weaker}
 use Rattle.branch_core.proofs.FilmLemmas.{listed_not_in_stock}
 use Rattle.branch_core.proofs.film_copies.film_not_in_stock.Goals as goal
 

@@ -1,5 +1,4 @@
-use Rattle.std.proofs.Common.{◌≡◌, ◌∙◌, ◌+◌, ◌++◌, ◌∷◌, [], ℕ, List, take, sym, ap}
-use Rattle.std.proofs.lemmas.List.{take_more, take_all}
+use Rattle.shop_types.proofs.Common.{◌≡◌, ◌∙◌, ◌+◌, ◌++◌, ◌∷◌, [], ℕ, List, take, sym, ap, take_more, take_all}
 use Rattle.branch_core.specs.declared.film_copies.FilmCopy.{FilmCopy}
 use Rattle.branch_core.proofs.FilmLemmas.{numbers_of, more_listed, more_unlisted}
 use Rattle.branch_core.proofs.film_copies.listed.Goals as goal

@@ -1,6 +1,4 @@
-use Rattle.std.proofs.Common.{refl, sym, ◌∙◌, arith}
-use Rattle.shop_model.specs.Stock.{keeps_out}
-use Rattle.shop_types.specs.Seen.{seen_rental}
+use Rattle.shop_types.proofs.Common.{refl, sym, ◌∙◌, arith, keeps_out, seen_rental}
 use Rattle.branch_core.proofs.RentalLemmas.{none_next, holder_at, no_holder}
 use Rattle.branch_core.proofs.rentals.held_by.Goals as goal
 

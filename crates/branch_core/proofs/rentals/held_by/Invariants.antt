@@ -1,7 +1,4 @@
-use Rattle.std.proofs.Common.{◌≡◌, false, take}
-use Rattle.std.specs.List.{list_any}
-use Rattle.shop_model.specs.Stock.{keeps_out}
-use Rattle.shop_types.specs.Seen.{seen_rental}
+use Rattle.shop_types.proofs.Common.{◌≡◌, false, take, list_any, keeps_out, seen_rental}
 use Rattle.branch_core.proofs.rentals.held_by.Given as goal
 
 -- none of the rentals so far keeps the copy out

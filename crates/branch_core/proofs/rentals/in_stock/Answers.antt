@@ -1,6 +1,4 @@
-use Rattle.std.proofs.Common.{◌∙◌, ap, not}
-use Rattle.shop_model.specs.Stock.{keeps_out}
-use Rattle.shop_types.specs.Seen.{seen_rental}
+use Rattle.shop_types.proofs.Common.{◌∙◌, ap, not, keeps_out, seen_rental}
 use Rattle.branch_core.proofs.RentalLemmas.{any_map}
 use Rattle.branch_core.proofs.rentals.in_stock.Goals as goal
 

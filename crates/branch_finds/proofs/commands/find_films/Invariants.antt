@@ -1,10 +1,4 @@
-use Rattle.std.proofs.Common.{◌≡◌, Ok, take, map}
-use Rattle.std.specs.Prelude.{⊤}
-use Rattle.sqlite.specs.Held.{state}
-use Rattle.sqlite.specs.State.{HasCleanDisk}
-use Rattle.sql_rows.specs.Calls.{StaysWithin}
-use Rattle.sql_rows.specs.declared.fault.StoreFault.{StoreFault}
-use Rattle.shop_schema.specs.Shop.{Reads}
+use Rattle.shop_schema.proofs.Common.{◌≡◌, Ok, take, map, ⊤, state, HasCleanDisk, StaysWithin, StoreFault, Reads}
 use Rattle.chain_caches.specs.Films.{AreRows}
 use Rattle.branch_finds.specs.Commands.{as_listed, found_row}
 use Rattle.branch_finds.proofs.commands.find_films.Given as goal

@@ -1,8 +1,4 @@
-use Rattle.std.proofs.Common.{◌∙◌, sym, ap}
-use Rattle.shop_model.specs.Rows.{of}
-use Rattle.shop_model.specs.Values.{Text, Stock}
-use Rattle.shop_model.specs.Books.{unmarked}
-use Rattle.shop_model.proofs.RowLemmas.{length_map}
+use Rattle.shop_schema.proofs.Common.{◌∙◌, sym, ap, of, Text, Stock, unmarked, length_map}
 use Rattle.shop_schema.proofs.Readings.{reads_as}
 use Rattle.consign_finds.proofs.Chained.{call_inside, call_within, calls_then}
 use Rattle.branch_finds.proofs.commands.find_for_import.Goals as goal

@@ -1,8 +1,4 @@
-use Rattle.std.proofs.Common.{◌≡◌, ◌∙◌, sym, subst, ap, List, map}
-use Rattle.std.specs.List.{All}
-use Rattle.std.proofs.lemmas.Option.{cond_some}
-use Rattle.sqlite.specs.Held.{state}
-use Rattle.shop_model.specs.Values.{Copies}
+use Rattle.shop_schema.proofs.Common.{◌≡◌, ◌∙◌, sym, subst, ap, List, map, All, cond_some, state, Copies}
 use Rattle.stock_csv.specs.declared.StockRow.{StockRow}
 use Rattle.stock_csv.specs.Rows.{stock_rows_of}
 use Rattle.stock_csv.specs.Stock.{stock_from, films_of}

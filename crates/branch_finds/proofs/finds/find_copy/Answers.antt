@@ -1,11 +1,4 @@
-use Rattle.std.proofs.Common.{◌≡◌, ◌∙◌, [], ◌∷◌, refl, sym, ap, Bool, List, not, Option, Some, option_map}
-use Rattle.std.specs.Option.{option_to_list}
-use Rattle.sql_rows.proofs.Stays.{within_err, within_of, within_then}
-use Rattle.shop_model.specs.Rows.{at}
-use Rattle.shop_model.specs.Values.{Copy, Terms}
-use Rattle.shop_model.specs.Stock.{in_stock}
-use Rattle.shop_model.specs.Books.{shop_of}
-use Rattle.shop_types.specs.Seen.{seen_terms}
+use Rattle.shop_schema.proofs.Common.{◌≡◌, ◌∙◌, [], ◌∷◌, refl, sym, ap, Bool, List, not, Option, Some, option_map, option_to_list, within_err, within_of, within_then, at, Copy, Terms, in_stock, shop_of, seen_terms}
 use Rattle.chain_caches.specs.declared.films.KnownFilm.{KnownFilm}
 use Rattle.shop_store.specs.Seen.{seen_copy_now}
 use Rattle.shop_store.specs.declared.copies.CopyNow.{CopyNow}

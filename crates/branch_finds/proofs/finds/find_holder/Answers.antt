@@ -1,8 +1,4 @@
-use Rattle.std.proofs.Common.{◌∙◌, sym, ap}
-use Rattle.std.specs.Option.{option_to_list}
-use Rattle.std.proofs.lemmas.Result.{IfOk-weaker}
-use Rattle.sqlite.specs.Held.{state}
-use Rattle.shop_model.specs.Books.{head, shop_of}
+use Rattle.shop_schema.proofs.Common.{◌∙◌, sym, ap, option_to_list, IfOk-weaker, state, head, shop_of}
 use Rattle.shop_schema.proofs.Readings.{reads_as, reads_none}
 use Rattle.branch_finds.proofs.Shows.{held_at, none_held}
 use Rattle.branch_finds.proofs.finds.find_holder.Goals as goal

@@ -1,8 +1,4 @@
-use Rattle.std.proofs.Common.{◌∙◌, ap, arith, map}
-use Rattle.sqlite.specs.Held.{state}
-use Rattle.sqlite.specs.State.{HasCleanDisk}
-use Rattle.std.proofs.lemmas.Result.{IfOk-weaker}
-use Rattle.shop_model.specs.Books.{shop_of}
+use Rattle.shop_schema.proofs.Common.{◌∙◌, ap, arith, map, state, HasCleanDisk, IfOk-weaker, shop_of}
 use Rattle.shop_schema.proofs.Readings.{reads_then, reads_as}
 use Rattle.branch_finds.specs.Finds.{copy_shown}
 use Rattle.branch_finds.proofs.FilmLemmas.{of_film}

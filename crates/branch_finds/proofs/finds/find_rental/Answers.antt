@@ -1,7 +1,4 @@
-use Rattle.std.proofs.Common.{◌∙◌, sym, ap, ℕ, Bool, Option, Some, option_map}
-use Rattle.std.specs.Prelude.{is_some}
-use Rattle.shop_model.specs.Values.{Rental}
-use Rattle.shop_types.specs.Seen.{seen_rental}
+use Rattle.shop_schema.proofs.Common.{◌∙◌, sym, ap, ℕ, Bool, Option, Some, option_map, is_some, Rental, seen_rental}
 use Rattle.shop_store.specs.declared.rentals.RentalRow.{RentalRow}
 use Rattle.shop_schema.proofs.Readings.{reads_as}
 use Rattle.branch_finds.proofs.Lookings.{head_of}

@@ -1,6 +1,4 @@
-use Rattle.std.proofs.Common.{ℕ, Bool}
-use Rattle.sqlite.specs.Held.{state}
-use Rattle.shop_model.specs.Books.{shop_of}
+use Rattle.shop_schema.proofs.Common.{ℕ, Bool, state, shop_of}
 use Rattle.shop_schema.proofs.Readings.{reads_as}
 use Rattle.branch_finds.proofs.Shows.{stock_of_out}
 use Rattle.branch_finds.proofs.finds.with_its_stock.Goals as goal

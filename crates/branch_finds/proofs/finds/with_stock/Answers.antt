@@ -1,9 +1,4 @@
-use Rattle.std.proofs.Common.{◌∙◌, ◌++◌, ◌∷◌, [], sym, ap, arith, map, take, List, ℕ, Bool}
-use Rattle.std.proofs.lemmas.List.{take_all, map_push, map_more}
-use Rattle.sqlite.specs.Held.{state}
-use Rattle.sqlite.specs.State.{HasCleanDisk}
-use Rattle.sql_rows.proofs.Stays.{within_as, within_err, within_then}
-use Rattle.shop_model.specs.Books.{Books, shop_of}
+use Rattle.shop_schema.proofs.Common.{◌∙◌, ◌++◌, ◌∷◌, [], sym, ap, arith, map, take, List, ℕ, Bool, take_all, map_push, map_more, state, HasCleanDisk, within_as, within_err, within_then, Books, shop_of}
 use Rattle.shop_store.specs.declared.copies.CopyRow.{CopyRow}
 use Rattle.branch_core.specs.Agreed.{seen_film_copy}
 use Rattle.shop_schema.proofs.Readings.{reads_then, reads_as}

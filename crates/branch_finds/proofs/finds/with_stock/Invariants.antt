@@ -1,11 +1,4 @@
-use Rattle.std.proofs.Common.{◌≡◌, Ok, take, map}
-use Rattle.std.specs.Prelude.{⊤}
-use Rattle.sqlite.specs.Held.{state}
-use Rattle.sqlite.specs.State.{HasCleanDisk}
-use Rattle.sql_rows.specs.Calls.{StaysWithin}
-use Rattle.sql_rows.specs.declared.fault.StoreFault.{StoreFault}
-use Rattle.shop_model.specs.Books.{shop_of}
-use Rattle.shop_schema.specs.Shop.{Reads}
+use Rattle.shop_schema.proofs.Common.{◌≡◌, Ok, take, map, ⊤, state, HasCleanDisk, StaysWithin, StoreFault, shop_of, Reads}
 use Rattle.branch_core.specs.Agreed.{seen_film_copy}
 use Rattle.branch_finds.specs.Finds.{copy_shown}
 use Rattle.branch_finds.proofs.finds.with_stock.Given as goal

@@ -1,6 +1,4 @@
-use Rattle.std.proofs.Common.{◌∙◌, sym, ap, Some, option_map}
-use Rattle.sqlite.specs.Held.{state}
-use Rattle.sql_rows.proofs.Stays.{within_none}
+use Rattle.shop_schema.proofs.Common.{◌∙◌, sym, ap, Some, option_map, state, within_none}
 use Rattle.chain_caches.specs.Films.{known_of}
 use Rattle.shop_store.specs.declared.films.FilmRow.{FilmRow}
 use Rattle.shop_store.specs.SharedSeen.{seen_film_row}

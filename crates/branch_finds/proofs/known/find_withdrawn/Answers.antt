@@ -1,5 +1,4 @@
-use Rattle.std.proofs.Common.{◌∙◌, sym, ap, option_map}
-use Rattle.sqlite.specs.Held.{state}
+use Rattle.shop_schema.proofs.Common.{◌∙◌, sym, ap, option_map, state}
 use Rattle.chain_caches.specs.declared.films.KnownFilm.{KnownFilm}
 use Rattle.shop_schema.proofs.Readings.{reads_as}
 use Rattle.branch_finds.proofs.TermLemmas.{withdrawn_told}

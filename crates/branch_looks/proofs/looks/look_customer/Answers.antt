@@ -1,10 +1,4 @@
-use Rattle.std.proofs.Common.{◌∙◌, refl, sym, ap, List, Option, option_map}
-use Rattle.std.specs.Option.{option_to_list}
-use Rattle.shop_model.specs.Values.{Customer}
-use Rattle.shop_model.specs.Refusals.{NoCustomer, Decision}
-use Rattle.shop_model.specs.Machine.{given, CustomerIs}
-use Rattle.shop_model.specs.Answers.{answer_of, accepted_answer}
-use Rattle.shop_types.specs.Seen.{seen_customer}
+use Rattle.shop_schema.proofs.Common.{◌∙◌, refl, sym, ap, List, Option, option_map, option_to_list, Customer, NoCustomer, Decision, given, CustomerIs, answer_of, accepted_answer, seen_customer}
 use Rattle.shop_store.specs.declared.customers.CustomerRow.{CustomerRow}
 use Rattle.branch_reports.proofs.Decisions.{accepted_told, refused_told}
 use Rattle.branch_looks.proofs.looks.look_customer.Goals as goal

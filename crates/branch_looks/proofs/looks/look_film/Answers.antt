@@ -1,9 +1,4 @@
-use Rattle.std.proofs.Common.{◌∙◌, refl, sym, ap, List, Option, option_map}
-use Rattle.std.specs.Option.{option_to_list}
-use Rattle.shop_model.specs.Values.{Film}
-use Rattle.shop_model.specs.Refusals.{NoFilm, Decision}
-use Rattle.shop_model.specs.Machine.{given, FilmIs}
-use Rattle.shop_model.specs.Answers.{answer_of, accepted_answer}
+use Rattle.shop_schema.proofs.Common.{◌∙◌, refl, sym, ap, List, Option, option_map, option_to_list, Film, NoFilm, Decision, given, FilmIs, answer_of, accepted_answer}
 use Rattle.shop_store.specs.SharedSeen.{seen_film_row}
 use Rattle.shop_store.specs.declared.films.FilmRow.{FilmRow}
 use Rattle.branch_reports.proofs.Decisions.{accepted_told, refused_told}

@@ -1,15 +1,5 @@
-use Rattle.std.proofs.Common.{◌≡◌, ◌∙◌, refl, sym, ap, subst, arith, ℕ, true, false, Bool, map, Some, None}
-use Rattle.sqlite.specs.Held.{state}
-use Rattle.sqlite.specs.State.{HasCleanDisk}
-use Rattle.sql_rows.proofs.Stays.{inside_as, inside_err, inside_then}
+use Rattle.shop_schema.proofs.Common.{◌≡◌, ◌∙◌, refl, sym, ap, subst, arith, ℕ, true, false, Bool, map, Some, None, state, HasCleanDisk, inside_as, inside_err, inside_then, NoFilm, Decision, Catalogue, Shop, CopiesAre, Sorry, Shows, look, answer_of, accepted_answer, head, shop_of, at, film_in_stock, film_not_in_stock}
 use Rattle.shop_store.specs.SharedSeen.{withdrawn_of}
-use Rattle.shop_model.specs.Refusals.{NoFilm, Decision}
-use Rattle.shop_model.specs.Shop.{Catalogue, Shop}
-use Rattle.shop_model.specs.Machine.{CopiesAre, Sorry, Shows, look}
-use Rattle.shop_model.specs.Answers.{answer_of, accepted_answer}
-use Rattle.shop_model.specs.Books.{head, shop_of}
-use Rattle.shop_model.specs.Rows.{at}
-use Rattle.shop_model.specs.Stock.{film_in_stock, film_not_in_stock}
 use Rattle.branch_core.specs.Agreed.{AreOfFilm}
 use Rattle.branch_looks.specs.Looks.{stock_asked, stock_listed}
 use Rattle.branch_reports.proofs.Given.{given_none, given_some}

@@ -1,15 +1,4 @@
-use Rattle.std.proofs.Common.{◌∙◌, ◌∷◌, refl, sym, ap, arith, ℕ, [], codes, List, Option, option_map}
-use Rattle.std.specs.Option.{option_to_list}
-use Rattle.sqlite.specs.Held.{state}
-use Rattle.sqlite.specs.State.{HasCleanDisk}
-use Rattle.sql_rows.proofs.Stays.{inside_as, inside_err, inside_then}
-use Rattle.shop_model.specs.Values.{Copy, Text}
-use Rattle.shop_model.specs.Refusals.{NoCopy, Decision}
-use Rattle.shop_model.specs.Stock.{held_by}
-use Rattle.shop_model.specs.Json.{object}
-use Rattle.shop_model.specs.Machine.{given, HolderIs, Reply}
-use Rattle.shop_model.specs.Answers.{answer_of, accepted_answer, holder_text}
-use Rattle.shop_model.specs.Books.{shop_of}
+use Rattle.shop_schema.proofs.Common.{◌∙◌, ◌∷◌, refl, sym, ap, arith, ℕ, [], codes, List, Option, option_map, option_to_list, state, HasCleanDisk, inside_as, inside_err, inside_then, Copy, Text, NoCopy, Decision, held_by, object, given, HolderIs, Reply, answer_of, accepted_answer, holder_text, shop_of}
 use Rattle.shop_store.specs.Seen.{seen_copy_now}
 use Rattle.shop_store.specs.declared.copies.CopyNow.{CopyNow}
 use Rattle.branch_looks.proofs.Shows.{first_holder}

@@ -1,11 +1,4 @@
-use Rattle.std.proofs.Common.{◌≡◌, ◌∙◌, refl, sym, ap, Bool, List, Option, option_map}
-use Rattle.std.specs.Option.{option_to_list}
-use Rattle.shop_model.specs.Values.{Copy}
-use Rattle.shop_model.specs.Refusals.{NoCopy, Decision}
-use Rattle.shop_model.specs.Stock.{in_stock}
-use Rattle.shop_model.specs.Machine.{given, InStockIs, Reply, Shows}
-use Rattle.shop_model.specs.Answers.{answer_of, accepted_answer}
-use Rattle.shop_model.specs.Books.{shop_of}
+use Rattle.shop_schema.proofs.Common.{◌≡◌, ◌∙◌, refl, sym, ap, Bool, List, Option, option_map, option_to_list, Copy, NoCopy, Decision, in_stock, given, InStockIs, Reply, Shows, answer_of, accepted_answer, shop_of}
 use Rattle.shop_store.specs.Seen.{seen_copy_now}
 use Rattle.shop_store.specs.declared.copies.CopyNow.{CopyNow}
 use Rattle.branch_finds.proofs.Shows.{stock_of_out}

@@ -1,6 +1,4 @@
-use Rattle.std.proofs.Common.{refl}
-use Rattle.shop_model.specs.Values.{OneCustomer, OneFilm, InStock, HeldBy, FilmInStock, FilmNotInStock, Balance, Rewards}
-use Rattle.sql_rows.proofs.Stays.{within_none}
+use Rattle.shop_schema.proofs.Common.{refl, OneCustomer, OneFilm, InStock, HeldBy, FilmInStock, FilmNotInStock, Balance, Rewards, within_none}
 use Rattle.branch_looks.proofs.Telling.{told_look, told_of_many}
 use Rattle.branch_looks.proofs.readings.look.Goals as goal
 

@@ -1,5 +1,4 @@
-use Rattle.std.proofs.Common.{◌≡◌, map, take}
-use Rattle.shop_types.specs.Seen.{seen_payment}
+use Rattle.shop_schema.proofs.Common.{◌≡◌, map, take, seen_payment}
 use Rattle.shop_store.specs.declared.payments.PaymentRow.{PaymentRow}
 use Rattle.balance_rule.specs.Balance.{paid_of}
 use Rattle.branch_reports.proofs.balances.find_paid.Given as goal

@@ -1,8 +1,4 @@
-use Rattle.std.proofs.Common.{◌≡◌, ◌∙◌, List, map, sym, ap}
-use Rattle.std.proofs.lemmas.List.{take_all}
-use Rattle.sqlite.specs.Held.{state}
-use Rattle.sqlite_keyed.proofs.ListLemmas.{map-map}
-use Rattle.shop_model.specs.Values.{Rental, Terms}
+use Rattle.shop_schema.proofs.Common.{◌≡◌, ◌∙◌, List, map, sym, ap, take_all, state, map-map, Rental, Terms}
 use Rattle.shop_store.specs.declared.termed.TermedRental.{TermedRental}
 use Rattle.shop_store.specs.Seen.{seen_termed}
 use Rattle.balance_rule.specs.declared.rows.RentalTerms.{RentalTerms}

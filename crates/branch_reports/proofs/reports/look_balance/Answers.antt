@@ -1,13 +1,4 @@
-use Rattle.std.proofs.Common.{◌∙◌, refl, sym, ap, subst, arith, ℤ}
-use Rattle.sqlite.specs.Held.{state}
-use Rattle.sqlite.specs.State.{HasCleanDisk}
-use Rattle.sql_rows.proofs.Stays.{inside_as, inside_err, inside_then, within_of, within_then}
-use Rattle.shop_model.specs.Values.{Customer, Rule}
-use Rattle.shop_model.specs.Refusals.{NoCustomer, Decision}
-use Rattle.shop_model.specs.Stock.{balance}
-use Rattle.shop_model.specs.Machine.{BalanceIs, Reply, Shows}
-use Rattle.shop_model.specs.Answers.{answer_of, accepted_answer}
-use Rattle.shop_model.specs.Books.{shop_of}
+use Rattle.shop_schema.proofs.Common.{◌∙◌, refl, sym, ap, subst, arith, ℤ, state, HasCleanDisk, inside_as, inside_err, inside_then, within_of, within_then, Customer, Rule, NoCustomer, Decision, balance, BalanceIs, Reply, Shows, answer_of, accepted_answer, shop_of}
 use Rattle.balance_rule.specs.Balance.{AreTermsOf, ArePaidBy}
 use Rattle.branch_reports.proofs.Given.{given_none, given_some}
 use Rattle.branch_reports.proofs.Decisions.{accepted_told, refused_told}

@@ -1,7 +1,5 @@
-use Rattle.std.proofs.Common.{refl}
-use Rattle.shop_model.specs.Books.{shop_of}
+use Rattle.shop_schema.proofs.Common.{refl, shop_of, BadThreshold, Decision}
 use Rattle.branch_reports.proofs.RewardLemmas.{rewards_told}
-use Rattle.shop_model.specs.Refusals.{BadThreshold, Decision}
 use Rattle.branch_reports.proofs.Decisions.{accepted_told, refused_told}
 use Rattle.branch_reports.proofs.reports.look_rewards.Goals as goal
 

@@ -1,10 +1,4 @@
-use Rattle.std.proofs.Common.{◌∙◌, sym, ap, arith, List}
-use Rattle.std.proofs.lemmas.Result.{IfOk-weaker}
-use Rattle.sqlite.specs.Held.{state}
-use Rattle.sqlite.specs.State.{HasCleanDisk}
-use Rattle.sql_rows.proofs.Stays.{within_of, within_none, within_as, within_err, within_then}
-use Rattle.shop_model.specs.Calendar.{month_before}
-use Rattle.shop_model.specs.Books.{shop_of}
+use Rattle.shop_schema.proofs.Common.{◌∙◌, sym, ap, arith, List, IfOk-weaker, state, HasCleanDisk, within_of, within_none, within_as, within_err, within_then, month_before, shop_of}
 use Rattle.shop_store.specs.declared.payments.PaymentRow.{PaymentRow}
 use Rattle.shop_schema.proofs.Readings.{reads_then, reads_as, reads_none}
 use Rattle.branch_reports.specs.Rewards.{payments_of}

@@ -1,6 +1,4 @@
-use Rattle.std.proofs.Common.{rules, ◌≡◌, ◌∙◌, ◌≤◌, ◌+◌, sym, ap, subst, List, [], ◌∷◌, ◌++◌, take}
-use Rattle.shop_model.specs.Values.{Payment}
-use Rattle.shop_types.specs.Seen.{seen_payment}
+use Rattle.shop_schema.proofs.Common.{rules, ◌≡◌, ◌∙◌, ◌≤◌, ◌+◌, sym, ap, subst, List, [], ◌∷◌, ◌++◌, take, Payment, seen_payment}
 use Rattle.shop_store.specs.declared.payments.PaymentRow.{PaymentRow}
 use Rattle.balance_rule.specs.Rewards.{is_on}
 use Rattle.branch_reports.specs.Rewards.{AreSummed, payments_of}

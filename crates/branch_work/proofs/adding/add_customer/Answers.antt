@@ -1,12 +1,4 @@
-use Rattle.std.proofs.Common.{◌≡◌, ◌≤◌, ◌∙◌, ◌∷◌, ◌++◌, [], ℕ, true, ap, subst, arith, codes, decimal}
-use Rattle.sqlite.specs.Held.{state}
-use Rattle.sql_rows.proofs.Chaining.{and_then, call, done, some_calls}
-use Rattle.shop_model.specs.Json.{object}
-use Rattle.shop_model.specs.Rows.{next}
-use Rattle.shop_model.specs.Values.{Customer}
-use Rattle.shop_types.specs.Seen.{seen_customer, seen_person}
-use Rattle.shop_schema.specs.Shop.{HoldsWith}
-use Rattle.shop_schema.specs.Counts.{counts_of, raise}
+use Rattle.shop_schema.proofs.Common.{◌≡◌, ◌≤◌, ◌∙◌, ◌∷◌, ◌++◌, [], ℕ, true, ap, subst, arith, codes, decimal, state, and_then, call, done, some_calls, object, next, Customer, seen_customer, seen_person, HoldsWith, counts_of, raise}
 use Rattle.shop_ledger.specs.declared.counts.CountKind.TheVariants as kind
 use Rattle.shop_ledger.proofs.CountsOf.{beside, held_once, told_more}
 use Rattle.branch_work.proofs.Counting.{customer_added}

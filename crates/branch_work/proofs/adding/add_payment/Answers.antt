@@ -1,8 +1,4 @@
-use Rattle.std.proofs.Common.{◌≡◌, ◌≤◌, ◌∙◌, ◌∷◌, [], ℕ, ap, arith, codes, decimal}
-use Rattle.sql_rows.proofs.Chaining.{and_then, call, done, some_calls}
-use Rattle.shop_model.specs.Json.{object}
-use Rattle.shop_model.specs.Rows.{next}
-use Rattle.shop_schema.specs.Counts.{counts_of, raise}
+use Rattle.shop_schema.proofs.Common.{◌≡◌, ◌≤◌, ◌∙◌, ◌∷◌, [], ℕ, ap, arith, codes, decimal, and_then, call, done, some_calls, object, next, counts_of, raise}
 use Rattle.shop_ledger.specs.declared.counts.CountKind.TheVariants as kind
 use Rattle.shop_ledger.proofs.CountsOf.{beside, held_once, told_more}
 use Rattle.branch_work.proofs.Counting.{payment_added}

@@ -1,10 +1,5 @@
-use Rattle.std.proofs.Common.{◌≡◌, ◌∙◌, ap, refl, sym, List, ℕ}
-use Rattle.std.specs.Prelude.{⊤}
-use Rattle.sql_rows.proofs.Chaining.{does_such}
+use Rattle.shop_schema.proofs.Common.{◌≡◌, ◌∙◌, ap, refl, sym, List, ℕ, ⊤, does_such, films_in, shop_of, seen_act, seen_command}
 use Rattle.shop_model.specs.Values as model
-use Rattle.shop_model.specs.Machine.{films_in}
-use Rattle.shop_model.specs.Books.{shop_of}
-use Rattle.shop_types.specs.Seen.{seen_act, seen_command}
 use Rattle.branch_core.specs.Agreed.{ImportAgrees}
 use Rattle.branch_work.proofs.Acted.{acts_always, acts_named}
 use Rattle.branch_work.proofs.adding.carry_out.Goals as goal

@@ -1,7 +1,4 @@
-use Rattle.std.proofs.Common.{◌≤◌, arith, refl, sym}
-use Rattle.sql_rows.proofs.Chaining.{and_last, and_then, call}
-use Rattle.shop_types.specs.Seen.{seen_command}
-use Rattle.shop_schema.specs.Counts.{counts_of, raise}
+use Rattle.shop_schema.proofs.Common.{◌≤◌, arith, refl, sym, and_last, and_then, call, seen_command, counts_of, raise}
 use Rattle.shop_ledger.proofs.CountsOf.{beside}
 use Rattle.branch_work.proofs.Counting.{kept_added}
 use Rattle.branch_work.proofs.adding.keep.Goals as goal

@@ -1,6 +1,5 @@
-use Rattle.std.proofs.Common.{◌≡◌, ◌∙◌, ◌∷◌, [], ℕ, Bool, true, false, Some, None, ap, sym}
-use Rattle.std.specs.Prelude.{◌==◌, if◌then◌else◌}
-use Rattle.sql_rows.proofs.Chaining.{call, done}
+use Rattle.shop_schema.proofs.Common.{◌≡◌, ◌∙◌, ◌∷◌, [], ℕ, Bool, true, false, Some, None, ap, sym, if◌then◌else◌, call, done}
+use Rattle.std.specs.Prelude.{◌==◌}
 use Rattle.branch_work.proofs.adding.next_number.Goals as goal
 
 number_some : (x n : ℕ) → Some x ≡ (if n == 0 then None else Some n) → x ≡ n

@@ -1,5 +1,4 @@
-use Rattle.sql_rows.proofs.Chaining.{call, done}
-use Rattle.shop_schema.specs.Counts.{counts_of}
+use Rattle.shop_schema.proofs.Common.{call, done, counts_of}
 use Rattle.shop_ledger.proofs.CountsOf.{agreed, beside}
 use Rattle.shop_ledger.proofs.Agreeing.{active_counted}
 use Rattle.branch_work.proofs.adding.put_active.Goals as goal

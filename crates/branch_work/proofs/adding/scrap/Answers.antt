@@ -1,7 +1,4 @@
-use Rattle.sql_rows.proofs.Chaining.{call, done}
-use Rattle.shop_model.specs.Values.{Scrapped}
-use Rattle.shop_model.specs.Books.{put_state}
-use Rattle.shop_schema.specs.Counts.{counts_of}
+use Rattle.shop_schema.proofs.Common.{call, done, Scrapped, put_state, counts_of}
 use Rattle.shop_schema.proofs.Lists.{picks_row}
 use Rattle.shop_ledger.proofs.CountsOf.{agreed, beside}
 use Rattle.shop_ledger.proofs.Agreeing.{state_counted}

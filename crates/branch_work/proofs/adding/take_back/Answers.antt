@@ -1,7 +1,4 @@
-use Rattle.std.proofs.Common.{◌∙◌, sym, ap, option_map, Some}
-use Rattle.sql_rows.proofs.Chaining.{and_then, call, done}
-use Rattle.shop_model.specs.Values.{Rental}
-use Rattle.shop_schema.specs.Counts.{counts_of, drop_out}
+use Rattle.shop_schema.proofs.Common.{◌∙◌, sym, ap, option_map, Some, and_then, call, done, Rental, counts_of, drop_out}
 use Rattle.shop_ledger.proofs.CountsOf.{agreed, beside}
 use Rattle.shop_ledger.proofs.Agreeing.{returned_counted, its_rentals, out_once}
 use Rattle.branch_core.specs.Agreed.{seen_rental}

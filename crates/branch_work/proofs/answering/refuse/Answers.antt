@@ -1,6 +1,4 @@
-use Rattle.std.proofs.Common.{refl}
-use Rattle.shop_types.specs.declared.refusal.Refusal.TheVariants.{BadCsv}
-use Rattle.shop_types.specs.Seen.{seen_refusal}
+use Rattle.shop_schema.proofs.Common.{refl, BadCsv, seen_refusal}
 use Rattle.branch_work.proofs.Decisions.{refused_told, refused_by}
 use Rattle.branch_work.proofs.answering.refuse.Goals as goal
 

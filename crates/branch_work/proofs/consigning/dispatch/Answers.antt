@@ -1,12 +1,4 @@
-use Rattle.std.proofs.Common.{◌≡◌, ◌∙◌, ◌+◌, ℕ, List, [], Option, length, map, filter, ap, sym, subst}
-use Rattle.std.specs.Prelude.{IfSome}
-use Rattle.sqlite.specs.Held.{state}
-use Rattle.sql_rows.proofs.Chaining.{and_then, call, done, some_calls}
-use Rattle.shop_model.specs.Books.{between, is_consignment}
-use Rattle.shop_types.specs.declared.parcel.ParcelLine.{ParcelLine}
-use Rattle.shop_types.specs.Seen.{seen_parcel_line}
-use Rattle.shop_schema.specs.Counts.{add_pair, counts_of}
-use Rattle.shop_schema.specs.Shop.{Holds}
+use Rattle.shop_schema.proofs.Common.{◌≡◌, ◌∙◌, ◌+◌, ℕ, List, [], Option, length, map, filter, ap, sym, subst, IfSome, state, and_then, call, done, some_calls, between, is_consignment, ParcelLine, seen_parcel_line, add_pair, counts_of, Holds}
 use Rattle.shop_ledger.proofs.CountsOf.{beside}
 use Rattle.consign_store.proofs.PairCounts.{next_is_new, pair_last, pairs_once}
 use Rattle.branch_core.specs.Marked.{parts_at}

@@ -1,8 +1,4 @@
-use Rattle.std.proofs.Common.{◌≡◌, ◌∙◌, ◌+◌, ℕ, ap, arith, subst, sym}
-use Rattle.sqlite.specs.Held.{state}
-use Rattle.sql_rows.proofs.Chaining.{and_then, call, done, some_calls}
-use Rattle.sql_rows.proofs.Stays.{within_none}
-use Rattle.shop_schema.specs.Shop.{HoldsWith}
+use Rattle.shop_schema.proofs.Common.{◌≡◌, ◌∙◌, ◌+◌, ℕ, ap, arith, subst, sym, state, and_then, call, done, some_calls, within_none, HoldsWith}
 use Rattle.shop_store.specs.Seen.{seen_copy_row}
 use Rattle.branch_core.specs.Consigned.{come_copy}
 use Rattle.branch_work.proofs.Writings.{writes_then, writes_as}

@@ -1,7 +1,4 @@
-use Rattle.std.proofs.Common.{◌≡◌, ◌+◌, Ok, take}
-use Rattle.std.specs.Prelude.{⊤}
-use Rattle.sql_rows.specs.Calls.{DoesWithin}
-use Rattle.sql_rows.specs.declared.fault.StoreFault.{StoreFault}
+use Rattle.shop_schema.proofs.Common.{◌≡◌, ◌+◌, Ok, take, ⊤, DoesWithin, StoreFault}
 use Rattle.branch_work.specs.Acts.{Makes}
 use Rattle.branch_work.proofs.Writings.{with_copies}
 use Rattle.branch_work.proofs.ConsignLemmas.{come_rows}

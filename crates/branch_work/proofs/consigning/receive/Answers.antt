@@ -1,14 +1,5 @@
-use Rattle.std.proofs.Common.{◌≡◌, ◌∙◌, ◌≤◌, ◌++◌, ◌∷◌, [], ℕ, List, Option, Some, length, map, filter, ap, sym, subst, arith}
-use Rattle.std.specs.Prelude.{IfSome}
-use Rattle.sqlite.specs.Held.{state}
-use Rattle.sql_rows.proofs.Chaining.{and_then, call, done, some_calls}
-use Rattle.sql_rows.proofs.Stays.{within_as}
-use Rattle.shop_model.specs.Rows.{arrived, next, update_where}
-use Rattle.shop_model.specs.Books.{Consignment, checked, is_consignment}
-use Rattle.shop_model.proofs.RowLemmas.{length_map}
-use Rattle.shop_types.specs.declared.parcel.ParcelLine.{ParcelLine}
-use Rattle.shop_schema.specs.Counts.{counts_of, raise}
-use Rattle.shop_schema.specs.Shop.{Holds, HoldsWith}
+use Rattle.shop_schema.proofs.Common.{◌≡◌, ◌∙◌, ◌≤◌, ◌++◌, ◌∷◌, [], ℕ, List, Option, Some, length, map, filter, ap, sym, subst, arith, IfSome, state, and_then, call, done, some_calls, within_as, arrived, next, Consignment, checked, is_consignment, length_map, ParcelLine, counts_of, raise, Holds, HoldsWith}
+use Rattle.shop_model.specs.Rows.{update_where}
 use Rattle.shop_ledger.specs.declared.counts.CountKind.TheVariants as kind
 use Rattle.shop_ledger.proofs.CountsOf.{beside, held_once, told_more}
 use Rattle.branch_core.specs.declared.found.ArrivalFound.{ArrivalFound}

@@ -1,7 +1,4 @@
-use Rattle.sql_rows.proofs.Chaining.{and_then, call, done, some_calls}
-use Rattle.sql_rows.proofs.Stays.{within_none}
-use Rattle.shop_model.specs.Values.{Sent}
-use Rattle.shop_model.specs.Books.{put_state}
+use Rattle.shop_schema.proofs.Common.{and_then, call, done, some_calls, within_none, Sent, put_state}
 use Rattle.branch_work.proofs.ConsignLemmas.{none_set, one_set, all_set}
 use Rattle.branch_work.proofs.consigning.set_sent.Goals as goal
 

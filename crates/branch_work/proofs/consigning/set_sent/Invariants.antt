@@ -1,9 +1,4 @@
-use Rattle.std.proofs.Common.{Ok, take}
-use Rattle.std.specs.Prelude.{⊤}
-use Rattle.sql_rows.specs.Calls.{DoesWithin}
-use Rattle.sql_rows.specs.declared.fault.StoreFault.{StoreFault}
-use Rattle.shop_model.specs.Values.{Sent}
-use Rattle.shop_model.specs.Books.{put_state}
+use Rattle.shop_schema.proofs.Common.{Ok, take, ⊤, DoesWithin, StoreFault, Sent, put_state}
 use Rattle.branch_work.specs.Acts.{Makes}
 use Rattle.branch_work.proofs.ConsignLemmas.{AreCounted, with_set}
 use Rattle.branch_work.proofs.consigning.set_sent.Given as goal

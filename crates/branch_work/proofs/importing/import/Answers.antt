@@ -1,13 +1,4 @@
-use Rattle.std.proofs.Common.{◌≡◌, ◌≤◌, ◌+◌, ◌∙◌, ◌++◌, ◌∷◌, [], ℕ, List, codes, decimal, ap, sym, subst, arith, length, map}
-use Rattle.sqlite.specs.Held.{state}
-use Rattle.sql_rows.proofs.Chaining.{and_then, call, done, some_calls}
-use Rattle.shop_model.specs.Json.{object}
-use Rattle.shop_model.specs.Rows.{Row, next, of}
-use Rattle.shop_model.specs.Values.{Text}
-use Rattle.shop_model.specs.Books.{BookCopy, unmarked}
-use Rattle.shop_model.proofs.RowLemmas.{length_map}
-use Rattle.shop_schema.specs.Counts.{counts_of, raise}
-use Rattle.shop_schema.specs.Shop.{Holds, HoldsWith}
+use Rattle.shop_schema.proofs.Common.{◌≡◌, ◌≤◌, ◌+◌, ◌∙◌, ◌++◌, ◌∷◌, [], ℕ, List, codes, decimal, ap, sym, subst, arith, length, map, state, and_then, call, done, some_calls, object, Row, next, of, Text, BookCopy, unmarked, length_map, counts_of, raise, Holds, HoldsWith}
 use Rattle.shop_ledger.specs.declared.counts.CountKind.TheVariants as kind
 use Rattle.shop_store.specs.Seen.{seen_copy_row}
 use Rattle.shop_ledger.proofs.CountsOf.{beside, held_once, told_more}

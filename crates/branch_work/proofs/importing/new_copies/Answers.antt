@@ -1,8 +1,4 @@
-use Rattle.std.proofs.Common.{◌≡◌, ◌∙◌, sym, ap, ◌+◌, List, [], ◌∷◌, ◌++◌, take, map, replicate, arith, vec_len}
-use Rattle.std.proofs.lemmas.List.{take_more}
-use Rattle.std.proofs.lemmas.List.Sums.{sum_by_push}
-use Rattle.shop_model.specs.Rows.{Row}
-use Rattle.shop_model.specs.Books.{BookCopy}
+use Rattle.shop_schema.proofs.Common.{◌≡◌, ◌∙◌, sym, ap, ◌+◌, List, [], ◌∷◌, ◌++◌, take, map, replicate, arith, vec_len, take_more, sum_by_push, Row, BookCopy}
 use Rattle.branch_core.specs.declared.found.StockFound.{StockFound}
 use Rattle.branch_core.specs.StockLists.{copies_of, films_of}
 use Rattle.shop_store.specs.Seen.{seen_copy_row}

@@ -1,7 +1,4 @@
-use Rattle.std.proofs.Common.{◌≡◌, ◌∙◌, ap, ℕ, ◌+◌, List, [], ◌∷◌, ◌++◌, map, replicate, append_assoc, arith, vec_len}
-use Rattle.std.proofs.lemmas.List.{map-append}
-use Rattle.shop_model.specs.Rows.{Row}
-use Rattle.shop_model.specs.Books.{BookCopy, imported}
+use Rattle.shop_schema.proofs.Common.{◌≡◌, ◌∙◌, ap, ℕ, ◌+◌, List, [], ◌∷◌, ◌++◌, map, replicate, append_assoc, arith, vec_len, map-append, Row, BookCopy, imported}
 use Rattle.shop_store.specs.Seen.{seen_copy_row}
 use Rattle.branch_work.specs.Added.{copies_from}
 use Rattle.branch_work.proofs.CopyLemmas.{copy_more}

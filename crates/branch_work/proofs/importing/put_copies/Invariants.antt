@@ -1,7 +1,4 @@
-use Rattle.std.proofs.Common.{◌++◌, Ok, take, map}
-use Rattle.std.specs.Prelude.{⊤}
-use Rattle.sql_rows.specs.Calls.{DoesWithin}
-use Rattle.sql_rows.specs.declared.fault.StoreFault.{StoreFault}
+use Rattle.shop_schema.proofs.Common.{◌++◌, Ok, take, map, ⊤, DoesWithin, StoreFault}
 use Rattle.shop_store.specs.Seen.{seen_copy_row}
 use Rattle.branch_work.specs.Acts.{Makes}
 use Rattle.branch_work.proofs.importing.put_copies.Given as goal

@@ -1,10 +1,4 @@
-use Rattle.std.proofs.Common.{◌≡◌, ◌≤◌, ◌∙◌, refl, ap, subst, arith}
-use Rattle.std.specs.Prelude.{string_bytes}
-use Rattle.sqlite.specs.Held.{state}
-use Rattle.shop_model.specs.Answers.{accepted_answer}
-use Rattle.shop_types.specs.Seen.{seen_command}
-use Rattle.shop_schema.specs.Shop.{Holds}
-use Rattle.sql_rows.proofs.Stays.{clean_within}
+use Rattle.shop_schema.proofs.Common.{◌≡◌, ◌≤◌, ◌∙◌, refl, ap, subst, arith, string_bytes, state, accepted_answer, seen_command, Holds, clean_within}
 use Rattle.branch_work.specs.Rules.{rules_of}
 use Rattle.branch_work.proofs.Acted.{acted_done}
 use Rattle.branch_work.proofs.Counting.{acted_once}

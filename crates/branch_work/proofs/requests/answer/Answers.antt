@@ -1,13 +1,5 @@
-use Rattle.std.proofs.Common.{◌∙◌, refl, ap, subst, Result, Ok, Err}
-use Rattle.std.proofs.lemmas.Result.{IfOk-weaker}
-use Rattle.sqlite.specs.Held.{state}
-use Rattle.shop_model.specs.Verdict.{verdict}
-use Rattle.shop_model.specs.Books.{shop_of}
-use Rattle.shop_types.specs.declared.change.Change.{Change}
+use Rattle.shop_schema.proofs.Common.{◌∙◌, refl, ap, subst, Result, Ok, Err, IfOk-weaker, state, verdict, shop_of, Change, Refusal, IsVerdict, seen_command}
 use Rattle.shop_types.specs.declared.change.Change.TheVariants as change
-use Rattle.shop_types.specs.declared.refusal.Refusal.{Refusal}
-use Rattle.shop_types.specs.Decisions.{IsVerdict}
-use Rattle.shop_types.specs.Seen.{seen_command}
 use Rattle.branch_work.specs.Rules.{rules_of}
 use Rattle.branch_work.proofs.Doing.{branch_goes, again_done, accepted_done, refused_done}
 use Rattle.branch_work.proofs.Decisions.{accepted_told}

@@ -1,6 +1,4 @@
-use Rattle.std.proofs.Common.{sym}
-use Rattle.std.proofs.lemmas.Result.{IfOk-weaker}
-use Rattle.shop_types.specs.Seen.{seen_ask}
+use Rattle.shop_schema.proofs.Common.{sym, IfOk-weaker, seen_ask}
 use Rattle.branch_work.proofs.Doing.{look_come}
 use Rattle.branch_work.proofs.requests.answer_branch.Goals as goal
 

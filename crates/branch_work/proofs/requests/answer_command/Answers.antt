@@ -1,13 +1,8 @@
-use Rattle.std.proofs.Common.{◌∙◌, refl, ap, arith, Option, option_map}
-use Rattle.std.proofs.lemmas.Result.{IfOk-weaker}
-use Rattle.sqlite.specs.Held.{state}
-use Rattle.sqlite.specs.State.{HasCleanDisk}
-use Rattle.shop_types.specs.Seen.{seen_command}
+use Rattle.shop_schema.proofs.Common.{◌∙◌, refl, ap, arith, Option, option_map, IfOk-weaker, state, HasCleanDisk, seen_command, within_of, within_err, within_then}
 use Rattle.shop_ledger.specs.declared.kept.KeptRow.{KeptRow}
 use Rattle.shop_ledger.specs.Seen.{seen_kept, by_form}
 use Rattle.shop_ledger.proofs.KeptLemmas.{copied_told}
 use Rattle.branch_work.specs.Rules.{rules_of}
-use Rattle.sql_rows.proofs.Stays.{within_of, within_err, within_then}
 use Rattle.branch_work.proofs.Kepts.{kept_told}
 use Rattle.branch_work.proofs.requests.answer_command.Goals as goal
 

@@ -1,18 +1,11 @@
-use Rattle.std.proofs.Common.{refl, sym, subst, false, arith, inl, inr}
-use Rattle.std.proofs.lemmas.Result.{IfOk-weaker}
-use Rattle.sqlite.specs.Held.{state}
-use Rattle.sqlite.specs.State.{HasCleanDisk}
-use Rattle.shop_model.specs.Refusals.{Decision, NoCounter, NoRoute}
-use Rattle.shop_model.specs.Books.{Counter}
+use Rattle.shop_schema.proofs.Common.{refl, sym, subst, false, arith, inl, inr, IfOk-weaker, state, HasCleanDisk, Decision, NoCounter, NoRoute, Counter, seen_ask, seen_request, clean_within, inside_then, inside_as, inside_err}
 use Rattle.shop_types.specs.declared.request.Request.{Request}
 use Rattle.shop_types.specs.declared.request.Request.TheVariants as request
-use Rattle.shop_types.specs.Seen.{seen_ask, seen_request}
 use Rattle.shop_ledger.specs.declared.answered.Answered.{Answered}
 use Rattle.shop_ledger.specs.Standings.{IsStanding}
 use Rattle.branch_looks.specs.Looks.{reads_row}
 use Rattle.branch_looks.proofs.Telling.{within_by}
 use Rattle.branch_work.specs.Works.{IsDone}
-use Rattle.sql_rows.proofs.Stays.{clean_within, inside_then, inside_as, inside_err}
 use Rattle.branch_work.proofs.Doing.{nobody_done, kept_done, look_come}
 use Rattle.branch_work.proofs.Decisions.{refused_told}
 use Rattle.branch_work.proofs.requests.answer_where_found.Goals as goal

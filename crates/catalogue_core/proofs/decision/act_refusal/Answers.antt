@@ -1,7 +1,4 @@
-use Rattle.std.proofs.Common.{◌∙◌, ap}
-use Rattle.std.specs.Str.{bytes_eq}
-use Rattle.shop_model.specs.Values.{Text}
-use Rattle.shop_types.specs.Seen.{seen_branch, seen_staff}
+use Rattle.shop_types.proofs.Common.{◌∙◌, ap, bytes_eq, Text, seen_branch, seen_staff}
 use Rattle.catalogue_core.proofs.decision.act_refusal.Goals as goal
 
 pub returns-in-Price : goal.returns-in-Price

@@ -1,6 +1,4 @@
-use Rattle.std.proofs.Common.{◌∙◌, refl, sym, ap, Some}
-use Rattle.shop_model.specs.Verdict.{Verdict, first}
-use Rattle.shop_types.specs.Seen.{seen_office}
+use Rattle.shop_types.proofs.Common.{◌∙◌, refl, sym, ap, Some, Verdict, first, seen_office}
 use Rattle.catalogue_core.specs.Decided.{fresh_refusals}
 use Rattle.catalogue_core.proofs.ActLemmas.{fresh, accepted}
 use Rattle.catalogue_core.proofs.decision.decide_office.Goals as goal

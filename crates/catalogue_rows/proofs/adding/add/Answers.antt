@@ -1,14 +1,4 @@
-use Rattle.std.proofs.Common.{◌≡◌, ◌+◌, ◌∙◌, ap, refl, subst, arith, length}
-use Rattle.std.specs.Prelude.{string_bytes}
-use Rattle.sqlite.specs.Held.{state}
-use Rattle.sqlite.specs.State.{HasCleanDisk}
-use Rattle.shop_model.specs.Json.{object}
-use Rattle.shop_model.specs.Machine.{office_told}
-use Rattle.shop_model.specs.Answers.{accepted_answer}
-use Rattle.shop_model.specs.Books.{Books}
-use Rattle.shop_types.specs.Seen.{seen_office}
-use Rattle.shop_schema.specs.Counts.{counts_of}
-use Rattle.shop_schema.specs.Shop.{HoldsWith}
+use Rattle.shop_schema.proofs.Common.{◌≡◌, ◌+◌, ◌∙◌, ap, refl, subst, arith, length, string_bytes, state, HasCleanDisk, object, office_told, accepted_answer, Books, seen_office, counts_of, HoldsWith}
 use Rattle.shop_ledger.specs.Counted.{office_counted}
 use Rattle.shop_ledger.proofs.OfficeCounts.{office_counts_agreed, office_grown_once}
 use Rattle.catalogue_rows.proofs.Written.{act_kept}

@@ -1,13 +1,6 @@
-use Rattle.std.proofs.Common.{◌≡◌, ◌∙◌, ◌+◌, ◌∷◌, [], ℕ, ap, arith, codes, decimal, length}
-use Rattle.sqlite.specs.Held.{state}
-use Rattle.sqlite.specs.State.{HasCleanDisk}
-use Rattle.shop_model.specs.Rows.{owned_by}
-use Rattle.shop_model.specs.Values.{AddBranch}
-use Rattle.shop_types.specs.Seen.{seen_branch}
-use Rattle.shop_schema.specs.Counts.{counts_of}
+use Rattle.shop_schema.proofs.Common.{◌≡◌, ◌∙◌, ◌+◌, ◌∷◌, [], ℕ, ap, arith, codes, decimal, length, state, HasCleanDisk, owned_by, AddBranch, seen_branch, counts_of, inside_err, within_of, inside_then}
 use Rattle.shop_ledger.proofs.CountsOf.{beside}
 use Rattle.catalogue_rows.specs.Added.{IsNumbered}
-use Rattle.sql_rows.proofs.Stays.{inside_err, within_of, inside_then}
 use Rattle.catalogue_rows.proofs.Numbers.{was_ok, numbered_as, put_inside, told_then}
 use Rattle.catalogue_rows.proofs.Written.{no_last, branch_added}
 use Rattle.catalogue_rows.proofs.adding.add_branch.Goals as goal

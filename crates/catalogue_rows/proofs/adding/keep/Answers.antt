@@ -1,7 +1,4 @@
-use Rattle.std.proofs.Common.{arith, refl, sym}
-use Rattle.sqlite.specs.Held.{state}
-use Rattle.sqlite.specs.State.{HasCleanDisk}
-use Rattle.shop_types.specs.Seen.{seen_office}
+use Rattle.shop_schema.proofs.Common.{arith, refl, sym, state, HasCleanDisk, seen_office}
 use Rattle.catalogue_rows.proofs.adding.keep.Goals as goal
 
 pub returns-clause-kept : goal.returns-clause-kept

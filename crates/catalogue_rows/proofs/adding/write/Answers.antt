@@ -1,5 +1,4 @@
-use Rattle.std.proofs.Common.{ap, refl}
-use Rattle.shop_types.specs.Seen.{seen_office_act}
+use Rattle.shop_schema.proofs.Common.{ap, refl, seen_office_act}
 use Rattle.catalogue_rows.proofs.Numbers.{put_inside, added_inside}
 use Rattle.catalogue_rows.proofs.Written.{of_act, row_added, row_changed}
 use Rattle.catalogue_rows.proofs.adding.write.Goals as goal

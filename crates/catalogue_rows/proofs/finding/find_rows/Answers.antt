@@ -1,7 +1,4 @@
-use Rattle.std.proofs.Common.{◌∙◌, Ok, ap, sym}
-use Rattle.sql_rows.specs.declared.fault.StoreFault.{StoreFault}
-use Rattle.shop_model.specs.Values.{AddCountry, AddLanguage, AddCategory}
-use Rattle.shop_types.specs.Seen.{seen_office_act}
+use Rattle.shop_schema.proofs.Common.{◌∙◌, Ok, ap, sym, StoreFault, AddCountry, AddLanguage, AddCategory, seen_office_act}
 use Rattle.catalogue_rows.proofs.Readings.{of_act, found_of, made_within}
 use Rattle.catalogue_rows.proofs.finding.find_rows.Goals as goal
 

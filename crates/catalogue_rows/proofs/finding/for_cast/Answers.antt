@@ -1,6 +1,4 @@
-use Rattle.std.proofs.Common.{arith}
-use Rattle.sqlite.specs.Held.{state}
-use Rattle.sqlite.specs.State.{HasCleanDisk}
+use Rattle.shop_schema.proofs.Common.{arith, state, HasCleanDisk}
 use Rattle.shop_schema.proofs.Readings.{reads_then, reads_as}
 use Rattle.catalogue_rows.proofs.finding.for_cast.Goals as goal
 

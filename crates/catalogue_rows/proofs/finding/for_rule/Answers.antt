@@ -1,7 +1,4 @@
-use Rattle.std.proofs.Common.{◌∙◌, ap}
-use Rattle.sqlite.specs.Held.{state}
-use Rattle.shop_model.specs.Shop.{same_rule}
-use Rattle.shop_types.specs.Seen.{seen_rule}
+use Rattle.shop_schema.proofs.Common.{◌∙◌, ap, state, same_rule, seen_rule}
 use Rattle.shop_schema.proofs.Readings.{reads_as}
 use Rattle.catalogue_rows.proofs.finding.for_rule.Goals as goal
 

@@ -1,8 +1,5 @@
-use Rattle.std.proofs.Common.{Ok, Err}
-use Rattle.std.specs.Prelude.{IfOk, Result}
-use Rattle.sqlite_trees.specs.Tree.{Trees}
-use Rattle.sql_rows.specs.declared.fault.StoreFault.{StoreFault}
-use Rattle.shop_types.specs.declared.audit.Audit.{Audit}
+use Rattle.shop_schema.proofs.Common.{Ok, Err, IfOk, Trees, StoreFault, Audit}
+use Rattle.std.specs.Prelude.{Result}
 use Rattle.books_audit.specs.declared.tables.TableRows.{TableRows}
 use Rattle.books_audit.specs.Audits.{IsAuditOf}
 use Rattle.books_audit.specs.Shops.{HaveTables, IsAuditOfShop}

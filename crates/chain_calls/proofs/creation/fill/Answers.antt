@@ -1,8 +1,4 @@
-use Rattle.std.proofs.Common.{arith}
-use Rattle.sqlite.specs.Held.{state}
-use Rattle.sqlite.specs.State.{HasCleanDisk}
-use Rattle.sql_rows.proofs.Inside.{on_ok_then}
-use Rattle.sql_rows.proofs.Stays.{survives_more}
+use Rattle.shop_schema.proofs.Common.{arith, state, HasCleanDisk, on_ok_then, survives_more}
 use Rattle.chain_calls.proofs.creation.fill.Goals as goal
 
 pub returns-in-OfOffice-clause-survives : goal.returns-in-OfOffice-clause-survives

@@ -1,5 +1,4 @@
-use Rattle.std.proofs.Common.{refl}
-use Rattle.sqlite_trees.proofs.Doubt.{no_doubt}
+use Rattle.shop_schema.proofs.Common.{refl, no_doubt}
 use Rattle.chain_calls.proofs.creation.in_memory.Goals as goal
 
 pub returns-in-Ok-make-clause-made : goal.returns-in-Ok-make-clause-made

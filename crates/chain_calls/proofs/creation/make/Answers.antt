@@ -1,6 +1,4 @@
-use Rattle.std.proofs.Common.{◌≡◌, ◌∙◌, sym, subst, arith}
-use Rattle.sqlite.specs.Held.{state}
-use Rattle.sqlite.specs.State.{HasCleanDisk, Survives}
+use Rattle.shop_schema.proofs.Common.{◌≡◌, ◌∙◌, sym, subst, arith, state, HasCleanDisk, Survives}
 use Rattle.chain_calls.specs.Chains.{Rests}
 use Rattle.chain_calls.specs.Steps.{LeavesMade, books_with}
 use Rattle.chain_calls.proofs.Resting.{rests_after, made_new}

@@ -1,6 +1,4 @@
-use Rattle.std.proofs.Common.{◌≡◌, ◌∙◌, refl, sym, subst, arith}
-use Rattle.sqlite.specs.Held.{state}
-use Rattle.sqlite.specs.State.{HasCleanDisk}
+use Rattle.shop_schema.proofs.Common.{◌≡◌, ◌∙◌, refl, sym, subst, arith, state, HasCleanDisk}
 use Rattle.chain_calls.specs.Chains.{Rests, StaysAsFound}
 use Rattle.chain_calls.proofs.Resting.{begun_inside, rests_back, found_back}
 use Rattle.chain_calls.proofs.files.version_in.Goals as goal

@@ -1,6 +1,4 @@
-use Rattle.std.proofs.Common.{◌≡◌, ◌∙◌, refl, sym, subst, arith, true}
-use Rattle.sqlite.specs.Held.{state}
-use Rattle.sqlite.specs.State.{HasCleanDisk, Survives}
+use Rattle.shop_schema.proofs.Common.{◌≡◌, ◌∙◌, refl, sym, subst, arith, true, state, HasCleanDisk, Survives}
 use Rattle.chain_calls.specs.Migrations.{IsMigration, LeavesMigrated}
 use Rattle.chain_calls.proofs.Resting.{begun_inside}
 use Rattle.chain_calls.proofs.Migrated.{were_unsound, migration_made, leaves_migration}

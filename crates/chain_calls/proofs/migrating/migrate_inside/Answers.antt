@@ -1,5 +1,4 @@
-use Rattle.sql_rows.proofs.Stays.{clean_before}
-use Rattle.sqlite.specs.Held.{state}
+use Rattle.shop_schema.proofs.Common.{clean_before, state}
 use Rattle.chain_calls.proofs.Migrated.{migrated_inside}
 use Rattle.chain_calls.proofs.migrating.migrate_inside.Goals as goal
 

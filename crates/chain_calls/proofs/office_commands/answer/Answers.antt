@@ -1,13 +1,5 @@
-use Rattle.std.proofs.Common.{◌∙◌, Ok, Err, Result, refl, ap, subst}
-use Rattle.std.proofs.lemmas.Result.{IfOk-weaker}
-use Rattle.sqlite.specs.Held.{state}
-use Rattle.shop_model.specs.Verdict.{office_verdict}
-use Rattle.shop_types.specs.declared.change.Change.{Change}
+use Rattle.shop_schema.proofs.Common.{◌∙◌, Ok, Err, Result, refl, ap, subst, IfOk-weaker, state, office_verdict, Change, Refusal, IsVerdict, seen_office, clean_before}
 use Rattle.shop_types.specs.declared.change.Change.TheVariants as change
-use Rattle.shop_types.specs.declared.refusal.Refusal.{Refusal}
-use Rattle.shop_types.specs.Decisions.{IsVerdict}
-use Rattle.shop_types.specs.Seen.{seen_office}
-use Rattle.sql_rows.proofs.Stays.{clean_before}
 use Rattle.branch_work.specs.Rules.{rules_of}
 use Rattle.branch_work.proofs.Doing.{again_done, accepted_done, refused_done}
 use Rattle.chain_calls.proofs.Asking.{office_goes}

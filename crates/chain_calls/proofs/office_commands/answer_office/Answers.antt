@@ -1,13 +1,8 @@
-use Rattle.std.proofs.Common.{◌∙◌, ap, Option, option_map}
-use Rattle.sqlite.specs.Held.{state}
-use Rattle.sqlite.specs.State.{HasCleanDisk}
-use Rattle.shop_types.specs.Seen.{seen_office}
+use Rattle.shop_schema.proofs.Common.{◌∙◌, ap, Option, option_map, state, HasCleanDisk, seen_office, IfOk-weaker, inside_then, clean_within}
 use Rattle.shop_ledger.specs.declared.kept.KeptRow.{KeptRow}
 use Rattle.shop_ledger.specs.Seen.{seen_kept, by_form}
 use Rattle.shop_ledger.proofs.KeptLemmas.{copied_told}
 use Rattle.shop_schema.proofs.OfficeOneToOne.{office_told}
-use Rattle.std.proofs.lemmas.Result.{IfOk-weaker}
-use Rattle.sql_rows.proofs.Stays.{inside_then, clean_within}
 use Rattle.chain_calls.proofs.office_commands.answer_office.Goals as goal
 
 pub returns-clause-works : goal.returns-clause-works

@@ -1,8 +1,4 @@
-use Rattle.std.proofs.Common.{◌≡◌, ◌∙◌, refl, sym, subst, arith}
-use Rattle.sqlite.specs.Held.{state}
-use Rattle.sqlite.specs.State.{HasCleanDisk}
-use Rattle.sql_rows.proofs.Inside.{on_ok_then}
-use Rattle.shop_types.specs.Seen.{seen_mark}
+use Rattle.shop_schema.proofs.Common.{◌≡◌, ◌∙◌, refl, sym, subst, arith, state, HasCleanDisk, on_ok_then, seen_mark}
 use Rattle.chain_calls.specs.Chains.{Rests}
 use Rattle.chain_calls.proofs.Resting.{begun_inside, rests_back, custody_between}
 use Rattle.chain_calls.proofs.office_reading.find_place.Goals as goal

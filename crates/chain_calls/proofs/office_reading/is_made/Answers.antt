@@ -1,5 +1,4 @@
-use Rattle.std.proofs.Common.{◌∙◌}
-use Rattle.shop_types.specs.Seen.{seen_mark}
+use Rattle.shop_schema.proofs.Common.{◌∙◌, seen_mark}
 use Rattle.shop_store.specs.Seen.{seen_copy_row}
 use Rattle.chain_calls.proofs.Marks.{made_of_row, unmade_of_none}
 use Rattle.chain_calls.proofs.office_reading.is_made.Goals as goal

@@ -1,13 +1,6 @@
-use Rattle.std.proofs.Common.{◌≡◌, ◌∙◌, ℕ, List, [], ◌∷◌, map, true, false, Option, Some, None, refl, sym, ap, arith}
-use Rattle.sqlite.specs.Held.{state}
-use Rattle.sqlite.specs.State.{HasCleanDisk}
-use Rattle.shop_model.specs.Rows.{at, is_empty, lacks}
-use Rattle.shop_model.specs.Books.{Books, head}
-use Rattle.shop_model.specs.Answers.{answer_of, accepted_answer}
-use Rattle.shop_types.specs.Seen.{seen_mark}
+use Rattle.shop_schema.proofs.Common.{◌≡◌, ◌∙◌, ℕ, List, [], ◌∷◌, map, true, false, Option, Some, None, refl, sym, ap, arith, state, HasCleanDisk, at, is_empty, lacks, Books, head, answer_of, accepted_answer, seen_mark, Decision, NoBranch, NoCopy}
 use Rattle.shop_store.specs.SharedSeen.{manager_of}
 use Rattle.chain_calls.proofs.Marks.{held_once}
-use Rattle.shop_model.specs.Refusals.{Decision, NoBranch, NoCopy}
 use Rattle.branch_work.proofs.Decisions.{accepted_told, refused_told}
 use Rattle.chain_calls.proofs.office_reading.place_in.Goals as goal
 

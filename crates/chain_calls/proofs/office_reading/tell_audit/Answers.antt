@@ -1,6 +1,4 @@
-use Rattle.std.proofs.Common.{◌∙◌, ap}
-use Rattle.sqlite.specs.Held.{state}
-use Rattle.shop_model.specs.Answers.{answer_of, accepted_answer}
+use Rattle.shop_schema.proofs.Common.{◌∙◌, ap, state, answer_of, accepted_answer}
 use Rattle.chain_calls.proofs.Audits.{audit_of_books}
 use Rattle.branch_work.proofs.Decisions.{accepted_told}
 use Rattle.chain_calls.proofs.office_reading.tell_audit.Goals as goal

@@ -1,7 +1,4 @@
-use Rattle.std.proofs.Common.{◌≡◌, ◌∙◌, sym, ap, subst, arith}
-use Rattle.sqlite.specs.Held.{state}
-use Rattle.sqlite.specs.State.{HasCleanDisk}
-use Rattle.shop_model.specs.Answers.{accepted_answer}
+use Rattle.shop_schema.proofs.Common.{◌≡◌, ◌∙◌, sym, ap, subst, arith, state, HasCleanDisk, accepted_answer}
 use Rattle.chain_calls.specs.Steps.{IsUndone}
 use Rattle.chain_calls.proofs.Resting.{rests_settled}
 use Rattle.branch_work.proofs.Decisions.{accepted_told}

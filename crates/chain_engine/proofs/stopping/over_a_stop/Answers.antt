@@ -1,6 +1,4 @@
-use Rattle.std.proofs.Common.{map}
-use Rattle.sqlite.specs.Files.{over_files}
-use Rattle.shop_types.specs.Replies.{seen_reply}
+use Rattle.shop_schema.proofs.Common.{map, over_files, seen_reply}
 use Rattle.chain_steps.specs.Chains.{event_of}
 use Rattle.chain_engine.proofs.Resuming.{resumes}
 use Rattle.chain_engine.proofs.stopping.over_a_stop.Goals as goal

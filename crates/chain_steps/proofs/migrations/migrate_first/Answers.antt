@@ -1,8 +1,4 @@
-use Rattle.std.proofs.Common.{arith}
-use Rattle.sql_rows.proofs.Inside.{on_ok_then}
-use Rattle.sqlite.specs.Held.{state}
-use Rattle.sqlite.specs.State.{HasCleanDisk}
-use Rattle.sqlite.proofs.StateLemmas.{survives_then}
+use Rattle.shop_schema.proofs.Common.{arith, on_ok_then, state, HasCleanDisk, survives_then}
 use Rattle.chain_calls.proofs.Migrated.{migration_from, leaves_from, leaves_less}
 use Rattle.chain_steps.proofs.migrations.migrate_first.Goals as goal
 

@@ -1,14 +1,4 @@
-use Rattle.std.proofs.Common.{◌≡◌, ◌∙◌, inl, refl, sym, subst, arith, IsTrue}
-use Rattle.std.proofs.lemmas.Result.{IfOk-weaker}
-use Rattle.sqlite.specs.Held.{state}
-use Rattle.sqlite.specs.State.{State, HasCleanDisk, Survives}
-use Rattle.sqlite.proofs.StateLemmas.{survives_then}
-use Rattle.sqlite.proofs.Callers.{survives_begin}
-use Rattle.shop_values.specs.LimitValues.{Limits}
-use Rattle.shop_model.specs.Answers.{Answer}
-use Rattle.shop_model.specs.Books.{Books, Caller}
-use Rattle.shop_model.specs.Machine.{Request}
-use Rattle.shop_types.specs.Replies.{seen_reply}
+use Rattle.shop_schema.proofs.Common.{◌≡◌, ◌∙◌, inl, refl, sym, subst, arith, IsTrue, IfOk-weaker, state, State, HasCleanDisk, Survives, survives_then, survives_begin, Limits, Answer, Books, Caller, Request, seen_reply}
 use Rattle.chain_calls.specs.Chains.{Rests}
 use Rattle.chain_calls.specs.Reports.{ShowsReport}
 use Rattle.chain_calls.specs.Steps.{IsHeldBy, IsKnownFor, IsMade, IsUndone, LeavesAfter, asker, asked_of}

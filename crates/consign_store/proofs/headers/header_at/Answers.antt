@@ -1,5 +1,4 @@
-use Rattle.std.proofs.Common.{Ok, refl}
-use Rattle.sql_rows.proofs.Found.{found_then}
+use Rattle.shop_schema.proofs.Common.{Ok, refl, found_then}
 use Rattle.consign_store.specs.Seen.{seen_header}
 use Rattle.consign_store.proofs.Texts.{read_header}
 use Rattle.consign_store.proofs.headers.header_at.Goals as goal

@@ -1,6 +1,4 @@
-use Rattle.std.proofs.Common.{arith}
-use Rattle.sql_rows.proofs.Inside.{on_ok_then}
-use Rattle.shop_types.specs.Seen.{seen_line_state}
+use Rattle.shop_schema.proofs.Common.{arith, on_ok_then, seen_line_state}
 use Rattle.consign_store.proofs.Texts.{sets_line}
 use Rattle.consign_store.proofs.lines.set_line.Goals as goal
 

@@ -1,5 +1,4 @@
-use Rattle.std.proofs.Common.{◌++◌, ◌∷◌, [], subst}
-use Rattle.sql_rows.proofs.Inside.{on_ok_then}
+use Rattle.shop_schema.proofs.Common.{◌++◌, ◌∷◌, [], subst, on_ok_then}
 use Rattle.shop_views.specs.Page.{HasValues}
 use Rattle.consign_store.proofs.lists.add.Goals as goal
 

@@ -1,5 +1,4 @@
-use Rattle.std.proofs.Common.{◌∙◌, ap, filter}
-use Rattle.shop_model.specs.Json.{array}
+use Rattle.shop_schema.proofs.Common.{◌∙◌, ap, filter, array}
 use Rattle.consign_store.specs.declared.lists.ListKind.TheVariants.{Arrivals}
 use Rattle.consign_store.proofs.ListTexts.{arrivals_ask, shows_arrivals, is_arrival}
 use Rattle.consign_store.proofs.ListRuns.{arrivals_text_is}

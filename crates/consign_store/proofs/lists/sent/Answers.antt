@@ -1,5 +1,4 @@
-use Rattle.std.proofs.Common.{◌∙◌, ap, filter}
-use Rattle.shop_model.specs.Json.{array}
+use Rattle.shop_schema.proofs.Common.{◌∙◌, ap, filter, array}
 use Rattle.consign_store.specs.declared.lists.ListKind.TheVariants.{Sent}
 use Rattle.consign_store.proofs.ListTexts.{sent_asks, shows_sent, is_sent}
 use Rattle.consign_store.proofs.ListRuns.{parcels_text_is}

@@ -1,7 +1,4 @@
-use Rattle.std.proofs.Common.{◌∙◌, ap, filter}
-use Rattle.shop_model.specs.Json.{array}
-use Rattle.shop_model.specs.Views.{sorted_by}
-use Rattle.shop_model.specs.Office.{goes_before}
+use Rattle.shop_schema.proofs.Common.{◌∙◌, ap, filter, array, sorted_by, goes_before}
 use Rattle.consign_store.specs.declared.lists.ListKind.TheVariants.{Transit}
 use Rattle.consign_store.proofs.TransitTexts.{transit_asks, shows_transit, is_open, transit_are}
 use Rattle.consign_store.proofs.ListLines.{list_ends}

@@ -1,6 +1,4 @@
-use Rattle.std.proofs.Common.{Ok, refl}
-use Rattle.sql_rows.proofs.Found.{found_then}
-use Rattle.shop_types.specs.Seen.{seen_mark}
+use Rattle.shop_schema.proofs.Common.{Ok, refl, found_then, seen_mark}
 use Rattle.shop_store.specs.Seen.{seen_copy_row}
 use Rattle.consign_store.proofs.Texts.{read_copies}
 use Rattle.consign_store.proofs.marks.copies_marked.Goals as goal

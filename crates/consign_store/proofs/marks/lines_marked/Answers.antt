@@ -1,6 +1,4 @@
-use Rattle.std.proofs.Common.{Ok, refl}
-use Rattle.sql_rows.proofs.Found.{found_then}
-use Rattle.shop_types.specs.Seen.{seen_mark}
+use Rattle.shop_schema.proofs.Common.{Ok, refl, found_then, seen_mark}
 use Rattle.consign_store.specs.Seen.{seen_line}
 use Rattle.consign_store.proofs.Texts.{read_marked}
 use Rattle.consign_store.proofs.marks.lines_marked.Goals as goal

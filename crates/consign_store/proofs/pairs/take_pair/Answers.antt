@@ -1,10 +1,5 @@
-use Rattle.std.proofs.Common.{◌≡◌, ◌∙◌, ℕ, List, Option, Some, Result, sym, ap}
-use Rattle.std.specs.Prelude.{IfOk, slice_get}
-use Rattle.std.proofs.lemmas.Result.{IfOk-weaker}
+use Rattle.shop_schema.proofs.Common.{◌≡◌, ◌∙◌, ℕ, List, Option, Some, Result, sym, ap, IfOk, slice_get, IfOk-weaker, column, number_value, TellsFirst}
 use Rattle.sqlite_value.specs.Order as sql
-use Rattle.sqlite_value.specs.Order.{column}
-use Rattle.sql_rows.specs.Rows.{number_value}
-use Rattle.shop_schema.specs.First.{TellsFirst}
 use Rattle.consign_store.proofs.PairTexts.{tallies_pair}
 use Rattle.consign_store.proofs.pairs.take_pair.Goals as goal
 

@@ -1,11 +1,6 @@
-use Rattle.std.proofs.Common.{arith, ◌≡◌, ◌+◌, subst, ℕ}
-use Rattle.sqlite.specs.Held.{state}
-use Rattle.sqlite.specs.State.{HasCleanDisk}
-use Rattle.sql_rows.proofs.Stays.{within_none, within_of, within_then}
-use Rattle.shop_schema.specs.Shop.{Writes}
+use Rattle.shop_schema.proofs.Common.{arith, ◌≡◌, ◌+◌, subst, ℕ, state, HasCleanDisk, within_none, within_of, within_then, Writes, seen_line_state}
 use Rattle.consign_store.specs.Parts.{IsOnce}
 use Rattle.consign_store.specs.Parcels.{with_checked_to}
-use Rattle.shop_types.specs.Seen.{seen_line_state}
 use Rattle.consign_store.proofs.ParcelLemmas.{none_checked_yet, writes_nothing}
 use Rattle.consign_store.proofs.ParcelSteps.{number_is, one_state}
 use Rattle.consign_store.proofs.parcels.check_lines.Goals as goal

@@ -1,10 +1,4 @@
-use Rattle.std.proofs.Common.{Ok}
-use Rattle.std.specs.Prelude.{⊤}
-use Rattle.sqlite.specs.Held.{state}
-use Rattle.sqlite.specs.State.{HasCleanDisk}
-use Rattle.sql_rows.specs.Calls.{StaysWithin}
-use Rattle.sql_rows.specs.declared.fault.StoreFault.{StoreFault}
-use Rattle.shop_schema.specs.Shop.{Writes}
+use Rattle.shop_schema.proofs.Common.{Ok, ⊤, state, HasCleanDisk, StaysWithin, StoreFault, Writes}
 use Rattle.consign_store.specs.Parts.{IsOnce}
 use Rattle.consign_store.specs.Parcels.{with_checked_to}
 use Rattle.consign_store.proofs.parcels.check_lines.Given as goal

@@ -1,5 +1,4 @@
-use Rattle.std.proofs.Common.{arith, sym, ◌≡◌, ◌==◌, true, false}
-use Rattle.std.proofs.lemmas.Bool.Decides.{nat_tests}
+use Rattle.shop_schema.proofs.Common.{arith, sym, ◌≡◌, ◌==◌, true, false, nat_tests}
 use Rattle.consign_store.proofs.ParcelSteps.{is_here, not_yet}
 use Rattle.consign_store.proofs.parcels.is_among.Goals as goal
 

@@ -1,5 +1,4 @@
-use Rattle.std.proofs.Common.{◌≡◌, false, take}
-use Rattle.shop_model.specs.Rows.{mem}
+use Rattle.shop_schema.proofs.Common.{◌≡◌, false, take, mem}
 use Rattle.consign_store.proofs.parcels.is_among.Given as goal
 
 abbrev pub invariant-loop-other : goal.invariant-loop-other

@@ -1,7 +1,4 @@
-use Rattle.std.proofs.Common.{arith}
-use Rattle.sqlite.specs.Held.{state}
-use Rattle.sqlite.specs.State.{HasCleanDisk}
-use Rattle.sql_rows.proofs.Inside.{on_ok_then}
+use Rattle.shop_schema.proofs.Common.{arith, state, HasCleanDisk, on_ok_then}
 use Rattle.consign_store.proofs.ParcelSteps.{all_states}
 use Rattle.consign_store.proofs.parcels.mark_received.Goals as goal
 

@@ -1,7 +1,4 @@
-use Rattle.std.proofs.Common.{arith, map}
-use Rattle.sqlite.specs.Held.{state}
-use Rattle.sqlite.specs.State.{HasCleanDisk}
-use Rattle.sql_rows.proofs.Inside.{on_ok_then}
+use Rattle.shop_schema.proofs.Common.{arith, map, state, HasCleanDisk, on_ok_then}
 use Rattle.consign_store.specs.Parcels.{sent_line}
 use Rattle.consign_store.proofs.ParcelSteps.{whole}
 use Rattle.consign_store.proofs.parcels.put_consignment.Goals as goal

@@ -1,7 +1,4 @@
-use Rattle.std.proofs.Common.{arith, refl, ◌∙◌, ◌≡◌, ◌+◌, ◌≤◌}
-use Rattle.sqlite.specs.Held.{state}
-use Rattle.sqlite.specs.State.{HasCleanDisk}
-use Rattle.sql_rows.proofs.Stays.{within_none, within_of, within_then}
+use Rattle.shop_schema.proofs.Common.{arith, refl, ◌∙◌, ◌≡◌, ◌+◌, ◌≤◌, state, HasCleanDisk, within_none, within_of, within_then}
 use Rattle.consign_store.proofs.ParcelLemmas.{no_line_put, writes_nothing}
 use Rattle.consign_store.proofs.ParcelSteps.{number_is, one_line, all_lines}
 use Rattle.consign_store.proofs.parcels.put_lines.Goals as goal

@@ -1,10 +1,4 @@
-use Rattle.std.proofs.Common.{◌≡◌, ◌+◌, Ok, take, map}
-use Rattle.std.specs.Prelude.{⊤}
-use Rattle.sqlite.specs.Held.{state}
-use Rattle.sqlite.specs.State.{HasCleanDisk}
-use Rattle.sql_rows.specs.Calls.{StaysWithin}
-use Rattle.sql_rows.specs.declared.fault.StoreFault.{StoreFault}
-use Rattle.shop_schema.specs.Shop.{Writes}
+use Rattle.shop_schema.proofs.Common.{◌≡◌, ◌+◌, Ok, take, map, ⊤, state, HasCleanDisk, StaysWithin, StoreFault, Writes}
 use Rattle.consign_store.specs.Parcels.{HasNoLine, with_lines, sent_line}
 use Rattle.consign_store.proofs.parcels.put_lines.Given as goal
 

@@ -1,7 +1,4 @@
-use Rattle.std.proofs.Common.{ap}
-use Rattle.shop_model.specs.Values.{Here}
-use Rattle.shop_model.specs.Sound.{copy_is}
-use Rattle.shop_types.specs.Seen.{seen_state}
+use Rattle.shop_schema.proofs.Common.{ap, Here, copy_is, seen_state}
 use Rattle.consign_store.specs.Custody.{is_here}
 use Rattle.consign_store.proofs.Custody.{first_passing}
 use Rattle.consign_store.proofs.places.first_here.Goals as goal

@@ -1,7 +1,4 @@
-use Rattle.std.proofs.Common.{ap}
-use Rattle.shop_model.specs.Books.{UnderWay}
-use Rattle.shop_model.specs.Sound.{line_is}
-use Rattle.shop_types.specs.Seen.{seen_line_state}
+use Rattle.shop_schema.proofs.Common.{ap, UnderWay, line_is, seen_line_state}
 use Rattle.consign_store.specs.Custody.{is_under_way}
 use Rattle.consign_store.proofs.Custody.{first_passing}
 use Rattle.consign_store.proofs.places.first_under_way.Goals as goal

@@ -1,9 +1,5 @@
-use Rattle.std.proofs.Common.{arith, ◌≡◌, ◌∙◌, ap, sym, filter, List, Some, None}
-use Rattle.std.specs.Prelude.{slice_get}
-use Rattle.sqlite.specs.Held.{state}
-use Rattle.sqlite.specs.State.{HasCleanDisk}
+use Rattle.shop_schema.proofs.Common.{arith, ◌≡◌, ◌∙◌, ap, sym, filter, List, Some, None, slice_get, state, HasCleanDisk, seen_mark}
 use Rattle.shop_schema.proofs.Readings.{reads_then, reads_as}
-use Rattle.shop_types.specs.Seen.{seen_mark}
 use Rattle.shop_store.specs.declared.copies.CopyRow.{CopyRow}
 use Rattle.consign_store.specs.declared.lines.LineRow.{LineRow}
 use Rattle.consign_store.specs.Custody.{is_here, is_under_way}

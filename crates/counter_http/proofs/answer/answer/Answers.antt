@@ -1,8 +1,6 @@
-use Rattle.std.proofs.Common.{◌∙◌, inr, sym, ap}
-use Rattle.shop_model.specs.Histories.{is_store_failure}
+use Rattle.shop_types.proofs.Common.{◌∙◌, inr, sym, ap, is_store_failure, seen_caller, seen_refusal}
 use Rattle.http_messages.specs.Message.{Message}
 use Rattle.http_messages.specs.Shown.{message_of}
-use Rattle.shop_types.specs.Seen.{seen_caller, seen_refusal}
 use Rattle.counter_routes.specs.Words.{Meaning}
 use Rattle.counter_routes.specs.Readings.{reading_of}
 use Rattle.chain_engine.specs.Holding.{Chained, holding}

@@ -1,8 +1,4 @@
-use Rattle.std.proofs.Common.{◌∙◌, inr, sym, ap}
-use Rattle.shop_model.specs.Refusals.{Decision, NoCounter, StoreFailed}
-use Rattle.shop_model.specs.Machine.{Sorry}
-use Rattle.shop_model.specs.Histories.{is_store_failure}
-use Rattle.shop_model.proofs.Histories.{failed_failure}
+use Rattle.shop_types.proofs.Common.{◌∙◌, inr, sym, ap, Decision, NoCounter, StoreFailed, Sorry, is_store_failure, failed_failure}
 use Rattle.chain_engine.proofs.Failures.{decided_fine}
 use Rattle.chain_engine.specs.Holding.{holding}
 use Rattle.counter_http.proofs.AnswerLemmas.{nobody_refused, nobody_failed}

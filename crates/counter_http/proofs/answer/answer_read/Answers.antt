@@ -1,10 +1,5 @@
-use Rattle.std.proofs.Common.{◌∙◌, inr, sym, ap}
-use Rattle.shop_model.specs.Refusals.{Problem, Memory}
-use Rattle.shop_model.specs.Machine.{Sorry}
-use Rattle.shop_model.specs.Answers.{problem_answer}
-use Rattle.shop_model.specs.Histories.{is_store_failure}
-use Rattle.shop_model.proofs.Histories.{memory_failure}
-use Rattle.shop_types.specs.Seen.{seen_refusal}
+use Rattle.shop_types.proofs.Common.{◌∙◌, inr, sym, ap, Problem, Sorry, problem_answer, is_store_failure, memory_failure, seen_refusal}
+use Rattle.shop_model.specs.Refusals.{Memory}
 use Rattle.chain_engine.proofs.Failures.{decided_fine}
 use Rattle.counter_http.proofs.answer.answer_read.Goals as goal
 

@@ -1,5 +1,4 @@
-use Rattle.std.proofs.Common.{refl, arith, rules}
-use Rattle.std.proofs.KnownBytes.{Keeps-refl}
+use Rattle.shop_types.proofs.Common.{refl, arith, rules, Keeps-refl}
 use Rattle.counter_http.specs.Standings.{IsStanding, IsTurnFault}
 use Rattle.counter_http.specs.declared.machine.Standing.TheVariants.{Ended}
 use Rattle.counter_http.specs.declared.machine.TurnFault.TheVariants.{Read, Write}

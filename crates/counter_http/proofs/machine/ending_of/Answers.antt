@@ -1,5 +1,4 @@
-use Rattle.std.proofs.Common.{[], refl, arith}
-use Rattle.std.proofs.lemmas.List.Elements.{All-nil}
+use Rattle.shop_types.proofs.Common.{[], refl, arith, All-nil}
 use Rattle.counter_http.specs.Exchanges.{GoesOn}
 use Rattle.counter_http.proofs.machine.ending_of.Goals as goal
 

@@ -1,5 +1,4 @@
-use Rattle.std.proofs.Common.{refl}
-use Rattle.shop_model.specs.Refusals.{BadBody}
+use Rattle.shop_types.proofs.Common.{refl, BadBody}
 use Rattle.counter_routes.proofs.asked.read_command.Goals as goal
 
 pub returns-in-BadBody-clause-reading : goal.returns-in-BadBody-clause-reading

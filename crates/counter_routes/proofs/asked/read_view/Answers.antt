@@ -1,5 +1,4 @@
-use Rattle.std.proofs.Common.{refl}
-use Rattle.shop_model.specs.Refusals.{NoRoute}
+use Rattle.shop_types.proofs.Common.{refl, NoRoute}
 use Rattle.counter_routes.proofs.asked.read_view.Goals as goal
 
 pub returns-in-None : goal.returns-in-None

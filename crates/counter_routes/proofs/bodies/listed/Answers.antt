@@ -1,6 +1,4 @@
-use Rattle.std.proofs.Common.{rules, ◌≡◌, ◌∙◌, ◌+◌, [], ℕ, List, Some, None, sym, ap, arith, drop}
-use Rattle.std.proofs.lemmas.List.{drop_all, drop_more}
-use Rattle.std.specs.Prelude.{option_map}
+use Rattle.shop_types.proofs.Common.{rules, ◌≡◌, ◌∙◌, ◌+◌, [], ℕ, List, Some, None, sym, ap, arith, drop, drop_all, drop_more, option_map}
 use Rattle.serde_json.specs.Data.{Items, item}
 use Rattle.serde_json.specs.Find.{as_array}
 use Rattle.serde_json.specs.View.{view, items_view}

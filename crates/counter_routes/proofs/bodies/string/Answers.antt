@@ -1,6 +1,4 @@
-use Rattle.std.proofs.Common.{◌∙◌, ap, ℕ, List}
-use Rattle.std.specs.Prelude.{option_and_then, option_map}
-use Rattle.std.specs.Borrow.{Bor}
+use Rattle.shop_types.proofs.Common.{◌∙◌, ap, ℕ, List, option_and_then, option_map, Bor}
 use Rattle.serde_json.specs.Find.{as_str}
 use Rattle.counter_routes.proofs.bodies.string.Goals as goal
 

@@ -1,6 +1,4 @@
-use Rattle.std.proofs.Common.{◌≡◌, Some, arith}
-use Rattle.std.proofs.lemmas.Bool.{iff_false}
-use Rattle.std.proofs.lemmas.Str.{is_utf8-from_IsUtf8}
+use Rattle.shop_types.proofs.Common.{◌≡◌, Some, arith, iff_false, is_utf8-from_IsUtf8}
 use Rattle.serde_json.specs.View.{view}
 use Rattle.counter_routes.specs.Bodies.{body_of}
 use Rattle.counter_routes.proofs.BodyLemmas.{body_of-None}

@@ -1,7 +1,5 @@
-use Rattle.std.proofs.Common.{◌≡◌, ◌∙◌, refl, sym, ap, Some}
-use Rattle.std.specs.Prelude.{option_map, option_and_then, slice_get}
+use Rattle.shop_types.proofs.Common.{◌≡◌, ◌∙◌, refl, sym, ap, Some, option_map, option_and_then, slice_get, is_key}
 use Rattle.http_messages.specs.Items.{parts}
-use Rattle.shop_values.specs.Texts.{is_key}
 use Rattle.counter_routes.specs.Bodies.{passing}
 use Rattle.counter_routes.specs.Imports.{name_in}
 use Rattle.counter_routes.proofs.FoundLemmas.{was_there, was_not, handed_on, if_there, if_not}

@@ -1,7 +1,4 @@
-use Rattle.std.proofs.Common.{◌≡◌, ◌∙◌, ap, true, false, Some, codes}
-use Rattle.std.specs.Prelude.{if◌then◌else◌}
-use Rattle.std.specs.Str.{bytes_eq}
-use Rattle.shop_values.specs.Numbers.{row_number_of}
+use Rattle.shop_types.proofs.Common.{◌≡◌, ◌∙◌, ap, true, false, Some, codes, if◌then◌else◌, bytes_eq, row_number_of}
 use Rattle.counter_routes.proofs.looks.threshold_written.Goals as goal
 
 pub returns-then-eq : goal.returns-then-eq

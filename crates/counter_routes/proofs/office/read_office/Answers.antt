@@ -1,7 +1,4 @@
-use Rattle.std.proofs.Common.{◌≡◌, refl, true, false, arith}
-use Rattle.std.proofs.lemmas.Bool.Decides.{nat_tests}
-use Rattle.shop_model.specs.Refusals.{TooLong, NoRoute, BadBody}
-use Rattle.shop_types.specs.StockFiles.{is_stock_file}
+use Rattle.shop_types.proofs.Common.{◌≡◌, refl, true, false, arith, nat_tests, TooLong, NoRoute, BadBody, is_stock_file}
 use Rattle.counter_routes.proofs.office.read_office.Goals as goal
 
 pub returns-then-message-gt65536-clause-reading : goal.returns-then-message-gt65536-clause-reading

@@ -1,6 +1,6 @@
-use Rattle.std.proofs.Common.{◌≡◌, refl, map, string_bytes, None}
-use Rattle.shop_model.specs.Refusals.{Usage}
+use Rattle.shop_types.proofs.Common.{◌≡◌, refl, map, string_bytes, None}
 use Rattle.shop_types.specs.declared.line.Usage.TheVariants.{Memory}
+use Rattle.shop_model.specs.Refusals.{Usage}
 use Rattle.counter_routes.proofs.office.read_words.Goals as goal
 use Rattle.counter_routes.proofs.office.read_words.Goals.{in-Words, in-Memory}
 

@@ -1,10 +1,7 @@
-use Rattle.std.proofs.Common.{rules, ◌≡◌, ◌∙◌, ◌+◌, ◌++◌, ◌∷◌, [], List, Some, None, sym, ap, arith, map, drop, string_bytes}
-use Rattle.std.proofs.lemmas.List.{drop_all, drop_more, map-append}
-use Rattle.std.specs.Prelude.{option_map}
+use Rattle.shop_types.proofs.Common.{rules, ◌≡◌, ◌∙◌, ◌+◌, ◌++◌, ◌∷◌, [], List, Some, None, sym, ap, arith, map, drop, string_bytes, drop_all, drop_more, map-append, option_map, Text}
 use Rattle.serde_json.specs.Data.{Items, item}
 use Rattle.serde_json.specs.Find.{as_str, as_array}
 use Rattle.serde_json.specs.View.{view, items_view}
-use Rattle.shop_model.specs.Values.{Text}
 use Rattle.counter_routes.specs.Words.{texts_in, list_of_texts}
 use Rattle.counter_routes.proofs.WordLemmas.{behind, behind_all, behind_last, behind_text, behind_other}
 use Rattle.counter_routes.proofs.FoundLemmas.{was_there, was_not, handed_on}

@@ -1,6 +1,4 @@
-use Rattle.std.proofs.Common.{◌+◌, ◌∙◌, ap, drop, refl}
-use Rattle.std.proofs.lemmas.List.{drop_all, drop_more}
-use Rattle.std.proofs.lemmas.Bool.{and_parts}
+use Rattle.shop_types.proofs.Common.{◌+◌, ◌∙◌, ap, drop, refl, drop_all, drop_more, and_parts}
 use Rattle.counter_routes.specs.Routes.{Rows, table, is_table, with_routes, are_new, entries}
 use Rattle.counter_routes.proofs.RouteLemmas.{inserted, only_memory}
 use Rattle.counter_routes.proofs.paths.build.Goals as goal

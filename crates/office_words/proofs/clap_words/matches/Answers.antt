@@ -1,5 +1,4 @@
-use Rattle.std.proofs.Common.{◌≡◌, ◌∙◌, ap, subst, map, List, string_bytes}
-use Rattle.std.proofs.lemmas.Result.{IfOk-weaker}
+use Rattle.shop_types.proofs.Common.{◌≡◌, ◌∙◌, ap, subst, map, List, string_bytes, IfOk-weaker}
 use Rattle.clap.specs.Words.{App, FailsBy, Text, app_of, fault_of, is_simple, is_simple_and_free, matches_of, subcommand_of}
 use Rattle.office_words.specs.CommandLine.{office_app}
 use Rattle.office_words.proofs.OfficeIsSimple.{office_is_simple, office_is_simple_and_free}

@@ -1,5 +1,4 @@
-use Rattle.std.proofs.Common.{◌≡◌, ◌∙◌, sym, map, string_bytes, Some, None, inl, inr}
-use Rattle.std.proofs.lemmas.Result.{IfOk-weaker, IfErr-weaker}
+use Rattle.shop_types.proofs.Common.{◌≡◌, ◌∙◌, sym, map, string_bytes, Some, None, inl, inr, IfOk-weaker, IfErr-weaker}
 use Rattle.office_words.specs.Given.{values_of}
 use Rattle.office_words.specs.Line.{line_of, line_from}
 use Rattle.office_words.proofs.LineLemmas.{faulty, taken, entered, not_entered}

@@ -1,5 +1,4 @@
-use Rattle.std.proofs.Common.{◌∙◌, ap, map}
-use Rattle.std.proofs.lemmas.Result.{IfOk-weaker}
+use Rattle.shop_types.proofs.Common.{◌∙◌, ap, map, IfOk-weaker}
 use Rattle.clap.specs.Words.{App, app_of}
 use Rattle.office_words.specs.Table.{option_rule}
 use Rattle.office_words.proofs.TableLemmas.{shape_with}

@@ -1,7 +1,4 @@
-use Rattle.std.proofs.Common.{◌≡◌, refl, List, ℕ, false}
-use Rattle.std.specs.Str.{bytes_eq}
-use Rattle.std.proofs.lemmas.Bool.{false_from_ne_true}
-use Rattle.std.proofs.lemmas.Slice.Eq.{bytes_eq-Decides}
+use Rattle.shop_types.proofs.Common.{◌≡◌, refl, List, ℕ, false, bytes_eq, false_from_ne_true, bytes_eq-Decides}
 use Rattle.office_words.proofs.given.rule_of.Goals as goal
 
 differ : (xs ys : List ℕ) → ¬ (xs ≡ ys) → bytes_eq xs ys ≡ false

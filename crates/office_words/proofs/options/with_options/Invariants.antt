@@ -1,5 +1,4 @@
-use Rattle.std.proofs.Common.{◌≡◌, drop, false, map}
-use Rattle.std.specs.Prelude.{fold}
+use Rattle.shop_types.proofs.Common.{◌≡◌, drop, false, map, fold}
 use Rattle.clap.specs.Words.{app_of, with_rule}
 use Rattle.clap.specs.declared.builder.command.Command.TheViews.{out-Command}
 use Rattle.office_words.specs.Table.{option_rule}

@@ -1,5 +1,4 @@
-use Rattle.std.proofs.Common.{◌∙◌}
-use Rattle.shop_types.specs.Replies.{seen_reply}
+use Rattle.shop_schema.proofs.Common.{◌∙◌, seen_reply}
 use Rattle.chain_engine.specs.Holding.{holding}
 use Rattle.sakila_office.specs.Commands.{answered}
 use Rattle.sakila_office.proofs.Books.{is_opened}

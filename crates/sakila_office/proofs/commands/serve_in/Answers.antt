@@ -1,5 +1,4 @@
-use Rattle.std.proofs.Common.{◌≡◌, ◌∙◌, ℕ, Bool, true, false, refl, arith}
-use Rattle.std.proofs.KnownBytes.{Keeps-refl}
+use Rattle.shop_schema.proofs.Common.{◌≡◌, ◌∙◌, ℕ, Bool, true, false, refl, arith, Keeps-refl}
 use Rattle.chain_engine.specs.Holding.{holding}
 use Rattle.sakila_office.specs.Commands.{served}
 use Rattle.sakila_office.proofs.Books.{is_opened}

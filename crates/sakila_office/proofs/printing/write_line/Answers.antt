@@ -1,5 +1,4 @@
-use Rattle.std.proofs.Common.{[], ◌∷◌}
-use Rattle.std.proofs.lemmas.Result.{on_err_weaker}
+use Rattle.shop_schema.proofs.Common.{[], ◌∷◌, on_err_weaker}
 use Rattle.counter_http.proofs.WriteLemmas.{OnErr-all, first_front, second_front}
 use Rattle.sakila_office.proofs.printing.write_line.Goals as goal
 

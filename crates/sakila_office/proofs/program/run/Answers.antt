@@ -1,6 +1,4 @@
-use Rattle.std.proofs.Common.{◌≡◌, subst, arith}
-use Rattle.std.proofs.KnownBytes.{Keeps-refl}
-use Rattle.shop_model.specs.Answers.{Answer}
+use Rattle.shop_schema.proofs.Common.{◌≡◌, subst, arith, Keeps-refl, Answer}
 use Rattle.sakila_office.specs.Printed.{IsTold}
 use Rattle.sakila_office.proofs.Tasks.{not_begun}
 use Rattle.sakila_office.proofs.program.run.Goals as goal

@@ -1,11 +1,4 @@
-use Rattle.std.proofs.Common.{◌≡◌, ◌∙◌, subst, refl, false, List}
-use Rattle.std.proofs.KnownBytes.{Keeps-refl}
-use Rattle.sqlite_trees.specs.declared.store.Store.{Ghosts}
-use Rattle.sqlite_trees.proofs.Doubt.{no_doubt}
-use Rattle.sqlite.specs.Held.{state}
-use Rattle.sqlite.specs.State.{HasCleanDisk}
-use Rattle.shop_values.specs.LimitValues.{most_limits}
-use Rattle.shop_model.specs.Opening.{opening_books}
+use Rattle.shop_schema.proofs.Common.{◌≡◌, ◌∙◌, subst, refl, false, List, Keeps-refl, Ghosts, no_doubt, state, HasCleanDisk, most_limits, opening_books}
 use Rattle.office_words.specs.Line.{line_of}
 use Rattle.chain_engine.specs.Holding.{Chained, Holding, holding}
 use Rattle.chain_engine.specs.Chains.{IsAt, Runs}

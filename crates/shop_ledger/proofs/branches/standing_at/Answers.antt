@@ -1,5 +1,4 @@
-use Rattle.std.proofs.Common.{◌≤◌, rules, arith}
-use Rattle.std.specs.Prelude.{IfSome}
+use Rattle.shop_schema.proofs.Common.{◌≤◌, rules, arith, IfSome}
 use Rattle.shop_ledger.proofs.StandingTexts.{told_standing}
 use Rattle.shop_ledger.proofs.CountLemmas.{told_first}
 use Rattle.shop_ledger.proofs.branches.standing_at.Goals as goal

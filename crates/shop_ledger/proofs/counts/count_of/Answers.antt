@@ -1,5 +1,4 @@
-use Rattle.std.proofs.Common.{sym}
-use Rattle.sql_rows.proofs.Found.{found_then}
+use Rattle.shop_schema.proofs.Common.{sym, found_then}
 use Rattle.shop_ledger.proofs.OfficeCounts.{read_counted}
 use Rattle.shop_ledger.proofs.counts.count_of.Goals as goal
 

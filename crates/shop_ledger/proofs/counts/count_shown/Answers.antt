@@ -1,5 +1,4 @@
-use Rattle.std.proofs.Common.{rules}
-use Rattle.sql_rows.proofs.Found.{found_then}
+use Rattle.shop_schema.proofs.Common.{rules, found_then}
 use Rattle.shop_ledger.proofs.CountLemmas.{first_count}
 use Rattle.shop_ledger.proofs.counts.count_shown.Goals as goal
 

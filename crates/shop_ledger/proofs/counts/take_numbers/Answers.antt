@@ -1,5 +1,4 @@
-use Rattle.std.proofs.Common.{◌<◌, ◌^◌, sym, arith}
-use Rattle.sql_rows.proofs.Found.{found_then}
+use Rattle.shop_schema.proofs.Common.{◌<◌, ◌^◌, sym, arith, found_then}
 use Rattle.shop_ledger.specs.Counted.{caller_of, kind_of}
 use Rattle.shop_ledger.proofs.CountLemmas.{tallies_taken}
 use Rattle.shop_ledger.proofs.counts.take_numbers.Goals as goal

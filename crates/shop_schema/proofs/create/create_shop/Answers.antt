@@ -1,8 +1,4 @@
-use Rattle.std.proofs.Common.{◌≡◌, ◌∙◌, sym, subst, arith}
-use Rattle.sqlite.specs.Held.{state}
-use Rattle.sqlite.specs.State.{HasCleanDisk, Survives}
-use Rattle.sql_rows.proofs.Whole.{crash_new}
-use Rattle.shop_schema.specs.Shop.{LeavesNew, IsNewShop}
+use Rattle.shop_schema.proofs.Common.{◌≡◌, ◌∙◌, sym, subst, arith, state, HasCleanDisk, Survives, crash_new, LeavesNew, IsNewShop}
 use Rattle.shop_schema.proofs.CreateTexts.{new_shop}
 use Rattle.shop_schema.proofs.create.create_shop.Goals as goal
 

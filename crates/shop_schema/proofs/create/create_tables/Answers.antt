@@ -1,8 +1,4 @@
-use Rattle.std.proofs.Common.{sym, subst}
-use Rattle.sqlite.specs.Schema.{Schema}
-use Rattle.sqlite.specs.Held.{state}
-use Rattle.sql_rows.specs.Builds.{MakeAll}
-use Rattle.shop_schema.specs.Tables.{shop_schema}
+use Rattle.shop_schema.proofs.Common.{sym, subst, Schema, state, MakeAll, shop_schema}
 use Rattle.shop_schema.proofs.CreateTexts.{texts, make_all, made_empty, empty_keyed}
 use Rattle.shop_schema.proofs.create.create_tables.Goals as goal
 

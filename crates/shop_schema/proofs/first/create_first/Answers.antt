@@ -1,8 +1,4 @@
-use Rattle.std.proofs.Common.{◌≡◌, ◌∙◌, sym, subst, arith}
-use Rattle.sqlite.specs.Held.{state}
-use Rattle.sqlite.specs.State.{HasCleanDisk, Survives}
-use Rattle.sql_rows.proofs.Whole.{crash_new}
-use Rattle.shop_schema.specs.Shop.{LeavesNewFirst, IsNewFirst, first_books}
+use Rattle.shop_schema.proofs.Common.{◌≡◌, ◌∙◌, sym, subst, arith, state, HasCleanDisk, Survives, crash_new, LeavesNewFirst, IsNewFirst, first_books}
 use Rattle.shop_schema.proofs.FirstTexts.{new_first}
 use Rattle.shop_schema.proofs.first.create_first.Goals as goal
 

@@ -1,8 +1,4 @@
-use Rattle.std.proofs.Common.{sym, subst}
-use Rattle.sqlite.specs.Schema.{Schema}
-use Rattle.sqlite.specs.Held.{state}
-use Rattle.sql_rows.specs.Builds.{MakeAll}
-use Rattle.shop_schema.specs.Tables.{version_1_schema}
+use Rattle.shop_schema.proofs.Common.{sym, subst, Schema, state, MakeAll, version_1_schema}
 use Rattle.shop_schema.proofs.CreateTexts.{first_texts, make_first, made_empty, empty_keyed}
 use Rattle.shop_schema.proofs.first.create_first_tables.Goals as goal
 

@@ -1,8 +1,4 @@
-use Rattle.std.proofs.Common.{arith}
-use Rattle.sqlite.specs.Held.{state}
-use Rattle.sqlite.specs.State.{HasCleanDisk}
-use Rattle.sql_rows.proofs.Inside.{on_ok_then}
-use Rattle.sql_rows.proofs.Stays.{clean_before, survives_more}
+use Rattle.shop_schema.proofs.Common.{arith, state, HasCleanDisk, on_ok_then, clean_before, survives_more}
 use Rattle.shop_schema.proofs.FirstTexts.{first_filled}
 use Rattle.shop_schema.proofs.first.fill_first.Goals as goal
 

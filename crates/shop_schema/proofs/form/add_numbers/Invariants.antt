@@ -1,6 +1,5 @@
-use Rattle.std.proofs.Common.{◌≡◌, ◌++◌, length, take}
+use Rattle.shop_schema.proofs.Common.{◌≡◌, ◌++◌, length, take, number_form}
 use Rattle.std.specs.Prelude.{flat_map}
-use Rattle.shop_schema.specs.Forms.{number_form}
 use Rattle.shop_schema.proofs.form.add_numbers.Given as goal
 
 -- it is told how many there are, and the numbers so far are there

@@ -1,5 +1,4 @@
-use Rattle.std.proofs.Common.{ap, ◌∙◌}
-use Rattle.sqlite.specs.Schema.{Schema}
+use Rattle.shop_schema.proofs.Common.{ap, ◌∙◌, Schema}
 use Rattle.shop_schema.proofs.Versions.{first_is}
 use Rattle.shop_schema.proofs.known.has_version.Goals as goal
 

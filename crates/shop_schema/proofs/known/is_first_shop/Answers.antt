@@ -1,6 +1,4 @@
-use Rattle.std.proofs.Common.{refl, sym, ap, subst, ◌∙◌}
-use Rattle.shop_schema.specs.Bare.{begun, IsPlain}
-use Rattle.shop_schema.specs.Tables.{version_1_schema}
+use Rattle.shop_schema.proofs.Common.{refl, sym, ap, subst, ◌∙◌, begun, IsPlain, version_1_schema}
 use Rattle.shop_schema.proofs.known.is_first_shop.Goals as goal
 
 pub returns : goal.returns

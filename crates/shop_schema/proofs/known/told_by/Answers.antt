@@ -1,6 +1,4 @@
-use Rattle.std.proofs.Common.{ap, ◌∙◌, sym}
-use Rattle.sql_rows.specs.Rows.{number_value}
-use Rattle.shop_schema.specs.Versions.{version_told}
+use Rattle.shop_schema.proofs.Common.{ap, ◌∙◌, sym, number_value, version_told}
 use Rattle.shop_schema.proofs.Versions.{told_none, told_one, told_other, told_number, other_number}
 use Rattle.shop_schema.proofs.known.told_by.Goals as goal
 

@@ -1,6 +1,4 @@
-use Rattle.std.proofs.Common.{[], ◌∷◌, ◌++◌, false}
-use Rattle.shop_types.specs.Films.{rating_text, features_text}
-use Rattle.shop_schema.specs.Forms.{number_form, text_form, option_form, flag_form}
+use Rattle.shop_schema.proofs.Common.{[], ◌∷◌, ◌++◌, false, rating_text, features_text, number_form, text_form, option_form, flag_form}
 use Rattle.shop_schema.proofs.FormSteps.{then_more}
 use Rattle.shop_schema.proofs.office_forms.add_film.Goals as goal
 

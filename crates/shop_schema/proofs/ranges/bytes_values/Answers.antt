@@ -1,5 +1,4 @@
-use Rattle.std.proofs.Common.{length, arith}
-use Rattle.std.proofs.lemmas.Bool.{le-leb}
+use Rattle.shop_schema.proofs.Common.{length, arith, le-leb}
 use Rattle.shop_schema.proofs.Values.{bytes_fit}
 use Rattle.shop_schema.proofs.ranges.bytes_values.Goals as goal
 

@@ -1,5 +1,4 @@
-use Rattle.std.proofs.Common.{take}
-use Rattle.shop_schema.specs.RowValues.{AreNumbers}
+use Rattle.shop_schema.proofs.Common.{take, AreNumbers}
 use Rattle.shop_schema.proofs.ranges.numbers_values.Given as goal
 
 abbrev pub invariant-loop-number : goal.invariant-loop-number

@@ -1,6 +1,4 @@
-use Rattle.std.proofs.Common.{◌≡◌, map, take}
-use Rattle.sqlite_value.specs.Order.{column}
-use Rattle.sql_rows.specs.Rows.{number_value}
+use Rattle.shop_schema.proofs.Common.{◌≡◌, map, take, column, number_value}
 use Rattle.shop_schema.proofs.read.row_numbers_in.Given as goal
 
 -- the numbers of the rows so far

@@ -1,5 +1,4 @@
-use Rattle.std.proofs.Common.{◌≤◌, arith}
-use Rattle.sql_rows.proofs.Inside.{on_ok_then}
+use Rattle.shop_schema.proofs.Common.{◌≤◌, arith, on_ok_then}
 use Rattle.shop_store.proofs.SharedSets.{sets_manager}
 use Rattle.shop_store.proofs.branches.set_manager.Goals as goal
 

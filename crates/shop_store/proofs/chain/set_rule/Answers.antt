@@ -1,5 +1,4 @@
-use Rattle.sql_rows.proofs.Inside.{on_ok_then}
-use Rattle.shop_types.specs.Seen.{seen_rule}
+use Rattle.shop_schema.proofs.Common.{on_ok_then, seen_rule}
 use Rattle.shop_store.proofs.OnRule.{sets_rule}
 use Rattle.shop_store.proofs.chain.set_rule.Goals as goal
 

@@ -1,5 +1,4 @@
-use Rattle.std.proofs.Common.{rules, IsUtf8}
-use Rattle.shop_values.proofs.AsciiTexts.{token_is_utf8}
+use Rattle.shop_schema.proofs.Common.{rules, IsUtf8, token_is_utf8}
 use Rattle.shop_store.proofs.columns.token_text.Goals as goal
 
 pub unwrap-requires : goal.unwrap-requires

@@ -1,5 +1,4 @@
-use Rattle.std.proofs.lemmas.Result.{IfOk-weaker}
-use Rattle.shop_types.specs.Seen.{seen_state}
+use Rattle.shop_schema.proofs.Common.{IfOk-weaker, seen_state}
 use Rattle.shop_store.proofs.OnCopies.{read_in_state}
 use Rattle.shop_store.proofs.copies.copies_in_state.Goals as goal
 

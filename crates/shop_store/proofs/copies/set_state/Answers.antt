@@ -1,5 +1,4 @@
-use Rattle.sql_rows.proofs.Inside.{on_ok_then}
-use Rattle.shop_types.specs.Seen.{seen_state}
+use Rattle.shop_schema.proofs.Common.{on_ok_then, seen_state}
 use Rattle.shop_store.proofs.OnCopies.{write_state}
 use Rattle.shop_store.proofs.copies.set_state.Goals as goal
 

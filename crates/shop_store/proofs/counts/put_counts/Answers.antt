@@ -1,5 +1,4 @@
-use Rattle.sql_rows.proofs.Inside.{on_ok_then}
-use Rattle.sql_rows.proofs.Stays.{clean_before, inside_then, within_err, within_of, within_then}
+use Rattle.shop_schema.proofs.Common.{on_ok_then, clean_before, inside_then, within_err, within_of, within_then}
 use Rattle.shop_store.proofs.counts.put_counts.Goals as goal
 
 pub returns-clause-put : goal.returns-clause-put

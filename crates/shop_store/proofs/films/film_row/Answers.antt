@@ -1,5 +1,4 @@
-use Rattle.std.proofs.Common.{Ok, refl, arith}
-use Rattle.sql_rows.proofs.Found.{found_then}
+use Rattle.shop_schema.proofs.Common.{Ok, refl, arith, found_then}
 use Rattle.shop_store.proofs.FilmRows.{read_row}
 use Rattle.shop_store.proofs.films.film_row.Goals as goal
 

@@ -1,5 +1,4 @@
-use Rattle.sql_rows.proofs.Inside.{on_ok_then}
-use Rattle.sql_rows.proofs.Stays.{clean_before, clean_within, inside_then, within_err, within_of, within_then}
+use Rattle.shop_schema.proofs.Common.{on_ok_then, clean_before, clean_within, inside_then, within_err, within_of, within_then}
 use Rattle.shop_ledger.proofs.CountsOf.{beside}
 use Rattle.shop_store.proofs.CountPuts.{opening_agreed}
 use Rattle.shop_store.proofs.OpeningTexts.{opening_added}

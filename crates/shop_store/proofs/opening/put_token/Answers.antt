@@ -1,5 +1,4 @@
-use Rattle.sql_rows.proofs.Inside.{on_ok_then}
-use Rattle.sql_rows.proofs.Stays.{clean_before}
+use Rattle.shop_schema.proofs.Common.{on_ok_then, clean_before}
 use Rattle.shop_store.proofs.CountPuts.{first_agreed}
 use Rattle.shop_store.proofs.opening.put_token.Goals as goal
 

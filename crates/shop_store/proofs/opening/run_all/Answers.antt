@@ -1,7 +1,4 @@
-use Rattle.std.proofs.Common.{Bor, Ok, refl, sym, ap, subst, map, List, ℕ, arith}
-use Rattle.std.proofs.lemmas.List.{drop_all}
-use Rattle.sql_rows.proofs.Creates.{next_of}
-use Rattle.sql_rows.proofs.Stays.{clean_before, within_none, within_of, within_then}
+use Rattle.shop_schema.proofs.Common.{Bor, Ok, refl, sym, ap, subst, map, List, ℕ, arith, drop_all, next_of, clean_before, within_none, within_of, within_then}
 use Rattle.shop_store.specs.Runs.{Runs}
 use Rattle.shop_store.proofs.opening.run_all.Goals as goal
 

@@ -1,9 +1,4 @@
-use Rattle.std.proofs.Common.{Ok, map, drop}
-use Rattle.std.specs.Prelude.{⊤}
-use Rattle.sqlite.specs.Held.{state}
-use Rattle.sqlite.specs.State.{HasCleanDisk}
-use Rattle.sql_rows.specs.Calls.{StaysWithin}
-use Rattle.sql_rows.specs.declared.fault.StoreFault.{StoreFault}
+use Rattle.shop_schema.proofs.Common.{Ok, map, drop, ⊤, state, HasCleanDisk, StaysWithin, StoreFault}
 use Rattle.shop_store.specs.Runs.{Runs}
 use Rattle.shop_store.proofs.opening.run_all.Given as goal
 

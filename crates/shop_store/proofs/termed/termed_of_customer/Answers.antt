@@ -1,5 +1,4 @@
-use Rattle.std.proofs.Common.{Ok, refl}
-use Rattle.sql_rows.proofs.Found.{found_then}
+use Rattle.shop_schema.proofs.Common.{Ok, refl, found_then}
 use Rattle.shop_store.proofs.OnTermed.{read_termed}
 use Rattle.shop_store.proofs.termed.termed_of_customer.Goals as goal
 

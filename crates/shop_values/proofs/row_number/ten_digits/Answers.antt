@@ -1,7 +1,5 @@
-use Rattle.std.proofs.Common.{◌≡◌, ◌<◌, ◌^◌, ◌+◌, ◌*◌, arith, get_or, true, refl}
+use Rattle.shop_model.proofs.Common.{◌≡◌, ◌<◌, ◌^◌, ◌+◌, ◌*◌, arith, get_or, true, refl, is_ascii_digit, list_all_more}
 use Rattle.std.proofs.lemmas.Int.Digits.{digits_value_more}
-use Rattle.std.specs.Char.{is_ascii_digit}
-use Rattle.std.proofs.lemmas.List.Folds.{list_all_more}
 use Rattle.shop_values.proofs.NumberLemmas.{next_digit, fits_ten, digit_is}
 use Rattle.shop_values.proofs.row_number.ten_digits.Goals as goal
 

@@ -1,6 +1,4 @@
-use Rattle.std.proofs.Common.{◌≡◌, ◌<◌, ◌^◌, take, true}
-use Rattle.std.specs.List.{list_all}
-use Rattle.std.specs.Char.{is_ascii_digit}
+use Rattle.shop_model.proofs.Common.{◌≡◌, ◌<◌, ◌^◌, take, true, list_all, is_ascii_digit}
 use Rattle.std.specs.Str.Parse.{digits_value}
 use Rattle.shop_values.proofs.row_number.ten_digits.Given as goal
 

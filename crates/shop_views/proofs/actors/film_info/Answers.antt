@@ -1,5 +1,4 @@
-use Rattle.std.proofs.Common.{codes, string_bytes}
-use Rattle.std.proofs.lemmas.Result.{IfOk-weaker}
+use Rattle.shop_types.proofs.Common.{codes, string_bytes, IfOk-weaker}
 use Rattle.shop_views.specs.Films.{films_text}
 use Rattle.shop_views.proofs.JoinLemmas.{joined_texts}
 use Rattle.shop_views.proofs.actors.film_info.Goals as goal

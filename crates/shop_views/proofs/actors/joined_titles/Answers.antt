@@ -1,6 +1,4 @@
-use Rattle.std.proofs.Common.{◌∙◌, codes, string_bytes}
-use Rattle.std.proofs.lemmas.Result.{IfOk-weaker}
-use Rattle.shop_model.specs.Values.{Text}
+use Rattle.shop_types.proofs.Common.{◌∙◌, codes, string_bytes, IfOk-weaker, Text}
 use Rattle.shop_views.proofs.JoinLemmas.{joined_texts, each_itself}
 use Rattle.shop_views.proofs.actors.joined_titles.Goals as goal
 

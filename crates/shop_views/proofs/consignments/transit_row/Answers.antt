@@ -1,5 +1,4 @@
-use Rattle.std.proofs.Common.{◌∙◌, ap}
-use Rattle.std.proofs.lemmas.Result.{IfOk-weaker}
+use Rattle.shop_types.proofs.Common.{◌∙◌, ap, IfOk-weaker}
 use Rattle.serde_json.specs.Written.{compact_text, has_float}
 use Rattle.shop_views.specs.Consignments.{seen_listed}
 use Rattle.shop_views.proofs.RowTexts.{transit_is, transit_no_float}

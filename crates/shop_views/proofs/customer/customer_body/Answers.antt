@@ -1,6 +1,4 @@
-use Rattle.std.proofs.Common.{◌∙◌, [], ◌∷◌, codes, decimal}
-use Rattle.std.proofs.lemmas.Result.{IfOk-weaker}
-use Rattle.shop_model.specs.Json.{flag_text, quoted, object}
+use Rattle.shop_types.proofs.Common.{◌∙◌, [], ◌∷◌, codes, decimal, IfOk-weaker, flag_text, quoted, object}
 use Rattle.shop_views.proofs.customer.customer_body.Goals as goal
 
 pub returns : goal.returns

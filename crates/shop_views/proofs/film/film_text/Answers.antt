@@ -1,7 +1,4 @@
-use Rattle.std.proofs.Common.{◌∙◌}
-use Rattle.std.proofs.lemmas.Result.{IfOk-weaker}
-use Rattle.shop_model.specs.Values.{Film}
-use Rattle.shop_types.specs.Seen.{seen_film}
+use Rattle.shop_types.proofs.Common.{◌∙◌, IfOk-weaker, Film, seen_film}
 use Rattle.shop_views.specs.FilmBodies.{film_value}
 use Rattle.shop_views.proofs.TextLemmas.{text_of_value}
 use Rattle.shop_views.proofs.FilmLemmas.{film_body}

@@ -1,7 +1,4 @@
-use Rattle.std.proofs.Common.{◌∙◌, ap, codes}
-use Rattle.std.proofs.lemmas.Result.{IfOk-weaker}
-use Rattle.std.specs.List.{join_by}
-use Rattle.shop_model.specs.Values.{Text}
+use Rattle.shop_types.proofs.Common.{◌∙◌, ap, codes, IfOk-weaker, join_by, Text}
 use Rattle.shop_views.specs.Names.{name_text}
 use Rattle.shop_views.specs.Films.{film_with, film_data}
 use Rattle.shop_views.proofs.films.film_value.Goals as goal

@@ -1,7 +1,5 @@
-use Rattle.std.proofs.Common.{refl}
-use Rattle.std.proofs.lemmas.Result.{IfOk-weaker}
+use Rattle.shop_types.proofs.Common.{refl, IfOk-weaker, ActorsListed}
 use Rattle.serde_json.specs.View.{view}
-use Rattle.shop_model.specs.Machine.{ActorsListed}
 use Rattle.shop_views.specs.Films.{seen_actor, actor_data}
 use Rattle.shop_views.proofs.PageLemmas.{listed}
 use Rattle.shop_views.proofs.lists.actor_info.Goals as goal

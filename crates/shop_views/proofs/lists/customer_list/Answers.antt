@@ -1,7 +1,5 @@
-use Rattle.std.proofs.Common.{refl}
-use Rattle.std.proofs.lemmas.Result.{IfOk-weaker}
+use Rattle.shop_types.proofs.Common.{refl, IfOk-weaker, CustomersListed}
 use Rattle.serde_json.specs.View.{view}
-use Rattle.shop_model.specs.Machine.{CustomersListed}
 use Rattle.shop_views.specs.People.{seen_customer, customer_data}
 use Rattle.shop_views.proofs.PageLemmas.{listed}
 use Rattle.shop_views.proofs.lists.customer_list.Goals as goal

@@ -1,7 +1,5 @@
-use Rattle.std.proofs.Common.{refl}
-use Rattle.std.proofs.lemmas.Result.{IfOk-weaker}
+use Rattle.shop_types.proofs.Common.{refl, IfOk-weaker, FilmsListed}
 use Rattle.serde_json.specs.View.{view}
-use Rattle.shop_model.specs.Machine.{FilmsListed}
 use Rattle.shop_views.specs.Films.{seen_film, film_data}
 use Rattle.shop_views.proofs.PageLemmas.{listed}
 use Rattle.shop_views.proofs.RowTexts.{film_no_float}

@@ -1,7 +1,5 @@
-use Rattle.std.proofs.Common.{refl}
-use Rattle.std.proofs.lemmas.Result.{IfOk-weaker}
+use Rattle.shop_types.proofs.Common.{refl, IfOk-weaker, OverdueAre}
 use Rattle.serde_json.specs.View.{view}
-use Rattle.shop_model.specs.Machine.{OverdueAre}
 use Rattle.shop_views.specs.Overdue.{seen_overdue, overdue_data}
 use Rattle.shop_views.proofs.PageLemmas.{listed}
 use Rattle.shop_views.proofs.lists.overdue.Goals as goal

@@ -1,7 +1,5 @@
-use Rattle.std.proofs.Common.{refl}
-use Rattle.std.proofs.lemmas.Result.{IfOk-weaker}
+use Rattle.shop_types.proofs.Common.{refl, IfOk-weaker, CategoriesListed}
 use Rattle.serde_json.specs.View.{view}
-use Rattle.shop_model.specs.Machine.{CategoriesListed}
 use Rattle.shop_views.specs.Sales.{seen_category, category_data}
 use Rattle.shop_views.proofs.PageLemmas.{listed}
 use Rattle.shop_views.proofs.lists.sales_by_film_category.Goals as goal

@@ -1,7 +1,5 @@
-use Rattle.std.proofs.Common.{refl}
-use Rattle.std.proofs.lemmas.Result.{IfOk-weaker}
+use Rattle.shop_types.proofs.Common.{refl, IfOk-weaker, StaffListed}
 use Rattle.serde_json.specs.View.{view}
-use Rattle.shop_model.specs.Machine.{StaffListed}
 use Rattle.shop_views.specs.People.{seen_staff, staff_data}
 use Rattle.shop_views.proofs.PageLemmas.{listed}
 use Rattle.shop_views.proofs.lists.staff_list.Goals as goal

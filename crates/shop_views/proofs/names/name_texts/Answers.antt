@@ -1,5 +1,4 @@
-use Rattle.std.proofs.Common.{◌∙◌, ◌++◌, ap, arith, codes, map, string_bytes}
-use Rattle.std.proofs.lemmas.List.{take_all}
+use Rattle.shop_types.proofs.Common.{◌∙◌, ◌++◌, ap, arith, codes, map, string_bytes, take_all}
 use Rattle.shop_views.specs.Names.{name_text}
 use Rattle.shop_views.proofs.JoinLemmas.{made_more}
 use Rattle.shop_views.proofs.names.name_texts.Goals as goal

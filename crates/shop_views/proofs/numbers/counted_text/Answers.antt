@@ -1,10 +1,5 @@
-use Rattle.std.proofs.Common.{◌≡◌, ◌∙◌, ℕ, ◌+◌, ◌∷◌, [], List, length, refl, sym, ap}
-use Rattle.std.specs.List.{range_with_len}
-use Rattle.std.proofs.lemmas.Result.{IfOk-weaker}
+use Rattle.shop_types.proofs.Common.{◌≡◌, ◌∙◌, ℕ, ◌+◌, ◌∷◌, [], List, length, refl, sym, ap, range_with_len, IfOk-weaker, array, object, numbers_text, numbers_from, Text}
 use Rattle.serde_json.specs.Data.{no_members}
-use Rattle.shop_model.specs.Json.{array, object, numbers_text}
-use Rattle.shop_model.specs.Machine.{numbers_from}
-use Rattle.shop_model.specs.Values.{Text}
 use Rattle.shop_views.specs.Bodies.{numbers_value, named_value}
 use Rattle.shop_views.specs.Texts.{json_text}
 use Rattle.shop_views.proofs.TextLemmas.{numbers_no_float, numbers_texts, text_of_value}

@@ -1,5 +1,4 @@
-use Rattle.std.proofs.Common.{◌≡◌, ◌∙◌, ℕ, ◌+◌, ◌++◌, ◌∷◌, [], List, map, sym, ap, refl, arith}
-use Rattle.std.proofs.lemmas.List.{map-append}
+use Rattle.shop_types.proofs.Common.{◌≡◌, ◌∙◌, ℕ, ◌+◌, ◌++◌, ◌∷◌, [], List, map, sym, ap, refl, arith, map-append}
 use Rattle.std.proofs.lemmas.List.FromFn.{map-range_with_len_more}
 use Rattle.serde_json.specs.View.{view}
 use Rattle.serde_json.specs.Data.{Data, number, unsigned}

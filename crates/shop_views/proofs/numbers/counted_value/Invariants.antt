@@ -1,5 +1,4 @@
-use Rattle.std.proofs.Common.{◌≡◌, ◌≤◌, map, vec_len, vec_capacity}
-use Rattle.std.specs.List.{range_with_len}
+use Rattle.shop_types.proofs.Common.{◌≡◌, ◌≤◌, map, vec_len, vec_capacity, range_with_len}
 use Rattle.serde_json.specs.View.{view}
 use Rattle.serde_json.specs.Data.{number, unsigned}
 use Rattle.shop_views.proofs.numbers.counted_value.Given as goal

@@ -1,6 +1,4 @@
-use Rattle.std.proofs.Common.{ap, sym}
-use Rattle.shop_model.specs.Machine.{rule_name}
-use Rattle.shop_types.specs.Seen.{seen_rule}
+use Rattle.shop_types.proofs.Common.{ap, sym, rule_name, seen_rule}
 use Rattle.shop_types.specs.declared.rule.Rule.{Rule}
 use Rattle.shop_views.proofs.office.rule_name.Goals as goal
 

@@ -1,6 +1,4 @@
-use Rattle.std.proofs.Common.{◌∙◌, ◌++◌, ap, codes}
-use Rattle.std.proofs.lemmas.Result.{IfOk-weaker}
-use Rattle.shop_model.specs.Values.{Text}
+use Rattle.shop_types.proofs.Common.{◌∙◌, ◌++◌, ap, codes, IfOk-weaker, Text}
 use Rattle.shop_views.specs.Overdue.{overdue_data, seen_overdue}
 use Rattle.shop_views.proofs.overdue_rows.overdue_value.Goals as goal
 

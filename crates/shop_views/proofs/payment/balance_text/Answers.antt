@@ -1,6 +1,5 @@
-use Rattle.std.proofs.Common.{◌≡◌, ◌∙◌, refl, ℤ, pos, negsuc, [], ◌∷◌, false, codes}
+use Rattle.shop_types.proofs.Common.{◌≡◌, ◌∙◌, refl, ℤ, pos, negsuc, [], ◌∷◌, false, codes, IfOk-weaker}
 use Rattle.std.specs.Fmt.{signed_decimal}
-use Rattle.std.proofs.lemmas.Result.{IfOk-weaker}
 use Rattle.shop_model.specs.Json.{object as object_text}
 use Rattle.serde_json.specs.Written as written
 use Rattle.shop_views.specs.Bodies.{balance_value}

@@ -1,7 +1,4 @@
-use Rattle.std.proofs.Common.{◌≡◌, ◌∙◌, ap, List, ℕ, [], ◌∷◌, codes, decimal, length}
-use Rattle.std.proofs.lemmas.Result.{IfOk-weaker}
-use Rattle.shop_model.specs.Json.{array, object, numbers_text}
-use Rattle.shop_model.specs.Values.{Text}
+use Rattle.shop_types.proofs.Common.{◌≡◌, ◌∙◌, ap, List, ℕ, [], ◌∷◌, codes, decimal, length, IfOk-weaker, array, object, numbers_text, Text}
 use Rattle.shop_views.specs.Bodies.{listed_value}
 use Rattle.shop_views.specs.Texts.{json_text}
 use Rattle.shop_views.proofs.TextLemmas.{numbers_texts}

@@ -1,5 +1,4 @@
-use Rattle.std.proofs.Common.{◌∙◌, ◌++◌, codes}
-use Rattle.std.proofs.lemmas.Result.{IfOk-weaker}
+use Rattle.shop_types.proofs.Common.{◌∙◌, ◌++◌, codes, IfOk-weaker}
 use Rattle.shop_views.specs.Sales.{store_data}
 use Rattle.shop_views.proofs.sales.store_value.Goals as goal
 

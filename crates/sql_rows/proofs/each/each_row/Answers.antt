@@ -1,8 +1,5 @@
-use Rattle.std.proofs.Common.{List, [], arith, rules, inl, OnOk}
-use Rattle.sqlite_value.specs.Order.{Row}
-use Rattle.sqlite.specs.Held.{state}
-use Rattle.sqlite.specs.State.{HasCleanDisk, Survives, Shown}
-use Rattle.sqlite.specs.Values.{bound}
+use Rattle.sql_rows.proofs.Common.{List, [], arith, rules, inl, OnOk, Row, state, HasCleanDisk, Survives, bound}
+use Rattle.sqlite.specs.State.{Shown}
 use Rattle.sql_rows.proofs.Inside.{keeps_unqueried, on_ok_then}
 use Rattle.sql_rows.proofs.Stays.{survives_more}
 use Rattle.sql_rows.proofs.EachLemmas.{shown_from}

@@ -1,11 +1,7 @@
-use Rattle.std.proofs.Common.{◌+◌, ◌∙◌, refl, sym, subst, arith, map, drop}
-use Rattle.sqlite.specs.Held.{state}
-use Rattle.sqlite.proofs.InsideLemmas.{keeps_then}
-use Rattle.sql_rows.specs.Builds.{Builds}
+use Rattle.sql_rows.proofs.Common.{◌+◌, ◌∙◌, refl, sym, subst, arith, map, drop, state, keeps_then, Builds, IsToldOf}
 use Rattle.sql_rows.proofs.Creates.{next_of}
 use Rattle.sql_rows.proofs.Inside.{survives_nothing}
 use Rattle.sql_rows.proofs.Stays.{survives_more}
-use Rattle.sql_rows.specs.Fault.{IsToldOf}
 use Rattle.sql_rows.proofs.Faults.{one_gave, err_and}
 use Rattle.sql_rows.proofs.make.make_tables.Goals as goal
 

@@ -1,8 +1,4 @@
-use Rattle.std.proofs.Common.{◌≡◌, map, drop}
-use Rattle.sqlite.specs.Schema.{Schema}
-use Rattle.sqlite.specs.Held.{state}
-use Rattle.sqlite.specs.State.{HasCleanDisk, Survives, KeepsCommit}
-use Rattle.sql_rows.specs.Builds.{Builds}
+use Rattle.sql_rows.proofs.Common.{◌≡◌, map, drop, Schema, state, HasCleanDisk, Survives, KeepsCommit, Builds}
 use Rattle.sql_rows.proofs.make.make_tables.Given as goal
 
 abbrev pub invariant-loop-text : goal.invariant-loop-text

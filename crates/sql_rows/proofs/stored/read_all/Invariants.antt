@@ -1,5 +1,4 @@
-use Rattle.std.proofs.Common.{◌≡◌, map, take}
-use Rattle.std.specs.List.{AllByRecursion}
+use Rattle.sql_rows.proofs.Common.{◌≡◌, map, take, AllByRecursion}
 use Rattle.sql_rows.proofs.stored.read_all.Given as goal
 
 abbrev pub invariant-loop-row : goal.invariant-loop-row

@@ -1,5 +1,4 @@
-use Rattle.std.proofs.lemmas.Result.{IfOk-weaker}
-use Rattle.sqlite.specs.Held.{state}
+use Rattle.sql_rows.proofs.Common.{IfOk-weaker, state}
 use Rattle.till_book.proofs.JournalTexts.{finds_entry}
 use Rattle.till_book.proofs.journal.entry_at.Goals as goal
 

@@ -1,7 +1,4 @@
-use Rattle.std.proofs.Common.{sym, subst}
-use Rattle.sqlite.specs.Schema.{Schema}
-use Rattle.sqlite.specs.Held.{state}
-use Rattle.sql_rows.specs.Builds.{MakeAll}
+use Rattle.sql_rows.proofs.Common.{sym, subst, Schema, state, MakeAll}
 use Rattle.till_book.specs.Tables.{book_schema}
 use Rattle.till_book.proofs.JournalTexts.{texts, make_all, made_journal}
 use Rattle.till_book.proofs.journal.make_journal.Goals as goal

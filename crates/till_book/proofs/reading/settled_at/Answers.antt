@@ -1,5 +1,4 @@
-use Rattle.std.proofs.lemmas.Result.{IfOk-weaker}
-use Rattle.sqlite.specs.Held.{state}
+use Rattle.sql_rows.proofs.Common.{IfOk-weaker, state}
 use Rattle.till_book.proofs.ReadTexts.{reads_one}
 use Rattle.till_book.proofs.reading.settled_at.Goals as goal
 

@@ -1,6 +1,4 @@
-use Rattle.std.proofs.Common.{◌∙◌, sym, subst}
-use Rattle.sqlite.specs.Held.{state}
-use Rattle.sqlite.specs.State.{HasCleanDisk, Survives}
+use Rattle.sql_rows.proofs.Common.{◌∙◌, sym, subst, state, HasCleanDisk, Survives}
 use Rattle.till_book.specs.Journal.{IsUnsettled, with_settled}
 use Rattle.till_book.specs.Steps.{Comes, LeavesChanged}
 use Rattle.till_book.proofs.Resting.{committed, left_behind}

@@ -1,7 +1,4 @@
-use Rattle.std.proofs.Common.{◌∙◌, sym, subst}
-use Rattle.std.specs.Prelude.{IfOk}
-use Rattle.sqlite.specs.Held.{state}
-use Rattle.sqlite.specs.State.{HasCleanDisk}
+use Rattle.sql_rows.proofs.Common.{◌∙◌, sym, subst, IfOk, state, HasCleanDisk}
 use Rattle.till_book.specs.Journal.{Journal}
 use Rattle.till_book.specs.Read.{IsReadOf}
 use Rattle.till_book.specs.Steps.{Rests, Stays}

@@ -1,6 +1,4 @@
-use Rattle.std.proofs.Common.{◌∙◌, sym, subst}
-use Rattle.sqlite.specs.Held.{state}
-use Rattle.sqlite.specs.State.{HasCleanDisk, Survives}
+use Rattle.sql_rows.proofs.Common.{◌∙◌, sym, subst, state, HasCleanDisk, Survives}
 use Rattle.till_book.specs.Journal.{with_reply}
 use Rattle.till_book.specs.Steps.{Comes, LeavesChanged, IsNextReply}
 use Rattle.till_book.proofs.Resting.{committed, left_behind}

@@ -1,7 +1,5 @@
-use Rattle.std.proofs.Common.{◌∙◌, sym, subst}
-use Rattle.std.specs.Prelude.{◌≡◌, ◌+◌, ℕ, List, Option, IfOk, slice_get}
-use Rattle.sqlite.specs.Held.{state}
-use Rattle.sqlite.specs.State.{HasCleanDisk}
+use Rattle.sql_rows.proofs.Common.{◌∙◌, sym, subst, IfOk, state, HasCleanDisk}
+use Rattle.std.specs.Prelude.{◌≡◌, ◌+◌, ℕ, List, Option, slice_get}
 use Rattle.till_book.specs.Journal.{Journal}
 use Rattle.till_book.specs.Steps.{Rests}
 use Rattle.till_book.proofs.Resting.{finds_behind}

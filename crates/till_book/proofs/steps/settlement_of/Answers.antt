@@ -1,8 +1,5 @@
-use Rattle.std.proofs.Common.{◌∙◌, sym, subst}
-use Rattle.std.specs.Prelude.{◌≡◌, Option, IfOk, option_map}
-use Rattle.std.specs.Option.{option_to_list}
-use Rattle.sqlite.specs.Held.{state}
-use Rattle.sqlite.specs.State.{HasCleanDisk}
+use Rattle.sql_rows.proofs.Common.{◌∙◌, sym, subst, IfOk, option_map, option_to_list, state, HasCleanDisk}
+use Rattle.std.specs.Prelude.{◌≡◌, Option}
 use Rattle.till_book.specs.Journal.{Journal, settled_of}
 use Rattle.till_book.specs.declared.rows.BookReply.{BookReply}
 use Rattle.till_book.specs.Seen.{seen_reply}

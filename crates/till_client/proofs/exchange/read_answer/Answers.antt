@@ -1,6 +1,4 @@
-use Rattle.std.proofs.Common.{◌≡◌, ◌∙◌, ℕ, List, sym, ap, subst}
-use Rattle.std.specs.Io.KnownBytes.{Consumes}
-use Rattle.std.proofs.KnownBytes.{Consumes-nil, Consumes-trans}
+use Rattle.shop_types.proofs.Common.{◌≡◌, ◌∙◌, ℕ, List, sym, ap, subst, Consumes, Consumes-nil, Consumes-trans}
 use Rattle.http_messages.specs.Text.{reply_text}
 use Rattle.till_client.proofs.exchange.read_answer.Goals as goal
 

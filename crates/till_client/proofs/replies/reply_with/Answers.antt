@@ -1,6 +1,4 @@
-use Rattle.std.proofs.Common.{◌≡◌, ◌∙◌, length, ℕ, List, ◌++◌, take, drop, sym, ap, arith}
-use Rattle.std.proofs.lemmas.List.{take-append-drop}
-use Rattle.std.proofs.lemmas.Slice.Eq.{bytes_eq-Decides}
+use Rattle.shop_types.proofs.Common.{◌≡◌, ◌∙◌, length, ℕ, List, ◌++◌, take, drop, sym, ap, arith, take-append-drop, bytes_eq-Decides}
 use Rattle.http_messages.specs.Text.{head_text}
 use Rattle.till_client.proofs.replies.reply_with.Goals as goal
 

@@ -1,6 +1,5 @@
-use Rattle.std.proofs.Common.{subst}
+use Rattle.shop_types.proofs.Common.{subst, Request}
 use Rattle.http_messages.specs.Shown.{message_of}
-use Rattle.shop_model.specs.Machine.{Request}
 use Rattle.counter_routes.specs.Readings.{Reads}
 use Rattle.till_client.proofs.SoleMessages.{asks_other}
 use Rattle.till_client.proofs.sealed.command_in.Goals as goal

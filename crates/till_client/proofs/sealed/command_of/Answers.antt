@@ -1,5 +1,4 @@
-use Rattle.std.proofs.Common.{ap}
-use Rattle.std.specs.Prelude.{option_map}
+use Rattle.shop_types.proofs.Common.{ap, option_map}
 use Rattle.http_messages.specs.Shown.{message_of}
 use Rattle.till_client.proofs.SoleMessages.{same_message, not_read, no_token, unsealed_of}
 use Rattle.till_client.proofs.sealed.command_of.Goals as goal

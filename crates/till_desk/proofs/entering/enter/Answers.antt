@@ -1,5 +1,4 @@
-use Rattle.std.proofs.Common.{◌≡◌, ◌+◌, refl, rules}
-use Rattle.sqlite.specs.Held.{state}
+use Rattle.sql_rows.proofs.Common.{◌≡◌, ◌+◌, refl, rules, state}
 use Rattle.shop_types.specs.Seen.{seen_command}
 use Rattle.till_desk.proofs.GoingOn.{enters_one, entered_command, entry_goes}
 use Rattle.till_desk.proofs.entering.enter.Goals as goal

@@ -1,5 +1,4 @@
-use Rattle.std.proofs.Common.{◌≡◌, ◌+◌, refl, rules}
-use Rattle.sqlite.specs.Held.{state}
+use Rattle.sql_rows.proofs.Common.{◌≡◌, ◌+◌, refl, rules, state}
 use Rattle.till_desk.proofs.GoingOn.{entry_grows}
 use Rattle.till_desk.proofs.entering.enter_request.Goals as goal
 

@@ -1,5 +1,4 @@
-use Rattle.std.proofs.Common.{◌∙◌}
-use Rattle.sqlite.specs.Held.{state}
+use Rattle.sql_rows.proofs.Common.{◌∙◌, state}
 use Rattle.till_client.specs.Replies.{seen_answer}
 use Rattle.till_desk.proofs.GoingOn.{grows_then, stays_answers, stays_then, kept_ok, kept_unanswered, kept_not_now}
 use Rattle.till_desk.proofs.sending.send_oldest.Goals as goal

@@ -1,6 +1,4 @@
-use Rattle.std.proofs.Common.{◌≡◌, false}
-use Rattle.sqlite.specs.Held.{state}
-use Rattle.sqlite.specs.State.{HasCleanDisk}
+use Rattle.sql_rows.proofs.Common.{◌≡◌, false, state, HasCleanDisk}
 use Rattle.shop_model.specs.Values.{Text}
 use Rattle.till_desk.specs.Desk.{Grows, Stays}
 use Rattle.till_desk.proofs.sending.send_oldest.Given as goal

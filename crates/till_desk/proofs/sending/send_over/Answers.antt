@@ -1,5 +1,4 @@
-use Rattle.std.proofs.Common.{◌≡◌, ◌+◌, ◌≢◌, refl, rules}
-use Rattle.sqlite.specs.Held.{state}
+use Rattle.sql_rows.proofs.Common.{◌≡◌, ◌+◌, ◌≢◌, refl, rules, state}
 use Rattle.till_desk.specs.declared.fault.DeskFault.TheVariants as desk
 use Rattle.till_desk.specs.Faults.{sending_fault}
 use Rattle.till_desk.proofs.GoingOn.{answer_grows, none_grows, failing_grows, failing_stays, kept_other}

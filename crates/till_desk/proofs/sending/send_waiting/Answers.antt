@@ -1,5 +1,4 @@
-use Rattle.std.proofs.Common.{◌∙◌, ◌+◌, ap}
-use Rattle.sqlite.specs.Held.{state}
+use Rattle.sql_rows.proofs.Common.{◌∙◌, ◌+◌, ap, state}
 use Rattle.till_desk.specs.declared.place.Place.{Place}
 use Rattle.till_desk.proofs.GoingOn.{goes_then, grows_then, stays_goes, tells_goes, tells_one, kept_ok, kept_as}
 use Rattle.till_desk.proofs.sending.send_waiting.Goals as goal

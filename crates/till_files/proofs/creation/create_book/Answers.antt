@@ -1,7 +1,4 @@
-use Rattle.std.proofs.Common.{arith, inr, subst}
-use Rattle.sqlite.specs.Files.{file_state}
-use Rattle.sqlite.specs.State.{HasCleanDisk}
-use Rattle.sql_rows.specs.Files.{HoldsOne}
+use Rattle.shop_schema.proofs.Common.{arith, inr, subst, file_state, HasCleanDisk, HoldsOne}
 use Rattle.till_files.proofs.Found.{unmade_by, holds_no_table, holds_a_table, none_or_new}
 use Rattle.till_files.proofs.Results.{refused_by}
 use Rattle.till_files.proofs.creation.create_book.Goals as goal

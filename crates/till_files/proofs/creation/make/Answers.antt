@@ -1,7 +1,4 @@
-use Rattle.std.proofs.Common.{◌≡◌, ◌∙◌, sym, ap, subst, arith}
-use Rattle.sqlite.specs.Effect.{Database}
-use Rattle.sqlite.specs.Held.{state}
-use Rattle.sqlite.specs.State.{HasCleanDisk, Survives}
+use Rattle.shop_schema.proofs.Common.{◌≡◌, ◌∙◌, sym, ap, subst, arith, Database, state, HasCleanDisk, Survives}
 use Rattle.till_book.specs.Tables.{book_schema}
 use Rattle.till_book.specs.Steps.{Rests}
 use Rattle.till_files.specs.Files.{LeavesMade, empty_journal}

@@ -1,5 +1,4 @@
-use Rattle.std.proofs.Common.{refl}
-use Rattle.sqlite_trees.proofs.Doubt.{no_doubt}
+use Rattle.shop_schema.proofs.Common.{refl, no_doubt}
 use Rattle.till_files.proofs.opening.new_tables.Goals as goal
 
 pub returns : goal.returns

@@ -1,5 +1,4 @@
-use Rattle.sqlite.specs.Files.{file_state}
-use Rattle.shop_model.specs.Answers.{Answer}
+use Rattle.shop_schema.proofs.Common.{file_state, Answer}
 use Rattle.till_book.specs.Journal.{IsUnsettled, with_settled}
 use Rattle.till_files.proofs.Keeping.{leaves_either}
 use Rattle.till_files.proofs.Results.{ok_then}

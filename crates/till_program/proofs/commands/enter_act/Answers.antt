@@ -1,5 +1,4 @@
-use Rattle.std.proofs.Common.{subst}
-use Rattle.sqlite.specs.Held.{state}
+use Rattle.sql_rows.proofs.Common.{subst, state}
 use Rattle.shop_model.specs.Values.{Text}
 use Rattle.till_desk.specs.Desk.{GoesOn}
 use Rattle.till_program.proofs.GoingOn.{desk_kept, desk_kept_ok}

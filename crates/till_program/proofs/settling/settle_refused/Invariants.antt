@@ -1,6 +1,4 @@
-use Rattle.std.proofs.Common.{◌≡◌, false}
-use Rattle.sqlite.specs.Held.{state}
-use Rattle.sqlite.specs.State.{HasCleanDisk}
+use Rattle.sql_rows.proofs.Common.{◌≡◌, false, state, HasCleanDisk}
 use Rattle.till_program.specs.Word.{EntersNothing}
 use Rattle.till_program.proofs.settling.settle_refused.Given as goal
 

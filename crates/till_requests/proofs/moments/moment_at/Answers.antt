@@ -1,9 +1,5 @@
-use Rattle.std.proofs.Common.{◌≡◌, ◌∙◌, ◌/◌, ◌%◌, sym, subst, arith, pos, w64}
-use Rattle.std.proofs.lemmas.Int.{to_z_pos}
-use Rattle.std.specs.Prelude.{IsUtf8}
-use Rattle.shop_model.specs.Calendar.{moment_text}
+use Rattle.shop_types.proofs.Common.{◌≡◌, ◌∙◌, ◌/◌, ◌%◌, sym, subst, arith, pos, w64, to_z_pos, IsUtf8, moment_text, moment_text-utf8}
 use Rattle.jiff_core.specs.Date.{epoch_day}
-use Rattle.shop_values.proofs.MomentLemmas.{moment_text-utf8}
 use Rattle.till_requests.specs.Moments.{civil_of}
 use Rattle.till_requests.proofs.CivilLemmas.{civil_is, read_seconds}
 use Rattle.till_requests.proofs.moments.moment_at.Goals as goal

@@ -1,6 +1,4 @@
-use Rattle.std.proofs.Common.{◌≡◌, ◌∙◌, ℕ, List, refl, sym, ap, subst, Bool, true, false, not}
-use Rattle.std.specs.Str.{bytes_eq}
-use Rattle.std.proofs.lemmas.Slice.Eq.{bytes_eq-Decides}
+use Rattle.shop_types.proofs.Common.{◌≡◌, ◌∙◌, ℕ, List, refl, sym, ap, subst, Bool, true, false, not, bytes_eq, bytes_eq-Decides}
 use Rattle.http_messages.specs.Shown.{message_of}
 use Rattle.counter_routes.specs.Words.{texts_of}
 use Rattle.till_client.specs.Sealing.{IsSole}

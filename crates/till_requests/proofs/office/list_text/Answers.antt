@@ -1,6 +1,5 @@
-use Rattle.std.proofs.Common.{◌≡◌, ◌≤◌, ◌∙◌, List, map, take, string_bytes, ap, subst}
-use Rattle.std.specs.Prelude.{Some, IsUtf8}
-use Rattle.std.proofs.lemmas.List.{take_all}
+use Rattle.shop_types.proofs.Common.{◌≡◌, ◌≤◌, ◌∙◌, List, map, take, string_bytes, ap, subst, IsUtf8, take_all}
+use Rattle.std.specs.Prelude.{Some}
 use Rattle.serde_json.specs.Data.{Data, string, depth}
 use Rattle.serde_json.specs.Read.{read, max_depth}
 use Rattle.serde_json.specs.View.{view}

@@ -1,8 +1,5 @@
-use Rattle.std.proofs.Common.{◌≡◌, ◌∙◌, sym, rules, ℕ, List, Bool, true}
-use Rattle.std.specs.Prelude.{Decides}
+use Rattle.shop_types.proofs.Common.{◌≡◌, ◌∙◌, sym, rules, ℕ, List, Bool, true, Decides, pointwise, slice_eq-Decides}
 use Rattle.std.specs.Cmp.Rules.{comparing}
-use Rattle.std.specs.Cmp.Lexicographic.{pointwise}
-use Rattle.std.proofs.lemmas.Slice.Eq.{slice_eq-Decides}
 use Rattle.till_requests.proofs.same.is_same_list.Goals as goal
 
 same_lists : (E : ℕ → ℕ → Bool) (xs ys : List ℕ) (r : Bool) → r ≡ pointwise E xs ys → ((a b : ℕ) → Decides (E a b) (a ≡ b)) → r ≡ true → xs ≡ ys

@@ -1,8 +1,4 @@
-use Rattle.std.proofs.Common.{◌≡◌, ◌∙◌, ◌≤◌, length, ℕ, List, [], drop, ap, refl, subst, arith, Some, Bool, true, false, not}
-use Rattle.std.specs.Prelude.{option_map}
-use Rattle.std.specs.Str.{bytes_eq}
-use Rattle.std.proofs.lemmas.Slice.Eq.{bytes_eq-Decides}
-use Rattle.std.proofs.lemmas.List.{drop_all}
+use Rattle.shop_types.proofs.Common.{◌≡◌, ◌∙◌, ◌≤◌, length, ℕ, List, [], drop, ap, refl, subst, arith, Some, Bool, true, false, not, option_map, bytes_eq, bytes_eq-Decides, drop_all}
 use Rattle.http_messages.specs.Input.{HasMessage}
 use Rattle.http_messages.specs.Shown.{message_of}
 use Rattle.till_requests.proofs.sole.sole_message.Goals as goal

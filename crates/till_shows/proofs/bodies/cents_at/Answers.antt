@@ -1,5 +1,4 @@
-use Rattle.std.proofs.Common.{◌∙◌, ap}
-use Rattle.std.specs.Prelude.{option_and_then}
+use Rattle.shop_types.proofs.Common.{◌∙◌, ap, option_and_then}
 use Rattle.till_shows.specs.Bodies.{cents_in}
 use Rattle.till_shows.proofs.bodies.cents_at.Goals as goal
 

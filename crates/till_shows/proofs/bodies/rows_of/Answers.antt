@@ -1,5 +1,4 @@
-use Rattle.std.proofs.Common.{◌∙◌, map, List, Some, sym, ap}
-use Rattle.std.specs.Prelude.{option_map}
+use Rattle.shop_types.proofs.Common.{◌∙◌, map, List, Some, sym, ap, option_map}
 use Rattle.serde_json.specs.Data.{Data}
 use Rattle.serde_json.specs.View.{view}
 use Rattle.till_shows.specs.Bodies.{listed}

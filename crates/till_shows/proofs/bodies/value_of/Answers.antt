@@ -1,5 +1,4 @@
-use Rattle.std.proofs.lemmas.Bool.{iff_false}
-use Rattle.std.proofs.lemmas.Str.{is_utf8-from_IsUtf8}
+use Rattle.shop_types.proofs.Common.{iff_false, is_utf8-from_IsUtf8}
 use Rattle.till_shows.proofs.FoundLemmas.{body_of-None}
 use Rattle.till_shows.proofs.bodies.value_of.Goals as goal
 

@@ -1,5 +1,4 @@
-use Rattle.std.proofs.Common.{◌∙◌, sym, ap}
-use Rattle.std.specs.Prelude.{option_map}
+use Rattle.shop_types.proofs.Common.{◌∙◌, sym, ap, option_map}
 use Rattle.serde_json.specs.View.{view}
 use Rattle.till_shows.specs.Lists.{more_rows}
 use Rattle.till_shows.proofs.FoundLemmas.{if_err, on_ok}

@@ -1,5 +1,4 @@
-use Rattle.std.proofs.Common.{◌∙◌, List, Some, sym, ap, drop, map, ◌+◌}
-use Rattle.std.specs.Prelude.{option_map}
+use Rattle.shop_types.proofs.Common.{◌∙◌, List, Some, sym, ap, drop, map, ◌+◌, option_map}
 use Rattle.serde_json.specs.Data.{Data}
 use Rattle.serde_json.specs.View.{view}
 use Rattle.till_shows.specs.Lines.{Table}

@@ -1,5 +1,4 @@
-use Rattle.std.proofs.Common.{◌≡◌, drop, map}
-use Rattle.std.specs.Prelude.{option_map}
+use Rattle.shop_types.proofs.Common.{◌≡◌, drop, map, option_map}
 use Rattle.serde_json.specs.View.{view}
 use Rattle.till_shows.specs.Lists.{more_rows, found_rows}
 use Rattle.till_shows.proofs.lists.add_rows.Given as goal

@@ -1,5 +1,4 @@
-use Rattle.std.proofs.Common.{◌∙◌, ◌+◌, Some, sym, ap, map, drop}
-use Rattle.std.specs.Prelude.{option_map}
+use Rattle.shop_types.proofs.Common.{◌∙◌, ◌+◌, Some, sym, ap, map, drop, option_map}
 use Rattle.serde_json.specs.View.{view}
 use Rattle.till_shows.specs.Lists.{first_named}
 use Rattle.till_shows.proofs.FoundLemmas.{handed_on}

@@ -1,5 +1,4 @@
-use Rattle.std.proofs.Common.{◌∙◌, map}
-use Rattle.std.proofs.lemmas.Result.{IfOk-weaker}
+use Rattle.shop_types.proofs.Common.{◌∙◌, map, IfOk-weaker}
 use Rattle.serde_json.specs.View.{view}
 use Rattle.till_shows.proofs.FoundLemmas.{handed_on, if_err}
 use Rattle.till_shows.proofs.ListLemmas.{named_told, named_no_body, named_no_list}

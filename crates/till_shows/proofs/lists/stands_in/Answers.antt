@@ -1,5 +1,4 @@
-use Rattle.std.proofs.Common.{◌≡◌, ◌∙◌, ◌<◌, length, drop, false, sym, arith}
-use Rattle.std.proofs.lemmas.List.{take_rest}
+use Rattle.shop_types.proofs.Common.{◌≡◌, ◌∙◌, ◌<◌, length, drop, false, sym, arith, take_rest}
 use Rattle.till_shows.specs.Lists.{begins_with}
 use Rattle.till_shows.proofs.ListLemmas.{stands_later}
 use Rattle.till_shows.proofs.lists.stands_in.Goals as goal

@@ -1,6 +1,4 @@
-use Rattle.std.proofs.Common.{◌∙◌, ap, map}
-use Rattle.std.specs.Prelude.{option_map}
-use Rattle.std.proofs.lemmas.Result.{IfOk-weaker}
+use Rattle.shop_types.proofs.Common.{◌∙◌, ap, map, option_map, IfOk-weaker}
 use Rattle.serde_json.specs.View.{view}
 use Rattle.till_shows.specs.Lists.{more_rows, headed}
 use Rattle.till_shows.proofs.FoundLemmas.{handed_on, if_err}

@@ -1,5 +1,4 @@
-use Rattle.std.proofs.Common.{◌∙◌, sym, ap, map}
-use Rattle.std.specs.Prelude.{option_map}
+use Rattle.shop_types.proofs.Common.{◌∙◌, sym, ap, map, option_map}
 use Rattle.serde_json.specs.View.{view}
 use Rattle.till_shows.specs.Lines.{Table}
 use Rattle.till_shows.specs.Lists.{more_rows, found_rows}

@@ -1,5 +1,4 @@
-use Rattle.std.proofs.Common.{◌∙◌, sym}
-use Rattle.std.proofs.lemmas.Result.{IfOk-weaker}
+use Rattle.shop_types.proofs.Common.{◌∙◌, sym, IfOk-weaker}
 use Rattle.till_shows.proofs.FoundLemmas.{if_err}
 use Rattle.till_shows.proofs.ListLemmas.{whole_is}
 use Rattle.till_shows.proofs.lists.whole_table.Goals as goal

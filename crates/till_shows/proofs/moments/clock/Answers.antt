@@ -1,5 +1,4 @@
-use Rattle.std.proofs.Common.{◌≡◌, ◌∙◌, ◌∷◌, ◌++◌, ◌/◌, ◌%◌, decimal}
-use Rattle.std.proofs.lemmas.Result.{IfOk-weaker}
+use Rattle.shop_types.proofs.Common.{◌≡◌, ◌∙◌, ◌∷◌, ◌++◌, ◌/◌, ◌%◌, decimal, IfOk-weaker}
 use Rattle.till_shows.proofs.MomentLemmas.{hour_digits, minute_digits}
 use Rattle.till_shows.proofs.moments.clock.Goals as goal
 

@@ -1,6 +1,4 @@
-use Rattle.std.proofs.Common.{◌∙◌, ap}
-use Rattle.std.specs.Prelude.{option_and_then}
-use Rattle.std.proofs.lemmas.Result.{IfOk-weaker}
+use Rattle.shop_types.proofs.Common.{◌∙◌, ap, option_and_then, IfOk-weaker}
 use Rattle.till_shows.specs.Looks.{reply_of}
 use Rattle.till_shows.proofs.FoundLemmas.{handed_on, if_err}
 use Rattle.till_shows.proofs.replies.reply_line.Goals as goal

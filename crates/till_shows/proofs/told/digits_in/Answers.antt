@@ -1,6 +1,4 @@
-use Rattle.std.proofs.Common.{◌≡◌, ◌∙◌, ◌++◌, Some, List, ℕ, ap}
-use Rattle.std.proofs.lemmas.Bool.Decides.{Decides-eqb}
-use Rattle.std.proofs.lemmas.Slice.Eq.{strip_prefix_is, strip_suffix_is}
+use Rattle.shop_types.proofs.Common.{◌≡◌, ◌∙◌, ◌++◌, Some, List, ℕ, ap, Decides-eqb, strip_prefix_is, strip_suffix_is}
 use Rattle.till_shows.specs.Told.{line_start, line_end}
 use Rattle.till_shows.proofs.NumberLemmas.{between_ends}
 use Rattle.till_shows.proofs.told.digits_in.Goals as goal

@@ -1,7 +1,4 @@
-use Rattle.std.proofs.Common.{◌≡◌, ◌<◌, true}
-use Rattle.shop_model.specs.Refusals.{problem_number}
-use Rattle.shop_types.specs.Replies.{has_fixed_body}
-use Rattle.shop_types.specs.Seen.{seen_refusal}
+use Rattle.shop_types.proofs.Common.{◌≡◌, ◌<◌, true, problem_number, has_fixed_body, seen_refusal}
 use Rattle.shop_types.specs.declared.refusal.Refusal.{Refusal}
 use Rattle.till_shows.specs.Told.{Tells}
 use Rattle.till_shows.proofs.told.named.Given as goal

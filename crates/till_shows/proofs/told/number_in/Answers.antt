@@ -1,5 +1,4 @@
-use Rattle.std.proofs.Common.{◌∙◌, ap, sym, decimal}
-use Rattle.std.specs.Cmp.Lexicographic.{same_text, other_text}
+use Rattle.shop_types.proofs.Common.{◌∙◌, ap, sym, decimal, same_text, other_text}
 use Rattle.till_shows.proofs.NumberLemmas.{read_is, none_read, zero_text}
 use Rattle.till_shows.proofs.told.number_in.Goals as goal
 

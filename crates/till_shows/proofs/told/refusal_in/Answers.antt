@@ -1,11 +1,8 @@
-use Rattle.std.proofs.Common.{◌≡◌, ◌∙◌, ◌<◌, ◌^◌, suc, ap, sym, true, refl, List, ℕ}
-use Rattle.std.proofs.lemmas.Bool.{leb-true}
-use Rattle.shop_model.specs.Answers.{Answer, problem_text}
-use Rattle.shop_model.specs.Json.{escape_byte}
-use Rattle.shop_model.specs.Refusals as named
-use Rattle.shop_types.specs.Replies.{has_fixed_body}
+use Rattle.shop_types.proofs.Common.{◌≡◌, ◌∙◌, ◌<◌, ◌^◌, suc, ap, sym, true, refl, List, ℕ, leb-true, Answer, problem_text, has_fixed_body}
 use Rattle.shop_types.specs.declared.refusal.Refusal.{Refusal}
 use Rattle.shop_types.specs.declared.refusal.Refusal.TheVariants.{BadCsv}
+use Rattle.shop_model.specs.Json.{escape_byte}
+use Rattle.shop_model.specs.Refusals as named
 use Rattle.till_shows.specs.Told.{Tells, line_body, has_short_line}
 use Rattle.till_shows.proofs.told.refusal_in.Goals as goal
 

@@ -1,5 +1,4 @@
-use Rattle.std.proofs.Common.{◌≡◌, ◌∙◌, ap, subst, map, List}
-use Rattle.std.proofs.lemmas.Result.{IfOk-weaker}
+use Rattle.shop_types.proofs.Common.{◌≡◌, ◌∙◌, ap, subst, map, List, IfOk-weaker}
 use Rattle.clap.specs.Words.{App, FailsBy, Text, app_of, fault_of, is_simple, is_simple_and_free, matches_of, subcommand_of}
 use Rattle.till_words.specs.CommandLine.{till_app}
 use Rattle.till_words.proofs.TillIsSimple.{till_is_simple, till_is_simple_and_free}

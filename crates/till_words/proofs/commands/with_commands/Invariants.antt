@@ -1,5 +1,4 @@
-use Rattle.std.proofs.Common.{◌≡◌, drop, false, map}
-use Rattle.std.specs.Prelude.{fold}
+use Rattle.shop_types.proofs.Common.{◌≡◌, drop, false, map, fold}
 use Rattle.clap.specs.Words.{app_of, with_subcommand}
 use Rattle.clap.specs.declared.builder.command.Command.TheViews.{out-Command}
 use Rattle.till_words.specs.Table.{table_shape}

@@ -1,8 +1,4 @@
-use Rattle.std.proofs.Common.{◌∙◌, ap, sym, map-id}
-use Rattle.std.specs.Prelude.{fold}
-use Rattle.std.specs.Str.{chars}
-use Rattle.std.proofs.lemmas.Iterator.{YieldsList-from_chars}
-use Rattle.std.proofs.lemmas.Iterator.Consumers.{YieldsList-end}
+use Rattle.shop_types.proofs.Common.{◌∙◌, ap, sym, map-id, fold, chars, YieldsList-from_chars, YieldsList-end}
 use Rattle.till_words.specs.PromptLine.{beginning, read_char, Reading}
 use Rattle.till_words.specs.Seen.{seen_reading}
 use Rattle.till_words.proofs.PromptLemmas.{ends_open, ends_closed}

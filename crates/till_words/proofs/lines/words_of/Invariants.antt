@@ -1,5 +1,4 @@
-use Rattle.std.proofs.Common.{◌≡◌}
-use Rattle.std.specs.Prelude.{fold}
+use Rattle.shop_types.proofs.Common.{◌≡◌, fold}
 use Rattle.till_words.specs.PromptLine.{beginning, read_char}
 use Rattle.till_words.specs.Seen.{seen_reading}
 use Rattle.till_words.proofs.lines.words_of.Given as goal

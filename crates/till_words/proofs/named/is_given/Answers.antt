@@ -1,7 +1,5 @@
-use Rattle.std.proofs.Common.{◌∙◌, rules, string_bytes}
-use Rattle.std.proofs.lemmas.Iterator.{YieldsList-from_slice}
+use Rattle.shop_types.proofs.Common.{◌∙◌, rules, string_bytes, YieldsList-from_slice, bytes_eq}
 use Rattle.std.proofs.lemmas.Iterator.Search.{any_from_yields_List}
-use Rattle.std.specs.Str.{bytes_eq}
 use Rattle.till_words.specs.Places.{option_name}
 use Rattle.till_words.proofs.NamedLemmas.{any_of_map}
 use Rattle.till_words.proofs.named.is_given.Goals as goal

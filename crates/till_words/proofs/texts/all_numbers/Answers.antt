@@ -1,6 +1,4 @@
-use Rattle.std.proofs.Common.{◌∙◌, ap, sym, map}
-use Rattle.std.proofs.lemmas.List.{drop_more, drop_all}
-use Rattle.shop_values.specs.Numbers.{row_number_of}
+use Rattle.shop_types.proofs.Common.{◌∙◌, ap, sym, map, drop_more, drop_all, row_number_of}
 use Rattle.till_words.proofs.TextLemmas.{number_more, no_number, all_read}
 use Rattle.till_words.proofs.texts.all_numbers.Goals as goal
 

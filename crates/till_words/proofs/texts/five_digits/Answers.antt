@@ -1,7 +1,5 @@
-use Rattle.std.proofs.Common.{◌≡◌, ◌<◌, ◌^◌, ◌+◌, ◌*◌, arith, get_or, true, refl}
+use Rattle.shop_types.proofs.Common.{◌≡◌, ◌<◌, ◌^◌, ◌+◌, ◌*◌, arith, get_or, true, refl, is_ascii_digit, list_all_more}
 use Rattle.std.proofs.lemmas.Int.Digits.{digits_value_more}
-use Rattle.std.specs.Char.{is_ascii_digit}
-use Rattle.std.proofs.lemmas.List.Folds.{list_all_more}
 use Rattle.till_words.proofs.TextLemmas.{next_digit, fits_five, digit_is}
 use Rattle.till_words.proofs.texts.five_digits.Goals as goal
 

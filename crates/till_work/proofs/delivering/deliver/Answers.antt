@@ -1,6 +1,4 @@
-use Rattle.std.proofs.Common.{◌≡◌, ◌∙◌, inr, List, ℕ, sym, ap, Some, arith}
-use Rattle.sqlite.specs.Held.{state}
-use Rattle.sqlite.specs.State.{HasCleanDisk}
+use Rattle.sql_rows.proofs.Common.{◌≡◌, ◌∙◌, inr, List, ℕ, sym, ap, Some, arith, state, HasCleanDisk}
 use Rattle.till_book.specs.Journal.{waiting}
 use Rattle.till_work.proofs.delivering.deliver.Goals as goal
 

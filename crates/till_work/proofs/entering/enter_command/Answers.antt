@@ -1,7 +1,4 @@
-use Rattle.std.proofs.Common.{◌≡◌, ◌∙◌, ◌<◌, ◌^◌, List, ℕ, refl, ap, subst, arith}
-use Rattle.sqlite.specs.Held.{state}
-use Rattle.sqlite.specs.State.{HasCleanDisk}
-use Rattle.sqlite.proofs.StateLemmas.{survives_then, survives_weaker}
+use Rattle.sql_rows.proofs.Common.{◌≡◌, ◌∙◌, ◌<◌, ◌^◌, List, ℕ, refl, ap, subst, arith, state, HasCleanDisk, survives_then, survives_weaker}
 use Rattle.shop_model.specs.Values.{Command}
 use Rattle.shop_types.specs.Seen.{seen_command}
 use Rattle.till_model.specs.Numbered.{IsAfterLast}

@@ -1,5 +1,4 @@
-use Rattle.std.proofs.Common.{◌≡◌, ◌∙◌, List, ℕ, sym, ap, subst}
-use Rattle.std.proofs.lemmas.Bool.{false≢true}
+use Rattle.sql_rows.proofs.Common.{◌≡◌, ◌∙◌, List, ℕ, sym, ap, subst, false≢true}
 use Rattle.std.proofs.lemmas.Slice.Eq.{bytes_eq-Decides}
 use Rattle.shop_model.specs.Values.{Command}
 use Rattle.shop_types.specs.Seen.{seen_command}

@@ -1,6 +1,4 @@
-use Rattle.std.proofs.Common.{◌∙◌, ap, [], None, Option}
-use Rattle.shop_model.specs.Machine.{ActorsListed}
-use Rattle.shop_model.specs.Answers.{shown_text}
+use Rattle.shop_schema.proofs.Common.{◌∙◌, ap, [], None, Option, ActorsListed, shown_text}
 use Rattle.view_texts.specs.Actors.{actor_lines, ActorPart, closed, runs}
 use Rattle.view_texts.proofs.Casts.{apart_of}
 use Rattle.view_texts.proofs.ActorQuery.{actors_ask}

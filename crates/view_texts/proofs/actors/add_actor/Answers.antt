@@ -1,5 +1,4 @@
-use Rattle.std.proofs.Common.{◌++◌, ◌∷◌, [], ◌∙◌, ap, subst}
-use Rattle.sql_rows.proofs.Inside.{on_ok_then}
+use Rattle.shop_schema.proofs.Common.{◌++◌, ◌∷◌, [], ◌∙◌, ap, subst, on_ok_then}
 use Rattle.shop_views.specs.Films.{actor_data}
 use Rattle.shop_views.specs.Page.{HasValues}
 use Rattle.view_texts.proofs.actors.add_actor.Goals as goal

@@ -1,6 +1,4 @@
-use Rattle.std.proofs.Common.{refl, map, option_map}
-use Rattle.std.proofs.lemmas.Result.{IfOk-weaker}
-use Rattle.shop_model.specs.Machine.{ActorsListed}
+use Rattle.shop_schema.proofs.Common.{refl, map, option_map, IfOk-weaker, ActorsListed}
 use Rattle.shop_views.specs.Films.{actor_data}
 use Rattle.view_texts.specs.Actors.{seen_part, closed}
 use Rattle.view_texts.proofs.ActorLines.{last_actor, no_last_actor}

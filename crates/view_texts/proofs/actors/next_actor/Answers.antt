@@ -1,5 +1,4 @@
-use Rattle.std.proofs.Common.{sym, ◌∙◌}
-use Rattle.std.proofs.lemmas.Result.{IfOk-weaker}
+use Rattle.shop_schema.proofs.Common.{sym, ◌∙◌, IfOk-weaker}
 use Rattle.view_texts.proofs.ActorLines.{other_actor}
 use Rattle.view_texts.proofs.actors.next_actor.Goals as goal
 

@@ -1,5 +1,4 @@
-use Rattle.std.proofs.Common.{ap}
-use Rattle.shop_model.specs.Values.{Text}
+use Rattle.shop_schema.proofs.Common.{ap, Text}
 use Rattle.view_texts.specs.Actors.{seen_part}
 use Rattle.view_texts.proofs.ActorLines.{whole_seen}
 use Rattle.view_texts.proofs.actors.whole_actor.Goals as goal

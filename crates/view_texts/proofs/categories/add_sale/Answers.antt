@@ -1,8 +1,4 @@
-use Rattle.std.proofs.Common.{◌+◌, ◌∙◌, ap, not, map}
-use Rattle.sqlite.specs.Values.{or_null}
-use Rattle.sql_rows.specs.Rows.{number_value}
-use Rattle.sql_rows.proofs.Inside.{on_ok_then}
-use Rattle.shop_model.specs.Rows.{set_at}
+use Rattle.shop_schema.proofs.Common.{◌+◌, ◌∙◌, ap, not, map, or_null, number_value, on_ok_then, set_at}
 use Rattle.view_texts.specs.CategorySums.{seen_sum, with_amount}
 use Rattle.view_texts.proofs.CategorySales.{sale_added}
 use Rattle.view_texts.proofs.categories.add_sale.Goals as goal

@@ -1,5 +1,4 @@
-use Rattle.std.proofs.Common.{◌∙◌, ap, sym, map}
-use Rattle.shop_model.specs.Views.{sells_more, sorted_by}
+use Rattle.shop_schema.proofs.Common.{◌∙◌, ap, sym, map, sells_more, sorted_by}
 use Rattle.shop_views.specs.Sales.{seen_category}
 use Rattle.view_texts.specs.CategorySums.{seen_sum, sold}
 use Rattle.view_texts.proofs.CategoryOrder.{all_put, all_sorted, popped_put}

@@ -1,7 +1,4 @@
-use Rattle.std.proofs.Common.{refl, map, subst}
-use Rattle.std.proofs.lemmas.List.{take_all}
-use Rattle.std.proofs.lemmas.Result.{IfOk-weaker}
-use Rattle.shop_model.specs.Machine.{CategoriesListed}
+use Rattle.shop_schema.proofs.Common.{refl, map, subst, take_all, IfOk-weaker, CategoriesListed}
 use Rattle.shop_views.specs.Page.{HasValues}
 use Rattle.shop_views.specs.Sales.{seen_category, category_data}
 use Rattle.view_texts.proofs.categories.list_text.Goals as goal

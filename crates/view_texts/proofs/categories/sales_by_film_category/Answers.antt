@@ -1,9 +1,4 @@
-use Rattle.std.proofs.Common.{◌∙◌, ap}
-use Rattle.sqlite.specs.Held.{state}
-use Rattle.sql_rows.proofs.Stays.{same_as, same_err, same_then, was_clean}
-use Rattle.shop_model.specs.Machine.{CategoriesListed}
-use Rattle.shop_model.specs.Answers.{shown_text}
-use Rattle.shop_model.specs.Views.{sells_more, sorted_by}
+use Rattle.shop_schema.proofs.Common.{◌∙◌, ap, state, same_as, same_err, same_then, was_clean, CategoriesListed, shown_text, sells_more, sorted_by}
 use Rattle.view_texts.specs.CategorySums.{sold}
 use Rattle.view_texts.proofs.CategorySales.{all_sold}
 use Rattle.view_texts.proofs.Unchanged.{holds_still}

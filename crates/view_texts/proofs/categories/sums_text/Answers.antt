@@ -1,7 +1,4 @@
-use Rattle.std.proofs.Common.{◌∙◌, ap, map}
-use Rattle.std.proofs.lemmas.Result.{IfOk-weaker}
-use Rattle.shop_model.specs.Machine.{CategoriesListed}
-use Rattle.shop_model.specs.Answers.{shown_text}
+use Rattle.shop_schema.proofs.Common.{◌∙◌, ap, map, IfOk-weaker, CategoriesListed, shown_text}
 use Rattle.shop_views.specs.Sales.{seen_category}
 use Rattle.view_texts.proofs.categories.sums_text.Goals as goal
 

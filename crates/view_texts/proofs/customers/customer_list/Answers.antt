@@ -1,9 +1,4 @@
-use Rattle.std.proofs.Common.{refl, ◌∙◌, sym, ap, subst, filter, map}
-use Rattle.sqlite_keyed.proofs.ListLemmas.{map-map}
-use Rattle.shop_model.specs.Rows.{is_of}
-use Rattle.shop_model.specs.Books.{shop_of}
-use Rattle.shop_model.specs.Machine.{CustomersListed}
-use Rattle.shop_model.specs.Views.{customer_list}
+use Rattle.shop_schema.proofs.Common.{refl, ◌∙◌, sym, ap, subst, filter, map, map-map, is_of, shop_of, CustomersListed, customer_list}
 use Rattle.shop_views.specs.Page.{HasValues}
 use Rattle.shop_views.specs.People.{customer_data}
 use Rattle.view_texts.specs.Shown.{shown_customer, listed_customer}

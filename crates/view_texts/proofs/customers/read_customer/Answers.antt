@@ -1,7 +1,4 @@
-use Rattle.std.proofs.Common.{◌∷◌, [], sym, ap, ◌∙◌}
-use Rattle.sqlite_value.specs.Order.{column}
-use Rattle.sql_rows.specs.Rows.{flag_value}
-use Rattle.sql_rows.proofs.ColumnTests.{same_flag, same_number}
+use Rattle.shop_schema.proofs.Common.{◌∷◌, [], sym, ap, ◌∙◌, column, flag_value, same_flag, same_number}
 use Rattle.view_texts.proofs.PersonLines.{numbered_person}
 use Rattle.view_texts.proofs.customers.read_customer.Goals as goal
 

@@ -1,6 +1,4 @@
-use Rattle.std.proofs.Common.{◌∙◌, ap, [], None, Option}
-use Rattle.shop_model.specs.Machine.{FilmsListed}
-use Rattle.shop_model.specs.Answers.{shown_text}
+use Rattle.shop_schema.proofs.Common.{◌∙◌, ap, [], None, Option, FilmsListed, shown_text}
 use Rattle.view_texts.specs.Shown.{film_lines}
 use Rattle.view_texts.specs.Films.{FilmPart, closed, runs}
 use Rattle.view_texts.proofs.Casts.{apart_of, there_of}

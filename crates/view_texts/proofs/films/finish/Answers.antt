@@ -1,6 +1,4 @@
-use Rattle.std.proofs.Common.{refl, map, option_map}
-use Rattle.std.proofs.lemmas.Result.{IfOk-weaker}
-use Rattle.shop_model.specs.Machine.{FilmsListed}
+use Rattle.shop_schema.proofs.Common.{refl, map, option_map, IfOk-weaker, FilmsListed}
 use Rattle.shop_views.specs.Films.{film_data}
 use Rattle.view_texts.specs.Films.{seen_part, closed}
 use Rattle.view_texts.proofs.FilmLines.{last_film, no_last_film}

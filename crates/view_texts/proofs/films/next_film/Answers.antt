@@ -1,5 +1,4 @@
-use Rattle.std.proofs.Common.{sym, ◌∙◌}
-use Rattle.std.proofs.lemmas.Result.{IfOk-weaker}
+use Rattle.shop_schema.proofs.Common.{sym, ◌∙◌, IfOk-weaker}
 use Rattle.view_texts.proofs.FilmLines.{other_film}
 use Rattle.view_texts.proofs.films.next_film.Goals as goal
 

@@ -1,7 +1,4 @@
-use Rattle.std.proofs.Common.{refl, subst, map}
-use Rattle.shop_model.specs.Books.{shop_of}
-use Rattle.shop_model.specs.Machine.{OverdueAre}
-use Rattle.shop_model.specs.Views.{overdue_list}
+use Rattle.shop_schema.proofs.Common.{refl, subst, map, shop_of, OverdueAre, overdue_list}
 use Rattle.shop_views.specs.Overdue.{overdue_data}
 use Rattle.shop_views.specs.Page.{HasValues}
 use Rattle.view_texts.specs.Overdue.{shown_out, is_late, IsReal, listed_out}

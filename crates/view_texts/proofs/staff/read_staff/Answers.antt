@@ -1,6 +1,4 @@
-use Rattle.std.proofs.Common.{[], sym, ap, ◌∙◌}
-use Rattle.sqlite_value.specs.Order.{column}
-use Rattle.sql_rows.proofs.ColumnTests.{same_number}
+use Rattle.shop_schema.proofs.Common.{[], sym, ap, ◌∙◌, column, same_number}
 use Rattle.view_texts.proofs.PersonLines.{numbered_person}
 use Rattle.view_texts.proofs.staff.read_staff.Goals as goal
 

@@ -1,9 +1,4 @@
-use Rattle.std.proofs.Common.{◌==◌, ℕ, refl, sym, subst, filter, map}
-use Rattle.sqlite_keyed.proofs.ListLemmas.{map-map}
-use Rattle.shop_model.specs.Rows.{numbered}
-use Rattle.shop_model.specs.Values.{Staff}
-use Rattle.shop_model.specs.Machine.{StaffListed}
-use Rattle.shop_model.specs.Views.{staff_list}
+use Rattle.shop_schema.proofs.Common.{◌==◌, ℕ, refl, sym, subst, filter, map, map-map, numbered, Staff, StaffListed, staff_list}
 use Rattle.shop_views.specs.Page.{HasValues}
 use Rattle.shop_views.specs.People.{staff_data}
 use Rattle.view_texts.specs.Shown.{shown_staff, listed_staff}

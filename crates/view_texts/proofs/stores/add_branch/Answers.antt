@@ -1,6 +1,4 @@
-use Rattle.std.proofs.Common.{◌∙◌, sym, ap, option_map}
-use Rattle.sqlite.specs.Held.{state}
-use Rattle.sql_rows.proofs.Stays.{same_as, same_err, same_then, was_clean}
+use Rattle.shop_schema.proofs.Common.{◌∙◌, sym, ap, option_map, state, same_as, same_err, same_then, was_clean}
 use Rattle.shop_views.specs.Sales.{seen_store}
 use Rattle.view_texts.proofs.Unchanged.{holds_still}
 use Rattle.view_texts.proofs.SalesLists.{absent_added, is_there}

@@ -1,5 +1,4 @@
-use Rattle.std.proofs.Common.{◌∙◌, sym}
-use Rattle.sql_rows.proofs.Inside.{on_ok_then}
+use Rattle.shop_schema.proofs.Common.{◌∙◌, sym, on_ok_then}
 use Rattle.shop_views.specs.Sales.{seen_store}
 use Rattle.view_texts.proofs.SalesLists.{unsold_added, store_added}
 use Rattle.view_texts.proofs.stores.add_sold.Goals as goal

@@ -1,5 +1,4 @@
-use Rattle.std.proofs.Common.{refl, map}
-use Rattle.shop_model.specs.Machine.{StoresListed}
+use Rattle.shop_schema.proofs.Common.{refl, map, StoresListed}
 use Rattle.shop_views.specs.Sales.{store_data}
 use Rattle.view_texts.specs.Sales.{sales_of_first}
 use Rattle.view_texts.proofs.stores.sales.Goals as goal

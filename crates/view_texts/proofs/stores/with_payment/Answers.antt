@@ -1,5 +1,4 @@
-use Rattle.std.proofs.Common.{◌∙◌, ap, not, ◌+◌}
-use Rattle.std.specs.Prelude.{unwrap_or}
+use Rattle.shop_schema.proofs.Common.{◌∙◌, ap, not, ◌+◌, unwrap_or}
 use Rattle.view_texts.proofs.SalesLines.{payment_added}
 use Rattle.view_texts.proofs.stores.with_payment.Goals as goal
 

@@ -1,5 +1,4 @@
-use Rattle.std.proofs.Common.{◌≡◌, ◌∙◌, ℕ, List, Contains, sym, ap, subst}
-use Rattle.std.proofs.lemmas.List.Elements.{Contains-get_or}
+use Rattle.shop_types.proofs.Common.{◌≡◌, ◌∙◌, ℕ, List, Contains, sym, ap, subst, Contains-get_or}
 use Rattle.shop_types.specs.declared.request.Caller.{Caller as Known}
 use Rattle.shop_types.specs.declared.request.Caller.TheVariants as known
 use Rattle.chain_caches.proofs.CallerSteps.{branch_there}

@@ -1,6 +1,5 @@
-use Rattle.std.proofs.Common.{◌≡◌, false, inl, inr, sym, subst, refl}
+use Rattle.shop_types.proofs.Common.{◌≡◌, false, inl, inr, sym, subst, refl, seen_caller}
 use Rattle.shop_model.specs.Resends.{is_nobody}
-use Rattle.shop_types.specs.Seen.{seen_caller}
 use Rattle.chain_caches.specs.Callers.{AreCallers, KnownCallers}
 use Rattle.chain_caches.proofs.CallerSteps.{one_more}
 use Rattle.chain_caches.proofs.callers.CallerCache.put.Goals as goal

@@ -1,8 +1,6 @@
-use Rattle.std.proofs.Common.{◌∙◌, ℕ, sym, subst, nat_eq, ap}
-use Rattle.std.specs.Map.{remove_entry}
+use Rattle.shop_types.proofs.Common.{◌∙◌, ℕ, sym, subst, nat_eq, ap, remove_entry, set_at}
 use Rattle.lru.specs.LruCache.{LruCache}
 use Rattle.lru.proofs.CallerLemmas.{Contains-remove_entry}
-use Rattle.shop_model.specs.Rows.{set_at}
 use Rattle.chain_caches.specs.declared.films.KnownFilm.{KnownFilm}
 use Rattle.chain_caches.specs.Films.{AreRows, KnownFilms, entries_of}
 use Rattle.chain_caches.proofs.FilmRows.{fewer_rows, free_rows}

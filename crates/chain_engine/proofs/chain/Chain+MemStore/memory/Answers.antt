@@ -1,6 +1,4 @@
-use Rattle.std.proofs.Common.{refl}
-use Rattle.std.proofs.lemmas.Bool.{false≢true}
-use Rattle.shop_model.proofs.Soundness.{empty_sound}
+use Rattle.shop_schema.proofs.Common.{refl, false≢true, empty_sound}
 use Rattle.chain_caches.proofs.FilmRows.{no_rows}
 use Rattle.chain_caches.proofs.CallerSteps.{no_callers}
 use Rattle.chain_steps.specs.Chains.{widest_rules}

@@ -1,8 +1,4 @@
-use Rattle.std.proofs.Common.{◌≡◌, ◌∙◌, inr, sym, ap}
-use Rattle.shop_model.specs.Refusals.{Decision, NoCounter, NoRoute, StoreFailed}
-use Rattle.shop_model.specs.Machine.{Sorry}
-use Rattle.shop_model.specs.Histories.{is_store_failure}
-use Rattle.shop_model.proofs.Histories.{failed_failure}
+use Rattle.shop_schema.proofs.Common.{◌≡◌, ◌∙◌, inr, sym, ap, Decision, NoCounter, NoRoute, StoreFailed, Sorry, is_store_failure, failed_failure}
 use Rattle.chain_steps.specs.Holding.{Chained}
 use Rattle.chain_steps.proofs.Failures.{decided_fine}
 use Rattle.chain_engine.proofs.chain.Chain.answer.Goals as goal

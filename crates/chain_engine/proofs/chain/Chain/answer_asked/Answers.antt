@@ -1,13 +1,5 @@
-use Rattle.std.proofs.Common.{◌≡◌, ◌∙◌, inr, refl, sym, ap, subst, arith, false}
-use Rattle.std.proofs.lemmas.Bool.{false≢true}
+use Rattle.shop_schema.proofs.Common.{◌≡◌, ◌∙◌, inr, refl, sym, ap, subst, arith, false, false≢true, Catalogue, problem_answer, is_store_failure, Caller, Request, seen_refusal, seen_reply}
 use Rattle.chain_caches.specs.Callers.{AreCallers}
-use Rattle.shop_model.specs.Shop.{Catalogue}
-use Rattle.shop_model.specs.Answers.{problem_answer}
-use Rattle.shop_model.specs.Histories.{is_store_failure}
-use Rattle.shop_model.specs.Books.{Caller}
-use Rattle.shop_model.specs.Machine.{Request}
-use Rattle.shop_types.specs.Seen.{seen_refusal}
-use Rattle.shop_types.specs.Replies.{seen_reply}
 use Rattle.chain_caches.proofs.FilmRows.{no_rows}
 use Rattle.chain_steps.specs.Holding.{Chained}
 use Rattle.chain_steps.specs.Chains.{Takes, Answers}

@@ -1,12 +1,4 @@
-use Rattle.std.proofs.Common.{◌≡◌, ◌∙◌, inr, refl, sym, ap, subst, arith, false}
-use Rattle.std.proofs.lemmas.Bool.{false≢true}
-use Rattle.sqlite.specs.Held.{state}
-use Rattle.shop_model.specs.Answers.{problem_answer}
-use Rattle.shop_model.specs.Histories.{is_store_failure}
-use Rattle.shop_model.specs.Books.{HeadOffice}
-use Rattle.shop_model.specs.Machine.{Request, OfficeLook}
-use Rattle.shop_types.specs.Seen.{seen_office_ask, seen_refusal}
-use Rattle.shop_types.specs.Replies.{seen_reply}
+use Rattle.shop_schema.proofs.Common.{◌≡◌, ◌∙◌, inr, refl, sym, ap, subst, arith, false, false≢true, state, problem_answer, is_store_failure, HeadOffice, Request, OfficeLook, seen_office_ask, seen_refusal, seen_reply}
 use Rattle.chain_steps.specs.Holding.{Chained}
 use Rattle.chain_steps.specs.Chains.{Takes, Answers}
 use Rattle.chain_steps.specs.Steps.{IsHeldWith}

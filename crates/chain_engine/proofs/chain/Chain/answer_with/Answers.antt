@@ -1,10 +1,7 @@
-use Rattle.std.proofs.Common.{◌∙◌, ap, sym, inr}
-use Rattle.shop_model.specs.Books.{caller_in}
-use Rattle.shop_types.specs.Seen.{seen_refusal, seen_request}
+use Rattle.shop_schema.proofs.Common.{◌∙◌, ap, sym, inr, caller_in, seen_refusal, seen_request, is_store_failure}
 use Rattle.chain_steps.specs.Chains.{event_of}
 use Rattle.chain_steps.proofs.Requests.{event_answered, store_refuses, refused_takes}
 use Rattle.chain_steps.proofs.Taking.{takes_then}
-use Rattle.shop_model.specs.Histories.{is_store_failure}
 use Rattle.chain_engine.proofs.chain.Chain.answer_with.Goals as goal
 
 pub returns-in-Ok-clause-taken : goal.returns-in-Ok-clause-taken

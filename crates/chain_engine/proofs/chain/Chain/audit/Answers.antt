@@ -1,6 +1,4 @@
-use Rattle.std.proofs.Common.{◌≡◌, ◌∙◌, refl, ap, subst, arith, Ok, Err}
-use Rattle.sqlite.specs.Held.{state}
-use Rattle.sql_rows.specs.declared.fault.StoreFault.TheVariants.{Failed}
+use Rattle.shop_schema.proofs.Common.{◌≡◌, ◌∙◌, refl, ap, subst, arith, Ok, Err, state, Failed}
 use Rattle.chain_steps.specs.Holding.{Chained}
 use Rattle.chain_steps.specs.Chains.{Takes}
 use Rattle.chain_steps.specs.Audits.{AuditsState}

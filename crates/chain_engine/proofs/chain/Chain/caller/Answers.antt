@@ -1,6 +1,4 @@
-use Rattle.std.proofs.Common.{◌≡◌, ◌∙◌, true, refl, sym, ap, subst, arith, Ok, Err}
-use Rattle.std.proofs.lemmas.Bool.{false≢true}
-use Rattle.sql_rows.specs.declared.fault.StoreFault.TheVariants.{Failed}
+use Rattle.shop_schema.proofs.Common.{◌≡◌, ◌∙◌, true, refl, sym, ap, subst, arith, Ok, Err, false≢true, Failed}
 use Rattle.chain_steps.specs.Holding.{Chained}
 use Rattle.chain_steps.specs.Chains.{Takes}
 use Rattle.chain_steps.specs.Decisions.{FindsCaller}

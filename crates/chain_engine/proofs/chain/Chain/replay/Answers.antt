@@ -1,13 +1,6 @@
-use Rattle.std.proofs.Common.{◌≡◌, ◌∙◌, ℕ, ◌+◌, ◌++◌, ◌∷◌, [], List, take, map, refl, true, sym, ap, arith}
-use Rattle.std.proofs.Math.Bool.{or-false}
-use Rattle.std.proofs.lemmas.List.{take_more, take_all, map-append}
-use Rattle.std.proofs.lemmas.List.Elements.{All-nil, All-push}
-use Rattle.shop_model.specs.Answers.{Answer, problem_answer}
-use Rattle.shop_model.specs.Refusals.{StoreFailed}
-use Rattle.shop_model.specs.Histories.{has_failed, is_store_failure}
-use Rattle.shop_model.proofs.Histories.{failed_failure, failed_more}
+use Rattle.shop_schema.proofs.Common.{◌≡◌, ◌∙◌, ℕ, ◌+◌, ◌++◌, ◌∷◌, [], List, take, map, refl, true, sym, ap, arith, or-false, take_more, take_all, map-append, All-nil, Answer, problem_answer, StoreFailed, has_failed, is_store_failure, failed_failure, failed_more, seen_reply}
+use Rattle.std.proofs.lemmas.List.Elements.{All-push}
 use Rattle.shop_types.specs.declared.request.Request.{Request}
-use Rattle.shop_types.specs.Replies.{seen_reply}
 use Rattle.chain_steps.specs.Holding.{Chained}
 use Rattle.chain_steps.specs.Chains.{event_of}
 use Rattle.chain_steps.specs.Steps.{IsTold}

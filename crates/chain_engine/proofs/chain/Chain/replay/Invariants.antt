@@ -1,9 +1,5 @@
-use Rattle.std.proofs.Common.{◌≡◌, ◌≤◌, true, length, take, map, vec_len, vec_capacity}
+use Rattle.shop_schema.proofs.Common.{◌≡◌, ◌≤◌, true, length, take, map, vec_len, vec_capacity, has_failed, problem_answer, StoreFailed, seen_reply}
 use Rattle.std.specs.Prelude.{◌||◌, All}
-use Rattle.shop_model.specs.Histories.{has_failed}
-use Rattle.shop_model.specs.Answers.{problem_answer}
-use Rattle.shop_model.specs.Refusals.{StoreFailed}
-use Rattle.shop_types.specs.Replies.{seen_reply}
 use Rattle.chain_steps.specs.Chains.{Takes, Runs, event_of}
 use Rattle.chain_steps.specs.Steps.{IsTold}
 use Rattle.chain_engine.proofs.chain.Chain.replay.Given as goal

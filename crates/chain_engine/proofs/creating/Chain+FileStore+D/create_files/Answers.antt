@@ -1,10 +1,5 @@
-use Rattle.std.proofs.Common.{arith, inr, refl, subst}
-use Rattle.sqlite.specs.Files.{file_state}
-use Rattle.sqlite.specs.State.{HasCleanDisk}
-use Rattle.shop_model.proofs.Soundness.{empty_sound}
-use Rattle.shop_schema.specs.Shop.{first_books}
+use Rattle.shop_schema.proofs.Common.{arith, inr, refl, subst, file_state, HasCleanDisk, empty_sound, first_books, HoldsOne}
 use Rattle.chain_steps.specs.Chains.{widest_rules}
-use Rattle.sql_rows.specs.Files.{HoldsOne}
 use Rattle.chain_steps.proofs.Opening.{opened_at}
 use Rattle.chain_steps.proofs.NewFiles.{stopped_by, holds_no_table, holds_a_table, none_or_new}
 use Rattle.chain_engine.proofs.Results.{refused_by}

@@ -1,6 +1,4 @@
-use Rattle.std.proofs.Common.{subst}
-use Rattle.sqlite.specs.Files.{file_state}
-use Rattle.sql_rows.specs.Files.{HoldsOne}
+use Rattle.shop_schema.proofs.Common.{subst, file_state, HoldsOne}
 use Rattle.chain_steps.proofs.Opening.{keeps_books, keeps_either}
 use Rattle.chain_engine.proofs.files.Chain+FileStore+D.close.Goals as goal
 

@@ -1,8 +1,4 @@
-use Rattle.std.proofs.Common.{inr, refl, arith}
-use Rattle.sqlite.specs.Files.{file_state}
-use Rattle.sqlite.specs.State.{HasCleanDisk}
-use Rattle.shop_model.specs.Migration.{migrated}
-use Rattle.shop_model.proofs.Migration.{migrated_sound}
+use Rattle.shop_schema.proofs.Common.{inr, refl, arith, file_state, HasCleanDisk, migrated, migrated_sound}
 use Rattle.shop_schema.proofs.Values.{migrated_values}
 use Rattle.chain_steps.specs.Chains.{widest_rules}
 use Rattle.chain_steps.proofs.Opening.{opened_at, shows_what_is_found, has_this_version, tells_version}

@@ -1,5 +1,4 @@
-use Rattle.std.proofs.Common.{◌≡◌}
-use Rattle.std.specs.Io.KnownBytes.{Keeps}
+use Rattle.shop_types.proofs.Common.{◌≡◌, Keeps}
 use Rattle.counter_http.proofs.inbox.Inbox.fill.Given as goal
 
 abbrev pub invariant-tries : goal.invariant-tries

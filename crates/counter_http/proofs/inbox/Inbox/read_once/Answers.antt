@@ -1,5 +1,4 @@
-use Rattle.std.proofs.Common.{rules, ◌≡◌, ◌≤◌, length, take, arith, ◌-◌}
-use Rattle.std.proofs.lemmas.List.{with_items_is, places}
+use Rattle.shop_types.proofs.Common.{rules, ◌≡◌, ◌≤◌, length, take, arith, ◌-◌, with_items_is, places}
 use borrow.Rule.Slice.PartMut.{put_mid}
 use Rattle.counter_http.proofs.KnownBytes.{filled_more}
 use Rattle.counter_http.proofs.inbox.Inbox.read_once.Goals as goal

@@ -1,8 +1,6 @@
-use Rattle.std.proofs.Common.{◌≡◌, ◌∙◌, drop, [], None, refl, sym, arith}
+use Rattle.shop_types.proofs.Common.{◌≡◌, ◌∙◌, drop, [], None, refl, sym, arith, is_store_failure, seen_reply}
 use Rattle.http_messages.specs.Input.{HasMessage}
 use Rattle.http_messages.specs.Shown.{message_of}
-use Rattle.shop_model.specs.Histories.{is_store_failure}
-use Rattle.shop_types.specs.Replies.{seen_reply}
 use Rattle.counter_http.specs.Exchanges.{Exchange}
 use Rattle.counter_http.specs.Served.{IsRefused}
 use Rattle.counter_http.proofs.Runs.{run_starts, run_one}

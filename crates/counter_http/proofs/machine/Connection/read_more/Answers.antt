@@ -1,5 +1,4 @@
-use Rattle.std.proofs.Common.{◌≡◌, ◌∙◌, ◌<◌, ◌≤◌, ◌-◌, [], refl, sym, ap, append-nil, length, length-append, arith}
-use Rattle.std.proofs.KnownBytes.{Consumes-nil, Consumes-kept}
+use Rattle.shop_types.proofs.Common.{◌≡◌, ◌∙◌, ◌<◌, ◌≤◌, ◌-◌, [], refl, sym, ap, append-nil, length, length-append, arith, Consumes-nil, Consumes-kept}
 use Rattle.counter_http.specs.declared.inbox.TheConstants.{ROOM}
 use Rattle.counter_http.proofs.Turns.{turn_read, turn_grown}
 use Rattle.counter_http.proofs.machine.Connection.read_more.Goals as goal

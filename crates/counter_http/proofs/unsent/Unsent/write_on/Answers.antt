@@ -1,6 +1,5 @@
-use Rattle.std.proofs.Common.{rules, ◌≡◌, [], drop, length}
+use Rattle.shop_types.proofs.Common.{rules, ◌≡◌, [], drop, length, body_bytes}
 use Rattle.http_messages.specs.Text.{head_text}
-use Rattle.shop_types.specs.Replies.{body_bytes}
 use Rattle.http_messages.proofs.WriteLemmas.{written_two}
 use Rattle.counter_http.proofs.unsent.Unsent.write_on.Goals as goal
 

@@ -1,7 +1,4 @@
-use Rattle.std.proofs.Common.{◌≡◌, refl, false, arith}
-use Rattle.std.proofs.lemmas.Bool.Decides.{nat_tests}
-use Rattle.shop_model.specs.Refusals.{TooLong, NoCounter}
-use Rattle.shop_types.specs.StockFiles.{is_stock_file}
+use Rattle.shop_types.proofs.Common.{◌≡◌, refl, false, arith, nat_tests, TooLong, NoCounter, is_stock_file}
 use Rattle.counter_routes.proofs.paths.Routes.read.Goals as goal
 
 pub returns-in-Branch-clause-reading : goal.returns-in-Branch-clause-reading

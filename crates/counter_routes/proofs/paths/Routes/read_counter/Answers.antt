@@ -1,5 +1,4 @@
-use Rattle.std.proofs.Common.{refl}
-use Rattle.shop_model.specs.Refusals.{NoRoute}
+use Rattle.shop_types.proofs.Common.{refl, NoRoute}
 use Rattle.counter_routes.proofs.paths.Routes.read_counter.Goals as goal
 
 pub returns-in_default-clause-reading : goal.returns-in_default-clause-reading

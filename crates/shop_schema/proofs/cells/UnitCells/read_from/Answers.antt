@@ -1,4 +1,4 @@
-use Rattle.std.proofs.Common.{◌≡◌, ℕ, length, drop, refl, sym, ap, ◌∙◌, arith, length-drop}
+use Rattle.std.proofs.Common.{◌≡◌, length, drop, ap, arith, length-drop}
 use Rattle.shop_schema.proofs.cells.UnitCells.read_from.Goals as goal
 
 pub returns-else-at-column_count-clause-failed : goal.returns-else-at-column_count-clause-failed

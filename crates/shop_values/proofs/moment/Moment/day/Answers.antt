@@ -1,9 +1,8 @@
-use Rattle.std.proofs.Common.{◌≡◌, ◌∙◌, ap, subst, arith, pos, FitsSigned, w8, w16, w32}
-use Rattle.std.proofs.lemmas.Int.{to_z-of_z, to_z_pos}
+use Rattle.shop_model.proofs.Common.{◌≡◌, ◌∙◌, ap, subst, arith, pos, FitsSigned, w8, w16, w32, to_z-of_z, to_z_pos, Moment, IsMoment}
 use Rattle.jiff_core.proofs.SignedLemmas.{signed_arith}
 use Rattle.jiff_core.proofs.CalendarLemmas.{days_in_month_bounds}
 use Rattle.jiff_core.specs.Calendar.{days_from_civil}
-use Rattle.shop_model.specs.Calendar.{Moment, IsMoment, day_of}
+use Rattle.shop_model.specs.Calendar.{day_of}
 use Rattle.shop_values.proofs.CalendarLemmas.{days_from_civil-day_of}
 use Rattle.shop_values.proofs.moment.Moment.day.Goals as goal
 

@@ -1,6 +1,4 @@
-use Rattle.std.proofs.Common.{true, false, ◌≡◌, ◌∙◌, sym, ap, subst}
-use Rattle.std.proofs.lemmas.Slice.Eq.{bytes_eq-Decides}
-use Rattle.shop_model.specs.Calendar.{IsMoment, moment_text}
+use Rattle.shop_model.proofs.Common.{true, false, ◌≡◌, ◌∙◌, sym, ap, subst, bytes_eq-Decides, IsMoment, moment_text}
 use Rattle.shop_values.proofs.MomentLemmas.{parts_read}
 use Rattle.shop_values.proofs.moment.Moment.read.Goals as goal
 

@@ -1,8 +1,6 @@
-use Rattle.std.proofs.Common.{◌≡◌, ◌∙◌, ◌+◌, ◌*◌, ap, arith, FitsSigned, w32, to_z, of_z}
-use Rattle.std.specs.Prelude.{unsigned_abs}
-use Rattle.std.proofs.lemmas.Int.{to_z-of_z}
+use Rattle.shop_model.proofs.Common.{◌≡◌, ◌∙◌, ◌+◌, ◌*◌, ap, arith, FitsSigned, w32, to_z, of_z, unsigned_abs, to_z-of_z, Moment}
 use Rattle.jiff_core.proofs.SignedLemmas.{signed_arith}
-use Rattle.shop_model.specs.Calendar.{Moment, day_of, seconds_of}
+use Rattle.shop_model.specs.Calendar.{day_of, seconds_of}
 use Rattle.shop_values.proofs.moment.Moment.seconds.Goals as goal
 
 pub returns : goal.returns

@@ -1,5 +1,4 @@
-use Rattle.std.proofs.Common.{◌∙◌, sym, subst, rules}
-use Rattle.std.specs.Prelude.{IsUtf8}
+use Rattle.shop_model.proofs.Common.{◌∙◌, sym, subst, rules, IsUtf8}
 use Rattle.shop_values.proofs.MomentLemmas.{moment_text-utf8}
 use Rattle.shop_values.proofs.moment.MomentDisplay.fmt.Goals as goal
 

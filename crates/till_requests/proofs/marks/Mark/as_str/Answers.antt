@@ -1,5 +1,4 @@
-use Rattle.std.proofs.Common.{sym, subst, rules}
-use Rattle.std.specs.Prelude.{IsUtf8}
+use Rattle.shop_types.proofs.Common.{sym, subst, rules, IsUtf8}
 use Rattle.till_requests.proofs.MarkLemmas.{mark-utf8}
 use Rattle.till_requests.proofs.marks.Mark.as_str.Goals as goal
 

@@ -1,5 +1,4 @@
-use Rattle.std.proofs.Common.{map}
-use Rattle.sql_rows.proofs.Inside.{on_ok_then}
+use Rattle.shop_schema.proofs.Common.{map, on_ok_then}
 use Rattle.view_texts.specs.CategorySums.{seen_sum}
 use Rattle.view_texts.proofs.CategoryLines.{sums_more}
 use Rattle.view_texts.proofs.categories.CategorySumsTakesRows.take.Goals as goal

@@ -1,5 +1,4 @@
-use Rattle.std.proofs.Common.{ap, ◌∙◌}
-use Rattle.sql_rows.proofs.Inside.{on_ok_then}
+use Rattle.shop_schema.proofs.Common.{ap, ◌∙◌, on_ok_then}
 use Rattle.shop_views.specs.People.{seen_customer, customer_data}
 use Rattle.view_texts.specs.Shown.{shown_customer, listed_customer}
 use Rattle.view_texts.proofs.PageLines.{listed_more}

@@ -1,5 +1,4 @@
-use Rattle.std.proofs.Common.{ap, sym, ◌∙◌}
-use Rattle.sql_rows.proofs.Inside.{on_ok_then}
+use Rattle.shop_schema.proofs.Common.{ap, sym, ◌∙◌, on_ok_then}
 use Rattle.shop_views.specs.Overdue.{overdue_data, seen_overdue}
 use Rattle.view_texts.specs.Overdue.{shown_out, is_late, IsReal, listed_out}
 use Rattle.view_texts.proofs.OverdueLines.{one_listed, none_listed}
