@@ -1,5 +1,5 @@
 -- What a change of the books makes of their own counts: where the rows of one kind of one branch alone grow, its count alone does.
-use Rattle.shop_schema.proofs.Common.{◌≡◌, ◌+◌, ◌<◌, ◌≤◌, ◌^◌, ◌==◌, ◌&&◌, ℕ, suc, List, [], ◌∷◌, ◌++◌, map, filter, length, true, false, Bool, cond, not, Some, None, refl, sym, ap, subst, ◌∙◌, arith, is_none, AllByRecursion, nat_tests, filter-append, length_push, Moment, Row, Owned, is_of, is_row, of, owned_by, numbered, set_row, Branch, Customer, Payment, Rental, Text, Kept, Books, BookCopy, more_yes, more_no, length_map, Count, is_count, count_in, count_of, branch_counts, office_count, counts_of, raise, raised, is_open, out_of, is_out_by, put_out, drop_out}
+use Rattle.shop_schema.proofs.Common.{◌≡◌, ◌+◌, ◌≤◌, ◌==◌, ◌&&◌, ℕ, suc, List, [], ◌∷◌, ◌++◌, map, filter, length, true, false, Bool, cond, not, Some, None, refl, sym, ap, subst, ◌∙◌, arith, is_none, AllByRecursion, nat_tests, filter-append, length_push, Moment, Row, Owned, is_of, is_row, of, owned_by, numbered, set_row, Branch, Customer, Payment, Rental, Text, Kept, Books, BookCopy, more_yes, more_no, length_map, is_count, count_in, count_of, branch_counts, office_count, counts_of, raise, raised, is_open, out_of, is_out_by, put_out, drop_out}
 use Rattle.std.specs.Prelude.{flat_map}
 use Rattle.std.proofs.lemmas.List.{length-append}
 use Rattle.shop_schema.proofs.Lasts.{turned}

@@ -1,4 +1,5 @@
 pub mod Rising
+pub mod Doing
 pub mod Equals
 pub mod Fews
 pub mod BranchTexts

@@ -1,8 +1,7 @@
 ghost use Rattle.std.specs.Prelude.{◌≡◌, ◌≤◌, ⊤, IfOk, IfSome};
-ghost use Rattle.sqlite.specs.Held.{state};
 ghost use Rattle.sqlite.specs.Values.{or_null};
 ghost use Rattle.sqlite_value.specs.Order.{column};
-ghost use Rattle.sql_rows.specs.Calls.{StaysInside};
+ghost use Rattle.sql_rows.specs.Calls.{DoesInside};
 ghost use Rattle.sql_rows.specs.Rows.{number_value};
 ghost use Rattle.shop_model.specs.Calendar.{IsMoment};
 ghost use Rattle.shop_model.specs.Books.{set_last};
@@ -45,9 +44,8 @@ pub fn standing_at<S: Alter>(
     tx: &mut Transaction<'_, S>,
     branch: BranchNo,
 ) -> Result<Option<Standing>, StoreFault>
-    ensures inside { StaysInside S.Store tx.old.conn tx.new.conn result }
-    ensures found { Finds (state S.Store tx.old.conn.now) (state S.Store tx.new.conn.now) result
-        (λ standing books. IsStanding branch books standing) }
+    ensures does { DoesInside S.Store tx.old.conn tx.new.conn result
+        (λ standing. Finds (λ books. IsStanding branch books standing)) }
     ensures bound { IfOk result (λ standing. IfSome standing (λ it. it.keys ≤ 1_000_000)) }
 {
     let rows = query(tx, SELECT_STANDING, &[branch.get().to_sql()])?;
@@ -62,9 +60,8 @@ pub fn set_last<S: Alter>(
     branch: BranchNo,
     moment: Moment,
 ) -> Result<(), StoreFault>
-    ensures inside { StaysInside S.Store tx.old.conn tx.new.conn result }
-    ensures set { Stores (state S.Store tx.old.conn.now) (state S.Store tx.new.conn.now) result (λ _. ⊤)
-        (λ books. record books { lasts = set_last branch moment books.lasts }) }
+    ensures { DoesInside S.Store tx.old.conn tx.new.conn result
+        (λ _. Stores (λ _. ⊤) (λ books. record books { lasts = set_last branch moment books.lasts })) }
 {
     let last = MomentText::of(moment);
     execute(

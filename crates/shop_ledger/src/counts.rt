@@ -1,15 +1,14 @@
-ghost use Rattle.std.specs.Prelude.{◌≡◌, ◌≤◌, ◌+◌, ⊤, [], ◌∷◌, List, Some, IfOk, OnOk, is_none, map, filter, option_to_list, slice_get};
-ghost use Rattle.sqlite.specs.Held.{state};
-ghost use Rattle.sqlite.specs.State.{HasCleanDisk, Shown};
+ghost use Rattle.std.specs.Prelude.{◌≡◌, ◌≤◌, ◌+◌, ⊤, [], ◌∷◌, List, Some, IfOk, is_none, map, filter, option_to_list, slice_get};
+ghost use Rattle.sqlite.specs.State.{Shown};
 ghost use Rattle.sqlite.specs.Values.{bound};
 ghost use Rattle.sqlite_value.specs.Order.{Row as SqlRow, column};
-ghost use Rattle.sql_rows.specs.Calls.{StaysInside};
+ghost use Rattle.sql_rows.specs.Calls.{DoesInside};
 ghost use Rattle.sql_rows.specs.Rows.{number_value};
 ghost use Rattle.shop_model.specs.Rows.{numbered, of};
 ghost use Rattle.shop_model.specs.Stock.{keeps_out};
 ghost use Rattle.shop_ledger.specs.Calls.{Finds};
-ghost use Rattle.shop_schema.specs.Counts.{count_in, is_count, kept_kind, raise, put_out, drop_out};
-ghost use Rattle.shop_schema.specs.Shop.{Reads, Tallies};
+ghost use Rattle.shop_schema.specs.Counts.{is_count, raise, put_out, drop_out};
+ghost use Rattle.shop_schema.specs.Shop.{Tallies};
 ghost use Rattle.shop_ledger.specs.Counted.{kind_number, caller_of, kind_of, counted, IsCount, CountsOnce, IsOutBy};
 
 use shop_schema::{query_first, row_number_at, row_numbers_in};
@@ -93,9 +92,8 @@ fn count_shown<S: Alter>(
     text: &str,
     params: &[ValueRef<'_>],
 ) -> Result<u32, StoreFault>
-    ensures inside { StaysInside S.Store tx.old.conn tx.new.conn result }
-    ensures shown { HasCleanDisk (state S.Store tx.new.conn.now) → IfOk result (λ n. (rows : List SqlRow)
-        × Shown text.now (bound params.now) (state S.Store tx.old.conn.now) (state S.Store tx.new.conn.now) rows
+    ensures does { DoesInside S.Store tx.old.conn tx.new.conn result
+        (λ n old new. (rows : List SqlRow) × Shown text.now (bound params.now) old new rows
         × (row : SqlRow) × (Some row ≡ slice_get rows 0) × (column row 0 ≡ number_value n)) }
     ensures bound { IfOk result (λ n. n ≤ 1_000_000) }
 {
@@ -106,9 +104,8 @@ const SELECT_COUNT: &str = "SELECT last FROM counter WHERE caller = ?1 AND kind 
 
 /// What the counter says. One row is read, however many it counts.
 pub fn count_of<S: Alter>(tx: &mut Transaction<'_, S>, count: Count) -> Result<u32, StoreFault>
-    ensures inside { StaysInside S.Store tx.old.conn tx.new.conn result }
-    ensures count { Finds (state S.Store tx.old.conn.now) (state S.Store tx.new.conn.now) result (λ n books. n
-        ≡ counted count books) }
+    ensures does { DoesInside S.Store tx.old.conn tx.new.conn result
+        (λ n. Finds (λ books. n ≡ counted count books)) }
     ensures bound { IfOk result (λ n. n ≤ 1_000_000) }
 {
     count_shown(
@@ -128,10 +125,8 @@ pub fn take_numbers<S: Alter>(
     count: Count,
     more: u32,
 ) -> Result<u32, StoreFault>
-    ensures inside { StaysInside S.Store tx.old.conn tx.new.conn result }
-    ensures taken { HasCleanDisk (state S.Store tx.new.conn.now)
-        → IfOk result (λ last. Tallies (state S.Store tx.old.conn.now) (state S.Store tx.new.conn.now)
-        (CountsOnce (caller_of count) (kind_of count))
+    ensures does { DoesInside S.Store tx.old.conn tx.new.conn result
+        (λ last old new. Tallies old new (CountsOnce (caller_of count) (kind_of count))
         (raise (caller_of count) (kind_number (kind_of count)) more)
         (λ counts. map (λ it. it.last + more)
         (filter (is_count (caller_of count) (kind_number (kind_of count))) counts.counters) ≡ last ∷ [])) }
@@ -156,10 +151,9 @@ pub fn out_at<S: Alter>(
     branch: BranchNo,
     copy: CopyNo,
 ) -> Result<Option<RentalNo>, StoreFault>
-    ensures inside { StaysInside S.Store tx.old.conn tx.new.conn result }
-    ensures found { Finds (state S.Store tx.old.conn.now) (state S.Store tx.new.conn.now) result
-        (λ out books. option_to_list out
-        ≡ map (λ it. it.0) (filter (λ it. keeps_out copy it.1) (numbered (of branch books.rentals)))) }
+    ensures { DoesInside S.Store tx.old.conn tx.new.conn result
+        (λ out. Finds (λ books. option_to_list out
+        ≡ map (λ it. it.0) (filter (λ it. keeps_out copy it.1) (numbered (of branch books.rentals))))) }
 {
     query_first(
         tx,
@@ -178,10 +172,9 @@ pub fn copies_out<S: Alter>(
     tx: &mut Transaction<'_, S>,
     branch: BranchNo,
 ) -> Result<Vec<CopyNo>, StoreFault>
-    ensures inside { StaysInside S.Store tx.old.conn tx.new.conn result }
-    ensures found { Finds (state S.Store tx.old.conn.now) (state S.Store tx.new.conn.now) result
-        (λ copies books. copies.items
-        ≡ map (λ it. it.copy) (filter (λ it. is_none it.returned) (of branch books.rentals))) }
+    ensures { DoesInside S.Store tx.old.conn tx.new.conn result
+        (λ copies. Finds (λ books. copies.items
+        ≡ map (λ it. it.copy) (filter (λ it. is_none it.returned) (of branch books.rentals)))) }
 {
     let rows = query(tx, SELECT_COPIES_OUT, &[branch.get().to_sql()])?;
     row_numbers_in(alloc, rows.as_slice())
@@ -196,9 +189,8 @@ pub fn put_out<S: Alter>(
     copy: CopyNo,
     rental: RentalNo,
 ) -> Result<(), StoreFault>
-    ensures inside { StaysInside S.Store tx.old.conn tx.new.conn result }
-    ensures put { HasCleanDisk (state S.Store tx.new.conn.now)
-        → OnOk result (Tallies (state S.Store tx.old.conn.now) (state S.Store tx.new.conn.now) (λ _. ⊤)
+    ensures { DoesInside S.Store tx.old.conn tx.new.conn result
+        (λ _ old new. Tallies old new (λ _. ⊤)
         (put_out (record { branch = branch; copy = copy; rental = rental })) (λ _. ⊤)) }
 {
     execute(
@@ -221,10 +213,8 @@ pub fn drop_out<S: Alter>(
     copy: CopyNo,
     rental: RentalNo,
 ) -> Result<(), StoreFault>
-    ensures inside { StaysInside S.Store tx.old.conn tx.new.conn result }
-    ensures dropped { HasCleanDisk (state S.Store tx.new.conn.now)
-        → OnOk result (Tallies (state S.Store tx.old.conn.now) (state S.Store tx.new.conn.now)
-        (IsOutBy branch copy rental) (drop_out branch copy rental) (λ _. ⊤)) }
+    ensures { DoesInside S.Store tx.old.conn tx.new.conn result
+        (λ _ old new. Tallies old new (IsOutBy branch copy rental) (drop_out branch copy rental) (λ _. ⊤)) }
 {
     execute(
         tx,

@@ -1,9 +1,7 @@
-ghost use Rattle.std.specs.Prelude.{◌≡◌, IfOk, OnOk, option_map};
-ghost use Rattle.sqlite.specs.Held.{state};
-ghost use Rattle.sqlite.specs.State.{HasCleanDisk};
+ghost use Rattle.std.specs.Prelude.{◌≡◌, IfOk, option_map};
 ghost use Rattle.sqlite.specs.declared.types.Value.TheVariants.{Text, Blob};
 ghost use Rattle.sqlite_value.specs.Order.{column};
-ghost use Rattle.sql_rows.specs.Calls.{StaysInside};
+ghost use Rattle.sql_rows.specs.Calls.{DoesInside};
 ghost use Rattle.shop_model.specs.Books.{head};
 ghost use Rattle.shop_types.specs.Verdicts.{seen_kept as told};
 ghost use Rattle.shop_ledger.specs.Calls.{Finds};
@@ -73,9 +71,8 @@ pub fn kept_at<S: Alter>(
     owner: Owner,
     key: &Key,
 ) -> Result<Option<KeptRow>, StoreFault>
-    ensures inside { StaysInside S.Store tx.old.conn tx.new.conn result }
-    ensures found { Finds (state S.Store tx.old.conn.now) (state S.Store tx.new.conn.now) result
-        (λ kept books. option_map seen_kept kept ≡ head (kept_under owner key.now books)) }
+    ensures { DoesInside S.Store tx.old.conn tx.new.conn result
+        (λ kept. Finds (λ books. option_map seen_kept kept ≡ head (kept_under owner key.now books))) }
 {
     query_first(
         tx,
@@ -97,10 +94,8 @@ pub fn put_kept<S: Alter>(
     form: &Bytes,
     reply: &str,
 ) -> Result<(), StoreFault>
-    ensures inside { StaysInside S.Store tx.old.conn tx.new.conn result }
-    ensures put { HasCleanDisk (state S.Store tx.new.conn.now)
-        → OnOk result (Keeps owner key.now form.now reply.now (state S.Store tx.old.conn.now)
-        (state S.Store tx.new.conn.now)) }
+    ensures { DoesInside S.Store tx.old.conn tx.new.conn result
+        (λ _. Keeps owner key.now form.now reply.now) }
 {
     execute(
         tx,
