@@ -1,5 +1,5 @@
 -- The greatest number of a table of shared rows is how many rows it has.
-use Rattle.shop_schema.proofs.Common.{◌≡◌, ◌<◌, ◌+◌, ℕ, List, [], ◌∷◌, map, filter, length, true, Ok, Err, Result, refl, sym, ap, subst, ◌∙◌, arith, IfOk, AllByRecursion, column, IsAscending, col, Query, output, State, columns_of, number_value, StoreFault, still_holds, Selects, plain_query, same_number, numbered, numbered_from, Books, shop_schema, counts_of, StandsFor, Holds, Reads, TellsFirst}
+use Rattle.shop_schema.proofs.Common.{◌≡◌, ◌<◌, ◌+◌, ℕ, List, [], ◌∷◌, map, filter, length, true, refl, sym, ap, subst, ◌∙◌, arith, AllByRecursion, column, IsAscending, col, Query, output, State, columns_of, number_value, still_holds, Selects, plain_query, same_number, numbered, numbered_from, Books, shop_schema, counts_of, StandsFor, Holds, Reads, TellsFirst}
 use Rattle.std.specs.Prelude.{Option, Some, None}
 use Rattle.std.specs.Option.{unwrap_or}
 use Rattle.sqlite_value.specs.Order as sql
@@ -50,7 +50,7 @@ first_number fits (row ∷ rows) (Some n) told = let same : told.0 ≡ row = cc 
 -- what the call tells of the rows that it is shown
 abbrev pub ReadsLast : {A : Type 0} → ByNumber A → List ℕ → Type 1
 ReadsLast t text =
-    (old new : State) (r : Result ℕ StoreFault) → IfOk r (λ n. (rows : List sql.Row) × Shown text [] old new rows × IsFirstNumber rows n) → IfOk r (λ n. Reads old new (λ books. n ≡ length (t.part.items books)))
+    (old new : State) (n : ℕ) → (rows : List sql.Row) × Shown text [] old new rows × IsFirstNumber rows n → Reads old new (λ books. n ≡ length (t.part.items books))
 
 module _ {A : Type 0} (t : ByNumber A) (text : List ℕ) where
   abbrev last_query : Query
@@ -62,8 +62,7 @@ module _ {A : Type 0} (t : ByNumber A) (text : List ℕ) where
   -- the premises are `refl` where the text and the table are known
   pub reads_last : Selects shop_schema text last_query
       → ((r : sql.Row) → output falling ([] ∷ r ∷ []) ∷ [] ≡ (column (columns_of (length t.table.columns) r) 0 ∷ [], column (columns_of (length t.table.columns) r) 0 ∷ []) ∷ []) → ReadsLast t text
-  reads_last means only old new (Err e) told = tt
-  reads_last means only old new (Ok n) told = λ books holds held. (
+  reads_last means only old new n told = λ books holds held. (
     still_holds shop_schema StandsFor text [] old new means.plain rows h books holds,
     counts_all (t.part.items books) rows n (shows books holds) told.2,
   )

@@ -1,5 +1,5 @@
 -- Whether a SELECT shows a row, as a call tells it.
-use Rattle.shop_schema.proofs.Common.{◌≡◌, ◌==◌, ◌+◌, ◌&&◌, ◌||◌, ℕ, suc, List, [], ◌∷◌, map, filter, length, cond, not, Bool, true, false, Ok, Err, Result, refl, ap, ◌∙◌, arith, IfOk, list_all, list_any, bytes_eq, nat_tests, column, Binary, Trees, Term, col, op2, holds, Query, output, Compare, Eq, is_true, State, HasRows, columns_of, number_value, StoreFault, Selects, plain_query, number_test, number_tested, text_test, text_tested, one_tested, two_tested, projects_count, still_holds, numbered, numbered_from, Cast, Branch, Books, shop_schema, cast_columns, counts_of, StandsFor, Reads}
+use Rattle.shop_schema.proofs.Common.{◌≡◌, ◌==◌, ◌+◌, ◌&&◌, ◌||◌, ℕ, suc, List, [], ◌∷◌, map, filter, length, cond, not, Bool, true, false, Result, refl, ap, ◌∙◌, arith, MutBor, list_all, list_any, bytes_eq, nat_tests, column, Binary, Trees, Term, col, op2, holds, Query, output, Compare, Eq, is_true, Ghosts, Held, state, State, HasRows, columns_of, number_value, StoreFault, Selects, plain_query, number_test, number_tested, text_test, text_tested, one_tested, two_tested, projects_count, still_holds, numbered, numbered_from, Cast, Branch, Books, shop_schema, cast_columns, counts_of, StandsFor, Reads}
 use Rattle.sqlite.specs.declared.types.Value.TheVariants.{Text}
 use Rattle.sqlite_value.specs.Order as sql
 use Rattle.sqlite_sql.specs.Ops.{binary}
@@ -7,21 +7,24 @@ use Rattle.sqlite_tied.specs.Compute.{everything}
 use Rattle.sqlite.specs.Listing.{understood}
 use Rattle.sqlite.specs.State.{Shown}
 use Rattle.shop_model.specs.Values as model
+use Rattle.sql_rows.specs.Calls.{DoesInside}
 use Rattle.shop_schema.proofs.Different.{bytes_eq_turned}
 use Rattle.shop_schema.proofs.Stands.{with_own}
 use Rattle.shop_schema.proofs.Listed.{own_rows}
+use Rattle.shop_ledger.specs.Calls.{Finds}
+use Rattle.shop_ledger.proofs.Doing.{does_so}
 use Rattle.shop_store.specs.declared.branches.TheConstants.{SELECT_WITH_TOKEN}
 use Rattle.shop_store.specs.declared.rows.TheConstants.{SELECT_COUNTRY_NAMED, SELECT_LANGUAGE_NAMED, SELECT_CATEGORY_NAMED, SELECT_CAST}
 use Rattle.shop_store.proofs.ByNumber.{ByNumber, countries, languages, categories, branches}
 
 -- the call tells it
-pub told : (old new : State) (text : List ℕ) (params : sql.Row) {P : Books → Bool} (r : Result Bool StoreFault)
-    → IfOk r (λ shows. (rows : List sql.Row) × Shown text params old new rows × (shows ≡ not (length rows == 0)))
-    → ((rows : List sql.Row) → Shown text params old new rows → Reads old new (λ books. not (length rows == 0) ≡ P books)) → IfOk r (λ shows. Reads old new (λ books. shows ≡ P books))
-told old new text params (Err e) seen read = tt
-told old new text params (Ok shows) seen read = λ books holds held.
+pub tells : {S : Type 0} {g : Ghosts S} {a b : MutBor (Held S)} {r : Result Bool StoreFault} {P : Books → Bool} (text : List ℕ) (params : sql.Row)
+    → DoesInside g a b r (λ shows old new. (rows : List sql.Row) × Shown text params old new rows × (shows ≡ not (length rows == 0)))
+    → ((rows : List sql.Row) → Shown text params (state g a.now) (state g b.now) rows → Reads (state g a.now) (state g b.now) (λ books. not (length rows == 0) ≡ P books))
+    → DoesInside g a b r (λ shows. Finds (λ books. shows ≡ P books))
+tells text params one read = does_so one.inside one.says (λ shows seen books holds held.
     let found = read seen.0 seen.1 books holds held in
-    (found.0, seen.2 ∙ found.1)
+    (found.0, seen.2 ∙ found.1))
 
 any_there : {X : Type 0} (p : X → Bool) (xs : List X) → not (length (filter p xs) == 0) ≡ list_any p xs
 any_there p [] = refl

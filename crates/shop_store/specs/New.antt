@@ -59,3 +59,7 @@ pub record IsRuled (s : State) : Type 0 where
   pub empty : HaveNoRows before
   pub same : SameBut shop_schema 59 before s.now.trees
   pub rule : HasRows 1 (s.now.trees 59) (rule_columns ByCode ∷ [])
+
+-- from new tables, which have no row, the tables come to have what this says
+abbrev pub Fills : (State → Type 0) → State → State → Type 0
+Fills Has old new = IsShop old → IsKeyed old → HaveNoRows old.now.trees → Has new

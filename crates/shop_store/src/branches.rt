@@ -1,8 +1,7 @@
 //! Branches by their tokens, and who manages them.
 
 ghost use Rattle.std.specs.Prelude.{⊤, ◌≡◌, Some, map};
-ghost use Rattle.sqlite.specs.Held.{state};
-ghost use Rattle.sql_rows.specs.Calls.{StaysInside};
+ghost use Rattle.sql_rows.specs.Calls.{DoesInside};
 ghost use Rattle.shop_model.specs.Rows.{at, set_at};
 ghost use Rattle.shop_model.specs.Books.{head, branch_with};
 ghost use Rattle.shop_ledger.specs.Calls.{Finds, Stores};
@@ -22,9 +21,8 @@ pub fn branch_with<S: Alter>(
     tx: &mut Transaction<'_, S>,
     token: &Token,
 ) -> Result<Option<BranchNo>, StoreFault>
-    ensures inside { StaysInside S.Store tx.old.conn tx.new.conn result }
-    ensures found { Finds (state S.Store tx.old.conn.now) (state S.Store tx.new.conn.now) result
-        (λ branch books. branch_caller branch ≡ branch_with token.now 1 books.catalogue.branches) }
+    ensures { DoesInside S.Store tx.old.conn tx.new.conn result
+        (λ branch. Finds (λ books. branch_caller branch ≡ branch_with token.now 1 books.catalogue.branches)) }
 {
     query_first(
         tx,
@@ -41,9 +39,8 @@ pub fn branch_manager<S: Alter>(
     tx: &mut Transaction<'_, S>,
     branch: BranchNo,
 ) -> Result<Option<Option<StaffNo>>, StoreFault>
-    ensures inside { StaysInside S.Store tx.old.conn tx.new.conn result }
-    ensures found { Finds (state S.Store tx.old.conn.now) (state S.Store tx.new.conn.now) result
-        (λ manager books. manager ≡ head (map manager_of (at branch books.catalogue.branches))) }
+    ensures { DoesInside S.Store tx.old.conn tx.new.conn result
+        (λ manager. Finds (λ books. manager ≡ head (map manager_of (at branch books.catalogue.branches)))) }
 {
     query_first(
         tx,
@@ -61,14 +58,13 @@ pub fn set_manager<S: Alter>(
     branch: BranchNo,
     staff: StaffNo,
 ) -> Result<(), StoreFault>
-    ensures inside { StaysInside S.Store tx.old.conn tx.new.conn result }
-    ensures set { Stores (state S.Store tx.old.conn.now) (state S.Store tx.new.conn.now) result (λ _. ⊤)
-        (λ books. record books {
+    ensures { DoesInside S.Store tx.old.conn tx.new.conn result
+        (λ _. Stores (λ _. ⊤) (λ books. record books {
           catalogue = record books.catalogue {
             branches = set_at branch
                 (λ r. record r { manager = Some staff }) books.catalogue.branches;
           };
-        }) }
+        })) }
 {
     execute(
         tx,

@@ -2,9 +2,8 @@
 
 ghost use Rattle.std.specs.Prelude.{⊤, ◌≡◌, IfOk};
 ghost use Rattle.std.specs.Str.{bytes_eq};
-ghost use Rattle.sqlite.specs.Held.{state};
 ghost use Rattle.sqlite_value.specs.Order.{column};
-ghost use Rattle.sql_rows.specs.Calls.{StaysInside};
+ghost use Rattle.sql_rows.specs.Calls.{DoesInside};
 ghost use Rattle.sql_rows.specs.Rows.{number_value};
 ghost use Rattle.shop_types.specs.Seen.{seen_rule};
 ghost use Rattle.shop_ledger.specs.Calls.{Finds, Stores};
@@ -22,9 +21,8 @@ const SELECT_OFFICE: &str = "SELECT version FROM chain WHERE office_token = ?1";
 
 /// Whether it is head office's token.
 pub fn is_office<S: Alter>(tx: &mut Transaction<'_, S>, token: &Token) -> Result<bool, StoreFault>
-    ensures inside { StaysInside S.Store tx.old.conn tx.new.conn result }
-    ensures found { Finds (state S.Store tx.old.conn.now) (state S.Store tx.new.conn.now) result
-        (λ is books. is ≡ bytes_eq token.now books.catalogue.office_token) }
+    ensures { DoesInside S.Store tx.old.conn tx.new.conn result
+        (λ is. Finds (λ books. is ≡ bytes_eq token.now books.catalogue.office_token)) }
 {
     shows_row(tx, SELECT_OFFICE, &[token_text(token).to_sql()])
 }
@@ -33,9 +31,8 @@ const SELECT_OFFICE_TOKEN: &str = "SELECT office_token FROM chain";
 
 /// Head office's token.
 pub fn office_token<S: Alter>(tx: &mut Transaction<'_, S>) -> Result<Token, StoreFault>
-    ensures inside { StaysInside S.Store tx.old.conn tx.new.conn result }
-    ensures found { Finds (state S.Store tx.old.conn.now) (state S.Store tx.new.conn.now) result
-        (λ token books. token ≡ books.catalogue.office_token) }
+    ensures { DoesInside S.Store tx.old.conn tx.new.conn result
+        (λ token. Finds (λ books. token ≡ books.catalogue.office_token)) }
 {
     match query_first(tx, SELECT_OFFICE_TOKEN, &[], |row| token_at(row, 0))? {
         None => Err(StoreFault::Failed),
@@ -68,9 +65,8 @@ const SELECT_RULE: &str = "SELECT comment_rule FROM chain_rule";
 
 /// By which rule balances go.
 pub fn rule_at<S: Alter>(tx: &mut Transaction<'_, S>) -> Result<Rule, StoreFault>
-    ensures inside { StaysInside S.Store tx.old.conn tx.new.conn result }
-    ensures found { Finds (state S.Store tx.old.conn.now) (state S.Store tx.new.conn.now) result
-        (λ rule books. seen_rule rule ≡ books.catalogue.rule) }
+    ensures { DoesInside S.Store tx.old.conn tx.new.conn result
+        (λ rule. Finds (λ books. seen_rule rule ≡ books.catalogue.rule)) }
 {
     match query_first(tx, SELECT_RULE, &[], rule_in)? {
         None => Err(StoreFault::Failed),
@@ -82,9 +78,9 @@ const UPDATE_RULE: &str = "UPDATE chain_rule SET comment_rule = ?1";
 
 /// Sets by which rule balances go. After a fault the transaction may be rolled back.
 pub fn set_rule<S: Alter>(tx: &mut Transaction<'_, S>, rule: Rule) -> Result<(), StoreFault>
-    ensures inside { StaysInside S.Store tx.old.conn tx.new.conn result }
-    ensures set { Stores (state S.Store tx.old.conn.now) (state S.Store tx.new.conn.now) result (λ _. ⊤)
-        (λ books. record books { catalogue = record books.catalogue { rule = seen_rule rule } }) }
+    ensures { DoesInside S.Store tx.old.conn tx.new.conn result
+        (λ _. Stores (λ _. ⊤)
+        (λ books. record books { catalogue = record books.catalogue { rule = seen_rule rule } })) }
 {
     execute(tx, UPDATE_RULE, &[rule_code(rule).to_sql()])
 }

@@ -2,10 +2,9 @@ ghost use Rattle.std.specs.Prelude.{◌≡◌, ◌<◌, ◌==◌, ◌&&◌, ⊤,
 ghost use Rattle.sqlite_value.specs.Order.{column};
 ghost use Rattle.std.specs.List.{list_any};
 ghost use Rattle.std.specs.Str.{bytes_eq};
-ghost use Rattle.sqlite.specs.Held.{state};
 ghost use Rattle.sqlite.specs.Values.{bound, or_null};
 ghost use Rattle.sql_rows.specs.Rows.{PicksOne, number_value};
-ghost use Rattle.sql_rows.specs.Calls.{StaysInside};
+ghost use Rattle.sql_rows.specs.Calls.{DoesInside};
 ghost use Rattle.shop_model.specs.Rows.{at, is_of, is_row, numbered, of, owned_by, set_row};
 ghost use Rattle.shop_model.specs.Values as model;
 ghost use Rattle.shop_model.specs.Stock.{keeps_out};
@@ -93,10 +92,9 @@ pub fn copy_at<S: Alter>(
     branch: BranchNo,
     number: CopyNo,
 ) -> Result<Option<CopyRow>, StoreFault>
-    ensures inside { StaysInside S.Store tx.old.conn tx.new.conn result }
-    ensures row { Finds (state S.Store tx.old.conn.now) (state S.Store tx.new.conn.now) result
-        (λ row books. option_to_list (option_map (λ it. (seen_copy_row it).it) row)
-        ≡ at number (of branch books.copies)) }
+    ensures { DoesInside S.Store tx.old.conn tx.new.conn result
+        (λ row. Finds (λ books. option_to_list (option_map (λ it. (seen_copy_row it).it) row)
+        ≡ at number (of branch books.copies))) }
 {
     query_one(
         tx,
@@ -126,12 +124,11 @@ pub fn copy_now_at<S: Alter>(
     branch: BranchNo,
     number: CopyNo,
 ) -> Result<Option<CopyNow>, StoreFault>
-    ensures inside { StaysInside S.Store tx.old.conn tx.new.conn result }
-    ensures found { Finds (state S.Store tx.old.conn.now) (state S.Store tx.new.conn.now) result
-        (λ found books. (option_to_list (option_map seen_copy_now found) ≡ at number
+    ensures { DoesInside S.Store tx.old.conn tx.new.conn result
+        (λ found. Finds (λ books. (option_to_list (option_map seen_copy_now found) ≡ at number
         (shop_of branch books).copies)
         × IfSome found (λ it. option_to_list it.out ≡ map (λ it. it.0)
-        (filter (λ it. keeps_out number it.1) (numbered (of branch books.rentals))))) }
+        (filter (λ it. keeps_out number it.1) (numbered (of branch books.rentals)))))) }
 {
     query_first(
         tx,
@@ -152,10 +149,9 @@ pub fn copies_of_film<S: Alter>(
     branch: BranchNo,
     film: FilmNo,
 ) -> Result<Vec<CopyRow>, StoreFault>
-    ensures inside { StaysInside S.Store tx.old.conn tx.new.conn result }
-    ensures rows { Finds (state S.Store tx.old.conn.now) (state S.Store tx.new.conn.now) result
-        (λ rows books. map (λ row. seen_copy_row row) rows.items
-        ≡ filter (λ row. is_of branch row && row.it.film == film) books.copies) }
+    ensures { DoesInside S.Store tx.old.conn tx.new.conn result
+        (λ rows. Finds (λ books. map (λ row. seen_copy_row row) rows.items
+        ≡ filter (λ row. is_of branch row && row.it.film == film) books.copies)) }
 {
     query_all(
         alloc,
@@ -175,11 +171,10 @@ pub fn copies_in_state<S: Alter>(
     branch: BranchNo,
     which: CopyState,
 ) -> Result<Vec<CopyNo>, StoreFault>
-    ensures inside { StaysInside S.Store tx.old.conn tx.new.conn result }
-    ensures numbers { Finds (state S.Store tx.old.conn.now) (state S.Store tx.new.conn.now) result
-        (λ numbers books. numbers.items
+    ensures { DoesInside S.Store tx.old.conn tx.new.conn result
+        (λ numbers. Finds (λ books. numbers.items
         ≡ map (λ row. row.number)
-        (filter (λ row. is_of branch row && copy_is row.it.state (seen_state which)) books.copies)) }
+        (filter (λ row. is_of branch row && copy_is row.it.state (seen_state which)) books.copies))) }
 {
     let rows = query(
         tx,
@@ -199,10 +194,9 @@ pub fn set_state<S: Alter>(
     number: CopyNo,
     new: CopyState,
 ) -> Result<(), StoreFault>
-    ensures inside { StaysInside S.Store tx.old.conn tx.new.conn result }
-    ensures set { Stores (state S.Store tx.old.conn.now) (state S.Store tx.new.conn.now) result
-        (λ books. PicksOne (is_row branch number) books.copies)
-        (λ books. record books { copies = set_row branch number (put_state (seen_state new)) books.copies }) }
+    ensures { DoesInside S.Store tx.old.conn tx.new.conn result
+        (λ _. Stores (λ books. PicksOne (is_row branch number) books.copies)
+        (λ books. record books { copies = set_row branch number (put_state (seen_state new)) books.copies })) }
 {
     execute(
         tx,
@@ -220,9 +214,8 @@ const INSERT_COPY: &str =
 
 /// Adds the copy. After a fault the transaction may be rolled back.
 pub fn put_copy<S: Alter>(tx: &mut Transaction<'_, S>, row: CopyRow) -> Result<(), StoreFault>
-    ensures inside { StaysInside S.Store tx.old.conn tx.new.conn result }
-    ensures put { Stores (state S.Store tx.old.conn.now) (state S.Store tx.new.conn.now) result (λ _. ⊤)
-        (λ books. record books { copies = books.copies ++ seen_copy_row row ∷ [] }) }
+    ensures { DoesInside S.Store tx.old.conn tx.new.conn result
+        (λ _. Stores (λ _. ⊤) (λ books. record books { copies = books.copies ++ seen_copy_row row ∷ [] })) }
 {
     execute(tx, INSERT_COPY, &row.values())
 }
@@ -235,9 +228,8 @@ pub fn has_lot<S: Alter>(
     branch: BranchNo,
     lot: &LotName,
 ) -> Result<bool, StoreFault>
-    ensures inside { StaysInside S.Store tx.old.conn tx.new.conn result }
-    ensures found { Finds (state S.Store tx.old.conn.now) (state S.Store tx.new.conn.now) result
-        (λ has books. has ≡ list_any (bytes_eq lot.now) (owned_by branch books.lots)) }
+    ensures { DoesInside S.Store tx.old.conn tx.new.conn result
+        (λ has. Finds (λ books. has ≡ list_any (bytes_eq lot.now) (owned_by branch books.lots))) }
 {
     shows_row(
         tx,
@@ -254,9 +246,9 @@ pub fn put_lot<S: Alter>(
     branch: BranchNo,
     lot: &LotName,
 ) -> Result<(), StoreFault>
-    ensures inside { StaysInside S.Store tx.old.conn tx.new.conn result }
-    ensures put { Stores (state S.Store tx.old.conn.now) (state S.Store tx.new.conn.now) result (λ _. ⊤)
-        (λ books. record books { lots = books.lots ++ record { owner = branch; it = lot.now } ∷ [] }) }
+    ensures { DoesInside S.Store tx.old.conn tx.new.conn result
+        (λ _. Stores (λ _. ⊤)
+        (λ books. record books { lots = books.lots ++ record { owner = branch; it = lot.now } ∷ [] })) }
 {
     execute(
         tx,

@@ -1,7 +1,6 @@
 ghost use Rattle.std.specs.Prelude.{⊤, ◌≡◌, [], ◌∷◌, ◌++◌, map, option_map, option_to_list};
-ghost use Rattle.sqlite.specs.Held.{state};
 ghost use Rattle.sqlite.specs.Values.{bound};
-ghost use Rattle.sql_rows.specs.Calls.{StaysInside};
+ghost use Rattle.sql_rows.specs.Calls.{DoesInside};
 ghost use Rattle.shop_model.specs.Calendar.{moment_text};
 ghost use Rattle.shop_model.specs.Rows.{at, of, set_row};
 ghost use Rattle.shop_model.specs.Books.{head};
@@ -85,10 +84,9 @@ pub fn customer_at<S: Alter>(
     branch: BranchNo,
     number: CustomerNo,
 ) -> Result<Option<CustomerRow>, StoreFault>
-    ensures inside { StaysInside S.Store tx.old.conn tx.new.conn result }
-    ensures row { Finds (state S.Store tx.old.conn.now) (state S.Store tx.new.conn.now) result
-        (λ row books. option_to_list (option_map (λ it. seen_customer it.customer) row)
-        ≡ at number (of branch books.customers)) }
+    ensures { DoesInside S.Store tx.old.conn tx.new.conn result
+        (λ row. Finds (λ books. option_to_list (option_map (λ it. seen_customer it.customer) row)
+        ≡ at number (of branch books.customers))) }
 {
     query_one(
         tx,
@@ -105,9 +103,8 @@ pub fn active_at<S: Alter>(
     branch: BranchNo,
     number: CustomerNo,
 ) -> Result<Option<bool>, StoreFault>
-    ensures inside { StaysInside S.Store tx.old.conn tx.new.conn result }
-    ensures found { Finds (state S.Store tx.old.conn.now) (state S.Store tx.new.conn.now) result
-        (λ active books. active ≡ head (map (λ it. it.active) (at number (of branch books.customers)))) }
+    ensures { DoesInside S.Store tx.old.conn tx.new.conn result
+        (λ active. Finds (λ books. active ≡ head (map (λ it. it.active) (at number (of branch books.customers))))) }
 {
     query_first(
         tx,
@@ -125,9 +122,8 @@ pub fn put_customer<S: Alter>(
     tx: &mut Transaction<'_, S>,
     row: &CustomerRow,
 ) -> Result<(), StoreFault>
-    ensures inside { StaysInside S.Store tx.old.conn tx.new.conn result }
-    ensures put { Stores (state S.Store tx.old.conn.now) (state S.Store tx.new.conn.now) result (λ _. ⊤)
-        (λ books. record books { customers = books.customers ++ seen_row row.now ∷ [] }) }
+    ensures { DoesInside S.Store tx.old.conn tx.new.conn result
+        (λ _. Stores (λ _. ⊤) (λ books. record books { customers = books.customers ++ seen_row row.now ∷ [] })) }
 {
     let created = MomentText::of(row.customer.created);
     execute(tx, INSERT_CUSTOMER, &row.values(&created))
@@ -143,10 +139,9 @@ pub fn set_active<S: Alter>(
     number: CustomerNo,
     active: bool,
 ) -> Result<(), StoreFault>
-    ensures inside { StaysInside S.Store tx.old.conn tx.new.conn result }
-    ensures set { Stores (state S.Store tx.old.conn.now) (state S.Store tx.new.conn.now) result IsHeld
-        (λ books. record books
-        { customers = set_row branch number (λ it. record it { active = active }) books.customers }) }
+    ensures { DoesInside S.Store tx.old.conn tx.new.conn result
+        (λ _. Stores IsHeld (λ books. record books
+        { customers = set_row branch number (λ it. record it { active = active }) books.customers })) }
 {
     execute(
         tx,

@@ -2,8 +2,7 @@
 
 ghost use Rattle.std.specs.Prelude.{⊤, ◌≡◌, true, length, map, option_map};
 ghost use Rattle.std.specs.Option.{option_to_list};
-ghost use Rattle.sqlite.specs.Held.{state};
-ghost use Rattle.sql_rows.specs.Calls.{StaysInside};
+ghost use Rattle.sql_rows.specs.Calls.{DoesInside};
 ghost use Rattle.shop_model.specs.Rows.{at, set_at};
 ghost use Rattle.shop_model.specs.Books.{head};
 ghost use Rattle.shop_ledger.specs.Calls.{Finds, Stores};
@@ -62,9 +61,8 @@ pub fn film_row<S: Alter>(
     tx: &mut Transaction<'_, S>,
     number: FilmNo,
 ) -> Result<Option<FilmRow>, StoreFault>
-    ensures inside { StaysInside S.Store tx.old.conn tx.new.conn result }
-    ensures found { Finds (state S.Store tx.old.conn.now) (state S.Store tx.new.conn.now) result
-        (λ row books. option_to_list (option_map seen_film_row row) ≡ at number books.catalogue.films) }
+    ensures { DoesInside S.Store tx.old.conn tx.new.conn result
+        (λ row. Finds (λ books. option_to_list (option_map seen_film_row row) ≡ at number books.catalogue.films)) }
 {
     query_one(tx, SELECT_FILM, &[number.get().to_sql()])
 }
@@ -76,9 +74,8 @@ pub fn film_withdrawn<S: Alter>(
     tx: &mut Transaction<'_, S>,
     film: FilmNo,
 ) -> Result<Option<bool>, StoreFault>
-    ensures inside { StaysInside S.Store tx.old.conn tx.new.conn result }
-    ensures found { Finds (state S.Store tx.old.conn.now) (state S.Store tx.new.conn.now) result
-        (λ withdrawn books. withdrawn ≡ head (map withdrawn_of (at film books.catalogue.films))) }
+    ensures { DoesInside S.Store tx.old.conn tx.new.conn result
+        (λ withdrawn. Finds (λ books. withdrawn ≡ head (map withdrawn_of (at film books.catalogue.films)))) }
 {
     query_first(
         tx,
@@ -96,12 +93,11 @@ pub fn set_rate<S: Alter>(
     film: FilmNo,
     rate: Rate,
 ) -> Result<(), StoreFault>
-    ensures inside { StaysInside S.Store tx.old.conn tx.new.conn result }
-    ensures set { Stores (state S.Store tx.old.conn.now) (state S.Store tx.new.conn.now) result (λ _. ⊤)
-        (λ books. record books {
+    ensures { DoesInside S.Store tx.old.conn tx.new.conn result
+        (λ _. Stores (λ _. ⊤) (λ books. record books {
           catalogue = record books.catalogue
               { films = set_at film (λ f. record f { rate = rate }) books.catalogue.films };
-        }) }
+        })) }
 {
     execute(
         tx,
@@ -114,12 +110,11 @@ const UPDATE_WITHDRAWN: &str = "UPDATE film SET withdrawn = ?2 WHERE number = ?1
 
 /// Takes the film out of the catalogue, where it stays as withdrawn. After a fault the transaction may be rolled back.
 pub fn set_withdrawn<S: Alter>(tx: &mut Transaction<'_, S>, film: FilmNo) -> Result<(), StoreFault>
-    ensures inside { StaysInside S.Store tx.old.conn tx.new.conn result }
-    ensures set { Stores (state S.Store tx.old.conn.now) (state S.Store tx.new.conn.now) result (λ _. ⊤)
-        (λ books. record books {
+    ensures { DoesInside S.Store tx.old.conn tx.new.conn result
+        (λ _. Stores (λ _. ⊤) (λ books. record books {
           catalogue = record books.catalogue
               { films = set_at film (λ f. record f { withdrawn = true }) books.catalogue.films };
-        }) }
+        })) }
 {
     execute(tx, UPDATE_WITHDRAWN, &[film.get().to_sql(), true.to_sql()])
 }

@@ -1,11 +1,10 @@
 //! The last number of each table of shared rows. Rows are numbered from 1 without a gap, so it is how many there are,
 //! and a new row's number is one more.
 
-ghost use Rattle.std.specs.Prelude.{◌≡◌, IfOk, List, []};
-ghost use Rattle.sqlite.specs.Held.{state};
-ghost use Rattle.sqlite.specs.State.{HasCleanDisk, Shown};
+ghost use Rattle.std.specs.Prelude.{◌≡◌, List, []};
+ghost use Rattle.sqlite.specs.State.{Shown};
 ghost use Rattle.sqlite_value.specs.Order.{Row as SqlRow};
-ghost use Rattle.sql_rows.specs.Calls.{StaysInside};
+ghost use Rattle.sql_rows.specs.Calls.{DoesInside};
 ghost use Rattle.shop_ledger.specs.Calls.{Finds};
 ghost use Rattle.shop_store.specs.SharedSeen.{IsFirstNumber, how_many};
 
@@ -28,10 +27,8 @@ pub enum SharedTable {
 
 /// The number in the first row that the query shows, or 0 where it shows none.
 fn number_shown<S: Alter>(tx: &mut Transaction<'_, S>, text: &str) -> Result<u32, StoreFault>
-    ensures inside { StaysInside S.Store tx.old.conn tx.new.conn result }
-    ensures shown { HasCleanDisk (state S.Store tx.new.conn.now)
-        → IfOk result (λ n. (rows : List SqlRow) × Shown text.now [] (state S.Store tx.old.conn.now)
-        (state S.Store tx.new.conn.now) rows × IsFirstNumber rows n) }
+    ensures { DoesInside S.Store tx.old.conn tx.new.conn result
+        (λ n old new. (rows : List SqlRow) × Shown text.now [] old new rows × IsFirstNumber rows n) }
 {
     Ok(query_first(tx, text, &[], |row| number_at(row, 0))?.unwrap_or(0))
 }
@@ -57,9 +54,8 @@ pub fn last_number<S: Alter>(
     tx: &mut Transaction<'_, S>,
     table: SharedTable,
 ) -> Result<u32, StoreFault>
-    ensures inside { StaysInside S.Store tx.old.conn tx.new.conn result }
-    ensures last { Finds (state S.Store tx.old.conn.now) (state S.Store tx.new.conn.now) result
-        (λ last books. last ≡ how_many table books.catalogue) }
+    ensures { DoesInside S.Store tx.old.conn tx.new.conn result
+        (λ last. Finds (λ books. last ≡ how_many table books.catalogue)) }
 {
     match table {
         SharedTable::Country => number_shown(tx, SELECT_LAST_COUNTRY),

@@ -1,13 +1,11 @@
 //! The rows with which a chain begins.
 
-ghost use Rattle.std.specs.Prelude.{◌≡◌, ◌<◌, OnOk, map};
-ghost use Rattle.sqlite.specs.Held.{state};
-ghost use Rattle.sqlite.specs.State.{HasCleanDisk};
-ghost use Rattle.sql_rows.specs.Calls.{StaysInside, StaysWithin};
+ghost use Rattle.std.specs.Prelude.{◌≡◌, ◌<◌, map};
+ghost use Rattle.sql_rows.specs.Calls.{DoesInside, DoesWithin};
 ghost use Rattle.shop_model.specs.Opening.{token_of, opening_books};
 ghost use Rattle.shop_schema.specs.Counts.{no_counts};
-ghost use Rattle.shop_schema.specs.Shop.{IsShop, IsKeyed, HaveNoRows, Holds, HoldsWith, first_books};
-ghost use Rattle.shop_store.specs.New.{IsRuled};
+ghost use Rattle.shop_schema.specs.Shop.{Holds, HoldsWith, first_books};
+ghost use Rattle.shop_store.specs.New.{IsRuled, Fills};
 ghost use Rattle.shop_store.specs.Runs.{Runs};
 
 use crate::counts::{put_count, put_counts};
@@ -45,10 +43,8 @@ const INSERT_RULE: &str = "INSERT INTO chain_rule (comment_rule) VALUES (0)";
 
 /// Gives new tables the row of their rule: the manual's code. After a fault the transaction may be rolled back.
 fn put_rule<S: Alter>(tx: &mut Transaction<'_, S>) -> Result<(), StoreFault>
-    ensures inside { StaysInside S.Store tx.old.conn tx.new.conn result }
-    ensures put { HasCleanDisk (state S.Store tx.new.conn.now)
-        → OnOk result (IsShop (state S.Store tx.old.conn.now) → IsKeyed (state S.Store tx.old.conn.now) → HaveNoRows
-        (state S.Store tx.old.conn.now).now.trees → IsRuled (state S.Store tx.new.conn.now)) }
+    ensures { DoesInside S.Store tx.old.conn tx.new.conn result
+        (λ _. Fills IsRuled) }
 {
     execute(tx, INSERT_RULE, &[])
 }
@@ -58,10 +54,8 @@ const INSERT_CHAIN: &str = "INSERT INTO chain (version, office_token) VALUES (2,
 /// Gives new tables that have their rule their row of the table `chain`, and no count. After a fault the transaction
 /// may be rolled back.
 fn put_chain<S: Alter>(tx: &mut Transaction<'_, S>, token: &Token) -> Result<(), StoreFault>
-    ensures inside { StaysInside S.Store tx.old.conn tx.new.conn result }
-    ensures put { HasCleanDisk (state S.Store tx.new.conn.now)
-        → OnOk result (IsRuled (state S.Store tx.old.conn.now) → HoldsWith no_counts (state S.Store tx.new.conn.now)
-        (first_books token.now)) }
+    ensures { DoesInside S.Store tx.old.conn tx.new.conn result
+        (λ _ old new. IsRuled old → HoldsWith no_counts new (first_books token.now)) }
 {
     execute(tx, INSERT_CHAIN, &[ValueRef::Text(token.as_bytes())])
 }
@@ -69,10 +63,8 @@ fn put_chain<S: Alter>(tx: &mut Transaction<'_, S>, token: &Token) -> Result<(),
 /// Gives new tables their rule, head office's token and its count, so that they are those of a chain with no shared
 /// row. After a fault the transaction may be rolled back.
 pub fn put_token<S: Alter>(tx: &mut Transaction<'_, S>, token: &Token) -> Result<(), StoreFault>
-    ensures inside { StaysInside S.Store tx.old.conn tx.new.conn result }
-    ensures put { HasCleanDisk (state S.Store tx.new.conn.now)
-        → OnOk result (IsShop (state S.Store tx.old.conn.now) → IsKeyed (state S.Store tx.old.conn.now) → HaveNoRows
-        (state S.Store tx.old.conn.now).now.trees → Holds (state S.Store tx.new.conn.now) (first_books token.now)) }
+    ensures { DoesInside S.Store tx.old.conn tx.new.conn result
+        (λ _. Fills (λ s. Holds s (first_books token.now))) }
 {
     put_rule(tx)?;
     put_chain(tx, token)?;
@@ -89,9 +81,8 @@ fn token_with(digit: u8) -> Token
 
 /// Runs the statements, which have no parameters, one after another. After a fault the transaction may be rolled back.
 fn run_all<S: Alter>(tx: &mut Transaction<'_, S>, texts: &[&str]) -> Result<(), StoreFault>
-    ensures inside { StaysWithin S.Store tx.old.conn tx.new.conn result }
-    ensures ran { HasCleanDisk (state S.Store tx.new.conn.now)
-        → OnOk result (Runs S.Store (map (λ t. t.now) texts.now) tx.old.conn.now tx.new.conn.now) }
+    ensures { DoesWithin S.Store tx.old.conn tx.new.conn result
+        (λ _ _ _. Runs S.Store (map (λ t. t.now) texts.now) tx.old.conn.now tx.new.conn.now) }
 {
     for text in texts {
         execute(tx, text, &[])?;
@@ -102,10 +93,8 @@ fn run_all<S: Alter>(tx: &mut Transaction<'_, S>, texts: &[&str]) -> Result<(), 
 /// Gives new tables the rows with which the chain that is shown and tested begins. After a fault the transaction may
 /// be rolled back.
 pub fn put_opening<S: Alter>(tx: &mut Transaction<'_, S>) -> Result<(), StoreFault>
-    ensures inside { StaysInside S.Store tx.old.conn tx.new.conn result }
-    ensures put { HasCleanDisk (state S.Store tx.new.conn.now)
-        → OnOk result (IsShop (state S.Store tx.old.conn.now) → IsKeyed (state S.Store tx.old.conn.now) → HaveNoRows
-        (state S.Store tx.old.conn.now).now.trees → Holds (state S.Store tx.new.conn.now) opening_books) }
+    ensures { DoesInside S.Store tx.old.conn tx.new.conn result
+        (λ _. Fills (λ s. Holds s opening_books)) }
 {
     put_token(tx, &token_with(0))?;
     run_all(tx, &ROWS)?;

@@ -1,8 +1,7 @@
 ghost use Rattle.std.specs.Prelude.{⊤, ◌≡◌, ◌==◌, ◌&&◌, [], ◌∷◌, ◌++◌, filter, map};
-ghost use Rattle.sqlite.specs.Held.{state};
 ghost use Rattle.sqlite.specs.Values.{bound, or_null};
 ghost use Rattle.sqlite_value.specs.Value.{owned};
-ghost use Rattle.sql_rows.specs.Calls.{StaysInside};
+ghost use Rattle.sql_rows.specs.Calls.{DoesInside};
 ghost use Rattle.sql_rows.specs.Rows.{number_value};
 ghost use Rattle.shop_model.specs.Calendar.{moment_text, is_by, is_earlier};
 ghost use Rattle.shop_model.specs.Rows.{of};
@@ -86,10 +85,9 @@ pub fn payments_of_customer<S: Alter>(
     branch: BranchNo,
     customer: CustomerNo,
 ) -> Result<Vec<PaymentRow>, StoreFault>
-    ensures inside { StaysInside S.Store tx.old.conn tx.new.conn result }
-    ensures rows { Finds (state S.Store tx.old.conn.now) (state S.Store tx.new.conn.now) result
-        (λ rows books. map (λ row. seen_payment row.payment) rows.items
-        ≡ filter (λ it. it.customer == customer) (of branch books.payments)) }
+    ensures { DoesInside S.Store tx.old.conn tx.new.conn result
+        (λ rows. Finds (λ books. map (λ row. seen_payment row.payment) rows.items
+        ≡ filter (λ it. it.customer == customer) (of branch books.payments))) }
 {
     query_all(
         alloc,
@@ -111,10 +109,9 @@ pub fn payments_between<S: Alter>(
     start: Moment,
     end: Moment,
 ) -> Result<Vec<PaymentRow>, StoreFault>
-    ensures inside { StaysInside S.Store tx.old.conn tx.new.conn result }
-    ensures rows { Finds (state S.Store tx.old.conn.now) (state S.Store tx.new.conn.now) result
-        (λ rows books. map (λ row. seen_payment row.payment) rows.items
-        ≡ filter (λ it. is_by start it.paid && is_earlier it.paid end) (of branch books.payments)) }
+    ensures { DoesInside S.Store tx.old.conn tx.new.conn result
+        (λ rows. Finds (λ books. map (λ row. seen_payment row.payment) rows.items
+        ≡ filter (λ it. is_by start it.paid && is_earlier it.paid end) (of branch books.payments))) }
 {
     let _real = start.text();
     let _also = end.text();
@@ -140,9 +137,8 @@ pub fn put_payment<S: Alter>(
     tx: &mut Transaction<'_, S>,
     row: &PaymentRow,
 ) -> Result<(), StoreFault>
-    ensures inside { StaysInside S.Store tx.old.conn tx.new.conn result }
-    ensures put { Stores (state S.Store tx.old.conn.now) (state S.Store tx.new.conn.now) result (λ _. ⊤)
-        (λ books. record books { payments = books.payments ++ seen_payment_row row.now ∷ [] }) }
+    ensures { DoesInside S.Store tx.old.conn tx.new.conn result
+        (λ _. Stores (λ _. ⊤) (λ books. record books { payments = books.payments ++ seen_payment_row row.now ∷ [] })) }
 {
     let paid = MomentText::of(row.payment.paid);
     execute(tx, INSERT_PAYMENT, &values(row, &paid))

@@ -1,10 +1,9 @@
 //! How each shared row is added. A row's number is one more than that of the last row of its table.
 
 ghost use Rattle.std.specs.Prelude.{⊤, ◌≡◌, ◌+◌, [], ◌∷◌, ◌++◌, length};
-ghost use Rattle.sqlite.specs.Held.{state};
 ghost use Rattle.sqlite.specs.Values.{bound, or_null};
 ghost use Rattle.sqlite_value.specs.Value.{owned};
-ghost use Rattle.sql_rows.specs.Calls.{StaysInside};
+ghost use Rattle.sql_rows.specs.Calls.{DoesInside};
 ghost use Rattle.sql_rows.specs.Rows.{number_value};
 ghost use Rattle.shop_model.specs.Rows.{owned_by};
 ghost use Rattle.shop_ledger.specs.Calls.{Stores};
@@ -180,10 +179,9 @@ pub fn put_country<S: Alter>(
     number: CountryNo,
     name: &str,
 ) -> Result<(), StoreFault>
-    ensures inside { StaysInside S.Store tx.old.conn tx.new.conn result }
-    ensures put { Stores (state S.Store tx.old.conn.now) (state S.Store tx.new.conn.now) result (λ books. number
-        ≡ length books.catalogue.countries + 1) (λ books. record books
-        { catalogue = record books.catalogue { countries = books.catalogue.countries ++ name.now ∷ [] } }) }
+    ensures { DoesInside S.Store tx.old.conn tx.new.conn result
+        (λ _. Stores (λ books. number ≡ length books.catalogue.countries + 1) (λ books. record books
+        { catalogue = record books.catalogue { countries = books.catalogue.countries ++ name.now ∷ [] } })) }
 {
     execute(tx, INSERT_COUNTRY, &[number.get().to_sql(), name.to_sql()])
 }
@@ -196,10 +194,9 @@ pub fn put_language<S: Alter>(
     number: LanguageNo,
     name: &str,
 ) -> Result<(), StoreFault>
-    ensures inside { StaysInside S.Store tx.old.conn tx.new.conn result }
-    ensures put { Stores (state S.Store tx.old.conn.now) (state S.Store tx.new.conn.now) result (λ books. number
-        ≡ length books.catalogue.languages + 1) (λ books. record books
-        { catalogue = record books.catalogue { languages = books.catalogue.languages ++ name.now ∷ [] } }) }
+    ensures { DoesInside S.Store tx.old.conn tx.new.conn result
+        (λ _. Stores (λ books. number ≡ length books.catalogue.languages + 1) (λ books. record books
+        { catalogue = record books.catalogue { languages = books.catalogue.languages ++ name.now ∷ [] } })) }
 {
     execute(tx, INSERT_LANGUAGE, &[number.get().to_sql(), name.to_sql()])
 }
@@ -212,10 +209,9 @@ pub fn put_category<S: Alter>(
     number: CategoryNo,
     name: &str,
 ) -> Result<(), StoreFault>
-    ensures inside { StaysInside S.Store tx.old.conn tx.new.conn result }
-    ensures put { Stores (state S.Store tx.old.conn.now) (state S.Store tx.new.conn.now) result (λ books. number
-        ≡ length books.catalogue.categories + 1) (λ books. record books
-        { catalogue = record books.catalogue { categories = books.catalogue.categories ++ name.now ∷ [] } }) }
+    ensures { DoesInside S.Store tx.old.conn tx.new.conn result
+        (λ _. Stores (λ books. number ≡ length books.catalogue.categories + 1) (λ books. record books
+        { catalogue = record books.catalogue { categories = books.catalogue.categories ++ name.now ∷ [] } })) }
 {
     execute(tx, INSERT_CATEGORY, &[number.get().to_sql(), name.to_sql()])
 }
@@ -224,11 +220,9 @@ const INSERT_CITY: &str = "INSERT INTO city (number, name, country) VALUES (?1, 
 
 /// Adds the city. After a fault the transaction may be rolled back.
 pub fn put_city<S: Alter>(tx: &mut Transaction<'_, S>, city: &NewCity<'_>) -> Result<(), StoreFault>
-    ensures inside { StaysInside S.Store tx.old.conn tx.new.conn result }
-    ensures put { Stores (state S.Store tx.old.conn.now) (state S.Store tx.new.conn.now) result
-        (λ books. city.now.number
-        ≡ length books.catalogue.cities + 1) (λ books. record books
-        { catalogue = record books.catalogue { cities = books.catalogue.cities ++ seen_city city.now ∷ [] } }) }
+    ensures { DoesInside S.Store tx.old.conn tx.new.conn result
+        (λ _. Stores (λ books. city.now.number ≡ length books.catalogue.cities + 1) (λ books. record books
+        { catalogue = record books.catalogue { cities = books.catalogue.cities ++ seen_city city.now ∷ [] } })) }
 {
     execute(tx, INSERT_CITY, &city.values())
 }
@@ -240,12 +234,9 @@ pub fn put_actor<S: Alter>(
     tx: &mut Transaction<'_, S>,
     actor: &NewActor<'_>,
 ) -> Result<(), StoreFault>
-    ensures inside { StaysInside S.Store tx.old.conn tx.new.conn result }
-    ensures put { Stores (state S.Store tx.old.conn.now) (state S.Store tx.new.conn.now) result
-        (λ books. actor.now.number
-        ≡ length books.catalogue.actors + 1) (λ books. record books {
-          catalogue = record books.catalogue { actors = books.catalogue.actors ++ seen_actor actor.now ∷ [] };
-        }) }
+    ensures { DoesInside S.Store tx.old.conn tx.new.conn result
+        (λ _. Stores (λ books. actor.now.number ≡ length books.catalogue.actors + 1) (λ books. record books
+        { catalogue = record books.catalogue { actors = books.catalogue.actors ++ seen_actor actor.now ∷ [] } })) }
 {
     execute(tx, INSERT_ACTOR, &actor.values())
 }
@@ -255,11 +246,9 @@ const INSERT_FILM: &str =
 
 /// Adds the film. After a fault the transaction may be rolled back.
 pub fn put_film<S: Alter>(tx: &mut Transaction<'_, S>, film: &NewFilm<'_>) -> Result<(), StoreFault>
-    ensures inside { StaysInside S.Store tx.old.conn tx.new.conn result }
-    ensures put { Stores (state S.Store tx.old.conn.now) (state S.Store tx.new.conn.now) result
-        (λ books. film.now.number
-        ≡ length books.catalogue.films + 1) (λ books. record books
-        { catalogue = record books.catalogue { films = books.catalogue.films ++ seen_film film.now ∷ [] } }) }
+    ensures { DoesInside S.Store tx.old.conn tx.new.conn result
+        (λ _. Stores (λ books. film.now.number ≡ length books.catalogue.films + 1) (λ books. record books
+        { catalogue = record books.catalogue { films = books.catalogue.films ++ seen_film film.now ∷ [] } })) }
 {
     execute(tx, INSERT_FILM, &film.values())
 }
@@ -272,12 +261,11 @@ pub fn put_cast<S: Alter>(
     film: FilmNo,
     actor: ActorNo,
 ) -> Result<(), StoreFault>
-    ensures inside { StaysInside S.Store tx.old.conn tx.new.conn result }
-    ensures put { Stores (state S.Store tx.old.conn.now) (state S.Store tx.new.conn.now) result (λ _. ⊤)
-        (λ books. record books {
+    ensures { DoesInside S.Store tx.old.conn tx.new.conn result
+        (λ _. Stores (λ _. ⊤) (λ books. record books {
           catalogue = record books.catalogue
               { casts = books.catalogue.casts ++ record { film = film; actor = actor } ∷ [] };
-        }) }
+        })) }
 {
     execute(
         tx,
@@ -294,13 +282,12 @@ pub fn put_branch<S: Alter>(
     tx: &mut Transaction<'_, S>,
     branch: &NewBranch<'_>,
 ) -> Result<(), StoreFault>
-    ensures inside { StaysInside S.Store tx.old.conn tx.new.conn result }
-    ensures put { Stores (state S.Store tx.old.conn.now) (state S.Store tx.new.conn.now) result
-        (λ books. (branch.now.number ≡ length books.catalogue.branches + 1)
+    ensures { DoesInside S.Store tx.old.conn tx.new.conn result
+        (λ _. Stores (λ books. (branch.now.number ≡ length books.catalogue.branches + 1)
         × (owned_by branch.now.number books.lasts ≡ [])) (λ books. record books {
           catalogue = record books.catalogue
               { branches = books.catalogue.branches ++ seen_branch branch.now ∷ [] };
-        }) }
+        })) }
 {
     execute(tx, INSERT_BRANCH, &branch.values())
 }
@@ -313,11 +300,9 @@ pub fn put_staff<S: Alter>(
     tx: &mut Transaction<'_, S>,
     staff: &NewStaff<'_>,
 ) -> Result<(), StoreFault>
-    ensures inside { StaysInside S.Store tx.old.conn tx.new.conn result }
-    ensures put { Stores (state S.Store tx.old.conn.now) (state S.Store tx.new.conn.now) result
-        (λ books. staff.now.number
-        ≡ length books.catalogue.staff + 1) (λ books. record books
-        { catalogue = record books.catalogue { staff = books.catalogue.staff ++ seen_staff staff.now ∷ [] } }) }
+    ensures { DoesInside S.Store tx.old.conn tx.new.conn result
+        (λ _. Stores (λ books. staff.now.number ≡ length books.catalogue.staff + 1) (λ books. record books
+        { catalogue = record books.catalogue { staff = books.catalogue.staff ++ seen_staff staff.now ∷ [] } })) }
 {
     execute(tx, INSERT_STAFF, &staff.values())
 }

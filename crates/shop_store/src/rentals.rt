@@ -1,7 +1,6 @@
 ghost use Rattle.std.specs.Prelude.{⊤, ◌≡◌, ◌==◌, ◌&&◌, [], ◌∷◌, ◌++◌, Some, option_map, option_to_list};
-ghost use Rattle.sqlite.specs.Held.{state};
 ghost use Rattle.sqlite.specs.Values.{bound};
-ghost use Rattle.sql_rows.specs.Calls.{StaysInside};
+ghost use Rattle.sql_rows.specs.Calls.{DoesInside};
 ghost use Rattle.std.specs.List.{list_any};
 ghost use Rattle.shop_model.specs.Calendar.{moment_text, same_moment};
 ghost use Rattle.shop_model.specs.Rows.{at, of, set_row};
@@ -74,10 +73,9 @@ pub fn rental_at<S: Alter>(
     branch: BranchNo,
     number: RentalNo,
 ) -> Result<Option<RentalRow>, StoreFault>
-    ensures inside { StaysInside S.Store tx.old.conn tx.new.conn result }
-    ensures row { Finds (state S.Store tx.old.conn.now) (state S.Store tx.new.conn.now) result
-        (λ row books. option_to_list (option_map (λ it. seen_rental it.rental) row)
-        ≡ at number (of branch books.rentals)) }
+    ensures { DoesInside S.Store tx.old.conn tx.new.conn result
+        (λ row. Finds (λ books. option_to_list (option_map (λ it. seen_rental it.rental) row)
+        ≡ at number (of branch books.rentals))) }
 {
     query_one(
         tx,
@@ -97,10 +95,10 @@ pub fn has_rental<S: Alter>(
     copy: CopyNo,
     customer: CustomerNo,
 ) -> Result<bool, StoreFault>
-    ensures inside { StaysInside S.Store tx.old.conn tx.new.conn result }
-    ensures found { Finds (state S.Store tx.old.conn.now) (state S.Store tx.new.conn.now) result (λ has books. has
+    ensures { DoesInside S.Store tx.old.conn tx.new.conn result
+        (λ has. Finds (λ books. has
         ≡ list_any (λ it. same_moment it.rented rented && it.copy == copy && it.customer == customer)
-        (of branch books.rentals)) }
+        (of branch books.rentals))) }
 {
     let _real = rented.text();
     let text = MomentText::of(rented);
@@ -122,9 +120,8 @@ const INSERT_RENTAL: &str =
 /// Adds the rental as an open one: a moment of return isn't looked at. After a fault the transaction may be rolled
 /// back.
 pub fn put_rental<S: Alter>(tx: &mut Transaction<'_, S>, row: &RentalRow) -> Result<(), StoreFault>
-    ensures inside { StaysInside S.Store tx.old.conn tx.new.conn result }
-    ensures put { Stores (state S.Store tx.old.conn.now) (state S.Store tx.new.conn.now) result (λ _. ⊤)
-        (λ books. record books { rentals = books.rentals ++ opened_row row.now ∷ [] }) }
+    ensures { DoesInside S.Store tx.old.conn tx.new.conn result
+        (λ _. Stores (λ _. ⊤) (λ books. record books { rentals = books.rentals ++ opened_row row.now ∷ [] })) }
 {
     let rented = MomentText::of(row.rental.rented);
     execute(tx, INSERT_RENTAL, &values(row, &rented))
@@ -140,10 +137,9 @@ pub fn set_returned<S: Alter>(
     number: RentalNo,
     moment: Moment,
 ) -> Result<(), StoreFault>
-    ensures inside { StaysInside S.Store tx.old.conn tx.new.conn result }
-    ensures set { Stores (state S.Store tx.old.conn.now) (state S.Store tx.new.conn.now) result IsHeld
-        (λ books. record books
-        { rentals = set_row branch number (λ it. record it { returned = Some moment }) books.rentals }) }
+    ensures { DoesInside S.Store tx.old.conn tx.new.conn result
+        (λ _. Stores IsHeld (λ books. record books
+        { rentals = set_row branch number (λ it. record it { returned = Some moment }) books.rentals })) }
 {
     let returned = MomentText::of(moment);
     execute(

@@ -1,13 +1,12 @@
 //! Whether there is a shared row of a number, a name or a token.
 
-ghost use Rattle.std.specs.Prelude.{◌≡◌, ◌==◌, ◌&&◌, not, IfOk, List, length};
+ghost use Rattle.std.specs.Prelude.{◌≡◌, ◌==◌, ◌&&◌, not, List, length};
 ghost use Rattle.std.specs.List.{list_any};
 ghost use Rattle.std.specs.Str.{bytes_eq};
-ghost use Rattle.sqlite.specs.Held.{state};
-ghost use Rattle.sqlite.specs.State.{HasCleanDisk, Shown};
+ghost use Rattle.sqlite.specs.State.{Shown};
 ghost use Rattle.sqlite.specs.Values.{bound};
 ghost use Rattle.sqlite_value.specs.Order.{Row as SqlRow};
-ghost use Rattle.sql_rows.specs.Calls.{StaysInside};
+ghost use Rattle.sql_rows.specs.Calls.{DoesInside};
 ghost use Rattle.shop_model.specs.Rows.{lacks};
 ghost use Rattle.shop_ledger.specs.Calls.{Finds};
 
@@ -24,10 +23,9 @@ pub(crate) fn shows_row<S: Alter>(
     text: &str,
     params: &[ValueRef<'_>],
 ) -> Result<bool, StoreFault>
-    ensures inside { StaysInside S.Store tx.old.conn tx.new.conn result }
-    ensures shown { HasCleanDisk (state S.Store tx.new.conn.now)
-        → IfOk result (λ shows. (rows : List SqlRow) × Shown text.now (bound params.now)
-        (state S.Store tx.old.conn.now) (state S.Store tx.new.conn.now) rows × (shows ≡ not (length rows == 0))) }
+    ensures { DoesInside S.Store tx.old.conn tx.new.conn result
+        (λ shows old new. (rows : List SqlRow) × Shown text.now (bound params.now) old new rows
+        × (shows ≡ not (length rows == 0))) }
 {
     let rows = query(tx, text, params)?;
     Ok(!rows.is_empty())
@@ -40,9 +38,8 @@ pub fn has_country<S: Alter>(
     tx: &mut Transaction<'_, S>,
     country: CountryNo,
 ) -> Result<bool, StoreFault>
-    ensures inside { StaysInside S.Store tx.old.conn tx.new.conn result }
-    ensures found { Finds (state S.Store tx.old.conn.now) (state S.Store tx.new.conn.now) result
-        (λ has books. has ≡ not (lacks books.catalogue.countries country)) }
+    ensures { DoesInside S.Store tx.old.conn tx.new.conn result
+        (λ has. Finds (λ books. has ≡ not (lacks books.catalogue.countries country))) }
 {
     shows_row(tx, SELECT_COUNTRY, &[country.get().to_sql()])
 }
@@ -54,9 +51,8 @@ pub fn has_language<S: Alter>(
     tx: &mut Transaction<'_, S>,
     language: LanguageNo,
 ) -> Result<bool, StoreFault>
-    ensures inside { StaysInside S.Store tx.old.conn tx.new.conn result }
-    ensures found { Finds (state S.Store tx.old.conn.now) (state S.Store tx.new.conn.now) result
-        (λ has books. has ≡ not (lacks books.catalogue.languages language)) }
+    ensures { DoesInside S.Store tx.old.conn tx.new.conn result
+        (λ has. Finds (λ books. has ≡ not (lacks books.catalogue.languages language))) }
 {
     shows_row(tx, SELECT_LANGUAGE, &[language.get().to_sql()])
 }
@@ -68,9 +64,8 @@ pub fn has_category<S: Alter>(
     tx: &mut Transaction<'_, S>,
     category: CategoryNo,
 ) -> Result<bool, StoreFault>
-    ensures inside { StaysInside S.Store tx.old.conn tx.new.conn result }
-    ensures found { Finds (state S.Store tx.old.conn.now) (state S.Store tx.new.conn.now) result
-        (λ has books. has ≡ not (lacks books.catalogue.categories category)) }
+    ensures { DoesInside S.Store tx.old.conn tx.new.conn result
+        (λ has. Finds (λ books. has ≡ not (lacks books.catalogue.categories category))) }
 {
     shows_row(tx, SELECT_CATEGORY, &[category.get().to_sql()])
 }
@@ -79,9 +74,8 @@ const SELECT_CITY: &str = "SELECT number FROM city WHERE number = ?1";
 
 /// Whether there is a city of the number.
 pub fn has_city<S: Alter>(tx: &mut Transaction<'_, S>, city: CityNo) -> Result<bool, StoreFault>
-    ensures inside { StaysInside S.Store tx.old.conn tx.new.conn result }
-    ensures found { Finds (state S.Store tx.old.conn.now) (state S.Store tx.new.conn.now) result
-        (λ has books. has ≡ not (lacks books.catalogue.cities city)) }
+    ensures { DoesInside S.Store tx.old.conn tx.new.conn result
+        (λ has. Finds (λ books. has ≡ not (lacks books.catalogue.cities city))) }
 {
     shows_row(tx, SELECT_CITY, &[city.get().to_sql()])
 }
@@ -90,9 +84,8 @@ const SELECT_ACTOR: &str = "SELECT number FROM actor WHERE number = ?1";
 
 /// Whether there is an actor of the number.
 pub fn has_actor<S: Alter>(tx: &mut Transaction<'_, S>, actor: ActorNo) -> Result<bool, StoreFault>
-    ensures inside { StaysInside S.Store tx.old.conn tx.new.conn result }
-    ensures found { Finds (state S.Store tx.old.conn.now) (state S.Store tx.new.conn.now) result
-        (λ has books. has ≡ not (lacks books.catalogue.actors actor)) }
+    ensures { DoesInside S.Store tx.old.conn tx.new.conn result
+        (λ has. Finds (λ books. has ≡ not (lacks books.catalogue.actors actor))) }
 {
     shows_row(tx, SELECT_ACTOR, &[actor.get().to_sql()])
 }
@@ -101,9 +94,8 @@ const SELECT_COUNTRY_NAMED: &str = "SELECT number FROM country WHERE name = ?1";
 
 /// Whether a country has the name, by its bytes.
 pub fn is_country<S: Alter>(tx: &mut Transaction<'_, S>, name: &str) -> Result<bool, StoreFault>
-    ensures inside { StaysInside S.Store tx.old.conn tx.new.conn result }
-    ensures found { Finds (state S.Store tx.old.conn.now) (state S.Store tx.new.conn.now) result
-        (λ is books. is ≡ list_any (bytes_eq name.now) books.catalogue.countries) }
+    ensures { DoesInside S.Store tx.old.conn tx.new.conn result
+        (λ is. Finds (λ books. is ≡ list_any (bytes_eq name.now) books.catalogue.countries)) }
 {
     shows_row(tx, SELECT_COUNTRY_NAMED, &[name.to_sql()])
 }
@@ -112,9 +104,8 @@ const SELECT_LANGUAGE_NAMED: &str = "SELECT number FROM language WHERE name = ?1
 
 /// Whether a language has the name, by its bytes.
 pub fn is_language<S: Alter>(tx: &mut Transaction<'_, S>, name: &str) -> Result<bool, StoreFault>
-    ensures inside { StaysInside S.Store tx.old.conn tx.new.conn result }
-    ensures found { Finds (state S.Store tx.old.conn.now) (state S.Store tx.new.conn.now) result
-        (λ is books. is ≡ list_any (bytes_eq name.now) books.catalogue.languages) }
+    ensures { DoesInside S.Store tx.old.conn tx.new.conn result
+        (λ is. Finds (λ books. is ≡ list_any (bytes_eq name.now) books.catalogue.languages)) }
 {
     shows_row(tx, SELECT_LANGUAGE_NAMED, &[name.to_sql()])
 }
@@ -123,18 +114,16 @@ const SELECT_CATEGORY_NAMED: &str = "SELECT number FROM category WHERE name = ?1
 
 /// Whether a category has the name, by its bytes.
 pub fn is_category<S: Alter>(tx: &mut Transaction<'_, S>, name: &str) -> Result<bool, StoreFault>
-    ensures inside { StaysInside S.Store tx.old.conn tx.new.conn result }
-    ensures found { Finds (state S.Store tx.old.conn.now) (state S.Store tx.new.conn.now) result
-        (λ is books. is ≡ list_any (bytes_eq name.now) books.catalogue.categories) }
+    ensures { DoesInside S.Store tx.old.conn tx.new.conn result
+        (λ is. Finds (λ books. is ≡ list_any (bytes_eq name.now) books.catalogue.categories)) }
 {
     shows_row(tx, SELECT_CATEGORY_NAMED, &[name.to_sql()])
 }
 
 /// Whether a branch has the token. Head office's is another question.
 pub fn has_token<S: Alter>(tx: &mut Transaction<'_, S>, token: &Token) -> Result<bool, StoreFault>
-    ensures inside { StaysInside S.Store tx.old.conn tx.new.conn result }
-    ensures found { Finds (state S.Store tx.old.conn.now) (state S.Store tx.new.conn.now) result
-        (λ has books. has ≡ list_any (λ it. bytes_eq it.token token.now) books.catalogue.branches) }
+    ensures { DoesInside S.Store tx.old.conn tx.new.conn result
+        (λ has. Finds (λ books. has ≡ list_any (λ it. bytes_eq it.token token.now) books.catalogue.branches)) }
 {
     shows_row(tx, SELECT_WITH_TOKEN, &[token_text(token).to_sql()])
 }
@@ -147,9 +136,8 @@ pub fn has_cast<S: Alter>(
     film: FilmNo,
     actor: ActorNo,
 ) -> Result<bool, StoreFault>
-    ensures inside { StaysInside S.Store tx.old.conn tx.new.conn result }
-    ensures found { Finds (state S.Store tx.old.conn.now) (state S.Store tx.new.conn.now) result
-        (λ has books. has ≡ list_any (λ it. it.film == film && it.actor == actor) books.catalogue.casts) }
+    ensures { DoesInside S.Store tx.old.conn tx.new.conn result
+        (λ has. Finds (λ books. has ≡ list_any (λ it. it.film == film && it.actor == actor) books.catalogue.casts)) }
 {
     shows_row(
         tx,

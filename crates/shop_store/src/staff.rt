@@ -1,10 +1,9 @@
 //! Where a member of staff works, or worked before leaving.
 
 ghost use Rattle.std.specs.Prelude.{⊤, ◌≡◌, true, IfOk, map, option_map};
-ghost use Rattle.sqlite.specs.Held.{state};
 ghost use Rattle.sqlite_value.specs.Order.{column};
 ghost use Rattle.sql_rows.specs.Rows.{number_value, flag_value};
-ghost use Rattle.sql_rows.specs.Calls.{StaysInside};
+ghost use Rattle.sql_rows.specs.Calls.{DoesInside};
 ghost use Rattle.shop_model.specs.Rows.{at, set_at};
 ghost use Rattle.shop_model.specs.Books.{head};
 ghost use Rattle.shop_types.specs.Verdicts.{seen_post, post_of};
@@ -34,9 +33,8 @@ pub fn staff_at<S: Alter>(
     tx: &mut Transaction<'_, S>,
     staff: StaffNo,
 ) -> Result<Option<StaffFound>, StoreFault>
-    ensures inside { StaysInside S.Store tx.old.conn tx.new.conn result }
-    ensures found { Finds (state S.Store tx.old.conn.now) (state S.Store tx.new.conn.now) result
-        (λ post books. option_map seen_post post ≡ head (map post_of (at staff books.catalogue.staff))) }
+    ensures { DoesInside S.Store tx.old.conn tx.new.conn result
+        (λ post. Finds (λ books. option_map seen_post post ≡ head (map post_of (at staff books.catalogue.staff)))) }
 {
     query_first(tx, SELECT_POST, &[staff.get().to_sql()], post_in)
 }
@@ -45,12 +43,11 @@ const UPDATE_GONE: &str = "UPDATE staff SET gone = ?2 WHERE number = ?1";
 
 /// Sets that the member of staff left. After a fault the transaction may be rolled back.
 pub fn set_gone<S: Alter>(tx: &mut Transaction<'_, S>, staff: StaffNo) -> Result<(), StoreFault>
-    ensures inside { StaysInside S.Store tx.old.conn tx.new.conn result }
-    ensures set { Stores (state S.Store tx.old.conn.now) (state S.Store tx.new.conn.now) result (λ _. ⊤)
-        (λ books. record books {
+    ensures { DoesInside S.Store tx.old.conn tx.new.conn result
+        (λ _. Stores (λ _. ⊤) (λ books. record books {
           catalogue = record books.catalogue
               { staff = set_at staff (λ r. record r { gone = true }) books.catalogue.staff };
-        }) }
+        })) }
 {
     execute(tx, UPDATE_GONE, &[staff.get().to_sql(), true.to_sql()])
 }

@@ -1,8 +1,7 @@
 //! Rentals, each with its terms.
 
 ghost use Rattle.std.specs.Prelude.{◌≡◌, ◌==◌, filter, map};
-ghost use Rattle.sqlite.specs.Held.{state};
-ghost use Rattle.sql_rows.specs.Calls.{StaysInside};
+ghost use Rattle.sql_rows.specs.Calls.{DoesInside};
 ghost use Rattle.shop_model.specs.Books.{shop_of};
 ghost use Rattle.shop_model.specs.Stock.{termed};
 ghost use Rattle.shop_ledger.specs.Calls.{Finds};
@@ -74,10 +73,9 @@ pub fn termed_of_customer<S: Alter>(
     branch: BranchNo,
     customer: CustomerNo,
 ) -> Result<Vec<TermedRental>, StoreFault>
-    ensures inside { StaysInside S.Store tx.old.conn tx.new.conn result }
-    ensures found { Finds (state S.Store tx.old.conn.now) (state S.Store tx.new.conn.now) result
-        (λ rows books. map (λ row. seen_termed row) rows.items
-        ≡ filter (λ it. it.0.customer == customer) (termed (shop_of branch books))) }
+    ensures { DoesInside S.Store tx.old.conn tx.new.conn result
+        (λ rows. Finds (λ books. map (λ row. seen_termed row) rows.items
+        ≡ filter (λ it. it.0.customer == customer) (termed (shop_of branch books)))) }
 {
     query_all(
         alloc,

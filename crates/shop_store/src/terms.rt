@@ -1,7 +1,6 @@
 ghost use Rattle.std.specs.Prelude.{⊤, ◌≡◌, ◌++◌, ◌∷◌, []};
-ghost use Rattle.sqlite.specs.Held.{state};
 ghost use Rattle.sqlite.specs.Values.{bound};
-ghost use Rattle.sql_rows.specs.Calls.{StaysInside};
+ghost use Rattle.sql_rows.specs.Calls.{DoesInside};
 ghost use Rattle.shop_ledger.specs.Calls.{Stores};
 ghost use Rattle.shop_schema.specs.Columns.{terms_columns};
 ghost use Rattle.shop_store.specs.Seen.{seen_terms_row};
@@ -37,9 +36,8 @@ const INSERT_TERMS: &str =
 
 /// Adds the terms of a rental. After a fault the transaction may be rolled back.
 pub fn put_terms<S: Alter>(tx: &mut Transaction<'_, S>, row: &TermsRow) -> Result<(), StoreFault>
-    ensures inside { StaysInside S.Store tx.old.conn tx.new.conn result }
-    ensures put { Stores (state S.Store tx.old.conn.now) (state S.Store tx.new.conn.now) result (λ _. ⊤)
-        (λ books. record books { terms = books.terms ++ seen_terms_row row.now ∷ [] }) }
+    ensures { DoesInside S.Store tx.old.conn tx.new.conn result
+        (λ _. Stores (λ _. ⊤) (λ books. record books { terms = books.terms ++ seen_terms_row row.now ∷ [] })) }
 {
     execute(tx, INSERT_TERMS, &values(row))
 }

@@ -1,7 +1,7 @@
-use Rattle.sql_rows.proofs.Inside.{on_ok_then}
+use Rattle.shop_ledger.proofs.Doing.{does_so}
 use Rattle.shop_store.specs.Seen.{seen_copy_row}
 use Rattle.shop_store.proofs.OnCopies.{write_copy}
 use Rattle.shop_store.proofs.copies.put_copy.Goals as goal
 
-pub returns-clause-put : goal.returns-clause-put
-returns-clause-put g c clean = on_ok_then c.execute.result (λ ran. write_copy _ _ (seen_copy_row c.args.row) ran.0 (rw c.values.ensures at ran.1)) (c.execute.ensures.ran clean)
+pub returns : goal.returns
+returns g c = does_so c.execute.ensures.inside (rw c.values.ensures at c.execute.ensures.ran) (λ _ ran. write_copy _ _ (seen_copy_row c.args.row) ran.0 ran.1)

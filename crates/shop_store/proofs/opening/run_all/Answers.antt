@@ -15,8 +15,11 @@ loop-text-preserved g c =
           (subst (λ (texts : List (List ℕ)). Runs g.S.Store texts c.loop-text.tx.conn.now new) (sym (next_of c.args.texts.now c.loop-text.text-index _ (omega (arith, c.loop-text-test.true)))) (c.execute.new.tx.conn.now, ran.0, ran.1, rest));
     }
 
-pub returns-clause-ran : goal.returns-clause-ran
-returns-clause-ran g c clean =
+pub returns : goal.returns
+returns g c =
     let last = c.loop-text.tx.conn.now in
-    c.loop-text.invariant.ran clean last
-    (subst (λ (texts : List (List ℕ)). Runs g.S.Store texts last last) (sym (ap (λ (texts : List (Bor (List ℕ))). map (λ t. t.now) texts) (drop_all c.loop-text.text-index c.args.texts.now (omega (arith, c.loop-text-test.false))))) refl)
+    record {
+      inside = c.loop-text.invariant.within;
+      says = λ clean. c.loop-text.invariant.ran clean last
+          (subst (λ (texts : List (List ℕ)). Runs g.S.Store texts last last) (sym (ap (λ (texts : List (Bor (List ℕ))). map (λ t. t.now) texts) (drop_all c.loop-text.text-index c.args.texts.now (omega (arith, c.loop-text-test.false))))) refl);
+    }

@@ -1,8 +1,7 @@
-use Rattle.shop_schema.proofs.Common.{Ok, refl, found_then}
+use Rattle.shop_schema.proofs.Common.{Ok, refl}
+use Rattle.shop_ledger.proofs.Doing.{does_so}
 use Rattle.shop_store.proofs.OnPayments.{read_between}
 use Rattle.shop_store.proofs.payments.payments_between.Goals as goal
 
-pub returns-clause-rows : goal.returns-clause-rows
-returns-clause-rows g c clean =
-    let shown = rw (c.to_sql.ensures, c.get.ensures.value, c.to_sql-2.ensures, c.as_str.ensures, c.of-first.ensures, c.to_sql-3.ensures, c.as_str-2.ensures, c.of-past.ensures) at (c.query_all.ensures.shown clean) in
-    found_then _ _ c.query_all.result shown (λ x it. read_between c.args.start c.args.end c.text-real.ensures.kind c.text-also.ensures.kind c.args.branch _ _ it.0 it.0 (Ok x) it.1 refl it.2 it.3)
+pub returns : goal.returns
+returns g c = does_so c.query_all.ensures.inside (rw (c.to_sql.ensures, c.get.ensures.value, c.to_sql-2.ensures, c.as_str.ensures, c.of-first.ensures, c.to_sql-3.ensures, c.as_str-2.ensures, c.of-past.ensures) at c.query_all.ensures.shown) (λ x it. read_between c.args.start c.args.end c.text-real.ensures.kind c.text-also.ensures.kind c.args.branch _ _ it.0 it.0 (Ok x) it.1 refl it.2 it.3)

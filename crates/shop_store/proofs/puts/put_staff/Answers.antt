@@ -1,8 +1,7 @@
-use Rattle.sql_rows.proofs.Inside.{on_ok_then}
+use Rattle.shop_ledger.proofs.Doing.{does_so}
 use Rattle.shop_store.specs.New.{seen_staff}
 use Rattle.shop_store.proofs.PutTexts.{puts_staff}
 use Rattle.shop_store.proofs.puts.put_staff.Goals as goal
 
-pub returns-clause-put : goal.returns-clause-put
-returns-clause-put g c clean =
-    on_ok_then c.execute.result (λ ran. puts_staff _ _ c.args.staff.now.number (seen_staff c.args.staff.now) ran.0 (rw c.values.ensures at ran.1)) (c.execute.ensures.ran clean)
+pub returns : goal.returns
+returns g c = does_so c.execute.ensures.inside c.execute.ensures.ran (λ _ ran. puts_staff _ _ c.args.staff.now.number (seen_staff c.args.staff.now) ran.0 (rw c.values.ensures at ran.1))

@@ -1,9 +1,9 @@
 use Rattle.std.proofs.Common.{◌≤◌, arith}
-use Rattle.shop_store.proofs.Whether.{told}
+use Rattle.shop_store.proofs.Whether.{tells}
 use Rattle.shop_store.proofs.SharedReads.{read_actor}
 use Rattle.shop_store.proofs.rows.has_actor.Goals as goal
 
-pub returns-clause-found : goal.returns-clause-found
-returns-clause-found g c clean =
+pub returns : goal.returns
+returns g c =
     let low : 1 ≤ c.args.actor = omega arith in
-    told _ _ _ _ c.shows_row.result (rw (c.to_sql.ensures, c.get.ensures.value) at (c.shows_row.ensures.shown clean)) (λ rows shown. read_actor _ _ c.args.actor rows shown low)
+    tells _ _ (rw (c.to_sql.ensures, c.get.ensures.value) at c.shows_row.ensures) (λ rows shown. read_actor _ _ c.args.actor rows shown low)

@@ -1,6 +1,5 @@
-use Rattle.shop_store.proofs.Whether.{told, named_language}
+use Rattle.shop_store.proofs.Whether.{tells, named_language}
 use Rattle.shop_store.proofs.rows.is_language.Goals as goal
 
-pub returns-clause-found : goal.returns-clause-found
-returns-clause-found g c clean =
-    told _ _ _ _ c.shows_row.result (rw c.to_sql.ensures at (c.shows_row.ensures.shown clean)) (named_language _ _ c.args.name.now)
+pub returns : goal.returns
+returns g c = tells _ _ (rw c.to_sql.ensures at c.shows_row.ensures) (named_language _ _ c.args.name.now)
