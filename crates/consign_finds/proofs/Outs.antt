@@ -1,5 +1,5 @@
 -- A copy is out by a rental where it isn't in stock.
-use Rattle.shop_schema.proofs.Common.{◌≡◌, ◌∙◌, refl, sym, ap, inl, inr, ℕ, ◌+◌, ◌-◌, Bool, true, false, not, List, [], ◌∷◌, Option, Some, None, is_some, option_to_list, list_any, cases_Bool, is_empty, Rental, keeps_out, in_stock}
+use Rattle.shop_schema.proofs.Common.{◌≡◌, ◌∙◌, refl, sym, ap, inl, inr, ℕ, ◌+◌, Bool, true, false, not, List, [], ◌∷◌, Option, Some, None, is_some, option_to_list, list_any, cases_Bool, is_empty, Rental, keeps_out, in_stock}
 use Rattle.consign_finds.specs.Finds.{open_from}
 
 open_some : (k x : ℕ) (rentals : List Rental) → list_any (keeps_out x) rentals ≡ not (is_empty (open_from k x rentals))

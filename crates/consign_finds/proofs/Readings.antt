@@ -1,6 +1,6 @@
 -- What is read of rows.
 use Rattle.shop_schema.proofs.Common.{◌≡◌, refl, List, [], ◌∷◌, map, is_some, is_empty, head}
-use Rattle.std.specs.Prelude.{not, ◌-◌}
+use Rattle.std.specs.Prelude.{not}
 
 -- a row is there where something is told of it
 pub some_there : {A B : Type 0} (f : A → B) (xs : List A) → is_some (head (map f xs)) ≡ not (is_empty xs)

@@ -3,8 +3,7 @@
 
 ghost use Rattle.std.specs.Prelude.{◌≡◌, ℕ, [], ◌∷◌, false, not, map, IfOk};
 ghost use Rattle.std.specs.List.{list_any};
-ghost use Rattle.sqlite.specs.Held.{state};
-ghost use Rattle.sql_rows.specs.Calls.{StaysWithin};
+ghost use Rattle.sql_rows.specs.Calls.{DoesWithin};
 ghost use Rattle.shop_model.specs.Rows.{at, lacks, mem, of};
 ghost use Rattle.shop_model.specs.Values as model;
 ghost use Rattle.shop_model.specs.Stock.{in_stock, is_here};
@@ -42,10 +41,9 @@ pub fn find_for_dispatch<S: Alter>(
     to: BranchNo,
     copies: &CopyNos,
 ) -> Result<RowsFound, StoreFault>
-    ensures inside { StaysWithin S.Store tx.old.conn tx.new.conn result }
-    ensures found { (at : _)
-        → Finds (state S.Store tx.old.conn.now) (state S.Store tx.new.conn.now) result
-        (AgreesAt branch at (model.Dispatch to copies.now)) }
+    ensures { DoesWithin S.Store tx.old.conn tx.new.conn result
+        (λ rows old new. (at : _)
+        → Finds (AgreesAt branch at (model.Dispatch to copies.now) rows) old new) }
 {
     let manager = branch_manager(tx, to)?;
     let listed = find_listed(alloc, tx, branch, copies.as_slice())?;
@@ -63,9 +61,8 @@ fn find_listed<S: Alter>(
     branch: BranchNo,
     copies: &[CopyNo],
 ) -> Result<ListedFound, StoreFault>
-    ensures inside { StaysWithin S.Store tx.old.conn tx.new.conn result }
-    ensures found { Finds (state S.Store tx.old.conn.now) (state S.Store tx.new.conn.now) result
-        (AreListed branch copies.now) }
+    ensures { DoesWithin S.Store tx.old.conn tx.new.conn result
+        (λ listed. Finds (AreListed branch copies.now listed)) }
 {
     let count = count_of(tx, Count::Of(branch, CountKind::Copies))?;
     if has_unknown_copy(copies, count) {
@@ -88,9 +85,8 @@ fn find_each<S: Alter>(
     branch: BranchNo,
     copies: &[CopyNo],
 ) -> Result<ListedFound, StoreFault>
-    ensures inside { StaysWithin S.Store tx.old.conn tx.new.conn result }
-    ensures found { Finds (state S.Store tx.old.conn.now) (state S.Store tx.new.conn.now) result
-        (AreListed branch copies.now) }
+    ensures { DoesWithin S.Store tx.old.conn tx.new.conn result
+        (λ listed. Finds (AreListed branch copies.now listed)) }
 {
     let mut has_away = false;
     let mut has_out = false;
@@ -119,10 +115,9 @@ fn find_among<S: Alter>(
     branch: BranchNo,
     copies: &[CopyNo],
 ) -> Result<ListedFound, StoreFault>
-    ensures inside { StaysWithin S.Store tx.old.conn tx.new.conn result }
-    ensures found { Finds (state S.Store tx.old.conn.now) (state S.Store tx.new.conn.now) result
-        (λ listed books. list_any (lacks (shop_of branch books).copies) copies.now ≡ false
-        → AreListed branch copies.now listed books) }
+    ensures { DoesWithin S.Store tx.old.conn tx.new.conn result
+        (λ listed. Finds (λ books. list_any (lacks (shop_of branch books).copies) copies.now ≡ false
+        → AreListed branch copies.now listed books)) }
 {
     let sent = copies_in_state(alloc, tx, branch, CopyState::Sent)?;
     let scrapped = copies_in_state(alloc, tx, branch, CopyState::Scrapped)?;
@@ -157,10 +152,9 @@ fn find_one<S: Alter>(
     branch: BranchNo,
     copy: CopyNo,
 ) -> Result<(CopyRow, bool), StoreFault>
-    ensures inside { StaysWithin S.Store tx.old.conn tx.new.conn result }
-    ensures found { Finds (state S.Store tx.old.conn.now) (state S.Store tx.new.conn.now) result
-        (λ it books. ((seen_copy_row it.0).it ∷ [] ≡ at copy (of branch books.copies))
-        × (it.1 ≡ not (in_stock copy (shop_of branch books).rentals))) }
+    ensures { DoesWithin S.Store tx.old.conn tx.new.conn result
+        (λ it. Finds (λ books. ((seen_copy_row it.0).it ∷ [] ≡ at copy (of branch books.copies))
+        × (it.1 ≡ not (in_stock copy (shop_of branch books).rentals)))) }
 {
     let Some(row) = copy_at(tx, branch, copy)? else {
         return Err(StoreFault::Failed);
@@ -187,10 +181,9 @@ pub fn find_for_receipt<S: Alter>(
     from: BranchNo,
     number: ConsignmentNo,
 ) -> Result<RowsFound, StoreFault>
-    ensures inside { StaysWithin S.Store tx.old.conn tx.new.conn result }
-    ensures found { (at : _) (missing : _)
-        → Finds (state S.Store tx.old.conn.now) (state S.Store tx.new.conn.now) result
-        (AgreesAt branch at (model.Receive from number missing)) }
+    ensures { DoesWithin S.Store tx.old.conn tx.new.conn result
+        (λ rows old new. (at : _) (missing : _)
+        → Finds (AgreesAt branch at (model.Receive from number missing) rows) old new) }
 {
     let copies = count_of(tx, Count::Of(branch, CountKind::Copies))?;
     let key = ConsignmentKey {
@@ -212,9 +205,8 @@ fn find_arrival<S: Alter>(
     tx: &mut Transaction<'_, S>,
     key: &ConsignmentKey,
 ) -> Result<Option<ArrivalFound>, StoreFault>
-    ensures inside { StaysWithin S.Store tx.old.conn tx.new.conn result }
-    ensures found { Finds (state S.Store tx.old.conn.now) (state S.Store tx.new.conn.now) result
-        (λ found books. IsArrival key.now.addressee key.now.source key.now.number found books) }
+    ensures { DoesWithin S.Store tx.old.conn tx.new.conn result
+        (λ found. Finds (IsArrival key.now.addressee key.now.source key.now.number found)) }
 {
     let Some(header) = header_at(tx, key)? else {
         return Ok(None);

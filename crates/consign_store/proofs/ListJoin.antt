@@ -1,5 +1,5 @@
 -- What the joins of the lists of consignments show of the books.
-use Rattle.shop_schema.proofs.Common.{◌≡◌, ◌==◌, ◌&&◌, ◌<◌, ◌+◌, ℕ, List, [], ◌∷◌, ◌++◌, map, filter, true, false, Bool, cond, Option, Some, None, refl, sym, ap, subst, ◌∙◌, arith, is_eq, is_lt, append-nil, inl, inr, IsPermutation, flat_map, AllByRecursion, IsPermutation-trans, IsPermutation-map, Value, Null, or_null, column, value_cmp, Key, Trees, IsAscending, Term, col, Query, Join, inner, left, end, Output, output_cmp, overlay, State, map-map, IsPermutation-same, IsPermutation-flat_map, ascending-map, ascending_weaker, ascending-append, all-map, all-flat_map, all_weaker, HasRows, columns_of, number_value, flag_value, Selects, answers, passing, three_tested, number_tested, joined_query, are_equal, or_blank, shown_of, equals, left_bag, joined_rows, Climbs, numbered, numbered_from, AreNumbered, Books, Line, Consignment, is_consignment, same_test, shop_schema, consignment_columns, IsShop, StandsFor}
+use Rattle.shop_schema.proofs.Common.{◌≡◌, ◌==◌, ◌&&◌, ◌<◌, ◌+◌, ℕ, List, [], ◌∷◌, ◌++◌, map, filter, true, false, Bool, cond, Option, Some, None, refl, sym, ap, subst, ◌∙◌, arith, is_eq, is_lt, append-nil, inl, inr, IsPermutation, flat_map, AllByRecursion, IsPermutation-trans, IsPermutation-map, Value, Null, or_null, column, Key, Trees, IsAscending, Term, col, Query, Join, inner, left, end, Output, output_cmp, overlay, State, map-map, IsPermutation-same, IsPermutation-flat_map, ascending-map, ascending_weaker, ascending-append, all-map, all-flat_map, all_weaker, HasRows, columns_of, number_value, flag_value, Selects, answers, passing, three_tested, number_tested, joined_query, are_equal, or_blank, shown_of, equals, left_bag, joined_rows, Climbs, numbered, numbered_from, AreNumbered, Books, Line, Consignment, is_consignment, same_test, shop_schema, consignment_columns, IsShop, StandsFor}
 use Rattle.sqlite_value.specs.Order as sql
 use Rattle.sqlite_rules.specs.Lists.{Has}
 use Rattle.sqlite.specs.State.{Shown}

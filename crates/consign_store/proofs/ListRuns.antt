@@ -2,7 +2,7 @@
 use Rattle.shop_schema.proofs.Common.{◌≡◌, ◌==◌, ◌&&◌, ◌+◌, ◌≤◌, ℕ, suc, Bool, true, false, cond, List, [], ◌∷◌, ◌++◌, map, filter, length, codes, decimal, Option, Some, None, refl, sym, ap, subst, ◌∙◌, arith, append-nil, nat_tests, numbered, numbered_from, IsCounted, AreNumbered, object, numbers_text, flag_text, Arrival, Parcel, Line, Consignment, as_arrival, as_parcel, arrivals_text, sent_text, same_test, filter_filter}
 use Rattle.serde_json.specs.Written.{compact_text}
 use Rattle.shop_views.specs.Consignments as bodies
-use Rattle.shop_views.specs.Consignments.{Listed, seen_listed, arrival_text}
+use Rattle.shop_views.specs.Consignments.{Listed, arrival_text}
 use Rattle.shop_views.proofs.RowTexts.{arrival_is, sent_is, transit_is}
 use Rattle.shop_schema.proofs.Lists.{filter_twice}
 use Rattle.consign_store.specs.declared.lists.ListKind.{ListKind}

@@ -1,9 +1,8 @@
 //! Consignments without their lines.
 
 ghost use Rattle.std.specs.Prelude.{◌≡◌, ◌<◌, ⊤, [], ◌∷◌, ◌++◌, IfOk, filter, length, map, option_map, option_to_list};
-ghost use Rattle.sqlite.specs.Held.{state};
 ghost use Rattle.sqlite.specs.Values.{bound};
-ghost use Rattle.sql_rows.specs.Calls.{StaysInside};
+ghost use Rattle.sql_rows.specs.Calls.{DoesInside};
 ghost use Rattle.shop_model.specs.Books.{is_consignment};
 ghost use Rattle.shop_ledger.specs.Calls.{Finds, Stores};
 ghost use Rattle.shop_store.specs.SharedSeen.{IsFirstNumber};
@@ -76,9 +75,8 @@ fn first_place(rows: &[Row]) -> Result<u64, StoreFault>
 /// The place of the last consignment of the chain, or 0 where there is none. Places count from 1 without a gap, so it
 /// is how many there are.
 pub fn last_place<S: Alter>(tx: &mut Transaction<'_, S>) -> Result<u64, StoreFault>
-    ensures inside { StaysInside S.Store tx.old.conn tx.new.conn result }
-    ensures last { Finds (state S.Store tx.old.conn.now) (state S.Store tx.new.conn.now) result (λ last books. last
-        ≡ length books.consignments) }
+    ensures { DoesInside S.Store tx.old.conn tx.new.conn result
+        (λ last. Finds (λ books. last ≡ length books.consignments)) }
 {
     let rows = query(
         tx,
@@ -93,10 +91,9 @@ pub fn header_at<S: Alter>(
     tx: &mut Transaction<'_, S>,
     key: &ConsignmentKey,
 ) -> Result<Option<HeaderRow>, StoreFault>
-    ensures inside { StaysInside S.Store tx.old.conn tx.new.conn result }
-    ensures row { Finds (state S.Store tx.old.conn.now) (state S.Store tx.new.conn.now) result
-        (λ row books. option_to_list (option_map (λ it. seen_header it) row)
-        ≡ map header_of (filter (is_consignment key.now.source key.now.addressee key.now.number) books.consignments)) }
+    ensures { DoesInside S.Store tx.old.conn tx.new.conn result
+        (λ row. Finds (λ books. option_to_list (option_map (λ it. seen_header it) row)
+        ≡ map header_of (filter (is_consignment key.now.source key.now.addressee key.now.number) books.consignments))) }
 {
     query_one(
         tx,
@@ -111,9 +108,9 @@ pub fn header_at<S: Alter>(
 
 /// Adds the consignment, with no line yet. After a fault the transaction may be rolled back.
 pub fn put_header<S: Alter>(tx: &mut Transaction<'_, S>, row: &HeaderRow) -> Result<(), StoreFault>
-    ensures inside { StaysInside S.Store tx.old.conn tx.new.conn result }
-    ensures put { Stores (state S.Store tx.old.conn.now) (state S.Store tx.new.conn.now) result (λ _. ⊤)
-        (λ books. record books { consignments = books.consignments ++ opened (seen_header row.now) ∷ [] }) }
+    ensures { DoesInside S.Store tx.old.conn tx.new.conn result
+        (λ _. Stores (λ _. ⊤)
+        (λ books. record books { consignments = books.consignments ++ opened (seen_header row.now) ∷ [] })) }
 {
     execute(
         tx,
@@ -128,10 +125,9 @@ pub fn set_received<S: Alter>(
     tx: &mut Transaction<'_, S>,
     key: &ConsignmentKey,
 ) -> Result<(), StoreFault>
-    ensures inside { StaysInside S.Store tx.old.conn tx.new.conn result }
-    ensures set { Stores (state S.Store tx.old.conn.now) (state S.Store tx.new.conn.now) result
-        (IsOnce key.now.source key.now.addressee key.now.number)
-        (with_received key.now.source key.now.addressee key.now.number) }
+    ensures { DoesInside S.Store tx.old.conn tx.new.conn result
+        (λ _. Stores (IsOnce key.now.source key.now.addressee key.now.number)
+        (with_received key.now.source key.now.addressee key.now.number)) }
 {
     execute(
         tx,

@@ -1,9 +1,8 @@
 //! The lines of consignments, each with its number there.
 
 ghost use Rattle.std.specs.Prelude.{◌≡◌, ◌<◌, ⊤, filter, flat_map, map};
-ghost use Rattle.sqlite.specs.Held.{state};
 ghost use Rattle.sqlite.specs.Values.{bound};
-ghost use Rattle.sql_rows.specs.Calls.{StaysInside};
+ghost use Rattle.sql_rows.specs.Calls.{DoesInside};
 ghost use Rattle.shop_model.specs.Books.{is_consignment};
 ghost use Rattle.shop_ledger.specs.Calls.{Finds, Stores};
 ghost use Rattle.consign_store.specs.Parts.{placed_columns, placed_in, with_line, with_state, IsNextLine, IsOnce};
@@ -74,11 +73,9 @@ pub fn lines_of<S: Alter>(
     tx: &mut Transaction<'_, S>,
     key: &ConsignmentKey,
 ) -> Result<Vec<LineRow>, StoreFault>
-    ensures inside { StaysInside S.Store tx.old.conn tx.new.conn result }
-    ensures rows { Finds (state S.Store tx.old.conn.now) (state S.Store tx.new.conn.now) result
-        (λ rows books. map (λ row. seen_line row) rows.items
-        ≡ flat_map placed_in
-        (filter (is_consignment key.now.source key.now.addressee key.now.number) books.consignments)) }
+    ensures { DoesInside S.Store tx.old.conn tx.new.conn result
+        (λ rows. Finds (λ books. map (λ row. seen_line row) rows.items ≡ flat_map placed_in
+        (filter (is_consignment key.now.source key.now.addressee key.now.number) books.consignments))) }
 {
     query_all(
         alloc,
@@ -94,9 +91,8 @@ pub fn lines_of<S: Alter>(
 
 /// Adds the line behind those that its consignment has. After a fault the transaction may be rolled back.
 pub fn put_line<S: Alter>(tx: &mut Transaction<'_, S>, row: &LineRow) -> Result<(), StoreFault>
-    ensures inside { StaysInside S.Store tx.old.conn tx.new.conn result }
-    ensures put { Stores (state S.Store tx.old.conn.now) (state S.Store tx.new.conn.now) result
-        (IsNextLine (seen_line row.now)) (with_line (seen_line row.now)) }
+    ensures { DoesInside S.Store tx.old.conn tx.new.conn result
+        (λ _. Stores (IsNextLine (seen_line row.now)) (with_line (seen_line row.now))) }
 {
     execute(
         tx,
@@ -112,10 +108,9 @@ pub fn set_line<S: Alter>(
     line: LineNo,
     new: LineState,
 ) -> Result<(), StoreFault>
-    ensures inside { StaysInside S.Store tx.old.conn tx.new.conn result }
-    ensures set { Stores (state S.Store tx.old.conn.now) (state S.Store tx.new.conn.now) result
-        (IsOnce key.now.source key.now.addressee key.now.number)
-        (with_state key.now.source key.now.addressee key.now.number line (seen_line_state new)) }
+    ensures { DoesInside S.Store tx.old.conn tx.new.conn result
+        (λ _. Stores (IsOnce key.now.source key.now.addressee key.now.number)
+        (with_state key.now.source key.now.addressee key.now.number line (seen_line_state new))) }
 {
     execute(
         tx,

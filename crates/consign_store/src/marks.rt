@@ -2,8 +2,7 @@
 
 ghost use Rattle.std.specs.Prelude.{filter, map};
 ghost use Rattle.std.specs.List.Sorted.{IsPermutation};
-ghost use Rattle.sqlite.specs.Held.{state};
-ghost use Rattle.sql_rows.specs.Calls.{StaysInside};
+ghost use Rattle.sql_rows.specs.Calls.{DoesInside};
 ghost use Rattle.shop_model.specs.Sound.{is_mark};
 ghost use Rattle.shop_ledger.specs.Calls.{Finds};
 ghost use Rattle.shop_types.specs.Seen.{seen_mark};
@@ -25,10 +24,10 @@ pub fn copies_marked<S: Alter>(
     tx: &mut Transaction<'_, S>,
     mark: &Mark,
 ) -> Result<Vec<CopyRow>, StoreFault>
-    ensures inside { StaysInside S.Store tx.old.conn tx.new.conn result }
-    ensures rows { Finds (state S.Store tx.old.conn.now) (state S.Store tx.new.conn.now) result
-        (λ rows books. IsPermutation (filter (λ row. is_mark (seen_mark mark.now) row.it.mark) books.copies)
-        (map (λ row. seen_copy_row row) rows.items)) }
+    ensures { DoesInside S.Store tx.old.conn tx.new.conn result
+        (λ rows. Finds (λ books. IsPermutation
+        (filter (λ row. is_mark (seen_mark mark.now) row.it.mark) books.copies)
+        (map (λ row. seen_copy_row row) rows.items))) }
 {
     query_all(
         alloc,
@@ -44,11 +43,10 @@ pub fn lines_marked<S: Alter>(
     tx: &mut Transaction<'_, S>,
     mark: &Mark,
 ) -> Result<Vec<LineRow>, StoreFault>
-    ensures inside { StaysInside S.Store tx.old.conn tx.new.conn result }
-    ensures rows { Finds (state S.Store tx.old.conn.now) (state S.Store tx.new.conn.now) result
-        (λ rows books. IsPermutation
+    ensures { DoesInside S.Store tx.old.conn tx.new.conn result
+        (λ rows. Finds (λ books. IsPermutation
         (filter (λ row. is_mark (seen_mark mark.now) row.it.mark) (all_placed books.consignments))
-        (map (λ row. seen_line row) rows.items)) }
+        (map (λ row. seen_line row) rows.items))) }
 {
     query_all(
         alloc,

@@ -1,10 +1,8 @@
 //! How many consignments went from one branch to another.
 
 ghost use Rattle.std.specs.Prelude.{◌≡◌, ◌+◌, Some, IfOk};
-ghost use Rattle.sqlite.specs.Held.{state};
-ghost use Rattle.sqlite.specs.State.{HasCleanDisk};
 ghost use Rattle.sqlite_value.specs.Order.{column};
-ghost use Rattle.sql_rows.specs.Calls.{StaysInside};
+ghost use Rattle.sql_rows.specs.Calls.{DoesInside};
 ghost use Rattle.sql_rows.specs.Rows.{number_value};
 ghost use Rattle.shop_schema.specs.Counts.{last_of, add_pair};
 ghost use Rattle.shop_schema.specs.Shop.{Tallies};
@@ -34,10 +32,8 @@ pub fn take_pair<S: Alter>(
     source: BranchNo,
     addressee: BranchNo,
 ) -> Result<ConsignmentNo, StoreFault>
-    ensures inside { StaysInside S.Store tx.old.conn tx.new.conn result }
-    ensures taken { HasCleanDisk (state S.Store tx.new.conn.now)
-        → IfOk result (λ number. Tallies (state S.Store tx.old.conn.now) (state S.Store tx.new.conn.now)
-        (CountsPairOnce source addressee) (add_pair source addressee)
+    ensures { DoesInside S.Store tx.old.conn tx.new.conn result
+        (λ number old new. Tallies old new (CountsPairOnce source addressee) (add_pair source addressee)
         (λ counts. number ≡ last_of source addressee counts.pairs + 1)) }
 {
     let rows = query(

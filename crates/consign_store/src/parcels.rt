@@ -1,8 +1,7 @@
 //! Whole consignments: what a dispatch adds, and what a receipt sets.
 
 ghost use Rattle.std.specs.Prelude.{◌≡◌, ◌≤◌, [], ◌∷◌, ◌++◌, length, map};
-ghost use Rattle.sqlite.specs.Held.{state};
-ghost use Rattle.sql_rows.specs.Calls.{StaysInside, StaysWithin};
+ghost use Rattle.sql_rows.specs.Calls.{DoesInside, DoesWithin};
 ghost use Rattle.shop_model.specs.Rows.{mem, update_where};
 ghost use Rattle.shop_model.specs.Books.{is_consignment, checked};
 ghost use Rattle.shop_ledger.specs.Calls.{Stores};
@@ -25,10 +24,9 @@ fn put_lines<S: Alter>(
     lines: &[ParcelLine],
 ) -> Result<(), StoreFault>
     requires few { length lines.now ≤ 100 }
-    ensures inside { StaysWithin S.Store tx.old.conn tx.new.conn result }
-    ensures put { Stores (state S.Store tx.old.conn.now) (state S.Store tx.new.conn.now) result
-        (HasNoLine key.now.source key.now.addressee key.now.number)
-        (with_lines key.now.source key.now.addressee key.now.number (map sent_line lines.now)) }
+    ensures { DoesWithin S.Store tx.old.conn tx.new.conn result
+        (λ _. Stores (HasNoLine key.now.source key.now.addressee key.now.number)
+        (with_lines key.now.source key.now.addressee key.now.number (map sent_line lines.now))) }
 {
     let mut number = 1u32;
     for line in lines {
@@ -52,13 +50,12 @@ pub fn put_consignment<S: Alter>(
     place: DispatchPlace,
     lines: &ParcelLines,
 ) -> Result<(), StoreFault>
-    ensures inside { StaysInside S.Store tx.old.conn tx.new.conn result }
-    ensures put { Stores (state S.Store tx.old.conn.now) (state S.Store tx.new.conn.now) result
-        (IsNewKey key.now.source key.now.addressee key.now.number)
+    ensures { DoesInside S.Store tx.old.conn tx.new.conn result
+        (λ _. Stores (IsNewKey key.now.source key.now.addressee key.now.number)
         (λ books. record books {
           consignments = books.consignments ++ sent_off key.now.source key.now.addressee key.now.number place
               (map sent_line lines.now) ∷ [];
-        }) }
+        })) }
 {
     let header = HeaderRow {
         key: *key,
@@ -100,10 +97,9 @@ fn check_lines<S: Alter>(
     count: u32,
     missing: &[LineNo],
 ) -> Result<(), StoreFault>
-    ensures inside { StaysWithin S.Store tx.old.conn tx.new.conn result }
-    ensures set { Stores (state S.Store tx.old.conn.now) (state S.Store tx.new.conn.now) result
-        (IsOnce key.now.source key.now.addressee key.now.number)
-        (with_checked_to key.now.source key.now.addressee key.now.number missing.now count) }
+    ensures { DoesWithin S.Store tx.old.conn tx.new.conn result
+        (λ _. Stores (IsOnce key.now.source key.now.addressee key.now.number)
+        (with_checked_to key.now.source key.now.addressee key.now.number missing.now count)) }
 {
     for done in 0..count {
         let line = LineNo::new(done + 1).unwrap();
@@ -120,13 +116,12 @@ pub fn mark_received<S: Alter>(
     count: u32,
     missing: &[LineNo],
 ) -> Result<(), StoreFault>
-    ensures inside { StaysWithin S.Store tx.old.conn tx.new.conn result }
-    ensures set { Stores (state S.Store tx.old.conn.now) (state S.Store tx.new.conn.now) result
-        (HasSoMany key.now.source key.now.addressee key.now.number count)
+    ensures { DoesWithin S.Store tx.old.conn tx.new.conn result
+        (λ _. Stores (HasSoMany key.now.source key.now.addressee key.now.number count)
         (λ books. record books {
           consignments = update_where (is_consignment key.now.source key.now.addressee key.now.number)
               (checked missing.now) books.consignments;
-        }) }
+        })) }
 {
     check_lines(tx, key, count, missing)?;
     set_received(tx, key)

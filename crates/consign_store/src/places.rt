@@ -1,8 +1,7 @@
 //! Where a mark is.
 
 ghost use Rattle.std.specs.Prelude.{◌≡◌, filter, slice_get};
-ghost use Rattle.sqlite.specs.Held.{state};
-ghost use Rattle.sql_rows.specs.Calls.{StaysInside};
+ghost use Rattle.sql_rows.specs.Calls.{DoesInside};
 ghost use Rattle.shop_model.specs.Machine.{Shows};
 ghost use Rattle.shop_model.specs.Office.{place_of};
 ghost use Rattle.shop_ledger.specs.Calls.{Finds};
@@ -48,10 +47,9 @@ pub fn place_of<S: Alter>(
     tx: &mut Transaction<'_, S>,
     mark: &Mark,
 ) -> Result<Place, StoreFault>
-    ensures inside { StaysInside S.Store tx.old.conn tx.new.conn result }
-    ensures place { Finds (state S.Store tx.old.conn.now) (state S.Store tx.new.conn.now) result
-        (λ place books. HasOnePlace (seen_mark mark.now) books
-        → Shows (seen_place place) ≡ place_of (seen_mark mark.now) books) }
+    ensures { DoesInside S.Store tx.old.conn tx.new.conn result
+        (λ place. Finds (λ books. HasOnePlace (seen_mark mark.now) books
+        → Shows (seen_place place) ≡ place_of (seen_mark mark.now) books)) }
 {
     let copies = copies_marked(alloc, tx, mark)?;
     if let Some(row) = first_here(copies.as_slice()) {

@@ -1,7 +1,7 @@
-use Rattle.sql_rows.proofs.Inside.{on_ok_then}
+use Rattle.shop_ledger.proofs.Doing.{does_so}
 use Rattle.consign_store.specs.Seen.{seen_line}
 use Rattle.consign_store.proofs.Texts.{puts_line}
 use Rattle.consign_store.proofs.lines.put_line.Goals as goal
 
-pub returns-clause-put : goal.returns-clause-put
-returns-clause-put g c clean = on_ok_then c.execute.result (λ ran. puts_line _ _ (seen_line c.args.row.now) ran.0 (rw c.values.ensures at ran.1)) (c.execute.ensures.ran clean)
+pub returns : goal.returns
+returns g c = does_so c.execute.ensures.inside c.execute.ensures.ran (λ _ ran. puts_line _ _ (seen_line c.args.row.now) ran.0 (rw c.values.ensures at ran.1))
