@@ -1,7 +1,7 @@
+pub use Rattle.consign_finds.proofs.Chained
 pub mod Readings
 pub mod Lookings
 pub mod FilmLemmas
 pub mod Shows
 pub mod TermLemmas
-pub mod Knowing
 pub mod Stocks

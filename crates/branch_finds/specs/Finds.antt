@@ -21,5 +21,5 @@ copy_shown rentals row = (row.number, is_here (unmarked (seen_copy_row row).it),
 -- ---- films
 
 -- where the films that were known are rows of the books, this is so, and those that are known then are rows too
-abbrev pub Knows : {X : Type 0} → KnownFilms → KnownFilms → (X → Books → Type 0) → X → Books → Type 0
-Knows before after Says found books = AreRows before books.catalogue.films → Says found books × AreRows after books.catalogue.films
+abbrev pub Knows : KnownFilms → KnownFilms → (Books → Type 0) → Books → Type 0
+Knows before after Says books = AreRows before books.catalogue.films → Says books × AreRows after books.catalogue.films

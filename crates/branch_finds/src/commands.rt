@@ -2,8 +2,7 @@
 
 ghost use Rattle.std.specs.Prelude.{◌≡◌, ◌≤◌, ℕ, map, IfOk};
 ghost use Rattle.std.specs.List.{All};
-ghost use Rattle.sqlite.specs.Held.{state};
-ghost use Rattle.sql_rows.specs.Calls.{StaysWithin};
+ghost use Rattle.sql_rows.specs.Calls.{DoesWithin};
 ghost use Rattle.shop_model.specs.Values as model;
 ghost use Rattle.shop_model.specs.Books.{shop_of};
 ghost use Rattle.shop_types.specs.Seen.{seen_act, seen_command};
@@ -42,13 +41,12 @@ pub fn find_for_command<'a, S: Alter>(
     standing: Standing,
     kept: Option<KeptFound<'a>>,
 ) -> Result<Found<'a>, StoreFault>
-    ensures inside { StaysWithin S.Store tx.old.conn tx.new.conn result }
-    ensures found { Finds (state S.Store tx.old.conn.now) (state S.Store tx.new.conn.now) result
-        (Knows films.old films.new
-        (λ found books. ((rules : model.Rules) → rules.stock_of ≡ stock_of → IsKeptFor branch
+    ensures { DoesWithin S.Store tx.old.conn tx.new.conn result
+        (λ found. Finds (Knows films.old films.new
+        (λ books. ((rules : model.Rules) → rules.stock_of ≡ stock_of → IsKeptFor branch
         (seen_command command.now) kept.entry books → HasStanding branch books standing → Agrees rules
         books.catalogue (shop_of branch books) (seen_command command.now) found)
-        × AreMarked branch (seen_command command.now).act found.rows books)) }
+        × AreMarked branch (seen_command command.now).act found.rows books))) }
 {
     let staff = staff_at(tx, command.staff)?;
     let rows = find_rows(alloc, tx, films, branch, command)?;
@@ -69,9 +67,9 @@ fn find_rows<S: Alter>(
     branch: BranchNo,
     command: &Command,
 ) -> Result<RowsFound, StoreFault>
-    ensures inside { StaysWithin S.Store tx.old.conn tx.new.conn result }
-    ensures found { Finds (state S.Store tx.old.conn.now) (state S.Store tx.new.conn.now) result
-        (Knows films.old films.new (AgreesAt branch command.now.at (seen_act command.now.act))) }
+    ensures { DoesWithin S.Store tx.old.conn tx.new.conn result
+        (λ found. Finds (Knows films.old films.new
+        (AgreesAt branch command.now.at (seen_act command.now.act) found))) }
 {
     match &command.act {
         Act::Customer(person) => Ok(RowsFound {
@@ -114,9 +112,8 @@ fn find_for_rental<S: Alter>(
     customer: CustomerNo,
     copy: CopyNo,
 ) -> Result<RowsFound, StoreFault>
-    ensures inside { StaysWithin S.Store tx.old.conn tx.new.conn result }
-    ensures found { Finds (state S.Store tx.old.conn.now) (state S.Store tx.new.conn.now) result
-        (Knows films.old films.new (AgreesAt branch at (model.Rent customer copy))) }
+    ensures { DoesWithin S.Store tx.old.conn tx.new.conn result
+        (λ found. Finds (Knows films.old films.new (AgreesAt branch at (model.Rent customer copy) found))) }
 {
     let is_active = active_at(tx, branch, customer)?;
     let found = find_copy(tx, films, branch, copy)?;
@@ -137,10 +134,9 @@ fn find_for_payment<S: Alter>(
     customer: CustomerNo,
     rental: Option<RentalNo>,
 ) -> Result<RowsFound, StoreFault>
-    ensures inside { StaysWithin S.Store tx.old.conn tx.new.conn result }
-    ensures found { (at : _) (amount : ℕ)
-        → Finds (state S.Store tx.old.conn.now) (state S.Store tx.new.conn.now) result
-        (AgreesAt branch at (model.Pay customer rental amount)) }
+    ensures { DoesWithin S.Store tx.old.conn tx.new.conn result
+        (λ found old new. (at : _) (amount : ℕ)
+        → Finds (AgreesAt branch at (model.Pay customer rental amount) found) old new) }
 {
     let is_active = active_at(tx, branch, customer)?;
     let Some(number) = rental else {
@@ -166,10 +162,9 @@ fn find_for_import<S: Alter>(
     lot: &LotName,
     file: &StockFile,
 ) -> Result<RowsFound, StoreFault>
-    ensures inside { StaysWithin S.Store tx.old.conn tx.new.conn result }
-    ensures found { (at : _)
-        → Finds (state S.Store tx.old.conn.now) (state S.Store tx.new.conn.now) result
-        (Knows films.old films.new (AgreesAt branch at (model.Import lot.now file.now))) }
+    ensures { DoesWithin S.Store tx.old.conn tx.new.conn result
+        (λ found old new. (at : _)
+        → Finds (Knows films.old films.new (AgreesAt branch at (model.Import lot.now file.now) found)) old new) }
 {
     let copies = count_of(tx, Count::Of(branch, CountKind::Copies))?;
     let has_lot = has_lot(tx, branch, lot)?;
@@ -189,9 +184,8 @@ fn find_stock<S: Alter>(
     films: &mut FilmCache,
     file: &StockFile,
 ) -> Result<Result<StockRows, BadCsv>, StoreFault>
-    ensures inside { StaysWithin S.Store tx.old.conn tx.new.conn result }
-    ensures found { Finds (state S.Store tx.old.conn.now) (state S.Store tx.new.conn.now) result
-        (Knows films.old films.new (λ stock books. IfOk stock (All (RowAgrees books.catalogue)))) }
+    ensures does { DoesWithin S.Store tx.old.conn tx.new.conn result
+        (λ stock. Finds (Knows films.old films.new (λ books. IfOk stock (All (RowAgrees books.catalogue))))) }
     ensures value { IfOk result (λ stock. seen_stock stock ≡ stock_of file.now) }
 {
     match read_stock(alloc, file.as_slice()) {
@@ -211,9 +205,9 @@ fn find_films<S: Alter>(
     films: &mut FilmCache,
     rows: &[StockRow],
 ) -> Result<Vec<StockFound>, StoreFault>
-    ensures inside { StaysWithin S.Store tx.old.conn tx.new.conn result }
-    ensures found { Finds (state S.Store tx.old.conn.now) (state S.Store tx.new.conn.now) result
-        (Knows films.old films.new (λ found books. found.items ≡ map (found_row books.catalogue) rows.now)) }
+    ensures does { DoesWithin S.Store tx.old.conn tx.new.conn result
+        (λ found. Finds (Knows films.old films.new
+        (λ books. found.items ≡ map (found_row books.catalogue) rows.now))) }
     ensures same { IfOk result (λ found. map as_listed found.items ≡ rows.now) }
 {
     let mut found = Vec::new(alloc);

@@ -1,8 +1,7 @@
 //! What is found of customers, copies and rentals.
 
 ghost use Rattle.std.specs.Prelude.{◌≡◌, ℕ, is_some, map, option_map, option_to_list};
-ghost use Rattle.sqlite.specs.Held.{state};
-ghost use Rattle.sql_rows.specs.Calls.{StaysWithin};
+ghost use Rattle.sql_rows.specs.Calls.{DoesWithin};
 ghost use Rattle.shop_model.specs.Rows.{at};
 ghost use Rattle.shop_model.specs.Stock.{is_here, held_by};
 ghost use Rattle.shop_model.specs.Books.{head, shop_of};
@@ -30,11 +29,10 @@ pub fn find_copy<S: Alter>(
     branch: BranchNo,
     copy: CopyNo,
 ) -> Result<Option<CopyFound>, StoreFault>
-    ensures inside { StaysWithin S.Store tx.old.conn tx.new.conn result }
-    ensures found { Finds (state S.Store tx.old.conn.now) (state S.Store tx.new.conn.now) result
-        (Knows films.old films.new
-        (λ found books. (option_map seen_copy found ≡ copy_at books.catalogue (shop_of branch books) copy)
-        × HasTermsNow books.catalogue (shop_of branch books) copy found)) }
+    ensures { DoesWithin S.Store tx.old.conn tx.new.conn result
+        (λ found. Finds (Knows films.old films.new
+        (λ books. (option_map seen_copy found ≡ copy_at books.catalogue (shop_of branch books) copy)
+        × HasTermsNow books.catalogue (shop_of branch books) copy found))) }
 {
     let Some(row) = copy_now_at(tx, branch, copy)? else {
         return Ok(None);
@@ -56,9 +54,8 @@ pub fn find_rental<S: Alter>(
     branch: BranchNo,
     rental: RentalNo,
 ) -> Result<Option<RentalFound>, StoreFault>
-    ensures inside { StaysWithin S.Store tx.old.conn tx.new.conn result }
-    ensures found { Finds (state S.Store tx.old.conn.now) (state S.Store tx.new.conn.now) result
-        (λ found books. option_map seen_rental found ≡ rental_at (shop_of branch books) rental) }
+    ensures { DoesWithin S.Store tx.old.conn tx.new.conn result
+        (λ found. Finds (λ books. option_map seen_rental found ≡ rental_at (shop_of branch books) rental)) }
 {
     match rental_at(tx, branch, rental)? {
         Some(row) => Ok(Some(rental_found(row.rental))),
@@ -84,9 +81,9 @@ fn find_renter<S: Alter>(
     branch: BranchNo,
     rental: RentalNo,
 ) -> Result<Option<CustomerNo>, StoreFault>
-    ensures inside { StaysWithin S.Store tx.old.conn tx.new.conn result }
-    ensures found { Finds (state S.Store tx.old.conn.now) (state S.Store tx.new.conn.now) result
-        (λ renter books. renter ≡ head (map (λ it. it.customer) (at rental (shop_of branch books).rentals))) }
+    ensures { DoesWithin S.Store tx.old.conn tx.new.conn result
+        (λ renter. Finds (λ books. renter
+        ≡ head (map (λ it. it.customer) (at rental (shop_of branch books).rentals)))) }
 {
     match rental_at(tx, branch, rental)? {
         Some(row) => Ok(Some(row.rental.customer)),
@@ -100,11 +97,10 @@ pub fn find_holder<S: Alter>(
     branch: BranchNo,
     out: Option<RentalNo>,
 ) -> Result<Option<CustomerNo>, StoreFault>
-    ensures inside { StaysWithin S.Store tx.old.conn tx.new.conn result }
-    ensures found { (copy : ℕ)
-        → Finds (state S.Store tx.old.conn.now) (state S.Store tx.new.conn.now) result
-        (λ holder books. option_to_list out ≡ open_from 1 copy (shop_of branch books).rentals → holder ≡ head
-        (held_by copy (shop_of branch books).rentals)) }
+    ensures { DoesWithin S.Store tx.old.conn tx.new.conn result
+        (λ holder old new. (copy : ℕ) → Finds (λ books. option_to_list out
+        ≡ open_from 1 copy (shop_of branch books).rentals → holder
+        ≡ head (held_by copy (shop_of branch books).rentals)) old new) }
 {
     match out {
         Some(rental) => find_renter(tx, branch, rental),
@@ -119,9 +115,8 @@ pub fn find_of_film<S: Alter>(
     branch: BranchNo,
     film: FilmNo,
 ) -> Result<Vec<FilmCopy>, StoreFault>
-    ensures inside { StaysWithin S.Store tx.old.conn tx.new.conn result }
-    ensures found { Finds (state S.Store tx.old.conn.now) (state S.Store tx.new.conn.now) result
-        (λ copies books. AreOfFilm film (shop_of branch books) copies.items) }
+    ensures { DoesWithin S.Store tx.old.conn tx.new.conn result
+        (λ copies. Finds (λ books. AreOfFilm film (shop_of branch books) copies.items)) }
 {
     let rows = copies_of_film(alloc, tx, branch, film)?;
     with_stock(alloc, tx, branch, rows.as_slice())
@@ -134,9 +129,9 @@ fn with_stock<S: Alter>(
     branch: BranchNo,
     rows: &[CopyRow],
 ) -> Result<Vec<FilmCopy>, StoreFault>
-    ensures inside { StaysWithin S.Store tx.old.conn tx.new.conn result }
-    ensures found { Finds (state S.Store tx.old.conn.now) (state S.Store tx.new.conn.now) result
-        (λ copies books. map seen_film_copy copies.items ≡ map (copy_shown (shop_of branch books).rentals) rows.now) }
+    ensures { DoesWithin S.Store tx.old.conn tx.new.conn result
+        (λ copies. Finds (λ books. map seen_film_copy copies.items
+        ≡ map (copy_shown (shop_of branch books).rentals) rows.now)) }
 {
     let mut copies = Vec::new(alloc);
     for row in rows {
@@ -152,9 +147,8 @@ fn with_its_stock<S: Alter>(
     branch: BranchNo,
     row: CopyRow,
 ) -> Result<FilmCopy, StoreFault>
-    ensures inside { StaysWithin S.Store tx.old.conn tx.new.conn result }
-    ensures found { Finds (state S.Store tx.old.conn.now) (state S.Store tx.new.conn.now) result
-        (λ copy books. seen_film_copy copy ≡ copy_shown (shop_of branch books).rentals row) }
+    ensures { DoesWithin S.Store tx.old.conn tx.new.conn result
+        (λ copy. Finds (λ books. seen_film_copy copy ≡ copy_shown (shop_of branch books).rentals row)) }
 {
     let out = out_at(tx, branch, row.number)?;
     Ok(FilmCopy {

@@ -1,8 +1,7 @@
 //! What is known of a film as it is now: the store is asked where the chain's cache of films doesn't know.
 
 ghost use Rattle.std.specs.Prelude.{◌≡◌, map, option_map};
-ghost use Rattle.sqlite.specs.Held.{state};
-ghost use Rattle.sql_rows.specs.Calls.{StaysWithin};
+ghost use Rattle.sql_rows.specs.Calls.{DoesWithin};
 ghost use Rattle.shop_model.specs.Rows.{at};
 ghost use Rattle.shop_model.specs.Books.{head};
 ghost use Rattle.chain_caches.specs.Films.{known_of, seen_known};
@@ -22,10 +21,9 @@ pub fn find_film<S: Alter>(
     films: &mut FilmCache,
     number: FilmNo,
 ) -> Result<Option<KnownFilm>, StoreFault>
-    ensures inside { StaysWithin S.Store tx.old.conn tx.new.conn result }
-    ensures found { Finds (state S.Store tx.old.conn.now) (state S.Store tx.new.conn.now) result
-        (Knows films.old films.new (λ film books. option_map seen_known film
-        ≡ head (map known_of (at number books.catalogue.films)))) }
+    ensures { DoesWithin S.Store tx.old.conn tx.new.conn result
+        (λ film. Finds (Knows films.old films.new
+        (λ books. option_map seen_known film ≡ head (map known_of (at number books.catalogue.films))))) }
 {
     if let Some(film) = films.known(number) {
         return Ok(Some(film));
@@ -44,10 +42,9 @@ pub fn find_withdrawn<S: Alter>(
     films: &mut FilmCache,
     number: FilmNo,
 ) -> Result<Option<bool>, StoreFault>
-    ensures inside { StaysWithin S.Store tx.old.conn tx.new.conn result }
-    ensures found { Finds (state S.Store tx.old.conn.now) (state S.Store tx.new.conn.now) result
-        (Knows films.old films.new (λ withdrawn books. withdrawn
-        ≡ head (map withdrawn_of (at number books.catalogue.films)))) }
+    ensures { DoesWithin S.Store tx.old.conn tx.new.conn result
+        (λ withdrawn. Finds (Knows films.old films.new
+        (λ books. withdrawn ≡ head (map withdrawn_of (at number books.catalogue.films))))) }
 {
     match find_film(tx, films, number)? {
         Some(film) => Ok(Some(film.withdrawn)),

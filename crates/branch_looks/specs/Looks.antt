@@ -2,8 +2,9 @@
 use Rattle.std.specs.Prelude.{◌≡◌, ⊤, ℕ, Bool, true, false, List, Result, Ok, Err, IfOk}
 use Rattle.std.specs.Borrow.{MutBor}
 use Rattle.sqlite_trees.specs.declared.store.Store.{Ghosts}
-use Rattle.sqlite.specs.Held.{Held, state}
-use Rattle.sql_rows.specs.Calls.{StaysInside, StaysWithin}
+use Rattle.sqlite.specs.Held.{Held}
+use Rattle.sqlite.specs.State.{State}
+use Rattle.sql_rows.specs.Calls.{DoesInside, DoesWithin}
 use Rattle.shop_model.specs.Values as model
 use Rattle.shop_model.specs.Values.{Ask}
 use Rattle.shop_model.specs.Shop.{Shop}
@@ -34,9 +35,9 @@ reads_row model.SentOff = false
 reads_row ask = true
 
 -- a call that reads a row goes on only in a transaction that is open, and one that may read none doesn't show that it was
-abbrev pub StaysBy : {S X E : Type 0} → Bool → Ghosts S → MutBor (Held S) → MutBor (Held S) → Result X E → Type 0
-StaysBy true g old new result = StaysInside g old new result
-StaysBy false g old new result = StaysWithin g old new result
+abbrev pub DoesBy : {S X E : Type 0} → Bool → Ghosts S → MutBor (Held S) → MutBor (Held S) → Result X E → (X → State → State → Type 0) → Type 0
+DoesBy true g old new result Says = DoesInside g old new result Says
+DoesBy false g old new result Says = DoesWithin g old new result Says
 
 -- what a list for the branch shows of the books
 abbrev pub listed : ℕ → Listing → Books → Shown
@@ -57,8 +58,7 @@ TellsDecision (work.Shows it) = ⊤
 
 -- What a reading of a branch comes to: it stays inside the transaction, shows what the definitions show of the books, and is a decision.
 pub record LooksAt {S E : Type 0} (g : Ghosts S) (b : ℕ) (ask : Ask) (old new : MutBor (Held S)) (result : Result (Work Listing) E) : Type 0 where
-  pub inside : StaysBy (reads_row ask) g old new result
-  pub shown : Finds (state g old.now) (state g new.now) result (IsShown b ask)
+  pub does : DoesBy (reads_row ask) g old new result (λ it. Finds (IsShown b ask it))
   pub decided : IfOk result TellsDecision
 
 -- the reply, which changes nothing

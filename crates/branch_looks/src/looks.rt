@@ -1,17 +1,15 @@
 //! What a branch's readings of its rows show inside one transaction, which changes nothing.
 
 ghost use Rattle.std.specs.Prelude.{◌≡◌, ℕ, IfOk, string_bytes};
-ghost use Rattle.sqlite.specs.Held.{state};
-ghost use Rattle.sql_rows.specs.Calls.{StaysInside};
+ghost use Rattle.sql_rows.specs.Calls.{DoesInside};
 ghost use Rattle.shop_model.specs.Values.{OneCustomer, OneFilm, InStock, HeldBy};
 ghost use Rattle.shop_model.specs.Shop.{Shop};
 ghost use Rattle.shop_model.specs.Machine.{CopiesAre};
 ghost use Rattle.shop_model.specs.Answers.{shown_text};
 ghost use Rattle.shop_types.specs.Replies.{seen_reply};
-ghost use Rattle.shop_ledger.specs.Calls.{Finds};
 ghost use Rattle.branch_core.specs.Agreed.{AreOfFilm};
 ghost use Rattle.branch_looks.specs.Looks.{stock_asked, stock_listed};
-ghost use Rattle.branch_reports.specs.Looked.{looked};
+ghost use Rattle.branch_reports.specs.Looked.{Tells};
 ghost use Rattle.branch_reports.specs.Told.{IsDecision};
 
 use branch_core::{FilmCopy, film_in_stock, film_not_in_stock};
@@ -30,9 +28,7 @@ pub(crate) fn look_customer<S: Alter>(
     branch: BranchNo,
     number: CustomerNo,
 ) -> Result<Reply, StoreFault>
-    ensures inside { StaysInside S.Store tx.old.conn tx.new.conn result }
-    ensures shown { Finds (state S.Store tx.old.conn.now) (state S.Store tx.new.conn.now) result
-        (λ reply books. seen_reply reply ≡ looked branch (OneCustomer number) books) }
+    ensures does { DoesInside S.Store tx.old.conn tx.new.conn result (Tells branch (OneCustomer number)) }
     ensures decided { IfOk result (λ reply. IsDecision (seen_reply reply)) }
 {
     match customer_at(tx, branch, number)? {
@@ -48,9 +44,7 @@ pub(crate) fn look_film<S: Alter>(
     branch: BranchNo,
     number: FilmNo,
 ) -> Result<Reply, StoreFault>
-    ensures inside { StaysInside S.Store tx.old.conn tx.new.conn result }
-    ensures shown { Finds (state S.Store tx.old.conn.now) (state S.Store tx.new.conn.now) result
-        (λ reply books. seen_reply reply ≡ looked branch (OneFilm number) books) }
+    ensures does { DoesInside S.Store tx.old.conn tx.new.conn result (Tells branch (OneFilm number)) }
     ensures decided { IfOk result (λ reply. IsDecision (seen_reply reply)) }
 {
     match film_row(tx, number)? {
@@ -66,9 +60,7 @@ pub(crate) fn look_in_stock<S: Alter>(
     branch: BranchNo,
     copy: CopyNo,
 ) -> Result<Reply, StoreFault>
-    ensures inside { StaysInside S.Store tx.old.conn tx.new.conn result }
-    ensures shown { Finds (state S.Store tx.old.conn.now) (state S.Store tx.new.conn.now) result
-        (λ reply books. seen_reply reply ≡ looked branch (InStock copy) books) }
+    ensures does { DoesInside S.Store tx.old.conn tx.new.conn result (Tells branch (InStock copy)) }
     ensures decided { IfOk result (λ reply. IsDecision (seen_reply reply)) }
 {
     match copy_now_at(tx, branch, copy)? {
@@ -84,9 +76,7 @@ pub(crate) fn look_holder<S: Alter>(
     branch: BranchNo,
     copy: CopyNo,
 ) -> Result<Reply, StoreFault>
-    ensures inside { StaysInside S.Store tx.old.conn tx.new.conn result }
-    ensures shown { Finds (state S.Store tx.old.conn.now) (state S.Store tx.new.conn.now) result
-        (λ reply books. seen_reply reply ≡ looked branch (HeldBy copy) books) }
+    ensures does { DoesInside S.Store tx.old.conn tx.new.conn result (Tells branch (HeldBy copy)) }
     ensures decided { IfOk result (λ reply. IsDecision (seen_reply reply)) }
 {
     let Some(found) = copy_now_at(tx, branch, copy)? else {
@@ -104,9 +94,7 @@ pub(crate) fn look_film_copies<S: Alter>(
     film: FilmNo,
     is_in: bool,
 ) -> Result<Reply, StoreFault>
-    ensures inside { StaysInside S.Store tx.old.conn tx.new.conn result }
-    ensures shown { Finds (state S.Store tx.old.conn.now) (state S.Store tx.new.conn.now) result
-        (λ reply books. seen_reply reply ≡ looked branch (stock_asked is_in film) books) }
+    ensures does { DoesInside S.Store tx.old.conn tx.new.conn result (Tells branch (stock_asked is_in film)) }
     ensures decided { IfOk result (λ reply. IsDecision (seen_reply reply)) }
 {
     let Some(_) = film_withdrawn(tx, film)? else {

@@ -1,4 +1,5 @@
 pub mod Decisions
+pub mod Firsts
 pub mod Given
 pub mod RewardLemmas
 pub mod MonthLemmas

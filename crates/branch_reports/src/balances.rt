@@ -1,8 +1,7 @@
 //! What a customer owes, by the customer's rentals and payments.
 
 ghost use Rattle.std.specs.Prelude.{◌≡◌};
-ghost use Rattle.sqlite.specs.Held.{state};
-ghost use Rattle.sql_rows.specs.Calls.{StaysWithin};
+ghost use Rattle.sql_rows.specs.Calls.{DoesWithin};
 ghost use Rattle.shop_model.specs.Books.{shop_of};
 ghost use Rattle.shop_types.specs.Seen.{seen_payment};
 ghost use Rattle.shop_ledger.specs.Calls.{Finds};
@@ -23,9 +22,8 @@ pub fn find_terms<S: Alter>(
     branch: BranchNo,
     customer: CustomerNo,
 ) -> Result<Vec<RentalTerms>, StoreFault>
-    ensures inside { StaysWithin S.Store tx.old.conn tx.new.conn result }
-    ensures found { Finds (state S.Store tx.old.conn.now) (state S.Store tx.new.conn.now) result
-        (λ terms books. AreTermsOf (shop_of branch books) customer terms.items) }
+    ensures { DoesWithin S.Store tx.old.conn tx.new.conn result
+        (λ terms. Finds (λ books. AreTermsOf (shop_of branch books) customer terms.items)) }
 {
     let rows = termed_of_customer(alloc, tx, branch, customer)?;
     let mut terms = Vec::new(alloc);
@@ -55,9 +53,8 @@ pub fn find_paid<S: Alter>(
     branch: BranchNo,
     customer: CustomerNo,
 ) -> Result<Vec<Paid>, StoreFault>
-    ensures inside { StaysWithin S.Store tx.old.conn tx.new.conn result }
-    ensures found { Finds (state S.Store tx.old.conn.now) (state S.Store tx.new.conn.now) result
-        (λ paid books. ArePaidBy (shop_of branch books) customer paid.items) }
+    ensures { DoesWithin S.Store tx.old.conn tx.new.conn result
+        (λ paid. Finds (λ books. ArePaidBy (shop_of branch books) customer paid.items)) }
 {
     let rows = payments_of_customer(alloc, tx, branch, customer)?;
     let mut payments = Vec::new(alloc);

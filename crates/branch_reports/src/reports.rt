@@ -1,16 +1,14 @@
 //! What a branch is told of money.
 
 ghost use Rattle.std.specs.Prelude.{◌≡◌, ℕ, IfOk};
-ghost use Rattle.sqlite.specs.Held.{state};
-ghost use Rattle.sql_rows.specs.Calls.{StaysInside, StaysWithin};
+ghost use Rattle.sql_rows.specs.Calls.{DoesInside, DoesWithin};
 ghost use Rattle.shop_model.specs.Values.{Balance, Rewards};
 ghost use Rattle.shop_model.specs.Shop.{Shop};
 ghost use Rattle.shop_model.specs.Stock.{balance};
 ghost use Rattle.shop_types.specs.Seen.{seen_rule};
 ghost use Rattle.shop_types.specs.Replies.{seen_reply};
-ghost use Rattle.shop_ledger.specs.Calls.{Finds};
 ghost use Rattle.balance_rule.specs.Balance.{AreTermsOf, ArePaidBy};
-ghost use Rattle.branch_reports.specs.Looked.{looked};
+ghost use Rattle.branch_reports.specs.Looked.{Tells};
 ghost use Rattle.branch_reports.specs.Told.{IsDecision};
 
 use crate::balances::{find_paid, find_terms};
@@ -31,9 +29,7 @@ pub fn look_balance<S: Alter>(
     customer: CustomerNo,
     at: Moment,
 ) -> Result<Reply, StoreFault>
-    ensures inside { StaysInside S.Store tx.old.conn tx.new.conn result }
-    ensures shown { Finds (state S.Store tx.old.conn.now) (state S.Store tx.new.conn.now) result
-        (λ reply books. seen_reply reply ≡ looked branch (Balance customer at) books) }
+    ensures does { DoesInside S.Store tx.old.conn tx.new.conn result (Tells branch (Balance customer at)) }
     ensures decided { IfOk result (λ reply. IsDecision (seen_reply reply)) }
 {
     let Some(_) = active_at(tx, branch, customer)? else {
@@ -72,9 +68,8 @@ pub fn look_rewards<S: Alter>(
     purchases: u32,
     cents: u32,
 ) -> Result<Reply, StoreFault>
-    ensures inside { StaysWithin S.Store tx.old.conn tx.new.conn result }
-    ensures shown { Finds (state S.Store tx.old.conn.now) (state S.Store tx.new.conn.now) result
-        (λ reply books. seen_reply reply ≡ looked branch (Rewards at purchases cents) books) }
+    ensures does { DoesWithin S.Store tx.old.conn tx.new.conn result
+        (Tells branch (Rewards at purchases cents)) }
     ensures decided { IfOk result (λ reply. IsDecision (seen_reply reply)) }
 {
     if purchases == 0 || cents == 0 {

@@ -3,8 +3,7 @@
 ghost use Rattle.std.specs.Prelude.{◌≡◌, ℕ, ℤ, ◌+◌, ◌*◌, ◌≤◌, List, Some, length, IfOk, OnOk};
 ghost use Rattle.std.specs.BTreeMap.{Updates, get};
 ghost use Rattle.std.specs.Ordering.{nat_cmp};
-ghost use Rattle.sqlite.specs.Held.{state};
-ghost use Rattle.sql_rows.specs.Calls.{StaysWithin};
+ghost use Rattle.sql_rows.specs.Calls.{DoesWithin};
 ghost use Rattle.shop_model.specs.Calendar.{month_before, seconds_of};
 ghost use Rattle.shop_model.specs.Books.{shop_of};
 ghost use Rattle.shop_model.specs.Stock.{rewarded_in};
@@ -39,9 +38,9 @@ pub fn find_rewarded<S: Alter>(
     purchases: u32,
     cents: u32,
 ) -> Result<Vec<CustomerNo>, StoreFault>
-    ensures inside { StaysWithin S.Store tx.old.conn tx.new.conn result }
-    ensures found { Finds (state S.Store tx.old.conn.now) (state S.Store tx.new.conn.now) result
-        (λ customers books. customers.items ≡ rewarded_in (month_before at) (shop_of branch books) purchases cents) }
+    ensures { DoesWithin S.Store tx.old.conn tx.new.conn result
+        (λ customers. Finds (λ books. customers.items
+        ≡ rewarded_in (month_before at) (shop_of branch books) purchases cents)) }
 {
     let Some(month) = last_month(at) else {
         return Ok(Vec::new(alloc));

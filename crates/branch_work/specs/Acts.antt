@@ -6,7 +6,7 @@ use Rattle.shop_model.specs.Values.{Text, Act, Command, Rules}
 use Rattle.shop_model.specs.Machine.{films_in}
 use Rattle.shop_model.specs.Books.{Books}
 use Rattle.shop_schema.specs.Counts.{counts_of, is_count, raise}
-use Rattle.shop_schema.specs.Shop.{Holds, Tallies, Writes}
+use Rattle.shop_schema.specs.Shop.{Holds, Tallies}
 use Rattle.shop_ledger.specs.declared.counts.CountKind.{CountKind}
 use Rattle.shop_ledger.specs.declared.counts.CountKind.TheVariants as kind
 use Rattle.shop_ledger.specs.Counted.{kind_number, CountsOnce}
@@ -17,10 +17,6 @@ use Rattle.branch_work.specs.Added.{IsActed, with_kept}
 abbrev pub Takes : ℕ → CountKind → ℕ → State → State → Type 0
 Takes b of_kind number old new =
     Tallies old new (CountsOnce b of_kind) (raise b (kind_number of_kind) 1) (λ counts. map (λ it. it.last + 1) (filter (is_count b (kind_number of_kind)) counts.counters) ≡ number ∷ [])
-
--- from books of which this is given, beside any counts, the tables come to stand for these
-abbrev pub Makes : (Books → Type 0) → (Books → Books) → State → State → Type 0
-Makes Given change old new = Writes old new Given change
 
 -- the command is kept with its reply, and its moment is the branch's last
 abbrev pub Keeps : ℕ → Command → Text → State → State → Type 0

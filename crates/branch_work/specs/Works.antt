@@ -64,14 +64,14 @@ abbrev pub IsKnown : Bool → ℕ → Catalogue → Type 0
 IsKnown is_known b catalogue = IsTrue is_known → lacks catalogue.branches b ≡ false
 
 -- where that is so, and the films that are known then are rows of the same books
-abbrev pub Works : Limits → ℕ → Bool → Request → Work Listing → KnownFilms → KnownFilms → State → State → Type 0
-Works limits b is_known request it before after old new =
+abbrev pub Works : Limits → ℕ → Bool → Request → KnownFilms → KnownFilms → Work Listing → State → State → Type 0
+Works limits b is_known request before after it old new =
     (books : Books) → Holds old books → IsHeldWith before books → IsKnown is_known b books.catalogue
     → HasCome (listed b) limits (Counter b) request it new books × AreRows after books.catalogue.films
 
 -- the same of a branch that is there and stands so
-abbrev pub WorksFor : Limits → ℕ → Standing → Request → Answered → KnownFilms → KnownFilms → State → State → Type 0
-WorksFor limits b standing request it before after old new =
+abbrev pub WorksFor : Limits → ℕ → Standing → Request → KnownFilms → KnownFilms → Answered → State → State → Type 0
+WorksFor limits b standing request before after it old new =
     (books : Books) → Holds old books → IsHeldWith before books → HasStanding b books standing
     → IsDone limits (Counter b) request it new books × AreRows after books.catalogue.films
 

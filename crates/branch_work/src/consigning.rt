@@ -6,9 +6,10 @@ ghost use Rattle.sql_rows.specs.Calls.{DoesWithin};
 ghost use Rattle.shop_model.specs.Rows.{AreNumbered, is_of, set_rows};
 ghost use Rattle.shop_model.specs.Values as model;
 ghost use Rattle.shop_model.specs.Books.{put_state};
+ghost use Rattle.shop_ledger.specs.Calls.{Stores};
 ghost use Rattle.shop_store.specs.Seen.{seen_copy_row};
 ghost use Rattle.branch_core.specs.Consigned.{come_copy, made_from};
-ghost use Rattle.branch_work.specs.Acts.{ActsAlways, Makes};
+ghost use Rattle.branch_work.specs.Acts.{ActsAlways};
 
 use crate::importing::first_of;
 use branch_core::{ArrivalFound, arrived_lines};
@@ -72,7 +73,7 @@ fn set_sent<S: Alter>(
     copies: &[CopyNo],
 ) -> Result<(), StoreFault>
     ensures { DoesWithin S.Store tx.old.conn tx.new.conn result
-        (λ _. Makes (λ books. AreNumbered (is_of branch) (λ row. row.number) books.copies)
+        (λ _. Stores (λ books. AreNumbered (is_of branch) (λ row. row.number) books.copies)
         (λ books. record books { copies = set_rows branch copies.now (put_state model.Sent) books.copies })) }
 {
     for copy in copies {
@@ -127,7 +128,7 @@ fn put_come<S: Alter>(
     requires first { first ≤ 1_000_001 }
     requires few { length come.now ≤ 100 }
     ensures { DoesWithin S.Store tx.old.conn tx.new.conn result
-        (λ _. Makes (λ _. ⊤)
+        (λ _. Stores (λ _. ⊤)
         (λ books. record books { copies = books.copies ++ made_from branch first (map come_copy come.now) })) }
 {
     let mut number = first.get();

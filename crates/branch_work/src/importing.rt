@@ -3,10 +3,11 @@
 ghost use Rattle.std.specs.Prelude.{◌≡◌, ⊤, ◌+◌, ◌≤◌, ◌++◌, map, replicate, string_bytes, vec_len, IfOk, OnOk};
 ghost use Rattle.sql_rows.specs.Calls.{DoesWithin};
 ghost use Rattle.shop_model.specs.Books.{imported};
+ghost use Rattle.shop_ledger.specs.Calls.{Stores};
 ghost use Rattle.shop_store.specs.Seen.{seen_copy_row};
 ghost use Rattle.branch_core.specs.StockLists.{copies_of, films_of};
 ghost use Rattle.branch_work.specs.Added.{copies_from};
-ghost use Rattle.branch_work.specs.Acts.{Imports, Makes};
+ghost use Rattle.branch_work.specs.Acts.{Imports};
 
 use branch_core::{StockFound, copies_in};
 use shop_ledger::{Count, CountKind, take_numbers};
@@ -110,7 +111,7 @@ fn new_copy(branch: BranchNo, number: u32, film: FilmNo) -> CopyRow
 /// Writes the copies, in their order.
 fn put_copies<S: Alter>(tx: &mut Transaction<'_, S>, copies: &[CopyRow]) -> Result<(), StoreFault>
     ensures { DoesWithin S.Store tx.old.conn tx.new.conn result
-        (λ _. Makes (λ _. ⊤) (λ books. record books { copies = books.copies ++ map seen_copy_row copies.now })) }
+        (λ _. Stores (λ _. ⊤) (λ books. record books { copies = books.copies ++ map seen_copy_row copies.now })) }
 {
     for row in copies {
         put_copy(tx, *row)?;

@@ -1,9 +1,7 @@
 //! A branch's request inside one transaction.
 
 ghost use Rattle.std.specs.Prelude.{◌≡◌, false, true, IfOk};
-ghost use Rattle.sqlite.specs.Held.{state};
-ghost use Rattle.sqlite.specs.State.{HasCleanDisk};
-ghost use Rattle.sql_rows.specs.Calls.{StaysInside, StaysWithin};
+ghost use Rattle.sql_rows.specs.Calls.{DoesInside, DoesWithin};
 ghost use Rattle.shop_model.specs.Calendar.{IsMoment};
 ghost use Rattle.shop_model.specs.Machine.{Do};
 ghost use Rattle.shop_types.specs.Seen.{seen_command, seen_request};
@@ -34,10 +32,8 @@ pub fn answer_branch<S: Alter>(
     is_known: bool,
     request: &Request,
 ) -> Result<Work<Listing>, StoreFault>
-    ensures inside { StaysInside S.Store tx.old.conn tx.new.conn result }
-    ensures works { HasCleanDisk (state S.Store tx.new.conn.now)
-        → IfOk result (λ work. Works limits branch is_known (seen_request request.now) work films.old films.new
-        (state S.Store tx.old.conn.now) (state S.Store tx.new.conn.now)) }
+    ensures does { DoesInside S.Store tx.old.conn tx.new.conn result
+        (Works limits branch is_known (seen_request request.now) films.old films.new) }
     ensures decided { IfOk result TellsDecision }
 {
     if is_known {
@@ -60,10 +56,8 @@ fn answer_where_found<S: Alter>(
     branch: BranchNo,
     request: &Request,
 ) -> Result<Work<Listing>, StoreFault>
-    ensures inside { StaysInside S.Store tx.old.conn tx.new.conn result }
-    ensures works { HasCleanDisk (state S.Store tx.new.conn.now)
-        → IfOk result (λ work. Works limits branch false (seen_request request.now) work films.old films.new
-        (state S.Store tx.old.conn.now) (state S.Store tx.new.conn.now)) }
+    ensures does { DoesInside S.Store tx.old.conn tx.new.conn result
+        (Works limits branch false (seen_request request.now) films.old films.new) }
     ensures decided { IfOk result TellsDecision }
 {
     let Some(standing) = standing_at(tx, branch)? else {
@@ -96,10 +90,8 @@ fn answer_command<S: Alter>(
     standing: Standing,
     command: &Command,
 ) -> Result<Answered, StoreFault>
-    ensures inside { StaysWithin S.Store tx.old.conn tx.new.conn result }
-    ensures works { HasCleanDisk (state S.Store tx.new.conn.now)
-        → IfOk result (λ done. WorksFor limits branch standing (Do (seen_command command.now)) done films.old
-        films.new (state S.Store tx.old.conn.now) (state S.Store tx.new.conn.now)) }
+    ensures does { DoesWithin S.Store tx.old.conn tx.new.conn result
+        (WorksFor limits branch standing (Do (seen_command command.now)) films.old films.new) }
     ensures decided { IfOk result (λ done. IsDecision (seen_reply done.reply)) }
 {
     let form = form_of(alloc, command)?;
@@ -127,10 +119,8 @@ fn answer<S: Alter>(
     found: &Found<'_>,
 ) -> Result<Answered, StoreFault>
     requires form { form.now ≡ command_form (seen_command command.now) }
-    ensures inside { StaysWithin S.Store tx.old.conn tx.new.conn result }
-    ensures works { HasCleanDisk (state S.Store tx.new.conn.now)
-        → IfOk result (λ done. WorksBy limits branch (seen_command command.now) found.now done
-        (state S.Store tx.old.conn.now) (state S.Store tx.new.conn.now)) }
+    ensures does { DoesWithin S.Store tx.old.conn tx.new.conn result
+        (WorksBy limits branch (seen_command command.now) found.now) }
     ensures decided { IfOk result (λ done. IsDecision (seen_reply done.reply)) }
 {
     match decide(branch, command, found, limits) {
@@ -162,11 +152,9 @@ fn add<S: Alter>(
     rows: &RowsFound,
 ) -> Result<Answered, StoreFault>
     requires form { form.now ≡ command_form (seen_command command.now) }
-    ensures inside { StaysWithin S.Store tx.old.conn tx.new.conn result }
-    ensures added { HasCleanDisk (state S.Store tx.new.conn.now)
-        → IfOk result (λ done. (done.is_changed ≡ true)
-        × ((limits : _) → IsAdded limits branch (seen_command command.now) rows.now (seen_reply done.reply)
-        (state S.Store tx.old.conn.now) (state S.Store tx.new.conn.now))) }
+    ensures does { DoesWithin S.Store tx.old.conn tx.new.conn result
+        (λ done old new. (done.is_changed ≡ true)
+        × ((limits : _) → IsAdded limits branch (seen_command command.now) rows.now (seen_reply done.reply) old new)) }
     ensures decided { IfOk result (λ done. IsDecision (seen_reply done.reply)) }
 {
     let text = carry_out(alloc, tx, branch, command, rows)?;

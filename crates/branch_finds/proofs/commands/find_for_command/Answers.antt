@@ -1,10 +1,13 @@
-use Rattle.shop_schema.proofs.Readings.{reads_as}
-use Rattle.consign_finds.proofs.Chained.{call_inside, call_within, calls_then}
+use Rattle.shop_schema.proofs.Common.{and_then, done, some_calls}
+use Rattle.sql_rows.proofs.Chaining.{one_call}
 use Rattle.branch_finds.proofs.commands.find_for_command.Goals as goal
 
-pub returns-clause-found : goal.returns-clause-found
-returns-clause-found g c = λ clean.
-    let calls = calls_then (call_inside c.in_ok-staff.ensures.inside c.in_ok-staff.ensures.found) (call_within c.in_ok-rows.ensures.inside c.in_ok-rows.ensures.found) in
-    reads_as _ _ _ _ (λ books held is. λ known.
-    let it = is.1 known in
-    (((λ rules reads kept stands. record { kept = kept; keys = stands.keys; last = stands.last; staff = is.0; act = it.0.0 rules reads }), it.0.1), it.1)) (calls.found clean)
+pub returns : goal.returns
+returns g c = done (and_then (one_call c.in_ok-staff.ensures) (some_calls c.in_ok-rows.ensures)) (λ said books holds held.
+    let staff = said.0 books holds held in
+    let rows = said.1 books staff.0 held in (
+      rows.0,
+      λ known.
+          let it = rows.1 known in
+          (((λ rules reads kept stands. record { kept = kept; keys = stands.keys; last = stands.last; staff = staff.1; act = it.0.0 rules reads }), it.0.1), it.1),
+    ))

@@ -1,9 +1,10 @@
-use Rattle.shop_schema.proofs.Readings.{reads_as}
-use Rattle.consign_finds.proofs.Chained.{call_inside, call_within, calls_then}
+use Rattle.shop_schema.proofs.Common.{and_then, done, some_calls}
+use Rattle.sql_rows.proofs.Chaining.{one_call}
 use Rattle.branch_finds.proofs.commands.find_for_rental.Goals as goal
 
-pub returns-clause-found : goal.returns-clause-found
-returns-clause-found g c = λ clean.
-    let first = calls_then (call_inside c.in_ok-is_active.ensures.inside c.in_ok-is_active.ensures.found) (call_within c.in_ok-found.ensures.inside c.in_ok-found.ensures.found) in
-    let calls = calls_then first (call_inside c.in_ok-has_same.ensures.inside c.in_ok-has_same.ensures.found) in
-    reads_as _ _ _ _ (λ books held is. λ known. let it = is.0.1 known in ((λ rules reads. record { customer = is.0.0; copy = it.0.0; terms = it.0.1; same = is.1 }, tt), it.1)) (calls.found clean)
+pub returns : goal.returns
+returns g c = done (and_then (one_call c.in_ok-is_active.ensures) (and_then (some_calls c.in_ok-found.ensures) (one_call c.in_ok-has_same.ensures))) (λ said books holds held.
+    let active = said.0 books holds held in
+    let found = said.1.0 books active.0 held in
+    let same = said.1.1 books found.0 held in
+    (same.0, λ known. let it = found.1 known in ((λ rules reads. record { customer = active.1; copy = it.0.0; terms = it.0.1; same = same.1 }, tt), it.1)))

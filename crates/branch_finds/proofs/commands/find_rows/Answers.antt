@@ -1,24 +1,30 @@
-use Rattle.shop_schema.proofs.Readings.{reads_as}
-use Rattle.branch_finds.proofs.Knowing.{finds_beside}
+use Rattle.shop_schema.proofs.Common.{does_such, done, some_calls}
+use Rattle.sql_rows.proofs.Chaining.{one_call}
 use Rattle.branch_finds.proofs.commands.find_rows.Goals as goal
 
-pub returns-in_ok-has_city-in-Customer-clause-found : goal.returns-in_ok-has_city-in-Customer-clause-found
-returns-in_ok-has_city-in-Customer-clause-found g c = λ clean. reads_as _ _ _ _ (λ books held is. λ known. rw c.in-Customer.is ((λ rules reads. is, tt), known)) (c.in_ok-has_city-in-Customer.ensures.found clean)
+pub returns-in_ok-has_city-in-Customer : goal.returns-in_ok-has_city-in-Customer
+returns-in_ok-has_city-in-Customer g c = rw c.in-Customer.is (done (one_call c.in_ok-has_city-in-Customer.ensures) (λ said books holds held. let it = said books holds held in (it.0, λ known. ((λ rules reads. it.1, tt), known))))
 
-pub returns-in_ok-active_at-in-Active-clause-found : goal.returns-in_ok-active_at-in-Active-clause-found
-returns-in_ok-active_at-in-Active-clause-found g c = λ clean. reads_as _ _ _ _ (λ books held is. λ known. rw c.in-Active.is ((λ rules reads. is, tt), known)) (c.in_ok-active_at-in-Active.ensures.found clean)
+pub returns-in_ok-active_at-in-Active : goal.returns-in_ok-active_at-in-Active
+returns-in_ok-active_at-in-Active g c = rw c.in-Active.is (done (one_call c.in_ok-active_at-in-Active.ensures) (λ said books holds held. let it = said books holds held in (it.0, λ known. ((λ rules reads. it.1, tt), known))))
 
-pub returns-in_ok-find_rental-in-TakeBack-clause-found : goal.returns-in_ok-find_rental-in-TakeBack-clause-found
-returns-in_ok-find_rental-in-TakeBack-clause-found g c = λ clean. reads_as _ _ _ _ (λ books held is. λ known. rw c.in-TakeBack.is ((λ rules reads. is, tt), known)) (c.in_ok-find_rental-in-TakeBack.ensures.found clean)
+pub returns-in-Rent : goal.returns-in-Rent
+returns-in-Rent g c = rw c.in-Rent.is c.find_for_rental.ensures
 
-pub returns-in_ok-find_copy-in-Scrap-clause-found : goal.returns-in_ok-find_copy-in-Scrap-clause-found
-returns-in_ok-find_copy-in-Scrap-clause-found g c = λ clean. reads_as _ _ _ _ (λ books held is. λ known. rw c.in-Scrap.is ((λ rules reads. (is known).0.0, tt), (is known).1)) (c.in_ok-find_copy-in-Scrap.ensures.found clean)
+pub returns-in_ok-find_rental-in-TakeBack : goal.returns-in_ok-find_rental-in-TakeBack
+returns-in_ok-find_rental-in-TakeBack g c = rw c.in-TakeBack.is (done (some_calls c.in_ok-find_rental-in-TakeBack.ensures) (λ said books holds held. let it = said books holds held in (it.0, λ known. ((λ rules reads. it.1, tt), known))))
 
-pub returns-in-Pay-clause-found : goal.returns-in-Pay-clause-found
-returns-in-Pay-clause-found g c = rw c.in-Pay.is (finds_beside _ _ _ c.args.films.now _ (c.find_for_payment.ensures.found c.args.command.now.at c.in-Pay.amount))
+pub returns-in-Pay : goal.returns-in-Pay
+returns-in-Pay g c = rw c.in-Pay.is (does_such c.find_for_payment.ensures (λ found old new reads books holds held. let it = reads c.args.command.now.at c.in-Pay.amount books holds held in (it.0, λ known. (it.1, known))))
 
-pub returns-in-Dispatch-clause-found : goal.returns-in-Dispatch-clause-found
-returns-in-Dispatch-clause-found g c = rw c.in-Dispatch.is (finds_beside _ _ _ c.args.films.now _ (c.find_for_dispatch.ensures.found c.args.command.now.at))
+pub returns-in-Import : goal.returns-in-Import
+returns-in-Import g c = rw c.in-Import.is (does_such c.find_for_import.ensures (λ found old new reads. reads c.args.command.now.at))
 
-pub returns-in-Receive-clause-found : goal.returns-in-Receive-clause-found
-returns-in-Receive-clause-found g c = rw c.in-Receive.is (finds_beside _ _ _ c.args.films.now _ (c.find_for_receipt.ensures.found c.args.command.now.at c.in-Receive.missing))
+pub returns-in-Dispatch : goal.returns-in-Dispatch
+returns-in-Dispatch g c = rw c.in-Dispatch.is (does_such c.find_for_dispatch.ensures (λ found old new reads books holds held. let it = reads c.args.command.now.at books holds held in (it.0, λ known. (it.1, known))))
+
+pub returns-in-Receive : goal.returns-in-Receive
+returns-in-Receive g c = rw c.in-Receive.is (does_such c.find_for_receipt.ensures (λ found old new reads books holds held. let it = reads c.args.command.now.at c.in-Receive.missing books holds held in (it.0, λ known. (it.1, known))))
+
+pub returns-in_ok-find_copy-in-Scrap : goal.returns-in_ok-find_copy-in-Scrap
+returns-in_ok-find_copy-in-Scrap g c = rw c.in-Scrap.is (done (some_calls c.in_ok-find_copy-in-Scrap.ensures) (λ said books holds held. let it = said books holds held in (it.0, λ known. ((λ rules reads. (it.1 known).0.0, tt), (it.1 known).1))))

@@ -1,14 +1,14 @@
-use Rattle.shop_schema.proofs.Common.{◌∙◌, sym, ap, option_to_list, IfOk-weaker, state, head, shop_of}
-use Rattle.shop_schema.proofs.Readings.{reads_as, reads_none}
+use Rattle.shop_schema.proofs.Common.{◌∙◌, sym, ap, option_to_list, does_such, within_none, head, shop_of}
 use Rattle.branch_finds.proofs.Shows.{held_at, none_held}
 use Rattle.branch_finds.proofs.finds.find_holder.Goals as goal
 
-pub returns-in-Some-clause-found : goal.returns-in-Some-clause-found
-returns-in-Some-clause-found g c = λ copy clean.
-    IfOk-weaker c.find_renter.result _ _ (λ renter reads. reads_as (state g.S.Store c.args.tx.now.conn.now) (state g.S.Store c.find_renter.new.tx.conn.now) _ _
-    (λ books held is. λ out. is ∙ sym (ap head (held_at c.in-Some.rental copy (shop_of c.args.branch books).rentals (sym (ap option_to_list c.in-Some.is) ∙ out)))) reads) (c.find_renter.ensures.found clean)
+pub returns-in-Some : goal.returns-in-Some
+returns-in-Some g c = does_such c.find_renter.ensures (λ renter old new reads copy books holds held.
+    let found = reads books holds held in
+    (found.0, λ out. found.1 ∙ sym (ap head (held_at c.in-Some.rental copy (shop_of c.args.branch books).rentals (sym (ap option_to_list c.in-Some.is) ∙ out)))))
 
-pub returns-in-None-clause-found : goal.returns-in-None-clause-found
-returns-in-None-clause-found g c = λ copy clean.
-    reads_none (state g.S.Store c.args.tx.now.conn.now) _
-    (λ books held. λ out. sym (ap head (none_held 1 copy (shop_of c.args.branch books).rentals (sym (ap option_to_list c.in-None.is) ∙ out))))
+pub returns-in-None : goal.returns-in-None
+returns-in-None g c = record {
+  inside = within_none;
+  says = λ clean copy books holds held. (holds, λ out. sym (ap head (none_held 1 copy (shop_of c.args.branch books).rentals (sym (ap option_to_list c.in-None.is) ∙ out))));
+}

@@ -1,6 +1,6 @@
-use Rattle.shop_schema.proofs.Common.{◌∙◌, sym, ap, ℕ, Bool, Option, Some, option_map, is_some, Rental, seen_rental}
+use Rattle.shop_schema.proofs.Common.{◌∙◌, sym, ap, ℕ, Bool, Option, Some, option_map, is_some, done, Rental, seen_rental}
+use Rattle.sql_rows.proofs.Chaining.{one_call}
 use Rattle.shop_store.specs.declared.rentals.RentalRow.{RentalRow}
-use Rattle.shop_schema.proofs.Readings.{reads_as}
 use Rattle.branch_finds.proofs.Lookings.{head_of}
 use Rattle.branch_finds.proofs.finds.find_rental.Goals as goal
 
@@ -10,10 +10,12 @@ shown it = (it.customer, it.copy, is_some it.returned)
 abbrev told : Option RentalRow → Option (ℕ × ℕ × Bool)
 told o = option_map (λ (it : RentalRow). shown (seen_rental it.rental)) o
 
-pub returns-in-Some-clause-found : goal.returns-in-Some-clause-found
-returns-in-Some-clause-found g c = λ clean.
-    reads_as _ _ _ _ (λ books held is. ap Some c.rental_found.ensures ∙ sym (ap told c.in-Some.is) ∙ head_of (λ (it : RentalRow). seen_rental it.rental) shown c.in_ok-row.field-0 _ is) (c.in_ok-row.ensures.row clean)
+pub returns-in-Some : goal.returns-in-Some
+returns-in-Some g c = done (one_call c.in_ok-row.ensures) (λ said books holds held.
+    let row = said books holds held in
+    (row.0, ap Some c.rental_found.ensures ∙ sym (ap told c.in-Some.is) ∙ head_of (λ (it : RentalRow). seen_rental it.rental) shown c.in_ok-row.field-0 _ row.1))
 
-pub returns-in-None-clause-found : goal.returns-in-None-clause-found
-returns-in-None-clause-found g c = λ clean.
-    reads_as _ _ _ _ (λ books held is. sym (ap told c.in-None.is) ∙ head_of (λ (it : RentalRow). seen_rental it.rental) shown c.in_ok-row.field-0 _ is) (c.in_ok-row.ensures.row clean)
+pub returns-in-None : goal.returns-in-None
+returns-in-None g c = done (one_call c.in_ok-row.ensures) (λ said books holds held.
+    let row = said books holds held in
+    (row.0, sym (ap told c.in-None.is) ∙ head_of (λ (it : RentalRow). seen_rental it.rental) shown c.in_ok-row.field-0 _ row.1))

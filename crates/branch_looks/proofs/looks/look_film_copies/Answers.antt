@@ -1,7 +1,8 @@
-use Rattle.shop_schema.proofs.Common.{◌≡◌, ◌∙◌, refl, sym, ap, subst, arith, ℕ, true, false, Bool, map, Some, None, state, HasCleanDisk, inside_as, inside_err, inside_then, NoFilm, Decision, Catalogue, Shop, CopiesAre, Sorry, Shows, look, answer_of, accepted_answer, head, shop_of, at, film_in_stock, film_not_in_stock}
+use Rattle.shop_schema.proofs.Common.{◌≡◌, ◌∙◌, refl, sym, ap, subst, ℕ, true, false, Bool, map, Some, None, some_calls, NoFilm, Decision, Catalogue, Shop, CopiesAre, Sorry, Shows, look, answer_of, accepted_answer, head, shop_of, at, film_in_stock, film_not_in_stock}
 use Rattle.shop_store.specs.SharedSeen.{withdrawn_of}
 use Rattle.branch_core.specs.Agreed.{AreOfFilm}
 use Rattle.branch_looks.specs.Looks.{stock_asked, stock_listed}
+use Rattle.branch_reports.proofs.Firsts.{first_done, one_done}
 use Rattle.branch_reports.proofs.Given.{given_none, given_some}
 use Rattle.branch_reports.proofs.Decisions.{accepted_told, refused_told}
 use Rattle.branch_looks.proofs.looks.look_film_copies.Goals as goal
@@ -14,36 +15,23 @@ film_shown : (is_in : Bool) (b film : ℕ) (catalogue : Catalogue) (shop : Shop)
 film_shown true b film catalogue shop w is = given_some NoFilm (CopiesAre (film_in_stock film shop)) withdrawn_of (at film catalogue.films) w is
 film_shown false b film catalogue shop w is = given_some NoFilm (CopiesAre (film_not_in_stock film shop)) withdrawn_of (at film catalogue.films) w is
 
-pub returns-in-Ok-clause-shown : goal.returns-in-Ok-clause-shown
-returns-in-Ok-clause-shown g c = λ clean books holds held.
+pub returns-in-Ok-clause-does : goal.returns-in-Ok-clause-does
+returns-in-Ok-clause-does g c = first_done c.in_ok-film_withdrawn.ensures (some_calls c.in_ok-copies.ensures) (λ withdrawn said books holds held.
     let b = c.args.branch in
     let film = c.args.film in
     let shop = shop_of b books in
-    let s1 = state g.S.Store c.film_withdrawn.new.tx.conn.now in
-    let before : HasCleanDisk s1 = omega (arith, clean, c.in_ok-copies.ensures.inside.survives.clean) in
-    let found = c.in_ok-film_withdrawn.ensures.found before books holds held in
-    let copies = c.in_ok-copies.ensures.found clean books found.0 held in
+    let found = withdrawn books holds held in
+    let copies = said books found.0 held in
     let are : AreOfFilm film shop c.as_slice.result.now = subst (AreOfFilm film shop) (sym c.as_slice.ensures.value) copies.1 in (
       copies.0,
       c.accepted.ensures ∙ ap accepted_answer (c.in-Ok.ensures film shop are) ∙ ap answer_of (sym (film_shown c.args.is_in b film books.catalogue shop _ (sym c.in-Some.is ∙ found.1))),
-    )
+    ))
 
-pub returns-in_default-clause-shown : goal.returns-in_default-clause-shown
-returns-in_default-clause-shown g c = λ clean books holds held.
+pub returns-in_default-clause-does : goal.returns-in_default-clause-does
+returns-in_default-clause-does g c = one_done c.in_ok-film_withdrawn.ensures (λ withdrawn books holds held.
     let b = c.args.branch in
-    let found = c.in_ok-film_withdrawn.ensures.found clean books holds held in (
-      found.0,
-      c.refused.ensures ∙ ap answer_of (sym (no_film c.args.is_in b c.args.film books.catalogue (shop_of b books) (sym c.in_default.is ∙ found.1))),
-    )
-
-pub returns-in_err-copies-clause-inside : goal.returns-in_err-copies-clause-inside
-returns-in_err-copies-clause-inside g c = inside_err (inside_then c.in_ok-film_withdrawn.ensures.inside c.find_of_film.ensures.inside) c.from_residual-in_err-copies.ensures.0
-
-pub returns-clause-inside : goal.returns-clause-inside
-returns-clause-inside g c = inside_err (inside_then c.in_ok-film_withdrawn.ensures.inside c.in_ok-copies.ensures.inside) refl
-
-pub returns-in-Ok-clause-inside : goal.returns-in-Ok-clause-inside
-returns-in-Ok-clause-inside g c = inside_as (inside_then c.in_ok-film_withdrawn.ensures.inside c.in_ok-copies.ensures.inside)
+    let found = withdrawn books holds held in
+    (found.0, c.refused.ensures ∙ ap answer_of (sym (no_film c.args.is_in b c.args.film books.catalogue (shop_of b books) (sym c.in_default.is ∙ found.1)))))
 
 pub returns-in-Ok-clause-decided : goal.returns-in-Ok-clause-decided
 returns-in-Ok-clause-decided g c = accepted_told _ _ c.accepted.ensures

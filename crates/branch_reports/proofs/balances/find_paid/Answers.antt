@@ -1,8 +1,8 @@
-use Rattle.shop_schema.proofs.Common.{◌≡◌, ◌∙◌, ◌+◌, ◌++◌, ◌∷◌, [], List, take, map, sym, ap, take_more, take_all, map-append, state, map-map, Payment, seen_payment}
+use Rattle.shop_schema.proofs.Common.{◌≡◌, ◌∙◌, ◌+◌, ◌++◌, ◌∷◌, [], List, take, map, sym, ap, take_more, take_all, map-append, done, map-map, Payment, seen_payment}
+use Rattle.sql_rows.proofs.Chaining.{one_call}
 use Rattle.shop_store.specs.declared.payments.PaymentRow.{PaymentRow}
 use Rattle.balance_rule.specs.declared.rows.Paid.{Paid}
 use Rattle.balance_rule.specs.Balance.{paid_of}
-use Rattle.shop_schema.proofs.Readings.{reads_as}
 use Rattle.branch_reports.proofs.balances.find_paid.Goals as goal
 
 abbrev paid : PaymentRow → Paid
@@ -20,10 +20,10 @@ loop-row-preserved g c =
     ap (map paid) (take_more rows i it c.loop-row-test.true ∙ ap (λ (x : PaymentRow). take i rows ++ x ∷ []) (sym c.row-item.is)) ∙ map-append paid (take i rows) (it ∷ []) in
     c.in_ok-push.ensures.items ∙ ap (λ (p : Paid). c.loop-row.payments.items ++ p ∷ []) c.paid_by.ensures ∙ ap (λ (rs : List Paid). rs ++ paid it ∷ []) c.loop-row.invariant ∙ sym more
 
-pub returns-clause-found : goal.returns-clause-found
-returns-clause-found g c = λ clean.
+pub returns : goal.returns
+returns g c = done (one_call c.in_ok-rows.ensures) (λ said books holds held.
+    let found = said books holds held in
     let rows = c.in_ok-rows.rows.items in
     let all : c.loop-row.payments.items ≡ map paid rows =
     c.loop-row.invariant ∙ ap (map paid) (take_all c.loop-row.row-index c.deref-row-items.result.now c.loop-row-test.false ∙ c.deref-row-items.ensures.value) in
-    reads_as (state g.S.Store c.args.tx.now.conn.now) (state g.S.Store c.payments_of_customer.new.tx.conn.now) _ _
-    (λ books held is. all ∙ sym (map-map paid_of (λ (row : PaymentRow). seen_payment row.payment) rows) ∙ ap (λ (ps : List Payment). map paid_of ps) is) (c.in_ok-rows.ensures.rows clean)
+    (found.0, all ∙ sym (map-map paid_of (λ (row : PaymentRow). seen_payment row.payment) rows) ∙ ap (λ (ps : List Payment). map paid_of ps) found.1))

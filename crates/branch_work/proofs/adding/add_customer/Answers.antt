@@ -1,11 +1,12 @@
-use Rattle.shop_schema.proofs.Common.{◌≡◌, ◌≤◌, ◌∙◌, ◌∷◌, ◌++◌, [], ℕ, true, ap, subst, arith, codes, decimal, state, and_then, call, done, some_calls, object, next, Customer, seen_customer, seen_person, HoldsWith, counts_of, raise}
+use Rattle.shop_schema.proofs.Common.{◌≡◌, ◌≤◌, ◌∙◌, ◌∷◌, ◌++◌, [], ℕ, true, ap, subst, arith, codes, decimal, state, and_then, done, some_calls, object, next, Customer, seen_customer, seen_person, HoldsWith, counts_of, raise}
+use Rattle.sql_rows.proofs.Chaining.{one_call}
 use Rattle.shop_ledger.specs.declared.counts.CountKind.TheVariants as kind
 use Rattle.shop_ledger.proofs.CountsOf.{beside, held_once, told_more}
 use Rattle.branch_work.proofs.Counting.{customer_added}
 use Rattle.branch_work.proofs.adding.add_customer.Goals as goal
 
 pub returns : goal.returns
-returns g c = done (and_then (some_calls c.in_ok-number.ensures) (call c.in_ok-put_customer.ensures.inside c.in_ok-put_customer.ensures.put)) (λ said rules found given books holds held agrees marked.
+returns g c = done (and_then (some_calls c.in_ok-number.ensures) (one_call c.in_ok-put_customer.ensures)) (λ said rules found given books holds held agrees marked.
     let b = c.args.branch in
     let low : 1 ≤ b = omega arith in
     let n = c.in_ok-number.number in

@@ -1,4 +1,5 @@
-use Rattle.shop_schema.proofs.Common.{◌≡◌, ◌≤◌, ◌+◌, ◌∙◌, ◌∷◌, [], None, ℕ, refl, ap, subst, arith, codes, decimal, and_then, call, done, some_calls, object, next, terms_now, shop_of, seen_terms, counts_of, raise}
+use Rattle.shop_schema.proofs.Common.{◌≡◌, ◌≤◌, ◌+◌, ◌∙◌, ◌∷◌, [], None, ℕ, refl, ap, subst, arith, codes, decimal, and_then, done, some_calls, object, next, terms_now, shop_of, seen_terms, counts_of, raise}
+use Rattle.sql_rows.proofs.Chaining.{one_call}
 use Rattle.shop_ledger.specs.declared.counts.CountKind.TheVariants as kind
 use Rattle.shop_ledger.proofs.CountsOf.{beside, held_once, told_more}
 use Rattle.branch_core.specs.Agreed.{HasTermsNow}
@@ -8,9 +9,9 @@ use Rattle.branch_work.proofs.adding.add_rental.Goals as goal
 pub returns : goal.returns
 returns g c = done
     (and_then (some_calls c.in_ok-number.ensures)
-    (and_then (call c.in_ok-put_rental.ensures.inside c.in_ok-put_rental.ensures.put)
-    (and_then (call c.in_ok-put_terms.ensures.inside c.in_ok-put_terms.ensures.put)
-    (call c.in_ok-put_out.ensures.inside c.in_ok-put_out.ensures.put))))
+    (and_then (one_call c.in_ok-put_rental.ensures)
+    (and_then (one_call c.in_ok-put_terms.ensures)
+    (one_call c.in_ok-put_out.ensures))))
     (λ said rules rows same books holds held agrees marked.
     let b = c.args.branch in
     let low : 1 ≤ b = omega arith in

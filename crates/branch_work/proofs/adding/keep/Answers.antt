@@ -1,10 +1,11 @@
-use Rattle.shop_schema.proofs.Common.{◌≤◌, arith, refl, sym, and_last, and_then, call, seen_command, counts_of, raise}
+use Rattle.shop_schema.proofs.Common.{◌≤◌, arith, refl, sym, and_last, and_then, seen_command, counts_of, raise}
+use Rattle.sql_rows.proofs.Chaining.{one_call}
 use Rattle.shop_ledger.proofs.CountsOf.{beside}
 use Rattle.branch_work.proofs.Counting.{kept_added}
 use Rattle.branch_work.proofs.adding.keep.Goals as goal
 
 pub returns : goal.returns
-returns g c = and_last (and_then (call c.in_ok-take_numbers.ensures.inside c.in_ok-take_numbers.ensures.taken) (call c.in_ok-put_kept.ensures.inside c.in_ok-put_kept.ensures.put)) c.set_last.ensures.inside c.set_last.ensures.set
+returns g c = and_last (and_then (one_call c.in_ok-take_numbers.ensures.does) (one_call c.in_ok-put_kept.ensures)) c.set_last.ensures.inside c.set_last.ensures.says
     (λ said y last books holds once.
     let b = c.args.branch in
     let low : 1 ≤ b = omega arith in

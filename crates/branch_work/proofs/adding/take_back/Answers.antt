@@ -1,4 +1,5 @@
-use Rattle.shop_schema.proofs.Common.{◌∙◌, sym, ap, option_map, Some, and_then, call, done, Rental, counts_of, drop_out}
+use Rattle.shop_schema.proofs.Common.{◌∙◌, sym, ap, option_map, Some, and_then, done, Rental, counts_of, drop_out}
+use Rattle.sql_rows.proofs.Chaining.{one_call}
 use Rattle.shop_ledger.proofs.CountsOf.{agreed, beside}
 use Rattle.shop_ledger.proofs.Agreeing.{returned_counted, its_rentals, out_once}
 use Rattle.branch_core.specs.Agreed.{seen_rental}
@@ -7,7 +8,7 @@ use Rattle.branch_work.proofs.TermLemmas.{set_termed}
 use Rattle.branch_work.proofs.adding.take_back.Goals as goal
 
 pub returns : goal.returns
-returns g c = done (and_then (call c.in_ok-set_returned.ensures.inside c.in_ok-set_returned.ensures.set) (call c.in_ok-drop_out.ensures.inside c.in_ok-drop_out.ensures.dropped)) (λ said rules rows same books holds held agrees marked.
+returns g c = done (and_then (one_call c.in_ok-set_returned.ensures) (one_call c.in_ok-drop_out.ensures)) (λ said rules rows same books holds held agrees marked.
     let b = c.args.branch in
     let r = c.args.rental in
     let x = c.in-Some.found.copy in

@@ -1,4 +1,5 @@
-use Rattle.shop_schema.proofs.Common.{◌≡◌, ◌∙◌, ◌+◌, ℕ, List, [], Option, length, map, filter, ap, sym, subst, IfSome, state, and_then, call, done, some_calls, between, is_consignment, ParcelLine, seen_parcel_line, add_pair, counts_of, Holds}
+use Rattle.shop_schema.proofs.Common.{◌≡◌, ◌∙◌, ◌+◌, ℕ, List, [], Option, length, map, filter, ap, sym, subst, IfSome, state, and_then, done, some_calls, between, is_consignment, ParcelLine, seen_parcel_line, add_pair, counts_of, Holds}
+use Rattle.sql_rows.proofs.Chaining.{one_call}
 use Rattle.shop_ledger.proofs.CountsOf.{beside}
 use Rattle.consign_store.proofs.PairCounts.{next_is_new, pair_last, pairs_once}
 use Rattle.branch_core.specs.Marked.{parts_at}
@@ -9,9 +10,9 @@ use Rattle.branch_work.proofs.consigning.dispatch.Goals as goal
 
 pub returns : goal.returns
 returns g c = done
-    (and_then (call c.in_ok-last.ensures.inside c.in_ok-last.ensures.last)
-    (and_then (call c.in_ok-number.ensures.inside c.in_ok-number.ensures.taken)
-    (and_then (call c.in_ok-put_consignment.ensures.inside c.in_ok-put_consignment.ensures.put)
+    (and_then (one_call c.in_ok-last.ensures)
+    (and_then (one_call c.in_ok-number.ensures)
+    (and_then (one_call c.in_ok-put_consignment.ensures)
     (some_calls c.in_ok-set_sent.ensures))))
     (λ said command rules found same books holds held agrees marked.
     let b = c.args.branch in

@@ -1,4 +1,5 @@
-use Rattle.shop_schema.proofs.Common.{◌≡◌, ◌∙◌, ◌+◌, ℕ, ap, arith, subst, sym, state, and_then, call, done, some_calls, within_none, HoldsWith}
+use Rattle.shop_schema.proofs.Common.{◌≡◌, ◌∙◌, ◌+◌, ℕ, ap, arith, subst, sym, state, and_then, done, some_calls, within_none, HoldsWith}
+use Rattle.sql_rows.proofs.Chaining.{one_call}
 use Rattle.shop_store.specs.Seen.{seen_copy_row}
 use Rattle.branch_core.specs.Consigned.{come_copy}
 use Rattle.branch_work.proofs.Writings.{writes_then, writes_as}
@@ -24,7 +25,7 @@ loop-line-preserved g c =
     let row : seen_copy_row c.come_copy.result ≡ record { branch = b; number = first + i; it = come_copy line (first + i) } =
     c.come_copy.ensures ∙ ap (λ (n : ℕ). record { branch = b; number = n; it = come_copy line n }) inv.0 in (
       omega (arith, inv.0),
-      done (and_then (some_calls inv.1) (call c.in_ok-put_copy.ensures.inside c.in_ok-put_copy.ensures.put)) (λ said.
+      done (and_then (some_calls inv.1) (one_call c.in_ok-put_copy.ensures)) (λ said.
           writes_as _ _ _ _ (λ books. one_come b first i c.args.come.now line c.come_copy.result books c.loop-line-test.true c.line-item.is row) (writes_then _ _ _ _ _ said.0 said.1)),
     )
 

@@ -1,4 +1,5 @@
-use Rattle.shop_schema.proofs.Common.{◌≡◌, ◌∙◌, ◌≤◌, ◌++◌, ◌∷◌, [], ℕ, List, Option, Some, length, map, filter, ap, sym, subst, arith, IfSome, state, and_then, call, done, some_calls, within_as, arrived, next, Consignment, checked, is_consignment, length_map, ParcelLine, counts_of, raise, Holds, HoldsWith}
+use Rattle.shop_schema.proofs.Common.{◌≡◌, ◌∙◌, ◌≤◌, ◌++◌, ◌∷◌, [], ℕ, List, Option, Some, length, map, filter, ap, sym, subst, arith, IfSome, state, and_then, done, some_calls, arrived, next, Consignment, checked, is_consignment, length_map, ParcelLine, counts_of, raise, Holds, HoldsWith}
+use Rattle.sql_rows.proofs.Chaining.{one_call}
 use Rattle.shop_model.specs.Rows.{update_where}
 use Rattle.shop_ledger.specs.declared.counts.CountKind.TheVariants as kind
 use Rattle.shop_ledger.proofs.CountsOf.{beside, held_once, told_more}
@@ -23,9 +24,9 @@ few_read missing read come lines come_is is few =
 
 pub returns : goal.returns
 returns g c = done
-    (and_then (call c.in_ok-last.ensures.inside c.in_ok-last.ensures.taken)
+    (and_then (one_call c.in_ok-last.ensures.does)
     (and_then (some_calls c.in_ok-put_come.ensures)
-    (record { Said = _; inside = within_as c.in_ok-mark_received.ensures.inside; said = c.in_ok-mark_received.ensures.set })))
+    (some_calls c.in_ok-mark_received.ensures)))
     (λ said command rules found same books holds held agrees marked.
     let b = c.args.branch in
     let low : 1 ≤ b = omega arith in

@@ -1,4 +1,5 @@
-use Rattle.shop_schema.proofs.Common.{◌≡◌, ◌≤◌, ◌+◌, ◌∙◌, ◌++◌, ◌∷◌, [], ℕ, List, codes, decimal, ap, sym, subst, arith, length, map, state, and_then, call, done, some_calls, object, Row, next, of, Text, BookCopy, unmarked, length_map, counts_of, raise, Holds, HoldsWith}
+use Rattle.shop_schema.proofs.Common.{◌≡◌, ◌≤◌, ◌+◌, ◌∙◌, ◌++◌, ◌∷◌, [], ℕ, List, codes, decimal, ap, sym, subst, arith, length, map, state, and_then, done, some_calls, object, Row, next, of, Text, BookCopy, unmarked, length_map, counts_of, raise, Holds, HoldsWith}
+use Rattle.sql_rows.proofs.Chaining.{one_call}
 use Rattle.shop_ledger.specs.declared.counts.CountKind.TheVariants as kind
 use Rattle.shop_store.specs.Seen.{seen_copy_row}
 use Rattle.shop_ledger.proofs.CountsOf.{beside, held_once, told_more}
@@ -14,9 +15,9 @@ import_text count first = object ((codes "copies", decimal count) ∷ (codes "fi
 
 pub returns : goal.returns
 returns g c = done
-    (and_then (call c.in_ok-last.ensures.inside c.in_ok-last.ensures.taken)
+    (and_then (one_call c.in_ok-last.ensures.does)
     (and_then (some_calls c.in_ok-put_copies.ensures)
-    (call c.in_ok-put_lot.ensures.inside c.in_ok-put_lot.ensures.put)))
+    (one_call c.in_ok-put_lot.ensures)))
     (λ said rules command file found same books holds held agrees marked.
     let b = c.args.branch in
     let low : 1 ≤ b = omega arith in

@@ -1,48 +1,50 @@
-use Rattle.shop_schema.proofs.Common.{refl, sym, subst, false, arith, inl, inr, IfOk-weaker, state, HasCleanDisk, Decision, NoCounter, NoRoute, Counter, seen_ask, seen_request, clean_within, inside_then, inside_as, inside_err}
+use Rattle.shop_schema.proofs.Common.{refl, sym, subst, false, inl, inr, IfOk-weaker, state, some_calls, Decision, NoCounter, NoRoute, Counter, seen_ask, seen_request, clean_within, inside_then}
 use Rattle.shop_types.specs.declared.request.Request.{Request}
 use Rattle.shop_types.specs.declared.request.Request.TheVariants as request
 use Rattle.shop_ledger.specs.declared.answered.Answered.{Answered}
 use Rattle.shop_ledger.specs.Standings.{IsStanding}
 use Rattle.branch_looks.specs.Looks.{reads_row}
+use Rattle.branch_looks.proofs.Firsts.{first_done, one_done}
 use Rattle.branch_looks.proofs.Telling.{within_by}
 use Rattle.branch_work.specs.Works.{IsDone}
 use Rattle.branch_work.proofs.Doing.{nobody_done, kept_done, look_come}
 use Rattle.branch_work.proofs.Decisions.{refused_told}
 use Rattle.branch_work.proofs.requests.answer_where_found.Goals as goal
 
-pub returns-in_default-clause-works : goal.returns-in_default-clause-works
-returns-in_default-clause-works g c = λ clean books holds held known.
-    let found = c.in_ok-standing.ensures.found clean books holds held.0 in
-    (nobody_done c.args.limits c.args.branch books _ _ _ (subst (IsStanding c.args.branch books) c.in_default.is found.1) c.refused.ensures found.0, held.1)
+pub returns-in_default-clause-does : goal.returns-in_default-clause-does
+returns-in_default-clause-does g c = one_done c.in_ok-standing.ensures.does (λ standing books holds held known.
+    let found = standing books holds held.0 in
+    (nobody_done c.args.limits c.args.branch books _ _ _ (subst (IsStanding c.args.branch books) c.in_default.is found.1) c.refused.ensures found.0, held.1))
 
-pub returns-in_ok-done-in-Do-clause-works : goal.returns-in_ok-done-in-Do-clause-works
-returns-in_ok-done-in-Do-clause-works g c = λ clean books holds held known.
-    let s1 = state g.S.Store c.standing_at.new.tx.conn.now in
-    let s2 = state g.S.Store c.answer_command.new.tx.conn.now in
-    let before : HasCleanDisk s1 = omega (arith, clean, c.answer_command.ensures.inside.survives.clean) in
-    let found = c.in_ok-standing.ensures.found before books holds held.0 in
+pub returns-in_ok-done-in-Do-clause-does : goal.returns-in_ok-done-in-Do-clause-does
+returns-in_ok-done-in-Do-clause-does g c = first_done c.in_ok-standing.ensures.does (some_calls c.in_ok-done-in-Do.ensures.does) (λ standing said books holds held known.
+    let found = standing books holds held.0 in
     let stands = subst (IsStanding c.args.branch books) c.in-Some.is found.1 in
-    let P : Request → Type 0 = λ it. IsDone c.args.limits (Counter c.args.branch) (seen_request it) c.in_ok-done-in-Do.done s2 books in
-    let it = c.in_ok-done-in-Do.ensures.works clean books found.0 held stands in
-    (subst P (sym c.in-Do.is) it.0, it.1)
+    let P : Request → Type 0 = λ it. IsDone c.args.limits (Counter c.args.branch) (seen_request it) c.in_ok-done-in-Do.done (state g.S.Store c.answer_command.new.tx.conn.now) books in
+    let it = said books found.0 held stands in
+    (subst P (sym c.in-Do.is) it.0, it.1))
 
-pub returns-in-View-clause-works : goal.returns-in-View-clause-works
-returns-in-View-clause-works g c = λ clean books holds held known.
-    let found = c.in_ok-standing.ensures.found clean books holds held.0 in
+pub returns-in-View-clause-does : goal.returns-in-View-clause-does
+returns-in-View-clause-does g c = one_done c.in_ok-standing.ensures.does (λ standing books holds held known.
+    let found = standing books holds held.0 in
     let stands = subst (IsStanding c.args.branch books) c.in-Some.is found.1 in
-    (rw c.in-View.is (rw stands.there (refl, refl)), held.1)
+    (rw c.in-View.is (rw stands.there (refl, refl)), held.1))
 
-pub returns-in-Look-clause-works : goal.returns-in-Look-clause-works
-returns-in-Look-clause-works g c = λ clean. IfOk-weaker c.look.result _ _ (λ it shown books holds held known.
-    let stays = within_by (reads_row (seen_ask c.in-Look.ask)) c.look.ensures.inside in
-    let found = c.in_ok-standing.ensures.found (clean_within stays clean) books holds held.0 in
-    let stands = subst (IsStanding c.args.branch books) c.in-Some.is found.1 in
-    let seen = shown books found.0 held.0 in
-    (rw c.in-Look.is (look_come c.args.limits c.args.branch books (seen_ask c.in-Look.ask) it _ stands.there seen.1 seen.0), held.1)) (c.look.ensures.shown clean)
+pub returns-in-Look-clause-does : goal.returns-in-Look-clause-does
+returns-in-Look-clause-does g c =
+    let looked = within_by (reads_row (seen_ask c.in-Look.ask)) c.look.ensures.does in
+    record {
+      inside = inside_then c.in_ok-standing.ensures.does.inside looked.inside;
+      says = λ clean. IfOk-weaker c.look.result _ _ (λ it shown books holds held known.
+          let found = c.in_ok-standing.ensures.does.says (clean_within looked.inside clean) books holds held.0 in
+          let stands = subst (IsStanding c.args.branch books) c.in-Some.is found.1 in
+          let seen = shown books found.0 held.0 in
+          (rw c.in-Look.is (look_come c.args.limits c.args.branch books (seen_ask c.in-Look.ask) it _ stands.there seen.1 seen.0), held.1)) (looked.says clean);
+    }
 
-pub returns-in-Office-clause-works : goal.returns-in-Office-clause-works
-returns-in-Office-clause-works g c = λ clean books holds held known.
-    let found = c.in_ok-standing.ensures.found clean books holds held.0 in
+pub returns-in-Office-clause-does : goal.returns-in-Office-clause-does
+returns-in-Office-clause-does g c = one_done c.in_ok-standing.ensures.does (λ standing books holds held known.
+    let found = standing books holds held.0 in
     let stands = subst (IsStanding c.args.branch books) c.in-Some.is found.1 in
     let it : Answered = record { reply = c.refused-in-Office.result; is_changed = false } in
     let P : Request → Type 0 = λ request. IsDone c.args.limits (Counter c.args.branch) (seen_request request) it (state g.S.Store c.standing_at.new.tx.conn.now) books in
@@ -50,20 +52,7 @@ returns-in-Office-clause-works g c = λ clean books holds held known.
       | inl is ↦ subst P (sym is.1) (kept_done c.args.limits c.args.branch books (seen_request (request.Office is.0)) it _ stands.there refl c.refused-in-Office.ensures found.0)
       | inr is ↦ subst P (sym is.1) (kept_done c.args.limits c.args.branch books (seen_request (request.OfficeLook is.0)) it _ stands.there refl c.refused-in-Office.ensures found.0)
     ] in
-    (done, held.1)
-
-pub returns-in_default-clause-inside : goal.returns-in_default-clause-inside
-returns-in_default-clause-inside g c = inside_as c.in_ok-standing.ensures.inside
-
-pub returns-in_err-done-in-Do-clause-inside : goal.returns-in_err-done-in-Do-clause-inside
-returns-in_err-done-in-Do-clause-inside g c =
-    inside_err (inside_then c.in_ok-standing.ensures.inside c.answer_command.ensures.inside) c.from_residual-in_err-done-in-Do.ensures.0
-
-pub returns-in_ok-done-in-Do-clause-inside : goal.returns-in_ok-done-in-Do-clause-inside
-returns-in_ok-done-in-Do-clause-inside g c = inside_as (inside_then c.in_ok-standing.ensures.inside c.in_ok-done-in-Do.ensures.inside)
-
-pub returns-in-Look-clause-inside : goal.returns-in-Look-clause-inside
-returns-in-Look-clause-inside g c = inside_then c.in_ok-standing.ensures.inside (within_by (reads_row (seen_ask c.in-Look.ask)) c.look.ensures.inside)
+    (done, held.1))
 
 pub returns-in_default-clause-decided : goal.returns-in_default-clause-decided
 returns-in_default-clause-decided g c = refused_told _ (Decision NoCounter) c.refused.ensures refl
